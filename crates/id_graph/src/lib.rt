@@ -1,0 +1,13 @@
+//! The dataflow graph: instructions, their ports and destinations, and the listing.
+//!
+//! Keeps: every destination is a port that exists.
+//! Errors: `GraphError`, the refusal 27, with both lists handed back.
+//! Read first: `instr`, docs/GRAPH.md ("Operators").
+//! Not here: how a program becomes a graph (`id_build`), which graphs are sound (`id_valid`).
+#![tactic(auto)]
+
+mod dests;
+mod instr;
+
+pub use dests::{Dest, Dests, Port};
+pub use instr::{Arithmetic, Block, Constant, Instr, Op, PortKind};

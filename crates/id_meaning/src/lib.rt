@@ -1,0 +1,59 @@
+//! What a program means: paths, values and facts of its source.
+//!
+//! Keeps: nothing beyond its values.
+//! Errors: none.
+//! Read first: docs/MEANING.md ("Facts").
+//! Not here: graphs, tags and messages, which the meaning does not speak of.
+#![tactic(auto)]
+
+use id_text::Sequence;
+
+/// One step of a path: the call (number 0) or the loop (its iteration, from 0) at a place.
+#[derive(Clone, Copy, Debug, PartialEq, Eq, PartialOrd, Ord)]
+pub struct PathStep {
+    pub place: usize,
+    pub number: u64,
+}
+
+/// The calls and iterations that lead to an evaluation, the outermost first.
+#[derive(Debug, Drop)]
+pub struct Path {
+    pub steps: Sequence<PathStep>,
+}
+
+/// A value of the source.
+#[derive(Clone, Copy, Debug, PartialEq, Eq, PartialOrd, Ord)]
+pub enum SourceValue {
+    /// A whole number.
+    Int(i64),
+}
+
+/// A fact of the source.
+#[derive(Debug, Drop)]
+pub enum Fact {
+    /// The expression at the place is evaluated at the path.
+    On { path: Path, place: usize },
+    /// The expression or binder at the place has the value at the path.
+    Has {
+        path: Path,
+        place: usize,
+        value: SourceValue,
+    },
+}
+
+/// Why an evaluation has no result.
+#[derive(Clone, Copy, Debug, PartialEq, Eq)]
+pub enum FaultKind {
+    /// The result is outside the whole numbers of 64 bits.
+    Overflow,
+    /// The divisor is 0.
+    DivisionByZero,
+}
+
+/// A fault of the source: what went wrong, at which path and place.
+#[derive(Debug, Drop)]
+pub struct SourceFault {
+    pub kind: FaultKind,
+    pub path: Path,
+    pub place: usize,
+}

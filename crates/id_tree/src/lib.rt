@@ -1,0 +1,11 @@
+//! The tree of a program, and the parser that reads it off the tokens.
+//!
+//! Keeps: nothing beyond its values.
+//! Errors: `TreeError`, the refusals 5 and 6 or want of memory.
+//! Read first: `tree`, docs/LANGUAGE.md ("Grammar", "Nesting", "Place").
+//! Not here: tokens (`id_text`), names and kinds (`id_check`).
+#![tactic(auto)]
+
+mod tree;
+
+pub use tree::{BinaryOp, Constant, Def, Expr, Kind, Program, TreeError, UnaryOp};

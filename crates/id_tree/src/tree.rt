@@ -1,0 +1,104 @@
+//! The tree of a program. The place of a thing is the byte offset of its head token.
+
+use id_text::{Identifier, Sequence};
+use std::alloc::{AllocError, AllocFailed};
+use thiserror::Error;
+
+/// The kind of a value.
+#[derive(Clone, Copy, Debug, PartialEq, Eq)]
+pub enum Kind {
+    Int,
+}
+
+/// What a literal stands for.
+#[derive(Clone, Copy, Debug, PartialEq, Eq)]
+pub enum Constant {
+    Int(i64),
+}
+
+/// An operator before its operand.
+#[derive(Clone, Copy, Debug, PartialEq, Eq)]
+pub enum UnaryOp {
+    Neg,
+}
+
+/// An operator between its operands.
+#[derive(Clone, Copy, Debug, PartialEq, Eq)]
+pub enum BinaryOp {
+    Add,
+    Sub,
+    Mul,
+    Div,
+    Rem,
+}
+
+/// An expression. Parentheses leave no trace in it.
+#[derive(Debug, Drop)]
+pub enum Expr {
+    /// A number, at its first digit.
+    Literal { value: Constant, place: usize },
+    /// An operator and its operand, at the operator.
+    Unary {
+        op: UnaryOp,
+        operand: Box<Expr>,
+        place: usize,
+    },
+    /// An operator and its operands, at the operator.
+    Binary {
+        op: BinaryOp,
+        left: Box<Expr>,
+        right: Box<Expr>,
+        place: usize,
+    },
+}
+
+/// A definition, at its name.
+#[derive(Debug, Drop)]
+pub struct Def {
+    pub name: Identifier,
+    pub result: Kind,
+    pub body: Expr,
+    pub place: usize,
+}
+
+/// The definitions of a text, in order.
+#[derive(Debug, Drop)]
+pub struct Program {
+    pub defs: Sequence<Def>,
+}
+
+/// Why a list of tokens is no program.
+#[derive(Clone, Copy, Debug, PartialEq, Eq, Error)]
+pub enum TreeError {
+    /// No program begins with the tokens up to and with the one at this place: `def +`
+    #[error("unexpected at byte {at}")]
+    Unexpected { at: usize },
+    /// Programs do so begin, but each of them has nesting above 200.
+    #[error("too deep at byte {at}")]
+    TooDeep { at: usize },
+    /// A growth was refused.
+    #[error("out of memory")]
+    Memory,
+}
+
+impl From<AllocError> for TreeError {
+    ghost use Rattle.std.specs.Prelude.{◌≡◌};
+    ghost use Rattle.id_tree.specs.declared.tree.TreeError.TheVariants.{Memory};
+
+    ghost from_gives = { λ _ e. e ≡ Memory };
+
+    fn from(_error: AllocError) -> TreeError {
+        TreeError::Memory
+    }
+}
+
+impl<T: Drop> From<AllocFailed<T>> for TreeError {
+    ghost use Rattle.std.specs.Prelude.{◌≡◌};
+    ghost use Rattle.id_tree.specs.declared.tree.TreeError.TheVariants.{Memory};
+
+    ghost from_gives = { λ _ e. e ≡ Memory };
+
+    fn from(_error: AllocFailed<T>) -> TreeError {
+        TreeError::Memory
+    }
+}
