@@ -58,6 +58,7 @@ fn run_command<'a>(alloc: Global) -> Result<Command<'a>, AllocError> {
         .default_value(DEFAULT_STEPS)
         .help("The most messages that each element handles");
     Command::new(alloc, "run")
+        .bin_name("idc run")?
         .about("Runs a program and prints its answer or its fault")
         .after_help(STATUSES)
         .arg(file)?

@@ -2,6 +2,7 @@
 #![tactic(auto)]
 
 mod cli;
+mod source;
 
 use std::process::ExitCode;
 

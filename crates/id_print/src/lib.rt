@@ -1,0 +1,11 @@
+//! What the program prints: reports of runs, and the lines of faults.
+//!
+//! Keeps: a failed write ends a text at once, so what went out is a front of it.
+//! Errors: `PrintError`, only where a write failed.
+//! Read first: `Sink`, `specs/Told.antt`, then `specs/Texts.antt`.
+//! Not here: runs (`id_core`), the refusals of the program (`idc`).
+#![tactic(auto)]
+
+mod sink;
+
+pub use sink::{PrintError, Sink, SinkFault, put};
