@@ -1,0 +1,47 @@
+-- Lemmas on specs/Tags.antt.
+use Rattle.std.proofs.Common.{◌≡◌, ℕ, Bool, ◌&&◌, nat_eq, refl, ap, arith}
+use Rattle.std.specs.Ordering.{nat_cmp, ordering_then, eq_by_cmp, is_eq}
+use Rattle.std.specs.declared.cmp.Ordering.{Ordering}
+use Rattle.std.specs.declared.cmp.Ordering.TheVariants.{Less, Equal, Greater}
+use Rattle.std.proofs.lemmas.Bool.Decides.{nat_tests}
+use Rattle.std.specs.Cmp.{IsTotalOrder, nat_cmp_total}
+use Rattle.std.proofs.lemmas.Cmp.{then_total, on_total}
+use Rattle.std.proofs.lemmas.Map.Lookups.{CmpEqualImpliesEq, exact_pairs, exact_unsigned}
+use Rattle.id_tag.specs.declared.Context.{Context}
+use Rattle.id_tag.specs.Tags.{context_cmp, tag_cmp, same_tag}
+use Rattle.id_tag.specs.declared.Tag.{Tag}
+
+-- contexts that compare alike are one
+pub exact_contexts : CmpEqualImpliesEq context_cmp
+exact_contexts a b h =
+    ap (λ (p : ℕ × ℕ). record { element = p.0; serial = p.1 })
+    (exact_pairs nat_cmp nat_cmp exact_unsigned exact_unsigned (a.element, a.serial) (b.element, b.serial) h)
+
+-- tags that compare alike are one
+pub exact_tags : CmpEqualImpliesEq tag_cmp
+exact_tags t u h =
+    ap (λ (p : Context × (ℕ × ℕ)). record { context = p.0; iteration = p.1.0; instr = p.1.1 })
+    (exact_pairs context_cmp (λ (x y : ℕ × ℕ). ordering_then (nat_cmp x.0 y.0) (nat_cmp x.1 y.1))
+    exact_contexts (exact_pairs nat_cmp nat_cmp exact_unsigned exact_unsigned)
+    (t.context, (t.iteration, t.instr)) (u.context, (u.iteration, u.instr)) h)
+
+pub contexts_total : IsTotalOrder context_cmp
+contexts_total = then_total (on_total (λ c. c.element) nat_cmp_total) (on_total (λ c. c.serial) nat_cmp_total)
+
+-- tags are in one order
+pub tags_total : IsTotalOrder tag_cmp
+tags_total =
+    then_total (on_total (λ t. t.context) contexts_total)
+    (then_total (on_total (λ t. t.iteration) nat_cmp_total) (on_total (λ t. t.instr) nat_cmp_total))
+
+then_ties : (a b : Ordering) → is_eq (ordering_then a b) ≡ (is_eq a && is_eq b)
+then_ties Less b = refl
+then_ties Equal b = refl
+then_ties Greater b = refl
+
+numbers_tie : (m n : ℕ) → is_eq (nat_cmp m n) ≡ nat_eq m n
+numbers_tie m n = grind (arith, nat_tests)
+
+-- the test of tags by their numbers is that by their order
+pub ties-same_tag : (t u : Tag) → eq_by_cmp tag_cmp t u ≡ same_tag t u
+ties-same_tag t u = simp (then_ties, numbers_tie)
