@@ -1,9 +1,10 @@
 -- Lemmas on specs/Told.antt: a text that goes out in several writes.
-use Rattle.std.proofs.Common.{◌≡◌, ℕ, zero, suc, ◌+◌, ◌<◌, List, [], ◌∷◌, ◌++◌, take, drop, length, Option, None, Some, Result, Ok, Err, refl, sym, ap, ◌∙◌, append_assoc, arith, add-zero}
+use Rattle.std.proofs.Common.{◌≡◌, ℕ, zero, suc, ◌+◌, ◌<◌, List, [], ◌∷◌, ◌++◌, take, drop, length, Option, None, Some, Result, Ok, Err, IsErr, refl, sym, ap, ◌∙◌, append_assoc, arith, add-zero}
 use Rattle.std.proofs.lemmas.List.{append-nil, take-append-drop}
+use Rattle.std.proofs.lemmas.Bool.{false≢true}
 use Rattle.id_print.specs.declared.sink.SinkFault.{SinkFault}
 use Rattle.id_print.specs.declared.sink.PrintError.{PrintError}
-use Rattle.id_print.specs.Told.{Told, after_write, took, AfterWrite, PrintsAll, PrintsFront, PrintsBy, Prints}
+use Rattle.id_print.specs.Told.{Told, after_write, took, AfterWrite, PrintsFront, PrintsBy, PrintsFrom, Prints}
 
 -- what a sink tells where it took these bytes more, and no write failed
 abbrev pub grown : Told → List ℕ → Told
@@ -59,8 +60,8 @@ Going-write (Some a) mid new text rest n g w h = after_some a mid new text rest 
 
 -- where nothing is left, the whole text is out
 pub Prints-end : (old new : Option Told) (text : List ℕ) → Going old new text [] → Prints old new text (Ok tt)
-Prints-end None new text g = tt
-Prints-end (Some a) new text g = record { all = g.so_far ∙ ap (λ t. Some (grown a t)) (sym (g.parts ∙ append-nil g.front)) }
+Prints-end None new text g = record { told = tt }
+Prints-end (Some a) new text g = record { told = record { all = g.so_far ∙ ap (λ t. Some (grown a t)) (sym (g.parts ∙ append-nil g.front)) } }
 
 failed_front : (a : Told) (mid new : Option Told) (text rest : List ℕ) → IsGoing a mid text rest →
     ((b : Told) → mid ≡ Some b → new ≡ Some (record { bytes = b.bytes; failures = b.failures + 1 })) → PrintsFront a new text
@@ -79,11 +80,59 @@ empty_write (Some c) new x rest w b h =
 
 -- a write that answers an error ends the text with a front of it
 pub Prints-err : (old mid new : Option Told) (text rest : List ℕ) (e : SinkFault) (p : PrintError) → Going old mid text rest → AfterWrite mid new rest (Err e) → Prints old new text (Err p)
-Prints-err None mid new text rest e p g w = tt
-Prints-err (Some a) mid new text rest e p g w = failed_front a mid new text rest g (failed_write mid new rest e w)
+Prints-err None mid new text rest e p g w = record { told = tt }
+Prints-err (Some a) mid new text rest e p g w = record { told = failed_front a mid new text rest g (failed_write mid new rest e w) }
 
 -- so does one that takes none of the bytes that are left
 pub Prints-none : (old mid new : Option Told) (text rest : List ℕ) (p : PrintError) → 0 < length rest → Going old mid text rest → AfterWrite mid new rest (Ok 0) → Prints old new text (Err p)
-Prints-none None mid new text rest p h g w = tt
+Prints-none None mid new text rest p h g w = record { told = tt }
 Prints-none (Some a) mid new text [] p h g w = absurd (omega arith)
-Prints-none (Some a) mid new text (x ∷ rest) p h g w = failed_front a mid new text (x ∷ rest) g (empty_write mid new x rest w)
+Prints-none (Some a) mid new text (x ∷ rest) p h g w = record { told = failed_front a mid new text (x ∷ rest) g (empty_write mid new x rest w) }
+
+front_stops : (a : Told) (new : Option Told) (front rest : List ℕ) → PrintsFront a new front → PrintsFront a new (front ++ rest)
+front_stops a new front rest h = record {
+  front = h.front;
+  rest = h.rest ++ rest;
+  parts = ap (λ t. t ++ rest) h.parts ∙ append_assoc h.front h.rest rest;
+  failed = h.failed;
+}
+
+stops : (old new : Option Told) (front rest : List ℕ) (e p : PrintError) → PrintsFrom old new front (Err e) → PrintsFrom old new (front ++ rest) (Err p)
+stops None new front rest e p h = tt
+stops (Some a) new front rest e p h = front_stops a new front rest h
+
+-- a text whose front was cut short was cut short
+pub Prints-stop : (old new : Option Told) (front rest : List ℕ) (e : PrintError) (r : Result (Unit {0}) PrintError) → Prints old new front (Err e) → IsErr r → Prints old new (front ++ rest) r
+Prints-stop old new front rest e (Ok u) h w = absurd (false≢true w)
+Prints-stop old new front rest e (Err p) h w = record { told = stops old new front rest e p h.told }
+
+all_then : (a : Told) (mid new : Option Told) (front rest : List ℕ) (r : Result (Unit {0}) PrintError) → mid ≡ Some (grown a front) → PrintsFrom mid new rest r → PrintsBy a new (front ++ rest) r
+all_then a None new front rest r e h = absurd cc
+all_then a (Some b) new front rest (Ok u) e h =
+    let is : b ≡ grown a front = cc in
+    record { all = h.all ∙ ap (λ c. Some (grown c rest)) is ∙ ap Some (grown-grown a front rest) }
+all_then a (Some b) new front rest (Err p) e h =
+    let is : b ≡ grown a front = cc in
+    record {
+      front = front ++ h.front;
+      rest = h.rest;
+      parts = ap (λ t. front ++ t) h.parts ∙ sym (append_assoc front h.front h.rest);
+      failed = h.failed ∙ ap (λ c. Some (record { bytes = c.bytes ++ h.front; failures = c.failures + 1 })) is
+        ∙ ap (λ bs. Some (record { bytes = bs; failures = a.failures + 1 })) (append_assoc a.bytes front h.front);
+    }
+
+thens : (old mid new : Option Told) (front rest : List ℕ) (u : Unit {0}) (r : Result (Unit {0}) PrintError) → PrintsFrom old mid front (Ok u) → PrintsFrom mid new rest r → PrintsFrom old new (front ++ rest) r
+thens None mid new front rest u r h k = tt
+thens (Some a) mid new front rest u r h k = all_then a mid new front rest r h.all k
+
+-- a text is printed where its front was printed whole and then its rest is printed
+pub Prints-then : (old mid new : Option Told) (front rest : List ℕ) (u : Unit {0}) (r : Result (Unit {0}) PrintError) → Prints old mid front (Ok u) → Prints mid new rest r → Prints old new (front ++ rest) r
+Prints-then old mid new front rest u r h k = record { told = thens old mid new front rest u r h.told k.told }
+
+same_told : (old : Option Told) → PrintsFrom old old [] (Ok tt)
+same_told None = tt
+same_told (Some a) = record { all = ap (λ bs. Some (record { bytes = bs; failures = a.failures })) (sym (append-nil a.bytes)) }
+
+-- no text is printed by no write
+pub Prints-nothing : (old : Option Told) → Prints old old [] (Ok tt)
+Prints-nothing old = record { told = same_told old }

@@ -47,7 +47,11 @@ abbrev pub PrintsBy : Told → Option Told → List ℕ → Result (Unit {0}) Pr
 PrintsBy old new text (Ok u) = PrintsAll old new text
 PrintsBy old new text (Err e) = PrintsFront old new text
 
--- a sink that told something before tells so afterwards
-abbrev pub Prints : Option Told → Option Told → List ℕ → Result (Unit {0}) PrintError → Type 0
-Prints None new text answer = Unit {0}
-Prints (Some old) new text answer = PrintsBy old new text answer
+-- the same of a sink that may tell nothing
+abbrev pub PrintsFrom : Option Told → Option Told → List ℕ → Result (Unit {0}) PrintError → Type 0
+PrintsFrom None new text answer = Unit {0}
+PrintsFrom (Some old) new text answer = PrintsBy old new text answer
+
+-- the text is printed: the whole of it at an Ok, and at an Err a front of it before a write that failed
+pub record Prints (old new : Option Told) (text : List ℕ) (answer : Result (Unit {0}) PrintError) : Type 0 where
+  pub told : PrintsFrom old new text answer

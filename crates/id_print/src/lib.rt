@@ -6,6 +6,10 @@
 //! Not here: runs (`id_core`), the refusals of the program (`idc`).
 #![tactic(auto)]
 
+mod report;
 mod sink;
+mod texts;
 
+pub use report::{Ending, Report, write_fault, write_report};
 pub use sink::{PrintError, Sink, SinkFault, put};
+pub use texts::{put_number, put_place};

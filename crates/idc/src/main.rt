@@ -1,32 +1,47 @@
-//! idc
+//! The program: words to a printed answer.
+//!
+//! Keeps: standard output has what was asked for or nothing, standard error one refusal.
+//! Errors: each refusal has its number, name and status in `refusal`.
+//! Read first: `drive`, then `engine`, docs/PROMISES.md.
+//! Not here: every step from the text to the run, which have a crate each.
 #![tactic(auto)]
 
 mod cli;
+mod compile;
+mod drive;
+mod engine;
+mod refusal;
 mod source;
+mod stream;
+#[cfg(test)]
+mod tests;
 
+use std::env;
+use std::io;
 use std::process::ExitCode;
 
-fn main(rt: HostRuntime) -> anyhow::Result<ExitCode> {
-    let alloc = rt.alloc();
-    let mut words: Vec<String> = Vec::new(alloc);
-    for (i, word) in std::env::args(&rt)?.enumerate() {
+/// The arguments after the program's name.
+fn arguments<R: Env + AllocGlobal>(rt: &R) -> io::Result<Vec<String>> {
+    let mut words = Vec::new(rt.alloc());
+    for (i, word) in env::args(rt)?.enumerate() {
         if i > 0 {
             words.push(word)?;
         }
     }
-    match cli::read_words(alloc, words.as_slice()) {
-        Ok(cli::Request::Run { file, steps }) => {
-            println!(rt; "{file} {steps}")?;
-            Ok(ExitCode::from(0))
-        }
-        Err(cli::Unasked::Help(text)) => {
-            print!(rt; "{text}")?;
-            Ok(ExitCode::from(0))
-        }
-        Err(cli::Unasked::Refused(text)) => {
-            print!(rt; "{text}")?;
-            Ok(ExitCode::from(4))
-        }
-        Err(cli::Unasked::Memory) => Ok(ExitCode::from(5)),
-    }
+    Ok(words)
+}
+
+fn main(rt: HostRuntime) -> ExitCode {
+    let Ok(words) = arguments(&rt) else {
+        return ExitCode::from(4);
+    };
+    let mut source = source::Disk { rt: &rt };
+    let mut out = stream::Stream {
+        writer: rt.stdout(),
+    };
+    let mut err = stream::Stream {
+        writer: rt.stderr(),
+    };
+    let status = drive::drive(&rt, words.as_slice(), &mut source, &mut out, &mut err);
+    ExitCode::from(status)
 }
