@@ -1,5 +1,5 @@
 -- A draft's instructions with their arcs.
-use Rattle.std.specs.Prelude.{ℕ, ◌+◌, ◌<◌, ◌==◌, if◌then◌else◌, List, [], ◌∷◌, ◌++◌, length}
+use Rattle.std.specs.Prelude.{ℕ, zero, suc, ◌+◌, ◌<◌, ◌==◌, if◌then◌else◌, List, [], ◌∷◌, ◌++◌, length}
 use Rattle.id_build.specs.declared.draft.Piece.{Piece}
 use Rattle.id_build.specs.declared.draft.Wire.{Wire}
 use Rattle.id_graph.specs.declared.dests.Dest.{Dest}

@@ -12,3 +12,7 @@ mod expr;
 mod program;
 
 pub use error::{BuildError, MAX_INSTRUCTIONS};
+pub use program::build;
+
+#[cfg(test)]
+mod tests;
