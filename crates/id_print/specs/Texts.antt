@@ -44,11 +44,19 @@ answer_value_text (Some v) = value_text v
 abbrev pub answer_text : Option SourceValue → List ℕ
 answer_text v = codes "answer " ++ (answer_value_text v ++ codes "\n")
 
+-- the lines of a run that was stopped
+abbrev pub stopped_text : Option SourceValue → List ℕ
+stopped_text v = codes "stopped\n" ++ answer_text v
+
 -- what went wrong
 abbrev pub kind_text : FaultKind → List ℕ
 kind_text Overflow = codes "overflow"
 kind_text DivisionByZero = codes "division by zero"
 
+-- what a fault's line begins with
+abbrev pub fault_head_text : FaultKind → List ℕ
+fault_head_text k = codes "fault " ++ (kind_text k ++ codes " at ")
+
 -- the line of a fault
 abbrev pub fault_text : List ℕ → SourceFault → List ℕ
-fault_text text f = codes "fault " ++ (kind_text f.kind ++ (codes " at " ++ (point_text text f.path f.place ++ codes "\n")))
+fault_text text f = fault_head_text f.kind ++ (point_text text f.path f.place ++ codes "\n")

@@ -2,7 +2,7 @@
 
 ghost use Rattle.std.specs.Prelude.{◌≡◌, ◌≤◌, length};
 ghost use Rattle.id_print.specs.Told.{Prints};
-ghost use Rattle.id_print.specs.Texts.{kind_text, fault_text, answer_text, answer_value_text};
+ghost use Rattle.id_print.specs.Texts.{kind_text, fault_head_text, fault_text, answer_text, answer_value_text, stopped_text};
 ghost use Rattle.id_print.specs.Reports.{report_text};
 ghost use Rattle.id_print.specs.Within.{FaultWithin, EndingWithin};
 
@@ -29,13 +29,21 @@ pub struct Report {
     pub answer: Option<SourceValue>,
 }
 
-fn kind_bytes(kind: FaultKind) -> &'static str
-    ensures { result.now ≡ kind_text kind }
+fn put_kind<W: Sink>(kind: FaultKind, sink: &mut W) -> Result<(), PrintError>
+    ensures { Prints (W.told sink.old) (W.told sink.new) (kind_text kind) result }
 {
     match kind {
-        FaultKind::Overflow => "overflow",
-        FaultKind::DivisionByZero => "division by zero",
+        FaultKind::Overflow => put(sink, b"overflow"),
+        FaultKind::DivisionByZero => put(sink, b"division by zero"),
     }
+}
+
+fn put_fault_head<W: Sink>(kind: FaultKind, sink: &mut W) -> Result<(), PrintError>
+    ensures { Prints (W.told sink.old) (W.told sink.new) (fault_head_text kind) result }
+{
+    put(sink, b"fault ")?;
+    put_kind(kind, sink)?;
+    put(sink, b" at ")
 }
 
 /// Writes the line of a fault. Takes no memory.
@@ -44,9 +52,7 @@ pub fn write_fault<W: Sink>(fault: &SourceFault, text: &str, sink: &mut W) -> Re
     requires inside { FaultWithin (length text.now) fault.now }
     ensures { Prints (W.told sink.old) (W.told sink.new) (fault_text text.now fault.now) result }
 {
-    put(sink, b"fault ")?;
-    put(sink, kind_bytes(fault.kind).as_bytes())?;
-    put(sink, b" at ")?;
+    put_fault_head(fault.kind, sink)?;
     put_point(sink, text, &fault.path, fault.place)?;
     put(sink, b"\n")
 }
@@ -68,6 +74,13 @@ fn write_answer<W: Sink>(answer: &Option<SourceValue>, sink: &mut W) -> Result<(
     put(sink, b"\n")
 }
 
+fn write_stopped<W: Sink>(answer: &Option<SourceValue>, sink: &mut W) -> Result<(), PrintError>
+    ensures { Prints (W.told sink.old) (W.told sink.new) (stopped_text answer.now) result }
+{
+    put(sink, b"stopped\n")?;
+    write_answer(answer, sink)
+}
+
 /// Writes the lines of a report on a run of the text. Takes no memory. `names` asks for the lines
 /// of names, of which there are none yet.
 pub fn write_report<W: Sink>(
@@ -83,10 +96,7 @@ pub fn write_report<W: Sink>(
     let _ = names;
     match &report.ending {
         Ending::Quiet => write_answer(&report.answer, sink),
-        Ending::Stopped => {
-            put(sink, b"stopped\n")?;
-            write_answer(&report.answer, sink)
-        }
+        Ending::Stopped => write_stopped(&report.answer, sink),
         Ending::Fault(fault) => write_fault(fault, text, sink),
     }
 }
