@@ -118,7 +118,7 @@ all_then a (Some b) new front rest (Err p) e h =
       rest = h.rest;
       parts = ap (λ t. front ++ t) h.parts ∙ sym (append_assoc front h.front h.rest);
       failed = h.failed ∙ ap (λ c. Some (record { bytes = c.bytes ++ h.front; failures = c.failures + 1 })) is
-        ∙ ap (λ bs. Some (record { bytes = bs; failures = a.failures + 1 })) (append_assoc a.bytes front h.front);
+          ∙ ap (λ bs. Some (record { bytes = bs; failures = a.failures + 1 })) (append_assoc a.bytes front h.front);
     }
 
 thens : (old mid new : Option Told) (front rest : List ℕ) (u : Unit {0}) (r : Result (Unit {0}) PrintError) → PrintsFrom old mid front (Ok u) → PrintsFrom mid new rest r → PrintsFrom old new (front ++ rest) r

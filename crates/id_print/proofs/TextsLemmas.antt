@@ -38,5 +38,5 @@ pub Prints-step_stop : (text : List ℕ) (xs : List PathStep) (i : ℕ) (d : Pat
     Prints old mid (steps_text text (take i xs)) (Ok u) → Prints mid new (step_text text (get_or xs i d)) (Err e) → IsErr r → Prints old new (steps_text text xs) r
 Prints-step_stop text xs i d old mid new u e r h k l w =
     let here : Prints old new (steps_text text (take (i + 1) xs)) (Err e) =
-        same_text old new _ _ _ (sym (steps_text-more text xs i d h)) (Prints-then old mid new _ _ u (Err e) k l) in
+    same_text old new _ _ _ (sym (steps_text-more text xs i d h)) (Prints-then old mid new _ _ u (Err e) k l) in
     same_text old new _ _ _ (sym (steps_text-cut text xs (i + 1))) (Prints-stop old new _ (steps_text text (drop (i + 1) xs)) e r here w)

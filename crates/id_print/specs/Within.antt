@@ -1,6 +1,5 @@
 -- Things whose places lie within a text.
-use Rattle.std.specs.Prelude.{ℕ, ◌≤◌, List}
-use Rattle.std.specs.List.{AllByRecursion}
+use Rattle.std.specs.Prelude.{ℕ, ◌≤◌, List, All}
 use Rattle.id_meaning.specs.declared.PathStep.{PathStep}
 use Rattle.id_meaning.specs.declared.SourceFault.{SourceFault}
 use Rattle.id_print.specs.declared.report.Ending.{Ending}
@@ -8,7 +7,7 @@ use Rattle.id_print.specs.declared.report.Ending.TheVariants.{Quiet, Stopped, Fa
 
 -- the places of all these steps are at most so many bytes in
 abbrev pub StepsWithin : ℕ → List PathStep → Type 0
-StepsWithin size steps = AllByRecursion (λ s. s.place ≤ size) steps
+StepsWithin size steps = All (λ s. s.place ≤ size) steps
 
 -- the places of a fault are at most so many bytes in
 pub record FaultWithin (size : ℕ) (f : SourceFault) : Type 0 where

@@ -1,14 +1,14 @@
 //! Reports of runs, and how they are printed.
 
-ghost use Rattle.std.specs.Prelude.{◌≡◌, ◌≤◌, length};
+ghost use Rattle.std.specs.Prelude.{◌≡◌, ◌≤◌, ◌↔◌, length, IsTrue};
 ghost use Rattle.id_print.specs.Told.{Prints};
 ghost use Rattle.id_print.specs.Texts.{kind_text, fault_head_text, fault_text, answer_text, answer_value_text, stopped_text};
 ghost use Rattle.id_print.specs.Reports.{report_text};
-ghost use Rattle.id_print.specs.Within.{FaultWithin, EndingWithin};
+ghost use Rattle.id_print.specs.Within.{StepsWithin, FaultWithin, EndingWithin};
 
 use crate::sink::{PrintError, Sink, put};
 use crate::texts::{put_point, put_value};
-use id_meaning::{FaultKind, SourceFault, SourceValue};
+use id_meaning::{FaultKind, PathStep, SourceFault, SourceValue};
 use id_text::MAX_BYTES;
 
 /// How a run ended.
@@ -99,4 +99,26 @@ pub fn write_report<W: Sink>(
         Ending::Stopped => write_stopped(&report.answer, sink),
         Ending::Fault(fault) => write_fault(fault, text, sink),
     }
+}
+
+/// Whether every place that the report prints lies in a text of so many bytes. Takes no memory.
+pub fn is_within(report: &Report, size: usize) -> bool
+    ensures { IsTrue result ↔ EndingWithin size report.now.ending }
+{
+    match &report.ending {
+        Ending::Quiet | Ending::Stopped => true,
+        Ending::Fault(fault) => is_fault_within(fault, size),
+    }
+}
+
+fn is_fault_within(fault: &SourceFault, size: usize) -> bool
+    ensures { IsTrue result ↔ FaultWithin size fault.now }
+{
+    fault.place <= size && are_steps_within(fault.path.steps.as_slice(), size)
+}
+
+fn are_steps_within(steps: &[PathStep], size: usize) -> bool
+    ensures { IsTrue result ↔ StepsWithin size steps.now }
+{
+    steps.iter().all(|step| step.place <= size)
 }

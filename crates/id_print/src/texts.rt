@@ -58,7 +58,12 @@ fn put_steps<W: Sink>(sink: &mut W, text: &str, steps: &[PathStep]) -> Result<()
 }
 
 /// Where something is: its path and its place.
-pub fn put_point<W: Sink>(sink: &mut W, text: &str, path: &Path, place: usize) -> Result<(), PrintError>
+pub fn put_point<W: Sink>(
+    sink: &mut W,
+    text: &str,
+    path: &Path,
+    place: usize,
+) -> Result<(), PrintError>
     requires fits { length text.now ≤ MAX_BYTES }
     requires path { StepsWithin (length text.now) path.now.steps }
     requires place { place ≤ length text.now }
@@ -69,14 +74,19 @@ pub fn put_point<W: Sink>(sink: &mut W, text: &str, path: &Path, place: usize) -
     put_place(sink, text, place)
 }
 
+fn put_int<W: Sink>(sink: &mut W, n: i64) -> Result<(), PrintError>
+    ensures { Prints (W.told sink.old) (W.told sink.new) (signed_decimal n) result }
+{
+    let mut buffer = Buffer::new();
+    let text = buffer.format(n);
+    put(sink, text.as_bytes())
+}
+
 /// A value.
 pub fn put_value<W: Sink>(sink: &mut W, value: SourceValue) -> Result<(), PrintError>
     ensures { Prints (W.told sink.old) (W.told sink.new) (value_text value) result }
 {
     match value {
-        SourceValue::Int(n) => {
-            let mut buffer = Buffer::new();
-            put(sink, buffer.format(n).as_bytes())
-        }
+        SourceValue::Int(n) => put_int(sink, n),
     }
 }

@@ -16,9 +16,9 @@ mod stream;
 #[cfg(test)]
 mod tests;
 
-use std::env;
-use std::io;
 use std::process::ExitCode;
+use std::env::Env;
+use std::{env, io};
 
 /// The arguments after the program's name.
 fn arguments<R: Env + AllocGlobal>(rt: &R) -> io::Result<Vec<String>> {

@@ -120,11 +120,7 @@ fn put_refusal_number<W: Sink>(number: Option<u32>, sink: &mut W) -> Result<(), 
 }
 
 /// Writes the line of a refusal of a text.
-pub fn put_refusal<W: Sink>(
-    refusal: Refusal,
-    text: &str,
-    sink: &mut W,
-) -> Result<(), PrintError> {
+pub fn put_refusal<W: Sink>(refusal: Refusal, text: &str, sink: &mut W) -> Result<(), PrintError> {
     put(sink, b"refused")?;
     put_refusal_number(refusal.number, sink)?;
     put(sink, b" ")?;

@@ -1,13 +1,11 @@
 //! Where a text comes from.
 
+use id_text::MAX_BYTES;
 use std::alloc::Global;
 use std::fs::File;
 use std::io;
 use std::io::{ErrorKind, Read};
 use std::rt::Files;
-
-/// The most bytes that a text may have.
-const MAX_BYTES: usize = 1_048_576;
 
 /// Why a source has no text of a name.
 #[derive(Clone, Copy, Debug, PartialEq, Eq)]

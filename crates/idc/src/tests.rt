@@ -54,8 +54,16 @@ fn expect(
         bytes: Vec::new(rt.alloc()),
     };
     let got = drive(rt, words, &mut source, &mut taken_out, &mut taken_err);
-    assert_eq!(rt; taken_err.bytes.as_slice(), err.as_bytes(), "standard error on {text}");
-    assert_eq!(rt; taken_out.bytes.as_slice(), out.as_bytes(), "standard output on {text}");
+    assert_eq!(rt;
+        taken_err.bytes.as_slice(),
+        err.as_bytes(),
+        "standard error on {text}"
+    );
+    assert_eq!(rt;
+        taken_out.bytes.as_slice(),
+        out.as_bytes(),
+        "standard output on {text}"
+    );
     assert_eq!(rt; got, status, "status on {text}");
 }
 
@@ -95,18 +103,44 @@ fn prints_answers_and_faults(rt: HostRuntime) {
 #[test]
 fn stops_at_the_step_limit(rt: HostRuntime) {
     let text = "def main(): int = 2 + 3 * 4;";
-    expect(&rt, text, &["run", "text.id", "--steps", "11"], 0, "answer 14\n", "");
-    expect(&rt, text, &["run", "text.id", "--steps", "10"], 3, "stopped\nanswer none\n", "");
+    expect(
+        &rt,
+        text,
+        &["run", "text.id", "--steps", "11"],
+        0,
+        "answer 14\n",
+        "",
+    );
+    expect(
+        &rt,
+        text,
+        &["run", "text.id", "--steps", "10"],
+        3,
+        "stopped\nanswer none\n",
+        "",
+    );
 }
 
 #[test]
 fn refuses_texts_with_one_line(rt: HostRuntime) {
     for (text, line) in [
-        ("def main(): int = 9223372036854775808;", "refused 3 NumberTooLarge at 1:19\n"),
+        (
+            "def main(): int = 9223372036854775808;",
+            "refused 3 NumberTooLarge at 1:19\n",
+        ),
         ("def main(): int = 1 $ 2;", "refused 2 BadByte at 1:21\n"),
-        ("def main(): int = $9223372036854775808;", "refused 2 BadByte at 1:19\n"),
-        ("def main():\r int =\n\t1 +;", "refused 5 Unexpected at 2:5\n"),
-        ("def main(): int = 1;\ndef f(): int = 1;", "refused 5 Unexpected at 2:1\n"),
+        (
+            "def main(): int = $9223372036854775808;",
+            "refused 2 BadByte at 1:19\n",
+        ),
+        (
+            "def main():\r int =\n\t1 +;",
+            "refused 5 Unexpected at 2:5\n",
+        ),
+        (
+            "def main(): int = 1;\ndef f(): int = 1;",
+            "refused 5 Unexpected at 2:1\n",
+        ),
         ("def f(): int = 1;", "refused 7 NoMain\n"),
         ("", "refused 7 NoMain\n"),
     ] {
