@@ -9,6 +9,7 @@
 mod dests;
 mod graph;
 mod instr;
+mod listing;
 
 pub use dests::{Dest, Dests, Port};
 pub use graph::{Graph, GraphCause, GraphError, kind_at};
