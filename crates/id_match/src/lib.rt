@@ -70,6 +70,9 @@ impl Model for Waiting {
 }
 
 impl Waiting {
+    ghost use Rattle.std.specs.Prelude.{◌↔◌, length, Some};
+    ghost use Rattle.std.specs.List.{Contains};
+    ghost use Rattle.id_match.specs.declared.Entry.{Entry};
     ghost use Rattle.id_match.specs.Waiting.{waits, offer_answer, offer_after, entries_of};
     ghost use Rattle.id_match.specs.Keyed.{keyed_after};
 
@@ -99,14 +102,16 @@ impl Waiting {
 
     /// How many values wait. Takes no memory.
     pub fn len(&self) -> usize
-        ensures { result ≡ map.len self.now }
+        ensures len { result ≡ map.len self.now }
+        ensures listed { result ≡ length (entries_of self.now) }
     {
         self.halves.len()
     }
 
     /// The values that wait, in the order of their tags.
     pub fn entries(&self, alloc: Global) -> Result<Vec<Entry>, AllocError>
-        ensures { IfOk result (λ es. es.items ≡ entries_of self.now) }
+        ensures items { IfOk result (λ es. es.items ≡ entries_of self.now) }
+        ensures keyed { IfOk result (λ es. (e : Entry) → Contains es.items e ↔ (waits self.now e.tag e.port ≡ Some e.value)) }
     {
         let mut entries = listed(alloc, &self.halves)?;
         sort_by_tag(&mut entries);

@@ -97,15 +97,14 @@ pub fn route(message: &Message, count: u32) -> u32
     }
 }
 
-// Each summand is reduced first, so that the sum fits.
+// 128 bits hold the sum of any three such numbers.
 fn route_tag(tag: Tag, count: u32) -> u32
     requires { 0 < count }
     ensures exact { result ≡ tag_route tag count }
     ensures below { result < count }
 {
-    let elements = u64::from(count);
-    let made = u64::from(tag.context.element) % elements + tag.context.serial % elements;
-    ((made + tag.iteration % elements) % elements) as u32
+    let made = u128::from(tag.context.element) + u128::from(tag.context.serial);
+    ((made + u128::from(tag.iteration)) % u128::from(count)) as u32
 }
 
 #[cfg(test)]
