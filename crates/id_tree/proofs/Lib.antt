@@ -1,0 +1,3 @@
+mod RowLemmas
+mod RunLemmas
+mod CompleteLemmas
