@@ -131,4 +131,4 @@ run-begun n (t ∷ ts) e h = run-begin n t ts e h
 pub run-program : {ts : List Token} {e : Tree} {h : ℕ} → Program ts e h → (n : ℕ) → h ≤ n → run n ts Begin ≡ Accepted e
 run-program (empty {t = t} q) n w = rw (q, leb-zero n) refl
 run-program (single_def {ts = ts} {e = e} {h = h} t x q) n w =
-    run-begun n (ts ++ t ∷ []) (more e none) (run-derives x n 0 [] (t ∷ []) w tt ∙ rw (q, leb-zero n) refl)
+    run-begun n (ts ++ t ∷ []) (more e none) (run-derives x n 0 [] (t ∷ []) (omega arith) tt ∙ rw (q, leb-zero n) refl)

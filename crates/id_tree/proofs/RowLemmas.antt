@@ -10,6 +10,7 @@ use Rattle.id_tree.specs.declared.parser.Level.TheVariants.{Sum, Product}
 use Rattle.id_tree.specs.Tree.{Tree}
 use Rattle.id_tree.specs.Grammar.{Phrase, Definition, Grouped, Unary, Word, kind_of, Rest, done, word, name, part, Opens, definition, negated, number, parens, operand, operator_of, own_height, Derives, opened, single, grouped, Follows, ended, taken, named, given}
 use Rattle.id_tree.specs.Machine.{Row, opening, room}
+use Rattle.id_tree.specs.Standing.{Roomy}
 
 -- a kind is no operator of a level within the phrase
 abbrev pub Quiet : Phrase → TokenKind → Type 0
@@ -38,13 +39,6 @@ Needs m (done e) = m ≤ 0
 Needs m (word w r) = Needs m r
 Needs m (name f) = (x : List ℕ) (p : ℕ) → Needs m (f x p)
 Needs m (part s f) = m ≤ 1
-
--- there is room for each part within n, where the parts stand in d expressions
-abbrev pub Roomy : ℕ → ℕ → Rest → Type 0
-Roomy n d (done e) = Unit {0}
-Roomy n d (word w r) = Roomy n d r
-Roomy n d (name f) = (x : List ℕ) (p : ℕ) → Roomy n d (f x p)
-Roomy n d (part s f) = (d + 1 ≤ n) × ((a : Tree) → Roomy n d (f a))
 
 pub record Valid (s : Phrase) (r : Rest) : Type 0 where
   pub parts : Parts s r

@@ -5,3 +5,4 @@ pub mod Grammar
 pub mod Accepted
 -- For the proof of `parse` alone.
 pub mod Machine
+pub mod Standing
