@@ -37,3 +37,9 @@ pub record StopsAt (ts : List Token) (at : ℕ) : Type 0 where
   pub place : token.start ≡ at
   pub goes_on : GoesOn front
   pub stops : ¬ GoesOn (front ++ token ∷ [])
+
+-- Unexpected where no list of the grammar goes on with the refused token, TooDeep where one of more nesting does
+abbrev pub RefusedBy : List Token → TreeError → Type 0
+RefusedBy ts (Unexpected at) = (r : StopsAt ts at) × ¬ GoesOnDeeper (r.front ++ r.token ∷ [])
+RefusedBy ts (TooDeep at) = (r : StopsAt ts at) × GoesOnDeeper (r.front ++ r.token ∷ [])
+RefusedBy ts Memory = Unit {0}
