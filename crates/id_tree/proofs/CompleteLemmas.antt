@@ -117,6 +117,7 @@ mutual
 
 -- the first definition is wanted at once
 run-begin : (n : ℕ) (t : Token) (ts : List Token) (e : Tree) → run n (t ∷ ts) (Want Definition 0 []) ≡ Accepted e → run n (t ∷ ts) Begin ≡ Accepted e
+unfolding run
 run-begin n t ts e h = begun (wants t Definition 0 []) h
   where
     begun : (m : Option Move) → pick m (λ m. cond (leb m.need n) (run n ts m.next) (Refused true t.start)) (Refused false t.start) ≡ Accepted e → pick (pick m (λ m. Some m) (ends t.kind none)) (λ m. cond (leb m.need n) (run n ts m.next) (Refused true t.start)) (Refused false t.start) ≡ Accepted e
@@ -124,11 +125,13 @@ run-begin n t ts e h = begun (wants t Definition 0 []) h
     begun (Some m) q = q
 
 run-begun : (n : ℕ) (ts : List Token) (e : Tree) → run n ts (Want Definition 0 []) ≡ Accepted e → run n ts Begin ≡ Accepted e
+unfolding run
 run-begun n [] e h = cc
 run-begun n (t ∷ ts) e h = run-begin n t ts e h
 
 -- a program is accepted within its height
 pub run-program : {ts : List Token} {e : Tree} {h : ℕ} → Program ts e h → (n : ℕ) → h ≤ n → run n ts Begin ≡ Accepted e
+unfolding run
 run-program (empty {t = t} q) n w = rw (q, leb-zero n) refl
 run-program (single_def {ts = ts} {e = e} {h = h} t x q) n w =
     run-begun n (ts ++ t ∷ []) (more e none) (run-derives x n 0 [] (t ∷ []) (omega arith) tt ∙ rw (q, leb-zero n) refl)

@@ -32,6 +32,7 @@ record Stopped (n : ℕ) (S : State) (us ts : List Token) (deep : Bool) (at : �
   why : Why n deep (takes token last)
 
 run-nothing : (n : ℕ) (S : State) (deep : Bool) (at : ℕ) → run n [] S ≡ Refused deep at → ⊥
+unfolding run
 run-nothing n Begin deep at q = cc
 run-nothing n (Want s d K) deep at q = cc
 run-nothing n (Have e h K) deep at q = cc
@@ -84,6 +85,7 @@ module _ (n : ℕ) (S : State) (us : List Token) (t : Token) (ts : List Token) (
 
 -- each refused run stops so
 stopped : (n : ℕ) (S : State) (us ts : List Token) (deep : Bool) (at : ℕ) → Stands n S us → run n ts S ≡ Refused deep at → Stopped n S us ts deep at
+unfolding run
 stopped n S us [] deep at st q = absurd (run-nothing n S deep at q)
 stopped n S us (t ∷ ts) deep at st q = Stopped-move n S us t ts deep at st (λ T vs. stopped n T vs ts deep at) (takes t S) refl q
 
@@ -170,3 +172,35 @@ module _ (ts : List Token) (rises : Rises ts) (at : ℕ) where
   -- a run that refuses for the nesting
   pub Refused-deep : run 200 ts Begin ≡ Refused true at → RefusedBy ts (TooDeep at)
   Refused-deep q = let r = stopped 200 Begin [] ts true at begun q in (stops_at true r, deeper r)
+
+-- the tokens are a program that fits
+abbrev IsWhole : ℕ → List Token → Tree → Type 0
+IsWhole n ts e = (h : ℕ) × Program ts e h × (h ≤ n)
+
+Whole-end : {n : ℕ} {S : State} {us : List Token} → Stands n S us → (e : Tree) → run n [] S ≡ Accepted e → IsWhole n us e
+unfolding run
+Whole-end begun e q = cc
+Whole-end (wanting a w) e q = cc
+Whole-end (having a x w) e q = cc
+Whole-end (within a b w roomy) e q = cc
+Whole-end {n = n} (finished {us = us} {e = f} {h = h} p w) e q = let i : f ≡ e = cc in subst (λ x. IsWhole n us x) i (h, p, w)
+
+module _ (n : ℕ) (us : List Token) (t : Token) (ts : List Token) (e : Tree)
+    (later : (T : State) → Stands n T (us ++ t ∷ []) → run n ts T ≡ Accepted e → IsWhole n (us ++ t ∷ ts) e) where
+  Whole-test : (m : Move) → (m.need ≤ n → Stands n m.next (us ++ t ∷ [])) → (b : Bool) → leb m.need n ≡ b → cond b (run n ts m.next) (Refused true t.start) ≡ Accepted e → IsWhole n (us ++ t ∷ ts) e
+  Whole-test m st true i q = later m.next (st (leb-true m.need n i)) q
+  Whole-test m st false i q = cc
+
+  Whole-move : (o : Option Move) → Moves n (us ++ t ∷ []) o → pick o (λ m. cond (leb m.need n) (run n ts m.next) (Refused true t.start)) (Refused false t.start) ≡ Accepted e → IsWhole n (us ++ t ∷ ts) e
+  Whole-move None st q = cc
+  Whole-move (Some m) st q = Whole-test m st (leb m.need n) refl q
+
+-- a run that accepts has taken a program
+Whole-run : (n : ℕ) (S : State) (us ts : List Token) (e : Tree) → Stands n S us → run n ts S ≡ Accepted e → IsWhole n (us ++ ts) e
+unfolding run
+Whole-run n S us [] e st q = subst (λ xs. IsWhole n xs e) (sym (append-nil us)) (Whole-end st e q)
+Whole-run n S us (t ∷ ts) e st q = Whole-move n us t ts e
+    (λ T s r. subst (λ xs. IsWhole n xs e) (append_assoc us (t ∷ []) ts) (Whole-run n T (us ++ t ∷ []) ts e s r)) (takes t S) (Moves-takes n t st) q
+
+pub Accepts-from_run : (ts : List Token) (e : Tree) → run 200 ts Begin ≡ Accepted e → Accepts ts e
+Accepts-from_run ts e q = let p = Whole-run 200 Begin [] ts e begun q in record { height = p.0; derives = p.1; fits = p.2 }

@@ -29,14 +29,17 @@ same-is_word (the_sign j) _ e = cc
 module _ (n : ℕ) (t : Token) (ts : List Token) where
   -- a token that is taken
   pub run-step : (S : State) (m : Move) → takes t S ≡ Some m → m.need ≤ n → run n (t ∷ ts) S ≡ run n ts m.next
+  unfolding run
   run-step S m q h = let b = le-leb m.need n h in rw (q, b) refl
 
   -- a token that takes too much nesting
   pub run-deep : (S : State) (m : Move) → takes t S ≡ Some m → n < m.need → run n (t ∷ ts) S ≡ Refused true t.start
+  unfolding run
   run-deep S m q h = let b = lt-leb m.need n h in rw (q, b) refl
 
   -- a token that nothing takes
   pub run-none : (S : State) → takes t S ≡ None → run n (t ∷ ts) S ≡ Refused false t.start
+  unfolding run
   run-none S q = rw q refl
 
   -- a fixed token
@@ -59,22 +62,27 @@ module _ (n : ℕ) (t : Token) (ts : List Token) where
 
 -- What takes no token.
 pub run-done : (n : ℕ) (ts : List Token) (e : Tree) (h d c : ℕ) (K : List Frame) → run n ts (Next (done e) h d c K) ≡ run n ts (Have e (h + c) K)
+unfolding run
 run-done n [] e h d c K = refl
 run-done n (t ∷ ts) e h d c K = refl
 
 pub run-part : (n : ℕ) (ts : List Token) (s : Phrase) (f : Tree → Rest) (h d c : ℕ) (K : List Frame) → run n ts (Next (part s f) h d c K) ≡ run n ts (Want s d (Inside f h d c ∷ K))
+unfolding run
 run-part n [] s f h d c K = refl
 run-part n (t ∷ ts) s f h d c K = refl
 
 pub run-inside : (n : ℕ) (ts : List Token) (e : Tree) (h : ℕ) (f : Tree → Rest) (m d c : ℕ) (K : List Frame) → run n ts (Have e h (Inside f m d c ∷ K)) ≡ run n ts (Next (f e) (max m h) d c K)
+unfolding run
 run-inside n [] e h f m d c K = refl
 run-inside n (t ∷ ts) e h f m d c K = refl
 
 pub run-right : (n : ℕ) (ts : List Token) (b : Tree) (k : ℕ) (l : Level) (o : BinaryOp) (a : Tree) (m p d : ℕ) (K : List Frame) → run n ts (Have b k (Right l o a m p d ∷ K)) ≡ run n ts (Have (binary o a b p) (max m k + 1) (Left l d ∷ K))
+unfolding run
 run-right n [] b k l o a m p d K = refl
 run-right n (t ∷ ts) b k l o a m p d K = refl
 
 pub run-level : (n : ℕ) (ts : List Token) (l : Level) (d : ℕ) (K : List Frame) → run n ts (Want (Grouped l) d K) ≡ run n ts (Want (operand l) d (Left l d ∷ K))
+unfolding run
 run-level n [] l d K = refl
 run-level n (t ∷ ts) Sum d K = refl
 run-level n (t ∷ ts) Product d K = refl
@@ -86,5 +94,6 @@ First P (t ∷ ts) = P t.kind
 
 -- a level ends where no operator of it stands
 pub run-left : (n : ℕ) (ts : List Token) (l : Level) (e : Tree) (h d : ℕ) (K : List Frame) → First (λ k. operator_of l k ≡ None) ts → run n ts (Have e h (Left l d ∷ K)) ≡ run n ts (Have e h K)
+unfolding run
 run-left n [] l e h d K q = refl
 run-left n (t ∷ ts) l e h d K q = rw q refl

@@ -121,7 +121,7 @@ pub data Outcome : Type 0 where
   Unfinished : Outcome
 
 -- the run from a state, with this most nesting
-abbrev pub run : ℕ → List Token → State → Outcome
+unfoldable pub run : ℕ → List Token → State → Outcome
 run n [] (Finished e) = Accepted e
 run n [] _ = Unfinished
 run n (t ∷ ts) S = pick (takes t S) (λ m. cond (nat_le m.need n) (run n ts m.next) (Refused true t.start)) (Refused false t.start)
