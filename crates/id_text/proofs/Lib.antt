@@ -4,3 +4,4 @@ pub mod SpellingLemmas
 pub mod PieceLemmas
 pub mod LexesLemmas
 pub mod OneReadingLemmas
+pub mod PlacesLemmas

@@ -13,6 +13,8 @@ mod numbers;
 mod places;
 mod sequence;
 mod signs;
+#[cfg(test)]
+mod tests;
 mod token;
 mod words;
 

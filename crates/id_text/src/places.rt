@@ -1,7 +1,9 @@
 //! The line and column of a place in a text.
 
-ghost use Rattle.std.specs.Prelude.{◌≡◌, ◌≤◌, length, IfOk};
-ghost use Rattle.id_text.specs.Places.{line_of, column_of};
+ghost use Rattle.std.specs.Prelude.{◌≡◌, ◌≤◌, length, nat_le, IfOk};
+ghost use Rattle.std.specs.List.{prefix_len};
+ghost use Rattle.std.specs.List.Sorted.{IsNonDecreasing};
+ghost use Rattle.id_text.specs.Places.{is_line_end, line_of, column_of, line_starts};
 
 use crate::token::MAX_BYTES;
 use std::alloc::{AllocError, Global};
@@ -19,7 +21,7 @@ pub fn line_col(text: &str, at: usize) -> (u32, u32)
     let mut line = 1;
     let mut column = 1;
     for b in &text.as_bytes()[..at] {
-        if *b == b'\n' {
+        if is_line_end(*b) {
             line += 1;
             column = 1;
         } else {
@@ -29,7 +31,14 @@ pub fn line_col(text: &str, at: usize) -> (u32, u32)
     (line, column)
 }
 
-/// Where the lines of a text begin, for the lines and columns of many places.
+/// Whether the byte ends a line.
+fn is_line_end(b: u8) -> bool
+    ensures { result ≡ is_line_end b }
+{
+    b == b'\n'
+}
+
+/// The text, and where its lines begin, for the lines and columns of many places.
 #[derive(Debug, Drop)]
 pub struct Lines<'a> {
     text: &'a str,
@@ -37,14 +46,15 @@ pub struct Lines<'a> {
 }
 
 impl<'a> Model for Lines<'a> {
-    ghost use Rattle.std.specs.Prelude.{List, ℕ, length, ◌≤◌};
+    ghost use Rattle.std.specs.Prelude.{List, ℕ, length, ◌≡◌, ◌≤◌};
     ghost use Rattle.id_text.specs.declared.token.TheConstants.{MAX_BYTES};
+    ghost use Rattle.id_text.specs.Places.{line_starts};
 
     ghost Value = { List ℕ };
 
     ghost view = { λ l. l.text.now };
 
-    ghost invariant = { λ l. length l.text.now ≤ MAX_BYTES };
+    ghost invariant = { λ l. (length l.text.now ≤ MAX_BYTES) × (l.starts.items ≡ line_starts l.text.now) };
 }
 
 impl<'a> Lines<'a> {
@@ -53,22 +63,41 @@ impl<'a> Lines<'a> {
         requires { length text.now ≤ MAX_BYTES }
         ensures { IfOk result (λ l. l ≡ text.now) }
     {
-        let mut starts = Vec::new(alloc);
-        starts.push(0)?;
-        for (i, b) in text.as_bytes().iter().enumerate() {
-            if *b == b'\n' {
-                starts.push(i + 1)?;
-            }
-        }
+        let starts = starts_of(alloc, text.as_bytes())?;
         Ok(Lines { text, starts })
     }
 
-    /// The same as `line_col` of the text. Takes no memory, and time in proportion to the logarithm of the number of lines.
+    /// What `line_col` gives for the text. Takes no memory, and time that grows with the logarithm of the number of lines.
     pub fn line_col(&self, at: usize) -> (u32, u32)
         requires { at ≤ length self.now }
         ensures line { result.0 ≡ line_of self.now at }
         ensures column { result.1 ≡ column_of self.now at }
     {
-        line_col(self.text, at)
+        let starts = self.starts.as_slice();
+        let line = starts_until(starts, at);
+        let column = at - starts[line - 1] + 1;
+        (line as u32, column as u32)
     }
+}
+
+/// Where the lines of the text begin.
+fn starts_of(alloc: Global, text: &[u8]) -> Result<Vec<usize>, AllocError>
+    requires { length text.now ≤ MAX_BYTES }
+    ensures { IfOk result (λ v. v.items ≡ line_starts text.now) }
+{
+    let mut starts = vec![in alloc; 0]?;
+    for (i, b) in text.iter().enumerate() {
+        if is_line_end(*b) {
+            starts.push(i + 1)?;
+        }
+    }
+    Ok(starts)
+}
+
+/// How many of the rising starts are at most `at`.
+fn starts_until(starts: &[usize], at: usize) -> usize
+    requires { IsNonDecreasing starts.now }
+    ensures { result ≡ prefix_len (λ s. nat_le s at) starts.now }
+{
+    starts.partition_point(|start| *start <= at)
 }

@@ -51,6 +51,7 @@ impl<T> Sequence<T> {
     pub fn into_vec(self) -> Vec<T>
         ensures { result.items ≡ self }
     {
-        self.items
+        let Sequence { items } = self;
+        items
     }
 }
