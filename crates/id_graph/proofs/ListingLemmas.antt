@@ -1,5 +1,5 @@
 -- Lemmas on specs/Listing.antt, in the order of its definitions.
-use Rattle.std.proofs.Common.{◌≡◌, Ordering, Less, nat_lt, suc, get_or, ◌==◌, ◌+◌, ◌*◌, ℕ, ◌≤◌, ◌<◌, Bool, ◌||◌, cond, true, false, nat_le, length, List, [], ◌∷◌, sum_by, arith, refl, inl, inr, sym, ap, ◌∙◌}
+use Rattle.std.proofs.Common.{◌≡◌, Ordering, Less, nat_lt, suc, get_or, ◌==◌, ◌+◌, ◌*◌, ℕ, ◌≤◌, ◌<◌, cond, true, false, nat_le, length, List, [], ◌∷◌, sum_by, arith, refl, inl, inr, sym, ap, ◌∙◌}
 use Rattle.std.proofs.lemmas.Bool.{cases_lt}
 use Rattle.std.proofs.lemmas.Bool.Decides.{nat_tests}
 use Rattle.std.proofs.lemmas.List.Sums.{sum_by-cons}
@@ -42,30 +42,30 @@ rank-from_parts by m n One One least = omega (arith, by.both_one m n least)
 pub IsNonDecreasingBy-from_sorted : {cmp : Dest → Dest → Ordering} → IsTotalOrder cmp → (ds : List Dest) → RanksBy cmp → IsSorted cmp ds → IsNonDecreasingBy rank ds
 IsNonDecreasingBy-from_sorted _ ds by sorted =
     IsNonDecreasingBy-from_all_adjacent rank ds (λ k d h.
-      let later = get_or ds (k + 1) d in let one = get_or ds k d
-      in rank-from_parts by later.instr one.instr later.port one.port (sorted k d (omega arith) h))
+    let later = get_or ds (k + 1) d in let one = get_or ds k d
+    in rank-from_parts by later.instr one.instr later.port one.port (sorted k d (omega arith) h))
 
 -- a number that does not compare less is not less, whatever a tie gives
 pub not_less : (m n : ℕ) (o : Ordering) → is_lt (ordering_then (nat_cmp m n) o) ≡ false → n ≤ m
 not_less m n o h =
     elim (cases_lt m n) [
-      inl lt ↦ let less : nat_lt m n ≡ true = grind (arith, nat_tests) in let h' = rw less at h in cc
-    | inr ge ↦ ge
+      | inl lt ↦ let less : nat_lt m n ≡ true = grind (arith, nat_tests) in let h' = rw less at h in cc
+      | inr ge ↦ ge
     ]
 
 -- a number that does not compare less, where a tie does, is more
 pub not_less_tie : (m n : ℕ) → is_lt (ordering_then (nat_cmp m n) Less) ≡ false → n < m
 not_less_tie m n h =
     elim (cases_lt n m) [
-      inl lt ↦ lt
-    | inr ge ↦
-      elim (cases_lt m n) [
-        inl lt ↦ absurd (omega (arith, not_less m n Less h))
-      | inr ge' ↦
-        let none : nat_lt m n ≡ false = grind (arith, nat_tests)
-        in let tie : (m == n) ≡ true = grind (arith, nat_tests)
-        in let h' = rw (none, tie) at h in cc
-      ]
+      | inl lt ↦ lt
+      | inr ge ↦
+          elim (cases_lt m n) [
+            | inl lt ↦ absurd (omega (arith, not_less m n Less h))
+            | inr ge' ↦
+                let none : nat_lt m n ≡ false = grind (arith, nat_tests)
+                in let tie : (m == n) ≡ true = grind (arith, nat_tests)
+                in let h' = rw (none, tie) at h in cc
+          ]
     ]
 
 -- no destination of the list is below the rank
@@ -111,13 +111,13 @@ same_lists [] (e ∷ es) up up' same = absurd (omega (arith, count-head e es, sa
 same_lists (d ∷ ds) [] up up' same = absurd (omega (arith, count-head d ds, same (rank d)))
 same_lists (d ∷ ds) (e ∷ es) up up' same =
     let ranks : rank d ≡ rank e =
-        elim (cases_lt (rank d) (rank e)) [
-          inl below ↦ absurd (head_not_below d e ds es up' same below)
-        | inr above ↦ elim (cases_lt (rank e) (rank d)) [
-            inl below ↦ absurd (head_not_below e d es ds up (λ r. sym (same r)) below)
-          | inr equal ↦ omega arith
-          ]
-        ]
+    elim (cases_lt (rank d) (rank e)) [
+      | inl below ↦ absurd (head_not_below d e ds es up' same below)
+      | inr above ↦ elim (cases_lt (rank e) (rank d)) [
+        | inl below ↦ absurd (head_not_below e d es ds up (λ r. sym (same r)) below)
+        | inr equal ↦ omega arith
+      ]
+    ]
     in let heads = rank-injective d e ranks
     in let tails = same_lists ds es up.1 up'.1 (λ r. let both = rw ranks at (same r) in omega arith)
     in cc
@@ -127,8 +127,8 @@ count-placed : (r : ℕ) (d : Dest) (es : List Dest) → count r (placed d es) �
 count-placed r d [] = refl
 count-placed r d (e ∷ es) =
     elim (nat_le (rank d) (rank e)) as (λ t. count r (cond t (d ∷ e ∷ es) (e ∷ placed d es)) ≡ cond (rank d == r) 1 0 + (cond (rank e == r) 1 0 + count r es)) [
-      true ↦ refl
-    | false ↦ omega (arith, count-placed r d es)
+      | true ↦ refl
+      | false ↦ omega (arith, count-placed r d es)
     ]
 
 -- putting in order keeps the destinations
@@ -148,8 +148,8 @@ unfolding AllFrom
 AllFrom-placed r d [] low from = (low, tt)
 AllFrom-placed r d (e ∷ es) low from =
     elim (nat_le (rank d) (rank e)) as (λ t. AllFrom r (cond t (d ∷ e ∷ es) (e ∷ placed d es))) [
-      true ↦ (low, from)
-    | false ↦ (from.0, AllFrom-placed r d es low from.1)
+      | true ↦ (low, from)
+      | false ↦ (from.0, AllFrom-placed r d es low from.1)
     ]
 
 -- what is placed rises
@@ -158,12 +158,12 @@ unfolding AllFrom Rises
 Rises-placed d [] up = (tt, tt)
 Rises-placed d (e ∷ es) up =
     elim (nat_le (rank d) (rank e)) as (λ t. nat_le (rank d) (rank e) ≡ t → Rises (cond t (d ∷ e ∷ es) (e ∷ placed d es))) [
-      true ↦ λ is.
-        let low : rank d ≤ rank e = grind (arith, nat_tests)
-        in ((low, AllFrom-lower (rank d) (rank e) es low up.0), up)
-    | false ↦ λ is.
-        let high : rank e ≤ rank d = grind (arith, nat_tests)
-        in (AllFrom-placed (rank e) d es high up.0, Rises-placed d es up.1)
+      | true ↦ λ is.
+          let low : rank d ≤ rank e = grind (arith, nat_tests)
+          in ((low, AllFrom-lower (rank d) (rank e) es low up.0), up)
+      | false ↦ λ is.
+          let high : rank e ≤ rank d = grind (arith, nat_tests)
+          in (AllFrom-placed (rank e) d es high up.0, Rises-placed d es up.1)
     ] refl
 
 -- what is put in order rises

@@ -1,7 +1,9 @@
 -- The listing of a graph (docs/GRAPH.md, "Listing").
-use Rattle.std.specs.Prelude.{ℕ, ◌+◌, ◌*◌, Bool, true, false, List, [], ◌∷◌, ◌++◌, nat_le, cond, codes}
-use Rattle.std.specs.List.{flat_map, enumerate_from}
+use Rattle.std.specs.Prelude.{ℕ, ◌+◌, ◌*◌, true, false, List, [], ◌∷◌, ◌++◌, nat_le, cond, codes}
+use Rattle.std.specs.List.{flat_map}
 use Rattle.std.specs.Fmt.{decimal, signed_decimal}
+use Rattle.id_text.specs.Places.{line_of, column_of}
+use Rattle.id_graph.specs.declared.instr.Instr.{Instr}
 use Rattle.id_graph.specs.declared.instr.Op.{Op}
 use Rattle.id_graph.specs.declared.instr.Op.TheVariants.{Const, Neg, Binary, Merge, Back}
 use Rattle.id_graph.specs.declared.instr.Constant.{Constant}
@@ -13,6 +15,7 @@ use Rattle.id_graph.specs.declared.instr.PortKind.TheVariants.{Signal, Int, Bool
 use Rattle.id_graph.specs.declared.dests.Dest.{Dest}
 use Rattle.id_graph.specs.declared.dests.Port.{Port}
 use Rattle.id_graph.specs.declared.dests.Port.TheVariants.{Zero, One}
+use Rattle.id_graph.specs.Graph.{Parts, arcs}
 
 -- the name of a kind
 abbrev pub kind_name : PortKind → List ℕ
@@ -68,3 +71,24 @@ in_order (d ∷ ds) = placed d (in_order ds)
 -- a destination after a space
 abbrev pub dest_text : Dest → List ℕ
 dest_text d = codes " " ++ decimal d.instr ++ codes "." ++ decimal (port_number d.port)
+
+-- a place after a space and `@`
+abbrev pub place_text : List ℕ → ℕ → List ℕ
+place_text text at = codes " @" ++ decimal (line_of text at) ++ codes ":" ++ decimal (column_of text at)
+
+-- an instruction with its number and place
+abbrev pub head_text : List ℕ → ℕ → Instr → List ℕ
+head_text text n i = decimal n ++ codes " " ++ op_text i.op ++ place_text text i.place
+
+-- the line of an instruction: its head, an arrow, its destinations in order, and LF
+abbrev pub line_text : List ℕ → ℕ → Instr → List ℕ
+line_text text n i = head_text text n i ++ codes " ->" ++ flat_map dest_text (in_order (arcs i)) ++ codes "\n"
+
+-- the lines of instructions whose numbers begin at n
+abbrev pub lines_text : List ℕ → ℕ → List Instr → List ℕ
+lines_text text n [] = []
+lines_text text n (i ∷ is) = line_text text n i ++ lines_text text (n + 1) is
+
+-- the listing of a graph of this text
+abbrev pub listing : List ℕ → Parts → List ℕ
+listing text g = lines_text text 0 g.instrs

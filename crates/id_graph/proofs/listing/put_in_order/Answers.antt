@@ -1,8 +1,6 @@
-use Rattle.std.proofs.Common.{◌≡◌, List, arith, IsPermutation, subst}
+use Rattle.std.proofs.Common.{◌≡◌, List, IsPermutation, subst}
 use Rattle.id_graph.specs.declared.dests.Dest.{Dest}
 use Rattle.id_graph.specs.contracts.dests.DestOrd.TheImpl.Laws.{total-law}
-use Rattle.id_graph.specs.Listing.{rank}
-use Rattle.std.proofs.lemmas.List.Sorted.{IsNonDecreasingBy-from_all_adjacent}
 use Rattle.id_graph.proofs.ListingLemmas.{in_order-from_sort, IsNonDecreasingBy-from_sorted, not_less, not_less_tie}
 use Rattle.id_graph.proofs.listing.put_in_order.Goals as goal
 
@@ -16,5 +14,5 @@ returns c =
       both_zero = λ m n least. not_less m n _ least;
       zero_one = λ m n least. not_less_tie m n least;
       one_zero = λ m n least. not_less m n _ least;
-      both_one = λ m n least. not_less m n _ least
+      both_one = λ m n least. not_less m n _ least;
     }) c.sort_unstable.ensures.sorted)
