@@ -8,7 +8,9 @@
 
 mod numbers;
 
-ghost use Rattle.std.specs.Prelude.{◌≡◌};
+ghost use Rattle.std.specs.Prelude.{◌≡◌, ◌≢◌};
+ghost use Rattle.id_ops.specs.declared.Fired.TheVariants.{Nothing};
+ghost use Rattle.id_ops.specs.Operands.{Suits, IsOfKind};
 ghost use Rattle.id_ops.specs.Operators.{constant_value, fired_const, fired_neg, fired_binary, fired_merge, fired_back, fired};
 
 use id_graph::{Arithmetic, Constant, Instr, Op, PortKind};
@@ -55,7 +57,12 @@ pub enum Fired {
 /// What the instruction does under this tag with its operands. No operator looks at the tag or at
 /// the next numbers yet. Takes no memory (docs/MACHINE.md, "Firing").
 pub fn fire(instr: &Instr, tag: Tag, operands: Operands, fresh: Fresh) -> Fired
-    ensures { result ≡ fired instr.now.op tag operands fresh }
+    ensures table { result ≡ fired instr.now.op tag operands fresh }
+
+    // Operands that the ports take fire, and no others; what is sent is of the kind that is said.
+    ensures fires { Suits instr.now.op operands → result ≢ Nothing }
+    ensures suits { result ≢ Nothing → Suits instr.now.op operands }
+    ensures kind { IsOfKind instr.now.op result }
 {
     match instr.op {
         Op::Const(constant) => fire_const(constant, operands),
