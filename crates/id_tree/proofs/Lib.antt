@@ -4,3 +4,4 @@ mod CompleteLemmas
 mod SoundLemmas
 mod FinishLemmas
 mod RefusedLemmas
+mod ReaderLemmas

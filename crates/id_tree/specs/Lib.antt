@@ -1,8 +1,7 @@
-pub mod Places
-pub mod Readers
 pub mod Tree
 pub mod Grammar
 pub mod Accepted
 -- For the proof of `parse` alone.
 pub mod Machine
 pub mod Standing
+pub mod Readers

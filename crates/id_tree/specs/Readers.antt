@@ -1,17 +1,68 @@
--- What a reader of a part gives back.
-use Rattle.std.specs.Prelude.{◌≡◌, ◌+◌, ◌<◌, ◌≤◌, ℕ, List, [], ◌∷◌}
+-- What the readers of `parse` give back, by the machine: for the proof of `parse` alone.
+use Rattle.std.specs.Prelude.{◌≡◌, ◌≢◌, ◌+◌, ◌<◌, ◌≤◌, ℕ, true, false, List, [], ◌∷◌, length}
+use Rattle.id_text.specs.Tokens.{EndsOnce}
 use Rattle.id_text.specs.declared.token.Token.{Token}
 use Rattle.id_text.specs.declared.token.TokenKind.{TokenKind}
 use Rattle.id_text.specs.declared.token.TokenKind.TheVariants.{End}
-use Rattle.id_tree.specs.Places.{IsBehind}
-
--- a part of this height was read inside that many expressions, and these tokens are left
-pub record IsRead (tokens rest : List Token) (depth height : ℕ) : Type 0 where
-  pub behind : IsBehind rest tokens
-  pub some : 0 < height
-  pub fits : depth + height ≤ 200
+use Rattle.id_tree.specs.declared.parser.Level.{Level}
+use Rattle.id_tree.specs.declared.tree.TreeError.{TreeError}
+use Rattle.id_tree.specs.declared.tree.TreeError.TheVariants.{Unexpected, TooDeep, Memory}
+use Rattle.id_tree.specs.Tree.{Tree}
+use Rattle.id_tree.specs.Grammar.{Phrase, Grouped, Word, Rest, word, name, heading}
+use Rattle.id_tree.specs.Machine.{Frame, Left, State, Want, Have, Next, Outcome, Refused, run}
 
 -- what the first token is
 abbrev pub first_kind : List Token → TokenKind
 first_kind [] = End
 first_kind (t ∷ ts) = t.kind
+
+-- where the first token starts
+abbrev pub first_start : List Token → ℕ
+first_start [] = 0
+first_start (t ∷ ts) = t.start
+
+-- a shorter list that ends as it must
+pub record IsBehind (rest tokens : List Token) : Type 0 where
+  pub ends : EndsOnce rest
+  pub shorter : length rest < length tokens
+
+-- a part of this height fits into that many expressions, and these tokens are left
+pub record IsRead (tokens rest : List Token) (depth height : ℕ) : Type 0 where
+  pub behind : IsBehind rest tokens
+  pub some : 0 < height
+  pub fits : depth + height ≤ 200
+
+-- the run ends as the error says
+abbrev pub EndsBy : Outcome → TreeError → Type 0
+EndsBy o (Unexpected at) = o ≡ Refused false at
+EndsBy o (TooDeep at) = o ≡ Refused true at
+EndsBy o Memory = Unit {0}
+
+-- from where the phrase is wanted the run comes to where it is there, whatever stands round it
+abbrev pub Leads : List Token → Phrase → ℕ → List Token → Tree → ℕ → Type 0
+Leads ts s d us e h = (K : List Frame) → run 200 ts (Want s d K) ≡ run 200 us (Have e h K)
+
+-- from where the phrase is wanted the run ends so
+abbrev pub Fails : List Token → Phrase → ℕ → TreeError → Type 0
+Fails ts s d x = (K : List Frame) → EndsBy (run 200 ts (Want s d K)) x
+
+-- the run takes the operator and its right operand into the left one
+abbrev pub Grows : List Token → Level → ℕ → Tree → ℕ → List Token → Tree → ℕ → Type 0
+Grows ts l d a m us e h = (K : List Frame) → run 200 ts (Have a m (Left l d ∷ K)) ≡ run 200 us (Have e h (Left l d ∷ K))
+
+abbrev pub Stunts : List Token → Level → ℕ → Tree → ℕ → TreeError → Type 0
+Stunts ts l d a m x = (K : List Frame) → EndsBy (run 200 ts (Have a m (Left l d ∷ K))) x
+
+-- the run takes a word, or a heading, of a production
+abbrev pub Takes : (Rest → Rest) → List Token → List Token → Type 0
+Takes f ts us = (r : Rest) (h d c : ℕ) (K : List Frame) → run 200 ts (Next (f r) h d c K) ≡ run 200 us (Next r h d c K)
+
+abbrev pub Misses : (Rest → Rest) → List Token → TreeError → Type 0
+Misses f ts x = (r : Rest) (h d c : ℕ) (K : List Frame) → EndsBy (run 200 ts (Next (f r) h d c K)) x
+
+-- the run takes a name of a production
+abbrev pub TakesName : List Token → List ℕ → ℕ → List Token → Type 0
+TakesName ts x p us = (f : List ℕ → ℕ → Rest) (h d c : ℕ) (K : List Frame) → run 200 ts (Next (name f) h d c K) ≡ run 200 us (Next (f x p) h d c K)
+
+abbrev pub MissesName : List Token → TreeError → Type 0
+MissesName ts x = (f : List ℕ → ℕ → Rest) (h d c : ℕ) (K : List Frame) → EndsBy (run 200 ts (Next (name f) h d c K)) x

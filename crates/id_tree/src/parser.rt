@@ -3,15 +3,17 @@
 //! A reader takes the tokens from its part on, and how many expressions stand round the part.
 //! It gives the part back with the tokens behind it.
 
-ghost use Rattle.std.specs.Prelude.{◌≡◌, ◌≢◌, ◌∷◌, ◌+◌, ◌<◌, ◌≤◌, IfOk, IfErr, IfSome};
+ghost use Rattle.std.specs.Prelude.{◌≡◌, ◌≢◌, ◌∷◌, ◌+◌, ◌<◌, ◌≤◌, ℕ, IfOk, IfErr, Some};
 ghost use Rattle.id_text.specs.Tokens.{EndsOnce, Rises};
-ghost use Rattle.id_tree.specs.Places.{IsBehind, AtAStart};
-ghost use Rattle.id_tree.specs.Readers.{IsRead, first_kind};
+ghost use Rattle.id_tree.specs.Tree.{tree_of, def_tree, literal};
+ghost use Rattle.id_tree.specs.Grammar.{Definition, Grouped, Unary, operand, operator_of, heading};
+ghost use Rattle.id_tree.specs.Readers.{
+    first_kind, IsBehind, IsRead, Leads, Fails, Grows, Stunts, Takes, Misses
+};
 
 use crate::part::{Part, binary, literal, negated};
 use crate::tokens::{
-    check_nesting, expect_end, expect_key, expect_name, expect_sign, is_key, is_sign, split,
-    unexpected,
+    check_nesting, expect_key, expect_name, expect_sign, is_key, is_sign, split, unexpected,
 };
 use crate::tree::{BinaryOp, Def, Kind, MAX_NESTING, Program, TreeError};
 use id_text::{Keyword, Sequence, Symbol, Token, TokenKind};
@@ -19,64 +21,9 @@ use std::alloc::Global;
 
 /// The levels of operators that group to the left, the loosest first.
 #[derive(Clone, Copy, Debug, PartialEq, Eq)]
-enum Level {
+pub enum Level {
     Sum,
     Product,
-}
-
-/// The program of these tokens.
-///
-/// `Unexpected` and `TooDeep` are at the first token after which no accepted list goes on.
-pub fn parse(alloc: Global, tokens: &[Token]) -> Result<Program, TreeError>
-    requires ends { EndsOnce tokens.now }
-    requires rises { Rises tokens.now }
-    ensures err { IfErr result (AtAStart tokens.now) }
-{
-    let mut defs = Vec::new(alloc);
-    let (first, _) = split(tokens);
-    if is_key(first, Keyword::Def) {
-        let (def, rest) = parse_def(alloc, tokens)?;
-        expect_end(rest)?;
-        defs.push(def)?;
-    } else {
-        expect_end(tokens)?;
-    }
-    Ok(Program {
-        defs: Sequence::new(defs),
-    })
-}
-
-/// `def = "def" NAME "(" ")" ":" "int" "=" expr ";"`
-fn parse_def(alloc: Global, tokens: &[Token]) -> Result<(Def, &[Token]), TreeError>
-    requires { EndsOnce tokens.now }
-    ensures ok { IfOk result (λ x. IsBehind x.1.now tokens.now) }
-    ensures err { IfErr result (AtAStart tokens.now) }
-{
-    let named = expect_key(tokens, Keyword::Def)?;
-    let (name, place, headed) = expect_name(alloc, named)?;
-    let begun = parse_heading(headed)?;
-    let (body, ended) = parse_grouped(alloc, begun, Level::Sum, 0)?;
-    let rest = expect_sign(ended, Symbol::Semicolon)?;
-    let def = Def {
-        name,
-        result: Kind::Int,
-        body: body.expr,
-        place,
-    };
-    Ok((def, rest))
-}
-
-/// `"(" ")" ":" "int" "="`
-fn parse_heading(tokens: &[Token]) -> Result<&[Token], TreeError>
-    requires { EndsOnce tokens.now }
-    ensures ok { IfOk result (λ rest. IsBehind rest.now tokens.now) }
-    ensures err { IfErr result (AtAStart tokens.now) }
-{
-    let opened = expect_sign(tokens, Symbol::LeftParen)?;
-    let closed = expect_sign(opened, Symbol::RightParen)?;
-    let colon = expect_sign(closed, Symbol::Colon)?;
-    let kind = expect_key(colon, Keyword::Int)?;
-    expect_sign(kind, Symbol::Becomes)
 }
 
 /// `sum = product { ("+" | "-") product }`, `product = unary { ("*" | "div" | "rem") unary }`
@@ -89,8 +36,10 @@ fn parse_grouped(
 ) -> Result<(Part, &[Token]), TreeError>
     requires ends { EndsOnce tokens.now }
     requires room { depth < MAX_NESTING }
-    ensures ok { IfOk result (λ x. IsRead tokens.now x.1.now depth x.0.height) }
-    ensures err { IfErr result (AtAStart tokens.now) }
+    ensures read { IfOk result (λ x. IsRead tokens.now x.1.now depth x.0.height) }
+    ensures ok { IfOk result (λ x.
+        Leads tokens.now (Grouped level) depth x.1.now (tree_of x.0.expr) x.0.height) }
+    ensures err { IfErr result (Fails tokens.now (Grouped level) depth) }
 {
     let (mut left, mut rest) = parse_operand(alloc, tokens, level, depth)?;
     while let Some(op) = operator_at(rest, level) {
@@ -112,11 +61,14 @@ fn parse_right(
     depth: usize,
 ) -> Result<(Part, &[Token]), TreeError>
     requires ends { EndsOnce tokens.now }
-    requires operator { first_kind tokens.now ≢ TokenKind.End }
+    requires operator { operator_of level (first_kind tokens.now) ≡ Some op }
     requires some { 0 < left.height }
     requires fits { depth + left.height ≤ MAX_NESTING }
-    ensures ok { IfOk result (λ x. IsRead tokens.now x.1.now depth x.0.height) }
-    ensures err { IfErr result (AtAStart tokens.now) }
+    ensures read { IfOk result (λ x. IsRead tokens.now x.1.now depth x.0.height) }
+    ensures ok { IfOk result (λ x.
+        Grows tokens.now level depth (tree_of left.expr) left.height
+            x.1.now (tree_of x.0.expr) x.0.height) }
+    ensures err { IfErr result (Stunts tokens.now level depth (tree_of left.expr) left.height) }
 {
     let (first, behind) = split(tokens);
     check_nesting(tokens, depth + left.height + 1)?;
@@ -135,8 +87,10 @@ fn parse_operand(
 ) -> Result<(Part, &[Token]), TreeError>
     requires ends { EndsOnce tokens.now }
     requires room { depth < MAX_NESTING }
-    ensures ok { IfOk result (λ x. IsRead tokens.now x.1.now depth x.0.height) }
-    ensures err { IfErr result (AtAStart tokens.now) }
+    ensures read { IfOk result (λ x. IsRead tokens.now x.1.now depth x.0.height) }
+    ensures ok { IfOk result (λ x.
+        Leads tokens.now (operand level) depth x.1.now (tree_of x.0.expr) x.0.height) }
+    ensures err { IfErr result (Fails tokens.now (operand level) depth) }
 {
     match level {
         Level::Sum => parse_grouped(alloc, tokens, Level::Product, depth),
@@ -144,38 +98,46 @@ fn parse_operand(
     }
 }
 
-/// `unary = "-" unary | atom`
+/// `unary = "-" unary | NUMBER | "(" expr ")"`
 #[cycle(expr)]
 fn parse_unary(alloc: Global, tokens: &[Token], depth: usize) -> Result<(Part, &[Token]), TreeError>
     requires ends { EndsOnce tokens.now }
     requires room { depth < MAX_NESTING }
-    ensures ok { IfOk result (λ x. IsRead tokens.now x.1.now depth x.0.height) }
-    ensures err { IfErr result (AtAStart tokens.now) }
+    ensures read { IfOk result (λ x. IsRead tokens.now x.1.now depth x.0.height) }
+    ensures ok { IfOk result (λ x.
+        Leads tokens.now Unary depth x.1.now (tree_of x.0.expr) x.0.height) }
+    ensures err { IfErr result (Fails tokens.now Unary depth) }
+{
+    let (first, _) = split(tokens);
+    if is_sign(first, Symbol::Minus) {
+        parse_negated(alloc, tokens, depth)
+    } else if is_sign(first, Symbol::LeftParen) {
+        parse_parens(alloc, tokens, depth)
+    } else {
+        parse_literal(tokens, depth)
+    }
+}
+
+/// `"-" unary`
+#[cycle(expr)]
+fn parse_negated(
+    alloc: Global,
+    tokens: &[Token],
+    depth: usize,
+) -> Result<(Part, &[Token]), TreeError>
+    requires ends { EndsOnce tokens.now }
+    requires begins { first_kind tokens.now ≡ TokenKind.Sign Symbol.Minus }
+    requires room { depth < MAX_NESTING }
+    ensures read { IfOk result (λ x. IsRead tokens.now x.1.now depth x.0.height) }
+    ensures ok { IfOk result (λ x.
+        Leads tokens.now Unary depth x.1.now (tree_of x.0.expr) x.0.height) }
+    ensures err { IfErr result (Fails tokens.now Unary depth) }
 {
     let (first, behind) = split(tokens);
-    if !is_sign(first, Symbol::Minus) {
-        return parse_atom(alloc, tokens, depth);
-    }
     check_nesting(tokens, depth + 2)?;
     let (operand, rest) = parse_unary(alloc, behind, depth + 1)?;
     let whole = negated(alloc, operand, first.start)?;
     Ok((whole, rest))
-}
-
-/// `atom = NUMBER | "(" expr ")"`
-#[cycle(expr)]
-fn parse_atom(alloc: Global, tokens: &[Token], depth: usize) -> Result<(Part, &[Token]), TreeError>
-    requires ends { EndsOnce tokens.now }
-    requires room { depth < MAX_NESTING }
-    ensures ok { IfOk result (λ x. IsRead tokens.now x.1.now depth x.0.height) }
-    ensures err { IfErr result (AtAStart tokens.now) }
-{
-    let (first, _) = split(tokens);
-    if is_sign(first, Symbol::LeftParen) {
-        parse_parens(alloc, tokens, depth)
-    } else {
-        parse_literal(tokens)
-    }
 }
 
 /// `"(" expr ")"`
@@ -186,11 +148,14 @@ fn parse_parens(
     depth: usize,
 ) -> Result<(Part, &[Token]), TreeError>
     requires ends { EndsOnce tokens.now }
+    requires begins { first_kind tokens.now ≡ TokenKind.Sign Symbol.LeftParen }
     requires room { depth < MAX_NESTING }
-    ensures ok { IfOk result (λ x. IsRead tokens.now x.1.now depth x.0.height) }
-    ensures err { IfErr result (AtAStart tokens.now) }
+    ensures read { IfOk result (λ x. IsRead tokens.now x.1.now depth x.0.height) }
+    ensures ok { IfOk result (λ x.
+        Leads tokens.now Unary depth x.1.now (tree_of x.0.expr) x.0.height) }
+    ensures err { IfErr result (Fails tokens.now Unary depth) }
 {
-    let opened = expect_sign(tokens, Symbol::LeftParen)?;
+    let (_, opened) = split(tokens);
     check_nesting(tokens, depth + 2)?;
     let (inside, closed) = parse_grouped(alloc, opened, Level::Sum, depth + 1)?;
     let rest = expect_sign(closed, Symbol::RightParen)?;
@@ -202,15 +167,19 @@ fn parse_parens(
 }
 
 /// `NUMBER`
-fn parse_literal(tokens: &[Token]) -> Result<(Part, &[Token]), TreeError>
-    requires { EndsOnce tokens.now }
-    ensures ok { IfOk result (λ x. IsBehind x.1.now tokens.now) }
-    ensures height { IfOk result (λ x. x.0.height ≡ 1) }
-    ensures err { IfErr result (AtAStart tokens.now) }
+fn parse_literal(tokens: &[Token], depth: usize) -> Result<(Part, &[Token]), TreeError>
+    requires ends { EndsOnce tokens.now }
+    requires no_minus { first_kind tokens.now ≢ TokenKind.Sign Symbol.Minus }
+    requires no_paren { first_kind tokens.now ≢ TokenKind.Sign Symbol.LeftParen }
+    requires room { depth < MAX_NESTING }
+    ensures read { IfOk result (λ x. IsRead tokens.now x.1.now depth x.0.height) }
+    ensures ok { IfOk result (λ x.
+        Leads tokens.now Unary depth x.1.now (tree_of x.0.expr) x.0.height) }
+    ensures err { IfErr result (Fails tokens.now Unary depth) }
 {
     let (first, rest) = split(tokens);
     match &first.kind {
-        TokenKind::Number(value) => Ok((literal(*value, first.start), rest)),
+        TokenKind::Number(value) => Ok((literal(value, first.start), rest)),
         TokenKind::Name(_) => Err(unexpected(tokens)),
         TokenKind::Key(_) => Err(unexpected(tokens)),
         TokenKind::Sign(_) => Err(unexpected(tokens)),
@@ -221,7 +190,7 @@ fn parse_literal(tokens: &[Token]) -> Result<(Part, &[Token]), TreeError>
 /// The operator of this level that the tokens begin with.
 fn operator_at(tokens: &[Token], level: Level) -> Option<BinaryOp>
     requires { EndsOnce tokens.now }
-    ensures { IfSome result (λ _. first_kind tokens.now ≢ TokenKind.End) }
+    ensures { result ≡ operator_of level (first_kind tokens.now) }
 {
     match (level, &tokens[0].kind) {
         (Level::Sum, TokenKind::Sign(Symbol::Plus)) => Some(BinaryOp::Add),

@@ -2,6 +2,9 @@
 
 ghost use Rattle.std.specs.Prelude.{◌≡◌, ◌+◌, ◌<◌, ◌^◌, IfOk, IfErr, max};
 ghost use Rattle.id_tree.specs.declared.tree.TreeError.TheVariants.{Memory};
+ghost use Rattle.id_tree.specs.declared.tree.Constant.TheVariants.{Int};
+ghost use Rattle.id_tree.specs.declared.tree.UnaryOp.TheVariants.{Neg};
+ghost use Rattle.id_tree.specs.Tree.{tree_of, literal, unary, binary};
 
 use crate::tree::{BinaryOp, Constant, Expr, TreeError, UnaryOp};
 use std::alloc::Global;
@@ -14,10 +17,11 @@ pub struct Part {
 }
 
 /// The number as an expression.
-pub fn literal(value: i64, place: usize) -> Part
+pub fn literal(value: &i64, place: usize) -> Part
     ensures height { result.height ≡ 1 }
+    ensures tree { tree_of result.expr ≡ literal (Int value.now) place }
 {
-    let value = Constant::Int(value);
+    let value = Constant::Int(*value);
     Part {
         expr: Expr::Literal { value, place },
         height: 1,
@@ -28,6 +32,7 @@ pub fn literal(value: i64, place: usize) -> Part
 pub fn negated(alloc: Global, operand: Part, place: usize) -> Result<Part, TreeError>
     requires { operand.height < 2 ^ 63 }
     ensures height { IfOk result (λ p. p.height ≡ operand.height + 1) }
+    ensures tree { IfOk result (λ p. tree_of p.expr ≡ unary Neg (tree_of operand.expr) place) }
     ensures err { IfErr result (λ e. e ≡ Memory) }
 {
     let height = operand.height + 1;
@@ -50,18 +55,15 @@ pub fn binary(
     requires low { left.height < 2 ^ 63 }
     requires high { right.height < 2 ^ 63 }
     ensures height { IfOk result (λ p. p.height ≡ max left.height right.height + 1) }
+    ensures tree { IfOk result (λ p. tree_of p.expr
+        ≡ binary op (tree_of left.expr) (tree_of right.expr) place) }
     ensures err { IfErr result (λ e. e ≡ Memory) }
 {
     let height = left.height.max(right.height) + 1;
     let left = Box::new(alloc, left.expr)?;
     let right = Box::new(alloc, right.expr)?;
     Ok(Part {
-        expr: Expr::Binary {
-            op,
-            left,
-            right,
-            place,
-        },
+        expr: Expr::Binary { op, left, right, place },
         height,
     })
 }

@@ -1,38 +1,15 @@
 //! One token at a time, at the front of a list that ends in `End`.
 
-ghost use Rattle.std.specs.Prelude.{◌≡◌, ◌≢◌, ◌∷◌, ◌<◌, ◌≤◌, ◌↔◌, IsTrue, IfOk, IfErr, length};
+ghost use Rattle.std.specs.Prelude.{◌≡◌, ◌≢◌, ◌∷◌, ◌<◌, ◌≤◌, ◌↔◌, IsTrue, IfOk, IfErr};
 ghost use Rattle.id_text.specs.Tokens.{EndsOnce};
-ghost use Rattle.id_tree.specs.Places.{IsBehind, AtAStart};
+ghost use Rattle.id_tree.specs.Readers.{
+    first_kind, first_start, IsBehind, Takes, Misses, TakesName, MissesName
+};
+ghost use Rattle.id_tree.specs.Grammar.{sign, key};
 
 use crate::tree::{MAX_NESTING, TreeError};
 use id_text::{Identifier, Keyword, Symbol, Token, TokenKind};
 use std::alloc::Global;
-
-/// Whether the token is this sign.
-pub fn is_sign(token: &Token, sign: Symbol) -> bool
-    ensures { IsTrue result ↔ (token.now.kind ≡ TokenKind.Sign sign) }
-{
-    match &token.kind {
-        TokenKind::Sign(found) => *found == sign,
-        TokenKind::Name(_) => false,
-        TokenKind::Number(_) => false,
-        TokenKind::Key(_) => false,
-        TokenKind::End => false,
-    }
-}
-
-/// Whether the token is this word.
-pub fn is_key(token: &Token, key: Keyword) -> bool
-    ensures { IsTrue result ↔ (token.now.kind ≡ TokenKind.Key key) }
-{
-    match &token.kind {
-        TokenKind::Key(found) => *found == key,
-        TokenKind::Name(_) => false,
-        TokenKind::Number(_) => false,
-        TokenKind::Sign(_) => false,
-        TokenKind::End => false,
-    }
-}
 
 /// The first token and those behind it.
 pub fn split(tokens: &[Token]) -> (&Token, &[Token])
@@ -43,10 +20,36 @@ pub fn split(tokens: &[Token]) -> (&Token, &[Token])
     (&tokens[0], &tokens[1..])
 }
 
+/// Whether the token is this sign.
+pub fn is_sign(token: &Token, wanted: Symbol) -> bool
+    ensures { IsTrue result ↔ (token.now.kind ≡ TokenKind.Sign wanted) }
+{
+    match &token.kind {
+        TokenKind::Sign(found) => *found == wanted,
+        TokenKind::Name(_) => false,
+        TokenKind::Number(_) => false,
+        TokenKind::Key(_) => false,
+        TokenKind::End => false,
+    }
+}
+
+/// Whether the token is this word.
+pub fn is_key(token: &Token, wanted: Keyword) -> bool
+    ensures { IsTrue result ↔ (token.now.kind ≡ TokenKind.Key wanted) }
+{
+    match &token.kind {
+        TokenKind::Key(found) => *found == wanted,
+        TokenKind::Name(_) => false,
+        TokenKind::Number(_) => false,
+        TokenKind::Sign(_) => false,
+        TokenKind::End => false,
+    }
+}
+
 /// The refusal of the first token, since no program goes on with it.
 pub fn unexpected(tokens: &[Token]) -> TreeError
     requires { EndsOnce tokens.now }
-    ensures { AtAStart tokens.now result }
+    ensures { result ≡ TreeError.Unexpected (first_start tokens.now) }
 {
     TreeError::Unexpected {
         at: tokens[0].start,
@@ -57,7 +60,8 @@ pub fn unexpected(tokens: &[Token]) -> TreeError
 pub fn check_nesting(tokens: &[Token], nesting: usize) -> Result<(), TreeError>
     requires { EndsOnce tokens.now }
     ensures ok { IfOk result (λ _. nesting ≤ MAX_NESTING) }
-    ensures err { IfErr result (AtAStart tokens.now) }
+    ensures deep { IfErr result (λ _. MAX_NESTING < nesting) }
+    ensures err { IfErr result (λ e. e ≡ TreeError.TooDeep (first_start tokens.now)) }
 {
     if nesting > MAX_NESTING {
         return Err(TreeError::TooDeep {
@@ -68,13 +72,14 @@ pub fn check_nesting(tokens: &[Token], nesting: usize) -> Result<(), TreeError>
 }
 
 /// The tokens behind this sign.
-pub fn expect_sign(tokens: &[Token], sign: Symbol) -> Result<&[Token], TreeError>
+pub fn expect_sign(tokens: &[Token], wanted: Symbol) -> Result<&[Token], TreeError>
     requires { EndsOnce tokens.now }
-    ensures ok { IfOk result (λ rest. IsBehind rest.now tokens.now) }
-    ensures err { IfErr result (AtAStart tokens.now) }
+    ensures behind { IfOk result (λ rest. IsBehind rest.now tokens.now) }
+    ensures ok { IfOk result (λ rest. Takes (sign wanted) tokens.now rest.now) }
+    ensures err { IfErr result (Misses (sign wanted) tokens.now) }
 {
     let (first, rest) = split(tokens);
-    if is_sign(first, sign) {
+    if is_sign(first, wanted) {
         Ok(rest)
     } else {
         Err(unexpected(tokens))
@@ -82,13 +87,14 @@ pub fn expect_sign(tokens: &[Token], sign: Symbol) -> Result<&[Token], TreeError
 }
 
 /// The tokens behind this word.
-pub fn expect_key(tokens: &[Token], key: Keyword) -> Result<&[Token], TreeError>
+pub fn expect_key(tokens: &[Token], wanted: Keyword) -> Result<&[Token], TreeError>
     requires { EndsOnce tokens.now }
-    ensures ok { IfOk result (λ rest. IsBehind rest.now tokens.now) }
-    ensures err { IfErr result (AtAStart tokens.now) }
+    ensures behind { IfOk result (λ rest. IsBehind rest.now tokens.now) }
+    ensures ok { IfOk result (λ rest. Takes (key wanted) tokens.now rest.now) }
+    ensures err { IfErr result (Misses (key wanted) tokens.now) }
 {
     let (first, rest) = split(tokens);
-    if is_key(first, key) {
+    if is_key(first, wanted) {
         Ok(rest)
     } else {
         Err(unexpected(tokens))
@@ -101,8 +107,9 @@ pub fn expect_name(
     tokens: &[Token],
 ) -> Result<(Identifier, usize, &[Token]), TreeError>
     requires { EndsOnce tokens.now }
-    ensures ok { IfOk result (λ x. IsBehind x.2.now tokens.now) }
-    ensures err { IfErr result (AtAStart tokens.now) }
+    ensures behind { IfOk result (λ x. IsBehind x.2.now tokens.now) }
+    ensures ok { IfOk result (λ x. TakesName tokens.now x.0 x.1 x.2.now) }
+    ensures err { IfErr result (MissesName tokens.now) }
 {
     let (first, rest) = split(tokens);
     match &first.kind {
@@ -111,19 +118,5 @@ pub fn expect_name(
         TokenKind::Key(_) => Err(unexpected(tokens)),
         TokenKind::Sign(_) => Err(unexpected(tokens)),
         TokenKind::End => Err(unexpected(tokens)),
-    }
-}
-
-/// Refuses the first token unless it is the end.
-pub fn expect_end(tokens: &[Token]) -> Result<(), TreeError>
-    requires { EndsOnce tokens.now }
-    ensures err { IfErr result (AtAStart tokens.now) }
-{
-    match &tokens[0].kind {
-        TokenKind::End => Ok(()),
-        TokenKind::Name(_) => Err(unexpected(tokens)),
-        TokenKind::Number(_) => Err(unexpected(tokens)),
-        TokenKind::Key(_) => Err(unexpected(tokens)),
-        TokenKind::Sign(_) => Err(unexpected(tokens)),
     }
 }
