@@ -120,3 +120,20 @@ pub fn expect_name(
         TokenKind::End => Err(unexpected(tokens)),
     }
 }
+
+/// Refuses the first token unless it is the end.
+pub fn expect_end(tokens: &[Token]) -> Result<(), TreeError>
+    requires { EndsOnce tokens.now }
+    ensures ok { IfOk result (λ _. first_kind tokens.now ≡ TokenKind.End) }
+    ensures some { IfErr result (λ _. first_kind tokens.now ≢ TokenKind.End) }
+    ensures err { IfErr result (λ e. e ≡ TreeError.Unexpected (first_start tokens.now)) }
+{
+    let (first, _) = split(tokens);
+    match &first.kind {
+        TokenKind::End => Ok(()),
+        TokenKind::Name(_) => Err(unexpected(tokens)),
+        TokenKind::Number(_) => Err(unexpected(tokens)),
+        TokenKind::Key(_) => Err(unexpected(tokens)),
+        TokenKind::Sign(_) => Err(unexpected(tokens)),
+    }
+}
