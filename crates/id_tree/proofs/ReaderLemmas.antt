@@ -44,7 +44,7 @@ module _ {ts us : List Token} {t : Token} (e : ts ≡ t ∷ us) where
 
   -- a production that begins with a part
   pub Opens-part : {s i : Phrase} {f : Tree → Rest} (d : ℕ) → Opens s t.kind t.start (part i f) → d + own_height s + 1 ≤ 200 → (K : List Frame) →
-    run 200 ts (Want s d K) ≡ run 200 us (Want i (d + own_height s) (Inside f 0 (d + own_height s) (own_height s) ∷ K))
+      run 200 ts (Want s d K) ≡ run 200 us (Want i (d + own_height s) (Inside f 0 (d + own_height s) (own_height s) ∷ K))
   Opens-part {s = s} {i = i} {f = f} d o w K = rw e (run-opens 200 t us s (part i f) d K o w ∙ run-part 200 us i f 0 (d + own_height s) (own_height s) K)
 
   pub Unary-deep : {i : Phrase} {f : Tree → Rest} (d : ℕ) (x : TreeError) → x ≡ TooDeep (first_start ts) → Opens Unary t.kind t.start (part i f) → 200 < d + 2 → Fails ts Unary d x

@@ -3,18 +3,31 @@
 //! A reader takes the tokens from its part on, and how many expressions stand round the part.
 //! It gives the part back with the tokens behind it.
 
-ghost use Rattle.std.specs.Prelude.{◌≡◌, ◌≢◌, ◌∷◌, ◌+◌, ◌<◌, ◌≤◌, ℕ, IfOk, IfErr, Some};
+ghost use Rattle.std.specs.Prelude.{◌≡◌, ◌≢◌, ◌∷◌, ◌+◌, ◌<◌, ◌≤◌, ℕ, IfOk, IfErr, MatchResult, Some};
 ghost use Rattle.id_text.specs.Tokens.{EndsOnce, Rises};
-ghost use Rattle.id_tree.specs.Tree.{tree_of, def_tree, program_tree};
+ghost use Rattle.id_tree.specs.Tree.{Tree, tree_of, def_tree, program_tree};
+ghost use Rattle.id_tree.specs.Accepted.{Accepts, RefusedBy, IsMemory};
+ghost use Rattle.id_tree.specs.Distinct.{Distinct};
 ghost use Rattle.id_tree.specs.Grammar.{Definition, Grouped, Unary, operand, operator_of, heading};
 ghost use Rattle.id_tree.specs.Machine.{run, Begin, Accepted};
 ghost use Rattle.id_tree.specs.Readers.{
-    first_kind, EndsBy, IsBehind, IsRead, Leads, Defines, Fails, Grows, Stunts, Takes, Misses
+  first_kind,
+  EndsBy,
+  IsBehind,
+  IsRead,
+  Leads,
+  Defines,
+  Fails,
+  Grows,
+  Stunts,
+  Takes,
+  Misses,
 };
 
 use crate::part::{Part, binary, literal, negated};
 use crate::tokens::{
-    check_nesting, expect_end, expect_key, expect_name, expect_sign, is_key, is_sign, split, unexpected,
+    check_nesting, expect_end, expect_key, expect_name, expect_sign, is_key, is_sign, split,
+    unexpected,
 };
 use crate::tree::{BinaryOp, Def, Kind, MAX_NESTING, Program, TreeError};
 use id_text::{Keyword, Sequence, Symbol, Token, TokenKind};
@@ -25,6 +38,25 @@ use std::alloc::Global;
 pub enum Level {
     Sum,
     Product,
+}
+
+/// The program of these tokens.
+///
+/// `Unexpected` and `TooDeep` are at the first token after which no accepted list goes on
+/// (docs/LANGUAGE.md, "Nesting").
+pub fn parse(alloc: Global, tokens: &[Token]) -> Result<Program, TreeError>
+    requires ends { EndsOnce tokens.now }
+    requires rises { Rises tokens.now }
+
+    // The list is accepted, and this is its one tree.
+    ensures tree { IfOk result (λ p. Accepts tokens.now (program_tree p)) }
+    ensures only { (e : Tree) → Accepts tokens.now e →
+        MatchResult result (λ p. program_tree p ≡ e) IsMemory }
+    ensures distinct { IfOk result (λ p. Distinct (program_tree p)) }
+
+    ensures refused { IfErr result (RefusedBy tokens.now) }
+{
+    parse_program(alloc, tokens)
 }
 
 /// `program = [ def ]`, and then the end
@@ -127,7 +159,7 @@ fn parse_right(
     ensures read { IfOk result (λ x. IsRead tokens.now x.1.now depth x.0.height) }
     ensures ok { IfOk result (λ x.
         Grows tokens.now level depth (tree_of left.expr) left.height
-            x.1.now (tree_of x.0.expr) x.0.height) }
+        x.1.now (tree_of x.0.expr) x.0.height) }
     ensures err { IfErr result (Stunts tokens.now level depth (tree_of left.expr) left.height) }
 {
     let (first, behind) = split(tokens);

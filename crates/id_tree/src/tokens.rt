@@ -3,7 +3,13 @@
 ghost use Rattle.std.specs.Prelude.{◌≡◌, ◌≢◌, ◌∷◌, ◌<◌, ◌≤◌, ◌↔◌, IsTrue, IfOk, IfErr};
 ghost use Rattle.id_text.specs.Tokens.{EndsOnce};
 ghost use Rattle.id_tree.specs.Readers.{
-    first_kind, first_start, IsBehind, Takes, Misses, TakesName, MissesName
+  first_kind,
+  first_start,
+  IsBehind,
+  Takes,
+  Misses,
+  TakesName,
+  MissesName,
 };
 ghost use Rattle.id_tree.specs.Grammar.{sign, key};
 
