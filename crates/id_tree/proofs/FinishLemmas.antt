@@ -71,12 +71,32 @@ least_sum from = let l = least_number from in record { tokens = l.tokens; tree =
 least_definition : (from : ℕ) → Least (Grouped Sum) (from + 7) → Least Definition from
 least_definition from body = record {
   tokens = token (Key Def) from ∷ token (Name []) (from + 1) ∷ token (Sign LeftParen) (from + 2) ∷ token (Sign RightParen) (from + 3)
-    ∷ token (Sign Colon) (from + 4) ∷ token (Key Int) (from + 5) ∷ token (Sign Becomes) (from + 6) ∷ (body.tokens ++ token (Sign Semicolon) body.to ∷ []);
+      ∷ token (Sign Colon) (from + 4) ∷ token (Key Int) (from + 5) ∷ token (Sign Becomes) (from + 6) ∷ (body.tokens ++ token (Sign Semicolon) body.to ∷ []);
   tree = _;
   to = body.to + 1;
-  laid = (omega arith, (omega arith, (omega arith, (omega arith, (omega arith, (omega arith, (omega arith,
-    Laid-lower (body.tokens ++ token (Sign Semicolon) body.to ∷ []) (from + 6 + 1) (from + 7) (body.to + 1) (omega arith)
-    (Laid-append body.tokens (token (Sign Semicolon) body.to ∷ []) (from + 7) body.to (body.to + 1) body.laid (omega arith, omega arith)))))))));
+  laid = (
+    omega arith,
+    (
+      omega arith,
+      (
+        omega arith,
+        (
+          omega arith,
+          (
+            omega arith,
+            (
+              omega arith,
+              (
+                omega arith,
+                Laid-lower (body.tokens ++ token (Sign Semicolon) body.to ∷ []) (from + 6 + 1) (from + 7) (body.to + 1) (omega arith)
+                    (Laid-append body.tokens (token (Sign Semicolon) body.to ∷ []) (from + 7) body.to (body.to + 1) body.laid (omega arith, omega arith)),
+              ),
+            ),
+          ),
+        ),
+      ),
+    ),
+  );
   derives = opened definition (named refl (taken refl (taken refl (taken refl (taken refl (taken refl (given body.derives (taken refl ended))))))));
 }
 
@@ -138,7 +158,7 @@ Completed-more n from mid us ws l c = record {
 
 -- a part that has come is gone on to a program
 Around-completed : {n : ℕ} {s : Phrase} {d : ℕ} {K : List Frame} {us : List Token} → Around n s d K us →
-  (vs : List Token) (e : Tree) (h from : ℕ) → Derives s vs e h → d + h ≤ n → Completed n from (us ++ vs)
+    (vs : List Token) (e : Tree) (h from : ℕ) → Derives s vs e h → d + h ≤ n → Completed n from (us ++ vs)
 Around-completed outermost vs e h from x w = record {
   behind = token End from ∷ [];
   tree = _;

@@ -4,4 +4,5 @@ mod CompleteLemmas
 mod SoundLemmas
 mod FinishLemmas
 mod RefusedLemmas
+mod DistinctLemmas
 mod ReaderLemmas

@@ -1,5 +1,6 @@
 -- How the readers' runs are put together, for each production and each way out of it.
 use Rattle.std.proofs.Common.{◌≡◌, ℕ, ℤ, ◌+◌, ◌≤◌, ◌<◌, max, Option, Some, None, List, [], ◌∷◌, ◌++◌, true, false, cond, Bool, refl, sym, ap, ◌∙◌, subst, arith, zero-le}
+use Rattle.id_text.specs.Tokens.{EndsOnce}
 use Rattle.id_text.specs.declared.token.Token.{Token}
 use Rattle.id_text.specs.declared.token.TokenKind.{TokenKind}
 use Rattle.id_text.specs.declared.token.TokenKind.TheVariants.{Name, Number, Key, Sign, End}
@@ -17,7 +18,7 @@ use Rattle.id_tree.specs.declared.tree.TreeError.TheVariants.{Unexpected, TooDee
 use Rattle.id_tree.specs.Tree.{Tree, literal, unary, binary, define, none, more}
 use Rattle.id_tree.specs.Grammar.{Phrase, Definition, Grouped, Unary, Word, kind_of, Rest, done, word, name, part, sign, heading, Opens, definition, negated, number, parens, operand, operator_of, own_height}
 use Rattle.id_tree.specs.Machine.{Row, opening, room, Frame, Left, Right, Inside, State, Begin, Want, Have, Next, Finished, Move, pick, is_word, name_in, takes, ends, wants, Outcome, Accepted, Refused, run}
-use Rattle.id_tree.specs.Readers.{first_kind, first_start, EndsBy, Leads, Fails, Grows, Stunts, Takes, Misses, TakesName, MissesName}
+use Rattle.id_tree.specs.Readers.{first_kind, first_start, EndsBy, Leads, Fails, Defines, Grows, Stunts, Takes, Misses, TakesName, MissesName}
 use Rattle.id_tree.proofs.RowLemmas.{opening-from_opens}
 use Rattle.id_tree.proofs.RunLemmas.{First, same-is_word, run-step, run-deep, run-none, run-word, run-name, run-opens, run-operator, run-done, run-part, run-inside, run-right, run-level, run-left}
 
@@ -43,7 +44,7 @@ module _ {ts us : List Token} {t : Token} (e : ts ≡ t ∷ us) where
 
   -- a production that begins with a part
   pub Opens-part : {s i : Phrase} {f : Tree → Rest} (d : ℕ) → Opens s t.kind t.start (part i f) → d + own_height s + 1 ≤ 200 → (K : List Frame) →
-    run 200 ts (Want s d K) ≡ run 200 us (Want i (d + own_height s) (Inside f 0 (d + own_height s) (own_height s) ∷ K))
+      run 200 ts (Want s d K) ≡ run 200 us (Want i (d + own_height s) (Inside f 0 (d + own_height s) (own_height s) ∷ K))
   Opens-part {s = s} {i = i} {f = f} d o w K = rw e (run-opens 200 t us s (part i f) d K o w ∙ run-part 200 us i f 0 (d + own_height s) (own_height s) K)
 
   pub Unary-deep : {i : Phrase} {f : Tree → Rest} (d : ℕ) (x : TreeError) → x ≡ TooDeep (first_start ts) → Opens Unary t.kind t.start (part i f) → 200 < d + 2 → Fails ts Unary d x
@@ -152,3 +153,106 @@ pub unopened : (s : Symbol) (p : ℕ) → (Sign s ≡ Sign Minus → ⊥) → (S
 unopened Minus p f g = absurd (f refl)
 unopened LeftParen p f g = absurd (g refl)
 unopened _ p f g = refl
+
+-- words in a row
+pub Takes-then : (f g : Rest → Rest) (ts us vs : List Token) → Takes f ts us → Takes g us vs → Takes (λ r. f (g r)) ts vs
+Takes-then f g ts us vs p q = λ r h d c K. p (g r) h d c K ∙ q r h d c K
+
+pub Misses-first : (f g : Rest → Rest) (ts : List Token) (x : TreeError) → Misses f ts x → Misses (λ r. f (g r)) ts x
+Misses-first f g ts x p = λ r h d c K. p (g r) h d c K
+
+pub Misses-then : (f g : Rest → Rest) (ts us : List Token) (x : TreeError) → Takes f ts us → Misses g us x → Misses (λ r. f (g r)) ts x
+Misses-then f g ts us x p q = λ r h d c K. EndsBy-at x (p (g r) h d c K) (q r h d c K)
+
+-- a definition, from its first word to its last sign
+module _ {ts us : List Token} {t : Token} (e : ts ≡ t ∷ us) (q : t.kind ≡ Key Def) where
+  abbrev body : List ℕ → ℕ → Tree → Rest
+  body x p e = sign Semicolon (done (define x kind.Int e p))
+
+  abbrev headed : List ℕ → ℕ → Rest
+  headed x p = heading (part (Grouped Sum) (body x p))
+
+  opens_definition : Opens Definition t.kind t.start (name headed)
+  opens_definition = rw q definition
+
+  Def-opens : (K : List Frame) → run 200 ts (Want Definition 0 K) ≡ run 200 us (Next (name headed) 0 0 0 K)
+  Def-opens K = rw e (run-opens 200 t us Definition (name headed) 0 K opens_definition (omega arith))
+
+  pub Def-nameless : (x : TreeError) → MissesName us x → Fails ts Definition 0 x
+  Def-nameless x f = λ K. EndsBy-at x (Def-opens K) (f headed 0 0 0 K)
+
+  module _ (x : List ℕ) (p : ℕ) (vs : List Token) (f : TakesName us x p vs) where
+    Def-named : (K : List Frame) → run 200 ts (Want Definition 0 K) ≡ run 200 vs (Next (headed x p) 0 0 0 K)
+    Def-named K = Def-opens K ∙ f headed 0 0 0 K
+
+    pub Def-headless : (y : TreeError) → Misses heading vs y → Fails ts Definition 0 y
+    Def-headless y g = λ K. EndsBy-at y (Def-named K) (g (part (Grouped Sum) (body x p)) 0 0 0 K)
+
+    module _ (ws : List Token) (g : Takes heading vs ws) where
+      Def-headed : (K : List Frame) → run 200 ts (Want Definition 0 K) ≡ run 200 ws (Want (Grouped Sum) 0 (Inside (body x p) 0 0 0 ∷ K))
+      Def-headed K = Def-named K ∙ g (part (Grouped Sum) (body x p)) 0 0 0 K ∙ run-part 200 ws (Grouped Sum) (body x p) 0 0 0 K
+
+      pub Def-bodiless : (y : TreeError) → Fails ws (Grouped Sum) 0 y → Fails ts Definition 0 y
+      Def-bodiless y i = λ K. EndsBy-at y (Def-headed K) (i (Inside (body x p) 0 0 0 ∷ K))
+
+      module _ (zs : List Token) (a : Tree) (h : ℕ) (i : Leads ws (Grouped Sum) 0 zs a h) where
+        Def-bodied : (K : List Frame) → run 200 ts (Want Definition 0 K) ≡ run 200 zs (Next (body x p a) (max 0 h) 0 0 K)
+        Def-bodied K = Def-headed K ∙ i (Inside (body x p) 0 0 0 ∷ K) ∙ run-inside 200 zs a h (body x p) 0 0 0 K
+
+        pub Def-endless : (y : TreeError) → Misses (sign Semicolon) zs y → Fails ts Definition 0 y
+        Def-endless y j = λ K. EndsBy-at y (Def-bodied K) (j (done (define x kind.Int a p)) (max 0 h) 0 0 K)
+
+        pub Def-leads : (ys : List Token) → Takes (sign Semicolon) zs ys → Defines ts ys (define x kind.Int a p)
+        Def-leads ys j = (max 0 h + 0, λ K. Def-bodied K ∙ j (done (define x kind.Int a p)) (max 0 h) 0 0 K ∙ run-done 200 ys (define x kind.Int a p) (max 0 h) 0 0 K)
+
+-- behind a program, only the end
+ends-end : (k : TokenKind) (e : Tree) → k ≡ End → ends k e ≡ Some (record { need = 0; next = Finished e })
+ends-end k e q = rw q refl
+
+ends-none : (k : TokenKind) (e : Tree) → (k ≡ End → ⊥) → ends k e ≡ None
+ends-none End e f = absurd (f refl)
+ends-none _ e f = refl
+
+-- the end is the last token
+run-last : (ts : List Token) (S : State) (e : Tree) → EndsOnce ts → first_kind ts ≡ End → ((t : Token) → t.kind ≡ End → takes t S ≡ Some (record { need = 0; next = Finished e })) → run 200 ts S ≡ Accepted e
+unfolding run
+run-last [] S e w q f = absurd w
+run-last (t ∷ []) S e w q f = run-step 200 t [] S (record { need = 0; next = Finished e }) (f t q) zero-le
+run-last (t ∷ u ∷ ts) S e w q f = absurd (w.0 q)
+
+run-early : (ts : List Token) (S : State) → EndsOnce ts → ((t : Token) → t.kind ≡ first_kind ts → takes t S ≡ None) → run 200 ts S ≡ Refused false (first_start ts)
+run-early [] S w f = absurd w
+run-early (t ∷ ts) S w f = run-none 200 t ts S (f t refl)
+
+wants-none : (t : Token) (k : TokenKind) → t.kind ≡ k → (k ≡ Key Def → ⊥) → wants t Definition 0 [] ≡ None
+wants-none t k q f = rw (no_def t.kind t.start (λ i. f (sym q ∙ i))) refl
+  where
+    no_def : (k : TokenKind) (p : ℕ) → (k ≡ Key Def → ⊥) → opening Definition k p ≡ None
+    no_def (Key Def) p g = absurd (g refl)
+    no_def _ p g = refl
+
+module _ (ts : List Token) where
+  -- no definition comes
+  pub Begin-empty : EndsOnce ts → first_kind ts ≡ End → run 200 ts Begin ≡ Accepted none
+  Begin-empty w q = run-last ts Begin none w q (λ t i. let n : wants t Definition 0 [] ≡ None = wants-none t End i (λ j. cc) in rw (n, ends-end t.kind none i) refl)
+
+  pub Begin-unexpected : (x : TreeError) → x ≡ Unexpected (first_start ts) → EndsOnce ts → (first_kind ts ≡ End → ⊥) → (first_kind ts ≡ Key Def → ⊥) → EndsBy (run 200 ts Begin) x
+  Begin-unexpected x j w f g = rw j (run-early ts Begin w (λ t i. let n : wants t Definition 0 [] ≡ None = wants-none t (first_kind ts) i g in rw (n, ends-none t.kind none (λ k. f (sym i ∙ k))) refl))
+
+-- a definition comes
+Begin-def : (ts : List Token) → first_kind ts ≡ Key Def → run 200 ts Begin ≡ run 200 ts (Want Definition 0 [])
+Begin-def [] q = cc
+Begin-def (t ∷ us) q =
+    let r : Rest = name (λ x p. heading (part (Grouped Sum) (λ e. sign Semicolon (done (define x kind.Int e p))))) in
+    let o : Opens Definition t.kind t.start r = rw q definition in
+    run-step 200 t us Begin (record { need = 1; next = Next r 0 0 0 [] }) (rw (opening-from_opens o) refl) (omega arith) ∙ sym (run-opens 200 t us Definition r 0 [] o (omega arith))
+
+module _ (ts : List Token) (q : first_kind ts ≡ Key Def) where
+  pub Begin-fails : (x : TreeError) → Fails ts Definition 0 x → EndsBy (run 200 ts Begin) x
+  Begin-fails x f = EndsBy-at x (Begin-def ts q) (f [])
+
+  pub Begin-stops : (us : List Token) (e : Tree) (x : TreeError) → Defines ts us e → EndsOnce us → (first_kind us ≡ End → ⊥) → x ≡ Unexpected (first_start us) → EndsBy (run 200 ts Begin) x
+  Begin-stops us e x p w f j = EndsBy-at x (Begin-def ts q ∙ p.1 []) (rw j (run-early us (Have e p.0 []) w (λ t i. ends-none t.kind (more e none) (λ k. f (sym i ∙ k)))))
+
+  pub Begin-accepts : (us : List Token) (e : Tree) → Defines ts us e → EndsOnce us → first_kind us ≡ End → run 200 ts Begin ≡ Accepted (more e none)
+  Begin-accepts us e p w i = Begin-def ts q ∙ p.1 [] ∙ run-last us (Have e p.0 []) (more e none) w i (λ t k. ends-end t.kind (more e none) k)

@@ -4,9 +4,11 @@ use Rattle.std.proofs.lemmas.Bool.Decides.{leb_tells}
 use Rattle.id_text.specs.Tokens.{Rises}
 use Rattle.id_text.specs.declared.token.Token.{Token}
 use Rattle.id_tree.specs.Tree.{Tree}
-use Rattle.id_tree.specs.declared.tree.TreeError.TheVariants.{Unexpected, TooDeep}
+use Rattle.id_tree.specs.declared.tree.TreeError.{TreeError}
+use Rattle.id_tree.specs.declared.tree.TreeError.TheVariants.{Unexpected, TooDeep, Memory}
+use Rattle.id_tree.specs.Readers.{EndsBy}
 use Rattle.id_tree.specs.Grammar.{Phrase, Rest, done, word, name, part, own_height, Program}
-use Rattle.id_tree.specs.Accepted.{Accepts, GoesOn, GoesOnDeeper, StopsAt, RefusedBy}
+use Rattle.id_tree.specs.Accepted.{Accepts, GoesOn, GoesOnDeeper, StopsAt, RefusedBy, IsMemory}
 use Rattle.id_tree.specs.Machine.{Move, pick, takes, Frame, State, Begin, Want, Have, Next, Finished, Outcome, Accepted, Refused, Unfinished, run}
 use Rattle.id_tree.specs.Standing.{Around, outermost, left, right, inside, Stands, begun, wanting, having, within, finished, Roomy}
 use Rattle.id_tree.proofs.RunLemmas.{run-step, run-none, run-deep}
@@ -204,3 +206,17 @@ Whole-run n S us (t ∷ ts) e st q = Whole-move n us t ts e
 
 pub Accepts-from_run : (ts : List Token) (e : Tree) → run 200 ts Begin ≡ Accepted e → Accepts ts e
 Accepts-from_run ts e q = let p = Whole-run 200 Begin [] ts e begun q in record { height = p.0; derives = p.1; fits = p.2 }
+
+-- a run's end settles all that `parse` promises
+pub RefusedBy-from_run : (ts : List Token) (x : TreeError) → Rises ts → EndsBy (run 200 ts Begin) x → RefusedBy ts x
+RefusedBy-from_run ts (Unexpected at) q r = Refused-unexpected ts q at r
+RefusedBy-from_run ts (TooDeep at) q r = Refused-deep ts q at r
+RefusedBy-from_run ts Memory q r = tt
+
+pub Same-from_run : (ts : List Token) (a e : Tree) → run 200 ts Begin ≡ Accepted a → Accepts ts e → a ≡ e
+Same-from_run ts a e q p = let both : Accepted a ≡ Accepted e = sym q ∙ run-program p.derives 200 p.fits in cc
+
+pub IsMemory-from_run : (ts : List Token) (x : TreeError) (e : Tree) → EndsBy (run 200 ts Begin) x → Accepts ts e → IsMemory x
+IsMemory-from_run ts (Unexpected at) e q p = let both : Refused false at ≡ Accepted e = sym q ∙ run-program p.derives 200 p.fits in cc
+IsMemory-from_run ts (TooDeep at) e q p = let both : Refused true at ≡ Accepted e = sym q ∙ run-program p.derives 200 p.fits in cc
+IsMemory-from_run ts Memory e q p = refl

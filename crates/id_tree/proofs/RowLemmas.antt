@@ -57,7 +57,7 @@ valid negated = record {
   needs = omega arith;
   roomy = λ n d h. (h, λ e. tt);
 }
-valid number = record { parts = tt; needs = omega arith; roomy = λ n d h. tt; }
+valid number = record { parts = tt; needs = omega arith; roomy = λ n d h. tt }
 valid parens = record {
   parts = λ e. ((refl, refl), tt);
   needs = omega arith;

@@ -69,9 +69,9 @@ module _ (n : ℕ) (t : Token) where
 
   -- a token in a production
   Moves-nexts : {s : Phrase} {d : ℕ} {K : List Frame} {us vs : List Token} (r : Rest) (h : ℕ) (close : Tree → ℕ → Option Move) →
-    Around n s d K us → Begins s vs r h → d + own_height s + h ≤ n → Roomy n (d + own_height s) r →
-    ((ws : List Token) (e : Tree) (k : ℕ) → Derives s ws e k → d + k ≤ n → Moves n ((us ++ ws) ++ t ∷ []) (close e k)) →
-    Moves n ((us ++ vs) ++ t ∷ []) (nexts t r h (d + own_height s) (own_height s) K close)
+      Around n s d K us → Begins s vs r h → d + own_height s + h ≤ n → Roomy n (d + own_height s) r →
+      ((ws : List Token) (e : Tree) (k : ℕ) → Derives s ws e k → d + k ≤ n → Moves n ((us ++ ws) ++ t ∷ []) (close e k)) →
+      Moves n ((us ++ vs) ++ t ∷ []) (nexts t r h (d + own_height s) (own_height s) K close)
   Moves-nexts {s = s} {vs = vs} (done e) h close a b w roomy closing =
       closing vs e (h + own_height s) (Derives-at (append-nil vs) (Derives-of (omega arith) (b.completes [] e 0 ended))) (omega arith)
   Moves-nexts {s = s} {us = us} {vs = vs} (word v r) h close a b w roomy closing = Moves-cond n _ (is_word v t.kind) _ (λ q fits.
@@ -84,7 +84,7 @@ module _ (n : ℕ) (t : Token) where
 
   -- a token behind a part
   Moves-closes : {s : Phrase} {d : ℕ} {K : List Frame} {us : List Token} → Around n s d K us →
-    (vs : List Token) (e : Tree) (h : ℕ) → Derives s vs e h → d + h ≤ n → Moves n ((us ++ vs) ++ t ∷ []) (closes t e h K)
+      (vs : List Token) (e : Tree) (h : ℕ) → Derives s vs e h → d + h ≤ n → Moves n ((us ++ vs) ++ t ∷ []) (closes t e h K)
   Moves-closes outermost vs e h x w = Moves-ends (vs ++ t ∷ []) (more e none) h t.kind (λ q. single_def t x q) (omega arith)
   Moves-closes (left {d = d} {K = K} a) vs e h x w = Moves-operates (closes t e h K) a (single x) (Moves-closes a vs e h (single x) w)
   Moves-closes (right {l = l} {d = d} {m = m} {K = K} {us = us} {vs = vs} {o = o} {a = b} a y i q fit) ws e k x w =
@@ -96,8 +96,8 @@ module _ (n : ℕ) (t : Token) where
       Moves-at n (nexts t (f e) (max h k) (d + own_height s) (own_height s) K (λ u j. closes t u j K))
       (ap (λ xs. xs ++ t ∷ []) (sym (append_assoc us vs ws)))
       (Moves-nexts (f e) (max h k) (λ u j. closes t u j K) a
-        (record { completes = λ ts u m g. Derives-at (sym (append_assoc vs ws ts)) (Derives-of (omega arith) (b.completes (ws ++ ts) u (max k m) (given x g))) })
-        (omega arith) (roomy e) (λ zs u j y v. Moves-closes a zs u j y v))
+      (record { completes = λ ts u m g. Derives-at (sym (append_assoc vs ws ts)) (Derives-of (omega arith) (b.completes (ws ++ ts) u (max k m) (given x g))) })
+      (omega arith) (roomy e) (λ zs u j y v. Moves-closes a zs u j y v))
 
   -- what a token leads to stands behind the token
   pub Moves-takes : {S : State} {us : List Token} → Stands n S us → Moves n (us ++ t ∷ []) (takes t S)

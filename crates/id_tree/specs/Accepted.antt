@@ -43,3 +43,7 @@ abbrev pub RefusedBy : List Token → TreeError → Type 0
 RefusedBy ts (Unexpected at) = (r : StopsAt ts at) × ¬ GoesOnDeeper (r.front ++ r.token ∷ [])
 RefusedBy ts (TooDeep at) = (r : StopsAt ts at) × GoesOnDeeper (r.front ++ r.token ∷ [])
 RefusedBy ts Memory = Unit {0}
+
+-- want of memory
+abbrev pub IsMemory : TreeError → Type 0
+IsMemory x = x ≡ Memory

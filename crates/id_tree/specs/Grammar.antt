@@ -79,24 +79,24 @@ mutual
   -- the tokens are a phrase, with this tree of this height
   pub data Derives : Phrase → List Token → Tree → ℕ → Type 0 where
     opened : {s : Phrase} {t : Token} {r : Rest} {ts : List Token} {e : Tree} {h : ℕ} →
-      Opens s t.kind t.start r → Follows r ts e h → Derives s (t ∷ ts) e (h + own_height s)
+        Opens s t.kind t.start r → Follows r ts e h → Derives s (t ∷ ts) e (h + own_height s)
     single : {l : Level} {ts : List Token} {e : Tree} {h : ℕ} → Derives (operand l) ts e h → Derives (Grouped l) ts e h
     grouped : {l : Level} {us vs : List Token} {o : BinaryOp} {a b : Tree} {m n : ℕ} →
-      Derives (Grouped l) us a m → (t : Token) → operator_of l t.kind ≡ Some o → Derives (operand l) vs b n →
-      Derives (Grouped l) (us ++ t ∷ vs) (binary o a b t.start) (max m n + 1)
+        Derives (Grouped l) us a m → (t : Token) → operator_of l t.kind ≡ Some o → Derives (operand l) vs b n →
+        Derives (Grouped l) (us ++ t ∷ vs) (binary o a b t.start) (max m n + 1)
 
   -- the tokens are what is left of a production, with the tree that it makes, and its parts have this greatest height
   pub data Follows : Rest → List Token → Tree → ℕ → Type 0 where
     ended : {e : Tree} → Follows (done e) [] e 0
     taken : {w : Word} {t : Token} {r : Rest} {ts : List Token} {e : Tree} {h : ℕ} →
-      t.kind ≡ kind_of w → Follows r ts e h → Follows (word w r) (t ∷ ts) e h
+        t.kind ≡ kind_of w → Follows r ts e h → Follows (word w r) (t ∷ ts) e h
     named : {t : Token} {x : List ℕ} {f : List ℕ → ℕ → Rest} {ts : List Token} {e : Tree} {h : ℕ} →
-      t.kind ≡ Name x → Follows (f x t.start) ts e h → Follows (name f) (t ∷ ts) e h
+        t.kind ≡ Name x → Follows (f x t.start) ts e h → Follows (name f) (t ∷ ts) e h
     given : {s : Phrase} {f : Tree → Rest} {us ts : List Token} {a e : Tree} {m n : ℕ} →
-      Derives s us a m → Follows (f a) ts e n → Follows (part s f) (us ++ ts) e (max m n)
+        Derives s us a m → Follows (f a) ts e n → Follows (part s f) (us ++ ts) e (max m n)
 
 -- the tokens are a program of this height: nothing, or one definition, and then the end
 pub data Program : List Token → Tree → ℕ → Type 0 where
   empty : {t : Token} → t.kind ≡ End → Program (t ∷ []) none 0
   single_def : {ts : List Token} {e : Tree} {h : ℕ} (t : Token) →
-    Derives Definition ts e h → t.kind ≡ End → Program (ts ++ t ∷ []) (more e none) h
+      Derives Definition ts e h → t.kind ≡ End → Program (ts ++ t ∷ []) (more e none) h

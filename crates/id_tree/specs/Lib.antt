@@ -1,6 +1,7 @@
 pub mod Tree
 pub mod Grammar
 pub mod Accepted
+pub mod Distinct
 -- For the proof of `parse` alone.
 pub mod Machine
 pub mod Standing

@@ -8,7 +8,7 @@ use Rattle.id_tree.specs.declared.parser.Level.{Level}
 use Rattle.id_tree.specs.declared.tree.TreeError.{TreeError}
 use Rattle.id_tree.specs.declared.tree.TreeError.TheVariants.{Unexpected, TooDeep, Memory}
 use Rattle.id_tree.specs.Tree.{Tree}
-use Rattle.id_tree.specs.Grammar.{Phrase, Grouped, Word, Rest, word, name, heading}
+use Rattle.id_tree.specs.Grammar.{Phrase, Definition, Grouped, Word, Rest, word, name, heading}
 use Rattle.id_tree.specs.Machine.{Frame, Left, State, Want, Have, Next, Outcome, Refused, run}
 
 -- what the first token is
@@ -66,3 +66,7 @@ TakesName ts x p us = (f : List ℕ → ℕ → Rest) (h d c : ℕ) (K : List Fr
 
 abbrev pub MissesName : List Token → TreeError → Type 0
 MissesName ts x = (f : List ℕ → ℕ → Rest) (h d c : ℕ) (K : List Frame) → EndsBy (run 200 ts (Next (name f) h d c K)) x
+
+-- the run takes a definition, of some height
+abbrev pub Defines : List Token → List Token → Tree → Type 0
+Defines ts us e = (h : ℕ) × Leads ts Definition 0 us e h

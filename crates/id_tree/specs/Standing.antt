@@ -22,22 +22,22 @@ Roomy n d (part s f) = (d + 1 ≤ n) × ((a : Tree) → Roomy n d (f a))
 pub data Around (n : ℕ) : Phrase → ℕ → List Frame → List Token → Type 0 where
   outermost : Around n Definition 0 [] []
   left : {l : Level} {d : ℕ} {K : List Frame} {us : List Token} →
-    Around n (Grouped l) d K us → Around n (operand l) d (Left l d ∷ K) us
+      Around n (Grouped l) d K us → Around n (operand l) d (Left l d ∷ K) us
   right : {l : Level} {d m : ℕ} {K : List Frame} {us vs : List Token} {o : BinaryOp} {a : Tree} →
-    Around n (Grouped l) d K us → Derives (Grouped l) vs a m → (t : Token) → operator_of l t.kind ≡ Some o →
-    d + m + 1 ≤ n → Around n (operand l) (d + 1) (Right l o a m t.start d ∷ K) (us ++ (vs ++ t ∷ []))
+      Around n (Grouped l) d K us → Derives (Grouped l) vs a m → (t : Token) → operator_of l t.kind ≡ Some o →
+      d + m + 1 ≤ n → Around n (operand l) (d + 1) (Right l o a m t.start d ∷ K) (us ++ (vs ++ t ∷ []))
   inside : {s i : Phrase} {f : Tree → Rest} {d h : ℕ} {K : List Frame} {us vs : List Token} →
-    Around n s d K us → Begins s vs (part i f) h → d + own_height s + h ≤ n → ((a : Tree) → Roomy n (d + own_height s) (f a)) →
-    Around n i (d + own_height s) (Inside f h (d + own_height s) (own_height s) ∷ K) (us ++ vs)
+      Around n s d K us → Begins s vs (part i f) h → d + own_height s + h ≤ n → ((a : Tree) → Roomy n (d + own_height s) (f a)) →
+      Around n i (d + own_height s) (Inside f h (d + own_height s) (own_height s) ∷ K) (us ++ vs)
 
 -- the tokens lead to the state, within n
 pub data Stands (n : ℕ) : State → List Token → Type 0 where
   begun : Stands n Begin []
   wanting : {s : Phrase} {d : ℕ} {K : List Frame} {us : List Token} →
-    Around n s d K us → d + 1 ≤ n → Stands n (Want s d K) us
+      Around n s d K us → d + 1 ≤ n → Stands n (Want s d K) us
   having : {s : Phrase} {d h : ℕ} {e : Tree} {K : List Frame} {us vs : List Token} →
-    Around n s d K us → Derives s vs e h → d + h ≤ n → Stands n (Have e h K) (us ++ vs)
+      Around n s d K us → Derives s vs e h → d + h ≤ n → Stands n (Have e h K) (us ++ vs)
   within : {s : Phrase} {r : Rest} {d h : ℕ} {K : List Frame} {us vs : List Token} →
-    Around n s d K us → Begins s vs r h → d + own_height s + h ≤ n → Roomy n (d + own_height s) r →
-    Stands n (Next r h (d + own_height s) (own_height s) K) (us ++ vs)
+      Around n s d K us → Begins s vs r h → d + own_height s + h ≤ n → Roomy n (d + own_height s) r →
+      Stands n (Next r h (d + own_height s) (own_height s) K) (us ++ vs)
   finished : {us : List Token} {e : Tree} {h : ℕ} → Program us e h → h ≤ n → Stands n (Finished e) us

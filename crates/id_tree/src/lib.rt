@@ -11,8 +11,8 @@ mod part;
 mod tokens;
 mod tree;
 
-
+pub use parser::parse;
 pub use tree::{BinaryOp, Constant, Def, Expr, Kind, MAX_NESTING, Program, TreeError, UnaryOp};
 
-
-
+#[cfg(test)]
+mod tests;

@@ -3,17 +3,31 @@
 //! A reader takes the tokens from its part on, and how many expressions stand round the part.
 //! It gives the part back with the tokens behind it.
 
-ghost use Rattle.std.specs.Prelude.{◌≡◌, ◌≢◌, ◌∷◌, ◌+◌, ◌<◌, ◌≤◌, ℕ, IfOk, IfErr, Some};
+ghost use Rattle.std.specs.Prelude.{◌≡◌, ◌≢◌, ◌∷◌, ◌+◌, ◌<◌, ◌≤◌, ℕ, IfOk, IfErr, MatchResult, Some};
 ghost use Rattle.id_text.specs.Tokens.{EndsOnce, Rises};
-ghost use Rattle.id_tree.specs.Tree.{tree_of, def_tree, literal};
+ghost use Rattle.id_tree.specs.Tree.{Tree, tree_of, def_tree, program_tree};
+ghost use Rattle.id_tree.specs.Accepted.{Accepts, RefusedBy, IsMemory};
+ghost use Rattle.id_tree.specs.Distinct.{Distinct};
 ghost use Rattle.id_tree.specs.Grammar.{Definition, Grouped, Unary, operand, operator_of, heading};
+ghost use Rattle.id_tree.specs.Machine.{run, Begin, Accepted};
 ghost use Rattle.id_tree.specs.Readers.{
-    first_kind, IsBehind, IsRead, Leads, Fails, Grows, Stunts, Takes, Misses
+  first_kind,
+  EndsBy,
+  IsBehind,
+  IsRead,
+  Leads,
+  Defines,
+  Fails,
+  Grows,
+  Stunts,
+  Takes,
+  Misses,
 };
 
 use crate::part::{Part, binary, literal, negated};
 use crate::tokens::{
-    check_nesting, expect_key, expect_name, expect_sign, is_key, is_sign, split, unexpected,
+    check_nesting, expect_end, expect_key, expect_name, expect_sign, is_key, is_sign, split,
+    unexpected,
 };
 use crate::tree::{BinaryOp, Def, Kind, MAX_NESTING, Program, TreeError};
 use id_text::{Keyword, Sequence, Symbol, Token, TokenKind};
@@ -24,6 +38,84 @@ use std::alloc::Global;
 pub enum Level {
     Sum,
     Product,
+}
+
+/// The program of these tokens.
+///
+/// `Unexpected` and `TooDeep` are at the first token after which no accepted list goes on
+/// (docs/LANGUAGE.md, "Nesting").
+pub fn parse(alloc: Global, tokens: &[Token]) -> Result<Program, TreeError>
+    requires ends { EndsOnce tokens.now }
+    requires rises { Rises tokens.now }
+
+    // The list is accepted, and this is its one tree.
+    ensures tree { IfOk result (λ p. Accepts tokens.now (program_tree p)) }
+    ensures only { (e : Tree) → Accepts tokens.now e →
+        MatchResult result (λ p. program_tree p ≡ e) IsMemory }
+    ensures distinct { IfOk result (λ p. Distinct (program_tree p)) }
+
+    ensures refused { IfErr result (RefusedBy tokens.now) }
+{
+    parse_program(alloc, tokens)
+}
+
+/// `program = [ def ]`, and then the end
+fn parse_program(alloc: Global, tokens: &[Token]) -> Result<Program, TreeError>
+    requires { EndsOnce tokens.now }
+    ensures ok { IfOk result (λ p. run 200 tokens.now Begin ≡ Accepted (program_tree p)) }
+    ensures err { IfErr result (EndsBy (run 200 tokens.now Begin)) }
+{
+    let mut defs = Vec::new(alloc);
+    let (first, _) = split(tokens);
+    if is_key(first, Keyword::Def) {
+        let (def, rest) = parse_def(alloc, tokens)?;
+        expect_end(rest)?;
+        defs.push(def)?;
+        return Ok(Program {
+            defs: Sequence::new(defs),
+        });
+    }
+    expect_end(tokens)?;
+    Ok(Program {
+        defs: Sequence::new(defs),
+    })
+}
+
+/// `def = "def" NAME "(" ")" ":" "int" "=" expr ";"`
+fn parse_def(alloc: Global, tokens: &[Token]) -> Result<(Def, &[Token]), TreeError>
+    requires ends { EndsOnce tokens.now }
+    requires begins { first_kind tokens.now ≡ TokenKind.Key Keyword.Def }
+    ensures behind { IfOk result (λ x. IsBehind x.1.now tokens.now) }
+    ensures ok { IfOk result (λ x. Defines tokens.now x.1.now (def_tree x.0)) }
+    ensures err { IfErr result (Fails tokens.now Definition 0) }
+{
+    let (_, named) = split(tokens);
+    let (name, place, headed) = expect_name(alloc, named)?;
+    let begun = parse_heading(headed)?;
+    let (body, ended) = parse_grouped(alloc, begun, Level::Sum, 0)?;
+    let rest = expect_sign(ended, Symbol::Semicolon)?;
+    let def = Def {
+        name,
+        result: Kind::Int,
+        body: body.expr,
+        place,
+    };
+    Ok((def, rest))
+}
+
+/// `"(" ")" ":" "int" "="`
+fn parse_heading(tokens: &[Token]) -> Result<&[Token], TreeError>
+    requires { EndsOnce tokens.now }
+    ensures behind { IfOk result (λ rest. IsBehind rest.now tokens.now) }
+    ensures ok { IfOk result (λ rest. Takes heading tokens.now rest.now) }
+    ensures err { IfErr result (Misses heading tokens.now) }
+{
+    let opened = expect_sign(tokens, Symbol::LeftParen)?;
+    let closed = expect_sign(opened, Symbol::RightParen)?;
+    let colon = expect_sign(closed, Symbol::Colon)?;
+    let kind = expect_key(colon, Keyword::Int)?;
+    let rest = expect_sign(kind, Symbol::Becomes)?;
+    Ok(rest)
 }
 
 /// `sum = product { ("+" | "-") product }`, `product = unary { ("*" | "div" | "rem") unary }`
@@ -67,7 +159,7 @@ fn parse_right(
     ensures read { IfOk result (λ x. IsRead tokens.now x.1.now depth x.0.height) }
     ensures ok { IfOk result (λ x.
         Grows tokens.now level depth (tree_of left.expr) left.height
-            x.1.now (tree_of x.0.expr) x.0.height) }
+        x.1.now (tree_of x.0.expr) x.0.height) }
     ensures err { IfErr result (Stunts tokens.now level depth (tree_of left.expr) left.height) }
 {
     let (first, behind) = split(tokens);

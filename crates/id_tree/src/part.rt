@@ -63,7 +63,12 @@ pub fn binary(
     let left = Box::new(alloc, left.expr)?;
     let right = Box::new(alloc, right.expr)?;
     Ok(Part {
-        expr: Expr::Binary { op, left, right, place },
+        expr: Expr::Binary {
+            op,
+            left,
+            right,
+            place,
+        },
         height,
     })
 }

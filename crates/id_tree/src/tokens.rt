@@ -3,7 +3,13 @@
 ghost use Rattle.std.specs.Prelude.{◌≡◌, ◌≢◌, ◌∷◌, ◌<◌, ◌≤◌, ◌↔◌, IsTrue, IfOk, IfErr};
 ghost use Rattle.id_text.specs.Tokens.{EndsOnce};
 ghost use Rattle.id_tree.specs.Readers.{
-    first_kind, first_start, IsBehind, Takes, Misses, TakesName, MissesName
+  first_kind,
+  first_start,
+  IsBehind,
+  Takes,
+  Misses,
+  TakesName,
+  MissesName,
 };
 ghost use Rattle.id_tree.specs.Grammar.{sign, key};
 
@@ -118,5 +124,22 @@ pub fn expect_name(
         TokenKind::Key(_) => Err(unexpected(tokens)),
         TokenKind::Sign(_) => Err(unexpected(tokens)),
         TokenKind::End => Err(unexpected(tokens)),
+    }
+}
+
+/// Refuses the first token unless it is the end.
+pub fn expect_end(tokens: &[Token]) -> Result<(), TreeError>
+    requires { EndsOnce tokens.now }
+    ensures ok { IfOk result (λ _. first_kind tokens.now ≡ TokenKind.End) }
+    ensures some { IfErr result (λ _. first_kind tokens.now ≢ TokenKind.End) }
+    ensures err { IfErr result (λ e. e ≡ TreeError.Unexpected (first_start tokens.now)) }
+{
+    let (first, _) = split(tokens);
+    match &first.kind {
+        TokenKind::End => Ok(()),
+        TokenKind::Name(_) => Err(unexpected(tokens)),
+        TokenKind::Number(_) => Err(unexpected(tokens)),
+        TokenKind::Key(_) => Err(unexpected(tokens)),
+        TokenKind::Sign(_) => Err(unexpected(tokens)),
     }
 }

@@ -1,0 +1,105 @@
+-- What rises gives things different places.
+use Rattle.std.proofs.Common.{◌≡◌, ℕ, ◌+◌, ◌≤◌, ◌<◌, List, [], ◌∷◌, ◌++◌, inl, inr, refl, arith}
+use Rattle.id_text.specs.declared.token.Token.{Token}
+use Rattle.id_text.specs.declared.token.TokenKind.{TokenKind}
+use Rattle.id_tree.specs.Tree.{Tree, literal, unary, binary, define, none, more}
+use Rattle.id_tree.specs.Grammar.{Phrase, Rest, done, word, name, part, Opens, definition, negated, number, parens, Derives, opened, single, grouped, Follows, ended, taken, named, given, Program, empty, single_def}
+use Rattle.id_tree.specs.Distinct.{HasPlace, Apart, Distinct}
+use Rattle.id_tree.proofs.FinishLemmas.{Laid}
+
+-- the places rise in the order of the text, from the first number on and below the second
+abbrev Spans : ℕ → Tree → ℕ → Type 0
+Spans low (literal v p) high = (low ≤ p) × (p < high)
+Spans low (unary o a p) high = (low ≤ p) × Spans (p + 1) a high
+Spans low (binary o a b p) high = Spans low a p × Spans (p + 1) b high
+Spans low (define x k a p) high = (low ≤ p) × Spans (p + 1) a high
+Spans low none high = low ≤ high
+Spans low (more a b) high = (mid : ℕ) × Spans low a mid × Spans mid b high
+
+Spans-order : (e : Tree) (low high : ℕ) → Spans low e high → low ≤ high
+Spans-order (literal v p) low high q = omega (arith, q.0, q.1)
+Spans-order (unary o a p) low high q = omega (arith, q.0, Spans-order a (p + 1) high q.1)
+Spans-order (binary o a b p) low high q = omega (arith, Spans-order a low p q.0, Spans-order b (p + 1) high q.1)
+Spans-order (define x k a p) low high q = omega (arith, q.0, Spans-order a (p + 1) high q.1)
+Spans-order none low high q = q
+Spans-order (more a b) low high q = omega (arith, Spans-order a low q.0 q.1, Spans-order b q.0 high q.2)
+
+Spans-wider : (e : Tree) (low high below above : ℕ) → below ≤ low → high ≤ above → Spans low e high → Spans below e above
+Spans-wider (literal v p) low high below above u v' q = (omega (arith, q.0), omega (arith, q.1))
+Spans-wider (unary o a p) low high below above u v q = (omega (arith, q.0), Spans-wider a (p + 1) high (p + 1) above (omega arith) v q.1)
+Spans-wider (binary o a b p) low high below above u v q = (Spans-wider a low p below p u (omega arith) q.0, Spans-wider b (p + 1) high (p + 1) above (omega arith) v q.1)
+Spans-wider (define x k a p) low high below above u v q = (omega (arith, q.0), Spans-wider a (p + 1) high (p + 1) above (omega arith) v q.1)
+Spans-wider none low high below above u v q = omega arith
+Spans-wider (more a b) low high below above u v q = (q.0, Spans-wider a low q.0 below q.0 u (omega arith) q.1, Spans-wider b q.0 high q.0 above (omega arith) v q.2)
+
+-- a thing's place is between the two
+Spans-place : (e : Tree) (low high q : ℕ) → Spans low e high → HasPlace e q → (low ≤ q) × (q < high)
+Spans-place (literal v p) low high q s h = (omega (arith, s.0, h), omega (arith, s.1, h))
+Spans-place (unary o a p) low high q s (inl h) = (omega (arith, s.0, h), omega (arith, Spans-order a (p + 1) high s.1, h))
+Spans-place (unary o a p) low high q s (inr h) = let r = Spans-place a (p + 1) high q s.1 h in (omega (arith, s.0, r.0), r.1)
+Spans-place (binary o a b p) low high q s (inl h) = (omega (arith, Spans-order a low p s.0, h), omega (arith, Spans-order b (p + 1) high s.1, h))
+Spans-place (binary o a b p) low high q s (inr (inl h)) = let r = Spans-place a low p q s.0 h in (r.0, omega (arith, r.1, Spans-order b (p + 1) high s.1))
+Spans-place (binary o a b p) low high q s (inr (inr h)) = let r = Spans-place b (p + 1) high q s.1 h in (omega (arith, r.0, Spans-order a low p s.0), r.1)
+Spans-place (define x k a p) low high q s (inl h) = (omega (arith, s.0, h), omega (arith, Spans-order a (p + 1) high s.1, h))
+Spans-place (define x k a p) low high q s (inr h) = let r = Spans-place a (p + 1) high q s.1 h in (omega (arith, s.0, r.0), r.1)
+Spans-place none low high q s h = absurd h
+Spans-place (more a b) low high q s (inl h) = let r = Spans-place a low s.0 q s.1 h in (r.0, omega (arith, r.1, Spans-order b s.0 high s.2))
+Spans-place (more a b) low high q s (inr h) = let r = Spans-place b s.0 high q s.2 h in (omega (arith, r.0, Spans-order a low s.0 s.1), r.1)
+
+Spans-apart : (a b : Tree) (low mid next high : ℕ) → mid ≤ next → Spans low a mid → Spans next b high → Apart a b
+Spans-apart a b low mid next high w s t = λ q g h. omega (arith, (Spans-place a low mid q s g).1, (Spans-place b next high q t h).0)
+
+pub Distinct-spans : (e : Tree) (low high : ℕ) → Spans low e high → Distinct e
+Distinct-spans (literal v p) low high s = tt
+Distinct-spans (unary o a p) low high s = (λ h. omega (arith, (Spans-place a (p + 1) high p s.1 h).0), Distinct-spans a (p + 1) high s.1)
+Distinct-spans (binary o a b p) low high s = (
+  λ h. omega (arith, (Spans-place a low p p s.0 h).1),
+  λ h. omega (arith, (Spans-place b (p + 1) high p s.1 h).0),
+  Spans-apart a b low p (p + 1) high (omega arith) s.0 s.1,
+  Distinct-spans a low p s.0,
+  Distinct-spans b (p + 1) high s.1,
+)
+Distinct-spans (define x k a p) low high s = (λ h. omega (arith, (Spans-place a (p + 1) high p s.1 h).0), Distinct-spans a (p + 1) high s.1)
+Distinct-spans none low high s = tt
+Distinct-spans (more a b) low high s = (Spans-apart a b low s.0 s.0 high (omega arith) s.1 s.2, Distinct-spans a low s.0 s.1, Distinct-spans b s.0 high s.2)
+
+-- whatever is laid from low on, the tree that is made spans what there is from the first number on
+abbrev Keeps : ℕ → ℕ → Rest → Type 0
+Keeps from low (done e) = (high : ℕ) → low ≤ high → Spans from e high
+Keeps from low (word w r) = (mid : ℕ) → low ≤ mid → Keeps from mid r
+Keeps from low (name f) = (x : List ℕ) (p : ℕ) → low ≤ p → Keeps from (p + 1) (f x p)
+Keeps from low (part s f) = (a : Tree) (mid : ℕ) → Spans low a mid → Keeps from mid (f a)
+
+-- each production keeps this
+Opens-keeps : {s : Phrase} {k : TokenKind} {p : ℕ} {r : Rest} → Opens s k p r → Keeps p (p + 1) r
+Opens-keeps (definition {p = p}) = λ x q u a1 u1 a2 u2 a3 u3 a4 u4 a5 u5 e mid s z v high w. (omega arith, Spans-wider e a5 mid (q + 1) high (omega arith) (omega arith) s)
+Opens-keeps (negated {p = p}) = λ e mid s high w. (omega arith, Spans-wider e (p + 1) mid (p + 1) high (omega arith) w s)
+Opens-keeps (number {p = p}) = λ high w. (omega arith, omega arith)
+Opens-keeps (parens {p = p}) = λ e mid s z v high w. Spans-wider e (p + 1) mid p high (omega arith) (omega arith) s
+
+Laid-split : (us vs : List Token) (low high : ℕ) → Laid low (us ++ vs) high → (mid : ℕ) × Laid low us mid × Laid mid vs high
+Laid-split [] vs low high p = (low, omega arith, p)
+Laid-split (t ∷ us) vs low high p = let q = Laid-split us vs (t.start + 1) high p.1 in (q.0, (p.0, q.1), q.2)
+
+mutual
+  Derives-spans : {s : Phrase} {ts : List Token} {e : Tree} {h : ℕ} → Derives s ts e h → (low high : ℕ) → Laid low ts high → Spans low e high
+  Derives-spans (opened {t = t} {e = e} o f) low high p = Spans-wider e t.start high low high p.0 (omega arith) (Follows-spans f t.start (t.start + 1) high (Opens-keeps o) p.1)
+  Derives-spans (single d) low high p = Derives-spans d low high p
+  Derives-spans (grouped {us = us} {vs = vs} {a = a} x t q y) low high p =
+      let l = Laid-split us (t ∷ vs) low high p in
+      (Spans-wider a low l.0 low t.start (omega arith) l.2.0 (Derives-spans x low l.0 l.1), Derives-spans y (t.start + 1) high l.2.1)
+
+  Follows-spans : {r : Rest} {ts : List Token} {e : Tree} {h : ℕ} → Follows r ts e h → (from low high : ℕ) → Keeps from low r → Laid low ts high → Spans from e high
+  Follows-spans ended from low high k p = k high p
+  Follows-spans (taken {t = t} q f) from low high k p = Follows-spans f from (t.start + 1) high (k (t.start + 1) (omega (arith, p.0))) p.1
+  Follows-spans (named {t = t} {x = x} q f) from low high k p = Follows-spans f from (t.start + 1) high (k x t.start p.0) p.1
+  Follows-spans (given {us = us} {ts = ts} {a = a} d f) from low high k p =
+      let l = Laid-split us ts low high p in
+      Follows-spans f from l.0 high (k a l.0 (Derives-spans d low l.0 l.1)) l.2
+
+-- a program's things have different places
+pub Program-distinct : {ts : List Token} {e : Tree} {h : ℕ} → Program ts e h → (low high : ℕ) → Laid low ts high → Distinct e
+Program-distinct (empty q) low high p = tt
+Program-distinct (single_def {ts = ts} {e = e} t d q) low high p =
+    let l = Laid-split ts (t ∷ []) low high p in
+    (λ q g h. absurd h, Distinct-spans e low l.0 (Derives-spans d low l.0 l.1), tt)
