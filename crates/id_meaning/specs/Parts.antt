@@ -74,8 +74,8 @@ abbrev pub places_of_all : List Def → List ℕ
 places_of_all [] = []
 places_of_all (d ∷ ds) = d.place ∷ (map (λ x. x.place) (entries_of_def d) ++ places_of_all ds)
 
--- no number stands twice in the list
-abbrev pub AllDiffer : List ℕ → Type 0
+-- nothing stands twice in the list
+abbrev pub AllDiffer : {A : Type 0} → List A → Type 0
 AllDiffer [] = Unit {0}
 AllDiffer (x ∷ xs) = (Among x xs → ⊥) × AllDiffer xs
 
