@@ -1,0 +1,3 @@
+-- The graphs of a program.
+pub mod Roles
+pub mod Schemas
