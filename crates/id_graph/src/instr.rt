@@ -1,6 +1,9 @@
 //! Instructions and blocks (docs/GRAPH.md, "Operators").
 
-use crate::dests::Dests;
+ghost use Rattle.std.specs.Prelude.{◌≡◌};
+ghost use Rattle.id_graph.specs.Ports.{constant_kind, port_kind, sends, two_ports};
+
+use crate::dests::{Dests, Port};
 use id_text::Sequence;
 
 /// The kind of what a port takes. Of some of them no value exists yet.
@@ -20,6 +23,18 @@ pub enum PortKind {
 pub enum Constant {
     Int(i64),
     Bool(bool),
+}
+
+impl Constant {
+    /// The kind of this constant. Takes no memory.
+    pub fn kind(self) -> PortKind
+        ensures { result ≡ constant_kind self }
+    {
+        match self {
+            Constant::Int(_) => PortKind::Int,
+            Constant::Bool(_) => PortKind::Bool,
+        }
+    }
 }
 
 /// An operator on two whole numbers with a whole number as its result.
@@ -45,6 +60,40 @@ pub enum Op {
     Merge(PortKind),
     /// Sends a value of one kind to the continuation that came with it.
     Back(PortKind),
+}
+
+impl Op {
+    /// Whether the operator has a second port; each has a first. Takes no memory.
+    pub fn two_ports(self) -> bool
+        ensures { result ≡ two_ports self }
+    {
+        self.port_kind(Port::One).is_some()
+    }
+
+    /// The kind of what a port takes, if the operator has that port. Takes no memory.
+    pub fn port_kind(self, port: Port) -> Option<PortKind>
+        ensures { result ≡ port_kind self port }
+    {
+        match (self, port) {
+            (Op::Const(_), Port::Zero) => Some(PortKind::Signal),
+            (Op::Neg, Port::Zero) | (Op::Binary(_), _) => Some(PortKind::Int),
+            (Op::Merge(kind), Port::Zero) | (Op::Back(kind), Port::One) => Some(kind),
+            (Op::Back(_), Port::Zero) => Some(PortKind::Continuation),
+            (Op::Const(_) | Op::Neg | Op::Merge(_), Port::One) => None,
+        }
+    }
+
+    /// The kind of what the operator sends to its destinations, if it sends anything there. Takes no memory.
+    pub fn sends(self) -> Option<PortKind>
+        ensures { result ≡ sends self }
+    {
+        match self {
+            Op::Const(constant) => Some(constant.kind()),
+            Op::Neg | Op::Binary(_) => Some(PortKind::Int),
+            Op::Merge(kind) => Some(kind),
+            Op::Back(_) => None,
+        }
+    }
 }
 
 /// An instruction: what it does, where its results go, and the place in the text that it came from.

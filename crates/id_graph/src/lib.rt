@@ -7,7 +7,9 @@
 #![tactic(auto)]
 
 mod dests;
+mod graph;
 mod instr;
 
 pub use dests::{Dest, Dests, Port};
+pub use graph::{Graph, GraphCause, GraphError, kind_at};
 pub use instr::{Arithmetic, Block, Constant, Instr, Op, PortKind};
