@@ -1,8 +1,7 @@
 -- Which messages fit a graph (docs/MACHINE.md, "Element step").
-use Rattle.std.specs.Prelude.{◌≡◌, ◌<◌, ◌≤◌, ◌+◌, ◌^◌, ℕ, Any, Option, Some, option_and_then, slice_get}
+use Rattle.std.specs.Prelude.{◌≡◌, ◌≤◌, ℕ, Some, IsTrue}
 use Rattle.id_graph.specs.declared.dests.Port.{Port}
 use Rattle.id_graph.specs.declared.dests.Port.TheVariants.{Zero}
-use Rattle.id_graph.specs.declared.instr.Op.{Op}
 use Rattle.id_graph.specs.declared.instr.Op.TheVariants.{Back, Merge}
 use Rattle.id_graph.specs.declared.instr.PortKind.{PortKind}
 use Rattle.id_graph.specs.Graph.{Parts, kind_at}
@@ -14,14 +13,11 @@ use Rattle.id_tag.specs.declared.Payload.TheVariants.{Token}
 use Rattle.id_tag.specs.declared.Message.{Message}
 use Rattle.id_tag.specs.Kinds.{kind_of}
 use Rattle.id_tag.specs.Routes.{route_of}
+use Rattle.id_valid.specs.Roles.{op_at, is_second}
 
--- the operator of the instruction of this number, if there is one
-abbrev pub op_at : Parts → ℕ → Option Op
-op_at g n = option_and_then (λ i. Some i.op) (slice_get g.instrs n)
-
--- the instruction n is the second of a block with results of kind k, and r is a merge of that kind
+-- the instruction n is the `back` of a block with results of kind k, and r is a merge of that kind
 pub record TakesReturn (g : Parts) (n r : ℕ) (k : PortKind) : Type 0 where
-  pub second : Any (λ b. b.first + 1 ≡ n) g.blocks
+  pub second : IsTrue (is_second g n)
   pub back : op_at g n ≡ Some (Back k)
   pub merge : op_at g r ≡ Some (Merge k)
 

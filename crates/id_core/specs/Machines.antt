@@ -1,5 +1,5 @@
 -- The machine: its elements and the messages in flight (docs/MACHINE.md, "Runs").
-use Rattle.std.specs.Prelude.{◌≡◌, ℕ, ◌+◌, Option, None, Some, List, [], ◌∷◌, ◌++◌, All, map, slice_get, slice_set, replicate, if◌then◌else◌}
+use Rattle.std.specs.Prelude.{◌≡◌, ℕ, ◌+◌, Option, None, Some, List, [], ◌∷◌, ◌++◌, All, filter, slice_get, slice_set, replicate, if◌then◌else◌}
 use Rattle.std.specs.List.{remove}
 use Rattle.id_graph.specs.declared.instr.Block.{Block}
 use Rattle.id_graph.specs.declared.dests.Port.TheVariants.{Zero}
@@ -11,7 +11,7 @@ use Rattle.id_tag.specs.declared.Payload.{Payload}
 use Rattle.id_tag.specs.declared.Payload.TheVariants.{Token}
 use Rattle.id_tag.specs.declared.Message.{Message}
 use Rattle.id_tag.specs.Routes.{route_of}
-use Rattle.id_valid.specs.Valid.{main_block}
+use Rattle.id_valid.specs.Roles.{has_main_place}
 use Rattle.id_core.specs.declared.step.Step.TheVariants.{Went}
 use Rattle.id_core.specs.Steps.{State, fresh, is_ended, outputs_of, state_after}
 
@@ -28,15 +28,15 @@ main_tag n = record { context = record { element = 0; serial = 0 }; iteration = 
 abbrev pub start_message : ℕ → Payload → Message
 start_message k x = record { payload = x; sender = sender.Start; position = 0; output = k; stamp = 0 }
 
--- the start messages for main's block: a signal to its first instruction, and the continuation to instruction 0 to port 0 of its second
-abbrev pub block_messages : Option Block → List Message
-block_messages None = []
-block_messages (Some b) =
+-- a signal to the first instruction of main's block, and the continuation to instruction 0 to port 0 of its second
+abbrev pub block_messages : List Block → List Message
+block_messages [] = []
+block_messages (b ∷ bs) =
     start_message 0 (Token (main_tag b.first) Zero value.Signal) ∷ start_message 1 (Token (main_tag (b.first + 1)) Zero (value.Continuation (main_tag 0))) ∷ []
 
 -- the start messages of a graph
 abbrev pub start_messages : Parts → List Message
-start_messages g = block_messages (main_block g)
+start_messages g = block_messages (filter (has_main_place g) g.blocks)
 
 -- the machine of so many elements at its start
 abbrev pub start : Parts → ℕ → World

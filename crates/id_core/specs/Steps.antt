@@ -1,5 +1,5 @@
 -- The element step (docs/MACHINE.md, "Element step").
-use Rattle.std.specs.Prelude.{◌≡◌, ℕ, ◌+◌, ◌-◌, ◌^◌, Bool, Option, None, Some, List, [], ◌∷◌, ◌++◌, map, length, max, slice_get, ◌==◌, ◌||◌, if◌then◌else◌}
+use Rattle.std.specs.Prelude.{ℕ, ◌+◌, ◌-◌, ◌^◌, Bool, Option, None, Some, List, [], ◌∷◌, ◌++◌, map, length, max, slice_get, ◌==◌, ◌||◌, if◌then◌else◌}
 use Rattle.std.specs.FinMap.{empty}
 use Rattle.id_graph.specs.declared.dests.Dest.{Dest}
 use Rattle.id_graph.specs.declared.dests.Port.{Port}
