@@ -1,11 +1,17 @@
-//! The operators: what an instruction does with its operands (docs/GRAPH.md, "Operators").
+//! The operators: what an instruction does with its operands (docs/MACHINE.md, "Firing").
 //!
 //! Keeps: nothing beyond its values.
 //! Errors: none; nothing here takes memory.
-//! Read first: `Fired`, docs/GRAPH.md ("Operators").
+//! Read first: `specs/Operators.antt`, then `fire`.
 //! Not here: matching operands (`id_match`), sending outputs (`id_core`).
 #![tactic(auto)]
 
+mod numbers;
+
+ghost use Rattle.std.specs.Prelude.{◌≡◌};
+ghost use Rattle.id_ops.specs.Operators.{constant_value, fired_const, fired_neg, fired_binary, fired_merge, fired_back, fired};
+
+use id_graph::{Arithmetic, Constant, Instr, Op, PortKind};
 use id_tag::{Context, Tag, Value};
 
 /// The operands of one firing, by port.
@@ -44,4 +50,74 @@ pub enum Fired {
     Failed(OperatorFault),
     /// The operands are of no kind that the operator takes: nothing is sent.
     Nothing,
+}
+
+/// What the instruction does under this tag with its operands. No operator looks at the tag or at
+/// the next numbers yet. Takes no memory (docs/MACHINE.md, "Firing").
+pub fn fire(instr: &Instr, tag: Tag, operands: Operands, fresh: Fresh) -> Fired
+    ensures { result ≡ fired instr.now.op tag operands fresh }
+{
+    match instr.op {
+        Op::Const(constant) => fire_const(constant, operands),
+        Op::Neg => fire_neg(operands),
+        Op::Binary(operator) => fire_binary(operator, operands),
+        Op::Merge(kind) => fire_merge(kind, operands),
+        Op::Back(kind) => fire_back(kind, operands),
+    }
+}
+
+fn fire_const(constant: Constant, operands: Operands) -> Fired
+    ensures { result ≡ fired_const constant operands }
+{
+    match operands {
+        Operands::One(Value::Signal) => Fired::Out(value_of(constant)),
+        _ => Fired::Nothing,
+    }
+}
+
+fn value_of(constant: Constant) -> Value
+    ensures { result ≡ constant_value constant }
+{
+    match constant {
+        Constant::Int(number) => Value::Int(number),
+        Constant::Bool(truth) => Value::Bool(truth),
+    }
+}
+
+fn fire_neg(operands: Operands) -> Fired
+    ensures { result ≡ fired_neg operands }
+{
+    match operands {
+        Operands::One(Value::Int(number)) => numbers::negate(number),
+        _ => Fired::Nothing,
+    }
+}
+
+fn fire_binary(operator: Arithmetic, operands: Operands) -> Fired
+    ensures { result ≡ fired_binary operator operands }
+{
+    match operands {
+        Operands::Two(Value::Int(left), Value::Int(right)) => numbers::apply(operator, left, right),
+        _ => Fired::Nothing,
+    }
+}
+
+fn fire_merge(kind: PortKind, operands: Operands) -> Fired
+    ensures { result ≡ fired_merge kind operands }
+{
+    match operands {
+        Operands::One(value) if value.has_kind(kind) => Fired::Out(value),
+        _ => Fired::Nothing,
+    }
+}
+
+fn fire_back(kind: PortKind, operands: Operands) -> Fired
+    ensures { result ≡ fired_back kind operands }
+{
+    match operands {
+        Operands::Two(Value::Continuation(caller), value) if value.has_kind(kind) => {
+            Fired::Sent(caller, value)
+        }
+        _ => Fired::Nothing,
+    }
 }

@@ -1,0 +1,5 @@
+pub mod Tags
+pub mod Kinds
+pub mod Routes
+-- for models that hold tags and values
+pub mod Codes

@@ -6,7 +6,11 @@
 //! Not here: waiting for a partner (`id_match`), firing (`id_ops`).
 #![tactic(auto)]
 
-use id_graph::Port;
+ghost use Rattle.std.specs.Prelude.{◌≡◌, ◌<◌, ◌↔◌, IsTrue};
+ghost use Rattle.id_tag.specs.Kinds.{kind_of, same_kind};
+ghost use Rattle.id_tag.specs.Routes.{tag_route, route_of};
+
+use id_graph::{Port, PortKind};
 
 /// The context of an activation: the element that made it, and the number that it gave it.
 /// Main's context is element 0, number 0; each element numbers those that it makes from 1.
@@ -58,4 +62,48 @@ pub struct Message {
     pub position: usize,
     pub output: usize,
     pub stamp: u64,
+}
+
+impl Value {
+    /// The kind of the ports that take this value. Takes no memory.
+    pub fn kind(self) -> PortKind
+        ensures { result ≡ kind_of self }
+    {
+        match self {
+            Value::Signal => PortKind::Signal,
+            Value::Int(_) => PortKind::Int,
+            Value::Bool(_) => PortKind::Bool,
+            Value::Continuation(_) => PortKind::Continuation,
+        }
+    }
+
+    /// Whether ports of this kind take this value. Takes no memory.
+    pub fn has_kind(self, kind: PortKind) -> bool
+        ensures test { result ≡ same_kind (kind_of self) kind }
+        ensures decides { IsTrue result ↔ (kind_of self ≡ kind) }
+    {
+        self.kind() == kind
+    }
+}
+
+/// The number of the element, of `count`, that handles the message. Takes no memory.
+pub fn route(message: &Message, count: u32) -> u32
+    requires { 0 < count }
+    ensures exact { result ≡ route_of message.now.payload count }
+    ensures below { result < count }
+{
+    match message.payload {
+        Payload::Token { tag, .. } => route_tag(tag, count),
+    }
+}
+
+// Each summand is reduced first, so that the sum fits.
+fn route_tag(tag: Tag, count: u32) -> u32
+    requires { 0 < count }
+    ensures exact { result ≡ tag_route tag count }
+    ensures below { result < count }
+{
+    let elements = u64::from(count);
+    let made = u64::from(tag.context.element) % elements + tag.context.serial % elements;
+    ((made + tag.iteration % elements) % elements) as u32
 }

@@ -1,0 +1,128 @@
+//! The waiting-matching store: values that wait for their partner.
+//!
+//! Keeps: at most one value for each tag, with its port. Clauses see a finite map.
+//! Errors: want of memory alone, and then nothing has changed.
+//! Read first: `specs/Waiting.antt`, then `offer`.
+//! Not here: which operators have two ports (`id_graph`), firing (`id_ops`).
+#![tactic(auto)]
+
+ghost use Rattle.std.specs.Prelude.{◌≡◌, IfOk, OnOk, OnErr};
+ghost use Rattle.std.specs.FinMap as map;
+ghost use Rattle.id_match.specs.declared.Offered.TheVariants.{Kept};
+ghost use Rattle.id_match.specs.Waiting.{pair_of};
+
+use id_graph::Port;
+use id_tag::{Tag, Value};
+use std::alloc::{AllocError, Global};
+use std::collections::HashMap;
+use std::collections::hash_map::Entry as Place;
+use std::marker::Model;
+
+/// A value that waits, with its port.
+#[derive(Clone, Copy, Debug, PartialEq, Eq)]
+pub struct Half {
+    pub port: Port,
+    pub value: Value,
+}
+
+/// What an offer comes to.
+#[derive(Clone, Copy, Debug, PartialEq, Eq)]
+pub enum Offered {
+    /// The value waits for its partner.
+    Kept,
+    /// The values of port 0 and port 1, neither of which waits any longer.
+    Pair(Value, Value),
+    /// A value waits at that port already.
+    Taken,
+}
+
+/// A value that waits, with its tag and port.
+#[derive(Clone, Copy, Debug, PartialEq, Eq)]
+pub struct Entry {
+    pub tag: Tag,
+    pub port: Port,
+    pub value: Value,
+}
+
+/// The values that wait for their partner, by tag and port.
+#[derive(Drop)]
+pub struct Waiting {
+    halves: HashMap<Tag, Half>,
+}
+
+impl Model for Waiting {
+    ghost use Rattle.std.specs.FinMap as map;
+    ghost use Rattle.id_tag.specs.Tags.{tag_cmp};
+    ghost use Rattle.id_match.specs.declared.Half.{Half};
+    ghost use Rattle.id_match.specs.Codes.{coded_store};
+
+    ghost Value = { map.FinMap tag_cmp Half };
+
+    ghost coded = { coded_store };
+
+    ghost view = { λ s. map.from_entries s.halves.entries };
+}
+
+impl Waiting {
+    ghost use Rattle.id_match.specs.Waiting.{offer_answer, offer_after, entries_of};
+
+    /// The store in which nothing waits. Takes no memory.
+    pub fn new(alloc: Global) -> Waiting
+        ensures { result ≡ map.empty }
+    {
+        Waiting {
+            halves: HashMap::new(alloc),
+        }
+    }
+
+    /// Offers a value to a port of a tag: it is kept until the value of the other port comes, and then
+    /// both leave. Memory is wanted only where the value is kept; after an error nothing has changed.
+    pub fn offer(&mut self, tag: Tag, port: Port, value: Value) -> Result<Offered, AllocError>
+        ensures { OnErr result (self.new ≡ self.old) }
+    {
+        match self.halves.entry(tag)? {
+            Place::Vacant(place) => {
+                place.insert(Half { port, value });
+                Ok(Offered::Kept)
+            }
+            Place::Occupied(place) => {
+                let half = *place.get();
+                if half.port == port {
+                    return Ok(Offered::Taken);
+                }
+                place.remove();
+                Ok(pair(port, value, half.value))
+            }
+        }
+    }
+
+    /// How many values wait. Takes no memory.
+    pub fn len(&self) -> usize {
+        self.halves.len()
+    }
+
+    /// The values that wait, in the order of their tags.
+    pub fn entries(&self, alloc: Global) -> Result<Vec<Entry>, AllocError> {
+        let mut entries: Vec<Entry> = self.halves.iter().map(entry_of).collect(alloc)?;
+        entries.sort_unstable_by_key(|e| e.tag);
+        Ok(entries)
+    }
+}
+
+fn entry_of(half: (&Tag, &Half)) -> Entry {
+    Entry {
+        tag: *half.0,
+        port: half.1.port,
+        value: half.1.value,
+    }
+}
+
+// The two values by port, of which `value` came to this port.
+fn pair(port: Port, value: Value, partner: Value) -> Offered
+    ensures { result ≡ pair_of port value partner }
+{
+    match port {
+        Port::Zero => Offered::Pair(value, partner),
+        Port::One => Offered::Pair(partner, value),
+    }
+}

@@ -1,0 +1,2 @@
+pub mod TagsLemmas
+pub mod RoutesLemmas

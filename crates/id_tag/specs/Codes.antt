@@ -1,0 +1,70 @@
+-- The codes of tags, ports and values, by which models that hold them tell them apart.
+use Rattle.std.specs.Prelude.{◌≡◌, ℕ, ℤ, Bool, true, false, ◌⊎◌, refl}
+use Rattle.std.proofs.Common.{inl, inr}
+use Rattle.std.specs.Coded.{Coded, code_by, coded×, coded⊎, coded_ℕ, coded_ℤ, coded_bool}
+use Rattle.id_graph.specs.declared.dests.Port.{Port}
+use Rattle.id_graph.specs.declared.dests.Port.TheVariants.{Zero, One}
+use Rattle.id_tag.specs.declared.Context.{Context}
+use Rattle.id_tag.specs.declared.Tag.{Tag}
+use Rattle.id_tag.specs.declared.Value.{Value}
+use Rattle.id_tag.specs.declared.Value.TheVariants as value
+
+-- a context as a pair of numbers
+abbrev pub coded_context : Coded Context
+coded_context =
+    code_by (ℕ × ℕ) (coded× coded_ℕ coded_ℕ) (λ c. (c.element, c.serial)) (λ p. record { element = p.0; serial = p.1 }) (λ _. refl)
+
+-- a tag as its context with a pair of numbers
+abbrev pub coded_tag : Coded Tag
+coded_tag =
+    code_by (Context × (ℕ × ℕ)) (coded× coded_context (coded× coded_ℕ coded_ℕ))
+    (λ t. (t.context, (t.iteration, t.instr)))
+    (λ p. record { context = p.0; iteration = p.1.0; instr = p.1.1 })
+    (λ _. refl)
+
+-- whether the port is port 1
+abbrev pub is_port_one : Port → Bool
+is_port_one Zero = false
+is_port_one One = true
+
+-- port 1 or port 0
+abbrev pub port_of : Bool → Port
+port_of false = Zero
+port_of true = One
+
+pub port_of-is_port_one : (p : Port) → port_of (is_port_one p) ≡ p
+port_of-is_port_one Zero = refl
+port_of-is_port_one One = refl
+
+-- a port as a truth value
+abbrev pub coded_port : Coded Port
+coded_port = code_by Bool coded_bool is_port_one port_of port_of-is_port_one
+
+-- a truth value for a signal, or else a number, a truth value or a tag
+abbrev pub Parts : Type 0
+Parts = Bool ⊎ (ℤ ⊎ (Bool ⊎ Tag))
+
+-- what a value holds
+abbrev pub parts_of : Value → Parts
+parts_of value.Signal = inl false
+parts_of (value.Int n) = inr (inl n)
+parts_of (value.Bool b) = inr (inr (inl b))
+parts_of (value.Continuation t) = inr (inr (inr t))
+
+-- the value that holds it
+abbrev pub from_parts : Parts → Value
+from_parts (inl _) = value.Signal
+from_parts (inr (inl n)) = value.Int n
+from_parts (inr (inr (inl b))) = value.Bool b
+from_parts (inr (inr (inr t))) = value.Continuation t
+
+pub from_parts-parts_of : (v : Value) → from_parts (parts_of v) ≡ v
+from_parts-parts_of value.Signal = refl
+from_parts-parts_of (value.Int _) = refl
+from_parts-parts_of (value.Bool _) = refl
+from_parts-parts_of (value.Continuation _) = refl
+
+-- a value as what it holds
+abbrev pub coded_value : Coded Value
+coded_value =
+    code_by Parts (coded⊎ coded_bool (coded⊎ coded_ℤ (coded⊎ coded_bool coded_tag))) parts_of from_parts from_parts-parts_of
