@@ -4,25 +4,19 @@ use Rattle.id_build.specs.declared.draft.Piece.{Piece}
 use Rattle.id_build.specs.declared.draft.Wire.{Wire}
 use Rattle.id_build.specs.Expressions.{piece, pieces_of, source_of, wire, wires_of}
 use Rattle.id_build.specs.Joined.{instrs_from}
+use Rattle.id_build.specs.Roles.{port_of}
 use Rattle.id_graph.specs.Graph.{Parts, parts}
 use Rattle.id_graph.specs.declared.dests.Port.TheVariants.{One}
 use Rattle.id_graph.specs.declared.instr.Block.{Block}
 use Rattle.id_graph.specs.declared.instr.Op.TheVariants.{Back, Merge}
-use Rattle.id_graph.specs.declared.instr.PortKind.{PortKind}
-use Rattle.id_graph.specs.declared.instr.PortKind.TheVariants as port
+use Rattle.id_graph.specs.declared.instr.PortKind.TheVariants.{Signal}
 use Rattle.id_tree.specs.declared.tree.Def.{Def}
-use Rattle.id_tree.specs.declared.tree.Kind.{Kind}
-use Rattle.id_tree.specs.declared.tree.Kind.TheVariants.{Int}
 use Rattle.id_tree.specs.declared.tree.Program.{Program}
-
--- the kind of a port that takes values of this kind
-abbrev pub port_kind_of : Kind → PortKind
-port_kind_of Int = port.Int
 
 -- the instructions of a procedure: its trigger, its `back`, those of its body
 abbrev pub procedure_pieces : Def → List Piece
 procedure_pieces d =
-    piece (Merge port.Signal) d.place ∷ piece (Back (port_kind_of d.result)) d.place ∷ pieces_of d.body
+    piece (Merge Signal) d.place ∷ piece (Back (port_of d.result)) d.place ∷ pieces_of d.body
 
 -- the arcs of a procedure whose instructions begin at n: those of its body, and its value to its `back`
 abbrev pub procedure_wires : Def → ℕ → List Wire
@@ -49,7 +43,7 @@ procedures_blocks (d ∷ ds) n =
 -- the answer's instruction, at the place of main
 abbrev pub answer_pieces : Option Def → List Piece
 answer_pieces None = []
-answer_pieces (Some d) = piece (Merge (port_kind_of d.result)) d.place ∷ []
+answer_pieces (Some d) = piece (Merge (port_of d.result)) d.place ∷ []
 
 -- the instructions of a program whose main is the definition at this place: the answer's, then those of its procedures
 abbrev pub program_pieces : Program → ℕ → List Piece

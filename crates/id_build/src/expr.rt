@@ -1,7 +1,9 @@
 //! The instructions of an expression (docs/GRAPH.md, "Expressions").
 
 ghost use Rattle.std.specs.Prelude.{◌≡◌, ◌<◌, ◌≤◌, ◌+◌, [], ◌∷◌, ◌++◌, length, IfOk, IfErr, OnOk};
-ghost use Rattle.id_build.specs.Expressions.{constant_of, operator_of, operation_of, pieces_of, source_of, wires_of};
+ghost use Rattle.id_build.specs.Expressions.{pieces_of, source_of, wires_of};
+ghost use Rattle.id_build.specs.Roles.{binary_op, constant_of, unary_op};
+ghost use Rattle.id_meaning.specs.Parts.{literal_value};
 ghost use Rattle.id_graph.specs.declared.dests.Port.TheVariants.{One, Zero};
 ghost use Rattle.id_graph.specs.declared.instr.Op.TheVariants.{Binary, Const, Neg};
 
@@ -73,7 +75,7 @@ fn build_unary(
 ) -> Result<u32, BuildError>
     ensures source { IfOk result (λ n. n ≡ length draft.old.pieces.items) }
     ensures pieces { OnOk result (draft.new.pieces.items
-        ≡ draft.old.pieces.items ++ record { op = operator_of op; place = place } ∷ []) }
+        ≡ draft.old.pieces.items ++ record { op = unary_op op; place = place } ∷ []) }
     ensures wires { OnOk result (draft.new.wires.items ≡ draft.old.wires.items
         ++ record { from = operand; to = length draft.old.pieces.items; port = Zero } ∷ []) }
     ensures large { IfErr result (λ e. e ≡ BuildError.TooLarge → 1000000 ≤ length draft.old.pieces.items) }
@@ -93,13 +95,13 @@ fn build_binary(
 ) -> Result<u32, BuildError>
     ensures source { IfOk result (λ n. n ≡ length draft.old.pieces.items) }
     ensures pieces { OnOk result (draft.new.pieces.items
-        ≡ draft.old.pieces.items ++ record { op = operation_of op; place = place } ∷ []) }
+        ≡ draft.old.pieces.items ++ record { op = Binary (binary_op op); place = place } ∷ []) }
     ensures wires { OnOk result (draft.new.wires.items ≡ draft.old.wires.items
         ++ record { from = left; to = length draft.old.pieces.items; port = Zero }
         ∷ record { from = right; to = length draft.old.pieces.items; port = One } ∷ []) }
     ensures large { IfErr result (λ e. e ≡ BuildError.TooLarge → 1000000 ≤ length draft.old.pieces.items) }
 {
-    let number = draft.add(operation(op), place)?;
+    let number = draft.add(Op::Binary(arithmetic(op)), place)?;
     draft.wire(left, number, Port::Zero)?;
     draft.wire(right, number, Port::One)?;
     Ok(number)
@@ -107,7 +109,7 @@ fn build_binary(
 
 /// What the `const` of a literal sends.
 fn constant(value: id_tree::Constant) -> Constant
-    ensures { result ≡ constant_of value }
+    ensures { result ≡ constant_of (literal_value value) }
 {
     match value {
         id_tree::Constant::Int(number) => Constant::Int(number),
@@ -116,7 +118,7 @@ fn constant(value: id_tree::Constant) -> Constant
 
 /// The operator of a unary expression.
 fn operator(op: UnaryOp) -> Op
-    ensures { result ≡ operator_of op }
+    ensures { result ≡ unary_op op }
 {
     match op {
         UnaryOp::Neg => Op::Neg,
@@ -124,15 +126,14 @@ fn operator(op: UnaryOp) -> Op
 }
 
 /// The operator of a binary expression.
-fn operation(op: BinaryOp) -> Op
-    ensures { result ≡ operation_of op }
+fn arithmetic(op: BinaryOp) -> Arithmetic
+    ensures { result ≡ binary_op op }
 {
-    let arithmetic = match op {
+    match op {
         BinaryOp::Add => Arithmetic::Add,
         BinaryOp::Sub => Arithmetic::Sub,
         BinaryOp::Mul => Arithmetic::Mul,
         BinaryOp::Div => Arithmetic::Div,
         BinaryOp::Rem => Arithmetic::Rem,
-    };
-    Op::Binary(arithmetic)
+    }
 }

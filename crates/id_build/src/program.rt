@@ -1,7 +1,8 @@
 //! The graph of a program (docs/GRAPH.md, "Schemas").
 
 ghost use Rattle.std.specs.Prelude.{◌≡◌, ◌<◌, ◌≤◌, ◌+◌, [], ◌∷◌, ◌++◌, length, IfOk, IfErr, OnOk};
-ghost use Rattle.id_build.specs.Drafted.{graph_of, port_kind_of, procedure_pieces, procedure_wires, procedures_blocks, procedures_pieces, procedures_wires, program_pieces};
+ghost use Rattle.id_build.specs.Roles.{port_of};
+ghost use Rattle.id_build.specs.Drafted.{graph_of, procedure_pieces, procedure_wires, procedures_blocks, procedures_pieces, procedures_wires, program_pieces};
 
 use crate::draft::{Draft, join};
 use crate::error::BuildError;
@@ -66,7 +67,7 @@ fn build_def(alloc: Global, draft: &mut Draft, def: &Def) -> Result<Block, Build
 
 /// The kind of a port that takes values of this kind.
 fn port_kind(kind: Kind) -> PortKind
-    ensures { result ≡ port_kind_of kind }
+    ensures { result ≡ port_of kind }
 {
     match kind {
         Kind::Int => PortKind::Int,
