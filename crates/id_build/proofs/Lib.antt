@@ -3,5 +3,8 @@ pub mod DifferLemmas
 pub mod DraftedLemmas
 pub mod FitLemmas
 pub mod JoinedLemmas
+pub mod LinksLemmas
+pub mod NumbersLemmas
+pub mod OnceLemmas
 pub mod Rows
 pub mod RowsLemmas
