@@ -1,5 +1,5 @@
 -- Lemmas on what is among a list, and on lists where all differ.
-use Rattle.std.proofs.Common.{◌≡◌, ◌⊎◌, inl, inr, ℕ, zero, suc, ◌+◌, ◌<◌, List, [], ◌∷◌, ◌++◌, length, refl, ap, sym, subst, ◌∙◌, arith, Option, Some, None}
+use Rattle.std.proofs.Common.{◌≡◌, ◌⊎◌, inl, inr, ℕ, zero, suc, ◌+◌, List, [], ◌∷◌, ◌++◌, length, refl, ap, sym, subst, arith, Some}
 use Rattle.std.specs.Prelude.{map, option_map, slice_get}
 use Rattle.id_meaning.specs.Parts.{AllDiffer, Among}
 
@@ -59,9 +59,10 @@ slice_get-right (x ∷ xs) ys k = let e : suc (length xs) + k ≡ suc (length xs
 -- two lists where all differ and that have nothing in common
 pub AllDiffer-append : {A : Type 0} (xs ys : List A) → AllDiffer xs → AllDiffer ys → ((x : A) → Among x xs → Among x ys → ⊥) → AllDiffer (xs ++ ys)
 AllDiffer-append [] ys hx hy apart = hy
-AllDiffer-append (x ∷ xs) ys hx hy apart =
-    (λ h. elim (Among-either x xs ys h) [ inl k ↦ hx.0 k | inr k ↦ apart x (inl refl) k ],
-     AllDiffer-append xs ys hx.1 hy (λ z k l. apart z (inr k) l))
+AllDiffer-append (x ∷ xs) ys hx hy apart = (
+  λ h. elim (Among-either x xs ys h) [ inl k ↦ hx.0 k | inr k ↦ apart x (inl refl) k ],
+  AllDiffer-append xs ys hx.1 hy (λ z k l. apart z (inr k) l),
+)
 
 pub AllDiffer-left : {A : Type 0} (xs ys : List A) → AllDiffer (xs ++ ys) → AllDiffer xs
 AllDiffer-left [] ys h = tt

@@ -1,11 +1,11 @@
 -- Where the places of a program differ, so do its roles.
-use Rattle.std.proofs.Common.{◌≡◌, ◌⊎◌, inl, inr, ℕ, zero, suc, ◌+◌, List, [], ◌∷◌, ◌++◌, length, refl, ap, sym, subst, ◌∙◌, arith, Option, Some, None}
-use Rattle.std.specs.Prelude.{map, slice_get}
+use Rattle.std.proofs.Common.{◌≡◌, inl, inr, ℕ, List, [], ◌∷◌, ◌++◌, refl, ap, sym, subst, ◌∙◌}
+use Rattle.std.specs.Prelude.{map}
 use Rattle.id_build.proofs.AmongLemmas.{AllDiffer-append, AllDiffer-apart, AllDiffer-left, AllDiffer-right, Among-either, Among-from_map, Among-left, Among-map, Among-right, map-append}
-use Rattle.id_build.proofs.Rows.{Row, row_of, rows_of, rows_of_all, rows_of_def, rows_of_program}
+use Rattle.id_build.proofs.Rows.{Row, rows_of, rows_of_all, rows_of_def, rows_of_program}
 use Rattle.id_build.proofs.RowsLemmas.{region-entries_of, rows_of-from}
 use Rattle.id_build.specs.Roles.{Answer, Of, Return, Role, Trigger}
-use Rattle.id_meaning.specs.Parts.{AllDiffer, Among, entries_of, entries_of_def, Entry, place_of, places_of_all, Region, Top}
+use Rattle.id_meaning.specs.Parts.{AllDiffer, Among, entries_of, entries_of_def, Entry, places_of_all, Region, Top}
 use Rattle.id_tree.specs.declared.tree.Def.{Def}
 use Rattle.id_tree.specs.declared.tree.Expr.{Expr, Literal, Unary', Binary'}
 
@@ -47,8 +47,9 @@ IsAt-one r e q (inr h) = absurd h
 IsAt-both : (r : Region) (es fs : List ℕ) (q : Role) (qs ss : List Role) → (Among q qs → IsAt r es q) → (Among q ss → IsAt r fs q) → Among q (qs ++ ss) → IsAt r (es ++ fs) q
 IsAt-both r es fs q qs ss f g h =
     elim (Among-either q qs ss h) [
-        inl k ↦ (let x = f k in (x.0, Among-left x.0 es fs x.1, x.2))
-      | inr k ↦ (let x = g k in (x.0, Among-right x.0 es fs x.1, x.2)) ]
+      | inl k ↦ (let x = f k in (x.0, Among-left x.0 es fs x.1, x.2))
+      | inr k ↦ (let x = g k in (x.0, Among-right x.0 es fs x.1, x.2))
+    ]
 
 -- the roles of an expression differ where its places do
 pub AllDiffer-roles : (r : Region) (x : Expr) → AllDiffer (places (entries_of r x)) → AllDiffer (roles (rows_of r x))
@@ -95,14 +96,16 @@ key-all (d ∷ ds) q h =
     let P : List Role → Type 0 = λ l. Among q l in
     let split : Among q (roles (rows_of_def d) ++ roles (rows_of_all ds)) = subst P (roles_of_all d ds) h in
     elim (Among-either q (roles (rows_of_def d)) (roles (rows_of_all ds)) split) [
-        inl k ↦ Among-left (key q) own (places_of_all ds) (key-def d q k)
-      | inr k ↦ Among-right (key q) own (places_of_all ds) (key-all ds q k) ]
+      | inl k ↦ Among-left (key q) own (places_of_all ds) (key-def d q k)
+      | inr k ↦ Among-right (key q) own (places_of_all ds) (key-all ds q k)
+    ]
 
 -- the roles of a procedure differ where its places do
 AllDiffer-def : (d : Def) → AllDiffer (d.place ∷ places (entries_of_def d)) → AllDiffer (roles (rows_of_def d))
-AllDiffer-def d h =
-    (λ k. elim k [ inl e ↦ cc | inr l ↦ (let at = IsAt-roles (Top d.place) d.body (Trigger d.place) l in let e = at.2 in cc) ],
-     ((λ l. let at = IsAt-roles (Top d.place) d.body (Return d.place) l in let e = at.2 in cc), AllDiffer-roles (Top d.place) d.body h.1))
+AllDiffer-def d h = (
+  λ k. elim k [ inl e ↦ cc | inr l ↦ (let at = IsAt-roles (Top d.place) d.body (Trigger d.place) l in let e = at.2 in cc) ],
+  ((λ l. let at = IsAt-roles (Top d.place) d.body (Return d.place) l in let e = at.2 in cc), AllDiffer-roles (Top d.place) d.body h.1),
+)
 
 AllDiffer-all : (ds : List Def) → AllDiffer (places_of_all ds) → AllDiffer (roles (rows_of_all ds))
 AllDiffer-all [] h = tt
@@ -124,8 +127,9 @@ not_answer (d ∷ ds) h =
     let P : List Role → Type 0 = λ l. Among Answer l in
     let split : Among Answer (roles (rows_of_def d) ++ roles (rows_of_all ds)) = subst P (roles_of_all d ds) h in
     elim (Among-either Answer (roles (rows_of_def d)) (roles (rows_of_all ds)) split) [
-        inl k ↦ not_answer-def d k
-      | inr k ↦ not_answer ds k ]
+      | inl k ↦ not_answer-def d k
+      | inr k ↦ not_answer ds k
+    ]
 
 -- the roles of a program differ where its places do
 pub AllDiffer-program : (main : Def) (ds : List Def) → AllDiffer (places_of_all ds) → AllDiffer (roles (rows_of_program main ds))

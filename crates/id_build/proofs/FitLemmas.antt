@@ -1,11 +1,11 @@
 -- Each arc of a draft comes from an instruction of it and goes to a port of one.
-use Rattle.std.proofs.Common.{◌≡◌, ℕ, zero, suc, ◌+◌, ◌<◌, ◌≤◌, List, [], ◌∷◌, ◌++◌, length, refl, ap, sym, subst, ◌∙◌, arith, append_assoc, append-nil, length-append, eqb, cond, true, false, get_or, IsSome, Option, Some, None}
+use Rattle.std.proofs.Common.{◌≡◌, ℕ, zero, suc, ◌+◌, ◌<◌, List, [], ◌∷◌, ◌++◌, length, refl, ap, ◌∙◌, arith, append_assoc, append-nil, length-append, eqb, cond, true, false, get_or, IsSome, Option}
 use Rattle.std.specs.Prelude.{All, option_and_then, slice_get}
 use Rattle.std.proofs.lemmas.List.Elements.{All-append, All-cons, All-nil}
 use Rattle.id_build.specs.declared.draft.Piece.{Piece}
 use Rattle.id_build.specs.declared.draft.Wire.{Wire}
 use Rattle.id_build.specs.Roles.{binary_op, port_of, unary_op}
-use Rattle.id_build.specs.Drafted.{answer_pieces, procedure_pieces, procedure_wires, procedures_pieces, procedures_wires}
+use Rattle.id_build.specs.Drafted.{procedure_pieces, procedure_wires, procedures_pieces, procedures_wires}
 use Rattle.id_build.specs.Expressions.{pieces_of, piece, count_of, source_of, wire, wires_of}
 use Rattle.id_build.specs.Joined.{dest_of, dests_from, instrs_from, joined}
 use Rattle.id_graph.specs.Graph.{ArcsExist, IsPort, parts, PortsExist}
@@ -17,7 +17,6 @@ use Rattle.id_graph.specs.declared.instr.PortKind.TheVariants.{Signal}
 use Rattle.id_graph.specs.declared.dests.Port.{Port}
 use Rattle.id_graph.specs.declared.dests.Port.TheVariants.{Zero, One}
 use Rattle.id_graph.specs.declared.instr.Arithmetic.{Arithmetic}
-use Rattle.id_graph.specs.declared.instr.Op.{Op}
 use Rattle.id_graph.specs.declared.instr.PortKind.{PortKind}
 use Rattle.id_tree.specs.declared.tree.Def.{Def}
 use Rattle.id_tree.specs.declared.tree.Expr.{Expr, Literal, Unary', Binary'}

@@ -8,3 +8,4 @@ pub mod NumbersLemmas
 pub mod OnceLemmas
 pub mod Rows
 pub mod RowsLemmas
+pub mod SchemasLemmas

@@ -1,13 +1,13 @@
 -- The arcs of a program are those that the schemas have.
-use Rattle.std.proofs.Common.{◌≡◌, ◌⊎◌, inl, inr, ℕ, zero, suc, ◌+◌, List, [], ◌∷◌, ◌++◌, length, refl, ap, sym, subst, ◌∙◌, arith}
+use Rattle.std.proofs.Common.{◌≡◌, inl, inr, ℕ, List, [], ◌∷◌, ◌++◌, refl, sym, subst}
 use Rattle.id_build.proofs.AmongLemmas.{Among-either, Among-left, Among-right}
 use Rattle.id_build.proofs.Rows.{line, Link, link, links_of, links_of_all, links_of_def, links_to}
 use Rattle.id_build.proofs.RowsLemmas.{entries_of_all-among, entries_of_all-from, region-entries_of}
-use Rattle.id_build.specs.Roles.{by_binary, by_literal, by_unary, Feeds, From, GivesAt, Of, of_procedure, Return, Role, Source, to_left, to_literal, to_return, to_right, to_unary, Trigger, TriggerAt}
+use Rattle.id_build.specs.Roles.{by_binary, by_literal, by_unary, Feeds, From, GivesAt, Of, of_procedure, Return, Role, Source, to_left, to_literal, to_return, to_right, to_unary, Trigger}
 use Rattle.id_check.specs.declared.Checked.{Checked}
 use Rattle.id_graph.specs.declared.dests.Port.{Port}
 use Rattle.id_graph.specs.declared.dests.Port.TheVariants.{Zero, One}
-use Rattle.id_meaning.specs.Parts.{Among, BinaryNode, entries_of, entries_of_all, entries_of_def, Entry, IsDef, LiteralNode, literal_value, Node, Part, place_of, Region, Top, UnaryNode}
+use Rattle.id_meaning.specs.Parts.{Among, BinaryNode, entries_of, entries_of_def, Entry, LiteralNode, literal_value, Node, Part, place_of, Region, Top, UnaryNode}
 use Rattle.id_tree.specs.declared.tree.Def.{Def}
 use Rattle.id_tree.specs.declared.tree.Expr.{Expr, Literal, Unary', Binary'}
 
@@ -24,8 +24,9 @@ links_to-among l y r t (Binary' o _ a _ b e) (inl h) k =
 links_to-among l y r t (Binary' o _ a _ b e) (inr h) k =
     Among-left l (links_of r t a ++ links_of r t b) _
     (elim (Among-either y (entries_of r a) (entries_of r b) h) [
-        inl i ↦ Among-left l (links_of r t a) (links_of r t b) (links_to-among l y r t a i k)
-      | inr i ↦ Among-right l (links_of r t a) (links_of r t b) (links_to-among l y r t b i k) ])
+      | inl i ↦ Among-left l (links_of r t a) (links_of r t b) (links_to-among l y r t a i k)
+      | inr i ↦ Among-right l (links_of r t a) (links_of r t b) (links_to-among l y r t b i k)
+    ])
 
 -- the arc goes to what stands on one of the lines
 pub record GoesTo (l : Link) (r : Region) (t : Role) (ys : List Entry) : Type 0 where
@@ -42,14 +43,17 @@ links_of-from : (l : Link) (r : Region) (t : Role) (x : Expr) → Among l (links
 links_of-from l r t (Literal v e) h = record { place = e; node = LiteralNode (literal_value v); among = inl refl; goes = h }
 links_of-from l r t (Unary' o _ a e) h =
     elim (Among-either l (links_of r t a) _ h) [
-        inl k ↦ GoesTo-wider l r t (entries_of r a) _ (λ y i. inr i) (links_of-from l r t a k)
-      | inr k ↦ record { place = e; node = UnaryNode o (place_of a); among = inl refl; goes = k } ]
+      | inl k ↦ GoesTo-wider l r t (entries_of r a) _ (λ y i. inr i) (links_of-from l r t a k)
+      | inr k ↦ record { place = e; node = UnaryNode o (place_of a); among = inl refl; goes = k }
+    ]
 links_of-from l r t (Binary' o _ a _ b e) h =
     elim (Among-either l (links_of r t a ++ links_of r t b) _ h) [
-        inl k ↦ (elim (Among-either l (links_of r t a) (links_of r t b) k) [
-            inl i ↦ GoesTo-wider l r t (entries_of r a) _ (λ y j. inr (Among-left y (entries_of r a) (entries_of r b) j)) (links_of-from l r t a i)
-          | inr i ↦ GoesTo-wider l r t (entries_of r b) _ (λ y j. inr (Among-right y (entries_of r a) (entries_of r b) j)) (links_of-from l r t b i) ])
-      | inr k ↦ record { place = e; node = BinaryNode o (place_of a) (place_of b); among = inl refl; goes = k } ]
+      | inl k ↦ (elim (Among-either l (links_of r t a) (links_of r t b) k) [
+        | inl i ↦ GoesTo-wider l r t (entries_of r a) _ (λ y j. inr (Among-left y (entries_of r a) (entries_of r b) j)) (links_of-from l r t a i)
+        | inr i ↦ GoesTo-wider l r t (entries_of r b) _ (λ y j. inr (Among-right y (entries_of r a) (entries_of r b) j)) (links_of-from l r t b i)
+      ])
+      | inr k ↦ record { place = e; node = BinaryNode o (place_of a) (place_of b); among = inl refl; goes = k }
+    ]
 
 -- something stands at the place
 pub record Stands (r : Region) (e : ℕ) (ys : List Entry) : Type 0 where
@@ -84,16 +88,19 @@ Stands-operand c y r (Unary' o _ a e) (inr h) k = Stands-wider r c (entries_of r
 Stands-operand c y r (Binary' o _ a _ b e) (inl h) k =
     let P : Entry → Type 0 = λ z. Among c (operands z.node) in
     elim (subst P h k) [
-        inl e ↦ (let Q : ℕ → Type 0 = λ z. Stands r z (entries_of r a) in
-            Stands-wider r c (entries_of r a) _ (λ y j. inr (Among-left y (entries_of r a) (entries_of r b) j)) (subst Q (sym e) (Stands-expr r a)))
+      | inl e ↦ (let Q : ℕ → Type 0 = λ z. Stands r z (entries_of r a) in
+          Stands-wider r c (entries_of r a) _ (λ y j. inr (Among-left y (entries_of r a) (entries_of r b) j)) (subst Q (sym e) (Stands-expr r a)))
       | inr i ↦ (elim i [
-            inl e ↦ (let Q : ℕ → Type 0 = λ z. Stands r z (entries_of r b) in
-                Stands-wider r c (entries_of r b) _ (λ y j. inr (Among-right y (entries_of r a) (entries_of r b) j)) (subst Q (sym e) (Stands-expr r b)))
-          | inr j ↦ absurd j ]) ]
+        | inl e ↦ (let Q : ℕ → Type 0 = λ z. Stands r z (entries_of r b) in
+            Stands-wider r c (entries_of r b) _ (λ y j. inr (Among-right y (entries_of r a) (entries_of r b) j)) (subst Q (sym e) (Stands-expr r b)))
+        | inr j ↦ absurd j
+      ])
+    ]
 Stands-operand c y r (Binary' o _ a _ b e) (inr h) k =
     elim (Among-either y (entries_of r a) (entries_of r b) h) [
-        inl i ↦ Stands-wider r c (entries_of r a) _ (λ y j. inr (Among-left y (entries_of r a) (entries_of r b) j)) (Stands-operand c y r a i k)
-      | inr i ↦ Stands-wider r c (entries_of r b) _ (λ y j. inr (Among-right y (entries_of r a) (entries_of r b) j)) (Stands-operand c y r b i k) ]
+      | inl i ↦ Stands-wider r c (entries_of r a) _ (λ y j. inr (Among-left y (entries_of r a) (entries_of r b) j)) (Stands-operand c y r a i k)
+      | inr i ↦ Stands-wider r c (entries_of r b) _ (λ y j. inr (Among-right y (entries_of r a) (entries_of r b) j)) (Stands-operand c y r b i k)
+    ]
 
 -- what a definition adds is among what all add
 links_of_all-among : (l : Link) (d : Def) (ds : List Def) → Among d ds → Among l (links_of_def d) → Among l (links_of_all ds)
@@ -107,8 +114,9 @@ links_of_all-from : (l : Link) (ds : List Def) → Among l (links_of_all ds) →
 links_of_all-from l [] h = absurd h
 links_of_all-from l (d ∷ ds) h =
     elim (Among-either l (links_of_def d) (links_of_all ds) h) [
-        inl k ↦ (d, inl refl, k)
-      | inr k ↦ (let r = links_of_all-from l ds k in (r.0, inr r.1, r.2)) ]
+      | inl k ↦ (d, inl refl, k)
+      | inr k ↦ (let r = links_of_all-from l ds k in (r.0, inr r.1, r.2))
+    ]
 
 -- a value comes from the instruction of its expression
 gives_is : (P : Checked) (r : Region) (a : ℕ) (s : Source) → GivesAt P r a s → s ≡ From (Of r a)
@@ -204,5 +212,6 @@ IsFed-program P l h =
     let from = links_of_all-from l P.program.defs h in
     let d = from.0 in
     elim (Among-either l (links_of (Top d.place) (Trigger d.place) d.body) _ from.2) [
-        inl k ↦ (let g = links_of-from l (Top d.place) (Trigger d.place) d.body k in IsFed-to P d l g.place g.node from.1 g.among g.goes)
-      | inr k ↦ IsFed-return P d l from.1 k ]
+      | inl k ↦ (let g = links_of-from l (Top d.place) (Trigger d.place) d.body k in IsFed-to P d l g.place g.node from.1 g.among g.goes)
+      | inr k ↦ IsFed-return P d l from.1 k
+    ]

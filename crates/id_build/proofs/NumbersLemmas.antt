@@ -1,15 +1,12 @@
 -- The builder's lists by the numbers of the instructions.
-use Rattle.std.proofs.Common.{◌≡◌, ◌⊎◌, inl, inr, ℕ, zero, suc, ◌+◌, ◌≤◌, ◌<◌, List, [], ◌∷◌, ◌++◌, length, refl, ap, sym, subst, ◌∙◌, arith, length-append, Some}
-use Rattle.std.specs.Prelude.{map, slice_get}
+use Rattle.std.proofs.Common.{◌≡◌, inl, inr, ℕ, suc, ◌+◌, List, [], ◌∷◌, ◌++◌, length, refl, ap, sym, subst, ◌∙◌, arith, length-append}
+use Rattle.std.specs.Prelude.{map}
 use Rattle.id_build.proofs.AmongLemmas.{map-append, slice_get-left, slice_get-right}
-use Rattle.id_build.proofs.Rows.{link, Link, links_of, links_of_all, links_of_def, numbered, piece_of, Row, rows_of, rows_of_all, rows_of_def, Sits}
-use Rattle.id_build.specs.declared.draft.Wire.{Wire}
+use Rattle.id_build.proofs.Rows.{links_of, links_of_all, links_of_def, numbered, piece_of, Row, rows_of, rows_of_all, rows_of_def, Sits}
 use Rattle.id_build.specs.Drafted.{procedure_pieces, procedures_blocks, procedures_pieces, procedures_wires, procedure_wires}
-use Rattle.id_build.specs.Expressions.{count_of, piece, pieces_of, source_of, wire, wires_of}
+use Rattle.id_build.specs.Expressions.{count_of, piece, pieces_of, source_of, wires_of}
 use Rattle.id_build.specs.Roles.{binary_op, Of, Return, Role, Trigger, unary_op}
 use Rattle.id_build.specs.Schemas.{block_of, size_of, size_of_all}
-use Rattle.id_graph.specs.declared.dests.Port.TheVariants.{Zero, One}
-use Rattle.id_graph.specs.declared.instr.Block.{Block}
 use Rattle.id_graph.specs.declared.instr.Op.TheVariants.{Binary}
 use Rattle.id_meaning.specs.Parts.{Among, place_of, Region, Top}
 use Rattle.id_tree.specs.declared.tree.Def.{Def}

@@ -1,5 +1,5 @@
 -- No arc of the builder's stands twice.
-use Rattle.std.proofs.Common.{◌≡◌, ◌⊎◌, inl, inr, ℕ, zero, suc, ◌+◌, ◌≤◌, ◌<◌, Bool, true, false, cond, eqb, List, [], ◌∷◌, ◌++◌, length, refl, ap, sym, subst, ◌∙◌, arith, length-append, eq-eqb}
+use Rattle.std.proofs.Common.{◌≡◌, inl, inr, ℕ, ◌+◌, ◌≤◌, ◌<◌, Bool, true, false, cond, eqb, List, [], ◌∷◌, ◌++◌, length, refl, ap, sym, subst, ◌∙◌, arith, length-append, eq-eqb}
 use Rattle.std.proofs.lemmas.Bool.{eqb-true}
 use Rattle.id_build.proofs.AmongLemmas.{AllDiffer-append, Among-either}
 use Rattle.id_build.specs.declared.draft.Wire.{Wire}
@@ -57,9 +57,12 @@ AllDiffer-dests n [] d = tt
 AllDiffer-dests n (v ∷ ws) d = at (eqb v.from n) refl (AllDiffer-dests n ws d.1)
   where
     at : (b : Bool) → eqb v.from n ≡ b → AllDiffer (dests_from n ws) → AllDiffer (cond b (dest_of v ∷ dests_from n ws) (dests_from n ws))
-    at true e rest = (λ h. let a = dests_from-from n (dest_of v) ws h in
-        let same = same_arc n v a.arc (eqb-true v.from n e) a.from a.goes in
-        let P : Wire → Type 0 = λ z. Among z ws in d.0 (subst P (sym same) a.among), rest)
+    at true e rest = (
+      λ h. let a = dests_from-from n (dest_of v) ws h in
+          let same = same_arc n v a.arc (eqb-true v.from n e) a.from a.goes in
+          let P : Wire → Type 0 = λ z. Among z ws in d.0 (subst P (sym same) a.among),
+      rest,
+    )
     at false e rest = rest
 
 -- the arc goes to one of the instructions from n up to m

@@ -1,15 +1,15 @@
 -- The instructions of a program are those that the schemas make.
-use Rattle.std.proofs.Common.{◌≡◌, ◌⊎◌, inl, inr, ℕ, zero, suc, ◌+◌, Bool, true, false, cond, eqb, List, [], ◌∷◌, ◌++◌, length, refl, ap, sym, subst, ◌∙◌, arith, Option, Some, None}
+use Rattle.std.proofs.Common.{◌≡◌, inl, inr, ℕ, zero, suc, Bool, true, false, eqb, List, [], ◌∷◌, ◌++◌, refl, ap, sym, subst, ◌∙◌, Some}
 use Rattle.std.specs.Prelude.{map, slice_get, ◌&&◌}
 use Rattle.std.proofs.lemmas.Bool.{eq-eqb, eqb-true}
-use Rattle.id_build.proofs.AmongLemmas.{AllDiffer-append, AllDiffer-apart, AllDiffer-left, AllDiffer-right, Among-either, Among-from_at, Among-from_map, Among-left, Among-map, Among-right, map-append}
-use Rattle.id_build.proofs.Rows.{index_of, line, op_of, region_eq, role_eq, row, Row, row_of, rows_of, rows_of_all, rows_of_def, rows_of_program, Sits}
-use Rattle.id_build.specs.Roles.{Answer, answer, binary, binary_op, constant_of, literal, Makes, Of, port_of, return, Return, Role, trigger, Trigger, unary, unary_op}
+use Rattle.id_build.proofs.AmongLemmas.{Among-either, Among-from_at, Among-left, Among-map, Among-right}
+use Rattle.id_build.proofs.Rows.{index_of, line, role_eq, row, Row, row_of, rows_of, rows_of_all, rows_of_def, rows_of_program}
+use Rattle.id_build.specs.Roles.{Answer, answer, binary, literal, Makes, Of, port_of, return, Return, Role, trigger, Trigger, unary}
 use Rattle.id_check.specs.declared.Checked.{Checked}
 use Rattle.id_graph.specs.declared.instr.Op.{Op}
-use Rattle.id_graph.specs.declared.instr.Op.TheVariants.{Back, Binary, Const, Merge}
+use Rattle.id_graph.specs.declared.instr.Op.TheVariants.{Back, Merge}
 use Rattle.id_graph.specs.declared.instr.PortKind.TheVariants.{Signal}
-use Rattle.id_meaning.specs.Parts.{AllDiffer, Among, BinaryNode, entries_of, entries_of_all, entries_of_def, Entry, IsDef, IsMain, LiteralNode, literal_value, Node, Part, place_of, places_of_all, Region, Top, UnaryNode}
+use Rattle.id_meaning.specs.Parts.{AllDiffer, Among, BinaryNode, entries_of, entries_of_all, entries_of_def, Entry, LiteralNode, literal_value, Node, Part, place_of, Region, Top, UnaryNode}
 use Rattle.id_tree.specs.declared.tree.Def.{Def}
 use Rattle.id_tree.specs.declared.tree.Expr.{Expr, Literal, Unary', Binary'}
 
@@ -23,8 +23,9 @@ row_of-among y r (Binary' o _ a _ b e) (inl h) = Among-right (row_of y) (rows_of
 row_of-among y r (Binary' o _ a _ b e) (inr h) =
     Among-left (row_of y) (rows_of r a ++ rows_of r b) _
     (elim (Among-either y (entries_of r a) (entries_of r b) h) [
-        inl k ↦ Among-left (row_of y) (rows_of r a) (rows_of r b) (row_of-among y r a k)
-      | inr k ↦ Among-right (row_of y) (rows_of r a) (rows_of r b) (row_of-among y r b k) ])
+      | inl k ↦ Among-left (row_of y) (rows_of r a) (rows_of r b) (row_of-among y r a k)
+      | inr k ↦ Among-right (row_of y) (rows_of r a) (rows_of r b) (row_of-among y r b k)
+    ])
 
 -- the instruction is that of a line of the list
 abbrev IsRowOf : Row → List Entry → Type 0
@@ -49,14 +50,17 @@ pub rows_of-from : (w : Row) (r : Region) (x : Expr) → Among w (rows_of r x) �
 rows_of-from w r (Literal v e) h = IsRowOf-last w _ (line r e (LiteralNode (literal_value v))) [] refl h
 rows_of-from w r (Unary' o _ a e) h =
     elim (Among-either w (rows_of r a) _ h) [
-        inl k ↦ IsRowOf-cons w (line r e (UnaryNode o (place_of a))) (entries_of r a) (rows_of-from w r a k)
-      | inr k ↦ IsRowOf-last w _ (line r e (UnaryNode o (place_of a))) (entries_of r a) refl k ]
+      | inl k ↦ IsRowOf-cons w (line r e (UnaryNode o (place_of a))) (entries_of r a) (rows_of-from w r a k)
+      | inr k ↦ IsRowOf-last w _ (line r e (UnaryNode o (place_of a))) (entries_of r a) refl k
+    ]
 rows_of-from w r (Binary' o _ a _ b e) h =
     elim (Among-either w (rows_of r a ++ rows_of r b) _ h) [
-        inl k ↦ IsRowOf-cons w (line r e (BinaryNode o (place_of a) (place_of b))) (entries_of r a ++ entries_of r b) (elim (Among-either w (rows_of r a) (rows_of r b) k) [
-            inl l ↦ IsRowOf-left w (entries_of r a) (entries_of r b) (rows_of-from w r a l)
-          | inr l ↦ IsRowOf-right w (entries_of r a) (entries_of r b) (rows_of-from w r b l) ])
-      | inr k ↦ IsRowOf-last w _ (line r e (BinaryNode o (place_of a) (place_of b))) (entries_of r a ++ entries_of r b) refl k ]
+      | inl k ↦ IsRowOf-cons w (line r e (BinaryNode o (place_of a) (place_of b))) (entries_of r a ++ entries_of r b) (elim (Among-either w (rows_of r a) (rows_of r b) k) [
+        | inl l ↦ IsRowOf-left w (entries_of r a) (entries_of r b) (rows_of-from w r a l)
+        | inr l ↦ IsRowOf-right w (entries_of r a) (entries_of r b) (rows_of-from w r b l)
+      ])
+      | inr k ↦ IsRowOf-last w _ (line r e (BinaryNode o (place_of a) (place_of b))) (entries_of r a ++ entries_of r b) refl k
+    ]
 
 -- each line of an expression is in its region
 pub region-entries_of : (y : Entry) (r : Region) (x : Expr) → Among y (entries_of r x) → y.region ≡ r
@@ -67,8 +71,9 @@ region-entries_of y r (Unary' o _ a e) (inr h) = region-entries_of y r a h
 region-entries_of y r (Binary' o _ a _ b e) (inl h) = ap (λ z. z.region) h
 region-entries_of y r (Binary' o _ a _ b e) (inr h) =
     elim (Among-either y (entries_of r a) (entries_of r b) h) [
-        inl k ↦ region-entries_of y r a k
-      | inr k ↦ region-entries_of y r b k ]
+      | inl k ↦ region-entries_of y r a k
+      | inr k ↦ region-entries_of y r b k
+    ]
 
 -- what a definition adds is among what all add
 pub rows_of_all-among : (w : Row) (d : Def) (ds : List Def) → Among d ds → Among w (rows_of_def d) → Among w (rows_of_all ds)
@@ -82,8 +87,9 @@ pub rows_of_all-from : (w : Row) (ds : List Def) → Among w (rows_of_all ds) �
 rows_of_all-from w [] h = absurd h
 rows_of_all-from w (d ∷ ds) h =
     elim (Among-either w (rows_of_def d) (rows_of_all ds) h) [
-        inl k ↦ (d, inl refl, k)
-      | inr k ↦ (let r = rows_of_all-from w ds k in (r.0, inr r.1, r.2)) ]
+      | inl k ↦ (d, inl refl, k)
+      | inr k ↦ (let r = rows_of_all-from w ds k in (r.0, inr r.1, r.2))
+    ]
 
 pub entries_of_all-among : (y : Entry) (d : Def) (ds : List Def) → Among d ds → Among y (entries_of_def d) → Among y (entries_of_all ds)
 entries_of_all-among y d [] h k = absurd h
@@ -96,8 +102,9 @@ pub entries_of_all-from : (y : Entry) (ds : List Def) → Among y (entries_of_al
 entries_of_all-from y [] h = absurd h
 entries_of_all-from y (d ∷ ds) h =
     elim (Among-either y (entries_of_def d) (entries_of_all ds) h) [
-        inl k ↦ (d, inl refl, k)
-      | inr k ↦ (let r = entries_of_all-from y ds k in (r.0, inr r.1, r.2)) ]
+      | inl k ↦ (d, inl refl, k)
+      | inr k ↦ (let r = entries_of_all-from y ds k in (r.0, inr r.1, r.2))
+    ]
 
 -- the instruction of a part is one of the procedures'
 row_of_part : (P : Checked) (r : Region) (e : ℕ) (n : Node) → Part P r e n → Among (row_of (line r e n)) (rows_of_all P.program.defs)

@@ -1,5 +1,5 @@
 -- The lists that a program adds to a draft (docs/GRAPH.md, "Schemas").
-use Rattle.std.specs.Prelude.{ℕ, ◌+◌, Option, None, Some, List, [], ◌∷◌, ◌++◌, length, slice_get}
+use Rattle.std.specs.Prelude.{ℕ, ◌+◌, List, [], ◌∷◌, ◌++◌, length}
 use Rattle.id_build.specs.declared.draft.Piece.{Piece}
 use Rattle.id_build.specs.declared.draft.Wire.{Wire}
 use Rattle.id_build.specs.Expressions.{piece, pieces_of, source_of, wire, wires_of}
@@ -40,16 +40,11 @@ procedures_blocks [] n = []
 procedures_blocks (d ∷ ds) n =
     record { first = n; entries = [] } ∷ procedures_blocks ds (n + length (procedure_pieces d))
 
--- the answer's instruction, at the place of main
-abbrev pub answer_pieces : Option Def → List Piece
-answer_pieces None = []
-answer_pieces (Some d) = piece (Merge (port_of d.result)) d.place ∷ []
+-- the instructions of a program with this main: the answer's, at its place, then those of the procedures
+abbrev pub program_pieces : Program → Def → List Piece
+program_pieces p main = piece (Merge (port_of main.result)) main.place ∷ procedures_pieces p.defs
 
--- the instructions of a program whose main is the definition at this place: the answer's, then those of its procedures
-abbrev pub program_pieces : Program → ℕ → List Piece
-program_pieces p main = answer_pieces (slice_get p.defs main) ++ procedures_pieces p.defs
-
--- the graph of a program whose main is the definition at this place of the list
-abbrev pub graph_of : Program → ℕ → Parts
+-- the graph of a program with this main
+abbrev pub graph_of : Program → Def → Parts
 graph_of p main =
     parts (procedures_blocks p.defs 1) (instrs_from 0 (program_pieces p main) (procedures_wires p.defs 1))

@@ -2,6 +2,7 @@
 
 ghost use Rattle.std.specs.Prelude.{◌≡◌, ◌<◌, ◌≤◌, ◌+◌, [], ◌∷◌, ◌++◌, length, IfOk, IfErr, OnOk};
 ghost use Rattle.id_build.specs.Expressions.{pieces_of, source_of, wires_of};
+ghost use Rattle.id_build.specs.declared.error.TheConstants.{MAX_INSTRUCTIONS};
 ghost use Rattle.id_build.specs.Roles.{binary_op, constant_of, unary_op};
 ghost use Rattle.id_meaning.specs.Parts.{literal_value};
 ghost use Rattle.id_graph.specs.declared.dests.Port.TheVariants.{One, Zero};
@@ -21,7 +22,7 @@ pub fn build_expr(draft: &mut Draft, expr: &Expr, trigger: u32) -> Result<u32, B
     ensures wires { OnOk result (draft.new.wires.items
         ≡ draft.old.wires.items ++ wires_of expr.now (length draft.old.pieces.items) trigger) }
     ensures large { IfErr result (λ e. e ≡ BuildError.TooLarge
-        → 1000000 < length draft.old.pieces.items + length (pieces_of expr.now)) }
+        → MAX_INSTRUCTIONS < length draft.old.pieces.items + length (pieces_of expr.now)) }
 {
     match expr {
         Expr::Literal { value, place } => {
@@ -59,7 +60,7 @@ fn build_literal(
         ≡ draft.old.pieces.items ++ record { op = Const constant; place = place } ∷ []) }
     ensures wires { OnOk result (draft.new.wires.items ≡ draft.old.wires.items
         ++ record { from = trigger; to = length draft.old.pieces.items; port = Zero } ∷ []) }
-    ensures large { IfErr result (λ e. e ≡ BuildError.TooLarge → 1000000 ≤ length draft.old.pieces.items) }
+    ensures large { IfErr result (λ e. e ≡ BuildError.TooLarge → MAX_INSTRUCTIONS ≤ length draft.old.pieces.items) }
 {
     let number = draft.add(Op::Const(constant), place)?;
     draft.wire(trigger, number, Port::Zero)?;
@@ -78,7 +79,7 @@ fn build_unary(
         ≡ draft.old.pieces.items ++ record { op = unary_op op; place = place } ∷ []) }
     ensures wires { OnOk result (draft.new.wires.items ≡ draft.old.wires.items
         ++ record { from = operand; to = length draft.old.pieces.items; port = Zero } ∷ []) }
-    ensures large { IfErr result (λ e. e ≡ BuildError.TooLarge → 1000000 ≤ length draft.old.pieces.items) }
+    ensures large { IfErr result (λ e. e ≡ BuildError.TooLarge → MAX_INSTRUCTIONS ≤ length draft.old.pieces.items) }
 {
     let number = draft.add(operator(op), place)?;
     draft.wire(operand, number, Port::Zero)?;
@@ -99,7 +100,7 @@ fn build_binary(
     ensures wires { OnOk result (draft.new.wires.items ≡ draft.old.wires.items
         ++ record { from = left; to = length draft.old.pieces.items; port = Zero }
         ∷ record { from = right; to = length draft.old.pieces.items; port = One } ∷ []) }
-    ensures large { IfErr result (λ e. e ≡ BuildError.TooLarge → 1000000 ≤ length draft.old.pieces.items) }
+    ensures large { IfErr result (λ e. e ≡ BuildError.TooLarge → MAX_INSTRUCTIONS ≤ length draft.old.pieces.items) }
 {
     let number = draft.add(Op::Binary(arithmetic(op)), place)?;
     draft.wire(left, number, Port::Zero)?;
