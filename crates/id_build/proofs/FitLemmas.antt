@@ -1,24 +1,23 @@
 -- Each arc of a draft comes from an instruction of it and goes to a port of one.
-use Rattle.std.proofs.Common.{◌≡◌, ℕ, zero, suc, ◌+◌, ◌<◌, ◌≤◌, List, [], ◌∷◌, ◌++◌, length, refl, ap, sym, subst, ◌∙◌, arith, append_assoc, append-nil, length-append, eqb, cond, true, false, get_or, IsSome, Option, Some, None}
+use Rattle.std.proofs.Common.{◌≡◌, ℕ, zero, suc, ◌+◌, ◌<◌, List, [], ◌∷◌, ◌++◌, length, refl, ap, ◌∙◌, arith, append_assoc, append-nil, length-append, eqb, cond, true, false, get_or, IsSome, Option}
 use Rattle.std.specs.Prelude.{All, option_and_then, slice_get}
 use Rattle.std.proofs.lemmas.List.Elements.{All-append, All-cons, All-nil}
 use Rattle.id_build.specs.declared.draft.Piece.{Piece}
 use Rattle.id_build.specs.declared.draft.Wire.{Wire}
-use Rattle.id_build.specs.Drafted.{answer_pieces, port_kind_of, procedure_pieces, procedure_wires, procedures_pieces, procedures_wires}
-use Rattle.id_build.specs.Expressions.{pieces_of, piece, size_of, source_of, wire, wires_of, operator_of, operation_of}
+use Rattle.id_build.specs.Roles.{binary_op, port_of, unary_op}
+use Rattle.id_build.specs.Drafted.{procedure_pieces, procedure_wires, procedures_pieces, procedures_wires}
+use Rattle.id_build.specs.Expressions.{pieces_of, piece, count_of, source_of, wire, wires_of}
 use Rattle.id_build.specs.Joined.{dest_of, dests_from, instrs_from, joined}
 use Rattle.id_graph.specs.Graph.{ArcsExist, IsPort, parts, PortsExist}
 use Rattle.id_graph.specs.Ports.{port_kind}
 use Rattle.id_graph.specs.declared.instr.Block.{Block}
 use Rattle.id_graph.specs.declared.instr.Instr.{Instr}
-use Rattle.id_graph.specs.declared.instr.Op.TheVariants.{Back, Merge}
-use Rattle.id_graph.specs.declared.instr.PortKind.TheVariants as port
+use Rattle.id_graph.specs.declared.instr.Op.TheVariants.{Back, Binary, Merge}
+use Rattle.id_graph.specs.declared.instr.PortKind.TheVariants.{Signal}
 use Rattle.id_graph.specs.declared.dests.Port.{Port}
 use Rattle.id_graph.specs.declared.dests.Port.TheVariants.{Zero, One}
-use Rattle.id_graph.specs.declared.instr.Op.{Op}
+use Rattle.id_graph.specs.declared.instr.Arithmetic.{Arithmetic}
 use Rattle.id_graph.specs.declared.instr.PortKind.{PortKind}
-use Rattle.id_tree.specs.declared.tree.BinaryOp.{BinaryOp}
-use Rattle.id_tree.specs.declared.tree.BinaryOp.TheVariants.{Add, Sub, Mul, Div, Rem}
 use Rattle.id_tree.specs.declared.tree.Def.{Def}
 use Rattle.id_tree.specs.declared.tree.Expr.{Expr, Literal, Unary', Binary'}
 use Rattle.id_tree.specs.declared.tree.UnaryOp.{UnaryOp}
@@ -80,20 +79,16 @@ regroup : {A : Type 0} (x a b c : List A) → ((x ++ a) ++ b) ++ c ≡ x ++ ((a 
 regroup x a b c = simp append_assoc
 
 -- an expression's value comes from one of its instructions
-pub source_of-lt : (x : Expr) (n : ℕ) → source_of x n < n + size_of x
+pub source_of-lt : (x : Expr) (n : ℕ) → source_of x n < n + count_of x
 source_of-lt (Literal v e) n = omega arith
-source_of-lt (Unary' o _ a e) n = omega (arith, length-append (pieces_of a) (piece (operator_of o) e ∷ []))
-source_of-lt (Binary' o _ a _ b e) n = omega (arith, length-append (pieces_of a ++ pieces_of b) (piece (operation_of o) e ∷ []), length-append (pieces_of a) (pieces_of b))
+source_of-lt (Unary' o _ a e) n = omega (arith, length-append (pieces_of a) (piece (unary_op o) e ∷ []))
+source_of-lt (Binary' o _ a _ b e) n = omega (arith, length-append (pieces_of a ++ pieces_of b) (piece (Binary (binary_op o)) e ∷ []), length-append (pieces_of a) (pieces_of b))
 
-operator_takes : (o : UnaryOp) → IsSome (port_kind (operator_of o) Zero)
+operator_takes : (o : UnaryOp) → IsSome (port_kind (unary_op o) Zero)
 operator_takes Neg = refl
 
-operation_takes : (o : BinaryOp) (p : Port) → IsSome (port_kind (operation_of o) p)
-operation_takes Add p = refl
-operation_takes Sub p = refl
-operation_takes Mul p = refl
-operation_takes Div p = refl
-operation_takes Rem p = refl
+operation_takes : (o : Arithmetic) (p : Port) → IsSome (port_kind (Binary o) p)
+operation_takes o p = refl
 
 -- an expression's arcs fit, after arcs that fit, where its trigger is there
 pub AllFit-expr : (x : Expr) (ps : List Piece) (ws : List Wire) (t : ℕ) → t < length ps → All (Fits ps) ws → All (Fits (ps ++ pieces_of x)) (ws ++ wires_of x (length ps) t)
@@ -101,20 +96,20 @@ AllFit-expr (Literal v e) ps ws t h all =
     AllFit-arc ps _ ws t Zero h refl all
 AllFit-expr (Unary' o _ a e) ps ws t h all =
     let inner = AllFit-expr a ps ws t h all in
-    let q = piece (operator_of o) e in
+    let q = piece (unary_op o) e in
     let n = source_of a (length ps) in
     let last = AllFit-arc (ps ++ pieces_of a) q (ws ++ wires_of a (length ps) t) n Zero (omega (arith, source_of-lt a (length ps), length-append ps (pieces_of a))) (operator_takes o) inner in
     rw (← length-append, ← append_assoc, ← append_assoc) last
 AllFit-expr (Binary' o _ a _ b e) ps ws t h all =
     let ps1 = ps ++ pieces_of a in
     let ws1 = ws ++ wires_of a (length ps) t in
-    let e1 : length ps1 ≡ length ps + size_of a = length-append ps (pieces_of a) in
-    let e2 : length (ps1 ++ pieces_of b) ≡ length ps + size_of a + size_of b = length-append ps1 (pieces_of b) ∙ ap (λ n. n + size_of b) e1 in
+    let e1 : length ps1 ≡ length ps + count_of a = length-append ps (pieces_of a) in
+    let e2 : length (ps1 ++ pieces_of b) ≡ length ps + count_of a + count_of b = length-append ps1 (pieces_of b) ∙ ap (λ n. n + count_of b) e1 in
     let left : source_of a (length ps) < length (ps1 ++ pieces_of b) = omega (arith, source_of-lt a (length ps), e2) in
     let right : source_of b (length ps1) < length (ps1 ++ pieces_of b) = omega (arith, source_of-lt b (length ps1), e1, e2) in
     let inner = AllFit-expr b ps1 ws1 t (omega (arith, e1)) (AllFit-expr a ps ws t h all) in
-    let q = piece (operation_of o) e in
-    let last = AllFit-arcs (ps1 ++ pieces_of b) q (ws1 ++ wires_of b (length ps1) t) (source_of a (length ps)) (source_of b (length ps1)) left right (operation_takes o) inner in
+    let q = piece (Binary (binary_op o)) e in
+    let last = AllFit-arcs (ps1 ++ pieces_of b) q (ws1 ++ wires_of b (length ps1) t) (source_of a (length ps)) (source_of b (length ps1)) left right (operation_takes (binary_op o)) inner in
     rw (← e2, ← e1, ← regroup ps (pieces_of a) (pieces_of b) (q ∷ []), ← regroup ws (wires_of a (length ps) t) (wires_of b (length ps1) t) (wire (source_of a (length ps)) (length (ps1 ++ pieces_of b)) Zero ∷ wire (source_of b (length ps1)) (length (ps1 ++ pieces_of b)) One ∷ [])) last
 
 -- the second of two at the end of a list
@@ -128,8 +123,8 @@ port_at-second (x ∷ ps) q r p h =
 AllFit-procedure : (d : Def) (ps : List Piece) (ws : List Wire) → All (Fits ps) ws → All (Fits (ps ++ procedure_pieces d)) (ws ++ procedure_wires d (length ps))
 AllFit-procedure d ps ws all =
     let n = length ps in
-    let trigger = piece (Merge port.Signal) d.place in
-    let back = piece (Back (port_kind_of d.result)) d.place in
+    let trigger = piece (Merge Signal) d.place in
+    let back = piece (Back (port_of d.result)) d.place in
     let ps2 = ps ++ trigger ∷ back ∷ [] in
     let e : length ps2 ≡ n + 2 = length-append ps (trigger ∷ back ∷ []) in
     let inner = AllFit-expr d.body ps2 ws n (omega (arith, e)) (AllFit-append ps (trigger ∷ back ∷ []) ws all) in

@@ -1,3 +1,11 @@
+pub mod AmongLemmas
+pub mod DifferLemmas
 pub mod DraftedLemmas
 pub mod FitLemmas
 pub mod JoinedLemmas
+pub mod LinksLemmas
+pub mod NumbersLemmas
+pub mod OnceLemmas
+pub mod Rows
+pub mod RowsLemmas
+pub mod SchemasLemmas

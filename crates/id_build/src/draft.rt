@@ -2,6 +2,7 @@
 //! which they are made. The arcs are joined to the instructions once all of them are there.
 
 ghost use Rattle.std.specs.Prelude.{◌≡◌, ◌<◌, ◌≤◌, ◌+◌, [], ◌∷◌, ◌++◌, length, vec_len, IfOk, IfErr, OnOk, All};
+ghost use Rattle.id_build.specs.declared.error.TheConstants.{MAX_INSTRUCTIONS};
 ghost use Rattle.id_build.specs.Joined.{instrs_from, IsFrom, connected};
 
 use crate::error::{BuildError, MAX_INSTRUCTIONS};
@@ -28,7 +29,7 @@ pub struct Wire {
 pub struct Draft {
     pub pieces: Vec<Piece>,
     pub wires: Vec<Wire>,
-    pub ghost few: { vec_len pieces ≤ 1000000 },
+    pub ghost few: { vec_len pieces ≤ MAX_INSTRUCTIONS },
 }
 
 impl Draft {
@@ -50,7 +51,7 @@ impl Draft {
             (self.new.pieces.items ≡ self.old.pieces.items ++ record { op = op; place = place } ∷ []) }
         ensures wires { OnOk result (self.new.wires.items ≡ self.old.wires.items) }
         ensures large { IfErr result
-            (λ e. e ≡ BuildError.TooLarge → 1000000 ≤ length self.old.pieces.items) }
+            (λ e. e ≡ BuildError.TooLarge → MAX_INSTRUCTIONS ≤ length self.old.pieces.items) }
     {
         if self.pieces.len() >= MAX_INSTRUCTIONS {
             return Err(BuildError::TooLarge);

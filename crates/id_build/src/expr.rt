@@ -1,7 +1,10 @@
 //! The instructions of an expression (docs/GRAPH.md, "Expressions").
 
 ghost use Rattle.std.specs.Prelude.{◌≡◌, ◌<◌, ◌≤◌, ◌+◌, [], ◌∷◌, ◌++◌, length, IfOk, IfErr, OnOk};
-ghost use Rattle.id_build.specs.Expressions.{constant_of, operator_of, operation_of, pieces_of, source_of, wires_of};
+ghost use Rattle.id_build.specs.Expressions.{pieces_of, source_of, wires_of};
+ghost use Rattle.id_build.specs.declared.error.TheConstants.{MAX_INSTRUCTIONS};
+ghost use Rattle.id_build.specs.Roles.{binary_op, constant_of, unary_op};
+ghost use Rattle.id_meaning.specs.Parts.{literal_value};
 ghost use Rattle.id_graph.specs.declared.dests.Port.TheVariants.{One, Zero};
 ghost use Rattle.id_graph.specs.declared.instr.Op.TheVariants.{Binary, Const, Neg};
 
@@ -19,7 +22,7 @@ pub fn build_expr(draft: &mut Draft, expr: &Expr, trigger: u32) -> Result<u32, B
     ensures wires { OnOk result (draft.new.wires.items
         ≡ draft.old.wires.items ++ wires_of expr.now (length draft.old.pieces.items) trigger) }
     ensures large { IfErr result (λ e. e ≡ BuildError.TooLarge
-        → 1000000 < length draft.old.pieces.items + length (pieces_of expr.now)) }
+        → MAX_INSTRUCTIONS < length draft.old.pieces.items + length (pieces_of expr.now)) }
 {
     match expr {
         Expr::Literal { value, place } => {
@@ -57,7 +60,7 @@ fn build_literal(
         ≡ draft.old.pieces.items ++ record { op = Const constant; place = place } ∷ []) }
     ensures wires { OnOk result (draft.new.wires.items ≡ draft.old.wires.items
         ++ record { from = trigger; to = length draft.old.pieces.items; port = Zero } ∷ []) }
-    ensures large { IfErr result (λ e. e ≡ BuildError.TooLarge → 1000000 ≤ length draft.old.pieces.items) }
+    ensures large { IfErr result (λ e. e ≡ BuildError.TooLarge → MAX_INSTRUCTIONS ≤ length draft.old.pieces.items) }
 {
     let number = draft.add(Op::Const(constant), place)?;
     draft.wire(trigger, number, Port::Zero)?;
@@ -73,10 +76,10 @@ fn build_unary(
 ) -> Result<u32, BuildError>
     ensures source { IfOk result (λ n. n ≡ length draft.old.pieces.items) }
     ensures pieces { OnOk result (draft.new.pieces.items
-        ≡ draft.old.pieces.items ++ record { op = operator_of op; place = place } ∷ []) }
+        ≡ draft.old.pieces.items ++ record { op = unary_op op; place = place } ∷ []) }
     ensures wires { OnOk result (draft.new.wires.items ≡ draft.old.wires.items
         ++ record { from = operand; to = length draft.old.pieces.items; port = Zero } ∷ []) }
-    ensures large { IfErr result (λ e. e ≡ BuildError.TooLarge → 1000000 ≤ length draft.old.pieces.items) }
+    ensures large { IfErr result (λ e. e ≡ BuildError.TooLarge → MAX_INSTRUCTIONS ≤ length draft.old.pieces.items) }
 {
     let number = draft.add(operator(op), place)?;
     draft.wire(operand, number, Port::Zero)?;
@@ -93,13 +96,13 @@ fn build_binary(
 ) -> Result<u32, BuildError>
     ensures source { IfOk result (λ n. n ≡ length draft.old.pieces.items) }
     ensures pieces { OnOk result (draft.new.pieces.items
-        ≡ draft.old.pieces.items ++ record { op = operation_of op; place = place } ∷ []) }
+        ≡ draft.old.pieces.items ++ record { op = Binary (binary_op op); place = place } ∷ []) }
     ensures wires { OnOk result (draft.new.wires.items ≡ draft.old.wires.items
         ++ record { from = left; to = length draft.old.pieces.items; port = Zero }
         ∷ record { from = right; to = length draft.old.pieces.items; port = One } ∷ []) }
-    ensures large { IfErr result (λ e. e ≡ BuildError.TooLarge → 1000000 ≤ length draft.old.pieces.items) }
+    ensures large { IfErr result (λ e. e ≡ BuildError.TooLarge → MAX_INSTRUCTIONS ≤ length draft.old.pieces.items) }
 {
-    let number = draft.add(operation(op), place)?;
+    let number = draft.add(Op::Binary(arithmetic(op)), place)?;
     draft.wire(left, number, Port::Zero)?;
     draft.wire(right, number, Port::One)?;
     Ok(number)
@@ -107,7 +110,7 @@ fn build_binary(
 
 /// What the `const` of a literal sends.
 fn constant(value: id_tree::Constant) -> Constant
-    ensures { result ≡ constant_of value }
+    ensures { result ≡ constant_of (literal_value value) }
 {
     match value {
         id_tree::Constant::Int(number) => Constant::Int(number),
@@ -116,7 +119,7 @@ fn constant(value: id_tree::Constant) -> Constant
 
 /// The operator of a unary expression.
 fn operator(op: UnaryOp) -> Op
-    ensures { result ≡ operator_of op }
+    ensures { result ≡ unary_op op }
 {
     match op {
         UnaryOp::Neg => Op::Neg,
@@ -124,15 +127,14 @@ fn operator(op: UnaryOp) -> Op
 }
 
 /// The operator of a binary expression.
-fn operation(op: BinaryOp) -> Op
-    ensures { result ≡ operation_of op }
+fn arithmetic(op: BinaryOp) -> Arithmetic
+    ensures { result ≡ binary_op op }
 {
-    let arithmetic = match op {
+    match op {
         BinaryOp::Add => Arithmetic::Add,
         BinaryOp::Sub => Arithmetic::Sub,
         BinaryOp::Mul => Arithmetic::Mul,
         BinaryOp::Div => Arithmetic::Div,
         BinaryOp::Rem => Arithmetic::Rem,
-    };
-    Op::Binary(arithmetic)
+    }
 }

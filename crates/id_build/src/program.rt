@@ -1,28 +1,44 @@
 //! The graph of a program (docs/GRAPH.md, "Schemas").
 
 ghost use Rattle.std.specs.Prelude.{◌≡◌, ◌<◌, ◌≤◌, ◌+◌, [], ◌∷◌, ◌++◌, length, IfOk, IfErr, OnOk};
-ghost use Rattle.id_build.specs.Drafted.{graph_of, port_kind_of, procedure_pieces, procedure_wires, procedures_blocks, procedures_pieces, procedures_wires, program_pieces};
+ghost use Rattle.id_build.specs.Roles.{port_of};
+ghost use Rattle.id_build.specs.Schemas.{Schemas, size};
+ghost use Rattle.id_meaning.specs.Parts.{Distinct};
+ghost use Rattle.id_build.specs.Drafted.{graph_of, procedure_pieces, procedure_wires, procedures_blocks, procedures_pieces, procedures_wires, program_pieces};
 
 use crate::draft::{Draft, join};
-use crate::error::BuildError;
+use crate::error::{BuildError, MAX_INSTRUCTIONS};
 use crate::expr::build_expr;
 use id_check::Checked;
 use id_graph::{Block, Graph, Op, Port, PortKind};
 use id_text::Sequence;
-use id_tree::{Def, Kind};
+use id_tree::{Def, Kind, Program};
 use std::alloc::Global;
 
-/// The graph of a program.
+/// A graph that the schemas give the program, where no two of its things have one place.
+///
+/// `TooLarge` where the schemas give more than `MAX_INSTRUCTIONS` instructions, and `Memory` where a
+/// growth was refused. Its instructions are numbered in the order of docs/GRAPH.md ("Schemas").
 pub fn build(alloc: Global, checked: &Checked) -> Result<Graph, BuildError>
-    ensures graph { IfOk result (λ g. g ≡ graph_of checked.now.program checked.now.main) }
-    ensures small { OnOk result (length (program_pieces checked.now.program checked.now.main) ≤ 1000000) }
+    ensures schemas { IfOk result (λ g. Distinct checked.now → Schemas checked.now g) }
+    ensures small { OnOk result (size checked.now ≤ MAX_INSTRUCTIONS) }
+    ensures large { IfErr result (λ e. e ≡ BuildError.TooLarge → MAX_INSTRUCTIONS < size checked.now) }
+{
+    let main = checked.main_def();
+    let graph = build_program(alloc, &checked.program, main)?;
+    Ok(graph)
+}
+
+/// The graph of the definitions, with the answer's instruction for `main`.
+fn build_program(alloc: Global, program: &Program, main: &Def) -> Result<Graph, BuildError>
+    ensures graph { IfOk result (λ g. g ≡ graph_of program.now main.now) }
+    ensures small { OnOk result (length (program_pieces program.now main.now) ≤ MAX_INSTRUCTIONS) }
     ensures large { IfErr result (λ e. e ≡ BuildError.TooLarge
-        → 1000000 < length (program_pieces checked.now.program checked.now.main)) }
+        → MAX_INSTRUCTIONS < length (program_pieces program.now main.now)) }
 {
     let mut draft = Draft::new(alloc);
-    let main = checked.main_def();
     draft.add(Op::Merge(port_kind(main.result)), main.place)?;
-    let blocks = build_defs(alloc, &mut draft, checked.program.defs.as_slice())?;
+    let blocks = build_defs(alloc, &mut draft, program.defs.as_slice())?;
     let instrs = join(alloc, &draft)?;
     Ok(Graph::new(blocks, instrs).unwrap())
 }
@@ -35,7 +51,7 @@ fn build_defs(alloc: Global, draft: &mut Draft, defs: &[Def]) -> Result<Vec<Bloc
     ensures wires { OnOk result (draft.new.wires.items
         ≡ draft.old.wires.items ++ procedures_wires defs.now (length draft.old.pieces.items)) }
     ensures large { IfErr result (λ e. e ≡ BuildError.TooLarge
-        → 1000000 < length draft.old.pieces.items + length (procedures_pieces defs.now)) }
+        → MAX_INSTRUCTIONS < length draft.old.pieces.items + length (procedures_pieces defs.now)) }
 {
     let mut blocks = Vec::new(alloc);
     for def in defs {
@@ -54,7 +70,7 @@ fn build_def(alloc: Global, draft: &mut Draft, def: &Def) -> Result<Block, Build
     ensures wires { OnOk result (draft.new.wires.items
         ≡ draft.old.wires.items ++ procedure_wires def.now (length draft.old.pieces.items)) }
     ensures large { IfErr result (λ e. e ≡ BuildError.TooLarge
-        → 1000000 < length draft.old.pieces.items + length (procedure_pieces def.now)) }
+        → MAX_INSTRUCTIONS < length draft.old.pieces.items + length (procedure_pieces def.now)) }
 {
     let first = draft.add(Op::Merge(PortKind::Signal), def.place)?;
     let back = draft.add(Op::Back(port_kind(def.result)), def.place)?;
@@ -66,7 +82,7 @@ fn build_def(alloc: Global, draft: &mut Draft, def: &Def) -> Result<Block, Build
 
 /// The kind of a port that takes values of this kind.
 fn port_kind(kind: Kind) -> PortKind
-    ensures { result ≡ port_kind_of kind }
+    ensures { result ≡ port_of kind }
 {
     match kind {
         Kind::Int => PortKind::Int,

@@ -1,0 +1,74 @@
+-- The machine: its elements and the messages in flight (docs/MACHINE.md, "Runs").
+use Rattle.std.specs.Prelude.{◌≡◌, ℕ, ◌+◌, Option, None, Some, List, [], ◌∷◌, ◌++◌, All, filter, slice_get, slice_set, replicate, if◌then◌else◌}
+use Rattle.std.specs.List.{remove}
+use Rattle.id_graph.specs.declared.instr.Block.{Block}
+use Rattle.id_graph.specs.declared.dests.Port.TheVariants.{Zero}
+use Rattle.id_graph.specs.Graph.{Parts}
+use Rattle.id_tag.specs.declared.Tag.{Tag}
+use Rattle.id_tag.specs.declared.Value.TheVariants as value
+use Rattle.id_tag.specs.declared.Sender.TheVariants as sender
+use Rattle.id_tag.specs.declared.Payload.{Payload}
+use Rattle.id_tag.specs.declared.Payload.TheVariants.{Token}
+use Rattle.id_tag.specs.declared.Message.{Message}
+use Rattle.id_tag.specs.Routes.{route_of}
+use Rattle.id_valid.specs.Roles.{has_main_place}
+use Rattle.id_core.specs.declared.step.Step.TheVariants.{Went}
+use Rattle.id_core.specs.Steps.{State, fresh, is_ended, outputs_of, state_after}
+
+-- the states of the elements, in order of their numbers, and the messages in flight
+pub record World : Type 0 where
+  pub elements : List State
+  pub flight : List Message
+
+-- a tag of main's context, at iteration 0
+abbrev pub main_tag : ℕ → Tag
+main_tag n = record { context = record { element = 0; serial = 0 }; iteration = 0; instr = n }
+
+-- a message that is there at the start, with its number
+abbrev pub start_message : ℕ → Payload → Message
+start_message k x = record { payload = x; sender = sender.Start; position = 0; output = k; stamp = 0 }
+
+-- a signal to the first instruction of main's block, and the continuation to instruction 0 to port 0 of its second
+abbrev pub block_messages : List Block → List Message
+block_messages [] = []
+block_messages (b ∷ bs) =
+    start_message 0 (Token (main_tag b.first) Zero value.Signal) ∷ start_message 1 (Token (main_tag (b.first + 1)) Zero (value.Continuation (main_tag 0))) ∷ []
+
+-- the start messages of a graph
+abbrev pub start_messages : Parts → List Message
+start_messages g = block_messages (filter (has_main_place g) g.blocks)
+
+-- the machine of so many elements at its start
+abbrev pub start : Parts → ℕ → World
+start g count = record { elements = replicate count fresh; flight = start_messages g }
+
+-- the message at position k leaves, the list closes up, the element n takes it from the state e to the next, and the outputs go last
+abbrev pub taken_from : Parts → ℕ → World → Message → ℕ → State → World
+taken_from g k s m n e = record {
+  elements = slice_set s.elements n (state_after g n e m);
+  flight = remove s.flight k ++ outputs_of g n e m;
+}
+
+-- the message at position k is given to the element n in its state: where there is none, or no stamp is left, nothing changes
+abbrev pub given_to : Parts → ℕ → World → Message → ℕ → Option State → World
+given_to g k s m n None = s
+given_to g k s m n (Some e) = if is_ended e m then s else taken_from g k s m n e
+
+-- the message at position k is given to the element that it is for, of so many: where there is no message, nothing changes
+abbrev pub routed_to : Parts → ℕ → ℕ → World → Option Message → World
+routed_to g count k s None = s
+routed_to g count k s (Some m) = given_to g k s m (route_of m.payload count) (slice_get s.elements (route_of m.payload count))
+
+-- the machine of so many elements after the message at position k was delivered
+abbrev pub delivered : Parts → ℕ → World → ℕ → World
+delivered g count s k = routed_to g count k s (slice_get s.flight k)
+
+-- the machine after deliveries at these positions, one after another
+abbrev pub run : Parts → ℕ → List ℕ → World → World
+run g count [] s = s
+run g count (k ∷ ks) s = run g count ks (delivered g count s k)
+
+-- nothing is in flight, and every event went well
+pub record IsQuiet (s : World) : Type 0 where
+  pub empty : s.flight ≡ []
+  pub went : All (λ e. All (λ v. v.step ≡ Went) e.events) s.elements

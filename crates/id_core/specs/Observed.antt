@@ -1,0 +1,70 @@
+-- What a run shows (docs/MACHINE.md, "Observed").
+use Rattle.std.specs.Prelude.{ℕ, List, [], Option, Some, None, slice_get, option_and_then, if◌then◌else◌}
+use Rattle.std.specs.Option.{option_map_or}
+use Rattle.std.specs.List.{filter_map, flat_map}
+use Rattle.id_graph.specs.Graph.{Parts}
+use Rattle.id_tag.specs.declared.Value.{Value}
+use Rattle.id_tag.specs.declared.Value.TheVariants as value
+use Rattle.id_tag.specs.declared.Payload.{Payload}
+use Rattle.id_tag.specs.declared.Payload.TheVariants.{Token}
+use Rattle.id_tag.specs.Tags.{same_tag}
+use Rattle.id_ops.specs.declared.OperatorFault.{OperatorFault}
+use Rattle.id_ops.specs.declared.OperatorFault.TheVariants as operator
+use Rattle.id_meaning.specs.declared.SourceValue.{SourceValue}
+use Rattle.id_meaning.specs.declared.SourceValue.TheVariants as source
+use Rattle.id_meaning.specs.declared.FaultKind.{FaultKind}
+use Rattle.id_meaning.specs.declared.FaultKind.TheVariants as kind
+use Rattle.id_meaning.specs.declared.Path.{Path}
+use Rattle.id_meaning.specs.declared.SourceFault.{SourceFault}
+use Rattle.id_core.specs.declared.step.Step.{Step}
+use Rattle.id_core.specs.declared.step.Step.TheVariants.{Went, Fault, Stuck}
+use Rattle.id_core.specs.declared.step.Fault.TheVariants.{Operator}
+use Rattle.id_core.specs.Events.{EventView}
+use Rattle.id_core.specs.Steps.{State}
+use Rattle.id_core.specs.Machines.{World, main_tag}
+
+-- the events of all elements, one record after another
+abbrev pub events_of : List State → List EventView
+events_of elements = flat_map (λ e. e.events) elements
+
+-- the value that a token brings to instruction 0 under main's tag
+abbrev pub brought : Payload → Option Value
+brought (Token t p v) = if same_tag t (main_tag 0) then Some v else None
+
+-- a value of a token as one of the source
+abbrev pub source_value : Value → Option SourceValue
+source_value value.Signal = None
+source_value (value.Int n) = Some (source.Int n)
+source_value (value.Bool b) = None
+source_value (value.Continuation t) = None
+
+-- the values that these events brought to instruction 0 under main's tag, in order
+abbrev pub answers : List EventView → List Value
+answers es = filter_map (λ e. brought e.message.payload) es
+
+-- the answer: the first of them. One element handles that tag, so its record has them all
+abbrev pub answer : World → Option SourceValue
+answer s = option_and_then source_value (slice_get (answers (events_of s.elements)) 0)
+
+-- an operator's kind of fault as one of the source
+abbrev pub fault_kind : OperatorFault → FaultKind
+fault_kind operator.Overflow = kind.Overflow
+fault_kind operator.DivisionByZero = kind.DivisionByZero
+
+-- the place of the instruction of this number
+abbrev pub place_of : Parts → ℕ → ℕ
+place_of g n = option_map_or (λ i. i.place) (slice_get g.instrs n) 0
+
+-- the path of main's context, which is empty: no operator makes another context yet
+abbrev pub main_path : Path
+main_path = record { steps = [] }
+
+-- the fault of the source that an event's step shows
+abbrev pub fault_of : Parts → Step → Option SourceFault
+fault_of g Went = None
+fault_of g (Fault (Operator f t)) = Some (record { kind = fault_kind f; path = main_path; place = place_of g t.instr })
+fault_of g Stuck = None
+
+-- the faults of the source that the machine's events show
+abbrev pub faults : Parts → World → List SourceFault
+faults g s = filter_map (λ e. fault_of g e.step) (events_of s.elements)

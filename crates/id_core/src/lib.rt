@@ -1,0 +1,13 @@
+//! Elements and the machine: each message is handled in one step, and recorded.
+//!
+//! Keeps: an element's state is what its record leads to, and a machine is a run from its start.
+//! Errors: `TakeError` and `MachineError`; after each of them nothing has changed.
+//! Read first: `specs/Steps.antt`, then `Element::take`.
+//! Not here: what an operator does (`id_ops`), matching (`id_match`), which graphs are sound (`id_valid`).
+#![tactic(auto)]
+
+mod history;
+mod step;
+
+pub use history::{Event, Events};
+pub use step::{Fault, Step, TakeError};
