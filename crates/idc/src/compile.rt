@@ -1,9 +1,20 @@
 //! From a text to its graph: tokens, tree, checks, schemas, validation.
 
+ghost use Rattle.std.specs.Prelude.{IfOk};
+ghost use Rattle.id_text.specs.Tokens.{EndsOnce, Rises};
+ghost use Rattle.id_text.specs.Lexes.{Lexes};
+ghost use Rattle.id_text.specs.Lexes.Ending.{Whole};
+ghost use Rattle.id_tree.specs.Tree.{program_tree};
+ghost use Rattle.id_tree.specs.Accepted.{Accepts};
+ghost use Rattle.id_tree.specs.Distinct.{Distinct as HasDistinctPlaces};
+ghost use Rattle.id_meaning.specs.Parts.{Distinct};
+ghost use Rattle.id_build.specs.Schemas.{Schemas};
+ghost use Rattle.idc.specs.Programs.{IsProgramOf};
+
 use id_build::BuildError;
 use id_check::{CheckCause, Checked, check};
-use id_text::{TextError, lex};
-use id_tree::{TreeError, parse};
+use id_text::{TextError, Token, lex};
+use id_tree::{Program, TreeError, parse};
 use id_valid::{InvalidCause, Valid, validate};
 use std::alloc::Global;
 
@@ -45,9 +56,38 @@ fn invalid_error(cause: InvalidCause) -> CompileError {
     }
 }
 
-fn checked_program(alloc: Global, text: &str) -> Result<Checked, CompileError> {
-    let tokens = lex(alloc, text).map_err(CompileError::Text)?;
-    let program = parse(alloc, tokens.as_slice()).map_err(CompileError::Tree)?;
+/// The tokens of a text.
+fn tokens_of(alloc: Global, text: &str) -> Result<Vec<Token>, CompileError>
+    ensures tokens { IfOk result (λ v. Lexes 0 text.now v.items Whole) }
+    ensures ends { IfOk result (λ v. EndsOnce v.items) }
+    ensures rises { IfOk result (λ v. Rises v.items) }
+{
+    match lex(alloc, text) {
+        Ok(tokens) => Ok(tokens),
+        Err(error) => Err(CompileError::Text(error)),
+    }
+}
+
+/// The program of these tokens.
+fn program_of(alloc: Global, tokens: &[Token]) -> Result<Program, CompileError>
+    requires ends { EndsOnce tokens.now }
+    requires rises { Rises tokens.now }
+    ensures tree { IfOk result (λ p. Accepts tokens.now (program_tree p)) }
+    ensures distinct { IfOk result (λ p. HasDistinctPlaces (program_tree p)) }
+{
+    match parse(alloc, tokens) {
+        Ok(program) => Ok(program),
+        Err(error) => Err(CompileError::Tree(error)),
+    }
+}
+
+/// The checked program of a text.
+fn checked_program(alloc: Global, text: &str) -> Result<Checked, CompileError>
+    ensures program { IfOk result (IsProgramOf text.now) }
+    ensures distinct { IfOk result Distinct }
+{
+    let tokens = tokens_of(alloc, text)?;
+    let program = program_of(alloc, tokens.as_slice())?;
     match check(program) {
         Ok(checked) => Ok(checked),
         Err(error) => Err(CompileError::Check(error.cause)),
@@ -55,7 +95,11 @@ fn checked_program(alloc: Global, text: &str) -> Result<Checked, CompileError> {
 }
 
 /// The program of a text, and its graph.
-pub fn compile(alloc: Global, text: &str) -> Result<Compiled, CompileError> {
+pub fn compile(alloc: Global, text: &str) -> Result<Compiled, CompileError>
+    ensures program { IfOk result (λ c. IsProgramOf text.now c.checked) }
+    ensures distinct { IfOk result (λ c. Distinct c.checked) }
+    ensures graph { IfOk result (λ c. Schemas c.checked c.valid) }
+{
     let checked = checked_program(alloc, text)?;
     let graph = id_build::build(alloc, &checked).map_err(build_error)?;
     match validate(alloc, graph) {
