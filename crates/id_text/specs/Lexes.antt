@@ -26,11 +26,7 @@ pub record HasLongestSign (text : List ℕ) (s : Symbol) : Type 0 where
   pub stands : HasSign text s
   pub longest : (t : Symbol) → HasSign text t → length (sign_of t) ≤ length (sign_of s)
 
--- the text's first bytes are those of the sign, which has so many
-abbrev pub HasSignOf : ℕ → List ℕ → Symbol → Type 0
-HasSignOf n text s = HasSign text s × (length (sign_of s) ≡ n)
-
--- at its front the text has a token of this kind, or a gap where there is none, of so many bytes
+-- the text begins with a token of this kind, or with a gap where there is no kind, of so many bytes
 pub data Begins : List ℕ → Option TokenKind → ℕ → Type 0 where
   blank : {text : List ℕ} → Opens is_blank text → Begins text None 1
   comment : {text : List ℕ} → Opens is_percent text → Begins text None (prefix_len is_comment_byte text)
@@ -42,11 +38,11 @@ pub data Begins : List ℕ → Option TokenKind → ℕ → Type 0 where
       Begins text (Some (Number (pos (number_of (take_while is_ascii_digit text))))) (prefix_len is_ascii_digit text)
   sign : {text : List ℕ} (s : Symbol) → HasLongestSign text s → Begins text (Some (Sign s)) (length (sign_of s))
 
--- at its front the text has a number of 2 ^ 63 or more
+-- the text begins with a number of 2 ^ 63 or more
 abbrev pub BeginsLarge : List ℕ → Type 0
 BeginsLarge text = Opens is_ascii_digit text × (2 ^ 63 ≤ number_of (take_while is_ascii_digit text))
 
--- the text's first byte begins no token and no gap
+-- the text begins with no token, gap or number
 abbrev pub BeginsNothing : List ℕ → Type 0
 BeginsNothing text = Opens is_other text × ((s : Symbol) → ¬ (HasSign text s))
 
@@ -75,6 +71,12 @@ IsRefusal text TooLong = MAX_BYTES < length text
 IsRefusal text (BadByte at) = (ts : List Token) × Lexes 0 text ts (Refused (BadByte at))
 IsRefusal text (NumberTooLarge at) = (ts : List Token) × Lexes 0 text ts (Refused (NumberTooLarge at))
 IsRefusal text Memory = Unit {0}
+
+-- For use inside.
+
+-- the text's first bytes are those of the sign, which has so many
+abbrev pub HasSignOf : ℕ → List ℕ → Symbol → Type 0
+HasSignOf n text s = HasSign text s × (length (sign_of s) ≡ n)
 
 -- the piece at the front of a text is refused so, where its first byte has this place
 abbrev pub IsRefusedAt : ℕ → List ℕ → TextError → Type 0

@@ -2,7 +2,7 @@
 //!
 //! Keeps: nothing beyond its values.
 //! Errors: `TextError`, the refusals 1 to 3 or want of memory.
-//! Read first: `token`, then `specs/Tokens.antt`.
+//! Read first: `token`, then `specs/Lexes.antt`, then `lex`.
 //! Not here: which tokens make a program (`id_tree`).
 #![tactic(auto)]
 
