@@ -6,8 +6,10 @@
 //! Not here: what an operator does (`id_ops`), matching (`id_match`), which graphs are sound (`id_valid`).
 #![tactic(auto)]
 
+mod element;
 mod history;
 mod step;
 
+pub use element::Element;
 pub use history::{Event, Events};
 pub use step::{Fault, Step, TakeError};
