@@ -1,11 +1,11 @@
 -- The waiting-matching store (docs/MACHINE.md, "The waiting-matching store").
-use Rattle.std.specs.Prelude.{◌&&◌, if◌then◌else◌, Option, Some, None, List, map}
+use Rattle.std.specs.Prelude.{if◌then◌else◌, Option, Some, None, List, map}
 use Rattle.std.specs.FinMap.{FinMap, get, insert, remove, entries}
 use Rattle.id_graph.specs.declared.dests.Port.{Port}
 use Rattle.id_graph.specs.declared.dests.Port.TheVariants.{Zero, One}
 use Rattle.id_tag.specs.declared.Tag.{Tag}
 use Rattle.id_tag.specs.declared.Value.{Value}
-use Rattle.id_tag.specs.Tags.{tag_cmp, same_tag}
+use Rattle.id_tag.specs.Tags.{tag_cmp}
 use Rattle.id_match.specs.declared.Half.{Half}
 use Rattle.id_match.specs.declared.Entry.{Entry}
 use Rattle.id_match.specs.declared.Offered.{Offered}

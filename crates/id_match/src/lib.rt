@@ -6,10 +6,14 @@
 //! Not here: which operators have two ports (`id_graph`), firing (`id_ops`).
 #![tactic(auto)]
 
-ghost use Rattle.std.specs.Prelude.{◌≡◌, IfOk, OnOk, OnErr};
+ghost use Rattle.std.specs.Prelude.{◌≡◌, false, None, IfOk, OnOk, OnErr};
 ghost use Rattle.std.specs.FinMap as map;
+ghost use Rattle.std.specs.HashMap as hash;
+ghost use Rattle.id_tag.specs.Tags.{same_tag};
+ghost use Rattle.id_tag.specs.declared.Tag.{Tag};
 ghost use Rattle.id_match.specs.declared.Offered.TheVariants.{Kept};
 ghost use Rattle.id_match.specs.Waiting.{pair_of};
+ghost use Rattle.id_match.specs.Halves.{answer_at, half_after};
 
 use id_graph::Port;
 use id_tag::{Tag, Value};
@@ -78,22 +82,12 @@ impl Waiting {
     /// Offers a value to a port of a tag: it is kept until the value of the other port comes, and then
     /// both leave. Memory is wanted only where the value is kept; after an error nothing has changed.
     pub fn offer(&mut self, tag: Tag, port: Port, value: Value) -> Result<Offered, AllocError>
-        ensures { OnErr result (self.new ≡ self.old) }
+        ensures answer { IfOk result (λ answer. answer ≡ offer_answer self.old tag port value) }
+        ensures after { OnOk result (self.new ≡ offer_after self.old tag port value) }
+        ensures grows { OnErr result (offer_answer self.old tag port value ≡ Kept) }
+        ensures err { OnErr result (self.new ≡ self.old) }
     {
-        match self.halves.entry(tag)? {
-            Place::Vacant(place) => {
-                place.insert(Half { port, value });
-                Ok(Offered::Kept)
-            }
-            Place::Occupied(place) => {
-                let half = *place.get();
-                if half.port == port {
-                    return Ok(Offered::Taken);
-                }
-                place.remove();
-                Ok(pair(port, value, half.value))
-            }
-        }
+        offer_to(&mut self.halves, tag, port, value)
     }
 
     /// How many values wait. Takes no memory.
@@ -106,6 +100,35 @@ impl Waiting {
         let mut entries: Vec<Entry> = self.halves.iter().map(entry_of).collect(alloc)?;
         entries.sort_unstable_by_key(|e| e.tag);
         Ok(entries)
+    }
+}
+
+// An offer in one look-up: room is made where the tag is new, and only there.
+fn offer_to(
+    halves: &mut HashMap<Tag, Half>,
+    tag: Tag,
+    port: Port,
+    value: Value,
+) -> Result<Offered, AllocError>
+    ensures answer { IfOk result (λ answer. answer ≡ answer_at (hash.get same_tag halves.old tag) port value) }
+    ensures at { OnOk result (hash.get same_tag halves.new tag ≡ half_after (hash.get same_tag halves.old tag) port value) }
+    ensures others { OnOk result ((t : Tag) → same_tag tag t ≡ false → hash.get same_tag halves.new t ≡ hash.get same_tag halves.old t) }
+    ensures grows { OnErr result (hash.get same_tag halves.old tag ≡ None) }
+    ensures err { OnErr result (hash.IsUnchanged halves.old halves.new) }
+{
+    match halves.entry(tag)? {
+        Place::Vacant(place) => {
+            place.insert(Half { port, value });
+            Ok(Offered::Kept)
+        }
+        Place::Occupied(place) => {
+            let half = *place.get();
+            if half.port == port {
+                return Ok(Offered::Taken);
+            }
+            place.remove();
+            Ok(pair(port, value, half.value))
+        }
     }
 }
 
