@@ -1,1 +1,2 @@
 pub mod EventsLemmas
+pub mod StepsLemmas

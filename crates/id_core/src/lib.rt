@@ -8,6 +8,7 @@
 
 mod element;
 mod history;
+mod outcome;
 mod step;
 
 pub use element::Element;
