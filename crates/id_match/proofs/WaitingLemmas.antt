@@ -3,16 +3,14 @@ use Rattle.std.proofs.Common.{◌≡◌, Bool, true, false, cond, List, [], ◌�
 use Rattle.std.specs.FinMap.{get, find, from_entries, get-from_entries, get-insert, get-remove, get_tied, same_map}
 use Rattle.std.specs.Map.{lookup}
 use Rattle.std.specs.Cmp.{eq_by_cmp_equiv}
-use Rattle.std.specs.Ordering.{eq_by_cmp, is_eq}
-use Rattle.std.specs.declared.cmp.Ordering.{Ordering}
-use Rattle.std.specs.declared.cmp.Ordering.TheVariants.{Less, Equal, Greater}
+use Rattle.std.specs.Ordering.{eq_by_cmp}
 use Rattle.std.specs.declared.alloc.AllocError.{AllocError}
 use Rattle.id_graph.specs.declared.dests.Port.{Port}
 use Rattle.id_graph.specs.declared.dests.Port.TheVariants.{Zero, One}
 use Rattle.id_tag.specs.declared.Tag.{Tag}
 use Rattle.id_tag.specs.declared.Value.{Value}
 use Rattle.id_tag.specs.Tags.{tag_cmp, same_tag}
-use Rattle.id_tag.proofs.TagsLemmas.{tags_total, exact_tags, ties-same_tag}
+use Rattle.id_tag.proofs.TagsLemmas.{tags_total, exact_tags, ties-same_tag, ties_from_same_tag}
 use Rattle.id_match.specs.declared.Half.{Half}
 use Rattle.id_match.specs.declared.Offered.{Offered}
 use Rattle.id_match.specs.declared.Offered.TheVariants.{Kept, Taken}
@@ -20,7 +18,8 @@ use Rattle.id_match.specs.Ports.{other_port, same_port}
 use Rattle.id_match.specs.Halves.{answer_at, half_after}
 use Rattle.id_match.specs.Waiting.{Store, at_port, pair_of, answer_of, offer_answer, store_after, offer_after}
 
-find_half : (es : List (Tag × Half)) (t : Tag) → find tag_cmp t es ≡ lookup (same_tag t) es
+-- the search of a store's entries is that of a map's
+pub find_half : (es : List (Tag × Half)) (t : Tag) → find tag_cmp t es ≡ lookup (same_tag t) es
 find_half [] t = refl
 find_half (e ∷ es) t =
     ap (λ b. cond b (Some e.1) (find tag_cmp t es)) (ties-same_tag t e.0)
@@ -29,12 +28,6 @@ find_half (e ∷ es) t =
 -- what the store that the entries make has at a tag
 pub get_half : (es : List (Tag × Half)) (t : Tag) → get (from_entries {R = tag_cmp} es) t ≡ lookup (same_tag t) es
 get_half es t = get-from_entries tags_total es t ∙ find_half es t
-
--- tags that pass the test tie
-tied : (r : Ordering) → is_eq r ≡ true → r ≡ Equal
-tied Less e = cc
-tied Equal e = refl
-tied Greater e = cc
 
 -- the test that the map makes, the other way round
 turned : (t u : Tag) → eq_by_cmp tag_cmp u t ≡ same_tag t u
@@ -53,8 +46,8 @@ answer_of-at_port None p v = refl
 answer_of-at_port (Some h) p v = answered h.port h.value p v
 
 -- a store has at t what it has at each tag that is t
-still : (s : Store) (t u : Tag) (b : Bool) → same_tag t u ≡ b → get s u ≡ cond b (get s t) (get s u)
-still s t u true e = get_tied tags_total s t u (tied _ (ties-same_tag t u ∙ e))
+pub still : (s : Store) (t u : Tag) (b : Bool) → same_tag t u ≡ b → get s u ≡ cond b (get s t) (get s u)
+still s t u true e = get_tied tags_total s t u (ties_from_same_tag t u e)
 still s t u false e = refl
 
 removed : (s : Store) (t : Tag) (p : Port) (v w : Value) (u : Tag) → get (store_after s t p v (pair_of p v w)) u ≡ cond (same_tag t u) None (get s u)
@@ -81,7 +74,7 @@ get-offer_after s t p v u =
 
 joined : (t u : Tag) (b : Bool) → same_tag t u ≡ b → (s r : Store) (o : Option Half) → get r t ≡ o
     → ((w : Tag) → same_tag t w ≡ false → get r w ≡ get s w) → get r u ≡ cond b o (get s u)
-joined t u true e s r o here others = get_tied tags_total r t u (tied _ (ties-same_tag t u ∙ e)) ∙ here
+joined t u true e s r o here others = get_tied tags_total r t u (ties_from_same_tag t u e) ∙ here
 joined t u false e s r o here others = others u e
 
 -- a store that has what an offer leaves, at its tag and at the others, is the store after it

@@ -1,5 +1,6 @@
 pub mod Ports
 pub mod Waiting
+pub mod Keyed
 -- for models that hold a store
 pub mod Codes
 -- for use inside
