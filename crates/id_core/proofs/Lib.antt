@@ -1,2 +1,6 @@
 pub mod EventsLemmas
 pub mod StepsLemmas
+pub mod ReplaysLemmas
+pub mod FitsLemmas
+pub mod SentLemmas
+pub mod OutcomeLemmas

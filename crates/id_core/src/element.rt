@@ -18,7 +18,6 @@ pub struct Element<'a> {
 impl<'a> Model for Element<'a> {
     ghost use Rattle.std.specs.Prelude.{◌≡◌};
     ghost use Rattle.id_core.specs.Replays.{ElementView};
-
     ghost use Rattle.std.specs.Coded.{codes};
     ghost use Rattle.id_match.specs.Codes.{coded_store};
 
@@ -27,9 +26,9 @@ impl<'a> Model for Element<'a> {
     ghost coded = { Prim.hlevel (codes, coded_store) };
 
     ghost view = { λ e. record {
-        number = e.number;
-        count = e.count;
-        graph = e.graph.now;
-        state = record { waiting = e.waiting; stamp = e.stamp; events = e.log.events };
+      number = e.number;
+      count = e.count;
+      graph = e.graph.now;
+      state = record { waiting = e.waiting; stamp = e.stamp; events = e.log.events };
     } };
 }

@@ -8,7 +8,7 @@ ghost use Rattle.id_core.specs.Firings.{firing_of, verdict_of};
 use crate::step::{Arrival, TakeError, Verdict};
 use id_graph::{Dest, Instr, Op, Port};
 use id_match::{Offered, Waiting};
-use id_ops::{fire, Fired, Fresh, Operands};
+use id_ops::{Fired, Fresh, Operands, fire};
 use id_tag::{Context, Message, Payload, Sender, Tag, Value};
 use std::alloc::AllocError;
 
@@ -97,14 +97,28 @@ pub(crate) struct Envelope {
 }
 
 /// Appends the outputs of a firing, for which there is room. Takes no memory.
-pub(crate) fn send(dests: &[Dest], tag: Tag, fired: Fired, envelope: Envelope, outputs: &mut Vec<Message>)
+pub(crate) fn send(
+    dests: &[Dest],
+    tag: Tag,
+    fired: Fired,
+    envelope: Envelope,
+    outputs: &mut Vec<Message>,
+)
     requires { vec_len outputs.old + max (length dests.now) 1 ≤ vec_capacity outputs.old }
     ensures { outputs.new.items ≡ outputs.old.items ++ numbered envelope.number envelope.position envelope.stamp 0 (sent dests.now tag fired) }
 {
     match fired {
         Fired::Out(value) => send_all(dests, tag, value, envelope, outputs),
         Fired::Sent(target, value) => {
-            outputs.push_reserved(message(envelope, 0, Payload::Token { tag: target, port: Port::Zero, value }));
+            outputs.push_reserved(message(
+                envelope,
+                0,
+                Payload::Token {
+                    tag: target,
+                    port: Port::Zero,
+                    value,
+                },
+            ));
         }
         Fired::Failed(_) | Fired::Nothing => {}
     }
@@ -123,8 +137,15 @@ fn send_all(dests: &[Dest], tag: Tag, value: Value, envelope: Envelope, outputs:
 fn token_to(tag: Tag, value: Value, dest: Dest) -> Payload
     ensures { result ≡ token_to tag value dest }
 {
-    let tag = Tag { instr: dest.instr, ..tag };
-    Payload::Token { tag, port: dest.port, value }
+    let tag = Tag {
+        instr: dest.instr,
+        ..tag
+    };
+    Payload::Token {
+        tag,
+        port: dest.port,
+        value,
+    }
 }
 
 fn message(envelope: Envelope, number: usize, payload: Payload) -> Message

@@ -1,5 +1,5 @@
 -- One more destination has one more token, with the next number.
-use Rattle.std.proofs.Common.{◌≡◌, ◌++◌, append_assoc, arith}
+use Rattle.std.proofs.Common.{append_assoc, arith}
 use Rattle.id_core.proofs.StepsLemmas.{numbered-more}
 use Rattle.id_core.proofs.outcome.send_all.Goals as goal
 
