@@ -4,3 +4,4 @@ pub mod ReplaysLemmas
 pub mod FitsLemmas
 pub mod SentLemmas
 pub mod OutcomeLemmas
+pub mod FiringsLemmas

@@ -166,7 +166,7 @@ fired_fits g stamp t (Merge k) o fresh is fits = merge_fits g stamp t k o is fit
 fired_fits g stamp t (Back k) o fresh is fits = back_fits g stamp t k o is fits
 
 -- a token of the kind that the instruction sends fits at each of its destinations
-token_fits : (g : Parts) (stamp : ℕ) (t : Tag) (i : Instr) (v : Value) → t.iteration ≤ stamp → sends i.op ≡ Some (kind_of v) → IsPlain v → (d : Dest) → IsTaken g.instrs i d → PayloadFits g stamp (token_to t v d)
+token_fits : (g : Parts) (stamp : ℕ) (t : Tag) (i : Instr) (v : Value) → t.iteration ≤ stamp → sends i.op ≡ Some (kind_of v) → IsPlain v → (d : Dest) → IsTaken g.instrs i.op d → PayloadFits g stamp (token_to t v d)
 token_fits g stamp t i v in_time kinds plain d taken = record {
   kind = let P : Option PortKind → Type 0 = λ k. IsSomeAnd k (λ k. kind_at g.instrs d ≡ Some k) in subst P kinds taken;
   in_time = in_time;
@@ -174,10 +174,10 @@ token_fits g stamp t i v in_time kinds plain d taken = record {
 }
 
 -- what is sent fits
-pub sent_fits : (g : Parts) (stamp : ℕ) (t : Tag) (i : Instr) (f : Fired) → t.iteration ≤ stamp → All (IsTaken g.instrs i) i.dests → FiredFits g stamp (sends i.op) f → All (PayloadFits g stamp) (sent i.dests t f)
+pub sent_fits : (g : Parts) (stamp : ℕ) (t : Tag) (i : Instr) (f : Fired) → t.iteration ≤ stamp → All (IsTaken g.instrs i.op) i.dests → FiredFits g stamp (sends i.op) f → All (PayloadFits g stamp) (sent i.dests t f)
 sent_fits g stamp t i (Out v) in_time taken fits =
     All-map (PayloadFits g stamp) (token_to t v) i.dests
-    (All-weaker (IsTaken g.instrs i) (λ d. PayloadFits g stamp (token_to t v d)) (token_fits g stamp t i v in_time fits.0 fits.1) i.dests taken)
+    (All-weaker (IsTaken g.instrs i.op) (λ d. PayloadFits g stamp (token_to t v d)) (token_fits g stamp t i v in_time fits.0 fits.1) i.dests taken)
 sent_fits g stamp t i (Sent u v) in_time taken fits = All-cons (PayloadFits g stamp) _ [] fits (All-nil (PayloadFits g stamp))
 sent_fits g stamp t i (Failed f) in_time taken fits = All-nil (PayloadFits g stamp)
 sent_fits g stamp t i Nothing in_time taken fits = All-nil (PayloadFits g stamp)

@@ -6,6 +6,7 @@
 //! Not here: what an operator does (`id_ops`), matching (`id_match`), which graphs are sound (`id_valid`).
 #![tactic(auto)]
 
+mod desk;
 mod element;
 mod history;
 mod outcome;

@@ -1,8 +1,10 @@
 //! What a token does at its instruction, and what is sent for it (docs/MACHINE.md, "Element step").
 
-ghost use Rattle.std.specs.Prelude.{◌≡◌, ◌+◌, ◌-◌, ◌^◌, ◌<◌, ◌≤◌, ◌++◌, ◌||◌, ◌==◌, length, max, vec_len, vec_capacity, IfOk, OnOk, OnErr, IfErr, IsTrue, false, map};
-ghost use Rattle.id_core.specs.Steps.{arrival, waiting_after, fresh_numbers, sent, numbered, token_to};
+ghost use Rattle.std.specs.Prelude.{Some, ◌≡◌, ◌+◌, ◌-◌, ◌^◌, ◌<◌, ◌≤◌, ◌++◌, ◌||◌, ◌==◌, length, max, vec_len, vec_capacity, IfOk, OnOk, OnErr, IfErr, IsTrue, false, map};
+ghost use Rattle.id_core.specs.Steps.{at_instr, arrival, waiting_after, fresh_numbers, sent, numbered, token_to};
 ghost use Rattle.id_tag.specs.declared.Sender.TheVariants.{Element};
+ghost use Rattle.id_tag.specs.declared.Payload.TheVariants.{Token};
+ghost use Rattle.id_core.specs.Events.{full_step};
 ghost use Rattle.id_core.specs.Firings.{firing_of, verdict_of};
 
 use crate::step::{Arrival, TakeError, Verdict};
@@ -15,6 +17,7 @@ use std::alloc::AllocError;
 /// The stamp of the next event, one above both, where there is one.
 pub(crate) fn next_stamp(last: u64, message: u64) -> Result<u64, TakeError>
     ensures ok { IfOk result (λ stamp. stamp ≡ max last message + 1) }
+    ensures below { OnOk result (message < 2 ^ 64 - 1) }
     ensures left { OnOk result ((last == 2 ^ 64 - 1) || (message == 2 ^ 64 - 1) ≡ false) }
     ensures end { IfErr result (λ e. (e ≡ TakeError.StampEnd) × IsTrue ((last == 2 ^ 64 - 1) || (message == 2 ^ 64 - 1))) }
 {
@@ -31,8 +34,34 @@ pub(crate) fn most_sent(instr: &Instr) -> usize
     instr.dests.as_slice().len().max(1)
 }
 
+/// What an instruction makes of a token: what it fires, and what the record keeps of the event.
+#[derive(Clone, Copy, Debug)]
+pub(crate) struct Reaction {
+    pub(crate) fired: Fired,
+    pub(crate) verdict: Verdict,
+}
+
+/// Lets a token come to its instruction, at the element of this number. After an error nothing has changed.
+pub(crate) fn react(
+    waiting: &mut Waiting,
+    instr: &Instr,
+    number: u32,
+    tag: Tag,
+    port: Port,
+    value: Value,
+) -> Result<Reaction, AllocError>
+    ensures outcome { IfOk result (λ r. at_instr number waiting.old tag port value (Some instr.now)
+        ≡ record { sends = sent instr.now.dests tag r.fired; step = full_step (Token tag port value) r.verdict; waiting = waiting.new }) }
+    ensures err { OnErr result (waiting.new ≡ waiting.old) }
+{
+    let arrival = arrive(waiting, instr.op, tag, port, value)?;
+    let fired = firing(instr, tag, number, arrival);
+    let verdict = verdict(arrival, fired);
+    Ok(Reaction { fired, verdict })
+}
+
 /// Fires an instruction of one port, and offers a token for one of two ports. After an error nothing has changed.
-pub(crate) fn arrive(
+fn arrive(
     waiting: &mut Waiting,
     op: Op,
     tag: Tag,
@@ -54,7 +83,7 @@ pub(crate) fn arrive(
 }
 
 /// What the instruction does with what arrived: nothing where the token waits or is blocked.
-pub(crate) fn firing(instr: &Instr, tag: Tag, number: u32, arrival: Arrival) -> Fired
+fn firing(instr: &Instr, tag: Tag, number: u32, arrival: Arrival) -> Fired
     ensures { result ≡ firing_of instr.now tag number arrival }
 {
     match arrival {
@@ -78,7 +107,7 @@ fn fresh_numbers(number: u32) -> Fresh
 }
 
 /// What the record keeps of an event.
-pub(crate) fn verdict(arrival: Arrival, fired: Fired) -> Verdict
+fn verdict(arrival: Arrival, fired: Fired) -> Verdict
     ensures { result ≡ verdict_of arrival fired }
 {
     match (arrival, fired) {
