@@ -8,10 +8,12 @@
 
 mod desk;
 mod element;
+mod fitting;
 mod history;
 mod outcome;
 mod step;
 
 pub use element::Element;
+pub use fitting::fits;
 pub use history::{Event, Events};
 pub use step::{Fault, Step, TakeError};
