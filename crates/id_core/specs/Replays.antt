@@ -1,12 +1,12 @@
 -- The record of an element leads to its state (docs/MACHINE.md, "The record").
-use Rattle.std.specs.Prelude.{◌≡◌, ◌<◌, ◌-◌, ◌^◌, ℕ, Some, List, [], ◌∷◌, map, All}
+use Rattle.std.specs.Prelude.{◌≡◌, ◌↔◌, Bool, IsTrue, ◌<◌, ◌-◌, ◌^◌, ℕ, Some, List, [], ◌∷◌, map, All}
 use Rattle.id_graph.specs.declared.dests.Port.{Port}
 use Rattle.id_tag.specs.declared.Tag.{Tag}
 use Rattle.id_tag.specs.declared.Value.{Value}
 use Rattle.id_tag.specs.declared.Message.{Message}
 use Rattle.id_match.specs.Waiting.{waits}
 use Rattle.id_graph.specs.Graph.{Parts}
-use Rattle.id_core.specs.Events.{EventView}
+use Rattle.id_core.specs.Events.{EventView, AllWent}
 use Rattle.id_core.specs.Fits.{TokenFits, IsFor}
 use Rattle.id_core.specs.Steps.{State, fresh, state_after}
 
@@ -44,3 +44,8 @@ pub record Replays (e : ElementView) : Type 0 where
   pub state : IsReplayed e.graph e.number e.state
   pub legal : All (IsLegal e.graph e.count e.number) e.state.events
   pub waiting : WaitingFits e.graph e.state
+
+-- what an element keeps beside its state: its record replays, and a flag says whether every event went well
+pub record IsKept (e : ElementView) (went : Bool) : Type 0 where
+  pub replays : Replays e
+  pub went_is : IsTrue went ↔ AllWent e.state.events

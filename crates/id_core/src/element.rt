@@ -1,5 +1,8 @@
 //! An element: what waits at it, its last stamp and its record (docs/MACHINE.md, "Element step").
 
+ghost use Rattle.std.specs.Prelude.{◌≡◌, ◌↔◌, IsTrue};
+ghost use Rattle.id_core.specs.declared.step.Step.TheVariants.{Went};
+
 use crate::desk::Desk;
 use crate::history::Events;
 use crate::step::{Step, TakeError};
@@ -14,12 +17,13 @@ pub struct Element<'a> {
     count: u32,
     graph: &'a Valid,
     desk: Desk,
+    went: bool,
 }
 
 impl<'a> Model for Element<'a> {
     ghost use Rattle.std.specs.Coded.{codes};
     ghost use Rattle.id_match.specs.Codes.{coded_store};
-    ghost use Rattle.id_core.specs.Replays.{ElementView, Replays};
+    ghost use Rattle.id_core.specs.Replays.{ElementView, IsKept};
     ghost use Rattle.id_core.specs.Desks.{state_of};
 
     ghost Value = { ElementView };
@@ -33,17 +37,18 @@ impl<'a> Model for Element<'a> {
       state = state_of e.desk;
     } };
 
-    ghost invariant = { λ e. Replays (record {
+    ghost invariant = { λ e. IsKept (record {
       number = e.desk.log.element;
       count = e.count;
       graph = e.graph.now;
       state = state_of e.desk;
-    }) };
+    }) e.went };
 }
 
 impl<'a> Element<'a> {
     ghost use Rattle.std.specs.Prelude.{◌≡◌, ◌<◌, ◌≤◌, ◌++◌, ◌↔◌, All, IfOk, OnOk, OnErr, IsTrue};
     ghost use Rattle.id_core.specs.declared.step.TakeError.TheVariants.{StampEnd};
+    ghost use Rattle.id_core.specs.Events.{AllWent};
     ghost use Rattle.id_core.specs.Fits.{Fits, IsFor};
     ghost use Rattle.id_core.specs.Steps.{fresh, is_ended, step_of, outputs_of, state_after};
 
@@ -58,6 +63,7 @@ impl<'a> Element<'a> {
             count,
             graph,
             desk: Desk::new(alloc, number),
+            went: true,
         }
     }
 
@@ -78,7 +84,15 @@ impl<'a> Element<'a> {
         ensures err_outputs { OnErr result (outputs.new.items ≡ outputs.old.items) }
     {
         let step = self.desk.take(self.graph.graph(), message, outputs)?;
+        self.went = still_went(self.went, step);
         Ok(step)
+    }
+
+    /// Whether no event was a fault or `Stuck`. Takes no memory.
+    pub(crate) fn all_went(&self) -> bool
+        ensures { IsTrue result ↔ AllWent self.now.state.events }
+    {
+        self.went
     }
 
     /// The record: the events, in order. Takes no memory.
@@ -87,4 +101,11 @@ impl<'a> Element<'a> {
     {
         self.desk.log.events()
     }
+}
+
+/// Whether every event went well, this one taken in.
+fn still_went(went: bool, step: Step) -> bool
+    ensures { IsTrue result ↔ (IsTrue went × (step ≡ Went)) }
+{
+    went && step == Step::Went
 }

@@ -69,8 +69,8 @@ impl<'a> Model for Events<'a> {
 }
 
 impl Record {
-    ghost use Rattle.std.specs.Prelude.{◌≡◌, ◌<◌, ◌≤◌, ◌-◌, ◌++◌, ◌∷◌, [], length, OnOk, OnErr};
-    ghost use Rattle.id_core.specs.Events.{EventView, full_step};
+    ghost use Rattle.std.specs.Prelude.{◌≡◌, ◌<◌, ◌≤◌, ◌++◌, ◌∷◌, [], length, OnOk};
+    ghost use Rattle.id_core.specs.Events.{full_step};
 
     /// The empty record of the element of this number. Takes no memory.
     pub(crate) fn new(alloc: Global, element: u32) -> Record

@@ -10,10 +10,12 @@ mod desk;
 mod element;
 mod fitting;
 mod history;
+mod machine;
 mod outcome;
 mod step;
 
 pub use element::Element;
 pub use fitting::fits;
 pub use history::{Event, Events};
+pub use machine::{Machine, MachineError, MAX_ELEMENTS};
 pub use step::{Fault, Step, TakeError};
