@@ -5,3 +5,4 @@ pub mod FitsLemmas
 pub mod SentLemmas
 pub mod OutcomeLemmas
 pub mod FiringsLemmas
+pub mod MachinesLemmas

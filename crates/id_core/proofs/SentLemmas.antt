@@ -114,7 +114,7 @@ plain_fits g stamp t p (value.Bool b) h = tt
 plain_fits g stamp t p (value.Continuation u) h = absurd h
 
 -- the kind at a port of an instruction is that of its operator
-kind_at_op : (g : Parts) (n : ℕ) (p : Port) (op : Op) → op_at g n ≡ Some op → kind_at g.instrs (record { instr = n; port = p }) ≡ port_kind op p
+pub kind_at_op : (g : Parts) (n : ℕ) (p : Port) (op : Op) → op_at g n ≡ Some op → kind_at g.instrs (record { instr = n; port = p }) ≡ port_kind op p
 kind_at_op g n p op is = at (slice_get g.instrs n) is
   where
     at : (o : Option Instr) → option_map (λ i. i.op) o ≡ Some op → option_and_then (λ i. port_kind i.op p) o ≡ port_kind op p

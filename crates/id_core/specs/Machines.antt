@@ -12,10 +12,10 @@ use Rattle.id_tag.specs.declared.Payload.TheVariants.{Token}
 use Rattle.id_tag.specs.declared.Message.{Message}
 use Rattle.id_tag.specs.Routes.{route_of}
 use Rattle.id_valid.specs.Roles.{has_main_place}
-use Rattle.id_core.specs.Events.{AllWent}
+use Rattle.id_core.specs.Events.{EventView, AllWent}
 use Rattle.id_core.specs.Fits.{Fits}
 use Rattle.id_core.specs.Replays.{ElementView}
-use Rattle.id_core.specs.Steps.{State, fresh, is_ended, outputs_of, state_after}
+use Rattle.id_core.specs.Steps.{State, fresh, is_ended, outputs_of, event_of, state_after}
 
 -- the states of the elements, in order of their numbers, and the messages in flight
 pub record World : Type 0 where
@@ -64,6 +64,20 @@ routed_to g count k s (Some m) = given_to g k s m (route_of m.payload count) (sl
 -- the machine of so many elements after the message at position k was delivered
 abbrev pub delivered : Parts → ℕ → World → ℕ → World
 delivered g count s k = routed_to g count k s (slice_get s.flight k)
+
+-- the event of the element n in its state on the message: none where there is no such element, or no stamp is left
+abbrev pub event_of_given : Parts → ℕ → Message → Option State → Option EventView
+event_of_given g n m None = None
+event_of_given g n m (Some e) = if is_ended e m then None else Some (event_of g n e m)
+
+-- the event of the element that the message is for
+abbrev pub event_of_routed : Parts → ℕ → World → Option Message → Option EventView
+event_of_routed g count s None = None
+event_of_routed g count s (Some m) = event_of_given g (route_of m.payload count) m (slice_get s.elements (route_of m.payload count))
+
+-- the event that delivering the message at position k makes, if that is possible
+abbrev pub event_at : Parts → ℕ → World → ℕ → Option EventView
+event_at g count s k = event_of_routed g count s (slice_get s.flight k)
 
 -- the machine after deliveries at these positions, one after another
 abbrev pub run : Parts → ℕ → List ℕ → World → World

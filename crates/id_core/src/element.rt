@@ -88,6 +88,13 @@ impl<'a> Element<'a> {
         Ok(step)
     }
 
+    /// Whether no stamp is left for the message. Takes no memory.
+    pub(crate) fn is_ended(&self, message: &Message) -> bool
+        ensures { result ≡ is_ended self.now.state message.now }
+    {
+        self.desk.stamp == u64::MAX || message.stamp == u64::MAX
+    }
+
     /// Whether no event was a fault or `Stuck`. Takes no memory.
     pub(crate) fn all_went(&self) -> bool
         ensures { IsTrue result ↔ AllWent self.now.state.events }

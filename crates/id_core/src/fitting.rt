@@ -8,7 +8,7 @@ ghost use Rattle.id_tag.specs.Kinds.{kind_of};
 ghost use Rattle.id_valid.specs.Roles.{is_second, op_at};
 ghost use Rattle.id_core.specs.Fits.{Fits, TokenFits, ContinuationFits, TakesReturn};
 
-use id_graph::{kind_at, Dest, Graph, Op, Port};
+use id_graph::{Dest, Graph, Op, Port, kind_at};
 use id_tag::{Message, Payload, Tag, Value};
 use id_valid::Valid;
 
@@ -84,7 +84,10 @@ fn back_meets_merge(back: Option<Op>, target: Option<Op>) -> bool
 fn is_second(graph: &Graph, number: u32) -> bool
     ensures { result ≡ is_second graph.now number }
 {
-    graph.blocks().iter().any(|block| u64::from(block.first) + 1 == u64::from(number))
+    graph
+        .blocks()
+        .iter()
+        .any(|block| u64::from(block.first) + 1 == u64::from(number))
 }
 
 /// What the instruction of this number does, if there is one.

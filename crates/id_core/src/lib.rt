@@ -17,5 +17,5 @@ mod step;
 pub use element::Element;
 pub use fitting::fits;
 pub use history::{Event, Events};
-pub use machine::{Machine, MachineError, MAX_ELEMENTS};
+pub use machine::{MAX_ELEMENTS, Machine, MachineError};
 pub use step::{Fault, Step, TakeError};

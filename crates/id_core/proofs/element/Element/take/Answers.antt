@@ -18,7 +18,7 @@ invariant_of-self-2 c =
     let stepped : state_of c.take.new.self ≡ state_after c.self.inside.graph.now c.self.inside.desk.log.element (state_of c.self.inside.desk) c.args.message =
     c.in_ok-step.ensures.state ∙ ap (λ g. state_after g c.self.inside.desk.log.element (state_of c.self.inside.desk) c.args.message) c.graph.ensures.value in
     let goes : IsTrue c.still_went-self-inside.result ↔ (IsTrue c.self.inside.went × (step_of c.self.inside.graph.now c.self.inside.desk.log.element (state_of c.self.inside.desk) c.args.message ≡ Went)) =
-        rw (← c.graph.ensures.value, ← c.in_ok-step.ensures.step) c.still_went-self-inside.ensures in
+    rw (← c.graph.ensures.value, ← c.in_ok-step.ensures.step) c.still_went-self-inside.ensures in
     rw (stepped, c.in_ok-step.ensures.number) (IsKept-take old c.args.message c.self.inside.went c.still_went-self-inside.result is_for c.in_ok-step.ensures.left goes c.self.invariant)
 
 pub returns-clause-fits : goal.returns-clause-fits
