@@ -6,3 +6,4 @@ pub mod SentLemmas
 pub mod OutcomeLemmas
 pub mod FiringsLemmas
 pub mod MachinesLemmas
+pub mod ObservedLemmas

@@ -9,13 +9,17 @@
 mod desk;
 mod element;
 mod fitting;
+mod flight;
 mod history;
 mod machine;
+mod observe;
 mod outcome;
 mod step;
 
 pub use element::Element;
 pub use fitting::fits;
+pub use flight::Flight;
 pub use history::{Event, Events};
 pub use machine::{MAX_ELEMENTS, Machine, MachineError};
+pub use observe::Observed;
 pub use step::{Fault, Step, TakeError};

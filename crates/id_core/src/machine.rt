@@ -10,6 +10,8 @@ ghost use Rattle.id_core.specs.Steps.{State, fresh, outputs_of};
 ghost use Rattle.id_core.specs.Machines.{AreElements, main_tag, start_message, start_messages};
 
 use crate::element::Element;
+use crate::flight::Flight;
+use crate::observe::{Observed, observe};
 use crate::outcome::most_sent;
 use crate::step::{Step, TakeError};
 use id_graph::{Graph, Port};
@@ -88,6 +90,7 @@ impl<'a> Machine<'a> {
     ghost use Rattle.std.specs.Prelude.{◌≡◌, ◌<◌, ◌↔◌, ◌⊎◌, length, Some, None, option_map, IfOk, OnOk, OnErr, IsTrue};
     ghost use Rattle.id_core.specs.declared.machine.MachineError.TheVariants.{BadElements};
     ghost use Rattle.id_core.specs.declared.step.TakeError.TheVariants.{StampEnd};
+    ghost use Rattle.id_core.specs.Observed.{answer, faults};
     ghost use Rattle.id_core.specs.Machines.{AreElements, IsQuiet, delivered, event_at, start, world_of};
 
     /// The machine of so many elements at its start, with the start messages in flight: a signal to
@@ -140,6 +143,22 @@ impl<'a> Machine<'a> {
         ensures { IsTrue result ↔ IsQuiet self.now.world }
     {
         self.flight.is_empty() && all_went(self.elements.as_slice())
+    }
+
+    /// The messages in flight, in the order in which they were sent. Takes no memory.
+    pub fn in_flight(&self) -> Flight<'_>
+        ensures { result ≡ self.now.world.flight }
+    {
+        Flight::new(&self.flight)
+    }
+
+    /// What the run so far shows: the answer, and the faults.
+    pub fn observe(&self, alloc: Global) -> Result<Observed, AllocError>
+        ensures answer { IfOk result (λ o. o.answer ≡ answer self.now.world) }
+        ensures faults { IfOk result (λ o. o.faults ≡ faults self.now.graph self.now.world) }
+    {
+        let shown = observe(alloc, self.graph, self.elements.as_slice())?;
+        Ok(shown)
     }
 
     /// The elements, in order of their numbers. Takes no memory.
