@@ -1,1 +1,2 @@
 pub mod GraphLemmas
+pub mod ListingLemmas

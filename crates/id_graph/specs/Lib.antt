@@ -1,3 +1,4 @@
 -- What public clauses cite.
 pub mod Ports
 pub mod Graph
+pub mod Listing

@@ -9,7 +9,12 @@
 mod dests;
 mod graph;
 mod instr;
+mod listing;
 
 pub use dests::{Dest, Dests, Port};
 pub use graph::{Graph, GraphCause, GraphError, kind_at};
 pub use instr::{Arithmetic, Block, Constant, Instr, Op, PortKind};
+pub use listing::list;
+
+#[cfg(test)]
+mod tests;

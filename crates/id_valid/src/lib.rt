@@ -13,3 +13,6 @@ mod survey;
 mod valid;
 
 pub use valid::{Invalid, InvalidCause, Valid, validate};
+
+#[cfg(test)]
+mod tests;

@@ -1,0 +1,94 @@
+-- The listing of a graph (docs/GRAPH.md, "Listing").
+use Rattle.std.specs.Prelude.{ℕ, ◌+◌, ◌*◌, true, false, List, [], ◌∷◌, ◌++◌, nat_le, cond, codes}
+use Rattle.std.specs.List.{flat_map}
+use Rattle.std.specs.Fmt.{decimal, signed_decimal}
+use Rattle.id_text.specs.Places.{line_of, column_of}
+use Rattle.id_graph.specs.declared.instr.Instr.{Instr}
+use Rattle.id_graph.specs.declared.instr.Op.{Op}
+use Rattle.id_graph.specs.declared.instr.Op.TheVariants.{Const, Neg, Binary, Merge, Back}
+use Rattle.id_graph.specs.declared.instr.Constant.{Constant}
+use Rattle.id_graph.specs.declared.instr.Constant.TheVariants.{Int as IntConstant, Bool as BoolConstant}
+use Rattle.id_graph.specs.declared.instr.Arithmetic.{Arithmetic}
+use Rattle.id_graph.specs.declared.instr.Arithmetic.TheVariants.{Add, Sub, Mul, Div, Rem}
+use Rattle.id_graph.specs.declared.instr.PortKind.{PortKind}
+use Rattle.id_graph.specs.declared.instr.PortKind.TheVariants.{Signal, Int, Bool as BoolKind, Structure, Address, Context, Continuation}
+use Rattle.id_graph.specs.declared.dests.Dest.{Dest}
+use Rattle.id_graph.specs.declared.dests.Port.{Port}
+use Rattle.id_graph.specs.declared.dests.Port.TheVariants.{Zero, One}
+use Rattle.id_graph.specs.Graph.{Parts, arcs}
+
+-- the name of a kind
+abbrev pub kind_name : PortKind → List ℕ
+kind_name Signal = codes "signal"
+kind_name Int = codes "int"
+kind_name BoolKind = codes "bool"
+kind_name Structure = codes "structure"
+kind_name Address = codes "address"
+kind_name Context = codes "context"
+kind_name Continuation = codes "continuation"
+
+-- the text of a constant
+abbrev pub constant_text : Constant → List ℕ
+constant_text (IntConstant n) = signed_decimal n
+constant_text (BoolConstant true) = codes "true"
+constant_text (BoolConstant false) = codes "false"
+
+-- the name of an operator on two whole numbers
+abbrev pub arithmetic_name : Arithmetic → List ℕ
+arithmetic_name Add = codes "add"
+arithmetic_name Sub = codes "sub"
+arithmetic_name Mul = codes "mul"
+arithmetic_name Div = codes "div"
+arithmetic_name Rem = codes "rem"
+
+-- an operator with its parameters
+abbrev pub op_text : Op → List ℕ
+op_text (Const v) = codes "const " ++ constant_text v
+op_text Neg = codes "neg"
+op_text (Binary f) = arithmetic_name f
+op_text (Merge k) = codes "merge " ++ kind_name k
+op_text (Back k) = codes "back " ++ kind_name k
+
+-- the number of a port
+abbrev pub port_number : Port → ℕ
+port_number Zero = 0
+port_number One = 1
+
+-- destinations are in order by instruction, and then by port
+abbrev pub rank : Dest → ℕ
+rank d = 2 * d.instr + port_number d.port
+
+-- the list with the destination before the first that is not less
+abbrev pub placed : Dest → List Dest → List Dest
+placed d [] = d ∷ []
+placed d (e ∷ es) = cond (nat_le (rank d) (rank e)) (d ∷ e ∷ es) (e ∷ placed d es)
+
+-- the destinations in order
+abbrev pub in_order : List Dest → List Dest
+in_order [] = []
+in_order (d ∷ ds) = placed d (in_order ds)
+
+-- a destination after a space
+abbrev pub dest_text : Dest → List ℕ
+dest_text d = codes " " ++ decimal d.instr ++ codes "." ++ decimal (port_number d.port)
+
+-- a place after a space and `@`
+abbrev pub place_text : List ℕ → ℕ → List ℕ
+place_text text at = codes " @" ++ decimal (line_of text at) ++ codes ":" ++ decimal (column_of text at)
+
+-- an instruction with its number and place
+abbrev pub head_text : List ℕ → ℕ → Instr → List ℕ
+head_text text n i = decimal n ++ codes " " ++ op_text i.op ++ place_text text i.place
+
+-- the line of an instruction: its head, an arrow, its destinations in order, and LF
+abbrev pub line_text : List ℕ → ℕ → Instr → List ℕ
+line_text text n i = head_text text n i ++ codes " ->" ++ flat_map dest_text (in_order (arcs i)) ++ codes "\n"
+
+-- the lines of instructions whose numbers begin at n
+abbrev pub lines_text : List ℕ → ℕ → List Instr → List ℕ
+lines_text text n [] = []
+lines_text text n (i ∷ is) = line_text text n i ++ lines_text text (n + 1) is
+
+-- the listing of a graph of this text
+abbrev pub listing : List ℕ → Parts → List ℕ
+listing text g = lines_text text 0 g.instrs
