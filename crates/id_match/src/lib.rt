@@ -70,6 +70,9 @@ impl Model for Waiting {
 }
 
 impl Waiting {
+    ghost use Rattle.std.specs.Prelude.{◌↔◌, length, Some};
+    ghost use Rattle.std.specs.List.{Contains};
+    ghost use Rattle.id_match.specs.declared.Entry.{Entry};
     ghost use Rattle.id_match.specs.Waiting.{waits, offer_answer, offer_after, entries_of};
     ghost use Rattle.id_match.specs.Keyed.{keyed_after};
 
@@ -99,14 +102,16 @@ impl Waiting {
 
     /// How many values wait. Takes no memory.
     pub fn len(&self) -> usize
-        ensures { result ≡ map.len self.now }
+        ensures len { result ≡ map.len self.now }
+        ensures listed { result ≡ length (entries_of self.now) }
     {
         self.halves.len()
     }
 
     /// The values that wait, in the order of their tags.
     pub fn entries(&self, alloc: Global) -> Result<Vec<Entry>, AllocError>
-        ensures { IfOk result (λ es. es.items ≡ entries_of self.now) }
+        ensures items { IfOk result (λ es. es.items ≡ entries_of self.now) }
+        ensures keyed { IfOk result (λ es. (e : Entry) → Contains es.items e ↔ (waits self.now e.tag e.port ≡ Some e.value)) }
     {
         let mut entries = listed(alloc, &self.halves)?;
         sort_by_tag(&mut entries);
@@ -172,5 +177,59 @@ fn pair(port: Port, value: Value, partner: Value) -> Offered
     match port {
         Port::Zero => Offered::Pair(value, partner),
         Port::One => Offered::Pair(partner, value),
+    }
+}
+
+#[cfg(test)]
+mod tests {
+    use super::*;
+    use id_tag::Context;
+    use std::test::Fail;
+
+    fn tag(iteration: u64) -> Tag {
+        Tag {
+            context: Context {
+                element: 0,
+                serial: 1,
+            },
+            iteration,
+            instr: 3,
+        }
+    }
+
+    #[test]
+    fn keeps_the_first_and_pairs_by_port(rt: HostRuntime) -> Result<(), Fail> {
+        let mut waiting = Waiting::new(rt.alloc());
+        let pair = Offered::Pair(Value::Int(3), Value::Int(4));
+        let table = [
+            (0, Port::Zero, 3, Offered::Kept, 1, "nothing waits yet"),
+            (0, Port::Zero, 9, Offered::Taken, 1, "its port is filled"),
+            (1, Port::One, 5, Offered::Kept, 2, "another iteration"),
+            (0, Port::One, 4, pair, 1, "the partner waits"),
+            (0, Port::One, 4, Offered::Kept, 2, "both have left"),
+            (0, Port::Zero, 3, pair, 1, "the ports in the other order"),
+        ];
+        for (iteration, port, number, wanted, len, why) in table {
+            let answer = waiting.offer(tag(iteration), port, Value::Int(number))?;
+            assert_eq!(rt; answer, wanted, "{why}");
+            assert_eq!(rt; waiting.len(), len, "{why}");
+        }
+        Ok(())
+    }
+
+    #[test]
+    fn lists_what_waits_by_tag(rt: HostRuntime) -> Result<(), Fail> {
+        let mut waiting = Waiting::new(rt.alloc());
+        for iteration in [2, 0, 1] {
+            let _ = waiting.offer(tag(iteration), Port::Zero, Value::Int(3))?;
+        }
+        let entries = waiting.entries(rt.alloc())?;
+        let wanted = [0, 1, 2].map(|iteration| Entry {
+            tag: tag(iteration),
+            port: Port::Zero,
+            value: Value::Int(3),
+        });
+        assert_eq!(rt; entries.as_slice(), wanted.as_slice());
+        Ok(())
     }
 }

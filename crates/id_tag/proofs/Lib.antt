@@ -1,2 +1,1 @@
 pub mod TagsLemmas
-pub mod RoutesLemmas

@@ -6,6 +6,13 @@
 //! Not here: tokens (`id_text`), names and kinds (`id_check`).
 #![tactic(auto)]
 
+mod parser;
+mod part;
+mod tokens;
 mod tree;
 
-pub use tree::{BinaryOp, Constant, Def, Expr, Kind, Program, TreeError, UnaryOp};
+pub use parser::parse;
+pub use tree::{BinaryOp, Constant, Def, Expr, Kind, MAX_NESTING, Program, TreeError, UnaryOp};
+
+#[cfg(test)]
+mod tests;

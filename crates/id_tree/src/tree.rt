@@ -4,6 +4,9 @@ use id_text::{Identifier, Sequence};
 use std::alloc::{AllocError, AllocFailed};
 use thiserror::Error;
 
+/// The most nesting that a program may have.
+pub const MAX_NESTING: usize = 200;
+
 /// The kind of a value.
 #[derive(Clone, Copy, Debug, PartialEq, Eq)]
 pub enum Kind {
@@ -36,7 +39,10 @@ pub enum BinaryOp {
 #[derive(Debug, Drop)]
 pub enum Expr {
     /// A number, at its first digit.
-    Literal { value: Constant, place: usize },
+    Literal {
+        value: Constant,
+        place: usize,
+    },
     /// An operator and its operand, at the operator.
     Unary {
         op: UnaryOp,

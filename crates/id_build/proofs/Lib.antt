@@ -1,0 +1,3 @@
+pub mod DraftedLemmas
+pub mod FitLemmas
+pub mod JoinedLemmas

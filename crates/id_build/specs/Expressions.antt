@@ -1,0 +1,67 @@
+-- The lists that an expression adds to a draft (docs/GRAPH.md, "Expressions").
+use Rattle.std.specs.Prelude.{ℕ, ◌+◌, List, [], ◌∷◌, ◌++◌, length}
+use Rattle.id_build.specs.declared.draft.Piece.{Piece}
+use Rattle.id_build.specs.declared.draft.Wire.{Wire}
+use Rattle.id_graph.specs.declared.dests.Port.{Port}
+use Rattle.id_graph.specs.declared.dests.Port.TheVariants.{Zero, One}
+use Rattle.id_graph.specs.declared.instr.Arithmetic.TheVariants as arithmetic
+use Rattle.id_graph.specs.declared.instr.Constant.{Constant}
+use Rattle.id_graph.specs.declared.instr.Constant.TheVariants as sent
+use Rattle.id_graph.specs.declared.instr.Op.{Op}
+use Rattle.id_graph.specs.declared.instr.Op.TheVariants as op
+use Rattle.id_tree.specs.declared.tree.BinaryOp.{BinaryOp}
+use Rattle.id_tree.specs.declared.tree.BinaryOp.TheVariants.{Add, Sub, Mul, Div, Rem}
+use Rattle.id_tree.specs.declared.tree.Constant.{Constant as Literal_value}
+use Rattle.id_tree.specs.declared.tree.Constant.TheVariants.{Int}
+use Rattle.id_tree.specs.declared.tree.Expr.{Expr, Literal, Unary', Binary'}
+use Rattle.id_tree.specs.declared.tree.UnaryOp.{UnaryOp}
+use Rattle.id_tree.specs.declared.tree.UnaryOp.TheVariants.{Neg}
+
+-- what the `const` of a literal sends
+abbrev pub constant_of : Literal_value → Constant
+constant_of (Int v) = sent.Int v
+
+-- the operator of a unary expression
+abbrev pub operator_of : UnaryOp → Op
+operator_of Neg = op.Neg
+
+-- the operator of a binary expression
+abbrev pub operation_of : BinaryOp → Op
+operation_of Add = op.Binary arithmetic.Add
+operation_of Sub = op.Binary arithmetic.Sub
+operation_of Mul = op.Binary arithmetic.Mul
+operation_of Div = op.Binary arithmetic.Div
+operation_of Rem = op.Binary arithmetic.Rem
+
+-- the instruction with this operator at this place
+abbrev pub piece : Op → ℕ → Piece
+piece o e = record { op = o; place = e }
+
+-- the arc from an instruction to a port of another
+abbrev pub wire : ℕ → ℕ → Port → Wire
+wire n m p = record { from = n; to = m; port = p }
+
+-- the instructions of an expression, in the order in which they are made
+abbrev pub pieces_of : Expr → List Piece
+pieces_of (Literal v e) = piece (op.Const (constant_of v)) e ∷ []
+pieces_of (Unary' o _ a e) = pieces_of a ++ piece (operator_of o) e ∷ []
+pieces_of (Binary' o _ a _ b e) = pieces_of a ++ pieces_of b ++ piece (operation_of o) e ∷ []
+
+-- the number of instructions of an expression
+abbrev pub size_of : Expr → ℕ
+size_of e = length (pieces_of e)
+
+-- the instruction that the expression's value comes from, where its instructions begin at n
+abbrev pub source_of : Expr → ℕ → ℕ
+source_of (Literal v e) n = n
+source_of (Unary' o _ a e) n = n + size_of a
+source_of (Binary' o _ a _ b e) n = n + size_of a + size_of b
+
+-- the arcs to the instructions of an expression that the trigger t turns on, where they begin at n
+abbrev pub wires_of : Expr → ℕ → ℕ → List Wire
+wires_of (Literal v e) n t = wire t n Zero ∷ []
+wires_of (Unary' o _ a e) n t = wires_of a n t ++ wire (source_of a n) (n + size_of a) Zero ∷ []
+wires_of (Binary' o _ a _ b e) n t =
+    let m = n + size_of a in
+    let k = m + size_of b in
+    wires_of a n t ++ wires_of b m t ++ wire (source_of a n) k Zero ∷ wire (source_of b m) k One ∷ []

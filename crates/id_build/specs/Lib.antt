@@ -1,0 +1,4 @@
+-- For use inside: the lists that the builder makes.
+pub mod Drafted
+pub mod Expressions
+pub mod Joined

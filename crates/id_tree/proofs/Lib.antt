@@ -1,0 +1,6 @@
+mod RowLemmas
+mod RunLemmas
+mod CompleteLemmas
+mod SoundLemmas
+mod FinishLemmas
+mod RefusedLemmas

@@ -1,0 +1,99 @@
+-- Runs of the machine, step by step.
+use Rattle.std.proofs.Common.{◌≡◌, ℕ, ◌+◌, ◌≤◌, ◌<◌, max, Bool, true, false, cond, Option, Some, None, List, [], ◌∷◌, ◌++◌, refl, sym, ap, ◌∙◌, arith, zero-le, le-leb, leb, inl, inr}
+use Rattle.std.proofs.lemmas.Bool.{lt-leb}
+use denote.Enum.Bare.{sameb, same_true, true_same}
+use Rattle.id_text.specs.contracts.token.Keyword as keyword
+use Rattle.id_text.specs.contracts.token.Symbol as symbol
+use Rattle.id_text.specs.declared.token.Token.{Token}
+use Rattle.id_text.specs.declared.token.TokenKind.{TokenKind}
+use Rattle.id_text.specs.declared.token.TokenKind.TheVariants.{Name, Number, Key, Sign, End}
+use Rattle.id_tree.specs.declared.parser.Level.{Level}
+use Rattle.id_tree.specs.declared.parser.Level.TheVariants.{Sum, Product}
+use Rattle.id_tree.specs.declared.tree.BinaryOp.{BinaryOp}
+use Rattle.id_tree.specs.Tree.{Tree, binary}
+use Rattle.id_tree.specs.Grammar.{Phrase, Definition, Grouped, Unary, Word, the_key, the_sign, kind_of, Rest, done, word, name, part, Opens, operand, operator_of, own_height}
+use Rattle.id_tree.specs.Machine.{Row, opening, room, Frame, Left, Right, Inside, State, Begin, Want, Have, Next, Finished, Move, pick, is_word, name_in, enters, wants, operates, nexts, closes, takes, Outcome, Accepted, Refused, run}
+use Rattle.id_tree.proofs.RowLemmas.{Quiet, opening-from_opens}
+
+-- the word test is true of the word alone
+pub is_word-same : (w : Word) (k : TokenKind) → k ≡ kind_of w → is_word w k ≡ true
+is_word-same (the_key j) k e = rw e (true_same keyword.the_type j j refl)
+is_word-same (the_sign j) k e = rw e (true_same symbol.the_type j j refl)
+
+pub same-is_word : (w : Word) (k : TokenKind) → is_word w k ≡ true → k ≡ kind_of w
+same-is_word (the_key j) (Key k) e = ap Key (same_true keyword.the_type tt k j e)
+same-is_word (the_sign j) (Sign k) e = ap Sign (same_true symbol.the_type tt k j e)
+same-is_word (the_key j) _ e = cc
+same-is_word (the_sign j) _ e = cc
+
+module _ (n : ℕ) (t : Token) (ts : List Token) where
+  -- a token that is taken
+  pub run-step : (S : State) (m : Move) → takes t S ≡ Some m → m.need ≤ n → run n (t ∷ ts) S ≡ run n ts m.next
+  unfolding run
+  run-step S m q h = let b = le-leb m.need n h in rw (q, b) refl
+
+  -- a token that takes too much nesting
+  pub run-deep : (S : State) (m : Move) → takes t S ≡ Some m → n < m.need → run n (t ∷ ts) S ≡ Refused true t.start
+  unfolding run
+  run-deep S m q h = let b = lt-leb m.need n h in rw (q, b) refl
+
+  -- a token that nothing takes
+  pub run-none : (S : State) → takes t S ≡ None → run n (t ∷ ts) S ≡ Refused false t.start
+  unfolding run
+  run-none S q = rw q refl
+
+  -- a fixed token
+  pub run-word : (w : Word) (r : Rest) (h d c : ℕ) (K : List Frame) → t.kind ≡ kind_of w → run n (t ∷ ts) (Next (word w r) h d c K) ≡ run n ts (Next r h d c K)
+  run-word w r h d c K q = let b = is_word-same w t.kind q in run-step (Next (word w r) h d c K) (record { need = 0; next = Next r h d c K }) (rw b refl) zero-le
+
+  -- a name
+  pub run-name : (x : List ℕ) (f : List ℕ → ℕ → Rest) (h d c : ℕ) (K : List Frame) → t.kind ≡ Name x → run n (t ∷ ts) (Next (name f) h d c K) ≡ run n ts (Next (f x t.start) h d c K)
+  run-name x f h d c K q = run-step (Next (name f) h d c K) (record { need = 0; next = Next (f x t.start) h d c K }) (rw q refl) zero-le
+
+  -- a token that begins a production
+  pub run-opens : (s : Phrase) (r : Rest) (d : ℕ) (K : List Frame) → Opens s t.kind t.start r → d + own_height s + room r ≤ n → run n (t ∷ ts) (Want s d K) ≡ run n ts (Next r 0 (d + own_height s) (own_height s) K)
+  run-opens Definition r d K o h = run-step (Want Definition d K) _ (rw (opening-from_opens o) refl) h
+  run-opens Unary r d K o h = run-step (Want Unary d K) _ (rw (opening-from_opens o) refl) h
+  run-opens (Grouped l) r d K o h = elim o [ ]
+
+  -- an operator of a level
+  pub run-operator : (l : Level) (o : BinaryOp) (a : Tree) (m d : ℕ) (K : List Frame) → operator_of l t.kind ≡ Some o → d + m + 1 ≤ n → run n (t ∷ ts) (Have a m (Left l d ∷ K)) ≡ run n ts (Want (operand l) (d + 1) (Right l o a m t.start d ∷ K))
+  run-operator l o a m d K q h = run-step (Have a m (Left l d ∷ K)) (record { need = d + m + 1; next = Want (operand l) (d + 1) (Right l o a m t.start d ∷ K) }) (rw q refl) h
+
+-- What takes no token.
+pub run-done : (n : ℕ) (ts : List Token) (e : Tree) (h d c : ℕ) (K : List Frame) → run n ts (Next (done e) h d c K) ≡ run n ts (Have e (h + c) K)
+unfolding run
+run-done n [] e h d c K = refl
+run-done n (t ∷ ts) e h d c K = refl
+
+pub run-part : (n : ℕ) (ts : List Token) (s : Phrase) (f : Tree → Rest) (h d c : ℕ) (K : List Frame) → run n ts (Next (part s f) h d c K) ≡ run n ts (Want s d (Inside f h d c ∷ K))
+unfolding run
+run-part n [] s f h d c K = refl
+run-part n (t ∷ ts) s f h d c K = refl
+
+pub run-inside : (n : ℕ) (ts : List Token) (e : Tree) (h : ℕ) (f : Tree → Rest) (m d c : ℕ) (K : List Frame) → run n ts (Have e h (Inside f m d c ∷ K)) ≡ run n ts (Next (f e) (max m h) d c K)
+unfolding run
+run-inside n [] e h f m d c K = refl
+run-inside n (t ∷ ts) e h f m d c K = refl
+
+pub run-right : (n : ℕ) (ts : List Token) (b : Tree) (k : ℕ) (l : Level) (o : BinaryOp) (a : Tree) (m p d : ℕ) (K : List Frame) → run n ts (Have b k (Right l o a m p d ∷ K)) ≡ run n ts (Have (binary o a b p) (max m k + 1) (Left l d ∷ K))
+unfolding run
+run-right n [] b k l o a m p d K = refl
+run-right n (t ∷ ts) b k l o a m p d K = refl
+
+pub run-level : (n : ℕ) (ts : List Token) (l : Level) (d : ℕ) (K : List Frame) → run n ts (Want (Grouped l) d K) ≡ run n ts (Want (operand l) d (Left l d ∷ K))
+unfolding run
+run-level n [] l d K = refl
+run-level n (t ∷ ts) Sum d K = refl
+run-level n (t ∷ ts) Product d K = refl
+
+-- the first token's kind is so
+abbrev pub First : (TokenKind → Type 0) → List Token → Type 0
+First P [] = Unit {0}
+First P (t ∷ ts) = P t.kind
+
+-- a level ends where no operator of it stands
+pub run-left : (n : ℕ) (ts : List Token) (l : Level) (e : Tree) (h d : ℕ) (K : List Frame) → First (λ k. operator_of l k ≡ None) ts → run n ts (Have e h (Left l d ∷ K)) ≡ run n ts (Have e h K)
+unfolding run
+run-left n [] l e h d K q = refl
+run-left n (t ∷ ts) l e h d K q = rw q refl

@@ -1,0 +1,109 @@
+-- A step of the machine keeps that the tokens so far begin a program.
+use Rattle.std.proofs.Common.{◌≡◌, ℕ, ◌+◌, ◌≤◌, max, Bool, true, false, cond, Option, Some, None, List, [], ◌∷◌, ◌++◌, refl, sym, ap, ◌∙◌, subst, append_assoc, append-nil, arith, zero-le}
+use Rattle.id_text.specs.declared.token.Token.{Token}
+use Rattle.id_text.specs.declared.token.TokenKind.{TokenKind}
+use Rattle.id_text.specs.declared.token.TokenKind.TheVariants.{Name, Key, Sign, Number, End}
+use Rattle.id_tree.specs.declared.parser.Level.{Level}
+use Rattle.id_tree.specs.declared.parser.Level.TheVariants.{Sum, Product}
+use Rattle.id_tree.specs.declared.tree.BinaryOp.{BinaryOp}
+use Rattle.id_tree.specs.Tree.{Tree, binary, none, more}
+use Rattle.id_tree.specs.Grammar.{Phrase, Definition, Grouped, Unary, Word, kind_of, Rest, done, word, name, part, Opens, operand, operator_of, own_height, Derives, opened, single, grouped, Follows, ended, taken, named, given, Program, empty, single_def}
+use Rattle.id_tree.specs.Machine.{Row, opening, room, Move, pick, is_word, name_in, ends, enters, wants, operates, nexts, closes, takes, Frame, Left, Right, Inside, State, Begin, Want, Have, Next, Finished}
+use Rattle.id_tree.specs.Standing.{Begins, Roomy, Around, outermost, left, right, inside, Stands, begun, wanting, having, within, finished}
+use Rattle.id_tree.proofs.RowLemmas.{valid, Derives-height}
+use Rattle.id_tree.proofs.RunLemmas.{same-is_word}
+
+-- a move within n leads on
+abbrev pub Moves : ℕ → List Token → Option Move → Type 0
+Moves n us None = Unit {0}
+Moves n us (Some m) = m.need ≤ n → Stands n m.next us
+
+Moves-pick : {A : Type 0} (n : ℕ) (us : List Token) (o : Option A) (f : A → Option Move) (d : Option Move) → ((a : A) → o ≡ Some a → Moves n us (f a)) → Moves n us d → Moves n us (pick o f d)
+Moves-pick n us None f d p q = q
+Moves-pick n us (Some a) f d p q = p a refl
+
+Moves-cond : (n : ℕ) (us : List Token) (b : Bool) (x : Option Move) → (b ≡ true → Moves n us x) → Moves n us (cond b x None)
+Moves-cond n us true x p = p refl
+Moves-cond n us false x p = tt
+
+Moves-at : (n : ℕ) {us vs : List Token} (o : Option Move) → us ≡ vs → Moves n us o → Moves n vs o
+Moves-at n o e h = subst (λ xs. Moves n xs o) e h
+
+Stands-at : {n : ℕ} {S : State} {us vs : List Token} → us ≡ vs → Stands n S us → Stands n S vs
+Stands-at {n = n} {S = S} e h = subst (λ xs. Stands n S xs) e h
+
+Derives-at : {s : Phrase} {us vs : List Token} {e : Tree} {h : ℕ} → us ≡ vs → Derives s us e h → Derives s vs e h
+Derives-at {s = s} {e = e} {h = h} q d = subst (λ xs. Derives s xs e h) q d
+
+Derives-of : {s : Phrase} {us : List Token} {e : Tree} {h k : ℕ} → h ≡ k → Derives s us e h → Derives s us e k
+Derives-of {s = s} {us = us} {e = e} q d = subst (λ m. Derives s us e m) q d
+
+-- a token is put behind a list
+snoc-at : (vs ts : List Token) (t : Token) → (vs ++ t ∷ []) ++ ts ≡ vs ++ t ∷ ts
+snoc-at vs ts t = append_assoc vs (t ∷ []) ts
+
+name-from_in : (k : TokenKind) (x : List ℕ) → name_in k ≡ Some x → k ≡ Name x
+name-from_in (Name y) x q = cc
+name-from_in _ x q = cc
+
+module _ (n : ℕ) (t : Token) where
+  -- a token begins a production
+  Moves-enters : {s : Phrase} {d : ℕ} {K : List Frame} {us : List Token} → Around n s d K us → Moves n (us ++ t ∷ []) (enters t s d K)
+  Moves-enters {s = s} {d = d} {K = K} {us = us} a = Moves-pick n (us ++ t ∷ []) (opening s t.kind t.start) _ None (λ row q fits.
+      within a (record { completes = λ ts e m f. Derives-of (omega arith) (opened row.opens f) }) (omega arith) ((valid row.opens).roomy n (d + own_height s) fits)) tt
+
+  Moves-wants : {s : Phrase} {d : ℕ} {K : List Frame} {us : List Token} → Around n s d K us → Moves n (us ++ t ∷ []) (wants t s d K)
+  Moves-wants {s = Definition} a = Moves-enters a
+  Moves-wants {s = Unary} a = Moves-enters a
+  Moves-wants {s = Grouped Product} a = Moves-enters (left a)
+  Moves-wants {s = Grouped Sum} a = Moves-enters (left (left a))
+
+  -- an operator of a level, or what the level's end makes
+  Moves-operates : {l : Level} {d h : ℕ} {K : List Frame} {us vs : List Token} {e : Tree} (other : Option Move) → Around n (Grouped l) d K us → Derives (Grouped l) vs e h → Moves n ((us ++ vs) ++ t ∷ []) other → Moves n ((us ++ vs) ++ t ∷ []) (operates t e h l d K other)
+  Moves-operates {l = l} {d = d} {h = h} {K = K} {us = us} {vs = vs} {e = e} other a x other_moves = Moves-pick n _ (operator_of l t.kind) _ other (λ o q fits.
+      Stands-at (sym (append_assoc us vs (t ∷ []))) (wanting (right a x t q fits) (omega (arith, Derives-height x)))) other_moves
+
+  Moves-ends : (us : List Token) (e : Tree) (h : ℕ) (k : TokenKind) → (k ≡ End → Program us e h) → h ≤ n → Moves n us (ends k e)
+  Moves-ends us e h End p w = λ fits. finished (p refl) w
+  Moves-ends us e h _ p w = tt
+
+  -- a token in a production
+  Moves-nexts : {s : Phrase} {d : ℕ} {K : List Frame} {us vs : List Token} (r : Rest) (h : ℕ) (close : Tree → ℕ → Option Move) →
+    Around n s d K us → Begins s vs r h → d + own_height s + h ≤ n → Roomy n (d + own_height s) r →
+    ((ws : List Token) (e : Tree) (k : ℕ) → Derives s ws e k → d + k ≤ n → Moves n ((us ++ ws) ++ t ∷ []) (close e k)) →
+    Moves n ((us ++ vs) ++ t ∷ []) (nexts t r h (d + own_height s) (own_height s) K close)
+  Moves-nexts {s = s} {vs = vs} (done e) h close a b w roomy closing =
+      closing vs e (h + own_height s) (Derives-at (append-nil vs) (Derives-of (omega arith) (b.completes [] e 0 ended))) (omega arith)
+  Moves-nexts {s = s} {us = us} {vs = vs} (word v r) h close a b w roomy closing = Moves-cond n _ (is_word v t.kind) _ (λ q fits.
+      Stands-at (sym (append_assoc us vs (t ∷ [])))
+      (within a (record { completes = λ ts e m f. Derives-at (sym (snoc-at vs ts t)) (b.completes (t ∷ ts) e m (taken (same-is_word v t.kind q) f)) }) w roomy))
+  Moves-nexts {s = s} {us = us} {vs = vs} (name g) h close a b w roomy closing = Moves-pick n _ (name_in t.kind) _ None (λ x q fits.
+      Stands-at (sym (append_assoc us vs (t ∷ [])))
+      (within a (record { completes = λ ts e m f. Derives-at (sym (snoc-at vs ts t)) (b.completes (t ∷ ts) e m (named (name-from_in t.kind x q) f)) }) w (roomy x t.start))) tt
+  Moves-nexts (part i g) h close a b w roomy closing = Moves-wants (inside a b w roomy.1)
+
+  -- a token behind a part
+  Moves-closes : {s : Phrase} {d : ℕ} {K : List Frame} {us : List Token} → Around n s d K us →
+    (vs : List Token) (e : Tree) (h : ℕ) → Derives s vs e h → d + h ≤ n → Moves n ((us ++ vs) ++ t ∷ []) (closes t e h K)
+  Moves-closes outermost vs e h x w = Moves-ends (vs ++ t ∷ []) (more e none) h t.kind (λ q. single_def t x q) (omega arith)
+  Moves-closes (left {d = d} {K = K} a) vs e h x w = Moves-operates (closes t e h K) a (single x) (Moves-closes a vs e h (single x) w)
+  Moves-closes (right {l = l} {d = d} {m = m} {K = K} {us = us} {vs = vs} {o = o} {a = b} a y i q fit) ws e k x w =
+      let whole = grouped y i q x in
+      Moves-at n (operates t (binary o b e i.start) (max m k + 1) l d K (closes t (binary o b e i.start) (max m k + 1) K))
+      (ap (λ xs. xs ++ t ∷ []) (ap (λ xs. us ++ xs) (sym (snoc-at vs ws i)) ∙ sym (append_assoc us (vs ++ i ∷ []) ws)))
+      (Moves-operates (closes t (binary o b e i.start) (max m k + 1) K) a whole (Moves-closes a (vs ++ i ∷ ws) (binary o b e i.start) (max m k + 1) whole (omega arith)))
+  Moves-closes (inside {s = s} {i = i} {f = f} {d = d} {h = h} {K = K} {us = us} {vs = vs} a b fit roomy) ws e k x w =
+      Moves-at n (nexts t (f e) (max h k) (d + own_height s) (own_height s) K (λ u j. closes t u j K))
+      (ap (λ xs. xs ++ t ∷ []) (sym (append_assoc us vs ws)))
+      (Moves-nexts (f e) (max h k) (λ u j. closes t u j K) a
+        (record { completes = λ ts u m g. Derives-at (sym (append_assoc vs ws ts)) (Derives-of (omega arith) (b.completes (ws ++ ts) u (max k m) (given x g))) })
+        (omega arith) (roomy e) (λ zs u j y v. Moves-closes a zs u j y v))
+
+  -- what a token leads to stands behind the token
+  pub Moves-takes : {S : State} {us : List Token} → Stands n S us → Moves n (us ++ t ∷ []) (takes t S)
+  Moves-takes begun = Moves-pick n (t ∷ []) (wants t Definition 0 []) (λ m. Some m) (ends t.kind none)
+      (λ m q. subst (λ o. Moves n (t ∷ []) o) q (Moves-wants outermost)) (Moves-ends (t ∷ []) none 0 t.kind (λ q. empty q) zero-le)
+  Moves-takes (wanting a w) = Moves-wants a
+  Moves-takes (having {h = h} {e = e} {vs = vs} a x w) = Moves-closes a vs e h x w
+  Moves-takes (within {r = r} {h = h} {K = K} a b w roomy) = Moves-nexts r h (λ u j. closes t u j K) a b w roomy (λ zs u j y v. Moves-closes a zs u j y v)
+  Moves-takes (finished p w) = tt

@@ -1,0 +1,37 @@
+-- Each call goes one expression deeper, or to a reader of a lower rank at the same depth.
+use Rattle.std.proofs.Common.{◌≡◌, ◌+◌, ◌<◌, ◌≤◌, ◌-◌, ◌*◌, ℕ, length}
+use Rattle.id_text.specs.Tokens.{EndsOnce}
+use Rattle.id_tree.specs.Places.{StartsIn}
+use Rattle.id_tree.specs.declared.parser.Level.{Level}
+use Rattle.id_tree.specs.declared.parser.Level.TheVariants.{Sum, Product}
+use Rattle.id_tree.specs.Readers.{IsRead}
+use Rattle.id_tree.proofs.parser.+expr.Given as goal
+
+-- the looser level has the higher rank
+abbrev rank : Level → ℕ
+rank Sum = 1
+rank Product = 0
+
+abbrev pub decreases-parse_parens : goal.decreases-parse_parens
+decreases-parse_parens l = (200 - l.depth) * 8
+
+abbrev pub decreases-parse_right : goal.decreases-parse_right
+decreases-parse_right l = (200 - l.depth) * 8
+
+abbrev pub decreases-parse_atom : goal.decreases-parse_atom
+decreases-parse_atom l = (200 - l.depth) * 8 + 1
+
+abbrev pub decreases-parse_unary : goal.decreases-parse_unary
+decreases-parse_unary l = (200 - l.depth) * 8 + 2
+
+abbrev pub decreases-parse_operand : goal.decreases-parse_operand
+decreases-parse_operand l = (200 - l.depth) * 8 + (3 + 2 * rank l.level)
+
+abbrev pub decreases-parse_grouped : goal.decreases-parse_grouped
+decreases-parse_grouped l = (200 - l.depth) * 8 + (4 + 2 * rank l.level)
+
+abbrev pub invariant-parse_grouped-loop-op : goal.invariant-parse_grouped-loop-op
+invariant-parse_grouped-loop-op l = IsRead l.fn.tokens l.rest l.depth l.left.height
+
+abbrev pub decreases-parse_grouped-loop-op : goal.decreases-parse_grouped-loop-op
+decreases-parse_grouped-loop-op l = length l.rest

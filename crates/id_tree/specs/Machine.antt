@@ -1,0 +1,127 @@
+-- A machine that takes one token at a time, for the proof of `parse` alone: no public clause cites it.
+use Rattle.std.specs.Prelude.{◌≡◌, ◌+◌, ◌≤◌, ℕ, Bool, true, false, cond, nat_le, Option, Some, None, List, [], ◌∷◌, max}
+use denote.Enum.Bare.{sameb}
+use Rattle.id_text.specs.declared.token.Token.{Token}
+use Rattle.id_text.specs.declared.token.TokenKind.{TokenKind}
+use Rattle.id_text.specs.declared.token.TokenKind.TheVariants.{Name, Number, Key, Sign, End}
+use Rattle.id_text.specs.declared.token.Keyword.TheVariants.{Def}
+use Rattle.id_text.specs.declared.token.Symbol.TheVariants.{LeftParen, Minus}
+use Rattle.id_text.specs.contracts.token.Keyword as keyword
+use Rattle.id_text.specs.contracts.token.Symbol as symbol
+use Rattle.id_tree.specs.declared.tree.BinaryOp.{BinaryOp}
+use Rattle.id_tree.specs.declared.parser.Level.{Level}
+use Rattle.id_tree.specs.declared.parser.Level.TheVariants.{Sum, Product}
+use Rattle.id_tree.specs.Tree.{Tree, binary, none, more}
+use Rattle.id_tree.specs.Grammar.{Phrase, Definition, Grouped, Unary, Word, the_key, the_sign, Rest, done, word, name, part, Opens, definition, negated, number, parens, operand, operator_of, own_height}
+
+-- a production that begins with this token
+pub record Row (s : Phrase) (k : TokenKind) (p : ℕ) : Type 0 where
+  pub rest : Rest
+  pub opens : Opens s k p rest
+
+-- the one production of a phrase that begins with a token
+abbrev pub opening : (s : Phrase) (k : TokenKind) (p : ℕ) → Option (Row s k p)
+opening Definition (Key Def) p = Some (record { rest = _; opens = definition })
+opening Unary (Sign Minus) p = Some (record { rest = _; opens = negated })
+opening Unary (Number v) p = Some (record { rest = _; opens = number })
+opening Unary (Sign LeftParen) p = Some (record { rest = _; opens = parens })
+opening _ _ _ = None
+
+-- the least height of the parts of what is left
+abbrev pub room : Rest → ℕ
+room (done e) = 0
+room (word w r) = room r
+room (name f) = room (f [] 0)
+room (part s f) = 1
+
+-- What stands round a part, from the inside: a level whose first operand it is, one whose next operand it is,
+-- or a production; the last numbers are the expressions round the level or the production's parts.
+pub data Frame : Type 0 where
+  Left : Level → ℕ → Frame
+  Right : Level → BinaryOp → Tree → ℕ → ℕ → ℕ → Frame
+  Inside : (Tree → Rest) → ℕ → ℕ → ℕ → Frame
+
+-- before all tokens; a phrase is to come; a part has come, with its height; in a production, with the height so far; at the end
+pub data State : Type 0 where
+  Begin : State
+  Want : Phrase → ℕ → List Frame → State
+  Have : Tree → ℕ → List Frame → State
+  Next : Rest → ℕ → ℕ → ℕ → List Frame → State
+  Finished : Tree → State
+
+-- the state behind a token, and the nesting that it takes
+pub record Move : Type 0 where
+  pub need : ℕ
+  pub next : State
+
+abbrev pub free : State → Option Move
+free S = Some (record { need = 0; next = S })
+
+-- the function of what there is, or else the default
+abbrev pub pick : {A B : Type 0} → Option A → (A → B) → B → B
+pick None f d = d
+pick (Some a) f d = f a
+
+-- whether a kind is this word
+abbrev pub is_word : Word → TokenKind → Bool
+is_word (the_key k) (Key j) = sameb keyword.the_type j k
+is_word (the_sign s) (Sign r) = sameb symbol.the_type r s
+is_word _ _ = false
+
+abbrev pub name_in : TokenKind → Option (List ℕ)
+name_in (Name x) = Some x
+name_in _ = None
+
+-- a token that begins a production
+abbrev pub enters : Token → Phrase → ℕ → List Frame → Option Move
+enters t s d K = pick (opening s t.kind t.start) (λ row. Some (record { need = d + own_height s + room row.rest; next = Next row.rest 0 (d + own_height s) (own_height s) K })) None
+
+-- a token where a phrase is to come
+abbrev pub wants : Token → Phrase → ℕ → List Frame → Option Move
+wants t Definition d K = enters t Definition d K
+wants t (Grouped Sum) d K = enters t Unary d (Left Product d ∷ Left Sum d ∷ K)
+wants t (Grouped Product) d K = enters t Unary d (Left Product d ∷ K)
+wants t Unary d K = enters t Unary d K
+
+-- a token behind an operand of a level: an operator of the level, or else what the level's end makes of it
+abbrev pub operates : Token → Tree → ℕ → Level → ℕ → List Frame → Option Move → Option Move
+operates t e h l d K other = pick (operator_of l t.kind) (λ o. Some (record { need = d + h + 1; next = Want (operand l) (d + 1) (Right l o e h t.start d ∷ K) })) other
+
+-- a token in a production, whose end closes
+abbrev pub nexts : Token → Rest → ℕ → ℕ → ℕ → List Frame → (Tree → ℕ → Option Move) → Option Move
+nexts t (done e) h d c K close = close e (h + c)
+nexts t (word w r) h d c K close = cond (is_word w t.kind) (free (Next r h d c K)) None
+nexts t (name f) h d c K close = pick (name_in t.kind) (λ x. free (Next (f x t.start) h d c K)) None
+nexts t (part s f) h d c K close = wants t s d (Inside f h d c ∷ K)
+
+-- the end of the text, behind a program
+abbrev pub ends : TokenKind → Tree → Option Move
+ends End e = free (Finished e)
+ends _ e = None
+
+-- a token behind a part
+abbrev pub closes : Token → Tree → ℕ → List Frame → Option Move
+closes t e h [] = ends t.kind (more e none)
+closes t e h (Left l d ∷ K) = operates t e h l d K (closes t e h K)
+closes t b n (Right l o a m p d ∷ K) = operates t (binary o a b p) (max m n + 1) l d K (closes t (binary o a b p) (max m n + 1) K)
+closes t e h (Inside f m d c ∷ K) = nexts t (f e) (max m h) d c K (λ a n. closes t a n K)
+
+-- what a token does
+abbrev pub takes : Token → State → Option Move
+takes t Begin = pick (wants t Definition 0 []) (λ m. Some m) (ends t.kind none)
+takes t (Want s d K) = wants t s d K
+takes t (Have e h K) = closes t e h K
+takes t (Next r h d c K) = nexts t r h d c K (λ a n. closes t a n K)
+takes t (Finished e) = None
+
+-- how a run ends: in the end of a program, at a token that is refused, for its nesting or not, or before either
+pub data Outcome : Type 0 where
+  Accepted : Tree → Outcome
+  Refused : Bool → ℕ → Outcome
+  Unfinished : Outcome
+
+-- the run from a state, with this most nesting
+unfoldable pub run : ℕ → List Token → State → Outcome
+run n [] (Finished e) = Accepted e
+run n [] _ = Unfinished
+run n (t ∷ ts) S = pick (takes t S) (λ m. cond (nat_le m.need n) (run n ts m.next) (Refused true t.start)) (Refused false t.start)
