@@ -1,12 +1,13 @@
 -- Lemmas on specs/Events.antt: a record goes on by one event.
-use Rattle.std.proofs.Common.{◌≡◌, ℕ, ◌+◌, ◌-◌, ◌≤◌, List, [], ◌∷◌, ◌++◌, length, drop, refl, arith}
-use Rattle.std.specs.Prelude.{All, slice_range}
+use Rattle.std.proofs.Common.{take, Bool, sym, ◌≡◌, ℕ, ◌+◌, ◌-◌, ◌≤◌, List, [], ◌∷◌, ◌++◌, length, drop, refl, arith}
+use Rattle.std.specs.Prelude.{All, slice_range, IsTrue, ◌↔◌}
 use Rattle.std.proofs.lemmas.List.{take-append-le, drop-append-le, length-drop, map_push}
-use Rattle.std.proofs.Math.Seq.{drop-append_seam, take-length}
-use Rattle.std.proofs.lemmas.List.Elements.{All-head, All-tail}
+use Rattle.std.proofs.Math.Seq.{drop-append_seam, take-append_seam, take-length}
+use Rattle.std.proofs.lemmas.List.Elements.{All-head, All-tail, All-push, All-same, All-take, All-drop}
 use Rattle.id_tag.specs.declared.Message.{Message}
 use Rattle.id_core.specs.declared.history.Handled.{Handled}
-use Rattle.id_core.specs.Events.{unpacked, unpacked_all}
+use Rattle.id_core.specs.declared.step.Step.TheVariants.{Went}
+use Rattle.id_core.specs.Events.{EventView, AllWent, unpacked, unpacked_all}
 
 -- a part of a list is the same part of a longer list
 slice_range-append : {A : Type 0} (xs ys : List A) (i j : ℕ) → i ≤ j → j ≤ length xs → slice_range (xs ++ ys) i j ≡ slice_range xs i j
@@ -16,7 +17,7 @@ slice_range-append xs ys i j below within =
     rw (drop-append-le i xs ys from_start, take-append-le (j - i) (drop i xs) ys fits)
 
 -- the end of a list is its part after the rest
-slice_range-append_seam : {A : Type 0} (xs ys : List A) (i j : ℕ) → i ≡ length xs → j ≡ length xs + length ys → slice_range (xs ++ ys) i j ≡ ys
+pub slice_range-append_seam : {A : Type 0} (xs ys : List A) (i j : ℕ) → i ≡ length xs → j ≡ length xs + length ys → slice_range (xs ++ ys) i j ≡ ys
 slice_range-append_seam xs ys i j at upto =
     let count : j - i ≡ length ys = omega arith in
     rw (count, at, drop-append_seam xs ys, take-length ys)
@@ -37,3 +38,18 @@ unpacked_all-append e (h ∷ hs) outputs more within =
 pub unpacked_all-push : (e : ℕ) (hs : List Handled) (outputs more : List Message) (h : Handled) → All (Within outputs) hs → h.from ≡ length outputs → h.to ≡ length outputs + length more → unpacked_all e (hs ++ h ∷ []) (outputs ++ more) ≡ unpacked_all e hs outputs ++ record (unpacked e more h) { outputs = more } ∷ []
 unpacked_all-push e hs outputs more h within at upto =
     rw (map_push (unpacked e (outputs ++ more)) hs h, unpacked_all-append e hs outputs more within, slice_range-append_seam outputs more h.from h.to at upto)
+
+-- the last event of a record that went well did
+AllWent-last : (es : List EventView) (e : EventView) → AllWent (es ++ e ∷ []) → e.step ≡ Went
+AllWent-last es e all =
+    All-head (λ x. x.step ≡ Went) e []
+    (All-same (λ x. x.step ≡ Went) (e ∷ []) (drop (length es) (es ++ e ∷ [])) (sym (drop-append_seam es (e ∷ []))) (All-drop (λ x. x.step ≡ Went) (length es) (es ++ e ∷ []) all))
+
+-- and those before it
+AllWent-front : (es : List EventView) (e : EventView) → AllWent (es ++ e ∷ []) → AllWent es
+AllWent-front es e all =
+    All-same (λ x. x.step ≡ Went) es (take (length es) (es ++ e ∷ [])) (sym (take-append_seam es (e ∷ []))) (All-take (λ x. x.step ≡ Went) (length es) (es ++ e ∷ []) all)
+
+-- a flag for all events goes on by one more
+pub AllWent-push : (a r : Bool) (es : List EventView) (e : EventView) → (IsTrue a ↔ AllWent es) → (IsTrue r ↔ (IsTrue a × (e.step ≡ Went))) → IsTrue r ↔ AllWent (es ++ e ∷ [])
+AllWent-push a r es e old new = (λ h. All-push (λ x. x.step ≡ Went) es e (old.0 (new.0 h).0) (new.0 h).1, λ all. new.1 (old.1 (AllWent-front es e all), AllWent-last es e all))

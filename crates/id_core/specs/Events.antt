@@ -1,5 +1,5 @@
 -- Events as contracts see them, and how the record keeps them (docs/MACHINE.md, "The record").
-use Rattle.std.specs.Prelude.{ℕ, List, map, slice_range}
+use Rattle.std.specs.Prelude.{◌≡◌, ℕ, All, List, map, slice_range}
 use Rattle.id_tag.specs.declared.Message.{Message}
 use Rattle.id_tag.specs.declared.Tag.{Tag}
 use Rattle.id_tag.specs.declared.Payload.{Payload}
@@ -18,6 +18,10 @@ pub record EventView : Type 0 where
   pub message : Message
   pub outputs : List Message
   pub step : Step
+
+-- no event is a fault or `Stuck`
+abbrev pub AllWent : List EventView → Type 0
+AllWent es = All (λ e. e.step ≡ steps.Went) es
 
 -- the tag that a payload names
 abbrev pub tag_of : Payload → Tag

@@ -1,5 +1,5 @@
 -- The machine: its elements and the messages in flight (docs/MACHINE.md, "Runs").
-use Rattle.std.specs.Prelude.{◌≡◌, ℕ, ◌+◌, Option, None, Some, List, [], ◌∷◌, ◌++◌, All, filter, slice_get, slice_set, replicate, if◌then◌else◌}
+use Rattle.std.specs.Prelude.{◌≡◌, ℕ, ◌+◌, ◌<◌, ◌≤◌, Option, None, Some, List, [], ◌∷◌, ◌++◌, All, filter, map, length, slice_index_or, slice_get, slice_set, replicate, if◌then◌else◌}
 use Rattle.std.specs.List.{remove}
 use Rattle.id_graph.specs.declared.instr.Block.{Block}
 use Rattle.id_graph.specs.declared.dests.Port.TheVariants.{Zero}
@@ -12,8 +12,10 @@ use Rattle.id_tag.specs.declared.Payload.TheVariants.{Token}
 use Rattle.id_tag.specs.declared.Message.{Message}
 use Rattle.id_tag.specs.Routes.{route_of}
 use Rattle.id_valid.specs.Roles.{has_main_place}
-use Rattle.id_core.specs.declared.step.Step.TheVariants.{Went}
-use Rattle.id_core.specs.Steps.{State, fresh, is_ended, outputs_of, state_after}
+use Rattle.id_core.specs.Events.{EventView, AllWent}
+use Rattle.id_core.specs.Fits.{Fits}
+use Rattle.id_core.specs.Replays.{ElementView}
+use Rattle.id_core.specs.Steps.{State, fresh, is_ended, outputs_of, event_of, state_after}
 
 -- the states of the elements, in order of their numbers, and the messages in flight
 pub record World : Type 0 where
@@ -63,6 +65,20 @@ routed_to g count k s (Some m) = given_to g k s m (route_of m.payload count) (sl
 abbrev pub delivered : Parts → ℕ → World → ℕ → World
 delivered g count s k = routed_to g count k s (slice_get s.flight k)
 
+-- the event of the element n in its state on the message: none where there is no such element, or no stamp is left
+abbrev pub event_of_given : Parts → ℕ → Message → Option State → Option EventView
+event_of_given g n m None = None
+event_of_given g n m (Some e) = if is_ended e m then None else Some (event_of g n e m)
+
+-- the event of the element that the message is for
+abbrev pub event_of_routed : Parts → ℕ → World → Option Message → Option EventView
+event_of_routed g count s None = None
+event_of_routed g count s (Some m) = event_of_given g (route_of m.payload count) m (slice_get s.elements (route_of m.payload count))
+
+-- the event that delivering the message at position k makes, if that is possible
+abbrev pub event_at : Parts → ℕ → World → ℕ → Option EventView
+event_at g count s k = event_of_routed g count s (slice_get s.flight k)
+
 -- the machine after deliveries at these positions, one after another
 abbrev pub run : Parts → ℕ → List ℕ → World → World
 run g count [] s = s
@@ -71,4 +87,32 @@ run g count (k ∷ ks) s = run g count ks (delivered g count s k)
 -- nothing is in flight, and every event went well
 pub record IsQuiet (s : World) : Type 0 where
   pub empty : s.flight ≡ []
-  pub went : All (λ e. All (λ v. v.step ≡ Went) e.events) s.elements
+  pub went : All (λ e. AllWent e.events) s.elements
+
+-- an element is the one of this number, of so many, of the graph
+pub record IsElement (g : Parts) (count n : ℕ) (e : ElementView) : Type 0 where
+  pub number : e.number ≡ n
+  pub count_is : e.count ≡ count
+  pub graph : e.graph ≡ g
+
+-- each element has its place in the list as its number
+abbrev pub AreElements : Parts → ℕ → List ElementView → Type 0
+AreElements g count es = (n : ℕ) (d : ElementView) → n < length es → IsElement g count n (slice_index_or es n d)
+
+-- the states of the elements, with what is in flight
+abbrev pub world_of : List ElementView → List Message → World
+world_of es flight = record { elements = map (λ e. e.state) es; flight = flight }
+
+-- a machine as contracts see it: its graph, how many elements it has, and their states with what is in flight
+pub record MachineView : Type 0 where
+  pub graph : Parts
+  pub count : ℕ
+  pub world : World
+
+-- what every machine keeps: 1 to 64 elements in order of their numbers, in flight what fits the graph, and its list of outputs empty
+pub record IsMachine (g : Parts) (es : List ElementView) (flight outputs : List Message) : Type 0 where
+  pub at_least_one : 0 < length es
+  pub at_most_64 : length es ≤ 64
+  pub elements : AreElements g (length es) es
+  pub flight_fits : All (Fits g) flight
+  pub nothing_left : outputs ≡ []

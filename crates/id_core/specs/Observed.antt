@@ -42,9 +42,13 @@ source_value (value.Continuation t) = None
 abbrev pub answers : List EventView → List Value
 answers es = filter_map (λ e. brought e.message.payload) es
 
--- the answer: the first of them. One element handles that tag, so its record has them all
+-- the answer that the records of these elements show: the first of those values. One element handles that tag, so its record has them all
+abbrev pub answer_in : List State → Option SourceValue
+answer_in elements = option_and_then source_value (slice_get (answers (events_of elements)) 0)
+
+-- the answer that a machine shows
 abbrev pub answer : World → Option SourceValue
-answer s = option_and_then source_value (slice_get (answers (events_of s.elements)) 0)
+answer s = answer_in s.elements
 
 -- an operator's kind of fault as one of the source
 abbrev pub fault_kind : OperatorFault → FaultKind
@@ -65,6 +69,10 @@ fault_of g Went = None
 fault_of g (Fault (Operator f t)) = Some (record { kind = fault_kind f; path = main_path; place = place_of g t.instr })
 fault_of g Stuck = None
 
--- the faults of the source that the machine's events show
+-- the faults of the source that the records of these elements show
+abbrev pub faults_in : Parts → List State → List SourceFault
+faults_in g elements = filter_map (λ e. fault_of g e.step) (events_of elements)
+
+-- the faults of the source that a machine shows
 abbrev pub faults : Parts → World → List SourceFault
-faults g s = filter_map (λ e. fault_of g e.step) (events_of s.elements)
+faults g s = faults_in g s.elements

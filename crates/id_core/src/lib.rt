@@ -6,8 +6,20 @@
 //! Not here: what an operator does (`id_ops`), matching (`id_match`), which graphs are sound (`id_valid`).
 #![tactic(auto)]
 
+mod desk;
+mod element;
+mod fitting;
+mod flight;
 mod history;
+mod machine;
+mod observe;
+mod outcome;
 mod step;
 
+pub use element::Element;
+pub use fitting::fits;
+pub use flight::Flight;
 pub use history::{Event, Events};
+pub use machine::{MAX_ELEMENTS, Machine, MachineError};
+pub use observe::Observed;
 pub use step::{Fault, Step, TakeError};

@@ -1,0 +1,197 @@
+-- Lemmas on specs/Machines.antt.
+use Rattle.std.proofs.Common.{◌≡◌, ℕ, suc, ◌+◌, ◌<◌, ◌≤◌, Bool, true, false, cond, eqb, eq-eqb, ◌||◌, Option, Some, None, List, [], ◌∷◌, ◌++◌, map, filter, max, length, get_or, set, take, drop, refl, sym, ap, subst, ◌∙◌, ⊎_elim, arith}
+use Rattle.std.specs.Prelude.{All, slice_get, option_map, option_and_then}
+use Rattle.std.specs.List.{list_any, remove}
+use Rattle.std.proofs.lemmas.List.{length-map, length-append, length-set, get_or-map, get_or-set_same, get_or-set_other, map-set}
+use Rattle.std.proofs.lemmas.Bool.{cases_lt, cases_eq}
+use Rattle.std.proofs.Math.ListN.{get_or-append}
+use Rattle.std.proofs.Math.Seq.{get_or-append_seam}
+use Rattle.std.proofs.lemmas.List.Elements.{All-nil, All-cons, All-append, All-take, All-drop}
+use Rattle.id_graph.specs.declared.dests.Port.TheVariants as port
+use Rattle.id_graph.specs.declared.instr.Block.{Block}
+use Rattle.id_graph.specs.declared.instr.Instr.{Instr}
+use Rattle.id_graph.specs.declared.instr.Op.TheVariants.{Merge, Back}
+use Rattle.id_graph.specs.declared.instr.PortKind.TheVariants as kind
+use Rattle.id_graph.specs.Graph.{Parts}
+use Rattle.id_graph.specs.Ports.{port_kind}
+use Rattle.id_tag.specs.Kinds.{kind_of}
+use Rattle.id_tag.specs.Routes.{route_of}
+use Rattle.std.proofs.lemmas.Option.{slice_get_within, slice_get-map}
+use Rattle.id_tag.specs.declared.Tag.{Tag}
+use Rattle.id_tag.specs.declared.Payload.{Payload}
+use Rattle.id_tag.specs.declared.Payload.TheVariants.{Token}
+use Rattle.id_tag.specs.declared.Value.TheVariants as value
+use Rattle.id_tag.specs.declared.Message.{Message}
+use Rattle.id_valid.specs.Roles.{has_main_place, IsMain}
+use Rattle.id_valid.specs.Validator.{IsMainBlock}
+use Rattle.id_match.specs.Waiting.{Store}
+use Rattle.id_ops.specs.Operators.{fired}
+use Rattle.id_core.specs.declared.step.Arrival.{Arrival}
+use Rattle.id_core.specs.declared.step.Arrival.TheVariants.{Fires, Waits, Blocked}
+use Rattle.id_core.specs.Events.{tag_of}
+use Rattle.id_core.specs.Fits.{Fits, TokenFits, PayloadFits}
+use Rattle.id_core.specs.Steps.{State, arrival, waiting_after, arriving, at_instr, outcome, fresh_numbers, next_stamp, outputs_of, event_of, state_after, is_ended}
+use Rattle.id_core.specs.Replays.{ElementView}
+use Rattle.id_core.specs.Machines.{world_of, taken_from, given_to, routed_to, delivered, event_of_given, event_of_routed, event_at, main_tag, start_message, block_messages, IsElement, AreElements, IsMachine}
+use Rattle.id_core.proofs.StepsLemmas.{length-sent, length-numbered}
+use Rattle.id_core.proofs.SentLemmas.{kind_at_op}
+
+-- what holds of each image holds of what it is the image of
+pub All-from_map : {X Y : Type 0} (P : Y → Type 0) (f : X → Y) (xs : List X) → All P (map f xs) → All (λ x. P (f x)) xs
+All-from_map P f xs all k d within =
+    subst P (get_or-map f xs k d (f d) within) (all k (f d) (omega (arith, length-map xs f)))
+
+-- an arrival sends at most one payload for each destination, or one
+length-arriving : (n : ℕ) (i : Instr) (t : Tag) (w : Store) (a : Arrival) → length (arriving n i t w a).sends ≤ max (length i.dests) 1
+length-arriving n i t w (Fires o) = length-sent i.dests t (fired i.op t o (fresh_numbers n))
+length-arriving n i t w Waits = omega arith
+length-arriving n i t w Blocked = omega arith
+
+length-outcome : (g : Parts) (n : ℕ) (w : Store) (x : Payload) (i : Instr) → slice_get g.instrs (tag_of x).instr ≡ Some i → length (outcome g n w x).sends ≤ max (length i.dests) 1
+length-outcome g n w (Token t p v) i is =
+    let at : (at_instr n w t p v (slice_get g.instrs t.instr)) ≡ at_instr n w t p v (Some i) = ap (at_instr n w t p v) is in
+    let bound = length-arriving n i t (waiting_after i.op w t p v) (arrival i.op w t p v) in
+    rw at bound
+
+-- a message has at most as many outputs as its instruction has destinations, or one
+pub length-outputs_of : (g : Parts) (n : ℕ) (s : State) (m : Message) (i : Instr) → slice_get g.instrs (tag_of m.payload).instr ≡ Some i → length (outputs_of g n s m) ≤ max (length i.dests) 1
+length-outputs_of g n s m i is =
+    omega (arith, length-numbered n (length s.events) (next_stamp s m) 0 (outcome g n s.waiting m.payload).sends, length-outcome g n s.waiting m.payload i is)
+
+-- one more element with the next number
+pub AreElements-push : (g : Parts) (count : ℕ) (es : List ElementView) (e : ElementView) → AreElements g count es → IsElement g count (length es) e → AreElements g count (es ++ e ∷ [])
+AreElements-push g count es e old new n d within =
+    ⊎_elim (λ lt. rw (get_or-append es (e ∷ []) d n lt) (old n d lt)) (λ le. last (omega (arith, length-append es (e ∷ [])))) (cases_lt n (length es))
+  where
+    last : n ≡ length es → IsElement g count n (get_or (es ++ e ∷ []) n d)
+    last is = rw (is, get_or-append_seam es e [] d) new
+
+any_or_true : (c : Bool) → (c || true) ≡ true
+any_or_true true = refl
+any_or_true false = refl
+
+-- the block that passes a test alone stands among all
+second_of_main : (p q : Block → Bool) (xs : List Block) (b : Block) → filter p xs ≡ b ∷ [] → q b ≡ true → list_any q xs ≡ true
+second_of_main p q [] b is here = cc
+second_of_main p q (x ∷ xs) b is here = at (λ e. second_of_main p q xs b e here) (p x) is
+  where
+    at : (filter p xs ≡ b ∷ [] → list_any q xs ≡ true) → (c : Bool) → cond c (x ∷ filter p xs) (filter p xs) ≡ b ∷ [] → (q x || list_any q xs) ≡ true
+    at rest true e = let same : x ≡ b = cc in let passes : q x ≡ true = ap q same ∙ here in rw passes
+    at rest false e = let found = rest e in rw found (any_or_true (q x))
+
+-- a message that fits names an instruction that there is
+pub within_from_fits : (g : Parts) (stamp : ℕ) (x : Payload) → PayloadFits g stamp x → (tag_of x).instr < length g.instrs
+within_from_fits g stamp (Token t p v) fits = at (slice_get g.instrs t.instr) refl fits.kind
+  where
+    at : (o : Option Instr) → slice_get g.instrs t.instr ≡ o → option_and_then (λ i. port_kind i.op p) o ≡ Some (kind_of v) → t.instr < length g.instrs
+    at None is e = cc
+    at (Some i) is e = slice_get_within g.instrs t.instr i is
+
+-- the start messages fit the graph
+pub start_fits : (g : Parts) (b : Block) → IsMain g b → IsMainBlock g b → All (Fits g) (block_messages (b ∷ []))
+start_fits g b main kept =
+    let first : TokenFits g 0 (main_tag b.first) port.Zero value.Signal =
+    record { kind = kind_at_op g b.first port.Zero (Merge kind.Signal) kept.trigger; in_time = omega arith; continuation = tt } in
+    let second : TokenFits g 0 (main_tag (b.first + 1)) port.Zero (value.Continuation (main_tag 0)) = record {
+      kind = kind_at_op g (b.first + 1) port.Zero (Back kept.kind) kept.back;
+      in_time = omega arith;
+      continuation = (
+        refl,
+        (
+          kept.kind,
+          record {
+            second = second_of_main (has_main_place g) (λ x. eqb (x.first + 1) (b.first + 1)) g.blocks b main (eq-eqb (b.first + 1) (b.first + 1) refl);
+            back = kept.back;
+            merge = kept.answer;
+          },
+        ),
+        omega arith,
+      );
+    } in
+    let trigger : Message = start_message 0 (Token (main_tag b.first) port.Zero value.Signal) in
+    let back : Message = start_message 1 (Token (main_tag (b.first + 1)) port.Zero (value.Continuation (main_tag 0))) in
+    All-cons (Fits g) trigger (back ∷ []) first (All-cons (Fits g) back [] second (All-nil (Fits g)))
+
+-- the message at a place, given to the element that it is for, which has a stamp left
+pub record IsGiven (g : Parts) (count : ℕ) (es : List ElementView) (flight : List Message) (k n : ℕ) (m : Message) (e : ElementView) : Type 0 where
+  pub there : slice_get flight k ≡ Some m
+  pub routed : route_of m.payload count ≡ n
+  pub element : slice_get es n ≡ Some e
+
+abbrev pub after_take : Parts → ElementView → Message → ElementView
+after_take g e m = record e { state = state_after g e.number e.state m }
+
+state_at : (es : List ElementView) (n : ℕ) (e : ElementView) → slice_get es n ≡ Some e → slice_get (map (λ x. x.state) es) n ≡ Some e.state
+state_at es n e is = slice_get-map (λ x. x.state) es n ∙ ap (option_map (λ x. x.state)) is
+
+-- where a stamp is left, the message is taken from the list and handled
+pub delivered-is : (g : Parts) (count : ℕ) (es : List ElementView) (flight : List Message) (k n : ℕ) (m : Message) (e : ElementView)
+    → IsGiven g count es flight k n m e → is_ended e.state m ≡ false
+    → delivered g count (world_of es flight) k ≡ taken_from g k (world_of es flight) m n e.state
+delivered-is g count es flight k n m e given left =
+    ap (routed_to g count k (world_of es flight)) given.there
+    ∙ ap (λ r. given_to g k (world_of es flight) m r (slice_get (map (λ x. x.state) es) r)) given.routed
+    ∙ ap (given_to g k (world_of es flight) m n) (state_at es n e given.element)
+    ∙ ap (λ b. cond b (world_of es flight) (taken_from g k (world_of es flight) m n e.state)) left
+
+-- and where none is left, there is no event
+pub event_at-is : (g : Parts) (count : ℕ) (es : List ElementView) (flight : List Message) (k n : ℕ) (m : Message) (e : ElementView)
+    → IsGiven g count es flight k n m e
+    → event_at g count (world_of es flight) k ≡ cond (is_ended e.state m) None (Some (event_of g n e.state m))
+event_at-is g count es flight k n m e given =
+    ap (event_of_routed g count (world_of es flight)) given.there
+    ∙ ap (λ r. event_of_given g r m (slice_get (map (λ x. x.state) es) r)) given.routed
+    ∙ ap (event_of_given g n m) (state_at es n e given.element)
+
+-- an element goes on as the same element
+AreElements-set : (g : Parts) (count : ℕ) (es : List ElementView) (n : ℕ) (e : ElementView) → n < length es → AreElements g count es → IsElement g count n e → AreElements g count (set es n e)
+AreElements-set g count es n e lt old new k d within =
+    ⊎_elim (λ same. here same) (λ other. rw (get_or-set_other es n k e d other) (old k d (omega (arith, length-set es n e)))) (cases_eq k n)
+  where
+    here : k ≡ n → IsElement g count k (get_or (set es n e) k d)
+    here same =
+        let P : ℕ → Type 0 = λ j. IsElement g count j (get_or (set es n e) j d) in
+        subst P (sym same) (subst (IsElement g count n) (sym (get_or-set_same es n e d lt)) new)
+
+-- a delivery that is no error: the message is given to its element, which has a stamp left
+pub record IsDelivery (g : Parts) (count : ℕ) (es : List ElementView) (flight : List Message) (k n : ℕ) (m : Message) (e : ElementView) : Type 0 where
+  pub given : IsGiven g count es flight k n m e
+  pub left : is_ended e.state m ≡ false
+  pub same : IsElement g count n e
+
+-- the element as it says that it is after the message
+abbrev pub taken : ElementView → Message → ElementView
+taken e m = record e { state = state_after e.graph e.number e.state m }
+
+-- the machine's world after a delivery
+pub world-delivered : (g : Parts) (count : ℕ) (es : List ElementView) (flight : List Message) (k n : ℕ) (m : Message) (e : ElementView)
+    → IsDelivery g count es flight k n m e
+    → world_of (set es n (taken e m)) (remove flight k ++ outputs_of e.graph e.number e.state m) ≡ delivered g count (world_of es flight) k
+world-delivered g count es flight k n m e d =
+    rw (d.same.graph, d.same.number, map-set (λ x. x.state) es n (record { number = n; count = e.count; graph = g; state = state_after g n e.state m }))
+    (sym (delivered-is g count es flight k n m e d.given d.left))
+
+-- the event of a delivery
+pub event-delivered : (g : Parts) (count : ℕ) (es : List ElementView) (flight : List Message) (k n : ℕ) (m : Message) (e : ElementView)
+    → IsDelivery g count es flight k n m e
+    → event_at g count (world_of es flight) k ≡ Some (event_of g n e.state m)
+event-delivered g count es flight k n m e d =
+    event_at-is g count es flight k n m e d.given ∙ ap (λ b. cond b None (Some (event_of g n e.state m))) d.left
+
+-- a machine is one after a delivery
+pub IsMachine-deliver : (g : Parts) (es : List ElementView) (flight outputs : List Message) (k n : ℕ) (m : Message) (e : ElementView)
+    → IsMachine g es flight outputs → IsDelivery g (length es) es flight k n m e → All (Fits e.graph) (outputs_of e.graph e.number e.state m)
+    → IsMachine g (set es n (taken e m)) (remove flight k ++ outputs_of e.graph e.number e.state m) []
+IsMachine-deliver g es flight outputs k n m e old d fits = record {
+  at_least_one = omega (arith, old.at_least_one, length-set es n (taken e m));
+  at_most_64 = omega (arith, old.at_most_64, length-set es n (taken e m));
+  elements =
+      let P : ℕ → Type 0 = λ c. AreElements g c (set es n (taken e m)) in
+      subst P (sym (length-set es n (taken e m)))
+      (AreElements-set g (length es) es n (taken e m) (slice_get_within es n e d.given.element) old.elements
+      (record { number = d.same.number; count_is = d.same.count_is; graph = d.same.graph }));
+  flight_fits = All-append (Fits g) (remove flight k) _
+      (All-append (Fits g) (take k flight) (drop (suc k) flight) (All-take (Fits g) k flight old.flight_fits) (All-drop (Fits g) (suc k) flight old.flight_fits))
+      (let P : Parts → Type 0 = λ x. All (Fits x) (outputs_of e.graph e.number e.state m) in subst P d.same.graph fits);
+  nothing_left = refl;
+}

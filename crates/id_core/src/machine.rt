@@ -1,0 +1,273 @@
+//! The machine: its elements and the messages in flight, in a list (docs/MACHINE.md, "Runs").
+
+ghost use Rattle.std.specs.Prelude.{◌≡◌, ◌<◌, ◌≤◌, ◌+◌, ◌++◌, ◌↔◌, [], ℕ, All, length, map, replicate, IfOk, IsTrue, vec_len};
+ghost use Rattle.std.specs.VecDeque.{deque_len, deque_capacity};
+ghost use Rattle.id_graph.specs.declared.dests.Port.TheVariants.{Zero};
+ghost use Rattle.id_tag.specs.declared.Payload.TheVariants.{Token};
+ghost use Rattle.id_core.specs.Events.{tag_of, AllWent};
+ghost use Rattle.id_core.specs.Fits.{Fits};
+ghost use Rattle.id_core.specs.Steps.{State, fresh, outputs_of};
+ghost use Rattle.id_core.specs.Machines.{AreElements, main_tag, start_message, start_messages};
+
+use crate::element::Element;
+use crate::flight::Flight;
+use crate::observe::{Observed, observe};
+use crate::outcome::most_sent;
+use crate::step::{Step, TakeError};
+use id_graph::{Graph, Port};
+use id_tag::{Context, Message, Payload, Sender, Tag, Value, route};
+use id_valid::Valid;
+use std::alloc::{AllocError, AllocFailed, Global};
+use std::collections::VecDeque;
+use std::marker::Model;
+use thiserror::Error;
+
+/// The most elements that a machine may have.
+pub const MAX_ELEMENTS: u32 = 64;
+
+/// Why there is no machine.
+#[derive(Clone, Copy, Debug, PartialEq, Eq, Error)]
+pub enum MachineError {
+    /// No element, or more than `MAX_ELEMENTS`.
+    #[error("the number of elements is not from 1 to 64")]
+    BadElements,
+    /// A growth was refused.
+    #[error("out of memory")]
+    Memory,
+}
+
+impl From<AllocError> for MachineError {
+    ghost use Rattle.std.specs.Prelude.{◌≡◌};
+    ghost use Rattle.id_core.specs.declared.machine.MachineError.TheVariants.{Memory};
+
+    ghost from_gives = { λ _ e. e ≡ Memory };
+
+    fn from(_error: AllocError) -> MachineError {
+        MachineError::Memory
+    }
+}
+
+impl<T: Drop> From<AllocFailed<T>> for MachineError {
+    ghost use Rattle.std.specs.Prelude.{◌≡◌};
+    ghost use Rattle.id_core.specs.declared.machine.MachineError.TheVariants.{Memory};
+
+    ghost from_gives = { λ _ e. e ≡ Memory };
+
+    fn from(_error: AllocFailed<T>) -> MachineError {
+        MachineError::Memory
+    }
+}
+
+/// A machine: 1 to 64 elements of one graph, and the messages in flight, in the order in which they were sent.
+#[derive(Drop)]
+pub struct Machine<'a> {
+    graph: &'a Valid,
+    elements: Vec<Element<'a>>,
+    flight: VecDeque<Message>,
+    outputs: Vec<Message>,
+}
+
+impl<'a> Model for Machine<'a> {
+    ghost use Rattle.std.specs.Prelude.{◌≡◌, [], length};
+    ghost use Rattle.std.specs.Coded.{codes};
+    ghost use Rattle.id_match.specs.Codes.{coded_store};
+    ghost use Rattle.id_core.specs.Machines.{MachineView, IsMachine, world_of};
+
+    ghost Value = { MachineView };
+
+    ghost coded = { Prim.hlevel (codes, coded_store) };
+
+    ghost view = { λ m. record {
+      graph = m.graph.now;
+      count = length m.elements.items;
+      world = world_of m.elements.items m.flight.items;
+    } };
+
+    ghost invariant = { λ m. IsMachine m.graph.now m.elements.items m.flight.items m.outputs.items };
+}
+
+impl<'a> Machine<'a> {
+    ghost use Rattle.std.specs.Prelude.{◌≡◌, ◌<◌, ◌↔◌, ◌⊎◌, length, Some, None, option_map, IfOk, OnOk, OnErr, IsTrue};
+    ghost use Rattle.id_core.specs.declared.machine.MachineError.TheVariants.{BadElements};
+    ghost use Rattle.id_core.specs.declared.step.TakeError.TheVariants.{StampEnd};
+    ghost use Rattle.id_core.specs.Observed.{answer, faults};
+    ghost use Rattle.id_core.specs.Machines.{AreElements, IsQuiet, delivered, event_at, start, world_of};
+
+    /// The machine of so many elements at its start, with the start messages in flight: a signal to
+    /// main's first instruction, and the continuation to instruction 0. `BadElements` comes where the
+    /// count is not from 1 to 64.
+    pub fn new(alloc: Global, graph: &'a Valid, count: u32) -> Result<Machine<'a>, MachineError>
+        ensures ok { IfOk result (λ m. m ≡ record { graph = graph.now; count = count; world = start graph.now count }) }
+        ensures refused { (result ≡ Err BadElements) ↔ ((count ≡ 0) ⊎ (64 < count)) }
+    {
+        if count == 0 || count > MAX_ELEMENTS {
+            return Err(MachineError::BadElements);
+        }
+        let elements = fresh_elements(alloc, graph, count)?;
+        let flight = start_flight(alloc, graph)?;
+        Ok(Machine {
+            graph,
+            elements,
+            flight,
+            outputs: Vec::new(alloc),
+        })
+    }
+
+    /// Delivers the message at a position of the list of those in flight: it leaves, the list closes
+    /// up, the element that it is for handles it, and what is sent goes to the end of the list. After an
+    /// error nothing has changed.
+    pub fn deliver(&mut self, position: usize) -> Result<Step, TakeError>
+        requires { position < length self.old.world.flight }
+
+        ensures world { OnOk result (self.new ≡ record self.old { world = delivered self.old.graph self.old.count self.old.world position }) }
+        ensures step { IfOk result (λ step. option_map (λ e. e.step) (event_at self.old.graph self.old.count self.old.world position) ≡ Some step) }
+
+        ensures end { (result ≡ Err StampEnd) ↔ (event_at self.old.graph self.old.count self.old.world position ≡ None) }
+        ensures err { OnErr result (self.new ≡ self.old) }
+    {
+        let message = self.flight[position];
+        let number = route(&message, self.elements.len() as u32) as usize;
+        if self.elements[number].is_ended(&message) {
+            return Err(TakeError::StampEnd);
+        }
+        self.flight
+            .reserve(most_outputs(self.graph.graph(), &message))?;
+        let step = self.elements[number].take(message, &mut self.outputs)?;
+        let _taken = self.flight.remove(position);
+        move_all(&mut self.outputs, &mut self.flight);
+        Ok(step)
+    }
+
+    /// Whether nothing is in flight and no event was a fault or `Stuck`. Takes no memory.
+    pub fn is_quiet(&self) -> bool
+        ensures { IsTrue result ↔ IsQuiet self.now.world }
+    {
+        self.flight.is_empty() && all_went(self.elements.as_slice())
+    }
+
+    /// The messages in flight, in the order in which they were sent. Takes no memory.
+    pub fn in_flight(&self) -> Flight<'_>
+        ensures { result ≡ self.now.world.flight }
+    {
+        Flight::new(&self.flight)
+    }
+
+    /// What the run so far shows: the answer, and the faults.
+    pub fn observe(&self, alloc: Global) -> Result<Observed, AllocError>
+        ensures answer { IfOk result (λ o. o.answer ≡ answer self.now.world) }
+        ensures faults { IfOk result (λ o. o.faults ≡ faults self.now.graph self.now.world) }
+    {
+        let shown = observe(alloc, self.graph, self.elements.as_slice())?;
+        Ok(shown)
+    }
+
+    /// The elements, in order of their numbers. Takes no memory.
+    pub fn elements(&self) -> &[Element<'a>]
+        ensures elements { AreElements self.now.graph self.now.count result.now }
+        ensures world { world_of result.now self.now.world.flight ≡ self.now.world }
+    {
+        self.elements.as_slice()
+    }
+}
+
+/// Whether no event of these elements was a fault or `Stuck`.
+fn all_went(elements: &[Element<'_>]) -> bool
+    ensures { IsTrue result ↔ All (λ e. AllWent e.state.events) elements.now }
+{
+    elements.iter().all(|element| element.all_went())
+}
+
+/// The elements at the start.
+fn fresh_elements<'a>(
+    alloc: Global,
+    graph: &'a Valid,
+    count: u32,
+) -> Result<Vec<Element<'a>>, AllocError>
+    requires at_least_one { 0 < count }
+    requires at_most_64 { count ≤ 64 }
+    ensures len { IfOk result (λ es. length es.items ≡ count) }
+    ensures elements { IfOk result (λ es. AreElements graph.now count es.items) }
+    ensures states { IfOk result (λ es. map (λ e. e.state) es.items ≡ replicate count fresh) }
+{
+    let mut elements = Vec::with_capacity(alloc, count as usize)?;
+    for number in 0..count {
+        elements.push_reserved(Element::new(alloc, number, count, graph));
+    }
+    Ok(elements)
+}
+
+/// The messages in flight at the start.
+fn start_flight(alloc: Global, graph: &Valid) -> Result<VecDeque<Message>, AllocError>
+    ensures messages { IfOk result (λ q. q.items ≡ start_messages graph.now) }
+    ensures fit { IfOk result (λ q. All (Fits graph.now) q.items) }
+{
+    let block = graph.main_block();
+    let within = (block.first as usize) + 1 < graph.graph().instrs().len();
+    prove!(within);
+    let mut flight = VecDeque::with_capacity(alloc, 2)?;
+    let trigger = start_message(0, block.first, Value::Signal);
+    flight.push_back_reserved(trigger);
+    let back = start_message(1, block.first + 1, Value::Continuation(main_tag(0)));
+    flight.push_back_reserved(back);
+    Ok(flight)
+}
+
+/// A start message to port 0 of an instruction, with its number.
+fn start_message(number: usize, instr: u32, value: Value) -> Message
+    ensures { result ≡ start_message number (Token (main_tag instr) Zero value) }
+{
+    Message {
+        payload: Payload::Token {
+            tag: main_tag(instr),
+            port: Port::Zero,
+            value,
+        },
+        sender: Sender::Start,
+        position: 0,
+        output: number,
+        stamp: 0,
+    }
+}
+
+/// The tag of an instruction in main's context, at iteration 0.
+pub(crate) fn main_tag(instr: u32) -> Tag
+    ensures { result ≡ main_tag instr }
+{
+    Tag {
+        context: Context {
+            element: 0,
+            serial: 0,
+        },
+        iteration: 0,
+        instr,
+    }
+}
+
+/// An upper bound on what any element sends for a message that fits.
+fn most_outputs(graph: &Graph, message: &Message) -> usize
+    requires { Fits graph.now message.now }
+    ensures { (n : ℕ) (s : State) → length (outputs_of graph.now n s message.now) ≤ result }
+{
+    let tag = tag_of(&message.payload);
+    most_sent(&graph.instrs()[tag.instr as usize])
+}
+
+/// The tag that a payload names.
+fn tag_of(payload: &Payload) -> Tag
+    ensures { result ≡ tag_of payload.now }
+{
+    let Payload::Token { tag, .. } = *payload;
+    tag
+}
+
+/// Moves all messages to the end of the other list, in which there is room for them. Takes no memory.
+fn move_all(from: &mut Vec<Message>, to: &mut VecDeque<Message>)
+    requires { deque_len to.old + vec_len from.old ≤ deque_capacity to.old }
+    ensures moved { to.new.items ≡ to.old.items ++ from.old.items }
+    ensures emptied { from.new.items ≡ [] }
+{
+    for message in from.iter() {
+        to.push_back_reserved(*message);
+    }
+    from.clear();
+}
