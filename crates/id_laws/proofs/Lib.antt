@@ -5,3 +5,4 @@ pub mod Arrivals
 pub mod Reached
 pub mod Matched
 pub mod Traffic
+pub mod Counts
