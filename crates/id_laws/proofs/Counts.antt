@@ -197,7 +197,7 @@ module _ (g : Parts) (count : ℕ) (x : Exclusive g count) where
       go (two w w' e c k l) = by_port p refl w w' k l
 
   -- the message that an event takes was in flight, and the counts before and after it
-  took : (k : ℕ) (s : World) (m : Message) (n : ℕ) (e : State) → slice_get s.flight k ≡ Some m → Among (token_of (happening g n e.waiting m.payload)) (flying s)
+  pub took : (k : ℕ) (s : World) (m : Message) (n : ℕ) (e : State) → slice_get s.flight k ≡ Some m → Among (token_of (happening g n e.waiting m.payload)) (flying s)
   took k s m n e f =
       subst (λ y. Among y (flying s)) (sym (token_of-happening g n e.waiting m.payload)) (among_at m.payload (flying s) k (map_at (λ (y : Message). y.payload) s.flight k m f))
 

@@ -6,3 +6,6 @@ pub mod Reached
 pub mod Matched
 pub mod Traffic
 pub mod Counts
+pub mod Progress
+pub mod Closed
+pub mod Records
