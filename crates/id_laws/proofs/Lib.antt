@@ -9,3 +9,7 @@ pub mod Counts
 pub mod Progress
 pub mod Closed
 pub mod Records
+pub mod Agreement
+pub mod Wanted
+pub mod Turned
+pub mod Fed

@@ -79,15 +79,15 @@ pub def_of_main : {P : Checked} {d : Def} → IsMain P d → IsDef P d
 def_of_main {P} {d} h = record { among = among_at d P.program.defs P.main h.at }
 
 -- what stands at an expression's own place
-abbrev root_node : Expr → Node
+abbrev pub root_node : Expr → Node
 root_node (Literal value place) = LiteralNode (literal_value value)
 root_node (Unary' op p operand place) = UnaryNode op (place_of operand)
 root_node (Binary' op p left q right place) = BinaryNode op (place_of left) (place_of right)
 
-abbrev line : Region → ℕ → Node → Entry
+abbrev pub line : Region → ℕ → Node → Entry
 line r e n = record { place = e; region = r; node = n }
 
-root_among : (r : Region) (x : Expr) → Among (line r (place_of x) (root_node x)) (entries_of r x)
+pub root_among : (r : Region) (x : Expr) → Among (line r (place_of x) (root_node x)) (entries_of r x)
 root_among r (Literal value place) = inl refl
 root_among r (Unary' op p operand place) = inl refl
 root_among r (Binary' op p left q right place) = inl refl
@@ -177,3 +177,20 @@ body_part {P} {d} h = record {
   node = root_node d.body;
   part = record { stands = entry_of_def P.program.defs d _ h.among (root_among (Top d.place) d.body) };
 }
+
+-- a part of a definition's region is a part of its body
+pub part_of_def : (P : Checked) → Distinct P → {d : Def} {e : ℕ} {n : Node} → IsDef P d → Part P (Top d.place) e n → Among (line (Top d.place) e n) (entries_of_def d)
+part_of_def P distinct {d} {e} {n} h part =
+    let t = def_of_entry P.program.defs _ part.stands in
+    let region_is : Top d.place ≡ Top (t.0).place = region_of (Top (t.0).place) (t.0).body _ t.2 in
+    let place_is : (t.0).place ≡ d.place = cc in
+    let is : t.0 ≡ d = same_def P distinct (record { among = t.1 }) h place_is in
+    subst (λ (y : Def). Among (line (Top d.place) e n) (entries_of_def y)) is t.2
+
+-- a line of a definition's body is a part
+pub part_in_def : {P : Checked} {d : Def} (e : ℕ) (n : Node) → IsDef P d → Among (line (Top d.place) e n) (entries_of_def d) → Part P (Top d.place) e n
+part_in_def {P} {d} e n h among = record { stands = entry_of_def P.program.defs d (line (Top d.place) e n) h.among among }
+
+-- main's definition is one
+pub one_main : {P : Checked} {d d' : Def} → IsMain P d → IsMain P d' → d ≡ d'
+one_main h k = let both = sym h.at ∙ k.at in cc
