@@ -13,3 +13,4 @@ pub mod Agreement
 pub mod Wanted
 pub mod Turned
 pub mod Fed
+pub mod Firing
