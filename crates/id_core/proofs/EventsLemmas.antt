@@ -16,7 +16,7 @@ slice_range-append xs ys i j below within =
     rw (drop-append-le i xs ys from_start, take-append-le (j - i) (drop i xs) ys fits)
 
 -- the end of a list is its part after the rest
-slice_range-append_seam : {A : Type 0} (xs ys : List A) (i j : ℕ) → i ≡ length xs → j ≡ length xs + length ys → slice_range (xs ++ ys) i j ≡ ys
+pub slice_range-append_seam : {A : Type 0} (xs ys : List A) (i j : ℕ) → i ≡ length xs → j ≡ length xs + length ys → slice_range (xs ++ ys) i j ≡ ys
 slice_range-append_seam xs ys i j at upto =
     let count : j - i ≡ length ys = omega arith in
     rw (count, at, drop-append_seam xs ys, take-length ys)

@@ -1,9 +1,13 @@
 -- The record of an element leads to its state (docs/MACHINE.md, "The record").
-use Rattle.std.specs.Prelude.{◌≡◌, ◌<◌, ◌-◌, ◌^◌, ℕ, List, [], ◌∷◌, map, All}
+use Rattle.std.specs.Prelude.{◌≡◌, ◌<◌, ◌-◌, ◌^◌, ℕ, Some, List, [], ◌∷◌, map, All}
+use Rattle.id_graph.specs.declared.dests.Port.{Port}
+use Rattle.id_tag.specs.declared.Tag.{Tag}
+use Rattle.id_tag.specs.declared.Value.{Value}
 use Rattle.id_tag.specs.declared.Message.{Message}
+use Rattle.id_match.specs.Waiting.{waits}
 use Rattle.id_graph.specs.Graph.{Parts}
 use Rattle.id_core.specs.Events.{EventView}
-use Rattle.id_core.specs.Fits.{IsFor}
+use Rattle.id_core.specs.Fits.{TokenFits, IsFor}
 use Rattle.id_core.specs.Steps.{State, fresh, state_after}
 
 -- the state of the element n after these messages, one after another
@@ -31,7 +35,12 @@ pub record ElementView : Type 0 where
   pub graph : Parts
   pub state : State
 
--- what every element keeps: its record leads to its state, by legal events
+-- whatever waits fits the graph at the last stamp
+abbrev pub WaitingFits : Parts → State → Type 0
+WaitingFits g s = (t : Tag) (p : Port) (v : Value) → waits s.waiting t p ≡ Some v → TokenFits g s.stamp t p v
+
+-- what every element keeps: its record leads to its state, by legal events, and what waits fits the graph
 pub record Replays (e : ElementView) : Type 0 where
   pub state : IsReplayed e.graph e.number e.state
   pub legal : All (IsLegal e.graph e.count e.number) e.state.events
+  pub waiting : WaitingFits e.graph e.state

@@ -17,7 +17,6 @@ use Rattle.id_tag.specs.declared.Message.{Message}
 use Rattle.id_match.specs.declared.Offered.{Offered}
 use Rattle.id_match.specs.declared.Offered.TheVariants.{Kept, Pair, Taken}
 use Rattle.id_match.specs.Waiting.{Store, offer_answer, offer_after}
-use Rattle.id_ops.specs.declared.Operands.{Operands}
 use Rattle.id_ops.specs.declared.Operands.TheVariants.{One, Two}
 use Rattle.id_ops.specs.declared.Fresh.{Fresh}
 use Rattle.id_ops.specs.declared.Fired.{Fired}
@@ -26,6 +25,10 @@ use Rattle.id_ops.specs.Operators.{fired}
 use Rattle.id_core.specs.declared.step.Step.{Step}
 use Rattle.id_core.specs.declared.step.Step.TheVariants.{Went, Stuck, Fault}
 use Rattle.id_core.specs.declared.step.Fault.TheVariants.{Operator}
+use Rattle.id_core.specs.declared.step.Verdict.{Verdict}
+use Rattle.id_core.specs.declared.step.Verdict.TheVariants as verdict
+use Rattle.id_core.specs.declared.step.Arrival.{Arrival}
+use Rattle.id_core.specs.declared.step.Arrival.TheVariants.{Fires, Waits, Blocked}
 use Rattle.id_core.specs.Events.{EventView}
 
 -- an element's state: what waits for its partner, the last stamp, and the record
@@ -41,12 +44,6 @@ fresh = record { waiting = empty; stamp = 0; events = [] }
 -- the numbers that the element n would give next: no operator takes one yet
 abbrev pub fresh_numbers : ℕ → Fresh
 fresh_numbers n = record { context = record { element = n; serial = 1 }; element = n; structure = 1 }
-
--- what becomes of a token: it fires its instruction, it waits, or its port was filled already
-pub data Arrival : Type 0 where
-  Fires : Operands → Arrival
-  Waits : Arrival
-  Blocked : Arrival
 
 -- what becomes of a token that was offered
 abbrev pub arrival_of : Offered → Arrival
@@ -79,6 +76,13 @@ fired_step t (Out v) = Went
 fired_step t (Sent u v) = Went
 fired_step t (Failed f) = Fault (Operator f t)
 fired_step t Nothing = Went
+
+-- what the record keeps of what a firing comes to
+abbrev pub fired_verdict : Fired → Verdict
+fired_verdict (Out v) = verdict.Went
+fired_verdict (Sent u v) = verdict.Went
+fired_verdict (Failed f) = verdict.Failed f
+fired_verdict Nothing = verdict.Went
 
 -- what is sent and what the event comes to, and what waits afterwards
 pub record Outcome : Type 0 where

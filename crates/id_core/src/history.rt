@@ -54,7 +54,7 @@ pub struct Event<'a> {
 }
 
 /// The events of a record, in order.
-#[derive(Debug)]
+#[derive(Debug, Drop)]
 pub struct Events<'a> {
     record: &'a Record,
 }
@@ -74,7 +74,8 @@ impl Record {
 
     /// The empty record of the element of this number. Takes no memory.
     pub(crate) fn new(alloc: Global, element: u32) -> Record
-        ensures { result.events ≡ [] }
+        ensures events { result.events ≡ [] }
+        ensures element { result.element ≡ element }
     {
         Record {
             element,
@@ -86,6 +87,7 @@ impl Record {
     /// Makes room for one more event, with as many outputs.
     pub(crate) fn reserve(&mut self, outputs: usize) -> Result<(), AllocError>
         ensures events { self.new.events ≡ self.old.events }
+        ensures element { self.new.element ≡ self.old.element }
         ensures room { OnOk result (0 < self.new.room) }
         ensures room_for_outputs { OnOk result (outputs ≤ self.new.room_for_outputs) }
     {
@@ -104,7 +106,8 @@ impl Record {
     )
         requires room { 0 < self.old.room }
         requires room_for_outputs { length outputs.now ≤ self.old.room_for_outputs }
-        ensures { self.new.events ≡ self.old.events ++ record {
+        ensures element { self.new.element ≡ self.old.element }
+        ensures events { self.new.events ≡ self.old.events ++ record {
           element = self.old.element;
           stamp = stamp;
           message = message;
@@ -133,8 +136,15 @@ impl Record {
         Events { record: self }
     }
 
+    /// The number of the element. Takes no memory.
+    pub(crate) fn element(&self) -> u32
+        ensures { result ≡ self.now.element }
+    {
+        self.element
+    }
+
     /// How many events there are. Takes no memory.
-    fn len(&self) -> usize
+    pub(crate) fn len(&self) -> usize
         ensures { result ≡ length self.now.events }
     {
         self.handled.len()
@@ -194,7 +204,7 @@ impl Record {
 }
 
 /// What a verdict on a message says in full.
-fn full_step(payload: &Payload, verdict: Verdict) -> Step
+pub(crate) fn full_step(payload: &Payload, verdict: Verdict) -> Step
     ensures { result ≡ full_step payload.now verdict }
 {
     let Payload::Token { tag, .. } = *payload;

@@ -6,8 +6,14 @@
 //! Not here: what an operator does (`id_ops`), matching (`id_match`), which graphs are sound (`id_valid`).
 #![tactic(auto)]
 
+mod desk;
+mod element;
+mod fitting;
 mod history;
+mod outcome;
 mod step;
 
+pub use element::Element;
+pub use fitting::fits;
 pub use history::{Event, Events};
 pub use step::{Fault, Step, TakeError};

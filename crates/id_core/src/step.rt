@@ -1,6 +1,6 @@
 //! What handling a message comes to, and why a message is not handled (docs/MACHINE.md, "Element step").
 
-use id_ops::OperatorFault;
+use id_ops::{Operands, OperatorFault};
 use id_tag::Tag;
 use std::alloc::{AllocError, AllocFailed};
 use thiserror::Error;
@@ -62,4 +62,15 @@ pub(crate) enum Verdict {
     Went,
     Failed(OperatorFault),
     Stuck,
+}
+
+/// What becomes of a token at its instruction.
+#[derive(Clone, Copy, Debug, PartialEq, Eq)]
+pub(crate) enum Arrival {
+    /// It fires the instruction.
+    Fires(Operands),
+    /// It waits for its partner.
+    Waits,
+    /// Its port was filled already.
+    Blocked,
 }

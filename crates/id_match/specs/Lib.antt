@@ -1,4 +1,7 @@
 pub mod Ports
 pub mod Waiting
+pub mod Keyed
 -- for models that hold a store
 pub mod Codes
+-- for use inside
+pub mod Halves

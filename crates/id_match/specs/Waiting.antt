@@ -1,11 +1,11 @@
 -- The waiting-matching store (docs/MACHINE.md, "The waiting-matching store").
-use Rattle.std.specs.Prelude.{◌&&◌, if◌then◌else◌, Option, Some, None, List, map}
+use Rattle.std.specs.Prelude.{if◌then◌else◌, Option, Some, None, List, map}
 use Rattle.std.specs.FinMap.{FinMap, get, insert, remove, entries}
 use Rattle.id_graph.specs.declared.dests.Port.{Port}
 use Rattle.id_graph.specs.declared.dests.Port.TheVariants.{Zero, One}
 use Rattle.id_tag.specs.declared.Tag.{Tag}
 use Rattle.id_tag.specs.declared.Value.{Value}
-use Rattle.id_tag.specs.Tags.{tag_cmp, same_tag}
+use Rattle.id_tag.specs.Tags.{tag_cmp}
 use Rattle.id_match.specs.declared.Half.{Half}
 use Rattle.id_match.specs.declared.Entry.{Entry}
 use Rattle.id_match.specs.declared.Offered.{Offered}
@@ -50,6 +50,10 @@ store_after s t p v Taken = s
 abbrev pub offer_after : Store → Tag → Port → Value → Store
 offer_after s t p v = store_after s t p v (offer_answer s t p v)
 
+-- what waits under a tag, as an entry
+abbrev pub entry_at : Tag × Half → Entry
+entry_at e = record { tag = e.0; port = e.1.port; value = e.1.value }
+
 -- what waits, in the order of tags
 abbrev pub entries_of : Store → List Entry
-entries_of s = map (λ e. record { tag = e.0; port = e.1.port; value = e.1.value }) (entries s)
+entries_of s = map entry_at (entries s)

@@ -6,10 +6,16 @@
 //! Not here: which operators have two ports (`id_graph`), firing (`id_ops`).
 #![tactic(auto)]
 
-ghost use Rattle.std.specs.Prelude.{◌≡◌, IfOk, OnOk, OnErr};
+ghost use Rattle.std.specs.Prelude.{◌≡◌, false, None, IsPermutation, IsSortedByKey, IfOk, OnOk, OnErr};
 ghost use Rattle.std.specs.FinMap as map;
+ghost use Rattle.std.specs.HashMap as hash;
+ghost use Rattle.std.specs.Prelude.{map as map_list};
+ghost use Rattle.id_tag.specs.Tags.{same_tag, tag_cmp};
+ghost use Rattle.id_tag.specs.declared.Tag.{Tag};
+ghost use Rattle.id_graph.specs.declared.dests.Port.{Port};
 ghost use Rattle.id_match.specs.declared.Offered.TheVariants.{Kept};
-ghost use Rattle.id_match.specs.Waiting.{pair_of};
+ghost use Rattle.id_match.specs.Waiting.{pair_of, entry_at};
+ghost use Rattle.id_match.specs.Halves.{answer_at, half_after};
 
 use id_graph::Port;
 use id_tag::{Tag, Value};
@@ -64,11 +70,13 @@ impl Model for Waiting {
 }
 
 impl Waiting {
-    ghost use Rattle.id_match.specs.Waiting.{offer_answer, offer_after, entries_of};
+    ghost use Rattle.id_match.specs.Waiting.{waits, offer_answer, offer_after, entries_of};
+    ghost use Rattle.id_match.specs.Keyed.{keyed_after};
 
     /// The store in which nothing waits. Takes no memory.
     pub fn new(alloc: Global) -> Waiting
-        ensures { result ≡ map.empty }
+        ensures empty { result ≡ map.empty }
+        ensures keyed { (t : Tag) (p : Port) → waits result t p ≡ None }
     {
         Waiting {
             halves: HashMap::new(alloc),
@@ -78,42 +86,82 @@ impl Waiting {
     /// Offers a value to a port of a tag: it is kept until the value of the other port comes, and then
     /// both leave. Memory is wanted only where the value is kept; after an error nothing has changed.
     pub fn offer(&mut self, tag: Tag, port: Port, value: Value) -> Result<Offered, AllocError>
-        ensures { OnErr result (self.new ≡ self.old) }
+        ensures answer { IfOk result (λ answer. answer ≡ offer_answer self.old tag port value) }
+        ensures after { OnOk result (self.new ≡ offer_after self.old tag port value) }
+        // The store is a map keyed by tag and port.
+        ensures keyed { OnOk result ((t : Tag) (p : Port) → waits self.new t p ≡ keyed_after (waits self.old) tag port value t p) }
+
+        ensures grows { OnErr result (offer_answer self.old tag port value ≡ Kept) }
+        ensures err { OnErr result (self.new ≡ self.old) }
     {
-        match self.halves.entry(tag)? {
-            Place::Vacant(place) => {
-                place.insert(Half { port, value });
-                Ok(Offered::Kept)
-            }
-            Place::Occupied(place) => {
-                let half = *place.get();
-                if half.port == port {
-                    return Ok(Offered::Taken);
-                }
-                place.remove();
-                Ok(pair(port, value, half.value))
-            }
-        }
+        offer_to(&mut self.halves, tag, port, value)
     }
 
     /// How many values wait. Takes no memory.
-    pub fn len(&self) -> usize {
+    pub fn len(&self) -> usize
+        ensures { result ≡ map.len self.now }
+    {
         self.halves.len()
     }
 
     /// The values that wait, in the order of their tags.
-    pub fn entries(&self, alloc: Global) -> Result<Vec<Entry>, AllocError> {
-        let mut entries: Vec<Entry> = self.halves.iter().map(entry_of).collect(alloc)?;
-        entries.sort_unstable_by_key(|e| e.tag);
+    pub fn entries(&self, alloc: Global) -> Result<Vec<Entry>, AllocError>
+        ensures { IfOk result (λ es. es.items ≡ entries_of self.now) }
+    {
+        let mut entries = listed(alloc, &self.halves)?;
+        sort_by_tag(&mut entries);
         Ok(entries)
     }
 }
 
-fn entry_of(half: (&Tag, &Half)) -> Entry {
-    Entry {
-        tag: *half.0,
-        port: half.1.port,
-        value: half.1.value,
+// What waits, in the order of the map.
+fn listed(alloc: Global, halves: &HashMap<Tag, Half>) -> Result<Vec<Entry>, AllocError>
+    ensures items { IfOk result (λ es. es.items ≡ map_list entry_at halves.now.entries) }
+    ensures unique { hash.IsUnique same_tag halves.now }
+{
+    halves
+        .iter()
+        .map(|(tag, half)| Entry {
+            tag: *tag,
+            port: half.port,
+            value: half.value,
+        })
+        .collect(alloc)
+}
+
+fn sort_by_tag(entries: &mut Vec<Entry>)
+    ensures permutation { IsPermutation entries.old.items entries.new.items }
+    ensures sorted { IsSortedByKey (λ e. e.tag) tag_cmp entries.new.items }
+{
+    entries.sort_unstable_by_key(|e| e.tag);
+}
+
+// An offer in one look-up: room is made where the tag is new, and only there.
+fn offer_to(
+    halves: &mut HashMap<Tag, Half>,
+    tag: Tag,
+    port: Port,
+    value: Value,
+) -> Result<Offered, AllocError>
+    ensures answer { IfOk result (λ answer. answer ≡ answer_at (hash.get same_tag halves.old tag) port value) }
+    ensures at { OnOk result (hash.get same_tag halves.new tag ≡ half_after (hash.get same_tag halves.old tag) port value) }
+    ensures others { OnOk result ((t : Tag) → same_tag tag t ≡ false → hash.get same_tag halves.new t ≡ hash.get same_tag halves.old t) }
+    ensures grows { OnErr result (hash.get same_tag halves.old tag ≡ None) }
+    ensures err { OnErr result (hash.IsUnchanged halves.old halves.new) }
+{
+    match halves.entry(tag)? {
+        Place::Vacant(place) => {
+            place.insert(Half { port, value });
+            Ok(Offered::Kept)
+        }
+        Place::Occupied(place) => {
+            let half = *place.get();
+            if half.port == port {
+                return Ok(Offered::Taken);
+            }
+            place.remove();
+            Ok(pair(port, value, half.value))
+        }
     }
 }
 

@@ -1,11 +1,15 @@
 -- Lemmas on specs/Tags.antt.
-use Rattle.std.proofs.Common.{ℕ, ap}
-use Rattle.std.specs.Ordering.{nat_cmp, ordering_then}
-use Rattle.std.specs.Cmp.{IsTotalOrder, nat_cmp_total}
+use Rattle.std.proofs.Common.{◌≡◌, ℕ, true, ◌&&◌, nat_eq, refl, sym, ◌∙◌, ap, arith}
+use Rattle.std.specs.Ordering.{nat_cmp, ordering_then, eq_by_cmp, is_eq}
+use Rattle.std.specs.declared.cmp.Ordering.{Ordering}
+use Rattle.std.specs.declared.cmp.Ordering.TheVariants.{Less, Equal, Greater}
+use Rattle.std.proofs.lemmas.Bool.Decides.{nat_tests}
+use Rattle.std.specs.Cmp.{IsTotalOrder, IsEquivalence, nat_cmp_total, eq_by_cmp_equiv}
 use Rattle.std.proofs.lemmas.Cmp.{then_total, on_total}
 use Rattle.std.proofs.lemmas.Map.Lookups.{CmpEqualImpliesEq, exact_pairs, exact_unsigned}
 use Rattle.id_tag.specs.declared.Context.{Context}
-use Rattle.id_tag.specs.Tags.{context_cmp, tag_cmp}
+use Rattle.id_tag.specs.Tags.{context_cmp, tag_cmp, same_tag}
+use Rattle.id_tag.specs.declared.Tag.{Tag}
 
 -- contexts that compare alike are one
 pub exact_contexts : CmpEqualImpliesEq context_cmp
@@ -29,3 +33,37 @@ pub tags_total : IsTotalOrder tag_cmp
 tags_total =
     then_total (on_total (λ t. t.context) contexts_total)
     (then_total (on_total (λ t. t.iteration) nat_cmp_total) (on_total (λ t. t.instr) nat_cmp_total))
+
+then_ties : (a b : Ordering) → is_eq (ordering_then a b) ≡ (is_eq a && is_eq b)
+then_ties Less b = refl
+then_ties Equal b = refl
+then_ties Greater b = refl
+
+numbers_tie : (m n : ℕ) → is_eq (nat_cmp m n) ≡ nat_eq m n
+numbers_tie m n = grind (arith, nat_tests)
+
+-- the test of tags by their numbers is that by their order
+pub ties-same_tag : (t u : Tag) → eq_by_cmp tag_cmp t u ≡ same_tag t u
+ties-same_tag t u = simp (then_ties, numbers_tie)
+
+-- the test of tags is an equivalence
+pub same_tag_laws : IsEquivalence same_tag
+same_tag_laws =
+    let laws = eq_by_cmp_equiv tags_total in
+    record {
+      refl = λ t. sym (ties-same_tag t t) ∙ laws.refl t;
+      symm = λ t u. sym (ties-same_tag t u) ∙ laws.symm t u ∙ ties-same_tag u t;
+      congr = λ t u w h. sym (ties-same_tag t w) ∙ laws.congr t u w (ties-same_tag t u ∙ h) ∙ ties-same_tag u w;
+    }
+
+tied : (r : Ordering) → is_eq r ≡ true → r ≡ Equal
+tied Less e = cc
+tied Equal e = refl
+tied Greater e = cc
+
+-- tags that pass the test tie in the order, and are one
+pub ties_from_same_tag : (t u : Tag) → same_tag t u ≡ true → tag_cmp t u ≡ Equal
+ties_from_same_tag t u h = tied _ (ties-same_tag t u ∙ h)
+
+pub one_from_same_tag : (t u : Tag) → same_tag t u ≡ true → t ≡ u
+one_from_same_tag t u h = exact_tags t u (ties_from_same_tag t u h)

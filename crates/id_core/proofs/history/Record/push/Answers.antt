@@ -6,8 +6,8 @@ use Rattle.id_core.proofs.EventsLemmas.{unpacked_all-push}
 use Rattle.id_core.proofs.history.Record.push.Goals as goal
 
 -- the new line's outputs are those that were added
-pub returns : goal.returns
-returns c =
+pub returns-clause-events : goal.returns-clause-events
+returns-clause-events c =
     let events = ap (λ r. r.events) c.self.view_is in
     let number = ap (λ r. r.element) c.self.view_is in
     let extended : c.extend_from_slice.new.self.items ≡ c.self.inside.outputs.items ++ c.args.outputs.now = grind (arith, common_steps) in

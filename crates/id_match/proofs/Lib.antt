@@ -1,0 +1,3 @@
+pub mod WaitingLemmas
+pub mod KeyedLemmas
+pub mod EntriesLemmas

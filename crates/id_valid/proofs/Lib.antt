@@ -1,0 +1,3 @@
+pub mod PastLemmas
+pub mod RolesLemmas
+pub mod ValidatorLemmas

@@ -1,0 +1,30 @@
+-- Lemmas on specs/Roles.antt, in the order of its definitions.
+use Rattle.std.proofs.Common.{false, ◌≡◌, ℕ, ◌+◌, ◌<◌, Bool, true, List, [], ◌∷◌, ◌++◌, length, take, drop, get_or, filter, arith, ap, sym, ◌∙◌, length-append, refl, ◌-◌, ◌==◌}
+use Rattle.std.specs.List.{list_any}
+use Rattle.std.proofs.lemmas.Bool.Decides.{nat_tests}
+use Rattle.id_graph.specs.declared.instr.Block.{Block}
+use Rattle.std.proofs.lemmas.List.{take-append-drop}
+use Rattle.std.proofs.lemmas.List.Elements.{filter-append}
+use Rattle.std.proofs.lemmas.List.Filters.{length-filter_more}
+
+-- instruction 0 is the second of no block
+pub is_second-zero : (bs : List Block) → list_any (λ b. b.first + 1 == 0) bs ≡ false
+is_second-zero [] = refl
+is_second-zero (b ∷ bs) =
+    let head : (b.first + 1 == 0) ≡ false = grind (arith, nat_tests)
+    in rw head (is_second-zero bs)
+
+-- an instruction is the second of a block exactly where the one before it is the first
+pub is_second-suc : (n : ℕ) (bs : List Block) → 0 < n → list_any (λ b. b.first + 1 == n) bs ≡ list_any (λ b. b.first == n - 1) bs
+is_second-suc n [] h = refl
+is_second-suc n (b ∷ bs) h =
+    let head : (b.first + 1 == n) ≡ (b.first == n - 1) = grind (arith, nat_tests)
+    in rw (head, is_second-suc n bs h)
+
+-- where an element passes after one that passed, the list has not one alone that passes
+pub filter-not_one : {X : Type 0} (p : X → Bool) (xs : List X) (i : ℕ) (d a b : X) → i < length xs → filter p (take i xs) ≡ a ∷ [] → p (get_or xs i d) ≡ true → filter p xs ≡ b ∷ [] → ⊥
+filter-not_one p xs i d a b within one passes alone =
+    let parts : filter p (take (i + 1) xs) ++ filter p (drop (i + 1) xs) ≡ b ∷ [] =
+    sym (filter-append p (take (i + 1) xs) (drop (i + 1) xs)) ∙ ap (λ l. filter p l) (take-append-drop (i + 1) xs) ∙ alone
+    in let more = rw passes at (length-filter_more p xs i d within)
+    in omega (arith, ap length parts, length-append (filter p (take (i + 1) xs)) (filter p (drop (i + 1) xs)), more, ap length one)

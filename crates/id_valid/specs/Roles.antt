@@ -1,0 +1,81 @@
+-- What blocks make of the instructions of a graph (docs/GRAPH.md, "Validator").
+use Rattle.std.specs.Prelude.{◌≡◌, ℕ, ◌+◌, ◌==◌, ◌&&◌, ◌||◌, Bool, true, false, Option, Some, None, [], ◌∷◌, filter, slice_get, option_map, option_and_then, sum_by, count_by}
+use Rattle.std.specs.List.{list_any}
+use Rattle.id_graph.specs.declared.instr.Block.{Block}
+use Rattle.id_graph.specs.declared.instr.Instr.{Instr}
+use Rattle.id_graph.specs.declared.instr.Op.{Op}
+use Rattle.id_graph.specs.declared.instr.Op.TheVariants.{Const, Neg, Binary, Merge, Back}
+use Rattle.id_graph.specs.declared.instr.PortKind.{PortKind}
+use Rattle.id_graph.specs.declared.dests.Dest.{Dest}
+use Rattle.id_graph.specs.declared.dests.Port.{Port}
+use Rattle.id_graph.specs.declared.dests.Port.TheVariants.{Zero, One}
+use Rattle.id_graph.specs.Graph.{Parts, arcs}
+
+-- what the instruction of this number does, if there is one
+abbrev pub op_at : Parts → ℕ → Option Op
+op_at g n = option_map (λ i. i.op) (slice_get g.instrs n)
+
+-- the kind of a merge
+abbrev pub merge_kind : Op → Option PortKind
+merge_kind (Merge k) = Some k
+merge_kind (Const v) = None
+merge_kind Neg = None
+merge_kind (Binary f) = None
+merge_kind (Back k) = None
+
+-- the kind of a `back`
+abbrev pub back_kind : Op → Option PortKind
+back_kind (Back k) = Some k
+back_kind (Const v) = None
+back_kind Neg = None
+back_kind (Binary f) = None
+back_kind (Merge k) = None
+
+-- the kind of a block's result: that of the `back` at its `first + 1`, if it is one
+abbrev pub result_kind : Parts → Block → Option PortKind
+result_kind g b = option_and_then back_kind (op_at g (b.first + 1))
+
+-- whether the instruction is the first of a block
+abbrev pub is_first : Parts → ℕ → Bool
+is_first g n = list_any (λ b. b.first == n) g.blocks
+
+-- whether the instruction is the second of a block
+abbrev pub is_second : Parts → ℕ → Bool
+is_second g n = list_any (λ b. b.first + 1 == n) g.blocks
+
+-- whether the instruction is an entry of a block
+abbrev pub is_entry : Parts → ℕ → Bool
+is_entry g n = list_any (λ b. list_any (λ e. e == n) b.entries) g.blocks
+
+-- whether there are two instructions, and they have one place
+abbrev pub same_place : Option Instr → Option Instr → Bool
+same_place (Some i) (Some j) = i.place == j.place
+same_place (Some i) None = false
+same_place None o = false
+
+-- whether the first instruction of the block has the place of instruction 0
+abbrev pub has_main_place : Parts → Block → Bool
+has_main_place g b = same_place (slice_get g.instrs b.first) (slice_get g.instrs 0)
+
+-- the block is the one whose first instruction has the place of instruction 0
+abbrev pub IsMain : Parts → Block → Type 0
+IsMain g b = filter (has_main_place g) g.blocks ≡ b ∷ []
+
+-- whether two ports are one
+abbrev pub same_port : Port → Port → Bool
+same_port Zero Zero = true
+same_port Zero One = false
+same_port One Zero = false
+same_port One One = true
+
+-- whether the destination is this port of this instruction
+abbrev pub is_dest : ℕ → Port → Dest → Bool
+is_dest n p d = (d.instr == n) && same_port d.port p
+
+-- how many arcs feed the port
+abbrev pub arcs_into : Parts → ℕ → Port → ℕ
+arcs_into g n p = sum_by (λ i. count_by (is_dest n p) (arcs i)) g.instrs
+
+-- whether the port needs no arc, since it is fed by a result, by entering or by a send
+abbrev pub needs_no_arc : Parts → ℕ → Port → Bool
+needs_no_arc g n p = (n == 0) || is_first g n || is_entry g n || (is_second g n && same_port p Zero)

@@ -1,0 +1,88 @@
+-- Which instructions are faulty, and which graphs are valid (docs/GRAPH.md, "Validator").
+use Rattle.std.specs.Prelude.{MatchOption, ◌+◌, ◌≡◌, ℕ, ◌<◌, Bool, true, false, IsTrue, Option, Some, List, IsSome, IsSomeAnd, All, slice_get, option_and_then}
+use Rattle.std.specs.Bool.{IsFalse}
+use Rattle.std.specs.Option.{ForSome}
+use Rattle.id_graph.specs.declared.instr.Block.{Block}
+use Rattle.id_graph.specs.declared.instr.Instr.{Instr}
+use Rattle.id_graph.specs.declared.instr.Op.{Op}
+use Rattle.id_graph.specs.declared.instr.Op.TheVariants.{Merge, Back}
+use Rattle.id_graph.specs.declared.instr.PortKind.{PortKind}
+use Rattle.id_graph.specs.declared.instr.PortKind.TheVariants.{Signal, Int, Bool as BoolKind, Structure, Address, Context, Continuation}
+use Rattle.id_graph.specs.declared.dests.Dest.{Dest}
+use Rattle.id_graph.specs.declared.dests.Port.{Port}
+use Rattle.id_valid.specs.declared.valid.InvalidCause.{InvalidCause}
+use Rattle.id_valid.specs.declared.valid.InvalidCause.TheVariants.{Faulty, Memory}
+use Rattle.id_graph.specs.Ports.{port_kind, sends}
+use Rattle.id_graph.specs.Graph.{Parts, arcs, kind_at}
+use Rattle.id_valid.specs.Roles.{op_at, merge_kind, back_kind, result_kind, is_first, is_second, is_entry, IsMain, arcs_into, needs_no_arc}
+
+-- whether the kind is one of values of the language
+abbrev pub is_value : PortKind → Bool
+is_value Signal = false
+is_value Int = true
+is_value BoolKind = true
+is_value Structure = true
+is_value Address = false
+is_value Context = false
+is_value Continuation = false
+
+-- instruction 0 is a merge for values, of the result kind of the one block that has its place
+pub record IsAnswer (g : Parts) : Type 0 where
+  pub kind : PortKind
+  pub block : Block
+  pub merge : op_at g 0 ≡ Some (Merge kind)
+  pub value : IsTrue (is_value kind)
+  pub main : IsMain g block
+  pub result : result_kind g block ≡ Some kind
+
+-- the instruction is what its place in a block asks for
+pub record FillsRoles (g : Parts) (n : ℕ) : Type 0 where
+  pub first : IsTrue (is_first g n) → op_at g n ≡ Some (Merge Signal)
+  pub second : IsTrue (is_second g n) → IsSome (option_and_then back_kind (op_at g n))
+  pub entry : IsTrue (is_entry g n) → IsSome (option_and_then merge_kind (op_at g n))
+
+-- the port at the destination takes the kind that the operator sends
+abbrev pub IsTaken : List Instr → Op → Dest → Type 0
+IsTaken is op d = IsSomeAnd (sends op) (λ k. kind_at is d ≡ Some k)
+
+-- the port is fed by an arc unless it needs none, and by several only at a merge
+pub record IsFed (g : Parts) (n : ℕ) (op : Op) (p : Port) : Type 0 where
+  pub fed : IsFalse (needs_no_arc g n p) → 0 < arcs_into g n p
+  pub once : 1 < arcs_into g n p → IsSome (merge_kind op)
+
+-- each port of the operator is fed
+abbrev pub AreFed : Parts → ℕ → Op → Type 0
+AreFed g n op = (p : Port) → IsSome (port_kind op p) → IsFed g n op p
+
+-- no rule makes the instruction of this number faulty
+pub record IsSound (g : Parts) (n : ℕ) : Type 0 where
+  pub answer : n ≡ 0 → IsAnswer g
+  pub roles : FillsRoles g n
+  pub taken : ForSome (slice_get g.instrs n) (λ i. All (IsTaken g.instrs i.op) (arcs i))
+  pub fed : ForSome (op_at g n) (AreFed g n)
+
+-- no instruction is faulty
+pub record IsValid (g : Parts) : Type 0 where
+  pub sound : (n : ℕ) → IsSound g n
+
+-- n is the first faulty instruction
+pub record IsFirstFaulty (g : Parts) (n : ℕ) : Type 0 where
+  pub faulty : ¬ IsSound g n
+  pub before : (m : ℕ) → m < n → IsSound g m
+
+-- the first faulty instruction, if there is one
+abbrev pub FirstFaulty : Parts → Option ℕ → Type 0
+FirstFaulty g o = MatchOption o (IsValid g) (IsFirstFaulty g)
+
+-- the cause tells the first faulty instruction, or that memory was refused
+abbrev pub TellsFault : Parts → InvalidCause → Type 0
+TellsFault g (Faulty n) = IsFirstFaulty g n
+TellsFault g Memory = Unit {0}
+
+-- the block has a trigger and a `back` of the kind of instruction 0, which is a merge for values
+pub record IsMainBlock (g : Parts) (b : Block) : Type 0 where
+  pub kind : PortKind
+  pub trigger : op_at g b.first ≡ Some (Merge Signal)
+  pub back : op_at g (b.first + 1) ≡ Some (Back kind)
+  pub answer : op_at g 0 ≡ Some (Merge kind)
+  pub value : IsTrue (is_value kind)

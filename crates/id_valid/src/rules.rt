@@ -1,0 +1,113 @@
+//! The rules of the validator, a function for each (docs/GRAPH.md, "Validator").
+
+ghost use Rattle.std.specs.Prelude.{◌≡◌, ◌<◌, ◌↔◌, length, Some, All, IsTrue, IsSome, slice_get};
+ghost use Rattle.id_graph.specs.Graph.{arcs};
+ghost use Rattle.id_graph.specs.Ports.{port_kind};
+ghost use Rattle.id_valid.specs.Roles.{needs_no_arc, op_at};
+ghost use Rattle.id_valid.specs.Validator.{is_value, AreFed, FillsRoles, IsAnswer, IsFed, IsSound, IsTaken};
+
+use crate::roles::{back_kind, main_block, merge_kind, op_at, result_kind};
+use crate::survey::Survey;
+use id_graph::{Dest, Graph, Instr, Op, Port, PortKind, kind_at};
+
+/// Whether no rule makes the instruction faulty.
+pub fn is_sound(survey: &Survey<'_>, number: usize) -> bool
+    requires { number < length survey.now.instrs }
+    ensures { IsTrue result ↔ IsSound survey.now number }
+{
+    let graph = survey.graph();
+    let instr = &graph.instrs()[number];
+    if number == 0 && !is_answer(graph) {
+        return false;
+    }
+    fills_roles(survey, number, instr.op)
+        && are_taken(graph.instrs(), instr)
+        && are_fed(survey, number, instr.op)
+}
+
+/// Whether instruction 0 is a merge for values, of the result kind of the one block with its place.
+fn is_answer(graph: &Graph) -> bool
+    ensures { IsTrue result ↔ IsAnswer graph.now }
+{
+    let Some(block) = main_block(graph) else {
+        return false;
+    };
+    let Some(Op::Merge(kind)) = op_at(graph, 0) else {
+        return false;
+    };
+    is_value(kind) && result_kind(graph, block) == Some(kind)
+}
+
+/// Whether the kind is one of values of the language.
+fn is_value(kind: PortKind) -> bool
+    ensures { result ≡ is_value kind }
+{
+    match kind {
+        PortKind::Int | PortKind::Bool | PortKind::Structure => true,
+        PortKind::Signal | PortKind::Address | PortKind::Context | PortKind::Continuation => false,
+    }
+}
+
+/// Whether the instruction, which does `op`, is what its place in a block asks for.
+fn fills_roles(survey: &Survey<'_>, number: usize, op: Op) -> bool
+    requires within { number < length survey.now.instrs }
+    requires op { op_at survey.now number ≡ Some op }
+    ensures { IsTrue result ↔ FillsRoles survey.now number }
+{
+    (!survey.is_first(number) || op == Op::Merge(PortKind::Signal))
+        && (!survey.is_second(number) || back_kind(op).is_some())
+        && (!survey.is_entry(number) || merge_kind(op).is_some())
+}
+
+/// Whether each destination of an instruction takes what the instruction sends.
+fn are_taken(instrs: &[Instr], instr: &Instr) -> bool
+    ensures { IsTrue result ↔ All (IsTaken instrs.now instr.now.op) (arcs instr.now) }
+{
+    let op = instr.op;
+    instr
+        .dests
+        .as_slice()
+        .iter()
+        .all(|dest| is_taken(instrs, op, *dest))
+}
+
+/// Whether the port at a destination takes the kind that an operator sends.
+fn is_taken(instrs: &[Instr], op: Op, dest: Dest) -> bool
+    ensures { IsTrue result ↔ IsTaken instrs.now op dest }
+{
+    match op.sends() {
+        Some(kind) => kind_at(instrs, dest) == Some(kind),
+        None => false,
+    }
+}
+
+/// Whether each port of the operator is fed.
+fn are_fed(survey: &Survey<'_>, number: usize, op: Op) -> bool
+    requires { number < length survey.now.instrs }
+    ensures { IsTrue result ↔ AreFed survey.now number op }
+{
+    is_fed(survey, number, op, Port::Zero) && is_fed(survey, number, op, Port::One)
+}
+
+/// Whether the port, if the operator has it, is fed by an arc or needs none, and by several only at a merge.
+fn is_fed(survey: &Survey<'_>, number: usize, op: Op, port: Port) -> bool
+    requires { number < length survey.now.instrs }
+    ensures { IsTrue result ↔ (IsSome (port_kind op port) → IsFed survey.now number op port) }
+{
+    if op.port_kind(port).is_none() {
+        return true;
+    }
+    let arcs = survey.arcs_into(number, port);
+    (arcs > 0 || needs_no_arc(survey, number, port)) && (arcs < 2 || merge_kind(op).is_some())
+}
+
+/// Whether the port is fed by a result, by entering or by a send, and needs no arc.
+fn needs_no_arc(survey: &Survey<'_>, number: usize, port: Port) -> bool
+    requires { number < length survey.now.instrs }
+    ensures { result ≡ needs_no_arc survey.now number port }
+{
+    number == 0
+        || survey.is_first(number)
+        || survey.is_entry(number)
+        || (survey.is_second(number) && port == Port::Zero)
+}
