@@ -121,3 +121,110 @@ fn fire_back(kind: PortKind, operands: Operands) -> Fired
         _ => Fired::Nothing,
     }
 }
+
+#[cfg(test)]
+mod tests {
+    use super::*;
+    use id_graph::Dests;
+
+    const LEAST: i64 = i64::MIN;
+
+    const MOST: i64 = i64::MAX;
+
+    fn instr(rt: &HostRuntime, op: Op) -> Instr {
+        Instr {
+            op,
+            dests: Dests::new(rt.alloc()),
+            others: Dests::new(rt.alloc()),
+            place: 0,
+        }
+    }
+
+    fn at(iteration: u64) -> Tag {
+        Tag {
+            context: Context {
+                element: 0,
+                serial: 1,
+            },
+            iteration,
+            instr: 3,
+        }
+    }
+
+    fn fired_by(rt: &HostRuntime, op: Op, operands: Operands) -> Fired {
+        let fresh = Fresh {
+            context: at(0).context,
+            element: 0,
+            structure: 1,
+        };
+        fire(&instr(rt, op), at(5), operands, fresh)
+    }
+
+    #[test]
+    fn computes_on_whole_numbers(rt: HostRuntime) {
+        use Arithmetic::{Add, Div, Mul, Rem, Sub};
+        let out = |number: i64| Fired::Out(Value::Int(number));
+        let overflow = Fired::Failed(OperatorFault::Overflow);
+        let by_zero = Fired::Failed(OperatorFault::DivisionByZero);
+        let table = [
+            (Add, 2, 3, out(5)),
+            (Add, MOST, 1, overflow),
+            (Sub, 2, 3, out(-1)),
+            (Sub, LEAST, 1, overflow),
+            (Mul, -4, 3, out(-12)),
+            (Mul, LEAST, -1, overflow),
+            (Div, -7, 2, out(-3)),
+            (Div, 7, -2, out(-3)),
+            (Div, LEAST, -1, overflow),
+            (Div, LEAST, 1, out(LEAST)),
+            (Div, 1, 0, by_zero),
+            (Rem, -7, 2, out(-1)),
+            (Rem, 7, -2, out(1)),
+            (Rem, LEAST, -1, overflow),
+            (Rem, 1, 0, by_zero),
+        ];
+        for (operator, left, right, wanted) in table {
+            let operands = Operands::Two(Value::Int(left), Value::Int(right));
+            let fired = fired_by(&rt, Op::Binary(operator), operands);
+            assert_eq!(rt; fired, wanted, "{operator:?} of {left} and {right}");
+        }
+    }
+
+    #[test]
+    fn fires_by_kind(rt: HostRuntime) {
+        use Operands::{One, Two};
+        let seven = Value::Int(7);
+        let caller = Value::Continuation(at(2));
+        let table = [
+            (
+                Op::Const(Constant::Int(7)),
+                One(Value::Signal),
+                Fired::Out(seven),
+            ),
+            (Op::Const(Constant::Int(7)), One(seven), Fired::Nothing),
+            (Op::Neg, One(seven), Fired::Out(Value::Int(-7))),
+            (
+                Op::Neg,
+                One(Value::Int(LEAST)),
+                Fired::Failed(OperatorFault::Overflow),
+            ),
+            (Op::Neg, Two(seven, seven), Fired::Nothing),
+            (Op::Merge(PortKind::Int), One(seven), Fired::Out(seven)),
+            (Op::Merge(PortKind::Signal), One(seven), Fired::Nothing),
+            (
+                Op::Back(PortKind::Int),
+                Two(caller, seven),
+                Fired::Sent(at(2), seven),
+            ),
+            (Op::Back(PortKind::Bool), Two(caller, seven), Fired::Nothing),
+            (Op::Back(PortKind::Int), Two(seven, seven), Fired::Nothing),
+        ];
+        for (op, operands, wanted) in table {
+            assert_eq!(rt;
+                fired_by(&rt, op, operands),
+                wanted,
+                "{op:?} on {operands:?}"
+            );
+        }
+    }
+}

@@ -107,3 +107,74 @@ fn route_tag(tag: Tag, count: u32) -> u32
     let made = u64::from(tag.context.element) % elements + tag.context.serial % elements;
     ((made + tag.iteration % elements) % elements) as u32
 }
+
+#[cfg(test)]
+mod tests {
+    use super::*;
+
+    fn token(element: u32, serial: u64, iteration: u64) -> Message {
+        let tag = Tag {
+            context: Context { element, serial },
+            iteration,
+            instr: 7,
+        };
+        Message {
+            payload: Payload::Token {
+                tag,
+                port: Port::Zero,
+                value: Value::Signal,
+            },
+            sender: Sender::Start,
+            position: 0,
+            output: 0,
+            stamp: 0,
+        }
+    }
+
+    #[test]
+    fn routes_by_context_and_iteration(rt: HostRuntime) {
+        let table = [
+            (0, 1, 2, 2, 1, "1 and 2 are 3"),
+            (0, 0, 0, 4, 0, "main's first turn"),
+            (3, 5, 9, 1, 0, "one element handles everything"),
+            (
+                u32::MAX,
+                u64::MAX,
+                u64::MAX,
+                64,
+                61,
+                "the sum passes 64 bits",
+            ),
+        ];
+        for (element, serial, iteration, count, wanted, why) in table {
+            assert_eq!(rt;
+                route(&token(element, serial, iteration), count),
+                wanted,
+                "{why}"
+            );
+        }
+    }
+
+    #[test]
+    fn tells_kinds_apart(rt: HostRuntime) {
+        let tag = Tag {
+            context: Context {
+                element: 0,
+                serial: 0,
+            },
+            iteration: 0,
+            instr: 0,
+        };
+        let table = [
+            (Value::Signal, PortKind::Signal),
+            (Value::Int(1), PortKind::Int),
+            (Value::Bool(true), PortKind::Bool),
+            (Value::Continuation(tag), PortKind::Continuation),
+        ];
+        for (value, kind) in table {
+            assert_eq!(rt; value.kind(), kind);
+            assert!(rt; value.has_kind(kind));
+            assert!(rt; !value.has_kind(PortKind::Address));
+        }
+    }
+}

@@ -1,1 +1,4 @@
 pub mod Tokens
+pub mod Bytes
+pub mod Lexes
+pub mod Places

@@ -6,10 +6,18 @@
 //! Not here: which tokens make a program (`id_tree`).
 #![tactic(auto)]
 
+mod bytes;
 mod identifier;
+mod lexer;
+mod numbers;
+mod places;
 mod sequence;
+mod signs;
 mod token;
+mod words;
 
 pub use identifier::Identifier;
+pub use lexer::lex;
+pub use places::{Lines, line_col};
 pub use sequence::Sequence;
-pub use token::{Keyword, Symbol, TextError, Token, TokenKind, MAX_BYTES};
+pub use token::{Keyword, MAX_BYTES, Symbol, TextError, Token, TokenKind};

@@ -1,0 +1,15 @@
+//! What the program prints: reports of runs, and the lines of faults.
+//!
+//! Keeps: a failed write ends a text at once, so what went out is a front of it.
+//! Errors: `PrintError`, only where a write failed.
+//! Read first: `Sink`, `specs/Told.antt`, then `specs/Texts.antt`.
+//! Not here: runs (`id_core`), the refusals of the program (`idc`).
+#![tactic(auto)]
+
+mod report;
+mod sink;
+mod texts;
+
+pub use report::{Ending, Report, write_fault, write_report};
+pub use sink::{PrintError, Sink, SinkFault, put};
+pub use texts::{put_number, put_place};
