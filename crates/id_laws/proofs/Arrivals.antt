@@ -1,6 +1,6 @@
 -- What becomes of a token, by what waits under its tag, and what waits there afterwards.
 use Rattle.std.proofs.Common.{◌≡◌, ◌⊎◌, inl, inr, ℕ, Bool, true, false, cond, Option, Some, None, List, [], slice_get, refl, sym, ◌∙◌, ap, subst}
-use Rattle.std.specs.FinMap.{get, insert, remove, get-insert, get-remove}
+use Rattle.std.specs.FinMap.{get, get-insert, get-remove}
 use Rattle.std.specs.Cmp.{eq_by_cmp_equiv}
 use Rattle.std.specs.Ordering.{eq_by_cmp, is_eq}
 use Rattle.std.specs.declared.cmp.Ordering.{Ordering}
@@ -19,13 +19,15 @@ use Rattle.id_tag.proofs.TagsLemmas.{tags_total, exact_tags}
 use Rattle.id_match.specs.declared.Half.{Half}
 use Rattle.id_match.specs.declared.Offered.{Offered}
 use Rattle.id_match.specs.declared.Offered.TheVariants.{Kept, Pair, Taken}
-use Rattle.id_match.specs.Ports.{other_port, same_port}
+use Rattle.id_match.specs.Ports.{other_port}
 use Rattle.id_match.specs.Waiting.{Store, at_port, answer_of, store_after, offer_answer, offer_after}
 use Rattle.id_ops.specs.declared.Operands.TheVariants as operands
 use Rattle.id_ops.specs.Operators.{fired}
 use Rattle.id_core.specs.declared.step.Step.{Step}
 use Rattle.id_core.specs.declared.step.Step.TheVariants.{Went, Stuck}
-use Rattle.id_core.specs.Steps.{Arrival, Fires, Waits, Blocked, Outcome, arrival_of, arrival, waiting_after, sent, fired_step, fresh_numbers, arriving, at_instr, outcome}
+use Rattle.id_graph.specs.declared.instr.Op.TheVariants.{Neg}
+use Rattle.id_ops.specs.declared.Operands.{Operands}
+use Rattle.id_core.specs.Steps.{arrival_of, arrival, waiting_after, sent, fired_step, fresh_numbers, arriving, at_instr, outcome}
 
 -- a value that waits at a port
 abbrev pub half : Port → Value → Half
@@ -77,6 +79,18 @@ left_there w t p v x y = get-remove tags_total w t t ∙ ap (λ b. cond b None (
 
 -- ---- what becomes of a token
 
+-- it fires its instruction, it waits, or its port was filled already
+pub data Arrival : Type 0 where
+  Fires : Operands → Arrival
+  Waits : Arrival
+  Blocked : Arrival
+
+-- by the answer of the store
+abbrev by_answer : Offered → Arrival
+by_answer Kept = Waits
+by_answer (Pair v w) = Fires (operands.Two v w)
+by_answer Taken = Blocked
+
 -- the token at port p of the tag t, with h under its tag before and h' after: it comes to nothing, it fires alone, it waits, it meets its partner, or its port was filled
 pub data Effect (g : Parts) (t : Tag) (p : Port) (v : Value) (h : Option Half) (a : Arrival) (h' : Option Half) : Type 0 where
   nowhere : slice_get g.instrs t.instr ≡ None → a ≡ Waits → h' ≡ h → Effect g t p v h a h'
@@ -89,26 +103,26 @@ pub data Effect (g : Parts) (t : Tag) (p : Port) (v : Value) (h : Option Half) (
 -- what becomes of a token for an instruction, if there is one
 abbrev pub arrival_at : Option Instr → Store → Tag → Port → Value → Arrival
 arrival_at None w t p v = Waits
-arrival_at (Some i) w t p v = arrival i.op w t p v
+arrival_at (Some i) w t p v = cond (two_ports i.op) (by_answer (offer_answer w t p v)) (Fires (operands.One v))
 
 abbrev stores : Option Instr → Store → Tag → Port → Value → Store
 stores None w t p v = w
 stores (Some i) w t p v = waiting_after i.op w t p v
 
 two_cases : (g : Parts) (w : Store) (t : Tag) (p : Port) (v : Value) (i : Instr) → slice_get g.instrs t.instr ≡ Some i → two_ports i.op ≡ true
-    → (o : Option Half) → get w t ≡ o → Effect g t p v o (arrival_of (answer_at o p v)) (get (store_after w t p v (answer_at o p v)) t)
+    → (o : Option Half) → get w t ≡ o → Effect g t p v o (by_answer (answer_at o p v)) (get (store_after w t p v (answer_at o p v)) t)
 two_cases g w t p v i at two None e = first i at two refl refl (kept_there w t p v)
 two_cases g w t p v i at two (Some h) e = by_port h.port h.value p e
   where
     by_port : (q : Port) (u : Value) (r : Port) → get w t ≡ Some (half q u)
-        → Effect g t r v (Some (half q u)) (arrival_of (answer_at (Some (half q u)) r v)) (get (store_after w t r v (answer_at (Some (half q u)) r v)) t)
+        → Effect g t r v (Some (half q u)) (by_answer (answer_at (Some (half q u)) r v)) (get (store_after w t r v (answer_at (Some (half q u)) r v)) t)
     by_port Zero u Zero e = again i u at two refl refl e
     by_port Zero u One e = meets_zero i u at two refl refl refl (left_there w t One v u v)
     by_port One u Zero e = meets_one i u at two refl refl refl (left_there w t Zero v v u)
     by_port One u One e = again i u at two refl refl e
 
 effect_at : (g : Parts) (w : Store) (t : Tag) (p : Port) (v : Value) (i : Instr) (b : Bool) → slice_get g.instrs t.instr ≡ Some i → two_ports i.op ≡ b
-    → Effect g t p v (get w t) (cond b (arrival_of (offer_answer w t p v)) (Fires (operands.One v))) (get (cond b (offer_after w t p v) w) t)
+    → Effect g t p v (get w t) (cond b (by_answer (offer_answer w t p v)) (Fires (operands.One v))) (get (cond b (offer_after w t p v) w) t)
 effect_at g w t p v i true at e = two_cases g w t p v i at e (get w t) refl
 effect_at g w t p v i false at e = alone i at e refl refl
 
@@ -154,15 +168,24 @@ sends_of g h = sends_by h.element h.tag (slice_get g.instrs h.tag.instr) h.arriv
 abbrev pub step_of_event : Parts → Happening → Step
 step_of_event g h = step_by h.element h.tag (slice_get g.instrs h.tag.instr) h.arrival
 
-same_outcome : (n : ℕ) (i : Instr) (t : Tag) (w : Store) (a : Arrival) → ((arriving n i t w a).sends ≡ sends_by n t (Some i) a) × ((arriving n i t w a).step ≡ step_by n t (Some i) a) × ((arriving n i t w a).waiting ≡ w)
-same_outcome n i t w (Fires ops) = (refl, refl, refl)
-same_outcome n i t w Waits = (refl, refl, refl)
-same_outcome n i t w Blocked = (refl, refl, refl)
+same_answer : (n : ℕ) (i : Instr) (t : Tag) (w : Store) (a : Offered)
+    → ((arriving n i t w (arrival_of a)).sends ≡ sends_by n t (Some i) (by_answer a)) × ((arriving n i t w (arrival_of a)).step ≡ step_by n t (Some i) (by_answer a)) × ((arriving n i t w (arrival_of a)).waiting ≡ w)
+same_answer n i t w Kept = (refl, refl, refl)
+same_answer n i t w (Pair v u) = (refl, refl, refl)
+same_answer n i t w Taken = (refl, refl, refl)
+
+-- an operator with one port, as `neg`, fires alone
+same_outcome : (n : ℕ) (i : Instr) (t : Tag) (w w' : Store) (p : Port) (v : Value) (a : Offered) (b : Bool)
+    → let x = arriving n i t w' (cond b (arrival_of a) (arrival Neg w t p v)) in
+    let y = cond b (by_answer a) (Fires (operands.One v)) in
+    (x.sends ≡ sends_by n t (Some i) y) × (x.step ≡ step_by n t (Some i) y) × (x.waiting ≡ w')
+same_outcome n i t w w' p v a true = same_answer n i t w' a
+same_outcome n i t w w' p v a false = (refl, refl, refl)
 
 by_instr : (n : ℕ) (w : Store) (t : Tag) (p : Port) (v : Value) (o : Option Instr)
     → ((at_instr n w t p v o).sends ≡ sends_by n t o (arrival_at o w t p v)) × ((at_instr n w t p v o).step ≡ step_by n t o (arrival_at o w t p v)) × ((at_instr n w t p v o).waiting ≡ stores o w t p v)
 by_instr n w t p v None = (refl, refl, refl)
-by_instr n w t p v (Some i) = same_outcome n i t _ (arrival i.op w t p v)
+by_instr n w t p v (Some i) = same_outcome n i t w (waiting_after i.op w t p v) p v (offer_answer w t p v) (two_ports i.op)
 
 pub outcome_sends : (g : Parts) (n : ℕ) (w : Store) (x : Payload) → (outcome g n w x).sends ≡ sends_of g (happening g n w x)
 outcome_sends g n w (Token t p v) = (by_instr n w t p v (slice_get g.instrs t.instr)).0

@@ -1,11 +1,11 @@
 -- What holds of the messages at the start, and of what each event sends where it holds of what was handled, holds of every message of a run.
-use Rattle.std.proofs.Common.{◌≡◌, ◌⊎◌, inl, inr, ℕ, Option, Some, List, [], ◌∷◌, slice_get, refl, sym, ◌∙◌, ap, subst}
+use Rattle.std.proofs.Common.{inl, inr, ℕ, List, ◌∷◌, refl, sym, ◌∙◌, subst}
 use Rattle.id_graph.specs.Graph.{Parts}
 use Rattle.id_tag.specs.declared.Payload.{Payload}
 use Rattle.id_tag.specs.Routes.{route_of}
 use Rattle.id_core.specs.Machines.{World}
 use Rattle.id_meaning.specs.Parts.{Among}
-use Rattle.id_laws.proofs.Arrivals.{Happening, happening, token_of, token_of-happening, sends_of}
+use Rattle.id_laws.proofs.Arrivals.{Happening, happening, token_of-happening, sends_of}
 use Rattle.id_laws.proofs.Lists.{among_at, among_append, left_of, map_at}
 use Rattle.id_laws.proofs.Reached.{Reach, begin, deliver, handled, flying, starting}
 use Rattle.id_laws.proofs.Traffic.{Moving, flying_after}

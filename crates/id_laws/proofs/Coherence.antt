@@ -1,14 +1,12 @@
 -- Each path and place has at most one value.
-use Rattle.std.proofs.Common.{◌≡◌, ◌⊎◌, inl, inr, ℕ, zero, suc, List, [], ◌∷◌, refl, sym, ◌∙◌, ap, subst}
-use Rattle.id_tree.specs.declared.tree.UnaryOp.{UnaryOp}
-use Rattle.id_tree.specs.declared.tree.BinaryOp.{BinaryOp}
+use Rattle.std.proofs.Common.{◌≡◌, inl, inr, ℕ, zero, suc, List, [], ◌∷◌, subst}
 use Rattle.id_check.specs.declared.Checked.{Checked}
 use Rattle.id_meaning.specs.declared.Path.{Path}
 use Rattle.id_meaning.specs.declared.SourceValue.{SourceValue}
 use Rattle.id_meaning.specs.declared.Fact.{Fact}
-use Rattle.id_meaning.specs.declared.Fact.TheVariants.{On, Has}
-use Rattle.id_meaning.specs.Results.{Outcome, Gives, Fails, result_of_unary, result_of_binary}
-use Rattle.id_meaning.specs.Parts.{Node, LiteralNode, UnaryNode, BinaryNode, Distinct}
+use Rattle.id_meaning.specs.declared.Fact.TheVariants.{Has}
+use Rattle.id_meaning.specs.Results.{Outcome, Gives, result_of_unary, result_of_binary}
+use Rattle.id_meaning.specs.Parts.{Distinct}
 use Rattle.id_meaning.specs.Facts.{Rule, literal_has, unary_has, binary_has}
 use Rattle.id_meaning.specs.Rounds.{Every, Rounds, Holds, IsCoherent}
 use Rattle.id_laws.proofs.Tables.{same_part}

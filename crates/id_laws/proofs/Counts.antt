@@ -1,7 +1,6 @@
 -- How many tokens come to each port under each tag: at most one, in a graph where no two firings send to one port under one tag.
-use Rattle.std.proofs.Common.{◌≡◌, ◌⊎◌, inl, inr, ℕ, zero, suc, ◌+◌, ◌≤◌, ◌<◌, Bool, true, false, cond, ◌&&◌, Option, Some, None, List, [], ◌∷◌, ◌++◌, map, slice_get, refl, sym, ◌∙◌, ap, subst, arith}
+use Rattle.std.proofs.Common.{◌≡◌, ◌⊎◌, inl, inr, ℕ, zero, suc, ◌+◌, ◌≤◌, true, false, Option, Some, None, List, [], ◌∷◌, ◌++◌, slice_get, refl, sym, ◌∙◌, ap, subst, arith}
 use Rattle.std.specs.List.{remove}
-use Rattle.std.specs.FinMap.{get}
 use Rattle.id_graph.specs.declared.dests.Port.{Port}
 use Rattle.id_graph.specs.declared.dests.Port.TheVariants.{Zero, One}
 use Rattle.id_graph.specs.declared.instr.Instr.{Instr}
@@ -13,17 +12,17 @@ use Rattle.id_tag.specs.declared.Payload.{Payload}
 use Rattle.id_tag.specs.declared.Payload.TheVariants.{Token}
 use Rattle.id_tag.specs.declared.Message.{Message}
 use Rattle.id_tag.specs.Routes.{route_of}
-use Rattle.id_match.specs.declared.Half.{Half}
 use Rattle.id_ops.specs.declared.Operands.{Operands}
 use Rattle.id_ops.specs.declared.Operands.TheVariants as operands
-use Rattle.id_core.specs.Steps.{State, Arrival, Fires, Waits, Blocked}
+use Rattle.id_laws.proofs.Arrivals.{Arrival, Fires, Waits, Blocked}
+use Rattle.id_core.specs.Steps.{State}
 use Rattle.id_core.specs.Machines.{World, taken_from}
 use Rattle.id_meaning.specs.Parts.{Among}
-use Rattle.id_laws.proofs.Lists.{among_at, among_left, among_right, map_at}
-use Rattle.id_laws.proofs.Arrivals.{half, Effect, nowhere, alone, first, meets_zero, meets_one, again, Happening, happening, token_of, token_of-happening, sends_of, sends_by, outcome_effect, tag_cases}
-use Rattle.id_laws.proofs.Reached.{Reach, begin, deliver, handled, flying, starting, Fired, waits_handled}
-use Rattle.id_laws.proofs.Matched.{OperandsHandled, one, two, fired_handled, IsOperand, WaitsAt, FiredWith, BlockedAt, Settled, settled}
-use Rattle.id_laws.proofs.Traffic.{Origin, SentBy, Moving, origin, fires_alone, flying_after}
+use Rattle.id_laws.proofs.Lists.{among_at, map_at}
+use Rattle.id_laws.proofs.Arrivals.{Happening, happening, token_of, token_of-happening, sends_of, sends_by, tag_cases}
+use Rattle.id_laws.proofs.Reached.{Reach, begin, deliver, handled, flying, starting, Fired}
+use Rattle.id_laws.proofs.Matched.{OperandsHandled, one, two, fired_handled}
+use Rattle.id_laws.proofs.Traffic.{Moving, origin, flying_after}
 
 port_cases : (p q : Port) → (p ≡ q) ⊎ (p ≡ q → ⊥)
 port_cases Zero Zero = inl refl
@@ -37,15 +36,15 @@ hit_by (inl e) (inl f) = 1
 hit_by (inl e) (inr f) = 0
 hit_by (inr e) f = 0
 
-hit : Tag → Port → Payload → ℕ
+pub hit : Tag → Port → Payload → ℕ
 hit t p (Token u q v) = hit_by {t = t} {u = u} {p = p} {q = q} (tag_cases u t) (port_cases q p)
 
 -- how many tokens for that port of that tag there are
-pub count_at : Tag → Port → List Payload → ℕ
+unfoldable pub count_at : Tag → Port → List Payload → ℕ
 count_at t p [] = 0
 count_at t p (x ∷ xs) = hit t p x + count_at t p xs
 
-hit_itself : (t : Tag) (p : Port) (v : Value) → hit t p (Token t p v) ≡ 1
+pub hit_itself : (t : Tag) (p : Port) (v : Value) → hit t p (Token t p v) ≡ 1
 unfolding hit hit_by
 hit_itself t p v = go (tag_cases t t) (port_cases p p)
   where
@@ -55,7 +54,7 @@ hit_itself t p v = go (tag_cases t t) (port_cases p p)
     go (inr e) f = absurd (e refl)
 
 -- what counts is such a token
-hit_is : (t : Tag) (p : Port) (x : Payload) → 1 ≤ hit t p x → (v : Value) × (x ≡ Token t p v)
+pub hit_is : (t : Tag) (p : Port) (x : Payload) → 1 ≤ hit t p x → (v : Value) × (x ≡ Token t p v)
 unfolding hit hit_by
 hit_is t p (Token u q v) h = go (tag_cases u t) (port_cases q p) h
   where
@@ -106,6 +105,37 @@ one_value t p v w (x ∷ xs) h (inr a) (inl e) =
     absurd (omega (arith, counts t p v xs a))
 one_value t p v w (x ∷ xs) h (inr a) (inr b) = one_value t p v w xs (omega arith) a b
 
+pub hit_small : (t : Tag) (p : Port) (x : Payload) → hit t p x ≤ 1
+unfolding hit hit_by
+hit_small t p (Token u q v) = go (tag_cases u t) (port_cases q p)
+  where
+    go : (a : (u ≡ t) ⊎ (u ≡ t → ⊥)) (b : (q ≡ p) ⊎ (q ≡ p → ⊥)) → hit_by {t = t} {u = u} {p = p} {q = q} a b ≤ 1
+    go (inl e) (inl f) = omega arith
+    go (inl e) (inr f) = omega arith
+    go (inr e) f = omega arith
+
+pub count_none : (t : Tag) (p : Port) → count_at t p [] ≡ 0
+unfolding count_at
+count_none t p = refl
+
+pub count_one : (t : Tag) (p : Port) (x : Payload) → count_at t p (x ∷ []) ≤ 1
+unfolding count_at
+count_one t p x = omega (arith, hit_small t p x)
+
+-- a list whose head is such a token has no more of them, where the rest has none
+pub count_first : (t : Tag) (p : Port) (x : Payload) (xs : List Payload) → count_at t p xs ≤ 1
+    → ((v w : Value) → x ≡ Token t p v → Among (Token t p w) xs → ⊥) → count_at t p (x ∷ xs) ≤ 1
+unfolding count_at
+count_first t p x xs few apart = go (hit t p x) (count_at t p xs) refl refl
+  where
+    go : (m n : ℕ) → hit t p x ≡ m → count_at t p xs ≡ n → hit t p x + count_at t p xs ≤ 1
+    go zero n e f = omega arith
+    go (suc m) zero e f = omega (arith, hit_small t p x)
+    go (suc m) (suc n) e f =
+        let a = hit_is t p x (omega arith) in
+        let b = counted t p xs (omega arith) in
+        absurd (apart a.0 b.0 a.1 b.1)
+
 -- ---- at most one token for each port of each tag
 
 abbrev pub AtMostOne : World → List Happening → Type 0
@@ -119,16 +149,16 @@ FiresOnce g hs = (t : Tag) (i : Instr) (a b : Operands) → Fired g hs t i a →
 pub record Exclusive (g : Parts) (count : ℕ) : Type 0 where
   -- a token for an operator of one port is for its port 0
   pub first_port : (s : World) (hs : List Happening) → Reach g count s hs → (t : Tag) (p : Port) (v : Value) (i : Instr)
-    → Among (Token t p v) (handled hs) → slice_get g.instrs t.instr ≡ Some i → two_ports i.op ≡ false → p ≡ Zero
+      → Among (Token t p v) (handled hs) → slice_get g.instrs t.instr ≡ Some i → two_ports i.op ≡ false → p ≡ Zero
   -- an event sends at most one token to a port of a tag, and so does the start
   pub sends_once : (s : World) (hs : List Happening) → Reach g count s hs → (h : Happening) → Among h hs → (t : Tag) (p : Port) → count_at t p (sends_of g h) ≤ 1
   pub starts_once : (t : Tag) (p : Port) → count_at t p (starting g) ≤ 1
   -- no event sends to where the start does
   pub not_at_start : (s : World) (hs : List Happening) → Reach g count s hs → (h : Happening) → Among h hs → (t : Tag) (p : Port) (v w : Value)
-    → Among (Token t p v) (sends_of g h) → Among (Token t p w) (starting g) → ⊥
+      → Among (Token t p v) (sends_of g h) → Among (Token t p w) (starting g) → ⊥
   -- two events that send to one port of a tag are events of one tag, where each tag has fired once
   pub one_sender : (s : World) (hs : List Happening) → Reach g count s hs → FiresOnce g hs → (h h' : Happening) → Among h hs → Among h' hs
-    → (t : Tag) (p : Port) (v w : Value) → Among (Token t p v) (sends_of g h) → Among (Token t p w) (sends_of g h') → h.tag ≡ h'.tag
+      → (t : Tag) (p : Port) (v w : Value) → Among (Token t p v) (sends_of g h) → Among (Token t p w) (sends_of g h') → h.tag ≡ h'.tag
 
 -- an event that sends has fired
 pub record HasFired (g : Parts) (h : Happening) : Type 0 where
@@ -137,7 +167,7 @@ pub record HasFired (g : Parts) (h : Happening) : Type 0 where
   pub at : slice_get g.instrs h.tag.instr ≡ Some instr
   pub fires : h.arrival ≡ Fires operands
 
-sender_fired : (g : Parts) (h : Happening) (x : Payload) → Among x (sends_of g h) → HasFired g h
+pub sender_fired : (g : Parts) (h : Happening) (x : Payload) → Among x (sends_of g h) → HasFired g h
 sender_fired g h x among = go (slice_get g.instrs h.tag.instr) h.arrival refl refl among
   where
     go : (o : Option Instr) (a : Arrival) → slice_get g.instrs h.tag.instr ≡ o → h.arrival ≡ a → Among x (sends_by h.element h.tag o a) → HasFired g h
@@ -183,13 +213,17 @@ module _ (g : Parts) (count : ℕ) (x : Exclusive g count) where
     where
       at' : slice_get g.instrs t.instr ≡ Some f.instr
       at' = ap (λ (u : Tag). slice_get g.instrs u.instr) (sym is) ∙ f.at
+
       same_instr : f.instr ≡ i
       same_instr = let both : Some f.instr ≡ Some i = sym at' ∙ at in cc
+
       clash : (q : Port) (w : Value) → q ≡ p → Among (Token t q w) (handled hs) → ⊥
       clash q w e k = omega (arith, few t p, counts t p v (flying s) in_flight, counts t p w (handled hs) (subst (λ z. Among (Token t z w) (handled hs)) e k))
+
       by_port : (q : Port) → p ≡ q → (w w' : Value) → Among (Token t Zero w) (handled hs) → Among (Token t One w') (handled hs) → ⊥
       by_port Zero e w w' k l = clash Zero w (sym e) k
       by_port One e w w' k l = clash One w' (sym e) l
+
       go : OperandsHandled g hs t f.instr f.operands → ⊥
       go (one q w e c k) =
           let c' : two_ports i.op ≡ false = ap (λ (y : Instr). two_ports y.op) (sym same_instr) ∙ c in
@@ -232,11 +266,11 @@ module _ (g : Parts) (count : ℕ) (x : Exclusive g count) where
       elim (origin g count s hs r (Token t p w) moved) [
         | inl start ↦ x.not_at_start s' (new ∷ hs) r' new (inl refl) t p v w out start
         | inr by ↦
-          let once = fires_once s' (new ∷ hs) r' (few_handled k s hs m n e f few) in
-          let same : new.tag ≡ (by.event).tag = x.one_sender s' (new ∷ hs) r' once new by.event (inl refl) (inr by.among) t p v w out by.sends in
-          let now = sender_fired g new (Token t p v) out in
-          not_again s hs r few by.event by.among (sender_fired g by.event (Token t p w) by.sends) new.tag new.port new.value now.instr (sym same) now.at
-          (λ c. x.first_port s' (new ∷ hs) r' new.tag new.port new.value now.instr (inl refl) now.at c) (took k s m n e f)
+            let once = fires_once s' (new ∷ hs) r' (few_handled k s hs m n e f few) in
+            let same : new.tag ≡ (by.event).tag = x.one_sender s' (new ∷ hs) r' once new by.event (inl refl) (inr by.among) t p v w out by.sends in
+            let now = sender_fired g new (Token t p v) out in
+            not_again s hs r few by.event by.among (sender_fired g by.event (Token t p w) by.sends) new.tag new.port new.value now.instr (sym same) now.at
+            (λ c. x.first_port s' (new ∷ hs) r' new.tag new.port new.value now.instr (inl refl) now.at c) (took k s m n e f)
       ]
 
   one_more : (k : ℕ) (s : World) (hs : List Happening) (m : Message) (e : State) → Reach g count s hs → slice_get s.flight k ≡ Some m
@@ -251,9 +285,9 @@ module _ (g : Parts) (count : ℕ) (x : Exclusive g count) where
       let s' = taken_from g k s m n e in
       let out = counted t p (sends_of g new) (omega arith) in
       let none_before : count_at t p (flying s) + count_at t p (handled hs) ≡ 0 =
-            none (count_at t p (flying s)) (count_at t p (handled hs))
-            (λ h. let b = counted t p (flying s) h in no_second k s hs m e r f q few t p out.0 b.0 out.1 (inl b.1))
-            (λ h. let b = counted t p (handled hs) h in no_second k s hs m e r f q few t p out.0 b.0 out.1 (inr b.1)) in
+      none (count_at t p (flying s)) (count_at t p (handled hs))
+      (λ h. let b = counted t p (flying s) h in no_second k s hs m e r f q few t p out.0 b.0 out.1 (inl b.1))
+      (λ h. let b = counted t p (handled hs) h in no_second k s hs m e r f q few t p out.0 b.0 out.1 (inr b.1)) in
       omega (arith, total k s hs m n e t p f, x.sends_once s' (new ∷ hs) (deliver k m e r f q) new (inl refl) t p)
 
   -- each port gets at most one token under each tag

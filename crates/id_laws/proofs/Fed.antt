@@ -1,12 +1,12 @@
 -- Each arc brings what its port wants, and a port is fed from one source.
-use Rattle.std.proofs.Common.{◌≡◌, ◌⊎◌, inl, inr, ℕ, List, refl, sym, ◌∙◌, ap, subst}
+use Rattle.std.proofs.Common.{◌≡◌, ℕ, List, refl, sym, ◌∙◌, ap, subst}
 use Rattle.id_tree.specs.declared.tree.Def.{Def}
 use Rattle.id_check.specs.declared.Checked.{Checked}
 use Rattle.id_graph.specs.declared.dests.Port.{Port}
 use Rattle.id_graph.specs.declared.dests.Port.TheVariants.{Zero, One}
 use Rattle.id_graph.specs.declared.instr.Op.{Op}
 use Rattle.id_tag.specs.declared.Value.{Value}
-use Rattle.id_meaning.specs.Parts.{Region, Top, Node, LiteralNode, UnaryNode, BinaryNode, place_of, IsDef, IsMain, Part, Distinct}
+use Rattle.id_meaning.specs.Parts.{Region, Top, Node, LiteralNode, UnaryNode, BinaryNode, place_of, IsDef, Part, Distinct}
 use Rattle.id_build.specs.Roles.{Role, Answer, Trigger, Return, Of, Source, From, Makes, trigger, return, literal, unary, binary, TriggerAt, of_procedure, GivesAt, by_literal, by_unary, by_binary, Feeds, to_literal, to_unary, to_left, to_right, to_return}
 use Rattle.id_laws.proofs.Tables.{same_part, same_def}
 use Rattle.id_laws.proofs.Arrivals.{Happening}
@@ -52,7 +52,7 @@ target_made (to_right part g) = record { op = _; place = _; makes = binary part 
 target_made (to_return is_def g) = record { op = _; place = _; makes = return is_def }
 
 -- where the trigger of a region comes from
-abbrev trigger_of : Region → Source
+abbrev pub trigger_of : Region → Source
 trigger_of (Top f) = From (Trigger f)
 
 pub trigger_is : {P : Checked} {r : Region} {s : Source} → TriggerAt P r s → s ≡ trigger_of r

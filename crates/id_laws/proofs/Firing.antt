@@ -1,5 +1,5 @@
 -- What a firing says, where its operands are wanted: one case for each instruction of the schemas.
-use Rattle.std.proofs.Common.{◌≡◌, ◌⊎◌, inl, inr, ℕ, Bool, true, false, cond, List, [], ◌∷◌, refl, sym, ◌∙◌, ap, subst}
+use Rattle.std.proofs.Common.{◌≡◌, ℕ, Bool, true, false, cond, List, refl, sym, subst}
 use Rattle.id_tree.specs.declared.tree.UnaryOp.{UnaryOp}
 use Rattle.id_tree.specs.declared.tree.BinaryOp.{BinaryOp}
 use Rattle.id_tree.specs.declared.tree.Def.{Def}
@@ -7,7 +7,6 @@ use Rattle.id_check.specs.declared.Checked.{Checked}
 use Rattle.id_graph.specs.declared.dests.Port.{Port}
 use Rattle.id_graph.specs.declared.dests.Port.TheVariants.{Zero, One}
 use Rattle.id_graph.specs.declared.instr.Op.{Op}
-use Rattle.id_graph.specs.declared.instr.Op.TheVariants.{Const, Neg, Binary, Merge, Back}
 use Rattle.id_graph.specs.declared.instr.PortKind.{PortKind}
 use Rattle.id_tag.specs.declared.Tag.{Tag}
 use Rattle.id_tag.specs.declared.Value.{Value}
@@ -26,17 +25,16 @@ use Rattle.id_meaning.specs.declared.SourceValue.{SourceValue}
 use Rattle.id_meaning.specs.declared.SourceValue.TheVariants as source
 use Rattle.id_meaning.specs.declared.FaultKind.{FaultKind}
 use Rattle.id_meaning.specs.declared.FaultKind.TheVariants as kind
-use Rattle.id_meaning.specs.declared.Fact.{Fact}
 use Rattle.id_meaning.specs.declared.Fact.TheVariants.{On, Has}
 use Rattle.id_meaning.specs.Results.{Outcome, Gives, Fails, result_of_unary, result_of_binary}
-use Rattle.id_meaning.specs.Parts.{Region, Top, Node, LiteralNode, UnaryNode, BinaryNode, place_of, IsDef, Part, Distinct}
+use Rattle.id_meaning.specs.Parts.{Region, LiteralNode, UnaryNode, BinaryNode, place_of, IsDef, Part, Distinct}
 use Rattle.id_meaning.specs.Facts.{literal_has, unary_has, binary_has, unary_fails, binary_fails}
-use Rattle.id_meaning.specs.Rounds.{Every, Holds, Faulty}
-use Rattle.id_build.specs.Roles.{Role, Answer, Trigger, Return, Of, From, Makes, answer, trigger, return, literal, unary, binary, constant_of, unary_op, binary_op, port_of}
+use Rattle.id_meaning.specs.Rounds.{Holds, Faulty}
+use Rattle.id_build.specs.Roles.{Role, Answer, Trigger, Return, Of, From, Makes, answer, trigger, return, literal, unary, binary, constant_of, port_of}
 use Rattle.id_laws.proofs.Arrivals.{Happening}
 use Rattle.id_laws.proofs.Agreement.{token_value, operator_fault, as_fired, agree_unary, agree_binary}
-use Rattle.id_laws.proofs.Wanted.{Activation, PathOf, main_path, Live, ReturnsTo, Shown, ShowsAnswer, WantsAt, Wants, Says}
-use Rattle.id_laws.proofs.Turned.{holds_by, TurnedOn, live_on}
+use Rattle.id_laws.proofs.Wanted.{Activation, PathOf, main_path, Live, ReturnsTo, Shown, Wants, Says}
+use Rattle.id_laws.proofs.Turned.{holds_by, live_on}
 
 -- an activation has one path
 pub one_path : {run : List Happening} {a : Activation} {p q : Path} → PathOf run a p → PathOf run a q → p ≡ q
@@ -94,8 +92,12 @@ module _ (P : Checked) (distinct : Distinct P) (run : List Happening) (a : Activ
   unary_means {e = e} {x = x} part live {path} path_of u has (Fails k) is =
       let on = live_on P distinct live part in
       let at_path : Holds P (On path e) = subst (λ z. Holds P (On z e)) (one_path on.path_of path_of) on.on in
-      record { path = path; path_of = path_of; faulty = subst (λ z. Faulty P (record { kind = z; path = path; place = e })) (sym (fault_kind_is k))
-        (record { premises = _; rule = unary_fails part is; hold = (at_path, (has, tt)) }) }
+      record {
+        path = path;
+        path_of = path_of;
+        faulty = subst (λ z. Faulty P (record { kind = z; path = path; place = e })) (sym (fault_kind_is k))
+            (record { premises = _; rule = unary_fails part is; hold = (at_path, (has, tt)) });
+      }
 
   binary_means : {r : Region} {e x y : ℕ} {o : BinaryOp} → Part P r e (BinaryNode o x y) → Live P run a r → {path : Path} → PathOf run a path → (u w : SourceValue)
       → Holds P (Has path x u) → Holds P (Has path y w) → (z : Outcome) → result_of_binary o u w ≡ z → Means P run a (Of r e) e (as_fired z)
@@ -106,8 +108,12 @@ module _ (P : Checked) (distinct : Distinct P) (run : List Happening) (a : Activ
   binary_means {e = e} part live {path} path_of u w has has' (Fails k) is =
       let on = live_on P distinct live part in
       let at_path : Holds P (On path e) = subst (λ z. Holds P (On z e)) (one_path on.path_of path_of) on.on in
-      record { path = path; path_of = path_of; faulty = subst (λ z. Faulty P (record { kind = z; path = path; place = e })) (sym (fault_kind_is k))
-        (record { premises = _; rule = binary_fails part is; hold = (at_path, (has, (has', tt))) }) }
+      record {
+        path = path;
+        path_of = path_of;
+        faulty = subst (λ z. Faulty P (record { kind = z; path = path; place = e })) (sym (fault_kind_is k))
+            (record { premises = _; rule = binary_fails part is; hold = (at_path, (has, (has', tt))) });
+      }
 
   module _ (t : Tag) (f : Fresh) where
     -- a firing on one operand

@@ -14,3 +14,10 @@ pub mod Wanted
 pub mod Turned
 pub mod Fed
 pub mod Firing
+pub mod Awaited
+pub mod Begun
+pub mod Apart
+pub mod Carried
+pub mod Shown
+pub mod Quiet
+pub mod Free

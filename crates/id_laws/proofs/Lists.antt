@@ -1,6 +1,6 @@
 -- Lemmas on lists and what is among them.
 use Rattle.std.specs.List.{remove}
-use Rattle.std.proofs.Common.{◌≡◌, ◌⊎◌, inl, inr, ℕ, zero, suc, List, [], ◌∷◌, ◌++◌, map, set, Option, Some, None, slice_get, refl, sym, ◌∙◌, ap, subst}
+use Rattle.std.proofs.Common.{◌≡◌, ◌⊎◌, inl, inr, ℕ, zero, suc, List, [], ◌∷◌, ◌++◌, map, set, Some, slice_get, refl, ◌∙◌, ap, subst}
 use Rattle.id_meaning.specs.Parts.{Among, AllDiffer}
 
 pub among_left : {A : Type 0} (x : A) (ys zs : List A) → Among x ys → Among x (ys ++ zs)

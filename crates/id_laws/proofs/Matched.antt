@@ -2,7 +2,7 @@
 use Rattle.std.proofs.lemmas.Bool.{cases_eq}
 use Rattle.id_tag.specs.declared.Message.{Message}
 use Rattle.id_match.specs.Waiting.{Store}
-use Rattle.std.proofs.Common.{ap₂, set, ◌≡◌, ◌⊎◌, inl, inr, ℕ, Bool, true, false, Option, Some, None, List, [], ◌∷◌, slice_get, refl, sym, ◌∙◌, ap, subst}
+use Rattle.std.proofs.Common.{ap₂, set, ◌≡◌, ◌⊎◌, inl, inr, ℕ, true, false, Option, Some, None, List, ◌∷◌, slice_get, refl, sym, ◌∙◌, ap, subst}
 use Rattle.std.specs.FinMap.{get}
 use Rattle.id_graph.specs.declared.dests.Port.{Port}
 use Rattle.id_graph.specs.declared.dests.Port.TheVariants.{Zero, One}
@@ -17,11 +17,12 @@ use Rattle.id_tag.specs.Routes.{tag_route, route_of}
 use Rattle.id_match.specs.declared.Half.{Half}
 use Rattle.id_ops.specs.declared.Operands.{Operands}
 use Rattle.id_ops.specs.declared.Operands.TheVariants as operands
-use Rattle.id_core.specs.Steps.{State, Arrival, Fires, Waits, Blocked, outcome, state_after}
+use Rattle.id_laws.proofs.Arrivals.{Fires, Waits, Blocked}
+use Rattle.id_core.specs.Steps.{State, outcome, state_after}
 use Rattle.id_core.specs.Machines.{World, taken_from}
 use Rattle.id_meaning.specs.Parts.{Among}
 use Rattle.id_laws.proofs.Lists.{set_here, set_elsewhere}
-use Rattle.id_laws.proofs.Arrivals.{half, Effect, nowhere, alone, first, meets_zero, meets_one, again, Happening, happening, token_of, outcome_effect, outcome_other, tag_cases}
+use Rattle.id_laws.proofs.Arrivals.{half, Effect, nowhere, alone, first, meets_zero, meets_one, again, Happening, happening, outcome_effect, outcome_other, tag_cases}
 use Rattle.id_laws.proofs.Reached.{Reach, begin, deliver, handled, Fired, fired_later, waits_handled}
 
 -- each operand was handled under the tag: the only one at some port, or two at their ports; the operator has as many ports
@@ -152,12 +153,12 @@ waits_on : (g : Parts) (count : ℕ) (s s' : World) (m : Message) (e e' : State)
 waits_on g count s s' m e e' t p v at is same w =
     elim (cases_eq (tag_route t count) (route_of m.payload count)) [
       | inl here ↦
-        let one : w.state ≡ e = (let both : Some w.state ≡ Some e = sym w.at ∙ ap (slice_get s.elements) here ∙ at in cc) in
-        record {
-          state = e';
-          at = ap (λ xs. slice_get xs (tag_route t count)) is ∙ ap (slice_get (set s.elements (route_of m.payload count) e')) here ∙ set_here s.elements (route_of m.payload count) e' e at;
-          there = same ∙ ap (λ (y : State). get y.waiting t) (sym one) ∙ w.there;
-        }
+          let one : w.state ≡ e = (let both : Some w.state ≡ Some e = sym w.at ∙ ap (slice_get s.elements) here ∙ at in cc) in
+          record {
+            state = e';
+            at = ap (λ xs. slice_get xs (tag_route t count)) is ∙ ap (slice_get (set s.elements (route_of m.payload count) e')) here ∙ set_here s.elements (route_of m.payload count) e' e at;
+            there = same ∙ ap (λ (y : State). get y.waiting t) (sym one) ∙ w.there;
+          }
       | inr other ↦ record {
         state = w.state;
         at = ap (λ xs. slice_get xs (tag_route t count)) is ∙ set_elsewhere s.elements (route_of m.payload count) (tag_route t count) e' other ∙ w.at;
@@ -175,45 +176,45 @@ settled g count s hs (deliver {s = s₀} {hs = hs₀} k m e r f q) t p v i at b 
     let e' = state_after g n e m in
     let s' = taken_from g k s₀ m n e in
     let same_state = λ (w : WaitsAt count s₀ t p v) (is : t ≡ new.tag).
-          (let both : Some w.state ≡ Some e = sym w.at ∙ ap (λ u. slice_get s₀.elements (tag_route u count)) is ∙ ap (slice_get s₀.elements) (routed g count n e.waiting m.payload) ∙ q in
-          let one : w.state ≡ e = cc in
-          let there : get e.waiting new.tag ≡ Some (half p v) = ap (λ (y : State). get y.waiting new.tag) (sym one) ∙ ap (get w.state.waiting) (sym is) ∙ w.there in
-          there) in
+    (let both : Some w.state ≡ Some e = sym w.at ∙ ap (λ u. slice_get s₀.elements (tag_route u count)) is ∙ ap (slice_get s₀.elements) (routed g count n e.waiting m.payload) ∙ q in
+    let one : w.state ≡ e = cc in
+    let there : get e.waiting new.tag ≡ Some (half p v) = ap (λ (y : State). get y.waiting new.tag) (sym one) ∙ ap (get w.state.waiting) (sym is) ∙ w.there in
+    there) in
     let wrap = λ (p' : Port) (v' : Value) (is : t ≡ new.tag) (x : (get (outcome g n e.waiting m.payload).waiting new.tag ≡ Some (half p' v')) ⊎ (FiredWith g (new ∷ hs₀) new.tag p' v' ⊎ BlockedAt (new ∷ hs₀) new.tag)).
-          (let here : Settled g count s' (new ∷ hs₀) new.tag p' v' = elim x [
-            | inl w ↦ inl (record {
-              state = e';
-              at = ap (slice_get (set s₀.elements n e')) (routed g count n e.waiting m.payload) ∙ set_here s₀.elements n e' e q;
-              there = w;
-            })
-            | inr z ↦ inr z
-          ] in
-          subst (λ u. Settled g count s' (new ∷ hs₀) u p' v') (sym is) here) in
+    (let here : Settled g count s' (new ∷ hs₀) new.tag p' v' = elim x [
+      | inl w ↦ inl (record {
+        state = e';
+        at = ap (slice_get (set s₀.elements n e')) (routed g count n e.waiting m.payload) ∙ set_here s₀.elements n e' e q;
+        there = w;
+      })
+      | inr z ↦ inr z
+    ] in
+    subst (λ u. Settled g count s' (new ∷ hs₀) u p' v') (sym is) here) in
     elim (tag_cases t new.tag) [
       | inl is ↦
-        let at' : slice_get g.instrs (new.tag).instr ≡ Some i = ap (λ (u : Tag). slice_get g.instrs u.instr) (sym is) ∙ at in
-        let x = outcome_effect g n e.waiting m.payload in
-        elim h [
-          | inl tok ↦
-            let port_is : p ≡ new.port = cc in
-            let value_is : v ≡ new.value = cc in
-            subst (λ (y : Half). Settled g count s' (new ∷ hs₀) t y.port y.value) (ap₂ half (sym port_is) (sym value_is))
-            (wrap new.port new.value is (settled_new g hs₀ new _ _ i x at' b))
-          | inr old ↦
-            wrap p v is (settled_here g hs₀ new _ _ i p v x at' b (
-              elim (settled g count s₀ hs₀ r t p v i at b old) [
-                | inl w ↦ inl (same_state w is)
-                | inr z ↦ inr (subst (λ u. FiredWith g hs₀ u p v ⊎ BlockedAt hs₀ u) is z)
-              ]
-            ))
-        ]
+          let at' : slice_get g.instrs (new.tag).instr ≡ Some i = ap (λ (u : Tag). slice_get g.instrs u.instr) (sym is) ∙ at in
+          let x = outcome_effect g n e.waiting m.payload in
+          elim h [
+            | inl tok ↦
+                let port_is : p ≡ new.port = cc in
+                let value_is : v ≡ new.value = cc in
+                subst (λ (y : Half). Settled g count s' (new ∷ hs₀) t y.port y.value) (ap₂ half (sym port_is) (sym value_is))
+                (wrap new.port new.value is (settled_new g hs₀ new _ _ i x at' b))
+            | inr old ↦
+                wrap p v is (settled_here g hs₀ new _ _ i p v x at' b (
+                elim (settled g count s₀ hs₀ r t p v i at b old) [
+                  | inl w ↦ inl (same_state w is)
+                  | inr z ↦ inr (subst (λ u. FiredWith g hs₀ u p v ⊎ BlockedAt hs₀ u) is z)
+                ]
+                ))
+          ]
       | inr other ↦
-        elim h [
-          | inl tok ↦ absurd (other cc)
-          | inr old ↦
-            elim (settled g count s₀ hs₀ r t p v i at b old) [
-              | inl w ↦ inl (waits_on g count s₀ s' m e e' t p v q refl (outcome_other g n e.waiting m.payload t other) w)
-              | inr z ↦ later new z
-            ]
-        ]
+          elim h [
+            | inl tok ↦ absurd (other cc)
+            | inr old ↦
+                elim (settled g count s₀ hs₀ r t p v i at b old) [
+                  | inl w ↦ inl (waits_on g count s₀ s' m e e' t p v q refl (outcome_other g n e.waiting m.payload t other) w)
+                  | inr z ↦ later new z
+                ]
+          ]
     ]

@@ -1,5 +1,5 @@
 -- Where each port gets at most one token under each tag, no token is blocked, and tokens that meet fire.
-use Rattle.std.proofs.Common.{◌≡◌, ◌⊎◌, inl, inr, ℕ, ◌+◌, ◌≤◌, Bool, true, false, Option, Some, None, List, [], ◌∷◌, slice_get, refl, sym, ◌∙◌, ap, ap₂, subst, arith}
+use Rattle.std.proofs.Common.{◌≡◌, inl, inr, ℕ, true, false, Option, Some, List, slice_get, sym, ◌∙◌, ap, ap₂, subst, arith}
 use Rattle.std.specs.FinMap.{get}
 use Rattle.id_graph.specs.declared.dests.Port.{Port}
 use Rattle.id_graph.specs.declared.dests.Port.TheVariants.{Zero, One}
@@ -8,20 +8,19 @@ use Rattle.id_graph.specs.Ports.{two_ports}
 use Rattle.id_graph.specs.Graph.{Parts}
 use Rattle.id_tag.specs.declared.Tag.{Tag}
 use Rattle.id_tag.specs.declared.Value.{Value}
-use Rattle.id_tag.specs.declared.Payload.{Payload}
 use Rattle.id_tag.specs.declared.Payload.TheVariants.{Token}
-use Rattle.id_tag.specs.declared.Message.{Message}
-use Rattle.id_tag.specs.Routes.{tag_route, route_of}
+use Rattle.id_tag.specs.Routes.{route_of}
 use Rattle.id_match.specs.declared.Half.{Half}
 use Rattle.id_ops.specs.declared.Operands.{Operands}
 use Rattle.id_ops.specs.declared.Operands.TheVariants as operands
-use Rattle.id_core.specs.Steps.{State, Arrival, Fires, Waits, Blocked}
+use Rattle.id_laws.proofs.Arrivals.{Fires, Waits, Blocked}
+use Rattle.id_core.specs.Steps.{State}
 use Rattle.id_core.specs.Machines.{World}
 use Rattle.id_meaning.specs.Parts.{Among}
-use Rattle.id_laws.proofs.Arrivals.{half, Effect, nowhere, alone, first, meets_zero, meets_one, again, Happening, happening, token_of, outcome_effect}
+use Rattle.id_laws.proofs.Arrivals.{half, Effect, nowhere, alone, first, meets_zero, meets_one, again, Happening, happening, outcome_effect}
 use Rattle.id_laws.proofs.Reached.{Reach, begin, deliver, handled, flying, Fired, waits_handled}
-use Rattle.id_laws.proofs.Matched.{OperandsHandled, one, two, fired_handled, WaitsAt, FiredWith, BlockedAt, Settled, settled}
-use Rattle.id_laws.proofs.Counts.{count_at, counts, one_value, AtMostOne, Exclusive, at_most_one, took}
+use Rattle.id_laws.proofs.Matched.{OperandsHandled, one, two, fired_handled, FiredWith, BlockedAt, Settled, settled}
+use Rattle.id_laws.proofs.Counts.{counts, one_value, Exclusive, at_most_one, took}
 
 blocked_waits : (g : Parts) (h : Happening) (o o' : Option Half) → Effect g h.tag h.port h.value o h.arrival o' → h.arrival ≡ Blocked → (u : Value) × (o ≡ Some (half h.port u))
 blocked_waits g h o o' (nowhere a f q) e = let bad : Waits ≡ Blocked = sym f ∙ e in cc
@@ -62,12 +61,15 @@ module _ (g : Parts) (count : ℕ) (x : Exclusive g count) where
           let first_is : u ≡ v = one_handled s hs r t Zero u v k hv in
           let second_is : u' ≡ w = one_handled s hs r t One u' w l hw in
           record { event = f.event; among = f.among; tag = f.tag; at = at; fires = f.fires ∙ ap Fires (e ∙ ap₂ operands.Two first_is second_is) }
+
       by : (p : Port) (u : Value) → FiredWith g hs t p u → Fired g hs t i (operands.Two v w)
       by p u f = on_them f.instr f.operands f.fired
           (subst (λ z. OperandsHandled g hs z f.instr f.operands) (f.fired).tag
           (fired_handled g count s hs r (f.fired).event f.instr f.operands (f.fired).among (ap (λ (z : Tag). slice_get g.instrs z.instr) (f.fired).tag ∙ (f.fired).at) (f.fired).fires))
+
       stuck : {A : Type 0} → BlockedAt hs t → A
       stuck z = absurd (never_blocked s hs r z.event z.among z.blocked)
+
       go : Settled g count s hs t Zero v → Settled g count s hs t One w → Fired g hs t i (operands.Two v w)
       go (inr (inl f)) z = by Zero v f
       go (inr (inr z)) y = stuck z

@@ -1,11 +1,8 @@
 -- Runs, with the events of all elements in the order in which they came, and what holds at each moment of any run.
-use Rattle.std.proofs.Common.{◌≡◌, ◌⊎◌, inl, inr, ℕ, Bool, true, false, cond, Option, Some, None, List, [], ◌∷◌, ◌++◌, map, set, replicate, zero, suc, slice_get, refl, sym, ◌∙◌, ap, subst}
-use Rattle.std.specs.List.{remove}
+use Rattle.std.proofs.Common.{◌≡◌, inl, inr, ℕ, Bool, true, false, cond, Option, Some, None, List, [], ◌∷◌, map, replicate, zero, suc, slice_get, refl, sym, ◌∙◌, ap, subst}
 use Rattle.std.specs.FinMap.{get, get-empty}
 use Rattle.id_graph.specs.declared.dests.Port.{Port}
-use Rattle.id_graph.specs.declared.dests.Port.TheVariants.{Zero, One}
 use Rattle.id_graph.specs.declared.instr.Instr.{Instr}
-use Rattle.id_graph.specs.Ports.{two_ports}
 use Rattle.id_graph.specs.Graph.{Parts}
 use Rattle.id_tag.specs.declared.Tag.{Tag}
 use Rattle.id_tag.specs.declared.Value.{Value}
@@ -13,15 +10,15 @@ use Rattle.id_tag.specs.declared.Payload.{Payload}
 use Rattle.id_tag.specs.declared.Payload.TheVariants.{Token}
 use Rattle.id_tag.specs.declared.Message.{Message}
 use Rattle.id_tag.specs.Tags.{tag_cmp}
-use Rattle.id_tag.specs.Routes.{tag_route, route_of}
+use Rattle.id_tag.specs.Routes.{route_of}
 use Rattle.id_match.specs.declared.Half.{Half}
 use Rattle.id_ops.specs.declared.Operands.{Operands}
-use Rattle.id_ops.specs.declared.Operands.TheVariants as operands
-use Rattle.id_core.specs.Steps.{State, Arrival, Fires, Waits, Blocked, outcome, numbered, state_after, outputs_of, is_ended}
+use Rattle.id_laws.proofs.Arrivals.{Arrival, Fires}
+use Rattle.id_core.specs.Steps.{State, outcome, state_after, is_ended}
 use Rattle.id_core.specs.Machines.{World, start, start_messages, taken_from, given_to, routed_to, delivered, run}
 use Rattle.id_meaning.specs.Parts.{Among}
-use Rattle.id_laws.proofs.Lists.{among_left, among_right, among_append, among_map, among_from_map, within_set, set_here, set_elsewhere, left_of, taken_or_left, map_remove, map_at}
-use Rattle.id_laws.proofs.Arrivals.{half, Effect, nowhere, alone, first, meets_zero, meets_one, again, Happening, happening, token_of, token_of-happening, sends_of, outcome_sends, outcome_effect, outcome_other, tag_cases}
+use Rattle.id_laws.proofs.Lists.{within_set}
+use Rattle.id_laws.proofs.Arrivals.{half, Effect, nowhere, alone, first, meets_zero, meets_one, again, Happening, happening, token_of, outcome_effect, outcome_other, tag_cases}
 
 -- the machine comes to this state by these events, the newest first
 pub data Reach (g : Parts) (count : ℕ) : World → List Happening → Type 0 where
@@ -109,13 +106,13 @@ waits_handled g count s hs (deliver {s = s₀} {hs = hs₀} k m e r f at) n x t 
     let new = happening g n₀ e.waiting m.payload in
     elim (within_set s₀.elements n₀ n (state_after g n₀ e m) x got) [
       | inl q ↦
-        let there : get (outcome g n₀ e.waiting m.payload).waiting t ≡ Some h = ap (λ (y : State). get y.waiting t) (sym q.1) ∙ w in
-        elim (tag_cases t new.tag) [
-          | inl same ↦
-            subst (λ u. Among (Token u h.port h.value) (handled (new ∷ hs₀))) (sym same)
-            (still_handled g new.tag new.port new.value _ _ _ (handled hs₀) (outcome_effect g n₀ e.waiting m.payload)
-            (λ h' e'. before n₀ e new.tag h' at e') h (ap (λ u. get (outcome g n₀ e.waiting m.payload).waiting u) (sym same) ∙ there))
-          | inr other ↦ inr (before n₀ e t h at (sym (outcome_other g n₀ e.waiting m.payload t other) ∙ there))
-        ]
+          let there : get (outcome g n₀ e.waiting m.payload).waiting t ≡ Some h = ap (λ (y : State). get y.waiting t) (sym q.1) ∙ w in
+          elim (tag_cases t new.tag) [
+            | inl same ↦
+                subst (λ u. Among (Token u h.port h.value) (handled (new ∷ hs₀))) (sym same)
+                (still_handled g new.tag new.port new.value _ _ _ (handled hs₀) (outcome_effect g n₀ e.waiting m.payload)
+                (λ h' e'. before n₀ e new.tag h' at e') h (ap (λ u. get (outcome g n₀ e.waiting m.payload).waiting u) (sym same) ∙ there))
+            | inr other ↦ inr (before n₀ e t h at (sym (outcome_other g n₀ e.waiting m.payload t other) ∙ there))
+          ]
       | inr old ↦ inr (before n x t h old w)
     ]

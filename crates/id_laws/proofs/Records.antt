@@ -1,24 +1,25 @@
 -- The records of the elements have the events of the run, and no others.
-use Rattle.std.proofs.Common.{◌≡◌, ◌⊎◌, inl, inr, ℕ, zero, suc, Option, Some, None, List, [], ◌∷◌, ◌++◌, map, set, replicate, slice_get, refl, sym, ◌∙◌, ap, subst}
-use Rattle.std.specs.List.{flat_map, filter_map, cons_option}
+use Rattle.std.proofs.Common.{◌≡◌, inl, inr, ℕ, zero, suc, Option, Some, None, List, [], ◌∷◌, map, set, replicate, slice_get, refl, sym, ◌∙◌, ap, subst}
+use Rattle.std.specs.List.{filter_map, cons_option}
 use Rattle.std.proofs.lemmas.Bool.{cases_eq}
 use Rattle.id_graph.specs.Graph.{Parts}
 use Rattle.id_tag.specs.declared.Payload.{Payload}
 use Rattle.id_tag.specs.declared.Message.{Message}
 use Rattle.id_tag.specs.Routes.{route_of}
-use Rattle.id_core.specs.declared.step.Step.{Step}
 use Rattle.id_core.specs.Events.{EventView}
 use Rattle.id_core.specs.Steps.{State, fresh, event_of, state_after}
-use Rattle.id_core.specs.Machines.{World, start}
+use Rattle.id_core.specs.Machines.{World}
 use Rattle.id_core.specs.Observed.{events_of}
 use Rattle.id_meaning.specs.Parts.{Among}
-use Rattle.id_laws.proofs.Lists.{among_left, among_right, among_append, within_set, set_here, set_elsewhere, among_at}
-use Rattle.id_laws.proofs.Arrivals.{Happening, happening, token_of, token_of-happening, step_of_event, outcome_step}
+use Rattle.id_laws.proofs.Lists.{among_left, among_right, among_append, within_set, set_here, set_elsewhere, among_from_map}
+use Rattle.id_laws.proofs.Arrivals.{Happening, happening, token_of, token_of-happening, sends_of, step_of_event, outcome_step}
 use Rattle.id_laws.proofs.Reached.{Reach, begin, deliver}
+use Rattle.id_laws.proofs.Traffic.{sent_payloads}
 
 -- the event of a record is the event of the run
 pub record Tells (g : Parts) (v : EventView) (h : Happening) : Type 0 where
   pub payload : v.message.payload ≡ token_of h
+  pub outputs : map (λ m. m.payload) v.outputs ≡ sends_of g h
   pub step : v.step ≡ step_of_event g h
 
 -- some element's record has the event
@@ -35,7 +36,7 @@ unrecorded (suc n) (suc m) e v h a = unrecorded n m e v h a
 
 module _ (g : Parts) (count : ℕ) where
   told_now : (n : ℕ) (e : State) (m : Message) → Tells g (event_of g n e m) (happening g n e.waiting m.payload)
-  told_now n e m = record { payload = sym (token_of-happening g n e.waiting m.payload); step = outcome_step g n e.waiting m.payload }
+  told_now n e m = record { payload = sym (token_of-happening g n e.waiting m.payload); outputs = sent_payloads g n e m; step = outcome_step g n e.waiting m.payload }
 
   -- each event of a record is one of the run
   pub from_record : (s : World) (hs : List Happening) → Reach g count s hs → (v : EventView) → Recorded s v → (h : Happening) × Among h hs × Tells g v h
@@ -46,13 +47,13 @@ module _ (g : Parts) (count : ℕ) where
       let old = λ (y : Recorded s₀ v). (let t = from_record s₀ hs₀ r v y in let z : (h : Happening) × Among h (new ∷ hs₀) × Tells g v h = (t.0, inr t.1, t.2) in z) in
       elim (within_set s₀.elements n w.element (state_after g n e m) w.state w.at) [
         | inl is ↦
-          elim (among_append v e.events (event_of g n e m ∷ []) (subst (λ (y : State). Among v y.events) is.1 w.among)) [
-            | inl before ↦ old (record { element = n; state = e; at = q; among = before })
-            | inr now ↦ elim now [
-              | inl one ↦ (new, inl refl, subst (λ (y : EventView). Tells g y new) (sym one) (told_now n e m))
-              | inr none ↦ absurd none
+            elim (among_append v e.events (event_of g n e m ∷ []) (subst (λ (y : State). Among v y.events) is.1 w.among)) [
+              | inl before ↦ old (record { element = n; state = e; at = q; among = before })
+              | inr now ↦ elim now [
+                | inl one ↦ (new, inl refl, subst (λ (y : EventView). Tells g y new) (sym one) (told_now n e m))
+                | inr none ↦ absurd none
+              ]
             ]
-          ]
         | inr at ↦ old (record { element = w.element; state = w.state; at = at; among = w.among })
       ]
 
@@ -61,14 +62,19 @@ module _ (g : Parts) (count : ℕ) where
   record_on s s' n e e' v at is grows w =
       elim (cases_eq w.element n) [
         | inl here ↦
-          let both : Some w.state ≡ Some e = sym w.at ∙ ap (slice_get s.elements) here ∙ at in
-          let one : w.state ≡ e = cc in
-          record {
-            element = n; state = e'; at = ap (λ xs. slice_get xs n) is ∙ set_here s.elements n e' e at;
-            among = grows v (subst (λ (y : State). Among v y.events) one w.among);
-          }
+            let both : Some w.state ≡ Some e = sym w.at ∙ ap (slice_get s.elements) here ∙ at in
+            let one : w.state ≡ e = cc in
+            record {
+              element = n;
+              state = e';
+              at = ap (λ xs. slice_get xs n) is ∙ set_here s.elements n e' e at;
+              among = grows v (subst (λ (y : State). Among v y.events) one w.among);
+            }
         | inr other ↦ record {
-          element = w.element; state = w.state; at = ap (λ xs. slice_get xs w.element) is ∙ set_elsewhere s.elements n w.element e' other ∙ w.at; among = w.among;
+          element = w.element;
+          state = w.state;
+          at = ap (λ xs. slice_get xs w.element) is ∙ set_elsewhere s.elements n w.element e' other ∙ w.at;
+          among = w.among;
         }
       ]
 
@@ -78,11 +84,16 @@ module _ (g : Parts) (count : ℕ) where
   to_record s hs (deliver {s = s₀} {hs = hs₀} k m e r f q) h (inl is) =
       let n = route_of m.payload count in
       let e' = state_after g n e m in
-      let v = event_of g n e m in
-      (v, record {
-        element = n; state = e'; at = set_here s₀.elements n e' e q;
-        among = among_right v e.events (v ∷ []) (inl refl);
-      }, subst (λ (y : Happening). Tells g v y) (sym is) (told_now n e m))
+      let v = event_of g n e m in (
+        v,
+        record {
+          element = n;
+          state = e';
+          at = set_here s₀.elements n e' e q;
+          among = among_right v e.events (v ∷ []) (inl refl);
+        },
+        subst (λ (y : Happening). Tells g v y) (sym is) (told_now n e m),
+      )
   to_record s hs (deliver {s = s₀} {hs = hs₀} k m e r f q) h (inr old) =
       let n = route_of m.payload count in
       let e' = state_after g n e m in
@@ -137,3 +148,7 @@ filter_map_has {A} {B} f (z ∷ xs) x y (inr h) e = go (f z) (filter_map_has f x
     go : (o : Option B) → Among y (filter_map f xs) → Among y (cons_option o (filter_map f xs))
     go None k = k
     go (Some w) k = inr k
+
+-- what was handled was handled by an event
+pub among_from_handled : (hs : List Happening) (x : Payload) → Among x (map token_of hs) → (h : Happening) × Among h hs × (x ≡ token_of h)
+among_from_handled hs x h = among_from_map token_of x hs h

@@ -1,7 +1,5 @@
 -- Lemmas on the table of a program: what stands at a place, and in which region.
-use Rattle.std.proofs.Common.{◌≡◌, ◌⊎◌, inl, inr, ℕ, List, [], ◌∷◌, ◌++◌, map, refl, sym, ◌∙◌, ap, subst}
-use Rattle.id_tree.specs.declared.tree.UnaryOp.{UnaryOp}
-use Rattle.id_tree.specs.declared.tree.BinaryOp.{BinaryOp}
+use Rattle.std.proofs.Common.{◌≡◌, inl, inr, ℕ, List, [], ◌∷◌, ◌++◌, map, refl, sym, ◌∙◌, ap, subst}
 use Rattle.id_tree.specs.declared.tree.Expr.{Expr, Literal, Unary', Binary'}
 use Rattle.id_tree.specs.declared.tree.Def.{Def}
 use Rattle.id_check.specs.declared.Checked.{Checked}
@@ -42,7 +40,7 @@ one_of_all [] a b d h k e = absurd h
 one_of_all (x ∷ ds) a b d h k e =
     let es = entries_of_def x in
     let apart = λ (p q : Entry) (i : Among p es) (j : Among q (entries_of_all ds)) (same : p.place ≡ q.place).
-          differ_apart q.place (map at es) (places_of_all ds) d.1 (subst (λ n. Among n (map at es)) same (among_map at p es i)) (entry_place ds q j) in
+    differ_apart q.place (map at es) (places_of_all ds) d.1 (subst (λ n. Among n (map at es)) same (among_map at p es i)) (entry_place ds q j) in
     elim (among_append a es (entries_of_all ds) h) [
       | inl i ↦ elim (among_append b es (entries_of_all ds) k) [
         | inl j ↦ one_entry es a b (differ_left (map at es) (places_of_all ds) d.1) i j e
@@ -107,7 +105,7 @@ abbrev Stands : List Entry → Region → ℕ → Type 0
 Stands es r e = (n : Node) × Among (line r e n) es
 
 -- the operands' places of a node
-abbrev operands : Node → List ℕ
+abbrev pub operands : Node → List ℕ
 operands (LiteralNode v) = []
 operands (UnaryNode o a) = a ∷ []
 operands (BinaryNode o a b) = a ∷ b ∷ []

@@ -1,5 +1,5 @@
 -- Where messages come from and where they go, in any run.
-use Rattle.std.proofs.Common.{◌≡◌, ◌⊎◌, inl, inr, ℕ, zero, suc, ◌+◌, length, Bool, true, false, Option, Some, None, List, [], ◌∷◌, ◌++◌, map, slice_get, refl, sym, ◌∙◌, ap, subst}
+use Rattle.std.proofs.Common.{◌≡◌, ◌⊎◌, inl, inr, ℕ, ◌+◌, length, true, false, Option, Some, None, List, [], ◌∷◌, ◌++◌, map, slice_get, refl, sym, ◌∙◌, ap, subst}
 use Rattle.std.proofs.lemmas.List.{map-append}
 use Rattle.std.specs.List.{remove}
 use Rattle.id_graph.specs.declared.instr.Instr.{Instr}
@@ -12,14 +12,14 @@ use Rattle.id_tag.specs.declared.Payload.{Payload}
 use Rattle.id_tag.specs.declared.Payload.TheVariants.{Token}
 use Rattle.id_tag.specs.declared.Message.{Message}
 use Rattle.id_tag.specs.Routes.{route_of}
-use Rattle.id_ops.specs.declared.Operands.{Operands}
 use Rattle.id_ops.specs.declared.Operands.TheVariants as operands
-use Rattle.id_core.specs.Steps.{State, Fires, numbered, outputs_of, next_stamp, outcome}
+use Rattle.id_laws.proofs.Arrivals.{Fires}
+use Rattle.id_core.specs.Steps.{State, numbered, outputs_of, next_stamp, outcome}
 use Rattle.id_core.specs.Machines.{World, taken_from}
 use Rattle.id_meaning.specs.Parts.{Among}
 use Rattle.id_match.specs.declared.Half.{Half}
-use Rattle.id_laws.proofs.Lists.{among_at, among_left, among_right, among_append, among_map, left_of, taken_or_left, map_remove, map_at}
-use Rattle.id_laws.proofs.Arrivals.{Effect, nowhere, alone, first, meets_zero, meets_one, again, Happening, happening, token_of, token_of-happening, sends_of, outcome_sends, outcome_effect}
+use Rattle.id_laws.proofs.Lists.{among_at, among_left, among_right, among_append, left_of, taken_or_left, map_remove, map_at}
+use Rattle.id_laws.proofs.Arrivals.{Effect, nowhere, alone, first, meets_zero, meets_one, again, Happening, happening, token_of-happening, sends_of, outcome_sends, outcome_effect}
 use Rattle.id_laws.proofs.Reached.{Reach, begin, deliver, handled, flying, starting, Fired, fired_later}
 
 abbrev said : Message → Payload
@@ -29,12 +29,16 @@ numbered_payloads : (n position stamp k : ℕ) (xs : List Payload) → map said 
 numbered_payloads n position stamp k [] = refl
 numbered_payloads n position stamp k (x ∷ xs) = ap (λ ys. x ∷ ys) (numbered_payloads n position stamp (k + 1) xs)
 
+pub sent_payloads : (g : Parts) (n : ℕ) (e : State) (m : Message) → map said (outputs_of g n e m) ≡ sends_of g (happening g n e.waiting m.payload)
+sent_payloads g n e m =
+    numbered_payloads n (length e.events) (next_stamp e m) 0 (outcome g n e.waiting m.payload).sends ∙ outcome_sends g n e.waiting m.payload
+
 -- what is in flight after an event: what is left of before, and what the event sends
 pub flying_after : (g : Parts) (k : ℕ) (s : World) (m : Message) (n : ℕ) (e : State)
     → flying (taken_from g k s m n e) ≡ remove (flying s) k ++ sends_of g (happening g n e.waiting m.payload)
 flying_after g k s m n e =
     map-append said (remove s.flight k) (outputs_of g n e m)
-    ∙ (λ i. map_remove said s.flight k i ++ (numbered_payloads n (length e.events) (next_stamp e m) 0 (outcome g n e.waiting m.payload).sends ∙ outcome_sends g n e.waiting m.payload) i)
+    ∙ (λ i. map_remove said s.flight k i ++ sent_payloads g n e m i)
 
 -- the message was there at the start, or an event sent it
 pub record SentBy (g : Parts) (hs : List Happening) (x : Payload) : Type 0 where
@@ -104,7 +108,7 @@ module _ (g : Parts) (count : ℕ) where
   moving s hs (deliver {s = s₀} {hs = hs₀} k m e r f q) x (inr h) =
       elim h.among [
         | inl new ↦ inl (subst (Among x) (sym (flying_after g k s₀ m (route_of m.payload count) e))
-          (among_right x (remove (flying s₀) k) _ (subst (λ y. Among x (sends_of g y)) new h.sends)))
+            (among_right x (remove (flying s₀) k) _ (subst (λ y. Among x (sends_of g y)) new h.sends)))
         | inr old ↦ moves_on k s₀ hs₀ m e x f (moving s₀ hs₀ r x (inr (record { event = h.event; among = old; sends = h.sends })))
       ]
 
@@ -119,7 +123,10 @@ module _ (g : Parts) (count : ℕ) where
       let value_is : v ≡ new.value = cc in
       let at' : slice_get g.instrs (new.tag).instr ≡ Some i = ap (λ (u : Tag). slice_get g.instrs u.instr) (sym tag_is) ∙ at in
       record {
-        event = new; among = inl refl; tag = sym tag_is; at = at;
+        event = new;
+        among = inl refl;
+        tag = sym tag_is;
+        at = at;
         fires = alone_fires g new _ _ i (outcome_effect g n e.waiting m.payload) at' b ∙ ap (λ u. Fires (operands.One u)) (sym value_is);
       }
   fires_alone s hs (deliver {s = s₀} {hs = hs₀} k m e r f q) t p v i at b (inr old) = fired_later _ (fires_alone s₀ hs₀ r t p v i at b old)

@@ -1,17 +1,17 @@
 -- What holds by a rule, and that each part of a live region is On.
-use Rattle.std.proofs.Common.{◌≡◌, ◌⊎◌, inl, inr, ℕ, zero, suc, ◌≤◌, ◌+◌, List, [], ◌∷◌, refl, sym, ◌∙◌, ap, subst, arith}
+use Rattle.std.proofs.Common.{inl, inr, ℕ, zero, suc, ◌≤◌, ◌+◌, List, [], ◌∷◌, refl, sym, ap, subst, arith}
 use Rattle.std.proofs.lemmas.Bool.{cases_eq}
 use Rattle.id_tree.specs.declared.tree.Expr.{Expr, Literal, Unary', Binary'}
 use Rattle.id_tree.specs.declared.tree.Def.{Def}
 use Rattle.id_check.specs.declared.Checked.{Checked}
 use Rattle.id_meaning.specs.declared.Path.{Path}
 use Rattle.id_meaning.specs.declared.Fact.{Fact}
-use Rattle.id_meaning.specs.declared.Fact.TheVariants.{On, Has}
-use Rattle.id_meaning.specs.Parts.{Among, Region, Top, Node, UnaryNode, BinaryNode, Entry, place_of, entries_of, entries_of_def, IsDef, IsMain, Part, Distinct}
+use Rattle.id_meaning.specs.declared.Fact.TheVariants.{On}
+use Rattle.id_meaning.specs.Parts.{Among, Region, Top, Node, UnaryNode, BinaryNode, Entry, place_of, entries_of, entries_of_def, IsDef, Part, Distinct}
 use Rattle.id_meaning.specs.Facts.{outermost, Rule, main_on, operand_on, left_on, right_on}
 use Rattle.id_meaning.specs.Rounds.{Every, Rounds, Holds}
 use Rattle.id_laws.proofs.Lists.{among_left, among_right, among_append}
-use Rattle.id_laws.proofs.Tables.{line, root_node, root_among, def_of_main, part_of_def, part_in_def}
+use Rattle.id_laws.proofs.Tables.{line, def_of_main, part_of_def, part_in_def}
 use Rattle.id_laws.proofs.Arrivals.{Happening}
 use Rattle.id_laws.proofs.Wanted.{Activation, PathOf, main_path, Live, in_main}
 

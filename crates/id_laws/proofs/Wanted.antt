@@ -1,8 +1,5 @@
 -- What each port wants and each source says, by what the source means.
-use Rattle.std.proofs.Common.{◌≡◌, ◌⊎◌, inl, inr, ℕ, List, [], ◌∷◌, refl, sym, ◌∙◌, ap, subst}
-use Rattle.id_tree.specs.declared.tree.UnaryOp.{UnaryOp}
-use Rattle.id_tree.specs.declared.tree.BinaryOp.{BinaryOp}
-use Rattle.id_tree.specs.declared.tree.Expr.{Expr, Literal, Unary', Binary'}
+use Rattle.std.proofs.Common.{◌≡◌, ℕ, List}
 use Rattle.id_tree.specs.declared.tree.Def.{Def}
 use Rattle.id_check.specs.declared.Checked.{Checked}
 use Rattle.id_graph.specs.declared.dests.Port.{Port}
@@ -14,14 +11,11 @@ use Rattle.id_tag.specs.declared.Value.TheVariants as value
 use Rattle.id_core.specs.Machines.{main_tag}
 use Rattle.id_meaning.specs.declared.Path.{Path}
 use Rattle.id_meaning.specs.declared.SourceValue.{SourceValue}
-use Rattle.id_meaning.specs.declared.Fact.{Fact}
-use Rattle.id_meaning.specs.declared.Fact.TheVariants.{On, Has}
-use Rattle.id_meaning.specs.Parts.{Among, Region, Top, Node, LiteralNode, UnaryNode, BinaryNode, Entry, place_of, literal_value, entries_of, entries_of_def, IsDef, IsMain, Part, Distinct}
-use Rattle.id_meaning.specs.Facts.{outermost, Rule, main_on, operand_on, left_on, right_on}
-use Rattle.id_meaning.specs.Rounds.{Every, Rounds, Holds}
-use Rattle.id_build.specs.Roles.{Role, Answer, Trigger, Return, Of, Source, From, TriggerAt, of_procedure, GivesAt, by_literal, by_unary, by_binary, Feeds, to_literal, to_unary, to_left, to_right, to_return}
-use Rattle.id_laws.proofs.Lists.{among_left, among_right, among_append}
-use Rattle.id_laws.proofs.Tables.{same_part, same_def, def_of_main}
+use Rattle.id_meaning.specs.declared.Fact.TheVariants.{Has}
+use Rattle.id_meaning.specs.Parts.{Region, Top, Node, LiteralNode, UnaryNode, BinaryNode, place_of, IsDef, IsMain, Part}
+use Rattle.id_meaning.specs.Facts.{outermost}
+use Rattle.id_meaning.specs.Rounds.{Holds}
+use Rattle.id_build.specs.Roles.{Role, Answer, Trigger, Return, Of, Source, From}
 use Rattle.id_laws.proofs.Arrivals.{Happening}
 use Rattle.id_laws.proofs.Agreement.{token_value}
 
