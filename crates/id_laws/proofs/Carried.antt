@@ -1,0 +1,248 @@
+-- In a quiet run each fact of the source is carried: what is On is turned on, and what Has a value has sent it to all that it feeds.
+use Rattle.std.proofs.Common.{◌≡◌, inl, inr, ℕ, zero, suc, true, false, cond, Some, List, [], ◌∷◌, map, slice_get, refl, sym, ◌∙◌, ap, subst}
+use Rattle.id_tree.specs.declared.tree.Kind.{Kind}
+use Rattle.id_tree.specs.declared.tree.Kind.TheVariants as kind
+use Rattle.id_tree.specs.declared.tree.UnaryOp.{UnaryOp}
+use Rattle.id_tree.specs.declared.tree.Def.{Def}
+use Rattle.id_check.specs.declared.Checked.{Checked}
+use Rattle.id_graph.specs.declared.dests.Port.{Port}
+use Rattle.id_graph.specs.declared.dests.Port.TheVariants.{Zero, One}
+use Rattle.id_graph.specs.declared.instr.Op.{Op}
+use Rattle.id_graph.specs.declared.instr.Op.TheVariants.{Const, Binary, Merge}
+use Rattle.id_graph.specs.declared.instr.PortKind.TheVariants as port_kinds
+use Rattle.id_graph.specs.declared.instr.Instr.{Instr}
+use Rattle.id_graph.specs.Ports.{two_ports}
+use Rattle.id_graph.specs.Graph.{Parts, arcs}
+use Rattle.id_tag.specs.declared.Tag.{Tag}
+use Rattle.id_tag.specs.declared.Value.{Value}
+use Rattle.id_tag.specs.declared.Value.TheVariants as value
+use Rattle.id_tag.specs.declared.Payload.{Payload}
+use Rattle.id_tag.specs.declared.Payload.TheVariants.{Token}
+use Rattle.id_tag.specs.declared.Message.{Message}
+use Rattle.id_tag.specs.Kinds.{kind_of, same_kind}
+use Rattle.id_ops.specs.declared.Operands.{Operands}
+use Rattle.id_ops.specs.declared.Operands.TheVariants as operands
+use Rattle.id_ops.specs.declared.Fresh.{Fresh}
+use Rattle.id_ops.specs.declared.Fired.TheVariants.{Out, Sent, Nothing}
+use Rattle.id_ops.specs.Operators.{fired, constant_value}
+use Rattle.id_laws.proofs.Arrivals.{Arrival, Fires}
+use Rattle.id_core.specs.Steps.{sent, token_to, fresh_numbers}
+use Rattle.id_core.specs.Machines.{World}
+use Rattle.id_meaning.specs.declared.Path.{Path}
+use Rattle.id_meaning.specs.declared.SourceValue.{SourceValue}
+use Rattle.id_meaning.specs.declared.SourceValue.TheVariants as source
+use Rattle.id_meaning.specs.declared.Fact.{Fact}
+use Rattle.id_meaning.specs.declared.Fact.TheVariants.{On, Has}
+use Rattle.id_meaning.specs.Parts.{Among, Region, Top, Node, IsMain, Part, Distinct}
+use Rattle.id_meaning.specs.Facts.{Rule, main_on, literal_has, operand_on, left_on, right_on, unary_has, binary_has}
+use Rattle.id_meaning.specs.Rounds.{Every, Rounds, Holds}
+use Rattle.id_build.specs.Roles.{Role, Trigger, Of, Source, From, Makes, trigger, literal, unary, binary, constant_of, unary_op, binary_op, port_of, TriggerAt, of_procedure, GivesAt, Feeds, to_literal, to_unary, to_left, to_right}
+use Rattle.id_build.specs.Schemas.{Numbered}
+use Rattle.id_laws.proofs.Lists.{among_map}
+use Rattle.id_laws.proofs.Tables.{same_part, def_of_main, Node_at, operand_part, operands as parts_named, body_part}
+use Rattle.id_laws.proofs.Arrivals.{Happening, sends_by}
+use Rattle.id_laws.proofs.Reached.{Reach, handled, starting, Fired}
+use Rattle.id_laws.proofs.Traffic.{Origin, moving, fires_alone}
+use Rattle.id_laws.proofs.Counts.{Exclusive}
+use Rattle.id_laws.proofs.Progress.{met}
+use Rattle.id_laws.proofs.Agreement.{token_value, as_fired, agree_unary, agree_binary}
+use Rattle.id_laws.proofs.Wanted.{Activation, main_activation, tag_in, PathOf, main_path, Live, in_main}
+use Rattle.id_laws.proofs.Fed.{trigger_of, gives_is, gives}
+use Rattle.id_laws.proofs.Begun.{signal_to, starting_is}
+use Rattle.id_laws.proofs.Apart.{exclusive}
+
+-- two activations of one path are one
+path_is_main : {run : List Happening} {a : Activation} {p : Path} → PathOf run a p → a ≡ main_activation
+path_is_main main_path = refl
+
+pub one_activation : {run : List Happening} {a a' : Activation} {p : Path} → PathOf run a p → PathOf run a' p → a ≡ a'
+one_activation h k = path_is_main h ∙ sym (path_is_main k)
+
+-- a live region has a trigger
+live_trigger : {P : Checked} {run : List Happening} {a : Activation} {r : Region} → Live P run a r → TriggerAt P r (trigger_of r)
+live_trigger (in_main main) = of_procedure (def_of_main main)
+
+constant_sent : (v : SourceValue) → constant_value (constant_of v) ≡ token_value v
+constant_sent (source.Int n) = refl
+
+-- a value of the source is of its procedure's kind
+pub sent_back : (k : Kind) (v : SourceValue) (t : Tag) → cond (same_kind (kind_of (token_value v)) (port_of k)) (Sent t (token_value v)) Nothing ≡ Sent t (token_value v)
+sent_back kind.Int (source.Int n) t = refl
+
+pub unary_alone : (o : UnaryOp) → two_ports (unary_op o) ≡ false
+unary_alone Rattle.id_tree.specs.declared.tree.UnaryOp.TheVariants.Neg = refl
+
+module _ (P : Checked) (distinct : Distinct P) (g : Parts) (number : Role → ℕ) (numbered : Numbered P g number)
+    (count : ℕ) (s : World) (hs : List Happening) (r : Reach g count s hs) (quiet : s.flight ≡ []) where
+  apart : Exclusive g count
+  apart = exclusive P distinct g number numbered count
+
+  -- what was sent was handled
+  arrived : (x : Payload) → Origin g hs x → Among x (handled hs)
+  arrived x from =
+      elim (moving g count s hs r x from) [
+        | inl flies ↦ absurd (subst (λ ms. Among x (map (λ (m : Message). m.payload) ms)) quiet flies)
+        | inr done ↦ done
+      ]
+
+  -- what a firing sends was handled
+  pub sent_arrived : {t : Tag} {i : Instr} {ops : Operands} (f : Fired g hs t i ops) (x : Payload) → Among x (sent i.dests t (fired i.op t ops (fresh_numbers (f.event).element))) → Among x (handled hs)
+  sent_arrived {t} {i} {ops} f x out =
+      let el = (f.event).element in
+      let here = subst (λ o. Among x (sends_by el t o (Fires ops))) (sym f.at) out in
+      arrived x (inr (record {
+        event = f.event;
+        among = f.among;
+        sends = subst (λ (z : Tag × Arrival). Among x (sends_by el z.0 (slice_get g.instrs z.0.instr) z.1)) (λ j. (sym f.tag j, sym f.fires j)) here;
+      }))
+
+  -- the instruction for a role has fired on these operands
+  pub record RoleFired (a : Activation) (q : Role) (o : Op) (ops : Operands) : Type 0 where
+    pub instr : Instr
+    pub fired : Fired g hs (tag_in a (number q)) instr ops
+    pub op_is : instr.op ≡ o
+
+  pub alone_fired : (a : Activation) (q : Role) (o : Op) (e : ℕ) (p : Port) (v : Value) → Makes P q o e → two_ports o ≡ false → Among (Token (tag_in a (number q)) p v) (handled hs) → RoleFired a q o (operands.One v)
+  alone_fired a q o e p v makes one h =
+      let m = numbered.made q o e makes in
+      record { instr = m.instr; op_is = m.op; fired = fires_alone g count s hs r (tag_in a (number q)) p v m.instr m.at (ap two_ports m.op ∙ one) h }
+
+  pub both_fired : (a : Activation) (q : Role) (o : Op) (e : ℕ) (v w : Value) → Makes P q o e → two_ports o ≡ true → Among (Token (tag_in a (number q)) Zero v) (handled hs)
+      → Among (Token (tag_in a (number q)) One w) (handled hs) → RoleFired a q o (operands.Two v w)
+  both_fired a q o e v w makes two h k =
+      let m = numbered.made q o e makes in
+      record { instr = m.instr; op_is = m.op; fired = met g count apart s hs r (tag_in a (number q)) v w m.instr m.at (ap two_ports m.op ∙ two) h k }
+
+  -- the source has said the value
+  pub record Spoken (a : Activation) (q : Role) (v : Value) : Type 0 where
+    pub instr : Instr
+    pub operands : Operands
+    pub fired_on : Fired g hs (tag_in a (number q)) instr operands
+    pub out : fired instr.op (tag_in a (number q)) operands (fresh_numbers (fired_on.event).element) ≡ Out v
+
+  abbrev pub SpokenBy : Activation → Source → Value → Type 0
+  SpokenBy a (From q) v = Spoken a q v
+
+  speaks : (a : Activation) (q : Role) (o : Op) (ops : Operands) (v : Value) → RoleFired a q o ops → ((f : Fresh) → fired o (tag_in a (number q)) ops f ≡ Out v) → Spoken a q v
+  speaks a q o ops v x out =
+      record {
+        instr = x.instr;
+        operands = ops;
+        fired_on = x.fired;
+        out = ap (λ z. fired z (tag_in a (number q)) ops (fresh_numbers ((x.fired).event).element)) x.op_is ∙ out (fresh_numbers ((x.fired).event).element);
+      }
+
+  -- what a source has said came to all that it feeds
+  pub came : (a : Activation) (src : Source) (q : Role) (p : Port) (v : Value) → SpokenBy a src v → Feeds P src q p → Among (Token (tag_in a (number q)) p v) (handled hs)
+  came a (From q') q p v x feeds =
+      let t = tag_in a (number q') in
+      let to = numbered.sends q' q p feeds in
+      let both : Some to.instr ≡ Some x.instr = sym to.at ∙ (x.fired_on).at in
+      let one : to.instr ≡ x.instr = cc in
+      let listed = among_map (token_to t v) (record { instr = number q; port = p }) (arcs x.instr) (subst (λ (i : Instr). Among (record { instr = number q; port = p }) (arcs i)) one to.lists) in
+      sent_arrived x.fired_on _ (subst (λ f. Among (Token (tag_in a (number q)) p v) (sent (x.instr).dests t f)) (sym x.out) listed)
+
+  -- it is turned on at the path
+  pub record CarriedOn (p : Path) (e : ℕ) : Type 0 where
+    pub activation : Activation
+    pub path_of : PathOf hs activation p
+    pub region : Region
+    pub here : Node_at P region e
+    pub live : Live P hs activation region
+    pub turned : (src : Source) → TriggerAt P region src → SpokenBy activation src value.Signal
+
+  -- what its value comes from has said the value at the path
+  pub record CarriedHas (p : Path) (e : ℕ) (v : SourceValue) : Type 0 where
+    pub activation : Activation
+    pub path_of : PathOf hs activation p
+    pub region : Region
+    pub here : Node_at P region e
+    pub spoken : (src : Source) → GivesAt P region e src → SpokenBy activation src (token_value v)
+
+  abbrev pub Carried : Fact → Type 0
+  Carried (On p e) = CarriedOn p e
+  Carried (Has p e v) = CarriedHas p e v
+
+  -- the part, in the region where it was turned on
+  pub in_region : {p : Path} {e : ℕ} {q : Region} {n : Node} (on : CarriedOn p e) → Part P q e n → Part P on.region e n
+  in_region {e = e} {n = n} on part = subst (λ z. Part P z e n) ((same_part P distinct part (on.here).part).0) part
+
+  -- an operand's value came to its port
+  pub operand_came : {p : Path} {e : ℕ} {n : Node} (on : CarriedOn p e) → Part P on.region e n → (a : ℕ) (v : SourceValue) → Among a (parts_named n) → CarriedHas p a v
+      → (q : Role) (port : Port) → ((src : Source) → GivesAt P on.region a src → Feeds P src q port) → Among (Token (tag_in on.activation (number q)) port (token_value v)) (handled hs)
+  operand_came {p} on part a v among has q port feeds =
+      let operand = operand_part a part among in
+      let region_is : has.region ≡ on.region = (same_part P distinct (has.here).part operand.part).0 in
+      let activation_is : has.activation ≡ on.activation = one_activation has.path_of on.path_of in
+      let source_gives = gives operand.node operand.part in
+      let spoken = has.spoken (From (Of has.region a)) (subst (λ z. GivesAt P z a (From (Of z a))) (sym region_is) source_gives) in
+      let here : SpokenBy on.activation (From (Of on.region a)) (token_value v) = subst (λ (z : Activation × Region). Spoken z.0 (Of z.1 a) (token_value v)) (λ j. (activation_is j, region_is j)) spoken in
+      came on.activation (From (Of on.region a)) q port (token_value v) here (feeds (From (Of on.region a)) source_gives)
+
+  -- a value that the instruction of an expression has said
+  has_said : {p : Path} {e : ℕ} (on : CarriedOn p e) (v : SourceValue) → Spoken on.activation (Of on.region e) (token_value v) → CarriedHas p e v
+  has_said {e = e} on v x = record {
+    activation = on.activation;
+    path_of = on.path_of;
+    region = on.region;
+    here = on.here;
+    spoken = λ src h. subst (λ z. SpokenBy on.activation z (token_value v)) (sym (gives_is h)) x;
+  }
+
+  operand_carried : {p : Path} {e : ℕ} {q : Region} {n : Node} (a : ℕ) → CarriedOn p e → Part P q e n → Among a (parts_named n) → CarriedOn p a
+  operand_carried a on part among =
+      record { activation = on.activation; path_of = on.path_of; region = on.region; here = operand_part a (in_region on part) among; live = on.live; turned = on.turned }
+
+  pub start_came : (x : Payload) → Among x (starting g) → Among x (handled hs)
+  start_came x h = arrived x (inl h)
+
+  -- main's trigger has spoken
+  main_turned : {d : Def} → IsMain P d → (src : Source) → TriggerAt P (Top d.place) src → SpokenBy main_activation src value.Signal
+  main_turned {d} main src t =
+      let came_in = start_came (signal_to P distinct g number numbered d) (subst (Among (signal_to P distinct g number numbered d)) (sym (starting_is P distinct g number numbered d main)) (inl refl)) in
+      let has_fired = alone_fired main_activation (Trigger d.place) (Merge port_kinds.Signal) d.place Zero value.Signal (trigger (def_of_main main)) refl came_in in
+      subst (λ z. SpokenBy main_activation z value.Signal) (sym (trigger_source t)) (speaks main_activation (Trigger d.place) _ _ value.Signal has_fired (λ f. refl))
+    where
+      trigger_source : {r : Region} {src : Source} → TriggerAt P r src → src ≡ trigger_of r
+      trigger_source (of_procedure is_def) = refl
+
+  -- where the premises of a rule are carried, so is what follows
+  carried_by : {fs : List Fact} {f : Fact} → Rule P fs f → Every Carried fs → Carried f
+  carried_by (main_on {d = d} main) c =
+      record { activation = main_activation; path_of = main_path; region = Top d.place; here = body_part (def_of_main main); live = in_main main; turned = main_turned main }
+  carried_by (literal_has {e = e} {v = v} part) c =
+      let on = c.0 in
+      let here = in_region on part in
+      let t = live_trigger on.live in
+      let signal = came on.activation (trigger_of on.region) (Of on.region e) Zero value.Signal (on.turned (trigger_of on.region) t) (to_literal here t) in
+      let has_fired = alone_fired on.activation (Of on.region e) (Const (constant_of v)) e Zero value.Signal (literal here) refl signal in
+      has_said on v (speaks on.activation (Of on.region e) _ _ (token_value v) has_fired (λ f. ap Out (constant_sent v)))
+  carried_by (operand_on {a = a} part) c = operand_carried a c.0 part (inl refl)
+  carried_by (left_on {a = a} part) c = operand_carried a c.0 part (inl refl)
+  carried_by (right_on {b = b} part) c = operand_carried b c.0 part (inr (inl refl))
+  carried_by (unary_has {e = e} {a = a} {o = o} {v = v} {x = x} part is) c =
+      let on = c.0 in
+      let here = in_region on part in
+      let operand = operand_came on here a v (inl refl) c.1.0 (Of on.region e) Zero (λ src h. to_unary here h) in
+      let has_fired = alone_fired on.activation (Of on.region e) (unary_op o) e Zero (token_value v) (unary here) (unary_alone o) operand in
+      has_said on x (speaks on.activation (Of on.region e) _ _ (token_value x) has_fired (λ f. agree_unary o v (tag_in on.activation (number (Of on.region e))) f ∙ ap as_fired is))
+  carried_by (binary_has {e = e} {a = a} {b = b} {o = o} {v = v} {w = w} {x = x} part is) c =
+      let on = c.0 in
+      let here = in_region on part in
+      let left = operand_came on here a v (inl refl) c.1.0 (Of on.region e) Zero (λ src h. to_left here h) in
+      let right = operand_came on here b w (inr (inl refl)) c.1.1.0 (Of on.region e) One (λ src h. to_right here h) in
+      let has_fired = both_fired on.activation (Of on.region e) (Binary (binary_op o)) e (token_value v) (token_value w) (binary here) refl left right in
+      has_said on x (speaks on.activation (Of on.region e) _ _ (token_value x) has_fired (λ f. agree_binary o v w (tag_in on.activation (number (Of on.region e))) f ∙ ap as_fired is))
+
+  every_carried : (n : ℕ) → ((f : Fact) → Rounds P n f → Carried f) → (fs : List Fact) → Every (Rounds P n) fs → Every Carried fs
+  every_carried n one [] h = tt
+  every_carried n one (f ∷ fs) h = (one f h.0, every_carried n one fs h.1)
+
+  carried_round : (n : ℕ) (f : Fact) → Rounds P n f → Carried f
+  carried_round zero f h = absurd h
+  carried_round (suc n) f (inl h) = carried_round n f h
+  carried_round (suc n) f (inr t) = carried_by t.1 (every_carried n (carried_round n) t.0 t.2)
+
+  -- each fact of the source is carried
+  pub carried : (f : Fact) → Holds P f → Carried f
+  carried f h = carried_round h.round f h.there

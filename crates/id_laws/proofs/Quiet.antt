@@ -1,0 +1,148 @@
+-- A quiet run of a schemas' graph has shown everything.
+use Rattle.std.proofs.Common.{◌≡◌, inl, inr, ℕ, suc, Option, Some, None, List, [], ◌∷◌, slice_get, refl, sym, ◌∙◌, ap, subst, arith}
+use Rattle.std.specs.List.{All}
+use Rattle.std.specs.Option.{option_and_then}
+use Rattle.id_check.specs.declared.Checked.{Checked}
+use Rattle.id_graph.specs.declared.dests.Port.TheVariants.{Zero, One}
+use Rattle.id_graph.specs.declared.instr.Op.{Op}
+use Rattle.id_graph.specs.declared.instr.Op.TheVariants.{Binary, Back}
+use Rattle.id_graph.specs.Graph.{Parts}
+use Rattle.id_tag.specs.declared.Value.TheVariants as value
+use Rattle.id_tag.specs.declared.Payload.TheVariants.{Token}
+use Rattle.id_ops.specs.declared.Operands.{Operands}
+use Rattle.id_ops.specs.declared.Operands.TheVariants as operands
+use Rattle.id_ops.specs.declared.Fresh.{Fresh}
+use Rattle.id_ops.specs.declared.Fired.TheVariants.{Sent, Failed}
+use Rattle.id_ops.specs.Operators.{fired}
+use Rattle.id_laws.proofs.Arrivals.{Fires}
+use Rattle.id_core.specs.declared.step.Step.TheVariants.{Went, Fault}
+use Rattle.id_core.specs.declared.step.Fault.TheVariants.{Operator}
+use Rattle.id_core.specs.Events.{EventView}
+use Rattle.id_core.specs.Steps.{State, sent, fresh_numbers, fired_step}
+use Rattle.id_core.specs.Machines.{World, IsQuiet, main_tag}
+use Rattle.id_core.specs.Observed as shown
+use Rattle.id_meaning.specs.declared.SourceValue.{SourceValue}
+use Rattle.id_meaning.specs.declared.SourceFault.{SourceFault}
+use Rattle.id_meaning.specs.declared.Fact.{Fact}
+use Rattle.id_meaning.specs.Parts.{Among, Region, Top, place_of, Distinct}
+use Rattle.id_meaning.specs.Facts.{outermost, FaultRule, unary_fails, binary_fails}
+use Rattle.id_meaning.specs.Rounds.{Every, Holds, FaultFree, Answers, IsAnswer}
+use Rattle.id_build.specs.Roles.{Role, Return, Of, From, return, unary, binary, unary_op, binary_op, port_of, GivesAt, to_unary, to_left, to_right, to_return}
+use Rattle.id_build.specs.Schemas.{Numbered}
+use Rattle.id_laws.specs.Laws.{IsComplete, events}
+use Rattle.id_laws.proofs.Lists.{among_at}
+use Rattle.id_laws.proofs.Tables.{same_part, def_of_main, body_part}
+use Rattle.id_laws.proofs.Arrivals.{Happening, token_of, step_by, step_of_event}
+use Rattle.id_laws.proofs.Reached.{Reach, handled}
+use Rattle.id_laws.proofs.Progress.{one_handled}
+use Rattle.id_laws.proofs.Records.{to_record, among_events, from_record, recorded, among_filter_map, filter_map_has, among_from_handled}
+use Rattle.id_laws.proofs.Agreement.{token_value, operator_fault, as_fired, agree_unary, agree_binary}
+use Rattle.id_laws.proofs.Wanted.{Activation, main_activation, tag_in, main_path}
+use Rattle.id_laws.proofs.Fed.{gives}
+use Rattle.id_laws.proofs.Begun.{continuation_to, starting_is}
+use Rattle.id_laws.proofs.Apart.{exclusive}
+use Rattle.id_laws.proofs.Carried.{RoleFired, both_fired, alone_fired, unary_alone, sent_back, one_activation, Spoken, CarriedOn, CarriedHas, carried, came, in_region, operand_came, start_came, sent_arrived}
+use Rattle.id_laws.proofs.Shown.{value_back, brought_is, among_first, answer_came, sound_at}
+
+-- what holds of each thing in a list holds of what is among them
+of_all : {A : Type 0} (Q : A → Type 0) (xs : List A) (x : A) → All Q xs → Among x xs → Q x
+of_all Q [] x all h = absurd h
+of_all Q (y ∷ xs) x all (inl e) = subst Q (sym e) (all 0 y (omega arith))
+of_all Q (y ∷ xs) x all (inr h) = of_all Q xs x (λ k d lt. all (suc k) d (omega arith)) h
+
+first_of_some : {A : Type 0} (xs : List A) (x : A) → Among x xs → (y : A) × (slice_get xs 0 ≡ Some y)
+first_of_some [] x h = absurd h
+first_of_some (y ∷ xs) x h = (y, refl)
+
+module _ (P : Checked) (distinct : Distinct P) (g : Parts) (number : Role → ℕ) (numbered : Numbered P g number) (count : ℕ) (s : World) (hs : List Happening) (r : Reach g count s hs) (quiet : IsQuiet s) where
+  -- the value that main's body Has came to the answer
+  answer_sent : (v : SourceValue) → Answers P v → Among (Token (main_tag 0) Zero (token_value v)) (handled hs)
+  answer_sent v answers =
+      let d = answers.main in
+      let is_def = def_of_main answers.is_main in
+      let has : CarriedHas P distinct g number numbered count s hs r quiet.empty outermost (place_of d.body) v = carried P distinct g number numbered count s hs r quiet.empty _ answers.holds in
+      let body = body_part is_def in
+      let region_is : has.region ≡ Top d.place = (same_part P distinct (has.here).part body.part).0 in
+      let activation_is : has.activation ≡ main_activation = one_activation has.path_of main_path in
+      let body_gives = gives body.node body.part in
+      let spoken = has.spoken (From (Of has.region (place_of d.body))) (subst (λ z. GivesAt P z (place_of d.body) (From (Of z (place_of d.body)))) (sym region_is) body_gives) in
+      let said : Spoken P distinct g number numbered count s hs r quiet.empty main_activation (Of (Top d.place) (place_of d.body)) (token_value v) =
+      subst (λ (z : Activation × Region). Spoken P distinct g number numbered count s hs r quiet.empty z.0 (Of z.1 (place_of d.body)) (token_value v)) (λ j. (activation_is j, region_is j)) spoken in
+      let returned = came P distinct g number numbered count s hs r quiet.empty main_activation (From (Of (Top d.place) (place_of d.body))) (Return d.place) One (token_value v) said (to_return is_def body_gives) in
+      let continuation = start_came P distinct g number numbered count s hs r quiet.empty (continuation_to P distinct g number numbered d)
+      (subst (Among (continuation_to P distinct g number numbered d)) (sym (starting_is P distinct g number numbered d answers.is_main)) (inr (inl refl))) in
+      let f = both_fired P distinct g number numbered count s hs r quiet.empty main_activation (Return d.place) (Back (port_of d.result)) d.place (value.Continuation (main_tag 0)) (token_value v) (return is_def) refl continuation returned in
+      let i = f.instr in
+      let t = tag_in main_activation (number (Return d.place)) in
+      let fr = fresh_numbers ((f.fired).event).element in
+      let gone : fired i.op t (operands.Two (value.Continuation (main_tag 0)) (token_value v)) fr ≡ Sent (main_tag 0) (token_value v) =
+      ap (λ o. fired o t (operands.Two (value.Continuation (main_tag 0)) (token_value v)) fr) f.op_is ∙ sent_back d.result v (main_tag 0) in
+      sent_arrived P distinct g number numbered count s hs r quiet.empty f.fired _
+      (subst (λ y. Among (Token (main_tag 0) Zero (token_value v)) (sent i.dests t y)) (sym gone) (inl refl))
+
+  -- so it is the answer that is shown
+  answer_shown : (v : SourceValue) → Answers P v → shown.answer s ≡ Some v
+  answer_shown v answers =
+      let came_in = answer_sent v answers in
+      let h = among_from_handled hs _ came_in in
+      let record_it = to_record g count s hs r h.0 h.1 in
+      let payload_is : (record_it.0).message.payload ≡ Token (main_tag 0) Zero (token_value v) = (record_it.2).payload ∙ sym h.2 in
+      let listed = filter_map_has (λ (u : EventView). shown.brought u.message.payload) (events s) record_it.0 (token_value v) (among_events s record_it.0 record_it.1) (ap shown.brought payload_is) in
+      let first = first_of_some (shown.answers (events s)) (token_value v) listed in
+      let event = among_filter_map (λ (u : EventView). shown.brought u.message.payload) (events s) first.0 (among_first (shown.answers (events s)) first.0 first.1) in
+      let brought = brought_is (event.0).message.payload first.0 event.2 in
+      let known = from_record g count s hs r event.0 (recorded s event.0 event.1) in
+      let also : Among (Token (main_tag 0) brought.0 first.0) (handled hs) =
+      subst (λ x. Among x (handled hs)) (sym (known.2).payload ∙ brought.1) (Rattle.id_laws.proofs.Lists.among_map token_of known.0 hs known.1) in
+      let port_is = (answer_came P distinct g number numbered count s hs r brought.0 first.0 also).0 in
+      let same : first.0 ≡ token_value v = one_handled g count (exclusive P distinct g number numbered count) s hs r (main_tag 0) Zero first.0 (token_value v)
+      (subst (λ p. Among (Token (main_tag 0) p first.0) (handled hs)) port_is also) came_in in
+      ap (option_and_then shown.source_value) first.1 ∙ ap shown.source_value same ∙ value_back v
+
+  answer_exact : (o : Option SourceValue) → shown.answer s ≡ o → IsAnswer P o
+  answer_exact (Some v) e = (sound_at P distinct g number numbered count s hs r).answer v e
+  answer_exact None e = λ v answers. let bad : None ≡ Some v = sym e ∙ answer_shown v answers in cc
+
+  -- no event has failed
+  no_failure : (a : Activation) (q : Role) (o : Op) (ops : Operands) (k : _) → RoleFired P distinct g number numbered count s hs r quiet.empty a q o ops
+      → ((f : Fresh) → fired o (tag_in a (number q)) ops f ≡ Failed k) → ⊥
+  no_failure a q o ops k x fails =
+      let f = x.fired in
+      let i = x.instr in
+      let t = tag_in a (number q) in
+      let el = (f.event).element in
+      let failed : fired i.op t ops (fresh_numbers el) ≡ Failed k = ap (λ z. fired z t ops (fresh_numbers el)) x.op_is ∙ fails (fresh_numbers el) in
+      let step_is : step_of_event g f.event ≡ Fault (Operator k t) =
+      (λ j. step_by el (f.tag j) (slice_get g.instrs (f.tag j).instr) (f.fires j))
+      ∙ ap (λ z. step_by el t z (Fires ops)) f.at ∙ ap (fired_step t) failed in
+      let recorded_it = to_record g count s hs r f.event f.among in
+      let v = recorded_it.0 in
+      let w = recorded_it.1 in
+      let went : v.step ≡ Went = of_all (λ (u : EventView). u.step ≡ Went) (w.state).events v
+      (of_all (λ (e : State). All (λ (u : EventView). u.step ≡ Went) e.events) s.elements w.state quiet.went (among_at w.state s.elements w.element w.at)) w.among in
+      let bad : Went ≡ Fault (Operator k t) = sym went ∙ (recorded_it.2).step ∙ step_is in
+      cc
+
+  no_fault_by : {fs : List Fact} {f : SourceFault} → FaultRule P fs f → Every (Holds P) fs → ⊥
+  no_fault_by (unary_fails {e = e} {a = a} {o = o} {v = v} {k = k} part is) h =
+      let on : CarriedOn P distinct g number numbered count s hs r quiet.empty _ e = carried P distinct g number numbered count s hs r quiet.empty _ h.0 in
+      let here = in_region P distinct g number numbered count s hs r quiet.empty on part in
+      let operand = operand_came P distinct g number numbered count s hs r quiet.empty on here a v (inl refl) (carried P distinct g number numbered count s hs r quiet.empty _ h.1.0) (Of on.region e) Zero (λ src z. to_unary here z) in
+      no_failure on.activation (Of on.region e) (unary_op o) _ (operator_fault k)
+      (alone_fired P distinct g number numbered count s hs r quiet.empty on.activation (Of on.region e) (unary_op o) e Zero (token_value v) (unary here) (unary_alone o) operand)
+      (λ f. agree_unary o v (tag_in on.activation (number (Of on.region e))) f ∙ ap as_fired is)
+  no_fault_by (binary_fails {e = e} {a = a} {b = b} {o = o} {v = v} {w = w} {k = k} part is) h =
+      let on : CarriedOn P distinct g number numbered count s hs r quiet.empty _ e = carried P distinct g number numbered count s hs r quiet.empty _ h.0 in
+      let here = in_region P distinct g number numbered count s hs r quiet.empty on part in
+      let left = operand_came P distinct g number numbered count s hs r quiet.empty on here a v (inl refl) (carried P distinct g number numbered count s hs r quiet.empty _ h.1.0) (Of on.region e) Zero (λ src z. to_left here z) in
+      let right = operand_came P distinct g number numbered count s hs r quiet.empty on here b w (inr (inl refl)) (carried P distinct g number numbered count s hs r quiet.empty _ h.1.1.0) (Of on.region e) One (λ src z. to_right here z) in
+      no_failure on.activation (Of on.region e) (Binary (binary_op o)) _ (operator_fault k)
+      (both_fired P distinct g number numbered count s hs r quiet.empty on.activation (Of on.region e) (Binary (binary_op o)) e (token_value v) (token_value w) (binary here) refl left right)
+      (λ f. agree_binary o v w (tag_in on.activation (number (Of on.region e))) f ∙ ap as_fired is)
+
+  no_source_fault : FaultFree P
+  no_source_fault f fault = no_fault_by fault.rule fault.hold
+
+  -- a quiet run has shown everything
+  pub complete_at : IsComplete P s
+  complete_at = record { answer = answer_exact (shown.answer s) refl; no_fault = no_source_fault }

@@ -1,0 +1,81 @@
+-- The laws that join what a program means to what its graph does (docs/MEANING.md, "Laws").
+use Rattle.std.specs.Prelude.{◌≡◌, ◌≢◌, ◌≤◌, ◌++◌, ℕ, List, map, Option, Some, count_by, Bool, ◌&&◌}
+use Rattle.id_check.specs.declared.Checked.{Checked}
+use Rattle.id_graph.specs.declared.dests.Port.{Port}
+use Rattle.id_graph.specs.Graph.{Parts}
+use Rattle.id_tag.specs.declared.Tag.{Tag}
+use Rattle.id_tag.specs.declared.Payload.{Payload}
+use Rattle.id_tag.specs.declared.Payload.TheVariants.{Token}
+use Rattle.id_tag.specs.declared.Message.{Message}
+use Rattle.id_tag.specs.Tags.{same_tag}
+use Rattle.id_match.specs.Ports.{same_port}
+use Rattle.id_core.specs.declared.step.Step.TheVariants.{Stuck}
+use Rattle.id_core.specs.Events.{EventView, tag_of}
+use Rattle.id_core.specs.Machines.{World, IsQuiet, start, run}
+use Rattle.id_core.specs.Observed as shown
+use Rattle.id_meaning.specs.declared.SourceValue.{SourceValue}
+use Rattle.id_meaning.specs.declared.SourceFault.{SourceFault}
+use Rattle.id_meaning.specs.declared.Fact.TheVariants.{Has}
+use Rattle.id_meaning.specs.Parts.{Among, Region, Node, Part, Distinct}
+use Rattle.id_meaning.specs.Facts.{outermost}
+use Rattle.id_meaning.specs.Rounds.{Holds, Faulty, FaultFree, Answers, IsAnswer, IsCoherent}
+use Rattle.id_build.specs.Roles.{Role, Of}
+use Rattle.id_build.specs.Schemas.{Schemas}
+
+-- the events of a machine in this state
+abbrev pub events : World → List EventView
+events s = shown.events_of s.elements
+
+-- what the messages say that were handled or are in flight
+abbrev pub messages : World → List Payload
+messages s = map (λ v. v.message.payload) (events s) ++ map (λ m. m.payload) s.flight
+
+-- the value of the source that a message brings, if it brings one
+abbrev pub value_in : Payload → Option SourceValue
+value_in (Token t p v) = shown.source_value v
+
+-- whether the message is a token for this port under this tag
+abbrev pub is_for : Tag → Port → Payload → Bool
+is_for t p (Token u q v) = same_tag u t && same_port q p
+
+-- the message brings a value that the expression at the place Has
+pub record Carries (P : Checked) (e : ℕ) (m : Message) : Type 0 where
+  pub value : SourceValue
+  pub brings : value_in m.payload ≡ Some value
+  pub holds : Holds P (Has outermost e value)
+
+-- a machine in this state has shown facts and faults of the source alone, where the instructions are numbered so
+pub record IsSound (P : Checked) (g : Parts) (number : Role → ℕ) (s : World) : Type 0 where
+  -- its answer is the source's
+  pub answer : (v : SourceValue) → shown.answer s ≡ Some v → Answers P v
+  -- each of its faults is one of the source
+  pub faults : (f : SourceFault) → Among f (shown.faults g s) → Faulty P f
+  -- what the instruction of an expression has sent brings a value that the expression Has
+  pub values : (r : Region) (e : ℕ) (n : Node) (v : EventView) (m : Message) → Part P r e n → Among v (events s)
+      → (tag_of v.message.payload).instr ≡ number (Of r e) → Among m v.outputs → Carries P e m
+
+-- no event is `Stuck`, and each port has got at most one token under each tag
+pub record IsFree (s : World) : Type 0 where
+  pub goes_on : (v : EventView) → Among v (events s) → v.step ≢ Stuck
+  pub one_token : (t : Tag) (p : Port) → count_by (is_for t p) (messages s) ≤ 1
+
+-- a quiet machine's answer is exactly the source's, and the source has no fault
+pub record IsComplete (P : Checked) (s : World) : Type 0 where
+  pub answer : IsAnswer P (shown.answer s)
+  pub no_fault : FaultFree P
+
+-- whatever runs a schemas' graph of a program, in whatever order: what is shown is sound
+abbrev pub Soundness : Type 0
+Soundness = (P : Checked) (g : Parts) (count : ℕ) (ks : List ℕ) → Distinct P → (schemas : Schemas P g) → IsSound P g schemas.number (run g count ks (start g count))
+
+-- and no element is stuck
+abbrev pub Freedom : Type 0
+Freedom = (P : Checked) (g : Parts) (count : ℕ) (ks : List ℕ) → Distinct P → Schemas P g → IsFree (run g count ks (start g count))
+
+-- and what is quiet has shown everything
+abbrev pub Completeness : Type 0
+Completeness = (P : Checked) (g : Parts) (count : ℕ) (ks : List ℕ) → Distinct P → Schemas P g → IsQuiet (run g count ks (start g count)) → IsComplete P (run g count ks (start g count))
+
+-- each source gives each path and place at most one value
+abbrev pub Coherence : Type 0
+Coherence = (P : Checked) → Distinct P → IsCoherent P
