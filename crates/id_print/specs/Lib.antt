@@ -1,4 +1,5 @@
 pub mod Told
 pub mod Texts
 pub mod Reports
+pub mod Endings
 pub mod Within

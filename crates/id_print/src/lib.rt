@@ -10,6 +10,6 @@ mod report;
 mod sink;
 mod texts;
 
-pub use report::{Ending, Report, is_within, write_fault, write_report};
+pub use report::{Ending, Report, is_within, run_report, write_fault, write_report};
 pub use sink::{PrintError, Sink, SinkFault, put};
 pub use texts::{put_number, put_place};

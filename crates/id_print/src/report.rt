@@ -1,6 +1,8 @@
 //! Reports of runs, and how they are printed.
 
-ghost use Rattle.std.specs.Prelude.{◌≡◌, ◌≤◌, ◌↔◌, length, IsTrue};
+ghost use Rattle.std.specs.Prelude.{◌≡◌, ◌≤◌, ◌↔◌, length, IsTrue, IfOk, None, slice_get};
+ghost use Rattle.id_core.specs.Observed.{answer, faults};
+ghost use Rattle.id_print.specs.Endings.{EndsSo};
 ghost use Rattle.id_print.specs.Told.{Prints};
 ghost use Rattle.id_print.specs.Texts.{kind_text, fault_head_text, fault_text, answer_text, answer_value_text, stopped_text};
 ghost use Rattle.id_print.specs.Reports.{report_text};
@@ -8,8 +10,10 @@ ghost use Rattle.id_print.specs.Within.{StepsWithin, FaultWithin, EndingWithin};
 
 use crate::sink::{PrintError, Sink, put};
 use crate::texts::{put_point, put_value};
+use id_core::Machine;
 use id_meaning::{FaultKind, PathStep, SourceFault, SourceValue};
-use id_text::MAX_BYTES;
+use id_text::{MAX_BYTES, Sequence};
+use std::alloc::{AllocError, Global};
 
 /// How a run ended.
 #[derive(Debug, Drop)]
@@ -22,11 +26,58 @@ pub enum Ending {
     Fault(SourceFault),
 }
 
-/// What a run has shown.
+/// What a run has shown: how it ended, and the answer.
 #[derive(Debug, Drop)]
 pub struct Report {
     pub ending: Ending,
     pub answer: Option<SourceValue>,
+}
+
+/// The report of a run: it ended at its first fault, where there is one, else it is quiet or it was
+/// stopped.
+pub fn run_report(alloc: Global, machine: &Machine<'_>) -> Result<Report, AllocError>
+    ensures answer { IfOk result (λ r. r.answer ≡ answer machine.now.world) }
+    ensures ending { IfOk result (λ r. EndsSo machine.now r.ending) }
+{
+    let shown = machine.observe(alloc)?;
+    let answer = shown.answer;
+    let fault = first_of(shown.faults);
+    let ending = ending_of(machine, fault);
+    Ok(Report { ending, answer })
+}
+
+/// How a run ended whose first fault is this.
+fn ending_of(machine: &Machine<'_>, fault: Option<SourceFault>) -> Ending
+    requires { fault ≡ slice_get (faults machine.now.graph machine.now.world) 0 }
+    ensures { EndsSo machine.now result }
+{
+    match fault {
+        Some(fault) => Ending::Fault(fault),
+        None => ending_without_fault(machine),
+    }
+}
+
+/// How a run ended that met no fault.
+fn ending_without_fault(machine: &Machine<'_>) -> Ending
+    requires { slice_get (faults machine.now.graph machine.now.world) 0 ≡ None }
+    ensures { EndsSo machine.now result }
+{
+    if machine.is_quiet() {
+        Ending::Quiet
+    } else {
+        Ending::Stopped
+    }
+}
+
+/// The first of the faults.
+fn first_of(faults: Sequence<SourceFault>) -> Option<SourceFault>
+    ensures { result ≡ slice_get faults 0 }
+{
+    let mut faults = faults.into_vec();
+    if faults.is_empty() {
+        return None;
+    }
+    Some(faults.remove(0))
 }
 
 fn put_kind<W: Sink>(kind: FaultKind, sink: &mut W) -> Result<(), PrintError>
