@@ -42,9 +42,9 @@ AllDiffer-lines r (Binary' o _ a _ b e) d = (
     | inr k ↦ d.1 (HasPlace-from_lines r b e k)
   ],
   let P : List ℕ → Type 0 = AllDiffer in
-  subst P (sym (map-append (λ y. y.place) (entries_of r a) (entries_of r b)))
-    (AllDiffer-append (places (entries_of r a)) (places (entries_of r b)) (AllDiffer-lines r a d.3) (AllDiffer-lines r b d.4)
-      (λ q h k. d.2 q (HasPlace-from_lines r a q h) (HasPlace-from_lines r b q k)))
+      subst P (sym (map-append (λ y. y.place) (entries_of r a) (entries_of r b)))
+      (AllDiffer-append (places (entries_of r a)) (places (entries_of r b)) (AllDiffer-lines r a d.3) (AllDiffer-lines r b d.4)
+      (λ q h k. d.2 q (HasPlace-from_lines r a q h) (HasPlace-from_lines r b q k))),
 )
 
 -- the places of a definition

@@ -1,1 +1,4 @@
 pub mod Programs
+pub mod Engine
+-- for use inside
+pub mod Reports

@@ -1,7 +1,19 @@
 //! A text, compiled, run and printed.
 
-use crate::compile::{CompileError, compile};
-use id_print::{Ending, PrintError, Report, Sink, write_report};
+ghost use Rattle.std.specs.Prelude.{◌≡◌, ◌≢◌, ◌<◌, ◌≤◌, length, IfOk, IfErr, IfSome, OnOk};
+ghost use Rattle.id_text.specs.declared.token.TheConstants.{MAX_BYTES};
+ghost use Rattle.id_meaning.specs.Parts.{Distinct};
+ghost use Rattle.id_build.specs.Schemas.{Schemas};
+ghost use Rattle.id_core.specs.Machines.{start};
+ghost use Rattle.idc.specs.Programs.{IsProgramOf};
+ghost use Rattle.idc.specs.Engine.{ShowsAll, ShowsFront};
+ghost use Rattle.idc.specs.Reports.{IsReportOf, IsTrueOf, IsRunOf, status_of};
+
+use crate::compile::{CompileError, Compiled, compile};
+use id_core::{Element, Machine, MachineError, Step, TakeError};
+use id_print::{Ending, Report, Sink, is_within, run_report, write_report};
+use id_tag::{Message, route};
+use id_text::MAX_BYTES;
 use std::alloc::{AllocError, Global};
 
 /// The most steps that an element may be allowed.
@@ -21,6 +33,8 @@ pub enum EngineError {
     BadSteps,
     /// An element answered `Stuck`: refusal 21.
     Stuck,
+    /// The fault has a place outside the text.
+    Misplaced,
     /// A growth was refused.
     Memory,
     /// A write failed.
@@ -28,18 +42,126 @@ pub enum EngineError {
 }
 
 impl From<AllocError> for EngineError {
+    ghost use Rattle.std.specs.Prelude.{◌≡◌};
+    ghost use Rattle.idc.specs.declared.engine.EngineError.TheVariants.{Memory};
+
+    ghost from_gives = { λ _ e. e ≡ Memory };
+
     fn from(_error: AllocError) -> EngineError {
         EngineError::Memory
     }
 }
 
-impl From<PrintError> for EngineError {
-    fn from(_error: PrintError) -> EngineError {
-        EngineError::Write
+fn machine_error(error: MachineError) -> EngineError
+    ensures { result ≢ EngineError.Write }
+{
+    match error {
+        MachineError::BadElements => EngineError::BadElements,
+        MachineError::Memory => EngineError::Memory,
     }
 }
 
-fn status_of(ending: &Ending) -> u8 {
+/// Whether the element that the message is for has handled fewer than `steps` messages.
+fn may_take(elements: &[Element<'_>], message: &Message, steps: u64) -> bool {
+    let count = elements.len();
+    if count == 0 || count > 64 {
+        return false;
+    }
+    let number = route(message, count as u32) as usize;
+    (elements[number].events().len() as u64) < steps
+}
+
+/// The position of the first message in flight whose element has handled fewer than `steps`
+/// messages. On one element it is the first or there is none.
+fn next_position(machine: &Machine<'_>, steps: u64) -> Option<usize>
+    ensures { IfSome result (λ p. p < length machine.now.world.flight) }
+{
+    let flight = machine.in_flight();
+    for position in 0..flight.len() {
+        if may_take(machine.elements(), &flight.message(position), steps) {
+            return Some(position);
+        }
+    }
+    None
+}
+
+/// Delivers one message, and says whether to go on.
+fn deliver_one(machine: &mut Machine<'_>, position: usize) -> Result<bool, EngineError>
+    requires { position < length machine.old.world.flight }
+    ensures run { OnOk result (IsRunOf machine.old machine.new) }
+    ensures not_write { IfErr result (λ e. e ≢ EngineError.Write) }
+{
+    match machine.deliver(position) {
+        Ok(Step::Went) => Ok(true),
+        Ok(Step::Fault(_)) => Ok(false),
+        Ok(Step::Stuck) => Err(EngineError::Stuck),
+        Err(TakeError::StampEnd) => Ok(false),
+        Err(TakeError::Memory) => Err(EngineError::Memory),
+    }
+}
+
+/// Delivers messages until nothing is in flight, at the first fault, or until each message left is
+/// for an element that has handled `steps` messages.
+fn run_machine(machine: &mut Machine<'_>, steps: u64) -> Result<(), EngineError>
+    requires { steps ≤ MAX_STEPS }
+    ensures run { OnOk result (IsRunOf machine.old machine.new) }
+    ensures not_write { IfErr result (λ e. e ≢ EngineError.Write) }
+{
+    for _ in 0..steps * u64::from(ELEMENTS) {
+        let Some(position) = next_position(machine, steps) else {
+            return Ok(());
+        };
+        let goes_on = deliver_one(machine, position)?;
+        if !goes_on {
+            return Ok(());
+        }
+    }
+    Ok(())
+}
+
+/// The report of a run of a compiled program.
+fn run_compiled(alloc: Global, compiled: &Compiled, steps: u64) -> Result<Report, EngineError>
+    requires steps { steps ≤ MAX_STEPS }
+    requires distinct { Distinct compiled.now.checked }
+    requires graph { Schemas compiled.now.checked compiled.now.valid }
+    ensures is_true { IfOk result (λ r. IsTrueOf compiled.now.checked r r.ending) }
+    ensures not_write { IfErr result (λ e. e ≢ EngineError.Write) }
+{
+    id_laws::sound();
+    id_laws::complete();
+    let mut machine = match Machine::new(alloc, &compiled.valid, ELEMENTS) {
+        Ok(machine) => machine,
+        Err(error) => return Err(machine_error(error)),
+    };
+    run_machine(&mut machine, steps)?;
+    let report = run_report(alloc, &machine)?;
+    Ok(report)
+}
+
+/// The report of a run of a text.
+fn run_text(alloc: Global, text: &str, steps: u64) -> Result<Report, EngineError>
+    ensures report { IfOk result (IsReportOf text.now) }
+    ensures short { OnOk result (length text.now ≤ MAX_BYTES) }
+    ensures not_write { IfErr result (λ e. e ≢ EngineError.Write) }
+{
+    let compiled = match compile(alloc, text) {
+        Ok(compiled) => compiled,
+        Err(error) => return Err(EngineError::Compile(error)),
+    };
+    if steps == 0 || MAX_STEPS < steps {
+        return Err(EngineError::BadSteps);
+    }
+    let report = run_compiled(alloc, &compiled, steps)?;
+    if text.len() > MAX_BYTES || !is_within(&report, text.len()) {
+        return Err(EngineError::Misplaced);
+    }
+    Ok(report)
+}
+
+/// The status of a run that ended so.
+fn status_of(ending: &Ending) -> u8
+    ensures { result ≡ status_of ending.now }
+{
     match ending {
         Ending::Quiet => 0,
         Ending::Fault(_) => 1,
@@ -48,24 +170,23 @@ fn status_of(ending: &Ending) -> u8 {
 }
 
 /// Compiles a text, runs it, each element for at most `steps` messages, writes what `idc run`
-/// prints and answers the status. Nothing is written before an error other than `Write`.
+/// prints and answers the status: 0 after a quiet run, 1 after a fault, 3 at the step limit.
 pub fn engine<W: Sink>(
     alloc: Global,
     text: &str,
     steps: u64,
     out: &mut W,
-) -> Result<u8, EngineError> {
-    let compiled = compile(alloc, text).map_err(EngineError::Compile)?;
-    if steps == 0 || MAX_STEPS < steps {
-        return Err(EngineError::BadSteps);
+) -> Result<u8, EngineError>
+    // What is printed is what a run of the text's program shows, and the source's equations give it.
+    ensures shown { IfOk result (ShowsAll text.now (W.told out.old) (W.told out.new)) }
+
+    // After a failed write a front of such a text is out, and after any other error nothing.
+    ensures cut { result ≡ Err EngineError.Write → ShowsFront text.now (W.told out.old) (W.told out.new) }
+    ensures silent { IfErr result (λ e. e ≢ EngineError.Write → W.told out.new ≡ W.told out.old) }
+{
+    let report = run_text(alloc, text, steps)?;
+    match write_report(&report, text, false, out) {
+        Ok(()) => Ok(status_of(&report.ending)),
+        Err(_) => Err(EngineError::Write),
     }
-    let _ = compiled;
-    let report = Report {
-        ending: Ending::Quiet,
-        answer: None,
-    };
-    if text.len() <= 1_048_576 {
-        write_report(&report, text, false, out)?;
-    }
-    Ok(status_of(&report.ending))
 }

@@ -16,8 +16,8 @@ mod stream;
 #[cfg(test)]
 mod tests;
 
-use std::process::ExitCode;
 use std::env::Env;
+use std::process::ExitCode;
 use std::{env, io};
 
 /// The arguments after the program's name.
