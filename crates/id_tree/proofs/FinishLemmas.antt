@@ -1,5 +1,5 @@
 -- Whatever stands in the machine can be gone on to a program, by tokens whose starts rise from any number on.
-use Rattle.std.proofs.Common.{◌≡◌, ℕ, ◌+◌, ◌≤◌, ◌<◌, max, List, [], ◌∷◌, ◌++◌, pos, refl, sym, ap, ◌∙◌, subst, append_assoc, append-nil, arith, zero-le}
+use Rattle.std.proofs.Common.{◌≡◌, ℕ, ◌+◌, ◌≤◌, max, List, [], ◌∷◌, ◌++◌, pos, refl, sym, ap, ◌∙◌, subst, append_assoc, append-nil, arith, zero-le}
 use Rattle.id_text.specs.Tokens.{Rises}
 use Rattle.id_text.specs.declared.token.Token.{Token}
 use Rattle.id_text.specs.declared.token.TokenKind.{TokenKind}
@@ -7,7 +7,7 @@ use Rattle.id_text.specs.declared.token.TokenKind.TheVariants.{Name, Number, Key
 use Rattle.id_text.specs.declared.token.Keyword.TheVariants.{Def, Int}
 use Rattle.id_text.specs.declared.token.Symbol.TheVariants.{LeftParen, RightParen, Colon, Becomes, Semicolon}
 use Rattle.id_tree.specs.declared.parser.Level.TheVariants.{Sum, Product}
-use Rattle.id_tree.specs.Tree.{Tree, more}
+use Rattle.id_tree.specs.Tree.{Tree}
 use Rattle.id_tree.specs.Grammar.{Phrase, Definition, Grouped, Unary, kind_of, Rest, done, word, name, part, definition, number, own_height, Derives, opened, single, grouped, Follows, ended, taken, named, given, Program, empty, single_def}
 use Rattle.id_tree.specs.Machine.{Frame, State}
 use Rattle.id_tree.specs.Standing.{Roomy, Around, outermost, left, right, inside, Stands, begun, wanting, having, within, finished}

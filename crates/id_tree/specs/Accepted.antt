@@ -1,5 +1,5 @@
 -- Which lists are accepted, and where the others are refused (docs/LANGUAGE.md, "Nesting").
-use Rattle.std.specs.Prelude.{◌≡◌, ◌≤◌, ℕ, Bool, true, false, List, [], ◌∷◌, ◌++◌}
+use Rattle.std.specs.Prelude.{◌≡◌, ◌≤◌, ℕ, List, [], ◌∷◌, ◌++◌}
 use Rattle.id_text.specs.declared.token.Token.{Token}
 use Rattle.id_text.specs.Tokens.{Rises}
 use Rattle.id_tree.specs.declared.tree.TreeError.{TreeError}

@@ -1,5 +1,5 @@
 -- A machine that takes one token at a time, for the proof of `parse` alone: no public clause cites it.
-use Rattle.std.specs.Prelude.{◌≡◌, ◌+◌, ◌≤◌, ℕ, Bool, true, false, cond, nat_le, Option, Some, None, List, [], ◌∷◌, max}
+use Rattle.std.specs.Prelude.{◌+◌, ℕ, Bool, true, false, cond, nat_le, Option, Some, None, List, [], ◌∷◌, max}
 use denote.Enum.Bare.{sameb}
 use Rattle.id_text.specs.declared.token.Token.{Token}
 use Rattle.id_text.specs.declared.token.TokenKind.{TokenKind}
