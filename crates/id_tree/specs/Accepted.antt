@@ -28,7 +28,7 @@ pub record GoesOnDeeper (front : List Token) : Type 0 where
   pub rises : Rises (front ++ behind)
   pub derives : Program (front ++ behind) tree height
 
--- the tokens go on up to one that starts there, and with it no more
+-- there is a token that starts there: the tokens before it go on, and with it they do not
 pub record StopsAt (ts : List Token) (at : ℕ) : Type 0 where
   pub front : List Token
   pub token : Token
