@@ -27,6 +27,7 @@ After (Grouped l) e h d K = Have e h (Left l d ∷ K)
 After Definition e h d K = Have e h K
 After Unary e h d K = Have e h K
 
+-- where the phrase is not gone on, no tighter level is
 Stops-inside : (s : Phrase) (ts : List Token) → Stops s ts → StopsInside s ts
 Stops-inside (Grouped Sum) [] q = tt
 Stops-inside (Grouped Sum) (t ∷ ts) q = q.1
@@ -35,6 +36,7 @@ Stops-inside (Grouped Product) (t ∷ ts) q = tt
 Stops-inside Definition ts q = tt
 Stops-inside Unary ts q = tt
 
+-- where a level is not gone on, no operator of it stands
 Stops-own : (l : Level) (ts : List Token) → Stops (Grouped l) ts → First (λ k. operator_of l k ≡ None) ts
 Stops-own l [] q = tt
 Stops-own Sum (t ∷ ts) q = q.0
@@ -44,6 +46,7 @@ Stops-definition : (ts : List Token) → Stops Definition ts
 Stops-definition [] = tt
 Stops-definition (t ∷ ts) = tt
 
+-- what holds of the first kind, weakened
 First-weaker : (P Q : TokenKind → Type 0) → ((k : TokenKind) → P k → Q k) → (ts : List Token) → First P ts → First Q ts
 First-weaker P Q f [] q = tt
 First-weaker P Q f (t ∷ ts) q = f t.kind q
@@ -68,6 +71,7 @@ Stops-opens Definition o (t ∷ us) = tt
 Stops-opens (Grouped l) o (t ∷ us) = elim o [ ]
 Stops-opens Unary o (t ∷ us) = tt
 
+-- nothing of a production is still open behind it
 After-opens : (s : Phrase) {k : TokenKind} {p : ℕ} {r : Rest} → Opens s k p r → (e : Tree) (h d : ℕ) (K : List Frame) → After s e h d K ≡ Have e h K
 After-opens Definition o e h d K = refl
 After-opens (Grouped l) o e h d K = elim o [ ]
@@ -120,6 +124,7 @@ run-begin n t ts e h = begun (wants t Definition 0 []) h
     begun None q = cc
     begun (Some m) q = q
 
+-- the same, of any tokens
 run-begun : (n : ℕ) (ts : List Token) (e : Tree) → run n ts (Want Definition 0 []) ≡ Accepted e → run n ts Begin ≡ Accepted e
 unfolding run
 run-begun n [] e h = cc

@@ -1,3 +1,4 @@
+-- The run has come through the definition as far as the code has, and ends or goes on as the part there does.
 use Rattle.std.proofs.Common.{arith}
 use Rattle.std.proofs.lemmas.Result.{err_from_is_err_and}
 use Rattle.id_text.specs.declared.token.Symbol.TheVariants.{Semicolon}

@@ -1,3 +1,4 @@
+-- The words that were there are taken, and the run ends at the one that is not.
 use Rattle.std.proofs.lemmas.Result.{err_from_is_err_and}
 use Rattle.id_text.specs.declared.token.Symbol.TheVariants.{LeftParen, RightParen, Colon, Becomes}
 use Rattle.id_text.specs.declared.token.Keyword.TheVariants.{Int}

@@ -1,3 +1,4 @@
+-- A number is a whole production, and no other token that gets here begins an operand.
 use Rattle.std.proofs.Common.{refl, ap, ◌∙◌, arith}
 use Rattle.id_tree.specs.Readers.{first_kind}
 use Rattle.id_tree.proofs.ReaderLemmas.{Leads-at, Leads-done, At-opens, opens_number, Unary-fails, unopened}
