@@ -1,15 +1,13 @@
 -- The machine takes whatever the grammar derives, and makes the same tree of it.
-use Rattle.std.proofs.Common.{◌≡◌, ℕ, ◌+◌, ◌≤◌, max, true, false, cond, leb, Option, Some, None, List, [], ◌∷◌, ◌++◌, refl, sym, ap, ◌∙◌, append_assoc, arith, zero-le}
+use Rattle.std.proofs.Common.{◌≡◌, ℕ, ◌+◌, ◌≤◌, max, true, false, cond, leb, Option, Some, None, List, [], ◌∷◌, ◌++◌, refl, sym, ap, ◌∙◌, append_assoc, arith}
 use Rattle.std.proofs.Math.Dec.{leb-zero}
 use Rattle.id_text.specs.declared.token.Token.{Token}
 use Rattle.id_text.specs.declared.token.TokenKind.{TokenKind}
-use Rattle.id_text.specs.declared.token.TokenKind.TheVariants.{Name, Key, Sign, End}
 use Rattle.id_tree.specs.declared.parser.Level.{Level}
 use Rattle.id_tree.specs.declared.parser.Level.TheVariants.{Sum, Product}
-use Rattle.id_tree.specs.declared.tree.BinaryOp.{BinaryOp}
-use Rattle.id_tree.specs.Tree.{Tree, binary, none, more}
-use Rattle.id_tree.specs.Grammar.{Phrase, Definition, Grouped, Unary, Word, kind_of, Rest, done, word, name, part, Opens, definition, negated, number, parens, operand, operator_of, own_height, Derives, opened, single, grouped, Follows, ended, taken, named, given, Program, empty, single_def}
-use Rattle.id_tree.specs.Machine.{room, Move, pick, ends, wants, Frame, Left, Right, Inside, State, Begin, Want, Have, Next, Finished, Outcome, Accepted, Refused, run}
+use Rattle.id_tree.specs.Tree.{Tree, none, more}
+use Rattle.id_tree.specs.Grammar.{Phrase, Definition, Grouped, Unary, Rest, Opens, operand, operator_of, own_height, Derives, opened, single, grouped, Follows, ended, taken, named, given, Program, empty, single_def}
+use Rattle.id_tree.specs.Machine.{room, Move, pick, ends, wants, Frame, Left, Right, Inside, State, Begin, Want, Have, Next, Accepted, Refused, run}
 use Rattle.id_tree.proofs.RowLemmas.{Quiet, Ends, Parts, valid, Quiet-operator, Follows-height}
 use Rattle.id_tree.proofs.RunLemmas.{First, run-done, run-part, run-inside, run-right, run-level, run-left, run-word, run-name, run-opens, run-operator}
 
@@ -29,6 +27,7 @@ After (Grouped l) e h d K = Have e h (Left l d ∷ K)
 After Definition e h d K = Have e h K
 After Unary e h d K = Have e h K
 
+-- where the phrase is not gone on, no tighter level is
 Stops-inside : (s : Phrase) (ts : List Token) → Stops s ts → StopsInside s ts
 Stops-inside (Grouped Sum) [] q = tt
 Stops-inside (Grouped Sum) (t ∷ ts) q = q.1
@@ -37,6 +36,7 @@ Stops-inside (Grouped Product) (t ∷ ts) q = tt
 Stops-inside Definition ts q = tt
 Stops-inside Unary ts q = tt
 
+-- where a level is not gone on, no operator of it stands
 Stops-own : (l : Level) (ts : List Token) → Stops (Grouped l) ts → First (λ k. operator_of l k ≡ None) ts
 Stops-own l [] q = tt
 Stops-own Sum (t ∷ ts) q = q.0
@@ -46,6 +46,7 @@ Stops-definition : (ts : List Token) → Stops Definition ts
 Stops-definition [] = tt
 Stops-definition (t ∷ ts) = tt
 
+-- what holds of the first kind, weakened
 First-weaker : (P Q : TokenKind → Type 0) → ((k : TokenKind) → P k → Q k) → (ts : List Token) → First P ts → First Q ts
 First-weaker P Q f [] q = tt
 First-weaker P Q f (t ∷ ts) q = f t.kind q
@@ -64,18 +65,17 @@ Follows-stops (named q f) s0 s us b p = absurd b
 Follows-stops (given d f) s0 s us b p = absurd b
 
 -- what a production begins has no level
-Stops-opens : {s : Phrase} {k : TokenKind} {p : ℕ} {r : Rest} → Opens s k p r → (us : List Token) → Stops s us
-Stops-opens o [] = tt
-Stops-opens definition (t ∷ us) = tt
-Stops-opens negated (t ∷ us) = tt
-Stops-opens number (t ∷ us) = tt
-Stops-opens parens (t ∷ us) = tt
+Stops-opens : (s : Phrase) {k : TokenKind} {p : ℕ} {r : Rest} → Opens s k p r → (us : List Token) → Stops s us
+Stops-opens s o [] = tt
+Stops-opens Definition o (t ∷ us) = tt
+Stops-opens (Grouped l) o (t ∷ us) = elim o [ ]
+Stops-opens Unary o (t ∷ us) = tt
 
-After-opens : {s : Phrase} {k : TokenKind} {p : ℕ} {r : Rest} → Opens s k p r → (e : Tree) (h d : ℕ) (K : List Frame) → After s e h d K ≡ Have e h K
-After-opens definition e h d K = refl
-After-opens negated e h d K = refl
-After-opens number e h d K = refl
-After-opens parens e h d K = refl
+-- nothing of a production is still open behind it
+After-opens : (s : Phrase) {k : TokenKind} {p : ℕ} {r : Rest} → Opens s k p r → (e : Tree) (h d : ℕ) (K : List Frame) → After s e h d K ≡ Have e h K
+After-opens Definition o e h d K = refl
+After-opens (Grouped l) o e h d K = elim o [ ]
+After-opens Unary o e h d K = refl
 
 max-assoc : (a b c d : ℕ) → max (max a b) c + d ≡ max a (max b c) + d
 max-assoc a b c d = omega arith
@@ -84,9 +84,9 @@ mutual
   pub run-derives : {s : Phrase} {ts : List Token} {e : Tree} {h : ℕ} → Derives s ts e h → (n d : ℕ) (K : List Frame) (us : List Token) → d + h ≤ n → StopsInside s us → run n (ts ++ us) (Want s d K) ≡ run n us (After s e h d K)
   run-derives (opened {s = s} {t = t} {r = r} {ts = ts} {e = e} {h = h} o f) n d K us b q =
       run-opens n t (ts ++ us) s r d K o (omega (arith, Follows-height f (room r) (valid o).needs))
-      ∙ run-follows f n 0 (d + own_height s) (own_height s) K us s (omega arith) (valid o).parts (Stops-opens o us)
+      ∙ run-follows f n 0 (d + own_height s) (own_height s) K us s (omega arith) (valid o).parts (Stops-opens s o us)
       ∙ ap (λ x. run n us (Have e (x + own_height s) K)) (omega arith)
-      ∙ ap (run n us) (sym (After-opens o e (h + own_height s) d K))
+      ∙ ap (run n us) (sym (After-opens s o e (h + own_height s) d K))
   run-derives (single {l = l} {ts = ts} {e = e} {h = h} x) n d K us b q =
       run-level n (ts ++ us) l d K
       ∙ run-derives x n d (Left l d ∷ K) us b (Stops-inside (operand l) us q)
@@ -124,6 +124,7 @@ run-begin n t ts e h = begun (wants t Definition 0 []) h
     begun None q = cc
     begun (Some m) q = q
 
+-- the same, of any tokens
 run-begun : (n : ℕ) (ts : List Token) (e : Tree) → run n ts (Want Definition 0 []) ≡ Accepted e → run n ts Begin ≡ Accepted e
 unfolding run
 run-begun n [] e h = cc

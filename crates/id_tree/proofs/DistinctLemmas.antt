@@ -1,5 +1,5 @@
 -- What rises gives things different places.
-use Rattle.std.proofs.Common.{◌≡◌, ℕ, ◌+◌, ◌≤◌, ◌<◌, List, [], ◌∷◌, ◌++◌, inl, inr, refl, arith}
+use Rattle.std.proofs.Common.{ℕ, ◌+◌, ◌≤◌, ◌<◌, List, [], ◌∷◌, ◌++◌, inl, inr, arith}
 use Rattle.id_text.specs.declared.token.Token.{Token}
 use Rattle.id_text.specs.declared.token.TokenKind.{TokenKind}
 use Rattle.id_tree.specs.Tree.{Tree, literal, unary, binary, define, none, more}
@@ -16,6 +16,7 @@ Spans low (define x k a p) high = (low ≤ p) × Spans (p + 1) a high
 Spans low none high = low ≤ high
 Spans low (more a b) high = (mid : ℕ) × Spans low a mid × Spans mid b high
 
+-- the two numbers are in order
 Spans-order : (e : Tree) (low high : ℕ) → Spans low e high → low ≤ high
 Spans-order (literal v p) low high q = omega (arith, q.0, q.1)
 Spans-order (unary o a p) low high q = omega (arith, q.0, Spans-order a (p + 1) high q.1)
@@ -24,6 +25,7 @@ Spans-order (define x k a p) low high q = omega (arith, q.0, Spans-order a (p + 
 Spans-order none low high q = q
 Spans-order (more a b) low high q = omega (arith, Spans-order a low q.0 q.1, Spans-order b q.0 high q.2)
 
+-- the two numbers may be further apart
 Spans-wider : (e : Tree) (low high below above : ℕ) → below ≤ low → high ≤ above → Spans low e high → Spans below e above
 Spans-wider (literal v p) low high below above u v' q = (omega (arith, q.0), omega (arith, q.1))
 Spans-wider (unary o a p) low high below above u v q = (omega (arith, q.0), Spans-wider a (p + 1) high (p + 1) above (omega arith) v q.1)
@@ -46,9 +48,11 @@ Spans-place none low high q s h = absurd h
 Spans-place (more a b) low high q s (inl h) = let r = Spans-place a low s.0 q s.1 h in (r.0, omega (arith, r.1, Spans-order b s.0 high s.2))
 Spans-place (more a b) low high q s (inr h) = let r = Spans-place b s.0 high q s.2 h in (omega (arith, r.0, Spans-order a low s.0 s.1), r.1)
 
+-- of two trees one behind the other no two things have one place
 Spans-apart : (a b : Tree) (low mid next high : ℕ) → mid ≤ next → Spans low a mid → Spans next b high → Apart a b
 Spans-apart a b low mid next high w s t = λ q g h. omega (arith, (Spans-place a low mid q s g).1, (Spans-place b next high q t h).0)
 
+-- what spans has different places
 pub Distinct-spans : (e : Tree) (low high : ℕ) → Spans low e high → Distinct e
 Distinct-spans (literal v p) low high s = tt
 Distinct-spans (unary o a p) low high s = (λ h. omega (arith, (Spans-place a (p + 1) high p s.1 h).0), Distinct-spans a (p + 1) high s.1)
@@ -77,6 +81,7 @@ Opens-keeps (negated {p = p}) = λ e mid s high w. (omega arith, Spans-wider e (
 Opens-keeps (number {p = p}) = λ high w. (omega arith, omega arith)
 Opens-keeps (parens {p = p}) = λ e mid s z v high w. Spans-wider e (p + 1) mid p high (omega arith) (omega arith) s
 
+-- what is laid is laid in both halves
 Laid-split : (us vs : List Token) (low high : ℕ) → Laid low (us ++ vs) high → (mid : ℕ) × Laid low us mid × Laid mid vs high
 Laid-split [] vs low high p = (low, omega arith, p)
 Laid-split (t ∷ us) vs low high p = let q = Laid-split us vs (t.start + 1) high p.1 in (q.0, (p.0, q.1), q.2)

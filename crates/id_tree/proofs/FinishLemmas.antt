@@ -1,5 +1,5 @@
 -- Whatever stands in the machine can be gone on to a program, by tokens whose starts rise from any number on.
-use Rattle.std.proofs.Common.{◌≡◌, ℕ, ◌+◌, ◌≤◌, ◌<◌, max, List, [], ◌∷◌, ◌++◌, pos, refl, sym, ap, ◌∙◌, subst, append_assoc, append-nil, arith, zero-le}
+use Rattle.std.proofs.Common.{◌≡◌, ℕ, ◌+◌, ◌≤◌, max, List, [], ◌∷◌, ◌++◌, pos, refl, sym, ap, ◌∙◌, subst, append_assoc, append-nil, arith, zero-le}
 use Rattle.id_text.specs.Tokens.{Rises}
 use Rattle.id_text.specs.declared.token.Token.{Token}
 use Rattle.id_text.specs.declared.token.TokenKind.{TokenKind}
@@ -7,7 +7,7 @@ use Rattle.id_text.specs.declared.token.TokenKind.TheVariants.{Name, Number, Key
 use Rattle.id_text.specs.declared.token.Keyword.TheVariants.{Def, Int}
 use Rattle.id_text.specs.declared.token.Symbol.TheVariants.{LeftParen, RightParen, Colon, Becomes, Semicolon}
 use Rattle.id_tree.specs.declared.parser.Level.TheVariants.{Sum, Product}
-use Rattle.id_tree.specs.Tree.{Tree, more}
+use Rattle.id_tree.specs.Tree.{Tree}
 use Rattle.id_tree.specs.Grammar.{Phrase, Definition, Grouped, Unary, kind_of, Rest, done, word, name, part, definition, number, own_height, Derives, opened, single, grouped, Follows, ended, taken, named, given, Program, empty, single_def}
 use Rattle.id_tree.specs.Machine.{Frame, State}
 use Rattle.id_tree.specs.Standing.{Roomy, Around, outermost, left, right, inside, Stands, begun, wanting, having, within, finished}
@@ -17,10 +17,12 @@ abbrev pub Laid : ℕ → List Token → ℕ → Type 0
 Laid low [] high = low ≤ high
 Laid low (t ∷ ts) high = (low ≤ t.start) × Laid (t.start + 1) ts high
 
+-- the first number may be lower
 Laid-lower : (ts : List Token) (low mid high : ℕ) → low ≤ mid → Laid mid ts high → Laid low ts high
 Laid-lower [] low mid high w q = omega arith
 Laid-lower (t ∷ ts) low mid high w q = (omega (arith, q.0), q.1)
 
+-- what is laid behind what is laid
 pub Laid-append : (us vs : List Token) (low mid high : ℕ) → Laid low us mid → Laid mid vs high → Laid low (us ++ vs) high
 Laid-append [] vs low mid high p q = Laid-lower vs low mid high p q
 Laid-append (t ∷ us) vs low mid high p q = (p.0, Laid-append us vs (t.start + 1) mid high p.1 q)
@@ -30,6 +32,7 @@ pub Laid-front : (us vs : List Token) (low high : ℕ) → Laid low (us ++ vs) h
 Laid-front [] vs low high p = (low, omega arith)
 Laid-front (t ∷ us) vs low high p = let q = Laid-front us vs (t.start + 1) high p.1 in (q.0, (p.0, q.1))
 
+-- what is laid rises
 pub Rises-laid : (ts : List Token) (low high : ℕ) → Laid low ts high → Rises ts
 Rises-laid [] low high p = tt
 Rises-laid (t ∷ []) low high p = tt
@@ -116,6 +119,7 @@ record Finish (n d from : ℕ) (r : Rest) : Type 0 where
   follows : Follows r tokens tree height
   fits : d + height ≤ n
 
+-- what is left of a production can always be finished
 finish : (r : Rest) (n d from : ℕ) → d ≤ n → Roomy n d r → Finish n d from r
 finish (done e) n d from w roomy = record { tokens = []; tree = e; height = 0; to = from; laid = omega arith; follows = ended; fits = omega arith }
 finish (word v r) n d from w roomy =

@@ -1,5 +1,5 @@
 -- How the readers' runs are put together, for each production and each way out of it.
-use Rattle.std.proofs.Common.{◌≡◌, ℕ, ℤ, ◌+◌, ◌≤◌, ◌<◌, max, Option, Some, None, List, [], ◌∷◌, ◌++◌, true, false, cond, Bool, refl, sym, ap, ◌∙◌, subst, arith, zero-le}
+use Rattle.std.proofs.Common.{◌≡◌, ℕ, ℤ, ◌+◌, ◌≤◌, ◌<◌, max, Some, None, List, [], ◌∷◌, true, false, Bool, refl, sym, ap, ◌∙◌, subst, arith, zero-le}
 use Rattle.id_text.specs.Tokens.{EndsOnce}
 use Rattle.id_text.specs.declared.token.Token.{Token}
 use Rattle.id_text.specs.declared.token.TokenKind.{TokenKind}
@@ -8,145 +8,108 @@ use Rattle.id_text.specs.declared.token.Keyword.TheVariants.{Def}
 use Rattle.id_text.specs.declared.token.Symbol.{Symbol}
 use Rattle.id_text.specs.declared.token.Symbol.TheVariants.{LeftParen, RightParen, Semicolon, Minus}
 use Rattle.id_tree.specs.declared.parser.Level.{Level}
-use Rattle.id_tree.specs.declared.parser.Level.TheVariants.{Sum, Product}
+use Rattle.id_tree.specs.declared.parser.Level.TheVariants.{Sum}
 use Rattle.id_tree.specs.declared.tree.BinaryOp.{BinaryOp}
 use Rattle.id_tree.specs.declared.tree.UnaryOp.TheVariants.{Neg}
 use Rattle.id_tree.specs.declared.tree.Constant.TheVariants as constant
 use Rattle.id_tree.specs.declared.tree.Kind.TheVariants as kind
 use Rattle.id_tree.specs.declared.tree.TreeError.{TreeError}
-use Rattle.id_tree.specs.declared.tree.TreeError.TheVariants.{Unexpected, TooDeep, Memory}
+use Rattle.id_tree.specs.declared.tree.TreeError.TheVariants.{Unexpected, TooDeep}
 use Rattle.id_tree.specs.Tree.{Tree, literal, unary, binary, define, none, more}
 use Rattle.id_tree.specs.Grammar.{Phrase, Definition, Grouped, Unary, Word, kind_of, Rest, done, word, name, part, sign, heading, Opens, definition, negated, number, parens, operand, operator_of, own_height}
-use Rattle.id_tree.specs.Machine.{Row, opening, room, Frame, Left, Right, Inside, State, Begin, Want, Have, Next, Finished, Move, pick, is_word, name_in, takes, ends, wants, Outcome, Accepted, Refused, run}
-use Rattle.id_tree.specs.Readers.{first_kind, first_start, EndsBy, Leads, Fails, Defines, Grows, Stunts, Takes, Misses, TakesName, MissesName}
+use Rattle.id_tree.specs.Machine.{opening, room, Frame, Left, Right, Inside, State, Begin, Want, Have, Next, Finished, is_word, name_in, takes, ends, wants, Outcome, Accepted, Refused, run}
+use Rattle.id_tree.specs.Readers.{first_kind, first_start, IsRead, EndsBy, Leads, Fails, Defines, Grows, Stunts, Takes, Misses, TakesName, MissesName}
 use Rattle.id_tree.proofs.RowLemmas.{opening-from_opens}
-use Rattle.id_tree.proofs.RunLemmas.{First, same-is_word, run-step, run-deep, run-none, run-word, run-name, run-opens, run-operator, run-done, run-part, run-inside, run-right, run-level, run-left}
+use Rattle.id_tree.proofs.RunLemmas.{First, same-is_word, run-step, run-deep, run-none, run-word, run-name, run-opens, run-opens-deep, run-operator, run-done, run-part, run-inside, run-right, run-level, run-left}
 
 pub EndsBy-at : {o p : Outcome} (x : TreeError) → o ≡ p → EndsBy p x → EndsBy o x
 EndsBy-at x e q = subst (λ r. EndsBy r x) (sym e) q
 
+-- the first token's kind
+pub first_of : {ts us : List Token} {t : Token} {k : TokenKind} → ts ≡ t ∷ us → first_kind ts ≡ k → t.kind ≡ k
+first_of e q = ap first_kind (sym e) ∙ q
+
+-- Single tokens.
 module _ {ts us : List Token} {t : Token} (e : ts ≡ t ∷ us) where
   pub Takes-word : (w : Word) → t.kind ≡ kind_of w → Takes (word w) ts us
-  Takes-word w q = λ r h d c K. rw e (run-word 200 t us w r h d c K q)
+  Takes-word w q = record { comes = λ r h d c K. rw e (run-word 200 t us w r h d c K q) }
 
   Word-missed : (w : Word) (b : Bool) → is_word w t.kind ≡ b → (t.kind ≡ kind_of w → ⊥) → is_word w t.kind ≡ false
   Word-missed w true i q = absurd (q (same-is_word w t.kind i))
   Word-missed w false i q = i
 
   pub Misses-word : (w : Word) (x : TreeError) → x ≡ Unexpected (first_start ts) → (t.kind ≡ kind_of w → ⊥) → Misses (word w) ts x
-  Misses-word w x j q = λ r h d c K. let i = Word-missed w (is_word w t.kind) refl q in rw (j, e) (run-none 200 t us (Next (word w r) h d c K) (rw i refl))
+  Misses-word w x j q = record { fails = λ r h d c K. let i = Word-missed w (is_word w t.kind) refl q in rw (j, e) (run-none 200 t us (Next (word w r) h d c K) (rw i refl)) }
 
   pub TakesName-one : (x : List ℕ) → t.kind ≡ Name x → TakesName ts x t.start us
-  TakesName-one x q = λ f h d c K. rw e (run-name 200 t us x f h d c K q)
+  TakesName-one x q = record { comes = λ f h d c K. rw e (run-name 200 t us x f h d c K q) }
 
   pub MissesName-one : (x : TreeError) → x ≡ Unexpected (first_start ts) → name_in t.kind ≡ None → MissesName ts x
-  MissesName-one x j q = λ f h d c K. rw (j, e) (run-none 200 t us (Next (name f) h d c K) (rw q refl))
+  MissesName-one x j q = record { fails = λ f h d c K. rw (j, e) (run-none 200 t us (Next (name f) h d c K) (rw q refl)) }
 
-  -- a production that begins with a part
-  pub Opens-part : {s i : Phrase} {f : Tree → Rest} (d : ℕ) → Opens s t.kind t.start (part i f) → d + own_height s + 1 ≤ 200 → (K : List Frame) →
-      run 200 ts (Want s d K) ≡ run 200 us (Want i (d + own_height s) (Inside f 0 (d + own_height s) (own_height s) ∷ K))
-  Opens-part {s = s} {i = i} {f = f} d o w K = rw e (run-opens 200 t us s (part i f) d K o w ∙ run-part 200 us i f 0 (d + own_height s) (own_height s) K)
+-- Words in a row.
+pub Takes-then : {f g : Rest → Rest} {ts us vs : List Token} → Takes f ts us → Takes g us vs → Takes (λ r. f (g r)) ts vs
+Takes-then {g = g} p q = record { comes = λ r h d c K. p.comes (g r) h d c K ∙ q.comes r h d c K }
 
-  pub Unary-deep : {i : Phrase} {f : Tree → Rest} (d : ℕ) (x : TreeError) → x ≡ TooDeep (first_start ts) → Opens Unary t.kind t.start (part i f) → 200 < d + 2 → Fails ts Unary d x
-  Unary-deep {i = i} {f = f} d x j o w = λ K. rw (j, e) (run-deep 200 t us (Want Unary d K) (record { need = d + 1 + 1; next = Next (part i f) 0 (d + 1) 1 K }) (rw (opening-from_opens o) refl) (omega arith))
+pub Misses-first : (f g : Rest → Rest) {ts : List Token} {x : TreeError} → Misses f ts x → Misses (λ r. f (g r)) ts x
+Misses-first f g p = record { fails = λ r h d c K. p.fails (g r) h d c K }
 
-  pub Part-fails : {s i : Phrase} {f : Tree → Rest} (d : ℕ) (x : TreeError) → Opens s t.kind t.start (part i f) → d + own_height s + 1 ≤ 200 → Fails us i (d + own_height s) x → Fails ts s d x
-  Part-fails {s = s} {i = i} {f = f} d x o w q = λ K. EndsBy-at x (Opens-part d o w K) (q (Inside f 0 (d + own_height s) (own_height s) ∷ K))
+pub Misses-then : {f g : Rest → Rest} {ts us : List Token} {x : TreeError} → Takes f ts us → Misses g us x → Misses (λ r. f (g r)) ts x
+Misses-then {g = g} {x = x} p q = record { fails = λ r h d c K. EndsBy-at x (p.comes (g r) h d c K) (q.fails r h d c K) }
 
-  opens-number : (v : ℤ) → t.kind ≡ Number v → Opens Unary t.kind t.start (done (literal (constant.Int v) t.start))
-  opens-number v q = rw q number
+-- Productions: from where the phrase is wanted the run has come to what is left of a production of it.
+pub record At (ts : List Token) (s : Phrase) (d : ℕ) (us : List Token) (r : Rest) (h : ℕ) : Type 0 where
+  pub comes : (K : List Frame) → run 200 ts (Want s d K) ≡ run 200 us (Next r h (d + own_height s) (own_height s) K)
 
-  -- NUMBER
-  pub Literal-leads : (v : ℤ) (d : ℕ) → t.kind ≡ Number v → d < 200 → Leads ts Unary d us (literal (constant.Int v) t.start) 1
-  Literal-leads v d q w = λ K. rw e (run-opens 200 t us Unary (done (literal (constant.Int v) t.start)) d K (opens-number v q) (omega arith) ∙ run-done 200 us (literal (constant.Int v) t.start) 0 (d + 1) 1 K)
+module _ {ts us : List Token} {t : Token} {s : Phrase} {r : Rest} (e : ts ≡ t ∷ us) (o : Opens s t.kind t.start r) (d : ℕ) where
+  pub At-opens : d + own_height s + room r ≤ 200 → At ts s d us r 0
+  At-opens w = record { comes = λ K. rw e (run-opens 200 t us s r d K o w) }
 
-  pub Unary-fails : (d : ℕ) (x : TreeError) → x ≡ Unexpected (first_start ts) → opening Unary t.kind t.start ≡ None → Fails ts Unary d x
-  Unary-fails d x j q = λ K. rw (j, e) (run-none 200 t us (Want Unary d K) (rw q refl))
+  pub Fails-deep : (x : TreeError) → x ≡ TooDeep (first_start ts) → 200 < d + own_height s + room r → Fails ts s d x
+  Fails-deep x j w = record { fails = λ K. rw (j, e) (run-opens-deep 200 t us s r d K o w) }
 
--- a level begins: its first operand has come
-abbrev pub Begun : List Token → Level → ℕ → List Token → Tree → ℕ → Type 0
-Begun ts l d us e h = (K : List Frame) → run 200 ts (Want (Grouped l) d K) ≡ run 200 us (Have e h (Left l d ∷ K))
+module _ {ts us : List Token} {s : Phrase} {d h : ℕ} where
+  pub At-words : {f : Rest → Rest} {vs : List Token} (r : Rest) → At ts s d us (f r) h → Takes f us vs → At ts s d vs r h
+  At-words r p q = record { comes = λ K. p.comes K ∙ q.comes r h (d + own_height s) (own_height s) K }
 
-module _ (l : Level) (d : ℕ) where
-  pub Level-begins : (ts us : List Token) (e : Tree) (h : ℕ) → Leads ts (operand l) d us e h → Begun ts l d us e h
-  Level-begins ts us e h q = λ K. run-level 200 ts l d K ∙ q (Left l d ∷ K)
+  pub Fails-words : {f : Rest → Rest} {x : TreeError} (r : Rest) → At ts s d us (f r) h → Misses f us x → Fails ts s d x
+  Fails-words {x = x} r p q = record { fails = λ K. EndsBy-at x (p.comes K) (q.fails r h (d + own_height s) (own_height s) K) }
 
-  pub Level-fails : (ts : List Token) (x : TreeError) → Fails ts (operand l) d x → Fails ts (Grouped l) d x
-  Level-fails ts x q = λ K. EndsBy-at x (run-level 200 ts l d K) (q (Left l d ∷ K))
+  pub At-word : {w : Word} {r : Rest} {vs : List Token} → At ts s d us (word w r) h → Takes (word w) us vs → At ts s d vs r h
+  At-word {r = r} p q = record { comes = λ K. p.comes K ∙ q.comes r h (d + own_height s) (own_height s) K }
 
-  pub Level-grows : (ts us vs : List Token) (a e : Tree) (m h : ℕ) → Begun ts l d us a m → Grows us l d a m vs e h → Begun ts l d vs e h
-  Level-grows ts us vs a e m h p q = λ K. p K ∙ q K
+  pub Fails-word : {w : Word} {r : Rest} {x : TreeError} → At ts s d us (word w r) h → Misses (word w) us x → Fails ts s d x
+  Fails-word {r = r} {x = x} p q = record { fails = λ K. EndsBy-at x (p.comes K) (q.fails r h (d + own_height s) (own_height s) K) }
 
-  pub Level-stunts : (ts us : List Token) (a : Tree) (m : ℕ) (x : TreeError) → Begun ts l d us a m → Stunts us l d a m x → Fails ts (Grouped l) d x
-  Level-stunts ts us a m x p q = λ K. EndsBy-at x (p K) (q K)
+  pub At-name : {f : List ℕ → ℕ → Rest} {x : List ℕ} {p : ℕ} {vs : List Token} → At ts s d us (name f) h → TakesName us x p vs → At ts s d vs (f x p) h
+  At-name {f = f} p q = record { comes = λ K. p.comes K ∙ q.comes f h (d + own_height s) (own_height s) K }
 
-  first-none : (us : List Token) → operator_of l (first_kind us) ≡ None → First (λ k. operator_of l k ≡ None) us
-  first-none [] q = tt
-  first-none (t ∷ us) q = q
+  pub Fails-name : {f : List ℕ → ℕ → Rest} {x : TreeError} → At ts s d us (name f) h → MissesName us x → Fails ts s d x
+  Fails-name {f = f} {x = x} p q = record { fails = λ K. EndsBy-at x (p.comes K) (q.fails f h (d + own_height s) (own_height s) K) }
 
-  pub Level-ends : (ts us : List Token) (e : Tree) (h : ℕ) → Begun ts l d us e h → operator_of l (first_kind us) ≡ None → Leads ts (Grouped l) d us e h
-  Level-ends ts us e h p q = λ K. p K ∙ run-left 200 us l e h d K (first-none us q)
+  pub At-part : {i : Phrase} {f : Tree → Rest} {vs : List Token} {a : Tree} {m : ℕ} → At ts s d us (part i f) h → Leads us i (d + own_height s) vs a m → At ts s d vs (f a) (max h m)
+  At-part {i = i} {f = f} {vs = vs} {a = a} {m = m} p q = record {
+    comes = λ K.
+        p.comes K ∙ run-part 200 us i f h (d + own_height s) (own_height s) K ∙ q.comes (Inside f h (d + own_height s) (own_height s) ∷ K)
+        ∙ run-inside 200 vs a m f h (d + own_height s) (own_height s) K;
+  }
 
-module _ {ts us : List Token} {t : Token} (e : ts ≡ t ∷ us) (l : Level) (o : BinaryOp) (q : operator_of l t.kind ≡ Some o) (d : ℕ) (a : Tree) (m : ℕ) where
-  pub Right-deep : (x : TreeError) → x ≡ TooDeep (first_start ts) → 200 < d + m + 1 → Stunts ts l d a m x
-  Right-deep x j w = λ K. rw (j, e) (run-deep 200 t us (Have a m (Left l d ∷ K)) (record { need = d + m + 1; next = Want (operand l) (d + 1) (Right l o a m t.start d ∷ K) }) (rw q refl) w)
+  pub Fails-part : {i : Phrase} {f : Tree → Rest} {x : TreeError} → At ts s d us (part i f) h → Fails us i (d + own_height s) x → Fails ts s d x
+  Fails-part {i = i} {f = f} {x = x} p q = record {
+    fails = λ K.
+        EndsBy-at x (p.comes K ∙ run-part 200 us i f h (d + own_height s) (own_height s) K) (q.fails (Inside f h (d + own_height s) (own_height s) ∷ K));
+  }
 
-  pub Right-fails : (x : TreeError) → d + m + 1 ≤ 200 → Fails us (operand l) (d + 1) x → Stunts ts l d a m x
-  Right-fails x w f = λ K. EndsBy-at x (rw e (run-operator 200 t us l o a m d K q w)) (f (Right l o a m t.start d ∷ K))
+  pub Leads-done : {e : Tree} → At ts s d us (done e) h → Leads ts s d us e (h + own_height s)
+  Leads-done {e = e} p = record { comes = λ K. p.comes K ∙ run-done 200 us e h (d + own_height s) (own_height s) K }
 
-  pub Right-grows : (vs : List Token) (b : Tree) (k : ℕ) → d + m + 1 ≤ 200 → Leads us (operand l) (d + 1) vs b k → Grows ts l d a m vs (binary o a b t.start) (max m k + 1)
-  Right-grows vs b k w f = λ K. rw e (run-operator 200 t us l o a m d K q w) ∙ f (Right l o a m t.start d ∷ K) ∙ run-right 200 vs b k l o a m t.start d K
+  -- the tree and the height as the reader has them
+  pub Leads-at : {e a : Tree} {m : ℕ} → a ≡ e → m ≡ h → Leads ts s d us e h → Leads ts s d us a m
+  Leads-at p q f = rw (p, q) f
 
--- the first token's kind
-pub first_of : {ts us : List Token} {t : Token} {k : TokenKind} → ts ≡ t ∷ us → first_kind ts ≡ k → t.kind ≡ k
-first_of e q = ap first_kind (sym e) ∙ q
-
-pub operator_is : {ts us : List Token} {t : Token} {o : BinaryOp} (l : Level) → ts ≡ t ∷ us → operator_of l (first_kind ts) ≡ Some o → operator_of l t.kind ≡ Some o
-operator_is l e q = ap (λ xs. operator_of l (first_kind xs)) (sym e) ∙ q
-
-pub Leads-at : (ts us : List Token) (s : Phrase) (d : ℕ) {a e : Tree} {m h : ℕ} → a ≡ e → m ≡ h → Leads ts s d us e h → Leads ts s d us a m
-Leads-at ts us s d p q f = λ K. rw (p, q) (f K)
-
-pub Grows-at : (ts us : List Token) (l : Level) (d : ℕ) (b : Tree) (k : ℕ) {a e : Tree} {m h : ℕ} → a ≡ e → m ≡ h → Grows ts l d b k us e h → Grows ts l d b k us a m
-Grows-at ts us l d b k p q f = λ K. rw (p, q) (f K)
-
-module _ {ts us : List Token} {t : Token} (e : ts ≡ t ∷ us) (q : t.kind ≡ Sign Minus) (d : ℕ) where
-  opens_negated : Opens Unary t.kind t.start (part Unary (λ e. done (unary Neg e t.start)))
-  opens_negated = rw q negated
-
-  pub Negated-deep : (x : TreeError) → x ≡ TooDeep (first_start ts) → 200 < d + 2 → Fails ts Unary d x
-  Negated-deep x j w = Unary-deep e d x j opens_negated w
-
-  pub Negated-fails : (x : TreeError) → d + 2 ≤ 200 → Fails us Unary (d + 1) x → Fails ts Unary d x
-  Negated-fails x w f = Part-fails e d x opens_negated (omega arith) f
-
-  pub Negated-leads : (vs : List Token) (a : Tree) (h : ℕ) → d + 2 ≤ 200 → Leads us Unary (d + 1) vs a h → Leads ts Unary d vs (unary Neg a t.start) (h + 1)
-  Negated-leads vs a h w f = λ K.
-      let g : Tree → Rest = λ e. done (unary Neg e t.start) in
-      Opens-part e d opens_negated (omega arith) K ∙ f (Inside g 0 (d + 1) 1 ∷ K) ∙ run-inside 200 vs a h g 0 (d + 1) 1 K
-      ∙ run-done 200 vs (unary Neg a t.start) (max 0 h) (d + 1) 1 K ∙ ap (λ n. run 200 vs (Have (unary Neg a t.start) n K)) (omega arith)
-
-module _ {ts us : List Token} {t : Token} (e : ts ≡ t ∷ us) (q : t.kind ≡ Sign LeftParen) (d : ℕ) where
-  opens_parens : Opens Unary t.kind t.start (part (Grouped Sum) (λ e. sign RightParen (done e)))
-  opens_parens = rw q parens
-
-  pub Parens-deep : (x : TreeError) → x ≡ TooDeep (first_start ts) → 200 < d + 2 → Fails ts Unary d x
-  Parens-deep x j w = Unary-deep e d x j opens_parens w
-
-  pub Parens-fails : (x : TreeError) → d + 2 ≤ 200 → Fails us (Grouped Sum) (d + 1) x → Fails ts Unary d x
-  Parens-fails x w f = Part-fails e d x opens_parens (omega arith) f
-
-  -- the inside has come, and the closing parenthesis is to come
-  Parens-inside : (vs : List Token) (a : Tree) (h : ℕ) → d + 2 ≤ 200 → Leads us (Grouped Sum) (d + 1) vs a h → (K : List Frame) → run 200 ts (Want Unary d K) ≡ run 200 vs (Next (sign RightParen (done a)) (max 0 h) (d + 1) 1 K)
-  Parens-inside vs a h w f K =
-      let g : Tree → Rest = λ e. sign RightParen (done e) in
-      Opens-part e d opens_parens (omega arith) K ∙ f (Inside g 0 (d + 1) 1 ∷ K) ∙ run-inside 200 vs a h g 0 (d + 1) 1 K
-
-  pub Parens-open : (vs : List Token) (a : Tree) (h : ℕ) (x : TreeError) → d + 2 ≤ 200 → Leads us (Grouped Sum) (d + 1) vs a h → Misses (sign RightParen) vs x → Fails ts Unary d x
-  Parens-open vs a h x w f g = λ K. EndsBy-at x (Parens-inside vs a h w f K) (g (done a) (max 0 h) (d + 1) 1 K)
-
-  pub Parens-leads : (vs ws : List Token) (a : Tree) (h : ℕ) → d + 2 ≤ 200 → Leads us (Grouped Sum) (d + 1) vs a h → Takes (sign RightParen) vs ws → Leads ts Unary d ws a (h + 1)
-  Parens-leads vs ws a h w f g = λ K. Parens-inside vs a h w f K ∙ g (done a) (max 0 h) (d + 1) 1 K ∙ run-done 200 ws a (max 0 h) (d + 1) 1 K ∙ ap (λ n. run 200 ws (Have a n K)) (omega arith)
+-- a token that begins no operand
+pub Unary-fails : {ts us : List Token} {t : Token} (e : ts ≡ t ∷ us) (d : ℕ) (x : TreeError) → x ≡ Unexpected (first_start ts) → opening Unary t.kind t.start ≡ None → Fails ts Unary d x
+Unary-fails {us = us} {t = t} e d x j q = record { fails = λ K. rw (j, e) (run-none 200 t us (Want Unary d K) (rw q refl)) }
 
 -- no sign but these begins an operand
 pub unopened : (s : Symbol) (p : ℕ) → (Sign s ≡ Sign Minus → ⊥) → (Sign s ≡ Sign LeftParen → ⊥) → opening Unary (Sign s) p ≡ None
@@ -154,56 +117,63 @@ unopened Minus p f g = absurd (f refl)
 unopened LeftParen p f g = absurd (g refl)
 unopened _ p f g = refl
 
--- words in a row
-pub Takes-then : (f g : Rest → Rest) (ts us vs : List Token) → Takes f ts us → Takes g us vs → Takes (λ r. f (g r)) ts vs
-Takes-then f g ts us vs p q = λ r h d c K. p (g r) h d c K ∙ q r h d c K
+-- the productions, at a token of the kind
+pub opens_negated : {k : TokenKind} {p : ℕ} → k ≡ Sign Minus → Opens Unary k p (part Unary (λ e. done (unary Neg e p)))
+opens_negated q = rw q negated
 
-pub Misses-first : (f g : Rest → Rest) (ts : List Token) (x : TreeError) → Misses f ts x → Misses (λ r. f (g r)) ts x
-Misses-first f g ts x p = λ r h d c K. p (g r) h d c K
+pub opens_parens : {k : TokenKind} {p : ℕ} → k ≡ Sign LeftParen → Opens Unary k p (part (Grouped Sum) (λ e. sign RightParen (done e)))
+opens_parens q = rw q parens
 
-pub Misses-then : (f g : Rest → Rest) (ts us : List Token) (x : TreeError) → Takes f ts us → Misses g us x → Misses (λ r. f (g r)) ts x
-Misses-then f g ts us x p q = λ r h d c K. EndsBy-at x (p (g r) h d c K) (q r h d c K)
+pub opens_number : {k : TokenKind} {p : ℕ} (v : ℤ) → k ≡ Number v → Opens Unary k p (done (literal (constant.Int v) p))
+opens_number v q = rw q number
 
--- a definition, from its first word to its last sign
-module _ {ts us : List Token} {t : Token} (e : ts ≡ t ∷ us) (q : t.kind ≡ Key Def) where
-  abbrev body : List ℕ → ℕ → Tree → Rest
-  body x p e = sign Semicolon (done (define x kind.Int e p))
+pub opens_definition : {k : TokenKind} {p : ℕ} → k ≡ Key Def → Opens Definition k p (name (λ x p. heading (part (Grouped Sum) (λ e. sign Semicolon (done (define x kind.Int e p))))))
+opens_definition q = rw q definition
 
-  abbrev headed : List ℕ → ℕ → Rest
-  headed x p = heading (part (Grouped Sum) (body x p))
+-- Levels: the first operand has come, and the level is open.
+pub record Begun (ts : List Token) (l : Level) (d : ℕ) (us : List Token) (e : Tree) (h : ℕ) : Type 0 where
+  pub comes : (K : List Frame) → run 200 ts (Want (Grouped l) d K) ≡ run 200 us (Have e h (Left l d ∷ K))
 
-  opens_definition : Opens Definition t.kind t.start (name headed)
-  opens_definition = rw q definition
+first-none : (l : Level) (vs : List Token) → operator_of l (first_kind vs) ≡ None → First (λ k. operator_of l k ≡ None) vs
+first-none l [] q = tt
+first-none l (t ∷ vs) q = q
 
-  Def-opens : (K : List Frame) → run 200 ts (Want Definition 0 K) ≡ run 200 us (Next (name headed) 0 0 0 K)
-  Def-opens K = rw e (run-opens 200 t us Definition (name headed) 0 K opens_definition (omega arith))
+-- what was read behind what was read
+pub IsRead-then : {ts us vs : List Token} {d m n : ℕ} → IsRead ts us d m → IsRead us vs d n → IsRead ts vs d n
+IsRead-then p q = record { behind = record { ends = q.behind.ends; shorter = omega (arith, p.behind.shorter, q.behind.shorter) }; some = q.some; fits = q.fits }
 
-  pub Def-nameless : (x : TreeError) → MissesName us x → Fails ts Definition 0 x
-  Def-nameless x f = λ K. EndsBy-at x (Def-opens K) (f headed 0 0 0 K)
+module _ {l : Level} {d : ℕ} {ts us : List Token} where
+  pub Level-grows : {vs : List Token} {a e : Tree} {m h : ℕ} → Begun ts l d us a m → Grows us l d a m vs e h → Begun ts l d vs e h
+  Level-grows p q = record { comes = λ K. p.comes K ∙ q.comes K }
 
-  module _ (x : List ℕ) (p : ℕ) (vs : List Token) (f : TakesName us x p vs) where
-    Def-named : (K : List Frame) → run 200 ts (Want Definition 0 K) ≡ run 200 vs (Next (headed x p) 0 0 0 K)
-    Def-named K = Def-opens K ∙ f headed 0 0 0 K
+  pub Level-stunts : {a : Tree} {m : ℕ} {x : TreeError} → Begun ts l d us a m → Stunts us l d a m x → Fails ts (Grouped l) d x
+  Level-stunts {x = x} p q = record { fails = λ K. EndsBy-at x (p.comes K) (q.fails K) }
 
-    pub Def-headless : (y : TreeError) → Misses heading vs y → Fails ts Definition 0 y
-    Def-headless y g = λ K. EndsBy-at y (Def-named K) (g (part (Grouped Sum) (body x p)) 0 0 0 K)
+  pub Level-ends : {e : Tree} {h : ℕ} → Begun ts l d us e h → operator_of l (first_kind us) ≡ None → Leads ts (Grouped l) d us e h
+  Level-ends {e = e} {h = h} p q = record { comes = λ K. p.comes K ∙ run-left 200 us l e h d K (first-none l us q) }
 
-    module _ (ws : List Token) (g : Takes heading vs ws) where
-      Def-headed : (K : List Frame) → run 200 ts (Want Definition 0 K) ≡ run 200 ws (Want (Grouped Sum) 0 (Inside (body x p) 0 0 0 ∷ K))
-      Def-headed K = Def-named K ∙ g (part (Grouped Sum) (body x p)) 0 0 0 K ∙ run-part 200 ws (Grouped Sum) (body x p) 0 0 0 K
+  pub Level-begins : {e : Tree} {h : ℕ} → Leads ts (operand l) d us e h → Begun ts l d us e h
+  Level-begins q = record { comes = λ K. run-level 200 ts l d K ∙ q.comes (Left l d ∷ K) }
 
-      pub Def-bodiless : (y : TreeError) → Fails ws (Grouped Sum) 0 y → Fails ts Definition 0 y
-      Def-bodiless y i = λ K. EndsBy-at y (Def-headed K) (i (Inside (body x p) 0 0 0 ∷ K))
+pub Level-fails : (l : Level) {d : ℕ} {ts : List Token} {x : TreeError} → Fails ts (operand l) d x → Fails ts (Grouped l) d x
+Level-fails l {d = d} {ts = ts} {x = x} q = record { fails = λ K. EndsBy-at x (run-level 200 ts l d K) (q.fails (Left l d ∷ K)) }
 
-      module _ (zs : List Token) (a : Tree) (h : ℕ) (i : Leads ws (Grouped Sum) 0 zs a h) where
-        Def-bodied : (K : List Frame) → run 200 ts (Want Definition 0 K) ≡ run 200 zs (Next (body x p a) (max 0 h) 0 0 K)
-        Def-bodied K = Def-headed K ∙ i (Inside (body x p) 0 0 0 ∷ K) ∙ run-inside 200 zs a h (body x p) 0 0 0 K
+-- an operator and its right operand
+module _ {ts us : List Token} {t : Token} (e : ts ≡ t ∷ us) (l : Level) (o : BinaryOp) (i : operator_of l (first_kind ts) ≡ Some o) (d : ℕ) (a : Tree) (m : ℕ) where
+  operator_is : operator_of l t.kind ≡ Some o
+  operator_is = ap (λ xs. operator_of l (first_kind xs)) (sym e) ∙ i
 
-        pub Def-endless : (y : TreeError) → Misses (sign Semicolon) zs y → Fails ts Definition 0 y
-        Def-endless y j = λ K. EndsBy-at y (Def-bodied K) (j (done (define x kind.Int a p)) (max 0 h) 0 0 K)
+  right_wanted : d + m + 1 ≤ 200 → (K : List Frame) → run 200 ts (Have a m (Left l d ∷ K)) ≡ run 200 us (Want (operand l) (d + 1) (Right l o a m t.start d ∷ K))
+  right_wanted w K = rw e (run-operator 200 t us l o a m d K operator_is w)
 
-        pub Def-leads : (ys : List Token) → Takes (sign Semicolon) zs ys → Defines ts ys (define x kind.Int a p)
-        Def-leads ys j = (max 0 h + 0, λ K. Def-bodied K ∙ j (done (define x kind.Int a p)) (max 0 h) 0 0 K ∙ run-done 200 ys (define x kind.Int a p) (max 0 h) 0 0 K)
+  pub Right-deep : (x : TreeError) → x ≡ TooDeep (first_start ts) → 200 < d + m + 1 → Stunts ts l d a m x
+  Right-deep x j w = record { fails = λ K. let q = operator_is in rw (j, e) (run-deep 200 t us (Have a m (Left l d ∷ K)) (record { need = d + m + 1; next = Want (operand l) (d + 1) (Right l o a m t.start d ∷ K) }) (rw q refl) w) }
+
+  pub Right-fails : {x : TreeError} → d + m + 1 ≤ 200 → Fails us (operand l) (d + 1) x → Stunts ts l d a m x
+  Right-fails {x = x} w f = record { fails = λ K. EndsBy-at x (right_wanted w K) (f.fails (Right l o a m t.start d ∷ K)) }
+
+  pub Right-grows : {vs : List Token} {b f : Tree} {k h : ℕ} → d + m + 1 ≤ 200 → Leads us (operand l) (d + 1) vs b k → f ≡ binary o a b t.start → h ≡ max m k + 1 → Grows ts l d a m vs f h
+  Right-grows {vs = vs} {b = b} {k = k} w q u v = record { comes = λ K. rw (u, v) (right_wanted w K ∙ q.comes (Right l o a m t.start d ∷ K) ∙ run-right 200 vs b k l o a m t.start d K) }
 
 -- behind a program, only the end
 ends-end : (k : TokenKind) (e : Tree) → k ≡ End → ends k e ≡ Some (record { need = 0; next = Finished e })
@@ -249,10 +219,10 @@ Begin-def (t ∷ us) q =
 
 module _ (ts : List Token) (q : first_kind ts ≡ Key Def) where
   pub Begin-fails : (x : TreeError) → Fails ts Definition 0 x → EndsBy (run 200 ts Begin) x
-  Begin-fails x f = EndsBy-at x (Begin-def ts q) (f [])
+  Begin-fails x f = EndsBy-at x (Begin-def ts q) (f.fails [])
 
   pub Begin-stops : (us : List Token) (e : Tree) (x : TreeError) → Defines ts us e → EndsOnce us → (first_kind us ≡ End → ⊥) → x ≡ Unexpected (first_start us) → EndsBy (run 200 ts Begin) x
-  Begin-stops us e x p w f j = EndsBy-at x (Begin-def ts q ∙ p.1 []) (rw j (run-early us (Have e p.0 []) w (λ t i. ends-none t.kind (more e none) (λ k. f (sym i ∙ k)))))
+  Begin-stops us e x p w f j = EndsBy-at x (Begin-def ts q ∙ p.1.comes []) (rw j (run-early us (Have e p.0 []) w (λ t i. ends-none t.kind (more e none) (λ k. f (sym i ∙ k)))))
 
   pub Begin-accepts : (us : List Token) (e : Tree) → Defines ts us e → EndsOnce us → first_kind us ≡ End → run 200 ts Begin ≡ Accepted (more e none)
-  Begin-accepts us e p w i = Begin-def ts q ∙ p.1 [] ∙ run-last us (Have e p.0 []) (more e none) w i (λ t k. ends-end t.kind (more e none) k)
+  Begin-accepts us e p w i = Begin-def ts q ∙ p.1.comes [] ∙ run-last us (Have e p.0 []) (more e none) w i (λ t k. ends-end t.kind (more e none) k)

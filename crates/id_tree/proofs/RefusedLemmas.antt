@@ -1,6 +1,5 @@
 -- From a refused run to the first token after which nothing goes on.
-use Rattle.std.proofs.Common.{◌≡◌, ℕ, ◌+◌, ◌≤◌, ◌<◌, max, Bool, true, false, cond, leb, Option, Some, None, List, [], ◌∷◌, ◌++◌, refl, sym, ap, ◌∙◌, subst, append_assoc, append-nil, arith, zero-le, le-leb, leb-true, leb-false}
-use Rattle.std.proofs.lemmas.Bool.Decides.{leb_tells}
+use Rattle.std.proofs.Common.{◌≡◌, ℕ, ◌+◌, ◌≤◌, ◌<◌, Bool, true, false, cond, leb, Option, Some, None, List, [], ◌∷◌, ◌++◌, refl, sym, ap, ◌∙◌, subst, append_assoc, append-nil, arith, leb-true, leb-false}
 use Rattle.id_text.specs.Tokens.{Rises}
 use Rattle.id_text.specs.declared.token.Token.{Token}
 use Rattle.id_tree.specs.Tree.{Tree}
@@ -9,12 +8,12 @@ use Rattle.id_tree.specs.declared.tree.TreeError.TheVariants.{Unexpected, TooDee
 use Rattle.id_tree.specs.Readers.{EndsBy}
 use Rattle.id_tree.specs.Grammar.{Phrase, Rest, done, word, name, part, own_height, Program}
 use Rattle.id_tree.specs.Accepted.{Accepts, GoesOn, GoesOnDeeper, StopsAt, RefusedBy, IsMemory}
-use Rattle.id_tree.specs.Machine.{Move, pick, takes, Frame, State, Begin, Want, Have, Next, Finished, Outcome, Accepted, Refused, Unfinished, run}
+use Rattle.id_tree.specs.Machine.{Move, pick, takes, Frame, State, Begin, Want, Have, Next, Finished, Accepted, Refused, run}
 use Rattle.id_tree.specs.Standing.{Around, outermost, left, right, inside, Stands, begun, wanting, having, within, finished, Roomy}
 use Rattle.id_tree.proofs.RunLemmas.{run-step, run-none, run-deep}
 use Rattle.id_tree.proofs.CompleteLemmas.{run-program}
 use Rattle.id_tree.proofs.SoundLemmas.{Moves, Moves-takes}
-use Rattle.id_tree.proofs.FinishLemmas.{Laid, Laid-append, Laid-front, Rises-laid, Laid-rises, Completed, Stands-completed}
+use Rattle.id_tree.proofs.FinishLemmas.{Laid-append, Laid-front, Rises-laid, Laid-rises, Stands-completed}
 
 -- why a token is refused: nothing takes it, or only with more nesting
 abbrev Why : ℕ → Bool → Option Move → Type 0

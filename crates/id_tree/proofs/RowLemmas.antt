@@ -1,15 +1,15 @@
 -- What each production keeps, from which the machine's lemmas follow for all of them at once.
-use Rattle.std.proofs.Common.{◌≡◌, ℕ, ◌+◌, ◌≤◌, max, Option, Some, None, List, [], ◌∷◌, ◌++◌, refl, arith, zero-le}
+use Rattle.std.proofs.Common.{◌≡◌, ℕ, ◌+◌, ◌≤◌, Some, None, List, refl, arith}
 use Rattle.id_text.specs.declared.token.Token.{Token}
 use Rattle.id_text.specs.declared.token.TokenKind.{TokenKind}
-use Rattle.id_text.specs.declared.token.TokenKind.TheVariants.{Name, Key, Sign}
+use Rattle.id_text.specs.declared.token.TokenKind.TheVariants.{Sign}
 use Rattle.id_text.specs.declared.token.Symbol.TheVariants.{Plus, Minus}
 use Rattle.id_tree.specs.declared.tree.BinaryOp.{BinaryOp}
 use Rattle.id_tree.specs.declared.parser.Level.{Level}
 use Rattle.id_tree.specs.declared.parser.Level.TheVariants.{Sum, Product}
 use Rattle.id_tree.specs.Tree.{Tree}
-use Rattle.id_tree.specs.Grammar.{Phrase, Definition, Grouped, Unary, Word, kind_of, Rest, done, word, name, part, Opens, definition, negated, number, parens, operand, operator_of, own_height, Derives, opened, single, grouped, Follows, ended, taken, named, given}
-use Rattle.id_tree.specs.Machine.{Row, opening, room}
+use Rattle.id_tree.specs.Grammar.{Phrase, Definition, Grouped, Unary, kind_of, Rest, done, word, name, part, Opens, definition, negated, number, parens, operand, operator_of, own_height, Derives, opened, single, grouped, Follows, ended, taken, named, given}
+use Rattle.id_tree.specs.Machine.{opening, room}
 use Rattle.id_tree.specs.Standing.{Roomy}
 
 -- a kind is no operator of a level within the phrase
@@ -40,26 +40,30 @@ Needs m (word w r) = Needs m r
 Needs m (name f) = (x : List ℕ) (p : ℕ) → Needs m (f x p)
 Needs m (part s f) = m ≤ 1
 
+-- what each production keeps: its parts end where they must, their heights and their room are as it says, and it has a height
 pub record Valid (s : Phrase) (r : Rest) : Type 0 where
   pub parts : Parts s r
+  pub high : 1 ≤ room r + own_height s
   pub needs : Needs (room r) r
   pub roomy : (n d : ℕ) → d + room r ≤ n → Roomy n d r
 
--- each production keeps this
 pub valid : {s : Phrase} {k : TokenKind} {p : ℕ} {r : Rest} → Opens s k p r → Valid s r
 valid definition = record {
   parts = λ x p e. ((refl, refl), tt);
+  high = omega arith;
   needs = λ x p. omega arith;
   roomy = λ n d h x p. (h, λ e. tt);
 }
 valid negated = record {
   parts = λ e. (λ k q. tt, tt);
+  high = omega arith;
   needs = omega arith;
   roomy = λ n d h. (h, λ e. tt);
 }
-valid number = record { parts = tt; needs = omega arith; roomy = λ n d h. tt }
+valid number = record { parts = tt; high = omega arith; needs = omega arith; roomy = λ n d h. tt }
 valid parens = record {
   parts = λ e. ((refl, refl), tt);
+  high = omega arith;
   needs = omega arith;
   roomy = λ n d h. (h, λ e. tt);
 }
@@ -78,17 +82,10 @@ Quiet-operator Sum (Sign Plus) o e = refl
 Quiet-operator Sum (Sign Minus) o e = refl
 Quiet-operator Sum _ o e = cc
 
--- a part or what stands round the parts has a height
-Opens-height : {s : Phrase} {k : TokenKind} {p : ℕ} {r : Rest} → Opens s k p r → 1 ≤ room r + own_height s
-Opens-height definition = omega arith
-Opens-height negated = omega arith
-Opens-height number = omega arith
-Opens-height parens = omega arith
-
 mutual
   -- no phrase has height 0
   pub Derives-height : {s : Phrase} {ts : List Token} {e : Tree} {h : ℕ} → Derives s ts e h → 1 ≤ h
-  Derives-height (opened {r = r} o f) = omega (arith, Opens-height o, Follows-height f (room r) (valid o).needs)
+  Derives-height (opened {r = r} o f) = omega (arith, (valid o).high, Follows-height f (room r) (valid o).needs)
   Derives-height (single d) = Derives-height d
   Derives-height (grouped a t q b) = omega arith
 

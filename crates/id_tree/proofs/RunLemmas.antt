@@ -1,19 +1,19 @@
 -- Runs of the machine, step by step.
-use Rattle.std.proofs.Common.{◌≡◌, ℕ, ◌+◌, ◌≤◌, ◌<◌, max, Bool, true, false, cond, Option, Some, None, List, [], ◌∷◌, ◌++◌, refl, sym, ap, ◌∙◌, arith, zero-le, le-leb, leb, inl, inr}
+use Rattle.std.proofs.Common.{◌≡◌, ℕ, ◌+◌, ◌≤◌, ◌<◌, max, true, false, Some, None, List, [], ◌∷◌, refl, ap, zero-le, le-leb}
 use Rattle.std.proofs.lemmas.Bool.{lt-leb}
-use denote.Enum.Bare.{sameb, same_true, true_same}
+use denote.Enum.Bare.{same_true, true_same}
 use Rattle.id_text.specs.contracts.token.Keyword as keyword
 use Rattle.id_text.specs.contracts.token.Symbol as symbol
 use Rattle.id_text.specs.declared.token.Token.{Token}
 use Rattle.id_text.specs.declared.token.TokenKind.{TokenKind}
-use Rattle.id_text.specs.declared.token.TokenKind.TheVariants.{Name, Number, Key, Sign, End}
+use Rattle.id_text.specs.declared.token.TokenKind.TheVariants.{Name, Key, Sign}
 use Rattle.id_tree.specs.declared.parser.Level.{Level}
 use Rattle.id_tree.specs.declared.parser.Level.TheVariants.{Sum, Product}
 use Rattle.id_tree.specs.declared.tree.BinaryOp.{BinaryOp}
 use Rattle.id_tree.specs.Tree.{Tree, binary}
 use Rattle.id_tree.specs.Grammar.{Phrase, Definition, Grouped, Unary, Word, the_key, the_sign, kind_of, Rest, done, word, name, part, Opens, operand, operator_of, own_height}
-use Rattle.id_tree.specs.Machine.{Row, opening, room, Frame, Left, Right, Inside, State, Begin, Want, Have, Next, Finished, Move, pick, is_word, name_in, enters, wants, operates, nexts, closes, takes, Outcome, Accepted, Refused, run}
-use Rattle.id_tree.proofs.RowLemmas.{Quiet, opening-from_opens}
+use Rattle.id_tree.specs.Machine.{room, Frame, Left, Right, Inside, State, Want, Have, Next, Move, is_word, takes, Refused, run}
+use Rattle.id_tree.proofs.RowLemmas.{opening-from_opens}
 
 -- the word test is true of the word alone
 pub is_word-same : (w : Word) (k : TokenKind) → k ≡ kind_of w → is_word w k ≡ true
@@ -55,6 +55,11 @@ module _ (n : ℕ) (t : Token) (ts : List Token) where
   run-opens Definition r d K o h = run-step (Want Definition d K) _ (rw (opening-from_opens o) refl) h
   run-opens Unary r d K o h = run-step (Want Unary d K) _ (rw (opening-from_opens o) refl) h
   run-opens (Grouped l) r d K o h = elim o [ ]
+
+  pub run-opens-deep : (s : Phrase) (r : Rest) (d : ℕ) (K : List Frame) → Opens s t.kind t.start r → n < d + own_height s + room r → run n (t ∷ ts) (Want s d K) ≡ Refused true t.start
+  run-opens-deep Definition r d K o h = run-deep (Want Definition d K) (record { need = d + 0 + room r; next = Next r 0 (d + 0) 0 K }) (rw (opening-from_opens o) refl) h
+  run-opens-deep Unary r d K o h = run-deep (Want Unary d K) (record { need = d + 1 + room r; next = Next r 0 (d + 1) 1 K }) (rw (opening-from_opens o) refl) h
+  run-opens-deep (Grouped l) r d K o h = elim o [ ]
 
   -- an operator of a level
   pub run-operator : (l : Level) (o : BinaryOp) (a : Tree) (m d : ℕ) (K : List Frame) → operator_of l t.kind ≡ Some o → d + m + 1 ≤ n → run n (t ∷ ts) (Have a m (Left l d ∷ K)) ≡ run n ts (Want (operand l) (d + 1) (Right l o a m t.start d ∷ K))

@@ -2,13 +2,12 @@
 use Rattle.std.proofs.Common.{◌≡◌, ℕ, ◌+◌, ◌≤◌, max, Bool, true, false, cond, Option, Some, None, List, [], ◌∷◌, ◌++◌, refl, sym, ap, ◌∙◌, subst, append_assoc, append-nil, arith, zero-le}
 use Rattle.id_text.specs.declared.token.Token.{Token}
 use Rattle.id_text.specs.declared.token.TokenKind.{TokenKind}
-use Rattle.id_text.specs.declared.token.TokenKind.TheVariants.{Name, Key, Sign, Number, End}
+use Rattle.id_text.specs.declared.token.TokenKind.TheVariants.{Name, End}
 use Rattle.id_tree.specs.declared.parser.Level.{Level}
 use Rattle.id_tree.specs.declared.parser.Level.TheVariants.{Sum, Product}
-use Rattle.id_tree.specs.declared.tree.BinaryOp.{BinaryOp}
 use Rattle.id_tree.specs.Tree.{Tree, binary, none, more}
-use Rattle.id_tree.specs.Grammar.{Phrase, Definition, Grouped, Unary, Word, kind_of, Rest, done, word, name, part, Opens, operand, operator_of, own_height, Derives, opened, single, grouped, Follows, ended, taken, named, given, Program, empty, single_def}
-use Rattle.id_tree.specs.Machine.{Row, opening, room, Move, pick, is_word, name_in, ends, enters, wants, operates, nexts, closes, takes, Frame, Left, Right, Inside, State, Begin, Want, Have, Next, Finished}
+use Rattle.id_tree.specs.Grammar.{Phrase, Definition, Grouped, Unary, Rest, done, word, name, part, operator_of, own_height, Derives, opened, single, grouped, ended, taken, named, given, Program, empty, single_def}
+use Rattle.id_tree.specs.Machine.{opening, Move, pick, is_word, name_in, ends, enters, wants, operates, nexts, closes, takes, Frame, State}
 use Rattle.id_tree.specs.Standing.{Begins, Roomy, Around, outermost, left, right, inside, Stands, begun, wanting, having, within, finished}
 use Rattle.id_tree.proofs.RowLemmas.{valid, Derives-height}
 use Rattle.id_tree.proofs.RunLemmas.{same-is_word}

@@ -1,5 +1,5 @@
 -- Which lists are accepted, and where the others are refused (docs/LANGUAGE.md, "Nesting").
-use Rattle.std.specs.Prelude.{◌≡◌, ◌≤◌, ℕ, Bool, true, false, List, [], ◌∷◌, ◌++◌}
+use Rattle.std.specs.Prelude.{◌≡◌, ◌≤◌, ℕ, List, [], ◌∷◌, ◌++◌}
 use Rattle.id_text.specs.declared.token.Token.{Token}
 use Rattle.id_text.specs.Tokens.{Rises}
 use Rattle.id_tree.specs.declared.tree.TreeError.{TreeError}
@@ -28,7 +28,7 @@ pub record GoesOnDeeper (front : List Token) : Type 0 where
   pub rises : Rises (front ++ behind)
   pub derives : Program (front ++ behind) tree height
 
--- the tokens go on up to one that starts there, and with it no more
+-- there is a token that starts there: the tokens before it go on, and with it they do not
 pub record StopsAt (ts : List Token) (at : ℕ) : Type 0 where
   pub front : List Token
   pub token : Token

@@ -1,5 +1,5 @@
 -- Which tokens make which tree (docs/LANGUAGE.md, "Grammar").
-use Rattle.std.specs.Prelude.{◌≡◌, ◌+◌, ◌≤◌, ℕ, ℤ, Option, Some, None, List, [], ◌∷◌, ◌++◌, max}
+use Rattle.std.specs.Prelude.{◌≡◌, ◌+◌, ℕ, ℤ, Option, Some, None, List, [], ◌∷◌, ◌++◌, max}
 use Rattle.id_text.specs.declared.token.Token.{Token}
 use Rattle.id_text.specs.declared.token.TokenKind.{TokenKind}
 use Rattle.id_text.specs.declared.token.TokenKind.TheVariants.{Name, Number, Key, Sign, End}
@@ -27,20 +27,24 @@ pub data Word : Type 0 where
   the_key : Keyword → Word
   the_sign : Symbol → Word
 
+-- the kind of the word's token
 abbrev pub kind_of : Word → TokenKind
 kind_of (the_key k) = Key k
 kind_of (the_sign s) = Sign s
 
--- What is left of a production, and the tree that it makes.
+-- What is left of a production, and the tree that it makes: nothing, and the tree; a word, and then more;
+-- a name, and then more for its spelling and its place; a part, and then more for its tree.
 pub data Rest : Type 0 where
   done : Tree → Rest
   word : Word → Rest → Rest
   name : (List ℕ → ℕ → Rest) → Rest
   part : Phrase → (Tree → Rest) → Rest
 
+-- a sign, and then more
 abbrev pub sign : Symbol → Rest → Rest
 sign s r = word (the_sign s) r
 
+-- a reserved word, and then more
 abbrev pub key : Keyword → Rest → Rest
 key k r = word (the_key k) r
 
@@ -48,7 +52,7 @@ key k r = word (the_key k) r
 abbrev pub heading : Rest → Rest
 heading r = sign LeftParen (sign RightParen (sign Colon (key Int (sign Becomes r))))
 
--- The productions: the phrase, the token that begins it, that token's place, and what is left behind the token.
+-- The productions that begin with a token of their own: a phrase, the token's kind and place, and what is left behind it.
 pub data Opens : Phrase → TokenKind → ℕ → Rest → Type 0 where
   definition : {p : ℕ} → Opens Definition (Key Def) p (name (λ x q. heading (part (Grouped Sum) (λ e. sign Semicolon (done (define x kind.Int e q))))))
   negated : {p : ℕ} → Opens Unary (Sign Minus) p (part Unary (λ e. done (unary Neg e p)))
@@ -76,7 +80,7 @@ own_height (Grouped l) = 1
 own_height Unary = 1
 
 mutual
-  -- the tokens are a phrase, with this tree of this height
+  -- the tokens are a phrase, with this tree of this height: a production, or the operands of a level from the left
   pub data Derives : Phrase → List Token → Tree → ℕ → Type 0 where
     opened : {s : Phrase} {t : Token} {r : Rest} {ts : List Token} {e : Tree} {h : ℕ} →
         Opens s t.kind t.start r → Follows r ts e h → Derives s (t ∷ ts) e (h + own_height s)

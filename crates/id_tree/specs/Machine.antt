@@ -1,5 +1,5 @@
 -- A machine that takes one token at a time, for the proof of `parse` alone: no public clause cites it.
-use Rattle.std.specs.Prelude.{◌≡◌, ◌+◌, ◌≤◌, ℕ, Bool, true, false, cond, nat_le, Option, Some, None, List, [], ◌∷◌, max}
+use Rattle.std.specs.Prelude.{◌+◌, ℕ, Bool, true, false, cond, nat_le, Option, Some, None, List, [], ◌∷◌, max}
 use denote.Enum.Bare.{sameb}
 use Rattle.id_text.specs.declared.token.Token.{Token}
 use Rattle.id_text.specs.declared.token.TokenKind.{TokenKind}
@@ -54,6 +54,7 @@ pub record Move : Type 0 where
   pub need : ℕ
   pub next : State
 
+-- a token that takes no nesting
 abbrev pub free : State → Option Move
 free S = Some (record { need = 0; next = S })
 
@@ -68,6 +69,7 @@ is_word (the_key k) (Key j) = sameb keyword.the_type j k
 is_word (the_sign s) (Sign r) = sameb symbol.the_type r s
 is_word _ _ = false
 
+-- the name that a kind is
 abbrev pub name_in : TokenKind → Option (List ℕ)
 name_in (Name x) = Some x
 name_in _ = None

@@ -1,5 +1,5 @@
 -- What the readers of `parse` give back, by the machine: for the proof of `parse` alone.
-use Rattle.std.specs.Prelude.{◌≡◌, ◌≢◌, ◌+◌, ◌<◌, ◌≤◌, ℕ, true, false, List, [], ◌∷◌, length}
+use Rattle.std.specs.Prelude.{◌≡◌, ◌+◌, ◌<◌, ◌≤◌, ℕ, true, false, List, [], ◌∷◌, length}
 use Rattle.id_text.specs.Tokens.{EndsOnce}
 use Rattle.id_text.specs.declared.token.Token.{Token}
 use Rattle.id_text.specs.declared.token.TokenKind.{TokenKind}
@@ -8,8 +8,8 @@ use Rattle.id_tree.specs.declared.parser.Level.{Level}
 use Rattle.id_tree.specs.declared.tree.TreeError.{TreeError}
 use Rattle.id_tree.specs.declared.tree.TreeError.TheVariants.{Unexpected, TooDeep, Memory}
 use Rattle.id_tree.specs.Tree.{Tree}
-use Rattle.id_tree.specs.Grammar.{Phrase, Definition, Grouped, Word, Rest, word, name, heading}
-use Rattle.id_tree.specs.Machine.{Frame, Left, State, Want, Have, Next, Outcome, Refused, run}
+use Rattle.id_tree.specs.Grammar.{Phrase, Definition, Rest, name}
+use Rattle.id_tree.specs.Machine.{Frame, Left, Want, Have, Next, Outcome, Refused, run}
 
 -- what the first token is
 abbrev pub first_kind : List Token → TokenKind
@@ -39,33 +39,36 @@ EndsBy o (TooDeep at) = o ≡ Refused true at
 EndsBy o Memory = Unit {0}
 
 -- from where the phrase is wanted the run comes to where it is there, whatever stands round it
-abbrev pub Leads : List Token → Phrase → ℕ → List Token → Tree → ℕ → Type 0
-Leads ts s d us e h = (K : List Frame) → run 200 ts (Want s d K) ≡ run 200 us (Have e h K)
+pub record Leads (ts : List Token) (s : Phrase) (d : ℕ) (us : List Token) (e : Tree) (h : ℕ) : Type 0 where
+  pub comes : (K : List Frame) → run 200 ts (Want s d K) ≡ run 200 us (Have e h K)
 
 -- from where the phrase is wanted the run ends so
-abbrev pub Fails : List Token → Phrase → ℕ → TreeError → Type 0
-Fails ts s d x = (K : List Frame) → EndsBy (run 200 ts (Want s d K)) x
+pub record Fails (ts : List Token) (s : Phrase) (d : ℕ) (x : TreeError) : Type 0 where
+  pub fails : (K : List Frame) → EndsBy (run 200 ts (Want s d K)) x
 
--- the run takes the operator and its right operand into the left one
-abbrev pub Grows : List Token → Level → ℕ → Tree → ℕ → List Token → Tree → ℕ → Type 0
-Grows ts l d a m us e h = (K : List Frame) → run 200 ts (Have a m (Left l d ∷ K)) ≡ run 200 us (Have e h (Left l d ∷ K))
+-- the run takes an operator and its right operand into the left one
+pub record Grows (ts : List Token) (l : Level) (d : ℕ) (a : Tree) (m : ℕ) (us : List Token) (e : Tree) (h : ℕ) : Type 0 where
+  pub comes : (K : List Frame) → run 200 ts (Have a m (Left l d ∷ K)) ≡ run 200 us (Have e h (Left l d ∷ K))
 
-abbrev pub Stunts : List Token → Level → ℕ → Tree → ℕ → TreeError → Type 0
-Stunts ts l d a m x = (K : List Frame) → EndsBy (run 200 ts (Have a m (Left l d ∷ K))) x
+-- the run ends so behind the left operand
+pub record Stunts (ts : List Token) (l : Level) (d : ℕ) (a : Tree) (m : ℕ) (x : TreeError) : Type 0 where
+  pub fails : (K : List Frame) → EndsBy (run 200 ts (Have a m (Left l d ∷ K))) x
 
--- the run takes a word, or a heading, of a production
-abbrev pub Takes : (Rest → Rest) → List Token → List Token → Type 0
-Takes f ts us = (r : Rest) (h d c : ℕ) (K : List Frame) → run 200 ts (Next (f r) h d c K) ≡ run 200 us (Next r h d c K)
+-- the run takes the words of a production
+pub record Takes (f : Rest → Rest) (ts us : List Token) : Type 0 where
+  pub comes : (r : Rest) (h d c : ℕ) (K : List Frame) → run 200 ts (Next (f r) h d c K) ≡ run 200 us (Next r h d c K)
 
-abbrev pub Misses : (Rest → Rest) → List Token → TreeError → Type 0
-Misses f ts x = (r : Rest) (h d c : ℕ) (K : List Frame) → EndsBy (run 200 ts (Next (f r) h d c K)) x
+-- the run ends so at the words of a production
+pub record Misses (f : Rest → Rest) (ts : List Token) (x : TreeError) : Type 0 where
+  pub fails : (r : Rest) (h d c : ℕ) (K : List Frame) → EndsBy (run 200 ts (Next (f r) h d c K)) x
 
--- the run takes a name of a production
-abbrev pub TakesName : List Token → List ℕ → ℕ → List Token → Type 0
-TakesName ts x p us = (f : List ℕ → ℕ → Rest) (h d c : ℕ) (K : List Frame) → run 200 ts (Next (name f) h d c K) ≡ run 200 us (Next (f x p) h d c K)
+-- the run takes the name of a production
+pub record TakesName (ts : List Token) (x : List ℕ) (p : ℕ) (us : List Token) : Type 0 where
+  pub comes : (f : List ℕ → ℕ → Rest) (h d c : ℕ) (K : List Frame) → run 200 ts (Next (name f) h d c K) ≡ run 200 us (Next (f x p) h d c K)
 
-abbrev pub MissesName : List Token → TreeError → Type 0
-MissesName ts x = (f : List ℕ → ℕ → Rest) (h d c : ℕ) (K : List Frame) → EndsBy (run 200 ts (Next (name f) h d c K)) x
+-- the run ends so at the name of a production
+pub record MissesName (ts : List Token) (x : TreeError) : Type 0 where
+  pub fails : (f : List ℕ → ℕ → Rest) (h d c : ℕ) (K : List Frame) → EndsBy (run 200 ts (Next (name f) h d c K)) x
 
 -- the run takes a definition, of some height
 abbrev pub Defines : List Token → List Token → Tree → Type 0

@@ -4,7 +4,7 @@ use Rattle.id_text.specs.declared.token.Token.{Token}
 use Rattle.id_tree.specs.declared.parser.Level.{Level}
 use Rattle.id_tree.specs.declared.tree.BinaryOp.{BinaryOp}
 use Rattle.id_tree.specs.Tree.{Tree}
-use Rattle.id_tree.specs.Grammar.{Phrase, Definition, Grouped, Unary, Rest, done, word, name, part, operand, operator_of, own_height, Derives, Follows, Program}
+use Rattle.id_tree.specs.Grammar.{Phrase, Definition, Grouped, Rest, done, word, name, part, operand, operator_of, own_height, Derives, Follows, Program}
 use Rattle.id_tree.specs.Machine.{Frame, Left, Right, Inside, State, Begin, Want, Have, Next, Finished}
 
 -- the tokens begin a phrase, of which this is left, and its parts so far have this greatest height

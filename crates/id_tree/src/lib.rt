@@ -1,8 +1,9 @@
 //! The tree of a program, and the parser that reads it off the tokens.
 //!
-//! Keeps: nothing beyond its values.
+//! Keeps: nothing beyond its values; that the places of a program differ is a clause of `parse`.
 //! Errors: `TreeError`, the refusals 5 and 6 or want of memory.
-//! Read first: `tree`, docs/LANGUAGE.md ("Grammar", "Nesting", "Place").
+//! Read first: docs/LANGUAGE.md ("Grammar", "Nesting", "Place"), `specs/Grammar.antt`,
+//! `specs/Accepted.antt`, then `parse`.
 //! Not here: tokens (`id_text`), names and kinds (`id_check`).
 #![tactic(auto)]
 

@@ -42,8 +42,8 @@ pub enum Level {
 
 /// The program of these tokens.
 ///
-/// `Unexpected` and `TooDeep` are at the first token after which no accepted list goes on
-/// (docs/LANGUAGE.md, "Nesting").
+/// `Unexpected` and `TooDeep` are at the start of the first token with which no accepted list goes
+/// on, and `Memory` comes where a growth was refused (docs/LANGUAGE.md, "Nesting").
 pub fn parse(alloc: Global, tokens: &[Token]) -> Result<Program, TreeError>
     requires ends { EndsOnce tokens.now }
     requires rises { Rises tokens.now }

@@ -135,16 +135,50 @@ fn nesting_ends_at_200(rt: HostRuntime) -> Result<(), Fail> {
     Ok(())
 }
 
-#[test]
-fn refuses_at_the_first_token_that_cannot_follow(rt: HostRuntime) -> Result<(), Fail> {
-    let alloc = rt.alloc();
+/// `def main():`, a CR and a blank, `int =`, an LF and a tab, `1 +;`.
+fn cut_sum(alloc: Global) -> Result<Vec<Token>, AllocError> {
     let mut tokens = heading(alloc, 13, 17)?;
     put(&mut tokens, TokenKind::Number(1), 20, 1)?;
     put(&mut tokens, TokenKind::Sign(Symbol::Plus), 22, 1)?;
     finish(&mut tokens, 23)?;
-    assert_eq!(rt;
-        refusal(&rt, alloc, tokens),
-        Some(TreeError::Unexpected { at: 23 })
-    );
+    Ok(tokens)
+}
+
+/// `~1; def`
+fn second_def(alloc: Global) -> Result<Vec<Token>, AllocError> {
+    let mut tokens = heading(alloc, 12, 16)?;
+    put(&mut tokens, TokenKind::Number(1), 18, 1)?;
+    put(&mut tokens, TokenKind::Sign(Symbol::Semicolon), 19, 1)?;
+    put(&mut tokens, TokenKind::Key(Keyword::Def), 21, 3)?;
+    put(&mut tokens, TokenKind::End, 24, 0)?;
+    Ok(tokens)
+}
+
+/// Nothing.
+fn nothing(alloc: Global) -> Result<Vec<Token>, AllocError> {
+    let mut tokens = Vec::new(alloc);
+    put(&mut tokens, TokenKind::End, 0, 0)?;
+    Ok(tokens)
+}
+
+#[test]
+fn refuses_at_the_first_token_that_cannot_follow(rt: HostRuntime) -> Result<(), Fail> {
+    let alloc = rt.alloc();
+    let rows = [
+        (
+            cut_sum(alloc)?,
+            Some(TreeError::Unexpected { at: 23 }),
+            "no operand, at 2:5",
+        ),
+        (
+            second_def(alloc)?,
+            Some(TreeError::Unexpected { at: 21 }),
+            "a second definition",
+        ),
+        (nothing(alloc)?, None, "no definition"),
+    ];
+    for (tokens, wanted, why) in rows {
+        assert_eq!(rt; refusal(&rt, alloc, tokens), wanted, "{why}");
+    }
     Ok(())
 }

@@ -1,5 +1,5 @@
 -- Each call goes one expression deeper, or to a reader of a lower rank at the same depth.
-use Rattle.std.proofs.Common.{◌≡◌, ◌+◌, ◌<◌, ◌≤◌, ◌-◌, ◌*◌, ℕ, length}
+use Rattle.std.proofs.Common.{◌+◌, ◌-◌, ◌*◌, ℕ, length}
 use Rattle.id_tree.specs.declared.parser.Level.{Level}
 use Rattle.id_tree.specs.declared.parser.Level.TheVariants.{Sum, Product}
 use Rattle.id_tree.specs.Readers.{IsRead}

@@ -2,7 +2,7 @@
 use Rattle.std.proofs.Common.{◌≡◌}
 use Rattle.std.proofs.lemmas.Result.{IfOk-weaker, IfErr-weaker, MatchResult-weaker, MatchResult-from_both}
 use Rattle.id_tree.specs.Tree.{program_tree}
-use Rattle.id_tree.specs.Accepted.{Accepts, RefusedBy, IsMemory}
+use Rattle.id_tree.specs.Accepted.{Accepts, RefusedBy}
 use Rattle.id_tree.specs.Distinct.{Distinct}
 use Rattle.id_tree.specs.Machine.{run, Begin, Accepted}
 use Rattle.id_tree.specs.Readers.{EndsBy}

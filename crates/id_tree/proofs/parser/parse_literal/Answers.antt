@@ -1,11 +1,13 @@
-use Rattle.std.proofs.Common.{refl, ap, ◌∙◌}
-use Rattle.id_tree.specs.Grammar.{Unary}
+-- A number is a whole production, and no other token that gets here begins an operand.
+use Rattle.std.proofs.Common.{refl, ap, ◌∙◌, arith}
 use Rattle.id_tree.specs.Readers.{first_kind}
-use Rattle.id_tree.proofs.ReaderLemmas.{Literal-leads, Unary-fails, Leads-at, unopened, first_of}
+use Rattle.id_tree.proofs.ReaderLemmas.{Leads-at, Leads-done, At-opens, opens_number, Unary-fails, unopened}
 use Rattle.id_tree.proofs.parser.parse_literal.Goals as goal
 
 pub returns-in-Number-clause-ok : goal.returns-in-Number-clause-ok
-returns-in-Number-clause-ok c = Leads-at c.args.tokens.now c.split.result.1.now Unary c.args.depth c.literal.ensures.tree c.literal.ensures.height (Literal-leads c.split.ensures.whole c.in-Number.value c.args.depth c.in-Number.is c.requires.room)
+returns-in-Number-clause-ok c =
+    Leads-at c.literal.ensures.tree (omega (arith, c.literal.ensures.height))
+    (Leads-done (At-opens c.split.ensures.whole (opens_number c.in-Number.value c.in-Number.is) c.args.depth (omega (arith, c.requires.room))))
 
 pub returns-in-Name-clause-err : goal.returns-in-Name-clause-err
 returns-in-Name-clause-err c = Unary-fails c.split.ensures.whole c.args.depth c.unexpected.result c.unexpected.ensures (rw c.in-Name.is refl)

@@ -1,4 +1,5 @@
-use Rattle.std.proofs.Common.{◌≡◌, sym, ap, ◌∙◌, refl, rules, [], ◌∷◌, ◌++◌}
+-- Behind nothing or one definition the machine takes the end alone.
+use Rattle.std.proofs.Common.{◌≡◌, sym, ap, ◌∙◌, rules, [], ◌∷◌, ◌++◌}
 use Rattle.std.proofs.lemmas.Result.{err_from_is_err_and}
 use Rattle.id_text.specs.declared.token.TokenKind.TheVariants.{Key}
 use Rattle.id_text.specs.declared.token.Keyword.TheVariants.{Def}

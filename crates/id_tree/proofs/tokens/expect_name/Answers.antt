@@ -1,3 +1,4 @@
+-- The machine takes a name, and no other token.
 use Rattle.std.proofs.Common.{◌≡◌, ◌∙◌, ap, sym, refl}
 use Rattle.id_text.specs.declared.token.TokenKind.TheVariants.{Name}
 use Rattle.id_tree.proofs.ReaderLemmas.{TakesName-one, MissesName-one}

@@ -1,3 +1,4 @@
+-- The machine takes the sign that is wanted, and no other token.
 use Rattle.std.proofs.Common.{◌≡◌, rules}
 use Rattle.id_text.specs.declared.token.TokenKind.TheVariants.{Sign}
 use Rattle.id_tree.specs.Grammar.{the_sign}
