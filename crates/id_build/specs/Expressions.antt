@@ -1,4 +1,4 @@
--- The lists that an expression adds to a draft (docs/GRAPH.md, "Expressions").
+-- The lists that an expression adds to a draft (docs/GRAPH.md, "Schemas").
 use Rattle.std.specs.Prelude.{ℕ, ◌+◌, List, [], ◌∷◌, ◌++◌, length}
 use Rattle.id_build.specs.Roles.{binary_op, constant_of, unary_op}
 use Rattle.id_build.specs.declared.draft.Piece.{Piece}

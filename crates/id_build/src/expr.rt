@@ -1,4 +1,4 @@
-//! The instructions of an expression (docs/GRAPH.md, "Expressions").
+//! The instructions of an expression (docs/GRAPH.md, "Schemas").
 
 ghost use Rattle.std.specs.Prelude.{◌≡◌, ◌<◌, ◌≤◌, ◌+◌, [], ◌∷◌, ◌++◌, length, IfOk, IfErr, OnOk};
 ghost use Rattle.id_build.specs.Expressions.{pieces_of, source_of, wires_of};
