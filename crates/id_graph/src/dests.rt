@@ -1,6 +1,6 @@
 //! Destinations, and the short lists that an instruction keeps of them.
 
-ghost use Rattle.std.specs.Prelude.{◌≡◌, [], ◌∷◌, ◌++◌, length, OnOk, OnErr};
+ghost use Rattle.std.specs.Prelude.{◌≡◌, [], ◌∷◌, ◌++◌, OnOk, OnErr};
 
 use smallvec::SmallVec;
 use std::alloc::{AllocError, Global};

@@ -83,7 +83,8 @@ impl Op {
         }
     }
 
-    /// The kind of what the operator sends to its destinations, if it sends anything there. Takes no memory.
+    /// The kind of what the operator sends to its destinations, if it sends anything there.
+    /// Takes no memory.
     pub fn sends(self) -> Option<PortKind>
         ensures { result ≡ sends self }
     {

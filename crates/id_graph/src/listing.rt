@@ -34,7 +34,8 @@ fn write_line(
     instr: &Instr,
 ) -> Result<(), AllocError>
     requires { instr.now.place ≤ length lines.now }
-    ensures { OnOk result (string_bytes out.new ≡ string_bytes out.old ++ line_text lines.now number instr.now) }
+    ensures { OnOk result
+        (string_bytes out.new ≡ string_bytes out.old ++ line_text lines.now number instr.now) }
 {
     write_head(out, lines, number, instr)?;
     out.push_str(" ->")?;
@@ -52,7 +53,8 @@ fn write_head(
     instr: &Instr,
 ) -> Result<(), AllocError>
     requires { instr.now.place ≤ length lines.now }
-    ensures { OnOk result (string_bytes out.new ≡ string_bytes out.old ++ head_text lines.now number instr.now) }
+    ensures { OnOk result
+        (string_bytes out.new ≡ string_bytes out.old ++ head_text lines.now number instr.now) }
 {
     write!(out, "{number} ")?;
     write_op(out, instr.op)?;
@@ -63,7 +65,8 @@ fn write_head(
 /// Appends a place after a space and `@`.
 fn write_place(out: &mut String, lines: &Lines<'_>, place: usize) -> Result<(), AllocError>
     requires { place ≤ length lines.now }
-    ensures { OnOk result (string_bytes out.new ≡ string_bytes out.old ++ place_text lines.now place) }
+    ensures { OnOk result
+        (string_bytes out.new ≡ string_bytes out.old ++ place_text lines.now place) }
 {
     let (line, column) = lines.line_col(place);
     write!(out, " @{line}:{column}")
@@ -84,7 +87,8 @@ fn write_op(out: &mut String, op: Op) -> Result<(), AllocError>
 
 /// Appends a `const` with its constant.
 fn write_const(out: &mut String, constant: Constant) -> Result<(), AllocError>
-    ensures { OnOk result (string_bytes out.new ≡ string_bytes out.old ++ codes "const " ++ constant_text constant) }
+    ensures { OnOk result
+        (string_bytes out.new ≡ string_bytes out.old ++ codes "const " ++ constant_text constant) }
 {
     match constant {
         Constant::Int(number) => write!(out, "const {number}"),
@@ -133,7 +137,8 @@ fn put_in_order(row: &mut Vec<Dest>, dests: &[Dest]) -> Result<(), AllocError>
 
 /// Appends destinations, each after a space.
 fn write_dests(out: &mut String, dests: &[Dest]) -> Result<(), AllocError>
-    ensures { OnOk result (string_bytes out.new ≡ string_bytes out.old ++ flat_map dest_text dests.now) }
+    ensures { OnOk result
+        (string_bytes out.new ≡ string_bytes out.old ++ flat_map dest_text dests.now) }
 {
     for dest in dests {
         write!(out, " {}.{}", dest.instr, port_number(dest.port))?;

@@ -1,13 +1,14 @@
-//! Numbers past the end of a graph that a block names: the instructions that it asks for are not there.
+//! Numbers past the end of a graph that a block names: what it asks for is not there.
 
-ghost use Rattle.std.specs.Prelude.{◌≡◌, ℕ, ◌+◌, ◌||◌, ◌==◌, Bool, length};
+ghost use Rattle.std.specs.Prelude.{ℕ, ◌+◌, ◌||◌, ◌==◌, Bool, length};
 ghost use Rattle.std.specs.List.{list_any};
 ghost use Rattle.id_valid.specs.Roles.{is_entry, is_first, is_second};
 ghost use Rattle.id_valid.specs.Past.{has_role, FirstPast, Least};
 
 use id_graph::Graph;
 
-/// The first faulty instruction past the end, if there is one. There instruction 0 is faulty, and those with a role.
+/// The first faulty instruction past the end, if there is one. There instruction 0 is faulty, and
+/// those with a role.
 pub fn first_past(graph: &Graph) -> Option<u64>
     ensures { FirstPast graph.now result }
 {
@@ -18,7 +19,8 @@ pub fn first_past(graph: &Graph) -> Option<u64>
     }
 }
 
-/// The least number past the end that is the first or second instruction of a block or an entry, if there is one.
+/// The least number past the end that is the first or second instruction of a block or an entry,
+/// if there is one.
 fn least_past(graph: &Graph) -> Option<u64>
     ensures { Least (has_role graph.now) (length graph.now.instrs) result }
 {
@@ -73,7 +75,8 @@ fn least_of(numbers: &[u32], end: u64) -> Option<u64>
 
 /// The least so far, or the number if it is past the end and less.
 fn lower(least: Option<u64>, end: u64, number: u64) -> Option<u64>
-    ensures { (test : ℕ → Bool) → Least test end least → Least (λ k. test k || (number == k)) end result }
+    ensures { (test : ℕ → Bool) → Least test end least →
+        Least (λ k. test k || (number == k)) end result }
 {
     if number < end {
         least
@@ -84,7 +87,8 @@ fn lower(least: Option<u64>, end: u64, number: u64) -> Option<u64>
 
 /// The lesser of two numbers, of those that there are.
 fn earlier(a: Option<u64>, b: Option<u64>) -> Option<u64>
-    ensures { (p q : ℕ → Bool) (end : ℕ) → Least p end a → Least q end b → Least (λ k. p k || q k) end result }
+    ensures { (p q : ℕ → Bool) (end : ℕ) → Least p end a → Least q end b →
+        Least (λ k. p k || q k) end result }
 {
     match (a, b) {
         (Some(m), Some(n)) => Some(m.min(n)),

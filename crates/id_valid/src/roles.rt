@@ -1,8 +1,8 @@
 //! What blocks make of the instructions of a graph (docs/GRAPH.md, "Validator").
 
-ghost use Rattle.std.specs.Prelude.{◌≡◌, ◌∷◌, [], filter, take, option_to_list, option_map, MatchOption, option_copied, IsSome, option_and_then};
+ghost use Rattle.std.specs.Prelude.{◌≡◌, MatchOption};
 ghost use Rattle.id_graph.specs.declared.instr.Block.{Block};
-ghost use Rattle.id_valid.specs.Roles.{back_kind, merge_kind, op_at, result_kind, same_place, has_main_place, IsMain};
+ghost use Rattle.id_valid.specs.Roles.{back_kind, merge_kind, op_at, result_kind, has_main_place, IsMain};
 
 use id_graph::{Block, Graph, Instr, Op, PortKind};
 
@@ -51,9 +51,11 @@ pub fn has_main_place(graph: &Graph, block: &Block) -> bool
     }
 }
 
-/// The one block whose first instruction has the place of instruction 0, unless none has it or several have it.
+/// The one block whose first instruction has the place of instruction 0, unless none has it or
+/// several have it.
 pub fn main_block(graph: &Graph) -> Option<&Block>
-    ensures { MatchOption result ((b : Block) → ¬ IsMain graph.now b) (λ b. IsMain graph.now b.now) }
+    ensures { MatchOption result
+        ((b : Block) → ¬ IsMain graph.now b) (λ b. IsMain graph.now b.now) }
 {
     let mut found = None;
     for block in graph.blocks() {

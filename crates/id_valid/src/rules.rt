@@ -1,6 +1,6 @@
 //! The rules of the validator, a function for each (docs/GRAPH.md, "Validator").
 
-ghost use Rattle.std.specs.Prelude.{◌≡◌, ◌<◌, ◌↔◌, length, Some, All, IsTrue, IsSome, slice_get};
+ghost use Rattle.std.specs.Prelude.{◌≡◌, ◌<◌, ◌↔◌, length, Some, All, IsTrue, IsSome};
 ghost use Rattle.id_graph.specs.Graph.{arcs};
 ghost use Rattle.id_graph.specs.Ports.{port_kind};
 ghost use Rattle.id_valid.specs.Roles.{needs_no_arc, op_at};
@@ -89,7 +89,8 @@ fn are_fed(survey: &Survey<'_>, number: usize, op: Op) -> bool
     is_fed(survey, number, op, Port::Zero) && is_fed(survey, number, op, Port::One)
 }
 
-/// Whether the port, if the operator has it, is fed by an arc or needs none, and by several only at a merge.
+/// Whether the port, if the operator has it, is fed by an arc or needs none, and by several only
+/// at a merge.
 fn is_fed(survey: &Survey<'_>, number: usize, op: Op, port: Port) -> bool
     requires { number < length survey.now.instrs }
     ensures { IsTrue result ↔ (IsSome (port_kind op port) → IsFed survey.now number op port) }

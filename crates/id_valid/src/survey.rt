@@ -1,6 +1,6 @@
 //! One pass over a graph: the roles of each instruction, and how many arcs feed each port.
 
-ghost use Rattle.std.specs.Prelude.{◌≡◌, ℕ, ◌<◌, ◌==◌, length, min, All, IfOk, cond, count_by};
+ghost use Rattle.std.specs.Prelude.{◌≡◌, ◌<◌, ◌==◌, length, min, All, IfOk, cond, count_by};
 ghost use Rattle.std.specs.List.{list_any};
 ghost use Rattle.id_valid.specs.Roles.{arcs_into, is_dest, is_entry, is_first, is_second};
 ghost use Rattle.id_valid.specs.Survey.{Adds, Counts, Marks, Notes};
@@ -135,7 +135,8 @@ fn mark(marks: &mut [bool], number: u32)
 
 /// For each instruction, how many arcs feed this port of it, where 2 stands for any more.
 fn arcs_into(alloc: Global, graph: &Graph, port: Port) -> Result<Vec<u8>, AllocError>
-    ensures { IfOk result (λ v. Counts (λ n. arcs_into graph.now n port) (length graph.now.instrs) v.items) }
+    ensures { IfOk result
+        (λ v. Counts (λ n. arcs_into graph.now n port) (length graph.now.instrs) v.items) }
 {
     let instrs = graph.instrs();
     let mut counts = vec![in alloc; 0; instrs.len()]?;

@@ -88,7 +88,8 @@ impl Valid {
         &self.graph
     }
 
-    /// The block of main: the one whose first instruction has the place of instruction 0. Takes no memory.
+    /// The block of main: the one whose first instruction has the place of instruction 0.
+    /// Takes no memory.
     pub fn main_block(&self) -> &Block
         ensures main { IsMain self.now result.now }
         ensures kept { IsMainBlock self.now result.now }
