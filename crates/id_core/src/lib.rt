@@ -23,3 +23,6 @@ pub use history::{Event, Events};
 pub use machine::{MAX_ELEMENTS, Machine, MachineError};
 pub use observe::Observed;
 pub use step::{Fault, Step, TakeError};
+
+#[cfg(test)]
+mod tests;

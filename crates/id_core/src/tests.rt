@@ -1,0 +1,189 @@
+//! Runs of two graphs made by hand: those of `def main(): int = 7;` and `def main(): int = 1 + 2;`.
+
+ghost use Rattle.std.specs.Prelude.{◌≡◌};
+
+use crate::machine::main_tag;
+use crate::{Element, Machine, MachineError, Step, TakeError, fits};
+use id_graph::{Arithmetic, Block, Constant, Dest, Dests, Graph, Instr, Op, Port, PortKind};
+use id_meaning::SourceValue;
+use id_tag::{Message, Payload, Sender, Value, route};
+use id_text::Sequence;
+use id_valid::{Valid, validate};
+use std::alloc::{AllocError, Global};
+use std::process::Abort;
+use std::test::Fail;
+
+fn instr(alloc: Global, op: Op, arcs: &[(u32, Port)], place: usize) -> Result<Instr, AllocError> {
+    let mut dests = Dests::new(alloc);
+    for (instr, port) in arcs {
+        dests.push(Dest {
+            instr: *instr,
+            port: *port,
+        })?;
+    }
+    Ok(Instr {
+        op,
+        dests,
+        others: Dests::new(alloc),
+        place,
+    })
+}
+
+/// The first three instructions of such a graph, with what the trigger feeds.
+fn start(alloc: Global, trigger: &[(u32, Port)]) -> Result<Vec<Instr>, AllocError> {
+    let mut list = Vec::new(alloc);
+    list.push(instr(alloc, Op::Merge(PortKind::Int), &[], 4)?)?;
+    list.push(instr(alloc, Op::Merge(PortKind::Signal), trigger, 4)?)?;
+    list.push(instr(alloc, Op::Back(PortKind::Int), &[], 4)?)?;
+    Ok(list)
+}
+
+fn valid(rt: &impl Abort, alloc: Global, instrs: Vec<Instr>) -> Result<Valid, Fail> {
+    let mut blocks = Vec::new(alloc);
+    blocks.push(Block {
+        first: 1,
+        entries: Sequence::new(Vec::new(alloc)),
+    })?;
+    assert!(rt; instrs.len() < 100);
+    Ok(validate(alloc, Graph::new(blocks, instrs)?)?)
+}
+
+fn seven(rt: &impl Abort, alloc: Global) -> Result<Valid, Fail> {
+    let mut list = start(alloc, &[(3, Port::Zero)])?;
+    let seven = Op::Const(Constant::Int(7));
+    list.push(instr(alloc, seven, &[(2, Port::One)], 18)?)?;
+    valid(rt, alloc, list)
+}
+
+fn sum(rt: &impl Abort, alloc: Global) -> Result<Valid, Fail> {
+    let mut list = start(alloc, &[(3, Port::Zero), (4, Port::Zero)])?;
+    let one = Op::Const(Constant::Int(1));
+    let two = Op::Const(Constant::Int(2));
+    list.push(instr(alloc, one, &[(5, Port::Zero)], 18)?)?;
+    list.push(instr(alloc, two, &[(5, Port::One)], 22)?)?;
+    list.push(instr(alloc, Op::Binary(Arithmetic::Add), &[(2, Port::One)], 20)?)?;
+    valid(rt, alloc, list)
+}
+
+/// Delivers the first message. Where memory is wanted, nothing has changed, and the same call is made again.
+fn deliver_first(rt: &impl Abort, machine: &mut Machine<'_>) -> Result<Step, TakeError> {
+    let left = machine.in_flight().len();
+    assert!(rt; left > 0);
+    match machine.deliver(0) {
+        Err(TakeError::Memory) => {
+            let after = machine.in_flight().len();
+            assert_eq!(rt; after, left);
+            assert!(rt; after > 0);
+            machine.deliver(0)
+        }
+        answer => answer,
+    }
+}
+
+#[test]
+fn seven_takes_five_events(rt: HostRuntime) -> Result<(), Fail> {
+    let graph = seven(&rt, rt.alloc())?;
+    let mut machine = Machine::new(rt.alloc(), &graph, 1)?;
+    for _ in 0..5 {
+        assert_eq!(rt; deliver_first(&rt, &mut machine)?, Step::Went);
+    }
+    let wanted = [
+        (1, Port::Zero, Value::Signal),
+        (2, Port::Zero, Value::Continuation(main_tag(0))),
+        (3, Port::Zero, Value::Signal),
+        (2, Port::One, Value::Int(7)),
+        (0, Port::Zero, Value::Int(7)),
+    ];
+    assert!(rt; machine.is_quiet());
+    let elements = machine.elements();
+    assert_eq!(rt; elements.len(), 1);
+    let events = elements[0].events();
+    assert_eq!(rt; events.len(), 5);
+    for (position, (instr, port, value)) in wanted.iter().enumerate() {
+        let event = events.event(position);
+        let tag = main_tag(*instr);
+        let payload = Payload::Token {
+            tag,
+            port: *port,
+            value: *value,
+        };
+        assert_eq!(rt; event.message.payload, payload, "event {position}");
+        assert_eq!(rt; event.stamp, position as u64 + 1, "event {position}");
+        assert_eq!(rt; event.element, 0, "event {position}");
+        assert_eq!(rt; event.step, Step::Went, "event {position}");
+    }
+    let shown = machine.observe(rt.alloc())?;
+    assert_eq!(rt; shown.answer, Some(SourceValue::Int(7)));
+    assert!(rt; shown.faults.is_empty());
+    Ok(())
+}
+
+#[test]
+fn the_count_is_from_1_to_64(rt: HostRuntime) -> Result<(), Fail> {
+    let graph = sum(&rt, rt.alloc())?;
+    for count in [0, 65] {
+        let answer = Machine::new(rt.alloc(), &graph, count);
+        assert_eq!(rt; answer.err(), Some(MachineError::BadElements), "{count}");
+    }
+    for count in [1, 4, 64] {
+        let mut machine = Machine::new(rt.alloc(), &graph, count)?;
+        for _ in 0..100 {
+            if machine.in_flight().is_empty() {
+                break;
+            }
+            deliver_first(&rt, &mut machine)?;
+        }
+        assert!(rt; machine.is_quiet(), "{count}");
+        let answer = machine.observe(rt.alloc())?.answer;
+        assert_eq!(rt; answer, Some(SourceValue::Int(3)), "{count}");
+    }
+    Ok(())
+}
+
+fn token(instr: u32, value: Value, stamp: u64) -> Message {
+    Message {
+        payload: Payload::Token {
+            tag: main_tag(instr),
+            port: Port::Zero,
+            value,
+        },
+        sender: Sender::Start,
+        position: 0,
+        output: 0,
+        stamp,
+    }
+}
+
+/// Gives a fresh element the messages, one after another, and answers how many events it has then.
+fn events_of(
+    rt: &impl Abort,
+    alloc: Global,
+    graph: &Valid,
+    given: &[(Message, Result<Step, TakeError>)],
+) -> Result<usize, Fail> {
+    let mut element = Element::new(alloc, 0, 1, graph);
+    let mut outputs = Vec::new(alloc);
+    for (message, wanted) in given {
+        assert!(rt; fits(graph, message));
+        assert_eq!(rt; route(message, 1), 0);
+        assert_eq!(rt; element.take(*message, &mut outputs), *wanted);
+    }
+    Ok(element.events().len())
+}
+
+#[test]
+fn an_element_takes_each_message(rt: HostRuntime) -> Result<(), Fail> {
+    let graph = sum(&rt, rt.alloc())?;
+    let one = token(5, Value::Int(1), 0);
+    let last = token(1, Value::Signal, u64::MAX);
+    let next_to_last = token(1, Value::Signal, u64::MAX - 1);
+    let went = Ok(Step::Went);
+    let ended = Err(TakeError::StampEnd);
+    let twice = [(one, went), (one, Ok(Step::Stuck))];
+    assert_eq!(rt; events_of(&rt, rt.alloc(), &graph, twice.as_slice())?, 2);
+    assert_eq!(rt; events_of(&rt, rt.alloc(), &graph, [(last, ended)].as_slice())?, 0);
+    let spent = [(next_to_last, went), (one, ended)];
+    assert_eq!(rt; events_of(&rt, rt.alloc(), &graph, spent.as_slice())?, 1);
+    assert!(rt; !fits(&graph, &token(2, Value::Int(1), 0)), "2.0 takes a continuation");
+    Ok(())
+}
