@@ -27,7 +27,7 @@ use Rattle.id_core.specs.Observed.{events_of}
 use Rattle.id_meaning.specs.Parts.{Among, Distinct}
 use Rattle.id_build.specs.Roles.{Role}
 use Rattle.id_build.specs.Schemas.{Numbered}
-use Rattle.id_laws.specs.Laws.{IsFree, events, messages, is_for}
+use Rattle.id_laws.specs.Laws.{IsNeverStuck, events, messages, is_for}
 use Rattle.id_laws.proofs.Arrivals.{Arrival, Happening, happening, token_of, token_of-happening, step_by}
 use Rattle.id_laws.proofs.Reached.{Reach, begin, deliver, handled, flying}
 use Rattle.id_laws.proofs.Counts.{count_at, count_append, hit, hit_itself, hit_is, at_most_one}
@@ -143,5 +143,5 @@ module _ (P : Checked) (distinct : Distinct P) (g : Parts) (number : Role â†’ â„
       )
 
   -- no event is `Stuck`, and no port has got two tokens under one tag
-  pub free_at : IsFree s
+  pub free_at : IsNeverStuck s
   free_at = record { goes_on = never_stuck; one_token = one_token }

@@ -54,28 +54,28 @@ pub record IsSound (P : Checked) (g : Parts) (number : Role → ℕ) (s : World)
   pub values : (r : Region) (e : ℕ) (n : Node) (v : EventView) (m : Message) → Part P r e n → Among v (events s)
       → (tag_of v.message.payload).instr ≡ number (Of r e) → Among m v.outputs → Carries P e m
 
--- no event is `Stuck`, and each port has got at most one token under each tag
-pub record IsFree (s : World) : Type 0 where
+-- in this state no event was `Stuck`, and each port has got at most one token under each tag
+pub record IsNeverStuck (s : World) : Type 0 where
   pub goes_on : (v : EventView) → Among v (events s) → v.step ≢ Stuck
   pub one_token : (t : Tag) (p : Port) → count_by (is_for t p) (messages s) ≤ 1
 
--- a quiet machine's answer is exactly the source's, and the source has no fault
+-- the answer shown in this state is exactly the source's, and the source has no fault
 pub record IsComplete (P : Checked) (s : World) : Type 0 where
   pub answer : IsAnswer P (shown.answer s)
   pub no_fault : FaultFree P
 
--- whatever runs a schemas' graph of a program, in whatever order: what is shown is sound
+-- *Sound*: of each graph that the schemas give a program, with any number of elements, every list of deliveries shows facts and faults of the source alone
 abbrev pub Soundness : Type 0
 Soundness = (P : Checked) (g : Parts) (count : ℕ) (ks : List ℕ) → Distinct P → (schemas : Schemas P g) → IsSound P g schemas.number (run g count ks (start g count))
 
--- and no element is stuck
-abbrev pub Freedom : Type 0
-Freedom = (P : Checked) (g : Parts) (count : ℕ) (ks : List ℕ) → Distinct P → Schemas P g → IsFree (run g count ks (start g count))
+-- *Never stuck*: of each such graph, every list of deliveries leaves no element stuck
+abbrev pub NeverStuck : Type 0
+NeverStuck = (P : Checked) (g : Parts) (count : ℕ) (ks : List ℕ) → Distinct P → Schemas P g → IsNeverStuck (run g count ks (start g count))
 
--- and what is quiet has shown everything
-abbrev pub Completeness : Type 0
-Completeness = (P : Checked) (g : Parts) (count : ℕ) (ks : List ℕ) → Distinct P → Schemas P g → IsQuiet (run g count ks (start g count)) → IsComplete P (run g count ks (start g count))
+-- *Quiet is complete*: of each such graph, a list of deliveries after which the machine is quiet has shown everything
+abbrev pub QuietIsComplete : Type 0
+QuietIsComplete = (P : Checked) (g : Parts) (count : ℕ) (ks : List ℕ) → Distinct P → Schemas P g → IsQuiet (run g count ks (start g count)) → IsComplete P (run g count ks (start g count))
 
--- each source gives each path and place at most one value
+-- *Coherence*: each source gives each path and place at most one value
 abbrev pub Coherence : Type 0
 Coherence = (P : Checked) → Distinct P → IsCoherent P

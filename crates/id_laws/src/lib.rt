@@ -6,7 +6,7 @@
 //! Not here: the facts of a source (`id_meaning`), the graphs of the schemas (`id_build`), runs (`id_core`).
 #![tactic(auto)]
 
-ghost use Rattle.id_laws.specs.Laws.{Coherence, Completeness, Freedom, Soundness};
+ghost use Rattle.id_laws.specs.Laws.{Coherence, NeverStuck, QuietIsComplete, Soundness};
 
 /// *Sound*: what any run of a schemas' graph shows is of the source. The answer is the source's, each
 /// fault is one of the source, and each value that the instruction of an expression sends is one that
@@ -18,13 +18,13 @@ pub fn sound()
 /// *Never stuck*: no event of any run of a schemas' graph is `Stuck`, and no port gets two tokens under
 /// one tag (docs/MEANING.md, "Laws"). Takes no memory.
 pub fn never_stuck()
-    ensures { Freedom }
+    ensures { NeverStuck }
 {}
 
 /// *Quiet is complete*: a run of a schemas' graph that falls quiet shows exactly the source's answer,
 /// and the source has no fault (docs/MEANING.md, "Laws"). Takes no memory.
 pub fn complete()
-    ensures { Completeness }
+    ensures { QuietIsComplete }
 {}
 
 /// *Coherence*: a source gives each path and place at most one value (docs/MEANING.md, "Laws"). Takes
