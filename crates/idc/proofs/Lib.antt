@@ -1,1 +1,3 @@
 pub mod PlacesLemmas
+pub mod RunLemmas
+pub mod ShownLemmas

@@ -12,11 +12,11 @@ use Rattle.idc.specs.Programs.{IsProgramOf}
 -- what a run of a program shows, with this status
 pub data Shows (P : Checked) (text : List ℕ) : ℕ → List ℕ → Type 0 where
   -- a quiet run shows the answer that the source's equations give, and the source has no fault
-  quiet : {v : Option SourceValue} → IsAnswer P v → FaultFree P → Shows P text 0 (answer_text v)
+  quiet : (v : Option SourceValue) → IsAnswer P v → FaultFree P → Shows P text 0 (answer_text v)
   -- a run that stops at a fault shows a fault of the source
-  fault : {f : SourceFault} → Faulty P f → Shows P text 1 (fault_text text f)
+  fault : (f : SourceFault) → Faulty P f → Shows P text 1 (fault_text text f)
   -- a run that stops at its limit shows no answer but the source's
-  stopped : {v : Option SourceValue} → IfSome v (Answers P) → Shows P text 3 (stopped_text v)
+  stopped : (v : Option SourceValue) → IfSome v (Answers P) → Shows P text 3 (stopped_text v)
 
 -- what a run of the text's program shows, with this status, is printed with this result
 pub record HasShown (text : List ℕ) (old new : Option Told) (status : ℕ) (result : Result (Unit {0}) PrintError) : Type 0 where

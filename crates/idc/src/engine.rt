@@ -85,16 +85,25 @@ fn next_position(machine: &Machine<'_>, steps: u64) -> Option<usize>
     None
 }
 
+/// Whether a run goes on after an event that came to this.
+fn goes_on(step: Step) -> Result<bool, EngineError>
+    ensures { IfErr result (λ e. e ≢ EngineError.Write) }
+{
+    match step {
+        Step::Went => Ok(true),
+        Step::Fault(_) => Ok(false),
+        Step::Stuck => Err(EngineError::Stuck),
+    }
+}
+
 /// Delivers one message, and says whether to go on.
 fn deliver_one(machine: &mut Machine<'_>, position: usize) -> Result<bool, EngineError>
     requires { position < length machine.old.world.flight }
-    ensures run { OnOk result (IsRunOf machine.old machine.new) }
+    ensures run { IsRunOf machine.old machine.new }
     ensures not_write { IfErr result (λ e. e ≢ EngineError.Write) }
 {
     match machine.deliver(position) {
-        Ok(Step::Went) => Ok(true),
-        Ok(Step::Fault(_)) => Ok(false),
-        Ok(Step::Stuck) => Err(EngineError::Stuck),
+        Ok(step) => goes_on(step),
         Err(TakeError::StampEnd) => Ok(false),
         Err(TakeError::Memory) => Err(EngineError::Memory),
     }
@@ -104,7 +113,7 @@ fn deliver_one(machine: &mut Machine<'_>, position: usize) -> Result<bool, Engin
 /// for an element that has handled `steps` messages.
 fn run_machine(machine: &mut Machine<'_>, steps: u64) -> Result<(), EngineError>
     requires { steps ≤ MAX_STEPS }
-    ensures run { OnOk result (IsRunOf machine.old machine.new) }
+    ensures run { IsRunOf machine.old machine.new }
     ensures not_write { IfErr result (λ e. e ≢ EngineError.Write) }
 {
     for _ in 0..steps * u64::from(ELEMENTS) {

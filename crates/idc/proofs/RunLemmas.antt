@@ -1,0 +1,83 @@
+-- Lemmas on runs of machines, and on what their reports say (specs/Reports.antt).
+use Rattle.std.proofs.Common.{◌≡◌, ℕ, List, [], ◌∷◌, ◌++◌, Option, Some, None, inl, inr, refl, sym, ap, subst, ◌∙◌}
+use Rattle.std.specs.Prelude.{IfSome, slice_get}
+use Rattle.id_check.specs.declared.Checked.{Checked}
+use Rattle.id_graph.specs.Graph.{Parts}
+use Rattle.id_meaning.specs.declared.SourceValue.{SourceValue}
+use Rattle.id_meaning.specs.declared.SourceFault.{SourceFault}
+use Rattle.id_meaning.specs.Parts.{Distinct}
+use Rattle.id_meaning.specs.Rounds.{Answers, IsAnswer, Faulty, FaultFree}
+use Rattle.id_build.specs.Schemas.{Schemas}
+use Rattle.id_build.proofs.AmongLemmas.{Among-from_at}
+use Rattle.id_core.specs.Machines.{World, MachineView, IsQuiet, start, delivered, run}
+use Rattle.id_core.specs.Observed.{answer, faults}
+use Rattle.id_laws.specs.Laws.{Soundness, QuietIsComplete, IsSound, IsComplete}
+use Rattle.id_print.specs.declared.report.Ending.{Ending}
+use Rattle.id_print.specs.declared.report.Ending.TheVariants.{Quiet, Stopped, Fault}
+use Rattle.id_print.specs.declared.report.Report.{Report}
+use Rattle.id_print.specs.Endings.{EndsSo}
+use Rattle.idc.specs.Reports.{IsRunOf, IsTrueOf}
+
+-- a machine is a run of itself, by no delivery
+pub IsRunOf-none : (m : MachineView) → IsRunOf m m
+IsRunOf-none m = record { positions = []; same_graph = refl; same_count = refl; world = refl }
+
+-- an equal machine is one
+pub IsRunOf-same : (old new : MachineView) → new ≡ old → IsRunOf old new
+IsRunOf-same old new e = record { positions = []; same_graph = ap (λ m. m.graph) e; same_count = ap (λ m. m.count) e; world = ap (λ m. m.world) e }
+
+-- a delivery makes one
+pub IsRunOf-deliver : (old new : MachineView) (k : ℕ) → new ≡ record old { world = delivered old.graph old.count old.world k } → IsRunOf old new
+IsRunOf-deliver old new k e = record { positions = k ∷ []; same_graph = ap (λ m. m.graph) e; same_count = ap (λ m. m.count) e; world = ap (λ m. m.world) e }
+
+run-append : (g : Parts) (count : ℕ) (ks ls : List ℕ) (s : World) → run g count (ks ++ ls) s ≡ run g count ls (run g count ks s)
+run-append g count [] ls s = refl
+run-append g count (k ∷ ks) ls s = run-append g count ks ls (delivered g count s k)
+
+-- deliveries and then more of them
+pub IsRunOf-trans : (a b c : MachineView) → IsRunOf a b → IsRunOf b c → IsRunOf a c
+IsRunOf-trans a b c h k = record {
+  positions = h.positions ++ k.positions;
+  same_graph = k.same_graph ∙ h.same_graph;
+  same_count = k.same_count ∙ h.same_count;
+  world = k.world ∙ ap (λ g. run g b.count k.positions b.world) h.same_graph ∙ ap (λ n. run a.graph n k.positions b.world) h.same_count
+    ∙ ap (λ s. run a.graph a.count k.positions s) h.world ∙ sym (run-append a.graph a.count h.positions k.positions a.world);
+}
+
+-- a value that may be missing: what holds of it where it is there
+if_some : (P : Checked) (o : Option SourceValue) → ((v : SourceValue) → o ≡ Some v → Answers P v) → IfSome o (Answers P)
+if_some P None h = tt
+if_some P (Some v) h = h v refl
+
+-- what a report says is so where the state is sound, and complete if it is quiet
+true_in : (P : Checked) (g : Parts) (w : World) (r : Report) (e : Ending) → ((v : SourceValue) → answer w ≡ Some v → Answers P v)
+    → ((f : SourceFault) → slice_get (faults g w) 0 ≡ Some f → Faulty P f) → (IsQuiet w → IsComplete P w)
+    → r.answer ≡ answer w → EndsSo (record { graph = g; count = 0; world = w }) e → IsTrueOf P r e
+true_in P g w r Quiet says fails completes same ends =
+    let done : IsComplete P w = completes ends in
+    let Q : Option SourceValue → Type 0 = IsAnswer P in
+    (subst Q (sym same) done.answer, done.no_fault)
+true_in P g w r Stopped says fails completes same ends = if_some P r.answer (λ v h. says v (sym same ∙ h))
+true_in P g w r (Fault f) says fails completes same ends = fails f ends
+
+-- what a report of a run of a schemas' graph says is so
+pub IsTrueOf-laws : (P : Checked) (g : Parts) (count : ℕ) (m : MachineView) (r : Report) → Soundness → QuietIsComplete → Distinct P → Schemas P g
+    → IsRunOf (record { graph = g; count = count; world = start g count }) m → r.answer ≡ answer m.world → EndsSo m r.ending → IsTrueOf P r r.ending
+IsTrueOf-laws P g count m r sound complete distinct schemas h same ends =
+    let w : World = run g count h.positions (start g count) in
+    let is : m.world ≡ w = h.world in
+    let ok : IsSound P g schemas.number w = sound P g count h.positions distinct schemas in
+    let A : World → Type 0 = λ s. r.answer ≡ answer s in
+    let E : World → Type 0 = λ s. EndsSo (record { graph = g; count = 0; world = s }) r.ending in
+    let G : Parts → Type 0 = λ x. EndsSo (record { graph = x; count = 0; world = m.world }) r.ending in
+    true_in P g w r r.ending ok.answer (λ f k. ok.faults f (Among-from_at f (faults g w) 0 k)) (complete P g count h.positions distinct schemas)
+    (subst A is same) (subst E is (subst G h.same_graph (ends_at m 0 r.ending ends)))
+    where
+      ends_at : (m : MachineView) (n : ℕ) (e : Ending) → EndsSo m e → EndsSo (record { graph = m.graph; count = n; world = m.world }) e
+      ends_at m n Quiet h = h
+      ends_at m n Stopped h = h
+      ends_at m n (Fault f) h = h
+
+-- a run of a machine is one of an equal machine
+pub IsRunOf-from : (a b m : MachineView) → a ≡ b → IsRunOf a m → IsRunOf b m
+IsRunOf-from a b m e h = let Q : MachineView → Type 0 = λ x. IsRunOf x m in subst Q e h

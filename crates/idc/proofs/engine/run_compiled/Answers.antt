@@ -1,0 +1,7 @@
+use Rattle.idc.proofs.RunLemmas.{IsRunOf-from, IsTrueOf-laws}
+use Rattle.idc.proofs.engine.run_compiled.Goals as goal
+
+pub returns-clause-is_true : goal.returns-clause-is_true
+returns-clause-is_true c =
+    IsTrueOf-laws c.args.compiled.now.checked c.args.compiled.now.valid 1 c.run_machine.new.machine c.in_ok-report.report c.sound.ensures c.complete.ensures
+    c.requires.distinct c.requires.graph (IsRunOf-from _ _ _ c.in-Ok.ensures.ok c.run_machine.ensures.run) c.in_ok-report.ensures.answer c.in_ok-report.ensures.ending
