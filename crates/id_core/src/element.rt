@@ -50,6 +50,7 @@ impl<'a> Element<'a> {
     ghost use Rattle.id_core.specs.declared.step.TakeError.TheVariants.{StampEnd};
     ghost use Rattle.id_core.specs.Events.{AllWent};
     ghost use Rattle.id_core.specs.Fits.{Fits, IsFor};
+    ghost use Rattle.id_core.specs.Replays.{Replays};
     ghost use Rattle.id_core.specs.Steps.{fresh, is_ended, step_of, outputs_of, state_after};
 
     /// The element of this number, of so many, that has handled nothing. Takes no memory.
@@ -104,7 +105,9 @@ impl<'a> Element<'a> {
 
     /// The record: the events, in order. Takes no memory.
     pub fn events(&self) -> Events<'_>
-        ensures { result ≡ self.now.state.events }
+        ensures value { result ≡ self.now.state.events }
+        // The record leads to the element's state, by legal events.
+        ensures kept { Replays self.now }
     {
         self.desk.log.events()
     }

@@ -87,9 +87,10 @@ impl<'a> Model for Machine<'a> {
 }
 
 impl<'a> Machine<'a> {
-    ghost use Rattle.std.specs.Prelude.{◌≡◌, ◌<◌, ◌↔◌, ◌⊎◌, length, Some, None, option_map, IfOk, OnOk, OnErr, IsTrue};
+    ghost use Rattle.std.specs.Prelude.{◌≡◌, ◌<◌, ◌↔◌, ◌⊎◌, All, length, Some, None, option_map, IfOk, OnOk, OnErr, IsTrue};
     ghost use Rattle.id_core.specs.declared.machine.MachineError.TheVariants.{BadElements};
     ghost use Rattle.id_core.specs.declared.step.TakeError.TheVariants.{StampEnd};
+    ghost use Rattle.id_core.specs.Fits.{Fits};
     ghost use Rattle.id_core.specs.Observed.{answer, faults};
     ghost use Rattle.id_core.specs.Machines.{AreElements, IsQuiet, delivered, event_at, start, world_of};
 
@@ -147,7 +148,8 @@ impl<'a> Machine<'a> {
 
     /// The messages in flight, in the order in which they were sent. Takes no memory.
     pub fn in_flight(&self) -> Flight<'_>
-        ensures { result ≡ self.now.world.flight }
+        ensures value { result ≡ self.now.world.flight }
+        ensures fit { All (Fits self.now.graph) self.now.world.flight }
     {
         Flight::new(&self.flight)
     }

@@ -154,21 +154,43 @@ fn token(instr: u32, value: Value, stamp: u64) -> Message {
     }
 }
 
+/// Gives the element a message that is for it. Where memory is wanted, nothing has changed, and it is given again.
+fn give(
+    rt: &impl Abort,
+    graph: &Valid,
+    element: &mut Element<'_>,
+    message: Message,
+    outputs: &mut Vec<Message>,
+) -> Result<Step, TakeError>
+    requires number { element.old.number ≡ 0 }
+    requires count_is { element.old.count ≡ 1 }
+    requires graph { element.old.graph ≡ graph.now }
+    ensures number { element.new.number ≡ 0 }
+    ensures count_is { element.new.count ≡ 1 }
+    ensures graph { element.new.graph ≡ graph.now }
+{
+    assert!(rt; fits(graph, &message));
+    assert_eq!(rt; route(&message, 1), 0);
+    match element.take(message, outputs) {
+        Err(TakeError::Memory) => element.take(message, outputs),
+        answer => answer,
+    }
+}
+
 /// Gives a fresh element the messages, one after another, and answers how many events it has then.
 fn events_of(
     rt: &impl Abort,
     alloc: Global,
     graph: &Valid,
     given: &[(Message, Result<Step, TakeError>)],
-) -> Result<usize, Fail> {
+) -> usize {
     let mut element = Element::new(alloc, 0, 1, graph);
     let mut outputs = Vec::new(alloc);
     for (message, wanted) in given {
-        assert!(rt; fits(graph, message));
-        assert_eq!(rt; route(message, 1), 0);
-        assert_eq!(rt; element.take(*message, &mut outputs), *wanted);
+        let answer = give(rt, graph, &mut element, *message, &mut outputs);
+        assert_eq!(rt; answer, *wanted);
     }
-    Ok(element.events().len())
+    element.events().len()
 }
 
 #[test]
@@ -180,10 +202,16 @@ fn an_element_takes_each_message(rt: HostRuntime) -> Result<(), Fail> {
     let went = Ok(Step::Went);
     let ended = Err(TakeError::StampEnd);
     let twice = [(one, went), (one, Ok(Step::Stuck))];
-    assert_eq!(rt; events_of(&rt, rt.alloc(), &graph, twice.as_slice())?, 2);
-    assert_eq!(rt; events_of(&rt, rt.alloc(), &graph, [(last, ended)].as_slice())?, 0);
+    assert_eq!(rt; events_of(&rt, rt.alloc(), &graph, twice.as_slice()), 2);
+    assert_eq!(rt;
+        events_of(&rt, rt.alloc(), &graph, [(last, ended)].as_slice()),
+        0
+    );
     let spent = [(next_to_last, went), (one, ended)];
-    assert_eq!(rt; events_of(&rt, rt.alloc(), &graph, spent.as_slice())?, 1);
-    assert!(rt; !fits(&graph, &token(2, Value::Int(1), 0)), "2.0 takes a continuation");
+    assert_eq!(rt; events_of(&rt, rt.alloc(), &graph, spent.as_slice()), 1);
+    assert!(rt;
+        !fits(&graph, &token(2, Value::Int(1), 0)),
+        "2.0 takes a continuation"
+    );
     Ok(())
 }

@@ -10,4 +10,4 @@ loop-element-preserved c =
     let es = c.args.elements.now in
     let at : slice_get es c.loop-element.element-index ≡ Some c.element-item.result = slice_get_read es _ _ _ refl c.loop-element-test.true c.element-item.is in
     let next = faults-next c.args.graph.now es c.loop-element.element-index c.element-item.result at in
-    rw (c.in_ok-add_faults.ensures, c.loop-element.invariant, c.events.ensures, next)
+    rw (c.in_ok-add_faults.ensures, c.loop-element.invariant, c.events.ensures.value, next)
