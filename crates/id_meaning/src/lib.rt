@@ -32,7 +32,10 @@ pub enum SourceValue {
 #[derive(Debug, Drop)]
 pub enum Fact {
     /// The expression at the place is evaluated at the path.
-    On { path: Path, place: usize },
+    On {
+        path: Path,
+        place: usize,
+    },
     /// The expression or binder at the place has the value at the path.
     Has {
         path: Path,

@@ -41,7 +41,7 @@ IsRunOf-trans a b c h k = record {
   same_graph = k.same_graph ∙ h.same_graph;
   same_count = k.same_count ∙ h.same_count;
   world = k.world ∙ ap (λ g. run g b.count k.positions b.world) h.same_graph ∙ ap (λ n. run a.graph n k.positions b.world) h.same_count
-    ∙ ap (λ s. run a.graph a.count k.positions s) h.world ∙ sym (run-append a.graph a.count h.positions k.positions a.world);
+      ∙ ap (λ s. run a.graph a.count k.positions s) h.world ∙ sym (run-append a.graph a.count h.positions k.positions a.world);
 }
 
 -- a value that may be missing: what holds of it where it is there
@@ -72,11 +72,11 @@ IsTrueOf-laws P g count m r sound complete distinct schemas h same ends =
     let G : Parts → Type 0 = λ x. EndsSo (record { graph = x; count = 0; world = m.world }) r.ending in
     true_in P g w r r.ending ok.answer (λ f k. ok.faults f (Among-from_at f (faults g w) 0 k)) (complete P g count h.positions distinct schemas)
     (subst A is same) (subst E is (subst G h.same_graph (ends_at m 0 r.ending ends)))
-    where
-      ends_at : (m : MachineView) (n : ℕ) (e : Ending) → EndsSo m e → EndsSo (record { graph = m.graph; count = n; world = m.world }) e
-      ends_at m n Quiet h = h
-      ends_at m n Stopped h = h
-      ends_at m n (Fault f) h = h
+  where
+    ends_at : (m : MachineView) (n : ℕ) (e : Ending) → EndsSo m e → EndsSo (record { graph = m.graph; count = n; world = m.world }) e
+    ends_at m n Quiet h = h
+    ends_at m n Stopped h = h
+    ends_at m n (Fault f) h = h
 
 -- a run of a machine is one of an equal machine
 pub IsRunOf-from : (a b m : MachineView) → a ≡ b → IsRunOf a m → IsRunOf b m
