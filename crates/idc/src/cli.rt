@@ -25,8 +25,12 @@ Example:
 /// What the words ask for.
 #[derive(Debug, Drop)]
 pub enum Request<'a> {
-    /// Compile the file and run it, each element for at most so many steps.
-    Run { file: &'a str, steps: u64 },
+    /// Compile the file and run it on these input words, each element for at most so many steps.
+    Run {
+        file: &'a str,
+        inputs: Vec<&'a str>,
+        steps: u64,
+    },
 }
 
 /// Why the words ask for nothing.
@@ -51,6 +55,10 @@ fn run_command<'a>(alloc: Global) -> Result<Command<'a>, AllocError> {
     let file = Arg::new(alloc, "FILE")
         .required(true)
         .help("The text of the program");
+    let inputs = Arg::new(alloc, "INPUT")
+        .value_name("NAME=VALUE")
+        .num_args(0..)
+        .help("The inputs of main, which has none yet");
     let steps = Arg::new(alloc, "steps")
         .long("steps")
         .value_name("N")
@@ -62,6 +70,7 @@ fn run_command<'a>(alloc: Global) -> Result<Command<'a>, AllocError> {
         .about("Runs a program and prints its answer or its fault")
         .after_help(STATUSES)
         .arg(file)?
+        .arg(inputs)?
         .arg(steps)
 }
 
@@ -96,8 +105,16 @@ pub fn read_words<'a, S: AsStr>(alloc: Global, words: &'a [S]) -> Result<Request
     let Some((_, run)) = matches.subcommand() else {
         return Err(Unasked::Refused(String::new(alloc)));
     };
+    let inputs = match run.get_strs("INPUT") {
+        Some(words) => Vec::from_slice(alloc, words)?,
+        None => Vec::new(alloc),
+    };
     match (run.get_str("FILE"), run.get_one::<u64>("steps")) {
-        (Some(file), Some(steps)) => Ok(Request::Run { file, steps }),
+        (Some(file), Some(steps)) => Ok(Request::Run {
+            file,
+            inputs,
+            steps,
+        }),
         _ => Err(Unasked::Refused(String::new(alloc))),
     }
 }

@@ -12,7 +12,7 @@ use std::convert::AsStr;
 const BAD_WORDS: u8 = 4;
 
 /// Writes the line of a refusal. A failed write changes no status.
-fn refuse<E: Sink>(refusal: Refusal, text: &str, err: &mut E) -> u8 {
+fn refuse<E: Sink>(refusal: Refusal<'_>, text: &str, err: &mut E) -> u8 {
     let _ = put_refusal(refusal, text, err);
     refusal.status
 }
@@ -40,14 +40,22 @@ fn run_file<S: Source, O: Sink, E: Sink>(
     out: &mut O,
     err: &mut E,
 ) -> u8 {
-    let Request::Run { file, steps } = request;
+    let Request::Run {
+        file,
+        inputs,
+        steps,
+    } = request;
     let text = match source.read(alloc, file) {
         Ok(text) => text,
         Err(fault) => return refuse(of_source_fault(fault), "", err),
     };
-    match engine(alloc, text.as_str(), *steps, out) {
+    match engine(alloc, text.as_str(), inputs.as_slice(), *steps, out) {
         Ok(status) => status,
-        Err(error) => refuse(of_engine_error(error), text.as_str(), err),
+        Err(error) => refuse(
+            of_engine_error(error, inputs.as_slice()),
+            text.as_str(),
+            err,
+        ),
     }
 }
 

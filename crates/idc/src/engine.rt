@@ -27,6 +27,8 @@ const ELEMENTS: u32 = 1;
 pub enum EngineError {
     /// The text has no graph.
     Compile(CompileError),
+    /// The first input word names no parameter, since main has none yet: refusal 16.
+    UnknownInput,
     /// There would be no element, or more than 64: refusal 19.
     BadElements,
     /// No step, or more than 100,000,000: refusal 20.
@@ -148,7 +150,7 @@ fn run_compiled(alloc: Global, compiled: &Compiled, steps: u64) -> Result<Report
 }
 
 /// The report of a run of a text.
-fn run_text(alloc: Global, text: &str, steps: u64) -> Result<Report, EngineError>
+fn run_text(alloc: Global, text: &str, inputs: &[&str], steps: u64) -> Result<Report, EngineError>
     ensures report { IfOk result (IsReportOf text.now) }
     ensures short { OnOk result (length text.now ≤ MAX_BYTES) }
     ensures not_write { IfErr result (λ e. e ≢ EngineError.Write) }
@@ -157,6 +159,9 @@ fn run_text(alloc: Global, text: &str, steps: u64) -> Result<Report, EngineError
         Ok(compiled) => compiled,
         Err(error) => return Err(EngineError::Compile(error)),
     };
+    if !inputs.is_empty() {
+        return Err(EngineError::UnknownInput);
+    }
     if steps == 0 || MAX_STEPS < steps {
         return Err(EngineError::BadSteps);
     }
@@ -183,6 +188,7 @@ fn status_of(ending: &Ending) -> u8
 pub fn engine<W: Sink>(
     alloc: Global,
     text: &str,
+    inputs: &[&str],
     steps: u64,
     out: &mut W,
 ) -> Result<u8, EngineError>
@@ -193,7 +199,7 @@ pub fn engine<W: Sink>(
     ensures cut { result ≡ Err EngineError.Write → ShowsFront text.now (W.told out.old) (W.told out.new) }
     ensures silent { IfErr result (λ e. e ≢ EngineError.Write → W.told out.new ≡ W.told out.old) }
 {
-    let report = run_text(alloc, text, steps)?;
+    let report = run_text(alloc, text, inputs, steps)?;
     match write_report(&report, text, false, out) {
         Ok(()) => Ok(status_of(&report.ending)),
         Err(_) => Err(EngineError::Write),

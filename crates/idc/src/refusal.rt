@@ -8,37 +8,40 @@ use id_print::{PrintError, Sink, put, put_number, put_place};
 use id_text::{MAX_BYTES, TextError};
 use id_tree::TreeError;
 
-/// A refusal as it is printed: its number, where it has one, its name, its place, where it has one,
+/// A refusal as it is printed: its number, where it has one, its name, its place or word, where it has one,
 /// and the status of the program.
 #[derive(Clone, Copy, Debug, PartialEq, Eq)]
-pub struct Refusal {
+pub struct Refusal<'a> {
     number: Option<u32>,
     name: &'static str,
     at: Option<usize>,
+    word: Option<&'a str>,
     pub status: u8,
 }
 
 /// A refusal with a number.
-fn numbered(number: u32, name: &'static str, at: Option<usize>, status: u8) -> Refusal {
+fn numbered(number: u32, name: &'static str, at: Option<usize>, status: u8) -> Refusal<'static> {
     Refusal {
         number: Some(number),
         name,
         at,
+        word: None,
         status,
     }
 }
 
 /// What goes wrong without any fault of the words or the text.
-fn unnumbered(name: &'static str) -> Refusal {
+fn unnumbered(name: &'static str) -> Refusal<'static> {
     Refusal {
         number: None,
         name,
         at: None,
+        word: None,
         status: 5,
     }
 }
 
-fn of_text_error(error: TextError) -> Refusal {
+fn of_text_error(error: TextError) -> Refusal<'static> {
     match error {
         TextError::TooLong => numbered(1, "TooLong", None, 2),
         TextError::BadByte { at } => numbered(2, "BadByte", Some(at), 2),
@@ -47,7 +50,7 @@ fn of_text_error(error: TextError) -> Refusal {
     }
 }
 
-fn of_tree_error(error: TreeError) -> Refusal {
+fn of_tree_error(error: TreeError) -> Refusal<'static> {
     match error {
         TreeError::Unexpected { at } => numbered(5, "Unexpected", Some(at), 2),
         TreeError::TooDeep { at } => numbered(6, "TooDeep", Some(at), 2),
@@ -55,7 +58,7 @@ fn of_tree_error(error: TreeError) -> Refusal {
     }
 }
 
-fn of_compile_error(error: CompileError) -> Refusal {
+fn of_compile_error(error: CompileError) -> Refusal<'static> {
     match error {
         CompileError::Text(error) => of_text_error(error),
         CompileError::Tree(error) => of_tree_error(error),
@@ -67,7 +70,7 @@ fn of_compile_error(error: CompileError) -> Refusal {
 }
 
 /// The refusal of a source that has no text.
-pub fn of_source_fault(fault: SourceFault) -> Refusal {
+pub fn of_source_fault(fault: SourceFault) -> Refusal<'static> {
     match fault {
         SourceFault::TooLong => numbered(1, "TooLong", None, 2),
         SourceFault::File => numbered(4, "File", None, 5),
@@ -75,9 +78,21 @@ pub fn of_source_fault(fault: SourceFault) -> Refusal {
     }
 }
 
-/// The refusal of a run.
-pub fn of_engine_error(error: EngineError) -> Refusal {
+/// The refusal of an input word.
+fn unknown_input(word: Option<&str>) -> Refusal<'_> {
+    Refusal {
+        number: Some(16),
+        name: "UnknownInput",
+        at: None,
+        word,
+        status: 2,
+    }
+}
+
+/// The refusal of a run on these input words.
+pub fn of_engine_error<'a>(error: EngineError, inputs: &[&'a str]) -> Refusal<'a> {
     match error {
+        EngineError::UnknownInput => unknown_input(inputs.first().copied()),
         EngineError::Compile(error) => of_compile_error(error),
         EngineError::BadElements => numbered(19, "BadElements", None, 4),
         EngineError::BadSteps => numbered(20, "BadSteps", None, 4),
@@ -89,12 +104,12 @@ pub fn of_engine_error(error: EngineError) -> Refusal {
 }
 
 /// The refusal of a failed write, and of want of memory.
-pub fn of_write() -> Refusal {
+pub fn of_write() -> Refusal<'static> {
     unnumbered("Write")
 }
 
 /// The refusal for want of memory.
-pub fn of_memory() -> Refusal {
+pub fn of_memory() -> Refusal<'static> {
     unnumbered("Memory")
 }
 
@@ -106,6 +121,17 @@ fn put_at<W: Sink>(at: Option<usize>, text: &str, sink: &mut W) -> Result<(), Pr
             put_place(sink, text, at)
         }
         _ => Ok(()),
+    }
+}
+
+/// Writes a space and the word where there is one.
+fn put_word<W: Sink>(word: Option<&str>, sink: &mut W) -> Result<(), PrintError> {
+    match word {
+        Some(word) => {
+            put(sink, b" ")?;
+            put(sink, word.as_bytes())
+        }
+        None => Ok(()),
     }
 }
 
@@ -127,5 +153,6 @@ pub fn put_refusal<W: Sink>(refusal: Refusal, text: &str, sink: &mut W) -> Resul
     put(sink, b" ")?;
     put(sink, refusal.name.as_bytes())?;
     put_at(refusal.at, text, sink)?;
+    put_word(refusal.word, sink)?;
     put(sink, b"\n")
 }

@@ -147,6 +147,22 @@ fn refuses_texts_with_one_line(rt: HostRuntime) {
         expect(&rt, text, RUN, 2, "", line);
     }
     expect(&rt, "", &["run", "missing.id"], 5, "", "refused 4 File\n");
+    expect(
+        &rt,
+        "",
+        &["run", "text.id", "n=1"],
+        2,
+        "",
+        "refused 7 NoMain\n",
+    );
+    expect(
+        &rt,
+        "def main(): int = 1;",
+        &["run", "text.id", "n=1", "m"],
+        2,
+        "",
+        "refused 16 UnknownInput n=1\n",
+    );
 }
 
 /// A definition of `main` whose body begins with `front` so many times and ends with `back` as often.
