@@ -1,3 +1,4 @@
 pub mod PlacesLemmas
 pub mod RunLemmas
 pub mod ShownLemmas
+pub mod StuckLemmas

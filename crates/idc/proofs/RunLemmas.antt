@@ -30,7 +30,7 @@ IsRunOf-same old new e = record { positions = []; same_graph = ap (λ m. m.graph
 pub IsRunOf-deliver : (old new : MachineView) (k : ℕ) → new ≡ record old { world = delivered old.graph old.count old.world k } → IsRunOf old new
 IsRunOf-deliver old new k e = record { positions = k ∷ []; same_graph = ap (λ m. m.graph) e; same_count = ap (λ m. m.count) e; world = ap (λ m. m.world) e }
 
-run-append : (g : Parts) (count : ℕ) (ks ls : List ℕ) (s : World) → run g count (ks ++ ls) s ≡ run g count ls (run g count ks s)
+pub run-append : (g : Parts) (count : ℕ) (ks ls : List ℕ) (s : World) → run g count (ks ++ ls) s ≡ run g count ls (run g count ks s)
 run-append g count [] ls s = refl
 run-append g count (k ∷ ks) ls s = run-append g count ks ls (delivered g count s k)
 

@@ -3,7 +3,9 @@ use Rattle.std.specs.Prelude.{◌≡◌, ℕ, ◌+◌, List, length, IfSome}
 use Rattle.id_check.specs.declared.Checked.{Checked}
 use Rattle.id_meaning.specs.declared.SourceValue.{SourceValue}
 use Rattle.id_meaning.specs.Rounds.{Answers, IsAnswer, Faulty, FaultFree}
-use Rattle.id_core.specs.Machines.{MachineView, run}
+use Rattle.id_meaning.specs.Parts.{Distinct}
+use Rattle.id_build.specs.Schemas.{Schemas}
+use Rattle.id_core.specs.Machines.{MachineView, run, start}
 use Rattle.id_print.specs.declared.report.Ending.{Ending}
 use Rattle.id_print.specs.declared.report.Ending.TheVariants.{Quiet, Stopped, Fault}
 use Rattle.id_print.specs.declared.report.Report.{Report}
@@ -35,3 +37,11 @@ pub record IsRunOf (old new : MachineView) : Type 0 where
   pub same_graph : new.graph ≡ old.graph
   pub same_count : new.count ≡ old.count
   pub world : new.world ≡ run old.graph old.count positions old.world
+
+-- the machine is a run from its start of a graph that the schemas give a program
+pub record IsSoundMachine (m : MachineView) : Type 0 where
+  pub program : Checked
+  pub distinct : Distinct program
+  pub schemas : Schemas program m.graph
+  pub positions : List ℕ
+  pub world : m.world ≡ run m.graph m.count positions (start m.graph m.count)

@@ -7,7 +7,7 @@ ghost use Rattle.id_build.specs.Schemas.{Schemas};
 ghost use Rattle.id_core.specs.Machines.{start};
 ghost use Rattle.idc.specs.Programs.{IsProgramOf};
 ghost use Rattle.idc.specs.Engine.{ShowsAll, ShowsFront};
-ghost use Rattle.idc.specs.Reports.{IsReportOf, IsTrueOf, IsRunOf, status_of};
+ghost use Rattle.idc.specs.Reports.{IsReportOf, IsTrueOf, IsRunOf, IsSoundMachine, status_of};
 
 use crate::compile::{CompileError, Compiled, compile};
 use id_core::{Element, Machine, MachineError, Step, TakeError};
@@ -33,8 +33,6 @@ pub enum EngineError {
     BadElements,
     /// No step, or more than 100,000,000: refusal 20.
     BadSteps,
-    /// An element answered `Stuck`: refusal 21.
-    Stuck,
     /// The fault has a place outside the text.
     Misplaced,
     /// A growth was refused.
@@ -88,24 +86,26 @@ fn next_position(machine: &Machine<'_>, steps: u64) -> Option<usize>
 }
 
 /// Whether a run goes on after an event that came to this.
-fn goes_on(step: Step) -> Result<bool, EngineError>
-    ensures { IfErr result (λ e. e ≢ EngineError.Write) }
+fn goes_on(step: Step) -> bool
+    requires { step ≢ Step.Stuck }
 {
     match step {
-        Step::Went => Ok(true),
-        Step::Fault(_) => Ok(false),
-        Step::Stuck => Err(EngineError::Stuck),
+        Step::Went => true,
+        Step::Fault(_) => false,
+        Step::Stuck => unreachable!(),
     }
 }
 
 /// Delivers one message, and says whether to go on.
 fn deliver_one(machine: &mut Machine<'_>, position: usize) -> Result<bool, EngineError>
-    requires { position < length machine.old.world.flight }
+    requires position { position < length machine.old.world.flight }
+    requires sound { IsSoundMachine machine.old }
     ensures run { IsRunOf machine.old machine.new }
     ensures not_write { IfErr result (λ e. e ≢ EngineError.Write) }
 {
+    id_laws::never_stuck();
     match machine.deliver(position) {
-        Ok(step) => goes_on(step),
+        Ok(step) => Ok(goes_on(step)),
         Err(TakeError::StampEnd) => Ok(false),
         Err(TakeError::Memory) => Err(EngineError::Memory),
     }
@@ -114,7 +114,8 @@ fn deliver_one(machine: &mut Machine<'_>, position: usize) -> Result<bool, Engin
 /// Delivers messages until nothing is in flight, at the first fault, or until each message left is
 /// for an element that has handled `steps` messages.
 fn run_machine(machine: &mut Machine<'_>, steps: u64) -> Result<(), EngineError>
-    requires { steps ≤ MAX_STEPS }
+    requires steps { steps ≤ MAX_STEPS }
+    requires sound { IsSoundMachine machine.old }
     ensures run { IsRunOf machine.old machine.new }
     ensures not_write { IfErr result (λ e. e ≢ EngineError.Write) }
 {

@@ -96,7 +96,6 @@ pub fn of_engine_error<'a>(error: EngineError, inputs: &[&'a str]) -> Refusal<'a
         EngineError::Compile(error) => of_compile_error(error),
         EngineError::BadElements => numbered(19, "BadElements", None, 4),
         EngineError::BadSteps => numbered(20, "BadSteps", None, 4),
-        EngineError::Stuck => numbered(21, "Stuck", None, 5),
         EngineError::Misplaced => numbered(23, "Invalid", None, 5),
         EngineError::Memory => unnumbered("Memory"),
         EngineError::Write => unnumbered("Write"),
