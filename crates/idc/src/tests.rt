@@ -6,6 +6,7 @@ use std::process::Abort;
 use std::test::Fail;
 
 /// A sink that keeps what it is given.
+#[derive(Drop)]
 struct Kept {
     bytes: Vec<u8>,
 }
@@ -24,6 +25,7 @@ impl Sink for Kept {
 }
 
 /// A source with one text, named `text.id`.
+#[derive(Drop)]
 struct OneText<'a> {
     text: &'a str,
 }
