@@ -1,2 +1,3 @@
 pub mod SinkLemmas
 pub mod TextsLemmas
+pub mod TracesLemmas

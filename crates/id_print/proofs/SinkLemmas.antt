@@ -4,7 +4,7 @@ use Rattle.std.proofs.lemmas.List.{append-nil, take-append-drop}
 use Rattle.std.proofs.lemmas.Bool.{false≢true}
 use Rattle.id_print.specs.declared.sink.SinkFault.{SinkFault}
 use Rattle.id_print.specs.declared.sink.PrintError.{PrintError}
-use Rattle.id_print.specs.Told.{Told, after_write, took, AfterWrite, PrintsFront, PrintsBy, PrintsFrom, Prints}
+use Rattle.id_print.specs.Told.{Told, took, AfterWrite, PrintsFront, PrintsBy, PrintsFrom, Prints}
 
 -- what a sink tells where it took these bytes more, and no write failed
 abbrev pub grown : Told → List ℕ → Told

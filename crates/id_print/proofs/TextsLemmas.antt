@@ -24,7 +24,8 @@ steps_text-more text xs i d h =
 pub steps_text-cut : (text : List ℕ) (xs : List PathStep) (i : ℕ) → steps_text text xs ≡ steps_text text (take i xs) ++ steps_text text (drop i xs)
 steps_text-cut text xs i = ap (steps_text text) (sym (take-append-drop i xs)) ∙ steps_text-append text (take i xs) (drop i xs)
 
-same_text : (old new : Option Told) (x y : List ℕ) (r : Result (Unit {0}) PrintError) → x ≡ y → Prints old new x r → Prints old new y r
+-- a text that is the same is printed the same way
+pub same_text : (old new : Option Told) (x y : List ℕ) (r : Result (Unit {0}) PrintError) → x ≡ y → Prints old new x r → Prints old new y r
 same_text old new x y r e h = let P : List ℕ → Type 0 = λ t. Prints old new t r in subst P e h
 
 -- one more step is printed

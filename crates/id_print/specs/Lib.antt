@@ -1,5 +1,6 @@
 pub mod Told
 pub mod Texts
+pub mod Traces
 pub mod Reports
 pub mod Endings
 pub mod Within

@@ -1,5 +1,5 @@
 -- The texts that are printed (docs/PROMISES.md, "Printing"). Bytes are those of ASCII text.
-use Rattle.std.specs.Prelude.{ℕ, ◌+◌, List, [], ◌∷◌, ◌++◌, Option, None, Some, codes, decimal}
+use Rattle.std.specs.Prelude.{ℕ, List, [], ◌∷◌, ◌++◌, Option, None, Some, codes, decimal}
 use Rattle.std.specs.Fmt.{signed_decimal}
 use Rattle.id_text.specs.Places.{line_of, column_of}
 use Rattle.id_meaning.specs.declared.PathStep.{PathStep}

@@ -1,4 +1,4 @@
-//! What the program prints: reports of runs, and the lines of faults.
+//! What the program prints: reports of runs, the lines of faults, and traces.
 //!
 //! Keeps: a failed write ends a text at once, so what went out is a front of it.
 //! Errors: `PrintError`, only where a write failed.
@@ -9,7 +9,12 @@
 mod report;
 mod sink;
 mod texts;
+mod trace;
 
 pub use report::{Ending, Report, is_within, run_report, write_fault, write_report};
 pub use sink::{PrintError, Sink, SinkFault, put};
 pub use texts::{put_number, put_place};
+pub use trace::write_trace;
+
+#[cfg(test)]
+mod tests;

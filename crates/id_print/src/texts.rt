@@ -74,7 +74,7 @@ pub fn put_point<W: Sink>(
     put_place(sink, text, place)
 }
 
-fn put_int<W: Sink>(sink: &mut W, n: i64) -> Result<(), PrintError>
+pub fn put_int<W: Sink>(sink: &mut W, n: i64) -> Result<(), PrintError>
     ensures { Prints (W.told sink.old) (W.told sink.new) (signed_decimal n) result }
 {
     let mut buffer = Buffer::new();
