@@ -1,6 +1,6 @@
 //! From a text to its graph: tokens, tree, checks, schemas, validation.
 
-ghost use Rattle.std.specs.Prelude.{IfOk};
+ghost use Rattle.std.specs.Prelude.{◌≡◌, IfErr, IfOk};
 ghost use Rattle.id_text.specs.Tokens.{EndsOnce, Rises};
 ghost use Rattle.id_text.specs.Lexes.{Lexes};
 ghost use Rattle.id_text.specs.Lexes.Ending.{Whole};
@@ -9,13 +9,16 @@ ghost use Rattle.id_tree.specs.Accepted.{Accepts};
 ghost use Rattle.id_tree.specs.Distinct.{Distinct as HasDistinctPlaces};
 ghost use Rattle.id_meaning.specs.Parts.{Distinct};
 ghost use Rattle.id_build.specs.Schemas.{Schemas};
+ghost use Rattle.id_valid.specs.Validator.{TellsFault};
 ghost use Rattle.idc.specs.Programs.{IsProgramOf};
+ghost use Rattle.idc.specs.declared.compile.CompileError.TheVariants.{Memory};
 
-use id_build::BuildError;
+use id_build::{BuildError, build};
 use id_check::{CheckCause, Checked, check};
+use id_graph::Graph;
 use id_text::{TextError, Token, lex};
 use id_tree::{Program, TreeError, parse};
-use id_valid::{InvalidCause, Valid, validate};
+use id_valid::{Invalid, InvalidCause, Valid, validate};
 use std::alloc::Global;
 
 /// A program with its graph.
@@ -36,8 +39,6 @@ pub enum CompileError {
     Check(CheckCause),
     /// The graph would have more than 1,000,000 instructions: refusal 14.
     TooLarge,
-    /// An instruction of the graph is faulty: refusal 23. No graph that `build` makes is.
-    Invalid { instr: u64 },
     /// A growth was refused.
     Memory,
 }
@@ -49,9 +50,15 @@ fn build_error(error: BuildError) -> CompileError {
     }
 }
 
-fn invalid_error(cause: InvalidCause) -> CompileError {
-    match cause {
-        InvalidCause::Faulty { instr } => CompileError::Invalid { instr },
+/// The error of a graph that the schemas give a program: it is valid, so memory was refused.
+fn invalid_error(checked: &Checked, invalid: &Invalid) -> CompileError
+    requires distinct { Distinct checked.now }
+    requires graph { Schemas checked.now invalid.now.graph }
+    requires told { TellsFault invalid.now.graph invalid.now.cause }
+    ensures { result ≡ Memory }
+{
+    match invalid.cause {
+        InvalidCause::Faulty { .. } => unreachable!(),
         InvalidCause::Memory => CompileError::Memory,
     }
 }
@@ -94,6 +101,30 @@ fn checked_program(alloc: Global, text: &str) -> Result<Checked, CompileError>
     }
 }
 
+/// The graph of a checked program.
+fn graph_of(alloc: Global, checked: &Checked) -> Result<Graph, CompileError>
+    requires distinct { Distinct checked.now }
+    ensures graph { IfOk result (Schemas checked.now) }
+{
+    match build(alloc, checked) {
+        Ok(graph) => Ok(graph),
+        Err(error) => Err(build_error(error)),
+    }
+}
+
+/// The graph of a checked program as a valid one, unless memory is refused.
+fn valid_of(alloc: Global, checked: &Checked, graph: Graph) -> Result<Valid, CompileError>
+    requires distinct { Distinct checked.now }
+    requires graph { Schemas checked.now graph }
+    ensures same { IfOk result (λ v. v ≡ graph) }
+    ensures memory { IfErr result (λ e. e ≡ Memory) }
+{
+    match validate(alloc, graph) {
+        Ok(valid) => Ok(valid),
+        Err(invalid) => Err(invalid_error(checked, &invalid)),
+    }
+}
+
 /// The program of a text, and its graph.
 pub fn compile(alloc: Global, text: &str) -> Result<Compiled, CompileError>
     ensures program { IfOk result (λ c. IsProgramOf text.now c.checked) }
@@ -101,9 +132,7 @@ pub fn compile(alloc: Global, text: &str) -> Result<Compiled, CompileError>
     ensures graph { IfOk result (λ c. Schemas c.checked c.valid) }
 {
     let checked = checked_program(alloc, text)?;
-    let graph = id_build::build(alloc, &checked).map_err(build_error)?;
-    match validate(alloc, graph) {
-        Ok(valid) => Ok(Compiled { checked, valid }),
-        Err(invalid) => Err(invalid_error(invalid.cause)),
-    }
+    let graph = graph_of(alloc, &checked)?;
+    let valid = valid_of(alloc, &checked, graph)?;
+    Ok(Compiled { checked, valid })
 }

@@ -64,7 +64,6 @@ fn of_compile_error(error: CompileError) -> Refusal<'static> {
         CompileError::Tree(error) => of_tree_error(error),
         CompileError::Check(CheckCause::NoMain) => numbered(7, "NoMain", None, 2),
         CompileError::TooLarge => numbered(14, "TooLarge", None, 2),
-        CompileError::Invalid { .. } => numbered(23, "Invalid", None, 5),
         CompileError::Memory => unnumbered("Memory"),
     }
 }
