@@ -6,7 +6,7 @@ use Rattle.id_text.specs.declared.token.TokenKind.{TokenKind}
 use Rattle.id_tree.specs.declared.parser.Level.{Level}
 use Rattle.id_tree.specs.declared.parser.Level.TheVariants.{Sum, Product}
 use Rattle.id_tree.specs.Tree.{Tree, none, more}
-use Rattle.id_tree.specs.Grammar.{Phrase, Definition, Grouped, Unary, Rest, Opens, operand, operator_of, own_height, Derives, opened, single, grouped, Follows, ended, taken, named, given, Program, empty, single_def}
+use Rattle.id_tree.specs.Grammar.{Phrase, Definition, Grouped, Unary, Tail, Rest, Opens, operand, operator_of, own_height, Derives, opened, single, grouped, Follows, ended, taken, named, given, Program, empty, single_def}
 use Rattle.id_tree.specs.Machine.{room, Move, pick, ends, wants, Frame, Left, Right, Inside, State, Begin, Want, Have, Next, Accepted, Refused, run}
 use Rattle.id_tree.proofs.RowLemmas.{Quiet, Ends, Parts, valid, Quiet-operator, Follows-height}
 use Rattle.id_tree.proofs.RunLemmas.{First, run-done, run-part, run-inside, run-right, run-level, run-left, run-word, run-name, run-opens, run-operator}
@@ -20,12 +20,14 @@ abbrev StopsInside : Phrase → List Token → Type 0
 StopsInside (Grouped l) ts = Stops (operand l) ts
 StopsInside Definition ts = Unit {0}
 StopsInside Unary ts = Unit {0}
+StopsInside Tail ts = Unit {0}
 
 -- the state behind a phrase, whose own level is still open
 abbrev After : Phrase → Tree → ℕ → ℕ → List Frame → State
 After (Grouped l) e h d K = Have e h (Left l d ∷ K)
 After Definition e h d K = Have e h K
 After Unary e h d K = Have e h K
+After Tail e h d K = Have e h K
 
 -- where the phrase is not gone on, no tighter level is
 Stops-inside : (s : Phrase) (ts : List Token) → Stops s ts → StopsInside s ts
@@ -35,6 +37,7 @@ Stops-inside (Grouped Product) [] q = tt
 Stops-inside (Grouped Product) (t ∷ ts) q = tt
 Stops-inside Definition ts q = tt
 Stops-inside Unary ts q = tt
+Stops-inside Tail ts q = tt
 
 -- where a level is not gone on, no operator of it stands
 Stops-own : (l : Level) (ts : List Token) → Stops (Grouped l) ts → First (λ k. operator_of l k ≡ None) ts
@@ -56,6 +59,7 @@ run-after : (n : ℕ) (us : List Token) (s : Phrase) (e : Tree) (h d : ℕ) (K :
 run-after n us (Grouped l) e h d K q = run-left n us l e h d K (Stops-own l us q)
 run-after n us Definition e h d K q = refl
 run-after n us Unary e h d K q = refl
+run-after n us Tail e h d K q = refl
 
 -- what is left of a production ends its last part
 Follows-stops : {r : Rest} {ts : List Token} {e : Tree} {h : ℕ} → Follows r ts e h → (s0 s : Phrase) (us : List Token) → Ends s0 s r → Stops s0 us → Stops s (ts ++ us)
@@ -70,12 +74,14 @@ Stops-opens s o [] = tt
 Stops-opens Definition o (t ∷ us) = tt
 Stops-opens (Grouped l) o (t ∷ us) = elim o [ ]
 Stops-opens Unary o (t ∷ us) = tt
+Stops-opens Tail o (t ∷ us) = tt
 
 -- nothing of a production is still open behind it
 After-opens : (s : Phrase) {k : TokenKind} {p : ℕ} {r : Rest} → Opens s k p r → (e : Tree) (h d : ℕ) (K : List Frame) → After s e h d K ≡ Have e h K
 After-opens Definition o e h d K = refl
 After-opens (Grouped l) o e h d K = elim o [ ]
 After-opens Unary o e h d K = refl
+After-opens Tail o e h d K = refl
 
 max-assoc : (a b c d : ℕ) → max (max a b) c + d ≡ max a (max b c) + d
 max-assoc a b c d = omega arith

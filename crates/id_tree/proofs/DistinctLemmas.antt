@@ -2,8 +2,9 @@
 use Rattle.std.proofs.Common.{ℕ, ◌+◌, ◌≤◌, ◌<◌, List, [], ◌∷◌, ◌++◌, inl, inr, arith}
 use Rattle.id_text.specs.declared.token.Token.{Token}
 use Rattle.id_text.specs.declared.token.TokenKind.{TokenKind}
-use Rattle.id_tree.specs.Tree.{Tree, literal, unary, binary, define, none, more}
-use Rattle.id_tree.specs.Grammar.{Phrase, Rest, done, word, name, part, Opens, definition, negated, number, parens, Derives, opened, single, grouped, Follows, ended, taken, named, given, Program, empty, single_def}
+use Rattle.id_tree.specs.Tree as tree
+use Rattle.id_tree.specs.Tree.{Tree, literal, unary, binary, block, binding, define, none, more}
+use Rattle.id_tree.specs.Grammar.{Phrase, Rest, done, word, name, part, with_statement, block_of, Opens, definition, negated, number, parens, by_name, by_block, by_binding, by_body, Derives, opened, single, grouped, Follows, ended, taken, named, given, Program, empty, single_def}
 use Rattle.id_tree.specs.Distinct.{HasPlace, Apart, Distinct}
 use Rattle.id_tree.proofs.FinishLemmas.{Laid}
 
@@ -12,6 +13,9 @@ abbrev Spans : ℕ → Tree → ℕ → Type 0
 Spans low (literal v p) high = (low ≤ p) × (p < high)
 Spans low (unary o a p) high = (low ≤ p) × Spans (p + 1) a high
 Spans low (binary o a b p) high = Spans low a p × Spans (p + 1) b high
+Spans low (tree.name x p) high = (low ≤ p) × (p < high)
+Spans low (block a b p) high = (low ≤ p) × ((mid : ℕ) × Spans (p + 1) a mid × Spans mid b high)
+Spans low (binding x a p) high = (low ≤ p) × Spans (p + 1) a high
 Spans low (define x k a p) high = (low ≤ p) × Spans (p + 1) a high
 Spans low none high = low ≤ high
 Spans low (more a b) high = (mid : ℕ) × Spans low a mid × Spans mid b high
@@ -21,6 +25,9 @@ Spans-order : (e : Tree) (low high : ℕ) → Spans low e high → low ≤ high
 Spans-order (literal v p) low high q = omega (arith, q.0, q.1)
 Spans-order (unary o a p) low high q = omega (arith, q.0, Spans-order a (p + 1) high q.1)
 Spans-order (binary o a b p) low high q = omega (arith, Spans-order a low p q.0, Spans-order b (p + 1) high q.1)
+Spans-order (tree.name x p) low high q = omega (arith, q.0, q.1)
+Spans-order (block a b p) low high (u, (mid, v, w)) = omega (arith, u, Spans-order a (p + 1) mid v, Spans-order b mid high w)
+Spans-order (binding x a p) low high q = omega (arith, q.0, Spans-order a (p + 1) high q.1)
 Spans-order (define x k a p) low high q = omega (arith, q.0, Spans-order a (p + 1) high q.1)
 Spans-order none low high q = q
 Spans-order (more a b) low high q = omega (arith, Spans-order a low q.0 q.1, Spans-order b q.0 high q.2)
@@ -30,6 +37,9 @@ Spans-wider : (e : Tree) (low high below above : ℕ) → below ≤ low → high
 Spans-wider (literal v p) low high below above u v' q = (omega (arith, q.0), omega (arith, q.1))
 Spans-wider (unary o a p) low high below above u v q = (omega (arith, q.0), Spans-wider a (p + 1) high (p + 1) above (omega arith) v q.1)
 Spans-wider (binary o a b p) low high below above u v q = (Spans-wider a low p below p u (omega arith) q.0, Spans-wider b (p + 1) high (p + 1) above (omega arith) v q.1)
+Spans-wider (tree.name x p) low high below above u v' q = (omega (arith, q.0), omega (arith, q.1))
+Spans-wider (block a b p) low high below above u v (o, (mid, s, t)) = (omega (arith, o), (mid, s, Spans-wider b mid high mid above (omega arith) v t))
+Spans-wider (binding x a p) low high below above u v q = (omega (arith, q.0), Spans-wider a (p + 1) high (p + 1) above (omega arith) v q.1)
 Spans-wider (define x k a p) low high below above u v q = (omega (arith, q.0), Spans-wider a (p + 1) high (p + 1) above (omega arith) v q.1)
 Spans-wider none low high below above u v q = omega arith
 Spans-wider (more a b) low high below above u v q = (q.0, Spans-wider a low q.0 below q.0 u (omega arith) q.1, Spans-wider b q.0 high q.0 above (omega arith) v q.2)
@@ -42,6 +52,12 @@ Spans-place (unary o a p) low high q s (inr h) = let r = Spans-place a (p + 1) h
 Spans-place (binary o a b p) low high q s (inl h) = (omega (arith, Spans-order a low p s.0, h), omega (arith, Spans-order b (p + 1) high s.1, h))
 Spans-place (binary o a b p) low high q s (inr (inl h)) = let r = Spans-place a low p q s.0 h in (r.0, omega (arith, r.1, Spans-order b (p + 1) high s.1))
 Spans-place (binary o a b p) low high q s (inr (inr h)) = let r = Spans-place b (p + 1) high q s.1 h in (omega (arith, r.0, Spans-order a low p s.0), r.1)
+Spans-place (tree.name x p) low high q s h = (omega (arith, s.0, h), omega (arith, s.1, h))
+Spans-place (block a b p) low high q (o, (mid, s, t)) (inl h) = (omega (arith, o, h), omega (arith, Spans-order a (p + 1) mid s, Spans-order b mid high t, h))
+Spans-place (block a b p) low high q (o, (mid, s, t)) (inr (inl h)) = let r = Spans-place a (p + 1) mid q s h in (omega (arith, o, r.0), omega (arith, r.1, Spans-order b mid high t))
+Spans-place (block a b p) low high q (o, (mid, s, t)) (inr (inr h)) = let r = Spans-place b mid high q t h in (omega (arith, o, r.0, Spans-order a (p + 1) mid s), r.1)
+Spans-place (binding x a p) low high q s (inl h) = (omega (arith, s.0, h), omega (arith, Spans-order a (p + 1) high s.1, h))
+Spans-place (binding x a p) low high q s (inr h) = let r = Spans-place a (p + 1) high q s.1 h in (omega (arith, s.0, r.0), r.1)
 Spans-place (define x k a p) low high q s (inl h) = (omega (arith, s.0, h), omega (arith, Spans-order a (p + 1) high s.1, h))
 Spans-place (define x k a p) low high q s (inr h) = let r = Spans-place a (p + 1) high q s.1 h in (omega (arith, s.0, r.0), r.1)
 Spans-place none low high q s h = absurd h
@@ -63,6 +79,15 @@ Distinct-spans (binary o a b p) low high s = (
   Distinct-spans a low p s.0,
   Distinct-spans b (p + 1) high s.1,
 )
+Distinct-spans (tree.name x p) low high s = tt
+Distinct-spans (block a b p) low high (o, (mid, s, t)) = (
+  λ h. omega (arith, (Spans-place a (p + 1) mid p s h).0),
+  λ h. omega (arith, (Spans-place b mid high p t h).0, Spans-order a (p + 1) mid s),
+  Spans-apart a b (p + 1) mid mid high (omega arith) s t,
+  Distinct-spans a (p + 1) mid s,
+  Distinct-spans b mid high t,
+)
+Distinct-spans (binding x a p) low high s = (λ h. omega (arith, (Spans-place a (p + 1) high p s.1 h).0), Distinct-spans a (p + 1) high s.1)
 Distinct-spans (define x k a p) low high s = (λ h. omega (arith, (Spans-place a (p + 1) high p s.1 h).0), Distinct-spans a (p + 1) high s.1)
 Distinct-spans none low high s = tt
 Distinct-spans (more a b) low high s = (Spans-apart a b low s.0 s.0 high (omega arith) s.1 s.2, Distinct-spans a low s.0 s.1, Distinct-spans b s.0 high s.2)
@@ -74,12 +99,27 @@ Keeps from low (word w r) = (mid : ℕ) → low ≤ mid → Keeps from mid r
 Keeps from low (name f) = (x : List ℕ) (p : ℕ) → low ≤ p → Keeps from (p + 1) (f x p)
 Keeps from low (part s f) = (a : Tree) (mid : ℕ) → Spans low a mid → Keeps from mid (f a)
 
+-- a block spans what its brace and its tail do
+Spans-block_of : (a : Tree) (p mid high : ℕ) → mid ≤ high → Spans (p + 1) a mid → Spans p (block_of a p) high
+Spans-block_of (more a e) p mid high w (i, s, t) = (omega arith, (i, s, Spans-wider e i mid i high (omega arith) w t))
+Spans-block_of a p mid high w s = omega (arith, Spans-order a (p + 1) mid s)
+
+-- a tail spans what its first statement and the tail behind it do
+Spans-with_statement : (b a : Tree) (from low mid high : ℕ) → mid ≤ high → Spans from b low → Spans low a mid → Spans from (with_statement b a) high
+Spans-with_statement b (more a e) from low mid high w u (i, s, t) = (i, (low, u, s), Spans-wider e i mid i high (omega arith) w t)
+Spans-with_statement b a from low mid high w u s = omega (arith, Spans-order b from low u, Spans-order a low mid s)
+
 -- each production keeps this
 Opens-keeps : {s : Phrase} {k : TokenKind} {p : ℕ} {r : Rest} → Opens s k p r → Keeps p (p + 1) r
 Opens-keeps (definition {p = p}) = λ x q u a1 u1 a2 u2 a3 u3 a4 u4 a5 u5 e mid s z v high w. (omega arith, Spans-wider e a5 mid (q + 1) high (omega arith) (omega arith) s)
 Opens-keeps (negated {p = p}) = λ e mid s high w. (omega arith, Spans-wider e (p + 1) mid (p + 1) high (omega arith) w s)
 Opens-keeps (number {p = p}) = λ high w. (omega arith, omega arith)
 Opens-keeps (parens {p = p}) = λ e mid s z v high w. Spans-wider e (p + 1) mid p high (omega arith) (omega arith) s
+Opens-keeps (by_name {p = p}) = λ high w. (omega arith, omega arith)
+Opens-keeps (by_block {p = p}) = λ a mid s high w. Spans-block_of a p mid high w s
+Opens-keeps (by_binding {x = x} {p = p}) = λ q1 u1 e mid s q2 u2 a next t high w.
+    Spans-with_statement (binding x e p) a p q2 next high w (omega arith, Spans-wider e q1 mid (p + 1) q2 u1 u2 s) t
+Opens-keeps (by_body {p = p}) = λ e mid s z v high w. (p + 1, omega arith, Spans-wider e (p + 1) mid (p + 1) high (omega arith) (omega arith) s)
 
 -- what is laid is laid in both halves
 Laid-split : (us vs : List Token) (low high : ℕ) → Laid low (us ++ vs) high → (mid : ℕ) × Laid low us mid × Laid mid vs high

@@ -4,11 +4,11 @@ use Rattle.id_text.specs.Tokens.{Rises}
 use Rattle.id_text.specs.declared.token.Token.{Token}
 use Rattle.id_text.specs.declared.token.TokenKind.{TokenKind}
 use Rattle.id_text.specs.declared.token.TokenKind.TheVariants.{Name, Number, Key, Sign, End}
-use Rattle.id_text.specs.declared.token.Keyword.TheVariants.{Def, Int}
-use Rattle.id_text.specs.declared.token.Symbol.TheVariants.{LeftParen, RightParen, Colon, Becomes, Semicolon}
+use Rattle.id_text.specs.declared.token.Keyword.TheVariants.{Def, In, Int}
+use Rattle.id_text.specs.declared.token.Symbol.TheVariants.{LeftParen, RightParen, RightBrace, Colon, Becomes, Semicolon}
 use Rattle.id_tree.specs.declared.parser.Level.TheVariants.{Sum, Product}
 use Rattle.id_tree.specs.Tree.{Tree}
-use Rattle.id_tree.specs.Grammar.{Phrase, Definition, Grouped, Unary, kind_of, Rest, done, word, name, part, definition, number, own_height, Derives, opened, single, grouped, Follows, ended, taken, named, given, Program, empty, single_def}
+use Rattle.id_tree.specs.Grammar.{Phrase, Definition, Grouped, Unary, Tail, kind_of, Rest, done, word, name, part, definition, number, by_body, own_height, Derives, opened, single, grouped, Follows, ended, taken, named, given, Program, empty, single_def}
 use Rattle.id_tree.specs.Machine.{Frame, State}
 use Rattle.id_tree.specs.Standing.{Roomy, Around, outermost, left, right, inside, Stands, begun, wanting, having, within, finished}
 
@@ -103,11 +103,21 @@ least_definition from body = record {
   derives = opened definition (named refl (taken refl (taken refl (taken refl (taken refl (taken refl (given body.derives (taken refl ended))))))));
 }
 
+least_tail : (from : ℕ) → Least (Grouped Sum) (from + 1) → Least Tail from
+least_tail from body = record {
+  tokens = token (Key In) from ∷ (body.tokens ++ token (Sign RightBrace) body.to ∷ []);
+  tree = _;
+  to = body.to + 1;
+  laid = (omega arith, Laid-append body.tokens (token (Sign RightBrace) body.to ∷ []) (from + 1) body.to (body.to + 1) body.laid (omega arith, omega arith));
+  derives = opened by_body (given body.derives (taken refl ended));
+}
+
 least : (s : Phrase) (from : ℕ) → Least s from
 least Unary from = least_number from
 least (Grouped Product) from = let l = least_number from in record { tokens = l.tokens; tree = l.tree; to = l.to; laid = l.laid; derives = single l.derives }
 least (Grouped Sum) from = least_sum from
 least Definition from = least_definition from (least_sum (from + 7))
+least Tail from = least_tail from (least_sum (from + 1))
 
 -- what is left of a production, with tokens from a place on
 record Finish (n d from : ℕ) (r : Rest) : Type 0 where

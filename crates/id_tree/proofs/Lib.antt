@@ -5,4 +5,7 @@ mod SoundLemmas
 mod FinishLemmas
 mod RefusedLemmas
 mod DistinctLemmas
+pub mod StartsLemmas
 mod ReaderLemmas
+mod BlockLemmas
+mod StatementLemmas

@@ -1,12 +1,12 @@
 -- How the readers' runs are put together, for each production and each way out of it.
-use Rattle.std.proofs.Common.{◌≡◌, ℕ, ℤ, ◌+◌, ◌≤◌, ◌<◌, max, Some, None, List, [], ◌∷◌, true, false, Bool, refl, sym, ap, ◌∙◌, subst, arith, zero-le}
+use Rattle.std.proofs.Common.{◌≡◌, ℕ, ℤ, ◌+◌, ◌≤◌, ◌<◌, max, inl, inr, Some, None, List, [], ◌∷◌, true, false, Bool, refl, sym, ap, ◌∙◌, subst, arith, zero-le}
 use Rattle.id_text.specs.Tokens.{EndsOnce}
 use Rattle.id_text.specs.declared.token.Token.{Token}
 use Rattle.id_text.specs.declared.token.TokenKind.{TokenKind}
 use Rattle.id_text.specs.declared.token.TokenKind.TheVariants.{Name, Number, Key, Sign, End}
 use Rattle.id_text.specs.declared.token.Keyword.TheVariants.{Def}
 use Rattle.id_text.specs.declared.token.Symbol.{Symbol}
-use Rattle.id_text.specs.declared.token.Symbol.TheVariants.{LeftParen, RightParen, Semicolon, Minus}
+use Rattle.id_text.specs.declared.token.Symbol.TheVariants.{LeftParen, RightParen, LeftBrace, Semicolon, Minus}
 use Rattle.id_tree.specs.declared.parser.Level.{Level}
 use Rattle.id_tree.specs.declared.parser.Level.TheVariants.{Sum}
 use Rattle.id_tree.specs.declared.tree.BinaryOp.{BinaryOp}
@@ -15,10 +15,11 @@ use Rattle.id_tree.specs.declared.tree.Constant.TheVariants as constant
 use Rattle.id_tree.specs.declared.tree.Kind.TheVariants as kind
 use Rattle.id_tree.specs.declared.tree.TreeError.{TreeError}
 use Rattle.id_tree.specs.declared.tree.TreeError.TheVariants.{Unexpected, TooDeep}
+use Rattle.id_tree.specs.Tree as tree
 use Rattle.id_tree.specs.Tree.{Tree, literal, unary, binary, define, none, more}
-use Rattle.id_tree.specs.Grammar.{Phrase, Definition, Grouped, Unary, Word, kind_of, Rest, done, word, name, part, sign, heading, Opens, definition, negated, number, parens, operand, operator_of, own_height}
+use Rattle.id_tree.specs.Grammar.{Phrase, Definition, Grouped, Unary, Word, kind_of, Rest, done, word, name, part, sign, heading, Opens, definition, negated, number, parens, by_name, operand, operator_of, own_height}
 use Rattle.id_tree.specs.Machine.{opening, room, Frame, Left, Right, Inside, State, Begin, Want, Have, Next, Finished, is_word, name_in, takes, ends, wants, Outcome, Accepted, Refused, run}
-use Rattle.id_tree.specs.Readers.{first_kind, first_start, IsRead, EndsBy, Leads, Fails, Defines, Grows, Stunts, Takes, Misses, TakesName, MissesName}
+use Rattle.id_tree.specs.Readers.{first_kind, first_start, IsRead, EndsBy, Leads, Fails, Defines, Grows, Stunts, Takes, Misses, BeginsWithName, NoName, LacksName, Encloses, Exposes}
 use Rattle.id_tree.proofs.RowLemmas.{opening-from_opens}
 use Rattle.id_tree.proofs.RunLemmas.{First, same-is_word, run-step, run-deep, run-none, run-word, run-name, run-opens, run-opens-deep, run-operator, run-done, run-part, run-inside, run-right, run-level, run-left}
 
@@ -41,11 +42,11 @@ module _ {ts us : List Token} {t : Token} (e : ts ≡ t ∷ us) where
   pub Misses-word : (w : Word) (x : TreeError) → x ≡ Unexpected (first_start ts) → (t.kind ≡ kind_of w → ⊥) → Misses (word w) ts x
   Misses-word w x j q = record { fails = λ r h d c K. let i = Word-missed w (is_word w t.kind) refl q in rw (j, e) (run-none 200 t us (Next (word w r) h d c K) (rw i refl)) }
 
-  pub TakesName-one : (x : List ℕ) → t.kind ≡ Name x → TakesName ts x t.start us
-  TakesName-one x q = record { comes = λ f h d c K. rw e (run-name 200 t us x f h d c K q) }
+  pub BeginsWithName-one : (x : List ℕ) → t.kind ≡ Name x → BeginsWithName ts x t.start us
+  BeginsWithName-one x q = record { token = t; whole = e; kind = q; place = refl }
 
-  pub MissesName-one : (x : TreeError) → x ≡ Unexpected (first_start ts) → name_in t.kind ≡ None → MissesName ts x
-  MissesName-one x j q = record { fails = λ f h d c K. rw (j, e) (run-none 200 t us (Next (name f) h d c K) (rw q refl)) }
+  pub NoName-one : (x : TreeError) → x ≡ Unexpected (first_start ts) → name_in t.kind ≡ None → NoName ts x
+  NoName-one x j q = record { token = t; behind = us; whole = e; kind = q; error = j ∙ ap (λ xs. Unexpected (first_start xs)) e }
 
 -- Words in a row.
 pub Takes-then : {f g : Rest → Rest} {ts us vs : List Token} → Takes f ts us → Takes g us vs → Takes (λ r. f (g r)) ts vs
@@ -81,11 +82,14 @@ module _ {ts us : List Token} {s : Phrase} {d h : ℕ} where
   pub Fails-word : {w : Word} {r : Rest} {x : TreeError} → At ts s d us (word w r) h → Misses (word w) us x → Fails ts s d x
   Fails-word {r = r} {x = x} p q = record { fails = λ K. EndsBy-at x (p.comes K) (q.fails r h (d + own_height s) (own_height s) K) }
 
-  pub At-name : {f : List ℕ → ℕ → Rest} {x : List ℕ} {p : ℕ} {vs : List Token} → At ts s d us (name f) h → TakesName us x p vs → At ts s d vs (f x p) h
-  At-name {f = f} p q = record { comes = λ K. p.comes K ∙ q.comes f h (d + own_height s) (own_height s) K }
+  pub At-name : {f : List ℕ → ℕ → Rest} {x : List ℕ} {p : ℕ} {vs : List Token} → At ts s d us (name f) h → BeginsWithName us x p vs → At ts s d vs (f x p) h
+  At-name {f = f} {x = x} {vs = vs} p q = record { comes = λ K. p.comes K ∙ rw (q.whole, ← q.place) (run-name 200 q.token vs x f h (d + own_height s) (own_height s) K q.kind) }
 
-  pub Fails-name : {f : List ℕ → ℕ → Rest} {x : TreeError} → At ts s d us (name f) h → MissesName us x → Fails ts s d x
-  Fails-name {f = f} {x = x} p q = record { fails = λ K. EndsBy-at x (p.comes K) (q.fails f h (d + own_height s) (own_height s) K) }
+  pub Fails-name : {f : List ℕ → ℕ → Rest} {x : TreeError} → At ts s d us (name f) h → LacksName us x → Fails ts s d x
+  Fails-name p (inl e) = rw e (record { fails = λ K. tt })
+  Fails-name {f = f} {x = x} p (inr q) = record {
+    fails = λ K. let i = q.kind in EndsBy-at x (p.comes K) (rw (q.error, q.whole) (run-none 200 q.token q.behind (Next (name f) h (d + own_height s) (own_height s) K) (rw i refl)));
+  }
 
   pub At-part : {i : Phrase} {f : Tree → Rest} {vs : List Token} {a : Tree} {m : ℕ} → At ts s d us (part i f) h → Leads us i (d + own_height s) vs a m → At ts s d vs (f a) (max h m)
   At-part {i = i} {f = f} {vs = vs} {a = a} {m = m} p q = record {
@@ -100,6 +104,14 @@ module _ {ts us : List Token} {s : Phrase} {d h : ℕ} where
         EndsBy-at x (p.comes K ∙ run-part 200 us i f h (d + own_height s) (own_height s) K) (q.fails (Inside f h (d + own_height s) (own_height s) ∷ K));
   }
 
+  pub At-enclosed : {w : Symbol} {f : Tree → Rest} {vs : List Token} {a : Tree} {m : ℕ} →
+      At ts s d us (part (Grouped Sum) (λ e. sign w (f e))) h → Encloses us (d + own_height s) w vs a m → At ts s d vs (f a) (max h m)
+  At-enclosed {f = f} p q = record { comes = λ K. p.comes K ∙ q.comes f h (own_height s) K }
+
+  pub Fails-enclosed : {w : Symbol} {f : Tree → Rest} {x : TreeError} →
+      At ts s d us (part (Grouped Sum) (λ e. sign w (f e))) h → Exposes us (d + own_height s) w x → Fails ts s d x
+  Fails-enclosed {f = f} {x = x} p q = record { fails = λ K. EndsBy-at x (p.comes K) (q.fails f h (own_height s) K) }
+
   pub Leads-done : {e : Tree} → At ts s d us (done e) h → Leads ts s d us e (h + own_height s)
   Leads-done {e = e} p = record { comes = λ K. p.comes K ∙ run-done 200 us e h (d + own_height s) (own_height s) K }
 
@@ -112,10 +124,11 @@ pub Unary-fails : {ts us : List Token} {t : Token} (e : ts ≡ t ∷ us) (d : �
 Unary-fails {us = us} {t = t} e d x j q = record { fails = λ K. rw (j, e) (run-none 200 t us (Want Unary d K) (rw q refl)) }
 
 -- no sign but these begins an operand
-pub unopened : (s : Symbol) (p : ℕ) → (Sign s ≡ Sign Minus → ⊥) → (Sign s ≡ Sign LeftParen → ⊥) → opening Unary (Sign s) p ≡ None
-unopened Minus p f g = absurd (f refl)
-unopened LeftParen p f g = absurd (g refl)
-unopened _ p f g = refl
+pub unopened : (s : Symbol) (p : ℕ) → (Sign s ≡ Sign Minus → ⊥) → (Sign s ≡ Sign LeftParen → ⊥) → (Sign s ≡ Sign LeftBrace → ⊥) → opening Unary (Sign s) p ≡ None
+unopened Minus p f g h = absurd (f refl)
+unopened LeftParen p f g h = absurd (g refl)
+unopened LeftBrace p f g h = absurd (h refl)
+unopened _ p f g h = refl
 
 -- the productions, at a token of the kind
 pub opens_negated : {k : TokenKind} {p : ℕ} → k ≡ Sign Minus → Opens Unary k p (part Unary (λ e. done (unary Neg e p)))
@@ -127,8 +140,34 @@ opens_parens q = rw q parens
 pub opens_number : {k : TokenKind} {p : ℕ} (v : ℤ) → k ≡ Number v → Opens Unary k p (done (literal (constant.Int v) p))
 opens_number v q = rw q number
 
+pub opens_name : {k : TokenKind} {p : ℕ} (x : List ℕ) → k ≡ Name x → Opens Unary k p (done (tree.name x p))
+opens_name x q = rw q by_name
+
 pub opens_definition : {k : TokenKind} {p : ℕ} → k ≡ Key Def → Opens Definition k p (name (λ x p. heading (part (Grouped Sum) (λ e. sign Semicolon (done (define x kind.Int e p))))))
 opens_definition q = rw q definition
+
+-- An expression and the sign behind it.
+module _ {ts us : List Token} {d : ℕ} {w : Symbol} where
+  pub Encloses-done : {vs : List Token} {e : Tree} {h : ℕ} → Leads ts (Grouped Sum) d us e h → Takes (sign w) us vs → Encloses ts d w vs e h
+  Encloses-done {e = e} {h = h} p q = record {
+    comes = λ f m c K.
+        run-part 200 ts (Grouped Sum) (λ a. sign w (f a)) m d c K ∙ p.comes (Inside (λ a. sign w (f a)) m d c ∷ K)
+        ∙ run-inside 200 us e h (λ a. sign w (f a)) m d c K ∙ q.comes (f e) (max m h) d c K;
+  }
+
+  pub Exposes-sign : {e : Tree} {h : ℕ} {x : TreeError} → Leads ts (Grouped Sum) d us e h → Misses (sign w) us x → Exposes ts d w x
+  Exposes-sign {e = e} {h = h} {x = x} p q = record {
+    fails = λ f m c K.
+        EndsBy-at x
+        (run-part 200 ts (Grouped Sum) (λ a. sign w (f a)) m d c K ∙ p.comes (Inside (λ a. sign w (f a)) m d c ∷ K)
+        ∙ run-inside 200 us e h (λ a. sign w (f a)) m d c K)
+        (q.fails (f e) (max m h) d c K);
+  }
+
+pub Exposes-part : (w : Symbol) {ts : List Token} {d : ℕ} {x : TreeError} → Fails ts (Grouped Sum) d x → Exposes ts d w x
+Exposes-part w {ts = ts} {d = d} {x = x} q = record {
+  fails = λ f m c K. EndsBy-at x (run-part 200 ts (Grouped Sum) (λ a. sign w (f a)) m d c K) (q.fails (Inside (λ a. sign w (f a)) m d c ∷ K));
+}
 
 -- Levels: the first operand has come, and the level is open.
 pub record Begun (ts : List Token) (l : Level) (d : ℕ) (us : List Token) (e : Tree) (h : ℕ) : Type 0 where

@@ -8,7 +8,7 @@ use Rattle.id_tree.specs.declared.tree.BinaryOp.{BinaryOp}
 use Rattle.id_tree.specs.declared.parser.Level.{Level}
 use Rattle.id_tree.specs.declared.parser.Level.TheVariants.{Sum, Product}
 use Rattle.id_tree.specs.Tree.{Tree}
-use Rattle.id_tree.specs.Grammar.{Phrase, Definition, Grouped, Unary, kind_of, Rest, done, word, name, part, Opens, definition, negated, number, parens, operand, operator_of, own_height, Derives, opened, single, grouped, Follows, ended, taken, named, given}
+use Rattle.id_tree.specs.Grammar.{Phrase, Definition, Grouped, Unary, Tail, kind_of, Rest, done, word, name, part, Opens, definition, negated, number, parens, by_name, by_block, by_binding, by_body, operand, operator_of, own_height, Derives, opened, single, grouped, Follows, ended, taken, named, given}
 use Rattle.id_tree.specs.Machine.{opening, room}
 use Rattle.id_tree.specs.Standing.{Roomy}
 
@@ -18,6 +18,7 @@ Quiet Definition k = Unit {0}
 Quiet (Grouped Sum) k = (operator_of Sum k ≡ None) × (operator_of Product k ≡ None)
 Quiet (Grouped Product) k = operator_of Product k ≡ None
 Quiet Unary k = Unit {0}
+Quiet Tail k = Unit {0}
 
 -- what is left of a production of the phrase s0 does not go on a part of the phrase s
 abbrev pub Ends : Phrase → Phrase → Rest → Type 0
@@ -67,6 +68,25 @@ valid parens = record {
   needs = omega arith;
   roomy = λ n d h. (h, λ e. tt);
 }
+valid by_name = record { parts = tt; high = omega arith; needs = omega arith; roomy = λ n d h. tt }
+valid by_block = record {
+  parts = λ a. (λ k q. tt, tt);
+  high = omega arith;
+  needs = omega arith;
+  roomy = λ n d h. (h, λ a. tt);
+}
+valid by_binding = record {
+  parts = λ e. ((refl, refl), λ a. (λ k q. tt, tt));
+  high = omega arith;
+  needs = omega arith;
+  roomy = λ n d h. (h, λ e. (h, λ a. tt));
+}
+valid by_body = record {
+  parts = λ e. ((refl, refl), tt);
+  high = omega arith;
+  needs = omega arith;
+  roomy = λ n d h. (h, λ e. tt);
+}
 
 -- the machine finds each production
 pub opening-from_opens : {s : Phrase} {k : TokenKind} {p : ℕ} {r : Rest} (o : Opens s k p r) → opening s k p ≡ Some (record { rest = r; opens = o })
@@ -74,6 +94,10 @@ opening-from_opens definition = refl
 opening-from_opens negated = refl
 opening-from_opens number = refl
 opening-from_opens parens = refl
+opening-from_opens by_name = refl
+opening-from_opens by_block = refl
+opening-from_opens by_binding = refl
+opening-from_opens by_body = refl
 
 -- an operator of a level is none of a tighter one
 pub Quiet-operator : (l : Level) (k : TokenKind) (o : BinaryOp) → operator_of l k ≡ Some o → Quiet (operand l) k

@@ -6,7 +6,7 @@ use Rattle.id_text.specs.declared.token.TokenKind.TheVariants.{Name, End}
 use Rattle.id_tree.specs.declared.parser.Level.{Level}
 use Rattle.id_tree.specs.declared.parser.Level.TheVariants.{Sum, Product}
 use Rattle.id_tree.specs.Tree.{Tree, binary, none, more}
-use Rattle.id_tree.specs.Grammar.{Phrase, Definition, Grouped, Unary, Rest, done, word, name, part, operator_of, own_height, Derives, opened, single, grouped, ended, taken, named, given, Program, empty, single_def}
+use Rattle.id_tree.specs.Grammar.{Phrase, Definition, Grouped, Unary, Tail, Rest, done, word, name, part, operator_of, own_height, Derives, opened, single, grouped, ended, taken, named, given, Program, empty, single_def}
 use Rattle.id_tree.specs.Machine.{opening, Move, pick, is_word, name_in, ends, enters, wants, operates, nexts, closes, takes, Frame, State}
 use Rattle.id_tree.specs.Standing.{Begins, Roomy, Around, outermost, left, right, inside, Stands, begun, wanting, having, within, finished}
 use Rattle.id_tree.proofs.RowLemmas.{valid, Derives-height}
@@ -54,6 +54,7 @@ module _ (n : ℕ) (t : Token) where
   Moves-wants : {s : Phrase} {d : ℕ} {K : List Frame} {us : List Token} → Around n s d K us → Moves n (us ++ t ∷ []) (wants t s d K)
   Moves-wants {s = Definition} a = Moves-enters a
   Moves-wants {s = Unary} a = Moves-enters a
+  Moves-wants {s = Tail} a = Moves-enters a
   Moves-wants {s = Grouped Product} a = Moves-enters (left a)
   Moves-wants {s = Grouped Sum} a = Moves-enters (left (left a))
 

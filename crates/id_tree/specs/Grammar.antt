@@ -4,9 +4,9 @@ use Rattle.id_text.specs.declared.token.Token.{Token}
 use Rattle.id_text.specs.declared.token.TokenKind.{TokenKind}
 use Rattle.id_text.specs.declared.token.TokenKind.TheVariants.{Name, Number, Key, Sign, End}
 use Rattle.id_text.specs.declared.token.Keyword.{Keyword}
-use Rattle.id_text.specs.declared.token.Keyword.TheVariants.{Def, Int, Div, Rem}
+use Rattle.id_text.specs.declared.token.Keyword.TheVariants.{Def, In, Int, Div, Rem}
 use Rattle.id_text.specs.declared.token.Symbol.{Symbol}
-use Rattle.id_text.specs.declared.token.Symbol.TheVariants.{LeftParen, RightParen, Semicolon, Colon, Becomes, Plus, Minus, Star}
+use Rattle.id_text.specs.declared.token.Symbol.TheVariants.{LeftParen, RightParen, LeftBrace, RightBrace, Semicolon, Colon, Becomes, Plus, Minus, Star}
 use Rattle.id_tree.specs.declared.tree.Kind.TheVariants as kind
 use Rattle.id_tree.specs.declared.tree.Constant.TheVariants as constant
 use Rattle.id_tree.specs.declared.tree.UnaryOp.TheVariants.{Neg}
@@ -14,13 +14,16 @@ use Rattle.id_tree.specs.declared.tree.BinaryOp.{BinaryOp}
 use Rattle.id_tree.specs.declared.tree.BinaryOp.TheVariants as op
 use Rattle.id_tree.specs.declared.parser.Level.{Level}
 use Rattle.id_tree.specs.declared.parser.Level.TheVariants.{Sum, Product}
-use Rattle.id_tree.specs.Tree.{Tree, literal, unary, define, binary, none, more}
+use Rattle.id_tree.specs.Tree as tree
+use Rattle.id_tree.specs.Tree.{Tree, literal, unary, block, binding, define, binary, none, more}
 
--- What a rule is for: a definition, a left-grouped level of operators, or an operand of the tightest.
+-- What a rule is for: a definition, a left-grouped level of operators, an operand of the tightest,
+-- or the tail of a block, which stands behind its brace and behind each of its statements.
 pub data Phrase : Type 0 where
   Definition : Phrase
   Grouped : Level → Phrase
   Unary : Phrase
+  Tail : Phrase
 
 -- a reserved word or a sign, which a production fixes
 pub data Word : Type 0 where
@@ -52,12 +55,26 @@ key k r = word (the_key k) r
 abbrev pub heading : Rest → Rest
 heading r = sign LeftParen (sign RightParen (sign Colon (key Int (sign Becomes r))))
 
+-- a statement before the others of a tail, whose tree has its statements and its body
+abbrev pub with_statement : Tree → Tree → Tree
+with_statement s (more a e) = more (more s a) e
+with_statement s _ = none
+
+-- the block with this tail
+abbrev pub block_of : Tree → ℕ → Tree
+block_of (more a e) p = block a e p
+block_of _ p = none
+
 -- The productions that begin with a token of their own: a phrase, the token's kind and place, and what is left behind it.
 pub data Opens : Phrase → TokenKind → ℕ → Rest → Type 0 where
   definition : {p : ℕ} → Opens Definition (Key Def) p (name (λ x q. heading (part (Grouped Sum) (λ e. sign Semicolon (done (define x kind.Int e q))))))
   negated : {p : ℕ} → Opens Unary (Sign Minus) p (part Unary (λ e. done (unary Neg e p)))
   number : {v : ℤ} {p : ℕ} → Opens Unary (Number v) p (done (literal (constant.Int v) p))
   parens : {p : ℕ} → Opens Unary (Sign LeftParen) p (part (Grouped Sum) (λ e. sign RightParen (done e)))
+  by_name : {x : List ℕ} {p : ℕ} → Opens Unary (Name x) p (done (tree.name x p))
+  by_block : {p : ℕ} → Opens Unary (Sign LeftBrace) p (part Tail (λ a. done (block_of a p)))
+  by_binding : {x : List ℕ} {p : ℕ} → Opens Tail (Name x) p (sign Becomes (part (Grouped Sum) (λ e. sign Semicolon (part Tail (λ a. done (with_statement (binding x e p) a))))))
+  by_body : {p : ℕ} → Opens Tail (Key In) p (part (Grouped Sum) (λ e. sign RightBrace (done (more none e))))
 
 -- the operands of a level
 abbrev pub operand : Level → Phrase
@@ -73,11 +90,12 @@ operator_of Product (Key Div) = Some op.Div
 operator_of Product (Key Rem) = Some op.Rem
 operator_of _ _ = None
 
--- what a phrase adds to the height of its parts: an expression one, a definition nothing
+-- what a phrase adds to the height of its parts: an expression one, a definition and a tail nothing
 abbrev pub own_height : Phrase → ℕ
 own_height Definition = 0
 own_height (Grouped l) = 1
 own_height Unary = 1
+own_height Tail = 0
 
 mutual
   -- the tokens are a phrase, with this tree of this height: a production, or the operands of a level from the left

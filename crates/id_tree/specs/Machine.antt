@@ -4,15 +4,15 @@ use denote.Enum.Bare.{sameb}
 use Rattle.id_text.specs.declared.token.Token.{Token}
 use Rattle.id_text.specs.declared.token.TokenKind.{TokenKind}
 use Rattle.id_text.specs.declared.token.TokenKind.TheVariants.{Name, Number, Key, Sign, End}
-use Rattle.id_text.specs.declared.token.Keyword.TheVariants.{Def}
-use Rattle.id_text.specs.declared.token.Symbol.TheVariants.{LeftParen, Minus}
+use Rattle.id_text.specs.declared.token.Keyword.TheVariants.{Def, In}
+use Rattle.id_text.specs.declared.token.Symbol.TheVariants.{LeftParen, LeftBrace, Minus}
 use Rattle.id_text.specs.contracts.token.Keyword as keyword
 use Rattle.id_text.specs.contracts.token.Symbol as symbol
 use Rattle.id_tree.specs.declared.tree.BinaryOp.{BinaryOp}
 use Rattle.id_tree.specs.declared.parser.Level.{Level}
 use Rattle.id_tree.specs.declared.parser.Level.TheVariants.{Sum, Product}
 use Rattle.id_tree.specs.Tree.{Tree, binary, none, more}
-use Rattle.id_tree.specs.Grammar.{Phrase, Definition, Grouped, Unary, Word, the_key, the_sign, Rest, done, word, name, part, Opens, definition, negated, number, parens, operand, operator_of, own_height}
+use Rattle.id_tree.specs.Grammar.{Phrase, Definition, Grouped, Unary, Tail, Word, the_key, the_sign, Rest, done, word, name, part, Opens, definition, negated, number, parens, by_name, by_block, by_binding, by_body, operand, operator_of, own_height}
 
 -- a production that begins with this token
 pub record Row (s : Phrase) (k : TokenKind) (p : ℕ) : Type 0 where
@@ -25,6 +25,10 @@ opening Definition (Key Def) p = Some (record { rest = _; opens = definition })
 opening Unary (Sign Minus) p = Some (record { rest = _; opens = negated })
 opening Unary (Number v) p = Some (record { rest = _; opens = number })
 opening Unary (Sign LeftParen) p = Some (record { rest = _; opens = parens })
+opening Unary (Name x) p = Some (record { rest = _; opens = by_name })
+opening Unary (Sign LeftBrace) p = Some (record { rest = _; opens = by_block })
+opening Tail (Name x) p = Some (record { rest = _; opens = by_binding })
+opening Tail (Key In) p = Some (record { rest = _; opens = by_body })
 opening _ _ _ = None
 
 -- the least height of the parts of what is left
@@ -84,6 +88,7 @@ wants t Definition d K = enters t Definition d K
 wants t (Grouped Sum) d K = enters t Unary d (Left Product d ∷ Left Sum d ∷ K)
 wants t (Grouped Product) d K = enters t Unary d (Left Product d ∷ K)
 wants t Unary d K = enters t Unary d K
+wants t Tail d K = enters t Tail d K
 
 -- a token behind an operand of a level: an operator of the level, or else what the level's end makes of it
 abbrev pub operates : Token → Tree → ℕ → Level → ℕ → List Frame → Option Move → Option Move

@@ -4,24 +4,40 @@ use Rattle.id_tree.specs.declared.tree.Kind.{Kind}
 use Rattle.id_tree.specs.declared.tree.Constant.{Constant}
 use Rattle.id_tree.specs.declared.tree.UnaryOp.{UnaryOp}
 use Rattle.id_tree.specs.declared.tree.BinaryOp.{BinaryOp}
-use Rattle.id_tree.specs.declared.tree.Expr.{Expr, Literal, Unary', Binary'}
+use Rattle.id_tree.specs.declared.tree.Expr.{Expr, Literal, Unary', Binary', Name, Block', Row_of-Stmt, end_of-Stmt, more_of-Stmt}
+use Rattle.id_tree.specs.declared.tree.Stmt.{Stmt, Binding}
 use Rattle.id_tree.specs.declared.tree.Def.{Def}
 use Rattle.id_tree.specs.declared.tree.Program.{Program}
 
--- An expression, a definition, or a list of trees. The last number of a thing is its place.
+-- An expression, a statement, a definition, or a list of trees. The last number of a thing is its place.
 pub data Tree : Type 0 where
   literal : Constant → ℕ → Tree
   unary : UnaryOp → Tree → ℕ → Tree
   binary : BinaryOp → Tree → Tree → ℕ → Tree
+  name : List ℕ → ℕ → Tree
+  block : Tree → Tree → ℕ → Tree
+  binding : List ℕ → Tree → ℕ → Tree
   define : List ℕ → Kind → Tree → ℕ → Tree
   none : Tree
   more : Tree → Tree → Tree
 
--- the expression's tree
-abbrev pub tree_of : Expr → Tree
-tree_of (Literal value place) = literal value place
-tree_of (Unary' op p operand place) = unary op (tree_of operand) place
-tree_of (Binary' op p left q right place) = binary op (tree_of left) (tree_of right) place
+abbrev mutual
+  -- the expression's tree
+  pub tree_of : Expr → Tree
+  tree_of (Literal value place) = literal value place
+  tree_of (Unary' op p operand place) = unary op (tree_of operand) place
+  tree_of (Binary' op p left q right place) = binary op (tree_of left) (tree_of right) place
+  tree_of (Name x place) = name x place
+  tree_of (Block' n statements p body place) = block (row_tree statements) (tree_of body) place
+
+  -- the statement's tree
+  pub stmt_tree : Stmt → Tree
+  stmt_tree (Binding x value place) = binding x (tree_of value) place
+
+  -- the trees of the statements, in order
+  pub row_tree : {n : _} → Row_of-Stmt n → Tree
+  row_tree end_of-Stmt = none
+  row_tree (more_of-Stmt s rest) = more (stmt_tree s) (row_tree rest)
 
 -- the definition's tree
 abbrev pub def_tree : Def → Tree

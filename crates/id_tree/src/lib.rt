@@ -1,6 +1,7 @@
 //! The tree of a program, and the parser that reads it off the tokens.
 //!
-//! Keeps: nothing beyond its values; that the places of a program differ is a clause of `parse`.
+//! Keeps: nothing beyond its values; that the places of a program differ, and are starts of tokens,
+//! are clauses of `parse`.
 //! Errors: `TreeError`, the refusals 5 and 6 or want of memory.
 //! Read first: docs/LANGUAGE.md ("Grammar", "Nesting", "Place"), `specs/Grammar.antt`,
 //! `specs/Accepted.antt`, then `parse`.
@@ -13,7 +14,9 @@ mod tokens;
 mod tree;
 
 pub use parser::parse;
-pub use tree::{BinaryOp, Constant, Def, Expr, Kind, MAX_NESTING, Program, TreeError, UnaryOp};
+pub use tree::{
+    BinaryOp, Constant, Def, Expr, Kind, MAX_NESTING, Program, Stmt, TreeError, UnaryOp,
+};
 
 #[cfg(test)]
 mod tests;

@@ -5,10 +5,11 @@
 
 ghost use Rattle.std.specs.Prelude.{◌≡◌, ◌≢◌, ◌∷◌, ◌+◌, ◌<◌, ◌≤◌, ℕ, IfOk, IfErr, MatchResult, Some};
 ghost use Rattle.id_text.specs.Tokens.{EndsOnce, Rises};
-ghost use Rattle.id_tree.specs.Tree.{Tree, tree_of, def_tree, program_tree};
+ghost use Rattle.id_tree.specs.Tree.{Tree, tree_of, stmt_tree, def_tree, program_tree};
 ghost use Rattle.id_tree.specs.Accepted.{Accepts, RefusedBy, IsMemory};
 ghost use Rattle.id_tree.specs.Distinct.{Distinct};
-ghost use Rattle.id_tree.specs.Grammar.{Definition, Grouped, Unary, operand, operator_of, heading};
+ghost use Rattle.id_tree.specs.Starts.{PlacesAreStarts};
+ghost use Rattle.id_tree.specs.Grammar.{Definition, Grouped, Unary, Tail, operand, operator_of, heading};
 ghost use Rattle.id_tree.specs.Machine.{run, Begin, Accepted};
 ghost use Rattle.id_tree.specs.Readers.{
   first_kind,
@@ -22,14 +23,19 @@ ghost use Rattle.id_tree.specs.Readers.{
   Stunts,
   Takes,
   Misses,
+  Encloses,
+  Exposes,
+  Adds,
+  Gathers,
+  IsGathered,
 };
 
-use crate::part::{Part, binary, literal, negated};
+use crate::part::{Part, binary, binding, block, literal, name, negated};
 use crate::tokens::{
-    check_nesting, expect_end, expect_key, expect_name, expect_sign, is_key, is_sign, split,
-    unexpected,
+    begins_with, check_nesting, expect_end, expect_key, expect_name, expect_sign, is_key, is_sign,
+    split, unexpected,
 };
-use crate::tree::{BinaryOp, Def, Kind, MAX_NESTING, Program, TreeError};
+use crate::tree::{BinaryOp, Def, Kind, MAX_NESTING, Program, Stmt, TreeError};
 use id_text::{Keyword, Sequence, Symbol, Token, TokenKind};
 use std::alloc::Global;
 
@@ -53,6 +59,7 @@ pub fn parse(alloc: Global, tokens: &[Token]) -> Result<Program, TreeError>
     ensures only { (e : Tree) → Accepts tokens.now e →
         MatchResult result (λ p. program_tree p ≡ e) IsMemory }
     ensures distinct { IfOk result (λ p. Distinct (program_tree p)) }
+    ensures within { IfOk result (λ p. PlacesAreStarts tokens.now (program_tree p)) }
 
     ensures refused { IfErr result (RefusedBy tokens.now) }
 {
@@ -92,8 +99,7 @@ fn parse_def(alloc: Global, tokens: &[Token]) -> Result<(Def, &[Token]), TreeErr
     let (_, named) = split(tokens);
     let (name, place, headed) = expect_name(alloc, named)?;
     let begun = parse_heading(headed)?;
-    let (body, ended) = parse_grouped(alloc, begun, Level::Sum, 0)?;
-    let rest = expect_sign(ended, Symbol::Semicolon)?;
+    let (body, rest) = parse_enclosed(alloc, begun, Symbol::Semicolon, 0)?;
     let def = Def {
         name,
         result: Kind::Int,
@@ -190,7 +196,7 @@ fn parse_operand(
     }
 }
 
-/// `unary = "-" unary | NUMBER | "(" expr ")"`
+/// `unary = "-" unary | NUMBER | NAME | "(" expr ")" | block`
 #[cycle(expr)]
 fn parse_unary(alloc: Global, tokens: &[Token], depth: usize) -> Result<(Part, &[Token]), TreeError>
     requires ends { EndsOnce tokens.now }
@@ -205,8 +211,10 @@ fn parse_unary(alloc: Global, tokens: &[Token], depth: usize) -> Result<(Part, &
         parse_negated(alloc, tokens, depth)
     } else if is_sign(first, Symbol::LeftParen) {
         parse_parens(alloc, tokens, depth)
+    } else if is_sign(first, Symbol::LeftBrace) {
+        parse_block(alloc, tokens, depth)
     } else {
-        parse_literal(tokens, depth)
+        parse_leaf(alloc, tokens, depth)
     }
 }
 
@@ -249,8 +257,7 @@ fn parse_parens(
 {
     let (_, opened) = split(tokens);
     check_nesting(tokens, depth + 2)?;
-    let (inside, closed) = parse_grouped(alloc, opened, Level::Sum, depth + 1)?;
-    let rest = expect_sign(closed, Symbol::RightParen)?;
+    let (inside, rest) = parse_enclosed(alloc, opened, Symbol::RightParen, depth + 1)?;
     let whole = Part {
         expr: inside.expr,
         height: inside.height + 1,
@@ -258,11 +265,100 @@ fn parse_parens(
     Ok((whole, rest))
 }
 
-/// `NUMBER`
-fn parse_literal(tokens: &[Token], depth: usize) -> Result<(Part, &[Token]), TreeError>
+/// An expression and the sign behind it.
+#[cycle(expr)]
+fn parse_enclosed(
+    alloc: Global,
+    tokens: &[Token],
+    closing: Symbol,
+    depth: usize,
+) -> Result<(Part, &[Token]), TreeError>
+    requires ends { EndsOnce tokens.now }
+    requires room { depth < MAX_NESTING }
+    ensures read { IfOk result (λ x. IsRead tokens.now x.1.now depth x.0.height) }
+    ensures ok { IfOk result (λ x.
+        Encloses tokens.now depth closing x.1.now (tree_of x.0.expr) x.0.height) }
+    ensures err { IfErr result (Exposes tokens.now depth closing) }
+{
+    let (inside, closed) = parse_grouped(alloc, tokens, Level::Sum, depth)?;
+    let rest = expect_sign(closed, closing)?;
+    Ok((inside, rest))
+}
+
+/// `block = "{" { stmt } "in" expr "}"`
+#[cycle(expr)]
+fn parse_block(alloc: Global, tokens: &[Token], depth: usize) -> Result<(Part, &[Token]), TreeError>
+    requires ends { EndsOnce tokens.now }
+    requires begins { first_kind tokens.now ≡ TokenKind.Sign Symbol.LeftBrace }
+    requires room { depth < MAX_NESTING }
+    ensures read { IfOk result (λ x. IsRead tokens.now x.1.now depth x.0.height) }
+    ensures ok { IfOk result (λ x.
+        Leads tokens.now Unary depth x.1.now (tree_of x.0.expr) x.0.height) }
+    ensures err { IfErr result (Fails tokens.now Unary depth) }
+{
+    let (first, opened) = split(tokens);
+    let inner = depth + 1;
+    check_nesting(tokens, inner + 1)?;
+    let (statements, height, last) = parse_statements(alloc, opened, inner)?;
+    let (_, begun) = split(last);
+    let (body, rest) = parse_enclosed(alloc, begun, Symbol::RightBrace, inner)?;
+    let whole = block(alloc, statements, height, body, first.start)?;
+    Ok((whole, rest))
+}
+
+/// `{ stmt }`, with the greatest height of a value, and the tokens from the `in` on.
+#[cycle(expr)]
+fn parse_statements(
+    alloc: Global,
+    tokens: &[Token],
+    depth: usize,
+) -> Result<(Vec<Stmt>, usize, &[Token]), TreeError>
+    requires ends { EndsOnce tokens.now }
+    requires room { depth < MAX_NESTING }
+    ensures read { IfOk result (λ x. IsGathered tokens.now x.2.now depth x.1) }
+    ensures last { IfOk result (λ x. first_kind x.2.now ≡ TokenKind.Key Keyword.In) }
+    ensures ok { IfOk result (λ x. Gathers tokens.now depth x.2.now x.0.items x.1) }
+    ensures err { IfErr result (Fails tokens.now Tail depth) }
+{
+    let mut statements = Vec::new(alloc);
+    let mut height = 0usize;
+    let mut rest = tokens;
+    'stmts: while !begins_with(rest, Keyword::In) {
+        let (statement, own, behind) = parse_binding(alloc, rest, depth)?;
+        statements.push(statement)?;
+        height = height.max(own);
+        rest = behind;
+    }
+    Ok((statements, height, rest))
+}
+
+/// `stmt = NAME "=" expr ";"`, with the value's height.
+#[cycle(expr)]
+fn parse_binding(
+    alloc: Global,
+    tokens: &[Token],
+    depth: usize,
+) -> Result<(Stmt, usize, &[Token]), TreeError>
+    requires ends { EndsOnce tokens.now }
+    requires no_body { first_kind tokens.now ≢ TokenKind.Key Keyword.In }
+    requires room { depth < MAX_NESTING }
+    ensures read { IfOk result (λ x. IsRead tokens.now x.2.now depth x.1) }
+    ensures ok { IfOk result (λ x. Adds tokens.now depth x.2.now (stmt_tree x.0) x.1) }
+    ensures err { IfErr result (Fails tokens.now Tail depth) }
+{
+    let (name, place, named) = expect_name(alloc, tokens)?;
+    let begun = expect_sign(named, Symbol::Becomes)?;
+    let (value, rest) = parse_enclosed(alloc, begun, Symbol::Semicolon, depth)?;
+    let statement = binding(name, value.expr, place);
+    Ok((statement, value.height, rest))
+}
+
+/// `NUMBER | NAME`
+fn parse_leaf(alloc: Global, tokens: &[Token], depth: usize) -> Result<(Part, &[Token]), TreeError>
     requires ends { EndsOnce tokens.now }
     requires no_minus { first_kind tokens.now ≢ TokenKind.Sign Symbol.Minus }
     requires no_paren { first_kind tokens.now ≢ TokenKind.Sign Symbol.LeftParen }
+    requires no_brace { first_kind tokens.now ≢ TokenKind.Sign Symbol.LeftBrace }
     requires room { depth < MAX_NESTING }
     ensures read { IfOk result (λ x. IsRead tokens.now x.1.now depth x.0.height) }
     ensures ok { IfOk result (λ x.
@@ -272,7 +368,7 @@ fn parse_literal(tokens: &[Token], depth: usize) -> Result<(Part, &[Token]), Tre
     let (first, rest) = split(tokens);
     match &first.kind {
         TokenKind::Number(value) => Ok((literal(value, first.start), rest)),
-        TokenKind::Name(_) => Err(unexpected(tokens)),
+        TokenKind::Name(x) => Ok((name(x.copy(alloc)?, first.start), rest)),
         TokenKind::Key(_) => Err(unexpected(tokens)),
         TokenKind::Sign(_) => Err(unexpected(tokens)),
         TokenKind::End => Err(unexpected(tokens)),

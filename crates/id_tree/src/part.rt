@@ -4,9 +4,12 @@ ghost use Rattle.std.specs.Prelude.{◌≡◌, ◌+◌, ◌<◌, ◌^◌, IfOk, 
 ghost use Rattle.id_tree.specs.declared.tree.TreeError.TheVariants.{Memory};
 ghost use Rattle.id_tree.specs.declared.tree.Constant.TheVariants.{Int};
 ghost use Rattle.id_tree.specs.declared.tree.UnaryOp.TheVariants.{Neg};
-ghost use Rattle.id_tree.specs.Tree.{tree_of, literal, unary, binary};
+ghost use Rattle.id_tree.specs.Tree.{tree_of, stmt_tree, none};
+ghost use Rattle.id_tree.specs.Tree as tree;
+ghost use Rattle.id_tree.specs.Readers.{onto};
 
-use crate::tree::{BinaryOp, Constant, Expr, TreeError, UnaryOp};
+use crate::tree::{BinaryOp, Constant, Expr, Stmt, TreeError, UnaryOp};
+use id_text::Identifier;
 use std::alloc::Global;
 
 /// An expression that was read, and its height.
@@ -19,7 +22,7 @@ pub struct Part {
 /// The number as an expression.
 pub fn literal(value: &i64, place: usize) -> Part
     ensures height { result.height ≡ 1 }
-    ensures tree { tree_of result.expr ≡ literal (Int value.now) place }
+    ensures tree { tree_of result.expr ≡ tree.literal (Int value.now) place }
 {
     let value = Constant::Int(*value);
     Part {
@@ -28,11 +31,22 @@ pub fn literal(value: &i64, place: usize) -> Part
     }
 }
 
+/// The name as an expression.
+pub fn name(name: Identifier, place: usize) -> Part
+    ensures height { result.height ≡ 1 }
+    ensures tree { tree_of result.expr ≡ tree.name name place }
+{
+    Part {
+        expr: Expr::Name { name, place },
+        height: 1,
+    }
+}
+
 /// The operand behind a `-`.
 pub fn negated(alloc: Global, operand: Part, place: usize) -> Result<Part, TreeError>
     requires { operand.height < 2 ^ 63 }
     ensures height { IfOk result (λ p. p.height ≡ operand.height + 1) }
-    ensures tree { IfOk result (λ p. tree_of p.expr ≡ unary Neg (tree_of operand.expr) place) }
+    ensures tree { IfOk result (λ p. tree_of p.expr ≡ tree.unary Neg (tree_of operand.expr) place) }
     ensures err { IfErr result (λ e. e ≡ Memory) }
 {
     let height = operand.height + 1;
@@ -56,7 +70,7 @@ pub fn binary(
     requires high { right.height < 2 ^ 63 }
     ensures height { IfOk result (λ p. p.height ≡ max left.height right.height + 1) }
     ensures tree { IfOk result (λ p. tree_of p.expr
-        ≡ binary op (tree_of left.expr) (tree_of right.expr) place) }
+        ≡ tree.binary op (tree_of left.expr) (tree_of right.expr) place) }
     ensures err { IfErr result (λ e. e ≡ Memory) }
 {
     let height = left.height.max(right.height) + 1;
@@ -67,6 +81,40 @@ pub fn binary(
             op,
             left,
             right,
+            place,
+        },
+        height,
+    })
+}
+
+/// The name for the value of an expression.
+pub fn binding(name: Identifier, value: Expr, place: usize) -> Stmt
+    ensures { stmt_tree result ≡ tree.binding name (tree_of value) place }
+{
+    Stmt::Binding { name, value, place }
+}
+
+/// The statements, whose values have at most this height, round the body.
+pub fn block(
+    alloc: Global,
+    statements: Vec<Stmt>,
+    height: usize,
+    body: Part,
+    place: usize,
+) -> Result<Part, TreeError>
+    requires low { height < 2 ^ 63 }
+    requires high { body.height < 2 ^ 63 }
+    ensures height { IfOk result (λ p. p.height ≡ max height body.height + 1) }
+    ensures tree { IfOk result (λ p. tree_of p.expr
+        ≡ tree.block (onto statements.items none) (tree_of body.expr) place) }
+    ensures err { IfErr result (λ e. e ≡ Memory) }
+{
+    let height = height.max(body.height) + 1;
+    let body = Box::new(alloc, body.expr)?;
+    Ok(Part {
+        expr: Expr::Block {
+            statements,
+            body,
             place,
         },
         height,

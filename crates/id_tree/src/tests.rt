@@ -1,184 +1,128 @@
-//! Worked rows, with tokens laid out by hand: `~` is `def main(): int = `, whose body begins at 18.
+//! Worked texts of one definition, whose body begins at byte 18.
 
-ghost use Rattle.std.specs.Prelude.{◌≡◌, IsTrue};
-ghost use Rattle.id_text.specs.Tokens.{EndsOnce, Rises};
-
-use crate::{TreeError, parse};
-use id_text::{Identifier, Keyword, Symbol, Token, TokenKind};
+use crate::{Expr, Program, TreeError, parse};
+use id_text::{TextError, lex};
 use std::alloc::{AllocError, Global};
-use std::process::Abort;
 use std::test::Fail;
 
-/// Lays a token of this length at a place.
-fn put(
-    tokens: &mut Vec<Token>,
-    kind: TokenKind,
-    start: usize,
-    length: usize,
-) -> Result<(), AllocError> {
-    let end = start.saturating_add(length);
-    tokens.push(Token { kind, start, end })?;
-    Ok(())
+/// What a text is refused with.
+fn refusal(alloc: Global, text: &str) -> Result<Option<TreeError>, TextError> {
+    let tokens = lex(alloc, text)?;
+    Ok(parse(alloc, tokens.as_slice()).err())
 }
 
-/// `~`, with its last two tokens at these places.
-fn heading(alloc: Global, int: usize, becomes: usize) -> Result<Vec<Token>, AllocError> {
-    let mut tokens = Vec::new(alloc);
-    put(&mut tokens, TokenKind::Key(Keyword::Def), 0, 3)?;
-    let main = Identifier::new(String::from_str(alloc, "main")?);
-    put(&mut tokens, TokenKind::Name(main), 4, 4)?;
-    put(&mut tokens, TokenKind::Sign(Symbol::LeftParen), 8, 1)?;
-    put(&mut tokens, TokenKind::Sign(Symbol::RightParen), 9, 1)?;
-    put(&mut tokens, TokenKind::Sign(Symbol::Colon), 10, 1)?;
-    put(&mut tokens, TokenKind::Key(Keyword::Int), int, 3)?;
-    put(&mut tokens, TokenKind::Sign(Symbol::Becomes), becomes, 1)?;
-    Ok(tokens)
-}
-
-/// The end of a definition and of the text.
-fn finish(tokens: &mut Vec<Token>, at: usize) -> Result<(), AllocError> {
-    put(tokens, TokenKind::Sign(Symbol::Semicolon), at, 1)?;
-    put(tokens, TokenKind::End, at.saturating_add(1), 0)
-}
-
-/// `~`, so many opening signs, 1, so many closing ones, `;`.
+/// The definition of `1` within so many of these.
 fn wrapped(
     alloc: Global,
-    opening: Symbol,
-    opened: usize,
-    closed: usize,
-) -> Result<Vec<Token>, AllocError> {
-    let mut tokens = heading(alloc, 12, 16)?;
-    let mut at = 18usize;
-    for _ in 0..opened {
-        put(&mut tokens, TokenKind::Sign(opening), at, 1)?;
-        at = at.saturating_add(1);
+    opening: &str,
+    closing: &str,
+    count: usize,
+) -> Result<String, AllocError> {
+    let mut text = String::from_str(alloc, "def main(): int = ")?;
+    for _ in 0..count {
+        text.push_str(opening)?;
     }
-    put(&mut tokens, TokenKind::Number(1), at, 1)?;
-    at = at.saturating_add(1);
-    for _ in 0..closed {
-        put(&mut tokens, TokenKind::Sign(Symbol::RightParen), at, 1)?;
-        at = at.saturating_add(1);
+    text.push('1')?;
+    for _ in 0..count {
+        text.push_str(closing)?;
     }
-    finish(&mut tokens, at)?;
-    Ok(tokens)
-}
-
-/// `~1 + 1 + .. ;` with so many operators.
-fn summed(alloc: Global, operators: usize) -> Result<Vec<Token>, AllocError> {
-    let mut tokens = heading(alloc, 12, 16)?;
-    let mut at = 18usize;
-    put(&mut tokens, TokenKind::Number(1), at, 1)?;
-    for _ in 0..operators {
-        put(
-            &mut tokens,
-            TokenKind::Sign(Symbol::Plus),
-            at.saturating_add(2),
-            1,
-        )?;
-        put(&mut tokens, TokenKind::Number(1), at.saturating_add(4), 1)?;
-        at = at.saturating_add(4);
-    }
-    finish(&mut tokens, at.saturating_add(1))?;
-    Ok(tokens)
-}
-
-/// Whether the tokens end in their one `End` and rise.
-fn may_be_lent(tokens: &[Token]) -> bool
-    ensures ends { IsTrue result → EndsOnce tokens.now }
-    ensures rises { IsTrue result → Rises tokens.now }
-{
-    match tokens {
-        [] => false,
-        [last] => matches!(last.kind, TokenKind::End),
-        [first, second, ..] => {
-            let ends = matches!(first.kind, TokenKind::End);
-            !ends && first.start < second.start && may_be_lent(&tokens[1..])
-        }
-    }
-}
-
-/// What a list is refused with.
-fn refusal(rt: &impl Abort, alloc: Global, tokens: Vec<Token>) -> Option<TreeError> {
-    assert!(rt; may_be_lent(tokens.as_slice()));
-    parse(alloc, tokens.as_slice()).err()
+    text.push(';')?;
+    Ok(text)
 }
 
 #[test]
 fn nesting_ends_at_200(rt: HostRuntime) -> Result<(), Fail> {
     let alloc = rt.alloc();
-    let parens = Symbol::LeftParen;
-    let minus = Symbol::Minus;
     let rows = [
-        (wrapped(alloc, parens, 199, 199)?, None, "199 parentheses"),
-        (
-            wrapped(alloc, parens, 200, 200)?,
-            Some(TreeError::TooDeep { at: 217 }),
-            "200 parentheses, at the last",
-        ),
-        (wrapped(alloc, minus, 199, 0)?, None, "199 signs"),
-        (
-            wrapped(alloc, minus, 200, 0)?,
-            Some(TreeError::TooDeep { at: 217 }),
-            "200 signs, at the last",
-        ),
-        (summed(alloc, 199)?, None, "a sum of 200 ones"),
-        (
-            summed(alloc, 200)?,
-            Some(TreeError::TooDeep { at: 816 }),
-            "a sum of 201 ones, at the last operator",
-        ),
+        ("(", ")", 217, "parentheses, at the last"),
+        ("-", "", 217, "signs, at the last"),
+        ("1 + ", "", 816, "a sum of 201 ones, at the last operator"),
+        ("{ in ", " }", 1013, "blocks, at the last brace"),
+        ("{ x = ", "; in x }", 1212, "bindings, at the last brace"),
     ];
-    for (tokens, wanted, why) in rows {
-        assert_eq!(rt; refusal(&rt, alloc, tokens), wanted, "{why}");
+    for (opening, closing, at, why) in rows {
+        let most = wrapped(alloc, opening, closing, 199)?;
+        assert_eq!(rt; refusal(alloc, most.as_str())?, None, "{why}");
+        let more = wrapped(alloc, opening, closing, 200)?;
+        let deep = Some(TreeError::TooDeep { at });
+        assert_eq!(rt; refusal(alloc, more.as_str())?, deep, "{why}");
     }
     Ok(())
 }
 
-/// `def main():`, a CR and a blank, `int =`, an LF and a tab, `1 +;`.
-fn cut_sum(alloc: Global) -> Result<Vec<Token>, AllocError> {
-    let mut tokens = heading(alloc, 13, 17)?;
-    put(&mut tokens, TokenKind::Number(1), 20, 1)?;
-    put(&mut tokens, TokenKind::Sign(Symbol::Plus), 22, 1)?;
-    finish(&mut tokens, 23)?;
-    Ok(tokens)
-}
-
-/// `~1; def`
-fn second_def(alloc: Global) -> Result<Vec<Token>, AllocError> {
-    let mut tokens = heading(alloc, 12, 16)?;
-    put(&mut tokens, TokenKind::Number(1), 18, 1)?;
-    put(&mut tokens, TokenKind::Sign(Symbol::Semicolon), 19, 1)?;
-    put(&mut tokens, TokenKind::Key(Keyword::Def), 21, 3)?;
-    put(&mut tokens, TokenKind::End, 24, 0)?;
-    Ok(tokens)
-}
-
-/// Nothing.
-fn nothing(alloc: Global) -> Result<Vec<Token>, AllocError> {
-    let mut tokens = Vec::new(alloc);
-    put(&mut tokens, TokenKind::End, 0, 0)?;
-    Ok(tokens)
+#[test]
+fn refuses_at_the_first_token_that_cannot_follow(rt: HostRuntime) -> Result<(), Fail> {
+    let rows = [
+        ("def main():\r int =\n\t1 +;", 23, "no operand, at 2:5"),
+        ("def main(): int = 1; def", 21, "a second definition"),
+        ("def main(): int = { x = 1;", 26, "the end in a block"),
+        ("def main(): int = { x = 1 in x };", 26, "no semicolon"),
+        ("def main(): int = { x 1; in x };", 22, "no `=`"),
+        ("def main(): int = { 1 };", 20, "no statement"),
+        ("def main(): int = { in };", 23, "no body"),
+        ("def main(): int = { in 1; };", 24, "no closing brace"),
+        ("def main(): int = f(1);", 19, "a call"),
+        ("def main(): int = true;", 18, "a reserved word"),
+        ("def main(): int = { if = 1; in 2 };", 20, "another one"),
+    ];
+    for (text, at, why) in rows {
+        let unexpected = Some(TreeError::Unexpected { at });
+        assert_eq!(rt; refusal(rt.alloc(), text)?, unexpected, "{why}");
+    }
+    assert_eq!(rt; refusal(rt.alloc(), "")?, None, "no definition");
+    Ok(())
 }
 
 #[test]
-fn refuses_at_the_first_token_that_cannot_follow(rt: HostRuntime) -> Result<(), Fail> {
+fn a_block_has_its_bindings_in_order(rt: HostRuntime) -> Result<(), Fail> {
     let alloc = rt.alloc();
-    let rows = [
-        (
-            cut_sum(alloc)?,
-            Some(TreeError::Unexpected { at: 23 }),
-            "no operand, at 2:5",
-        ),
-        (
-            second_def(alloc)?,
-            Some(TreeError::Unexpected { at: 21 }),
-            "a second definition",
-        ),
-        (nothing(alloc)?, None, "no definition"),
-    ];
-    for (tokens, wanted, why) in rows {
-        assert_eq!(rt; refusal(&rt, alloc, tokens), wanted, "{why}");
+    let text = "def main(): int = { y = x + 1; x = 4; in y };";
+    let y = "Identifier { text: \"y\" }";
+    let x = "Identifier { text: \"x\" }";
+    let sum = format!(in alloc;
+        "Binary {{ op: Add, left: Name {{ name: {x}, place: 24 }}, right: Literal {{ value: Int(1), place: 28 }}, place: 26 }}"
+    )?;
+    let first = format!(in alloc; "Binding {{ name: {y}, value: {sum}, place: 20 }}")?;
+    let second = format!(in alloc;
+        "Binding {{ name: {x}, value: Literal {{ value: Int(4), place: 35 }}, place: 31 }}"
+    )?;
+    let wanted = format!(in alloc;
+        "Block {{ statements: [{first}, {second}], body: Name {{ name: {y}, place: 41 }}, place: 18 }}"
+    )?;
+    let tokens = lex(alloc, text)?;
+    let program = parse(alloc, tokens.as_slice())?;
+    for def in program.defs.as_slice() {
+        let shown = format!(in alloc; "{:?}", def.body)?;
+        assert_eq!(rt; shown, wanted);
+        assert_eq!(rt; def.place, 4);
     }
+    assert_eq!(rt; program.defs.len(), 1);
+    Ok(())
+}
+
+/// How many statements the blocks of the definitions have.
+fn statements_of(program: &Program) -> usize {
+    let mut count = 0usize;
+    for def in program.defs.as_slice() {
+        if let Expr::Block { statements, .. } = &def.body {
+            count = count.saturating_add(statements.len());
+        }
+    }
+    count
+}
+
+#[test]
+fn a_block_may_have_10000_bindings(rt: HostRuntime) -> Result<(), Fail> {
+    let alloc = rt.alloc();
+    let mut text = String::from_str(alloc, "def main(): int = { x0 = 1;")?;
+    for last in 1..10_000usize {
+        let before = last.saturating_sub(1);
+        let binding = format!(in alloc; " x{last} = x{before};")?;
+        text.push_str(binding.as_str())?;
+    }
+    text.push_str(" in x9999 };")?;
+    let tokens = lex(alloc, text.as_str())?;
+    let program = parse(alloc, tokens.as_slice())?;
+    assert_eq!(rt; statements_of(&program), 10_000);
     Ok(())
 }

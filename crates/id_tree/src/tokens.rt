@@ -8,8 +8,8 @@ ghost use Rattle.id_tree.specs.Readers.{
   IsBehind,
   Takes,
   Misses,
-  TakesName,
-  MissesName,
+  BeginsWithName,
+  LacksName,
 };
 ghost use Rattle.id_tree.specs.Grammar.{sign, key};
 
@@ -50,6 +50,14 @@ pub fn is_key(token: &Token, wanted: Keyword) -> bool
         TokenKind::Sign(_) => false,
         TokenKind::End => false,
     }
+}
+
+/// Whether the tokens begin with this word.
+pub fn begins_with(tokens: &[Token], wanted: Keyword) -> bool
+    requires { EndsOnce tokens.now }
+    ensures { IsTrue result ↔ (first_kind tokens.now ≡ TokenKind.Key wanted) }
+{
+    is_key(&tokens[0], wanted)
 }
 
 /// The refusal of the first token, since no program goes on with it.
@@ -114,8 +122,8 @@ pub fn expect_name(
 ) -> Result<(Identifier, usize, &[Token]), TreeError>
     requires { EndsOnce tokens.now }
     ensures behind { IfOk result (λ x. IsBehind x.2.now tokens.now) }
-    ensures ok { IfOk result (λ x. TakesName tokens.now x.0 x.1 x.2.now) }
-    ensures err { IfErr result (MissesName tokens.now) }
+    ensures ok { IfOk result (λ x. BeginsWithName tokens.now x.0 x.1 x.2.now) }
+    ensures err { IfErr result (LacksName tokens.now) }
 {
     let (first, rest) = split(tokens);
     match &first.kind {

@@ -37,6 +37,7 @@ pub enum BinaryOp {
 
 /// An expression. Parentheses leave no trace in it.
 #[derive(Debug, Drop)]
+#[cycle(tree)]
 pub enum Expr {
     /// A number, at its first digit.
     Literal {
@@ -54,6 +55,29 @@ pub enum Expr {
         op: BinaryOp,
         left: Box<Expr>,
         right: Box<Expr>,
+        place: usize,
+    },
+    /// A name, at itself.
+    Name {
+        name: Identifier,
+        place: usize,
+    },
+    /// Statements in whatever order, and the body that gives the value, at the brace.
+    Block {
+        statements: Vec<Stmt>,
+        body: Box<Expr>,
+        place: usize,
+    },
+}
+
+/// A statement of a block.
+#[derive(Debug, Drop)]
+#[cycle(tree)]
+pub enum Stmt {
+    /// A name for the value of an expression, at the name.
+    Binding {
+        name: Identifier,
+        value: Expr,
         place: usize,
     },
 }

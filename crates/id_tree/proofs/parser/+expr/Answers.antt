@@ -2,7 +2,8 @@
 use Rattle.std.proofs.Common.{◌∙◌, sym, refl, arith}
 use Rattle.std.proofs.lemmas.Result.{err_from_is_err_and}
 use Rattle.id_tree.specs.Tree.{tree_of}
-use Rattle.id_tree.proofs.ReaderLemmas.{first_of, IsRead-then, Level-begins, Level-grows, Level-fails, Level-stunts, Level-ends, Right-deep, Right-fails, Right-grows, At-opens, At-part, At-word, Leads-done, Leads-at, Fails-deep, Fails-part, Fails-word, opens_negated, opens_parens}
+use Rattle.id_tree.proofs.ReaderLemmas.{first_of, IsRead-then, Level-begins, Level-grows, Level-fails, Level-stunts, Level-ends, Right-deep, Right-fails, Right-grows, At-opens, At-part, At-word, At-enclosed, Leads-done, Leads-at, Fails-deep, Fails-part, Fails-word, Fails-enclosed, Encloses-done, Exposes-sign, Exposes-part, opens_negated, opens_parens}
+use Rattle.id_tree.proofs.BlockLemmas.{opens_block, Encloses-tail, Exposes-tail, At-binding, Fails-tail, Adds-done, IsGathered-add, Gathers-none, Gathers-add, Fails-gathered, Leads-gathered, Leads-body, Fails-body}
 use Rattle.id_tree.proofs.parser.+expr.Goals as goal
 
 pub parse_grouped-returns-in_err-left-clause-err : goal.parse_grouped-returns-in_err-left-clause-err
@@ -48,17 +49,81 @@ parse_parens-returns-in_err-check_nesting-clause-err t c =
 pub parse_parens-returns-in_err-inside-clause-err : goal.parse_parens-returns-in_err-inside-clause-err
 parse_parens-returns-in_err-inside-clause-err t c =
     let p = err_from_is_err_and c.from_residual-in_err-inside.result c.from_residual-in_err-inside.ensures.1 in
-    rw (p.1, p.2) (Fails-part (At-opens c.split.ensures.whole (opens_parens (first_of c.split.ensures.whole c.requires.begins)) c.args.depth (omega (arith, c.in_ok-check_nesting.ensures.ok))) c.in_err-inside.ensures.err)
-
-pub parse_parens-returns-in_err-rest-clause-err : goal.parse_parens-returns-in_err-rest-clause-err
-parse_parens-returns-in_err-rest-clause-err t c =
-    let p = err_from_is_err_and c.from_residual-in_err-rest.result c.from_residual-in_err-rest.ensures.1 in
-    rw (p.1, p.2) (Fails-word (At-part (At-opens c.split.ensures.whole (opens_parens (first_of c.split.ensures.whole c.requires.begins)) c.args.depth (omega (arith, c.in_ok-check_nesting.ensures.ok))) c.in_ok-inside.ensures.ok) c.in_err-rest.ensures.err)
+    rw (p.1, p.2) (Fails-enclosed (At-opens c.split.ensures.whole (opens_parens (first_of c.split.ensures.whole c.requires.begins)) c.args.depth (omega (arith, c.in_ok-check_nesting.ensures.ok))) c.in_err-inside.ensures.err)
 
 pub parse_parens-returns-clause-ok : goal.parse_parens-returns-clause-ok
 parse_parens-returns-clause-ok t c =
     Leads-at refl (omega arith)
-    (Leads-done (At-word (At-part (At-opens c.split.ensures.whole (opens_parens (first_of c.split.ensures.whole c.requires.begins)) c.args.depth (omega (arith, c.in_ok-check_nesting.ensures.ok))) c.in_ok-inside.ensures.ok) c.in_ok-rest.ensures.ok))
+    (Leads-done (At-enclosed (At-opens c.split.ensures.whole (opens_parens (first_of c.split.ensures.whole c.requires.begins)) c.args.depth (omega (arith, c.in_ok-check_nesting.ensures.ok))) c.in_ok-inside.ensures.ok))
+
+pub parse_enclosed-returns-in_err-inside-clause-err : goal.parse_enclosed-returns-in_err-inside-clause-err
+parse_enclosed-returns-in_err-inside-clause-err t c =
+    let p = err_from_is_err_and c.from_residual.result c.from_residual.ensures.1 in
+    rw (p.1, p.2) (Exposes-part c.args.closing c.in_err-inside.ensures.err)
+
+pub parse_enclosed-returns-in_err-rest-clause-err : goal.parse_enclosed-returns-in_err-rest-clause-err
+parse_enclosed-returns-in_err-rest-clause-err t c =
+    let p = err_from_is_err_and c.from_residual-in_err-rest.result c.from_residual-in_err-rest.ensures.1 in
+    rw (p.1, p.2) (Exposes-sign c.in_ok-inside.ensures.ok c.in_err-rest.ensures.err)
+
+pub parse_enclosed-returns-clause-ok : goal.parse_enclosed-returns-clause-ok
+parse_enclosed-returns-clause-ok t c = Encloses-done c.in_ok-inside.ensures.ok c.in_ok-rest.ensures.ok
+
+pub parse_block-returns-in_err-check_nesting-clause-err : goal.parse_block-returns-in_err-check_nesting-clause-err
+parse_block-returns-in_err-check_nesting-clause-err t c =
+    let p = err_from_is_err_and c.from_residual.result c.from_residual.ensures.1 in
+    rw (p.1, p.2) (Fails-deep c.split.ensures.whole (opens_block (first_of c.split.ensures.whole c.requires.begins)) c.args.depth c.in_err-check_nesting.field-0.0 c.in_err-check_nesting.ensures.err (omega (arith, c.in_err-check_nesting.ensures.deep)))
+
+pub parse_block-returns-in_err-statements-clause-err : goal.parse_block-returns-in_err-statements-clause-err
+parse_block-returns-in_err-statements-clause-err t c =
+    let p = err_from_is_err_and c.from_residual-in_err-statements.result c.from_residual-in_err-statements.ensures.1 in
+    rw (p.1, p.2) (Fails-part (At-opens c.split.ensures.whole (opens_block (first_of c.split.ensures.whole c.requires.begins)) c.args.depth (omega (arith, c.in_ok-check_nesting.ensures.ok))) c.in_err-statements.ensures.err)
+
+pub parse_block-returns-in_err-body-clause-err : goal.parse_block-returns-in_err-body-clause-err
+parse_block-returns-in_err-body-clause-err t c =
+    let p = err_from_is_err_and c.from_residual-in_err-body.result c.from_residual-in_err-body.ensures.1 in
+    rw (p.1, p.2) (Fails-part (At-opens c.split.ensures.whole (opens_block (first_of c.split.ensures.whole c.requires.begins)) c.args.depth (omega (arith, c.in_ok-check_nesting.ensures.ok)))
+    (Fails-gathered c.in_ok-statements.ensures.ok (Fails-body c.split-2.ensures.whole c.in_ok-statements.ensures.last (omega (arith, c.in_ok-check_nesting.ensures.ok)) c.in_err-body.ensures.err)))
+
+pub parse_block-returns-clause-ok : goal.parse_block-returns-clause-ok
+parse_block-returns-clause-ok t c =
+    Leads-at c.in_ok-whole.ensures.tree (omega (arith, c.in_ok-whole.ensures.height))
+    (Leads-done (At-part (At-opens c.split.ensures.whole (opens_block (first_of c.split.ensures.whole c.requires.begins)) c.args.depth (omega (arith, c.in_ok-check_nesting.ensures.ok)))
+    (Leads-gathered c.in_ok-statements.ensures.ok (Leads-body c.split-2.ensures.whole c.in_ok-statements.ensures.last (omega (arith, c.in_ok-check_nesting.ensures.ok)) c.in_ok-body.ensures.ok))))
+
+pub parse_statements-stmts-init : goal.parse_statements-stmts-init
+parse_statements-stmts-init t c = (record { ends = c.requires.ends; shorter = omega arith; fits = omega arith }, rw c.new-statements.ensures.items (Gathers-none c.args.tokens.now c.args.depth))
+
+pub parse_statements-stmts-preserved : goal.parse_statements-stmts-preserved
+parse_statements-stmts-preserved t c = (
+  rw c.max-height.ensures (IsGathered-add c.stmts.invariant.0 c.in_ok-statement.ensures.read),
+  rw (c.max-height.ensures, c.in_ok-push.ensures.items) (Gathers-add c.in_ok-statement.statement c.stmts.invariant.1 c.in_ok-statement.ensures.ok),
+)
+
+pub parse_statements-returns-in_err-statement-clause-err : goal.parse_statements-returns-in_err-statement-clause-err
+parse_statements-returns-in_err-statement-clause-err t c =
+    let p = err_from_is_err_and c.from_residual.result c.from_residual.ensures.1 in
+    rw (p.1, p.2) (Fails-gathered c.stmts.invariant.1 c.in_err-statement.ensures.err)
+
+pub parse_binding-returns-in_err-name-clause-err : goal.parse_binding-returns-in_err-name-clause-err
+parse_binding-returns-in_err-name-clause-err t c =
+    let p = err_from_is_err_and c.from_residual.result c.from_residual.ensures.1 in
+    rw (p.1, p.2) (Fails-tail c.args.depth c.requires.no_body c.in_err-name.ensures.err)
+
+pub parse_binding-returns-in_err-begun-clause-err : goal.parse_binding-returns-in_err-begun-clause-err
+parse_binding-returns-in_err-begun-clause-err t c =
+    let p = err_from_is_err_and c.from_residual-in_err-begun.result c.from_residual-in_err-begun.ensures.1 in
+    rw (p.1, p.2) (Fails-word (At-binding c.args.depth (omega arith) c.in_ok-name.ensures.ok) c.in_err-begun.ensures.err)
+
+pub parse_binding-returns-in_err-value-clause-err : goal.parse_binding-returns-in_err-value-clause-err
+parse_binding-returns-in_err-value-clause-err t c =
+    let p = err_from_is_err_and c.from_residual-in_err-value.result c.from_residual-in_err-value.ensures.1 in
+    rw (p.1, p.2) (Fails-enclosed (At-word (At-binding c.args.depth (omega arith) c.in_ok-name.ensures.ok) c.in_ok-begun.ensures.ok) (Exposes-tail c.in_err-value.ensures.err))
+
+pub parse_binding-returns-clause-ok : goal.parse_binding-returns-clause-ok
+parse_binding-returns-clause-ok t c =
+    Adds-done c.binding-statement.ensures (omega arith)
+    (At-enclosed (At-word (At-binding c.args.depth (omega arith) c.in_ok-name.ensures.ok) c.in_ok-begun.ensures.ok) (Encloses-tail c.in_ok-value.ensures.ok))
 
 pub parse_right-returns-in_err-check_nesting-clause-err : goal.parse_right-returns-in_err-check_nesting-clause-err
 parse_right-returns-in_err-check_nesting-clause-err t c =

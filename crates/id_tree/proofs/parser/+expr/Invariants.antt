@@ -2,7 +2,7 @@
 use Rattle.std.proofs.Common.{◌+◌, ◌-◌, ◌*◌, ℕ, length}
 use Rattle.id_tree.specs.declared.parser.Level.{Level}
 use Rattle.id_tree.specs.declared.parser.Level.TheVariants.{Sum, Product}
-use Rattle.id_tree.specs.Readers.{IsRead}
+use Rattle.id_tree.specs.Readers.{IsRead, Gathers, IsGathered}
 use Rattle.id_tree.specs.Tree.{tree_of}
 use Rattle.id_tree.proofs.ReaderLemmas.{Begun}
 use Rattle.id_tree.proofs.parser.+expr.Given as goal
@@ -13,22 +13,34 @@ rank Sum = 1
 rank Product = 0
 
 abbrev pub decreases-parse_parens : goal.decreases-parse_parens
-decreases-parse_parens l = (200 - l.depth) * 8
+decreases-parse_parens l = (200 - l.depth) * 16
 
 abbrev pub decreases-parse_negated : goal.decreases-parse_negated
-decreases-parse_negated l = (200 - l.depth) * 8
+decreases-parse_negated l = (200 - l.depth) * 16
 
 abbrev pub decreases-parse_right : goal.decreases-parse_right
-decreases-parse_right l = (200 - l.depth) * 8
+decreases-parse_right l = (200 - l.depth) * 16
+
+abbrev pub decreases-parse_block : goal.decreases-parse_block
+decreases-parse_block l = (200 - l.depth) * 16
 
 abbrev pub decreases-parse_unary : goal.decreases-parse_unary
-decreases-parse_unary l = (200 - l.depth) * 8 + 1
+decreases-parse_unary l = (200 - l.depth) * 16 + 1
 
 abbrev pub decreases-parse_operand : goal.decreases-parse_operand
-decreases-parse_operand l = (200 - l.depth) * 8 + (2 + 2 * rank l.level)
+decreases-parse_operand l = (200 - l.depth) * 16 + (2 + 2 * rank l.level)
 
 abbrev pub decreases-parse_grouped : goal.decreases-parse_grouped
-decreases-parse_grouped l = (200 - l.depth) * 8 + (3 + 2 * rank l.level)
+decreases-parse_grouped l = (200 - l.depth) * 16 + (3 + 2 * rank l.level)
+
+abbrev pub decreases-parse_enclosed : goal.decreases-parse_enclosed
+decreases-parse_enclosed l = (200 - l.depth) * 16 + 6
+
+abbrev pub decreases-parse_binding : goal.decreases-parse_binding
+decreases-parse_binding l = (200 - l.depth) * 16 + 7
+
+abbrev pub decreases-parse_statements : goal.decreases-parse_statements
+decreases-parse_statements l = (200 - l.depth) * 16 + 8
 
 -- the first operand has come, and the level is open
 abbrev pub invariant-parse_grouped-loop-op : goal.invariant-parse_grouped-loop-op
@@ -36,3 +48,10 @@ invariant-parse_grouped-loop-op l = IsRead l.fn.tokens l.rest l.depth l.left.hei
 
 abbrev pub decreases-parse_grouped-loop-op : goal.decreases-parse_grouped-loop-op
 decreases-parse_grouped-loop-op l = length l.rest
+
+-- statements have come, and the block is open
+abbrev pub invariant-parse_statements-stmts : goal.invariant-parse_statements-stmts
+invariant-parse_statements-stmts l = IsGathered l.fn.tokens l.rest l.depth l.height × Gathers l.fn.tokens l.depth l.rest l.statements.items l.height
+
+abbrev pub decreases-parse_statements-stmts : goal.decreases-parse_statements-stmts
+decreases-parse_statements-stmts l = length l.rest

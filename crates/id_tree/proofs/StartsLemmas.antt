@@ -1,0 +1,109 @@
+-- The places of a tree are starts of the tokens that it was made of.
+use Rattle.std.proofs.Common.{◌≡◌, ◌⊎◌, ℕ, ◌≤◌, List, [], ◌∷◌, ◌++◌, All, inl, inr, refl, subst, arith}
+use Rattle.std.proofs.lemmas.List.Elements.{All-head, All-tail}
+use Rattle.id_text.specs.Tokens.{IsWithin}
+use Rattle.id_text.specs.declared.token.Token.{Token}
+use Rattle.id_text.specs.declared.token.TokenKind.{TokenKind}
+use Rattle.id_tree.specs.Tree.{Tree, binding, none, more}
+use Rattle.id_tree.specs.Grammar.{Phrase, Rest, done, word, name, part, with_statement, block_of, Opens, definition, negated, number, parens, by_name, by_block, by_binding, by_body, Derives, opened, single, grouped, Follows, ended, taken, named, given, Program, empty, single_def}
+use Rattle.id_tree.specs.Distinct.{HasPlace}
+use Rattle.id_tree.specs.Starts.{StartsAt, PlacesAreStarts}
+
+-- the fact holds of each token's start
+abbrev AllStart : (ℕ → Type 0) → List Token → Type 0
+AllStart P [] = Unit {0}
+AllStart P (t ∷ ts) = P t.start × AllStart P ts
+
+-- the fact holds of each place of the tree
+abbrev AllPlaced : (ℕ → Type 0) → Tree → Type 0
+AllPlaced P e = (q : ℕ) → HasPlace e q → P q
+
+-- it holds of each place of what is made, where it holds of each of the parts
+abbrev Fills : (ℕ → Type 0) → Rest → Type 0
+Fills P (done e) = AllPlaced P e
+Fills P (word w r) = Fills P r
+Fills P (name f) = (x : List ℕ) (p : ℕ) → P p → Fills P (f x p)
+Fills P (part s f) = (a : Tree) → AllPlaced P a → Fills P (f a)
+
+module _ (P : ℕ → Type 0) where
+  at_own : {p q : ℕ} → p ≡ q → P p → P q
+  at_own e h = subst P e h
+
+  of_both : (a b : Tree) → AllPlaced P a → AllPlaced P b → AllPlaced P (more a b)
+  of_both a b g h q (inl i) = g q i
+  of_both a b g h q (inr i) = h q i
+
+  -- behind a thing's own place come those of its part
+  of_part : {p : ℕ} (a : Tree) → P p → AllPlaced P a → (q : ℕ) → (p ≡ q) ⊎ HasPlace a q → P q
+  of_part a g h q (inl i) = at_own i g
+  of_part a g h q (inr i) = h q i
+
+  of_block : {p : ℕ} (a : Tree) → P p → AllPlaced P a → AllPlaced P (block_of a p)
+  of_block (more a e) g h q (inl i) = at_own i g
+  of_block (more a e) g h q (inr i) = h q i
+  of_block a g h q i = absurd i
+
+  of_statement : (s a : Tree) → AllPlaced P s → AllPlaced P a → AllPlaced P (with_statement s a)
+  of_statement s (more a e) g h q (inl (inl i)) = g q i
+  of_statement s (more a e) g h q (inl (inr i)) = h q (inl i)
+  of_statement s (more a e) g h q (inr i) = h q (inr i)
+  of_statement s a g h q i = absurd i
+
+  Opens-fills : {s : Phrase} {k : TokenKind} {p : ℕ} {r : Rest} → Opens s k p r → P p → Fills P r
+  Opens-fills definition g = λ x q i e h. of_part e i h
+  Opens-fills negated g = λ e h. of_part e g h
+  Opens-fills number g = λ q i. at_own i g
+  Opens-fills parens g = λ e h. h
+  Opens-fills by_name g = λ q i. at_own i g
+  Opens-fills by_block g = λ a h. of_block a g h
+  Opens-fills (by_binding {x = x} {p = p}) g = λ e i a h. of_statement (binding x e p) a (of_part e g i) h
+  Opens-fills by_body g = λ e h. of_both none e (λ q i. absurd i) h
+
+  AllStart-front : (us vs : List Token) → AllStart P (us ++ vs) → AllStart P us
+  AllStart-front [] vs h = tt
+  AllStart-front (t ∷ us) vs h = (h.0, AllStart-front us vs h.1)
+
+  AllStart-back : (us vs : List Token) → AllStart P (us ++ vs) → AllStart P vs
+  AllStart-back [] vs h = h
+  AllStart-back (t ∷ us) vs h = AllStart-back us vs h.1
+
+  mutual
+    Derives-placed : {s : Phrase} {ts : List Token} {e : Tree} {h : ℕ} → Derives s ts e h → AllStart P ts → AllPlaced P e
+    Derives-placed (opened o f) g = Follows-placed f (Opens-fills o g.0) g.1
+    Derives-placed (single d) g = Derives-placed d g
+    Derives-placed (grouped {us = us} {vs = vs} {a = a} {b = b} x t i y) g = of_operands
+        (AllStart-back us (t ∷ vs) g).0 (Derives-placed x (AllStart-front us (t ∷ vs) g)) (Derives-placed y (AllStart-back us (t ∷ vs) g).1)
+      where
+        of_operands : P t.start → AllPlaced P a → AllPlaced P b → (q : ℕ) → (t.start ≡ q) ⊎ (HasPlace a q ⊎ HasPlace b q) → P q
+        of_operands u v w q (inl i) = at_own i u
+        of_operands u v w q (inr (inl i)) = v q i
+        of_operands u v w q (inr (inr i)) = w q i
+
+    Follows-placed : {r : Rest} {ts : List Token} {e : Tree} {h : ℕ} → Follows r ts e h → Fills P r → AllStart P ts → AllPlaced P e
+    Follows-placed ended k g = k
+    Follows-placed (taken i f) k g = Follows-placed f k g.1
+    Follows-placed (named {t = t} {x = x} i f) k g = Follows-placed f (k x t.start g.0) g.1
+    Follows-placed (given {us = us} {ts = ts} {a = a} d f) k g = Follows-placed f (k a (Derives-placed d (AllStart-front us ts g))) (AllStart-back us ts g)
+
+  Program-placed : {ts : List Token} {e : Tree} {h : ℕ} → Program ts e h → AllStart P ts → AllPlaced P e
+  Program-placed (empty i) g = λ q h. absurd h
+  Program-placed (single_def {ts = ts} {e = e} t d i) g = of_both e none (Derives-placed d (AllStart-front ts (t ∷ []) g)) (λ q h. absurd h)
+
+AllStart-weaker : (P Q : ℕ → Type 0) → ((q : ℕ) → P q → Q q) → (ts : List Token) → AllStart P ts → AllStart Q ts
+AllStart-weaker P Q f [] h = tt
+AllStart-weaker P Q f (t ∷ ts) h = (f t.start h.0, AllStart-weaker P Q f ts h.1)
+
+-- each token starts at the start of a token
+AllStart-own : (ts : List Token) → AllStart (λ q. StartsAt q ts) ts
+AllStart-own [] = tt
+AllStart-own (t ∷ ts) = (inl refl, AllStart-weaker (λ q. StartsAt q ts) (λ q. StartsAt q (t ∷ ts)) (λ q h. inr h) ts (AllStart-own ts))
+
+-- a program's things stand at starts of its tokens
+pub Program-starts : {ts : List Token} {e : Tree} {h : ℕ} → Program ts e h → PlacesAreStarts ts e
+Program-starts {ts = ts} p = Program-placed (λ q. StartsAt q ts) p (AllStart-own ts)
+
+-- where each token lies within the first n bytes, so does each start
+pub StartsAt-within : (n : ℕ) (ts : List Token) → All (IsWithin n) ts → (q : ℕ) → StartsAt q ts → q ≤ n
+StartsAt-within n [] a q h = absurd h
+StartsAt-within n (t ∷ ts) a q (inl e) = omega (arith, All-head (IsWithin n) t ts a, e)
+StartsAt-within n (t ∷ ts) a q (inr h) = StartsAt-within n ts (All-tail (IsWithin n) t ts a) q h

@@ -1,0 +1,26 @@
+-- A number or a name is a whole production, and no other token that gets here begins an operand.
+use Rattle.std.proofs.Common.{◌≡◌, refl, sym, ap, ◌∙◌, arith}
+use Rattle.id_text.specs.declared.token.TokenKind.TheVariants.{Name}
+use Rattle.id_tree.specs.Readers.{first_kind}
+use Rattle.id_tree.proofs.ReaderLemmas.{Leads-at, Leads-done, At-opens, opens_number, opens_name, Unary-fails, unopened}
+use Rattle.id_tree.proofs.parser.parse_leaf.Goals as goal
+
+pub returns-in-Number-clause-ok : goal.returns-in-Number-clause-ok
+returns-in-Number-clause-ok c =
+    Leads-at c.literal.ensures.tree (omega (arith, c.literal.ensures.height))
+    (Leads-done (At-opens c.split.ensures.whole (opens_number c.in-Number.value c.in-Number.is) c.args.depth (omega (arith, c.requires.room))))
+
+pub returns-in_ok-copy-in-Name-clause-ok : goal.returns-in_ok-copy-in-Name-clause-ok
+returns-in_ok-copy-in-Name-clause-ok c =
+    let is : c.split.result.0.now.kind ≡ Name c.in_ok-copy-in-Name.field-0 = c.in-Name.is ∙ ap Name (sym c.in_ok-copy-in-Name.ensures) in
+    Leads-at c.name.ensures.tree (omega (arith, c.name.ensures.height))
+    (Leads-done (At-opens c.split.ensures.whole (opens_name c.in_ok-copy-in-Name.field-0 is) c.args.depth (omega (arith, c.requires.room))))
+
+pub returns-in-Key-clause-err : goal.returns-in-Key-clause-err
+returns-in-Key-clause-err c = Unary-fails c.split.ensures.whole c.args.depth c.unexpected.result c.unexpected.ensures (rw c.in-Key.is refl)
+
+pub returns-in-Sign-clause-err : goal.returns-in-Sign-clause-err
+returns-in-Sign-clause-err c = Unary-fails c.split.ensures.whole c.args.depth c.unexpected-in-Sign.result c.unexpected-in-Sign.ensures (rw c.in-Sign.is (unopened c.in-Sign.field-0 c.split.result.0.now.start (λ q. c.requires.no_minus (ap first_kind c.split.ensures.whole ∙ c.in-Sign.is ∙ q)) (λ q. c.requires.no_paren (ap first_kind c.split.ensures.whole ∙ c.in-Sign.is ∙ q)) (λ q. c.requires.no_brace (ap first_kind c.split.ensures.whole ∙ c.in-Sign.is ∙ q))))
+
+pub returns-in-End-clause-err : goal.returns-in-End-clause-err
+returns-in-End-clause-err c = Unary-fails c.split.ensures.whole c.args.depth c.unexpected-in-End.result c.unexpected-in-End.ensures (rw c.in-End.is refl)
