@@ -1,4 +1,4 @@
--- The procedure `main` of a program (docs/LANGUAGE.md, "Names and kinds").
+-- The procedure `main` of a program (docs/LANGUAGE.md, "Names").
 use Rattle.std.specs.Prelude.{◌≡◌, ◌≢◌, ℕ, ◌<◌, Option, Some, List, codes, option_map, slice_get}
 use Rattle.id_tree.specs.declared.tree.Program.{Program}
 

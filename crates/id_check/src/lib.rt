@@ -1,16 +1,31 @@
-//! The checked program: each name has its binder, each expression its kind.
+//! The checked program: each name has its binder.
 //!
-//! Keeps: there is a procedure `main`, and which definition it is.
-//! Errors: `CheckError`, the refusal 7, with the program handed back.
-//! Read first: `Checked`, docs/LANGUAGE.md ("Names and kinds").
+//! Keeps: there is a procedure `main`, and which definition it is; each use of a name has a binder, and
+//! which; no two things of the program have one place.
+//! Errors: `CheckError`, the refusals 7, 9 and 10 or want of memory, with the program handed back.
+//! Read first: `Checked`, `specs/Scopes.antt`, `specs/Causes.antt`, docs/LANGUAGE.md ("Names").
 //! Not here: the tree (`id_tree`), the graph (`id_build`).
 #![tactic(auto)]
 
-ghost use Rattle.std.specs.Prelude.{◌≡◌, ◌↔◌, codes, slice_get, IfOk, IfErr, IsTrue, IfNone, IfSome};
-ghost use Rattle.id_check.specs.Main.{HasNoMain, IsMain};
+ghost use Rattle.std.specs.Prelude.{◌≡◌, ◌↔◌, [], codes, nat_eq, slice_get, IfOk, IfErr, IfNone, IfSome, IsTrue, OnOk, Some};
 ghost use Rattle.std.proofs.Props.{props};
+ghost use Rattle.indexmap.specs.IndexMap.{get};
+ghost use Rattle.id_tree.specs.Tree.{program_tree};
+ghost use Rattle.id_tree.specs.Distinct.{Distinct};
+ghost use Rattle.id_check.specs.Main.{HasNoMain, IsMain};
+ghost use Rattle.id_check.specs.Scopes.{AllBound, Among, Use, uses_of_all};
+ghost use Rattle.id_check.specs.Causes.{causes, IsRefusedFor};
+ghost use Rattle.id_check.specs.Kept.{Distinct-prop};
+ghost use Rattle.id_check.specs.Walks.{IsOf};
+
+mod scope;
+mod walk;
 
 use id_tree::{Def, Program};
+use indexmap::IndexMap;
+use std::alloc::Global;
+use thiserror::Error;
+use walk::{Found, walk_program};
 
 /// A program that has been checked.
 #[derive(Debug, Drop)]
@@ -18,7 +33,12 @@ pub struct Checked {
     pub program: Program,
     /// The place of `main` in the list of definitions.
     pub main: usize,
+    /// For each use of a name, by its place, the place of its binder.
+    pub binders: IndexMap<usize, usize>,
     pub ghost is_main: { IsMain program main } by { Prim.hlevel props },
+    pub ghost distinct: { Distinct (program_tree program) } by { Distinct-prop (program_tree program) },
+    pub ghost bound: { AllBound program } by { Prim.hlevel props },
+    pub ghost resolved: { (u : Use) → Among u (uses_of_all program.defs) → get nat_eq binders u.place ≡ u.binder } by { Prim.hlevel props },
 }
 
 impl Checked {
@@ -28,13 +48,64 @@ impl Checked {
     {
         &self.program.defs.as_slice()[self.main]
     }
+
+    /// The place of the binder of the use of a name at this place. Takes no memory.
+    pub fn binder(&self, place: usize) -> Option<usize>
+        ensures { (u : Use) → Among u (uses_of_all self.now.program.defs) → u.place ≡ place → result ≡ u.binder }
+    {
+        self.binders.get(&place).copied()
+    }
 }
 
 /// Why a program is refused.
-#[derive(Clone, Copy, Debug, PartialEq, Eq)]
+#[derive(Clone, Copy, Debug, PartialEq, Eq, Error)]
 pub enum CheckCause {
     /// No procedure is called `main`: the empty text.
+    #[error("no main")]
     NoMain,
+    /// A second procedure, or a second binder of a block, with one name, at this place.
+    #[error("a second binder at byte {at}")]
+    Duplicate { at: usize },
+    /// A name without binder, at this place.
+    #[error("no binder for the name at byte {at}")]
+    Unknown { at: usize },
+    /// A growth was refused.
+    #[error("out of memory")]
+    Memory,
+}
+
+impl CheckCause {
+    ghost use Rattle.id_check.specs.Causes.{IsBefore, number_of, place_of};
+
+    /// Whether this cause is named, where the two are found.
+    fn is_before(self, other: CheckCause) -> bool
+        ensures { IsTrue result ↔ IsBefore self other }
+    {
+        let (place, other_place) = (self.place(), other.place());
+        place < other_place || (place == other_place && self.number() <= other.number())
+    }
+
+    /// Where the cause is.
+    fn place(self) -> usize
+        ensures { result ≡ place_of self }
+    {
+        match self {
+            CheckCause::Duplicate { at } | CheckCause::Unknown { at } => at,
+            CheckCause::NoMain | CheckCause::Memory => 0,
+        }
+    }
+
+    /// Its number among the refusals.
+    fn number(self) -> u8
+        ensures { result ≡ number_of self }
+    {
+        match self {
+            CheckCause::NoMain => 7,
+            CheckCause::Duplicate { .. } => 9,
+            CheckCause::Unknown { .. } => 10,
+            CheckCause::Memory => 0,
+        }
+    }
 }
 
 /// A refusal, with the program handed back.
@@ -44,15 +115,43 @@ pub struct CheckError {
     pub cause: CheckCause,
 }
 
-/// The program, checked: of several definitions called `main` the first one counts. Takes no memory.
-pub fn check(program: Program) -> Result<Checked, CheckError>
+/// The program, checked, or the first cause to refuse it: the one at the smallest place, and where there
+/// is none, that it has no `main`.
+pub fn check(alloc: Global, program: Program) -> Result<Checked, CheckError>
+    requires { Distinct (program_tree program) }
     ensures ok { IfOk result (λ c. c.program ≡ program) }
-    ensures main { IfOk result (λ c. IsMain program c.main) }
+    ensures accepted { OnOk result (causes program ≡ []) }
     ensures back { IfErr result (λ e. e.program ≡ program) }
-    ensures no_main { IfErr result (λ e. (e.cause ≡ CheckCause.NoMain) × HasNoMain program) }
+    ensures refused { IfErr result (λ e. IsRefusedFor program e.cause) }
 {
+    match walk_program(alloc, &program) {
+        Ok(found) => settle(program, found),
+        Err(_) => Err(CheckError {
+            program,
+            cause: CheckCause::Memory,
+        }),
+    }
+}
+
+/// The program, checked, or why it is refused, where this was found of it. Takes no memory.
+fn settle(program: Program, found: Found) -> Result<Checked, CheckError>
+    requires distinct { Distinct (program_tree program) }
+    requires found { IsOf found (uses_of_all program.defs) (causes program) }
+    ensures ok { IfOk result (λ c. c.program ≡ program) }
+    ensures accepted { OnOk result (causes program ≡ []) }
+    ensures back { IfErr result (λ e. e.program ≡ program) }
+    ensures refused { IfErr result (λ e. IsRefusedFor program e.cause) }
+{
+    let Found { binders, first } = found;
+    if let Some(cause) = first {
+        return Err(CheckError { program, cause });
+    }
     match find_main(&program) {
-        Some(main) => Ok(Checked { program, main }),
+        Some(main) => Ok(Checked {
+            program,
+            main,
+            binders,
+        }),
         None => Err(CheckError {
             program,
             cause: CheckCause::NoMain,
@@ -81,58 +180,4 @@ fn is_main(def: &Def) -> bool
 }
 
 #[cfg(test)]
-mod tests {
-    use super::*;
-    use id_text::{Identifier, Sequence};
-    use id_tree::{Constant, Expr, Kind};
-    use std::alloc::{AllocError, Global};
-    use std::test::Fail;
-
-    /// The definitions of these names, in order, each at its number and with the body `7`.
-    fn program(alloc: Global, names: &[&str]) -> Result<Program, AllocError> {
-        let mut defs = Vec::new(alloc);
-        for (place, name) in names.iter().enumerate() {
-            let name = Identifier::new(String::from_str(alloc, name)?);
-            let value = Constant::Int(7);
-            defs.push(Def {
-                name,
-                result: Kind::Int,
-                body: Expr::Literal { value, place },
-                place,
-            })?;
-        }
-        Ok(Program {
-            defs: Sequence::new(defs),
-        })
-    }
-
-    #[test]
-    fn takes_the_first_main(rt: HostRuntime) -> Result<(), Fail> {
-        let table: [(&[&str], Result<usize, CheckCause>, &str); 5] = [
-            (&[], Err(CheckCause::NoMain), "the empty text"),
-            (&["f"], Err(CheckCause::NoMain), "another name"),
-            (
-                &["mai", "mainn", "Main"],
-                Err(CheckCause::NoMain),
-                "all letters count",
-            ),
-            (&["main"], Ok(0), "main alone"),
-            (&["f", "main", "main"], Ok(1), "the first of two"),
-        ];
-        for (names, wanted, why) in table {
-            let count = names.len();
-            match check(program(rt.alloc(), names)?) {
-                Ok(checked) => {
-                    assert_eq!(rt; Ok(checked.main), wanted, "{why}");
-                    assert_eq!(rt; checked.main_def().place, checked.main, "{why}");
-                    assert_eq!(rt; checked.program.defs.len(), count, "{why}");
-                }
-                Err(error) => {
-                    assert_eq!(rt; Err(error.cause), wanted, "{why}");
-                    assert_eq!(rt; error.program.defs.len(), count, "{why}");
-                }
-            }
-        }
-        Ok(())
-    }
-}
+mod tests;

@@ -1,0 +1,120 @@
+-- The first of the causes found so far, and the binder found at a place.
+use Rattle.std.proofs.Common.{◌≡◌, ◌⊎◌, inl, inr, ◌<◌, ◌≤◌, ℕ, Bool, true, false, List, [], ◌∷◌, ◌++◌, refl, ap, sym, ◌∙◌, subst, append-nil, arith, if◌then◌else◌}
+use Rattle.std.proofs.lemmas.Bool.{false≢true}
+use Rattle.std.proofs.lemmas.Slice.Eq.{bytes_eq-Decides}
+use Rattle.std.specs.Prelude.{Option, None, Some, nat_eq}
+use Rattle.std.specs.Option.{option_or, is_some}
+use Rattle.std.specs.Prelude.{◌||◌}
+use Rattle.std.specs.Str.{bytes_eq}
+use Rattle.id_check.specs.declared.CheckCause.{CheckCause}
+use Rattle.id_check.specs.declared.CheckCause.TheVariants.{Duplicate}
+use Rattle.id_check.specs.Causes.{IsBefore, IsFirst, is_among, number_of, place_of, repeated}
+use Rattle.id_check.specs.Scopes.{Among, Binder, Use, binder_of}
+use Rattle.id_check.specs.Walks.{binder_at}
+
+pub Among-left : {A : Type 0} (x : A) (xs ys : List A) → Among x xs → Among x (xs ++ ys)
+Among-left x [] ys h = absurd h
+Among-left x (z ∷ xs) ys (inl e) = inl e
+Among-left x (z ∷ xs) ys (inr h) = inr (Among-left x xs ys h)
+
+pub Among-right : {A : Type 0} (x : A) (xs ys : List A) → Among x ys → Among x (xs ++ ys)
+Among-right x [] ys h = h
+Among-right x (z ∷ xs) ys h = inr (Among-right x xs ys h)
+
+pub Among-append : {A : Type 0} (x : A) (xs ys : List A) → Among x (xs ++ ys) → Among x xs ⊎ Among x ys
+Among-append x [] ys h = inr h
+Among-append x (z ∷ xs) ys (inl e) = inl (inl e)
+Among-append x (z ∷ xs) ys (inr h) = elim (Among-append x xs ys h) [ inl i ↦ inl (inr i) | inr i ↦ inr i ]
+
+-- what is not before another cause, but before a third, is behind it
+other_before : (p q r n m k : ℕ) → ((p < q) ⊎ ((p ≡ q) × (n ≤ m)) → ⊥) → (p < r) ⊎ ((p ≡ r) × (n ≤ k)) → (q < r) ⊎ ((q ≡ r) × (m ≤ k))
+other_before p q r n m k h i = grind arith
+
+IsBefore-refl : (c : CheckCause) → IsBefore c c
+IsBefore-refl c = inr (refl, omega arith)
+
+IsBefore-others : (c d e : CheckCause) → (IsBefore c d → ⊥) → IsBefore c e → IsBefore d e
+IsBefore-others c d e h i = other_before (place_of c) (place_of d) (place_of e) (number_of c) (number_of d) (number_of e) h i
+
+-- the first cause stays before a later one
+pub IsFirst-stays : (c d : CheckCause) (cs : List CheckCause) → IsBefore c d → IsFirst c cs → IsFirst c (cs ++ d ∷ [])
+IsFirst-stays c d cs h f = record {
+  among = Among-left c cs (d ∷ []) f.among;
+  before = λ e i. elim (Among-append e cs (d ∷ []) i) [ inl j ↦ f.before e j | inr j ↦ elim j [ inl same ↦ subst (IsBefore c) (sym same) h | inr never ↦ absurd never ] ];
+}
+
+-- another is the first where the one before it is not
+pub IsFirst-turns : (c d : CheckCause) (cs : List CheckCause) → (IsBefore c d → ⊥) → IsFirst c cs → IsFirst d (cs ++ d ∷ [])
+IsFirst-turns c d cs h f = record {
+  among = Among-right d cs (d ∷ []) (inl refl);
+  before = λ e i. elim (Among-append e cs (d ∷ []) i) [ inl j ↦ IsBefore-others c d e h (f.before e j) | inr j ↦ elim j [ inl same ↦ subst (IsBefore d) (sym same) (IsBefore-refl d) | inr never ↦ absurd never ] ];
+}
+
+-- the only one is the first
+pub IsFirst-alone : (d : CheckCause) (cs : List CheckCause) → cs ≡ [] → IsFirst d (cs ++ d ∷ [])
+IsFirst-alone d cs e = subst (λ ds. IsFirst d (ds ++ d ∷ [])) (sym e) (record {
+  among = inl refl;
+  before = λ c i. elim i [ inl same ↦ subst (IsBefore d) (sym same) (IsBefore-refl d) | inr never ↦ absurd never ];
+})
+
+-- the binder at a place, where there are more uses
+or-assoc : (a b c : Option ℕ) → option_or (option_or a b) c ≡ option_or a (option_or b c)
+or-assoc None b c = refl
+or-assoc (Some x) b c = refl
+
+pub binder_at-push : (us : List Use) (u : Use) (q : ℕ) → binder_at (us ++ u ∷ []) q ≡ option_or (if nat_eq u.place q then u.binder else None) (binder_at us q)
+binder_at-push [] u q = at (if nat_eq u.place q then u.binder else None)
+  where
+    at : (o : Option ℕ) → option_or None o ≡ option_or o None
+    at None = refl
+    at (Some b) = refl
+binder_at-push (v ∷ us) u q =
+    ap (λ o. option_or o (if nat_eq v.place q then v.binder else None)) (binder_at-push us u q)
+    ∙ or-assoc (if nat_eq u.place q then u.binder else None) (binder_at us q) (if nat_eq v.place q then v.binder else None)
+
+-- the second binders where there is one more binder
+or-true : (a : Bool) → (a || true) ≡ true
+or-true true = refl
+or-true false = refl
+
+or-false : (a : Bool) → (a || false) ≡ a
+or-false true = refl
+or-false false = refl
+
+known_at : (a u : Bool) (o : Option ℕ) (p : ℕ) → (u ≡ true → a ≡ true) → (a || is_some o) ≡ (a || is_some (if u then Some p else o))
+known_at true u o p h = refl
+known_at false true o p h = absurd (false≢true (h refl))
+known_at false false o p h = refl
+
+known_more : (a u : Bool) (o : Option ℕ) (p : ℕ) → ((u || a) || is_some o) ≡ (a || is_some (if u then Some p else o))
+known_more a true o p = sym (or-true a)
+known_more a false o p = refl
+
+-- the name is one of these, or of a binder
+abbrev is_known : List (List ℕ) → List Binder → List ℕ → Bool
+is_known seen bs x = is_among x seen || is_some (binder_of bs x)
+
+-- a further binder is a cause if its name is known
+abbrev cause_if : Bool → ℕ → List CheckCause
+cause_if known place = if known then Duplicate place ∷ [] else []
+
+repeated-push : (seen : List (List ℕ)) (bs : List Binder) (b : Binder) → repeated seen (bs ++ b ∷ []) ≡ repeated seen bs ++ cause_if (is_known seen bs b.name) b.place
+repeated-push seen [] b = ap (λ t. cause_if t b.place) (sym (or-false (is_among b.name seen)))
+repeated-push seen (c ∷ bs) b = at (is_among c.name seen) refl (repeated-push seen bs b) (repeated-push (c.name ∷ seen) bs b)
+  where
+    at : (t : Bool) → is_among c.name seen ≡ t
+        → repeated seen (bs ++ b ∷ []) ≡ repeated seen bs ++ cause_if (is_known seen bs b.name) b.place
+        → repeated (c.name ∷ seen) (bs ++ b ∷ []) ≡ repeated (c.name ∷ seen) bs ++ cause_if (is_known (c.name ∷ seen) bs b.name) b.place
+        → (if t then Duplicate c.place ∷ repeated seen (bs ++ b ∷ []) else repeated (c.name ∷ seen) (bs ++ b ∷ []))
+        ≡ (if t then Duplicate c.place ∷ repeated seen bs else repeated (c.name ∷ seen) bs) ++ cause_if (is_known seen (c ∷ bs) b.name) b.place
+    at true e old new = ap (λ cs. Duplicate c.place ∷ cs) (old ∙ ap (λ t. repeated seen bs ++ cause_if t b.place)
+        (known_at (is_among b.name seen) (bytes_eq c.name b.name) (binder_of bs b.name) c.place
+        (λ u. ap (λ x. is_among x seen) (sym ((bytes_eq-Decides c.name b.name).0 u)) ∙ e)))
+    at false e old new = new ∙ ap (λ t. repeated (c.name ∷ seen) bs ++ cause_if t b.place)
+        (known_more (is_among b.name seen) (bytes_eq c.name b.name) (binder_of bs b.name) c.place)
+
+pub repeated-second : (bs : List Binder) (b : Binder) (p : ℕ) → binder_of bs b.name ≡ Some p → repeated [] (bs ++ b ∷ []) ≡ repeated [] bs ++ Duplicate b.place ∷ []
+repeated-second bs b p e = repeated-push [] bs b ∙ ap (λ o. repeated [] bs ++ cause_if (is_some o) b.place) e
+
+pub repeated-new : (bs : List Binder) (b : Binder) → binder_of bs b.name ≡ None → repeated [] (bs ++ b ∷ []) ≡ repeated [] bs
+repeated-new bs b e = repeated-push [] bs b ∙ (ap (λ o. repeated [] bs ++ cause_if (is_some o) b.place) e ∙ append-nil (repeated [] bs))

@@ -1,0 +1,6 @@
+mod BoundsLemmas
+mod WalksLemmas
+mod RowsLemmas
+mod FirstLemmas
+mod KeptLemmas
+mod RefusedLemmas
