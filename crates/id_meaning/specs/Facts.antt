@@ -11,7 +11,7 @@ use Rattle.id_meaning.specs.declared.Fact.TheVariants.{On, Has}
 use Rattle.id_meaning.specs.declared.FaultKind.{FaultKind}
 use Rattle.id_meaning.specs.declared.SourceFault.{SourceFault}
 use Rattle.id_meaning.specs.Results.{Gives, Fails, result_of_unary, result_of_binary}
-use Rattle.id_meaning.specs.Parts.{Region, LiteralNode, UnaryNode, BinaryNode, place_of, IsMain, Part}
+use Rattle.id_meaning.specs.Parts.{Among, Region, LiteralNode, UnaryNode, BinaryNode, NameNode, BlockNode, BindingNode, place_of, IsMain, Part}
 
 -- the empty path
 abbrev pub outermost : Path
@@ -30,6 +30,14 @@ pub data Rule (P : Checked) : List Fact → Fact → Type 0 where
   -- operands that Have values give an On operator's result, where it has one
   unary_has : {r : Region} {e a : ℕ} {o : UnaryOp} {p : Path} {v x : SourceValue} → Part P r e (UnaryNode o a) → result_of_unary o v ≡ Gives x → Rule P (On p e ∷ Has p a v ∷ []) (Has p e x)
   binary_has : {r : Region} {e a b : ℕ} {o : BinaryOp} {p : Path} {v w x : SourceValue} → Part P r e (BinaryNode o a b) → result_of_binary o v w ≡ Gives x → Rule P (On p e ∷ Has p a v ∷ Has p b w ∷ []) (Has p e x)
+  -- an On name Has what its binder Has
+  name_has : {r : Region} {e b : ℕ} {p : Path} {v : SourceValue} → Part P r e (NameNode b) → Rule P (On p e ∷ Has p b v ∷ []) (Has p e v)
+  -- an On block turns the expressions of its bindings and its body On, and Has its body's value
+  statement_on : {r : Region} {e a b : ℕ} {vs : List ℕ} {p : Path} → Part P r e (BlockNode vs b) → Among a vs → Rule P (On p e ∷ []) (On p a)
+  body_on : {r : Region} {e b : ℕ} {vs : List ℕ} {p : Path} → Part P r e (BlockNode vs b) → Rule P (On p e ∷ []) (On p b)
+  block_has : {r : Region} {e b : ℕ} {vs : List ℕ} {p : Path} {v : SourceValue} → Part P r e (BlockNode vs b) → Rule P (On p e ∷ Has p b v ∷ []) (Has p e v)
+  -- a binding Has the value that its expression Has
+  binding_has : {r : Region} {e a : ℕ} {p : Path} {v : SourceValue} → Part P r e (BindingNode a) → Rule P (Has p a v ∷ []) (Has p e v)
 
 -- from these facts of a source this fault of it follows
 pub data FaultRule (P : Checked) : List Fact → SourceFault → Type 0 where

@@ -4,3 +4,11 @@ pub mod Parts
 -- The facts of a source, its faults and its answer.
 pub mod Facts
 pub mod Rounds
+-- Orders, what binders have, and rounds as lists.
+pub mod Orders
+pub mod Names
+pub mod Computed
+-- For use inside: the lines that rounds pass over, what places have, and their facts in order.
+pub mod Lines
+pub mod States
+pub mod Listed

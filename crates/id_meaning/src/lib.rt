@@ -1,12 +1,21 @@
 //! What a program means: paths, values and facts of its source.
 //!
 //! Keeps: nothing beyond its values.
-//! Errors: none.
-//! Read first: docs/MEANING.md ("Facts").
+//! Errors: `RoundsError`, the refusals 24 and 25 or want of memory.
+//! Read first: docs/MEANING.md ("Facts", "Rounds"), then `rounds`.
 //! Not here: graphs, tags and messages, which the meaning does not speak of.
 #![tactic(auto)]
 
+mod listing;
+mod results;
+mod round;
+mod state;
+mod table;
+#[cfg(test)]
+mod tests;
+
 use id_text::Sequence;
+pub use round::{MAX_FACTS, MAX_ROUNDS, RoundsError, rounds};
 
 /// One step of a path: the call (number 0) or the loop (its iteration, from 0) at a place.
 #[derive(Clone, Copy, Debug, PartialEq, Eq, PartialOrd, Ord)]
@@ -59,4 +68,13 @@ pub struct SourceFault {
     pub kind: FaultKind,
     pub path: Path,
     pub place: usize,
+}
+
+/// What a binder Has at a path.
+#[derive(Debug, Drop)]
+pub struct NameValue {
+    pub path: Path,
+    /// The place of the binder.
+    pub place: usize,
+    pub value: SourceValue,
 }

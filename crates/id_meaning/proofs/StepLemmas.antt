@@ -1,0 +1,285 @@
+-- Where the cells show the facts of a round, the cells after one round more show those of the next.
+use Rattle.std.proofs.Common.{◌≡◌, ◌⊎◌, inl, inr, ℕ, zero, suc, ◌+◌, ◌≤◌, Bool, true, false, ◌||◌, Option, None, Some, List, [], ◌∷◌, max, nat_eq, get_or, replicate, if◌then◌else◌, refl, ap, sym, ◌∙◌, subst, arith}
+use Rattle.std.specs.Prelude.{map, slice_get}
+use Rattle.std.proofs.lemmas.Bool.Decides.{eqb_tells}
+use Rattle.std.proofs.lemmas.List.{length-replicate}
+use Rattle.indexmap.specs.IndexMap.{get}
+use Rattle.id_tree.specs.declared.tree.UnaryOp.{UnaryOp}
+use Rattle.id_tree.specs.declared.tree.BinaryOp.{BinaryOp}
+use Rattle.id_tree.specs.declared.tree.Def.{Def}
+use Rattle.id_check.specs.declared.Checked.{Checked}
+use Rattle.id_meaning.specs.declared.Path.{Path}
+use Rattle.id_meaning.specs.declared.SourceValue.{SourceValue}
+use Rattle.id_meaning.specs.declared.Fact.{Fact}
+use Rattle.id_meaning.specs.declared.Fact.TheVariants.{On, Has}
+use Rattle.id_meaning.specs.declared.table.Turn.{Turn}
+use Rattle.id_meaning.specs.declared.table.Turn.TheVariants.{Always, By, Never}
+use Rattle.id_meaning.specs.declared.table.Form.{Form}
+use Rattle.id_meaning.specs.declared.table.Line.{Line}
+use Rattle.id_meaning.specs.declared.state.Cell.{Cell}
+use Rattle.id_meaning.specs.Results.{Outcome, Gives, Fails, result_of_unary, result_of_binary}
+use Rattle.id_meaning.specs.Parts.{Among, AllDiffer, Region, Node, LiteralNode, UnaryNode, BinaryNode, NameNode, UnboundNode, BlockNode, BindingNode, Part, IsMain, place_of, entries_of_def, entries_of_all, places_of_all}
+use Rattle.id_meaning.specs.Facts.{outermost, Rule, main_on, literal_has, operand_on, left_on, right_on, unary_has, binary_has, name_has, statement_on, body_on, block_has, binding_has}
+use Rattle.id_meaning.specs.Rounds.{Every, Rounds}
+use Rattle.id_meaning.specs.Lines.{lines_of_all}
+use Rattle.id_meaning.specs.States.{after, binary_of, blank, cell_after, cell_at, gained, given, is_binding, next, turned, unary_of, value_after}
+use Rattle.id_meaning.specs.Listed.{IsRound, Shown, last_of}
+use Rattle.id_meaning.proofs.AmongLemmas.{AllDiffer-append, AllDiffer-apart, AllDiffer-left, AllDiffer-right, Among-either, Among-left, Among-right, map-append}
+use Rattle.id_meaning.proofs.PlacesLemmas.{Distinct-checked}
+use Rattle.id_meaning.proofs.RoundsLemmas.{Rounds-follow}
+use Rattle.id_meaning.proofs.StatesLemmas.{Fits, elsewhere, here, length-after, places}
+use Rattle.id_meaning.proofs.TableLemmas.{Aligned, Turned, TurnerOf, Turns, aligned-all, aligned-entry, aligned-line, aligned-places, form_of, turned-by-all, turned-main, turner-all}
+
+-- the lines of the program
+abbrev pub lines : Checked → List Line
+lines P = lines_of_all (get nat_eq P.binders) P.main 0 P.program.defs
+
+-- ds are the cells one round after cs
+record Follows (ls : List Line) (cs ds : List Cell) : Type 0 where
+  pub lined : (l : Line) → Among l ls → cell_at ds l.place ≡ cell_after cs l
+  pub bare : (e : ℕ) → ((l : Line) → Among l ls → l.place ≡ e → ⊥) → cell_at ds e ≡ cell_at cs e
+
+-- ---- what follows by a rule is shown
+
+gets-on : (ls : List Line) (cs ds : List Cell) (a : ℕ) (t : Turn) → Follows ls cs ds → Turned ls a t → turned cs t ≡ true → (cell_at ds a).on ≡ true
+gets-on ls cs ds a t w (l, h, p, q) k =
+    ap (λ x. (cell_at ds x).on) (sym p) ∙ ap (λ c. c.on) (w.lined l h) ∙ ap (λ x. turned cs x) q ∙ k
+
+or-true : (b c : Bool) → (b ≡ true) ⊎ (c ≡ true) → b || c ≡ true
+or-true true c h = refl
+or-true false c (inl h) = cc
+or-true false c (inr h) = h
+
+gets-value : (ls : List Line) (cs ds : List Cell) (l : Line) (e : ℕ) (g : Form) (v : SourceValue) → Follows ls cs ds → Among l ls → l.place ≡ e → l.form ≡ g → (is_binding g ≡ true) ⊎ ((cell_at cs e).on ≡ true) → gained cs g ≡ Some v → (cell_at ds e).has ≡ Some v
+gets-value ls cs ds l e g v w h p q ready gain =
+    let test : is_binding l.form || (cell_at cs l.place).on ≡ true = ap (λ f. is_binding f || (cell_at cs l.place).on) q ∙ ap (λ x. is_binding g || (cell_at cs x).on) p ∙ or-true (is_binding g) (cell_at cs e).on ready in
+    ap (λ x. (cell_at ds x).has) (sym p) ∙ ap (λ c. c.has) (w.lined l h)
+    ∙ ap (λ b. if b then gained cs l.form else None) test ∙ ap (λ f. gained cs f) q ∙ gain
+
+-- the lines stand to the table as they should
+lines-aligned : (P : Checked) → Aligned (entries_of_all P.program.defs) (lines P)
+lines-aligned P = aligned-all (get nat_eq P.binders) P.main 0 P.program.defs P.resolved
+
+part-has : (P : Checked) (cs ds : List Cell) (r : Region) (e : ℕ) (n : Node) (v : SourceValue) → Follows (lines P) cs ds → Part P r e n → (is_binding (form_of n) ≡ true) ⊎ ((cell_at cs e).on ≡ true) → gained cs (form_of n) ≡ Some v → (cell_at ds e).has ≡ Some v
+part-has P cs ds r e n v w part ready gain =
+    let x = aligned-line (entries_of_all P.program.defs) (lines P) (lines-aligned P) (record { place = e; region = r; node = n }) part.stands in
+    gets-value (lines P) cs ds x.0 e (form_of n) v w x.1 x.2 x.3 ready gain
+
+part-on : (P : Checked) (cs ds : List Cell) (r : Region) (e : ℕ) (n : Node) (a : ℕ) → Follows (lines P) cs ds → Part P r e n → Turns n a → (cell_at cs e).on ≡ true → (cell_at ds a).on ≡ true
+part-on P cs ds r e n a w part k on =
+    gets-on (lines P) cs ds a (By e) w
+    (turned-by-all (get nat_eq P.binders) P.main 0 P.program.defs a (record { place = e; region = r; node = n }) part.stands k) on
+
+main-on : (P : Checked) (cs ds : List Cell) (d : Def) → Follows (lines P) cs ds → IsMain P d → (cell_at ds (place_of d.body)).on ≡ true
+main-on P cs ds d w m =
+    let e : 0 + P.main ≡ P.main = omega arith in
+    gets-on (lines P) cs ds (place_of d.body) Always w
+    (turned-main (get nat_eq P.binders) P.main 0 P.program.defs P.main d m.at e) refl
+
+binary-gives : (o : BinaryOp) (x y : Option SourceValue) (v w z : SourceValue) → x ≡ Some v → y ≡ Some w → result_of_binary o v w ≡ Gives z → binary_of o x y ≡ Some z
+binary-gives o x y v w z h k e = ap (λ s. binary_of o s y) h ∙ ap (λ s. binary_of o (Some v) s) k ∙ ap given e
+
+unary-gives : (o : UnaryOp) (x : Option SourceValue) (v z : SourceValue) → x ≡ Some v → result_of_unary o v ≡ Gives z → unary_of o x ≡ Some z
+unary-gives o x v z h e = ap (λ s. unary_of o s) h ∙ ap given e
+
+complete : (P : Checked) (cs ds : List Cell) → Follows (lines P) cs ds → {fs : List Fact} {f : Fact} → Rule P fs f → Every (Shown cs) fs → Shown ds f
+complete P cs ds w (main_on {d = d} m) h = (refl, main-on P cs ds d w m)
+complete P cs ds w (literal_has {r = r} {e = e} {v = v} part) h = (h.0.0, part-has P cs ds r e (LiteralNode v) v w part (inr h.0.1) refl)
+complete P cs ds w (operand_on {r = r} {e = e} {a = a} {o = o} part) h = (h.0.0, part-on P cs ds r e (UnaryNode o a) a w part refl h.0.1)
+complete P cs ds w (left_on {r = r} {e = e} {a = a} {b = b} {o = o} part) h = (h.0.0, part-on P cs ds r e (BinaryNode o a b) a w part (inl refl) h.0.1)
+complete P cs ds w (right_on {r = r} {e = e} {a = a} {b = b} {o = o} part) h = (h.0.0, part-on P cs ds r e (BinaryNode o a b) b w part (inr refl) h.0.1)
+complete P cs ds w (unary_has {r = r} {e = e} {a = a} {o = o} {v = v} {x = x} part g) h =
+    (h.0.0, part-has P cs ds r e (UnaryNode o a) x w part (inr h.0.1) (unary-gives o (cell_at cs a).has v x h.1.0.1 g))
+complete P cs ds w (binary_has {r = r} {e = e} {a = a} {b = b} {o = o} {v = v} {w = y} {x = x} part g) h =
+    (h.0.0, part-has P cs ds r e (BinaryNode o a b) x w part (inr h.0.1) (binary-gives o (cell_at cs a).has (cell_at cs b).has v y x h.1.0.1 h.1.1.0.1 g))
+complete P cs ds w (name_has {r = r} {e = e} {b = b} {v = v} part) h = (h.0.0, part-has P cs ds r e (NameNode b) v w part (inr h.0.1) h.1.0.1)
+complete P cs ds w (statement_on {r = r} {e = e} {a = a} {b = b} {vs = vs} part k) h = (h.0.0, part-on P cs ds r e (BlockNode vs b) a w part (inl k) h.0.1)
+complete P cs ds w (body_on {r = r} {e = e} {b = b} {vs = vs} part) h = (h.0.0, part-on P cs ds r e (BlockNode vs b) b w part (inr refl) h.0.1)
+complete P cs ds w (block_has {r = r} {e = e} {b = b} {vs = vs} {v = v} part) h = (h.0.0, part-has P cs ds r e (BlockNode vs b) v w part (inr h.0.1) h.1.0.1)
+complete P cs ds w (binding_has {r = r} {e = e} {a = a} {v = v} part) h = (h.0.0, part-has P cs ds r e (BindingNode a) v w part (inl refl) h.0.1)
+
+-- ---- what is shown follows by a rule
+
+turns-on : (P : Checked) (k : ℕ) (r : Region) (e : ℕ) (n : Node) (a : ℕ) → Part P r e n → Turns n a → Rounds P k (On outermost e) → Rounds P (suc k) (On outermost a)
+turns-on P k r e (LiteralNode v) a part t h = absurd t
+turns-on P k r e (UnaryNode o b) a part t h =
+    let F : ℕ → Type 0 = λ q. Rounds P (suc k) (On outermost q) in subst F (sym t) (inr (On outermost e ∷ [], operand_on part, (h, tt)))
+turns-on P k r e (BinaryNode o b c) a part (inl t) h =
+    let F : ℕ → Type 0 = λ q. Rounds P (suc k) (On outermost q) in subst F (sym t) (inr (On outermost e ∷ [], left_on part, (h, tt)))
+turns-on P k r e (BinaryNode o b c) a part (inr t) h =
+    let F : ℕ → Type 0 = λ q. Rounds P (suc k) (On outermost q) in subst F (sym t) (inr (On outermost e ∷ [], right_on part, (h, tt)))
+turns-on P k r e (NameNode b) a part t h = absurd t
+turns-on P k r e UnboundNode a part t h = absurd t
+turns-on P k r e (BlockNode vs b) a part (inl t) h = inr (On outermost e ∷ [], statement_on part t, (h, tt))
+turns-on P k r e (BlockNode vs b) a part (inr t) h =
+    let F : ℕ → Type 0 = λ q. Rounds P (suc k) (On outermost q) in subst F (sym t) (inr (On outermost e ∷ [], body_on part, (h, tt)))
+turns-on P k r e (BindingNode b) a part t h = absurd t
+
+sound-on : (P : Checked) (k : ℕ) (cs : List Cell) → IsRound P k cs → (a : ℕ) (t : Turn) → TurnerOf P.program.defs 0 P.main a t → turned cs t ≡ true → Rounds P (suc k) (On outermost a)
+sound-on P k cs s a Always (d, i, at, e, p) h =
+    let q : i ≡ P.main = omega arith in
+    let G : ℕ → Type 0 = λ j. slice_get P.program.defs j ≡ Some d in
+    let F : ℕ → Type 0 = λ j. Rounds P (suc k) (On outermost j) in
+    let m : IsMain P d = record { at = subst G q at } in
+    subst F (sym p) (inr ([], main_on m, tt))
+sound-on P k cs s a (By e) (x, among, p, t) h =
+    let part : Part P x.region x.place x.node = record { stands = among } in
+    let on : (cell_at cs x.place).on ≡ true = ap (λ q. (cell_at cs q).on) p ∙ h in
+    turns-on P k x.region x.place x.node a part t (s.only (On outermost x.place) (refl, on))
+sound-on P k cs s a Never t h = absurd (false≢true h) where
+  false≢true : false ≡ true → ⊥
+  false≢true e = cc
+
+when-some : (b : Bool) (x : Option SourceValue) (v : SourceValue) → (if b then x else None) ≡ Some v → (b ≡ true) × (x ≡ Some v)
+when-some true x v h = (refl, h)
+when-some false x v h = cc
+
+given-inv : (r : Outcome) (z : SourceValue) → given r ≡ Some z → r ≡ Gives z
+given-inv (Gives v) z h = let e : v ≡ z = cc in ap Gives e
+given-inv (Fails k) z h = cc
+
+unary-inv : (o : UnaryOp) (x : Option SourceValue) (z : SourceValue) → unary_of o x ≡ Some z → (v : SourceValue) × (x ≡ Some v) × (result_of_unary o v ≡ Gives z)
+unary-inv o None z h = cc
+unary-inv o (Some v) z h = (v, refl, given-inv (result_of_unary o v) z h)
+
+binary-inv : (o : BinaryOp) (x y : Option SourceValue) (z : SourceValue) → binary_of o x y ≡ Some z → (v : SourceValue) × (w : SourceValue) × (x ≡ Some v) × (y ≡ Some w) × (result_of_binary o v w ≡ Gives z)
+binary-inv o None y z h = cc
+binary-inv o (Some v) None z h = cc
+binary-inv o (Some v) (Some w) z h = (v, w, refl, refl, given-inv (result_of_binary o v w) z h)
+
+-- a part that gains a value follows by its rule
+gains : (P : Checked) (k : ℕ) (cs : List Cell) → IsRound P k cs → (r : Region) (e : ℕ) (n : Node) (v : SourceValue) → Part P r e n → is_binding (form_of n) || (cell_at cs e).on ≡ true → gained cs (form_of n) ≡ Some v → Rounds P (suc k) (Has outermost e v)
+gains P k cs s r e (LiteralNode w) v part on g =
+    let q : w ≡ v = cc in
+    let F : SourceValue → Type 0 = λ x. Rounds P (suc k) (Has outermost e x) in
+    subst F q (inr (On outermost e ∷ [], literal_has part, (s.only (On outermost e) (refl, on), tt)))
+gains P k cs s r e (UnaryNode o a) v part on g =
+    let i = unary-inv o (cell_at cs a).has v g in
+    inr (On outermost e ∷ Has outermost a i.0 ∷ [], unary_has part i.2, (s.only (On outermost e) (refl, on), (s.only (Has outermost a i.0) (refl, i.1), tt)))
+gains P k cs s r e (BinaryNode o a b) v part on g =
+    let i = binary-inv o (cell_at cs a).has (cell_at cs b).has v g in
+    inr (On outermost e ∷ Has outermost a i.0 ∷ Has outermost b i.1 ∷ [], binary_has part i.4, (s.only (On outermost e) (refl, on), (s.only (Has outermost a i.0) (refl, i.2), (s.only (Has outermost b i.1) (refl, i.3), tt))))
+gains P k cs s r e (NameNode b) v part on g =
+    inr (On outermost e ∷ Has outermost b v ∷ [], name_has part, (s.only (On outermost e) (refl, on), (s.only (Has outermost b v) (refl, g), tt)))
+gains P k cs s r e UnboundNode v part on g = cc
+gains P k cs s r e (BlockNode vs b) v part on g =
+    inr (On outermost e ∷ Has outermost b v ∷ [], block_has part, (s.only (On outermost e) (refl, on), (s.only (Has outermost b v) (refl, g), tt)))
+gains P k cs s r e (BindingNode a) v part on g =
+    inr (Has outermost a v ∷ [], binding_has part, (s.only (Has outermost a v) (refl, g), tt))
+
+sound-has : (P : Checked) (k : ℕ) (cs : List Cell) → IsRound P k cs → (l : Line) → Among l (lines P) → (v : SourceValue) → value_after cs l ≡ Some v → Rounds P (suc k) (Has outermost l.place v)
+sound-has P k cs s l h v e =
+    let x = aligned-entry (entries_of_all P.program.defs) (lines P) (lines-aligned P) l h in
+    let y = x.0 in
+    let part : Part P y.region y.place y.node = record { stands = x.1 } in
+    let i = when-some (is_binding l.form || (cell_at cs l.place).on) (gained cs l.form) v e in
+    let F : ℕ → Type 0 = λ q. Rounds P (suc k) (Has outermost q v) in
+    let test = ap (λ f. is_binding f || (cell_at cs y.place).on) (sym x.3) ∙ ap (λ q. is_binding l.form || (cell_at cs q).on) (sym x.2) ∙ i.0 in
+    subst F (sym x.2) (gains P k cs s y.region y.place y.node v part test (ap (λ f. gained cs f) (sym x.3) ∙ i.1))
+
+-- a line stands at the place, or none does
+find-line : (ls : List Line) (e : ℕ) → ((l : Line) × Among l ls × (l.place ≡ e)) ⊎ ((l : Line) → Among l ls → l.place ≡ e → ⊥)
+find-line [] e = inr (λ l h p. h)
+find-line (m ∷ ls) e =
+    elim (eqb_tells m.place e) [
+      | inl t ↦ inl (m, inl refl, t.1)
+      | inr t ↦ elim (find-line ls e) [
+        | inl r ↦ inl (r.0, inr r.1, r.2)
+        | inr none ↦ inr (λ l h p. elim h [ inl q ↦ t.1 (ap (λ z. z.place) (sym q) ∙ p) | inr i ↦ none l i p ])
+      ]
+    ]
+
+sound : (P : Checked) (k : ℕ) (cs ds : List Cell) → IsRound P k cs → Follows (lines P) cs ds → (f : Fact) → Shown ds f → Rounds P (suc k) f
+sound P k cs ds s w (On p e) h =
+    let F : Path → Type 0 = λ q. Rounds P (suc k) (On q e) in
+    subst F (sym h.0) (elim (find-line (lines P) e) [
+      | inl r ↦
+          let G : ℕ → Type 0 = λ q. Rounds P (suc k) (On outermost q) in
+          let on : turned cs r.0.turn ≡ true = sym (ap (λ c. c.on) (w.lined r.0 r.1)) ∙ ap (λ q. (cell_at ds q).on) r.2 ∙ h.1 in
+          subst G r.2 (sound-on P k cs s r.0.place r.0.turn (turner-all (get nat_eq P.binders) P.main 0 P.program.defs r.0 r.1) on)
+      | inr none ↦ inl (s.only (On outermost e) (refl, sym (ap (λ c. c.on) (w.bare e none)) ∙ h.1))
+    ])
+sound P k cs ds s w (Has p e v) h =
+    let F : Path → Type 0 = λ q. Rounds P (suc k) (Has q e v) in
+    subst F (sym h.0) (elim (find-line (lines P) e) [
+      | inl r ↦
+          let G : ℕ → Type 0 = λ q. Rounds P (suc k) (Has outermost q v) in
+          subst G r.2 (sound-has P k cs s r.0 r.1 v (sym (ap (λ c. c.has) (w.lined r.0 r.1)) ∙ ap (λ q. (cell_at ds q).has) r.2 ∙ h.1))
+      | inr none ↦ inl (s.only (Has outermost e v) (refl, sym (ap (λ c. c.has) (w.bare e none)) ∙ h.1))
+    ])
+
+-- ---- all rounds
+
+shown-all : (P : Checked) (k : ℕ) (cs : List Cell) → IsRound P k cs → (fs : List Fact) → Every (Rounds P k) fs → Every (Shown cs) fs
+shown-all P k cs s [] h = tt
+shown-all P k cs s (f ∷ fs) h = (s.all f h.0, shown-all P k cs s fs h.1)
+
+step : (P : Checked) (k : ℕ) (cs ds : List Cell) → IsRound P k cs → Follows (lines P) cs ds → IsRound P (suc k) ds
+step P k cs ds s w = record {
+  all = λ f h. let r = Rounds-follow P k f h in complete P cs ds w r.1 (shown-all P k cs s r.0 r.2);
+  only = sound P k cs ds s w;
+}
+
+-- the places of lines are places of things
+entry-place : (ds : List Def) (q : ℕ) → Among q (map (λ x. x.place) (entries_of_all ds)) → Among q (places_of_all ds)
+entry-place [] q h = h
+entry-place (d ∷ ds) q h =
+    let es = map (λ x. x.place) (entries_of_def d) in
+    elim (Among-either q es (map (λ x. x.place) (entries_of_all ds)) (rw map-append at h)) [
+      | inl k ↦ inr (Among-left q es (places_of_all ds) k)
+      | inr k ↦ inr (Among-right q es (places_of_all ds) (entry-place ds q k))
+    ]
+
+entries-differ : (ds : List Def) → AllDiffer (places_of_all ds) → AllDiffer (map (λ x. x.place) (entries_of_all ds))
+entries-differ [] h = tt
+entries-differ (d ∷ ds) h =
+    let es = map (λ x. x.place) (entries_of_def d) in
+    let F : List ℕ → Type 0 = AllDiffer in
+    subst F (sym (map-append (λ x. x.place) (entries_of_def d) (entries_of_all ds)))
+    (AllDiffer-append es (map (λ x. x.place) (entries_of_all ds)) (AllDiffer-left es (places_of_all ds) h.1)
+    (entries-differ ds (AllDiffer-right es (places_of_all ds) h.1))
+    (λ q i j. AllDiffer-apart es (places_of_all ds) h.1 q i (entry-place ds q j)))
+
+lines-differ : (P : Checked) → AllDiffer (places (lines P))
+lines-differ P =
+    let F : List ℕ → Type 0 = AllDiffer in
+    subst F (aligned-places (entries_of_all P.program.defs) (lines P) (lines-aligned P))
+    (entries-differ P.program.defs (Distinct-checked P).differ)
+
+last-above : (m : ℕ) (ls : List Line) → m ≤ last_of m ls
+last-above m [] = omega arith
+last-above m (l ∷ ls) = let h = last-above (max m l.place) ls in omega arith
+
+place-below : (m : ℕ) (ls : List Line) (l : Line) → Among l ls → l.place ≤ last_of m ls
+place-below m [] l h = absurd h
+place-below m (x ∷ ls) l (inl e) = let p = ap (λ z. z.place) e in let h = last-above (max m x.place) ls in omega arith
+place-below m (x ∷ ls) l (inr h) = place-below (max m x.place) ls l h
+
+-- the cells before the first round
+abbrev pub cells_of : List Line → List Cell
+cells_of ls = replicate (last_of 0 ls + 1) blank
+
+lines-fit : (ls : List Line) (n : ℕ) → Fits ls (after n ls (cells_of ls))
+lines-fit ls n l h =
+    let e = length-after n ls (cells_of ls) ∙ length-replicate (last_of 0 ls + 1) blank in
+    let b = place-below 0 ls l h in
+    omega arith
+
+all-blank : (n e : ℕ) → get_or (replicate n blank) e blank ≡ blank
+all-blank zero e = refl
+all-blank (suc n) zero = refl
+all-blank (suc n) (suc e) = all-blank n e
+
+none-shown : (n : ℕ) (f : Fact) → Shown (replicate n blank) f → ⊥
+none-shown n (On p e) h = let k : false ≡ true = sym (ap (λ c. c.on) (all-blank n e)) ∙ h.1 in cc
+none-shown n (Has p e v) h = let k : None ≡ Some v = sym (ap (λ c. c.has) (all-blank n e)) ∙ h.1 in cc
+
+-- the cells after n rounds show the facts of round n
+pub IsRound-after : (P : Checked) (n : ℕ) → IsRound P n (after n (lines P) (cells_of (lines P)))
+IsRound-after P zero = record { all = λ f h. absurd h; only = λ f h. absurd (none-shown (last_of 0 (lines P) + 1) f h) }
+IsRound-after P (suc n) =
+    let cs = after n (lines P) (cells_of (lines P)) in
+    step P n cs (next (lines P) cs) (IsRound-after P n) (record {
+      lined = here cs (lines P) cs (lines-differ P) (lines-fit (lines P) n) (λ l h. refl);
+      bare = elsewhere cs (lines P) cs;
+    })
