@@ -1,5 +1,5 @@
 -- Lemmas on what is among a list, and on lists where all differ.
-use Rattle.std.proofs.Common.{◌≡◌, ◌⊎◌, inl, inr, ℕ, zero, suc, ◌+◌, List, [], ◌∷◌, ◌++◌, length, refl, ap, sym, subst, arith, Some}
+use Rattle.std.proofs.Common.{◌≡◌, ◌⊎◌, inl, inr, ℕ, zero, suc, ◌+◌, List, [], ◌∷◌, ◌++◌, length, refl, ap, sym, subst, ◌∙◌, arith, Some}
 use Rattle.std.specs.Prelude.{map, option_map, slice_get}
 use Rattle.id_meaning.specs.Parts.{AllDiffer, Among}
 
@@ -83,3 +83,20 @@ AllDiffer-apart (y ∷ xs) ys h x (inr k) l = AllDiffer-apart xs ys h.1 x k l
 pub map-append : {A B : Type 0} (f : A → B) (xs ys : List A) → map f (xs ++ ys) ≡ map f xs ++ map f ys
 map-append f [] ys = refl
 map-append f (x ∷ xs) ys = ap (λ l. f x ∷ l) (map-append f xs ys)
+
+-- things differ where their images do
+pub AllDiffer-from_map : {A B : Type 0} (f : A → B) (xs : List A) → AllDiffer (map f xs) → AllDiffer xs
+AllDiffer-from_map f [] d = tt
+AllDiffer-from_map f (x ∷ xs) d = (λ h. d.0 (Among-map f x xs h), AllDiffer-from_map f xs d.1)
+
+-- where all images differ, things with one image are one
+pub same-from_map : {A B : Type 0} (f : A → B) (xs : List A) (x y : A) → AllDiffer (map f xs) → Among x xs → Among y xs → f x ≡ f y → x ≡ y
+same-from_map f [] x y d h k e = absurd h
+same-from_map f (z ∷ xs) x y d (inl h) (inl k) e = h ∙ sym k
+same-from_map {B = B} f (z ∷ xs) x y d (inl h) (inr k) e =
+    let P : B → Type 0 = λ w. Among w (map f xs) in
+    absurd (d.0 (subst P (sym e ∙ ap f h) (Among-map f y xs k)))
+same-from_map {B = B} f (z ∷ xs) x y d (inr h) (inl k) e =
+    let P : B → Type 0 = λ w. Among w (map f xs) in
+    absurd (d.0 (subst P (e ∙ ap f k) (Among-map f x xs h)))
+same-from_map f (z ∷ xs) x y d (inr h) (inr k) e = same-from_map f xs x y d.1 h k e

@@ -1,13 +1,16 @@
 -- Where the places of a program differ, so do its roles.
-use Rattle.std.proofs.Common.{◌≡◌, inl, inr, ℕ, List, [], ◌∷◌, ◌++◌, refl, ap, sym, subst, ◌∙◌}
+use Rattle.std.proofs.Common.{◌≡◌, inl, inr, ℕ, List, [], ◌∷◌, ◌++◌, refl, ap, sym, subst}
 use Rattle.std.specs.Prelude.{map}
-use Rattle.id_build.proofs.AmongLemmas.{AllDiffer-append, AllDiffer-apart, AllDiffer-left, AllDiffer-right, Among-either, Among-from_map, Among-left, Among-map, Among-right, map-append}
-use Rattle.id_build.proofs.Rows.{Row, rows_of, rows_of_all, rows_of_def, rows_of_program}
-use Rattle.id_build.proofs.RowsLemmas.{region-entries_of, rows_of-from}
-use Rattle.id_build.specs.Roles.{Answer, Of, Return, Role, Trigger}
-use Rattle.id_meaning.specs.Parts.{AllDiffer, Among, entries_of, entries_of_def, Entry, places_of_all, Region, Top}
+use Rattle.id_build.proofs.AmongLemmas.{AllDiffer-append, AllDiffer-apart, AllDiffer-from_map, AllDiffer-left, AllDiffer-right, Among-either, Among-left, Among-map, Among-right, map-append}
+use Rattle.id_build.proofs.Rows.{Row, row, rows_of, rows_of_all, rows_of_def, rows_of_program, rows_of_row}
+use Rattle.id_build.specs.Roles.{Answer, binary_op, Label, Of, Return, Role, Trigger, unary_op}
+use Rattle.id_check.specs.Scopes.{Binder, binders_of}
+use Rattle.id_graph.specs.declared.instr.Op.TheVariants.{Binary, Merge}
+use Rattle.id_graph.specs.declared.instr.PortKind.TheVariants.{Int}
+use Rattle.id_meaning.specs.Parts.{AllDiffer, Among, entries_of, entries_of_def, entries_of_row, Entry, places_of_all, Region, Top}
 use Rattle.id_tree.specs.declared.tree.Def.{Def}
-use Rattle.id_tree.specs.declared.tree.Expr.{Expr, Literal, Unary', Binary'}
+use Rattle.id_tree.specs.declared.tree.Expr.{Expr, Literal, Unary', Binary', Name, Block', Row_of-Stmt, end_of-Stmt, more_of-Stmt}
+use Rattle.id_tree.specs.declared.tree.Stmt.{Binding}
 
 -- the roles of these instructions
 abbrev pub roles : List Row → List Role
@@ -17,74 +20,141 @@ roles ws = map (λ w. w.role) ws
 abbrev places : List Entry → List ℕ
 places ys = map (λ y. y.place) ys
 
--- the role is that of what stands at one of the places in the region
-abbrev IsAt : Region → List ℕ → Role → Type 0
-IsAt r es q = (e : ℕ) × Among e es × (q ≡ Of r e)
-
--- each role of an expression is that of one of its places
-IsAt-roles : (r : Region) (x : Expr) (q : Role) → Among q (roles (rows_of r x)) → IsAt r (places (entries_of r x)) q
-IsAt-roles r x q h =
-    let w = Among-from_map (λ z. z.role) q (rows_of r x) h in
-    let y = rows_of-from w.0 r x w.1 in
-    let e : q ≡ Of y.0.region y.0.place = w.2 ∙ ap (λ z. z.role) y.2 in
-    (y.0.place, Among-map (λ z. z.place) y.0 (entries_of r x) y.1, e ∙ ap (λ s. Of s y.0.place) (region-entries_of y.0 r x y.1))
-
--- roles at places that differ differ
-IsAt-apart : (r : Region) (es fs : List ℕ) → ((e : ℕ) → Among e es → Among e fs → ⊥) → (q : Role) → IsAt r es q → IsAt r fs q → ⊥
-IsAt-apart r es fs apart q h k =
-    let same : h.0 ≡ k.0 = let f : Of r h.0 ≡ Of r k.0 = sym h.2 ∙ k.2 in cc in
-    let P : ℕ → Type 0 = λ e. Among e fs in
-    apart h.0 h.1 (subst P (sym same) k.1)
-
-not_head : (e c : ℕ) (es : List ℕ) → (Among e es → ⊥) → Among c es → Among c (e ∷ []) → ⊥
-not_head e c es out l (inl m) = let P : ℕ → Type 0 = λ z. Among z es in out (subst P m l)
-not_head e c es out l (inr m) = absurd m
-
-IsAt-one : (r : Region) (e : ℕ) (q : Role) → Among q (Of r e ∷ []) → IsAt r (e ∷ []) q
-IsAt-one r e q (inl h) = (e, inl refl, h)
-IsAt-one r e q (inr h) = absurd h
-
-IsAt-both : (r : Region) (es fs : List ℕ) (q : Role) (qs ss : List Role) → (Among q qs → IsAt r es q) → (Among q ss → IsAt r fs q) → Among q (qs ++ ss) → IsAt r (es ++ fs) q
-IsAt-both r es fs q qs ss f g h =
-    elim (Among-either q qs ss h) [
-      | inl k ↦ (let x = f k in (x.0, Among-left x.0 es fs x.1, x.2))
-      | inr k ↦ (let x = g k in (x.0, Among-right x.0 es fs x.1, x.2))
-    ]
-
--- the roles of an expression differ where its places do
-pub AllDiffer-roles : (r : Region) (x : Expr) → AllDiffer (places (entries_of r x)) → AllDiffer (roles (rows_of r x))
-AllDiffer-roles r (Literal v e) d = (λ h. h, tt)
-AllDiffer-roles r (Unary' o _ a e) d =
-    let last : (q : Role) → Among q (roles (rows_of r a)) → Among q (Of r e ∷ []) → ⊥ = λ q h k. IsAt-apart r (places (entries_of r a)) (e ∷ []) (λ c l m. not_head e c (places (entries_of r a)) d.0 l m) q (IsAt-roles r a q h) (IsAt-one r e q k) in
-    rw map-append (AllDiffer-append (roles (rows_of r a)) (Of r e ∷ []) (AllDiffer-roles r a d.1) (λ h. h, tt) last)
-AllDiffer-roles r (Binary' o _ a _ b e) d =
-    let pa = places (entries_of r a) in
-    let pb = places (entries_of r b) in
-    let ra = roles (rows_of r a) in
-    let rb = roles (rows_of r b) in
-    let together : places (entries_of r a ++ entries_of r b) ≡ pa ++ pb = map-append (λ y. y.place) (entries_of r a) (entries_of r b) in
-    let head : Among e (pa ++ pb) → ⊥ = rw (← together) d.0 in
-    let rest : AllDiffer (pa ++ pb) = rw (← together) d.1 in
-    let apart : (q : Role) → Among q ra → Among q rb → ⊥ = λ q h k. IsAt-apart r pa pb (AllDiffer-apart pa pb rest) q (IsAt-roles r a q h) (IsAt-roles r b q k) in
-    let both : AllDiffer (ra ++ rb) = AllDiffer-append ra rb (AllDiffer-roles r a (AllDiffer-left pa pb rest)) (AllDiffer-roles r b (AllDiffer-right pa pb rest)) apart in
-    let last : (q : Role) → Among q (ra ++ rb) → Among q (Of r e ∷ []) → ⊥ = λ q h k. IsAt-apart r (pa ++ pb) (e ∷ []) (λ c l m. not_head e c (pa ++ pb) head l m) q (IsAt-both r pa pb q ra rb (IsAt-roles r a q) (IsAt-roles r b q) h) (IsAt-one r e q k) in
-    rw (map-append, map-append) (AllDiffer-append (ra ++ rb) (Of r e ∷ []) both (λ h. h, tt) last)
-
 -- the place that a role speaks of
 abbrev key : Role → ℕ
 key Answer = 0
 key (Trigger f) = f
 key (Return f) = f
 key (Of r e) = e
+key (Label b) = b
+
+-- the places that the roles of these instructions speak of
+abbrev keys : List Row → List ℕ
+keys ws = map (λ w. key w.role) ws
+
+-- each of the one list is in the other
+abbrev AreIn : List ℕ → List ℕ → Type 0
+AreIn ks ps = (k : ℕ) → Among k ks → Among k ps
+
+AreIn-append : (ks ls ps qs : List ℕ) → AreIn ks ps → AreIn ls qs → AreIn (ks ++ ls) (ps ++ qs)
+AreIn-append ks ls ps qs f g k h = elim (Among-either k ks ls h) [ inl i ↦ Among-left k ps qs (f k i) | inr i ↦ Among-right k ps qs (g k i) ]
+
+-- with one more at the end of the one, and at the head of the other
+AreIn-last : (e : ℕ) (ks ps : List ℕ) → AreIn ks ps → AreIn (ks ++ e ∷ []) (e ∷ ps)
+AreIn-last e ks ps f k h = elim (Among-either k ks (e ∷ []) h) [ inl i ↦ inr (f k i) | inr i ↦ elim i [ inl j ↦ inl j | inr j ↦ absurd j ] ]
+
+Differ-append : (ks ls ps qs : List ℕ) → AllDiffer (ps ++ qs) → AreIn ks ps → AreIn ls qs → AllDiffer ks → AllDiffer ls → AllDiffer (ks ++ ls)
+Differ-append ks ls ps qs d f g x y = AllDiffer-append ks ls x y (λ k h i. AllDiffer-apart ps qs d k (f k h) (g k i))
+
+Differ-last : (e : ℕ) (ks ps : List ℕ) → AllDiffer (e ∷ ps) → AreIn ks ps → AllDiffer ks → AllDiffer (ks ++ e ∷ [])
+Differ-last e ks ps d f x =
+    AllDiffer-append ks (e ∷ []) x ((λ h. h), tt) (λ k h i. elim i [ inl j ↦ (let P : ℕ → Type 0 = λ z. Among z ps in d.0 (subst P j (f k h))) | inr j ↦ j ])
+
+-- what holds of the keys of two lists together, from the lists apart
+over : (P : List ℕ → Type 0) (us vs : List Row) → P (keys us ++ keys vs) → P (keys (us ++ vs))
+over P us vs = subst P (sym (map-append (λ w. key w.role) us vs))
+
+keys-two : (us vs : List Row) (xs ys : List Entry) → AreIn (keys us) (places xs) → AreIn (keys vs) (places ys) → AreIn (keys (us ++ vs)) (places (xs ++ ys))
+keys-two us vs xs ys f g =
+    let P : List ℕ → Type 0 = λ l. AreIn (keys us ++ keys vs) l in
+    over (λ l. AreIn l (places (xs ++ ys))) us vs (subst P (sym (map-append (λ y. y.place) xs ys)) (AreIn-append (keys us) (keys vs) (places xs) (places ys) f g))
+
+-- the same with one more instruction at the end, and its line at the head
+keys-last : (us : List Row) (w : Row) (ps : List ℕ) → AreIn (keys us) ps → AreIn (keys (us ++ w ∷ [])) (key w.role ∷ ps)
+keys-last us w ps f = over (λ l. AreIn l (key w.role ∷ ps)) us (w ∷ []) (AreIn-last (key w.role) (keys us) ps f)
+
+-- two lists of lines whose places differ
+places-two : (xs ys : List Entry) → AllDiffer (places (xs ++ ys)) → AllDiffer (places xs ++ places ys)
+places-two xs ys d = let P : List ℕ → Type 0 = AllDiffer in subst P (map-append (λ y. y.place) xs ys) d
+
+Differ-two : (us vs : List Row) (xs ys : List Entry) → AllDiffer (places (xs ++ ys)) → AreIn (keys us) (places xs) → AreIn (keys vs) (places ys) → (AllDiffer (places xs) → AllDiffer (keys us)) → (AllDiffer (places ys) → AllDiffer (keys vs)) → AllDiffer (keys (us ++ vs))
+Differ-two us vs xs ys d f g x y =
+    let apart = places-two xs ys d in
+    over AllDiffer us vs (Differ-append (keys us) (keys vs) (places xs) (places ys) apart f g (x (AllDiffer-left (places xs) (places ys) apart)) (y (AllDiffer-right (places xs) (places ys) apart)))
+
+Differ-one : (us : List Row) (w : Row) (ps : List ℕ) → AllDiffer (key w.role ∷ ps) → AreIn (keys us) ps → AllDiffer (keys us) → AllDiffer (keys (us ++ w ∷ []))
+Differ-one us w ps d f x = over AllDiffer us (w ∷ []) (Differ-last (key w.role) (keys us) ps d f x)
+
+-- what stands at the head of a list of places, and what two parts of it have
+AreIn-head : (e : ℕ) (ks ls ps qs rs : List ℕ) → rs ≡ ps ++ qs → AreIn ks (e ∷ ps) → AreIn ls qs → AreIn (ks ++ ls) (e ∷ rs)
+AreIn-head e ks ls ps qs rs same f g k h =
+    let P : List ℕ → Type 0 = λ l. Among k (e ∷ l) in
+    subst P (sym same) (elim (Among-either k ks ls h) [
+      | inl i ↦ (elim (f k i) [ inl j ↦ inl j | inr j ↦ inr (Among-left k ps qs j) ])
+      | inr i ↦ inr (Among-right k ps qs (g k i))
+    ])
+
+mutual
+  -- the roles of an expression speak of its places
+  keys-places : (r : Region) (bs : List Binder) (x : Expr) → AreIn (keys (rows_of r x)) (places (entries_of r bs x))
+  keys-places r bs (Literal v e) = λ k h. h
+  keys-places r bs (Unary' o p a e) = keys-last (rows_of r a) (row (Of r e) (unary_op o) e) (places (entries_of r bs a)) (keys-places r bs a)
+  keys-places r bs (Binary' o p a q b e) =
+      keys-last (rows_of r a ++ rows_of r b) (row (Of r e) (Binary (binary_op o)) e) (places (entries_of r bs a ++ entries_of r bs b))
+      (keys-two (rows_of r a) (rows_of r b) (entries_of r bs a) (entries_of r bs b) (keys-places r bs a) (keys-places r bs b))
+  keys-places r bs (Name x e) = λ k h. absurd h
+  keys-places r bs (Block' n ss p body e) = λ k h.
+      let cs = binders_of ss ++ bs in
+      inr (keys-two (rows_of_row r ss) (rows_of r body) (entries_of_row r cs ss) (entries_of r cs body) (keys-places_row r cs ss) (keys-places r cs body) k h)
+
+  keys-places_row : {n : _} (r : Region) (bs : List Binder) (ss : Row_of-Stmt n) → AreIn (keys (rows_of_row r ss)) (places (entries_of_row r bs ss))
+  keys-places_row r bs end_of-Stmt = λ k h. h
+  keys-places_row r bs (more_of-Stmt (Binding x a e) rest) =
+      let own = rows_of r a ++ row (Label e) (Merge Int) e ∷ [] in
+      let ps = places (entries_of r bs a ++ entries_of_row r bs rest) in
+      let Q : List ℕ → Type 0 = λ l. AreIn l (e ∷ ps) in
+      over Q own (rows_of_row r rest)
+      (AreIn-head e (keys own) (keys (rows_of_row r rest)) (places (entries_of r bs a)) (places (entries_of_row r bs rest)) ps (map-append (λ y. y.place) (entries_of r bs a) (entries_of_row r bs rest))
+      (keys-last (rows_of r a) (row (Label e) (Merge Int) e) (places (entries_of r bs a)) (keys-places r bs a)) (keys-places_row r bs rest))
+
+-- a list with one more at its head, cut in two
+head_left : (e : ℕ) (ps qs : List ℕ) → AllDiffer (e ∷ (ps ++ qs)) → AllDiffer (e ∷ ps)
+head_left e ps qs d = (λ h. d.0 (Among-left e ps qs h), AllDiffer-left ps qs d.1)
+
+mutual
+  -- the roles of an expression speak of different places where its places differ
+  AllDiffer-keys : (r : Region) (bs : List Binder) (x : Expr) → AllDiffer (places (entries_of r bs x)) → AllDiffer (keys (rows_of r x))
+  AllDiffer-keys r bs (Literal v e) d = d
+  AllDiffer-keys r bs (Unary' o p a e) d =
+      Differ-one (rows_of r a) (row (Of r e) (unary_op o) e) (places (entries_of r bs a)) d (keys-places r bs a) (AllDiffer-keys r bs a d.1)
+  AllDiffer-keys r bs (Binary' o p a q b e) d =
+      let f = keys-places r bs a in
+      let g = keys-places r bs b in
+      Differ-one (rows_of r a ++ rows_of r b) (row (Of r e) (Binary (binary_op o)) e) (places (entries_of r bs a ++ entries_of r bs b)) d
+      (keys-two (rows_of r a) (rows_of r b) (entries_of r bs a) (entries_of r bs b) f g)
+      (Differ-two (rows_of r a) (rows_of r b) (entries_of r bs a) (entries_of r bs b) d.1 f g (AllDiffer-keys r bs a) (AllDiffer-keys r bs b))
+  AllDiffer-keys r bs (Name x e) d = tt
+  AllDiffer-keys r bs (Block' n ss p body e) d =
+      let cs = binders_of ss ++ bs in
+      Differ-two (rows_of_row r ss) (rows_of r body) (entries_of_row r cs ss) (entries_of r cs body) d.1 (keys-places_row r cs ss) (keys-places r cs body) (AllDiffer-keys_row r cs ss) (AllDiffer-keys r cs body)
+
+  AllDiffer-keys_row : {n : _} (r : Region) (bs : List Binder) (ss : Row_of-Stmt n) → AllDiffer (places (entries_of_row r bs ss)) → AllDiffer (keys (rows_of_row r ss))
+  AllDiffer-keys_row r bs end_of-Stmt d = tt
+  AllDiffer-keys_row r bs (more_of-Stmt (Binding x a e) rest) d =
+      let ps = places (entries_of r bs a) in
+      let qs = places (entries_of_row r bs rest) in
+      let own = rows_of r a ++ row (Label e) (Merge Int) e ∷ [] in
+      let Q : List ℕ → Type 0 = λ l. AllDiffer (e ∷ l) in
+      let cut : AllDiffer (e ∷ (ps ++ qs)) = subst Q (map-append (λ y. y.place) (entries_of r bs a) (entries_of_row r bs rest)) d in
+      let f = keys-places r bs a in
+      let first = Differ-one (rows_of r a) (row (Label e) (Merge Int) e) ps (head_left e ps qs cut) f (AllDiffer-keys r bs a (AllDiffer-left ps qs cut.1)) in
+      over AllDiffer own (rows_of_row r rest)
+      (Differ-append (keys own) (keys (rows_of_row r rest)) (e ∷ ps) qs cut (keys-last (rows_of r a) (row (Label e) (Merge Int) e) ps f) (keys-places_row r bs rest) first (AllDiffer-keys_row r bs rest (AllDiffer-right ps qs cut.1)))
+
+-- what the roles of instructions speak of
+keys-roles : (ws : List Row) → map key (roles ws) ≡ keys ws
+keys-roles [] = refl
+keys-roles (w ∷ ws) = ap (λ l. key w.role ∷ l) (keys-roles ws)
+
+-- the place that a role among these speaks of is among the places
+key-among : (ws : List Row) (ps : List ℕ) (q : Role) → AreIn (keys ws) ps → Among q (roles ws) → Among (key q) ps
+key-among ws ps q f h = let P : List ℕ → Type 0 = λ l. Among (key q) l in f (key q) (subst P (keys-roles ws) (Among-map key q (roles ws) h))
 
 -- each role of a procedure speaks of one of its places
 key-def : (d : Def) (q : Role) → Among q (roles (rows_of_def d)) → Among (key q) (d.place ∷ places (entries_of_def d))
 key-def d q (inl h) = inl (ap key h)
 key-def d q (inr (inl h)) = inl (ap key h)
-key-def d q (inr (inr h)) =
-    let at = IsAt-roles (Top d.place) d.body q h in
-    let P : ℕ → Type 0 = λ e. Among e (places (entries_of_def d)) in
-    inr (subst P (sym (ap key at.2)) at.1)
+key-def d q (inr (inr h)) = inr (key-among (rows_of (Top d.place) d.body) (places (entries_of_def d)) q (keys-places (Top d.place) [] d.body) h)
 
 roles_of_all : (d : Def) (ds : List Def) → roles (rows_of_all (d ∷ ds)) ≡ roles (rows_of_def d) ++ roles (rows_of_all ds)
 roles_of_all d ds = map-append (λ w. w.role) (rows_of_def d) (rows_of_all ds)
@@ -102,10 +172,14 @@ key-all (d ∷ ds) q h =
 
 -- the roles of a procedure differ where its places do
 AllDiffer-def : (d : Def) → AllDiffer (d.place ∷ places (entries_of_def d)) → AllDiffer (roles (rows_of_def d))
-AllDiffer-def d h = (
-  λ k. elim k [ inl e ↦ cc | inr l ↦ (let at = IsAt-roles (Top d.place) d.body (Trigger d.place) l in let e = at.2 in cc) ],
-  ((λ l. let at = IsAt-roles (Top d.place) d.body (Return d.place) l in let e = at.2 in cc), AllDiffer-roles (Top d.place) d.body h.1),
-)
+AllDiffer-def d h =
+    let body = rows_of (Top d.place) d.body in
+    let P : List ℕ → Type 0 = AllDiffer in
+    let differ : AllDiffer (map key (roles body)) = subst P (sym (keys-roles body)) (AllDiffer-keys (Top d.place) [] d.body h.1) in
+    let out : (q : Role) → key q ≡ d.place → Among q (roles body) → ⊥ = λ q e l. (let Q : ℕ → Type 0 = λ z. Among z (places (entries_of_def d)) in h.0 (subst Q e (key-among body (places (entries_of_def d)) q (keys-places (Top d.place) [] d.body) l))) in (
+      λ k. elim k [ inl e ↦ cc | inr l ↦ out (Trigger d.place) refl l ],
+      (λ l. out (Return d.place) refl l, AllDiffer-from_map key (roles body) differ),
+    )
 
 AllDiffer-all : (ds : List Def) → AllDiffer (places_of_all ds) → AllDiffer (roles (rows_of_all ds))
 AllDiffer-all [] h = tt
@@ -115,21 +189,36 @@ AllDiffer-all (d ∷ ds) h =
     let P : List Role → Type 0 = AllDiffer in
     subst P (sym (roles_of_all d ds)) (AllDiffer-append (roles (rows_of_def d)) (roles (rows_of_all ds)) (AllDiffer-def d (AllDiffer-left own (places_of_all ds) h)) (AllDiffer-all ds (AllDiffer-right own (places_of_all ds) h)) apart)
 
+not_answer-two : (us vs : List Row) → (Among Answer (roles us) → ⊥) → (Among Answer (roles vs) → ⊥) → Among Answer (roles (us ++ vs)) → ⊥
+not_answer-two us vs f g h =
+    let P : List Role → Type 0 = λ l. Among Answer l in
+    let split : Among Answer (roles us ++ roles vs) = subst P (map-append (λ w. w.role) us vs) h in
+    elim (Among-either Answer (roles us) (roles vs) split) [ inl k ↦ f k | inr k ↦ g k ]
+
+mutual
+  -- no instruction of an expression is the answer's
+  not_answer-expr : (r : Region) (x : Expr) → Among Answer (roles (rows_of r x)) → ⊥
+  not_answer-expr r (Literal v e) h = elim h [ inl e ↦ cc | inr l ↦ l ]
+  not_answer-expr r (Unary' o p a e) h = not_answer-two (rows_of r a) (row (Of r e) (unary_op o) e ∷ []) (not_answer-expr r a) (λ k. elim k [ inl e ↦ cc | inr l ↦ l ]) h
+  not_answer-expr r (Binary' o p a q b e) h =
+      not_answer-two (rows_of r a ++ rows_of r b) (row (Of r e) (Binary (binary_op o)) e ∷ []) (not_answer-two (rows_of r a) (rows_of r b) (not_answer-expr r a) (not_answer-expr r b)) (λ k. elim k [ inl e ↦ cc | inr l ↦ l ]) h
+  not_answer-expr r (Name x e) h = h
+  not_answer-expr r (Block' n ss p body e) h = not_answer-two (rows_of_row r ss) (rows_of r body) (not_answer-row r ss) (not_answer-expr r body) h
+
+  not_answer-row : {n : _} (r : Region) (ss : Row_of-Stmt n) → Among Answer (roles (rows_of_row r ss)) → ⊥
+  not_answer-row r end_of-Stmt h = h
+  not_answer-row r (more_of-Stmt (Binding x a e) rest) h =
+      not_answer-two (rows_of r a ++ row (Label e) (Merge Int) e ∷ []) (rows_of_row r rest) (not_answer-two (rows_of r a) (row (Label e) (Merge Int) e ∷ []) (not_answer-expr r a) (λ k. elim k [ inl e ↦ cc | inr l ↦ l ])) (not_answer-row r rest) h
+
 -- no instruction of a procedure is the answer's
 not_answer-def : (d : Def) → Among Answer (roles (rows_of_def d)) → ⊥
 not_answer-def d (inl h) = cc
 not_answer-def d (inr (inl h)) = cc
-not_answer-def d (inr (inr h)) = let at = IsAt-roles (Top d.place) d.body Answer h in let e = at.2 in cc
+not_answer-def d (inr (inr h)) = not_answer-expr (Top d.place) d.body h
 
 not_answer : (ds : List Def) → Among Answer (roles (rows_of_all ds)) → ⊥
 not_answer [] h = h
-not_answer (d ∷ ds) h =
-    let P : List Role → Type 0 = λ l. Among Answer l in
-    let split : Among Answer (roles (rows_of_def d) ++ roles (rows_of_all ds)) = subst P (roles_of_all d ds) h in
-    elim (Among-either Answer (roles (rows_of_def d)) (roles (rows_of_all ds)) split) [
-      | inl k ↦ not_answer-def d k
-      | inr k ↦ not_answer ds k
-    ]
+not_answer (d ∷ ds) h = not_answer-two (rows_of_def d) (rows_of_all ds) (not_answer-def d) (not_answer ds) h
 
 -- the roles of a program differ where its places do
 pub AllDiffer-program : (main : Def) (ds : List Def) → AllDiffer (places_of_all ds) → AllDiffer (roles (rows_of_program main ds))

@@ -1,106 +1,111 @@
 -- The arcs of a program are those that the schemas have.
-use Rattle.std.proofs.Common.{◌≡◌, inl, inr, ℕ, List, [], ◌∷◌, ◌++◌, refl, sym, subst}
+use Rattle.std.proofs.Common.{◌≡◌, ◌≢◌, ◌⊎◌, inl, inr, ℕ, List, [], ◌∷◌, ◌++◌, refl, ap, sym, subst, ◌∙◌, Option, None, Some}
 use Rattle.id_build.proofs.AmongLemmas.{Among-either, Among-left, Among-right}
-use Rattle.id_build.proofs.Rows.{line, Link, link, links_of, links_of_all, links_of_def, links_to}
-use Rattle.id_build.proofs.RowsLemmas.{entries_of_all-among, entries_of_all-from, region-entries_of}
-use Rattle.id_build.specs.Roles.{by_binary, by_literal, by_unary, Feeds, From, GivesAt, Of, of_procedure, Return, Role, Source, to_left, to_literal, to_return, to_right, to_unary, Trigger}
+use Rattle.id_build.proofs.PartsLemmas.{same_line}
+use Rattle.id_build.proofs.Rows.{line, Link, link, links_of, links_of_all, links_of_def, links_of_row, name_role, node_of, source_role}
+use Rattle.id_build.proofs.RowsLemmas.{AreParts, entries_of_all-among, entries_of_all-from, region-entries_of}
+use Rattle.id_build.specs.Roles.{by_binary, by_block, by_literal, by_name, by_unary, Feeds, From, GivesAt, Label, Of, of_procedure, Return, Role, to_label, to_left, to_literal, to_return, to_right, to_unary, Trigger, TriggerAt}
 use Rattle.id_check.specs.declared.Checked.{Checked}
+use Rattle.id_check.specs.Scopes.{Binder, binder_of, binders_of, Use, uses_of, uses_of_all, uses_of_row}
 use Rattle.id_graph.specs.declared.dests.Port.{Port}
 use Rattle.id_graph.specs.declared.dests.Port.TheVariants.{Zero, One}
-use Rattle.id_meaning.specs.Parts.{Among, BinaryNode, entries_of, entries_of_def, Entry, LiteralNode, literal_value, Node, Part, place_of, Region, Top, UnaryNode}
+use Rattle.id_meaning.specs.Parts.{Among, BinaryNode, BindingNode, BlockNode, Distinct, entries_of, entries_of_def, entries_of_row, Entry, LiteralNode, literal_value, named, NameNode, Node, Part, place_of, Region, Top, UnaryNode, UnboundNode, values_of}
 use Rattle.id_tree.specs.declared.tree.Def.{Def}
-use Rattle.id_tree.specs.declared.tree.Expr.{Expr, Literal, Unary', Binary'}
+use Rattle.id_tree.specs.declared.tree.Expr.{Expr, Literal, Unary', Binary', Name, Block', Row_of-Stmt, end_of-Stmt, more_of-Stmt}
+use Rattle.id_tree.specs.declared.tree.Stmt.{Binding}
 
--- the arcs to what stands on a line of an expression are arcs of the expression
-links_to-among : (l : Link) (y : Entry) (r : Region) (t : Role) (x : Expr) → Among y (entries_of r x) → Among l (links_to r t y.place y.node) → Among l (links_of r t x)
-links_to-among l y r t (Literal v e) (inl h) k =
-    let P : Entry → Type 0 = λ z. Among l (links_to r t z.place z.node) in subst P h k
-links_to-among l y r t (Literal v e) (inr h) k = absurd h
-links_to-among l y r t (Unary' o _ a e) (inl h) k =
-    let P : Entry → Type 0 = λ z. Among l (links_to r t z.place z.node) in Among-right l (links_of r t a) _ (subst P h k)
-links_to-among l y r t (Unary' o _ a e) (inr h) k = Among-left l (links_of r t a) _ (links_to-among l y r t a h k)
-links_to-among l y r t (Binary' o _ a _ b e) (inl h) k =
-    let P : Entry → Type 0 = λ z. Among l (links_to r t z.place z.node) in Among-right l (links_of r t a ++ links_of r t b) _ (subst P h k)
-links_to-among l y r t (Binary' o _ a _ b e) (inr h) k =
-    Among-left l (links_of r t a ++ links_of r t b) _
-    (elim (Among-either y (entries_of r a) (entries_of r b) h) [
-      | inl i ↦ Among-left l (links_of r t a) (links_of r t b) (links_to-among l y r t a i k)
-      | inr i ↦ Among-right l (links_of r t a) (links_of r t b) (links_to-among l y r t b i k)
-    ])
+-- each of these uses has a binder
+abbrev pub AreBound : List Use → Type 0
+AreBound us = (u : Use) → Among u us → u.binder ≢ None
 
--- the arc goes to what stands on one of the lines
-pub record GoesTo (l : Link) (r : Region) (t : Role) (ys : List Entry) : Type 0 where
-  pub place : ℕ
-  pub node : Node
-  pub among : Among (line r place node) ys
-  pub goes : Among l (links_to r t place node)
+-- an expression's own line
+own_line : (r : Region) (bs : List Binder) (x : Expr) → Among (line r (place_of x) (node_of bs x)) (entries_of r bs x)
+own_line r bs (Literal v e) = inl refl
+own_line r bs (Unary' o p a e) = inl refl
+own_line r bs (Binary' o p a q b e) = inl refl
+own_line r bs (Name x e) = inl refl
+own_line r bs (Block' n ss p body e) = inl refl
 
-GoesTo-wider : (l : Link) (r : Region) (t : Role) (xs ys : List Entry) → ((y : Entry) → Among y xs → Among y ys) → GoesTo l r t xs → GoesTo l r t ys
-GoesTo-wider l r t xs ys f g = record { place = g.place; node = g.node; among = f (line r g.place g.node) g.among; goes = g.goes }
+-- a name's value comes from its binder's label
+gives_name : (P : Checked) (r : Region) (e : ℕ) (b : Option ℕ) → b ≢ None → Part P r e (named b) → GivesAt P r e (From (name_role r e b))
+gives_name P r e None bound part = absurd (bound refl)
+gives_name P r e (Some b) bound part = by_name part
 
--- each arc of an expression goes to what stands on a line of it
-links_of-from : (l : Link) (r : Region) (t : Role) (x : Expr) → Among l (links_of r t x) → GoesTo l r t (entries_of r x)
-links_of-from l r t (Literal v e) h = record { place = e; node = LiteralNode (literal_value v); among = inl refl; goes = h }
-links_of-from l r t (Unary' o _ a e) h =
-    elim (Among-either l (links_of r t a) _ h) [
-      | inl k ↦ GoesTo-wider l r t (entries_of r a) _ (λ y i. inr i) (links_of-from l r t a k)
-      | inr k ↦ record { place = e; node = UnaryNode o (place_of a); among = inl refl; goes = k }
-    ]
-links_of-from l r t (Binary' o _ a _ b e) h =
-    elim (Among-either l (links_of r t a ++ links_of r t b) _ h) [
-      | inl k ↦ (elim (Among-either l (links_of r t a) (links_of r t b) k) [
-        | inl i ↦ GoesTo-wider l r t (entries_of r a) _ (λ y j. inr (Among-left y (entries_of r a) (entries_of r b) j)) (links_of-from l r t a i)
-        | inr i ↦ GoesTo-wider l r t (entries_of r b) _ (λ y j. inr (Among-right y (entries_of r a) (entries_of r b) j)) (links_of-from l r t b i)
-      ])
-      | inr k ↦ record { place = e; node = BinaryNode o (place_of a) (place_of b); among = inl refl; goes = k }
-    ]
+-- the value of an expression whose lines are in the table comes from its source
+gives_expr : (P : Checked) (r : Region) (bs : List Binder) (x : Expr) → AreParts P (entries_of r bs x) → AreBound (uses_of bs x) → GivesAt P r (place_of x) (From (source_role r bs x))
+gives_expr P r bs (Literal v e) sub bound =
+    let part : Part P r e (LiteralNode (literal_value v)) = record { stands = sub _ (inl refl) } in by_literal part
+gives_expr P r bs (Unary' o p a e) sub bound =
+    let part : Part P r e (UnaryNode o (place_of a)) = record { stands = sub _ (inl refl) } in by_unary part
+gives_expr P r bs (Binary' o p a q b e) sub bound =
+    let part : Part P r e (BinaryNode o (place_of a) (place_of b)) = record { stands = sub _ (inl refl) } in by_binary part
+gives_expr P r bs (Name x e) sub bound =
+    gives_name P r e (binder_of bs x) (bound (record { place = e; binder = binder_of bs x }) (inl refl)) (record { stands = sub _ (inl refl) })
+gives_expr P r bs (Block' n ss p body e) sub bound =
+    let cs = binders_of ss ++ bs in
+    let part : Part P r e (BlockNode (values_of ss) (place_of body)) = record { stands = sub _ (inl refl) } in
+    by_block part (gives_expr P r cs body (λ y i. sub y (inr (Among-right y (entries_of_row r cs ss) (entries_of r cs body) i))) (λ u i. bound u (Among-right u (uses_of_row cs ss) (uses_of cs body) i)))
 
--- something stands at the place
-pub record Stands (r : Region) (e : ℕ) (ys : List Entry) : Type 0 where
-  pub node : Node
-  pub among : Among (line r e node) ys
+-- the schemas have this arc
+pub record IsFed (P : Checked) (l : Link) : Type 0 where
+  pub feeds : Feeds P (From l.source) l.target l.port
 
-Stands-wider : (r : Region) (e : ℕ) (xs ys : List Entry) → ((y : Entry) → Among y xs → Among y ys) → Stands r e xs → Stands r e ys
-Stands-wider r e xs ys f s = record { node = s.node; among = f (line r e s.node) s.among }
+-- the arc of a list with one
+IsFed-one : (P : Checked) (l k : Link) → Feeds P (From k.source) k.target k.port → Among l (k ∷ []) → IsFed P l
+IsFed-one P l k f (inl e) = subst (IsFed P) (sym e) (record { feeds = f })
+IsFed-one P l k f (inr h) = absurd h
 
--- an expression stands at its place
-Stands-expr : (r : Region) (x : Expr) → Stands r (place_of x) (entries_of r x)
-Stands-expr r (Literal v e) = record { node = LiteralNode (literal_value v); among = inl refl }
-Stands-expr r (Unary' o _ a e) = record { node = UnaryNode o (place_of a); among = inl refl }
-Stands-expr r (Binary' o _ a _ b e) = record { node = BinaryNode o (place_of a) (place_of b); among = inl refl }
+-- the arcs of a list with two
+IsFed-two : (P : Checked) (l k m : Link) → Feeds P (From k.source) k.target k.port → Feeds P (From m.source) m.target m.port → Among l (k ∷ m ∷ []) → IsFed P l
+IsFed-two P l k m f g (inl e) = subst (IsFed P) (sym e) (record { feeds = f })
+IsFed-two P l k m f g (inr h) = IsFed-one P l m g h
 
--- the places of the operands of what stands on a line
-abbrev operands : Node → List ℕ
-operands (LiteralNode v) = []
-operands (UnaryNode o a) = a ∷ []
-operands (BinaryNode o a b) = a ∷ b ∷ []
+mutual
+  -- each arc of an expression whose lines are in the table is one that the schemas have
+  IsFed-expr : (P : Checked) (l : Link) (r : Region) (bs : List Binder) (t : Role) (x : Expr) → TriggerAt P r (From t) → AreParts P (entries_of r bs x) → AreBound (uses_of bs x) → Among l (links_of r bs t x) → IsFed P l
+  IsFed-expr P l r bs t (Literal v e) at sub bound h =
+      let part : Part P r e (LiteralNode (literal_value v)) = record { stands = sub _ (inl refl) } in IsFed-one P l _ (to_literal part at) h
+  IsFed-expr P l r bs t (Unary' o p a e) at sub bound h =
+      let part : Part P r e (UnaryNode o (place_of a)) = record { stands = sub _ (inl refl) } in
+      let inner : AreParts P (entries_of r bs a) = λ y i. sub y (inr i) in
+      elim (Among-either l (links_of r bs t a) _ h) [
+        | inl k ↦ IsFed-expr P l r bs t a at inner bound k
+        | inr k ↦ IsFed-one P l _ (to_unary part (gives_expr P r bs a inner bound)) k
+      ]
+  IsFed-expr P l r bs t (Binary' o p a q b e) at sub bound h =
+      let part : Part P r e (BinaryNode o (place_of a) (place_of b)) = record { stands = sub _ (inl refl) } in
+      let left : AreParts P (entries_of r bs a) = λ y i. sub y (inr (Among-left y (entries_of r bs a) (entries_of r bs b) i)) in
+      let right : AreParts P (entries_of r bs b) = λ y i. sub y (inr (Among-right y (entries_of r bs a) (entries_of r bs b) i)) in
+      let bound_left : AreBound (uses_of bs a) = λ u i. bound u (Among-left u (uses_of bs a) (uses_of bs b) i) in
+      let bound_right : AreBound (uses_of bs b) = λ u i. bound u (Among-right u (uses_of bs a) (uses_of bs b) i) in
+      elim (Among-either l (links_of r bs t a ++ links_of r bs t b) _ h) [
+        | inl k ↦ (elim (Among-either l (links_of r bs t a) (links_of r bs t b) k) [
+          | inl i ↦ IsFed-expr P l r bs t a at left bound_left i
+          | inr i ↦ IsFed-expr P l r bs t b at right bound_right i
+        ])
+        | inr k ↦ IsFed-two P l _ _ (to_left part (gives_expr P r bs a left bound_left)) (to_right part (gives_expr P r bs b right bound_right)) k
+      ]
+  IsFed-expr P l r bs t (Name x e) at sub bound h = absurd h
+  IsFed-expr P l r bs t (Block' n ss p body e) at sub bound h =
+      let cs = binders_of ss ++ bs in
+      elim (Among-either l (links_of_row r cs t ss) (links_of r cs t body) h) [
+        | inl k ↦ IsFed-row P l r cs t ss at (λ y i. sub y (inr (Among-left y (entries_of_row r cs ss) (entries_of r cs body) i))) (λ u i. bound u (Among-left u (uses_of_row cs ss) (uses_of cs body) i)) k
+        | inr k ↦ IsFed-expr P l r cs t body at (λ y i. sub y (inr (Among-right y (entries_of_row r cs ss) (entries_of r cs body) i))) (λ u i. bound u (Among-right u (uses_of_row cs ss) (uses_of cs body) i)) k
+      ]
 
--- the operands of what stands on a line of an expression stand there too
-Stands-operand : (c : ℕ) (y : Entry) (r : Region) (x : Expr) → Among y (entries_of r x) → Among c (operands y.node) → Stands r c (entries_of r x)
-Stands-operand c y r (Literal v e) (inl h) k =
-    let P : Entry → Type 0 = λ z. Among c (operands z.node) in absurd (subst P h k)
-Stands-operand c y r (Literal v e) (inr h) k = absurd h
-Stands-operand c y r (Unary' o _ a e) (inl h) k =
-    let P : Entry → Type 0 = λ z. Among c (operands z.node) in
-    let Q : ℕ → Type 0 = λ z. Stands r z (entries_of r a) in
-    Stands-wider r c (entries_of r a) _ (λ y i. inr i) (elim (subst P h k) [ inl e ↦ subst Q (sym e) (Stands-expr r a) | inr i ↦ absurd i ])
-Stands-operand c y r (Unary' o _ a e) (inr h) k = Stands-wider r c (entries_of r a) _ (λ y i. inr i) (Stands-operand c y r a h k)
-Stands-operand c y r (Binary' o _ a _ b e) (inl h) k =
-    let P : Entry → Type 0 = λ z. Among c (operands z.node) in
-    elim (subst P h k) [
-      | inl e ↦ (let Q : ℕ → Type 0 = λ z. Stands r z (entries_of r a) in
-          Stands-wider r c (entries_of r a) _ (λ y j. inr (Among-left y (entries_of r a) (entries_of r b) j)) (subst Q (sym e) (Stands-expr r a)))
-      | inr i ↦ (elim i [
-        | inl e ↦ (let Q : ℕ → Type 0 = λ z. Stands r z (entries_of r b) in
-            Stands-wider r c (entries_of r b) _ (λ y j. inr (Among-right y (entries_of r a) (entries_of r b) j)) (subst Q (sym e) (Stands-expr r b)))
-        | inr j ↦ absurd j
-      ])
-    ]
-Stands-operand c y r (Binary' o _ a _ b e) (inr h) k =
-    elim (Among-either y (entries_of r a) (entries_of r b) h) [
-      | inl i ↦ Stands-wider r c (entries_of r a) _ (λ y j. inr (Among-left y (entries_of r a) (entries_of r b) j)) (Stands-operand c y r a i k)
-      | inr i ↦ Stands-wider r c (entries_of r b) _ (λ y j. inr (Among-right y (entries_of r a) (entries_of r b) j)) (Stands-operand c y r b i k)
-    ]
+  IsFed-row : {n : _} (P : Checked) (l : Link) (r : Region) (bs : List Binder) (t : Role) (ss : Row_of-Stmt n) → TriggerAt P r (From t) → AreParts P (entries_of_row r bs ss) → AreBound (uses_of_row bs ss) → Among l (links_of_row r bs t ss) → IsFed P l
+  IsFed-row P l r bs t end_of-Stmt at sub bound h = absurd h
+  IsFed-row P l r bs t (more_of-Stmt (Binding x a e) rest) at sub bound h =
+      let part : Part P r e (BindingNode (place_of a)) = record { stands = sub _ (inl refl) } in
+      let inner : AreParts P (entries_of r bs a) = λ y i. sub y (inr (Among-left y (entries_of r bs a) (entries_of_row r bs rest) i)) in
+      let bound_inner : AreBound (uses_of bs a) = λ u i. bound u (Among-left u (uses_of bs a) (uses_of_row bs rest) i) in
+      elim (Among-either l (links_of r bs t a ++ link (source_role r bs a) (Label e) Zero ∷ []) (links_of_row r bs t rest) h) [
+        | inl k ↦ (elim (Among-either l (links_of r bs t a) _ k) [
+          | inl i ↦ IsFed-expr P l r bs t a at inner bound_inner i
+          | inr i ↦ IsFed-one P l _ (to_label part (gives_expr P r bs a inner bound_inner)) i
+        ])
+        | inr k ↦ IsFed-row P l r bs t rest at (λ y i. sub y (inr (Among-right y (entries_of r bs a) (entries_of_row r bs rest) i))) (λ u i. bound u (Among-right u (uses_of bs a) (uses_of_row bs rest) i)) k
+      ]
 
 -- what a definition adds is among what all add
 links_of_all-among : (l : Link) (d : Def) (ds : List Def) → Among d ds → Among l (links_of_def d) → Among l (links_of_all ds)
@@ -118,100 +123,174 @@ links_of_all-from l (d ∷ ds) h =
       | inr k ↦ (let r = links_of_all-from l ds k in (r.0, inr r.1, r.2))
     ]
 
--- a value comes from the instruction of its expression
-gives_is : (P : Checked) (r : Region) (a : ℕ) (s : Source) → GivesAt P r a s → s ≡ From (Of r a)
-gives_is P r a s (by_literal part) = refl
-gives_is P r a s (by_unary part) = refl
-gives_is P r a s (by_binary part) = refl
-
-from_same : (s q : Role) → From s ≡ From q → s ≡ q
-from_same s q h = cc
-
--- an arc to a part of a procedure is one of the program's
-link_of_part : (P : Checked) (f e : ℕ) (n : Node) (l : Link) → Part P (Top f) e n → Among l (links_to (Top f) (Trigger f) e n) → Among l (links_of_all P.program.defs)
-link_of_part P f e n l part k =
-    let from = entries_of_all-from (line (Top f) e n) P.program.defs part.stands in
-    let d = from.0 in
-    let same : f ≡ d.place = let h = region-entries_of (line (Top f) e n) (Top d.place) d.body from.2 in cc in
-    let A : ℕ → Type 0 = λ z. Among (line (Top z) e n) (entries_of_def d) in
-    let B : ℕ → Type 0 = λ z. Among l (links_to (Top z) (Trigger z) e n) in
-    links_of_all-among l d P.program.defs from.1 (Among-left l (links_of (Top d.place) (Trigger d.place) d.body) _ (links_to-among l (line (Top d.place) e n) (Top d.place) (Trigger d.place) d.body (subst A same from.2) (subst B same k)))
-
--- the same where the source is told by the rule
-link_by : (P : Checked) (f e c : ℕ) (n : Node) (s : Role) (p : Port) → Part P (Top f) e n → GivesAt P (Top f) c (From s) → Among (link (Of (Top f) c) (Of (Top f) e) p) (links_to (Top f) (Trigger f) e n) → Among (link s (Of (Top f) e) p) (links_of_all P.program.defs)
-link_by P f e c n s p part gives k =
-    let same : s ≡ Of (Top f) c = from_same s (Of (Top f) c) (gives_is P (Top f) c (From s) gives) in
-    let A : Role → Type 0 = λ z. Among (link z (Of (Top f) e) p) (links_of_all P.program.defs) in
-    subst A (sym same) (link_of_part P f e n (link (Of (Top f) c) (Of (Top f) e) p) part k)
-
--- each arc of the schemas is one of the program's
-pub links-from_Feeds : (P : Checked) (s q : Role) (p : Port) → Feeds P (From s) q p → Among (link s q p) (links_of_all P.program.defs)
-links-from_Feeds P s q p (to_literal {e = e} {v = v} part (of_procedure {d = d} is)) =
-    link_of_part P d.place e (LiteralNode v) (link (Trigger d.place) (Of (Top d.place) e) Zero) part (inl refl)
-links-from_Feeds P s q p (to_unary {r = Top f} {e = e} {a = a} {o = o} part gives) =
-    link_by P f e a (UnaryNode o a) s Zero part gives (inl refl)
-links-from_Feeds P s q p (to_left {r = Top f} {e = e} {a = a} {b = b} {o = o} part gives) =
-    link_by P f e a (BinaryNode o a b) s Zero part gives (inl refl)
-links-from_Feeds P s q p (to_right {r = Top f} {e = e} {a = a} {b = b} {o = o} part gives) =
-    link_by P f e b (BinaryNode o a b) s One part gives (inr (inl refl))
-links-from_Feeds P s q p (to_return {d = d} is gives) =
-    let body = place_of d.body in
-    let same : s ≡ Of (Top d.place) body = from_same s (Of (Top d.place) body) (gives_is P (Top d.place) body (From s) gives) in
-    let A : Role → Type 0 = λ z. Among (link z (Return d.place) One) (links_of_all P.program.defs) in
-    subst A (sym same) (links_of_all-among (link (Of (Top d.place) body) (Return d.place) One) d P.program.defs is.among (Among-right (link (Of (Top d.place) body) (Return d.place) One) (links_of (Top d.place) (Trigger d.place) d.body) _ (inl refl)))
-
--- the schemas have this arc
-pub record IsFed (P : Checked) (l : Link) : Type 0 where
-  pub feeds : Feeds P (From l.source) l.target l.port
-
--- a part's value comes from its instruction
-gives_at : (P : Checked) (r : Region) (a : ℕ) (n : Node) → Part P r a n → GivesAt P r a (From (Of r a))
-gives_at P r a (LiteralNode v) part = by_literal part
-gives_at P r a (UnaryNode o b) part = by_unary part
-gives_at P r a (BinaryNode o b c) part = by_binary part
-
--- what stands in a definition is a part of the program
-gives_in : (P : Checked) (d : Def) (a : ℕ) → Among d P.program.defs → Stands (Top d.place) a (entries_of_def d) → GivesAt P (Top d.place) a (From (Of (Top d.place) a))
-gives_in P d a among s =
-    gives_at P (Top d.place) a s.node (record { stands = entries_of_all-among (line (Top d.place) a s.node) d P.program.defs among s.among })
-
--- an arc to a part of a definition
-IsFed-to : (P : Checked) (d : Def) (l : Link) (e : ℕ) (n : Node) → Among d P.program.defs → Among (line (Top d.place) e n) (entries_of_def d) → Among l (links_to (Top d.place) (Trigger d.place) e n) → IsFed P l
-IsFed-to P d l e (LiteralNode v) among h (inl k) =
-    let part : Part P (Top d.place) e (LiteralNode v) = record { stands = entries_of_all-among (line (Top d.place) e (LiteralNode v)) d P.program.defs among h } in
-    subst (IsFed P) (sym k) (record { feeds = to_literal part (of_procedure (record { among = among })) })
-IsFed-to P d l e (LiteralNode v) among h (inr k) = absurd k
-IsFed-to P d l e (UnaryNode o a) among h (inl k) =
-    let y = line (Top d.place) e (UnaryNode o a) in
-    let part : Part P (Top d.place) e (UnaryNode o a) = record { stands = entries_of_all-among y d P.program.defs among h } in
-    let gives = gives_in P d a among (Stands-operand a y (Top d.place) d.body h (inl refl)) in
-    subst (IsFed P) (sym k) (record { feeds = to_unary part gives })
-IsFed-to P d l e (UnaryNode o a) among h (inr k) = absurd k
-IsFed-to P d l e (BinaryNode o a b) among h (inl k) =
-    let y = line (Top d.place) e (BinaryNode o a b) in
-    let part : Part P (Top d.place) e (BinaryNode o a b) = record { stands = entries_of_all-among y d P.program.defs among h } in
-    let gives = gives_in P d a among (Stands-operand a y (Top d.place) d.body h (inl refl)) in
-    subst (IsFed P) (sym k) (record { feeds = to_left part gives })
-IsFed-to P d l e (BinaryNode o a b) among h (inr (inl k)) =
-    let y = line (Top d.place) e (BinaryNode o a b) in
-    let part : Part P (Top d.place) e (BinaryNode o a b) = record { stands = entries_of_all-among y d P.program.defs among h } in
-    let gives = gives_in P d b among (Stands-operand b y (Top d.place) d.body h (inr (inl refl))) in
-    subst (IsFed P) (sym k) (record { feeds = to_right part gives })
-IsFed-to P d l e (BinaryNode o a b) among h (inr (inr k)) = absurd k
-
--- the arc of a definition's value
-IsFed-return : (P : Checked) (d : Def) (l : Link) → Among d P.program.defs → Among l (link (Of (Top d.place) (place_of d.body)) (Return d.place) One ∷ []) → IsFed P l
-IsFed-return P d l among (inl k) =
-    let gives = gives_in P d (place_of d.body) among (Stands-expr (Top d.place) d.body) in
-    subst (IsFed P) (sym k) (record { feeds = to_return (record { among = among }) gives })
-IsFed-return P d l among (inr k) = absurd k
+pub uses_of_all-among : (u : Use) (d : Def) (ds : List Def) → Among d ds → Among u (uses_of [] d.body) → Among u (uses_of_all ds)
+uses_of_all-among u d [] h k = absurd h
+uses_of_all-among u d (c ∷ ds) (inl e) k =
+    let P : Def → Type 0 = λ z. Among u (uses_of [] z.body) in
+    Among-left u (uses_of [] c.body) (uses_of_all ds) (subst P e k)
+uses_of_all-among u d (c ∷ ds) (inr h) k = Among-right u (uses_of [] c.body) (uses_of_all ds) (uses_of_all-among u d ds h k)
 
 -- each arc of the program is one that the schemas have
 pub IsFed-program : (P : Checked) (l : Link) → Among l (links_of_all P.program.defs) → IsFed P l
 IsFed-program P l h =
     let from = links_of_all-from l P.program.defs h in
     let d = from.0 in
-    elim (Among-either l (links_of (Top d.place) (Trigger d.place) d.body) _ from.2) [
-      | inl k ↦ (let g = links_of-from l (Top d.place) (Trigger d.place) d.body k in IsFed-to P d l g.place g.node from.1 g.among g.goes)
-      | inr k ↦ IsFed-return P d l from.1 k
+    let sub : AreParts P (entries_of_def d) = λ y i. entries_of_all-among y d P.program.defs from.1 i in
+    let bound : AreBound (uses_of [] d.body) = λ u i. P.bound u (uses_of_all-among u d P.program.defs from.1 i) in
+    elim (Among-either l (links_of (Top d.place) [] (Trigger d.place) d.body) _ from.2) [
+      | inl k ↦ IsFed-expr P l (Top d.place) [] (Trigger d.place) d.body (of_procedure (record { among = from.1 })) sub bound k
+      | inr k ↦ IsFed-one P l _ (to_return (record { among = from.1 }) (gives_expr P (Top d.place) [] d.body sub bound)) k
     ]
+
+-- where the value of what stands at a place of the region comes from, by what stands there
+abbrev GivesBy : Checked → Region → ℕ → Node → Role → Type 0
+GivesBy P r e (LiteralNode v) s = s ≡ Of r e
+GivesBy P r e (UnaryNode o a) s = s ≡ Of r e
+GivesBy P r e (BinaryNode o a b) s = s ≡ Of r e
+GivesBy P r e (NameNode b) s = s ≡ Label b
+GivesBy P r e UnboundNode s = ⊥
+GivesBy P r e (BlockNode vs b) s = GivesAt P r b (From s)
+GivesBy P r e (BindingNode a) s = ⊥
+
+-- what stands at the place gives the value so
+record Gives (P : Checked) (r : Region) (e : ℕ) (s : Role) : Type 0 where
+  node : Node
+  part : Part P r e node
+  by : GivesBy P r e node s
+
+Gives-at : (P : Checked) (r : Region) (e : ℕ) (s : Role) → GivesAt P r e (From s) → Gives P r e s
+Gives-at P r e s (by_literal {v = v} part) = record { node = LiteralNode v; part = part; by = refl }
+Gives-at P r e s (by_unary {a = a} {o = o} part) = record { node = UnaryNode o a; part = part; by = refl }
+Gives-at P r e s (by_binary {a = a} {b = b} {o = o} part) = record { node = BinaryNode o a b; part = part; by = refl }
+Gives-at P r e s (by_name {b = b} part) = record { node = NameNode b; part = part; by = refl }
+Gives-at P r e s (by_block {b = b} {vs = vs} part gives) = record { node = BlockNode vs b; part = part; by = gives }
+
+name_gives : (P : Checked) (r : Region) (e : ℕ) (b : Option ℕ) (s : Role) → GivesBy P r e (named b) s → s ≡ name_role r e b
+name_gives P r e None s h = absurd h
+name_gives P r e (Some b) s h = h
+
+-- an expression's value comes as its own line says
+gives_own : (P : Checked) → Distinct P → (r : Region) (bs : List Binder) (x : Expr) (s : Role) → AreParts P (entries_of r bs x) → GivesAt P r (place_of x) (From s) → GivesBy P r (place_of x) (node_of bs x) s
+gives_own P d r bs x s sub gives =
+    let g = Gives-at P r (place_of x) s gives in
+    let same : line r (place_of x) g.node ≡ line r (place_of x) (node_of bs x) = same_line P d _ _ g.part.stands (sub _ (own_line r bs x)) refl in
+    let A : Node → Type 0 = λ n. GivesBy P r (place_of x) n s in
+    subst A (ap (λ y. y.node) same) g.by
+
+-- an expression's value comes from its source alone
+gives_is : (P : Checked) → Distinct P → (r : Region) (bs : List Binder) (x : Expr) (s : Role) → AreParts P (entries_of r bs x) → GivesAt P r (place_of x) (From s) → s ≡ source_role r bs x
+gives_is P d r bs (Literal v e) s sub gives = gives_own P d r bs (Literal v e) s sub gives
+gives_is P d r bs (Unary' o p a e) s sub gives = gives_own P d r bs (Unary' o p a e) s sub gives
+gives_is P d r bs (Binary' o p a q b e) s sub gives = gives_own P d r bs (Binary' o p a q b e) s sub gives
+gives_is P d r bs (Name x e) s sub gives = name_gives P r e (binder_of bs x) s (gives_own P d r bs (Name x e) s sub gives)
+gives_is P d r bs (Block' n ss p body e) s sub gives =
+    let cs = binders_of ss ++ bs in
+    gives_is P d r cs body s (λ y i. sub y (inr (Among-right y (entries_of_row r cs ss) (entries_of r cs body) i))) (gives_own P d r bs (Block' n ss p body e) s sub gives)
+
+-- the arc takes the value of what stands at a place of the region to a port
+record Takes (P : Checked) (r : Region) (a : ℕ) (q : Role) (p : Port) (l : Link) : Type 0 where
+  source : Role
+  gives : GivesAt P r a (From source)
+  is : l ≡ link source q p
+
+-- the schemas' arcs to what stands on a line, where t turns its region on
+abbrev GoesTo : Checked → Role → Link → Region → ℕ → Node → Type 0
+GoesTo P t l r e (LiteralNode v) = l ≡ link t (Of r e) Zero
+GoesTo P t l r e (UnaryNode o a) = Takes P r a (Of r e) Zero l
+GoesTo P t l r e (BinaryNode o a b) = Takes P r a (Of r e) Zero l ⊎ Takes P r b (Of r e) One l
+GoesTo P t l r e (NameNode b) = ⊥
+GoesTo P t l r e UnboundNode = ⊥
+GoesTo P t l r e (BlockNode vs b) = ⊥
+GoesTo P t l r e (BindingNode a) = Takes P r a (Label e) Zero l
+
+abbrev GoesToEntry : Checked → Role → Link → Entry → Type 0
+GoesToEntry P t l y = GoesTo P t l y.region y.place y.node
+
+none_to_name : (P : Checked) (t : Role) (l : Link) (r : Region) (e : ℕ) (b : Option ℕ) → GoesTo P t l r e (named b) → ⊥
+none_to_name P t l r e None h = h
+none_to_name P t l r e (Some b) h = h
+
+-- such an arc is the one from the expression's source
+takes_is : (P : Checked) → Distinct P → (r : Region) (bs : List Binder) (x : Expr) (q : Role) (p : Port) (l : Link) → AreParts P (entries_of r bs x) → Takes P r (place_of x) q p l → l ≡ link (source_role r bs x) q p
+takes_is P d r bs x q p l sub k = k.is ∙ ap (λ s. link s q p) (gives_is P d r bs x k.source sub k.gives)
+
+mutual
+  -- the schemas' arcs to what stands on a line of an expression are arcs of the expression
+  links_of-among : (P : Checked) → Distinct P → (l : Link) (y : Entry) (r : Region) (bs : List Binder) (t : Role) (x : Expr) → AreParts P (entries_of r bs x) → Among y (entries_of r bs x) → GoesToEntry P t l y → Among l (links_of r bs t x)
+  links_of-among P d l y r bs t (Literal v e) sub (inl h) k = inl (subst (GoesToEntry P t l) h k)
+  links_of-among P d l y r bs t (Literal v e) sub (inr h) k = absurd h
+  links_of-among P d l y r bs t (Unary' o p a e) sub (inl h) k =
+      Among-right l (links_of r bs t a) _ (inl (takes_is P d r bs a (Of r e) Zero l (λ y i. sub y (inr i)) (subst (GoesToEntry P t l) h k)))
+  links_of-among P d l y r bs t (Unary' o p a e) sub (inr h) k = Among-left l (links_of r bs t a) _ (links_of-among P d l y r bs t a (λ y i. sub y (inr i)) h k)
+  links_of-among P d l y r bs t (Binary' o p a q b e) sub (inl h) k =
+      let left : AreParts P (entries_of r bs a) = λ y i. sub y (inr (Among-left y (entries_of r bs a) (entries_of r bs b) i)) in
+      let right : AreParts P (entries_of r bs b) = λ y i. sub y (inr (Among-right y (entries_of r bs a) (entries_of r bs b) i)) in
+      Among-right l (links_of r bs t a ++ links_of r bs t b) _
+      (elim (subst (GoesToEntry P t l) h k) [
+        | inl i ↦ inl (takes_is P d r bs a (Of r e) Zero l left i)
+        | inr i ↦ inr (inl (takes_is P d r bs b (Of r e) One l right i))
+      ])
+  links_of-among P d l y r bs t (Binary' o p a q b e) sub (inr h) k =
+      let left : AreParts P (entries_of r bs a) = λ y i. sub y (inr (Among-left y (entries_of r bs a) (entries_of r bs b) i)) in
+      let right : AreParts P (entries_of r bs b) = λ y i. sub y (inr (Among-right y (entries_of r bs a) (entries_of r bs b) i)) in
+      Among-left l (links_of r bs t a ++ links_of r bs t b) _
+      (elim (Among-either y (entries_of r bs a) (entries_of r bs b) h) [
+        | inl i ↦ Among-left l (links_of r bs t a) (links_of r bs t b) (links_of-among P d l y r bs t a left i k)
+        | inr i ↦ Among-right l (links_of r bs t a) (links_of r bs t b) (links_of-among P d l y r bs t b right i k)
+      ])
+  links_of-among P d l y r bs t (Name x e) sub (inl h) k = absurd (none_to_name P t l r e (binder_of bs x) (subst (GoesToEntry P t l) h k))
+  links_of-among P d l y r bs t (Name x e) sub (inr h) k = absurd h
+  links_of-among P d l y r bs t (Block' n ss p body e) sub (inl h) k = absurd (subst (GoesToEntry P t l) h k)
+  links_of-among P d l y r bs t (Block' n ss p body e) sub (inr h) k =
+      let cs = binders_of ss ++ bs in
+      let xs = entries_of_row r cs ss in
+      let ys = entries_of r cs body in
+      elim (Among-either y xs ys h) [
+        | inl i ↦ Among-left l (links_of_row r cs t ss) (links_of r cs t body) (links_of_row-among P d l y r cs t ss (λ y j. sub y (inr (Among-left y xs ys j))) i k)
+        | inr i ↦ Among-right l (links_of_row r cs t ss) (links_of r cs t body) (links_of-among P d l y r cs t body (λ y j. sub y (inr (Among-right y xs ys j))) i k)
+      ]
+
+  links_of_row-among : {n : _} (P : Checked) → Distinct P → (l : Link) (y : Entry) (r : Region) (bs : List Binder) (t : Role) (ss : Row_of-Stmt n) → AreParts P (entries_of_row r bs ss) → Among y (entries_of_row r bs ss) → GoesToEntry P t l y → Among l (links_of_row r bs t ss)
+  links_of_row-among P d l y r bs t end_of-Stmt sub h k = absurd h
+  links_of_row-among P d l y r bs t (more_of-Stmt (Binding x a e) rest) sub (inl h) k =
+      let inner : AreParts P (entries_of r bs a) = λ y i. sub y (inr (Among-left y (entries_of r bs a) (entries_of_row r bs rest) i)) in
+      Among-left l (links_of r bs t a ++ link (source_role r bs a) (Label e) Zero ∷ []) (links_of_row r bs t rest)
+      (Among-right l (links_of r bs t a) _ (inl (takes_is P d r bs a (Label e) Zero l inner (subst (GoesToEntry P t l) h k))))
+  links_of_row-among P d l y r bs t (more_of-Stmt (Binding x a e) rest) sub (inr h) k =
+      let xs = entries_of r bs a in
+      let ys = entries_of_row r bs rest in
+      let own = links_of r bs t a ++ link (source_role r bs a) (Label e) Zero ∷ [] in
+      elim (Among-either y xs ys h) [
+        | inl i ↦ Among-left l own (links_of_row r bs t rest) (Among-left l (links_of r bs t a) _ (links_of-among P d l y r bs t a (λ y j. sub y (inr (Among-left y xs ys j))) i k))
+        | inr i ↦ Among-right l own (links_of_row r bs t rest) (links_of_row-among P d l y r bs t rest (λ y j. sub y (inr (Among-right y xs ys j))) i k)
+      ]
+
+-- the schemas' arcs to a part of a procedure are the program's
+link_of_part : (P : Checked) → Distinct P → (f e : ℕ) (n : Node) (l : Link) → Part P (Top f) e n → GoesTo P (Trigger f) l (Top f) e n → Among l (links_of_all P.program.defs)
+link_of_part P differ f e n l part k =
+    let from = entries_of_all-from (line (Top f) e n) P.program.defs part.stands in
+    let d = from.0 in
+    let same : f ≡ d.place = let h = region-entries_of (line (Top f) e n) (Top d.place) [] d.body from.2 in cc in
+    let A : ℕ → Type 0 = λ z. Among (line (Top z) e n) (entries_of_def d) in
+    let B : ℕ → Type 0 = λ z. GoesTo P (Trigger z) l (Top z) e n in
+    let sub : AreParts P (entries_of_def d) = λ y i. entries_of_all-among y d P.program.defs from.1 i in
+    links_of_all-among l d P.program.defs from.1
+    (Among-left l (links_of (Top d.place) [] (Trigger d.place) d.body) _ (links_of-among P differ l (line (Top d.place) e n) (Top d.place) [] (Trigger d.place) d.body sub (subst A same from.2) (subst B same k)))
+
+-- each arc of the schemas is one of the program's
+pub links-from_Feeds : (P : Checked) → Distinct P → (s q : Role) (p : Port) → Feeds P (From s) q p → Among (link s q p) (links_of_all P.program.defs)
+links-from_Feeds P differ s q p (to_literal {e = e} {v = v} part (of_procedure {d = d} is)) =
+    link_of_part P differ d.place e (LiteralNode v) _ part refl
+links-from_Feeds P differ s q p (to_unary {r = Top f} {e = e} {a = a} {o = o} part gives) =
+    link_of_part P differ f e (UnaryNode o a) _ part (record { source = s; gives = gives; is = refl })
+links-from_Feeds P differ s q p (to_left {r = Top f} {e = e} {a = a} {b = b} {o = o} part gives) =
+    link_of_part P differ f e (BinaryNode o a b) _ part (inl (record { source = s; gives = gives; is = refl }))
+links-from_Feeds P differ s q p (to_right {r = Top f} {e = e} {a = a} {b = b} {o = o} part gives) =
+    link_of_part P differ f e (BinaryNode o a b) _ part (inr (record { source = s; gives = gives; is = refl }))
+links-from_Feeds P differ s q p (to_label {r = Top f} {b = b} {a = a} part gives) =
+    link_of_part P differ f b (BindingNode a) _ part (record { source = s; gives = gives; is = refl })
+links-from_Feeds P differ s q p (to_return {d = d} is gives) =
+    let sub : AreParts P (entries_of_def d) = λ y i. entries_of_all-among y d P.program.defs is.among i in
+    let l = link s (Return d.place) One in
+    links_of_all-among l d P.program.defs is.among
+    (Among-right l (links_of (Top d.place) [] (Trigger d.place) d.body) _ (inl (takes_is P differ (Top d.place) [] d.body (Return d.place) One l sub (record { source = s; gives = gives; is = refl }))))

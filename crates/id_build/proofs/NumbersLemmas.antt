@@ -1,40 +1,66 @@
 -- The builder's lists by the numbers of the instructions.
-use Rattle.std.proofs.Common.{◌≡◌, inl, inr, ℕ, suc, ◌+◌, List, [], ◌∷◌, ◌++◌, length, refl, ap, sym, subst, ◌∙◌, arith, length-append}
+use Rattle.std.proofs.Common.{◌≡◌, inl, inr, ℕ, suc, ◌+◌, List, [], ◌∷◌, ◌++◌, length, refl, ap, sym, ◌∙◌, arith, length-append, Option, None, Some}
 use Rattle.std.specs.Prelude.{map}
-use Rattle.id_build.proofs.AmongLemmas.{map-append, slice_get-left, slice_get-right}
-use Rattle.id_build.proofs.Rows.{links_of, links_of_all, links_of_def, numbered, piece_of, Row, rows_of, rows_of_all, rows_of_def, Sits}
-use Rattle.id_build.specs.Drafted.{procedure_pieces, procedures_blocks, procedures_pieces, procedures_wires, procedure_wires}
-use Rattle.id_build.specs.Expressions.{count_of, piece, pieces_of, source_of, wires_of}
+use Rattle.id_build.proofs.AmongLemmas.{Among-either, Among-left, Among-right, map-append, slice_get-left, slice_get-right}
+use Rattle.id_build.proofs.Rows.{line, Link, link, links_of, links_of_row, name_role, piece_of, Row, row, rows_of, rows_of_all, rows_of_def, rows_of_row, Sits, source_role}
+use Rattle.id_build.specs.declared.draft.Label.{Label}
+use Rattle.id_build.specs.declared.draft.Origin.{Origin}
+use Rattle.id_build.specs.declared.draft.Origin.TheVariants.{Named, Output}
+use Rattle.id_build.specs.declared.draft.Piece.{Piece}
+use Rattle.id_build.specs.declared.draft.Wire.{Wire}
+use Rattle.id_build.specs.Drafted.{procedure_pieces, procedures_pieces}
+use Rattle.id_build.specs.Expressions.{count_of, label, labels_of, labels_of_row, piece, pieces_of, pieces_of_row, source_of, wire, wires_of, wires_of_row}
+use Rattle.id_build.specs.Resolved.{number_of}
 use Rattle.id_build.specs.Roles.{binary_op, Of, Return, Role, Trigger, unary_op}
-use Rattle.id_build.specs.Schemas.{block_of, size_of, size_of_all}
-use Rattle.id_graph.specs.declared.instr.Op.TheVariants.{Binary}
-use Rattle.id_meaning.specs.Parts.{Among, place_of, Region, Top}
+use Rattle.id_build.specs.Roles as role
+use Rattle.id_check.specs.declared.Checked.{Checked}
+use Rattle.id_check.specs.Scopes.{Binder, binder_of, binders_of, Use, uses_of, uses_of_row}
+use Rattle.id_graph.specs.declared.dests.Port.{Port}
+use Rattle.id_graph.specs.declared.dests.Port.TheVariants.{Zero, One}
+use Rattle.id_graph.specs.declared.instr.Op.TheVariants.{Merge}
+use Rattle.id_graph.specs.declared.instr.PortKind.TheVariants.{Int}
+use Rattle.id_meaning.specs.Parts.{Among, BinaryNode, BindingNode, BlockNode, entries_of, entries_of_row, LiteralNode, literal_value, named, place_of, Region, Top, UnaryNode, values_of}
 use Rattle.id_tree.specs.declared.tree.Def.{Def}
-use Rattle.id_tree.specs.declared.tree.Expr.{Expr, Literal, Unary', Binary'}
+use Rattle.id_tree.specs.declared.tree.Expr.{Expr, Literal, Unary', Binary', Name, Block', Row_of-Stmt, end_of-Stmt, more_of-Stmt}
+use Rattle.id_tree.specs.declared.tree.Stmt.{Binding}
 
--- the pieces of an expression are its instructions without what they are for
-pub pieces_of-rows : (r : Region) (x : Expr) → map piece_of (rows_of r x) ≡ pieces_of x
-pieces_of-rows r (Literal v e) = refl
-pieces_of-rows r (Unary' o _ a e) = rw (map-append, pieces_of-rows r a) refl
-pieces_of-rows r (Binary' o _ a _ b e) = rw (map-append, map-append, pieces_of-rows r a, pieces_of-rows r b) refl
+-- the pieces of two lists of instructions
+pieces-two : (us vs : List Row) (ps qs : List Piece) → map piece_of us ≡ ps → map piece_of vs ≡ qs → map piece_of (us ++ vs) ≡ ps ++ qs
+pieces-two us vs ps qs e f = map-append piece_of us vs ∙ cc
+
+mutual
+  -- the pieces of an expression are its instructions without what they are for
+  pub pieces_of-rows : (r : Region) (x : Expr) → map piece_of (rows_of r x) ≡ pieces_of x
+  pieces_of-rows r (Literal v e) = refl
+  pieces_of-rows r (Unary' o p a e) = pieces-two (rows_of r a) _ (pieces_of a) _ (pieces_of-rows r a) refl
+  pieces_of-rows r (Binary' o p a q b e) =
+      pieces-two (rows_of r a ++ rows_of r b) _ (pieces_of a ++ pieces_of b) _ (pieces-two (rows_of r a) (rows_of r b) (pieces_of a) (pieces_of b) (pieces_of-rows r a) (pieces_of-rows r b)) refl
+  pieces_of-rows r (Name x e) = refl
+  pieces_of-rows r (Block' n ss p body e) = pieces-two (rows_of_row r ss) (rows_of r body) (pieces_of_row ss) (pieces_of body) (pieces_of_row-rows r ss) (pieces_of-rows r body)
+
+  pieces_of_row-rows : {n : _} (r : Region) (ss : Row_of-Stmt n) → map piece_of (rows_of_row r ss) ≡ pieces_of_row ss
+  pieces_of_row-rows r end_of-Stmt = refl
+  pieces_of_row-rows r (more_of-Stmt (Binding x a e) rest) =
+      pieces-two (rows_of r a ++ row (role.Label e) (Merge Int) e ∷ []) (rows_of_row r rest) (pieces_of a ++ piece (Merge Int) e ∷ []) (pieces_of_row rest)
+      (pieces-two (rows_of r a) _ (pieces_of a) _ (pieces_of-rows r a) refl) (pieces_of_row-rows r rest)
 
 pieces_of_def-rows : (d : Def) → map piece_of (rows_of_def d) ≡ procedure_pieces d
 pieces_of_def-rows d = rw (pieces_of-rows (Top d.place) d.body) refl
 
 pub pieces_of_all-rows : (ds : List Def) → map piece_of (rows_of_all ds) ≡ procedures_pieces ds
 pieces_of_all-rows [] = refl
-pieces_of_all-rows (d ∷ ds) =
-    let own = pieces_of_def-rows d in
-    let rest = pieces_of_all-rows ds in
-    map-append piece_of (rows_of_def d) (rows_of_all ds) ∙ cc
+pieces_of_all-rows (d ∷ ds) = pieces-two (rows_of_def d) (rows_of_all ds) (procedure_pieces d) (procedures_pieces ds) (pieces_of_def-rows d) (pieces_of_all-rows ds)
 
 length-map : {A B : Type 0} (f : A → B) (xs : List A) → length (map f xs) ≡ length xs
 length-map f [] = refl
 length-map f (x ∷ xs) = ap suc (length-map f xs)
 
 -- an expression has as many instructions as pieces
-pub length-rows_of : (r : Region) (x : Expr) → length (rows_of r x) ≡ count_of x
+length-rows_of : (r : Region) (x : Expr) → length (rows_of r x) ≡ count_of x
 length-rows_of r x = sym (length-map piece_of (rows_of r x)) ∙ ap length (pieces_of-rows r x)
+
+length-rows_of_row : {n : _} (r : Region) (ss : Row_of-Stmt n) → length (rows_of_row r ss) ≡ length (pieces_of_row ss)
+length-rows_of_row r ss = sym (length-map piece_of (rows_of_row r ss)) ∙ ap length (pieces_of_row-rows r ss)
 
 pub length-rows_of_def : (d : Def) → length (rows_of_def d) ≡ length (procedure_pieces d)
 length-rows_of_def d = ap (λ n. suc (suc n)) (length-rows_of (Top d.place) d.body)
@@ -47,91 +73,199 @@ pub Sits-right : (number : Role → ℕ) (n m : ℕ) (ws vs : List Row) → m �
 Sits-right number n m ws vs e s k w h =
     let at = s (length ws + k) w (slice_get-right ws vs k ∙ h) in omega arith
 
+-- the last of what sits
+last-number : (number : Role → ℕ) (n m : ℕ) (ws : List Row) (w : Row) → m ≡ n + length ws → Sits number n (ws ++ w ∷ []) → number w.role ≡ m
+last-number number n m ws w e s = let at = Sits-right number n m ws (w ∷ []) e s 0 w refl in omega arith
+
+-- what stands before the last of a binary expression
+length-both : (r : Region) (a b : Expr) (n : ℕ) → n + count_of a + count_of b ≡ n + length (rows_of r a ++ rows_of r b)
+length-both r a b n = omega (arith, length-append (rows_of r a) (rows_of r b), length-rows_of r a, length-rows_of r b)
+
+-- the parts of a block and of statements that sit
+Sits-body : {k : _} (number : Role → ℕ) (r : Region) (n : ℕ) (ss : Row_of-Stmt k) (x : Expr) → Sits number n (rows_of_row r ss ++ rows_of r x) → Sits number (n + length (pieces_of_row ss)) (rows_of r x)
+Sits-body number r n ss x s = Sits-right number n _ (rows_of_row r ss) (rows_of r x) (ap (λ m. n + m) (sym (length-rows_of_row r ss))) s
+
+abbrev binding_rows : Region → ℕ → Expr → List Row
+binding_rows r e a = rows_of r a ++ row (role.Label e) (Merge Int) e ∷ []
+
+Sits-stmts : {k : _} (number : Role → ℕ) (r : Region) (n e : ℕ) (a : Expr) (rest : Row_of-Stmt k) → Sits number n (binding_rows r e a ++ rows_of_row r rest) → Sits number (n + length (pieces_of a ++ piece (Merge Int) e ∷ [])) (rows_of_row r rest)
+Sits-stmts number r n e a rest s =
+    Sits-right number n _ (binding_rows r e a) (rows_of_row r rest)
+    (omega (arith, length-append (pieces_of a) (piece (Merge Int) e ∷ []), length-append (rows_of r a) (row (role.Label e) (Merge Int) e ∷ []), length-rows_of r a)) s
+
+label-number : (number : Role → ℕ) (r : Region) (n e : ℕ) (a : Expr) → Sits number n (binding_rows r e a) → number (role.Label e) ≡ n + count_of a
+label-number number r n e a s = last-number number n (n + count_of a) (rows_of r a) _ (ap (λ m. n + m) (sym (length-rows_of r a))) s
+
+-- what a use of a name stands for is the label of its binder
+pub record Right (P : Checked) (f : ℕ → Option ℕ) (number : Role → ℕ) (u : Use) : Type 0 where
+  pub binder : ℕ
+  pub is : u.binder ≡ Some binder
+  pub at : number_of P f (Named u.place) ≡ Some (number (role.Label binder))
+
+abbrev pub AllRight : Checked → (ℕ → Option ℕ) → (Role → ℕ) → List Use → Type 0
+AllRight P f number us = (u : Use) → Among u us → Right P f number u
+
 -- the value of an expression that sits comes from the builder's source
-pub source_of-number : (number : Role → ℕ) (r : Region) (x : Expr) (n : ℕ) → Sits number n (rows_of r x) → number (Of r (place_of x)) ≡ source_of x n
-source_of-number number r (Literal v e) n s = let at = s 0 _ refl in omega arith
-source_of-number number r (Unary' o _ a e) n s =
-    let at = Sits-right number n (n + count_of a) (rows_of r a) _ (ap (λ m. n + m) (sym (length-rows_of r a))) s 0 _ refl in omega arith
-source_of-number number r (Binary' o _ a _ b e) n s =
-    let both : n + count_of a + count_of b ≡ n + length (rows_of r a ++ rows_of r b) = omega (arith, length-append (rows_of r a) (rows_of r b), length-rows_of r a, length-rows_of r b) in
-    let at = Sits-right number n (n + count_of a + count_of b) (rows_of r a ++ rows_of r b) _ both s 0 _ refl in omega arith
+pub source-number : (P : Checked) (f : ℕ → Option ℕ) (number : Role → ℕ) (r : Region) (bs : List Binder) (x : Expr) (n : ℕ) → Sits number n (rows_of r x) → AllRight P f number (uses_of bs x) → number_of P f (source_of x n) ≡ Some (number (source_role r bs x))
+source-number P f number r bs (Literal v e) n s names =
+    ap (λ m. Some m) (sym (last-number number n n [] _ (omega arith) s))
+source-number P f number r bs (Unary' o p a e) n s names =
+    ap (λ m. Some m) (sym (last-number number n (n + count_of a) (rows_of r a) _ (ap (λ m. n + m) (sym (length-rows_of r a))) s))
+source-number P f number r bs (Binary' o p a q b e) n s names =
+    ap (λ m. Some m) (sym (last-number number n (n + count_of a + count_of b) (rows_of r a ++ rows_of r b) _ (length-both r a b n) s))
+source-number P f number r bs (Name x e) n s names =
+    let u = names (record { place = e; binder = binder_of bs x }) (inl refl) in
+    u.at ∙ ap (λ o. Some (number (name_role r e o))) (sym u.is)
+source-number P f number r bs (Block' k ss p body e) n s names =
+    let cs = binders_of ss ++ bs in
+    source-number P f number r cs body (n + length (pieces_of_row ss)) (Sits-body number r n ss body s) (λ u i. names u (Among-right u (uses_of_row cs ss) (uses_of cs body) i))
 
--- the arcs of an expression that sits, by their numbers, are the builder's
-pub wires_of-links : (number : Role → ℕ) (r : Region) (t : Role) (x : Expr) (n m : ℕ) → Sits number n (rows_of r x) → number t ≡ m → map (numbered number) (links_of r t x) ≡ wires_of x n m
-wires_of-links number r t (Literal v e) n m s h =
-    let at : number (Of r e) ≡ n = source_of-number number r (Literal v e) n s in
-    rw (at, h) refl
-wires_of-links number r t (Unary' o p a e) n m s h =
-    let inner = Sits-left number n (rows_of r a) _ s in
-    let from = source_of-number number r a n inner in
-    let at : number (Of r e) ≡ n + count_of a = source_of-number number r (Unary' o p a e) n s in
-    rw (map-append, wires_of-links number r t a n m inner h, from, at) refl
-wires_of-links number r t (Binary' o p a q b e) n m s h =
-    let both = Sits-left number n (rows_of r a ++ rows_of r b) _ s in
-    let left = Sits-left number n (rows_of r a) (rows_of r b) both in
-    let right = Sits-right number n (n + count_of a) (rows_of r a) (rows_of r b) (ap (λ k. n + k) (sym (length-rows_of r a))) both in
-    let from_left = source_of-number number r a n left in
-    let from_right = source_of-number number r b (n + count_of a) right in
-    let at : number (Of r e) ≡ n + count_of a + count_of b = source_of-number number r (Binary' o p a q b e) n s in
-    rw (map-append, map-append, wires_of-links number r t a n m left h, wires_of-links number r t b (n + count_of a) m right h, from_left, from_right, at) refl
+-- an arc by the numbers of its ends, of which the first may be unknown
+pub record Ends : Type 0 where
+  pub from : Option ℕ
+  pub to : ℕ
+  pub port : Port
 
--- the instructions of a procedure that sits: its trigger, its return and its body
-trigger-number : (number : Role → ℕ) (d : Def) (n : ℕ) → Sits number n (rows_of_def d) → number (Trigger d.place) ≡ n
-trigger-number number d n s = let at = s 0 _ refl in omega arith
+-- the ends of a draft's arc
+abbrev pub seen : Checked → (ℕ → Option ℕ) → Wire → Ends
+seen P f w = record { from = number_of P f (w.from); to = w.to; port = w.port }
 
-return-number : (number : Role → ℕ) (d : Def) (n : ℕ) → Sits number n (rows_of_def d) → number (Return d.place) ≡ n + 1
-return-number number d n s = let at = s 1 _ refl in omega arith
+-- the ends of the schemas' arc
+abbrev pub told : (Role → ℕ) → Link → Ends
+told number l = record { from = Some (number l.source); to = number l.target; port = l.port }
 
-Sits-body : (number : Role → ℕ) (d : Def) (n : ℕ) → Sits number n (rows_of_def d) → Sits number (n + 2) (rows_of (Top d.place) d.body)
-Sits-body number d n s k w h = let at = s (suc (suc k)) w h in omega arith
+-- an arc of the schemas and one of a draft that have the same ends
+pub ends-one : (P : Checked) (f : ℕ → Option ℕ) (number : Role → ℕ) (s q : Role) (p : Port) (o : Origin) (m : ℕ) → number_of P f o ≡ Some (number s) → number q ≡ m → told number (link s q p) ≡ seen P f (wire o m p)
+ends-one P f number s q p o m e g = ap (λ x. record { from = x; to = number q; port = p }) (sym e) ∙ ap (λ x. record { from = number_of P f o; to = x; port = p }) g
 
--- the arcs of a procedure that sits, by their numbers, are the builder's
-procedure_wires-links : (number : Role → ℕ) (d : Def) (n : ℕ) → Sits number n (rows_of_def d) → map (numbered number) (links_of_def d) ≡ procedure_wires d n
-procedure_wires-links number d n s =
-    let body = Sits-body number d n s in
-    let inner = wires_of-links number (Top d.place) (Trigger d.place) d.body (n + 2) n body (trigger-number number d n s) in
-    let from = source_of-number number (Top d.place) d.body (n + 2) body in
-    let to = return-number number d n s in
-    rw (map-append, inner, from, to) refl
+abbrev pub Same : Checked → (ℕ → Option ℕ) → (Role → ℕ) → List Link → List Wire → Type 0
+Same P f number ls ws = map (told number) ls ≡ map (seen P f) ws
 
--- what sits, after the first procedure
-Sits-rest : (number : Role → ℕ) (d : Def) (ds : List Def) (n : ℕ) → Sits number n (rows_of_all (d ∷ ds)) → Sits number (n + length (procedure_pieces d)) (rows_of_all ds)
-Sits-rest number d ds n s =
-    Sits-right number n (n + length (procedure_pieces d)) (rows_of_def d) (rows_of_all ds) (ap (λ m. n + m) (sym (length-rows_of_def d))) s
+pub Same-append : (P : Checked) (f : ℕ → Option ℕ) (number : Role → ℕ) (ls ks : List Link) (ws vs : List Wire) → Same P f number ls ws → Same P f number ks vs → Same P f number (ls ++ ks) (ws ++ vs)
+Same-append P f number ls ks ws vs e g =
+    map-append (told number) ls ks ∙ ap (λ l. l ++ map (told number) ks) e ∙ ap (λ l. map (seen P f) ws ++ l) g ∙ sym (map-append (seen P f) ws vs)
 
-pub procedures_wires-links : (number : Role → ℕ) (ds : List Def) (n : ℕ) → Sits number n (rows_of_all ds) → map (numbered number) (links_of_all ds) ≡ procedures_wires ds n
-procedures_wires-links number [] n s = refl
-procedures_wires-links number (d ∷ ds) n s =
-    let own = procedure_wires-links number d n (Sits-left number n (rows_of_def d) (rows_of_all ds) s) in
-    let rest = procedures_wires-links number ds (n + length (procedure_pieces d)) (Sits-rest number d ds n s) in
-    map-append (numbered number) (links_of_def d) (links_of_all ds) ∙ cc
+mutual
+  -- the arcs of an expression that sits have the ends of the builder's
+  pub ends-expr : (P : Checked) (f : ℕ → Option ℕ) (number : Role → ℕ) (r : Region) (bs : List Binder) (t : Role) (x : Expr) (n m : ℕ) → Sits number n (rows_of r x) → number t ≡ m → AllRight P f number (uses_of bs x) → Same P f number (links_of r bs t x) (wires_of x n m)
+  ends-expr P f number r bs t (Literal v e) n m s h names =
+      ap (λ l. l ∷ []) (ends-one P f number t (Of r e) Zero (Output m) n (ap (λ k. Some k) (sym h)) (last-number number n n [] _ (omega arith) s))
+  ends-expr P f number r bs t (Unary' o p a e) n m s h names =
+      let inner = Sits-left number n (rows_of r a) _ s in
+      let at = last-number number n (n + count_of a) (rows_of r a) _ (ap (λ k. n + k) (sym (length-rows_of r a))) s in
+      Same-append P f number (links_of r bs t a) _ (wires_of a n m) _ (ends-expr P f number r bs t a n m inner h names)
+      (ap (λ l. l ∷ []) (ends-one P f number (source_role r bs a) (Of r e) Zero (source_of a n) (n + count_of a) (source-number P f number r bs a n inner names) at))
+  ends-expr P f number r bs t (Binary' o p a q b e) n m s h names =
+      let both = Sits-left number n (rows_of r a ++ rows_of r b) _ s in
+      let left = Sits-left number n (rows_of r a) (rows_of r b) both in
+      let c = n + count_of a in
+      let right = Sits-right number n c (rows_of r a) (rows_of r b) (ap (λ k. n + k) (sym (length-rows_of r a))) both in
+      let names_left : AllRight P f number (uses_of bs a) = λ u i. names u (Among-left u (uses_of bs a) (uses_of bs b) i) in
+      let names_right : AllRight P f number (uses_of bs b) = λ u i. names u (Among-right u (uses_of bs a) (uses_of bs b) i) in
+      let k = c + count_of b in
+      let at = last-number number n k (rows_of r a ++ rows_of r b) _ (length-both r a b n) s in
+      let first = ends-one P f number (source_role r bs a) (Of r e) Zero (source_of a n) k (source-number P f number r bs a n left names_left) at in
+      let second = ends-one P f number (source_role r bs b) (Of r e) One (source_of b c) k (source-number P f number r bs b c right names_right) at in
+      let last : Same P f number (link (source_role r bs a) (Of r e) Zero ∷ link (source_role r bs b) (Of r e) One ∷ []) (wire (source_of a n) k Zero ∷ wire (source_of b c) k One ∷ []) = ap (λ l. l ∷ told number (link (source_role r bs b) (Of r e) One) ∷ []) first ∙ ap (λ l. seen P f (wire (source_of a n) k Zero) ∷ l ∷ []) second in
+      Same-append P f number (links_of r bs t a ++ links_of r bs t b) _ (wires_of a n m ++ wires_of b c m) _
+      (Same-append P f number (links_of r bs t a) (links_of r bs t b) (wires_of a n m) (wires_of b c m) (ends-expr P f number r bs t a n m left h names_left) (ends-expr P f number r bs t b c m right h names_right)) last
+  ends-expr P f number r bs t (Name x e) n m s h names = refl
+  ends-expr P f number r bs t (Block' k ss p body e) n m s h names =
+      let cs = binders_of ss ++ bs in
+      Same-append P f number (links_of_row r cs t ss) (links_of r cs t body) (wires_of_row ss n m) (wires_of body (n + length (pieces_of_row ss)) m)
+      (ends-row P f number r cs t ss n m (Sits-left number n (rows_of_row r ss) (rows_of r body) s) h (λ u i. names u (Among-left u (uses_of_row cs ss) (uses_of cs body) i)))
+      (ends-expr P f number r cs t body (n + length (pieces_of_row ss)) m (Sits-body number r n ss body s) h (λ u i. names u (Among-right u (uses_of_row cs ss) (uses_of cs body) i)))
 
--- the blocks of procedures that sit are the builder's
-pub procedures_blocks-numbers : (number : Role → ℕ) (ds : List Def) (n : ℕ) → Sits number n (rows_of_all ds) → procedures_blocks ds n ≡ map (block_of number) ds
-procedures_blocks-numbers number [] n s = refl
-procedures_blocks-numbers number (d ∷ ds) n s =
-    let at = trigger-number number d n (Sits-left number n (rows_of_def d) (rows_of_all ds) s) in
-    let rest = procedures_blocks-numbers number ds (n + length (procedure_pieces d)) (Sits-rest number d ds n s) in
-    rw (at, rest) refl
+  ends-row : {k : _} (P : Checked) (f : ℕ → Option ℕ) (number : Role → ℕ) (r : Region) (bs : List Binder) (t : Role) (ss : Row_of-Stmt k) (n m : ℕ) → Sits number n (rows_of_row r ss) → number t ≡ m → AllRight P f number (uses_of_row bs ss) → Same P f number (links_of_row r bs t ss) (wires_of_row ss n m)
+  ends-row P f number r bs t end_of-Stmt n m s h names = refl
+  ends-row P f number r bs t (more_of-Stmt (Binding x a e) rest) n m s h names =
+      let own = Sits-left number n (binding_rows r e a) (rows_of_row r rest) s in
+      let inner = Sits-left number n (rows_of r a) _ own in
+      let names_own : AllRight P f number (uses_of bs a) = λ u i. names u (Among-left u (uses_of bs a) (uses_of_row bs rest) i) in
+      let last = ends-one P f number (source_role r bs a) (role.Label e) Zero (source_of a n) (n + count_of a) (source-number P f number r bs a n inner names_own) (label-number number r n e a own) in
+      Same-append P f number (links_of r bs t a ++ link (source_role r bs a) (role.Label e) Zero ∷ []) (links_of_row r bs t rest) (wires_of a n m ++ wire (source_of a n) (n + count_of a) Zero ∷ []) (wires_of_row rest (n + length (pieces_of a ++ piece (Merge Int) e ∷ [])) m)
+      (Same-append P f number (links_of r bs t a) _ (wires_of a n m) _ (ends-expr P f number r bs t a n m inner h names_own) (ap (λ l. l ∷ []) last))
+      (ends-row P f number r bs t rest _ m (Sits-stmts number r n e a rest s) h (λ u i. names u (Among-right u (uses_of bs a) (uses_of_row bs rest) i)))
 
--- the return of a procedure that sits is behind its trigger
-pub return_behind : (number : Role → ℕ) (d : Def) (ds : List Def) (n : ℕ) → Among d ds → Sits number n (rows_of_all ds) → number (Return d.place) ≡ number (Trigger d.place) + 1
-return_behind number d [] n h s = absurd h
-return_behind number d (c ∷ ds) n (inl e) s =
-    let own = Sits-left number n (rows_of_def c) (rows_of_all ds) s in
-    let P : Def → Type 0 = λ z. number (Return z.place) ≡ number (Trigger z.place) + 1 in
-    let t = trigger-number number c n own in
-    let r = return-number number c n own in
-    subst P (sym e) (omega arith)
-return_behind number d (c ∷ ds) n (inr h) s = return_behind number d ds (n + length (procedure_pieces c)) h (Sits-rest number c ds n s)
+-- a label has the number of its instruction
+abbrev pub AreLabels : (Role → ℕ) → List Label → Type 0
+AreLabels number ls = (l : Label) → Among l ls → number (role.Label l.binder) ≡ l.number
 
--- the builder's pieces are as many as the schemas' instructions
-pub size_of-pieces : (x : Expr) → size_of x ≡ count_of x
-size_of-pieces (Literal v e) = refl
-size_of-pieces (Unary' o _ a e) = omega (arith, size_of-pieces a, length-append (pieces_of a) (piece (unary_op o) e ∷ []))
-size_of-pieces (Binary' o _ a _ b e) =
-    omega (arith, size_of-pieces a, size_of-pieces b, length-append (pieces_of a ++ pieces_of b) (piece (Binary (binary_op o)) e ∷ []), length-append (pieces_of a) (pieces_of b))
+pub AreLabels-append : (number : Role → ℕ) (ls ks : List Label) → AreLabels number ls → AreLabels number ks → AreLabels number (ls ++ ks)
+AreLabels-append number ls ks f g l h = elim (Among-either l ls ks h) [ inl i ↦ f l i | inr i ↦ g l i ]
 
-pub size_of_all-pieces : (ds : List Def) → size_of_all ds ≡ length (procedures_pieces ds)
-size_of_all-pieces [] = refl
-size_of_all-pieces (d ∷ ds) = omega (arith, size_of-pieces d.body, size_of_all-pieces ds, length-append (procedure_pieces d) (procedures_pieces ds))
+AreLabels-one : (number : Role → ℕ) (b n : ℕ) → number (role.Label b) ≡ n → AreLabels number (label b n ∷ [])
+AreLabels-one number b n e l (inl h) = ap (λ k. number (role.Label k.binder)) h ∙ e ∙ sym (ap (λ k. k.number) h)
+AreLabels-one number b n e l (inr h) = absurd h
+
+mutual
+  -- the labels of an expression that sits
+  pub labels-expr : (number : Role → ℕ) (r : Region) (x : Expr) (n : ℕ) → Sits number n (rows_of r x) → AreLabels number (labels_of x n)
+  labels-expr number r (Literal v e) n s = λ l h. absurd h
+  labels-expr number r (Unary' o p a e) n s = labels-expr number r a n (Sits-left number n (rows_of r a) _ s)
+  labels-expr number r (Binary' o p a q b e) n s =
+      let both = Sits-left number n (rows_of r a ++ rows_of r b) _ s in
+      AreLabels-append number (labels_of a n) (labels_of b (n + count_of a)) (labels-expr number r a n (Sits-left number n (rows_of r a) (rows_of r b) both))
+      (labels-expr number r b (n + count_of a) (Sits-right number n (n + count_of a) (rows_of r a) (rows_of r b) (ap (λ k. n + k) (sym (length-rows_of r a))) both))
+  labels-expr number r (Name x e) n s = λ l h. absurd h
+  labels-expr number r (Block' k ss p body e) n s =
+      AreLabels-append number (labels_of_row ss n) (labels_of body (n + length (pieces_of_row ss))) (labels-row number r ss n (Sits-left number n (rows_of_row r ss) (rows_of r body) s))
+      (labels-expr number r body (n + length (pieces_of_row ss)) (Sits-body number r n ss body s))
+
+  labels-row : {k : _} (number : Role → ℕ) (r : Region) (ss : Row_of-Stmt k) (n : ℕ) → Sits number n (rows_of_row r ss) → AreLabels number (labels_of_row ss n)
+  labels-row number r end_of-Stmt n s = λ l h. absurd h
+  labels-row number r (more_of-Stmt (Binding x a e) rest) n s =
+      let own = Sits-left number n (binding_rows r e a) (rows_of_row r rest) s in
+      AreLabels-append number (labels_of a n ++ label e (n + count_of a) ∷ []) (labels_of_row rest (n + length (pieces_of a ++ piece (Merge Int) e ∷ [])))
+      (AreLabels-append number (labels_of a n) (label e (n + count_of a) ∷ []) (labels-expr number r a n (Sits-left number n (rows_of r a) _ own)) (AreLabels-one number e (n + count_of a) (label-number number r n e a own)))
+      (labels-row number r rest _ (Sits-stmts number r n e a rest s))
+
+-- the binder has a label among these
+pub record HasLabel (b : ℕ) (ls : List Label) : Type 0 where
+  pub the_label : Label
+  pub among : Among the_label ls
+  pub is : the_label.binder ≡ b
+
+pub HasLabel-left : (b : ℕ) (ls ks : List Label) → HasLabel b ls → HasLabel b (ls ++ ks)
+HasLabel-left b ls ks h = record { the_label = h.the_label; among = Among-left h.the_label ls ks h.among; is = h.is }
+
+pub HasLabel-right : (b : ℕ) (ls ks : List Label) → HasLabel b ks → HasLabel b (ls ++ ks)
+HasLabel-right b ls ks h = record { the_label = h.the_label; among = Among-right h.the_label ls ks h.among; is = h.is }
+
+not_binding : (a : ℕ) (o : Option ℕ) → BindingNode a ≡ named o → ⊥
+not_binding a None e = cc
+not_binding a (Some b) e = cc
+
+mutual
+  -- each binding of an expression has a label
+  pub label-expr : (s : Region) (b v : ℕ) (r : Region) (bs : List Binder) (x : Expr) (n : ℕ) → Among (line s b (BindingNode v)) (entries_of r bs x) → HasLabel b (labels_of x n)
+  label-expr s b v r bs (Literal c e) n (inl h) = let k : BindingNode v ≡ LiteralNode (literal_value c) = ap (λ z. z.node) h in cc
+  label-expr s b v r bs (Literal c e) n (inr h) = absurd h
+  label-expr s b v r bs (Unary' o p a e) n (inl h) = let k : BindingNode v ≡ UnaryNode o (place_of a) = ap (λ z. z.node) h in cc
+  label-expr s b v r bs (Unary' o p a e) n (inr h) = label-expr s b v r bs a n h
+  label-expr s b v r bs (Binary' o p a q c e) n (inl h) = let k : BindingNode v ≡ BinaryNode o (place_of a) (place_of c) = ap (λ z. z.node) h in cc
+  label-expr s b v r bs (Binary' o p a q c e) n (inr h) =
+      elim (Among-either _ (entries_of r bs a) (entries_of r bs c) h) [
+        | inl k ↦ HasLabel-left b (labels_of a n) (labels_of c (n + count_of a)) (label-expr s b v r bs a n k)
+        | inr k ↦ HasLabel-right b (labels_of a n) (labels_of c (n + count_of a)) (label-expr s b v r bs c (n + count_of a) k)
+      ]
+  label-expr s b v r bs (Name x e) n (inl h) = absurd (not_binding v (binder_of bs x) (ap (λ z. z.node) h))
+  label-expr s b v r bs (Name x e) n (inr h) = absurd h
+  label-expr s b v r bs (Block' m ss p body e) n (inl h) = let k : BindingNode v ≡ BlockNode (values_of ss) (place_of body) = ap (λ z. z.node) h in cc
+  label-expr s b v r bs (Block' m ss p body e) n (inr h) =
+      let cs = binders_of ss ++ bs in
+      let c = n + length (pieces_of_row ss) in
+      elim (Among-either _ (entries_of_row r cs ss) (entries_of r cs body) h) [
+        | inl k ↦ HasLabel-left b (labels_of_row ss n) (labels_of body c) (label-row s b v r cs ss n k)
+        | inr k ↦ HasLabel-right b (labels_of_row ss n) (labels_of body c) (label-expr s b v r cs body c k)
+      ]
+
+  label-row : {m : _} (s : Region) (b v : ℕ) (r : Region) (bs : List Binder) (ss : Row_of-Stmt m) (n : ℕ) → Among (line s b (BindingNode v)) (entries_of_row r bs ss) → HasLabel b (labels_of_row ss n)
+  label-row s b v r bs end_of-Stmt n h = absurd h
+  label-row s b v r bs (more_of-Stmt (Binding x a e) rest) n (inl h) =
+      HasLabel-left b (labels_of a n ++ label e (n + count_of a) ∷ []) _ (HasLabel-right b (labels_of a n) _ (record { the_label = label e (n + count_of a); among = inl refl; is = sym (ap (λ z. z.place) h) }))
+  label-row s b v r bs (more_of-Stmt (Binding x a e) rest) n (inr h) =
+      elim (Among-either _ (entries_of r bs a) (entries_of_row r bs rest) h) [
+        | inl k ↦ HasLabel-left b (labels_of a n ++ label e (n + count_of a) ∷ []) _ (HasLabel-left b (labels_of a n) _ (label-expr s b v r bs a n k))
+        | inr k ↦ HasLabel-right b (labels_of a n ++ label e (n + count_of a) ∷ []) _ (label-row s b v r bs rest _ k)
+      ]

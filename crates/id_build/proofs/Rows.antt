@@ -1,18 +1,20 @@
 -- The instructions and arcs of a program with what they are for.
-use Rattle.std.proofs.Common.{ℕ, ◌+◌, Bool, true, false, cond, eqb, List, [], ◌∷◌, ◌++◌, ◌≡◌, Some}
+use Rattle.std.proofs.Common.{ℕ, ◌+◌, Bool, true, false, cond, eqb, List, [], ◌∷◌, ◌++◌, ◌≡◌, Option, None, Some}
 use Rattle.std.specs.Prelude.{slice_get, suc, ◌&&◌}
+use Rattle.id_build.specs.declared.arcs.Arc.{Arc}
 use Rattle.id_build.specs.declared.draft.Piece.{Piece}
-use Rattle.id_build.specs.declared.draft.Wire.{Wire}
-use Rattle.id_build.specs.Expressions.{piece, wire}
-use Rattle.id_build.specs.Roles.{Answer, binary_op, constant_of, Of, port_of, Return, Role, Trigger, unary_op}
+use Rattle.id_build.specs.Expressions.{piece}
+use Rattle.id_build.specs.Roles.{Answer, binary_op, constant_of, Label, Of, port_of, Return, Role, Trigger, unary_op}
+use Rattle.id_check.specs.Scopes.{Binder, binder_of, binders_of}
 use Rattle.id_graph.specs.declared.dests.Port.{Port}
 use Rattle.id_graph.specs.declared.dests.Port.TheVariants.{Zero, One}
 use Rattle.id_graph.specs.declared.instr.Op.{Op}
 use Rattle.id_graph.specs.declared.instr.Op.TheVariants.{Back, Binary, Const, Merge}
-use Rattle.id_graph.specs.declared.instr.PortKind.TheVariants.{Signal}
-use Rattle.id_meaning.specs.Parts.{BinaryNode, Entry, LiteralNode, literal_value, Node, place_of, Region, Top, UnaryNode}
+use Rattle.id_graph.specs.declared.instr.PortKind.TheVariants.{Int, Signal}
+use Rattle.id_meaning.specs.Parts.{BinaryNode, BlockNode, Entry, LiteralNode, literal_value, named, Node, place_of, Region, Top, UnaryNode, values_of}
 use Rattle.id_tree.specs.declared.tree.Def.{Def}
-use Rattle.id_tree.specs.declared.tree.Expr.{Expr, Literal, Unary', Binary'}
+use Rattle.id_tree.specs.declared.tree.Expr.{Expr, Literal, Unary', Binary', Name, Block', Row_of-Stmt, end_of-Stmt, more_of-Stmt}
+use Rattle.id_tree.specs.declared.tree.Stmt.{Binding}
 
 -- an instruction, with what it is for
 pub record Row : Type 0 where
@@ -37,14 +39,22 @@ abbrev pub link : Role → Role → Port → Link
 link s q p = record { source = s; target = q; port = p }
 
 -- the arc, where instructions have these numbers
-abbrev pub numbered : (Role → ℕ) → Link → Wire
-numbered number l = wire (number l.source) (number l.target) l.port
+abbrev pub numbered : (Role → ℕ) → Link → Arc
+numbered number l = record { from = number l.source; to = number l.target; port = l.port }
 
--- the instructions of an expression
-abbrev pub rows_of : Region → Expr → List Row
-rows_of r (Literal v e) = row (Of r e) (Const (constant_of (literal_value v))) e ∷ []
-rows_of r (Unary' o _ a e) = rows_of r a ++ row (Of r e) (unary_op o) e ∷ []
-rows_of r (Binary' o _ a _ b e) = rows_of r a ++ rows_of r b ++ row (Of r e) (Binary (binary_op o)) e ∷ []
+abbrev mutual
+  -- the instructions of an expression
+  pub rows_of : Region → Expr → List Row
+  rows_of r (Literal v e) = row (Of r e) (Const (constant_of (literal_value v))) e ∷ []
+  rows_of r (Unary' o p a e) = rows_of r a ++ row (Of r e) (unary_op o) e ∷ []
+  rows_of r (Binary' o p a q b e) = rows_of r a ++ rows_of r b ++ row (Of r e) (Binary (binary_op o)) e ∷ []
+  rows_of r (Name x e) = []
+  rows_of r (Block' n ss p body e) = rows_of_row r ss ++ rows_of r body
+
+  -- the instructions of statements
+  pub rows_of_row : {n : _} → Region → Row_of-Stmt n → List Row
+  rows_of_row r end_of-Stmt = []
+  rows_of_row r (more_of-Stmt (Binding x a e) rest) = (rows_of r a ++ row (Label e) (Merge Int) e ∷ []) ++ rows_of_row r rest
 
 -- the instructions of a procedure
 abbrev pub rows_of_def : Def → List Row
@@ -59,17 +69,38 @@ rows_of_all (d ∷ ds) = rows_of_def d ++ rows_of_all ds
 abbrev pub rows_of_program : Def → List Def → List Row
 rows_of_program main ds = row Answer (Merge (port_of main.result)) main.place ∷ rows_of_all ds
 
--- the arcs of an expression that t turns on
-abbrev pub links_of : Region → Role → Expr → List Link
-links_of r t (Literal v e) = link t (Of r e) Zero ∷ []
-links_of r t (Unary' o _ a e) = links_of r t a ++ link (Of r (place_of a)) (Of r e) Zero ∷ []
-links_of r t (Binary' o _ a _ b e) =
-    links_of r t a ++ links_of r t b ++ link (Of r (place_of a)) (Of r e) Zero ∷ link (Of r (place_of b)) (Of r e) One ∷ []
+-- what gives the value of the name at a place, where it has this binder
+abbrev pub name_role : Region → ℕ → Option ℕ → Role
+name_role r e None = Of r e
+name_role r e (Some b) = Label b
+
+-- what gives an expression's value, where these binders are in scope
+abbrev pub source_role : Region → List Binder → Expr → Role
+source_role r bs (Literal v e) = Of r e
+source_role r bs (Unary' o p a e) = Of r e
+source_role r bs (Binary' o p a q b e) = Of r e
+source_role r bs (Name x e) = name_role r e (binder_of bs x)
+source_role r bs (Block' n ss p body e) = source_role r (binders_of ss ++ bs) body
+
+abbrev mutual
+  -- the arcs of an expression that t turns on
+  pub links_of : Region → List Binder → Role → Expr → List Link
+  links_of r bs t (Literal v e) = link t (Of r e) Zero ∷ []
+  links_of r bs t (Unary' o p a e) = links_of r bs t a ++ link (source_role r bs a) (Of r e) Zero ∷ []
+  links_of r bs t (Binary' o p a q b e) =
+      links_of r bs t a ++ links_of r bs t b ++ link (source_role r bs a) (Of r e) Zero ∷ link (source_role r bs b) (Of r e) One ∷ []
+  links_of r bs t (Name x e) = []
+  links_of r bs t (Block' n ss p body e) = links_of_row r (binders_of ss ++ bs) t ss ++ links_of r (binders_of ss ++ bs) t body
+
+  -- the arcs of statements
+  pub links_of_row : {n : _} → Region → List Binder → Role → Row_of-Stmt n → List Link
+  links_of_row r bs t end_of-Stmt = []
+  links_of_row r bs t (more_of-Stmt (Binding x a e) rest) = (links_of r bs t a ++ link (source_role r bs a) (Label e) Zero ∷ []) ++ links_of_row r bs t rest
 
 -- the arcs of a procedure
 abbrev pub links_of_def : Def → List Link
 links_of_def d =
-    links_of (Top d.place) (Trigger d.place) d.body ++ link (Of (Top d.place) (place_of d.body)) (Return d.place) One ∷ []
+    links_of (Top d.place) [] (Trigger d.place) d.body ++ link (source_role (Top d.place) [] d.body) (Return d.place) One ∷ []
 
 abbrev pub links_of_all : List Def → List Link
 links_of_all [] = []
@@ -79,21 +110,13 @@ links_of_all (d ∷ ds) = links_of_def d ++ links_of_all ds
 abbrev pub line : Region → ℕ → Node → Entry
 line r e n = record { place = e; region = r; node = n }
 
--- what the instruction of a line of the table does
-abbrev pub op_of : Node → Op
-op_of (LiteralNode v) = Const (constant_of v)
-op_of (UnaryNode o a) = unary_op o
-op_of (BinaryNode o a b) = Binary (binary_op o)
-
--- the instruction of a line of the table
-abbrev pub row_of : Entry → Row
-row_of x = row (Of x.region x.place) (op_of x.node) x.place
-
--- the arcs to the instruction of what stands at a place, where t turns its region on
-abbrev pub links_to : Region → Role → ℕ → Node → List Link
-links_to r t e (LiteralNode v) = link t (Of r e) Zero ∷ []
-links_to r t e (UnaryNode o a) = link (Of r a) (Of r e) Zero ∷ []
-links_to r t e (BinaryNode o a b) = link (Of r a) (Of r e) Zero ∷ link (Of r b) (Of r e) One ∷ []
+-- what an expression's own line says
+abbrev pub node_of : List Binder → Expr → Node
+node_of bs (Literal v e) = LiteralNode (literal_value v)
+node_of bs (Unary' o p a e) = UnaryNode o (place_of a)
+node_of bs (Binary' o p a q b e) = BinaryNode o (place_of a) (place_of b)
+node_of bs (Name x e) = named (binder_of bs x)
+node_of bs (Block' n ss p body e) = BlockNode (values_of ss) (place_of body)
 
 abbrev pub region_eq : Region → Region → Bool
 region_eq (Top f) (Top g) = eqb f g
@@ -104,6 +127,7 @@ role_eq Answer Answer = true
 role_eq (Trigger f) (Trigger g) = eqb f g
 role_eq (Return f) (Return g) = eqb f g
 role_eq (Of r e) (Of s f) = region_eq r s && eqb e f
+role_eq (Label b) (Label c) = eqb b c
 role_eq _ _ = false
 
 -- the first place at which an instruction for the role stands, or the length

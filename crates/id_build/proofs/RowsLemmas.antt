@@ -1,79 +1,102 @@
 -- The instructions of a program are those that the schemas make.
-use Rattle.std.proofs.Common.{◌≡◌, inl, inr, ℕ, zero, suc, Bool, true, false, eqb, List, [], ◌∷◌, ◌++◌, refl, ap, sym, subst, ◌∙◌, Some}
+use Rattle.std.proofs.Common.{◌≡◌, inl, inr, ℕ, zero, suc, Bool, true, false, eqb, List, [], ◌∷◌, ◌++◌, refl, ap, sym, subst, ◌∙◌, Option, None, Some}
 use Rattle.std.specs.Prelude.{map, slice_get, ◌&&◌}
 use Rattle.std.proofs.lemmas.Bool.{eq-eqb, eqb-true}
 use Rattle.id_build.proofs.AmongLemmas.{Among-either, Among-from_at, Among-left, Among-map, Among-right}
-use Rattle.id_build.proofs.Rows.{index_of, line, role_eq, row, Row, row_of, rows_of, rows_of_all, rows_of_def, rows_of_program}
-use Rattle.id_build.specs.Roles.{Answer, answer, binary, literal, Makes, Of, port_of, return, Return, Role, trigger, Trigger, unary}
+use Rattle.id_build.proofs.Rows.{index_of, line, role_eq, row, Row, rows_of, rows_of_all, rows_of_def, rows_of_program, rows_of_row}
+use Rattle.id_build.specs.Roles.{Answer, answer, binary, binary_op, constant_of, Label, label, literal, Makes, Of, port_of, return, Return, Role, trigger, Trigger, unary, unary_op}
 use Rattle.id_check.specs.declared.Checked.{Checked}
+use Rattle.id_check.specs.Scopes.{Binder, binder_of, binders_of}
 use Rattle.id_graph.specs.declared.instr.Op.{Op}
-use Rattle.id_graph.specs.declared.instr.Op.TheVariants.{Back, Merge}
-use Rattle.id_graph.specs.declared.instr.PortKind.TheVariants.{Signal}
-use Rattle.id_meaning.specs.Parts.{AllDiffer, Among, BinaryNode, entries_of, entries_of_all, entries_of_def, Entry, LiteralNode, literal_value, Node, Part, place_of, Region, Top, UnaryNode}
+use Rattle.id_graph.specs.declared.instr.Op.TheVariants.{Back, Binary, Const, Merge}
+use Rattle.id_graph.specs.declared.instr.PortKind.TheVariants.{Int, Signal}
+use Rattle.id_meaning.specs.Parts.{AllDiffer, Among, BinaryNode, BindingNode, BlockNode, entries_of, entries_of_all, entries_of_def, entries_of_row, Entry, LiteralNode, literal_value, named, NameNode, Node, Part, place_of, Region, Top, UnaryNode, UnboundNode}
 use Rattle.id_tree.specs.declared.tree.Def.{Def}
-use Rattle.id_tree.specs.declared.tree.Expr.{Expr, Literal, Unary', Binary'}
+use Rattle.id_tree.specs.declared.tree.Expr.{Expr, Literal, Unary', Binary', Name, Block', Row_of-Stmt, end_of-Stmt, more_of-Stmt}
+use Rattle.id_tree.specs.declared.tree.Stmt.{Binding}
 
--- the instruction of a line of an expression is one of the expression's
-pub row_of-among : (y : Entry) (r : Region) (x : Expr) → Among y (entries_of r x) → Among (row_of y) (rows_of r x)
-row_of-among y r (Literal v e) (inl h) = inl (ap row_of h)
-row_of-among y r (Literal v e) (inr h) = absurd h
-row_of-among y r (Unary' o _ a e) (inl h) = Among-right (row_of y) (rows_of r a) _ (inl (ap row_of h))
-row_of-among y r (Unary' o _ a e) (inr h) = Among-left (row_of y) (rows_of r a) _ (row_of-among y r a h)
-row_of-among y r (Binary' o _ a _ b e) (inl h) = Among-right (row_of y) (rows_of r a ++ rows_of r b) _ (inl (ap row_of h))
-row_of-among y r (Binary' o _ a _ b e) (inr h) =
-    Among-left (row_of y) (rows_of r a ++ rows_of r b) _
-    (elim (Among-either y (entries_of r a) (entries_of r b) h) [
-      | inl k ↦ Among-left (row_of y) (rows_of r a) (rows_of r b) (row_of-among y r a k)
-      | inr k ↦ Among-right (row_of y) (rows_of r a) (rows_of r b) (row_of-among y r b k)
-    ])
+-- the instruction of what stands on a line of the table, if it has one
+abbrev pub rows_at : Region → ℕ → Node → List Row
+rows_at r e (LiteralNode v) = row (Of r e) (Const (constant_of v)) e ∷ []
+rows_at r e (UnaryNode o a) = row (Of r e) (unary_op o) e ∷ []
+rows_at r e (BinaryNode o a b) = row (Of r e) (Binary (binary_op o)) e ∷ []
+rows_at r e (NameNode b) = []
+rows_at r e UnboundNode = []
+rows_at r e (BlockNode vs b) = []
+rows_at r e (BindingNode a) = row (Label e) (Merge Int) e ∷ []
 
--- the instruction is that of a line of the list
-abbrev IsRowOf : Row → List Entry → Type 0
-IsRowOf w ys = (y : Entry) × Among y ys × (w ≡ row_of y)
+abbrev rows_at_entry : Entry → List Row
+rows_at_entry y = rows_at y.region y.place y.node
 
-IsRowOf-left : (w : Row) (xs ys : List Entry) → IsRowOf w xs → IsRowOf w (xs ++ ys)
-IsRowOf-left w xs ys h = (h.0, Among-left h.0 xs ys h.1, h.2)
+-- a name has none
+none_at_name : (w : Row) (r : Region) (e : ℕ) (b : Option ℕ) → Among w (rows_at r e (named b)) → ⊥
+none_at_name w r e None h = h
+none_at_name w r e (Some b) h = h
 
-IsRowOf-right : (w : Row) (xs ys : List Entry) → IsRowOf w ys → IsRowOf w (xs ++ ys)
-IsRowOf-right w xs ys h = (h.0, Among-right h.0 xs ys h.1, h.2)
-
-IsRowOf-cons : (w : Row) (x : Entry) (ys : List Entry) → IsRowOf w ys → IsRowOf w (x ∷ ys)
-IsRowOf-cons w x ys h = (h.0, inr h.1, h.2)
-
--- the one instruction of a list is that of the first line
-IsRowOf-last : (w v : Row) (x : Entry) (ys : List Entry) → v ≡ row_of x → Among w (v ∷ []) → IsRowOf w (x ∷ ys)
-IsRowOf-last w v x ys e (inl h) = (x, inl refl, h ∙ e)
-IsRowOf-last w v x ys e (inr h) = absurd h
-
--- each instruction of an expression is that of a line of it
-pub rows_of-from : (w : Row) (r : Region) (x : Expr) → Among w (rows_of r x) → IsRowOf w (entries_of r x)
-rows_of-from w r (Literal v e) h = IsRowOf-last w _ (line r e (LiteralNode (literal_value v))) [] refl h
-rows_of-from w r (Unary' o _ a e) h =
-    elim (Among-either w (rows_of r a) _ h) [
-      | inl k ↦ IsRowOf-cons w (line r e (UnaryNode o (place_of a))) (entries_of r a) (rows_of-from w r a k)
-      | inr k ↦ IsRowOf-last w _ (line r e (UnaryNode o (place_of a))) (entries_of r a) refl k
-    ]
-rows_of-from w r (Binary' o _ a _ b e) h =
-    elim (Among-either w (rows_of r a ++ rows_of r b) _ h) [
-      | inl k ↦ IsRowOf-cons w (line r e (BinaryNode o (place_of a) (place_of b))) (entries_of r a ++ entries_of r b) (elim (Among-either w (rows_of r a) (rows_of r b) k) [
-        | inl l ↦ IsRowOf-left w (entries_of r a) (entries_of r b) (rows_of-from w r a l)
-        | inr l ↦ IsRowOf-right w (entries_of r a) (entries_of r b) (rows_of-from w r b l)
+mutual
+  -- the instruction of a line of an expression is one of the expression's
+  rows_of-among : (w : Row) (y : Entry) (r : Region) (bs : List Binder) (x : Expr) → Among y (entries_of r bs x) → Among w (rows_at_entry y) → Among w (rows_of r x)
+  rows_of-among w y r bs (Literal v e) (inl h) k = let P : Entry → Type 0 = λ z. Among w (rows_at_entry z) in subst P h k
+  rows_of-among w y r bs (Literal v e) (inr h) k = absurd h
+  rows_of-among w y r bs (Unary' o p a e) (inl h) k = let P : Entry → Type 0 = λ z. Among w (rows_at_entry z) in Among-right w (rows_of r a) _ (subst P h k)
+  rows_of-among w y r bs (Unary' o p a e) (inr h) k = Among-left w (rows_of r a) _ (rows_of-among w y r bs a h k)
+  rows_of-among w y r bs (Binary' o p a q b e) (inl h) k = let P : Entry → Type 0 = λ z. Among w (rows_at_entry z) in Among-right w (rows_of r a ++ rows_of r b) _ (subst P h k)
+  rows_of-among w y r bs (Binary' o p a q b e) (inr h) k =
+      Among-left w (rows_of r a ++ rows_of r b) _
+      (elim (Among-either y (entries_of r bs a) (entries_of r bs b) h) [
+        | inl i ↦ Among-left w (rows_of r a) (rows_of r b) (rows_of-among w y r bs a i k)
+        | inr i ↦ Among-right w (rows_of r a) (rows_of r b) (rows_of-among w y r bs b i k)
       ])
-      | inr k ↦ IsRowOf-last w _ (line r e (BinaryNode o (place_of a) (place_of b))) (entries_of r a ++ entries_of r b) refl k
-    ]
+  rows_of-among w y r bs (Name x e) (inl h) k = let P : Entry → Type 0 = λ z. Among w (rows_at_entry z) in none_at_name w r e (binder_of bs x) (subst P h k)
+  rows_of-among w y r bs (Name x e) (inr h) k = absurd h
+  rows_of-among w y r bs (Block' n ss p body e) (inl h) k = let P : Entry → Type 0 = λ z. Among w (rows_at_entry z) in absurd (subst P h k)
+  rows_of-among w y r bs (Block' n ss p body e) (inr h) k =
+      elim (Among-either y (entries_of_row r (binders_of ss ++ bs) ss) (entries_of r (binders_of ss ++ bs) body) h) [
+        | inl i ↦ Among-left w (rows_of_row r ss) (rows_of r body) (rows_of_row-among w y r (binders_of ss ++ bs) ss i k)
+        | inr i ↦ Among-right w (rows_of_row r ss) (rows_of r body) (rows_of-among w y r (binders_of ss ++ bs) body i k)
+      ]
 
--- each line of an expression is in its region
-pub region-entries_of : (y : Entry) (r : Region) (x : Expr) → Among y (entries_of r x) → y.region ≡ r
-region-entries_of y r (Literal v e) (inl h) = ap (λ z. z.region) h
-region-entries_of y r (Literal v e) (inr h) = absurd h
-region-entries_of y r (Unary' o _ a e) (inl h) = ap (λ z. z.region) h
-region-entries_of y r (Unary' o _ a e) (inr h) = region-entries_of y r a h
-region-entries_of y r (Binary' o _ a _ b e) (inl h) = ap (λ z. z.region) h
-region-entries_of y r (Binary' o _ a _ b e) (inr h) =
-    elim (Among-either y (entries_of r a) (entries_of r b) h) [
-      | inl k ↦ region-entries_of y r a k
-      | inr k ↦ region-entries_of y r b k
-    ]
+  rows_of_row-among : {n : _} (w : Row) (y : Entry) (r : Region) (bs : List Binder) (ss : Row_of-Stmt n) → Among y (entries_of_row r bs ss) → Among w (rows_at_entry y) → Among w (rows_of_row r ss)
+  rows_of_row-among w y r bs end_of-Stmt h k = absurd h
+  rows_of_row-among w y r bs (more_of-Stmt (Binding x a e) rest) (inl h) k =
+      let P : Entry → Type 0 = λ z. Among w (rows_at_entry z) in
+      Among-left w (rows_of r a ++ row (Label e) (Merge Int) e ∷ []) (rows_of_row r rest) (Among-right w (rows_of r a) _ (subst P h k))
+  rows_of_row-among w y r bs (more_of-Stmt (Binding x a e) rest) (inr h) k =
+      elim (Among-either y (entries_of r bs a) (entries_of_row r bs rest) h) [
+        | inl i ↦ Among-left w (rows_of r a ++ row (Label e) (Merge Int) e ∷ []) (rows_of_row r rest) (Among-left w (rows_of r a) _ (rows_of-among w y r bs a i k))
+        | inr i ↦ Among-right w (rows_of r a ++ row (Label e) (Merge Int) e ∷ []) (rows_of_row r rest) (rows_of_row-among w y r bs rest i k)
+      ]
+
+mutual
+  -- each line of an expression is in its region
+  pub region-entries_of : (y : Entry) (r : Region) (bs : List Binder) (x : Expr) → Among y (entries_of r bs x) → y.region ≡ r
+  region-entries_of y r bs (Literal v e) (inl h) = ap (λ z. z.region) h
+  region-entries_of y r bs (Literal v e) (inr h) = absurd h
+  region-entries_of y r bs (Unary' o p a e) (inl h) = ap (λ z. z.region) h
+  region-entries_of y r bs (Unary' o p a e) (inr h) = region-entries_of y r bs a h
+  region-entries_of y r bs (Binary' o p a q b e) (inl h) = ap (λ z. z.region) h
+  region-entries_of y r bs (Binary' o p a q b e) (inr h) =
+      elim (Among-either y (entries_of r bs a) (entries_of r bs b) h) [
+        | inl k ↦ region-entries_of y r bs a k
+        | inr k ↦ region-entries_of y r bs b k
+      ]
+  region-entries_of y r bs (Name x e) (inl h) = ap (λ z. z.region) h
+  region-entries_of y r bs (Name x e) (inr h) = absurd h
+  region-entries_of y r bs (Block' n ss p body e) (inl h) = ap (λ z. z.region) h
+  region-entries_of y r bs (Block' n ss p body e) (inr h) =
+      elim (Among-either y (entries_of_row r (binders_of ss ++ bs) ss) (entries_of r (binders_of ss ++ bs) body) h) [
+        | inl k ↦ region-entries_of_row y r (binders_of ss ++ bs) ss k
+        | inr k ↦ region-entries_of y r (binders_of ss ++ bs) body k
+      ]
+
+  region-entries_of_row : {n : _} (y : Entry) (r : Region) (bs : List Binder) (ss : Row_of-Stmt n) → Among y (entries_of_row r bs ss) → y.region ≡ r
+  region-entries_of_row y r bs end_of-Stmt h = absurd h
+  region-entries_of_row y r bs (more_of-Stmt (Binding x a e) rest) (inl h) = ap (λ z. z.region) h
+  region-entries_of_row y r bs (more_of-Stmt (Binding x a e) rest) (inr h) =
+      elim (Among-either y (entries_of r bs a) (entries_of_row r bs rest) h) [
+        | inl k ↦ region-entries_of y r bs a k
+        | inr k ↦ region-entries_of_row y r bs rest k
+      ]
 
 -- what a definition adds is among what all add
 pub rows_of_all-among : (w : Row) (d : Def) (ds : List Def) → Among d ds → Among w (rows_of_def d) → Among w (rows_of_all ds)
@@ -107,11 +130,11 @@ entries_of_all-from y (d ∷ ds) h =
     ]
 
 -- the instruction of a part is one of the procedures'
-row_of_part : (P : Checked) (r : Region) (e : ℕ) (n : Node) → Part P r e n → Among (row_of (line r e n)) (rows_of_all P.program.defs)
-row_of_part P r e n part =
+row_of_part : (P : Checked) (w : Row) (r : Region) (e : ℕ) (n : Node) → Part P r e n → Among w (rows_at r e n) → Among w (rows_of_all P.program.defs)
+row_of_part P w r e n part h =
     let y = line r e n in
     let from = entries_of_all-from y P.program.defs part.stands in
-    rows_of_all-among (row_of y) from.0 P.program.defs from.1 (inr (inr (row_of-among y (Top from.0.place) from.0.body from.2)))
+    rows_of_all-among w from.0 P.program.defs from.1 (inr (inr (rows_of-among w y (Top from.0.place) [] from.0.body from.2 h)))
 
 -- each instruction that the schemas make is one of the program's
 pub rows_of_program-from_Makes : (P : Checked) (main : Def) → slice_get P.program.defs P.main ≡ Some main → (q : Role) (o : Op) (e : ℕ) → Makes P q o e → Among (row q o e) (rows_of_program main P.program.defs)
@@ -122,19 +145,63 @@ rows_of_program-from_Makes P main at q o e (trigger {d} is) =
     inr (rows_of_all-among (row (Trigger d.place) (Merge Signal) d.place) d P.program.defs is.among (inl refl))
 rows_of_program-from_Makes P main at q o e (return {d} is) =
     inr (rows_of_all-among (row (Return d.place) (Back (port_of d.result)) d.place) d P.program.defs is.among (inr (inl refl)))
-rows_of_program-from_Makes P main at q o e (literal {r = r} {v = v} part) = inr (row_of_part P r e (LiteralNode v) part)
-rows_of_program-from_Makes P main at q o e (unary {r = r} {a = a} {o = u} part) = inr (row_of_part P r e (UnaryNode u a) part)
-rows_of_program-from_Makes P main at q o e (binary {r = r} {a = a} {b = b} {o = u} part) = inr (row_of_part P r e (BinaryNode u a b) part)
+rows_of_program-from_Makes P main at q o e (literal {r = r} {v = v} part) = inr (row_of_part P _ r e (LiteralNode v) part (inl refl))
+rows_of_program-from_Makes P main at q o e (unary {r = r} {a = a} {o = u} part) = inr (row_of_part P _ r e (UnaryNode u a) part (inl refl))
+rows_of_program-from_Makes P main at q o e (binary {r = r} {a = a} {b = b} {o = u} part) = inr (row_of_part P _ r e (BinaryNode u a b) part (inl refl))
+rows_of_program-from_Makes P main at q o e (label {r = r} {a = a} part) = inr (row_of_part P _ r e (BindingNode a) part (inl refl))
 
 -- the schemas make this instruction
 pub record IsMade (P : Checked) (w : Row) : Type 0 where
   pub makes : Makes P w.role w.op w.place
 
--- the instruction of a line of the table
-IsMade-line : (P : Checked) (r : Region) (e : ℕ) (n : Node) → Part P r e n → IsMade P (row_of (line r e n))
-IsMade-line P r e (LiteralNode v) part = record { makes = literal part }
-IsMade-line P r e (UnaryNode o a) part = record { makes = unary part }
-IsMade-line P r e (BinaryNode o a b) part = record { makes = binary part }
+-- these lines are lines of the program's table
+abbrev pub AreParts : Checked → List Entry → Type 0
+AreParts P ys = (y : Entry) → Among y ys → Among y (entries_of_all P.program.defs)
+
+-- the one instruction of a list is made
+IsMade-one : (P : Checked) (w v : Row) → Makes P v.role v.op v.place → Among w (v ∷ []) → IsMade P w
+IsMade-one P w v m (inl e) = subst (IsMade P) (sym e) (record { makes = m })
+IsMade-one P w v m (inr h) = absurd h
+
+mutual
+  -- each instruction of an expression whose lines are in the table is made
+  IsMade-expr : (P : Checked) (w : Row) (r : Region) (bs : List Binder) (x : Expr) → AreParts P (entries_of r bs x) → Among w (rows_of r x) → IsMade P w
+  IsMade-expr P w r bs (Literal v e) sub h =
+      let part : Part P r e (LiteralNode (literal_value v)) = record { stands = sub _ (inl refl) } in IsMade-one P w _ (literal part) h
+  IsMade-expr P w r bs (Unary' o p a e) sub h =
+      let part : Part P r e (UnaryNode o (place_of a)) = record { stands = sub _ (inl refl) } in
+      elim (Among-either w (rows_of r a) _ h) [
+        | inl k ↦ IsMade-expr P w r bs a (λ y i. sub y (inr i)) k
+        | inr k ↦ IsMade-one P w _ (unary part) k
+      ]
+  IsMade-expr P w r bs (Binary' o p a q b e) sub h =
+      let part : Part P r e (BinaryNode o (place_of a) (place_of b)) = record { stands = sub _ (inl refl) } in
+      elim (Among-either w (rows_of r a ++ rows_of r b) _ h) [
+        | inl k ↦ (elim (Among-either w (rows_of r a) (rows_of r b) k) [
+          | inl l ↦ IsMade-expr P w r bs a (λ y i. sub y (inr (Among-left y (entries_of r bs a) (entries_of r bs b) i))) l
+          | inr l ↦ IsMade-expr P w r bs b (λ y i. sub y (inr (Among-right y (entries_of r bs a) (entries_of r bs b) i))) l
+        ])
+        | inr k ↦ IsMade-one P w _ (binary part) k
+      ]
+  IsMade-expr P w r bs (Name x e) sub h = absurd h
+  IsMade-expr P w r bs (Block' n ss p body e) sub h =
+      let cs = binders_of ss ++ bs in
+      elim (Among-either w (rows_of_row r ss) (rows_of r body) h) [
+        | inl k ↦ IsMade-row P w r cs ss (λ y i. sub y (inr (Among-left y (entries_of_row r cs ss) (entries_of r cs body) i))) k
+        | inr k ↦ IsMade-expr P w r cs body (λ y i. sub y (inr (Among-right y (entries_of_row r cs ss) (entries_of r cs body) i))) k
+      ]
+
+  IsMade-row : {n : _} (P : Checked) (w : Row) (r : Region) (bs : List Binder) (ss : Row_of-Stmt n) → AreParts P (entries_of_row r bs ss) → Among w (rows_of_row r ss) → IsMade P w
+  IsMade-row P w r bs end_of-Stmt sub h = absurd h
+  IsMade-row P w r bs (more_of-Stmt (Binding x a e) rest) sub h =
+      let part : Part P r e (BindingNode (place_of a)) = record { stands = sub _ (inl refl) } in
+      elim (Among-either w (rows_of r a ++ row (Label e) (Merge Int) e ∷ []) (rows_of_row r rest) h) [
+        | inl k ↦ (elim (Among-either w (rows_of r a) _ k) [
+          | inl l ↦ IsMade-expr P w r bs a (λ y i. sub y (inr (Among-left y (entries_of r bs a) (entries_of_row r bs rest) i))) l
+          | inr l ↦ IsMade-one P w _ (label part) l
+        ])
+        | inr k ↦ IsMade-row P w r bs rest (λ y i. sub y (inr (Among-right y (entries_of r bs a) (entries_of_row r bs rest) i))) k
+      ]
 
 -- the instructions of a procedure
 IsMade-def : (P : Checked) (w : Row) (d : Def) → Among d P.program.defs → Among w (rows_of_def d) → IsMade P w
@@ -142,11 +209,7 @@ IsMade-def P w d among (inl e) =
     subst (IsMade P) (sym e) (record { makes = trigger (record { among = among }) })
 IsMade-def P w d among (inr (inl e)) =
     subst (IsMade P) (sym e) (record { makes = return (record { among = among }) })
-IsMade-def P w d among (inr (inr h)) =
-    let from = rows_of-from w (Top d.place) d.body h in
-    let y = from.0 in
-    let stands = entries_of_all-among y d P.program.defs among from.1 in
-    subst (IsMade P) (sym from.2) (IsMade-line P y.region y.place y.node (record { stands = stands }))
+IsMade-def P w d among (inr (inr h)) = IsMade-expr P w (Top d.place) [] d.body (λ y i. entries_of_all-among y d P.program.defs among i) h
 
 -- each instruction of the program is one that the schemas make
 pub IsMade-program : (P : Checked) (main : Def) → slice_get P.program.defs P.main ≡ Some main → (w : Row) → Among w (rows_of_program main P.program.defs) → IsMade P w
@@ -166,6 +229,7 @@ role_eq-true Answer Answer h = refl
 role_eq-true (Trigger f) (Trigger g) h = ap Trigger (eqb-true f g h)
 role_eq-true (Return f) (Return g) h = ap Return (eqb-true f g h)
 role_eq-true (Of (Top f) e) (Of (Top g) c) h = of_same f g e c (eqb f g) refl h
+role_eq-true (Label b) (Label c) h = ap Label (eqb-true b c h)
 role_eq-true _ _ h = cc
 
 pub role_eq-refl : (q : Role) → role_eq q q ≡ true
@@ -173,6 +237,7 @@ role_eq-refl Answer = refl
 role_eq-refl (Trigger f) = eq-eqb f f refl
 role_eq-refl (Return f) = eq-eqb f f refl
 role_eq-refl (Of (Top f) e) = rw (eq-eqb f f refl) (eq-eqb e e refl)
+role_eq-refl (Label b) = eq-eqb b b refl
 
 role_eq-false : (q s : Role) → (q ≡ s → ⊥) → role_eq q s ≡ false
 role_eq-false q s ne = at (role_eq q s) refl

@@ -1,9 +1,11 @@
 -- The lists that a program adds to a draft (docs/GRAPH.md, "Schemas").
 use Rattle.std.specs.Prelude.{ℕ, ◌+◌, List, [], ◌∷◌, ◌++◌, length}
+use Rattle.id_build.specs.declared.draft.Label.{Label}
 use Rattle.id_build.specs.declared.draft.Piece.{Piece}
 use Rattle.id_build.specs.declared.draft.Wire.{Wire}
-use Rattle.id_build.specs.Expressions.{piece, pieces_of, source_of, wire, wires_of}
-use Rattle.id_build.specs.Joined.{instrs_from}
+use Rattle.id_build.specs.Expressions.{labels_of, piece, pieces_of, source_of, wire, wires_of}
+use Rattle.id_build.specs.Whole.{joined_all}
+use Rattle.id_check.specs.declared.Checked.{Checked}
 use Rattle.id_build.specs.Roles.{port_of}
 use Rattle.id_graph.specs.Graph.{Parts, parts}
 use Rattle.id_graph.specs.declared.dests.Port.TheVariants.{One}
@@ -34,6 +36,11 @@ procedures_wires [] n = []
 procedures_wires (d ∷ ds) n =
     procedure_wires d n ++ procedures_wires ds (n + length (procedure_pieces d))
 
+-- the labels of the binders in these procedures, whose instructions begin at n
+abbrev pub procedures_labels : List Def → ℕ → List Label
+procedures_labels [] n = []
+procedures_labels (d ∷ ds) n = labels_of d.body (n + 2) ++ procedures_labels ds (n + length (procedure_pieces d))
+
 -- the blocks of these procedures, whose instructions begin at n
 abbrev pub procedures_blocks : List Def → ℕ → List Block
 procedures_blocks [] n = []
@@ -45,6 +52,7 @@ abbrev pub program_pieces : Program → Def → List Piece
 program_pieces p main = piece (Merge (port_of main.result)) main.place ∷ procedures_pieces p.defs
 
 -- the graph of a program with this main
-abbrev pub graph_of : Program → Def → Parts
-graph_of p main =
-    parts (procedures_blocks p.defs 1) (instrs_from 0 (program_pieces p main) (procedures_wires p.defs 1))
+abbrev pub graph_of : Checked → Def → Parts
+graph_of P main =
+    let ds = P.program.defs in
+    parts (procedures_blocks ds 1) (joined_all P (program_pieces P.program main) (procedures_wires ds 1) (procedures_labels ds 1))

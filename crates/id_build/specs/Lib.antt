@@ -5,3 +5,5 @@ pub mod Schemas
 pub mod Drafted
 pub mod Expressions
 pub mod Joined
+pub mod Resolved
+pub mod Whole

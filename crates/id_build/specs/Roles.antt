@@ -1,5 +1,5 @@
 -- The instructions and arcs that the schemas give a program, by what they are for (docs/GRAPH.md, "Schemas").
-use Rattle.std.specs.Prelude.{ℕ}
+use Rattle.std.specs.Prelude.{ℕ, List}
 use Rattle.id_tree.specs.declared.tree.Kind.{Kind}
 use Rattle.id_tree.specs.declared.tree.Kind.TheVariants as kind
 use Rattle.id_tree.specs.declared.tree.UnaryOp.{UnaryOp}
@@ -10,7 +10,7 @@ use Rattle.id_tree.specs.declared.tree.Def.{Def}
 use Rattle.id_check.specs.declared.Checked.{Checked}
 use Rattle.id_meaning.specs.declared.SourceValue.{SourceValue}
 use Rattle.id_meaning.specs.declared.SourceValue.TheVariants as value
-use Rattle.id_meaning.specs.Parts.{Region, Top, LiteralNode, UnaryNode, BinaryNode, place_of, IsDef, IsMain, Part}
+use Rattle.id_meaning.specs.Parts.{Region, Top, LiteralNode, UnaryNode, BinaryNode, NameNode, BlockNode, BindingNode, place_of, IsDef, IsMain, Part}
 use Rattle.id_graph.specs.declared.dests.Port.{Port}
 use Rattle.id_graph.specs.declared.dests.Port.TheVariants.{Zero, One}
 use Rattle.id_graph.specs.declared.instr.Constant.{Constant}
@@ -22,12 +22,14 @@ use Rattle.id_graph.specs.declared.instr.PortKind.TheVariants.{Signal, Int}
 use Rattle.id_graph.specs.declared.instr.Op.{Op}
 use Rattle.id_graph.specs.declared.instr.Op.TheVariants.{Const, Neg, Binary, Merge, Back}
 
--- what an instruction is for: the answer; the trigger and the return of the procedure at a place; the value of the expression at a place of a region
+-- what an instruction is for: the answer; the trigger and the return of the procedure at a place; the value of the
+-- expression at a place of a region; the label of the binder at a place, which its name's value comes from
 pub data Role : Type 0 where
   Answer : Role
   Trigger : ℕ → Role
   Return : ℕ → Role
   Of : Region → ℕ → Role
+  Label : ℕ → Role
 
 -- where a value comes from: an instruction
 pub data Source : Type 0 where
@@ -61,6 +63,7 @@ pub data Makes (P : Checked) : Role → Op → ℕ → Type 0 where
   literal : {r : Region} {e : ℕ} {v : SourceValue} → Part P r e (LiteralNode v) → Makes P (Of r e) (Const (constant_of v)) e
   unary : {r : Region} {e a : ℕ} {o : UnaryOp} → Part P r e (UnaryNode o a) → Makes P (Of r e) (unary_op o) e
   binary : {r : Region} {e a b : ℕ} {o : BinaryOp} → Part P r e (BinaryNode o a b) → Makes P (Of r e) (Binary (binary_op o)) e
+  label : {r : Region} {b a : ℕ} → Part P r b (BindingNode a) → Makes P (Label b) (Merge Int) b
 
 -- the region's trigger comes from there
 pub data TriggerAt (P : Checked) : Region → Source → Type 0 where
@@ -71,6 +74,8 @@ pub data GivesAt (P : Checked) : Region → ℕ → Source → Type 0 where
   by_literal : {r : Region} {e : ℕ} {v : SourceValue} → Part P r e (LiteralNode v) → GivesAt P r e (From (Of r e))
   by_unary : {r : Region} {e a : ℕ} {o : UnaryOp} → Part P r e (UnaryNode o a) → GivesAt P r e (From (Of r e))
   by_binary : {r : Region} {e a b : ℕ} {o : BinaryOp} → Part P r e (BinaryNode o a b) → GivesAt P r e (From (Of r e))
+  by_name : {r : Region} {e b : ℕ} → Part P r e (NameNode b) → GivesAt P r e (From (Label b))
+  by_block : {r : Region} {e b : ℕ} {vs : List ℕ} {s : Source} → Part P r e (BlockNode vs b) → GivesAt P r b s → GivesAt P r e s
 
 -- what comes from there goes to this port of the instruction for this role
 pub data Feeds (P : Checked) : Source → Role → Port → Type 0 where
@@ -79,3 +84,4 @@ pub data Feeds (P : Checked) : Source → Role → Port → Type 0 where
   to_left : {r : Region} {e a b : ℕ} {o : BinaryOp} {s : Source} → Part P r e (BinaryNode o a b) → GivesAt P r a s → Feeds P s (Of r e) Zero
   to_right : {r : Region} {e a b : ℕ} {o : BinaryOp} {s : Source} → Part P r e (BinaryNode o a b) → GivesAt P r b s → Feeds P s (Of r e) One
   to_return : {d : Def} {s : Source} → IsDef P d → GivesAt P (Top d.place) (place_of d.body) s → Feeds P s (Return d.place) One
+  to_label : {r : Region} {b a : ℕ} {s : Source} → Part P r b (BindingNode a) → GivesAt P r a s → Feeds P s (Label b) Zero

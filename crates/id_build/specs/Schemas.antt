@@ -1,6 +1,7 @@
 -- The graphs that the schemas give a program: the numbering is free (docs/GRAPH.md, "Schemas").
 use Rattle.std.specs.Prelude.{◌≡◌, ℕ, ◌+◌, List, [], ◌∷◌, map, Some, slice_get}
-use Rattle.id_tree.specs.declared.tree.Expr.{Expr, Literal, Unary', Binary'}
+use Rattle.id_tree.specs.declared.tree.Expr.{Expr, Literal, Unary', Binary', Name, Block', Row_of-Stmt, end_of-Stmt, more_of-Stmt}
+use Rattle.id_tree.specs.declared.tree.Stmt.{Binding}
 use Rattle.id_tree.specs.declared.tree.Def.{Def}
 use Rattle.id_check.specs.declared.Checked.{Checked}
 use Rattle.id_meaning.specs.Parts.{Among, AllDiffer, IsDef}
@@ -66,11 +67,19 @@ pub record Schemas (P : Checked) (G : Parts) : Type 0 where
   pub number : Role → ℕ
   pub numbered : Numbered P G number
 
--- the number of instructions that the schemas give an expression
-abbrev pub size_of : Expr → ℕ
-size_of (Literal value place) = 1
-size_of (Unary' op p operand place) = size_of operand + 1
-size_of (Binary' op p left q right place) = size_of left + size_of right + 1
+-- the number of instructions that the schemas give an expression: none to a name or a block itself
+abbrev mutual
+  pub size_of : Expr → ℕ
+  size_of (Literal value place) = 1
+  size_of (Unary' op p operand place) = size_of operand + 1
+  size_of (Binary' op p left q right place) = size_of left + size_of right + 1
+  size_of (Name x place) = 0
+  size_of (Block' n statements p body place) = size_of_row statements + size_of body
+
+  -- the number that they give statements: a label to each binding
+  pub size_of_row : {n : _} → Row_of-Stmt n → ℕ
+  size_of_row end_of-Stmt = 0
+  size_of_row (more_of-Stmt (Binding x value place) rest) = size_of value + 1 + size_of_row rest
 
 -- the number of instructions that the schemas give these definitions: a trigger and a return for each, and those of its body
 abbrev pub size_of_all : List Def → ℕ

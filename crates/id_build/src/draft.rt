@@ -1,13 +1,13 @@
-//! The draft of a graph: its instructions without their arcs, and its arcs, both in the order in
-//! which they are made. The arcs are joined to the instructions once all of them are there.
+//! The draft of a graph: its instructions without their arcs, its arcs, and the labels of its
+//! binders, each in the order in which they are made. An arc that carries a name's value names the
+//! name, since the binding may be built later.
 
-ghost use Rattle.std.specs.Prelude.{◌≡◌, ◌<◌, ◌≤◌, ◌+◌, [], ◌∷◌, ◌++◌, length, vec_len, IfOk, IfErr, OnOk, All};
+ghost use Rattle.std.specs.Prelude.{◌≡◌, ◌≤◌, [], ◌∷◌, ◌++◌, length, vec_len, IfOk, IfErr, OnOk};
 ghost use Rattle.id_build.specs.declared.error.TheConstants.{MAX_INSTRUCTIONS};
-ghost use Rattle.id_build.specs.Joined.{instrs_from, IsFrom, connected};
 
 use crate::error::{BuildError, MAX_INSTRUCTIONS};
-use id_graph::{Dest, Dests, Instr, Op, Port};
-use std::alloc::{AllocError, Global};
+use id_graph::{Op, Port};
+use std::alloc::Global;
 
 /// An instruction without its arcs.
 #[derive(Clone, Copy, Debug)]
@@ -16,12 +16,28 @@ pub struct Piece {
     pub place: usize,
 }
 
-/// An arc: what the instruction `from` gives goes to the port of the instruction `to`.
+/// Where a value comes from.
+#[derive(Clone, Copy, Debug)]
+pub enum Origin {
+    /// The instruction of this number.
+    Output(u32),
+    /// The label of the binder that the name at this place means.
+    Named(usize),
+}
+
+/// An arc: what `from` gives goes to the port of the instruction `to`.
 #[derive(Clone, Copy, Debug)]
 pub struct Wire {
-    pub from: u32,
+    pub from: Origin,
     pub to: u32,
     pub port: Port,
+}
+
+/// The label of the binder at a place: the instruction of this number.
+#[derive(Clone, Copy, Debug)]
+pub struct Label {
+    pub binder: usize,
+    pub number: u32,
 }
 
 /// A graph in the making. The number of a piece is its place in the list.
@@ -29,6 +45,7 @@ pub struct Wire {
 pub struct Draft {
     pub pieces: Vec<Piece>,
     pub wires: Vec<Wire>,
+    pub labels: Vec<Label>,
     pub ghost few: { vec_len pieces ≤ MAX_INSTRUCTIONS },
 }
 
@@ -37,10 +54,12 @@ impl Draft {
     pub fn new(alloc: Global) -> Draft
         ensures pieces { result.pieces.items ≡ [] }
         ensures wires { result.wires.items ≡ [] }
+        ensures labels { result.labels.items ≡ [] }
     {
         Draft {
             pieces: Vec::new(alloc),
             wires: Vec::new(alloc),
+            labels: Vec::new(alloc),
         }
     }
 
@@ -50,6 +69,7 @@ impl Draft {
         ensures pieces { OnOk result
             (self.new.pieces.items ≡ self.old.pieces.items ++ record { op = op; place = place } ∷ []) }
         ensures wires { OnOk result (self.new.wires.items ≡ self.old.wires.items) }
+        ensures labels { OnOk result (self.new.labels.items ≡ self.old.labels.items) }
         ensures large { IfErr result
             (λ e. e ≡ BuildError.TooLarge → MAX_INSTRUCTIONS ≤ length self.old.pieces.items) }
     {
@@ -62,54 +82,26 @@ impl Draft {
     }
 
     /// Adds an arc.
-    pub fn wire(&mut self, from: u32, to: u32, port: Port) -> Result<(), BuildError>
+    pub fn wire(&mut self, from: Origin, to: u32, port: Port) -> Result<(), BuildError>
         ensures wires { OnOk result
             (self.new.wires.items ≡ self.old.wires.items ++ record { from = from; to = to; port = port } ∷ []) }
         ensures pieces { OnOk result (self.new.pieces.items ≡ self.old.pieces.items) }
+        ensures labels { OnOk result (self.new.labels.items ≡ self.old.labels.items) }
         ensures memory { IfErr result (λ e. e ≡ BuildError.Memory) }
     {
         self.wires.push(Wire { from, to, port })?;
         Ok(())
     }
-}
 
-/// The instructions of a draft with their arcs.
-pub fn join(alloc: Global, draft: &Draft) -> Result<Vec<Instr>, AllocError>
-    requires { All (IsFrom draft.now.pieces.items) draft.now.wires.items }
-    ensures { IfOk result (λ v. v.items ≡ instrs_from 0 draft.now.pieces.items draft.now.wires.items) }
-{
-    let mut instrs = bare_instrs(alloc, draft.pieces.as_slice())?;
-    for wire in draft.wires.as_slice() {
-        connect(&mut instrs, wire)?;
+    /// Notes the label of a binder.
+    pub fn label(&mut self, binder: usize, number: u32) -> Result<(), BuildError>
+        ensures labels { OnOk result
+            (self.new.labels.items ≡ self.old.labels.items ++ record { binder = binder; number = number } ∷ []) }
+        ensures pieces { OnOk result (self.new.pieces.items ≡ self.old.pieces.items) }
+        ensures wires { OnOk result (self.new.wires.items ≡ self.old.wires.items) }
+        ensures memory { IfErr result (λ e. e ≡ BuildError.Memory) }
+    {
+        self.labels.push(Label { binder, number })?;
+        Ok(())
     }
-    Ok(instrs)
-}
-
-/// The instructions of these pieces, without arcs.
-fn bare_instrs(alloc: Global, pieces: &[Piece]) -> Result<Vec<Instr>, AllocError>
-    ensures { IfOk result (λ v. v.items ≡ instrs_from 0 pieces.now []) }
-{
-    let mut instrs = Vec::with_capacity(alloc, pieces.len())?;
-    for piece in pieces {
-        instrs.push(Instr {
-            op: piece.op,
-            dests: Dests::new(alloc),
-            others: Dests::new(alloc),
-            place: piece.place,
-        })?;
-    }
-    Ok(instrs)
-}
-
-/// Adds an arc to the instruction that it comes from.
-fn connect(instrs: &mut Vec<Instr>, wire: &Wire) -> Result<(), AllocError>
-    requires { wire.now.from < vec_len instrs.old }
-    ensures { OnOk result (instrs.new.items ≡ connected instrs.old.items wire.now) }
-{
-    let dest = Dest {
-        instr: wire.to,
-        port: wire.port,
-    };
-    instrs[wire.from as usize].dests.push(dest)?;
-    Ok(())
 }

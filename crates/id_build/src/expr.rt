@@ -1,26 +1,31 @@
 //! The instructions of an expression (docs/GRAPH.md, "Schemas").
 
 ghost use Rattle.std.specs.Prelude.{◌≡◌, ◌<◌, ◌≤◌, ◌+◌, [], ◌∷◌, ◌++◌, length, IfOk, IfErr, OnOk};
-ghost use Rattle.id_build.specs.Expressions.{pieces_of, source_of, wires_of};
+ghost use Rattle.id_build.specs.Expressions.{labels_of, labels_of_stmt, labels_of_stmts, pieces_of, pieces_of_stmt, pieces_of_stmts, source_of, wires_of, wires_of_stmt, wires_of_stmts};
 ghost use Rattle.id_build.specs.declared.error.TheConstants.{MAX_INSTRUCTIONS};
+ghost use Rattle.id_build.specs.declared.draft.Origin.TheVariants.{Output};
 ghost use Rattle.id_build.specs.Roles.{binary_op, constant_of, unary_op};
 ghost use Rattle.id_meaning.specs.Parts.{literal_value};
 ghost use Rattle.id_graph.specs.declared.dests.Port.TheVariants.{One, Zero};
-ghost use Rattle.id_graph.specs.declared.instr.Op.TheVariants.{Binary, Const, Neg};
+ghost use Rattle.id_graph.specs.declared.instr.Op.TheVariants.{Binary, Const, Merge, Neg};
+ghost use Rattle.id_graph.specs.declared.instr.PortKind.TheVariants.{Int};
 
-use crate::draft::Draft;
+use crate::draft::{Draft, Origin};
 use crate::error::BuildError;
-use id_graph::{Arithmetic, Constant, Op, Port};
-use id_tree::{BinaryOp, Expr, UnaryOp};
+use id_graph::{Arithmetic, Constant, Op, Port, PortKind};
+use id_tree::{BinaryOp, Expr, Stmt, UnaryOp};
 
-/// Adds the instructions of an expression that the trigger turns on, and their arcs, and gives the
-/// number of the instruction that its value comes from.
-pub fn build_expr(draft: &mut Draft, expr: &Expr, trigger: u32) -> Result<u32, BuildError>
-    ensures source { IfOk result (λ n. n ≡ source_of expr.now (length draft.old.pieces.items)) }
+/// Adds the instructions of an expression that the trigger turns on, with their arcs and labels, and
+/// gives where its value comes from.
+#[cycle(build)]
+pub fn build_expr(draft: &mut Draft, expr: &Expr, trigger: u32) -> Result<Origin, BuildError>
+    ensures source { IfOk result (λ o. o ≡ source_of expr.now (length draft.old.pieces.items)) }
     ensures pieces { OnOk result
         (draft.new.pieces.items ≡ draft.old.pieces.items ++ pieces_of expr.now) }
     ensures wires { OnOk result (draft.new.wires.items
         ≡ draft.old.wires.items ++ wires_of expr.now (length draft.old.pieces.items) trigger) }
+    ensures labels { OnOk result (draft.new.labels.items
+        ≡ draft.old.labels.items ++ labels_of expr.now (length draft.old.pieces.items)) }
     ensures large { IfErr result (λ e. e ≡ BuildError.TooLarge
         → MAX_INSTRUCTIONS < length draft.old.pieces.items + length (pieces_of expr.now)) }
 {
@@ -45,67 +50,135 @@ pub fn build_expr(draft: &mut Draft, expr: &Expr, trigger: u32) -> Result<u32, B
             let source = build_binary(draft, *op, *place, left, right)?;
             Ok(source)
         }
+        Expr::Name { place, .. } => Ok(Origin::Named(*place)),
+        Expr::Block {
+            statements,
+            body,
+            ..
+        } => {
+            build_stmts(draft, statements.as_slice(), trigger)?;
+            let source = build_expr(draft, body, trigger)?;
+            Ok(source)
+        }
     }
 }
 
-/// Adds the `const` of a literal, fed by the trigger, and gives its number.
+/// Adds the instructions of statements, in order, with their arcs and labels.
+#[cycle(build)]
+fn build_stmts(draft: &mut Draft, stmts: &[Stmt], trigger: u32) -> Result<(), BuildError>
+    ensures pieces { OnOk result
+        (draft.new.pieces.items ≡ draft.old.pieces.items ++ pieces_of_stmts stmts.now) }
+    ensures wires { OnOk result (draft.new.wires.items
+        ≡ draft.old.wires.items ++ wires_of_stmts stmts.now (length draft.old.pieces.items) trigger) }
+    ensures labels { OnOk result (draft.new.labels.items
+        ≡ draft.old.labels.items ++ labels_of_stmts stmts.now (length draft.old.pieces.items)) }
+    ensures large { IfErr result (λ e. e ≡ BuildError.TooLarge
+        → MAX_INSTRUCTIONS < length draft.old.pieces.items + length (pieces_of_stmts stmts.now)) }
+{
+    for stmt in stmts {
+        build_stmt(draft, stmt, trigger)?;
+    }
+    Ok(())
+}
+
+/// Adds the instructions of a statement with their arcs and labels.
+#[cycle(build)]
+fn build_stmt(draft: &mut Draft, stmt: &Stmt, trigger: u32) -> Result<(), BuildError>
+    ensures pieces { OnOk result
+        (draft.new.pieces.items ≡ draft.old.pieces.items ++ pieces_of_stmt stmt.now) }
+    ensures wires { OnOk result (draft.new.wires.items
+        ≡ draft.old.wires.items ++ wires_of_stmt stmt.now (length draft.old.pieces.items) trigger) }
+    ensures labels { OnOk result (draft.new.labels.items
+        ≡ draft.old.labels.items ++ labels_of_stmt stmt.now (length draft.old.pieces.items)) }
+    ensures large { IfErr result (λ e. e ≡ BuildError.TooLarge
+        → MAX_INSTRUCTIONS < length draft.old.pieces.items + length (pieces_of_stmt stmt.now)) }
+{
+    match stmt {
+        Stmt::Binding { value, place, .. } => {
+            let source = build_expr(draft, value, trigger)?;
+            build_label(draft, *place, source)?;
+            Ok(())
+        }
+    }
+}
+
+/// Adds the label of a binder, fed by the value of its expression.
+fn build_label(draft: &mut Draft, binder: usize, value: Origin) -> Result<(), BuildError>
+    ensures pieces { OnOk result (draft.new.pieces.items
+        ≡ draft.old.pieces.items ++ record { op = Merge Int; place = binder } ∷ []) }
+    ensures wires { OnOk result (draft.new.wires.items ≡ draft.old.wires.items
+        ++ record { from = value; to = length draft.old.pieces.items; port = Zero } ∷ []) }
+    ensures labels { OnOk result (draft.new.labels.items ≡ draft.old.labels.items
+        ++ record { binder = binder; number = length draft.old.pieces.items } ∷ []) }
+    ensures large { IfErr result (λ e. e ≡ BuildError.TooLarge → MAX_INSTRUCTIONS ≤ length draft.old.pieces.items) }
+{
+    let number = draft.add(Op::Merge(PortKind::Int), binder)?;
+    draft.wire(value, number, Port::Zero)?;
+    draft.label(binder, number)?;
+    Ok(())
+}
+
+/// Adds the `const` of a literal, fed by the trigger, and gives its output.
 fn build_literal(
     draft: &mut Draft,
     constant: Constant,
     place: usize,
     trigger: u32,
-) -> Result<u32, BuildError>
-    ensures source { IfOk result (λ n. n ≡ length draft.old.pieces.items) }
+) -> Result<Origin, BuildError>
+    ensures source { IfOk result (λ o. o ≡ Output (length draft.old.pieces.items)) }
     ensures pieces { OnOk result (draft.new.pieces.items
         ≡ draft.old.pieces.items ++ record { op = Const constant; place = place } ∷ []) }
     ensures wires { OnOk result (draft.new.wires.items ≡ draft.old.wires.items
-        ++ record { from = trigger; to = length draft.old.pieces.items; port = Zero } ∷ []) }
+        ++ record { from = Output trigger; to = length draft.old.pieces.items; port = Zero } ∷ []) }
+    ensures labels { OnOk result (draft.new.labels.items ≡ draft.old.labels.items) }
     ensures large { IfErr result (λ e. e ≡ BuildError.TooLarge → MAX_INSTRUCTIONS ≤ length draft.old.pieces.items) }
 {
     let number = draft.add(Op::Const(constant), place)?;
-    draft.wire(trigger, number, Port::Zero)?;
-    Ok(number)
+    draft.wire(Origin::Output(trigger), number, Port::Zero)?;
+    Ok(Origin::Output(number))
 }
 
-/// Adds the operator of a unary expression, fed by its operand, and gives its number.
+/// Adds the operator of a unary expression, fed by its operand, and gives its output.
 fn build_unary(
     draft: &mut Draft,
     op: UnaryOp,
     place: usize,
-    operand: u32,
-) -> Result<u32, BuildError>
-    ensures source { IfOk result (λ n. n ≡ length draft.old.pieces.items) }
+    operand: Origin,
+) -> Result<Origin, BuildError>
+    ensures source { IfOk result (λ o. o ≡ Output (length draft.old.pieces.items)) }
     ensures pieces { OnOk result (draft.new.pieces.items
         ≡ draft.old.pieces.items ++ record { op = unary_op op; place = place } ∷ []) }
     ensures wires { OnOk result (draft.new.wires.items ≡ draft.old.wires.items
         ++ record { from = operand; to = length draft.old.pieces.items; port = Zero } ∷ []) }
+    ensures labels { OnOk result (draft.new.labels.items ≡ draft.old.labels.items) }
     ensures large { IfErr result (λ e. e ≡ BuildError.TooLarge → MAX_INSTRUCTIONS ≤ length draft.old.pieces.items) }
 {
     let number = draft.add(operator(op), place)?;
     draft.wire(operand, number, Port::Zero)?;
-    Ok(number)
+    Ok(Origin::Output(number))
 }
 
-/// Adds the operator of a binary expression, fed by its operands, and gives its number.
+/// Adds the operator of a binary expression, fed by its operands, and gives its output.
 fn build_binary(
     draft: &mut Draft,
     op: BinaryOp,
     place: usize,
-    left: u32,
-    right: u32,
-) -> Result<u32, BuildError>
-    ensures source { IfOk result (λ n. n ≡ length draft.old.pieces.items) }
+    left: Origin,
+    right: Origin,
+) -> Result<Origin, BuildError>
+    ensures source { IfOk result (λ o. o ≡ Output (length draft.old.pieces.items)) }
     ensures pieces { OnOk result (draft.new.pieces.items
         ≡ draft.old.pieces.items ++ record { op = Binary (binary_op op); place = place } ∷ []) }
     ensures wires { OnOk result (draft.new.wires.items ≡ draft.old.wires.items
         ++ record { from = left; to = length draft.old.pieces.items; port = Zero }
         ∷ record { from = right; to = length draft.old.pieces.items; port = One } ∷ []) }
+    ensures labels { OnOk result (draft.new.labels.items ≡ draft.old.labels.items) }
     ensures large { IfErr result (λ e. e ≡ BuildError.TooLarge → MAX_INSTRUCTIONS ≤ length draft.old.pieces.items) }
 {
     let number = draft.add(Op::Binary(arithmetic(op)), place)?;
     draft.wire(left, number, Port::Zero)?;
     draft.wire(right, number, Port::One)?;
-    Ok(number)
+    Ok(Origin::Output(number))
 }
 
 /// What the `const` of a literal sends.

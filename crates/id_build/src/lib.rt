@@ -6,9 +6,11 @@
 //! Not here: which graphs are sound (`id_valid`), what a graph means (`id_core`).
 #![tactic(auto)]
 
+mod arcs;
 mod draft;
 mod error;
 mod expr;
+mod joined;
 mod program;
 
 pub use error::{BuildError, MAX_INSTRUCTIONS};

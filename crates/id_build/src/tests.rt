@@ -1,59 +1,23 @@
-use crate::{BuildError, build};
+//! Graphs of texts. `~` is `def main(): int = `, whose body begins at 18.
+
+use crate::build;
 use id_check::check;
 use id_graph::{Arithmetic, Constant, Dest, Graph, Op, Port, PortKind};
-use id_text::{Identifier, Sequence};
-use id_tree::{BinaryOp, Def, Expr, Kind, Program, UnaryOp};
-use std::alloc::{AllocError, Global};
+use id_text::lex;
+use id_tree::parse;
+use std::alloc::Global;
 use std::process::Abort;
 use std::test::Fail;
 
-fn number(value: i64, place: usize) -> Expr {
-    let value = id_tree::Constant::Int(value);
-    Expr::Literal { value, place }
-}
-
-fn binary(
-    alloc: Global,
-    op: BinaryOp,
-    place: usize,
-    left: Expr,
-    right: Expr,
-) -> Result<Expr, AllocError> {
-    let left = Box::new(alloc, left)?;
-    let right = Box::new(alloc, right)?;
-    Ok(Expr::Binary {
-        op,
-        left,
-        right,
-        place,
-    })
-}
-
-fn negated(alloc: Global, place: usize, operand: Expr) -> Result<Expr, AllocError> {
-    let op = UnaryOp::Neg;
-    let operand = Box::new(alloc, operand)?;
-    Ok(Expr::Unary { op, operand, place })
-}
-
-/// `def NAME(): int = BODY;` with its name at the place.
-fn def(alloc: Global, name: &str, place: usize, body: Expr) -> Result<Def, AllocError> {
-    let name = Identifier::new(String::from_str(alloc, name)?);
-    let result = Kind::Int;
-    Ok(Def {
-        name,
-        result,
-        body,
-        place,
-    })
-}
-
-fn graph(alloc: Global, defs: Vec<Def>) -> Result<Graph, Fail> {
-    let defs = Sequence::new(defs);
-    let checked = check(Program { defs }).map_err(|error| error.cause)?;
+/// The graph of a text.
+fn graph(alloc: Global, text: &str) -> Result<Graph, Fail> {
+    let tokens = lex(alloc, text)?;
+    let program = parse(alloc, tokens.as_slice())?;
+    let checked = check(alloc, program).map_err(|error| error.cause)?;
     Ok(build(alloc, &checked)?)
 }
 
-/// A line of a listing: what an instruction does, its place, and where its results go.
+/// A line of a listing: what an instruction does, its place, and where its results go, in whatever order.
 #[derive(Clone, Copy)]
 struct Line(Op, usize, &'static [(u32, Port)]);
 
@@ -65,12 +29,12 @@ fn assert_lines(rt: &impl Abort, graph: &Graph, lines: &[Line]) {
         assert_eq!(rt; instr.place, *place, "the place of {number}");
         let found = instr.dests.as_slice();
         assert_eq!(rt; found.len(), dests.len(), "the destinations of {number}");
-        for (found, (instr, port)) in found.iter().zip(*dests) {
+        for (instr, port) in *dests {
             let wanted = Dest {
                 instr: *instr,
                 port: *port,
             };
-            assert_eq!(rt; *found, wanted, "a destination of {number}");
+            assert!(rt; found.contains(&wanted), "a destination of {number}");
         }
         assert!(rt;
             instr.others.as_slice().is_empty(),
@@ -89,13 +53,17 @@ fn sends(value: i64) -> Op {
     Op::Const(Constant::Int(value))
 }
 
-/// `def main(): int = 2 + 3 * 4;`
+const ADD: Op = Op::Binary(Arithmetic::Add);
+
+const MUL: Op = Op::Binary(Arithmetic::Mul);
+
+/// The label of a binder.
+const LABEL: Op = Op::Merge(PortKind::Int);
+
+/// `~2 + 3 * 4;`
 #[test]
 fn builds_a_sum_and_a_product(rt: HostRuntime) -> Result<(), Fail> {
-    let alloc = rt.alloc();
-    let product = binary(alloc, BinaryOp::Mul, 24, number(3, 22), number(4, 26))?;
-    let sum = binary(alloc, BinaryOp::Add, 20, number(2, 18), product)?;
-    let graph = graph(alloc, vec![in alloc; def(alloc, "main", 4, sum)?]?)?;
+    let graph = graph(rt.alloc(), "def main(): int = 2 + 3 * 4;")?;
     let lines = [
         Line(ANSWER, 4, &[]),
         Line(
@@ -107,8 +75,8 @@ fn builds_a_sum_and_a_product(rt: HostRuntime) -> Result<(), Fail> {
         Line(sends(2), 18, &[(7, Port::Zero)]),
         Line(sends(3), 22, &[(6, Port::Zero)]),
         Line(sends(4), 26, &[(6, Port::One)]),
-        Line(Op::Binary(Arithmetic::Mul), 24, &[(7, Port::One)]),
-        Line(Op::Binary(Arithmetic::Add), 20, &[(2, Port::One)]),
+        Line(MUL, 24, &[(7, Port::One)]),
+        Line(ADD, 20, &[(2, Port::One)]),
     ];
     assert_lines(&rt, &graph, &lines);
     assert_eq!(rt; graph.blocks().len(), 1);
@@ -117,25 +85,76 @@ fn builds_a_sum_and_a_product(rt: HostRuntime) -> Result<(), Fail> {
     Ok(())
 }
 
-/// `def f(): int = -1;` and `def main(): int = 7;` on the next line.
+/// `~-1;`
 #[test]
-fn builds_a_block_for_each_procedure(rt: HostRuntime) -> Result<(), Fail> {
-    let alloc = rt.alloc();
-    let first = def(alloc, "f", 4, negated(alloc, 15, number(1, 16))?)?;
-    let second = def(alloc, "main", 23, number(7, 37))?;
-    let graph = graph(alloc, vec![in alloc; first, second]?)?;
+fn builds_a_negation(rt: HostRuntime) -> Result<(), Fail> {
+    let graph = graph(rt.alloc(), "def main(): int = -1;")?;
     let lines = [
-        Line(ANSWER, 23, &[]),
+        Line(ANSWER, 4, &[]),
         Line(TRIGGER, 4, &[(3, Port::Zero)]),
         Line(BACK, 4, &[]),
-        Line(sends(1), 16, &[(4, Port::Zero)]),
-        Line(Op::Neg, 15, &[(2, Port::One)]),
-        Line(TRIGGER, 23, &[(7, Port::Zero)]),
-        Line(BACK, 23, &[]),
-        Line(sends(7), 37, &[(6, Port::One)]),
+        Line(sends(1), 19, &[(4, Port::Zero)]),
+        Line(Op::Neg, 18, &[(2, Port::One)]),
     ];
     assert_lines(&rt, &graph, &lines);
-    assert_eq!(rt; graph.blocks().len(), 2);
-    assert_eq!(rt; graph.blocks()[1].first, 5);
+    Ok(())
+}
+
+/// `~{ y = x + 1; x = 4; in y };`: a name may stand before its binding.
+#[test]
+fn builds_a_label_for_each_binding(rt: HostRuntime) -> Result<(), Fail> {
+    let graph = graph(rt.alloc(), "def main(): int = { y = x + 1; x = 4; in y };")?;
+    let lines = [
+        Line(ANSWER, 4, &[]),
+        Line(TRIGGER, 4, &[(3, Port::Zero), (6, Port::Zero)]),
+        Line(BACK, 4, &[]),
+        Line(sends(1), 28, &[(4, Port::One)]),
+        Line(ADD, 26, &[(5, Port::Zero)]),
+        Line(LABEL, 20, &[(2, Port::One)]),
+        Line(sends(4), 35, &[(7, Port::Zero)]),
+        Line(LABEL, 31, &[(4, Port::Zero)]),
+    ];
+    assert_lines(&rt, &graph, &lines);
+    Ok(())
+}
+
+/// `~{ x = x; in x };`: the label feeds itself.
+#[test]
+fn builds_a_binding_of_itself(rt: HostRuntime) -> Result<(), Fail> {
+    let graph = graph(rt.alloc(), "def main(): int = { x = x; in x };")?;
+    let lines = [
+        Line(ANSWER, 4, &[]),
+        Line(TRIGGER, 4, &[]),
+        Line(BACK, 4, &[]),
+        Line(LABEL, 20, &[(2, Port::One), (3, Port::Zero)]),
+    ];
+    assert_lines(&rt, &graph, &lines);
+    Ok(())
+}
+
+/// `~{ x = 1; y = { x = 2 * x; in x + z }; z = -y; in x + y };`: the inner block has an `x` of its own,
+/// and sees the outer `z`.
+#[test]
+fn builds_a_block_in_a_block(rt: HostRuntime) -> Result<(), Fail> {
+    let graph = graph(
+        rt.alloc(),
+        "def main(): int = { x = 1; y = { x = 2 * x; in x + z }; z = -y; in x + y };",
+    )?;
+    let lines = [
+        Line(ANSWER, 4, &[]),
+        Line(TRIGGER, 4, &[(3, Port::Zero), (5, Port::Zero)]),
+        Line(BACK, 4, &[]),
+        Line(sends(1), 24, &[(4, Port::Zero)]),
+        Line(LABEL, 20, &[(12, Port::Zero)]),
+        Line(sends(2), 37, &[(6, Port::Zero)]),
+        Line(MUL, 39, &[(7, Port::Zero)]),
+        Line(LABEL, 33, &[(6, Port::One), (8, Port::Zero)]),
+        Line(ADD, 49, &[(9, Port::Zero)]),
+        Line(LABEL, 27, &[(10, Port::Zero), (12, Port::One)]),
+        Line(Op::Neg, 60, &[(11, Port::Zero)]),
+        Line(LABEL, 56, &[(8, Port::One)]),
+        Line(ADD, 69, &[(2, Port::One)]),
+    ];
+    assert_lines(&rt, &graph, &lines);
     Ok(())
 }

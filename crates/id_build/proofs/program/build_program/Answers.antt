@@ -1,27 +1,18 @@
--- The draft's arcs fit, so its instructions with them are a graph.
-use Rattle.std.proofs.Common.{◌∙◌, ap, length, List, subst, sym, arith}
-use Rattle.std.specs.Prelude.{All}
-use Rattle.id_build.proofs.FitLemmas.{AllFit-program, Fits, PortsExist-fit}
-use Rattle.id_build.proofs.JoinedLemmas.{length-instrs_from}
-use Rattle.id_graph.specs.Graph.{parts, PortsExist}
-use Rattle.id_graph.specs.declared.instr.Instr.{Instr}
+-- The draft of the program is whole.
+use Rattle.std.proofs.Common.{◌∙◌, ◌∷◌, [], ◌++◌, ap}
+use Rattle.id_build.proofs.PlacesLemmas.{Distinct-checked}
+use Rattle.id_build.proofs.WholeLemmas.{IsWhole-built}
+use Rattle.id_build.specs.Expressions.{piece}
+use Rattle.id_graph.specs.declared.instr.Op.TheVariants.{Merge}
 use Rattle.id_build.proofs.program.build_program.Goals as goal
 
-pub join-requires : goal.join-requires
-join-requires c =
+pub join_draft-requires : goal.join_draft-requires
+join_draft-requires c =
+    let P = c.args.checked.now in
     let d = c.build_defs.new.draft in
-    let all : All (Fits d.pieces.items) d.wires.items = AllFit-program d.pieces.items c.add.new.self.pieces.items c.as_slice.result.now c.add.new.self.wires.items d.wires.items c.in_ok-blocks.ensures.pieces (c.in_ok-add.ensures.wires ∙ c.new-draft.ensures.wires) c.in_ok-blocks.ensures.wires in
-    λ k w h. (all k w h).from
-
-pub new-requires : goal.new-requires
-new-requires c =
-    let d = c.build_defs.new.draft in
-    omega (arith, ap length c.in_ok-instrs.ensures, length-instrs_from 0 d.pieces.items d.wires.items, d.few, d.pieces.ok.0, c.in_ok-instrs.instrs.ok.0)
-
-pub unwrap-requires : goal.unwrap-requires
-unwrap-requires c =
-    let d = c.build_defs.new.draft in
-    let all : All (Fits d.pieces.items) d.wires.items = AllFit-program d.pieces.items c.add.new.self.pieces.items c.as_slice.result.now c.add.new.self.wires.items d.wires.items c.in_ok-blocks.ensures.pieces (c.in_ok-add.ensures.wires ∙ c.new-draft.ensures.wires) c.in_ok-blocks.ensures.wires in
-    let bs = c.in_ok-blocks.blocks.items in
-    let P : List Instr → Type 0 = λ l. PortsExist (parts bs l) in
-    c.new.ensures.accepts.1 (subst P (sym c.in_ok-instrs.ensures) (PortsExist-fit bs d.pieces.items d.wires.items all))
+    let old = c.add.new.self in
+    let place = c.args.main.now.place in
+    let first = c.in_ok-add.ensures.pieces ∙ ap (λ l. l ++ piece (Merge c.port_kind.result) place ∷ []) c.new-draft.ensures.pieces ∙ ap (λ k. piece (Merge k) place ∷ []) c.port_kind.ensures in
+    IsWhole-built P c.args.main.now c.as_slice.result.now d.pieces.items old.pieces.items d.wires.items old.wires.items d.labels.items old.labels.items c.requires (Distinct-checked P) c.as_slice.ensures
+    first (c.in_ok-add.ensures.wires ∙ c.new-draft.ensures.wires) (c.in_ok-add.ensures.labels ∙ c.new-draft.ensures.labels)
+    c.in_ok-blocks.ensures.pieces c.in_ok-blocks.ensures.wires c.in_ok-blocks.ensures.labels

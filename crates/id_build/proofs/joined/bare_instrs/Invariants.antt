@@ -1,7 +1,7 @@
 -- The instructions so far, and those of the pieces that are left.
 use Rattle.std.proofs.Common.{◌≡◌, ◌++◌, [], drop}
 use Rattle.id_build.specs.Joined.{instrs_from}
-use Rattle.id_build.proofs.draft.bare_instrs.Given as goal
+use Rattle.id_build.proofs.joined.bare_instrs.Given as goal
 
 abbrev pub invariant-loop-piece : goal.invariant-loop-piece
 invariant-loop-piece l =
