@@ -1,4 +1,5 @@
 pub mod EventsLemmas
+pub mod LinesLemmas
 pub mod StepsLemmas
 pub mod ReplaysLemmas
 pub mod FitsLemmas
@@ -7,3 +8,6 @@ pub mod OutcomeLemmas
 pub mod FiringsLemmas
 pub mod MachinesLemmas
 pub mod ObservedLemmas
+pub mod OrderedLemmas
+pub mod MergedLemmas
+pub mod RecordsLemmas

@@ -1,16 +1,17 @@
 -- Lemmas on specs/Observed.antt: walks over records, one event and one element after another.
 use Rattle.std.proofs.Common.{◌≡◌, ℕ, suc, ◌+◌, Option, Some, None, List, [], ◌∷◌, ◌++◌, map, take, drop, refl, sym, ap, ◌∙◌, append-nil}
-use Rattle.std.specs.Prelude.{true, false, is_some, slice_get}
+use Rattle.std.specs.Prelude.{Bool, true, false, is_some, slice_get, unwrap_or, option_map}
 use Rattle.std.specs.List.{filter_map, cons_option}
 use Rattle.std.proofs.lemmas.List.{take_more, take-append-drop, map-append}
 use Rattle.std.proofs.lemmas.List.Elements.{filter_map-append}
 use Rattle.std.proofs.lemmas.Grind.{flat_map-append}
-use Rattle.std.proofs.lemmas.Option.{slice_get_within, get_or_from_slice_get}
+use Rattle.std.proofs.lemmas.Option.{slice_get_within, get_or_from_slice_get, slice_get-map}
 use Rattle.std.proofs.Math.Seq.{drop-cons}
+use Rattle.id_graph.specs.declared.instr.Instr.{Instr}
 use Rattle.id_graph.specs.Graph.{Parts}
 use Rattle.id_tag.specs.declared.Value.{Value}
 use Rattle.id_core.specs.Replays.{ElementView}
-use Rattle.id_core.specs.Observed.{events_of, answers, faults_in, fault_of}
+use Rattle.id_core.specs.Observed.{events_of, answers, faults_in, fault_of, names_in, name_in, label_marks, is_label, is_label_of}
 
 -- one more element at the end of what was walked over
 take-next : {A : Type 0} (xs : List A) (i : ℕ) (x : A) → slice_get xs i ≡ Some x → take (i + 1) xs ≡ take i xs ++ x ∷ []
@@ -97,3 +98,25 @@ pub faults-next : (g : Parts) (es : List ElementView) (i : ℕ) (e : ElementView
 faults-next g es i e at =
     ap (filter_map (λ v. fault_of g v.step)) (events-next es i e at)
     ∙ filter_map-append (λ v. fault_of g v.step) (events_of (map (λ x. x.state) (take i es))) e.state.events
+
+-- the names of one more record come after those before
+pub names-next : (g : Parts) (es : List ElementView) (i : ℕ) (e : ElementView) → slice_get es i ≡ Some e
+    → names_in g (map (λ x. x.state) (take (i + 1) es)) ≡ names_in g (map (λ x. x.state) (take i es)) ++ filter_map (λ v. name_in g v.message.payload) e.state.events
+names-next g es i e at =
+    ap (filter_map (λ v. name_in g v.message.payload)) (events-next es i e at)
+    ∙ filter_map-append (λ v. name_in g v.message.payload) (events_of (map (λ x. x.state) (take i es))) e.state.events
+
+-- the mark of a number, where there is one, says whether its instruction is a label
+pub is_label-from_mark : (g : Parts) (n : ℕ) → unwrap_or (slice_get (label_marks g) n) false ≡ is_label g n
+is_label-from_mark g n = ap (λ x. unwrap_or x false) (slice_get-map (λ i. is_label_of g (Some i)) g.instrs n) ∙ from (slice_get g.instrs n)
+  where
+    from : (i : Option Instr) → unwrap_or (option_map (λ j. is_label_of g (Some j)) i) false ≡ is_label_of g i
+    from None = refl
+    from (Some i) = refl
+
+-- the marks of the instructions so far, and of one more
+pub marks-next : (g : Parts) (is : List Instr) (k : ℕ) (i : Instr) (m : Bool) → slice_get is k ≡ Some i → m ≡ is_label_of g (Some i)
+    → map (λ j. is_label_of g (Some j)) (take (k + 1) is) ≡ map (λ j. is_label_of g (Some j)) (take k is) ++ m ∷ []
+marks-next g is k i m at mark =
+    ap (map (λ j. is_label_of g (Some j))) (take-next is k i at) ∙ map-append (λ j. is_label_of g (Some j)) (take k is) (i ∷ [])
+    ∙ ap (λ b. map (λ j. is_label_of g (Some j)) (take k is) ++ b ∷ []) (sym mark)

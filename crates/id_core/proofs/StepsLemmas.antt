@@ -1,5 +1,6 @@
 -- Lemmas on specs/Steps.antt, in the order of its definitions.
-use Rattle.std.proofs.Common.{◌≡◌, ℕ, ◌+◌, ◌≤◌, ◌<◌, List, [], ◌∷◌, ◌++◌, length, map, max, take, get_or, refl, ap, ◌∙◌, arith}
+use Rattle.std.specs.Prelude.{slice_get}
+use Rattle.std.proofs.Common.{zero, suc, Some, ◌≡◌, ℕ, ◌+◌, ◌≤◌, ◌<◌, List, [], ◌∷◌, ◌++◌, length, map, max, take, get_or, refl, ap, ◌∙◌, arith}
 use Rattle.std.proofs.lemmas.List.{length-map, length-take, map_more}
 use Rattle.id_graph.specs.declared.dests.Dest.{Dest}
 use Rattle.id_tag.specs.declared.Tag.{Tag}
@@ -39,3 +40,14 @@ numbered-more n p s t v ds i d x lt is =
 pub length-numbered : (n p s k : ℕ) (xs : List Payload) → length (numbered n p s k xs) ≡ length xs
 length-numbered n p s k [] = refl
 length-numbered n p s k (x ∷ xs) = omega (arith, length-numbered n p s (k + 1) xs)
+
+-- the message of each number
+pub numbered-get : (n p s k : ℕ) (xs : List Payload) (i : ℕ) (x : Payload) → slice_get xs i ≡ Some x → slice_get (numbered n p s k xs) i ≡ Some (numbered_as n p s (k + i) x)
+numbered-get n p s k [] i x is = cc
+numbered-get n p s k (y ∷ ys) zero x is =
+    let same : y ≡ x = cc in
+    let here : k ≡ k + 0 = omega arith in
+    ap (λ z. Some (numbered_as n p s k z)) same ∙ ap (λ j. Some (numbered_as n p s j x)) here
+numbered-get n p s k (y ∷ ys) (suc i) x is =
+    let there : k + 1 + i ≡ k + suc i = omega arith in
+    numbered-get n p s (k + 1) ys i x is ∙ ap (λ j. Some (numbered_as n p s j x)) there

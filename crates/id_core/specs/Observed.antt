@@ -1,7 +1,10 @@
 -- What a run shows (docs/MACHINE.md, "Observed").
-use Rattle.std.specs.Prelude.{ℕ, List, [], Option, Some, None, slice_get, option_and_then, if◌then◌else◌}
+use Rattle.std.specs.Prelude.{ℕ, Bool, false, ◌&&◌, ◌==◌, count_by, List, [], map, Option, Some, None, slice_get, option_and_then, if◌then◌else◌}
 use Rattle.std.specs.Option.{option_map_or}
 use Rattle.std.specs.List.{filter_map, flat_map}
+use Rattle.id_graph.specs.declared.instr.Op.{Op}
+use Rattle.id_graph.specs.declared.instr.Op.TheVariants as op
+use Rattle.id_graph.specs.declared.instr.Instr.{Instr}
 use Rattle.id_graph.specs.Graph.{Parts}
 use Rattle.id_tag.specs.declared.Value.{Value}
 use Rattle.id_tag.specs.declared.Value.TheVariants as value
@@ -16,6 +19,8 @@ use Rattle.id_meaning.specs.declared.FaultKind.{FaultKind}
 use Rattle.id_meaning.specs.declared.FaultKind.TheVariants as kind
 use Rattle.id_meaning.specs.declared.Path.{Path}
 use Rattle.id_meaning.specs.declared.SourceFault.{SourceFault}
+use Rattle.id_meaning.specs.declared.NameValue.{NameValue}
+use Rattle.id_valid.specs.Validator.{is_value}
 use Rattle.id_core.specs.declared.step.Step.{Step}
 use Rattle.id_core.specs.declared.step.Step.TheVariants.{Went, Fault, Stuck}
 use Rattle.id_core.specs.declared.step.Fault.TheVariants.{Operator}
@@ -76,3 +81,40 @@ faults_in g elements = filter_map (λ e. fault_of g e.step) (events_of elements)
 -- the faults of the source that a machine shows
 abbrev pub faults : Parts → World → List SourceFault
 faults g s = faults_in g s.elements
+
+-- a merge for values of the source
+abbrev pub is_value_merge : Op → Bool
+is_value_merge (op.Merge k) = is_value k
+is_value_merge _ = false
+
+-- whether the instruction is a label: a merge for values of the source whose place no other instruction has
+abbrev pub is_label_of : Parts → Option Instr → Bool
+is_label_of g None = false
+is_label_of g (Some i) = is_value_merge i.op && (count_by (λ j. j.place == i.place) g.instrs == 1)
+
+-- whether the instruction of this number is a label
+abbrev pub is_label : Parts → ℕ → Bool
+is_label g n = is_label_of g (slice_get g.instrs n)
+
+-- what the binder of the label of this number Has, where a token brought it that value
+abbrev pub name_at : Parts → ℕ → Option SourceValue → Option NameValue
+name_at g n None = None
+name_at g n (Some v) = Some (record { path = main_path; place = place_of g n; value = v })
+
+-- what a binder Has, where a token was handled by its label
+abbrev pub name_in : Parts → Payload → Option NameValue
+name_in g (Token t p v) = if is_label g t.instr then name_at g t.instr (source_value v) else None
+
+-- what the records of these elements show that binders Have
+abbrev pub names_in : Parts → List State → List NameValue
+names_in g elements = filter_map (λ e. name_in g e.message.payload) (events_of elements)
+
+-- what a machine shows that binders Have
+abbrev pub names : Parts → World → List NameValue
+names g s = names_in g s.elements
+
+-- For use inside.
+
+-- of each instruction, by number, whether it is a label
+abbrev pub label_marks : Parts → List Bool
+label_marks g = map (λ i. is_label_of g (Some i)) g.instrs

@@ -15,8 +15,7 @@ use std::marker::Model;
 #[derive(Drop)]
 pub struct Element<'a> {
     count: u32,
-    graph: &'a Valid,
-    desk: Desk,
+    desk: Desk<'a>,
     went: bool,
 }
 
@@ -33,14 +32,14 @@ impl<'a> Model for Element<'a> {
     ghost view = { λ e. record {
       number = e.desk.log.element;
       count = e.count;
-      graph = e.graph.now;
+      graph = e.desk.log.graph;
       state = state_of e.desk;
     } };
 
     ghost invariant = { λ e. IsKept (record {
       number = e.desk.log.element;
       count = e.count;
-      graph = e.graph.now;
+      graph = e.desk.log.graph;
       state = state_of e.desk;
     }) e.went };
 }
@@ -62,8 +61,7 @@ impl<'a> Element<'a> {
     {
         Element {
             count,
-            graph,
-            desk: Desk::new(alloc, number),
+            desk: Desk::new(alloc, number, graph),
             went: true,
         }
     }
@@ -84,7 +82,8 @@ impl<'a> Element<'a> {
         ensures err { OnErr result (self.new ≡ self.old) }
         ensures err_outputs { OnErr result (outputs.new.items ≡ outputs.old.items) }
     {
-        let step = self.desk.take(self.graph.graph(), message, outputs)?;
+        let graph = self.desk.log.graph();
+        let step = self.desk.take(graph.graph(), message, outputs)?;
         self.went = still_went(self.went, step);
         Ok(step)
     }

@@ -1,62 +1,61 @@
-//! The record of an element: flat lists of what was handled and of what was sent, seen as a list of events.
+//! The record of an element: a line for each event, seen as a list of events.
 
-ghost use Rattle.std.specs.Prelude.{◌≡◌};
-ghost use Rattle.id_core.specs.Events.{full_step};
+ghost use Rattle.std.specs.Prelude.{◌≡◌, ◌<◌, ◌++◌, ◌∷◌, [], vec_len, vec_capacity};
+ghost use Rattle.id_core.specs.Events.{full_step, tag_of};
+ghost use Rattle.id_core.specs.Records.{dests_at};
 
+use crate::line::{Handled, Line, line_aside, packed, unpack};
+use crate::outcome::Envelope;
+use crate::outputs::Outputs;
 use crate::step::{Fault, Step, Verdict};
-use id_tag::{Message, Payload};
+use id_graph::{Dest, Graph};
+use id_tag::{Message, Payload, Tag};
+use id_valid::Valid;
 use std::alloc::{AllocError, Global};
 use std::marker::Model;
 
-/// A message that was handled: its stamp, what it came to, and which of the record's outputs are its own.
-#[derive(Clone, Copy, Debug)]
-struct Handled {
-    message: Message,
-    stamp: u64,
-    from: usize,
-    to: usize,
-    verdict: Verdict,
-}
-
-/// The events of one element, in order.
-#[derive(Debug, Drop)]
-pub(crate) struct Record {
+/// The events of one element of a graph, in order.
+#[derive(Drop)]
+pub(crate) struct Record<'a> {
+    graph: &'a Valid,
     element: u32,
-    handled: Vec<Handled>,
-    outputs: Vec<Message>,
+    lines: Vec<Line>,
+    asides: Vec<Handled>,
 }
 
-impl Model for Record {
-    ghost use Rattle.std.specs.Prelude.{◌-◌, ◌≤◌, vec_len, vec_capacity, length, All};
-    ghost use Rattle.id_core.specs.Events.{RecordView, unpacked_all};
+impl<'a> Model for Record<'a> {
+    ghost use Rattle.std.specs.Prelude.{◌-◌, vec_len, vec_capacity, All};
+    ghost use Rattle.id_core.specs.Lines.{IsWithin};
+    ghost use Rattle.id_core.specs.Records.{RecordView, events_from};
 
     ghost Value = { RecordView };
 
     ghost view = { λ r. record {
       element = r.element;
-      events = unpacked_all r.element r.handled.items r.outputs.items;
-      room = vec_capacity r.handled - vec_len r.handled;
-      room_for_outputs = vec_capacity r.outputs - vec_len r.outputs;
+      graph = r.graph.now;
+      events = events_from r.graph.now r.element 0 r.asides.items r.lines.items;
+      room = vec_capacity r.lines - vec_len r.lines;
+      room_aside = vec_capacity r.asides - vec_len r.asides;
     } };
 
-    ghost invariant = { λ r. All (λ h. (h.from ≤ h.to) × (h.to ≤ length r.outputs.items)) r.handled.items };
+    ghost invariant = { λ r. All (IsWithin r.asides.items) r.lines.items };
 }
 
 /// An event: the element that handled the message, the stamp that it gave it, what it sent, and what
 /// it came to.
-#[derive(Clone, Copy, Debug)]
+#[derive(Debug, Drop)]
 pub struct Event<'a> {
     pub element: u32,
     pub stamp: u64,
     pub message: Message,
-    pub outputs: &'a [Message],
+    pub outputs: Outputs<'a>,
     pub step: Step,
 }
 
 /// The events of a record, in order.
-#[derive(Debug, Drop)]
+#[derive(Drop)]
 pub struct Events<'a> {
-    record: &'a Record,
+    record: &'a Record<'a>,
 }
 
 impl<'a> Model for Events<'a> {
@@ -68,65 +67,53 @@ impl<'a> Model for Events<'a> {
     ghost view = { λ e. e.record.now.events };
 }
 
-impl Record {
-    ghost use Rattle.std.specs.Prelude.{◌≡◌, ◌<◌, ◌≤◌, ◌++◌, ◌∷◌, [], length, OnOk};
-    ghost use Rattle.id_core.specs.Events.{full_step};
+impl<'a> Record<'a> {
+    ghost use Rattle.std.specs.Prelude.{◌≡◌, ◌<◌, ◌≤◌, ◌++◌, ◌∷◌, [], length, slice_get, Some, OnOk};
+    ghost use Rattle.id_core.specs.Records.{event_of_handled};
 
     /// The empty record of the element of this number. Takes no memory.
-    pub(crate) fn new(alloc: Global, element: u32) -> Record
+    pub(crate) fn new(alloc: Global, element: u32, graph: &'a Valid) -> Record<'a>
         ensures events { result.events ≡ [] }
         ensures element { result.element ≡ element }
+        ensures graph { result.graph ≡ graph.now }
     {
         Record {
+            graph,
             element,
-            handled: Vec::new(alloc),
-            outputs: Vec::new(alloc),
+            lines: Vec::new(alloc),
+            asides: Vec::new(alloc),
         }
     }
 
-    /// Makes room for one more event, with as many outputs.
-    pub(crate) fn reserve(&mut self, outputs: usize) -> Result<(), AllocError>
+    /// Makes room for one more event.
+    pub(crate) fn reserve(&mut self) -> Result<(), AllocError>
         ensures events { self.new.events ≡ self.old.events }
         ensures element { self.new.element ≡ self.old.element }
+        ensures graph { self.new.graph ≡ self.old.graph }
         ensures room { OnOk result (0 < self.new.room) }
-        ensures room_for_outputs { OnOk result (outputs ≤ self.new.room_for_outputs) }
+        ensures room_aside { OnOk result (0 < self.new.room_aside) }
     {
-        self.handled.reserve(1)?;
-        self.outputs.reserve(outputs)?;
+        self.lines.reserve(1)?;
+        self.asides.reserve(1)?;
         Ok(())
     }
 
     /// Adds an event at the end. Takes no memory.
-    pub(crate) fn push(
-        &mut self,
-        message: Message,
-        stamp: u64,
-        verdict: Verdict,
-        outputs: &[Message],
-    )
+    pub(crate) fn push(&mut self, event: Handled)
         requires room { 0 < self.old.room }
-        requires room_for_outputs { length outputs.now ≤ self.old.room_for_outputs }
+        requires room_aside { 0 < self.old.room_aside }
         ensures element { self.new.element ≡ self.old.element }
-        ensures events { self.new.events ≡ self.old.events ++ record {
-          element = self.old.element;
-          stamp = stamp;
-          message = message;
-          outputs = outputs.now;
-          step = full_step message.payload verdict;
-        } ∷ [] }
+        ensures graph { self.new.graph ≡ self.old.graph }
+        ensures events { self.new.events ≡ self.old.events ++ event_of_handled self.old.graph self.old.element (length self.old.events) event ∷ [] }
     {
-        let from = self.outputs.len();
-        if self.outputs.extend_from_slice(outputs).is_err() {
-            unreachable!()
+        match packed(&event) {
+            Some(line) => add_line(&mut self.lines, line),
+            None => {
+                let index = self.asides.len();
+                self.asides.push_reserved(event);
+                add_line(&mut self.lines, line_aside(index));
+            }
         }
-        let to = self.outputs.len();
-        self.handled.push_reserved(Handled {
-            message,
-            stamp,
-            from,
-            to,
-            verdict,
-        });
     }
 
     /// The events, in order. Takes no memory.
@@ -143,17 +130,55 @@ impl Record {
         self.element
     }
 
+    /// The graph. Takes no memory.
+    pub(crate) fn graph(&self) -> &'a Valid
+        ensures { result.now ≡ self.now.graph }
+    {
+        self.graph
+    }
+
     /// How many events there are. Takes no memory.
     pub(crate) fn len(&self) -> usize
         ensures { result ≡ length self.now.events }
     {
-        self.handled.len()
+        self.lines.len()
+    }
+
+    fn event(&self, position: usize) -> Event<'a>
+        requires { position < length self.now.events }
+        ensures { slice_get self.now.events position ≡ Some (record {
+          element = result.element;
+          stamp = result.stamp;
+          message = result.message;
+          outputs = result.outputs;
+          step = result.step;
+        }) }
+    {
+        let line = &self.lines[position];
+        let handled = unpack(self.asides.as_slice(), line);
+        let tag = tag_of(&handled.message.payload);
+        let envelope = Envelope {
+            number: self.element,
+            position,
+            stamp: handled.stamp,
+        };
+        Event {
+            element: self.element,
+            stamp: handled.stamp,
+            message: handled.message,
+            outputs: Outputs::new(
+                dests_at(self.graph.graph(), tag.instr),
+                tag,
+                handled.reaction.fired,
+                envelope,
+            ),
+            step: full_step(&handled.message.payload, handled.reaction.verdict),
+        }
     }
 }
 
 impl<'a> Events<'a> {
     ghost use Rattle.std.specs.Prelude.{◌≡◌, ◌<◌, length, slice_get, Some};
-    ghost use Rattle.id_core.specs.Events.{EventView};
 
     /// How many events there are. Takes no memory.
     pub fn len(&self) -> usize
@@ -169,7 +194,7 @@ impl<'a> Events<'a> {
           element = result.element;
           stamp = result.stamp;
           message = result.message;
-          outputs = result.outputs.now;
+          outputs = result.outputs;
           step = result.step;
         }) }
     {
@@ -178,39 +203,42 @@ impl<'a> Events<'a> {
     }
 }
 
-impl Record {
-    ghost use Rattle.std.specs.Prelude.{◌≡◌, ◌<◌, length, slice_get, Some};
-    ghost use Rattle.id_core.specs.Events.{EventView};
+/// Adds a line at the end. Takes no memory.
+fn add_line(lines: &mut Vec<Line>, line: Line)
+    requires { vec_len lines.old < vec_capacity lines.old }
+    ensures { lines.new.items ≡ lines.old.items ++ line ∷ [] }
+{
+    lines.push_reserved(line);
+}
 
-    fn event(&self, position: usize) -> Event<'_>
-        requires { position < length self.now.events }
-        ensures { slice_get self.now.events position ≡ Some (record {
-          element = result.element;
-          stamp = result.stamp;
-          message = result.message;
-          outputs = result.outputs.now;
-          step = result.step;
-        }) }
-    {
-        let line = self.handled[position];
-        Event {
-            element: self.element,
-            stamp: line.stamp,
-            message: line.message,
-            outputs: &self.outputs[line.from..line.to],
-            step: full_step(&line.message.payload, line.verdict),
-        }
+/// The destinations of the instruction of this number.
+fn dests_at(graph: &Graph, number: u32) -> &[Dest]
+    ensures { result.now ≡ dests_at graph.now number }
+{
+    match graph.instrs().get(number as usize) {
+        Some(instr) => instr.dests.as_slice(),
+        None => &[],
     }
+}
+
+/// The tag that a payload names.
+pub(crate) fn tag_of(payload: &Payload) -> Tag
+    ensures { result ≡ tag_of payload.now }
+{
+    let Payload::Token { tag, .. } = *payload;
+    tag
 }
 
 /// What a verdict on a message says in full.
 pub(crate) fn full_step(payload: &Payload, verdict: Verdict) -> Step
     ensures { result ≡ full_step payload.now verdict }
 {
-    let Payload::Token { tag, .. } = *payload;
     match verdict {
         Verdict::Went => Step::Went,
-        Verdict::Failed(fault) => Step::Fault(Fault::Operator { fault, tag }),
+        Verdict::Failed(fault) => Step::Fault(Fault::Operator {
+            fault,
+            tag: tag_of(payload),
+        }),
         Verdict::Stuck => Step::Stuck,
     }
 }

@@ -11,9 +11,12 @@ mod element;
 mod fitting;
 mod flight;
 mod history;
+mod line;
 mod machine;
+mod merge;
 mod observe;
 mod outcome;
+mod outputs;
 mod step;
 
 pub use element::Element;
@@ -21,7 +24,9 @@ pub use fitting::fits;
 pub use flight::Flight;
 pub use history::{Event, Events};
 pub use machine::{MAX_ELEMENTS, Machine, MachineError};
-pub use observe::Observed;
+pub use merge::{Merged, merge_records};
+pub use observe::{Observed, observe_records};
+pub use outputs::Outputs;
 pub use step::{Fault, Step, TakeError};
 
 #[cfg(test)]

@@ -1,17 +1,19 @@
 //! The machine: its elements and the messages in flight, in a list (docs/MACHINE.md, "Runs").
 
 ghost use Rattle.std.specs.Prelude.{◌≡◌, ◌<◌, ◌≤◌, ◌+◌, ◌++◌, ◌↔◌, [], ℕ, All, length, map, replicate, IfOk, IsTrue, vec_len};
+ghost use Rattle.std.specs.List.{remove};
 ghost use Rattle.std.specs.VecDeque.{deque_len, deque_capacity};
 ghost use Rattle.id_graph.specs.declared.dests.Port.TheVariants.{Zero};
 ghost use Rattle.id_tag.specs.declared.Payload.TheVariants.{Token};
-ghost use Rattle.id_core.specs.Events.{tag_of, AllWent};
+ghost use Rattle.id_core.specs.Events.{AllWent};
 ghost use Rattle.id_core.specs.Fits.{Fits};
 ghost use Rattle.id_core.specs.Steps.{State, fresh, outputs_of};
 ghost use Rattle.id_core.specs.Machines.{AreElements, main_tag, start_message, start_messages};
 
 use crate::element::Element;
 use crate::flight::Flight;
-use crate::observe::{Observed, observe};
+use crate::history::tag_of;
+use crate::observe::{Observed, observe_records};
 use crate::outcome::most_sent;
 use crate::step::{Step, TakeError};
 use id_graph::{Graph, Port};
@@ -91,7 +93,7 @@ impl<'a> Machine<'a> {
     ghost use Rattle.id_core.specs.declared.machine.MachineError.TheVariants.{BadElements};
     ghost use Rattle.id_core.specs.declared.step.TakeError.TheVariants.{StampEnd};
     ghost use Rattle.id_core.specs.Fits.{Fits};
-    ghost use Rattle.id_core.specs.Observed.{answer, faults};
+    ghost use Rattle.id_core.specs.Observed.{answer, faults, names};
     ghost use Rattle.id_core.specs.Machines.{AreElements, IsQuiet, delivered, event_at, start, world_of};
 
     /// The machine of so many elements at its start, with the start messages in flight: a signal to
@@ -134,7 +136,7 @@ impl<'a> Machine<'a> {
         self.flight
             .reserve(most_outputs(self.graph.graph(), &message))?;
         let step = self.elements[number].take(message, &mut self.outputs)?;
-        let _taken = self.flight.remove(position);
+        take_out(&mut self.flight, position);
         move_all(&mut self.outputs, &mut self.flight);
         Ok(step)
     }
@@ -154,12 +156,13 @@ impl<'a> Machine<'a> {
         Flight::new(&self.flight)
     }
 
-    /// What the run so far shows: the answer, and the faults.
+    /// What the run so far shows: the answer, what binders have, and the faults.
     pub fn observe(&self, alloc: Global) -> Result<Observed, AllocError>
         ensures answer { IfOk result (λ o. o.answer ≡ answer self.now.world) }
+        ensures names { IfOk result (λ o. o.names ≡ names self.now.graph self.now.world) }
         ensures faults { IfOk result (λ o. o.faults ≡ faults self.now.graph self.now.world) }
     {
-        let shown = observe(alloc, self.graph, self.elements.as_slice())?;
+        let shown = observe_records(alloc, self.graph, self.elements.as_slice())?;
         Ok(shown)
     }
 
@@ -254,12 +257,14 @@ fn most_outputs(graph: &Graph, message: &Message) -> usize
     most_sent(&graph.instrs()[tag.instr as usize])
 }
 
-/// The tag that a payload names.
-fn tag_of(payload: &Payload) -> Tag
-    ensures { result ≡ tag_of payload.now }
+/// Takes the message at a position out of the list, which closes up. Takes no memory.
+fn take_out(flight: &mut VecDeque<Message>, position: usize)
+    requires { position < length flight.old.items }
+    ensures items { flight.new.items ≡ remove flight.old.items position }
+    ensures len { deque_len flight.new + 1 ≡ deque_len flight.old }
+    ensures capacity { deque_capacity flight.new ≡ deque_capacity flight.old }
 {
-    let Payload::Token { tag, .. } = *payload;
-    tag
+    let _taken = flight.remove(position);
 }
 
 /// Moves all messages to the end of the other list, in which there is room for them. Takes no memory.

@@ -1,45 +1,215 @@
-//! What a run shows: the answer and the faults (docs/MACHINE.md, "Observed").
+//! What a run shows: the answer, what binders have, and the faults (docs/MACHINE.md, "Observed").
 
-ghost use Rattle.std.specs.Prelude.{◌≡◌, ◌++◌, [], map, slice_get, IfOk, OnOk};
+ghost use Rattle.std.specs.Prelude.{◌≡◌, ◌==◌, ◌&&◌, ◌++◌, [], ℕ, false, count_by, map, nat_eq, slice_get, unwrap_or, IfOk, OnOk, None, if◌then◌else◌};
+ghost use Rattle.std.specs.HashMap.{get};
 ghost use Rattle.std.specs.List.{cons_option, filter_map};
-ghost use Rattle.id_core.specs.Observed.{answer_in, answers, brought, fault_kind, fault_of, faults_in, place_of, source_value};
+ghost use Rattle.id_valid.specs.Validator.{is_value};
+ghost use Rattle.id_core.specs.Observed.{answer_in, answers, brought, fault_kind, fault_of, faults_in, is_label, is_value_merge, label_marks, name_at, name_in, names_in, place_of, source_value};
 
 use crate::element::Element;
 use crate::history::Events;
 use crate::machine::main_tag;
 use crate::step::{Fault, Step};
-use id_graph::Graph;
-use id_meaning::{FaultKind, Path, SourceFault, SourceValue};
+use id_graph::{Graph, Instr, Op, PortKind};
+use id_meaning::{FaultKind, NameValue, Path, SourceFault, SourceValue};
 use id_ops::OperatorFault;
 use id_tag::{Payload, Value};
 use id_text::Sequence;
 use id_valid::Valid;
 use std::alloc::{AllocError, Global};
+use std::collections::HashMap;
 
 /// What a run shows, named by places of the text alone.
 #[derive(Debug, Drop)]
 pub struct Observed {
     /// The value of the first token that instruction 0 handled under main's tag.
     pub answer: Option<SourceValue>,
+    /// For each token that a label handled, one element's record after another's: what its binder Has.
+    pub names: Sequence<NameValue>,
     /// For each event that was a fault, one element's record after another's: what went wrong, and at which place.
     pub faults: Sequence<SourceFault>,
 }
 
-/// What the records of these elements show.
-pub(crate) fn observe(
+/// What the records of these elements show: `Memory` aside there is always an answer.
+pub fn observe_records(
     alloc: Global,
     graph: &Valid,
     elements: &[Element<'_>],
 ) -> Result<Observed, AllocError>
     ensures answer { IfOk result (λ o. o.answer ≡ answer_in (map (λ e. e.state) elements.now)) }
+    ensures names { IfOk result (λ o. o.names ≡ names_in graph.now (map (λ e. e.state) elements.now)) }
     ensures faults { IfOk result (λ o. o.faults ≡ faults_in graph.now (map (λ e. e.state) elements.now)) }
 {
+    let names = all_names(alloc, graph.graph(), elements)?;
     let faults = all_faults(alloc, graph.graph(), elements)?;
     let answer = answer(elements);
     Ok(Observed {
         answer,
+        names: Sequence::new(names),
         faults: Sequence::new(faults),
     })
+}
+
+/// What these records show that binders have.
+fn all_names(
+    alloc: Global,
+    graph: &Graph,
+    elements: &[Element<'_>],
+) -> Result<Vec<NameValue>, AllocError>
+    ensures { IfOk result (λ v. v.items ≡ names_in graph.now (map (λ e. e.state) elements.now)) }
+{
+    let marks = label_marks(alloc, graph)?;
+    let mut names = Vec::new(alloc);
+    for element in elements {
+        add_names(
+            alloc,
+            graph,
+            marks.as_slice(),
+            &element.events(),
+            &mut names,
+        )?;
+    }
+    Ok(names)
+}
+
+/// For each instruction, by number, whether it is a label.
+fn label_marks(alloc: Global, graph: &Graph) -> Result<Vec<bool>, AllocError>
+    ensures { IfOk result (λ v. v.items ≡ label_marks graph.now) }
+{
+    let counts = counts_by_place(alloc, graph)?;
+    let mut marks = Vec::with_capacity(alloc, graph.instrs().len())?;
+    for instr in graph.instrs() {
+        marks.push(is_counted_label(&counts, instr))?;
+    }
+    Ok(marks)
+}
+
+/// Whether an instruction is a label, where these are the counts of the graph.
+fn is_counted_label(counts: &HashMap<usize, u32>, instr: &Instr) -> bool
+    ensures { result ≡ (is_value_merge instr.now.op && (unwrap_or (get nat_eq counts.now instr.now.place) 0 == 1)) }
+{
+    is_value_merge(instr.op) && counts.get(&instr.place).copied().unwrap_or(0) == 1
+}
+
+/// How many instructions have each place.
+fn counts_by_place(alloc: Global, graph: &Graph) -> Result<HashMap<usize, u32>, AllocError>
+    ensures { IfOk result (λ m. (p : ℕ) → unwrap_or (get nat_eq m p) 0 ≡ count_by (λ i. i.place == p) graph.now.instrs) }
+{
+    let mut counts = HashMap::new(alloc);
+    for instr in graph.instrs() {
+        *counts.entry(instr.place)?.or_insert(0) += 1;
+    }
+    Ok(counts)
+}
+
+/// Whether the instruction is a merge for values of the source.
+fn is_value_merge(op: Op) -> bool
+    ensures { result ≡ is_value_merge op }
+{
+    match op {
+        Op::Merge(kind) => is_value(kind),
+        Op::Const(_) | Op::Neg | Op::Binary(_) | Op::Back(_) => false,
+    }
+}
+
+/// Whether the kind is one of values of the source.
+fn is_value(kind: PortKind) -> bool
+    ensures { result ≡ is_value kind }
+{
+    match kind {
+        PortKind::Int | PortKind::Bool | PortKind::Structure => true,
+        PortKind::Signal | PortKind::Address | PortKind::Context | PortKind::Continuation => false,
+    }
+}
+
+/// Adds what these events show that binders have.
+fn add_names(
+    alloc: Global,
+    graph: &Graph,
+    marks: &[bool],
+    events: &Events<'_>,
+    names: &mut Vec<NameValue>,
+) -> Result<(), AllocError>
+    requires { marks.now ≡ label_marks graph.now }
+    ensures { OnOk result (names.new.items ≡ names.old.items ++ filter_map (λ e. name_in graph.now e.message.payload) events.now) }
+{
+    for position in 0..events.len() {
+        let event = events.event(position);
+        add_name(name_in(alloc, graph, marks, &event.message.payload), names)?;
+    }
+    Ok(())
+}
+
+/// Adds what a binder has, if it has something.
+fn add_name(name: Option<NameValue>, names: &mut Vec<NameValue>) -> Result<(), AllocError>
+    ensures { OnOk result (names.new.items ≡ names.old.items ++ cons_option name []) }
+{
+    match name {
+        Some(name) => {
+            names.push(name)?;
+            Ok(())
+        }
+        None => Ok(()),
+    }
+}
+
+/// What a binder has where its label handled this token.
+fn name_in(alloc: Global, graph: &Graph, marks: &[bool], payload: &Payload) -> Option<NameValue>
+    requires { marks.now ≡ label_marks graph.now }
+    ensures { result ≡ name_in graph.now payload.now }
+{
+    match *payload {
+        Payload::Token { tag, value, .. } => {
+            name_if_label(alloc, graph, marks, tag.instr, source_value(value))
+        }
+    }
+}
+
+/// What the binder of the label of this number has, where there is such a label, and a token
+/// brought it that value.
+fn name_if_label(
+    alloc: Global,
+    graph: &Graph,
+    marks: &[bool],
+    number: u32,
+    value: Option<SourceValue>,
+) -> Option<NameValue>
+    requires { marks.now ≡ label_marks graph.now }
+    ensures { result ≡ (if is_label graph.now number then name_at graph.now number value else None) }
+{
+    if mark_at(marks, number) {
+        name_at(alloc, graph, number, value)
+    } else {
+        None
+    }
+}
+
+/// The mark of this number, where there is one.
+fn mark_at(marks: &[bool], number: u32) -> bool
+    ensures { result ≡ unwrap_or (slice_get marks.now number) false }
+{
+    marks.get(number as usize).copied().unwrap_or(false)
+}
+
+/// What the binder of the label of this number has, where a token brought it that value.
+fn name_at(
+    alloc: Global,
+    graph: &Graph,
+    number: u32,
+    value: Option<SourceValue>,
+) -> Option<NameValue>
+    ensures { result ≡ name_at graph.now number value }
+{
+    match value {
+        Some(value) => Some(NameValue {
+            path: Path {
+                steps: Sequence::new(Vec::new(alloc)),
+            },
+            place: place_of(graph, number),
+            value,
+        }),
+        None => None,
+    }
 }
 
 /// The answer that these records show.

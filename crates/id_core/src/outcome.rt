@@ -163,7 +163,8 @@ fn send_all(dests: &[Dest], tag: Tag, value: Value, envelope: Envelope, outputs:
     }
 }
 
-fn token_to(tag: Tag, value: Value, dest: Dest) -> Payload
+/// A token with this value for a destination, under the context and iteration of the tag.
+pub(crate) fn token_to(tag: Tag, value: Value, dest: Dest) -> Payload
     ensures { result ≡ token_to tag value dest }
 {
     let tag = Tag {
@@ -177,7 +178,8 @@ fn token_to(tag: Tag, value: Value, dest: Dest) -> Payload
     }
 }
 
-fn message(envelope: Envelope, number: usize, payload: Payload) -> Message
+/// The message of this number of those that the envelope is for.
+pub(crate) fn message(envelope: Envelope, number: usize, payload: Payload) -> Message
     ensures { result ≡ record { payload = payload; sender = Element envelope.number; position = envelope.position; output = number; stamp = envelope.stamp } }
 {
     Message {

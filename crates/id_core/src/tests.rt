@@ -1,12 +1,12 @@
 //! Runs of two graphs made by hand: those of `def main(): int = 7;` and `def main(): int = 1 + 2;`.
 
-ghost use Rattle.std.specs.Prelude.{◌≡◌};
+ghost use Rattle.std.specs.Prelude.{◌≡◌, ◌<◌, IfOk};
 
 use crate::machine::main_tag;
-use crate::{Element, Machine, MachineError, Step, TakeError, fits};
+use crate::{Element, Machine, MachineError, Step, TakeError, fits, merge_records};
 use id_graph::{Arithmetic, Block, Constant, Dest, Dests, Graph, Instr, Op, Port, PortKind};
 use id_meaning::SourceValue;
-use id_tag::{Message, Payload, Sender, Value, route};
+use id_tag::{Message, Payload, Sender, Tag, Value, route};
 use id_text::Sequence;
 use id_valid::{Valid, validate};
 use std::alloc::{AllocError, Global};
@@ -112,6 +112,11 @@ fn seven_takes_five_events(rt: HostRuntime) -> Result<(), Fail> {
         assert_eq!(rt; event.element, 0, "event {position}");
         assert_eq!(rt; event.step, Step::Went, "event {position}");
     }
+    let merged = merge_records(rt.alloc(), elements)?;
+    assert_eq!(rt; merged.len(), 5);
+    for position in 0..merged.len() {
+        assert_eq!(rt; merged.event(position).stamp, position as u64 + 1);
+    }
     let shown = machine.observe(rt.alloc())?;
     assert_eq!(rt; shown.answer, Some(SourceValue::Int(7)));
     assert!(rt; shown.faults.is_empty());
@@ -158,19 +163,22 @@ fn token(instr: u32, value: Value, stamp: u64) -> Message {
 fn give(
     rt: &impl Abort,
     graph: &Valid,
+    number: u32,
+    count: u32,
     element: &mut Element<'_>,
     message: Message,
     outputs: &mut Vec<Message>,
 ) -> Result<Step, TakeError>
-    requires number { element.old.number ≡ 0 }
-    requires count_is { element.old.count ≡ 1 }
+    requires at_least_one { 0 < count }
+    requires number { element.old.number ≡ number }
+    requires count_is { element.old.count ≡ count }
     requires graph { element.old.graph ≡ graph.now }
-    ensures number { element.new.number ≡ 0 }
-    ensures count_is { element.new.count ≡ 1 }
+    ensures number { element.new.number ≡ number }
+    ensures count_is { element.new.count ≡ count }
     ensures graph { element.new.graph ≡ graph.now }
 {
     assert!(rt; fits(graph, &message));
-    assert_eq!(rt; route(&message, 1), 0);
+    assert_eq!(rt; route(&message, count), number);
     match element.take(message, outputs) {
         Err(TakeError::Memory) => element.take(message, outputs),
         answer => answer,
@@ -187,7 +195,7 @@ fn events_of(
     let mut element = Element::new(alloc, 0, 1, graph);
     let mut outputs = Vec::new(alloc);
     for (message, wanted) in given {
-        let answer = give(rt, graph, &mut element, *message, &mut outputs);
+        let answer = give(rt, graph, 0, 1, &mut element, *message, &mut outputs);
         assert_eq!(rt; answer, *wanted);
     }
     element.events().len()
@@ -213,5 +221,106 @@ fn an_element_takes_each_message(rt: HostRuntime) -> Result<(), Fail> {
         !fits(&graph, &token(2, Value::Int(1), 0)),
         "2.0 takes a continuation"
     );
+    Ok(())
+}
+
+/// A signal to the first instruction of main's block, in this iteration.
+fn signal(iteration: u64, stamp: u64) -> Message {
+    let tag = Tag {
+        iteration,
+        ..main_tag(1)
+    };
+    Message {
+        payload: Payload::Token {
+            tag,
+            port: Port::Zero,
+            value: Value::Signal,
+        },
+        ..token(1, Value::Signal, stamp)
+    }
+}
+
+/// The element of this number, of two, which has handled a signal of this iteration at each of these stamps.
+fn element_of<'a>(
+    rt: &impl Abort,
+    alloc: Global,
+    graph: &'a Valid,
+    number: u32,
+    iteration: u64,
+    stamps: &[u64],
+) -> Result<Element<'a>, TakeError>
+    requires { number < 2 }
+    ensures { IfOk result (λ e. e.number ≡ number) }
+{
+    let mut element = Element::new(alloc, number, 2, graph);
+    let mut outputs = Vec::new(alloc);
+    for stamp in stamps {
+        let message = signal(iteration, *stamp);
+        give(rt, graph, number, 2, &mut element, message, &mut outputs)?;
+    }
+    Ok(element)
+}
+
+#[test]
+fn records_are_merged_by_stamp_then_element(rt: HostRuntime) -> Result<(), Fail> {
+    let graph = sum(&rt, rt.alloc())?;
+    let first = element_of(&rt, rt.alloc(), &graph, 0, 0, [0, 3, 6].as_slice())?;
+    let second = element_of(&rt, rt.alloc(), &graph, 1, 1, [1, 3, 5].as_slice())?;
+    let elements = [first, second];
+    let merged = merge_records(rt.alloc(), elements.as_slice())?;
+    let wanted = [(1, 0), (2, 1), (4, 0), (4, 1), (6, 1), (7, 0)];
+    assert_eq!(rt; merged.len(), 6);
+    for (position, (stamp, element)) in wanted.iter().enumerate() {
+        let event = merged.event(position);
+        assert_eq!(rt; event.stamp, *stamp, "event {position}");
+        assert_eq!(rt; event.element, *element, "event {position}");
+    }
+    Ok(())
+}
+
+/// The graph of `def main(): int = { y = x + 1; x = 4; in y };`, with the constant 4 at the place.
+fn bindings(rt: &impl Abort, alloc: Global, four: usize) -> Result<Valid, Fail> {
+    let mut list = start(alloc, &[(3, Port::Zero), (4, Port::Zero)])?;
+    let constant = |n| Op::Const(Constant::Int(n));
+    let label = Op::Merge(PortKind::Int);
+    list.push(instr(alloc, constant(4), &[(5, Port::Zero)], four)?)?;
+    list.push(instr(alloc, constant(1), &[(6, Port::One)], 28)?)?;
+    list.push(instr(alloc, label, &[(6, Port::Zero)], 31)?)?;
+    list.push(instr(alloc, Op::Binary(Arithmetic::Add), &[(7, Port::Zero)], 26)?)?;
+    list.push(instr(alloc, label, &[(2, Port::One)], 20)?)?;
+    valid(rt, alloc, list)
+}
+
+#[test]
+fn names_are_those_of_labels(rt: HostRuntime) -> Result<(), Fail> {
+    // The answer's merge is no label, nor is one whose place another instruction has.
+    let x = (31, SourceValue::Int(4));
+    let y = (20, SourceValue::Int(5));
+    let both = [x, y];
+    let one = [y];
+    let cases = [
+        (35, 1, both.as_slice()),
+        (35, 4, both.as_slice()),
+        (31, 1, one.as_slice()),
+    ];
+    for (four, count, wanted) in cases {
+        let graph = bindings(&rt, rt.alloc(), four)?;
+        let mut machine = Machine::new(rt.alloc(), &graph, count)?;
+        for _ in 0..100 {
+            if machine.in_flight().is_empty() {
+                break;
+            }
+            deliver_first(&rt, &mut machine)?;
+        }
+        let shown = machine.observe(rt.alloc())?;
+        assert_eq!(rt; shown.answer, Some(SourceValue::Int(5)), "{four} {count}");
+        let names = shown.names.as_slice();
+        assert_eq!(rt; names.len(), wanted.len(), "{four} {count}");
+        for (name, (place, value)) in names.iter().zip(wanted.iter()) {
+            assert!(rt; name.path.steps.is_empty());
+            assert_eq!(rt; name.place, *place, "{four} {count}");
+            assert_eq!(rt; name.value, *value, "{four} {count}");
+        }
+    }
     Ok(())
 }

@@ -1,17 +1,29 @@
--- The record goes on by one event: `unpacked_all-push`, with what the two lists hold afterwards.
-use Rattle.std.proofs.Common.{◌≡◌, ◌+◌, ◌++◌, length, ap, arith}
+-- The record goes on by one event: in a line of its own, or aside.
+use Rattle.std.proofs.Common.{◌≡◌, length, ap, ◌∙◌, arith}
 use Rattle.std.proofs.lemmas.Grind.{common_steps}
-use Rattle.id_core.specs.declared.history.Handled.{Handled}
-use Rattle.id_core.proofs.EventsLemmas.{unpacked_all-push}
+use Rattle.id_core.specs.declared.line.Carried.TheVariants.{Aside}
+use Rattle.id_core.proofs.LinesLemmas.{pushed_line, within_line, pushed_aside, within_aside}
 use Rattle.id_core.proofs.history.Record.push.Goals as goal
 
--- the new line's outputs are those that were added
-pub returns-clause-events : goal.returns-clause-events
-returns-clause-events c =
-    let events = ap (λ r. r.events) c.self.view_is in
-    let number = ap (λ r. r.element) c.self.view_is in
-    let extended : c.extend_from_slice.new.self.items ≡ c.self.inside.outputs.items ++ c.args.outputs.now = grind (arith, common_steps) in
-    let from : c.len-from.result ≡ length c.self.inside.outputs.items = grind (arith, common_steps) in
-    let to : c.len-to.result ≡ length c.self.inside.outputs.items + length c.args.outputs.now = grind (arith, common_steps) in
-    let line : Handled = record { message = c.args.message; stamp = c.args.stamp; from = c.len-from.result; to = c.len-to.result; verdict = c.args.verdict } in
-    rw (c.push_reserved.ensures.items, extended, unpacked_all-push c.self.inside.element c.self.inside.handled.items c.self.inside.outputs.items c.args.outputs.now line c.self.invariant from to, events, number)
+pub invariant_of-self : goal.invariant_of-self
+invariant_of-self c = rw c.add_line.ensures (within_line c.self.inside.asides.items c.self.inside.lines.items c.args.event c.in-Some.line c.in-Some.ensures c.self.invariant)
+
+pub returns-in-Some-clause-events : goal.returns-in-Some-clause-events
+returns-in-Some-clause-events c =
+    let r = c.self.inside in
+    rw (← ap (λ v. v.events) c.self.view_is, ← ap (λ v. v.graph) c.self.view_is, ← ap (λ v. v.element) c.self.view_is, c.add_line.ensures)
+    (pushed_line r.graph.now r.element r.asides.items r.lines.items c.args.event c.in-Some.line c.in-Some.ensures)
+
+pub invariant_of-self-in-None : goal.invariant_of-self-in-None
+invariant_of-self-in-None c =
+    let r = c.self.inside in
+    let at : c.len-index.result ≡ length r.asides.items = grind (arith, common_steps) in
+    rw (c.add_line-in-None.ensures, c.push_reserved.ensures.items)
+    (within_aside r.asides.items r.lines.items c.args.event c.line_aside.result (c.line_aside.ensures ∙ ap (λ i. Aside i) at) c.self.invariant)
+
+pub returns-in-None-clause-events : goal.returns-in-None-clause-events
+returns-in-None-clause-events c =
+    let r = c.self.inside in
+    let at : c.len-index.result ≡ length r.asides.items = grind (arith, common_steps) in
+    rw (← ap (λ v. v.events) c.self.view_is, ← ap (λ v. v.graph) c.self.view_is, ← ap (λ v. v.element) c.self.view_is, c.add_line-in-None.ensures, c.push_reserved.ensures.items)
+    (pushed_aside r.graph.now r.element r.asides.items r.lines.items c.args.event c.line_aside.result (c.line_aside.ensures ∙ ap (λ i. Aside i) at) c.self.invariant)

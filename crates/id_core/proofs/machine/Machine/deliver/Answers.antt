@@ -2,7 +2,6 @@
 use Rattle.std.proofs.Common.{◌≡◌, ◌<◌, ◌++◌, Some, length, set, refl, sym, ap, ◌∙◌, arith}
 use Rattle.std.specs.Prelude.{slice_get, option_map, None, Option}
 use Rattle.std.specs.List.{remove}
-use Rattle.std.specs.VecDeque.{deque_len}
 use Rattle.std.proofs.lemmas.List.{length-set}
 use Rattle.std.proofs.lemmas.Grind.{common_steps}
 use Rattle.std.proofs.lemmas.Option.{slice_get_read}
@@ -40,9 +39,7 @@ element_after c = c.in_ok-step.ensures.state
 -- the messages in flight afterwards
 flight_after : (c : goal.After-move_all) → c.move_all.new.to.items ≡ remove c.self.inside.flight.items c.args.position ++ outputs_of c.index_mut.result.now.graph c.index_mut.result.now.number c.index_mut.result.now.state c.index.result.now
 flight_after c =
-    let held : deque_len c.self.inside.flight ≡ length c.self.inside.flight.items = grind (arith, common_steps) in
-    let within : c.args.position < deque_len c.reserve.new.self = omega (arith, c.reserve.ensures.len, ap (λ v. length v.world.flight) c.self.view_is, held) in
-    let removed = rw (c.remove-taken.ensures.succeeds c.index.result.now within) at c.remove-taken.ensures.items in
+    let removed = c.take_out.ensures.items in
     rw (c.move_all.ensures.moved, removed, c.reserve.ensures.items, c.in_ok-step.ensures.outputs, c.self.invariant.nothing_left)
 
 pub returns-clause-world : goal.returns-clause-world
