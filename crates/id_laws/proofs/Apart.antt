@@ -19,7 +19,7 @@ use Rattle.id_laws.proofs.Arrivals.{Arrival, Fires, Waits, Blocked}
 use Rattle.id_core.specs.Steps.{sent, token_to, fresh_numbers}
 use Rattle.id_core.specs.Machines.{main_tag}
 use Rattle.id_meaning.specs.Parts.{Among, AllDiffer, LiteralNode, UnaryNode, IsMain, Distinct}
-use Rattle.id_build.specs.Roles.{Role, Answer, Trigger, Return, Source, From, Makes, answer, trigger, return, literal, unary, binary, Feeds}
+use Rattle.id_build.specs.Roles.{Role, Answer, Trigger, Return, Source, From, Makes, answer, trigger, return, literal, unary, binary, label, Feeds}
 use Rattle.id_build.specs.Schemas.{Numbered}
 use Rattle.id_laws.proofs.Lists.{among_from_map}
 use Rattle.id_laws.proofs.Tables.{def_of_main, one_main}
@@ -40,6 +40,7 @@ module _ (P : Checked) (run : List Happening) (a : Activation) where
   no_second_port q o e v (literal {v = c} part) one w = w.1 (LiteralNode c) part
   no_second_port q o e v (unary {a = x} {o = u} part) one w = w.1 (UnaryNode u x) part
   no_second_port q o e v (binary part) one w = let bad : true ≡ false = one in cc
+  no_second_port q o e v (label part) one w = w
 
 -- tokens to destinations that differ are for ports that differ
 dests_apart : (t : Tag) (p : Port) (u : Tag) (v : Value) (ds : List Dest) → AllDiffer ds → count_at t p (map (token_to u v) ds) ≤ 1

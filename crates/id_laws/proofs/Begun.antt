@@ -1,8 +1,7 @@
 -- The messages that are there at the start, and that no port gets two tokens under one tag in a schemas' graph.
-use Rattle.std.proofs.Common.{◌≡◌, inl, inr, ℕ, true, false, cond, Option, Some, None, List, [], ◌∷◌, map, slice_get, option_map, refl, sym, ◌∙◌, ap, subst, ◌==◌, arith}
+use Rattle.std.proofs.Common.{◌≡◌, inl, inr, ℕ, cond, Option, Some, None, List, [], ◌∷◌, map, slice_get, option_map, refl, sym, ◌∙◌, ap, subst, ◌==◌}
 use Rattle.std.specs.List.{filter}
 use Rattle.std.proofs.lemmas.Bool.{cases_eq}
-use Rattle.std.proofs.lemmas.Bool.Decides.{nat_tests}
 use Rattle.id_tree.specs.declared.tree.Def.{Def}
 use Rattle.id_check.specs.declared.Checked.{Checked}
 use Rattle.id_graph.specs.declared.dests.Port.TheVariants.{Zero}
@@ -16,6 +15,7 @@ use Rattle.id_core.specs.Machines.{World, main_tag, block_messages}
 use Rattle.id_meaning.specs.Parts.{Among, IsDef, IsMain, Distinct}
 use Rattle.id_build.specs.Roles.{Role, Answer, Trigger, Return, answer, trigger, return}
 use Rattle.id_build.specs.Schemas.{Numbered, block_of}
+use Rattle.id_laws.proofs.Tests.{same_number, other_number}
 use Rattle.id_laws.proofs.Lists.{among_at}
 use Rattle.id_laws.proofs.Tables.{def_of_main, same_def}
 use Rattle.id_laws.proofs.Arrivals.{Happening, sends_of}
@@ -33,12 +33,6 @@ main_found P (Some d) f n e c = (d, record { at = e })
 -- a checked program has a main
 pub main_of : (P : Checked) → (d : Def) × IsMain P d
 main_of P = main_found P (slice_get P.program.defs P.main) (λ d. d.name) _ refl (P.is_main).called
-
-same_number : (m n : ℕ) → m ≡ n → (m == n) ≡ true
-same_number m n e = grind (arith, nat_tests)
-
-other_number : (m n : ℕ) → (m ≡ n → ⊥) → (m == n) ≡ false
-other_number m n e = grind (arith, nat_tests)
 
 module _ (P : Checked) (distinct : Distinct P) (g : Parts) (number : Role → ℕ) (numbered : Numbered P g number) where
   pub made_trigger : {d : Def} → IsDef P d → IsMade P (Trigger d.place)

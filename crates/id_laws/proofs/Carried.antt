@@ -33,13 +33,15 @@ use Rattle.id_meaning.specs.declared.SourceValue.{SourceValue}
 use Rattle.id_meaning.specs.declared.SourceValue.TheVariants as source
 use Rattle.id_meaning.specs.declared.Fact.{Fact}
 use Rattle.id_meaning.specs.declared.Fact.TheVariants.{On, Has}
-use Rattle.id_meaning.specs.Parts.{Among, Region, Top, Node, IsMain, Part, Distinct}
-use Rattle.id_meaning.specs.Facts.{Rule, main_on, literal_has, operand_on, left_on, right_on, unary_has, binary_has}
+use Rattle.id_meaning.specs.Parts.{Among, Region, Top, Node, NameNode, BindingNode, IsMain, Part, Distinct}
+use Rattle.id_meaning.specs.Facts.{Rule, main_on, literal_has, operand_on, left_on, right_on, unary_has, binary_has, name_has, statement_on, body_on, block_has, binding_has}
 use Rattle.id_meaning.specs.Rounds.{Every, Rounds, Holds}
-use Rattle.id_build.specs.Roles.{Role, Trigger, Of, Source, From, Makes, trigger, literal, unary, binary, constant_of, unary_op, binary_op, port_of, TriggerAt, of_procedure, GivesAt, Feeds, to_literal, to_unary, to_left, to_right}
+use Rattle.id_build.specs.Roles.{Role, Trigger, Of, Label, Source, From, Makes, trigger, literal, unary, binary, label, constant_of, unary_op, binary_op, port_of, TriggerAt, of_procedure, GivesAt, by_literal, by_unary, by_binary, by_name, by_block, Feeds, to_literal, to_unary, to_left, to_right, to_label}
 use Rattle.id_build.specs.Schemas.{Numbered}
 use Rattle.id_laws.proofs.Lists.{among_map}
-use Rattle.id_laws.proofs.Tables.{same_part, def_of_main, Node_at, operand_part, operands as parts_named, body_part}
+use Rattle.id_laws.proofs.Tables.{same_part, def_of_main}
+use Rattle.id_laws.proofs.Inside.{IsExpression, operands as parts_named}
+use Rattle.id_laws.proofs.Nested.{Node_at, Expression_at, node_at, operand_part, body_part, binder_part}
 use Rattle.id_laws.proofs.Arrivals.{Happening, sends_by}
 use Rattle.id_laws.proofs.Reached.{Reach, handled, starting, Fired}
 use Rattle.id_laws.proofs.Traffic.{Origin, moving, fires_alone}
@@ -47,7 +49,8 @@ use Rattle.id_laws.proofs.Counts.{Exclusive}
 use Rattle.id_laws.proofs.Progress.{met}
 use Rattle.id_laws.proofs.Agreement.{token_value, as_fired, agree_unary, agree_binary}
 use Rattle.id_laws.proofs.Wanted.{Activation, main_activation, tag_in, PathOf, main_path, Live, in_main}
-use Rattle.id_laws.proofs.Fed.{trigger_of, gives_is, gives}
+use Rattle.id_laws.proofs.Given.{given_at}
+use Rattle.id_laws.proofs.Fed.{trigger_of}
 use Rattle.id_laws.proofs.Begun.{signal_to, starting_is}
 use Rattle.id_laws.proofs.Apart.{exclusive}
 
@@ -71,6 +74,23 @@ sent_back kind.Int (source.Int n) t = refl
 
 pub unary_alone : (o : UnaryOp) → two_ports (unary_op o) ≡ false
 unary_alone Rattle.id_tree.specs.declared.tree.UnaryOp.TheVariants.Neg = refl
+
+-- a value of the source goes through a label
+merged : (v : SourceValue) → cond (same_kind (kind_of (token_value v)) port_kinds.Int) (Out (token_value v)) Nothing ≡ Out (token_value v)
+merged (source.Int n) = refl
+
+-- what a thing Has comes from there: an expression's value from its source, a binder's from its label
+pub data ComesFrom (P : Checked) (r : Region) (e : ℕ) (s : Source) : Type 0 where
+  of_expression : GivesAt P r e s → ComesFrom P r e s
+  of_binder : {a : ℕ} → Part P r e (BindingNode a) → s ≡ From (Label e) → ComesFrom P r e s
+
+expression_from : (P : Checked) → Distinct P → {r : Region} {e : ℕ} {s : Source} → Expression_at P r e → ComesFrom P r e s → GivesAt P r e s
+expression_from P distinct x (of_expression g) = g
+expression_from P distinct x (of_binder part is) = absurd (subst IsExpression (same_part P distinct x.part part).1 x.is)
+
+binder_from : (P : Checked) → Distinct P → {r : Region} {b a : ℕ} {s : Source} → Part P r b (BindingNode a) → ComesFrom P r b s → s ≡ From (Label b)
+binder_from P distinct part (of_expression g) = absurd (given_at P distinct g part)
+binder_from P distinct part (of_binder other is) = is
 
 module _ (P : Checked) (distinct : Distinct P) (g : Parts) (number : Role → ℕ) (numbered : Numbered P g number)
     (count : ℕ) (s : World) (hs : List Happening) (r : Reach g count s hs) (quiet : s.flight ≡ []) where
@@ -151,13 +171,15 @@ module _ (P : Checked) (distinct : Distinct P) (g : Parts) (number : Role → �
     pub live : Live P hs activation region
     pub turned : (src : Source) → TriggerAt P region src → SpokenBy activation src value.Signal
 
-  -- what its value comes from has said the value at the path
+  -- what it comes from has said the value at the path
   pub record CarriedHas (p : Path) (e : ℕ) (v : SourceValue) : Type 0 where
     pub activation : Activation
     pub path_of : PathOf hs activation p
     pub region : Region
     pub here : Node_at P region e
-    pub spoken : (src : Source) → GivesAt P region e src → SpokenBy activation src (token_value v)
+    pub source : Source
+    pub comes : ComesFrom P region e source
+    pub spoken : SpokenBy activation source (token_value v)
 
   abbrev pub Carried : Fact → Type 0
   Carried (On p e) = CarriedOn p e
@@ -167,31 +189,58 @@ module _ (P : Checked) (distinct : Distinct P) (g : Parts) (number : Role → �
   pub in_region : {p : Path} {e : ℕ} {q : Region} {n : Node} (on : CarriedOn p e) → Part P q e n → Part P on.region e n
   in_region {e = e} {n = n} on part = subst (λ z. Part P z e n) ((same_part P distinct part (on.here).part).0) part
 
+  -- where the value of an expression that was carried comes from
+  pub expression_source : {p : Path} {r : Region} {e : ℕ} {v : SourceValue} → Expression_at P r e → (has : CarriedHas p e v) → GivesAt P r e has.source
+  expression_source {e = e} x has = expression_from P distinct x (subst (λ z. ComesFrom P z e has.source) (same_part P distinct (has.here).part x.part).0 has.comes)
+
   -- an operand's value came to its port
   pub operand_came : {p : Path} {e : ℕ} {n : Node} (on : CarriedOn p e) → Part P on.region e n → (a : ℕ) (v : SourceValue) → Among a (parts_named n) → CarriedHas p a v
       → (q : Role) (port : Port) → ((src : Source) → GivesAt P on.region a src → Feeds P src q port) → Among (Token (tag_in on.activation (number q)) port (token_value v)) (handled hs)
   operand_came {p} on part a v among has q port feeds =
-      let operand = operand_part a part among in
-      let region_is : has.region ≡ on.region = (same_part P distinct (has.here).part operand.part).0 in
-      let activation_is : has.activation ≡ on.activation = one_activation has.path_of on.path_of in
-      let source_gives = gives operand.node operand.part in
-      let spoken = has.spoken (From (Of has.region a)) (subst (λ z. GivesAt P z a (From (Of z a))) (sym region_is) source_gives) in
-      let here : SpokenBy on.activation (From (Of on.region a)) (token_value v) = subst (λ (z : Activation × Region). Spoken z.0 (Of z.1 a) (token_value v)) (λ j. (activation_is j, region_is j)) spoken in
-      came on.activation (From (Of on.region a)) q port (token_value v) here (feeds (From (Of on.region a)) source_gives)
+      came on.activation has.source q port (token_value v) (subst (λ z. SpokenBy z has.source (token_value v)) (one_activation has.path_of on.path_of) has.spoken)
+      (feeds has.source (expression_source (operand_part a part among) has))
+
+  -- the value of a binding's expression came to the label
+  pub label_came : {p : Path} {r : Region} {b a : ℕ} {v : SourceValue} → Part P r b (BindingNode a) → (has : CarriedHas p a v)
+      → Among (Token (tag_in has.activation (number (Label b))) Zero (token_value v)) (handled hs)
+  label_came {b = b} {a = a} {v = v} part has =
+      came has.activation has.source (Label b) Zero (token_value v) has.spoken (to_label part (expression_source (operand_part a part (inl refl)) has))
 
   -- a value that the instruction of an expression has said
-  has_said : {p : Path} {e : ℕ} (on : CarriedOn p e) (v : SourceValue) → Spoken on.activation (Of on.region e) (token_value v) → CarriedHas p e v
-  has_said {e = e} on v x = record {
+  has_said : {p : Path} {e : ℕ} (on : CarriedOn p e) (v : SourceValue) → GivesAt P on.region e (From (Of on.region e)) → Spoken on.activation (Of on.region e) (token_value v) → CarriedHas p e v
+  has_said on v g x = record {
     activation = on.activation;
     path_of = on.path_of;
     region = on.region;
     here = on.here;
-    spoken = λ src h. subst (λ z. SpokenBy on.activation z (token_value v)) (sym (gives_is h)) x;
+    source = From _;
+    comes = of_expression g;
+    spoken = x;
   }
+
+  -- a value that an expression has from another thing
+  handed_on : {p : Path} {r : Region} {e a : ℕ} {n : Node} {v : SourceValue} → Part P r e n → (has : CarriedHas p a v) → GivesAt P r e has.source → CarriedHas p e v
+  handed_on {r = r} {n = n} part has g = record {
+    activation = has.activation;
+    path_of = has.path_of;
+    region = r;
+    here = record { node = n; part = part };
+    source = has.source;
+    comes = of_expression g;
+    spoken = has.spoken;
+  }
+
+  -- the source of what a name's binder Has is its label
+  name_source : {p : Path} {r : Region} {e b : ℕ} {v : SourceValue} → Part P r e (NameNode b) → (has : CarriedHas p b v) → GivesAt P r e has.source
+  name_source {r = r} {e = e} part has =
+      let b = binder_part part in
+      let region_is = (same_part P distinct (has.here).part b.1).0 in
+      let is = binder_from P distinct b.1 (subst (λ z. ComesFrom P z _ has.source) region_is has.comes) in
+      subst (GivesAt P r e) (sym is) (by_name part)
 
   operand_carried : {p : Path} {e : ℕ} {q : Region} {n : Node} (a : ℕ) → CarriedOn p e → Part P q e n → Among a (parts_named n) → CarriedOn p a
   operand_carried a on part among =
-      record { activation = on.activation; path_of = on.path_of; region = on.region; here = operand_part a (in_region on part) among; live = on.live; turned = on.turned }
+      record { activation = on.activation; path_of = on.path_of; region = on.region; here = node_at (operand_part a (in_region on part) among); live = on.live; turned = on.turned }
 
   pub start_came : (x : Payload) → Among x (starting g) → Among x (handled hs)
   start_came x h = arrived x (inl h)
@@ -209,14 +258,14 @@ module _ (P : Checked) (distinct : Distinct P) (g : Parts) (number : Role → �
   -- where the premises of a rule are carried, so is what follows
   carried_by : {fs : List Fact} {f : Fact} → Rule P fs f → Every Carried fs → Carried f
   carried_by (main_on {d = d} main) c =
-      record { activation = main_activation; path_of = main_path; region = Top d.place; here = body_part (def_of_main main); live = in_main main; turned = main_turned main }
+      record { activation = main_activation; path_of = main_path; region = Top d.place; here = node_at (body_part (def_of_main main)); live = in_main main; turned = main_turned main }
   carried_by (literal_has {e = e} {v = v} part) c =
       let on = c.0 in
       let here = in_region on part in
       let t = live_trigger on.live in
       let signal = came on.activation (trigger_of on.region) (Of on.region e) Zero value.Signal (on.turned (trigger_of on.region) t) (to_literal here t) in
       let has_fired = alone_fired on.activation (Of on.region e) (Const (constant_of v)) e Zero value.Signal (literal here) refl signal in
-      has_said on v (speaks on.activation (Of on.region e) _ _ (token_value v) has_fired (λ f. ap Out (constant_sent v)))
+      has_said on v (by_literal here) (speaks on.activation (Of on.region e) _ _ (token_value v) has_fired (λ f. ap Out (constant_sent v)))
   carried_by (operand_on {a = a} part) c = operand_carried a c.0 part (inl refl)
   carried_by (left_on {a = a} part) c = operand_carried a c.0 part (inl refl)
   carried_by (right_on {b = b} part) c = operand_carried b c.0 part (inr (inl refl))
@@ -225,14 +274,30 @@ module _ (P : Checked) (distinct : Distinct P) (g : Parts) (number : Role → �
       let here = in_region on part in
       let operand = operand_came on here a v (inl refl) c.1.0 (Of on.region e) Zero (λ src h. to_unary here h) in
       let has_fired = alone_fired on.activation (Of on.region e) (unary_op o) e Zero (token_value v) (unary here) (unary_alone o) operand in
-      has_said on x (speaks on.activation (Of on.region e) _ _ (token_value x) has_fired (λ f. agree_unary o v (tag_in on.activation (number (Of on.region e))) f ∙ ap as_fired is))
+      has_said on x (by_unary here) (speaks on.activation (Of on.region e) _ _ (token_value x) has_fired (λ f. agree_unary o v (tag_in on.activation (number (Of on.region e))) f ∙ ap as_fired is))
   carried_by (binary_has {e = e} {a = a} {b = b} {o = o} {v = v} {w = w} {x = x} part is) c =
       let on = c.0 in
       let here = in_region on part in
       let left = operand_came on here a v (inl refl) c.1.0 (Of on.region e) Zero (λ src h. to_left here h) in
       let right = operand_came on here b w (inr (inl refl)) c.1.1.0 (Of on.region e) One (λ src h. to_right here h) in
       let has_fired = both_fired on.activation (Of on.region e) (Binary (binary_op o)) e (token_value v) (token_value w) (binary here) refl left right in
-      has_said on x (speaks on.activation (Of on.region e) _ _ (token_value x) has_fired (λ f. agree_binary o v w (tag_in on.activation (number (Of on.region e))) f ∙ ap as_fired is))
+      has_said on x (by_binary here) (speaks on.activation (Of on.region e) _ _ (token_value x) has_fired (λ f. agree_binary o v w (tag_in on.activation (number (Of on.region e))) f ∙ ap as_fired is))
+  carried_by (name_has part) c = handed_on part c.1.0 (name_source part c.1.0)
+  carried_by (statement_on {a = a} part among) c = operand_carried a c.0 part (inr among)
+  carried_by (body_on {b = b} part) c = operand_carried b c.0 part (inl refl)
+  carried_by (block_has {b = b} part) c = handed_on part c.1.0 (by_block part (expression_source (operand_part b part (inl refl)) c.1.0))
+  carried_by (binding_has {r = r} {e = e} {v = v} part) c =
+      let has = c.0 in
+      let has_fired = alone_fired has.activation (Label e) (Merge port_kinds.Int) e Zero (token_value v) (label part) refl (label_came part has) in
+      record {
+        activation = has.activation;
+        path_of = has.path_of;
+        region = r;
+        here = record { node = _; part = part };
+        source = From (Label e);
+        comes = of_binder part refl;
+        spoken = speaks has.activation (Label e) _ _ (token_value v) has_fired (λ f. merged v);
+      }
 
   every_carried : (n : ℕ) → ((f : Fact) → Rounds P n f → Carried f) → (fs : List Fact) → Every (Rounds P n) fs → Every Carried fs
   every_carried n one [] h = tt

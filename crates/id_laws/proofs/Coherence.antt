@@ -1,13 +1,13 @@
 -- Each path and place has at most one value.
-use Rattle.std.proofs.Common.{◌≡◌, inl, inr, ℕ, zero, suc, List, [], ◌∷◌, subst}
+use Rattle.std.proofs.Common.{◌≡◌, inl, inr, ℕ, zero, suc, List, [], ◌∷◌, refl, sym, ◌∙◌, subst}
 use Rattle.id_check.specs.declared.Checked.{Checked}
 use Rattle.id_meaning.specs.declared.Path.{Path}
 use Rattle.id_meaning.specs.declared.SourceValue.{SourceValue}
 use Rattle.id_meaning.specs.declared.Fact.{Fact}
 use Rattle.id_meaning.specs.declared.Fact.TheVariants.{Has}
 use Rattle.id_meaning.specs.Results.{Outcome, Gives, result_of_unary, result_of_binary}
-use Rattle.id_meaning.specs.Parts.{Distinct}
-use Rattle.id_meaning.specs.Facts.{Rule, literal_has, unary_has, binary_has}
+use Rattle.id_meaning.specs.Parts.{Region, Node, LiteralNode, UnaryNode, BinaryNode, NameNode, UnboundNode, BlockNode, BindingNode, Part, Distinct}
+use Rattle.id_meaning.specs.Facts.{Rule, literal_has, unary_has, binary_has, name_has, block_has, binding_has}
 use Rattle.id_meaning.specs.Rounds.{Every, Rounds, Holds, IsCoherent}
 use Rattle.id_laws.proofs.Tables.{same_part}
 
@@ -26,44 +26,64 @@ because P zero f h = absurd h
 because P (suc n) f (inl h) = because P n f h
 because P (suc n) f (inr t) = record { premises = t.0; rule = t.1; hold = every_holds P n t.0 t.2 }
 
-gives_one : {v w : SourceValue} (a b : Outcome) → a ≡ b → a ≡ Gives v → b ≡ Gives w → v ≡ w
-gives_one a b e p q = cc
+-- ---- what a thing Has, by what stands there
+
+-- what follows at a node from facts: a literal's value, an operator's result on what its operands Have, and what a name's binder, a block's body and a binding's expression Has
+abbrev pub Follows : (Fact → Type 0) → Node → Path → SourceValue → Type 0
+Follows F (LiteralNode c) p v = v ≡ c
+Follows F (UnaryNode o a) p v = (u : SourceValue) × F (Has p a u) × (result_of_unary o u ≡ Gives v)
+Follows F (BinaryNode o a b) p v = (u : SourceValue) × (w : SourceValue) × F (Has p a u) × F (Has p b w) × (result_of_binary o u w ≡ Gives v)
+Follows F (NameNode b) p v = F (Has p b v)
+Follows F UnboundNode p v = ⊥
+Follows F (BlockNode vs b) p v = F (Has p b v)
+Follows F (BindingNode a) p v = F (Has p a v)
+
+-- a thing stands there, and at its node the value follows
+pub record FollowsAt (P : Checked) (F : Fact → Type 0) (p : Path) (e : ℕ) (v : SourceValue) : Type 0 where
+  pub region : Region
+  pub node : Node
+  pub part : Part P region e node
+  pub follows : Follows F node p v
+
+pub follows_by : {P : Checked} (F : Fact → Type 0) {p : Path} {e : ℕ} {v : SourceValue} {fs : List Fact} → Rule P fs (Has p e v) → Every F fs → FollowsAt P F p e v
+follows_by F (literal_has part) h = record { region = _; node = _; part = part; follows = refl }
+follows_by F (unary_has {v = u} part is) h = record { region = _; node = _; part = part; follows = (u, h.1.0, is) }
+follows_by F (binary_has {v = u} {w = w} part is) h = record { region = _; node = _; part = part; follows = (u, w, h.1.0, h.1.1.0, is) }
+follows_by F (name_has part) h = record { region = _; node = _; part = part; follows = h.1.0 }
+follows_by F (block_has part) h = record { region = _; node = _; part = part; follows = h.1.0 }
+follows_by F (binding_has part) h = record { region = _; node = _; part = part; follows = h.0 }
+
+-- what the source has follows at what stands there
+pub follows_at : (P : Checked) → Distinct P → {p : Path} {r : Region} {e : ℕ} {v : SourceValue} (n : Node) → Part P r e n → Holds P (Has p e v) → Follows (Holds P) n p v
+follows_at P distinct {p = p} {v = v} n part h =
+    let b = because P h.round _ h.there in
+    let f = follows_by (Holds P) b.rule b.hold in
+    subst (λ z. Follows (Holds P) z p v) (same_part P distinct f.part part).1 f.follows
+
+one_outcome : {v w : SourceValue} (a b : Outcome) → a ≡ b → a ≡ Gives v → b ≡ Gives w → v ≡ w
+one_outcome a b e p q = cc
 
 module _ (P : Checked) (distinct : Distinct P) where
   -- the values of a place are those of earlier rounds' one value
   abbrev Earlier : ℕ → Type 0
   Earlier n = (p : Path) (e : ℕ) (v w : SourceValue) → Rounds P n (Has p e v) → Holds P (Has p e w) → v ≡ w
 
-  one_by_rule : (n : ℕ) {p : Path} {e : ℕ} {v w : SourceValue} {fs gs : List Fact}
-      → Earlier n → Rule P fs (Has p e v) → Every (Rounds P n) fs → Rule P gs (Has p e w) → Every (Holds P) gs → v ≡ w
-  one_by_rule n early (literal_has h) a (literal_has k) b = let s = (same_part P distinct h k).1 in cc
-  one_by_rule n early (literal_has h) a (unary_has k r) b = let s = (same_part P distinct h k).1 in cc
-  one_by_rule n early (literal_has h) a (binary_has k r) b = let s = (same_part P distinct h k).1 in cc
-  one_by_rule n early (unary_has h r) a (literal_has k) b = let s = (same_part P distinct h k).1 in cc
-  one_by_rule n early (unary_has {a = x} {o = o} {p = p} {v = v} h r) a (unary_has {a = y} {o = o'} {v = w} k q) b =
-      let s = (same_part P distinct h k).1 in
-      let eo : o ≡ o' = cc in
-      let ea : y ≡ x = cc in
-      let ev : v ≡ w = early p x v w a.1.0 (subst (λ z. Holds P (Has p z w)) ea b.1.0) in
-      gives_one _ _ (λ i. result_of_unary (eo i) (ev i)) r q
-  one_by_rule n early (unary_has h r) a (binary_has k q) b = let s = (same_part P distinct h k).1 in cc
-  one_by_rule n early (binary_has h r) a (literal_has k) b = let s = (same_part P distinct h k).1 in cc
-  one_by_rule n early (binary_has h r) a (unary_has k q) b = let s = (same_part P distinct h k).1 in cc
-  one_by_rule n early (binary_has {a = x} {b = x'} {o = o} {p = p} {v = v} {w = v'} h r) a (binary_has {a = y} {b = y'} {o = o'} {v = w} {w = w'} k q) b =
-      let s = (same_part P distinct h k).1 in
-      let eo : o ≡ o' = cc in
-      let ea : y ≡ x = cc in
-      let eb : y' ≡ x' = cc in
-      let ev : v ≡ w = early p x v w a.1.0 (subst (λ z. Holds P (Has p z w)) ea b.1.0) in
-      let ew : v' ≡ w' = early p x' v' w' a.1.1.0 (subst (λ z. Holds P (Has p z w')) eb b.1.1.0) in
-      gives_one _ _ (λ i. result_of_binary (eo i) (ev i) (ew i)) r q
+  -- what follows at a node is one value
+  one_at_node : (m : ℕ) → Earlier m → (n : Node) (p : Path) (v w : SourceValue) → Follows (Rounds P m) n p v → Follows (Holds P) n p w → v ≡ w
+  one_at_node m early (LiteralNode c) p v w h k = h ∙ sym k
+  one_at_node m early (UnaryNode o a) p v w h k = one_outcome _ _ (λ i. result_of_unary o (early p a h.0 k.0 h.1 k.1 i)) h.2 k.2
+  one_at_node m early (BinaryNode o a b) p v w h k = one_outcome _ _ (λ i. result_of_binary o (early p a h.0 k.0 h.2 k.2 i) (early p b h.1 k.1 h.3 k.3 i)) h.4 k.4
+  one_at_node m early (NameNode b) p v w h k = early p b v w h k
+  one_at_node m early UnboundNode p v w h k = absurd h
+  one_at_node m early (BlockNode vs b) p v w h k = early p b v w h k
+  one_at_node m early (BindingNode a) p v w h k = early p a v w h k
 
   one_by_round : (n : ℕ) → Earlier n
   one_by_round zero p e v w h k = absurd h
   one_by_round (suc n) p e v w (inl h) k = one_by_round n p e v w h k
   one_by_round (suc n) p e v w (inr t) k =
-      let b = because P k.round _ k.there in
-      one_by_rule n (one_by_round n) t.1 t.2 b.rule b.hold
+      let f = follows_by (Rounds P n) t.1 t.2 in
+      one_at_node n (one_by_round n) f.node p v w f.follows (follows_at P distinct f.node f.part k)
 
   -- each path and place has at most one value
   pub coherence : IsCoherent P

@@ -27,18 +27,14 @@ use Rattle.id_meaning.specs.declared.FaultKind.{FaultKind}
 use Rattle.id_meaning.specs.declared.FaultKind.TheVariants as kind
 use Rattle.id_meaning.specs.declared.Fact.TheVariants.{On, Has}
 use Rattle.id_meaning.specs.Results.{Outcome, Gives, Fails, result_of_unary, result_of_binary}
-use Rattle.id_meaning.specs.Parts.{Region, LiteralNode, UnaryNode, BinaryNode, place_of, IsDef, Part, Distinct}
-use Rattle.id_meaning.specs.Facts.{literal_has, unary_has, binary_has, unary_fails, binary_fails}
+use Rattle.id_meaning.specs.Parts.{Region, LiteralNode, UnaryNode, BinaryNode, BindingNode, place_of, IsDef, Part, Distinct}
+use Rattle.id_meaning.specs.Facts.{literal_has, unary_has, binary_has, binding_has, unary_fails, binary_fails}
 use Rattle.id_meaning.specs.Rounds.{Holds, Faulty}
-use Rattle.id_build.specs.Roles.{Role, Answer, Trigger, Return, Of, From, Makes, answer, trigger, return, literal, unary, binary, constant_of, port_of}
+use Rattle.id_build.specs.Roles.{Role, Answer, Trigger, Return, Of, From, Makes, answer, trigger, return, literal, unary, binary, label, constant_of, port_of}
 use Rattle.id_laws.proofs.Arrivals.{Happening}
 use Rattle.id_laws.proofs.Agreement.{token_value, operator_fault, as_fired, agree_unary, agree_binary}
-use Rattle.id_laws.proofs.Wanted.{Activation, PathOf, main_path, Live, ReturnsTo, Shown, Wants, Says}
+use Rattle.id_laws.proofs.Wanted.{Activation, PathOf, one_path, Live, ReturnsTo, Shown, ShownBinder, Wants, Says}
 use Rattle.id_laws.proofs.Turned.{holds_by, live_on}
-
--- an activation has one path
-pub one_path : {run : List Happening} {a : Activation} {p q : Path} → PathOf run a p → PathOf run a q → p ≡ q
-one_path main_path main_path = refl
 
 fault_kind_is : (k : FaultKind) → fault_kind (operator_fault k) ≡ k
 fault_kind_is kind.Overflow = refl
@@ -86,11 +82,11 @@ module _ (P : Checked) (distinct : Distinct P) (run : List Happening) (a : Activ
   unary_means : {r : Region} {e x : ℕ} {o : UnaryOp} → Part P r e (UnaryNode o x) → Live P run a r → {path : Path} → PathOf run a path → (u : SourceValue) → Holds P (Has path x u)
       → (y : Outcome) → result_of_unary o u ≡ y → Means P run a (Of r e) e (as_fired y)
   unary_means {e = e} {x = x} part live {path} path_of u has (Gives y) is =
-      let on = live_on P distinct live part in
+      let on = live_on P distinct live part tt in
       let at_path : Holds P (On path e) = subst (λ z. Holds P (On z e)) (one_path on.path_of path_of) on.on in
       (live, record { path = path; path_of = path_of; value = y; is = refl; holds = holds_by P _ _ (unary_has part is) (at_path, (has, tt)) })
   unary_means {e = e} {x = x} part live {path} path_of u has (Fails k) is =
-      let on = live_on P distinct live part in
+      let on = live_on P distinct live part tt in
       let at_path : Holds P (On path e) = subst (λ z. Holds P (On z e)) (one_path on.path_of path_of) on.on in
       record {
         path = path;
@@ -102,17 +98,29 @@ module _ (P : Checked) (distinct : Distinct P) (run : List Happening) (a : Activ
   binary_means : {r : Region} {e x y : ℕ} {o : BinaryOp} → Part P r e (BinaryNode o x y) → Live P run a r → {path : Path} → PathOf run a path → (u w : SourceValue)
       → Holds P (Has path x u) → Holds P (Has path y w) → (z : Outcome) → result_of_binary o u w ≡ z → Means P run a (Of r e) e (as_fired z)
   binary_means {e = e} part live {path} path_of u w has has' (Gives z) is =
-      let on = live_on P distinct live part in
+      let on = live_on P distinct live part tt in
       let at_path : Holds P (On path e) = subst (λ z. Holds P (On z e)) (one_path on.path_of path_of) on.on in
       (live, record { path = path; path_of = path_of; value = z; is = refl; holds = holds_by P _ _ (binary_has part is) (at_path, (has, (has', tt))) })
   binary_means {e = e} part live {path} path_of u w has has' (Fails k) is =
-      let on = live_on P distinct live part in
+      let on = live_on P distinct live part tt in
       let at_path : Holds P (On path e) = subst (λ z. Holds P (On z e)) (one_path on.path_of path_of) on.on in
       record {
         path = path;
         path_of = path_of;
         faulty = subst (λ z. Faulty P (record { kind = z; path = path; place = e })) (sym (fault_kind_is k))
             (record { premises = _; rule = binary_fails part is; hold = (at_path, (has, (has', tt))) });
+      }
+
+  -- a label says what its binding's expression shows
+  label_says : {r : Region} {b x : ℕ} → Part P r b (BindingNode x) → (v : Value) → Live P run a r × Shown P run a x v → ShownBinder P run a b v
+  label_says {r} {b} {x} part v w =
+      let shown = w.1 in
+      record {
+        region = r;
+        expression = x;
+        part = part;
+        live = w.0;
+        shown = record { path = shown.path; path_of = shown.path_of; value = shown.value; is = shown.is; holds = holds_by P _ _ (binding_has part) (shown.holds, tt) };
       }
 
   module _ (t : Tag) (f : Fresh) where
@@ -125,7 +133,7 @@ module _ (P : Checked) (distinct : Distinct P) (run : List Happening) (a : Activ
     fires_one q o e p v (return is_def) w = tt
     fires_one q o e Zero v (literal {v = c} part) w =
         let signal : v ≡ value.Signal = w.1 _ part in
-        let on = live_on P distinct w.0 part in
+        let on = live_on P distinct w.0 part tt in
         subst (λ z. Means P run a q e (fired o t (operands.One z) f)) (sym signal)
         (w.0, record { path = on.path; path_of = on.path_of; value = c; is = constant_is c; holds = holds_by P _ _ (literal_has part) (on.on, tt) })
     fires_one q o e One v (literal {v = c} part) w = absurd (w.1 (LiteralNode c) part)
@@ -135,6 +143,8 @@ module _ (P : Checked) (distinct : Distinct P) (run : List Happening) (a : Activ
         (subst (Means P run a q e) (sym (agree_unary u shown.value t f)) (unary_means part w.0 shown.path_of shown.value shown.holds (result_of_unary u shown.value) refl))
     fires_one q o e One v (unary {a = x} {o = u} part) w = absurd (w.1 (UnaryNode u x) part)
     fires_one q o e p v (binary part) w = tt
+    fires_one q o e Zero v (label {r = r} {a = x} part) w = merged q e v (same_kind (kind_of v) Rattle.id_graph.specs.declared.instr.PortKind.TheVariants.Int) (label_says part v (w r x part))
+    fires_one q o e One v (label part) w = absurd w
 
     -- a firing on two operands
     fires_two : (q : Role) (o : Op) (e : ℕ) (v w : Value) → Makes P q o e → Wants P run a q Zero v → Wants P run a q One w → Means P run a q e (fired o t (operands.Two v w) f)
@@ -152,6 +162,7 @@ module _ (P : Checked) (distinct : Distinct P) (run : List Happening) (a : Activ
         subst (λ (z : Value × Value). Means P run a q e (fired o t (operands.Two z.0 z.1) f)) (λ i. (sym left.is i, sym right.is i))
         (subst (Means P run a q e) (sym (agree_binary u left.value right.value t f))
         (binary_means part x.0 left.path_of left.value right.value left.holds right_has (result_of_binary u left.value right.value) refl))
+    fires_two q o e v w (label part) x y = absurd y
 
     -- what a firing says
     pub fire_means : (q : Role) (o : Op) (e : ℕ) (ops : Operands) → Makes P q o e → OperandsWanted P run a q ops → Means P run a q e (fired o t ops f)

@@ -28,6 +28,7 @@ use Rattle.id_meaning.specs.Parts.{Among, Distinct}
 use Rattle.id_build.specs.Roles.{Role}
 use Rattle.id_build.specs.Schemas.{Numbered}
 use Rattle.id_laws.specs.Laws.{IsNeverStuck, events, messages, is_for}
+use Rattle.id_laws.proofs.Tests.{both_true}
 use Rattle.id_laws.proofs.Arrivals.{Arrival, Happening, happening, token_of, token_of-happening, step_by}
 use Rattle.id_laws.proofs.Reached.{Reach, begin, deliver, handled, flying}
 use Rattle.id_laws.proofs.Counts.{count_at, count_append, hit, hit_itself, hit_is, at_most_one}
@@ -59,10 +60,6 @@ port_itself : (p : Port) → same_port p p ≡ true
 port_itself Zero = refl
 port_itself One = refl
 
-both_true : (a b : Bool) → (a && b) ≡ true → (a ≡ true) × (b ≡ true)
-both_true true b e = (refl, e)
-both_true false b e = cc
-
 passes_hits : (t : Tag) (p : Port) (x : Payload) → is_for t p x ≡ true → hit t p x ≡ 1
 passes_hits t p (Token u q v) e =
     let both = both_true (same_tag u t) (same_port q p) e in
@@ -89,7 +86,7 @@ counts_alike t p (x ∷ xs) =
 
 -- ---- the records count as the run
 
-abbrev told : List EventView → List Payload
+abbrev pub told : List EventView → List Payload
 told vs = map (λ v. v.message.payload) vs
 
 nothing_told : (n : ℕ) → told (events_of (replicate n fresh)) ≡ []
@@ -131,6 +128,10 @@ module _ (P : Checked) (distinct : Distinct P) (g : Parts) (number : Role → �
       let h = known.0 in
       never_blocked g count (exclusive P distinct g number numbered count) s hs r h known.1
       (stuck_blocked h.element h.tag (slice_get g.instrs h.tag.instr) h.arrival (sym (known.2).step ∙ is))
+
+  -- the records have at most one token for each port of each tag
+  pub told_once : (t : Tag) (p : Port) → count_at t p (told (events s)) ≤ 1
+  told_once t p = omega (arith, told_all g count s hs r t p, at_most_one g count (exclusive P distinct g number numbered count) s hs r t p)
 
   one_token : (t : Tag) (p : Port) → count_by (is_for t p) (messages s) ≤ 1
   one_token t p =

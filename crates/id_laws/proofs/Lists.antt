@@ -17,6 +17,10 @@ among_append x [] zs h = inr h
 among_append x (y ∷ ys) zs (inl e) = inl (inl e)
 among_append x (y ∷ ys) zs (inr h) = elim (among_append x ys zs h) [ inl k ↦ inl (inr k) | inr k ↦ inr k ]
 
+-- all of the second list is in the first
+abbrev pub Inside : {A : Type 0} → List A → List A → Type 0
+Inside {A} xs ys = (x : A) → Among x ys → Among x xs
+
 pub among_map : {A B : Type 0} (f : A → B) (x : A) (ys : List A) → Among x ys → Among (f x) (map f ys)
 among_map f x [] h = absurd h
 among_map f x (y ∷ ys) (inl e) = inl (ap f e)
@@ -47,6 +51,14 @@ pub differ_apart : {A : Type 0} (x : A) (xs ys : List A) → AllDiffer (xs ++ ys
 differ_apart x [] ys d h k = h
 differ_apart x (y ∷ xs) ys d (inl e) k = d.0 (among_right y xs ys (subst (λ z. Among z ys) e k))
 differ_apart x (y ∷ xs) ys d (inr h) k = differ_apart x xs ys d.1 h k
+
+-- the members of two lists that have nothing in common differ where those of each do
+pub differ_append : {A : Type 0} (xs ys : List A) → AllDiffer xs → AllDiffer ys → ((x : A) → Among x xs → Among x ys → ⊥) → AllDiffer (xs ++ ys)
+differ_append [] ys d k apart = k
+differ_append (x ∷ xs) ys d k apart = (
+  λ h. elim (among_append x xs ys h) [ inl i ↦ d.0 i | inr i ↦ apart x (inl refl) i ],
+  differ_append xs ys d.1 k (λ z i. apart z (inr i)),
+)
 
 -- ---- places in a list
 

@@ -1,5 +1,5 @@
 -- A quiet run of a schemas' graph has shown everything.
-use Rattle.std.proofs.Common.{◌≡◌, inl, inr, ℕ, suc, Option, Some, None, List, [], ◌∷◌, slice_get, refl, sym, ◌∙◌, ap, subst, arith}
+use Rattle.std.proofs.Common.{◌≡◌, inl, inr, ℕ, suc, cond, Option, Some, None, List, [], ◌∷◌, slice_get, refl, sym, ◌∙◌, ap, subst, arith}
 use Rattle.std.specs.List.{All}
 use Rattle.std.specs.Option.{option_and_then}
 use Rattle.id_check.specs.declared.Checked.{Checked}
@@ -24,25 +24,29 @@ use Rattle.id_core.specs.Observed as shown
 use Rattle.id_meaning.specs.declared.SourceValue.{SourceValue}
 use Rattle.id_meaning.specs.declared.SourceFault.{SourceFault}
 use Rattle.id_meaning.specs.declared.Fact.{Fact}
-use Rattle.id_meaning.specs.Parts.{Among, Region, Top, place_of, Distinct}
+use Rattle.id_meaning.specs.Parts.{Among, Region, BindingNode, place_of, Part, Distinct}
 use Rattle.id_meaning.specs.Facts.{outermost, FaultRule, unary_fails, binary_fails}
+use Rattle.id_meaning.specs.declared.NameValue.{NameValue}
+use Rattle.id_meaning.specs.Names.{IsNameValue}
 use Rattle.id_meaning.specs.Rounds.{Every, Holds, FaultFree, Answers, IsAnswer}
-use Rattle.id_build.specs.Roles.{Role, Return, Of, From, return, unary, binary, unary_op, binary_op, port_of, GivesAt, to_unary, to_left, to_right, to_return}
+use Rattle.id_build.specs.Roles.{Role, Return, Of, Label, return, unary, binary, label, unary_op, binary_op, port_of, to_unary, to_left, to_right, to_return}
 use Rattle.id_build.specs.Schemas.{Numbered}
 use Rattle.id_laws.specs.Laws.{IsComplete, events}
 use Rattle.id_laws.proofs.Lists.{among_at}
-use Rattle.id_laws.proofs.Tables.{same_part, def_of_main, body_part}
+use Rattle.id_laws.proofs.Tables.{def_of_main}
+use Rattle.id_laws.proofs.Nested.{body_part}
+use Rattle.id_laws.proofs.Coherence.{follows_at}
+use Rattle.id_laws.proofs.Labels.{label_is, place_made}
 use Rattle.id_laws.proofs.Arrivals.{Happening, token_of, step_by, step_of_event}
 use Rattle.id_laws.proofs.Reached.{Reach, handled}
 use Rattle.id_laws.proofs.Progress.{one_handled}
 use Rattle.id_laws.proofs.Records.{to_record, among_events, from_record, recorded, among_filter_map, filter_map_has, among_from_handled}
 use Rattle.id_laws.proofs.Agreement.{token_value, operator_fault, as_fired, agree_unary, agree_binary}
 use Rattle.id_laws.proofs.Wanted.{Activation, main_activation, tag_in, main_path}
-use Rattle.id_laws.proofs.Fed.{gives}
 use Rattle.id_laws.proofs.Begun.{continuation_to, starting_is}
 use Rattle.id_laws.proofs.Apart.{exclusive}
-use Rattle.id_laws.proofs.Carried.{RoleFired, both_fired, alone_fired, unary_alone, sent_back, one_activation, Spoken, CarriedOn, CarriedHas, carried, came, in_region, operand_came, start_came, sent_arrived}
-use Rattle.id_laws.proofs.Shown.{value_back, brought_is, among_first, answer_came, sound_at}
+use Rattle.id_laws.proofs.Carried.{RoleFired, both_fired, alone_fired, unary_alone, sent_back, one_activation, SpokenBy, CarriedOn, CarriedHas, carried, came, in_region, expression_source, operand_came, label_came, start_came, sent_arrived}
+use Rattle.id_laws.proofs.Shown.{value_back, path_is, brought_is, among_first, answer_came, sound_answer}
 
 -- what holds of each thing in a list holds of what is among them
 of_all : {A : Type 0} (Q : A → Type 0) (xs : List A) (x : A) → All Q xs → Among x xs → Q x
@@ -61,14 +65,9 @@ module _ (P : Checked) (distinct : Distinct P) (g : Parts) (number : Role → �
       let d = answers.main in
       let is_def = def_of_main answers.is_main in
       let has : CarriedHas P distinct g number numbered count s hs r quiet.empty outermost (place_of d.body) v = carried P distinct g number numbered count s hs r quiet.empty _ answers.holds in
-      let body = body_part is_def in
-      let region_is : has.region ≡ Top d.place = (same_part P distinct (has.here).part body.part).0 in
-      let activation_is : has.activation ≡ main_activation = one_activation has.path_of main_path in
-      let body_gives = gives body.node body.part in
-      let spoken = has.spoken (From (Of has.region (place_of d.body))) (subst (λ z. GivesAt P z (place_of d.body) (From (Of z (place_of d.body)))) (sym region_is) body_gives) in
-      let said : Spoken P distinct g number numbered count s hs r quiet.empty main_activation (Of (Top d.place) (place_of d.body)) (token_value v) =
-      subst (λ (z : Activation × Region). Spoken P distinct g number numbered count s hs r quiet.empty z.0 (Of z.1 (place_of d.body)) (token_value v)) (λ j. (activation_is j, region_is j)) spoken in
-      let returned = came P distinct g number numbered count s hs r quiet.empty main_activation (From (Of (Top d.place) (place_of d.body))) (Return d.place) One (token_value v) said (to_return is_def body_gives) in
+      let said = subst (λ z. SpokenBy P distinct g number numbered count s hs r quiet.empty z has.source (token_value v)) (one_activation has.path_of main_path) has.spoken in
+      let gives = expression_source P distinct g number numbered count s hs r quiet.empty (body_part is_def) has in
+      let returned = came P distinct g number numbered count s hs r quiet.empty main_activation has.source (Return d.place) One (token_value v) said (to_return is_def gives) in
       let continuation = start_came P distinct g number numbered count s hs r quiet.empty (continuation_to P distinct g number numbered d)
       (subst (Among (continuation_to P distinct g number numbered d)) (sym (starting_is P distinct g number numbered d answers.is_main)) (inr (inl refl))) in
       let f = both_fired P distinct g number numbered count s hs r quiet.empty main_activation (Return d.place) (Back (port_of d.result)) d.place (value.Continuation (main_tag 0)) (token_value v) (return is_def) refl continuation returned in
@@ -100,7 +99,7 @@ module _ (P : Checked) (distinct : Distinct P) (g : Parts) (number : Role → �
       ap (option_and_then shown.source_value) first.1 ∙ ap shown.source_value same ∙ value_back v
 
   answer_exact : (o : Option SourceValue) → shown.answer s ≡ o → IsAnswer P o
-  answer_exact (Some v) e = (sound_at P distinct g number numbered count s hs r).answer v e
+  answer_exact (Some v) e = sound_answer P distinct g number numbered count s hs r v e
   answer_exact None e = λ v answers. let bad : None ≡ Some v = sym e ∙ answer_shown v answers in cc
 
   -- no event has failed
@@ -143,6 +142,25 @@ module _ (P : Checked) (distinct : Distinct P) (g : Parts) (number : Role → �
   no_source_fault : FaultFree P
   no_source_fault f fault = no_fault_by fault.rule fault.hold
 
+  -- what a token for a binder's label shows
+  label_shows : {q : Region} {a : ℕ} (n : NameValue) (act : Activation) → Part P q n.place (BindingNode a) → n.path ≡ outermost
+      → shown.name_in g (Token (tag_in act (number (Label n.place))) Zero (token_value n.value)) ≡ Some n
+  label_shows n act part path_is =
+      (λ i. cond (label_is P distinct g number numbered part i) (shown.name_at g (number (Label n.place)) (value_back n.value i)) None)
+      ∙ (λ i. Some (record { path = sym path_is i; place = place_made P distinct g number numbered (label part) i; value = n.value }))
+
+  -- what a binder Has came to its label, and so is shown
+  names_shown : (n : NameValue) → IsNameValue P n → Among n (shown.names g s)
+  names_shown n name =
+      let part = (name.binder).part in
+      let has : CarriedHas P distinct g number numbered count s hs r quiet.empty n.path (name.binder).value n.value =
+      carried P distinct g number numbered count s hs r quiet.empty _ (follows_at P distinct (BindingNode (name.binder).value) part name.holds) in
+      let h = among_from_handled hs _ (label_came P distinct g number numbered count s hs r quiet.empty part has) in
+      let record_it = to_record g count s hs r h.0 h.1 in
+      let payload_is : (record_it.0).message.payload ≡ Token (tag_in has.activation (number (Label n.place))) Zero (token_value n.value) = (record_it.2).payload ∙ sym h.2 in
+      filter_map_has (λ (u : EventView). shown.name_in g u.message.payload) (events s) record_it.0 n (among_events s record_it.0 record_it.1)
+      (ap (shown.name_in g) payload_is ∙ label_shows n has.activation part (path_is has.path_of))
+
   -- a quiet run has shown everything
-  pub complete_at : IsComplete P s
-  complete_at = record { answer = answer_exact (shown.answer s) refl; no_fault = no_source_fault }
+  pub complete_at : IsComplete P g s
+  complete_at = record { answer = answer_exact (shown.answer s) refl; names = names_shown; no_fault = no_source_fault }

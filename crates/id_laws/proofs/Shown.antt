@@ -4,6 +4,7 @@ use Rattle.std.specs.Option.{option_map_or, option_and_then}
 use Rattle.id_check.specs.declared.Checked.{Checked}
 use Rattle.id_graph.specs.declared.dests.Port.{Port}
 use Rattle.id_graph.specs.declared.dests.Port.TheVariants.{Zero, One}
+use Rattle.id_graph.specs.declared.instr.Op.{Op}
 use Rattle.id_graph.specs.declared.instr.Instr.{Instr}
 use Rattle.id_graph.specs.Graph.{Parts}
 use Rattle.id_tag.specs.declared.Tag.{Tag}
@@ -30,12 +31,12 @@ use Rattle.id_meaning.specs.declared.SourceValue.{SourceValue}
 use Rattle.id_meaning.specs.declared.SourceValue.TheVariants as source
 use Rattle.id_meaning.specs.declared.SourceFault.{SourceFault}
 use Rattle.id_meaning.specs.declared.Fact.TheVariants.{Has}
-use Rattle.id_meaning.specs.Parts.{Among, Region, Node, LiteralNode, UnaryNode, BinaryNode, place_of, Part, Distinct}
+use Rattle.id_meaning.specs.Parts.{Among, Region, place_of, Distinct}
 use Rattle.id_meaning.specs.Facts.{outermost}
 use Rattle.id_meaning.specs.Rounds.{Holds, Faulty, Answers}
-use Rattle.id_build.specs.Roles.{Role, Answer, Of, From, literal, unary, binary}
+use Rattle.id_build.specs.Roles.{Role, Answer, Of, From, Makes}
 use Rattle.id_build.specs.Schemas.{Numbered}
-use Rattle.id_laws.specs.Laws.{IsSound, Carries, events, value_in}
+use Rattle.id_laws.specs.Laws.{Carries, events, value_in}
 use Rattle.id_laws.proofs.Lists.{among_at, among_map}
 use Rattle.id_laws.proofs.Arrivals.{Happening, token_of, step_by, step_of_event}
 use Rattle.id_laws.proofs.Reached.{Reach, handled}
@@ -51,7 +52,7 @@ use Rattle.id_laws.proofs.Begun.{main_of, made_answer, expected, sends}
 pub value_back : (v : SourceValue) → shown.source_value (token_value v) ≡ Some v
 value_back (source.Int n) = refl
 
-path_is : {run : List Happening} {a : Activation} {p : Path} → PathOf run a p → p ≡ outermost
+pub path_is : {run : List Happening} {a : Activation} {p : Path} → PathOf run a p → p ≡ outermost
 path_is main_path = refl
 
 pub brought_is : (x : Payload) (w : Value) → shown.brought x ≡ Some w → (p : Port) × (x ≡ Token (main_tag 0) p w)
@@ -74,7 +75,7 @@ fault_is g (Fault (Operator k t)) f e = (k, t, refl, cc)
 fault_is g Stuck f e = cc
 
 module _ (P : Checked) (distinct : Distinct P) (g : Parts) (number : Role → ℕ) (numbered : Numbered P g number) (count : ℕ) (s : World) (hs : List Happening) (r : Reach g count s hs) where
-  all_expected : (x : Payload) → Among x (handled hs) → Expected P distinct g number numbered hs x
+  pub all_expected : (x : Payload) → Among x (handled hs) → Expected P distinct g number numbered hs x
   all_expected x h = expected P distinct g number numbered hs count s hs r x (inr h)
 
   -- a token that came to the answer
@@ -91,10 +92,10 @@ module _ (P : Checked) (distinct : Distinct P) (g : Parts) (number : Role → �
       by_port Zero w = (refl, w)
       by_port One w = absurd w
 
-  handled_event : (v : EventView) → Among v (events s) → (h : Happening) × Among h hs × Tells g v h
+  pub handled_event : (v : EventView) → Among v (events s) → (h : Happening) × Among h hs × Tells g v h
   handled_event v among = from_record g count s hs r v (recorded s v among)
 
-  sound_answer : (v : SourceValue) → shown.answer s ≡ Some v → Answers P v
+  pub sound_answer : (v : SourceValue) → shown.answer s ≡ Some v → Answers P v
   sound_answer v e =
       let first = first_is (slice_get (shown.answers (events s)) 0) v e in
       let event = among_filter_map (λ (u : EventView). shown.brought u.message.payload) (events s) first.0 (among_first (shown.answers (events s)) first.0 first.1) in
@@ -107,7 +108,7 @@ module _ (P : Checked) (distinct : Distinct P) (g : Parts) (number : Role → �
       record {
         main = shows.main;
         is_main = shows.is_main;
-        holds = subst (λ (z : Path × SourceValue). Holds P (Has z.0 (place_of (shows.main).body) z.1)) (λ i. (path_is has.path_of i, value_is i)) has.holds;
+        holds = subst (λ (z : Path × SourceValue). Holds P (Has z.0 (place_of (shows.main).body) z.1)) {x = (has.path, has.value)} (λ i. (path_is has.path_of i, value_is i)) has.holds;
       }
 
   -- an event that comes to a fault has failed
@@ -139,43 +140,34 @@ module _ (P : Checked) (distinct : Distinct P) (g : Parts) (number : Role → �
       go (Some i) Waits e f is = cc
       go (Some i) Blocked e f is = cc
 
-  sound_faults : (f : SourceFault) → Among f (shown.faults g s) → Faulty P f
+  pub sound_faults : (f : SourceFault) → Among f (shown.faults g s) → Faulty P f
   sound_faults f among =
       let event = among_filter_map (λ (u : EventView). shown.fault_of g u.step) (events s) f among in
       let fault = fault_is g (event.0).step f event.2 in
       let known = handled_event event.0 event.1 in
       subst (Faulty P) (sym fault.3) (failed known.0 fault.0 fault.1 known.1 (sym (known.2).step ∙ fault.2))
 
-  made_part : {q : Region} {e : ℕ} (n : Node) → Part P q e n → IsMade P (Of q e)
-  made_part (LiteralNode v) part = record { op = _; place = _; makes = literal part }
-  made_part (UnaryNode o a) part = record { op = _; place = _; makes = unary part }
-  made_part (BinaryNode o a b) part = record { op = _; place = _; makes = binary part }
-
-  carries : (q : Region) (e : ℕ) (n : Node) (h : Happening) (m : Message) → Part P q e n → h.tag.instr ≡ number (Of q e) → Sending P distinct g number numbered hs h m.payload → Carries P e m
-  carries q e n h m part at (by_arc a src target p v made is feeds says x) =
-      let role_is : src ≡ Of q e = same_role P distinct g number numbered hs made (made_part n part) (sym (ap (λ (u : Tag). u.instr) is) ∙ at) in
+  carries : (q : Region) (e : ℕ) (h : Happening) (m : Message) → IsMade P (Of q e) → h.tag.instr ≡ number (Of q e) → Sending P distinct g number numbered hs h m.payload → Carries P e m
+  carries q e h m expression at (by_arc a src target p v made is feeds says x) =
+      let role_is : src ≡ Of q e = same_role P distinct g number numbered hs made expression (sym (ap (λ (u : Tag). u.instr) is) ∙ at) in
       let has : Shown P hs a e v = (subst (λ z. Rattle.id_laws.proofs.Wanted.Says P hs a (From z) v) role_is says).1 in
       record {
         value = has.value;
         brings = ap value_in x ∙ ap shown.source_value has.is ∙ value_back has.value;
         holds = subst (λ z. Holds P (Has z e has.value)) (path_is has.path_of) has.holds;
       }
-  carries q e n h m part at (by_return a src t v made is back x) =
-      let role_is : src ≡ Of q e = same_role P distinct g number numbered hs made (made_part n part) (sym (ap (λ (u : Tag). u.instr) is) ∙ at) in
+  carries q e h m expression at (by_return a src t v made is back x) =
+      let role_is : src ≡ Of q e = same_role P distinct g number numbered hs made expression (sym (ap (λ (u : Tag). u.instr) is) ∙ at) in
       let both = sym back.is ∙ role_is in
       cc
 
   tag_is : (x : Payload) (h : Happening) → x ≡ token_of h → tag_of x ≡ h.tag
   tag_is x h e = ap tag_of e
 
-  sound_values : (q : Region) (e : ℕ) (n : Node) (v : EventView) (m : Message) → Part P q e n → Among v (events s)
+  pub sound_values : (q : Region) (e : ℕ) (o : Op) (v : EventView) (m : Message) → Makes P (Of q e) o e → Among v (events s)
       → (tag_of v.message.payload).instr ≡ number (Of q e) → Among m v.outputs → Carries P e m
-  sound_values q e n v m part among at out =
+  sound_values q e o v m makes among at out =
       let known = handled_event v among in
       let sent_it = subst (Among m.payload) (known.2).outputs (among_map (λ (y : Message). y.payload) m v.outputs out) in
-      carries q e n known.0 m part (sym (ap (λ (u : Tag). u.instr) (tag_is _ known.0 (known.2).payload)) ∙ at)
+      carries q e known.0 m (record { op = o; place = e; makes = makes }) (sym (ap (λ (u : Tag). u.instr) (tag_is _ known.0 (known.2).payload)) ∙ at)
       (sends P distinct g number numbered hs count s hs r known.0 known.1 m.payload sent_it)
-
-  -- what is shown is sound
-  pub sound_at : IsSound P g number s
-  sound_at = record { answer = sound_answer; faults = sound_faults; values = sound_values }

@@ -1,17 +1,15 @@
--- What holds by a rule, and that each part of a live region is On.
-use Rattle.std.proofs.Common.{inl, inr, ℕ, zero, suc, ◌≤◌, ◌+◌, List, [], ◌∷◌, refl, sym, ap, subst, arith}
+-- What holds by a rule, and that each expression of a live region is On.
+use Rattle.std.proofs.Common.{inl, inr, ℕ, zero, suc, ◌≤◌, ◌+◌, List, [], ◌∷◌, sym, subst, arith}
 use Rattle.std.proofs.lemmas.Bool.{cases_eq}
-use Rattle.id_tree.specs.declared.tree.Expr.{Expr, Literal, Unary', Binary'}
-use Rattle.id_tree.specs.declared.tree.Def.{Def}
 use Rattle.id_check.specs.declared.Checked.{Checked}
 use Rattle.id_meaning.specs.declared.Path.{Path}
 use Rattle.id_meaning.specs.declared.Fact.{Fact}
 use Rattle.id_meaning.specs.declared.Fact.TheVariants.{On}
-use Rattle.id_meaning.specs.Parts.{Among, Region, Top, Node, UnaryNode, BinaryNode, Entry, place_of, entries_of, entries_of_def, IsDef, Part, Distinct}
-use Rattle.id_meaning.specs.Facts.{outermost, Rule, main_on, operand_on, left_on, right_on}
+use Rattle.id_meaning.specs.Parts.{Among, Region, Node, LiteralNode, UnaryNode, BinaryNode, NameNode, UnboundNode, BlockNode, BindingNode, Part, Distinct}
+use Rattle.id_meaning.specs.Facts.{outermost, Rule, main_on, operand_on, left_on, right_on, statement_on, body_on}
 use Rattle.id_meaning.specs.Rounds.{Every, Rounds, Holds}
-use Rattle.id_laws.proofs.Lists.{among_left, among_right, among_append}
-use Rattle.id_laws.proofs.Tables.{line, def_of_main, part_of_def, part_in_def}
+use Rattle.id_laws.proofs.Tables.{def_of_main, part_of_def, part_in_def}
+use Rattle.id_laws.proofs.Inside.{IsExpression, operands, seen_in, holds_seen}
 use Rattle.id_laws.proofs.Arrivals.{Happening}
 use Rattle.id_laws.proofs.Wanted.{Activation, PathOf, main_path, Live, in_main}
 
@@ -41,40 +39,29 @@ one_round P (f ∷ fs) h =
 pub holds_by : (P : Checked) (fs : List Fact) (f : Fact) → Rule P fs f → Every (Holds P) fs → Holds P f
 holds_by P fs f rule h = let t = one_round P fs h in record { round = suc t.0; there = inr (fs, rule, t.1) }
 
-module _ (P : Checked) (d : Def) (is_def : IsDef P d) (p : Path) where
-  r : Region
-  r = Top d.place
+-- an On expression turns those that it names On
+operand_turned : (P : Checked) (p : Path) {r : Region} {e : ℕ} (n : Node) → Part P r e n → IsExpression n → Holds P (On p e) → (a : ℕ) → Among a (operands n) → Holds P (On p a)
+operand_turned P p {r} {e} (LiteralNode v) part x on a h = absurd h
+operand_turned P p {r} {e} (UnaryNode o b) part x on a (inl is) = holds_by P _ _ (operand_on (subst (λ z. Part P r e (UnaryNode o z)) (sym is) part)) (on, tt)
+operand_turned P p {r} {e} (UnaryNode o b) part x on a (inr h) = absurd h
+operand_turned P p {r} {e} (BinaryNode o b c) part x on a (inl is) = holds_by P _ _ (left_on (subst (λ z. Part P r e (BinaryNode o z c)) (sym is) part)) (on, tt)
+operand_turned P p {r} {e} (BinaryNode o b c) part x on a (inr (inl is)) = holds_by P _ _ (right_on (subst (λ z. Part P r e (BinaryNode o b z)) (sym is) part)) (on, tt)
+operand_turned P p {r} {e} (BinaryNode o b c) part x on a (inr (inr h)) = absurd h
+operand_turned P p {r} {e} (NameNode b) part x on a h = absurd h
+operand_turned P p {r} {e} UnboundNode part x on a h = absurd h
+operand_turned P p {r} {e} (BlockNode vs b) part x on a (inl is) = holds_by P _ _ (body_on (subst (λ z. Part P r e (BlockNode vs z)) (sym is) part)) (on, tt)
+operand_turned P p {r} {e} (BlockNode vs b) part x on a (inr h) = holds_by P _ _ (statement_on part h) (on, tt)
+operand_turned P p {r} {e} (BindingNode b) part x on a h = absurd x
 
-  -- each part of a definition's body that is On is On
-  parts_on : (x : Expr) → ((a : Entry) → Among a (entries_of (Top d.place) x) → Among a (entries_of_def d)) → Holds P (On p (place_of x))
-      → (a : Entry) → Among a (entries_of (Top d.place) x) → Holds P (On p a.place)
-  parts_on (Literal value place) inside on a (inl is) = subst (λ n. Holds P (On p n)) (ap (λ (y : Entry). y.place) (sym is)) on
-  parts_on (Literal value place) inside on a (inr none) = absurd none
-  parts_on (Unary' op q operand place) inside on a (inl is) = subst (λ n. Holds P (On p n)) (ap (λ (y : Entry). y.place) (sym is)) on
-  parts_on (Unary' op q operand place) inside on a (inr h) =
-      let part : Part P (Top d.place) place (UnaryNode op (place_of operand)) = part_in_def place _ is_def (inside _ (inl refl)) in
-      parts_on operand (λ b k. inside b (inr k)) (holds_by P _ _ (operand_on part) (on, tt)) a h
-  parts_on (Binary' op q left q' right place) inside on a (inl is) = subst (λ n. Holds P (On p n)) (ap (λ (y : Entry). y.place) (sym is)) on
-  parts_on (Binary' op q left q' right place) inside on a (inr h) =
-      let es = entries_of (Top d.place) left in
-      let fs = entries_of (Top d.place) right in
-      let part : Part P (Top d.place) place (BinaryNode op (place_of left) (place_of right)) = part_in_def place _ is_def (inside _ (inl refl)) in
-      elim (among_append a es fs h) [
-        | inl k ↦ parts_on left (λ b z. inside b (inr (among_left b es fs z))) (holds_by P _ _ (left_on part) (on, tt)) a k
-        | inr k ↦ parts_on right (λ b z. inside b (inr (among_right b es fs z))) (holds_by P _ _ (right_on part) (on, tt)) a k
-      ]
-
--- a part of a live region is On, at the activation's path
+-- an expression of a live region is On, at the activation's path
 pub record TurnedOn (P : Checked) (run : List Happening) (a : Activation) (e : ℕ) : Type 0 where
   pub path : Path
   pub path_of : PathOf run a path
   pub on : Holds P (On path e)
 
-pub live_on : (P : Checked) → Distinct P → {run : List Happening} {a : Activation} {r : Region} {e : ℕ} {n : Node} → Live P run a r → Part P r e n → TurnedOn P run a e
-live_on P distinct {e = e} {n = n} (in_main {d = d} main) part =
+pub live_on : (P : Checked) → Distinct P → {run : List Happening} {a : Activation} {r : Region} {e : ℕ} {n : Node} → Live P run a r → Part P r e n → IsExpression n → TurnedOn P run a e
+live_on P distinct {e = e} {n = n} (in_main {d = d} main) part expression =
     let is_def = def_of_main main in
-    record {
-      path = outermost;
-      path_of = main_path;
-      on = parts_on P d is_def outermost d.body (λ b k. k) (holds_by P _ _ (main_on main) tt) (line (Top d.place) e n) (part_of_def P distinct is_def part);
-    }
+    let Q : ℕ → Type 0 = λ k. Holds P (On outermost k) in
+    let at = seen_in d Q (λ k m h x on a z. operand_turned P outermost m (part_in_def k m is_def h) x on a z) (holds_by P _ _ (main_on main) tt) _ (part_of_def P distinct is_def part) in
+    record { path = outermost; path_of = main_path; on = holds_seen _ _ _ _ _ at expression }

@@ -1,5 +1,5 @@
 -- What each port wants and each source says, by what the source means.
-use Rattle.std.proofs.Common.{◌≡◌, ℕ, List}
+use Rattle.std.proofs.Common.{◌≡◌, ℕ, List, refl}
 use Rattle.id_tree.specs.declared.tree.Def.{Def}
 use Rattle.id_check.specs.declared.Checked.{Checked}
 use Rattle.id_graph.specs.declared.dests.Port.{Port}
@@ -12,10 +12,10 @@ use Rattle.id_core.specs.Machines.{main_tag}
 use Rattle.id_meaning.specs.declared.Path.{Path}
 use Rattle.id_meaning.specs.declared.SourceValue.{SourceValue}
 use Rattle.id_meaning.specs.declared.Fact.TheVariants.{Has}
-use Rattle.id_meaning.specs.Parts.{Region, Top, Node, LiteralNode, UnaryNode, BinaryNode, place_of, IsDef, IsMain, Part}
+use Rattle.id_meaning.specs.Parts.{Region, Top, Node, LiteralNode, UnaryNode, BinaryNode, NameNode, UnboundNode, BlockNode, BindingNode, place_of, IsDef, IsMain, Part}
 use Rattle.id_meaning.specs.Facts.{outermost}
 use Rattle.id_meaning.specs.Rounds.{Holds}
-use Rattle.id_build.specs.Roles.{Role, Answer, Trigger, Return, Of, Source, From}
+use Rattle.id_build.specs.Roles.{Role, Answer, Trigger, Return, Of, Label, Source, From}
 use Rattle.id_laws.proofs.Arrivals.{Happening}
 use Rattle.id_laws.proofs.Agreement.{token_value}
 
@@ -36,6 +36,10 @@ tag_in a n = record { context = a.context; iteration = a.iteration; instr = n }
 pub data PathOf (run : List Happening) : Activation → Path → Type 0 where
   main_path : PathOf run main_activation outermost
 
+-- an activation has one path
+pub one_path : {run : List Happening} {a : Activation} {p q : Path} → PathOf run a p → PathOf run a q → p ≡ q
+one_path main_path main_path = refl
+
 -- in this run, the region is turned on at the activation: main's body is
 pub data Live (P : Checked) (run : List Happening) : Activation → Region → Type 0 where
   in_main : {d : Def} → IsMain P d → Live P run main_activation (Top d.place)
@@ -51,6 +55,14 @@ pub record Shown (P : Checked) (run : List Happening) (a : Activation) (e : ℕ)
   pub value : SourceValue
   pub is : v ≡ token_value value
   pub holds : Holds P (Has path e value)
+
+-- the value is one that the binder at the place Has, and its region is turned on
+pub record ShownBinder (P : Checked) (run : List Happening) (a : Activation) (b : ℕ) (v : Value) : Type 0 where
+  pub region : Region
+  pub expression : ℕ
+  pub part : Part P region b (BindingNode expression)
+  pub live : Live P run a region
+  pub shown : Shown P run a b v
 
 -- the value is one of main's answers
 pub record ShowsAnswer (P : Checked) (run : List Happening) (a : Activation) (v : Value) : Type 0 where
@@ -68,6 +80,10 @@ module _ (P : Checked) (run : List Happening) (a : Activation) where
   WantsAt (UnaryNode o x) One v = ⊥
   WantsAt (BinaryNode o x y) Zero v = Shown P run a x v
   WantsAt (BinaryNode o x y) One v = Shown P run a y v
+  WantsAt (NameNode b) p v = ⊥
+  WantsAt UnboundNode p v = ⊥
+  WantsAt (BlockNode vs b) p v = ⊥
+  WantsAt (BindingNode x) p v = ⊥
 
   -- what a port of the instruction for a role wants
   abbrev pub Wants : Role → Port → Value → Type 0
@@ -78,6 +94,8 @@ module _ (P : Checked) (run : List Happening) (a : Activation) where
   Wants (Return f) Zero v = (t : Tag) × (v ≡ value.Continuation t) × ReturnsTo P run a f t
   Wants (Return f) One v = (d : Def) → IsDef P d → d.place ≡ f → Shown P run a (place_of d.body) v
   Wants (Of r e) p v = Live P run a r × ((n : Node) → Part P r e n → WantsAt n p v)
+  Wants (Label b) Zero v = (r : Region) (x : ℕ) → Part P r b (BindingNode x) → Live P run a r × Shown P run a x v
+  Wants (Label b) One v = ⊥
 
   -- what a source says
   abbrev pub Says : Source → Value → Type 0
@@ -85,3 +103,4 @@ module _ (P : Checked) (run : List Happening) (a : Activation) where
   Says (From (Trigger f)) v = (v ≡ value.Signal) × Live P run a (Top f)
   Says (From (Return f)) v = Unit {0}
   Says (From (Of r e)) v = Live P run a r × Shown P run a e v
+  Says (From (Label b)) v = ShownBinder P run a b v

@@ -2,6 +2,7 @@
 use Rattle.std.specs.Prelude.{◌≡◌, ◌≢◌, ◌≤◌, ◌++◌, ℕ, List, map, Option, Some, count_by, Bool, ◌&&◌}
 use Rattle.id_check.specs.declared.Checked.{Checked}
 use Rattle.id_graph.specs.declared.dests.Port.{Port}
+use Rattle.id_graph.specs.declared.instr.Op.{Op}
 use Rattle.id_graph.specs.Graph.{Parts}
 use Rattle.id_tag.specs.declared.Tag.{Tag}
 use Rattle.id_tag.specs.declared.Payload.{Payload}
@@ -16,11 +17,14 @@ use Rattle.id_core.specs.Observed as shown
 use Rattle.id_meaning.specs.declared.SourceValue.{SourceValue}
 use Rattle.id_meaning.specs.declared.SourceFault.{SourceFault}
 use Rattle.id_meaning.specs.declared.Fact.TheVariants.{Has}
-use Rattle.id_meaning.specs.Parts.{Among, Region, Node, Part, Distinct}
+use Rattle.id_meaning.specs.declared.NameValue.{NameValue}
+use Rattle.id_meaning.specs.Parts.{Among, AllDiffer, Region}
 use Rattle.id_meaning.specs.Facts.{outermost}
 use Rattle.id_meaning.specs.Rounds.{Holds, Faulty, FaultFree, Answers, IsAnswer, IsCoherent}
-use Rattle.id_build.specs.Roles.{Role, Of}
+use Rattle.id_meaning.specs.Names.{IsNameValue}
+use Rattle.id_build.specs.Roles.{Role, Of, Makes}
 use Rattle.id_build.specs.Schemas.{Schemas}
+use Rattle.id_valid.specs.Validator.{IsValid}
 
 -- the events of a machine in this state
 abbrev pub events : World → List EventView
@@ -48,10 +52,13 @@ pub record Carries (P : Checked) (e : ℕ) (m : Message) : Type 0 where
 pub record IsSound (P : Checked) (g : Parts) (number : Role → ℕ) (s : World) : Type 0 where
   -- its answer is the source's
   pub answer : (v : SourceValue) → shown.answer s ≡ Some v → Answers P v
+  -- what it shows that binders Have, they Have, and it shows nothing twice
+  pub names : (n : NameValue) → Among n (shown.names g s) → IsNameValue P n
+  pub names_once : AllDiffer (shown.names g s)
   -- each of its faults is one of the source
   pub faults : (f : SourceFault) → Among f (shown.faults g s) → Faulty P f
   -- what the instruction of an expression has sent brings a value that the expression Has
-  pub values : (r : Region) (e : ℕ) (n : Node) (v : EventView) (m : Message) → Part P r e n → Among v (events s)
+  pub values : (r : Region) (e : ℕ) (o : Op) (v : EventView) (m : Message) → Makes P (Of r e) o e → Among v (events s)
       → (tag_of v.message.payload).instr ≡ number (Of r e) → Among m v.outputs → Carries P e m
 
 -- in this state no event was `Stuck`, and each port has got at most one token under each tag
@@ -59,23 +66,28 @@ pub record IsNeverStuck (s : World) : Type 0 where
   pub goes_on : (v : EventView) → Among v (events s) → v.step ≢ Stuck
   pub one_token : (t : Tag) (p : Port) → count_by (is_for t p) (messages s) ≤ 1
 
--- the answer shown in this state is exactly the source's, and the source has no fault
-pub record IsComplete (P : Checked) (s : World) : Type 0 where
+-- the answer shown in this state is exactly the source's, so is what binders Have, and the source has no fault
+pub record IsComplete (P : Checked) (g : Parts) (s : World) : Type 0 where
   pub answer : IsAnswer P (shown.answer s)
+  pub names : (n : NameValue) → IsNameValue P n → Among n (shown.names g s)
   pub no_fault : FaultFree P
 
 -- *Sound*: of each graph that the schemas give a program, with any number of elements, every list of deliveries shows facts and faults of the source alone
 abbrev pub Soundness : Type 0
-Soundness = (P : Checked) (g : Parts) (count : ℕ) (ks : List ℕ) → Distinct P → (schemas : Schemas P g) → IsSound P g schemas.number (run g count ks (start g count))
+Soundness = (P : Checked) (g : Parts) (count : ℕ) (ks : List ℕ) → (schemas : Schemas P g) → IsSound P g schemas.number (run g count ks (start g count))
 
 -- *Never stuck*: of each such graph, every list of deliveries leaves no element stuck
 abbrev pub NeverStuck : Type 0
-NeverStuck = (P : Checked) (g : Parts) (count : ℕ) (ks : List ℕ) → Distinct P → Schemas P g → IsNeverStuck (run g count ks (start g count))
+NeverStuck = (P : Checked) (g : Parts) (count : ℕ) (ks : List ℕ) → Schemas P g → IsNeverStuck (run g count ks (start g count))
 
 -- *Quiet is complete*: of each such graph, a list of deliveries after which the machine is quiet has shown everything
 abbrev pub QuietIsComplete : Type 0
-QuietIsComplete = (P : Checked) (g : Parts) (count : ℕ) (ks : List ℕ) → Distinct P → Schemas P g → IsQuiet (run g count ks (start g count)) → IsComplete P (run g count ks (start g count))
+QuietIsComplete = (P : Checked) (g : Parts) (count : ℕ) (ks : List ℕ) → Schemas P g → IsQuiet (run g count ks (start g count)) → IsComplete P g (run g count ks (start g count))
 
 -- *Coherence*: each source gives each path and place at most one value
 abbrev pub Coherence : Type 0
-Coherence = (P : Checked) → Distinct P → IsCoherent P
+Coherence = (P : Checked) → IsCoherent P
+
+-- *Validity*: each graph that the schemas give a program is valid
+abbrev pub Validity : Type 0
+Validity = (P : Checked) (g : Parts) → Schemas P g → IsValid g

@@ -6,11 +6,12 @@
 //! Not here: the facts of a source (`id_meaning`), the graphs of the schemas (`id_build`), runs (`id_core`).
 #![tactic(auto)]
 
-ghost use Rattle.id_laws.specs.Laws.{Coherence, NeverStuck, QuietIsComplete, Soundness};
+ghost use Rattle.id_laws.specs.Laws.{Coherence, NeverStuck, QuietIsComplete, Soundness, Validity};
 
 /// *Sound*: what any run of a schemas' graph shows is of the source. The answer is the source's, each
-/// fault is one of the source, and each value that the instruction of an expression sends is one that
-/// the expression Has (docs/MEANING.md, "Laws"). Takes no memory.
+/// fault is one of the source, what a binder is shown to have it Has, and each value that the
+/// instruction of an expression sends is one that the expression Has (docs/MEANING.md, "Laws"). Takes no
+/// memory.
 pub fn sound()
     ensures { Soundness }
 {}
@@ -21,8 +22,8 @@ pub fn never_stuck()
     ensures { NeverStuck }
 {}
 
-/// *Quiet is complete*: a run of a schemas' graph that falls quiet shows exactly the source's answer,
-/// and the source has no fault (docs/MEANING.md, "Laws"). Takes no memory.
+/// *Quiet is complete*: a run of a schemas' graph that falls quiet shows exactly the source's answer
+/// and what its binders Have, and the source has no fault (docs/MEANING.md, "Laws"). Takes no memory.
 pub fn complete()
     ensures { QuietIsComplete }
 {}
@@ -31,4 +32,10 @@ pub fn complete()
 /// no memory.
 pub fn coherent()
     ensures { Coherence }
+{}
+
+/// *Validity*: every graph that the schemas give a program is valid (docs/GRAPH.md, "Validator"). Takes
+/// no memory.
+pub fn valid()
+    ensures { Validity }
 {}

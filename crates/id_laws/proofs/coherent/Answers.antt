@@ -1,5 +1,6 @@
+use Rattle.id_laws.proofs.Places.{Distinct-checked}
 use Rattle.id_laws.proofs.Coherence.{coherence}
 use Rattle.id_laws.proofs.coherent.Goals as goal
 
 pub returns : goal.returns
-returns c = λ P distinct. coherence P distinct
+returns c = λ P. coherence P (Distinct-checked P)

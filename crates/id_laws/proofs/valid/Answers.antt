@@ -1,0 +1,5 @@
+use Rattle.id_laws.proofs.Validity.{validity}
+use Rattle.id_laws.proofs.valid.Goals as goal
+
+pub returns : goal.returns
+returns c = λ P g schemas. validity P g schemas
