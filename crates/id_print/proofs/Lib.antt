@@ -1,3 +1,4 @@
 pub mod SinkLemmas
 pub mod TextsLemmas
 pub mod TracesLemmas
+pub mod NamesLemmas

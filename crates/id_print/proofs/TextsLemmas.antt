@@ -1,43 +1,37 @@
--- Lemmas on specs/Texts.antt.
-use Rattle.std.proofs.Common.{◌≡◌, ℕ, ◌+◌, ◌<◌, List, [], ◌∷◌, ◌++◌, take, drop, length, get_or, Option, Result, Ok, Err, IsErr, refl, sym, ap, subst, ◌∙◌, append_assoc}
+-- Lemmas on specs/Texts.antt: texts that are printed one after another.
+use Rattle.std.proofs.Common.{◌≡◌, ℕ, ◌+◌, List, [], ◌∷◌, ◌++◌, take, drop, Option, Some, Result, Ok, Err, IsErr, sym, ap, subst, ◌∙◌}
+use Rattle.std.specs.Prelude.{slice_get}
+use Rattle.std.specs.List.{flat_map}
 use Rattle.std.proofs.lemmas.List.{append-nil, take_more, take-append-drop}
-use Rattle.id_meaning.specs.declared.PathStep.{PathStep}
+use Rattle.std.proofs.lemmas.List.Concat.{flat_map-append}
+use Rattle.std.proofs.lemmas.Option.{slice_get_within, get_or_from_slice_get}
 use Rattle.id_print.specs.declared.sink.PrintError.{PrintError}
 use Rattle.id_print.specs.Told.{Told, Prints}
 use Rattle.id_print.proofs.SinkLemmas.{Prints-stop, Prints-then}
-use Rattle.id_print.specs.Texts.{step_text, steps_text}
 
--- the text of two lists of steps is the texts of both
-steps_text-append : (text : List ℕ) (xs ys : List PathStep) → steps_text text (xs ++ ys) ≡ steps_text text xs ++ steps_text text ys
-steps_text-append text [] ys = refl
-steps_text-append text (x ∷ xs) ys =
-    ap (λ t. step_text text x ++ t) (steps_text-append text xs ys) ∙ sym (append_assoc (step_text text x) (steps_text text xs) (steps_text text ys))
+-- one more thing adds its text
+texts-more : {A : Type 0} (f : A → List ℕ) (xs : List A) (i : ℕ) (x : A) → slice_get xs i ≡ Some x → flat_map f (take (i + 1) xs) ≡ flat_map f (take i xs) ++ f x
+texts-more f xs i x at =
+    ap (flat_map f) (take_more xs i x (slice_get_within xs i x at) ∙ ap (λ y. take i xs ++ y ∷ []) (get_or_from_slice_get xs i x x at))
+    ∙ flat_map-append f (take i xs) (x ∷ []) ∙ ap (λ t. flat_map f (take i xs) ++ t) (append-nil (f x))
 
--- one more step adds its text
-pub steps_text-more : (text : List ℕ) (xs : List PathStep) (i : ℕ) (d : PathStep) → i < length xs →
-    steps_text text (take (i + 1) xs) ≡ steps_text text (take i xs) ++ step_text text (get_or xs i d)
-steps_text-more text xs i d h =
-    ap (steps_text text) (take_more xs i d h) ∙ steps_text-append text (take i xs) (get_or xs i d ∷ [])
-    ∙ ap (λ t. steps_text text (take i xs) ++ t) (append-nil (step_text text (get_or xs i d)))
-
--- the text of the steps is that of the first of them and that of the rest
-pub steps_text-cut : (text : List ℕ) (xs : List PathStep) (i : ℕ) → steps_text text xs ≡ steps_text text (take i xs) ++ steps_text text (drop i xs)
-steps_text-cut text xs i = ap (steps_text text) (sym (take-append-drop i xs)) ∙ steps_text-append text (take i xs) (drop i xs)
+-- the texts are those of the first things and those of the rest
+texts-cut : {A : Type 0} (f : A → List ℕ) (xs : List A) (i : ℕ) → flat_map f xs ≡ flat_map f (take i xs) ++ flat_map f (drop i xs)
+texts-cut f xs i = ap (flat_map f) (sym (take-append-drop i xs)) ∙ flat_map-append f (take i xs) (drop i xs)
 
 -- a text that is the same is printed the same way
 pub same_text : (old new : Option Told) (x y : List ℕ) (r : Result (Unit {0}) PrintError) → x ≡ y → Prints old new x r → Prints old new y r
 same_text old new x y r e h = let P : List ℕ → Type 0 = λ t. Prints old new t r in subst P e h
 
--- one more step is printed
-pub Prints-step : (text : List ℕ) (xs : List PathStep) (i : ℕ) (d : PathStep) (old mid new : Option Told) (u v : Unit {0}) → i < length xs →
-    Prints old mid (steps_text text (take i xs)) (Ok u) → Prints mid new (step_text text (get_or xs i d)) (Ok v) → Prints old new (steps_text text (take (i + 1) xs)) (Ok v)
-Prints-step text xs i d old mid new u v h k l =
-    same_text old new _ _ _ (sym (steps_text-more text xs i d h)) (Prints-then old mid new _ _ u (Ok v) k l)
+-- the text of one more thing is printed
+pub Prints-more : {A : Type 0} (f : A → List ℕ) (xs : List A) (i : ℕ) (x : A) (old mid new : Option Told) (u : Unit {0}) (r : Result (Unit {0}) PrintError) → slice_get xs i ≡ Some x →
+    Prints old mid (flat_map f (take i xs)) (Ok u) → Prints mid new (f x) r → Prints old new (flat_map f (take (i + 1) xs)) r
+Prints-more f xs i x old mid new u r at k l =
+    same_text old new _ _ _ (sym (texts-more f xs i x at)) (Prints-then old mid new _ _ u r k l)
 
--- a step is cut short
-pub Prints-step_stop : (text : List ℕ) (xs : List PathStep) (i : ℕ) (d : PathStep) (old mid new : Option Told) (u : Unit {0}) (e : PrintError) (r : Result (Unit {0}) PrintError) → i < length xs →
-    Prints old mid (steps_text text (take i xs)) (Ok u) → Prints mid new (step_text text (get_or xs i d)) (Err e) → IsErr r → Prints old new (steps_text text xs) r
-Prints-step_stop text xs i d old mid new u e r h k l w =
-    let here : Prints old new (steps_text text (take (i + 1) xs)) (Err e) =
-    same_text old new _ _ _ (sym (steps_text-more text xs i d h)) (Prints-then old mid new _ _ u (Err e) k l) in
-    same_text old new _ _ _ (sym (steps_text-cut text xs (i + 1))) (Prints-stop old new _ (steps_text text (drop (i + 1) xs)) e r here w)
+-- the text of one of the things is cut short
+pub Prints-more_stop : {A : Type 0} (f : A → List ℕ) (xs : List A) (i : ℕ) (x : A) (old mid new : Option Told) (u : Unit {0}) (e : PrintError) (r : Result (Unit {0}) PrintError) → slice_get xs i ≡ Some x →
+    Prints old mid (flat_map f (take i xs)) (Ok u) → Prints mid new (f x) (Err e) → IsErr r → Prints old new (flat_map f xs) r
+Prints-more_stop f xs i x old mid new u e r at k l w =
+    let here : Prints old new (flat_map f (take (i + 1) xs)) (Err e) = Prints-more f xs i x old mid new u (Err e) at k l in
+    same_text old new _ _ _ (sym (texts-cut f xs (i + 1))) (Prints-stop old new _ (flat_map f (drop (i + 1) xs)) e r here w)

@@ -1,16 +1,21 @@
 -- The text of a report (docs/PROMISES.md, "Printing").
-use Rattle.std.specs.Prelude.{ℕ, List}
-use Rattle.id_print.specs.Texts.{answer_text, stopped_text, fault_text}
+use Rattle.std.specs.Prelude.{ℕ, Bool, if◌then◌else◌, List, []}
+use Rattle.id_meaning.specs.declared.NameValue.{NameValue}
+use Rattle.id_print.specs.Texts.{shown_text, stopped_text, fault_text}
 use Rattle.id_print.specs.declared.report.Ending.{Ending}
 use Rattle.id_print.specs.declared.report.Ending.TheVariants.{Quiet, Stopped, Fault}
 use Rattle.id_print.specs.declared.report.Report.{Report}
 
--- the lines of a report, by its ending
-abbrev pub ending_text : List ℕ → Report → Ending → List ℕ
-ending_text text r Quiet = answer_text r.answer
-ending_text text r Stopped = stopped_text r.answer
-ending_text text r (Fault f) = fault_text text f
+-- the names where they are asked for, and none where they are not
+abbrev pub asked : Bool → List NameValue → List NameValue
+asked names ns = if names then ns else []
 
--- the text of a report
-abbrev pub report_text : List ℕ → Report → List ℕ
-report_text text r = ending_text text r r.ending
+-- the lines of a report, by its ending: a fault is all that is shown
+abbrev pub ending_text : List ℕ → Report → List NameValue → Ending → List ℕ
+ending_text text r ns Quiet = shown_text text r.answer ns
+ending_text text r ns Stopped = stopped_text text r.answer ns
+ending_text text r ns (Fault f) = fault_text text f
+
+-- the text of a report, with its names where they are asked for
+abbrev pub report_text : List ℕ → Bool → Report → List ℕ
+report_text text names r = ending_text text r (asked names r.names) r.ending

@@ -1,5 +1,6 @@
 -- The texts that are printed (docs/PROMISES.md, "Printing"). Bytes are those of ASCII text.
-use Rattle.std.specs.Prelude.{ℕ, List, [], ◌∷◌, ◌++◌, Option, None, Some, codes, decimal}
+use Rattle.std.specs.Prelude.{ℕ, List, ◌++◌, Option, None, Some, codes, decimal}
+use Rattle.std.specs.List.{flat_map}
 use Rattle.std.specs.Fmt.{signed_decimal}
 use Rattle.id_text.specs.Places.{line_of, column_of}
 use Rattle.id_meaning.specs.declared.PathStep.{PathStep}
@@ -9,6 +10,9 @@ use Rattle.id_meaning.specs.declared.SourceValue.TheVariants.{Int}
 use Rattle.id_meaning.specs.declared.FaultKind.{FaultKind}
 use Rattle.id_meaning.specs.declared.FaultKind.TheVariants.{Overflow, DivisionByZero}
 use Rattle.id_meaning.specs.declared.SourceFault.{SourceFault}
+use Rattle.id_meaning.specs.declared.NameValue.{NameValue}
+use Rattle.id_meaning.specs.declared.Fact.{Fact}
+use Rattle.id_meaning.specs.declared.Fact.TheVariants.{On, Has}
 
 -- a line and a column
 abbrev pub line_column_text : ℕ → ℕ → List ℕ
@@ -24,8 +28,7 @@ step_text text s = codes "/" ++ place_text text s.place
 
 -- the steps one after another
 abbrev pub steps_text : List ℕ → List PathStep → List ℕ
-steps_text text [] = []
-steps_text text (s ∷ steps) = step_text text s ++ steps_text text steps
+steps_text text steps = flat_map (step_text text) steps
 
 -- where something is: its path, and its place
 abbrev pub point_text : List ℕ → Path → ℕ → List ℕ
@@ -44,9 +47,25 @@ answer_value_text (Some v) = value_text v
 abbrev pub answer_text : Option SourceValue → List ℕ
 answer_text v = codes "answer " ++ (answer_value_text v ++ codes "\n")
 
+-- a point with its value, and the end of the line
+abbrev pub point_value_text : List ℕ → Path → ℕ → SourceValue → List ℕ
+point_value_text text p place v = point_text text p place ++ (codes " = " ++ (value_text v ++ codes "\n"))
+
+-- the line of a name
+abbrev pub name_text : List ℕ → NameValue → List ℕ
+name_text text n = codes "name " ++ point_value_text text n.path n.place n.value
+
+-- the lines of names, one after another
+abbrev pub names_text : List ℕ → List NameValue → List ℕ
+names_text text ns = flat_map (name_text text) ns
+
+-- the lines of what a run has shown: its answer, and these names
+abbrev pub shown_text : List ℕ → Option SourceValue → List NameValue → List ℕ
+shown_text text v ns = answer_text v ++ names_text text ns
+
 -- the lines of a run that was stopped
-abbrev pub stopped_text : Option SourceValue → List ℕ
-stopped_text v = codes "stopped\n" ++ answer_text v
+abbrev pub stopped_text : List ℕ → Option SourceValue → List NameValue → List ℕ
+stopped_text text v ns = codes "stopped\n" ++ shown_text text v ns
 
 -- what went wrong
 abbrev pub kind_text : FaultKind → List ℕ
@@ -60,3 +79,12 @@ fault_head_text k = codes "fault " ++ (kind_text k ++ codes " at ")
 -- the line of a fault
 abbrev pub fault_text : List ℕ → SourceFault → List ℕ
 fault_text text f = fault_head_text f.kind ++ (point_text text f.path f.place ++ codes "\n")
+
+-- the line of a fact
+abbrev pub fact_text : List ℕ → Fact → List ℕ
+fact_text text (On p e) = codes "on " ++ (point_text text p e ++ codes "\n")
+fact_text text (Has p e v) = codes "has " ++ point_value_text text p e v
+
+-- the lines of facts, one after another
+abbrev pub facts_text : List ℕ → List Fact → List ℕ
+facts_text text fs = flat_map (fact_text text) fs

@@ -1,4 +1,4 @@
-//! What the program prints: reports of runs, the lines of faults, and traces.
+//! What the program prints: reports of runs, the lines of names, facts and faults, and traces.
 //!
 //! Keeps: a failed write ends a text at once, so what went out is a front of it.
 //! Errors: `PrintError`, only where a write failed.
@@ -6,11 +6,15 @@
 //! Not here: runs (`id_core`), the refusals of the program (`idc`).
 #![tactic(auto)]
 
+mod cursor;
+mod facts;
+mod names;
 mod report;
 mod sink;
 mod texts;
 mod trace;
 
+pub use facts::{facts_within, write_facts};
 pub use report::{Ending, Report, is_within, run_report, write_fault, write_report};
 pub use sink::{PrintError, Sink, SinkFault, put};
 pub use texts::{put_number, put_place};

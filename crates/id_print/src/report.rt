@@ -1,17 +1,21 @@
 //! Reports of runs, and how they are printed.
 
 ghost use Rattle.std.specs.Prelude.{◌≡◌, ◌≤◌, ◌↔◌, length, IsTrue, IfOk, None, slice_get};
-ghost use Rattle.id_core.specs.Observed.{answer, faults};
+ghost use Rattle.id_core.specs.Observed.{answer, faults, names};
+ghost use Rattle.id_meaning.specs.Orders.{NamesRise};
 ghost use Rattle.id_print.specs.Endings.{EndsSo};
+ghost use Rattle.id_print.specs.Names.{IsSortedOf, AreApart};
 ghost use Rattle.id_print.specs.Told.{Prints};
-ghost use Rattle.id_print.specs.Texts.{kind_text, fault_head_text, fault_text, answer_text, answer_value_text, stopped_text};
-ghost use Rattle.id_print.specs.Reports.{report_text};
-ghost use Rattle.id_print.specs.Within.{StepsWithin, FaultWithin, EndingWithin};
+ghost use Rattle.id_print.specs.Texts.{kind_text, fault_head_text, fault_text, answer_text, answer_value_text, name_text, names_text, shown_text, stopped_text};
+ghost use Rattle.id_print.specs.Reports.{asked, report_text};
+ghost use Rattle.id_print.specs.Within.{StepsWithin, PointWithin, FaultWithin, EndingWithin, NameWithin, NamesWithin, ReportWithin};
 
+use crate::cursor::Cursor;
+use crate::names::sorted_names;
 use crate::sink::{PrintError, Sink, put};
-use crate::texts::{put_point, put_value};
+use crate::texts::{put_point, put_point_value, put_value};
 use id_core::Machine;
-use id_meaning::{FaultKind, PathStep, SourceFault, SourceValue};
+use id_meaning::{FaultKind, NameValue, Path, PathStep, SourceFault, SourceValue};
 use id_text::{MAX_BYTES, Sequence};
 use std::alloc::{AllocError, Global};
 
@@ -26,11 +30,12 @@ pub enum Ending {
     Fault(SourceFault),
 }
 
-/// What a run has shown: how it ended, and the answer.
+/// What a run has shown: how it ended, the answer, and what binders have, by path and place.
 #[derive(Debug, Drop)]
 pub struct Report {
     pub ending: Ending,
     pub answer: Option<SourceValue>,
+    pub names: Sequence<NameValue>,
 }
 
 /// The report of a run: it ended at its first fault, where there is one, else it is quiet or it was
@@ -38,12 +43,21 @@ pub struct Report {
 pub fn run_report(alloc: Global, machine: &Machine<'_>) -> Result<Report, AllocError>
     ensures answer { IfOk result (λ r. r.answer ≡ answer machine.now.world) }
     ensures ending { IfOk result (λ r. EndsSo machine.now r.ending) }
+
+    // What binders have is all there, in order; where the run shows no name twice, each comes before the next.
+    ensures names { IfOk result (λ r. IsSortedOf r.names (names machine.now.graph machine.now.world)) }
+    ensures rise { IfOk result (λ r. AreApart (names machine.now.graph machine.now.world) → NamesRise r.names) }
 {
     let shown = machine.observe(alloc)?;
     let answer = shown.answer;
     let fault = first_of(shown.faults);
     let ending = ending_of(machine, fault);
-    Ok(Report { ending, answer })
+    let names = sorted_names(shown.names);
+    Ok(Report {
+        ending,
+        answer,
+        names,
+    })
 }
 
 /// How a run ended whose first fault is this.
@@ -103,8 +117,9 @@ pub fn write_fault<W: Sink>(fault: &SourceFault, text: &str, sink: &mut W) -> Re
     requires inside { FaultWithin (length text.now) fault.now }
     ensures { Prints (W.told sink.old) (W.told sink.new) (fault_text text.now fault.now) result }
 {
+    let mut cursor = Cursor::new(text);
     put_fault_head(fault.kind, sink)?;
-    put_point(sink, text, &fault.path, fault.place)?;
+    put_point(sink, &mut cursor, &fault.path, fault.place)?;
     put(sink, b"\n")
 }
 
@@ -125,15 +140,71 @@ fn write_answer<W: Sink>(answer: &Option<SourceValue>, sink: &mut W) -> Result<(
     put(sink, b"\n")
 }
 
-fn write_stopped<W: Sink>(answer: &Option<SourceValue>, sink: &mut W) -> Result<(), PrintError>
-    ensures { Prints (W.told sink.old) (W.told sink.new) (stopped_text answer.now) result }
+/// Writes the line of each name, in order.
+fn write_names<W: Sink>(names: &[NameValue], text: &str, sink: &mut W) -> Result<(), PrintError>
+    requires fits { length text.now ≤ MAX_BYTES }
+    requires inside { NamesWithin (length text.now) names.now }
+    ensures { Prints (W.told sink.old) (W.told sink.new) (names_text text.now names.now) result }
 {
-    put(sink, b"stopped\n")?;
-    write_answer(answer, sink)
+    let mut cursor = Cursor::new(text);
+    for name in names {
+        put_name(sink, &mut cursor, name)?;
+    }
+    Ok(())
 }
 
-/// Writes the lines of a report on a run of the text. Takes no memory. `names` asks for the lines
-/// of names, of which there are none yet.
+fn put_name<W: Sink>(
+    sink: &mut W,
+    cursor: &mut Cursor<'_>,
+    name: &NameValue,
+) -> Result<(), PrintError>
+    requires { NameWithin (length cursor.old) name.now }
+    ensures prints { Prints (W.told sink.old) (W.told sink.new) (name_text cursor.old name.now) result }
+    ensures same { cursor.new ≡ cursor.old }
+{
+    put(sink, b"name ")?;
+    put_point_value(sink, cursor, &name.path, name.place, name.value)
+}
+
+fn write_shown<W: Sink>(
+    answer: &Option<SourceValue>,
+    names: &[NameValue],
+    text: &str,
+    sink: &mut W,
+) -> Result<(), PrintError>
+    requires fits { length text.now ≤ MAX_BYTES }
+    requires inside { NamesWithin (length text.now) names.now }
+    ensures { Prints (W.told sink.old) (W.told sink.new) (shown_text text.now answer.now names.now) result }
+{
+    write_answer(answer, sink)?;
+    write_names(names, text, sink)
+}
+
+fn write_stopped<W: Sink>(
+    answer: &Option<SourceValue>,
+    names: &[NameValue],
+    text: &str,
+    sink: &mut W,
+) -> Result<(), PrintError>
+    requires fits { length text.now ≤ MAX_BYTES }
+    requires inside { NamesWithin (length text.now) names.now }
+    ensures { Prints (W.told sink.old) (W.told sink.new) (stopped_text text.now answer.now names.now) result }
+{
+    put(sink, b"stopped\n")?;
+    write_shown(answer, names, text, sink)
+}
+
+/// The names where they are asked for, and none where they are not.
+fn asked(names: bool, all: &[NameValue]) -> &[NameValue]
+    ensures { result.now ≡ asked names all.now }
+{
+    if names { all } else { &[] }
+}
+
+/// Writes the lines of a report on a run of the text: of a fault its line alone, else the answer,
+/// and then, where `names` asks for them, a line for each name. Takes no memory.
+///
+/// The places of the names are found from one another: those that rise take one pass over the text.
 pub fn write_report<W: Sink>(
     report: &Report,
     text: &str,
@@ -141,31 +212,47 @@ pub fn write_report<W: Sink>(
     sink: &mut W,
 ) -> Result<(), PrintError>
     requires fits { length text.now ≤ MAX_BYTES }
-    requires inside { EndingWithin (length text.now) report.now.ending }
-    ensures { Prints (W.told sink.old) (W.told sink.new) (report_text text.now report.now) result }
+    requires inside { ReportWithin (length text.now) report.now }
+    ensures { Prints (W.told sink.old) (W.told sink.new) (report_text text.now names report.now) result }
 {
-    let _ = names;
+    let shown = asked(names, report.names.as_slice());
     match &report.ending {
-        Ending::Quiet => write_answer(&report.answer, sink),
-        Ending::Stopped => write_stopped(&report.answer, sink),
+        Ending::Quiet => write_shown(&report.answer, shown, text, sink),
+        Ending::Stopped => write_stopped(&report.answer, shown, text, sink),
         Ending::Fault(fault) => write_fault(fault, text, sink),
     }
 }
 
-/// Whether every place that the report prints lies in a text of so many bytes. Takes no memory.
+/// Whether every place that the report tells, those of its names too, lies in a text of so many
+/// bytes. Takes no memory.
 pub fn is_within(report: &Report, size: usize) -> bool
-    ensures { IsTrue result ↔ EndingWithin size report.now.ending }
+    ensures { IsTrue result ↔ ReportWithin size report.now }
 {
-    match &report.ending {
+    is_ending_within(&report.ending, size) && are_names_within(report.names.as_slice(), size)
+}
+
+fn is_ending_within(ending: &Ending, size: usize) -> bool
+    ensures { IsTrue result ↔ EndingWithin size ending.now }
+{
+    match ending {
         Ending::Quiet | Ending::Stopped => true,
-        Ending::Fault(fault) => is_fault_within(fault, size),
+        Ending::Fault(fault) => is_point_within(&fault.path, fault.place, size),
     }
 }
 
-fn is_fault_within(fault: &SourceFault, size: usize) -> bool
-    ensures { IsTrue result ↔ FaultWithin size fault.now }
+fn are_names_within(names: &[NameValue], size: usize) -> bool
+    ensures { IsTrue result ↔ NamesWithin size names.now }
 {
-    fault.place <= size && are_steps_within(fault.path.steps.as_slice(), size)
+    names
+        .iter()
+        .all(|name| is_point_within(&name.path, name.place, size))
+}
+
+/// Whether a place and those of the steps of its path lie in a text of so many bytes.
+pub(crate) fn is_point_within(path: &Path, place: usize, size: usize) -> bool
+    ensures { IsTrue result ↔ PointWithin size path.now place }
+{
+    place <= size && are_steps_within(path.steps.as_slice(), size)
 }
 
 fn are_steps_within(steps: &[PathStep], size: usize) -> bool

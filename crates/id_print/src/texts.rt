@@ -1,11 +1,12 @@
 //! The parts of lines: numbers, places, points and values.
 
-ghost use Rattle.std.specs.Prelude.{◌≤◌, length, decimal};
+ghost use Rattle.std.specs.Prelude.{◌≡◌, ◌≤◌, ◌++◌, length, decimal, codes};
 ghost use Rattle.std.specs.Fmt.{signed_decimal};
 ghost use Rattle.id_print.specs.Told.{Prints};
-ghost use Rattle.id_print.specs.Texts.{line_column_text, place_text, step_text, steps_text, point_text, value_text};
-ghost use Rattle.id_print.specs.Within.{StepsWithin};
+ghost use Rattle.id_print.specs.Texts.{line_column_text, place_text, step_text, steps_text, point_text, point_value_text, value_text};
+ghost use Rattle.id_print.specs.Within.{StepsWithin, PointWithin};
 
+use crate::cursor::Cursor;
 use crate::sink::{PrintError, Sink, put};
 use id_meaning::{Path, PathStep, SourceValue};
 use id_text::{MAX_BYTES, line_col};
@@ -37,41 +38,84 @@ pub fn put_place<W: Sink>(sink: &mut W, text: &str, at: usize) -> Result<(), Pri
     put_line_column(sink, line, column)
 }
 
-fn put_step<W: Sink>(sink: &mut W, text: &str, step: &PathStep) -> Result<(), PrintError>
-    requires fits { length text.now ≤ MAX_BYTES }
-    requires inside { step.now.place ≤ length text.now }
-    ensures { Prints (W.told sink.old) (W.told sink.new) (step_text text.now step.now) result }
+fn put_step<W: Sink>(
+    sink: &mut W,
+    cursor: &mut Cursor<'_>,
+    step: &PathStep,
+) -> Result<(), PrintError>
+    requires { step.now.place ≤ length cursor.old }
+    ensures prints { Prints (W.told sink.old) (W.told sink.new) (step_text cursor.old step.now) result }
+    ensures same { cursor.new ≡ cursor.old }
 {
+    let (line, column) = cursor.step_line_col(step.place);
     put(sink, b"/")?;
-    put_place(sink, text, step.place)
+    put_line_column(sink, line, column)
 }
 
-fn put_steps<W: Sink>(sink: &mut W, text: &str, steps: &[PathStep]) -> Result<(), PrintError>
-    requires fits { length text.now ≤ MAX_BYTES }
-    requires inside { StepsWithin (length text.now) steps.now }
-    ensures { Prints (W.told sink.old) (W.told sink.new) (steps_text text.now steps.now) result }
+fn put_steps<W: Sink>(
+    sink: &mut W,
+    cursor: &mut Cursor<'_>,
+    steps: &[PathStep],
+) -> Result<(), PrintError>
+    requires { StepsWithin (length cursor.old) steps.now }
+    ensures prints { Prints (W.told sink.old) (W.told sink.new) (steps_text cursor.old steps.now) result }
+    ensures same { cursor.new ≡ cursor.old }
 {
     for step in steps {
-        put_step(sink, text, step)?;
+        put_step(sink, cursor, step)?;
     }
     Ok(())
 }
 
+/// A place after `@`.
+fn put_at<W: Sink>(sink: &mut W, cursor: &mut Cursor<'_>, at: usize) -> Result<(), PrintError>
+    requires { at ≤ length cursor.old }
+    ensures prints { Prints (W.told sink.old) (W.told sink.new) (codes "@" ++ place_text cursor.old at) result }
+    ensures same { cursor.new ≡ cursor.old }
+{
+    let (line, column) = cursor.line_col(at);
+    put(sink, b"@")?;
+    put_line_column(sink, line, column)
+}
+
 /// Where something is: its path and its place.
-pub fn put_point<W: Sink>(
+pub(crate) fn put_point<W: Sink>(
     sink: &mut W,
-    text: &str,
+    cursor: &mut Cursor<'_>,
     path: &Path,
     place: usize,
 ) -> Result<(), PrintError>
-    requires fits { length text.now ≤ MAX_BYTES }
-    requires path { StepsWithin (length text.now) path.now.steps }
-    requires place { place ≤ length text.now }
-    ensures { Prints (W.told sink.old) (W.told sink.new) (point_text text.now path.now place) result }
+    requires { PointWithin (length cursor.old) path.now place }
+    ensures prints { Prints (W.told sink.old) (W.told sink.new) (point_text cursor.old path.now place) result }
+    ensures same { cursor.new ≡ cursor.old }
 {
-    put_steps(sink, text, path.steps.as_slice())?;
-    put(sink, b"@")?;
-    put_place(sink, text, place)
+    put_steps(sink, cursor, path.steps.as_slice())?;
+    put_at(sink, cursor, place)
+}
+
+/// A point, its value and the end of the line.
+pub(crate) fn put_point_value<W: Sink>(
+    sink: &mut W,
+    cursor: &mut Cursor<'_>,
+    path: &Path,
+    place: usize,
+    value: SourceValue,
+) -> Result<(), PrintError>
+    requires { PointWithin (length cursor.old) path.now place }
+    ensures prints { Prints (W.told sink.old) (W.told sink.new) (point_value_text cursor.old path.now place value) result }
+    ensures same { cursor.new ≡ cursor.old }
+{
+    put_point(sink, cursor, path, place)?;
+    put_end(sink, value)
+}
+
+/// A value after `=`, and the end of the line.
+fn put_end<W: Sink>(sink: &mut W, value: SourceValue) -> Result<(), PrintError>
+    ensures { Prints (W.told sink.old) (W.told sink.new) (codes " = " ++ (value_text value ++ codes "\n")) result }
+{
+    put(sink, b" = ")?;
+    put_value(sink, value)?;
+    put(sink, b"\n")
 }
 
 pub fn put_int<W: Sink>(sink: &mut W, n: i64) -> Result<(), PrintError>

@@ -9,7 +9,8 @@ returns-in_err-put_fault_head g c =
 
 pub returns-in_err-put_point : goal.returns-in_err-put_point
 returns-in_err-put_point g c =
-    Prints-then _ _ _ _ _ _ _ c.in_ok-put_fault_head.ensures (Prints-stop _ _ _ (codes "\n") _ _ c.in_err-put_point.ensures c.from_residual-in_err-put_point.ensures.0)
+    rw c.new-cursor.ensures at (Prints-then _ _ _ _ _ _ _ c.in_ok-put_fault_head.ensures (Prints-stop _ _ _ (codes "\n") _ _ c.in_err-put_point.ensures.prints c.from_residual-in_err-put_point.ensures.0))
 
 pub returns : goal.returns
-returns g c = Prints-then _ _ _ _ _ _ _ c.in_ok-put_fault_head.ensures (Prints-then _ _ _ _ _ _ _ c.in_ok-put_point.ensures c.put.ensures)
+returns g c =
+    rw c.new-cursor.ensures at (Prints-then _ _ _ _ _ _ _ c.in_ok-put_fault_head.ensures (Prints-then _ _ _ _ _ _ _ c.in_ok-put_point.ensures.prints c.put.ensures))

@@ -1,5 +1,5 @@
 use Rattle.id_print.proofs.SinkLemmas.{Prints-stop}
 use Rattle.id_print.proofs.texts.put_step.Goals as goal
 
-pub returns-in_err-put : goal.returns-in_err-put
-returns-in_err-put g c = Prints-stop _ _ _ _ _ _ c.in_err-put.ensures c.from_residual.ensures.0
+pub returns-in_err-put-clause-prints : goal.returns-in_err-put-clause-prints
+returns-in_err-put-clause-prints g c = Prints-stop _ _ _ _ _ _ c.in_err-put.ensures c.from_residual.ensures.0

@@ -1,0 +1,11 @@
+use Rattle.std.proofs.Common.{codes, ◌++◌}
+use Rattle.id_print.specs.Texts.{point_text}
+use Rattle.id_print.proofs.SinkLemmas.{Prints-stop, Prints-then}
+use Rattle.id_print.proofs.facts.put_on.Goals as goal
+
+pub returns-in_err-put-clause-prints : goal.returns-in_err-put-clause-prints
+returns-in_err-put-clause-prints g c =
+    Prints-stop _ _ _ (point_text c.args.cursor.now c.args.path.now c.args.place ++ codes "\n") _ _ c.in_err-put.ensures c.from_residual.ensures.0
+
+pub returns-clause-prints : goal.returns-clause-prints
+returns-clause-prints g c = Prints-then _ _ _ _ _ _ _ c.in_ok-put.ensures (Prints-then _ _ _ _ _ _ _ c.in_ok-put_point.ensures.prints c.put-2.ensures)
