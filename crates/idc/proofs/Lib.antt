@@ -1,6 +1,8 @@
-pub mod PlacesLemmas
-pub mod RunLemmas
-pub mod ShownLemmas
-pub mod StuckLemmas
-pub mod CountLemmas
-pub mod ValidLemmas
+mod CausesLemmas
+mod InsideLemmas
+mod NamesLemmas
+mod PlacedLemmas
+mod RunLemmas
+mod ServedLemmas
+mod ShownLemmas
+mod StuckLemmas

@@ -5,18 +5,21 @@ use Rattle.id_check.specs.declared.Checked.{Checked}
 use Rattle.id_graph.specs.Graph.{Parts}
 use Rattle.id_meaning.specs.declared.SourceValue.{SourceValue}
 use Rattle.id_meaning.specs.declared.SourceFault.{SourceFault}
-use Rattle.id_meaning.specs.Parts.{Distinct}
+use Rattle.id_meaning.specs.Names.{AreNames, AreSomeNames}
+use Rattle.id_meaning.specs.Orders.{NamesRise}
 use Rattle.id_meaning.specs.Rounds.{Answers, IsAnswer, Faulty, FaultFree}
 use Rattle.id_build.specs.Schemas.{Schemas}
-use Rattle.id_build.proofs.AmongLemmas.{Among-from_at}
 use Rattle.id_core.specs.Machines.{World, MachineView, IsQuiet, start, delivered, run}
-use Rattle.id_core.specs.Observed.{answer, faults}
-use Rattle.id_laws.specs.Laws.{Soundness, QuietIsComplete, IsSound, IsComplete}
+use Rattle.id_core.specs.Observed.{answer, faults, names}
+use Rattle.id_laws.specs.Laws.{Soundness, QuietIsComplete, Coherence, IsSound, IsComplete}
+use Rattle.id_laws.proofs.Lists.{among_at}
 use Rattle.id_print.specs.declared.report.Ending.{Ending}
 use Rattle.id_print.specs.declared.report.Ending.TheVariants.{Quiet, Stopped, Fault}
 use Rattle.id_print.specs.declared.report.Report.{Report}
 use Rattle.id_print.specs.Endings.{EndsSo}
-use Rattle.idc.specs.Reports.{IsRunOf, IsTrueOf}
+use Rattle.id_print.specs.Names.{IsSortedOf, AreApart}
+use Rattle.idc.specs.Reports.{IsRunOf, IsTrueOf, SaysTruly}
+use Rattle.idc.proofs.NamesLemmas.{AreApart-sound, AreSomeNames-sound, AreNames-complete}
 
 -- a machine is a run of itself, by no delivery
 pub IsRunOf-none : (m : MachineView) → IsRunOf m m
@@ -51,32 +54,52 @@ if_some P (Some v) h = h v refl
 
 -- what a report says is so where the state is sound, and complete if it is quiet
 true_in : (P : Checked) (g : Parts) (w : World) (r : Report) (e : Ending) → ((v : SourceValue) → answer w ≡ Some v → Answers P v)
-    → ((f : SourceFault) → slice_get (faults g w) 0 ≡ Some f → Faulty P f) → (IsQuiet w → IsComplete P w)
-    → r.answer ≡ answer w → EndsSo (record { graph = g; count = 0; world = w }) e → IsTrueOf P r e
-true_in P g w r Quiet says fails completes same ends =
-    let done : IsComplete P w = completes ends in
+    → ((f : SourceFault) → slice_get (faults g w) 0 ≡ Some f → Faulty P f) → (IsQuiet w → IsComplete P g w) → AreSomeNames P r.names
+    → r.answer ≡ answer w → IsSortedOf r.names (names g w) → EndsSo (record { graph = g; count = 0; world = w }) e → SaysTruly P r e
+true_in P g w r Quiet says fails completes some same sorted ends =
+    let done : IsComplete P g w = completes ends in
     let Q : Option SourceValue → Type 0 = IsAnswer P in
-    (subst Q (sym same) done.answer, done.no_fault)
-true_in P g w r Stopped says fails completes same ends = if_some P r.answer (λ v h. says v (sym same ∙ h))
-true_in P g w r (Fault f) says fails completes same ends = fails f ends
+    (subst Q (sym same) done.answer, AreNames-complete P g w r.names some done sorted, done.no_fault)
+true_in P g w r Stopped says fails completes some same sorted ends = (if_some P r.answer (λ v h. says v (sym same ∙ h)), some)
+true_in P g w r (Fault f) says fails completes some same sorted ends = fails f ends
+
+-- what is known of a report of a machine
+pub record IsReportFrom (m : MachineView) (r : Report) : Type 0 where
+  pub answer_is : r.answer ≡ answer m.world
+  pub sorted : IsSortedOf r.names (names m.graph m.world)
+  pub rise : AreApart (names m.graph m.world) → NamesRise r.names
+  pub ends : EndsSo m r.ending
+
+-- the same of a machine that is equal but for its count
+from_world : (m : MachineView) (g : Parts) (n : ℕ) (w : World) (r : Report) → m.graph ≡ g → m.world ≡ w → IsReportFrom m r → IsReportFrom (record { graph = g; count = n; world = w }) r
+from_world m g n w r same is h =
+    let Q : Parts → World → Type 0 = λ x y. IsReportFrom (record { graph = x; count = n; world = y }) r in
+    subst (λ (x : Parts). Q x w) same (subst (λ (y : World). Q m.graph y) is (record {
+      answer_is = h.answer_is;
+      sorted = h.sorted;
+      rise = h.rise;
+      ends = ends_at r.ending h.ends;
+    }))
+  where
+    ends_at : (e : Ending) → EndsSo m e → EndsSo (record { graph = m.graph; count = n; world = m.world }) e
+    ends_at Quiet h = h
+    ends_at Stopped h = h
+    ends_at (Fault f) h = h
 
 -- what a report of a run of a schemas' graph says is so
-pub IsTrueOf-laws : (P : Checked) (g : Parts) (count : ℕ) (m : MachineView) (r : Report) → Soundness → QuietIsComplete → Distinct P → Schemas P g
-    → IsRunOf (record { graph = g; count = count; world = start g count }) m → r.answer ≡ answer m.world → EndsSo m r.ending → IsTrueOf P r r.ending
-IsTrueOf-laws P g count m r sound complete distinct schemas h same ends =
+pub IsTrueOf-laws : (P : Checked) (g : Parts) (count : ℕ) (m : MachineView) (r : Report) → Soundness → QuietIsComplete → Coherence → Schemas P g
+    → IsRunOf (record { graph = g; count = count; world = start g count }) m → IsReportFrom m r → IsTrueOf P r
+IsTrueOf-laws P g count m r sound complete coherent schemas h from =
     let w : World = run g count h.positions (start g count) in
-    let is : m.world ≡ w = h.world in
-    let ok : IsSound P g schemas.number w = sound P g count h.positions distinct schemas in
-    let A : World → Type 0 = λ s. r.answer ≡ answer s in
-    let E : World → Type 0 = λ s. EndsSo (record { graph = g; count = 0; world = s }) r.ending in
-    let G : Parts → Type 0 = λ x. EndsSo (record { graph = x; count = 0; world = m.world }) r.ending in
-    true_in P g w r r.ending ok.answer (λ f k. ok.faults f (Among-from_at f (faults g w) 0 k)) (complete P g count h.positions distinct schemas)
-    (subst A is same) (subst E is (subst G h.same_graph (ends_at m 0 r.ending ends)))
-  where
-    ends_at : (m : MachineView) (n : ℕ) (e : Ending) → EndsSo m e → EndsSo (record { graph = m.graph; count = n; world = m.world }) e
-    ends_at m n Quiet h = h
-    ends_at m n Stopped h = h
-    ends_at m n (Fault f) h = h
+    let ok : IsSound P g schemas.number w = sound P g count h.positions schemas in
+    let here : IsReportFrom (record { graph = g; count = 0; world = w }) r = from_world m g 0 w r h.same_graph h.world from in
+    let some : AreSomeNames P r.names =
+    AreSomeNames-sound P g schemas.number w r.names ok here.sorted (here.rise (AreApart-sound P g schemas.number w (coherent P) ok)) in
+    record {
+      says = true_in P g w r r.ending ok.answer (λ f k. ok.faults f (among_at f (faults g w) 0 k)) (complete P g count h.positions schemas)
+          some here.answer_is here.sorted here.ends;
+      names = some;
+    }
 
 -- a run of a machine is one of an equal machine
 pub IsRunOf-from : (a b m : MachineView) → a ≡ b → IsRunOf a m → IsRunOf b m

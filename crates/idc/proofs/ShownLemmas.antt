@@ -1,30 +1,53 @@
--- Lemmas on specs/Engine.antt: from a report that is so to what is printed.
-use Rattle.std.proofs.Common.{◌≡◌, ℕ, List, Option, Result, sym, subst}
+-- Lemmas on specs/Commands.antt: from a report that is so to what is printed.
+use Rattle.std.proofs.Common.{◌≡◌, ℕ, Bool, List, Option, Result, codes, sym, subst}
 use Rattle.id_check.specs.declared.Checked.{Checked}
 use Rattle.id_print.specs.declared.sink.PrintError.{PrintError}
 use Rattle.id_print.specs.declared.report.Ending.{Ending}
 use Rattle.id_print.specs.declared.report.Ending.TheVariants.{Quiet, Stopped, Fault}
 use Rattle.id_print.specs.declared.report.Report.{Report}
 use Rattle.id_print.specs.Told.{Told, Prints}
-use Rattle.id_print.specs.Reports.{ending_text, report_text}
-use Rattle.idc.specs.Engine.{Shows, quiet, fault, stopped, HasShown}
-use Rattle.idc.specs.Reports.{IsReportOf, IsTrueOf, status_of}
+use Rattle.id_print.specs.Reports.{asked, ending_text, report_text}
+use Rattle.idc.specs.Commands.{Check, List_graph, Facts, Run, Shows, accepted, listed, facts, quiet, fault, stopped, HasShown, IsListingOf, AreFactsOf}
+use Rattle.idc.specs.Programs.{HasProgram}
+use Rattle.id_graph.specs.Listing.{listing}
+use Rattle.id_meaning.specs.declared.Fact.{Fact}
+use Rattle.id_print.specs.Texts.{facts_text}
+use Rattle.idc.specs.Reports.{IsReportOf, SaysTruly, status_of}
 
 -- the text of a report that is so is what a run shows
-Shows-from_report : (P : Checked) (text : List ℕ) (r : Report) (e : Ending) → IsTrueOf P r e → Shows P text (status_of e) (ending_text text r e)
-Shows-from_report P text r Quiet h = quiet r.answer h.0 h.1
-Shows-from_report P text r Stopped h = stopped r.answer h
-Shows-from_report P text r (Fault f) h = fault f h
+Shows-from_report : (P : Checked) (text : List ℕ) (b : Bool) (r : Report) (e : Ending) → SaysTruly P r e
+    → Shows P text (Run b) (status_of e) (ending_text text r (asked b r.names) e)
+Shows-from_report P text b r Quiet h = quiet r.answer r.names h.0 h.1 h.2
+Shows-from_report P text b r Stopped h = stopped r.answer r.names h.0 h.1
+Shows-from_report P text b r (Fault f) h = fault f h
 
 -- a printed report of a run of the text's program is shown
-pub HasShown-report : (text : List ℕ) (old new : Option Told) (r : Report) (status : ℕ) (result : Result (Unit {0}) PrintError)
-    → IsReportOf text r → status ≡ status_of r.ending → Prints old new (report_text text r) result → HasShown text old new status result
-HasShown-report text old new r status result h same printed =
-    let S : ℕ → Type 0 = λ n. Shows h.program text n (report_text text r) in
+pub HasShown-report : (text : List ℕ) (b : Bool) (old new : Option Told) (r : Report) (status : ℕ) (result : Result (Unit {0}) PrintError)
+    → IsReportOf text r → status ≡ status_of r.ending → Prints old new (report_text text b r) result → HasShown (Run b) text old new status result
+HasShown-report text b old new r status result h same printed =
+    let S : ℕ → Type 0 = λ n. Shows h.program text (Run b) n (report_text text b r) in
     record {
       program = h.program;
       is_program = h.is_program;
-      output = report_text text r;
-      shows = subst S (sym same) (Shows-from_report h.program text r r.ending h.is_true);
+      output = report_text text b r;
+      shows = subst S (sym same) (Shows-from_report h.program text b r r.ending h.is_true.says);
       printed = printed;
     }
+
+-- an accepted text is said to be so
+pub HasShown-accepted : (text : List ℕ) (old new : Option Told) (result : Result (Unit {0}) PrintError) → HasProgram text → Prints old new (codes "ok\n") result → HasShown Check text old new 0 result
+HasShown-accepted text old new result h printed = record { program = h.program; is_program = h.is_program; output = codes "ok\n"; shows = accepted; printed = printed }
+
+-- a printed listing of a graph of the text's program is shown
+pub HasShown-listed : (text bytes : List ℕ) (old new : Option Told) (result : Result (Unit {0}) PrintError) → IsListingOf text bytes → Prints old new bytes result → HasShown List_graph text old new 0 result
+HasShown-listed text bytes old new result h printed = record {
+  program = h.program;
+  is_program = h.is_program;
+  output = listing text h.graph;
+  shows = listed h.schemas;
+  printed = subst (λ (b : List ℕ). Prints old new b result) h.listing_is printed;
+}
+
+-- printed facts of a round of the text's program are shown
+pub HasShown-facts : (text : List ℕ) (round : ℕ) (fs : List Fact) (old new : Option Told) (result : Result (Unit {0}) PrintError) → AreFactsOf text round fs → Prints old new (facts_text text fs) result → HasShown (Facts round) text old new 0 result
+HasShown-facts text round fs old new result h printed = record { program = h.program; is_program = h.is_program; output = facts_text text fs; shows = facts h.are; printed = printed }

@@ -5,7 +5,7 @@ use Rattle.id_graph.specs.Graph.{Parts}
 use Rattle.id_tag.specs.declared.Message.{Message}
 use Rattle.id_tag.specs.Routes.{route_of}
 use Rattle.id_check.specs.declared.Checked.{Checked}
-use Rattle.id_meaning.specs.Parts.{Among, Distinct}
+use Rattle.id_meaning.specs.Parts.{Among}
 use Rattle.id_core.specs.declared.step.Step.{Step}
 use Rattle.id_core.specs.declared.step.Step.TheVariants.{Stuck}
 use Rattle.id_core.specs.Events.{EventView}
@@ -60,7 +60,7 @@ goes_on never m s k x h stuck =
     let is : delivered m.graph m.count m.world k ≡ run m.graph m.count (s.positions ++ k ∷ []) (start m.graph m.count) =
     ap (λ w. delivered m.graph m.count w k) s.world ∙ sym (run-append m.graph m.count s.positions (k ∷ []) (start m.graph m.count)) in
     let Q : World → Type 0 = λ w. Among found.0 (events_of w.elements) in
-    (never s.program m.graph m.count (s.positions ++ k ∷ []) s.distinct s.schemas).goes_on found.0 (subst Q is here) (found.2 ∙ stuck)
+    (never s.program m.graph m.count (s.positions ++ k ∷ []) s.schemas).goes_on found.0 (subst Q is here) (found.2 ∙ stuck)
 
 -- a run of a machine that runs a schemas' graph runs it
 pub IsSoundMachine-run : (a b : MachineView) → IsSoundMachine a → IsRunOf a b → IsSoundMachine b
@@ -68,7 +68,6 @@ IsSoundMachine-run a b s h =
     let G : Parts → Type 0 = λ g. Schemas s.program g in
     record {
       program = s.program;
-      distinct = s.distinct;
       schemas = subst G (sym h.same_graph) s.schemas;
       positions = s.positions ++ h.positions;
       world = h.world ∙ ap (λ w. run a.graph a.count h.positions w) s.world ∙ sym (run-append a.graph a.count s.positions h.positions (start a.graph a.count))
@@ -77,7 +76,7 @@ IsSoundMachine-run a b s h =
     }
 
 -- a machine at the start of a schemas' graph runs it
-pub IsSoundMachine-start : (P : Checked) (g : Parts) (count : ℕ) (m : MachineView) → m ≡ record { graph = g; count = count; world = start g count } → Distinct P → Schemas P g → IsSoundMachine m
-IsSoundMachine-start P g count m is distinct schemas =
+pub IsSoundMachine-start : (P : Checked) (g : Parts) (count : ℕ) (m : MachineView) → m ≡ record { graph = g; count = count; world = start g count } → Schemas P g → IsSoundMachine m
+IsSoundMachine-start P g count m is schemas =
     let Q : MachineView → Type 0 = IsSoundMachine in
-    subst Q (sym is) (record { program = P; distinct = distinct; schemas = schemas; positions = []; world = refl })
+    subst Q (sym is) (record { program = P; schemas = schemas; positions = []; world = refl })

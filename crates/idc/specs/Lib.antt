@@ -1,4 +1,6 @@
 pub mod Programs
-pub mod Engine
+pub mod Commands
+pub mod Refusals
+pub mod Served
 -- for use inside
 pub mod Reports

@@ -1,8 +1,15 @@
 //! The whole program over any source of texts and any sinks.
 
+ghost use Rattle.std.specs.Prelude.{◌≡◌, ◌≢◌, IfErr, IfOk, IfSome};
+ghost use Rattle.std.specs.Option.{option_copied};
+ghost use Rattle.idc.specs.Commands.{ShowsAll, ShowsFront};
+ghost use Rattle.idc.specs.Refusals.{IsInside, IsInsideOf, IsPrintedRefusal, status_of};
+ghost use Rattle.idc.specs.Served.{IsRefusedRequest, Serves, command_of};
+
 use crate::cli::{Request, Unasked, read_words};
-use crate::engine::engine;
-use crate::refusal::{Refusal, of_engine_error, of_memory, of_source_fault, of_write, put_refusal};
+use crate::commands::{check_text, facts_text, graph_text};
+use crate::engine::{EngineError, engine};
+use crate::refusal::{Cause, of_engine_error, of_source_fault, put_refusal};
 use crate::source::Source;
 use id_print::{Sink, put};
 use std::alloc::Global;
@@ -11,51 +18,124 @@ use std::convert::AsStr;
 /// The status of a command line that is refused.
 const BAD_WORDS: u8 = 4;
 
-/// Writes the line of a refusal. A failed write changes no status.
-fn refuse<E: Sink>(refusal: Refusal<'_>, text: &str, err: &mut E) -> u8 {
-    let _ = put_refusal(refusal, text, err);
-    refusal.status
+/// Writes the line of a refusal, and answers the status. A failed write changes no status.
+fn refuse<E: Sink>(
+    cause: Cause,
+    at: Option<usize>,
+    word: Option<&str>,
+    text: &str,
+    err: &mut E,
+) -> u8
+    requires { IfSome at (IsInside text.now) }
+    ensures status { result ≡ status_of cause }
+    ensures printed { IsPrintedRefusal text.now cause at (option_copied word.entry) (E.told err.old) (E.told err.new) }
+{
+    let _ = put_refusal(cause, at, word, text, err);
+    cause.status()
 }
 
-/// Answers words that ask for no run.
+/// Answers words that ask for nothing.
 fn answer_unasked<O: Sink, E: Sink>(unasked: Unasked, out: &mut O, err: &mut E) -> u8 {
     match unasked {
-        Unasked::Memory => refuse(of_memory(), "", err),
+        Unasked::Memory => refuse(Cause::Memory, None, None, "", err),
         Unasked::Refused(text) => {
             let _ = put(err, text.as_str().as_bytes());
             BAD_WORDS
         }
         Unasked::Help(text) => match put(out, text.as_str().as_bytes()) {
             Ok(()) => 0,
-            Err(_) => refuse(of_write(), "", err),
+            Err(_) => refuse(Cause::Write, None, None, "", err),
         },
     }
 }
 
-/// Runs the text of this name.
-fn run_file<S: Source, O: Sink, E: Sink>(
+/// Prints what a request asks for of a text, and answers the status.
+fn print_asked<O: Sink>(
+    alloc: Global,
+    request: &Request<'_>,
+    text: &str,
+    out: &mut O,
+) -> Result<u8, EngineError>
+    ensures shown { IfOk result (ShowsAll (command_of request.now) text.now (O.told out.old) (O.told out.new)) }
+    ensures cut { result ≡ Err EngineError.Write → ShowsFront (command_of request.now) text.now (O.told out.old) (O.told out.new) }
+    ensures silent { IfErr result (λ e. e ≢ EngineError.Write → O.told out.new ≡ O.told out.old) }
+    ensures refused { IfErr result (IsRefusedRequest text.now request.now) }
+    ensures inside { IfErr result (IsInsideOf text.now) }
+{
+    match request {
+        Request::Check { .. } => {
+            check_text(alloc, text, out)?;
+            Ok(0)
+        }
+        Request::Graph { .. } => {
+            graph_text(alloc, text, out)?;
+            Ok(0)
+        }
+        Request::Facts { rounds, inputs, .. } => {
+            facts_text(alloc, text, inputs.as_slice(), *rounds, out)?;
+            Ok(0)
+        }
+        Request::Run {
+            inputs,
+            steps,
+            names,
+            ..
+        } => {
+            let status = engine(alloc, text, inputs.as_slice(), *steps, *names, out)?;
+            Ok(status)
+        }
+    }
+}
+
+/// The input word that an error is about.
+fn word_of<'a>(request: &Request<'a>, error: EngineError) -> Option<&'a str> {
+    match (request, error) {
+        (Request::Run { inputs, .. } | Request::Facts { inputs, .. }, EngineError::UnknownInput) =>
+            inputs.first().copied(),
+        _ => None,
+    }
+}
+
+/// Does what a request asks for with a text, and answers the status.
+pub fn serve<O: Sink, E: Sink>(
+    alloc: Global,
+    request: &Request<'_>,
+    text: &str,
+    out: &mut O,
+    err: &mut E,
+) -> u8
+    ensures { Serves text.now request.now (O.told out.old) (O.told out.new) (E.told err.old) (E.told err.new) result }
+{
+    match print_asked(alloc, request, text, out) {
+        Ok(status) => status,
+        Err(error) => {
+            let (cause, at) = of_engine_error(error);
+            refuse(cause, at, word_of(request, error), text, err)
+        }
+    }
+}
+
+/// The file that a request names.
+fn file_of<'a>(request: &Request<'a>) -> &'a str {
+    match request {
+        Request::Check { file }
+        | Request::Graph { file }
+        | Request::Run { file, .. }
+        | Request::Facts { file, .. } => file,
+    }
+}
+
+/// Reads the text of a request, and serves it.
+fn serve_file<S: Source, O: Sink, E: Sink>(
     alloc: Global,
     request: &Request<'_>,
     source: &mut S,
     out: &mut O,
     err: &mut E,
 ) -> u8 {
-    let Request::Run {
-        file,
-        inputs,
-        steps,
-    } = request;
-    let text = match source.read(alloc, file) {
-        Ok(text) => text,
-        Err(fault) => return refuse(of_source_fault(fault), "", err),
-    };
-    match engine(alloc, text.as_str(), inputs.as_slice(), *steps, out) {
-        Ok(status) => status,
-        Err(error) => refuse(
-            of_engine_error(error, inputs.as_slice()),
-            text.as_str(),
-            err,
-        ),
+    match source.read(alloc, file_of(request)) {
+        Ok(text) => serve(alloc, request, text.as_str(), out, err),
+        Err(fault) => refuse(of_source_fault(fault), None, None, "", err),
     }
 }
 
@@ -70,7 +150,7 @@ pub fn drive<R: AllocGlobal, N: AsStr, S: Source, O: Sink, E: Sink>(
     err: &mut E,
 ) -> u8 {
     match read_words(rt.alloc(), words) {
-        Ok(request) => run_file(rt.alloc(), &request, source, out, err),
+        Ok(request) => serve_file(rt.alloc(), &request, source, out, err),
         Err(unasked) => answer_unasked(unasked, out, err),
     }
 }

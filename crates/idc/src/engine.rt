@@ -2,18 +2,17 @@
 
 ghost use Rattle.std.specs.Prelude.{◌≡◌, ◌≢◌, ◌<◌, ◌≤◌, length, IfOk, IfErr, IfSome, OnOk};
 ghost use Rattle.id_text.specs.declared.token.TheConstants.{MAX_BYTES};
-ghost use Rattle.id_meaning.specs.Parts.{Distinct};
 ghost use Rattle.id_build.specs.Schemas.{Schemas};
-ghost use Rattle.id_core.specs.Machines.{start};
-ghost use Rattle.idc.specs.Programs.{IsProgramOf};
-ghost use Rattle.idc.specs.Engine.{ShowsAll, ShowsFront};
-ghost use Rattle.idc.specs.Reports.{IsReportOf, IsTrueOf, IsRunOf, IsSoundMachine, status_of};
+ghost use Rattle.id_print.specs.Within.{ReportWithin};
+ghost use Rattle.idc.specs.Commands.{Run, ShowsAll, ShowsFront};
+ghost use Rattle.idc.specs.Refusals.{IsInsideOf, IsRefusedRun, IsTakenRun};
+ghost use Rattle.idc.specs.Reports.{IsReportOf, IsTrueOf, IsRunOf, IsSoundMachine, IsStartOf, status_of};
 
 use crate::compile::{CompileError, Compiled, compile};
 use id_core::{Element, Machine, MachineError, Step, TakeError};
-use id_print::{Ending, Report, Sink, is_within, run_report, write_report};
+use id_print::{Ending, Report, Sink, run_report, write_report};
 use id_tag::{Message, route};
-use id_text::MAX_BYTES;
+use id_valid::Valid;
 use std::alloc::{AllocError, Global};
 
 /// The most steps that an element may be allowed.
@@ -22,19 +21,19 @@ pub const MAX_STEPS: u64 = 100_000_000;
 /// How many elements the machine has.
 const ELEMENTS: u32 = 1;
 
-/// Why a run printed nothing, or not all.
+/// Why a command printed nothing, or not all.
 #[derive(Clone, Copy, Debug, PartialEq, Eq)]
 pub enum EngineError {
     /// The text has no graph.
     Compile(CompileError),
     /// The first input word names no parameter, since main has none yet: refusal 16.
     UnknownInput,
-    /// There would be no element, or more than 64: refusal 19.
-    BadElements,
     /// No step, or more than 100,000,000: refusal 20.
     BadSteps,
-    /// The fault has a place outside the text.
-    Misplaced,
+    /// More rounds than 10,000: refusal 24.
+    BadRounds,
+    /// A round has more than 1,000,000 facts: refusal 25.
+    TooManyFacts,
     /// A growth was refused.
     Memory,
     /// A write failed.
@@ -52,12 +51,15 @@ impl From<AllocError> for EngineError {
     }
 }
 
-fn machine_error(error: MachineError) -> EngineError
-    ensures { result ≢ EngineError.Write }
+/// A fresh machine for the graph.
+fn machine_of<'a>(alloc: Global, valid: &'a Valid) -> Result<Machine<'a>, EngineError>
+    ensures start { IfOk result (IsStartOf valid.now ELEMENTS) }
+    ensures memory { IfErr result (λ e. e ≡ EngineError.Memory) }
 {
-    match error {
-        MachineError::BadElements => EngineError::BadElements,
-        MachineError::Memory => EngineError::Memory,
+    match Machine::new(alloc, valid, ELEMENTS) {
+        Ok(machine) => Ok(machine),
+        Err(MachineError::BadElements) => unreachable!(),
+        Err(MachineError::Memory) => Err(EngineError::Memory),
     }
 }
 
@@ -101,7 +103,7 @@ fn deliver_one(machine: &mut Machine<'_>, position: usize) -> Result<bool, Engin
     requires position { position < length machine.old.world.flight }
     requires sound { IsSoundMachine machine.old }
     ensures run { IsRunOf machine.old machine.new }
-    ensures not_write { IfErr result (λ e. e ≢ EngineError.Write) }
+    ensures memory { IfErr result (λ e. e ≡ EngineError.Memory) }
 {
     id_laws::never_stuck();
     match machine.deliver(position) {
@@ -117,7 +119,7 @@ fn run_machine(machine: &mut Machine<'_>, steps: u64) -> Result<(), EngineError>
     requires steps { steps ≤ MAX_STEPS }
     requires sound { IsSoundMachine machine.old }
     ensures run { IsRunOf machine.old machine.new }
-    ensures not_write { IfErr result (λ e. e ≢ EngineError.Write) }
+    ensures memory { IfErr result (λ e. e ≡ EngineError.Memory) }
 {
     for _ in 0..steps * u64::from(ELEMENTS) {
         let Some(position) = next_position(machine, steps) else {
@@ -134,17 +136,14 @@ fn run_machine(machine: &mut Machine<'_>, steps: u64) -> Result<(), EngineError>
 /// The report of a run of a compiled program.
 fn run_compiled(alloc: Global, compiled: &Compiled, steps: u64) -> Result<Report, EngineError>
     requires steps { steps ≤ MAX_STEPS }
-    requires distinct { Distinct compiled.now.checked }
     requires graph { Schemas compiled.now.checked compiled.now.valid }
-    ensures is_true { IfOk result (λ r. IsTrueOf compiled.now.checked r r.ending) }
-    ensures not_write { IfErr result (λ e. e ≢ EngineError.Write) }
+    ensures is_true { IfOk result (IsTrueOf compiled.now.checked) }
+    ensures memory { IfErr result (λ e. e ≡ EngineError.Memory) }
 {
     id_laws::sound();
     id_laws::complete();
-    let mut machine = match Machine::new(alloc, &compiled.valid, ELEMENTS) {
-        Ok(machine) => machine,
-        Err(error) => return Err(machine_error(error)),
-    };
+    id_laws::coherent();
+    let mut machine = machine_of(alloc, &compiled.valid)?;
     run_machine(&mut machine, steps)?;
     let report = run_report(alloc, &machine)?;
     Ok(report)
@@ -153,7 +152,11 @@ fn run_compiled(alloc: Global, compiled: &Compiled, steps: u64) -> Result<Report
 /// The report of a run of a text.
 fn run_text(alloc: Global, text: &str, inputs: &[&str], steps: u64) -> Result<Report, EngineError>
     ensures report { IfOk result (IsReportOf text.now) }
+    ensures within { IfOk result (ReportWithin (length text.now)) }
     ensures short { OnOk result (length text.now ≤ MAX_BYTES) }
+    ensures taken { OnOk result (IsTakenRun (length inputs.now) steps) }
+    ensures refused { IfErr result (IsRefusedRun text.now (length inputs.now) steps) }
+    ensures inside { IfErr result (IsInsideOf text.now) }
     ensures not_write { IfErr result (λ e. e ≢ EngineError.Write) }
 {
     let compiled = match compile(alloc, text) {
@@ -163,14 +166,16 @@ fn run_text(alloc: Global, text: &str, inputs: &[&str], steps: u64) -> Result<Re
     if !inputs.is_empty() {
         return Err(EngineError::UnknownInput);
     }
-    if steps == 0 || MAX_STEPS < steps {
+    if steps == 0 {
         return Err(EngineError::BadSteps);
     }
-    let report = run_compiled(alloc, &compiled, steps)?;
-    if text.len() > MAX_BYTES || !is_within(&report, text.len()) {
-        return Err(EngineError::Misplaced);
+    if steps > MAX_STEPS {
+        return Err(EngineError::BadSteps);
     }
-    Ok(report)
+    match run_compiled(alloc, &compiled, steps) {
+        Ok(report) => Ok(report),
+        Err(error) => Err(error),
+    }
 }
 
 /// The status of a run that ended so.
@@ -185,23 +190,30 @@ fn status_of(ending: &Ending) -> u8
 }
 
 /// Compiles a text, runs it, each element for at most `steps` messages, writes what `idc run`
-/// prints and answers the status: 0 after a quiet run, 1 after a fault, 3 at the step limit.
+/// prints, with what names have where `names` asks for it, and answers the status: 0 after a quiet
+/// run, 1 after a fault, 3 at the step limit.
 pub fn engine<W: Sink>(
     alloc: Global,
     text: &str,
     inputs: &[&str],
     steps: u64,
+    names: bool,
     out: &mut W,
 ) -> Result<u8, EngineError>
     // What is printed is what a run of the text's program shows, and the source's equations give it.
-    ensures shown { IfOk result (ShowsAll text.now (W.told out.old) (W.told out.new)) }
+    ensures shown { IfOk result (ShowsAll (Run names) text.now (W.told out.old) (W.told out.new)) }
 
     // After a failed write a front of such a text is out, and after any other error nothing.
-    ensures cut { result ≡ Err EngineError.Write → ShowsFront text.now (W.told out.old) (W.told out.new) }
+    ensures cut { result ≡ Err EngineError.Write → ShowsFront (Run names) text.now (W.told out.old) (W.told out.new) }
     ensures silent { IfErr result (λ e. e ≢ EngineError.Write → W.told out.new ≡ W.told out.old) }
+
+    // A refusal comes for its cause alone, at a place of the text.
+    ensures taken { OnOk result (IsTakenRun (length inputs.now) steps) }
+    ensures refused { IfErr result (IsRefusedRun text.now (length inputs.now) steps) }
+    ensures inside { IfErr result (IsInsideOf text.now) }
 {
     let report = run_text(alloc, text, inputs, steps)?;
-    match write_report(&report, text, false, out) {
+    match write_report(&report, text, names, out) {
         Ok(()) => Ok(status_of(&report.ending)),
         Err(_) => Err(EngineError::Write),
     }

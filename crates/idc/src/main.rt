@@ -7,6 +7,7 @@
 #![tactic(auto)]
 
 mod cli;
+mod commands;
 mod compile;
 mod drive;
 mod engine;

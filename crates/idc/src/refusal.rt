@@ -1,156 +1,277 @@
 //! The lines of refusals. Each cause gets its number, name and status here and nowhere else.
 
+ghost use Rattle.std.specs.Prelude.{◌≡◌, ◌++◌, codes, decimal, IfSome};
+ghost use Rattle.id_print.specs.Texts.{place_text};
+ghost use Rattle.std.specs.Option.{option_copied};
+ghost use Rattle.id_print.specs.Told.{Prints};
+ghost use Rattle.idc.specs.Refusals.{at_text, cause_text, checker_cause, compiler_cause, engine_cause, IsInside, lexer_cause, name_of, number_of, number_text, parser_cause, refusal_text, source_cause, status_of, word_text};
+
 use crate::compile::CompileError;
 use crate::engine::EngineError;
 use crate::source::SourceFault;
 use id_check::CheckCause;
 use id_print::{PrintError, Sink, put, put_number, put_place};
-use id_text::{MAX_BYTES, TextError};
+use id_text::TextError;
 use id_tree::TreeError;
 
-/// A refusal as it is printed: its number, where it has one, its name, its place or word, where it has one,
-/// and the status of the program.
+/// Why there is no answer.
 #[derive(Clone, Copy, Debug, PartialEq, Eq)]
-pub struct Refusal<'a> {
-    number: Option<u32>,
-    name: &'static str,
-    at: Option<usize>,
-    word: Option<&'a str>,
-    pub status: u8,
+pub enum Cause {
+    TooLong,
+    BadByte,
+    NumberTooLarge,
+    File,
+    Unexpected,
+    TooDeep,
+    NoMain,
+    Duplicate,
+    Unknown,
+    TooLarge,
+    UnknownInput,
+    BadSteps,
+    BadRounds,
+    TooManyFacts,
+    Memory,
+    Write,
 }
 
-/// A refusal with a number.
-fn numbered(number: u32, name: &'static str, at: Option<usize>, status: u8) -> Refusal<'static> {
-    Refusal {
-        number: Some(number),
-        name,
-        at,
-        word: None,
-        status,
+impl Cause {
+    /// Its number among the refusals, where it has one.
+    fn number(self) -> Option<u32>
+        ensures { result ≡ number_of self }
+    {
+        match self {
+            Cause::TooLong => Some(1),
+            Cause::BadByte => Some(2),
+            Cause::NumberTooLarge => Some(3),
+            Cause::File => Some(4),
+            Cause::Unexpected => Some(5),
+            Cause::TooDeep => Some(6),
+            Cause::NoMain => Some(7),
+            Cause::Duplicate => Some(9),
+            Cause::Unknown => Some(10),
+            Cause::TooLarge => Some(14),
+            Cause::UnknownInput => Some(16),
+            Cause::BadSteps => Some(20),
+            Cause::BadRounds => Some(24),
+            Cause::TooManyFacts => Some(25),
+            Cause::Memory | Cause::Write => None,
+        }
+    }
+
+    /// Its name.
+    fn name(self) -> &'static [u8]
+        ensures { result.now ≡ name_of self }
+    {
+        match self {
+            Cause::TooLong => b"TooLong",
+            Cause::BadByte => b"BadByte",
+            Cause::NumberTooLarge => b"NumberTooLarge",
+            Cause::File => b"File",
+            Cause::Unexpected => b"Unexpected",
+            Cause::TooDeep => b"TooDeep",
+            Cause::NoMain => b"NoMain",
+            Cause::Duplicate => b"Duplicate",
+            Cause::Unknown => b"Unknown",
+            Cause::TooLarge => b"TooLarge",
+            Cause::UnknownInput => b"UnknownInput",
+            Cause::BadSteps => b"BadSteps",
+            Cause::BadRounds => b"BadRounds",
+            Cause::TooManyFacts => b"TooManyFacts",
+            Cause::Memory => b"Memory",
+            Cause::Write => b"Write",
+        }
+    }
+
+    /// The status of the program after it.
+    pub fn status(self) -> u8
+        ensures { result ≡ status_of self }
+    {
+        match self {
+            Cause::TooLong
+            | Cause::BadByte
+            | Cause::NumberTooLarge
+            | Cause::Unexpected
+            | Cause::TooDeep
+            | Cause::NoMain
+            | Cause::Duplicate
+            | Cause::Unknown
+            | Cause::TooLarge
+            | Cause::UnknownInput => 2,
+            Cause::TooManyFacts => 3,
+            Cause::BadSteps | Cause::BadRounds => 4,
+            Cause::File | Cause::Memory | Cause::Write => 5,
+        }
     }
 }
 
-/// What goes wrong without any fault of the words or the text.
-fn unnumbered(name: &'static str) -> Refusal<'static> {
-    Refusal {
-        number: None,
-        name,
-        at: None,
-        word: None,
-        status: 5,
-    }
-}
-
-fn of_text_error(error: TextError) -> Refusal<'static> {
+/// The cause of a refused text, and its place.
+fn of_text_error(error: TextError) -> (Cause, Option<usize>)
+    ensures { result ≡ lexer_cause error }
+{
     match error {
-        TextError::TooLong => numbered(1, "TooLong", None, 2),
-        TextError::BadByte { at } => numbered(2, "BadByte", Some(at), 2),
-        TextError::NumberTooLarge { at } => numbered(3, "NumberTooLarge", Some(at), 2),
-        TextError::Memory => unnumbered("Memory"),
+        TextError::TooLong => (Cause::TooLong, None),
+        TextError::BadByte { at } => (Cause::BadByte, Some(at)),
+        TextError::NumberTooLarge { at } => (Cause::NumberTooLarge, Some(at)),
+        TextError::Memory => (Cause::Memory, None),
     }
 }
 
-fn of_tree_error(error: TreeError) -> Refusal<'static> {
+/// The cause of refused tokens, and its place.
+fn of_tree_error(error: TreeError) -> (Cause, Option<usize>)
+    ensures { result ≡ parser_cause error }
+{
     match error {
-        TreeError::Unexpected { at } => numbered(5, "Unexpected", Some(at), 2),
-        TreeError::TooDeep { at } => numbered(6, "TooDeep", Some(at), 2),
-        TreeError::Memory => unnumbered("Memory"),
+        TreeError::Unexpected { at } => (Cause::Unexpected, Some(at)),
+        TreeError::TooDeep { at } => (Cause::TooDeep, Some(at)),
+        TreeError::Memory => (Cause::Memory, None),
     }
 }
 
-fn of_compile_error(error: CompileError) -> Refusal<'static> {
+/// The cause of a refused program, and its place.
+fn of_check_cause(cause: CheckCause) -> (Cause, Option<usize>)
+    ensures { result ≡ checker_cause cause }
+{
+    match cause {
+        CheckCause::NoMain => (Cause::NoMain, None),
+        CheckCause::Duplicate { at } => (Cause::Duplicate, Some(at)),
+        CheckCause::Unknown { at } => (Cause::Unknown, Some(at)),
+        CheckCause::Memory => (Cause::Memory, None),
+    }
+}
+
+/// The cause of a text without graph, and its place.
+fn of_compile_error(error: CompileError) -> (Cause, Option<usize>)
+    ensures { result ≡ compiler_cause error }
+{
     match error {
         CompileError::Text(error) => of_text_error(error),
         CompileError::Tree(error) => of_tree_error(error),
-        CompileError::Check(CheckCause::NoMain) => numbered(7, "NoMain", None, 2),
-        CompileError::TooLarge => numbered(14, "TooLarge", None, 2),
-        CompileError::Memory => unnumbered("Memory"),
+        CompileError::Check(cause) => of_check_cause(cause),
+        CompileError::TooLarge => (Cause::TooLarge, None),
+        CompileError::Memory => (Cause::Memory, None),
     }
 }
 
-/// The refusal of a source that has no text.
-pub fn of_source_fault(fault: SourceFault) -> Refusal<'static> {
-    match fault {
-        SourceFault::TooLong => numbered(1, "TooLong", None, 2),
-        SourceFault::File => numbered(4, "File", None, 5),
-        SourceFault::Memory => unnumbered("Memory"),
-    }
-}
-
-/// The refusal of an input word.
-fn unknown_input(word: Option<&str>) -> Refusal<'_> {
-    Refusal {
-        number: Some(16),
-        name: "UnknownInput",
-        at: None,
-        word,
-        status: 2,
-    }
-}
-
-/// The refusal of a run on these input words.
-pub fn of_engine_error<'a>(error: EngineError, inputs: &[&'a str]) -> Refusal<'a> {
+/// The cause of an error of a command, and its place in the text.
+pub fn of_engine_error(error: EngineError) -> (Cause, Option<usize>)
+    ensures { result ≡ engine_cause error }
+{
     match error {
-        EngineError::UnknownInput => unknown_input(inputs.first().copied()),
         EngineError::Compile(error) => of_compile_error(error),
-        EngineError::BadElements => numbered(19, "BadElements", None, 4),
-        EngineError::BadSteps => numbered(20, "BadSteps", None, 4),
-        EngineError::Misplaced => numbered(23, "Invalid", None, 5),
-        EngineError::Memory => unnumbered("Memory"),
-        EngineError::Write => unnumbered("Write"),
+        EngineError::UnknownInput => (Cause::UnknownInput, None),
+        EngineError::BadSteps => (Cause::BadSteps, None),
+        EngineError::BadRounds => (Cause::BadRounds, None),
+        EngineError::TooManyFacts => (Cause::TooManyFacts, None),
+        EngineError::Memory => (Cause::Memory, None),
+        EngineError::Write => (Cause::Write, None),
     }
 }
 
-/// The refusal of a failed write, and of want of memory.
-pub fn of_write() -> Refusal<'static> {
-    unnumbered("Write")
-}
-
-/// The refusal for want of memory.
-pub fn of_memory() -> Refusal<'static> {
-    unnumbered("Memory")
-}
-
-/// Writes ` at L:C` where there is a place that lies in the text.
-fn put_at<W: Sink>(at: Option<usize>, text: &str, sink: &mut W) -> Result<(), PrintError> {
-    match at {
-        Some(at) if text.len() <= MAX_BYTES && at <= text.len() => {
-            put(sink, b" at ")?;
-            put_place(sink, text, at)
-        }
-        _ => Ok(()),
+/// The cause where a source has no text.
+pub fn of_source_fault(fault: SourceFault) -> Cause
+    ensures { result ≡ source_cause fault }
+{
+    match fault {
+        SourceFault::TooLong => Cause::TooLong,
+        SourceFault::File => Cause::File,
+        SourceFault::Memory => Cause::Memory,
     }
 }
 
-/// Writes a space and the word where there is one.
-fn put_word<W: Sink>(word: Option<&str>, sink: &mut W) -> Result<(), PrintError> {
-    match word {
-        Some(word) => {
-            put(sink, b" ")?;
-            put(sink, word.as_bytes())
-        }
-        None => Ok(()),
-    }
-}
-
-/// Writes ` N` where there is a number.
-fn put_refusal_number<W: Sink>(number: Option<u32>, sink: &mut W) -> Result<(), PrintError> {
-    match number {
-        Some(number) => {
-            put(sink, b" ")?;
-            put_number(sink, number)
-        }
-        None => Ok(()),
-    }
-}
-
-/// Writes the line of a refusal of a text.
-pub fn put_refusal<W: Sink>(refusal: Refusal, text: &str, sink: &mut W) -> Result<(), PrintError> {
-    put(sink, b"refused")?;
-    put_refusal_number(refusal.number, sink)?;
+fn put_spaced_number<W: Sink>(number: u32, sink: &mut W) -> Result<(), PrintError>
+    ensures { Prints (W.told sink.old) (W.told sink.new) (codes " " ++ decimal number) result }
+{
     put(sink, b" ")?;
-    put(sink, refusal.name.as_bytes())?;
-    put_at(refusal.at, text, sink)?;
-    put_word(refusal.word, sink)?;
+    put_number(sink, number)
+}
+
+fn put_cause_number<W: Sink>(cause: Cause, sink: &mut W) -> Result<(), PrintError>
+    ensures { Prints (W.told sink.old) (W.told sink.new) (number_text (number_of cause)) result }
+{
+    match cause.number() {
+        Some(number) => put_spaced_number(number, sink),
+        None => Ok(()),
+    }
+}
+
+fn put_name<W: Sink>(cause: Cause, sink: &mut W) -> Result<(), PrintError>
+    ensures { Prints (W.told sink.old) (W.told sink.new) (name_of cause) result }
+{
+    put(sink, cause.name())
+}
+
+fn put_cause<W: Sink>(cause: Cause, sink: &mut W) -> Result<(), PrintError>
+    ensures { Prints (W.told sink.old) (W.told sink.new) (cause_text cause) result }
+{
+    put_cause_number(cause, sink)?;
+    put(sink, b" ")?;
+    put_name(cause, sink)
+}
+
+fn put_at_place<W: Sink>(at: usize, text: &str, sink: &mut W) -> Result<(), PrintError>
+    requires { IsInside text.now at }
+    ensures { Prints (W.told sink.old) (W.told sink.new) (codes " at " ++ place_text text.now at) result }
+{
+    put(sink, b" at ")?;
+    put_place(sink, text, at)
+}
+
+fn put_at<W: Sink>(at: Option<usize>, text: &str, sink: &mut W) -> Result<(), PrintError>
+    requires { IfSome at (IsInside text.now) }
+    ensures { Prints (W.told sink.old) (W.told sink.new) (at_text text.now at) result }
+{
+    match at {
+        Some(at) => put_at_place(at, text, sink),
+        None => Ok(()),
+    }
+}
+
+fn put_spaced<W: Sink>(word: &str, sink: &mut W) -> Result<(), PrintError>
+    ensures { Prints (W.told sink.old) (W.told sink.new) (codes " " ++ word.now) result }
+{
+    put(sink, b" ")?;
+    put(sink, word.as_bytes())
+}
+
+fn put_word<W: Sink>(word: Option<&str>, sink: &mut W) -> Result<(), PrintError>
+    ensures { Prints (W.told sink.old) (W.told sink.new) (word_text (option_copied word.entry)) result }
+{
+    match word {
+        Some(word) => put_spaced(word, sink),
+        None => Ok(()),
+    }
+}
+
+fn put_details<W: Sink>(
+    at: Option<usize>,
+    word: Option<&str>,
+    text: &str,
+    sink: &mut W,
+) -> Result<(), PrintError>
+    requires { IfSome at (IsInside text.now) }
+    ensures { Prints (W.told sink.old) (W.told sink.new)
+        (at_text text.now at ++ (word_text (option_copied word.entry) ++ codes "\n")) result }
+{
+    put_at(at, text, sink)?;
+    put_word(word, sink)?;
     put(sink, b"\n")
+}
+
+/// Writes the line of a refusal for a cause, at a place of the text, where it has one, or for an input
+/// word. Takes no memory.
+pub fn put_refusal<W: Sink>(
+    cause: Cause,
+    at: Option<usize>,
+    word: Option<&str>,
+    text: &str,
+    sink: &mut W,
+) -> Result<(), PrintError>
+    requires { IfSome at (IsInside text.now) }
+    ensures { Prints (W.told sink.old) (W.told sink.new)
+        (refusal_text text.now cause at (option_copied word.entry)) result }
+{
+    put(sink, b"refused")?;
+    put_cause(cause, sink)?;
+    put_details(at, word, text, sink)
 }

@@ -143,6 +143,15 @@ fn refuses_texts_with_one_line(rt: HostRuntime) {
             "def main(): int = 1;\ndef f(): int = 1;",
             "refused 5 Unexpected at 2:1\n",
         ),
+        (
+            "def main(): int = { x = 1;",
+            "refused 5 Unexpected at 1:27\n",
+        ),
+        (
+            "def main(): int = { x = 1; x = 2; in x };",
+            "refused 9 Duplicate at 1:28\n",
+        ),
+        ("def main(): int = x;", "refused 10 Unknown at 1:19\n"),
         ("def f(): int = 1;", "refused 7 NoMain\n"),
         ("", "refused 7 NoMain\n"),
     ] {
@@ -210,12 +219,15 @@ fn refuses_a_text_of_one_byte_too_many(rt: HostRuntime) -> Result<(), Fail> {
 
 #[test]
 fn refuses_bad_command_lines(rt: HostRuntime) {
-    let cases: [&[&str]; 5] = [
+    let cases: [&[&str]; 8] = [
         &[],
         &["run"],
         &["walk", "text.id"],
         &["run", "text.id", "--fast"],
         &["run", "text.id", "--steps", "0"],
+        &["check", "text.id", "n=1"],
+        &["facts", "text.id"],
+        &["facts", "text.id", "10001"],
     ];
     for words in cases {
         let mut source = OneText { text: "" };
@@ -229,4 +241,93 @@ fn refuses_bad_command_lines(rt: HostRuntime) {
         assert_eq!(rt; status, 4, "{words:?}");
         assert!(rt; out.bytes.is_empty() && !err.bytes.is_empty(), "{words:?}");
     }
+}
+
+const RUN_NAMES: &[&str] = &["run", "text.id", "--names"];
+
+const UNORDERED: &str = "def main(): int = { y = x + 1; x = 4; in y };";
+
+#[test]
+fn prints_what_names_have(rt: HostRuntime) {
+    for (text, out) in [
+        (UNORDERED, "answer 5\nname @1:21 = 5\nname @1:32 = 4\n"),
+        ("def main(): int = { x = x; in x };", "answer none\n"),
+        (
+            "def main(): int = { x = 4; y = y + 1; in x };",
+            "answer 4\nname @1:21 = 4\n",
+        ),
+        (
+            "def main(): int = { x = 4; y = { x = 10; in x + 1 }; in x * y };",
+            "answer 44\nname @1:21 = 4\nname @1:28 = 11\nname @1:34 = 10\n",
+        ),
+    ] {
+        expect(&rt, text, RUN_NAMES, 0, out, "");
+    }
+    expect(&rt, UNORDERED, RUN, 0, "answer 5\n", "");
+}
+
+#[test]
+fn stops_at_one_of_two_faults(rt: HostRuntime) -> Result<(), Fail> {
+    let text = "def main(): int = { x = 1 div 0; y = 9223372036854775807 + 1; in 0 };";
+    let mut source = OneText { text };
+    let mut out = Kept {
+        bytes: Vec::new(rt.alloc()),
+    };
+    let mut err = Kept {
+        bytes: Vec::new(rt.alloc()),
+    };
+    let status = drive(&rt, RUN, &mut source, &mut out, &mut err);
+    let printed = out.bytes.as_slice();
+    let one = printed == "fault division by zero at @1:27\n".as_bytes();
+    let other = printed == "fault overflow at @1:58\n".as_bytes();
+    assert!(rt; one || other, "{printed:?}");
+    assert!(rt; err.bytes.is_empty());
+    assert_eq!(rt; status, 1);
+    Ok(())
+}
+
+#[test]
+fn checks_texts_and_prints_graphs(rt: HostRuntime) {
+    expect(&rt, UNORDERED, &["check", "text.id"], 0, "ok\n", "");
+    let cause = "refused 10 Unknown at 1:19\n";
+    let unbound = "def main(): int = x;";
+    for command in ["check", "graph"] {
+        expect(&rt, unbound, &[command, "text.id"], 2, "", cause);
+    }
+    let listing = "0 merge int @1:5 ->
+1 merge signal @1:5 -> 3.0 6.0
+2 back int @1:5 ->
+3 const 1 @1:29 -> 4.1
+4 add @1:27 -> 5.0
+5 merge int @1:21 -> 2.1
+6 const 4 @1:36 -> 7.0
+7 merge int @1:32 -> 4.0
+";
+    expect(&rt, UNORDERED, &["graph", "text.id"], 0, listing, "");
+}
+
+#[test]
+fn prints_the_facts_of_a_round(rt: HostRuntime) {
+    let sum = "def main(): int = 1 + 2;";
+    let on = "on @1:19\non @1:21\non @1:23\n";
+    for (round, out) in [
+        ("0", ""),
+        ("1", "on @1:21\n"),
+        ("2", on),
+        (
+            "3",
+            "on @1:19\non @1:21\non @1:23\nhas @1:19 = 1\nhas @1:23 = 2\n",
+        ),
+        (
+            "4",
+            "on @1:19\non @1:21\non @1:23\nhas @1:19 = 1\nhas @1:21 = 3\nhas @1:23 = 2\n",
+        ),
+    ] {
+        expect(&rt, sum, &["facts", "text.id", round], 0, out, "");
+    }
+    let cycle = "def main(): int = { x = x; in x };";
+    let facts = "on @1:19\non @1:25\non @1:31\n";
+    expect(&rt, cycle, &["facts", "text.id", "10000"], 0, facts, "");
+    let unknown = "refused 16 UnknownInput n=1\n";
+    expect(&rt, sum, &["facts", "text.id", "4", "n=1"], 2, "", unknown);
 }

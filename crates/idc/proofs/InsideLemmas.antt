@@ -1,0 +1,63 @@
+-- The place of each refusal of a text lies in the text (specs/Refusals.antt).
+use Rattle.std.proofs.Common.{◌≡◌, ◌⊎◌, inl, inr, ℕ, zero, suc, ◌≤◌, ◌<◌, List, [], ◌∷◌, ◌++◌, All, length, Option, None, Some, refl, sym, subst, arith}
+use Rattle.std.specs.Prelude.{IfSome}
+use Rattle.id_text.specs.declared.token.TheConstants.{MAX_BYTES}
+use Rattle.id_text.specs.declared.token.Token.{Token}
+use Rattle.id_text.specs.declared.token.TextError.{TextError}
+use Rattle.id_text.specs.declared.token.TextError.TheVariants as lexer
+use Rattle.id_text.specs.Tokens.{IsWithin, IsPlaceWithin}
+use Rattle.id_tree.specs.declared.tree.TreeError.{TreeError}
+use Rattle.id_tree.specs.declared.tree.TreeError.TheVariants as parser
+use Rattle.id_tree.specs.declared.tree.Program.{Program}
+use Rattle.id_tree.specs.Tree.{program_tree}
+use Rattle.id_tree.specs.Distinct.{HasPlace}
+use Rattle.id_tree.specs.Accepted.{StopsAt, RefusedBy}
+use Rattle.id_check.specs.declared.CheckCause.{CheckCause}
+use Rattle.id_check.specs.declared.CheckCause.TheVariants as checker
+use Rattle.id_check.specs.Causes.{IsRefusedFor}
+use Rattle.id_laws.proofs.Lists.{among_right}
+use Rattle.idc.specs.Refusals.{lexer_cause, parser_cause, checker_cause, IsInside}
+use Rattle.idc.proofs.CausesLemmas.{causes_place}
+use Rattle.idc.proofs.NamesLemmas.{among_all}
+
+-- that of a text without tokens, unless it is too long
+pub lexer_inside : (text : List ℕ) (e : TextError) → IsPlaceWithin (length text) e → (e ≡ lexer.TooLong) ⊎ (length text ≤ MAX_BYTES) → IfSome (lexer_cause e).1 (IsInside text)
+lexer_inside text lexer.TooLong h short = tt
+lexer_inside text (lexer.BadByte at) h (inl e) = absurd cc
+lexer_inside text (lexer.BadByte at) h (inr s) = record { inside = h; short = s }
+lexer_inside text (lexer.NumberTooLarge at) h (inl e) = absurd cc
+lexer_inside text (lexer.NumberTooLarge at) h (inr s) = record { inside = h; short = s }
+lexer_inside text lexer.Memory h short = tt
+
+stop_inside : (text : List ℕ) (ts : List Token) (at : ℕ) → StopsAt ts at → All (IsWithin (length text)) ts → at ≤ length text
+stop_inside text ts at r all =
+    let there = subst (λ (us : List Token). All (IsWithin (length text)) us) r.whole all in
+    let w = among_all (IsWithin (length text)) (r.front ++ r.token ∷ r.behind) r.token there (among_right r.token r.front (r.token ∷ r.behind) (inl refl)) in
+    omega (arith, w.0, w.1, r.place)
+
+-- that of tokens without tree
+pub parser_inside : (text : List ℕ) (ts : List Token) (e : TreeError) → RefusedBy ts e → All (IsWithin (length text)) ts → length text ≤ MAX_BYTES → IfSome (parser_cause e).1 (IsInside text)
+parser_inside text ts (parser.Unexpected at) h all short = record { inside = stop_inside text ts at h.0 all; short = short }
+parser_inside text ts (parser.TooDeep at) h all short = record { inside = stop_inside text ts at h.0 all; short = short }
+parser_inside text ts parser.Memory h all short = tt
+
+-- that of a refused program
+pub checker_inside : (text : List ℕ) (p : Program) (c : CheckCause) → IsRefusedFor p c → ((q : ℕ) → HasPlace (program_tree p) q → q ≤ length text) → length text ≤ MAX_BYTES → IfSome (checker_cause c).1 (IsInside text)
+checker_inside text p checker.NoMain h within short = tt
+checker_inside text p (checker.Duplicate at) h within short = record { inside = within at (causes_place p (checker.Duplicate at) h.among); short = short }
+checker_inside text p (checker.Unknown at) h within short = record { inside = within at (causes_place p (checker.Unknown at) h.among); short = short }
+checker_inside text p checker.Memory h within short = tt
+
+-- the one number is at most the other, or above it
+size_split : (n m : ℕ) → (n ≤ m) ⊎ (m < n)
+size_split zero m = inl (omega arith)
+size_split (suc n) zero = inr (omega arith)
+size_split (suc n) (suc m) = elim (size_split n m) [ inl h ↦ inl (omega (arith, h)) | inr h ↦ inr (omega (arith, h)) ]
+
+-- a text that is refused is too long, or it is not
+pub too_long_or_short : (text : List ℕ) (e : TextError) → (MAX_BYTES < length text → e ≡ lexer.TooLong) → (e ≡ lexer.TooLong) ⊎ (length text ≤ MAX_BYTES)
+too_long_or_short text e h = elim (size_split (length text) MAX_BYTES) [ inl s ↦ inr s | inr l ↦ inl (h l) ]
+
+-- a text that is not too long
+pub short_text : (text : List ℕ) → (MAX_BYTES < length text → ⊥) → length text ≤ MAX_BYTES
+short_text text h = elim (size_split (length text) MAX_BYTES) [ inl s ↦ s | inr l ↦ absurd (h l) ]
