@@ -5,11 +5,13 @@ use Rattle.std.specs.Fmt.{decimal, signed_decimal}
 use Rattle.id_text.specs.Places.{line_of, column_of}
 use Rattle.id_graph.specs.declared.instr.Instr.{Instr}
 use Rattle.id_graph.specs.declared.instr.Op.{Op}
-use Rattle.id_graph.specs.declared.instr.Op.TheVariants.{Const, Neg, Binary, Merge, Back}
+use Rattle.id_graph.specs.declared.instr.Op.TheVariants.{Const, Unary, Binary, Merge, Back}
 use Rattle.id_graph.specs.declared.instr.Constant.{Constant}
 use Rattle.id_graph.specs.declared.instr.Constant.TheVariants.{Int as IntConstant, Bool as BoolConstant}
-use Rattle.id_graph.specs.declared.instr.Arithmetic.{Arithmetic}
-use Rattle.id_graph.specs.declared.instr.Arithmetic.TheVariants.{Add, Sub, Mul, Div, Rem}
+use Rattle.id_graph.specs.declared.instr.Monadic.{Monadic}
+use Rattle.id_graph.specs.declared.instr.Monadic.TheVariants.{Neg, Not}
+use Rattle.id_graph.specs.declared.instr.Dyadic.{Dyadic}
+use Rattle.id_graph.specs.declared.instr.Dyadic.TheVariants.{Add, Sub, Mul, Div, Rem, Lt, Le, Gt, Ge, Eq, Ne, Eqb, Neb, And, Or}
 use Rattle.id_graph.specs.declared.instr.PortKind.{PortKind}
 use Rattle.id_graph.specs.declared.instr.PortKind.TheVariants.{Signal, Int, Bool as BoolKind, Structure, Address, Context, Continuation}
 use Rattle.id_graph.specs.declared.dests.Dest.{Dest}
@@ -33,19 +35,34 @@ constant_text (IntConstant n) = signed_decimal n
 constant_text (BoolConstant true) = codes "true"
 constant_text (BoolConstant false) = codes "false"
 
--- the name of an operator on two whole numbers
-abbrev pub arithmetic_name : Arithmetic → List ℕ
-arithmetic_name Add = codes "add"
-arithmetic_name Sub = codes "sub"
-arithmetic_name Mul = codes "mul"
-arithmetic_name Div = codes "div"
-arithmetic_name Rem = codes "rem"
+-- the name of an operator on one value
+abbrev pub monadic_name : Monadic → List ℕ
+monadic_name Neg = codes "neg"
+monadic_name Not = codes "not"
+
+-- the name of an operator on two values
+abbrev pub dyadic_name : Dyadic → List ℕ
+dyadic_name Add = codes "add"
+dyadic_name Sub = codes "sub"
+dyadic_name Mul = codes "mul"
+dyadic_name Div = codes "div"
+dyadic_name Rem = codes "rem"
+dyadic_name Lt = codes "lt"
+dyadic_name Le = codes "le"
+dyadic_name Gt = codes "gt"
+dyadic_name Ge = codes "ge"
+dyadic_name Eq = codes "eq"
+dyadic_name Ne = codes "ne"
+dyadic_name Eqb = codes "eqb"
+dyadic_name Neb = codes "neb"
+dyadic_name And = codes "and"
+dyadic_name Or = codes "or"
 
 -- an operator with its parameters
 abbrev pub op_text : Op → List ℕ
 op_text (Const v) = codes "const " ++ constant_text v
-op_text Neg = codes "neg"
-op_text (Binary f) = arithmetic_name f
+op_text (Unary f) = monadic_name f
+op_text (Binary f) = dyadic_name f
 op_text (Merge k) = codes "merge " ++ kind_name k
 op_text (Back k) = codes "back " ++ kind_name k
 

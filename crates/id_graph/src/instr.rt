@@ -1,7 +1,7 @@
 //! Instructions and blocks (docs/GRAPH.md, "Operators").
 
 ghost use Rattle.std.specs.Prelude.{◌≡◌};
-ghost use Rattle.id_graph.specs.Ports.{constant_kind, port_kind, sends, two_ports};
+ghost use Rattle.id_graph.specs.Ports.{constant_kind, monadic_kind, operand_kind, outcome_kind, port_kind, sends, two_ports};
 
 use crate::dests::{Dests, Port};
 use id_text::Sequence;
@@ -37,14 +37,71 @@ impl Constant {
     }
 }
 
-/// An operator on two whole numbers with a whole number as its result.
+/// An operator on one value.
 #[derive(Clone, Copy, Debug, PartialEq, Eq)]
-pub enum Arithmetic {
+pub enum Monadic {
+    /// Unary minus.
+    Neg,
+    /// The other truth value.
+    Not,
+}
+
+impl Monadic {
+    /// The kind of its operand and its result. Takes no memory.
+    pub fn kind(self) -> PortKind
+        ensures { result ≡ monadic_kind self }
+    {
+        match self {
+            Monadic::Neg => PortKind::Int,
+            Monadic::Not => PortKind::Bool,
+        }
+    }
+}
+
+/// An operator on two values: on whole numbers as far as `Ne`, and on truth values from `Eqb` on.
+#[derive(Clone, Copy, Debug, PartialEq, Eq)]
+pub enum Dyadic {
     Add,
     Sub,
     Mul,
     Div,
     Rem,
+    Lt,
+    Le,
+    Gt,
+    Ge,
+    Eq,
+    Ne,
+    Eqb,
+    Neb,
+    And,
+    Or,
+}
+
+impl Dyadic {
+    /// The kind of its operands. Takes no memory.
+    pub fn operand_kind(self) -> PortKind
+        ensures { result ≡ operand_kind self }
+    {
+        match self {
+            Dyadic::Add | Dyadic::Sub | Dyadic::Mul | Dyadic::Div | Dyadic::Rem => PortKind::Int,
+            Dyadic::Lt | Dyadic::Le | Dyadic::Gt | Dyadic::Ge => PortKind::Int,
+            Dyadic::Eq | Dyadic::Ne => PortKind::Int,
+            Dyadic::Eqb | Dyadic::Neb | Dyadic::And | Dyadic::Or => PortKind::Bool,
+        }
+    }
+
+    /// The kind of its result. Takes no memory.
+    pub fn outcome_kind(self) -> PortKind
+        ensures { result ≡ outcome_kind self }
+    {
+        match self {
+            Dyadic::Add | Dyadic::Sub | Dyadic::Mul | Dyadic::Div | Dyadic::Rem => PortKind::Int,
+            Dyadic::Lt | Dyadic::Le | Dyadic::Gt | Dyadic::Ge => PortKind::Bool,
+            Dyadic::Eq | Dyadic::Ne => PortKind::Bool,
+            Dyadic::Eqb | Dyadic::Neb | Dyadic::And | Dyadic::Or => PortKind::Bool,
+        }
+    }
 }
 
 /// What an instruction does.
@@ -52,10 +109,10 @@ pub enum Arithmetic {
 pub enum Op {
     /// Sends its constant when a signal comes.
     Const(Constant),
-    /// Unary minus.
-    Neg,
-    /// An operator on two whole numbers.
-    Binary(Arithmetic),
+    /// An operator on one value.
+    Unary(Monadic),
+    /// An operator on two values.
+    Binary(Dyadic),
     /// Sends on whatever comes, of one kind.
     Merge(PortKind),
     /// Sends a value of one kind to the continuation that came with it.
@@ -76,10 +133,11 @@ impl Op {
     {
         match (self, port) {
             (Op::Const(_), Port::Zero) => Some(PortKind::Signal),
-            (Op::Neg, Port::Zero) | (Op::Binary(_), _) => Some(PortKind::Int),
+            (Op::Unary(operator), Port::Zero) => Some(operator.kind()),
+            (Op::Binary(operator), _) => Some(operator.operand_kind()),
             (Op::Merge(kind), Port::Zero) | (Op::Back(kind), Port::One) => Some(kind),
             (Op::Back(_), Port::Zero) => Some(PortKind::Continuation),
-            (Op::Const(_) | Op::Neg | Op::Merge(_), Port::One) => None,
+            (Op::Const(_) | Op::Unary(_) | Op::Merge(_), Port::One) => None,
         }
     }
 
@@ -90,7 +148,8 @@ impl Op {
     {
         match self {
             Op::Const(constant) => Some(constant.kind()),
-            Op::Neg | Op::Binary(_) => Some(PortKind::Int),
+            Op::Unary(operator) => Some(operator.kind()),
+            Op::Binary(operator) => Some(operator.outcome_kind()),
             Op::Merge(kind) => Some(kind),
             Op::Back(_) => None,
         }

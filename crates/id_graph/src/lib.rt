@@ -13,7 +13,7 @@ mod listing;
 
 pub use dests::{Dest, Dests, Port};
 pub use graph::{Graph, GraphCause, GraphError, kind_at};
-pub use instr::{Arithmetic, Block, Constant, Instr, Op, PortKind};
+pub use instr::{Block, Constant, Dyadic, Instr, Monadic, Op, PortKind};
 pub use listing::list;
 
 #[cfg(test)]

@@ -2,11 +2,11 @@
 
 ghost use Rattle.std.specs.Prelude.{◌≡◌, ◌≤◌, ◌++◌, length, All, IfOk, OnOk, codes, string_bytes};
 ghost use Rattle.std.specs.List.{flat_map};
-ghost use Rattle.id_graph.specs.Listing.{arithmetic_name, constant_text, dest_text, head_text, in_order, kind_name, line_text, listing, op_text, place_text, port_number};
+ghost use Rattle.id_graph.specs.Listing.{constant_text, dest_text, dyadic_name, head_text, in_order, kind_name, line_text, listing, monadic_name, op_text, place_text, port_number};
 
 use crate::dests::{Dest, Port};
 use crate::graph::Graph;
-use crate::instr::{Arithmetic, Constant, Instr, Op, PortKind};
+use crate::instr::{Constant, Dyadic, Instr, Monadic, Op, PortKind};
 use id_text::{Lines, MAX_BYTES};
 use std::alloc::{AllocError, Global};
 
@@ -78,8 +78,8 @@ fn write_op(out: &mut String, op: Op) -> Result<(), AllocError>
 {
     match op {
         Op::Const(constant) => write_const(out, constant),
-        Op::Neg => write!(out, "neg"),
-        Op::Binary(operator) => write!(out, "{}", arithmetic_name(operator)),
+        Op::Unary(operator) => write!(out, "{}", monadic_name(operator)),
+        Op::Binary(operator) => write!(out, "{}", dyadic_name(operator)),
         Op::Merge(kind) => write!(out, "merge {}", kind_name(kind)),
         Op::Back(kind) => write!(out, "back {}", kind_name(kind)),
     }
@@ -97,16 +97,36 @@ fn write_const(out: &mut String, constant: Constant) -> Result<(), AllocError>
     }
 }
 
-/// The name of an operator on two whole numbers.
-fn arithmetic_name(operator: Arithmetic) -> &'static str
-    ensures { result.now ≡ arithmetic_name operator }
+/// The name of an operator on one value.
+fn monadic_name(operator: Monadic) -> &'static str
+    ensures { result.now ≡ monadic_name operator }
 {
     match operator {
-        Arithmetic::Add => "add",
-        Arithmetic::Sub => "sub",
-        Arithmetic::Mul => "mul",
-        Arithmetic::Div => "div",
-        Arithmetic::Rem => "rem",
+        Monadic::Neg => "neg",
+        Monadic::Not => "not",
+    }
+}
+
+/// The name of an operator on two values.
+fn dyadic_name(operator: Dyadic) -> &'static str
+    ensures { result.now ≡ dyadic_name operator }
+{
+    match operator {
+        Dyadic::Add => "add",
+        Dyadic::Sub => "sub",
+        Dyadic::Mul => "mul",
+        Dyadic::Div => "div",
+        Dyadic::Rem => "rem",
+        Dyadic::Lt => "lt",
+        Dyadic::Le => "le",
+        Dyadic::Gt => "gt",
+        Dyadic::Ge => "ge",
+        Dyadic::Eq => "eq",
+        Dyadic::Ne => "ne",
+        Dyadic::Eqb => "eqb",
+        Dyadic::Neb => "neb",
+        Dyadic::And => "and",
+        Dyadic::Or => "or",
     }
 }
 

@@ -1,7 +1,8 @@
 //! A graph made by hand, listed and refused.
 
 use crate::{
-    Arithmetic, Block, Constant, Dest, Dests, Graph, GraphCause, Instr, Op, Port, PortKind, list,
+    Block, Constant, Dest, Dests, Dyadic, Graph, GraphCause, Instr, Monadic, Op, Port, PortKind,
+    list,
 };
 use id_text::Sequence;
 use std::alloc::{AllocError, Global};
@@ -17,6 +18,8 @@ const LISTING: &str = "0 merge int @1:5 ->
 5 const 4 @1:27 -> 6.1
 6 mul @1:25 -> 7.1
 7 add @1:21 -> 2.1
+8 le @1:25 -> 9.0
+9 not @1:21 ->
 ";
 
 fn instr(alloc: Global, op: Op, arcs: &[(u32, Port)], place: usize) -> Result<Instr, AllocError> {
@@ -35,8 +38,8 @@ fn instr(alloc: Global, op: Op, arcs: &[(u32, Port)], place: usize) -> Result<In
     })
 }
 
-/// The instructions of `TEXT`, where instruction 3 goes to port 0 of `target`. The trigger's
-/// destinations are out of order.
+/// The instructions of `TEXT`, where instruction 3 goes to port 0 of `target`, and two more. The
+/// trigger's destinations are out of order.
 fn instrs(alloc: Global, target: u32) -> Result<Vec<Instr>, AllocError> {
     let mut list = Vec::new(alloc);
     let kind = PortKind::Int;
@@ -52,8 +55,10 @@ fn instrs(alloc: Global, target: u32) -> Result<Vec<Instr>, AllocError> {
     )?)?;
     list.push(instr(alloc, Op::Const(Constant::Int(3)), &[(6, Port::Zero)], 22)?)?;
     list.push(instr(alloc, Op::Const(Constant::Int(4)), &[(6, Port::One)], 26)?)?;
-    list.push(instr(alloc, Op::Binary(Arithmetic::Mul), &[(7, Port::One)], 24)?)?;
-    list.push(instr(alloc, Op::Binary(Arithmetic::Add), &[(2, Port::One)], 20)?)?;
+    list.push(instr(alloc, Op::Binary(Dyadic::Mul), &[(7, Port::One)], 24)?)?;
+    list.push(instr(alloc, Op::Binary(Dyadic::Add), &[(2, Port::One)], 20)?)?;
+    list.push(instr(alloc, Op::Binary(Dyadic::Le), &[(9, Port::Zero)], 24)?)?;
+    list.push(instr(alloc, Op::Unary(Monadic::Not), &[], 20)?)?;
     Ok(list)
 }
 
@@ -69,7 +74,7 @@ fn blocks(alloc: Global) -> Result<Vec<Block>, AllocError> {
 #[test]
 fn lists_a_graph(rt: HostRuntime) -> Result<(), Fail> {
     let instrs = instrs(rt.alloc(), 7)?;
-    assert!(rt; instrs.len() == 8);
+    assert!(rt; instrs.len() == 10);
     let Ok(graph) = Graph::new(blocks(rt.alloc())?, instrs) else {
         panic!(rt; "the graph is refused");
     };
@@ -82,14 +87,14 @@ fn lists_a_graph(rt: HostRuntime) -> Result<(), Fail> {
 
 #[test]
 fn refuses_a_destination_that_is_no_port(rt: HostRuntime) -> Result<(), Fail> {
-    for (target, why) in [(8, "past the end"), (u32::MAX, "far past the end")] {
+    for (target, why) in [(10, "past the end"), (u32::MAX, "far past the end")] {
         let instrs = instrs(rt.alloc(), target)?;
-        assert!(rt; instrs.len() == 8);
+        assert!(rt; instrs.len() == 10);
         match Graph::new(blocks(rt.alloc())?, instrs) {
             Ok(_) => panic!(rt; "a graph with a destination {why}"),
             Err(error) => {
                 assert_eq!(rt; error.cause, GraphCause::BadArc { instr: 3 }, "{why}");
-                assert_eq!(rt; error.instrs.len(), 8, "{why}");
+                assert_eq!(rt; error.instrs.len(), 10, "{why}");
             }
         }
     }
