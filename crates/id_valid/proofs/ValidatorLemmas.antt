@@ -7,7 +7,7 @@ use Rattle.std.proofs.lemmas.Bool.Decides.{nat_tests}
 use Rattle.id_graph.specs.declared.instr.Block.{Block}
 use Rattle.id_graph.specs.declared.instr.PortKind.{PortKind}
 use Rattle.id_graph.specs.declared.instr.Op.{Op}
-use Rattle.id_graph.specs.declared.instr.Op.TheVariants.{Const, Neg, Binary, Merge, Back}
+use Rattle.id_graph.specs.declared.instr.Op.TheVariants.{Const, Unary, Binary, Merge, Back}
 use Rattle.id_graph.specs.Graph.{Parts}
 use Rattle.id_valid.specs.Roles.{back_kind, IsMain}
 use Rattle.id_valid.specs.Validator.{IsAnswer, IsSound, IsValid, FirstFaulty, IsMainBlock}
@@ -18,7 +18,7 @@ pub back_kind-some : (o : Option Op) (k : PortKind) → option_and_then back_kin
 back_kind-some None k e = cc
 back_kind-some (Some (Back j)) k e = cc
 back_kind-some (Some (Const v)) k e = cc
-back_kind-some (Some Neg) k e = cc
+back_kind-some (Some (Unary f)) k e = cc
 back_kind-some (Some (Binary f)) k e = cc
 back_kind-some (Some (Merge j)) k e = cc
 

@@ -4,7 +4,7 @@ use Rattle.std.specs.List.{list_any}
 use Rattle.id_graph.specs.declared.instr.Block.{Block}
 use Rattle.id_graph.specs.declared.instr.Instr.{Instr}
 use Rattle.id_graph.specs.declared.instr.Op.{Op}
-use Rattle.id_graph.specs.declared.instr.Op.TheVariants.{Const, Neg, Binary, Merge, Back}
+use Rattle.id_graph.specs.declared.instr.Op.TheVariants.{Const, Unary, Binary, Merge, Back}
 use Rattle.id_graph.specs.declared.instr.PortKind.{PortKind}
 use Rattle.id_graph.specs.declared.dests.Dest.{Dest}
 use Rattle.id_graph.specs.declared.dests.Port.{Port}
@@ -19,7 +19,7 @@ op_at g n = option_map (λ i. i.op) (slice_get g.instrs n)
 abbrev pub merge_kind : Op → Option PortKind
 merge_kind (Merge k) = Some k
 merge_kind (Const v) = None
-merge_kind Neg = None
+merge_kind (Unary f) = None
 merge_kind (Binary f) = None
 merge_kind (Back k) = None
 
@@ -27,7 +27,7 @@ merge_kind (Back k) = None
 abbrev pub back_kind : Op → Option PortKind
 back_kind (Back k) = Some k
 back_kind (Const v) = None
-back_kind Neg = None
+back_kind (Unary f) = None
 back_kind (Binary f) = None
 back_kind (Merge k) = None
 

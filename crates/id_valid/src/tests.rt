@@ -1,7 +1,7 @@
 //! The graph of `def main(): int = 2 + 3 * 4;`, made by hand, with one thing wrong at a time.
 
 use crate::{InvalidCause, validate};
-use id_graph::{Arithmetic, Block, Constant, Dest, Dests, Graph, Instr, Op, Port, PortKind};
+use id_graph::{Block, Constant, Dest, Dests, Dyadic, Graph, Instr, Op, Port, PortKind};
 use id_text::Sequence;
 use std::alloc::{AllocError, Global};
 use std::test::Fail;
@@ -57,8 +57,8 @@ fn instrs(alloc: Global, flaws: Flaws) -> Result<Vec<Instr>, AllocError> {
     list.push(instr(alloc, two, &[(7, Port::Zero)], 18)?)?;
     list.push(instr(alloc, flaws.four, &[(6, Port::Zero)], 22)?)?;
     list.push(instr(alloc, four, &[flaws.five], 26)?)?;
-    list.push(instr(alloc, Op::Binary(Arithmetic::Mul), &[(7, Port::One)], 24)?)?;
-    list.push(instr(alloc, Op::Binary(Arithmetic::Add), &[(2, Port::One)], 20)?)?;
+    list.push(instr(alloc, Op::Binary(Dyadic::Mul), &[(7, Port::One)], 24)?)?;
+    list.push(instr(alloc, Op::Binary(Dyadic::Add), &[(2, Port::One)], 20)?)?;
     Ok(list)
 }
 
