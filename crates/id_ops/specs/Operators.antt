@@ -1,13 +1,16 @@
 -- What each operator does with its operands (docs/MACHINE.md, "Firing").
-use Rattle.std.specs.Prelude.{ℤ, pos, negsuc, neg_ℤ, int_div, int_rem, ◌+ℤ◌, ◌-ℤ◌, ◌*ℤ◌, ◌^◌, Bool, nat_lt, if◌then◌else◌}
+use Rattle.std.specs.Prelude.{ℤ, pos, negsuc, neg_ℤ, int_div, int_rem, ◌+ℤ◌, ◌-ℤ◌, ◌*ℤ◌, ◌^◌, Bool, not, ◌&&◌, ◌||◌, nat_lt, int_lt, int_le, if◌then◌else◌}
 use Rattle.std.specs.Ordering.{int_eq}
+use Rattle.std.specs.Bool.{beq}
 use Rattle.id_graph.specs.declared.instr.PortKind.{PortKind}
 use Rattle.id_graph.specs.declared.instr.Constant.{Constant}
 use Rattle.id_graph.specs.declared.instr.Constant.TheVariants as constant
-use Rattle.id_graph.specs.declared.instr.Arithmetic.{Arithmetic}
-use Rattle.id_graph.specs.declared.instr.Arithmetic.TheVariants.{Add, Sub, Mul, Div, Rem}
+use Rattle.id_graph.specs.declared.instr.Monadic.{Monadic}
+use Rattle.id_graph.specs.declared.instr.Monadic.TheVariants.{Neg, Not}
+use Rattle.id_graph.specs.declared.instr.Dyadic.{Dyadic}
+use Rattle.id_graph.specs.declared.instr.Dyadic.TheVariants.{Add, Sub, Mul, Div, Rem, Lt, Le, Gt, Ge, Eq, Ne, Eqb, Neb, And, Or}
 use Rattle.id_graph.specs.declared.instr.Op.{Op}
-use Rattle.id_graph.specs.declared.instr.Op.TheVariants.{Const, Neg, Binary, Merge, Back}
+use Rattle.id_graph.specs.declared.instr.Op.TheVariants.{Const, Unary, Binary, Merge, Back}
 use Rattle.id_tag.specs.Kinds.{kind_of, same_kind}
 use Rattle.id_tag.specs.declared.Tag.{Tag}
 use Rattle.id_tag.specs.declared.Value.{Value}
@@ -33,13 +36,41 @@ abbrev pub divided : ℤ → ℤ → ℤ → Fired
 divided a b out =
     if int_eq b (pos 0) then Failed DivisionByZero else (if fits_i64 (int_div a b) then Out (Int out) else Failed Overflow)
 
--- the operator on two numbers: the exact result; `div` drops the fraction, and the sign of `rem` is that of a
-abbrev pub result_of : Arithmetic → ℤ → ℤ → Fired
+-- the operator on two numbers: the exact result, or whether they compare so; `div` drops the fraction, and the sign of `rem` is that of a
+abbrev pub result_of : Dyadic → ℤ → ℤ → Fired
 result_of Add a b = whole (a +ℤ b)
 result_of Sub a b = whole (a -ℤ b)
 result_of Mul a b = whole (a *ℤ b)
 result_of Div a b = divided a b (int_div a b)
 result_of Rem a b = divided a b (int_rem a b)
+result_of Lt a b = Out (Truth (int_lt a b))
+result_of Le a b = Out (Truth (int_le a b))
+result_of Gt a b = Out (Truth (int_lt b a))
+result_of Ge a b = Out (Truth (int_le b a))
+result_of Eq a b = Out (Truth (int_eq a b))
+result_of Ne a b = Out (Truth (not (int_eq a b)))
+result_of Eqb a b = Nothing
+result_of Neb a b = Nothing
+result_of And a b = Nothing
+result_of Or a b = Nothing
+
+-- the operator on two truth values: whether they are equal, differ, both hold, or one holds
+abbrev pub truth_of : Dyadic → Bool → Bool → Fired
+truth_of Eqb a b = Out (Truth (beq a b))
+truth_of Neb a b = Out (Truth (not (beq a b)))
+truth_of And a b = Out (Truth (a && b))
+truth_of Or a b = Out (Truth (a || b))
+truth_of Add a b = Nothing
+truth_of Sub a b = Nothing
+truth_of Mul a b = Nothing
+truth_of Div a b = Nothing
+truth_of Rem a b = Nothing
+truth_of Lt a b = Nothing
+truth_of Le a b = Nothing
+truth_of Gt a b = Nothing
+truth_of Ge a b = Nothing
+truth_of Eq a b = Nothing
+truth_of Ne a b = Nothing
 
 -- the constant as a value
 abbrev pub constant_value : Constant → Value
@@ -51,14 +82,16 @@ abbrev pub fired_const : Constant → Operands → Fired
 fired_const c (One Signal) = Out (constant_value c)
 fired_const c _ = Nothing
 
--- `neg`: the number with the other sign
-abbrev pub fired_neg : Operands → Fired
-fired_neg (One (Int n)) = whole (neg_ℤ n)
-fired_neg _ = Nothing
+-- `neg`: the number with the other sign; `not`: the other truth value
+abbrev pub fired_unary : Monadic → Operands → Fired
+fired_unary Neg (One (Int n)) = whole (neg_ℤ n)
+fired_unary Not (One (Truth b)) = Out (Truth (not b))
+fired_unary _ _ = Nothing
 
--- `add`, `sub`, `mul`, `div`, `rem`: the result on the number of port 0 and that of port 1
-abbrev pub fired_binary : Arithmetic → Operands → Fired
+-- an operator on two values: the result on what port 0 and port 1 have, numbers or truth values
+abbrev pub fired_binary : Dyadic → Operands → Fired
 fired_binary o (Two (Int a) (Int b)) = result_of o a b
+fired_binary o (Two (Truth a) (Truth b)) = truth_of o a b
 fired_binary o _ = Nothing
 
 -- `merge`: a value of its kind goes out as it is
@@ -74,7 +107,7 @@ fired_back k _ = Nothing
 -- what the operator does under a tag, with its operands and the next numbers of the element
 abbrev pub fired : Op → Tag → Operands → Fresh → Fired
 fired (Const c) t operands fresh = fired_const c operands
-fired Neg t operands fresh = fired_neg operands
+fired (Unary o) t operands fresh = fired_unary o operands
 fired (Binary o) t operands fresh = fired_binary o operands
 fired (Merge k) t operands fresh = fired_merge k operands
 fired (Back k) t operands fresh = fired_back k operands

@@ -7,13 +7,14 @@
 #![tactic(auto)]
 
 mod numbers;
+mod truths;
 
 ghost use Rattle.std.specs.Prelude.{◌≡◌, ◌≢◌};
 ghost use Rattle.id_ops.specs.declared.Fired.TheVariants.{Nothing};
 ghost use Rattle.id_ops.specs.Operands.{Suits, IsOfKind};
-ghost use Rattle.id_ops.specs.Operators.{constant_value, fired_const, fired_neg, fired_binary, fired_merge, fired_back, fired};
+ghost use Rattle.id_ops.specs.Operators.{constant_value, fired_const, fired_unary, fired_binary, fired_merge, fired_back, fired};
 
-use id_graph::{Arithmetic, Constant, Instr, Op, PortKind};
+use id_graph::{Constant, Dyadic, Instr, Monadic, Op, PortKind};
 use id_tag::{Context, Tag, Value};
 
 /// The operands of one firing, by port.
@@ -66,7 +67,7 @@ pub fn fire(instr: &Instr, tag: Tag, operands: Operands, fresh: Fresh) -> Fired
 {
     match instr.op {
         Op::Const(constant) => fire_const(constant, operands),
-        Op::Neg => fire_neg(operands),
+        Op::Unary(operator) => fire_unary(operator, operands),
         Op::Binary(operator) => fire_binary(operator, operands),
         Op::Merge(kind) => fire_merge(kind, operands),
         Op::Back(kind) => fire_back(kind, operands),
@@ -91,20 +92,24 @@ fn value_of(constant: Constant) -> Value
     }
 }
 
-fn fire_neg(operands: Operands) -> Fired
-    ensures { result ≡ fired_neg operands }
+fn fire_unary(operator: Monadic, operands: Operands) -> Fired
+    ensures { result ≡ fired_unary operator operands }
 {
-    match operands {
-        Operands::One(Value::Int(number)) => numbers::negate(number),
+    match (operator, operands) {
+        (Monadic::Neg, Operands::One(Value::Int(number))) => numbers::negate(number),
+        (Monadic::Not, Operands::One(Value::Bool(truth))) => Fired::Out(Value::Bool(!truth)),
         _ => Fired::Nothing,
     }
 }
 
-fn fire_binary(operator: Arithmetic, operands: Operands) -> Fired
+fn fire_binary(operator: Dyadic, operands: Operands) -> Fired
     ensures { result ≡ fired_binary operator operands }
 {
     match operands {
         Operands::Two(Value::Int(left), Value::Int(right)) => numbers::apply(operator, left, right),
+        Operands::Two(Value::Bool(left), Value::Bool(right)) => truths::apply(
+            operator, left, right,
+        ),
         _ => Fired::Nothing,
     }
 }
@@ -169,7 +174,7 @@ mod tests {
 
     #[test]
     fn computes_on_whole_numbers(rt: HostRuntime) {
-        use Arithmetic::{Add, Div, Mul, Rem, Sub};
+        use Dyadic::{Add, Div, Mul, Rem, Sub};
         let out = |number: i64| Fired::Out(Value::Int(number));
         let overflow = Fired::Failed(OperatorFault::Overflow);
         let by_zero = Fired::Failed(OperatorFault::DivisionByZero);
@@ -198,9 +203,68 @@ mod tests {
     }
 
     #[test]
+    fn compares_whole_numbers(rt: HostRuntime) {
+        use Dyadic::{Eq, Ge, Gt, Le, Lt, Ne};
+        let table = [
+            (Lt, [true, false, false]),
+            (Le, [true, true, false]),
+            (Gt, [false, false, true]),
+            (Ge, [false, true, true]),
+            (Eq, [false, true, false]),
+            (Ne, [true, false, true]),
+        ];
+        for (operator, [below, equal, above]) in table {
+            let rows = [
+                (2, 3, below),
+                (3, 3, equal),
+                (3, 2, above),
+                (-1, 0, below),
+                (LEAST, MOST, below),
+                (LEAST, LEAST, equal),
+                (MOST, MOST, equal),
+                (MOST, LEAST, above),
+            ];
+            for (left, right, wanted) in rows {
+                let operands = Operands::Two(Value::Int(left), Value::Int(right));
+                let fired = fired_by(&rt, Op::Binary(operator), operands);
+                assert_eq!(rt;
+                    fired,
+                    Fired::Out(Value::Bool(wanted)),
+                    "{operator:?} of {left} and {right}"
+                );
+            }
+        }
+    }
+
+    #[test]
+    fn computes_on_truth_values(rt: HostRuntime) {
+        use Dyadic::{And, Eqb, Neb, Or};
+        let pairs = [(false, false), (false, true), (true, false), (true, true)];
+        let table = [
+            (Eqb, [true, false, false, true]),
+            (Neb, [false, true, true, false]),
+            (And, [false, false, false, true]),
+            (Or, [false, true, true, true]),
+        ];
+        for (operator, row) in table {
+            for ((left, right), wanted) in pairs.into_iter().zip(row) {
+                let operands = Operands::Two(Value::Bool(left), Value::Bool(right));
+                let fired = fired_by(&rt, Op::Binary(operator), operands);
+                assert_eq!(rt;
+                    fired,
+                    Fired::Out(Value::Bool(wanted)),
+                    "{operator:?} of {left} and {right}"
+                );
+            }
+        }
+    }
+
+    #[test]
     fn fires_by_kind(rt: HostRuntime) {
         use Operands::{One, Two};
         let seven = Value::Int(7);
+        let yes = Value::Bool(true);
+        let no = Value::Bool(false);
         let caller = Value::Continuation(at(2));
         let table = [
             (
@@ -209,13 +273,29 @@ mod tests {
                 Fired::Out(seven),
             ),
             (Op::Const(Constant::Int(7)), One(seven), Fired::Nothing),
-            (Op::Neg, One(seven), Fired::Out(Value::Int(-7))),
             (
-                Op::Neg,
+                Op::Unary(Monadic::Neg),
+                One(seven),
+                Fired::Out(Value::Int(-7)),
+            ),
+            (
+                Op::Unary(Monadic::Neg),
                 One(Value::Int(LEAST)),
                 Fired::Failed(OperatorFault::Overflow),
             ),
-            (Op::Neg, Two(seven, seven), Fired::Nothing),
+            (Op::Unary(Monadic::Neg), Two(seven, seven), Fired::Nothing),
+            (Op::Unary(Monadic::Neg), One(yes), Fired::Nothing),
+            (Op::Unary(Monadic::Not), One(yes), Fired::Out(no)),
+            (Op::Unary(Monadic::Not), One(no), Fired::Out(yes)),
+            (Op::Unary(Monadic::Not), One(seven), Fired::Nothing),
+            (Op::Unary(Monadic::Not), Two(yes, yes), Fired::Nothing),
+            (Op::Binary(Dyadic::And), One(yes), Fired::Nothing),
+            (Op::Binary(Dyadic::And), Two(yes, seven), Fired::Nothing),
+            (Op::Binary(Dyadic::And), Two(seven, seven), Fired::Nothing),
+            (Op::Binary(Dyadic::Eqb), Two(seven, seven), Fired::Nothing),
+            (Op::Binary(Dyadic::Eq), Two(yes, yes), Fired::Nothing),
+            (Op::Binary(Dyadic::Lt), Two(seven, yes), Fired::Nothing),
+            (Op::Binary(Dyadic::Add), Two(no, yes), Fired::Nothing),
             (Op::Merge(PortKind::Int), One(seven), Fired::Out(seven)),
             (Op::Merge(PortKind::Signal), One(seven), Fired::Nothing),
             (

@@ -1,26 +1,34 @@
-//! Arithmetic on whole numbers of 64 bits with a sign (docs/MACHINE.md, "Firing").
+//! Arithmetic and comparisons of whole numbers of 64 bits with a sign (docs/MACHINE.md, "Firing").
 
 ghost use Rattle.std.specs.Prelude.{◌≡◌, neg_ℤ, MatchOption};
-ghost use Rattle.id_graph.specs.declared.instr.Arithmetic.TheVariants.{Add, Sub, Mul, Div, Rem};
-ghost use Rattle.id_tag.specs.declared.Value.TheVariants.{Int};
+ghost use Rattle.id_graph.specs.declared.instr.Dyadic.TheVariants.{Add, Sub, Mul, Div, Rem};
+ghost use Rattle.id_tag.specs.declared.Value.TheVariants.{Int, Bool as Truth};
 ghost use Rattle.id_ops.specs.declared.OperatorFault.TheVariants.{Overflow};
 ghost use Rattle.id_ops.specs.declared.Fired.TheVariants.{Out, Failed};
 ghost use Rattle.id_ops.specs.Operators.{whole, result_of};
 
 use crate::{Fired, OperatorFault};
-use id_graph::Arithmetic;
+use id_graph::Dyadic;
 use id_tag::Value;
 
-/// What the operator does with the number of port 0 and that of port 1.
-pub fn apply(operator: Arithmetic, left: i64, right: i64) -> Fired
+/// What the operator does with the number of port 0 and that of port 1: `Nothing` where it takes no
+/// numbers. Takes no memory.
+pub fn apply(operator: Dyadic, left: i64, right: i64) -> Fired
     ensures { result ≡ result_of operator left right }
 {
     match operator {
-        Arithmetic::Add => add(left, right),
-        Arithmetic::Sub => subtract(left, right),
-        Arithmetic::Mul => multiply(left, right),
-        Arithmetic::Div => divide(left, right),
-        Arithmetic::Rem => remainder(left, right),
+        Dyadic::Add => add(left, right),
+        Dyadic::Sub => subtract(left, right),
+        Dyadic::Mul => multiply(left, right),
+        Dyadic::Div => divide(left, right),
+        Dyadic::Rem => remainder(left, right),
+        Dyadic::Lt => out(left < right),
+        Dyadic::Le => out(left <= right),
+        Dyadic::Gt => out(left > right),
+        Dyadic::Ge => out(left >= right),
+        Dyadic::Eq => out(left == right),
+        Dyadic::Ne => out(left != right),
+        Dyadic::Eqb | Dyadic::Neb | Dyadic::And | Dyadic::Or => Fired::Nothing,
     }
 }
 
@@ -67,6 +75,12 @@ fn remainder(left: i64, right: i64) -> Fired
         return Fired::Failed(OperatorFault::DivisionByZero);
     }
     out_or_overflow(left.checked_rem(right))
+}
+
+fn out(truth: bool) -> Fired
+    ensures { result ≡ Out (Truth truth) }
+{
+    Fired::Out(Value::Bool(truth))
 }
 
 fn out_or_overflow(number: Option<i64>) -> Fired
