@@ -9,13 +9,15 @@ use Rattle.id_graph.specs.declared.dests.Port.TheVariants as port
 use Rattle.id_graph.specs.declared.instr.Instr.{Instr}
 use Rattle.id_graph.specs.declared.instr.Constant.{Constant}
 use Rattle.id_graph.specs.declared.instr.Constant.TheVariants as constant
-use Rattle.id_graph.specs.declared.instr.Arithmetic.{Arithmetic}
-use Rattle.id_graph.specs.declared.instr.Arithmetic.TheVariants.{Add, Sub, Mul, Div, Rem}
+use Rattle.id_graph.specs.declared.instr.Monadic.{Monadic}
+use Rattle.id_graph.specs.declared.instr.Monadic.TheVariants.{Neg, Not}
+use Rattle.id_graph.specs.declared.instr.Dyadic.{Dyadic}
+use Rattle.id_graph.specs.declared.instr.Dyadic.TheVariants.{Add, Sub, Mul, Div, Rem, Lt, Le, Gt, Ge, Eq, Ne, Eqb, Neb, And, Or}
 use Rattle.id_graph.specs.declared.instr.Op.{Op}
-use Rattle.id_graph.specs.declared.instr.Op.TheVariants.{Const, Neg, Binary, Merge, Back}
+use Rattle.id_graph.specs.declared.instr.Op.TheVariants.{Const, Unary, Binary, Merge, Back}
 use Rattle.id_graph.specs.declared.instr.PortKind.{PortKind}
 use Rattle.id_graph.specs.declared.instr.PortKind.TheVariants as kind
-use Rattle.id_graph.specs.Ports.{port_kind, sends}
+use Rattle.id_graph.specs.Ports.{monadic_kind, outcome_kind, port_kind, sends}
 use Rattle.id_graph.specs.Graph.{Parts, kind_at}
 use Rattle.id_tag.specs.declared.Tag.{Tag}
 use Rattle.id_tag.specs.declared.Value.{Value}
@@ -28,7 +30,7 @@ use Rattle.id_ops.specs.declared.Operands.TheVariants as operands
 use Rattle.id_ops.specs.declared.Fresh.{Fresh}
 use Rattle.id_ops.specs.declared.Fired.{Fired}
 use Rattle.id_ops.specs.declared.Fired.TheVariants.{Out, Sent, Failed, Nothing}
-use Rattle.id_ops.specs.Operators.{fired, fired_const, fired_neg, fired_binary, fired_merge, fired_back, result_of, fits_i64}
+use Rattle.id_ops.specs.Operators.{fired, fired_const, fired_unary, fired_binary, fired_merge, fired_back, result_of, truth_of, fits_i64}
 use Rattle.id_core.specs.Fits.{TokenFits, PayloadFits, ContinuationFits}
 use Rattle.id_core.specs.Steps.{sent, token_to}
 
@@ -67,29 +69,49 @@ zero_fits : (g : Parts) (stamp : ℕ) (b : Bool) (e f : Fired) → FiredFits g s
 zero_fits g stamp true e f h i = h
 zero_fits g stamp false e f h i = i
 
-result_fits : (g : Parts) (stamp : ℕ) (o : Arithmetic) (a b : ℤ) → FiredFits g stamp (Some kind.Int) (result_of o a b)
+result_fits : (g : Parts) (stamp : ℕ) (o : Dyadic) (a b : ℤ) → FiredFits g stamp (Some (outcome_kind o)) (result_of o a b)
 result_fits g stamp Add a b = number_fits g stamp (a +ℤ b) (fits_i64 (a +ℤ b)) _ tt
 result_fits g stamp Sub a b = number_fits g stamp (a -ℤ b) (fits_i64 (a -ℤ b)) _ tt
 result_fits g stamp Mul a b = number_fits g stamp (a *ℤ b) (fits_i64 (a *ℤ b)) _ tt
 result_fits g stamp Div a b = zero_fits g stamp (int_eq b (pos 0)) _ _ tt (number_fits g stamp (int_div a b) (fits_i64 (int_div a b)) _ tt)
 result_fits g stamp Rem a b = zero_fits g stamp (int_eq b (pos 0)) _ _ tt (number_fits g stamp (int_rem a b) (fits_i64 (int_div a b)) _ tt)
+result_fits g stamp Lt a b = (refl, tt)
+result_fits g stamp Le a b = (refl, tt)
+result_fits g stamp Gt a b = (refl, tt)
+result_fits g stamp Ge a b = (refl, tt)
+result_fits g stamp Eq a b = (refl, tt)
+result_fits g stamp Ne a b = (refl, tt)
+result_fits g stamp Eqb a b = tt
+result_fits g stamp Neb a b = tt
+result_fits g stamp And a b = tt
+result_fits g stamp Or a b = tt
 
-neg_fits : (g : Parts) (stamp : ℕ) (o : Operands) → FiredFits g stamp (Some kind.Int) (fired_neg o)
-neg_fits g stamp (operands.One (value.Int n)) = number_fits g stamp (neg_ℤ n) (fits_i64 (neg_ℤ n)) _ tt
-neg_fits g stamp (operands.One value.Signal) = tt
-neg_fits g stamp (operands.One (value.Bool b)) = tt
-neg_fits g stamp (operands.One (value.Continuation u)) = tt
-neg_fits g stamp (operands.Two v w) = tt
+truth_fits : (g : Parts) (stamp : ℕ) (o : Dyadic) (a b : Bool) → FiredFits g stamp (Some (outcome_kind o)) (truth_of o a b)
+truth_fits g stamp Add a b = tt
+truth_fits g stamp Sub a b = tt
+truth_fits g stamp Mul a b = tt
+truth_fits g stamp Div a b = tt
+truth_fits g stamp Rem a b = tt
+truth_fits g stamp Lt a b = tt
+truth_fits g stamp Le a b = tt
+truth_fits g stamp Gt a b = tt
+truth_fits g stamp Ge a b = tt
+truth_fits g stamp Eq a b = tt
+truth_fits g stamp Ne a b = tt
+truth_fits g stamp Eqb a b = (refl, tt)
+truth_fits g stamp Neb a b = (refl, tt)
+truth_fits g stamp And a b = (refl, tt)
+truth_fits g stamp Or a b = (refl, tt)
 
-binary_fits : (g : Parts) (stamp : ℕ) (a : Arithmetic) (o : Operands) → FiredFits g stamp (Some kind.Int) (fired_binary a o)
+unary_fits : (g : Parts) (stamp : ℕ) (a : Monadic) (o : Operands) → FiredFits g stamp (Some (monadic_kind a)) (fired_unary a o)
+unary_fits g stamp Neg (operands.One (value.Int n)) = number_fits g stamp (neg_ℤ n) (fits_i64 (neg_ℤ n)) _ tt
+unary_fits g stamp Not (operands.One (value.Bool b)) = (refl, tt)
+unary_fits g stamp _ _ = tt
+
+binary_fits : (g : Parts) (stamp : ℕ) (a : Dyadic) (o : Operands) → FiredFits g stamp (Some (outcome_kind a)) (fired_binary a o)
 binary_fits g stamp a (operands.Two (value.Int m) (value.Int n)) = result_fits g stamp a m n
-binary_fits g stamp a (operands.Two (value.Int m) value.Signal) = tt
-binary_fits g stamp a (operands.Two (value.Int m) (value.Bool b)) = tt
-binary_fits g stamp a (operands.Two (value.Int m) (value.Continuation u)) = tt
-binary_fits g stamp a (operands.Two value.Signal w) = tt
-binary_fits g stamp a (operands.Two (value.Bool b) w) = tt
-binary_fits g stamp a (operands.Two (value.Continuation u) w) = tt
-binary_fits g stamp a (operands.One v) = tt
+binary_fits g stamp a (operands.Two (value.Bool b) (value.Bool c)) = truth_fits g stamp a b c
+binary_fits g stamp a _ = tt
 
 -- what comes to a merge is no continuation: that comes to a `back` alone
 plain_at_merge : (g : Parts) (stamp : ℕ) (t : Tag) (k : PortKind) (v : Value) → op_at g t.instr ≡ Some (Merge k) → TokenFits g stamp t port.Zero v → IsPlain v
@@ -160,7 +182,7 @@ back_fits g stamp t k (operands.One v) is fits = tt
 -- what fires fits, where the operands do
 pub fired_fits : (g : Parts) (stamp : ℕ) (t : Tag) (op : Op) (o : Operands) (fresh : Fresh) → op_at g t.instr ≡ Some op → OperandsFit g stamp t o → FiredFits g stamp (sends op) (fired op t o fresh)
 fired_fits g stamp t (Const c) o fresh is fits = const_fits g stamp c o
-fired_fits g stamp t Neg o fresh is fits = neg_fits g stamp o
+fired_fits g stamp t (Unary a) o fresh is fits = unary_fits g stamp a o
 fired_fits g stamp t (Binary a) o fresh is fits = binary_fits g stamp a o
 fired_fits g stamp t (Merge k) o fresh is fits = merge_fits g stamp t k o is fits
 fired_fits g stamp t (Back k) o fresh is fits = back_fits g stamp t k o is fits

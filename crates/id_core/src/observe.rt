@@ -108,7 +108,7 @@ fn is_value_merge(op: Op) -> bool
 {
     match op {
         Op::Merge(kind) => is_value(kind),
-        Op::Const(_) | Op::Neg | Op::Binary(_) | Op::Back(_) => false,
+        Op::Const(_) | Op::Unary(_) | Op::Binary(_) | Op::Back(_) => false,
     }
 }
 

@@ -4,7 +4,7 @@ ghost use Rattle.std.specs.Prelude.{◌≡◌, ◌<◌, IfOk};
 
 use crate::machine::main_tag;
 use crate::{Element, Machine, MachineError, Step, TakeError, fits, merge_records};
-use id_graph::{Arithmetic, Block, Constant, Dest, Dests, Graph, Instr, Op, Port, PortKind};
+use id_graph::{Block, Constant, Dest, Dests, Dyadic, Graph, Instr, Op, Port, PortKind};
 use id_meaning::SourceValue;
 use id_tag::{Message, Payload, Sender, Tag, Value, route};
 use id_text::Sequence;
@@ -61,7 +61,7 @@ fn sum(rt: &impl Abort, alloc: Global) -> Result<Valid, Fail> {
     let two = Op::Const(Constant::Int(2));
     list.push(instr(alloc, one, &[(5, Port::Zero)], 18)?)?;
     list.push(instr(alloc, two, &[(5, Port::One)], 22)?)?;
-    list.push(instr(alloc, Op::Binary(Arithmetic::Add), &[(2, Port::One)], 20)?)?;
+    list.push(instr(alloc, Op::Binary(Dyadic::Add), &[(2, Port::One)], 20)?)?;
     valid(rt, alloc, list)
 }
 
@@ -286,7 +286,7 @@ fn bindings(rt: &impl Abort, alloc: Global, four: usize) -> Result<Valid, Fail> 
     list.push(instr(alloc, constant(4), &[(5, Port::Zero)], four)?)?;
     list.push(instr(alloc, constant(1), &[(6, Port::One)], 28)?)?;
     list.push(instr(alloc, label, &[(6, Port::Zero)], 31)?)?;
-    list.push(instr(alloc, Op::Binary(Arithmetic::Add), &[(7, Port::Zero)], 26)?)?;
+    list.push(instr(alloc, Op::Binary(Dyadic::Add), &[(7, Port::Zero)], 26)?)?;
     list.push(instr(alloc, label, &[(2, Port::One)], 20)?)?;
     valid(rt, alloc, list)
 }
