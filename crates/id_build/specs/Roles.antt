@@ -15,12 +15,13 @@ use Rattle.id_graph.specs.declared.dests.Port.{Port}
 use Rattle.id_graph.specs.declared.dests.Port.TheVariants.{Zero, One}
 use Rattle.id_graph.specs.declared.instr.Constant.{Constant}
 use Rattle.id_graph.specs.declared.instr.Constant.TheVariants as constant
-use Rattle.id_graph.specs.declared.instr.Arithmetic.{Arithmetic}
-use Rattle.id_graph.specs.declared.instr.Arithmetic.TheVariants as arithmetic
+use Rattle.id_graph.specs.declared.instr.Monadic.TheVariants as monadic
+use Rattle.id_graph.specs.declared.instr.Dyadic.{Dyadic}
+use Rattle.id_graph.specs.declared.instr.Dyadic.TheVariants as dyadic
 use Rattle.id_graph.specs.declared.instr.PortKind.{PortKind}
 use Rattle.id_graph.specs.declared.instr.PortKind.TheVariants.{Signal, Int}
 use Rattle.id_graph.specs.declared.instr.Op.{Op}
-use Rattle.id_graph.specs.declared.instr.Op.TheVariants.{Const, Neg, Binary, Merge, Back}
+use Rattle.id_graph.specs.declared.instr.Op.TheVariants.{Const, Unary, Binary, Merge, Back}
 
 -- what an instruction is for: the answer; the trigger and the return of the procedure at a place; the value of the
 -- expression at a place of a region; the label of the binder at a place, which its name's value comes from
@@ -45,15 +46,15 @@ constant_of (value.Int n) = constant.Int n
 
 -- the instruction of a unary operator
 abbrev pub unary_op : UnaryOp → Op
-unary_op before.Neg = Neg
+unary_op before.Neg = Unary monadic.Neg
 
 -- the instruction of a binary operator
-abbrev pub binary_op : BinaryOp → Arithmetic
-binary_op between.Add = arithmetic.Add
-binary_op between.Sub = arithmetic.Sub
-binary_op between.Mul = arithmetic.Mul
-binary_op between.Div = arithmetic.Div
-binary_op between.Rem = arithmetic.Rem
+abbrev pub binary_op : BinaryOp → Dyadic
+binary_op between.Add = dyadic.Add
+binary_op between.Sub = dyadic.Sub
+binary_op between.Mul = dyadic.Mul
+binary_op between.Div = dyadic.Div
+binary_op between.Rem = dyadic.Rem
 
 -- the schemas make an instruction for this role, with this operator and this place
 pub data Makes (P : Checked) : Role → Op → ℕ → Type 0 where

@@ -7,12 +7,12 @@ ghost use Rattle.id_build.specs.declared.draft.Origin.TheVariants.{Output};
 ghost use Rattle.id_build.specs.Roles.{binary_op, constant_of, unary_op};
 ghost use Rattle.id_meaning.specs.Parts.{literal_value};
 ghost use Rattle.id_graph.specs.declared.dests.Port.TheVariants.{One, Zero};
-ghost use Rattle.id_graph.specs.declared.instr.Op.TheVariants.{Binary, Const, Merge, Neg};
+ghost use Rattle.id_graph.specs.declared.instr.Op.TheVariants.{Binary, Const, Merge};
 ghost use Rattle.id_graph.specs.declared.instr.PortKind.TheVariants.{Int};
 
 use crate::draft::{Draft, Origin};
 use crate::error::BuildError;
-use id_graph::{Arithmetic, Constant, Op, Port, PortKind};
+use id_graph::{Constant, Dyadic, Monadic, Op, Port, PortKind};
 use id_tree::{BinaryOp, Expr, Stmt, UnaryOp};
 
 /// Adds the instructions of an expression that the trigger turns on, with their arcs and labels, and
@@ -195,19 +195,19 @@ fn operator(op: UnaryOp) -> Op
     ensures { result ≡ unary_op op }
 {
     match op {
-        UnaryOp::Neg => Op::Neg,
+        UnaryOp::Neg => Op::Unary(Monadic::Neg),
     }
 }
 
 /// The operator of a binary expression.
-fn arithmetic(op: BinaryOp) -> Arithmetic
+fn arithmetic(op: BinaryOp) -> Dyadic
     ensures { result ≡ binary_op op }
 {
     match op {
-        BinaryOp::Add => Arithmetic::Add,
-        BinaryOp::Sub => Arithmetic::Sub,
-        BinaryOp::Mul => Arithmetic::Mul,
-        BinaryOp::Div => Arithmetic::Div,
-        BinaryOp::Rem => Arithmetic::Rem,
+        BinaryOp::Add => Dyadic::Add,
+        BinaryOp::Sub => Dyadic::Sub,
+        BinaryOp::Mul => Dyadic::Mul,
+        BinaryOp::Div => Dyadic::Div,
+        BinaryOp::Rem => Dyadic::Rem,
     }
 }

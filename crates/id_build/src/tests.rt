@@ -2,7 +2,7 @@
 
 use crate::build;
 use id_check::check;
-use id_graph::{Arithmetic, Constant, Dest, Graph, Op, Port, PortKind};
+use id_graph::{Constant, Dest, Dyadic, Graph, Monadic, Op, Port, PortKind};
 use id_text::lex;
 use id_tree::parse;
 use std::alloc::Global;
@@ -53,9 +53,9 @@ fn sends(value: i64) -> Op {
     Op::Const(Constant::Int(value))
 }
 
-const ADD: Op = Op::Binary(Arithmetic::Add);
+const ADD: Op = Op::Binary(Dyadic::Add);
 
-const MUL: Op = Op::Binary(Arithmetic::Mul);
+const MUL: Op = Op::Binary(Dyadic::Mul);
 
 /// The label of a binder.
 const LABEL: Op = Op::Merge(PortKind::Int);
@@ -94,7 +94,7 @@ fn builds_a_negation(rt: HostRuntime) -> Result<(), Fail> {
         Line(TRIGGER, 4, &[(3, Port::Zero)]),
         Line(BACK, 4, &[]),
         Line(sends(1), 19, &[(4, Port::Zero)]),
-        Line(Op::Neg, 18, &[(2, Port::One)]),
+        Line(Op::Unary(Monadic::Neg), 18, &[(2, Port::One)]),
     ];
     assert_lines(&rt, &graph, &lines);
     Ok(())
@@ -151,7 +151,7 @@ fn builds_a_block_in_a_block(rt: HostRuntime) -> Result<(), Fail> {
         Line(LABEL, 33, &[(6, Port::One), (8, Port::Zero)]),
         Line(ADD, 49, &[(9, Port::Zero)]),
         Line(LABEL, 27, &[(10, Port::Zero), (12, Port::One)]),
-        Line(Op::Neg, 60, &[(11, Port::Zero)]),
+        Line(Op::Unary(Monadic::Neg), 60, &[(11, Port::Zero)]),
         Line(LABEL, 56, &[(8, Port::One)]),
         Line(ADD, 69, &[(2, Port::One)]),
     ];
