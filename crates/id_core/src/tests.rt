@@ -4,7 +4,7 @@ ghost use Rattle.std.specs.Prelude.{◌≡◌, ◌<◌, IfOk};
 
 use crate::machine::main_tag;
 use crate::{Element, Machine, MachineError, Step, TakeError, fits, merge_records};
-use id_graph::{Block, Constant, Dest, Dests, Dyadic, Graph, Instr, Op, Port, PortKind};
+use id_graph::{Block, Constant, Dest, Dests, Dyadic, Graph, Instr, Monadic, Op, Port, PortKind};
 use id_meaning::SourceValue;
 use id_tag::{Message, Payload, Sender, Tag, Value, route};
 use id_text::Sequence;
@@ -31,10 +31,19 @@ fn instr(alloc: Global, op: Op, arcs: &[(u32, Port)], place: usize) -> Result<In
 
 /// The first three instructions of such a graph, with what the trigger feeds.
 fn start(alloc: Global, trigger: &[(u32, Port)]) -> Result<Vec<Instr>, AllocError> {
+    start_of(alloc, PortKind::Int, trigger)
+}
+
+/// The same for a result of this kind.
+fn start_of(
+    alloc: Global,
+    kind: PortKind,
+    trigger: &[(u32, Port)],
+) -> Result<Vec<Instr>, AllocError> {
     let mut list = Vec::new(alloc);
-    list.push(instr(alloc, Op::Merge(PortKind::Int), &[], 4)?)?;
+    list.push(instr(alloc, Op::Merge(kind), &[], 4)?)?;
     list.push(instr(alloc, Op::Merge(PortKind::Signal), trigger, 4)?)?;
-    list.push(instr(alloc, Op::Back(PortKind::Int), &[], 4)?)?;
+    list.push(instr(alloc, Op::Back(kind), &[], 4)?)?;
     Ok(list)
 }
 
@@ -62,6 +71,18 @@ fn sum(rt: &impl Abort, alloc: Global) -> Result<Valid, Fail> {
     list.push(instr(alloc, one, &[(5, Port::Zero)], 18)?)?;
     list.push(instr(alloc, two, &[(5, Port::One)], 22)?)?;
     list.push(instr(alloc, Op::Binary(Dyadic::Add), &[(2, Port::One)], 20)?)?;
+    valid(rt, alloc, list)
+}
+
+/// Whether 2 is not below 3.
+fn comparison(rt: &impl Abort, alloc: Global) -> Result<Valid, Fail> {
+    let mut list = start_of(alloc, PortKind::Bool, &[(3, Port::Zero), (4, Port::Zero)])?;
+    let two = Op::Const(Constant::Int(2));
+    let three = Op::Const(Constant::Int(3));
+    list.push(instr(alloc, two, &[(5, Port::Zero)], 18)?)?;
+    list.push(instr(alloc, three, &[(5, Port::One)], 22)?)?;
+    list.push(instr(alloc, Op::Binary(Dyadic::Lt), &[(6, Port::Zero)], 20)?)?;
+    list.push(instr(alloc, Op::Unary(Monadic::Not), &[(2, Port::One)], 17)?)?;
     valid(rt, alloc, list)
 }
 
@@ -120,6 +141,36 @@ fn seven_takes_five_events(rt: HostRuntime) -> Result<(), Fail> {
     let shown = machine.observe(rt.alloc())?;
     assert_eq!(rt; shown.answer, Some(SourceValue::Int(7)));
     assert!(rt; shown.faults.is_empty());
+    Ok(())
+}
+
+#[test]
+fn truth_values_are_recorded(rt: HostRuntime) -> Result<(), Fail> {
+    let graph = comparison(&rt, rt.alloc())?;
+    let mut machine = Machine::new(rt.alloc(), &graph, 1)?;
+    for _ in 0..9 {
+        assert_eq!(rt; deliver_first(&rt, &mut machine)?, Step::Went);
+    }
+    assert!(rt; machine.is_quiet());
+    let elements = machine.elements();
+    assert_eq!(rt; elements.len(), 1);
+    let events = elements[0].events();
+    assert_eq!(rt; events.len(), 9);
+    let wanted = [
+        (5, 5, Value::Int(3), Value::Bool(true)),
+        (6, 6, Value::Bool(true), Value::Bool(false)),
+        (7, 2, Value::Bool(false), Value::Bool(false)),
+    ];
+    for (position, instr, came, sent) in wanted {
+        assert!(rt; position < events.len());
+        let event = events.event(position);
+        let Payload::Token { tag, value, .. } = event.message.payload;
+        assert_eq!(rt; tag.instr, instr, "event {position}");
+        assert_eq!(rt; value, came, "event {position}");
+        assert_eq!(rt; event.outputs.len(), 1, "event {position}");
+        let Payload::Token { value, .. } = event.outputs.message(0).payload;
+        assert_eq!(rt; value, sent, "event {position}");
+    }
     Ok(())
 }
 

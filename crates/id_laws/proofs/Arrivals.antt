@@ -25,7 +25,8 @@ use Rattle.id_ops.specs.declared.Operands.TheVariants as operands
 use Rattle.id_ops.specs.Operators.{fired}
 use Rattle.id_core.specs.declared.step.Step.{Step}
 use Rattle.id_core.specs.declared.step.Step.TheVariants.{Went, Stuck}
-use Rattle.id_graph.specs.declared.instr.Op.TheVariants.{Neg}
+use Rattle.id_graph.specs.declared.instr.Monadic.TheVariants.{Neg}
+use Rattle.id_graph.specs.declared.instr.Op.TheVariants.{Unary}
 use Rattle.id_ops.specs.declared.Operands.{Operands}
 use Rattle.id_core.specs.Steps.{arrival_of, arrival, waiting_after, sent, fired_step, fresh_numbers, arriving, at_instr, outcome}
 
@@ -176,7 +177,7 @@ same_answer n i t w Taken = (refl, refl, refl)
 
 -- an operator with one port, as `neg`, fires alone
 same_outcome : (n : ℕ) (i : Instr) (t : Tag) (w w' : Store) (p : Port) (v : Value) (a : Offered) (b : Bool)
-    → let x = arriving n i t w' (cond b (arrival_of a) (arrival Neg w t p v)) in
+    → let x = arriving n i t w' (cond b (arrival_of a) (arrival (Unary Neg) w t p v)) in
     let y = cond b (by_answer a) (Fires (operands.One v)) in
     (x.sends ≡ sends_by n t (Some i) y) × (x.step ≡ step_by n t (Some i) y) × (x.waiting ≡ w')
 same_outcome n i t w w' p v a true = same_answer n i t w' a

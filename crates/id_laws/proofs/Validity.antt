@@ -8,6 +8,8 @@ use Rattle.std.proofs.lemmas.Bool.Decides.{nat_tests}
 use Rattle.id_tree.specs.declared.tree.Kind.{Kind}
 use Rattle.id_tree.specs.declared.tree.Kind.TheVariants as kind
 use Rattle.id_tree.specs.declared.tree.UnaryOp.TheVariants as before
+use Rattle.id_tree.specs.declared.tree.BinaryOp.{BinaryOp}
+use Rattle.id_tree.specs.declared.tree.BinaryOp.TheVariants as between
 use Rattle.id_tree.specs.declared.tree.Def.{Def}
 use Rattle.id_check.specs.declared.Checked.{Checked}
 use Rattle.id_meaning.specs.declared.SourceValue.{SourceValue}
@@ -22,9 +24,9 @@ use Rattle.id_graph.specs.declared.instr.Op.{Op}
 use Rattle.id_graph.specs.declared.instr.Op.TheVariants.{Merge, Back}
 use Rattle.id_graph.specs.declared.instr.Instr.{Instr}
 use Rattle.id_graph.specs.declared.instr.Block.{Block}
-use Rattle.id_graph.specs.Ports.{port_kind, sends}
+use Rattle.id_graph.specs.Ports.{operand_kind, outcome_kind, port_kind, sends}
 use Rattle.id_graph.specs.Graph.{Parts, arcs, kind_at}
-use Rattle.id_build.specs.Roles.{Role, Answer, Trigger, Return, Of, Label, From, port_of, Makes, answer, trigger, return, literal, unary, binary, label, TriggerAt, of_procedure, GivesAt, by_literal, by_unary, by_binary, by_name, by_block, Feeds, to_literal, to_unary, to_left, to_right, to_return, to_label}
+use Rattle.id_build.specs.Roles.{Role, Answer, Trigger, Return, Of, Label, From, port_of, binary_op, Makes, answer, trigger, return, literal, unary, binary, label, TriggerAt, of_procedure, GivesAt, by_literal, by_unary, by_binary, by_name, by_block, Feeds, to_literal, to_unary, to_left, to_right, to_return, to_label}
 use Rattle.id_build.specs.Schemas.{Numbered, Schemas, Sends, block_of}
 use Rattle.id_valid.specs.Roles.{op_at, back_kind, is_first, is_second, is_entry, has_main_place, same_place, same_port, is_dest, arcs_into, needs_no_arc}
 use Rattle.id_valid.specs.Validator.{is_value, IsAnswer, FillsRoles, IsTaken, IsFed, IsSound, IsValid}
@@ -108,6 +110,21 @@ gives_value (by_binary part) = tt
 gives_value (by_name part) = tt
 gives_value (by_block part by) = gives_value by
 
+-- the operators of the language take whole numbers, and send them
+operands_int : (o : BinaryOp) → operand_kind (binary_op o) ≡ Int
+operands_int between.Add = refl
+operands_int between.Sub = refl
+operands_int between.Mul = refl
+operands_int between.Div = refl
+operands_int between.Rem = refl
+
+outcome_int : (o : BinaryOp) → outcome_kind (binary_op o) ≡ Int
+outcome_int between.Add = refl
+outcome_int between.Sub = refl
+outcome_int between.Mul = refl
+outcome_int between.Div = refl
+outcome_int between.Rem = refl
+
 -- what gives a value sends whole numbers
 sends_int : {P : Checked} {s : Role} {o : Op} {e : ℕ} → Makes P s o e → GivesValue s → sends o ≡ Some Int
 sends_int (answer main) h = absurd h
@@ -115,7 +132,7 @@ sends_int (trigger is_def) h = absurd h
 sends_int (return is_def) h = absurd h
 sends_int (literal {v = value.Int n} part) h = refl
 sends_int (unary {o = before.Neg} part) h = refl
-sends_int (binary part) h = refl
+sends_int (binary {o = o} part) h = ap (λ k. Some k) (outcome_int o)
 sends_int (label part) h = refl
 
 -- an instruction that sends this kind
@@ -148,8 +165,10 @@ typed : {P : Checked} {s q : Role} {p : Port} → Feeds P (From s) q p → IsMad
 typed (to_literal part t) made =
     record { kind = Signal; source = trigger_sender t; target = record { made = record { op = _; place = _; makes = literal part }; into = refl } }
 typed (to_unary {o = before.Neg} part by) made = brings by made (record { made = record { op = _; place = _; makes = unary part }; into = refl })
-typed (to_left part by) made = brings by made (record { made = record { op = _; place = _; makes = binary part }; into = refl })
-typed (to_right part by) made = brings by made (record { made = record { op = _; place = _; makes = binary part }; into = refl })
+typed (to_left {o = o} part by) made =
+    brings by made (record { made = record { op = _; place = _; makes = binary part }; into = ap (λ k. Some k) (operands_int o) })
+typed (to_right {o = o} part by) made =
+    brings by made (record { made = record { op = _; place = _; makes = binary part }; into = ap (λ k. Some k) (operands_int o) })
 typed (to_return {d = d} is_def by) made =
     brings by made (record { made = record { op = _; place = _; makes = return is_def }; into = ap (λ k. Some k) (int_kind d.result) })
 typed (to_label part by) made = brings by made (record { made = record { op = _; place = _; makes = label part }; into = refl })

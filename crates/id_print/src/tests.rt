@@ -5,7 +5,7 @@ use crate::{
     write_report, write_trace,
 };
 use id_core::Machine;
-use id_graph::{Arithmetic, Block, Constant, Dest, Dests, Graph, Instr, Op, Port, PortKind};
+use id_graph::{Block, Constant, Dest, Dests, Dyadic, Graph, Instr, Op, Port, PortKind};
 use id_meaning::{Fact, FaultKind, NameValue, Path, PathStep, SourceFault, SourceValue};
 use id_text::Sequence;
 use id_valid::{Valid, validate};
@@ -73,7 +73,7 @@ fn bindings(rt: &impl Abort, alloc: Global) -> Result<Valid, Fail> {
     list.push(instr(alloc, constant(4), &[(5, Port::Zero)], 35)?)?;
     list.push(instr(alloc, constant(1), &[(6, Port::One)], 28)?)?;
     list.push(instr(alloc, label, &[(6, Port::Zero)], 31)?)?;
-    list.push(instr(alloc, Op::Binary(Arithmetic::Add), &[(7, Port::Zero)], 26)?)?;
+    list.push(instr(alloc, Op::Binary(Dyadic::Add), &[(7, Port::Zero)], 26)?)?;
     list.push(instr(alloc, label, &[(2, Port::One)], 20)?)?;
     valid(rt, alloc, list)
 }
