@@ -2,9 +2,10 @@
 use Rattle.std.proofs.Common.{ℕ, ◌+◌, ◌≤◌, ◌<◌, List, [], ◌∷◌, ◌++◌, inl, inr, arith}
 use Rattle.id_text.specs.declared.token.Token.{Token}
 use Rattle.id_text.specs.declared.token.TokenKind.{TokenKind}
+use Rattle.id_tree.specs.declared.tree.Kind.{Kind}
 use Rattle.id_tree.specs.Tree as tree
-use Rattle.id_tree.specs.Tree.{Tree, literal, unary, binary, block, binding, define, none, more}
-use Rattle.id_tree.specs.Grammar.{Phrase, Rest, done, word, name, part, with_statement, block_of, Opens, definition, negated, number, parens, by_name, by_block, by_binding, by_body, Derives, opened, single, grouped, Follows, ended, taken, named, given, Program, empty, single_def}
+use Rattle.id_tree.specs.Tree.{Tree, literal, unary, binary, block, binding, param, define, none, more}
+use Rattle.id_tree.specs.Grammar.{Phrase, Rest, done, word, name, of_kind, part, with_statement, block_of, Opens, definition, no_parameters, first_parameter, last_parameter, next_parameter, denied, negated, number, by_true, by_false, parens, by_name, by_block, by_binding, by_body, Derives, opened, single, grouped, plain, alone, compared, Follows, ended, taken, named, kinded, given, Program, empty, single_def}
 use Rattle.id_tree.specs.Distinct.{HasPlace, Apart, Distinct}
 use Rattle.id_tree.proofs.FinishLemmas.{Laid}
 
@@ -16,7 +17,8 @@ Spans low (binary o a b p) high = Spans low a p × Spans (p + 1) b high
 Spans low (tree.name x p) high = (low ≤ p) × (p < high)
 Spans low (block a b p) high = (low ≤ p) × ((mid : ℕ) × Spans (p + 1) a mid × Spans mid b high)
 Spans low (binding x a p) high = (low ≤ p) × Spans (p + 1) a high
-Spans low (define x k a p) high = (low ≤ p) × Spans (p + 1) a high
+Spans low (param x k p) high = (low ≤ p) × (p < high)
+Spans low (define x a k b p) high = (low ≤ p) × ((mid : ℕ) × Spans (p + 1) a mid × Spans mid b high)
 Spans low none high = low ≤ high
 Spans low (more a b) high = (mid : ℕ) × Spans low a mid × Spans mid b high
 
@@ -28,7 +30,8 @@ Spans-order (binary o a b p) low high q = omega (arith, Spans-order a low p q.0,
 Spans-order (tree.name x p) low high q = omega (arith, q.0, q.1)
 Spans-order (block a b p) low high (u, (mid, v, w)) = omega (arith, u, Spans-order a (p + 1) mid v, Spans-order b mid high w)
 Spans-order (binding x a p) low high q = omega (arith, q.0, Spans-order a (p + 1) high q.1)
-Spans-order (define x k a p) low high q = omega (arith, q.0, Spans-order a (p + 1) high q.1)
+Spans-order (param x k p) low high q = omega (arith, q.0, q.1)
+Spans-order (define x a k b p) low high (u, (mid, v, w)) = omega (arith, u, Spans-order a (p + 1) mid v, Spans-order b mid high w)
 Spans-order none low high q = q
 Spans-order (more a b) low high q = omega (arith, Spans-order a low q.0 q.1, Spans-order b q.0 high q.2)
 
@@ -40,7 +43,8 @@ Spans-wider (binary o a b p) low high below above u v q = (Spans-wider a low p b
 Spans-wider (tree.name x p) low high below above u v' q = (omega (arith, q.0), omega (arith, q.1))
 Spans-wider (block a b p) low high below above u v (o, (mid, s, t)) = (omega (arith, o), (mid, s, Spans-wider b mid high mid above (omega arith) v t))
 Spans-wider (binding x a p) low high below above u v q = (omega (arith, q.0), Spans-wider a (p + 1) high (p + 1) above (omega arith) v q.1)
-Spans-wider (define x k a p) low high below above u v q = (omega (arith, q.0), Spans-wider a (p + 1) high (p + 1) above (omega arith) v q.1)
+Spans-wider (param x k p) low high below above u v' q = (omega (arith, q.0), omega (arith, q.1))
+Spans-wider (define x a k b p) low high below above u v (o, (mid, s, t)) = (omega (arith, o), (mid, s, Spans-wider b mid high mid above (omega arith) v t))
 Spans-wider none low high below above u v q = omega arith
 Spans-wider (more a b) low high below above u v q = (q.0, Spans-wider a low q.0 below q.0 u (omega arith) q.1, Spans-wider b q.0 high q.0 above (omega arith) v q.2)
 
@@ -58,8 +62,10 @@ Spans-place (block a b p) low high q (o, (mid, s, t)) (inr (inl h)) = let r = Sp
 Spans-place (block a b p) low high q (o, (mid, s, t)) (inr (inr h)) = let r = Spans-place b mid high q t h in (omega (arith, o, r.0, Spans-order a (p + 1) mid s), r.1)
 Spans-place (binding x a p) low high q s (inl h) = (omega (arith, s.0, h), omega (arith, Spans-order a (p + 1) high s.1, h))
 Spans-place (binding x a p) low high q s (inr h) = let r = Spans-place a (p + 1) high q s.1 h in (omega (arith, s.0, r.0), r.1)
-Spans-place (define x k a p) low high q s (inl h) = (omega (arith, s.0, h), omega (arith, Spans-order a (p + 1) high s.1, h))
-Spans-place (define x k a p) low high q s (inr h) = let r = Spans-place a (p + 1) high q s.1 h in (omega (arith, s.0, r.0), r.1)
+Spans-place (param x k p) low high q s h = (omega (arith, s.0, h), omega (arith, s.1, h))
+Spans-place (define x a k b p) low high q (o, (mid, s, t)) (inl h) = (omega (arith, o, h), omega (arith, Spans-order a (p + 1) mid s, Spans-order b mid high t, h))
+Spans-place (define x a k b p) low high q (o, (mid, s, t)) (inr (inl h)) = let r = Spans-place a (p + 1) mid q s h in (omega (arith, o, r.0), omega (arith, r.1, Spans-order b mid high t))
+Spans-place (define x a k b p) low high q (o, (mid, s, t)) (inr (inr h)) = let r = Spans-place b mid high q t h in (omega (arith, o, r.0, Spans-order a (p + 1) mid s), r.1)
 Spans-place none low high q s h = absurd h
 Spans-place (more a b) low high q s (inl h) = let r = Spans-place a low s.0 q s.1 h in (r.0, omega (arith, r.1, Spans-order b s.0 high s.2))
 Spans-place (more a b) low high q s (inr h) = let r = Spans-place b s.0 high q s.2 h in (omega (arith, r.0, Spans-order a low s.0 s.1), r.1)
@@ -88,7 +94,14 @@ Distinct-spans (block a b p) low high (o, (mid, s, t)) = (
   Distinct-spans b mid high t,
 )
 Distinct-spans (binding x a p) low high s = (λ h. omega (arith, (Spans-place a (p + 1) high p s.1 h).0), Distinct-spans a (p + 1) high s.1)
-Distinct-spans (define x k a p) low high s = (λ h. omega (arith, (Spans-place a (p + 1) high p s.1 h).0), Distinct-spans a (p + 1) high s.1)
+Distinct-spans (param x k p) low high s = tt
+Distinct-spans (define x a k b p) low high (o, (mid, s, t)) = (
+  λ h. omega (arith, (Spans-place a (p + 1) mid p s h).0),
+  λ h. omega (arith, (Spans-place b mid high p t h).0, Spans-order a (p + 1) mid s),
+  Spans-apart a b (p + 1) mid mid high (omega arith) s t,
+  Distinct-spans a (p + 1) mid s,
+  Distinct-spans b mid high t,
+)
 Distinct-spans none low high s = tt
 Distinct-spans (more a b) low high s = (Spans-apart a b low s.0 s.0 high (omega arith) s.1 s.2, Distinct-spans a low s.0 s.1, Distinct-spans b s.0 high s.2)
 
@@ -97,6 +110,7 @@ abbrev Keeps : ℕ → ℕ → Rest → Type 0
 Keeps from low (done e) = (high : ℕ) → low ≤ high → Spans from e high
 Keeps from low (word w r) = (mid : ℕ) → low ≤ mid → Keeps from mid r
 Keeps from low (name f) = (x : List ℕ) (p : ℕ) → low ≤ p → Keeps from (p + 1) (f x p)
+Keeps from low (of_kind f) = (k : Kind) (mid : ℕ) → low ≤ mid → Keeps from mid (f k)
 Keeps from low (part s f) = (a : Tree) (mid : ℕ) → Spans low a mid → Keeps from mid (f a)
 
 -- a block spans what its brace and its tail do
@@ -109,11 +123,23 @@ Spans-with_statement : (b a : Tree) (from low mid high : ℕ) → mid ≤ high �
 Spans-with_statement b (more a e) from low mid high w u (i, s, t) = (i, (low, u, s), Spans-wider e i mid i high (omega arith) w t)
 Spans-with_statement b a from low mid high w u s = omega (arith, Spans-order b from low u, Spans-order a low mid s)
 
+-- parameters span what the first one and those behind it do
+Spans-param : (x : List ℕ) (k : Kind) (p : ℕ) (a : Tree) (from low mid high : ℕ) → from ≤ p → p < low → mid ≤ high → Spans low a mid → Spans from (more (param x k p) a) high
+Spans-param x k p a from low mid high u v w s = (p + 1, (u, omega arith), Spans-wider a low mid (p + 1) high (omega arith) w s)
+
 -- each production keeps this
 Opens-keeps : {s : Phrase} {k : TokenKind} {p : ℕ} {r : Rest} → Opens s k p r → Keeps p (p + 1) r
-Opens-keeps (definition {p = p}) = λ x q u a1 u1 a2 u2 a3 u3 a4 u4 a5 u5 e mid s z v high w. (omega arith, Spans-wider e a5 mid (q + 1) high (omega arith) (omega arith) s)
+Opens-keeps (definition {p = p}) = λ x q u a1 u1 a next t a2 u2 k a3 u3 a4 u4 e mid s z v high w.
+    (omega arith, (next, Spans-wider a a1 next (q + 1) next (omega arith) (omega arith) t, Spans-wider e a4 mid next high (omega arith) (omega arith) s))
+Opens-keeps (no_parameters {p = p}) = λ high w. omega arith
+Opens-keeps (first_parameter {x = x} {p = p}) = λ a1 u1 k a2 u2 a mid s high w. Spans-param x k p a p a2 mid high (omega arith) (omega arith) w s
+Opens-keeps (last_parameter {p = p}) = λ high w. omega arith
+Opens-keeps (next_parameter {p = p}) = λ x q u a1 u1 k a2 u2 a mid s high w. Spans-param x k q a p a2 mid high (omega arith) (omega arith) w s
+Opens-keeps (denied {p = p}) = λ e mid s high w. (omega arith, Spans-wider e (p + 1) mid (p + 1) high (omega arith) w s)
 Opens-keeps (negated {p = p}) = λ e mid s high w. (omega arith, Spans-wider e (p + 1) mid (p + 1) high (omega arith) w s)
 Opens-keeps (number {p = p}) = λ high w. (omega arith, omega arith)
+Opens-keeps (by_true {p = p}) = λ high w. (omega arith, omega arith)
+Opens-keeps (by_false {p = p}) = λ high w. (omega arith, omega arith)
 Opens-keeps (parens {p = p}) = λ e mid s z v high w. Spans-wider e (p + 1) mid p high (omega arith) (omega arith) s
 Opens-keeps (by_name {p = p}) = λ high w. (omega arith, omega arith)
 Opens-keeps (by_block {p = p}) = λ a mid s high w. Spans-block_of a p mid high w s
@@ -133,11 +159,17 @@ mutual
   Derives-spans (grouped {us = us} {vs = vs} {a = a} x t q y) low high p =
       let l = Laid-split us (t ∷ vs) low high p in
       (Spans-wider a low l.0 low t.start (omega arith) l.2.0 (Derives-spans x low l.0 l.1), Derives-spans y (t.start + 1) high l.2.1)
+  Derives-spans (plain d) low high p = Derives-spans d low high p
+  Derives-spans (alone d) low high p = Derives-spans d low high p
+  Derives-spans (compared {us = us} {vs = vs} {a = a} x t q y) low high p =
+      let l = Laid-split us (t ∷ vs) low high p in
+      (Spans-wider a low l.0 low t.start (omega arith) l.2.0 (Derives-spans x low l.0 l.1), Derives-spans y (t.start + 1) high l.2.1)
 
   Follows-spans : {r : Rest} {ts : List Token} {e : Tree} {h : ℕ} → Follows r ts e h → (from low high : ℕ) → Keeps from low r → Laid low ts high → Spans from e high
   Follows-spans ended from low high k p = k high p
   Follows-spans (taken {t = t} q f) from low high k p = Follows-spans f from (t.start + 1) high (k (t.start + 1) (omega (arith, p.0))) p.1
   Follows-spans (named {t = t} {x = x} q f) from low high k p = Follows-spans f from (t.start + 1) high (k x t.start p.0) p.1
+  Follows-spans (kinded {t = t} {k = j} q f) from low high k p = Follows-spans f from (t.start + 1) high (k j (t.start + 1) (omega (arith, p.0))) p.1
   Follows-spans (given {us = us} {ts = ts} {a = a} d f) from low high k p =
       let l = Laid-split us ts low high p in
       Follows-spans f from l.0 high (k a l.0 (Derives-spans d low l.0 l.1)) l.2

@@ -6,11 +6,12 @@ use Rattle.id_text.specs.declared.token.TokenKind.{TokenKind}
 use Rattle.id_text.specs.declared.token.TokenKind.TheVariants.{Name, Number, Key, Sign, End}
 use Rattle.id_text.specs.declared.token.Keyword.TheVariants.{Def, In, Int}
 use Rattle.id_text.specs.declared.token.Symbol.TheVariants.{LeftParen, RightParen, RightBrace, Colon, Becomes, Semicolon}
-use Rattle.id_tree.specs.declared.parser.Level.TheVariants.{Sum, Product}
+use Rattle.id_tree.specs.declared.parser.Level.TheVariants as level
+use Rattle.id_tree.specs.declared.tree.Kind.TheVariants as kind
 use Rattle.id_tree.specs.Tree.{Tree}
-use Rattle.id_tree.specs.Grammar.{Phrase, Definition, Grouped, Unary, Tail, kind_of, Rest, done, word, name, part, definition, number, by_body, own_height, Derives, opened, single, grouped, Follows, ended, taken, named, given, Program, empty, single_def}
-use Rattle.id_tree.specs.Machine.{Frame, State}
-use Rattle.id_tree.specs.Standing.{Roomy, Around, outermost, left, right, inside, Stands, begun, wanting, having, within, finished}
+use Rattle.id_tree.specs.Grammar.{Phrase, Definition, Parameters, MoreParameters, Grouped, expression, Negation, Comparison, Unary, Tail, kind_of, Rest, done, word, name, of_kind, part, definition, no_parameters, last_parameter, number, by_body, own_height, Derives, opened, single, grouped, plain, alone, compared, Follows, ended, taken, named, kinded, given, Program, empty, single_def}
+use Rattle.id_tree.specs.Machine.{least_height, Frame, State}
+use Rattle.id_tree.specs.Standing.{Roomy, Around, outermost, left, right, plainly, compare, against, inside, Stands, begun, wanting, having, within, finished}
 
 -- the starts rise from the first number on and stay below the second
 abbrev pub Laid : ℕ → List Token → ℕ → Type 0
@@ -57,7 +58,7 @@ record Least (s : Phrase) (from : ℕ) : Type 0 where
   tree : Tree
   to : ℕ
   laid : Laid from tokens to
-  derives : Derives s tokens tree 1
+  derives : Derives s tokens tree (least_height s)
 
 least_number : (from : ℕ) → Least Unary from
 least_number from = record {
@@ -68,10 +69,16 @@ least_number from = record {
   derives = opened number ended;
 }
 
-least_sum : (from : ℕ) → Least (Grouped Sum) from
+least_sum : (from : ℕ) → Least (Grouped level.Sum) from
 least_sum from = let l = least_number from in record { tokens = l.tokens; tree = l.tree; to = l.to; laid = l.laid; derives = single (single l.derives) }
 
-least_definition : (from : ℕ) → Least (Grouped Sum) (from + 7) → Least Definition from
+least_negation : (from : ℕ) → Least Negation from
+least_negation from = let l = least_sum from in record { tokens = l.tokens; tree = l.tree; to = l.to; laid = l.laid; derives = plain (alone l.derives) }
+
+least_expression : (from : ℕ) → Least expression from
+least_expression from = let l = least_negation from in record { tokens = l.tokens; tree = l.tree; to = l.to; laid = l.laid; derives = single (single l.derives) }
+
+least_definition : (from : ℕ) → Least expression (from + 7) → Least Definition from
 least_definition from body = record {
   tokens = token (Key Def) from ∷ token (Name []) (from + 1) ∷ token (Sign LeftParen) (from + 2) ∷ token (Sign RightParen) (from + 3)
       ∷ token (Sign Colon) (from + 4) ∷ token (Key Int) (from + 5) ∷ token (Sign Becomes) (from + 6) ∷ (body.tokens ++ token (Sign Semicolon) body.to ∷ []);
@@ -100,10 +107,10 @@ least_definition from body = record {
       ),
     ),
   );
-  derives = opened definition (named refl (taken refl (taken refl (taken refl (taken refl (taken refl (given body.derives (taken refl ended))))))));
+  derives = opened definition (named refl (taken refl (given (opened no_parameters ended) (taken refl (kinded refl (taken refl (given body.derives (taken refl ended))))))));
 }
 
-least_tail : (from : ℕ) → Least (Grouped Sum) (from + 1) → Least Tail from
+least_tail : (from : ℕ) → Least expression (from + 1) → Least Tail from
 least_tail from body = record {
   tokens = token (Key In) from ∷ (body.tokens ++ token (Sign RightBrace) body.to ∷ []);
   tree = _;
@@ -114,10 +121,16 @@ least_tail from body = record {
 
 least : (s : Phrase) (from : ℕ) → Least s from
 least Unary from = least_number from
-least (Grouped Product) from = let l = least_number from in record { tokens = l.tokens; tree = l.tree; to = l.to; laid = l.laid; derives = single l.derives }
-least (Grouped Sum) from = least_sum from
-least Definition from = least_definition from (least_sum (from + 7))
-least Tail from = least_tail from (least_sum (from + 1))
+least (Grouped level.Product) from = let l = least_number from in record { tokens = l.tokens; tree = l.tree; to = l.to; laid = l.laid; derives = single l.derives }
+least (Grouped level.Sum) from = least_sum from
+least (Grouped level.And) from = let l = least_negation from in record { tokens = l.tokens; tree = l.tree; to = l.to; laid = l.laid; derives = single l.derives }
+least (Grouped level.Or) from = least_expression from
+least Negation from = least_negation from
+least Comparison from = let l = least_sum from in record { tokens = l.tokens; tree = l.tree; to = l.to; laid = l.laid; derives = alone l.derives }
+least Parameters from = record { tokens = token (Sign RightParen) from ∷ []; tree = _; to = from + 1; laid = (omega arith, omega arith); derives = opened no_parameters ended }
+least MoreParameters from = record { tokens = token (Sign RightParen) from ∷ []; tree = _; to = from + 1; laid = (omega arith, omega arith); derives = opened last_parameter ended }
+least Definition from = least_definition from (least_expression (from + 7))
+least Tail from = least_tail from (least_expression (from + 1))
 
 -- what is left of a production, with tokens from a place on
 record Finish (n d from : ℕ) (r : Rest) : Type 0 where
@@ -138,10 +151,13 @@ finish (word v r) n d from w roomy =
 finish (name g) n d from w roomy =
     let f = finish (g [] from) n d (from + 1) w (roomy [] from) in
     record { tokens = token (Name []) from ∷ f.tokens; tree = f.tree; height = f.height; to = f.to; laid = (omega arith, f.laid); follows = named refl f.follows; fits = f.fits }
+finish (of_kind g) n d from w roomy =
+    let f = finish (g kind.Int) n d (from + 1) w (roomy kind.Int) in
+    record { tokens = token (Key Int) from ∷ f.tokens; tree = f.tree; height = f.height; to = f.to; laid = (omega arith, f.laid); follows = kinded refl f.follows; fits = f.fits }
 finish (part s g) n d from w roomy =
     let l = least s from in
     let f = finish (g l.tree) n d l.to w (roomy.1 l.tree) in
-    record { tokens = l.tokens ++ f.tokens; tree = f.tree; height = max 1 f.height; to = f.to; laid = Laid-append l.tokens f.tokens from l.to f.to l.laid f.laid; follows = given l.derives f.follows; fits = omega (arith, f.fits, roomy.0) }
+    record { tokens = l.tokens ++ f.tokens; tree = f.tree; height = max (least_height s) f.height; to = f.to; laid = Laid-append l.tokens f.tokens from l.to f.to l.laid f.laid; follows = given l.derives f.follows; fits = omega (arith, f.fits, roomy.0) }
 
 -- the tokens go on to a program of at most this height
 pub record Completed (n from : ℕ) (us : List Token) : Type 0 where
@@ -186,6 +202,11 @@ Around-completed (left a) vs e h from x w = Around-completed a vs e h from (sing
 Around-completed (right {m = m} {us = us} {vs = vs} a y t q fit) ws e k from x w =
     Completed-at (ap (λ xs. us ++ xs) (sym (append_assoc vs (t ∷ []) ws)) ∙ sym (append_assoc us (vs ++ t ∷ []) ws))
     (Around-completed a (vs ++ t ∷ ws) _ (max m k + 1) from (grouped y t q x) (omega arith))
+Around-completed (plainly a) vs e h from x w = Around-completed a vs e h from (plain x) w
+Around-completed (compare a) vs e h from x w = Around-completed a vs e h from (alone x) w
+Around-completed (against {m = m} {us = us} {vs = vs} a y t q fit) ws e k from x w =
+    Completed-at (ap (λ xs. us ++ xs) (sym (append_assoc vs (t ∷ []) ws)) ∙ sym (append_assoc us (vs ++ t ∷ []) ws))
+    (Around-completed a (vs ++ t ∷ ws) _ (max m k + 1) from (compared y t q x) (omega arith))
 Around-completed {n = n} (inside {s = s} {f = f} {d = d} {h = h} {us = us} {vs = vs} a b fit roomy) ws e k from x w =
     let g = finish (f e) n (d + own_height s) from (omega arith) (roomy e) in
     Completed-more n from g.to ((us ++ vs) ++ ws) g.tokens g.laid
@@ -197,7 +218,7 @@ pub Stands-completed : {n : ℕ} {S : State} {us : List Token} → Stands n S us
 Stands-completed begun from = record { behind = token End from ∷ []; tree = _; height = 0; to = from + 1; laid = (omega arith, omega arith); derives = empty refl; fits = zero-le }
 Stands-completed {n = n} (wanting {s = s} {us = us} a w) from =
     let l = least s from in
-    Completed-more n from l.to us l.tokens l.laid (Around-completed a l.tokens l.tree 1 l.to l.derives w)
+    Completed-more n from l.to us l.tokens l.laid (Around-completed a l.tokens l.tree (least_height s) l.to l.derives w)
 Stands-completed (having {h = h} {e = e} {vs = vs} a x w) from = Around-completed a vs e h from x w
 Stands-completed {n = n} (within {s = s} {r = r} {d = d} {h = h} {us = us} {vs = vs} a b w roomy) from =
     let g = finish r n (d + own_height s) from (omega arith) roomy in

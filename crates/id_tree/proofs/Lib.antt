@@ -8,4 +8,5 @@ mod DistinctLemmas
 pub mod StartsLemmas
 mod ReaderLemmas
 mod BlockLemmas
+mod ParamLemmas
 mod StatementLemmas

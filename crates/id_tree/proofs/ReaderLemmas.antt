@@ -4,24 +4,24 @@ use Rattle.id_text.specs.Tokens.{EndsOnce}
 use Rattle.id_text.specs.declared.token.Token.{Token}
 use Rattle.id_text.specs.declared.token.TokenKind.{TokenKind}
 use Rattle.id_text.specs.declared.token.TokenKind.TheVariants.{Name, Number, Key, Sign, End}
-use Rattle.id_text.specs.declared.token.Keyword.TheVariants.{Def}
+use Rattle.id_text.specs.declared.token.Keyword.{Keyword}
+use Rattle.id_text.specs.declared.token.Keyword.TheVariants.{Def, True, False, Not}
 use Rattle.id_text.specs.declared.token.Symbol.{Symbol}
-use Rattle.id_text.specs.declared.token.Symbol.TheVariants.{LeftParen, RightParen, LeftBrace, Semicolon, Minus}
+use Rattle.id_text.specs.declared.token.Symbol.TheVariants.{LeftParen, RightParen, LeftBrace, Minus}
 use Rattle.id_tree.specs.declared.parser.Level.{Level}
-use Rattle.id_tree.specs.declared.parser.Level.TheVariants.{Sum}
+use Rattle.id_tree.specs.declared.parser.Level.TheVariants as level
 use Rattle.id_tree.specs.declared.tree.BinaryOp.{BinaryOp}
-use Rattle.id_tree.specs.declared.tree.UnaryOp.TheVariants.{Neg}
+use Rattle.id_tree.specs.declared.tree.UnaryOp.TheVariants as unary_op
 use Rattle.id_tree.specs.declared.tree.Constant.TheVariants as constant
-use Rattle.id_tree.specs.declared.tree.Kind.TheVariants as kind
 use Rattle.id_tree.specs.declared.tree.TreeError.{TreeError}
 use Rattle.id_tree.specs.declared.tree.TreeError.TheVariants.{Unexpected, TooDeep}
 use Rattle.id_tree.specs.Tree as tree
-use Rattle.id_tree.specs.Tree.{Tree, literal, unary, binary, define, none, more}
-use Rattle.id_tree.specs.Grammar.{Phrase, Definition, Grouped, Unary, Word, kind_of, Rest, done, word, name, part, sign, heading, Opens, definition, negated, number, parens, by_name, operand, operator_of, own_height}
-use Rattle.id_tree.specs.Machine.{opening, room, Frame, Left, Right, Inside, State, Begin, Want, Have, Next, Finished, is_word, name_in, takes, ends, wants, Outcome, Accepted, Refused, run}
-use Rattle.id_tree.specs.Readers.{first_kind, first_start, IsRead, EndsBy, Leads, Fails, Defines, Grows, Stunts, Takes, Misses, BeginsWithName, NoName, LacksName, Encloses, Exposes}
+use Rattle.id_tree.specs.Tree.{Tree, literal, unary, binary, none, more}
+use Rattle.id_tree.specs.Grammar.{Phrase, Definition, Grouped, expression, Negation, Comparison, Unary, Word, kind_of, Rest, done, word, name, part, sign, definition_of, Opens, definition, denied, negated, number, by_true, by_false, parens, by_name, operand, operator_of, comparison_of, own_height}
+use Rattle.id_tree.specs.Machine.{opening, room, Frame, Left, Right, Compare, Against, Inside, State, Begin, Want, Have, Next, Finished, is_word, name_in, takes, ends, wants, Outcome, Accepted, Refused, run}
+use Rattle.id_tree.specs.Readers.{first_kind, first_start, truth_in, IsRead, EndsBy, Leads, Fails, Defines, Grows, Stunts, Takes, Misses, BeginsWithName, NoName, LacksName, Encloses, Exposes}
 use Rattle.id_tree.proofs.RowLemmas.{opening-from_opens}
-use Rattle.id_tree.proofs.RunLemmas.{First, same-is_word, run-step, run-deep, run-none, run-word, run-name, run-opens, run-opens-deep, run-operator, run-done, run-part, run-inside, run-right, run-level, run-left}
+use Rattle.id_tree.proofs.RunLemmas.{First, Plain, same-is_word, run-step, run-deep, run-none, run-word, run-name, run-opens, run-opens-deep, run-operator, run-matches, run-done, run-part, run-inside, run-right, run-level, run-left, run-against, run-compare, run-plain, run-alone}
 
 pub EndsBy-at : {o p : Outcome} (x : TreeError) → o ≡ p → EndsBy p x → EndsBy o x
 EndsBy-at x e q = subst (λ r. EndsBy r x) (sym e) q
@@ -48,16 +48,6 @@ module _ {ts us : List Token} {t : Token} (e : ts ≡ t ∷ us) where
   pub NoName-one : (x : TreeError) → x ≡ Unexpected (first_start ts) → name_in t.kind ≡ None → NoName ts x
   NoName-one x j q = record { token = t; behind = us; whole = e; kind = q; error = j ∙ ap (λ xs. Unexpected (first_start xs)) e }
 
--- Words in a row.
-pub Takes-then : {f g : Rest → Rest} {ts us vs : List Token} → Takes f ts us → Takes g us vs → Takes (λ r. f (g r)) ts vs
-Takes-then {g = g} p q = record { comes = λ r h d c K. p.comes (g r) h d c K ∙ q.comes r h d c K }
-
-pub Misses-first : (f g : Rest → Rest) {ts : List Token} {x : TreeError} → Misses f ts x → Misses (λ r. f (g r)) ts x
-Misses-first f g p = record { fails = λ r h d c K. p.fails (g r) h d c K }
-
-pub Misses-then : {f g : Rest → Rest} {ts us : List Token} {x : TreeError} → Takes f ts us → Misses g us x → Misses (λ r. f (g r)) ts x
-Misses-then {g = g} {x = x} p q = record { fails = λ r h d c K. EndsBy-at x (p.comes (g r) h d c K) (q.fails r h d c K) }
-
 -- Productions: from where the phrase is wanted the run has come to what is left of a production of it.
 pub record At (ts : List Token) (s : Phrase) (d : ℕ) (us : List Token) (r : Rest) (h : ℕ) : Type 0 where
   pub comes : (K : List Frame) → run 200 ts (Want s d K) ≡ run 200 us (Next r h (d + own_height s) (own_height s) K)
@@ -70,12 +60,6 @@ module _ {ts us : List Token} {t : Token} {s : Phrase} {r : Rest} (e : ts ≡ t 
   Fails-deep x j w = record { fails = λ K. rw (j, e) (run-opens-deep 200 t us s r d K o w) }
 
 module _ {ts us : List Token} {s : Phrase} {d h : ℕ} where
-  pub At-words : {f : Rest → Rest} {vs : List Token} (r : Rest) → At ts s d us (f r) h → Takes f us vs → At ts s d vs r h
-  At-words r p q = record { comes = λ K. p.comes K ∙ q.comes r h (d + own_height s) (own_height s) K }
-
-  pub Fails-words : {f : Rest → Rest} {x : TreeError} (r : Rest) → At ts s d us (f r) h → Misses f us x → Fails ts s d x
-  Fails-words {x = x} r p q = record { fails = λ K. EndsBy-at x (p.comes K) (q.fails r h (d + own_height s) (own_height s) K) }
-
   pub At-word : {w : Word} {r : Rest} {vs : List Token} → At ts s d us (word w r) h → Takes (word w) us vs → At ts s d vs r h
   At-word {r = r} p q = record { comes = λ K. p.comes K ∙ q.comes r h (d + own_height s) (own_height s) K }
 
@@ -105,11 +89,11 @@ module _ {ts us : List Token} {s : Phrase} {d h : ℕ} where
   }
 
   pub At-enclosed : {w : Symbol} {f : Tree → Rest} {vs : List Token} {a : Tree} {m : ℕ} →
-      At ts s d us (part (Grouped Sum) (λ e. sign w (f e))) h → Encloses us (d + own_height s) w vs a m → At ts s d vs (f a) (max h m)
+      At ts s d us (part expression (λ e. sign w (f e))) h → Encloses us (d + own_height s) w vs a m → At ts s d vs (f a) (max h m)
   At-enclosed {f = f} p q = record { comes = λ K. p.comes K ∙ q.comes f h (own_height s) K }
 
   pub Fails-enclosed : {w : Symbol} {f : Tree → Rest} {x : TreeError} →
-      At ts s d us (part (Grouped Sum) (λ e. sign w (f e))) h → Exposes us (d + own_height s) w x → Fails ts s d x
+      At ts s d us (part expression (λ e. sign w (f e))) h → Exposes us (d + own_height s) w x → Fails ts s d x
   Fails-enclosed {f = f} {x = x} p q = record { fails = λ K. EndsBy-at x (p.comes K) (q.fails f h (own_height s) K) }
 
   pub Leads-done : {e : Tree} → At ts s d us (done e) h → Leads ts s d us e (h + own_height s)
@@ -131,10 +115,10 @@ unopened LeftBrace p f g h = absurd (h refl)
 unopened _ p f g h = refl
 
 -- the productions, at a token of the kind
-pub opens_negated : {k : TokenKind} {p : ℕ} → k ≡ Sign Minus → Opens Unary k p (part Unary (λ e. done (unary Neg e p)))
+pub opens_negated : {k : TokenKind} {p : ℕ} → k ≡ Sign Minus → Opens Unary k p (part Unary (λ e. done (unary unary_op.Neg e p)))
 opens_negated q = rw q negated
 
-pub opens_parens : {k : TokenKind} {p : ℕ} → k ≡ Sign LeftParen → Opens Unary k p (part (Grouped Sum) (λ e. sign RightParen (done e)))
+pub opens_parens : {k : TokenKind} {p : ℕ} → k ≡ Sign LeftParen → Opens Unary k p (part expression (λ e. sign RightParen (done e)))
 opens_parens q = rw q parens
 
 pub opens_number : {k : TokenKind} {p : ℕ} (v : ℤ) → k ≡ Number v → Opens Unary k p (done (literal (constant.Int v) p))
@@ -143,30 +127,44 @@ opens_number v q = rw q number
 pub opens_name : {k : TokenKind} {p : ℕ} (x : List ℕ) → k ≡ Name x → Opens Unary k p (done (tree.name x p))
 opens_name x q = rw q by_name
 
-pub opens_definition : {k : TokenKind} {p : ℕ} → k ≡ Key Def → Opens Definition k p (name (λ x p. heading (part (Grouped Sum) (λ e. sign Semicolon (done (define x kind.Int e p))))))
+pub opens_denied : {k : TokenKind} {p : ℕ} → k ≡ Key Not → Opens Negation k p (part Negation (λ e. done (unary unary_op.Not e p)))
+opens_denied q = rw q denied
+
+pub opens_truth : {k : TokenKind} {p : ℕ} (v : Bool) → truth_in k ≡ Some v → Opens Unary k p (done (literal (constant.Bool v) p))
+opens_truth {k = Key True} v q = let i : true ≡ v = cc in rw (← i) by_true
+opens_truth {k = Key False} v q = let i : false ≡ v = cc in rw (← i) by_false
+opens_truth {k = _} v q = cc
+
+-- no word but these begins an operand
+pub untrue : (k : Keyword) (p : ℕ) → truth_in (Key k) ≡ None → opening Unary (Key k) p ≡ None
+untrue True p q = cc
+untrue False p q = cc
+untrue _ p q = refl
+
+pub opens_definition : {k : TokenKind} {p : ℕ} → k ≡ Key Def → Opens Definition k p (name definition_of)
 opens_definition q = rw q definition
 
 -- An expression and the sign behind it.
 module _ {ts us : List Token} {d : ℕ} {w : Symbol} where
-  pub Encloses-done : {vs : List Token} {e : Tree} {h : ℕ} → Leads ts (Grouped Sum) d us e h → Takes (sign w) us vs → Encloses ts d w vs e h
+  pub Encloses-done : {vs : List Token} {e : Tree} {h : ℕ} → Leads ts expression d us e h → Takes (sign w) us vs → Encloses ts d w vs e h
   Encloses-done {e = e} {h = h} p q = record {
     comes = λ f m c K.
-        run-part 200 ts (Grouped Sum) (λ a. sign w (f a)) m d c K ∙ p.comes (Inside (λ a. sign w (f a)) m d c ∷ K)
+        run-part 200 ts expression (λ a. sign w (f a)) m d c K ∙ p.comes (Inside (λ a. sign w (f a)) m d c ∷ K)
         ∙ run-inside 200 us e h (λ a. sign w (f a)) m d c K ∙ q.comes (f e) (max m h) d c K;
   }
 
-  pub Exposes-sign : {e : Tree} {h : ℕ} {x : TreeError} → Leads ts (Grouped Sum) d us e h → Misses (sign w) us x → Exposes ts d w x
+  pub Exposes-sign : {e : Tree} {h : ℕ} {x : TreeError} → Leads ts expression d us e h → Misses (sign w) us x → Exposes ts d w x
   Exposes-sign {e = e} {h = h} {x = x} p q = record {
     fails = λ f m c K.
         EndsBy-at x
-        (run-part 200 ts (Grouped Sum) (λ a. sign w (f a)) m d c K ∙ p.comes (Inside (λ a. sign w (f a)) m d c ∷ K)
+        (run-part 200 ts expression (λ a. sign w (f a)) m d c K ∙ p.comes (Inside (λ a. sign w (f a)) m d c ∷ K)
         ∙ run-inside 200 us e h (λ a. sign w (f a)) m d c K)
         (q.fails (f e) (max m h) d c K);
   }
 
-pub Exposes-part : (w : Symbol) {ts : List Token} {d : ℕ} {x : TreeError} → Fails ts (Grouped Sum) d x → Exposes ts d w x
+pub Exposes-part : (w : Symbol) {ts : List Token} {d : ℕ} {x : TreeError} → Fails ts expression d x → Exposes ts d w x
 Exposes-part w {ts = ts} {d = d} {x = x} q = record {
-  fails = λ f m c K. EndsBy-at x (run-part 200 ts (Grouped Sum) (λ a. sign w (f a)) m d c K) (q.fails (Inside (λ a. sign w (f a)) m d c ∷ K));
+  fails = λ f m c K. EndsBy-at x (run-part 200 ts expression (λ a. sign w (f a)) m d c K) (q.fails (Inside (λ a. sign w (f a)) m d c ∷ K));
 }
 
 -- Levels: the first operand has come, and the level is open.
@@ -214,6 +212,59 @@ module _ {ts us : List Token} {t : Token} (e : ts ≡ t ∷ us) (l : Level) (o :
   pub Right-grows : {vs : List Token} {b f : Tree} {k h : ℕ} → d + m + 1 ≤ 200 → Leads us (operand l) (d + 1) vs b k → f ≡ binary o a b t.start → h ≡ max m k + 1 → Grows ts l d a m vs f h
   Right-grows {vs = vs} {b = b} {k = k} w q u v = record { comes = λ K. rw (u, v) (right_wanted w K ∙ q.comes (Right l o a m t.start d ∷ K) ∙ run-right 200 vs b k l o a m t.start d K) }
 
+-- Comparisons: the first sum has come.
+pub Compare-fails : {d : ℕ} {ts : List Token} {x : TreeError} → Fails ts (Grouped level.Sum) d x → Fails ts Comparison d x
+Compare-fails {d = d} {ts = ts} {x = x} q = record { fails = λ K. EndsBy-at x (run-compare 200 ts d K) (q.fails (Compare d ∷ K)) }
+
+first-no_comparison : (vs : List Token) → comparison_of (first_kind vs) ≡ None → First (λ k. comparison_of k ≡ None) vs
+first-no_comparison [] q = tt
+first-no_comparison (t ∷ vs) q = q
+
+module _ {ts us : List Token} {d m : ℕ} {a : Tree} (f : Leads ts (Grouped level.Sum) d us a m) where
+  compare_comes : (K : List Frame) → run 200 ts (Want Comparison d K) ≡ run 200 us (Have a m (Compare d ∷ K))
+  compare_comes K = run-compare 200 ts d K ∙ f.comes (Compare d ∷ K)
+
+  pub Compare-alone : comparison_of (first_kind us) ≡ None → Leads ts Comparison d us a m
+  Compare-alone q = record { comes = λ K. compare_comes K ∙ run-alone 200 us a m d K (first-no_comparison us q) }
+
+  -- its operator and the second sum
+  module _ {vs : List Token} {t : Token} (e : us ≡ t ∷ vs) (o : BinaryOp) (i : comparison_of (first_kind us) ≡ Some o) where
+    comparison_is : comparison_of t.kind ≡ Some o
+    comparison_is = ap (λ xs. comparison_of (first_kind xs)) (sym e) ∙ i
+
+    second_wanted : d + m + 1 ≤ 200 → (K : List Frame) → run 200 us (Have a m (Compare d ∷ K)) ≡ run 200 vs (Want (Grouped level.Sum) (d + 1) (Against o a m t.start d ∷ K))
+    second_wanted w K = rw e (run-matches 200 t vs o a m d K comparison_is w)
+
+    pub Second-deep : (x : TreeError) → x ≡ TooDeep (first_start us) → 200 < d + m + 1 → Fails ts Comparison d x
+    Second-deep x j w = record {
+      fails = λ K.
+          let q = comparison_is in
+          EndsBy-at x (compare_comes K) (rw (j, e) (run-deep 200 t vs (Have a m (Compare d ∷ K)) (record { need = d + m + 1; next = Want (Grouped level.Sum) (d + 1) (Against o a m t.start d ∷ K) }) (rw q refl) w));
+    }
+
+    pub Second-fails : {x : TreeError} → d + m + 1 ≤ 200 → Fails vs (Grouped level.Sum) (d + 1) x → Fails ts Comparison d x
+    Second-fails {x = x} w g = record { fails = λ K. EndsBy-at x (compare_comes K ∙ second_wanted w K) (g.fails (Against o a m t.start d ∷ K)) }
+
+    pub Second-leads : {ws : List Token} {b g : Tree} {k h : ℕ} → d + m + 1 ≤ 200 → Leads vs (Grouped level.Sum) (d + 1) ws b k → g ≡ binary o a b t.start → h ≡ max m k + 1 → Leads ts Comparison d ws g h
+    Second-leads {ws = ws} {b = b} {k = k} w q u v = record {
+      comes = λ K. rw (u, v) (compare_comes K ∙ second_wanted w K ∙ q.comes (Against o a m t.start d ∷ K) ∙ run-against 200 ws b k o a m t.start d K);
+    }
+
+-- Negations: without `not` a comparison is read.
+not_denied : (k : TokenKind) (p : ℕ) → (k ≡ Key Not → ⊥) → opening Negation k p ≡ None
+not_denied (Key Not) p f = absurd (f refl)
+not_denied _ p f = refl
+
+module _ {ts us : List Token} {t : Token} (e : ts ≡ t ∷ us) (f : t.kind ≡ Key Not → ⊥) where
+  plain_first : Plain ts
+  plain_first = rw e (not_denied t.kind t.start f)
+
+  pub Negation-leads : {d h : ℕ} {vs : List Token} {a : Tree} → Leads ts Comparison d vs a h → Leads ts Negation d vs a h
+  Negation-leads {d = d} q = record { comes = λ K. run-plain 200 ts d K plain_first ∙ q.comes K }
+
+  pub Negation-fails : {d : ℕ} {x : TreeError} → Fails ts Comparison d x → Fails ts Negation d x
+  Negation-fails {d = d} {x = x} q = record { fails = λ K. EndsBy-at x (run-plain 200 ts d K plain_first) (q.fails K) }
+
 -- behind a program, only the end
 ends-end : (k : TokenKind) (e : Tree) → k ≡ End → ends k e ≡ Some (record { need = 0; next = Finished e })
 ends-end k e q = rw q refl
@@ -252,7 +303,7 @@ module _ (ts : List Token) where
 Begin-def : (ts : List Token) → first_kind ts ≡ Key Def → run 200 ts Begin ≡ run 200 ts (Want Definition 0 [])
 Begin-def [] q = cc
 Begin-def (t ∷ us) q =
-    let r : Rest = name (λ x p. heading (part (Grouped Sum) (λ e. sign Semicolon (done (define x kind.Int e p))))) in
+    let r : Rest = name definition_of in
     let o : Opens Definition t.kind t.start r = rw q definition in
     run-step 200 t us Begin (record { need = 1; next = Next r 0 0 0 [] }) (rw (opening-from_opens o) refl) (omega arith) ∙ sym (run-opens 200 t us Definition r 0 [] o (omega arith))
 

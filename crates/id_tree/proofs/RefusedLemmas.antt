@@ -6,10 +6,10 @@ use Rattle.id_tree.specs.Tree.{Tree}
 use Rattle.id_tree.specs.declared.tree.TreeError.{TreeError}
 use Rattle.id_tree.specs.declared.tree.TreeError.TheVariants.{Unexpected, TooDeep, Memory}
 use Rattle.id_tree.specs.Readers.{EndsBy}
-use Rattle.id_tree.specs.Grammar.{Phrase, Rest, done, word, name, part, own_height, Program}
+use Rattle.id_tree.specs.Grammar.{Phrase, Rest, done, word, name, of_kind, part, own_height, Program}
 use Rattle.id_tree.specs.Accepted.{Accepts, GoesOn, GoesOnDeeper, StopsAt, RefusedBy, IsMemory}
 use Rattle.id_tree.specs.Machine.{Move, pick, takes, Frame, State, Begin, Want, Have, Next, Finished, Accepted, Refused, run}
-use Rattle.id_tree.specs.Standing.{Around, outermost, left, right, inside, Stands, begun, wanting, having, within, finished, Roomy}
+use Rattle.id_tree.specs.Standing.{Around, outermost, left, right, plainly, compare, against, inside, Stands, begun, wanting, having, within, finished, Roomy}
 use Rattle.id_tree.proofs.RunLemmas.{run-step, run-none, run-deep}
 use Rattle.id_tree.proofs.CompleteLemmas.{run-program}
 use Rattle.id_tree.proofs.SoundLemmas.{Moves, Moves-takes}
@@ -94,12 +94,16 @@ Roomy-wider : (n m d : ℕ) (r : Rest) → n ≤ m → Roomy n d r → Roomy m d
 Roomy-wider n m d (done e) w q = tt
 Roomy-wider n m d (word v r) w q = Roomy-wider n m d r w q
 Roomy-wider n m d (name f) w q = λ x p. Roomy-wider n m d (f x p) w (q x p)
+Roomy-wider n m d (of_kind f) w q = λ k. Roomy-wider n m d (f k) w (q k)
 Roomy-wider n m d (part s f) w q = (omega (arith, q.0), λ a. Roomy-wider n m d (f a) w (q.1 a))
 
 Around-wider : {n : ℕ} {s : Phrase} {d : ℕ} {K : List Frame} {us : List Token} → Around n s d K us → (m : ℕ) → n ≤ m → Around m s d K us
 Around-wider outermost m w = outermost
 Around-wider (left a) m w = left (Around-wider a m w)
 Around-wider (right a y t q fit) m w = right (Around-wider a m w) y t q (omega arith)
+Around-wider (plainly a) m w = plainly (Around-wider a m w)
+Around-wider (compare a) m w = compare (Around-wider a m w)
+Around-wider (against a y t q fit) m w = against (Around-wider a m w) y t q (omega arith)
 Around-wider {n = n} (inside {s = s} {f = f} {d = d} a b fit roomy) m w = inside (Around-wider a m w) b (omega arith) (λ e. Roomy-wider n m (d + own_height s) (f e) w (roomy e))
 
 -- what stands within n stands within more

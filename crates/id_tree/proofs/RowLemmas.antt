@@ -1,22 +1,42 @@
 -- What each production keeps, from which the machine's lemmas follow for all of them at once.
-use Rattle.std.proofs.Common.{◌≡◌, ℕ, ◌+◌, ◌≤◌, Some, None, List, refl, arith}
+use Rattle.std.proofs.Common.{◌≡◌, ℕ, ◌+◌, ◌≤◌, max, Some, None, List, refl, arith}
 use Rattle.id_text.specs.declared.token.Token.{Token}
 use Rattle.id_text.specs.declared.token.TokenKind.{TokenKind}
-use Rattle.id_text.specs.declared.token.TokenKind.TheVariants.{Sign}
-use Rattle.id_text.specs.declared.token.Symbol.TheVariants.{Plus, Minus}
+use Rattle.id_text.specs.declared.token.TokenKind.TheVariants.{Key, Sign}
+use Rattle.id_text.specs.declared.token.Keyword.TheVariants.{And, Or}
+use Rattle.id_text.specs.declared.token.Symbol.TheVariants.{Equal, NotEqual, Less, LessEqual, Greater, GreaterEqual, Plus, Minus}
 use Rattle.id_tree.specs.declared.tree.BinaryOp.{BinaryOp}
+use Rattle.id_tree.specs.declared.tree.Kind.{Kind}
 use Rattle.id_tree.specs.declared.parser.Level.{Level}
-use Rattle.id_tree.specs.declared.parser.Level.TheVariants.{Sum, Product}
+use Rattle.id_tree.specs.declared.parser.Level.TheVariants as level
 use Rattle.id_tree.specs.Tree.{Tree}
-use Rattle.id_tree.specs.Grammar.{Phrase, Definition, Grouped, Unary, Tail, kind_of, Rest, done, word, name, part, Opens, definition, negated, number, parens, by_name, by_block, by_binding, by_body, operand, operator_of, own_height, Derives, opened, single, grouped, Follows, ended, taken, named, given}
-use Rattle.id_tree.specs.Machine.{opening, room}
+use Rattle.id_tree.specs.Grammar.{Phrase, Definition, Parameters, MoreParameters, Grouped, Negation, Comparison, Unary, Tail, kind_of, Rest, done, word, name, of_kind, part, Opens, definition, no_parameters, first_parameter, last_parameter, next_parameter, denied, negated, number, by_true, by_false, parens, by_name, by_block, by_binding, by_body, operand, operator_of, comparison_of, own_height, Derives, opened, single, grouped, plain, alone, compared, Follows, ended, taken, named, kinded, given}
+use Rattle.id_tree.specs.Machine.{opening, least_height, room}
 use Rattle.id_tree.specs.Standing.{Roomy}
 
--- a kind is no operator of a level within the phrase
+-- a kind is no operator of a sum, nor of what is tighter
+abbrev pub QuietSum : TokenKind → Type 0
+QuietSum k = (operator_of level.Sum k ≡ None) × (operator_of level.Product k ≡ None)
+
+-- nor of a comparison
+abbrev pub QuietComparison : TokenKind → Type 0
+QuietComparison k = (comparison_of k ≡ None) × QuietSum k
+
+-- nor `and`
+abbrev pub QuietAnd : TokenKind → Type 0
+QuietAnd k = (operator_of level.And k ≡ None) × QuietComparison k
+
+-- a kind is no operator within the phrase
 abbrev pub Quiet : Phrase → TokenKind → Type 0
 Quiet Definition k = Unit {0}
-Quiet (Grouped Sum) k = (operator_of Sum k ≡ None) × (operator_of Product k ≡ None)
-Quiet (Grouped Product) k = operator_of Product k ≡ None
+Quiet Parameters k = Unit {0}
+Quiet MoreParameters k = Unit {0}
+Quiet (Grouped level.Or) k = (operator_of level.Or k ≡ None) × QuietAnd k
+Quiet (Grouped level.And) k = QuietAnd k
+Quiet (Grouped level.Sum) k = QuietSum k
+Quiet (Grouped level.Product) k = operator_of level.Product k ≡ None
+Quiet Negation k = QuietComparison k
+Quiet Comparison k = QuietComparison k
 Quiet Unary k = Unit {0}
 Quiet Tail k = Unit {0}
 
@@ -25,6 +45,7 @@ abbrev pub Ends : Phrase → Phrase → Rest → Type 0
 Ends s0 s (done e) = (k : TokenKind) → Quiet s0 k → Quiet s k
 Ends s0 s (word w r) = Quiet s (kind_of w)
 Ends s0 s (name f) = ⊥
+Ends s0 s (of_kind f) = ⊥
 Ends s0 s (part s' f) = ⊥
 
 -- no part is gone on by what stands behind it
@@ -32,6 +53,7 @@ abbrev pub Parts : Phrase → Rest → Type 0
 Parts s0 (done e) = Unit {0}
 Parts s0 (word w r) = Parts s0 r
 Parts s0 (name f) = (x : List ℕ) (p : ℕ) → Parts s0 (f x p)
+Parts s0 (of_kind f) = (k : Kind) → Parts s0 (f k)
 Parts s0 (part s f) = (a : Tree) → Ends s0 s (f a) × Parts s0 (f a)
 
 -- the parts have at least this height
@@ -39,60 +61,101 @@ abbrev pub Needs : ℕ → Rest → Type 0
 Needs m (done e) = m ≤ 0
 Needs m (word w r) = Needs m r
 Needs m (name f) = (x : List ℕ) (p : ℕ) → Needs m (f x p)
-Needs m (part s f) = m ≤ 1
+Needs m (of_kind f) = (k : Kind) → Needs m (f k)
+Needs m (part s f) = (k : ℕ) × (m ≤ max (least_height s) k) × ((a : Tree) → Needs k (f a))
 
--- what each production keeps: its parts end where they must, their heights and their room are as it says, and it has a height
+-- what each production keeps: its parts end where they must, their heights and their room are as it says, and it has the
+-- least height of its phrase
 pub record Valid (s : Phrase) (r : Rest) : Type 0 where
   pub parts : Parts s r
-  pub high : 1 ≤ room r + own_height s
+  pub high : least_height s ≤ room r + own_height s
   pub needs : Needs (room r) r
   pub roomy : (n d : ℕ) → d + room r ≤ n → Roomy n d r
 
 pub valid : {s : Phrase} {k : TokenKind} {p : ℕ} {r : Rest} → Opens s k p r → Valid s r
 valid definition = record {
-  parts = λ x p e. ((refl, refl), tt);
+  parts = λ x p a. (tt, λ k e. ((refl, (refl, (refl, (refl, refl)))), tt));
   high = omega arith;
-  needs = λ x p. omega arith;
-  roomy = λ n d h x p. (h, λ e. tt);
+  needs = λ x p. (1, omega arith, λ a k. (0, omega arith, λ e. omega arith));
+  roomy = λ n d h x p. (omega arith, λ a k. (h, λ e. tt));
+}
+valid no_parameters = record {
+  parts = tt;
+  high = omega arith;
+  needs = omega arith;
+  roomy = λ n d h. tt;
+}
+valid first_parameter = record {
+  parts = λ k a. (λ j q. tt, tt);
+  high = omega arith;
+  needs = λ k. (0, omega arith, λ a. omega arith);
+  roomy = λ n d h k. (h, λ a. tt);
+}
+valid last_parameter = record {
+  parts = tt;
+  high = omega arith;
+  needs = omega arith;
+  roomy = λ n d h. tt;
+}
+valid next_parameter = record {
+  parts = λ x p k a. (λ j q. tt, tt);
+  high = omega arith;
+  needs = λ x p k. (0, omega arith, λ a. omega arith);
+  roomy = λ n d h x p k. (h, λ a. tt);
+}
+valid denied = record {
+  parts = λ e. (λ k q. q, tt);
+  high = omega arith;
+  needs = (0, omega arith, λ e. omega arith);
+  roomy = λ n d h. (h, λ e. tt);
 }
 valid negated = record {
   parts = λ e. (λ k q. tt, tt);
   high = omega arith;
-  needs = omega arith;
+  needs = (0, omega arith, λ e. omega arith);
   roomy = λ n d h. (h, λ e. tt);
 }
 valid number = record { parts = tt; high = omega arith; needs = omega arith; roomy = λ n d h. tt }
+valid by_true = record { parts = tt; high = omega arith; needs = omega arith; roomy = λ n d h. tt }
+valid by_false = record { parts = tt; high = omega arith; needs = omega arith; roomy = λ n d h. tt }
 valid parens = record {
-  parts = λ e. ((refl, refl), tt);
+  parts = λ e. ((refl, (refl, (refl, (refl, refl)))), tt);
   high = omega arith;
-  needs = omega arith;
+  needs = (0, omega arith, λ e. omega arith);
   roomy = λ n d h. (h, λ e. tt);
 }
 valid by_name = record { parts = tt; high = omega arith; needs = omega arith; roomy = λ n d h. tt }
 valid by_block = record {
   parts = λ a. (λ k q. tt, tt);
   high = omega arith;
-  needs = omega arith;
+  needs = (0, omega arith, λ a. omega arith);
   roomy = λ n d h. (h, λ a. tt);
 }
 valid by_binding = record {
-  parts = λ e. ((refl, refl), λ a. (λ k q. tt, tt));
+  parts = λ e. ((refl, (refl, (refl, (refl, refl)))), λ a. (λ k q. tt, tt));
   high = omega arith;
-  needs = omega arith;
+  needs = (1, omega arith, λ e. (0, omega arith, λ a. omega arith));
   roomy = λ n d h. (h, λ e. (h, λ a. tt));
 }
 valid by_body = record {
-  parts = λ e. ((refl, refl), tt);
+  parts = λ e. ((refl, (refl, (refl, (refl, refl)))), tt);
   high = omega arith;
-  needs = omega arith;
+  needs = (0, omega arith, λ e. omega arith);
   roomy = λ n d h. (h, λ e. tt);
 }
 
 -- the machine finds each production
 pub opening-from_opens : {s : Phrase} {k : TokenKind} {p : ℕ} {r : Rest} (o : Opens s k p r) → opening s k p ≡ Some (record { rest = r; opens = o })
 opening-from_opens definition = refl
+opening-from_opens no_parameters = refl
+opening-from_opens first_parameter = refl
+opening-from_opens last_parameter = refl
+opening-from_opens next_parameter = refl
+opening-from_opens denied = refl
 opening-from_opens negated = refl
 opening-from_opens number = refl
+opening-from_opens by_true = refl
+opening-from_opens by_false = refl
 opening-from_opens parens = refl
 opening-from_opens by_name = refl
 opening-from_opens by_block = refl
@@ -101,21 +164,57 @@ opening-from_opens by_body = refl
 
 -- an operator of a level is none of a tighter one
 pub Quiet-operator : (l : Level) (k : TokenKind) (o : BinaryOp) → operator_of l k ≡ Some o → Quiet (operand l) k
-Quiet-operator Product k o e = tt
-Quiet-operator Sum (Sign Plus) o e = refl
-Quiet-operator Sum (Sign Minus) o e = refl
-Quiet-operator Sum _ o e = cc
+Quiet-operator level.Product k o e = tt
+Quiet-operator level.Sum (Sign Plus) o e = refl
+Quiet-operator level.Sum (Sign Minus) o e = refl
+Quiet-operator level.Sum _ o e = cc
+Quiet-operator level.And (Key And) o e = (refl, (refl, refl))
+Quiet-operator level.And _ o e = cc
+Quiet-operator level.Or (Key Or) o e = (refl, (refl, (refl, refl)))
+Quiet-operator level.Or _ o e = cc
+
+-- a comparison is no operator of a sum, nor of a tighter level
+pub Quiet-comparison : (k : TokenKind) (o : BinaryOp) → comparison_of k ≡ Some o → QuietSum k
+Quiet-comparison (Sign Equal) o e = (refl, refl)
+Quiet-comparison (Sign NotEqual) o e = (refl, refl)
+Quiet-comparison (Sign Less) o e = (refl, refl)
+Quiet-comparison (Sign LessEqual) o e = (refl, refl)
+Quiet-comparison (Sign Greater) o e = (refl, refl)
+Quiet-comparison (Sign GreaterEqual) o e = (refl, refl)
+Quiet-comparison _ o e = cc
+
+-- no phrase has a least height above 1
+pub least-most : (s : Phrase) → least_height s ≤ 1
+least-most Definition = omega arith
+least-most Parameters = omega arith
+least-most MoreParameters = omega arith
+least-most (Grouped l) = omega arith
+least-most Negation = omega arith
+least-most Comparison = omega arith
+least-most Unary = omega arith
+least-most Tail = omega arith
+
+-- the operands of a level have a height
+pub operand-least : (l : Level) → 1 ≤ least_height (operand l)
+operand-least level.Or = omega arith
+operand-least level.And = omega arith
+operand-least level.Sum = omega arith
+operand-least level.Product = omega arith
 
 mutual
-  -- no phrase has height 0
-  pub Derives-height : {s : Phrase} {ts : List Token} {e : Tree} {h : ℕ} → Derives s ts e h → 1 ≤ h
+  -- each phrase has its least height
+  pub Derives-height : {s : Phrase} {ts : List Token} {e : Tree} {h : ℕ} → Derives s ts e h → least_height s ≤ h
   Derives-height (opened {r = r} o f) = omega (arith, (valid o).high, Follows-height f (room r) (valid o).needs)
-  Derives-height (single d) = Derives-height d
+  Derives-height (single {l = l} d) = omega (arith, operand-least l, Derives-height d)
   Derives-height (grouped a t q b) = omega arith
+  Derives-height (plain d) = Derives-height d
+  Derives-height (alone d) = Derives-height d
+  Derives-height (compared a t q b) = omega arith
 
   -- the parts have the height that they need
   pub Follows-height : {r : Rest} {ts : List Token} {e : Tree} {h : ℕ} → Follows r ts e h → (m : ℕ) → Needs m r → m ≤ h
   Follows-height ended m n = n
   Follows-height (taken q f) m n = Follows-height f m n
   Follows-height (named q f) m n = Follows-height f m (n _ _)
-  Follows-height (given {m = i} {n = j} d f) m n = omega (arith, Derives-height d)
+  Follows-height (kinded {k = k} q f) m n = Follows-height f m (n k)
+  Follows-height (given {a = a} {m = i} {n = j} d f) m n = omega (arith, n.1, Derives-height d, Follows-height f n.0 (n.2 a))

@@ -8,11 +8,12 @@ use Rattle.id_text.specs.declared.token.Token.{Token}
 use Rattle.id_text.specs.declared.token.TokenKind.{TokenKind}
 use Rattle.id_text.specs.declared.token.TokenKind.TheVariants.{Name, Key, Sign}
 use Rattle.id_tree.specs.declared.parser.Level.{Level}
-use Rattle.id_tree.specs.declared.parser.Level.TheVariants.{Sum, Product}
+use Rattle.id_tree.specs.declared.parser.Level.TheVariants as level
+use Rattle.id_tree.specs.declared.tree.Kind.{Kind}
 use Rattle.id_tree.specs.declared.tree.BinaryOp.{BinaryOp}
 use Rattle.id_tree.specs.Tree.{Tree, binary}
-use Rattle.id_tree.specs.Grammar.{Phrase, Definition, Grouped, Unary, Tail, Word, the_key, the_sign, kind_of, Rest, done, word, name, part, Opens, operand, operator_of, own_height}
-use Rattle.id_tree.specs.Machine.{room, Frame, Left, Right, Inside, State, Want, Have, Next, Move, is_word, takes, Refused, run}
+use Rattle.id_tree.specs.Grammar.{Phrase, Definition, Parameters, MoreParameters, Grouped, Negation, Comparison, Unary, Tail, Word, the_key, the_sign, kind_of, Rest, done, word, name, of_kind, part, kind_named, Opens, operand, operator_of, comparison_of, own_height}
+use Rattle.id_tree.specs.Machine.{opening, room, Frame, Left, Right, Compare, Against, Inside, State, Want, Have, Next, Move, is_word, takes, Refused, run}
 use Rattle.id_tree.proofs.RowLemmas.{opening-from_opens}
 
 -- the word test is true of the word alone
@@ -50,22 +51,38 @@ module _ (n : ℕ) (t : Token) (ts : List Token) where
   pub run-name : (x : List ℕ) (f : List ℕ → ℕ → Rest) (h d c : ℕ) (K : List Frame) → t.kind ≡ Name x → run n (t ∷ ts) (Next (name f) h d c K) ≡ run n ts (Next (f x t.start) h d c K)
   run-name x f h d c K q = run-step (Next (name f) h d c K) (record { need = 0; next = Next (f x t.start) h d c K }) (rw q refl) zero-le
 
+  -- a kind
+  pub run-kind : (k : Kind) (f : Kind → Rest) (h d c : ℕ) (K : List Frame) → kind_named t.kind ≡ Some k → run n (t ∷ ts) (Next (of_kind f) h d c K) ≡ run n ts (Next (f k) h d c K)
+  run-kind k f h d c K q = run-step (Next (of_kind f) h d c K) (record { need = 0; next = Next (f k) h d c K }) (rw q refl) zero-le
+
   -- a token that begins a production
   pub run-opens : (s : Phrase) (r : Rest) (d : ℕ) (K : List Frame) → Opens s t.kind t.start r → d + own_height s + room r ≤ n → run n (t ∷ ts) (Want s d K) ≡ run n ts (Next r 0 (d + own_height s) (own_height s) K)
   run-opens Definition r d K o h = run-step (Want Definition d K) _ (rw (opening-from_opens o) refl) h
+  run-opens Parameters r d K o h = run-step (Want Parameters d K) _ (rw (opening-from_opens o) refl) h
+  run-opens MoreParameters r d K o h = run-step (Want MoreParameters d K) _ (rw (opening-from_opens o) refl) h
+  run-opens Negation r d K o h = run-step (Want Negation d K) _ (rw (opening-from_opens o) refl) h
   run-opens Unary r d K o h = run-step (Want Unary d K) _ (rw (opening-from_opens o) refl) h
   run-opens Tail r d K o h = run-step (Want Tail d K) _ (rw (opening-from_opens o) refl) h
   run-opens (Grouped l) r d K o h = elim o [ ]
+  run-opens Comparison r d K o h = elim o [ ]
 
   pub run-opens-deep : (s : Phrase) (r : Rest) (d : ℕ) (K : List Frame) → Opens s t.kind t.start r → n < d + own_height s + room r → run n (t ∷ ts) (Want s d K) ≡ Refused true t.start
   run-opens-deep Definition r d K o h = run-deep (Want Definition d K) (record { need = d + 0 + room r; next = Next r 0 (d + 0) 0 K }) (rw (opening-from_opens o) refl) h
+  run-opens-deep Parameters r d K o h = run-deep (Want Parameters d K) (record { need = d + 0 + room r; next = Next r 0 (d + 0) 0 K }) (rw (opening-from_opens o) refl) h
+  run-opens-deep MoreParameters r d K o h = run-deep (Want MoreParameters d K) (record { need = d + 0 + room r; next = Next r 0 (d + 0) 0 K }) (rw (opening-from_opens o) refl) h
+  run-opens-deep Negation r d K o h = run-deep (Want Negation d K) (record { need = d + 1 + room r; next = Next r 0 (d + 1) 1 K }) (rw (opening-from_opens o) refl) h
   run-opens-deep Unary r d K o h = run-deep (Want Unary d K) (record { need = d + 1 + room r; next = Next r 0 (d + 1) 1 K }) (rw (opening-from_opens o) refl) h
   run-opens-deep Tail r d K o h = run-deep (Want Tail d K) (record { need = d + 0 + room r; next = Next r 0 (d + 0) 0 K }) (rw (opening-from_opens o) refl) h
   run-opens-deep (Grouped l) r d K o h = elim o [ ]
+  run-opens-deep Comparison r d K o h = elim o [ ]
 
   -- an operator of a level
   pub run-operator : (l : Level) (o : BinaryOp) (a : Tree) (m d : ℕ) (K : List Frame) → operator_of l t.kind ≡ Some o → d + m + 1 ≤ n → run n (t ∷ ts) (Have a m (Left l d ∷ K)) ≡ run n ts (Want (operand l) (d + 1) (Right l o a m t.start d ∷ K))
   run-operator l o a m d K q h = run-step (Have a m (Left l d ∷ K)) (record { need = d + m + 1; next = Want (operand l) (d + 1) (Right l o a m t.start d ∷ K) }) (rw q refl) h
+
+  -- the operator of a comparison
+  pub run-matches : (o : BinaryOp) (a : Tree) (m d : ℕ) (K : List Frame) → comparison_of t.kind ≡ Some o → d + m + 1 ≤ n → run n (t ∷ ts) (Have a m (Compare d ∷ K)) ≡ run n ts (Want (Grouped level.Sum) (d + 1) (Against o a m t.start d ∷ K))
+  run-matches o a m d K q h = run-step (Have a m (Compare d ∷ K)) (record { need = d + m + 1; next = Want (Grouped level.Sum) (d + 1) (Against o a m t.start d ∷ K) }) (rw q refl) h
 
 -- What takes no token.
 pub run-done : (n : ℕ) (ts : List Token) (e : Tree) (h d c : ℕ) (K : List Frame) → run n ts (Next (done e) h d c K) ≡ run n ts (Have e (h + c) K)
@@ -91,8 +108,31 @@ run-right n (t ∷ ts) b k l o a m p d K = refl
 pub run-level : (n : ℕ) (ts : List Token) (l : Level) (d : ℕ) (K : List Frame) → run n ts (Want (Grouped l) d K) ≡ run n ts (Want (operand l) d (Left l d ∷ K))
 unfolding run
 run-level n [] l d K = refl
-run-level n (t ∷ ts) Sum d K = refl
-run-level n (t ∷ ts) Product d K = refl
+run-level n (t ∷ ts) level.Or d K = refl
+run-level n (t ∷ ts) level.And d K = refl
+run-level n (t ∷ ts) level.Sum d K = refl
+run-level n (t ∷ ts) level.Product d K = refl
+
+pub run-against : (n : ℕ) (ts : List Token) (b : Tree) (k : ℕ) (o : BinaryOp) (a : Tree) (m p d : ℕ) (K : List Frame) → run n ts (Have b k (Against o a m p d ∷ K)) ≡ run n ts (Have (binary o a b p) (max m k + 1) K)
+unfolding run
+run-against n [] b k o a m p d K = refl
+run-against n (t ∷ ts) b k o a m p d K = refl
+
+pub run-compare : (n : ℕ) (ts : List Token) (d : ℕ) (K : List Frame) → run n ts (Want Comparison d K) ≡ run n ts (Want (Grouped level.Sum) d (Compare d ∷ K))
+unfolding run
+run-compare n [] d K = refl
+run-compare n (t ∷ ts) d K = refl
+
+-- no `not` begins the tokens
+abbrev pub Plain : List Token → Type 0
+Plain [] = Unit {0}
+Plain (t ∷ ts) = opening Negation t.kind t.start ≡ None
+
+-- without `not` a comparison is wanted
+pub run-plain : (n : ℕ) (ts : List Token) (d : ℕ) (K : List Frame) → Plain ts → run n ts (Want Negation d K) ≡ run n ts (Want Comparison d K)
+unfolding run
+run-plain n [] d K q = refl
+run-plain n (t ∷ ts) d K q = rw q refl
 
 -- the first token's kind is so
 abbrev pub First : (TokenKind → Type 0) → List Token → Type 0
@@ -104,3 +144,9 @@ pub run-left : (n : ℕ) (ts : List Token) (l : Level) (e : Tree) (h d : ℕ) (K
 unfolding run
 run-left n [] l e h d K q = refl
 run-left n (t ∷ ts) l e h d K q = rw q refl
+
+-- a comparison ends where no operator of it stands
+pub run-alone : (n : ℕ) (ts : List Token) (e : Tree) (h d : ℕ) (K : List Frame) → First (λ k. comparison_of k ≡ None) ts → run n ts (Have e h (Compare d ∷ K)) ≡ run n ts (Have e h K)
+unfolding run
+run-alone n [] e h d K q = refl
+run-alone n (t ∷ ts) e h d K q = rw q refl

@@ -4,12 +4,12 @@ use Rattle.id_text.specs.declared.token.Token.{Token}
 use Rattle.id_text.specs.declared.token.TokenKind.{TokenKind}
 use Rattle.id_text.specs.declared.token.TokenKind.TheVariants.{Name, End}
 use Rattle.id_tree.specs.declared.parser.Level.{Level}
-use Rattle.id_tree.specs.declared.parser.Level.TheVariants.{Sum, Product}
+use Rattle.id_tree.specs.declared.parser.Level.TheVariants as level
 use Rattle.id_tree.specs.Tree.{Tree, binary, none, more}
-use Rattle.id_tree.specs.Grammar.{Phrase, Definition, Grouped, Unary, Tail, Rest, done, word, name, part, operator_of, own_height, Derives, opened, single, grouped, ended, taken, named, given, Program, empty, single_def}
-use Rattle.id_tree.specs.Machine.{opening, Move, pick, is_word, name_in, ends, enters, wants, operates, nexts, closes, takes, Frame, State}
-use Rattle.id_tree.specs.Standing.{Begins, Roomy, Around, outermost, left, right, inside, Stands, begun, wanting, having, within, finished}
-use Rattle.id_tree.proofs.RowLemmas.{valid, Derives-height}
+use Rattle.id_tree.specs.Grammar.{Phrase, Definition, Parameters, MoreParameters, Grouped, Negation, Comparison, Unary, Tail, Rest, done, word, name, of_kind, part, kind_named, operand, operator_of, comparison_of, own_height, Derives, opened, single, grouped, plain, alone, compared, ended, taken, named, kinded, given, Program, empty, single_def}
+use Rattle.id_tree.specs.Machine.{opening, Move, pick, is_word, name_in, ends, enters, sums, negates, wants, operates, matches, nexts, closes, takes, Frame, Compare, State}
+use Rattle.id_tree.specs.Standing.{Begins, Roomy, Around, outermost, left, right, plainly, compare, against, inside, Stands, begun, wanting, having, within, finished}
+use Rattle.id_tree.proofs.RowLemmas.{valid, least-most, Derives-height}
 use Rattle.id_tree.proofs.RunLemmas.{same-is_word}
 
 -- a move within n leads on
@@ -46,22 +46,39 @@ name-from_in (Name y) x q = cc
 name-from_in _ x q = cc
 
 module _ (n : ℕ) (t : Token) where
-  -- a token begins a production
-  Moves-enters : {s : Phrase} {d : ℕ} {K : List Frame} {us : List Token} → Around n s d K us → Moves n (us ++ t ∷ []) (enters t s d K)
-  Moves-enters {s = s} {d = d} {K = K} {us = us} a = Moves-pick n (us ++ t ∷ []) (opening s t.kind t.start) _ None (λ row q fits.
-      within a (record { completes = λ ts e m f. Derives-of (omega arith) (opened row.opens f) }) (omega arith) ((valid row.opens).roomy n (d + own_height s) fits)) tt
+  -- a token begins a production, or else moves
+  Moves-enters : {s : Phrase} {d : ℕ} {K : List Frame} {us : List Token} (other : Option Move) → Around n s d K us → Moves n (us ++ t ∷ []) other → Moves n (us ++ t ∷ []) (enters t s d K other)
+  Moves-enters {s = s} {d = d} {K = K} {us = us} other a other_moves = Moves-pick n (us ++ t ∷ []) (opening s t.kind t.start) _ other (λ row q fits.
+      within a (record { completes = λ ts e m f. Derives-of (omega arith) (opened row.opens f) }) (omega arith) ((valid row.opens).roomy n (d + own_height s) fits)) other_moves
+
+  Moves-sums : {d : ℕ} {K : List Frame} {us : List Token} → Around n (Grouped level.Sum) d K us → Moves n (us ++ t ∷ []) (sums t d K)
+  Moves-sums a = Moves-enters None (left (left a)) tt
+
+  Moves-negates : {d : ℕ} {K : List Frame} {us : List Token} → Around n Negation d K us → Moves n (us ++ t ∷ []) (negates t d K)
+  Moves-negates {d = d} {K = K} a = Moves-enters (sums t d (Compare d ∷ K)) a (Moves-sums (compare (plainly a)))
 
   Moves-wants : {s : Phrase} {d : ℕ} {K : List Frame} {us : List Token} → Around n s d K us → Moves n (us ++ t ∷ []) (wants t s d K)
-  Moves-wants {s = Definition} a = Moves-enters a
-  Moves-wants {s = Unary} a = Moves-enters a
-  Moves-wants {s = Tail} a = Moves-enters a
-  Moves-wants {s = Grouped Product} a = Moves-enters (left a)
-  Moves-wants {s = Grouped Sum} a = Moves-enters (left (left a))
+  Moves-wants {s = Definition} a = Moves-enters None a tt
+  Moves-wants {s = Parameters} a = Moves-enters None a tt
+  Moves-wants {s = MoreParameters} a = Moves-enters None a tt
+  Moves-wants {s = Unary} a = Moves-enters None a tt
+  Moves-wants {s = Tail} a = Moves-enters None a tt
+  Moves-wants {s = Negation} a = Moves-negates a
+  Moves-wants {s = Comparison} a = Moves-sums (compare a)
+  Moves-wants {s = Grouped level.Product} a = Moves-enters None (left a) tt
+  Moves-wants {s = Grouped level.Sum} a = Moves-sums a
+  Moves-wants {s = Grouped level.And} a = Moves-negates (left a)
+  Moves-wants {s = Grouped level.Or} a = Moves-negates (left (left a))
 
   -- an operator of a level, or what the level's end makes
   Moves-operates : {l : Level} {d h : ℕ} {K : List Frame} {us vs : List Token} {e : Tree} (other : Option Move) → Around n (Grouped l) d K us → Derives (Grouped l) vs e h → Moves n ((us ++ vs) ++ t ∷ []) other → Moves n ((us ++ vs) ++ t ∷ []) (operates t e h l d K other)
   Moves-operates {l = l} {d = d} {h = h} {K = K} {us = us} {vs = vs} {e = e} other a x other_moves = Moves-pick n _ (operator_of l t.kind) _ other (λ o q fits.
-      Stands-at (sym (append_assoc us vs (t ∷ []))) (wanting (right a x t q fits) (omega (arith, Derives-height x)))) other_moves
+      Stands-at (sym (append_assoc us vs (t ∷ []))) (wanting (right a x t q fits) (omega (arith, least-most (operand l), Derives-height x)))) other_moves
+
+  -- the operator of a comparison, or what the comparison's end makes
+  Moves-matches : {d h : ℕ} {K : List Frame} {us vs : List Token} {e : Tree} (other : Option Move) → Around n Comparison d K us → Derives (Grouped level.Sum) vs e h → Moves n ((us ++ vs) ++ t ∷ []) other → Moves n ((us ++ vs) ++ t ∷ []) (matches t e h d K other)
+  Moves-matches {d = d} {h = h} {K = K} {us = us} {vs = vs} {e = e} other a x other_moves = Moves-pick n _ (comparison_of t.kind) _ other (λ o q fits.
+      Stands-at (sym (append_assoc us vs (t ∷ []))) (wanting (against a x t q fits) (omega (arith, Derives-height x)))) other_moves
 
   Moves-ends : (us : List Token) (e : Tree) (h : ℕ) (k : TokenKind) → (k ≡ End → Program us e h) → h ≤ n → Moves n us (ends k e)
   Moves-ends us e h End p w = λ fits. finished (p refl) w
@@ -80,6 +97,9 @@ module _ (n : ℕ) (t : Token) where
   Moves-nexts {s = s} {us = us} {vs = vs} (name g) h close a b w roomy closing = Moves-pick n _ (name_in t.kind) _ None (λ x q fits.
       Stands-at (sym (append_assoc us vs (t ∷ [])))
       (within a (record { completes = λ ts e m f. Derives-at (sym (snoc-at vs ts t)) (b.completes (t ∷ ts) e m (named (name-from_in t.kind x q) f)) }) w (roomy x t.start))) tt
+  Moves-nexts {s = s} {us = us} {vs = vs} (of_kind g) h close a b w roomy closing = Moves-pick n _ (kind_named t.kind) _ None (λ k q fits.
+      Stands-at (sym (append_assoc us vs (t ∷ [])))
+      (within a (record { completes = λ ts e m f. Derives-at (sym (snoc-at vs ts t)) (b.completes (t ∷ ts) e m (kinded q f)) }) w (roomy k))) tt
   Moves-nexts (part i g) h close a b w roomy closing = Moves-wants (inside a b w roomy.1)
 
   -- a token behind a part
@@ -92,6 +112,12 @@ module _ (n : ℕ) (t : Token) where
       Moves-at n (operates t (binary o b e i.start) (max m k + 1) l d K (closes t (binary o b e i.start) (max m k + 1) K))
       (ap (λ xs. xs ++ t ∷ []) (ap (λ xs. us ++ xs) (sym (snoc-at vs ws i)) ∙ sym (append_assoc us (vs ++ i ∷ []) ws)))
       (Moves-operates (closes t (binary o b e i.start) (max m k + 1) K) a whole (Moves-closes a (vs ++ i ∷ ws) (binary o b e i.start) (max m k + 1) whole (omega arith)))
+  Moves-closes (plainly a) vs e h x w = Moves-closes a vs e h (plain x) w
+  Moves-closes (compare {d = d} {K = K} a) vs e h x w = Moves-matches (closes t e h K) a x (Moves-closes a vs e h (alone x) w)
+  Moves-closes (against {d = d} {m = m} {K = K} {us = us} {vs = vs} {o = o} {a = b} a y i q fit) ws e k x w =
+      Moves-at n (closes t (binary o b e i.start) (max m k + 1) K)
+      (ap (λ xs. xs ++ t ∷ []) (ap (λ xs. us ++ xs) (sym (snoc-at vs ws i)) ∙ sym (append_assoc us (vs ++ i ∷ []) ws)))
+      (Moves-closes a (vs ++ i ∷ ws) (binary o b e i.start) (max m k + 1) (compared y i q x) (omega arith))
   Moves-closes (inside {s = s} {i = i} {f = f} {d = d} {h = h} {K = K} {us = us} {vs = vs} a b fit roomy) ws e k x w =
       Moves-at n (nexts t (f e) (max h k) (d + own_height s) (own_height s) K (λ u j. closes t u j K))
       (ap (λ xs. xs ++ t ∷ []) (sym (append_assoc us vs ws)))

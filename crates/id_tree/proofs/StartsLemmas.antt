@@ -4,8 +4,9 @@ use Rattle.std.proofs.lemmas.List.Elements.{All-head, All-tail}
 use Rattle.id_text.specs.Tokens.{IsWithin}
 use Rattle.id_text.specs.declared.token.Token.{Token}
 use Rattle.id_text.specs.declared.token.TokenKind.{TokenKind}
-use Rattle.id_tree.specs.Tree.{Tree, binding, none, more}
-use Rattle.id_tree.specs.Grammar.{Phrase, Rest, done, word, name, part, with_statement, block_of, Opens, definition, negated, number, parens, by_name, by_block, by_binding, by_body, Derives, opened, single, grouped, Follows, ended, taken, named, given, Program, empty, single_def}
+use Rattle.id_tree.specs.declared.tree.Kind.{Kind}
+use Rattle.id_tree.specs.Tree.{Tree, binding, param, none, more}
+use Rattle.id_tree.specs.Grammar.{Phrase, Rest, done, word, name, of_kind, part, with_statement, block_of, Opens, definition, no_parameters, first_parameter, last_parameter, next_parameter, denied, negated, number, by_true, by_false, parens, by_name, by_block, by_binding, by_body, Derives, opened, single, grouped, plain, alone, compared, Follows, ended, taken, named, kinded, given, Program, empty, single_def}
 use Rattle.id_tree.specs.Distinct.{HasPlace}
 use Rattle.id_tree.specs.Starts.{StartsAt, PlacesAreStarts}
 
@@ -23,6 +24,7 @@ abbrev Fills : (ℕ → Type 0) → Rest → Type 0
 Fills P (done e) = AllPlaced P e
 Fills P (word w r) = Fills P r
 Fills P (name f) = (x : List ℕ) (p : ℕ) → P p → Fills P (f x p)
+Fills P (of_kind f) = (k : Kind) → Fills P (f k)
 Fills P (part s f) = (a : Tree) → AllPlaced P a → Fills P (f a)
 
 module _ (P : ℕ → Type 0) where
@@ -38,6 +40,11 @@ module _ (P : ℕ → Type 0) where
   of_part a g h q (inl i) = at_own i g
   of_part a g h q (inr i) = h q i
 
+  of_parts : {p : ℕ} (a b : Tree) → P p → AllPlaced P a → AllPlaced P b → (q : ℕ) → (p ≡ q) ⊎ (HasPlace a q ⊎ HasPlace b q) → P q
+  of_parts a b u v w q (inl i) = at_own i u
+  of_parts a b u v w q (inr (inl i)) = v q i
+  of_parts a b u v w q (inr (inr i)) = w q i
+
   of_block : {p : ℕ} (a : Tree) → P p → AllPlaced P a → AllPlaced P (block_of a p)
   of_block (more a e) g h q (inl i) = at_own i g
   of_block (more a e) g h q (inr i) = h q i
@@ -50,9 +57,16 @@ module _ (P : ℕ → Type 0) where
   of_statement s a g h q i = absurd i
 
   Opens-fills : {s : Phrase} {k : TokenKind} {p : ℕ} {r : Rest} → Opens s k p r → P p → Fills P r
-  Opens-fills definition g = λ x q i e h. of_part e i h
+  Opens-fills definition g = λ x q i a h k e j. of_parts a e i h j
+  Opens-fills no_parameters g = λ q h. absurd h
+  Opens-fills (first_parameter {x = x} {p = p}) g = λ k a h. of_both (param x k p) a (λ q i. at_own i g) h
+  Opens-fills last_parameter g = λ q h. absurd h
+  Opens-fills next_parameter g = λ x p i k a h. of_both (param x k p) a (λ q j. at_own j i) h
+  Opens-fills denied g = λ e h. of_part e g h
   Opens-fills negated g = λ e h. of_part e g h
   Opens-fills number g = λ q i. at_own i g
+  Opens-fills by_true g = λ q i. at_own i g
+  Opens-fills by_false g = λ q i. at_own i g
   Opens-fills parens g = λ e h. h
   Opens-fills by_name g = λ q i. at_own i g
   Opens-fills by_block g = λ a h. of_block a g h
@@ -71,18 +85,18 @@ module _ (P : ℕ → Type 0) where
     Derives-placed : {s : Phrase} {ts : List Token} {e : Tree} {h : ℕ} → Derives s ts e h → AllStart P ts → AllPlaced P e
     Derives-placed (opened o f) g = Follows-placed f (Opens-fills o g.0) g.1
     Derives-placed (single d) g = Derives-placed d g
-    Derives-placed (grouped {us = us} {vs = vs} {a = a} {b = b} x t i y) g = of_operands
+    Derives-placed (grouped {us = us} {vs = vs} {a = a} {b = b} x t i y) g = of_parts a b
         (AllStart-back us (t ∷ vs) g).0 (Derives-placed x (AllStart-front us (t ∷ vs) g)) (Derives-placed y (AllStart-back us (t ∷ vs) g).1)
-      where
-        of_operands : P t.start → AllPlaced P a → AllPlaced P b → (q : ℕ) → (t.start ≡ q) ⊎ (HasPlace a q ⊎ HasPlace b q) → P q
-        of_operands u v w q (inl i) = at_own i u
-        of_operands u v w q (inr (inl i)) = v q i
-        of_operands u v w q (inr (inr i)) = w q i
+    Derives-placed (plain d) g = Derives-placed d g
+    Derives-placed (alone d) g = Derives-placed d g
+    Derives-placed (compared {us = us} {vs = vs} {a = a} {b = b} x t i y) g = of_parts a b
+        (AllStart-back us (t ∷ vs) g).0 (Derives-placed x (AllStart-front us (t ∷ vs) g)) (Derives-placed y (AllStart-back us (t ∷ vs) g).1)
 
     Follows-placed : {r : Rest} {ts : List Token} {e : Tree} {h : ℕ} → Follows r ts e h → Fills P r → AllStart P ts → AllPlaced P e
     Follows-placed ended k g = k
     Follows-placed (taken i f) k g = Follows-placed f k g.1
     Follows-placed (named {t = t} {x = x} i f) k g = Follows-placed f (k x t.start g.0) g.1
+    Follows-placed (kinded {k = j} i f) k g = Follows-placed f (k j) g.1
     Follows-placed (given {us = us} {ts = ts} {a = a} d f) k g = Follows-placed f (k a (Derives-placed d (AllStart-front us ts g))) (AllStart-back us ts g)
 
   Program-placed : {ts : List Token} {e : Tree} {h : ℕ} → Program ts e h → AllStart P ts → AllPlaced P e

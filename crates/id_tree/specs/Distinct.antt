@@ -1,6 +1,6 @@
 -- Places of things: no two things of a tree have one (docs/LANGUAGE.md, "Place").
 use Rattle.std.specs.Prelude.{◌≡◌, ◌⊎◌, ℕ}
-use Rattle.id_tree.specs.Tree.{Tree, literal, unary, binary, name, block, binding, define, none, more}
+use Rattle.id_tree.specs.Tree.{Tree, literal, unary, binary, name, block, binding, param, define, none, more}
 
 -- a thing of the tree has this place
 abbrev pub HasPlace : Tree → ℕ → Type 0
@@ -10,7 +10,8 @@ HasPlace (binary o a b p) q = (p ≡ q) ⊎ (HasPlace a q ⊎ HasPlace b q)
 HasPlace (name x p) q = p ≡ q
 HasPlace (block a b p) q = (p ≡ q) ⊎ (HasPlace a q ⊎ HasPlace b q)
 HasPlace (binding x a p) q = (p ≡ q) ⊎ HasPlace a q
-HasPlace (define x k a p) q = (p ≡ q) ⊎ HasPlace a q
+HasPlace (param x k p) q = p ≡ q
+HasPlace (define x a k b p) q = (p ≡ q) ⊎ (HasPlace a q ⊎ HasPlace b q)
 HasPlace none q = ⊥
 HasPlace (more a b) q = HasPlace a q ⊎ HasPlace b q
 
@@ -26,6 +27,7 @@ Distinct (binary o a b p) = (¬ HasPlace a p) × (¬ HasPlace b p) × Apart a b 
 Distinct (name x p) = Unit {0}
 Distinct (block a b p) = (¬ HasPlace a p) × (¬ HasPlace b p) × Apart a b × Distinct a × Distinct b
 Distinct (binding x a p) = (¬ HasPlace a p) × Distinct a
-Distinct (define x k a p) = (¬ HasPlace a p) × Distinct a
+Distinct (param x k p) = Unit {0}
+Distinct (define x a k b p) = (¬ HasPlace a p) × (¬ HasPlace b p) × Apart a b × Distinct a × Distinct b
 Distinct none = Unit {0}
 Distinct (more a b) = Apart a b × Distinct a × Distinct b

@@ -1,29 +1,39 @@
 -- Which tokens make which tree (docs/LANGUAGE.md, "Grammar").
-use Rattle.std.specs.Prelude.{◌≡◌, ◌+◌, ℕ, ℤ, Option, Some, None, List, [], ◌∷◌, ◌++◌, max}
+use Rattle.std.specs.Prelude.{◌≡◌, ◌+◌, ℕ, ℤ, true, false, Option, Some, None, List, [], ◌∷◌, ◌++◌, max}
 use Rattle.id_text.specs.declared.token.Token.{Token}
 use Rattle.id_text.specs.declared.token.TokenKind.{TokenKind}
 use Rattle.id_text.specs.declared.token.TokenKind.TheVariants.{Name, Number, Key, Sign, End}
 use Rattle.id_text.specs.declared.token.Keyword.{Keyword}
-use Rattle.id_text.specs.declared.token.Keyword.TheVariants.{Def, In, Int, Div, Rem}
+use Rattle.id_text.specs.declared.token.Keyword.TheVariants.{Def, In, True, False, Int, Bool, Array, Div, Rem, And, Or, Not}
 use Rattle.id_text.specs.declared.token.Symbol.{Symbol}
-use Rattle.id_text.specs.declared.token.Symbol.TheVariants.{LeftParen, RightParen, LeftBrace, RightBrace, Semicolon, Colon, Becomes, Plus, Minus, Star}
+use Rattle.id_text.specs.declared.token.Symbol.TheVariants.{LeftParen, RightParen, LeftBrace, RightBrace, Comma, Semicolon, Colon, Becomes, Equal, NotEqual, Less, LessEqual, Greater, GreaterEqual, Plus, Minus, Star}
+use Rattle.id_tree.specs.declared.tree.Kind.{Kind}
 use Rattle.id_tree.specs.declared.tree.Kind.TheVariants as kind
 use Rattle.id_tree.specs.declared.tree.Constant.TheVariants as constant
-use Rattle.id_tree.specs.declared.tree.UnaryOp.TheVariants.{Neg}
+use Rattle.id_tree.specs.declared.tree.UnaryOp.TheVariants as unary_op
 use Rattle.id_tree.specs.declared.tree.BinaryOp.{BinaryOp}
 use Rattle.id_tree.specs.declared.tree.BinaryOp.TheVariants as op
 use Rattle.id_tree.specs.declared.parser.Level.{Level}
-use Rattle.id_tree.specs.declared.parser.Level.TheVariants.{Sum, Product}
+use Rattle.id_tree.specs.declared.parser.Level.TheVariants as level
 use Rattle.id_tree.specs.Tree as tree
-use Rattle.id_tree.specs.Tree.{Tree, literal, unary, block, binding, define, binary, none, more}
+use Rattle.id_tree.specs.Tree.{Tree, literal, unary, block, binding, param, define, binary, none, more}
 
--- What a rule is for: a definition, a left-grouped level of operators, an operand of the tightest,
--- or the tail of a block, which stands behind its brace and behind each of its statements.
+-- What a rule is for: a definition; its parameters behind the bracket, and more of them behind one; a left-grouped level
+-- of operators; what stands behind `not` or without it; a comparison; an operand of the tightest level; or the tail of a
+-- block, which stands behind its brace and behind each of its statements.
 pub data Phrase : Type 0 where
   Definition : Phrase
+  Parameters : Phrase
+  MoreParameters : Phrase
   Grouped : Level → Phrase
+  Negation : Phrase
+  Comparison : Phrase
   Unary : Phrase
   Tail : Phrase
+
+-- an expression of any form
+abbrev pub expression : Phrase
+expression = Grouped level.Or
 
 -- a reserved word or a sign, which a production fixes
 pub data Word : Type 0 where
@@ -36,11 +46,13 @@ kind_of (the_key k) = Key k
 kind_of (the_sign s) = Sign s
 
 -- What is left of a production, and the tree that it makes: nothing, and the tree; a word, and then more;
--- a name, and then more for its spelling and its place; a part, and then more for its tree.
+-- a name, and then more for its spelling and its place; a kind's word, and then more for the kind; a part, and then more
+-- for its tree.
 pub data Rest : Type 0 where
   done : Tree → Rest
   word : Word → Rest → Rest
   name : (List ℕ → ℕ → Rest) → Rest
+  of_kind : (Kind → Rest) → Rest
   part : Phrase → (Tree → Rest) → Rest
 
 -- a sign, and then more
@@ -51,9 +63,20 @@ sign s r = word (the_sign s) r
 abbrev pub key : Keyword → Rest → Rest
 key k r = word (the_key k) r
 
--- "(" ")" ":" "int" "=", and what is left behind it
-abbrev pub heading : Rest → Rest
-heading r = sign LeftParen (sign RightParen (sign Colon (key Int (sign Becomes r))))
+-- the kind that a word names
+abbrev pub kind_named : TokenKind → Option Kind
+kind_named (Key Int) = Some kind.Int
+kind_named (Key Bool) = Some kind.Bool
+kind_named (Key Array) = Some kind.Array
+kind_named _ = None
+
+-- behind the name of a definition: "(", its parameters, ":", its kind, "=", its body, ";"
+abbrev pub definition_of : List ℕ → ℕ → Rest
+definition_of x q = sign LeftParen (part Parameters (λ a. sign Colon (of_kind (λ k. sign Becomes (part expression (λ e. sign Semicolon (done (define x a k e q))))))))
+
+-- behind the name of a parameter: ":", its kind, and the parameters behind it
+abbrev pub parameter_of : List ℕ → ℕ → Rest
+parameter_of x q = sign Colon (of_kind (λ k. part MoreParameters (λ a. done (more (param x k q) a))))
 
 -- a statement before the others of a tail, whose tree has its statements and its body
 abbrev pub with_statement : Tree → Tree → Tree
@@ -67,38 +90,64 @@ block_of _ p = none
 
 -- The productions that begin with a token of their own: a phrase, the token's kind and place, and what is left behind it.
 pub data Opens : Phrase → TokenKind → ℕ → Rest → Type 0 where
-  definition : {p : ℕ} → Opens Definition (Key Def) p (name (λ x q. heading (part (Grouped Sum) (λ e. sign Semicolon (done (define x kind.Int e q))))))
-  negated : {p : ℕ} → Opens Unary (Sign Minus) p (part Unary (λ e. done (unary Neg e p)))
+  definition : {p : ℕ} → Opens Definition (Key Def) p (name definition_of)
+  no_parameters : {p : ℕ} → Opens Parameters (Sign RightParen) p (done none)
+  first_parameter : {x : List ℕ} {p : ℕ} → Opens Parameters (Name x) p (parameter_of x p)
+  last_parameter : {p : ℕ} → Opens MoreParameters (Sign RightParen) p (done none)
+  next_parameter : {p : ℕ} → Opens MoreParameters (Sign Comma) p (name parameter_of)
+  denied : {p : ℕ} → Opens Negation (Key Not) p (part Negation (λ e. done (unary unary_op.Not e p)))
+  negated : {p : ℕ} → Opens Unary (Sign Minus) p (part Unary (λ e. done (unary unary_op.Neg e p)))
   number : {v : ℤ} {p : ℕ} → Opens Unary (Number v) p (done (literal (constant.Int v) p))
-  parens : {p : ℕ} → Opens Unary (Sign LeftParen) p (part (Grouped Sum) (λ e. sign RightParen (done e)))
+  by_true : {p : ℕ} → Opens Unary (Key True) p (done (literal (constant.Bool true) p))
+  by_false : {p : ℕ} → Opens Unary (Key False) p (done (literal (constant.Bool false) p))
+  parens : {p : ℕ} → Opens Unary (Sign LeftParen) p (part expression (λ e. sign RightParen (done e)))
   by_name : {x : List ℕ} {p : ℕ} → Opens Unary (Name x) p (done (tree.name x p))
   by_block : {p : ℕ} → Opens Unary (Sign LeftBrace) p (part Tail (λ a. done (block_of a p)))
-  by_binding : {x : List ℕ} {p : ℕ} → Opens Tail (Name x) p (sign Becomes (part (Grouped Sum) (λ e. sign Semicolon (part Tail (λ a. done (with_statement (binding x e p) a))))))
-  by_body : {p : ℕ} → Opens Tail (Key In) p (part (Grouped Sum) (λ e. sign RightBrace (done (more none e))))
+  by_binding : {x : List ℕ} {p : ℕ} → Opens Tail (Name x) p (sign Becomes (part expression (λ e. sign Semicolon (part Tail (λ a. done (with_statement (binding x e p) a))))))
+  by_body : {p : ℕ} → Opens Tail (Key In) p (part expression (λ e. sign RightBrace (done (more none e))))
 
 -- the operands of a level
 abbrev pub operand : Level → Phrase
-operand Sum = Grouped Product
-operand Product = Unary
+operand level.Or = Grouped level.And
+operand level.And = Negation
+operand level.Sum = Grouped level.Product
+operand level.Product = Unary
 
 -- the operator of a level that a token is
 abbrev pub operator_of : Level → TokenKind → Option BinaryOp
-operator_of Sum (Sign Plus) = Some op.Add
-operator_of Sum (Sign Minus) = Some op.Sub
-operator_of Product (Sign Star) = Some op.Mul
-operator_of Product (Key Div) = Some op.Div
-operator_of Product (Key Rem) = Some op.Rem
+operator_of level.Or (Key Or) = Some op.Or
+operator_of level.And (Key And) = Some op.And
+operator_of level.Sum (Sign Plus) = Some op.Add
+operator_of level.Sum (Sign Minus) = Some op.Sub
+operator_of level.Product (Sign Star) = Some op.Mul
+operator_of level.Product (Key Div) = Some op.Div
+operator_of level.Product (Key Rem) = Some op.Rem
 operator_of _ _ = None
 
--- what a phrase adds to the height of its parts: an expression one, a definition and a tail nothing
+-- the comparison that a token is
+abbrev pub comparison_of : TokenKind → Option BinaryOp
+comparison_of (Sign Equal) = Some op.Eq
+comparison_of (Sign NotEqual) = Some op.Ne
+comparison_of (Sign Less) = Some op.Lt
+comparison_of (Sign LessEqual) = Some op.Le
+comparison_of (Sign Greater) = Some op.Gt
+comparison_of (Sign GreaterEqual) = Some op.Ge
+comparison_of _ = None
+
+-- what a phrase adds to the height of its parts: an expression one, the others nothing
 abbrev pub own_height : Phrase → ℕ
 own_height Definition = 0
+own_height Parameters = 0
+own_height MoreParameters = 0
 own_height (Grouped l) = 1
+own_height Negation = 1
+own_height Comparison = 1
 own_height Unary = 1
 own_height Tail = 0
 
 mutual
-  -- the tokens are a phrase, with this tree of this height: a production, or the operands of a level from the left
+  -- the tokens are a phrase, with this tree of this height: a production, the operands of a level from the left, or one or
+  -- two sums compared, without `not` before them
   pub data Derives : Phrase → List Token → Tree → ℕ → Type 0 where
     opened : {s : Phrase} {t : Token} {r : Rest} {ts : List Token} {e : Tree} {h : ℕ} →
         Opens s t.kind t.start r → Follows r ts e h → Derives s (t ∷ ts) e (h + own_height s)
@@ -106,6 +155,11 @@ mutual
     grouped : {l : Level} {us vs : List Token} {o : BinaryOp} {a b : Tree} {m n : ℕ} →
         Derives (Grouped l) us a m → (t : Token) → operator_of l t.kind ≡ Some o → Derives (operand l) vs b n →
         Derives (Grouped l) (us ++ t ∷ vs) (binary o a b t.start) (max m n + 1)
+    plain : {ts : List Token} {e : Tree} {h : ℕ} → Derives Comparison ts e h → Derives Negation ts e h
+    alone : {ts : List Token} {e : Tree} {h : ℕ} → Derives (Grouped level.Sum) ts e h → Derives Comparison ts e h
+    compared : {us vs : List Token} {o : BinaryOp} {a b : Tree} {m n : ℕ} →
+        Derives (Grouped level.Sum) us a m → (t : Token) → comparison_of t.kind ≡ Some o → Derives (Grouped level.Sum) vs b n →
+        Derives Comparison (us ++ t ∷ vs) (binary o a b t.start) (max m n + 1)
 
   -- the tokens are what is left of a production, with the tree that it makes, and its parts have this greatest height
   pub data Follows : Rest → List Token → Tree → ℕ → Type 0 where
@@ -114,6 +168,8 @@ mutual
         t.kind ≡ kind_of w → Follows r ts e h → Follows (word w r) (t ∷ ts) e h
     named : {t : Token} {x : List ℕ} {f : List ℕ → ℕ → Rest} {ts : List Token} {e : Tree} {h : ℕ} →
         t.kind ≡ Name x → Follows (f x t.start) ts e h → Follows (name f) (t ∷ ts) e h
+    kinded : {t : Token} {k : Kind} {f : Kind → Rest} {ts : List Token} {e : Tree} {h : ℕ} →
+        kind_named t.kind ≡ Some k → Follows (f k) ts e h → Follows (of_kind f) (t ∷ ts) e h
     given : {s : Phrase} {f : Tree → Rest} {us ts : List Token} {a e : Tree} {m n : ℕ} →
         Derives s us a m → Follows (f a) ts e n → Follows (part s f) (us ++ ts) e (max m n)
 

@@ -4,15 +4,16 @@ use denote.Enum.Bare.{sameb}
 use Rattle.id_text.specs.declared.token.Token.{Token}
 use Rattle.id_text.specs.declared.token.TokenKind.{TokenKind}
 use Rattle.id_text.specs.declared.token.TokenKind.TheVariants.{Name, Number, Key, Sign, End}
-use Rattle.id_text.specs.declared.token.Keyword.TheVariants.{Def, In}
-use Rattle.id_text.specs.declared.token.Symbol.TheVariants.{LeftParen, LeftBrace, Minus}
+use Rattle.id_text.specs.declared.token.Keyword.TheVariants.{Def, In, True, False, Not}
+use Rattle.id_text.specs.declared.token.Symbol.TheVariants.{LeftParen, RightParen, LeftBrace, Comma, Minus}
 use Rattle.id_text.specs.contracts.token.Keyword as keyword
 use Rattle.id_text.specs.contracts.token.Symbol as symbol
 use Rattle.id_tree.specs.declared.tree.BinaryOp.{BinaryOp}
 use Rattle.id_tree.specs.declared.parser.Level.{Level}
-use Rattle.id_tree.specs.declared.parser.Level.TheVariants.{Sum, Product}
+use Rattle.id_tree.specs.declared.parser.Level.TheVariants as level
+use Rattle.id_tree.specs.declared.tree.Kind.TheVariants as kind
 use Rattle.id_tree.specs.Tree.{Tree, binary, none, more}
-use Rattle.id_tree.specs.Grammar.{Phrase, Definition, Grouped, Unary, Tail, Word, the_key, the_sign, Rest, done, word, name, part, Opens, definition, negated, number, parens, by_name, by_block, by_binding, by_body, operand, operator_of, own_height}
+use Rattle.id_tree.specs.Grammar.{Phrase, Definition, Parameters, MoreParameters, Grouped, Negation, Comparison, Unary, Tail, Word, the_key, the_sign, Rest, done, word, name, of_kind, part, kind_named, Opens, definition, no_parameters, first_parameter, last_parameter, next_parameter, denied, negated, number, by_true, by_false, parens, by_name, by_block, by_binding, by_body, operand, operator_of, comparison_of, own_height}
 
 -- a production that begins with this token
 pub record Row (s : Phrase) (k : TokenKind) (p : ℕ) : Type 0 where
@@ -22,8 +23,15 @@ pub record Row (s : Phrase) (k : TokenKind) (p : ℕ) : Type 0 where
 -- the one production of a phrase that begins with a token
 abbrev pub opening : (s : Phrase) (k : TokenKind) (p : ℕ) → Option (Row s k p)
 opening Definition (Key Def) p = Some (record { rest = _; opens = definition })
+opening Parameters (Sign RightParen) p = Some (record { rest = _; opens = no_parameters })
+opening Parameters (Name x) p = Some (record { rest = _; opens = first_parameter })
+opening MoreParameters (Sign RightParen) p = Some (record { rest = _; opens = last_parameter })
+opening MoreParameters (Sign Comma) p = Some (record { rest = _; opens = next_parameter })
+opening Negation (Key Not) p = Some (record { rest = _; opens = denied })
 opening Unary (Sign Minus) p = Some (record { rest = _; opens = negated })
 opening Unary (Number v) p = Some (record { rest = _; opens = number })
+opening Unary (Key True) p = Some (record { rest = _; opens = by_true })
+opening Unary (Key False) p = Some (record { rest = _; opens = by_false })
 opening Unary (Sign LeftParen) p = Some (record { rest = _; opens = parens })
 opening Unary (Name x) p = Some (record { rest = _; opens = by_name })
 opening Unary (Sign LeftBrace) p = Some (record { rest = _; opens = by_block })
@@ -31,18 +39,33 @@ opening Tail (Name x) p = Some (record { rest = _; opens = by_binding })
 opening Tail (Key In) p = Some (record { rest = _; opens = by_body })
 opening _ _ _ = None
 
+-- the least height of a phrase: parameters have none
+abbrev pub least_height : Phrase → ℕ
+least_height Definition = 1
+least_height Parameters = 0
+least_height MoreParameters = 0
+least_height (Grouped l) = 1
+least_height Negation = 1
+least_height Comparison = 1
+least_height Unary = 1
+least_height Tail = 1
+
 -- the least height of the parts of what is left
 abbrev pub room : Rest → ℕ
 room (done e) = 0
 room (word w r) = room r
 room (name f) = room (f [] 0)
-room (part s f) = 1
+room (of_kind f) = room (f kind.Int)
+room (part s f) = max (least_height s) (room (f none))
 
 -- What stands round a part, from the inside: a level whose first operand it is, one whose next operand it is,
--- or a production; the last numbers are the expressions round the level or the production's parts.
+-- a comparison whose first sum it is, one whose second sum it is, or a production; the last numbers are the expressions
+-- round the level, the comparison or the production's parts.
 pub data Frame : Type 0 where
   Left : Level → ℕ → Frame
   Right : Level → BinaryOp → Tree → ℕ → ℕ → ℕ → Frame
+  Compare : ℕ → Frame
+  Against : BinaryOp → Tree → ℕ → ℕ → ℕ → Frame
   Inside : (Tree → Rest) → ℕ → ℕ → ℕ → Frame
 
 -- before all tokens; a phrase is to come; a part has come, with its height; in a production, with the height so far; at the end
@@ -78,27 +101,46 @@ abbrev pub name_in : TokenKind → Option (List ℕ)
 name_in (Name x) = Some x
 name_in _ = None
 
--- a token that begins a production
-abbrev pub enters : Token → Phrase → ℕ → List Frame → Option Move
-enters t s d K = pick (opening s t.kind t.start) (λ row. Some (record { need = d + own_height s + room row.rest; next = Next row.rest 0 (d + own_height s) (own_height s) K })) None
+-- a token that begins a production, or else another move
+abbrev pub enters : Token → Phrase → ℕ → List Frame → Option Move → Option Move
+enters t s d K other = pick (opening s t.kind t.start) (λ row. Some (record { need = d + own_height s + room row.rest; next = Next row.rest 0 (d + own_height s) (own_height s) K })) other
+
+-- a token where a sum is to come
+abbrev pub sums : Token → ℕ → List Frame → Option Move
+sums t d K = enters t Unary d (Left level.Product d ∷ Left level.Sum d ∷ K) None
+
+-- a token where `not` or a comparison is to come
+abbrev pub negates : Token → ℕ → List Frame → Option Move
+negates t d K = enters t Negation d K (sums t d (Compare d ∷ K))
 
 -- a token where a phrase is to come
 abbrev pub wants : Token → Phrase → ℕ → List Frame → Option Move
-wants t Definition d K = enters t Definition d K
-wants t (Grouped Sum) d K = enters t Unary d (Left Product d ∷ Left Sum d ∷ K)
-wants t (Grouped Product) d K = enters t Unary d (Left Product d ∷ K)
-wants t Unary d K = enters t Unary d K
-wants t Tail d K = enters t Tail d K
+wants t Definition d K = enters t Definition d K None
+wants t Parameters d K = enters t Parameters d K None
+wants t MoreParameters d K = enters t MoreParameters d K None
+wants t (Grouped level.Or) d K = negates t d (Left level.And d ∷ Left level.Or d ∷ K)
+wants t (Grouped level.And) d K = negates t d (Left level.And d ∷ K)
+wants t (Grouped level.Sum) d K = sums t d K
+wants t (Grouped level.Product) d K = enters t Unary d (Left level.Product d ∷ K) None
+wants t Negation d K = negates t d K
+wants t Comparison d K = sums t d (Compare d ∷ K)
+wants t Unary d K = enters t Unary d K None
+wants t Tail d K = enters t Tail d K None
 
 -- a token behind an operand of a level: an operator of the level, or else what the level's end makes of it
 abbrev pub operates : Token → Tree → ℕ → Level → ℕ → List Frame → Option Move → Option Move
 operates t e h l d K other = pick (operator_of l t.kind) (λ o. Some (record { need = d + h + 1; next = Want (operand l) (d + 1) (Right l o e h t.start d ∷ K) })) other
+
+-- a token behind the first sum of a comparison: its operator, or else what the comparison's end makes of it
+abbrev pub matches : Token → Tree → ℕ → ℕ → List Frame → Option Move → Option Move
+matches t e h d K other = pick (comparison_of t.kind) (λ o. Some (record { need = d + h + 1; next = Want (Grouped level.Sum) (d + 1) (Against o e h t.start d ∷ K) })) other
 
 -- a token in a production, whose end closes
 abbrev pub nexts : Token → Rest → ℕ → ℕ → ℕ → List Frame → (Tree → ℕ → Option Move) → Option Move
 nexts t (done e) h d c K close = close e (h + c)
 nexts t (word w r) h d c K close = cond (is_word w t.kind) (free (Next r h d c K)) None
 nexts t (name f) h d c K close = pick (name_in t.kind) (λ x. free (Next (f x t.start) h d c K)) None
+nexts t (of_kind f) h d c K close = pick (kind_named t.kind) (λ k. free (Next (f k) h d c K)) None
 nexts t (part s f) h d c K close = wants t s d (Inside f h d c ∷ K)
 
 -- the end of the text, behind a program
@@ -111,6 +153,8 @@ abbrev pub closes : Token → Tree → ℕ → List Frame → Option Move
 closes t e h [] = ends t.kind (more e none)
 closes t e h (Left l d ∷ K) = operates t e h l d K (closes t e h K)
 closes t b n (Right l o a m p d ∷ K) = operates t (binary o a b p) (max m n + 1) l d K (closes t (binary o a b p) (max m n + 1) K)
+closes t e h (Compare d ∷ K) = matches t e h d K (closes t e h K)
+closes t b n (Against o a m p d ∷ K) = closes t (binary o a b p) (max m n + 1) K
 closes t e h (Inside f m d c ∷ K) = nexts t (f e) (max m h) d c K (λ a n. closes t a n K)
 
 -- what a token does

@@ -1,17 +1,20 @@
 -- What the readers of `parse` give back, by the machine: for the proof of `parse` alone.
-use Rattle.std.specs.Prelude.{◌≡◌, ◌+◌, ◌<◌, ◌≤◌, ◌⊎◌, ℕ, true, false, None, List, [], ◌∷◌, length, max}
+use Rattle.std.specs.Prelude.{◌≡◌, ◌+◌, ◌<◌, ◌≤◌, ◌⊎◌, ℕ, Bool, true, false, Option, Some, None, List, [], ◌∷◌, length, max}
 use Rattle.id_text.specs.Tokens.{EndsOnce}
 use Rattle.id_text.specs.declared.token.Token.{Token}
 use Rattle.id_text.specs.declared.token.TokenKind.{TokenKind}
-use Rattle.id_text.specs.declared.token.TokenKind.TheVariants.{Name, End}
+use Rattle.id_text.specs.declared.token.TokenKind.TheVariants.{Name, Key, End}
+use Rattle.id_text.specs.declared.token.Keyword.TheVariants.{True, False}
 use Rattle.id_text.specs.declared.token.Symbol.{Symbol}
+use Rattle.id_text.specs.declared.token.Symbol.TheVariants.{LeftParen, Colon, Becomes}
 use Rattle.id_tree.specs.declared.parser.Level.{Level}
-use Rattle.id_tree.specs.declared.parser.Level.TheVariants.{Sum}
+use Rattle.id_tree.specs.declared.tree.Kind.{Kind}
 use Rattle.id_tree.specs.declared.tree.Stmt.{Stmt}
+use Rattle.id_tree.specs.declared.tree.Param.{Param}
 use Rattle.id_tree.specs.declared.tree.TreeError.{TreeError}
 use Rattle.id_tree.specs.declared.tree.TreeError.TheVariants.{Unexpected, TooDeep, Memory}
-use Rattle.id_tree.specs.Tree.{Tree, stmt_tree, more}
-use Rattle.id_tree.specs.Grammar.{Phrase, Definition, Grouped, Tail, Rest, done, part, sign, with_statement}
+use Rattle.id_tree.specs.Tree.{Tree, stmt_tree, param, more}
+use Rattle.id_tree.specs.Grammar.{Phrase, Definition, Parameters, MoreParameters, expression, Tail, Rest, done, of_kind, part, sign, with_statement}
 use Rattle.id_tree.specs.Machine.{Frame, Left, Inside, Want, Have, Next, Outcome, Refused, name_in, run}
 
 -- what the first token is
@@ -23,6 +26,12 @@ first_kind (t ∷ ts) = t.kind
 abbrev pub first_start : List Token → ℕ
 first_start [] = 0
 first_start (t ∷ ts) = t.start
+
+-- the truth value that a kind is
+abbrev pub truth_in : TokenKind → Option Bool
+truth_in (Key True) = Some true
+truth_in (Key False) = Some false
+truth_in _ = None
 
 -- a shorter list that ends as it must
 pub record IsBehind (rest tokens : List Token) : Type 0 where
@@ -84,13 +93,66 @@ pub record NoName (ts : List Token) (x : TreeError) : Type 0 where
 abbrev pub LacksName : List Token → TreeError → Type 0
 LacksName ts x = (x ≡ Memory) ⊎ NoName ts x
 
+-- the run takes a colon and a kind behind it
+pub record Types (ts us : List Token) (k : Kind) : Type 0 where
+  pub comes : (f : Kind → Rest) (h d c : ℕ) (K : List Frame) → run 200 ts (Next (sign Colon (of_kind f)) h d c K) ≡ run 200 us (Next (f k) h d c K)
+
+-- the run ends so at a colon or the kind behind it
+pub record Untypes (ts : List Token) (x : TreeError) : Type 0 where
+  pub fails : (f : Kind → Rest) (h d c : ℕ) (K : List Frame) → EndsBy (run 200 ts (Next (sign Colon (of_kind f)) h d c K)) x
+
+-- the list begins with a parameter: its name, a colon and its kind
+pub record Declares (ts us : List Token) (p : Param) : Type 0 where
+  pub behind : List Token
+  pub begins : BeginsWithName ts p.name p.place behind
+  pub types : Types behind us p.kind
+
+-- the error of a list that begins with a name, and then with no colon and kind
+pub record LacksKind (ts : List Token) (x : TreeError) : Type 0 where
+  pub name : List ℕ
+  pub place : ℕ
+  pub behind : List Token
+  pub begins : BeginsWithName ts name place behind
+  pub untypes : Untypes behind x
+
+-- the error of a list that begins with no parameter
+abbrev pub Undeclares : List Token → TreeError → Type 0
+Undeclares ts x = LacksName ts x ⊎ LacksKind ts x
+
+-- the parameters' trees, in order, put before a list of trees
+abbrev pub listed : List Param → Tree → Tree
+listed [] a = a
+listed (p ∷ ps) a = more (param p.name p.kind p.place) (listed ps a)
+
+-- the run takes parameters, and puts them before those that come behind
+pub record Lists (ts us : List Token) (ps : List Param) (K : List Frame) : Type 0 where
+  pub stack : List Frame
+  pub comes : run 200 ts (Want Parameters 0 K) ≡ run 200 us (Want MoreParameters 0 stack)
+  pub folds : (vs : List Token) (a : Tree) → run 200 vs (Have a 0 stack) ≡ run 200 vs (Have (listed ps a) 0 K)
+
+-- the same, whatever stands round the parameters
+pub record Counts (ts us : List Token) (ps : List Param) : Type 0 where
+  pub lists : (K : List Frame) → Lists ts us ps K
+
+-- between the name and the body of a definition: "(", its parameters, ":", its kind, "="
+abbrev pub heading : (Tree → Kind → Rest) → Rest
+heading f = sign LeftParen (part Parameters (λ a. sign Colon (of_kind (λ k. sign Becomes (f a k)))))
+
+-- the run takes a heading
+pub record Heads (ts us : List Token) (a : Tree) (k : Kind) : Type 0 where
+  pub comes : (f : Tree → Kind → Rest) (K : List Frame) → run 200 ts (Next (heading f) 0 0 0 K) ≡ run 200 us (Next (f a k) 0 0 0 K)
+
+-- the run ends so in a heading
+pub record Beheads (ts : List Token) (x : TreeError) : Type 0 where
+  pub fails : (f : Tree → Kind → Rest) (K : List Frame) → EndsBy (run 200 ts (Next (heading f) 0 0 0 K)) x
+
 -- the run takes an expression of a production and the sign behind it
 pub record Encloses (ts : List Token) (d : ℕ) (w : Symbol) (us : List Token) (e : Tree) (h : ℕ) : Type 0 where
-  pub comes : (f : Tree → Rest) (m c : ℕ) (K : List Frame) → run 200 ts (Next (part (Grouped Sum) (λ a. sign w (f a))) m d c K) ≡ run 200 us (Next (f e) (max m h) d c K)
+  pub comes : (f : Tree → Rest) (m c : ℕ) (K : List Frame) → run 200 ts (Next (part expression (λ a. sign w (f a))) m d c K) ≡ run 200 us (Next (f e) (max m h) d c K)
 
 -- the run ends so at an expression of a production or the sign behind it
 pub record Exposes (ts : List Token) (d : ℕ) (w : Symbol) (x : TreeError) : Type 0 where
-  pub fails : (f : Tree → Rest) (m c : ℕ) (K : List Frame) → EndsBy (run 200 ts (Next (part (Grouped Sum) (λ a. sign w (f a))) m d c K)) x
+  pub fails : (f : Tree → Rest) (m c : ℕ) (K : List Frame) → EndsBy (run 200 ts (Next (part expression (λ a. sign w (f a))) m d c K)) x
 
 -- the statements' trees, in order, put before a list of trees
 abbrev pub onto : List Stmt → Tree → Tree

@@ -2,10 +2,12 @@
 use Rattle.std.specs.Prelude.{◌≡◌, ◌+◌, ◌≤◌, ℕ, Some, List, [], ◌∷◌, ◌++◌, max}
 use Rattle.id_text.specs.declared.token.Token.{Token}
 use Rattle.id_tree.specs.declared.parser.Level.{Level}
+use Rattle.id_tree.specs.declared.parser.Level.TheVariants as level
 use Rattle.id_tree.specs.declared.tree.BinaryOp.{BinaryOp}
+use Rattle.id_tree.specs.declared.tree.Kind.{Kind}
 use Rattle.id_tree.specs.Tree.{Tree}
-use Rattle.id_tree.specs.Grammar.{Phrase, Definition, Grouped, Rest, done, word, name, part, operand, operator_of, own_height, Derives, Follows, Program}
-use Rattle.id_tree.specs.Machine.{Frame, Left, Right, Inside, State, Begin, Want, Have, Next, Finished}
+use Rattle.id_tree.specs.Grammar.{Phrase, Definition, Grouped, Negation, Comparison, Rest, done, word, name, of_kind, part, operand, operator_of, comparison_of, own_height, Derives, Follows, Program}
+use Rattle.id_tree.specs.Machine.{least_height, Frame, Left, Right, Compare, Against, Inside, State, Begin, Want, Have, Next, Finished}
 
 -- the tokens begin a phrase, of which this is left, and its parts so far have this greatest height
 pub record Begins (s : Phrase) (vs : List Token) (r : Rest) (h : ℕ) : Type 0 where
@@ -16,7 +18,8 @@ abbrev pub Roomy : ℕ → ℕ → Rest → Type 0
 Roomy n d (done e) = Unit {0}
 Roomy n d (word w r) = Roomy n d r
 Roomy n d (name f) = (x : List ℕ) (p : ℕ) → Roomy n d (f x p)
-Roomy n d (part s f) = (d + 1 ≤ n) × ((a : Tree) → Roomy n d (f a))
+Roomy n d (of_kind f) = (k : Kind) → Roomy n d (f k)
+Roomy n d (part s f) = (d + least_height s ≤ n) × ((a : Tree) → Roomy n d (f a))
 
 -- inside d expressions, behind these tokens, a phrase is to come, and what stands round it fits n
 pub data Around (n : ℕ) : Phrase → ℕ → List Frame → List Token → Type 0 where
@@ -26,6 +29,12 @@ pub data Around (n : ℕ) : Phrase → ℕ → List Frame → List Token → Typ
   right : {l : Level} {d m : ℕ} {K : List Frame} {us vs : List Token} {o : BinaryOp} {a : Tree} →
       Around n (Grouped l) d K us → Derives (Grouped l) vs a m → (t : Token) → operator_of l t.kind ≡ Some o →
       d + m + 1 ≤ n → Around n (operand l) (d + 1) (Right l o a m t.start d ∷ K) (us ++ (vs ++ t ∷ []))
+  plainly : {d : ℕ} {K : List Frame} {us : List Token} → Around n Negation d K us → Around n Comparison d K us
+  compare : {d : ℕ} {K : List Frame} {us : List Token} →
+      Around n Comparison d K us → Around n (Grouped level.Sum) d (Compare d ∷ K) us
+  against : {d m : ℕ} {K : List Frame} {us vs : List Token} {o : BinaryOp} {a : Tree} →
+      Around n Comparison d K us → Derives (Grouped level.Sum) vs a m → (t : Token) → comparison_of t.kind ≡ Some o →
+      d + m + 1 ≤ n → Around n (Grouped level.Sum) (d + 1) (Against o a m t.start d ∷ K) (us ++ (vs ++ t ∷ []))
   inside : {s i : Phrase} {f : Tree → Rest} {d h : ℕ} {K : List Frame} {us vs : List Token} →
       Around n s d K us → Begins s vs (part i f) h → d + own_height s + h ≤ n → ((a : Tree) → Roomy n (d + own_height s) (f a)) →
       Around n i (d + own_height s) (Inside f h (d + own_height s) (own_height s) ∷ K) (us ++ vs)
@@ -34,7 +43,7 @@ pub data Around (n : ℕ) : Phrase → ℕ → List Frame → List Token → Typ
 pub data Stands (n : ℕ) : State → List Token → Type 0 where
   begun : Stands n Begin []
   wanting : {s : Phrase} {d : ℕ} {K : List Frame} {us : List Token} →
-      Around n s d K us → d + 1 ≤ n → Stands n (Want s d K) us
+      Around n s d K us → d + least_height s ≤ n → Stands n (Want s d K) us
   having : {s : Phrase} {d h : ℕ} {e : Tree} {K : List Frame} {us vs : List Token} →
       Around n s d K us → Derives s vs e h → d + h ≤ n → Stands n (Have e h K) (us ++ vs)
   within : {s : Phrase} {r : Rest} {d h : ℕ} {K : List Frame} {us vs : List Token} →

@@ -6,10 +6,12 @@ use Rattle.id_tree.specs.declared.tree.UnaryOp.{UnaryOp}
 use Rattle.id_tree.specs.declared.tree.BinaryOp.{BinaryOp}
 use Rattle.id_tree.specs.declared.tree.Expr.{Expr, Literal, Unary', Binary', Name, Block', Row_of-Stmt, end_of-Stmt, more_of-Stmt}
 use Rattle.id_tree.specs.declared.tree.Stmt.{Stmt, Binding}
+use Rattle.id_tree.specs.declared.tree.Param.{Param}
 use Rattle.id_tree.specs.declared.tree.Def.{Def}
 use Rattle.id_tree.specs.declared.tree.Program.{Program}
 
--- An expression, a statement, a definition, or a list of trees. The last number of a thing is its place.
+-- An expression, a statement, a parameter, a definition with its parameters and its body, or a list of trees. The last
+-- number of a thing is its place.
 pub data Tree : Type 0 where
   literal : Constant → ℕ → Tree
   unary : UnaryOp → Tree → ℕ → Tree
@@ -17,7 +19,8 @@ pub data Tree : Type 0 where
   name : List ℕ → ℕ → Tree
   block : Tree → Tree → ℕ → Tree
   binding : List ℕ → Tree → ℕ → Tree
-  define : List ℕ → Kind → Tree → ℕ → Tree
+  param : List ℕ → Kind → ℕ → Tree
+  define : List ℕ → Tree → Kind → Tree → ℕ → Tree
   none : Tree
   more : Tree → Tree → Tree
 
@@ -39,9 +42,14 @@ abbrev mutual
   row_tree end_of-Stmt = none
   row_tree (more_of-Stmt s rest) = more (stmt_tree s) (row_tree rest)
 
+-- the trees of the parameters, in order
+abbrev pub params_tree : List Param → Tree
+params_tree [] = none
+params_tree (x ∷ xs) = more (param x.name x.kind x.place) (params_tree xs)
+
 -- the definition's tree
 abbrev pub def_tree : Def → Tree
-def_tree d = define d.name d.result (tree_of d.body) d.place
+def_tree d = define d.name (params_tree d.params) d.result (tree_of d.body) d.place
 
 -- the trees of the definitions, in order
 abbrev pub defs_tree : List Def → Tree

@@ -15,7 +15,7 @@ mod tree;
 
 pub use parser::parse;
 pub use tree::{
-    BinaryOp, Constant, Def, Expr, Kind, MAX_NESTING, Program, Stmt, TreeError, UnaryOp,
+    BinaryOp, Constant, Def, Expr, Kind, MAX_NESTING, Param, Program, Stmt, TreeError, UnaryOp,
 };
 
 #[cfg(test)]

@@ -5,11 +5,22 @@
 
 ghost use Rattle.std.specs.Prelude.{◌≡◌, ◌≢◌, ◌∷◌, ◌+◌, ◌<◌, ◌≤◌, ℕ, IfOk, IfErr, MatchResult, Some};
 ghost use Rattle.id_text.specs.Tokens.{EndsOnce, Rises};
-ghost use Rattle.id_tree.specs.Tree.{Tree, tree_of, stmt_tree, def_tree, program_tree};
+ghost use Rattle.id_tree.specs.Tree.{Tree, tree_of, stmt_tree, params_tree, def_tree, program_tree};
 ghost use Rattle.id_tree.specs.Accepted.{Accepts, RefusedBy, IsMemory};
 ghost use Rattle.id_tree.specs.Distinct.{Distinct};
 ghost use Rattle.id_tree.specs.Starts.{PlacesAreStarts};
-ghost use Rattle.id_tree.specs.Grammar.{Definition, Grouped, Unary, Tail, operand, operator_of, heading};
+ghost use Rattle.id_tree.specs.Grammar.{
+  Definition,
+  Parameters,
+  Grouped,
+  Negation,
+  Comparison,
+  Unary,
+  Tail,
+  operand,
+  operator_of,
+  comparison_of,
+};
 ghost use Rattle.id_tree.specs.Machine.{run, Begin, Accepted};
 ghost use Rattle.id_tree.specs.Readers.{
   first_kind,
@@ -21,8 +32,10 @@ ghost use Rattle.id_tree.specs.Readers.{
   Fails,
   Grows,
   Stunts,
-  Takes,
-  Misses,
+  Declares,
+  Undeclares,
+  Heads,
+  Beheads,
   Encloses,
   Exposes,
   Adds,
@@ -30,18 +43,20 @@ ghost use Rattle.id_tree.specs.Readers.{
   IsGathered,
 };
 
-use crate::part::{Part, binary, binding, block, literal, name, negated};
+use crate::part::{Part, binary, binding, block, name, number, truth, unary};
 use crate::tokens::{
-    begins_with, check_nesting, expect_end, expect_key, expect_name, expect_sign, is_key, is_sign,
-    split, unexpected,
+    begins_with, begins_with_sign, check_nesting, expect_end, expect_kind, expect_name,
+    expect_sign, is_key, is_sign, split, truth_of, unexpected,
 };
-use crate::tree::{BinaryOp, Def, Kind, MAX_NESTING, Program, Stmt, TreeError};
+use crate::tree::{BinaryOp, Def, Kind, MAX_NESTING, Param, Program, Stmt, TreeError, UnaryOp};
 use id_text::{Keyword, Sequence, Symbol, Token, TokenKind};
 use std::alloc::Global;
 
 /// The levels of operators that group to the left, the loosest first.
 #[derive(Clone, Copy, Debug, PartialEq, Eq)]
 pub enum Level {
+    Or,
+    And,
     Sum,
     Product,
 }
@@ -88,7 +103,7 @@ fn parse_program(alloc: Global, tokens: &[Token]) -> Result<Program, TreeError>
     })
 }
 
-/// `def = "def" NAME "(" ")" ":" "int" "=" expr ";"`
+/// `def = "def" NAME "(" [ param { "," param } ] ")" ":" kind "=" expr ";"`
 fn parse_def(alloc: Global, tokens: &[Token]) -> Result<(Def, &[Token]), TreeError>
     requires ends { EndsOnce tokens.now }
     requires begins { first_kind tokens.now ≡ TokenKind.Key Keyword.Def }
@@ -98,33 +113,77 @@ fn parse_def(alloc: Global, tokens: &[Token]) -> Result<(Def, &[Token]), TreeErr
 {
     let (_, named) = split(tokens);
     let (name, place, headed) = expect_name(alloc, named)?;
-    let begun = parse_heading(headed)?;
+    let (params, result, begun) = parse_heading(alloc, headed)?;
     let (body, rest) = parse_enclosed(alloc, begun, Symbol::Semicolon, 0)?;
     let def = Def {
         name,
-        result: Kind::Int,
+        params: Sequence::new(params),
+        result,
         body: body.expr,
         place,
     };
     Ok((def, rest))
 }
 
-/// `"(" ")" ":" "int" "="`
-fn parse_heading(tokens: &[Token]) -> Result<&[Token], TreeError>
+/// `"(" [ param { "," param } ] ")" ":" kind "="`
+fn parse_heading(alloc: Global, tokens: &[Token]) -> Result<(Vec<Param>, Kind, &[Token]), TreeError>
     requires { EndsOnce tokens.now }
-    ensures behind { IfOk result (λ rest. IsBehind rest.now tokens.now) }
-    ensures ok { IfOk result (λ rest. Takes heading tokens.now rest.now) }
-    ensures err { IfErr result (Misses heading tokens.now) }
+    ensures behind { IfOk result (λ x. IsBehind x.2.now tokens.now) }
+    ensures ok { IfOk result (λ x. Heads tokens.now x.2.now (params_tree x.0.items) x.1) }
+    ensures err { IfErr result (Beheads tokens.now) }
 {
     let opened = expect_sign(tokens, Symbol::LeftParen)?;
-    let closed = expect_sign(opened, Symbol::RightParen)?;
-    let colon = expect_sign(closed, Symbol::Colon)?;
-    let kind = expect_key(colon, Keyword::Int)?;
-    let rest = expect_sign(kind, Symbol::Becomes)?;
-    Ok(rest)
+    let (params, closed) = parse_params(alloc, opened)?;
+    let (kind, headed) = expect_kind(closed)?;
+    let rest = expect_sign(headed, Symbol::Becomes)?;
+    Ok((params, kind, rest))
 }
 
-/// `sum = product { ("+" | "-") product }`, `product = unary { ("*" | "div" | "rem") unary }`
+/// `[ param { "," param } ] ")"`
+fn parse_params(alloc: Global, tokens: &[Token]) -> Result<(Vec<Param>, &[Token]), TreeError>
+    requires { EndsOnce tokens.now }
+    ensures behind { IfOk result (λ x. IsBehind x.1.now tokens.now) }
+    ensures ok { IfOk result (λ x.
+        Leads tokens.now Parameters 0 x.1.now (params_tree x.0.items) 0) }
+    ensures err { IfErr result (Fails tokens.now Parameters 0) }
+{
+    let mut params = Vec::new(alloc);
+    let (first, closed) = split(tokens);
+    if is_sign(first, Symbol::RightParen) {
+        return Ok((params, closed));
+    }
+    let (param, behind) = parse_param(alloc, tokens)?;
+    params.push(param)?;
+    let mut rest = behind;
+    'params: while begins_with_sign(rest, Symbol::Comma) {
+        let (_, named) = split(rest);
+        let (next, behind) = parse_param(alloc, named)?;
+        params.push(next)?;
+        rest = behind;
+    }
+    let (last, closed) = split(rest);
+    if is_sign(last, Symbol::RightParen) {
+        Ok((params, closed))
+    } else {
+        Err(unexpected(rest))
+    }
+}
+
+/// `param = NAME ":" kind`
+fn parse_param(alloc: Global, tokens: &[Token]) -> Result<(Param, &[Token]), TreeError>
+    requires { EndsOnce tokens.now }
+    ensures behind { IfOk result (λ x. IsBehind x.1.now tokens.now) }
+    ensures ok { IfOk result (λ x. Declares tokens.now x.1.now x.0) }
+    ensures err { IfErr result (Undeclares tokens.now) }
+{
+    let (name, place, typed) = expect_name(alloc, tokens)?;
+    let (kind, rest) = expect_kind(typed)?;
+    let param = Param { name, kind, place };
+    Ok((param, rest))
+}
+
+/// `or = and { "or" and }`, `and = not { "and" not }`, `sum = product { ("+" | "-") product }`,
+/// `product = unary { ("*" | "div" | "rem") unary }`
 #[cycle(expr)]
 fn parse_grouped(
     alloc: Global,
@@ -191,12 +250,63 @@ fn parse_operand(
     ensures err { IfErr result (Fails tokens.now (operand level) depth) }
 {
     match level {
+        Level::Or => parse_grouped(alloc, tokens, Level::And, depth),
+        Level::And => parse_negation(alloc, tokens, depth),
         Level::Sum => parse_grouped(alloc, tokens, Level::Product, depth),
         Level::Product => parse_unary(alloc, tokens, depth),
     }
 }
 
-/// `unary = "-" unary | NUMBER | NAME | "(" expr ")" | block`
+/// `not = "not" not | cmp`
+#[cycle(expr)]
+fn parse_negation(
+    alloc: Global,
+    tokens: &[Token],
+    depth: usize,
+) -> Result<(Part, &[Token]), TreeError>
+    requires ends { EndsOnce tokens.now }
+    requires room { depth < MAX_NESTING }
+    ensures read { IfOk result (λ x. IsRead tokens.now x.1.now depth x.0.height) }
+    ensures ok { IfOk result (λ x.
+        Leads tokens.now Negation depth x.1.now (tree_of x.0.expr) x.0.height) }
+    ensures err { IfErr result (Fails tokens.now Negation depth) }
+{
+    let (first, behind) = split(tokens);
+    if !is_key(first, Keyword::Not) {
+        return parse_comparison(alloc, tokens, depth);
+    }
+    check_nesting(tokens, depth + 2)?;
+    let (operand, rest) = parse_negation(alloc, behind, depth + 1)?;
+    let whole = unary(alloc, UnaryOp::Not, operand, first.start)?;
+    Ok((whole, rest))
+}
+
+/// `cmp = sum [ ("==" | "<>" | "<" | "<=" | ">" | ">=") sum ]`
+#[cycle(expr)]
+fn parse_comparison(
+    alloc: Global,
+    tokens: &[Token],
+    depth: usize,
+) -> Result<(Part, &[Token]), TreeError>
+    requires ends { EndsOnce tokens.now }
+    requires room { depth < MAX_NESTING }
+    ensures read { IfOk result (λ x. IsRead tokens.now x.1.now depth x.0.height) }
+    ensures ok { IfOk result (λ x.
+        Leads tokens.now Comparison depth x.1.now (tree_of x.0.expr) x.0.height) }
+    ensures err { IfErr result (Fails tokens.now Comparison depth) }
+{
+    let (left, compared) = parse_grouped(alloc, tokens, Level::Sum, depth)?;
+    let Some(op) = comparison_at(compared) else {
+        return Ok((left, compared));
+    };
+    let (sign, behind) = split(compared);
+    check_nesting(compared, depth + left.height + 1)?;
+    let (right, rest) = parse_grouped(alloc, behind, Level::Sum, depth + 1)?;
+    let whole = binary(alloc, op, left, right, sign.start)?;
+    Ok((whole, rest))
+}
+
+/// `unary = "-" unary | NUMBER | "true" | "false" | NAME | "(" expr ")" | block`
 #[cycle(expr)]
 fn parse_unary(alloc: Global, tokens: &[Token], depth: usize) -> Result<(Part, &[Token]), TreeError>
     requires ends { EndsOnce tokens.now }
@@ -236,7 +346,7 @@ fn parse_negated(
     let (first, behind) = split(tokens);
     check_nesting(tokens, depth + 2)?;
     let (operand, rest) = parse_unary(alloc, behind, depth + 1)?;
-    let whole = negated(alloc, operand, first.start)?;
+    let whole = unary(alloc, UnaryOp::Neg, operand, first.start)?;
     Ok((whole, rest))
 }
 
@@ -280,7 +390,7 @@ fn parse_enclosed(
         Encloses tokens.now depth closing x.1.now (tree_of x.0.expr) x.0.height) }
     ensures err { IfErr result (Exposes tokens.now depth closing) }
 {
-    let (inside, closed) = parse_grouped(alloc, tokens, Level::Sum, depth)?;
+    let (inside, closed) = parse_grouped(alloc, tokens, Level::Or, depth)?;
     let rest = expect_sign(closed, closing)?;
     Ok((inside, rest))
 }
@@ -353,7 +463,7 @@ fn parse_binding(
     Ok((statement, value.height, rest))
 }
 
-/// `NUMBER | NAME`
+/// `NUMBER | "true" | "false" | NAME`
 fn parse_leaf(alloc: Global, tokens: &[Token], depth: usize) -> Result<(Part, &[Token]), TreeError>
     requires ends { EndsOnce tokens.now }
     requires no_minus { first_kind tokens.now ≢ TokenKind.Sign Symbol.Minus }
@@ -367,9 +477,12 @@ fn parse_leaf(alloc: Global, tokens: &[Token], depth: usize) -> Result<(Part, &[
 {
     let (first, rest) = split(tokens);
     match &first.kind {
-        TokenKind::Number(value) => Ok((literal(value, first.start), rest)),
+        TokenKind::Number(value) => Ok((number(value, first.start), rest)),
         TokenKind::Name(x) => Ok((name(x.copy(alloc)?, first.start), rest)),
-        TokenKind::Key(_) => Err(unexpected(tokens)),
+        TokenKind::Key(_) => match truth_of(first) {
+            Some(value) => Ok((truth(value, first.start), rest)),
+            None => Err(unexpected(tokens)),
+        },
         TokenKind::Sign(_) => Err(unexpected(tokens)),
         TokenKind::End => Err(unexpected(tokens)),
     }
@@ -381,11 +494,29 @@ fn operator_at(tokens: &[Token], level: Level) -> Option<BinaryOp>
     ensures { result ≡ operator_of level (first_kind tokens.now) }
 {
     match (level, &tokens[0].kind) {
+        (Level::Or, TokenKind::Key(Keyword::Or)) => Some(BinaryOp::Or),
+        (Level::And, TokenKind::Key(Keyword::And)) => Some(BinaryOp::And),
         (Level::Sum, TokenKind::Sign(Symbol::Plus)) => Some(BinaryOp::Add),
         (Level::Sum, TokenKind::Sign(Symbol::Minus)) => Some(BinaryOp::Sub),
         (Level::Product, TokenKind::Sign(Symbol::Star)) => Some(BinaryOp::Mul),
         (Level::Product, TokenKind::Key(Keyword::Div)) => Some(BinaryOp::Div),
         (Level::Product, TokenKind::Key(Keyword::Rem)) => Some(BinaryOp::Rem),
+        _ => None,
+    }
+}
+
+/// The comparison that the tokens begin with.
+fn comparison_at(tokens: &[Token]) -> Option<BinaryOp>
+    requires { EndsOnce tokens.now }
+    ensures { result ≡ comparison_of (first_kind tokens.now) }
+{
+    match &tokens[0].kind {
+        TokenKind::Sign(Symbol::Equal) => Some(BinaryOp::Eq),
+        TokenKind::Sign(Symbol::NotEqual) => Some(BinaryOp::Ne),
+        TokenKind::Sign(Symbol::Less) => Some(BinaryOp::Lt),
+        TokenKind::Sign(Symbol::LessEqual) => Some(BinaryOp::Le),
+        TokenKind::Sign(Symbol::Greater) => Some(BinaryOp::Gt),
+        TokenKind::Sign(Symbol::GreaterEqual) => Some(BinaryOp::Ge),
         _ => None,
     }
 }

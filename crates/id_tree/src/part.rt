@@ -2,8 +2,7 @@
 
 ghost use Rattle.std.specs.Prelude.{◌≡◌, ◌+◌, ◌<◌, ◌^◌, IfOk, IfErr, max};
 ghost use Rattle.id_tree.specs.declared.tree.TreeError.TheVariants.{Memory};
-ghost use Rattle.id_tree.specs.declared.tree.Constant.TheVariants.{Int};
-ghost use Rattle.id_tree.specs.declared.tree.UnaryOp.TheVariants.{Neg};
+ghost use Rattle.id_tree.specs.declared.tree.Constant.TheVariants as constant;
 ghost use Rattle.id_tree.specs.Tree.{tree_of, stmt_tree, none};
 ghost use Rattle.id_tree.specs.Tree as tree;
 ghost use Rattle.id_tree.specs.Readers.{onto};
@@ -20,11 +19,23 @@ pub struct Part {
 }
 
 /// The number as an expression.
-pub fn literal(value: &i64, place: usize) -> Part
+pub fn number(value: &i64, place: usize) -> Part
     ensures height { result.height ≡ 1 }
-    ensures tree { tree_of result.expr ≡ tree.literal (Int value.now) place }
+    ensures tree { tree_of result.expr ≡ tree.literal (constant.Int value.now) place }
 {
     let value = Constant::Int(*value);
+    Part {
+        expr: Expr::Literal { value, place },
+        height: 1,
+    }
+}
+
+/// The truth value as an expression.
+pub fn truth(value: bool, place: usize) -> Part
+    ensures height { result.height ≡ 1 }
+    ensures tree { tree_of result.expr ≡ tree.literal (constant.Bool value) place }
+{
+    let value = Constant::Bool(value);
     Part {
         expr: Expr::Literal { value, place },
         height: 1,
@@ -42,16 +53,15 @@ pub fn name(name: Identifier, place: usize) -> Part
     }
 }
 
-/// The operand behind a `-`.
-pub fn negated(alloc: Global, operand: Part, place: usize) -> Result<Part, TreeError>
+/// The operand behind an operator.
+pub fn unary(alloc: Global, op: UnaryOp, operand: Part, place: usize) -> Result<Part, TreeError>
     requires { operand.height < 2 ^ 63 }
     ensures height { IfOk result (λ p. p.height ≡ operand.height + 1) }
-    ensures tree { IfOk result (λ p. tree_of p.expr ≡ tree.unary Neg (tree_of operand.expr) place) }
+    ensures tree { IfOk result (λ p. tree_of p.expr ≡ tree.unary op (tree_of operand.expr) place) }
     ensures err { IfErr result (λ e. e ≡ Memory) }
 {
     let height = operand.height + 1;
     let operand = Box::new(alloc, operand.expr)?;
-    let op = UnaryOp::Neg;
     Ok(Part {
         expr: Expr::Unary { op, operand, place },
         height,

@@ -10,10 +10,13 @@ ghost use Rattle.id_tree.specs.Readers.{
   Misses,
   BeginsWithName,
   LacksName,
+  Types,
+  Untypes,
+  truth_in,
 };
-ghost use Rattle.id_tree.specs.Grammar.{sign, key};
+ghost use Rattle.id_tree.specs.Grammar.{sign, kind_named};
 
-use crate::tree::{MAX_NESTING, TreeError};
+use crate::tree::{Kind, MAX_NESTING, TreeError};
 use id_text::{Identifier, Keyword, Symbol, Token, TokenKind};
 use std::alloc::Global;
 
@@ -60,6 +63,38 @@ pub fn begins_with(tokens: &[Token], wanted: Keyword) -> bool
     is_key(&tokens[0], wanted)
 }
 
+/// Whether the tokens begin with this sign.
+pub fn begins_with_sign(tokens: &[Token], wanted: Symbol) -> bool
+    requires { EndsOnce tokens.now }
+    ensures { IsTrue result ↔ (first_kind tokens.now ≡ TokenKind.Sign wanted) }
+{
+    is_sign(&tokens[0], wanted)
+}
+
+/// The truth value that the token is.
+pub fn truth_of(token: &Token) -> Option<bool>
+    ensures { result ≡ truth_in token.now.kind }
+{
+    match &token.kind {
+        TokenKind::Key(Keyword::True) => Some(true),
+        TokenKind::Key(Keyword::False) => Some(false),
+        _ => None,
+    }
+}
+
+/// The kind that the tokens begin with.
+pub fn kind_at(tokens: &[Token]) -> Option<Kind>
+    requires { EndsOnce tokens.now }
+    ensures { result ≡ kind_named (first_kind tokens.now) }
+{
+    match &tokens[0].kind {
+        TokenKind::Key(Keyword::Int) => Some(Kind::Int),
+        TokenKind::Key(Keyword::Bool) => Some(Kind::Bool),
+        TokenKind::Key(Keyword::Array) => Some(Kind::Array),
+        _ => None,
+    }
+}
+
 /// The refusal of the first token, since no program goes on with it.
 pub fn unexpected(tokens: &[Token]) -> TreeError
     requires { EndsOnce tokens.now }
@@ -100,21 +135,6 @@ pub fn expect_sign(tokens: &[Token], wanted: Symbol) -> Result<&[Token], TreeErr
     }
 }
 
-/// The tokens behind this word.
-pub fn expect_key(tokens: &[Token], wanted: Keyword) -> Result<&[Token], TreeError>
-    requires { EndsOnce tokens.now }
-    ensures behind { IfOk result (λ rest. IsBehind rest.now tokens.now) }
-    ensures ok { IfOk result (λ rest. Takes (key wanted) tokens.now rest.now) }
-    ensures err { IfErr result (Misses (key wanted) tokens.now) }
-{
-    let (first, rest) = split(tokens);
-    if is_key(first, wanted) {
-        Ok(rest)
-    } else {
-        Err(unexpected(tokens))
-    }
-}
-
 /// The name that the tokens begin with, its place, and the tokens behind it.
 pub fn expect_name(
     alloc: Global,
@@ -132,6 +152,21 @@ pub fn expect_name(
         TokenKind::Key(_) => Err(unexpected(tokens)),
         TokenKind::Sign(_) => Err(unexpected(tokens)),
         TokenKind::End => Err(unexpected(tokens)),
+    }
+}
+
+/// `":" kind`, and the tokens behind it.
+pub fn expect_kind(tokens: &[Token]) -> Result<(Kind, &[Token]), TreeError>
+    requires { EndsOnce tokens.now }
+    ensures behind { IfOk result (λ x. IsBehind x.1.now tokens.now) }
+    ensures ok { IfOk result (λ x. Types tokens.now x.1.now x.0) }
+    ensures err { IfErr result (Untypes tokens.now) }
+{
+    let named = expect_sign(tokens, Symbol::Colon)?;
+    let (_, rest) = split(named);
+    match kind_at(named) {
+        Some(kind) => Ok((kind, rest)),
+        None => Err(unexpected(named)),
     }
 }
 

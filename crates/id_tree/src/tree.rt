@@ -11,18 +11,22 @@ pub const MAX_NESTING: usize = 200;
 #[derive(Clone, Copy, Debug, PartialEq, Eq)]
 pub enum Kind {
     Int,
+    Bool,
+    Array,
 }
 
 /// What a literal stands for.
 #[derive(Clone, Copy, Debug, PartialEq, Eq)]
 pub enum Constant {
     Int(i64),
+    Bool(bool),
 }
 
 /// An operator before its operand.
 #[derive(Clone, Copy, Debug, PartialEq, Eq)]
 pub enum UnaryOp {
     Neg,
+    Not,
 }
 
 /// An operator between its operands.
@@ -33,13 +37,21 @@ pub enum BinaryOp {
     Mul,
     Div,
     Rem,
+    Lt,
+    Le,
+    Gt,
+    Ge,
+    Eq,
+    Ne,
+    And,
+    Or,
 }
 
 /// An expression. Parentheses leave no trace in it.
 #[derive(Debug, Drop)]
 #[cycle(tree)]
 pub enum Expr {
-    /// A number, at its first digit.
+    /// A number, at its first digit, or a truth value, at its word.
     Literal {
         value: Constant,
         place: usize,
@@ -82,10 +94,19 @@ pub enum Stmt {
     },
 }
 
-/// A definition, at its name.
+/// A parameter of a definition, at its name.
+#[derive(Debug, Drop)]
+pub struct Param {
+    pub name: Identifier,
+    pub kind: Kind,
+    pub place: usize,
+}
+
+/// A definition, at its name, with its parameters in order.
 #[derive(Debug, Drop)]
 pub struct Def {
     pub name: Identifier,
+    pub params: Sequence<Param>,
     pub result: Kind,
     pub body: Expr,
     pub place: usize,

@@ -1,8 +1,12 @@
 -- Each reader's run, from its first token to its way out (proofs/ReaderLemmas.antt).
-use Rattle.std.proofs.Common.{◌∙◌, sym, refl, arith}
-use Rattle.std.proofs.lemmas.Result.{err_from_is_err_and}
+use Rattle.std.proofs.Common.{◌≡◌, ◌∙◌, sym, refl, arith, rules}
+use Rattle.std.proofs.lemmas.Result.{err_from_is_err_and, IfOk-weaker, IfErr-weaker}
+use Rattle.id_text.specs.declared.token.TokenKind.TheVariants.{Key}
+use Rattle.id_text.specs.declared.token.Keyword.TheVariants.{Not}
+use Rattle.id_tree.specs.Grammar.{Negation, Comparison}
+use Rattle.id_tree.specs.Readers.{Leads, Fails}
 use Rattle.id_tree.specs.Tree.{tree_of}
-use Rattle.id_tree.proofs.ReaderLemmas.{first_of, IsRead-then, Level-begins, Level-grows, Level-fails, Level-stunts, Level-ends, Right-deep, Right-fails, Right-grows, At-opens, At-part, At-word, At-enclosed, Leads-done, Leads-at, Fails-deep, Fails-part, Fails-word, Fails-enclosed, Encloses-done, Exposes-sign, Exposes-part, opens_negated, opens_parens}
+use Rattle.id_tree.proofs.ReaderLemmas.{first_of, IsRead-then, Level-begins, Level-grows, Level-fails, Level-stunts, Level-ends, Right-deep, Right-fails, Right-grows, At-opens, At-part, At-word, At-enclosed, Leads-done, Leads-at, Fails-deep, Fails-part, Fails-word, Fails-enclosed, Encloses-done, Exposes-sign, Exposes-part, opens_negated, opens_denied, opens_parens, Compare-fails, Compare-alone, Second-deep, Second-fails, Second-leads, Negation-leads, Negation-fails}
 use Rattle.id_tree.proofs.BlockLemmas.{opens_block, Encloses-tail, Exposes-tail, At-binding, Fails-tail, Adds-done, IsGathered-add, Gathers-none, Gathers-add, Fails-gathered, Leads-gathered, Leads-body, Fails-body}
 use Rattle.id_tree.proofs.parser.+expr.Goals as goal
 
@@ -137,3 +141,55 @@ parse_right-returns-in_err-right-clause-err t c =
 
 pub parse_right-returns-clause-ok : goal.parse_right-returns-clause-ok
 parse_right-returns-clause-ok t c = Right-grows c.split.ensures.whole c.args.level c.args.op c.requires.operator c.args.depth (tree_of c.args.left.expr) c.args.left.height c.in_ok-check_nesting.ensures.ok c.in_ok-right.ensures.ok c.in_ok-whole.ensures.tree c.in_ok-whole.ensures.height
+
+pub parse_comparison-returns-in_err-left-clause-err : goal.parse_comparison-returns-in_err-left-clause-err
+parse_comparison-returns-in_err-left-clause-err t c =
+    let p = err_from_is_err_and c.from_residual.result c.from_residual.ensures.1 in
+    rw (p.1, p.2) (Compare-fails c.in_err-left.ensures.err)
+
+pub parse_comparison-returns-in_default-clause-ok : goal.parse_comparison-returns-in_default-clause-ok
+parse_comparison-returns-in_default-clause-ok t c = Compare-alone c.in_ok-left.ensures.ok (sym c.comparison_at.ensures ∙ c.in_default.is)
+
+pub parse_comparison-returns-in_err-check_nesting-clause-err : goal.parse_comparison-returns-in_err-check_nesting-clause-err
+parse_comparison-returns-in_err-check_nesting-clause-err t c =
+    let p = err_from_is_err_and c.from_residual-in_err-check_nesting.result c.from_residual-in_err-check_nesting.ensures.1 in
+    rw (p.1, p.2) (Second-deep c.in_ok-left.ensures.ok c.split.ensures.whole c.in-Some.op (sym c.comparison_at.ensures ∙ c.in-Some.is) c.in_err-check_nesting.field-0.0 c.in_err-check_nesting.ensures.err c.in_err-check_nesting.ensures.deep)
+
+pub parse_comparison-returns-in_err-right-clause-err : goal.parse_comparison-returns-in_err-right-clause-err
+parse_comparison-returns-in_err-right-clause-err t c =
+    let p = err_from_is_err_and c.from_residual-in_err-right.result c.from_residual-in_err-right.ensures.1 in
+    rw (p.1, p.2) (Second-fails c.in_ok-left.ensures.ok c.split.ensures.whole c.in-Some.op (sym c.comparison_at.ensures ∙ c.in-Some.is) c.in_ok-check_nesting.ensures.ok c.in_err-right.ensures.err)
+
+pub parse_comparison-returns-clause-ok : goal.parse_comparison-returns-clause-ok
+parse_comparison-returns-clause-ok t c = Second-leads c.in_ok-left.ensures.ok c.split.ensures.whole c.in-Some.op (sym c.comparison_at.ensures ∙ c.in-Some.is) c.in_ok-check_nesting.ensures.ok c.in_ok-right.ensures.ok c.in_ok-whole.ensures.tree c.in_ok-whole.ensures.height
+
+pub parse_negation-returns-then-not-is_key-clause-ok : goal.parse_negation-returns-then-not-is_key-clause-ok
+parse_negation-returns-then-not-is_key-clause-ok t c =
+    let is_not : c.split.result.0.now.kind ≡ Key Not → ⊥ = search rules in
+    IfOk-weaker c.parse_comparison.result (λ x. Leads c.args.tokens.now Comparison c.args.depth x.1.now (tree_of x.0.expr) x.0.height)
+    (λ x. Leads c.args.tokens.now Negation c.args.depth x.1.now (tree_of x.0.expr) x.0.height)
+    (λ x q. Negation-leads c.split.ensures.whole is_not q) c.parse_comparison.ensures.ok
+
+pub parse_negation-returns-then-not-is_key-clause-err : goal.parse_negation-returns-then-not-is_key-clause-err
+parse_negation-returns-then-not-is_key-clause-err t c =
+    let is_not : c.split.result.0.now.kind ≡ Key Not → ⊥ = search rules in
+    IfErr-weaker c.parse_comparison.result (Fails c.args.tokens.now Comparison c.args.depth) (Fails c.args.tokens.now Negation c.args.depth)
+    (λ x q. Negation-fails c.split.ensures.whole is_not q) c.parse_comparison.ensures.err
+
+pub parse_negation-returns-in_err-check_nesting-clause-err : goal.parse_negation-returns-in_err-check_nesting-clause-err
+parse_negation-returns-in_err-check_nesting-clause-err t c =
+    let is : c.split.result.0.now.kind ≡ Key Not = search rules in
+    let p = err_from_is_err_and c.from_residual.result c.from_residual.ensures.1 in
+    rw (p.1, p.2) (Fails-deep c.split.ensures.whole (opens_denied is) c.args.depth c.in_err-check_nesting.field-0.0 c.in_err-check_nesting.ensures.err (omega (arith, c.in_err-check_nesting.ensures.deep)))
+
+pub parse_negation-returns-in_err-operand-clause-err : goal.parse_negation-returns-in_err-operand-clause-err
+parse_negation-returns-in_err-operand-clause-err t c =
+    let is : c.split.result.0.now.kind ≡ Key Not = search rules in
+    let p = err_from_is_err_and c.from_residual-in_err-operand.result c.from_residual-in_err-operand.ensures.1 in
+    rw (p.1, p.2) (Fails-part (At-opens c.split.ensures.whole (opens_denied is) c.args.depth (omega (arith, c.in_ok-check_nesting.ensures.ok))) c.in_err-operand.ensures.err)
+
+pub parse_negation-returns-clause-ok : goal.parse_negation-returns-clause-ok
+parse_negation-returns-clause-ok t c =
+    let is : c.split.result.0.now.kind ≡ Key Not = search rules in
+    Leads-at c.in_ok-whole.ensures.tree (omega (arith, c.in_ok-whole.ensures.height))
+    (Leads-done (At-part (At-opens c.split.ensures.whole (opens_denied is) c.args.depth (omega (arith, c.in_ok-check_nesting.ensures.ok))) c.in_ok-operand.ensures.ok))

@@ -1,7 +1,7 @@
 -- Each call goes one expression deeper, or to a reader of a lower rank at the same depth.
 use Rattle.std.proofs.Common.{◌+◌, ◌-◌, ◌*◌, ℕ, length}
 use Rattle.id_tree.specs.declared.parser.Level.{Level}
-use Rattle.id_tree.specs.declared.parser.Level.TheVariants.{Sum, Product}
+use Rattle.id_tree.specs.declared.parser.Level.TheVariants as level
 use Rattle.id_tree.specs.Readers.{IsRead, Gathers, IsGathered}
 use Rattle.id_tree.specs.Tree.{tree_of}
 use Rattle.id_tree.proofs.ReaderLemmas.{Begun}
@@ -9,8 +9,10 @@ use Rattle.id_tree.proofs.parser.+expr.Given as goal
 
 -- the looser level has the higher rank
 abbrev rank : Level → ℕ
-rank Sum = 1
-rank Product = 0
+rank level.Or = 4
+rank level.And = 3
+rank level.Sum = 1
+rank level.Product = 0
 
 abbrev pub decreases-parse_parens : goal.decreases-parse_parens
 decreases-parse_parens l = (200 - l.depth) * 16
@@ -33,14 +35,20 @@ decreases-parse_operand l = (200 - l.depth) * 16 + (2 + 2 * rank l.level)
 abbrev pub decreases-parse_grouped : goal.decreases-parse_grouped
 decreases-parse_grouped l = (200 - l.depth) * 16 + (3 + 2 * rank l.level)
 
+abbrev pub decreases-parse_comparison : goal.decreases-parse_comparison
+decreases-parse_comparison l = (200 - l.depth) * 16 + 6
+
+abbrev pub decreases-parse_negation : goal.decreases-parse_negation
+decreases-parse_negation l = (200 - l.depth) * 16 + 7
+
 abbrev pub decreases-parse_enclosed : goal.decreases-parse_enclosed
-decreases-parse_enclosed l = (200 - l.depth) * 16 + 6
+decreases-parse_enclosed l = (200 - l.depth) * 16 + 12
 
 abbrev pub decreases-parse_binding : goal.decreases-parse_binding
-decreases-parse_binding l = (200 - l.depth) * 16 + 7
+decreases-parse_binding l = (200 - l.depth) * 16 + 13
 
 abbrev pub decreases-parse_statements : goal.decreases-parse_statements
-decreases-parse_statements l = (200 - l.depth) * 16 + 8
+decreases-parse_statements l = (200 - l.depth) * 16 + 14
 
 -- the first operand has come, and the level is open
 abbrev pub invariant-parse_grouped-loop-op : goal.invariant-parse_grouped-loop-op

@@ -1,0 +1,47 @@
+-- The run comes from parameter to parameter.
+use Rattle.std.proofs.Common.{◌≡◌, rules}
+use Rattle.std.proofs.lemmas.Result.{err_from_is_err_and}
+use Rattle.id_text.specs.declared.token.TokenKind.TheVariants.{Sign}
+use Rattle.id_text.specs.declared.token.Symbol.TheVariants.{RightParen, Comma}
+use Rattle.id_tree.specs.Readers.{first_kind}
+use Rattle.id_tree.proofs.ReaderLemmas.{first_of}
+use Rattle.id_tree.proofs.ParamLemmas.{IsBehind-more, Leads-none, Counts-first, Counts-add, Leads-listed, Fails-listed, Fails-next, Fails-first}
+use Rattle.id_tree.proofs.parser.parse_params.Goals as goal
+
+pub params-init : goal.params-init
+params-init c = (c.in_ok-param.ensures.behind, rw (c.in_ok-push.ensures.items, c.new-params.ensures.items) (Counts-first c.in_ok-param.param c.in_ok-param.ensures.ok))
+
+pub params-preserved : goal.params-preserved
+params-preserved c =
+    let comma : first_kind c.params.rest.now ≡ Sign Comma = search rules in (
+      IsBehind-more c.params.invariant.0 c.split-in-params.ensures.whole c.in_ok-next.ensures.behind,
+      rw c.in_ok-push-2.ensures.items (Counts-add c.in_ok-next.next c.params.invariant.1 c.split-in-params.ensures.whole comma c.in_ok-next.ensures.ok),
+    )
+
+pub returns-then-is_sign-clause-ok : goal.returns-then-is_sign-clause-ok
+returns-then-is_sign-clause-ok c =
+    let is : c.split.result.0.now.kind ≡ Sign RightParen = search rules in
+    rw c.new-params.ensures.items (Leads-none c.split.ensures.whole is)
+
+pub returns-in_err-param-clause-err : goal.returns-in_err-param-clause-err
+returns-in_err-param-clause-err c =
+    let is_not : c.split.result.0.now.kind ≡ Sign RightParen → ⊥ = search rules in
+    let p = err_from_is_err_and c.from_residual.result c.from_residual.ensures.1 in
+    rw (p.1, p.2) (Fails-first (λ q. is_not (first_of c.split.ensures.whole q)) c.in_err-param.ensures.err)
+
+pub returns-in_err-next-clause-err : goal.returns-in_err-next-clause-err
+returns-in_err-next-clause-err c =
+    let comma : first_kind c.params.rest.now ≡ Sign Comma = search rules in
+    let p = err_from_is_err_and c.from_residual-in_err-next.result c.from_residual-in_err-next.ensures.1 in
+    rw (p.1, p.2) (Fails-next c.params.invariant.1 c.split-in-params.ensures.whole comma c.in_err-next.ensures.err)
+
+pub returns-then-is_sign-2-clause-ok : goal.returns-then-is_sign-2-clause-ok
+returns-then-is_sign-2-clause-ok c =
+    let is : c.split-2.result.0.now.kind ≡ Sign RightParen = search rules in
+    Leads-listed c.params.invariant.1 c.split-2.ensures.whole is
+
+pub returns-clause-err : goal.returns-clause-err
+returns-clause-err c =
+    let is_not : c.split-2.result.0.now.kind ≡ Sign RightParen → ⊥ = search rules in
+    let no_comma : first_kind c.params.rest.now ≡ Sign Comma → ⊥ = search rules in
+    Fails-listed c.params.invariant.1 c.split-2.ensures.whole c.unexpected.result c.unexpected.ensures no_comma is_not

@@ -1,0 +1,11 @@
+-- Each parameter takes a token at least.
+use Rattle.std.proofs.Common.{length}
+use Rattle.id_tree.specs.Readers.{IsBehind, Counts}
+use Rattle.id_tree.proofs.parser.parse_params.Given as goal
+
+-- parameters have come, and more may
+abbrev pub invariant-params : goal.invariant-params
+invariant-params l = IsBehind l.rest l.fn.tokens × Counts l.fn.tokens l.rest l.params.items
+
+abbrev pub decreases-params : goal.decreases-params
+decreases-params l = length l.rest
