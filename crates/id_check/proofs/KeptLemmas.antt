@@ -6,13 +6,17 @@ use Rattle.std.proofs.lemmas.Bool.{eq-eqb, eqb-true}
 use Rattle.id_tree.specs.declared.tree.Expr.{Expr, Literal, Unary', Binary', Name, Block', Row_of-Stmt, end_of-Stmt, more_of-Stmt}
 use Rattle.id_tree.specs.declared.tree.Stmt.{Binding}
 use Rattle.id_tree.specs.declared.tree.Def.{Def}
-use Rattle.id_tree.specs.Tree.{Tree, tree_of, row_tree, defs_tree}
+use Rattle.id_tree.specs.declared.tree.Program.{Program}
+use Rattle.id_tree.specs.Tree.{Tree, tree_of, row_tree, defs_tree, program_tree}
 use Rattle.id_tree.specs.Distinct.{Apart, Distinct, HasPlace}
+use Rattle.indexmap.specs.IndexMap.{get}
 use Rattle.id_check.specs.declared.CheckCause.{CheckCause}
-use Rattle.id_check.specs.Causes.{causes_of, causes_of_all, causes_of_row, repeated, unknown}
-use Rattle.id_check.specs.Scopes.{Among, Binder, Use, binder_of, binders_of, uses_of, uses_of_all, uses_of_row}
-use Rattle.id_check.specs.Walks.{binder_at}
-use Rattle.id_check.proofs.FirstLemmas.{Among-append}
+use Rattle.id_check.specs.declared.walk.Found.{Found}
+use Rattle.id_check.specs.Causes.{causes_of, causes_of_all, causes_of_def, causes_of_row, main_kind, repeated, too_many_params, unknown}
+use Rattle.id_check.specs.Kinds.{AreBinders}
+use Rattle.id_check.specs.Scopes.{Among, Binder, Use, binder_of, binders_of, binders_of_params, uses_of, uses_of_all, uses_of_row}
+use Rattle.id_check.specs.Walks.{IsOf, binder_at}
+use Rattle.id_check.proofs.AmongLemmas.{Among-either}
 
 -- two uses at one place are of one binder
 pub record Agree (us : List Use) : Type 0 where
@@ -23,7 +27,7 @@ pub record Stand (us : List Use) (e : Tree) : Type 0 where
   pub stand : (u : Use) → Among u us → HasPlace e u.place
 
 Stand-append : (us vs : List Use) (a : Tree) → Stand us a → Stand vs a → Stand (us ++ vs) a
-Stand-append us vs a g h = record { stand = λ u i. elim (Among-append u us vs i) [ inl j ↦ g.stand u j | inr j ↦ h.stand u j ] }
+Stand-append us vs a g h = record { stand = λ u i. elim (Among-either u us vs i) [ inl j ↦ g.stand u j | inr j ↦ h.stand u j ] }
 
 Stand-within : (us : List Use) (a b : Tree) → ((q : ℕ) → HasPlace a q → HasPlace b q) → Stand us a → Stand us b
 Stand-within us a b f g = record { stand = λ u i. f u.place (g.stand u i) }
@@ -31,12 +35,12 @@ Stand-within us a b f g = record { stand = λ u i. f u.place (g.stand u i) }
 Agree-append : (us vs : List Use) (a b : Tree) → Stand us a → Stand vs b → Apart a b → Agree us → Agree vs → Agree (us ++ vs)
 Agree-append us vs a b sa sb apart g h = record {
   agree = λ u v i j e.
-      elim (Among-append u us vs i) [
-        | inl k ↦ elim (Among-append v us vs j) [
+      elim (Among-either u us vs i) [
+        | inl k ↦ elim (Among-either v us vs j) [
           | inl l ↦ g.agree u v k l e
           | inr l ↦ absurd (apart v.place (subst (HasPlace a) e (sa.stand u k)) (sb.stand v l))
         ]
-        | inr k ↦ elim (Among-append v us vs j) [
+        | inr k ↦ elim (Among-either v us vs j) [
           | inl l ↦ absurd (apart v.place (sa.stand v l) (subst (HasPlace b) e (sb.stand u k)))
           | inr l ↦ h.agree u v k l e
         ]
@@ -68,7 +72,9 @@ mutual
 
 Stand-defs : (ds : List Def) → Stand (uses_of_all ds) (defs_tree ds)
 Stand-defs [] = Stand-nil _
-Stand-defs (d ∷ ds) = Stand-append (uses_of [] d.body) (uses_of_all ds) _ (Stand-within _ _ _ (λ q h. inl (inr h)) (Stand-expr [] d.body)) (Stand-within _ _ _ (λ q h. inr h) (Stand-defs ds))
+Stand-defs (d ∷ ds) =
+    let bs = binders_of_params d.params in
+    Stand-append (uses_of bs d.body) (uses_of_all ds) _ (Stand-within _ _ _ (λ q h. inl (inr (inr h))) (Stand-expr bs d.body)) (Stand-within _ _ _ (λ q h. inr h) (Stand-defs ds))
 
 mutual
   Agree-expr : (bs : List Binder) (e : Expr) → Distinct (tree_of e) → Agree (uses_of bs e)
@@ -94,8 +100,9 @@ mutual
 pub Agree-defs : (ds : List Def) → Distinct (defs_tree ds) → Agree (uses_of_all ds)
 Agree-defs [] h = Agree-nil
 Agree-defs (d ∷ ds) h =
-    Agree-append (uses_of [] d.body) (uses_of_all ds) (tree_of d.body) (defs_tree ds) (Stand-expr [] d.body) (Stand-defs ds)
-    (λ q i j. h.0 q (inr i) j) (Agree-expr [] d.body h.1.1) (Agree-defs ds h.2)
+    let bs = binders_of_params d.params in
+    Agree-append (uses_of bs d.body) (uses_of_all ds) (tree_of d.body) (defs_tree ds) (Stand-expr bs d.body) (Stand-defs ds)
+    (λ q i j. h.0 q (inr (inr i)) j) (Agree-expr bs d.body h.1.4) (Agree-defs ds h.2)
 
 -- one answer after another, where each is this or none
 or-same : (a b o : Option ℕ) → option_or b o ≡ o → option_or a o ≡ o → option_or (option_or a b) o ≡ o
@@ -136,17 +143,21 @@ binder_at-use (v ∷ us) u (inr i) h =
 pub binder_at-agree : (us : List Use) → Agree us → (u : Use) → Among u us → binder_at us u.place ≡ u.binder
 binder_at-agree us h u i = binder_at-use us u i (λ v j e. h.agree v u j i e)
 
+-- what was found gives each use of the program its binder
+pub found-binders : (p : Program) (f : Found) (cs : List CheckCause) → IsOf f (uses_of_all p.defs) cs → Distinct (program_tree p) → AreBinders p (get nat_eq f.binders)
+found-binders p f cs h distinct = record { means = λ u i. h.binders u.place ∙ binder_at-agree (uses_of_all p.defs) (Agree-defs p.defs distinct) u i }
+
 -- each of these uses has a binder
 pub record HaveBinders (us : List Use) : Type 0 where
   pub bound : (u : Use) → Among u us → u.binder ≢ None
 
 HaveBinders-append : (us vs : List Use) → HaveBinders us → HaveBinders vs → HaveBinders (us ++ vs)
-HaveBinders-append us vs g h = record { bound = λ u i. elim (Among-append u us vs i) [ inl j ↦ g.bound u j | inr j ↦ h.bound u j ] }
+HaveBinders-append us vs g h = record { bound = λ u i. elim (Among-either u us vs i) [ inl j ↦ g.bound u j | inr j ↦ h.bound u j ] }
 
 HaveBinders-nil : HaveBinders []
 HaveBinders-nil = record { bound = λ u i. absurd i }
 
-left-nil : (cs ds : List CheckCause) → cs ++ ds ≡ [] → cs ≡ []
+pub left-nil : (cs ds : List CheckCause) → cs ++ ds ≡ [] → cs ≡ []
 left-nil [] ds e = refl
 left-nil (c ∷ cs) ds e = cc
 
@@ -180,4 +191,7 @@ mutual
 
 pub HaveBinders-defs : (ds : List Def) → causes_of_all ds ≡ [] → HaveBinders (uses_of_all ds)
 HaveBinders-defs [] h = HaveBinders-nil
-HaveBinders-defs (d ∷ ds) h = HaveBinders-append (uses_of [] d.body) (uses_of_all ds) (HaveBinders-expr [] d.body (left-nil _ _ h)) (HaveBinders-defs ds (right-nil (causes_of [] d.body) _ h))
+HaveBinders-defs (d ∷ ds) h =
+    let bs : List Binder = binders_of_params d.params in
+    let own = right-nil (main_kind d) (repeated [] bs ++ causes_of bs d.body) (right-nil (too_many_params d) _ (left-nil (causes_of_def d) _ h)) in
+    HaveBinders-append (uses_of bs d.body) (uses_of_all ds) (HaveBinders-expr bs d.body (right-nil (repeated [] bs) _ own)) (HaveBinders-defs ds (right-nil (causes_of_def d) _ h))

@@ -1,6 +1,11 @@
+mod AmongLemmas
 mod BoundsLemmas
+mod FirstsLemmas
 mod WalksLemmas
 mod RowsLemmas
-mod FirstLemmas
+mod BindersLemmas
+mod LinksLemmas
+mod ChainsLemmas
+mod PlacesLemmas
 mod KeptLemmas
 mod RefusedLemmas

@@ -3,9 +3,10 @@ use Rattle.std.proofs.Common.{◌≡◌, ℕ, Vec, Box, Global, List, [], ◌++�
 use mathlib.Core.Former.{Count}
 use Rattle.id_tree.specs.declared.tree.Expr.{Expr, Block, Block', Row_of-Stmt, end_of-Stmt, more_of-Stmt, items-the_row-Stmt, items_hidden-the_row-Stmt-0}
 use Rattle.id_tree.specs.declared.tree.Stmt.{Stmt, Binding}
+use Rattle.id_tree.specs.declared.tree.Param.{Param}
 use Rattle.id_tree.specs.declared.tree.Def.{Def}
-use Rattle.id_check.specs.Causes.{causes_of, causes_of_all, causes_of_row, repeated}
-use Rattle.id_check.specs.Scopes.{Binder, binders_of, uses_of, uses_of_all, uses_of_row}
+use Rattle.id_check.specs.Causes.{causes_of, causes_of_all, causes_of_def, causes_of_row, repeated}
+use Rattle.id_check.specs.Scopes.{Binder, binders_of, binders_of_params, uses_of, uses_of_all, uses_of_row}
 use Rattle.id_check.specs.Walks.{binders_of_each, causes_of_each, uses_of_each}
 
 pub binders_of-row : (n : _) (r : Row_of-Stmt n) → binders_of r ≡ binders_of_each (items-the_row-Stmt n r)
@@ -37,7 +38,7 @@ block_causes n r ss bs body e =
     ∙ ap (λ cs. repeated [] (binders_of_each ss) ++ (cs ++ causes_of (binders_of_each ss ++ bs) body)) (causes_of-row n r (binders_of_each ss ++ bs) ∙ ap (causes_of_each (binders_of_each ss ++ bs)) e)
 
 -- the row of a block's statements, with its shape
-abbrev row_of : Expr → (n : Count) × Row_of-Stmt n
+abbrev pub row_of : Expr → (n : Count) × Row_of-Stmt n
 row_of (Block' _ r p body q) = (_, r)
 row_of _ = (_, end_of-Stmt)
 
@@ -65,13 +66,20 @@ pub causes_of_each-append : (bs : List Binder) (ss ts : List Stmt) → causes_of
 causes_of_each-append bs [] ts = refl
 causes_of_each-append bs (Binding x value place ∷ ss) ts = ap (λ us. causes_of bs value ++ us) (causes_of_each-append bs ss ts) ∙ sym (append_assoc (causes_of bs value) (causes_of_each bs ss) (causes_of_each bs ts))
 
+pub binders_of_params-append : (xs ys : List Param) → binders_of_params (xs ++ ys) ≡ binders_of_params xs ++ binders_of_params ys
+binders_of_params-append [] ys = refl
+binders_of_params-append (x ∷ xs) ys = ap (λ bs. record { name = x.name; place = x.place } ∷ bs) (binders_of_params-append xs ys)
+
 pub uses_of_all-append : (ds es : List Def) → uses_of_all (ds ++ es) ≡ uses_of_all ds ++ uses_of_all es
 uses_of_all-append [] es = refl
-uses_of_all-append (d ∷ ds) es = ap (λ us. uses_of [] d.body ++ us) (uses_of_all-append ds es) ∙ sym (append_assoc (uses_of [] d.body) (uses_of_all ds) (uses_of_all es))
+uses_of_all-append (d ∷ ds) es =
+    let own = uses_of (binders_of_params d.params) d.body in
+    ap (λ us. own ++ us) (uses_of_all-append ds es) ∙ sym (append_assoc own (uses_of_all ds) (uses_of_all es))
 
 pub causes_of_all-append : (ds es : List Def) → causes_of_all (ds ++ es) ≡ causes_of_all ds ++ causes_of_all es
 causes_of_all-append [] es = refl
-causes_of_all-append (d ∷ ds) es = ap (λ us. causes_of [] d.body ++ us) (causes_of_all-append ds es) ∙ sym (append_assoc (causes_of [] d.body) (causes_of_all ds) (causes_of_all es))
+causes_of_all-append (d ∷ ds) es =
+    ap (λ cs. causes_of_def d ++ cs) (causes_of_all-append ds es) ∙ sym (append_assoc (causes_of_def d) (causes_of_all ds) (causes_of_all es))
 
 -- the expression of a statement
 abbrev pub value_of : Stmt → Expr

@@ -16,10 +16,11 @@ use Rattle.id_check.specs.declared.walk.Found.{Found}
 use Rattle.id_check.specs.declared.walk.Walk.{Walk}
 use Rattle.id_check.specs.Bounds.{before, bound_at, is_of, Binds}
 use Rattle.id_check.specs.Causes.{repeated}
+use Rattle.id_check.specs.Firsts.{IsFirstOf, Notes}
 use Rattle.id_check.specs.Scopes.{Binder, Use, binder_of}
-use Rattle.id_check.specs.Walks.{Adds, Enters, IsBelow, IsFirstOf, IsOf, IsScope, IsWithin, Keeps, binder_at, bound_in}
+use Rattle.id_check.specs.Walks.{Adds, Enters, IsBelow, IsOf, IsScope, IsWithin, Keeps, binder_at, bound_in}
 use Rattle.id_check.proofs.BoundsLemmas.{before-push}
-use Rattle.id_check.proofs.FirstLemmas.{binder_at-push, repeated-new, repeated-second}
+use Rattle.id_check.proofs.BindersLemmas.{binder_at-push, repeated-new, repeated-second}
 
 -- nothing more was found
 IsOf-nil : (w : Walk) (us : List Use) (cs : List CheckCause) → IsOf w.found us cs → IsOf w.found (us ++ []) (cs ++ [])
@@ -193,6 +194,17 @@ pub Adds-block : {a b d : Walk} {bs : List Binder} {us : List Use} {cs : List Ch
 Adds-block {a} {b} {d} {bs} {us} {cs} s e h k = record {
   keeps = k;
   found = λ vs ds i. subst (λ es. IsOf d.found (vs ++ us) es) (append_assoc ds (repeated [] bs) cs) (h.found vs (ds ++ repeated [] bs) (e.found vs ds i));
+}
+
+-- causes that were noted
+pub Adds-noted : (a : Walk) (first : Option CheckCause) (ds : List CheckCause) → Notes a.found.first ds first
+    → Adds a [] ds (record { scope = a.scope; found = record { binders = a.found.binders; first = first } })
+Adds-noted a first ds n = record {
+  keeps = record { bound = λ x. refl; shadowed = refl };
+  found = λ us cs i. record {
+    binders = λ q. i.binders q ∙ ap (λ vs. binder_at vs q) (sym (append-nil us));
+    first = n cs i.first;
+  };
 }
 
 -- a use of a name whose binder was recorded

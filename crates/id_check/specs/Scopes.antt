@@ -3,6 +3,7 @@ use Rattle.std.specs.Prelude.{◌≡◌, ◌≢◌, ◌⊎◌, ℕ, List, [], �
 use Rattle.std.specs.Str.{bytes_eq}
 use Rattle.id_tree.specs.declared.tree.Expr.{Expr, Literal, Unary', Binary', Name, Block', Row_of-Stmt, end_of-Stmt, more_of-Stmt}
 use Rattle.id_tree.specs.declared.tree.Stmt.{Binding}
+use Rattle.id_tree.specs.declared.tree.Param.{Param}
 use Rattle.id_tree.specs.declared.tree.Def.{Def}
 use Rattle.id_tree.specs.declared.tree.Program.{Program}
 
@@ -11,7 +12,7 @@ abbrev pub Among : {A : Type 0} → A → List A → Type 0
 Among x [] = ⊥
 Among x (y ∷ ys) = (x ≡ y) ⊎ Among x ys
 
--- what brings a name into a scope: the name, and the place of its binding
+-- what brings a name into a scope: the name, and the place of its binding or parameter
 pub record Binder : Type 0 where
   pub name : List ℕ
   pub place : ℕ
@@ -25,6 +26,11 @@ binder_of (b ∷ bs) x = if bytes_eq b.name x then Some b.place else binder_of b
 abbrev pub binders_of : {n : _} → Row_of-Stmt n → List Binder
 binders_of end_of-Stmt = []
 binders_of (more_of-Stmt (Binding x value place) rest) = record { name = x; place = place } ∷ binders_of rest
+
+-- the binders of parameters, in order
+abbrev pub binders_of_params : List Param → List Binder
+binders_of_params [] = []
+binders_of_params (x ∷ xs) = record { name = x.name; place = x.place } ∷ binders_of_params xs
 
 -- a use of a name: where it stands, and the place of the binder that it means, if there is one
 pub record Use : Type 0 where
@@ -46,10 +52,10 @@ abbrev mutual
   uses_of_row bs end_of-Stmt = []
   uses_of_row bs (more_of-Stmt (Binding x value place) rest) = uses_of bs value ++ uses_of_row bs rest
 
--- the uses of names in these definitions: no binder is in scope round a body
+-- the uses of names in these definitions: a body sees the parameters
 abbrev pub uses_of_all : List Def → List Use
 uses_of_all [] = []
-uses_of_all (d ∷ ds) = uses_of [] d.body ++ uses_of_all ds
+uses_of_all (d ∷ ds) = uses_of (binders_of_params d.params) d.body ++ uses_of_all ds
 
 -- each use of a name has a binder
 abbrev pub AllBound : Program → Type 0

@@ -9,7 +9,8 @@ use Rattle.id_check.specs.declared.scope.Scope.{Scope}
 use Rattle.id_check.specs.declared.walk.Found.{Found}
 use Rattle.id_check.specs.declared.walk.Walk.{Walk}
 use Rattle.id_check.specs.Bounds.{before, bound_at}
-use Rattle.id_check.specs.Causes.{IsFirst, causes_of, repeated}
+use Rattle.id_check.specs.Causes.{causes_of, repeated}
+use Rattle.id_check.specs.Firsts.{IsFirstOf}
 use Rattle.id_check.specs.Scopes.{Binder, Use, binder_of, uses_of}
 
 -- the binders of these statements, in order
@@ -26,11 +27,6 @@ uses_of_each bs (Binding x value place ∷ ss) = uses_of bs value ++ uses_of_eac
 abbrev pub causes_of_each : List Binder → List Stmt → List CheckCause
 causes_of_each bs [] = []
 causes_of_each bs (Binding x value place ∷ ss) = causes_of bs value ++ causes_of_each bs ss
-
--- the cause is the first of these, or there is none
-abbrev pub IsFirstOf : Option CheckCause → List CheckCause → Type 0
-IsFirstOf None cs = cs ≡ []
-IsFirstOf (Some c) cs = IsFirst c cs
 
 -- the binder that the last use at the place has, of those that have one
 abbrev pub binder_at : List Use → ℕ → Option ℕ

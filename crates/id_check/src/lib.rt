@@ -1,9 +1,11 @@
-//! The checked program: each name has its binder.
+//! The checked program: each name has its binder, and each thing its kind.
 //!
 //! Keeps: there is a procedure `main`, and which definition it is; each use of a name has a binder, and
-//! which; no two things of the program have one place.
-//! Errors: `CheckError`, the refusals 7, 9 and 10 or want of memory, with the program handed back.
-//! Read first: `Checked`, `specs/Scopes.antt`, `specs/Causes.antt`, docs/LANGUAGE.md ("Names").
+//! which; each thing has a kind, and which, and no expression one that is not wanted there; no two things
+//! of the program have one place.
+//! Errors: `CheckError`, the refusals 7 to 10, 12 and 13 or want of memory, with the program handed back.
+//! Read first: `Checked`, `specs/Scopes.antt`, `specs/Kinds.antt`, `specs/Wants.antt`, `specs/Causes.antt`,
+//! docs/LANGUAGE.md ("Names", "Kinds").
 //! Not here: the tree (`id_tree`), the graph (`id_build`).
 #![tactic(auto)]
 
@@ -14,18 +16,31 @@ ghost use Rattle.id_tree.specs.Tree.{program_tree};
 ghost use Rattle.id_tree.specs.Distinct.{Distinct};
 ghost use Rattle.id_check.specs.Main.{HasNoMain, IsMain};
 ghost use Rattle.id_check.specs.Scopes.{AllBound, Among, Use, uses_of_all};
-ghost use Rattle.id_check.specs.Causes.{causes, IsRefusedFor};
+ghost use Rattle.id_check.specs.Kinds.{AreKinds};
+ghost use Rattle.id_check.specs.Wants.{NoneWrong};
+ghost use Rattle.id_check.specs.Causes.{causes, name_causes, IsRefusedFor};
+ghost use Rattle.id_check.specs.Firsts.{IsFirstOf};
 ghost use Rattle.id_check.specs.Kept.{Distinct-prop};
 ghost use Rattle.id_check.specs.Walks.{IsOf};
 
+mod first;
+mod kinds;
+mod params;
 mod scope;
 mod walk;
+mod wants;
 
-use id_tree::{Def, Program};
+use first::note;
+use id_tree::{Def, Kind, Program};
 use indexmap::IndexMap;
-use std::alloc::Global;
+use kinds::find_kinds;
+use std::alloc::{AllocError, Global};
 use thiserror::Error;
 use walk::{Found, walk_program};
+use wants::first_wrong;
+
+/// The most parameters that a definition may have.
+pub const MAX_PARAMS: usize = 16;
 
 /// A program that has been checked.
 #[derive(Debug, Drop)]
@@ -35,10 +50,14 @@ pub struct Checked {
     pub main: usize,
     /// For each use of a name, by its place, the place of its binder.
     pub binders: IndexMap<usize, usize>,
+    /// For each thing, by its place, its kind.
+    pub kinds: IndexMap<usize, Kind>,
     pub ghost is_main: { IsMain program main } by { Prim.hlevel props },
     pub ghost distinct: { Distinct (program_tree program) } by { Distinct-prop (program_tree program) },
     pub ghost bound: { AllBound program } by { Prim.hlevel props },
     pub ghost resolved: { (u : Use) → Among u (uses_of_all program.defs) → get nat_eq binders u.place ≡ u.binder } by { Prim.hlevel props },
+    pub ghost kinded: { AreKinds program (get nat_eq binders) (get nat_eq kinds) } by { Prim.hlevel props },
+    pub ghost suited: { NoneWrong program (get nat_eq kinds) } by { Prim.hlevel props },
 }
 
 impl Checked {
@@ -55,6 +74,13 @@ impl Checked {
     {
         self.binders.get(&place).copied()
     }
+
+    /// The kind of the thing at this place, if there is one. Takes no memory.
+    pub fn kind(&self, place: usize) -> Option<Kind>
+        ensures { result ≡ get nat_eq self.now.kinds place }
+    {
+        self.kinds.get(&place).copied()
+    }
 }
 
 /// Why a program is refused.
@@ -63,12 +89,33 @@ pub enum CheckCause {
     /// No procedure is called `main`: the empty text.
     #[error("no main")]
     NoMain,
-    /// A second procedure, or a second binder of a block, with one name, at this place.
+    /// The first parameter of `main` that is an array, at this place.
+    #[error("main takes an array at byte {at}")]
+    MainKind {
+        at: usize,
+    },
+    /// A second procedure, parameter of a definition, or binder of a block, with one name, at this place.
     #[error("a second binder at byte {at}")]
-    Duplicate { at: usize },
+    Duplicate {
+        at: usize,
+    },
     /// A name without binder, at this place.
     #[error("no binder for the name at byte {at}")]
-    Unknown { at: usize },
+    Unknown {
+        at: usize,
+    },
+    /// An expression of another kind than is wanted, at its place.
+    #[error("wrong kind at byte {at}")]
+    WrongKind {
+        at: usize,
+        wanted: Kind,
+        found: Kind,
+    },
+    /// More than `MAX_PARAMS` parameters, at the definition's name.
+    #[error("too many parameters at byte {at}")]
+    TooManyParams {
+        at: usize,
+    },
     /// A growth was refused.
     #[error("out of memory")]
     Memory,
@@ -90,7 +137,11 @@ impl CheckCause {
         ensures { result ≡ place_of self }
     {
         match self {
-            CheckCause::Duplicate { at } | CheckCause::Unknown { at } => at,
+            CheckCause::MainKind { at }
+            | CheckCause::Duplicate { at }
+            | CheckCause::Unknown { at }
+            | CheckCause::WrongKind { at, .. }
+            | CheckCause::TooManyParams { at } => at,
             CheckCause::NoMain | CheckCause::Memory => 0,
         }
     }
@@ -101,8 +152,11 @@ impl CheckCause {
     {
         match self {
             CheckCause::NoMain => 7,
+            CheckCause::MainKind { .. } => 8,
             CheckCause::Duplicate { .. } => 9,
             CheckCause::Unknown { .. } => 10,
+            CheckCause::WrongKind { .. } => 12,
+            CheckCause::TooManyParams { .. } => 13,
             CheckCause::Memory => 0,
         }
     }
@@ -115,17 +169,17 @@ pub struct CheckError {
     pub cause: CheckCause,
 }
 
-/// The program, checked, or the first cause to refuse it: the one at the smallest place, and where there
-/// is none, that it has no `main`.
+/// The program, checked, or the first cause to refuse it: the one at the smallest place, of two at one
+/// place the one with the smaller number, and where there is none, that it has no `main`.
 pub fn check(alloc: Global, program: Program) -> Result<Checked, CheckError>
     requires { Distinct (program_tree program) }
     ensures ok { IfOk result (λ c. c.program ≡ program) }
-    ensures accepted { OnOk result (causes program ≡ []) }
+    ensures accepted { IfOk result (λ c. causes (get nat_eq c.kinds) program ≡ []) }
     ensures back { IfErr result (λ e. e.program ≡ program) }
     ensures refused { IfErr result (λ e. IsRefusedFor program e.cause) }
 {
-    match walk_program(alloc, &program) {
-        Ok(found) => settle(program, found),
+    match find_names_and_kinds(alloc, &program) {
+        Ok((found, kinds)) => settle(program, found, kinds),
         Err(_) => Err(CheckError {
             program,
             cause: CheckCause::Memory,
@@ -133,17 +187,36 @@ pub fn check(alloc: Global, program: Program) -> Result<Checked, CheckError>
     }
 }
 
-/// The program, checked, or why it is refused, where this was found of it. Takes no memory.
-fn settle(program: Program, found: Found) -> Result<Checked, CheckError>
+/// What the names of the program mean, with the first cause in them, and the kinds of its things.
+fn find_names_and_kinds(
+    alloc: Global,
+    program: &Program,
+) -> Result<(Found, IndexMap<usize, Kind>), AllocError>
+    requires { Distinct (program_tree program.now) }
+    ensures names { IfOk result (λ r. IsOf r.0 (uses_of_all program.now.defs) (name_causes program.now)) }
+    ensures kinds { IfOk result (λ r. AreKinds program.now (get nat_eq r.0.binders) (get nat_eq r.1)) }
+{
+    let found = walk_program(alloc, program)?;
+    let kinds = find_kinds(alloc, program, &found.binders)?;
+    Ok((found, kinds))
+}
+
+/// The program, checked, or why it is refused, where these are its names and kinds. Takes no memory.
+fn settle(
+    program: Program,
+    found: Found,
+    kinds: IndexMap<usize, Kind>,
+) -> Result<Checked, CheckError>
     requires distinct { Distinct (program_tree program) }
-    requires found { IsOf found (uses_of_all program.defs) (causes program) }
+    requires names { IsOf found (uses_of_all program.defs) (name_causes program) }
+    requires kinds { AreKinds program (get nat_eq found.binders) (get nat_eq kinds) }
     ensures ok { IfOk result (λ c. c.program ≡ program) }
-    ensures accepted { OnOk result (causes program ≡ []) }
+    ensures accepted { IfOk result (λ c. causes (get nat_eq c.kinds) program ≡ []) }
     ensures back { IfErr result (λ e. e.program ≡ program) }
     ensures refused { IfErr result (λ e. IsRefusedFor program e.cause) }
 {
     let Found { binders, first } = found;
-    if let Some(cause) = first {
+    if let Some(cause) = first_cause(&program, &kinds, first) {
         return Err(CheckError { program, cause });
     }
     match find_main(&program) {
@@ -151,12 +224,29 @@ fn settle(program: Program, found: Found) -> Result<Checked, CheckError>
             program,
             main,
             binders,
+            kinds,
         }),
         None => Err(CheckError {
             program,
             cause: CheckCause::NoMain,
         }),
     }
+}
+
+/// The first cause in the program, where this is the first in its names. Takes no memory.
+fn first_cause(
+    program: &Program,
+    kinds: &IndexMap<usize, Kind>,
+    named: Option<CheckCause>,
+) -> Option<CheckCause>
+    ensures { IsFirstOf named (name_causes program.now)
+        → IsFirstOf result (causes (get nat_eq kinds.now) program.now) }
+{
+    let mut first = named;
+    if let Some(cause) = first_wrong(program, kinds) {
+        note(&mut first, cause);
+    }
+    first
 }
 
 /// The place of the first definition called `main`.
@@ -179,5 +269,7 @@ fn is_main(def: &Def) -> bool
     def.name.as_str() == "main"
 }
 
+#[cfg(test)]
+mod kinds_tests;
 #[cfg(test)]
 mod tests;

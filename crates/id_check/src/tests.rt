@@ -29,6 +29,7 @@ fn definitions(alloc: Global, names: &[&str]) -> Result<Program, AllocError> {
         let value = Constant::Int(7);
         defs.push(Def {
             name,
+            params: Sequence::new(Vec::new(alloc)),
             result: Kind::Int,
             body: Expr::Literal { value, place },
             place,
@@ -81,6 +82,235 @@ fn refuses_for_the_first_cause(rt: HostRuntime) -> Result<(), Fail> {
         }
     }
     Ok(())
+}
+
+fn wrong(at: usize, wanted: Kind, found: Kind) -> CheckCause {
+    CheckCause::WrongKind { at, wanted, found }
+}
+
+fn assert_refused(
+    rt: &impl Abort,
+    alloc: Global,
+    rows: &[(&str, CheckCause, &str)],
+) -> Result<(), Fail> {
+    for (text, cause, why) in rows {
+        match checked(alloc, text)? {
+            Ok(_) => assert!(rt; false, "accepted: {why}"),
+            Err(found) => assert_eq!(rt; found, *cause, "{why}"),
+        }
+    }
+    Ok(())
+}
+
+#[test]
+fn refuses_parameters(rt: HostRuntime) -> Result<(), Fail> {
+    let main_kind = |at| CheckCause::MainKind { at };
+    let duplicate = |at| CheckCause::Duplicate { at };
+    let unknown = |at| CheckCause::Unknown { at };
+    let rows = [
+        ("def main(a: array): int = 0;", main_kind(9), "an array"),
+        (
+            "def main(n: int, a: array, b: array): int = n;",
+            main_kind(17),
+            "the first of two arrays",
+        ),
+        (
+            "def f(a: array): int = 0;",
+            CheckCause::NoMain,
+            "not of main",
+        ),
+        (
+            "def mainn(a: array): int = 0;",
+            CheckCause::NoMain,
+            "nor of a longer name",
+        ),
+        (
+            "def main(n: int, n: int): int = n;",
+            duplicate(17),
+            "a second parameter",
+        ),
+        (
+            "def main(n: int, n: bool, n: int): int = n;",
+            duplicate(17),
+            "the first of two",
+        ),
+        (
+            "def main(n: int, n: array): int = n;",
+            main_kind(17),
+            "the smaller number at one place",
+        ),
+        (
+            "def main(n: int): int = { n = 1; n = 2; in n };",
+            duplicate(33),
+            "a block binds the name anew, once",
+        ),
+        ("def main(n: int): int = m;", unknown(24), "another name"),
+        (
+            "def main(a: array): int = x;",
+            main_kind(9),
+            "before a name in the body",
+        ),
+    ];
+    assert_refused(&rt, rt.alloc(), &rows)
+}
+
+/// A definition with so many parameters, each written by its number, of this kind.
+fn with_params(alloc: Global, name: &str, count: usize, kind: &str) -> Result<String, AllocError> {
+    let mut params = String::from_str(alloc, "z: int")?;
+    for number in 1..count {
+        let param = format!(in alloc; ", p{number}: {kind}")?;
+        params.push_str(param.as_str())?;
+    }
+    format!(in alloc; "def {name}({params}): int = z;")
+}
+
+#[test]
+fn refuses_more_than_16_parameters(rt: HostRuntime) -> Result<(), Fail> {
+    let alloc = rt.alloc();
+    let too_many = Some(CheckCause::TooManyParams { at: 4 });
+    let rows = [
+        ("main", 16, "int", None),
+        ("main", 17, "int", too_many),
+        ("f", 17, "int", too_many),
+        ("main", 17, "array", too_many),
+        ("main", 18, "bool", too_many),
+    ];
+    for (name, count, kind, cause) in rows {
+        let text = with_params(alloc, name, count, kind)?;
+        let found = checked(alloc, text.as_str())?.err();
+        assert_eq!(rt; found, cause, "{count} of {kind}");
+    }
+    Ok(())
+}
+
+#[test]
+fn refuses_wrong_kinds(rt: HostRuntime) -> Result<(), Fail> {
+    let int_found = |at, found| wrong(at, Kind::Int, found);
+    let bool_found = |at, found| wrong(at, Kind::Bool, found);
+    let rows = [
+        (
+            "def main(): int = 1 + true;",
+            int_found(22, Kind::Bool),
+            "a right operand",
+        ),
+        (
+            "def main(): int = true;",
+            int_found(18, Kind::Bool),
+            "a result",
+        ),
+        (
+            "def main(): bool = 1;",
+            bool_found(19, Kind::Int),
+            "another result",
+        ),
+        (
+            "def main(): int = not 1;",
+            int_found(18, Kind::Bool),
+            "an operator before its operand",
+        ),
+        (
+            "def main(): int = -true;",
+            int_found(19, Kind::Bool),
+            "of a minus",
+        ),
+        (
+            "def main(): bool = true and 1;",
+            bool_found(28, Kind::Int),
+            "of `and`",
+        ),
+        (
+            "def main(): bool = 1 < true;",
+            int_found(23, Kind::Bool),
+            "of a comparison",
+        ),
+        (
+            "def main(): bool = true == 1;",
+            bool_found(27, Kind::Int),
+            "the left one decides",
+        ),
+        (
+            "def main(): bool = 1 == true;",
+            int_found(24, Kind::Bool),
+            "the left one decides",
+        ),
+        (
+            "def f(a: array): bool = a == a;",
+            int_found(24, Kind::Array),
+            "arrays are not compared",
+        ),
+        (
+            "def f(a: array): bool = 1 == a;",
+            int_found(29, Kind::Array),
+            "nor with a number",
+        ),
+    ];
+    assert_refused(&rt, rt.alloc(), &rows)
+}
+
+#[test]
+fn the_kind_of_a_name_is_its_binders(rt: HostRuntime) -> Result<(), Fail> {
+    let int_found = |at, found| wrong(at, Kind::Int, found);
+    let rows = [
+        (
+            "def main(n: bool): int = { m = n; in m };",
+            int_found(25, Kind::Bool),
+            "of a parameter",
+        ),
+        (
+            "def main(n: int): int = { n = true; in n };",
+            int_found(24, Kind::Bool),
+            "of the inner binder",
+        ),
+        (
+            "def main(): int = { x = y; y = true; in x };",
+            int_found(18, Kind::Bool),
+            "at the end of a chain",
+        ),
+        (
+            "def main(): bool = { x = y; y = x; in x };",
+            wrong(19, Kind::Bool, Kind::Int),
+            "of a chain that comes back",
+        ),
+    ];
+    assert_refused(&rt, rt.alloc(), &rows)
+}
+
+#[test]
+fn names_and_kinds_are_refused_by_place(rt: HostRuntime) -> Result<(), Fail> {
+    let wrong_kind = |at| wrong(at, Kind::Int, Kind::Bool);
+    let rows = [
+        (
+            "def main(): int = { x = 1; x = 2; in 1 + true };",
+            CheckCause::Duplicate { at: 27 },
+            "a second binder before a wrong kind",
+        ),
+        (
+            "def main(): int = { y = 1 + true; x = 1; x = 2; in x };",
+            wrong_kind(28),
+            "a wrong kind before a second binder",
+        ),
+        (
+            "def main(): int = true + z;",
+            wrong_kind(18),
+            "a wrong kind before an unknown name",
+        ),
+        (
+            "def main(): int = z + true;",
+            CheckCause::Unknown { at: 18 },
+            "an unknown name before a wrong kind",
+        ),
+        (
+            "def main(): int = { x = z; in true + x };",
+            CheckCause::Unknown { at: 24 },
+            "a name for an unknown one has no kind",
+        ),
+        (
+            "def f(): int = true;",
+            wrong(15, Kind::Int, Kind::Bool),
+            "a wrong kind before a missing main",
+        ),
+    ];
+    assert_refused(&rt, rt.alloc(), &rows)
 }
 
 #[test]
@@ -146,6 +376,69 @@ fn each_use_means_its_binder(rt: HostRuntime) -> Result<(), Fail> {
         assert_binders(&rt, &checked, uses, why);
         assert_eq!(rt; checked.main, 0, "{why}");
         assert_eq!(rt; checked.main_def().place, 4, "{why}");
+    }
+    Ok(())
+}
+
+#[test]
+fn a_body_sees_the_parameters(rt: HostRuntime) -> Result<(), Fail> {
+    let rows: [(&str, &[(usize, Option<usize>)], &str); 4] = [
+        (
+            "def main(n: int): int = n + n;",
+            &[(24, Some(9)), (28, Some(9)), (9, None)],
+            "twice",
+        ),
+        (
+            "def main(p: bool): bool = p and not p;",
+            &[(26, Some(9)), (36, Some(9))],
+            "in operands",
+        ),
+        (
+            "def main(n: int): int = { n = n; in n };",
+            &[(30, Some(26)), (36, Some(26))],
+            "hidden by a block",
+        ),
+        (
+            "def main(n: int, m: bool): int = { k = n; in { n = k; in n + k } };",
+            &[
+                (39, Some(9)),
+                (51, Some(35)),
+                (57, Some(47)),
+                (61, Some(35)),
+            ],
+            "hidden by an inner block alone",
+        ),
+    ];
+    for (text, uses, why) in rows {
+        let checked = checked(rt.alloc(), text)?.map_err(|cause| cause)?;
+        assert_binders(&rt, &checked, uses, why);
+    }
+    Ok(())
+}
+
+#[test]
+fn each_thing_has_its_kind(rt: HostRuntime) -> Result<(), Fail> {
+    let text = "def main(n: int, p: bool): bool = { q = n < m; m = m; in p == q };";
+    let checked = checked(rt.alloc(), text)?.map_err(|cause| cause)?;
+    let (int, truth) = (Some(Kind::Int), Some(Kind::Bool));
+    let rows = [
+        (9, int, "the first parameter"),
+        (17, truth, "the second one"),
+        (34, truth, "the block"),
+        (36, truth, "a binding of a comparison"),
+        (40, int, "the use of a parameter"),
+        (42, truth, "the comparison"),
+        (44, int, "a name in a chain that comes back"),
+        (47, int, "its binding"),
+        (51, int, "its value"),
+        (57, truth, "the other parameter's use"),
+        (59, truth, "the body"),
+        (62, truth, "a use before it"),
+        (4, None, "the definition is no thing with a kind"),
+        (5, None, "nothing is there"),
+    ];
+    for (place, kind, why) in rows {
+        assert_eq!(rt; checked.kind(place), kind, "{why}");
     }
     Ok(())
 }
@@ -225,6 +518,44 @@ fn a_block_that_is_left_gives_its_names_back(rt: HostRuntime) -> Result<(), Fail
             Some(binder),
             "{left} blocks were left"
         );
+    }
+    Ok(())
+}
+
+/// A block of so many bindings and one more, each but the last of the name of the next one (or each but the
+/// first of the one before), whose body is the name at the other end.
+fn long_chain(alloc: Global, count: usize, forwards: bool) -> Result<String, AllocError> {
+    let mut text = String::from_str(alloc, "def main(): bool = {")?;
+    if forwards {
+        text.push_str("x0=true;")?;
+    }
+    for number in 0..count {
+        let next = number.saturating_add(1);
+        let statement = if forwards {
+            format!(in alloc; "x{next}=x{number};")?
+        } else {
+            format!(in alloc; "x{number}=x{next};")?
+        };
+        text.push_str(statement.as_str())?;
+    }
+    if forwards {
+        let body = format!(in alloc; "in x{count}}};")?;
+        text.push_str(body.as_str())?;
+    } else {
+        let body = format!(in alloc; "x{count}=true;in x0}};")?;
+        text.push_str(body.as_str())?;
+    }
+    Ok(text)
+}
+
+#[test]
+fn long_chains_take_little_time(rt: HostRuntime) -> Result<(), Fail> {
+    let alloc = rt.alloc();
+    for forwards in [true, false] {
+        let text = long_chain(alloc, 20_000, forwards)?;
+        let checked = checked(alloc, text.as_str())?.map_err(|cause| cause)?;
+        assert_eq!(rt; checked.kind(19), Some(Kind::Bool), "the block");
+        assert_eq!(rt; checked.kind(20), Some(Kind::Bool), "the first binding");
     }
     Ok(())
 }

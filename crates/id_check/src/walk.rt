@@ -1,20 +1,23 @@
-//! The walk over a program: which binder each use of a name means, and the first cause to refuse it.
+//! The walk over a program: which binder each use of a name means, and the first cause in its names and
+//! parameters to refuse it.
 
 ghost use Rattle.std.specs.Prelude.{ℕ, List, ◌≡◌, [], ◌∷◌, ◌++◌, length, map, Some, IfOk, OnOk, nat_eq};
 ghost use Rattle.indexmap.specs.IndexMap.{get};
 ghost use Rattle.id_check.specs.Bounds.{IsEmptyScope};
 ghost use Rattle.id_check.specs.Walks.{IsOf};
-ghost use Rattle.id_check.specs.Scopes.{Binder, Use, binder_of, uses_of, uses_of_all};
-ghost use Rattle.id_check.specs.Causes.{causes, causes_of, causes_of_all, procedure, unknown};
+ghost use Rattle.id_check.specs.Scopes.{Binder, Use, binder_of, binders_of_params, uses_of, uses_of_all};
+ghost use Rattle.id_check.specs.Causes.{causes_of, causes_of_all, causes_of_def, name_causes, procedure, unknown};
 
 use crate::CheckCause;
+use crate::first::note;
+use crate::params::note_params;
 use crate::scope::Scope;
 use id_text::Identifier;
-use id_tree::{Def, Expr, Program, Stmt};
+use id_tree::{Def, Expr, Param, Program, Stmt};
 use indexmap::IndexMap;
 use std::alloc::{AllocError, Global};
 
-/// What a program was found to have.
+/// What a program was found to have in its names and parameters.
 #[derive(Drop)]
 pub struct Found {
     /// For each use of a name, by its place, the place of its binder.
@@ -30,21 +33,21 @@ pub struct Walk<'a> {
     pub found: Found,
 }
 
-/// The program's uses of names with their binders, and its first cause.
+/// The program's uses of names with their binders, and the first cause in its names and parameters.
 pub fn walk_program(alloc: Global, program: &Program) -> Result<Found, AllocError>
-    ensures { IfOk result (λ f. IsOf f (uses_of_all program.now.defs) (causes program.now)) }
+    ensures { IfOk result (λ f. IsOf f (uses_of_all program.now.defs) (name_causes program.now)) }
 {
     let mut walk = Walk::new(alloc);
     let defs = program.defs.as_slice();
     walk.enter_procedures(defs)?;
     walk.scope.leave(0)?;
-    walk.walk_bodies(defs)?;
+    walk.walk_defs(defs)?;
     let Walk { found, .. } = walk;
     Ok(found)
 }
 
 impl Found {
-    ghost use Rattle.id_check.specs.Walks.{IsFirstOf, binder_at};
+    ghost use Rattle.id_check.specs.Walks.{binder_at};
 
     /// Nothing was found. Takes no memory.
     fn new(alloc: Global) -> Found
@@ -64,19 +67,6 @@ impl Found {
     {
         self.binders.insert(place, binder)?;
         Ok(())
-    }
-
-    /// Notes a cause: the first one stays. Takes no memory.
-    fn note(&mut self, cause: CheckCause)
-        ensures first { (cs : List CheckCause) → IsFirstOf self.old.first cs
-            → IsFirstOf self.new.first (cs ++ cause ∷ []) }
-        ensures binders { self.new.binders ≡ self.old.binders }
-    {
-        let first = match self.first {
-            Some(first) if first.is_before(cause) => first,
-            _ => cause,
-        };
-        self.first = Some(first);
     }
 }
 
@@ -105,13 +95,37 @@ impl<'a> Walk<'a> {
         Ok(())
     }
 
-    /// Walks the bodies of the definitions, where no name is in scope.
-    fn walk_bodies(&mut self, defs: &'a [Def]) -> Result<(), AllocError>
+    /// Walks the definitions, where no name is in scope.
+    fn walk_defs(&mut self, defs: &'a [Def]) -> Result<(), AllocError>
         ensures { OnOk result (IsScope self.old.scope []
             → Adds self.old (uses_of_all defs.now) (causes_of_all defs.now) self.new) }
     {
         for def in defs {
-            self.walk_expr(&def.body)?;
+            self.walk_def(def)?;
+        }
+        Ok(())
+    }
+
+    /// Walks a definition, where no name is in scope: its parameters, and its body, which sees them.
+    fn walk_def(&mut self, def: &'a Def) -> Result<(), AllocError>
+        ensures { OnOk result (IsScope self.old.scope []
+            → Adds self.old (uses_of (binders_of_params def.now.params) def.now.body) (causes_of_def def.now) self.new) }
+    {
+        let outside = self.scope.block();
+        note_params(&mut self.found.first, def);
+        self.enter_params(def.params.as_slice())?;
+        self.walk_expr(&def.body)?;
+        self.scope.leave(outside)?;
+        Ok(())
+    }
+
+    /// Binds the names of the parameters, as those of a block.
+    fn enter_params(&mut self, params: &'a [Param]) -> Result<(), AllocError>
+        ensures { OnOk result (IsBelow self.old.scope → Enters self.old (binders_of_params params.now) self.new) }
+    {
+        let block = self.scope.block();
+        for param in params {
+            self.bind(&param.name, param.place, block)?;
         }
         Ok(())
     }
@@ -174,7 +188,7 @@ impl<'a> Walk<'a> {
     {
         match self.scope.look_up(name.as_str()) {
             Some(binder) => self.found.record(place, binder)?,
-            None => self.found.note(CheckCause::Unknown { at: place }),
+            None => note(&mut self.found.first, CheckCause::Unknown { at: place }),
         }
         Ok(())
     }
@@ -200,7 +214,7 @@ impl<'a> Walk<'a> {
             → Enters outer (bs ++ record { name = name.now; place = place } ∷ []) self.new) }
     {
         if !self.scope.bind(name.as_str(), place, block)? {
-            self.found.note(CheckCause::Duplicate { at: place });
+            note(&mut self.found.first, CheckCause::Duplicate { at: place });
         }
         Ok(())
     }

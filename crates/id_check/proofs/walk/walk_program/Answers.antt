@@ -24,7 +24,7 @@ returns c =
     (subst (λ n. c.leave.new.self.shadowed.items ≡ take n c.enter_procedures.new.self.scope.shadowed.items) none left.shadowed)
     (λ x. subst (λ n. bound_at c.leave.new.self x ≡ before (drop n c.enter_procedures.new.self.scope.shadowed.items) (bound_at c.enter_procedures.new.self.scope x) x) none (left.bound x)) in
     let between : Walk = record { scope = c.leave.new.self; found = c.enter_procedures.new.self.found } in
-    let bodies = subst (λ ds. Adds between (uses_of_all ds) (causes_of_all ds) c.walk_bodies.new.self) c.as_slice-defs.ensures (c.in_ok-walk_bodies.ensures (IsScope-kept keeps outside)) in
+    let bodies = subst (λ ds. Adds between (uses_of_all ds) (causes_of_all ds) c.walk_defs.new.self) c.as_slice-defs.ensures (c.in_ok-walk_defs.ensures (IsScope-kept keeps outside)) in
     bodies.found [] (repeated [] (map procedure defs)) (enters.found [] [] c.new-walk.ensures.found)
   where
     no_bound : (b : Bound) → None ≡ Some b → ⊥

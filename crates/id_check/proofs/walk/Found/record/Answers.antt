@@ -1,7 +1,7 @@
 use Rattle.std.proofs.Common.{◌≡◌, ℕ, Bool, true, false, refl, ap, sym, ◌∙◌, cond, if◌then◌else◌}
 use Rattle.std.specs.Prelude.{Option, None, Some, nat_eq}
 use Rattle.std.specs.Option.{option_or}
-use Rattle.id_check.proofs.FirstLemmas.{binder_at-push}
+use Rattle.id_check.proofs.BindersLemmas.{binder_at-push}
 use Rattle.id_check.proofs.walk.Found.record.Goals as goal
 
 either : (t : Bool) (b : ℕ) (o : Option ℕ) → cond t (Some b) o ≡ option_or (if t then Some b else None) o

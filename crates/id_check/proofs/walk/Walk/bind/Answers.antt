@@ -1,6 +1,7 @@
-use Rattle.std.proofs.Common.{◌≡◌, [], ◌∷◌, ◌++◌, true, false, sym, subst, rules}
+use Rattle.std.proofs.Common.{◌≡◌, [], ◌∷◌, ◌++◌, true, false, refl, sym, subst, rules}
 use Rattle.id_check.specs.Bounds.{Binds, bound_at, is_of}
 use Rattle.id_check.specs.Walks.{Enters}
+use Rattle.id_check.specs.declared.walk.Found.{Found}
 use Rattle.id_check.proofs.WalksLemmas.{Enters-new, Enters-second}
 use Rattle.id_check.proofs.walk.Walk.bind.Goals as goal
 
@@ -10,8 +11,9 @@ returns-then-not-branch c = λ outer bs block below e.
     let h = c.in_ok-bind.ensures.second second in
     let taken = subst (λ n. is_of n (bound_at c.args.self.now.scope c.args.name.now) ≡ true) block
     (subst (λ x. is_of c.args.block (bound_at c.args.self.now.scope x) ≡ true) c.as_str.ensures h.0) in
-    subst (λ s. Enters outer (bs ++ record { name = c.args.name.now; place = c.args.place } ∷ []) (record { scope = s; found = c.note.new.self })) (sym h.1)
-    (Enters-second c.note.new.self bs c.args.name.now c.args.place below e taken c.note.ensures.binders c.note.ensures.first)
+    let found : Found = record { binders = c.args.self.now.found.binders; first = c.note.new.first } in
+    subst (λ s. Enters outer (bs ++ record { name = c.args.name.now; place = c.args.place } ∷ []) (record { scope = s; found = found })) (sym h.1)
+    (Enters-second found bs c.args.name.now c.args.place below e taken refl c.note.ensures)
 
 pub returns-else-not-branch : goal.returns-else-not-branch
 returns-else-not-branch c = λ outer bs block below e.

@@ -1,5 +1,5 @@
--- The first of the causes found so far, and the binder found at a place.
-use Rattle.std.proofs.Common.{◌≡◌, ◌⊎◌, inl, inr, ◌<◌, ◌≤◌, ℕ, Bool, true, false, List, [], ◌∷◌, ◌++◌, refl, ap, sym, ◌∙◌, subst, append-nil, arith, if◌then◌else◌}
+-- The binder found at a place, and the second binders of a name, where there is one more.
+use Rattle.std.proofs.Common.{◌≡◌, ℕ, Bool, true, false, List, [], ◌∷◌, ◌++◌, refl, ap, sym, ◌∙◌, append-nil, if◌then◌else◌}
 use Rattle.std.proofs.lemmas.Bool.{false≢true}
 use Rattle.std.proofs.lemmas.Slice.Eq.{bytes_eq-Decides}
 use Rattle.std.specs.Prelude.{Option, None, Some, nat_eq}
@@ -8,54 +8,9 @@ use Rattle.std.specs.Prelude.{◌||◌}
 use Rattle.std.specs.Str.{bytes_eq}
 use Rattle.id_check.specs.declared.CheckCause.{CheckCause}
 use Rattle.id_check.specs.declared.CheckCause.TheVariants.{Duplicate}
-use Rattle.id_check.specs.Causes.{IsBefore, IsFirst, is_among, number_of, place_of, repeated}
-use Rattle.id_check.specs.Scopes.{Among, Binder, Use, binder_of}
+use Rattle.id_check.specs.Causes.{is_among, repeated}
+use Rattle.id_check.specs.Scopes.{Binder, Use, binder_of}
 use Rattle.id_check.specs.Walks.{binder_at}
-
-pub Among-left : {A : Type 0} (x : A) (xs ys : List A) → Among x xs → Among x (xs ++ ys)
-Among-left x [] ys h = absurd h
-Among-left x (z ∷ xs) ys (inl e) = inl e
-Among-left x (z ∷ xs) ys (inr h) = inr (Among-left x xs ys h)
-
-pub Among-right : {A : Type 0} (x : A) (xs ys : List A) → Among x ys → Among x (xs ++ ys)
-Among-right x [] ys h = h
-Among-right x (z ∷ xs) ys h = inr (Among-right x xs ys h)
-
-pub Among-append : {A : Type 0} (x : A) (xs ys : List A) → Among x (xs ++ ys) → Among x xs ⊎ Among x ys
-Among-append x [] ys h = inr h
-Among-append x (z ∷ xs) ys (inl e) = inl (inl e)
-Among-append x (z ∷ xs) ys (inr h) = elim (Among-append x xs ys h) [ inl i ↦ inl (inr i) | inr i ↦ inr i ]
-
--- what is not before another cause, but before a third, is behind it
-other_before : (p q r n m k : ℕ) → ((p < q) ⊎ ((p ≡ q) × (n ≤ m)) → ⊥) → (p < r) ⊎ ((p ≡ r) × (n ≤ k)) → (q < r) ⊎ ((q ≡ r) × (m ≤ k))
-other_before p q r n m k h i = grind arith
-
-IsBefore-refl : (c : CheckCause) → IsBefore c c
-IsBefore-refl c = inr (refl, omega arith)
-
-IsBefore-others : (c d e : CheckCause) → (IsBefore c d → ⊥) → IsBefore c e → IsBefore d e
-IsBefore-others c d e h i = other_before (place_of c) (place_of d) (place_of e) (number_of c) (number_of d) (number_of e) h i
-
--- the first cause stays before a later one
-pub IsFirst-stays : (c d : CheckCause) (cs : List CheckCause) → IsBefore c d → IsFirst c cs → IsFirst c (cs ++ d ∷ [])
-IsFirst-stays c d cs h f = record {
-  among = Among-left c cs (d ∷ []) f.among;
-  before = λ e i. elim (Among-append e cs (d ∷ []) i) [ inl j ↦ f.before e j | inr j ↦ elim j [ inl same ↦ subst (IsBefore c) (sym same) h | inr never ↦ absurd never ] ];
-}
-
--- another is the first where the one before it is not
-pub IsFirst-turns : (c d : CheckCause) (cs : List CheckCause) → (IsBefore c d → ⊥) → IsFirst c cs → IsFirst d (cs ++ d ∷ [])
-IsFirst-turns c d cs h f = record {
-  among = Among-right d cs (d ∷ []) (inl refl);
-  before = λ e i. elim (Among-append e cs (d ∷ []) i) [ inl j ↦ IsBefore-others c d e h (f.before e j) | inr j ↦ elim j [ inl same ↦ subst (IsBefore d) (sym same) (IsBefore-refl d) | inr never ↦ absurd never ] ];
-}
-
--- the only one is the first
-pub IsFirst-alone : (d : CheckCause) (cs : List CheckCause) → cs ≡ [] → IsFirst d (cs ++ d ∷ [])
-IsFirst-alone d cs e = subst (λ ds. IsFirst d (ds ++ d ∷ [])) (sym e) (record {
-  among = inl refl;
-  before = λ c i. elim i [ inl same ↦ subst (IsBefore d) (sym same) (IsBefore-refl d) | inr never ↦ absurd never ];
-})
 
 -- the binder at a place, where there are more uses
 or-assoc : (a b c : Option ℕ) → option_or (option_or a b) c ≡ option_or a (option_or b c)
