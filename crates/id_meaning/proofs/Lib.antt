@@ -6,3 +6,4 @@ pub mod StatesLemmas
 pub mod TableLemmas
 pub mod StepLemmas
 pub mod ListedLemmas
+pub mod InputsLemmas

@@ -1,11 +1,11 @@
 -- Lemmas on specs/Listed.antt: the list that the cells give is that of the facts that they show.
 use Rattle.std.proofs.Common.{◌≡◌, inl, inr, ℕ, zero, suc, ◌+◌, ◌<◌, Bool, true, false, Option, None, Some, List, [], ◌∷◌, ◌++◌, get_or, if◌then◌else◌, refl, ap, sym, ◌∙◌, subst, arith}
-use Rattle.id_check.specs.declared.Checked.{Checked}
 use Rattle.id_meaning.specs.declared.SourceValue.{SourceValue}
 use Rattle.id_meaning.specs.declared.Fact.{Fact}
 use Rattle.id_meaning.specs.declared.Fact.TheVariants.{On, Has}
 use Rattle.id_meaning.specs.declared.state.Cell.{Cell}
 use Rattle.id_meaning.specs.Parts.{Among}
+use Rattle.id_meaning.specs.Sources.{Source}
 use Rattle.id_meaning.specs.Facts.{outermost}
 use Rattle.id_meaning.specs.Orders.{FactBefore, FactsRise}
 use Rattle.id_meaning.specs.Computed.{AreFacts}
@@ -147,8 +147,8 @@ on-first cs f g h k =
     subst F (sym r.2) (subst G (sym s.3) tt)
 
 -- where the cells show the facts of a round, their list is that of its facts
-pub AreFacts-from_cells : (P : Checked) (n : ℕ) (cs : List Cell) → IsRound P n cs → AreFacts P n (facts_of cs)
-AreFacts-from_cells P n cs s = record {
+pub AreFacts-from_cells : (S : Source) (n : ℕ) (cs : List Cell) → IsRound S n cs → AreFacts S n (facts_of cs)
+AreFacts-from_cells S n cs s = record {
   all = λ f h. shown-among cs f (s.all f h);
   only = λ f h. s.only f (among-shown cs f h);
   rise = rise-append (on_facts 0 cs) (has_facts 0 cs) (on-rise 0 cs) (has-rise 0 cs) (on-first cs);

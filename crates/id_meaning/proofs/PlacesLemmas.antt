@@ -1,15 +1,16 @@
 -- No two of a checked program's lines have one place, since no two things of its tree have.
 use Rattle.std.proofs.Common.{◌⊎◌, inl, inr, ℕ, List, [], ◌∷◌, ◌++◌, refl, sym, subst}
 use Rattle.std.specs.Prelude.{map}
+use Rattle.id_tree.specs.declared.tree.Param.{Param}
 use Rattle.id_tree.specs.declared.tree.Def.{Def}
 use Rattle.id_tree.specs.declared.tree.Expr.{Expr, Literal, Unary', Binary', Name, Block', Row_of-Stmt, end_of-Stmt, more_of-Stmt}
 use Rattle.id_tree.specs.declared.tree.Stmt.{Binding}
-use Rattle.id_tree.specs.Tree.{tree_of, row_tree, def_tree, defs_tree}
+use Rattle.id_tree.specs.Tree.{tree_of, row_tree, params_tree, def_tree, defs_tree}
 use Rattle.id_tree.specs.Distinct.{HasPlace, Apart}
 use Rattle.id_tree.specs.Distinct as tree
-use Rattle.id_check.specs.Scopes.{Binder, binders_of}
+use Rattle.id_check.specs.Scopes.{Binder, binders_of, binders_of_params}
 use Rattle.id_check.specs.declared.Checked.{Checked}
-use Rattle.id_meaning.specs.Parts.{AllDiffer, Among, Distinct, Entry, Region, Top, entries_of, entries_of_row, entries_of_def, places_of_all}
+use Rattle.id_meaning.specs.Parts.{AllDiffer, Among, Distinct, Entry, Region, Top, entries_of, entries_of_row, entries_of_params, entries_of_def, places_of_all}
 use Rattle.id_meaning.proofs.AmongLemmas.{AllDiffer-append, Among-either, map-append}
 
 -- the places of these lines
@@ -92,13 +93,44 @@ mutual
         (λ q h k. d.0 q (inr (HasPlace-from_lines r bs a q h)) (HasPlace-from_row r bs rest q k)),
   )
 
+-- the places of parameters' lines are places of their trees, and differ
+HasPlace-from_params : (r : Region) (xs : List Param) (q : ℕ) → Among q (places (entries_of_params r xs)) → HasPlace (params_tree xs) q
+HasPlace-from_params r [] q h = absurd h
+HasPlace-from_params r (x ∷ xs) q (inl h) = inl (sym h)
+HasPlace-from_params r (x ∷ xs) q (inr h) = inr (HasPlace-from_params r xs q h)
+
+AllDiffer-params : (r : Region) (xs : List Param) → tree.Distinct (params_tree xs) → AllDiffer (places (entries_of_params r xs))
+AllDiffer-params r [] d = tt
+AllDiffer-params r (x ∷ xs) d = (λ h. d.0 x.place refl (HasPlace-from_params r xs x.place h), AllDiffer-params r xs d.2)
+
+-- the same of a definition's lines
+HasPlace-from_entries : (d : Def) (q : ℕ) → Among q (places (entries_of_def d)) → HasPlace (params_tree d.params) q ⊎ HasPlace (tree_of d.body) q
+HasPlace-from_entries d q h =
+    let r = Top d.place in
+    let bs = binders_of_params d.params in
+    elim (either q (entries_of_params r d.params) (entries_of r bs d.body) h) [
+      | inl k ↦ inl (HasPlace-from_params r d.params q k)
+      | inr k ↦ inr (HasPlace-from_lines r bs d.body q k)
+    ]
+
+AllDiffer-entries : (d : Def) → tree.Distinct (def_tree d) → AllDiffer (places (entries_of_def d))
+AllDiffer-entries d h =
+    let r = Top d.place in
+    let bs = binders_of_params d.params in
+    differ-append (entries_of_params r d.params) (entries_of r bs d.body) (AllDiffer-params r d.params h.3) (AllDiffer-lines r bs d.body h.4)
+    (λ q k l. h.2 q (HasPlace-from_params r d.params q k) (HasPlace-from_lines r bs d.body q l))
+
+-- a definition's own place is none of its lines
+not-entry : (d : Def) → tree.Distinct (def_tree d) → Among d.place (places (entries_of_def d)) → ⊥
+not-entry d h k = elim (HasPlace-from_entries d d.place k) [ inl i ↦ h.0 i | inr i ↦ h.1 i ]
+
 -- the places of a definition
 abbrev places_of_def : Def → List ℕ
 places_of_def d = d.place ∷ places (entries_of_def d)
 
 HasPlace-from_def : (d : Def) (q : ℕ) → Among q (places_of_def d) → HasPlace (def_tree d) q
 HasPlace-from_def d q (inl h) = inl (sym h)
-HasPlace-from_def d q (inr h) = inr (HasPlace-from_lines (Top d.place) [] d.body q h)
+HasPlace-from_def d q (inr h) = inr (HasPlace-from_entries d q h)
 
 HasPlace-from_defs : (ds : List Def) (q : ℕ) → Among q (places_of_all ds) → HasPlace (defs_tree ds) q
 HasPlace-from_defs [] q h = absurd h
@@ -113,7 +145,7 @@ AllDiffer-places : (ds : List Def) → tree.Distinct (defs_tree ds) → AllDiffe
 AllDiffer-places [] d = tt
 AllDiffer-places (x ∷ xs) d =
     AllDiffer-append (places_of_def x) (places_of_all xs)
-    (λ h. d.1.0 (HasPlace-from_lines (Top x.place) [] x.body x.place h), AllDiffer-lines (Top x.place) [] x.body d.1.1)
+    (not-entry x d.1, AllDiffer-entries x d.1)
     (AllDiffer-places xs d.2)
     (λ q h k. d.0 q (HasPlace-from_def x q h) (HasPlace-from_defs xs q k))
 

@@ -4,7 +4,7 @@ use Rattle.std.specs.Prelude.{map}
 use Rattle.std.proofs.lemmas.Bool.Decides.{Decides-int_eq}
 use Rattle.std.proofs.lemmas.List.{get_or-set_same, get_or-set_other, length-set}
 use Rattle.id_meaning.specs.declared.SourceValue.{SourceValue}
-use Rattle.id_meaning.specs.declared.SourceValue.TheVariants.{Int}
+use Rattle.id_meaning.specs.declared.SourceValue.TheVariants.{Int, Bool as Truth}
 use Rattle.id_meaning.specs.declared.table.Line.{Line}
 use Rattle.id_meaning.specs.declared.state.Cell.{Cell}
 use Rattle.id_meaning.specs.declared.state.Change.{Change}
@@ -41,6 +41,9 @@ same_value-true None None h = refl
 same_value-true None (Some w) h = cc
 same_value-true (Some v) None h = cc
 same_value-true (Some (Int m)) (Some (Int n)) h = ap (λ k. Some (Int k)) ((Decides-int_eq m n).0 h)
+same_value-true (Some (Int m)) (Some (Truth b)) h = cc
+same_value-true (Some (Truth a)) (Some (Int n)) h = cc
+same_value-true (Some (Truth a)) (Some (Truth b)) h = ap (λ c. Some (Truth c)) (same_bit-true a b h)
 
 and-true : (b c : Bool) → b && c ≡ true → (b ≡ true) × (c ≡ true)
 and-true true c h = (refl, h)

@@ -1,21 +1,21 @@
 -- Rounds as lists (docs/MEANING.md, "Rounds").
 use Rattle.std.specs.Prelude.{◌≤◌, ◌<◌, ℕ, List, length}
-use Rattle.id_check.specs.declared.Checked.{Checked}
 use Rattle.id_meaning.specs.declared.Fact.{Fact}
 use Rattle.id_meaning.specs.Parts.{Among}
+use Rattle.id_meaning.specs.Sources.{Source}
 use Rattle.id_meaning.specs.Rounds.{Rounds}
 use Rattle.id_meaning.specs.Orders.{FactsRise}
 
 -- the list has exactly the facts of round n, in order, each once
-pub record AreFacts (P : Checked) (n : ℕ) (fs : List Fact) : Type 0 where
-  pub all : (f : Fact) → Rounds P n f → Among f fs
-  pub only : (f : Fact) → Among f fs → Rounds P n f
+pub record AreFacts (S : Source) (n : ℕ) (fs : List Fact) : Type 0 where
+  pub all : (f : Fact) → Rounds S n f → Among f fs
+  pub only : (f : Fact) → Among f fs → Rounds S n f
   pub rise : FactsRise fs
 
 -- some round up to n has more facts than this
-pub record HasMoreFacts (P : Checked) (n most : ℕ) : Type 0 where
+pub record HasMoreFacts (S : Source) (n most : ℕ) : Type 0 where
   pub round : ℕ
   pub up_to : round ≤ n
   pub facts : List Fact
-  pub are : AreFacts P round facts
+  pub are : AreFacts S round facts
   pub more : most < length facts

@@ -1,7 +1,9 @@
 -- The parts of a program, and what its operators give.
 pub mod Results
 pub mod Parts
--- The facts of a source, its faults and its answer.
+-- The facts of a source, its faults and its answer; its inputs.
+pub mod Sources
+pub mod Inputs
 pub mod Facts
 pub mod Rounds
 -- Orders, what binders have, and rounds as lists.

@@ -1,11 +1,11 @@
 -- The facts of a round, worked out of what its places have.
 use Rattle.std.specs.Prelude.{◌≡◌, ℕ, suc, true, List, [], ◌∷◌, ◌++◌, Option, None, Some, max, if◌then◌else◌}
-use Rattle.id_check.specs.declared.Checked.{Checked}
 use Rattle.id_meaning.specs.declared.SourceValue.{SourceValue}
 use Rattle.id_meaning.specs.declared.Fact.{Fact}
 use Rattle.id_meaning.specs.declared.Fact.TheVariants.{On, Has}
 use Rattle.id_meaning.specs.declared.table.Line.{Line}
 use Rattle.id_meaning.specs.declared.state.Cell.{Cell}
+use Rattle.id_meaning.specs.Sources.{Source}
 use Rattle.id_meaning.specs.Facts.{outermost}
 use Rattle.id_meaning.specs.Rounds.{Rounds}
 use Rattle.id_meaning.specs.States.{cell_at}
@@ -38,9 +38,9 @@ Shown cs (On p e) = (p ≡ outermost) × ((cell_at cs e).on ≡ true)
 Shown cs (Has p e v) = (p ≡ outermost) × ((cell_at cs e).has ≡ Some v)
 
 -- the cells show exactly the facts of round n
-pub record IsRound (P : Checked) (n : ℕ) (cs : List Cell) : Type 0 where
-  pub all : (f : Fact) → Rounds P n f → Shown cs f
-  pub only : (f : Fact) → Shown cs f → Rounds P n f
+pub record IsRound (S : Source) (n : ℕ) (cs : List Cell) : Type 0 where
+  pub all : (f : Fact) → Rounds S n f → Shown cs f
+  pub only : (f : Fact) → Shown cs f → Rounds S n f
 
 -- the largest of m and the places of these lines
 abbrev pub last_of : ℕ → List Line → ℕ

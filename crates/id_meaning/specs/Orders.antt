@@ -1,10 +1,10 @@
 -- The order of paths, of facts and of names' values (docs/MEANING.md, "Order").
-use Rattle.std.specs.Prelude.{◌≡◌, ◌⊎◌, ◌<◌, ℕ, List, [], ◌∷◌}
+use Rattle.std.specs.Prelude.{◌≡◌, ◌⊎◌, ◌<◌, ℕ, true, false, List, [], ◌∷◌}
 use Rattle.std.specs.Prelude.{◌<ℤ◌}
 use Rattle.id_meaning.specs.declared.PathStep.{PathStep}
 use Rattle.id_meaning.specs.declared.Path.{Path}
 use Rattle.id_meaning.specs.declared.SourceValue.{SourceValue}
-use Rattle.id_meaning.specs.declared.SourceValue.TheVariants.{Int}
+use Rattle.id_meaning.specs.declared.SourceValue.TheVariants.{Int, Bool}
 use Rattle.id_meaning.specs.declared.Fact.{Fact}
 use Rattle.id_meaning.specs.declared.Fact.TheVariants.{On, Has}
 use Rattle.id_meaning.specs.declared.NameValue.{NameValue}
@@ -23,9 +23,12 @@ StepsBefore (s ∷ ss) (t ∷ ts) = StepBefore s t ⊎ ((s ≡ t) × StepsBefore
 abbrev pub PointBefore : Path → ℕ → Path → ℕ → Type 0
 PointBefore p e q f = StepsBefore p.steps q.steps ⊎ ((p ≡ q) × (e < f))
 
--- by the number
+-- numbers before truth values; by the number, and `false` before `true`
 abbrev pub ValueBefore : SourceValue → SourceValue → Type 0
 ValueBefore (Int m) (Int n) = m <ℤ n
+ValueBefore (Int m) (Bool b) = Unit {0}
+ValueBefore (Bool false) (Bool true) = Unit {0}
+ValueBefore _ _ = ⊥
 
 -- On before Has; On by path and place, Has by path, place and value
 abbrev pub FactBefore : Fact → Fact → Type 0

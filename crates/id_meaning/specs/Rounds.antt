@@ -1,13 +1,13 @@
 -- The rounds of a source, what it has, its faults and its answer (docs/MEANING.md, "Rounds", "Faults", "Answer", "Coherence").
 use Rattle.std.specs.Prelude.{◌≡◌, ◌⊎◌, ℕ, zero, suc, List, [], ◌∷◌, Option, Some, None}
 use Rattle.id_tree.specs.declared.tree.Def.{Def}
-use Rattle.id_check.specs.declared.Checked.{Checked}
 use Rattle.id_meaning.specs.declared.Path.{Path}
 use Rattle.id_meaning.specs.declared.SourceValue.{SourceValue}
 use Rattle.id_meaning.specs.declared.Fact.{Fact}
 use Rattle.id_meaning.specs.declared.Fact.TheVariants.{Has}
 use Rattle.id_meaning.specs.declared.SourceFault.{SourceFault}
 use Rattle.id_meaning.specs.Parts.{place_of, IsMain}
+use Rattle.id_meaning.specs.Sources.{Source}
 use Rattle.id_meaning.specs.Facts.{outermost, Rule, FaultRule}
 
 -- all of the facts hold
@@ -16,36 +16,36 @@ Every F [] = Unit {0}
 Every F (f ∷ fs) = F f × Every F fs
 
 -- the facts of round n: none in round 0, and then those of the round before with all that follows from them by one rule
-abbrev pub Rounds : Checked → ℕ → Fact → Type 0
-Rounds P zero f = ⊥
-Rounds P (suc n) f = Rounds P n f ⊎ ((fs : List Fact) × Rule P fs f × Every (Rounds P n) fs)
+abbrev pub Rounds : Source → ℕ → Fact → Type 0
+Rounds S zero f = ⊥
+Rounds S (suc n) f = Rounds S n f ⊎ ((fs : List Fact) × Rule S fs f × Every (Rounds S n) fs)
 
 -- the source has the fact: it is one of some round
-pub record Holds (P : Checked) (f : Fact) : Type 0 where
+pub record Holds (S : Source) (f : Fact) : Type 0 where
   pub round : ℕ
-  pub there : Rounds P round f
+  pub there : Rounds S round f
 
 -- the source has the fault: it follows from facts of the source
-pub record Faulty (P : Checked) (f : SourceFault) : Type 0 where
+pub record Faulty (S : Source) (f : SourceFault) : Type 0 where
   pub premises : List Fact
-  pub rule : FaultRule P premises f
-  pub hold : Every (Holds P) premises
+  pub rule : FaultRule S premises f
+  pub hold : Every (Holds S) premises
 
 -- the source has no fault
-abbrev pub FaultFree : Checked → Type 0
-FaultFree P = (f : SourceFault) → Faulty P f → ⊥
+abbrev pub FaultFree : Source → Type 0
+FaultFree S = (f : SourceFault) → Faulty S f → ⊥
 
 -- main's body Has the value at the empty path
-pub record Answers (P : Checked) (v : SourceValue) : Type 0 where
+pub record Answers (S : Source) (v : SourceValue) : Type 0 where
   pub main : Def
-  pub is_main : IsMain P main
-  pub holds : Holds P (Has outermost (place_of main.body) v)
+  pub is_main : IsMain S.checked main
+  pub holds : Holds S (Has outermost (place_of main.body) v)
 
 -- the answer of the source: the value that main's body Has at the empty path, or none
-abbrev pub IsAnswer : Checked → Option SourceValue → Type 0
-IsAnswer P (Some v) = Answers P v
-IsAnswer P None = (v : SourceValue) → Answers P v → ⊥
+abbrev pub IsAnswer : Source → Option SourceValue → Type 0
+IsAnswer S (Some v) = Answers S v
+IsAnswer S None = (v : SourceValue) → Answers S v → ⊥
 
 -- each path and place has at most one value
-abbrev pub IsCoherent : Checked → Type 0
-IsCoherent P = (p : Path) (e : ℕ) (v w : SourceValue) → Holds P (Has p e v) → Holds P (Has p e w) → v ≡ w
+abbrev pub IsCoherent : Source → Type 0
+IsCoherent S = (p : Path) (e : ℕ) (v w : SourceValue) → Holds S (Has p e v) → Holds S (Has p e w) → v ≡ w

@@ -5,20 +5,21 @@ use Rattle.std.proofs.Common.{get_or, set}
 use Rattle.id_tree.specs.declared.tree.UnaryOp.{UnaryOp}
 use Rattle.id_tree.specs.declared.tree.BinaryOp.{BinaryOp}
 use Rattle.id_meaning.specs.declared.SourceValue.{SourceValue}
-use Rattle.id_meaning.specs.declared.SourceValue.TheVariants.{Int}
+use Rattle.id_meaning.specs.declared.SourceValue.TheVariants.{Int, Bool as Truth}
 use Rattle.id_meaning.specs.declared.table.Turn.{Turn}
 use Rattle.id_meaning.specs.declared.table.Turn.TheVariants.{Always, By, Never}
 use Rattle.id_meaning.specs.declared.table.Form.{Form}
-use Rattle.id_meaning.specs.declared.table.Form.TheVariants.{Literal, Unary, Binary, Same, Binding, Unbound}
+use Rattle.id_meaning.specs.declared.table.Form.TheVariants.{Literal, Unary, Binary, Same, Binding, Input, Unbound}
 use Rattle.id_meaning.specs.declared.table.Line.{Line}
 use Rattle.id_meaning.specs.declared.state.Cell.{Cell}
 use Rattle.id_meaning.specs.declared.state.Change.{Change}
-use Rattle.id_meaning.specs.Results.{Outcome, Gives, Fails, result_of_unary, result_of_binary}
+use Rattle.id_meaning.specs.Results.{Outcome, Gives, Fails, Lacks, result_of_unary, result_of_binary}
 
 -- the value that an operator gives, if it gives one
 abbrev pub given : Outcome → Option SourceValue
 given (Gives v) = Some v
 given (Fails k) = None
+given Lacks = None
 
 -- what an operator gives where its operands may have values
 abbrev pub unary_of : UnaryOp → Option SourceValue → Option SourceValue
@@ -51,31 +52,26 @@ gained cs (Unary o a) = unary_of o (cell_at cs a).has
 gained cs (Binary o a b) = binary_of o (cell_at cs a).has (cell_at cs b).has
 gained cs (Same a) = (cell_at cs a).has
 gained cs (Binding a) = (cell_at cs a).has
+gained cs (Input v) = Some v
 gained cs Unbound = None
 
 -- whether the value of a part waits for no On
-abbrev pub is_binding : Form → Bool
-is_binding (Literal v) = false
-is_binding (Unary o a) = false
-is_binding (Binary o a b) = false
-is_binding (Same a) = false
-is_binding (Binding a) = true
-is_binding Unbound = false
+abbrev pub needs_no_on : Form → Bool
+needs_no_on (Literal v) = false
+needs_no_on (Unary o a) = false
+needs_no_on (Binary o a b) = false
+needs_no_on (Same a) = false
+needs_no_on (Binding a) = true
+needs_no_on (Input v) = true
+needs_no_on Unbound = false
 
 -- the value of a part after one round more
 abbrev pub value_after : List Cell → Line → Option SourceValue
-value_after cs l = if is_binding l.form || (cell_at cs l.place).on then gained cs l.form else None
+value_after cs l = if needs_no_on l.form || (cell_at cs l.place).on then gained cs l.form else None
 
 -- what a part has after one round more
 abbrev pub cell_after : List Cell → Line → Cell
 cell_after cs l = record { on = turned cs l.turn; has = value_after cs l }
-
--- whether two values are one
-abbrev pub same_value : Option SourceValue → Option SourceValue → Bool
-same_value None None = true
-same_value None (Some w) = false
-same_value (Some v) None = false
-same_value (Some (Int m)) (Some (Int n)) = int_eq m n
 
 -- whether two bits are one
 abbrev pub same_bit : Bool → Bool → Bool
@@ -83,6 +79,16 @@ same_bit true true = true
 same_bit true false = false
 same_bit false true = false
 same_bit false false = true
+
+-- whether two values are one
+abbrev pub same_value : Option SourceValue → Option SourceValue → Bool
+same_value None None = true
+same_value None (Some w) = false
+same_value (Some v) None = false
+same_value (Some (Int m)) (Some (Int n)) = int_eq m n
+same_value (Some (Int m)) (Some (Truth b)) = false
+same_value (Some (Truth a)) (Some (Int n)) = false
+same_value (Some (Truth a)) (Some (Truth b)) = same_bit a b
 
 -- whether two cells are one
 abbrev pub same_cell : Cell → Cell → Bool

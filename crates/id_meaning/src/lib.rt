@@ -1,11 +1,12 @@
-//! What a program means: paths, values and facts of its source.
+//! What a program means: inputs, paths, values and facts of its source.
 //!
 //! Keeps: nothing beyond its values.
-//! Errors: `RoundsError`, the refusals 24 and 25 or want of memory.
-//! Read first: docs/MEANING.md ("Facts", "Rounds"), then `rounds`.
+//! Errors: `InputError`, the refusals 15 to 18, and `RoundsError`, 24 and 25, or want of memory.
+//! Read first: docs/MEANING.md ("Facts", "Rounds"), then `rounds`; `read_inputs`.
 //! Not here: graphs, tags and messages, which the meaning does not speak of.
 #![tactic(auto)]
 
+mod inputs;
 mod listing;
 mod results;
 mod round;
@@ -15,6 +16,7 @@ mod table;
 mod tests;
 
 use id_text::Sequence;
+pub use inputs::{InputError, Inputs, read_inputs};
 pub use round::{MAX_FACTS, MAX_ROUNDS, RoundsError, rounds};
 
 /// One step of a path: the call (number 0) or the loop (its iteration, from 0) at a place.
@@ -35,6 +37,8 @@ pub struct Path {
 pub enum SourceValue {
     /// A whole number.
     Int(i64),
+    /// A truth value.
+    Bool(bool),
 }
 
 /// A fact of the source.

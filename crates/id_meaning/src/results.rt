@@ -1,9 +1,9 @@
 //! What operators give (docs/MEANING.md, "Operators").
 
-ghost use Rattle.std.specs.Prelude.{◌≡◌, neg_ℤ, MatchOption, None, Some};
+ghost use Rattle.std.specs.Prelude.{◌≡◌, MatchOption, None, Some};
 ghost use Rattle.id_tree.specs.declared.tree.BinaryOp.TheVariants.{Add, Sub, Mul, Div, Rem};
-ghost use Rattle.id_meaning.specs.declared.SourceValue.TheVariants.{Int};
-ghost use Rattle.id_meaning.specs.Results.{result_of_binary, result_of_unary, whole};
+ghost use Rattle.id_meaning.specs.declared.SourceValue.TheVariants.{Bool, Int};
+ghost use Rattle.id_meaning.specs.Results.{result_of_binary, result_of_numbers, result_of_truths, result_of_unary};
 ghost use Rattle.id_meaning.specs.States.{given};
 
 use crate::SourceValue;
@@ -13,9 +13,10 @@ use id_tree::{BinaryOp, UnaryOp};
 pub fn unary_result(op: UnaryOp, operand: SourceValue) -> Option<SourceValue>
     ensures { result ≡ given (result_of_unary op operand) }
 {
-    let SourceValue::Int(number) = operand;
-    match op {
-        UnaryOp::Neg => value_of(number.checked_neg()),
+    match (op, operand) {
+        (UnaryOp::Neg, SourceValue::Int(number)) => value_of(number.checked_neg()),
+        (UnaryOp::Not, SourceValue::Bool(truth)) => truth_of(!truth),
+        _ => None,
     }
 }
 
@@ -23,14 +24,42 @@ pub fn unary_result(op: UnaryOp, operand: SourceValue) -> Option<SourceValue>
 pub fn binary_result(op: BinaryOp, left: SourceValue, right: SourceValue) -> Option<SourceValue>
     ensures { result ≡ given (result_of_binary op left right) }
 {
-    let SourceValue::Int(left) = left;
-    let SourceValue::Int(right) = right;
+    match (left, right) {
+        (SourceValue::Int(left), SourceValue::Int(right)) => of_numbers(op, left, right),
+        (SourceValue::Bool(left), SourceValue::Bool(right)) => of_truths(op, left, right),
+        _ => None,
+    }
+}
+
+fn of_numbers(op: BinaryOp, left: i64, right: i64) -> Option<SourceValue>
+    ensures { result ≡ given (result_of_numbers op left right) }
+{
     match op {
         BinaryOp::Add => sum(left, right),
         BinaryOp::Sub => difference(left, right),
         BinaryOp::Mul => product(left, right),
         BinaryOp::Div => quotient(left, right),
         BinaryOp::Rem => remainder(left, right),
+        BinaryOp::Lt => truth_of(left < right),
+        BinaryOp::Le => truth_of(left <= right),
+        BinaryOp::Gt => truth_of(left > right),
+        BinaryOp::Ge => truth_of(left >= right),
+        BinaryOp::Eq => truth_of(left == right),
+        BinaryOp::Ne => truth_of(left != right),
+        BinaryOp::And => None,
+        BinaryOp::Or => None,
+    }
+}
+
+fn of_truths(op: BinaryOp, first: bool, second: bool) -> Option<SourceValue>
+    ensures { result ≡ given (result_of_truths op first second) }
+{
+    match op {
+        BinaryOp::Eq => truth_of(first == second),
+        BinaryOp::Ne => truth_of(first != second),
+        BinaryOp::And => truth_of(first && second),
+        BinaryOp::Or => truth_of(first || second),
+        _ => None,
     }
 }
 
@@ -70,6 +99,12 @@ fn remainder(left: i64, right: i64) -> Option<SourceValue>
         return None;
     }
     value_of(left.checked_rem(right))
+}
+
+fn truth_of(truth: bool) -> Option<SourceValue>
+    ensures { result ≡ Some (Bool truth) }
+{
+    Some(SourceValue::Bool(truth))
 }
 
 fn value_of(number: Option<i64>) -> Option<SourceValue>

@@ -3,7 +3,7 @@
 ghost use Rattle.std.specs.Prelude.{◌≡◌, ◌++◌, ◌+◌, IfOk, OnOk};
 ghost use Rattle.std.proofs.Common.{replicate};
 ghost use Rattle.id_meaning.specs.Listed.{last_of};
-ghost use Rattle.id_meaning.specs.States.{after, applied, binary_of, blank, cell_after, cell_at, changes_of, gained, is_binding, same_cell, same_value, turned, unary_of, value_after};
+ghost use Rattle.id_meaning.specs.States.{after, applied, binary_of, blank, cell_after, cell_at, changes_of, gained, needs_no_on, same_cell, same_value, turned, unary_of, value_after};
 
 use crate::SourceValue;
 use crate::results::{binary_result, unary_result};
@@ -109,10 +109,11 @@ fn next_value(cells: &[Cell], line: &Line) -> Option<SourceValue>
 
 /// Whether the value of the part waits for no On.
 fn is_binder(form: Form) -> bool
-    ensures { result ≡ is_binding form }
+    ensures { result ≡ needs_no_on form }
 {
     match form {
         Form::Binding(_) => true,
+        Form::Input(_) => true,
         _ => false,
     }
 }
@@ -129,6 +130,7 @@ fn gain(cells: &[Cell], form: Form) -> Option<SourceValue>
         }
         Form::Same(place) => read(cells, place).has,
         Form::Binding(place) => read(cells, place).has,
+        Form::Input(value) => Some(value),
         Form::Unbound => None,
     }
 }
@@ -178,12 +180,11 @@ fn is_same(old: Cell, new: Cell) -> bool
 fn is_same_value(old: Option<SourceValue>, new: Option<SourceValue>) -> bool
     ensures { result ≡ same_value old new }
 {
-    match old {
-        Some(SourceValue::Int(old)) => match new {
-            Some(SourceValue::Int(new)) => old == new,
-            None => false,
-        },
-        None => new.is_none(),
+    match (old, new) {
+        (Some(SourceValue::Int(old)), Some(SourceValue::Int(new))) => old == new,
+        (Some(SourceValue::Bool(old)), Some(SourceValue::Bool(new))) => old == new,
+        (None, None) => true,
+        _ => false,
     }
 }
 

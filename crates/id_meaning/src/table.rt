@@ -1,13 +1,13 @@
 //! The table of a program's parts that rounds pass over (docs/MEANING.md, "Parts").
 
-ghost use Rattle.std.specs.Prelude.{◌≡◌, ◌++◌, [], ◌∷◌, nat_eq, OnOk, IfOk};
+ghost use Rattle.std.specs.Prelude.{◌≡◌, ◌++◌, [], ◌∷◌, nat_eq, slice_get, OnOk, IfOk};
 ghost use Rattle.indexmap.specs.IndexMap.{get};
 ghost use Rattle.id_meaning.specs.Parts as parts;
-ghost use Rattle.id_meaning.specs.Lines.{form_of_name, lines_of, lines_of_all, lines_of_statement, lines_of_statements, turn_of};
+ghost use Rattle.id_meaning.specs.Lines.{form_of_input, form_of_name, inputs_of, lines_of, lines_of_all, lines_of_params, lines_of_statement, lines_of_statements, turn_of};
 
 use crate::SourceValue;
 use id_check::Checked;
-use id_tree::{BinaryOp, Constant, Def, Expr, Stmt, UnaryOp};
+use id_tree::{BinaryOp, Constant, Def, Expr, Param, Stmt, UnaryOp};
 use indexmap::IndexMap;
 use std::alloc::{AllocError, Global};
 
@@ -18,7 +18,7 @@ pub enum Turn {
     Always,
     /// The part at the place, where it is On.
     By(usize),
-    /// Nothing: a binding, or the body of another procedure.
+    /// Nothing: a binding, a parameter, or the body of another procedure.
     Never,
 }
 
@@ -35,7 +35,9 @@ pub enum Form {
     Same(usize),
     /// What the place Has, On or not: a binding its expression's.
     Binding(usize),
-    /// Nothing: a name without binder.
+    /// The value, On or not: a parameter of main its input.
+    Input(SourceValue),
+    /// Nothing: a name without binder, or a parameter without input.
     Unbound,
 }
 
@@ -47,13 +49,22 @@ pub struct Line {
     pub form: Form,
 }
 
-/// The lines of the program, a procedure after the other.
-pub fn table(alloc: Global, checked: &Checked) -> Result<Vec<Line>, AllocError>
+/// The lines of the program with these inputs, a procedure after the other.
+pub fn table(
+    alloc: Global,
+    checked: &Checked,
+    inputs: &[SourceValue],
+) -> Result<Vec<Line>, AllocError>
     ensures { IfOk result (λ v. v.items
-        ≡ lines_of_all (get nat_eq checked.now.binders) checked.now.main 0 checked.now.program.defs) }
+        ≡ lines_of_all (get nat_eq checked.now.binders) checked.now.main inputs.now 0 checked.now.program.defs) }
 {
     let mut lines = Vec::new(alloc);
     for (index, def) in checked.program.defs.as_slice().iter().enumerate() {
+        add_params(
+            &mut lines,
+            inputs_of_def(index, checked.main, inputs),
+            def.params.as_slice(),
+        )?;
         add_lines(
             &mut lines,
             &checked.binders,
@@ -62,6 +73,42 @@ pub fn table(alloc: Global, checked: &Checked) -> Result<Vec<Line>, AllocError>
         )?;
     }
     Ok(lines)
+}
+
+/// The inputs of the procedure of this number: main has these, another none.
+fn inputs_of_def(index: usize, main: usize, inputs: &[SourceValue]) -> &[SourceValue]
+    ensures { result.now ≡ inputs_of index main inputs.now }
+{
+    if index != main {
+        return &[];
+    }
+    inputs
+}
+
+/// Adds the lines of parameters with these inputs.
+fn add_params(
+    lines: &mut Vec<Line>,
+    inputs: &[SourceValue],
+    params: &[Param],
+) -> Result<(), AllocError>
+    ensures { OnOk result
+        (lines.new.items ≡ lines.old.items ++ lines_of_params inputs.now 0 params.now) }
+{
+    for (number, param) in params.iter().enumerate() {
+        let form = form_of_param(inputs, number);
+        add_line(lines, param.place, Turn::Never, form)?;
+    }
+    Ok(())
+}
+
+/// What gives the parameter of this number its value.
+fn form_of_param(inputs: &[SourceValue], number: usize) -> Form
+    ensures { result ≡ form_of_input (slice_get inputs.now number) }
+{
+    match inputs.get(number) {
+        Some(value) => Form::Input(*value),
+        None => Form::Unbound,
+    }
 }
 
 /// What turns the body of the procedure of this number On.
@@ -199,5 +246,6 @@ fn literal_value(value: Constant) -> SourceValue
 {
     match value {
         Constant::Int(number) => SourceValue::Int(number),
+        Constant::Bool(truth) => SourceValue::Bool(truth),
     }
 }

@@ -6,5 +6,5 @@ use Rattle.id_meaning.proofs.table.table.Given as goal
 
 abbrev pub invariant-loop-index : goal.invariant-loop-index
 invariant-loop-index l =
-    l.lines.items ++ lines_of_all (get nat_eq l.checked.binders) l.checked.main l.index (drop l.index l.checked.program.defs)
-    ≡ lines_of_all (get nat_eq l.checked.binders) l.checked.main 0 l.checked.program.defs
+    l.lines.items ++ lines_of_all (get nat_eq l.checked.binders) l.checked.main l.inputs l.index (drop l.index l.checked.program.defs)
+    ≡ lines_of_all (get nat_eq l.checked.binders) l.checked.main l.inputs 0 l.checked.program.defs

@@ -1,0 +1,22 @@
+-- A word is refused, or gives its parameter a value.
+use Rattle.std.proofs.Common.{◌+◌, ◌<◌, length, map, IfSome, sym, ◌∙◌, subst}
+use Rattle.std.proofs.lemmas.List.{length-map}
+use Rattle.id_meaning.proofs.InputsLemmas.{Progress, progress-refused, progress-next, word_at}
+use Rattle.id_meaning.proofs.inputs.values_said.Goals as goal
+
+pub returns-in-Err-clause-refused : goal.returns-in-Err-clause-refused
+returns-in-Err-clause-refused c =
+    let inside : c.loop-j.j < length (map (λ w. w.now) c.args.words.now) = rw length-map c.loop-j-test.true in
+    progress-refused c.args.params.now _ c.loop-j.j c.loop-j.values.items c.loop-j.invariant inside c.said.result c.in-Err.error
+    (c.said.ensures.said ∙ sym (word_at c.args.params.now c.args.words.now c.loop-j.j _ c.loop-j-test.true))
+    (subst (λ k. IfSome c.said.result (λ x. x.0 < k)) (sym c.loop-j.invariant.size) c.said.ensures.inside)
+    c.in-Err.ensures.refused
+
+pub loop-j-preserved : goal.loop-j-preserved
+loop-j-preserved c =
+    let inside : c.loop-j.j < length (map (λ w. w.now) c.args.words.now) = rw length-map c.loop-j-test.true in
+    subst (Progress c.args.params.now (map (λ w. w.now) c.args.words.now) (c.loop-j.j + 1)) (sym c.in_default.ensures.put)
+    (progress-next c.args.params.now _ c.loop-j.j c.loop-j.values.items c.loop-j.invariant inside c.said.result
+    (c.said.ensures.said ∙ sym (word_at c.args.params.now c.args.words.now c.loop-j.j _ c.loop-j-test.true))
+    (subst (λ k. IfSome c.said.result (λ x. x.0 < k)) (sym c.loop-j.invariant.size) c.said.ensures.inside)
+    c.in_default.ensures.taken)
