@@ -2,16 +2,17 @@
 use Rattle.std.proofs.Common.{◌≡◌, ◌≢◌, ◌⊎◌, inl, inr, ℕ, List, [], ◌∷◌, ◌++◌, refl, ap, sym, subst, ◌∙◌, Option, None, Some}
 use Rattle.id_build.proofs.AmongLemmas.{Among-either, Among-left, Among-right}
 use Rattle.id_build.proofs.PartsLemmas.{same_line}
-use Rattle.id_build.proofs.Rows.{line, Link, link, links_of, links_of_all, links_of_def, links_of_row, name_role, node_of, source_role}
-use Rattle.id_build.proofs.RowsLemmas.{AreParts, entries_of_all-among, entries_of_all-from, region-entries_of}
+use Rattle.id_build.proofs.Rows.{line, Link, link, links_of, links_of_all, links_of_def, links_of_row, name_role, node_of, scope_of, source_role}
+use Rattle.id_build.proofs.RowsLemmas.{AreParts, entries_of_all-among, entries_of_all-from, region-entries_of_def}
 use Rattle.id_build.specs.Roles.{by_binary, by_block, by_literal, by_name, by_unary, Feeds, From, GivesAt, Label, Of, of_procedure, Return, Role, to_label, to_left, to_literal, to_return, to_right, to_unary, Trigger, TriggerAt}
 use Rattle.id_check.specs.declared.Checked.{Checked}
 use Rattle.id_check.specs.Scopes.{Binder, binder_of, binders_of, Use, uses_of, uses_of_all, uses_of_row}
 use Rattle.id_graph.specs.declared.dests.Port.{Port}
 use Rattle.id_graph.specs.declared.dests.Port.TheVariants.{Zero, One}
-use Rattle.id_meaning.specs.Parts.{Among, BinaryNode, BindingNode, BlockNode, Distinct, entries_of, entries_of_def, entries_of_row, Entry, LiteralNode, literal_value, named, NameNode, Node, Part, place_of, Region, Top, UnaryNode, UnboundNode, values_of}
+use Rattle.id_meaning.specs.Parts.{Among, BinaryNode, BindingNode, BlockNode, Distinct, entries_of, entries_of_def, entries_of_params, entries_of_row, Entry, LiteralNode, literal_value, named, NameNode, Node, ParamNode, Part, place_of, Region, Top, UnaryNode, UnboundNode, values_of}
 use Rattle.id_tree.specs.declared.tree.Def.{Def}
 use Rattle.id_tree.specs.declared.tree.Expr.{Expr, Literal, Unary', Binary', Name, Block', Row_of-Stmt, end_of-Stmt, more_of-Stmt}
+use Rattle.id_tree.specs.declared.tree.Param.{Param}
 use Rattle.id_tree.specs.declared.tree.Stmt.{Binding}
 
 -- each of these uses has a binder
@@ -111,8 +112,8 @@ mutual
 links_of_all-among : (l : Link) (d : Def) (ds : List Def) → Among d ds → Among l (links_of_def d) → Among l (links_of_all ds)
 links_of_all-among l d [] h k = absurd h
 links_of_all-among l d (c ∷ ds) (inl e) k =
-    let P : Def → Type 0 = λ z. Among l (links_of_def z) in
-    Among-left l (links_of_def c) (links_of_all ds) (subst P e k)
+    let M : Def → Type 0 = λ z. Among l (links_of_def z) in
+    Among-left l (links_of_def c) (links_of_all ds) (subst M e k)
 links_of_all-among l d (c ∷ ds) (inr h) k = Among-right l (links_of_def c) (links_of_all ds) (links_of_all-among l d ds h k)
 
 links_of_all-from : (l : Link) (ds : List Def) → Among l (links_of_all ds) → (d : Def) × Among d ds × Among l (links_of_def d)
@@ -123,23 +124,28 @@ links_of_all-from l (d ∷ ds) h =
       | inr k ↦ (let r = links_of_all-from l ds k in (r.0, inr r.1, r.2))
     ]
 
-pub uses_of_all-among : (u : Use) (d : Def) (ds : List Def) → Among d ds → Among u (uses_of [] d.body) → Among u (uses_of_all ds)
+pub uses_of_all-among : (u : Use) (d : Def) (ds : List Def) → Among d ds → Among u (uses_of (scope_of d) d.body) → Among u (uses_of_all ds)
 uses_of_all-among u d [] h k = absurd h
 uses_of_all-among u d (c ∷ ds) (inl e) k =
-    let P : Def → Type 0 = λ z. Among u (uses_of [] z.body) in
-    Among-left u (uses_of [] c.body) (uses_of_all ds) (subst P e k)
-uses_of_all-among u d (c ∷ ds) (inr h) k = Among-right u (uses_of [] c.body) (uses_of_all ds) (uses_of_all-among u d ds h k)
+    let M : Def → Type 0 = λ z. Among u (uses_of (scope_of z) z.body) in
+    Among-left u (uses_of (scope_of c) c.body) (uses_of_all ds) (subst M e k)
+uses_of_all-among u d (c ∷ ds) (inr h) k = Among-right u (uses_of (scope_of c) c.body) (uses_of_all ds) (uses_of_all-among u d ds h k)
+
+-- the lines of a definition's body are lines of the program's table
+AreParts-body : (P : Checked) (d : Def) → Among d P.program.defs → AreParts P (entries_of (Top d.place) (scope_of d) d.body)
+AreParts-body P d among y i =
+    entries_of_all-among y d P.program.defs among (Among-right y (entries_of_params (Top d.place) d.params) (entries_of (Top d.place) (scope_of d) d.body) i)
 
 -- each arc of the program is one that the schemas have
 pub IsFed-program : (P : Checked) (l : Link) → Among l (links_of_all P.program.defs) → IsFed P l
 IsFed-program P l h =
     let from = links_of_all-from l P.program.defs h in
     let d = from.0 in
-    let sub : AreParts P (entries_of_def d) = λ y i. entries_of_all-among y d P.program.defs from.1 i in
-    let bound : AreBound (uses_of [] d.body) = λ u i. P.bound u (uses_of_all-among u d P.program.defs from.1 i) in
-    elim (Among-either l (links_of (Top d.place) [] (Trigger d.place) d.body) _ from.2) [
-      | inl k ↦ IsFed-expr P l (Top d.place) [] (Trigger d.place) d.body (of_procedure (record { among = from.1 })) sub bound k
-      | inr k ↦ IsFed-one P l _ (to_return (record { among = from.1 }) (gives_expr P (Top d.place) [] d.body sub bound)) k
+    let sub = AreParts-body P d from.1 in
+    let bound : AreBound (uses_of (scope_of d) d.body) = λ u i. P.bound u (uses_of_all-among u d P.program.defs from.1 i) in
+    elim (Among-either l (links_of (Top d.place) (scope_of d) (Trigger d.place) d.body) _ from.2) [
+      | inl k ↦ IsFed-expr P l (Top d.place) (scope_of d) (Trigger d.place) d.body (of_procedure (record { among = from.1 })) sub bound k
+      | inr k ↦ IsFed-one P l _ (to_return (record { among = from.1 }) (gives_expr P (Top d.place) (scope_of d) d.body sub bound)) k
     ]
 
 -- where the value of what stands at a place of the region comes from, by what stands there
@@ -151,6 +157,7 @@ GivesBy P r e (NameNode b) s = s ≡ Label b
 GivesBy P r e UnboundNode s = ⊥
 GivesBy P r e (BlockNode vs b) s = GivesAt P r b (From s)
 GivesBy P r e (BindingNode a) s = ⊥
+GivesBy P r e ParamNode s = ⊥
 
 -- what stands at the place gives the value so
 record Gives (P : Checked) (r : Region) (e : ℕ) (s : Role) : Type 0 where
@@ -202,6 +209,7 @@ GoesTo P t l r e (NameNode b) = ⊥
 GoesTo P t l r e UnboundNode = ⊥
 GoesTo P t l r e (BlockNode vs b) = ⊥
 GoesTo P t l r e (BindingNode a) = Takes P r a (Label e) Zero l
+GoesTo P t l r e ParamNode = ⊥
 
 abbrev GoesToEntry : Checked → Role → Link → Entry → Type 0
 GoesToEntry P t l y = GoesTo P t l y.region y.place y.node
@@ -209,6 +217,11 @@ GoesToEntry P t l y = GoesTo P t l y.region y.place y.node
 none_to_name : (P : Checked) (t : Role) (l : Link) (r : Region) (e : ℕ) (b : Option ℕ) → GoesTo P t l r e (named b) → ⊥
 none_to_name P t l r e None h = h
 none_to_name P t l r e (Some b) h = h
+
+none_to_param : (P : Checked) (t : Role) (l : Link) (y : Entry) (r : Region) (xs : List Param) → Among y (entries_of_params r xs) → GoesToEntry P t l y → ⊥
+none_to_param P t l y r [] h k = h
+none_to_param P t l y r (x ∷ xs) (inl h) k = subst (GoesToEntry P t l) h k
+none_to_param P t l y r (x ∷ xs) (inr h) k = none_to_param P t l y r xs h k
 
 -- such an arc is the one from the expression's source
 takes_is : (P : Checked) → Distinct P → (r : Region) (bs : List Binder) (x : Expr) (q : Role) (p : Port) (l : Link) → AreParts P (entries_of r bs x) → Takes P r (place_of x) q p l → l ≡ link (source_role r bs x) q p
@@ -265,17 +278,25 @@ mutual
         | inr i ↦ Among-right l own (links_of_row r bs t rest) (links_of_row-among P d l y r bs t rest (λ y j. sub y (inr (Among-right y xs ys j))) i k)
       ]
 
+-- the schemas' arcs to what stands on a line of a procedure are the procedure's
+links_of_def-among : (P : Checked) → Distinct P → (l : Link) (y : Entry) (d : Def) → Among d P.program.defs → Among y (entries_of_def d) → GoesToEntry P (Trigger d.place) l y → Among l (links_of_def d)
+links_of_def-among P differ l y d is h k =
+    let r = Top d.place in
+    elim (Among-either y (entries_of_params r d.params) (entries_of r (scope_of d) d.body) h) [
+      | inl i ↦ absurd (none_to_param P (Trigger d.place) l y r d.params i k)
+      | inr i ↦ Among-left l (links_of r (scope_of d) (Trigger d.place) d.body) _ (links_of-among P differ l y r (scope_of d) (Trigger d.place) d.body (AreParts-body P d is) i k)
+    ]
+
 -- the schemas' arcs to a part of a procedure are the program's
 link_of_part : (P : Checked) → Distinct P → (f e : ℕ) (n : Node) (l : Link) → Part P (Top f) e n → GoesTo P (Trigger f) l (Top f) e n → Among l (links_of_all P.program.defs)
 link_of_part P differ f e n l part k =
     let from = entries_of_all-from (line (Top f) e n) P.program.defs part.stands in
     let d = from.0 in
-    let same : f ≡ d.place = let h = region-entries_of (line (Top f) e n) (Top d.place) [] d.body from.2 in cc in
+    let same : f ≡ d.place = let h = region-entries_of_def (line (Top f) e n) d from.2 in cc in
     let A : ℕ → Type 0 = λ z. Among (line (Top z) e n) (entries_of_def d) in
     let B : ℕ → Type 0 = λ z. GoesTo P (Trigger z) l (Top z) e n in
-    let sub : AreParts P (entries_of_def d) = λ y i. entries_of_all-among y d P.program.defs from.1 i in
     links_of_all-among l d P.program.defs from.1
-    (Among-left l (links_of (Top d.place) [] (Trigger d.place) d.body) _ (links_of-among P differ l (line (Top d.place) e n) (Top d.place) [] (Trigger d.place) d.body sub (subst A same from.2) (subst B same k)))
+    (links_of_def-among P differ l (line (Top d.place) e n) d from.1 (subst A same from.2) (subst B same k))
 
 -- each arc of the schemas is one of the program's
 pub links-from_Feeds : (P : Checked) → Distinct P → (s q : Role) (p : Port) → Feeds P (From s) q p → Among (link s q p) (links_of_all P.program.defs)
@@ -290,7 +311,7 @@ links-from_Feeds P differ s q p (to_right {r = Top f} {e = e} {a = a} {b = b} {o
 links-from_Feeds P differ s q p (to_label {r = Top f} {b = b} {a = a} part gives) =
     link_of_part P differ f b (BindingNode a) _ part (record { source = s; gives = gives; is = refl })
 links-from_Feeds P differ s q p (to_return {d = d} is gives) =
-    let sub : AreParts P (entries_of_def d) = λ y i. entries_of_all-among y d P.program.defs is.among i in
+    let sub = AreParts-body P d is.among in
     let l = link s (Return d.place) One in
     links_of_all-among l d P.program.defs is.among
-    (Among-right l (links_of (Top d.place) [] (Trigger d.place) d.body) _ (inl (takes_is P differ (Top d.place) [] d.body (Return d.place) One l sub (record { source = s; gives = gives; is = refl }))))
+    (Among-right l (links_of (Top d.place) (scope_of d) (Trigger d.place) d.body) _ (inl (takes_is P differ (Top d.place) (scope_of d) d.body (Return d.place) One l sub (record { source = s; gives = gives; is = refl }))))

@@ -6,15 +6,15 @@ use Rattle.id_build.proofs.AmongLemmas.{AllDiffer-append, Among-either, map-appe
 use Rattle.id_build.specs.declared.arcs.Arc.{Arc}
 use Rattle.id_build.specs.declared.draft.Origin.TheVariants.{Output}
 use Rattle.id_build.specs.declared.draft.Wire.{Wire}
-use Rattle.id_build.specs.Drafted.{procedure_pieces, procedure_wires, procedures_pieces, procedures_wires}
+use Rattle.id_build.specs.Drafted.{body_at, entry_pieces, procedure_pieces, procedure_wires, procedures_pieces, procedures_wires}
 use Rattle.id_build.specs.Expressions.{count_of, piece, pieces_of, pieces_of_row, source_of, wire, wires_of, wires_of_row}
 use Rattle.id_build.specs.Joined.{dest_of, dests_from}
-use Rattle.id_build.specs.Roles.{binary_op, unary_op}
+use Rattle.id_build.specs.Roles.{binary_op, port_at, unary_op}
+use Rattle.id_check.specs.declared.Checked.{Checked}
 use Rattle.id_graph.specs.declared.dests.Dest.{Dest}
 use Rattle.id_graph.specs.declared.dests.Port.TheVariants.{Zero, One}
 use Rattle.id_graph.specs.declared.instr.Op.TheVariants.{Binary, Merge}
-use Rattle.id_graph.specs.declared.instr.PortKind.TheVariants.{Int}
-use Rattle.id_meaning.specs.Parts.{AllDiffer, Among}
+use Rattle.id_meaning.specs.Parts.{AllDiffer, Among, place_of}
 use Rattle.id_tree.specs.declared.tree.Def.{Def}
 use Rattle.id_tree.specs.declared.tree.Expr.{Expr, Literal, Unary', Binary', Name, Block', Row_of-Stmt, end_of-Stmt, more_of-Stmt}
 use Rattle.id_tree.specs.declared.tree.Stmt.{Binding}
@@ -86,8 +86,8 @@ Spread-nil n m = record { low = λ d h. absurd h; high = λ d h. absurd h; diffe
 -- one list after another, of later instructions
 Spread-append : (n k m : ℕ) (ws vs : List Wire) → n ≤ k → k ≤ m → Spread n k (goals ws) → Spread k m (goals vs) → Spread n m (goals (ws ++ vs))
 Spread-append n k m ws vs h i f g =
-    let P : List Dest → Type 0 = Spread n m in
-    subst P (sym (map-append goal_of ws vs)) (record {
+    let M : List Dest → Type 0 = Spread n m in
+    subst M (sym (map-append goal_of ws vs)) (record {
       low = λ d j. elim (Among-either d (goals ws) (goals vs) j) [ inl l ↦ f.low d l | inr l ↦ (let b = g.low d l in omega arith) ];
       high = λ d j. elim (Among-either d (goals ws) (goals vs) j) [ inl l ↦ (let b = f.high d l in omega arith) | inr l ↦ g.high d l ];
       differ = AllDiffer-append (goals ws) (goals vs) f.differ g.differ (λ d l j. let a = f.high d l in let b = g.low d j in absurd (omega arith));
@@ -110,62 +110,64 @@ Spread-two n w v e f p q = record {
 }
 
 Spread-to : (n m k : ℕ) (ds : List Dest) → m ≡ k → Spread n m ds → Spread n k ds
-Spread-to n m k ds e s = let P : ℕ → Type 0 = λ z. Spread n z ds in subst P e s
+Spread-to n m k ds e s = let M : ℕ → Type 0 = λ z. Spread n z ds in subst M e s
 
 mutual
   -- the arcs of an expression go to its instructions
-  Spread-expr : (x : Expr) (n t : ℕ) → Spread n (n + count_of x) (goals (wires_of x n t))
-  Spread-expr (Literal v e) n t = Spread-one n (wire (Output t) n Zero) refl
-  Spread-expr (Unary' o p a e) n t =
-      let k = n + count_of a in
-      Spread-to n (k + 1) _ _ (omega (arith, length-append (pieces_of a) (piece (unary_op o) e ∷ [])))
-      (Spread-append n k (k + 1) (wires_of a n t) (wire (source_of a n) k Zero ∷ []) (omega arith) (omega arith) (Spread-expr a n t) (Spread-one k (wire (source_of a n) k Zero) refl))
-  Spread-expr (Binary' o p a q b e) n t =
-      let c = n + count_of a in
-      let k = c + count_of b in
-      Spread-to n (k + 1) _ _ (omega (arith, length-append (pieces_of a ++ pieces_of b) (piece (Binary (binary_op o)) e ∷ []), length-append (pieces_of a) (pieces_of b)))
-      (Spread-append n k (k + 1) (wires_of a n t ++ wires_of b c t) (wire (source_of a n) k Zero ∷ wire (source_of b c) k One ∷ []) (omega arith) (omega arith)
-      (Spread-append n c k (wires_of a n t) (wires_of b c t) (omega arith) (omega arith) (Spread-expr a n t) (Spread-expr b c t)) (Spread-two k (wire (source_of a n) k Zero) (wire (source_of b c) k One) refl refl refl refl))
-  Spread-expr (Name x e) n t = Spread-nil n (n + 0)
-  Spread-expr (Block' m ss p body e) n t =
-      let c = n + length (pieces_of_row ss) in
-      Spread-to n (c + count_of body) _ _ (omega (arith, length-append (pieces_of_row ss) (pieces_of body)))
-      (Spread-append n c (c + count_of body) (wires_of_row ss n t) (wires_of body c t) (omega arith) (omega arith) (Spread-row ss n t) (Spread-expr body c t))
+  Spread-expr : (P : Checked) (x : Expr) (n t : ℕ) → Spread n (n + count_of P x) (goals (wires_of P x n t))
+  Spread-expr P (Literal v e) n t = Spread-one n (wire (Output t) n Zero) refl
+  Spread-expr P (Unary' o p a e) n t =
+      let k = n + count_of P a in
+      Spread-to n (k + 1) _ _ (omega (arith, length-append (pieces_of P a) (piece (unary_op o) e ∷ [])))
+      (Spread-append n k (k + 1) (wires_of P a n t) (wire (source_of P a n) k Zero ∷ []) (omega arith) (omega arith) (Spread-expr P a n t) (Spread-one k (wire (source_of P a n) k Zero) refl))
+  Spread-expr P (Binary' o p a q b e) n t =
+      let c = n + count_of P a in
+      let k = c + count_of P b in
+      Spread-to n (k + 1) _ _ (omega (arith, length-append (pieces_of P a ++ pieces_of P b) (piece (Binary (binary_op o (port_at P (place_of a)))) e ∷ []), length-append (pieces_of P a) (pieces_of P b)))
+      (Spread-append n k (k + 1) (wires_of P a n t ++ wires_of P b c t) (wire (source_of P a n) k Zero ∷ wire (source_of P b c) k One ∷ []) (omega arith) (omega arith)
+      (Spread-append n c k (wires_of P a n t) (wires_of P b c t) (omega arith) (omega arith) (Spread-expr P a n t) (Spread-expr P b c t)) (Spread-two k (wire (source_of P a n) k Zero) (wire (source_of P b c) k One) refl refl refl refl))
+  Spread-expr P (Name x e) n t = Spread-nil n (n + 0)
+  Spread-expr P (Block' m ss p body e) n t =
+      let c = n + length (pieces_of_row P ss) in
+      Spread-to n (c + count_of P body) _ _ (omega (arith, length-append (pieces_of_row P ss) (pieces_of P body)))
+      (Spread-append n c (c + count_of P body) (wires_of_row P ss n t) (wires_of P body c t) (omega arith) (omega arith) (Spread-row P ss n t) (Spread-expr P body c t))
 
-  Spread-row : {m : _} (ss : Row_of-Stmt m) (n t : ℕ) → Spread n (n + length (pieces_of_row ss)) (goals (wires_of_row ss n t))
-  Spread-row end_of-Stmt n t = Spread-nil n (n + 0)
-  Spread-row (more_of-Stmt (Binding x a e) rest) n t =
-      let k = n + count_of a in
-      let ps = pieces_of a ++ piece (Merge Int) e ∷ [] in
+  Spread-row : {m : _} (P : Checked) (ss : Row_of-Stmt m) (n t : ℕ) → Spread n (n + length (pieces_of_row P ss)) (goals (wires_of_row P ss n t))
+  Spread-row P end_of-Stmt n t = Spread-nil n (n + 0)
+  Spread-row P (more_of-Stmt (Binding x a e) rest) n t =
+      let k = n + count_of P a in
+      let ps = pieces_of P a ++ piece (Merge (port_at P e)) e ∷ [] in
       let c = n + length ps in
-      let own : k + 1 ≡ c = omega (arith, length-append (pieces_of a) (piece (Merge Int) e ∷ [])) in
-      Spread-to n (c + length (pieces_of_row rest)) _ _ (omega (arith, length-append ps (pieces_of_row rest)))
-      (Spread-append n c (c + length (pieces_of_row rest)) (wires_of a n t ++ wire (source_of a n) k Zero ∷ []) (wires_of_row rest c t) (omega arith) (omega arith)
-      (Spread-to n (k + 1) c _ own (Spread-append n k (k + 1) (wires_of a n t) (wire (source_of a n) k Zero ∷ []) (omega arith) (omega arith) (Spread-expr a n t) (Spread-one k (wire (source_of a n) k Zero) refl))) (Spread-row rest c t))
+      let own : k + 1 ≡ c = omega (arith, length-append (pieces_of P a) (piece (Merge (port_at P e)) e ∷ [])) in
+      Spread-to n (c + length (pieces_of_row P rest)) _ _ (omega (arith, length-append ps (pieces_of_row P rest)))
+      (Spread-append n c (c + length (pieces_of_row P rest)) (wires_of P a n t ++ wire (source_of P a n) k Zero ∷ []) (wires_of_row P rest c t) (omega arith) (omega arith)
+      (Spread-to n (k + 1) c _ own (Spread-append n k (k + 1) (wires_of P a n t) (wire (source_of P a n) k Zero ∷ []) (omega arith) (omega arith) (Spread-expr P a n t) (Spread-one k (wire (source_of P a n) k Zero) refl))) (Spread-row P rest c t))
 
 -- the arcs of a procedure go to its instructions
-Spread-def : (d : Def) (n : ℕ) → Spread n (n + length (procedure_pieces d)) (goals (procedure_wires d n))
-Spread-def d n =
-    let body = wires_of d.body (n + 2) n in
-    let inner = Spread-expr d.body (n + 2) n in
-    let v = wire (source_of d.body (n + 2)) (n + 1) One in
+Spread-def : (P : Checked) (d : Def) (n : ℕ) → Spread n (n + length (procedure_pieces P d)) (goals (procedure_wires P d n))
+Spread-def P d n =
+    let k = body_at P d n in
+    let body = wires_of P d.body k n in
+    let inner = Spread-expr P d.body k n in
+    let v = wire (source_of P d.body k) (n + 1) One in
+    let all = length-append (entry_pieces P d.params) (pieces_of P d.body) in
     let last = Spread-one (n + 1) v refl in
-    let m = n + length (procedure_pieces d) in
-    let P : List Dest → Type 0 = Spread n m in
-    subst P (sym (map-append goal_of body (v ∷ []))) (record {
+    let m = n + length (procedure_pieces P d) in
+    let M : List Dest → Type 0 = Spread n m in
+    subst M (sym (map-append goal_of body (v ∷ []))) (record {
       low = λ d h. elim (Among-either d (goals body) (goals (v ∷ [])) h) [ inl l ↦ (let b = inner.low d l in omega arith) | inr l ↦ (let b = last.low d l in omega arith) ];
       high = λ d h. elim (Among-either d (goals body) (goals (v ∷ [])) h) [ inl l ↦ (let b = inner.high d l in omega arith) | inr l ↦ (let b = last.high d l in omega arith) ];
       differ = AllDiffer-append (goals body) (goals (v ∷ [])) inner.differ last.differ (λ d l i. let a = inner.low d l in let b = last.high d i in absurd (omega arith));
     })
 
-Spread-all : (ds : List Def) (n : ℕ) → Spread n (n + length (procedures_pieces ds)) (goals (procedures_wires ds n))
-Spread-all [] n = Spread-nil n (n + 0)
-Spread-all (d ∷ ds) n =
-    let c = n + length (procedure_pieces d) in
-    let m = c + length (procedures_pieces ds) in
-    Spread-to n m _ _ (omega (arith, length-append (procedure_pieces d) (procedures_pieces ds)))
-    (Spread-append n c m (procedure_wires d n) (procedures_wires ds c) (omega arith) (omega arith) (Spread-def d n) (Spread-all ds c))
+Spread-all : (P : Checked) (ds : List Def) (n : ℕ) → Spread n (n + length (procedures_pieces P ds)) (goals (procedures_wires P ds n))
+Spread-all P [] n = Spread-nil n (n + 0)
+Spread-all P (d ∷ ds) n =
+    let c = n + length (procedure_pieces P d) in
+    let m = c + length (procedures_pieces P ds) in
+    Spread-to n m _ _ (omega (arith, length-append (procedure_pieces P d) (procedures_pieces P ds)))
+    (Spread-append n c m (procedure_wires P d n) (procedures_wires P ds c) (omega arith) (omega arith) (Spread-def P d n) (Spread-all P ds c))
 
 -- the arcs of these procedures go to different destinations
-pub AllDiffer-goals : (ds : List Def) (n : ℕ) → AllDiffer (goals (procedures_wires ds n))
-AllDiffer-goals ds n = (Spread-all ds n).differ
+pub AllDiffer-goals : (P : Checked) (ds : List Def) (n : ℕ) → AllDiffer (goals (procedures_wires P ds n))
+AllDiffer-goals P ds n = (Spread-all P ds n).differ

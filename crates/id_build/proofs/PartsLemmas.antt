@@ -3,13 +3,14 @@ use Rattle.std.proofs.Common.{◌≡◌, ◌⊎◌, inl, inr, ℕ, List, [], ◌
 use Rattle.std.specs.Prelude.{map}
 use Rattle.std.specs.Str.{bytes_eq}
 use Rattle.id_build.proofs.AmongLemmas.{AllDiffer-append, AllDiffer-apart, AllDiffer-left, AllDiffer-right, Among-either, Among-left, Among-right, map-append, same-from_map}
-use Rattle.id_build.proofs.Rows.{line}
+use Rattle.id_build.proofs.Rows.{Binds, line, scope_of}
 use Rattle.id_build.proofs.RowsLemmas.{entries_of_all-among, entries_of_all-from}
 use Rattle.id_check.specs.declared.Checked.{Checked}
-use Rattle.id_check.specs.Scopes.{Binder, binder_of, binders_of, Use, uses_of, uses_of_row}
-use Rattle.id_meaning.specs.Parts.{AllDiffer, Among, BinaryNode, BindingNode, BlockNode, Distinct, entries_of, entries_of_all, entries_of_def, entries_of_row, Entry, IsBinder, LiteralNode, literal_value, named, NameNode, Part, place_of, places_of_all, Region, Top, UnaryNode, values_of}
+use Rattle.id_check.specs.Scopes.{Binder, binder_of, binders_of, binders_of_params, Use, uses_of, uses_of_row}
+use Rattle.id_meaning.specs.Parts.{AllDiffer, Among, BinaryNode, BindingNode, BlockNode, Distinct, entries_of, entries_of_all, entries_of_def, entries_of_params, entries_of_row, Entry, is_binding, is_param, IsBinder, LiteralNode, literal_value, named, NameNode, Node, ParamNode, Part, place_of, places_of_all, Region, Top, UnaryNode, UnboundNode, values_of}
 use Rattle.id_tree.specs.declared.tree.Def.{Def}
 use Rattle.id_tree.specs.declared.tree.Expr.{Expr, Literal, Unary', Binary', Name, Block', Row_of-Stmt, end_of-Stmt, more_of-Stmt}
+use Rattle.id_tree.specs.declared.tree.Param.{Param}
 use Rattle.id_tree.specs.declared.tree.Stmt.{Binding}
 
 -- the places of these lines
@@ -20,8 +21,8 @@ places ys = map (λ y. y.place) ys
 places_of_table : (ds : List Def) (k : ℕ) → Among k (places (entries_of_all ds)) → Among k (places_of_all ds)
 places_of_table [] k h = h
 places_of_table (d ∷ ds) k h =
-    let P : List ℕ → Type 0 = λ l. Among k l in
-    let split : Among k (places (entries_of_def d) ++ places (entries_of_all ds)) = subst P (map-append (λ y. y.place) (entries_of_def d) (entries_of_all ds)) h in
+    let M : List ℕ → Type 0 = λ l. Among k l in
+    let split : Among k (places (entries_of_def d) ++ places (entries_of_all ds)) = subst M (map-append (λ y. y.place) (entries_of_def d) (entries_of_all ds)) h in
     elim (Among-either k (places (entries_of_def d)) (places (entries_of_all ds)) split) [
       | inl i ↦ inr (Among-left k (places (entries_of_def d)) (places_of_all ds) i)
       | inr i ↦ inr (Among-right k (places (entries_of_def d)) (places_of_all ds) (places_of_table ds k i))
@@ -32,21 +33,22 @@ AllDiffer-table : (ds : List Def) → AllDiffer (places_of_all ds) → AllDiffer
 AllDiffer-table [] d = tt
 AllDiffer-table (c ∷ ds) d =
     let ps = places (entries_of_def c) in
-    let P : List ℕ → Type 0 = AllDiffer in
-    subst P (sym (map-append (λ y. y.place) (entries_of_def c) (entries_of_all ds)))
+    let M : List ℕ → Type 0 = AllDiffer in
+    subst M (sym (map-append (λ y. y.place) (entries_of_def c) (entries_of_all ds)))
     (AllDiffer-append ps (places (entries_of_all ds)) (AllDiffer-left ps (places_of_all ds) d.1) (AllDiffer-table ds (AllDiffer-right ps (places_of_all ds) d.1)) (λ k h i. AllDiffer-apart ps (places_of_all ds) d.1 k h (places_of_table ds k i)))
 
 -- two lines of the table with one place are one
 pub same_line : (P : Checked) → Distinct P → (x y : Entry) → Among x (entries_of_all P.program.defs) → Among y (entries_of_all P.program.defs) → x.place ≡ y.place → x ≡ y
 same_line P d x y h k e = same-from_map (λ z. z.place) (entries_of_all P.program.defs) x y (AllDiffer-table P.program.defs d.differ) h k e
 
--- the line of a binder of the name b is among these
-pub record HasBinding (r : Region) (b : ℕ) (ys : List Entry) : Type 0 where
-  pub value : ℕ
-  pub among : Among (line r b (BindingNode value)) ys
+-- the line of a binder at the place b is among these
+pub record HasBinder (r : Region) (b : ℕ) (ys : List Entry) : Type 0 where
+  pub node : Node
+  pub binds : Binds node
+  pub among : Among (line r b node) ys
 
-HasBinding-wider : (r : Region) (b : ℕ) (xs ys : List Entry) → ((y : Entry) → Among y xs → Among y ys) → HasBinding r b xs → HasBinding r b ys
-HasBinding-wider r b xs ys f h = record { value = h.value; among = f _ h.among }
+HasBinder-wider : (r : Region) (b : ℕ) (xs ys : List Entry) → ((y : Entry) → Among y xs → Among y ys) → HasBinder r b xs → HasBinder r b ys
+HasBinder-wider r b xs ys f h = record { node = h.node; binds = h.binds; among = f _ h.among }
 
 -- the places of these binders
 abbrev binder_places : List Binder → List ℕ
@@ -62,21 +64,21 @@ binder_of-among (c ∷ bs) x b e = at (bytes_eq c.name x) refl (binder_of-among 
     at false h f = inr (f (let i : binder_of (c ∷ bs) x ≡ binder_of bs x = rw h refl in sym i ∙ e))
 
 -- each binder of statements has its line
-binders_of-lines : {n : _} (r : Region) (bs : List Binder) (ss : Row_of-Stmt n) (b : ℕ) → Among b (binder_places (binders_of ss)) → HasBinding r b (entries_of_row r bs ss)
+binders_of-lines : {n : _} (r : Region) (bs : List Binder) (ss : Row_of-Stmt n) (b : ℕ) → Among b (binder_places (binders_of ss)) → HasBinder r b (entries_of_row r bs ss)
 binders_of-lines r bs end_of-Stmt b h = absurd h
 binders_of-lines r bs (more_of-Stmt (Binding x a e) rest) b (inl h) =
-    let P : ℕ → Type 0 = λ z. HasBinding r z (entries_of_row r bs (more_of-Stmt (Binding x a e) rest)) in
-    subst P (sym h) (record { value = place_of a; among = inl refl })
+    let M : ℕ → Type 0 = λ z. HasBinder r z (entries_of_row r bs (more_of-Stmt (Binding x a e) rest)) in
+    subst M (sym h) (record { node = BindingNode (place_of a); binds = tt; among = inl refl })
 binders_of-lines r bs (more_of-Stmt (Binding x a e) rest) b (inr h) =
-    HasBinding-wider r b (entries_of_row r bs rest) _ (λ y i. inr (Among-right y (entries_of r bs a) (entries_of_row r bs rest) i)) (binders_of-lines r bs rest b h)
+    HasBinder-wider r b (entries_of_row r bs rest) _ (λ y i. inr (Among-right y (entries_of r bs a) (entries_of_row r bs rest) i)) (binders_of-lines r bs rest b h)
 
 -- the binder is in scope round these lines, or its line is one of them
 abbrev IsBound : List Binder → Region → ℕ → List Entry → Type 0
-IsBound bs r b ys = Among b (binder_places bs) ⊎ HasBinding r b ys
+IsBound bs r b ys = Among b (binder_places bs) ⊎ HasBinder r b ys
 
 IsBound-wider : (bs : List Binder) (r : Region) (b : ℕ) (xs ys : List Entry) → ((y : Entry) → Among y xs → Among y ys) → IsBound bs r b xs → IsBound bs r b ys
 IsBound-wider bs r b xs ys f (inl h) = inl h
-IsBound-wider bs r b xs ys f (inr h) = inr (HasBinding-wider r b xs ys f h)
+IsBound-wider bs r b xs ys f (inr h) = inr (HasBinder-wider r b xs ys f h)
 
 -- a name's line tells its binder
 name_is : (b : ℕ) (o : Option ℕ) → NameNode b ≡ named o → o ≡ Some b
@@ -86,13 +88,13 @@ name_is b (Some c) e = cc
 -- a binder that is in scope in a block is in scope round it, or one of the block's
 IsBound-block : {n : _} (bs : List Binder) (r : Region) (b : ℕ) (ss : Row_of-Stmt n) (xs ys : List Entry) → ((y : Entry) → Among y (entries_of_row r (binders_of ss ++ bs) ss) → Among y ys) → ((y : Entry) → Among y xs → Among y ys) → IsBound (binders_of ss ++ bs) r b xs → IsBound bs r b ys
 IsBound-block bs r b ss xs ys f g (inl h) =
-    let P : List ℕ → Type 0 = λ l. Among b l in
-    let split : Among b (binder_places (binders_of ss) ++ binder_places bs) = subst P (map-append (λ c. c.place) (binders_of ss) bs) h in
+    let M : List ℕ → Type 0 = λ l. Among b l in
+    let split : Among b (binder_places (binders_of ss) ++ binder_places bs) = subst M (map-append (λ c. c.place) (binders_of ss) bs) h in
     elim (Among-either b (binder_places (binders_of ss)) (binder_places bs) split) [
-      | inl k ↦ inr (HasBinding-wider r b (entries_of_row r (binders_of ss ++ bs) ss) ys f (binders_of-lines r (binders_of ss ++ bs) ss b k))
+      | inl k ↦ inr (HasBinder-wider r b (entries_of_row r (binders_of ss ++ bs) ss) ys f (binders_of-lines r (binders_of ss ++ bs) ss b k))
       | inr k ↦ inl k
     ]
-IsBound-block bs r b ss xs ys f g (inr h) = inr (HasBinding-wider r b xs ys g h)
+IsBound-block bs r b ss xs ys f g (inr h) = inr (HasBinder-wider r b xs ys g h)
 
 mutual
   -- the binder of a name on a line of an expression
@@ -128,17 +130,52 @@ mutual
         | inr k ↦ IsBound-wider bs r b (entries_of_row r bs rest) _ (λ y i. inr (Among-right y (entries_of r bs a) (entries_of_row r bs rest) i)) (IsBound-row s e b r bs rest k)
       ]
 
+-- each parameter in scope has its line
+params-lines : (r : Region) (xs : List Param) (b : ℕ) → Among b (binder_places (binders_of_params xs)) → HasBinder r b (entries_of_params r xs)
+params-lines r [] b h = absurd h
+params-lines r (x ∷ xs) b (inl h) =
+    let M : ℕ → Type 0 = λ z. HasBinder r z (entries_of_params r (x ∷ xs)) in
+    subst M (sym h) (record { node = ParamNode; binds = tt; among = inl refl })
+params-lines r (x ∷ xs) b (inr h) = HasBinder-wider r b (entries_of_params r xs) _ (λ y i. inr i) (params-lines r xs b h)
+
+-- no name stands on the line of a parameter
+no_name-params : (s : Region) (e b : ℕ) (r : Region) (xs : List Param) → Among (line s e (NameNode b)) (entries_of_params r xs) → ⊥
+no_name-params s e b r [] h = h
+no_name-params s e b r (x ∷ xs) (inl h) = let k : NameNode b ≡ ParamNode = ap (λ z. z.node) h in cc
+no_name-params s e b r (x ∷ xs) (inr h) = no_name-params s e b r xs h
+
 -- the binder of a name of a procedure's body has its line there
-pub binding_in : (d : Def) (s : Region) (e b : ℕ) → Among (line s e (NameNode b)) (entries_of_def d) → HasBinding (Top d.place) b (entries_of_def d)
-binding_in d s e b h = elim (IsBound-expr s e b (Top d.place) [] d.body h) [ inl k ↦ absurd k | inr k ↦ k ]
+pub binder_in : (d : Def) (s : Region) (e b : ℕ) → Among (line s e (NameNode b)) (entries_of_def d) → HasBinder (Top d.place) b (entries_of_def d)
+binder_in d s e b h =
+    let r = Top d.place in
+    let xs = entries_of_params r d.params in
+    let ys = entries_of r (scope_of d) d.body in
+    elim (Among-either (line s e (NameNode b)) xs ys h) [
+      | inl k ↦ absurd (no_name-params s e b r d.params k)
+      | inr k ↦ (elim (IsBound-expr s e b r (scope_of d) d.body k) [
+        | inl i ↦ HasBinder-wider r b xs (xs ++ ys) (λ y j. Among-left y xs ys j) (params-lines r d.params b i)
+        | inr i ↦ HasBinder-wider r b ys (xs ++ ys) (λ y j. Among-right y xs ys j) i
+      ])
+    ]
+
+-- a binder's line tells that it is one
+IsBinder-part : (P : Checked) (r : Region) (b : ℕ) (m : Node) → Binds m → Part P r b m → IsBinder P b
+IsBinder-part P r b (LiteralNode v) t part = absurd t
+IsBinder-part P r b (UnaryNode o a) t part = absurd t
+IsBinder-part P r b (BinaryNode o a c) t part = absurd t
+IsBinder-part P r b (NameNode c) t part = absurd t
+IsBinder-part P r b UnboundNode t part = absurd t
+IsBinder-part P r b (BlockNode vs c) t part = absurd t
+IsBinder-part P r b (BindingNode a) t part = is_binding part
+IsBinder-part P r b ParamNode t part = is_param part
 
 -- the binder of a name of the program is one
 pub IsBinder-name : (P : Checked) (r : Region) (e b : ℕ) → Part P r e (NameNode b) → IsBinder P b
 IsBinder-name P r e b part =
     let from = entries_of_all-from (line r e (NameNode b)) P.program.defs part.stands in
     let d = from.0 in
-    let here = binding_in d r e b from.2 in
-    record { region = Top d.place; value = here.value; part = record { stands = entries_of_all-among (line (Top d.place) b (BindingNode here.value)) d P.program.defs from.1 here.among } }
+    let here = binder_in d r e b from.2 in
+    IsBinder-part P (Top d.place) b here.node here.binds (record { stands = entries_of_all-among (line (Top d.place) b here.node) d P.program.defs from.1 here.among })
 
 mutual
   -- a use of a name has its line
@@ -168,7 +205,9 @@ mutual
       ]
 
 -- the binder of a use in a procedure's body has its line there
-pub binding_of_use : (d : Def) (u : Use) (b : ℕ) → Among u (uses_of [] d.body) → u.binder ≡ Some b → HasBinding (Top d.place) b (entries_of_def d)
-binding_of_use d u b h e =
-    let P : Option ℕ → Type 0 = λ o. Among (line (Top d.place) u.place (named o)) (entries_of_def d) in
-    binding_in d (Top d.place) u.place b (subst P e (use-line u (Top d.place) [] d.body h))
+pub binder_of_use : (d : Def) (u : Use) (b : ℕ) → Among u (uses_of (scope_of d) d.body) → u.binder ≡ Some b → HasBinder (Top d.place) b (entries_of_def d)
+binder_of_use d u b h e =
+    let r = Top d.place in
+    let ys = entries_of r (scope_of d) d.body in
+    let M : Option ℕ → Type 0 = λ o. Among (line r u.place (named o)) ys in
+    binder_in d r u.place b (Among-right _ (entries_of_params r d.params) ys (subst M e (use-line u r (scope_of d) d.body h)))

@@ -3,14 +3,16 @@ use Rattle.std.proofs.Common.{◌⊎◌, inl, inr, ℕ, List, [], ◌∷◌, ◌
 use Rattle.std.specs.Prelude.{map}
 use Rattle.id_tree.specs.declared.tree.Def.{Def}
 use Rattle.id_tree.specs.declared.tree.Expr.{Expr, Literal, Unary', Binary', Name, Block', Row_of-Stmt, end_of-Stmt, more_of-Stmt}
+use Rattle.id_tree.specs.declared.tree.Param.{Param}
 use Rattle.id_tree.specs.declared.tree.Stmt.{Binding}
-use Rattle.id_tree.specs.Tree.{tree_of, row_tree, def_tree, defs_tree}
+use Rattle.id_tree.specs.Tree.{tree_of, row_tree, params_tree, def_tree, defs_tree}
 use Rattle.id_tree.specs.Distinct.{HasPlace, Distinct}
-use Rattle.id_meaning.specs.Parts.{AllDiffer, Among, Entry, Region, Top, entries_of, entries_of_row, entries_of_def, places_of_all}
+use Rattle.id_meaning.specs.Parts.{AllDiffer, Among, Entry, Region, Top, entries_of, entries_of_params, entries_of_row, entries_of_def, places_of_all}
 use Rattle.id_check.specs.declared.Checked.{Checked}
 use Rattle.id_check.specs.Scopes.{Binder, binders_of}
 use Rattle.id_meaning.specs.Parts as parts
 use Rattle.id_build.proofs.AmongLemmas.{AllDiffer-append, Among-either, map-append}
+use Rattle.id_build.proofs.Rows.{scope_of}
 
 -- the places of these lines
 abbrev places : List Entry → List ℕ
@@ -54,8 +56,8 @@ mutual
 -- the places of two lists of lines differ
 differ : (xs ys : List Entry) → AllDiffer (places xs) → AllDiffer (places ys) → ((q : ℕ) → Among q (places xs) → Among q (places ys) → ⊥) → AllDiffer (places (xs ++ ys))
 differ xs ys f g apart =
-    let P : List ℕ → Type 0 = AllDiffer in
-    subst P (sym (map-append (λ y. y.place) xs ys)) (AllDiffer-append (places xs) (places ys) f g apart)
+    let M : List ℕ → Type 0 = AllDiffer in
+    subst M (sym (map-append (λ y. y.place) xs ys)) (AllDiffer-append (places xs) (places ys) f g apart)
 
 mutual
   -- the places of an expression's lines differ
@@ -92,13 +94,43 @@ mutual
         (λ q h k. d.0 q (inr (HasPlace-from_lines r bs a q h)) (HasPlace-from_row r bs rest q k)),
   )
 
+-- the places of parameters are places of their trees
+HasPlace-from_params : (r : Region) (xs : List Param) (q : ℕ) → Among q (places (entries_of_params r xs)) → HasPlace (params_tree xs) q
+HasPlace-from_params r [] q h = absurd h
+HasPlace-from_params r (x ∷ xs) q (inl h) = inl (sym h)
+HasPlace-from_params r (x ∷ xs) q (inr h) = inr (HasPlace-from_params r xs q h)
+
+-- they differ
+AllDiffer-params : (r : Region) (xs : List Param) → Distinct (params_tree xs) → AllDiffer (places (entries_of_params r xs))
+AllDiffer-params r [] d = tt
+AllDiffer-params r (x ∷ xs) d = (λ h. d.0 x.place refl (HasPlace-from_params r xs x.place h), AllDiffer-params r xs d.2)
+
 -- the places of a definition
 abbrev places_of_def : Def → List ℕ
 places_of_def d = d.place ∷ places (entries_of_def d)
 
 HasPlace-from_def : (d : Def) (q : ℕ) → Among q (places_of_def d) → HasPlace (def_tree d) q
 HasPlace-from_def d q (inl h) = inl (sym h)
-HasPlace-from_def d q (inr h) = inr (HasPlace-from_lines (Top d.place) [] d.body q h)
+HasPlace-from_def d q (inr h) =
+    let r = Top d.place in
+    elim (either q (entries_of_params r d.params) (entries_of r (scope_of d) d.body) h) [
+      | inl k ↦ inr (inl (HasPlace-from_params r d.params q k))
+      | inr k ↦ inr (inr (HasPlace-from_lines r (scope_of d) d.body q k))
+    ]
+
+-- the places of a definition differ where those of its tree do
+AllDiffer-def : (d : Def) → Distinct (def_tree d) → AllDiffer (places_of_def d)
+AllDiffer-def d t =
+    let r = Top d.place in
+    let xs = entries_of_params r d.params in
+    let ys = entries_of r (scope_of d) d.body in (
+      λ h. elim (either d.place xs ys h) [
+        | inl k ↦ t.0 (HasPlace-from_params r d.params d.place k)
+        | inr k ↦ t.1 (HasPlace-from_lines r (scope_of d) d.body d.place k)
+      ],
+      differ xs ys (AllDiffer-params r d.params t.3) (AllDiffer-lines r (scope_of d) d.body t.4)
+          (λ q h k. t.2 q (HasPlace-from_params r d.params q h) (HasPlace-from_lines r (scope_of d) d.body q k)),
+    )
 
 HasPlace-from_defs : (ds : List Def) (q : ℕ) → Among q (places_of_all ds) → HasPlace (defs_tree ds) q
 HasPlace-from_defs [] q h = absurd h
@@ -112,8 +144,7 @@ HasPlace-from_defs (d ∷ ds) q h =
 AllDiffer-places : (ds : List Def) → Distinct (defs_tree ds) → AllDiffer (places_of_all ds)
 AllDiffer-places [] d = tt
 AllDiffer-places (x ∷ xs) d =
-    AllDiffer-append (places_of_def x) (places_of_all xs)
-    (λ h. d.1.0 (HasPlace-from_lines (Top x.place) [] x.body x.place h), AllDiffer-lines (Top x.place) [] x.body d.1.1)
+    AllDiffer-append (places_of_def x) (places_of_all xs) (AllDiffer-def x d.1)
     (AllDiffer-places xs d.2)
     (λ q h k. d.0 q (HasPlace-from_def x q h) (HasPlace-from_defs xs q k))
 

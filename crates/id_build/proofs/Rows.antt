@@ -4,16 +4,18 @@ use Rattle.std.specs.Prelude.{slice_get, suc, ◌&&◌}
 use Rattle.id_build.specs.declared.arcs.Arc.{Arc}
 use Rattle.id_build.specs.declared.draft.Piece.{Piece}
 use Rattle.id_build.specs.Expressions.{piece}
-use Rattle.id_build.specs.Roles.{Answer, binary_op, constant_of, Label, Of, port_of, Return, Role, Trigger, unary_op}
-use Rattle.id_check.specs.Scopes.{Binder, binder_of, binders_of}
+use Rattle.id_build.specs.Roles.{Answer, binary_op, constant_of, Label, Of, port_at, port_of, Return, Role, Trigger, unary_op}
+use Rattle.id_check.specs.declared.Checked.{Checked}
+use Rattle.id_check.specs.Scopes.{Binder, binder_of, binders_of, binders_of_params}
 use Rattle.id_graph.specs.declared.dests.Port.{Port}
 use Rattle.id_graph.specs.declared.dests.Port.TheVariants.{Zero, One}
 use Rattle.id_graph.specs.declared.instr.Op.{Op}
 use Rattle.id_graph.specs.declared.instr.Op.TheVariants.{Back, Binary, Const, Merge}
-use Rattle.id_graph.specs.declared.instr.PortKind.TheVariants.{Int, Signal}
-use Rattle.id_meaning.specs.Parts.{BinaryNode, BlockNode, Entry, LiteralNode, literal_value, named, Node, place_of, Region, Top, UnaryNode, values_of}
+use Rattle.id_graph.specs.declared.instr.PortKind.TheVariants.{Signal}
+use Rattle.id_meaning.specs.Parts.{BinaryNode, BindingNode, BlockNode, Entry, LiteralNode, literal_value, named, Node, ParamNode, place_of, Region, Top, UnaryNode, values_of}
 use Rattle.id_tree.specs.declared.tree.Def.{Def}
 use Rattle.id_tree.specs.declared.tree.Expr.{Expr, Literal, Unary', Binary', Name, Block', Row_of-Stmt, end_of-Stmt, more_of-Stmt}
+use Rattle.id_tree.specs.declared.tree.Param.{Param}
 use Rattle.id_tree.specs.declared.tree.Stmt.{Binding}
 
 -- an instruction, with what it is for
@@ -44,30 +46,35 @@ numbered number l = record { from = number l.source; to = number l.target; port 
 
 abbrev mutual
   -- the instructions of an expression
-  pub rows_of : Region → Expr → List Row
-  rows_of r (Literal v e) = row (Of r e) (Const (constant_of (literal_value v))) e ∷ []
-  rows_of r (Unary' o p a e) = rows_of r a ++ row (Of r e) (unary_op o) e ∷ []
-  rows_of r (Binary' o p a q b e) = rows_of r a ++ rows_of r b ++ row (Of r e) (Binary (binary_op o)) e ∷ []
-  rows_of r (Name x e) = []
-  rows_of r (Block' n ss p body e) = rows_of_row r ss ++ rows_of r body
+  pub rows_of : Checked → Region → Expr → List Row
+  rows_of P r (Literal v e) = row (Of r e) (Const (constant_of (literal_value v))) e ∷ []
+  rows_of P r (Unary' o p a e) = rows_of P r a ++ row (Of r e) (unary_op o) e ∷ []
+  rows_of P r (Binary' o p a q b e) = rows_of P r a ++ rows_of P r b ++ row (Of r e) (Binary (binary_op o (port_at P (place_of a)))) e ∷ []
+  rows_of P r (Name x e) = []
+  rows_of P r (Block' n ss p body e) = rows_of_row P r ss ++ rows_of P r body
 
   -- the instructions of statements
-  pub rows_of_row : {n : _} → Region → Row_of-Stmt n → List Row
-  rows_of_row r end_of-Stmt = []
-  rows_of_row r (more_of-Stmt (Binding x a e) rest) = (rows_of r a ++ row (Label e) (Merge Int) e ∷ []) ++ rows_of_row r rest
+  pub rows_of_row : {n : _} → Checked → Region → Row_of-Stmt n → List Row
+  rows_of_row P r end_of-Stmt = []
+  rows_of_row P r (more_of-Stmt (Binding x a e) rest) = (rows_of P r a ++ row (Label e) (Merge (port_at P e)) e ∷ []) ++ rows_of_row P r rest
+
+-- the instructions of parameters
+abbrev pub entry_rows : Checked → List Param → List Row
+entry_rows P [] = []
+entry_rows P (x ∷ xs) = row (Label x.place) (Merge (port_at P x.place)) x.place ∷ entry_rows P xs
 
 -- the instructions of a procedure
-abbrev pub rows_of_def : Def → List Row
-rows_of_def d =
-    row (Trigger d.place) (Merge Signal) d.place ∷ row (Return d.place) (Back (port_of d.result)) d.place ∷ rows_of (Top d.place) d.body
+abbrev pub rows_of_def : Checked → Def → List Row
+rows_of_def P d =
+    row (Trigger d.place) (Merge Signal) d.place ∷ row (Return d.place) (Back (port_of d.result)) d.place ∷ (entry_rows P d.params ++ rows_of P (Top d.place) d.body)
 
-abbrev pub rows_of_all : List Def → List Row
-rows_of_all [] = []
-rows_of_all (d ∷ ds) = rows_of_def d ++ rows_of_all ds
+abbrev pub rows_of_all : Checked → List Def → List Row
+rows_of_all P [] = []
+rows_of_all P (d ∷ ds) = rows_of_def P d ++ rows_of_all P ds
 
 -- the instructions of a program with this main
-abbrev pub rows_of_program : Def → List Def → List Row
-rows_of_program main ds = row Answer (Merge (port_of main.result)) main.place ∷ rows_of_all ds
+abbrev pub rows_of_program : Checked → Def → List Def → List Row
+rows_of_program P main ds = row Answer (Merge (port_of main.result)) main.place ∷ rows_of_all P ds
 
 -- what gives the value of the name at a place, where it has this binder
 abbrev pub name_role : Region → ℕ → Option ℕ → Role
@@ -97,10 +104,14 @@ abbrev mutual
   links_of_row r bs t end_of-Stmt = []
   links_of_row r bs t (more_of-Stmt (Binding x a e) rest) = (links_of r bs t a ++ link (source_role r bs a) (Label e) Zero ∷ []) ++ links_of_row r bs t rest
 
+-- the binders in scope in a procedure's body
+abbrev pub scope_of : Def → List Binder
+scope_of d = binders_of_params d.params
+
 -- the arcs of a procedure
 abbrev pub links_of_def : Def → List Link
 links_of_def d =
-    links_of (Top d.place) [] (Trigger d.place) d.body ++ link (source_role (Top d.place) [] d.body) (Return d.place) One ∷ []
+    links_of (Top d.place) (scope_of d) (Trigger d.place) d.body ++ link (source_role (Top d.place) (scope_of d) d.body) (Return d.place) One ∷ []
 
 abbrev pub links_of_all : List Def → List Link
 links_of_all [] = []
@@ -109,6 +120,12 @@ links_of_all (d ∷ ds) = links_of_def d ++ links_of_all ds
 -- the line of the table that says what stands at a place of a region
 abbrev pub line : Region → ℕ → Node → Entry
 line r e n = record { place = e; region = r; node = n }
+
+-- a binder stands on such a line
+abbrev pub Binds : Node → Type 0
+Binds (BindingNode a) = Unit {0}
+Binds ParamNode = Unit {0}
+Binds _ = ⊥
 
 -- what an expression's own line says
 abbrev pub node_of : List Binder → Expr → Node

@@ -99,7 +99,7 @@ Numbered-lists P main ws number vs l = record {
       let A : Instr → Type 0 = λ j. AllDiffer j.dests in
       subst A (sym r.is) (AllDiffer-dests n vs l.once));
   answer_first = answer_at P main ws number vs l;
-  return_behind = λ d is. return_behind number d P.program.defs 1 is.among (Sits-procedures P main ws number vs l);
+  return_behind = λ d is. return_behind P number d P.program.defs 1 is.among (Sits-procedures P main ws number vs l);
   blocks = refl;
 }
 
@@ -107,17 +107,17 @@ Numbered-lists P main ws number vs l = record {
 pub Schemas-graph_of : (P : Checked) (main : Def) → slice_get P.program.defs P.main ≡ Some main → Distinct P → Schemas P (graph_of P main)
 Schemas-graph_of P main found distinct =
     let defs = P.program.defs in
-    let ws = rows_of_program main defs in
-    let number = number_in main defs in
-    let vs = arcs_of P (procedures_wires defs 1) (procedures_labels defs 1) in
+    let ws = rows_of_program P main defs in
+    let number = number_in P main defs in
+    let vs = arcs_of P (procedures_wires P defs 1) (procedures_labels P defs 1) in
     let l = Lists-program P main found distinct in
     let later = Sits-procedures P main ws number vs l in
-    let pieces : map piece_of ws ≡ program_pieces P.program main = pieces_of_program-rows P.program main in
-    let blocks = procedures_blocks-numbers number defs 1 later in
+    let pieces : map piece_of ws ≡ program_pieces P main = pieces_of_program-rows P main in
+    let blocks = procedures_blocks-numbers P number defs 1 later in
     let A : List Piece → Type 0 = λ ps. Numbered P (record { blocks = map (block_of number) defs; instrs = instrs_from 0 ps vs }) number in
-    let B : List Block → Type 0 = λ bs. Numbered P (record { blocks = bs; instrs = instrs_from 0 (program_pieces P.program main) vs }) number in
+    let B : List Block → Type 0 = λ bs. Numbered P (record { blocks = bs; instrs = instrs_from 0 (program_pieces P main) vs }) number in
     record { number = number; numbered = subst B (sym blocks) (subst A pieces (Numbered-lists P main ws number vs l)) }
 
 -- the pieces of the builder's graph are as many as the schemas' instructions
-pub size-program_pieces : (P : Checked) (main : Def) → size P ≡ length (program_pieces P.program main)
-size-program_pieces P main = omega (arith, size_of_all-pieces P.program.defs)
+pub size-program_pieces : (P : Checked) (main : Def) → size P ≡ length (program_pieces P main)
+size-program_pieces P main = omega (arith, size_of_all-pieces P P.program.defs)

@@ -12,24 +12,25 @@ use Rattle.id_build.specs.declared.arcs.Arc.{Arc}
 use Rattle.id_build.specs.declared.draft.Label.{Label}
 use Rattle.id_build.specs.declared.draft.Piece.{Piece}
 use Rattle.id_build.specs.declared.draft.Wire.{Wire}
-use Rattle.id_build.specs.Drafted.{procedures_labels, procedures_pieces, procedures_wires, program_pieces}
+use Rattle.id_build.specs.Drafted.{graph_of, procedures_blocks, procedures_labels, procedures_pieces, procedures_wires, program_pieces}
 use Rattle.id_build.specs.Expressions.{piece}
 use Rattle.id_build.specs.Joined.{dest_of, dests_from, instrs_from, IsFrom, joined}
 use Rattle.id_build.specs.Resolved.{label_in, Resolves}
 use Rattle.id_build.specs.Roles.{binary, Feeds, From, label, literal, Makes, port_of, return, Role, to_label, to_left, to_literal, to_return, to_right, to_unary, unary, unary_op}
-use Rattle.id_build.specs.Whole.{arcs_of, IsWhole}
+use Rattle.id_build.specs.Whole.{arcs_of, IsWhole, joined_all}
 use Rattle.id_check.specs.declared.Checked.{Checked}
-use Rattle.id_graph.specs.Graph.{ArcsExist, IsPort}
+use Rattle.id_graph.specs.Graph.{ArcsExist, IsPort, parts}
 use Rattle.id_graph.specs.Ports.{port_kind}
 use Rattle.id_graph.specs.declared.dests.Port.{Port}
 use Rattle.id_graph.specs.declared.dests.Port.TheVariants.{Zero}
+use Rattle.id_graph.specs.declared.instr.Block.{Block}
 use Rattle.id_graph.specs.declared.instr.Instr.{Instr}
 use Rattle.id_graph.specs.declared.instr.Op.{Op}
 use Rattle.id_graph.specs.declared.instr.Op.TheVariants.{Merge}
 use Rattle.id_meaning.specs.Parts.{Among, Distinct}
 use Rattle.id_tree.specs.declared.tree.Def.{Def}
 use Rattle.id_tree.specs.declared.tree.UnaryOp.{UnaryOp}
-use Rattle.id_tree.specs.declared.tree.UnaryOp.TheVariants.{Neg}
+use Rattle.id_tree.specs.declared.tree.UnaryOp.TheVariants.{Neg, Not}
 
 -- the instruction at a place of the list has the arcs from its number
 instrs_from-at : (ps : List Piece) (n k : ℕ) (vs : List Arc) → slice_get (instrs_from n ps vs) k ≡ option_map (λ p. joined (n + k) p vs) (slice_get ps k)
@@ -37,8 +38,8 @@ instrs_from-at [] n k vs = refl
 instrs_from-at (p ∷ ps) n zero vs = let e : n ≡ n + 0 = omega arith in ap (λ m. Some (joined m p vs)) e
 instrs_from-at (p ∷ ps) n (suc k) vs =
     let e : n + 1 + k ≡ n + suc k = omega arith in
-    let P : ℕ → Type 0 = λ m. slice_get (instrs_from (n + 1) ps vs) k ≡ option_map (λ q. joined m q vs) (slice_get ps k) in
-    subst P e (instrs_from-at ps (n + 1) k vs)
+    let M : ℕ → Type 0 = λ m. slice_get (instrs_from (n + 1) ps vs) k ≡ option_map (λ q. joined m q vs) (slice_get ps k) in
+    subst M e (instrs_from-at ps (n + 1) k vs)
 
 -- the same for the pieces of instructions with what they are for
 pub instrs-rows : (ws : List Row) (k : ℕ) (vs : List Arc) → slice_get (instrs_from 0 (map piece_of ws) vs) k ≡ option_map (λ w. joined k (piece_of w) vs) (slice_get ws k)
@@ -65,6 +66,7 @@ record IsTarget (P : Checked) (q : Role) (p : Port) : Type 0 where
 
 operator_takes : (o : UnaryOp) → IsSome (port_kind (unary_op o) Zero)
 operator_takes Neg = refl
+operator_takes Not = refl
 
 IsTarget-feeds : (P : Checked) (s q : Role) (p : Port) → Feeds P (From s) q p → IsTarget P q p
 IsTarget-feeds P s q p (to_literal part at) = record { op = _; place = _; makes = literal part; takes = refl }
@@ -145,13 +147,13 @@ ports_of_instrs is (p ∷ ps) n ws all =
     All-cons (ArcsExist is) (joined n p ws) (instrs_from (n + 1) ps ws) (ports_of_dests is n ws all) (ports_of_instrs is ps (n + 1) ws all)
 
 -- the draft of the builder is whole
-IsWhole-rows : (P : Checked) (main : Def) → slice_get P.program.defs P.main ≡ Some main → Distinct P → IsWhole P (map piece_of (rows_of_program main P.program.defs)) (procedures_wires P.program.defs 1) (procedures_labels P.program.defs 1)
+IsWhole-rows : (P : Checked) (main : Def) → slice_get P.program.defs P.main ≡ Some main → Distinct P → IsWhole P (map piece_of (rows_of_program P main P.program.defs)) (procedures_wires P P.program.defs 1) (procedures_labels P P.program.defs 1)
 IsWhole-rows P main found distinct =
     let defs = P.program.defs in
-    let ls = procedures_labels defs 1 in
-    let wires = procedures_wires defs 1 in
-    let ws = rows_of_program main defs in
-    let number = number_in main defs in
+    let ls = procedures_labels P defs 1 in
+    let wires = procedures_wires P defs 1 in
+    let ws = rows_of_program P main defs in
+    let number = number_in P main defs in
     let vs = arcs_of P wires ls in
     let l = Lists-program P main found distinct in
     let is = instrs_from 0 (map piece_of ws) vs in
@@ -161,19 +163,31 @@ IsWhole-rows P main found distinct =
       exist = ports_of_instrs is (map piece_of ws) 0 vs (IsPort-arc P main ws number vs l);
     }
 
--- the same of lists that are the builder's
-pub IsWhole-draft : (P : Checked) (main : Def) (ps : List Piece) (ws : List Wire) (ls : List Label) → slice_get P.program.defs P.main ≡ Some main → Distinct P → ps ≡ program_pieces P.program main → ws ≡ procedures_wires P.program.defs 1 → ls ≡ procedures_labels P.program.defs 1 → IsWhole P ps ws ls
-IsWhole-draft P main ps ws ls found distinct ep ew el =
-    let defs = P.program.defs in
-    let A : List Piece → Type 0 = λ x. IsWhole P x (procedures_wires defs 1) (procedures_labels defs 1) in
-    let B : List Wire → Type 0 = λ x. IsWhole P ps x (procedures_labels defs 1) in
-    let C : List Label → Type 0 = λ x. IsWhole P ps ws x in
-    subst C (sym el) (subst B (sym ew) (subst A (pieces_of_program-rows P.program main ∙ sym ep) (IsWhole-rows P main found distinct)))
+-- these lists are the builder's
+pub record IsBuilt (P : Checked) (main : Def) (ps : List Piece) (ws : List Wire) (ls : List Label) : Type 0 where
+  pub pieces : ps ≡ program_pieces P main
+  pub wires : ws ≡ procedures_wires P P.program.defs 1
+  pub labels : ls ≡ procedures_labels P P.program.defs 1
 
--- the same of the answer's instruction and what the procedures add to it
-pub IsWhole-built : (P : Checked) (main : Def) (ds : List Def) (ps qs : List Piece) (ws vs : List Wire) (ls ks : List Label) → slice_get P.program.defs P.main ≡ Some main → Distinct P → ds ≡ P.program.defs → qs ≡ piece (Merge (port_of main.result)) main.place ∷ [] → vs ≡ [] → ks ≡ [] → ps ≡ qs ++ procedures_pieces ds → ws ≡ vs ++ procedures_wires ds (length qs) → ls ≡ ks ++ procedures_labels ds (length qs) → IsWhole P ps ws ls
-IsWhole-built P main ds ps qs ws vs ls ks found distinct ed eq ev ek ep ew el =
-    IsWhole-draft P main ps ws ls found distinct
-    (ep ∙ ap (λ x. x ++ procedures_pieces ds) eq ∙ ap (λ x. piece (Merge (port_of main.result)) main.place ∷ procedures_pieces x) ed)
-    (ew ∙ ap (λ x. x ++ procedures_wires ds (length qs)) ev ∙ ap (λ (x : List Piece). procedures_wires ds (length x)) eq ∙ ap (λ x. procedures_wires x 1) ed)
-    (el ∙ ap (λ x. x ++ procedures_labels ds (length qs)) ek ∙ ap (λ (x : List Piece). procedures_labels ds (length x)) eq ∙ ap (λ x. procedures_labels x 1) ed)
+-- the answer's instruction and what the procedures add to it are
+pub IsBuilt-lists : (P : Checked) (main : Def) (ds : List Def) (ps qs : List Piece) (ws vs : List Wire) (ls ks : List Label) → ds ≡ P.program.defs → qs ≡ piece (Merge (port_of main.result)) main.place ∷ [] → vs ≡ [] → ks ≡ [] → ps ≡ qs ++ procedures_pieces P ds → ws ≡ vs ++ procedures_wires P ds (length qs) → ls ≡ ks ++ procedures_labels P ds (length qs) → IsBuilt P main ps ws ls
+IsBuilt-lists P main ds ps qs ws vs ls ks ed eq ev ek ep ew el = record {
+  pieces = ep ∙ ap (λ x. x ++ procedures_pieces P ds) eq ∙ ap (λ x. piece (Merge (port_of main.result)) main.place ∷ procedures_pieces P x) ed;
+  wires = ew ∙ ap (λ x. x ++ procedures_wires P ds (length qs)) ev ∙ ap (λ (x : List Piece). procedures_wires P ds (length x)) eq ∙ ap (λ x. procedures_wires P x 1) ed;
+  labels = el ∙ ap (λ x. x ++ procedures_labels P ds (length qs)) ek ∙ ap (λ (x : List Piece). procedures_labels P ds (length x)) eq ∙ ap (λ x. procedures_labels P x 1) ed;
+}
+
+-- such a draft is whole
+pub IsWhole-built : (P : Checked) (main : Def) (ps : List Piece) (ws : List Wire) (ls : List Label) → slice_get P.program.defs P.main ≡ Some main → Distinct P → IsBuilt P main ps ws ls → IsWhole P ps ws ls
+IsWhole-built P main ps ws ls found distinct built =
+    let defs = P.program.defs in
+    let A : List Piece → Type 0 = λ x. IsWhole P x (procedures_wires P defs 1) (procedures_labels P defs 1) in
+    let B : List Wire → Type 0 = λ x. IsWhole P ps x (procedures_labels P defs 1) in
+    let C : List Label → Type 0 = λ x. IsWhole P ps ws x in
+    subst C (sym built.labels) (subst B (sym built.wires) (subst A (pieces_of_program-rows P main ∙ sym built.pieces) (IsWhole-rows P main found distinct)))
+
+-- with the blocks of the procedures it makes the program's graph
+pub graph-built : (P : Checked) (main : Def) (ds : List Def) (bs : List Block) (ps qs : List Piece) (ws : List Wire) (ls : List Label) → IsBuilt P main ps ws ls → ds ≡ P.program.defs → qs ≡ piece (Merge (port_of main.result)) main.place ∷ [] → bs ≡ procedures_blocks P ds (length qs) → parts bs (joined_all P ps ws ls) ≡ graph_of P main
+graph-built P main ds bs ps qs ws ls built ed eq eb =
+    let blocks : bs ≡ procedures_blocks P P.program.defs 1 = eb ∙ ap (λ (x : List Piece). procedures_blocks P ds (length x)) eq ∙ ap (λ x. procedures_blocks P x 1) ed in
+    rw (blocks, built.pieces, built.wires, built.labels) refl

@@ -1,5 +1,5 @@
 -- The graphs that the schemas give a program: the numbering is free (docs/GRAPH.md, "Schemas").
-use Rattle.std.specs.Prelude.{◌≡◌, ℕ, ◌+◌, List, [], ◌∷◌, map, Some, slice_get}
+use Rattle.std.specs.Prelude.{◌≡◌, ℕ, ◌+◌, List, [], ◌∷◌, length, map, Some, slice_get}
 use Rattle.id_tree.specs.declared.tree.Expr.{Expr, Literal, Unary', Binary', Name, Block', Row_of-Stmt, end_of-Stmt, more_of-Stmt}
 use Rattle.id_tree.specs.declared.tree.Stmt.{Binding}
 use Rattle.id_tree.specs.declared.tree.Def.{Def}
@@ -11,7 +11,7 @@ use Rattle.id_graph.specs.declared.instr.Op.{Op}
 use Rattle.id_graph.specs.declared.instr.Instr.{Instr}
 use Rattle.id_graph.specs.declared.instr.Block.{Block}
 use Rattle.id_graph.specs.Graph.{Parts, arcs}
-use Rattle.id_build.specs.Roles.{Role, Answer, Trigger, Return, From, Makes, Feeds}
+use Rattle.id_build.specs.Roles.{Role, Answer, Trigger, Return, Label, From, Makes, Feeds}
 
 -- the instruction of this number has this operator and this place
 pub record Made (G : Parts) (n : ℕ) (o : Op) (e : ℕ) : Type 0 where
@@ -42,9 +42,9 @@ pub record IsArc (P : Checked) (number : Role → ℕ) (n : ℕ) (to : Dest) : T
   pub from : number source ≡ n
   pub goes : number target ≡ to.instr
 
--- the block of a procedure
+-- the block of a procedure: its entries are the labels of its parameters, in order
 abbrev pub block_of : (Role → ℕ) → Def → Block
-block_of number d = record { first = number (Trigger d.place); entries = [] }
+block_of number d = record { first = number (Trigger d.place); entries = map (λ x. number (Label x.place)) d.params }
 
 -- the graph has the instructions, arcs, places and blocks of the schemas and no others, numbered so
 pub record Numbered (P : Checked) (G : Parts) (number : Role → ℕ) : Type 0 where
@@ -81,10 +81,11 @@ abbrev mutual
   size_of_row end_of-Stmt = 0
   size_of_row (more_of-Stmt (Binding x value place) rest) = size_of value + 1 + size_of_row rest
 
--- the number of instructions that the schemas give these definitions: a trigger and a return for each, and those of its body
+-- the number of instructions that the schemas give these definitions: a trigger and a return for each, its entries, and those of
+-- its body
 abbrev pub size_of_all : List Def → ℕ
 size_of_all [] = 0
-size_of_all (d ∷ ds) = 2 + size_of d.body + size_of_all ds
+size_of_all (d ∷ ds) = 2 + length d.params + size_of d.body + size_of_all ds
 
 -- the size of a source: the answer's instruction, and those of its definitions
 abbrev pub size : Checked → ℕ

@@ -11,6 +11,7 @@ mod draft;
 mod error;
 mod expr;
 mod joined;
+mod operators;
 mod program;
 
 pub use error::{BuildError, MAX_INSTRUCTIONS};

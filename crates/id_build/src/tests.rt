@@ -158,3 +158,33 @@ fn builds_a_block_in_a_block(rt: HostRuntime) -> Result<(), Fail> {
     assert_lines(&rt, &graph, &lines);
     Ok(())
 }
+
+/// An entry for each parameter, of its kind; `==` by the kind of its left operand, and a label of the
+/// kind of its binding.
+#[test]
+fn builds_entries_and_truth_values(rt: HostRuntime) -> Result<(), Fail> {
+    let graph = graph(
+        rt.alloc(),
+        "def main(n: int, p: bool): bool = { q = p == (n < 3); in not q };",
+    )?;
+    let lines = [
+        Line(Op::Merge(PortKind::Bool), 4, &[]),
+        Line(TRIGGER, 4, &[(5, Port::Zero)]),
+        Line(Op::Back(PortKind::Bool), 4, &[]),
+        Line(Op::Merge(PortKind::Int), 9, &[(6, Port::Zero)]),
+        Line(Op::Merge(PortKind::Bool), 17, &[(7, Port::Zero)]),
+        Line(sends(3), 50, &[(6, Port::One)]),
+        Line(Op::Binary(Dyadic::Lt), 48, &[(7, Port::One)]),
+        Line(Op::Binary(Dyadic::Eqb), 42, &[(8, Port::Zero)]),
+        Line(Op::Merge(PortKind::Bool), 36, &[(9, Port::Zero)]),
+        Line(Op::Unary(Monadic::Not), 57, &[(2, Port::One)]),
+    ];
+    assert_lines(&rt, &graph, &lines);
+    assert_eq!(rt; graph.blocks().len(), 1);
+    assert_eq!(rt; graph.blocks()[0].first, 1);
+    let entries = graph.blocks()[0].entries.as_slice();
+    assert_eq!(rt; entries.len(), 2);
+    assert_eq!(rt; entries[0], 3);
+    assert_eq!(rt; entries[1], 4);
+    Ok(())
+}

@@ -5,6 +5,6 @@ use Rattle.id_build.proofs.expr.+build.Given as goal
 
 abbrev pub invariant-build_stmts-loop-stmt : goal.invariant-build_stmts-loop-stmt
 invariant-build_stmts-loop-stmt l =
-    (l.draft.pieces.items ++ pieces_of_stmts (drop l.stmt-index l.stmts) ≡ l.initial.draft.pieces.items ++ pieces_of_stmts l.stmts)
-    × (l.draft.wires.items ++ wires_of_stmts (drop l.stmt-index l.stmts) (length l.draft.pieces.items) l.trigger ≡ l.initial.draft.wires.items ++ wires_of_stmts l.stmts (length l.initial.draft.pieces.items) l.trigger)
-    × (l.draft.labels.items ++ labels_of_stmts (drop l.stmt-index l.stmts) (length l.draft.pieces.items) ≡ l.initial.draft.labels.items ++ labels_of_stmts l.stmts (length l.initial.draft.pieces.items))
+    (l.draft.pieces.items ++ pieces_of_stmts l.checked (drop l.stmt-index l.stmts) ≡ l.initial.draft.pieces.items ++ pieces_of_stmts l.checked l.stmts)
+    × (l.draft.wires.items ++ wires_of_stmts l.checked (drop l.stmt-index l.stmts) (length l.draft.pieces.items) l.trigger ≡ l.initial.draft.wires.items ++ wires_of_stmts l.checked l.stmts (length l.initial.draft.pieces.items) l.trigger)
+    × (l.draft.labels.items ++ labels_of_stmts l.checked (drop l.stmt-index l.stmts) (length l.draft.pieces.items) ≡ l.initial.draft.labels.items ++ labels_of_stmts l.checked l.stmts (length l.initial.draft.pieces.items))
