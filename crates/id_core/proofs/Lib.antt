@@ -6,6 +6,7 @@ pub mod FitsLemmas
 pub mod SentLemmas
 pub mod OutcomeLemmas
 pub mod FiringsLemmas
+pub mod InputsLemmas
 pub mod MachinesLemmas
 pub mod ObservedLemmas
 pub mod OrderedLemmas

@@ -6,7 +6,7 @@ use Rattle.std.proofs.lemmas.List.{length-map, length-append, length-set, get_or
 use Rattle.std.proofs.lemmas.Bool.{cases_lt, cases_eq}
 use Rattle.std.proofs.Math.ListN.{get_or-append}
 use Rattle.std.proofs.Math.Seq.{get_or-append_seam}
-use Rattle.std.proofs.lemmas.List.Elements.{All-nil, All-cons, All-append, All-take, All-drop}
+use Rattle.std.proofs.lemmas.List.Elements.{All-cons, All-append, All-take, All-drop}
 use Rattle.id_graph.specs.declared.dests.Port.TheVariants as port
 use Rattle.id_graph.specs.declared.instr.Block.{Block}
 use Rattle.id_graph.specs.declared.instr.Instr.{Instr}
@@ -14,6 +14,7 @@ use Rattle.id_graph.specs.declared.instr.Op.TheVariants.{Merge, Back}
 use Rattle.id_graph.specs.declared.instr.PortKind.TheVariants as kind
 use Rattle.id_graph.specs.Graph.{Parts}
 use Rattle.id_graph.specs.Ports.{port_kind}
+use Rattle.id_meaning.specs.declared.SourceValue.{SourceValue}
 use Rattle.id_tag.specs.Kinds.{kind_of}
 use Rattle.id_tag.specs.Routes.{route_of}
 use Rattle.std.proofs.lemmas.Option.{slice_get_within, slice_get-map}
@@ -32,9 +33,10 @@ use Rattle.id_core.specs.Events.{tag_of}
 use Rattle.id_core.specs.Fits.{Fits, TokenFits, PayloadFits}
 use Rattle.id_core.specs.Steps.{State, arrival, waiting_after, arriving, at_instr, outcome, fresh_numbers, next_stamp, outputs_of, event_of, state_after, is_ended}
 use Rattle.id_core.specs.Replays.{ElementView}
-use Rattle.id_core.specs.Machines.{world_of, taken_from, given_to, routed_to, delivered, event_of_given, event_of_routed, event_at, main_tag, start_message, block_messages, IsElement, AreElements, IsMachine}
+use Rattle.id_core.specs.Machines.{world_of, taken_from, given_to, routed_to, delivered, event_of_given, event_of_routed, event_at, main_tag, start_message, input_messages, block_messages, AreTaken, IsElement, AreElements, IsMachine}
 use Rattle.id_core.proofs.StepsLemmas.{length-sent, length-numbered}
 use Rattle.id_core.proofs.SentLemmas.{kind_at_op}
+use Rattle.id_core.proofs.InputsLemmas.{inputs_fit}
 
 -- what holds of each image holds of what it is the image of
 pub All-from_map : {X Y : Type 0} (P : Y → Type 0) (f : X → Y) (xs : List X) → All P (map f xs) → All (λ x. P (f x)) xs
@@ -87,9 +89,9 @@ within_from_fits g stamp (Token t p v) fits = at (slice_get g.instrs t.instr) re
     at None is e = cc
     at (Some i) is e = slice_get_within g.instrs t.instr i is
 
--- the start messages fit the graph
-pub start_fits : (g : Parts) (b : Block) → IsMain g b → IsMainBlock g b → All (Fits g) (block_messages (b ∷ []))
-start_fits g b main kept =
+-- the start messages fit the graph, where its entries take the inputs
+pub start_fits : (g : Parts) (b : Block) (vs : List SourceValue) → IsMain g b → IsMainBlock g b → AreTaken g b.entries vs → All (Fits g) (block_messages (b ∷ []) vs)
+start_fits g b vs main kept inputs =
     let first : TokenFits g 0 (main_tag b.first) port.Zero value.Signal =
     record { kind = kind_at_op g b.first port.Zero (Merge kind.Signal) kept.trigger; in_time = omega arith; continuation = tt } in
     let second : TokenFits g 0 (main_tag (b.first + 1)) port.Zero (value.Continuation (main_tag 0)) = record {
@@ -110,7 +112,8 @@ start_fits g b main kept =
     } in
     let trigger : Message = start_message 0 (Token (main_tag b.first) port.Zero value.Signal) in
     let back : Message = start_message 1 (Token (main_tag (b.first + 1)) port.Zero (value.Continuation (main_tag 0))) in
-    All-cons (Fits g) trigger (back ∷ []) first (All-cons (Fits g) back [] second (All-nil (Fits g)))
+    let brought = input_messages 2 b.entries vs in
+    All-cons (Fits g) trigger (back ∷ brought) first (All-cons (Fits g) back brought second (inputs_fit g 2 b.entries vs inputs))
 
 -- the message at a place, given to the element that it is for, which has a stamp left
 pub record IsGiven (g : Parts) (count : ℕ) (es : List ElementView) (flight : List Message) (k n : ℕ) (m : Message) (e : ElementView) : Type 0 where

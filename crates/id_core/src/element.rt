@@ -20,14 +20,13 @@ pub struct Element<'a> {
 }
 
 impl<'a> Model for Element<'a> {
-    ghost use Rattle.std.specs.Coded.{codes};
-    ghost use Rattle.id_match.specs.Codes.{coded_store};
+    ghost use Rattle.id_core.specs.Codes.{coded_element};
     ghost use Rattle.id_core.specs.Replays.{ElementView, IsKept};
     ghost use Rattle.id_core.specs.Desks.{state_of};
 
     ghost Value = { ElementView };
 
-    ghost coded = { Prim.hlevel (codes, coded_store) };
+    ghost coded = { coded_element };
 
     ghost view = { λ e. record {
       number = e.desk.log.element;

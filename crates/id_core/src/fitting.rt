@@ -91,7 +91,7 @@ fn is_second(graph: &Graph, number: u32) -> bool
 }
 
 /// What the instruction of this number does, if there is one.
-fn op_at(graph: &Graph, number: u32) -> Option<Op>
+pub(crate) fn op_at(graph: &Graph, number: u32) -> Option<Op>
     ensures { result ≡ op_at graph.now number }
 {
     graph.instrs().get(number as usize).map(|instr| instr.op)

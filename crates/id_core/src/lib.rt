@@ -8,6 +8,7 @@
 
 mod desk;
 mod element;
+mod entering;
 mod fitting;
 mod flight;
 mod history;
@@ -20,6 +21,7 @@ mod outputs;
 mod step;
 
 pub use element::Element;
+pub use entering::takes_inputs;
 pub use fitting::fits;
 pub use flight::Flight;
 pub use history::{Event, Events};

@@ -1,6 +1,6 @@
 //! The machine: its elements and the messages in flight, in a list (docs/MACHINE.md, "Runs").
 
-ghost use Rattle.std.specs.Prelude.{◌≡◌, ◌<◌, ◌≤◌, ◌+◌, ◌++◌, ◌↔◌, [], ℕ, All, length, map, replicate, IfOk, IsTrue, vec_len};
+ghost use Rattle.std.specs.Prelude.{◌≡◌, ◌<◌, ◌≤◌, ◌+◌, ◌++◌, ◌↔◌, [], ℕ, All, length, map, replicate, IfOk, OnOk, IsTrue, vec_len};
 ghost use Rattle.std.specs.List.{remove};
 ghost use Rattle.std.specs.VecDeque.{deque_len, deque_capacity};
 ghost use Rattle.id_graph.specs.declared.dests.Port.TheVariants.{Zero};
@@ -8,7 +8,7 @@ ghost use Rattle.id_tag.specs.declared.Payload.TheVariants.{Token};
 ghost use Rattle.id_core.specs.Events.{AllWent};
 ghost use Rattle.id_core.specs.Fits.{Fits};
 ghost use Rattle.id_core.specs.Steps.{State, fresh, outputs_of};
-ghost use Rattle.id_core.specs.Machines.{AreElements, main_tag, start_message, start_messages};
+ghost use Rattle.id_core.specs.Machines.{AreElements, TakesInputs, input_messages, main_tag, start_message, start_messages, token_value};
 
 use crate::element::Element;
 use crate::flight::Flight;
@@ -17,6 +17,7 @@ use crate::observe::{Observed, observe_records};
 use crate::outcome::most_sent;
 use crate::step::{Step, TakeError};
 use id_graph::{Graph, Port};
+use id_meaning::{Inputs, SourceValue};
 use id_tag::{Context, Message, Payload, Sender, Tag, Value, route};
 use id_valid::Valid;
 use std::alloc::{AllocError, AllocFailed, Global};
@@ -71,13 +72,12 @@ pub struct Machine<'a> {
 
 impl<'a> Model for Machine<'a> {
     ghost use Rattle.std.specs.Prelude.{◌≡◌, [], length};
-    ghost use Rattle.std.specs.Coded.{codes};
-    ghost use Rattle.id_match.specs.Codes.{coded_store};
+    ghost use Rattle.id_core.specs.Codes.{coded_machine};
     ghost use Rattle.id_core.specs.Machines.{MachineView, IsMachine, world_of};
 
     ghost Value = { MachineView };
 
-    ghost coded = { Prim.hlevel (codes, coded_store) };
+    ghost coded = { coded_machine };
 
     ghost view = { λ m. record {
       graph = m.graph.now;
@@ -94,20 +94,26 @@ impl<'a> Machine<'a> {
     ghost use Rattle.id_core.specs.declared.step.TakeError.TheVariants.{StampEnd};
     ghost use Rattle.id_core.specs.Fits.{Fits};
     ghost use Rattle.id_core.specs.Observed.{answer, faults, names};
-    ghost use Rattle.id_core.specs.Machines.{AreElements, IsQuiet, delivered, event_at, start, world_of};
+    ghost use Rattle.id_core.specs.Machines.{AreElements, IsQuiet, TakesInputs, delivered, event_at, start, world_of};
 
     /// The machine of so many elements at its start, with the start messages in flight: a signal to
-    /// main's first instruction, and the continuation to instruction 0. `BadElements` comes where the
-    /// count is not from 1 to 64.
-    pub fn new(alloc: Global, graph: &'a Valid, count: u32) -> Result<Machine<'a>, MachineError>
-        ensures ok { IfOk result (λ m. m ≡ record { graph = graph.now; count = count; world = start graph.now count }) }
+    /// main's first instruction, the continuation to instruction 0, and an input to each of main's entries.
+    /// `BadElements` comes where the count is not from 1 to 64.
+    pub fn new(
+        alloc: Global,
+        graph: &'a Valid,
+        inputs: &Inputs,
+        count: u32,
+    ) -> Result<Machine<'a>, MachineError>
+        requires { TakesInputs graph.now inputs.now.values }
+        ensures ok { IfOk result (λ m. m ≡ record { graph = graph.now; count = count; world = start graph.now inputs.now.values count }) }
         ensures refused { (result ≡ Err BadElements) ↔ ((count ≡ 0) ⊎ (64 < count)) }
     {
         if count == 0 || count > MAX_ELEMENTS {
             return Err(MachineError::BadElements);
         }
         let elements = fresh_elements(alloc, graph, count)?;
-        let flight = start_flight(alloc, graph)?;
+        let flight = start_flight(alloc, graph, inputs)?;
         Ok(Machine {
             graph,
             elements,
@@ -202,8 +208,13 @@ fn fresh_elements<'a>(
 }
 
 /// The messages in flight at the start.
-fn start_flight(alloc: Global, graph: &Valid) -> Result<VecDeque<Message>, AllocError>
-    ensures messages { IfOk result (λ q. q.items ≡ start_messages graph.now) }
+fn start_flight(
+    alloc: Global,
+    graph: &Valid,
+    inputs: &Inputs,
+) -> Result<VecDeque<Message>, AllocError>
+    requires { TakesInputs graph.now inputs.now.values }
+    ensures messages { IfOk result (λ q. q.items ≡ start_messages graph.now inputs.now.values) }
     ensures fit { IfOk result (λ q. All (Fits graph.now) q.items) }
 {
     let block = graph.main_block();
@@ -214,7 +225,35 @@ fn start_flight(alloc: Global, graph: &Valid) -> Result<VecDeque<Message>, Alloc
     flight.push_back_reserved(trigger);
     let back = start_message(1, block.first + 1, Value::Continuation(main_tag(0)));
     flight.push_back_reserved(back);
+    let entries = block.entries.as_slice();
+    add_inputs(entries, inputs.values.as_slice(), &mut flight)?;
     Ok(flight)
+}
+
+/// Adds the messages that bring inputs to as many entries, one each in their order.
+fn add_inputs(
+    entries: &[u32],
+    inputs: &[SourceValue],
+    flight: &mut VecDeque<Message>,
+) -> Result<(), AllocError>
+    requires { length entries.now ≡ length inputs.now }
+    ensures { OnOk result (flight.new.items ≡ flight.old.items ++ input_messages 2 entries.now inputs.now) }
+{
+    for (index, entry) in entries.iter().enumerate() {
+        let value = token_value(inputs[index]);
+        flight.push_back(start_message(index + 2, *entry, value))?;
+    }
+    Ok(())
+}
+
+/// An input as the value of a token.
+pub(crate) fn token_value(input: SourceValue) -> Value
+    ensures { result ≡ token_value input }
+{
+    match input {
+        SourceValue::Int(number) => Value::Int(number),
+        SourceValue::Bool(truth) => Value::Bool(truth),
+    }
 }
 
 /// A start message to port 0 of an instruction, with its number.

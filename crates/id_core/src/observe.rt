@@ -260,6 +260,7 @@ fn source_value(value: Value) -> Option<SourceValue>
 {
     match value {
         Value::Int(number) => Some(SourceValue::Int(number)),
+        Value::Bool(truth) => Some(SourceValue::Bool(truth)),
         _ => None,
     }
 }

@@ -1,11 +1,11 @@
-//! Runs of two graphs made by hand: those of `def main(): int = 7;` and `def main(): int = 1 + 2;`.
+//! Runs of graphs made by hand, among them those of `def main(): int = 7;` and `def main(): int = 1 + 2;`.
 
 ghost use Rattle.std.specs.Prelude.{◌≡◌, ◌<◌, IfOk};
 
 use crate::machine::main_tag;
-use crate::{Element, Machine, MachineError, Step, TakeError, fits, merge_records};
-use id_graph::{Block, Constant, Dest, Dests, Dyadic, Graph, Instr, Monadic, Op, Port, PortKind};
-use id_meaning::SourceValue;
+use crate::{Element, Machine, MachineError, Step, TakeError, fits, merge_records, takes_inputs};
+use id_graph::{Block, Constant, Dest, Dests, Dyadic, Graph, Instr, Op, Port, PortKind};
+use id_meaning::{Inputs, SourceValue};
 use id_tag::{Message, Payload, Sender, Tag, Value, route};
 use id_text::Sequence;
 use id_valid::{Valid, validate};
@@ -31,27 +31,28 @@ fn instr(alloc: Global, op: Op, arcs: &[(u32, Port)], place: usize) -> Result<In
 
 /// The first three instructions of such a graph, with what the trigger feeds.
 fn start(alloc: Global, trigger: &[(u32, Port)]) -> Result<Vec<Instr>, AllocError> {
-    start_of(alloc, PortKind::Int, trigger)
-}
-
-/// The same for a result of this kind.
-fn start_of(
-    alloc: Global,
-    kind: PortKind,
-    trigger: &[(u32, Port)],
-) -> Result<Vec<Instr>, AllocError> {
     let mut list = Vec::new(alloc);
-    list.push(instr(alloc, Op::Merge(kind), &[], 4)?)?;
+    list.push(instr(alloc, Op::Merge(PortKind::Int), &[], 4)?)?;
     list.push(instr(alloc, Op::Merge(PortKind::Signal), trigger, 4)?)?;
-    list.push(instr(alloc, Op::Back(kind), &[], 4)?)?;
+    list.push(instr(alloc, Op::Back(PortKind::Int), &[], 4)?)?;
     Ok(list)
 }
 
 fn valid(rt: &impl Abort, alloc: Global, instrs: Vec<Instr>) -> Result<Valid, Fail> {
+    valid_with(rt, alloc, instrs, Vec::new(alloc))
+}
+
+/// The graph of these instructions in one block, with these entries.
+fn valid_with(
+    rt: &impl Abort,
+    alloc: Global,
+    instrs: Vec<Instr>,
+    entries: Vec<u32>,
+) -> Result<Valid, Fail> {
     let mut blocks = Vec::new(alloc);
     blocks.push(Block {
         first: 1,
-        entries: Sequence::new(Vec::new(alloc)),
+        entries: Sequence::new(entries),
     })?;
     assert!(rt; instrs.len() < 100);
     Ok(validate(alloc, Graph::new(blocks, instrs)?)?)
@@ -74,16 +75,30 @@ fn sum(rt: &impl Abort, alloc: Global) -> Result<Valid, Fail> {
     valid(rt, alloc, list)
 }
 
-/// Whether 2 is not below 3.
-fn comparison(rt: &impl Abort, alloc: Global) -> Result<Valid, Fail> {
-    let mut list = start_of(alloc, PortKind::Bool, &[(3, Port::Zero), (4, Port::Zero)])?;
-    let two = Op::Const(Constant::Int(2));
-    let three = Op::Const(Constant::Int(3));
-    list.push(instr(alloc, two, &[(5, Port::Zero)], 18)?)?;
-    list.push(instr(alloc, three, &[(5, Port::One)], 22)?)?;
-    list.push(instr(alloc, Op::Binary(Dyadic::Lt), &[(6, Port::Zero)], 20)?)?;
-    list.push(instr(alloc, Op::Unary(Monadic::Not), &[(2, Port::One)], 17)?)?;
-    valid(rt, alloc, list)
+/// The machine of so many elements at its start with these inputs, which are for the graph.
+fn machine<'a>(
+    rt: &impl Abort,
+    alloc: Global,
+    graph: &'a Valid,
+    values: Vec<SourceValue>,
+    count: u32,
+) -> Result<Machine<'a>, MachineError> {
+    let inputs = Inputs {
+        values: Sequence::new(values),
+    };
+    assert!(rt; takes_inputs(graph, &inputs));
+    Machine::new(alloc, graph, &inputs, count)
+}
+
+/// Delivers the first message until none is in flight, 100 times at most.
+fn deliver_all(rt: &impl Abort, machine: &mut Machine<'_>) -> Result<(), TakeError> {
+    for _ in 0..100 {
+        if machine.in_flight().is_empty() {
+            break;
+        }
+        deliver_first(rt, machine)?;
+    }
+    Ok(())
 }
 
 /// Delivers the first message. Where memory is wanted, nothing has changed, and the same call is made again.
@@ -104,7 +119,7 @@ fn deliver_first(rt: &impl Abort, machine: &mut Machine<'_>) -> Result<Step, Tak
 #[test]
 fn seven_takes_five_events(rt: HostRuntime) -> Result<(), Fail> {
     let graph = seven(&rt, rt.alloc())?;
-    let mut machine = Machine::new(rt.alloc(), &graph, 1)?;
+    let mut machine = machine(&rt, rt.alloc(), &graph, Vec::new(rt.alloc()), 1)?;
     for _ in 0..5 {
         assert_eq!(rt; deliver_first(&rt, &mut machine)?, Step::Went);
     }
@@ -145,50 +160,15 @@ fn seven_takes_five_events(rt: HostRuntime) -> Result<(), Fail> {
 }
 
 #[test]
-fn truth_values_are_recorded(rt: HostRuntime) -> Result<(), Fail> {
-    let graph = comparison(&rt, rt.alloc())?;
-    let mut machine = Machine::new(rt.alloc(), &graph, 1)?;
-    for _ in 0..9 {
-        assert_eq!(rt; deliver_first(&rt, &mut machine)?, Step::Went);
-    }
-    assert!(rt; machine.is_quiet());
-    let elements = machine.elements();
-    assert_eq!(rt; elements.len(), 1);
-    let events = elements[0].events();
-    assert_eq!(rt; events.len(), 9);
-    let wanted = [
-        (5, 5, Value::Int(3), Value::Bool(true)),
-        (6, 6, Value::Bool(true), Value::Bool(false)),
-        (7, 2, Value::Bool(false), Value::Bool(false)),
-    ];
-    for (position, instr, came, sent) in wanted {
-        assert!(rt; position < events.len());
-        let event = events.event(position);
-        let Payload::Token { tag, value, .. } = event.message.payload;
-        assert_eq!(rt; tag.instr, instr, "event {position}");
-        assert_eq!(rt; value, came, "event {position}");
-        assert_eq!(rt; event.outputs.len(), 1, "event {position}");
-        let Payload::Token { value, .. } = event.outputs.message(0).payload;
-        assert_eq!(rt; value, sent, "event {position}");
-    }
-    Ok(())
-}
-
-#[test]
 fn the_count_is_from_1_to_64(rt: HostRuntime) -> Result<(), Fail> {
     let graph = sum(&rt, rt.alloc())?;
     for count in [0, 65] {
-        let answer = Machine::new(rt.alloc(), &graph, count);
+        let answer = machine(&rt, rt.alloc(), &graph, Vec::new(rt.alloc()), count);
         assert_eq!(rt; answer.err(), Some(MachineError::BadElements), "{count}");
     }
     for count in [1, 4, 64] {
-        let mut machine = Machine::new(rt.alloc(), &graph, count)?;
-        for _ in 0..100 {
-            if machine.in_flight().is_empty() {
-                break;
-            }
-            deliver_first(&rt, &mut machine)?;
-        }
+        let mut machine = machine(&rt, rt.alloc(), &graph, Vec::new(rt.alloc()), count)?;
+        deliver_all(&rt, &mut machine)?;
         assert!(rt; machine.is_quiet(), "{count}");
         let answer = machine.observe(rt.alloc())?.answer;
         assert_eq!(rt; answer, Some(SourceValue::Int(3)), "{count}");
@@ -356,13 +336,8 @@ fn names_are_those_of_labels(rt: HostRuntime) -> Result<(), Fail> {
     ];
     for (four, count, wanted) in cases {
         let graph = bindings(&rt, rt.alloc(), four)?;
-        let mut machine = Machine::new(rt.alloc(), &graph, count)?;
-        for _ in 0..100 {
-            if machine.in_flight().is_empty() {
-                break;
-            }
-            deliver_first(&rt, &mut machine)?;
-        }
+        let mut machine = machine(&rt, rt.alloc(), &graph, Vec::new(rt.alloc()), count)?;
+        deliver_all(&rt, &mut machine)?;
         let shown = machine.observe(rt.alloc())?;
         assert_eq!(rt; shown.answer, Some(SourceValue::Int(5)), "{four} {count}");
         let names = shown.names.as_slice();
@@ -371,6 +346,53 @@ fn names_are_those_of_labels(rt: HostRuntime) -> Result<(), Fail> {
             assert!(rt; name.path.steps.is_empty());
             assert_eq!(rt; name.place, *place, "{four} {count}");
             assert_eq!(rt; name.value, *value, "{four} {count}");
+        }
+    }
+    Ok(())
+}
+
+/// The graph of `def main(n: int, b: bool): bool = n < 8 && b;`, with `n` and `b` at 9 and 17.
+fn compared(rt: &impl Abort, alloc: Global) -> Result<Valid, Fail> {
+    let mut list = Vec::new(alloc);
+    let eight = Op::Const(Constant::Int(8));
+    list.push(instr(alloc, Op::Merge(PortKind::Bool), &[], 4)?)?;
+    list.push(instr(alloc, Op::Merge(PortKind::Signal), &[(5, Port::Zero)], 4)?)?;
+    list.push(instr(alloc, Op::Back(PortKind::Bool), &[], 4)?)?;
+    list.push(instr(alloc, Op::Merge(PortKind::Int), &[(6, Port::Zero)], 9)?)?;
+    list.push(instr(alloc, Op::Merge(PortKind::Bool), &[(7, Port::One)], 17)?)?;
+    list.push(instr(alloc, eight, &[(6, Port::One)], 38)?)?;
+    list.push(instr(alloc, Op::Binary(Dyadic::Lt), &[(7, Port::Zero)], 36)?)?;
+    list.push(instr(alloc, Op::Binary(Dyadic::And), &[(2, Port::One)], 40)?)?;
+    let mut entries = Vec::new(alloc);
+    entries.push(3)?;
+    entries.push(4)?;
+    valid_with(rt, alloc, list, entries)
+}
+
+#[test]
+fn inputs_come_to_their_entries(rt: HostRuntime) -> Result<(), Fail> {
+    let graph = compared(&rt, rt.alloc())?;
+    let seven = SourceValue::Int(7);
+    let yes = SourceValue::Bool(true);
+    for count in [1, 4, 64] {
+        let mut values = Vec::new(rt.alloc());
+        values.push(seven)?;
+        values.push(yes)?;
+        let mut machine = machine(&rt, rt.alloc(), &graph, values, count)?;
+        let flight = machine.in_flight();
+        assert_eq!(rt; flight.len(), 4, "{count}");
+        for number in 0..flight.len() {
+            assert_eq!(rt; flight.message(number).output, number, "{count}");
+        }
+        deliver_all(&rt, &mut machine)?;
+        assert!(rt; machine.is_quiet(), "{count}");
+        let shown = machine.observe(rt.alloc())?;
+        assert_eq!(rt; shown.answer, Some(yes), "{count}");
+        let names = shown.names.as_slice();
+        assert_eq!(rt; names.len(), 2, "{count}");
+        for (name, (place, value)) in names.iter().zip([(9, seven), (17, yes)]) {
+            assert_eq!(rt; name.place, place, "{count}");
+            assert_eq!(rt; name.value, value, "{count}");
         }
     }
     Ok(())

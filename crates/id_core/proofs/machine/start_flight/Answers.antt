@@ -1,11 +1,30 @@
--- Main's block has a trigger and a `back`, as its kind is that of instruction 0.
-use Rattle.std.proofs.Common.{◌≡◌, ◌∷◌, [], arith, rules}
+-- Main's block has a trigger and a `back`, as its kind is that of instruction 0, and its entries take the inputs.
+use Rattle.std.proofs.Common.{◌≡◌, ◌∷◌, ◌++◌, [], arith, rules}
 use Rattle.std.proofs.lemmas.Grind.{common_steps}
-use Rattle.id_core.specs.Machines.{block_messages}
+use Rattle.id_core.specs.Machines.{block_messages, input_messages}
+use Rattle.id_core.proofs.InputsLemmas.{length-taken}
 use Rattle.id_core.proofs.MachinesLemmas.{start_fits}
 use Rattle.id_core.proofs.machine.start_flight.Goals as goal
 
+-- the messages in flight
+messages : (c : goal.In_ok-add_inputs) → c.add_inputs.new.flight.items ≡ block_messages (c.main_block-block.result.now ∷ []) c.args.inputs.now.values
+messages c =
+    let first : c.push_back_reserved-2.new.self.items ++ input_messages 2 c.main_block-block.result.now.entries c.args.inputs.now.values
+    ≡ block_messages (c.main_block-block.result.now ∷ []) c.args.inputs.now.values = first_of (search rules, grind (arith, common_steps)) in
+    rw (c.in_ok-add_inputs.ensures, c.as_slice-entries.ensures, c.as_slice.ensures) first
+
+pub returns-clause-messages : goal.returns-clause-messages
+returns-clause-messages c =
+    rw (c.main_block-block.ensures.main) (messages c)
+
 pub returns-clause-fit : goal.returns-clause-fit
 returns-clause-fit c =
-    let items : c.push_back_reserved-2.new.self.items ≡ block_messages (c.main_block-block.result.now ∷ []) = first_of (search rules, grind (arith, common_steps)) in
-    rw items (start_fits c.args.graph.now c.main_block-block.result.now c.main_block-block.ensures.main c.main_block-block.ensures.kept)
+    let block = c.main_block-block.result.now in
+    rw (messages c)
+    (start_fits c.args.graph.now block c.args.inputs.now.values c.main_block-block.ensures.main c.main_block-block.ensures.kept (c.requires.taken block c.main_block-block.ensures.main))
+
+pub add_inputs-requires : goal.add_inputs-requires
+add_inputs-requires c =
+    let block = c.main_block-block.result.now in
+    rw (c.as_slice-entries.ensures, c.as_slice.ensures)
+    (length-taken c.args.graph.now block.entries c.args.inputs.now.values (c.requires.taken block c.main_block-block.ensures.main))

@@ -1,0 +1,45 @@
+//! Which inputs are for a graph: what `Machine::new` asks of them.
+
+ghost use Rattle.std.specs.Prelude.{◌≡◌, ◌↔◌, IsTrue, length};
+ghost use Rattle.id_graph.specs.declared.instr.Op.TheVariants.{Merge};
+ghost use Rattle.id_core.specs.Machines.{AreTaken, TakesInputs};
+
+use crate::fitting::op_at;
+use crate::machine::token_value;
+use id_graph::{Graph, Op, PortKind};
+use id_meaning::{Inputs, SourceValue};
+use id_valid::Valid;
+
+/// Whether these are inputs for the graph: one for each entry of main's block, of its kind. It tests the condition of
+/// `Machine::new`. Takes no memory.
+pub fn takes_inputs(graph: &Valid, inputs: &Inputs) -> bool
+    ensures { IsTrue result ↔ TakesInputs graph.now inputs.now.values }
+{
+    let entries = graph.main_block().entries.as_slice();
+    let values = inputs.values.as_slice();
+    entries.len() == values.len() && are_taken(graph.graph(), entries, values)
+}
+
+/// Whether each of these instructions is a merge of its input's kind, where there are as many inputs.
+fn are_taken(graph: &Graph, entries: &[u32], inputs: &[SourceValue]) -> bool
+    requires { length entries.now ≡ length inputs.now }
+    ensures { IsTrue result ↔ AreTaken graph.now entries.now inputs.now }
+{
+    for (index, entry) in entries.iter().enumerate() {
+        let value = token_value(inputs[index]);
+        if !is_merge(op_at(graph, *entry), value.kind()) {
+            return false;
+        }
+    }
+    true
+}
+
+/// Whether the operator is a merge of this kind.
+fn is_merge(op: Option<Op>, kind: PortKind) -> bool
+    ensures { IsTrue result ↔ (op ≡ Some (Merge kind)) }
+{
+    match op {
+        Some(Op::Merge(other)) => other == kind,
+        _ => false,
+    }
+}
