@@ -4,6 +4,7 @@ use Rattle.id_graph.specs.Graph.{Parts}
 use Rattle.id_tag.specs.declared.Payload.{Payload}
 use Rattle.id_tag.specs.Routes.{route_of}
 use Rattle.id_core.specs.Machines.{World}
+use Rattle.id_meaning.specs.declared.SourceValue.{SourceValue}
 use Rattle.id_meaning.specs.Parts.{Among}
 use Rattle.id_laws.proofs.Arrivals.{Happening, happening, token_of-happening, sends_of}
 use Rattle.id_laws.proofs.Lists.{among_at, among_append, left_of, map_at}
@@ -13,14 +14,14 @@ use Rattle.id_tag.specs.declared.Message.{Message}
 use Rattle.std.specs.List.{remove}
 
 -- each event of a run sends what Q holds of, where Q holds of what was handled up to then; `happened` is what is known of the events of the finished run
-abbrev pub Passes : Parts → ℕ → (Happening → Type 0) → (Payload → Type 0) → Type 0
-Passes g count happened Q =
-    (s : World) (hs : List Happening) → Reach g count s hs → (h : Happening) → Among h hs → happened h
+abbrev pub Passes : Parts → List SourceValue → ℕ → (Happening → Type 0) → (Payload → Type 0) → Type 0
+Passes g vs count happened Q =
+    (s : World) (hs : List Happening) → Reach g vs count s hs → (h : Happening) → Among h hs → happened h
     → ((x : Payload) → Among x (handled hs) → Q x) → (x : Payload) → Among x (sends_of g h) → Q x
 
-module _ (g : Parts) (count : ℕ) (happened : Happening → Type 0) (Q : Payload → Type 0) (starts : (x : Payload) → Among x (starting g) → Q x) (passes : Passes g count happened Q) where
+module _ (g : Parts) (vs : List SourceValue) (count : ℕ) (happened : Happening → Type 0) (Q : Payload → Type 0) (starts : (x : Payload) → Among x (starting g vs) → Q x) (passes : Passes g vs count happened Q) where
   -- Q holds of what is in flight and of what was handled
-  pub closed : (s : World) (hs : List Happening) → Reach g count s hs → ((h : Happening) → Among h hs → happened h) → (x : Payload) → Moving s hs x → Q x
+  pub closed : (s : World) (hs : List Happening) → Reach g vs count s hs → ((h : Happening) → Among h hs → happened h) → (x : Payload) → Moving s hs x → Q x
   closed s hs begin known x (inl h) = starts x h
   closed s hs begin known x (inr h) = absurd h
   closed s hs (deliver {s = s₀} {hs = hs₀} k m e r f q) known x moved =

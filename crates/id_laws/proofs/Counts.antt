@@ -17,6 +17,7 @@ use Rattle.id_ops.specs.declared.Operands.TheVariants as operands
 use Rattle.id_laws.proofs.Arrivals.{Arrival, Fires, Waits, Blocked}
 use Rattle.id_core.specs.Steps.{State}
 use Rattle.id_core.specs.Machines.{World, taken_from}
+use Rattle.id_meaning.specs.declared.SourceValue.{SourceValue}
 use Rattle.id_meaning.specs.Parts.{Among}
 use Rattle.id_laws.proofs.Lists.{among_at, map_at}
 use Rattle.id_laws.proofs.Arrivals.{Happening, happening, token_of, token_of-happening, sends_of, sends_by, tag_cases}
@@ -146,18 +147,18 @@ abbrev pub FiresOnce : Parts → List Happening → Type 0
 FiresOnce g hs = (t : Tag) (i : Instr) (a b : Operands) → Fired g hs t i a → Fired g hs t i b → a ≡ b
 
 -- what a graph has to keep so that no port gets two tokens under one tag: in any run
-pub record Exclusive (g : Parts) (count : ℕ) : Type 0 where
+pub record Exclusive (g : Parts) (vs : List SourceValue) (count : ℕ) : Type 0 where
   -- a token for an operator of one port is for its port 0
-  pub first_port : (s : World) (hs : List Happening) → Reach g count s hs → (t : Tag) (p : Port) (v : Value) (i : Instr)
+  pub first_port : (s : World) (hs : List Happening) → Reach g vs count s hs → (t : Tag) (p : Port) (v : Value) (i : Instr)
       → Among (Token t p v) (handled hs) → slice_get g.instrs t.instr ≡ Some i → two_ports i.op ≡ false → p ≡ Zero
   -- an event sends at most one token to a port of a tag, and so does the start
-  pub sends_once : (s : World) (hs : List Happening) → Reach g count s hs → (h : Happening) → Among h hs → (t : Tag) (p : Port) → count_at t p (sends_of g h) ≤ 1
-  pub starts_once : (t : Tag) (p : Port) → count_at t p (starting g) ≤ 1
+  pub sends_once : (s : World) (hs : List Happening) → Reach g vs count s hs → (h : Happening) → Among h hs → (t : Tag) (p : Port) → count_at t p (sends_of g h) ≤ 1
+  pub starts_once : (t : Tag) (p : Port) → count_at t p (starting g vs) ≤ 1
   -- no event sends to where the start does
-  pub not_at_start : (s : World) (hs : List Happening) → Reach g count s hs → (h : Happening) → Among h hs → (t : Tag) (p : Port) (v w : Value)
-      → Among (Token t p v) (sends_of g h) → Among (Token t p w) (starting g) → ⊥
+  pub not_at_start : (s : World) (hs : List Happening) → Reach g vs count s hs → (h : Happening) → Among h hs → (t : Tag) (p : Port) (v w : Value)
+      → Among (Token t p v) (sends_of g h) → Among (Token t p w) (starting g vs) → ⊥
   -- two events that send to one port of a tag are events of one tag, where each tag has fired once
-  pub one_sender : (s : World) (hs : List Happening) → Reach g count s hs → FiresOnce g hs → (h h' : Happening) → Among h hs → Among h' hs
+  pub one_sender : (s : World) (hs : List Happening) → Reach g vs count s hs → FiresOnce g hs → (h h' : Happening) → Among h hs → Among h' hs
       → (t : Tag) (p : Port) (v w : Value) → Among (Token t p v) (sends_of g h) → Among (Token t p w) (sends_of g h') → h.tag ≡ h'.tag
 
 -- an event that sends has fired
@@ -184,12 +185,12 @@ none zero zero f g = refl
 none (suc a) b f g = absurd (f (omega arith))
 none zero (suc b) f g = absurd (g (omega arith))
 
-module _ (g : Parts) (count : ℕ) (x : Exclusive g count) where
+module _ (g : Parts) (vs : List SourceValue) (count : ℕ) (x : Exclusive g vs count) where
   -- where what was handled came at most once, each tag has fired once
-  fires_once : (s : World) (hs : List Happening) → Reach g count s hs → ((t : Tag) (p : Port) → count_at t p (handled hs) ≤ 1) → FiresOnce g hs
+  fires_once : (s : World) (hs : List Happening) → Reach g vs count s hs → ((t : Tag) (p : Port) → count_at t p (handled hs) ≤ 1) → FiresOnce g hs
   fires_once s hs r few t i a b fa fb =
-      let ha = subst (λ u. OperandsHandled g hs u i a) fa.tag (fired_handled g count s hs r fa.event i a fa.among (ap (λ (u : Tag). slice_get g.instrs u.instr) fa.tag ∙ fa.at) fa.fires) in
-      let hb = subst (λ u. OperandsHandled g hs u i b) fb.tag (fired_handled g count s hs r fb.event i b fb.among (ap (λ (u : Tag). slice_get g.instrs u.instr) fb.tag ∙ fb.at) fb.fires) in
+      let ha = subst (λ u. OperandsHandled g hs u i a) fa.tag (fired_handled g vs count s hs r fa.event i a fa.among (ap (λ (u : Tag). slice_get g.instrs u.instr) fa.tag ∙ fa.at) fa.fires) in
+      let hb = subst (λ u. OperandsHandled g hs u i b) fb.tag (fired_handled g vs count s hs r fb.event i b fb.among (ap (λ (u : Tag). slice_get g.instrs u.instr) fb.tag ∙ fb.at) fb.fires) in
       go ha hb
     where
       go : OperandsHandled g hs t i a → OperandsHandled g hs t i b → a ≡ b
@@ -206,10 +207,10 @@ module _ (g : Parts) (count : ℕ) (x : Exclusive g count) where
           cc
 
   -- an earlier event of the tag of a message in flight: its operands were handled, so the message would be a second one
-  not_again : (s : World) (hs : List Happening) → Reach g count s hs → AtMostOne s hs → (h : Happening) → Among h hs → HasFired g h
+  not_again : (s : World) (hs : List Happening) → Reach g vs count s hs → AtMostOne s hs → (h : Happening) → Among h hs → HasFired g h
       → (t : Tag) (p : Port) (v : Value) (i : Instr) → h.tag ≡ t → slice_get g.instrs t.instr ≡ Some i → (two_ports i.op ≡ false → p ≡ Zero) → Among (Token t p v) (flying s) → ⊥
   not_again s hs r few h among f t p v i is at zero_port in_flight =
-      go (subst (λ u. OperandsHandled g hs u f.instr f.operands) is (fired_handled g count s hs r h f.instr f.operands among f.at f.fires))
+      go (subst (λ u. OperandsHandled g hs u f.instr f.operands) is (fired_handled g vs count s hs r h f.instr f.operands among f.at f.fires))
     where
       at' : slice_get g.instrs t.instr ≡ Some f.instr
       at' = ap (λ (u : Tag). slice_get g.instrs u.instr) (sym is) ∙ f.at
@@ -255,15 +256,15 @@ module _ (g : Parts) (count : ℕ) (x : Exclusive g count) where
   few_handled k s hs m n e f few t p = omega (arith, few t p, took_one k s m n e t p f)
 
   -- an event's outputs come to no port that has got one already
-  no_second : (k : ℕ) (s : World) (hs : List Happening) (m : Message) (e : State) → Reach g count s hs → slice_get s.flight k ≡ Some m
+  no_second : (k : ℕ) (s : World) (hs : List Happening) (m : Message) (e : State) → Reach g vs count s hs → slice_get s.flight k ≡ Some m
       → slice_get s.elements (route_of m.payload count) ≡ Some e → AtMostOne s hs → (t : Tag) (p : Port) (v w : Value)
       → Among (Token t p v) (sends_of g (happening g (route_of m.payload count) e.waiting m.payload)) → Moving s hs (Token t p w) → ⊥
   no_second k s hs m e r f q few t p v w out moved =
       let n = route_of m.payload count in
       let new = happening g n e.waiting m.payload in
       let s' = taken_from g k s m n e in
-      let r' : Reach g count s' (new ∷ hs) = deliver k m e r f q in
-      elim (origin g count s hs r (Token t p w) moved) [
+      let r' : Reach g vs count s' (new ∷ hs) = deliver k m e r f q in
+      elim (origin g vs count s hs r (Token t p w) moved) [
         | inl start ↦ x.not_at_start s' (new ∷ hs) r' new (inl refl) t p v w out start
         | inr by ↦
             let once = fires_once s' (new ∷ hs) r' (few_handled k s hs m n e f few) in
@@ -273,7 +274,7 @@ module _ (g : Parts) (count : ℕ) (x : Exclusive g count) where
             (λ c. x.first_port s' (new ∷ hs) r' new.tag new.port new.value now.instr (inl refl) now.at c) (took k s m n e f)
       ]
 
-  one_more : (k : ℕ) (s : World) (hs : List Happening) (m : Message) (e : State) → Reach g count s hs → slice_get s.flight k ≡ Some m
+  one_more : (k : ℕ) (s : World) (hs : List Happening) (m : Message) (e : State) → Reach g vs count s hs → slice_get s.flight k ≡ Some m
       → slice_get s.elements (route_of m.payload count) ≡ Some e → AtMostOne s hs → (t : Tag) (p : Port) (c : ℕ)
       → let n = route_of m.payload count in
       let new = happening g n e.waiting m.payload in
@@ -291,7 +292,7 @@ module _ (g : Parts) (count : ℕ) (x : Exclusive g count) where
       omega (arith, total k s hs m n e t p f, x.sends_once s' (new ∷ hs) (deliver k m e r f q) new (inl refl) t p)
 
   -- each port gets at most one token under each tag
-  pub at_most_one : (s : World) (hs : List Happening) → Reach g count s hs → AtMostOne s hs
+  pub at_most_one : (s : World) (hs : List Happening) → Reach g vs count s hs → AtMostOne s hs
   unfolding count_at
   at_most_one s hs begin t p = omega (arith, x.starts_once t p)
   at_most_one s hs (deliver {s = s₀} {hs = hs₀} k m e r f q) t p =

@@ -2,7 +2,6 @@
 use Rattle.std.proofs.Common.{◌≡◌, ◌≢◌, ℕ, zero, suc, ◌+◌, ◌≤◌, Bool, true, false, cond, ◌&&◌, Option, Some, None, List, [], ◌∷◌, ◌++◌, map, set, replicate, slice_get, refl, sym, ◌∙◌, ap, count_by, arith}
 use Rattle.std.proofs.lemmas.List.{map-append}
 use Rattle.std.proofs.lemmas.List.Sums.{sum_by-cons}
-use Rattle.id_check.specs.declared.Checked.{Checked}
 use Rattle.id_graph.specs.declared.dests.Port.{Port}
 use Rattle.id_graph.specs.declared.dests.Port.TheVariants.{Zero, One}
 use Rattle.id_graph.specs.declared.instr.Instr.{Instr}
@@ -24,7 +23,9 @@ use Rattle.id_core.specs.Events.{EventView}
 use Rattle.id_core.specs.Steps.{State, fresh, fired_step, fresh_numbers, event_of, state_after}
 use Rattle.id_core.specs.Machines.{World}
 use Rattle.id_core.specs.Observed.{events_of}
+use Rattle.id_meaning.specs.declared.SourceValue.{SourceValue}
 use Rattle.id_meaning.specs.Parts.{Among, Distinct}
+use Rattle.id_meaning.specs.Sources.{Source, AreInputs}
 use Rattle.id_build.specs.Roles.{Role}
 use Rattle.id_build.specs.Schemas.{Numbered}
 use Rattle.id_laws.specs.Laws.{IsNeverStuck, events, messages, is_for}
@@ -107,13 +108,13 @@ told_more (y ∷ es) zero e e' t p c at more =
 told_more (y ∷ es) (suc n) e e' t p c at more =
     omega (arith, told_append y.events (events_of (set es n e')) t p, told_append y.events (events_of es) t p, told_more es n e e' t p c at more)
 
-module _ (g : Parts) (count : ℕ) where
+module _ (g : Parts) (vs : List SourceValue) (count : ℕ) where
   -- one event more
   told_step : (n : ℕ) (e : State) (m : Message) (t : Tag) (p : Port) → count_at t p (told (state_after g n e m).events) ≡ hit t p m.payload + count_at t p (told e.events)
   unfolding count_at
   told_step n e m t p = omega (arith, told_append e.events (event_of g n e m ∷ []) t p)
 
-  told_all : (s : World) (hs : List Happening) → Reach g count s hs → (t : Tag) (p : Port) → count_at t p (told (events s)) ≡ count_at t p (handled hs)
+  told_all : (s : World) (hs : List Happening) → Reach g vs count s hs → (t : Tag) (p : Port) → count_at t p (told (events s)) ≡ count_at t p (handled hs)
   unfolding count_at
   told_all s hs begin t p = ap (count_at t p) (nothing_told count)
   told_all s hs (deliver {s = s₀} {hs = hs₀} k m e r f q) t p =
@@ -121,17 +122,17 @@ module _ (g : Parts) (count : ℕ) where
       let same : hit t p (token_of (happening g n e.waiting m.payload)) ≡ hit t p m.payload = ap (hit t p) (token_of-happening g n e.waiting m.payload) in
       omega (arith, told_more s₀.elements n e (state_after g n e m) t p (hit t p m.payload) q (told_step n e m t p), told_all s₀ hs₀ r t p)
 
-module _ (P : Checked) (distinct : Distinct P) (g : Parts) (number : Role → ℕ) (numbered : Numbered P g number) (count : ℕ) (s : World) (hs : List Happening) (r : Reach g count s hs) where
+module _ (S : Source) (distinct : Distinct S.checked) (inputs : AreInputs S.checked S.inputs) (g : Parts) (number : Role → ℕ) (numbered : Numbered S.checked g number) (count : ℕ) (s : World) (hs : List Happening) (r : Reach g S.inputs count s hs) where
   never_stuck : (v : EventView) → Among v (events s) → v.step ≢ Stuck
   never_stuck v among is =
-      let known = from_record g count s hs r v (recorded s v among) in
+      let known = from_record g S.inputs count s hs r v (recorded s v among) in
       let h = known.0 in
-      never_blocked g count (exclusive P distinct g number numbered count) s hs r h known.1
+      never_blocked g S.inputs count (exclusive S distinct inputs g number numbered count) s hs r h known.1
       (stuck_blocked h.element h.tag (slice_get g.instrs h.tag.instr) h.arrival (sym (known.2).step ∙ is))
 
   -- the records have at most one token for each port of each tag
   pub told_once : (t : Tag) (p : Port) → count_at t p (told (events s)) ≤ 1
-  told_once t p = omega (arith, told_all g count s hs r t p, at_most_one g count (exclusive P distinct g number numbered count) s hs r t p)
+  told_once t p = omega (arith, told_all g S.inputs count s hs r t p, at_most_one g S.inputs count (exclusive S distinct inputs g number numbered count) s hs r t p)
 
   one_token : (t : Tag) (p : Port) → count_by (is_for t p) (messages s) ≤ 1
   one_token t p =
@@ -139,8 +140,8 @@ module _ (P : Checked) (distinct : Distinct P) (g : Parts) (number : Role → �
         arith,
         counts_alike t p (messages s),
         count_append t p (told (events s)) (flying s),
-        told_all g count s hs r t p,
-        at_most_one g count (exclusive P distinct g number numbered count) s hs r t p,
+        told_all g S.inputs count s hs r t p,
+        at_most_one g S.inputs count (exclusive S distinct inputs g number numbered count) s hs r t p,
       )
 
   -- no event is `Stuck`, and no port has got two tokens under one tag

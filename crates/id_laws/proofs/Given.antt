@@ -1,13 +1,13 @@
 -- Where the value of an expression comes from: one source.
-use Rattle.std.proofs.Common.{◌≡◌, inl, ℕ, Option, Some, None, List, [], ◌++◌, refl, sym, subst}
+use Rattle.std.proofs.Common.{◌≡◌, inl, ℕ, Option, Some, None, List, ◌++◌, refl, sym, subst}
 use Rattle.id_tree.specs.declared.tree.Expr.{Expr, Literal, Unary', Binary', Name, Block'}
 use Rattle.id_tree.specs.declared.tree.Def.{Def}
 use Rattle.id_check.specs.declared.Checked.{Checked}
 use Rattle.id_check.specs.Scopes.{Binder, binder_of, binders_of}
-use Rattle.id_meaning.specs.Parts.{Among, Region, Top, Node, LiteralNode, UnaryNode, BinaryNode, NameNode, UnboundNode, BlockNode, BindingNode, place_of, named, IsDef, Part, Distinct}
+use Rattle.id_meaning.specs.Parts.{Among, Region, Top, Node, LiteralNode, UnaryNode, BinaryNode, NameNode, UnboundNode, BlockNode, BindingNode, ParamNode, place_of, named, IsDef, Part, Distinct}
 use Rattle.id_build.specs.Roles.{Role, Of, Label, Source, From, GivesAt, by_literal, by_unary, by_binary, by_name, by_block}
 use Rattle.id_laws.proofs.Tables.{same_part, part_in_def}
-use Rattle.id_laws.proofs.Inside.{operands, ScopedIn, body_scoped, body_scoped_in, Any}
+use Rattle.id_laws.proofs.Inside.{operands, ScopedIn, own_binders, body_scoped, body_scoped_in, Any}
 use Rattle.id_laws.proofs.Nested.{inner_part, all_bound}
 
 -- ---- there is one
@@ -41,7 +41,7 @@ given_operand {P} {r} a part h =
 
 -- the body of a definition is given
 pub given_body : {P : Checked} {d : Def} → IsDef P d → Given P (Top d.place) (place_of d.body)
-given_body {P} {d} is_def = given_inside P d is_def [] d.body (body_scoped_in d Any tt)
+given_body {P} {d} is_def = given_inside P d is_def (own_binders d) d.body (body_scoped_in d Any tt)
 
 -- ---- and no other
 
@@ -55,6 +55,7 @@ module _ (P : Checked) where
   GivenAt r e UnboundNode s = ⊥
   GivenAt r e (BlockNode vs b) s = GivesAt P r b s
   GivenAt r e (BindingNode a) s = ⊥
+  GivenAt r e ParamNode s = ⊥
 
 module _ (P : Checked) (distinct : Distinct P) where
   moved_node : (s : Source) {r : Region} {e : ℕ} {n n' : Node} → Part P r e n → Part P r e n' → GivenAt P r e n s → GivenAt P r e n' s

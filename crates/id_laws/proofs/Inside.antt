@@ -1,11 +1,12 @@
--- What stands inside an expression: each line is that of an expression or of a binding, in a scope whose binders stand.
-use Rattle.std.proofs.Common.{◌≡◌, inl, inr, ℕ, Bool, true, false, cond, Option, Some, None, List, [], ◌∷◌, ◌++◌, refl, sym, ◌∙◌, ap, subst}
+-- What stands inside a definition: each line is that of an expression, of a binding or of a parameter, in a scope whose binders stand.
+use Rattle.std.proofs.Common.{◌≡◌, ◌⊎◌, inl, inr, ℕ, Bool, true, false, cond, Option, Some, None, List, [], ◌∷◌, ◌++◌, refl, sym, ◌∙◌, ap, subst}
 use Rattle.std.specs.Str.{bytes_eq}
 use Rattle.id_tree.specs.declared.tree.Expr.{Expr, Literal, Unary', Binary', Name, Block', Row_of-Stmt, end_of-Stmt, more_of-Stmt}
 use Rattle.id_tree.specs.declared.tree.Stmt.{Binding}
+use Rattle.id_tree.specs.declared.tree.Param.{Param}
 use Rattle.id_tree.specs.declared.tree.Def.{Def}
-use Rattle.id_check.specs.Scopes.{Binder, binder_of, binders_of, Use, uses_of, uses_of_row}
-use Rattle.id_meaning.specs.Parts.{Among, Region, Top, Node, LiteralNode, UnaryNode, BinaryNode, NameNode, UnboundNode, BlockNode, BindingNode, Entry, place_of, values_of, named, literal_value, entries_of, entries_of_row, entries_of_def}
+use Rattle.id_check.specs.Scopes.{Binder, binder_of, binders_of, binders_of_params, Use, uses_of, uses_of_row}
+use Rattle.id_meaning.specs.Parts.{Among, Region, Top, Node, LiteralNode, UnaryNode, BinaryNode, NameNode, UnboundNode, BlockNode, BindingNode, ParamNode, Entry, place_of, values_of, named, literal_value, entries_of, entries_of_row, entries_of_params, entries_of_def}
 use Rattle.id_laws.proofs.Lists.{among_left, among_right, among_append, Inside}
 
 abbrev pub line : Region → ℕ → Node → Entry
@@ -26,7 +27,7 @@ root_among r bs (Binary' op p left q right place) = inl refl
 root_among r bs (Name x place) = inl refl
 root_among r bs (Block' n statements p body place) = inl refl
 
--- the node is that of an expression, and not of a binding
+-- the node is that of an expression, and not of a binding or a parameter
 abbrev pub IsExpression : Node → Type 0
 IsExpression (LiteralNode v) = Unit {0}
 IsExpression (UnaryNode o a) = Unit {0}
@@ -35,6 +36,7 @@ IsExpression (NameNode b) = Unit {0}
 IsExpression UnboundNode = Unit {0}
 IsExpression (BlockNode vs b) = Unit {0}
 IsExpression (BindingNode a) = ⊥
+IsExpression ParamNode = ⊥
 
 named_expression : (o : Option ℕ) → IsExpression (named o)
 named_expression None = tt
@@ -56,6 +58,7 @@ operands (NameNode b) = []
 operands UnboundNode = []
 operands (BlockNode vs b) = b ∷ vs
 operands (BindingNode a) = a ∷ []
+operands ParamNode = []
 
 no_operand : (o : Option ℕ) (e : ℕ) → Among e (operands (named o)) → ⊥
 no_operand None e h = h
@@ -74,9 +77,9 @@ abbrev pub Descends : List Entry → Region → (ℕ → Type 0) → Type 0
 Descends es r Q = (e : ℕ) (n : Node) → Among (line r e n) es → IsExpression n → Q e → (a : ℕ) → Among a (operands n) → Q a
 
 module _ (es : List Entry) (us : List Use) (r : Region) (Q : ℕ → Type 0) where
-  -- a binding has its line at the place
+  -- a binding or a parameter has its line at the place
   abbrev pub Bound : ℕ → Type 0
-  Bound b = (v : ℕ) × Among (line r b (BindingNode v)) es
+  Bound b = ((v : ℕ) × Among (line r b (BindingNode v)) es) ⊎ Among (line r b ParamNode) es
 
   -- the lines and uses of the expression are among these, the binders in its scope stand, and Q holds of it
   pub record Scoped (bs : List Binder) (x : Expr) : Type 0 where
@@ -92,10 +95,11 @@ module _ (es : List Entry) (us : List Use) (r : Region) (Q : ℕ → Type 0) whe
     pub scope : (b : Binder) → Among b bs → Bound b.place
     pub holds : (e : ℕ) → Among e (values_of statements) → Q e
 
-  -- the line is that of an expression, or of a binding
+  -- the line is that of an expression, of a binding, or of a parameter
   pub data Seen (a : Entry) : Type 0 where
     of_expression : (bs : List Binder) (x : Expr) → Scoped bs x → a ≡ line r (place_of x) (root_node bs x) → Seen a
     of_binding : (bs : List Binder) (x : Expr) (e : ℕ) → Scoped bs x → a ≡ line r e (BindingNode (place_of x)) → Seen a
+    of_param : (e : ℕ) → a ≡ line r e ParamNode → Seen a
 
   -- the place is that of an expression
   pub record Inner (e : ℕ) : Type 0 where
@@ -108,7 +112,7 @@ module _ (es : List Entry) (us : List Use) (r : Region) (Q : ℕ → Type 0) whe
   binders_stand : (bs : List Binder) {n : _} (statements : Row_of-Stmt n) → Inside es (entries_of_row r bs statements) → (b : Binder) → Among b (binders_of statements) → Bound b.place
   binders_stand bs end_of-Stmt inside b h = absurd h
   binders_stand bs (more_of-Stmt (Binding x value place) rest) inside b (inl i) =
-      (place_of value, inside _ (inl (ap (λ (y : Binder). line r y.place (BindingNode (place_of value))) i)))
+      inl (place_of value, inside _ (inl (ap (λ (y : Binder). line r y.place (BindingNode (place_of value))) i)))
   binders_stand bs (more_of-Stmt (Binding x value place) rest) inside b (inr h) = binders_stand bs rest (λ a k. inside a (inr (among_right a (entries_of r bs value) (entries_of_row r bs rest) k))) b h
 
   found_stands : (bs : List Binder) → ((b : Binder) → Among b bs → Bound b.place) → (x : List ℕ) (b : ℕ) → binder_of bs x ≡ Some b → Bound b
@@ -235,17 +239,20 @@ module _ (es : List Entry) (us : List Use) (r : Region) (Q : ℕ → Type 0) whe
     pub inner : (a : Entry) → Seen a → (e : ℕ) → Among e (operands a.node) → Inner e
     inner a (of_expression bs x s is) e h = inner_expression bs x s e (subst (λ (y : Entry). Among e (operands y.node)) is h)
     inner a (of_binding bs x p s is) e h = inner_binding bs x s e (subst (λ (y : Entry). Among e (operands y.node)) is h)
+    inner a (of_param p is) e h = absurd (subst (λ (y : Entry). Among e (operands y.node)) is h)
 
   -- ---- what a line is
 
   pub region_seen : (a : Entry) → Seen a → a.region ≡ r
   region_seen a (of_expression bs x s is) = ap (λ (y : Entry). y.region) is
   region_seen a (of_binding bs x p s is) = ap (λ (y : Entry). y.region) is
+  region_seen a (of_param p is) = ap (λ (y : Entry). y.region) is
 
   -- Q holds of each expression
   pub holds_seen : (a : Entry) → Seen a → IsExpression a.node → Q a.place
   holds_seen a (of_expression bs x s is) h = subst Q (ap (λ (y : Entry). y.place) (sym is)) s.holds
   holds_seen a (of_binding bs x p s is) h = absurd (subst (λ (y : Entry). IsExpression y.node) is h)
+  holds_seen a (of_param p is) h = absurd (subst (λ (y : Entry). IsExpression y.node) is h)
 
   binder_root : (bs : List Binder) (x : Expr) → Scoped bs x → (b : ℕ) → root_node bs x ≡ NameNode b → Bound b
   binder_root bs (Literal value place) s b e = cc
@@ -258,6 +265,7 @@ module _ (es : List Entry) (us : List Use) (r : Region) (Q : ℕ → Type 0) whe
   pub binder_seen : (a : Entry) → Seen a → (b : ℕ) → a.node ≡ NameNode b → Bound b
   binder_seen a (of_expression bs x s is) b e = binder_root bs x s b (ap (λ (y : Entry). y.node) (sym is) ∙ e)
   binder_seen a (of_binding bs x p s is) b e = let q = ap (λ (y : Entry). y.node) (sym is) ∙ e in cc
+  binder_seen a (of_param p is) b e = let q = ap (λ (y : Entry). y.node) (sym is) ∙ e in cc
 
   -- a use without binder
   abbrev pub Loose : Type 0
@@ -274,22 +282,53 @@ module _ (es : List Entry) (us : List Use) (r : Region) (Q : ℕ → Type 0) whe
   pub loose_seen : (a : Entry) → Seen a → a.node ≡ UnboundNode → Loose
   loose_seen a (of_expression bs x s is) e = loose_root bs x s (ap (λ (y : Entry). y.node) (sym is) ∙ e)
   loose_seen a (of_binding bs x p s is) e = let q = ap (λ (y : Entry). y.node) (sym is) ∙ e in cc
+  loose_seen a (of_param p is) e = let q = ap (λ (y : Entry). y.node) (sym is) ∙ e in cc
 
 -- ---- the lines of a definition
 
+-- the line of each parameter is there
+params_stand : (r : Region) (ps : List Param) (b : Binder) → Among b (binders_of_params ps) → Among (line r b.place ParamNode) (entries_of_params r ps)
+params_stand r [] b h = absurd h
+params_stand r (x ∷ ps) b (inl is) = inl (ap (λ (y : Binder). line r y.place ParamNode) is)
+params_stand r (x ∷ ps) b (inr h) = inr (params_stand r ps b h)
+
+-- the scope of a definition's body
+abbrev pub own_binders : Def → List Binder
+own_binders d = binders_of_params d.params
+
 module _ (d : Def) (Q : ℕ → Type 0) where
-  -- what stands in a definition's body, where Q holds of it
+  abbrev own_lines : List Entry
+  own_lines = entries_of_params (Top d.place) d.params
+
+  abbrev body_lines : List Entry
+  body_lines = entries_of (Top d.place) (own_binders d) d.body
+
+  -- what stands in a definition, where Q holds of its body
   abbrev pub SeenIn : Entry → Type 0
-  SeenIn a = Seen (entries_of_def d) (uses_of [] d.body) (Top d.place) Q a
+  SeenIn a = Seen (entries_of_def d) (uses_of (own_binders d) d.body) (Top d.place) Q a
 
   abbrev pub ScopedIn : List Binder → Expr → Type 0
-  ScopedIn bs x = Scoped (entries_of_def d) (uses_of [] d.body) (Top d.place) Q bs x
+  ScopedIn bs x = Scoped (entries_of_def d) (uses_of (own_binders d) d.body) (Top d.place) Q bs x
 
-  pub body_scoped_in : Q (place_of d.body) → ScopedIn [] d.body
-  body_scoped_in h = record { lines = λ a k. k; uses = λ u k. k; scope = λ b k. absurd k; holds = h }
+  pub body_scoped_in : Q (place_of d.body) → ScopedIn (own_binders d) d.body
+  body_scoped_in h = record {
+    lines = λ a k. among_right a own_lines body_lines k;
+    uses = λ u k. k;
+    scope = λ b k. inr (among_left _ own_lines body_lines (params_stand (Top d.place) d.params b k));
+    holds = h;
+  }
+
+  param_seen : (ps : List Param) (a : Entry) → Among a (entries_of_params (Top d.place) ps) → SeenIn a
+  param_seen [] a h = absurd h
+  param_seen (x ∷ ps) a (inl is) = of_param x.place is
+  param_seen (x ∷ ps) a (inr h) = param_seen ps a h
 
   pub seen_in : Descends (entries_of_def d) (Top d.place) Q → Q (place_of d.body) → (a : Entry) → Among a (entries_of_def d) → SeenIn a
-  seen_in descends h a among = seen (entries_of_def d) (uses_of [] d.body) (Top d.place) Q descends [] d.body (body_scoped_in h) a among
+  seen_in descends h a among =
+      elim (among_append a own_lines body_lines among) [
+        | inl k ↦ param_seen d.params a k
+        | inr k ↦ seen (entries_of_def d) (uses_of (own_binders d) d.body) (Top d.place) Q descends (own_binders d) d.body (body_scoped_in h) a k
+      ]
 
 -- what holds of every place
 abbrev pub Any : ℕ → Type 0

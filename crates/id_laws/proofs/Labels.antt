@@ -1,5 +1,5 @@
 -- Which instructions of a schemas' graph are labels: those of the binders.
-use Rattle.std.proofs.Common.{◌≡◌, ℕ, zero, suc, ◌+◌, ◌≤◌, Bool, true, false, cond, ◌&&◌, ◌==◌, Option, Some, List, [], ◌∷◌, slice_get, refl, sym, ◌∙◌, ap, subst, count_by, arith}
+use Rattle.std.proofs.Common.{◌≡◌, inl, inr, ℕ, zero, suc, ◌+◌, ◌≤◌, Bool, true, false, cond, ◌&&◌, ◌==◌, Option, Some, List, [], ◌∷◌, slice_get, refl, sym, ◌∙◌, ap, subst, count_by, arith}
 use Rattle.std.specs.Option.{option_map_or}
 use Rattle.std.proofs.lemmas.List.Sums.{sum_by-cons}
 use Rattle.id_tree.specs.declared.tree.UnaryOp.{UnaryOp}
@@ -9,11 +9,13 @@ use Rattle.id_check.specs.declared.Checked.{Checked}
 use Rattle.id_graph.specs.declared.instr.Op.{Op}
 use Rattle.id_graph.specs.declared.instr.Instr.{Instr}
 use Rattle.id_graph.specs.Graph.{Parts}
+use Rattle.id_valid.specs.Validator.{is_value}
 use Rattle.id_core.specs.Observed.{is_value_merge, is_label, is_label_of, place_of}
-use Rattle.id_meaning.specs.Parts.{Region, Node, BindingNode, IsMain, Part, Distinct}
-use Rattle.id_build.specs.Roles.{Role, Answer, Trigger, Label, Makes, answer, trigger, return, literal, unary, binary, label, unary_op}
+use Rattle.id_meaning.specs.Parts.{Region, Node, LiteralNode, UnaryNode, BinaryNode, NameNode, UnboundNode, BlockNode, BindingNode, ParamNode, IsMain, Part, Distinct}
+use Rattle.id_build.specs.Roles.{Role, Answer, Trigger, Label, Makes, answer, trigger, return, literal, unary, binary, label, entry, unary_op, port_at}
 use Rattle.id_build.specs.Schemas.{Numbered, Made}
 use Rattle.id_laws.proofs.Tests.{both_true, number_is, same_number}
+use Rattle.id_laws.proofs.Nested.{Binder_at}
 use Rattle.id_laws.proofs.Tables.{same_part, def_of_main, part_not_def}
 
 -- ---- how many of a list pass a test
@@ -66,13 +68,24 @@ module _ {A : Type 0} (f : A → Bool) where
 
 unary_no_label : (o : UnaryOp) → is_value_merge (unary_op o) ≡ true → ⊥
 unary_no_label before.Neg e = let bad : false ≡ true = e in cc
+unary_no_label before.Not e = let bad : false ≡ true = e in cc
+
+-- the node is that of a binder
+abbrev Binds : Node → Type 0
+Binds (LiteralNode v) = ⊥
+Binds (UnaryNode o a) = ⊥
+Binds (BinaryNode o a b) = ⊥
+Binds (NameNode b) = ⊥
+Binds UnboundNode = ⊥
+Binds (BlockNode vs b) = ⊥
+Binds (BindingNode a) = Unit {0}
+Binds ParamNode = Unit {0}
 
 -- the role, made with this place, is that of a binder's label
 pub record LabelRole (P : Checked) (q : Role) (e : ℕ) : Type 0 where
   pub binder : ℕ
   pub region : Region
-  pub expression : ℕ
-  pub part : Part P region binder (BindingNode expression)
+  pub binds : Binder_at P region binder
   pub is : q ≡ Label binder
   pub place : e ≡ binder
 
@@ -109,25 +122,27 @@ module _ (P : Checked) (distinct : Distinct P) (g : Parts) (number : Role → �
   label_role (literal part) is = let bad : false ≡ true = (tests (numbered.made _ _ _ (literal part)) is).0 in cc
   label_role (unary {o = o} part) is = absurd (unary_no_label o (tests (numbered.made _ _ _ (unary part)) is).0)
   label_role (binary part) is = let bad : false ≡ true = (tests (numbered.made _ _ _ (binary part)) is).0 in cc
-  label_role (label {r = r} {b = b} {a = a} part) is = record { binder = b; region = r; expression = a; part = part; is = refl; place = refl }
+  label_role (label {r = r} {b = b} {a = a} part) is = record { binder = b; region = r; binds = inl (a, part); is = refl; place = refl }
+  label_role (entry {r = r} {b = b} part) is = record { binder = b; region = r; binds = inr part; is = refl; place = refl }
 
   moved : {r : Region} {e b : ℕ} {n : Node} → e ≡ b → Part P r e n → Part P r b n
   moved {r} {n = n} is part = subst (λ k. Part P r k n) is part
 
   -- what is made at a binder's place is its label
-  made_there : {r : Region} {b a : ℕ} → Part P r b (BindingNode a) → {q : Role} {o : Op} {e : ℕ} → Makes P q o e → e ≡ b → q ≡ Label b
-  made_there {b = b} part (answer main) is = absurd (part_not_def P distinct part (def_of_main main) (sym is))
-  made_there {b = b} part (trigger is_def) is = absurd (part_not_def P distinct part is_def (sym is))
-  made_there {b = b} part (return is_def) is = absurd (part_not_def P distinct part is_def (sym is))
-  made_there {b = b} part (literal other) is = let n = (same_part P distinct part (moved is other)).1 in cc
-  made_there {b = b} part (unary other) is = let n = (same_part P distinct part (moved is other)).1 in cc
-  made_there {b = b} part (binary other) is = let n = (same_part P distinct part (moved is other)).1 in cc
-  made_there {b = b} part (label other) is = ap Label is
+  made_there : {r : Region} {b : ℕ} {n : Node} → Binds n → Part P r b n → {q : Role} {o : Op} {e : ℕ} → Makes P q o e → e ≡ b → q ≡ Label b
+  made_there {b = b} binds part (answer main) is = absurd (part_not_def P distinct part (def_of_main main) (sym is))
+  made_there {b = b} binds part (trigger is_def) is = absurd (part_not_def P distinct part is_def (sym is))
+  made_there {b = b} binds part (return is_def) is = absurd (part_not_def P distinct part is_def (sym is))
+  made_there {b = b} binds part (literal other) is = absurd (subst Binds (same_part P distinct part (moved is other)).1 binds)
+  made_there {b = b} binds part (unary other) is = absurd (subst Binds (same_part P distinct part (moved is other)).1 binds)
+  made_there {b = b} binds part (binary other) is = absurd (subst Binds (same_part P distinct part (moved is other)).1 binds)
+  made_there {b = b} binds part (label other) is = ap Label is
+  made_there {b = b} binds part (entry other) is = ap Label is
 
-  -- the label of a binder is one
-  pub label_is : {r : Region} {b a : ℕ} → Part P r b (BindingNode a) → is_label g (number (Label b)) ≡ true
-  label_is {b = b} part =
-      let m = numbered.made (Label b) _ _ (label part) in
+  -- the label of a binder is one, where it is a merge for values
+  label_at : {r : Region} {b : ℕ} {n : Node} {o : Op} → Binds n → Part P r b n → Makes P (Label b) o b → is_value_merge o ≡ true → is_label g (number (Label b)) ≡ true
+  label_at {b = b} binds part makes merges =
+      let m = numbered.made (Label b) _ _ makes in
       let i = m.instr in
       let one = one_counts (λ (j : Instr). j.place == i.place) g.instrs (number (Label b)) i m.at (same_number _ _ refl)
       (λ n j at e.
@@ -136,5 +151,9 @@ module _ (P : Checked) (distinct : Distinct P) (g : Parts) (number : Role → �
       let both : Some here.instr ≡ Some j = sym here.at ∙ ap (slice_get g.instrs) k.is ∙ at in
       let same : here.instr ≡ j = cc in
       let place_is : k.place ≡ b = sym here.place ∙ ap (λ (x : Instr). x.place) same ∙ number_is _ _ e ∙ m.place in
-      sym k.is ∙ ap number (made_there part k.makes place_is)) in
-      ap (is_label_of g) m.at ∙ (λ k. is_value_merge (m.op k) && (one k == 1))
+      sym k.is ∙ ap number (made_there binds part k.makes place_is)) in
+      ap (is_label_of g) m.at ∙ (λ k. is_value_merge (m.op k) && (one k == 1)) ∙ ap (λ t. t && true) merges
+
+  pub label_is : {r : Region} {b : ℕ} → Binder_at P r b → is_value (port_at P b) ≡ true → is_label g (number (Label b)) ≡ true
+  label_is (inl x) merges = label_at tt x.1 (label x.1) merges
+  label_is (inr x) merges = label_at tt x (entry x) merges

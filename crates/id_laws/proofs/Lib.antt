@@ -4,6 +4,9 @@ pub mod Inside
 pub mod Tables
 pub mod Places
 pub mod Nested
+pub mod Entered
+pub mod Kinded
+pub mod Params
 pub mod Coherence
 pub mod Arrivals
 pub mod Reached

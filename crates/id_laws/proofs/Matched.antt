@@ -20,6 +20,7 @@ use Rattle.id_ops.specs.declared.Operands.TheVariants as operands
 use Rattle.id_laws.proofs.Arrivals.{Fires, Waits, Blocked}
 use Rattle.id_core.specs.Steps.{State, outcome, state_after}
 use Rattle.id_core.specs.Machines.{World, taken_from}
+use Rattle.id_meaning.specs.declared.SourceValue.{SourceValue}
 use Rattle.id_meaning.specs.Parts.{Among}
 use Rattle.id_laws.proofs.Lists.{set_here, set_elsewhere}
 use Rattle.id_laws.proofs.Arrivals.{half, Effect, nowhere, alone, first, meets_zero, meets_one, again, Happening, happening, outcome_effect, outcome_other, tag_cases}
@@ -57,18 +58,18 @@ fires_on_handled g hs h o o' i ops (meets_one j u a b p f c q) old at e =
 fires_on_handled g hs h o o' i ops (again j u a b f c q) old at e = let bad : Fires ops ≡ Blocked = sym e ∙ f in cc
 
 -- what an event fired on was handled
-pub fired_handled : (g : Parts) (count : ℕ) (s : World) (hs : List Happening) → Reach g count s hs → (h : Happening) (i : Instr) (ops : Operands)
+pub fired_handled : (g : Parts) (vs : List SourceValue) (count : ℕ) (s : World) (hs : List Happening) → Reach g vs count s hs → (h : Happening) (i : Instr) (ops : Operands)
     → Among h hs → slice_get g.instrs h.tag.instr ≡ Some i → h.arrival ≡ Fires ops → OperandsHandled g hs h.tag i ops
-fired_handled g count s hs begin h i ops among at fires = absurd among
-fired_handled g count s hs (deliver {s = s₀} {hs = hs₀} k m e r f q) h i ops (inl is) at fires =
+fired_handled g vs count s hs begin h i ops among at fires = absurd among
+fired_handled g vs count s hs (deliver {s = s₀} {hs = hs₀} k m e r f q) h i ops (inl is) at fires =
     let n = route_of m.payload count in
     let new = happening g n e.waiting m.payload in
-    let before = waits_handled g count s₀ hs₀ r in
+    let before = waits_handled g vs count s₀ hs₀ r in
     subst (λ (x : Happening). OperandsHandled g (new ∷ hs₀) x.tag i ops) (sym is)
     (fires_on_handled g hs₀ new _ _ i ops (outcome_effect g n e.waiting m.payload) (λ x w. before n e new.tag x q w)
     (ap (λ (x : Happening). slice_get g.instrs x.tag.instr) (sym is) ∙ at) (ap (λ (x : Happening). x.arrival) (sym is) ∙ fires))
-fired_handled g count s hs (deliver {s = s₀} {hs = hs₀} k m e r f q) h i ops (inr old) at fires =
-    handled_later g hs₀ _ h.tag i ops (fired_handled g count s₀ hs₀ r h i ops old at fires)
+fired_handled g vs count s hs (deliver {s = s₀} {hs = hs₀} k m e r f q) h i ops (inr old) at fires =
+    handled_later g hs₀ _ h.tag i ops (fired_handled g vs count s₀ hs₀ r h i ops old at fires)
 
 -- the operand at the port is v
 abbrev pub IsOperand : Operands → Port → Value → Type 0
@@ -167,10 +168,10 @@ waits_on g count s s' m e e' t p v at is same w =
     ]
 
 -- every token for an operator of two ports that was handled waits, has fired or was blocked
-pub settled : (g : Parts) (count : ℕ) (s : World) (hs : List Happening) → Reach g count s hs → (t : Tag) (p : Port) (v : Value) (i : Instr)
+pub settled : (g : Parts) (vs : List SourceValue) (count : ℕ) (s : World) (hs : List Happening) → Reach g vs count s hs → (t : Tag) (p : Port) (v : Value) (i : Instr)
     → slice_get g.instrs t.instr ≡ Some i → two_ports i.op ≡ true → Among (Token t p v) (handled hs) → Settled g count s hs t p v
-settled g count s hs begin t p v i at b h = absurd h
-settled g count s hs (deliver {s = s₀} {hs = hs₀} k m e r f q) t p v i at b h =
+settled g vs count s hs begin t p v i at b h = absurd h
+settled g vs count s hs (deliver {s = s₀} {hs = hs₀} k m e r f q) t p v i at b h =
     let n = route_of m.payload count in
     let new = happening g n e.waiting m.payload in
     let e' = state_after g n e m in
@@ -202,7 +203,7 @@ settled g count s hs (deliver {s = s₀} {hs = hs₀} k m e r f q) t p v i at b 
                 (wrap new.port new.value is (settled_new g hs₀ new _ _ i x at' b))
             | inr old ↦
                 wrap p v is (settled_here g hs₀ new _ _ i p v x at' b (
-                elim (settled g count s₀ hs₀ r t p v i at b old) [
+                elim (settled g vs count s₀ hs₀ r t p v i at b old) [
                   | inl w ↦ inl (same_state w is)
                   | inr z ↦ inr (subst (λ u. FiredWith g hs₀ u p v ⊎ BlockedAt hs₀ u) is z)
                 ]
@@ -212,7 +213,7 @@ settled g count s hs (deliver {s = s₀} {hs = hs₀} k m e r f q) t p v i at b 
           elim h [
             | inl tok ↦ absurd (other cc)
             | inr old ↦
-                elim (settled g count s₀ hs₀ r t p v i at b old) [
+                elim (settled g vs count s₀ hs₀ r t p v i at b old) [
                   | inl w ↦ inl (waits_on g count s₀ s' m e e' t p v q refl (outcome_other g n e.waiting m.payload t other) w)
                   | inr z ↦ later new z
                 ]

@@ -16,10 +16,11 @@ use Rattle.id_meaning.specs.declared.SourceValue.{SourceValue}
 use Rattle.id_meaning.specs.declared.NameValue.{NameValue}
 use Rattle.id_meaning.specs.declared.Path.{Path}
 use Rattle.id_meaning.specs.declared.Fact.TheVariants.{Has}
-use Rattle.id_meaning.specs.Parts.{Among, AllDiffer, Region, BindingNode, Part, Distinct, IsBinder}
-use Rattle.id_meaning.specs.Facts.{outermost, binding_has}
+use Rattle.id_meaning.specs.Parts.{Among, AllDiffer, Region, Distinct, IsBinder, is_binding, is_param}
+use Rattle.id_meaning.specs.Facts.{outermost}
 use Rattle.id_meaning.specs.Rounds.{Holds}
 use Rattle.id_meaning.specs.Names.{IsNameValue}
+use Rattle.id_meaning.specs.Sources.{Source, AreInputs}
 use Rattle.id_build.specs.Roles.{Role, Label}
 use Rattle.id_build.specs.Schemas.{Numbered}
 use Rattle.id_laws.specs.Laws.{IsSound, events}
@@ -29,7 +30,8 @@ use Rattle.id_laws.proofs.Reached.{Reach, handled}
 use Rattle.id_laws.proofs.Counts.{count_at, hit, hit_itself, counts}
 use Rattle.id_laws.proofs.Records.{among_filter_map}
 use Rattle.id_laws.proofs.Wanted.{Activation, main_activation, tag_in, PathOf, Live, Shown, Wants}
-use Rattle.id_laws.proofs.Turned.{holds_by}
+use Rattle.id_laws.proofs.Nested.{Binder_at}
+use Rattle.id_laws.proofs.Firing.{binder_says}
 use Rattle.id_laws.proofs.Awaited.{tag_expected}
 use Rattle.id_laws.proofs.Shown.{value_back, path_is, all_expected, handled_event, sound_answer, sound_faults, sound_values}
 use Rattle.id_laws.proofs.Free.{told, told_once}
@@ -87,66 +89,68 @@ shown_differ {B} f (v ∷ vs) same few =
 live_is_main : {P : Checked} {run : List Happening} {a : Activation} {r : Region} → Live P run a r → a ≡ main_activation
 live_is_main (Rattle.id_laws.proofs.Wanted.in_main main) = refl
 
-module _ (P : Checked) (distinct : Distinct P) (g : Parts) (number : Role → ℕ) (numbered : Numbered P g number) (count : ℕ) (s : World) (hs : List Happening) (r : Reach g count s hs) where
-  -- a token that came to a label: main's, at port 0, with what its binding's expression Has
+-- what has a label is a binder
+binder_is : {P : Checked} {r : Region} {b : ℕ} → Binder_at P r b → IsBinder P b
+binder_is (inl x) = is_binding x.1
+binder_is (inr x) = is_param x
+
+module _ (S : Source) (distinct : Distinct S.checked) (inputs : AreInputs S.checked S.inputs) (g : Parts) (number : Role → ℕ) (numbered : Numbered S.checked g number) (count : ℕ) (s : World) (hs : List Happening) (r : Reach g S.inputs count s hs) where
+  -- a token that came to a label: main's, at port 0, with what its binder Has
   record CameToLabel (n : NameValue) (x : Payload) : Type 0 where
     binder : ℕ
     region : Region
-    expression : ℕ
-    part : Part P region binder (BindingNode expression)
+    binds : Binder_at S.checked region binder
     token : Value
     place : n.place ≡ binder
     path : n.path ≡ outermost
     is : x ≡ Token (tag_in main_activation (number (Label binder))) Zero token
-    has : Holds P (Has outermost binder n.value)
+    has : Holds S (Has outermost binder n.value)
 
-  came_at : (n : NameValue) (x : Payload) (y : Names g x n) (b : ℕ) (region : Region) (a : ℕ) → Part P region b (BindingNode a) → (act : Activation) → shown.place_of g (y.tag).instr ≡ b
-      → y.tag ≡ tag_in act (number (Label b)) → (p : Port) → y.port ≡ p → Wants P hs act (Label b) p y.token → CameToLabel n x
-  came_at n x y b region a part act place_is tag_is One port_is w = absurd w
-  came_at n x y b region a part act place_is tag_is Zero port_is w =
-      let live = (w region a part).0 in
-      let it : Shown P hs act a y.token = (w region a part).1 in
-      let main_is : act ≡ main_activation = live_is_main live in
+  came_at : (n : NameValue) (x : Payload) (y : Names g x n) (b : ℕ) (region : Region) → Binder_at S.checked region b → (act : Activation) → shown.place_of g (y.tag).instr ≡ b
+      → y.tag ≡ tag_in act (number (Label b)) → (p : Port) → y.port ≡ p → Wants S hs act (Label b) p y.token → CameToLabel n x
+  came_at n x y b region binds act place_is tag_is One port_is w = absurd w
+  came_at n x y b region binds act place_is tag_is Zero port_is w =
+      let says = binder_says S distinct inputs hs act binds y.token w in
+      let it : Shown S hs act b y.token = says.shown in
+      let main_is : act ≡ main_activation = live_is_main says.live in
       let both : Some it.value ≡ Some y.value = sym (value_back it.value) ∙ ap shown.source_value (sym it.is) ∙ y.brings in
       let value_is : it.value ≡ n.value = (let same : it.value ≡ y.value = cc in same) ∙ ap (λ (z : NameValue). z.value) (sym y.shows) in
-      let has : Holds P (Has outermost a n.value) = subst (λ (z : Path × SourceValue). Holds P (Has z.0 a z.1)) (λ i. (path_is it.path_of i, value_is i)) it.holds in
       record {
         binder = b;
         region = region;
-        expression = a;
-        part = part;
+        binds = binds;
         token = y.token;
         place = ap (λ (z : NameValue). z.place) y.shows ∙ place_is;
         path = ap (λ (z : NameValue). z.path) y.shows;
         is = y.is ∙ (λ i. Token ((tag_is ∙ ap (λ (z : Activation). tag_in z (number (Label b))) main_is) i) (port_is i) y.token);
-        has = holds_by P _ _ (binding_has part) (has, tt);
+        has = subst (λ (z : Path × SourceValue). Holds S (Has z.0 b z.1)) (λ i. (path_is it.path_of i, value_is i)) it.holds;
       }
 
   came_to : (n : NameValue) (x : Payload) → Among x (handled hs) → shown.name_in g x ≡ Some n → CameToLabel n x
   came_to n x among e =
       let y = names_is g x n e in
-      let awaited = all_expected P distinct g number numbered count s hs r (Token y.tag y.port y.token) (subst (λ z. Among z (handled hs)) y.is among) in
-      let w = tag_expected P distinct g number numbered hs y.tag y.port y.token awaited in
+      let awaited = all_expected S distinct inputs g number numbered count s hs r (Token y.tag y.port y.token) (subst (λ z. Among z (handled hs)) y.is among) in
+      let w = tag_expected S distinct inputs g number numbered hs y.tag y.port y.token awaited in
       let makes = (awaited.made).makes in
-      let role = label_role P distinct g number numbered makes (ap (λ (t : Tag). shown.is_label g t.instr) (sym w.0) ∙ y.label) in
-      came_at n x y role.binder role.region role.expression role.part awaited.activation
-      (ap (λ (t : Tag). shown.place_of g t.instr) w.0 ∙ place_made P distinct g number numbered makes ∙ role.place)
+      let role = label_role S.checked distinct g number numbered makes (ap (λ (t : Tag). shown.is_label g t.instr) (sym w.0) ∙ y.label) in
+      came_at n x y role.binder role.region role.binds awaited.activation
+      (ap (λ (t : Tag). shown.place_of g t.instr) w.0 ∙ place_made S.checked distinct g number numbered makes ∙ role.place)
       (w.0 ∙ ap (λ q. tag_in awaited.activation (number q)) role.is) y.port refl
-      (subst (λ q. Wants P hs awaited.activation q y.port y.token) role.is w.1)
+      (subst (λ q. Wants S hs awaited.activation q y.port y.token) role.is w.1)
 
   -- an event whose message shows what a binder Has
   event_came : (n : NameValue) (v : EventView) → Among v (events s) → shown.name_in g v.message.payload ≡ Some n → CameToLabel n v.message.payload
   event_came n v among e =
-      let known = handled_event P distinct g number numbered count s hs r v among in
+      let known = handled_event S distinct inputs g number numbered count s hs r v among in
       came_to n v.message.payload (subst (λ x. Among x (handled hs)) (sym (known.2).payload) (among_map token_of known.0 hs known.1)) e
 
-  sound_names : (n : NameValue) → Among n (shown.names g s) → IsNameValue P n
+  sound_names : (n : NameValue) → Among n (shown.names g s) → IsNameValue S n
   sound_names n among =
       let event = among_filter_map (λ (u : EventView). shown.name_in g u.message.payload) (events s) n among in
       let x = event_came n event.0 event.1 event.2 in
       record {
-        binder = subst (IsBinder P) (sym x.place) (record { region = x.region; value = x.expression; part = x.part });
-        holds = subst (λ (z : Path × ℕ). Holds P (Has z.0 z.1 n.value)) (λ i. (sym x.path i, sym x.place i)) x.has;
+        binder = subst (IsBinder S.checked) (sym x.place) (binder_is x.binds);
+        holds = subst (λ (z : Path × ℕ). Holds S (Has z.0 z.1 n.value)) (λ i. (sym x.path i, sym x.place i)) x.has;
       }
 
   names_differ : AllDiffer (shown.names g s)
@@ -155,23 +159,23 @@ module _ (P : Checked) (distinct : Distinct P) (g : Parts) (number : Role → �
       (λ v w n h k e f.
       let x = event_came n v h e in
       let y = event_came n w k f in
-      let binder_is : y.binder ≡ x.binder = sym y.place ∙ x.place in
+      let binders_are : y.binder ≡ x.binder = sym y.place ∙ x.place in
       record {
         tag = tag_in main_activation (number (Label x.binder));
         port = Zero;
         one = x.token;
         other = y.token;
         is_one = x.is;
-        is_other = y.is ∙ ap (λ b. Token (tag_in main_activation (number (Label b))) Zero y.token) binder_is;
+        is_other = y.is ∙ ap (λ b. Token (tag_in main_activation (number (Label b))) Zero y.token) binders_are;
       })
-      (told_once P distinct g number numbered count s hs r)
+      (told_once S distinct inputs g number numbered count s hs r)
 
   -- what is shown is sound
-  pub sound_at : IsSound P g number s
+  pub sound_at : IsSound S g number s
   sound_at = record {
-    answer = sound_answer P distinct g number numbered count s hs r;
+    answer = sound_answer S distinct inputs g number numbered count s hs r;
     names = sound_names;
     names_once = names_differ;
-    faults = sound_faults P distinct g number numbered count s hs r;
-    values = sound_values P distinct g number numbered count s hs r;
+    faults = sound_faults S distinct inputs g number numbered count s hs r;
+    values = sound_values S distinct inputs g number numbered count s hs r;
   }

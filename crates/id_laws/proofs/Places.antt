@@ -3,13 +3,14 @@ use Rattle.std.proofs.Common.{◌⊎◌, inl, inr, ℕ, List, [], ◌∷◌, ◌
 use Rattle.std.proofs.lemmas.List.{map-append}
 use Rattle.id_tree.specs.declared.tree.Expr.{Expr, Literal, Unary', Binary', Name, Block', Row_of-Stmt, end_of-Stmt, more_of-Stmt}
 use Rattle.id_tree.specs.declared.tree.Stmt.{Binding}
+use Rattle.id_tree.specs.declared.tree.Param.{Param}
 use Rattle.id_tree.specs.declared.tree.Def.{Def}
-use Rattle.id_tree.specs.Tree.{tree_of, row_tree, def_tree, defs_tree}
+use Rattle.id_tree.specs.Tree.{tree_of, row_tree, params_tree, def_tree, defs_tree}
 use Rattle.id_tree.specs.Distinct.{HasPlace}
 use Rattle.id_tree.specs.Distinct as tree
 use Rattle.id_check.specs.declared.Checked.{Checked}
-use Rattle.id_check.specs.Scopes.{Binder, binders_of}
-use Rattle.id_meaning.specs.Parts.{Among, AllDiffer, Entry, Region, Top, entries_of, entries_of_row, entries_of_def, places_of_all, Distinct}
+use Rattle.id_check.specs.Scopes.{Binder, binders_of, binders_of_params}
+use Rattle.id_meaning.specs.Parts.{Among, AllDiffer, Entry, Region, Top, entries_of, entries_of_row, entries_of_params, entries_of_def, places_of_all, Distinct}
 use Rattle.id_laws.proofs.Lists.{among_append, differ_append}
 
 -- the places of these lines
@@ -84,13 +85,46 @@ mutual
         (λ q h k. d.0 q (inr (HasPlace-lines r bs value q h)) (HasPlace-row r bs rest q k)),
   )
 
+-- the places of parameters' lines are places of their trees, and differ
+HasPlace-params : (r : Region) (ps : List Param) (q : ℕ) → Among q (places (entries_of_params r ps)) → HasPlace (params_tree ps) q
+HasPlace-params r [] q h = absurd h
+HasPlace-params r (x ∷ ps) q (inl h) = inl (sym h)
+HasPlace-params r (x ∷ ps) q (inr h) = inr (HasPlace-params r ps q h)
+
+AllDiffer-params : (r : Region) (ps : List Param) → tree.Distinct (params_tree ps) → AllDiffer (places (entries_of_params r ps))
+AllDiffer-params r [] d = tt
+AllDiffer-params r (x ∷ ps) d = (λ h. d.0 x.place refl (HasPlace-params r ps x.place h), AllDiffer-params r ps d.2)
+
 -- the places of a definition
 abbrev places_of_def : Def → List ℕ
 places_of_def d = d.place ∷ places (entries_of_def d)
 
+-- the lines of its parameters, and of its body
+abbrev own_lines : Def → List Entry
+own_lines d = entries_of_params (Top d.place) d.params
+
+abbrev body_lines : Def → List Entry
+body_lines d = entries_of (Top d.place) (binders_of_params d.params) d.body
+
 HasPlace-def : (d : Def) (q : ℕ) → Among q (places_of_def d) → HasPlace (def_tree d) q
 HasPlace-def d q (inl h) = inl (sym h)
-HasPlace-def d q (inr h) = inr (HasPlace-lines (Top d.place) [] d.body q h)
+HasPlace-def d q (inr h) =
+    elim (either q (own_lines d) (body_lines d) h) [
+      | inl k ↦ inr (inl (HasPlace-params (Top d.place) d.params q k))
+      | inr k ↦ inr (inr (HasPlace-lines (Top d.place) (binders_of_params d.params) d.body q k))
+    ]
+
+-- the places of a definition differ where those of its tree do
+AllDiffer-def : (d : Def) → tree.Distinct (def_tree d) → AllDiffer (places_of_def d)
+AllDiffer-def d apart = (
+  λ h. elim (either d.place (own_lines d) (body_lines d) h) [
+    | inl k ↦ apart.0 (HasPlace-params (Top d.place) d.params d.place k)
+    | inr k ↦ apart.1 (HasPlace-lines (Top d.place) (binders_of_params d.params) d.body d.place k)
+  ],
+  both_differ (own_lines d) (body_lines d) (AllDiffer-params (Top d.place) d.params apart.3)
+      (AllDiffer-lines (Top d.place) (binders_of_params d.params) d.body apart.4)
+      (λ q h k. apart.2 q (HasPlace-params (Top d.place) d.params q h) (HasPlace-lines (Top d.place) (binders_of_params d.params) d.body q k)),
+)
 
 pub HasPlace-defs : (ds : List Def) (q : ℕ) → Among q (places_of_all ds) → HasPlace (defs_tree ds) q
 HasPlace-defs [] q h = absurd h
@@ -105,7 +139,7 @@ AllDiffer-defs : (ds : List Def) → tree.Distinct (defs_tree ds) → AllDiffer 
 AllDiffer-defs [] d = tt
 AllDiffer-defs (x ∷ xs) d =
     differ_append (places_of_def x) (places_of_all xs)
-    (λ h. d.1.0 (HasPlace-lines (Top x.place) [] x.body x.place h), AllDiffer-lines (Top x.place) [] x.body d.1.1)
+    (AllDiffer-def x d.1)
     (AllDiffer-defs xs d.2)
     (λ q h k. d.0 q (HasPlace-def x q h) (HasPlace-defs xs q k))
 

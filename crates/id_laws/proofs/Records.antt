@@ -10,6 +10,7 @@ use Rattle.id_core.specs.Events.{EventView}
 use Rattle.id_core.specs.Steps.{State, fresh, event_of, state_after}
 use Rattle.id_core.specs.Machines.{World}
 use Rattle.id_core.specs.Observed.{events_of}
+use Rattle.id_meaning.specs.declared.SourceValue.{SourceValue}
 use Rattle.id_meaning.specs.Parts.{Among}
 use Rattle.id_laws.proofs.Lists.{among_left, among_right, among_append, within_set, set_here, set_elsewhere, among_from_map}
 use Rattle.id_laws.proofs.Arrivals.{Happening, happening, token_of, token_of-happening, sends_of, step_of_event, outcome_step}
@@ -34,12 +35,12 @@ unrecorded zero m e v h a = cc
 unrecorded (suc n) zero e v h a = let is : e ≡ fresh = cc in subst (λ (y : State). Among v y.events) is a
 unrecorded (suc n) (suc m) e v h a = unrecorded n m e v h a
 
-module _ (g : Parts) (count : ℕ) where
+module _ (g : Parts) (vs : List SourceValue) (count : ℕ) where
   told_now : (n : ℕ) (e : State) (m : Message) → Tells g (event_of g n e m) (happening g n e.waiting m.payload)
   told_now n e m = record { payload = sym (token_of-happening g n e.waiting m.payload); outputs = sent_payloads g n e m; step = outcome_step g n e.waiting m.payload }
 
   -- each event of a record is one of the run
-  pub from_record : (s : World) (hs : List Happening) → Reach g count s hs → (v : EventView) → Recorded s v → (h : Happening) × Among h hs × Tells g v h
+  pub from_record : (s : World) (hs : List Happening) → Reach g vs count s hs → (v : EventView) → Recorded s v → (h : Happening) × Among h hs × Tells g v h
   from_record s hs begin v r = absurd (unrecorded count r.element r.state v r.at r.among)
   from_record s hs (deliver {s = s₀} {hs = hs₀} k m e r f q) v w =
       let n = route_of m.payload count in
@@ -79,7 +80,7 @@ module _ (g : Parts) (count : ℕ) where
       ]
 
   -- each event of the run is in a record
-  pub to_record : (s : World) (hs : List Happening) → Reach g count s hs → (h : Happening) → Among h hs → (v : EventView) × Recorded s v × Tells g v h
+  pub to_record : (s : World) (hs : List Happening) → Reach g vs count s hs → (h : Happening) → Among h hs → (v : EventView) × Recorded s v × Tells g v h
   to_record s hs begin h a = absurd a
   to_record s hs (deliver {s = s₀} {hs = hs₀} k m e r f q) h (inl is) =
       let n = route_of m.payload count in

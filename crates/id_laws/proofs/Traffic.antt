@@ -16,6 +16,7 @@ use Rattle.id_ops.specs.declared.Operands.TheVariants as operands
 use Rattle.id_laws.proofs.Arrivals.{Fires}
 use Rattle.id_core.specs.Steps.{State, numbered, outputs_of, next_stamp, outcome}
 use Rattle.id_core.specs.Machines.{World, taken_from}
+use Rattle.id_meaning.specs.declared.SourceValue.{SourceValue}
 use Rattle.id_meaning.specs.Parts.{Among}
 use Rattle.id_match.specs.declared.Half.{Half}
 use Rattle.id_laws.proofs.Lists.{among_at, among_left, among_right, among_append, left_of, taken_or_left, map_remove, map_at}
@@ -46,12 +47,12 @@ pub record SentBy (g : Parts) (hs : List Happening) (x : Payload) : Type 0 where
   pub among : Among event hs
   pub sends : Among x (sends_of g event)
 
-abbrev pub Origin : Parts → List Happening → Payload → Type 0
-Origin g hs x = Among x (starting g) ⊎ SentBy g hs x
+abbrev pub Origin : Parts → List SourceValue → List Happening → Payload → Type 0
+Origin g vs hs x = Among x (starting g vs) ⊎ SentBy g hs x
 
-sent_later : {g : Parts} {hs : List Happening} {x : Payload} (h : Happening) → Origin g hs x → Origin g (h ∷ hs) x
-sent_later h (inl s) = inl s
-sent_later h (inr s) = inr (record { event = s.event; among = inr s.among; sends = s.sends })
+sent_later : {g : Parts} (vs : List SourceValue) {hs : List Happening} {x : Payload} (h : Happening) → Origin g vs hs x → Origin g vs (h ∷ hs) x
+sent_later vs h (inl s) = inl s
+sent_later vs h (inr s) = inr (record { event = s.event; among = inr s.among; sends = s.sends })
 
 abbrev pub Moving : World → List Happening → Payload → Type 0
 Moving s hs x = Among x (flying s) ⊎ Among x (handled hs)
@@ -71,23 +72,23 @@ alone_fires g h o o' i (meets_zero j u a c r f n q) at b = absurd (two_differ (o
 alone_fires g h o o' i (meets_one j u a c r f n q) at b = absurd (two_differ (one_instr _ a at) c b)
 alone_fires g h o o' i (again j u a c f n q) at b = absurd (two_differ (one_instr _ a at) c b)
 
-module _ (g : Parts) (count : ℕ) where
+module _ (g : Parts) (vs : List SourceValue) (count : ℕ) where
   -- what is in flight or was handled was there at the start, or an event sent it
-  pub origin : (s : World) (hs : List Happening) → Reach g count s hs → (x : Payload) → Moving s hs x → Origin g hs x
+  pub origin : (s : World) (hs : List Happening) → Reach g vs count s hs → (x : Payload) → Moving s hs x → Origin g vs hs x
   origin s hs begin x (inl h) = inl h
   origin s hs begin x (inr h) = absurd h
   origin s hs (deliver {s = s₀} {hs = hs₀} k m e r f q) x (inl h) =
       let new = happening g (route_of m.payload count) e.waiting m.payload in
       elim (among_append x (remove (flying s₀) k) (sends_of g new) (subst (Among x) (flying_after g k s₀ m (route_of m.payload count) e) h)) [
-        | inl old ↦ sent_later new (origin s₀ hs₀ r x (inl (left_of x (flying s₀) k old)))
+        | inl old ↦ sent_later vs new (origin s₀ hs₀ r x (inl (left_of x (flying s₀) k old)))
         | inr out ↦ inr (record { event = new; among = inl refl; sends = out })
       ]
   origin s hs (deliver {s = s₀} {hs = hs₀} k m e r f q) x (inr (inl is)) =
       let n = route_of m.payload count in
       let new = happening g n e.waiting m.payload in
       let it : x ≡ m.payload = is ∙ token_of-happening g n e.waiting m.payload in
-      sent_later new (origin s₀ hs₀ r x (inl (subst (λ y. Among y (flying s₀)) (sym it) (among_at m.payload (flying s₀) k (map_at said s₀.flight k m f)))))
-  origin s hs (deliver {s = s₀} {hs = hs₀} k m e r f q) x (inr (inr old)) = sent_later _ (origin s₀ hs₀ r x (inr old))
+      sent_later vs new (origin s₀ hs₀ r x (inl (subst (λ y. Among y (flying s₀)) (sym it) (among_at m.payload (flying s₀) k (map_at said s₀.flight k m f)))))
+  origin s hs (deliver {s = s₀} {hs = hs₀} k m e r f q) x (inr (inr old)) = sent_later vs _ (origin s₀ hs₀ r x (inr old))
 
   -- what is in flight or was handled stays so
   moves_on : (k : ℕ) (s : World) (hs : List Happening) (m : Message) (e : State) (x : Payload) → slice_get s.flight k ≡ Some m → Moving s hs x
@@ -101,7 +102,7 @@ module _ (g : Parts) (count : ℕ) where
   moves_on k s hs m e x f (inr h) = inr (inr h)
 
   -- what was there at the start or was sent is in flight or was handled
-  pub moving : (s : World) (hs : List Happening) → Reach g count s hs → (x : Payload) → Origin g hs x → Moving s hs x
+  pub moving : (s : World) (hs : List Happening) → Reach g vs count s hs → (x : Payload) → Origin g vs hs x → Moving s hs x
   moving s hs begin x (inl h) = inl h
   moving s hs begin x (inr h) = absurd h.among
   moving s hs (deliver {s = s₀} {hs = hs₀} k m e r f q) x (inl h) = moves_on k s₀ hs₀ m e x f (moving s₀ hs₀ r x (inl h))
@@ -113,7 +114,7 @@ module _ (g : Parts) (count : ℕ) where
       ]
 
   -- a token for an operator of one port fires it
-  pub fires_alone : (s : World) (hs : List Happening) → Reach g count s hs → (t : Tag) (p : Port) (v : Value) (i : Instr)
+  pub fires_alone : (s : World) (hs : List Happening) → Reach g vs count s hs → (t : Tag) (p : Port) (v : Value) (i : Instr)
       → slice_get g.instrs t.instr ≡ Some i → two_ports i.op ≡ false → Among (Token t p v) (handled hs) → Fired g hs t i (operands.One v)
   fires_alone s hs begin t p v i at b h = absurd h
   fires_alone s hs (deliver {s = s₀} {hs = hs₀} k m e r f q) t p v i at b (inl is) =

@@ -1,5 +1,5 @@
 -- Every graph that the schemas give a program is valid.
-use Rattle.std.proofs.Common.{◌≡◌, ◌⊎◌, inl, inr, ℕ, ◌+◌, ◌<◌, ◌≤◌, ◌==◌, ◌&&◌, ◌||◌, Bool, true, false, cond, Option, Some, None, List, [], ◌∷◌, map, slice_get, option_map, refl, sym, ◌∙◌, ap, subst, arith}
+use Rattle.std.proofs.Common.{◌≡◌, ◌⊎◌, inl, inr, ℕ, unwrap_or, ◌+◌, ◌<◌, ◌≤◌, ◌==◌, ◌&&◌, ◌||◌, Bool, true, false, cond, Option, Some, None, List, [], ◌∷◌, map, slice_get, option_map, refl, sym, ◌∙◌, ap, subst, arith}
 use Rattle.std.specs.Bool.{IsTrue}
 use Rattle.std.specs.Option.{IsSome, option_and_then}
 use Rattle.std.specs.List.{filter, list_any, count_by}
@@ -8,33 +8,42 @@ use Rattle.std.proofs.lemmas.Bool.Decides.{nat_tests}
 use Rattle.id_tree.specs.declared.tree.Kind.{Kind}
 use Rattle.id_tree.specs.declared.tree.Kind.TheVariants as kind
 use Rattle.id_tree.specs.declared.tree.UnaryOp.TheVariants as before
-use Rattle.id_tree.specs.declared.tree.BinaryOp.{BinaryOp}
-use Rattle.id_tree.specs.declared.tree.BinaryOp.TheVariants as between
+use Rattle.id_tree.specs.declared.tree.UnaryOp.{UnaryOp}
+use Rattle.id_tree.specs.declared.tree.Param.{Param}
 use Rattle.id_tree.specs.declared.tree.Def.{Def}
 use Rattle.id_check.specs.declared.Checked.{Checked}
+use Rattle.id_check.specs.Kinds.{unary_kind, binary_kind}
+use Rattle.id_meaning.specs.Sources.{AreFor, AreInputs, value_kind}
+use Rattle.id_meaning.specs.Parts.{kind_at as kind_of}
+use Rattle.id_core.specs.Machines.{AreTaken, TakesInputs, token_value}
+use Rattle.id_tag.specs.Kinds.{kind_of as token_kind}
 use Rattle.id_meaning.specs.declared.SourceValue.{SourceValue}
 use Rattle.id_meaning.specs.declared.SourceValue.TheVariants as value
-use Rattle.id_meaning.specs.Parts.{Among, AllDiffer, Entry, entries_of_def, places_of_all, Region, LiteralNode, IsDef, IsMain, Part, Distinct}
+use Rattle.id_meaning.specs.Parts.{Among, AllDiffer, Entry, entries_of_def, places_of_all, place_of, Region, LiteralNode, IsDef, IsMain, Part, Distinct}
 use Rattle.id_graph.specs.declared.dests.Port.{Port}
 use Rattle.id_graph.specs.declared.dests.Port.TheVariants.{Zero, One}
 use Rattle.id_graph.specs.declared.dests.Dest.{Dest}
 use Rattle.id_graph.specs.declared.instr.PortKind.{PortKind}
-use Rattle.id_graph.specs.declared.instr.PortKind.TheVariants.{Signal, Int}
+use Rattle.id_graph.specs.declared.instr.PortKind.TheVariants.{Signal}
 use Rattle.id_graph.specs.declared.instr.Op.{Op}
 use Rattle.id_graph.specs.declared.instr.Op.TheVariants.{Merge, Back}
 use Rattle.id_graph.specs.declared.instr.Instr.{Instr}
 use Rattle.id_graph.specs.declared.instr.Block.{Block}
-use Rattle.id_graph.specs.Ports.{operand_kind, outcome_kind, port_kind, sends}
+use Rattle.id_graph.specs.Ports.{constant_kind, operand_kind, outcome_kind, port_kind, sends}
 use Rattle.id_graph.specs.Graph.{Parts, arcs, kind_at}
-use Rattle.id_build.specs.Roles.{Role, Answer, Trigger, Return, Of, Label, From, port_of, binary_op, Makes, answer, trigger, return, literal, unary, binary, label, TriggerAt, of_procedure, GivesAt, by_literal, by_unary, by_binary, by_name, by_block, Feeds, to_literal, to_unary, to_left, to_right, to_return, to_label}
+use Rattle.id_build.specs.Roles.{Role, Answer, Trigger, Return, Of, Label, From, port_of, port_at, constant_of, unary_op, binary_op, Makes, answer, trigger, return, literal, unary, binary, label, entry, TriggerAt, of_procedure, GivesAt, by_literal, by_unary, by_binary, by_name, by_block, Feeds, to_literal, to_unary, to_left, to_right, to_return, to_label}
 use Rattle.id_build.specs.Schemas.{Numbered, Schemas, Sends, block_of}
-use Rattle.id_valid.specs.Roles.{op_at, back_kind, is_first, is_second, is_entry, has_main_place, same_place, same_port, is_dest, arcs_into, needs_no_arc}
+use Rattle.id_valid.specs.Roles.{op_at, merge_kind, back_kind, is_first, is_second, is_entry, has_main_place, same_place, same_port, is_dest, arcs_into, needs_no_arc}
 use Rattle.id_valid.specs.Validator.{is_value, IsAnswer, FillsRoles, IsTaken, IsFed, IsSound, IsValid}
 use Rattle.id_laws.proofs.Lists.{among_map, among_from_map, among_right, differ_right}
 use Rattle.id_laws.proofs.Tables.{same_def, def_of_main, home}
 use Rattle.id_laws.proofs.Places.{Distinct-checked}
+use Rattle.id_laws.proofs.Nested.{Binder_at, binder_part}
+use Rattle.id_laws.proofs.Entered.{param_part}
+use Rattle.id_laws.proofs.Params.{param_of}
+use Rattle.id_laws.proofs.Kinded.{kind_of_part, kind_of_param, port_is, unary_suits, binary_suits, body_suits}
 use Rattle.id_laws.proofs.Given.{given_operand, given_body}
-use Rattle.id_laws.proofs.Fed.{IsMade, source_made, target_made, one_source}
+use Rattle.id_laws.proofs.Fed.{IsMade, target_made, one_source}
 use Rattle.id_laws.proofs.Begun.{main_of}
 use Rattle.id_laws.proofs.ValidCounts.{any_among, among_any, all_among, sum_at, sum_once, count_among, count_some, count_once}
 
@@ -53,11 +62,11 @@ same_port-itself : (p : Port) → same_port p p ≡ true
 same_port-itself Zero = refl
 same_port-itself One = refl
 
-port_is : (p q : Port) → same_port p q ≡ true → p ≡ q
-port_is Zero Zero e = refl
-port_is Zero One e = cc
-port_is One Zero e = cc
-port_is One One e = refl
+ports_same : (p q : Port) → same_port p q ≡ true → p ≡ q
+ports_same Zero Zero e = refl
+ports_same Zero One e = cc
+ports_same One Zero e = cc
+ports_same One One e = refl
 
 both_true : (a b : Bool) → (a && b) ≡ true → (a ≡ true) × (b ≡ true)
 both_true true true e = (refl, refl)
@@ -67,6 +76,12 @@ both_true false b e = cc
 second_of : (a b c d : Bool) → b ≡ true → (a || b || c || d) ≡ true
 second_of true b c d e = refl
 second_of false b c d e = rw e refl
+
+third_of : (a b c d : Bool) → c ≡ true → (a || b || c || d) ≡ true
+third_of true b c d e = refl
+third_of false true c d e = refl
+third_of false false true d e = refl
+third_of false false false d e = cc
 
 fourth_of : (a b c d : Bool) → d ≡ true → (a || b || c || d) ≡ true
 fourth_of true b c d e = refl
@@ -84,64 +99,59 @@ dest_is : (n : ℕ) (p : Port) (d : Dest) → is_dest n p d ≡ true → d ≡ d
 dest_is n p d e =
     let both = both_true (d.instr == n) (same_port d.port p) e in
     let at = number_is d.instr n both.0 in
-    let by = port_is d.port p both.1 in
+    let by = ports_same d.port p both.1 in
     (λ i. record { instr = at i; port = by i })
 
 -- ---- kinds
 
-int_kind : (k : Kind) → port_of k ≡ Int
-int_kind kind.Int = refl
+is_value_port : (k : Kind) → is_value (port_of k) ≡ true
+is_value_port kind.Int = refl
+is_value_port kind.Bool = refl
+is_value_port kind.Array = refl
 
-value_kind : (k : Kind) → is_value (port_of k) ≡ true
-value_kind kind.Int = refl
-
--- the role is one whose instruction gives the value of an expression or of a binder
-abbrev GivesValue : Role → Type 0
-GivesValue Answer = ⊥
-GivesValue (Trigger f) = ⊥
-GivesValue (Return f) = ⊥
-GivesValue (Of r e) = Unit {0}
-GivesValue (Label b) = Unit {0}
-
-gives_value : {P : Checked} {r : Region} {e : ℕ} {s : Role} → GivesAt P r e (From s) → GivesValue s
-gives_value (by_literal part) = tt
-gives_value (by_unary part) = tt
-gives_value (by_binary part) = tt
-gives_value (by_name part) = tt
-gives_value (by_block part by) = gives_value by
-
--- the operators of the language take whole numbers, and send them
-operands_int : (o : BinaryOp) → operand_kind (binary_op o) ≡ Int
-operands_int between.Add = refl
-operands_int between.Sub = refl
-operands_int between.Mul = refl
-operands_int between.Div = refl
-operands_int between.Rem = refl
-
-outcome_int : (o : BinaryOp) → outcome_kind (binary_op o) ≡ Int
-outcome_int between.Add = refl
-outcome_int between.Sub = refl
-outcome_int between.Mul = refl
-outcome_int between.Div = refl
-outcome_int between.Rem = refl
-
--- what gives a value sends whole numbers
-sends_int : {P : Checked} {s : Role} {o : Op} {e : ℕ} → Makes P s o e → GivesValue s → sends o ≡ Some Int
-sends_int (answer main) h = absurd h
-sends_int (trigger is_def) h = absurd h
-sends_int (return is_def) h = absurd h
-sends_int (literal {v = value.Int n} part) h = refl
-sends_int (unary {o = before.Neg} part) h = refl
-sends_int (binary {o = o} part) h = ap (λ k. Some k) (outcome_int o)
-sends_int (label part) h = refl
+-- ports for two things of one kind are the same
+same_ports : (P : Checked) (e a : ℕ) → kind_of P e ≡ kind_of P a → port_at P e ≡ port_at P a
+same_ports P e a is = ap (λ o. port_of (unwrap_or o kind.Int)) is
 
 -- an instruction that sends this kind
 record Sender (P : Checked) (s : Role) (k : PortKind) : Type 0 where
   made : IsMade P s
   out : sends made.op ≡ Some k
 
-sender : {P : Checked} {r : Region} {e : ℕ} {s : Role} → GivesAt P r e (From s) → IsMade P s → Sender P s Int
-sender by made = record { made = made; out = sends_int made.makes (gives_value by) }
+literal_port : (v : SourceValue) → constant_kind (constant_of v) ≡ port_of (value_kind v)
+literal_port (value.Int n) = refl
+literal_port (value.Bool b) = refl
+
+unary_sends : (o : UnaryOp) → sends (unary_op o) ≡ Some (port_of (unary_kind o))
+unary_sends before.Neg = refl
+unary_sends before.Not = refl
+
+unary_takes : (o : UnaryOp) → port_kind (unary_op o) Zero ≡ Some (port_of (unary_kind o))
+unary_takes before.Neg = refl
+unary_takes before.Not = refl
+
+-- the label of a binder sends its kind
+label_sender : {P : Checked} {r : Region} {b : ℕ} → Binder_at P r b → Sender P (Label b) (port_at P b)
+label_sender (inl x) = record { made = record { op = _; place = _; makes = label x.1 }; out = refl }
+label_sender (inr x) = record { made = record { op = _; place = _; makes = entry x }; out = refl }
+
+-- what gives the value of an expression sends its kind
+sender : {P : Checked} {r : Region} {e : ℕ} {s : Role} → GivesAt P r e (From s) → Sender P s (port_at P e)
+sender {P} {e = e} (by_literal {v = v} part) =
+    record { made = record { op = _; place = _; makes = literal part }; out = ap (λ k. Some k) (literal_port v ∙ sym (port_is P e (value_kind v) (kind_of_part P part))) }
+sender {P} {e = e} (by_unary {o = o} part) =
+    record { made = record { op = _; place = _; makes = unary part }; out = unary_sends o ∙ ap (λ k. Some k) (sym (port_is P e (unary_kind o) (kind_of_part P part).0)) }
+sender {P} {e = e} (by_binary {a = a} {o = o} part) =
+    let s = binary_suits P part in
+    let here : outcome_kind (binary_op o (port_at P a)) ≡ port_at P e =
+    ap (λ k. outcome_kind (binary_op o k)) (port_is P a s.kind s.left) ∙ s.sent ∙ sym (port_is P e (binary_kind o) s.whole) in
+    record { made = record { op = _; place = _; makes = binary part }; out = ap (λ k. Some k) here }
+sender {P} {e = e} (by_name {b = b} part) =
+    let s = label_sender (binder_part part) in
+    record { made = s.made; out = s.out ∙ ap (λ k. Some k) (sym (same_ports P e b (kind_of_part P part))) }
+sender {P} {e = e} (by_block {b = b} part by) =
+    let s = sender by in
+    record { made = s.made; out = s.out ∙ ap (λ k. Some k) (sym (same_ports P e b (kind_of_part P part))) }
 
 trigger_sender : {P : Checked} {r : Region} {s : Role} → TriggerAt P r (From s) → Sender P s Signal
 trigger_sender (of_procedure is_def) = record { made = record { op = _; place = _; makes = trigger is_def }; out = refl }
@@ -157,21 +167,49 @@ record Typed (P : Checked) (s q : Role) (p : Port) : Type 0 where
   source : Sender P s kind
   target : Taker P q p kind
 
--- the ends of an arc that brings a value
-brings : {P : Checked} {r : Region} {e : ℕ} {s q : Role} {p : Port} → GivesAt P r e (From s) → IsMade P s → Taker P q p Int → Typed P s q p
-brings by made target = record { kind = Int; source = sender by made; target = target }
-
-typed : {P : Checked} {s q : Role} {p : Port} → Feeds P (From s) q p → IsMade P s → Typed P s q p
-typed (to_literal part t) made =
+typed : {P : Checked} {s q : Role} {p : Port} → Feeds P (From s) q p → Typed P s q p
+typed (to_literal part t) =
     record { kind = Signal; source = trigger_sender t; target = record { made = record { op = _; place = _; makes = literal part }; into = refl } }
-typed (to_unary {o = before.Neg} part by) made = brings by made (record { made = record { op = _; place = _; makes = unary part }; into = refl })
-typed (to_left {o = o} part by) made =
-    brings by made (record { made = record { op = _; place = _; makes = binary part }; into = ap (λ k. Some k) (operands_int o) })
-typed (to_right {o = o} part by) made =
-    brings by made (record { made = record { op = _; place = _; makes = binary part }; into = ap (λ k. Some k) (operands_int o) })
-typed (to_return {d = d} is_def by) made =
-    brings by made (record { made = record { op = _; place = _; makes = return is_def }; into = ap (λ k. Some k) (int_kind d.result) })
-typed (to_label part by) made = brings by made (record { made = record { op = _; place = _; makes = label part }; into = refl })
+typed {P} (to_unary {a = a} {o = o} part by) = record {
+  kind = port_at P a;
+  source = sender by;
+  target = record {
+    made = record { op = _; place = _; makes = unary part };
+    into = unary_takes o ∙ ap (λ k. Some k) (sym (port_is P a (unary_kind o) (unary_suits P part)));
+  };
+}
+typed {P} (to_left {a = a} {o = o} part by) =
+    let s = binary_suits P part in
+    let left = port_is P a s.kind s.left in
+    record {
+      kind = port_at P a;
+      source = sender by;
+      target = record {
+        made = record { op = _; place = _; makes = binary part };
+        into = ap (λ k. Some k) (ap (λ k. operand_kind (binary_op o k)) left ∙ s.taken ∙ sym left);
+      };
+    }
+typed {P} (to_right {a = a} {b = b} {o = o} part by) =
+    let s = binary_suits P part in
+    let left = port_is P a s.kind s.left in
+    record {
+      kind = port_at P b;
+      source = sender by;
+      target = record {
+        made = record { op = _; place = _; makes = binary part };
+        into = ap (λ k. Some k) (ap (λ k. operand_kind (binary_op o k)) left ∙ s.taken ∙ sym (port_is P b s.kind s.right));
+      };
+    }
+typed {P} (to_return {d = d} is_def by) = record {
+  kind = port_at P (place_of d.body);
+  source = sender by;
+  target = record { made = record { op = _; place = _; makes = return is_def }; into = ap (λ k. Some k) (sym (port_is P (place_of d.body) d.result (body_suits P is_def))) };
+}
+typed {P} (to_label {b = b} {a = a} part by) = record {
+  kind = port_at P a;
+  source = sender by;
+  target = record { made = record { op = _; place = _; makes = label part }; into = ap (λ k. Some k) (same_ports P b a (kind_of_part P part)) };
+}
 
 -- what feeds a port
 record HasFeed (P : Checked) (q : Role) (p : Port) : Type 0 where
@@ -220,15 +258,20 @@ module _ (P : Checked) (g : Parts) (number : Role → ℕ) (numbered : Numbered 
       let does : op_at g n ≡ Some (Back (port_of (d.0).result)) = ap (op_at g) (sym at) ∙ op_made (return d.1) in
       rw does refl
 
-  no_entry : (n : ℕ) → IsTrue (is_entry g n) → ⊥
-  no_entry n h =
+  entry_is : (n : ℕ) → IsTrue (is_entry g n) → IsSome (option_and_then merge_kind (op_at g n))
+  entry_is n h =
       let t = among_any (λ (b : Block). list_any (λ e. e == n) b.entries) g.blocks h in
       let d = block_from t.0 t.1 in
-      let none : list_any (λ e. e == n) (t.0).entries ≡ false = ap (λ (b : Block). list_any (λ e. e == n) b.entries) d.2 in
-      cc (none, t.2)
+      let listed : list_any (λ e. e == n) (map (λ (x : Param). number (Label x.place)) (d.0).params) ≡ true =
+      ap (λ (b : Block). list_any (λ e. e == n) b.entries) (sym d.2) ∙ t.2 in
+      let e = among_any (λ e. e == n) (map (λ (x : Param). number (Label x.place)) (d.0).params) listed in
+      let x = among_from_map (λ (x : Param). number (Label x.place)) e.0 (d.0).params e.1 in
+      let at : number (Label (x.0).place) ≡ n = sym x.2 ∙ number_is e.0 n e.2 in
+      let does : op_at g n ≡ Some (Merge (port_at P (x.0).place)) = ap (op_at g) (sym at) ∙ op_made (entry (param_part x.0 d.1 x.1)) in
+      rw does refl
 
   fills : (n : ℕ) → FillsRoles g n
-  fills n = record { first = first_is n; second = second_is n; entry = λ h. absurd (no_entry n h) }
+  fills n = record { first = first_is n; second = second_is n; entry = entry_is n }
 
   -- ---- what is sent is taken
 
@@ -243,7 +286,7 @@ module _ (P : Checked) (g : Parts) (number : Role → ℕ) (numbered : Numbered 
   taken : (n : ℕ) (i : Instr) (to : Dest) → slice_get g.instrs n ≡ Some i → Among to (arcs i) → IsTaken g.instrs i.op to
   taken n i to at h =
       let a = numbered.no_more n to (record { instr = i; at = at; lists = h }) in
-      let t = typed a.feeds (source_made a.feeds) in
+      let t = typed a.feeds in
       let s = (t.source).made in
       let q = (t.target).made in
       let out : sends i.op ≡ Some t.kind = ap sends (does n i s.makes a.from at) ∙ (t.source).out in
@@ -275,12 +318,24 @@ module _ (P : Checked) (g : Parts) (number : Role → ℕ) (numbered : Numbered 
   served (return is_def) One h = let s = given_body is_def in inr (record { source = s.source; feeds = to_return is_def s.gives })
   served (literal part) Zero h = inr (trigger_feeds part)
   served (literal part) One h = cc
-  served (unary {a = a} {o = before.Neg} part) Zero h = let s = given_operand a part (inl refl) in inr (record { source = s.source; feeds = to_unary part s.gives })
+  served (unary {a = a} part) Zero h = let s = given_operand a part (inl refl) in inr (record { source = s.source; feeds = to_unary part s.gives })
   served (unary {o = before.Neg} part) One h = cc
+  served (unary {o = before.Not} part) One h = cc
   served (binary {a = a} part) Zero h = let s = given_operand a part (inl refl) in inr (record { source = s.source; feeds = to_left part s.gives })
   served (binary {b = b} part) One h = let s = given_operand b part (inr (inl refl)) in inr (record { source = s.source; feeds = to_right part s.gives })
   served (label {a = a} part) Zero h = let s = given_operand a part (inl refl) in inr (record { source = s.source; feeds = to_label part s.gives })
   served (label part) One h = cc
+  served (entry {b = b} part) Zero h =
+      let t = param_of part in
+      let d = t.def in
+      let n = number (Label b) in
+      let labels = map (λ (x : Param). number (Label x.place)) d.params in
+      let listed : Among n labels = subst (λ e. Among (number (Label e)) labels) t.place (among_map (λ (x : Param). number (Label x.place)) t.param d.params t.among) in
+      let is : is_entry g n ≡ true =
+      any_among (λ (b : Block). list_any (λ e. e == n) b.entries) (block_of number d) g.blocks (block_among t.is_def)
+      (any_among (λ e. e == n) n labels listed (same_number n n refl)) in
+      inl (third_of (n == 0) (is_first g n) (is_entry g n) (is_second g n && same_port Zero Zero) is)
+  served (entry part) One h = cc
 
   -- an arc into a port counts
   fed_counts : (q : Role) (p : Port) → HasFeed P q p → 1 ≤ arcs_into g (number q) p
@@ -391,7 +446,7 @@ module _ (P : Checked) (g : Parts) (number : Role → ℕ) (numbered : Numbered 
         kind = port_of d.result;
         block = block_of number d;
         merge = ap (op_at g) (sym numbered.answer_first) ∙ op_made (answer m.1);
-        value = value_kind d.result;
+        value = is_value_port d.result;
         main = ap (filter (has_main_place g)) numbered.blocks
             ∙ one_block d P.program.defs m.1 (λ x k. record { among = k }) distinct.differ is_def.among;
         result = ap (option_and_then back_kind) back;
@@ -405,6 +460,39 @@ module _ (P : Checked) (g : Parts) (number : Role → ℕ) (numbered : Numbered 
     fed = λ o at p h. fed n o p at h;
   }
 
+  -- ---- inputs
+
+  token_port : (v : SourceValue) → token_kind (token_value v) ≡ port_of (value_kind v)
+  token_port (value.Int n) = refl
+  token_port (value.Bool b) = refl
+
+  entries_take : {d : Def} → IsDef P d → (ps : List Param) (vs : List SourceValue) → ((x : Param) → Among x ps → Among x d.params) → AreFor ps vs
+      → AreTaken g (map (λ (x : Param). number (Label x.place)) ps) vs
+  entries_take is_def [] [] inside h = tt
+  entries_take is_def [] (v ∷ vs) inside h = h
+  entries_take is_def (x ∷ ps) [] inside h = h
+  entries_take is_def (x ∷ ps) (v ∷ vs) inside h =
+      let here = inside x (inl refl) in
+      let kind_is : port_at P x.place ≡ token_kind (token_value v) =
+      port_is P x.place x.kind (kind_of_param P x is_def here) ∙ ap port_of (sym h.0) ∙ sym (token_port v) in
+      (op_made (entry (param_part x is_def here)) ∙ ap (λ k. Some (Merge k)) kind_is, entries_take is_def ps vs (λ y k. inside y (inr k)) h.1)
+
+  takes_inputs : (vs : List SourceValue) → AreInputs P vs → TakesInputs g vs
+  takes_inputs vs own = record {
+    taken = λ b main. (
+        let d = own.main in
+        let is_def = def_of_main own.is_main in
+        let found = ap (filter (has_main_place g)) numbered.blocks
+        ∙ one_block d P.program.defs own.is_main (λ x k. record { among = k }) distinct.differ is_def.among in
+        let both : b ∷ [] ≡ block_of number d ∷ [] = sym main ∙ found in
+        let same : b ≡ block_of number d = cc in
+        subst (λ (c : Block). AreTaken g c.entries vs) (sym same) (entries_take is_def d.params vs (λ x k. k) own.are_for));
+  }
+
 -- every graph that the schemas give a program is valid
 pub validity : (P : Checked) (g : Parts) → Schemas P g → IsValid g
 validity P g schemas = record { sound = sound P g schemas.number schemas.numbered }
+
+-- the inputs of a program are inputs for each graph that the schemas give it
+pub inputs_taken : (P : Checked) (g : Parts) (vs : List SourceValue) → AreInputs P vs → Schemas P g → TakesInputs g vs
+inputs_taken P g vs own schemas = takes_inputs P g schemas.number schemas.numbered vs own

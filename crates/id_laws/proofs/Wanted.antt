@@ -8,16 +8,16 @@ use Rattle.id_tag.specs.declared.Context.{Context}
 use Rattle.id_tag.specs.declared.Tag.{Tag}
 use Rattle.id_tag.specs.declared.Value.{Value}
 use Rattle.id_tag.specs.declared.Value.TheVariants as value
-use Rattle.id_core.specs.Machines.{main_tag}
+use Rattle.id_core.specs.Machines.{main_tag, token_value}
 use Rattle.id_meaning.specs.declared.Path.{Path}
 use Rattle.id_meaning.specs.declared.SourceValue.{SourceValue}
 use Rattle.id_meaning.specs.declared.Fact.TheVariants.{Has}
-use Rattle.id_meaning.specs.Parts.{Region, Top, Node, LiteralNode, UnaryNode, BinaryNode, NameNode, UnboundNode, BlockNode, BindingNode, place_of, IsDef, IsMain, Part}
+use Rattle.id_meaning.specs.Parts.{Region, Top, Node, LiteralNode, UnaryNode, BinaryNode, NameNode, UnboundNode, BlockNode, BindingNode, ParamNode, place_of, IsDef, IsMain, Part}
+use Rattle.id_meaning.specs.Sources.{Source}
 use Rattle.id_meaning.specs.Facts.{outermost}
 use Rattle.id_meaning.specs.Rounds.{Holds}
-use Rattle.id_build.specs.Roles.{Role, Answer, Trigger, Return, Of, Label, Source, From}
+use Rattle.id_build.specs.Roles.{Role, Answer, Trigger, Return, Of, Label, Source as Giver, From}
 use Rattle.id_laws.proofs.Arrivals.{Happening}
-use Rattle.id_laws.proofs.Agreement.{token_value}
 
 -- a context at an iteration
 pub record Activation : Type 0 where
@@ -49,58 +49,70 @@ pub data ReturnsTo (P : Checked) (run : List Happening) : Activation → ℕ →
   to_answer : {d : Def} → IsMain P d → ReturnsTo P run main_activation d.place (main_tag 0)
 
 -- the value is one that the expression Has
-pub record Shown (P : Checked) (run : List Happening) (a : Activation) (e : ℕ) (v : Value) : Type 0 where
+pub record Shown (S : Source) (run : List Happening) (a : Activation) (e : ℕ) (v : Value) : Type 0 where
   pub path : Path
   pub path_of : PathOf run a path
   pub value : SourceValue
   pub is : v ≡ token_value value
-  pub holds : Holds P (Has path e value)
+  pub holds : Holds S (Has path e value)
 
 -- the value is one that the binder at the place Has, and its region is turned on
-pub record ShownBinder (P : Checked) (run : List Happening) (a : Activation) (b : ℕ) (v : Value) : Type 0 where
+pub record ShownBinder (S : Source) (run : List Happening) (a : Activation) (b : ℕ) (v : Value) : Type 0 where
   pub region : Region
-  pub expression : ℕ
-  pub part : Part P region b (BindingNode expression)
-  pub live : Live P run a region
-  pub shown : Shown P run a b v
+  pub node : Node
+  pub part : Part S.checked region b node
+  pub live : Live S.checked run a region
+  pub shown : Shown S run a b v
 
 -- the value is one of main's answers
-pub record ShowsAnswer (P : Checked) (run : List Happening) (a : Activation) (v : Value) : Type 0 where
+pub record ShowsAnswer (S : Source) (run : List Happening) (a : Activation) (v : Value) : Type 0 where
   pub main : Def
-  pub is_main : IsMain P main
+  pub is_main : IsMain S.checked main
   pub at_main : a ≡ main_activation
-  pub shown : Shown P run a (place_of main.body) v
+  pub shown : Shown S run a (place_of main.body) v
 
-module _ (P : Checked) (run : List Happening) (a : Activation) where
+module _ (S : Source) (run : List Happening) (a : Activation) where
   -- what a port of a node's instruction wants
   abbrev pub WantsAt : Node → Port → Value → Type 0
   WantsAt (LiteralNode c) Zero v = v ≡ value.Signal
   WantsAt (LiteralNode c) One v = ⊥
-  WantsAt (UnaryNode o x) Zero v = Shown P run a x v
+  WantsAt (UnaryNode o x) Zero v = Shown S run a x v
   WantsAt (UnaryNode o x) One v = ⊥
-  WantsAt (BinaryNode o x y) Zero v = Shown P run a x v
-  WantsAt (BinaryNode o x y) One v = Shown P run a y v
+  WantsAt (BinaryNode o x y) Zero v = Shown S run a x v
+  WantsAt (BinaryNode o x y) One v = Shown S run a y v
   WantsAt (NameNode b) p v = ⊥
   WantsAt UnboundNode p v = ⊥
   WantsAt (BlockNode vs b) p v = ⊥
   WantsAt (BindingNode x) p v = ⊥
+  WantsAt ParamNode p v = ⊥
+
+  -- what the label of the binder at a place wants, by what stands there: what the expression of a binding Has, and what a parameter Has
+  abbrev pub LabelWants : ℕ → Node → Value → Type 0
+  LabelWants b (LiteralNode c) v = ⊥
+  LabelWants b (UnaryNode o x) v = ⊥
+  LabelWants b (BinaryNode o x y) v = ⊥
+  LabelWants b (NameNode c) v = ⊥
+  LabelWants b UnboundNode v = ⊥
+  LabelWants b (BlockNode vs x) v = ⊥
+  LabelWants b (BindingNode x) v = Shown S run a x v
+  LabelWants b ParamNode v = Shown S run a b v
 
   -- what a port of the instruction for a role wants
   abbrev pub Wants : Role → Port → Value → Type 0
-  Wants Answer Zero v = ShowsAnswer P run a v
+  Wants Answer Zero v = ShowsAnswer S run a v
   Wants Answer One v = ⊥
-  Wants (Trigger f) Zero v = (v ≡ value.Signal) × Live P run a (Top f)
+  Wants (Trigger f) Zero v = (v ≡ value.Signal) × Live S.checked run a (Top f)
   Wants (Trigger f) One v = ⊥
-  Wants (Return f) Zero v = (t : Tag) × (v ≡ value.Continuation t) × ReturnsTo P run a f t
-  Wants (Return f) One v = (d : Def) → IsDef P d → d.place ≡ f → Shown P run a (place_of d.body) v
-  Wants (Of r e) p v = Live P run a r × ((n : Node) → Part P r e n → WantsAt n p v)
-  Wants (Label b) Zero v = (r : Region) (x : ℕ) → Part P r b (BindingNode x) → Live P run a r × Shown P run a x v
+  Wants (Return f) Zero v = (t : Tag) × (v ≡ value.Continuation t) × ReturnsTo S.checked run a f t
+  Wants (Return f) One v = (d : Def) → IsDef S.checked d → d.place ≡ f → Shown S run a (place_of d.body) v
+  Wants (Of r e) p v = Live S.checked run a r × ((n : Node) → Part S.checked r e n → WantsAt n p v)
+  Wants (Label b) Zero v = (r : Region) (n : Node) → Part S.checked r b n → Live S.checked run a r × LabelWants b n v
   Wants (Label b) One v = ⊥
 
   -- what a source says
-  abbrev pub Says : Source → Value → Type 0
+  abbrev pub Says : Giver → Value → Type 0
   Says (From Answer) v = Unit {0}
-  Says (From (Trigger f)) v = (v ≡ value.Signal) × Live P run a (Top f)
+  Says (From (Trigger f)) v = (v ≡ value.Signal) × Live S.checked run a (Top f)
   Says (From (Return f)) v = Unit {0}
-  Says (From (Of r e)) v = Live P run a r × Shown P run a e v
-  Says (From (Label b)) v = ShownBinder P run a b v
+  Says (From (Of r e)) v = Live S.checked run a r × Shown S run a e v
+  Says (From (Label b)) v = ShownBinder S run a b v

@@ -12,13 +12,14 @@ use Rattle.id_tag.specs.Tags.{same_tag}
 use Rattle.id_match.specs.Ports.{same_port}
 use Rattle.id_core.specs.declared.step.Step.TheVariants.{Stuck}
 use Rattle.id_core.specs.Events.{EventView, tag_of}
-use Rattle.id_core.specs.Machines.{World, IsQuiet, start, run}
+use Rattle.id_core.specs.Machines.{World, IsQuiet, TakesInputs, start, run}
 use Rattle.id_core.specs.Observed as shown
 use Rattle.id_meaning.specs.declared.SourceValue.{SourceValue}
 use Rattle.id_meaning.specs.declared.SourceFault.{SourceFault}
 use Rattle.id_meaning.specs.declared.Fact.TheVariants.{Has}
 use Rattle.id_meaning.specs.declared.NameValue.{NameValue}
 use Rattle.id_meaning.specs.Parts.{Among, AllDiffer, Region}
+use Rattle.id_meaning.specs.Sources.{Source, AreInputs}
 use Rattle.id_meaning.specs.Facts.{outermost}
 use Rattle.id_meaning.specs.Rounds.{Holds, Faulty, FaultFree, Answers, IsAnswer, IsCoherent}
 use Rattle.id_meaning.specs.Names.{IsNameValue}
@@ -43,23 +44,23 @@ abbrev pub is_for : Tag → Port → Payload → Bool
 is_for t p (Token u q v) = same_tag u t && same_port q p
 
 -- the message brings a value that the expression at the place Has
-pub record Carries (P : Checked) (e : ℕ) (m : Message) : Type 0 where
+pub record Carries (S : Source) (e : ℕ) (m : Message) : Type 0 where
   pub value : SourceValue
   pub brings : value_in m.payload ≡ Some value
-  pub holds : Holds P (Has outermost e value)
+  pub holds : Holds S (Has outermost e value)
 
 -- a machine in this state has shown facts and faults of the source alone, where the instructions are numbered so
-pub record IsSound (P : Checked) (g : Parts) (number : Role → ℕ) (s : World) : Type 0 where
+pub record IsSound (S : Source) (g : Parts) (number : Role → ℕ) (s : World) : Type 0 where
   -- its answer is the source's
-  pub answer : (v : SourceValue) → shown.answer s ≡ Some v → Answers P v
+  pub answer : (v : SourceValue) → shown.answer s ≡ Some v → Answers S v
   -- what it shows that binders Have, they Have, and it shows nothing twice
-  pub names : (n : NameValue) → Among n (shown.names g s) → IsNameValue P n
+  pub names : (n : NameValue) → Among n (shown.names g s) → IsNameValue S n
   pub names_once : AllDiffer (shown.names g s)
   -- each of its faults is one of the source
-  pub faults : (f : SourceFault) → Among f (shown.faults g s) → Faulty P f
+  pub faults : (f : SourceFault) → Among f (shown.faults g s) → Faulty S f
   -- what the instruction of an expression has sent brings a value that the expression Has
-  pub values : (r : Region) (e : ℕ) (o : Op) (v : EventView) (m : Message) → Makes P (Of r e) o e → Among v (events s)
-      → (tag_of v.message.payload).instr ≡ number (Of r e) → Among m v.outputs → Carries P e m
+  pub values : (r : Region) (e : ℕ) (o : Op) (v : EventView) (m : Message) → Makes S.checked (Of r e) o e → Among v (events s)
+      → (tag_of v.message.payload).instr ≡ number (Of r e) → Among m v.outputs → Carries S e m
 
 -- in this state no event was `Stuck`, and each port has got at most one token under each tag
 pub record IsNeverStuck (s : World) : Type 0 where
@@ -67,27 +68,31 @@ pub record IsNeverStuck (s : World) : Type 0 where
   pub one_token : (t : Tag) (p : Port) → count_by (is_for t p) (messages s) ≤ 1
 
 -- the answer shown in this state is exactly the source's, so is what binders Have, and the source has no fault
-pub record IsComplete (P : Checked) (g : Parts) (s : World) : Type 0 where
-  pub answer : IsAnswer P (shown.answer s)
-  pub names : (n : NameValue) → IsNameValue P n → Among n (shown.names g s)
-  pub no_fault : FaultFree P
+pub record IsComplete (S : Source) (g : Parts) (s : World) : Type 0 where
+  pub answer : IsAnswer S (shown.answer s)
+  pub names : (n : NameValue) → IsNameValue S n → Among n (shown.names g s)
+  pub no_fault : FaultFree S
 
--- *Sound*: of each graph that the schemas give a program, with any number of elements, every list of deliveries shows facts and faults of the source alone
+-- *Sound*: of each graph that the schemas give a program, with the program's inputs and any number of elements, every list of deliveries shows facts and faults of the source alone
 abbrev pub Soundness : Type 0
-Soundness = (P : Checked) (g : Parts) (count : ℕ) (ks : List ℕ) → (schemas : Schemas P g) → IsSound P g schemas.number (run g count ks (start g count))
+Soundness = (S : Source) (g : Parts) (count : ℕ) (ks : List ℕ) → AreInputs S.checked S.inputs → (schemas : Schemas S.checked g) → IsSound S g schemas.number (run g count ks (start g S.inputs count))
 
 -- *Never stuck*: of each such graph, every list of deliveries leaves no element stuck
 abbrev pub NeverStuck : Type 0
-NeverStuck = (P : Checked) (g : Parts) (count : ℕ) (ks : List ℕ) → Schemas P g → IsNeverStuck (run g count ks (start g count))
+NeverStuck = (S : Source) (g : Parts) (count : ℕ) (ks : List ℕ) → AreInputs S.checked S.inputs → Schemas S.checked g → IsNeverStuck (run g count ks (start g S.inputs count))
 
 -- *Quiet is complete*: of each such graph, a list of deliveries after which the machine is quiet has shown everything
 abbrev pub QuietIsComplete : Type 0
-QuietIsComplete = (P : Checked) (g : Parts) (count : ℕ) (ks : List ℕ) → Schemas P g → IsQuiet (run g count ks (start g count)) → IsComplete P g (run g count ks (start g count))
+QuietIsComplete = (S : Source) (g : Parts) (count : ℕ) (ks : List ℕ) → AreInputs S.checked S.inputs → Schemas S.checked g → IsQuiet (run g count ks (start g S.inputs count)) → IsComplete S g (run g count ks (start g S.inputs count))
 
 -- *Coherence*: each source gives each path and place at most one value
 abbrev pub Coherence : Type 0
-Coherence = (P : Checked) → IsCoherent P
+Coherence = (S : Source) → IsCoherent S
 
 -- *Validity*: each graph that the schemas give a program is valid
 abbrev pub Validity : Type 0
 Validity = (P : Checked) (g : Parts) → Schemas P g → IsValid g
+
+-- *Inputs fit*: each such graph takes the inputs of the program
+abbrev pub InputsFit : Type 0
+InputsFit = (P : Checked) (g : Parts) (vs : List SourceValue) → AreInputs P vs → Schemas P g → TakesInputs g vs

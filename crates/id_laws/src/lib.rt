@@ -6,7 +6,7 @@
 //! Not here: the facts of a source (`id_meaning`), the graphs of the schemas (`id_build`), runs (`id_core`).
 #![tactic(auto)]
 
-ghost use Rattle.id_laws.specs.Laws.{Coherence, NeverStuck, QuietIsComplete, Soundness, Validity};
+ghost use Rattle.id_laws.specs.Laws.{Coherence, InputsFit, NeverStuck, QuietIsComplete, Soundness, Validity};
 
 /// *Sound*: what any run of a schemas' graph shows is of the source. The answer is the source's, each
 /// fault is one of the source, what a binder is shown to have it Has, and each value that the
@@ -38,4 +38,10 @@ pub fn coherent()
 /// no memory.
 pub fn valid()
     ensures { Validity }
+{}
+
+/// *Inputs fit*: every graph that the schemas give a program takes the inputs of the program: one for each
+/// entry of main's block, of its kind (docs/MEANING.md, "Laws"). Takes no memory.
+pub fn inputs_fit()
+    ensures { InputsFit }
 {}

@@ -3,4 +3,4 @@ use Rattle.id_laws.proofs.Coherence.{coherence}
 use Rattle.id_laws.proofs.coherent.Goals as goal
 
 pub returns : goal.returns
-returns c = λ P. coherence P (Distinct-checked P)
+returns c = λ S. coherence S (Distinct-checked S.checked)

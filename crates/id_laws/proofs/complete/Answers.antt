@@ -5,6 +5,6 @@ use Rattle.id_laws.proofs.Quiet.{complete_at}
 use Rattle.id_laws.proofs.complete.Goals as goal
 
 pub returns : goal.returns
-returns c = λ P g count ks schemas quiet.
-    let r = reached g count ks in
-    complete_at P (Distinct-checked P) g schemas.number schemas.numbered count _ r.events r.reach quiet
+returns c = λ S g count ks inputs schemas quiet.
+    let r = reached g S.inputs count ks in
+    complete_at S (Distinct-checked S.checked) inputs g schemas.number schemas.numbered count _ r.events r.reach quiet

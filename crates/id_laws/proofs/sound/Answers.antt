@@ -5,6 +5,6 @@ use Rattle.id_laws.proofs.Named.{sound_at}
 use Rattle.id_laws.proofs.sound.Goals as goal
 
 pub returns : goal.returns
-returns c = λ P g count ks schemas.
-    let r = reached g count ks in
-    sound_at P (Distinct-checked P) g schemas.number schemas.numbered count _ r.events r.reach
+returns c = λ S g count ks inputs schemas.
+    let r = reached g S.inputs count ks in
+    sound_at S (Distinct-checked S.checked) inputs g schemas.number schemas.numbered count _ r.events r.reach
