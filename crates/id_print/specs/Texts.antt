@@ -1,12 +1,12 @@
 -- The texts that are printed (docs/PROMISES.md, "Printing"). Bytes are those of ASCII text.
-use Rattle.std.specs.Prelude.{ℕ, List, ◌++◌, Option, None, Some, codes, decimal}
+use Rattle.std.specs.Prelude.{ℕ, Bool as Truth, true, false, List, ◌++◌, Option, None, Some, codes, decimal}
 use Rattle.std.specs.List.{flat_map}
 use Rattle.std.specs.Fmt.{signed_decimal}
 use Rattle.id_text.specs.Places.{line_of, column_of}
 use Rattle.id_meaning.specs.declared.PathStep.{PathStep}
 use Rattle.id_meaning.specs.declared.Path.{Path}
 use Rattle.id_meaning.specs.declared.SourceValue.{SourceValue}
-use Rattle.id_meaning.specs.declared.SourceValue.TheVariants.{Int}
+use Rattle.id_meaning.specs.declared.SourceValue.TheVariants.{Int, Bool}
 use Rattle.id_meaning.specs.declared.FaultKind.{FaultKind}
 use Rattle.id_meaning.specs.declared.FaultKind.TheVariants.{Overflow, DivisionByZero}
 use Rattle.id_meaning.specs.declared.SourceFault.{SourceFault}
@@ -34,9 +34,15 @@ steps_text text steps = flat_map (step_text text) steps
 abbrev pub point_text : List ℕ → Path → ℕ → List ℕ
 point_text text p place = steps_text text p.steps ++ (codes "@" ++ place_text text place)
 
+-- a truth value
+abbrev pub truth_text : Truth → List ℕ
+truth_text true = codes "true"
+truth_text false = codes "false"
+
 -- a value
 abbrev pub value_text : SourceValue → List ℕ
 value_text (Int n) = signed_decimal n
+value_text (Bool b) = truth_text b
 
 -- an answer that may be missing
 abbrev pub answer_value_text : Option SourceValue → List ℕ

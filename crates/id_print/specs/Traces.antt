@@ -1,6 +1,7 @@
 -- The text of a trace (docs/MACHINE.md, "Trace"). Bytes are those of ASCII text.
-use Rattle.std.specs.Prelude.{ℕ, Bool, true, false, List, [], ◌∷◌, ◌++◌, codes, decimal}
+use Rattle.std.specs.Prelude.{ℕ, List, [], ◌∷◌, ◌++◌, codes, decimal}
 use Rattle.std.specs.Fmt.{signed_decimal}
+use Rattle.id_print.specs.Texts.{truth_text}
 use Rattle.id_graph.specs.declared.dests.Port.{Port}
 use Rattle.id_graph.specs.declared.dests.Port.TheVariants.{Zero, One}
 use Rattle.id_tag.specs.declared.Context.{Context}
@@ -24,11 +25,6 @@ turn_text t = context_text t.context ++ (codes "#" ++ decimal t.iteration)
 -- all of a tag
 abbrev pub tag_text : Tag → List ℕ
 tag_text t = turn_text t ++ (codes ":" ++ decimal t.instr)
-
--- a truth value
-abbrev pub truth_text : Bool → List ℕ
-truth_text true = codes "true"
-truth_text false = codes "false"
 
 -- a continuation
 abbrev pub continuation_text : Tag → List ℕ

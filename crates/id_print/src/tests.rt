@@ -4,9 +4,9 @@ use crate::{
     Ending, Report, Sink, SinkFault, facts_within, is_within, run_report, write_facts,
     write_report, write_trace,
 };
-use id_core::Machine;
+use id_core::{Machine, MachineError, takes_inputs};
 use id_graph::{Block, Constant, Dest, Dests, Dyadic, Graph, Instr, Op, Port, PortKind};
-use id_meaning::{Fact, FaultKind, NameValue, Path, PathStep, SourceFault, SourceValue};
+use id_meaning::{Fact, FaultKind, Inputs, NameValue, Path, PathStep, SourceFault, SourceValue};
 use id_text::Sequence;
 use id_valid::{Valid, validate};
 use std::alloc::{AllocError, Global};
@@ -88,6 +88,19 @@ fn valid(rt: &impl Abort, alloc: Global, list: Vec<Instr>) -> Result<Valid, Fail
     Ok(validate(alloc, Graph::new(blocks, list)?)?)
 }
 
+/// The machine of one element at its start with no inputs, which the graph takes.
+fn machine<'a>(
+    rt: &impl Abort,
+    alloc: Global,
+    graph: &'a Valid,
+) -> Result<Machine<'a>, MachineError> {
+    let inputs = Inputs {
+        values: Sequence::new(Vec::new(alloc)),
+    };
+    assert!(rt; takes_inputs(graph, &inputs));
+    Machine::new(alloc, graph, &inputs, 1)
+}
+
 const WANTED: &str = "1 0 token c0.0#0 1.0 signal\n\
     2 0 token c0.0#0 2.0 k0.0#0:0\n\
     3 0 token c0.0#0 3.0 signal\n\
@@ -97,7 +110,7 @@ const WANTED: &str = "1 0 token c0.0#0 1.0 signal\n\
 #[test]
 fn traces_each_event(rt: HostRuntime) -> Result<(), Fail> {
     let graph = seven(&rt, rt.alloc())?;
-    let mut machine = Machine::new(rt.alloc(), &graph, 1)?;
+    let mut machine = machine(&rt, rt.alloc(), &graph)?;
     for _ in 0..5 {
         assert!(rt; machine.in_flight().len() > 0);
         machine.deliver(0)?;
@@ -117,7 +130,7 @@ const BINDINGS: &str = "def main(): int = { y = x + 1; x = 4; in y };";
 #[test]
 fn names_are_printed_by_place_where_asked(rt: HostRuntime) -> Result<(), Fail> {
     let graph = bindings(&rt, rt.alloc())?;
-    let mut machine = Machine::new(rt.alloc(), &graph, 1)?;
+    let mut machine = machine(&rt, rt.alloc(), &graph)?;
     for _ in 0..100 {
         if machine.in_flight().is_empty() {
             break;
@@ -157,24 +170,27 @@ fn path(alloc: Global, places: &[usize]) -> Result<Path, AllocError> {
 /// A text of two lines, the second from byte 32 on.
 const CALL: &str = "def k(x: int, y: int): int = x;\ndef main(): int = { r = k(7, r); in r };";
 
-/// A report of a run of it with the names of row `lenient-call`, r, x and y.
-fn call_report(alloc: Global, ending: Ending) -> Result<Report, AllocError> {
+/// A report of a run of it with the names of row `lenient-call`, r, x and y, which have the answer's value.
+fn call_report(alloc: Global, ending: Ending, value: SourceValue) -> Result<Report, AllocError> {
     let mut names = Vec::new(alloc);
     for (steps, place) in [(&[] as &[usize], 52), (&[56], 6), (&[56], 14)] {
         names.push(NameValue {
             path: path(alloc, steps)?,
             place,
-            value: SourceValue::Int(7),
+            value,
         })?;
     }
     Ok(Report {
         ending,
-        answer: Some(SourceValue::Int(7)),
+        answer: Some(value),
         names: Sequence::new(names),
     })
 }
 
 const NAMES: &str = "answer 7\nname @2:21 = 7\nname /2:25@1:7 = 7\nname /2:25@1:15 = 7\n";
+
+const TRUTH: &str =
+    "answer true\nname @2:21 = true\nname /2:25@1:7 = true\nname /2:25@1:15 = true\n";
 
 const STOPPED: &str =
     "stopped\nanswer 7\nname @2:21 = 7\nname /2:25@1:7 = 7\nname /2:25@1:15 = 7\n";
@@ -186,13 +202,20 @@ fn a_report_is_printed_by_its_ending(rt: HostRuntime) -> Result<(), Fail> {
         path: path(rt.alloc(), &[56])?,
         place: 29,
     };
+    let seven = SourceValue::Int(7);
+    let yes = SourceValue::Bool(true);
     let cases = [
-        (Ending::Quiet, NAMES),
-        (Ending::Stopped, STOPPED),
-        (Ending::Fault(fault), "fault overflow at /2:25@1:30\n"),
+        (Ending::Quiet, seven, NAMES),
+        (Ending::Quiet, yes, TRUTH),
+        (Ending::Stopped, seven, STOPPED),
+        (
+            Ending::Fault(fault),
+            seven,
+            "fault overflow at /2:25@1:30\n",
+        ),
     ];
-    for (ending, wanted) in cases {
-        let report = call_report(rt.alloc(), ending)?;
+    for (ending, value, wanted) in cases {
+        let report = call_report(rt.alloc(), ending, value)?;
         assert!(rt; CALL.len() < 1000);
         assert!(rt; is_within(&report, CALL.len()));
         assert!(rt; !is_within(&report, 55));

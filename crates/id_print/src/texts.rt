@@ -3,7 +3,7 @@
 ghost use Rattle.std.specs.Prelude.{◌≡◌, ◌≤◌, ◌++◌, length, decimal, codes};
 ghost use Rattle.std.specs.Fmt.{signed_decimal};
 ghost use Rattle.id_print.specs.Told.{Prints};
-ghost use Rattle.id_print.specs.Texts.{line_column_text, place_text, step_text, steps_text, point_text, point_value_text, value_text};
+ghost use Rattle.id_print.specs.Texts.{line_column_text, place_text, step_text, steps_text, point_text, point_value_text, truth_text, value_text};
 ghost use Rattle.id_print.specs.Within.{StepsWithin, PointWithin};
 
 use crate::cursor::Cursor;
@@ -126,11 +126,19 @@ pub fn put_int<W: Sink>(sink: &mut W, n: i64) -> Result<(), PrintError>
     put(sink, text.as_bytes())
 }
 
+/// The word for a truth value.
+pub fn truth_bytes(truth: bool) -> &'static [u8]
+    ensures { result.now ≡ truth_text truth }
+{
+    if truth { b"true" } else { b"false" }
+}
+
 /// A value.
 pub fn put_value<W: Sink>(sink: &mut W, value: SourceValue) -> Result<(), PrintError>
     ensures { Prints (W.told sink.old) (W.told sink.new) (value_text value) result }
 {
     match value {
         SourceValue::Int(n) => put_int(sink, n),
+        SourceValue::Bool(truth) => put(sink, truth_bytes(truth)),
     }
 }

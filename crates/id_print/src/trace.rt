@@ -2,10 +2,10 @@
 
 ghost use Rattle.std.specs.Prelude.{◌≡◌, ◌++◌, decimal};
 ghost use Rattle.id_print.specs.Told.{Prints};
-ghost use Rattle.id_print.specs.Traces.{carried_text, context_text, continuation_text, delivery_text, end_text, entry_text, goal_text, handled_text, moment_text, payload_text, port_text, tag_text, token_text, trace_text, truth_text, turn_text};
+ghost use Rattle.id_print.specs.Traces.{carried_text, context_text, continuation_text, delivery_text, end_text, entry_text, goal_text, handled_text, moment_text, payload_text, port_text, tag_text, token_text, trace_text, turn_text};
 
 use crate::sink::{PrintError, Sink, put};
-use crate::texts::{put_int, put_number};
+use crate::texts::{put_int, put_number, truth_bytes};
 use id_core::{Event, Events, Step};
 use id_graph::Port;
 use id_tag::{Context, Payload, Tag, Value};
@@ -119,13 +119,6 @@ fn put_carried<W: Sink>(sink: &mut W, value: Value) -> Result<(), PrintError>
         Value::Bool(truth) => put(sink, truth_bytes(truth)),
         Value::Continuation(tag) => put_continuation(sink, tag),
     }
-}
-
-/// The word for a truth value.
-fn truth_bytes(truth: bool) -> &'static [u8]
-    ensures { result.now ≡ truth_text truth }
-{
-    if truth { b"true" } else { b"false" }
 }
 
 fn put_continuation<W: Sink>(sink: &mut W, tag: Tag) -> Result<(), PrintError>
