@@ -14,7 +14,7 @@ use Rattle.id_tree.specs.Distinct.{HasPlace}
 use Rattle.id_tree.specs.Accepted.{StopsAt, RefusedBy}
 use Rattle.id_check.specs.declared.CheckCause.{CheckCause}
 use Rattle.id_check.specs.declared.CheckCause.TheVariants as checker
-use Rattle.id_check.specs.Causes.{IsRefusedFor}
+use Rattle.id_check.specs.Causes.{IsRefusedFor, HasFirst, place_of}
 use Rattle.id_laws.proofs.Lists.{among_right}
 use Rattle.idc.specs.Refusals.{lexer_cause, parser_cause, checker_cause, IsInside}
 use Rattle.idc.proofs.CausesLemmas.{causes_place}
@@ -42,11 +42,18 @@ parser_inside text ts (parser.TooDeep at) h all short = record { inside = stop_i
 parser_inside text ts parser.Memory h all short = tt
 
 -- that of a refused program
-pub checker_inside : (text : List ℕ) (p : Program) (c : CheckCause) → IsRefusedFor p c → ((q : ℕ) → HasPlace (program_tree p) q → q ≤ length text) → length text ≤ MAX_BYTES → IfSome (checker_cause c).1 (IsInside text)
-checker_inside text p checker.NoMain h within short = tt
-checker_inside text p (checker.Duplicate at) h within short = record { inside = within at (causes_place p (checker.Duplicate at) h.among); short = short }
-checker_inside text p (checker.Unknown at) h within short = record { inside = within at (causes_place p (checker.Unknown at) h.among); short = short }
-checker_inside text p checker.Memory h within short = tt
+module _ (text : List ℕ) (p : Program) (within : (q : ℕ) → HasPlace (program_tree p) q → q ≤ length text) (short : length text ≤ MAX_BYTES) where
+  first_inside : (c : CheckCause) → HasFirst p c → IsInside text (place_of c)
+  first_inside c h = record { inside = within (place_of c) (causes_place h.kinds p c (h.first).among); short = short }
+
+  pub checker_inside : (c : CheckCause) → IsRefusedFor p c → IfSome (checker_cause c).1 (IsInside text)
+  checker_inside checker.NoMain h = tt
+  checker_inside (checker.MainKind at) h = first_inside (checker.MainKind at) h
+  checker_inside (checker.Duplicate at) h = first_inside (checker.Duplicate at) h
+  checker_inside (checker.Unknown at) h = first_inside (checker.Unknown at) h
+  checker_inside (checker.WrongKind at wanted found) h = first_inside (checker.WrongKind at wanted found) h
+  checker_inside (checker.TooManyParams at) h = first_inside (checker.TooManyParams at) h
+  checker_inside checker.Memory h = tt
 
 -- the one number is at most the other, or above it
 size_split : (n m : ℕ) → (n ≤ m) ⊎ (m < n)

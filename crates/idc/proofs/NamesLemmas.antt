@@ -4,13 +4,13 @@ use Rattle.std.specs.Prelude.{slice_get, IsPermutation}
 use Rattle.std.proofs.lemmas.List.Elements.{All-get_or}
 use Rattle.std.proofs.lemmas.List.Sorted.{All-permutation, IsPermutation-sym}
 use Rattle.std.proofs.lemmas.Option.{slice_get_within, get_or_from_slice_get}
-use Rattle.id_check.specs.declared.Checked.{Checked}
 use Rattle.id_graph.specs.Graph.{Parts}
 use Rattle.id_meaning.specs.declared.Path.{Path}
 use Rattle.id_meaning.specs.declared.SourceValue.{SourceValue}
 use Rattle.id_meaning.specs.declared.NameValue.{NameValue}
 use Rattle.id_meaning.specs.declared.Fact.TheVariants.{Has}
 use Rattle.id_meaning.specs.Parts.{Among}
+use Rattle.id_meaning.specs.Sources.{Source}
 use Rattle.id_meaning.specs.Names.{IsNameValue, AreNames, AreSomeNames}
 use Rattle.id_meaning.specs.Orders.{NamesRise}
 use Rattle.id_meaning.specs.Rounds.{Holds, IsCoherent}
@@ -44,29 +44,29 @@ same_name : (n m : NameValue) → n.path ≡ m.path → n.place ≡ m.place → 
 same_name n m p e v = ap (λ x. record n { path = x }) p ∙ ap (λ x. record n { path = m.path; place = x }) e ∙ ap (λ x. record n { path = m.path; place = m.place; value = x }) v
 
 -- what a sound run shows of names is apart
-pub AreApart-sound : (P : Checked) (g : Parts) (number : Role → ℕ) (w : World) → IsCoherent P → IsSound P g number w → AreApart (shown.names g w)
-AreApart-sound P g number w coherent s = record {
+pub AreApart-sound : (S : Source) (g : Parts) (number : Role → ℕ) (w : World) → IsCoherent S → IsSound S g number w → AreApart (shown.names g w)
+AreApart-sound S g number w coherent s = record {
   differ = s.names_once;
   one = λ n m h k p e. (
-      let a : IsNameValue P n = s.names n h in
-      let b : IsNameValue P m = s.names m k in
-      let there : Holds P (Has n.path n.place m.value) =
-      subst (λ (x : Path). Holds P (Has x n.place m.value)) (sym p) (subst (λ (x : ℕ). Holds P (Has m.path x m.value)) (sym e) b.holds) in
+      let a : IsNameValue S n = s.names n h in
+      let b : IsNameValue S m = s.names m k in
+      let there : Holds S (Has n.path n.place m.value) =
+      subst (λ (x : Path). Holds S (Has x n.place m.value)) (sym p) (subst (λ (x : ℕ). Holds S (Has m.path x m.value)) (sym e) b.holds) in
       same_name n m p e (coherent n.path n.place n.value m.value a.holds there));
 }
 
 -- what a sound run's report says of names is so
-pub AreSomeNames-sound : (P : Checked) (g : Parts) (number : Role → ℕ) (w : World) (ns : List NameValue) → IsSound P g number w
-    → IsSortedOf ns (shown.names g w) → NamesRise ns → AreSomeNames P ns
-AreSomeNames-sound P g number w ns s sorted rise = record {
+pub AreSomeNames-sound : (S : Source) (g : Parts) (number : Role → ℕ) (w : World) (ns : List NameValue) → IsSound S g number w
+    → IsSortedOf ns (shown.names g w) → NamesRise ns → AreSomeNames S ns
+AreSomeNames-sound S g number w ns s sorted rise = record {
   only = λ n h. s.names n (among_sorted (shown.names g w) ns n sorted.same h);
   rise = rise;
 }
 
 -- and all, where the run is complete
-pub AreNames-complete : (P : Checked) (g : Parts) (w : World) (ns : List NameValue) → AreSomeNames P ns → IsComplete P g w
-    → IsSortedOf ns (shown.names g w) → AreNames P ns
-AreNames-complete P g w ns some c sorted = record {
+pub AreNames-complete : (S : Source) (g : Parts) (w : World) (ns : List NameValue) → AreSomeNames S ns → IsComplete S g w
+    → IsSortedOf ns (shown.names g w) → AreNames S ns
+AreNames-complete S g w ns some c sorted = record {
   all = λ n h. among_permuted (shown.names g w) ns n sorted.same (c.names n h);
   only = some.only;
   rise = some.rise;

@@ -1,10 +1,10 @@
 -- Lemmas on runs of machines, and on what their reports say (specs/Reports.antt).
 use Rattle.std.proofs.Common.{◌≡◌, ℕ, List, [], ◌∷◌, ◌++◌, Option, Some, None, inl, inr, refl, sym, ap, subst, ◌∙◌}
 use Rattle.std.specs.Prelude.{IfSome, slice_get}
-use Rattle.id_check.specs.declared.Checked.{Checked}
 use Rattle.id_graph.specs.Graph.{Parts}
 use Rattle.id_meaning.specs.declared.SourceValue.{SourceValue}
 use Rattle.id_meaning.specs.declared.SourceFault.{SourceFault}
+use Rattle.id_meaning.specs.Sources.{Source, AreInputs}
 use Rattle.id_meaning.specs.Names.{AreNames, AreSomeNames}
 use Rattle.id_meaning.specs.Orders.{NamesRise}
 use Rattle.id_meaning.specs.Rounds.{Answers, IsAnswer, Faulty, FaultFree}
@@ -48,20 +48,20 @@ IsRunOf-trans a b c h k = record {
 }
 
 -- a value that may be missing: what holds of it where it is there
-if_some : (P : Checked) (o : Option SourceValue) → ((v : SourceValue) → o ≡ Some v → Answers P v) → IfSome o (Answers P)
-if_some P None h = tt
-if_some P (Some v) h = h v refl
+if_some : (S : Source) (o : Option SourceValue) → ((v : SourceValue) → o ≡ Some v → Answers S v) → IfSome o (Answers S)
+if_some S None h = tt
+if_some S (Some v) h = h v refl
 
 -- what a report says is so where the state is sound, and complete if it is quiet
-true_in : (P : Checked) (g : Parts) (w : World) (r : Report) (e : Ending) → ((v : SourceValue) → answer w ≡ Some v → Answers P v)
-    → ((f : SourceFault) → slice_get (faults g w) 0 ≡ Some f → Faulty P f) → (IsQuiet w → IsComplete P g w) → AreSomeNames P r.names
-    → r.answer ≡ answer w → IsSortedOf r.names (names g w) → EndsSo (record { graph = g; count = 0; world = w }) e → SaysTruly P r e
-true_in P g w r Quiet says fails completes some same sorted ends =
-    let done : IsComplete P g w = completes ends in
-    let Q : Option SourceValue → Type 0 = IsAnswer P in
-    (subst Q (sym same) done.answer, AreNames-complete P g w r.names some done sorted, done.no_fault)
-true_in P g w r Stopped says fails completes some same sorted ends = (if_some P r.answer (λ v h. says v (sym same ∙ h)), some)
-true_in P g w r (Fault f) says fails completes some same sorted ends = fails f ends
+true_in : (S : Source) (g : Parts) (w : World) (r : Report) (e : Ending) → ((v : SourceValue) → answer w ≡ Some v → Answers S v)
+    → ((f : SourceFault) → slice_get (faults g w) 0 ≡ Some f → Faulty S f) → (IsQuiet w → IsComplete S g w) → AreSomeNames S r.names
+    → r.answer ≡ answer w → IsSortedOf r.names (names g w) → EndsSo (record { graph = g; count = 0; world = w }) e → SaysTruly S r e
+true_in S g w r Quiet says fails completes some same sorted ends =
+    let done : IsComplete S g w = completes ends in
+    let Q : Option SourceValue → Type 0 = IsAnswer S in
+    (subst Q (sym same) done.answer, AreNames-complete S g w r.names some done sorted, done.no_fault)
+true_in S g w r Stopped says fails completes some same sorted ends = (if_some S r.answer (λ v h. says v (sym same ∙ h)), some)
+true_in S g w r (Fault f) says fails completes some same sorted ends = fails f ends
 
 -- what is known of a report of a machine
 pub record IsReportFrom (m : MachineView) (r : Report) : Type 0 where
@@ -87,16 +87,16 @@ from_world m g n w r same is h =
     ends_at (Fault f) h = h
 
 -- what a report of a run of a schemas' graph says is so
-pub IsTrueOf-laws : (P : Checked) (g : Parts) (count : ℕ) (m : MachineView) (r : Report) → Soundness → QuietIsComplete → Coherence → Schemas P g
-    → IsRunOf (record { graph = g; count = count; world = start g count }) m → IsReportFrom m r → IsTrueOf P r
-IsTrueOf-laws P g count m r sound complete coherent schemas h from =
-    let w : World = run g count h.positions (start g count) in
-    let ok : IsSound P g schemas.number w = sound P g count h.positions schemas in
+pub IsTrueOf-laws : (S : Source) (g : Parts) (count : ℕ) (m : MachineView) (r : Report) → Soundness → QuietIsComplete → Coherence → AreInputs S.checked S.inputs
+    → Schemas S.checked g → IsRunOf (record { graph = g; count = count; world = start g S.inputs count }) m → IsReportFrom m r → IsTrueOf S r
+IsTrueOf-laws S g count m r sound complete coherent inputs schemas h from =
+    let w : World = run g count h.positions (start g S.inputs count) in
+    let ok : IsSound S g schemas.number w = sound S g count h.positions inputs schemas in
     let here : IsReportFrom (record { graph = g; count = 0; world = w }) r = from_world m g 0 w r h.same_graph h.world from in
-    let some : AreSomeNames P r.names =
-    AreSomeNames-sound P g schemas.number w r.names ok here.sorted (here.rise (AreApart-sound P g schemas.number w (coherent P) ok)) in
+    let some : AreSomeNames S r.names =
+    AreSomeNames-sound S g schemas.number w r.names ok here.sorted (here.rise (AreApart-sound S g schemas.number w (coherent S) ok)) in
     record {
-      says = true_in P g w r r.ending ok.answer (λ f k. ok.faults f (among_at f (faults g w) 0 k)) (complete P g count h.positions schemas)
+      says = true_in S g w r r.ending ok.answer (λ f k. ok.faults f (among_at f (faults g w) 0 k)) (complete S g count h.positions inputs schemas)
           some here.answer_is here.sorted here.ends;
       names = some;
     }

@@ -11,26 +11,29 @@ use Rattle.idc.specs.Commands.{Check, List_graph, Facts, Run, Shows, accepted, l
 use Rattle.idc.specs.Programs.{HasProgram}
 use Rattle.id_graph.specs.Listing.{listing}
 use Rattle.id_meaning.specs.declared.Fact.{Fact}
+use Rattle.id_meaning.specs.declared.SourceValue.{SourceValue}
+use Rattle.id_meaning.specs.Sources.{source}
+use Rattle.id_meaning.specs.Inputs.{AreInputsOf}
 use Rattle.id_print.specs.Texts.{facts_text}
 use Rattle.idc.specs.Reports.{IsReportOf, SaysTruly, status_of}
 
 -- the text of a report that is so is what a run shows
-Shows-from_report : (P : Checked) (text : List ℕ) (b : Bool) (r : Report) (e : Ending) → SaysTruly P r e
-    → Shows P text (Run b) (status_of e) (ending_text text r (asked b r.names) e)
-Shows-from_report P text b r Quiet h = quiet r.answer r.names h.0 h.1 h.2
-Shows-from_report P text b r Stopped h = stopped r.answer r.names h.0 h.1
-Shows-from_report P text b r (Fault f) h = fault f h
+Shows-from_report : (P : Checked) (ws : List (List ℕ)) (vs : List SourceValue) (text : List ℕ) (b : Bool) (r : Report) (e : Ending) → AreInputsOf P ws vs
+    → SaysTruly (source P vs) r e → Shows P text (Run b ws) (status_of e) (ending_text text r (asked b r.names) e)
+Shows-from_report P ws vs text b r Quiet i h = quiet r.answer r.names i h.0 h.1 h.2
+Shows-from_report P ws vs text b r Stopped i h = stopped r.answer r.names i h.0 h.1
+Shows-from_report P ws vs text b r (Fault f) i h = fault f i h
 
 -- a printed report of a run of the text's program is shown
-pub HasShown-report : (text : List ℕ) (b : Bool) (old new : Option Told) (r : Report) (status : ℕ) (result : Result (Unit {0}) PrintError)
-    → IsReportOf text r → status ≡ status_of r.ending → Prints old new (report_text text b r) result → HasShown (Run b) text old new status result
-HasShown-report text b old new r status result h same printed =
-    let S : ℕ → Type 0 = λ n. Shows h.program text (Run b) n (report_text text b r) in
+pub HasShown-report : (text : List ℕ) (ws : List (List ℕ)) (b : Bool) (old new : Option Told) (r : Report) (status : ℕ) (result : Result (Unit {0}) PrintError)
+    → IsReportOf text ws r → status ≡ status_of r.ending → Prints old new (report_text text b r) result → HasShown (Run b ws) text old new status result
+HasShown-report text ws b old new r status result h same printed =
+    let S : ℕ → Type 0 = λ n. Shows h.program text (Run b ws) n (report_text text b r) in
     record {
       program = h.program;
       is_program = h.is_program;
       output = report_text text b r;
-      shows = subst S (sym same) (Shows-from_report h.program text b r r.ending h.is_true.says);
+      shows = subst S (sym same) (Shows-from_report h.program ws h.inputs text b r r.ending h.are_inputs h.is_true.says);
       printed = printed;
     }
 
@@ -49,5 +52,5 @@ HasShown-listed text bytes old new result h printed = record {
 }
 
 -- printed facts of a round of the text's program are shown
-pub HasShown-facts : (text : List ℕ) (round : ℕ) (fs : List Fact) (old new : Option Told) (result : Result (Unit {0}) PrintError) → AreFactsOf text round fs → Prints old new (facts_text text fs) result → HasShown (Facts round) text old new 0 result
-HasShown-facts text round fs old new result h printed = record { program = h.program; is_program = h.is_program; output = facts_text text fs; shows = facts h.are; printed = printed }
+pub HasShown-facts : (text : List ℕ) (ws : List (List ℕ)) (round : ℕ) (fs : List Fact) (old new : Option Told) (result : Result (Unit {0}) PrintError) → AreFactsOf text ws round fs → Prints old new (facts_text text fs) result → HasShown (Facts round ws) text old new 0 result
+HasShown-facts text ws round fs old new result h printed = record { program = h.program; is_program = h.is_program; output = facts_text text fs; shows = facts h.are_inputs h.are; printed = printed }

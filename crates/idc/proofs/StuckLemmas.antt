@@ -4,8 +4,8 @@ use Rattle.std.specs.Prelude.{slice_get, option_map}
 use Rattle.id_graph.specs.Graph.{Parts}
 use Rattle.id_tag.specs.declared.Message.{Message}
 use Rattle.id_tag.specs.Routes.{route_of}
-use Rattle.id_check.specs.declared.Checked.{Checked}
 use Rattle.id_meaning.specs.Parts.{Among}
+use Rattle.id_meaning.specs.Sources.{Source, AreInputs}
 use Rattle.id_core.specs.declared.step.Step.{Step}
 use Rattle.id_core.specs.declared.step.Step.TheVariants.{Stuck}
 use Rattle.id_core.specs.Events.{EventView}
@@ -57,26 +57,28 @@ pub goes_on : NeverStuck → (m : MachineView) → IsSoundMachine m → (k : ℕ
 goes_on never m s k x h stuck =
     let found = step_of_event (event_at m.graph m.count m.world k) x h in
     let here : Among found.0 (events_of (delivered m.graph m.count m.world k).elements) = delivered_event m.graph m.count m.world k found.0 found.1 in
-    let is : delivered m.graph m.count m.world k ≡ run m.graph m.count (s.positions ++ k ∷ []) (start m.graph m.count) =
-    ap (λ w. delivered m.graph m.count w k) s.world ∙ sym (run-append m.graph m.count s.positions (k ∷ []) (start m.graph m.count)) in
+    let is : delivered m.graph m.count m.world k ≡ run m.graph m.count (s.positions ++ k ∷ []) (start m.graph (s.origin).inputs m.count) =
+    ap (λ w. delivered m.graph m.count w k) s.world ∙ sym (run-append m.graph m.count s.positions (k ∷ []) (start m.graph (s.origin).inputs m.count)) in
     let Q : World → Type 0 = λ w. Among found.0 (events_of w.elements) in
-    (never s.program m.graph m.count (s.positions ++ k ∷ []) s.schemas).goes_on found.0 (subst Q is here) (found.2 ∙ stuck)
+    (never s.origin m.graph m.count (s.positions ++ k ∷ []) s.inputs s.schemas).goes_on found.0 (subst Q is here) (found.2 ∙ stuck)
 
 -- a run of a machine that runs a schemas' graph runs it
 pub IsSoundMachine-run : (a b : MachineView) → IsSoundMachine a → IsRunOf a b → IsSoundMachine b
 IsSoundMachine-run a b s h =
-    let G : Parts → Type 0 = λ g. Schemas s.program g in
+    let G : Parts → Type 0 = λ g. Schemas (s.origin).checked g in
     record {
-      program = s.program;
+      origin = s.origin;
+      inputs = s.inputs;
       schemas = subst G (sym h.same_graph) s.schemas;
       positions = s.positions ++ h.positions;
-      world = h.world ∙ ap (λ w. run a.graph a.count h.positions w) s.world ∙ sym (run-append a.graph a.count s.positions h.positions (start a.graph a.count))
-          ∙ ap (λ g. run g a.count (s.positions ++ h.positions) (start g a.count)) (sym h.same_graph)
-          ∙ ap (λ n. run b.graph n (s.positions ++ h.positions) (start b.graph n)) (sym h.same_count);
+      world = h.world ∙ ap (λ w. run a.graph a.count h.positions w) s.world ∙ sym (run-append a.graph a.count s.positions h.positions (start a.graph (s.origin).inputs a.count))
+          ∙ ap (λ g. run g a.count (s.positions ++ h.positions) (start g (s.origin).inputs a.count)) (sym h.same_graph)
+          ∙ ap (λ n. run b.graph n (s.positions ++ h.positions) (start b.graph (s.origin).inputs n)) (sym h.same_count);
     }
 
 -- a machine at the start of a schemas' graph runs it
-pub IsSoundMachine-start : (P : Checked) (g : Parts) (count : ℕ) (m : MachineView) → m ≡ record { graph = g; count = count; world = start g count } → Schemas P g → IsSoundMachine m
-IsSoundMachine-start P g count m is schemas =
+pub IsSoundMachine-start : (S : Source) (g : Parts) (count : ℕ) (m : MachineView) → m ≡ record { graph = g; count = count; world = start g S.inputs count }
+    → AreInputs S.checked S.inputs → Schemas S.checked g → IsSoundMachine m
+IsSoundMachine-start S g count m is inputs schemas =
     let Q : MachineView → Type 0 = IsSoundMachine in
-    subst Q (sym is) (record { program = P; schemas = schemas; positions = []; world = refl })
+    subst Q (sym is) (record { origin = S; inputs = inputs; schemas = schemas; positions = []; world = refl })

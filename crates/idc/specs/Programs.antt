@@ -1,10 +1,12 @@
 -- The program of a text (docs/PROMISES.md, "The engine").
-use Rattle.std.specs.Prelude.{◌≤◌, ◌<◌, ℕ, List}
+use Rattle.std.specs.Prelude.{◌≡◌, ◌≤◌, ◌<◌, ℕ, List, Some, slice_get}
 use Rattle.id_text.specs.declared.token.Token.{Token}
 use Rattle.id_text.specs.declared.token.TextError.{TextError}
 use Rattle.id_text.specs.Lexes.{Lexes, IsRefusal}
 use Rattle.id_text.specs.Lexes.Ending.{Whole}
 use Rattle.id_tree.specs.declared.tree.TreeError.{TreeError}
+use Rattle.id_tree.specs.declared.tree.Param.{Param}
+use Rattle.id_tree.specs.declared.tree.Def.{Def}
 use Rattle.id_tree.specs.declared.tree.Program.{Program}
 use Rattle.id_tree.specs.Tree.{program_tree}
 use Rattle.id_tree.specs.Distinct.{HasPlace}
@@ -13,6 +15,9 @@ use Rattle.id_check.specs.Main.{IsMain}
 use Rattle.id_check.specs.Causes.{IsRefusedFor}
 use Rattle.id_check.specs.declared.Checked.{Checked}
 use Rattle.id_check.specs.declared.CheckCause.{CheckCause}
+use Rattle.id_meaning.specs.declared.SourceValue.{SourceValue}
+use Rattle.id_meaning.specs.Parts as part
+use Rattle.id_meaning.specs.Inputs.{AreInputsOf}
 use Rattle.id_build.specs.declared.error.TheConstants.{MAX_INSTRUCTIONS}
 use Rattle.id_build.specs.Schemas.{size}
 use Rattle.idc.specs.declared.compile.CompileError.{CompileError}
@@ -29,6 +34,22 @@ pub record IsProgramOf (text : List ℕ) (P : Checked) : Type 0 where
 pub record HasProgram (text : List ℕ) : Type 0 where
   pub program : Checked
   pub is_program : IsProgramOf text program
+
+-- the text has a program of which a graph can be built, and the words give inputs to it
+pub record HasInputs (text : List ℕ) (words : List (List ℕ)) : Type 0 where
+  pub program : Checked
+  pub is_program : IsProgramOf text program
+  pub small : size program ≤ MAX_INSTRUCTIONS
+  pub inputs : List SourceValue
+  pub are_inputs : AreInputsOf program words inputs
+
+-- the parameter of `main` of this number has this name
+pub record IsNameOfParam (P : Checked) (number : ℕ) (name : List ℕ) : Type 0 where
+  pub main : Def
+  pub is_main : part.IsMain P main
+  pub param : Param
+  pub at : slice_get main.params number ≡ Some param
+  pub is : name ≡ param.name
 
 -- the places of the program's things are at most so many bytes in
 pub record IsPlacedWithin (size : ℕ) (P : Checked) : Type 0 where

@@ -81,7 +81,7 @@ fn inputs_argument<'a>(alloc: Global) -> Arg<'a> {
     Arg::new(alloc, "INPUT")
         .value_name("NAME=VALUE")
         .num_args(0..)
-        .help("The inputs of main, which has none yet")
+        .help("A value for the parameter of main with that name")
 }
 
 /// The command `check`.

@@ -1,15 +1,16 @@
 //! The commands that run nothing: whether a text is accepted, its graph, its facts.
 
-ghost use Rattle.std.specs.Prelude.{◌≡◌, ◌≢◌, ◌≤◌, length, All, IfOk, IfErr, OnOk, string_bytes};
+ghost use Rattle.std.specs.Prelude.{◌≡◌, ◌≢◌, ◌≤◌, length, map, All, IfOk, IfErr, OnOk, string_bytes};
 ghost use Rattle.id_text.specs.declared.token.TheConstants.{MAX_BYTES};
 ghost use Rattle.id_graph.specs.Listing.{listing};
 ghost use Rattle.id_print.specs.Within.{FactsWithin};
 ghost use Rattle.idc.specs.Commands.{AreFactsOf, Check, Facts, IsListingOf, List_graph, ShowsAll, ShowsFront};
-ghost use Rattle.idc.specs.Programs.{HasProgram};
+ghost use Rattle.idc.specs.Programs.{HasInputs, HasProgram};
 ghost use Rattle.idc.specs.Refusals.{AreRefusedFacts, IsInsideOf, IsRefusedText};
 
 use crate::compile::{Compiled, compile};
 use crate::engine::EngineError;
+use crate::prepared::prepare;
 use id_graph::list;
 use id_meaning::{Fact, RoundsError, rounds};
 use id_print::{Sink, put, write_facts};
@@ -90,7 +91,7 @@ fn list_compiled(alloc: Global, compiled: &Compiled, text: &str) -> Result<Strin
     }
 }
 
-/// Writes the facts of a round of the text, a line for each.
+/// Writes the facts of a round of the text on these input words, a line for each.
 pub fn facts_text<W: Sink>(
     alloc: Global,
     text: &str,
@@ -98,11 +99,11 @@ pub fn facts_text<W: Sink>(
     round: u32,
     out: &mut W,
 ) -> Result<(), EngineError>
-    ensures shown { OnOk result (ShowsAll (Facts round) text.now (W.told out.old) (W.told out.new) 0) }
-    ensures cut { result ≡ Err EngineError.Write → ShowsFront (Facts round) text.now (W.told out.old) (W.told out.new) }
+    ensures shown { OnOk result (ShowsAll (Facts round (map (λ w. w.now) inputs.now)) text.now (W.told out.old) (W.told out.new) 0) }
+    ensures cut { result ≡ Err EngineError.Write → ShowsFront (Facts round (map (λ w. w.now) inputs.now)) text.now (W.told out.old) (W.told out.new) }
     ensures silent { IfErr result (λ e. e ≢ EngineError.Write → W.told out.new ≡ W.told out.old) }
-    ensures no_words { OnOk result (length inputs.now ≡ 0) }
-    ensures refused { IfErr result (AreRefusedFacts text.now (length inputs.now) round) }
+    ensures inputs { OnOk result (HasInputs text.now (map (λ w. w.now) inputs.now)) }
+    ensures refused { IfErr result (AreRefusedFacts text.now (map (λ w. w.now) inputs.now) round) }
     ensures inside { IfErr result (IsInsideOf text.now) }
 {
     let facts = facts_of(alloc, text, inputs, round)?;
@@ -112,29 +113,26 @@ pub fn facts_text<W: Sink>(
     }
 }
 
-/// The facts of a round of the text.
+/// The facts of a round of the text on these input words.
 fn facts_of(
     alloc: Global,
     text: &str,
     inputs: &[&str],
     round: u32,
 ) -> Result<Vec<Fact>, EngineError>
-    ensures facts { IfOk result (λ v. AreFactsOf text.now round v.items) }
+    ensures facts { IfOk result (λ v. AreFactsOf text.now (map (λ w. w.now) inputs.now) round v.items) }
     ensures within { IfOk result (λ v. FactsWithin (length text.now) v.items) }
     ensures short { OnOk result (length text.now ≤ MAX_BYTES) }
-    ensures no_words { OnOk result (length inputs.now ≡ 0) }
-    ensures refused { IfErr result (AreRefusedFacts text.now (length inputs.now) round) }
+    ensures inputs { OnOk result (HasInputs text.now (map (λ w. w.now) inputs.now)) }
+    ensures refused { IfErr result (AreRefusedFacts text.now (map (λ w. w.now) inputs.now) round) }
     ensures inside { IfErr result (IsInsideOf text.now) }
     ensures not_write { IfErr result (λ e. e ≢ EngineError.Write) }
 {
-    let compiled = match compile(alloc, text) {
-        Ok(compiled) => compiled,
-        Err(error) => return Err(EngineError::Compile(error)),
+    let prepared = match prepare(alloc, text, inputs) {
+        Ok(prepared) => prepared,
+        Err(error) => return Err(error),
     };
-    if !inputs.is_empty() {
-        return Err(EngineError::UnknownInput);
-    }
-    match rounds(alloc, &compiled.checked, round) {
+    match rounds(alloc, &prepared.compiled.checked, &prepared.inputs, round) {
         Ok(facts) => Ok(facts),
         Err(RoundsError::BadRounds) => Err(EngineError::BadRounds),
         Err(RoundsError::TooManyFacts) => Err(EngineError::TooManyFacts),

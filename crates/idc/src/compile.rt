@@ -2,7 +2,8 @@
 
 ghost use Rattle.std.specs.Prelude.{◌≡◌, ◌≤◌, length, IfErr, IfOk, OnOk};
 ghost use Rattle.id_text.specs.declared.token.TheConstants.{MAX_BYTES};
-ghost use Rattle.id_build.specs.Schemas.{Schemas};
+ghost use Rattle.id_build.specs.declared.error.TheConstants.{MAX_INSTRUCTIONS};
+ghost use Rattle.id_build.specs.Schemas.{Schemas, size};
 ghost use Rattle.id_valid.specs.Validator.{TellsFault};
 ghost use Rattle.idc.specs.Programs.{IsProgramOf, IsPlacedWithin, IsRefusedBy};
 ghost use Rattle.idc.specs.Refusals.{IsCauseInside};
@@ -29,7 +30,7 @@ pub enum CompileError {
     Text(TextError),
     /// The tokens have no tree: refusals 5 and 6.
     Tree(TreeError),
-    /// The program is refused: refusals 7, 9 and 10.
+    /// The program is refused: refusals 7 to 10, 12 and 13.
     Check(CheckCause),
     /// The graph would have more than 1,000,000 instructions: refusal 14.
     TooLarge,
@@ -88,6 +89,7 @@ fn valid_of(alloc: Global, checked: &Checked, graph: Graph) -> Result<Valid, Com
 pub fn compile(alloc: Global, text: &str) -> Result<Compiled, CompileError>
     ensures program { IfOk result (λ c. IsProgramOf text.now c.checked) }
     ensures graph { IfOk result (λ c. Schemas c.checked c.valid) }
+    ensures small { IfOk result (λ c. size c.checked ≤ MAX_INSTRUCTIONS) }
 
     // What the printers rest on.
     ensures within { IfOk result (λ c. IsPlacedWithin (length text.now) c.checked) }

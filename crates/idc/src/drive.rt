@@ -1,17 +1,18 @@
 //! The whole program over any source of texts and any sinks.
 
-ghost use Rattle.std.specs.Prelude.{◌≡◌, ◌≢◌, IfErr, IfOk, IfSome};
+ghost use Rattle.std.specs.Prelude.{◌≡◌, ◌≢◌, map, IfErr, IfOk, IfSome};
 ghost use Rattle.std.specs.Option.{option_copied};
 ghost use Rattle.idc.specs.Commands.{ShowsAll, ShowsFront};
 ghost use Rattle.idc.specs.Refusals.{IsInside, IsInsideOf, IsPrintedRefusal, status_of};
-ghost use Rattle.idc.specs.Served.{IsRefusedRequest, Serves, command_of};
+ghost use Rattle.idc.specs.Served.{IsRefusedRequest, Serves, command_of, words_of};
 
 use crate::cli::{Request, Unasked, read_words};
 use crate::commands::{check_text, facts_text, graph_text};
 use crate::engine::{EngineError, engine};
-use crate::refusal::{Cause, of_engine_error, of_source_fault, put_refusal};
+use crate::refusal::{Cause, kinds_of, of_engine_error, of_source_fault, put_refusal, word_of};
 use crate::source::Source;
 use id_print::{Sink, put};
+use id_tree::Kind;
 use std::alloc::Global;
 use std::convert::AsStr;
 
@@ -22,29 +23,30 @@ const BAD_WORDS: u8 = 4;
 fn refuse<E: Sink>(
     cause: Cause,
     at: Option<usize>,
+    kinds: Option<(Kind, Kind)>,
     word: Option<&str>,
     text: &str,
     err: &mut E,
 ) -> u8
     requires { IfSome at (IsInside text.now) }
     ensures status { result ≡ status_of cause }
-    ensures printed { IsPrintedRefusal text.now cause at (option_copied word.entry) (E.told err.old) (E.told err.new) }
+    ensures printed { IsPrintedRefusal text.now cause at kinds (option_copied word.entry) (E.told err.old) (E.told err.new) }
 {
-    let _ = put_refusal(cause, at, word, text, err);
+    let _ = put_refusal(cause, at, kinds, word, text, err);
     cause.status()
 }
 
 /// Answers words that ask for nothing.
 fn answer_unasked<O: Sink, E: Sink>(unasked: Unasked, out: &mut O, err: &mut E) -> u8 {
     match unasked {
-        Unasked::Memory => refuse(Cause::Memory, None, None, "", err),
+        Unasked::Memory => refuse(Cause::Memory, None, None, None, "", err),
         Unasked::Refused(text) => {
             let _ = put(err, text.as_str().as_bytes());
             BAD_WORDS
         }
         Unasked::Help(text) => match put(out, text.as_str().as_bytes()) {
             Ok(()) => 0,
-            Err(_) => refuse(Cause::Write, None, None, "", err),
+            Err(_) => refuse(Cause::Write, None, None, None, "", err),
         },
     }
 }
@@ -87,12 +89,13 @@ fn print_asked<O: Sink>(
     }
 }
 
-/// The input word that an error is about.
-fn word_of<'a>(request: &Request<'a>, error: EngineError) -> Option<&'a str> {
-    match (request, error) {
-        (Request::Run { inputs, .. } | Request::Facts { inputs, .. }, EngineError::UnknownInput) =>
-            inputs.first().copied(),
-        _ => None,
+/// The words of a request's inputs.
+fn words_of<'a>(request: &'a Request<'a>) -> &'a [&'a str]
+    ensures { map (λ w. w.now) result.now ≡ words_of request.now }
+{
+    match request {
+        Request::Run { inputs, .. } | Request::Facts { inputs, .. } => inputs.as_slice(),
+        Request::Check { .. } | Request::Graph { .. } => &[],
     }
 }
 
@@ -109,8 +112,9 @@ pub fn serve<O: Sink, E: Sink>(
     match print_asked(alloc, request, text, out) {
         Ok(status) => status,
         Err(error) => {
-            let (cause, at) = of_engine_error(error);
-            refuse(cause, at, word_of(request, error), text, err)
+            let (cause, at) = of_engine_error(&error);
+            let word = word_of(words_of(request), &error);
+            refuse(cause, at, kinds_of(&error), word, text, err)
         }
     }
 }
@@ -135,7 +139,7 @@ fn serve_file<S: Source, O: Sink, E: Sink>(
 ) -> u8 {
     match source.read(alloc, file_of(request)) {
         Ok(text) => serve(alloc, request, text.as_str(), out, err),
-        Err(fault) => refuse(of_source_fault(fault), None, None, "", err),
+        Err(fault) => refuse(of_source_fault(fault), None, None, None, "", err),
     }
 }
 

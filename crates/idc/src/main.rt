@@ -11,6 +11,7 @@ mod commands;
 mod compile;
 mod drive;
 mod engine;
+mod prepared;
 mod refusal;
 mod source;
 mod stream;

@@ -1,10 +1,10 @@
 //! The lines of refusals. Each cause gets its number, name and status here and nowhere else.
 
-ghost use Rattle.std.specs.Prelude.{◌≡◌, ◌++◌, codes, decimal, IfSome};
+ghost use Rattle.std.specs.Prelude.{◌≡◌, ◌++◌, codes, decimal, map, IfSome};
 ghost use Rattle.id_print.specs.Texts.{place_text};
 ghost use Rattle.std.specs.Option.{option_copied};
 ghost use Rattle.id_print.specs.Told.{Prints};
-ghost use Rattle.idc.specs.Refusals.{at_text, cause_text, checker_cause, compiler_cause, engine_cause, IsInside, lexer_cause, name_of, number_of, number_text, parser_cause, refusal_text, source_cause, status_of, word_text};
+ghost use Rattle.idc.specs.Refusals.{at_text, cause_text, checker_cause, compiler_cause, engine_cause, IsInside, kind_text, kinds_of, kinds_text, lexer_cause, name_of, number_of, number_text, parser_cause, refusal_text, source_cause, status_of, word_of, word_text};
 
 use crate::compile::CompileError;
 use crate::engine::EngineError;
@@ -12,7 +12,7 @@ use crate::source::SourceFault;
 use id_check::CheckCause;
 use id_print::{PrintError, Sink, put, put_number, put_place};
 use id_text::TextError;
-use id_tree::TreeError;
+use id_tree::{Kind, TreeError};
 
 /// Why there is no answer.
 #[derive(Clone, Copy, Debug, PartialEq, Eq)]
@@ -24,10 +24,16 @@ pub enum Cause {
     Unexpected,
     TooDeep,
     NoMain,
+    MainKind,
     Duplicate,
     Unknown,
+    WrongKind,
+    TooManyParams,
     TooLarge,
+    MissingInput,
     UnknownInput,
+    RepeatedInput,
+    BadInput,
     BadSteps,
     BadRounds,
     TooManyFacts,
@@ -48,10 +54,16 @@ impl Cause {
             Cause::Unexpected => Some(5),
             Cause::TooDeep => Some(6),
             Cause::NoMain => Some(7),
+            Cause::MainKind => Some(8),
             Cause::Duplicate => Some(9),
             Cause::Unknown => Some(10),
+            Cause::WrongKind => Some(12),
+            Cause::TooManyParams => Some(13),
             Cause::TooLarge => Some(14),
+            Cause::MissingInput => Some(15),
             Cause::UnknownInput => Some(16),
+            Cause::RepeatedInput => Some(17),
+            Cause::BadInput => Some(18),
             Cause::BadSteps => Some(20),
             Cause::BadRounds => Some(24),
             Cause::TooManyFacts => Some(25),
@@ -71,10 +83,16 @@ impl Cause {
             Cause::Unexpected => b"Unexpected",
             Cause::TooDeep => b"TooDeep",
             Cause::NoMain => b"NoMain",
+            Cause::MainKind => b"MainKind",
             Cause::Duplicate => b"Duplicate",
             Cause::Unknown => b"Unknown",
+            Cause::WrongKind => b"WrongKind",
+            Cause::TooManyParams => b"TooManyParams",
             Cause::TooLarge => b"TooLarge",
+            Cause::MissingInput => b"MissingInput",
             Cause::UnknownInput => b"UnknownInput",
+            Cause::RepeatedInput => b"RepeatedInput",
+            Cause::BadInput => b"BadInput",
             Cause::BadSteps => b"BadSteps",
             Cause::BadRounds => b"BadRounds",
             Cause::TooManyFacts => b"TooManyFacts",
@@ -94,10 +112,16 @@ impl Cause {
             | Cause::Unexpected
             | Cause::TooDeep
             | Cause::NoMain
+            | Cause::MainKind
             | Cause::Duplicate
             | Cause::Unknown
+            | Cause::WrongKind
+            | Cause::TooManyParams
             | Cause::TooLarge
-            | Cause::UnknownInput => 2,
+            | Cause::MissingInput
+            | Cause::UnknownInput
+            | Cause::RepeatedInput
+            | Cause::BadInput => 2,
             Cause::TooManyFacts => 3,
             Cause::BadSteps | Cause::BadRounds => 4,
             Cause::File | Cause::Memory | Cause::Write => 5,
@@ -134,8 +158,11 @@ fn of_check_cause(cause: CheckCause) -> (Cause, Option<usize>)
 {
     match cause {
         CheckCause::NoMain => (Cause::NoMain, None),
+        CheckCause::MainKind { at } => (Cause::MainKind, Some(at)),
         CheckCause::Duplicate { at } => (Cause::Duplicate, Some(at)),
         CheckCause::Unknown { at } => (Cause::Unknown, Some(at)),
+        CheckCause::WrongKind { at, .. } => (Cause::WrongKind, Some(at)),
+        CheckCause::TooManyParams { at } => (Cause::TooManyParams, Some(at)),
         CheckCause::Memory => (Cause::Memory, None),
     }
 }
@@ -154,12 +181,15 @@ fn of_compile_error(error: CompileError) -> (Cause, Option<usize>)
 }
 
 /// The cause of an error of a command, and its place in the text.
-pub fn of_engine_error(error: EngineError) -> (Cause, Option<usize>)
-    ensures { result ≡ engine_cause error }
+pub fn of_engine_error(error: &EngineError) -> (Cause, Option<usize>)
+    ensures { result ≡ engine_cause error.now }
 {
     match error {
-        EngineError::Compile(error) => of_compile_error(error),
-        EngineError::UnknownInput => (Cause::UnknownInput, None),
+        EngineError::Compile(error) => of_compile_error(*error),
+        EngineError::MissingInput { .. } => (Cause::MissingInput, None),
+        EngineError::UnknownInput { .. } => (Cause::UnknownInput, None),
+        EngineError::RepeatedInput { .. } => (Cause::RepeatedInput, None),
+        EngineError::BadInput { .. } => (Cause::BadInput, None),
         EngineError::BadSteps => (Cause::BadSteps, None),
         EngineError::BadRounds => (Cause::BadRounds, None),
         EngineError::TooManyFacts => (Cause::TooManyFacts, None),
@@ -176,6 +206,30 @@ pub fn of_source_fault(fault: SourceFault) -> Cause
         SourceFault::TooLong => Cause::TooLong,
         SourceFault::File => Cause::File,
         SourceFault::Memory => Cause::Memory,
+    }
+}
+
+/// The kinds that a refusal tells of: the wanted one and the one that is found.
+pub fn kinds_of(error: &EngineError) -> Option<(Kind, Kind)>
+    ensures { result ≡ kinds_of error.now }
+{
+    match error {
+        EngineError::Compile(CompileError::Check(CheckCause::WrongKind { wanted, found, .. })) =>
+            Some((*wanted, *found)),
+        _ => None,
+    }
+}
+
+/// The word that a refusal tells of: one of these words of the inputs, or a parameter's name.
+pub fn word_of<'a>(words: &'a [&'a str], error: &'a EngineError) -> Option<&'a str>
+    ensures { option_copied result ≡ word_of (map (λ w. w.now) words.now) error.now }
+{
+    match error {
+        EngineError::MissingInput { param } => Some(param.as_str()),
+        EngineError::UnknownInput { word }
+        | EngineError::RepeatedInput { word }
+        | EngineError::BadInput { word } => words.get(*word).copied(),
+        _ => None,
     }
 }
 
@@ -243,35 +297,74 @@ fn put_word<W: Sink>(word: Option<&str>, sink: &mut W) -> Result<(), PrintError>
     }
 }
 
+/// The name of a kind.
+fn kind_name(kind: Kind) -> &'static [u8]
+    ensures { result.now ≡ kind_text kind }
+{
+    match kind {
+        Kind::Int => b"int",
+        Kind::Bool => b"bool",
+        Kind::Array => b"array",
+    }
+}
+
+fn put_kind<W: Sink>(kind: Kind, sink: &mut W) -> Result<(), PrintError>
+    ensures { Prints (W.told sink.old) (W.told sink.new) (kind_text kind) result }
+{
+    put(sink, kind_name(kind))
+}
+
+fn put_wanted<W: Sink>(wanted: Kind, found: Kind, sink: &mut W) -> Result<(), PrintError>
+    ensures { Prints (W.told sink.old) (W.told sink.new)
+        (codes " wanted " ++ (kind_text wanted ++ (codes " found " ++ kind_text found))) result }
+{
+    put(sink, b" wanted ")?;
+    put_kind(wanted, sink)?;
+    put(sink, b" found ")?;
+    put_kind(found, sink)
+}
+
+fn put_kinds<W: Sink>(kinds: Option<(Kind, Kind)>, sink: &mut W) -> Result<(), PrintError>
+    ensures { Prints (W.told sink.old) (W.told sink.new) (kinds_text kinds) result }
+{
+    match kinds {
+        Some((wanted, found)) => put_wanted(wanted, found, sink),
+        None => Ok(()),
+    }
+}
+
 fn put_details<W: Sink>(
     at: Option<usize>,
+    kinds: Option<(Kind, Kind)>,
     word: Option<&str>,
     text: &str,
     sink: &mut W,
 ) -> Result<(), PrintError>
     requires { IfSome at (IsInside text.now) }
     ensures { Prints (W.told sink.old) (W.told sink.new)
-        (at_text text.now at ++ (word_text (option_copied word.entry) ++ codes "\n")) result }
+        (at_text text.now at ++ (kinds_text kinds ++ (word_text (option_copied word.entry) ++ codes "\n"))) result }
 {
     put_at(at, text, sink)?;
+    put_kinds(kinds, sink)?;
     put_word(word, sink)?;
     put(sink, b"\n")
 }
 
-/// Writes the line of a refusal for a cause, at a place of the text, where it has one, or for an input
-/// word. Takes no memory.
+/// Writes the line of a refusal for a cause: at a place of the text, with the kind that is wanted and the one
+/// that is found, and for an input word or a name, where it has these. Takes no memory.
 pub fn put_refusal<W: Sink>(
     cause: Cause,
     at: Option<usize>,
+    kinds: Option<(Kind, Kind)>,
     word: Option<&str>,
     text: &str,
     sink: &mut W,
 ) -> Result<(), PrintError>
     requires { IfSome at (IsInside text.now) }
     ensures { Prints (W.told sink.old) (W.told sink.new)
-        (refusal_text text.now cause at (option_copied word.entry)) result }
+        (refusal_text text.now cause at kinds (option_copied word.entry)) result }
 {
     put(sink, b"refused")?;
     put_cause(cause, sink)?;
-    put_details(at, word, text, sink)
+    put_details(at, kinds, word, text, sink)
 }

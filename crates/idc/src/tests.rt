@@ -331,3 +331,202 @@ fn prints_the_facts_of_a_round(rt: HostRuntime) {
     let unknown = "refused 16 UnknownInput n=1\n";
     expect(&rt, sum, &["facts", "text.id", "4", "n=1"], 2, "", unknown);
 }
+
+const INCREASED: &str = "def main(n: int): int = n + 1;";
+
+#[test]
+fn prints_the_facts_on_inputs(rt: HostRuntime) {
+    for (round, out) in [
+        ("0", ""),
+        ("1", "on @1:27\nhas @1:10 = -3\n"),
+        ("2", "on @1:25\non @1:27\non @1:29\nhas @1:10 = -3\n"),
+        (
+            "4",
+            "on @1:25\non @1:27\non @1:29\nhas @1:10 = -3\nhas @1:25 = -3\nhas @1:27 = -2\nhas @1:29 = 1\n",
+        ),
+    ] {
+        let words = ["facts", "text.id", round, "n=-3"];
+        expect(&rt, INCREASED, &words, 0, out, "");
+    }
+    let negated = "def main(p: bool): bool = not p;";
+    let facts = "on @1:27\non @1:31\nhas @1:10 = true\nhas @1:27 = false\nhas @1:31 = true\n";
+    let words = ["facts", "text.id", "4", "p=true"];
+    expect(&rt, negated, &words, 0, facts, "");
+    let bad = "refused 18 BadInput p=2\n";
+    expect(&rt, negated, &["facts", "text.id", "4", "p=2"], 2, "", bad);
+    let missing = "refused 15 MissingInput n\n";
+    expect(&rt, INCREASED, &["facts", "text.id", "4"], 2, "", missing);
+}
+
+const SAME: &str = "def main(n: int): int = n;";
+
+#[test]
+fn reads_numbers_as_inputs(rt: HostRuntime) {
+    for (word, out) in [
+        ("n=5", "answer 5\n"),
+        ("n=007", "answer 7\n"),
+        ("n=-0", "answer 0\n"),
+        ("n=9223372036854775807", "answer 9223372036854775807\n"),
+        ("n=-9223372036854775808", "answer -9223372036854775808\n"),
+    ] {
+        expect(&rt, SAME, &["run", "text.id", word], 0, out, "");
+    }
+}
+
+#[test]
+fn refuses_one_word(rt: HostRuntime) {
+    for (word, line) in [
+        ("m=1", "refused 16 UnknownInput m=1\n"),
+        ("N=1", "refused 16 UnknownInput N=1\n"),
+        ("n", "refused 16 UnknownInput n\n"),
+        ("=", "refused 16 UnknownInput =\n"),
+        ("=n=5", "refused 16 UnknownInput =n=5\n"),
+        ("", "refused 16 UnknownInput \n"),
+        ("n=", "refused 18 BadInput n=\n"),
+        ("n==1", "refused 18 BadInput n==1\n"),
+        ("n=-", "refused 18 BadInput n=-\n"),
+        ("n=+1", "refused 18 BadInput n=+1\n"),
+        ("n= 5", "refused 18 BadInput n= 5\n"),
+        ("n=true", "refused 18 BadInput n=true\n"),
+        (
+            "n=9223372036854775808",
+            "refused 18 BadInput n=9223372036854775808\n",
+        ),
+        (
+            "n=-9223372036854775809",
+            "refused 18 BadInput n=-9223372036854775809\n",
+        ),
+    ] {
+        expect(&rt, SAME, &["run", "text.id", word], 2, "", line);
+    }
+}
+
+#[test]
+fn refuses_words_from_left_to_right(rt: HostRuntime) {
+    let cases: [(&[&str], &str); 6] = [
+        (&["run", "text.id"], "refused 15 MissingInput n\n"),
+        (
+            &["run", "text.id", "n=5", "n=5"],
+            "refused 17 RepeatedInput n=5\n",
+        ),
+        (
+            &["run", "text.id", "n=5", "n=x"],
+            "refused 17 RepeatedInput n=x\n",
+        ),
+        (
+            &["run", "text.id", "n=x", "m=1"],
+            "refused 18 BadInput n=x\n",
+        ),
+        (
+            &["run", "text.id", "m=1", "n=x"],
+            "refused 16 UnknownInput m=1\n",
+        ),
+        (
+            &["run", "text.id", "n=5", "m=1", "n=x"],
+            "refused 16 UnknownInput m=1\n",
+        ),
+    ];
+    for (words, line) in cases {
+        expect(&rt, SAME, words, 2, "", line);
+    }
+    let text = "def main(a: int, b: bool): int = a;";
+    for (word, line) in [
+        ("b=true", "refused 15 MissingInput a\n"),
+        ("a=7", "refused 15 MissingInput b\n"),
+        ("b=7", "refused 18 BadInput b=7\n"),
+    ] {
+        expect(&rt, text, &["run", "text.id", word], 2, "", line);
+    }
+    let unknown = "refused 10 Unknown at 1:25\n";
+    let unbound = "def main(n: int): int = x;";
+    expect(&rt, unbound, &["run", "text.id", "m=1"], 2, "", unknown);
+}
+
+/// `n=`, and then so many digits.
+fn long_word(alloc: Global, digits: usize) -> Result<String, AllocError> {
+    let mut word = String::from_str(alloc, "n=")?;
+    for _ in 0..digits {
+        word.push_str("9")?;
+    }
+    Ok(word)
+}
+
+#[test]
+fn refuses_a_word_of_100_000_bytes(rt: HostRuntime) -> Result<(), Fail> {
+    let alloc = rt.alloc();
+    let word = long_word(alloc, 99_998)?;
+    let line = format!(in alloc; "refused 18 BadInput {word}\n")?;
+    let words = ["run", "text.id", word.as_str()];
+    expect(&rt, SAME, &words, 2, "", line.as_str());
+    Ok(())
+}
+
+#[test]
+fn takes_truth_values_and_compares(rt: HostRuntime) {
+    let text = "def main(p: bool): bool = p and not p;";
+    for (word, status, out, err) in [
+        ("p=true", 0, "answer false\n", ""),
+        ("p=false", 0, "answer false\n", ""),
+        ("p=1", 2, "", "refused 18 BadInput p=1\n"),
+        ("p=True", 2, "", "refused 18 BadInput p=True\n"),
+        ("p=", 2, "", "refused 18 BadInput p=\n"),
+    ] {
+        expect(&rt, text, &["run", "text.id", word], status, out, err);
+    }
+    let words = ["run", "text.id", "a=-2"];
+    let below = "def main(a: int): bool = a < -1;";
+    expect(&rt, below, &words, 0, "answer true\n", "");
+    let arrow = "def main(a: int): bool = a<-1;";
+    expect(&rt, arrow, &words, 2, "", "refused 5 Unexpected at 1:27\n");
+    let differ = "def main(a: int, b: int): bool = a <> b;";
+    let words = ["run", "text.id", "b=1", "a=2", "--names"];
+    let out = "answer true\nname @1:10 = 2\nname @1:18 = 1\n";
+    expect(&rt, differ, &words, 0, out, "");
+}
+
+#[test]
+fn stops_at_a_fault_of_inputs(rt: HostRuntime) {
+    let text = "def main(a: int, b: int): int = a div b;";
+    let fault = "fault division by zero at @1:35\n";
+    let words = ["run", "text.id", "a=1", "b=0"];
+    expect(&rt, text, &words, 1, fault, "");
+}
+
+#[test]
+fn refuses_kinds_and_parameters(rt: HostRuntime) {
+    for (text, line) in [
+        (
+            "def main(a: array): int = 0;",
+            "refused 8 MainKind at 1:10\n",
+        ),
+        (
+            "def main(a: int, a: bool): int = a;",
+            "refused 9 Duplicate at 1:18\n",
+        ),
+        (
+            "def main(): int = 1 + true;",
+            "refused 12 WrongKind at 1:23 wanted int found bool\n",
+        ),
+        (
+            "def main(): bool = 1;",
+            "refused 12 WrongKind at 1:20 wanted bool found int\n",
+        ),
+        (
+            "def p(p0: int, p1: int, p2: int, p3: int, p4: int, p5: int, p6: int, p7: int, p8: int, p9: int, p10: int, p11: int, p12: int, p13: int, p14: int, p15: int, p16: int): int = 0;",
+            "refused 13 TooManyParams at 1:5\n",
+        ),
+    ] {
+        expect(&rt, text, RUN, 2, "", line);
+    }
+}
+
+#[test]
+fn checks_texts_with_parameters_without_inputs(rt: HostRuntime) {
+    expect(&rt, SAME, &["check", "text.id"], 0, "ok\n", "");
+    let listing = "0 merge int @1:5 ->
+1 merge signal @1:5 ->
+2 back int @1:5 ->
+3 merge int @1:10 -> 2.1
+";
+    expect(&rt, SAME, &["graph", "text.id"], 0, listing, "");
+}
