@@ -145,7 +145,7 @@ fn names_the_first_faulty_instruction(rt: HostRuntime) -> Result<(), Fail> {
             Err(invalid) => {
                 let found = match invalid.cause {
                     InvalidCause::Faulty { instr } => Some(instr),
-                    InvalidCause::Memory => None,
+                    InvalidCause::Memory => panic!(rt; "out of memory: {why}"),
                 };
                 assert_eq!(rt; found, fault, "{why}");
                 assert_eq!(rt; invalid.graph.instrs().len(), 8, "{why}");
