@@ -1,6 +1,7 @@
 -- Lemmas on what is among a list, and on lists where all differ.
-use Rattle.std.proofs.Common.{◌≡◌, ◌⊎◌, inl, inr, List, [], ◌∷◌, ◌++◌, refl, ap, subst}
-use Rattle.std.specs.Prelude.{map}
+use Rattle.std.proofs.Common.{◌≡◌, ◌⊎◌, inl, inr, ℕ, zero, suc, Some, List, [], ◌∷◌, ◌++◌, length, get_or, ◌<◌, refl, ap, sym, subst}
+use Rattle.std.specs.Prelude.{map, slice_get}
+use Rattle.std.proofs.lemmas.Option.{slice_get-get_or}
 use Rattle.id_meaning.specs.Parts.{AllDiffer, Among}
 
 pub Among-left : {A : Type 0} (x : A) (xs ys : List A) → Among x xs → Among x (xs ++ ys)
@@ -50,3 +51,30 @@ AllDiffer-apart (y ∷ xs) ys h x (inr k) l = AllDiffer-apart xs ys h.1 x k l
 pub map-append : {A B : Type 0} (f : A → B) (xs ys : List A) → map f (xs ++ ys) ≡ map f xs ++ map f ys
 map-append f [] ys = refl
 map-append f (x ∷ xs) ys = ap (λ l. f x ∷ l) (map-append f xs ys)
+
+-- what stands somewhere in the list is among it
+pub Among-from_at : {A : Type 0} (x : A) (xs : List A) (k : ℕ) → slice_get xs k ≡ Some x → Among x xs
+Among-from_at x [] k h = cc
+Among-from_at x (y ∷ xs) zero h = inl cc
+Among-from_at x (y ∷ xs) (suc k) h = inr (Among-from_at x xs k h)
+
+-- what is among a list stands somewhere in it
+pub at-from_Among : {A : Type 0} (x : A) (xs : List A) → Among x xs → (k : ℕ) × (slice_get xs k ≡ Some x)
+at-from_Among x [] h = absurd h
+at-from_Among x (y ∷ xs) (inl e) = (0, ap (λ z. Some z) (sym e))
+at-from_Among x (y ∷ xs) (inr h) = let r = at-from_Among x xs h in (suc r.0, r.1)
+
+-- what stands in a list stands there in a longer one
+pub slice_get-left : {A : Type 0} (x : A) (xs ys : List A) (k : ℕ) → slice_get xs k ≡ Some x → slice_get (xs ++ ys) k ≡ Some x
+slice_get-left x [] ys k h = cc
+slice_get-left x (y ∷ xs) ys zero h = h
+slice_get-left x (y ∷ xs) ys (suc k) h = slice_get-left x xs ys k h
+
+-- what is added to a list stands at its end
+pub slice_get-last : {A : Type 0} (x : A) (xs : List A) → slice_get (xs ++ (x ∷ [])) (length xs) ≡ Some x
+slice_get-last x [] = refl
+slice_get-last x (y ∷ xs) = slice_get-last x xs
+
+-- an element of a list that is read there and added to another
+pub read-and-added : {A : Type 0} (xs ys zs : List A) (i : ℕ) (d : A) → i < length xs → zs ≡ ys ++ (get_or xs i d ∷ []) → (x : A) × (slice_get xs i ≡ Some x) × (zs ≡ ys ++ (x ∷ []))
+read-and-added xs ys zs i d inside added = (get_or xs i d, slice_get-get_or xs i d inside, added)

@@ -7,3 +7,5 @@ pub mod TableLemmas
 pub mod StepLemmas
 pub mod ListedLemmas
 pub mod InputsLemmas
+pub mod DueLemmas
+pub mod ReadersLemmas

@@ -1,6 +1,5 @@
 -- Lemmas on specs/States.antt.
 use Rattle.std.proofs.Common.{◌≡◌, inl, inr, ℕ, zero, suc, ◌+◌, ◌-◌, ◌≤◌, ◌<◌, Bool, true, false, ◌&&◌, Option, None, Some, List, [], ◌∷◌, ◌++◌, length, set, if◌then◌else◌, refl, ap, sym, ◌∙◌, arith, subst}
-use Rattle.std.specs.Prelude.{map}
 use Rattle.std.proofs.lemmas.Bool.Decides.{Decides-int_eq}
 use Rattle.std.proofs.lemmas.List.{get_or-set_same, get_or-set_other, length-set}
 use Rattle.id_meaning.specs.declared.SourceValue.{SourceValue}
@@ -9,21 +8,17 @@ use Rattle.id_meaning.specs.declared.table.Line.{Line}
 use Rattle.id_meaning.specs.declared.state.Cell.{Cell}
 use Rattle.id_meaning.specs.declared.state.Change.{Change}
 use Rattle.id_meaning.specs.Parts.{Among, AllDiffer}
-use Rattle.id_meaning.specs.States.{after, applied, blank, cell_after, cell_at, changes_of, next, same_bit, same_cell, same_value}
+use Rattle.id_meaning.specs.States.{Fits, places, after, applied, blank, cell_after, cell_at, changes_of, next, same_bit, same_cell, same_value}
 use Rattle.id_meaning.proofs.AmongLemmas.{Among-map}
 
--- where a round changes nothing, it leaves the cells
-next-still : (ls : List Line) (cs : List Cell) → changes_of cs ls ≡ [] → next ls cs ≡ cs
-next-still ls cs h = ap (λ ds. applied cs ds) h
-
-still : (ls : List Line) (cs : List Cell) (d k : ℕ) → changes_of (after k ls cs) ls ≡ [] → after (d + k) ls cs ≡ after k ls cs
+-- where a round leaves the cells, so do all later ones
+still : (ls : List Line) (cs : List Cell) (d k : ℕ) → next ls (after k ls cs) ≡ after k ls cs → after (d + k) ls cs ≡ after k ls cs
 still ls cs zero k h = let e : 0 + k ≡ k = omega arith in rw e refl
 still ls cs (suc d) k h =
     let e : suc d + k ≡ suc (d + k) = omega arith in
-    rw e (ap (λ xs. next ls xs) (still ls cs d k h) ∙ next-still ls (after k ls cs) h)
+    rw e (ap (λ xs. next ls xs) (still ls cs d k h) ∙ h)
 
--- and so do all later ones
-pub after-still : (ls : List Line) (cs : List Cell) (k n : ℕ) → k ≤ n → changes_of (after k ls cs) ls ≡ [] → after n ls cs ≡ after k ls cs
+pub after-still : (ls : List Line) (cs : List Cell) (k n : ℕ) → k ≤ n → next ls (after k ls cs) ≡ after k ls cs → after n ls cs ≡ after k ls cs
 after-still ls cs k n b h =
     let e : n - k + k ≡ n = omega arith in
     let P : ℕ → Type 0 = λ m. after m ls cs ≡ after k ls cs in
@@ -61,7 +56,7 @@ same_cell-true c d h =
     ap (λ b. cell_of b c.has) e ∙ ap (λ x. cell_of d.on x) f
 
 -- the change at a part, by the test
-abbrev change_by : Bool → List Cell → Line → List Change
+abbrev pub change_by : Bool → List Cell → Line → List Change
 change_by b ds l = if b then [] else (record { place = l.place; cell = cell_after ds l } ∷ [])
 
 -- a round leaves the places where no line is
@@ -73,14 +68,6 @@ elsewhere ds (l ∷ ls) cs e h =
       | true ↦ rest cs
       | false ↦ rest (set cs l.place (cell_after ds l)) ∙ get_or-set_other cs l.place e (cell_after ds l) blank (λ q. h l (inl refl) (sym q))
     ]
-
--- the places of lines
-abbrev pub places : List Line → List ℕ
-places ls = map (λ l. l.place) ls
-
--- the cells are long enough for the lines
-abbrev pub Fits : List Line → List Cell → Type 0
-Fits ls cs = (l : Line) → Among l ls → l.place < length cs
 
 -- the cells agree at the lines
 abbrev Agree : List Line → List Cell → List Cell → Type 0

@@ -23,12 +23,12 @@ use Rattle.id_meaning.specs.Sources.{Source, IsInput}
 use Rattle.id_meaning.specs.Facts.{outermost, Rule, main_on, param_has, literal_has, operand_on, left_on, right_on, unary_has, binary_has, name_has, statement_on, body_on, block_has, binding_has}
 use Rattle.id_meaning.specs.Rounds.{Every, Rounds}
 use Rattle.id_meaning.specs.Lines.{lines_of_all}
-use Rattle.id_meaning.specs.States.{after, binary_of, blank, cell_after, cell_at, gained, given, needs_no_on, next, turned, unary_of, value_after}
+use Rattle.id_meaning.specs.States.{after, binary_of, blank, cell_after, cell_at, gained, given, needs_no_on, next, Fits, places, turned, unary_of, value_after}
 use Rattle.id_meaning.specs.Listed.{IsRound, Shown, last_of}
 use Rattle.id_meaning.proofs.AmongLemmas.{AllDiffer-append, AllDiffer-apart, AllDiffer-left, AllDiffer-right, Among-either, Among-left, Among-right, map-append}
 use Rattle.id_meaning.proofs.PlacesLemmas.{Distinct-checked}
 use Rattle.id_meaning.proofs.RoundsLemmas.{Rounds-follow}
-use Rattle.id_meaning.proofs.StatesLemmas.{Fits, elsewhere, here, length-after, places}
+use Rattle.id_meaning.proofs.StatesLemmas.{elsewhere, here, length-after}
 use Rattle.id_meaning.proofs.TableLemmas.{Aligned, Fed, Formed, Served, Turned, TurnerOf, Turns, aligned-all, aligned-entry, aligned-line, aligned-places, fed-main, form_of, turned-by-all, turned-main, turner-all}
 
 -- the lines of the program
@@ -275,7 +275,7 @@ entries-differ (d ∷ ds) h =
     (entries-differ ds (AllDiffer-right es (places_of_all ds) h.1))
     (λ q i j. AllDiffer-apart es (places_of_all ds) h.1 q i (entry-place ds q j)))
 
-lines-differ : (S : Source) → AllDiffer (places (lines S))
+pub lines-differ : (S : Source) → AllDiffer (places (lines S))
 lines-differ S =
     let F : List ℕ → Type 0 = AllDiffer in
     subst F (aligned-places (IsInput S) (entries_of_all S.checked.program.defs) (lines S) (lines-aligned S))
@@ -294,7 +294,7 @@ place-below m (x ∷ ls) l (inr h) = place-below (max m x.place) ls l h
 abbrev pub cells_of : List Line → List Cell
 cells_of ls = replicate (last_of 0 ls + 1) blank
 
-lines-fit : (ls : List Line) (n : ℕ) → Fits ls (after n ls (cells_of ls))
+pub lines-fit : (ls : List Line) (n : ℕ) → Fits ls (after n ls (cells_of ls))
 lines-fit ls n l h =
     let e = length-after n ls (cells_of ls) ∙ length-replicate (last_of 0 ls + 1) blank in
     let b = place-below 0 ls l h in

@@ -10,7 +10,8 @@ pub mod Rounds
 pub mod Orders
 pub mod Names
 pub mod Computed
--- For use inside: the lines that rounds pass over, what places have, and their facts in order.
+-- For use inside: the lines that rounds pass over, which of them read a place, what places have, and their facts in order.
 pub mod Lines
+pub mod Readers
 pub mod States
 pub mod Listed

@@ -1,5 +1,5 @@
 -- What the places of a program have after some rounds, worked out of its lines.
-use Rattle.std.specs.Prelude.{ℕ, zero, suc, Bool, true, false, ◌&&◌, ◌||◌, List, [], ◌∷◌, ◌++◌, Option, None, Some, if◌then◌else◌}
+use Rattle.std.specs.Prelude.{◌≡◌, ◌<◌, length, map, slice_get, ℕ, zero, suc, Bool, true, false, ◌&&◌, ◌||◌, List, [], ◌∷◌, ◌++◌, Option, None, Some, if◌then◌else◌}
 use Rattle.std.specs.Ordering.{int_eq}
 use Rattle.std.proofs.Common.{get_or, set}
 use Rattle.id_tree.specs.declared.tree.UnaryOp.{UnaryOp}
@@ -13,6 +13,10 @@ use Rattle.id_meaning.specs.declared.table.Form.TheVariants.{Literal, Unary, Bin
 use Rattle.id_meaning.specs.declared.table.Line.{Line}
 use Rattle.id_meaning.specs.declared.state.Cell.{Cell}
 use Rattle.id_meaning.specs.declared.state.Change.{Change}
+use Rattle.id_meaning.specs.declared.readers.Readers.{Readers}
+use Rattle.id_meaning.specs.declared.readers.Due.{Due}
+use Rattle.id_meaning.specs.Parts.{Among}
+use Rattle.id_meaning.specs.Readers.{Covers}
 use Rattle.id_meaning.specs.Results.{Outcome, Gives, Fails, Lacks, result_of_unary, result_of_binary}
 
 -- the value that an operator gives, if it gives one
@@ -103,6 +107,10 @@ abbrev pub changes_of : List Cell → List Line → List Change
 changes_of cs [] = []
 changes_of cs (l ∷ ls) = change_of cs l ++ changes_of cs ls
 
+-- the lines that read a place of these changes are due, where the readers of the place are known
+abbrev pub CoversAll : List Line → Readers → List Change → Due → Type 0
+CoversAll ls x cs d = (j : ℕ) (c : Change) → slice_get cs j ≡ Some c → c.place < length x.last.items → Covers ls d c.place
+
 -- the cells with these changes
 abbrev pub applied : List Cell → List Change → List Cell
 applied cs [] = cs
@@ -116,3 +124,11 @@ next ls cs = applied cs (changes_of cs ls)
 abbrev pub after : ℕ → List Line → List Cell → List Cell
 after zero ls cs = cs
 after (suc n) ls cs = next ls (after n ls cs)
+
+-- the places of lines
+abbrev pub places : List Line → List ℕ
+places ls = map (λ l. l.place) ls
+
+-- the cells are long enough for the lines
+abbrev pub Fits : List Line → List Cell → Type 0
+Fits ls cs = (l : Line) → Among l ls → l.place < length cs

@@ -8,6 +8,7 @@
 
 mod inputs;
 mod listing;
+mod readers;
 mod results;
 mod round;
 mod state;

@@ -38,8 +38,9 @@ pub enum RoundsError {
 /// The facts of round n, each once: On by path and place, then Has by path, place and value.
 ///
 /// `BadRounds` where n is above `MAX_ROUNDS`, `TooManyFacts` where some round up to n has more than
-/// `MAX_FACTS` facts, and `Memory` where a growth was refused. Takes memory for each byte up to the last
-/// place of a part, and time for each part in each round, up to the first that adds nothing.
+/// `MAX_FACTS` facts, and `Memory` where a growth was refused. Takes memory and time for each byte up to the
+/// last place of a part, for each part and for each fact; a round takes time for the parts alone that read
+/// what the round before added.
 pub fn rounds(
     alloc: Global,
     checked: &Checked,

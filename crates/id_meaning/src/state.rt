@@ -1,11 +1,14 @@
 //! What the places of a program have after some rounds (docs/MEANING.md, "Rounds").
 
-ghost use Rattle.std.specs.Prelude.{◌≡◌, ◌++◌, ◌+◌, IfOk, OnOk};
+ghost use Rattle.std.specs.Prelude.{◌≡◌, ◌<◌, ◌++◌, ◌+◌, ◌-◌, IfOk, OnOk};
 ghost use Rattle.std.proofs.Common.{replicate};
 ghost use Rattle.id_meaning.specs.Listed.{last_of};
-ghost use Rattle.id_meaning.specs.States.{after, applied, binary_of, blank, cell_after, cell_at, changes_of, gained, needs_no_on, same_cell, same_value, turned, unary_of, value_after};
+ghost use Rattle.id_meaning.specs.Parts.{AllDiffer};
+ghost use Rattle.id_meaning.specs.Readers.{IsDue, IsIndex};
+ghost use Rattle.id_meaning.specs.States.{CoversAll, Fits, after, applied, binary_of, blank, cell_after, cell_at, changes_of, gained, needs_no_on, places, same_cell, same_value, turned, unary_of, value_after};
 
 use crate::SourceValue;
+use crate::readers::{Due, Readers, add_readers, all_due, index};
 use crate::results::{binary_result, unary_result};
 use crate::table::{Form, Line, Turn};
 use id_tree::{BinaryOp, UnaryOp};
@@ -32,18 +35,45 @@ pub struct Change {
     pub cell: Cell,
 }
 
-/// Goes on by n rounds. After an error the cells are those of some round.
+/// Goes on by n rounds. The first looks at all lines, a later one at those that read a place which the
+/// round before changed. After an error the cells are those of some round.
 pub fn run(alloc: Global, lines: &[Line], cells: &mut Vec<Cell>, n: u32) -> Result<(), AllocError>
+    requires distinct { AllDiffer (places lines.now) }
+    requires fits { Fits lines.now cells.old.items }
     ensures { OnOk result (cells.new.items ≡ after n lines.now cells.old.items) }
 {
+    let readers = index(alloc, lines, cells.len())?;
+    let mut due = all_due(alloc, lines)?;
     let mut changes = Vec::new(alloc);
-    for _round in 0..n {
+    for round in 0..n {
         changes.clear();
-        add_changes(&mut changes, lines, cells.as_slice())?;
+        add_changes(&mut changes, due.lines.as_slice(), cells.as_slice())?;
         if changes.is_empty() {
             return Ok(());
         }
         apply(cells, changes.as_slice());
+        find_due(&mut due, lines, &readers, round + 1, changes.as_slice())?;
+    }
+    Ok(())
+}
+
+/// Finds the lines of this round: those that read a place which the round before changed.
+fn find_due(
+    due: &mut Due,
+    lines: &[Line],
+    readers: &Readers,
+    round: u32,
+    changes: &[Change],
+) -> Result<(), AllocError>
+    requires index { IsIndex lines.now readers.now }
+    requires later { 0 < round }
+    requires due { IsDue lines.now (round - 1) due.old }
+    ensures due { OnOk result (IsDue lines.now round due.new) }
+    ensures covers { OnOk result (CoversAll lines.now readers.now changes.now due.new) }
+{
+    due.lines.clear();
+    for change in changes {
+        add_readers(due, lines, readers, round, change.place)?;
     }
     Ok(())
 }
