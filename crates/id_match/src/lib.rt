@@ -25,14 +25,14 @@ use std::collections::hash_map::Entry as Place;
 use std::marker::Model;
 
 /// A value that waits, with its port.
-#[derive(Clone, Copy, Debug, PartialEq, Eq)]
+#[derive(Clone, Copy)]
 pub struct Half {
     pub port: Port,
     pub value: Value,
 }
 
 /// What an offer comes to.
-#[derive(Clone, Copy, Debug, PartialEq, Eq)]
+#[derive(Clone, Copy, PartialEq, Eq)]
 pub enum Offered {
     /// The value waits for its partner.
     Kept,
@@ -43,7 +43,7 @@ pub enum Offered {
 }
 
 /// A value that waits, with its tag and port.
-#[derive(Clone, Copy, Debug, PartialEq, Eq)]
+#[derive(Clone, Copy)]
 pub struct Entry {
     pub tag: Tag,
     pub port: Port,
@@ -177,59 +177,5 @@ fn pair(port: Port, value: Value, partner: Value) -> Offered
     match port {
         Port::Zero => Offered::Pair(value, partner),
         Port::One => Offered::Pair(partner, value),
-    }
-}
-
-#[cfg(test)]
-mod tests {
-    use super::*;
-    use id_tag::Context;
-    use std::test::Fail;
-
-    fn tag(iteration: u64) -> Tag {
-        Tag {
-            context: Context {
-                element: 0,
-                serial: 1,
-            },
-            iteration,
-            instr: 3,
-        }
-    }
-
-    #[test]
-    fn keeps_the_first_and_pairs_by_port(rt: HostRuntime) -> Result<(), Fail> {
-        let mut waiting = Waiting::new(rt.alloc());
-        let pair = Offered::Pair(Value::Int(3), Value::Int(4));
-        let table = [
-            (0, Port::Zero, 3, Offered::Kept, 1, "nothing waits yet"),
-            (0, Port::Zero, 9, Offered::Taken, 1, "its port is filled"),
-            (1, Port::One, 5, Offered::Kept, 2, "another iteration"),
-            (0, Port::One, 4, pair, 1, "the partner waits"),
-            (0, Port::One, 4, Offered::Kept, 2, "both have left"),
-            (0, Port::Zero, 3, pair, 1, "the ports in the other order"),
-        ];
-        for (iteration, port, number, wanted, len, why) in table {
-            let answer = waiting.offer(tag(iteration), port, Value::Int(number))?;
-            assert_eq!(rt; answer, wanted, "{why}");
-            assert_eq!(rt; waiting.len(), len, "{why}");
-        }
-        Ok(())
-    }
-
-    #[test]
-    fn lists_what_waits_by_tag(rt: HostRuntime) -> Result<(), Fail> {
-        let mut waiting = Waiting::new(rt.alloc());
-        for iteration in [2, 0, 1] {
-            let _ = waiting.offer(tag(iteration), Port::Zero, Value::Int(3))?;
-        }
-        let entries = waiting.entries(rt.alloc())?;
-        let wanted = [0, 1, 2].map(|iteration| Entry {
-            tag: tag(iteration),
-            port: Port::Zero,
-            value: Value::Int(3),
-        });
-        assert_eq!(rt; entries.as_slice(), wanted.as_slice());
-        Ok(())
     }
 }

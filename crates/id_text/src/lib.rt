@@ -13,8 +13,6 @@ mod numbers;
 mod places;
 mod sequence;
 mod signs;
-#[cfg(test)]
-mod tests;
 mod token;
 mod words;
 

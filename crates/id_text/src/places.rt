@@ -39,7 +39,7 @@ fn is_line_end(b: u8) -> bool
 }
 
 /// The text, and where its lines begin, for the lines and columns of many places.
-#[derive(Debug, Drop)]
+#[derive(Drop)]
 pub struct Lines<'a> {
     text: &'a str,
     starts: Vec<usize>,

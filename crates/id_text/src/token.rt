@@ -8,7 +8,7 @@ use thiserror::Error;
 pub const MAX_BYTES: usize = 1_048_576;
 
 /// A reserved word. `for` and `to` are reserved, and no rule uses them yet.
-#[derive(Clone, Copy, Debug, PartialEq, Eq)]
+#[derive(Clone, Copy, PartialEq, Eq)]
 pub enum Keyword {
     Def,
     If,
@@ -34,7 +34,7 @@ pub enum Keyword {
 }
 
 /// A sign. `<-` is one that no rule uses yet.
-#[derive(Clone, Copy, Debug, PartialEq, Eq)]
+#[derive(Clone, Copy, PartialEq, Eq)]
 pub enum Symbol {
     LeftParen,
     RightParen,
@@ -59,7 +59,7 @@ pub enum Symbol {
 }
 
 /// What a token is.
-#[derive(Debug, Drop)]
+#[derive(Drop)]
 pub enum TokenKind {
     /// A name that is no reserved word.
     Name(Identifier),
@@ -74,7 +74,7 @@ pub enum TokenKind {
 }
 
 /// A token with the bytes that it takes: from `start` up to `end`, both counted from 0.
-#[derive(Debug, Drop)]
+#[derive(Drop)]
 pub struct Token {
     pub kind: TokenKind,
     pub start: usize,

@@ -13,6 +13,3 @@ mod survey;
 mod valid;
 
 pub use valid::{Invalid, InvalidCause, Valid, validate};
-
-#[cfg(test)]
-mod tests;

@@ -11,7 +11,7 @@ use std::marker::Model;
 
 /// A graph with what was noted of each of its instructions, by number: whether it is the first of a
 /// block, whether it is an entry, and how many arcs feed its ports, where 2 stands for any more.
-#[derive(Debug, Drop)]
+#[derive(Drop)]
 pub struct Survey<'a> {
     graph: &'a Graph,
     firsts: Vec<bool>,

@@ -63,7 +63,7 @@ fn first_faulty(alloc: Global, graph: &Graph) -> Result<Option<u64>, AllocError>
 }
 
 /// A graph of which no instruction is faulty.
-#[derive(Debug, Drop)]
+#[derive(Drop)]
 pub struct Valid {
     graph: Graph,
 }
