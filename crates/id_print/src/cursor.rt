@@ -8,7 +8,7 @@ use id_text::MAX_BYTES;
 use std::marker::Model;
 
 /// A place of a text, with its line and column.
-#[derive(Clone, Copy, Debug, Drop)]
+#[derive(Clone, Copy, Drop)]
 pub(crate) struct Spot {
     at: usize,
     line: u32,
@@ -19,7 +19,7 @@ pub(crate) struct Spot {
 ///
 /// From a place to a later one only the bytes between them are read; places that rise take one pass
 /// over the text in all.
-#[derive(Debug, Drop)]
+#[derive(Drop)]
 pub(crate) struct Cursor<'a> {
     text: &'a str,
     step: Spot,

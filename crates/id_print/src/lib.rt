@@ -19,6 +19,3 @@ pub use report::{Ending, Report, is_within, run_report, write_fault, write_repor
 pub use sink::{PrintError, Sink, SinkFault, put};
 pub use texts::{put_number, put_place};
 pub use trace::write_trace;
-
-#[cfg(test)]
-mod tests;

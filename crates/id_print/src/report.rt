@@ -20,7 +20,7 @@ use id_text::{MAX_BYTES, Sequence};
 use std::alloc::{AllocError, Global};
 
 /// How a run ended.
-#[derive(Debug, Drop)]
+#[derive(Drop)]
 pub enum Ending {
     /// Nothing is in flight, and there was no fault.
     Quiet,
@@ -31,7 +31,7 @@ pub enum Ending {
 }
 
 /// What a run has shown: how it ended, the answer, and what binders have, by path and place.
-#[derive(Debug, Drop)]
+#[derive(Drop)]
 pub struct Report {
     pub ending: Ending,
     pub answer: Option<SourceValue>,
