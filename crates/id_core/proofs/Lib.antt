@@ -1,14 +1,2 @@
-pub mod EventsLemmas
-pub mod LinesLemmas
-pub mod StepsLemmas
-pub mod ReplaysLemmas
-pub mod FitsLemmas
-pub mod SentLemmas
-pub mod OutcomeLemmas
-pub mod FiringsLemmas
 pub mod InputsLemmas
 pub mod MachinesLemmas
-pub mod ObservedLemmas
-pub mod OrderedLemmas
-pub mod MergedLemmas
-pub mod RecordsLemmas

@@ -1,7 +1,8 @@
 -- Lemmas on specs/Machines.antt.
 use Rattle.std.proofs.Common.{◌≡◌, ℕ, suc, ◌+◌, ◌<◌, ◌≤◌, Bool, true, false, cond, eqb, eq-eqb, ◌||◌, Option, Some, None, List, [], ◌∷◌, ◌++◌, map, filter, max, length, get_or, set, take, drop, refl, sym, ap, subst, ◌∙◌, ⊎_elim, arith}
-use Rattle.std.specs.Prelude.{All, slice_get, option_map, option_and_then}
+use Rattle.std.specs.Prelude.{All, slice_index, slice_get, option_map, option_and_then}
 use Rattle.std.specs.List.{list_any, remove}
+use Rattle.std.specs.List.Sorted.{IsStrictlyIncreasing}
 use Rattle.std.proofs.lemmas.List.{length-map, length-append, length-set, get_or-map, get_or-set_same, get_or-set_other, map-set}
 use Rattle.std.proofs.lemmas.Bool.{cases_lt, cases_eq}
 use Rattle.std.proofs.Math.ListN.{get_or-append}
@@ -27,38 +28,20 @@ use Rattle.id_valid.specs.Roles.{has_main_place, IsMain}
 use Rattle.id_valid.specs.Validator.{IsMainBlock}
 use Rattle.id_match.specs.Waiting.{Store}
 use Rattle.id_ops.specs.Operators.{fired}
-use Rattle.id_core.specs.declared.step.Arrival.{Arrival}
-use Rattle.id_core.specs.declared.step.Arrival.TheVariants.{Fires, Waits, Blocked}
-use Rattle.id_core.specs.Events.{tag_of}
-use Rattle.id_core.specs.Fits.{Fits, TokenFits, PayloadFits}
-use Rattle.id_core.specs.Steps.{State, arrival, waiting_after, arriving, at_instr, outcome, fresh_numbers, next_stamp, outputs_of, event_of, state_after, is_ended}
-use Rattle.id_core.specs.Replays.{ElementView}
-use Rattle.id_core.specs.Machines.{world_of, taken_from, given_to, routed_to, delivered, event_of_given, event_of_routed, event_at, main_tag, start_message, input_messages, block_messages, AreTaken, IsElement, AreElements, IsMachine}
-use Rattle.id_core.proofs.StepsLemmas.{length-sent, length-numbered}
-use Rattle.id_core.proofs.SentLemmas.{kind_at_op}
+use Rattle.id_record.specs.Events.{tag_of}
+use Rattle.id_element.specs.Fits.{Fits, TokenFits, PayloadFits}
+use Rattle.id_element.specs.Steps.{State, fresh, arrival, waiting_after, arriving, at_instr, outcome, fresh_numbers, next_stamp, outputs_of, event_of, state_after, is_ended}
+use Rattle.id_element.specs.Replays.{ElementView}
+use Rattle.id_core.specs.Machines.{world_of, taken_from, given_to, routed_to, delivered, event_of_given, event_of_routed, event_at, start_message, input_messages, block_messages, AreTaken, IsElement, AreElements, IsMachine}
+use Rattle.id_observe.specs.Observed.{main_tag}
+use Rattle.id_record.proofs.SendsLemmas.{length-sent, length-numbered}
+use Rattle.id_element.proofs.SentLemmas.{kind_at_op}
 use Rattle.id_core.proofs.InputsLemmas.{inputs_fit}
 
 -- what holds of each image holds of what it is the image of
 pub All-from_map : {X Y : Type 0} (P : Y → Type 0) (f : X → Y) (xs : List X) → All P (map f xs) → All (λ x. P (f x)) xs
 All-from_map P f xs all k d within =
     subst P (get_or-map f xs k d (f d) within) (all k (f d) (omega (arith, length-map xs f)))
-
--- an arrival sends at most one payload for each destination, or one
-length-arriving : (n : ℕ) (i : Instr) (t : Tag) (w : Store) (a : Arrival) → length (arriving n i t w a).sends ≤ max (length i.dests) 1
-length-arriving n i t w (Fires o) = length-sent i.dests t (fired i.op t o (fresh_numbers n))
-length-arriving n i t w Waits = omega arith
-length-arriving n i t w Blocked = omega arith
-
-length-outcome : (g : Parts) (n : ℕ) (w : Store) (x : Payload) (i : Instr) → slice_get g.instrs (tag_of x).instr ≡ Some i → length (outcome g n w x).sends ≤ max (length i.dests) 1
-length-outcome g n w (Token t p v) i is =
-    let at : (at_instr n w t p v (slice_get g.instrs t.instr)) ≡ at_instr n w t p v (Some i) = ap (at_instr n w t p v) is in
-    let bound = length-arriving n i t (waiting_after i.op w t p v) (arrival i.op w t p v) in
-    rw at bound
-
--- a message has at most as many outputs as its instruction has destinations, or one
-pub length-outputs_of : (g : Parts) (n : ℕ) (s : State) (m : Message) (i : Instr) → slice_get g.instrs (tag_of m.payload).instr ≡ Some i → length (outputs_of g n s m) ≤ max (length i.dests) 1
-length-outputs_of g n s m i is =
-    omega (arith, length-numbered n (length s.events) (next_stamp s m) 0 (outcome g n s.waiting m.payload).sends, length-outcome g n s.waiting m.payload i is)
 
 -- one more element with the next number
 pub AreElements-push : (g : Parts) (count : ℕ) (es : List ElementView) (e : ElementView) → AreElements g count es → IsElement g count (length es) e → AreElements g count (es ++ e ∷ [])
@@ -80,14 +63,6 @@ second_of_main p q (x ∷ xs) b is here = at (λ e. second_of_main p q xs b e he
     at : (filter p xs ≡ b ∷ [] → list_any q xs ≡ true) → (c : Bool) → cond c (x ∷ filter p xs) (filter p xs) ≡ b ∷ [] → (q x || list_any q xs) ≡ true
     at rest true e = let same : x ≡ b = cc in let passes : q x ≡ true = ap q same ∙ here in rw passes
     at rest false e = let found = rest e in rw found (any_or_true (q x))
-
--- a message that fits names an instruction that there is
-pub within_from_fits : (g : Parts) (stamp : ℕ) (x : Payload) → PayloadFits g stamp x → (tag_of x).instr < length g.instrs
-within_from_fits g stamp (Token t p v) fits = at (slice_get g.instrs t.instr) refl fits.kind
-  where
-    at : (o : Option Instr) → slice_get g.instrs t.instr ≡ o → option_and_then (λ i. port_kind i.op p) o ≡ Some (kind_of v) → t.instr < length g.instrs
-    at None is e = cc
-    at (Some i) is e = slice_get_within g.instrs t.instr i is
 
 -- the start messages fit the graph, where its entries take the inputs
 pub start_fits : (g : Parts) (b : Block) (vs : List SourceValue) → IsMain g b → IsMainBlock g b → AreTaken g b.entries vs → All (Fits g) (block_messages (b ∷ []) vs)
@@ -198,3 +173,15 @@ IsMachine-deliver g es flight outputs k n m e old d fits = record {
       (let P : Parts → Type 0 = λ x. All (Fits x) (outputs_of e.graph e.number e.state m) in subst P d.same.graph fits);
   nothing_left = refl;
 }
+
+-- the element at each position has it as its number
+number_at : (g : Parts) (count : ℕ) (es : List ElementView) (k : ℕ) → AreElements g count es → k < length es → slice_index (map (λ e. e.number) es) k ≡ k
+number_at g count es k are lt =
+    let none : ElementView = record { number = 0; count = 0; graph = g; state = fresh } in
+    get_or-map (λ e. e.number) es k none 0 lt ∙ (are k none lt).number
+
+-- so the numbers of a machine's elements rise
+pub AreElements-rise : (g : Parts) (count : ℕ) (es : List ElementView) → AreElements g count es → IsStrictlyIncreasing (map (λ e. e.number) es)
+AreElements-rise g count es are k lt =
+    let next : k + 1 < length es = omega (arith, lt, length-map es (λ e. e.number)) in
+    omega (arith, number_at g count es k are (omega (arith, next)), number_at g count es (k + 1) are next)

@@ -5,6 +5,7 @@ use Rattle.id_graph.specs.declared.instr.Block.{Block}
 use Rattle.id_graph.specs.declared.dests.Port.TheVariants.{Zero}
 use Rattle.id_graph.specs.declared.instr.Op.TheVariants.{Merge}
 use Rattle.id_graph.specs.Graph.{Parts}
+pub use Rattle.id_observe.specs.Observed.{main_tag}
 use Rattle.id_meaning.specs.declared.SourceValue.{SourceValue}
 use Rattle.id_meaning.specs.declared.SourceValue.TheVariants as source
 use Rattle.id_tag.specs.declared.Tag.{Tag}
@@ -17,19 +18,15 @@ use Rattle.id_tag.specs.declared.Message.{Message}
 use Rattle.id_tag.specs.Kinds.{kind_of}
 use Rattle.id_tag.specs.Routes.{route_of}
 use Rattle.id_valid.specs.Roles.{has_main_place, op_at, IsMain}
-use Rattle.id_core.specs.Events.{EventView, AllWent}
-use Rattle.id_core.specs.Fits.{Fits}
-use Rattle.id_core.specs.Replays.{ElementView}
-use Rattle.id_core.specs.Steps.{State, fresh, is_ended, outputs_of, event_of, state_after}
+use Rattle.id_record.specs.Events.{EventView, AllWent}
+use Rattle.id_element.specs.Fits.{Fits}
+use Rattle.id_element.specs.Replays.{ElementView}
+use Rattle.id_element.specs.Steps.{State, fresh, is_ended, outputs_of, event_of, state_after}
 
 -- the states of the elements, in order of their numbers, and the messages in flight
 pub record World : Type 0 where
   pub elements : List State
   pub flight : List Message
-
--- a tag of main's context, at iteration 0
-abbrev pub main_tag : ℕ → Tag
-main_tag n = record { context = record { element = 0; serial = 0 }; iteration = 0; instr = n }
 
 -- a message that is there at the start, with its number
 abbrev pub start_message : ℕ → Payload → Message

@@ -1,120 +1,20 @@
--- What a run shows (docs/MACHINE.md, "Observed").
-use Rattle.std.specs.Prelude.{ℕ, Bool, false, ◌&&◌, ◌==◌, count_by, List, [], map, Option, Some, None, slice_get, option_and_then, if◌then◌else◌}
-use Rattle.std.specs.Option.{option_map_or}
-use Rattle.std.specs.List.{filter_map, flat_map}
-use Rattle.id_graph.specs.declared.instr.Op.{Op}
-use Rattle.id_graph.specs.declared.instr.Op.TheVariants as op
-use Rattle.id_graph.specs.declared.instr.Instr.{Instr}
+-- What a machine shows (docs/MACHINE.md, "Observed"), by what the records of its elements show.
+use Rattle.std.specs.Prelude.{List, Option}
 use Rattle.id_graph.specs.Graph.{Parts}
-use Rattle.id_tag.specs.declared.Value.{Value}
-use Rattle.id_tag.specs.declared.Value.TheVariants as value
-use Rattle.id_tag.specs.declared.Payload.{Payload}
-use Rattle.id_tag.specs.declared.Payload.TheVariants.{Token}
-use Rattle.id_tag.specs.Tags.{same_tag}
-use Rattle.id_ops.specs.declared.OperatorFault.{OperatorFault}
-use Rattle.id_ops.specs.declared.OperatorFault.TheVariants as operator
 use Rattle.id_meaning.specs.declared.SourceValue.{SourceValue}
-use Rattle.id_meaning.specs.declared.SourceValue.TheVariants as source
-use Rattle.id_meaning.specs.declared.FaultKind.{FaultKind}
-use Rattle.id_meaning.specs.declared.FaultKind.TheVariants as kind
-use Rattle.id_meaning.specs.declared.Path.{Path}
 use Rattle.id_meaning.specs.declared.SourceFault.{SourceFault}
 use Rattle.id_meaning.specs.declared.NameValue.{NameValue}
-use Rattle.id_valid.specs.Validator.{is_value}
-use Rattle.id_core.specs.declared.step.Step.{Step}
-use Rattle.id_core.specs.declared.step.Step.TheVariants.{Went, Fault, Stuck}
-use Rattle.id_core.specs.declared.step.Fault.TheVariants.{Operator}
-use Rattle.id_core.specs.Events.{EventView}
-use Rattle.id_core.specs.Steps.{State}
-use Rattle.id_core.specs.Machines.{World, main_tag}
-
--- the events of all elements, one record after another
-abbrev pub events_of : List State → List EventView
-events_of elements = flat_map (λ e. e.events) elements
-
--- the value that a token brings to instruction 0 under main's tag
-abbrev pub brought : Payload → Option Value
-brought (Token t p v) = if same_tag t (main_tag 0) then Some v else None
-
--- a value of a token as one of the source
-abbrev pub source_value : Value → Option SourceValue
-source_value value.Signal = None
-source_value (value.Int n) = Some (source.Int n)
-source_value (value.Bool b) = Some (source.Bool b)
-source_value (value.Continuation t) = None
-
--- the values that these events brought to instruction 0 under main's tag, in order
-abbrev pub answers : List EventView → List Value
-answers es = filter_map (λ e. brought e.message.payload) es
-
--- the answer that the records of these elements show: the first of those values. One element handles that tag, so its record has them all
-abbrev pub answer_in : List State → Option SourceValue
-answer_in elements = option_and_then source_value (slice_get (answers (events_of elements)) 0)
+pub use Rattle.id_observe.specs.Observed.{events_of, brought, source_value, answers, answer_in, fault_kind, place_of, main_path, fault_of, faults_in, is_value_merge, is_label_of, is_label, name_at, name_in, names_in}
+use Rattle.id_core.specs.Machines.{World}
 
 -- the answer that a machine shows
 abbrev pub answer : World → Option SourceValue
 answer s = answer_in s.elements
 
--- an operator's kind of fault as one of the source
-abbrev pub fault_kind : OperatorFault → FaultKind
-fault_kind operator.Overflow = kind.Overflow
-fault_kind operator.DivisionByZero = kind.DivisionByZero
-
--- the place of the instruction of this number
-abbrev pub place_of : Parts → ℕ → ℕ
-place_of g n = option_map_or (λ i. i.place) (slice_get g.instrs n) 0
-
--- the path of main's context, which is empty: no operator makes another context yet
-abbrev pub main_path : Path
-main_path = record { steps = [] }
-
--- the fault of the source that an event's step shows
-abbrev pub fault_of : Parts → Step → Option SourceFault
-fault_of g Went = None
-fault_of g (Fault (Operator f t)) = Some (record { kind = fault_kind f; path = main_path; place = place_of g t.instr })
-fault_of g Stuck = None
-
--- the faults of the source that the records of these elements show
-abbrev pub faults_in : Parts → List State → List SourceFault
-faults_in g elements = filter_map (λ e. fault_of g e.step) (events_of elements)
-
 -- the faults of the source that a machine shows
 abbrev pub faults : Parts → World → List SourceFault
 faults g s = faults_in g s.elements
 
--- a merge for values of the source
-abbrev pub is_value_merge : Op → Bool
-is_value_merge (op.Merge k) = is_value k
-is_value_merge _ = false
-
--- whether the instruction is a label: a merge for values of the source whose place no other instruction has
-abbrev pub is_label_of : Parts → Option Instr → Bool
-is_label_of g None = false
-is_label_of g (Some i) = is_value_merge i.op && (count_by (λ j. j.place == i.place) g.instrs == 1)
-
--- whether the instruction of this number is a label
-abbrev pub is_label : Parts → ℕ → Bool
-is_label g n = is_label_of g (slice_get g.instrs n)
-
--- what the binder of the label of this number Has, where a token brought it that value
-abbrev pub name_at : Parts → ℕ → Option SourceValue → Option NameValue
-name_at g n None = None
-name_at g n (Some v) = Some (record { path = main_path; place = place_of g n; value = v })
-
--- what a binder Has, where a token was handled by its label
-abbrev pub name_in : Parts → Payload → Option NameValue
-name_in g (Token t p v) = if is_label g t.instr then name_at g t.instr (source_value v) else None
-
--- what the records of these elements show that binders Have
-abbrev pub names_in : Parts → List State → List NameValue
-names_in g elements = filter_map (λ e. name_in g e.message.payload) (events_of elements)
-
 -- what a machine shows that binders Have
 abbrev pub names : Parts → World → List NameValue
 names g s = names_in g s.elements
-
--- For use inside.
-
--- of each instruction, by number, whether it is a label
-abbrev pub label_marks : Parts → List Bool
-label_marks g = map (λ i. is_label_of g (Some i)) g.instrs

@@ -4,8 +4,8 @@ ghost use Rattle.std.specs.Prelude.{◌≡◌, ◌↔◌, IsTrue, length};
 ghost use Rattle.id_graph.specs.declared.instr.Op.TheVariants.{Merge};
 ghost use Rattle.id_core.specs.Machines.{AreTaken, TakesInputs};
 
-use crate::fitting::op_at;
 use crate::machine::token_value;
+use id_element::op_at;
 use id_graph::{Graph, Op, PortKind};
 use id_meaning::{Inputs, SourceValue};
 use id_valid::Valid;

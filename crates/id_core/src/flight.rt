@@ -5,7 +5,7 @@ use std::collections::VecDeque;
 use std::marker::Model;
 
 /// The messages in flight, in the order in which they were sent.
-#[derive(Debug, Drop)]
+#[derive(Drop)]
 pub struct Flight<'a> {
     messages: &'a VecDeque<Message>,
 }

@@ -1,35 +1,18 @@
-//! Elements and the machine: each message is handled in one step, and recorded.
+//! The machine: elements, the messages in flight between them, and runs from the start.
 //!
-//! Keeps: an element's state is what its record leads to, and a machine is a run from its start.
+//! Keeps: 1 to 64 elements in order of their numbers, and in flight only what fits the graph.
 //! Errors: `TakeError` and `MachineError`; after each of them nothing has changed.
-//! Read first: `specs/Steps.antt`, then `Element::take`.
-//! Not here: what an operator does (`id_ops`), matching (`id_match`), which graphs are sound (`id_valid`).
+//! Read first: `specs/Machines.antt`, then `Machine::deliver`.
+//! Not here: elements (`id_element`), records (`id_record`), what they show (`id_observe`): their names are handed on.
 #![tactic(auto)]
 
-mod desk;
-mod element;
 mod entering;
-mod fitting;
 mod flight;
-mod history;
-mod line;
 mod machine;
-mod merge;
-mod observe;
-mod outcome;
-mod outputs;
-mod step;
 
-pub use element::Element;
 pub use entering::takes_inputs;
-pub use fitting::fits;
 pub use flight::Flight;
-pub use history::{Event, Events};
+pub use id_element::{Element, TakeError, fits};
+pub use id_observe::{Merged, Observed, merge_records, observe_records};
+pub use id_record::{Event, Events, Fault, Outputs, Step};
 pub use machine::{MAX_ELEMENTS, Machine, MachineError};
-pub use merge::{Merged, merge_records};
-pub use observe::{Observed, observe_records};
-pub use outputs::Outputs;
-pub use step::{Fault, Step, TakeError};
-
-#[cfg(test)]
-mod tests;

@@ -5,20 +5,19 @@ ghost use Rattle.std.specs.List.{remove};
 ghost use Rattle.std.specs.VecDeque.{deque_len, deque_capacity};
 ghost use Rattle.id_graph.specs.declared.dests.Port.TheVariants.{Zero};
 ghost use Rattle.id_tag.specs.declared.Payload.TheVariants.{Token};
-ghost use Rattle.id_core.specs.Events.{AllWent};
-ghost use Rattle.id_core.specs.Fits.{Fits};
-ghost use Rattle.id_core.specs.Steps.{State, fresh, outputs_of};
-ghost use Rattle.id_core.specs.Machines.{AreElements, TakesInputs, input_messages, main_tag, start_message, start_messages, token_value};
+ghost use Rattle.id_record.specs.Events.{AllWent};
+ghost use Rattle.id_element.specs.Fits.{Fits};
+ghost use Rattle.id_element.specs.Steps.{fresh};
+ghost use Rattle.id_core.specs.Machines.{AreElements, TakesInputs, input_messages, start_message, start_messages, token_value};
+ghost use Rattle.id_observe.specs.Observed.{main_tag};
 
-use crate::element::Element;
 use crate::flight::Flight;
-use crate::history::tag_of;
-use crate::observe::{Observed, observe_records};
-use crate::outcome::most_sent;
-use crate::step::{Step, TakeError};
-use id_graph::{Graph, Port};
-use id_meaning::{Inputs, SourceValue};
-use id_tag::{Context, Message, Payload, Sender, Tag, Value, route};
+use id_element::{Element, TakeError, most_outputs};
+use id_graph::Port;
+use id_meaning::{Inputs, SourceFault, SourceValue};
+use id_observe::{Observed, first_fault, main_tag, observe_records};
+use id_record::Step;
+use id_tag::{Message, Payload, Sender, Value, route};
 use id_valid::Valid;
 use std::alloc::{AllocError, AllocFailed, Global};
 use std::collections::VecDeque;
@@ -89,10 +88,12 @@ impl<'a> Model for Machine<'a> {
 }
 
 impl<'a> Machine<'a> {
-    ghost use Rattle.std.specs.Prelude.{◌≡◌, ◌<◌, ◌↔◌, ◌⊎◌, All, length, Some, None, option_map, IfOk, OnOk, OnErr, IsTrue};
+    ghost use Rattle.std.specs.Prelude.{◌≡◌, ◌<◌, ◌↔◌, ◌⊎◌, [], All, length, map, Some, None, option_map, IfOk, OnOk, OnErr, IsTrue, MatchOption};
+    ghost use Rattle.std.specs.List.Sorted.{IsStrictlyIncreasing};
+    ghost use Rattle.id_observe.specs.Firsts.{IsFirstFault};
     ghost use Rattle.id_core.specs.declared.machine.MachineError.TheVariants.{BadElements};
-    ghost use Rattle.id_core.specs.declared.step.TakeError.TheVariants.{StampEnd};
-    ghost use Rattle.id_core.specs.Fits.{Fits};
+    ghost use Rattle.id_element.specs.declared.step.TakeError.TheVariants.{StampEnd};
+    ghost use Rattle.id_element.specs.Fits.{Fits};
     ghost use Rattle.id_core.specs.Observed.{answer, faults, names};
     ghost use Rattle.id_core.specs.Machines.{AreElements, IsQuiet, TakesInputs, delivered, event_at, start, world_of};
 
@@ -172,10 +173,20 @@ impl<'a> Machine<'a> {
         Ok(shown)
     }
 
+    /// The first fault of the run so far, by stamp and then by element, if there is one.
+    pub fn first_fault(&self, alloc: Global) -> Result<Option<SourceFault>, AllocError>
+        ensures { IfOk result (λ o. MatchOption o (faults self.now.graph self.now.world ≡ [])
+            (IsFirstFault self.now.graph self.now.world.elements)) }
+    {
+        first_fault(alloc, self.graph, self.elements())
+    }
+
     /// The elements, in order of their numbers. Takes no memory.
     pub fn elements(&self) -> &[Element<'a>]
         ensures elements { AreElements self.now.graph self.now.count result.now }
         ensures world { world_of result.now self.now.world.flight ≡ self.now.world }
+        // So `merge_records` takes them.
+        ensures rise { IsStrictlyIncreasing (map (λ e. e.number) result.now) }
     {
         self.elements.as_slice()
     }
@@ -271,29 +282,6 @@ fn start_message(number: usize, instr: u32, value: Value) -> Message
         output: number,
         stamp: 0,
     }
-}
-
-/// The tag of an instruction in main's context, at iteration 0.
-pub(crate) fn main_tag(instr: u32) -> Tag
-    ensures { result ≡ main_tag instr }
-{
-    Tag {
-        context: Context {
-            element: 0,
-            serial: 0,
-        },
-        iteration: 0,
-        instr,
-    }
-}
-
-/// An upper bound on what any element sends for a message that fits.
-fn most_outputs(graph: &Graph, message: &Message) -> usize
-    requires { Fits graph.now message.now }
-    ensures { (n : ℕ) (s : State) → length (outputs_of graph.now n s message.now) ≤ result }
-{
-    let tag = tag_of(&message.payload);
-    most_sent(&graph.instrs()[tag.instr as usize])
 }
 
 /// Takes the message at a position out of the list, which closes up. Takes no memory.

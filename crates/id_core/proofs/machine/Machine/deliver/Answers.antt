@@ -6,7 +6,7 @@ use Rattle.std.proofs.lemmas.List.{length-set}
 use Rattle.std.proofs.lemmas.Grind.{common_steps}
 use Rattle.std.proofs.lemmas.Option.{slice_get_read}
 use Rattle.id_tag.specs.Routes.{route_of}
-use Rattle.id_core.specs.Steps.{step_of, outputs_of}
+use Rattle.id_element.specs.Steps.{step_of, outputs_of}
 use Rattle.id_core.specs.Machines.{IsElement, delivered, world_of}
 use Rattle.id_core.proofs.MachinesLemmas.{IsDelivery, taken, world-delivered, event-delivered, IsMachine-deliver}
 use Rattle.id_core.proofs.machine.Machine.deliver.Goals as goal

@@ -1,6 +1,0 @@
--- Nothing was handled, so the empty record replays.
-use Rattle.id_core.proofs.ReplaysLemmas.{IsKept-fresh}
-use Rattle.id_core.proofs.element.Element.new.Goals as goal
-
-pub invariant_of-result : goal.invariant_of-result
-invariant_of-result c = IsKept-fresh _ c.new.ensures.state

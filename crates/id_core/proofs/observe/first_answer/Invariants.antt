@@ -1,7 +1,0 @@
--- The events so far brought no answer.
-use Rattle.std.proofs.Common.{◌≡◌, [], take}
-use Rattle.id_core.specs.Observed.{answers}
-use Rattle.id_core.proofs.observe.first_answer.Given as goal
-
-abbrev pub invariant-loop-position : goal.invariant-loop-position
-invariant-loop-position l = answers (take l.position l.events) ≡ []

@@ -1,7 +1,0 @@
--- The state of an element, as its desk holds it.
-use Rattle.id_core.specs.declared.desk.Desk.{Desk}
-use Rattle.id_core.specs.Steps.{State}
-
--- what waits, the last stamp and the record
-abbrev pub state_of : Desk → State
-state_of d = record { waiting = d.waiting; stamp = d.stamp; events = d.log.events }

@@ -1,0 +1,46 @@
+-- How many messages an element sends for one that fits.
+use Rattle.std.proofs.Common.{◌≡◌, ℕ, ◌<◌, ◌≤◌, Option, Some, None, max, length, refl, ap, arith}
+use Rattle.std.specs.Prelude.{slice_get, option_and_then}
+use Rattle.std.proofs.lemmas.Option.{slice_get_within}
+use Rattle.id_graph.specs.declared.dests.Port.{Port}
+use Rattle.id_graph.specs.declared.instr.Instr.{Instr}
+use Rattle.id_graph.specs.Graph.{Parts}
+use Rattle.id_graph.specs.Ports.{port_kind}
+use Rattle.id_tag.specs.declared.Tag.{Tag}
+use Rattle.id_tag.specs.declared.Payload.{Payload}
+use Rattle.id_tag.specs.declared.Payload.TheVariants.{Token}
+use Rattle.id_tag.specs.declared.Message.{Message}
+use Rattle.id_tag.specs.Kinds.{kind_of}
+use Rattle.id_match.specs.Waiting.{Store}
+use Rattle.id_ops.specs.Operators.{fired}
+use Rattle.id_record.specs.Events.{tag_of}
+use Rattle.id_record.proofs.SendsLemmas.{length-sent, length-numbered}
+use Rattle.id_element.specs.declared.step.Arrival.{Arrival}
+use Rattle.id_element.specs.declared.step.Arrival.TheVariants.{Fires, Waits, Blocked}
+use Rattle.id_element.specs.Fits.{PayloadFits}
+use Rattle.id_element.specs.Steps.{State, arrival, waiting_after, arriving, at_instr, outcome, fresh_numbers, next_stamp, outputs_of}
+
+-- an arrival sends at most one payload for each destination, or one
+length-arriving : (n : ℕ) (i : Instr) (t : Tag) (w : Store) (a : Arrival) → length (arriving n i t w a).sends ≤ max (length i.dests) 1
+length-arriving n i t w (Fires o) = length-sent i.dests t (fired i.op t o (fresh_numbers n))
+length-arriving n i t w Waits = omega arith
+length-arriving n i t w Blocked = omega arith
+
+length-outcome : (g : Parts) (n : ℕ) (w : Store) (x : Payload) (i : Instr) → slice_get g.instrs (tag_of x).instr ≡ Some i → length (outcome g n w x).sends ≤ max (length i.dests) 1
+length-outcome g n w (Token t p v) i is =
+    let at : (at_instr n w t p v (slice_get g.instrs t.instr)) ≡ at_instr n w t p v (Some i) = ap (at_instr n w t p v) is in
+    let bound = length-arriving n i t (waiting_after i.op w t p v) (arrival i.op w t p v) in
+    rw at bound
+
+-- a message has at most as many outputs as its instruction has destinations, or one
+pub length-outputs_of : (g : Parts) (n : ℕ) (s : State) (m : Message) (i : Instr) → slice_get g.instrs (tag_of m.payload).instr ≡ Some i → length (outputs_of g n s m) ≤ max (length i.dests) 1
+length-outputs_of g n s m i is =
+    omega (arith, length-numbered n (length s.events) (next_stamp s m) 0 (outcome g n s.waiting m.payload).sends, length-outcome g n s.waiting m.payload i is)
+
+-- a message that fits names an instruction that there is
+pub within_from_fits : (g : Parts) (stamp : ℕ) (x : Payload) → PayloadFits g stamp x → (tag_of x).instr < length g.instrs
+within_from_fits g stamp (Token t p v) fits = at (slice_get g.instrs t.instr) refl fits.kind
+  where
+    at : (o : Option Instr) → slice_get g.instrs t.instr ≡ o → option_and_then (λ i. port_kind i.op p) o ≡ Some (kind_of v) → t.instr < length g.instrs
+    at None is e = cc
+    at (Some i) is e = slice_get_within g.instrs t.instr i is

@@ -1,0 +1,28 @@
+-- The record goes on by one event, and what it sends fits, by what the desk says of its step.
+use Rattle.std.proofs.Common.{◌≡◌, ap, subst, ◌∙◌}
+use Rattle.id_valid.specs.Validator.{IsValid}
+use Rattle.std.specs.Prelude.{◌↔◌, IsTrue}
+use Rattle.id_record.specs.declared.step.Step.TheVariants.{Went}
+use Rattle.id_element.specs.Fits.{IsFor}
+use Rattle.id_element.specs.Steps.{state_after, step_of}
+use Rattle.id_element.specs.Desks.{state_of}
+use Rattle.id_element.specs.Replays.{ElementView}
+use Rattle.id_element.proofs.ReplaysLemmas.{IsKept-take}
+use Rattle.id_element.proofs.OutcomeLemmas.{outputs_fit}
+use Rattle.id_element.proofs.element.Element.take.Goals as goal
+
+pub invariant_of-self-2 : goal.invariant_of-self-2
+invariant_of-self-2 c =
+    let old : ElementView = record { number = c.self.inside.desk.log.element; count = c.self.inside.count; graph = c.self.inside.desk.log.graph; state = state_of c.self.inside.desk } in
+    let is_for : IsFor c.self.inside.desk.log.graph c.self.inside.count c.self.inside.desk.log.element c.args.message =
+    rw (ap (λ v. v.graph) c.self.view_is, ap (λ v. v.count) c.self.view_is, ap (λ v. v.number) c.self.view_is) c.requires in
+    let stepped : state_of c.take.new.self ≡ state_after c.self.inside.desk.log.graph c.self.inside.desk.log.element (state_of c.self.inside.desk) c.args.message =
+    c.in_ok-step.ensures.state ∙ ap (λ g. state_after g c.self.inside.desk.log.element (state_of c.self.inside.desk) c.args.message) (c.graph.ensures.value ∙ c.graph-graph.ensures) in
+    let goes : IsTrue c.still_went-self-inside.result ↔ (IsTrue c.self.inside.went × (step_of c.self.inside.desk.log.graph c.self.inside.desk.log.element (state_of c.self.inside.desk) c.args.message ≡ Went)) =
+    rw (← c.graph-graph.ensures, ← c.graph.ensures.value, ← c.in_ok-step.ensures.step) c.still_went-self-inside.ensures in
+    rw (stepped, c.in_ok-step.ensures.number, c.in_ok-step.ensures.graph) (IsKept-take old c.args.message c.self.inside.went c.still_went-self-inside.result is_for c.in_ok-step.ensures.left c.in_ok-step.ensures.last_left goes c.self.invariant)
+
+pub returns-clause-fits : goal.returns-clause-fits
+returns-clause-fits c =
+    rw (← ap (λ v. v.graph) c.self.view_is, ← ap (λ v. v.number) c.self.view_is, ← ap (λ v. v.state) c.self.view_is)
+    (outputs_fit c.self.inside.desk.log.graph c.self.inside.desk.log.element (state_of c.self.inside.desk) c.args.message (subst IsValid c.graph-graph.ensures c.graph.ensures.kept) c.self.invariant.replays.waiting (rw (ap (λ v. v.graph) c.self.view_is) c.requires.fits))

@@ -1,0 +1,24 @@
+-- A message's outcome in the two parts that the code computes: what fires, and what the record keeps.
+use Rattle.std.specs.Prelude.{ℕ}
+use Rattle.id_graph.specs.declared.instr.Instr.{Instr}
+use Rattle.id_tag.specs.declared.Tag.{Tag}
+use Rattle.id_ops.specs.declared.Fired.{Fired}
+use Rattle.id_ops.specs.declared.Fired.TheVariants.{Nothing}
+use Rattle.id_ops.specs.Operators.{fired}
+use Rattle.id_element.specs.declared.step.Arrival.{Arrival}
+use Rattle.id_element.specs.declared.step.Arrival.TheVariants.{Fires, Waits, Blocked}
+use Rattle.id_record.specs.declared.step.Verdict.{Verdict}
+use Rattle.id_record.specs.declared.step.Verdict.TheVariants.{Stuck}
+use Rattle.id_element.specs.Steps.{fresh_numbers, fired_verdict}
+
+-- what the instruction does with what arrived at the element n: nothing where the token waits or is blocked
+abbrev pub firing_of : Instr → Tag → ℕ → Arrival → Fired
+firing_of i t n (Fires operands) = fired i.op t operands (fresh_numbers n)
+firing_of i t n Waits = Nothing
+firing_of i t n Blocked = Nothing
+
+-- what the record keeps of an event
+abbrev pub verdict_of : Arrival → Fired → Verdict
+verdict_of (Fires operands) f = fired_verdict f
+verdict_of Waits f = fired_verdict f
+verdict_of Blocked f = Stuck

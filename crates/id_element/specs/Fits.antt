@@ -1,0 +1,48 @@
+-- Which messages fit a graph (docs/MACHINE.md, "Element step").
+use Rattle.std.specs.Prelude.{◌≡◌, ◌≤◌, ℕ, Some, IsTrue}
+use Rattle.id_graph.specs.declared.dests.Port.{Port}
+use Rattle.id_graph.specs.declared.dests.Port.TheVariants.{Zero}
+use Rattle.id_graph.specs.declared.instr.Op.TheVariants.{Back, Merge}
+use Rattle.id_graph.specs.declared.instr.PortKind.{PortKind}
+use Rattle.id_graph.specs.Graph.{Parts, kind_at}
+use Rattle.id_tag.specs.declared.Tag.{Tag}
+use Rattle.id_tag.specs.declared.Value.{Value}
+use Rattle.id_tag.specs.declared.Value.TheVariants as value
+use Rattle.id_tag.specs.declared.Payload.{Payload}
+use Rattle.id_tag.specs.declared.Payload.TheVariants.{Token}
+use Rattle.id_tag.specs.declared.Message.{Message}
+use Rattle.id_tag.specs.Kinds.{kind_of}
+use Rattle.id_tag.specs.Routes.{route_of}
+use Rattle.id_valid.specs.Roles.{op_at, is_second}
+
+-- the instruction n is the `back` of a block with results of kind k, and r is a merge of that kind
+pub record TakesReturn (g : Parts) (n r : ℕ) (k : PortKind) : Type 0 where
+  pub second : IsTrue (is_second g n)
+  pub back : op_at g n ≡ Some (Back k)
+  pub merge : op_at g r ≡ Some (Merge k)
+
+-- a continuation comes to port 0 of a block's `back`, names a merge of that block's result kind, and has no iteration above the stamp
+abbrev pub ContinuationFits : Parts → ℕ → Tag → Port → Value → Type 0
+ContinuationFits g stamp t p (value.Continuation u) = (p ≡ Zero) × ((k : PortKind) × TakesReturn g t.instr u.instr k) × (u.iteration ≤ stamp)
+ContinuationFits g stamp t p value.Signal = Unit {0}
+ContinuationFits g stamp t p (value.Int n) = Unit {0}
+ContinuationFits g stamp t p (value.Bool b) = Unit {0}
+
+-- a token fits: its port exists and takes its kind, and neither its tag nor a continuation in it has an iteration above the stamp
+pub record TokenFits (g : Parts) (stamp : ℕ) (t : Tag) (p : Port) (v : Value) : Type 0 where
+  pub kind : kind_at g.instrs (record { instr = t.instr; port = p }) ≡ Some (kind_of v)
+  pub in_time : t.iteration ≤ stamp
+  pub continuation : ContinuationFits g stamp t p v
+
+-- what a message says fits the graph at its stamp
+abbrev pub PayloadFits : Parts → ℕ → Payload → Type 0
+PayloadFits g stamp (Token t p v) = TokenFits g stamp t p v
+
+-- the message fits the graph
+abbrev pub Fits : Parts → Message → Type 0
+Fits g m = PayloadFits g m.stamp m.payload
+
+-- the message fits the graph, and is for the element n of so many
+pub record IsFor (g : Parts) (count n : ℕ) (m : Message) : Type 0 where
+  pub routed : route_of m.payload count ≡ n
+  pub fits : Fits g m

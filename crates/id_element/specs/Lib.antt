@@ -1,0 +1,8 @@
+-- What public clauses cite.
+pub mod Fits
+pub mod Steps
+pub mod Replays
+pub mod Codes
+-- For use inside.
+pub mod Firings
+pub mod Desks

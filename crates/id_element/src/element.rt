@@ -1,0 +1,119 @@
+//! An element: what waits at it, its last stamp and its record (docs/MACHINE.md, "Element step").
+
+ghost use Rattle.std.specs.Prelude.{◌≡◌, ◌↔◌, IsTrue};
+ghost use Rattle.id_record.specs.declared.step.Step.TheVariants.{Went};
+
+use crate::desk::Desk;
+use crate::step::TakeError;
+use id_record::{Events, Step};
+use id_tag::Message;
+use id_valid::Valid;
+use std::alloc::Global;
+use std::marker::Model;
+
+/// An element of the machine: it handles the messages that are routed to it, one at a time.
+#[derive(Drop)]
+pub struct Element<'a> {
+    count: u32,
+    desk: Desk<'a>,
+    went: bool,
+}
+
+impl<'a> Model for Element<'a> {
+    ghost use Rattle.id_element.specs.Codes.{coded_element};
+    ghost use Rattle.id_element.specs.Replays.{ElementView, IsKept};
+    ghost use Rattle.id_element.specs.Desks.{state_of};
+
+    ghost Value = { ElementView };
+
+    ghost coded = { coded_element };
+
+    ghost view = { λ e. record {
+      number = e.desk.log.element;
+      count = e.count;
+      graph = e.desk.log.graph;
+      state = state_of e.desk;
+    } };
+
+    ghost invariant = { λ e. IsKept (record {
+      number = e.desk.log.element;
+      count = e.count;
+      graph = e.desk.log.graph;
+      state = state_of e.desk;
+    }) e.went };
+}
+
+impl<'a> Element<'a> {
+    ghost use Rattle.std.specs.Prelude.{◌≡◌, ◌<◌, ◌≤◌, ◌++◌, ◌↔◌, All, IfOk, OnOk, OnErr, IsTrue};
+    ghost use Rattle.id_element.specs.declared.step.TakeError.TheVariants.{StampEnd};
+    ghost use Rattle.id_record.specs.Events.{AllWent};
+    ghost use Rattle.id_element.specs.Fits.{Fits, IsFor};
+    ghost use Rattle.id_element.specs.Replays.{Replays};
+    ghost use Rattle.id_element.specs.Steps.{fresh, is_ended, step_of, outputs_of, state_after};
+
+    /// The element of this number, of so many, that has handled nothing. Takes no memory.
+    pub fn new(alloc: Global, number: u32, count: u32, graph: &'a Valid) -> Element<'a>
+        requires at_least_one { 0 < count }
+        requires at_most_64 { count ≤ 64 }
+        requires number { number < count }
+        ensures { result ≡ record { number = number; count = count; graph = graph.now; state = fresh } }
+    {
+        Element {
+            count,
+            desk: Desk::new(alloc, number, graph),
+            went: true,
+        }
+    }
+
+    /// Handles a message that is for this element: appends what is sent for it, and answers what it
+    /// came to (docs/MACHINE.md, "Element step"). After an error nothing has changed, and the same
+    /// message can be given again.
+    pub fn take(&mut self, message: Message, outputs: &mut Vec<Message>) -> Result<Step, TakeError>
+        requires { IsFor self.old.graph self.old.count self.old.number message }
+
+        ensures step { IfOk result (λ step. step ≡ step_of self.old.graph self.old.number self.old.state message) }
+        ensures state { OnOk result (self.new ≡ record self.old { state = state_after self.old.graph self.old.number self.old.state message }) }
+        ensures outputs { OnOk result (outputs.new.items ≡ outputs.old.items ++ outputs_of self.old.graph self.old.number self.old.state message) }
+        // What is sent fits, so that the element it is routed to can take it.
+        ensures fits { OnOk result (All (Fits self.old.graph) (outputs_of self.old.graph self.old.number self.old.state message)) }
+
+        ensures end { (result ≡ Err StampEnd) ↔ IsTrue (is_ended self.old.state message) }
+        ensures err { OnErr result (self.new ≡ self.old) }
+        ensures err_outputs { OnErr result (outputs.new.items ≡ outputs.old.items) }
+    {
+        let graph = self.desk.log.graph();
+        let step = self.desk.take(graph.graph(), message, outputs)?;
+        self.went = still_went(self.went, step);
+        Ok(step)
+    }
+
+    /// Whether no stamp is left for the message. Takes no memory.
+    pub fn is_ended(&self, message: &Message) -> bool
+        ensures { result ≡ is_ended self.now.state message.now }
+    {
+        self.desk.stamp == u64::MAX || message.stamp == u64::MAX
+    }
+
+    /// Whether no event was a fault or `Stuck`. Takes no memory.
+    pub fn all_went(&self) -> bool
+        ensures { IsTrue result ↔ AllWent self.now.state.events }
+    {
+        self.went
+    }
+
+    /// The record: the events, in order. Takes no memory.
+    pub fn events(&self) -> Events<'_>
+        ensures value { result ≡ self.now.state.events }
+        // The record leads to the element's state, by legal events.
+        ensures kept { Replays self.now }
+    {
+        self.desk.log.events()
+    }
+}
+
+/// Whether every event went well, this one taken in.
+fn still_went(went: bool, step: Step) -> bool
+    ensures { IsTrue result ↔ (IsTrue went × (step ≡ Went)) }
+{
+    went && step == Step::Went
+}

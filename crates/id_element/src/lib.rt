@@ -1,0 +1,18 @@
+//! Elements: each message is handled in one step, and recorded.
+//!
+//! Keeps: an element's state is what its record leads to.
+//! Errors: `TakeError`; after each of them nothing has changed.
+//! Read first: `specs/Steps.antt`, then `Element::take`.
+//! Not here: what an operator does (`id_ops`), matching (`id_match`), how events are kept (`id_record`), runs (`id_core`).
+#![tactic(auto)]
+
+mod desk;
+mod element;
+mod fitting;
+mod outcome;
+mod step;
+
+pub use element::Element;
+pub use fitting::{fits, op_at};
+pub use outcome::most_outputs;
+pub use step::TakeError;

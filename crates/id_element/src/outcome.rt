@@ -1,0 +1,162 @@
+//! What a token does at its instruction, and what is sent for it (docs/MACHINE.md, "Element step").
+
+ghost use Rattle.std.specs.Prelude.{ℕ, Some, ◌≡◌, ◌+◌, ◌-◌, ◌^◌, ◌<◌, ◌≤◌, ◌++◌, ◌||◌, ◌==◌, length, max, vec_len, vec_capacity, IfOk, OnOk, OnErr, IfErr, IsTrue, false, map};
+ghost use Rattle.id_element.specs.Fits.{Fits};
+ghost use Rattle.id_element.specs.Steps.{State, outputs_of, at_instr, arrival, waiting_after, fresh_numbers};
+ghost use Rattle.id_record.specs.Sends.{sent, numbered, token_to};
+ghost use Rattle.id_tag.specs.declared.Sender.TheVariants.{Element};
+ghost use Rattle.id_tag.specs.declared.Payload.TheVariants.{Token};
+ghost use Rattle.id_record.specs.Events.{full_step};
+ghost use Rattle.id_element.specs.Firings.{firing_of, verdict_of};
+
+use crate::step::{Arrival, TakeError};
+use id_graph::{Dest, Graph, Instr, Op, Port};
+use id_match::{Offered, Waiting};
+use id_ops::{Fired, Fresh, Operands, fire};
+use id_record::{Envelope, Reaction, Verdict, message, tag_of, token_to};
+use id_tag::{Context, Message, Payload, Tag, Value};
+use std::alloc::AllocError;
+
+/// The stamp of the next event, one above both, where there is one.
+pub(crate) fn next_stamp(last: u64, message: u64) -> Result<u64, TakeError>
+    ensures ok { IfOk result (λ stamp. stamp ≡ max last message + 1) }
+    ensures below { OnOk result (message < 2 ^ 64 - 1) }
+    ensures last_below { OnOk result (last < 2 ^ 64 - 1) }
+    ensures left { OnOk result ((last == 2 ^ 64 - 1) || (message == 2 ^ 64 - 1) ≡ false) }
+    ensures end { IfErr result (λ e. (e ≡ TakeError.StampEnd) × IsTrue ((last == 2 ^ 64 - 1) || (message == 2 ^ 64 - 1))) }
+{
+    if last == u64::MAX || message == u64::MAX {
+        return Err(TakeError::StampEnd);
+    }
+    Ok(last.max(message) + 1)
+}
+
+/// An upper bound on what one message at this instruction sends.
+pub(crate) fn most_sent(instr: &Instr) -> usize
+    ensures { result ≡ max (length instr.now.dests) 1 }
+{
+    instr.dests.as_slice().len().max(1)
+}
+
+/// An upper bound on what any element sends for a message that fits.
+pub fn most_outputs(graph: &Graph, message: &Message) -> usize
+    requires { Fits graph.now message.now }
+    ensures { (n : ℕ) (s : State) → length (outputs_of graph.now n s message.now) ≤ result }
+{
+    let tag = tag_of(&message.payload);
+    most_sent(&graph.instrs()[tag.instr as usize])
+}
+
+/// Lets a token come to its instruction, at the element of this number. After an error nothing has changed.
+pub(crate) fn react(
+    waiting: &mut Waiting,
+    instr: &Instr,
+    number: u32,
+    tag: Tag,
+    port: Port,
+    value: Value,
+) -> Result<Reaction, AllocError>
+    ensures outcome { IfOk result (λ r. at_instr number waiting.old tag port value (Some instr.now)
+        ≡ record { sends = sent instr.now.dests tag r.fired; step = full_step (Token tag port value) r.verdict; waiting = waiting.new }) }
+    ensures err { OnErr result (waiting.new ≡ waiting.old) }
+{
+    let arrival = arrive(waiting, instr.op, tag, port, value)?;
+    let fired = firing(instr, tag, number, arrival);
+    let verdict = verdict(arrival, fired);
+    Ok(Reaction { fired, verdict })
+}
+
+/// Fires an instruction of one port, and offers a token for one of two ports. After an error nothing has changed.
+fn arrive(
+    waiting: &mut Waiting,
+    op: Op,
+    tag: Tag,
+    port: Port,
+    value: Value,
+) -> Result<Arrival, AllocError>
+    ensures arrival { IfOk result (λ a. a ≡ arrival op waiting.old tag port value) }
+    ensures after { OnOk result (waiting.new ≡ waiting_after op waiting.old tag port value) }
+    ensures err { OnErr result (waiting.new ≡ waiting.old) }
+{
+    if !op.two_ports() {
+        return Ok(Arrival::Fires(Operands::One(value)));
+    }
+    match waiting.offer(tag, port, value)? {
+        Offered::Kept => Ok(Arrival::Waits),
+        Offered::Pair(left, right) => Ok(Arrival::Fires(Operands::Two(left, right))),
+        Offered::Taken => Ok(Arrival::Blocked),
+    }
+}
+
+/// What the instruction does with what arrived: nothing where the token waits or is blocked.
+fn firing(instr: &Instr, tag: Tag, number: u32, arrival: Arrival) -> Fired
+    ensures { result ≡ firing_of instr.now tag number arrival }
+{
+    match arrival {
+        Arrival::Fires(operands) => fire(instr, tag, operands, fresh_numbers(number)),
+        Arrival::Waits | Arrival::Blocked => Fired::Nothing,
+    }
+}
+
+/// The numbers that an element would give next: no operator takes one yet.
+fn fresh_numbers(number: u32) -> Fresh
+    ensures { result ≡ fresh_numbers number }
+{
+    Fresh {
+        context: Context {
+            element: number,
+            serial: 1,
+        },
+        element: number,
+        structure: 1,
+    }
+}
+
+/// What the record keeps of an event.
+fn verdict(arrival: Arrival, fired: Fired) -> Verdict
+    ensures { result ≡ verdict_of arrival fired }
+{
+    match (arrival, fired) {
+        (Arrival::Blocked, _) => Verdict::Stuck,
+        (_, Fired::Failed(fault)) => Verdict::Failed(fault),
+        _ => Verdict::Went,
+    }
+}
+
+/// Appends the outputs of a firing, for which there is room. Takes no memory.
+pub(crate) fn send(
+    dests: &[Dest],
+    tag: Tag,
+    fired: Fired,
+    envelope: Envelope,
+    outputs: &mut Vec<Message>,
+)
+    requires { vec_len outputs.old + max (length dests.now) 1 ≤ vec_capacity outputs.old }
+    ensures { outputs.new.items ≡ outputs.old.items ++ numbered envelope.number envelope.position envelope.stamp 0 (sent dests.now tag fired) }
+{
+    match fired {
+        Fired::Out(value) => send_all(dests, tag, value, envelope, outputs),
+        Fired::Sent(target, value) => {
+            outputs.push_reserved(message(
+                envelope,
+                0,
+                Payload::Token {
+                    tag: target,
+                    port: Port::Zero,
+                    value,
+                },
+            ));
+        }
+        Fired::Failed(_) | Fired::Nothing => {}
+    }
+}
+
+/// Appends one token for each destination, in order.
+fn send_all(dests: &[Dest], tag: Tag, value: Value, envelope: Envelope, outputs: &mut Vec<Message>)
+    requires { vec_len outputs.old + length dests.now ≤ vec_capacity outputs.old }
+    ensures { outputs.new.items ≡ outputs.old.items ++ numbered envelope.number envelope.position envelope.stamp 0 (map (token_to tag value) dests.now) }
+{
+    for (number, dest) in dests.iter().enumerate() {
+        outputs.push_reserved(message(envelope, number, token_to(tag, value, *dest)));
+    }
+}

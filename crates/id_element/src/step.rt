@@ -1,0 +1,49 @@
+//! What becomes of a message, and why a message is not handled (docs/MACHINE.md, "Element step").
+
+use id_ops::Operands;
+use std::alloc::{AllocError, AllocFailed};
+use thiserror::Error;
+
+/// Why an element does not take a message. Nothing has changed then.
+#[derive(Clone, Copy, Debug, PartialEq, Eq, Error)]
+pub enum TakeError {
+    /// The element's last stamp or the message's is 2^64 - 1: no stamp is above it.
+    #[error("no stamp is left")]
+    StampEnd,
+    /// A growth was refused.
+    #[error("out of memory")]
+    Memory,
+}
+
+impl From<AllocError> for TakeError {
+    ghost use Rattle.std.specs.Prelude.{◌≡◌};
+    ghost use Rattle.id_element.specs.declared.step.TakeError.TheVariants.{Memory};
+
+    ghost from_gives = { λ _ e. e ≡ Memory };
+
+    fn from(_error: AllocError) -> TakeError {
+        TakeError::Memory
+    }
+}
+
+impl<T: Drop> From<AllocFailed<T>> for TakeError {
+    ghost use Rattle.std.specs.Prelude.{◌≡◌};
+    ghost use Rattle.id_element.specs.declared.step.TakeError.TheVariants.{Memory};
+
+    ghost from_gives = { λ _ e. e ≡ Memory };
+
+    fn from(_error: AllocFailed<T>) -> TakeError {
+        TakeError::Memory
+    }
+}
+
+/// What becomes of a token at its instruction.
+#[derive(Clone, Copy)]
+pub(crate) enum Arrival {
+    /// It fires the instruction.
+    Fires(Operands),
+    /// It waits for its partner.
+    Waits,
+    /// Its port was filled already.
+    Blocked,
+}

@@ -1,0 +1,86 @@
+-- Lemmas on specs/Firsts.antt: what one order of events shows, each other order shows.
+use Rattle.std.proofs.Common.{◌≡◌, ℕ, zero, suc, Option, Some, None, List, [], ◌∷◌, refl, sym, ap, subst, ◌∙◌}
+use Rattle.std.specs.Prelude.{◌++◌, map, slice_get, MatchOption}
+use Rattle.std.specs.List.{AllByRecursion, filter_map, flat_map, cons_option}
+use Rattle.std.specs.List.Sorted.{IsPermutation, IsStrictlySortedBy}
+use Rattle.std.proofs.lemmas.List.Elements.{recursion_from_All, All-from_recursion}
+use Rattle.std.proofs.lemmas.List.Sorted.{All-permutation, IsPermutation-sym}
+use Rattle.id_graph.specs.Graph.{Parts}
+use Rattle.id_meaning.specs.declared.SourceFault.{SourceFault}
+use Rattle.id_record.specs.Events.{EventView}
+use Rattle.id_record.proofs.EachLemmas.{each-weaker}
+use Rattle.id_element.specs.Steps.{State}
+use Rattle.id_element.specs.Replays.{ElementView}
+use Rattle.id_observe.specs.Merged.{by_moment}
+use Rattle.id_observe.specs.Observed.{events_of, fault_of, faults_in, faults_of}
+use Rattle.id_observe.specs.Firsts.{IsFirstFault}
+use Rattle.id_observe.proofs.ObservedLemmas.{none_first}
+
+-- where nothing is given, each element gives nothing
+nothing_each : {X Y : Type 0} (h : X → Option Y) (xs : List X) → filter_map h xs ≡ [] → AllByRecursion (λ x. h x ≡ None) xs
+nothing_each h [] e = tt
+nothing_each {Y = Y} h (x ∷ xs) e = at (h x) refl (λ rest. nothing_each h xs rest) e
+  where
+    at : (o : Option Y) → h x ≡ o → (filter_map h xs ≡ [] → AllByRecursion (λ w. h w ≡ None) xs) → cons_option o (filter_map h xs) ≡ [] → (h x ≡ None) × AllByRecursion (λ w. h w ≡ None) xs
+    at None is rest e = (is, rest e)
+    at (Some y) is rest e = cc
+
+nothing_all : {X Y : Type 0} (h : X → Option Y) (xs : List X) → AllByRecursion (λ x. h x ≡ None) xs → filter_map h xs ≡ []
+nothing_all h [] each = refl
+nothing_all h (x ∷ xs) each = ap (λ o. cons_option o (filter_map h xs)) each.0 ∙ nothing_all h xs each.1
+
+-- where one order gives nothing, no order does
+pub nothing-permutation : {X Y : Type 0} (h : X → Option Y) (xs ys : List X) → IsPermutation xs ys → filter_map h ys ≡ [] → filter_map h xs ≡ []
+nothing-permutation h xs ys same none =
+    nothing_all h xs
+    (recursion_from_All (λ x. h x ≡ None) xs
+    (All-permutation (λ x. h x ≡ None) ys xs (IsPermutation-sym xs ys same) (All-from_recursion (λ x. h x ≡ None) ys (nothing_each h ys none))))
+
+-- what the element gives stands in what the list gives
+abbrev IsGiven : {X Y : Type 0} → (X → Option Y) → List X → X → Type 0
+IsGiven {Y = Y} h xs x = (y : Y) → h x ≡ Some y → (i : ℕ) × (slice_get (filter_map h xs) i ≡ Some y)
+
+given_later : {X Y : Type 0} (h : X → Option Y) (w : X) (xs : List X) (x : X) → IsGiven h xs x → IsGiven h (w ∷ xs) x
+given_later {Y = Y} h w xs x given y is = at (h w)
+  where
+    at : (o : Option Y) → (i : ℕ) × (slice_get (cons_option o (filter_map h xs)) i ≡ Some y)
+    at None = given y is
+    at (Some z) = let place = given y is in (suc place.0, place.1)
+
+given_each : {X Y : Type 0} (h : X → Option Y) (xs : List X) → AllByRecursion (IsGiven h xs) xs
+given_each h [] = tt
+given_each h (x ∷ xs) =
+    (λ y is. (zero, ap (λ o. slice_get (cons_option o (filter_map h xs)) zero) is), each-weaker (IsGiven h xs) (IsGiven h (x ∷ xs)) (λ w given. given_later h x xs w given) xs (given_each h xs))
+
+-- what is given first stands in what another order gives
+first_given : {X Y : Type 0} (h : X → Option Y) (xs ys : List X) (y : Y) → AllByRecursion (IsGiven h xs) ys → slice_get (filter_map h ys) 0 ≡ Some y → (i : ℕ) × (slice_get (filter_map h xs) i ≡ Some y)
+first_given h xs [] y each is = cc
+first_given {Y = Y} h xs (x ∷ ys) y each is = at (h x) refl (λ later. first_given h xs ys y each.1 later) is
+  where
+    at : (o : Option Y) → h x ≡ o → (slice_get (filter_map h ys) 0 ≡ Some y → (i : ℕ) × (slice_get (filter_map h xs) i ≡ Some y)) → slice_get (cons_option o (filter_map h ys)) 0 ≡ Some y → (i : ℕ) × (slice_get (filter_map h xs) i ≡ Some y)
+    at None none rest is = rest is
+    at (Some z) some rest is = each.0 y (some ∙ is)
+
+pub first-permutation : {X Y : Type 0} (h : X → Option Y) (xs ys : List X) (y : Y) → IsPermutation xs ys → slice_get (filter_map h ys) 0 ≡ Some y → (i : ℕ) × (slice_get (filter_map h xs) i ≡ Some y)
+first-permutation h xs ys y same is =
+    first_given h xs ys y (recursion_from_All (IsGiven h xs) ys (All-permutation (IsGiven h xs) xs ys same (All-from_recursion (IsGiven h xs) xs (given_each h xs)))) is
+
+-- the first fault is one of those that the records show
+pub first_is_shown : (g : Parts) (elements : List State) (f : SourceFault) → IsFirstFault g elements f → (i : ℕ) × (slice_get (faults_in g elements) i ≡ Some f)
+first_is_shown g elements f is = first-permutation (λ e. fault_of g e.step) (events_of elements) is.order f is.merged.all is.first
+
+-- the events of elements, by their states
+events_of-states : (es : List ElementView) → flat_map (λ e. e.state.events) es ≡ events_of (map (λ e. e.state) es)
+events_of-states [] = refl
+events_of-states (e ∷ es) = ap (λ xs. e.state.events ++ xs) (events_of-states es)
+
+-- what a walk over the merged events found, said of the elements
+pub found_first : (g : Parts) (es : List ElementView) (m : List EventView) (o : Option SourceFault) → IsPermutation (flat_map (λ e. e.state.events) es) m → IsStrictlySortedBy by_moment m → o ≡ slice_get (faults_of g m) 0
+    → MatchOption o (faults_in g (map (λ e. e.state) es) ≡ []) (IsFirstFault g (map (λ e. e.state) es))
+found_first g es m None all sorted is =
+    nothing-permutation (λ e. fault_of g e.step) (events_of (map (λ e. e.state) es)) m (subst (λ xs. IsPermutation xs m) (events_of-states es) all) (none_first (faults_of g m) (sym is))
+found_first g es m (Some f) all sorted is = record {
+  order = m;
+  merged = record { all = subst (λ xs. IsPermutation xs m) (events_of-states es) all; sorted = sorted };
+  first = sym is;
+}

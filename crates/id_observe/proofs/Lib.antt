@@ -1,0 +1,5 @@
+pub mod ObservedLemmas
+pub mod OrderedLemmas
+pub mod MergedLemmas
+pub mod RecordsLemmas
+pub mod FirstsLemmas

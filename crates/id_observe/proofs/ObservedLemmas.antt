@@ -1,0 +1,122 @@
+-- Lemmas on specs/Observed.antt: walks over records, one event and one element after another.
+use Rattle.std.proofs.Common.{◌≡◌, ℕ, suc, ◌+◌, Option, Some, None, List, [], ◌∷◌, ◌++◌, map, take, drop, refl, sym, ap, ◌∙◌, append-nil}
+use Rattle.std.specs.Prelude.{Bool, true, false, is_some, slice_get, unwrap_or, option_map}
+use Rattle.std.specs.List.{filter_map, cons_option}
+use Rattle.std.proofs.lemmas.List.{take_more, take-append-drop, map-append}
+use Rattle.std.proofs.lemmas.List.Elements.{filter_map-append}
+use Rattle.std.proofs.lemmas.Grind.{flat_map-append}
+use Rattle.std.proofs.lemmas.Option.{slice_get_within, get_or_from_slice_get, slice_get-map}
+use Rattle.std.proofs.Math.Seq.{drop-cons}
+use Rattle.id_graph.specs.declared.instr.Instr.{Instr}
+use Rattle.id_graph.specs.Graph.{Parts}
+use Rattle.id_tag.specs.declared.Value.{Value}
+use Rattle.id_element.specs.Replays.{ElementView}
+use Rattle.id_observe.specs.Observed.{events_of, answers, faults_in, fault_of, names_in, name_in, label_marks, is_label, is_label_of}
+
+-- one more element at the end of what was walked over
+take-next : {A : Type 0} (xs : List A) (i : ℕ) (x : A) → slice_get xs i ≡ Some x → take (i + 1) xs ≡ take i xs ++ x ∷ []
+take-next xs i x at =
+    take_more xs i x (slice_get_within xs i x at) ∙ ap (λ y. take i xs ++ y ∷ []) (get_or_from_slice_get xs i x x at)
+
+-- the list as what was walked over, the next element and the rest
+split-next : {A : Type 0} (xs : List A) (i : ℕ) (x : A) → slice_get xs i ≡ Some x → take i xs ++ x ∷ drop (suc i) xs ≡ xs
+split-next xs i x at =
+    let next : drop i xs ≡ x ∷ drop (suc i) xs = drop-cons xs i x (slice_get_within xs i x at) ∙ ap (λ y. y ∷ drop (suc i) xs) (get_or_from_slice_get xs i x x at) in
+    ap (λ ys. take i xs ++ ys) (sym next) ∙ take-append-drop i xs
+
+-- a walk goes on by what one element gives
+pub filter_map-next : {A B : Type 0} (h : A → Option B) (xs : List A) (i : ℕ) (x : A) → slice_get xs i ≡ Some x → filter_map h (take (i + 1) xs) ≡ filter_map h (take i xs) ++ cons_option (h x) []
+filter_map-next h xs i x at = ap (filter_map h) (take-next xs i x at) ∙ filter_map-append h (take i xs) (x ∷ [])
+
+-- the first that gives something, after those that gave nothing
+pub filter_map-first : {A B : Type 0} (h : A → Option B) (xs : List A) (i : ℕ) (x : A) (v : B) → slice_get xs i ≡ Some x → filter_map h (take i xs) ≡ [] → h x ≡ Some v → slice_get (filter_map h xs) 0 ≡ Some v
+filter_map-first h xs i x v at before gives =
+    let whole : filter_map h xs ≡ filter_map h (take i xs) ++ cons_option (h x) (filter_map h (drop (suc i) xs)) =
+    ap (filter_map h) (sym (split-next xs i x at)) ∙ filter_map-append h (take i xs) (x ∷ drop (suc i) xs) in
+    rw (whole, before, gives)
+
+-- the same, where a test says that it gives something
+pub filter_map-found : {A B : Type 0} (h : A → Option B) (xs : List A) (i : ℕ) (x : A) (o : Option B) → slice_get xs i ≡ Some x → filter_map h (take i xs) ≡ [] → h x ≡ o → is_some o ≡ true → o ≡ slice_get (filter_map h xs) 0
+filter_map-found h xs i x None at before gives found = cc
+filter_map-found h xs i x (Some v) at before gives found = sym (filter_map-first h xs i x v at before gives)
+
+-- nothing yet, and one more gives nothing
+pub filter_map-nothing : {A B : Type 0} (h : A → Option B) (xs : List A) (i : ℕ) (x : A) (o : Option B) → slice_get xs i ≡ Some x → filter_map h (take i xs) ≡ [] → h x ≡ o → is_some o ≡ false → filter_map h (take (i + 1) xs) ≡ []
+filter_map-nothing h xs i x None at before gives missed = rw (filter_map-next h xs i x at, before, gives)
+filter_map-nothing h xs i x (Some v) at before gives missed = cc
+
+-- the events of elements, one more element after those walked over
+events-next : (es : List ElementView) (i : ℕ) (e : ElementView) → slice_get es i ≡ Some e → events_of (map (λ x. x.state) (take (i + 1) es)) ≡ events_of (map (λ x. x.state) (take i es)) ++ e.state.events
+events-next es i e at =
+    ap (λ xs. events_of (map (λ x. x.state) xs)) (take-next es i e at)
+    ∙ ap events_of (map-append (λ x. x.state) (take i es) (e ∷ []))
+    ∙ flat_map-append (λ s. s.events) (map (λ x. x.state) (take i es)) (e.state ∷ [])
+    ∙ ap (λ ys. events_of (map (λ x. x.state) (take i es)) ++ ys) (append-nil e.state.events)
+
+-- and all of them
+events-split : (es : List ElementView) (i : ℕ) (e : ElementView) → slice_get es i ≡ Some e
+    → events_of (map (λ x. x.state) es) ≡ events_of (map (λ x. x.state) (take i es)) ++ (e.state.events ++ events_of (map (λ x. x.state) (drop (suc i) es)))
+events-split es i e at =
+    ap (λ xs. events_of (map (λ x. x.state) xs)) (sym (split-next es i e at))
+    ∙ ap events_of (map-append (λ x. x.state) (take i es) (e ∷ drop (suc i) es))
+    ∙ flat_map-append (λ s. s.events) (map (λ x. x.state) (take i es)) (e.state ∷ map (λ x. x.state) (drop (suc i) es))
+
+-- what stands first in a list stands first in a longer one
+first-append : {A : Type 0} (xs ys : List A) (v : A) → slice_get xs 0 ≡ Some v → slice_get (xs ++ ys) 0 ≡ Some v
+first-append [] ys v at = cc
+first-append (x ∷ xs) ys v at = at
+
+-- nothing stands first in the empty list alone
+pub none_first : {A : Type 0} (xs : List A) → slice_get xs 0 ≡ None → xs ≡ []
+none_first [] at = refl
+none_first (x ∷ xs) at = cc
+
+-- the first element whose record has an answer, after those whose records have none
+pub answers-first : (es : List ElementView) (i : ℕ) (e : ElementView) (v : Value) → slice_get es i ≡ Some e
+    → answers (events_of (map (λ x. x.state) (take i es))) ≡ [] → slice_get (answers e.state.events) 0 ≡ Some v
+    → slice_get (answers (events_of (map (λ x. x.state) es))) 0 ≡ Some v
+answers-first es i e v at before first =
+    let rest = events_of (map (λ x. x.state) (drop (suc i) es)) in
+    let whole : answers (events_of (map (λ x. x.state) es)) ≡ answers (events_of (map (λ x. x.state) (take i es))) ++ (answers e.state.events ++ answers rest) =
+    ap answers (events-split es i e at)
+    ∙ filter_map-append _ (events_of (map (λ x. x.state) (take i es))) (e.state.events ++ rest)
+    ∙ ap (λ ys. answers (events_of (map (λ x. x.state) (take i es))) ++ ys) (filter_map-append _ e.state.events rest) in
+    rw (whole, before) (first-append (answers e.state.events) (answers rest) v first)
+
+-- a record with no answer adds none
+pub answers-next : (es : List ElementView) (i : ℕ) (e : ElementView) → slice_get es i ≡ Some e
+    → answers (events_of (map (λ x. x.state) (take i es))) ≡ [] → answers e.state.events ≡ []
+    → answers (events_of (map (λ x. x.state) (take (i + 1) es))) ≡ []
+answers-next es i e at before none =
+    ap answers (events-next es i e at)
+    ∙ filter_map-append _ (events_of (map (λ x. x.state) (take i es))) e.state.events
+    ∙ rw (before, none)
+
+-- the faults of one more record come after those before
+pub faults-next : (g : Parts) (es : List ElementView) (i : ℕ) (e : ElementView) → slice_get es i ≡ Some e
+    → faults_in g (map (λ x. x.state) (take (i + 1) es)) ≡ faults_in g (map (λ x. x.state) (take i es)) ++ filter_map (λ v. fault_of g v.step) e.state.events
+faults-next g es i e at =
+    ap (filter_map (λ v. fault_of g v.step)) (events-next es i e at)
+    ∙ filter_map-append (λ v. fault_of g v.step) (events_of (map (λ x. x.state) (take i es))) e.state.events
+
+-- the names of one more record come after those before
+pub names-next : (g : Parts) (es : List ElementView) (i : ℕ) (e : ElementView) → slice_get es i ≡ Some e
+    → names_in g (map (λ x. x.state) (take (i + 1) es)) ≡ names_in g (map (λ x. x.state) (take i es)) ++ filter_map (λ v. name_in g v.message.payload) e.state.events
+names-next g es i e at =
+    ap (filter_map (λ v. name_in g v.message.payload)) (events-next es i e at)
+    ∙ filter_map-append (λ v. name_in g v.message.payload) (events_of (map (λ x. x.state) (take i es))) e.state.events
+
+-- the mark of a number, where there is one, says whether its instruction is a label
+pub is_label-from_mark : (g : Parts) (n : ℕ) → unwrap_or (slice_get (label_marks g) n) false ≡ is_label g n
+is_label-from_mark g n = ap (λ x. unwrap_or x false) (slice_get-map (λ i. is_label_of g (Some i)) g.instrs n) ∙ from (slice_get g.instrs n)
+  where
+    from : (i : Option Instr) → unwrap_or (option_map (λ j. is_label_of g (Some j)) i) false ≡ is_label_of g i
+    from None = refl
+    from (Some i) = refl
+
+-- the marks of the instructions so far, and of one more
+pub marks-next : (g : Parts) (is : List Instr) (k : ℕ) (i : Instr) (m : Bool) → slice_get is k ≡ Some i → m ≡ is_label_of g (Some i)
+    → map (λ j. is_label_of g (Some j)) (take (k + 1) is) ≡ map (λ j. is_label_of g (Some j)) (take k is) ++ m ∷ []
+marks-next g is k i m at mark =
+    ap (map (λ j. is_label_of g (Some j))) (take-next is k i at) ∙ map-append (λ j. is_label_of g (Some j)) (take k is) (i ∷ [])
+    ∙ ap (λ b. map (λ j. is_label_of g (Some j)) (take k is) ++ b ∷ []) (sym mark)

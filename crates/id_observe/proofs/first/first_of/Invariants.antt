@@ -1,0 +1,7 @@
+-- The events so far show no fault.
+use Rattle.std.proofs.Common.{◌≡◌, [], take}
+use Rattle.id_observe.specs.Observed.{faults_of}
+use Rattle.id_observe.proofs.first.first_of.Given as goal
+
+abbrev pub invariant-loop-position : goal.invariant-loop-position
+invariant-loop-position l = faults_of l.graph (take l.position l.events) ≡ []

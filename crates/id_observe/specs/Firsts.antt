@@ -1,0 +1,20 @@
+-- The first fault that records show (docs/MACHINE.md, "Observed").
+use Rattle.std.specs.Prelude.{◌≡◌, List, Some, slice_get}
+use Rattle.std.specs.List.Sorted.{IsPermutation, IsStrictlySortedBy}
+use Rattle.id_graph.specs.Graph.{Parts}
+use Rattle.id_meaning.specs.declared.SourceFault.{SourceFault}
+use Rattle.id_record.specs.Events.{EventView}
+use Rattle.id_element.specs.Steps.{State}
+use Rattle.id_observe.specs.Merged.{by_moment}
+use Rattle.id_observe.specs.Observed.{events_of, faults_of}
+
+-- these are all events of the elements, by stamp, and at one stamp by element
+pub record AreMergedOf (elements : List State) (es : List EventView) : Type 0 where
+  pub all : IsPermutation (events_of elements) es
+  pub sorted : IsStrictlySortedBy by_moment es
+
+-- f is the first fault of all events of the elements, taken by stamp and then by element
+pub record IsFirstFault (g : Parts) (elements : List State) (f : SourceFault) : Type 0 where
+  pub order : List EventView
+  pub merged : AreMergedOf elements order
+  pub first : slice_get (faults_of g order) 0 ≡ Some f

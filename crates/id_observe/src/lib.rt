@@ -1,0 +1,15 @@
+//! What records show: the answer, what binders have and the faults, and the records of several elements as one list.
+//!
+//! Keeps: nothing beyond its values.
+//! Errors: want of memory alone.
+//! Read first: `specs/Observed.antt`, then `observe_records`; `specs/Merged.antt`, then `merge_records`.
+//! Not here: the elements (`id_element`), how what is shown is printed (`id_print`).
+#![tactic(auto)]
+
+mod first;
+mod merge;
+mod observe;
+
+pub use first::first_fault;
+pub use merge::{Merged, merge_records};
+pub use observe::{Observed, main_tag, observe_records};

@@ -1,0 +1,3 @@
+pub mod EachLemmas
+pub mod SendsLemmas
+pub mod LinesLemmas

@@ -1,0 +1,123 @@
+-- Lemmas on specs/Lines.antt and specs/Records.antt: a record goes on by one event.
+use Rattle.std.proofs.Common.{◌≡◌, ℕ, zero, suc, ◌+◌, ◌<◌, List, [], ◌∷◌, ◌++◌, Some, length, refl, sym, ap, subst, ◌∙◌, length-append, get_or, arith}
+use Rattle.std.specs.Prelude.{All, slice_get}
+use Rattle.std.specs.List.{AllByRecursion}
+use Rattle.std.proofs.lemmas.List.{get_or_append_left}
+use Rattle.std.proofs.lemmas.List.Elements.{recursion_from_All, All-from_recursion}
+use Rattle.std.proofs.lemmas.Option.{get_or_from_slice_get, slice_get_read}
+use Rattle.std.specs.Option.{option_map_or}
+use Rattle.id_graph.specs.declared.instr.Instr.{Instr}
+use Rattle.id_graph.specs.Graph.{Parts}
+use Rattle.id_tag.specs.declared.Message.{Message}
+use Rattle.id_tag.specs.declared.Tag.{Tag}
+use Rattle.id_tag.specs.declared.Value.TheVariants as value
+use Rattle.id_record.specs.declared.line.Handled.{Handled}
+use Rattle.id_record.specs.declared.line.Line.{Line}
+use Rattle.id_record.specs.declared.line.Carried.{Carried}
+use Rattle.id_record.specs.declared.line.Carried.TheVariants.{Signal, Int, Bool as Truth, Aside}
+use Rattle.id_record.specs.Events.{EventView, full_step, tag_of}
+use Rattle.id_record.specs.Sends.{numbered, sent}
+use Rattle.id_record.specs.Lines.{IsPacked, IsThere, IsWithin, own, read, unpacked}
+use Rattle.id_record.specs.Records.{event_of_handled, events_from}
+use Rattle.id_record.proofs.EachLemmas.{each-append, each-weaker, each-get}
+
+-- as many events as lines
+pub length-events_from : (g : Parts) (n k : ℕ) (asides : List Handled) (ls : List Line) → length (events_from g n k asides ls) ≡ length ls
+length-events_from g n k asides [] = refl
+length-events_from g n k asides (l ∷ ls) = omega (arith, length-events_from g n (k + 1) asides ls)
+
+-- the event at a position is that of the line
+pub events_from-get : (g : Parts) (n k : ℕ) (asides : List Handled) (ls : List Line) (i : ℕ) (l : Line) → slice_get ls i ≡ Some l → slice_get (events_from g n k asides ls) i ≡ Some (event_of_handled g n (k + i) (unpacked asides l))
+events_from-get g n k asides [] i l is = cc
+events_from-get g n k asides (m ∷ ls) zero l is =
+    let same : m ≡ l = cc in
+    let here : k ≡ k + 0 = omega arith in
+    ap (λ x. Some (event_of_handled g n k (unpacked asides x))) same ∙ ap (λ j. Some (event_of_handled g n j (unpacked asides l))) here
+events_from-get g n k asides (m ∷ ls) (suc i) l is =
+    let there : k + 1 + i ≡ k + suc i = omega arith in
+    events_from-get g n (k + 1) asides ls i l is ∙ ap (λ j. Some (event_of_handled g n j (unpacked asides l))) there
+
+-- one more line is one more event
+events_from-push : (g : Parts) (n k : ℕ) (asides : List Handled) (ls : List Line) (l : Line) → events_from g n k asides (ls ++ l ∷ []) ≡ events_from g n k asides ls ++ event_of_handled g n (k + length ls) (unpacked asides l) ∷ []
+events_from-push g n k asides [] l = let here : k ≡ k + 0 = omega arith in ap (λ j. event_of_handled g n j (unpacked asides l) ∷ []) here
+events_from-push g n k asides (m ∷ ls) l =
+    let there : k + 1 + length ls ≡ k + length (m ∷ ls) = omega arith in
+    ap (λ es. event_of_handled g n k (unpacked asides m) ∷ es) (events_from-push g n (k + 1) asides ls l ∙ ap (λ j. events_from g n (k + 1) asides ls ++ event_of_handled g n j (unpacked asides l) ∷ []) there)
+
+-- one more event aside changes none
+read-append : (asides more : List Handled) (l : Line) (c : Carried) → IsThere asides c → read (asides ++ more) l c ≡ read asides l c
+read-append asides more l Signal there = refl
+read-append asides more l (Int n) there = refl
+read-append asides more l (Truth b) there = refl
+read-append asides more l (Aside i) there = grind (arith, get_or_append_left)
+
+there-append : (asides more : List Handled) (c : Carried) → IsThere asides c → IsThere (asides ++ more) c
+there-append asides more Signal there = tt
+there-append asides more (Int n) there = tt
+there-append asides more (Truth b) there = tt
+there-append asides more (Aside i) there = omega (arith, length-append asides more)
+
+events_from-append : (g : Parts) (n k : ℕ) (asides more : List Handled) (ls : List Line) → AllByRecursion (IsWithin asides) ls → events_from g n k (asides ++ more) ls ≡ events_from g n k asides ls
+events_from-append g n k asides more [] within = refl
+events_from-append g n k asides more (l ∷ ls) within =
+    let here : unpacked (asides ++ more) l ≡ unpacked asides l = read-append asides more l l.carried within.0 in
+    let rest = events_from-append g n (k + 1) asides more ls within.1 in
+    ap (λ h. event_of_handled g n k h ∷ events_from g n (k + 1) (asides ++ more) ls) here ∙ ap (λ es. event_of_handled g n k (unpacked asides l) ∷ es) rest
+
+-- the last element of a list
+get_last : {X : Type 0} (xs : List X) (x : X) → slice_get (xs ++ x ∷ []) (length xs) ≡ Some x
+get_last [] x = refl
+get_last (y ∷ ys) x = get_last ys x
+
+-- the last event aside
+aside_last : (asides : List Handled) (e : Handled) (l : Line) → l.carried ≡ Aside (length asides) → unpacked (asides ++ e ∷ []) l ≡ e
+aside_last asides e l is =
+    ap (read (asides ++ e ∷ []) l) is ∙ get_or_from_slice_get (asides ++ e ∷ []) (length asides) e (own l value.Signal) (get_last asides e)
+
+-- an event in a line of its own
+pub pushed_line : (g : Parts) (n : ℕ) (asides : List Handled) (ls : List Line) (e : Handled) (l : Line) → IsPacked e l → events_from g n 0 asides (ls ++ l ∷ []) ≡ events_from g n 0 asides ls ++ event_of_handled g n (length (events_from g n 0 asides ls)) e ∷ []
+pushed_line g n asides ls e l packed =
+    let at : 0 + length ls ≡ length (events_from g n 0 asides ls) = omega (arith, length-events_from g n 0 asides ls) in
+    events_from-push g n 0 asides ls l
+    ∙ ap (λ j. events_from g n 0 asides ls ++ event_of_handled g n j (unpacked asides l) ∷ []) at
+    ∙ ap (λ h. events_from g n 0 asides ls ++ event_of_handled g n (length (events_from g n 0 asides ls)) h ∷ []) (packed.is asides)
+
+pub within_line : (asides : List Handled) (ls : List Line) (e : Handled) (l : Line) → IsPacked e l → All (IsWithin asides) ls → All (IsWithin asides) (ls ++ l ∷ [])
+within_line asides ls e l packed within =
+    All-from_recursion (IsWithin asides) (ls ++ l ∷ []) (each-append (IsWithin asides) ls (l ∷ []) (recursion_from_All (IsWithin asides) ls within) (packed.within asides, tt))
+
+-- an event aside
+pub pushed_aside : (g : Parts) (n : ℕ) (asides : List Handled) (ls : List Line) (e : Handled) (l : Line) → l.carried ≡ Aside (length asides) → All (IsWithin asides) ls
+    → events_from g n 0 (asides ++ e ∷ []) (ls ++ l ∷ []) ≡ events_from g n 0 asides ls ++ event_of_handled g n (length (events_from g n 0 asides ls)) e ∷ []
+pushed_aside g n asides ls e l is within =
+    let at : 0 + length ls ≡ length (events_from g n 0 asides ls) = omega (arith, length-events_from g n 0 asides ls) in
+    events_from-push g n 0 (asides ++ e ∷ []) ls l
+    ∙ ap (λ es. es ++ event_of_handled g n (0 + length ls) (unpacked (asides ++ e ∷ []) l) ∷ []) (events_from-append g n 0 asides (e ∷ []) ls (recursion_from_All (IsWithin asides) ls within))
+    ∙ ap (λ h. events_from g n 0 asides ls ++ event_of_handled g n (0 + length ls) h ∷ []) (aside_last asides e l is)
+    ∙ ap (λ j. events_from g n 0 asides ls ++ event_of_handled g n j e ∷ []) at
+
+pub within_aside : (asides : List Handled) (ls : List Line) (e : Handled) (l : Line) → l.carried ≡ Aside (length asides) → All (IsWithin asides) ls → All (IsWithin (asides ++ e ∷ [])) (ls ++ l ∷ [])
+within_aside asides ls e l is within =
+    let last : IsWithin (asides ++ e ∷ []) l = subst (IsThere (asides ++ e ∷ [])) (sym is) (omega (arith, length-append asides (e ∷ []))) in
+    All-from_recursion (IsWithin (asides ++ e ∷ [])) (ls ++ l ∷ [])
+    (each-append (IsWithin (asides ++ e ∷ [])) ls (l ∷ [])
+    (each-weaker (IsWithin asides) (IsWithin (asides ++ e ∷ [])) (λ m there. there-append asides (e ∷ []) m.carried there) ls (recursion_from_All (IsWithin asides) ls within))
+    (last, tt))
+
+-- the line at a position, as the code reads it
+pub line_within : (asides : List Handled) (ls : List Line) (k : ℕ) (l : Line) → All (IsWithin asides) ls → k < length ls → l ≡ get_or ls k l → IsWithin asides l
+line_within asides ls k l within below is = each-get (IsWithin asides) ls k l (recursion_from_All (IsWithin asides) ls within) (slice_get_read ls (length ls) k l refl below is)
+
+-- an event at an instruction that there is
+pub event_at_instr : (g : Parts) (n k : ℕ) (h : Handled) (i : Instr) (t : Tag) → slice_get g.instrs (tag_of h.message.payload).instr ≡ Some i → t ≡ tag_of h.message.payload
+    → event_of_handled g n k h ≡ record {
+      element = n;
+      stamp = h.stamp;
+      message = h.message;
+      outputs = numbered n k h.stamp 0 (sent i.dests t h.reaction.fired);
+      step = full_step h.message.payload h.reaction.verdict;
+    }
+event_at_instr g n k h i t there tag =
+    let event : List Message → EventView = λ ms. record { element = n; stamp = h.stamp; message = h.message; outputs = ms; step = full_step h.message.payload h.reaction.verdict } in
+    ap (λ o. event (numbered n k h.stamp 0 (sent (option_map_or (λ x. x.dests) o []) (tag_of h.message.payload) h.reaction.fired))) there
+    ∙ ap (λ u. event (numbered n k h.stamp 0 (sent i.dests u h.reaction.fired))) (sym tag)

@@ -1,0 +1,34 @@
+-- The event at a position is that of its line.
+use Rattle.std.proofs.Common.{◌≡◌, ◌<◌, ◌+◌, Some, length, vec_len, sym, ap, ◌∙◌, arith, refl}
+use Rattle.id_record.specs.Lines.{unpacked}
+use Rattle.id_record.specs.Records.{event_of_handled}
+use Rattle.std.proofs.lemmas.Grind.{common_steps}
+use Rattle.std.proofs.lemmas.Option.{slice_get_read}
+use Rattle.id_record.proofs.LinesLemmas.{length-events_from, events_from-get, line_within}
+use Rattle.id_record.proofs.history.Record.event.Goals as goal
+
+pub index-line-requires : goal.index-line-requires
+index-line-requires c =
+    let r = c.self.inside in
+    let held : vec_len r.lines ≡ length r.lines.items = grind (arith, common_steps) in
+    omega (arith, held, length-events_from r.graph.now r.element 0 r.asides.items r.lines.items, ap (λ v. length v.events) c.self.view_is)
+
+pub unpack-handled-requires : goal.unpack-handled-requires
+unpack-handled-requires c =
+    let r = c.self.inside in
+    let below : c.args.position < length r.lines.items = omega (arith, length-events_from r.graph.now r.element 0 r.asides.items r.lines.items, ap (λ v. length v.events) c.self.view_is) in
+    rw c.as_slice.ensures.value (line_within r.asides.items r.lines.items c.args.position c.index-line.result.now c.self.invariant below c.index-line.ensures)
+
+pub returns : goal.returns
+returns c =
+    let r = c.self.inside in
+    let below : c.args.position < length r.lines.items = omega (arith, length-events_from r.graph.now r.element 0 r.asides.items r.lines.items, ap (λ v. length v.events) c.self.view_is) in
+    let there = slice_get_read r.lines.items _ _ _ refl below c.index-line.ensures in
+    let handled : unpacked r.asides.items c.index-line.result.now ≡ c.unpack-handled.result = ap (λ a. unpacked a c.index-line.result.now) (sym c.as_slice.ensures.value) ∙ sym c.unpack-handled.ensures in
+    let number : 0 + c.args.position ≡ c.args.position = omega arith in
+    rw (c.full_step.ensures, c.new.ensures, c.dests_at.ensures, c.graph.ensures.value, c.tag_of-tag.ensures, ← ap (λ v. v.events) c.self.view_is)
+    (
+    events_from-get r.graph.now r.element 0 r.asides.items r.lines.items c.args.position c.index-line.result.now there
+    ∙ ap (λ h. Some (event_of_handled r.graph.now r.element (0 + c.args.position) h)) handled
+    ∙ ap (λ k. Some (event_of_handled r.graph.now r.element k c.unpack-handled.result)) number
+    )

@@ -1,0 +1,243 @@
+//! The record of an element: a line for each event, seen as a list of events.
+
+ghost use Rattle.std.specs.Prelude.{◌≡◌, ◌<◌, ◌++◌, ◌∷◌, [], vec_len, vec_capacity};
+ghost use Rattle.id_record.specs.Events.{full_step, tag_of};
+ghost use Rattle.id_record.specs.Records.{dests_at};
+
+use crate::line::{Handled, Line, line_aside, packed, unpack};
+use crate::outputs::{Envelope, Outputs};
+use crate::step::{Fault, Step, Verdict};
+use id_graph::{Dest, Graph};
+use id_tag::{Message, Payload, Tag};
+use id_valid::Valid;
+use std::alloc::{AllocError, Global};
+use std::marker::Model;
+
+/// The events of one element of a graph, in order.
+#[derive(Drop)]
+pub struct Record<'a> {
+    graph: &'a Valid,
+    element: u32,
+    lines: Vec<Line>,
+    asides: Vec<Handled>,
+}
+
+impl<'a> Model for Record<'a> {
+    ghost use Rattle.std.specs.Prelude.{◌-◌, vec_len, vec_capacity, All};
+    ghost use Rattle.id_record.specs.Lines.{IsWithin};
+    ghost use Rattle.id_record.specs.Records.{RecordView, events_from};
+
+    ghost Value = { RecordView };
+
+    ghost view = { λ r. record {
+      element = r.element;
+      graph = r.graph.now;
+      events = events_from r.graph.now r.element 0 r.asides.items r.lines.items;
+      room = vec_capacity r.lines - vec_len r.lines;
+      room_aside = vec_capacity r.asides - vec_len r.asides;
+    } };
+
+    ghost invariant = { λ r. All (IsWithin r.asides.items) r.lines.items };
+}
+
+/// An event: the element that handled the message, the stamp that it gave it, what it sent, and what
+/// it came to.
+#[derive(Drop)]
+pub struct Event<'a> {
+    pub element: u32,
+    pub stamp: u64,
+    pub message: Message,
+    pub outputs: Outputs<'a>,
+    pub step: Step,
+}
+
+/// The events of a record, in order.
+#[derive(Drop)]
+pub struct Events<'a> {
+    record: &'a Record<'a>,
+}
+
+impl<'a> Model for Events<'a> {
+    ghost use Rattle.std.specs.Prelude.{List};
+    ghost use Rattle.id_record.specs.Events.{EventView};
+
+    ghost Value = { List EventView };
+
+    ghost view = { λ e. e.record.now.events };
+}
+
+impl<'a> Record<'a> {
+    ghost use Rattle.std.specs.Prelude.{◌≡◌, ◌<◌, ◌≤◌, ◌++◌, ◌∷◌, [], length, slice_get, Some, OnOk};
+    ghost use Rattle.id_record.specs.Records.{event_of_handled};
+
+    /// The empty record of the element of this number. Takes no memory.
+    pub fn new(alloc: Global, element: u32, graph: &'a Valid) -> Record<'a>
+        ensures events { result.events ≡ [] }
+        ensures element { result.element ≡ element }
+        ensures graph { result.graph ≡ graph.now }
+    {
+        Record {
+            graph,
+            element,
+            lines: Vec::new(alloc),
+            asides: Vec::new(alloc),
+        }
+    }
+
+    /// Makes room for one more event.
+    pub fn reserve(&mut self) -> Result<(), AllocError>
+        ensures events { self.new.events ≡ self.old.events }
+        ensures element { self.new.element ≡ self.old.element }
+        ensures graph { self.new.graph ≡ self.old.graph }
+        ensures room { OnOk result (0 < self.new.room) }
+        ensures room_aside { OnOk result (0 < self.new.room_aside) }
+    {
+        self.lines.reserve(1)?;
+        self.asides.reserve(1)?;
+        Ok(())
+    }
+
+    /// Adds an event at the end. Takes no memory.
+    pub fn push(&mut self, event: Handled)
+        requires room { 0 < self.old.room }
+        requires room_aside { 0 < self.old.room_aside }
+        ensures element { self.new.element ≡ self.old.element }
+        ensures graph { self.new.graph ≡ self.old.graph }
+        ensures events { self.new.events ≡ self.old.events ++ event_of_handled self.old.graph self.old.element (length self.old.events) event ∷ [] }
+    {
+        match packed(&event) {
+            Some(line) => add_line(&mut self.lines, line),
+            None => {
+                let index = self.asides.len();
+                self.asides.push_reserved(event);
+                add_line(&mut self.lines, line_aside(index));
+            }
+        }
+    }
+
+    /// The events, in order. Takes no memory.
+    pub fn events(&self) -> Events<'_>
+        ensures { result ≡ self.now.events }
+    {
+        Events { record: self }
+    }
+
+    /// The number of the element. Takes no memory.
+    pub fn element(&self) -> u32
+        ensures { result ≡ self.now.element }
+    {
+        self.element
+    }
+
+    /// The graph. Takes no memory.
+    pub fn graph(&self) -> &'a Valid
+        ensures { result.now ≡ self.now.graph }
+    {
+        self.graph
+    }
+
+    /// How many events there are. Takes no memory.
+    pub fn len(&self) -> usize
+        ensures { result ≡ length self.now.events }
+    {
+        self.lines.len()
+    }
+
+    fn event(&self, position: usize) -> Event<'a>
+        requires { position < length self.now.events }
+        ensures { slice_get self.now.events position ≡ Some (record {
+          element = result.element;
+          stamp = result.stamp;
+          message = result.message;
+          outputs = result.outputs;
+          step = result.step;
+        }) }
+    {
+        let line = &self.lines[position];
+        let handled = unpack(self.asides.as_slice(), line);
+        let tag = tag_of(&handled.message.payload);
+        let envelope = Envelope {
+            number: self.element,
+            position,
+            stamp: handled.stamp,
+        };
+        Event {
+            element: self.element,
+            stamp: handled.stamp,
+            message: handled.message,
+            outputs: Outputs::new(
+                dests_at(self.graph.graph(), tag.instr),
+                tag,
+                handled.reaction.fired,
+                envelope,
+            ),
+            step: full_step(&handled.message.payload, handled.reaction.verdict),
+        }
+    }
+}
+
+impl<'a> Events<'a> {
+    ghost use Rattle.std.specs.Prelude.{◌≡◌, ◌<◌, length, slice_get, Some};
+
+    /// How many events there are. Takes no memory.
+    pub fn len(&self) -> usize
+        ensures { result ≡ length self.now }
+    {
+        self.record.len()
+    }
+
+    /// The event at a position, from 0. Takes no memory.
+    pub fn event(&self, position: usize) -> Event<'a>
+        requires { position < length self.now }
+        ensures { slice_get self.now position ≡ Some (record {
+          element = result.element;
+          stamp = result.stamp;
+          message = result.message;
+          outputs = result.outputs;
+          step = result.step;
+        }) }
+    {
+        let held = self.record;
+        held.event(position)
+    }
+}
+
+/// Adds a line at the end. Takes no memory.
+fn add_line(lines: &mut Vec<Line>, line: Line)
+    requires { vec_len lines.old < vec_capacity lines.old }
+    ensures { lines.new.items ≡ lines.old.items ++ line ∷ [] }
+{
+    lines.push_reserved(line);
+}
+
+/// The destinations of the instruction of this number.
+fn dests_at(graph: &Graph, number: u32) -> &[Dest]
+    ensures { result.now ≡ dests_at graph.now number }
+{
+    match graph.instrs().get(number as usize) {
+        Some(instr) => instr.dests.as_slice(),
+        None => &[],
+    }
+}
+
+/// The tag that a payload names.
+pub fn tag_of(payload: &Payload) -> Tag
+    ensures { result ≡ tag_of payload.now }
+{
+    let Payload::Token { tag, .. } = *payload;
+    tag
+}
+
+/// What a verdict on a message says in full.
+pub fn full_step(payload: &Payload, verdict: Verdict) -> Step
+    ensures { result ≡ full_step payload.now verdict }
+{
+    match verdict {
+        Verdict::Went => Step::Went,
+        Verdict::Failed(fault) => Step::Fault(Fault::Operator {
+            fault,
+            tag: tag_of(payload),
+        }),
+        Verdict::Stuck => Step::Stuck,
+    }
+}

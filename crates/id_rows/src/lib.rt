@@ -1,0 +1,11 @@
+//! Worked rows of the machine: calls whose answers were worked by hand from docs/GRAPH.md and docs/MACHINE.md.
+//!
+//! Keeps: nothing. All of it is tests, in a crate of their own, so that no crate below is proved once more for them.
+//! Read first: `rows`.
+//! Not here: whole programs (`idc`).
+#![tactic(auto)]
+
+#[cfg(test)]
+mod graphs;
+#[cfg(test)]
+mod rows;
