@@ -11,8 +11,8 @@ use Rattle.id_tag.specs.declared.Value.TheVariants as value
 use Rattle.id_tag.specs.declared.Payload.{Payload}
 use Rattle.id_tag.specs.declared.Payload.TheVariants.{Token}
 use Rattle.id_core.specs.Events.{EventView}
-use Rattle.id_core.specs.declared.step.Step.{Step}
-use Rattle.id_core.specs.declared.step.Step.TheVariants.{Went, Fault, Stuck}
+use Rattle.id_record.specs.declared.step.Step.{Step}
+use Rattle.id_record.specs.declared.step.Step.TheVariants.{Went, Fault, Stuck}
 
 -- a context: its element and its number
 abbrev pub context_text : Context → List ℕ

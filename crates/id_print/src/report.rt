@@ -1,6 +1,6 @@
 //! Reports of runs, and how they are printed.
 
-ghost use Rattle.std.specs.Prelude.{◌≡◌, ◌≤◌, ◌↔◌, length, IsTrue, IfOk, None, slice_get};
+ghost use Rattle.std.specs.Prelude.{◌≡◌, ◌≤◌, ◌↔◌, [], length, IsTrue, IfOk};
 ghost use Rattle.id_core.specs.Observed.{answer, faults, names};
 ghost use Rattle.id_meaning.specs.Orders.{NamesRise};
 ghost use Rattle.id_print.specs.Endings.{EndsSo};
@@ -38,8 +38,8 @@ pub struct Report {
     pub names: Sequence<NameValue>,
 }
 
-/// The report of a run: it ended at its first fault, where there is one, else it is quiet or it was
-/// stopped.
+/// The report of a run: it ended at its first fault, by stamp and then by element, where there is one, else it is quiet
+/// or it was stopped.
 pub fn run_report(alloc: Global, machine: &Machine<'_>) -> Result<Report, AllocError>
     ensures answer { IfOk result (λ r. r.answer ≡ answer machine.now.world) }
     ensures ending { IfOk result (λ r. EndsSo machine.now r.ending) }
@@ -50,8 +50,7 @@ pub fn run_report(alloc: Global, machine: &Machine<'_>) -> Result<Report, AllocE
 {
     let shown = machine.observe(alloc)?;
     let answer = shown.answer;
-    let fault = first_of(shown.faults);
-    let ending = ending_of(machine, fault);
+    let ending = ending_of(alloc, machine, &shown.faults)?;
     let names = sorted_names(shown.names);
     Ok(Report {
         ending,
@@ -60,20 +59,27 @@ pub fn run_report(alloc: Global, machine: &Machine<'_>) -> Result<Report, AllocE
     })
 }
 
-/// How a run ended whose first fault is this.
-fn ending_of(machine: &Machine<'_>, fault: Option<SourceFault>) -> Ending
-    requires { fault ≡ slice_get (faults machine.now.graph machine.now.world) 0 }
-    ensures { EndsSo machine.now result }
+/// How a run ended that shows these faults. The records are merged only where there is a fault.
+fn ending_of(
+    alloc: Global,
+    machine: &Machine<'_>,
+    shown: &Sequence<SourceFault>,
+) -> Result<Ending, AllocError>
+    requires { shown.now ≡ faults machine.now.graph machine.now.world }
+    ensures { IfOk result (EndsSo machine.now) }
 {
-    match fault {
-        Some(fault) => Ending::Fault(fault),
-        None => ending_without_fault(machine),
+    if shown.is_empty() {
+        return Ok(ending_without_fault(machine));
+    }
+    match machine.first_fault(alloc)? {
+        Some(fault) => Ok(Ending::Fault(fault)),
+        None => Ok(ending_without_fault(machine)),
     }
 }
 
 /// How a run ended that met no fault.
 fn ending_without_fault(machine: &Machine<'_>) -> Ending
-    requires { slice_get (faults machine.now.graph machine.now.world) 0 ≡ None }
+    requires { faults machine.now.graph machine.now.world ≡ [] }
     ensures { EndsSo machine.now result }
 {
     if machine.is_quiet() {
@@ -81,17 +87,6 @@ fn ending_without_fault(machine: &Machine<'_>) -> Ending
     } else {
         Ending::Stopped
     }
-}
-
-/// The first of the faults.
-fn first_of(faults: Sequence<SourceFault>) -> Option<SourceFault>
-    ensures { result ≡ slice_get faults 0 }
-{
-    let mut faults = faults.into_vec();
-    if faults.is_empty() {
-        return None;
-    }
-    Some(faults.remove(0))
 }
 
 fn put_kind<W: Sink>(kind: FaultKind, sink: &mut W) -> Result<(), PrintError>
