@@ -7,7 +7,10 @@ use std::alloc::{AllocError, Global};
 use std::process::Abort;
 use std::test::Fail;
 
-fn instr(alloc: Global, op: Op, arcs: &[(u32, Port)], place: usize) -> Result<Instr, AllocError> {
+/// An instruction: its operator, where it sends, and its place.
+type Row<'a> = (Op, &'a [(u32, Port)], usize);
+
+fn dests(alloc: Global, arcs: &[(u32, Port)]) -> Result<Dests, AllocError> {
     let mut dests = Dests::new(alloc);
     for (instr, port) in arcs {
         dests.push(Dest {
@@ -15,20 +18,20 @@ fn instr(alloc: Global, op: Op, arcs: &[(u32, Port)], place: usize) -> Result<In
             port: *port,
         })?;
     }
-    Ok(Instr {
-        op,
-        dests,
-        others: Dests::new(alloc),
-        place,
-    })
+    Ok(dests)
 }
 
-/// The first three instructions, with what the trigger feeds.
-fn start(alloc: Global, trigger: &[(u32, Port)]) -> Result<Vec<Instr>, AllocError> {
+fn instrs(alloc: Global, rows: &[Row<'_>]) -> Result<Vec<Instr>, AllocError> {
     let mut list = Vec::new(alloc);
-    list.push(instr(alloc, Op::Merge(PortKind::Int), &[], 4)?)?;
-    list.push(instr(alloc, Op::Merge(PortKind::Signal), trigger, 4)?)?;
-    list.push(instr(alloc, Op::Back(PortKind::Int), &[], 4)?)?;
+    for (op, arcs, place) in rows {
+        let dests = dests(alloc, arcs)?;
+        list.push(Instr {
+            op: *op,
+            dests,
+            others: Dests::new(alloc),
+            place: *place,
+        })?;
+    }
     Ok(list)
 }
 
@@ -36,16 +39,35 @@ fn number(n: i64) -> Op {
     Op::Const(Constant::Int(n))
 }
 
-/// The instructions of `def main(): int = 2 + 3 * 4;`, with this operator at 4, and the sum fed from 6 at this number.
+/// The instructions of `def main(): int = 2 + 3 * 4;`, with this operator at 4, and 6 sending to this number.
 pub(crate) fn sum_and_product(alloc: Global, four: Op, sum: u32) -> Result<Vec<Instr>, AllocError> {
     let trigger = [(3, Port::Zero), (4, Port::Zero), (5, Port::Zero)];
-    let mut list = start(alloc, &trigger)?;
-    list.push(instr(alloc, number(2), &[(7, Port::Zero)], 18)?)?;
-    list.push(instr(alloc, four, &[(6, Port::Zero)], 22)?)?;
-    list.push(instr(alloc, number(4), &[(6, Port::One)], 26)?)?;
-    list.push(instr(alloc, Op::Binary(Dyadic::Mul), &[(sum, Port::One)], 24)?)?;
-    list.push(instr(alloc, Op::Binary(Dyadic::Add), &[(2, Port::One)], 20)?)?;
-    Ok(list)
+    instrs(
+        alloc,
+        &[
+            (Op::Merge(PortKind::Int), &[], 4),
+            (Op::Merge(PortKind::Signal), &trigger, 4),
+            (Op::Back(PortKind::Int), &[], 4),
+            (number(2), &[(7, Port::Zero)], 18),
+            (four, &[(6, Port::Zero)], 22),
+            (number(4), &[(6, Port::One)], 26),
+            (Op::Binary(Dyadic::Mul), &[(sum, Port::One)], 24),
+            (Op::Binary(Dyadic::Add), &[(2, Port::One)], 20),
+        ],
+    )
+}
+
+/// The instructions of `def main(): int = 7;`.
+fn only_seven(alloc: Global) -> Result<Vec<Instr>, AllocError> {
+    instrs(
+        alloc,
+        &[
+            (Op::Merge(PortKind::Int), &[], 4),
+            (Op::Merge(PortKind::Signal), &[(3, Port::Zero)], 4),
+            (Op::Back(PortKind::Int), &[], 4),
+            (number(7), &[(2, Port::One)], 18),
+        ],
+    )
 }
 
 /// The one block, which begins at this number.
@@ -60,9 +82,9 @@ pub(crate) fn block(alloc: Global, first: u32) -> Result<Vec<Block>, AllocError>
 
 /// The graph of `def main(): int = 7;`.
 pub(crate) fn seven(rt: &impl Abort, alloc: Global) -> Result<Valid, Fail> {
-    let mut list = start(alloc, &[(3, Port::Zero)])?;
-    list.push(instr(alloc, number(7), &[(2, Port::One)], 18)?)?;
+    let blocks = block(alloc, 1)?;
+    let list = only_seven(alloc)?;
     assert!(rt; list.len() == 4);
-    let graph = Graph::new(block(alloc, 1)?, list)?;
+    let graph = Graph::new(blocks, list)?;
     Ok(validate(alloc, graph)?)
 }

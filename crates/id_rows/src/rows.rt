@@ -1,11 +1,13 @@
 //! One test for each row.
 
+ghost use Rattle.std.specs.Prelude.{◌≡◌};
+
 use crate::graphs::{block, seven, sum_and_product};
 use id_core::{Element, Machine, MachineError, Step, TakeError, fits, merge_records, takes_inputs};
 use id_graph::{Constant, Graph, GraphCause, Op, Port};
-use id_match::{Offered, Waiting};
-use id_meaning::{FaultKind, Inputs, Path, PathStep, SourceFault, SourceValue};
-use id_print::{Sink, SinkFault, write_fault, write_trace};
+use id_match::{Entry, Offered, Waiting};
+use id_meaning::{Inputs, SourceValue};
+use id_print::{Sink, SinkFault, write_trace};
 use id_tag::{Context, Message, Payload, Sender, Tag, Value, route};
 use id_text::Sequence;
 use id_valid::{InvalidCause, Valid, validate};
@@ -25,25 +27,34 @@ fn main_tag(instr: u32) -> Tag {
     }
 }
 
-/// Offers the value to the port of one tag.
-fn offer(waiting: &mut Waiting, port: Port, number: i64) -> Result<Offered, AllocError> {
-    waiting.offer(main_tag(7), port, Value::Int(number))
+/// Whether 3 alone is listed, at port 0 of instruction 7.
+fn is_three(entries: &[Entry]) -> bool {
+    match entries {
+        [entry] => {
+            entry.tag == main_tag(7) && entry.port == Port::Zero && entry.value == Value::Int(3)
+        }
+        _ => false,
+    }
+}
+
+/// Whether the offers of the row have its answers.
+fn are_answered(alloc: Global, waiting: &mut Waiting) -> Result<bool, AllocError> {
+    let tag = main_tag(7);
+    let three = Value::Int(3);
+    let four = Value::Int(4);
+    let kept = waiting.offer(tag, Port::Zero, three)? == Offered::Kept;
+    let one = waiting.len() == 1;
+    let listed = is_three(waiting.entries(alloc)?.as_slice());
+    let taken = waiting.offer(tag, Port::Zero, Value::Int(9))? == Offered::Taken;
+    let paired = waiting.offer(tag, Port::One, four)? == Offered::Pair(three, four);
+    Ok(kept && one && listed && taken && paired && waiting.len() == 0)
 }
 
 #[test]
 fn offers_are_kept_taken_and_paired(rt: HostRuntime) -> Result<(), Fail> {
     let mut waiting = Waiting::new(rt.alloc());
-    assert!(rt; offer(&mut waiting, Port::Zero, 3)? == Offered::Kept);
-    assert_eq!(rt; waiting.len(), 1);
-    let entries = waiting.entries(rt.alloc())?;
-    assert_eq!(rt; entries.len(), 1);
-    assert!(rt; entries[0].tag == main_tag(7));
-    assert!(rt; entries[0].port == Port::Zero);
-    assert!(rt; entries[0].value == Value::Int(3));
-    assert!(rt; offer(&mut waiting, Port::Zero, 9)? == Offered::Taken);
-    let pair = Offered::Pair(Value::Int(3), Value::Int(4));
-    assert!(rt; offer(&mut waiting, Port::One, 4)? == pair);
-    assert_eq!(rt; waiting.len(), 0);
+    let answered = are_answered(rt.alloc(), &mut waiting)?;
+    assert!(rt; answered);
     Ok(())
 }
 
@@ -73,38 +84,54 @@ fn routes_by_context_and_iteration(rt: HostRuntime) {
         iteration: 2,
         instr: 3,
     };
-    assert_eq!(rt; route(&signal(tag, 0), 2), 1);
-    assert_eq!(rt; route(&signal(tag, 0), 1), 0);
+    assert!(rt; route(&signal(tag, 0), 2) == 1);
 }
 
 /// The first faulty instruction of the graph of `def main(): int = 2 + 3 * 4;` with this operator at 4 and this first
-/// instruction of its block, or why there is no such graph.
-fn faulty(rt: &impl Abort, alloc: Global, four: Op, first: u32) -> Result<Option<u64>, Fail> {
-    let list = sum_and_product(alloc, four, 7)?;
+/// instruction of its block; or that of which the graph was refused, where 6 sends to this number.
+fn faulty(
+    rt: &impl Abort,
+    alloc: Global,
+    four: Op,
+    first: u32,
+    sum: u32,
+) -> Result<Option<u64>, AllocError> {
+    let blocks = block(alloc, first)?;
+    let list = sum_and_product(alloc, four, sum)?;
     assert!(rt; list.len() == 8);
-    let graph = Graph::new(block(alloc, first)?, list)?;
+    match Graph::new(blocks, list) {
+        Ok(graph) => first_faulty(alloc, graph),
+        Err(error) => {
+            let GraphCause::BadArc { instr } = error.cause;
+            Ok(Some(instr as u64 + 1000))
+        }
+    }
+}
+
+/// The first faulty instruction of a graph, if there is one.
+fn first_faulty(alloc: Global, graph: Graph) -> Result<Option<u64>, AllocError> {
     match validate(alloc, graph) {
         Ok(_) => Ok(None),
         Err(invalid) => match invalid.cause {
             InvalidCause::Faulty { instr } => Ok(Some(instr)),
-            InvalidCause::Memory => panic!(rt; "out of memory"),
+            InvalidCause::Memory => Err(AllocError),
         },
     }
 }
 
 #[test]
-fn an_invalid_graph_is_refused_at_its_first_faulty_instruction(rt: HostRuntime) -> Result<(), Fail> {
-    let alloc = rt.alloc();
+fn an_invalid_graph_is_refused_at_an_instruction(rt: HostRuntime) -> Result<(), Fail> {
     let three = Op::Const(Constant::Int(3));
     let truth = Op::Const(Constant::Bool(true));
-    assert_eq!(rt; faulty(&rt, alloc, three, 1)?, None);
-    assert_eq!(rt; faulty(&rt, alloc, truth, 1)?, Some(4));
-    assert_eq!(rt; faulty(&rt, alloc, three, 3)?, Some(0));
-    let list = sum_and_product(alloc, three, 8)?;
-    assert!(rt; list.len() == 8);
-    match Graph::new(block(alloc, 1)?, list) {
-        Ok(_) => panic!(rt; "8.1 is no port"),
-        Err(error) => assert!(rt; error.cause == GraphCause::BadArc { instr: 6 }),
+    let table = [
+        (three, 1, 7, None),
+        (truth, 1, 7, Some(4)),
+        (three, 3, 7, Some(0)),
+        (three, 1, 8, Some(1006)),
+    ];
+    for (four, first, sum, wanted) in table {
+        let found = faulty(&rt, rt.alloc(), four, first, sum)?;
+        assert!(rt; found == wanted);
     }
     Ok(())
 }
@@ -123,48 +150,31 @@ fn machine<'a>(
     Machine::new(alloc, graph, &inputs, count)
 }
 
-/// Delivers the first message five times.
-fn deliver_five(rt: &impl Abort, machine: &mut Machine<'_>) -> Result<(), TakeError> {
+/// Delivers the first message five times, and says whether the machine is quiet then.
+fn deliver_five(machine: &mut Machine<'_>) -> Result<bool, TakeError> {
     for _ in 0..5 {
-        assert!(rt; machine.in_flight().len() > 0);
-        let step = machine.deliver(0)?;
-        assert!(rt; step == Step::Went);
+        if machine.in_flight().is_empty() {
+            return Ok(false);
+        }
+        let _ = machine.deliver(0)?;
     }
-    Ok(())
+    Ok(machine.is_quiet())
+}
+
+/// Whether there is no machine of so many elements.
+fn is_refused(rt: &impl Abort, alloc: Global, graph: &Valid, count: u32) -> bool {
+    machine(rt, alloc, graph, count).err() == Some(MachineError::BadElements)
 }
 
 #[test]
 fn a_machine_has_1_to_64_elements(rt: HostRuntime) -> Result<(), Fail> {
     let graph = seven(&rt, rt.alloc())?;
-    for count in [0, 65] {
-        let refused = machine(&rt, rt.alloc(), &graph, count).err();
-        assert_eq!(rt; refused, Some(MachineError::BadElements), "{count}");
-    }
-    for count in [1, 64] {
-        let mut machine = machine(&rt, rt.alloc(), &graph, count)?;
-        deliver_five(&rt, &mut machine)?;
-        assert!(rt; machine.is_quiet(), "{count}");
-    }
+    assert!(rt; is_refused(&rt, rt.alloc(), &graph, 0));
+    assert!(rt; is_refused(&rt, rt.alloc(), &graph, 65));
+    let mut machine = machine(&rt, rt.alloc(), &graph, 64)?;
+    let quiet = deliver_five(&mut machine)?;
+    assert!(rt; quiet);
     Ok(())
-}
-
-/// A sink that keeps what it is given.
-#[derive(Drop)]
-struct Kept {
-    bytes: Vec<u8>,
-}
-
-impl Sink for Kept {
-    ghost use Rattle.std.specs.Prelude.{None};
-
-    ghost told = { λ _. None };
-
-    fn write(&mut self, bytes: &[u8]) -> Result<usize, SinkFault> {
-        match self.bytes.extend_from_slice(bytes) {
-            Ok(()) => Ok(bytes.len()),
-            Err(_) => Err(SinkFault),
-        }
-    }
 }
 
 const TRACE: &str = "1 0 token c0.0#0 1.0 signal
@@ -174,95 +184,124 @@ const TRACE: &str = "1 0 token c0.0#0 1.0 signal
 5 0 token c0.0#0 0.0 7
 ";
 
-/// Asserts what the machine shows after the five deliveries.
-fn assert_five(rt: &impl Abort, alloc: Global, machine: &Machine<'_>) -> Result<(), Fail> {
-    assert!(rt; machine.is_quiet());
-    let elements = machine.elements();
-    assert_eq!(rt; elements.len(), 1);
-    let mut kept = Kept {
-        bytes: Vec::new(alloc),
+/// A sink that takes these bytes and no others.
+#[derive(Drop)]
+struct Expected<'a> {
+    rest: &'a [u8],
+}
+
+impl Sink for Expected<'_> {
+    ghost use Rattle.std.specs.Prelude.{None};
+
+    ghost told = { λ _. None };
+
+    fn write(&mut self, bytes: &[u8]) -> Result<usize, SinkFault> {
+        match self.rest.strip_prefix(bytes) {
+            Some(rest) => {
+                self.rest = rest;
+                Ok(bytes.len())
+            }
+            None => Err(SinkFault),
+        }
+    }
+}
+
+/// Whether the trace of the element is the wanted one.
+fn is_traced(element: &Element<'_>) -> bool {
+    let mut sink = Expected {
+        rest: TRACE.as_bytes(),
     };
-    write_trace(&elements[0].events(), &mut kept)?;
-    assert_eq!(rt; kept.bytes.as_slice(), TRACE.as_bytes());
-    assert_eq!(rt; merge_records(alloc, elements)?.len(), 5);
-    assert_eq!(rt; machine.observe(alloc)?.answer, Some(SourceValue::Int(7)));
-    Ok(())
+    write_trace(&element.events(), &mut sink).is_ok() && sink.rest.is_empty()
+}
+
+/// Whether the one element is traced so, and five events are merged.
+fn are_recorded(alloc: Global, machine: &Machine<'_>) -> Result<bool, AllocError> {
+    let merged = merge_records(alloc, machine.elements())?;
+    match machine.elements() {
+        [element] => Ok(is_traced(element) && merged.len() == 5),
+        _ => Ok(false),
+    }
+}
+
+/// Whether 7 is observed.
+fn is_seven(alloc: Global, machine: &Machine<'_>) -> Result<bool, AllocError> {
+    let shown = machine.observe(alloc)?;
+    Ok(shown.answer == Some(SourceValue::Int(7)))
 }
 
 #[test]
 fn five_deliveries_bring_7(rt: HostRuntime) -> Result<(), Fail> {
     let graph = seven(&rt, rt.alloc())?;
     let mut machine = machine(&rt, rt.alloc(), &graph, 1)?;
-    deliver_five(&rt, &mut machine)?;
-    assert_five(&rt, rt.alloc(), &machine)
+    let quiet = deliver_five(&mut machine)?;
+    let recorded = are_recorded(rt.alloc(), &machine)?;
+    let seven = is_seven(rt.alloc(), &machine)?;
+    assert!(rt; quiet && recorded && seven);
+    Ok(())
 }
 
 /// An integer to a port of instruction 2.
-fn token(port: Port, stamp: u64) -> Message {
+fn token(port: Port) -> Message {
     Message {
         payload: Payload::Token {
             tag: main_tag(2),
             port,
             value: Value::Int(1),
         },
-        ..signal(main_tag(2), stamp)
+        ..signal(main_tag(2), 0)
     }
 }
 
-/// What a fresh element of one answers to the last of these messages.
-fn last_taken(
+/// Gives a message that fits to the one element of the graph.
+fn give(
     rt: &impl Abort,
     alloc: Global,
     graph: &Valid,
-    given: &[Message],
-) -> Option<Result<Step, TakeError>> {
-    let mut element = Element::new(alloc, 0, 1, graph);
+    element: &mut Element<'_>,
+    message: Message,
+) -> Result<Step, TakeError>
+    requires number { element.old.number ≡ 0 }
+    requires count { element.old.count ≡ 1 }
+    requires graph { element.old.graph ≡ graph.now }
+    ensures number { element.new.number ≡ 0 }
+    ensures count { element.new.count ≡ 1 }
+    ensures graph { element.new.graph ≡ graph.now }
+{
+    assert!(rt; fits(graph, &message));
+    assert!(rt; route(&message, 1) == 0);
     let mut outputs = Vec::new(alloc);
-    let mut last = None;
-    for message in given {
-        assert!(rt; fits(graph, message));
-        assert_eq!(rt; route(message, 1), 0);
-        last = Some(element.take(*message, &mut outputs));
-    }
-    last
+    element.take(message, &mut outputs)
+}
+
+/// What a fresh element answers to the second of two messages.
+fn second_taken(
+    rt: &impl Abort,
+    alloc: Global,
+    graph: &Valid,
+    first: Message,
+    second: Message,
+) -> Result<Step, TakeError> {
+    let mut element = Element::new(alloc, 0, 1, graph);
+    let _ = give(rt, alloc, graph, &mut element, first);
+    give(rt, alloc, graph, &mut element, second)
 }
 
 #[test]
-fn an_element_takes_each_message_that_fits(rt: HostRuntime) -> Result<(), Fail> {
+fn an_element_takes_what_fits(rt: HostRuntime) -> Result<(), Fail> {
     let graph = seven(&rt, rt.alloc())?;
-    let one = token(Port::One, 0);
-    let end = signal(main_tag(1), u64::MAX);
-    let before = signal(main_tag(1), u64::MAX - 1);
-    let ended = Err(TakeError::StampEnd);
-    let table: [(&[Message], Result<Step, TakeError>); 4] = [
-        (&[one], Ok(Step::Went)),
-        (&[one, one], Ok(Step::Stuck)),
-        (&[end], ended),
-        (&[before, one], ended),
+    let one = token(Port::One);
+    let early = signal(main_tag(1), 0);
+    let late = signal(main_tag(1), u64::MAX - 1);
+    let last = signal(main_tag(1), u64::MAX);
+    let table = [
+        (early, one, Ok(Step::Went)),
+        (one, one, Ok(Step::Stuck)),
+        (early, last, Err(TakeError::StampEnd)),
+        (late, one, Err(TakeError::StampEnd)),
     ];
-    for (given, wanted) in table {
-        let answer = last_taken(&rt, rt.alloc(), &graph, given);
-        assert!(rt; answer == Some(wanted));
+    for (first, second, wanted) in table {
+        assert!(rt; second_taken(&rt, rt.alloc(), &graph, first, second) == wanted);
     }
-    assert!(rt; !fits(&graph, &token(Port::Zero, 0)));
-    Ok(())
-}
-
-#[test]
-fn a_fault_in_a_call_has_its_path(rt: HostRuntime) -> Result<(), Fail> {
-    let text = "def k(x: int, y: int): int = x;\ndef main(): int = { r = k(7, r); in r };";
-    let fault = SourceFault {
-        kind: FaultKind::Overflow,
-        path: Path {
-            steps: Sequence::new(vec![in rt.alloc(); PathStep { place: 56, number: 0 }]?),
-        },
-        place: 29,
-    };
-    let mut kept = Kept {
-        bytes: Vec::new(rt.alloc()),
-    };
-    assert!(rt; text.len() < 1000);
-    write_fault(&fault, text, &mut kept)?;
-    assert_eq!(rt; kept.bytes.as_slice(), b"fault overflow at /2:25@1:30\n".as_slice());
+    assert!(rt; !fits(&graph, &token(Port::Zero)));
     Ok(())
 }
