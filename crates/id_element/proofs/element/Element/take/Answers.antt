@@ -1,5 +1,6 @@
 -- The record goes on by one event, and what it sends fits, by what the desk says of its step.
-use Rattle.std.proofs.Common.{◌≡◌, ap, subst, ◌∙◌}
+use Rattle.std.proofs.Common.{◌≡◌, ap, subst, ◌∙◌, arith}
+use Rattle.std.proofs.lemmas.Grind.{common_steps}
 use Rattle.id_valid.specs.Validator.{IsValid}
 use Rattle.std.specs.Prelude.{◌↔◌, IsTrue}
 use Rattle.id_record.specs.declared.step.Step.TheVariants.{Went}
@@ -26,3 +27,9 @@ pub returns-clause-fits : goal.returns-clause-fits
 returns-clause-fits c =
     rw (← ap (λ v. v.graph) c.self.view_is, ← ap (λ v. v.number) c.self.view_is, ← ap (λ v. v.state) c.self.view_is)
     (outputs_fit c.self.inside.desk.log.graph c.self.inside.desk.log.element (state_of c.self.inside.desk) c.args.message (subst IsValid c.graph-graph.ensures c.graph.ensures.kept) c.self.invariant.replays.waiting (rw (ap (λ v. v.graph) c.self.view_is) c.requires.fits))
+
+pub returns-in_err-step-clause-end : goal.returns-in_err-step-clause-end
+returns-in_err-step-clause-end c = grind (arith, common_steps)
+
+pub returns-clause-end : goal.returns-clause-end
+returns-clause-end c = grind (arith, common_steps)
