@@ -3,7 +3,6 @@ use Rattle.std.proofs.Common.{◌≡◌, ◌<◌, ◌++◌, Some, length, set, r
 use Rattle.std.specs.Prelude.{slice_get, option_map, None, Option}
 use Rattle.std.specs.List.{remove}
 use Rattle.std.proofs.lemmas.List.{length-set}
-use Rattle.std.proofs.lemmas.Grind.{common_steps}
 use Rattle.std.proofs.lemmas.Option.{slice_get_read}
 use Rattle.id_tag.specs.Routes.{route_of}
 use Rattle.id_element.specs.Steps.{step_of, outputs_of}
@@ -80,12 +79,3 @@ returns-clause-end c =
     let event = event-delivered c.self.inside.graph.now (length es) es fl c.args.position c.route-number.result c.index.result.now c.index_mut.result.now (delivery c) in
     rw (← ap (λ v. v.graph) c.self.view_is, ← ap (λ v. v.count) c.self.view_is, ← ap (λ v. v.world) c.self.view_is)
     (λ bad. cc, λ none. absurd (no_event _ _ event none))
-
-pub returns-then-is_ended-clause-end : goal.returns-then-is_ended-clause-end
-returns-then-is_ended-clause-end c = grind (arith, common_steps)
-
-pub returns-in_err-reserve-clause-end : goal.returns-in_err-reserve-clause-end
-returns-in_err-reserve-clause-end c = grind (arith, common_steps)
-
-pub returns-in_err-step-clause-end : goal.returns-in_err-step-clause-end
-returns-in_err-step-clause-end c = grind (arith, common_steps)
