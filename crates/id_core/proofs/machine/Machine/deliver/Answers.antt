@@ -3,6 +3,7 @@ use Rattle.std.proofs.Common.{◌≡◌, ◌<◌, ◌++◌, Some, length, set, r
 use Rattle.std.specs.Prelude.{slice_get, option_map, None, Option}
 use Rattle.std.specs.List.{remove}
 use Rattle.std.proofs.lemmas.List.{length-set}
+use Rattle.std.proofs.lemmas.Grind.{common_steps}
 use Rattle.std.proofs.lemmas.Option.{slice_get_read}
 use Rattle.id_tag.specs.Routes.{route_of}
 use Rattle.id_element.specs.Steps.{step_of, outputs_of}
