@@ -65,8 +65,8 @@ not_stuck never a b c n step fresh h d stuck =
     let shown : Among d.event (events_of (delivered b.graph b.count b.world d.position).elements) = delivered_event b.graph b.count b.world d.position d.event d.made in
     let is : delivered b.graph b.count b.world d.position ≡ run a.graph 1 (ks ++ d.position ∷ []) (start a.graph S.inputs 1) =
     ap (λ g. delivered g b.count b.world d.position) h.same_graph ∙ ap (λ i. delivered a.graph i b.world d.position) (h.same_count ∙ fresh.one)
-        ∙ ap (λ w. delivered a.graph 1 w d.position) (h.goes).world ∙ sym (run-append a.graph 1 ks (d.position ∷ []) a.world)
-        ∙ ap (λ w. run a.graph 1 (ks ++ d.position ∷ []) w) fresh.world in
+    ∙ ap (λ w. delivered a.graph 1 w d.position) (h.goes).world ∙ sym (run-append a.graph 1 ks (d.position ∷ []) a.world)
+    ∙ ap (λ w. run a.graph 1 (ks ++ d.position ∷ []) w) fresh.world in
     let Q : World → Type 0 = λ w. Among d.event (events_of w.elements) in
     (never S a.graph 1 (ks ++ d.position ∷ []) fresh.inputs fresh.schemas).goes_on d.event (subst Q is shown) (d.step_is ∙ stuck)
 

@@ -67,8 +67,13 @@ fn print_asked<O: Sink>(
     match request {
         Request::Check { .. } => check_text(alloc, text, out),
         Request::Graph { .. } => graph_text(alloc, text, out),
-        Request::Facts { rounds, inputs, .. } =>
-            facts_text(alloc, text, inputs.as_slice(), *rounds, out),
+        Request::Facts { rounds, inputs, .. } => facts_text(
+            alloc,
+            text,
+            inputs.as_slice(),
+            *rounds,
+            out,
+        ),
         Request::Run {
             inputs,
             steps,

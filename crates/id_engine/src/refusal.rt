@@ -257,10 +257,14 @@ pub(crate) fn of_engine_error<'a>(words: &'a [&'a str], error: &'a EngineError) 
     match error {
         EngineError::Compile(error) => of_compile_error(*error),
         EngineError::MissingInput { param } => worded(Cause::MissingInput, Some(param.as_str())),
-        EngineError::UnknownInput { word } =>
-            worded(Cause::UnknownInput, words.get(*word).copied()),
-        EngineError::RepeatedInput { word } =>
-            worded(Cause::RepeatedInput, words.get(*word).copied()),
+        EngineError::UnknownInput { word } => worded(
+            Cause::UnknownInput,
+            words.get(*word).copied(),
+        ),
+        EngineError::RepeatedInput { word } => worded(
+            Cause::RepeatedInput,
+            words.get(*word).copied(),
+        ),
         EngineError::BadInput { word } => worded(Cause::BadInput, words.get(*word).copied()),
         EngineError::BadSteps => plain(Cause::BadSteps),
         EngineError::BadRounds => plain(Cause::BadRounds),

@@ -69,9 +69,7 @@ fn first_bytes<R: Read + Drop>(alloc: Global, reader: R) -> io::Result<Vec<u8>>
     ensures { IfOk result (λ v. IfSome (R.remaining reader) (λ bytes. v.items ≡ take 1048577 bytes)) }
 {
     let mut bytes = Vec::new(alloc);
-    reader
-        .take(MAX_BYTES as u64 + 1)
-        .read_to_end(&mut bytes)?;
+    reader.take(MAX_BYTES as u64 + 1).read_to_end(&mut bytes)?;
     Ok(bytes)
 }
 
