@@ -24,7 +24,7 @@ pub enum EngineError {
     BadSteps,
     /// More rounds than 10,000, refusal 24: `def main(): int = 1;` with 10,001 rounds.
     BadRounds,
-    /// A round has more than 1,000,000 facts, refusal 25: 2,600 bindings of 199 signs and a number, in round 10,000.
+    /// A round has more than 1,000,000 facts, refusal 25: 2,700 bindings of 190 signs and a number, in round 10,000.
     TooManyFacts,
     /// A growth was refused: no text brings it.
     Memory,

@@ -42,7 +42,7 @@ pub enum Cause {
     WrongKind,
     /// More than 16 parameters.
     TooManyParams,
-    /// The graph would have more than 1,000,000 instructions: 5,100 bindings of 199 signs and a number.
+    /// The graph would have more than 1,000,000 instructions: 5,250 bindings of 190 signs and a number.
     TooLarge,
     /// A parameter of `main` without an input: `def main(n: int): int = n;`, and no word.
     MissingInput,
@@ -56,7 +56,7 @@ pub enum Cause {
     BadSteps,
     /// More rounds than 10,000: 10001.
     BadRounds,
-    /// More than 1,000,000 facts: 2,600 bindings of 199 signs and a number, in round 10,000.
+    /// More than 1,000,000 facts: 2,700 bindings of 190 signs and a number, in round 10,000.
     TooManyFacts,
     /// A growth was refused: no text brings it.
     Memory,
