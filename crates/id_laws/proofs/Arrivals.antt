@@ -23,8 +23,8 @@ use Rattle.id_match.specs.Ports.{other_port}
 use Rattle.id_match.specs.Waiting.{Store, at_port, answer_of, store_after, offer_answer, offer_after}
 use Rattle.id_ops.specs.declared.Operands.TheVariants as operands
 use Rattle.id_ops.specs.Operators.{fired}
-use Rattle.id_core.specs.declared.step.Step.{Step}
-use Rattle.id_core.specs.declared.step.Step.TheVariants.{Went, Stuck}
+use Rattle.id_record.specs.declared.step.Step.{Step}
+use Rattle.id_record.specs.declared.step.Step.TheVariants.{Went, Stuck}
 use Rattle.id_graph.specs.declared.instr.Monadic.TheVariants.{Neg}
 use Rattle.id_graph.specs.declared.instr.Op.TheVariants.{Unary}
 use Rattle.id_ops.specs.declared.Operands.{Operands}

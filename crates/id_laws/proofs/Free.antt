@@ -18,7 +18,7 @@ use Rattle.id_ops.specs.declared.Fired.{Fired}
 use Rattle.id_ops.specs.declared.Fired.TheVariants.{Out, Sent, Failed, Nothing}
 use Rattle.id_ops.specs.Operators.{fired}
 use Rattle.id_laws.proofs.Arrivals.{Fires, Waits, Blocked}
-use Rattle.id_core.specs.declared.step.Step.TheVariants.{Stuck}
+use Rattle.id_record.specs.declared.step.Step.TheVariants.{Stuck}
 use Rattle.id_core.specs.Events.{EventView}
 use Rattle.id_core.specs.Steps.{State, fresh, fired_step, fresh_numbers, event_of, state_after}
 use Rattle.id_core.specs.Machines.{World}

@@ -15,8 +15,8 @@ use Rattle.id_ops.specs.declared.Fresh.{Fresh}
 use Rattle.id_ops.specs.declared.Fired.TheVariants.{Sent, Failed}
 use Rattle.id_ops.specs.Operators.{fired}
 use Rattle.id_laws.proofs.Arrivals.{Fires}
-use Rattle.id_core.specs.declared.step.Step.TheVariants.{Went, Fault}
-use Rattle.id_core.specs.declared.step.Fault.TheVariants.{Operator}
+use Rattle.id_record.specs.declared.step.Step.TheVariants.{Went, Fault}
+use Rattle.id_record.specs.declared.step.Fault.TheVariants.{Operator}
 use Rattle.id_core.specs.Events.{EventView}
 use Rattle.id_core.specs.Steps.{State, sent, fresh_numbers, fired_step}
 use Rattle.id_core.specs.Machines.{World, IsQuiet, main_tag, token_value}

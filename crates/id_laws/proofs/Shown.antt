@@ -18,9 +18,9 @@ use Rattle.id_ops.specs.declared.Fired.TheVariants.{Out, Sent, Failed, Nothing}
 use Rattle.id_ops.specs.declared.OperatorFault.{OperatorFault}
 use Rattle.id_ops.specs.Operators.{fired}
 use Rattle.id_laws.proofs.Arrivals.{Arrival, Fires, Waits, Blocked}
-use Rattle.id_core.specs.declared.step.Step.{Step}
-use Rattle.id_core.specs.declared.step.Step.TheVariants.{Went, Fault, Stuck}
-use Rattle.id_core.specs.declared.step.Fault.TheVariants.{Operator}
+use Rattle.id_record.specs.declared.step.Step.{Step}
+use Rattle.id_record.specs.declared.step.Step.TheVariants.{Went, Fault, Stuck}
+use Rattle.id_record.specs.declared.step.Fault.TheVariants.{Operator}
 use Rattle.id_core.specs.Events.{EventView, tag_of}
 use Rattle.id_core.specs.Steps.{fresh_numbers, fired_step}
 use Rattle.id_core.specs.Machines.{World, main_tag, token_value}

@@ -10,7 +10,7 @@ use Rattle.id_tag.specs.declared.Payload.TheVariants.{Token}
 use Rattle.id_tag.specs.declared.Message.{Message}
 use Rattle.id_tag.specs.Tags.{same_tag}
 use Rattle.id_match.specs.Ports.{same_port}
-use Rattle.id_core.specs.declared.step.Step.TheVariants.{Stuck}
+use Rattle.id_record.specs.declared.step.Step.TheVariants.{Stuck}
 use Rattle.id_core.specs.Events.{EventView, tag_of}
 use Rattle.id_core.specs.Machines.{World, IsQuiet, TakesInputs, start, run}
 use Rattle.id_core.specs.Observed as shown

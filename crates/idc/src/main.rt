@@ -1,49 +1,44 @@
-//! The program: words to a printed answer.
+//! The program: the words, the files and the streams of the process, joined to the engine.
 //!
-//! Keeps: standard output has what was asked for or nothing, standard error one refusal.
-//! Errors: each refusal has its number, name and status in `refusal`.
-//! Read first: `drive`, then `engine`, docs/PROMISES.md.
-//! Not here: every step from the text to the run, which have a crate each.
+//! Keeps: nothing of its own.
+//! Errors: each has its line on standard error and its status (docs/LANGUAGE.md, "Output").
+//! Read first: `main`, then `drive` of `id_engine`.
+//! Not here: what words ask for (`id_args`), what is done then (`id_engine`).
 #![tactic(auto)]
 
-mod cli;
-mod commands;
-mod compile;
-mod drive;
-mod engine;
-mod prepared;
-mod refusal;
-mod source;
-mod stream;
 #[cfg(test)]
 mod tests;
 
-use std::env::Env;
+use id_args::{arguments, read_words};
+use id_engine::{Disk, Source, Stream, drive};
+use id_print::Sink;
+use std::alloc::Global;
+use std::convert::AsStr;
 use std::process::ExitCode;
-use std::{env, io};
 
-/// The arguments after the program's name.
-fn arguments<R: Env + AllocGlobal>(rt: &R) -> io::Result<Vec<String>> {
-    let mut words = Vec::new(rt.alloc());
-    for (i, word) in env::args(rt)?.enumerate() {
-        if i > 0 {
-            words.push(word)?;
-        }
-    }
-    Ok(words)
+/// Does what the words ask for, the program's own name left out, and answers the status.
+fn run<N: AsStr, S: Source, O: Sink, E: Sink>(
+    alloc: Global,
+    words: &[N],
+    source: &mut S,
+    out: &mut O,
+    err: &mut E,
+) -> u8 {
+    drive(alloc, &read_words(alloc, words), source, out, err)
 }
 
 fn main(rt: HostRuntime) -> ExitCode {
-    let Ok(words) = arguments(&rt) else {
-        return ExitCode::from(4);
-    };
-    let mut source = source::Disk { rt: &rt };
-    let mut out = stream::Stream {
+    let alloc = rt.alloc();
+    let mut source = Disk { rt: &rt };
+    let mut out = Stream {
         writer: rt.stdout(),
     };
-    let mut err = stream::Stream {
+    let mut err = Stream {
         writer: rt.stderr(),
     };
-    let status = drive::drive(&rt, words.as_slice(), &mut source, &mut out, &mut err);
+    let status = match arguments(&rt) {
+        Ok(words) => run(alloc, words.as_slice(), &mut source, &mut out, &mut err),
+        Err(unasked) => drive(alloc, &Err(unasked), &mut source, &mut out, &mut err),
+    };
     ExitCode::from(status)
 }

@@ -1,0 +1,71 @@
+-- What is said of one answer of a call, said in other words.
+use Rattle.std.proofs.Common.{◌≡◌, ◌≢◌, ℕ, List, Result, Ok, Err}
+use Rattle.std.specs.Prelude.{IfOk, IfErr, OnOk}
+use Rattle.id_check.specs.declared.Checked.{Checked}
+use Rattle.id_meaning.specs.Sources.{source}
+use Rattle.id_engine.specs.declared.compiled.CompileError.{CompileError}
+use Rattle.id_engine.specs.declared.compiled.CompileError.TheVariants as compiler
+use Rattle.id_engine.specs.declared.error.EngineError.{EngineError}
+use Rattle.id_engine.specs.declared.error.EngineError.TheVariants.{Compile, MissingInput, UnknownInput, RepeatedInput, BadInput, BadSteps, BadRounds, TooManyFacts, Memory, Write}
+use Rattle.id_engine.specs.Programs.{HasInputs, IsProgramOf, IsRefusedBy, by_memory, too_large}
+use Rattle.id_engine.specs.Refusals.{AreRefusedFacts, IsInsideOf}
+use Rattle.id_engine.specs.Refusals.IsRefusedSource.{by_memory as no_memory}
+use Rattle.id_engine.specs.Refusals.AreRefusedFacts.{by_source, bad_rounds, too_many_facts}
+use Rattle.id_engine.specs.Reports.{AreRefusedRounds, IsRefusedGraph}
+
+module _ {A E : Type 0} where
+  pub on_ok : (r : Result A E) (P : Type 0) → P → OnOk r P
+  on_ok (Ok a) P h = h
+  on_ok (Err e) P h = tt
+
+  pub if_ok : (r : Result A E) (P Q : A → Type 0) → ((a : A) → P a → Q a) → IfOk r P → IfOk r Q
+  if_ok (Ok a) P Q t h = t a h
+  if_ok (Err e) P Q t h = tt
+
+  pub on_ok_both : (r : Result A E) (P Q : A → Type 0) (R : Type 0) → ((a : A) → P a → Q a → R) → IfOk r P → IfOk r Q → OnOk r R
+  on_ok_both (Ok a) P Q R t h k = t a h k
+  on_ok_both (Err e) P Q R t h k = tt
+
+  pub if_err : (r : Result A E) (P Q : E → Type 0) → ((e : E) → P e → Q e) → IfErr r P → IfErr r Q
+  if_err (Ok a) P Q t h = tt
+  if_err (Err e) P Q t h = t e h
+
+-- ---- a program without graph
+
+pub refused_graph : (text : List ℕ) (P : Checked) (e : CompileError) → IsProgramOf text P → IsRefusedGraph P e → IsRefusedBy text e
+refused_graph text P (compiler.Text e) p h = absurd cc
+refused_graph text P (compiler.Tree e) p h = absurd cc
+refused_graph text P (compiler.Check c) p h = absurd cc
+refused_graph text P compiler.TooLarge p h = too_large P p h
+refused_graph text P compiler.Memory p h = by_memory
+
+-- ---- want of memory is no error of a place, and none of a write
+
+abbrev pub IsLate : List ℕ → EngineError → Type 0
+IsLate text e = IsInsideOf text e × (e ≢ Write)
+
+pub late_memory : (text : List ℕ) (e : EngineError) → e ≡ Memory → IsLate text e
+late_memory text (Compile x) h = absurd cc
+late_memory text (MissingInput x) h = absurd cc
+late_memory text (UnknownInput j) h = absurd cc
+late_memory text (RepeatedInput j) h = absurd cc
+late_memory text (BadInput j) h = absurd cc
+late_memory text BadSteps h = absurd cc
+late_memory text BadRounds h = absurd cc
+late_memory text TooManyFacts h = absurd cc
+late_memory text Memory h = let n : Memory ≢ Write = λ k. absurd cc in (tt, n)
+late_memory text Write h = absurd cc
+
+-- why rounds are refused is why the facts of the text are
+pub refused_rounds : (text : List ℕ) (ws : List (List ℕ)) (round : ℕ) (h : HasInputs text ws) (e : EngineError) → AreRefusedRounds (source h.program h.inputs) round e
+    → AreRefusedFacts text ws round e
+refused_rounds text ws round i (Compile x) h = absurd cc
+refused_rounds text ws round i (MissingInput x) h = absurd cc
+refused_rounds text ws round i (UnknownInput j) h = absurd cc
+refused_rounds text ws round i (RepeatedInput j) h = absurd cc
+refused_rounds text ws round i (BadInput j) h = absurd cc
+refused_rounds text ws round i BadSteps h = absurd cc
+refused_rounds text ws round i BadRounds h = bad_rounds i h
+refused_rounds text ws round i TooManyFacts h = too_many_facts i h.0 h.1
+refused_rounds text ws round i Memory h = by_source no_memory
+refused_rounds text ws round i Write h = absurd cc

@@ -1,0 +1,68 @@
+-- The place of each refusal of a text lies in the text (specs/Refusals.antt).
+use Rattle.std.proofs.Common.{◌≡◌, ◌⊎◌, inl, inr, ℕ, zero, suc, ◌≤◌, ◌<◌, List, [], ◌∷◌, ◌++◌, All, length, Option, None, Some, refl, sym, subst, arith}
+use Rattle.id_text.specs.declared.token.Token.{Token}
+use Rattle.id_text.specs.declared.token.TextError.{TextError}
+use Rattle.id_text.specs.declared.token.TextError.TheVariants as lexer
+use Rattle.id_text.specs.Tokens.{IsWithin, IsPlaceWithin}
+use Rattle.id_tree.specs.declared.tree.TreeError.{TreeError}
+use Rattle.id_tree.specs.declared.tree.TreeError.TheVariants as parser
+use Rattle.id_tree.specs.declared.tree.Program.{Program}
+use Rattle.id_tree.specs.Tree.{program_tree}
+use Rattle.id_tree.specs.Distinct.{HasPlace}
+use Rattle.id_tree.specs.Accepted.{StopsAt, RefusedBy}
+use Rattle.id_check.specs.declared.CheckCause.{CheckCause}
+use Rattle.id_check.specs.declared.CheckCause.TheVariants as checker
+use Rattle.id_check.specs.Causes.{IsRefusedFor, HasFirst, place_of}
+use Rattle.id_laws.proofs.Lists.{among_right}
+use Rattle.id_engine.specs.Refusals.{lexer_refusal, parser_refusal, checker_refusal, IsDetailInside, IsInside}
+use Rattle.id_engine.proofs.CausesLemmas.{causes_place}
+use Rattle.id_engine.proofs.NamesLemmas.{among_all}
+
+-- that of a text without tokens, unless it is too long
+pub lexer_inside : (text : List ℕ) (e : TextError) → IsPlaceWithin (length text) e → (e ≡ lexer.TooLong) ⊎ (length text ≤ 1048576) → IsDetailInside text (lexer_refusal e).detail
+lexer_inside text lexer.TooLong h short = tt
+lexer_inside text (lexer.BadByte at) h (inl e) = absurd cc
+lexer_inside text (lexer.BadByte at) h (inr s) = record { inside = h; short = s }
+lexer_inside text (lexer.NumberTooLarge at) h (inl e) = absurd cc
+lexer_inside text (lexer.NumberTooLarge at) h (inr s) = record { inside = h; short = s }
+lexer_inside text lexer.Memory h short = tt
+
+stop_inside : (text : List ℕ) (ts : List Token) (at : ℕ) → StopsAt ts at → All (IsWithin (length text)) ts → at ≤ length text
+stop_inside text ts at r all =
+    let there = subst (λ (us : List Token). All (IsWithin (length text)) us) r.whole all in
+    let w = among_all (IsWithin (length text)) (r.front ++ r.token ∷ r.behind) r.token there (among_right r.token r.front (r.token ∷ r.behind) (inl refl)) in
+    omega (arith, w.0, w.1, r.place)
+
+-- that of tokens without tree
+pub parser_inside : (text : List ℕ) (ts : List Token) (e : TreeError) → RefusedBy ts e → All (IsWithin (length text)) ts → length text ≤ 1048576 → IsDetailInside text (parser_refusal e).detail
+parser_inside text ts (parser.Unexpected at) h all short = record { inside = stop_inside text ts at h.0 all; short = short }
+parser_inside text ts (parser.TooDeep at) h all short = record { inside = stop_inside text ts at h.0 all; short = short }
+parser_inside text ts parser.Memory h all short = tt
+
+-- that of a refused program
+module _ (text : List ℕ) (p : Program) (within : (q : ℕ) → HasPlace (program_tree p) q → q ≤ length text) (short : length text ≤ 1048576) where
+  first_inside : (c : CheckCause) → HasFirst p c → IsInside text (place_of c)
+  first_inside c h = record { inside = within (place_of c) (causes_place h.kinds p c (h.first).among); short = short }
+
+  pub checker_inside : (c : CheckCause) → IsRefusedFor p c → IsDetailInside text (checker_refusal c).detail
+  checker_inside checker.NoMain h = tt
+  checker_inside (checker.MainKind at) h = first_inside (checker.MainKind at) h
+  checker_inside (checker.Duplicate at) h = first_inside (checker.Duplicate at) h
+  checker_inside (checker.Unknown at) h = first_inside (checker.Unknown at) h
+  checker_inside (checker.WrongKind at wanted found) h = first_inside (checker.WrongKind at wanted found) h
+  checker_inside (checker.TooManyParams at) h = first_inside (checker.TooManyParams at) h
+  checker_inside checker.Memory h = tt
+
+-- the one number is at most the other, or above it
+size_split : (n m : ℕ) → (n ≤ m) ⊎ (m < n)
+size_split zero m = inl (omega arith)
+size_split (suc n) zero = inr (omega arith)
+size_split (suc n) (suc m) = elim (size_split n m) [ inl h ↦ inl (omega (arith, h)) | inr h ↦ inr (omega (arith, h)) ]
+
+-- a text that is refused is too long, or it is not
+pub too_long_or_short : (text : List ℕ) (e : TextError) → (1048576 < length text → e ≡ lexer.TooLong) → (e ≡ lexer.TooLong) ⊎ (length text ≤ 1048576)
+too_long_or_short text e h = elim (size_split (length text) 1048576) [ inl s ↦ inr s | inr l ↦ inl (h l) ]
+
+-- a text that is not too long
+pub short_text : (text : List ℕ) → (1048576 < length text → ⊥) → length text ≤ 1048576
+short_text text h = elim (size_split (length text) 1048576) [ inl s ↦ s | inr l ↦ absurd (h l) ]

@@ -1,0 +1,10 @@
+mod AnsweredLemmas
+mod CausesLemmas
+mod InsideLemmas
+mod NamesLemmas
+mod PlacedLemmas
+mod RunLemmas
+mod ServedLemmas
+mod ShownLemmas
+mod SingleLemmas
+mod StuckLemmas

@@ -1,0 +1,20 @@
+use Rattle.std.proofs.Common.{◌≤◌, All, length, sym, ap, subst, ◌∙◌}
+use Rattle.id_graph.specs.Graph.{Parts}
+use Rattle.id_graph.specs.Listing.{listing}
+use Rattle.id_engine.proofs.PlacedLemmas.{instrs_within}
+use Rattle.id_engine.proofs.commands.list_compiled.Goals as goal
+
+pub list-requires-clause-places : goal.list-requires-clause-places
+list-requires-clause-places c =
+    let p = c.args.compiled.now in
+    subst (λ (g : Parts). All (λ i. i.place ≤ length c.args.text.now) g.instrs) (sym (c.graph.ensures.value ∙ c.valid.ensures.value))
+    (instrs_within c.requires.within p.graph c.valid.ensures.kept)
+
+pub returns-in-Ok-clause-listing : goal.returns-in-Ok-clause-listing
+returns-in-Ok-clause-listing c = record {
+  program = c.args.compiled.now.checked;
+  is_program = c.requires.program;
+  graph = c.args.compiled.now.graph;
+  schemas = c.valid.ensures.kept;
+  listing_is = c.in-Ok.ensures ∙ ap (listing c.args.text.now) (c.graph.ensures.value ∙ c.valid.ensures.value);
+}

@@ -1,0 +1,9 @@
+pub mod Programs
+pub mod Commands
+pub mod Runs
+pub mod Refusals
+pub mod Served
+pub mod Reading
+-- for use inside
+pub mod Reports
+pub mod Codes

@@ -1,0 +1,63 @@
+-- Runs of the engine: which messages are delivered, and what is printed of them (docs/PROMISES.md, "The run").
+use Rattle.std.specs.Prelude.{◌≡◌, ◌≢◌, ◌≤◌, ◌⊎◌, ℕ, Bool, IsTrue, List, [], ◌∷◌, ◌++◌, All, length, slice_get, Option, Some, Ok}
+use Rattle.id_check.specs.declared.Checked.{Checked}
+use Rattle.id_graph.specs.Graph.{Parts}
+use Rattle.id_tag.specs.declared.Message.{Message}
+use Rattle.id_tag.specs.Routes.{route_of}
+use Rattle.id_meaning.specs.declared.SourceValue.{SourceValue}
+use Rattle.id_meaning.specs.declared.SourceFault.{SourceFault}
+use Rattle.id_meaning.specs.declared.NameValue.{NameValue}
+use Rattle.id_meaning.specs.Inputs.{AreInputsOf}
+use Rattle.id_build.specs.Schemas.{Schemas}
+use Rattle.id_core.specs.Steps.{State, is_ended}
+use Rattle.id_core.specs.Machines.{World, IsQuiet, run, start}
+use Rattle.id_core.specs.Observed.{answer, faults, names}
+use Rattle.id_print.specs.Told.{Told, Prints}
+use Rattle.id_print.specs.Names.{IsSortedOf}
+use Rattle.id_print.specs.Texts.{shown_text, stopped_text, fault_text}
+use Rattle.id_print.specs.Reports.{asked}
+use Rattle.id_engine.specs.Programs.{IsProgramOf}
+
+-- the machine of so many elements after deliveries at these positions from its start
+abbrev pub after : Parts → List SourceValue → ℕ → List ℕ → World
+after g vs count ks = run g count ks (start g vs count)
+
+-- the message is held back: the element that it is for has handled so many messages, or no stamp is left for it there
+pub record IsHeldBack (count steps : ℕ) (w : World) (m : Message) : Type 0 where
+  pub state : State
+  pub element : slice_get w.elements (route_of m.payload count) ≡ Some state
+  pub held : (length state.events ≡ steps) ⊎ IsTrue (is_ended state m)
+
+-- the deliveries end at a fault: none before the last one showed a fault, and the last one shows this one
+pub record EndsAt (g : Parts) (count : ℕ) (w : World) (ks : List ℕ) (f : SourceFault) : Type 0 where
+  pub before : List ℕ
+  pub last : ℕ
+  pub deliveries : ks ≡ before ++ last ∷ []
+  pub none_before : faults g (run g count before w) ≡ []
+  pub one : faults g (run g count ks w) ≡ f ∷ []
+
+-- how a run ends, and what is printed of it, its names where they are asked for
+pub data Ends (g : Parts) (vs : List SourceValue) (count steps : ℕ) (ks : List ℕ) (text : List ℕ) (b : Bool) : ℕ → List ℕ → Type 0 where
+  -- with status 0 the machine is quiet
+  quiet : (ns : List NameValue) → IsQuiet (after g vs count ks) → IsSortedOf ns (names g (after g vs count ks)) →
+      Ends g vs count steps ks text b 0 (shown_text text (answer (after g vs count ks)) (asked b ns))
+  -- with status 1 it has shown one fault, by its last delivery
+  fault : (f : SourceFault) → EndsAt g count (start g vs count) ks f → Ends g vs count steps ks text b 1 (fault_text text f)
+  -- with status 3 it has shown no fault, and messages are left, all of them held back
+  stopped : (ns : List NameValue) → faults g (after g vs count ks) ≡ [] → (after g vs count ks).flight ≢ [] →
+      All (IsHeldBack count steps (after g vs count ks)) (after g vs count ks).flight → IsSortedOf ns (names g (after g vs count ks)) →
+      Ends g vs count steps ks text b 3 (stopped_text text (answer (after g vs count ks)) (asked b ns))
+
+-- a run of the text's program on the inputs that the words give, on one element, which handles at most so many messages, is printed with this status
+pub record Ran (text : List ℕ) (words : List (List ℕ)) (steps : ℕ) (b : Bool) (old new : Option Told) (status : ℕ) : Type 0 where
+  pub program : Checked
+  pub is_program : IsProgramOf text program
+  pub graph : Parts
+  pub schemas : Schemas program graph
+  pub inputs : List SourceValue
+  pub are_inputs : AreInputsOf program words inputs
+  pub positions : List ℕ
+  pub few : All (λ s. length s.events ≤ steps) (after graph inputs 1 positions).elements
+  pub output : List ℕ
+  pub ends : Ends graph inputs 1 steps positions text b status output
+  pub printed : Prints old new output (Ok tt)

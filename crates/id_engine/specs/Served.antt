@@ -1,0 +1,92 @@
+-- What the program does with a request (docs/PROMISES.md, "The program").
+use Rattle.std.specs.Prelude.{◌≡◌, ◌≢◌, ℕ, List, [], map, Option, None, Some, Result, Ok, Err, string_bytes}
+use Rattle.id_print.specs.declared.sink.PrintError.{PrintError}
+use Rattle.id_print.specs.Told.{Told, Prints}
+use Rattle.id_engine.specs.declared.request.Request.{Request}
+use Rattle.id_engine.specs.declared.request.Request.TheVariants as asks
+use Rattle.id_engine.specs.declared.request.Unasked.{Unasked}
+use Rattle.id_engine.specs.declared.request.Unasked.TheVariants.{Help, Refused, Memory}
+use Rattle.id_engine.specs.declared.error.EngineError.{EngineError}
+use Rattle.id_engine.specs.declared.error.EngineError.TheVariants.{Write}
+use Rattle.id_engine.specs.declared.refusal.Cause.TheVariants as cause
+use Rattle.id_engine.specs.declared.source.SourceFault.{SourceFault}
+use Rattle.id_engine.specs.Reading.{IsToldText, IsUnread}
+use Rattle.id_engine.specs.Programs.{HasProgram}
+use Rattle.id_engine.specs.Commands.{Command, Check, List_graph, Facts, Run, ShowsAll, ShowsFront}
+use Rattle.id_engine.specs.Runs.{Ran}
+use Rattle.id_engine.specs.Refusals.{IsRefusedText, IsRefusedRun, IsTakenRun, AreRefusedFacts, AreTakenFacts, IsToldRefusal, IsPrintedLine, plain, row_of, source_cause}
+
+-- the file of a request
+abbrev pub file_of : Request → List ℕ
+file_of (asks.Check file) = file.now
+file_of (asks.Graph file) = file.now
+file_of (asks.Run file inputs steps names) = file.now
+file_of (asks.Facts file rounds inputs) = file.now
+
+-- the words of a request's inputs
+abbrev pub words_of : Request → List (List ℕ)
+words_of (asks.Check file) = []
+words_of (asks.Graph file) = []
+words_of (asks.Run file inputs steps names) = map (λ w. w.now) inputs.items
+words_of (asks.Facts file rounds inputs) = map (λ w. w.now) inputs.items
+
+-- what a request asks for
+abbrev pub command_of : Request → Command
+command_of (asks.Check file) = Check
+command_of (asks.Graph file) = List_graph
+command_of (asks.Run file inputs steps names) = Run names (map (λ w. w.now) inputs.items)
+command_of (asks.Facts file rounds inputs) = Facts rounds (map (λ w. w.now) inputs.items)
+
+-- a request on a text is taken: the text has a program, the words give inputs, and all numbers are within their limits
+abbrev pub IsTaken : List ℕ → Request → Type 0
+IsTaken text (asks.Check file) = HasProgram text
+IsTaken text (asks.Graph file) = HasProgram text
+IsTaken text (asks.Run file inputs steps names) = IsTakenRun text (map (λ w. w.now) inputs.items) steps
+IsTaken text (asks.Facts file rounds inputs) = AreTakenFacts text (map (λ w. w.now) inputs.items) rounds
+
+-- a request to run the text is run
+abbrev pub IsRun : List ℕ → Request → Option Told → Option Told → ℕ → Type 0
+IsRun text (asks.Check file) out out' status = Unit {0}
+IsRun text (asks.Graph file) out out' status = Unit {0}
+IsRun text (asks.Run file inputs steps names) out out' status = Ran text (map (λ w. w.now) inputs.items) steps names out out' status
+IsRun text (asks.Facts file rounds inputs) out out' status = Unit {0}
+
+-- why a request on a text is refused
+abbrev pub IsRefusedRequest : List ℕ → Request → EngineError → Type 0
+IsRefusedRequest text (asks.Check file) e = IsRefusedText text e
+IsRefusedRequest text (asks.Graph file) e = IsRefusedText text e
+IsRefusedRequest text (asks.Run file inputs steps names) e = IsRefusedRun text (map (λ w. w.now) inputs.items) steps e
+IsRefusedRequest text (asks.Facts file rounds inputs) e = AreRefusedFacts text (map (λ w. w.now) inputs.items) rounds e
+
+-- the request is served: what it asks for is printed whole, or one line says why not
+pub data Serves (text : List ℕ) (r : Request) (out out' err err' : Option Told) : ℕ → Type 0 where
+  done : {status : ℕ} → ShowsAll (command_of r) text out out' status → IsTaken text r → IsRun text r out out' status → err' ≡ err →
+      Serves text r out out' err err' status
+  -- nothing is printed but the line of the refusal
+  refused : {status : ℕ} (e : EngineError) → e ≢ Write → IsRefusedRequest text r e → out' ≡ out → IsToldRefusal text (words_of r) e err err' status →
+      Serves text r out out' err err' status
+  -- a write failed, and a front is out
+  cut : {status : ℕ} → ShowsFront (command_of r) text out out' → IsToldRefusal text (words_of r) Write err err' status →
+      Serves text r out out' err err' status
+
+-- a request is done with what the source tells of its file: the text is served, or its fault is refused
+pub data Drives (told : Option (Result (List ℕ) SourceFault)) (r : Request) (out out' err err' : Option Told) : ℕ → Type 0 where
+  served : {status : ℕ} (text : List ℕ) → IsToldText told text → Serves text r out out' err err' status → Drives told r out out' err err' status
+  unread : (fault : SourceFault) → IsUnread told fault → out' ≡ out → IsPrintedLine [] (plain (source_cause fault)) err err' →
+      Drives told r out out' err err' (row_of (source_cause fault)).2
+
+-- help is printed whole, or a write of it failed
+pub data HasHelped (text : List ℕ) (out out' err err' : Option Told) : ℕ → Type 0 where
+  whole : Prints out out' text (Ok tt) → err' ≡ err → HasHelped text out out' err err' 0
+  cut : (e : PrintError) → Prints out out' text (Err e) → IsPrintedLine [] (plain cause.Write) err err' → HasHelped text out out' err err' 5
+
+-- the text is printed to standard error, whole or up to a failed write
+pub record IsSaid (text : List ℕ) (err err' : Option Told) : Type 0 where
+  pub written : Result (Unit {0}) PrintError
+  pub printed : Prints err err' text written
+
+-- words that ask for nothing are answered: by help, by the text that says why not, or by want of memory
+abbrev pub Answers : Option Told → Option Told → Option Told → Option Told → Unasked → ℕ → Type 0
+Answers out out' err err' (Help text) status = HasHelped (string_bytes text) out out' err err' status
+Answers out out' err err' (Refused text) status = (out' ≡ out) × IsSaid (string_bytes text) err err' × (status ≡ 4)
+Answers out out' err err' Memory status = (out' ≡ out) × IsPrintedLine [] (plain cause.Memory) err err' × (status ≡ 5)

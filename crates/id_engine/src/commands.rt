@@ -1,0 +1,153 @@
+//! The commands that run nothing: whether a text is accepted, its graph, its facts.
+
+ghost use Rattle.std.specs.Prelude.{◌≡◌, ◌≢◌, ◌≤◌, length, map, IfOk, IfErr, OnOk, string_bytes};
+ghost use Rattle.id_meaning.specs.Computed.{AreFacts};
+ghost use Rattle.id_meaning.specs.Sources.{AreInputs, source};
+ghost use Rattle.id_print.specs.Within.{FactsWithin};
+ghost use Rattle.id_engine.specs.Commands.{AreFactsOf, Check, Facts, IsListingOf, List_graph, ShowsAll, ShowsFront};
+ghost use Rattle.id_engine.specs.Programs.{HasProgram, IsPlacedWithin, IsProgramOf};
+ghost use Rattle.id_engine.specs.Refusals.{AreRefusedFacts, AreTakenFacts, IsInsideOf, IsRefusedText};
+ghost use Rattle.id_engine.specs.Reports.{AreRefusedRounds};
+
+use crate::compiled::{Compiled, compile};
+use crate::error::EngineError;
+use crate::prepared::{Prepared, prepare};
+use id_graph::list;
+use id_meaning::{Fact, RoundsError, rounds};
+use id_print::{Sink, put, write_facts};
+use std::alloc::Global;
+
+/// Writes `ok` where the text is accepted, and answers the status, 0.
+pub fn check_text<W: Sink>(alloc: Global, text: &str, out: &mut W) -> Result<u8, EngineError>
+    ensures shown { IfOk result (ShowsAll Check text.now (W.told out.old) (W.told out.new)) }
+    ensures cut { result ≡ Err EngineError.Write → ShowsFront Check text.now (W.told out.old) (W.told out.new) }
+    ensures silent { IfErr result (λ e. e ≢ EngineError.Write → W.told out.new ≡ W.told out.old) }
+    ensures taken { OnOk result (HasProgram text.now) }
+    ensures refused { IfErr result (IsRefusedText text.now) }
+    ensures inside { IfErr result (IsInsideOf text.now) }
+{
+    accept_text(alloc, text)?;
+    match put(out, b"ok\n") {
+        Ok(()) => Ok(0),
+        Err(_) => Err(EngineError::Write),
+    }
+}
+
+/// Whether the text is accepted.
+fn accept_text(alloc: Global, text: &str) -> Result<(), EngineError>
+    ensures program { OnOk result (HasProgram text.now) }
+    ensures refused { IfErr result (IsRefusedText text.now) }
+    ensures inside { IfErr result (IsInsideOf text.now) }
+    ensures not_write { IfErr result (λ e. e ≢ EngineError.Write) }
+{
+    match compile(alloc, text) {
+        Ok(_compiled) => Ok(()),
+        Err(error) => Err(EngineError::Compile(error)),
+    }
+}
+
+/// Writes the listing of the text's graph, and answers the status, 0.
+pub fn graph_text<W: Sink>(alloc: Global, text: &str, out: &mut W) -> Result<u8, EngineError>
+    ensures shown { IfOk result (ShowsAll List_graph text.now (W.told out.old) (W.told out.new)) }
+    ensures cut { result ≡ Err EngineError.Write → ShowsFront List_graph text.now (W.told out.old) (W.told out.new) }
+    ensures silent { IfErr result (λ e. e ≢ EngineError.Write → W.told out.new ≡ W.told out.old) }
+    ensures taken { OnOk result (HasProgram text.now) }
+    ensures refused { IfErr result (IsRefusedText text.now) }
+    ensures inside { IfErr result (IsInsideOf text.now) }
+{
+    let listing = listing_of(alloc, text)?;
+    match put(out, listing.as_str().as_bytes()) {
+        Ok(()) => Ok(0),
+        Err(_) => Err(EngineError::Write),
+    }
+}
+
+/// The listing of the text's graph.
+fn listing_of(alloc: Global, text: &str) -> Result<String, EngineError>
+    ensures listing { IfOk result (λ s. IsListingOf text.now (string_bytes s)) }
+    ensures program { OnOk result (HasProgram text.now) }
+    ensures refused { IfErr result (IsRefusedText text.now) }
+    ensures inside { IfErr result (IsInsideOf text.now) }
+    ensures not_write { IfErr result (λ e. e ≢ EngineError.Write) }
+{
+    match compile(alloc, text) {
+        Ok(compiled) => list_compiled(alloc, &compiled, text),
+        Err(error) => Err(EngineError::Compile(error)),
+    }
+}
+
+/// The listing of a compiled text's graph.
+fn list_compiled(alloc: Global, compiled: &Compiled, text: &str) -> Result<String, EngineError>
+    requires program { IsProgramOf text.now compiled.now.checked }
+    requires within { IsPlacedWithin (length text.now) compiled.now.checked }
+    requires short { length text.now ≤ 1048576 }
+    ensures listing { IfOk result (λ s. IsListingOf text.now (string_bytes s)) }
+    ensures memory { IfErr result (λ e. e ≡ EngineError.Memory) }
+{
+    match list(alloc, compiled.valid().graph(), text) {
+        Ok(listing) => Ok(listing),
+        Err(_) => Err(EngineError::Memory),
+    }
+}
+
+/// Writes the facts of a round of the text on these input words, a line for each, and answers the status, 0.
+pub fn facts_text<W: Sink>(
+    alloc: Global,
+    text: &str,
+    inputs: &[&str],
+    round: u32,
+    out: &mut W,
+) -> Result<u8, EngineError>
+    ensures shown { IfOk result (ShowsAll (Facts round (map (λ w. w.now) inputs.now)) text.now (W.told out.old) (W.told out.new)) }
+    ensures cut { result ≡ Err EngineError.Write → ShowsFront (Facts round (map (λ w. w.now) inputs.now)) text.now (W.told out.old) (W.told out.new) }
+    ensures silent { IfErr result (λ e. e ≢ EngineError.Write → W.told out.new ≡ W.told out.old) }
+    ensures taken { OnOk result (AreTakenFacts text.now (map (λ w. w.now) inputs.now) round) }
+    ensures refused { IfErr result (AreRefusedFacts text.now (map (λ w. w.now) inputs.now) round) }
+    ensures inside { IfErr result (IsInsideOf text.now) }
+{
+    let facts = facts_of(alloc, text, inputs, round)?;
+    match write_facts(facts.as_slice(), text, out) {
+        Ok(()) => Ok(0),
+        Err(_) => Err(EngineError::Write),
+    }
+}
+
+/// The facts of a round of the text on these input words.
+fn facts_of(
+    alloc: Global,
+    text: &str,
+    inputs: &[&str],
+    round: u32,
+) -> Result<Vec<Fact>, EngineError>
+    ensures facts { IfOk result (λ v. AreFactsOf text.now (map (λ w. w.now) inputs.now) round v.items) }
+    ensures within { IfOk result (λ v. FactsWithin (length text.now) v.items) }
+    ensures short { OnOk result (length text.now ≤ 1048576) }
+    ensures taken { OnOk result (AreTakenFacts text.now (map (λ w. w.now) inputs.now) round) }
+    ensures refused { IfErr result (AreRefusedFacts text.now (map (λ w. w.now) inputs.now) round) }
+    ensures inside { IfErr result (IsInsideOf text.now) }
+    ensures not_write { IfErr result (λ e. e ≢ EngineError.Write) }
+{
+    match prepare(alloc, text, inputs) {
+        Ok(prepared) => facts_of_prepared(alloc, &prepared, round),
+        Err(error) => Err(error),
+    }
+}
+
+/// The facts of a round of a compiled program on its inputs.
+fn facts_of_prepared(
+    alloc: Global,
+    prepared: &Prepared,
+    round: u32,
+) -> Result<Vec<Fact>, EngineError>
+    requires { AreInputs prepared.now.compiled.checked prepared.now.inputs.values }
+    ensures facts { IfOk result (λ v. AreFacts (source prepared.now.compiled.checked prepared.now.inputs.values) round v.items) }
+    ensures few { IfOk result (λ v. (round ≤ 10000) × (length v.items ≤ 1000000)) }
+    ensures refused { IfErr result (AreRefusedRounds (source prepared.now.compiled.checked prepared.now.inputs.values) round) }
+{
+    match rounds(alloc, prepared.compiled.checked(), &prepared.inputs, round) {
+        Ok(facts) => Ok(facts),
+        Err(RoundsError::BadRounds) => Err(EngineError::BadRounds),
+        Err(RoundsError::TooManyFacts) => Err(EngineError::TooManyFacts),
+        Err(RoundsError::Memory) => Err(EngineError::Memory),
+    }
+}

@@ -1,0 +1,152 @@
+//! From a text to its graph: tokens, tree, checks, schemas, validation.
+
+ghost use Rattle.std.specs.Prelude.{◌≡◌, ◌≤◌, length, IfErr, IfOk, OnOk};
+ghost use Rattle.id_build.specs.Schemas.{Schemas, size};
+ghost use Rattle.id_valid.specs.Validator.{TellsFault};
+ghost use Rattle.id_engine.specs.Programs.{IsProgramOf, IsPlacedWithin, IsRefusedBy};
+ghost use Rattle.id_engine.specs.Reports.{IsRefusedGraph};
+ghost use Rattle.id_engine.specs.Refusals.{IsCauseInside};
+
+use id_build::{BuildError, build};
+use id_check::{CheckCause, Checked, check};
+use id_graph::Graph;
+use id_text::{TextError, lex};
+use id_tree::{TreeError, parse};
+use id_valid::{Invalid, InvalidCause, Valid, validate};
+use std::alloc::Global;
+use std::marker::Model;
+
+/// A program with its graph, which is one that the schemas give it.
+#[derive(Drop)]
+pub struct Compiled {
+    checked: Checked,
+    valid: Valid,
+}
+
+impl Model for Compiled {
+    ghost use Rattle.id_build.specs.Schemas.{Schemas};
+    ghost use Rattle.id_engine.specs.Codes.{coded_compiled};
+    ghost use Rattle.id_engine.specs.Programs.{CompiledView};
+
+    ghost Value = { CompiledView };
+
+    ghost coded = { coded_compiled };
+
+    ghost view = { λ c. record { checked = c.checked; graph = c.valid } };
+
+    ghost invariant = { λ c. Schemas c.checked c.valid };
+}
+
+impl Compiled {
+    ghost use Rattle.std.specs.Prelude.{◌≡◌};
+    ghost use Rattle.id_build.specs.Schemas.{Schemas};
+
+    /// The program. Takes no memory.
+    pub fn checked(&self) -> &Checked
+        ensures { result.now ≡ self.now.checked }
+    {
+        &self.checked
+    }
+
+    /// The program's graph. Takes no memory.
+    pub fn valid(&self) -> &Valid
+        ensures value { result.now ≡ self.now.graph }
+        ensures kept { Schemas self.now.checked self.now.graph }
+    {
+        &self.valid
+    }
+}
+
+/// Why a text has no graph.
+#[derive(Clone, Copy)]
+pub enum CompileError {
+    /// The text has no tokens: refusals 1 to 3.
+    Text(TextError),
+    /// The tokens have no tree: refusals 5 and 6.
+    Tree(TreeError),
+    /// The program is refused: refusals 7 to 10, 12 and 13.
+    Check(CheckCause),
+    /// The graph would have more than 1,000,000 instructions: refusal 14.
+    TooLarge,
+    /// A growth was refused.
+    Memory,
+}
+
+/// The error of a graph that the schemas give a program: it is valid, so memory was refused.
+fn invalid_error(checked: &Checked, invalid: &Invalid) -> CompileError
+    requires graph { Schemas checked.now invalid.now.graph }
+    requires told { TellsFault invalid.now.graph invalid.now.cause }
+    ensures { result ≡ CompileError.Memory }
+{
+    id_laws::valid();
+    match invalid.cause {
+        InvalidCause::Faulty { .. } => unreachable!(),
+        InvalidCause::Memory => CompileError::Memory,
+    }
+}
+
+/// The checked program of a text.
+fn checked_program(alloc: Global, text: &str) -> Result<Checked, CompileError>
+    ensures program { IfOk result (IsProgramOf text.now) }
+    ensures within { IfOk result (IsPlacedWithin (length text.now)) }
+    ensures short { OnOk result (length text.now ≤ 1048576) }
+    ensures refused { IfErr result (IsRefusedBy text.now) }
+    ensures inside { IfErr result (IsCauseInside text.now) }
+{
+    let tokens = match lex(alloc, text) {
+        Ok(tokens) => tokens,
+        Err(error) => return Err(CompileError::Text(error)),
+    };
+    let program = match parse(alloc, tokens.as_slice()) {
+        Ok(program) => program,
+        Err(error) => return Err(CompileError::Tree(error)),
+    };
+    match check(alloc, program) {
+        Ok(checked) => Ok(checked),
+        Err(error) => Err(CompileError::Check(error.cause)),
+    }
+}
+
+/// The graph of a checked program as a valid one, unless memory is refused.
+fn valid_of(alloc: Global, checked: &Checked, graph: Graph) -> Result<Valid, CompileError>
+    requires { Schemas checked.now graph }
+    ensures same { IfOk result (λ v. v ≡ graph) }
+    ensures memory { IfErr result (λ e. e ≡ CompileError.Memory) }
+{
+    match validate(alloc, graph) {
+        Ok(valid) => Ok(valid),
+        Err(invalid) => Err(invalid_error(checked, &invalid)),
+    }
+}
+
+/// The graph of a checked program.
+fn graph_of(alloc: Global, checked: &Checked) -> Result<Valid, CompileError>
+    ensures graph { IfOk result (Schemas checked.now) }
+    ensures small { OnOk result (size checked.now ≤ 1000000) }
+    ensures refused { IfErr result (IsRefusedGraph checked.now) }
+{
+    match build(alloc, checked) {
+        Ok(graph) => valid_of(alloc, checked, graph),
+        Err(BuildError::TooLarge) => Err(CompileError::TooLarge),
+        Err(BuildError::Memory) => Err(CompileError::Memory),
+    }
+}
+
+/// The program of a text, and its graph; or why it has none.
+pub fn compile(alloc: Global, text: &str) -> Result<Compiled, CompileError>
+    ensures program { IfOk result (λ c. IsProgramOf text.now c.checked) }
+    ensures small { IfOk result (λ c. size c.checked ≤ 1000000) }
+
+    // What the printers rest on.
+    ensures within { IfOk result (λ c. IsPlacedWithin (length text.now) c.checked) }
+    ensures short { OnOk result (length text.now ≤ 1048576) }
+
+    ensures refused { IfErr result (IsRefusedBy text.now) }
+    ensures inside { IfErr result (IsCauseInside text.now) }
+{
+    let checked = checked_program(alloc, text)?;
+    match graph_of(alloc, &checked) {
+        Ok(valid) => Ok(Compiled { checked, valid }),
+        Err(error) => Err(error),
+    }
+}

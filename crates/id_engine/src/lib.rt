@@ -1,0 +1,29 @@
+//! The program's engine: a request on a text to printed bytes and a status.
+//!
+//! Keeps: standard output has what was asked for or nothing, standard error one refusal.
+//! Errors: `EngineError`; each refusal has its number, name and status in `refusal`, and nowhere else.
+//! Read first: `specs/Commands.antt`, `specs/Runs.antt`, then `engine` and `drive`; docs/PROMISES.md.
+//! Not here: which words ask for what (`id_args`), the streams of the process (`idc`), and every
+//! step from the text to the run, which have a crate each.
+#![tactic(auto)]
+
+mod commands;
+mod compiled;
+mod error;
+mod prepared;
+mod program;
+mod refusal;
+mod request;
+mod run;
+mod source;
+mod stream;
+
+pub use commands::{check_text, facts_text, graph_text};
+pub use compiled::{CompileError, Compiled, compile};
+pub use error::EngineError;
+pub use program::{drive, serve};
+pub use refusal::{Cause, Detail, Refusal, put_refusal};
+pub use request::{Request, Unasked};
+pub use run::{MAX_STEPS, engine};
+pub use source::{Disk, Source, SourceFault, read_text};
+pub use stream::{Stream, write_some};

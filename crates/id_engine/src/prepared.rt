@@ -1,0 +1,76 @@
+//! A text with its inputs.
+
+ghost use Rattle.std.specs.Prelude.{◌≢◌, ◌<◌, ◌≤◌, length, map, IfOk, IfErr, OnOk};
+ghost use Rattle.id_tree.specs.declared.tree.Def.{Def};
+ghost use Rattle.id_meaning.specs.Parts.{IsMain};
+ghost use Rattle.id_meaning.specs.Sources.{AreInputs};
+ghost use Rattle.id_meaning.specs.Inputs.{AreInputsOf};
+ghost use Rattle.id_build.specs.Schemas.{size};
+ghost use Rattle.id_engine.specs.Programs.{IsNameOfParam, IsPlacedWithin, IsProgramOf};
+ghost use Rattle.id_engine.specs.Refusals.{AreRefusedFor, IsInsideOf, IsRefusedSource};
+
+use crate::compiled::{Compiled, compile};
+use crate::error::EngineError;
+use id_check::Checked;
+use id_meaning::{InputError, Inputs, read_inputs};
+use id_text::Identifier;
+use std::alloc::{AllocError, Global};
+
+/// A program with its graph and the inputs of its `main`.
+#[derive(Drop)]
+pub struct Prepared {
+    pub compiled: Compiled,
+    pub inputs: Inputs,
+}
+
+/// The name of a parameter of `main`, again.
+fn param_name(alloc: Global, checked: &Checked, param: usize) -> Result<Identifier, AllocError>
+    requires { (d : Def) → IsMain checked.now d → param < length d.params }
+    ensures { IfOk result (IsNameOfParam checked.now param) }
+{
+    checked.main_def().params.as_slice()[param].name.copy(alloc)
+}
+
+/// The inputs that these words give a program.
+fn inputs_of(alloc: Global, checked: &Checked, words: &[&str]) -> Result<Inputs, EngineError>
+    ensures inputs { IfOk result (λ i. AreInputsOf checked.now (map (λ w. w.now) words.now) i.values) }
+    ensures own { IfOk result (λ i. AreInputs checked.now i.values) }
+    ensures refused { IfErr result (AreRefusedFor checked.now (map (λ w. w.now) words.now)) }
+{
+    match read_inputs(alloc, checked, words) {
+        Ok(inputs) => Ok(inputs),
+        Err(InputError::UnknownInput { word }) => Err(EngineError::UnknownInput { word }),
+        Err(InputError::RepeatedInput { word }) => Err(EngineError::RepeatedInput { word }),
+        Err(InputError::BadInput { word }) => Err(EngineError::BadInput { word }),
+        Err(InputError::MissingInput { param }) => {
+            let param = param_name(alloc, checked, param)?;
+            Err(EngineError::MissingInput { param })
+        }
+        Err(InputError::Memory) => Err(EngineError::Memory),
+    }
+}
+
+/// The program of a text, its graph, and the inputs that the words give it; or why there are none.
+pub fn prepare(alloc: Global, text: &str, words: &[&str]) -> Result<Prepared, EngineError>
+    ensures program { IfOk result (λ p. IsProgramOf text.now p.compiled.checked) }
+    ensures small { IfOk result (λ p. size p.compiled.checked ≤ 1000000) }
+    ensures inputs { IfOk result (λ p. AreInputsOf p.compiled.checked (map (λ w. w.now) words.now) p.inputs.values) }
+    ensures own { IfOk result (λ p. AreInputs p.compiled.checked p.inputs.values) }
+
+    // What the printers rest on.
+    ensures within { IfOk result (λ p. IsPlacedWithin (length text.now) p.compiled.checked) }
+    ensures short { OnOk result (length text.now ≤ 1048576) }
+
+    ensures refused { IfErr result (IsRefusedSource text.now (map (λ w. w.now) words.now)) }
+    ensures inside { IfErr result (IsInsideOf text.now) }
+    ensures not_write { IfErr result (λ e. e ≢ EngineError.Write) }
+{
+    let compiled = match compile(alloc, text) {
+        Ok(compiled) => compiled,
+        Err(error) => return Err(EngineError::Compile(error)),
+    };
+    match inputs_of(alloc, compiled.checked(), words) {
+        Ok(inputs) => Ok(Prepared { compiled, inputs }),
+        Err(error) => Err(error),
+    }
+}

@@ -1,0 +1,164 @@
+//! The whole program over any source of texts and any sinks.
+
+ghost use Rattle.std.specs.Prelude.{◌≡◌, ◌≢◌, [], map, IfErr, IfOk};
+ghost use Rattle.id_engine.specs.Commands.{ShowsAll, ShowsFront};
+ghost use Rattle.id_engine.specs.Refusals.{IsInsideOf, IsPrintedLine, IsToldRefusal, plain, row_of};
+ghost use Rattle.id_engine.specs.Served.{Answers, Drives, HasHelped, IsRefusedRequest, IsRun, IsTaken, Serves, command_of, file_of, words_of};
+
+use crate::commands::{check_text, facts_text, graph_text};
+use crate::error::EngineError;
+use crate::refusal::{Cause, of_engine_error, of_source_fault, plain, refuse};
+use crate::request::{Request, Unasked};
+use crate::run::engine;
+use crate::source::Source;
+use id_print::{Sink, put};
+use std::alloc::Global;
+
+/// The status of a command line that is refused.
+const BAD_WORDS: u8 = 4;
+
+/// Refuses for a cause that has no place.
+fn refuse_plainly<E: Sink>(cause: Cause, err: &mut E) -> u8
+    ensures status { result ≡ (row_of cause).2 }
+    ensures printed { IsPrintedLine [] (plain cause) (E.told err.old) (E.told err.new) }
+{
+    refuse(&plain(cause), "", err)
+}
+
+/// Prints the help.
+fn help<O: Sink, E: Sink>(text: &str, out: &mut O, err: &mut E) -> u8
+    ensures { HasHelped text.now (O.told out.old) (O.told out.new) (E.told err.old) (E.told err.new) result }
+{
+    match put(out, text.as_bytes()) {
+        Ok(()) => 0,
+        Err(_) => refuse_plainly(Cause::Write, err),
+    }
+}
+
+/// Answers words that ask for nothing.
+fn answer<O: Sink, E: Sink>(unasked: &Unasked, out: &mut O, err: &mut E) -> u8
+    ensures { Answers (O.told out.old) (O.told out.new) (E.told err.old) (E.told err.new) unasked.now result }
+{
+    match unasked {
+        Unasked::Memory => refuse_plainly(Cause::Memory, err),
+        Unasked::Refused(text) => {
+            let _ = put(err, text.as_str().as_bytes());
+            BAD_WORDS
+        }
+        Unasked::Help(text) => help(text.as_str(), out, err),
+    }
+}
+
+/// Prints what a request asks for of a text, and answers the status.
+fn print_asked<O: Sink>(
+    alloc: Global,
+    request: &Request<'_>,
+    text: &str,
+    out: &mut O,
+) -> Result<u8, EngineError>
+    ensures shown { IfOk result (ShowsAll (command_of request.now) text.now (O.told out.old) (O.told out.new)) }
+    ensures taken { IfOk result (λ _. IsTaken text.now request.now) }
+    ensures ran { IfOk result (IsRun text.now request.now (O.told out.old) (O.told out.new)) }
+    ensures cut { result ≡ Err EngineError.Write → ShowsFront (command_of request.now) text.now (O.told out.old) (O.told out.new) }
+    ensures silent { IfErr result (λ e. e ≢ EngineError.Write → O.told out.new ≡ O.told out.old) }
+    ensures refused { IfErr result (IsRefusedRequest text.now request.now) }
+    ensures inside { IfErr result (IsInsideOf text.now) }
+{
+    match request {
+        Request::Check { .. } => check_text(alloc, text, out),
+        Request::Graph { .. } => graph_text(alloc, text, out),
+        Request::Facts { rounds, inputs, .. } => facts_text(
+            alloc,
+            text,
+            inputs.as_slice(),
+            *rounds,
+            out,
+        ),
+        Request::Run {
+            inputs,
+            steps,
+            names,
+            ..
+        } => engine(alloc, text, inputs.as_slice(), *steps, *names, out),
+    }
+}
+
+/// The words of a request's inputs.
+fn words_of<'a>(request: &'a Request<'a>) -> &'a [&'a str]
+    ensures { map (λ w. w.now) result.now ≡ words_of request.now }
+{
+    match request {
+        Request::Run { inputs, .. } | Request::Facts { inputs, .. } => inputs.as_slice(),
+        Request::Check { .. } | Request::Graph { .. } => &[],
+    }
+}
+
+/// Writes the line for an error of a request on a text, and answers the status.
+fn tell<E: Sink>(request: &Request<'_>, error: &EngineError, text: &str, err: &mut E) -> u8
+    requires { IsInsideOf text.now error.now }
+    ensures { IsToldRefusal text.now (words_of request.now) error.now (E.told err.old) (E.told err.new) result }
+{
+    refuse(&of_engine_error(words_of(request), error), text, err)
+}
+
+/// Does what a request asks for with a text, and answers the status.
+pub fn serve<O: Sink, E: Sink>(
+    alloc: Global,
+    request: &Request<'_>,
+    text: &str,
+    out: &mut O,
+    err: &mut E,
+) -> u8
+    ensures { Serves text.now request.now (O.told out.old) (O.told out.new) (E.told err.old) (E.told err.new) result }
+{
+    match print_asked(alloc, request, text, out) {
+        Ok(status) => status,
+        Err(error) => tell(request, &error, text, err),
+    }
+}
+
+/// The file that a request names.
+fn file_of<'a>(request: &Request<'a>) -> &'a str
+    ensures { result.now ≡ file_of request.now }
+{
+    match request {
+        Request::Check { file }
+        | Request::Graph { file }
+        | Request::Run { file, .. }
+        | Request::Facts { file, .. } => file,
+    }
+}
+
+/// Reads the text of a request, and serves it.
+fn serve_file<S: Source, O: Sink, E: Sink>(
+    alloc: Global,
+    request: &Request<'_>,
+    source: &mut S,
+    out: &mut O,
+    err: &mut E,
+) -> u8
+    ensures { Drives (S.told source.old (file_of request.now)) request.now (O.told out.old) (O.told out.new) (E.told err.old) (E.told err.new) result }
+{
+    match source.read(alloc, file_of(request)) {
+        Ok(text) => serve(alloc, request, text.as_str(), out, err),
+        Err(fault) => refuse_plainly(of_source_fault(fault), err),
+    }
+}
+
+/// The whole program, but for reading the words: does what they ask for, and answers the status. It
+/// reads texts from `source`, writes what was asked for to `out` and refusals to `err`.
+pub fn drive<S: Source, O: Sink, E: Sink>(
+    alloc: Global,
+    asked: &Result<Request<'_>, Unasked>,
+    source: &mut S,
+    out: &mut O,
+    err: &mut E,
+) -> u8
+    ensures asked { IfOk asked.now (λ r. Drives (S.told source.old (file_of r)) r (O.told out.old) (O.told out.new) (E.told err.old) (E.told err.new) result) }
+    ensures unasked { IfErr asked.now (λ u. Answers (O.told out.old) (O.told out.new) (E.told err.old) (E.told err.new) u result) }
+{
+    match asked {
+        Ok(request) => serve_file(alloc, request, source, out, err),
+        Err(unasked) => answer(unasked, out, err),
+    }
+}

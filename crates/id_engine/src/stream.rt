@@ -1,0 +1,39 @@
+//! The standard streams as sinks.
+
+ghost use Rattle.std.specs.Prelude.{◌≤◌, length, IfOk};
+ghost use Rattle.std.specs.Io.KnownBytes.{WriteAppends};
+
+use id_print::{Sink, SinkFault};
+use std::io::{ErrorKind, Write};
+
+/// A writer of the system as a sink, which tells nothing of its writes.
+#[derive(Drop)]
+pub struct Stream<W: Write + Drop> {
+    pub writer: W,
+}
+
+impl<W: Write + Drop> Sink for Stream<W> {
+    ghost use Rattle.std.specs.Prelude.{None};
+
+    ghost told = { λ _. None };
+
+    fn write(&mut self, bytes: &[u8]) -> Result<usize, SinkFault> {
+        write_some(&mut self.writer, bytes)
+    }
+}
+
+/// One write of the writer's, and how many bytes it took from the front of these, or that it failed.
+/// A write that a signal cut short is made again.
+pub fn write_some<W: Write>(writer: &mut W, bytes: &[u8]) -> Result<usize, SinkFault>
+    ensures bound { IfOk result (λ n. n ≤ length bytes.now) }
+    ensures bytes { WriteAppends (W.contents writer.old) (W.contents writer.new) result bytes.now }
+{
+    for _ in 0..u64::MAX {
+        match writer.write(bytes) {
+            Ok(n) => return Ok(n),
+            Err(error) if error.kind() == ErrorKind::Interrupted => {}
+            Err(_) => return Err(SinkFault),
+        }
+    }
+    Err(SinkFault)
+}
