@@ -16,6 +16,7 @@ use Rattle.id_laws.proofs.Lists.{among_at}
 use Rattle.id_print.specs.declared.report.Ending.{Ending}
 use Rattle.id_print.specs.declared.report.Ending.TheVariants.{Quiet, Stopped, Fault}
 use Rattle.id_print.specs.declared.report.Report.{Report}
+use Rattle.id_observe.proofs.FirstsLemmas.{first_is_shown}
 use Rattle.id_print.specs.Endings.{EndsSo}
 use Rattle.id_print.specs.Names.{IsSortedOf, AreApart}
 use Rattle.id_engine.specs.Reports.{HasRun, IsReportOfRun, IsTrueOf, SaysTruly}
@@ -33,14 +34,14 @@ if_some S (Some v) h = h v refl
 
 -- what a report says is so where the state is sound, and complete if it is quiet
 true_in : (S : Source) (g : Parts) (w : World) (r : Report) (e : Ending) → ((v : SourceValue) → answer w ≡ Some v → Answers S v)
-    → ((f : SourceFault) → slice_get (faults g w) 0 ≡ Some f → Faulty S f) → (IsQuiet w → IsComplete S g w) → AreSomeNames S r.names
+    → ((i : ℕ) (f : SourceFault) → slice_get (faults g w) i ≡ Some f → Faulty S f) → (IsQuiet w → IsComplete S g w) → AreSomeNames S r.names
     → r.answer ≡ answer w → IsSortedOf r.names (names g w) → EndsSo (record { graph = g; count = 1; world = w }) e → SaysTruly S r e
 true_in S g w r Quiet says fails completes some same sorted ends =
     let done : IsComplete S g w = completes ends in
     let Q : Option SourceValue → Type 0 = IsAnswer S in
     (subst Q (sym same) done.answer, AreNames-complete S g w r.names some done sorted, done.no_fault)
 true_in S g w r Stopped says fails completes some same sorted ends = (if_some S r.answer (λ v h. says v (sym same ∙ h)), some)
-true_in S g w r (Fault f) says fails completes some same sorted ends = fails f ends
+true_in S g w r (Fault f) says fails completes some same sorted ends = let shown = first_is_shown g w.elements f ends in fails shown.0 f shown.1
 
 -- what is known of a report of a machine
 pub record IsReportFrom (m : MachineView) (r : Report) : Type 0 where
@@ -75,7 +76,7 @@ IsTrueOf-laws S g count ks m r sound complete coherent inputs schemas same_graph
     let some : AreSomeNames S r.names =
     AreSomeNames-sound S g schemas.number w r.names ok here.sorted (here.rise (AreApart-sound S g schemas.number w (coherent S) ok)) in
     record {
-      says = true_in S g w r r.ending ok.answer (λ f k. ok.faults f (among_at f (faults g w) 0 k)) (complete S g count ks inputs schemas)
+      says = true_in S g w r r.ending ok.answer (λ i f k. ok.faults f (among_at f (faults g w) i k)) (complete S g count ks inputs schemas)
           some here.answer_is here.sorted here.ends;
       names = some;
     }

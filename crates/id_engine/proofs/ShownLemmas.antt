@@ -1,5 +1,6 @@
 -- Lemmas on specs/Commands.antt: from a report that is so to what is printed.
-use Rattle.std.proofs.Common.{◌≡◌, ℕ, Bool, List, [], Option, Some, None, Result, Ok, slice_get, codes, refl, sym, ap, ◌∙◌, subst}
+use Rattle.std.proofs.Common.{◌≡◌, ℕ, zero, suc, Bool, List, [], ◌∷◌, Option, Some, None, Result, Ok, slice_get, codes, refl, sym, ap, ◌∙◌, subst}
+use Rattle.id_observe.proofs.FirstsLemmas.{first_is_shown}
 use Rattle.id_check.specs.declared.Checked.{Checked}
 use Rattle.id_print.specs.declared.sink.PrintError.{PrintError}
 use Rattle.id_print.specs.declared.report.Ending.{Ending}
@@ -64,6 +65,14 @@ HasShown-listed text bytes old new result h printed = record {
 pub HasShown-facts : (text : List ℕ) (ws : List (List ℕ)) (round : ℕ) (fs : List Fact) (old new : Option Told) (result : Result (Unit {0}) PrintError) → AreFactsOf text ws round fs → Prints old new (facts_text text fs) result → HasShown (Facts round ws) text old new 0 result
 HasShown-facts text ws round fs old new result h printed = record { program = h.program; is_program = h.is_program; output = facts_text text fs; shows = facts h.are_inputs h.are; printed = printed }
 
+-- what stands in a list of one is that one, and in none nothing does
+only_one : (x f : SourceFault) (i : ℕ) → slice_get (x ∷ []) i ≡ Some f → x ≡ f
+only_one x f zero h = cc
+only_one x f (suc i) h = cc
+
+no_one : (f : SourceFault) (i : ℕ) → slice_get [] i ≡ Some f → ⊥
+no_one f i h = cc
+
 -- a printed report of a run is the run, printed
 ends_text : (g : Parts) (vs : List SourceValue) (steps : ℕ) (ks : List ℕ) (text : List ℕ) (b : Bool) (r : Report) (e : Ending) → HasEnded g steps (start g vs 1) ks
     → IsSortedOf r.names (names g (after g vs 1 ks)) → EndsSo (record { graph = g; count = 1; world = after g vs 1 ks }) e
@@ -71,14 +80,16 @@ ends_text : (g : Parts) (vs : List SourceValue) (steps : ℕ) (ks : List ℕ) (t
     → Ends g vs 1 steps ks text b (status_of e) (ending_text text r (asked b r.names) e)
 ends_text g vs steps ks text b r Quiet ended sorted ends left same =
     subst (λ (o : Option SourceValue). Ends g vs 1 steps ks text b 0 (shown_text text o (asked b r.names))) (sym same) (ends_quiet r.names ends sorted)
-ends_text g vs steps ks text b r Stopped (at_fault f h) sorted ends left same = let no : Some f ≡ None = sym (ap (λ fs. slice_get fs 0) h.one) ∙ ends.0 in absurd cc
+ends_text g vs steps ks text b r Stopped (at_fault f h) sorted ends left same = let no : f ∷ [] ≡ [] = sym h.one ∙ ends.0 in absurd cc
 ends_text g vs steps ks text b r Stopped (at_rest none held) sorted ends left same =
     subst (λ (o : Option SourceValue). Ends g vs 1 steps ks text b 3 (stopped_text text o (asked b r.names))) (sym same) (ends_stopped r.names none (λ e. left refl e) held sorted)
 ends_text g vs steps ks text b r (Fault f) (at_fault x h) sorted ends left same =
-    let one : Some x ≡ Some f = sym (ap (λ fs. slice_get fs 0) h.one) ∙ ends in
-    let is : x ≡ f = cc in
+    let shown = first_is_shown g (after g vs 1 ks).elements f ends in
+    let is : x ≡ f = only_one x f shown.0 (sym (ap (λ fs. slice_get fs shown.0) h.one) ∙ shown.1) in
     subst (λ (y : SourceFault). Ends g vs 1 steps ks text b 1 (fault_text text y)) is (ends_fault x h)
-ends_text g vs steps ks text b r (Fault f) (at_rest none held) sorted ends left same = let no : None ≡ Some f = sym (ap (λ fs. slice_get fs 0) none) ∙ ends in absurd cc
+ends_text g vs steps ks text b r (Fault f) (at_rest none held) sorted ends left same =
+    let shown = first_is_shown g (after g vs 1 ks).elements f ends in
+    absurd (no_one f shown.0 (sym (ap (λ fs. slice_get fs shown.0) none) ∙ shown.1))
 
 pub Ran-report : (text : List ℕ) (ws : List (List ℕ)) (steps : ℕ) (b : Bool) (old new : Option Told) (r : Report) (status : ℕ)
     → IsReportOf text ws steps r → status ≡ status_of r.ending → Prints old new (report_text text b r) (Ok tt) → Ran text ws steps b old new status

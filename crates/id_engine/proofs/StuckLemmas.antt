@@ -107,14 +107,10 @@ IsQuiet-from never S g ks inputs schemas w is none empty =
     recorded_in : (w : World) (e : State) (v : EventView) → Among e w.elements → Among v e.events → Recorded w v
     recorded_in w e v a b = let k = at_among e w.elements a in record { element = k.0; state = e; at = k.1; among = b }
 
-none_first : {X : Type 0} (xs : List X) → slice_get xs 0 ≡ None → xs ≡ []
-none_first [] h = refl
-none_first (x ∷ xs) h = absurd cc
-
 -- a run that stops has left a message
 pub left_over : NeverStuck → (S : Source) (g : Parts) (ks : List ℕ) (m : MachineView) (e : Ending) → AreInputs S.checked S.inputs → Schemas S.checked g → m.graph ≡ g
     → m.world ≡ run g 1 ks (start g S.inputs 1) → EndsSo m e → e ≡ Stopped → m.world.flight ≡ [] → ⊥
 left_over never S g ks m e inputs schemas same world ends is empty =
     let E : Ending → Type 0 = λ x. EndsSo m x in
     let s : E Stopped = subst E is ends in
-    s.1 (IsQuiet-from never S g ks inputs schemas m.world world (ap (λ x. faults x m.world) (sym same) ∙ none_first (faults m.graph m.world) s.0) empty)
+    s.1 (IsQuiet-from never S g ks inputs schemas m.world world (ap (λ x. faults x m.world) (sym same) ∙ s.0) empty)
