@@ -1,66 +1,124 @@
--- Lemmas on labels and on the numbers that origins stand for.
-use Rattle.std.proofs.Common.{◌≡◌, inl, inr, ℕ, Bool, true, false, cond, eqb, eq-eqb, ◌+◌, ◌<◌, ◌==◌, if◌then◌else◌, List, [], ◌∷◌, ◌++◌, length, get_or, take, drop, Option, None, Some, refl, ap, sym, subst, ◌∙◌, append_assoc}
-use Rattle.std.specs.Prelude.{map, nat_eq, option_and_then, unwrap_or}
-use Rattle.indexmap.specs.IndexMap.{get}
+-- The arcs of a table: for any rows, whatever feeds each.
+use Rattle.std.proofs.Common.{◌≡◌, inl, inr, ℕ, Bool, true, false, cond, eqb, List, [], ◌∷◌, refl, ap, sym, subst, ◌∙◌}
+use Rattle.std.specs.Prelude.{map, ◌&&◌}
 use Rattle.std.proofs.lemmas.Bool.{eqb-true}
-use Rattle.std.proofs.lemmas.List.{drop_more, take_more}
-use Rattle.id_build.specs.declared.arcs.Arc.{Arc}
-use Rattle.id_build.specs.declared.draft.Label.{Label}
-use Rattle.id_build.specs.declared.draft.Origin.{Origin}
-use Rattle.id_build.specs.declared.draft.Origin.TheVariants.{Output, Named}
-use Rattle.id_build.specs.declared.draft.Wire.{Wire}
-use Rattle.id_build.specs.Resolved.{arc_of, label_in, label_or, number_of}
-use Rattle.id_check.specs.declared.Checked.{Checked}
-use Rattle.id_meaning.specs.Parts.{Among}
+use Rattle.id_build.proofs.JoinedLemmas.{is_from, is_from-here}
+use Rattle.id_check.specs.declared.checked.Checked.{Checked}
+use Rattle.id_graph.specs.declared.dests.Dest.{Dest}
+use Rattle.id_build.specs.declared.arc.Arc.{Arc}
+use Rattle.id_build.specs.declared.arc.Feed.{Feed}
+use Rattle.id_build.specs.Made.{arc_of, arcs_in, dest_of, dests_from}
+use Rattle.id_build.specs.Rows.{feeds}
+use Rattle.id_list.proofs.DifferLemmas.{AllDiffer-append}
+use Rattle.id_list.proofs.AmongLemmas.{Among-either, Among-from_map, Among-left, Among-map, Among-right}
+use Rattle.id_list.specs.List.{AllDiffer, Among}
+use Rattle.std.specs.Bool.{beq}
 
-label_or-push : (found : Option ℕ) (ls : List Label) (l : Label) (b : ℕ) → label_or found (ls ++ l ∷ []) b ≡ if l.binder == b then Some l.number else label_or found ls b
-label_or-push found [] l b = refl
-label_or-push found (m ∷ ls) l b = label_or-push (if m.binder == b then Some m.number else found) ls l b
+beq-refl : (s : Bool) → beq s s ≡ true
+beq-refl true = refl
+beq-refl false = refl
 
--- one more label is its binder's
-pub label_in-next : (ls : List Label) (i b : ℕ) (d : Label) → i < length ls → label_in (take (i + 1) ls) b ≡ if (get_or ls i d).binder == b then Some (get_or ls i d).number else label_in (take i ls) b
-label_in-next ls i b d h = ap (λ l. label_in l b) (take_more ls i d h) ∙ label_or-push None (take i ls) (get_or ls i d) b
+beq-true : (s t : Bool) → beq s t ≡ true → s ≡ t
+beq-true true true e = refl
+beq-true true false e = cc
+beq-true false true e = cc
+beq-true false false e = refl
 
--- the number of an origin depends on the labels' numbers alone
-pub number_of-same : (P : Checked) (f g : ℕ → Option ℕ) (o : Origin) → ((b : ℕ) → f b ≡ g b) → number_of P f o ≡ number_of P g o
-number_of-same P f g (Output n) e = refl
-number_of-same P f g (Named p) e = same (get nat_eq P.binders p)
+and-true : (a b : Bool) → (a && b) ≡ true → (a ≡ true) × (b ≡ true)
+and-true true b e = (refl, e)
+and-true false b e = cc
+
+-- where an arc from the side of the instruction goes is among its destinations
+pub dests_from-among : (a : Arc) (ws : List Arc) → Among a ws → Among (dest_of a) (dests_from a.from a.side ws)
+dests_from-among a [] h = absurd h
+dests_from-among a (v ∷ ws) (inl i) =
+    let test : is_from a.from a.side v ≡ true = is_from-here a.from a.side v (sym (ap (λ z. z.from) i)) ∙ ap (λ z. beq z a.side) (sym (ap (λ z. z.side) i)) ∙ beq-refl a.side in
+    rw test (inl (ap dest_of i))
+dests_from-among a (v ∷ ws) (inr h) =
+    let m = a.from in
+    let s = a.side in
+    elim (is_from m s v) as (λ b. Among (dest_of a) (cond b (dest_of v ∷ dests_from m s ws) (dests_from m s ws)))
+    [ true ↦ inr (dests_from-among a ws h) | false ↦ dests_from-among a ws h ]
+
+-- each destination of the instruction is where an arc of it goes
+pub dests_from-from : (m : ℕ) (s : Bool) (d : Dest) (ws : List Arc) → Among d (dests_from m s ws) → Among (record { from = m; side = s; to = d.instr; port = d.port }) ws
+dests_from-from m s d [] h = absurd h
+dests_from-from m s d (v ∷ ws) h = at (is_from m s v) refl (dests_from-from m s d ws) h
   where
-    same : (b : Option ℕ) → option_and_then f b ≡ option_and_then g b
-    same None = refl
-    same (Some b) = e b
+    at : (b : Bool) → is_from m s v ≡ b → (Among d (dests_from m s ws) → Among (record { from = m; side = s; to = d.instr; port = d.port }) ws) → Among d (cond b (dest_of v ∷ dests_from m s ws) (dests_from m s ws)) → Among (record { from = m; side = s; to = d.instr; port = d.port }) (v ∷ ws)
+    at true e f (inl i) =
+        let both = and-true (eqb v.from m) (beq v.side s) e in
+        let from = eqb-true v.from m both.0 in
+        let side = beq-true v.side s both.1 in
+        inl (ap (λ x. record { from = x; side = s; to = d.instr; port = d.port }) (sym from) ∙ ap (λ x. record { from = v.from; side = x; to = d.instr; port = d.port }) (sym side) ∙ ap (λ x. record { from = v.from; side = v.side; to = x.instr; port = x.port }) i)
+    at true e f (inr i) = inr (f i)
+    at false e f i = inr (f i)
 
--- an origin that has a number has it
-pub unwrap_or-some : (o : Option ℕ) (n : ℕ) → o ≡ Some n → unwrap_or o 0 ≡ n
-unwrap_or-some o n e = ap (λ p. unwrap_or p 0) e
-
--- the arcs so far and the next one
-pub resolve-next : (P : Checked) (f : ℕ → Option ℕ) (ws : List Wire) (xs new : List Arc) (i k : ℕ) (d : Wire) → i < length ws → xs ++ map (arc_of P f) (drop i ws) ≡ map (arc_of P f) ws → number_of P f ((get_or ws i d).from) ≡ Some k → new ≡ xs ++ record { from = k; to = (get_or ws i d).to; port = (get_or ws i d).port } ∷ [] → new ++ map (arc_of P f) (drop (i + 1) ws) ≡ map (arc_of P f) ws
-resolve-next P f ws xs new i k d h so_far found e =
-    let w = get_or ws i d in
-    let rest = map (arc_of P f) (drop (i + 1) ws) in
-    let same : record { from = k; to = w.to; port = w.port } ≡ arc_of P f w = ap (λ n. record { from = n; to = w.to; port = w.port }) (sym (unwrap_or-some (number_of P f (w.from)) k found)) in
-    let next : xs ++ (arc_of P f w ∷ rest) ≡ map (arc_of P f) ws = let A : List Wire → Type 0 = λ l. xs ++ map (arc_of P f) l ≡ map (arc_of P f) ws in subst A (drop_more ws i d h) so_far in
-    ap (λ l. l ++ rest) (e ∙ ap (λ a. xs ++ a ∷ []) same) ∙ append_assoc xs (arc_of P f w ∷ []) rest ∙ next
-
--- a number that was found stays, where each label of the binder has it
-label_or-stays : (found : Option ℕ) (ls : List Label) (b n : ℕ) → ((l : Label) → Among l ls → l.binder ≡ b → l.number ≡ n) → found ≡ Some n → label_or found ls b ≡ Some n
-label_or-stays found [] b n f e = e
-label_or-stays found (m ∷ ls) b n f e = label_or-stays (if m.binder == b then Some m.number else found) ls b n (λ l h. f l (inr h)) (at (eqb m.binder b) refl)
+-- where no arc stands twice, no destination does
+pub AllDiffer-dests : (m : ℕ) (s : Bool) (ws : List Arc) → AllDiffer ws → AllDiffer (dests_from m s ws)
+AllDiffer-dests m s [] d = tt
+AllDiffer-dests m s (v ∷ ws) d = at (is_from m s v) refl (AllDiffer-dests m s ws d.1)
   where
-    at : (t : Bool) → eqb m.binder b ≡ t → cond t (Some m.number) found ≡ Some n
-    at true h = ap (λ k. Some k) (f m (inl refl) (eqb-true m.binder b h))
-    at false h = e
+    at : (b : Bool) → is_from m s v ≡ b → AllDiffer (dests_from m s ws) → AllDiffer (cond b (dest_of v ∷ dests_from m s ws) (dests_from m s ws))
+    at true e f = (
+      λ i. (
+          let both = and-true (eqb v.from m) (beq v.side s) e in
+          let from = eqb-true v.from m both.0 in
+          let side = beq-true v.side s both.1 in
+          let A : Arc → Type 0 = λ x. Among x ws in
+          d.0 (subst A (ap (λ x. record { from = x; side = s; to = v.to; port = v.port }) (sym from) ∙ ap (λ x. record { from = v.from; side = x; to = v.to; port = v.port }) (sym side)) (dests_from-from m s (dest_of v) ws i))
+          ),
+      f,
+    )
+    at false e f = f
 
-label_or-finds : (found : Option ℕ) (ls : List Label) (b n : ℕ) (l : Label) → ((m : Label) → Among m ls → m.binder ≡ b → m.number ≡ n) → Among l ls → l.binder ≡ b → label_or found ls b ≡ Some n
-label_or-finds found [] b n l f h e = absurd h
-label_or-finds found (m ∷ ls) b n l f (inl h) e =
-    let same : m.binder ≡ b = sym (ap (λ k. k.binder) h) ∙ e in
-    let test : eqb m.binder b ≡ true = eq-eqb m.binder b same in
-    let now : cond (eqb m.binder b) (Some m.number) found ≡ Some n = rw test (ap (λ k. Some k) (f m (inl refl) same)) in
-    label_or-stays (if m.binder == b then Some m.number else found) ls b n (λ k i. f k (inr i)) now
-label_or-finds found (m ∷ ls) b n l f (inr h) e = label_or-finds (if m.binder == b then Some m.number else found) ls b n l (λ k i. f k (inr i)) h e
+-- the arcs that a row is fed by are among all
+pub arcs_in-among : (P : Checked) (F ns : List ℕ) (n : ℕ) (f : Feed) → Among n ns → Among f (feeds P n) → Among (arc_of F n f) (arcs_in P F ns)
+arcs_in-among P F [] n f h i = absurd h
+arcs_in-among P F (x ∷ xs) n f (inl e) i =
+    let Z : ℕ → Type 0 = λ z. Among (arc_of F n f) (arcs_in P F (z ∷ xs)) in
+    subst Z e (Among-left (arc_of F n f) (map (arc_of F n) (feeds P n)) (arcs_in P F xs) (Among-map (arc_of F n) f (feeds P n) i))
+arcs_in-among P F (x ∷ xs) n f (inr h) i =
+    Among-right (arc_of F n f) (map (arc_of F x) (feeds P x)) (arcs_in P F xs) (arcs_in-among P F xs n f h i)
 
--- where a binder has a label, and each label of it has one number, that is its number
-pub label_in-found : (ls : List Label) (b n : ℕ) (l : Label) → ((m : Label) → Among m ls → m.binder ≡ b → m.number ≡ n) → Among l ls → l.binder ≡ b → label_in ls b ≡ Some n
-label_in-found ls b n l f h e = label_or-finds None ls b n l f h e
+-- an arc is what feeds a row
+pub record IsFed (P : Checked) (F ns : List ℕ) (a : Arc) : Type 0 where
+  pub n : ℕ
+  pub fed : Feed
+  pub at : Among n ns
+  pub among : Among fed (feeds P n)
+  pub is : a ≡ arc_of F n fed
+
+pub arcs_in-from : (P : Checked) (F ns : List ℕ) (a : Arc) → Among a (arcs_in P F ns) → IsFed P F ns a
+arcs_in-from P F [] a h = absurd h
+arcs_in-from P F (x ∷ xs) a h =
+    elim (Among-either a (map (arc_of F x) (feeds P x)) (arcs_in P F xs) h) [
+      | inl i ↦ (let from = Among-from_map (arc_of F x) a (feeds P x) i in record { n = x; fed = from.0; at = inl refl; among = from.1; is = from.2 })
+      | inr i ↦ (let rest = arcs_in-from P F xs a i in record { n = rest.n; fed = rest.fed; at = inr rest.at; among = rest.among; is = rest.is })
+    ]
+
+-- what two rows are fed by are two arcs, and so are two feeds of one
+abbrev pub Tells : (P : Checked) (F os : List ℕ) → Type 0
+Tells P F os = (n n' : ℕ) (f f' : Feed) → Among n os → Among n' os → Among f (feeds P n) → Among f' (feeds P n') → arc_of F n f ≡ arc_of F n' f' → (n ≡ n') × (f ≡ f')
+
+AllDiffer-map : {A B : Type 0} (g : A → B) (xs : List A) → ((x y : A) → Among x xs → Among y xs → g x ≡ g y → x ≡ y) → AllDiffer xs → AllDiffer (map g xs)
+AllDiffer-map g [] f d = tt
+AllDiffer-map {A = A} g (x ∷ xs) f d = (
+  λ h. (let from = Among-from_map g (g x) xs h in let Z : A → Type 0 = λ z. Among z xs in d.0 (subst Z (sym (f x from.0 (inl refl) (inr from.1) from.2)) from.1)),
+  AllDiffer-map g xs (λ y z i j e. f y z (inr i) (inr j) e) d.1,
+)
+
+-- no arc stands twice
+pub AllDiffer-arcs_in : (P : Checked) (F os : List ℕ) → Tells P F os → ((n : ℕ) → Among n os → AllDiffer (feeds P n)) → (ns : List ℕ) → ((n : ℕ) → Among n ns → Among n os) → AllDiffer ns → AllDiffer (arcs_in P F ns)
+AllDiffer-arcs_in P F os tells once [] sub d = tt
+AllDiffer-arcs_in P F os tells once (x ∷ xs) sub d =
+    let here = sub x (inl refl) in
+    AllDiffer-append (map (arc_of F x) (feeds P x)) (arcs_in P F xs)
+    (AllDiffer-map (arc_of F x) (feeds P x) (λ f f' i i' e. (tells x x f f' here here i i' e).1) (once x here))
+    (AllDiffer-arcs_in P F os tells once xs (λ n i. sub n (inr i)) d.1)
+    (λ a i j. (
+    let from = Among-from_map (arc_of F x) a (feeds P x) i in
+    let fed = arcs_in-from P F xs a j in
+    let A : ℕ → Type 0 = λ z. Among z xs in
+    d.0 (subst A (sym (tells x fed.n from.0 fed.fed here (sub fed.n (inr fed.at)) from.1 fed.among (sym from.2 ∙ fed.is)).0) fed.at)
+    ))

@@ -1,9 +1,5 @@
--- The graphs of a program.
-pub mod Roles
+-- What public clauses cite.
+pub mod Rows
 pub mod Schemas
--- For use inside: the lists that the builder makes.
-pub mod Drafted
-pub mod Expressions
-pub mod Joined
-pub mod Resolved
-pub mod Whole
+-- For use inside: the graph that the builder makes.
+pub mod Made

@@ -1,92 +1,92 @@
 -- The graphs that the schemas give a program: the numbering is free (docs/GRAPH.md, "Schemas").
-use Rattle.std.specs.Prelude.{◌≡◌, ℕ, ◌+◌, List, [], ◌∷◌, length, map, Some, slice_get}
-use Rattle.id_tree.specs.declared.tree.Expr.{Expr, Literal, Unary', Binary', Name, Block', Row_of-Stmt, end_of-Stmt, more_of-Stmt}
-use Rattle.id_tree.specs.declared.tree.Stmt.{Binding}
-use Rattle.id_tree.specs.declared.tree.Def.{Def}
-use Rattle.id_check.specs.declared.Checked.{Checked}
-use Rattle.id_meaning.specs.Parts.{Among, AllDiffer, IsDef}
+use Rattle.std.specs.Prelude.{◌≡◌, ◌<◌, ℕ, ◌+◌, Bool as Truth, true, length, map, Some, slice_get}
+use Rattle.id_list.specs.List.{Among, AllDiffer}
+use Rattle.id_parts.specs.Turns.{heads_of, params_at}
+use Rattle.id_check.specs.declared.checked.Checked.{Checked}
+use Rattle.id_check.specs.Programs.{rows}
 use Rattle.id_graph.specs.declared.dests.Port.{Port}
 use Rattle.id_graph.specs.declared.dests.Dest.{Dest}
 use Rattle.id_graph.specs.declared.instr.Op.{Op}
+use Rattle.id_graph.specs.declared.instr.Op.TheVariants.{Switch, Back}
 use Rattle.id_graph.specs.declared.instr.Instr.{Instr}
 use Rattle.id_graph.specs.declared.instr.Block.{Block}
-use Rattle.id_graph.specs.Graph.{Parts, arcs}
-use Rattle.id_build.specs.Roles.{Role, Answer, Trigger, Return, Label, From, Makes, Feeds}
+use Rattle.id_graph.specs.Graph.{Parts, IsPort, arcs_on}
+use Rattle.id_build.specs.declared.arc.Origin.{Origin}
+use Rattle.id_build.specs.declared.arc.Form.{Form}
+use Rattle.id_build.specs.Rows.{answer_row, feed, feeds, made, op_by, piece}
 
--- the instruction of this number has this operator and this place
-pub record Made (G : Parts) (n : ℕ) (o : Op) (e : ℕ) : Type 0 where
+-- the part k of the row n is an instruction with this form of operator and this place
+pub record Makes (P : Checked) (n k : ℕ) (f : Form) (e : ℕ) : Type 0 where
+  pub within : n < length (rows P)
+  pub at : slice_get (made P n) k ≡ Some (piece f e)
+
+-- what comes from s goes to this port of the part k of the row n
+pub record Feeds (P : Checked) (s : Origin) (n k : ℕ) (p : Port) : Type 0 where
+  pub within : n < length (rows P)
+  pub among : Among (feed s k p) (feeds P n)
+
+-- the operator sends on this side: a switch on both, what sends to a tag of its own on none, any other on the true one
+abbrev pub HasSide : Op → Truth → Type 0
+HasSide (Switch k) b = Unit {0}
+HasSide (Back k) b = ⊥
+HasSide _ b = b ≡ true
+
+-- the instruction of this number has this form of operator and this place
+pub record Made (G : Parts) (number : ℕ → ℕ → ℕ) (m : ℕ) (f : Form) (e : ℕ) : Type 0 where
   pub instr : Instr
-  pub at : slice_get G.instrs n ≡ Some instr
-  pub op : instr.op ≡ o
+  pub at : slice_get G.instrs m ≡ Some instr
+  pub op : instr.op ≡ op_by number f
   pub place : instr.place ≡ e
 
--- the instruction of this number sends to the destination
-pub record Sends (G : Parts) (n : ℕ) (to : Dest) : Type 0 where
+-- the instruction of this number sends to the destination on the side
+pub record Sends (G : Parts) (m : ℕ) (side : Truth) (to : Dest) : Type 0 where
   pub instr : Instr
-  pub at : slice_get G.instrs n ≡ Some instr
-  pub lists : Among to (arcs instr)
+  pub at : slice_get G.instrs m ≡ Some instr
+  pub lists : Among to (arcs_on side instr)
 
 -- the schemas make an instruction to which this number is given
-pub record IsNumber (P : Checked) (number : Role → ℕ) (n : ℕ) : Type 0 where
-  pub role : Role
-  pub op : Op
+pub record IsNumber (P : Checked) (number : ℕ → ℕ → ℕ) (m : ℕ) : Type 0 where
+  pub row : ℕ
+  pub part : ℕ
+  pub form : Form
   pub place : ℕ
-  pub makes : Makes P role op place
-  pub is : number role ≡ n
+  pub makes : Makes P row part form place
+  pub is : number row part ≡ m
 
 -- the schemas have an arc whose ends have these numbers
-pub record IsArc (P : Checked) (number : Role → ℕ) (n : ℕ) (to : Dest) : Type 0 where
-  pub source : Role
-  pub target : Role
-  pub feeds : Feeds P (From source) target to.port
-  pub from : number source ≡ n
-  pub goes : number target ≡ to.instr
+pub record IsArc (P : Checked) (number : ℕ → ℕ → ℕ) (m : ℕ) (side : Truth) (to : Dest) : Type 0 where
+  pub origin : Origin
+  pub row : ℕ
+  pub part : ℕ
+  pub feeds : Feeds P origin row part to.port
+  pub on : origin.side ≡ side
+  pub from : number origin.row origin.part ≡ m
+  pub goes : number row part ≡ to.instr
 
--- the block of a procedure: its entries are the labels of its parameters, in order
-abbrev pub block_of : (Role → ℕ) → Def → Block
-block_of number d = record { first = number (Trigger d.place); entries = map (λ x. number (Label x.place)) d.params }
+-- the block with this head: its entries are the labels of the parameters, in order
+abbrev pub block_of : Checked → (ℕ → ℕ → ℕ) → ℕ → Block
+block_of P number h = record { first = number h 0; entries = map (λ x. number x 0) (params_at (rows P) h) }
 
 -- the graph has the instructions, arcs, places and blocks of the schemas and no others, numbered so
-pub record Numbered (P : Checked) (G : Parts) (number : Role → ℕ) : Type 0 where
+pub record Numbered (P : Checked) (G : Parts) (number : ℕ → ℕ → ℕ) : Type 0 where
   -- each instruction of the schemas is there, and no other; two of them have two numbers
-  pub made : (q : Role) (o : Op) (e : ℕ) → Makes P q o e → Made G (number q) o e
-  pub only : (n : ℕ) (i : Instr) → slice_get G.instrs n ≡ Some i → IsNumber P number n
-  pub apart : (q q' : Role) (o o' : Op) (e e' : ℕ) → Makes P q o e → Makes P q' o' e' → number q ≡ number q' → q ≡ q'
+  pub made : (n k : ℕ) (f : Form) (e : ℕ) → Makes P n k f e → Made G number (number n k) f e
+  pub only : (m : ℕ) (i : Instr) → slice_get G.instrs m ≡ Some i → IsNumber P number m
+  pub apart : (n k n' k' : ℕ) (f f' : Form) (e e' : ℕ) → Makes P n k f e → Makes P n' k' f' e' → number n k ≡ number n' k' → (n ≡ n') × (k ≡ k')
   -- each arc of the schemas is there, and no other; none is there twice
-  pub sends : (s q : Role) (p : Port) → Feeds P (From s) q p → Sends G (number s) (record { instr = number q; port = p })
-  pub no_more : (n : ℕ) (to : Dest) → Sends G n to → IsArc P number n to
-  pub once : (n : ℕ) (i : Instr) → slice_get G.instrs n ≡ Some i → AllDiffer (arcs i)
-  -- the answer's instruction is the first; a procedure's return stands behind its trigger
-  pub answer_first : number Answer ≡ 0
-  pub return_behind : (d : Def) → IsDef P d → number (Return d.place) ≡ number (Trigger d.place) + 1
+  pub sends : (s : Origin) (n k : ℕ) (p : Port) → Feeds P s n k p → Sends G (number s.row s.part) s.side (record { instr = number n k; port = p })
+  pub no_more : (m : ℕ) (side : Truth) (to : Dest) → Sends G m side to → IsArc P number m side to
+  pub once : (m : ℕ) (i : Instr) (side : Truth) → slice_get G.instrs m ≡ Some i → AllDiffer (arcs_on side i)
+  -- each goes from a side that there is, to a port that there is
+  pub sides : (m : ℕ) (i : Instr) (side : Truth) (to : Dest) → slice_get G.instrs m ≡ Some i → Among to (arcs_on side i) → HasSide i.op side
+  pub ports : (m : ℕ) (side : Truth) (to : Dest) → Sends G m side to → IsPort G.instrs to
+  -- the answer's instruction is the first; the parts of a row stand one behind another
+  pub answer_first : number (answer_row P) 0 ≡ 0
+  pub parts_behind : (n k : ℕ) → number n k ≡ number n 0 + k
   -- there is one block for each procedure, in order of definition
-  pub blocks : G.blocks ≡ map (block_of number) P.program.defs
+  pub blocks : G.blocks ≡ map (block_of P number) (heads_of (rows P))
 
 -- the graph is one that the schemas give the program
 pub record Schemas (P : Checked) (G : Parts) : Type 0 where
-  pub number : Role → ℕ
+  pub number : ℕ → ℕ → ℕ
   pub numbered : Numbered P G number
-
--- the number of instructions that the schemas give an expression: none to a name or a block itself
-abbrev mutual
-  pub size_of : Expr → ℕ
-  size_of (Literal value place) = 1
-  size_of (Unary' op p operand place) = size_of operand + 1
-  size_of (Binary' op p left q right place) = size_of left + size_of right + 1
-  size_of (Name x place) = 0
-  size_of (Block' n statements p body place) = size_of_row statements + size_of body
-
-  -- the number that they give statements: a label to each binding
-  pub size_of_row : {n : _} → Row_of-Stmt n → ℕ
-  size_of_row end_of-Stmt = 0
-  size_of_row (more_of-Stmt (Binding x value place) rest) = size_of value + 1 + size_of_row rest
-
--- the number of instructions that the schemas give these definitions: a trigger and a return for each, its entries, and those of
--- its body
-abbrev pub size_of_all : List Def → ℕ
-size_of_all [] = 0
-size_of_all (d ∷ ds) = 2 + length d.params + size_of d.body + size_of_all ds
-
--- the size of a source: the answer's instruction, and those of its definitions
-abbrev pub size : Checked → ℕ
-size P = 1 + size_of_all P.program.defs

@@ -3,14 +3,11 @@
 use std::alloc::{AllocError, AllocFailed};
 use thiserror::Error;
 
-/// The most instructions that a graph may have.
-pub const MAX_INSTRUCTIONS: usize = 1_000_000;
-
 /// Why a program has no graph.
 #[derive(Clone, Copy, Debug, PartialEq, Eq, Error)]
 pub enum BuildError {
-    /// The schemas give more than `MAX_INSTRUCTIONS` instructions.
-    #[error("the graph has more than 1000000 instructions")]
+    /// The schemas give more than 1,000,000 instructions: a text of so many long sums.
+    #[error("too large")]
     TooLarge,
     /// A growth was refused.
     #[error("out of memory")]

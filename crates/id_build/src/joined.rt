@@ -1,19 +1,25 @@
-//! The instructions of a draft with their arcs.
+//! Instructions with their arcs (docs/GRAPH.md, "Schemas").
 
-ghost use Rattle.std.specs.Prelude.{◌≡◌, ◌<◌, [], vec_len, IfOk, OnOk, All};
-ghost use Rattle.id_build.specs.Joined.{instrs_from, IsFrom, connected};
+ghost use Rattle.std.specs.Prelude.{◌≡◌, ◌<◌, ◌^◌, [], length, vec_len, IfOk, OnOk, All};
+ghost use Rattle.id_build.specs.Rows.{op_by};
+ghost use Rattle.id_build.specs.Made.{instrs_from, IsFrom, connected, number_by};
 
-use crate::arcs::Arc;
-use crate::draft::Piece;
-use id_graph::{Dest, Dests, Instr};
+use crate::arc::{Arc, Form, Piece};
+use id_graph::{Dest, Dests, Instr, Op};
 use std::alloc::{AllocError, Global};
 
-/// The instructions of a draft with their arcs.
-pub fn join(alloc: Global, pieces: &[Piece], arcs: &[Arc]) -> Result<Vec<Instr>, AllocError>
-    requires { All (IsFrom pieces.now) arcs.now }
-    ensures { IfOk result (λ v. v.items ≡ instrs_from 0 pieces.now arcs.now) }
+/// The instructions of these pieces with their arcs.
+pub fn join(
+    alloc: Global,
+    firsts: &[u32],
+    pieces: &[Piece],
+    arcs: &[Arc],
+) -> Result<Vec<Instr>, AllocError>
+    requires from { All (IsFrom pieces.now) arcs.now }
+    requires few { length pieces.now < 2 ^ 32 }
+    ensures { IfOk result (λ v. v.items ≡ instrs_from firsts.now 0 pieces.now arcs.now) }
 {
-    let mut instrs = bare_instrs(alloc, pieces)?;
+    let mut instrs = bare_instrs(alloc, firsts, pieces)?;
     for arc in arcs {
         connect(&mut instrs, arc)?;
     }
@@ -21,13 +27,13 @@ pub fn join(alloc: Global, pieces: &[Piece], arcs: &[Arc]) -> Result<Vec<Instr>,
 }
 
 /// The instructions of these pieces, without arcs.
-fn bare_instrs(alloc: Global, pieces: &[Piece]) -> Result<Vec<Instr>, AllocError>
-    ensures { IfOk result (λ v. v.items ≡ instrs_from 0 pieces.now []) }
+fn bare_instrs(alloc: Global, firsts: &[u32], pieces: &[Piece]) -> Result<Vec<Instr>, AllocError>
+    ensures { IfOk result (λ v. v.items ≡ instrs_from firsts.now 0 pieces.now []) }
 {
     let mut instrs = Vec::with_capacity(alloc, pieces.len())?;
     for piece in pieces {
         instrs.push(Instr {
-            op: piece.op,
+            op: op_by(firsts, piece.form),
             dests: Dests::new(alloc),
             others: Dests::new(alloc),
             place: piece.place,
@@ -36,15 +42,30 @@ fn bare_instrs(alloc: Global, pieces: &[Piece]) -> Result<Vec<Instr>, AllocError
     Ok(instrs)
 }
 
+/// The operator of this form.
+fn op_by(_firsts: &[u32], form: Form) -> Op
+    ensures { result ≡ op_by (number_by _firsts.now) form }
+{
+    match form {
+        Form::Plain(op) => op,
+    }
+}
+
 /// Adds an arc to the instruction that it comes from.
 fn connect(instrs: &mut Vec<Instr>, arc: &Arc) -> Result<(), AllocError>
-    requires { arc.now.from < vec_len instrs.old }
+    requires from { arc.now.from < vec_len instrs.old }
+    requires to { arc.now.to < 2 ^ 32 }
     ensures { OnOk result (instrs.new.items ≡ connected instrs.old.items arc.now) }
 {
     let dest = Dest {
-        instr: arc.to,
+        instr: arc.to as u32,
         port: arc.port,
     };
-    instrs[arc.from as usize].dests.push(dest)?;
+    let instr = &mut instrs[arc.from];
+    if arc.side {
+        instr.dests.push(dest)?;
+    } else {
+        instr.others.push(dest)?;
+    }
     Ok(())
 }

@@ -1,21 +1,20 @@
-//! The builder: from a checked program to the graph that the schemas give it.
+//! The graph that the schemas give a checked program, row by row.
 //!
 //! Keeps: nothing beyond its values.
 //! Errors: `BuildError`, the refusal 14 or want of memory.
-//! Read first: docs/GRAPH.md ("Schemas"), then `build`.
-//! Not here: which graphs are sound (`id_valid`), what a graph means (`id_core`).
+//! Read first: docs/GRAPH.md ("Schemas"), `specs/Rows.antt`, `specs/Schemas.antt`, then `build`.
+//! Not here: the order of blocks and imports (`id_desugar`), which graphs are sound (`id_valid`).
 #![tactic(auto)]
 
-mod arcs;
-mod draft;
+mod arc;
 mod error;
-mod expr;
+mod feeds;
 mod joined;
 mod operators;
+mod origins;
+mod pieces;
 mod program;
 
-pub use error::{BuildError, MAX_INSTRUCTIONS};
+pub use arc::{Arc, Feed, Form, Origin, Piece};
+pub use error::BuildError;
 pub use program::build;
-
-#[cfg(test)]
-mod tests;

@@ -1,14 +1,14 @@
-//! The operators and kinds of instructions, by what they are for (docs/GRAPH.md, "Schemas").
+//! Kinds of ports, and the operators of expressions (docs/GRAPH.md, "Schemas").
 
 ghost use Rattle.std.specs.Prelude.{◌≡◌};
-ghost use Rattle.id_build.specs.Roles.{binary_op, constant_of, port_at, port_of, unary_op};
-ghost use Rattle.id_meaning.specs.Parts.{literal_value, place_of};
+ghost use Rattle.id_check.specs.Programs as programs;
+ghost use Rattle.id_build.specs.Rows.{binary_op, port_at, port_of};
 
 use id_check::Checked;
-use id_graph::{Constant, Dyadic, Monadic, Op, PortKind};
-use id_tree::{BinaryOp, Expr, Kind, UnaryOp};
+use id_graph::{Dyadic, PortKind};
+use id_value::{BinaryOp, Comparison, Kind, Logic, Truth};
 
-/// The kind of a port that takes values of this kind.
+/// The kind of the ports that take values of this kind.
 pub fn port_of(kind: Kind) -> PortKind
     ensures { result ≡ port_of kind }
 {
@@ -19,41 +19,20 @@ pub fn port_of(kind: Kind) -> PortKind
     }
 }
 
-/// The kind of a port that takes the value of the thing at this place.
-pub fn port_at(checked: &Checked, place: usize) -> PortKind
-    ensures { result ≡ port_at checked.now place }
+/// The kind of the ports that take the value of this row.
+pub fn port_at(checked: &Checked, n: usize) -> PortKind
+    ensures { result ≡ port_at checked.now n }
 {
-    port_of(checked.kind(place).unwrap_or(Kind::Int))
+    port_of(kind_at(checked, n).unwrap_or(Kind::Int))
 }
 
-/// The place of an expression.
-pub fn place_of(expr: &Expr) -> usize
-    ensures { result ≡ place_of expr.now }
+/// The kind of a row.
+fn kind_at(checked: &Checked, n: usize) -> Option<Kind>
+    ensures { result ≡ programs.kind checked.now n }
 {
-    match expr {
-        Expr::Literal { place, .. } | Expr::Name { place, .. } => *place,
-        Expr::Unary { place, .. } | Expr::Binary { place, .. } => *place,
-        Expr::Block { place, .. } => *place,
-    }
-}
-
-/// What the `const` of a literal sends.
-pub fn constant_of(value: id_tree::Constant) -> Constant
-    ensures { result ≡ constant_of (literal_value value) }
-{
-    match value {
-        id_tree::Constant::Int(number) => Constant::Int(number),
-        id_tree::Constant::Bool(truth) => Constant::Bool(truth),
-    }
-}
-
-/// The operator of a unary expression.
-pub fn unary_op(op: UnaryOp) -> Op
-    ensures { result ≡ unary_op op }
-{
-    match op {
-        UnaryOp::Neg => Op::Unary(Monadic::Neg),
-        UnaryOp::Not => Op::Unary(Monadic::Not),
+    match checked.kinds.get(n) {
+        Some(kind) => *kind,
+        None => None,
     }
 }
 
@@ -62,20 +41,11 @@ pub fn binary_op(op: BinaryOp, kind: PortKind) -> Dyadic
     ensures { result ≡ binary_op op kind }
 {
     match (op, kind) {
-        (BinaryOp::Add, _) => Dyadic::Add,
-        (BinaryOp::Sub, _) => Dyadic::Sub,
-        (BinaryOp::Mul, _) => Dyadic::Mul,
-        (BinaryOp::Div, _) => Dyadic::Div,
-        (BinaryOp::Rem, _) => Dyadic::Rem,
-        (BinaryOp::Lt, _) => Dyadic::Lt,
-        (BinaryOp::Le, _) => Dyadic::Le,
-        (BinaryOp::Gt, _) => Dyadic::Gt,
-        (BinaryOp::Ge, _) => Dyadic::Ge,
-        (BinaryOp::Eq, PortKind::Bool) => Dyadic::Eqb,
-        (BinaryOp::Eq, _) => Dyadic::Eq,
-        (BinaryOp::Ne, PortKind::Bool) => Dyadic::Neb,
-        (BinaryOp::Ne, _) => Dyadic::Ne,
-        (BinaryOp::And, _) => Dyadic::And,
-        (BinaryOp::Or, _) => Dyadic::Or,
+        (BinaryOp::Arithmetic(op), _) => Dyadic::Arithmetic(op),
+        (BinaryOp::Comparison(Comparison::Eq), PortKind::Bool) => Dyadic::Truth(Truth::Eqb),
+        (BinaryOp::Comparison(Comparison::Ne), PortKind::Bool) => Dyadic::Truth(Truth::Neb),
+        (BinaryOp::Comparison(op), _) => Dyadic::Comparison(op),
+        (BinaryOp::Logic(Logic::And), _) => Dyadic::Truth(Truth::And),
+        (BinaryOp::Logic(Logic::Or), _) => Dyadic::Truth(Truth::Or),
     }
 }

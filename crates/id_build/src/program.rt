@@ -1,147 +1,251 @@
 //! The graph of a program (docs/GRAPH.md, "Schemas").
 
-ghost use Rattle.std.specs.Prelude.{◌≡◌, ◌<◌, ◌≤◌, ◌+◌, ◌++◌, length, slice_get, Some, IfOk, IfErr, OnOk};
-ghost use Rattle.id_build.specs.Schemas.{Schemas, size};
-ghost use Rattle.id_build.specs.Drafted.{entry_labels, entry_numbers, entry_pieces, graph_of, procedure_labels, procedure_pieces, procedure_wires, procedures_blocks, procedures_labels, procedures_pieces, procedures_wires, program_pieces};
-ghost use Rattle.id_build.specs.Whole.{IsWhole, joined_all};
-ghost use Rattle.id_graph.specs.Graph.{parts};
+ghost use Rattle.std.specs.Prelude.{◌≡◌, ◌++◌, ◌∷◌, ◌&&◌, [], true, ℕ, ◌<◌, ◌≤◌, length, map, nat_eq, if◌then◌else◌, IfOk, IfErr, OnOk};
+ghost use Rattle.id_list.specs.List.{AllDiffer, Among};
+ghost use Rattle.id_check.specs.Programs as programs;
+ghost use Rattle.id_desugar.specs.Regions as regions;
+ghost use Rattle.id_graph.specs.Graph.{PortsExist, parts};
+ghost use Rattle.id_parts.specs.Tables as tables;
+ghost use Rattle.id_parts.specs.Turns.{heads_of};
+ghost use Rattle.id_build.specs.Rows as rows;
+ghost use Rattle.id_build.specs.Rows.{size};
+ghost use Rattle.id_build.specs.Schemas.{Schemas, block_of};
+ghost use Rattle.id_desugar.specs.Ends.{AreEnds};
+ghost use Rattle.id_build.specs.Made.{AreFirsts, arcs_in, graph_by, number_by, pieces_in};
 
-use crate::arcs::resolve;
-use crate::draft::Draft;
-use crate::error::{BuildError, MAX_INSTRUCTIONS};
-use crate::expr::build_expr;
+use crate::arc::Piece;
+use crate::error::BuildError;
+use crate::feeds::{Arcs, number_by, push_feeds};
 use crate::joined::join;
-use crate::operators::{port_at, port_of};
+use crate::pieces::push_pieces;
 use id_check::Checked;
-use id_graph::{Block, Graph, Op, Port, PortKind};
-use id_text::Sequence;
-use id_tree::{Def, Param};
+use id_desugar::{Kernel, end_of, row_at};
+use id_graph::{Block, Graph, Instr};
+use id_list::Sequence;
+use id_parts::{Node, Row};
 use std::alloc::Global;
 
 /// A graph that the schemas give the program.
 ///
-/// `TooLarge` where the schemas give more than `MAX_INSTRUCTIONS` instructions, and `Memory` where a
-/// growth was refused. Its instructions are numbered in the order of docs/GRAPH.md ("Schemas").
-pub fn build(alloc: Global, checked: &Checked) -> Result<Graph, BuildError>
-    ensures schemas { IfOk result (λ g. Schemas checked.now g) }
-    ensures small { OnOk result (size checked.now ≤ MAX_INSTRUCTIONS) }
-    ensures large { IfErr result (λ e. e ≡ BuildError.TooLarge → MAX_INSTRUCTIONS < size checked.now) }
+/// `TooLarge` where the schemas give more than 1,000,000 instructions, and `Memory` where a growth was refused.
+/// Its instructions are numbered in the order of docs/GRAPH.md ("Schemas").
+pub fn build(alloc: Global, kernel: &Kernel<'_>) -> Result<Graph, BuildError>
+    ensures schemas { IfOk result (λ g. Schemas kernel.now.checked.now g) }
+    ensures small { OnOk result (size kernel.now.checked.now ≤ 1000000) }
+    ensures large { IfErr result (λ e. e ≡ BuildError.TooLarge → 1000000 < size kernel.now.checked.now) }
 {
-    let main = checked.main_def();
-    let graph = build_program(alloc, checked, main)?;
-    Ok(graph)
-}
-
-/// The graph of the definitions, with the answer's instruction for `main`.
-fn build_program(alloc: Global, checked: &Checked, main: &Def) -> Result<Graph, BuildError>
-    requires { slice_get checked.now.program.defs checked.now.main ≡ Some main.now }
-    ensures graph { IfOk result (λ g. g ≡ graph_of checked.now main.now) }
-    ensures small { OnOk result (length (program_pieces checked.now main.now) ≤ MAX_INSTRUCTIONS) }
-    ensures large { IfErr result (λ e. e ≡ BuildError.TooLarge
-        → MAX_INSTRUCTIONS < length (program_pieces checked.now main.now)) }
-{
-    let mut draft = Draft::new(alloc);
-    draft.add(Op::Merge(port_of(main.result)), main.place)?;
-    let blocks = build_defs(alloc, checked, &mut draft, checked.program.defs.as_slice())?;
-    let graph = join_draft(alloc, checked, &draft, blocks)?;
-    Ok(graph)
-}
-
-/// The graph of a draft with these blocks.
-fn join_draft(
-    alloc: Global,
-    checked: &Checked,
-    draft: &Draft,
-    blocks: Vec<Block>,
-) -> Result<Graph, BuildError>
-    requires { IsWhole checked.now draft.now.pieces.items draft.now.wires.items draft.now.labels.items }
-    ensures graph { IfOk result (λ g. g ≡ parts blocks.items
-        (joined_all checked.now draft.now.pieces.items draft.now.wires.items draft.now.labels.items)) }
-    ensures memory { IfErr result (λ e. e ≡ BuildError.Memory) }
-{
-    let arcs = resolve(alloc, checked, draft)?;
-    let instrs = join(alloc, draft.pieces.as_slice(), arcs.as_slice())?;
+    let order = kernel.order.as_slice();
+    let imports = kernel.imports.as_slice();
+    let ends = kernel.ends.as_slice();
+    let (blocks, instrs) = build_parts(alloc, kernel.checked, imports, ends, order)?;
     Ok(Graph::new(blocks, instrs).unwrap())
 }
 
-/// Adds the blocks of procedures, in order.
-fn build_defs(
+/// The blocks and instructions of the program, where this is the order of its rows, with these imports.
+fn build_parts(
     alloc: Global,
     checked: &Checked,
-    draft: &mut Draft,
-    defs: &[Def],
+    imports: &[Sequence<usize>],
+    ends: &[Option<usize>],
+    order: &[usize],
+) -> Result<(Vec<Block>, Vec<Instr>), BuildError>
+    requires imports { imports.now ≡ regions.all_imports checked.now }
+    requires ends { AreEnds checked.now ends.now }
+    requires order { order.now ≡ regions.order_of checked.now }
+    ensures schemas { IfOk result (λ g. Schemas checked.now (parts g.0.items g.1.items)) }
+    ensures exist { IfOk result (λ g. PortsExist (parts g.0.items g.1.items)) }
+    ensures few { IfOk result (λ g. length g.1.items ≤ 1000000) }
+    ensures small { OnOk result (size checked.now ≤ 1000000) }
+    ensures large { IfErr result (λ e. e ≡ BuildError.TooLarge → 1000000 < size checked.now) }
+{
+    let draft = number(alloc, checked, imports, ends, order)?;
+    let blocks = blocks(alloc, checked, ends, draft.firsts.as_slice())?;
+    let instrs = connected(alloc, checked, imports, ends, order, draft)?;
+    Ok((blocks, instrs))
+}
+
+/// The instructions of a program, and the numbers of the first of each row.
+#[derive(Drop)]
+struct Draft {
+    pieces: Vec<Piece>,
+    firsts: Vec<u32>,
+}
+
+/// The instructions of these rows, without arcs.
+fn number(
+    alloc: Global,
+    checked: &Checked,
+    imports: &[Sequence<usize>],
+    ends: &[Option<usize>],
+    order: &[usize],
+) -> Result<Draft, BuildError>
+    requires imports { imports.now ≡ regions.all_imports checked.now }
+    requires ends { AreEnds checked.now ends.now }
+    requires within { (n : ℕ) → Among n order.now → n < length (programs.rows checked.now) }
+    requires differ { AllDiffer order.now }
+    ensures pieces { IfOk result (λ d. d.pieces.items ≡ pieces_in checked.now order.now) }
+    ensures firsts { IfOk result (λ d. AreFirsts checked.now order.now d.firsts.items) }
+    ensures small { OnOk result (length (pieces_in checked.now order.now) ≤ 1000000) }
+    ensures large { IfErr result
+        (λ e. e ≡ BuildError.TooLarge → 1000000 < length (pieces_in checked.now order.now)) }
+{
+    let mut pieces = Vec::new(alloc);
+    let mut firsts = vec![in alloc; 0u32; checked.table.rows.len()]?;
+    for n in order {
+        firsts[*n] = pieces.len() as u32;
+        push_pieces(checked, imports, ends, *n, &mut pieces)?;
+        if pieces.len() > 1_000_000 {
+            return Err(BuildError::TooLarge);
+        }
+    }
+    Ok(Draft { pieces, firsts })
+}
+
+/// The instructions of a draft with their arcs.
+fn connected(
+    alloc: Global,
+    checked: &Checked,
+    imports: &[Sequence<usize>],
+    ends: &[Option<usize>],
+    order: &[usize],
+    draft: Draft,
+) -> Result<Vec<Instr>, BuildError>
+    requires imports { imports.now ≡ regions.all_imports checked.now }
+    requires ends { AreEnds checked.now ends.now }
+    requires order { order.now ≡ regions.order_of checked.now }
+    requires pieces { draft.pieces.items ≡ pieces_in checked.now order.now }
+    requires firsts { AreFirsts checked.now order.now draft.firsts.items }
+    requires few { length draft.pieces.items ≤ 1000000 }
+    ensures instrs { IfOk result (λ v. v.items ≡ (graph_by checked.now order.now draft.firsts.items).instrs) }
+    ensures memory { IfErr result (λ e. e ≡ BuildError.Memory) }
+{
+    let Draft { pieces, firsts } = draft;
+    let arcs = arcs(alloc, checked, imports, ends, order, firsts)?;
+    let instrs = join(
+        alloc,
+        arcs.firsts.as_slice(),
+        pieces.as_slice(),
+        arcs.list.as_slice(),
+    )?;
+    Ok(instrs)
+}
+
+/// The arcs of these rows, where the rows' first instructions have these numbers.
+fn arcs(
+    alloc: Global,
+    checked: &Checked,
+    imports: &[Sequence<usize>],
+    ends: &[Option<usize>],
+    order: &[usize],
+    firsts: Vec<u32>,
+) -> Result<Arcs, BuildError>
+    requires imports { imports.now ≡ regions.all_imports checked.now }
+    requires ends { AreEnds checked.now ends.now }
+    requires within { (n : ℕ) → Among n order.now → n < length (programs.rows checked.now) }
+    ensures list { IfOk result (λ a. a.list.items ≡ arcs_in checked.now firsts.items order.now) }
+    ensures firsts { IfOk result (λ a. a.firsts.items ≡ firsts.items) }
+    ensures memory { IfErr result (λ e. e ≡ BuildError.Memory) }
+{
+    let mut arcs = Arcs {
+        firsts,
+        list: Vec::new(alloc),
+    };
+    for n in order {
+        push_feeds(checked, imports, ends, *n, &mut arcs)?;
+    }
+    Ok(arcs)
+}
+
+/// The blocks of the program, where the rows' first instructions have these numbers.
+fn blocks(
+    alloc: Global,
+    checked: &Checked,
+    ends: &[Option<usize>],
+    firsts: &[u32],
 ) -> Result<Vec<Block>, BuildError>
-    ensures blocks { IfOk result (λ v. v.items ≡ procedures_blocks checked.now defs.now (length draft.old.pieces.items)) }
-    ensures pieces { OnOk result
-        (draft.new.pieces.items ≡ draft.old.pieces.items ++ procedures_pieces checked.now defs.now) }
-    ensures wires { OnOk result (draft.new.wires.items
-        ≡ draft.old.wires.items ++ procedures_wires checked.now defs.now (length draft.old.pieces.items)) }
-    ensures labels { OnOk result (draft.new.labels.items
-        ≡ draft.old.labels.items ++ procedures_labels checked.now defs.now (length draft.old.pieces.items)) }
-    ensures large { IfErr result (λ e. e ≡ BuildError.TooLarge
-        → MAX_INSTRUCTIONS < length draft.old.pieces.items + length (procedures_pieces checked.now defs.now)) }
+    requires ends { AreEnds checked.now ends.now }
+    ensures blocks { IfOk result (λ v. v.items ≡ map (block_of checked.now (number_by firsts.now)) (heads_of (programs.rows checked.now))) }
+    ensures memory { IfErr result (λ e. e ≡ BuildError.Memory) }
 {
     let mut blocks = Vec::new(alloc);
-    for def in defs {
-        let block = build_def(alloc, checked, draft, def)?;
-        blocks.push(block)?;
+    for head in 0..checked.table.rows.len() {
+        add_block(alloc, checked, ends, firsts, head, &mut blocks)?;
     }
     Ok(blocks)
 }
 
-/// Adds the block of a procedure.
-fn build_def(
+/// Adds the block with this head, if the row is one.
+fn add_block(
     alloc: Global,
     checked: &Checked,
-    draft: &mut Draft,
-    def: &Def,
-) -> Result<Block, BuildError>
-    ensures block { IfOk result (λ b. b ≡ record {
-      first = length draft.old.pieces.items;
-      entries = entry_numbers def.now.params (length draft.old.pieces.items + 2);
-    }) }
-    ensures pieces { OnOk result
-        (draft.new.pieces.items ≡ draft.old.pieces.items ++ procedure_pieces checked.now def.now) }
-    ensures wires { OnOk result (draft.new.wires.items
-        ≡ draft.old.wires.items ++ procedure_wires checked.now def.now (length draft.old.pieces.items)) }
-    ensures labels { OnOk result (draft.new.labels.items
-        ≡ draft.old.labels.items ++ procedure_labels checked.now def.now (length draft.old.pieces.items)) }
-    ensures large { IfErr result (λ e. e ≡ BuildError.TooLarge
-        → MAX_INSTRUCTIONS < length draft.old.pieces.items + length (procedure_pieces checked.now def.now)) }
+    ends: &[Option<usize>],
+    firsts: &[u32],
+    head: usize,
+    blocks: &mut Vec<Block>,
+) -> Result<(), BuildError>
+    requires ends { AreEnds checked.now ends.now }
+    requires within { head < length (programs.rows checked.now) }
+    ensures blocks { OnOk result (blocks.new.items ≡ blocks.old.items
+        ++ (if tables.is_head (rows.node checked.now head) then block_of checked.now (number_by firsts.now) head ∷ [] else [])) }
+    ensures memory { IfErr result (λ e. e ≡ BuildError.Memory) }
 {
-    let first = draft.add(Op::Merge(PortKind::Signal), def.place)?;
-    let back = draft.add(Op::Back(port_of(def.result)), def.place)?;
-    let entries = build_entries(alloc, checked, draft, def.params.as_slice())?;
-    let source = build_expr(checked, draft, &def.body, first)?;
-    draft.wire(source, back, Port::One)?;
+    if is_head(row_at(checked, head).node) {
+        let block = block_at(alloc, checked, ends, firsts, head)?;
+        blocks.push(block)?;
+    }
+    Ok(())
+}
+
+/// The block with this head.
+fn block_at(
+    alloc: Global,
+    checked: &Checked,
+    ends: &[Option<usize>],
+    firsts: &[u32],
+    head: usize,
+) -> Result<Block, BuildError>
+    requires ends { AreEnds checked.now ends.now }
+    requires within { head < length (programs.rows checked.now) }
+    requires head { tables.is_head (rows.node checked.now head) ≡ true }
+    ensures block { IfOk result (λ b. b ≡ block_of checked.now (number_by firsts.now) head) }
+    ensures memory { IfErr result (λ e. e ≡ BuildError.Memory) }
+{
+    let mut entries = Vec::new(alloc);
+    for n in head..end_of(checked, ends, head) {
+        push_entry(&mut entries, row_at(checked, n), firsts, head, n)?;
+    }
     Ok(Block {
-        first,
+        first: number_by(firsts, head) as u32,
         entries: Sequence::new(entries),
     })
 }
 
-/// Adds the entries of parameters, which are their labels, in order, and gives their numbers.
-fn build_entries(
-    alloc: Global,
-    checked: &Checked,
-    draft: &mut Draft,
-    params: &[Param],
-) -> Result<Vec<u32>, BuildError>
-    ensures numbers { IfOk result (λ v. v.items ≡ entry_numbers params.now (length draft.old.pieces.items)) }
-    ensures pieces { OnOk result
-        (draft.new.pieces.items ≡ draft.old.pieces.items ++ entry_pieces checked.now params.now) }
-    ensures wires { OnOk result (draft.new.wires.items ≡ draft.old.wires.items) }
-    ensures labels { OnOk result (draft.new.labels.items
-        ≡ draft.old.labels.items ++ entry_labels params.now (length draft.old.pieces.items)) }
-    ensures large { IfErr result (λ e. e ≡ BuildError.TooLarge
-        → MAX_INSTRUCTIONS < length draft.old.pieces.items + length (entry_pieces checked.now params.now)) }
+/// Adds the row n as an entry, if it is a parameter of the procedure with this head.
+fn push_entry(
+    entries: &mut Vec<u32>,
+    row: Row,
+    firsts: &[u32],
+    head: usize,
+    n: usize,
+) -> Result<(), BuildError>
+    ensures entries { OnOk result (entries.new.items ≡ entries.old.items
+        ++ (if tables.is_param row.node && nat_eq row.block head then number_by firsts.now n 0 ∷ [] else [])) }
+    ensures memory { IfErr result (λ e. e ≡ BuildError.Memory) }
 {
-    let mut numbers = Vec::new(alloc);
-    for param in params {
-        let kind = port_at(checked, param.place);
-        let number = draft.add(Op::Merge(kind), param.place)?;
-        draft.label(param.place, number)?;
-        numbers.push(number)?;
+    if is_param(row.node) && row.block == head {
+        entries.push(number_by(firsts, n) as u32)?;
     }
-    Ok(numbers)
+    Ok(())
+}
+
+fn is_head(node: Node) -> bool
+    ensures { result ≡ tables.is_head node }
+{
+    matches!(node, Node::Head)
+}
+
+fn is_param(node: Node) -> bool
+    ensures { result ≡ tables.is_param node }
+{
+    matches!(node, Node::Param { .. })
 }

@@ -1,18 +1,11 @@
 -- The first of the causes found so far, where more are noted.
-use Rattle.std.proofs.Common.{◌≡◌, ◌⊎◌, inl, inr, ◌<◌, ◌≤◌, ℕ, Vec, Box, Global, List, [], ◌∷◌, ◌++◌, refl, ap, sym, ◌∙◌, subst, append_assoc, append-nil, arith}
+use Rattle.std.proofs.Common.{◌≡◌, ◌⊎◌, inl, inr, ◌<◌, ◌≤◌, ℕ, List, [], ◌∷◌, ◌++◌, refl, sym, subst, append_assoc, append-nil, arith}
 use Rattle.std.specs.Prelude.{Option, None, Some}
-use mathlib.Core.Former.{Count}
-use Rattle.id_tree.specs.declared.tree.Kind.{Kind}
-use Rattle.id_tree.specs.declared.tree.Expr.{Expr, Block, Row_of-Stmt, end_of-Stmt, more_of-Stmt, items-the_row-Stmt, items_hidden-the_row-Stmt-0}
-use Rattle.id_tree.specs.declared.tree.Stmt.{Stmt, Binding}
-use Rattle.id_check.specs.declared.CheckCause.{CheckCause}
+use Rattle.id_check.specs.declared.cause.CheckCause.{CheckCause}
+use Rattle.id_list.specs.List.{Among}
 use Rattle.id_check.specs.Causes.{IsBefore, IsFirst, number_of, place_of}
-use Rattle.id_check.specs.Wants.{wrongs_of, wrongs_of_row, wrongs_of_all, wrong}
-use Rattle.id_check.specs.Scopes.{Among}
-use Rattle.id_check.specs.Firsts.{IsFirstOf, Notes, wrongs_of_each}
-use Rattle.id_tree.specs.declared.tree.Def.{Def}
-use Rattle.id_check.proofs.RowsLemmas.{row_of}
-use Rattle.id_check.proofs.AmongLemmas.{Among-left, Among-right, Among-either, Among-one}
+use Rattle.id_check.specs.Firsts.{IsFirstOf, Notes}
+use Rattle.id_list.proofs.AmongLemmas.{Among-left, Among-right, Among-either, Among-one}
 
 -- what is not before another cause, but before a third, is behind it
 other_before : (p q r n m k : ℕ) → ((p < q) ⊎ ((p ≡ q) × (n ≤ m)) → ⊥) → (p < r) ⊎ ((p ≡ r) × (n ≤ k)) → (q < r) ⊎ ((q ≡ r) × (m ≤ k))
@@ -70,30 +63,3 @@ not_none (c ∷ cs) d e = cc
 pub IsFirstOf-all : (o : Option CheckCause) (d : CheckCause) (cs ds : List CheckCause) → IsFirst d ds → IsFirstOf o (cs ++ d ∷ []) → IsFirstOf o (cs ++ ds)
 IsFirstOf-all None d cs ds h g = absurd (not_none cs d g)
 IsFirstOf-all (Some f) d cs ds h g = IsFirst-all f d cs ds h g
-
--- ---- wrong kinds
-
-wrongs-row : (κ : ℕ → Option Kind) (n : Count) (row : Row_of-Stmt n) → wrongs_of_row κ row ≡ wrongs_of_each κ (items-the_row-Stmt n row)
-wrongs-row κ n end_of-Stmt = refl
-wrongs-row κ n (more_of-Stmt (Binding x value place) rest) = ap (λ cs. wrongs_of κ value ++ cs) (wrongs-row κ _ rest)
-
--- a block's wrong expressions by the list of its statements
-pub wrongs-block : (κ : ℕ → Option Kind) (statements : Vec Stmt Global) (body : Box Expr Global) (place : ℕ)
-    → wrongs_of κ (Block statements body place) ≡ wrongs_of_each κ statements.items ++ wrongs_of κ body.value
-wrongs-block κ statements body place =
-    let row = row_of (Block statements body place) in
-    ap (λ cs. cs ++ wrongs_of κ body.value)
-    (wrongs-row κ row.0 row.1 ∙ ap (wrongs_of_each κ) (items_hidden-the_row-Stmt-0 statements))
-
-pub wrongs-each-append : (κ : ℕ → Option Kind) (ss ts : List Stmt) → wrongs_of_each κ (ss ++ ts) ≡ wrongs_of_each κ ss ++ wrongs_of_each κ ts
-wrongs-each-append κ [] ts = refl
-wrongs-each-append κ (Binding x value place ∷ ss) ts =
-    ap (λ cs. wrongs_of κ value ++ cs) (wrongs-each-append κ ss ts) ∙ sym (append_assoc (wrongs_of κ value) (wrongs_of_each κ ss) (wrongs_of_each κ ts))
-
-pub wrongs-all-append : (κ : ℕ → Option Kind) (ds es : List Def) → wrongs_of_all κ (ds ++ es) ≡ wrongs_of_all κ ds ++ wrongs_of_all κ es
-wrongs-all-append κ [] es = refl
-wrongs-all-append κ (d ∷ ds) es =
-    let w = wrong κ d.result d.body in
-    ap (λ cs. w ++ (wrongs_of κ d.body ++ cs)) (wrongs-all-append κ ds es)
-    ∙ (ap (λ cs. w ++ cs) (sym (append_assoc (wrongs_of κ d.body) (wrongs_of_all κ ds) (wrongs_of_all κ es)))
-    ∙ sym (append_assoc w (wrongs_of κ d.body ++ wrongs_of_all κ ds) (wrongs_of_all κ es)))

@@ -1,11 +1,13 @@
-mod AmongLemmas
-mod BoundsLemmas
-mod FirstsLemmas
-mod WalksLemmas
-mod RowsLemmas
-mod BindersLemmas
-mod LinksLemmas
-mod ChainsLemmas
-mod PlacesLemmas
-mod KeptLemmas
-mod RefusedLemmas
+pub mod BindLemmas
+pub mod ChainsLemmas
+pub mod FillsLemmas
+pub mod FirstsLemmas
+pub mod LinksLemmas
+pub mod NoneLemmas
+pub mod OpenLemmas
+pub mod ProgramsLemmas
+pub mod ScopesLemmas
+pub mod StandingLemmas
+pub mod TakingLemmas
+pub mod TalliesLemmas
+pub mod WaitingLemmas

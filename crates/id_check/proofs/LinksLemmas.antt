@@ -1,45 +1,42 @@
--- The chains of the things of statements, parameters and definitions, part after part.
-use Rattle.std.proofs.Common.{◌≡◌, ℕ, Option, Vec, Box, Global, List, [], ◌∷◌, ◌++◌, refl, ap, sym, ◌∙◌, append_assoc}
-use mathlib.Core.Former.{Count}
-use Rattle.id_tree.specs.declared.tree.Expr.{Expr, Block, Row_of-Stmt, end_of-Stmt, more_of-Stmt, items-the_row-Stmt, items_hidden-the_row-Stmt-0}
-use Rattle.id_tree.specs.declared.tree.Stmt.{Stmt, Binding}
-use Rattle.id_tree.specs.declared.tree.Param.{Param}
-use Rattle.id_tree.specs.declared.tree.Def.{Def}
-use Rattle.id_check.specs.Kinds.{Linked, Fixed, To, links_of, links_of_row, links_of_params, links_of_all, place_of}
-use Rattle.id_check.specs.Chains.{links_of_each}
-use Rattle.id_check.proofs.RowsLemmas.{row_of}
+-- A chain goes on to a row of the table.
+use Rattle.std.proofs.Common.{◌≡◌, ◌<◌, inl, inr, ℕ, List, Option, Some, None, length, refl, sym, subst, arith}
+use Rattle.id_parts.specs.declared.row.Row.{Row}
+use Rattle.id_parts.specs.declared.row.Node.{Node}
+use Rattle.id_parts.specs.declared.row.Node.TheVariants.{Head, Param, Literal, Name, Unary, Binary, Split, If, Block, Binding, Def, Program}
+use Rattle.id_parts.specs.Rows.{at}
+use Rattle.id_parts.specs.Tables.{HasPart, IsFormed}
+use Rattle.id_check.specs.Kinds.{Fixed, To, Nowhere, link_at, link_of, link_of_name, constant_kind, unary_kind, binary_kind}
 
--- a thing whose chain goes on
-abbrev pub going_on : ℕ → ℕ → Linked
-going_on place next = record { place = place; link = To next }
+-- a part of a row is a row
+pub part_of : {R : List Row} {i : ℕ} {n : Node} (a : ℕ) → IsFormed R → i < length R → (at R i).node ≡ n → HasPart n a → a < length R
+part_of {R} {i} {n} a t less s h =
+    let low = ((t.each i less).parts a (subst (λ z. HasPart z a) (sym s) h)).1 in
+    omega arith
 
-links-row : (β : ℕ → Option ℕ) (n : Count) (row : Row_of-Stmt n) → links_of_row β row ≡ links_of_each β (items-the_row-Stmt n row)
-links-row β n end_of-Stmt = refl
-links-row β n (more_of-Stmt (Binding x value place) rest) =
-    ap (λ ls. going_on place (place_of value) ∷ (links_of β value ++ ls)) (links-row β _ rest)
+to_same : (a b : ℕ) → To a ≡ To b → a ≡ b
+to_same a b e = cc
 
--- a block's things by the list of its statements
-pub links-block : (β : ℕ → Option ℕ) (statements : Vec Stmt Global) (body : Box Expr Global) (place : ℕ)
-    → links_of β (Block statements body place) ≡ going_on place (place_of body.value) ∷ (links_of_each β statements.items ++ links_of β body.value)
-links-block β statements body place =
-    let row = row_of (Block statements body place) in
-    ap (λ ls. going_on place (place_of body.value) ∷ (ls ++ links_of β body.value))
-    (links-row β row.0 row.1 ∙ ap (links_of_each β) (items_hidden-the_row-Stmt-0 statements))
+named : (n j : ℕ) (o : Option ℕ) → ((b : ℕ) → o ≡ Some b → b < n) → link_of_name o ≡ To j → j < n
+named n j None h e = let d : Nowhere ≡ To j = e in cc
+named n j (Some b) h e = subst (λ z. z < n) (to_same b j e) (h b refl)
 
-pub links-each-append : (β : ℕ → Option ℕ) (ss ts : List Stmt) → links_of_each β (ss ++ ts) ≡ links_of_each β ss ++ links_of_each β ts
-links-each-append β [] ts = refl
-links-each-append β (Binding x value place ∷ ss) ts =
-    ap (λ ls. going_on place (place_of value) ∷ (links_of β value ++ ls)) (links-each-append β ss ts)
-    ∙ ap (λ ls. going_on place (place_of value) ∷ ls) (sym (append_assoc (links_of β value) (links_of_each β ss) (links_of_each β ts)))
+pub link_below : (R : List Row) (β : ℕ → Option ℕ) → IsFormed R → ((i b : ℕ) → i < length R → β i ≡ Some b → b < length R)
+    → (i j : ℕ) → i < length R → link_at R β i ≡ To j → j < length R
+link_below R β t within i j less e = of (at R i).node refl e
+  where
+    part : (n : Node) (a : ℕ) → (at R i).node ≡ n → HasPart n a → To a ≡ To j → j < length R
+    part n a s h f = subst (λ z. z < length R) (to_same a j f) (part_of a t less s h)
 
-pub links-params-append : (xs ys : List Param) → links_of_params (xs ++ ys) ≡ links_of_params xs ++ links_of_params ys
-links-params-append [] ys = refl
-links-params-append (x ∷ xs) ys = ap (λ ls. record { place = x.place; link = Fixed x.kind } ∷ ls) (links-params-append xs ys)
-
-pub links-all-append : (β : ℕ → Option ℕ) (ds es : List Def) → links_of_all β (ds ++ es) ≡ links_of_all β ds ++ links_of_all β es
-links-all-append β [] es = refl
-links-all-append β (d ∷ ds) es =
-    let ps = links_of_params d.params in
-    ap (λ ls. ps ++ (links_of β d.body ++ ls)) (links-all-append β ds es)
-    ∙ (ap (λ ls. ps ++ ls) (sym (append_assoc (links_of β d.body) (links_of_all β ds) (links_of_all β es)))
-    ∙ sym (append_assoc ps (links_of β d.body ++ links_of_all β ds) (links_of_all β es)))
+    of : (n : Node) → (at R i).node ≡ n → link_of (β i) n ≡ To j → j < length R
+    of Head s f = let d : Nowhere ≡ To j = f in cc
+    of (Param x k) s f = let d : Fixed k ≡ To j = f in cc
+    of (Literal v) s f = let d : Fixed (constant_kind v) ≡ To j = f in cc
+    of (Name x) s f = named (length R) j (β i) (λ b. within i b less) f
+    of (Unary p a) s f = let d : Fixed (unary_kind p) ≡ To j = f in cc
+    of (Binary p a b) s f = let d : Fixed (binary_kind p) ≡ To j = f in cc
+    of (Split t) s f = let d : Nowhere ≡ To j = f in cc
+    of (If t x y) s f = part (If t x y) x s (inr (inl refl)) f
+    of (Block b) s f = part (Block b) b s refl f
+    of (Binding x a) s f = part (Binding x a) a s refl f
+    of (Def x h k b) s f = let d : Fixed k ≡ To j = f in cc
+    of Program s f = let d : Nowhere ≡ To j = f in cc

@@ -1,112 +1,146 @@
 -- Why a program is refused (docs/LANGUAGE.md, "Refusals").
-use Rattle.std.specs.Prelude.{◌≡◌, ◌⊎◌, ◌<◌, ◌≤◌, ℕ, Bool, ◌||◌, true, false, List, [], ◌∷◌, ◌++◌, map, length, nat_lt, codes, Option, None, Some, if◌then◌else◌}
-use Rattle.std.specs.Str.{bytes_eq}
-use Rattle.id_tree.specs.declared.tree.Expr.{Expr, Literal, Unary', Binary', Name, Block', Row_of-Stmt, end_of-Stmt, more_of-Stmt}
-use Rattle.id_tree.specs.declared.tree.Stmt.{Binding}
-use Rattle.id_tree.specs.declared.tree.Kind.{Kind}
-use Rattle.id_tree.specs.declared.tree.Kind.TheVariants as kind
-use Rattle.id_tree.specs.declared.tree.Param.{Param}
-use Rattle.id_tree.specs.declared.tree.Def.{Def}
-use Rattle.id_tree.specs.declared.tree.Program.{Program}
-use Rattle.id_check.specs.declared.CheckCause.{CheckCause}
-use Rattle.id_check.specs.declared.CheckCause.TheVariants.{NoMain, MainKind, Duplicate, Unknown, WrongKind, TooManyParams, Memory}
-use Rattle.id_check.specs.declared.TheConstants.{MAX_PARAMS}
-use Rattle.id_check.specs.Main.{HasNoMain}
-use Rattle.id_check.specs.Scopes.{Among, Binder, binder_of, binders_of, binders_of_params}
-use Rattle.id_check.specs.Kinds.{AreBinders, AreKinds}
-use Rattle.id_check.specs.Wants.{wrongs_of_all}
+use Rattle.std.specs.Prelude.{◌≡◌, ◌⊎◌, ◌<◌, ◌≤◌, ℕ, zero, suc, Bool as Truth, true, false, List, [], ◌∷◌, ◌++◌, length}
+use Rattle.std.specs.Prelude.{nat_eq, nat_lt, Option, None, Some, if◌then◌else◌}
+use Rattle.id_value.specs.declared.Kind.{Kind}
+use Rattle.id_value.specs.declared.Kind.TheVariants.{Int, Bool, Array}
+use Rattle.id_value.specs.declared.BinaryOp.{BinaryOp}
+use Rattle.id_value.specs.declared.BinaryOp.TheVariants as class
+use Rattle.id_value.specs.declared.Comparison.TheVariants.{Eq, Ne}
+use Rattle.id_parts.specs.declared.row.Row.{Row}
+use Rattle.id_parts.specs.declared.row.Node.{Node}
+use Rattle.id_parts.specs.declared.row.Node.TheVariants.{Param, Name, Unary, Binary, Split, If, Def}
+use Rattle.id_list.specs.List.{Among}
+use Rattle.id_tree.specs.Tree.{Tree}
+use Rattle.id_tree.specs.Distinct.{HasPlace}
+use Rattle.id_parts.specs.Rows.{at}
+use Rattle.id_parts.specs.Turns.{params_at}
+use Rattle.id_check.specs.declared.cause.CheckCause.{CheckCause}
+use Rattle.id_check.specs.declared.cause.CheckCause.TheVariants.{NoMain, MainKind, Duplicate, Unknown, WrongKind}
+use Rattle.id_check.specs.declared.cause.CheckCause.TheVariants.{TooManyParams, Memory}
+use Rattle.id_check.specs.Scopes.{AreBinders, binder_in, binds, bound_name}
+use Rattle.id_check.specs.Kinds.{AreKinds, unary_kind}
 
--- whether the name is one of these
-abbrev pub is_among : List ℕ → List (List ℕ) → Bool
-is_among x [] = false
-is_among x (y ∷ ys) = bytes_eq y x || is_among x ys
+-- the cause at a row that binds a name in s, where an earlier one of s is given
+abbrev pub repeated : List Row → ℕ → Option ℕ → List CheckCause
+repeated R b None = []
+repeated R b (Some a) = Duplicate (at R b).place (at R a).place ∷ []
 
--- the binders whose name an earlier one has, or one of these names is
-abbrev pub repeated : List (List ℕ) → List Binder → List CheckCause
-repeated seen [] = []
-repeated seen (b ∷ bs) = if is_among b.name seen then Duplicate b.place ∷ repeated seen bs else repeated (b.name ∷ seen) bs
+-- the cause at the row b, if it binds this name in s
+abbrev pub second : List Row → ℕ → ℕ → Option ℕ → List CheckCause
+second R s b None = []
+second R s b (Some x) = if binds R s x b then repeated R b (binder_in R s x b) else []
+
+-- the second binders of a name in the scope s, of the first n rows
+abbrev pub seconds : List Row → ℕ → ℕ → List CheckCause
+seconds R s zero = []
+seconds R s (suc b) = seconds R s b ++ second R s b (bound_name (at R b).node)
+
+-- the second binders of a name in one of the first n rows
+abbrev pub duplicates : List Row → ℕ → List CheckCause
+duplicates R zero = []
+duplicates R (suc s) = duplicates R s ++ seconds R s s
 
 -- a name without a binder
 abbrev pub unknown : Option ℕ → ℕ → List CheckCause
 unknown None place = Unknown place ∷ []
 unknown (Some b) place = []
 
--- the causes in an expression, where these binders are in scope: second binders of a block with one name, and names without binder
-abbrev mutual
-  pub causes_of : List Binder → Expr → List CheckCause
-  causes_of bs (Literal value place) = []
-  causes_of bs (Unary' op p operand place) = causes_of bs operand
-  causes_of bs (Binary' op p left q right place) = causes_of bs left ++ causes_of bs right
-  causes_of bs (Name x place) = unknown (binder_of bs x) place
-  causes_of bs (Block' n statements p body place) =
-      repeated [] (binders_of statements) ++
-      (causes_of_row (binders_of statements ++ bs) statements ++ causes_of (binders_of statements ++ bs) body)
+-- whether two kinds are one
+abbrev pub same_kind : Kind → Kind → Truth
+same_kind Int Int = true
+same_kind Bool Bool = true
+same_kind Array Array = true
+same_kind _ _ = false
 
-  -- the same of statements
-  pub causes_of_row : {n : _} → List Binder → Row_of-Stmt n → List CheckCause
-  causes_of_row bs end_of-Stmt = []
-  causes_of_row bs (more_of-Stmt (Binding x value place) rest) = causes_of bs value ++ causes_of_row bs rest
+-- the cause where this kind is wanted of the part at a place, and that is found
+abbrev pub unless_found : Kind → Option Kind → ℕ → List CheckCause
+unless_found wanted None e = []
+unless_found wanted (Some found) e = if same_kind found wanted then [] else (WrongKind e wanted found ∷ [])
 
--- whether the kind is that of arrays
-abbrev pub is_array : Kind → Bool
-is_array kind.Int = false
-is_array kind.Bool = false
-is_array kind.Array = true
+-- the cause in a row of which this kind is wanted, where κ gives the kinds
+abbrev pub wrong : List Row → (ℕ → Option Kind) → Kind → ℕ → List CheckCause
+wrong R κ wanted a = unless_found wanted (κ a) (at R a).place
+
+-- the causes in operands of which one kind is wanted
+abbrev pub wrong_both : List Row → (ℕ → Option Kind) → Kind → ℕ → ℕ → List CheckCause
+wrong_both R κ wanted a b = wrong R κ wanted a ++ wrong R κ wanted b
+
+-- the causes in operands to be compared, of which the left one has this kind: it is to be `int` or `bool`, and the
+-- right one of the same kind
+abbrev pub wrong_equals : List Row → (ℕ → Option Kind) → Option Kind → ℕ → ℕ → List CheckCause
+wrong_equals R κ None a b = []
+wrong_equals R κ (Some Int) a b = wrong R κ Int b
+wrong_equals R κ (Some Bool) a b = wrong R κ Bool b
+wrong_equals R κ (Some Array) a b = WrongKind (at R a).place Int Array ∷ []
+
+-- the causes in the operands of an operator
+abbrev pub wrong_operands : List Row → (ℕ → Option Kind) → BinaryOp → ℕ → ℕ → List CheckCause
+wrong_operands R κ (class.Arithmetic o) a b = wrong_both R κ Int a b
+wrong_operands R κ (class.Comparison Eq) a b = wrong_equals R κ (κ a) a b
+wrong_operands R κ (class.Comparison Ne) a b = wrong_equals R κ (κ a) a b
+wrong_operands R κ (class.Comparison o) a b = wrong_both R κ Int a b
+wrong_operands R κ (class.Logic o) a b = wrong_both R κ Bool a b
+
+-- the causes in the `else` arm of a conditional, where the `then` arm has this kind
+abbrev pub wrong_arm : List Row → (ℕ → Option Kind) → Option Kind → ℕ → List CheckCause
+wrong_arm R κ None y = []
+wrong_arm R κ (Some k) y = wrong R κ k y
+
+-- whether an array is a parameter at a row of this node
+abbrev pub is_array_param : Node → Truth
+is_array_param (Param x Array) = true
+is_array_param _ = false
 
 -- the first of these parameters that is an array
-abbrev pub array_param : List Param → List CheckCause
-array_param [] = []
-array_param (x ∷ xs) = if is_array x.kind then (MainKind x.place ∷ []) else array_param xs
+abbrev pub array_param : List Row → List ℕ → List CheckCause
+array_param R [] = []
+array_param R (x ∷ xs) = if is_array_param (at R x).node then (MainKind (at R x).place ∷ []) else array_param R xs
 
--- the cause in the parameters of a definition, if it is called `main`: it takes no array
-abbrev pub main_kind : Def → List CheckCause
-main_kind d = if bytes_eq d.name (codes "main") then array_param d.params else []
+-- the causes in the parameters of a definition at a place: `main`, the name of number 0, takes no array, and there are
+-- at most 16
+abbrev pub wrong_params : List Row → ℕ → ℕ → List ℕ → List CheckCause
+wrong_params R x e ps =
+    (if nat_eq x 0 then array_param R ps else []) ++ (if nat_lt 16 (length ps) then (TooManyParams e ∷ []) else [])
 
--- the cause in the number of a definition's parameters
-abbrev pub too_many_params : Def → List CheckCause
-too_many_params d = if nat_lt MAX_PARAMS (length d.params) then (TooManyParams d.place ∷ []) else []
+-- the causes in a row at a place, with this binder if it uses a name: of a predicate the kind `bool` is wanted, of an
+-- `else` arm that of the `then` arm; a definition's are those in its parameters, and of its body the kind of the result
+-- is wanted
+abbrev pub causes_in : List Row → (ℕ → Option Kind) → Option ℕ → ℕ → Node → List CheckCause
+causes_in R κ o e (Name x) = unknown o e
+causes_in R κ o e (Unary p a) = wrong R κ (unary_kind p) a
+causes_in R κ o e (Binary p a b) = wrong_operands R κ p a b
+causes_in R κ o e (Split t) = wrong R κ Bool t
+causes_in R κ o e (If s x y) = wrong_arm R κ (κ x) y
+causes_in R κ o e (Def x h k b) = wrong R κ k b ++ wrong_params R x e (params_at R h)
+causes_in R κ o e _ = []
 
--- the causes in a definition: its number of parameters, arrays as parameters of `main`, second parameters with one name, and
--- those in its body, which sees them
-abbrev pub causes_of_def : Def → List CheckCause
-causes_of_def d =
-    too_many_params d ++ (main_kind d ++ (repeated [] (binders_of_params d.params) ++ causes_of (binders_of_params d.params) d.body))
+-- the causes in the first n rows
+abbrev pub causes_below : List Row → (ℕ → Option ℕ) → (ℕ → Option Kind) → ℕ → List CheckCause
+causes_below R β κ zero = []
+causes_below R β κ (suc i) = causes_below R β κ i ++ causes_in R κ (β i) (at R i).place (at R i).node
 
--- the causes in these definitions
-abbrev pub causes_of_all : List Def → List CheckCause
-causes_of_all [] = []
-causes_of_all (d ∷ ds) = causes_of_def d ++ causes_of_all ds
-
--- the name and place of a definition
-abbrev pub procedure : Def → Binder
-procedure d = record { name = d.name; place = d.place }
-
--- the causes in the names of a program: second procedures with one name, and those in the definitions
-abbrev pub name_causes : Program → List CheckCause
-name_causes p = repeated [] (map procedure p.defs) ++ causes_of_all p.defs
-
--- all causes in a program, where κ gives its things their kinds
-abbrev pub causes : (ℕ → Option Kind) → Program → List CheckCause
-causes κ p = name_causes p ++ wrongs_of_all κ p.defs
+-- all causes in a program, where β gives the names their binders and κ the rows their kinds
+abbrev pub causes : List Row → (ℕ → Option ℕ) → (ℕ → Option Kind) → List CheckCause
+causes R β κ = duplicates R (length R) ++ causes_below R β κ (length R)
 
 -- where a cause is
 abbrev pub place_of : CheckCause → ℕ
-place_of (MainKind at) = at
-place_of (Duplicate at) = at
-place_of (Unknown at) = at
-place_of (WrongKind at wanted found) = at
-place_of (TooManyParams at) = at
+place_of (MainKind e) = e
+place_of (Duplicate e first) = e
+place_of (Unknown e) = e
+place_of (WrongKind e wanted found) = e
+place_of (TooManyParams e) = e
 place_of NoMain = 0
 place_of Memory = 0
 
 -- its number among the refusals
 abbrev pub number_of : CheckCause → ℕ
 number_of NoMain = 7
-number_of (MainKind at) = 8
-number_of (Duplicate at) = 9
-number_of (Unknown at) = 10
-number_of (WrongKind at wanted found) = 12
-number_of (TooManyParams at) = 13
+number_of (MainKind e) = 8
+number_of (Duplicate e first) = 9
+number_of (Unknown e) = 10
+number_of (WrongKind e wanted found) = 12
+number_of (TooManyParams e) = 13
 number_of Memory = 0
 
 -- the one cause is named before the other: at a smaller place, or at the same with a number no larger
@@ -118,28 +152,52 @@ pub record IsFirst (c : CheckCause) (cs : List CheckCause) : Type 0 where
   pub among : Among c cs
   pub before : (d : CheckCause) → Among d cs → IsBefore c d
 
+-- the cause is at places of the tree, if it is at one
+abbrev pub IsInside : Tree → CheckCause → Type 0
+IsInside t NoMain = Unit {0}
+IsInside t (MainKind e) = HasPlace t e
+IsInside t (Duplicate e first) = HasPlace t e × HasPlace t first
+IsInside t (Unknown e) = HasPlace t e
+IsInside t (WrongKind e wanted found) = HasPlace t e
+IsInside t (TooManyParams e) = HasPlace t e
+IsInside t Memory = Unit {0}
+
+-- whether `main`, the name of number 0, is defined at a row of this node
+abbrev pub defines_main : Node → Truth
+defines_main (Def x h k b) = nat_eq x 0
+defines_main _ = false
+
+-- the row is the definition of `main`
+pub record IsMain (R : List Row) (n : ℕ) : Type 0 where
+  pub within : n < length R
+  pub node : defines_main (at R n).node ≡ true
+
+-- no definition is called `main`
+abbrev pub HasNoMain : List Row → Type 0
+HasNoMain R = (n : ℕ) → IsMain R n → ⊥
+
 -- the program has no cause to be refused but that it may have no `main`
-pub record HasNoCause (p : Program) : Type 0 where
+pub record HasNoCause (R : List Row) : Type 0 where
   pub binders : ℕ → Option ℕ
-  pub are_binders : AreBinders p binders
+  pub are_binders : AreBinders R binders
   pub kinds : ℕ → Option Kind
-  pub are_kinds : AreKinds p binders kinds
-  pub none : causes kinds p ≡ []
+  pub are_kinds : AreKinds R binders kinds
+  pub none : causes R binders kinds ≡ []
 
 -- this is the first cause in the program, by place and number
-pub record HasFirst (p : Program) (c : CheckCause) : Type 0 where
+pub record HasFirst (R : List Row) (c : CheckCause) : Type 0 where
   pub binders : ℕ → Option ℕ
-  pub are_binders : AreBinders p binders
+  pub are_binders : AreBinders R binders
   pub kinds : ℕ → Option Kind
-  pub are_kinds : AreKinds p binders kinds
-  pub first : IsFirst c (causes kinds p)
+  pub are_kinds : AreKinds R binders kinds
+  pub first : IsFirst c (causes R binders kinds)
 
 -- the program is refused for this cause: the first in it, or where there is none, that it has no `main`
-abbrev pub IsRefusedFor : Program → CheckCause → Type 0
-IsRefusedFor p NoMain = HasNoCause p × HasNoMain p
-IsRefusedFor p (MainKind at) = HasFirst p (MainKind at)
-IsRefusedFor p (Duplicate at) = HasFirst p (Duplicate at)
-IsRefusedFor p (Unknown at) = HasFirst p (Unknown at)
-IsRefusedFor p (WrongKind at wanted found) = HasFirst p (WrongKind at wanted found)
-IsRefusedFor p (TooManyParams at) = HasFirst p (TooManyParams at)
-IsRefusedFor p Memory = Unit {0}
+abbrev pub IsRefusedFor : List Row → CheckCause → Type 0
+IsRefusedFor R NoMain = HasNoCause R × HasNoMain R
+IsRefusedFor R (MainKind e) = HasFirst R (MainKind e)
+IsRefusedFor R (Duplicate e first) = HasFirst R (Duplicate e first)
+IsRefusedFor R (Unknown e) = HasFirst R (Unknown e)
+IsRefusedFor R (WrongKind e wanted found) = HasFirst R (WrongKind e wanted found)
+IsRefusedFor R (TooManyParams e) = HasFirst R (TooManyParams e)
+IsRefusedFor R Memory = Unit {0}

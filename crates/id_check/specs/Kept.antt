@@ -1,7 +1,9 @@
 -- That no two things of a tree have one place can be kept by a type: there is at most one proof of it.
+use Rattle.std.specs.Prelude.{ℕ}
 use Rattle.std.specs.Coded.{×_prop, Π_prop, →_prop, Unit-prop}
-use Rattle.id_tree.specs.Tree.{Tree, literal, unary, binary, name, block, binding, param, define, none, more}
-use Rattle.id_tree.specs.Distinct.{Apart, Distinct}
+use Rattle.id_tree.specs.Tree.{Tree, literal, unary, binary, name, conditional, block, binding, param, define}
+use Rattle.id_tree.specs.Tree.{none, more}
+use Rattle.id_tree.specs.Distinct.{Apart, Distinct, HasPlace}
 
 -- there is at most one proof that nothing stands in a type
 not-prop : {A : Type 0} → IsProp (A → ⊥)
@@ -11,14 +13,31 @@ not-prop = →_prop (λ x y. absurd x)
 Apart-prop : (a b : Tree) → IsProp (Apart a b)
 Apart-prop a b = Π_prop (λ q. →_prop not-prop)
 
+-- there is at most one proof that the places of two trees and another one are distinct
+two-prop : (a b : Tree) (p : ℕ) → IsProp (Distinct a) → IsProp (Distinct b)
+    → IsProp ((¬ HasPlace a p) × (¬ HasPlace b p) × Apart a b × Distinct a × Distinct b)
+two-prop a b p f g = λ x y i.
+    (not-prop x.0 y.0 i, not-prop x.1 y.1 i, Apart-prop a b x.2 y.2 i, f x.3 y.3 i, g x.4 y.4 i)
+
 pub Distinct-prop : (e : Tree) → IsProp (Distinct e)
 Distinct-prop (literal v p) = Unit-prop
 Distinct-prop (unary o a p) = ×_prop not-prop (Distinct-prop a)
-Distinct-prop (binary o a b p) = λ x y i. (not-prop x.0 y.0 i, not-prop x.1 y.1 i, Apart-prop a b x.2 y.2 i, Distinct-prop a x.3 y.3 i, Distinct-prop b x.4 y.4 i)
+Distinct-prop (binary o a b p) = two-prop a b p (Distinct-prop a) (Distinct-prop b)
 Distinct-prop (name x p) = Unit-prop
-Distinct-prop (block a b p) = λ x y i. (not-prop x.0 y.0 i, not-prop x.1 y.1 i, Apart-prop a b x.2 y.2 i, Distinct-prop a x.3 y.3 i, Distinct-prop b x.4 y.4 i)
+Distinct-prop (conditional t x y p) = λ d e i. (
+  not-prop d.0 e.0 i,
+  not-prop d.1 e.1 i,
+  not-prop d.2 e.2 i,
+  Apart-prop t x d.3 e.3 i,
+  Apart-prop t y d.4 e.4 i,
+  Apart-prop x y d.5 e.5 i,
+  Distinct-prop t d.6 e.6 i,
+  Distinct-prop x d.7 e.7 i,
+  Distinct-prop y d.8 e.8 i,
+)
+Distinct-prop (block a b p) = two-prop a b p (Distinct-prop a) (Distinct-prop b)
 Distinct-prop (binding x a p) = ×_prop not-prop (Distinct-prop a)
 Distinct-prop (param x k p) = Unit-prop
-Distinct-prop (define n a k b p) = λ x y i. (not-prop x.0 y.0 i, not-prop x.1 y.1 i, Apart-prop a b x.2 y.2 i, Distinct-prop a x.3 y.3 i, Distinct-prop b x.4 y.4 i)
+Distinct-prop (define n a k b p) = two-prop a b p (Distinct-prop a) (Distinct-prop b)
 Distinct-prop none = Unit-prop
 Distinct-prop (more a b) = λ x y i. (Apart-prop a b x.0 y.0 i, Distinct-prop a x.1 y.1 i, Distinct-prop b x.2 y.2 i)

@@ -1,11 +1,11 @@
-pub mod Main
+-- What public clauses cite.
 pub mod Scopes
 pub mod Kinds
-pub mod Wants
 pub mod Causes
+pub mod Programs
 pub mod Kept
--- for use inside
-pub mod Firsts
+-- For use inside.
 pub mod Chains
-pub mod Bounds
-pub mod Walks
+pub mod Firsts
+pub mod Names
+pub mod Tallies

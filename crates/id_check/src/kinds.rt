@@ -1,255 +1,151 @@
-//! The kind of each thing of a program, found by its chain (docs/LANGUAGE.md, "Kinds").
-//!
-//! Each thing is passed once: a chain is followed as far as a thing whose kind is known, and the kind that is
-//! met there is given to all things that were passed.
+//! The kind of each row, found by its chain.
 
-ghost use Rattle.std.specs.Prelude.{ℕ, List, ◌≡◌, ◌≤◌, [], ◌∷◌, ◌++◌, Option, Some, None, if◌then◌else◌, true, nat_eq, IfOk, OnOk};
-ghost use Rattle.indexmap.specs.IndexMap.{get, index_map_len};
-ghost use Rattle.id_tree.specs.Tree.{program_tree};
-ghost use Rattle.id_tree.specs.Distinct.{Distinct};
-ghost use Rattle.id_check.specs.Kinds as kinds_spec;
-ghost use Rattle.id_check.specs.Kinds.{AreKinds, Linked, link_of_name, links_of, links_of_all, links_of_params, Fixed, To};
-ghost use Rattle.id_check.specs.Chains.{Adds, IsGoing, IsNoted, IsPassing, kind_in, kind_met, links_of_each, next_in, IsStart};
+ghost use Rattle.std.specs.Prelude.{◌≡◌, ◌<◌, ◌+◌, ◌⊎◌, ℕ, [], get_or, length, IfOk, OnOk, Some, None};
+ghost use Rattle.id_list.specs.List.{Among};
+ghost use Rattle.id_parts.specs.Tables.{IsFormed};
+ghost use Rattle.id_check.specs.Kinds as kinds;
+ghost use Rattle.id_check.specs.Kinds.{AreKinds, To, Nowhere, link_at};
+ghost use Rattle.id_check.specs.Chains as chains;
+ghost use Rattle.id_check.specs.Chains.{IsGoing, IsFilling, IsEnd};
 
-use id_tree::{BinaryOp, Constant, Def, Expr, Kind, Param, Program, Stmt, UnaryOp};
-use indexmap::{IndexMap, IndexSet};
+use id_parts::{Node, Row};
+use id_tree::{BinaryOp, Constant, Kind, UnaryOp};
 use std::alloc::{AllocError, Global};
 
-/// What is known of the things of a program, by their places.
-#[derive(Drop)]
-pub struct Chains {
-    /// The things whose kinds are known: that each has this one, or that it has none.
-    pub known: IndexSet<usize>,
-    /// The kinds of these, as far as they have one.
-    pub kinds: IndexMap<usize, Kind>,
-    /// Where the chains of the other things go on.
-    pub nexts: IndexMap<usize, usize>,
+/// Where the chain of a row goes on: it ends in a kind, it goes on to another row, or it ends without a kind.
+#[derive(Clone, Copy)]
+pub enum Link {
+    Fixed(Kind),
+    To(usize),
+    Nowhere,
 }
 
-/// The kind of each thing of the program, by its place; a thing without a kind is not in the map.
+/// The kind of each row, if it has one; these are the binders of the names.
 pub fn find_kinds(
     alloc: Global,
-    program: &Program,
-    binders: &IndexMap<usize, usize>,
-) -> Result<IndexMap<usize, Kind>, AllocError>
-    requires { Distinct (program_tree program.now) }
-    ensures { IfOk result (λ m. AreKinds program.now (get nat_eq binders.now) (get nat_eq m)) }
+    rows: &[Row],
+    binders: &[Option<usize>],
+) -> Result<Vec<Option<Kind>>, AllocError>
+    requires formed { IsFormed rows.now }
+    requires binders { length binders.now ≡ length rows.now }
+    requires within { (i b : ℕ) → i < length rows.now → get_or binders.now i None ≡ Some b → b < length rows.now }
+    ensures long { IfOk result (λ v. length v.items ≡ length rows.now) }
+    ensures kinds { IfOk result (λ v. AreKinds rows.now (λ i. get_or binders.now i None) (λ i. get_or v.items i None)) }
 {
-    let mut chains = Chains::new(alloc);
-    chains.add_defs(binders, program.defs.as_slice())?;
-    chains.settle_all(alloc)?;
-    let Chains { kinds, .. } = chains;
+    let mut links = find_links(alloc, rows, binders)?;
+    let mut passed = Vec::new(alloc);
+    for i in 0..rows.len() {
+        settle(&mut links, &mut passed, i)?;
+    }
+    let kinds = kinds_of(alloc, links.as_slice())?;
     Ok(kinds)
 }
 
-impl Chains {
-    /// Nothing is known. Takes no memory.
-    pub fn new(alloc: Global) -> Chains
-        ensures { IsStart result }
-    {
-        Chains {
-            known: IndexSet::new(alloc),
-            kinds: IndexMap::new(alloc),
-            nexts: IndexMap::new(alloc),
-        }
+/// Where the chain of each row goes on.
+fn find_links(
+    alloc: Global,
+    rows: &[Row],
+    binders: &[Option<usize>],
+) -> Result<Vec<Link>, AllocError>
+    requires { length binders.now ≡ length rows.now }
+    ensures long { IfOk result (λ v. length v.items ≡ length rows.now) }
+    ensures each { IfOk result (λ v. (i : ℕ) → i < length rows.now → get_or v.items i Nowhere ≡ link_at rows.now (λ k. get_or binders.now k None) i) }
+{
+    let mut links = Vec::new(alloc);
+    for i in 0..rows.len() {
+        links.push(link_of(binders[i], rows[i].node))?;
     }
+    Ok(links)
+}
 
-    /// Finds the kinds of all things that were added.
-    pub fn settle_all(&mut self, alloc: Global) -> Result<(), AllocError>
-        ensures going { OnOk result ((ls : List Linked) → IsGoing ls self.old → IsGoing ls self.new) }
-        ensures done { OnOk result ((q : ℕ) → next_in self.new q ≡ None) }
-    {
-        while let Some((place, next)) = self.nexts.pop() {
-            self.settle(alloc, place, next)?;
-        }
-        Ok(())
+/// The kinds that the links give.
+fn kinds_of(alloc: Global, links: &[Link]) -> Result<Vec<Option<Kind>>, AllocError>
+    ensures long { IfOk result (λ v. length v.items ≡ length links.now) }
+    ensures each { IfOk result (λ v. (i : ℕ) → i < length links.now → get_or v.items i None ≡ chains.kind_of (get_or links.now i Nowhere)) }
+{
+    let mut kinds = Vec::new(alloc);
+    for i in 0..links.len() {
+        kinds.push(kind_of(links[i]))?;
     }
+    Ok(kinds)
+}
 
-    /// Finds the kind that the chain of the thing at the place comes to, which goes on to the next one, and gives it to
-    /// all things on the way. A chain that comes back to itself gives `int`.
-    fn settle(&mut self, alloc: Global, place: usize, next: usize) -> Result<(), AllocError>
-        ensures going { OnOk result ((ls : List Linked) → IsPassing ls (place ∷ []) next self.old → IsGoing ls self.new) }
-        ensures fewer { OnOk result (index_map_len self.new.nexts ≤ index_map_len self.old.nexts) }
-    {
-        let mut passed = Vec::new(alloc);
-        passed.push(place)?;
-        let mut at = next;
-        while let Some(further) = self.nexts.swap_remove(&at) {
-            passed.push(at)?;
-            at = further;
-        }
+/// Finds the kind that the chain of the row comes to, and gives it to all rows on the way. A chain that comes back to
+/// itself meets the mark that was left there, and gives `int`.
+fn settle(links: &mut Vec<Link>, passed: &mut Vec<usize>, start: usize) -> Result<(), AllocError>
+    requires start { start < length links.old.items }
+    requires passed { passed.old.items ≡ [] }
+    requires targets { (i j : ℕ) → i < length links.old.items → get_or links.old.items i Nowhere ≡ To j → j < length links.old.items }
+    ensures passed { OnOk result (passed.new.items ≡ []) }
+    ensures long { OnOk result (length links.new.items ≡ length links.old.items) }
+    ensures targets { OnOk result ((i j : ℕ) → i < length links.new.items → get_or links.new.items i Nowhere ≡ To j → j < length links.new.items) }
+    ensures going { OnOk result ((l : ℕ → Link) → IsGoing l (length links.old.items) start links.old.items → IsGoing l (length links.old.items) (start + 1) links.new.items) }
+{
+    let mut at = start;
+    while let Link::To(next) = links[at] {
         passed.push(at)?;
-        let kind = self.kind_met(at);
-        self.note_all(passed.as_slice(), kind)?;
-        Ok(())
+        links[at] = Link::Fixed(Kind::Int);
+        at = next;
     }
+    let end = links[at];
+    fill(links, passed, end);
+    Ok(())
+}
 
-    /// The kind of a chain that comes to this place: that of the thing there, if it is known, and else the chain came
-    /// back to itself. Takes no memory.
-    fn kind_met(&self, place: usize) -> Option<Kind>
-        ensures { result ≡ kind_met self.now place }
-    {
-        if self.known.contains(&place) {
-            self.kinds.get(&place).copied()
-        } else {
-            Some(Kind::Int)
-        }
-    }
-
-    /// Notes the kind of all these things.
-    fn note_all(&mut self, places: &[usize], kind: Option<Kind>) -> Result<(), AllocError>
-        ensures { OnOk result (IsNoted places.now kind self.old self.new) }
-    {
-        for place in places {
-            self.note(*place, kind)?;
-        }
-        Ok(())
-    }
-
-    /// Notes the kind of a thing, or that it has none.
-    fn note(&mut self, place: usize, kind: Option<Kind>) -> Result<(), AllocError>
-        ensures { OnOk result (IsNoted (place ∷ []) kind self.old self.new) }
-    {
-        self.known.insert(place)?;
-        match kind {
-            Some(kind) => {
-                self.kinds.insert(place, kind)?;
-            }
-            None => {
-                self.kinds.swap_remove(&place);
-            }
-        }
-        Ok(())
-    }
-
-    /// Adds a thing whose chain goes on to the next one.
-    fn go_on(&mut self, place: usize, next: usize) -> Result<(), AllocError>
-        ensures { OnOk result (Adds (record { place = place; link = To next } ∷ []) self.old self.new) }
-    {
-        self.nexts.insert(place, next)?;
-        Ok(())
-    }
-
-    /// Adds a thing of this kind, whose chain ends.
-    fn fix(&mut self, place: usize, kind: Kind) -> Result<(), AllocError>
-        ensures { OnOk result (Adds (record { place = place; link = Fixed kind } ∷ []) self.old self.new) }
-    {
-        self.note(place, Some(kind))?;
-        Ok(())
-    }
-
-    /// Adds a name: its chain goes on to its binder, if it has one.
-    fn add_name(&mut self, place: usize, binder: Option<usize>) -> Result<(), AllocError>
-        ensures { OnOk result (Adds (record { place = place; link = link_of_name binder } ∷ []) self.old self.new) }
-    {
-        match binder {
-            Some(binder) => self.go_on(place, binder)?,
-            None => self.note(place, None)?,
-        }
-        Ok(())
-    }
-
-    /// Adds the things of these definitions.
-    pub fn add_defs(
-        &mut self,
-        binders: &IndexMap<usize, usize>,
-        defs: &[Def],
-    ) -> Result<(), AllocError>
-        ensures { OnOk result (Adds (links_of_all (get nat_eq binders.now) defs.now) self.old self.new) }
-    {
-        for def in defs {
-            self.add_params(def.params.as_slice())?;
-            self.add_expr(binders, &def.body)?;
-        }
-        Ok(())
-    }
-
-    /// Adds these parameters.
-    fn add_params(&mut self, params: &[Param]) -> Result<(), AllocError>
-        ensures { OnOk result (Adds (links_of_params params.now) self.old self.new) }
-    {
-        for param in params {
-            self.fix(param.place, param.kind)?;
-        }
-        Ok(())
-    }
-
-    /// Adds the things of an expression.
-    #[cycle(chains)]
-    fn add_expr(&mut self, binders: &IndexMap<usize, usize>, expr: &Expr) -> Result<(), AllocError>
-        ensures { OnOk result (Adds (links_of (get nat_eq binders.now) expr.now) self.old self.new) }
-    {
-        match expr {
-            Expr::Literal { value, place } => {
-                self.fix(*place, constant_kind(*value))?;
-            }
-            Expr::Unary { op, operand, place } => {
-                self.fix(*place, unary_kind(*op))?;
-                self.add_expr(binders, operand)?;
-            }
-            Expr::Binary {
-                op,
-                left,
-                right,
-                place,
-            } => {
-                self.fix(*place, binary_kind(*op))?;
-                self.add_expr(binders, left)?;
-                self.add_expr(binders, right)?;
-            }
-            Expr::Name { place, .. } => {
-                self.add_name(*place, binders.get(place).copied())?;
-            }
-            Expr::Block {
-                statements,
-                body,
-                place,
-            } => {
-                self.go_on(*place, place_of(body))?;
-                self.add_statements(binders, statements.as_slice())?;
-                self.add_expr(binders, body)?;
-            }
-        }
-        Ok(())
-    }
-
-    /// Adds the things of the statements.
-    #[cycle(chains)]
-    fn add_statements(
-        &mut self,
-        binders: &IndexMap<usize, usize>,
-        statements: &[Stmt],
-    ) -> Result<(), AllocError>
-        ensures { OnOk result (Adds (links_of_each (get nat_eq binders.now) statements.now) self.old self.new) }
-    {
-        for statement in statements {
-            match statement {
-                Stmt::Binding { value, place, .. } => {
-                    self.go_on(*place, place_of(value))?;
-                    self.add_expr(binders, value)?;
-                }
-            }
-        }
-        Ok(())
+/// Gives the link to the rows that were passed.
+fn fill(links: &mut Vec<Link>, passed: &mut Vec<usize>, end: Link)
+    requires { (p : ℕ) → Among p passed.old.items → p < length links.old.items }
+    ensures passed { passed.new.items ≡ [] }
+    ensures long { length links.new.items ≡ length links.old.items }
+    ensures same { (i : ℕ) → (get_or links.new.items i Nowhere ≡ end) ⊎ (get_or links.new.items i Nowhere ≡ get_or links.old.items i Nowhere) }
+    ensures filling { (l : ℕ → Link) (n m : ℕ) → IsFilling l n m passed.old.items end links.old.items → IsFilling l n m [] end links.new.items }
+{
+    while let Some(p) = passed.pop() {
+        links[p] = end;
     }
 }
 
-/// The place of an expression.
-pub fn place_of(expr: &Expr) -> usize
-    ensures { result ≡ kinds_spec.place_of expr.now }
+/// The kind that the link gives, if its chain ends there.
+fn kind_of(link: Link) -> Option<Kind>
+    ensures { result ≡ chains.kind_of link }
 {
-    match expr {
-        Expr::Literal { place, .. } => *place,
-        Expr::Unary { place, .. } => *place,
-        Expr::Binary { place, .. } => *place,
-        Expr::Name { place, .. } => *place,
-        Expr::Block { place, .. } => *place,
+    match link {
+        Link::Fixed(kind) => Some(kind),
+        Link::To(_) | Link::Nowhere => None,
+    }
+}
+
+/// Where the chain of a row goes on, which has this binder if it is a name.
+fn link_of(binder: Option<usize>, node: Node) -> Link
+    ensures { result ≡ kinds.link_of binder node }
+{
+    match node {
+        Node::Param { kind, .. } => Link::Fixed(kind),
+        Node::Literal { value } => Link::Fixed(constant_kind(value)),
+        Node::Name { .. } => link_of_name(binder),
+        Node::Unary { op, .. } => Link::Fixed(unary_kind(op)),
+        Node::Binary { op, .. } => Link::Fixed(binary_kind(op)),
+        Node::If { then, .. } => Link::To(then),
+        Node::Block { body } => Link::To(body),
+        Node::Binding { value, .. } => Link::To(value),
+        Node::Def { result, .. } => Link::Fixed(result),
+        Node::Head | Node::Split { .. } | Node::Program => Link::Nowhere,
+    }
+}
+
+/// Where the chain of a name goes on: to its binder, if it has one.
+fn link_of_name(binder: Option<usize>) -> Link
+    ensures { result ≡ kinds.link_of_name binder }
+{
+    match binder {
+        Some(binder) => Link::To(binder),
+        None => Link::Nowhere,
     }
 }
 
 /// The kind of a literal.
 fn constant_kind(value: Constant) -> Kind
-    ensures { result ≡ kinds_spec.constant_kind value }
+    ensures { result ≡ kinds.constant_kind value }
 {
     match value {
         Constant::Int(_) => Kind::Int,
@@ -259,7 +155,7 @@ fn constant_kind(value: Constant) -> Kind
 
 /// The kind of an operator before its operand, and of its operand.
 pub fn unary_kind(op: UnaryOp) -> Kind
-    ensures { result ≡ kinds_spec.unary_kind op }
+    ensures { result ≡ kinds.unary_kind op }
 {
     match op {
         UnaryOp::Neg => Kind::Int,
@@ -269,11 +165,10 @@ pub fn unary_kind(op: UnaryOp) -> Kind
 
 /// The kind of an operator between its operands.
 fn binary_kind(op: BinaryOp) -> Kind
-    ensures { result ≡ kinds_spec.binary_kind op }
+    ensures { result ≡ kinds.binary_kind op }
 {
     match op {
-        BinaryOp::Add | BinaryOp::Sub | BinaryOp::Mul | BinaryOp::Div | BinaryOp::Rem => Kind::Int,
-        BinaryOp::Lt | BinaryOp::Le | BinaryOp::Gt | BinaryOp::Ge => Kind::Bool,
-        BinaryOp::Eq | BinaryOp::Ne | BinaryOp::And | BinaryOp::Or => Kind::Bool,
+        BinaryOp::Arithmetic(_) => Kind::Int,
+        BinaryOp::Comparison(_) | BinaryOp::Logic(_) => Kind::Bool,
     }
 }

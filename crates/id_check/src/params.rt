@@ -1,47 +1,76 @@
-//! What is wrong with the parameters of a definition but their names.
+//! The parameters of each definition, counted by its head.
 
-ghost use Rattle.std.specs.Prelude.{◌≡◌, ◌++◌, length, nat_lt};
-ghost use Rattle.id_check.specs.Causes.{array_param, main_kind, too_many_params};
-ghost use Rattle.id_check.specs.Firsts.{Notes};
+ghost use Rattle.std.specs.Prelude.{◌≡◌, ◌<◌, ◌+◌, ◌^◌, length, IfOk};
+ghost use Rattle.id_check.specs.Tallies as tallies;
+ghost use Rattle.id_check.specs.Tallies.{AreTallies, first_array};
 
-use crate::first::note;
-use crate::{CheckCause, MAX_PARAMS, is_main};
-use id_tree::{Def, Kind, Param};
+use id_parts::{Node, Row};
+use id_tree::Kind;
+use std::alloc::{AllocError, Global};
 
-/// Notes what is wrong with the number and the kinds of the parameters. Takes no memory.
-pub fn note_params(first: &mut Option<CheckCause>, def: &Def)
-    ensures { Notes first.old (too_many_params def.now ++ main_kind def.now) first.new }
+/// The most parameters that a definition may have.
+pub const MAX_PARAMS: usize = 16;
+
+/// How many parameters there are, and the place of the first one that is an array.
+#[derive(Clone, Copy)]
+pub struct Tally {
+    pub count: usize,
+    pub array: Option<usize>,
+}
+
+/// The parameters of the definition with each head, by row.
+pub fn find_params(alloc: Global, rows: &[Row]) -> Result<Vec<Tally>, AllocError>
+    ensures { IfOk result (λ v. AreTallies rows.now (length rows.now) v.items) }
 {
-    note_count(first, def);
-    if is_main(def) {
-        note_array(first, def.params.as_slice());
+    let none = Tally {
+        count: 0,
+        array: None,
+    };
+    let mut tallies = vec![in alloc; none; rows.len()]?;
+    for i in 0..rows.len() {
+        count(rows, &mut tallies, i);
     }
+    Ok(tallies)
 }
 
-/// Notes it if there are too many parameters. Takes no memory.
-fn note_count(first: &mut Option<CheckCause>, def: &Def)
-    ensures { Notes first.old (too_many_params def.now) first.new }
+/// Counts a row, if it is a parameter. Takes no memory.
+fn count(rows: &[Row], tallies: &mut Vec<Tally>, i: usize)
+    requires row { i < length rows.now }
+    requires tallies { AreTallies rows.now i tallies.old.items }
+    ensures { AreTallies rows.now (i + 1) tallies.new.items }
 {
-    if has_too_many(def) {
-        note(first, CheckCause::TooManyParams { at: def.place });
-    }
-}
-
-/// Whether the definition has more parameters than it may. Takes no memory.
-fn has_too_many(def: &Def) -> bool
-    ensures { result ≡ nat_lt MAX_PARAMS (length def.now.params) }
-{
-    def.params.len() > MAX_PARAMS
-}
-
-/// Notes the first of these parameters that is an array, if there is one. Takes no memory.
-fn note_array(first: &mut Option<CheckCause>, params: &[Param])
-    ensures { Notes first.old (array_param params.now) first.new }
-{
-    for param in params {
-        if param.kind == Kind::Array {
-            note(first, CheckCause::MainKind { at: param.place });
-            return;
+    let Row {
+        place,
+        block,
+        node,
+        ..
+    } = rows[i];
+    if block < rows.len() {
+        if let Node::Param { kind, .. } = node {
+            tallies[block] = counted(tallies[block], kind, place);
         }
     }
+}
+
+/// The tally with one more parameter, of this kind and at this place. Takes no memory.
+fn counted(tally: Tally, kind: Kind, place: usize) -> Tally
+    requires { tally.count + 1 < 2 ^ 64 }
+    ensures count { result.count ≡ tally.count + 1 }
+    ensures array { result.array ≡ first_array tally.array kind place }
+{
+    let array = match tally.array {
+        None if is_array(kind) => Some(place),
+        array => array,
+    };
+    Tally {
+        count: tally.count + 1,
+        array,
+    }
+}
+
+/// Whether the kind is that of arrays.
+fn is_array(kind: Kind) -> bool
+    ensures { result ≡ tallies.is_array kind }
+{
+    matches!(kind, Kind::Array)
 }

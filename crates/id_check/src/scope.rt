@@ -1,116 +1,353 @@
-//! The names in scope while a program is walked, each with its innermost binder.
+//! The binder of each name: the scopes are passed innermost first. Each takes the binders within it that none has taken
+//! yet, and gives the uses within it that wait for a name that it binds their binder. So a binder is looked at by one
+//! scope, and a use once.
 
-ghost use Rattle.std.specs.Prelude.{ℕ, List, if◌then◌else◌, ◌≡◌, [], ◌∷◌, ◌++◌, length, take, drop, option_map, IfOk, OnOk, IsTrue, true, false};
-ghost use Rattle.std.specs.Str.{bytes_eq};
-ghost use Rattle.id_check.specs.Bounds.{before, bound_at, is_of, Binds, IsEmptyScope};
+ghost use Rattle.std.specs.Prelude.{◌≡◌, ◌<◌, ◌≤◌, ◌+◌, ℕ, true, false, get_or, length, replicate, if◌then◌else◌};
+ghost use Rattle.std.specs.Prelude.{IfOk, OnOk, None, Some};
+ghost use Rattle.std.specs.Option.{option_or};
+ghost use Rattle.id_parts.specs.Rows.{at};
+ghost use Rattle.id_check.specs.Scopes as scopes;
+ghost use Rattle.id_check.specs.Scopes.{AreBinders, is_name};
+ghost use Rattle.id_check.specs.Causes.{duplicates, repeated, second, seconds};
+ghost use Rattle.id_check.specs.Firsts.{IsFirstOf, Notes};
+ghost use Rattle.id_check.specs.Names as names;
+ghost use Rattle.id_check.specs.Names.{AreBound, AreHeld, AreNames, AreWaiting, IsFresh, IsOpen, IsTaking, again, given, newly};
 
+use crate::cause::{CheckCause, note};
+use crate::rows::{bound_name, is_scope, looks, takes, used_name};
+use id_parts::{Node, Row};
 use std::alloc::{AllocError, Global};
-use std::collections::HashMap;
 
-/// What a name is bound to: the place of its binder, and the number of the binder's block.
+/// The last scope that bound a name, and the first of its binders there.
 #[derive(Clone, Copy)]
 pub struct Bound {
-    pub place: usize,
-    pub block: usize,
+    pub scope: usize,
+    pub binder: usize,
 }
 
-/// A name that a block binds, and what it was bound to outside.
+/// The uses of names: by row their binders so far, and those that wait for one, as a chain for each name from its last
+/// use back.
 #[derive(Drop)]
-pub struct Shadowed<'a> {
-    pub name: &'a str,
-    pub bound: Option<Bound>,
+pub struct Uses {
+    pub binders: Vec<Option<usize>>,
+    /// By name, its last use that waits.
+    pub last: Vec<Option<usize>>,
+    /// By row, the use of the same name before it that waits.
+    pub earlier: Vec<Option<usize>>,
 }
 
-/// The names in scope. The number of a block is how many names were shadowed as it was entered.
+/// The binders of the names, by row, and the first second binder.
 #[derive(Drop)]
-pub struct Scope<'a> {
-    pub table: HashMap<&'a str, Bound>,
-    /// The names that the blocks round here bind, the innermost last.
-    pub shadowed: Vec<Shadowed<'a>>,
+pub struct Found {
+    pub binders: Vec<Option<usize>>,
+    pub first: Option<CheckCause>,
 }
 
-impl<'a> Scope<'a> {
-    /// No name is in scope. Takes no memory.
-    pub fn new(alloc: Global) -> Scope<'a>
-        ensures { IsEmptyScope result }
-    {
-        Scope {
-            table: HashMap::new(alloc),
-            shadowed: Vec::new(alloc),
-        }
-    }
+/// Finds the binders of the names, whose numbers are below `count`.
+pub fn find_binders(alloc: Global, rows: &[Row], count: usize) -> Result<Found, AllocError>
+    requires { AreNames rows.now count }
+    ensures long { IfOk result (λ f. length f.binders.items ≡ length rows.now) }
+    ensures binders { IfOk result (λ f. AreBinders rows.now (λ i. get_or f.binders.items i None)) }
+    ensures within { IfOk result (λ f. (i b : ℕ) → i < length rows.now → get_or f.binders.items i None ≡ Some b → b < length rows.now) }
+    ensures first { IfOk result (λ f. IsFirstOf f.first (duplicates rows.now (length rows.now))) }
+{
+    let mut held = vec![in alloc; false; rows.len()]?;
+    let mut bound: Vec<Option<Bound>> = vec![in alloc; None; count]?;
+    let mut uses = no_uses(alloc, rows, count)?;
+    let mut first = None;
+    pass_rows(alloc, rows, &mut held, &mut bound, &mut uses, &mut first)?;
+    let Uses { binders, .. } = uses;
+    Ok(Found { binders, first })
+}
 
-    /// The number of a block that is entered here. Takes no memory.
-    pub fn block(&self) -> usize
-        ensures { result ≡ length self.now.shadowed.items }
-    {
-        self.shadowed.len()
-    }
+/// The uses before any row is passed, of names whose numbers are below `count`.
+fn no_uses(alloc: Global, rows: &[Row], count: usize) -> Result<Uses, AllocError>
+    ensures binders { IfOk result (λ u. AreBound rows.now 0 u.binders.items) }
+    ensures waiting { IfOk result (λ u. AreWaiting rows.now 0 count u.binders.items u.last.items u.earlier.items) }
+{
+    Ok(Uses {
+        binders: nothing(alloc, rows.len())?,
+        last: nothing(alloc, count)?,
+        earlier: nothing(alloc, rows.len())?,
+    })
+}
 
-    /// The place of the binder that the name means. Takes no memory.
-    pub fn look_up(&self, name: &str) -> Option<usize>
-        ensures { result ≡ option_map (λ b. b.place) (bound_at self.now name.now) }
-    {
-        let bound = self.table.get(name).copied()?;
-        Some(bound.place)
-    }
+/// A list of so many rows or names that have no row.
+fn nothing(alloc: Global, count: usize) -> Result<Vec<Option<usize>>, AllocError>
+    ensures { IfOk result (λ v. v.items ≡ replicate count None) }
+{
+    vec![in alloc; None; count]
+}
 
-    /// Binds the name in the block of this number, and says whether it did: a name keeps the first of its
-    /// binders there. After an error the scope is of no use.
-    pub fn bind(&mut self, name: &'a str, place: usize, block: usize) -> Result<bool, AllocError>
-        ensures first { IfOk result (λ new. new ≡ true
-            → (is_of block (bound_at self.old name.now) ≡ false) × Binds self.old name.now place block self.new) }
-        ensures second { IfOk result (λ new. new ≡ false
-            → (is_of block (bound_at self.old name.now) ≡ true) × (self.new ≡ self.old)) }
-    {
-        let bound = self.table.get(name).copied();
-        if is_bound_in(bound, block) {
-            return Ok(false);
-        }
-        self.shadowed.push(Shadowed { name, bound })?;
-        self.table.insert(name, Bound { place, block })?;
-        Ok(true)
+/// Passes the rows, the innermost scopes first.
+fn pass_rows(
+    alloc: Global,
+    rows: &[Row],
+    held: &mut Vec<bool>,
+    bound: &mut Vec<Option<Bound>>,
+    uses: &mut Uses,
+    first: &mut Option<CheckCause>,
+) -> Result<(), AllocError>
+    requires names { AreNames rows.now (length bound.old.items) }
+    requires held { AreHeld rows.now 0 held.old.items }
+    requires fresh { IsFresh 0 bound.old.items }
+    requires binders { AreBound rows.now 0 uses.old.binders.items }
+    requires waiting { AreWaiting rows.now 0 (length bound.old.items) uses.old.binders.items uses.old.last.items uses.old.earlier.items }
+    requires first { first.old ≡ None }
+    ensures binders { OnOk result (AreBound rows.now (length rows.now) uses.new.binders.items) }
+    ensures first { OnOk result (IsFirstOf first.new (duplicates rows.now (length rows.now))) }
+{
+    let mut untaken = Vec::new(alloc);
+    for s in 0..rows.len() {
+        pass(rows, &mut untaken, held, bound, uses, first, s)?;
     }
+    Ok(())
+}
 
-    /// Leaves the block of this number and those in it: each name is bound as it was before. After an error
-    /// the scope is of no use.
-    pub fn leave(&mut self, block: usize) -> Result<(), AllocError>
-        ensures shadowed { OnOk result (self.new.shadowed.items ≡ take block self.old.shadowed.items) }
-        ensures bound { OnOk result ((x : List ℕ) → bound_at self.new x
-            ≡ before (drop block self.old.shadowed.items) (bound_at self.old x) x) }
-    {
-        while self.shadowed.len() > block {
-            if let Some(last) = self.shadowed.pop() {
-                self.bind_again(last)?;
-            }
-        }
-        Ok(())
+/// Passes a row: where it is a scope, it takes the binders within it; where it binds a name, it is yet to be taken;
+/// where it uses one, it waits for its binder.
+fn pass(
+    rows: &[Row],
+    untaken: &mut Vec<usize>,
+    held: &mut Vec<bool>,
+    bound: &mut Vec<Option<Bound>>,
+    uses: &mut Uses,
+    first: &mut Option<CheckCause>,
+    s: usize,
+) -> Result<(), AllocError>
+    requires row { s < length rows.now }
+    requires names { AreNames rows.now (length bound.old.items) }
+    requires untaken { IsOpen rows.now s s untaken.old.items }
+    requires held { AreHeld rows.now s held.old.items }
+    requires fresh { IsFresh s bound.old.items }
+    requires binders { AreBound rows.now s uses.old.binders.items }
+    requires waiting { AreWaiting rows.now s (length bound.old.items) uses.old.binders.items uses.old.last.items uses.old.earlier.items }
+    ensures untaken { OnOk result (IsOpen rows.now (s + 1) (s + 1) untaken.new.items) }
+    ensures held { OnOk result (AreHeld rows.now (s + 1) held.new.items) }
+    ensures long { OnOk result (length bound.new.items ≡ length bound.old.items) }
+    ensures fresh { OnOk result (IsFresh (s + 1) bound.new.items) }
+    ensures binders { OnOk result (AreBound rows.now (s + 1) uses.new.binders.items) }
+    ensures waiting { OnOk result (AreWaiting rows.now (s + 1) (length bound.old.items) uses.new.binders.items uses.new.last.items uses.new.earlier.items) }
+    ensures first { OnOk result (Notes first.old (seconds rows.now s s) first.new) }
+{
+    take(rows, untaken, held, bound, uses, first, s);
+    wait(rows, uses, s);
+    if bound_name(rows[s].node).is_some() {
+        untaken.push(s)?;
     }
+    Ok(())
+}
 
-    /// Binds the name to what it was bound to.
-    fn bind_again(&mut self, last: Shadowed<'a>) -> Result<(), AllocError>
-        ensures shadowed { OnOk result (self.new.shadowed ≡ self.old.shadowed) }
-        ensures bound { OnOk result ((x : List ℕ) → bound_at self.new x
-            ≡ (if bytes_eq last.entry.name.now x then last.entry.bound else bound_at self.old x)) }
-    {
-        match last.bound {
-            Some(bound) => {
-                self.table.insert(last.name, bound)?;
-            }
-            None => {
-                self.table.remove(last.name);
-            }
-        }
-        Ok(())
+/// Where the row is a scope, it takes the binders within it. Takes no memory.
+fn take(
+    rows: &[Row],
+    untaken: &mut Vec<usize>,
+    held: &mut Vec<bool>,
+    bound: &mut Vec<Option<Bound>>,
+    uses: &mut Uses,
+    first: &mut Option<CheckCause>,
+    s: usize,
+)
+    requires row { s < length rows.now }
+    requires names { AreNames rows.now (length bound.old.items) }
+    requires untaken { IsOpen rows.now s s untaken.old.items }
+    requires held { AreHeld rows.now s held.old.items }
+    requires fresh { IsFresh s bound.old.items }
+    requires binders { AreBound rows.now s uses.old.binders.items }
+    requires waiting { AreWaiting rows.now s (length bound.old.items) uses.old.binders.items uses.old.last.items uses.old.earlier.items }
+    ensures untaken { IsOpen rows.now s (s + 1) untaken.new.items }
+    ensures held { AreHeld rows.now (s + 1) held.new.items }
+    ensures long { length bound.new.items ≡ length bound.old.items }
+    ensures fresh { IsFresh (s + 1) bound.new.items }
+    ensures binders { AreBound rows.now (s + 1) uses.new.binders.items }
+    ensures waiting { AreWaiting rows.now s (length bound.old.items) uses.new.binders.items uses.new.last.items uses.new.earlier.items }
+    ensures first { Notes first.old (seconds rows.now s s) first.new }
+{
+    if is_scope(rows[s].node) {
+        enter(rows, untaken.as_slice(), held, bound, uses, first, s);
+        let kept = kept(untaken.as_slice(), held.as_slice());
+        untaken.truncate(kept);
     }
 }
 
-/// Whether the binder is of the block of this number.
-fn is_bound_in(bound: Option<Bound>, block: usize) -> bool
-    ensures { result ≡ is_of block bound }
+/// Takes what the scope binds. Takes no memory.
+fn enter(
+    rows: &[Row],
+    untaken: &[usize],
+    held: &mut Vec<bool>,
+    bound: &mut Vec<Option<Bound>>,
+    uses: &mut Uses,
+    first: &mut Option<CheckCause>,
+    s: usize,
+)
+    requires row { s < length rows.now }
+    requires names { AreNames rows.now (length bound.old.items) }
+    requires untaken { IsOpen rows.now s s untaken.now }
+    requires held { AreHeld rows.now s held.old.items }
+    requires fresh { IsFresh s bound.old.items }
+    requires binders { AreBound rows.now s uses.old.binders.items }
+    requires waiting { AreWaiting rows.now s (length bound.old.items) uses.old.binders.items uses.old.last.items uses.old.earlier.items }
+    ensures held { AreHeld rows.now (s + 1) held.new.items }
+    ensures long { length bound.new.items ≡ length bound.old.items }
+    ensures fresh { IsFresh (s + 1) bound.new.items }
+    ensures binders { AreBound rows.now (s + 1) uses.new.binders.items }
+    ensures waiting { AreWaiting rows.now s (length bound.old.items) uses.new.binders.items uses.new.last.items uses.new.earlier.items }
+    ensures first { Notes first.old (seconds rows.now s s) first.new }
+{
+    let start = start_of(untaken, rows[s].first);
+    for k in start..untaken.len() {
+        enter_row(rows, held, bound, uses, first, s, untaken[k]);
+    }
+}
+
+/// Where the rows from this one on begin in the list, which is in order. Takes no memory.
+fn start_of(untaken: &[usize], first: usize) -> usize
+    requires order { (j k : ℕ) → j < k → k < length untaken.now → get_or untaken.now j 0 < get_or untaken.now k 0 }
+    ensures long { result ≤ length untaken.now }
+    ensures before { (j : ℕ) → j < result → get_or untaken.now j 0 < first }
+    ensures behind { (j : ℕ) → result ≤ j → j < length untaken.now → first ≤ get_or untaken.now j 0 }
+{
+    let mut start = untaken.len();
+    while start > 0 && untaken[start - 1] >= first {
+        start -= 1;
+    }
+    start
+}
+
+/// How many rows there are without the last ones that are held. Takes no memory.
+fn kept(untaken: &[usize], held: &[bool]) -> usize
+    requires { (j : ℕ) → j < length untaken.now → get_or untaken.now j 0 < length held.now }
+    ensures long { result ≤ length untaken.now }
+    ensures behind { (j : ℕ) → result ≤ j → j < length untaken.now → get_or held.now (get_or untaken.now j 0) false ≡ true }
+{
+    let mut kept = untaken.len();
+    while kept > 0 && held[untaken[kept - 1]] {
+        kept -= 1;
+    }
+    kept
+}
+
+/// Takes the row if it is a binder of the scope, and no scope within has taken it. Takes no memory.
+fn enter_row(
+    rows: &[Row],
+    held: &mut Vec<bool>,
+    bound: &mut Vec<Option<Bound>>,
+    uses: &mut Uses,
+    first: &mut Option<CheckCause>,
+    s: usize,
+    b: usize,
+)
+    requires row { s < length rows.now }
+    requires inside { b < s }
+    requires behind { (at rows.now s).first ≤ b }
+    requires names { AreNames rows.now (length bound.old.items) }
+    requires taking { IsTaking rows.now s b held.old.items bound.old.items uses.old.binders.items }
+    requires waiting { AreWaiting rows.now s (length bound.old.items) uses.old.binders.items uses.old.last.items uses.old.earlier.items }
+    ensures long { length bound.new.items ≡ length bound.old.items }
+    ensures taking { IsTaking rows.now s (b + 1) held.new.items bound.new.items uses.new.binders.items }
+    ensures waiting { AreWaiting rows.now s (length bound.old.items) uses.new.binders.items uses.new.last.items uses.new.earlier.items }
+    ensures first { Notes first.old (second rows.now s b (scopes.bound_name (at rows.now b).node)) first.new }
+{
+    if !held[b] && takes(rows[s].node, rows[b].node) {
+        held[b] = true;
+        bind(rows, bound, uses, first, s, b);
+    }
+}
+
+/// Binds the name of the row in the scope: its uses get their binder, or it is a second one. Takes no memory.
+fn bind(
+    rows: &[Row],
+    bound: &mut Vec<Option<Bound>>,
+    uses: &mut Uses,
+    first: &mut Option<CheckCause>,
+    s: usize,
+    b: usize,
+)
+    requires row { s < length rows.now }
+    requires inside { b < s }
+    requires names { AreNames rows.now (length bound.old.items) }
+    requires earlier { (x a : ℕ) → x < length bound.old.items → names.in_scope s (get_or bound.old.items x None) ≡ Some a → a < length rows.now }
+    requires waiting { AreWaiting rows.now s (length bound.old.items) uses.old.binders.items uses.old.last.items uses.old.earlier.items }
+    ensures long { length bound.new.items ≡ length bound.old.items }
+    ensures bound { (x : ℕ) → x < length bound.old.items → names.in_scope s (get_or bound.new.items x None)
+        ≡ option_or (names.in_scope s (get_or bound.old.items x None)) (if is_name x (scopes.bound_name (at rows.now b).node) then Some b else None) }
+    ensures later { (x t : ℕ) → s < t → names.in_scope t (get_or bound.old.items x None) ≡ None → names.in_scope t (get_or bound.new.items x None) ≡ None }
+    ensures waiting { AreWaiting rows.now s (length bound.old.items) uses.new.binders.items uses.new.last.items uses.new.earlier.items }
+    ensures binders { (i : ℕ) → i < length rows.now → get_or uses.new.binders.items i None
+        ≡ option_or (get_or uses.old.binders.items i None) (newly rows.now s b bound.old.items (scopes.bound_name (at rows.now b).node) i) }
+    ensures first { Notes first.old (again rows.now s b bound.old.items (scopes.bound_name (at rows.now b).node)) first.new }
+{
+    if let Some(name) = bound_name(rows[b].node) {
+        if let Some(earlier) = in_scope(s, bound[name]) {
+            note_second(first, rows, b, earlier);
+        } else {
+            bound[name] = Some(Bound {
+                scope: s,
+                binder: b,
+            });
+            if looks(rows[s].node, Node::Name { name }) {
+                resolve(rows, uses, s, name, b);
+            }
+        }
+    }
+}
+
+/// Notes a second binder, behind this earlier one. Takes no memory.
+fn note_second(first: &mut Option<CheckCause>, rows: &[Row], b: usize, earlier: usize)
+    requires row { b < length rows.now }
+    requires earlier { earlier < length rows.now }
+    ensures { Notes first.old (repeated rows.now b (Some earlier)) first.new }
+{
+    let (at, earlier) = (rows[b].place, rows[earlier].place);
+    note(first, CheckCause::Duplicate { at, first: earlier });
+}
+
+/// Gives the uses of the name within the scope that wait for a binder this one. Takes no memory.
+fn resolve(rows: &[Row], uses: &mut Uses, s: usize, name: usize, b: usize)
+    requires row { s < length rows.now }
+    requires name { name < length uses.old.last.items }
+    requires waiting { AreWaiting rows.now s (length uses.old.last.items) uses.old.binders.items uses.old.last.items uses.old.earlier.items }
+    ensures waiting { AreWaiting rows.now s (length uses.old.last.items) uses.new.binders.items uses.new.last.items uses.new.earlier.items }
+    ensures binders { (i : ℕ) → i < length rows.now → get_or uses.new.binders.items i None ≡ option_or (get_or uses.old.binders.items i None) (given rows.now s name b i) }
+{
+    let first = rows[s].first;
+    while let Some(u) = not_before(first, uses.last[name]) {
+        uses.binders[u] = Some(b);
+        uses.last[name] = uses.earlier[u];
+    }
+}
+
+/// The use, if it is not before this row.
+fn not_before(first: usize, last: Option<usize>) -> Option<usize>
+    ensures { result ≡ names.not_before first last }
+{
+    match last {
+        Some(u) if first <= u => Some(u),
+        _ => None,
+    }
+}
+
+/// The binder that was noted, if it is of the scope.
+fn in_scope(scope: usize, bound: Option<Bound>) -> Option<usize>
+    ensures { result ≡ names.in_scope scope bound }
 {
     match bound {
-        Some(bound) => bound.block == block,
-        None => false,
+        Some(bound) if bound.scope == scope => Some(bound.binder),
+        _ => None,
+    }
+}
+
+/// The row waits for its binder, if it uses a name. Takes no memory.
+fn wait(rows: &[Row], uses: &mut Uses, s: usize)
+    requires row { s < length rows.now }
+    requires name { (x : ℕ) → scopes.used_name (at rows.now s).node ≡ Some x → x < length uses.old.last.items }
+    requires none { get_or uses.old.binders.items s None ≡ None }
+    requires waiting { AreWaiting rows.now s (length uses.old.last.items) uses.old.binders.items uses.old.last.items uses.old.earlier.items }
+    ensures binders { uses.new.binders.items ≡ uses.old.binders.items }
+    ensures waiting { AreWaiting rows.now (s + 1) (length uses.old.last.items) uses.new.binders.items uses.new.last.items uses.new.earlier.items }
+{
+    if let Some(name) = used_name(rows[s].node) {
+        uses.earlier[s] = uses.last[name];
+        uses.last[name] = Some(s);
     }
 }

@@ -1,103 +1,135 @@
-//! Which expressions are of another kind than is wanted of them (docs/LANGUAGE.md, "Kinds").
+//! What is wrong in each row: names without binder, parts of another kind than is wanted, and parameters.
 
-ghost use Rattle.std.specs.Prelude.{◌≡◌, List, [], ◌++◌, nat_eq};
-ghost use Rattle.indexmap.specs.IndexMap.{get};
-ghost use Rattle.id_check.specs.Wants as wants;
-ghost use Rattle.id_check.specs.Wants.{wrong, wrong_both, wrong_equals, wrong_operands, wrongs_of, wrongs_of_all};
-ghost use Rattle.id_check.specs.Kinds as kinds_spec;
-ghost use Rattle.id_check.specs.Firsts.{IsFirstOf, Notes, wrongs_of_each};
+ghost use Rattle.std.specs.Prelude.{◌≡◌, ◌<◌, ℕ, get_or, length, None};
+ghost use Rattle.id_parts.specs.Rows.{at};
+ghost use Rattle.id_parts.specs.Tables.{IsFormed};
+ghost use Rattle.id_parts.specs.Turns.{params_at};
+ghost use Rattle.id_check.specs.Causes as causes;
+ghost use Rattle.id_check.specs.Causes.{causes_below, causes_in, unknown, wrong, wrong_arm, wrong_both};
+ghost use Rattle.id_check.specs.Causes.{wrong_equals, wrong_operands, wrong_params};
+ghost use Rattle.id_value.specs.declared.BinaryOp.TheVariants as class;
+ghost use Rattle.id_check.specs.Firsts.{Notes};
+ghost use Rattle.id_check.specs.Tallies.{AreTallies, array_cause, count_cause};
 
-use crate::CheckCause;
-use crate::first::note;
-use crate::kinds::{place_of, unary_kind};
-use id_tree::{BinaryOp, Def, Expr, Kind, Program, Stmt};
-use indexmap::IndexMap;
+use crate::cause::{CheckCause, note};
+use crate::kinds::unary_kind;
+use crate::params::{MAX_PARAMS, Tally};
+use id_parts::{Node, Row};
+use id_tree::{BinaryOp, Kind};
+use id_value::Comparison;
 
-/// The first expression of another kind than is wanted of it, where the things have these kinds. Takes no memory.
-pub fn first_wrong(program: &Program, kinds: &IndexMap<usize, Kind>) -> Option<CheckCause>
-    ensures { IsFirstOf result (wrongs_of_all (get nat_eq kinds.now) program.now.defs) }
-{
-    let mut first = None;
-    note_defs(&mut first, kinds, program.defs.as_slice());
-    first
-}
-
-/// Notes the wrong expressions of these definitions: of a body the kind of the result is wanted.
-fn note_defs(first: &mut Option<CheckCause>, kinds: &IndexMap<usize, Kind>, defs: &[Def])
-    ensures { Notes first.old (wrongs_of_all (get nat_eq kinds.now) defs.now) first.new }
-{
-    for def in defs {
-        note_wrong(first, kinds, def.result, &def.body);
-        note_expr(first, kinds, &def.body);
-    }
-}
-
-/// Notes the wrong expressions in an expression.
-#[cycle(wants)]
-fn note_expr(first: &mut Option<CheckCause>, kinds: &IndexMap<usize, Kind>, expr: &Expr)
-    ensures { Notes first.old (wrongs_of (get nat_eq kinds.now) expr.now) first.new }
-{
-    match expr {
-        Expr::Literal { .. } | Expr::Name { .. } => {}
-        Expr::Unary { op, operand, .. } => {
-            note_wrong(first, kinds, unary_kind(*op), operand);
-            note_expr(first, kinds, operand);
-        }
-        Expr::Binary {
-            op,
-            left,
-            right,
-            ..
-        } => {
-            note_operands(first, kinds, *op, left, right);
-            note_expr(first, kinds, left);
-            note_expr(first, kinds, right);
-        }
-        Expr::Block {
-            statements,
-            body,
-            ..
-        } => {
-            note_statements(first, kinds, statements.as_slice());
-            note_expr(first, kinds, body);
-        }
-    }
-}
-
-/// Notes the wrong expressions in the statements.
-#[cycle(wants)]
-fn note_statements(
+/// Notes what is wrong in the rows, which have these binders and kinds, and these parameters by head. Takes no memory.
+pub fn note_rows(
     first: &mut Option<CheckCause>,
-    kinds: &IndexMap<usize, Kind>,
-    statements: &[Stmt],
+    rows: &[Row],
+    binders: &[Option<usize>],
+    kinds: &[Option<Kind>],
+    tallies: &[Tally],
 )
-    ensures { Notes first.old (wrongs_of_each (get nat_eq kinds.now) statements.now) first.new }
+    requires formed { IsFormed rows.now }
+    requires binders { length binders.now ≡ length rows.now }
+    requires kinds { length kinds.now ≡ length rows.now }
+    requires tallies { AreTallies rows.now (length rows.now) tallies.now }
+    ensures { Notes first.old
+        (causes_below rows.now (λ i. get_or binders.now i None) (λ i. get_or kinds.now i None) (length rows.now))
+        first.new }
 {
-    for statement in statements {
-        match statement {
-            Stmt::Binding { value, .. } => note_expr(first, kinds, value),
-        }
+    for i in 0..rows.len() {
+        note_row(first, rows, binders, kinds, tallies, i);
     }
 }
 
-/// Notes the operands of an operator that are wrong.
+/// Notes what is wrong in a row. Takes no memory.
+fn note_row(
+    first: &mut Option<CheckCause>,
+    rows: &[Row],
+    binders: &[Option<usize>],
+    kinds: &[Option<Kind>],
+    tallies: &[Tally],
+    i: usize,
+)
+    requires formed { IsFormed rows.now }
+    requires binders { length binders.now ≡ length rows.now }
+    requires kinds { length kinds.now ≡ length rows.now }
+    requires tallies { AreTallies rows.now (length rows.now) tallies.now }
+    requires row { i < length rows.now }
+    ensures { let row = at rows.now i in Notes first.old
+        (causes_in rows.now (λ i. get_or kinds.now i None) (get_or binders.now i None) row.place row.node) first.new }
+{
+    let row = rows[i];
+    match row.node {
+        Node::Name { .. } => note_unknown(first, binders[i], row.place),
+        Node::Unary { op, operand } => note_wrong(first, rows, kinds, unary_kind(op), operand),
+        Node::Binary { op, left, right } => note_operands(first, rows, kinds, op, left, right),
+        Node::Split { test } => note_wrong(first, rows, kinds, Kind::Bool, test),
+        Node::If {
+            then,
+            otherwise,
+            ..
+        } => note_arm(first, rows, kinds, then, otherwise),
+        Node::Def {
+            name,
+            head,
+            result: wanted,
+            body,
+        } => {
+            note_wrong(first, rows, kinds, wanted, body);
+            note_params(first, rows, tallies, head, name, row.place);
+        }
+        _ => {}
+    }
+}
+
+/// Notes a name without binder. Takes no memory.
+fn note_unknown(first: &mut Option<CheckCause>, binder: Option<usize>, place: usize)
+    ensures { Notes first.old (unknown binder place) first.new }
+{
+    if binder.is_none() {
+        note(first, CheckCause::Unknown { at: place });
+    }
+}
+
+/// Notes the operands of an operator that are wrong. Takes no memory.
 fn note_operands(
     first: &mut Option<CheckCause>,
-    kinds: &IndexMap<usize, Kind>,
+    rows: &[Row],
+    kinds: &[Option<Kind>],
     op: BinaryOp,
-    left: &Expr,
-    right: &Expr,
+    left: usize,
+    right: usize,
 )
-    ensures { Notes first.old (wrong_operands (get nat_eq kinds.now) op left.now right.now) first.new }
+    requires kinds { length kinds.now ≡ length rows.now }
+    requires left { left < length rows.now }
+    requires right { right < length rows.now }
+    ensures { Notes first.old
+        (wrong_operands rows.now (λ i. get_or kinds.now i None) op left right) first.new }
 {
     match op {
-        BinaryOp::Eq | BinaryOp::Ne => note_equals(first, kinds, left, right),
-        BinaryOp::And | BinaryOp::Or => note_both(first, kinds, Kind::Bool, left, right),
-        BinaryOp::Add | BinaryOp::Sub | BinaryOp::Mul | BinaryOp::Div | BinaryOp::Rem => {
-            note_both(first, kinds, Kind::Int, left, right);
-        }
-        BinaryOp::Lt | BinaryOp::Le | BinaryOp::Gt | BinaryOp::Ge => {
-            note_both(first, kinds, Kind::Int, left, right);
+        BinaryOp::Arithmetic(_) => note_both(first, rows, kinds, Kind::Int, left, right),
+        BinaryOp::Comparison(op) => note_compared(first, rows, kinds, op, left, right),
+        BinaryOp::Logic(_) => note_both(first, rows, kinds, Kind::Bool, left, right),
+    }
+}
+
+/// Notes the operands of a comparison that are wrong. Takes no memory.
+fn note_compared(
+    first: &mut Option<CheckCause>,
+    rows: &[Row],
+    kinds: &[Option<Kind>],
+    op: Comparison,
+    left: usize,
+    right: usize,
+)
+    requires kinds { length kinds.now ≡ length rows.now }
+    requires left { left < length rows.now }
+    requires right { right < length rows.now }
+    ensures { Notes first.old
+        (wrong_operands rows.now (λ i. get_or kinds.now i None) (class.Comparison op) left right) first.new }
+{
+    match op {
+        Comparison::Eq | Comparison::Ne => note_equals(first, rows, kinds, left, right),
+        Comparison::Lt | Comparison::Le | Comparison::Gt | Comparison::Ge => {
+            note_both(first, rows, kinds, Kind::Int, left, right);
         }
     }
 }
@@ -105,54 +137,87 @@ fn note_operands(
 /// Notes the operands that are wrong to be compared: the left one's kind is wanted of the right one, and is no array.
 fn note_equals(
     first: &mut Option<CheckCause>,
-    kinds: &IndexMap<usize, Kind>,
-    left: &Expr,
-    right: &Expr,
+    rows: &[Row],
+    kinds: &[Option<Kind>],
+    left: usize,
+    right: usize,
 )
-    ensures { Notes first.old (wrong_equals (get nat_eq kinds.now) (get nat_eq kinds.now (kinds_spec.place_of left.now)) left.now right.now) first.new }
+    requires kinds { length kinds.now ≡ length rows.now }
+    requires left { left < length rows.now }
+    requires right { right < length rows.now }
+    ensures { Notes first.old
+        (wrong_equals rows.now (λ i. get_or kinds.now i None) (get_or kinds.now left None) left right) first.new }
 {
-    let place = place_of(left);
-    match kinds.get(&place).copied() {
+    match kinds[left] {
         None => {}
-        Some(Kind::Int) => note_wrong(first, kinds, Kind::Int, right),
-        Some(Kind::Bool) => note_wrong(first, kinds, Kind::Bool, right),
-        Some(Kind::Array) => note(
-            first,
-            CheckCause::WrongKind {
-                at: place,
-                wanted: Kind::Int,
-                found: Kind::Array,
-            },
-        ),
+        Some(Kind::Int) => note_wrong(first, rows, kinds, Kind::Int, right),
+        Some(Kind::Bool) => note_wrong(first, rows, kinds, Kind::Bool, right),
+        Some(Kind::Array) => {
+            let at = rows[left].place;
+            note(
+                first,
+                CheckCause::WrongKind {
+                    at,
+                    wanted: Kind::Int,
+                    found: Kind::Array,
+                },
+            );
+        }
     }
 }
 
-/// Notes the operands that are wrong, where one kind is wanted of both.
-fn note_both(
+/// Notes the `else` arm of a conditional, if it is of another kind than the `then` arm. Takes no memory.
+fn note_arm(
     first: &mut Option<CheckCause>,
-    kinds: &IndexMap<usize, Kind>,
-    wanted: Kind,
-    left: &Expr,
-    right: &Expr,
+    rows: &[Row],
+    kinds: &[Option<Kind>],
+    then: usize,
+    otherwise: usize,
 )
-    ensures { Notes first.old (wrong_both (get nat_eq kinds.now) wanted left.now right.now) first.new }
+    requires kinds { length kinds.now ≡ length rows.now }
+    requires then { then < length rows.now }
+    requires otherwise { otherwise < length rows.now }
+    ensures { Notes first.old
+        (wrong_arm rows.now (λ i. get_or kinds.now i None) (get_or kinds.now then None) otherwise) first.new }
 {
-    note_wrong(first, kinds, wanted, left);
-    note_wrong(first, kinds, wanted, right);
+    if let Some(wanted) = kinds[then] {
+        note_wrong(first, rows, kinds, wanted, otherwise);
+    }
 }
 
-/// Notes the expression if it is of another kind than this.
+/// Notes the operands that are wrong, where one kind is wanted of both. Takes no memory.
+fn note_both(
+    first: &mut Option<CheckCause>,
+    rows: &[Row],
+    kinds: &[Option<Kind>],
+    wanted: Kind,
+    left: usize,
+    right: usize,
+)
+    requires kinds { length kinds.now ≡ length rows.now }
+    requires left { left < length rows.now }
+    requires right { right < length rows.now }
+    ensures { Notes first.old (wrong_both rows.now (λ i. get_or kinds.now i None) wanted left right) first.new }
+{
+    note_wrong(first, rows, kinds, wanted, left);
+    note_wrong(first, rows, kinds, wanted, right);
+}
+
+/// Notes the row if it is of another kind than this. Takes no memory.
 fn note_wrong(
     first: &mut Option<CheckCause>,
-    kinds: &IndexMap<usize, Kind>,
+    rows: &[Row],
+    kinds: &[Option<Kind>],
     wanted: Kind,
-    expr: &Expr,
+    i: usize,
 )
-    ensures { Notes first.old (wrong (get nat_eq kinds.now) wanted expr.now) first.new }
+    requires kinds { length kinds.now ≡ length rows.now }
+    requires row { i < length rows.now }
+    ensures { Notes first.old (wrong rows.now (λ i. get_or kinds.now i None) wanted i) first.new }
 {
-    let at = place_of(expr);
-    if let Some(found) = kinds.get(&at).copied() {
+    if let Some(found) = kinds[i] {
         if !is_same(found, wanted) {
+            let at = rows[i].place;
             note(first, CheckCause::WrongKind { at, wanted, found });
         }
     }
@@ -160,12 +225,51 @@ fn note_wrong(
 
 /// Whether the two kinds are one.
 fn is_same(found: Kind, wanted: Kind) -> bool
-    ensures { result ≡ wants.same_kind found wanted }
+    ensures { result ≡ causes.same_kind found wanted }
 {
     match (found, wanted) {
         (Kind::Int, Kind::Int) => true,
         (Kind::Bool, Kind::Bool) => true,
         (Kind::Array, Kind::Array) => true,
         _ => false,
+    }
+}
+
+/// Notes what is wrong with the parameters of a definition at this place: `main`, the name of number 0, takes no array,
+/// and there are at most 16. Takes no memory.
+fn note_params(
+    first: &mut Option<CheckCause>,
+    rows: &[Row],
+    tallies: &[Tally],
+    head: usize,
+    name: usize,
+    place: usize,
+)
+    requires tallies { AreTallies rows.now (length rows.now) tallies.now }
+    requires head { head < length rows.now }
+    ensures { Notes first.old (wrong_params rows.now name place (params_at rows.now head)) first.new }
+{
+    let tally = tallies[head];
+    if name == 0 {
+        note_array(first, tally.array);
+    }
+    note_count(first, tally.count, place);
+}
+
+/// Notes it if there are so many parameters of the definition at this place. Takes no memory.
+fn note_count(first: &mut Option<CheckCause>, count: usize, place: usize)
+    ensures { Notes first.old (count_cause count place) first.new }
+{
+    if count > MAX_PARAMS {
+        note(first, CheckCause::TooManyParams { at: place });
+    }
+}
+
+/// Notes the first parameter that is an array, if there is one. Takes no memory.
+fn note_array(first: &mut Option<CheckCause>, array: Option<usize>)
+    ensures { Notes first.old (array_cause array) first.new }
+{
+    if let Some(at) = array {
+        note(first, CheckCause::MainKind { at });
     }
 }

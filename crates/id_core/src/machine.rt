@@ -22,19 +22,16 @@ use id_valid::Valid;
 use std::alloc::{AllocError, AllocFailed, Global};
 use std::collections::VecDeque;
 use std::marker::Model;
-use thiserror::Error;
 
 /// The most elements that a machine may have.
 pub const MAX_ELEMENTS: u32 = 64;
 
 /// Why there is no machine.
-#[derive(Clone, Copy, Debug, PartialEq, Eq, Error)]
+#[derive(Clone, Copy)]
 pub enum MachineError {
     /// No element, or more than `MAX_ELEMENTS`.
-    #[error("the number of elements is not from 1 to 64")]
     BadElements,
     /// A growth was refused.
-    #[error("out of memory")]
     Memory,
 }
 

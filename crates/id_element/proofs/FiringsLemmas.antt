@@ -3,14 +3,14 @@ use Rattle.std.proofs.Common.{◌≡◌, ℕ, Some, refl, ap, ◌∙◌}
 use Rattle.std.specs.Prelude.{slice_get}
 use Rattle.id_graph.specs.declared.dests.Port.{Port}
 use Rattle.id_graph.specs.declared.instr.Instr.{Instr}
-use Rattle.id_graph.specs.Graph.{Parts}
+use Rattle.id_graph.specs.Graph.{Parts, arcs_on}
 use Rattle.id_tag.specs.declared.Tag.{Tag}
 use Rattle.id_tag.specs.declared.Value.{Value}
 use Rattle.id_tag.specs.declared.Payload.TheVariants.{Token}
 use Rattle.id_match.specs.Waiting.{Store}
 use Rattle.id_ops.specs.declared.Fired.{Fired}
-use Rattle.id_ops.specs.declared.Fired.TheVariants.{Out, Sent, Failed, Nothing}
-use Rattle.id_ops.specs.Operators.{fired}
+use Rattle.id_ops.specs.declared.Fired.TheVariants.{Out, Side, Sent, Failed, Nothing}
+use Rattle.id_ops.specs.Operators.{fired, side_of}
 use Rattle.id_element.specs.declared.step.Arrival.{Arrival}
 use Rattle.id_element.specs.declared.step.Arrival.TheVariants.{Fires, Waits, Blocked}
 use Rattle.id_record.specs.Events.{full_step}
@@ -21,20 +21,22 @@ use Rattle.id_element.specs.Firings.{firing_of, verdict_of}
 -- the outcome of an arrival in the parts that the code computes
 abbrev pub computed : ℕ → Instr → Tag → Port → Value → Store → Arrival → Outcome
 computed n i t p v w a = record {
-  sends = sent i.dests t (firing_of i t n a);
+  sends = sent (arcs_on (side_of (firing_of i t n a)) i) t (firing_of i t n a);
   step = full_step (Token t p v) (verdict_of a (firing_of i t n a));
   waiting = w;
 }
 
 fired_step-computed : (t : Tag) (p : Port) (v : Value) (f : Fired) → fired_step t f ≡ full_step (Token t p v) (fired_verdict f)
 fired_step-computed t p v (Out x) = refl
+fired_step-computed t p v (Side b x) = refl
 fired_step-computed t p v (Sent u x) = refl
 fired_step-computed t p v (Failed f) = refl
 fired_step-computed t p v Nothing = refl
 
 arriving-computed : (n : ℕ) (i : Instr) (t : Tag) (p : Port) (v : Value) (w : Store) (a : Arrival) → arriving n i t w a ≡ computed n i t p v w a
 arriving-computed n i t p v w (Fires o) =
-    ap (λ s. record { sends = sent i.dests t (fired i.op t o (fresh_numbers n)); step = s; waiting = w }) (fired_step-computed t p v (fired i.op t o (fresh_numbers n)))
+    let f = fired i.op t o (fresh_numbers n) in
+    ap (λ s. record { sends = sent (arcs_on (side_of f) i) t f; step = s; waiting = w }) (fired_step-computed t p v f)
 arriving-computed n i t p v w Waits = refl
 arriving-computed n i t p v w Blocked = refl
 

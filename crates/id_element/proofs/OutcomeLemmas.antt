@@ -49,7 +49,7 @@ pair_fits g stamp t port.Zero v None (Some x) fits partner = (fits, partner x re
 pair_fits g stamp t port.One v None (Some x) fits partner = (partner x refl, fits)
 
 -- a port of an operator with one port is port 0
-one_port : (g : Parts) (stamp : ℕ) (t : Tag) (p : Port) (v : Value) (i : Instr) → slice_get g.instrs t.instr ≡ Some i → two_ports i.op ≡ false → TokenFits g stamp t p v → TokenFits g stamp t port.Zero v
+pub one_port : (g : Parts) (stamp : ℕ) (t : Tag) (p : Port) (v : Value) (i : Instr) → slice_get g.instrs t.instr ≡ Some i → two_ports i.op ≡ false → TokenFits g stamp t p v → TokenFits g stamp t port.Zero v
 one_port g stamp t port.Zero v i is one fits = fits
 one_port g stamp t port.One v i is one fits = absurd (no_second (port_kind i.op port.One) one there)
   where

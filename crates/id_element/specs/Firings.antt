@@ -1,5 +1,5 @@
 -- A message's outcome in the two parts that the code computes: what fires, and what the record keeps.
-use Rattle.std.specs.Prelude.{ℕ}
+use Rattle.std.specs.Prelude.{ℕ, length, max}
 use Rattle.id_graph.specs.declared.instr.Instr.{Instr}
 use Rattle.id_tag.specs.declared.Tag.{Tag}
 use Rattle.id_ops.specs.declared.Fired.{Fired}
@@ -10,6 +10,10 @@ use Rattle.id_element.specs.declared.step.Arrival.TheVariants.{Fires, Waits, Blo
 use Rattle.id_record.specs.declared.step.Verdict.{Verdict}
 use Rattle.id_record.specs.declared.step.Verdict.TheVariants.{Stuck}
 use Rattle.id_element.specs.Steps.{fresh_numbers, fired_verdict}
+
+-- what one message at the instruction sends at most: to each destination on a side, or one
+abbrev pub most_sent : Instr → ℕ
+most_sent i = max (max (length i.dests) (length i.others)) 1
 
 -- what the instruction does with what arrived at the element n: nothing where the token waits or is blocked
 abbrev pub firing_of : Instr → Tag → ℕ → Arrival → Fired

@@ -1,11 +1,11 @@
 -- The element step (docs/MACHINE.md, "Element step"), what is sent aside (`id_record/specs/Sends.antt`).
-use Rattle.std.specs.Prelude.{ℕ, ◌+◌, ◌-◌, ◌^◌, Bool, Option, None, Some, List, [], ◌∷◌, ◌++◌, map, length, max, slice_get, ◌==◌, ◌||◌, if◌then◌else◌}
+use Rattle.std.specs.Prelude.{ℕ, ◌+◌, ◌-◌, ◌^◌, Bool, Option, None, Some, List, [], ◌∷◌, ◌++◌, length, max, slice_get, ◌==◌, ◌||◌, if◌then◌else◌}
 use Rattle.std.specs.FinMap.{empty}
 use Rattle.id_graph.specs.declared.dests.Port.{Port}
 use Rattle.id_graph.specs.declared.instr.Op.{Op}
 use Rattle.id_graph.specs.declared.instr.Instr.{Instr}
 use Rattle.id_graph.specs.Ports.{two_ports}
-use Rattle.id_graph.specs.Graph.{Parts}
+use Rattle.id_graph.specs.Graph.{Parts, arcs_on}
 use Rattle.id_tag.specs.declared.Tag.{Tag}
 use Rattle.id_tag.specs.declared.Value.{Value}
 use Rattle.id_tag.specs.declared.Payload.{Payload}
@@ -17,8 +17,8 @@ use Rattle.id_match.specs.Waiting.{Store, offer_answer, offer_after}
 use Rattle.id_ops.specs.declared.Operands.TheVariants.{One, Two}
 use Rattle.id_ops.specs.declared.Fresh.{Fresh}
 use Rattle.id_ops.specs.declared.Fired.{Fired}
-use Rattle.id_ops.specs.declared.Fired.TheVariants.{Out, Sent, Failed, Nothing}
-use Rattle.id_ops.specs.Operators.{fired}
+use Rattle.id_ops.specs.declared.Fired.TheVariants.{Out, Side, Sent, Failed, Nothing}
+use Rattle.id_ops.specs.Operators.{fired, side_of}
 use Rattle.id_record.specs.declared.step.Step.{Step}
 use Rattle.id_record.specs.declared.step.Step.TheVariants.{Went, Stuck, Fault}
 use Rattle.id_record.specs.declared.step.Fault.TheVariants.{Operator}
@@ -60,6 +60,7 @@ waiting_after op w t p v = if two_ports op then offer_after w t p v else w
 -- what a firing comes to: a fault where the operator has no result
 abbrev pub fired_step : Tag → Fired → Step
 fired_step t (Out v) = Went
+fired_step t (Side b v) = Went
 fired_step t (Sent u v) = Went
 fired_step t (Failed f) = Fault (Operator f t)
 fired_step t Nothing = Went
@@ -67,6 +68,7 @@ fired_step t Nothing = Went
 -- what the record keeps of what a firing comes to
 abbrev pub fired_verdict : Fired → Verdict
 fired_verdict (Out v) = verdict.Went
+fired_verdict (Side b v) = verdict.Went
 fired_verdict (Sent u v) = verdict.Went
 fired_verdict (Failed f) = verdict.Failed f
 fired_verdict Nothing = verdict.Went
@@ -77,9 +79,9 @@ pub record Outcome : Type 0 where
   pub step : Step
   pub waiting : Store
 
--- the outcome of a firing
+-- the outcome of a firing: what it sends goes to the destinations on its side
 abbrev pub firing : Instr → Tag → Store → Fired → Outcome
-firing i t w f = record { sends = sent i.dests t f; step = fired_step t f; waiting = w }
+firing i t w f = record { sends = sent (arcs_on (side_of f) i) t f; step = fired_step t f; waiting = w }
 
 -- the outcome at the element n of what becomes of a token
 abbrev pub arriving : ℕ → Instr → Tag → Store → Arrival → Outcome

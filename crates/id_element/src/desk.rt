@@ -4,7 +4,7 @@ use crate::outcome::{most_sent, next_stamp, react, send};
 use crate::step::TakeError;
 use id_graph::{Graph, Instr};
 use id_match::Waiting;
-use id_record::{Envelope, Handled, Reaction, Record, Step, full_step};
+use id_record::{Envelope, Handled, Reaction, Record, Step, chosen, full_step};
 use id_tag::{Message, Payload, Tag};
 use id_valid::Valid;
 use std::alloc::{AllocError, Global};
@@ -25,6 +25,9 @@ impl<'a> Desk<'a> {
     ghost use Rattle.id_element.specs.Steps.{fresh, is_ended, step_of, outputs_of, state_after};
     ghost use Rattle.id_record.specs.Sends.{numbered, sent};
     ghost use Rattle.id_element.specs.Desks.{state_of};
+    ghost use Rattle.id_element.specs.Firings.{most_sent};
+    ghost use Rattle.id_graph.specs.Graph.{arcs_on};
+    ghost use Rattle.id_ops.specs.Operators.{side_of};
 
     /// The desk of the element of this number, at which nothing was handled. Takes no memory.
     pub(crate) fn new(alloc: Global, number: u32, graph: &'a Valid) -> Desk<'a>
@@ -82,7 +85,7 @@ impl<'a> Desk<'a> {
 
         ensures room { OnOk result (0 < self.new.log.room) }
         ensures room_aside { OnOk result (0 < self.new.log.room_aside) }
-        ensures room_in_outputs { OnOk result (vec_len outputs.new + max (length instr.now.dests) 1 ≤ vec_capacity outputs.new) }
+        ensures room_in_outputs { OnOk result (vec_len outputs.new + most_sent instr.now ≤ vec_capacity outputs.new) }
     {
         let room = most_sent(instr);
         outputs.reserve(room)?;
@@ -104,7 +107,7 @@ impl<'a> Desk<'a> {
         requires room_aside { 0 < self.old.log.room_aside }
         requires own { slice_get self.old.log.graph.instrs (tag_of message.payload).instr ≡ Some instr.now }
         requires tag { tag ≡ tag_of message.payload }
-        requires room_in_outputs { vec_len outputs.old + max (length instr.now.dests) 1 ≤ vec_capacity outputs.old }
+        requires room_in_outputs { vec_len outputs.old + most_sent instr.now ≤ vec_capacity outputs.old }
 
         ensures step { result ≡ full_step message.payload reaction.verdict }
         ensures waiting { self.new.waiting ≡ self.old.waiting }
@@ -115,11 +118,13 @@ impl<'a> Desk<'a> {
           element = self.old.log.element;
           stamp = stamp;
           message = message;
-          outputs = numbered self.old.log.element (length self.old.log.events) stamp 0 (sent instr.now.dests tag reaction.fired);
+          outputs = numbered self.old.log.element (length self.old.log.events) stamp 0
+              (sent (arcs_on (side_of reaction.fired) instr.now) tag reaction.fired);
           step = full_step message.payload reaction.verdict;
         } ∷ [] }
         ensures outputs { outputs.new.items ≡ outputs.old.items
-            ++ numbered self.old.log.element (length self.old.log.events) stamp 0 (sent instr.now.dests tag reaction.fired) }
+            ++ numbered self.old.log.element (length self.old.log.events) stamp 0
+            (sent (arcs_on (side_of reaction.fired) instr.now) tag reaction.fired) }
     {
         let envelope = Envelope {
             number: self.log.element(),
@@ -127,7 +132,7 @@ impl<'a> Desk<'a> {
             stamp,
         };
         send(
-            instr.dests.as_slice(),
+            chosen(instr, reaction.fired),
             tag,
             reaction.fired,
             envelope,

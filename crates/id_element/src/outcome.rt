@@ -7,7 +7,9 @@ ghost use Rattle.id_record.specs.Sends.{sent, numbered, token_to};
 ghost use Rattle.id_tag.specs.declared.Sender.TheVariants.{Element};
 ghost use Rattle.id_tag.specs.declared.Payload.TheVariants.{Token};
 ghost use Rattle.id_record.specs.Events.{full_step};
-ghost use Rattle.id_element.specs.Firings.{firing_of, verdict_of};
+ghost use Rattle.id_element.specs.Firings.{firing_of, most_sent, verdict_of};
+ghost use Rattle.id_graph.specs.Graph.{arcs_on};
+ghost use Rattle.id_ops.specs.Operators.{side_of};
 
 use crate::step::{Arrival, TakeError};
 use id_graph::{Dest, Graph, Instr, Op, Port};
@@ -33,9 +35,10 @@ pub(crate) fn next_stamp(last: u64, message: u64) -> Result<u64, TakeError>
 
 /// An upper bound on what one message at this instruction sends.
 pub(crate) fn most_sent(instr: &Instr) -> usize
-    ensures { result ≡ max (length instr.now.dests) 1 }
+    ensures { result ≡ most_sent instr.now }
 {
-    instr.dests.as_slice().len().max(1)
+    let dests = instr.dests.as_slice().len();
+    dests.max(instr.others.as_slice().len()).max(1)
 }
 
 /// An upper bound on what any element sends for a message that fits.
@@ -57,7 +60,11 @@ pub(crate) fn react(
     value: Value,
 ) -> Result<Reaction, AllocError>
     ensures outcome { IfOk result (λ r. at_instr number waiting.old tag port value (Some instr.now)
-        ≡ record { sends = sent instr.now.dests tag r.fired; step = full_step (Token tag port value) r.verdict; waiting = waiting.new }) }
+        ≡ record {
+          sends = sent (arcs_on (side_of r.fired) instr.now) tag r.fired;
+          step = full_step (Token tag port value) r.verdict;
+          waiting = waiting.new;
+        }) }
     ensures err { OnErr result (waiting.new ≡ waiting.old) }
 {
     let arrival = arrive(waiting, instr.op, tag, port, value)?;
@@ -135,7 +142,7 @@ pub(crate) fn send(
     ensures { outputs.new.items ≡ outputs.old.items ++ numbered envelope.number envelope.position envelope.stamp 0 (sent dests.now tag fired) }
 {
     match fired {
-        Fired::Out(value) => send_all(dests, tag, value, envelope, outputs),
+        Fired::Out(value) | Fired::Side(_, value) => send_all(dests, tag, value, envelope, outputs),
         Fired::Sent(target, value) => {
             outputs.push_reserved(message(
                 envelope,

@@ -1,7 +1,7 @@
 -- What is said of one answer of a call, said in other words.
 use Rattle.std.proofs.Common.{◌≡◌, ◌≢◌, ℕ, List, Result, Ok, Err}
 use Rattle.std.specs.Prelude.{IfOk, IfErr, OnOk}
-use Rattle.id_check.specs.declared.Checked.{Checked}
+use Rattle.id_check.specs.declared.checked.Checked.{Checked}
 use Rattle.id_meaning.specs.Sources.{source}
 use Rattle.id_engine.specs.declared.compiled.CompileError.{CompileError}
 use Rattle.id_engine.specs.declared.compiled.CompileError.TheVariants as compiler

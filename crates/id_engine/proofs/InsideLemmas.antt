@@ -10,12 +10,11 @@ use Rattle.id_tree.specs.declared.tree.Program.{Program}
 use Rattle.id_tree.specs.Tree.{program_tree}
 use Rattle.id_tree.specs.Distinct.{HasPlace}
 use Rattle.id_tree.specs.Accepted.{StopsAt, RefusedBy}
-use Rattle.id_check.specs.declared.CheckCause.{CheckCause}
-use Rattle.id_check.specs.declared.CheckCause.TheVariants as checker
-use Rattle.id_check.specs.Causes.{IsRefusedFor, HasFirst, place_of}
-use Rattle.id_laws.proofs.Lists.{among_right}
+use Rattle.id_check.specs.declared.cause.CheckCause.{CheckCause}
+use Rattle.id_check.specs.declared.cause.CheckCause.TheVariants as checker
+use Rattle.id_check.specs.Causes as check
+use Rattle.id_list.proofs.AmongLemmas.{Among-right}
 use Rattle.id_engine.specs.Refusals.{lexer_refusal, parser_refusal, checker_refusal, IsDetailInside, IsInside}
-use Rattle.id_engine.proofs.CausesLemmas.{causes_place}
 use Rattle.id_engine.proofs.NamesLemmas.{among_all}
 
 -- that of a text without tokens, unless it is too long
@@ -30,7 +29,7 @@ lexer_inside text lexer.Memory h short = tt
 stop_inside : (text : List ℕ) (ts : List Token) (at : ℕ) → StopsAt ts at → All (IsWithin (length text)) ts → at ≤ length text
 stop_inside text ts at r all =
     let there = subst (λ (us : List Token). All (IsWithin (length text)) us) r.whole all in
-    let w = among_all (IsWithin (length text)) (r.front ++ r.token ∷ r.behind) r.token there (among_right r.token r.front (r.token ∷ r.behind) (inl refl)) in
+    let w = among_all (IsWithin (length text)) (r.front ++ r.token ∷ r.behind) r.token there (Among-right r.token r.front (r.token ∷ r.behind) (inl refl)) in
     omega (arith, w.0, w.1, r.place)
 
 -- that of tokens without tree
@@ -41,16 +40,16 @@ parser_inside text ts parser.Memory h all short = tt
 
 -- that of a refused program
 module _ (text : List ℕ) (p : Program) (within : (q : ℕ) → HasPlace (program_tree p) q → q ≤ length text) (short : length text ≤ 1048576) where
-  first_inside : (c : CheckCause) → HasFirst p c → IsInside text (place_of c)
-  first_inside c h = record { inside = within (place_of c) (causes_place h.kinds p c (h.first).among); short = short }
+  place_inside : (at : ℕ) → HasPlace (program_tree p) at → IsInside text at
+  place_inside at h = record { inside = within at h; short = short }
 
-  pub checker_inside : (c : CheckCause) → IsRefusedFor p c → IsDetailInside text (checker_refusal c).detail
+  pub checker_inside : (c : CheckCause) → check.IsInside (program_tree p) c → IsDetailInside text (checker_refusal c).detail
   checker_inside checker.NoMain h = tt
-  checker_inside (checker.MainKind at) h = first_inside (checker.MainKind at) h
-  checker_inside (checker.Duplicate at) h = first_inside (checker.Duplicate at) h
-  checker_inside (checker.Unknown at) h = first_inside (checker.Unknown at) h
-  checker_inside (checker.WrongKind at wanted found) h = first_inside (checker.WrongKind at wanted found) h
-  checker_inside (checker.TooManyParams at) h = first_inside (checker.TooManyParams at) h
+  checker_inside (checker.MainKind at) h = place_inside at h
+  checker_inside (checker.Duplicate at first) h = place_inside at h.0
+  checker_inside (checker.Unknown at) h = place_inside at h
+  checker_inside (checker.WrongKind at wanted found) h = place_inside at h
+  checker_inside (checker.TooManyParams at) h = place_inside at h
   checker_inside checker.Memory h = tt
 
 -- the one number is at most the other, or above it

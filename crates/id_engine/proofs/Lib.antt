@@ -1,5 +1,4 @@
 mod AnsweredLemmas
-mod CausesLemmas
 mod InsideLemmas
 mod NamesLemmas
 mod PlacedLemmas

@@ -9,12 +9,11 @@ use Rattle.id_meaning.specs.declared.Path.{Path}
 use Rattle.id_meaning.specs.declared.SourceValue.{SourceValue}
 use Rattle.id_meaning.specs.declared.NameValue.{NameValue}
 use Rattle.id_meaning.specs.declared.Fact.TheVariants.{Has}
-use Rattle.id_meaning.specs.Parts.{Among}
+use Rattle.id_list.specs.List.{Among}
 use Rattle.id_meaning.specs.Sources.{Source}
 use Rattle.id_meaning.specs.Names.{IsNameValue, AreNames, AreSomeNames}
 use Rattle.id_meaning.specs.Orders.{NamesRise}
 use Rattle.id_meaning.specs.Rounds.{Holds, IsCoherent}
-use Rattle.id_build.specs.Roles.{Role}
 use Rattle.id_core.specs.Machines.{World}
 use Rattle.id_core.specs.Observed as shown
 use Rattle.id_laws.specs.Laws.{IsSound, IsComplete}
@@ -44,7 +43,7 @@ same_name : (n m : NameValue) → n.path ≡ m.path → n.place ≡ m.place → 
 same_name n m p e v = ap (λ x. record n { path = x }) p ∙ ap (λ x. record n { path = m.path; place = x }) e ∙ ap (λ x. record n { path = m.path; place = m.place; value = x }) v
 
 -- what a sound run shows of names is apart
-pub AreApart-sound : (S : Source) (g : Parts) (number : Role → ℕ) (w : World) → IsCoherent S → IsSound S g number w → AreApart (shown.names g w)
+pub AreApart-sound : (S : Source) (g : Parts) (number : ℕ → ℕ → ℕ) (w : World) → IsCoherent S → IsSound S g number w → AreApart (shown.names g w)
 AreApart-sound S g number w coherent s = record {
   differ = s.names_once;
   one = λ n m h k p e. (
@@ -56,7 +55,7 @@ AreApart-sound S g number w coherent s = record {
 }
 
 -- what a sound run's report says of names is so
-pub AreSomeNames-sound : (S : Source) (g : Parts) (number : Role → ℕ) (w : World) (ns : List NameValue) → IsSound S g number w
+pub AreSomeNames-sound : (S : Source) (g : Parts) (number : ℕ → ℕ → ℕ) (w : World) (ns : List NameValue) → IsSound S g number w
     → IsSortedOf ns (shown.names g w) → NamesRise ns → AreSomeNames S ns
 AreSomeNames-sound S g number w ns s sorted rise = record {
   only = λ n h. s.names n (among_sorted (shown.names g w) ns n sorted.same h);

@@ -12,7 +12,7 @@ use Rattle.id_build.specs.Schemas.{Schemas}
 use Rattle.id_core.specs.Machines.{World, MachineView, IsQuiet, start, delivered, run}
 use Rattle.id_core.specs.Observed.{answer, faults, names}
 use Rattle.id_laws.specs.Laws.{Soundness, QuietIsComplete, Coherence, IsSound, IsComplete}
-use Rattle.id_laws.proofs.Lists.{among_at}
+use Rattle.id_list.proofs.AmongLemmas.{Among-from_at}
 use Rattle.id_print.specs.declared.report.Ending.{Ending}
 use Rattle.id_print.specs.declared.report.Ending.TheVariants.{Quiet, Stopped, Fault}
 use Rattle.id_print.specs.declared.report.Report.{Report}
@@ -76,7 +76,7 @@ IsTrueOf-laws S g count ks m r sound complete coherent inputs schemas same_graph
     let some : AreSomeNames S r.names =
     AreSomeNames-sound S g schemas.number w r.names ok here.sorted (here.rise (AreApart-sound S g schemas.number w (coherent S) ok)) in
     record {
-      says = true_in S g w r r.ending ok.answer (λ i f k. ok.faults f (among_at f (faults g w) i k)) (complete S g count ks inputs schemas)
+      says = true_in S g w r r.ending ok.answer (λ i f k. ok.faults f (Among-from_at f (faults g w) i k)) (complete S g count ks inputs schemas)
           some here.answer_is here.sorted here.ends;
       names = some;
     }

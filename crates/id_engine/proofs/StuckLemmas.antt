@@ -4,7 +4,7 @@ use Rattle.std.specs.Prelude.{slice_get}
 use Rattle.id_graph.specs.Graph.{Parts}
 use Rattle.id_tag.specs.declared.Message.{Message}
 use Rattle.id_tag.specs.Routes.{route_of}
-use Rattle.id_meaning.specs.Parts.{Among}
+use Rattle.id_list.specs.List.{Among}
 use Rattle.id_meaning.specs.Sources.{Source, AreInputs}
 use Rattle.id_record.specs.declared.step.Step.{Step}
 use Rattle.id_record.specs.declared.step.Step.TheVariants.{Went, Fault, Stuck}
@@ -20,8 +20,9 @@ use Rattle.id_print.specs.declared.report.Ending.{Ending}
 use Rattle.id_print.specs.declared.report.Ending.TheVariants.{Stopped}
 use Rattle.id_print.specs.Endings.{EndsSo}
 use Rattle.id_laws.specs.Laws.{NeverStuck}
-use Rattle.id_laws.proofs.Lists.{among_right, set_here}
-use Rattle.id_laws.proofs.Records.{Recorded, among_events, filter_map_has}
+use Rattle.id_list.proofs.AmongLemmas.{Among-right}
+use Rattle.id_list.proofs.PlacesLemmas.{set-here}
+use Rattle.id_runs.proofs.RecordsOfRuns.{Recorded, among_events, filter_map_has}
 use Rattle.id_laws.proofs.ValidCounts.{all_among}
 use Rattle.id_engine.specs.Reports.{IsDelivery, IsFreshMachine}
 use Rattle.id_engine.proofs.NamesLemmas.{at_among}
@@ -34,8 +35,8 @@ taken_event : (g : Parts) (k : ℕ) (s : World) (m : Message) (n : ℕ) (e : Sta
 taken_event g k s m n e v at is = among_events (taken_from g k s m n e) v (record {
   element = n;
   state = state_after g n e m;
-  at = set_here s.elements n (state_after g n e m) e at;
-  among = among_right v e.events (event_of g n e m ∷ []) (inl (sym is));
+  at = set-here s.elements n (state_after g n e m) e at;
+  among = Among-right v e.events (event_of g n e m ∷ []) (inl (sym is));
 })
 
 tested_event : (g : Parts) (k : ℕ) (s : World) (m : Message) (n : ℕ) (e : State) (v : EventView) (b : Bool) → slice_get s.elements n ≡ Some e

@@ -1,6 +1,6 @@
 -- What a command prints of a program (docs/PROMISES.md, "The engine").
 use Rattle.std.specs.Prelude.{◌≡◌, ℕ, Bool, List, codes, Option, Result, Ok, Err, IfSome}
-use Rattle.id_check.specs.declared.Checked.{Checked}
+use Rattle.id_check.specs.declared.checked.Checked.{Checked}
 use Rattle.id_meaning.specs.declared.SourceValue.{SourceValue}
 use Rattle.id_meaning.specs.declared.SourceFault.{SourceFault}
 use Rattle.id_meaning.specs.declared.NameValue.{NameValue}

@@ -1,25 +1,24 @@
 -- The program of a text (docs/PROMISES.md, "The engine").
-use Rattle.std.specs.Prelude.{◌≡◌, ◌≤◌, ◌<◌, ℕ, List, Some, slice_get}
+use Rattle.std.specs.Prelude.{◌≡◌, ◌≤◌, ◌<◌, ℕ, List, Some, slice_get, option_map}
 use Rattle.id_text.specs.declared.token.Token.{Token}
 use Rattle.id_text.specs.declared.token.TextError.{TextError}
 use Rattle.id_text.specs.Lexes.{Lexes, IsRefusal}
 use Rattle.id_text.specs.Lexes.Ending.{Whole}
 use Rattle.id_tree.specs.declared.tree.TreeError.{TreeError}
-use Rattle.id_tree.specs.declared.tree.Param.{Param}
-use Rattle.id_tree.specs.declared.tree.Def.{Def}
 use Rattle.id_tree.specs.declared.tree.Program.{Program}
 use Rattle.id_tree.specs.Tree.{program_tree}
 use Rattle.id_tree.specs.Distinct.{HasPlace}
 use Rattle.id_tree.specs.Accepted.{Accepts, RefusedBy}
-use Rattle.id_check.specs.Main.{IsMain}
-use Rattle.id_check.specs.Causes.{IsRefusedFor}
-use Rattle.id_check.specs.declared.Checked.{Checked}
-use Rattle.id_check.specs.declared.CheckCause.{CheckCause}
+use Rattle.id_parts.specs.Rows.{rows_of}
+use Rattle.id_check.specs.Causes.{IsMain, IsRefusedFor}
+use Rattle.id_check.specs.Programs.{rows}
+use Rattle.id_check.specs.declared.checked.Checked.{Checked}
+use Rattle.id_check.specs.declared.cause.CheckCause.{CheckCause}
 use Rattle.id_meaning.specs.declared.SourceValue.{SourceValue}
-use Rattle.id_meaning.specs.Parts as part
-use Rattle.id_meaning.specs.Inputs.{AreInputsOf}
+use Rattle.id_meaning.specs.declared.inputs.Wanted.{Wanted}
+use Rattle.id_meaning.specs.Inputs.{AreInputsOf, wanted}
 use Rattle.id_graph.specs.Graph.{Parts}
-use Rattle.id_build.specs.Schemas.{size}
+use Rattle.id_build.specs.Rows.{size}
 use Rattle.id_engine.specs.declared.compiled.CompileError.{CompileError}
 use Rattle.id_engine.specs.declared.compiled.CompileError.TheVariants.{Text, Tree, Check, TooLarge, Memory}
 
@@ -28,7 +27,7 @@ pub record IsProgramOf (text : List ℕ) (P : Checked) : Type 0 where
   pub tokens : List Token
   pub lexes : Lexes 0 text tokens Whole
   pub accepts : Accepts tokens (program_tree P.program)
-  pub main : IsMain P.program P.main
+  pub main : IsMain (rows P) P.main
 
 -- the text has a program of which a graph can be built: one of at most 1,000,000 instructions
 pub record HasProgram (text : List ℕ) : Type 0 where
@@ -50,12 +49,8 @@ pub record CompiledView : Type 0 where
   pub graph : Parts
 
 -- the parameter of `main` of this number has this name
-pub record IsNameOfParam (P : Checked) (number : ℕ) (name : List ℕ) : Type 0 where
-  pub main : Def
-  pub is_main : part.IsMain P main
-  pub param : Param
-  pub at : slice_get main.params number ≡ Some param
-  pub is : name ≡ param.name
+abbrev pub IsNameOfParam : Checked → ℕ → List ℕ → Type 0
+IsNameOfParam P number name = option_map (λ (w : Wanted). w.name) (slice_get (wanted P) number) ≡ Some name
 
 -- the places of the program's things are at most so many bytes in
 pub record IsPlacedWithin (size : ℕ) (P : Checked) : Type 0 where
@@ -66,6 +61,6 @@ pub data IsRefusedBy (text : List ℕ) : CompileError → Type 0 where
   by_lexer : (e : TextError) → IsRefusal text e → IsRefusedBy text (Text e)
   by_parser : (ts : List Token) (e : TreeError) → Lexes 0 text ts Whole → RefusedBy ts e → IsRefusedBy text (Tree e)
   by_check : (ts : List Token) (p : Program) (c : CheckCause) →
-      Lexes 0 text ts Whole → Accepts ts (program_tree p) → IsRefusedFor p c → IsRefusedBy text (Check c)
+      Lexes 0 text ts Whole → Accepts ts (program_tree p) → IsRefusedFor (rows_of (program_tree p)) c → IsRefusedBy text (Check c)
   too_large : (P : Checked) → IsProgramOf text P → 1000000 < size P → IsRefusedBy text TooLarge
   by_memory : IsRefusedBy text Memory

@@ -2,19 +2,19 @@
 use Rattle.std.specs.Prelude.{◌≡◌, ◌<◌, ◌≤◌, ℕ, List, [], ◌++◌, codes, decimal, length, slice_get, Option, None, Some, IfSome, Result}
 use Rattle.id_text.specs.declared.token.TextError.{TextError}
 use Rattle.id_text.specs.declared.token.TextError.TheVariants as lexer
-use Rattle.id_tree.specs.declared.tree.Kind.{Kind}
-use Rattle.id_tree.specs.declared.tree.Kind.TheVariants.{Int, Bool, Array}
+use Rattle.id_value.specs.declared.Kind.{Kind}
+use Rattle.id_value.specs.declared.Kind.TheVariants.{Int, Bool, Array}
 use Rattle.id_tree.specs.declared.tree.TreeError.{TreeError}
 use Rattle.id_tree.specs.declared.tree.TreeError.TheVariants as parser
-use Rattle.id_check.specs.declared.Checked.{Checked}
-use Rattle.id_check.specs.declared.CheckCause.{CheckCause}
-use Rattle.id_check.specs.declared.CheckCause.TheVariants as checker
+use Rattle.id_check.specs.declared.checked.Checked.{Checked}
+use Rattle.id_check.specs.declared.cause.CheckCause.{CheckCause}
+use Rattle.id_check.specs.declared.cause.CheckCause.TheVariants as checker
 use Rattle.id_meaning.specs.declared.inputs.InputError.TheVariants as input
 use Rattle.id_meaning.specs.Sources.{source}
 use Rattle.id_meaning.specs.Inputs.{AreRefusedInputs}
 use Rattle.id_meaning.specs.declared.Fact.{Fact}
 use Rattle.id_meaning.specs.Computed.{AreFacts, HasMoreFacts}
-use Rattle.id_build.specs.Schemas.{size}
+use Rattle.id_build.specs.Rows.{size}
 use Rattle.id_print.specs.declared.sink.PrintError.{PrintError}
 use Rattle.id_print.specs.Told.{Told, Prints}
 use Rattle.id_print.specs.Texts.{place_text}
@@ -79,7 +79,7 @@ parser_refusal parser.Memory = plain Memory
 abbrev pub checker_refusal : CheckCause → Refusal
 checker_refusal checker.NoMain = plain NoMain
 checker_refusal (checker.MainKind at) = placed MainKind at
-checker_refusal (checker.Duplicate at) = placed Duplicate at
+checker_refusal (checker.Duplicate at first) = placed Duplicate at
 checker_refusal (checker.Unknown at) = placed Unknown at
 checker_refusal (checker.WrongKind at wanted found) = record { cause = WrongKind; detail = Kinds at wanted found }
 checker_refusal (checker.TooManyParams at) = placed TooManyParams at

@@ -1,13 +1,14 @@
 -- The report of a run of a text's program, and deliveries to a machine of one element.
 use Rattle.std.specs.Prelude.{◌≡◌, ◌≤◌, ◌<◌, ℕ, List, [], ◌∷◌, All, length, Option, None, Some, IfSome}
-use Rattle.id_check.specs.declared.Checked.{Checked}
+use Rattle.id_check.specs.declared.checked.Checked.{Checked}
 use Rattle.id_meaning.specs.declared.SourceValue.{SourceValue}
 use Rattle.id_meaning.specs.declared.SourceFault.{SourceFault}
 use Rattle.id_meaning.specs.Sources.{Source, AreInputs, source}
 use Rattle.id_meaning.specs.Inputs.{AreInputsOf}
 use Rattle.id_meaning.specs.Rounds.{Answers, IsAnswer, Faulty, FaultFree}
 use Rattle.id_meaning.specs.Names.{AreNames, AreSomeNames}
-use Rattle.id_build.specs.Schemas.{Schemas, size}
+use Rattle.id_build.specs.Schemas.{Schemas}
+use Rattle.id_build.specs.Rows.{size}
 use Rattle.id_graph.specs.Graph.{Parts}
 use Rattle.id_record.specs.declared.step.Step.{Step}
 use Rattle.id_core.specs.Events.{EventView}

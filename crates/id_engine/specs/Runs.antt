@@ -1,6 +1,6 @@
 -- Runs of the engine: which messages are delivered, and what is printed of them (docs/PROMISES.md, "The run").
 use Rattle.std.specs.Prelude.{◌≡◌, ◌≢◌, ◌≤◌, ◌⊎◌, ℕ, Bool, IsTrue, List, [], ◌∷◌, ◌++◌, All, length, slice_get, Option, Some, Ok}
-use Rattle.id_check.specs.declared.Checked.{Checked}
+use Rattle.id_check.specs.declared.checked.Checked.{Checked}
 use Rattle.id_graph.specs.Graph.{Parts}
 use Rattle.id_tag.specs.declared.Message.{Message}
 use Rattle.id_tag.specs.Routes.{route_of}

@@ -1,7 +1,8 @@
 //! From a text to its graph: tokens, tree, checks, schemas, validation.
 
-ghost use Rattle.std.specs.Prelude.{◌≡◌, ◌≤◌, length, IfErr, IfOk, OnOk};
-ghost use Rattle.id_build.specs.Schemas.{Schemas, size};
+ghost use Rattle.std.specs.Prelude.{◌≡◌, ◌<◌, ◌≤◌, length, IfErr, IfOk, OnOk};
+ghost use Rattle.id_build.specs.Rows.{size};
+ghost use Rattle.id_build.specs.Schemas.{Schemas};
 ghost use Rattle.id_valid.specs.Validator.{TellsFault};
 ghost use Rattle.id_engine.specs.Programs.{IsProgramOf, IsPlacedWithin, IsRefusedBy};
 ghost use Rattle.id_engine.specs.Reports.{IsRefusedGraph};
@@ -9,6 +10,7 @@ ghost use Rattle.id_engine.specs.Refusals.{IsCauseInside};
 
 use id_build::{BuildError, build};
 use id_check::{CheckCause, Checked, check};
+use id_desugar::regions;
 use id_graph::Graph;
 use id_text::{TextError, lex};
 use id_tree::{TreeError, parse};
@@ -119,13 +121,23 @@ fn valid_of(alloc: Global, checked: &Checked, graph: Graph) -> Result<Valid, Com
     }
 }
 
+/// A graph that the schemas give a checked program.
+fn schemas_graph(alloc: Global, checked: &Checked) -> Result<Graph, BuildError>
+    ensures schemas { IfOk result (Schemas checked.now) }
+    ensures small { OnOk result (size checked.now ≤ 1000000) }
+    ensures large { IfErr result (λ e. e ≡ BuildError.TooLarge → 1000000 < size checked.now) }
+{
+    let kernel = regions(alloc, checked)?;
+    build(alloc, &kernel)
+}
+
 /// The graph of a checked program.
 fn graph_of(alloc: Global, checked: &Checked) -> Result<Valid, CompileError>
     ensures graph { IfOk result (Schemas checked.now) }
     ensures small { OnOk result (size checked.now ≤ 1000000) }
     ensures refused { IfErr result (IsRefusedGraph checked.now) }
 {
-    match build(alloc, checked) {
+    match schemas_graph(alloc, checked) {
         Ok(graph) => valid_of(alloc, checked, graph),
         Err(BuildError::TooLarge) => Err(CompileError::TooLarge),
         Err(BuildError::Memory) => Err(CompileError::Memory),

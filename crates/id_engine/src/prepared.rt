@@ -1,34 +1,23 @@
 //! A text with its inputs.
 
-ghost use Rattle.std.specs.Prelude.{◌≢◌, ◌<◌, ◌≤◌, length, map, IfOk, IfErr, OnOk};
-ghost use Rattle.id_tree.specs.declared.tree.Def.{Def};
-ghost use Rattle.id_meaning.specs.Parts.{IsMain};
+ghost use Rattle.std.specs.Prelude.{◌≢◌, ◌≤◌, length, map, IfOk, IfErr, OnOk};
 ghost use Rattle.id_meaning.specs.Sources.{AreInputs};
 ghost use Rattle.id_meaning.specs.Inputs.{AreInputsOf};
-ghost use Rattle.id_build.specs.Schemas.{size};
-ghost use Rattle.id_engine.specs.Programs.{IsNameOfParam, IsPlacedWithin, IsProgramOf};
+ghost use Rattle.id_build.specs.Rows.{size};
+ghost use Rattle.id_engine.specs.Programs.{IsPlacedWithin, IsProgramOf};
 ghost use Rattle.id_engine.specs.Refusals.{AreRefusedFor, IsInsideOf, IsRefusedSource};
 
 use crate::compiled::{Compiled, compile};
 use crate::error::EngineError;
 use id_check::Checked;
-use id_meaning::{InputError, Inputs, read_inputs};
-use id_text::Identifier;
-use std::alloc::{AllocError, Global};
+use id_meaning::{InputError, Inputs, param_name, read_inputs};
+use std::alloc::Global;
 
 /// A program with its graph and the inputs of its `main`.
 #[derive(Drop)]
 pub struct Prepared {
     pub compiled: Compiled,
     pub inputs: Inputs,
-}
-
-/// The name of a parameter of `main`, again.
-fn param_name(alloc: Global, checked: &Checked, param: usize) -> Result<Identifier, AllocError>
-    requires { (d : Def) → IsMain checked.now d → param < length d.params }
-    ensures { IfOk result (IsNameOfParam checked.now param) }
-{
-    checked.main_def().params.as_slice()[param].name.copy(alloc)
 }
 
 /// The inputs that these words give a program.

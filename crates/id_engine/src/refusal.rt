@@ -12,7 +12,8 @@ use crate::source::SourceFault;
 use id_check::CheckCause;
 use id_print::{PrintError, Sink, put, put_number, put_place};
 use id_text::TextError;
-use id_tree::{Kind, TreeError};
+use id_tree::TreeError;
+use id_value::Kind;
 
 /// Why there is no answer. A text that is given with a cause is a shortest one, or a shortest body of `main`, that
 /// brings it.
@@ -226,7 +227,7 @@ fn of_check_cause<'a>(cause: CheckCause) -> Refusal<'a>
     match cause {
         CheckCause::NoMain => plain(Cause::NoMain),
         CheckCause::MainKind { at } => placed(Cause::MainKind, at),
-        CheckCause::Duplicate { at } => placed(Cause::Duplicate, at),
+        CheckCause::Duplicate { at, .. } => placed(Cause::Duplicate, at),
         CheckCause::Unknown { at } => placed(Cause::Unknown, at),
         CheckCause::WrongKind { at, wanted, found } => Refusal {
             cause: Cause::WrongKind,

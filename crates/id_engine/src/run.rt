@@ -7,7 +7,7 @@ ghost use Rattle.id_meaning.specs.Sources.{AreInputs, source};
 ghost use Rattle.id_print.specs.Within.{ReportWithin};
 ghost use Rattle.id_engine.specs.Commands.{Run, ShowsAll, ShowsFront};
 ghost use Rattle.id_engine.specs.Refusals.{IsInsideOf, IsRefusedRun, IsTakenRun};
-ghost use Rattle.id_engine.specs.Reports.{Delivers, HasRun, IsFreshMachine, IsReportOf, IsReportOfRun, IsTrueOf, status_of};
+ghost use Rattle.id_engine.specs.Reports.{Delivers, IsAtRest, HasRun, IsFreshMachine, IsReportOf, IsReportOfRun, IsTrueOf, status_of};
 ghost use Rattle.id_engine.specs.Runs.{Ran};
 
 use crate::error::EngineError;
@@ -54,10 +54,12 @@ fn goes_on(step: Step) -> bool
 }
 
 /// Delivers the first message in flight that can be delivered, and says what the event came to; or
-/// nothing, if no stamp is left for any of them.
+/// nothing, if no stamp is left for any of them: that is no want of memory.
 fn deliver_first(machine: &mut Machine<'_>) -> Result<Option<Step>, EngineError>
     ensures delivers { IfOk result (Delivers machine.old machine.new) }
     ensures memory { IfErr result (λ e. e ≡ EngineError.Memory) }
+    ensures stamps_left { IfErr result (λ e. ¬ IsAtRest machine.old) }
+    ensures same { IfErr result (λ e. machine.new ≡ machine.old) }
 {
     let count = machine.in_flight().len();
     for position in 0..count {
@@ -76,6 +78,7 @@ fn run_machine(machine: &mut Machine<'_>, steps: u64) -> Result<(), EngineError>
     requires { IsFreshMachine machine.old }
     ensures run { OnOk result (HasRun machine.old machine.new steps) }
     ensures memory { IfErr result (λ e. e ≡ EngineError.Memory) }
+    ensures stamps_left { IfErr result (λ e. ¬ IsAtRest machine.new) }
 {
     id_laws::never_stuck();
     for handled in 0..steps {

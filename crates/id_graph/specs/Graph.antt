@@ -1,12 +1,12 @@
 -- Graphs (docs/GRAPH.md, "Operators").
-use Rattle.std.specs.Prelude.{take, ℕ, ◌<◌, ◌^◌, Option, List, length, IsSome, IsSomeAnd, All, slice_get, option_and_then}
+use Rattle.std.specs.Prelude.{take, ℕ, ◌<◌, ◌^◌, Bool, true, false, if◌then◌else◌, Option, List, [], ◌++◌, length, IsSome, IsSomeAnd, All, slice_get, option_and_then}
 use Rattle.id_graph.specs.declared.instr.Block.{Block}
 use Rattle.id_graph.specs.declared.instr.Instr.{Instr}
 use Rattle.id_graph.specs.declared.instr.PortKind.{PortKind}
 use Rattle.id_graph.specs.declared.dests.Dest.{Dest}
 use Rattle.id_graph.specs.declared.graph.GraphCause.{GraphCause}
 use Rattle.id_graph.specs.declared.graph.GraphCause.TheVariants.{BadArc}
-use Rattle.id_graph.specs.Ports.{port_kind}
+use Rattle.id_graph.specs.Ports.{port_kind, two_sides}
 
 -- a graph: its blocks, and its instructions by number
 pub record Parts : Type 0 where
@@ -17,9 +17,18 @@ pub record Parts : Type 0 where
 abbrev pub parts : List Block → List Instr → Parts
 parts blocks instrs = record { blocks = blocks; instrs = instrs }
 
--- the destinations of an instruction that count: no operator yet has a false side
+-- the destinations of an instruction on a side: the first list is the true side's, the second the false side's
+abbrev pub arcs_on : Bool → Instr → List Dest
+arcs_on true i = i.dests
+arcs_on false i = i.others
+
+-- the second list, as far as it counts: it is ignored unless the operator has two sides
+abbrev pub false_arcs : Instr → List Dest
+false_arcs i = if two_sides i.op then arcs_on false i else []
+
+-- the destinations of an instruction that count
 abbrev pub arcs : Instr → List Dest
-arcs i = i.dests
+arcs i = arcs_on true i ++ false_arcs i
 
 -- the kind of what the port at a destination takes, if there is such a port
 abbrev pub kind_at : List Instr → Dest → Option PortKind

@@ -1,23 +1,30 @@
 -- The listing of a graph (docs/GRAPH.md, "Listing").
-use Rattle.std.specs.Prelude.{ℕ, ◌+◌, ◌*◌, true, false, List, [], ◌∷◌, ◌++◌, nat_le, cond, codes}
+use Rattle.std.specs.Prelude.{ℕ, ◌+◌, ◌*◌, true, false, if◌then◌else◌, List, [], ◌∷◌, ◌++◌, nat_le, cond, codes}
 use Rattle.std.specs.List.{flat_map}
 use Rattle.std.specs.Fmt.{decimal, signed_decimal}
 use Rattle.id_text.specs.Places.{line_of, column_of}
 use Rattle.id_graph.specs.declared.instr.Instr.{Instr}
 use Rattle.id_graph.specs.declared.instr.Op.{Op}
-use Rattle.id_graph.specs.declared.instr.Op.TheVariants.{Const, Unary, Binary, Merge, Back}
-use Rattle.id_graph.specs.declared.instr.Constant.{Constant}
-use Rattle.id_graph.specs.declared.instr.Constant.TheVariants.{Int as IntConstant, Bool as BoolConstant}
-use Rattle.id_graph.specs.declared.instr.Monadic.{Monadic}
-use Rattle.id_graph.specs.declared.instr.Monadic.TheVariants.{Neg, Not}
+use Rattle.id_graph.specs.declared.instr.Op.TheVariants.{Const, Unary, Binary, Merge, Switch, Back}
 use Rattle.id_graph.specs.declared.instr.Dyadic.{Dyadic}
-use Rattle.id_graph.specs.declared.instr.Dyadic.TheVariants.{Add, Sub, Mul, Div, Rem, Lt, Le, Gt, Ge, Eq, Ne, Eqb, Neb, And, Or}
+use Rattle.id_graph.specs.declared.instr.Dyadic.TheVariants as class
 use Rattle.id_graph.specs.declared.instr.PortKind.{PortKind}
 use Rattle.id_graph.specs.declared.instr.PortKind.TheVariants.{Signal, Int, Bool as BoolKind, Structure, Address, Context, Continuation}
 use Rattle.id_graph.specs.declared.dests.Dest.{Dest}
 use Rattle.id_graph.specs.declared.dests.Port.{Port}
 use Rattle.id_graph.specs.declared.dests.Port.TheVariants.{Zero, One}
-use Rattle.id_graph.specs.Graph.{Parts, arcs}
+use Rattle.id_graph.specs.Graph.{Parts, arcs_on}
+use Rattle.id_graph.specs.Ports.{two_sides}
+use Rattle.id_value.specs.declared.Constant.{Constant}
+use Rattle.id_value.specs.declared.Constant.TheVariants.{Int as IntConstant, Bool as BoolConstant}
+use Rattle.id_value.specs.declared.UnaryOp.{UnaryOp}
+use Rattle.id_value.specs.declared.UnaryOp.TheVariants.{Neg, Not}
+use Rattle.id_value.specs.declared.Arithmetic.{Arithmetic}
+use Rattle.id_value.specs.declared.Arithmetic.TheVariants.{Add, Sub, Mul, Div, Rem}
+use Rattle.id_value.specs.declared.Comparison.{Comparison}
+use Rattle.id_value.specs.declared.Comparison.TheVariants.{Lt, Le, Gt, Ge, Eq, Ne}
+use Rattle.id_value.specs.declared.Truth.{Truth}
+use Rattle.id_value.specs.declared.Truth.TheVariants.{Eqb, Neb, And, Or}
 
 -- the name of a kind
 abbrev pub kind_name : PortKind → List ℕ
@@ -36,34 +43,47 @@ constant_text (BoolConstant true) = codes "true"
 constant_text (BoolConstant false) = codes "false"
 
 -- the name of an operator on one value
-abbrev pub monadic_name : Monadic → List ℕ
-monadic_name Neg = codes "neg"
-monadic_name Not = codes "not"
+abbrev pub unary_name : UnaryOp → List ℕ
+unary_name Neg = codes "neg"
+unary_name Not = codes "not"
+
+-- the name of an operator from two numbers to a number
+abbrev pub arithmetic_name : Arithmetic → List ℕ
+arithmetic_name Add = codes "add"
+arithmetic_name Sub = codes "sub"
+arithmetic_name Mul = codes "mul"
+arithmetic_name Div = codes "div"
+arithmetic_name Rem = codes "rem"
+
+-- the name of a comparison of two numbers
+abbrev pub comparison_name : Comparison → List ℕ
+comparison_name Lt = codes "lt"
+comparison_name Le = codes "le"
+comparison_name Gt = codes "gt"
+comparison_name Ge = codes "ge"
+comparison_name Eq = codes "eq"
+comparison_name Ne = codes "ne"
+
+-- the name of an operator on two truth values
+abbrev pub truth_name : Truth → List ℕ
+truth_name Eqb = codes "eqb"
+truth_name Neb = codes "neb"
+truth_name And = codes "and"
+truth_name Or = codes "or"
 
 -- the name of an operator on two values
 abbrev pub dyadic_name : Dyadic → List ℕ
-dyadic_name Add = codes "add"
-dyadic_name Sub = codes "sub"
-dyadic_name Mul = codes "mul"
-dyadic_name Div = codes "div"
-dyadic_name Rem = codes "rem"
-dyadic_name Lt = codes "lt"
-dyadic_name Le = codes "le"
-dyadic_name Gt = codes "gt"
-dyadic_name Ge = codes "ge"
-dyadic_name Eq = codes "eq"
-dyadic_name Ne = codes "ne"
-dyadic_name Eqb = codes "eqb"
-dyadic_name Neb = codes "neb"
-dyadic_name And = codes "and"
-dyadic_name Or = codes "or"
+dyadic_name (class.Arithmetic o) = arithmetic_name o
+dyadic_name (class.Comparison o) = comparison_name o
+dyadic_name (class.Truth o) = truth_name o
 
 -- an operator with its parameters
 abbrev pub op_text : Op → List ℕ
 op_text (Const v) = codes "const " ++ constant_text v
-op_text (Unary f) = monadic_name f
+op_text (Unary f) = unary_name f
 op_text (Binary f) = dyadic_name f
 op_text (Merge k) = codes "merge " ++ kind_name k
+op_text (Switch k) = codes "switch " ++ kind_name k
 op_text (Back k) = codes "back " ++ kind_name k
 
 -- the number of a port
@@ -97,9 +117,17 @@ place_text text at = codes " @" ++ decimal (line_of text at) ++ codes ":" ++ dec
 abbrev pub head_text : List ℕ → ℕ → Instr → List ℕ
 head_text text n i = decimal n ++ codes " " ++ op_text i.op ++ place_text text i.place
 
--- the line of an instruction: its head, an arrow, its destinations in order, and LF
+-- destinations in order, each after a space
+abbrev pub dests_text : List Dest → List ℕ
+dests_text ds = flat_map dest_text (in_order ds)
+
+-- the destinations on the false side after a space and `|`, where the operator has two sides
+abbrev pub false_text : Instr → List ℕ
+false_text i = if two_sides i.op then codes " |" ++ dests_text (arcs_on false i) else []
+
+-- the line of an instruction: its head, an arrow, its destinations, those on the false side, and LF
 abbrev pub line_text : List ℕ → ℕ → Instr → List ℕ
-line_text text n i = head_text text n i ++ codes " ->" ++ flat_map dest_text (in_order (arcs i)) ++ codes "\n"
+line_text text n i = head_text text n i ++ codes " ->" ++ dests_text (arcs_on true i) ++ false_text i ++ codes "\n"
 
 -- the lines of instructions whose numbers begin at n
 abbrev pub lines_text : List ℕ → ℕ → List Instr → List ℕ

@@ -15,14 +15,14 @@ pub enum Port {
 }
 
 /// Where a value is sent: an instruction, by its number, and a port of it.
-#[derive(Clone, Copy, Debug, Default, PartialEq, Eq, PartialOrd, Ord)]
+#[derive(Clone, Copy, Default, PartialEq, Eq, PartialOrd, Ord)]
 pub struct Dest {
     pub instr: u32,
     pub port: Port,
 }
 
 /// A list of destinations, of which the first two take no memory of their own.
-#[derive(Debug, Drop)]
+#[derive(Drop)]
 pub struct Dests {
     list: SmallVec<Dest, 2>,
 }

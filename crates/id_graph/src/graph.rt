@@ -1,11 +1,12 @@
 //! The graph, whose destinations are ports that exist (docs/GRAPH.md, "Operators").
 
 ghost use Rattle.std.specs.Prelude.{◌≡◌, ◌<◌, ◌^◌, ◌↔◌, length, vec_len, IfOk, IfErr, IsOk, IsTrue, All, MatchOption};
-ghost use Rattle.id_graph.specs.Graph.{parts, kind_at, ArcsExist, IsFirstBad, IsGraph, PortsExist, TellsBadArc};
+ghost use Rattle.id_graph.specs.Graph.{parts, kind_at, ArcsExist, IsFirstBad, IsGraph, IsPort, PortsExist, TellsBadArc};
 
 use crate::dests::Dest;
 use crate::instr::{Block, Instr, PortKind};
-use id_text::Sequence;
+use id_list::Sequence;
+use std::fmt;
 use std::marker::Model;
 use thiserror::Error;
 
@@ -18,12 +19,19 @@ pub enum GraphCause {
 }
 
 /// Blocks and instructions that are no graph, as they were passed, and why.
-#[derive(Debug, Drop, Error)]
+#[derive(Drop, Error)]
 #[error("{cause}")]
 pub struct GraphError {
     pub blocks: Vec<Block>,
     pub instrs: Vec<Instr>,
     pub cause: GraphCause,
+}
+
+// The cause tells all that a reader wants; the lists are long.
+impl fmt::Debug for GraphError {
+    fn fmt<W: fmt::Write>(&self, f: &mut fmt::Formatter<W>) -> fmt::Result {
+        fmt::Debug::fmt(&self.cause, f)
+    }
 }
 
 /// The kind of what the port at a destination takes, if there is such a port. Takes no memory.
@@ -35,7 +43,7 @@ pub fn kind_at(instrs: &[Instr], dest: Dest) -> Option<PortKind>
 }
 
 /// A graph: its blocks, and its instructions, whose numbers are their places in the list.
-#[derive(Debug, Drop)]
+#[derive(Drop)]
 pub struct Graph {
     blocks: Sequence<Block>,
     instrs: Sequence<Instr>,
@@ -110,9 +118,12 @@ fn first_bad_arc(instrs: &[Instr]) -> Option<u32>
 fn arcs_exist(instrs: &[Instr], instr: &Instr) -> bool
     ensures { IsTrue result ↔ ArcsExist instrs.now instr.now }
 {
-    instr
-        .dests
-        .as_slice()
-        .iter()
-        .all(|dest| kind_at(instrs, *dest).is_some())
+    are_ports(instrs, instr.dests.as_slice()) && are_ports(instrs, instr.false_arcs())
+}
+
+/// Whether each of the destinations is a port that exists.
+fn are_ports(instrs: &[Instr], dests: &[Dest]) -> bool
+    ensures { IsTrue result ↔ All (IsPort instrs.now) dests.now }
+{
+    dests.iter().all(|dest| kind_at(instrs, *dest).is_some())
 }

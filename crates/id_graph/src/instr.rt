@@ -1,10 +1,12 @@
 //! Instructions and blocks (docs/GRAPH.md, "Operators").
 
 ghost use Rattle.std.specs.Prelude.{◌≡◌};
-ghost use Rattle.id_graph.specs.Ports.{constant_kind, monadic_kind, operand_kind, outcome_kind, port_kind, sends, two_ports};
+ghost use Rattle.id_graph.specs.Ports.{constant_kind, operand_kind, outcome_kind, port_kind, sends, two_ports, two_sides, unary_kind};
+ghost use Rattle.id_graph.specs.Graph.{false_arcs};
 
-use crate::dests::{Dests, Port};
-use id_text::Sequence;
+use crate::dests::{Dest, Dests, Port};
+use id_list::Sequence;
+use id_value::{Arithmetic, Comparison, Constant, Truth, UnaryOp};
 
 /// The kind of what a port takes. Of some of them no value exists yet.
 #[derive(Clone, Copy, Debug, PartialEq, Eq)]
@@ -18,64 +20,15 @@ pub enum PortKind {
     Continuation,
 }
 
-/// What a `const` sends.
-#[derive(Clone, Copy, Debug, PartialEq, Eq)]
-pub enum Constant {
-    Int(i64),
-    Bool(bool),
-}
-
-impl Constant {
-    /// The kind of this constant. Takes no memory.
-    pub fn kind(self) -> PortKind
-        ensures { result ≡ constant_kind self }
-    {
-        match self {
-            Constant::Int(_) => PortKind::Int,
-            Constant::Bool(_) => PortKind::Bool,
-        }
-    }
-}
-
-/// An operator on one value.
-#[derive(Clone, Copy, Debug, PartialEq, Eq)]
-pub enum Monadic {
-    /// Unary minus.
-    Neg,
-    /// The other truth value.
-    Not,
-}
-
-impl Monadic {
-    /// The kind of its operand and its result. Takes no memory.
-    pub fn kind(self) -> PortKind
-        ensures { result ≡ monadic_kind self }
-    {
-        match self {
-            Monadic::Neg => PortKind::Int,
-            Monadic::Not => PortKind::Bool,
-        }
-    }
-}
-
-/// An operator on two values: on whole numbers as far as `Ne`, and on truth values from `Eqb` on.
-#[derive(Clone, Copy, Debug, PartialEq, Eq)]
+/// An operator on two values, by class.
+#[derive(Clone, Copy, PartialEq, Eq)]
 pub enum Dyadic {
-    Add,
-    Sub,
-    Mul,
-    Div,
-    Rem,
-    Lt,
-    Le,
-    Gt,
-    Ge,
-    Eq,
-    Ne,
-    Eqb,
-    Neb,
-    And,
-    Or,
+    /// From two numbers to a number.
+    Arithmetic(Arithmetic),
+    /// From two numbers to a truth value.
+    Comparison(Comparison),
+    /// From two truth values to one.
+    Truth(Truth),
 }
 
 impl Dyadic {
@@ -84,10 +37,8 @@ impl Dyadic {
         ensures { result ≡ operand_kind self }
     {
         match self {
-            Dyadic::Add | Dyadic::Sub | Dyadic::Mul | Dyadic::Div | Dyadic::Rem => PortKind::Int,
-            Dyadic::Lt | Dyadic::Le | Dyadic::Gt | Dyadic::Ge => PortKind::Int,
-            Dyadic::Eq | Dyadic::Ne => PortKind::Int,
-            Dyadic::Eqb | Dyadic::Neb | Dyadic::And | Dyadic::Or => PortKind::Bool,
+            Dyadic::Arithmetic(_) | Dyadic::Comparison(_) => PortKind::Int,
+            Dyadic::Truth(_) => PortKind::Bool,
         }
     }
 
@@ -96,25 +47,26 @@ impl Dyadic {
         ensures { result ≡ outcome_kind self }
     {
         match self {
-            Dyadic::Add | Dyadic::Sub | Dyadic::Mul | Dyadic::Div | Dyadic::Rem => PortKind::Int,
-            Dyadic::Lt | Dyadic::Le | Dyadic::Gt | Dyadic::Ge => PortKind::Bool,
-            Dyadic::Eq | Dyadic::Ne => PortKind::Bool,
-            Dyadic::Eqb | Dyadic::Neb | Dyadic::And | Dyadic::Or => PortKind::Bool,
+            Dyadic::Arithmetic(_) => PortKind::Int,
+            Dyadic::Comparison(_) | Dyadic::Truth(_) => PortKind::Bool,
         }
     }
 }
 
 /// What an instruction does.
-#[derive(Clone, Copy, Debug, PartialEq, Eq)]
+#[derive(Clone, Copy, PartialEq, Eq)]
 pub enum Op {
     /// Sends its constant when a signal comes.
     Const(Constant),
     /// An operator on one value.
-    Unary(Monadic),
+    Unary(UnaryOp),
     /// An operator on two values.
     Binary(Dyadic),
     /// Sends on whatever comes, of one kind.
     Merge(PortKind),
+    /// Sends a value of one kind to its first list of destinations where a truth value is true, and
+    /// to its second list where it is false.
+    Switch(PortKind),
     /// Sends a value of one kind to the continuation that came with it.
     Back(PortKind),
 }
@@ -133,9 +85,11 @@ impl Op {
     {
         match (self, port) {
             (Op::Const(_), Port::Zero) => Some(PortKind::Signal),
-            (Op::Unary(operator), Port::Zero) => Some(operator.kind()),
+            (Op::Unary(operator), Port::Zero) => Some(unary_kind(operator)),
             (Op::Binary(operator), _) => Some(operator.operand_kind()),
-            (Op::Merge(kind), Port::Zero) | (Op::Back(kind), Port::One) => Some(kind),
+            (Op::Merge(kind), Port::Zero) => Some(kind),
+            (Op::Switch(_), Port::Zero) => Some(PortKind::Bool),
+            (Op::Switch(kind) | Op::Back(kind), Port::One) => Some(kind),
             (Op::Back(_), Port::Zero) => Some(PortKind::Continuation),
             (Op::Const(_) | Op::Unary(_) | Op::Merge(_), Port::One) => None,
         }
@@ -147,18 +101,46 @@ impl Op {
         ensures { result ≡ sends self }
     {
         match self {
-            Op::Const(constant) => Some(constant.kind()),
-            Op::Unary(operator) => Some(operator.kind()),
+            Op::Const(constant) => Some(constant_kind(constant)),
+            Op::Unary(operator) => Some(unary_kind(operator)),
             Op::Binary(operator) => Some(operator.outcome_kind()),
-            Op::Merge(kind) => Some(kind),
+            Op::Merge(kind) | Op::Switch(kind) => Some(kind),
             Op::Back(_) => None,
         }
+    }
+
+    /// Whether the operator has two sides, each with its destinations: a switch alone has. Takes no
+    /// memory.
+    pub fn two_sides(self) -> bool
+        ensures { result ≡ two_sides self }
+    {
+        matches!(self, Op::Switch(_))
+    }
+}
+
+/// The kind of a constant.
+fn constant_kind(constant: Constant) -> PortKind
+    ensures { result ≡ constant_kind constant }
+{
+    match constant {
+        Constant::Int(_) => PortKind::Int,
+        Constant::Bool(_) => PortKind::Bool,
+    }
+}
+
+/// The kind of the operand and of the result of an operator on one value.
+fn unary_kind(operator: UnaryOp) -> PortKind
+    ensures { result ≡ unary_kind operator }
+{
+    match operator {
+        UnaryOp::Neg => PortKind::Int,
+        UnaryOp::Not => PortKind::Bool,
     }
 }
 
 /// An instruction: what it does, where its results go, and the place in the text that it came from.
-/// `others` is the false list of a switch, and is ignored elsewhere.
-#[derive(Debug, Drop)]
+/// `others` is the false side of a switch, and is ignored elsewhere.
+#[derive(Drop)]
 pub struct Instr {
     pub op: Op,
     pub dests: Dests,
@@ -166,8 +148,21 @@ pub struct Instr {
     pub place: usize,
 }
 
+impl Instr {
+    /// The second list of destinations, as far as it counts: of a switch. Takes no memory.
+    pub fn false_arcs(&self) -> &[Dest]
+        ensures { result.now ≡ false_arcs self.now }
+    {
+        if self.op.two_sides() {
+            self.others.as_slice()
+        } else {
+            &[]
+        }
+    }
+}
+
 /// A block: the number of its first instruction, and those of its entries.
-#[derive(Debug, Drop)]
+#[derive(Drop)]
 pub struct Block {
     pub first: u32,
     pub entries: Sequence<u32>,

@@ -3,7 +3,7 @@
 //! Keeps: every destination is a port that exists, and there are fewer than 2^32 instructions.
 //! Errors: `GraphError`, the refusal 27, with both lists handed back.
 //! Read first: `specs/Ports.antt`, `specs/Graph.antt`, then `Graph`.
-//! Not here: how a program becomes a graph (`id_build`), which graphs are sound (`id_valid`).
+//! Not here: what operators give (`id_value`), how a program becomes a graph (`id_build`), which graphs are sound (`id_valid`).
 #![tactic(auto)]
 
 mod dests;
@@ -13,8 +13,6 @@ mod listing;
 
 pub use dests::{Dest, Dests, Port};
 pub use graph::{Graph, GraphCause, GraphError, kind_at};
-pub use instr::{Block, Constant, Dyadic, Instr, Monadic, Op, PortKind};
+pub use id_value::{Arithmetic, Comparison, Constant, Truth, UnaryOp};
+pub use instr::{Block, Dyadic, Instr, Op, PortKind};
 pub use listing::list;
-
-#[cfg(test)]
-mod tests;

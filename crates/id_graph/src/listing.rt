@@ -2,12 +2,13 @@
 
 ghost use Rattle.std.specs.Prelude.{◌≡◌, ◌≤◌, ◌++◌, length, All, IfOk, OnOk, codes, string_bytes};
 ghost use Rattle.std.specs.List.{flat_map};
-ghost use Rattle.id_graph.specs.Listing.{constant_text, dest_text, dyadic_name, head_text, in_order, kind_name, line_text, listing, monadic_name, op_text, place_text, port_number};
+ghost use Rattle.id_graph.specs.Listing.{arithmetic_name, comparison_name, constant_text, dest_text, dests_text, dyadic_name, false_text, head_text, in_order, kind_name, line_text, listing, op_text, place_text, port_number, truth_name, unary_name};
 
 use crate::dests::{Dest, Port};
 use crate::graph::Graph;
-use crate::instr::{Constant, Dyadic, Instr, Monadic, Op, PortKind};
+use crate::instr::{Dyadic, Instr, Op, PortKind};
 use id_text::{Lines, MAX_BYTES};
+use id_value::{Arithmetic, Comparison, Constant, Truth, UnaryOp};
 use std::alloc::{AllocError, Global};
 
 /// The listing of a graph of this text: a line for each instruction, in order, each ending in LF.
@@ -39,9 +40,21 @@ fn write_line(
 {
     write_head(out, lines, number, instr)?;
     out.push_str(" ->")?;
-    put_in_order(row, instr.dests.as_slice())?;
-    write_dests(out, row)?;
+    write_sorted(out, row, instr.dests.as_slice())?;
+    write_false(out, row, instr)?;
     out.push_str("\n")?;
+    Ok(())
+}
+
+/// Appends the destinations on the false side after a space and `|`, where there are two sides.
+fn write_false(out: &mut String, row: &mut Vec<Dest>, instr: &Instr) -> Result<(), AllocError>
+    ensures { OnOk result
+        (string_bytes out.new ≡ string_bytes out.old ++ false_text instr.now) }
+{
+    if instr.op.two_sides() {
+        out.push_str(" |")?;
+        write_sorted(out, row, instr.others.as_slice())?;
+    }
     Ok(())
 }
 
@@ -78,9 +91,10 @@ fn write_op(out: &mut String, op: Op) -> Result<(), AllocError>
 {
     match op {
         Op::Const(constant) => write_const(out, constant),
-        Op::Unary(operator) => write!(out, "{}", monadic_name(operator)),
+        Op::Unary(operator) => write!(out, "{}", unary_name(operator)),
         Op::Binary(operator) => write!(out, "{}", dyadic_name(operator)),
         Op::Merge(kind) => write!(out, "merge {}", kind_name(kind)),
+        Op::Switch(kind) => write!(out, "switch {}", kind_name(kind)),
         Op::Back(kind) => write!(out, "back {}", kind_name(kind)),
     }
 }
@@ -98,12 +112,12 @@ fn write_const(out: &mut String, constant: Constant) -> Result<(), AllocError>
 }
 
 /// The name of an operator on one value.
-fn monadic_name(operator: Monadic) -> &'static str
-    ensures { result.now ≡ monadic_name operator }
+fn unary_name(operator: UnaryOp) -> &'static str
+    ensures { result.now ≡ unary_name operator }
 {
     match operator {
-        Monadic::Neg => "neg",
-        Monadic::Not => "not",
+        UnaryOp::Neg => "neg",
+        UnaryOp::Not => "not",
     }
 }
 
@@ -112,21 +126,45 @@ fn dyadic_name(operator: Dyadic) -> &'static str
     ensures { result.now ≡ dyadic_name operator }
 {
     match operator {
-        Dyadic::Add => "add",
-        Dyadic::Sub => "sub",
-        Dyadic::Mul => "mul",
-        Dyadic::Div => "div",
-        Dyadic::Rem => "rem",
-        Dyadic::Lt => "lt",
-        Dyadic::Le => "le",
-        Dyadic::Gt => "gt",
-        Dyadic::Ge => "ge",
-        Dyadic::Eq => "eq",
-        Dyadic::Ne => "ne",
-        Dyadic::Eqb => "eqb",
-        Dyadic::Neb => "neb",
-        Dyadic::And => "and",
-        Dyadic::Or => "or",
+        Dyadic::Arithmetic(operator) => arithmetic_name(operator),
+        Dyadic::Comparison(operator) => comparison_name(operator),
+        Dyadic::Truth(operator) => truth_name(operator),
+    }
+}
+
+fn arithmetic_name(operator: Arithmetic) -> &'static str
+    ensures { result.now ≡ arithmetic_name operator }
+{
+    match operator {
+        Arithmetic::Add => "add",
+        Arithmetic::Sub => "sub",
+        Arithmetic::Mul => "mul",
+        Arithmetic::Div => "div",
+        Arithmetic::Rem => "rem",
+    }
+}
+
+fn comparison_name(operator: Comparison) -> &'static str
+    ensures { result.now ≡ comparison_name operator }
+{
+    match operator {
+        Comparison::Lt => "lt",
+        Comparison::Le => "le",
+        Comparison::Gt => "gt",
+        Comparison::Ge => "ge",
+        Comparison::Eq => "eq",
+        Comparison::Ne => "ne",
+    }
+}
+
+fn truth_name(operator: Truth) -> &'static str
+    ensures { result.now ≡ truth_name operator }
+{
+    match operator {
+        Truth::Eqb => "eqb",
+        Truth::Neb => "neb",
+        Truth::And => "and",
+        Truth::Or => "or",
     }
 }
 
@@ -143,6 +181,15 @@ fn kind_name(kind: PortKind) -> &'static str
         PortKind::Context => "context",
         PortKind::Continuation => "continuation",
     }
+}
+
+/// Appends destinations in order, each after a space.
+fn write_sorted(out: &mut String, row: &mut Vec<Dest>, dests: &[Dest]) -> Result<(), AllocError>
+    ensures { OnOk result
+        (string_bytes out.new ≡ string_bytes out.old ++ dests_text dests.now) }
+{
+    put_in_order(row, dests)?;
+    write_dests(out, row)
 }
 
 /// Makes the list of these destinations in order.

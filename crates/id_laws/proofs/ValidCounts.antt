@@ -3,14 +3,8 @@ use Rattle.std.proofs.Common.{◌≡◌, ℕ, zero, suc, ◌≤◌, Bool, true, 
 use Rattle.std.specs.List.{list_any, sum_by, count_by, All}
 use Rattle.std.proofs.lemmas.List.Sums.{sum_by-cons}
 use Rattle.std.proofs.lemmas.Option.{slice_get-get_or}
-use Rattle.id_meaning.specs.Parts.{Among, AllDiffer}
-use Rattle.id_laws.proofs.Lists.{among_at}
-
--- what is among a list has a place in it
-at_among : {X : Type 0} (x : X) (xs : List X) → Among x xs → (n : ℕ) × (slice_get xs n ≡ Some x)
-at_among x [] h = absurd h
-at_among x (y ∷ xs) (inl e) = (0, ap (λ z. Some z) (sym e))
-at_among x (y ∷ xs) (inr h) = let t = at_among x xs h in (suc t.0, t.1)
+use Rattle.id_list.specs.List.{Among, AllDiffer}
+use Rattle.id_list.proofs.AmongLemmas.{Among-from_at, at-from_Among}
 
 or_later : (a : Bool) {b : Bool} → b ≡ true → (a || b) ≡ true
 or_later true e = refl
@@ -26,13 +20,14 @@ pub among_any : {X : Type 0} (p : X → Bool) (xs : List X) → list_any p xs �
 among_any p [] e = cc
 among_any {X} p (y ∷ xs) e = go (p y) refl e (among_any p xs)
   where
-    go : (b : Bool) → p y ≡ b → (b || list_any p xs) ≡ true → (list_any p xs ≡ true → (x : X) × Among x xs × (p x ≡ true)) → (x : X) × Among x (y ∷ xs) × (p x ≡ true)
+    go : (b : Bool) → p y ≡ b → (b || list_any p xs) ≡ true → (list_any p xs ≡ true → (x : X) × Among x xs × (p x ≡ true))
+        → (x : X) × Among x (y ∷ xs) × (p x ≡ true)
     go true f e rest = (y, inl refl, f)
     go false f e rest = let t = rest e in (t.0, inr t.1, t.2)
 
 -- what holds of all that is in a list
 pub all_among : {X : Type 0} (P : X → Type 0) (xs : List X) → ((x : X) → Among x xs → P x) → All P xs
-all_among P xs h = λ k d within. h _ (among_at _ xs k (slice_get-get_or xs k d within))
+all_among P xs h = λ k d within. h _ (Among-from_at _ xs k (slice_get-get_or xs k d within))
 
 -- a sum is not less than any of its terms
 pub sum_at : {X : Type 0} (f : X → ℕ) (xs : List X) (n : ℕ) (x : X) → slice_get xs n ≡ Some x → f x ≤ sum_by f xs
@@ -79,8 +74,8 @@ sum_once f (x ∷ xs) few apart =
 differ_at : {X : Type 0} (xs : List X) (n m : ℕ) (x : X) → AllDiffer xs → slice_get xs n ≡ Some x → slice_get xs m ≡ Some x → n ≡ m
 differ_at [] n m x d a b = cc
 differ_at (y ∷ xs) zero zero x d a b = refl
-differ_at (y ∷ xs) zero (suc m) x d a b = let is : x ≡ y = cc in absurd (d.0 (subst (λ z. Among z xs) is (among_at x xs m b)))
-differ_at (y ∷ xs) (suc n) zero x d a b = let is : x ≡ y = cc in absurd (d.0 (subst (λ z. Among z xs) is (among_at x xs n a)))
+differ_at (y ∷ xs) zero (suc m) x d a b = let is : x ≡ y = cc in absurd (d.0 (subst (λ z. Among z xs) is (Among-from_at x xs m b)))
+differ_at (y ∷ xs) (suc n) zero x d a b = let is : x ≡ y = cc in absurd (d.0 (subst (λ z. Among z xs) is (Among-from_at x xs n a)))
 differ_at (y ∷ xs) (suc n) (suc m) x d a b = ap suc (differ_at xs n m x d.1 a b)
 
 counted : (b : Bool) → 1 ≤ cond b 1 0 → b ≡ true
@@ -94,14 +89,14 @@ small false = omega arith
 -- what passes is counted
 pub count_among : {X : Type 0} (p : X → Bool) (x : X) (xs : List X) → Among x xs → p x ≡ true → 1 ≤ count_by p xs
 count_among p x xs h e =
-    let k = at_among x xs h in
+    let k = at-from_Among x xs h in
     subst (λ (b : Bool). cond b 1 0 ≤ count_by p xs) e (sum_at (λ y. cond (p y) 1 0) xs k.0 x k.1)
 
 -- what is counted passes
 pub count_some : {X : Type 0} (p : X → Bool) (xs : List X) → 1 ≤ count_by p xs → (x : X) × Among x xs × (p x ≡ true)
 count_some p xs h =
     let t : IsTerm (λ y. cond (p y) 1 0) xs = sum_some (λ y. cond (p y) 1 0) xs h in
-    (t.item, among_at t.item xs t.index t.at, counted (p t.item) t.some)
+    (t.item, Among-from_at t.item xs t.index t.at, counted (p t.item) t.some)
 
 -- where all differ and those that pass are one, at most one passes
 pub count_once : {X : Type 0} (p : X → Bool) (xs : List X) → AllDiffer xs → ((x y : X) → p x ≡ true → p y ≡ true → x ≡ y) → count_by p xs ≤ 1

@@ -1,59 +1,56 @@
 -- Every graph that the schemas give a program is valid.
-use Rattle.std.proofs.Common.{◌≡◌, ◌⊎◌, inl, inr, ℕ, unwrap_or, ◌+◌, ◌<◌, ◌≤◌, ◌==◌, ◌&&◌, ◌||◌, Bool, true, false, cond, Option, Some, None, List, [], ◌∷◌, map, slice_get, option_map, refl, sym, ◌∙◌, ap, subst, arith}
+use Rattle.std.proofs.Common.{◌≡◌, ◌⊎◌, inl, inr, ℕ, zero, suc, ◌+◌, ◌<◌, ◌≤◌, ◌==◌, ◌&&◌, ◌||◌, Bool, true, false, cond, Option, Some, None, List, []}
+use Rattle.std.proofs.Common.{get_or, length, map, slice_get, option_map, refl, sym, ◌∙◌, ap, subst, arith}
 use Rattle.std.specs.Bool.{IsTrue}
 use Rattle.std.specs.Option.{IsSome, option_and_then}
-use Rattle.std.specs.List.{filter, list_any, count_by}
-use Rattle.std.proofs.lemmas.Bool.{cases_eq}
+use Rattle.std.specs.List.{list_any, count_by}
+use Rattle.std.proofs.lemmas.List.Sums.{sum_by-append}
 use Rattle.std.proofs.lemmas.Bool.Decides.{nat_tests}
-use Rattle.id_tree.specs.declared.tree.Kind.{Kind}
-use Rattle.id_tree.specs.declared.tree.Kind.TheVariants as kind
-use Rattle.id_tree.specs.declared.tree.UnaryOp.TheVariants as before
-use Rattle.id_tree.specs.declared.tree.UnaryOp.{UnaryOp}
-use Rattle.id_tree.specs.declared.tree.Param.{Param}
-use Rattle.id_tree.specs.declared.tree.Def.{Def}
-use Rattle.id_check.specs.declared.Checked.{Checked}
-use Rattle.id_check.specs.Kinds.{unary_kind, binary_kind}
-use Rattle.id_meaning.specs.Sources.{AreFor, AreInputs, value_kind}
-use Rattle.id_meaning.specs.Parts.{kind_at as kind_of}
-use Rattle.id_core.specs.Machines.{AreTaken, TakesInputs, token_value}
-use Rattle.id_tag.specs.Kinds.{kind_of as token_kind}
-use Rattle.id_meaning.specs.declared.SourceValue.{SourceValue}
-use Rattle.id_meaning.specs.declared.SourceValue.TheVariants as value
-use Rattle.id_meaning.specs.Parts.{Among, AllDiffer, Entry, entries_of_def, places_of_all, place_of, Region, LiteralNode, IsDef, IsMain, Part, Distinct}
+use Rattle.id_value.specs.declared.Kind.{Kind}
+use Rattle.id_value.specs.declared.Kind.TheVariants as kinds
+use Rattle.id_list.specs.List.{Among, AllDiffer}
+use Rattle.id_list.proofs.AmongLemmas.{Among-map, Among-from_map, Among-left, Among-right, Among-either}
+use Rattle.id_parts.specs.declared.row.Row.{Row}
+use Rattle.id_parts.specs.declared.row.Node.{Node}
+use Rattle.id_parts.specs.declared.row.Node.TheVariants.{Head, Param, Literal, Unary as UnaryNode, Binary as BinaryNode, Split, If, Binding, Program}
+use Rattle.id_parts.specs.Rows.{at}
+use Rattle.id_parts.specs.Turns.{heads_of, params_at}
+use Rattle.id_check.specs.declared.checked.Checked.{Checked}
+use Rattle.id_check.specs.Programs.{region, rows}
 use Rattle.id_graph.specs.declared.dests.Port.{Port}
 use Rattle.id_graph.specs.declared.dests.Port.TheVariants.{Zero, One}
 use Rattle.id_graph.specs.declared.dests.Dest.{Dest}
-use Rattle.id_graph.specs.declared.instr.PortKind.{PortKind}
 use Rattle.id_graph.specs.declared.instr.PortKind.TheVariants.{Signal}
 use Rattle.id_graph.specs.declared.instr.Op.{Op}
-use Rattle.id_graph.specs.declared.instr.Op.TheVariants.{Merge, Back}
+use Rattle.id_graph.specs.declared.instr.Op.TheVariants.{Const, Unary, Binary, Merge, Switch, Back}
 use Rattle.id_graph.specs.declared.instr.Instr.{Instr}
 use Rattle.id_graph.specs.declared.instr.Block.{Block}
-use Rattle.id_graph.specs.Ports.{constant_kind, operand_kind, outcome_kind, port_kind, sends}
-use Rattle.id_graph.specs.Graph.{Parts, arcs, kind_at}
-use Rattle.id_build.specs.Roles.{Role, Answer, Trigger, Return, Of, Label, From, port_of, port_at, constant_of, unary_op, binary_op, Makes, answer, trigger, return, literal, unary, binary, label, entry, TriggerAt, of_procedure, GivesAt, by_literal, by_unary, by_binary, by_name, by_block, Feeds, to_literal, to_unary, to_left, to_right, to_return, to_label}
-use Rattle.id_build.specs.Schemas.{Numbered, Schemas, Sends, block_of}
-use Rattle.id_valid.specs.Roles.{op_at, merge_kind, back_kind, is_first, is_second, is_entry, has_main_place, same_place, same_port, is_dest, arcs_into, needs_no_arc}
+use Rattle.id_graph.specs.Ports.{port_kind, sends, two_sides}
+use Rattle.id_graph.specs.Graph.{Parts, arcs, arcs_on, false_arcs, kind_at}
+use Rattle.id_meaning.specs.Sources.{source}
+use Rattle.id_build.specs.declared.arc.Origin.{Origin}
+use Rattle.id_desugar.specs.Ends.{end_of}
+use Rattle.id_desugar.specs.Regions.{imports_of}
+use Rattle.id_build.specs.Rows.{node, answer_row, body_of, name_in, feed, feeds_of, origin, port_at, port_of, result_of, trigger_of}
+use Rattle.id_build.specs.Schemas.{Feeds, HasSide, Numbered, Schemas, Sends, block_of}
+use Rattle.id_valid.specs.Roles.{op_at, merge_kind, back_kind, is_first, is_second, is_entry, same_port, is_dest, arcs_into, needs_no_arc}
 use Rattle.id_valid.specs.Validator.{is_value, IsAnswer, FillsRoles, IsTaken, IsFed, IsSound, IsValid}
-use Rattle.id_laws.proofs.Lists.{among_map, among_from_map, among_right, differ_right}
-use Rattle.id_laws.proofs.Tables.{same_def, def_of_main, home}
-use Rattle.id_laws.proofs.Places.{Distinct-checked}
-use Rattle.id_laws.proofs.Nested.{Binder_at, binder_part}
-use Rattle.id_laws.proofs.Entered.{param_part}
-use Rattle.id_laws.proofs.Params.{param_of}
-use Rattle.id_laws.proofs.Kinded.{kind_of_part, kind_of_param, port_is, unary_suits, binary_suits, body_suits}
-use Rattle.id_laws.proofs.Given.{given_operand, given_body}
-use Rattle.id_laws.proofs.Fed.{IsMade, target_made, one_source}
-use Rattle.id_laws.proofs.Begun.{main_of}
+use Rattle.id_laws.specs.Activations.{main_head}
+use Rattle.id_laws.specs.Topics.{IsPart}
+use Rattle.id_laws.proofs.Arcs.{Does, starts, returns, enters, constant, unary, binary, turns_on, hands, joins, names, answers, doing, makes, imports_fed}
+use Rattle.id_laws.proofs.Arcs.{FromArm, one_feed, target_part}
+use Rattle.id_laws.proofs.Blocks.{a_head, a_param, head_listed, param_listed}
+use Rattle.id_build.proofs.EndsLemmas.{end_is, not_last}
+use Rattle.id_laws.proofs.Known.{known}
+use Rattle.id_laws.proofs.Start.{main_block, main_is_head, main_within}
+use Rattle.id_laws.proofs.Tokens.{one_part}
 use Rattle.id_laws.proofs.ValidCounts.{any_among, among_any, all_among, sum_at, sum_once, count_among, count_some, count_once}
+use Rattle.id_laws.proofs.ValidKinds.{typed}
 
 -- ---- tests
 
 same_number : (m n : ℕ) → m ≡ n → (m == n) ≡ true
 same_number m n e = grind (arith, nat_tests)
-
-other_number : (m n : ℕ) → (m ≡ n → ⊥) → (m == n) ≡ false
-other_number m n e = grind (arith, nat_tests)
 
 number_is : (m n : ℕ) → (m == n) ≡ true → m ≡ n
 number_is m n e = grind (arith, nat_tests)
@@ -69,8 +66,7 @@ ports_same One Zero e = cc
 ports_same One One e = refl
 
 both_true : (a b : Bool) → (a && b) ≡ true → (a ≡ true) × (b ≡ true)
-both_true true true e = (refl, refl)
-both_true true false e = cc
+both_true true b e = (refl, e)
 both_true false b e = cc
 
 second_of : (a b c d : Bool) → b ≡ true → (a || b || c || d) ≡ true
@@ -102,143 +98,83 @@ dest_is n p d e =
     let by = ports_same d.port p both.1 in
     (λ i. record { instr = at i; port = by i })
 
--- ---- kinds
+pub is_value_port : (k : Kind) → is_value (port_of k) ≡ true
+is_value_port kinds.Int = refl
+is_value_port kinds.Bool = refl
+is_value_port kinds.Array = refl
 
-is_value_port : (k : Kind) → is_value (port_of k) ≡ true
-is_value_port kind.Int = refl
-is_value_port kind.Bool = refl
-is_value_port kind.Array = refl
+true_false : true ≡ false → ⊥
+true_false h = cc
 
--- ports for two things of one kind are the same
-same_ports : (P : Checked) (e a : ℕ) → kind_of P e ≡ kind_of P a → port_at P e ≡ port_at P a
-same_ports P e a is = ap (λ o. port_of (unwrap_or o kind.Int)) is
+-- what has a false side has two
+false_side : (o : Op) → HasSide o false → two_sides o ≡ true
+false_side (Switch k) h = refl
+false_side (Back k) h = absurd h
+false_side (Const v) h = absurd (true_false (sym h))
+false_side (Unary f) h = absurd (true_false (sym h))
+false_side (Binary f) h = absurd (true_false (sym h))
+false_side (Merge k) h = absurd (true_false (sym h))
 
--- an instruction that sends this kind
-record Sender (P : Checked) (s : Role) (k : PortKind) : Type 0 where
-  made : IsMade P s
-  out : sends made.op ≡ Some k
+-- what is on a side that an operator has counts
+side_counts : (i : Instr) (d : Dest) (b : Bool) → HasSide i.op b → Among d (arcs_on b i) → Among d (arcs i)
+side_counts i d true h among = Among-left d (arcs_on true i) (false_arcs i) among
+side_counts i d false h among =
+    Among-right d (arcs_on true i) (false_arcs i) (subst (λ t. Among d (cond t (arcs_on false i) [])) (sym (false_side i.op h)) among)
 
-literal_port : (v : SourceValue) → constant_kind (constant_of v) ≡ port_of (value_kind v)
-literal_port (value.Int n) = refl
-literal_port (value.Bool b) = refl
+of_false : (t : Bool) (ds : List Dest) (d : Dest) → Among d (cond t ds []) → Among d ds
+of_false true ds d h = h
+of_false false ds d h = absurd h
 
-unary_sends : (o : UnaryOp) → sends (unary_op o) ≡ Some (port_of (unary_kind o))
-unary_sends before.Neg = refl
-unary_sends before.Not = refl
+-- and what counts is on a side
+counts_side : (i : Instr) (d : Dest) → Among d (arcs i) → (b : Bool) × Among d (arcs_on b i)
+counts_side i d h =
+    elim (Among-either d (arcs_on true i) (false_arcs i) h) [
+      | inl k ↦ (true, k)
+      | inr k ↦ (false, of_false (two_sides i.op) (arcs_on false i) d k)
+    ]
 
-unary_takes : (o : UnaryOp) → port_kind (unary_op o) Zero ≡ Some (port_of (unary_kind o))
-unary_takes before.Neg = refl
-unary_takes before.Not = refl
+false_differ : (t : Bool) (ds : List Dest) → AllDiffer ds → AllDiffer (cond t ds [])
+false_differ true ds h = h
+false_differ false ds h = tt
 
--- the label of a binder sends its kind
-label_sender : {P : Checked} {r : Region} {b : ℕ} → Binder_at P r b → Sender P (Label b) (port_at P b)
-label_sender (inl x) = record { made = record { op = _; place = _; makes = label x.1 }; out = refl }
-label_sender (inr x) = record { made = record { op = _; place = _; makes = entry x }; out = refl }
+no_program : {x : ℕ} {k : Kind} → Param x k ≡ Program → ⊥
+no_program h = cc
 
--- what gives the value of an expression sends its kind
-sender : {P : Checked} {r : Region} {e : ℕ} {s : Role} → GivesAt P r e (From s) → Sender P s (port_at P e)
-sender {P} {e = e} (by_literal {v = v} part) =
-    record { made = record { op = _; place = _; makes = literal part }; out = ap (λ k. Some k) (literal_port v ∙ sym (port_is P e (value_kind v) (kind_of_part P part))) }
-sender {P} {e = e} (by_unary {o = o} part) =
-    record { made = record { op = _; place = _; makes = unary part }; out = unary_sends o ∙ ap (λ k. Some k) (sym (port_is P e (unary_kind o) (kind_of_part P part).0)) }
-sender {P} {e = e} (by_binary {a = a} {o = o} part) =
-    let s = binary_suits P part in
-    let here : outcome_kind (binary_op o (port_at P a)) ≡ port_at P e =
-    ap (λ k. outcome_kind (binary_op o k)) (port_is P a s.kind s.left) ∙ s.sent ∙ sym (port_is P e (binary_kind o) s.whole) in
-    record { made = record { op = _; place = _; makes = binary part }; out = ap (λ k. Some k) here }
-sender {P} {e = e} (by_name {b = b} part) =
-    let s = label_sender (binder_part part) in
-    record { made = s.made; out = s.out ∙ ap (λ k. Some k) (sym (same_ports P e b (kind_of_part P part))) }
-sender {P} {e = e} (by_block {b = b} part by) =
-    let s = sender by in
-    record { made = s.made; out = s.out ∙ ap (λ k. Some k) (sym (same_ports P e b (kind_of_part P part))) }
+-- what feeds the port of the part of the row n
+record HasFeed (P : Checked) (n part : ℕ) (p : Port) : Type 0 where
+  from : Origin
+  feeds : Feeds P from n part p
 
-trigger_sender : {P : Checked} {r : Region} {s : Role} → TriggerAt P r (From s) → Sender P s Signal
-trigger_sender (of_procedure is_def) = record { made = record { op = _; place = _; makes = trigger is_def }; out = refl }
+feeds_at : (P : Checked) (s : Origin) (n part : ℕ) (p : Port) (m : Node) → n < length (rows P) → node P n ≡ m
+    → Among (feed s part p) (feeds_of P n (region P n) m) → HasFeed P n part p
+feeds_at P s n part p m within is h =
+    let among = subst (λ z. Among (feed s part p) (feeds_of P n (region P n) z)) (sym is) h in
+    record { from = s; feeds = record { within = within; among = among } }
 
--- an instruction that takes this kind at a port
-record Taker (P : Checked) (q : Role) (p : Port) (k : PortKind) : Type 0 where
-  made : IsMade P q
-  into : port_kind made.op p ≡ Some k
+module _ (P : Checked) (g : Parts) (number : ℕ → ℕ → ℕ) (numbered : Numbered P g number) where
+  abbrev R : List Row
+  R = rows P
 
--- what the two ends of an arc do: the target takes what the source sends
-record Typed (P : Checked) (s q : Role) (p : Port) : Type 0 where
-  kind : PortKind
-  source : Sender P s kind
-  target : Taker P q p kind
+  pub op_made : {n part : ℕ} {o : Op} → n < length R → Does P n part o → op_at g (number n part) ≡ Some o
+  op_made {n} {part} within d = let i = numbered.made n part _ _ (makes within d) in ap (option_map (λ (x : Instr). x.op)) i.at ∙ ap (λ x. Some x) i.op
 
-typed : {P : Checked} {s q : Role} {p : Port} → Feeds P (From s) q p → Typed P s q p
-typed (to_literal part t) =
-    record { kind = Signal; source = trigger_sender t; target = record { made = record { op = _; place = _; makes = literal part }; into = refl } }
-typed {P} (to_unary {a = a} {o = o} part by) = record {
-  kind = port_at P a;
-  source = sender by;
-  target = record {
-    made = record { op = _; place = _; makes = unary part };
-    into = unary_takes o ∙ ap (λ k. Some k) (sym (port_is P a (unary_kind o) (unary_suits P part)));
-  };
-}
-typed {P} (to_left {a = a} {o = o} part by) =
-    let s = binary_suits P part in
-    let left = port_is P a s.kind s.left in
-    record {
-      kind = port_at P a;
-      source = sender by;
-      target = record {
-        made = record { op = _; place = _; makes = binary part };
-        into = ap (λ k. Some k) (ap (λ k. operand_kind (binary_op o k)) left ∙ s.taken ∙ sym left);
-      };
-    }
-typed {P} (to_right {a = a} {b = b} {o = o} part by) =
-    let s = binary_suits P part in
-    let left = port_is P a s.kind s.left in
-    record {
-      kind = port_at P b;
-      source = sender by;
-      target = record {
-        made = record { op = _; place = _; makes = binary part };
-        into = ap (λ k. Some k) (ap (λ k. operand_kind (binary_op o k)) left ∙ s.taken ∙ sym (port_is P b s.kind s.right));
-      };
-    }
-typed {P} (to_return {d = d} is_def by) = record {
-  kind = port_at P (place_of d.body);
-  source = sender by;
-  target = record { made = record { op = _; place = _; makes = return is_def }; into = ap (λ k. Some k) (sym (port_is P (place_of d.body) d.result (body_suits P is_def))) };
-}
-typed {P} (to_label {b = b} {a = a} part by) = record {
-  kind = port_at P a;
-  source = sender by;
-  target = record { made = record { op = _; place = _; makes = label part }; into = ap (λ k. Some k) (same_ports P b a (kind_of_part P part)) };
-}
+  block_among : (h : ℕ) → h < length R → node P h ≡ Head → Among (block_of P number h) g.blocks
+  block_among h within is =
+      subst (λ (bs : List Block). Among (block_of P number h) bs) (sym numbered.blocks)
+      (Among-map (block_of P number) h (heads_of R) (head_listed R (length R) h within is))
 
--- what feeds a port
-record HasFeed (P : Checked) (q : Role) (p : Port) : Type 0 where
-  source : Role
-  feeds : Feeds P (From source) q p
+  -- a block is that of a head
+  record BlockOf (b : Block) : Type 0 where
+    head : ℕ
+    within : head < length R
+    is_head : node P head ≡ Head
+    is : b ≡ block_of P number head
 
--- a literal's instruction is fed by the trigger of its region
-trigger_feeds : {P : Checked} {r : Region} {e : ℕ} {v : SourceValue} → Part P r e (LiteralNode v) → HasFeed P (Of r e) Zero
-trigger_feeds {P} part =
-    let t = home part in
-    let f = Trigger (t.def).place in
-    record { source = f; feeds = to_literal part (subst (λ r. TriggerAt P r (From f)) (sym t.region) (of_procedure t.is_def)) }
-
-module _ (P : Checked) (g : Parts) (number : Role → ℕ) (numbered : Numbered P g number) where
-  distinct : Distinct P
-  distinct = Distinct-checked P
-
-  op_made : {q : Role} {o : Op} {e : ℕ} → Makes P q o e → op_at g (number q) ≡ Some o
-  op_made {q} {o} {e} m = let i = numbered.made q o e m in ap (option_map (λ (x : Instr). x.op)) i.at ∙ ap (λ x. Some x) i.op
-
-  block_among : {d : Def} → IsDef P d → Among (block_of number d) g.blocks
-  block_among {d} is_def =
-      subst (λ (bs : List Block). Among (block_of number d) bs) (sym numbered.blocks) (among_map (block_of number) d P.program.defs is_def.among)
-
-  -- a block is that of a definition
-  block_from : (b : Block) → Among b g.blocks → (d : Def) × IsDef P d × (b ≡ block_of number d)
+  block_from : (b : Block) → Among b g.blocks → BlockOf b
   block_from b h =
-      let t = among_from_map (block_of number) b P.program.defs (subst (λ (bs : List Block). Among b bs) numbered.blocks h) in
-      (t.0, record { among = t.1 }, t.2)
+      let t = Among-from_map (block_of P number) b (heads_of R) (subst (λ (bs : List Block). Among b bs) numbered.blocks h) in
+      let z = a_head R (length R) t.0 t.1 in
+      record { head = t.0; within = z.0; is_head = z.1; is = t.2 }
 
   -- ---- roles of blocks
 
@@ -246,28 +182,28 @@ module _ (P : Checked) (g : Parts) (number : Role → ℕ) (numbered : Numbered 
   first_is n h =
       let t = among_any (λ (b : Block). b.first == n) g.blocks h in
       let d = block_from t.0 t.1 in
-      let at : number (Trigger (d.0).place) ≡ n = sym (ap (λ (b : Block). b.first) d.2) ∙ number_is (t.0).first n t.2 in
-      ap (op_at g) (sym at) ∙ op_made (trigger d.1)
+      let at : number d.head 0 ≡ n = sym (ap (λ (b : Block). b.first) d.is) ∙ number_is (t.0).first n t.2 in
+      ap (op_at g) (sym at) ∙ op_made d.within (starts d.is_head)
 
   second_is : (n : ℕ) → IsTrue (is_second g n) → IsSome (option_and_then back_kind (op_at g n))
   second_is n h =
       let t = among_any (λ (b : Block). b.first + 1 == n) g.blocks h in
       let d = block_from t.0 t.1 in
-      let at : number (Return (d.0).place) ≡ n =
-      numbered.return_behind d.0 d.1 ∙ sym (ap (λ (b : Block). b.first + 1) d.2) ∙ number_is ((t.0).first + 1) n t.2 in
-      let does : op_at g n ≡ Some (Back (port_of (d.0).result)) = ap (op_at g) (sym at) ∙ op_made (return d.1) in
+      let at : number d.head 1 ≡ n = numbered.parts_behind d.head 1 ∙ sym (ap (λ (b : Block). b.first + 1) d.is) ∙ number_is ((t.0).first + 1) n t.2 in
+      let does : op_at g n ≡ Some (Back (port_of (result_of (node P (end_of P d.head))))) = ap (op_at g) (sym at) ∙ op_made d.within (returns d.is_head) in
       rw does refl
 
   entry_is : (n : ℕ) → IsTrue (is_entry g n) → IsSome (option_and_then merge_kind (op_at g n))
   entry_is n h =
       let t = among_any (λ (b : Block). list_any (λ e. e == n) b.entries) g.blocks h in
       let d = block_from t.0 t.1 in
-      let listed : list_any (λ e. e == n) (map (λ (x : Param). number (Label x.place)) (d.0).params) ≡ true =
-      ap (λ (b : Block). list_any (λ e. e == n) b.entries) (sym d.2) ∙ t.2 in
-      let e = among_any (λ e. e == n) (map (λ (x : Param). number (Label x.place)) (d.0).params) listed in
-      let x = among_from_map (λ (x : Param). number (Label x.place)) e.0 (d.0).params e.1 in
-      let at : number (Label (x.0).place) ≡ n = sym x.2 ∙ number_is e.0 n e.2 in
-      let does : op_at g n ≡ Some (Merge (port_at P (x.0).place)) = ap (op_at g) (sym at) ∙ op_made (entry (param_part x.0 d.1 x.1)) in
+      let ps = params_at R d.head in
+      let listed : list_any (λ e. e == n) (map (λ x. number x 0) ps) ≡ true = ap (λ (b : Block). list_any (λ e. e == n) b.entries) (sym d.is) ∙ t.2 in
+      let e = among_any (λ e. e == n) (map (λ x. number x 0) ps) listed in
+      let x = Among-from_map (λ x. number x 0) e.0 ps e.1 in
+      let z = a_param R d.head (length R) x.0 x.1 in
+      let at : number x.0 0 ≡ n = sym x.2 ∙ number_is e.0 n e.2 in
+      let does : op_at g n ≡ Some (Merge (port_at P x.0)) = ap (op_at g) (sym at) ∙ op_made z.within (enters (z.param).is) in
       rw does refl
 
   fills : (n : ℕ) → FillsRoles g n
@@ -275,224 +211,236 @@ module _ (P : Checked) (g : Parts) (number : Role → ℕ) (numbered : Numbered 
 
   -- ---- what is sent is taken
 
-  -- the instruction at a number does what that of its role does
-  does : {q : Role} {o : Op} {e : ℕ} (n : ℕ) (i : Instr) → Makes P q o e → number q ≡ n → slice_get g.instrs n ≡ Some i → i.op ≡ o
-  does {q} {o} {e} n i m is at =
-      let k = numbered.made q o e m in
+  -- the instruction at a number does what its part does
+  does_at : {q part : ℕ} {o : Op} (n : ℕ) (i : Instr) → q < length R → Does P q part o → number q part ≡ n → slice_get g.instrs n ≡ Some i → i.op ≡ o
+  does_at {q} {part} {o} n i within d is at =
+      let k = numbered.made q part _ _ (makes within d) in
       let both : Some i ≡ Some k.instr = sym at ∙ ap (slice_get g.instrs) (sym is) ∙ k.at in
       let one : i ≡ k.instr = cc in
       ap (λ (x : Instr). x.op) one ∙ k.op
 
   taken : (n : ℕ) (i : Instr) (to : Dest) → slice_get g.instrs n ≡ Some i → Among to (arcs i) → IsTaken g.instrs i.op to
   taken n i to at h =
-      let a = numbered.no_more n to (record { instr = i; at = at; lists = h }) in
-      let t = typed a.feeds in
-      let s = (t.source).made in
-      let q = (t.target).made in
-      let out : sends i.op ≡ Some t.kind = ap sends (does n i s.makes a.from at) ∙ (t.source).out in
-      let m = numbered.made a.target q.op q.place q.makes in
+      let side = counts_side i to h in
+      let a = numbered.no_more n side.0 to (record { instr = i; at = at; lists = side.1 }) in
+      let t = typed P a.origin a.row a.part to.port a.feeds in
+      let s = t.source in
+      let q = t.target in
+      let out : sends i.op ≡ Some t.kind = ap sends (does_at n i s.within s.does a.from at) ∙ s.out in
+      let m = numbered.made a.row a.part _ _ (makes q.within q.does) in
       let there : slice_get g.instrs to.instr ≡ Some m.instr = ap (slice_get g.instrs) (sym a.goes) ∙ m.at in
       let into : kind_at g.instrs to ≡ Some t.kind =
-      ap (option_and_then (λ (x : Instr). port_kind x.op to.port)) there ∙ ap (λ (o : Op). port_kind o to.port) m.op ∙ (t.target).into in
+      ap (option_and_then (λ (x : Instr). port_kind x.op to.port)) there ∙ ap (λ (o : Op). port_kind o to.port) m.op ∙ q.into in
       rw out into
 
   -- ---- ports are fed
 
   -- the port needs no arc, or the schemas have one into it
-  Served : Role → Port → Type 0
-  Served q p = (needs_no_arc g (number q) p ≡ true) ⊎ HasFeed P q p
+  Served : ℕ → ℕ → Port → Type 0
+  Served n part p = (needs_no_arc g (number n part) p ≡ true) ⊎ HasFeed P n part p
 
-  served : {q : Role} {o : Op} {e : ℕ} → Makes P q o e → (p : Port) → IsSome (port_kind o p) → Served q p
-  unfolding Served
-  served (answer main) p h = inl (rw (same_number (number Answer) 0 numbered.answer_first) refl)
-  served (trigger {d = d} is_def) p h =
-      let n = number (Trigger d.place) in
-      inl (second_of (n == 0) (is_first g n) (is_entry g n) (is_second g n && same_port p Zero)
-      (any_among (λ (b : Block). b.first == n) (block_of number d) g.blocks (block_among is_def) (same_number n n refl)))
-  served (return {d = d} is_def) Zero h =
-      let n = number (Return d.place) in
-      let second : is_second g n ≡ true =
-      any_among (λ (b : Block). b.first + 1 == n) (block_of number d) g.blocks (block_among is_def)
-      (same_number (number (Trigger d.place) + 1) n (sym (numbered.return_behind d is_def))) in
-      inl (fourth_of (n == 0) (is_first g n) (is_entry g n) (is_second g n && same_port Zero Zero) (rw second refl))
-  served (return is_def) One h = let s = given_body is_def in inr (record { source = s.source; feeds = to_return is_def s.gives })
-  served (literal part) Zero h = inr (trigger_feeds part)
-  served (literal part) One h = cc
-  served (unary {a = a} part) Zero h = let s = given_operand a part (inl refl) in inr (record { source = s.source; feeds = to_unary part s.gives })
-  served (unary {o = before.Neg} part) One h = cc
-  served (unary {o = before.Not} part) One h = cc
-  served (binary {a = a} part) Zero h = let s = given_operand a part (inl refl) in inr (record { source = s.source; feeds = to_left part s.gives })
-  served (binary {b = b} part) One h = let s = given_operand b part (inr (inl refl)) in inr (record { source = s.source; feeds = to_right part s.gives })
-  served (label {a = a} part) Zero h = let s = given_operand a part (inl refl) in inr (record { source = s.source; feeds = to_label part s.gives })
-  served (label part) One h = cc
-  served (entry {b = b} part) Zero h =
-      let t = param_of part in
-      let d = t.def in
-      let n = number (Label b) in
-      let labels = map (λ (x : Param). number (Label x.place)) d.params in
-      let listed : Among n labels = subst (λ e. Among (number (Label e)) labels) t.place (among_map (λ (x : Param). number (Label x.place)) t.param d.params t.among) in
-      let is : is_entry g n ≡ true =
-      any_among (λ (b : Block). list_any (λ e. e == n) b.entries) (block_of number d) g.blocks (block_among t.is_def)
+  answer_served : (n : ℕ) (p : Port) → n < length R → node P n ≡ Program → needs_no_arc g (number n 0) p ≡ true
+  answer_served n p within is =
+      let last = ((known P).table).ends_once n within is in
+      let row : n ≡ answer_row P = omega (arith, last) in
+      let free : (number n 0 == 0) ≡ true = same_number (number n 0) 0 (ap (λ z. number z 0) row ∙ numbered.answer_first) in
+      rw free refl
+
+  first_served : (n : ℕ) (p : Port) → n < length R → node P n ≡ Head → needs_no_arc g (number n 0) p ≡ true
+  first_served n p within is =
+      let k = number n 0 in
+      second_of (k == 0) (is_first g k) (is_entry g k) (is_second g k && same_port p Zero)
+      (any_among (λ (b : Block). b.first == k) (block_of P number n) g.blocks (block_among n within is) (same_number k k refl))
+
+  second_served : (n : ℕ) → n < length R → node P n ≡ Head → needs_no_arc g (number n 1) Zero ≡ true
+  second_served n within is =
+      let k = number n 1 in
+      let second : is_second g k ≡ true =
+      any_among (λ (b : Block). b.first + 1 == k) (block_of P number n) g.blocks (block_among n within is)
+      (same_number (number n 0 + 1) k (sym (numbered.parts_behind n 1))) in
+      fourth_of (k == 0) (is_first g k) (is_entry g k) (is_second g k && same_port Zero Zero) (rw second refl)
+
+  entry_served : (b x : ℕ) (k : Kind) → b < length R → node P b ≡ Param x k → needs_no_arc g (number b 0) Zero ≡ true
+  entry_served b x k within is =
+      let n = number b 0 in
+      let block = ((known P).table).block b (not_last P ((known P).table) b within (λ e. no_program (sym is ∙ e))) in
+      let h = (at R b).block in
+      let less : h < length R = omega (arith, block.0, within) in
+      let labels = map (λ y. number y 0) (params_at R h) in
+      let listed : Among n labels = Among-map (λ y. number y 0) b (params_at R h) (param_listed R h (length R) b x k within is refl) in
+      let entry : is_entry g n ≡ true =
+      any_among (λ (c : Block). list_any (λ e. e == n) c.entries) (block_of P number h) g.blocks (block_among h less block.1)
       (any_among (λ e. e == n) n labels listed (same_number n n refl)) in
-      inl (third_of (n == 0) (is_first g n) (is_entry g n) (is_second g n && same_port Zero Zero) is)
-  served (entry part) One h = cc
+      third_of (n == 0) (is_first g n) (is_entry g n) (is_second g n && same_port Zero Zero) entry
+
+  served : {n part : ℕ} {o : Op} → n < length R → Does P n part o → (p : Port) → IsSome (port_kind o p) → Served n part p
+  unfolding Served
+  served {n} within (answers is) p h = inl (answer_served n p within is)
+  served {n} within (starts is) p h = inl (first_served n p within is)
+  served {n} within (returns is) Zero h = inl (second_served n within is)
+  served {n} within (returns is) One h = inr (feeds_at P (origin P (body_of (node P (end_of P n)))) n 1 One Head within is (inl refl))
+  served {n} within (enters {x = x} {k = k} is) Zero h = inl (entry_served n x k within is)
+  served within (enters is) One h = cc
+  served {n} within (constant {c = c} is) Zero h = inr (feeds_at P (trigger_of (region P n)) n 0 Zero (Literal c) within is (inl refl))
+  served within (constant is) One h = cc
+  served {n} within (unary {o = o} {a = a} is) Zero h = inr (feeds_at P (origin P a) n 0 Zero (UnaryNode o a) within is (inl refl))
+  served within (unary is) One h = cc
+  served {n} within (binary {o = o} {a = a} {b = b} is) Zero h = inr (feeds_at P (origin P a) n 0 Zero (BinaryNode o a b) within is (inl refl))
+  served {n} within (binary {o = o} {a = a} {b = b} is) One h = inr (feeds_at P (origin P b) n 0 One (BinaryNode o a b) within is (inr (inl refl)))
+  served {n} within (turns_on {t = t} is) Zero h = inr (feeds_at P (origin P t) n 0 Zero (Split t) within is (inl refl))
+  served {n} within (turns_on {t = t} is) One h = inr (feeds_at P (trigger_of (region P n)) n 0 One (Split t) within is (inr (inl refl)))
+  served {n} within (hands {t = t} k is less) Zero h = inr (record { from = origin P t; feeds = (imports_fed P n t k within is less).0 })
+  served {n} within (hands {t = t} k is less) One h = inr (record { from = name_in P (region P n) (get_or (imports_of P n) k 0); feeds = (imports_fed P n t k within is less).1 })
+  served {n} within (joins {s = s} {x = x} {y = y} is) Zero h = inr (feeds_at P (origin P x) n 0 Zero (If s x y) within is (inl refl))
+  served within (joins is) One h = cc
+  served {n} within (names {x = x} {a = a} is) Zero h = inr (feeds_at P (origin P a) n 0 Zero (Binding x a) within is (inl refl))
+  served within (names is) One h = cc
 
   -- an arc into a port counts
-  fed_counts : (q : Role) (p : Port) → HasFeed P q p → 1 ≤ arcs_into g (number q) p
-  fed_counts q p f =
-      let s = numbered.sends f.source q p f.feeds in
-      let n = number q in
-      let here : 1 ≤ count_by (is_dest n p) (arcs s.instr) = count_among (is_dest n p) (dest n p) (arcs s.instr) s.lists (is_dest-itself n p) in
-      omega (arith, sum_at (λ (i : Instr). count_by (is_dest n p) (arcs i)) g.instrs (number f.source) s.instr s.at)
+  fed_counts : (n part : ℕ) (p : Port) → HasFeed P n part p → 1 ≤ arcs_into g (number n part) p
+  fed_counts n part p f =
+      let s = numbered.sends f.from n part p f.feeds in
+      let k = number n part in
+      let from = number (f.from).row (f.from).part in
+      let lists = side_counts s.instr (dest k p) (f.from).side (numbered.sides from s.instr (f.from).side (dest k p) s.at s.lists) s.lists in
+      let here : 1 ≤ count_by (is_dest k p) (arcs s.instr) = count_among (is_dest k p) (dest k p) (arcs s.instr) lists (is_dest-itself k p) in
+      omega (arith, here, sum_at (λ (i : Instr). count_by (is_dest k p) (arcs i)) g.instrs from s.instr s.at)
 
-  -- instructions that send to one port are one
-  one_sender : (m k n : ℕ) (p : Port) → Sends g m (dest n p) → Sends g k (dest n p) → m ≡ k
-  one_sender m k n p a b =
-      let x = numbered.no_more m (dest n p) a in
-      let y = numbered.no_more k (dest n p) b in
-      let target : x.target ≡ y.target =
-      (let h = target_made x.feeds in let k = target_made y.feeds in
-      numbered.apart x.target y.target h.op k.op h.place k.place h.makes k.makes (x.goes ∙ sym y.goes)) in
-      let source : From x.source ≡ From y.source = one_source P distinct x.feeds (subst (λ (q : Role). Feeds P (From y.source) q p) (sym target) y.feeds) in
-      let same : x.source ≡ y.source = cc in
-      sym x.from ∙ ap number same ∙ y.from
+  alone : {x y : Origin} {n : ℕ} → ((FromArm P n x × FromArm P n y) → ⊥) → (x ≡ y) ⊎ (FromArm P n x × FromArm P n y) → x ≡ y
+  alone never (inl e) = e
+  alone never (inr arms) = absurd (never arms)
 
-  -- an instruction of which an arc into the port is counted sends to it
-  counts_send : (m n : ℕ) (p : Port) (i : Instr) → slice_get g.instrs m ≡ Some i → 1 ≤ count_by (is_dest n p) (arcs i) → Sends g m (dest n p)
-  counts_send m n p i at h =
-      let t = count_some (is_dest n p) (arcs i) h in
-      record { instr = i; at = at; lists = subst (λ (d : Dest). Among d (arcs i)) (dest_is n p t.0 t.2) t.1 }
+  -- a part is fed from one origin at each port, or is a merge
+  one_or_merge : {n part : ℕ} {o : Op} → Does P n part o → IsSome (merge_kind o) ⊎ ((x y : Origin) (p : Port) → Feeds P x n part p → Feeds P y n part p → x ≡ y)
+  one_or_merge (starts is) = inl refl
+  one_or_merge (returns is) = inr (λ x y p h k. alone (λ a. let bad : If (a.0).split (a.0).then (a.0).otherwise ≡ Head = sym (a.0).node ∙ is in cc) (one_feed h k))
+  one_or_merge (enters is) = inl refl
+  one_or_merge (constant {c = c} is) = inr (λ x y p h k. alone (λ a. let bad : If (a.0).split (a.0).then (a.0).otherwise ≡ Literal c = sym (a.0).node ∙ is in cc) (one_feed h k))
+  one_or_merge (unary {o = o} {a = e} is) = inr (λ x y p h k. alone (λ a. let bad : If (a.0).split (a.0).then (a.0).otherwise ≡ UnaryNode o e = sym (a.0).node ∙ is in cc) (one_feed h k))
+  one_or_merge (binary {o = o} {a = e} {b = f} is) = inr (λ x y p h k. alone (λ a. let bad : If (a.0).split (a.0).then (a.0).otherwise ≡ BinaryNode o e f = sym (a.0).node ∙ is in cc) (one_feed h k))
+  one_or_merge (turns_on {t = t} is) = inr (λ x y p h k. alone (λ a. let bad : If (a.0).split (a.0).then (a.0).otherwise ≡ Split t = sym (a.0).node ∙ is in cc) (one_feed h k))
+  one_or_merge (hands {t = t} j is less) = inr (λ x y p h k. alone (λ a. let bad : If (a.0).split (a.0).then (a.0).otherwise ≡ Split t = sym (a.0).node ∙ is in cc) (one_feed h k))
+  one_or_merge (joins is) = inl refl
+  one_or_merge (names is) = inl refl
+  one_or_merge (answers is) = inl refl
 
-  fed_once : (n : ℕ) (p : Port) → arcs_into g n p ≤ 1
-  fed_once n p =
-      sum_once (λ (i : Instr). count_by (is_dest n p) (arcs i)) g.instrs
-      (λ m i at. count_once (is_dest n p) (arcs i) (numbered.once m i at) (λ x y e d. dest_is n p x e ∙ sym (dest_is n p y d)))
-      (λ m k i j at to a b. one_sender m k n p (counts_send m n p i at a) (counts_send k n p j to b))
+  module _ (n : ℕ) (p : Port) (row part : ℕ) (here : IsPart P row part) (is : number row part ≡ n) (one : (x y : Origin) → Feeds P x row part p → Feeds P y row part p → x ≡ y) where
+    -- instructions that send to the port are one, on one side
+    one_sender : (m k : ℕ) (b c : Bool) → Sends g m b (dest n p) → Sends g k c (dest n p) → (m ≡ k) × (b ≡ c)
+    one_sender m k b c x y =
+        let u = numbered.no_more m b (dest n p) x in
+        let v = numbered.no_more k c (dest n p) y in
+        let to_u = one_part numbered (target_part u.feeds) here (u.goes ∙ sym is) in
+        let to_v = one_part numbered (target_part v.feeds) here (v.goes ∙ sym is) in
+        let same : u.origin ≡ v.origin =
+        one u.origin v.origin
+        (subst (λ (z : ℕ × ℕ). Feeds P u.origin z.0 z.1 p) {x = (u.row, u.part)} {y = (row, part)} (λ i. (to_u.0 i, to_u.1 i)) u.feeds)
+        (subst (λ (z : ℕ × ℕ). Feeds P v.origin z.0 z.1 p) {x = (v.row, v.part)} {y = (row, part)} (λ i. (to_v.0 i, to_v.1 i)) v.feeds) in
+        (sym u.from ∙ ap (λ (s : Origin). number s.row s.part) same ∙ v.from, sym u.on ∙ ap (λ (s : Origin). s.side) same ∙ v.on)
 
-  -- the instruction at a number is for a role, and does what that asks
+    -- an instruction of which an arc into the port is counted sends to it
+    counts_send : (m : ℕ) (i : Instr) (b : Bool) → slice_get g.instrs m ≡ Some i → 1 ≤ count_by (is_dest n p) (arcs_on b i) → Sends g m b (dest n p)
+    counts_send m i b at h =
+        let t = count_some (is_dest n p) (arcs_on b i) h in
+        record { instr = i; at = at; lists = subst (λ (d : Dest). Among d (arcs_on b i)) (dest_is n p t.0 t.2) t.1 }
+
+    on_side_once : (m : ℕ) (i : Instr) (b : Bool) → slice_get g.instrs m ≡ Some i → count_by (is_dest n p) (arcs_on b i) ≤ 1
+    on_side_once m i b at = count_once (is_dest n p) (arcs_on b i) (numbered.once m i b at) (λ x y e d. dest_is n p x e ∙ sym (dest_is n p y d))
+
+    fewer : (t : Bool) (ds : List Dest) → count_by (is_dest n p) (cond t ds []) ≤ count_by (is_dest n p) ds
+    fewer true ds = omega arith
+    fewer false ds = omega arith
+
+    each_once : (m : ℕ) (i : Instr) → slice_get g.instrs m ≡ Some i → count_by (is_dest n p) (arcs i) ≤ 1
+    each_once m i at =
+        let f = is_dest n p in
+        let whole = sum_by-append (λ x. cond (f x) 1 0) (arcs_on true i) (false_arcs i) in
+        let less = fewer (two_sides i.op) (arcs_on false i) in
+        by (count_by f (arcs_on true i)) (count_by f (arcs_on false i)) (count_by f (false_arcs i)) refl refl whole less (on_side_once m i true at) (on_side_once m i false at)
+      where
+        by : (a b c : ℕ) → count_by (is_dest n p) (arcs_on true i) ≡ a → count_by (is_dest n p) (arcs_on false i) ≡ b
+            → count_by (is_dest n p) (arcs i) ≡ a + c → c ≤ b
+            → a ≤ 1 → b ≤ 1 → count_by (is_dest n p) (arcs i) ≤ 1
+        by zero b c e f whole less x y = omega (arith, whole, less, y)
+        by (suc a) zero c e f whole less x y = omega (arith, whole, less, x)
+        by (suc a) (suc b) c e f whole less x y =
+            let z = one_sender m m true false (counts_send m i true at (omega (arith, e))) (counts_send m i false at (omega (arith, f))) in
+            absurd (true_false z.1)
+
+    some_side : (m : ℕ) (i : Instr) → slice_get g.instrs m ≡ Some i → 1 ≤ count_by (is_dest n p) (arcs i) → (b : Bool) × Sends g m b (dest n p)
+    some_side m i at h =
+        let t = count_some (is_dest n p) (arcs i) h in
+        let side = counts_side i t.0 t.1 in
+        (side.0, record { instr = i; at = at; lists = subst (λ (d : Dest). Among d (arcs_on side.0 i)) (dest_is n p t.0 t.2) side.1 })
+
+    fed_once : arcs_into g n p ≤ 1
+    fed_once =
+        sum_once (λ (i : Instr). count_by (is_dest n p) (arcs i)) g.instrs each_once
+        (λ m k i j at to a b. let x = some_side m i at a in let y = some_side k j to b in (one_sender m k x.0 y.0 x.1 y.1).0)
+
+  -- the instruction at a number is that of a part
   record Stands (n : ℕ) (o : Op) : Type 0 where
-    role : Role
-    made : IsMade P role
-    is : number role ≡ n
-    op : made.op ≡ o
+    row : ℕ
+    part : ℕ
+    within : row < length R
+    does : Does P row part o
+    is : number row part ≡ n
 
   stands : (n : ℕ) (o : Op) (x : Option Instr) → slice_get g.instrs n ≡ x → option_map (λ (i : Instr). i.op) x ≡ Some o → Stands n o
   stands n o None e h = cc
   stands n o (Some i) e h =
       let r = numbered.only n i e in
+      let d = doing r.makes in
       let here : i.op ≡ o = cc in
-      record { role = r.role; made = record { op = r.op; place = r.place; makes = r.makes }; is = r.is; op = sym (does n i r.makes r.is e) ∙ here }
+      let op_is : d.op ≡ o = sym (does_at n i (r.makes).within d.does r.is e) ∙ here in
+      record { row = r.row; part = r.part; within = (r.makes).within; does = subst (λ z. Does P r.row r.part z) op_is d.does; is = r.is }
 
   fed : (n : ℕ) (o : Op) (p : Port) → op_at g n ≡ Some o → IsSome (port_kind o p) → IsFed g n o p
   unfolding Served
   fed n o p at h =
       let s = stands n o (slice_get g.instrs n) refl at in
-      let has : IsSome (port_kind (s.made).op p) = subst (λ (x : Op). IsSome (port_kind x p)) (sym s.op) h in
       record {
-        fed = λ needs. elim (served (s.made).makes p has) [
-          | inl free ↦ absurd (let same : true ≡ false = sym free ∙ ap (λ k. needs_no_arc g k p) s.is ∙ needs in cc)
-          | inr f ↦ subst (λ k. 0 < arcs_into g k p) s.is (let some = fed_counts s.role p f in omega arith)
+        fed = λ needs. elim (served s.within s.does p h) [
+          | inl free ↦ absurd (true_false (sym free ∙ ap (λ k. needs_no_arc g k p) s.is ∙ needs))
+          | inr f ↦ subst (λ k. 0 < arcs_into g k p) s.is (let some = fed_counts s.row s.part p f in omega arith)
         ];
-        once = λ many. absurd (omega (arith, fed_once n p));
+        once = λ many. elim (one_or_merge s.does) [
+          | inl merges ↦ merges
+          | inr one ↦ absurd (omega (arith, many, fed_once n p s.row s.part (record { form = _; place = _; makes = makes s.within s.does }) s.is (λ x y. one x y p)))
+        ];
       }
 
   -- ---- the answer
 
-  -- a block is main's where its definition's place is main's
-  tests_place : (d x : Def) → IsMain P d → IsDef P x → has_main_place g (block_of number x) ≡ (x.place == d.place)
-  tests_place d x main is_def =
-      let m = numbered.made (Trigger x.place) _ _ (trigger is_def) in
-      let n = numbered.made Answer _ _ (answer main) in
-      (λ i. same_place (m.at i) ((ap (slice_get g.instrs) (sym numbered.answer_first) ∙ n.at) i)) ∙ (λ i. m.place i == n.place i)
-
-  no_block : (d : Def) (ds : List Def) → IsMain P d → ((x : Def) → Among x ds → IsDef P x) → (Among d.place (places_of_all ds) → ⊥)
-      → filter (has_main_place g) (map (block_of number) ds) ≡ []
-  no_block d [] main are apart = refl
-  no_block d (x ∷ ds) main are apart =
-      let b = block_of number x in
-      let rest = filter (has_main_place g) (map (block_of number) ds) in
-      ap (λ t. cond t (b ∷ rest) rest) (tests_place d x main (are x (inl refl)) ∙ other_number x.place d.place (λ e. apart (inl (sym e))))
-      ∙ no_block d ds main (λ y k. are y (inr k)) (λ k. apart (inr (among_right d.place (map (λ (a : Entry). a.place) (entries_of_def x)) (places_of_all ds) k)))
-
-  -- of the blocks, main's alone is at the answer's place
-  one_block : (d : Def) (ds : List Def) → IsMain P d → ((x : Def) → Among x ds → IsDef P x) → AllDiffer (places_of_all ds) → Among d ds
-      → filter (has_main_place g) (map (block_of number) ds) ≡ block_of number d ∷ []
-  one_block d [] main are differ h = absurd h
-  one_block d (x ∷ ds) main are differ h =
-      let b = block_of number x in
-      let rest = filter (has_main_place g) (map (block_of number) ds) in
-      let is_def = are x (inl refl) in
-      let later = λ (y : Def) (k : Among y ds). are y (inr k) in
-      let places = map (λ (a : Entry). a.place) (entries_of_def x) in
-      let test = tests_place d x main is_def in
-      elim (cases_eq x.place d.place) [
-        | inl e ↦
-            ap (λ t. cond t (b ∷ rest) rest) (test ∙ same_number x.place d.place e)
-            ∙ ap (λ bs. b ∷ bs) (no_block d ds main later (λ k. differ.0 (among_right x.place places (places_of_all ds) (subst (λ n. Among n (places_of_all ds)) (sym e) k))))
-            ∙ ap (λ (y : Def). block_of number y ∷ []) (same_def P distinct is_def (def_of_main main) e)
-        | inr ne ↦
-            ap (λ t. cond t (b ∷ rest) rest) (test ∙ other_number x.place d.place ne)
-            ∙ one_block d ds main later (differ_right places (places_of_all ds) differ.1) (elim h [ inl is ↦ absurd (ne (ap (λ (y : Def). y.place) (sym is))) | inr k ↦ k ])
-      ]
-
-  answers : IsAnswer g
-  answers =
-      let m = main_of P in
-      let d = m.0 in
-      let is_def = def_of_main m.1 in
-      let back : op_at g (number (Trigger d.place) + 1) ≡ Some (Back (port_of d.result)) =
-      ap (op_at g) (sym (numbered.return_behind d is_def)) ∙ op_made (return is_def) in
+  answer : IsAnswer g
+  answer =
+      let k = known P in
+      let main = main_head P in
+      let S = source P [] in
+      let within = main_within S g number numbered k in
+      let is = main_is_head S g number numbered k in
+      let end : end_of P main ≡ P.main = (k.table).one_def (end_of P main) P.main main (end_is P (k.table) main within is) k.main in
+      let result = port_of (result_of (node P P.main)) in
+      let last : answer_row P < length R = (let some = (k.table).some in omega (arith, some)) in
+      let back : op_at g (number main 0 + 1) ≡ Some (Back result) =
+      ap (op_at g) (sym (numbered.parts_behind main 1)) ∙ op_made within (returns is) ∙ ap (λ e. Some (Back (port_of (result_of (node P e))))) end in
       record {
-        kind = port_of d.result;
-        block = block_of number d;
-        merge = ap (op_at g) (sym numbered.answer_first) ∙ op_made (answer m.1);
-        value = is_value_port d.result;
-        main = ap (filter (has_main_place g)) numbered.blocks
-            ∙ one_block d P.program.defs m.1 (λ x k. record { among = k }) distinct.differ is_def.among;
+        kind = result;
+        block = block_of P number main;
+        merge = ap (op_at g) (sym numbered.answer_first) ∙ op_made last (answers (k.table).ends);
+        value = is_value_port (result_of (node P P.main));
+        main = main_block S g number numbered k;
         result = ap (option_and_then back_kind) back;
       }
 
   sound : (n : ℕ) → IsSound g n
   sound n = record {
-    answer = λ e. answers;
+    answer = λ e. answer;
     roles = fills n;
     taken = λ i at. all_among (IsTaken g.instrs i.op) (arcs i) (λ to h. taken n i to at h);
     fed = λ o at p h. fed n o p at h;
   }
 
-  -- ---- inputs
-
-  token_port : (v : SourceValue) → token_kind (token_value v) ≡ port_of (value_kind v)
-  token_port (value.Int n) = refl
-  token_port (value.Bool b) = refl
-
-  entries_take : {d : Def} → IsDef P d → (ps : List Param) (vs : List SourceValue) → ((x : Param) → Among x ps → Among x d.params) → AreFor ps vs
-      → AreTaken g (map (λ (x : Param). number (Label x.place)) ps) vs
-  entries_take is_def [] [] inside h = tt
-  entries_take is_def [] (v ∷ vs) inside h = h
-  entries_take is_def (x ∷ ps) [] inside h = h
-  entries_take is_def (x ∷ ps) (v ∷ vs) inside h =
-      let here = inside x (inl refl) in
-      let kind_is : port_at P x.place ≡ token_kind (token_value v) =
-      port_is P x.place x.kind (kind_of_param P x is_def here) ∙ ap port_of (sym h.0) ∙ sym (token_port v) in
-      (op_made (entry (param_part x is_def here)) ∙ ap (λ k. Some (Merge k)) kind_is, entries_take is_def ps vs (λ y k. inside y (inr k)) h.1)
-
-  takes_inputs : (vs : List SourceValue) → AreInputs P vs → TakesInputs g vs
-  takes_inputs vs own = record {
-    taken = λ b main. (
-        let d = own.main in
-        let is_def = def_of_main own.is_main in
-        let found = ap (filter (has_main_place g)) numbered.blocks
-        ∙ one_block d P.program.defs own.is_main (λ x k. record { among = k }) distinct.differ is_def.among in
-        let both : b ∷ [] ≡ block_of number d ∷ [] = sym main ∙ found in
-        let same : b ≡ block_of number d = cc in
-        subst (λ (c : Block). AreTaken g c.entries vs) (sym same) (entries_take is_def d.params vs (λ x k. k) own.are_for));
-  }
-
 -- every graph that the schemas give a program is valid
 pub validity : (P : Checked) (g : Parts) → Schemas P g → IsValid g
 validity P g schemas = record { sound = sound P g schemas.number schemas.numbered }
-
--- the inputs of a program are inputs for each graph that the schemas give it
-pub inputs_taken : (P : Checked) (g : Parts) (vs : List SourceValue) → AreInputs P vs → Schemas P g → TakesInputs g vs
-inputs_taken P g vs own schemas = takes_inputs P g schemas.number schemas.numbered vs own

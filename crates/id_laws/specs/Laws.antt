@@ -1,8 +1,7 @@
 -- The laws that join what a program means to what its graph does (docs/MEANING.md, "Laws").
-use Rattle.std.specs.Prelude.{◌≡◌, ◌≢◌, ◌≤◌, ◌++◌, ℕ, List, map, Option, Some, count_by, Bool, ◌&&◌}
-use Rattle.id_check.specs.declared.Checked.{Checked}
+use Rattle.std.specs.Prelude.{◌≡◌, ◌≢◌, ◌≤◌, ◌<◌, ◌++◌, ℕ, List, length, map, Option, Some, count_by, Bool, true, ◌&&◌}
+use Rattle.id_check.specs.declared.checked.Checked.{Checked}
 use Rattle.id_graph.specs.declared.dests.Port.{Port}
-use Rattle.id_graph.specs.declared.instr.Op.{Op}
 use Rattle.id_graph.specs.Graph.{Parts}
 use Rattle.id_tag.specs.declared.Tag.{Tag}
 use Rattle.id_tag.specs.declared.Payload.{Payload}
@@ -18,14 +17,20 @@ use Rattle.id_meaning.specs.declared.SourceValue.{SourceValue}
 use Rattle.id_meaning.specs.declared.SourceFault.{SourceFault}
 use Rattle.id_meaning.specs.declared.Fact.TheVariants.{Has}
 use Rattle.id_meaning.specs.declared.NameValue.{NameValue}
-use Rattle.id_meaning.specs.Parts.{Among, AllDiffer, Region}
-use Rattle.id_meaning.specs.Sources.{Source, AreInputs}
+use Rattle.id_meaning.specs.declared.Path.{Path}
+use Rattle.id_list.specs.List.{Among, AllDiffer}
+use Rattle.id_parts.specs.Rows.{at}
+use Rattle.id_parts.specs.Tables.{is_binder, is_expression, is_thing}
+use Rattle.id_check.specs.Programs.{kind, place, rows}
+use Rattle.id_meaning.specs.Sources.{Source, AreInputs, value_kind}
 use Rattle.id_meaning.specs.Facts.{outermost}
 use Rattle.id_meaning.specs.Rounds.{Holds, Faulty, FaultFree, Answers, IsAnswer, IsCoherent}
 use Rattle.id_meaning.specs.Names.{IsNameValue}
-use Rattle.id_build.specs.Roles.{Role, Of, Makes}
-use Rattle.id_build.specs.Schemas.{Schemas}
+use Rattle.id_build.specs.declared.arc.Form.{Form}
+use Rattle.id_build.specs.Schemas.{Makes, Schemas}
 use Rattle.id_valid.specs.Validator.{IsValid}
+-- *Suited* speaks of the runs of every valid graph
+pub use Rattle.id_runs.specs.Suited.{Suited}
 
 -- the events of a machine in this state
 abbrev pub events : World → List EventView
@@ -50,7 +55,7 @@ pub record Carries (S : Source) (e : ℕ) (m : Message) : Type 0 where
   pub holds : Holds S (Has outermost e value)
 
 -- a machine in this state has shown facts and faults of the source alone, where the instructions are numbered so
-pub record IsSound (S : Source) (g : Parts) (number : Role → ℕ) (s : World) : Type 0 where
+pub record IsSound (S : Source) (g : Parts) (number : ℕ → ℕ → ℕ) (s : World) : Type 0 where
   -- its answer is the source's
   pub answer : (v : SourceValue) → shown.answer s ≡ Some v → Answers S v
   -- what it shows that binders Have, they Have, and it shows nothing twice
@@ -59,8 +64,8 @@ pub record IsSound (S : Source) (g : Parts) (number : Role → ℕ) (s : World) 
   -- each of its faults is one of the source
   pub faults : (f : SourceFault) → Among f (shown.faults g s) → Faulty S f
   -- what the instruction of an expression has sent brings a value that the expression Has
-  pub values : (r : Region) (e : ℕ) (o : Op) (v : EventView) (m : Message) → Makes S.checked (Of r e) o e → Among v (events s)
-      → (tag_of v.message.payload).instr ≡ number (Of r e) → Among m v.outputs → Carries S e m
+  pub values : (n : ℕ) (f : Form) (e : ℕ) (v : EventView) (m : Message) → Makes S.checked n 0 f e → is_expression (at (rows S.checked) n).node ≡ true → Among v (events s)
+      → (tag_of v.message.payload).instr ≡ number n 0 → Among m v.outputs → Carries S e m
 
 -- in this state no event was `Stuck`, and each port has got at most one token under each tag
 pub record IsNeverStuck (s : World) : Type 0 where
@@ -96,3 +101,26 @@ Validity = (P : Checked) (g : Parts) → Schemas P g → IsValid g
 -- *Inputs fit*: each such graph takes the inputs of the program
 abbrev pub InputsFit : Type 0
 InputsFit = (P : Checked) (g : Parts) (vs : List SourceValue) → AreInputs P vs → Schemas P g → TakesInputs g vs
+
+-- a value gets its name at the row
+pub record IsBinder (P : Checked) (b : ℕ) : Type 0 where
+  pub within : b < length (rows P)
+  pub binds : is_binder (at (rows P) b).node ≡ true
+
+-- the labels of the graph are the first instructions of the program's binders, where the instructions are numbered so
+pub record AreLabels (P : Checked) (g : Parts) (number : ℕ → ℕ → ℕ) : Type 0 where
+  -- each binder has a label, and it has the binder's place
+  pub each : (b : ℕ) → IsBinder P b → shown.is_label g (number b 0) ≡ true
+  pub places : (b : ℕ) → IsBinder P b → shown.place_of g (number b 0) ≡ place P b
+  -- there is no other label, and no two binders have one
+  pub only : (n : ℕ) → shown.is_label g n ≡ true → (b : ℕ) × IsBinder P b × (number b 0 ≡ n)
+  pub apart : (b c : ℕ) → IsBinder P b → IsBinder P c → number b 0 ≡ number c 0 → b ≡ c
+
+-- *Labels*: the labels of each such graph are those of the program's binders, one each
+abbrev pub Labels : Type 0
+Labels = (P : Checked) (g : Parts) → (schemas : Schemas P g) → AreLabels P g schemas.number
+
+-- *Kinded*: what a thing of a source Has is of the thing's kind
+abbrev pub Kinded : Type 0
+Kinded = (S : Source) (n : ℕ) (p : Path) (v : SourceValue) → AreInputs S.checked S.inputs → n < length (rows S.checked)
+    → is_thing (at (rows S.checked) n).node ≡ true → Holds S (Has p (place S.checked n) v) → kind S.checked n ≡ Some (value_kind v)

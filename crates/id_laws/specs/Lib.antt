@@ -1,1 +1,7 @@
+-- What public clauses cite.
 pub mod Laws
+-- For use inside.
+pub mod Activations
+pub mod Topics
+pub mod Ways
+pub mod Carried

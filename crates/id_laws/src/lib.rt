@@ -3,10 +3,11 @@
 //! Keeps: nothing; each function is a law, and has no code.
 //! Errors: none.
 //! Read first: `specs/Laws.antt`.
-//! Not here: the facts of a source (`id_meaning`), the graphs of the schemas (`id_build`), runs (`id_core`).
+//! Not here: the facts of a source (`id_meaning`), the graphs of the schemas (`id_build`), runs (`id_runs`).
 #![tactic(auto)]
 
-ghost use Rattle.id_laws.specs.Laws.{Coherence, InputsFit, NeverStuck, QuietIsComplete, Soundness, Validity};
+ghost use Rattle.id_laws.specs.Laws.{Coherence, InputsFit, Kinded, Labels, NeverStuck, QuietIsComplete, Soundness};
+ghost use Rattle.id_laws.specs.Laws.{Suited, Validity};
 
 /// *Sound*: what any run of a schemas' graph shows is of the source. The answer is the source's, each
 /// fault is one of the source, what a binder is shown to have it Has, and each value that the
@@ -28,7 +29,7 @@ pub fn complete()
     ensures { QuietIsComplete }
 {}
 
-/// *Coherence*: a source gives each path and place at most one value (docs/MEANING.md, "Laws"). Takes
+/// *Coherence*: each source gives each path and place at most one value (docs/MEANING.md, "Laws"). Takes
 /// no memory.
 pub fn coherent()
     ensures { Coherence }
@@ -40,8 +41,25 @@ pub fn valid()
     ensures { Validity }
 {}
 
+/// *Suited*: operands that meet an operator in any run of a valid graph suit it, so none answers
+/// `Nothing` (docs/MEANING.md, "Laws"). Takes no memory.
+pub fn suited()
+    ensures { Suited }
+{}
+
 /// *Inputs fit*: every graph that the schemas give a program takes the inputs of the program: one for each
 /// entry of main's block, of its kind (docs/MEANING.md, "Laws"). Takes no memory.
 pub fn inputs_fit()
     ensures { InputsFit }
+{}
+
+/// *Labels*: the labels of every graph that the schemas give a program are the first instructions of the
+/// program's binders, one each, and have their places (docs/MEANING.md, "Laws"). Takes no memory.
+pub fn labels()
+    ensures { Labels }
+{}
+
+/// *Kinded*: what a thing of a source Has is of the thing's kind (docs/MEANING.md, "Laws"). Takes no memory.
+pub fn kinded()
+    ensures { Kinded }
 {}

@@ -1,5 +1,5 @@
 -- Words that are read from left to right give the parameters their values.
-use Rattle.std.proofs.Common.{◌≡◌, ℕ, zero, suc, ◌+◌, ◌<◌, ◌==◌, eqb, Bool, true, false, not, cond, ◌&&◌, ◌||◌, if◌then◌else◌, ℤ, List, [], ◌∷◌, ◌++◌, map, take, drop, set, length, get_or, Bor, Option, None, Some, IsSome, IfSome, refl, ap, sym, ◌∙◌, subst, one-add, add-one, length-set, arith}
+use Rattle.std.proofs.Common.{◌≡◌, inl, inr, ℕ, zero, suc, ◌+◌, ◌<◌, ◌==◌, eqb, Bool, true, false, not, cond, ◌&&◌, ◌||◌, if◌then◌else◌, ℤ, List, [], ◌∷◌, ◌++◌, map, take, drop, set, length, get_or, Bor, Option, None, Some, IsSome, IfSome, refl, ap, sym, ◌∙◌, subst, one-add, add-one, length-set, arith}
 use Rattle.std.specs.Prelude.{slice_get, option_map, option_and_then}
 use Rattle.std.specs.Option.{option_or, is_some}
 use Rattle.std.specs.List.{AllPass, position_or_len, before_first, after_first}
@@ -9,17 +9,24 @@ use Rattle.std.proofs.lemmas.Bool.{eqb-true, eq-eqb, ne_eqb, false≢true}
 use Rattle.std.proofs.lemmas.List.{get_or-map, get_or-set_same, get_or-set_other}
 use Rattle.std.proofs.lemmas.Option.{slice_get_within}
 use Rattle.std.proofs.lemmas.Str.Pattern.{IsSplitOnceResult, split_once_first}
-use Rattle.id_tree.specs.declared.tree.Kind.{Kind}
-use Rattle.id_tree.specs.declared.tree.Kind.TheVariants as kind
-use Rattle.id_tree.specs.declared.tree.Param.{Param}
-use Rattle.id_tree.specs.declared.tree.Def.{Def}
-use Rattle.id_check.specs.declared.Checked.{Checked}
+use Rattle.id_value.specs.declared.Kind.{Kind}
+use Rattle.id_value.specs.declared.Kind.TheVariants as kind
+use Rattle.id_list.specs.List.{Among}
+use Rattle.id_parts.specs.declared.row.Node.{Node}
+use Rattle.id_parts.specs.declared.row.Node.TheVariants.{Param}
+use Rattle.id_parts.specs.Rows.{at}
+use Rattle.id_parts.specs.Tables.{is_param}
+use Rattle.id_check.specs.declared.checked.Checked.{Checked}
+use Rattle.id_check.specs.Programs.{rows}
+use Rattle.id_meaning.specs.declared.inputs.Wanted.{Wanted}
 use Rattle.id_meaning.specs.declared.SourceValue.{SourceValue}
 use Rattle.id_meaning.specs.declared.SourceValue.TheVariants as value
 use Rattle.id_meaning.specs.declared.inputs.InputError.{InputError}
 use Rattle.id_meaning.specs.declared.inputs.InputError.TheVariants.{UnknownInput, RepeatedInput, BadInput}
-use Rattle.id_meaning.specs.Sources.{AreFor, AreInputs, value_kind}
-use Rattle.id_meaning.specs.Inputs.{AreInputsOf, Cut, begun, cut, cut_so, number_of, are_digits, number_spelled, whole_value, value_spelled, Said, Nothing, Says, said_so, cause_so, values_so, said_of, said_by, said, named_by, has, option_bad, word_cause, first_cause, value_in, value_for, IsCauseOf}
+use Rattle.id_meaning.specs.Sources.{AreFor, AreInputs, SuitsParam, head_of, main_params, value_kind}
+use Rattle.id_meaning.proofs.ParamsLemmas.{params-among}
+use Rattle.id_meaning.specs.Inputs.{AreInputsOf, Cut, begun, cut, wanted, wanted_of, number_of, are_digits, number_spelled, whole_value, value_spelled, Said, Nothing, Says, said_of, said_by, said, named_by, has, option_bad, word_cause, first_cause, value_in, value_for, IsCauseOf}
+use Rattle.id_meaning.specs.Reading.{cut_so, said_so, cause_so, values_so}
 
 -- ---- words that are cut
 
@@ -86,7 +93,7 @@ are_digits-end (c ∷ cs) h = ap not (ne_eqb (length (c ∷ cs)) 0 (λ e. omega 
 -- ---- the values so far
 
 -- after j words these are the values: the words that are left decide the cause, and give what lacks
-pub record Progress (ps : List Param) (ws : List (List ℕ)) (j : ℕ) (vs : List (Option SourceValue)) : Type 0 where
+pub record Progress (ps : List Wanted) (ws : List (List ℕ)) (j : ℕ) (vs : List (Option SourceValue)) : Type 0 where
   pub seen : List ℕ
   pub cause : first_cause ps [] 0 ws ≡ first_cause ps seen j (drop j ws)
   pub size : length vs ≡ length ps
@@ -94,7 +101,7 @@ pub record Progress (ps : List Param) (ws : List (List ℕ)) (j : ℕ) (vs : Lis
   pub given : (n : ℕ) → n < length vs → value_for ps ws n ≡ option_or (get_or vs n None) (value_for ps (drop j ws) n)
 
 -- what the causes from word j on are, where it says s
-abbrev cause_from : List Param → List ℕ → ℕ → Said → List (List ℕ) → Option InputError
+abbrev cause_from : List Wanted → List ℕ → ℕ → Said → List (List ℕ) → Option InputError
 cause_from ps seen j s rest = option_or (word_cause seen j s) (first_cause ps (named_by s ++ seen) (suc j) rest)
 
 has_more : (v : Bool) (n m : ℕ) (seen : List ℕ) (vs : List (Option SourceValue)) (o : SourceValue) → eqb n m ≡ v → n < length vs → has m seen ≡ is_some (get_or vs m None) → (v || has m seen) ≡ is_some (get_or (set vs n (Some o)) m None)
@@ -109,7 +116,7 @@ given_more true n m vs o all left e l none h =
 given_more false n m vs o all left e l none h = h ∙ ap (λ g. option_or g left) (sym (get_or-set_other vs n m (Some o) None (λ same. false≢true (sym e ∙ eq-eqb n m (sym same)))))
 
 -- the cause of a word that names a parameter
-refused : (ps : List Param) (ws : List (List ℕ)) (j : ℕ) (rest : Option InputError) (known : Bool) (v : Option SourceValue) (e : InputError)
+refused : (ps : List Wanted) (ws : List (List ℕ)) (j : ℕ) (rest : Option InputError) (known : Bool) (v : Option SourceValue) (e : InputError)
     → first_cause ps [] 0 ws ≡ option_or (if known then Some (RepeatedInput j) else option_bad j v) rest → (if known then Some (RepeatedInput j) else option_bad j v) ≡ Some e → IsCauseOf ps ws e
 refused ps ws j rest true v e first cause = subst (IsCauseOf ps ws) (let same : RepeatedInput j ≡ e = cc in same) first
 refused ps ws j rest false None e first cause = subst (IsCauseOf ps ws) (let same : BadInput j ≡ e = cc in same) first
@@ -121,7 +128,7 @@ free j None None e = cc
 free j None (Some w) e = (refl, refl)
 free j (Some q) v e = cc
 
-module _ (ps : List Param) (ws : List (List ℕ)) (j : ℕ) (vs : List (Option SourceValue)) (P : Progress ps ws j vs) (inside : j < length ws) where
+module _ (ps : List Wanted) (ws : List (List ℕ)) (j : ℕ) (vs : List (Option SourceValue)) (P : Progress ps ws j vs) (inside : j < length ws) where
   next : drop j ws ≡ get_or ws j [] ∷ drop (suc j) ws
   next = drop-cons ws j [] inside
 
@@ -168,7 +175,7 @@ module _ (ps : List Param) (ws : List (List ℕ)) (j : ℕ) (vs : List (Option S
   progress-next (Some (n, Some v)) says within cause = next_at n v (sym says) within (free j (get_or vs n None) (Some v) cause).0
 
 -- the word of a number, as its text
-pub word_at : (ps : List Param) (ws : List (Bor (List ℕ))) (j : ℕ) (d : Bor (List ℕ)) → j < length ws → said ps (get_or (map (λ w. w.now) ws) j []) ≡ said ps (get_or ws j d).now
+pub word_at : (ps : List Wanted) (ws : List (Bor (List ℕ))) (j : ℕ) (d : Bor (List ℕ)) → j < length ws → said ps (get_or (map (λ w. w.now) ws) j []) ≡ said ps (get_or ws j d).now
 word_at ps ws j d inside = ap (said ps) (get_or-map (λ (w : Bor (List ℕ)). w.now) ws j d [] inside)
 
 -- ---- kinds
@@ -191,20 +198,20 @@ spelled-kind kind.Int cs o e = number-kind (number_spelled cs) o e
 spelled-kind kind.Bool cs o e = truth-kind _ _ o e
 spelled-kind kind.Array cs o e = cc
 
-param-kind : (q : Option Param) (p : Param) (cs : List ℕ) (o : SourceValue) → q ≡ Some p → option_and_then (λ r. value_spelled r.kind cs) q ≡ Some o → value_kind o ≡ p.kind
+param-kind : (q : Option Wanted) (p : Wanted) (cs : List ℕ) (o : SourceValue) → q ≡ Some p → option_and_then (λ r. value_spelled r.kind cs) q ≡ Some o → value_kind o ≡ p.kind
 param-kind q p cs o is e = spelled-kind p.kind cs o (rw is at e)
 
 -- what a word says of a parameter has its kind
-in-kind : (v : Bool) (ps : List Param) (cs : List ℕ) (n m : ℕ) (p : Param) (o : SourceValue) → eqb m n ≡ v → slice_get ps n ≡ Some p
+in-kind : (v : Bool) (ps : List Wanted) (cs : List ℕ) (n m : ℕ) (p : Wanted) (o : SourceValue) → eqb m n ≡ v → slice_get ps n ≡ Some p
     → (if v then option_and_then (λ r. value_spelled r.kind cs) (slice_get ps m) else None) ≡ Some o → value_kind o ≡ p.kind
 in-kind true ps cs n m p o e is h = param-kind (slice_get ps m) p cs o (ap (slice_get ps) (eqb-true m n e) ∙ is) h
 in-kind false ps cs n m p o e is h = cc
 
-said-kind : (ps : List Param) (cs : List ℕ) (a : Option ℕ) (n : ℕ) (p : Param) (o : SourceValue) → slice_get ps n ≡ Some p → value_in n (said_of ps cs a) ≡ Some o → value_kind o ≡ p.kind
+said-kind : (ps : List Wanted) (cs : List ℕ) (a : Option ℕ) (n : ℕ) (p : Wanted) (o : SourceValue) → slice_get ps n ≡ Some p → value_in n (said_of ps cs a) ≡ Some o → value_kind o ≡ p.kind
 said-kind ps cs None n p o is e = cc
 said-kind ps cs (Some m) n p o is e = in-kind (eqb m n) ps cs n m p o refl is e
 
-word-kind : (ps : List Param) (w : Option Cut) (n : ℕ) (p : Param) (o : SourceValue) → slice_get ps n ≡ Some p → value_in n (said_by ps w) ≡ Some o → value_kind o ≡ p.kind
+word-kind : (ps : List Wanted) (w : Option Cut) (n : ℕ) (p : Wanted) (o : SourceValue) → slice_get ps n ≡ Some p → value_in n (said_by ps w) ≡ Some o → value_kind o ≡ p.kind
 word-kind ps None n p o is e = cc
 word-kind ps (Some w) n p o is e = said-kind ps w.value (number_of ps w.name) n p o is e
 
@@ -212,31 +219,42 @@ or-kind : (a b : Option SourceValue) (k : Kind) (o : SourceValue) → option_or 
 or-kind None b k o e first second = second e
 or-kind (Some v) b k o e first second = first e
 
-for-kind : (ps : List Param) (ws : List (List ℕ)) (n : ℕ) (p : Param) (o : SourceValue) → slice_get ps n ≡ Some p → value_for ps ws n ≡ Some o → value_kind o ≡ p.kind
+for-kind : (ps : List Wanted) (ws : List (List ℕ)) (n : ℕ) (p : Wanted) (o : SourceValue) → slice_get ps n ≡ Some p → value_for ps ws n ≡ Some o → value_kind o ≡ p.kind
 for-kind ps [] n p o is e = cc
 for-kind ps (w ∷ ws) n p o is e = or-kind (value_in n (said ps w)) (value_for ps ws n) p.kind o e (word-kind ps (cut w) n p o is) (for-kind ps ws n p o is)
 
--- one value for each parameter, of its kind
-are-for : (qs : List Param) (vs : List SourceValue) → length vs ≡ length qs → ((n : ℕ) (p : Param) (v : SourceValue) → slice_get qs n ≡ Some p → slice_get vs n ≡ Some v → value_kind v ≡ p.kind) → AreFor qs vs
-are-for [] [] e h = tt
-are-for [] (v ∷ vs) e h = absurd (omega arith)
-are-for (q ∷ qs) [] e h = absurd (omega arith)
-are-for (q ∷ qs) (v ∷ vs) e h = (h 0 q v refl refl, are-for qs vs (omega arith) (λ n. h (suc n)))
+-- the parameter at a row of this node has the kind that is wanted
+suits : (P : Checked) (z : Node) (v : SourceValue) → is_param z ≡ true → value_kind v ≡ (wanted_of P z).kind → SuitsParam z v
+suits P (Param x k) v h e = e
+suits P _ v h e = absurd (false≢true h)
 
-inputs-for : (ps : List Param) (ws : List (List ℕ)) (vs : List SourceValue) → length vs ≡ length ps → ((n : ℕ) → n < length vs → slice_get vs n ≡ value_for ps ws n) → AreFor ps vs
-inputs-for ps ws vs size values = are-for ps vs size (λ n p v is at. for-kind ps ws n p v is (sym (values n (slice_get_within vs n v at)) ∙ at))
+-- one value for each parameter, of its kind
+are-for : (P : Checked) (bs : List ℕ) (vs : List SourceValue) → ((b : ℕ) → Among b bs → is_param (at (rows P) b).node ≡ true) → length vs ≡ length bs
+    → ((n : ℕ) (p : Wanted) (v : SourceValue) → slice_get (map (λ b. wanted_of P (at (rows P) b).node) bs) n ≡ Some p → slice_get vs n ≡ Some v → value_kind v ≡ p.kind) → AreFor P bs vs
+are-for P [] [] are e h = tt
+are-for P [] (v ∷ vs) are e h = absurd (omega arith)
+are-for P (b ∷ bs) [] are e h = absurd (omega arith)
+are-for P (b ∷ bs) (v ∷ vs) are e h = (suits P (at (rows P) b).node v (are b (inl refl)) (h 0 _ v refl refl), are-for P bs vs (λ c i. are c (inr i)) (omega arith) (λ n. h (suc n)))
+
+wide-map : {A B : Type 0} (f : A → B) (xs : List A) → length (map f xs) ≡ length xs
+wide-map f [] = refl
+wide-map f (x ∷ xs) = ap (λ n. suc n) (wide-map f xs)
 
 -- one for each parameter of `main`, of its kind
-module _ (P : Checked) (d : Def) (ps : List Param) (ws : List (List ℕ)) (vs : List SourceValue) (at : slice_get P.program.defs P.main ≡ Some d) (same : ps ≡ d.params) (enough : length vs ≡ length ps)
+module _ (P : Checked) (ps : List Wanted) (ws : List (List ℕ)) (vs : List SourceValue) (same : ps ≡ wanted P) (enough : length vs ≡ length ps)
     (values : (n : ℕ) → n < length vs → slice_get vs n ≡ value_for ps ws n) where
   pub are-inputs-of : first_cause ps [] 0 ws ≡ None → AreInputsOf P ws vs
   are-inputs-of taken = record {
-    main = d;
-    is_main = record { at = at };
     all_taken = subst (λ qs. first_cause qs [] 0 ws ≡ None) same taken;
     enough = enough ∙ ap length same;
     values = λ n l. values n l ∙ ap (λ qs. value_for qs ws n) same;
   }
 
   pub are-inputs : AreInputs P vs
-  are-inputs = record { main = d; is_main = record { at = at }; are_for = subst (λ qs. AreFor qs vs) same (inputs-for ps ws vs enough values) }
+  are-inputs =
+      let R = rows P in
+      let wide : length (wanted P) ≡ length (main_params P) = wide-map (λ b. wanted_of P (at R b).node) (main_params P) in
+      let kinds : (n : ℕ) (p : Wanted) (v : SourceValue) → slice_get ps n ≡ Some p → slice_get vs n ≡ Some v → value_kind v ≡ p.kind =
+      λ n p v is at. for-kind ps ws n p v is (sym (values n (slice_get_within vs n v at)) ∙ at) in
+      are-for P (main_params P) vs (λ b i. (params-among R (head_of (at R P.main).node) (length R) b i).1) (enough ∙ ap length same ∙ wide)
+      (subst (λ (qs : List Wanted). (n : ℕ) (p : Wanted) (v : SourceValue) → slice_get qs n ≡ Some p → slice_get vs n ≡ Some v → value_kind v ≡ p.kind) same kinds)

@@ -1,320 +1,352 @@
--- Where the cells show the facts of a round, the cells after one round more show those of the next.
-use Rattle.std.proofs.Common.{◌≡◌, ◌⊎◌, inl, inr, ℕ, zero, suc, ◌+◌, ◌≤◌, Bool, true, false, ◌||◌, Option, None, Some, List, [], ◌∷◌, max, nat_eq, get_or, replicate, if◌then◌else◌, refl, ap, sym, ◌∙◌, subst, arith}
-use Rattle.std.specs.Prelude.{map, slice_get}
-use Rattle.std.proofs.lemmas.Bool.Decides.{eqb_tells}
-use Rattle.std.proofs.lemmas.List.{length-replicate}
-use Rattle.indexmap.specs.IndexMap.{get}
-use Rattle.id_tree.specs.declared.tree.UnaryOp.{UnaryOp}
-use Rattle.id_tree.specs.declared.tree.BinaryOp.{BinaryOp}
-use Rattle.id_tree.specs.declared.tree.Def.{Def}
+-- Where the cells have the facts of a round, the cells after one round more have those of the next.
+use Rattle.std.proofs.Common.{◌≡◌, ◌⊎◌, inl, inr, ◌++◌, ℕ, ◌<◌, Bool, true, false, Option, None, Some, List, [], ◌∷◌, length, refl, ap, sym, ◌∙◌, subst}
+use Rattle.std.proofs.lemmas.Bool.{false≢true}
+use Rattle.std.proofs.lemmas.Option.{none-some}
+use Rattle.id_value.specs.declared.UnaryOp.{UnaryOp}
+use Rattle.id_value.specs.declared.BinaryOp.{BinaryOp}
+use Rattle.id_value.specs.Results.{result_of_unary, result_of_binary}
+use Rattle.id_list.specs.List.{Among}
+use Rattle.id_list.proofs.AmongLemmas.{Among-right}
+use Rattle.id_parts.specs.declared.row.Node.{Node}
+use Rattle.id_parts.specs.declared.row.Node.TheVariants.{Param, Literal, Name, Unary, Binary, Split, If, Block, Binding, Def}
+use Rattle.id_parts.specs.Rows.{at}
+use Rattle.id_parts.specs.Tables.{HasOperand, is_binder, is_expression, is_param, is_thing}
+use Rattle.id_parts.specs.Turns.{Turns, operand, left, right, test, body, statement}
+use Rattle.id_check.specs.Causes.{defines_main}
+use Rattle.id_check.specs.Programs.{Stands, binder, place, rows}
 use Rattle.id_meaning.specs.declared.Path.{Path}
 use Rattle.id_meaning.specs.declared.SourceValue.{SourceValue}
+use Rattle.id_meaning.specs.declared.SourceValue.TheVariants.{Int, Bool as Truth}
 use Rattle.id_meaning.specs.declared.Fact.{Fact}
-use Rattle.id_meaning.specs.declared.Fact.TheVariants.{On, Has}
-use Rattle.id_meaning.specs.declared.table.Turn.{Turn}
-use Rattle.id_meaning.specs.declared.table.Turn.TheVariants.{Always, By, Never}
-use Rattle.id_meaning.specs.declared.table.Form.{Form}
-use Rattle.id_meaning.specs.declared.table.Form.TheVariants as form
-use Rattle.id_meaning.specs.declared.table.Line.{Line}
-use Rattle.id_meaning.specs.declared.state.Cell.{Cell}
-use Rattle.id_meaning.specs.Results.{Outcome, Gives, Fails, Lacks, result_of_unary, result_of_binary}
-use Rattle.id_meaning.specs.Parts.{Among, AllDiffer, Region, Node, LiteralNode, UnaryNode, BinaryNode, NameNode, UnboundNode, BlockNode, BindingNode, ParamNode, Part, IsMain, place_of, entries_of_def, entries_of_all, places_of_all}
-use Rattle.id_meaning.specs.Sources.{Source, IsInput}
-use Rattle.id_meaning.specs.Facts.{outermost, Rule, main_on, param_has, literal_has, operand_on, left_on, right_on, unary_has, binary_has, name_has, statement_on, body_on, block_has, binding_has}
+use Rattle.id_meaning.specs.declared.Fact.TheVariants as fact
+use Rattle.id_meaning.specs.declared.cells.Cell.{Cell}
+use Rattle.id_meaning.specs.declared.cells.RowFact.{RowFact}
+use Rattle.id_meaning.specs.declared.cells.RowFact.TheVariants.{On, Has}
+use Rattle.id_meaning.specs.Sources.{Source, IsInput, body_of, main_body, value_of}
+use Rattle.id_meaning.specs.Facts.{outermost, without, between, Rule, main_on, param_has, literal_has, operand_on, left_on, right_on, unary_has, binary_has, name_has, test_on, arm_on, conditional_has, statement_on, body_on, block_has, binding_has}
 use Rattle.id_meaning.specs.Rounds.{Every, Rounds}
-use Rattle.id_meaning.specs.Lines.{lines_of_all}
-use Rattle.id_meaning.specs.States.{after, binary_of, blank, cell_after, cell_at, gained, given, needs_no_on, next, Fits, places, turned, unary_of, value_after}
-use Rattle.id_meaning.specs.Listed.{IsRound, Shown, last_of}
-use Rattle.id_meaning.proofs.AmongLemmas.{AllDiffer-append, AllDiffer-apart, AllDiffer-left, AllDiffer-right, Among-either, Among-left, Among-right, map-append}
-use Rattle.id_meaning.proofs.PlacesLemmas.{Distinct-checked}
-use Rattle.id_meaning.proofs.RoundsLemmas.{Rounds-follow}
-use Rattle.id_meaning.proofs.StatesLemmas.{elsewhere, here, length-after}
-use Rattle.id_meaning.proofs.TableLemmas.{Aligned, Fed, Formed, Served, Turned, TurnerOf, Turns, aligned-all, aligned-entry, aligned-line, aligned-places, fed-main, form_of, turned-by-all, turned-main, turner-all}
+use Rattle.id_meaning.specs.Links.{beyond, reads_of, some_row, test_of}
+use Rattle.id_meaning.specs.Cells.{arm_of, binary_of, cell_at, chosen, constant_of, gained, given as given_by, seen, unary_of, when}
+use Rattle.id_meaning.specs.Listed.{IsRound, IsThing, Known, fact_of}
+use Rattle.id_check.proofs.ProgramsLemmas.{part_row}
+use Rattle.id_meaning.proofs.CellsLemmas.{Given, Given_of}
+use Rattle.id_meaning.proofs.CheckedLemmas.{apart_of, binder_of}
+use Rattle.id_meaning.proofs.Coherence.{IsChoice, choice, constant-value}
 
--- the lines of the program
-abbrev pub lines : Source → List Line
-lines S = lines_of_all (get nat_eq S.checked.binders) S.checked.main S.inputs 0 S.checked.program.defs
+-- ---- things
 
--- ds are the cells one round after cs
-record Follows (ls : List Line) (cs ds : List Cell) : Type 0 where
-  pub lined : (l : Line) → Among l ls → cell_at ds l.place ≡ cell_after cs l
-  pub bare : (e : ℕ) → ((l : Line) → Among l ls → l.place ≡ e → ⊥) → cell_at ds e ≡ cell_at cs e
+thing-expression : (z : Node) → is_expression z ≡ true → is_thing z ≡ true
+thing-expression (Literal v) h = refl
+thing-expression (Name x) h = refl
+thing-expression (Unary o a) h = refl
+thing-expression (Binary o a b) h = refl
+thing-expression (If s x y) h = refl
+thing-expression (Block b) h = refl
+thing-expression _ h = absurd (false≢true h)
 
--- ---- what follows by a rule is shown
+thing-binder : (z : Node) → is_binder z ≡ true → is_thing z ≡ true
+thing-binder (Param x k) h = refl
+thing-binder (Binding x a) h = refl
+thing-binder _ h = absurd (false≢true h)
 
-gets-on : (ls : List Line) (cs ds : List Cell) (a : ℕ) (t : Turn) → Follows ls cs ds → Turned ls a t → turned cs t ≡ true → (cell_at ds a).on ≡ true
-gets-on ls cs ds a t w (l, h, p, q) k =
-    ap (λ x. (cell_at ds x).on) (sym p) ∙ ap (λ c. c.on) (w.lined l h) ∙ ap (λ x. turned cs x) q ∙ k
+pub thing-param : (z : Node) → is_param z ≡ true → is_thing z ≡ true
+thing-param (Param x k) h = refl
+thing-param _ h = absurd (false≢true h)
 
-or-true : (b c : Bool) → (b ≡ true) ⊎ (c ≡ true) → b || c ≡ true
-or-true true c h = refl
-or-true false c (inl h) = cc
-or-true false c (inr h) = h
+-- an operand of a row is a thing
+pub part-thing : (S : Source) (n a : ℕ) (z : Node) → Stands S.checked n z → HasOperand z a → IsThing S a
+part-thing S n a z s h =
+    let w = part_row S.checked n a z s h in
+    record { within = w.0; thing = thing-expression (at (rows S.checked) a).node w.1 }
 
-gets-value : (ls : List Line) (cs ds : List Cell) (l : Line) (e : ℕ) (g : Form) (v : SourceValue) → Follows ls cs ds → Among l ls → l.place ≡ e → l.form ≡ g → (needs_no_on g ≡ true) ⊎ ((cell_at cs e).on ≡ true) → gained cs g ≡ Some v → (cell_at ds e).has ≡ Some v
-gets-value ls cs ds l e g v w h p q ready gain =
-    let test : needs_no_on l.form || (cell_at cs l.place).on ≡ true = ap (λ f. needs_no_on f || (cell_at cs l.place).on) q ∙ ap (λ x. needs_no_on g || (cell_at cs x).on) p ∙ or-true (needs_no_on g) (cell_at cs e).on ready in
-    ap (λ x. (cell_at ds x).has) (sym p) ∙ ap (λ c. c.has) (w.lined l h)
-    ∙ ap (λ b. if b then gained cs l.form else None) test ∙ ap (λ f. gained cs f) q ∙ gain
+-- what stands at a node that is a thing is one
+pub node-thing : (S : Source) (n : ℕ) (z : Node) → Stands S.checked n z → is_thing z ≡ true → IsThing S n
+node-thing S n z s t = let P : Node → Type 0 = λ y. is_thing y ≡ true in record { within = s.within; thing = subst P (sym s.node) t }
 
--- each input is one for the parameter of its number
-inputs-served : (S : Source) → Served (IsInput S) S.checked.main S.inputs 0 S.checked.program.defs
-inputs-served S d k at e j x v found value =
-    let q : k ≡ S.checked.main = omega arith in
-    let z : j ≡ 0 + j = omega arith in
-    let F : ℕ → Type 0 = λ n. slice_get S.checked.program.defs n ≡ Some d in
-    record { main = d; is_main = record { at = subst F q at }; number = j; param = x; at = found; place = refl; value = ap (λ m. slice_get S.inputs m) z ∙ value }
+-- main's body is a thing
+main-by : (S : Source) (z : Node) → (at (rows S.checked) S.checked.main).node ≡ z → defines_main z ≡ true → IsThing S (main_body S.checked)
+main-by S (Def x h k b) e d =
+    let q : main_body S.checked ≡ b = ap body_of e in
+    let T : ℕ → Type 0 = λ n. IsThing S n in
+    subst T (sym q) (part-thing S S.checked.main b (Def x h k b) (record { within = S.checked.is_main.within; node = e }) refl)
+main-by S _ e d = absurd (false≢true d)
 
--- the lines stand to the table as they should
-lines-aligned : (S : Source) → Aligned (IsInput S) (entries_of_all S.checked.program.defs) (lines S)
-lines-aligned S = aligned-all (IsInput S) (get nat_eq S.checked.binders) S.checked.main S.inputs 0 S.checked.program.defs S.checked.resolved (inputs-served S)
+pub main-thing : (S : Source) → IsThing S (main_body S.checked)
+main-thing S = let P : Node → Type 0 = λ z. defines_main z ≡ true in main-by S (at (rows S.checked) S.checked.main).node refl S.checked.is_main.node
 
--- a node that gains a value by its form is no parameter
-form-found : (S : Source) (cs : List Cell) (e : ℕ) (n : Node) (f : Form) (v : SourceValue) → Formed (IsInput S) e n f → gained cs (form_of n) ≡ Some v → f ≡ form_of n
-form-found S cs e n f v (inl q) gain = q
-form-found S cs e n f v (inr given) gain =
-    let none : None ≡ Some v = ap (λ m. gained cs (form_of m)) (sym given.param) ∙ gain in cc
+-- ---- what follows by one rule, row by row
 
-part-has : (S : Source) (cs ds : List Cell) (r : Region) (e : ℕ) (n : Node) (v : SourceValue) → Follows (lines S) cs ds → Part S.checked r e n → (needs_no_on (form_of n) ≡ true) ⊎ ((cell_at cs e).on ≡ true) → gained cs (form_of n) ≡ Some v → (cell_at ds e).has ≡ Some v
-part-has S cs ds r e n v w part ready gain =
-    let x = aligned-line (IsInput S) (entries_of_all S.checked.program.defs) (lines S) (lines-aligned S) (record { place = e; region = r; node = n }) part.stands in
-    gets-value (lines S) cs ds x.0 e (form_of n) v w x.1 x.2 (form-found S cs e n x.0.form v x.3 gain) ready gain
+pub data Arises (S : Source) (cs : List Cell) : RowFact → Type 0 where
+  main : {n : ℕ} → n ≡ main_body S.checked → Arises S cs (On n)
+  turned : {n a : ℕ} → n < length (rows S.checked) → Turns (rows S.checked) n a → Known cs (On n) → Arises S cs (On a)
+  input : {n : ℕ} {v : SourceValue} → IsInput S n v → Arises S cs (Has n v)
+  given : (n : ℕ) {f : RowFact} → Given S.checked cs n f → Arises S cs f
 
-param-has : (S : Source) (cs ds : List Cell) (b : ℕ) (v : SourceValue) → Follows (lines S) cs ds → IsInput S b v → (cell_at ds b).has ≡ Some v
-param-has S cs ds b v w i =
-    let e : 0 + S.checked.main ≡ S.checked.main = omega arith in
-    let f : Fed (lines S) i.param.place v = fed-main (get nat_eq S.checked.binders) S.checked.main S.inputs 0 S.checked.program.defs S.checked.main i.main i.is_main.at e i.number i.param v i.at i.value in
-    gets-value (lines S) cs ds f.0 b (form.Input v) v w f.1 (f.2 ∙ i.place) f.3 (inl refl) refl
+-- what is given at a row is given from facts that are known: of the row itself, or of one that it reads
+pub data Linked (n : ℕ) (rs : List ℕ) : RowFact → Type 0 where
+  self : Linked n rs (On n)
+  read : {a : ℕ} {v : SourceValue} → Among a rs → Linked n rs (Has a v)
 
-part-on : (S : Source) (cs ds : List Cell) (r : Region) (e : ℕ) (n : Node) (a : ℕ) → Follows (lines S) cs ds → Part S.checked r e n → Turns n a → (cell_at cs e).on ≡ true → (cell_at ds a).on ≡ true
-part-on S cs ds r e n a w part k on =
-    gets-on (lines S) cs ds a (By e) w
-    (turned-by-all (get nat_eq S.checked.binders) S.checked.main S.inputs 0 S.checked.program.defs a (record { place = e; region = r; node = n }) part.stands k) on
+abbrev pub All : (RowFact → Type 0) → List RowFact → Type 0
+All F [] = Unit {0}
+All F (f ∷ fs) = F f × All F fs
 
-main-on : (S : Source) (cs ds : List Cell) (d : Def) → Follows (lines S) cs ds → IsMain S.checked d → (cell_at ds (place_of d.body)).on ≡ true
-main-on S cs ds d w m =
-    let e : 0 + S.checked.main ≡ S.checked.main = omega arith in
-    gets-on (lines S) cs ds (place_of d.body) Always w
-    (turned-main (get nat_eq S.checked.binders) S.checked.main S.inputs 0 S.checked.program.defs S.checked.main d m.at e) refl
+-- it holds of the cells by facts that are linked to the row, and of all cells with these facts
+pub record Used (cs : List Cell) (n : ℕ) (rs : List ℕ) (G : List Cell → Type 0) : Type 0 where
+  pub first : RowFact
+  pub rest : List RowFact
+  pub linked : All (Linked n rs) (first ∷ rest)
+  pub known : All (Known cs) (first ∷ rest)
+  pub enough : (ds : List Cell) → All (Known ds) (first ∷ rest) → G ds
 
-binary-gives : (o : BinaryOp) (x y : Option SourceValue) (v w z : SourceValue) → x ≡ Some v → y ≡ Some w → result_of_binary o v w ≡ Gives z → binary_of o x y ≡ Some z
-binary-gives o x y v w z h k e = ap (λ s. binary_of o s y) h ∙ ap (λ s. binary_of o (Some v) s) k ∙ ap given e
-
-unary-gives : (o : UnaryOp) (x : Option SourceValue) (v z : SourceValue) → x ≡ Some v → result_of_unary o v ≡ Gives z → unary_of o x ≡ Some z
-unary-gives o x v z h e = ap (λ s. unary_of o s) h ∙ ap given e
-
-complete : (S : Source) (cs ds : List Cell) → Follows (lines S) cs ds → {fs : List Fact} {f : Fact} → Rule S fs f → Every (Shown cs) fs → Shown ds f
-complete S cs ds w (main_on {d = d} m) h = (refl, main-on S cs ds d w m)
-complete S cs ds w (param_has {b = b} {v = v} i) h = (refl, param-has S cs ds b v w i)
-complete S cs ds w (literal_has {r = r} {e = e} {v = v} part) h = (h.0.0, part-has S cs ds r e (LiteralNode v) v w part (inr h.0.1) refl)
-complete S cs ds w (operand_on {r = r} {e = e} {a = a} {o = o} part) h = (h.0.0, part-on S cs ds r e (UnaryNode o a) a w part refl h.0.1)
-complete S cs ds w (left_on {r = r} {e = e} {a = a} {b = b} {o = o} part) h = (h.0.0, part-on S cs ds r e (BinaryNode o a b) a w part (inl refl) h.0.1)
-complete S cs ds w (right_on {r = r} {e = e} {a = a} {b = b} {o = o} part) h = (h.0.0, part-on S cs ds r e (BinaryNode o a b) b w part (inr refl) h.0.1)
-complete S cs ds w (unary_has {r = r} {e = e} {a = a} {o = o} {v = v} {x = x} part g) h =
-    (h.0.0, part-has S cs ds r e (UnaryNode o a) x w part (inr h.0.1) (unary-gives o (cell_at cs a).has v x h.1.0.1 g))
-complete S cs ds w (binary_has {r = r} {e = e} {a = a} {b = b} {o = o} {v = v} {w = y} {x = x} part g) h =
-    (h.0.0, part-has S cs ds r e (BinaryNode o a b) x w part (inr h.0.1) (binary-gives o (cell_at cs a).has (cell_at cs b).has v y x h.1.0.1 h.1.1.0.1 g))
-complete S cs ds w (name_has {r = r} {e = e} {b = b} {v = v} part) h = (h.0.0, part-has S cs ds r e (NameNode b) v w part (inr h.0.1) h.1.0.1)
-complete S cs ds w (statement_on {r = r} {e = e} {a = a} {b = b} {vs = vs} part k) h = (h.0.0, part-on S cs ds r e (BlockNode vs b) a w part (inl k) h.0.1)
-complete S cs ds w (body_on {r = r} {e = e} {b = b} {vs = vs} part) h = (h.0.0, part-on S cs ds r e (BlockNode vs b) b w part (inr refl) h.0.1)
-complete S cs ds w (block_has {r = r} {e = e} {b = b} {vs = vs} {v = v} part) h = (h.0.0, part-has S cs ds r e (BlockNode vs b) v w part (inr h.0.1) h.1.0.1)
-complete S cs ds w (binding_has {r = r} {e = e} {a = a} {v = v} part) h = (h.0.0, part-has S cs ds r e (BindingNode a) v w part (inl refl) h.0.1)
-
--- ---- what is shown follows by a rule
-
-turns-on : (S : Source) (k : ℕ) (r : Region) (e : ℕ) (n : Node) (a : ℕ) → Part S.checked r e n → Turns n a → Rounds S k (On outermost e) → Rounds S (suc k) (On outermost a)
-turns-on S k r e (LiteralNode v) a part t h = absurd t
-turns-on S k r e (UnaryNode o b) a part t h =
-    let F : ℕ → Type 0 = λ q. Rounds S (suc k) (On outermost q) in subst F (sym t) (inr (On outermost e ∷ [], operand_on part, (h, tt)))
-turns-on S k r e (BinaryNode o b c) a part (inl t) h =
-    let F : ℕ → Type 0 = λ q. Rounds S (suc k) (On outermost q) in subst F (sym t) (inr (On outermost e ∷ [], left_on part, (h, tt)))
-turns-on S k r e (BinaryNode o b c) a part (inr t) h =
-    let F : ℕ → Type 0 = λ q. Rounds S (suc k) (On outermost q) in subst F (sym t) (inr (On outermost e ∷ [], right_on part, (h, tt)))
-turns-on S k r e (NameNode b) a part t h = absurd t
-turns-on S k r e UnboundNode a part t h = absurd t
-turns-on S k r e (BlockNode vs b) a part (inl t) h = inr (On outermost e ∷ [], statement_on part t, (h, tt))
-turns-on S k r e (BlockNode vs b) a part (inr t) h =
-    let F : ℕ → Type 0 = λ q. Rounds S (suc k) (On outermost q) in subst F (sym t) (inr (On outermost e ∷ [], body_on part, (h, tt)))
-turns-on S k r e (BindingNode b) a part t h = absurd t
-turns-on S k r e ParamNode a part t h = absurd t
-
-sound-on : (S : Source) (k : ℕ) (cs : List Cell) → IsRound S k cs → (a : ℕ) (t : Turn) → TurnerOf S.checked.program.defs 0 S.checked.main a t → turned cs t ≡ true → Rounds S (suc k) (On outermost a)
-sound-on S k cs s a Always (d, i, at, e, p) h =
-    let q : i ≡ S.checked.main = omega arith in
-    let G : ℕ → Type 0 = λ j. slice_get S.checked.program.defs j ≡ Some d in
-    let F : ℕ → Type 0 = λ j. Rounds S (suc k) (On outermost j) in
-    let m : IsMain S.checked d = record { at = subst G q at } in
-    subst F (sym p) (inr ([], main_on m, tt))
-sound-on S k cs s a (By e) (x, among, p, t) h =
-    let part : Part S.checked x.region x.place x.node = record { stands = among } in
-    let on : (cell_at cs x.place).on ≡ true = ap (λ q. (cell_at cs q).on) p ∙ h in
-    turns-on S k x.region x.place x.node a part t (s.only (On outermost x.place) (refl, on))
-sound-on S k cs s a Never t h = absurd (false≢true h) where
-  false≢true : false ≡ true → ⊥
-  false≢true e = cc
-
-when-some : (b : Bool) (x : Option SourceValue) (v : SourceValue) → (if b then x else None) ≡ Some v → (b ≡ true) × (x ≡ Some v)
+pub when-some : {A : Type 0} (b : Bool) (x : Option A) (v : A) → when b x ≡ Some v → (b ≡ true) × (x ≡ Some v)
 when-some true x v h = (refl, h)
 when-some false x v h = cc
 
-given-inv : (r : Outcome) (z : SourceValue) → given r ≡ Some z → r ≡ Gives z
-given-inv (Gives v) z h = let e : v ≡ z = cc in ap Gives e
-given-inv (Fails k) z h = cc
-given-inv Lacks z h = cc
+when-on : {A : Type 0} (b : Bool) (x : Option A) (v : A) → b ≡ true → x ≡ Some v → when b x ≡ Some v
+when-on b x v e h = ap (λ c. when c x) e ∙ h
 
-unary-inv : (o : UnaryOp) (x : Option SourceValue) (z : SourceValue) → unary_of o x ≡ Some z → (v : SourceValue) × (x ≡ Some v) × (result_of_unary o v ≡ Gives z)
-unary-inv o None z h = cc
-unary-inv o (Some v) z h = (v, refl, given-inv (result_of_unary o v) z h)
+pub unary-some : (o : UnaryOp) (x : Option SourceValue) (v : SourceValue) → unary_of o x ≡ Some v → (w : SourceValue) × (x ≡ Some w) × (unary_of o (Some w) ≡ Some v)
+unary-some o None v h = cc
+unary-some o (Some w) v h = (w, refl, h)
 
-binary-inv : (o : BinaryOp) (x y : Option SourceValue) (z : SourceValue) → binary_of o x y ≡ Some z → (v : SourceValue) × (w : SourceValue) × (x ≡ Some v) × (y ≡ Some w) × (result_of_binary o v w ≡ Gives z)
-binary-inv o None y z h = cc
-binary-inv o (Some v) None z h = cc
-binary-inv o (Some v) (Some w) z h = (v, w, refl, refl, given-inv (result_of_binary o v w) z h)
+pub binary-some : (o : BinaryOp) (x y : Option SourceValue) (v : SourceValue) → binary_of o x y ≡ Some v → (w : SourceValue) × (u : SourceValue) × (x ≡ Some w) × (y ≡ Some u) × (binary_of o (Some w) (Some u) ≡ Some v)
+binary-some o None y v h = cc
+binary-some o (Some w) None v h = cc
+binary-some o (Some w) (Some u) v h = (w, u, refl, refl, h)
 
--- a part that gains a value follows by its rule
-gains : (S : Source) (k : ℕ) (cs : List Cell) → IsRound S k cs → (r : Region) (e : ℕ) (n : Node) (v : SourceValue) → Part S.checked r e n → needs_no_on (form_of n) || (cell_at cs e).on ≡ true → gained cs (form_of n) ≡ Some v → Rounds S (suc k) (Has outermost e v)
-gains S k cs s r e (LiteralNode w) v part on g =
-    let q : w ≡ v = cc in
-    let F : SourceValue → Type 0 = λ x. Rounds S (suc k) (Has outermost e x) in
-    subst F q (inr (On outermost e ∷ [], literal_has part, (s.only (On outermost e) (refl, on), tt)))
-gains S k cs s r e (UnaryNode o a) v part on g =
-    let i = unary-inv o (cell_at cs a).has v g in
-    inr (On outermost e ∷ Has outermost a i.0 ∷ [], unary_has part i.2, (s.only (On outermost e) (refl, on), (s.only (Has outermost a i.0) (refl, i.1), tt)))
-gains S k cs s r e (BinaryNode o a b) v part on g =
-    let i = binary-inv o (cell_at cs a).has (cell_at cs b).has v g in
-    inr (On outermost e ∷ Has outermost a i.0 ∷ Has outermost b i.1 ∷ [], binary_has part i.4, (s.only (On outermost e) (refl, on), (s.only (Has outermost a i.0) (refl, i.2), (s.only (Has outermost b i.1) (refl, i.3), tt))))
-gains S k cs s r e (NameNode b) v part on g =
-    inr (On outermost e ∷ Has outermost b v ∷ [], name_has part, (s.only (On outermost e) (refl, on), (s.only (Has outermost b v) (refl, g), tt)))
-gains S k cs s r e UnboundNode v part on g = cc
-gains S k cs s r e (BlockNode vs b) v part on g =
-    inr (On outermost e ∷ Has outermost b v ∷ [], block_has part, (s.only (On outermost e) (refl, on), (s.only (Has outermost b v) (refl, g), tt)))
-gains S k cs s r e (BindingNode a) v part on g =
-    inr (Has outermost a v ∷ [], binding_has part, (s.only (Has outermost a v) (refl, g), tt))
-gains S k cs s r e ParamNode v part on g = cc
+pub arm-some : (x y : ℕ) (o : Option SourceValue) (a : ℕ) → arm_of x y o ≡ Some a → (b : Bool) × (o ≡ Some (Truth b)) × (arm_of x y (Some (Truth b)) ≡ Some a)
+arm-some x y None a h = cc
+arm-some x y (Some (Int n)) a h = cc
+arm-some x y (Some (Truth true)) a h = (true, refl, h)
+arm-some x y (Some (Truth false)) a h = (false, refl, h)
 
--- so does a line that gains one
-line-gains : (S : Source) (k : ℕ) (cs : List Cell) → IsRound S k cs → (r : Region) (e : ℕ) (n : Node) (f : Form) (v : SourceValue) → Formed (IsInput S) e n f → Part S.checked r e n → needs_no_on f || (cell_at cs e).on ≡ true → gained cs f ≡ Some v → Rounds S (suc k) (Has outermost e v)
-line-gains S k cs s r e n f v (inl q) part on g =
-    gains S k cs s r e n v part (ap (λ x. needs_no_on x || (cell_at cs e).on) (sym q) ∙ on) (ap (λ x. gained cs x) (sym q) ∙ g)
-line-gains S k cs s r e n f v (inr given) part on g =
-    let some : Some given.value ≡ Some v = ap (λ x. gained cs x) (sym given.form) ∙ g in
-    let q : given.value ≡ v = cc in
-    let F : SourceValue → Type 0 = λ x. Rounds S (suc k) (Has outermost e x) in
-    subst F q (inr ([], param_has given.input, tt))
+pub seen-some : (cs : List Cell) (o : Option ℕ) (v : SourceValue) → seen cs o ≡ Some v → (a : ℕ) × (o ≡ Some a) × Known cs (Has a v)
+seen-some cs None v h = cc
+seen-some cs (Some a) v h = (a, refl, h)
 
-sound-has : (S : Source) (k : ℕ) (cs : List Cell) → IsRound S k cs → (l : Line) → Among l (lines S) → (v : SourceValue) → value_after cs l ≡ Some v → Rounds S (suc k) (Has outermost l.place v)
-sound-has S k cs s l h v e =
-    let x = aligned-entry (IsInput S) (entries_of_all S.checked.program.defs) (lines S) (lines-aligned S) l h in
-    let y = x.0 in
-    let part : Part S.checked y.region y.place y.node = record { stands = x.1 } in
-    let i = when-some (needs_no_on l.form || (cell_at cs l.place).on) (gained cs l.form) v e in
-    let F : ℕ → Type 0 = λ q. Rounds S (suc k) (Has outermost q v) in
-    let test = ap (λ q. needs_no_on l.form || (cell_at cs q).on) (sym x.2) ∙ i.0 in
-    subst F (sym x.2) (line-gains S k cs s y.region y.place y.node l.form v x.3 part test i.1)
+-- the arm that is chosen is one of both
+pub arm-among : (x y : ℕ) (b : Bool) (a : ℕ) → arm_of x y (Some (Truth b)) ≡ Some a → (a ≡ x) ⊎ (a ≡ y)
+arm-among x y true a h = let e : a ≡ x = cc in inl e
+arm-among x y false a h = let e : a ≡ y = cc in inr e
 
--- a line stands at the place, or none does
-find-line : (ls : List Line) (e : ℕ) → ((l : Line) × Among l ls × (l.place ≡ e)) ⊎ ((l : Line) → Among l ls → l.place ≡ e → ⊥)
-find-line [] e = inr (λ l h p. h)
-find-line (m ∷ ls) e =
-    elim (eqb_tells m.place e) [
-      | inl t ↦ inl (m, inl refl, t.1)
-      | inr t ↦ elim (find-line ls e) [
-        | inl r ↦ inl (r.0, inr r.1, r.2)
-        | inr none ↦ inr (λ l h p. elim h [ inl q ↦ t.1 (ap (λ z. z.place) (sym q) ∙ p) | inr i ↦ none l i p ])
-      ]
-    ]
+-- a conditional at the row n, which looks at this row, chooses the arm where it is On and that row Has a truth value
+pub record Picks (cs : List Cell) (n x y : ℕ) (o : Option ℕ) (a : ℕ) : Type 0 where
+  pub on : Known cs (On n)
+  pub test : ℕ
+  pub is_test : o ≡ Some test
+  pub truth : Bool
+  pub known : Known cs (Has test (Truth truth))
+  pub arm : arm_of x y (Some (Truth truth)) ≡ Some a
 
-sound : (S : Source) (k : ℕ) (cs ds : List Cell) → IsRound S k cs → Follows (lines S) cs ds → (f : Fact) → Shown ds f → Rounds S (suc k) f
-sound S k cs ds s w (On p e) h =
-    let F : Path → Type 0 = λ q. Rounds S (suc k) (On q e) in
-    subst F (sym h.0) (elim (find-line (lines S) e) [
-      | inl r ↦
-          let G : ℕ → Type 0 = λ q. Rounds S (suc k) (On outermost q) in
-          let on : turned cs r.0.turn ≡ true = sym (ap (λ c. c.on) (w.lined r.0 r.1)) ∙ ap (λ q. (cell_at ds q).on) r.2 ∙ h.1 in
-          subst G r.2 (sound-on S k cs s r.0.place r.0.turn (turner-all (get nat_eq S.checked.binders) S.checked.main S.inputs 0 S.checked.program.defs r.0 r.1) on)
-      | inr none ↦ inl (s.only (On outermost e) (refl, sym (ap (λ c. c.on) (w.bare e none)) ∙ h.1))
-    ])
-sound S k cs ds s w (Has p e v) h =
-    let F : Path → Type 0 = λ q. Rounds S (suc k) (Has q e v) in
-    subst F (sym h.0) (elim (find-line (lines S) e) [
-      | inl r ↦
-          let G : ℕ → Type 0 = λ q. Rounds S (suc k) (Has outermost q v) in
-          subst G r.2 (sound-has S k cs s r.0 r.1 v (sym (ap (λ c. c.has) (w.lined r.0 r.1)) ∙ ap (λ q. (cell_at ds q).has) r.2 ∙ h.1))
-      | inr none ↦ inl (s.only (Has outermost e v) (refl, sym (ap (λ c. c.has) (w.bare e none)) ∙ h.1))
-    ])
+pub picks : (cs : List Cell) (n s x y : ℕ) (o : Option ℕ) (a : ℕ) → chosen cs (cell_at cs n).on o (If s x y) ≡ Some a → Picks cs n x y o a
+picks cs n s x y o a h =
+    let t = when-some (cell_at cs n).on (arm_of x y (seen cs o)) a h in
+    let u = arm-some x y (seen cs o) a t.1 in
+    let w = seen-some cs o (Truth u.0) u.1 in
+    record { on = t.0; test = w.0; is_test = w.1; truth = u.0; known = w.2; arm = u.2 }
 
--- ---- all rounds
+pub picked : (cs : List Cell) (n s x y : ℕ) (o : Option ℕ) (a : ℕ) → Picks cs n x y o a → chosen cs (cell_at cs n).on o (If s x y) ≡ Some a
+picked cs n s x y o a p =
+    let e : seen cs o ≡ Some (Truth p.truth) = ap (λ i. seen cs i) p.is_test ∙ p.known in
+    when-on (cell_at cs n).on (arm_of x y (seen cs o)) a p.on (ap (λ i. arm_of x y i) e ∙ p.arm)
 
-shown-all : (S : Source) (k : ℕ) (cs : List Cell) → IsRound S k cs → (fs : List Fact) → Every (Rounds S k) fs → Every (Shown cs) fs
-shown-all S k cs s [] h = tt
-shown-all S k cs s (f ∷ fs) h = (s.all f h.0, shown-all S k cs s fs h.1)
+-- the same arm is chosen wherever the row is On and its predicate has that value
+picks-in : (cs ds : List Cell) (n x y : ℕ) (o : Option ℕ) (a : ℕ) (p : Picks cs n x y o a) → Known ds (On n) → Known ds (Has p.test (Truth p.truth)) → Picks ds n x y o a
+picks-in cs ds n x y o a p on known = record { on = on; test = p.test; is_test = p.is_test; truth = p.truth; known = known; arm = p.arm }
 
-step : (S : Source) (k : ℕ) (cs ds : List Cell) → IsRound S k cs → Follows (lines S) cs ds → IsRound S (suc k) ds
-step S k cs ds s w = record {
-  all = λ f h. let r = Rounds-follow S k f h in complete S cs ds w r.1 (shown-all S k cs s r.0 r.2);
-  only = sound S k cs ds s w;
+test-linked : (o : Option ℕ) (t : ℕ) (rs : List ℕ) → o ≡ Some t → Among t (some_row o ++ rs)
+test-linked None t rs e = cc
+test-linked (Some u) t rs e = let q : t ≡ u = cc in inl q
+
+arm-linked : (o : Option ℕ) (x y a : ℕ) → (a ≡ x) ⊎ (a ≡ y) → Among a (some_row o ++ x ∷ y ∷ [])
+arm-linked o x y a (inl e) = Among-right a (some_row o) (x ∷ y ∷ []) (inl e)
+arm-linked o x y a (inr e) = Among-right a (some_row o) (x ∷ y ∷ []) (inr (inl e))
+
+-- the facts that an arm is chosen by
+chosen-used : (cs : List Cell) (n s x y : ℕ) (o : Option ℕ) (a : ℕ) → Picks cs n x y o a → Used cs n (reads_of o (If s x y)) (λ ds. chosen ds (cell_at ds n).on o (If s x y) ≡ Some a)
+chosen-used cs n s x y o a p = record {
+  first = On n;
+  rest = Has p.test (Truth p.truth) ∷ [];
+  linked = (self, (read (test-linked o p.test (x ∷ y ∷ []) p.is_test), tt));
+  known = (p.on, (p.known, tt));
+  enough = λ ds k. picked ds n s x y o a (picks-in cs ds n x y o a p k.0 k.1.0);
 }
 
--- the places of lines are places of things
-entry-place : (ds : List Def) (q : ℕ) → Among q (map (λ x. x.place) (entries_of_all ds)) → Among q (places_of_all ds)
-entry-place [] q h = h
-entry-place (d ∷ ds) q h =
-    let es = map (λ x. x.place) (entries_of_def d) in
-    elim (Among-either q es (map (λ x. x.place) (entries_of_all ds)) (rw map-append at h)) [
-      | inl k ↦ inr (Among-left q es (places_of_all ds) k)
-      | inr k ↦ inr (Among-right q es (places_of_all ds) (entry-place ds q k))
-    ]
+-- the facts that a value is gained from
+used : (cs : List Cell) (n : ℕ) (b : Option ℕ) (z : Node) (v : SourceValue) → gained cs (cell_at cs n).on b z ≡ Some v → Used cs n (reads_of b z) (λ ds. gained ds (cell_at ds n).on b z ≡ Some v)
+used cs n b (Literal c) v h =
+    let t = when-some (cell_at cs n).on (Some (value_of c)) v h in
+    record { first = On n; rest = []; linked = (self, tt); known = (t.0, tt); enough = λ ds k. when-on (cell_at ds n).on (Some (value_of c)) v k.0 t.1 }
+used cs n None (Name x) v h = let t = when-some (cell_at cs n).on None v h in let e : None ≡ Some v = t.1 in cc
+used cs n (Some b) (Name x) v h =
+    let t = when-some (cell_at cs n).on (cell_at cs b).has v h in
+    record {
+      first = On n;
+      rest = Has b v ∷ [];
+      linked = (self, (read (inl refl), tt));
+      known = (t.0, (t.1, tt));
+      enough = λ ds k. when-on (cell_at ds n).on (cell_at ds b).has v k.0 k.1.0;
+    }
+used cs n b (Unary o a) v h =
+    let t = when-some (cell_at cs n).on (unary_of o (cell_at cs a).has) v h in
+    let u = unary-some o (cell_at cs a).has v t.1 in
+    record {
+      first = On n;
+      rest = Has a u.0 ∷ [];
+      linked = (self, (read (inl refl), tt));
+      known = (t.0, (u.1, tt));
+      enough = λ ds k. when-on (cell_at ds n).on (unary_of o (cell_at ds a).has) v k.0 (ap (λ x. unary_of o x) k.1.0 ∙ u.2);
+    }
+used cs n b (Binary o a c) v h =
+    let t = when-some (cell_at cs n).on (binary_of o (cell_at cs a).has (cell_at cs c).has) v h in
+    let u = binary-some o (cell_at cs a).has (cell_at cs c).has v t.1 in
+    record {
+      first = On n;
+      rest = Has a u.0 ∷ Has c u.1 ∷ [];
+      linked = (self, (read (inl refl), (read (inr (inl refl)), tt)));
+      known = (t.0, (u.2, (u.3, tt)));
+      enough = λ ds k. when-on (cell_at ds n).on (binary_of o (cell_at ds a).has (cell_at ds c).has) v k.0
+          (ap (λ x. binary_of o x (cell_at ds c).has) k.1.0 ∙ ap (λ y. binary_of o (Some u.0) y) k.1.1.0 ∙ u.4);
+    }
+used cs n b (If s x y) v h =
+    let u = seen-some cs (chosen cs (cell_at cs n).on b (If s x y)) v h in
+    let p = picks cs n s x y b u.0 u.1 in
+    let c = chosen-used cs n s x y b u.0 p in
+    record {
+      first = Has u.0 v;
+      rest = c.first ∷ c.rest;
+      linked = (read (arm-linked b x y u.0 (arm-among x y p.truth u.0 p.arm)), c.linked);
+      known = (u.2, c.known);
+      enough = λ ds k. ap (λ i. seen ds i) (c.enough ds k.1) ∙ k.0;
+    }
+used cs n b (Block a) v h =
+    let t = when-some (cell_at cs n).on (cell_at cs a).has v h in
+    record {
+      first = On n;
+      rest = Has a v ∷ [];
+      linked = (self, (read (inl refl), tt));
+      known = (t.0, (t.1, tt));
+      enough = λ ds k. when-on (cell_at ds n).on (cell_at ds a).has v k.0 k.1.0;
+    }
+used cs n b (Binding x a) v h = record { first = Has a v; rest = []; linked = (read (inl refl), tt); known = (h, tt); enough = λ ds k. k.0 }
+used cs n b _ v h = absurd (none-some _ h)
 
-entries-differ : (ds : List Def) → AllDiffer (places_of_all ds) → AllDiffer (map (λ x. x.place) (entries_of_all ds))
-entries-differ [] h = tt
-entries-differ (d ∷ ds) h =
-    let es = map (λ x. x.place) (entries_of_def d) in
-    let F : List ℕ → Type 0 = AllDiffer in
-    subst F (sym (map-append (λ x. x.place) (entries_of_def d) (entries_of_all ds)))
-    (AllDiffer-append es (map (λ x. x.place) (entries_of_all ds)) (AllDiffer-left es (places_of_all ds) h.1)
-    (entries-differ ds (AllDiffer-right es (places_of_all ds) h.1))
-    (λ q i j. AllDiffer-apart es (places_of_all ds) h.1 q i (entry-place ds q j)))
+arm-used : (cs : List Cell) (n : ℕ) (b : Option ℕ) (z : Node) (a : ℕ) → chosen cs (cell_at cs n).on b z ≡ Some a → Used cs n (reads_of b z) (λ ds. chosen ds (cell_at ds n).on b z ≡ Some a)
+arm-used cs n b (If s x y) a h = chosen-used cs n s x y b a (picks cs n s x y b a h)
+arm-used cs n b _ a h = absurd (none-some _ h)
 
-pub lines-differ : (S : Source) → AllDiffer (places (lines S))
-lines-differ S =
-    let F : List ℕ → Type 0 = AllDiffer in
-    subst F (aligned-places (IsInput S) (entries_of_all S.checked.program.defs) (lines S) (lines-aligned S))
-    (entries-differ S.checked.program.defs (Distinct-checked S.checked).differ)
+-- the facts that a fact is given by
+pub given-used : (cs : List Cell) (n : ℕ) (b : Option ℕ) (z : Node) (f : RowFact) → Given_of cs n (cell_at cs n).on b z f → Used cs n (reads_of b z) (λ ds. Given_of ds n (cell_at ds n).on b z f)
+given-used cs n b z (On a) h = arm-used cs n b z a h
+given-used cs n b z (Has m v) h =
+    let u = used cs n b z v h.1 in
+    record { first = u.first; rest = u.rest; linked = u.linked; known = u.known; enough = λ ds k. (h.0, u.enough ds k) }
 
-last-above : (m : ℕ) (ls : List Line) → m ≤ last_of m ls
-last-above m [] = omega arith
-last-above m (l ∷ ls) = let h = last-above (max m l.place) ls in omega arith
+-- ---- what is known is a fact, and a fact of a thing is known
 
-place-below : (m : ℕ) (ls : List Line) (l : Line) → Among l ls → l.place ≤ last_of m ls
-place-below m [] l h = absurd h
-place-below m (x ∷ ls) l (inl e) = let p = ap (λ z. z.place) e in let h = last-above (max m x.place) ls in omega arith
-place-below m (x ∷ ls) l (inr h) = place-below (max m x.place) ls l h
+module _ (S : Source) (k : ℕ) (cs : List Cell) (s : IsRound S k cs) where
+  same-row : (n m : ℕ) → IsThing S n → IsThing S m → place S.checked n ≡ place S.checked m → m ≡ n
+  same-row n m t u e = (apart_of S.checked).apart m n u.within t.within u.thing t.thing (sym e)
 
--- the cells before the first round
-abbrev pub cells_of : List Line → List Cell
-cells_of ls = replicate (last_of 0 ls + 1) blank
+  known-on : (n : ℕ) (p : Path) → IsThing S n → Rounds S k (fact.On p (place S.checked n)) → (p ≡ outermost) × Known cs (On n)
+  known-on n p t h = go n p t (s.all (fact.On p (place S.checked n)) h).fact (s.all (fact.On p (place S.checked n)) h).known (s.all (fact.On p (place S.checked n)) h).is where
+    go : (n : ℕ) (p : Path) → IsThing S n → (f : RowFact) → Known cs f → fact.On p (place S.checked n) ≡ fact_of S f → (p ≡ outermost) × Known cs (On n)
+    go n p t (On m) known e =
+        let q : p ≡ outermost = cc in
+        let r : place S.checked n ≡ place S.checked m = cc in
+        let P : ℕ → Type 0 = λ i. Known cs (On i) in
+        (q, subst P (same-row n m t (s.thing (On m) known) r) known)
+    go n p t (Has m v) known e = cc
 
-pub lines-fit : (ls : List Line) (n : ℕ) → Fits ls (after n ls (cells_of ls))
-lines-fit ls n l h =
-    let e = length-after n ls (cells_of ls) ∙ length-replicate (last_of 0 ls + 1) blank in
-    let b = place-below 0 ls l h in
-    omega arith
+  known-has : (n : ℕ) (p : Path) (v : SourceValue) → IsThing S n → Rounds S k (fact.Has p (place S.checked n) v) → (p ≡ outermost) × Known cs (Has n v)
+  known-has n p v t h = go n p v t (s.all (fact.Has p (place S.checked n) v) h).fact (s.all (fact.Has p (place S.checked n) v) h).known (s.all (fact.Has p (place S.checked n) v) h).is where
+    go : (n : ℕ) (p : Path) (v : SourceValue) → IsThing S n → (f : RowFact) → Known cs f → fact.Has p (place S.checked n) v ≡ fact_of S f → (p ≡ outermost) × Known cs (Has n v)
+    go n p v t (On m) known e = cc
+    go n p v t (Has m w) known e =
+        let q : p ≡ outermost = cc in
+        let r : place S.checked n ≡ place S.checked m = cc in
+        let u : w ≡ v = cc in
+        let P : ℕ → Type 0 = λ i. Known cs (Has i v) in
+        let Q : SourceValue → Type 0 = λ x. Known cs (Has m x) in
+        (q, subst P (same-row n m t (s.thing (Has m w) known) r) (subst Q u known))
 
-all-blank : (n e : ℕ) → get_or (replicate n blank) e blank ≡ blank
-all-blank zero e = refl
-all-blank (suc n) zero = refl
-all-blank (suc n) (suc e) = all-blank n e
+  -- ---- what follows by a rule arises
 
-none-shown : (n : ℕ) (f : Fact) → Shown (replicate n blank) f → ⊥
-none-shown n (On p e) h = let k : false ≡ true = sym (ap (λ c. c.on) (all-blank n e)) ∙ h.1 in cc
-none-shown n (Has p e v) h = let k : None ≡ Some v = sym (ap (λ c. c.has) (all-blank n e)) ∙ h.1 in cc
+  -- a fact is that of a row's that arises
+  abbrev Rises : Fact → Type 0
+  Rises f = (g : RowFact) × (f ≡ fact_of S g) × Arises S cs g
 
--- the cells after n rounds show the facts of round n
-pub IsRound-after : (S : Source) (n : ℕ) → IsRound S n (after n (lines S) (cells_of (lines S)))
-IsRound-after S zero = record { all = λ f h. absurd h; only = λ f h. absurd (none-shown (last_of 0 (lines S) + 1) f h) }
-IsRound-after S (suc n) =
-    let cs = after n (lines S) (cells_of (lines S)) in
-    step S n cs (next (lines S) cs) (IsRound-after S n) (record {
-      lined = here cs (lines S) cs (lines-differ S) (lines-fit (lines S) n) (λ l h. refl);
-      bare = elsewhere cs (lines S) cs;
-    })
+  on-rises : (n a : ℕ) (p : Path) (z : Node) → Stands S.checked n z → is_thing z ≡ true → Turns (rows S.checked) n a → Rounds S k (fact.On p (place S.checked n)) → Rises (fact.On p (place S.checked a))
+  on-rises n a p z st t u h =
+      let x = known-on n p (node-thing S n z st t) h in
+      (On a, ap (λ q. fact.On q (place S.checked a)) x.0, turned st.within u x.1)
+
+  has-rises : (n : ℕ) (p : Path) (z : Node) (v : SourceValue) → Stands S.checked n z → p ≡ outermost → gained cs (cell_at cs n).on (beyond S.checked n z) z ≡ Some v → Rises (fact.Has p (place S.checked n) v)
+  has-rises n p z v st e g =
+      (Has n v, ap (λ q. fact.Has q (place S.checked n) v) e, given n (refl, ap (λ y. gained cs (cell_at cs n).on (beyond S.checked n y) y) st.node ∙ g))
+
+  arm-rises : (n a : ℕ) (p : Path) (z : Node) → Stands S.checked n z → p ≡ outermost → chosen cs (cell_at cs n).on (beyond S.checked n z) z ≡ Some a → Rises (fact.On p (place S.checked a))
+  arm-rises n a p z st e g =
+      (On a, ap (λ q. fact.On q (place S.checked a)) e, given n (ap (λ y. chosen cs (cell_at cs n).on (beyond S.checked n y) y) st.node ∙ g))
+
+  -- where a conditional is On and its predicate Has a truth value, that arm is chosen
+  choice-picks : (n t a : ℕ) (b : Bool) (p : Path) (c : IsChoice S n t b a) → Rounds S k (fact.On p (place S.checked n)) → Rounds S k (fact.Has p (place S.checked t) (Truth b))
+      → (p ≡ outermost) × Picks cs n c.then c.otherwise (beyond S.checked n (If c.split c.then c.otherwise)) a
+  choice-picks n t a b p c h i =
+      let x = known-on n p (node-thing S n (If c.split c.then c.otherwise) c.stands refl) h in
+      let y = known-has t p (Truth b) (part-thing S c.split t (Split t) c.splits refl) i in
+      (x.0, record { on = x.1; test = t; is_test = ap test_of c.splits.node; truth = b; known = y.1; arm = c.arm })
+
+  pub complete : {fs : List Fact} {f : Fact} → Rule S fs f → Every (Rounds S k) fs → Rises f
+  complete main_on h = (On (main_body S.checked), refl, main refl)
+  complete (param_has {b = b} {v = v} i) h = (Has b v, refl, input i)
+  complete (literal_has {n = n} {c = c} {p = p} st) h =
+      let x = known-on n p (node-thing S n (Literal c) st refl) h.0 in
+      has-rises n p (Literal c) (value_of c) st x.0 (when-on (cell_at cs n).on (Some (value_of c)) (value_of c) x.1 refl)
+  complete (operand_on {n = n} {a = a} {o = o} {p = p} st) h = on-rises n a p (Unary o a) st refl (operand st.node) h.0
+  complete (left_on {n = n} {a = a} {b = b} {o = o} {p = p} st) h = on-rises n a p (Binary o a b) st refl (left st.node) h.0
+  complete (right_on {n = n} {a = a} {b = b} {o = o} {p = p} st) h = on-rises n b p (Binary o a b) st refl (right st.node) h.0
+  complete (unary_has {n = n} {a = a} {o = o} {p = p} {x = x} c st e) h =
+      let y = known-on n p (node-thing S n (Unary o a) st refl) h.0 in
+      let z = known-has a p (value_of c) (part-thing S n a (Unary o a) st refl) h.1.0 in
+      let g : unary_of o (cell_at cs a).has ≡ Some (value_of x) = ap (λ q. unary_of o q) z.1 ∙ ap (λ d. given_by (result_of_unary o d)) (constant-value c) ∙ ap given_by e in
+      has-rises n p (Unary o a) (value_of x) st y.0 (when-on (cell_at cs n).on (unary_of o (cell_at cs a).has) (value_of x) y.1 g)
+  complete (binary_has {n = n} {a = a} {b = b} {o = o} {p = p} {x = x} c d st e) h =
+      let y = known-on n p (node-thing S n (Binary o a b) st refl) h.0 in
+      let z = known-has a p (value_of c) (part-thing S n a (Binary o a b) st (inl refl)) h.1.0 in
+      let w = known-has b p (value_of d) (part-thing S n b (Binary o a b) st (inr refl)) h.1.1.0 in
+      let g : binary_of o (cell_at cs a).has (cell_at cs b).has ≡ Some (value_of x) =
+      ap (λ q. binary_of o q (cell_at cs b).has) z.1 ∙ ap (λ q. binary_of o (Some (value_of c)) q) w.1
+      ∙ ap (λ t. given_by (result_of_binary o t (constant_of (value_of d)))) (constant-value c) ∙ ap (λ t. given_by (result_of_binary o c t)) (constant-value d) ∙ ap given_by e in
+      has-rises n p (Binary o a b) (value_of x) st y.0 (when-on (cell_at cs n).on (binary_of o (cell_at cs a).has (cell_at cs b).has) (value_of x) y.1 g)
+  complete (name_has {n = n} {x = x} {b = b} {p = p} {v = v} st e) h =
+      let y = known-on n p (node-thing S n (Name x) st refl) h.0 in
+      let q = binder_of S.checked n x b st e in
+      let t : IsThing S b = record { within = q.0; thing = thing-binder (at (rows S.checked) b).node q.1 } in
+      let z = known-has b (without (between S n b) p) v t h.1.0 in
+      let g : seen cs (binder S.checked n) ≡ Some v = ap (λ c. seen cs c) e ∙ z.1 in
+      has-rises n p (Name x) v st y.0 (when-on (cell_at cs n).on (seen cs (binder S.checked n)) v y.1 g)
+  complete (test_on {n = n} {t = t} {p = p} c) h =
+      let i = choice c in
+      on-rises n t p (If i.split i.then i.otherwise) i.stands refl (test i.stands.node i.splits.node) h.0
+  complete (arm_on {n = n} {t = t} {a = a} {b = b} {p = p} c) h =
+      let i = choice c in
+      let z = If i.split i.then i.otherwise in
+      let y = choice-picks n t a b p i h.0 h.1.0 in
+      arm-rises n a p z i.stands y.0 (picked cs n i.split i.then i.otherwise (beyond S.checked n z) a y.1)
+  complete (conditional_has {n = n} {t = t} {a = a} {b = b} {p = p} {v = v} c) h =
+      let i = choice c in
+      let z = If i.split i.then i.otherwise in
+      let y = choice-picks n t a b p i h.0 h.1.0 in
+      let w = known-has a p v (part-thing S n a z i.stands (arm-among i.then i.otherwise b a i.arm)) h.1.1.0 in
+      has-rises n p z v i.stands y.0 (ap (λ o. seen cs o) (picked cs n i.split i.then i.otherwise (beyond S.checked n z) a y.1) ∙ w.1)
+  complete (statement_on {n = n} {m = m} {x = x} {a = a} {b = b} {p = p} st i tb) h = on-rises n a p (Block b) st refl (statement i tb.node) h.0
+  complete (body_on {n = n} {b = b} {p = p} st) h = on-rises n b p (Block b) st refl (body st.node) h.0
+  complete (block_has {n = n} {b = b} {p = p} {v = v} st) h =
+      let y = known-on n p (node-thing S n (Block b) st refl) h.0 in
+      let z = known-has b p v (part-thing S n b (Block b) st refl) h.1.0 in
+      has-rises n p (Block b) v st y.0 (when-on (cell_at cs n).on (cell_at cs b).has v y.1 z.1)
+  complete (binding_has {n = n} {x = x} {a = a} {p = p} {v = v} st) h =
+      let z = known-has a p v (part-thing S n a (Binding x a) st refl) h.0 in
+      has-rises n p (Binding x a) v st z.0 z.1

@@ -1,7 +1,7 @@
 -- Rounds as lists (docs/MEANING.md, "Rounds").
 use Rattle.std.specs.Prelude.{◌≤◌, ◌<◌, ℕ, List, length}
+use Rattle.id_list.specs.List.{Among}
 use Rattle.id_meaning.specs.declared.Fact.{Fact}
-use Rattle.id_meaning.specs.Parts.{Among}
 use Rattle.id_meaning.specs.Sources.{Source}
 use Rattle.id_meaning.specs.Rounds.{Rounds}
 use Rattle.id_meaning.specs.Orders.{FactsRise}

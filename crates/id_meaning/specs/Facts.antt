@@ -1,48 +1,86 @@
 -- The facts of a source, and the rules that give them (docs/MEANING.md, "Facts", "Rules").
-use Rattle.std.specs.Prelude.{◌≡◌, ℕ, List, [], ◌∷◌}
-use Rattle.id_tree.specs.declared.tree.UnaryOp.{UnaryOp}
-use Rattle.id_tree.specs.declared.tree.BinaryOp.{BinaryOp}
-use Rattle.id_tree.specs.declared.tree.Def.{Def}
+use Rattle.std.specs.Prelude.{◌≡◌, ℕ, ◌-◌, Bool as Truth, true, false, List, [], ◌∷◌, length, take, Some}
+use Rattle.id_value.specs.declared.Constant.{Constant}
+use Rattle.id_value.specs.declared.Constant.TheVariants as constant
+use Rattle.id_value.specs.declared.UnaryOp.{UnaryOp}
+use Rattle.id_value.specs.declared.BinaryOp.{BinaryOp}
+use Rattle.id_value.specs.declared.FaultKind.{FaultKind}
+use Rattle.id_value.specs.declared.Outcome.TheVariants.{Gives, Fails}
+use Rattle.id_value.specs.Results.{result_of_unary, result_of_binary}
+use Rattle.id_parts.specs.declared.row.Node.TheVariants.{Literal, Name, Unary, Binary, Split, If, Block, Binding}
+use Rattle.id_parts.specs.Turns.{IsStatement}
+use Rattle.id_check.specs.Scopes.{loops_between}
+use Rattle.id_check.specs.Programs.{Stands, binder, place, rows}
 use Rattle.id_meaning.specs.declared.Path.{Path}
 use Rattle.id_meaning.specs.declared.SourceValue.{SourceValue}
 use Rattle.id_meaning.specs.declared.Fact.{Fact}
 use Rattle.id_meaning.specs.declared.Fact.TheVariants.{On, Has}
-use Rattle.id_meaning.specs.declared.FaultKind.{FaultKind}
 use Rattle.id_meaning.specs.declared.SourceFault.{SourceFault}
-use Rattle.id_meaning.specs.Results.{Gives, Fails, result_of_unary, result_of_binary}
-use Rattle.id_meaning.specs.Parts.{Among, Region, LiteralNode, UnaryNode, BinaryNode, NameNode, BlockNode, BindingNode, place_of, IsMain, Part}
-use Rattle.id_meaning.specs.Sources.{Source, IsInput}
+use Rattle.id_meaning.specs.Sources.{Source, IsInput, main_body, value_of}
 
 -- the empty path
 abbrev pub outermost : Path
 outermost = record { steps = [] }
 
+-- the path without its last d steps
+abbrev pub without : ℕ → Path → Path
+without d p = record { steps = take (length p.steps - d) p.steps }
+
+-- how many loops stand between the name at the row i and its binder b
+abbrev pub between : Source → ℕ → ℕ → ℕ
+between S i b = loops_between (rows S.checked) i b
+
+-- a conditional stands at the row n with its predicate at the row t: where that Has this truth value, it turns on the arm at a row
+pub data Chooses (S : Source) (n t : ℕ) : Truth → ℕ → Type 0 where
+  then_arm : {s a b : ℕ} → Stands S.checked n (If s a b) → Stands S.checked s (Split t) → Chooses S n t true a
+  else_arm : {s a b : ℕ} → Stands S.checked n (If s a b) → Stands S.checked s (Split t) → Chooses S n t false b
+
 -- from these facts of a source this one follows
 pub data Rule (S : Source) : List Fact → Fact → Type 0 where
   -- main's body is On at the empty path
-  main_on : {d : Def} → IsMain S.checked d → Rule S [] (On outermost (place_of d.body))
+  main_on : Rule S [] (On outermost (place S.checked (main_body S.checked)))
   -- main's parameters Have their inputs at the empty path
-  param_has : {b : ℕ} {v : SourceValue} → IsInput S b v → Rule S [] (Has outermost b v)
+  param_has : {b : ℕ} {v : SourceValue} → IsInput S b v → Rule S [] (Has outermost (place S.checked b) v)
   -- an On literal Has itself
-  literal_has : {r : Region} {e : ℕ} {v : SourceValue} {p : Path} → Part S.checked r e (LiteralNode v) → Rule S (On p e ∷ []) (Has p e v)
+  literal_has : {n : ℕ} {c : Constant} {p : Path} → Stands S.checked n (Literal c)
+      → Rule S (On p (place S.checked n) ∷ []) (Has p (place S.checked n) (value_of c))
   -- an On operator turns its operands On
-  operand_on : {r : Region} {e a : ℕ} {o : UnaryOp} {p : Path} → Part S.checked r e (UnaryNode o a) → Rule S (On p e ∷ []) (On p a)
-  left_on : {r : Region} {e a b : ℕ} {o : BinaryOp} {p : Path} → Part S.checked r e (BinaryNode o a b) → Rule S (On p e ∷ []) (On p a)
-  right_on : {r : Region} {e a b : ℕ} {o : BinaryOp} {p : Path} → Part S.checked r e (BinaryNode o a b) → Rule S (On p e ∷ []) (On p b)
+  operand_on : {n a : ℕ} {o : UnaryOp} {p : Path} → Stands S.checked n (Unary o a)
+      → Rule S (On p (place S.checked n) ∷ []) (On p (place S.checked a))
+  left_on : {n a b : ℕ} {o : BinaryOp} {p : Path} → Stands S.checked n (Binary o a b)
+      → Rule S (On p (place S.checked n) ∷ []) (On p (place S.checked a))
+  right_on : {n a b : ℕ} {o : BinaryOp} {p : Path} → Stands S.checked n (Binary o a b)
+      → Rule S (On p (place S.checked n) ∷ []) (On p (place S.checked b))
   -- operands that Have values give an On operator's result, where it has one
-  unary_has : {r : Region} {e a : ℕ} {o : UnaryOp} {p : Path} {v x : SourceValue} → Part S.checked r e (UnaryNode o a) → result_of_unary o v ≡ Gives x → Rule S (On p e ∷ Has p a v ∷ []) (Has p e x)
-  binary_has : {r : Region} {e a b : ℕ} {o : BinaryOp} {p : Path} {v w x : SourceValue} → Part S.checked r e (BinaryNode o a b) → result_of_binary o v w ≡ Gives x → Rule S (On p e ∷ Has p a v ∷ Has p b w ∷ []) (Has p e x)
-  -- an On name Has what its binder Has
-  name_has : {r : Region} {e b : ℕ} {p : Path} {v : SourceValue} → Part S.checked r e (NameNode b) → Rule S (On p e ∷ Has p b v ∷ []) (Has p e v)
+  unary_has : {n a : ℕ} {o : UnaryOp} {p : Path} {x : Constant} (c : Constant) → Stands S.checked n (Unary o a) → result_of_unary o c ≡ Gives x
+      → Rule S (On p (place S.checked n) ∷ Has p (place S.checked a) (value_of c) ∷ []) (Has p (place S.checked n) (value_of x))
+  binary_has : {n a b : ℕ} {o : BinaryOp} {p : Path} {x : Constant} (c d : Constant) → Stands S.checked n (Binary o a b) → result_of_binary o c d ≡ Gives x
+      → Rule S (On p (place S.checked n) ∷ Has p (place S.checked a) (value_of c) ∷ Has p (place S.checked b) (value_of d) ∷ []) (Has p (place S.checked n) (value_of x))
+  -- an On name Has what its binder Has, where the path leaves out the loops between
+  name_has : {n x b : ℕ} {p : Path} {v : SourceValue} → Stands S.checked n (Name x) → binder S.checked n ≡ Some b
+      → Rule S (On p (place S.checked n) ∷ Has (without (between S n b) p) (place S.checked b) v ∷ []) (Has p (place S.checked n) v)
+  -- an On conditional turns its predicate On; a predicate that Has a value turns that arm On, whose value the conditional Has
+  test_on : {n t a : ℕ} {b : Truth} {p : Path} → Chooses S n t b a
+      → Rule S (On p (place S.checked n) ∷ []) (On p (place S.checked t))
+  arm_on : {n t a : ℕ} {b : Truth} {p : Path} → Chooses S n t b a
+      → Rule S (On p (place S.checked n) ∷ Has p (place S.checked t) (value_of (constant.Bool b)) ∷ []) (On p (place S.checked a))
+  conditional_has : {n t a : ℕ} {b : Truth} {p : Path} {v : SourceValue} → Chooses S n t b a
+      → Rule S (On p (place S.checked n) ∷ Has p (place S.checked t) (value_of (constant.Bool b)) ∷ Has p (place S.checked a) v ∷ []) (Has p (place S.checked n) v)
   -- an On block turns the expressions of its bindings and its body On, and Has its body's value
-  statement_on : {r : Region} {e a b : ℕ} {vs : List ℕ} {p : Path} → Part S.checked r e (BlockNode vs b) → Among a vs → Rule S (On p e ∷ []) (On p a)
-  body_on : {r : Region} {e b : ℕ} {vs : List ℕ} {p : Path} → Part S.checked r e (BlockNode vs b) → Rule S (On p e ∷ []) (On p b)
-  block_has : {r : Region} {e b : ℕ} {vs : List ℕ} {p : Path} {v : SourceValue} → Part S.checked r e (BlockNode vs b) → Rule S (On p e ∷ Has p b v ∷ []) (Has p e v)
+  statement_on : {n m x a b : ℕ} {p : Path} → Stands S.checked n (Block b) → IsStatement (rows S.checked) n m → Stands S.checked m (Binding x a)
+      → Rule S (On p (place S.checked n) ∷ []) (On p (place S.checked a))
+  body_on : {n b : ℕ} {p : Path} → Stands S.checked n (Block b)
+      → Rule S (On p (place S.checked n) ∷ []) (On p (place S.checked b))
+  block_has : {n b : ℕ} {p : Path} {v : SourceValue} → Stands S.checked n (Block b)
+      → Rule S (On p (place S.checked n) ∷ Has p (place S.checked b) v ∷ []) (Has p (place S.checked n) v)
   -- a binding Has the value that its expression Has
-  binding_has : {r : Region} {e a : ℕ} {p : Path} {v : SourceValue} → Part S.checked r e (BindingNode a) → Rule S (Has p a v ∷ []) (Has p e v)
+  binding_has : {n x a : ℕ} {p : Path} {v : SourceValue} → Stands S.checked n (Binding x a)
+      → Rule S (Has p (place S.checked a) v ∷ []) (Has p (place S.checked n) v)
 
 -- from these facts of a source this fault of it follows
 pub data FaultRule (S : Source) : List Fact → SourceFault → Type 0 where
   -- an On operator fails where its operands Have values on which it has no result
-  unary_fails : {r : Region} {e a : ℕ} {o : UnaryOp} {p : Path} {v : SourceValue} {k : FaultKind} → Part S.checked r e (UnaryNode o a) → result_of_unary o v ≡ Fails k → FaultRule S (On p e ∷ Has p a v ∷ []) (record { kind = k; path = p; place = e })
-  binary_fails : {r : Region} {e a b : ℕ} {o : BinaryOp} {p : Path} {v w : SourceValue} {k : FaultKind} → Part S.checked r e (BinaryNode o a b) → result_of_binary o v w ≡ Fails k → FaultRule S (On p e ∷ Has p a v ∷ Has p b w ∷ []) (record { kind = k; path = p; place = e })
+  unary_fails : {n a : ℕ} {o : UnaryOp} {p : Path} {k : FaultKind} (c : Constant) → Stands S.checked n (Unary o a) → result_of_unary o c ≡ Fails k
+      → FaultRule S (On p (place S.checked n) ∷ Has p (place S.checked a) (value_of c) ∷ []) (record { kind = k; path = p; place = place S.checked n })
+  binary_fails : {n a b : ℕ} {o : BinaryOp} {p : Path} {k : FaultKind} (c d : Constant) → Stands S.checked n (Binary o a b) → result_of_binary o c d ≡ Fails k
+      → FaultRule S (On p (place S.checked n) ∷ Has p (place S.checked a) (value_of c) ∷ Has p (place S.checked b) (value_of d) ∷ []) (record { kind = k; path = p; place = place S.checked n })

@@ -1,21 +1,32 @@
 -- Which inputs words give, and which words are refused (docs/LANGUAGE.md, "Inputs").
-use Rattle.std.specs.Prelude.{◌≡◌, ◌<◌, ℕ, suc, ◌&&◌, ◌||◌, ◌==◌, ℤ, pos, neg_ℤ, Bool as Truth, true, false, List, [], ◌∷◌, ◌++◌, length, slice_get, slice_index_or, slice_set, codes, Option, None, Some, IsSome, option_map, option_and_then, if◌then◌else◌}
-use Rattle.std.specs.Option.{option_or, is_some}
+use Rattle.std.specs.Prelude.{◌≡◌, ◌<◌, ℕ, suc, ◌&&◌, ◌||◌, ◌==◌, ℤ, pos, neg_ℤ, Bool as Truth, true, false, List, [], ◌∷◌, ◌++◌, length, map, get_or, slice_get, codes, Option, None, Some, IsSome, option_map, option_and_then, if◌then◌else◌}
+use Rattle.std.specs.Option.{option_or}
 use Rattle.std.specs.Char.{is_ascii_digit}
 use Rattle.id_text.specs.Bytes.{number_of as spelled_by}
 use Rattle.std.specs.Str.{bytes_eq}
-use Rattle.std.specs.Borrow.{Bor}
-use Rattle.id_tree.specs.declared.tree.Kind.{Kind}
-use Rattle.id_tree.specs.declared.tree.Kind.TheVariants as kind
-use Rattle.id_tree.specs.declared.tree.Param.{Param}
-use Rattle.id_tree.specs.declared.tree.Def.{Def}
-use Rattle.id_check.specs.declared.Checked.{Checked}
+use Rattle.id_value.specs.declared.Kind.{Kind}
+use Rattle.id_value.specs.declared.Kind.TheVariants as kind
+use Rattle.id_value.specs.Results.{is_whole}
+use Rattle.id_parts.specs.declared.row.Node.{Node}
+use Rattle.id_parts.specs.declared.row.Node.TheVariants.{Param}
+use Rattle.id_parts.specs.Rows.{at}
+use Rattle.id_check.specs.declared.checked.Checked.{Checked}
+use Rattle.id_check.specs.Programs.{rows}
 use Rattle.id_meaning.specs.declared.SourceValue.{SourceValue}
 use Rattle.id_meaning.specs.declared.SourceValue.TheVariants.{Int, Bool}
 use Rattle.id_meaning.specs.declared.inputs.InputError.{InputError}
 use Rattle.id_meaning.specs.declared.inputs.InputError.TheVariants.{MissingInput, UnknownInput, RepeatedInput, BadInput, Memory}
-use Rattle.id_meaning.specs.Parts.{IsMain}
-use Rattle.id_meaning.specs.Results.{is_whole}
+use Rattle.id_meaning.specs.declared.inputs.Wanted.{Wanted}
+use Rattle.id_meaning.specs.Sources.{main_params}
+
+-- the name and kind of the parameter at a row of this node
+abbrev pub wanted_of : Checked → Node → Wanted
+wanted_of P (Param x k) = record { name = get_or P.table.names.items x []; kind = k }
+wanted_of P _ = record { name = []; kind = kind.Int }
+
+-- the names and kinds of main's parameters, in order
+abbrev pub wanted : Checked → List Wanted
+wanted P = map (λ b. wanted_of P (at (rows P) b).node) (main_params P)
 
 -- the two parts of a word that is cut at its first `=`
 pub record Cut : Type 0 where
@@ -32,7 +43,7 @@ cut [] = None
 cut (c ∷ cs) = if c == 61 then Some (record { name = []; value = cs }) else option_map (begun c) (cut cs)
 
 -- the number of the first parameter with a name
-abbrev pub number_of : List Param → List ℕ → Option ℕ
+abbrev pub number_of : List Wanted → List ℕ → Option ℕ
 number_of [] x = None
 number_of (p ∷ ps) x = if bytes_eq p.name x then Some 0 else option_map (λ n. suc n) (number_of ps x)
 
@@ -72,17 +83,17 @@ pub data Said : Type 0 where
   Says : ℕ → Option SourceValue → Said
 
 -- what a word says of the parameter of this number, if it names one
-abbrev pub said_of : List Param → List ℕ → Option ℕ → Said
+abbrev pub said_of : List Wanted → List ℕ → Option ℕ → Said
 said_of ps value None = Nothing
 said_of ps value (Some n) = Says n (option_and_then (λ p. value_spelled p.kind value) (slice_get ps n))
 
 -- what a word says that is cut so
-abbrev pub said_by : List Param → Option Cut → Said
+abbrev pub said_by : List Wanted → Option Cut → Said
 said_by ps None = Nothing
 said_by ps (Some w) = said_of ps w.value (number_of ps w.name)
 
 -- what a word says of these parameters
-abbrev pub said : List Param → List ℕ → Said
+abbrev pub said : List Wanted → List ℕ → Said
 said ps w = said_by ps (cut w)
 
 -- the parameter that is named
@@ -106,7 +117,7 @@ word_cause seen j Nothing = Some (UnknownInput j)
 word_cause seen j (Says n v) = if has n seen then Some (RepeatedInput j) else option_bad j v
 
 -- the first cause to refuse a word, from the one of number j on, where these parameters were named before
-abbrev pub first_cause : List Param → List ℕ → ℕ → List (List ℕ) → Option InputError
+abbrev pub first_cause : List Wanted → List ℕ → ℕ → List (List ℕ) → Option InputError
 first_cause ps seen j [] = None
 first_cause ps seen j (w ∷ ws) = option_or (word_cause seen j (said ps w)) (first_cause ps (named_by (said ps w) ++ seen) (suc j) ws)
 
@@ -116,61 +127,31 @@ value_in n Nothing = None
 value_in n (Says m v) = if m == n then v else None
 
 -- the value that the words give the parameter of this number
-abbrev pub value_for : List Param → List (List ℕ) → ℕ → Option SourceValue
+abbrev pub value_for : List Wanted → List (List ℕ) → ℕ → Option SourceValue
 value_for ps [] n = None
 value_for ps (w ∷ ws) n = option_or (value_in n (said ps w)) (value_for ps ws n)
 
 -- the words give the parameters of `main` these values, and none is refused
 pub record AreInputsOf (P : Checked) (ws : List (List ℕ)) (vs : List SourceValue) : Type 0 where
-  pub main : Def
-  pub is_main : IsMain P main
-  pub all_taken : first_cause main.params [] 0 ws ≡ None
-  pub enough : length vs ≡ length main.params
-  pub values : (n : ℕ) → n < length vs → slice_get vs n ≡ value_for main.params ws n
+  pub all_taken : first_cause (wanted P) [] 0 ws ≡ None
+  pub enough : length vs ≡ length (wanted P)
+  pub values : (n : ℕ) → n < length vs → slice_get vs n ≡ value_for (wanted P) ws n
 
 -- the parameter of this number is the first that no word gives a value
-pub record IsFirstMissing (ps : List Param) (ws : List (List ℕ)) (n : ℕ) : Type 0 where
+pub record IsFirstMissing (ps : List Wanted) (ws : List (List ℕ)) (n : ℕ) : Type 0 where
   pub param : n < length ps
   pub missing : value_for ps ws n ≡ None
   pub before : (m : ℕ) → m < n → IsSome (value_for ps ws m)
 
 -- the cause is the first to refuse the words as inputs for these parameters: from left to right, and then the first parameter
 -- without an input
-abbrev pub IsCauseOf : List Param → List (List ℕ) → InputError → Type 0
+abbrev pub IsCauseOf : List Wanted → List (List ℕ) → InputError → Type 0
 IsCauseOf ps ws (MissingInput n) = (first_cause ps [] 0 ws ≡ None) × IsFirstMissing ps ws n
 IsCauseOf ps ws (UnknownInput j) = first_cause ps [] 0 ws ≡ Some (UnknownInput j)
 IsCauseOf ps ws (RepeatedInput j) = first_cause ps [] 0 ws ≡ Some (RepeatedInput j)
 IsCauseOf ps ws (BadInput j) = first_cause ps [] 0 ws ≡ Some (BadInput j)
 IsCauseOf ps ws Memory = Unit {0}
 
--- the cut, where it is given as two texts or as nothing
-abbrev pub cut_so : Option (Bor (List ℕ) × Bor (List ℕ)) → Option Cut
-cut_so None = None
-cut_so (Some x) = Some (record { name = x.0.now; value = x.1.now })
-
--- what is said, where it is given as a parameter's number, with a value or without, or as nothing
-abbrev pub said_so : Option (ℕ × Option SourceValue) → Said
-said_so None = Nothing
-said_so (Some x) = Says x.0 x.1
-
--- why the word of number j is refused that says so, where the parameters have these values so far
-abbrev pub cause_so : List (Option SourceValue) → ℕ → Option (ℕ × Option SourceValue) → Option InputError
-cause_so vs j None = Some (UnknownInput j)
-cause_so vs j (Some x) = if is_some (slice_index_or vs x.0 None) then Some (RepeatedInput j) else option_bad j x.1
-
--- the values so far, with what is said
-abbrev pub values_so : List (Option SourceValue) → Option (ℕ × Option SourceValue) → List (Option SourceValue)
-values_so vs None = vs
-values_so vs (Some x) = slice_set vs x.0 x.1
-
--- the cause is that the value of this number is the first to lack, or want of memory
-abbrev pub IsFirstLack : List (Option SourceValue) → InputError → Type 0
-IsFirstLack vs (MissingInput n) = (slice_get vs n ≡ Some None) × ((m : ℕ) → m < n → IsSome (slice_index_or vs m None))
-IsFirstLack vs (UnknownInput j) = ⊥
-IsFirstLack vs (RepeatedInput j) = ⊥
-IsFirstLack vs (BadInput j) = ⊥
-IsFirstLack vs Memory = Unit {0}
-
 -- the words are refused for this cause, as inputs of the program
 abbrev pub AreRefusedInputs : Checked → List (List ℕ) → InputError → Type 0
-AreRefusedInputs P ws e = (d : Def) → IsMain P d → IsCauseOf d.params ws e
+AreRefusedInputs P ws e = IsCauseOf (wanted P) ws e

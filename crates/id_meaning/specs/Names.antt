@@ -1,11 +1,22 @@
 -- What the binders of a source have (docs/MEANING.md, "Names").
-use Rattle.std.specs.Prelude.{List}
+use Rattle.std.specs.Prelude.{◌≡◌, ◌<◌, ℕ, true, List, length}
+use Rattle.id_list.specs.List.{Among}
+use Rattle.id_parts.specs.Rows.{at}
+use Rattle.id_parts.specs.Tables.{is_binder}
+use Rattle.id_check.specs.declared.checked.Checked.{Checked}
+use Rattle.id_check.specs.Programs.{place, rows}
 use Rattle.id_meaning.specs.declared.Fact.TheVariants.{Has}
 use Rattle.id_meaning.specs.declared.NameValue.{NameValue}
-use Rattle.id_meaning.specs.Parts.{Among, IsBinder}
 use Rattle.id_meaning.specs.Sources.{Source}
 use Rattle.id_meaning.specs.Rounds.{Holds}
 use Rattle.id_meaning.specs.Orders.{NamesRise}
+
+-- a binder stands at the place: a binding or a parameter
+pub record IsBinder (P : Checked) (e : ℕ) : Type 0 where
+  pub row : ℕ
+  pub within : row < length (rows P)
+  pub binds : is_binder (at (rows P) row).node ≡ true
+  pub here : place P row ≡ e
 
 -- a binder of the source stands there, and Has the value at the path
 pub record IsNameValue (S : Source) (n : NameValue) : Type 0 where

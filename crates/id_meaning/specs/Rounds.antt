@@ -1,13 +1,12 @@
 -- The rounds of a source, what it has, its faults and its answer (docs/MEANING.md, "Rounds", "Faults", "Answer", "Coherence").
 use Rattle.std.specs.Prelude.{◌≡◌, ◌⊎◌, ℕ, zero, suc, List, [], ◌∷◌, Option, Some, None}
-use Rattle.id_tree.specs.declared.tree.Def.{Def}
 use Rattle.id_meaning.specs.declared.Path.{Path}
 use Rattle.id_meaning.specs.declared.SourceValue.{SourceValue}
 use Rattle.id_meaning.specs.declared.Fact.{Fact}
 use Rattle.id_meaning.specs.declared.Fact.TheVariants.{Has}
 use Rattle.id_meaning.specs.declared.SourceFault.{SourceFault}
-use Rattle.id_meaning.specs.Parts.{place_of, IsMain}
-use Rattle.id_meaning.specs.Sources.{Source}
+use Rattle.id_check.specs.Programs.{place}
+use Rattle.id_meaning.specs.Sources.{Source, main_body}
 use Rattle.id_meaning.specs.Facts.{outermost, Rule, FaultRule}
 
 -- all of the facts hold
@@ -36,10 +35,8 @@ abbrev pub FaultFree : Source → Type 0
 FaultFree S = (f : SourceFault) → Faulty S f → ⊥
 
 -- main's body Has the value at the empty path
-pub record Answers (S : Source) (v : SourceValue) : Type 0 where
-  pub main : Def
-  pub is_main : IsMain S.checked main
-  pub holds : Holds S (Has outermost (place_of main.body) v)
+abbrev pub Answers : Source → SourceValue → Type 0
+Answers S v = Holds S (Has outermost (place S.checked (main_body S.checked)) v)
 
 -- the answer of the source: the value that main's body Has at the empty path, or none
 abbrev pub IsAnswer : Source → Option SourceValue → Type 0

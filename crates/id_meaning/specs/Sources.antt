@@ -1,13 +1,17 @@
 -- Sources: checked programs with their inputs (docs/MEANING.md, "Sources").
 use Rattle.std.specs.Prelude.{◌≡◌, ℕ, List, [], ◌∷◌, Some, slice_get}
-use Rattle.id_tree.specs.declared.tree.Kind.{Kind}
-use Rattle.id_tree.specs.declared.tree.Kind.TheVariants as kind
-use Rattle.id_tree.specs.declared.tree.Param.{Param}
-use Rattle.id_tree.specs.declared.tree.Def.{Def}
-use Rattle.id_check.specs.declared.Checked.{Checked}
+use Rattle.id_value.specs.declared.Kind.{Kind}
+use Rattle.id_value.specs.declared.Kind.TheVariants as kind
+use Rattle.id_value.specs.declared.Constant.{Constant}
+use Rattle.id_value.specs.declared.Constant.TheVariants as constant
+use Rattle.id_parts.specs.declared.row.Node.{Node}
+use Rattle.id_parts.specs.declared.row.Node.TheVariants.{Param, Def}
+use Rattle.id_parts.specs.Rows.{at}
+use Rattle.id_parts.specs.Turns.{params_at}
+use Rattle.id_check.specs.declared.checked.Checked.{Checked}
+use Rattle.id_check.specs.Programs.{rows}
 use Rattle.id_meaning.specs.declared.SourceValue.{SourceValue}
 use Rattle.id_meaning.specs.declared.SourceValue.TheVariants.{Int, Bool}
-use Rattle.id_meaning.specs.Parts.{IsMain}
 
 -- a checked program, and values for the parameters of its `main`, in order
 pub record Source : Type 0 where
@@ -23,25 +27,47 @@ abbrev pub value_kind : SourceValue → Kind
 value_kind (Int n) = kind.Int
 value_kind (Bool b) = kind.Bool
 
--- there is one value for each of the parameters, of its kind
-abbrev pub AreFor : List Param → List SourceValue → Type 0
-AreFor [] [] = Unit {0}
-AreFor [] (v ∷ vs) = ⊥
-AreFor (x ∷ xs) [] = ⊥
-AreFor (x ∷ xs) (v ∷ vs) = (value_kind v ≡ x.kind) × AreFor xs vs
+-- the value that a constant is
+abbrev pub value_of : Constant → SourceValue
+value_of (constant.Int n) = Int n
+value_of (constant.Bool b) = Bool b
+
+-- the parameter at a row of this node has the kind of the value
+abbrev pub SuitsParam : Node → SourceValue → Type 0
+SuitsParam (Param x k) v = value_kind v ≡ k
+SuitsParam _ v = ⊥
+
+-- there is one value for each of the parameters at these rows, of its kind
+abbrev pub AreFor : Checked → List ℕ → List SourceValue → Type 0
+AreFor P [] [] = Unit {0}
+AreFor P [] (v ∷ vs) = ⊥
+AreFor P (b ∷ bs) [] = ⊥
+AreFor P (b ∷ bs) (v ∷ vs) = SuitsParam (at (rows P) b).node v × AreFor P bs vs
+
+-- the head of the definition at a row of this node
+abbrev pub head_of : Node → ℕ
+head_of (Def x h k b) = h
+head_of _ = 0
+
+-- the body of the definition at a row of this node
+abbrev pub body_of : Node → ℕ
+body_of (Def x h k b) = b
+body_of _ = 0
+
+-- the rows of main's parameters, in order
+abbrev pub main_params : Checked → List ℕ
+main_params P = params_at (rows P) (head_of (at (rows P) P.main).node)
+
+-- the row of main's body
+abbrev pub main_body : Checked → ℕ
+main_body P = body_of (at (rows P) P.main).node
 
 -- these are inputs of the program: one for each parameter of `main`, of its kind
-pub record AreInputs (P : Checked) (vs : List SourceValue) : Type 0 where
-  pub main : Def
-  pub is_main : IsMain P main
-  pub are_for : AreFor main.params vs
+abbrev pub AreInputs : Checked → List SourceValue → Type 0
+AreInputs P vs = AreFor P (main_params P) vs
 
--- the value is the input for the parameter of `main` at the place
+-- the value is the input for main's parameter at the row
 pub record IsInput (S : Source) (b : ℕ) (v : SourceValue) : Type 0 where
-  pub main : Def
-  pub is_main : IsMain S.checked main
   pub number : ℕ
-  pub param : Param
-  pub at : slice_get main.params number ≡ Some param
-  pub place : param.place ≡ b
+  pub param : slice_get (main_params S.checked) number ≡ Some b
   pub value : slice_get S.inputs number ≡ Some v

@@ -1,45 +1,52 @@
 //! The inputs of `main`, read from words (docs/LANGUAGE.md, "Inputs").
 
-ghost use Rattle.std.specs.Prelude.{◌≡◌, ℕ, ◌<◌, ◌-◌, ◌^◌, [], min, map, pos, neg_ℤ, length, slice_get, slice_index_or, None, Some, IfOk, IfErr, IfSome, OnOk, option_map, option_and_then};
+ghost use Rattle.std.specs.Prelude.{◌≡◌, ℕ, get_or, ◌<◌, ◌-◌, ◌^◌, [], min, map, pos, neg_ℤ, length, slice_get, slice_index_or, None, Some, IfOk, IfErr, IfSome, OnOk, option_map, option_and_then};
 ghost use Rattle.std.specs.List.{AllPass};
 ghost use Rattle.std.specs.Char.{is_ascii_digit};
 ghost use Rattle.id_text.specs.Bytes.{number_of as spelled_by};
+ghost use Rattle.id_parts.specs.Rows.{at};
+ghost use Rattle.id_check.specs.Programs.{rows};
 ghost use Rattle.id_meaning.specs.Sources.{AreInputs};
-ghost use Rattle.id_meaning.specs.Inputs.{AreInputsOf, AreRefusedInputs, IsCauseOf, IsFirstLack, are_digits, cause_so, cut, cut_so, digits_number, first_cause, number_of, number_spelled, said, said_so, truth_spelled, value_for, value_spelled, values_so, whole_value};
+ghost use Rattle.id_meaning.specs.Inputs.{AreInputsOf, AreRefusedInputs, IsCauseOf, are_digits, cut, digits_number, first_cause, number_of, number_spelled, said, truth_spelled, value_for, value_spelled, wanted, wanted_of, whole_value};
+ghost use Rattle.id_meaning.specs.Reading.{IsFirstLack, cause_so, cut_so, said_so, values_so};
 
 use crate::SourceValue;
+use crate::params::{main_params, node_of};
 use id_check::Checked;
-use id_text::Sequence;
-use id_tree::{Kind, Param};
+use id_list::Sequence;
+use id_parts::Node;
+use id_text::Identifier;
+use id_value::Kind;
 use std::alloc::{AllocError, AllocFailed, Global};
-use thiserror::Error;
 
 /// How far below 0 the numbers go; those above 0 end one earlier.
 const LIMIT: u64 = 0x8000_0000_0000_0000;
 
 /// The values of `main`'s parameters, in their order.
-#[derive(Debug, Drop)]
+#[derive(Drop)]
 pub struct Inputs {
     pub values: Sequence<SourceValue>,
 }
 
+/// The name and kind of a parameter of `main`.
+#[derive(Drop)]
+pub struct Wanted {
+    pub name: Identifier,
+    pub kind: Kind,
+}
+
 /// Why words are no inputs. A word is told by its number among them, a parameter by its number, both from 0.
-#[derive(Clone, Copy, Debug, PartialEq, Eq, Error)]
+#[derive(Clone, Copy)]
 pub enum InputError {
     /// A parameter of `main` without an input.
-    #[error("no input for parameter {param}")]
     MissingInput { param: usize },
     /// A word without `=`, or one whose name is no parameter's: `n`
-    #[error("word {word} names no parameter")]
     UnknownInput { word: usize },
     /// A second word for one parameter.
-    #[error("word {word} is a second one for its parameter")]
     RepeatedInput { word: usize },
     /// A value that is none of the parameter's kind: `n==1`
-    #[error("word {word} has no value of its kind")]
     BadInput { word: usize },
     /// A growth was refused.
-    #[error("out of memory")]
     Memory,
 }
 
@@ -54,16 +61,72 @@ pub fn read_inputs(alloc: Global, checked: &Checked, words: &[&str]) -> Result<I
     ensures own { IfOk result (λ i. AreInputs checked.now i.values) }
     ensures refused { IfErr result (AreRefusedInputs checked.now (map (λ w. w.now) words.now)) }
 {
-    let values = inputs_for(alloc, checked.main_def().params.as_slice(), words)?;
+    let params = all_wanted(alloc, checked)?;
+    let values = inputs_for(alloc, params.as_slice(), words)?;
     Ok(Inputs {
         values: Sequence::new(values),
     })
 }
 
+/// The name of main's parameter of this number. Takes memory for each parameter and for the name.
+pub fn param_name(alloc: Global, checked: &Checked, param: usize) -> Result<Identifier, AllocError>
+    requires { param < length (wanted checked.now) }
+    ensures { IfOk result (λ n. option_map (λ w. w.name) (slice_get (wanted checked.now) param) ≡ Some n) }
+{
+    let params = all_wanted(alloc, checked)?;
+    params[param].name.copy(alloc)
+}
+
+/// The names and kinds of main's parameters, in order.
+fn all_wanted(alloc: Global, checked: &Checked) -> Result<Vec<Wanted>, AllocError>
+    ensures { IfOk result (λ v. v.items ≡ wanted checked.now) }
+{
+    let rows = main_params(alloc, checked)?;
+    wanted_all(alloc, checked, rows.as_slice())
+}
+
+/// The names and kinds of the parameters at these rows.
+fn wanted_all(alloc: Global, checked: &Checked, params: &[usize]) -> Result<Vec<Wanted>, AllocError>
+    ensures { IfOk result (λ v. v.items ≡ map (λ b. wanted_of checked.now (at (rows checked.now) b).node) params.now) }
+{
+    let mut wanted = Vec::new(alloc);
+    for row in params {
+        let param = wanted_of(alloc, checked, node_of(checked, *row))?;
+        wanted.push(param)?;
+    }
+    Ok(wanted)
+}
+
+/// The name and kind of the parameter at a row of this node.
+fn wanted_of(alloc: Global, checked: &Checked, node: Node) -> Result<Wanted, AllocError>
+    ensures { IfOk result (λ w. w ≡ wanted_of checked.now node) }
+{
+    match node {
+        Node::Param { name, kind } => {
+            let name = name_of(alloc, checked, name)?;
+            Ok(Wanted { name, kind })
+        }
+        _ => Ok(Wanted {
+            name: Identifier::new(String::new(alloc)),
+            kind: Kind::Int,
+        }),
+    }
+}
+
+/// The name of this number.
+fn name_of(alloc: Global, checked: &Checked, number: usize) -> Result<Identifier, AllocError>
+    ensures { IfOk result (λ n. n ≡ get_or checked.now.table.names.items number []) }
+{
+    if number >= checked.table.names.len() {
+        return Ok(Identifier::new(String::new(alloc)));
+    }
+    checked.table.names[number].copy(alloc)
+}
+
 /// The values that words give the parameters, in the parameters' order; refused as by `read_inputs`.
 fn inputs_for(
     alloc: Global,
-    params: &[Param],
+    params: &[Wanted],
     words: &[&str],
 ) -> Result<Vec<SourceValue>, InputError>
     ensures taken { IfOk result (λ v. first_cause params.now [] 0 (map (λ w. w.now) words.now) ≡ None) }
@@ -78,7 +141,7 @@ fn inputs_for(
 /// For each parameter the value that the words give it, if they do; refused as by `read_inputs` for the words.
 fn values_said(
     alloc: Global,
-    params: &[Param],
+    params: &[Wanted],
     words: &[&str],
 ) -> Result<Vec<Option<SourceValue>>, InputError>
     ensures taken { IfOk result (λ v. first_cause params.now [] 0 (map (λ w. w.now) words.now) ≡ None) }
@@ -135,7 +198,7 @@ fn all_of(alloc: Global, values: &[Option<SourceValue>]) -> Result<Vec<SourceVal
 }
 
 /// The number of the parameter that the word names, and the value of its kind, if the word has one.
-fn said(params: &[Param], word: &str) -> Option<(usize, Option<SourceValue>)>
+fn said(params: &[Wanted], word: &str) -> Option<(usize, Option<SourceValue>)>
     ensures said { said_so result ≡ said params.now word.now }
     ensures inside { IfSome result (λ s. s.0 < length params.now) }
 {
@@ -156,7 +219,7 @@ fn cut(word: &str) -> Option<(&str, &str)>
 }
 
 /// The number of the first parameter with the name.
-fn number_of(params: &[Param], name: &str) -> Option<usize>
+fn number_of(params: &[Wanted], name: &str) -> Option<usize>
     ensures number { result ≡ number_of params.now name.now }
     ensures inside { IfSome result (λ n. n < length params.now) }
 {
@@ -289,185 +352,5 @@ impl<T: Drop> From<AllocFailed<T>> for InputError {
 
     fn from(_error: AllocFailed<T>) -> InputError {
         InputError::Memory
-    }
-}
-
-#[cfg(test)]
-mod tests {
-    use super::inputs_for;
-    use crate::{InputError, SourceValue};
-    use id_text::Identifier;
-    use id_tree::{Kind, Param};
-    use std::alloc::{AllocError, Global};
-    use std::process::Abort;
-    use std::test::Fail;
-
-    // The parameters `n` and `p`, a number and a truth value.
-    fn params(alloc: Global) -> Result<Vec<Param>, AllocError> {
-        let mut params = vec![in alloc]?;
-        let n = Identifier::new(String::from_str(alloc, "n")?);
-        let p = Identifier::new(String::from_str(alloc, "p")?);
-        params.push(Param {
-            name: n,
-            kind: Kind::Int,
-            place: 0,
-        })?;
-        params.push(Param {
-            name: p,
-            kind: Kind::Bool,
-            place: 1,
-        })?;
-        Ok(params)
-    }
-
-    fn assert_value(rt: &impl Abort, alloc: Global, word: &str, wanted: i64) -> Result<(), Fail> {
-        let values = inputs_for(alloc, params(alloc)?.as_slice(), &[word, "p=true"])?;
-        assert_eq!(rt;
-            values.as_slice(),
-            [SourceValue::Int(wanted), SourceValue::Bool(true)].as_slice(),
-            "{word}"
-        );
-        Ok(())
-    }
-
-    fn assert_refused(
-        rt: &impl Abort,
-        alloc: Global,
-        words: &[&str],
-        wanted: InputError,
-    ) -> Result<(), Fail> {
-        match inputs_for(alloc, params(alloc)?.as_slice(), words) {
-            Ok(_) => assert!(rt; false, "taken: {words:?}"),
-            Err(error) => assert_eq!(rt; error, wanted, "{words:?}"),
-        }
-        Ok(())
-    }
-
-    #[test]
-    fn takes_numbers_and_truth_values(rt: HostRuntime) -> Result<(), Fail> {
-        let alloc = rt.alloc();
-        assert_value(&rt, alloc, "n=5", 5)?;
-        assert_value(&rt, alloc, "n=-0", 0)?;
-        assert_value(&rt, alloc, "n=007", 7)?;
-        assert_value(&rt, alloc, "n=-12", -12)?;
-        assert_value(&rt, alloc, "n=9223372036854775807", i64::MAX)?;
-        assert_value(&rt, alloc, "n=-9223372036854775808", i64::MIN)?;
-        let values = inputs_for(alloc, params(alloc)?.as_slice(), &["p=false", "n=1"])?;
-        assert_eq!(rt;
-            values.as_slice(),
-            [SourceValue::Int(1), SourceValue::Bool(false)].as_slice()
-        );
-        Ok(())
-    }
-
-    #[test]
-    fn refuses_a_word(rt: HostRuntime) -> Result<(), Fail> {
-        let unknown = ["", "=", "n", "-", "m=1", "nn=1", "=1", "N=1"];
-        for word in unknown {
-            assert_refused(
-                &rt,
-                rt.alloc(),
-                &[word],
-                InputError::UnknownInput { word: 0 },
-            )?;
-        }
-        let bad = [
-            "n=",
-            "n==1",
-            "n=-",
-            "n=--1",
-            "n=+1",
-            "n= 1",
-            "n=1 ",
-            "n=1-",
-            "n=0x1",
-            "n=true",
-            "n=9223372036854775808",
-            "n=-9223372036854775809",
-            "n=18446744073709551616",
-            "n=99999999999999999999999999",
-            "p=1",
-            "p=",
-            "p=True",
-            "p=truex",
-            "p=tru",
-            "p=true=",
-        ];
-        for word in bad {
-            assert_refused(&rt, rt.alloc(), &[word], InputError::BadInput { word: 0 })?;
-        }
-        Ok(())
-    }
-
-    #[test]
-    fn refuses_the_first_wrong_word(rt: HostRuntime) -> Result<(), Fail> {
-        let alloc = rt.alloc();
-        assert_refused(
-            &rt,
-            alloc,
-            &["n=1", "n=2"],
-            InputError::RepeatedInput { word: 1 },
-        )?;
-        assert_refused(
-            &rt,
-            alloc,
-            &["n=1", "n=x"],
-            InputError::RepeatedInput { word: 1 },
-        )?;
-        assert_refused(
-            &rt,
-            alloc,
-            &["p=true", "n=x", "m=1"],
-            InputError::BadInput { word: 1 },
-        )?;
-        assert_refused(
-            &rt,
-            alloc,
-            &["p=true", "m=1", "n=x"],
-            InputError::UnknownInput { word: 1 },
-        )?;
-        Ok(())
-    }
-
-    #[test]
-    fn refuses_a_missing_input(rt: HostRuntime) -> Result<(), Fail> {
-        let alloc = rt.alloc();
-        assert_refused(&rt, alloc, &[], InputError::MissingInput { param: 0 })?;
-        assert_refused(
-            &rt,
-            alloc,
-            &["p=true"],
-            InputError::MissingInput { param: 0 },
-        )?;
-        assert_refused(&rt, alloc, &["n=1"], InputError::MissingInput { param: 1 })?;
-        Ok(())
-    }
-
-    #[test]
-    fn takes_long_words(rt: HostRuntime) -> Result<(), Fail> {
-        let alloc = rt.alloc();
-        let mut zeros = String::from_str(alloc, "n=")?;
-        let mut nines = String::from_str(alloc, "n=-")?;
-        let mut name = String::new(alloc);
-        for _ in 0..100_000 {
-            zeros.push('0')?;
-            nines.push('9')?;
-            name.push('n')?;
-        }
-        zeros.push('8')?;
-        assert_value(&rt, alloc, zeros.as_str(), 8)?;
-        assert_refused(
-            &rt,
-            alloc,
-            &[nines.as_str()],
-            InputError::BadInput { word: 0 },
-        )?;
-        assert_refused(
-            &rt,
-            alloc,
-            &[name.as_str()],
-            InputError::UnknownInput { word: 0 },
-        )?;
-        Ok(())
     }
 }

@@ -6,35 +6,36 @@
 //! Not here: graphs, tags and messages, which the meaning does not speak of.
 #![tactic(auto)]
 
+mod cells;
+mod edges;
+mod effects;
 mod inputs;
+mod links;
 mod listing;
-mod readers;
-mod results;
+mod params;
 mod round;
-mod state;
-mod table;
-#[cfg(test)]
-mod tests;
+mod run;
 
-use id_text::Sequence;
-pub use inputs::{InputError, Inputs, read_inputs};
+use id_list::Sequence;
+use id_value::FaultKind;
+pub use inputs::{InputError, Inputs, param_name, read_inputs};
 pub use round::{MAX_FACTS, MAX_ROUNDS, RoundsError, rounds};
 
 /// One step of a path: the call (number 0) or the loop (its iteration, from 0) at a place.
-#[derive(Clone, Copy, Debug, PartialEq, Eq, PartialOrd, Ord)]
+#[derive(Clone, Copy, PartialEq, Eq, PartialOrd, Ord)]
 pub struct PathStep {
     pub place: usize,
     pub number: u64,
 }
 
 /// The calls and iterations that lead to an evaluation, the outermost first.
-#[derive(Debug, Drop)]
+#[derive(Drop)]
 pub struct Path {
     pub steps: Sequence<PathStep>,
 }
 
 /// A value of the source.
-#[derive(Clone, Copy, Debug, PartialEq, Eq, PartialOrd, Ord)]
+#[derive(Clone, Copy)]
 pub enum SourceValue {
     /// A whole number.
     Int(i64),
@@ -43,7 +44,7 @@ pub enum SourceValue {
 }
 
 /// A fact of the source.
-#[derive(Debug, Drop)]
+#[derive(Drop)]
 pub enum Fact {
     /// The expression at the place is evaluated at the path.
     On {
@@ -58,17 +59,8 @@ pub enum Fact {
     },
 }
 
-/// Why an evaluation has no result.
-#[derive(Clone, Copy, Debug, PartialEq, Eq)]
-pub enum FaultKind {
-    /// The result is outside the whole numbers of 64 bits.
-    Overflow,
-    /// The divisor is 0.
-    DivisionByZero,
-}
-
 /// A fault of the source: what went wrong, at which path and place.
-#[derive(Debug, Drop)]
+#[derive(Drop)]
 pub struct SourceFault {
     pub kind: FaultKind,
     pub path: Path,
@@ -76,7 +68,7 @@ pub struct SourceFault {
 }
 
 /// What a binder Has at a path.
-#[derive(Debug, Drop)]
+#[derive(Drop)]
 pub struct NameValue {
     pub path: Path,
     /// The place of the binder.

@@ -12,12 +12,8 @@ use Rattle.id_tag.specs.declared.Value.TheVariants as value
 use Rattle.id_tag.specs.declared.Payload.{Payload}
 use Rattle.id_tag.specs.declared.Payload.TheVariants.{Token}
 use Rattle.id_tag.specs.Tags.{same_tag}
-use Rattle.id_ops.specs.declared.OperatorFault.{OperatorFault}
-use Rattle.id_ops.specs.declared.OperatorFault.TheVariants as operator
 use Rattle.id_meaning.specs.declared.SourceValue.{SourceValue}
 use Rattle.id_meaning.specs.declared.SourceValue.TheVariants as source
-use Rattle.id_meaning.specs.declared.FaultKind.{FaultKind}
-use Rattle.id_meaning.specs.declared.FaultKind.TheVariants as kind
 use Rattle.id_meaning.specs.declared.Path.{Path}
 use Rattle.id_meaning.specs.declared.SourceFault.{SourceFault}
 use Rattle.id_meaning.specs.declared.NameValue.{NameValue}
@@ -55,11 +51,6 @@ answers es = filter_map (λ e. brought e.message.payload) es
 abbrev pub answer_in : List State → Option SourceValue
 answer_in elements = option_and_then source_value (slice_get (answers (events_of elements)) 0)
 
--- an operator's kind of fault as one of the source
-abbrev pub fault_kind : OperatorFault → FaultKind
-fault_kind operator.Overflow = kind.Overflow
-fault_kind operator.DivisionByZero = kind.DivisionByZero
-
 -- the place of the instruction of this number
 abbrev pub place_of : Parts → ℕ → ℕ
 place_of g n = option_map_or (λ i. i.place) (slice_get g.instrs n) 0
@@ -71,7 +62,7 @@ main_path = record { steps = [] }
 -- the fault of the source that an event's step shows
 abbrev pub fault_of : Parts → Step → Option SourceFault
 fault_of g Went = None
-fault_of g (Fault (Operator f t)) = Some (record { kind = fault_kind f; path = main_path; place = place_of g t.instr })
+fault_of g (Fault (Operator f t)) = Some (record { kind = f; path = main_path; place = place_of g t.instr })
 fault_of g Stuck = None
 
 -- the faults of the source that these events show, in their order

@@ -4,15 +4,14 @@ ghost use Rattle.std.specs.Prelude.{◌≡◌, ◌==◌, ◌&&◌, ◌++◌, [],
 ghost use Rattle.std.specs.HashMap.{get};
 ghost use Rattle.std.specs.List.{cons_option, filter_map};
 ghost use Rattle.id_valid.specs.Validator.{is_value};
-ghost use Rattle.id_observe.specs.Observed.{answer_in, answers, brought, fault_kind, fault_of, faults_in, is_label, is_value_merge, label_marks, main_tag, name_at, name_in, names_in, place_of, source_value};
+ghost use Rattle.id_observe.specs.Observed.{answer_in, answers, brought, fault_of, faults_in, is_label, is_value_merge, label_marks, main_tag, name_at, name_in, names_in, place_of, source_value};
 
 use id_element::Element;
 use id_graph::{Graph, Instr, Op, PortKind};
-use id_meaning::{FaultKind, NameValue, Path, SourceFault, SourceValue};
-use id_ops::OperatorFault;
+use id_list::Sequence;
+use id_meaning::{NameValue, Path, SourceFault, SourceValue};
 use id_record::{Events, Fault, Step};
 use id_tag::{Context, Payload, Tag, Value};
-use id_text::Sequence;
 use id_valid::Valid;
 use std::alloc::{AllocError, Global};
 use std::collections::HashMap;
@@ -106,7 +105,7 @@ fn is_value_merge(op: Op) -> bool
 {
     match op {
         Op::Merge(kind) => is_value(kind),
-        Op::Const(_) | Op::Unary(_) | Op::Binary(_) | Op::Back(_) => false,
+        _ => false,
     }
 }
 
@@ -327,23 +326,13 @@ pub(crate) fn source_fault(alloc: Global, graph: &Graph, step: Step) -> Option<S
 {
     match step {
         Step::Fault(Fault::Operator { fault, tag }) => Some(SourceFault {
-            kind: fault_kind(fault),
+            kind: fault,
             path: Path {
                 steps: Sequence::new(Vec::new(alloc)),
             },
             place: place_of(graph, tag.instr),
         }),
         Step::Went | Step::Stuck => None,
-    }
-}
-
-/// An operator's kind of fault as one of the source.
-fn fault_kind(fault: OperatorFault) -> FaultKind
-    ensures { result ≡ fault_kind fault }
-{
-    match fault {
-        OperatorFault::Overflow => FaultKind::Overflow,
-        OperatorFault::DivisionByZero => FaultKind::DivisionByZero,
     }
 }
 

@@ -1,26 +1,36 @@
--- Lemmas on specs/Operands.antt.
-use Rattle.std.proofs.Common.{◌≡◌, ◌≢◌, ℤ, pos, ◌+ℤ◌, ◌-ℤ◌, ◌*ℤ◌, Bool, true, false, cond, Some, refl, sym, ap}
-use Rattle.std.specs.Prelude.{int_div, int_rem}
-use Rattle.std.specs.Ordering.{int_eq}
+-- Lemmas on specs/Operands.antt, in the order of its definitions.
+use Rattle.std.proofs.Common.{◌≡◌, ◌≢◌, Bool, true, false, cond, Some, refl, sym, ap, subst}
+use Rattle.std.specs.Prelude.{neg_ℤ}
+use Rattle.id_value.specs.declared.Constant.{Constant}
+use Rattle.id_value.specs.declared.Constant.TheVariants as constant
+use Rattle.id_value.specs.declared.Outcome.{Outcome}
+use Rattle.id_value.specs.declared.Outcome.TheVariants.{Gives, Fails, Lacks}
+use Rattle.id_value.specs.declared.UnaryOp.{UnaryOp}
+use Rattle.id_value.specs.declared.UnaryOp.TheVariants.{Neg, Not}
+use Rattle.id_value.specs.Results.{calculated, whole}
+use Rattle.id_value.proofs.ResultsLemmas.{IsNumberOrFault, calculated-number, whole-number}
 use Rattle.id_graph.specs.declared.instr.PortKind.{PortKind}
 use Rattle.id_graph.specs.declared.instr.PortKind.TheVariants as kind
 use Rattle.id_graph.specs.declared.instr.Dyadic.{Dyadic}
-use Rattle.id_graph.specs.declared.instr.Dyadic.TheVariants.{Add, Sub, Mul, Div, Rem, Lt, Le, Gt, Ge, Eq, Ne, Eqb, Neb, And, Or}
+use Rattle.id_graph.specs.declared.instr.Dyadic.TheVariants as class
 use Rattle.id_graph.specs.declared.instr.Op.{Op}
-use Rattle.id_graph.specs.declared.instr.Op.TheVariants.{Binary, Back}
-use Rattle.id_graph.specs.Ports.{operand_kind}
+use Rattle.id_graph.specs.declared.instr.Op.TheVariants.{Const, Unary, Binary, Merge, Switch, Back}
+use Rattle.id_graph.specs.Ports.{sends}
 use Rattle.id_tag.specs.Kinds.{kind_of, same_kind}
-use Rattle.id_tag.specs.declared.Value.TheVariants.{Int, Bool as Truth, Continuation}
+use Rattle.id_tag.specs.declared.Tag.{Tag}
+use Rattle.id_tag.specs.declared.Value.{Value}
+use Rattle.id_tag.specs.declared.Value.TheVariants.{Signal, Int, Bool as Truth, Continuation}
+use Rattle.id_ops.specs.declared.Fresh.{Fresh}
 use Rattle.id_ops.specs.declared.Operands.{Operands}
-use Rattle.id_ops.specs.declared.Operands.TheVariants.{Two}
+use Rattle.id_ops.specs.declared.Operands.TheVariants.{One, Two}
 use Rattle.id_ops.specs.declared.Fired.{Fired}
-use Rattle.id_ops.specs.declared.Fired.TheVariants.{Out, Sent, Failed, Nothing}
-use Rattle.id_ops.specs.declared.OperatorFault.TheVariants.{Overflow, DivisionByZero}
-use Rattle.id_ops.specs.Operators.{fits_i64, divided, result_of, truth_of, fired_binary, fired_back}
+use Rattle.id_ops.specs.declared.Fired.TheVariants.{Out, Side, Sent, Nothing}
+use Rattle.id_ops.specs.Operators.{fired_by, fired_const, fired_unary, fired_binary, fired_merge, fired_switch, fired_back, fired}
 use Rattle.id_ops.specs.Operands.{IsOfKind, Suits}
 
--- kinds that pass the test are one
-pub one_from_same_kind : (a b : PortKind) → same_kind a b ≡ true → a ≡ b
+-- ---- the test of a kind
+
+one_from_same_kind : (a b : PortKind) → same_kind a b ≡ true → a ≡ b
 one_from_same_kind kind.Signal kind.Signal e = refl
 one_from_same_kind kind.Int kind.Int e = refl
 one_from_same_kind kind.Bool kind.Bool e = refl
@@ -30,105 +40,180 @@ one_from_same_kind kind.Context kind.Context e = refl
 one_from_same_kind kind.Continuation kind.Continuation e = refl
 one_from_same_kind _ _ e = cc
 
-tested : (op : Op) (f : Fired) (b : Bool) → (b ≡ true → IsOfKind op f) → IsOfKind op (cond b f Nothing)
-tested op f true h = h refl
-tested op f false h = tt
+same_kind-itself : (k : PortKind) → same_kind k k ≡ true
+same_kind-itself kind.Signal = refl
+same_kind-itself kind.Int = refl
+same_kind-itself kind.Bool = refl
+same_kind-itself kind.Structure = refl
+same_kind-itself kind.Address = refl
+same_kind-itself kind.Context = refl
+same_kind-itself kind.Continuation = refl
 
--- a value that returns is of the kind of port 1
-pub IsOfKind-fired_back : (k : PortKind) (operands : Operands) → IsOfKind (Back k) (fired_back k operands)
-IsOfKind-fired_back k (Two (Continuation u) v) =
-    tested (Back k) (Sent u v) (same_kind (kind_of v) k) (λ e. ap Some (sym (one_from_same_kind (kind_of v) k e)))
-IsOfKind-fired_back k _ = tt
+-- what is done where a value passes the test of its kind
+abbrev Tested : Value → PortKind → Fired → Fired
+Tested v k f = cond (same_kind (kind_of v) k) f Nothing
 
--- an operator that does something with two numbers takes numbers
-takes_numbers : (f : Dyadic) (a b : ℤ) → result_of f a b ≢ Nothing → operand_kind f ≡ kind.Int
-takes_numbers Add a b h = refl
-takes_numbers Sub a b h = refl
-takes_numbers Mul a b h = refl
-takes_numbers Div a b h = refl
-takes_numbers Rem a b h = refl
-takes_numbers Lt a b h = refl
-takes_numbers Le a b h = refl
-takes_numbers Gt a b h = refl
-takes_numbers Ge a b h = refl
-takes_numbers Eq a b h = refl
-takes_numbers Ne a b h = refl
-takes_numbers Eqb a b h = absurd (h refl)
-takes_numbers Neb a b h = absurd (h refl)
-takes_numbers And a b h = absurd (h refl)
-takes_numbers Or a b h = absurd (h refl)
+-- a value of the kind passes, and one that passes is of it
+passes : (v : Value) (k : PortKind) (f : Fired) → Some k ≡ Some (kind_of v) → f ≢ Nothing → Tested v k f ≢ Nothing
+passes v k f e does =
+    let is : kind_of v ≡ k = cc in
+    let passed : same_kind (kind_of v) k ≡ true = subst (λ j. same_kind (kind_of v) j ≡ true) is (same_kind-itself (kind_of v)) in
+    subst (λ b. cond b f Nothing ≢ Nothing) (sym passed) does
 
--- an operator that does something with two truth values takes truth values
-takes_truths : (f : Dyadic) (a b : Bool) → truth_of f a b ≢ Nothing → operand_kind f ≡ kind.Bool
-takes_truths Add a b h = absurd (h refl)
-takes_truths Sub a b h = absurd (h refl)
-takes_truths Mul a b h = absurd (h refl)
-takes_truths Div a b h = absurd (h refl)
-takes_truths Rem a b h = absurd (h refl)
-takes_truths Lt a b h = absurd (h refl)
-takes_truths Le a b h = absurd (h refl)
-takes_truths Gt a b h = absurd (h refl)
-takes_truths Ge a b h = absurd (h refl)
-takes_truths Eq a b h = absurd (h refl)
-takes_truths Ne a b h = absurd (h refl)
-takes_truths Eqb a b h = refl
-takes_truths Neb a b h = refl
-takes_truths And a b h = refl
-takes_truths Or a b h = refl
+passed_kind : (v : Value) (k : PortKind) → same_kind (kind_of v) k ≡ true → Some k ≡ Some (kind_of v)
+passed_kind v k e = ap Some (sym (one_from_same_kind (kind_of v) k e))
 
--- operands with which an operator on two values does something suit it
-pub Suits-fired_binary : (f : Dyadic) (operands : Operands) → fired_binary f operands ≢ Nothing → Suits (Binary f) operands
-Suits-fired_binary f (Two (Int a) (Int b)) h = let k = ap (λ x. Some x) (takes_numbers f a b h) in (k, k)
-Suits-fired_binary f (Two (Truth a) (Truth b)) h = let k = ap (λ x. Some x) (takes_truths f a b h) in (k, k)
-Suits-fired_binary f _ h = absurd (h refl)
+passed : (v : Value) (k : PortKind) (f : Fired) → Tested v k f ≢ Nothing → Some k ≡ Some (kind_of v)
+passed v k f = at (same_kind (kind_of v) k) refl
+  where
+    at : (b : Bool) → same_kind (kind_of v) k ≡ b → cond b f Nothing ≢ Nothing → Some k ≡ Some (kind_of v)
+    at true e h = passed_kind v k e
+    at false e h = absurd (h refl)
 
--- a number that goes out where it fits is of the kind of numbers
-number_of_kind : (f : Dyadic) (n : ℤ) (b : Bool) → IsOfKind (Binary f) (Out (Int n)) → IsOfKind (Binary f) (cond b (Out (Int n)) (Failed Overflow))
-number_of_kind f n true h = h
-number_of_kind f n false h = tt
+of_kind : (op : Op) (v : Value) (k : PortKind) (f : Fired) → (Some k ≡ Some (kind_of v) → IsOfKind op f) → IsOfKind op (Tested v k f)
+of_kind op v k f h = at (same_kind (kind_of v) k) refl
+  where
+    at : (b : Bool) → same_kind (kind_of v) k ≡ b → IsOfKind op (cond b f Nothing)
+    at true e = h (passed_kind v k e)
+    at false e = tt
 
-quotient_of_kind : (f : Dyadic) (a b out : ℤ) → IsOfKind (Binary f) (Out (Int out)) → IsOfKind (Binary f) (divided a b out)
-quotient_of_kind f a b out h = elim (int_eq b (pos 0)) as (λ t. IsOfKind (Binary f) (cond t (Failed DivisionByZero) (cond (fits_i64 (int_div a b)) (Out (Int out)) (Failed Overflow)))) [
-  | true ↦ tt
-  | false ↦ number_of_kind f out (fits_i64 (int_div a b)) h
-]
+-- ---- operands that suit an operator fire it
 
-result_of_kind : (f : Dyadic) (a b : ℤ) → IsOfKind (Binary f) (result_of f a b)
-result_of_kind Add a b = number_of_kind Add (a +ℤ b) (fits_i64 (a +ℤ b)) refl
-result_of_kind Sub a b = number_of_kind Sub (a -ℤ b) (fits_i64 (a -ℤ b)) refl
-result_of_kind Mul a b = number_of_kind Mul (a *ℤ b) (fits_i64 (a *ℤ b)) refl
-result_of_kind Div a b = quotient_of_kind Div a b (int_div a b) refl
-result_of_kind Rem a b = quotient_of_kind Rem a b (int_rem a b) refl
-result_of_kind Lt a b = refl
-result_of_kind Le a b = refl
-result_of_kind Gt a b = refl
-result_of_kind Ge a b = refl
-result_of_kind Eq a b = refl
-result_of_kind Ne a b = refl
-result_of_kind Eqb a b = tt
-result_of_kind Neb a b = tt
-result_of_kind And a b = tt
-result_of_kind Or a b = tt
+fires_number : (x : Outcome) → IsNumberOrFault x → fired_by x ≢ Nothing
+fires_number (Gives (constant.Int n)) h e = cc
+fires_number (Gives (constant.Bool b)) h e = absurd h
+fires_number (Fails k) h e = cc
+fires_number Lacks h e = absurd h
 
-truth_of_kind : (f : Dyadic) (a b : Bool) → IsOfKind (Binary f) (truth_of f a b)
-truth_of_kind Add a b = tt
-truth_of_kind Sub a b = tt
-truth_of_kind Mul a b = tt
-truth_of_kind Div a b = tt
-truth_of_kind Rem a b = tt
-truth_of_kind Lt a b = tt
-truth_of_kind Le a b = tt
-truth_of_kind Gt a b = tt
-truth_of_kind Ge a b = tt
-truth_of_kind Eq a b = tt
-truth_of_kind Ne a b = tt
-truth_of_kind Eqb a b = refl
-truth_of_kind Neb a b = refl
-truth_of_kind And a b = refl
-truth_of_kind Or a b = refl
+fires_const : (c : Constant) (o : Operands) → Suits (Const c) o → fired_const c o ≢ Nothing
+fires_const c (One Signal) h e = cc
+fires_const c (One (Int n)) h e = let k = h.0 in cc
+fires_const c (One (Truth b)) h e = let k = h.0 in cc
+fires_const c (One (Continuation u)) h e = let k = h.0 in cc
+fires_const c (Two v w) h e = let k = h.1 in cc
 
--- what an operator on two values sends is of the kind of its result
-pub IsOfKind-fired_binary : (f : Dyadic) (operands : Operands) → IsOfKind (Binary f) (fired_binary f operands)
-IsOfKind-fired_binary f (Two (Int a) (Int b)) = result_of_kind f a b
-IsOfKind-fired_binary f (Two (Truth a) (Truth b)) = truth_of_kind f a b
-IsOfKind-fired_binary f _ = tt
+fires_unary : (a : UnaryOp) (o : Operands) → Suits (Unary a) o → fired_unary a o ≢ Nothing
+fires_unary Neg (One (Int n)) h e = fires_number (whole (neg_ℤ n)) (whole-number (neg_ℤ n)) e
+fires_unary Not (One (Truth b)) h e = cc
+fires_unary Neg (One Signal) h e = let k = h.0 in cc
+fires_unary Neg (One (Truth b)) h e = let k = h.0 in cc
+fires_unary Neg (One (Continuation u)) h e = let k = h.0 in cc
+fires_unary Not (One Signal) h e = let k = h.0 in cc
+fires_unary Not (One (Int n)) h e = let k = h.0 in cc
+fires_unary Not (One (Continuation u)) h e = let k = h.0 in cc
+fires_unary a (Two v w) h e = let k = h.1 in cc
+
+-- operands of the kind of an operator on two values are numbers or truth values
+fires_binary : (f : Dyadic) (o : Operands) → Suits (Binary f) o → fired_binary f o ≢ Nothing
+fires_binary (class.Arithmetic o) (Two (Int a) (Int b)) h e = fires_number (calculated o a b) (calculated-number o a b) e
+fires_binary (class.Comparison o) (Two (Int a) (Int b)) h e = cc
+fires_binary (class.Truth o) (Two (Truth a) (Truth b)) h e = cc
+fires_binary f (One v) h e = let k = h.1 in cc
+fires_binary f (Two v w) h e = let k = h.0 in let l = h.1 in cc
+
+fires_merge : (k : PortKind) (o : Operands) → Suits (Merge k) o → fired_merge k o ≢ Nothing
+fires_merge k (One v) h e = passes v k (Out v) h.0 (λ x. cc) e
+fires_merge k (Two v w) h e = let z = h.1 in cc
+
+fires_switch : (k : PortKind) (o : Operands) → Suits (Switch k) o → fired_switch k o ≢ Nothing
+fires_switch k (Two (Truth b) v) h e = passes v k (Side b v) h.1 (λ x. cc) e
+fires_switch k (Two Signal v) h e = let z = h.0 in cc
+fires_switch k (Two (Int n) v) h e = let z = h.0 in cc
+fires_switch k (Two (Continuation u) v) h e = let z = h.0 in cc
+fires_switch k (One v) h e = let z = h.1 in cc
+
+fires_back : (k : PortKind) (o : Operands) → Suits (Back k) o → fired_back k o ≢ Nothing
+fires_back k (Two (Continuation u) v) h e = passes v k (Sent u v) h.1 (λ x. cc) e
+fires_back k (Two Signal v) h e = let z = h.0 in cc
+fires_back k (Two (Int n) v) h e = let z = h.0 in cc
+fires_back k (Two (Truth b) v) h e = let z = h.0 in cc
+fires_back k (One v) h e = let z = h.1 in cc
+
+pub fires-from_Suits : (op : Op) (t : Tag) (o : Operands) (fresh : Fresh) → Suits op o → fired op t o fresh ≢ Nothing
+fires-from_Suits (Const c) t o fresh = fires_const c o
+fires-from_Suits (Unary a) t o fresh = fires_unary a o
+fires-from_Suits (Binary f) t o fresh = fires_binary f o
+fires-from_Suits (Merge k) t o fresh = fires_merge k o
+fires-from_Suits (Switch k) t o fresh = fires_switch k o
+fires-from_Suits (Back k) t o fresh = fires_back k o
+
+-- ---- operands with which an operator does something suit it
+
+suits_const : (c : Constant) (o : Operands) → fired_const c o ≢ Nothing → Suits (Const c) o
+suits_const c (One Signal) h = (refl, refl)
+suits_const c _ h = absurd (h refl)
+
+suits_unary : (a : UnaryOp) (o : Operands) → fired_unary a o ≢ Nothing → Suits (Unary a) o
+suits_unary Neg (One (Int n)) h = (refl, refl)
+suits_unary Not (One (Truth b)) h = (refl, refl)
+suits_unary a _ h = absurd (h refl)
+
+suits_binary : (f : Dyadic) (o : Operands) → fired_binary f o ≢ Nothing → Suits (Binary f) o
+suits_binary (class.Arithmetic o) (Two (Int a) (Int b)) h = (refl, refl)
+suits_binary (class.Comparison o) (Two (Int a) (Int b)) h = (refl, refl)
+suits_binary (class.Truth o) (Two (Truth a) (Truth b)) h = (refl, refl)
+suits_binary f _ h = absurd (h refl)
+
+suits_merge : (k : PortKind) (o : Operands) → fired_merge k o ≢ Nothing → Suits (Merge k) o
+suits_merge k (One v) h = (passed v k (Out v) h, refl)
+suits_merge k (Two v w) h = absurd (h refl)
+
+suits_switch : (k : PortKind) (o : Operands) → fired_switch k o ≢ Nothing → Suits (Switch k) o
+suits_switch k (Two (Truth b) v) h = (refl, passed v k (Side b v) h)
+suits_switch k _ h = absurd (h refl)
+
+suits_back : (k : PortKind) (o : Operands) → fired_back k o ≢ Nothing → Suits (Back k) o
+suits_back k (Two (Continuation u) v) h = (refl, passed v k (Sent u v) h)
+suits_back k _ h = absurd (h refl)
+
+pub Suits-from_fires : (op : Op) (t : Tag) (o : Operands) (fresh : Fresh) → fired op t o fresh ≢ Nothing → Suits op o
+Suits-from_fires (Const c) t o fresh = suits_const c o
+Suits-from_fires (Unary a) t o fresh = suits_unary a o
+Suits-from_fires (Binary f) t o fresh = suits_binary f o
+Suits-from_fires (Merge k) t o fresh = suits_merge k o
+Suits-from_fires (Switch k) t o fresh = suits_switch k o
+Suits-from_fires (Back k) t o fresh = suits_back k o
+
+-- ---- what an operator sends is of the kind that is said
+
+kind_number : (op : Op) (x : Outcome) → sends op ≡ Some kind.Int → IsNumberOrFault x → IsOfKind op (fired_by x)
+kind_number op (Gives (constant.Int n)) is h = is
+kind_number op (Gives (constant.Bool b)) is h = absurd h
+kind_number op (Fails k) is h = tt
+kind_number op Lacks is h = tt
+
+kind_const : (c : Constant) (o : Operands) → IsOfKind (Const c) (fired_const c o)
+kind_const (constant.Int n) (One Signal) = refl
+kind_const (constant.Bool b) (One Signal) = refl
+kind_const c _ = tt
+
+kind_unary : (a : UnaryOp) (o : Operands) → IsOfKind (Unary a) (fired_unary a o)
+kind_unary Neg (One (Int n)) = kind_number (Unary Neg) (whole (neg_ℤ n)) refl (whole-number (neg_ℤ n))
+kind_unary Not (One (Truth b)) = refl
+kind_unary a _ = tt
+
+kind_binary : (f : Dyadic) (o : Operands) → IsOfKind (Binary f) (fired_binary f o)
+kind_binary (class.Arithmetic o) (Two (Int a) (Int b)) = kind_number (Binary (class.Arithmetic o)) (calculated o a b) refl (calculated-number o a b)
+kind_binary (class.Comparison o) (Two (Int a) (Int b)) = refl
+kind_binary (class.Truth o) (Two (Truth a) (Truth b)) = refl
+kind_binary f _ = tt
+
+kind_merge : (k : PortKind) (o : Operands) → IsOfKind (Merge k) (fired_merge k o)
+kind_merge k (One v) = of_kind (Merge k) v k (Out v) (λ e. e)
+kind_merge k (Two v w) = tt
+
+kind_switch : (k : PortKind) (o : Operands) → IsOfKind (Switch k) (fired_switch k o)
+kind_switch k (Two (Truth b) v) = of_kind (Switch k) v k (Side b v) (λ e. (e, refl))
+kind_switch k _ = tt
+
+kind_back : (k : PortKind) (o : Operands) → IsOfKind (Back k) (fired_back k o)
+kind_back k (Two (Continuation u) v) = of_kind (Back k) v k (Sent u v) (λ e. e)
+kind_back k _ = tt
+
+pub IsOfKind-fired : (op : Op) (t : Tag) (o : Operands) (fresh : Fresh) → IsOfKind op (fired op t o fresh)
+IsOfKind-fired (Const c) t o fresh = kind_const c o
+IsOfKind-fired (Unary a) t o fresh = kind_unary a o
+IsOfKind-fired (Binary f) t o fresh = kind_binary f o
+IsOfKind-fired (Merge k) t o fresh = kind_merge k o
+IsOfKind-fired (Switch k) t o fresh = kind_switch k o
+IsOfKind-fired (Back k) t o fresh = kind_back k o

@@ -3,22 +3,22 @@
 //! Keeps: nothing beyond its values.
 //! Errors: none; nothing here takes memory.
 //! Read first: `specs/Operators.antt`, then `fire`.
-//! Not here: matching operands (`id_match`), sending outputs (`id_core`).
+//! Not here: what operators give (`id_value`), matching operands (`id_match`), sending outputs (`id_record`,
+//! `id_element`).
 #![tactic(auto)]
-
-mod numbers;
-mod truths;
 
 ghost use Rattle.std.specs.Prelude.{◌≡◌, ◌≢◌};
 ghost use Rattle.id_ops.specs.declared.Fired.TheVariants.{Nothing};
 ghost use Rattle.id_ops.specs.Operands.{Suits, IsOfKind};
-ghost use Rattle.id_ops.specs.Operators.{constant_value, fired_const, fired_unary, fired_binary, fired_merge, fired_back, fired};
+ghost use Rattle.id_ops.specs.Operators.{constant_value, fired_by, fired_const, fired_unary, fired_binary, fired_merge};
+ghost use Rattle.id_ops.specs.Operators.{fired_switch, fired_back, fired};
 
-use id_graph::{Constant, Dyadic, Instr, Monadic, Op, PortKind};
+use id_graph::{Dyadic, Instr, Op, PortKind};
 use id_tag::{Context, Tag, Value};
+use id_value::{Constant, FaultKind, Outcome, UnaryOp, calculate, compare, decide, unary_result};
 
 /// The operands of one firing, by port.
-#[derive(Clone, Copy, Debug, PartialEq, Eq)]
+#[derive(Clone, Copy)]
 pub enum Operands {
     One(Value),
     Two(Value, Value),
@@ -26,31 +26,24 @@ pub enum Operands {
 
 /// The next numbers of the element that fires: the next context, its own number, and the number of
 /// the next structure.
-#[derive(Clone, Copy, Debug, PartialEq, Eq)]
+#[derive(Clone, Copy)]
 pub struct Fresh {
     pub context: Context,
     pub element: u32,
     pub structure: u64,
 }
 
-/// Why an operator has no result.
-#[derive(Clone, Copy, Debug, PartialEq, Eq)]
-pub enum OperatorFault {
-    /// The result is outside the whole numbers of 64 bits: `9223372036854775807 + 1`
-    Overflow,
-    /// The divisor is 0: `1 div 0`
-    DivisionByZero,
-}
-
 /// What a firing does.
-#[derive(Clone, Copy, Debug, PartialEq, Eq)]
+#[derive(Clone, Copy)]
 pub enum Fired {
     /// The value goes to each destination under the tag of the operands.
     Out(Value),
+    /// The value goes to each destination on this side, under the tag of the operands.
+    Side(bool, Value),
     /// The value goes to port 0 of this tag.
     Sent(Tag, Value),
-    /// There is no result.
-    Failed(OperatorFault),
+    /// The operator fails.
+    Failed(FaultKind),
     /// The operands are of no kind that the operator takes: nothing is sent.
     Nothing,
 }
@@ -65,11 +58,19 @@ pub fn fire(instr: &Instr, tag: Tag, operands: Operands, fresh: Fresh) -> Fired
     ensures suits { result ≢ Nothing → Suits instr.now.op operands }
     ensures kind { IsOfKind instr.now.op result }
 {
-    match instr.op {
+    fire_op(instr.op, tag, operands, fresh)
+}
+
+// By the operator alone.
+fn fire_op(op: Op, tag: Tag, operands: Operands, fresh: Fresh) -> Fired
+    ensures { result ≡ fired op tag operands fresh }
+{
+    match op {
         Op::Const(constant) => fire_const(constant, operands),
         Op::Unary(operator) => fire_unary(operator, operands),
         Op::Binary(operator) => fire_binary(operator, operands),
         Op::Merge(kind) => fire_merge(kind, operands),
+        Op::Switch(kind) => fire_switch(kind, operands),
         Op::Back(kind) => fire_back(kind, operands),
     }
 }
@@ -92,12 +93,18 @@ fn value_of(constant: Constant) -> Value
     }
 }
 
-fn fire_unary(operator: Monadic, operands: Operands) -> Fired
+fn fire_unary(operator: UnaryOp, operands: Operands) -> Fired
     ensures { result ≡ fired_unary operator operands }
 {
-    match (operator, operands) {
-        (Monadic::Neg, Operands::One(Value::Int(number))) => numbers::negate(number),
-        (Monadic::Not, Operands::One(Value::Bool(truth))) => Fired::Out(Value::Bool(!truth)),
+    match operands {
+        Operands::One(Value::Int(number)) => fired_by(unary_result(
+            operator,
+            Constant::Int(number),
+        )),
+        Operands::One(Value::Bool(truth)) => fired_by(unary_result(
+            operator,
+            Constant::Bool(truth),
+        )),
         _ => Fired::Nothing,
     }
 }
@@ -105,12 +112,28 @@ fn fire_unary(operator: Monadic, operands: Operands) -> Fired
 fn fire_binary(operator: Dyadic, operands: Operands) -> Fired
     ensures { result ≡ fired_binary operator operands }
 {
-    match operands {
-        Operands::Two(Value::Int(left), Value::Int(right)) => numbers::apply(operator, left, right),
-        Operands::Two(Value::Bool(left), Value::Bool(right)) => truths::apply(
-            operator, left, right,
-        ),
+    match (operator, operands) {
+        (Dyadic::Arithmetic(operator), Operands::Two(Value::Int(left), Value::Int(right))) => {
+            fired_by(calculate(operator, left, right))
+        }
+        (Dyadic::Comparison(operator), Operands::Two(Value::Int(left), Value::Int(right))) => {
+            Fired::Out(Value::Bool(compare(operator, left, right)))
+        }
+        (Dyadic::Truth(operator), Operands::Two(Value::Bool(left), Value::Bool(right))) => {
+            Fired::Out(Value::Bool(decide(operator, left, right)))
+        }
         _ => Fired::Nothing,
+    }
+}
+
+// What an operator comes to, as a firing.
+fn fired_by(outcome: Outcome) -> Fired
+    ensures { result ≡ fired_by outcome }
+{
+    match outcome {
+        Outcome::Gives(constant) => Fired::Out(value_of(constant)),
+        Outcome::Fails(cause) => Fired::Failed(cause),
+        Outcome::Lacks => Fired::Nothing,
     }
 }
 
@@ -123,6 +146,15 @@ fn fire_merge(kind: PortKind, operands: Operands) -> Fired
     }
 }
 
+fn fire_switch(kind: PortKind, operands: Operands) -> Fired
+    ensures { result ≡ fired_switch kind operands }
+{
+    match operands {
+        Operands::Two(Value::Bool(side), value) if value.has_kind(kind) => Fired::Side(side, value),
+        _ => Fired::Nothing,
+    }
+}
+
 fn fire_back(kind: PortKind, operands: Operands) -> Fired
     ensures { result ≡ fired_back kind operands }
 {
@@ -131,187 +163,5 @@ fn fire_back(kind: PortKind, operands: Operands) -> Fired
             Fired::Sent(caller, value)
         }
         _ => Fired::Nothing,
-    }
-}
-
-#[cfg(test)]
-mod tests {
-    use super::*;
-    use id_graph::Dests;
-
-    const LEAST: i64 = i64::MIN;
-
-    const MOST: i64 = i64::MAX;
-
-    fn instr(rt: &HostRuntime, op: Op) -> Instr {
-        Instr {
-            op,
-            dests: Dests::new(rt.alloc()),
-            others: Dests::new(rt.alloc()),
-            place: 0,
-        }
-    }
-
-    fn at(iteration: u64) -> Tag {
-        Tag {
-            context: Context {
-                element: 0,
-                serial: 1,
-            },
-            iteration,
-            instr: 3,
-        }
-    }
-
-    fn fired_by(rt: &HostRuntime, op: Op, operands: Operands) -> Fired {
-        let fresh = Fresh {
-            context: at(0).context,
-            element: 0,
-            structure: 1,
-        };
-        fire(&instr(rt, op), at(5), operands, fresh)
-    }
-
-    #[test]
-    fn computes_on_whole_numbers(rt: HostRuntime) {
-        use Dyadic::{Add, Div, Mul, Rem, Sub};
-        let out = |number: i64| Fired::Out(Value::Int(number));
-        let overflow = Fired::Failed(OperatorFault::Overflow);
-        let by_zero = Fired::Failed(OperatorFault::DivisionByZero);
-        let table = [
-            (Add, 2, 3, out(5)),
-            (Add, MOST, 1, overflow),
-            (Sub, 2, 3, out(-1)),
-            (Sub, LEAST, 1, overflow),
-            (Mul, -4, 3, out(-12)),
-            (Mul, LEAST, -1, overflow),
-            (Div, -7, 2, out(-3)),
-            (Div, 7, -2, out(-3)),
-            (Div, LEAST, -1, overflow),
-            (Div, LEAST, 1, out(LEAST)),
-            (Div, 1, 0, by_zero),
-            (Rem, -7, 2, out(-1)),
-            (Rem, 7, -2, out(1)),
-            (Rem, LEAST, -1, overflow),
-            (Rem, 1, 0, by_zero),
-        ];
-        for (operator, left, right, wanted) in table {
-            let operands = Operands::Two(Value::Int(left), Value::Int(right));
-            let fired = fired_by(&rt, Op::Binary(operator), operands);
-            assert_eq!(rt; fired, wanted, "{operator:?} of {left} and {right}");
-        }
-    }
-
-    #[test]
-    fn compares_whole_numbers(rt: HostRuntime) {
-        use Dyadic::{Eq, Ge, Gt, Le, Lt, Ne};
-        let table = [
-            (Lt, [true, false, false]),
-            (Le, [true, true, false]),
-            (Gt, [false, false, true]),
-            (Ge, [false, true, true]),
-            (Eq, [false, true, false]),
-            (Ne, [true, false, true]),
-        ];
-        for (operator, [below, equal, above]) in table {
-            let rows = [
-                (2, 3, below),
-                (3, 3, equal),
-                (3, 2, above),
-                (-1, 0, below),
-                (LEAST, MOST, below),
-                (LEAST, LEAST, equal),
-                (MOST, MOST, equal),
-                (MOST, LEAST, above),
-            ];
-            for (left, right, wanted) in rows {
-                let operands = Operands::Two(Value::Int(left), Value::Int(right));
-                let fired = fired_by(&rt, Op::Binary(operator), operands);
-                assert_eq!(rt;
-                    fired,
-                    Fired::Out(Value::Bool(wanted)),
-                    "{operator:?} of {left} and {right}"
-                );
-            }
-        }
-    }
-
-    #[test]
-    fn computes_on_truth_values(rt: HostRuntime) {
-        use Dyadic::{And, Eqb, Neb, Or};
-        let pairs = [(false, false), (false, true), (true, false), (true, true)];
-        let table = [
-            (Eqb, [true, false, false, true]),
-            (Neb, [false, true, true, false]),
-            (And, [false, false, false, true]),
-            (Or, [false, true, true, true]),
-        ];
-        for (operator, row) in table {
-            for ((left, right), wanted) in pairs.into_iter().zip(row) {
-                let operands = Operands::Two(Value::Bool(left), Value::Bool(right));
-                let fired = fired_by(&rt, Op::Binary(operator), operands);
-                assert_eq!(rt;
-                    fired,
-                    Fired::Out(Value::Bool(wanted)),
-                    "{operator:?} of {left} and {right}"
-                );
-            }
-        }
-    }
-
-    #[test]
-    fn fires_by_kind(rt: HostRuntime) {
-        use Operands::{One, Two};
-        let seven = Value::Int(7);
-        let yes = Value::Bool(true);
-        let no = Value::Bool(false);
-        let caller = Value::Continuation(at(2));
-        let table = [
-            (
-                Op::Const(Constant::Int(7)),
-                One(Value::Signal),
-                Fired::Out(seven),
-            ),
-            (Op::Const(Constant::Int(7)), One(seven), Fired::Nothing),
-            (
-                Op::Unary(Monadic::Neg),
-                One(seven),
-                Fired::Out(Value::Int(-7)),
-            ),
-            (
-                Op::Unary(Monadic::Neg),
-                One(Value::Int(LEAST)),
-                Fired::Failed(OperatorFault::Overflow),
-            ),
-            (Op::Unary(Monadic::Neg), Two(seven, seven), Fired::Nothing),
-            (Op::Unary(Monadic::Neg), One(yes), Fired::Nothing),
-            (Op::Unary(Monadic::Not), One(yes), Fired::Out(no)),
-            (Op::Unary(Monadic::Not), One(no), Fired::Out(yes)),
-            (Op::Unary(Monadic::Not), One(seven), Fired::Nothing),
-            (Op::Unary(Monadic::Not), Two(yes, yes), Fired::Nothing),
-            (Op::Binary(Dyadic::And), One(yes), Fired::Nothing),
-            (Op::Binary(Dyadic::And), Two(yes, seven), Fired::Nothing),
-            (Op::Binary(Dyadic::And), Two(seven, seven), Fired::Nothing),
-            (Op::Binary(Dyadic::Eqb), Two(seven, seven), Fired::Nothing),
-            (Op::Binary(Dyadic::Eq), Two(yes, yes), Fired::Nothing),
-            (Op::Binary(Dyadic::Lt), Two(seven, yes), Fired::Nothing),
-            (Op::Binary(Dyadic::Add), Two(no, yes), Fired::Nothing),
-            (Op::Merge(PortKind::Int), One(seven), Fired::Out(seven)),
-            (Op::Merge(PortKind::Signal), One(seven), Fired::Nothing),
-            (
-                Op::Back(PortKind::Int),
-                Two(caller, seven),
-                Fired::Sent(at(2), seven),
-            ),
-            (Op::Back(PortKind::Bool), Two(caller, seven), Fired::Nothing),
-            (Op::Back(PortKind::Int), Two(seven, seven), Fired::Nothing),
-        ];
-        for (op, operands, wanted) in table {
-            assert_eq!(rt;
-                fired_by(&rt, op, operands),
-                wanted,
-                "{op:?} on {operands:?}"
-            );
-        }
     }
 }

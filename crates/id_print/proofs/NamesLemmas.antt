@@ -13,7 +13,7 @@ use Rattle.std.proofs.lemmas.Map.Keys.{IsDistinct-IsPermutation}
 use Rattle.id_meaning.specs.declared.PathStep.{PathStep}
 use Rattle.id_meaning.specs.declared.Path.{Path}
 use Rattle.id_meaning.specs.declared.NameValue.{NameValue}
-use Rattle.id_meaning.specs.Parts.{Among, AllDiffer}
+use Rattle.id_list.specs.List.{Among, AllDiffer}
 use Rattle.id_meaning.specs.Orders.{StepBefore, StepsBefore, NamesRise}
 use Rattle.id_print.specs.Names.{NameBefore, IsSortedOf, AreApart, step_cmp, name_cmp}
 

@@ -5,7 +5,7 @@ use Rattle.std.specs.Ordering.{nat_cmp, ordering_then}
 use Rattle.std.specs.Cmp.Lexicographic.{slice_cmp}
 use Rattle.id_meaning.specs.declared.PathStep.{PathStep}
 use Rattle.id_meaning.specs.declared.NameValue.{NameValue}
-use Rattle.id_meaning.specs.Parts.{Among, AllDiffer}
+use Rattle.id_list.specs.List.{Among, AllDiffer}
 use Rattle.id_meaning.specs.Orders.{PointBefore}
 
 -- the first name's path and place come before those of the second

@@ -1,4 +1,4 @@
--- The text of a report (docs/PROMISES.md, "Printing").
+-- The text of a report (docs/LANGUAGE.md, "Output").
 use Rattle.std.specs.Prelude.{ℕ, Bool, if◌then◌else◌, List, []}
 use Rattle.id_meaning.specs.declared.NameValue.{NameValue}
 use Rattle.id_print.specs.Texts.{shown_text, stopped_text, fault_text}

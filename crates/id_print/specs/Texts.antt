@@ -1,4 +1,4 @@
--- The texts that are printed (docs/PROMISES.md, "Printing"). Bytes are those of ASCII text.
+-- The texts that are printed (docs/LANGUAGE.md, "Output"). Bytes are those of ASCII text.
 use Rattle.std.specs.Prelude.{ℕ, Bool as Truth, true, false, List, ◌++◌, Option, None, Some, codes, decimal}
 use Rattle.std.specs.List.{flat_map}
 use Rattle.std.specs.Fmt.{signed_decimal}
@@ -7,8 +7,8 @@ use Rattle.id_meaning.specs.declared.PathStep.{PathStep}
 use Rattle.id_meaning.specs.declared.Path.{Path}
 use Rattle.id_meaning.specs.declared.SourceValue.{SourceValue}
 use Rattle.id_meaning.specs.declared.SourceValue.TheVariants.{Int, Bool}
-use Rattle.id_meaning.specs.declared.FaultKind.{FaultKind}
-use Rattle.id_meaning.specs.declared.FaultKind.TheVariants.{Overflow, DivisionByZero}
+use Rattle.id_value.specs.declared.FaultKind.{FaultKind}
+use Rattle.id_value.specs.declared.FaultKind.TheVariants.{Overflow, DivisionByZero}
 use Rattle.id_meaning.specs.declared.SourceFault.{SourceFault}
 use Rattle.id_meaning.specs.declared.NameValue.{NameValue}
 use Rattle.id_meaning.specs.declared.Fact.{Fact}

@@ -1,4 +1,4 @@
--- The text of a trace (docs/MACHINE.md, "Trace"). Bytes are those of ASCII text.
+-- The text of a trace (docs/LANGUAGE.md, "Output"). Bytes are those of ASCII text.
 use Rattle.std.specs.Prelude.{ℕ, List, [], ◌∷◌, ◌++◌, codes, decimal}
 use Rattle.std.specs.Fmt.{signed_decimal}
 use Rattle.id_print.specs.Texts.{truth_text}

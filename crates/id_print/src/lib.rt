@@ -3,7 +3,7 @@
 //! Keeps: a failed write ends a text at once, so what went out is a front of it.
 //! Errors: `PrintError`, only where a write failed.
 //! Read first: `Sink`, `specs/Told.antt`, then `specs/Texts.antt`.
-//! Not here: runs (`id_core`), the refusals of the program (`idc`).
+//! Not here: runs (`id_core`), refusals (`id_engine`).
 #![tactic(auto)]
 
 mod cursor;

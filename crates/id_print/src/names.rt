@@ -4,8 +4,8 @@ ghost use Rattle.std.specs.Prelude.{◌≡◌};
 ghost use Rattle.id_meaning.specs.Orders.{NamesRise};
 ghost use Rattle.id_print.specs.Names.{IsSortedOf, AreApart, name_cmp};
 
+use id_list::Sequence;
 use id_meaning::NameValue;
-use id_text::Sequence;
 use std::cmp::Ordering;
 
 /// The names by path and place. Takes no memory.

@@ -15,8 +15,10 @@ use crate::names::sorted_names;
 use crate::sink::{PrintError, Sink, put};
 use crate::texts::{put_point, put_point_value, put_value};
 use id_core::Machine;
-use id_meaning::{FaultKind, NameValue, Path, PathStep, SourceFault, SourceValue};
-use id_text::{MAX_BYTES, Sequence};
+use id_list::Sequence;
+use id_meaning::{NameValue, Path, PathStep, SourceFault, SourceValue};
+use id_text::MAX_BYTES;
+use id_value::FaultKind;
 use std::alloc::{AllocError, Global};
 
 /// How a run ended.

@@ -3,15 +3,12 @@
 ghost use Rattle.std.specs.Prelude.{◌≡◌, ◌≤◌, length, IfOk, List, ℕ, Option};
 ghost use Rattle.id_print.specs.Told.{Told, AfterWrite, Prints};
 
-use thiserror::Error;
-
 /// A write that failed.
-#[derive(Clone, Copy, Debug, PartialEq, Eq)]
+#[derive(Clone, Copy)]
 pub struct SinkFault;
 
 /// Why a text was not printed whole: a write failed, and what went out is a front of the text.
-#[derive(Clone, Copy, Debug, PartialEq, Eq, Error)]
-#[error("a write failed")]
+#[derive(Clone, Copy)]
 pub struct PrintError;
 
 /// Something that takes bytes.

@@ -7,7 +7,8 @@ use Rattle.std.proofs.lemmas.List.Elements.{recursion_from_All, All-from_recursi
 use Rattle.std.proofs.lemmas.Option.{get_or_from_slice_get, slice_get_read}
 use Rattle.std.specs.Option.{option_map_or}
 use Rattle.id_graph.specs.declared.instr.Instr.{Instr}
-use Rattle.id_graph.specs.Graph.{Parts}
+use Rattle.id_graph.specs.Graph.{Parts, arcs_on}
+use Rattle.id_ops.specs.Operators.{side_of}
 use Rattle.id_tag.specs.declared.Message.{Message}
 use Rattle.id_tag.specs.declared.Tag.{Tag}
 use Rattle.id_tag.specs.declared.Value.TheVariants as value
@@ -114,10 +115,11 @@ pub event_at_instr : (g : Parts) (n k : ℕ) (h : Handled) (i : Instr) (t : Tag)
       element = n;
       stamp = h.stamp;
       message = h.message;
-      outputs = numbered n k h.stamp 0 (sent i.dests t h.reaction.fired);
+      outputs = numbered n k h.stamp 0 (sent (arcs_on (side_of h.reaction.fired) i) t h.reaction.fired);
       step = full_step h.message.payload h.reaction.verdict;
     }
 event_at_instr g n k h i t there tag =
     let event : List Message → EventView = λ ms. record { element = n; stamp = h.stamp; message = h.message; outputs = ms; step = full_step h.message.payload h.reaction.verdict } in
-    ap (λ o. event (numbered n k h.stamp 0 (sent (option_map_or (λ x. x.dests) o []) (tag_of h.message.payload) h.reaction.fired))) there
-    ∙ ap (λ u. event (numbered n k h.stamp 0 (sent i.dests u h.reaction.fired))) (sym tag)
+    let b = side_of h.reaction.fired in
+    ap (λ o. event (numbered n k h.stamp 0 (sent (option_map_or (arcs_on b) o []) (tag_of h.message.payload) h.reaction.fired))) there
+    ∙ ap (λ u. event (numbered n k h.stamp 0 (sent (arcs_on b i) u h.reaction.fired))) (sym tag)

@@ -1,6 +1,7 @@
 -- Lemmas on specs/Sends.antt, in the order of its definitions.
 use Rattle.std.specs.Prelude.{slice_get}
-use Rattle.std.proofs.Common.{zero, suc, Some, ◌≡◌, ℕ, ◌+◌, ◌≤◌, ◌<◌, List, [], ◌∷◌, ◌++◌, length, map, max, take, get_or, refl, ap, ◌∙◌, arith}
+use Rattle.std.proofs.Common.{zero, suc, Some, ◌≡◌, ◌⊎◌, inl, inr, Bool, ℕ, ◌+◌, ◌≤◌, ◌<◌}
+use Rattle.std.proofs.Common.{List, [], ◌∷◌, ◌++◌, length, map, max, take, get_or, refl, ap, ◌∙◌, arith}
 use Rattle.std.proofs.lemmas.List.{length-map, length-take, map_more}
 use Rattle.id_graph.specs.declared.dests.Dest.{Dest}
 use Rattle.id_tag.specs.declared.Tag.{Tag}
@@ -9,12 +10,23 @@ use Rattle.id_tag.specs.declared.Payload.{Payload}
 use Rattle.id_tag.specs.declared.Message.{Message}
 use Rattle.id_tag.specs.declared.Sender.TheVariants.{Element}
 use Rattle.id_ops.specs.declared.Fired.{Fired}
-use Rattle.id_ops.specs.declared.Fired.TheVariants.{Out, Sent, Failed, Nothing}
+use Rattle.id_ops.specs.declared.Fired.TheVariants.{Out, Side, Sent, Failed, Nothing}
 use Rattle.id_record.specs.Sends.{sent, token_to, numbered}
+
+-- a value that goes out goes to each destination
+pub sent-out : (ds : List Dest) (t : Tag) (f : Fired) (v : Value) → (f ≡ Out v) ⊎ ((b : Bool) × (f ≡ Side b v)) → sent ds t f ≡ map (token_to t v) ds
+sent-out ds t f v (inl is) = ap (sent ds t) is
+sent-out ds t f v (inr is) = ap (sent ds t) is.1
+
+pub length-out : (ds : List Dest) (t : Tag) (f : Fired) → ((v : Value) × (f ≡ Out v)) ⊎ ((b : Bool) × (v : Value) × (f ≡ Side b v))
+    → length (sent ds t f) ≡ length ds
+length-out ds t f (inl is) = ap (λ g. length (sent ds t g)) is.1 ∙ length-map ds (token_to t is.0)
+length-out ds t f (inr is) = ap (λ g. length (sent ds t g)) is.2 ∙ length-map ds (token_to t is.1)
 
 -- at most one payload for each destination, or one
 pub length-sent : (ds : List Dest) (t : Tag) (f : Fired) → length (sent ds t f) ≤ max (length ds) 1
 length-sent ds t (Out v) = omega (arith, length-map ds (token_to t v))
+length-sent ds t (Side b v) = omega (arith, length-map ds (token_to t v))
 length-sent ds t (Sent u v) = omega arith
 length-sent ds t (Failed f) = omega arith
 length-sent ds t Nothing = omega arith

@@ -8,13 +8,15 @@ use Rattle.id_tag.specs.declared.Payload.{Payload}
 use Rattle.id_tag.specs.declared.Payload.TheVariants.{Token}
 use Rattle.id_ops.specs.declared.Fired.{Fired}
 use Rattle.id_ops.specs.declared.Fired.TheVariants as fired
-use Rattle.id_ops.specs.declared.OperatorFault.TheVariants as fault
+use Rattle.id_value.specs.declared.FaultKind.TheVariants as fault
 use Rattle.id_record.specs.declared.step.Verdict.TheVariants as verdict
 use Rattle.id_record.specs.declared.line.Reaction.{Reaction}
 use Rattle.id_record.specs.declared.line.Handled.{Handled}
 use Rattle.id_record.specs.declared.line.Line.{Line}
 use Rattle.id_record.specs.declared.line.Carried.{Carried}
 use Rattle.id_record.specs.declared.line.Carried.TheVariants.{Signal, Int, Bool as Truth, Aside}
+use Rattle.id_record.specs.declared.line.Exit.{Exit}
+use Rattle.id_record.specs.declared.line.Exit.TheVariants.{Only, On}
 use Rattle.id_record.specs.declared.line.Effect.{Effect}
 use Rattle.id_record.specs.declared.line.Effect.TheVariants as effect
 
@@ -39,20 +41,36 @@ number_in (value.Continuation t) = pos 0
 -- the number that was sent, or 0
 abbrev pub number_of : Fired → ℤ
 number_of (fired.Out v) = number_in v
+number_of (fired.Side b v) = number_in v
 number_of (fired.Sent u v) = pos 0
 number_of (fired.Failed f) = pos 0
 number_of fired.Nothing = pos 0
 
--- what an effect stands for, with the number of its line
-abbrev pub reaction_of : Effect → ℤ → Reaction
-reaction_of effect.Stuck n = record { fired = fired.Nothing; verdict = verdict.Stuck }
-reaction_of effect.Nothing n = record { fired = fired.Nothing; verdict = verdict.Went }
-reaction_of effect.Overflow n = record { fired = fired.Failed fault.Overflow; verdict = verdict.Failed fault.Overflow }
-reaction_of effect.DivisionByZero n = record { fired = fired.Failed fault.DivisionByZero; verdict = verdict.Failed fault.DivisionByZero }
-reaction_of effect.Signal n = record { fired = fired.Out value.Signal; verdict = verdict.Went }
-reaction_of effect.Int n = record { fired = fired.Out (value.Int n); verdict = verdict.Went }
-reaction_of effect.True n = record { fired = fired.Out (value.Bool true); verdict = verdict.Went }
-reaction_of effect.False n = record { fired = fired.Out (value.Bool false); verdict = verdict.Went }
+-- where the value of a firing went out
+abbrev pub exit_of : Fired → Exit
+exit_of (fired.Out v) = Only
+exit_of (fired.Side b v) = On b
+exit_of (fired.Sent u v) = Only
+exit_of (fired.Failed f) = Only
+exit_of fired.Nothing = Only
+
+-- the firing by which a value went out there
+abbrev pub fired_at : Exit → Value → Fired
+fired_at Only v = fired.Out v
+fired_at (On b) v = fired.Side b v
+
+-- what an effect stands for, with the exit and the number of its line
+abbrev pub reaction_of : Effect → Exit → ℤ → Reaction
+reaction_of effect.Stuck x n = record { fired = fired.Nothing; verdict = verdict.Stuck }
+reaction_of effect.Nothing x n = record { fired = fired.Nothing; verdict = verdict.Went }
+reaction_of effect.Overflow x n =
+    record { fired = fired.Failed fault.Overflow; verdict = verdict.Failed fault.Overflow }
+reaction_of effect.DivisionByZero x n =
+    record { fired = fired.Failed fault.DivisionByZero; verdict = verdict.Failed fault.DivisionByZero }
+reaction_of effect.Signal x n = record { fired = fired_at x value.Signal; verdict = verdict.Went }
+reaction_of effect.Int x n = record { fired = fired_at x (value.Int n); verdict = verdict.Went }
+reaction_of effect.True x n = record { fired = fired_at x (value.Bool true); verdict = verdict.Went }
+reaction_of effect.False x n = record { fired = fired_at x (value.Bool false); verdict = verdict.Went }
 
 -- who sent the message: no element, or the one of this number
 abbrev pub sender_of : Bool → ℕ → Sender
@@ -70,7 +88,7 @@ own l v = record {
     stamp = l.sent;
   };
   stamp = l.stamp;
-  reaction = reaction_of l.effect l.result;
+  reaction = reaction_of l.effect l.exit l.result;
 }
 
 -- the event of a line that carries this

@@ -1,24 +1,30 @@
 -- The events of a record, as its lines keep them (docs/MACHINE.md, "The record").
-use Rattle.std.specs.Prelude.{ℕ, ◌+◌, List, [], ◌∷◌, slice_get}
+use Rattle.std.specs.Prelude.{ℕ, ◌+◌, Bool, List, [], ◌∷◌, slice_get}
 use Rattle.std.specs.Option.{option_map_or}
 use Rattle.id_graph.specs.declared.dests.Dest.{Dest}
-use Rattle.id_graph.specs.Graph.{Parts}
+use Rattle.id_graph.specs.Graph.{Parts, arcs_on}
 use Rattle.id_tag.specs.declared.Tag.{Tag}
+use Rattle.id_tag.specs.declared.Payload.{Payload}
 use Rattle.id_tag.specs.declared.Message.{Message}
 use Rattle.id_ops.specs.declared.Fired.{Fired}
+use Rattle.id_ops.specs.Operators.{side_of}
 use Rattle.id_record.specs.declared.line.Handled.{Handled}
 use Rattle.id_record.specs.declared.line.Line.{Line}
 use Rattle.id_record.specs.Events.{EventView, full_step, tag_of}
 use Rattle.id_record.specs.Lines.{unpacked}
 use Rattle.id_record.specs.Sends.{numbered, sent}
 
--- the destinations of the instruction of this number
-abbrev pub dests_at : Parts → ℕ → List Dest
-dests_at g n = option_map_or (λ i. i.dests) (slice_get g.instrs n) []
+-- the destinations of the instruction of this number on a side
+abbrev pub dests_at : Parts → ℕ → Bool → List Dest
+dests_at g n b = option_map_or (arcs_on b) (slice_get g.instrs n) []
+
+-- what is sent where the instruction of the tag fires: to the destinations on the side of the firing
+abbrev pub sent_by : Parts → Tag → Fired → List Payload
+sent_by g t f = sent (dests_at g t.instr (side_of f)) t f
 
 -- what the element n sends in the event at this position, at this stamp, where the instruction of the tag fires
 abbrev pub sent_at : Parts → ℕ → ℕ → ℕ → Tag → Fired → List Message
-sent_at g n position stamp t f = numbered n position stamp 0 (sent (dests_at g t.instr) t f)
+sent_at g n position stamp t f = numbered n position stamp 0 (sent_by g t f)
 
 -- the event of the element n at this position
 abbrev pub event_of_handled : Parts → ℕ → ℕ → Handled → EventView

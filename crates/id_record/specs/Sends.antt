@@ -9,15 +9,16 @@ use Rattle.id_tag.specs.declared.Payload.{Payload}
 use Rattle.id_tag.specs.declared.Payload.TheVariants.{Token}
 use Rattle.id_tag.specs.declared.Message.{Message}
 use Rattle.id_ops.specs.declared.Fired.{Fired}
-use Rattle.id_ops.specs.declared.Fired.TheVariants.{Out, Sent, Failed, Nothing}
+use Rattle.id_ops.specs.declared.Fired.TheVariants.{Out, Side, Sent, Failed, Nothing}
 
 -- a token to this destination, under the context and iteration of the tag
 abbrev pub token_to : Tag → Value → Dest → Payload
 token_to t v d = Token (record { context = t.context; iteration = t.iteration; instr = d.instr }) d.port v
 
--- what a firing sends: one token to each destination in order, or one token to port 0 of a tag
+-- what a firing sends, with the destinations on its side: one token to each in order, or one token to port 0 of a tag
 abbrev pub sent : List Dest → Tag → Fired → List Payload
 sent ds t (Out v) = map (token_to t v) ds
+sent ds t (Side b v) = map (token_to t v) ds
 sent ds t (Sent u v) = Token u Zero v ∷ []
 sent ds t (Failed f) = []
 sent ds t Nothing = []

@@ -2,12 +2,14 @@
 
 ghost use Rattle.std.specs.Prelude.{◌≡◌, ◌<◌, ◌++◌, ◌∷◌, [], vec_len, vec_capacity};
 ghost use Rattle.id_record.specs.Events.{full_step, tag_of};
+ghost use Rattle.id_ops.specs.Operators.{side_of};
 ghost use Rattle.id_record.specs.Records.{dests_at};
 
 use crate::line::{Handled, Line, line_aside, packed, unpack};
-use crate::outputs::{Envelope, Outputs};
+use crate::outputs::{Envelope, Outputs, chosen};
 use crate::step::{Fault, Step, Verdict};
 use id_graph::{Dest, Graph};
+use id_ops::Fired;
 use id_tag::{Message, Payload, Tag};
 use id_valid::Valid;
 use std::alloc::{AllocError, Global};
@@ -166,7 +168,7 @@ impl<'a> Record<'a> {
             stamp: handled.stamp,
             message: handled.message,
             outputs: Outputs::new(
-                dests_at(self.graph.graph(), tag.instr),
+                dests_at(self.graph.graph(), tag.instr, handled.reaction.fired),
                 tag,
                 handled.reaction.fired,
                 envelope,
@@ -210,12 +212,12 @@ fn add_line(lines: &mut Vec<Line>, line: Line)
     lines.push_reserved(line);
 }
 
-/// The destinations of the instruction of this number.
-fn dests_at(graph: &Graph, number: u32) -> &[Dest]
-    ensures { result.now ≡ dests_at graph.now number }
+/// The destinations of the instruction of this number, on the side to which it fired.
+fn dests_at(graph: &Graph, number: u32, fired: Fired) -> &[Dest]
+    ensures { result.now ≡ dests_at graph.now number (side_of fired) }
 {
     match graph.instrs().get(number as usize) {
-        Some(instr) => instr.dests.as_slice(),
+        Some(instr) => chosen(instr, fired),
         None => &[],
     }
 }

@@ -1,16 +1,18 @@
 //! How the record keeps an event: in one line of 64 bytes, or aside where it does not fit in one.
 
 ghost use Rattle.std.specs.Prelude.{◌≡◌, Some, IfSome};
-ghost use Rattle.id_ops.specs.declared.Fired.TheVariants.{Out};
 ghost use Rattle.id_ops.specs.declared.Fired.TheVariants as firings;
 ghost use Rattle.id_record.specs.declared.step.Verdict.TheVariants.{Went, Failed};
 ghost use Rattle.id_record.specs.declared.line.Carried.TheVariants.{Aside};
-ghost use Rattle.id_record.specs.Lines.{IsPacked, IsWithin, carried_of, number_of, own, reaction_of, sender_of, unpacked, value_of};
+ghost use Rattle.id_record.specs.declared.line.Exit.{Exit};
+ghost use Rattle.id_record.specs.Lines.{IsPacked, IsWithin, carried_of, exit_of, fired_at, number_in, number_of, own};
+ghost use Rattle.id_record.specs.Lines.{reaction_of, sender_of, unpacked, value_of};
 
 use crate::step::Verdict;
 use id_graph::Port;
-use id_ops::{Fired, OperatorFault};
+use id_ops::Fired;
 use id_tag::{Context, Message, Payload, Sender, Tag, Value};
+use id_value::FaultKind;
 
 /// What an instruction makes of a token: what it fires, and what the record keeps of the event.
 #[derive(Clone, Copy)]
@@ -44,7 +46,10 @@ pub(crate) struct Line {
     port: Port,
     started: bool,
     effect: Effect,
+    exit: Exit,
 }
+
+const _: () = prove!(size_of::<Line>() == 64);
 
 /// The value that the message carries, or where the whole event stands aside.
 #[derive(Clone, Copy)]
@@ -53,6 +58,13 @@ enum Carried {
     Int(i64),
     Bool(bool),
     Aside(usize),
+}
+
+/// Where a value went out: to the only side of its operator, or on this side of a switch.
+#[derive(Clone, Copy)]
+enum Exit {
+    Only,
+    On(bool),
 }
 
 /// What the instruction made of the message; `Int` stands for the result of the line.
@@ -100,6 +112,7 @@ pub(crate) fn line_aside(index: usize) -> Line
         port: Port::Zero,
         started: true,
         effect: Effect::Nothing,
+        exit: Exit::Only,
     }
 }
 
@@ -130,26 +143,26 @@ fn carry(value: Value) -> Option<Carried>
 
 /// What the instruction made of the message, where a line has room for it.
 fn effect_of(reaction: Reaction) -> Option<Effect>
-    ensures { IfSome result (λ e. reaction_of e (number_of reaction.fired) ≡ reaction) }
+    ensures { IfSome result (λ e. reaction_of e (exit_of reaction.fired) (number_of reaction.fired) ≡ reaction) }
 {
     match (reaction.fired, reaction.verdict) {
         (Fired::Nothing, Verdict::Stuck) => Some(Effect::Stuck),
         (Fired::Nothing, Verdict::Went) => Some(Effect::Nothing),
-        (Fired::Failed(OperatorFault::Overflow), Verdict::Failed(OperatorFault::Overflow)) => {
+        (Fired::Failed(FaultKind::Overflow), Verdict::Failed(FaultKind::Overflow)) => {
             Some(Effect::Overflow)
         }
-        (
-            Fired::Failed(OperatorFault::DivisionByZero),
-            Verdict::Failed(OperatorFault::DivisionByZero),
-        ) => Some(Effect::DivisionByZero),
+        (Fired::Failed(FaultKind::DivisionByZero), Verdict::Failed(FaultKind::DivisionByZero)) =>
+            Some(Effect::DivisionByZero),
         (Fired::Out(value), Verdict::Went) => sent(value),
+        (Fired::Side(_, value), Verdict::Went) => sent(value),
         _ => None,
     }
 }
 
 /// The effect of sending a value, where a line has room for it.
 fn sent(value: Value) -> Option<Effect>
-    ensures { IfSome result (λ e. reaction_of e (number_of (Out value)) ≡ record { fired = Out value; verdict = Went }) }
+    ensures { IfSome result (λ e. (x : Exit) →
+        reaction_of e x (number_in value) ≡ record { fired = fired_at x value; verdict = Went }) }
 {
     match value {
         Value::Signal => Some(Effect::Signal),
@@ -165,8 +178,29 @@ fn number(fired: Fired) -> i64
     ensures { result ≡ number_of fired }
 {
     match fired {
-        Fired::Out(Value::Int(number)) => number,
+        Fired::Out(value) => number_in(value),
+        Fired::Side(_, value) => number_in(value),
         _ => 0,
+    }
+}
+
+/// The number that a value is, or 0.
+fn number_in(value: Value) -> i64
+    ensures { result ≡ number_in value }
+{
+    match value {
+        Value::Int(number) => number,
+        _ => 0,
+    }
+}
+
+/// Where the value went out.
+fn exit_of(fired: Fired) -> Exit
+    ensures { result ≡ exit_of fired }
+{
+    match fired {
+        Fired::Side(side, _) => Exit::On(side),
+        _ => Exit::Only,
     }
 }
 
@@ -175,7 +209,8 @@ const LARGEST: u64 = 0xffff_ffff;
 /// The event in a line with this value and effect, where its numbers fit.
 fn narrowed(event: &Handled, carried: Carried, effect: Effect) -> Option<Line>
     requires carried { carried_of (value_of event.now.message.payload) ≡ Some carried }
-    requires effect { reaction_of effect (number_of event.now.reaction.fired) ≡ event.now.reaction }
+    requires effect { let r = event.now.reaction in
+        reaction_of effect (exit_of r.fired) (number_of r.fired) ≡ r }
     ensures { IfSome result (λ l. IsPacked event.now l) }
 {
     let Payload::Token { tag, port, .. } = event.message.payload;
@@ -202,6 +237,7 @@ fn narrowed(event: &Handled, carried: Carried, effect: Effect) -> Option<Line>
         port,
         started,
         effect,
+        exit: exit_of(event.reaction.fired),
     })
 }
 
@@ -254,7 +290,7 @@ fn sender(line: &Line) -> Sender
 }
 
 fn reaction_in(line: &Line) -> Reaction
-    ensures { result ≡ reaction_of line.now.effect line.now.result }
+    ensures { result ≡ reaction_of line.now.effect line.now.exit line.now.result }
 {
     match line.effect {
         Effect::Stuck => Reaction {
@@ -262,12 +298,22 @@ fn reaction_in(line: &Line) -> Reaction
             verdict: Verdict::Stuck,
         },
         Effect::Nothing => went(Fired::Nothing),
-        Effect::Overflow => failed(OperatorFault::Overflow),
-        Effect::DivisionByZero => failed(OperatorFault::DivisionByZero),
-        Effect::Signal => went(Fired::Out(Value::Signal)),
-        Effect::Int => went(Fired::Out(Value::Int(line.result))),
-        Effect::True => went(Fired::Out(Value::Bool(true))),
-        Effect::False => went(Fired::Out(Value::Bool(false))),
+        Effect::Overflow => failed(FaultKind::Overflow),
+        Effect::DivisionByZero => failed(FaultKind::DivisionByZero),
+        Effect::Signal => went(fired_at(line.exit, Value::Signal)),
+        Effect::Int => went(fired_at(line.exit, Value::Int(line.result))),
+        Effect::True => went(fired_at(line.exit, Value::Bool(true))),
+        Effect::False => went(fired_at(line.exit, Value::Bool(false))),
+    }
+}
+
+/// The firing by which a value went out there.
+fn fired_at(exit: Exit, value: Value) -> Fired
+    ensures { result ≡ fired_at exit value }
+{
+    match exit {
+        Exit::Only => Fired::Out(value),
+        Exit::On(side) => Fired::Side(side, value),
     }
 }
 
@@ -280,7 +326,7 @@ fn went(fired: Fired) -> Reaction
     }
 }
 
-fn failed(fault: OperatorFault) -> Reaction
+fn failed(fault: FaultKind) -> Reaction
     ensures { result ≡ record { fired = firings.Failed fault; verdict = Failed fault } }
 {
     Reaction {

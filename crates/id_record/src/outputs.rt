@@ -2,9 +2,11 @@
 
 ghost use Rattle.std.specs.Prelude.{◌≡◌, ◌<◌, length, slice_get, Some};
 ghost use Rattle.id_tag.specs.declared.Sender.TheVariants.{Element};
+ghost use Rattle.id_graph.specs.Graph.{arcs_on};
+ghost use Rattle.id_ops.specs.Operators.{side_of};
 ghost use Rattle.id_record.specs.Sends.{sent, token_to};
 
-use id_graph::{Dest, Port};
+use id_graph::{Dest, Instr, Port};
 use id_ops::Fired;
 use id_tag::{Message, Payload, Sender, Tag, Value};
 use std::marker::Model;
@@ -41,7 +43,8 @@ impl<'a> Outputs<'a> {
     ghost use Rattle.std.specs.Prelude.{◌≡◌, ◌<◌, ◌==◌, length, slice_get, Some};
     ghost use Rattle.id_record.specs.Sends.{numbered, sent};
 
-    /// What is sent where the instruction with these destinations fires under this tag. Takes no memory.
+    /// What is sent where an instruction fires under this tag, with these destinations on the side of
+    /// the firing. Takes no memory.
     pub fn new(dests: &'a [Dest], tag: Tag, fired: Fired, envelope: Envelope) -> Outputs<'a>
         ensures { result ≡ numbered envelope.number envelope.position envelope.stamp 0 (sent dests.now tag fired) }
     {
@@ -58,7 +61,7 @@ impl<'a> Outputs<'a> {
         ensures { result ≡ length self.now }
     {
         match self.fired {
-            Fired::Out(_) => self.dests.len(),
+            Fired::Out(_) | Fired::Side(..) => self.dests.len(),
             Fired::Sent(..) => 1,
             Fired::Failed(_) | Fired::Nothing => 0,
         }
@@ -84,13 +87,23 @@ impl<'a> Outputs<'a> {
     }
 }
 
+/// The destinations on the side to which an instruction fired. Takes no memory.
+pub fn chosen(instr: &Instr, fired: Fired) -> &[Dest]
+    ensures { result.now ≡ arcs_on (side_of fired) instr.now }
+{
+    match fired {
+        Fired::Side(false, _) => instr.others.as_slice(),
+        _ => instr.dests.as_slice(),
+    }
+}
+
 /// What the message of this number says.
 fn payload(dests: &[Dest], tag: Tag, fired: Fired, number: usize) -> Payload
     requires { number < length (sent dests.now tag fired) }
     ensures { slice_get (sent dests.now tag fired) number ≡ Some result }
 {
     match fired {
-        Fired::Out(value) => {
+        Fired::Out(value) | Fired::Side(_, value) => {
             let dest = dests[number];
             token_to(tag, value, dest)
         }

@@ -1,13 +1,13 @@
 //! What handling a message comes to (docs/MACHINE.md, "Element step").
 
-use id_ops::OperatorFault;
 use id_tag::Tag;
+use id_value::FaultKind;
 
 /// What went wrong in an event.
 #[derive(Clone, Copy, Debug, PartialEq, Eq)]
 pub enum Fault {
     /// The operator of the tag's instruction has no result on its operands.
-    Operator { fault: OperatorFault, tag: Tag },
+    Operator { fault: FaultKind, tag: Tag },
 }
 
 /// What an event came to. A fault and `Stuck` send nothing.
@@ -25,6 +25,6 @@ pub enum Step {
 #[derive(Clone, Copy)]
 pub enum Verdict {
     Went,
-    Failed(OperatorFault),
+    Failed(FaultKind),
     Stuck,
 }

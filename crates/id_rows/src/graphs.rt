@@ -1,14 +1,16 @@
 //! The graphs of the rows, made by hand.
 
-use id_graph::{Block, Constant, Dest, Dests, Dyadic, Graph, Instr, Op, Port, PortKind};
-use id_text::Sequence;
+use id_graph::{
+    Arithmetic, Block, Constant, Dest, Dests, Dyadic, Graph, Instr, Op, Port, PortKind,
+};
+use id_list::Sequence;
 use id_valid::{Valid, validate};
 use std::alloc::{AllocError, Global};
 use std::process::Abort;
 use std::test::Fail;
 
-/// An instruction: its operator, where it sends, and its place.
-type Row<'a> = (Op, &'a [(u32, Port)], usize);
+/// An instruction: its operator, where it sends, its second list of destinations, and its place.
+type Row<'a> = (Op, &'a [(u32, Port)], &'a [(u32, Port)], usize);
 
 fn dests(alloc: Global, arcs: &[(u32, Port)]) -> Result<Dests, AllocError> {
     let mut dests = Dests::new(alloc);
@@ -23,12 +25,11 @@ fn dests(alloc: Global, arcs: &[(u32, Port)]) -> Result<Dests, AllocError> {
 
 fn instrs(alloc: Global, rows: &[Row<'_>]) -> Result<Vec<Instr>, AllocError> {
     let mut list = Vec::new(alloc);
-    for (op, arcs, place) in rows {
-        let dests = dests(alloc, arcs)?;
+    for (op, first, second, place) in rows {
         list.push(Instr {
             op: *op,
-            dests,
-            others: Dests::new(alloc),
+            dests: dests(alloc, first)?,
+            others: dests(alloc, second)?,
             place: *place,
         })?;
     }
@@ -45,14 +46,46 @@ pub(crate) fn sum_and_product(alloc: Global, four: Op, sum: u32) -> Result<Vec<I
     instrs(
         alloc,
         &[
-            (Op::Merge(PortKind::Int), &[], 4),
-            (Op::Merge(PortKind::Signal), &trigger, 4),
-            (Op::Back(PortKind::Int), &[], 4),
-            (number(2), &[(7, Port::Zero)], 18),
-            (four, &[(6, Port::Zero)], 22),
-            (number(4), &[(6, Port::One)], 26),
-            (Op::Binary(Dyadic::Mul), &[(sum, Port::One)], 24),
-            (Op::Binary(Dyadic::Add), &[(2, Port::One)], 20),
+            (Op::Merge(PortKind::Int), &[], &[], 4),
+            (Op::Merge(PortKind::Signal), &trigger, &[], 4),
+            (Op::Back(PortKind::Int), &[], &[], 4),
+            (number(2), &[(7, Port::Zero)], &[], 18),
+            (four, &[(6, Port::Zero)], &[], 22),
+            (number(4), &[(6, Port::One)], &[], 26),
+            (
+                Op::Binary(Dyadic::Arithmetic(Arithmetic::Mul)),
+                &[(sum, Port::One)],
+                &[],
+                24,
+            ),
+            (
+                Op::Binary(Dyadic::Arithmetic(Arithmetic::Add)),
+                &[(2, Port::One)],
+                &[],
+                20,
+            ),
+        ],
+    )
+}
+
+/// The instructions of `def main(): int = if true then 1 else 2;`, with this number in the false list of the switch. The
+/// second list of 5 is no port of the graph, and is ignored.
+pub(crate) fn either(alloc: Global, second: u32) -> Result<Vec<Instr>, AllocError> {
+    let merge = Op::Merge(PortKind::Int);
+    let truth = Op::Const(Constant::Bool(true));
+    let switch = Op::Switch(PortKind::Signal);
+    let trigger = [(3, Port::Zero), (4, Port::One)];
+    instrs(
+        alloc,
+        &[
+            (merge, &[], &[], 4),
+            (Op::Merge(PortKind::Signal), &trigger, &[], 4),
+            (Op::Back(PortKind::Int), &[], &[], 4),
+            (truth, &[(4, Port::Zero)], &[], 21),
+            (switch, &[(5, Port::Zero)], &[(second, Port::Zero)], 18),
+            (number(1), &[(7, Port::Zero)], &[(8, Port::Zero)], 31),
+            (number(2), &[(7, Port::Zero)], &[], 38),
+            (merge, &[(2, Port::One)], &[], 18),
         ],
     )
 }
@@ -62,10 +95,10 @@ fn only_seven(alloc: Global) -> Result<Vec<Instr>, AllocError> {
     instrs(
         alloc,
         &[
-            (Op::Merge(PortKind::Int), &[], 4),
-            (Op::Merge(PortKind::Signal), &[(3, Port::Zero)], 4),
-            (Op::Back(PortKind::Int), &[], 4),
-            (number(7), &[(2, Port::One)], 18),
+            (Op::Merge(PortKind::Int), &[], &[], 4),
+            (Op::Merge(PortKind::Signal), &[(3, Port::Zero)], &[], 4),
+            (Op::Back(PortKind::Int), &[], &[], 4),
+            (number(7), &[(2, Port::One)], &[], 18),
         ],
     )
 }

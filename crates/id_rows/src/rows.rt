@@ -2,14 +2,14 @@
 
 ghost use Rattle.std.specs.Prelude.{◌≡◌};
 
-use crate::graphs::{block, seven, sum_and_product};
+use crate::graphs::{block, either, seven, sum_and_product};
 use id_core::{Element, Machine, MachineError, Step, TakeError, fits, merge_records, takes_inputs};
-use id_graph::{Constant, Graph, GraphCause, Op, Port};
+use id_graph::{Constant, Graph, GraphCause, Instr, Op, Port};
+use id_list::Sequence;
 use id_match::{Entry, Offered, Waiting};
 use id_meaning::{Inputs, SourceValue};
 use id_print::{Sink, SinkFault, write_trace};
 use id_tag::{Context, Message, Payload, Sender, Tag, Value, route};
-use id_text::Sequence;
 use id_valid::{InvalidCause, Valid, validate};
 use std::alloc::{AllocError, Global};
 use std::process::Abort;
@@ -87,17 +87,15 @@ fn routes_by_context_and_iteration(rt: HostRuntime) {
     assert!(rt; route(&signal(tag, 0), 2) == 1);
 }
 
-/// The first faulty instruction of the graph of `def main(): int = 2 + 3 * 4;` with this operator at 4 and this first
-/// instruction of its block; or that of which the graph was refused, where 6 sends to this number.
+/// The first faulty instruction of the graph of 8 instructions with this first instruction of its block, if there is one;
+/// or that for which there is no such graph, and 1000 more.
 fn faulty(
     rt: &impl Abort,
     alloc: Global,
-    four: Op,
+    list: Vec<Instr>,
     first: u32,
-    sum: u32,
 ) -> Result<Option<u64>, AllocError> {
     let blocks = block(alloc, first)?;
-    let list = sum_and_product(alloc, four, sum)?;
     assert!(rt; list.len() == 8);
     match Graph::new(blocks, list) {
         Ok(graph) => first_faulty(alloc, graph),
@@ -130,7 +128,18 @@ fn an_invalid_graph_is_refused_at_an_instruction(rt: HostRuntime) -> Result<(), 
         (three, 1, 8, Some(1006)),
     ];
     for (four, first, sum, wanted) in table {
-        let found = faulty(&rt, rt.alloc(), four, first, sum)?;
+        let list = sum_and_product(rt.alloc(), four, sum)?;
+        let found = faulty(&rt, rt.alloc(), list, first)?;
+        assert!(rt; found == wanted);
+    }
+    Ok(())
+}
+
+#[test]
+fn both_lists_of_a_switch_are_looked_at(rt: HostRuntime) -> Result<(), Fail> {
+    for (second, wanted) in [(6, None), (5, Some(5)), (8, Some(1004))] {
+        let list = either(rt.alloc(), second)?;
+        let found = faulty(&rt, rt.alloc(), list, 1)?;
         assert!(rt; found == wanted);
     }
     Ok(())
@@ -150,6 +159,19 @@ fn machine<'a>(
     Machine::new(alloc, graph, &inputs, count)
 }
 
+/// The machine of so many elements, where there is one.
+fn started<'a>(
+    rt: &impl Abort,
+    alloc: Global,
+    graph: &'a Valid,
+    count: u32,
+) -> Result<Machine<'a>, TakeError> {
+    match machine(rt, alloc, graph, count) {
+        Ok(machine) => Ok(machine),
+        Err(_) => Err(TakeError::Memory),
+    }
+}
+
 /// Delivers the first message five times, and says whether the machine is quiet then.
 fn deliver_five(machine: &mut Machine<'_>) -> Result<bool, TakeError> {
     for _ in 0..5 {
@@ -163,7 +185,7 @@ fn deliver_five(machine: &mut Machine<'_>) -> Result<bool, TakeError> {
 
 /// Whether there is no machine of so many elements.
 fn is_refused(rt: &impl Abort, alloc: Global, graph: &Valid, count: u32) -> bool {
-    machine(rt, alloc, graph, count).err() == Some(MachineError::BadElements)
+    matches!(machine(rt, alloc, graph, count), Err(MachineError::BadElements))
 }
 
 #[test]
@@ -171,7 +193,7 @@ fn a_machine_has_1_to_64_elements(rt: HostRuntime) -> Result<(), Fail> {
     let graph = seven(&rt, rt.alloc())?;
     assert!(rt; is_refused(&rt, rt.alloc(), &graph, 0));
     assert!(rt; is_refused(&rt, rt.alloc(), &graph, 65));
-    let mut machine = machine(&rt, rt.alloc(), &graph, 64)?;
+    let mut machine = started(&rt, rt.alloc(), &graph, 64)?;
     let quiet = deliver_five(&mut machine)?;
     assert!(rt; quiet);
     Ok(())
@@ -226,13 +248,13 @@ fn are_recorded(alloc: Global, machine: &Machine<'_>) -> Result<bool, AllocError
 /// Whether 7 is observed.
 fn is_seven(alloc: Global, machine: &Machine<'_>) -> Result<bool, AllocError> {
     let shown = machine.observe(alloc)?;
-    Ok(shown.answer == Some(SourceValue::Int(7)))
+    Ok(matches!(shown.answer, Some(SourceValue::Int(7))))
 }
 
 #[test]
 fn five_deliveries_bring_7(rt: HostRuntime) -> Result<(), Fail> {
     let graph = seven(&rt, rt.alloc())?;
-    let mut machine = machine(&rt, rt.alloc(), &graph, 1)?;
+    let mut machine = started(&rt, rt.alloc(), &graph, 1)?;
     let quiet = deliver_five(&mut machine)?;
     let recorded = are_recorded(rt.alloc(), &machine)?;
     let seven = is_seven(rt.alloc(), &machine)?;

@@ -29,7 +29,7 @@ pub struct Tag {
 }
 
 /// A value that a token carries.
-#[derive(Clone, Copy, Debug, PartialEq, Eq)]
+#[derive(Clone, Copy, PartialEq, Eq)]
 pub enum Value {
     Signal,
     Int(i64),
@@ -38,7 +38,7 @@ pub enum Value {
 }
 
 /// Who sent a message.
-#[derive(Clone, Copy, Debug, PartialEq, Eq)]
+#[derive(Clone, Copy)]
 pub enum Sender {
     /// No element: the message was there at the start.
     Start,
@@ -47,7 +47,7 @@ pub enum Sender {
 }
 
 /// What a message says.
-#[derive(Clone, Copy, Debug, PartialEq, Eq)]
+#[derive(Clone, Copy)]
 pub enum Payload {
     /// A value for a port of the tag's instruction.
     Token { tag: Tag, port: Port, value: Value },
@@ -55,7 +55,7 @@ pub enum Payload {
 
 /// A message, with its sender, the position in the sender's record of the event that sent it, its
 /// number among that event's outputs (both from 0), and the stamp of that event.
-#[derive(Clone, Copy, Debug, PartialEq, Eq)]
+#[derive(Clone, Copy)]
 pub struct Message {
     pub payload: Payload,
     pub sender: Sender,
@@ -105,75 +105,4 @@ fn route_tag(tag: Tag, count: u32) -> u32
 {
     let made = u128::from(tag.context.element) + u128::from(tag.context.serial);
     ((made + u128::from(tag.iteration)) % u128::from(count)) as u32
-}
-
-#[cfg(test)]
-mod tests {
-    use super::*;
-
-    fn token(element: u32, serial: u64, iteration: u64) -> Message {
-        let tag = Tag {
-            context: Context { element, serial },
-            iteration,
-            instr: 7,
-        };
-        Message {
-            payload: Payload::Token {
-                tag,
-                port: Port::Zero,
-                value: Value::Signal,
-            },
-            sender: Sender::Start,
-            position: 0,
-            output: 0,
-            stamp: 0,
-        }
-    }
-
-    #[test]
-    fn routes_by_context_and_iteration(rt: HostRuntime) {
-        let table = [
-            (0, 1, 2, 2, 1, "1 and 2 are 3"),
-            (0, 0, 0, 4, 0, "main's first turn"),
-            (3, 5, 9, 1, 0, "one element handles everything"),
-            (
-                u32::MAX,
-                u64::MAX,
-                u64::MAX,
-                64,
-                61,
-                "the sum passes 64 bits",
-            ),
-        ];
-        for (element, serial, iteration, count, wanted, why) in table {
-            assert_eq!(rt;
-                route(&token(element, serial, iteration), count),
-                wanted,
-                "{why}"
-            );
-        }
-    }
-
-    #[test]
-    fn tells_kinds_apart(rt: HostRuntime) {
-        let tag = Tag {
-            context: Context {
-                element: 0,
-                serial: 0,
-            },
-            iteration: 0,
-            instr: 0,
-        };
-        let table = [
-            (Value::Signal, PortKind::Signal),
-            (Value::Int(1), PortKind::Int),
-            (Value::Bool(true), PortKind::Bool),
-            (Value::Continuation(tag), PortKind::Continuation),
-        ];
-        for (value, kind) in table {
-            assert_eq!(rt; value.kind(), kind);
-            assert!(rt; value.has_kind(kind));
-            assert!(rt; !value.has_kind(PortKind::Address));
-        }
-    }
 }

@@ -1,13 +1,13 @@
 -- A text may be read in one way only.
-use Rattle.std.proofs.Common.{◌≡◌, ◌≢◌, ℕ, ◌+◌, ◌<◌, ◌≤◌, ◌^◌, ◌⊎◌, Bool, true, false, cond, not, ◌||◌, List, [], ◌∷◌, drop, length, Option, Some, None, pos, refl, sym, ap, ◌∙◌, subst, inl, inr, arith}
-use Rattle.std.specs.Prelude.{take_while}
+use Rattle.std.proofs.Common.{◌≡◌, ◌≢◌, ℕ, ◌+◌, ◌<◌, ◌≤◌, ◌^◌, ◌⊎◌, Bool, true, false, cond, not, ◌||◌, List, [], ◌∷◌, drop, length, Option, Some, None, Ok, Err, Vec, Global, pos, refl, sym, ap, ◌∙◌, subst, inl, inr, arith}
+use Rattle.std.specs.Prelude.{take_while, Result, IfOk, IfErr, MatchResult}
 use Rattle.std.specs.List.{prefix_len}
 use Rattle.std.specs.Char.{is_ascii_digit}
 use Rattle.std.proofs.lemmas.Bool.Decides.{nat_tests}
 use Rattle.id_text.specs.Bytes.{is_blank, is_percent, is_comment_byte, is_letter, is_name_byte, is_other, number_of, word_of, sign_of}
 use Rattle.id_text.specs.Lexes.{Opens, HasSign, HasLongestSign, Begins, BeginsNothing, BeginsLarge, Lexes, Ending, IsRefusal, token_of}
 use Rattle.id_text.specs.Lexes.Begins.{blank, comment, word, name, number, sign}
-use Rattle.id_text.specs.Lexes.Ending.{Refused}
+use Rattle.id_text.specs.Lexes.Ending.{Whole, Refused}
 use Rattle.id_text.specs.Lexes.Lexes.{end, gap, token, too_large, bad_byte}
 use Rattle.id_text.specs.declared.token.Keyword.{Keyword}
 use Rattle.id_text.specs.declared.token.Symbol.{Symbol}
@@ -154,7 +154,7 @@ empty_no_piece k n piece = let within = piece_within piece in omega arith
 abbrev Same : List Token → Ending → List Token → Ending → Type 0
 Same ts e us f = (ts ≡ us) × (e ≡ f)
 
-pub one_reading : {at : ℕ} {text : List ℕ} {ts us : List Token} {e f : Ending} → Lexes at text ts e → Lexes at text us f → Same ts e us f
+one_reading : {at : ℕ} {text : List ℕ} {ts us : List Token} {e f : Ending} → Lexes at text ts e → Lexes at text us f → Same ts e us f
 one_reading end end = (refl, refl)
 one_reading end (gap n p r) = absurd (empty_no_piece None n p)
 one_reading end (token k n p r) = absurd (empty_no_piece (Some k) n p)
@@ -193,3 +193,9 @@ one_refusal text TooLong refusal ts e short read = absurd (omega arith)
 one_refusal text (BadByte at) refusal ts e short read = inr (sym (one_reading refusal.1 read).1)
 one_refusal text (NumberTooLarge at) refusal ts e short read = inr (sym (one_reading refusal.1 read).1)
 one_refusal text Memory refusal ts e short read = inl refl
+
+-- what came back is what any reading of the text has
+pub one_result : (text : List ℕ) (r : Result (Vec Token Global) TextError) → IfOk r (λ v. Lexes 0 text v.items Whole) → IfErr r (IsRefusal text) → (ts : List Token) (e : Ending) →
+    length text ≤ MAX_BYTES → Lexes 0 text ts e → MatchResult r (λ v. (v.items ≡ ts) × (e ≡ Whole)) (λ x. (x ≡ Memory) ⊎ (e ≡ Refused x))
+one_result text (Ok v) tokens refused ts e short read = let same = one_reading tokens read in (same.0, sym same.1)
+one_result text (Err x) tokens refused ts e short read = one_refusal text x refused ts e short read

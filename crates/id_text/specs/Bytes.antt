@@ -1,5 +1,5 @@
 -- Kinds of bytes, and the bytes of words and signs (docs/LANGUAGE.md, "Tokens").
-use Rattle.std.specs.Prelude.{ℕ, ◌+◌, ◌-◌, ◌*◌, Bool, ◌||◌, ◌==◌, not, List, fold, codes}
+use Rattle.std.specs.Prelude.{ℕ, ◌+◌, ◌-◌, ◌*◌, Bool, true, false, ◌||◌, ◌==◌, not, List, fold, codes}
 use Rattle.std.specs.Char.{is_ascii_alphabetic, is_ascii_digit}
 use Rattle.id_text.specs.declared.token.Keyword.{Keyword}
 use Rattle.id_text.specs.declared.token.Keyword.TheVariants.{Def, If, Then, Else, While, Do, Next, Finally, In, True, False, Int, Bool as BoolWord, Array, Div, Rem, And, Or, Not, For, To}
@@ -80,3 +80,20 @@ sign_of Arrow = codes "<-"
 sign_of Plus = codes "+"
 sign_of Minus = codes "-"
 sign_of Star = codes "*"
+
+-- For use inside.
+
+-- the reserved word builds a part: it names no kind, truth value or operator
+abbrev pub is_builder : Keyword → Bool
+is_builder Def = true
+is_builder If = true
+is_builder Then = true
+is_builder Else = true
+is_builder While = true
+is_builder Do = true
+is_builder Next = true
+is_builder Finally = true
+is_builder In = true
+is_builder For = true
+is_builder To = true
+is_builder _ = false

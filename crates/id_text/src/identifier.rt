@@ -6,7 +6,7 @@ use std::alloc::{AllocError, Global};
 use std::marker::Model;
 
 /// A name as it is spelled: a letter or `_`, then letters, digits and `_`.
-#[derive(Debug, Drop)]
+#[derive(Drop)]
 pub struct Identifier {
     text: String,
 }

@@ -46,6 +46,16 @@ pub fn lex(alloc: Global, text: &str) -> Result<Vec<Token>, TextError>
     if text.len() > MAX_BYTES {
         return Err(TextError::TooLong);
     }
+    read_all(alloc, text)
+}
+
+/// The tokens of a text that is not too long, in order, and the `End`.
+fn read_all(alloc: Global, text: &str) -> Result<Vec<Token>, TextError>
+    requires { length text.now ≤ MAX_BYTES }
+    ensures tokens { IfOk result (λ v. Lexes 0 text.now v.items Whole) }
+    ensures refused { IfErr result (IsRefusal text.now) }
+    ensures refused_within { IfErr result (IsPlaceWithin (length text.now)) }
+{
     let mut tokens = Vec::new(alloc);
     let mut at = 0;
     while at < text.len() {

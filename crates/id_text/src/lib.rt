@@ -3,7 +3,7 @@
 //! Keeps: nothing beyond its values.
 //! Errors: `TextError`, the refusals 1 to 3 or want of memory.
 //! Read first: `token`, then `specs/Lexes.antt`, then `lex`.
-//! Not here: which tokens make a program (`id_tree`).
+//! Not here: lists (`id_list`), which tokens make a program (`id_tree`).
 #![tactic(auto)]
 
 mod bytes;
@@ -11,13 +11,12 @@ mod identifier;
 mod lexer;
 mod numbers;
 mod places;
-mod sequence;
 mod signs;
 mod token;
 mod words;
 
+pub use id_list::Sequence;
 pub use identifier::Identifier;
 pub use lexer::lex;
 pub use places::{Lines, line_col};
-pub use sequence::Sequence;
 pub use token::{Keyword, MAX_BYTES, Symbol, TextError, Token, TokenKind};

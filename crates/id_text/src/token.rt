@@ -2,7 +2,6 @@
 
 use crate::identifier::Identifier;
 use std::alloc::{AllocError, AllocFailed};
-use thiserror::Error;
 
 /// The most bytes that a text may have.
 pub const MAX_BYTES: usize = 1_048_576;
@@ -82,19 +81,15 @@ pub struct Token {
 }
 
 /// Why a text has no tokens.
-#[derive(Clone, Copy, Debug, PartialEq, Eq, Error)]
+#[derive(Clone, Copy)]
 pub enum TextError {
     /// More than `MAX_BYTES` bytes.
-    #[error("the text has more than 1048576 bytes")]
     TooLong,
     /// The first byte of a character that begins no token: `$`
-    #[error("no token begins at byte {at}")]
     BadByte { at: usize },
     /// The first digit of a number above 9223372036854775807: `9223372036854775808`
-    #[error("the number at byte {at} is above 9223372036854775807")]
     NumberTooLarge { at: usize },
     /// A growth was refused.
-    #[error("out of memory")]
     Memory,
 }
 

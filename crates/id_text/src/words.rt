@@ -1,7 +1,7 @@
 //! Names and reserved words.
 
 ghost use Rattle.std.specs.Prelude.{◌≡◌, ◌≢◌, ◌<◌, length, drop, take_while, MatchOption, IsTrue, slice_index};
-ghost use Rattle.id_text.specs.Bytes.{is_letter, is_name_byte, word_of};
+ghost use Rattle.id_text.specs.Bytes.{is_builder, is_letter, is_name_byte, word_of};
 ghost use Rattle.id_text.specs.declared.token.Keyword.{Keyword};
 
 use crate::bytes::name_len;
@@ -31,6 +31,18 @@ pub fn keyword_of(word: &str) -> Option<Keyword>
         "next" => Some(Keyword::Next),
         "finally" => Some(Keyword::Finally),
         "in" => Some(Keyword::In),
+        "for" => Some(Keyword::For),
+        "to" => Some(Keyword::To),
+        _ => operand_word(word),
+    }
+}
+
+/// The reserved word of a kind, a truth value or an operator that is spelled so, if one is.
+fn operand_word(word: &str) -> Option<Keyword>
+    requires { (k : Keyword) → IsTrue (is_builder k) → word.now ≢ word_of k }
+    ensures { MatchOption result ((k : Keyword) → word.now ≢ word_of k) (λ k. word.now ≡ word_of k) }
+{
+    match word {
         "true" => Some(Keyword::True),
         "false" => Some(Keyword::False),
         "int" => Some(Keyword::Int),
@@ -41,8 +53,6 @@ pub fn keyword_of(word: &str) -> Option<Keyword>
         "and" => Some(Keyword::And),
         "or" => Some(Keyword::Or),
         "not" => Some(Keyword::Not),
-        "for" => Some(Keyword::For),
-        "to" => Some(Keyword::To),
         _ => None,
     }
 }

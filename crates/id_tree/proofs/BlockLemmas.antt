@@ -4,12 +4,13 @@ use Rattle.id_text.specs.declared.token.Token.{Token}
 use Rattle.id_text.specs.declared.token.TokenKind.{TokenKind}
 use Rattle.id_text.specs.declared.token.TokenKind.TheVariants.{Name, Key, Sign}
 use Rattle.id_text.specs.declared.token.Keyword.TheVariants.{In}
-use Rattle.id_text.specs.declared.token.Symbol.{Symbol}
-use Rattle.id_text.specs.declared.token.Symbol.TheVariants.{LeftBrace, RightBrace, Semicolon, Becomes}
+use Rattle.id_text.specs.declared.token.Symbol.TheVariants.{LeftBrace, RightBrace, Becomes}
+use Rattle.id_tree.specs.declared.tokens.Word.{Word}
+use Rattle.id_tree.specs.declared.tokens.Word.TheVariants as the
 use Rattle.id_tree.specs.declared.tree.Stmt.{Stmt}
 use Rattle.id_tree.specs.declared.tree.TreeError.{TreeError}
-use Rattle.id_tree.specs.Tree.{Tree, stmt_tree, binding, none, more}
-use Rattle.id_tree.specs.Grammar.{expression, Unary, Tail, Rest, done, part, sign, with_statement, block_of, Opens, by_block, by_binding, by_body}
+use Rattle.id_tree.specs.Tree.{Tree, stmt_tree, none, more}
+use Rattle.id_tree.specs.Grammar.{Unary, Tail, Rest, done, part, sign, enclosed, with_statement, binding_of, block_of, Opens, by_block, by_binding, by_body}
 use Rattle.id_tree.specs.Machine.{opening, Inside, Want, Have, name_in, run}
 use Rattle.id_tree.specs.Readers.{first_kind, IsRead, IsGathered, Leads, Fails, BeginsWithName, LacksName, Encloses, Exposes, onto, Adds, Gathers}
 use Rattle.id_tree.proofs.RunLemmas.{run-none, run-done, run-part, run-inside}
@@ -18,24 +19,27 @@ use Rattle.id_tree.proofs.ReaderLemmas.{EndsBy-at, At, At-opens, At-enclosed, Fa
 pub opens_block : {k : TokenKind} {p : ℕ} → k ≡ Sign LeftBrace → Opens Unary k p (part Tail (λ a. done (block_of a p)))
 opens_block q = rw q by_block
 
-opens_body : {k : TokenKind} {p : ℕ} → k ≡ Key In → Opens Tail k p (part expression (λ e. sign RightBrace (done (more none e))))
+opens_body : {k : TokenKind} {p : ℕ} → k ≡ Key In → Opens Tail k p (enclosed (the.Sign RightBrace) (λ e. done (more none e)))
 opens_body q = rw q by_body
 
-opens_binding : {k : TokenKind} {p : ℕ} (x : List ℕ) → k ≡ Name x →
-    Opens Tail k p (sign Becomes (part expression (λ e. sign Semicolon (part Tail (λ a. done (with_statement (binding x e p) a))))))
+opens_binding : {k : TokenKind} {p : ℕ} (x : List ℕ) → k ≡ Name x → Opens Tail k p (sign Becomes (binding_of x p))
 opens_binding x q = rw q by_binding
 
+pub At-block : {ts us : List Token} {t : Token} {d : ℕ} → ts ≡ t ∷ us → first_kind ts ≡ Sign LeftBrace → d + 1 + 1 ≤ 200 →
+    At ts Unary d us (part Tail (λ a. done (block_of a t.start))) 0
+At-block {d = d} e q w = At-opens e (opens_block q) d w
+
 -- what is read in a tail is read in as many expressions as the tail
-pub Encloses-tail : {ts us : List Token} {d h : ℕ} {w : Symbol} {e : Tree} → Encloses ts d w us e h → Encloses ts (d + 0) w us e h
+pub Encloses-tail : {ts us : List Token} {d h : ℕ} {w : Word} {e : Tree} → Encloses ts d w us e h → Encloses ts (d + 0) w us e h
 Encloses-tail {ts = ts} {us = us} {d = d} {h = h} {w = w} {e = e} q = subst (λ k. Encloses ts k w us e h) (sym (add-zero d)) q
 
-pub Exposes-tail : {ts : List Token} {d : ℕ} {w : Symbol} {x : TreeError} → Exposes ts d w x → Exposes ts (d + 0) w x
+pub Exposes-tail : {ts : List Token} {d : ℕ} {w : Word} {x : TreeError} → Exposes ts d w x → Exposes ts (d + 0) w x
 Exposes-tail {ts = ts} {d = d} {w = w} {x = x} q = subst (λ k. Exposes ts k w x) (sym (add-zero d)) q
 
 -- a binding begins with its name
 pub At-binding : {ts us : List Token} {x : List ℕ} {p : ℕ} (d : ℕ) → d + 1 ≤ 200 → BeginsWithName ts x p us →
-    At ts Tail d us (sign Becomes (part expression (λ e. sign Semicolon (part Tail (λ a. done (with_statement (binding x e p) a)))))) 0
-At-binding {x = x} d w q = rw (← q.place) (At-opens q.whole (opens_binding x q.kind) d (omega arith))
+    At ts Tail d us (sign Becomes (binding_of x p)) 0
+At-binding {x = x} d w q = rw (← q.place) (At-opens q.whole (opens_binding x (ap first_kind q.whole ∙ q.kind)) d (omega arith))
 
 unopened : (k : TokenKind) (p : ℕ) → name_in k ≡ None → (k ≡ Key In → ⊥) → opening Tail k p ≡ None
 unopened (Name x) p q f = cc
@@ -100,11 +104,11 @@ Leads-gathered {vs = vs} {m = m} {a = a} {e = e} g q = record { comes = λ K. (g
 
 -- the last tail is the body
 module _ {ts us : List Token} {t : Token} (whole : ts ≡ t ∷ us) (is : first_kind ts ≡ Key In) {d : ℕ} (room : d + 1 ≤ 200) where
-  At-body : At ts Tail d us (part expression (λ e. sign RightBrace (done (more none e)))) 0
-  At-body = At-opens whole (opens_body (ap first_kind (sym whole) ∙ is)) d (omega arith)
+  At-body : At ts Tail d us (enclosed (the.Sign RightBrace) (λ e. done (more none e))) 0
+  At-body = At-opens whole (opens_body is) d (omega arith)
 
-  pub Leads-body : {vs : List Token} {e : Tree} {m : ℕ} → Encloses us d RightBrace vs e m → Leads ts Tail d vs (more none e) m
+  pub Leads-body : {vs : List Token} {e : Tree} {m : ℕ} → Encloses us d (the.Sign RightBrace) vs e m → Leads ts Tail d vs (more none e) m
   Leads-body q = Leads-at refl (omega arith) (Leads-done (At-enclosed At-body (Encloses-tail q)))
 
-  pub Fails-body : {x : TreeError} → Exposes us d RightBrace x → Fails ts Tail d x
+  pub Fails-body : {x : TreeError} → Exposes us d (the.Sign RightBrace) x → Fails ts Tail d x
   Fails-body q = Fails-enclosed At-body (Exposes-tail q)

@@ -5,47 +5,57 @@ use Rattle.id_text.specs.declared.token.Token.{Token}
 use Rattle.id_text.specs.declared.token.TokenKind.{TokenKind}
 use Rattle.id_tree.specs.declared.parser.Level.{Level}
 use Rattle.id_tree.specs.declared.parser.Level.TheVariants as level
+use Rattle.id_value.specs.declared.BinaryOp.{BinaryOp}
 use Rattle.id_tree.specs.Tree.{Tree, none, more}
-use Rattle.id_tree.specs.Grammar.{Phrase, Definition, Parameters, MoreParameters, Grouped, Negation, Comparison, Unary, Tail, Rest, Opens, negated, number, by_true, by_false, parens, by_name, by_block, operand, operator_of, comparison_of, own_height, Derives, opened, single, grouped, plain, alone, compared, Follows, ended, taken, named, kinded, given, Program, empty, single_def}
-use Rattle.id_tree.specs.Machine.{opening, room, Move, pick, ends, wants, Frame, Left, Right, Compare, Against, Inside, State, Begin, Want, Have, Next, Accepted, Refused, run}
-use Rattle.id_tree.proofs.RowLemmas.{Quiet, Ends, Parts, valid, Quiet-operator, Quiet-comparison, Follows-height}
-use Rattle.id_tree.proofs.RunLemmas.{First, Plain, run-done, run-part, run-inside, run-right, run-level, run-left, run-against, run-compare, run-plain, run-alone, run-word, run-name, run-kind, run-opens, run-operator, run-matches}
+use Rattle.id_tree.specs.Grammar.{Phrase, Definition, Parameters, MoreParameters, Expression, Grouped, Negation, Unary, Tail, Rest, Opens, denied, negated, number, by_true, by_false, parens, by_name, by_block, operand, left_operand, operator_of, own_height, Derives, opened, unconditional, single, grouped, plain, Follows, ended, taken, named, kinded, given, Program, empty, single_def}
+use Rattle.id_tree.specs.Machine.{opening, room, Move, pick, ends, wants, Frame, Left, Right, Inside, again, State, Begin, Want, Have, Next, Accepted, Refused, run}
+use Rattle.id_tree.proofs.RowLemmas.{Quiet, Ends, Parts, valid, Quiet-operator, Follows-height}
+use Rattle.id_tree.proofs.RunLemmas.{First, Unopened, run-done, run-part, run-inside, run-right, run-level, run-left, run-unconditional, run-plain, run-word, run-name, run-kind, run-opens, run-operator}
 
 -- no operator of a level within the phrase begins the tokens
 abbrev Stops : Phrase → List Token → Type 0
 Stops s ts = First (Quiet s) ts
 
--- none of a tighter level than the phrase's own, where it has one
+-- none of a tighter level than the phrase's own, where it has one that may go on
 abbrev StopsInside : Phrase → List Token → Type 0
-StopsInside (Grouped l) ts = Stops (operand l) ts
+StopsInside (Grouped level.Or) ts = Stops (operand level.Or) ts
+StopsInside (Grouped level.And) ts = Stops (operand level.And) ts
+StopsInside (Grouped level.Comparison) ts = Stops (Grouped level.Comparison) ts
+StopsInside (Grouped level.Sum) ts = Stops (operand level.Sum) ts
+StopsInside (Grouped level.Product) ts = Stops (operand level.Product) ts
+StopsInside Expression ts = Stops Expression ts
 StopsInside Negation ts = Stops Negation ts
-StopsInside Comparison ts = Stops Comparison ts
 StopsInside Definition ts = Unit {0}
 StopsInside Parameters ts = Unit {0}
 StopsInside MoreParameters ts = Unit {0}
 StopsInside Unary ts = Unit {0}
 StopsInside Tail ts = Unit {0}
 
--- the state behind a phrase, whose own level is still open
+-- the state behind a phrase, whose own level is still open where it may go on
 abbrev After : Phrase → Tree → ℕ → ℕ → List Frame → State
-After (Grouped l) e h d K = Have e h (Left l d ∷ K)
+After (Grouped l) e h d K = Have e h (again l d K)
 After Definition e h d K = Have e h K
 After Parameters e h d K = Have e h K
 After MoreParameters e h d K = Have e h K
+After Expression e h d K = Have e h K
 After Negation e h d K = Have e h K
-After Comparison e h d K = Have e h K
 After Unary e h d K = Have e h K
 After Tail e h d K = Have e h K
 
 -- where the phrase is not gone on, no tighter level is
 Stops-inside : (s : Phrase) (ts : List Token) → Stops s ts → StopsInside s ts
-Stops-inside (Grouped l) [] q = tt
+Stops-inside (Grouped level.Or) [] q = tt
+Stops-inside (Grouped level.And) [] q = tt
+Stops-inside (Grouped level.Comparison) [] q = tt
+Stops-inside (Grouped level.Sum) [] q = tt
+Stops-inside (Grouped level.Product) [] q = tt
 Stops-inside (Grouped level.Or) (t ∷ ts) q = q.1
 Stops-inside (Grouped level.And) (t ∷ ts) q = q.1
+Stops-inside (Grouped level.Comparison) (t ∷ ts) q = q
 Stops-inside (Grouped level.Sum) (t ∷ ts) q = q.1
 Stops-inside (Grouped level.Product) (t ∷ ts) q = tt
+Stops-inside Expression ts q = q
 Stops-inside Negation ts q = q
-Stops-inside Comparison ts q = q
 Stops-inside Definition ts q = tt
 Stops-inside Parameters ts q = tt
 Stops-inside MoreParameters ts q = tt
@@ -57,17 +67,18 @@ Stops-own : (l : Level) (ts : List Token) → Stops (Grouped l) ts → First (λ
 Stops-own l [] q = tt
 Stops-own level.Or (t ∷ ts) q = q.0
 Stops-own level.And (t ∷ ts) q = q.0
+Stops-own level.Comparison (t ∷ ts) q = q.0
 Stops-own level.Sum (t ∷ ts) q = q.0
 Stops-own level.Product (t ∷ ts) q = q
 
--- where a comparison is not gone on, neither is a sum, and no operator of it stands
-Stops-sum : (ts : List Token) → Stops Comparison ts → Stops (Grouped level.Sum) ts
-Stops-sum [] q = tt
-Stops-sum (t ∷ ts) q = q.1
-
-Stops-comparison : (ts : List Token) → Stops Comparison ts → First (λ k. comparison_of k ≡ None) ts
-Stops-comparison [] q = tt
-Stops-comparison (t ∷ ts) q = q.0
+-- where operators of a level may follow, those of its operands do not
+Stops-operand : (l : Level) (ts : List Token) → StopsInside (Grouped l) ts → Stops (operand l) ts
+Stops-operand level.Or ts q = q
+Stops-operand level.And ts q = q
+Stops-operand level.Comparison [] q = tt
+Stops-operand level.Comparison (t ∷ ts) q = q.1
+Stops-operand level.Sum ts q = q
+Stops-operand level.Product ts q = q
 
 Stops-definition : (ts : List Token) → Stops Definition ts
 Stops-definition [] = tt
@@ -80,12 +91,16 @@ First-weaker P Q f (t ∷ ts) q = f t.kind q
 
 -- where nothing goes on a phrase, its level ends
 run-after : (n : ℕ) (us : List Token) (s : Phrase) (e : Tree) (h d : ℕ) (K : List Frame) → Stops s us → run n us (After s e h d K) ≡ run n us (Have e h K)
-run-after n us (Grouped l) e h d K q = run-left n us l e h d K (Stops-own l us q)
+run-after n us (Grouped level.Or) e h d K q = run-left n us level.Or e h d K (Stops-own level.Or us q)
+run-after n us (Grouped level.And) e h d K q = run-left n us level.And e h d K (Stops-own level.And us q)
+run-after n us (Grouped level.Comparison) e h d K q = refl
+run-after n us (Grouped level.Sum) e h d K q = run-left n us level.Sum e h d K (Stops-own level.Sum us q)
+run-after n us (Grouped level.Product) e h d K q = run-left n us level.Product e h d K (Stops-own level.Product us q)
 run-after n us Definition e h d K q = refl
 run-after n us Parameters e h d K q = refl
 run-after n us MoreParameters e h d K q = refl
+run-after n us Expression e h d K q = refl
 run-after n us Negation e h d K q = refl
-run-after n us Comparison e h d K q = refl
 run-after n us Unary e h d K q = refl
 run-after n us Tail e h d K q = refl
 
@@ -100,8 +115,8 @@ Follows-stops (given d f) s0 s us b p = absurd b
 -- what a production begins has no level
 Stops-opens : (s : Phrase) {k : TokenKind} {p : ℕ} {r : Rest} → Opens s k p r → (us : List Token) → StopsInside s us → Stops s us
 Stops-opens (Grouped l) o us q = elim o [ ]
+Stops-opens Expression o us q = q
 Stops-opens Negation o us q = q
-Stops-opens Comparison o us q = q
 Stops-opens s o [] q = tt
 Stops-opens Definition o (t ∷ us) q = tt
 Stops-opens Parameters o (t ∷ us) q = tt
@@ -114,48 +129,112 @@ After-opens : (s : Phrase) {k : TokenKind} {p : ℕ} {r : Rest} → Opens s k p 
 After-opens Definition o e h d K = refl
 After-opens Parameters o e h d K = refl
 After-opens MoreParameters o e h d K = refl
+After-opens Expression o e h d K = refl
 After-opens (Grouped l) o e h d K = elim o [ ]
 After-opens Negation o e h d K = refl
-After-opens Comparison o e h d K = refl
 After-opens Unary o e h d K = refl
 After-opens Tail o e h d K = refl
 
--- the phrases that stand within a comparison
-abbrev Tight : Phrase → Type 0
-Tight Comparison = Unit {0}
-Tight (Grouped level.Sum) = Unit {0}
-Tight (Grouped level.Product) = Unit {0}
-Tight Unary = Unit {0}
-Tight _ = ⊥
+-- the phrase is one that the tokens of the other can be without a production of its own, or stands first in one
+abbrev IsFirst : Phrase → Phrase → Type 0
+IsFirst Expression (Grouped l) = Unit {0}
+IsFirst Expression Negation = Unit {0}
+IsFirst Expression Unary = Unit {0}
+IsFirst Negation (Grouped level.Comparison) = Unit {0}
+IsFirst Negation (Grouped level.Sum) = Unit {0}
+IsFirst Negation (Grouped level.Product) = Unit {0}
+IsFirst Negation Unary = Unit {0}
+IsFirst _ _ = ⊥
 
-Tight-operand : (l : Level) → Tight (Grouped l) → Tight (operand l)
-Tight-operand level.Or q = absurd q
-Tight-operand level.And q = absurd q
-Tight-operand level.Sum q = tt
-Tight-operand level.Product q = tt
+IsFirst-operand : (s0 : Phrase) (l : Level) → IsFirst s0 (Grouped l) → IsFirst s0 (operand l)
+IsFirst-operand Expression level.Or q = tt
+IsFirst-operand Expression level.And q = tt
+IsFirst-operand Expression level.Comparison q = tt
+IsFirst-operand Expression level.Sum q = tt
+IsFirst-operand Expression level.Product q = tt
+IsFirst-operand Negation level.Comparison q = tt
+IsFirst-operand Negation level.Sum q = tt
+IsFirst-operand Negation level.Product q = tt
+IsFirst-operand _ _ q = absurd q
 
--- none of their productions begins with `not`
-Plain-opens : {s : Phrase} {k : TokenKind} {p : ℕ} {r : Rest} → Opens s k p r → Tight s → opening Negation k p ≡ None
-Plain-opens negated q = refl
-Plain-opens number q = refl
-Plain-opens by_true q = refl
-Plain-opens by_false q = refl
-Plain-opens parens q = refl
-Plain-opens by_name q = refl
-Plain-opens by_block q = refl
-Plain-opens _ q = absurd q
+IsFirst-comparison : (s0 : Phrase) → IsFirst s0 Negation → IsFirst s0 (Grouped level.Comparison)
+IsFirst-comparison Expression q = tt
+IsFirst-comparison _ q = absurd q
 
--- nor do they
-Plain-derives : {s : Phrase} {ts : List Token} {e : Tree} {h : ℕ} → Derives s ts e h → Tight s → (us : List Token) → Plain (ts ++ us)
-Plain-derives (opened o f) q us = Plain-opens o q
-Plain-derives (single {l = l} x) q us = Plain-derives x (Tight-operand l q) us
-Plain-derives (grouped {us = xs} {vs = ys} x t p y) q us = rw (append_assoc xs (t ∷ ys) us) (Plain-derives x q (t ∷ (ys ++ us)))
-Plain-derives (plain x) q us = absurd q
-Plain-derives (alone x) q us = Plain-derives x tt us
-Plain-derives (compared {us = xs} {vs = ys} x t p y) q us = rw (append_assoc xs (t ∷ ys) us) (Plain-derives x tt (t ∷ (ys ++ us)))
+IsFirst-left : (s0 : Phrase) (l : Level) → IsFirst s0 (Grouped l) → IsFirst s0 (left_operand l)
+IsFirst-left Expression level.Or q = tt
+IsFirst-left Expression level.And q = tt
+IsFirst-left Expression level.Comparison q = tt
+IsFirst-left Expression level.Sum q = tt
+IsFirst-left Expression level.Product q = tt
+IsFirst-left Negation level.Comparison q = tt
+IsFirst-left Negation level.Sum q = tt
+IsFirst-left Negation level.Product q = tt
+IsFirst-left _ _ q = absurd q
+
+-- its productions begin with no token with which one of the other's begins
+Unopened-opens : {s : Phrase} {k : TokenKind} {p : ℕ} {r : Rest} → Opens s k p r → (s0 : Phrase) → IsFirst s0 s → opening s0 k p ≡ None
+Unopened-opens denied Expression q = refl
+Unopened-opens negated Expression q = refl
+Unopened-opens negated Negation q = refl
+Unopened-opens number Expression q = refl
+Unopened-opens number Negation q = refl
+Unopened-opens by_true Expression q = refl
+Unopened-opens by_true Negation q = refl
+Unopened-opens by_false Expression q = refl
+Unopened-opens by_false Negation q = refl
+Unopened-opens parens Expression q = refl
+Unopened-opens parens Negation q = refl
+Unopened-opens by_name Expression q = refl
+Unopened-opens by_name Negation q = refl
+Unopened-opens by_block Expression q = refl
+Unopened-opens by_block Negation q = refl
+Unopened-opens _ Expression q = absurd q
+Unopened-opens _ Negation q = absurd q
+Unopened-opens _ _ q = absurd q
+
+-- nor do its tokens
+Unopened-derives : {s : Phrase} {ts : List Token} {e : Tree} {h : ℕ} → Derives s ts e h → (s0 : Phrase) → IsFirst s0 s →
+    (us : List Token) → Unopened s0 (ts ++ us)
+Unopened-derives (opened o f) s0 q us = Unopened-opens o s0 q
+Unopened-derives (unconditional x) s0 q us = absurd (no_expression s0 q)
+  where
+    no_expression : (s0 : Phrase) → IsFirst s0 Expression → ⊥
+    no_expression Expression q = q
+    no_expression Negation q = q
+    no_expression _ q = q
+Unopened-derives (single {l = l} x) s0 q us = Unopened-derives x s0 (IsFirst-operand s0 l q) us
+Unopened-derives (grouped {l = l} {us = xs} {vs = ys} x t p y) s0 q us =
+    rw (append_assoc xs (t ∷ ys) us) (Unopened-derives x s0 (IsFirst-left s0 l q) (t ∷ (ys ++ us)))
+Unopened-derives (plain x) s0 q us = Unopened-derives x s0 (IsFirst-comparison s0 q) us
 
 max-assoc : (a b c d : ℕ) → max (max a b) c + d ≡ max a (max b c) + d
 max-assoc a b c d = omega arith
+
+-- one operand is a level, whose end comes where it may not go on
+run-single : (n : ℕ) (us : List Token) (l : Level) (e : Tree) (h d : ℕ) (K : List Frame) → StopsInside (Grouped l) us →
+    run n us (Have e h (Left l d ∷ K)) ≡ run n us (Have e h (again l d K))
+run-single n us level.Or e h d K q = refl
+run-single n us level.And e h d K q = refl
+run-single n us level.Comparison e h d K q = run-left n us level.Comparison e h d K (Stops-own level.Comparison us q)
+run-single n us level.Sum e h d K q = refl
+run-single n us level.Product e h d K q = refl
+
+-- what stands before an operator of a level is taken as the level's, where the run of what it is takes it so
+run-first : (n : ℕ) (xs : List Token) (t : Token) (us : List Token) (l : Level) (o : BinaryOp) (a : Tree) (m d : ℕ) (K : List Frame) →
+    operator_of l t.kind ≡ Some o →
+    ((K : List Frame) (vs : List Token) → StopsInside (left_operand l) vs →
+    run n (xs ++ vs) (Want (left_operand l) d K) ≡ run n vs (After (left_operand l) a m d K)) →
+    run n (xs ++ t ∷ us) (Want (Grouped l) d K) ≡ run n (t ∷ us) (Have a m (Left l d ∷ K))
+run-first n xs t us level.Or o a m d K p f = f K (t ∷ us) (Quiet-operator level.Or t.kind o p)
+run-first n xs t us level.And o a m d K p f = f K (t ∷ us) (Quiet-operator level.And t.kind o p)
+run-first n xs t us level.Comparison o a m d K p f =
+    let stops = Quiet-operator level.Comparison t.kind o p in
+    run-level n (xs ++ t ∷ us) level.Comparison d K
+    ∙ f (Left level.Comparison d ∷ K) (t ∷ us) (Stops-inside (Grouped level.Sum) (t ∷ us) stops)
+    ∙ run-after n (t ∷ us) (Grouped level.Sum) a m d (Left level.Comparison d ∷ K) stops
+run-first n xs t us level.Sum o a m d K p f = f K (t ∷ us) (Quiet-operator level.Sum t.kind o p)
+run-first n xs t us level.Product o a m d K p f = f K (t ∷ us) (Quiet-operator level.Product t.kind o p)
 
 mutual
   pub run-derives : {s : Phrase} {ts : List Token} {e : Tree} {h : ℕ} → Derives s ts e h → (n d : ℕ) (K : List Frame) (us : List Token) → d + h ≤ n → StopsInside s us → run n (ts ++ us) (Want s d K) ≡ run n us (After s e h d K)
@@ -164,33 +243,25 @@ mutual
       ∙ run-follows f n 0 (d + own_height s) (own_height s) K us s (omega arith) (valid o).parts (Stops-opens s o us q)
       ∙ ap (λ x. run n us (Have e (x + own_height s) K)) (omega arith)
       ∙ ap (run n us) (sym (After-opens s o e (h + own_height s) d K))
+  run-derives (unconditional {ts = ts} {e = e} {h = h} x) n d K us b q =
+      run-unconditional n (ts ++ us) d K (Unopened-derives x Expression tt us)
+      ∙ run-derives x n d K us b (Stops-inside (Grouped level.Or) us q)
+      ∙ run-after n us (Grouped level.Or) e h d K q
   run-derives (single {l = l} {ts = ts} {e = e} {h = h} x) n d K us b q =
+      let stops = Stops-operand l us q in
       run-level n (ts ++ us) l d K
-      ∙ run-derives x n d (Left l d ∷ K) us b (Stops-inside (operand l) us q)
-      ∙ run-after n us (operand l) e h d (Left l d ∷ K) q
+      ∙ run-derives x n d (Left l d ∷ K) us b (Stops-inside (operand l) us stops)
+      ∙ run-after n us (operand l) e h d (Left l d ∷ K) stops
+      ∙ run-single n us l e h d K q
   run-derives (grouped {l = l} {us = xs} {vs = ys} {o = o} {a = a} {b = b} {m = m} {n = k} x t p y) n d K us w q =
+      let stops = Stops-operand l us q in
       rw (append_assoc xs (t ∷ ys) us)
-      (run-derives x n d K (t ∷ (ys ++ us)) (omega arith) (Quiet-operator l t.kind o p)
+      (run-first n xs t (ys ++ us) l o a m d K p (λ K vs i. run-derives x n d K vs (omega arith) i)
       ∙ run-operator n t (ys ++ us) l o a m d K p (omega arith)
-      ∙ run-derives y n (d + 1) (Right l o a m t.start d ∷ K) us (omega arith) (Stops-inside (operand l) us q)
-      ∙ run-after n us (operand l) b k (d + 1) (Right l o a m t.start d ∷ K) q
+      ∙ run-derives y n (d + 1) (Right l o a m t.start d ∷ K) us (omega arith) (Stops-inside (operand l) us stops)
+      ∙ run-after n us (operand l) b k (d + 1) (Right l o a m t.start d ∷ K) stops
       ∙ run-right n us b k l o a m t.start d K)
-  run-derives (plain {ts = ts} x) n d K us b q = run-plain n (ts ++ us) d K (Plain-derives x tt us) ∙ run-derives x n d K us b q
-  run-derives (alone {ts = ts} {e = e} {h = h} x) n d K us b q =
-      run-compare n (ts ++ us) d K
-      ∙ run-derives x n d (Compare d ∷ K) us b (Stops-inside (Grouped level.Sum) us (Stops-sum us q))
-      ∙ run-after n us (Grouped level.Sum) e h d (Compare d ∷ K) (Stops-sum us q)
-      ∙ run-alone n us e h d K (Stops-comparison us q)
-  run-derives (compared {us = xs} {vs = ys} {o = o} {a = a} {b = b} {m = m} {n = k} x t p y) n d K us w q =
-      let stops : Stops (Grouped level.Sum) (t ∷ (ys ++ us)) = Quiet-comparison t.kind o p in
-      rw (append_assoc xs (t ∷ ys) us)
-      (run-compare n (xs ++ (t ∷ (ys ++ us))) d K
-      ∙ run-derives x n d (Compare d ∷ K) (t ∷ (ys ++ us)) (omega arith) (Stops-inside (Grouped level.Sum) (t ∷ (ys ++ us)) stops)
-      ∙ run-after n (t ∷ (ys ++ us)) (Grouped level.Sum) a m d (Compare d ∷ K) stops
-      ∙ run-matches n t (ys ++ us) o a m d K p (omega arith)
-      ∙ run-derives y n (d + 1) (Against o a m t.start d ∷ K) us (omega arith) (Stops-inside (Grouped level.Sum) us (Stops-sum us q))
-      ∙ run-after n us (Grouped level.Sum) b k (d + 1) (Against o a m t.start d ∷ K) (Stops-sum us q)
-      ∙ run-against n us b k o a m t.start d K)
+  run-derives (plain {ts = ts} x) n d K us b q = run-plain n (ts ++ us) d K (Unopened-derives x Negation tt us) ∙ run-derives x n d K us b q
 
   pub run-follows : {r : Rest} {ts : List Token} {e : Tree} {h : ℕ} → Follows r ts e h → (n m d c : ℕ) (K : List Frame) (us : List Token) (s0 : Phrase) → d + h ≤ n → Parts s0 r → Stops s0 us → run n (ts ++ us) (Next r m d c K) ≡ run n us (Have e (max m h + c) K)
   run-follows (ended {e = e}) n m d c K us s0 w p q = run-done n us e m d c K ∙ ap (λ x. run n us (Have e (x + c) K)) (omega arith)

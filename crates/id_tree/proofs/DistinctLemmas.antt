@@ -2,10 +2,10 @@
 use Rattle.std.proofs.Common.{ℕ, ◌+◌, ◌≤◌, ◌<◌, List, [], ◌∷◌, ◌++◌, inl, inr, arith}
 use Rattle.id_text.specs.declared.token.Token.{Token}
 use Rattle.id_text.specs.declared.token.TokenKind.{TokenKind}
-use Rattle.id_tree.specs.declared.tree.Kind.{Kind}
+use Rattle.id_value.specs.declared.Kind.{Kind}
 use Rattle.id_tree.specs.Tree as tree
-use Rattle.id_tree.specs.Tree.{Tree, literal, unary, binary, block, binding, param, define, none, more}
-use Rattle.id_tree.specs.Grammar.{Phrase, Rest, done, word, name, of_kind, part, with_statement, block_of, Opens, definition, no_parameters, first_parameter, last_parameter, next_parameter, denied, negated, number, by_true, by_false, parens, by_name, by_block, by_binding, by_body, Derives, opened, single, grouped, plain, alone, compared, Follows, ended, taken, named, kinded, given, Program, empty, single_def}
+use Rattle.id_tree.specs.Tree.{Tree, literal, unary, binary, conditional, block, binding, param, define, none, more}
+use Rattle.id_tree.specs.Grammar.{Phrase, Rest, done, word, name, of_kind, part, with_statement, block_of, Opens, definition, no_parameters, first_parameter, last_parameter, next_parameter, by_conditional, denied, negated, number, by_true, by_false, parens, by_name, by_block, by_binding, by_body, Derives, opened, unconditional, single, grouped, plain, Follows, ended, taken, named, kinded, given, Program, empty, single_def}
 use Rattle.id_tree.specs.Distinct.{HasPlace, Apart, Distinct}
 use Rattle.id_tree.proofs.FinishLemmas.{Laid}
 
@@ -15,6 +15,7 @@ Spans low (literal v p) high = (low ≤ p) × (p < high)
 Spans low (unary o a p) high = (low ≤ p) × Spans (p + 1) a high
 Spans low (binary o a b p) high = Spans low a p × Spans (p + 1) b high
 Spans low (tree.name x p) high = (low ≤ p) × (p < high)
+Spans low (conditional t x y p) high = (low ≤ p) × ((mid : ℕ) × (next : ℕ) × Spans (p + 1) t mid × Spans mid x next × Spans next y high)
 Spans low (block a b p) high = (low ≤ p) × ((mid : ℕ) × Spans (p + 1) a mid × Spans mid b high)
 Spans low (binding x a p) high = (low ≤ p) × Spans (p + 1) a high
 Spans low (param x k p) high = (low ≤ p) × (p < high)
@@ -28,6 +29,8 @@ Spans-order (literal v p) low high q = omega (arith, q.0, q.1)
 Spans-order (unary o a p) low high q = omega (arith, q.0, Spans-order a (p + 1) high q.1)
 Spans-order (binary o a b p) low high q = omega (arith, Spans-order a low p q.0, Spans-order b (p + 1) high q.1)
 Spans-order (tree.name x p) low high q = omega (arith, q.0, q.1)
+Spans-order (conditional t x y p) low high (u, (mid, next, v, w, z)) =
+    omega (arith, u, Spans-order t (p + 1) mid v, Spans-order x mid next w, Spans-order y next high z)
 Spans-order (block a b p) low high (u, (mid, v, w)) = omega (arith, u, Spans-order a (p + 1) mid v, Spans-order b mid high w)
 Spans-order (binding x a p) low high q = omega (arith, q.0, Spans-order a (p + 1) high q.1)
 Spans-order (param x k p) low high q = omega (arith, q.0, q.1)
@@ -41,6 +44,8 @@ Spans-wider (literal v p) low high below above u v' q = (omega (arith, q.0), ome
 Spans-wider (unary o a p) low high below above u v q = (omega (arith, q.0), Spans-wider a (p + 1) high (p + 1) above (omega arith) v q.1)
 Spans-wider (binary o a b p) low high below above u v q = (Spans-wider a low p below p u (omega arith) q.0, Spans-wider b (p + 1) high (p + 1) above (omega arith) v q.1)
 Spans-wider (tree.name x p) low high below above u v' q = (omega (arith, q.0), omega (arith, q.1))
+Spans-wider (conditional t x y p) low high below above u v (o, (mid, next, w, s, z)) =
+    (omega (arith, o), (mid, next, w, s, Spans-wider y next high next above (omega arith) v z))
 Spans-wider (block a b p) low high below above u v (o, (mid, s, t)) = (omega (arith, o), (mid, s, Spans-wider b mid high mid above (omega arith) v t))
 Spans-wider (binding x a p) low high below above u v q = (omega (arith, q.0), Spans-wider a (p + 1) high (p + 1) above (omega arith) v q.1)
 Spans-wider (param x k p) low high below above u v' q = (omega (arith, q.0), omega (arith, q.1))
@@ -57,6 +62,14 @@ Spans-place (binary o a b p) low high q s (inl h) = (omega (arith, Spans-order a
 Spans-place (binary o a b p) low high q s (inr (inl h)) = let r = Spans-place a low p q s.0 h in (r.0, omega (arith, r.1, Spans-order b (p + 1) high s.1))
 Spans-place (binary o a b p) low high q s (inr (inr h)) = let r = Spans-place b (p + 1) high q s.1 h in (omega (arith, r.0, Spans-order a low p s.0), r.1)
 Spans-place (tree.name x p) low high q s h = (omega (arith, s.0, h), omega (arith, s.1, h))
+Spans-place (conditional t x y p) low high q (o, (mid, next, u, v, w)) (inl h) =
+    (omega (arith, o, h), omega (arith, Spans-order t (p + 1) mid u, Spans-order x mid next v, Spans-order y next high w, h))
+Spans-place (conditional t x y p) low high q (o, (mid, next, u, v, w)) (inr (inl h)) =
+    let r = Spans-place t (p + 1) mid q u h in (omega (arith, o, r.0), omega (arith, r.1, Spans-order x mid next v, Spans-order y next high w))
+Spans-place (conditional t x y p) low high q (o, (mid, next, u, v, w)) (inr (inr (inl h))) =
+    let r = Spans-place x mid next q v h in (omega (arith, o, r.0, Spans-order t (p + 1) mid u), omega (arith, r.1, Spans-order y next high w))
+Spans-place (conditional t x y p) low high q (o, (mid, next, u, v, w)) (inr (inr (inr h))) =
+    let r = Spans-place y next high q w h in (omega (arith, o, r.0, Spans-order t (p + 1) mid u, Spans-order x mid next v), r.1)
 Spans-place (block a b p) low high q (o, (mid, s, t)) (inl h) = (omega (arith, o, h), omega (arith, Spans-order a (p + 1) mid s, Spans-order b mid high t, h))
 Spans-place (block a b p) low high q (o, (mid, s, t)) (inr (inl h)) = let r = Spans-place a (p + 1) mid q s h in (omega (arith, o, r.0), omega (arith, r.1, Spans-order b mid high t))
 Spans-place (block a b p) low high q (o, (mid, s, t)) (inr (inr h)) = let r = Spans-place b mid high q t h in (omega (arith, o, r.0, Spans-order a (p + 1) mid s), r.1)
@@ -86,6 +99,17 @@ Distinct-spans (binary o a b p) low high s = (
   Distinct-spans b (p + 1) high s.1,
 )
 Distinct-spans (tree.name x p) low high s = tt
+Distinct-spans (conditional t x y p) low high (o, (mid, next, u, v, w)) = (
+  λ h. omega (arith, (Spans-place t (p + 1) mid p u h).0),
+  λ h. omega (arith, (Spans-place x mid next p v h).0, Spans-order t (p + 1) mid u),
+  λ h. omega (arith, (Spans-place y next high p w h).0, Spans-order t (p + 1) mid u, Spans-order x mid next v),
+  Spans-apart t x (p + 1) mid mid next (omega arith) u v,
+  Spans-apart t y (p + 1) mid next high (Spans-order x mid next v) u w,
+  Spans-apart x y mid next next high (omega arith) v w,
+  Distinct-spans t (p + 1) mid u,
+  Distinct-spans x mid next v,
+  Distinct-spans y next high w,
+)
 Distinct-spans (block a b p) low high (o, (mid, s, t)) = (
   λ h. omega (arith, (Spans-place a (p + 1) mid p s h).0),
   λ h. omega (arith, (Spans-place b mid high p t h).0, Spans-order a (p + 1) mid s),
@@ -135,6 +159,16 @@ Opens-keeps (no_parameters {p = p}) = λ high w. omega arith
 Opens-keeps (first_parameter {x = x} {p = p}) = λ a1 u1 k a2 u2 a mid s high w. Spans-param x k p a p a2 mid high (omega arith) (omega arith) w s
 Opens-keeps (last_parameter {p = p}) = λ high w. omega arith
 Opens-keeps (next_parameter {p = p}) = λ x q u a1 u1 k a2 u2 a mid s high w. Spans-param x k q a p a2 mid high (omega arith) (omega arith) w s
+Opens-keeps (by_conditional {p = p}) = λ t a r b u x c s d v y mid z high w. (
+  omega arith,
+  (
+    b,
+    d,
+    Spans-wider t (p + 1) a (p + 1) b (omega arith) u r,
+    Spans-wider x b c b d (omega arith) v s,
+    Spans-wider y d mid d high (omega arith) w z,
+  ),
+)
 Opens-keeps (denied {p = p}) = λ e mid s high w. (omega arith, Spans-wider e (p + 1) mid (p + 1) high (omega arith) w s)
 Opens-keeps (negated {p = p}) = λ e mid s high w. (omega arith, Spans-wider e (p + 1) mid (p + 1) high (omega arith) w s)
 Opens-keeps (number {p = p}) = λ high w. (omega arith, omega arith)
@@ -155,15 +189,12 @@ Laid-split (t ∷ us) vs low high p = let q = Laid-split us vs (t.start + 1) hig
 mutual
   Derives-spans : {s : Phrase} {ts : List Token} {e : Tree} {h : ℕ} → Derives s ts e h → (low high : ℕ) → Laid low ts high → Spans low e high
   Derives-spans (opened {t = t} {e = e} o f) low high p = Spans-wider e t.start high low high p.0 (omega arith) (Follows-spans f t.start (t.start + 1) high (Opens-keeps o) p.1)
+  Derives-spans (unconditional d) low high p = Derives-spans d low high p
   Derives-spans (single d) low high p = Derives-spans d low high p
   Derives-spans (grouped {us = us} {vs = vs} {a = a} x t q y) low high p =
       let l = Laid-split us (t ∷ vs) low high p in
       (Spans-wider a low l.0 low t.start (omega arith) l.2.0 (Derives-spans x low l.0 l.1), Derives-spans y (t.start + 1) high l.2.1)
   Derives-spans (plain d) low high p = Derives-spans d low high p
-  Derives-spans (alone d) low high p = Derives-spans d low high p
-  Derives-spans (compared {us = us} {vs = vs} {a = a} x t q y) low high p =
-      let l = Laid-split us (t ∷ vs) low high p in
-      (Spans-wider a low l.0 low t.start (omega arith) l.2.0 (Derives-spans x low l.0 l.1), Derives-spans y (t.start + 1) high l.2.1)
 
   Follows-spans : {r : Rest} {ts : List Token} {e : Tree} {h : ℕ} → Follows r ts e h → (from low high : ℕ) → Keeps from low r → Laid low ts high → Spans from e high
   Follows-spans ended from low high k p = k high p

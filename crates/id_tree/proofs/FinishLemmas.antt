@@ -7,11 +7,11 @@ use Rattle.id_text.specs.declared.token.TokenKind.TheVariants.{Name, Number, Key
 use Rattle.id_text.specs.declared.token.Keyword.TheVariants.{Def, In, Int}
 use Rattle.id_text.specs.declared.token.Symbol.TheVariants.{LeftParen, RightParen, RightBrace, Colon, Becomes, Semicolon}
 use Rattle.id_tree.specs.declared.parser.Level.TheVariants as level
-use Rattle.id_tree.specs.declared.tree.Kind.TheVariants as kind
+use Rattle.id_value.specs.declared.Kind.TheVariants as kind
 use Rattle.id_tree.specs.Tree.{Tree}
-use Rattle.id_tree.specs.Grammar.{Phrase, Definition, Parameters, MoreParameters, Grouped, expression, Negation, Comparison, Unary, Tail, kind_of, Rest, done, word, name, of_kind, part, definition, no_parameters, last_parameter, number, by_body, own_height, Derives, opened, single, grouped, plain, alone, compared, Follows, ended, taken, named, kinded, given, Program, empty, single_def}
+use Rattle.id_tree.specs.Grammar.{Phrase, Definition, Parameters, MoreParameters, Expression, Grouped, Negation, Unary, Tail, kind_of, Rest, done, word, name, of_kind, part, definition, no_parameters, last_parameter, number, by_body, own_height, Derives, opened, unconditional, single, grouped, plain, Follows, ended, taken, named, kinded, given, Program, empty, single_def}
 use Rattle.id_tree.specs.Machine.{least_height, Frame, State}
-use Rattle.id_tree.specs.Standing.{Roomy, Around, outermost, left, right, plainly, compare, against, inside, Stands, begun, wanting, having, within, finished}
+use Rattle.id_tree.specs.Standing.{Roomy, Around, outermost, unconditionally, left, right, plainly, inside, Stands, begun, wanting, having, within, finished}
 
 -- the starts rise from the first number on and stay below the second
 abbrev pub Laid : ℕ → List Token → ℕ → Type 0
@@ -73,12 +73,15 @@ least_sum : (from : ℕ) → Least (Grouped level.Sum) from
 least_sum from = let l = least_number from in record { tokens = l.tokens; tree = l.tree; to = l.to; laid = l.laid; derives = single (single l.derives) }
 
 least_negation : (from : ℕ) → Least Negation from
-least_negation from = let l = least_sum from in record { tokens = l.tokens; tree = l.tree; to = l.to; laid = l.laid; derives = plain (alone l.derives) }
+least_negation from = let l = least_sum from in record { tokens = l.tokens; tree = l.tree; to = l.to; laid = l.laid; derives = plain (single l.derives) }
 
-least_expression : (from : ℕ) → Least expression from
-least_expression from = let l = least_negation from in record { tokens = l.tokens; tree = l.tree; to = l.to; laid = l.laid; derives = single (single l.derives) }
+least_or : (from : ℕ) → Least (Grouped level.Or) from
+least_or from = let l = least_negation from in record { tokens = l.tokens; tree = l.tree; to = l.to; laid = l.laid; derives = single (single l.derives) }
 
-least_definition : (from : ℕ) → Least expression (from + 7) → Least Definition from
+least_expression : (from : ℕ) → Least Expression from
+least_expression from = let l = least_or from in record { tokens = l.tokens; tree = l.tree; to = l.to; laid = l.laid; derives = unconditional l.derives }
+
+least_definition : (from : ℕ) → Least Expression (from + 7) → Least Definition from
 least_definition from body = record {
   tokens = token (Key Def) from ∷ token (Name []) (from + 1) ∷ token (Sign LeftParen) (from + 2) ∷ token (Sign RightParen) (from + 3)
       ∷ token (Sign Colon) (from + 4) ∷ token (Key Int) (from + 5) ∷ token (Sign Becomes) (from + 6) ∷ (body.tokens ++ token (Sign Semicolon) body.to ∷ []);
@@ -110,7 +113,7 @@ least_definition from body = record {
   derives = opened definition (named refl (taken refl (given (opened no_parameters ended) (taken refl (kinded refl (taken refl (given body.derives (taken refl ended))))))));
 }
 
-least_tail : (from : ℕ) → Least expression (from + 1) → Least Tail from
+least_tail : (from : ℕ) → Least Expression (from + 1) → Least Tail from
 least_tail from body = record {
   tokens = token (Key In) from ∷ (body.tokens ++ token (Sign RightBrace) body.to ∷ []);
   tree = _;
@@ -123,10 +126,12 @@ least : (s : Phrase) (from : ℕ) → Least s from
 least Unary from = least_number from
 least (Grouped level.Product) from = let l = least_number from in record { tokens = l.tokens; tree = l.tree; to = l.to; laid = l.laid; derives = single l.derives }
 least (Grouped level.Sum) from = least_sum from
+least (Grouped level.Comparison) from =
+    let l = least_sum from in record { tokens = l.tokens; tree = l.tree; to = l.to; laid = l.laid; derives = single l.derives }
 least (Grouped level.And) from = let l = least_negation from in record { tokens = l.tokens; tree = l.tree; to = l.to; laid = l.laid; derives = single l.derives }
-least (Grouped level.Or) from = least_expression from
+least Expression from = least_expression from
+least (Grouped level.Or) from = least_or from
 least Negation from = least_negation from
-least Comparison from = let l = least_sum from in record { tokens = l.tokens; tree = l.tree; to = l.to; laid = l.laid; derives = alone l.derives }
 least Parameters from = record { tokens = token (Sign RightParen) from ∷ []; tree = _; to = from + 1; laid = (omega arith, omega arith); derives = opened no_parameters ended }
 least MoreParameters from = record { tokens = token (Sign RightParen) from ∷ []; tree = _; to = from + 1; laid = (omega arith, omega arith); derives = opened last_parameter ended }
 least Definition from = least_definition from (least_expression (from + 7))
@@ -202,11 +207,8 @@ Around-completed (left a) vs e h from x w = Around-completed a vs e h from (sing
 Around-completed (right {m = m} {us = us} {vs = vs} a y t q fit) ws e k from x w =
     Completed-at (ap (λ xs. us ++ xs) (sym (append_assoc vs (t ∷ []) ws)) ∙ sym (append_assoc us (vs ++ t ∷ []) ws))
     (Around-completed a (vs ++ t ∷ ws) _ (max m k + 1) from (grouped y t q x) (omega arith))
+Around-completed (unconditionally a) vs e h from x w = Around-completed a vs e h from (unconditional x) w
 Around-completed (plainly a) vs e h from x w = Around-completed a vs e h from (plain x) w
-Around-completed (compare a) vs e h from x w = Around-completed a vs e h from (alone x) w
-Around-completed (against {m = m} {us = us} {vs = vs} a y t q fit) ws e k from x w =
-    Completed-at (ap (λ xs. us ++ xs) (sym (append_assoc vs (t ∷ []) ws)) ∙ sym (append_assoc us (vs ++ t ∷ []) ws))
-    (Around-completed a (vs ++ t ∷ ws) _ (max m k + 1) from (compared y t q x) (omega arith))
 Around-completed {n = n} (inside {s = s} {f = f} {d = d} {h = h} {us = us} {vs = vs} a b fit roomy) ws e k from x w =
     let g = finish (f e) n (d + own_height s) from (omega arith) (roomy e) in
     Completed-more n from g.to ((us ++ vs) ++ ws) g.tokens g.laid

@@ -4,7 +4,7 @@ use Rattle.id_text.specs.declared.token.Token.{Token}
 use Rattle.id_text.specs.declared.token.TokenKind.{TokenKind}
 use Rattle.id_text.specs.declared.token.TokenKind.TheVariants.{Name, Sign}
 use Rattle.id_text.specs.declared.token.Symbol.TheVariants.{LeftParen, RightParen, Comma, Colon, Becomes}
-use Rattle.id_tree.specs.declared.tree.Kind.{Kind}
+use Rattle.id_value.specs.declared.Kind.{Kind}
 use Rattle.id_tree.specs.declared.tree.Param.{Param}
 use Rattle.id_tree.specs.declared.tree.TreeError.{TreeError}
 use Rattle.id_tree.specs.declared.tree.TreeError.TheVariants.{Unexpected}
@@ -61,10 +61,10 @@ opens_next : {k : TokenKind} {p : ℕ} → k ≡ Sign Comma → Opens MoreParame
 opens_next q = rw q next_parameter
 
 At-first : {ts us : List Token} {x : List ℕ} {p : ℕ} → BeginsWithName ts x p us → At ts Parameters 0 us (parameter_of x p) 0
-At-first {x = x} q = rw (← q.place) (At-opens q.whole (opens_first x q.kind) 0 (omega arith))
+At-first {x = x} q = rw (← q.place) (At-opens q.whole (opens_first x (ap first_kind q.whole ∙ q.kind)) 0 (omega arith))
 
 At-comma : {ts us : List Token} {t : Token} → ts ≡ t ∷ us → first_kind ts ≡ Sign Comma → At ts MoreParameters 0 us (name parameter_of) 0
-At-comma e q = At-opens e (opens_next (ap first_kind (sym e) ∙ q)) 0 (omega arith)
+At-comma e q = At-opens e (opens_next q) 0 (omega arith)
 
 -- a parameter that has come is put before those behind it
 folds_before : (x : Param) (K : List Frame) (vs : List Token) (a : Tree) → run 200 vs (Have a 0 (Inside (before x) 0 0 0 ∷ K)) ≡ run 200 vs (Have (more (param x.name x.kind x.place) a) 0 K)
@@ -107,7 +107,7 @@ IsBehind-more p e q = let l = ap length e in record { ends = q.ends; shorter = o
 
 -- no parameter comes
 pub Leads-none : {ts us : List Token} {t : Token} → ts ≡ t ∷ us → t.kind ≡ Sign RightParen → Leads ts Parameters 0 us none 0
-Leads-none {t = t} e q = Leads-done (At-opens e (opens q) 0 (omega arith))
+Leads-none e q = Leads-done (At-opens e (opens (ap first_kind e ∙ q)) 0 (omega arith))
   where
     opens : {k : TokenKind} {p : ℕ} → k ≡ Sign RightParen → Opens Parameters k p (done none)
     opens q = rw q no_parameters
@@ -121,7 +121,7 @@ module _ {ts us vs : List Token} {t : Token} {ps : List Param} (g : Counts ts us
   Leads-listed q = record {
     comes = λ K.
         let l = g.lists K in
-        l.comes ∙ (Leads-done (At-opens e (closing q) 0 (omega arith))).comes l.stack ∙ l.folds vs none
+        l.comes ∙ (Leads-done (At-opens e (closing (ap first_kind e ∙ q)) 0 (omega arith))).comes l.stack ∙ l.folds vs none
         ∙ ap (λ b. run 200 vs (Have b 0 K)) (listed-none ps);
   }
 

@@ -5,23 +5,26 @@ use Rattle.id_text.specs.declared.token.Token.{Token}
 use Rattle.id_text.specs.declared.token.TokenKind.{TokenKind}
 use Rattle.id_text.specs.declared.token.TokenKind.TheVariants.{Name, Number, Key, Sign, End}
 use Rattle.id_text.specs.declared.token.Keyword.{Keyword}
-use Rattle.id_text.specs.declared.token.Keyword.TheVariants.{Def, True, False, Not}
+use Rattle.id_text.specs.declared.token.Keyword.TheVariants.{Def, If, True, False, Not}
 use Rattle.id_text.specs.declared.token.Symbol.{Symbol}
 use Rattle.id_text.specs.declared.token.Symbol.TheVariants.{LeftParen, RightParen, LeftBrace, Minus}
 use Rattle.id_tree.specs.declared.parser.Level.{Level}
 use Rattle.id_tree.specs.declared.parser.Level.TheVariants as level
-use Rattle.id_tree.specs.declared.tree.BinaryOp.{BinaryOp}
-use Rattle.id_tree.specs.declared.tree.UnaryOp.TheVariants as unary_op
-use Rattle.id_tree.specs.declared.tree.Constant.TheVariants as constant
+use Rattle.id_tree.specs.declared.tokens.Word.{Word}
+use Rattle.id_tree.specs.declared.tokens.Word.TheVariants as the
+use Rattle.id_value.specs.declared.BinaryOp.{BinaryOp}
+use Rattle.id_value.specs.declared.UnaryOp.{UnaryOp}
+use Rattle.id_value.specs.declared.UnaryOp.TheVariants as unary_op
+use Rattle.id_value.specs.declared.Constant.TheVariants as constant
 use Rattle.id_tree.specs.declared.tree.TreeError.{TreeError}
 use Rattle.id_tree.specs.declared.tree.TreeError.TheVariants.{Unexpected, TooDeep}
 use Rattle.id_tree.specs.Tree as tree
 use Rattle.id_tree.specs.Tree.{Tree, literal, unary, binary, none, more}
-use Rattle.id_tree.specs.Grammar.{Phrase, Definition, Grouped, expression, Negation, Comparison, Unary, Word, kind_of, Rest, done, word, name, part, sign, definition_of, Opens, definition, denied, negated, number, by_true, by_false, parens, by_name, operand, operator_of, comparison_of, own_height}
-use Rattle.id_tree.specs.Machine.{opening, room, Frame, Left, Right, Compare, Against, Inside, State, Begin, Want, Have, Next, Finished, is_word, name_in, takes, ends, wants, Outcome, Accepted, Refused, run}
-use Rattle.id_tree.specs.Readers.{first_kind, first_start, truth_in, IsRead, EndsBy, Leads, Fails, Defines, Grows, Stunts, Takes, Misses, BeginsWithName, NoName, LacksName, Encloses, Exposes}
+use Rattle.id_tree.specs.Grammar.{Phrase, Definition, Expression, Grouped, Negation, Unary, kind_of, Rest, done, word, name, part, enclosed, definition_of, conditional_of, Opens, definition, by_conditional, denied, negated, number, by_true, by_false, parens, by_name, operand, operator_of, own_height}
+use Rattle.id_tree.specs.Machine.{opening, room, Frame, Left, Right, Inside, again, Move, State, Begin, Want, Have, Next, Finished, is_word, name_in, takes, ends, wants, Outcome, Accepted, Refused, run}
+use Rattle.id_tree.specs.Readers.{first_kind, first_start, truth_in, IsRead, EndsBy, IsPrefix, Leads, Fails, Defines, Grows, Stunts, Takes, Misses, BeginsWithName, NoName, LacksName, Encloses, Exposes}
 use Rattle.id_tree.proofs.RowLemmas.{opening-from_opens}
-use Rattle.id_tree.proofs.RunLemmas.{First, Plain, same-is_word, run-step, run-deep, run-none, run-word, run-name, run-opens, run-opens-deep, run-operator, run-matches, run-done, run-part, run-inside, run-right, run-level, run-left, run-against, run-compare, run-plain, run-alone}
+use Rattle.id_tree.proofs.RunLemmas.{First, Unopened, same-is_word, run-step, run-deep, run-none, run-word, run-name, run-opens, run-opens-deep, run-operator, run-done, run-part, run-inside, run-right, run-level, run-left, run-unconditional, run-plain}
 
 pub EndsBy-at : {o p : Outcome} (x : TreeError) → o ≡ p → EndsBy p x → EndsBy o x
 EndsBy-at x e q = subst (λ r. EndsBy r x) (sym e) q
@@ -52,12 +55,18 @@ module _ {ts us : List Token} {t : Token} (e : ts ≡ t ∷ us) where
 pub record At (ts : List Token) (s : Phrase) (d : ℕ) (us : List Token) (r : Rest) (h : ℕ) : Type 0 where
   pub comes : (K : List Frame) → run 200 ts (Want s d K) ≡ run 200 us (Next r h (d + own_height s) (own_height s) K)
 
-module _ {ts us : List Token} {t : Token} {s : Phrase} {r : Rest} (e : ts ≡ t ∷ us) (o : Opens s t.kind t.start r) (d : ℕ) where
-  pub At-opens : d + own_height s + room r ≤ 200 → At ts s d us r 0
-  At-opens w = record { comes = λ K. rw e (run-opens 200 t us s r d K o w) }
+-- a production that begins with the first token
+pub At-opens : {ts us : List Token} {t : Token} {s : Phrase} {r : Rest} (e : ts ≡ t ∷ us) → Opens s (first_kind ts) t.start r → (d : ℕ) →
+    d + own_height s + room r ≤ 200 → At ts s d us r 0
+At-opens {us = us} {t = t} {s = s} {r = r} e o d w =
+    let i : Opens s t.kind t.start r = subst (λ xs. Opens s (first_kind xs) t.start r) e o in
+    record { comes = λ K. rw e (run-opens 200 t us s r d K i w) }
 
-  pub Fails-deep : (x : TreeError) → x ≡ TooDeep (first_start ts) → 200 < d + own_height s + room r → Fails ts s d x
-  Fails-deep x j w = record { fails = λ K. rw (j, e) (run-opens-deep 200 t us s r d K o w) }
+-- a production that takes too much nesting
+pub Fails-deep : {ts : List Token} {s : Phrase} {r : Rest} → EndsOnce ts → Opens s (first_kind ts) (first_start ts) r → (d : ℕ) (x : TreeError) →
+    x ≡ TooDeep (first_start ts) → 200 < d + own_height s + room r → Fails ts s d x
+Fails-deep {ts = []} w o d x j i = absurd w
+Fails-deep {ts = t ∷ us} {s = s} {r = r} w o d x j i = record { fails = λ K. rw j (run-opens-deep 200 t us s r d K o i) }
 
 module _ {ts us : List Token} {s : Phrase} {d h : ℕ} where
   pub At-word : {w : Word} {r : Rest} {vs : List Token} → At ts s d us (word w r) h → Takes (word w) us vs → At ts s d vs r h
@@ -88,12 +97,12 @@ module _ {ts us : List Token} {s : Phrase} {d h : ℕ} where
         EndsBy-at x (p.comes K ∙ run-part 200 us i f h (d + own_height s) (own_height s) K) (q.fails (Inside f h (d + own_height s) (own_height s) ∷ K));
   }
 
-  pub At-enclosed : {w : Symbol} {f : Tree → Rest} {vs : List Token} {a : Tree} {m : ℕ} →
-      At ts s d us (part expression (λ e. sign w (f e))) h → Encloses us (d + own_height s) w vs a m → At ts s d vs (f a) (max h m)
+  pub At-enclosed : {w : Word} {f : Tree → Rest} {vs : List Token} {a : Tree} {m : ℕ} →
+      At ts s d us (enclosed w f) h → Encloses us (d + own_height s) w vs a m → At ts s d vs (f a) (max h m)
   At-enclosed {f = f} p q = record { comes = λ K. p.comes K ∙ q.comes f h (own_height s) K }
 
-  pub Fails-enclosed : {w : Symbol} {f : Tree → Rest} {x : TreeError} →
-      At ts s d us (part expression (λ e. sign w (f e))) h → Exposes us (d + own_height s) w x → Fails ts s d x
+  pub Fails-enclosed : {w : Word} {f : Tree → Rest} {x : TreeError} →
+      At ts s d us (enclosed w f) h → Exposes us (d + own_height s) w x → Fails ts s d x
   Fails-enclosed {f = f} {x = x} p q = record { fails = λ K. EndsBy-at x (p.comes K) (q.fails f h (own_height s) K) }
 
   pub Leads-done : {e : Tree} → At ts s d us (done e) h → Leads ts s d us e (h + own_height s)
@@ -115,10 +124,10 @@ unopened LeftBrace p f g h = absurd (h refl)
 unopened _ p f g h = refl
 
 -- the productions, at a token of the kind
-pub opens_negated : {k : TokenKind} {p : ℕ} → k ≡ Sign Minus → Opens Unary k p (part Unary (λ e. done (unary unary_op.Neg e p)))
-opens_negated q = rw q negated
+pub opens_negated : {k : TokenKind} → k ≡ Sign Minus → IsPrefix level.Product unary_op.Neg k
+opens_negated q = rw q (λ p. negated)
 
-pub opens_parens : {k : TokenKind} {p : ℕ} → k ≡ Sign LeftParen → Opens Unary k p (part expression (λ e. sign RightParen (done e)))
+pub opens_parens : {k : TokenKind} {p : ℕ} → k ≡ Sign LeftParen → Opens Unary k p (enclosed (the.Sign RightParen) (λ e. done e))
 opens_parens q = rw q parens
 
 pub opens_number : {k : TokenKind} {p : ℕ} (v : ℤ) → k ≡ Number v → Opens Unary k p (done (literal (constant.Int v) p))
@@ -127,8 +136,11 @@ opens_number v q = rw q number
 pub opens_name : {k : TokenKind} {p : ℕ} (x : List ℕ) → k ≡ Name x → Opens Unary k p (done (tree.name x p))
 opens_name x q = rw q by_name
 
-pub opens_denied : {k : TokenKind} {p : ℕ} → k ≡ Key Not → Opens Negation k p (part Negation (λ e. done (unary unary_op.Not e p)))
-opens_denied q = rw q denied
+pub opens_conditional : {k : TokenKind} {p : ℕ} → k ≡ Key If → Opens Expression k p (conditional_of p)
+opens_conditional q = rw q by_conditional
+
+pub opens_denied : {k : TokenKind} → k ≡ Key Not → IsPrefix level.And unary_op.Not k
+opens_denied q = rw q (λ p. denied)
 
 pub opens_truth : {k : TokenKind} {p : ℕ} (v : Bool) → truth_in k ≡ Some v → Opens Unary k p (done (literal (constant.Bool v) p))
 opens_truth {k = Key True} v q = let i : true ≡ v = cc in rw (← i) by_true
@@ -144,27 +156,70 @@ untrue _ p q = refl
 pub opens_definition : {k : TokenKind} {p : ℕ} → k ≡ Key Def → Opens Definition k p (name definition_of)
 opens_definition q = rw q definition
 
--- An expression and the sign behind it.
-module _ {ts us : List Token} {d : ℕ} {w : Symbol} where
-  pub Encloses-done : {vs : List Token} {e : Tree} {h : ℕ} → Leads ts expression d us e h → Takes (sign w) us vs → Encloses ts d w vs e h
+-- A prefix operator and its operand, at each level.
+pub IsPrefix-begins : {k : TokenKind} (o : UnaryOp) (l : Level) → IsPrefix l o k → k ≡ End → ⊥
+IsPrefix-begins {k = End} o level.Or f q = elim (f 0) [ ]
+IsPrefix-begins {k = End} o level.And f q = elim (f 0) [ ]
+IsPrefix-begins {k = End} o level.Comparison f q = elim (f 0) [ ]
+IsPrefix-begins {k = End} o level.Sum f q = elim (f 0) [ ]
+IsPrefix-begins {k = End} o level.Product f q = elim (f 0) [ ]
+IsPrefix-begins {k = _} o l f q = cc
+
+module _ {ts : List Token} (o : UnaryOp) (d : ℕ) where
+  pub Prefix-deep : (l : Level) → EndsOnce ts → IsPrefix l o (first_kind ts) →
+      (x : TreeError) → x ≡ TooDeep (first_start ts) → 200 < d + 1 + 1 → Fails ts (operand l) d x
+  Prefix-deep level.Or w f x j h = Fails-deep w (f (first_start ts)) d x j h
+  Prefix-deep level.And w f x j h = Fails-deep w (f (first_start ts)) d x j h
+  Prefix-deep level.Comparison w f x j h = Fails-deep w (f (first_start ts)) d x j h
+  Prefix-deep level.Sum w f x j h = Fails-deep w (f (first_start ts)) d x j h
+  Prefix-deep level.Product w f x j h = Fails-deep w (f (first_start ts)) d x j h
+
+  module _ {us : List Token} {t : Token} (e : ts ≡ t ∷ us) where
+    pub Prefix-fails : (l : Level) → IsPrefix l o (first_kind ts) →
+        {x : TreeError} → d + 1 + 1 ≤ 200 → Fails us (operand l) (d + 1) x → Fails ts (operand l) d x
+    Prefix-fails level.Or f w q = Fails-part (At-opens e (f t.start) d w) q
+    Prefix-fails level.And f w q = Fails-part (At-opens e (f t.start) d w) q
+    Prefix-fails level.Comparison f w q = Fails-part (At-opens e (f t.start) d w) q
+    Prefix-fails level.Sum f w q = Fails-part (At-opens e (f t.start) d w) q
+    Prefix-fails level.Product f w q = Fails-part (At-opens e (f t.start) d w) q
+
+    pub Prefix-leads : (l : Level) → IsPrefix l o (first_kind ts) → {vs : List Token} {a g : Tree} {m h : ℕ} → d + 1 + 1 ≤ 200 →
+        Leads us (operand l) (d + 1) vs a m → g ≡ unary o a t.start → h ≡ m + 1 → Leads ts (operand l) d vs g h
+    Prefix-leads level.Or f w q i j = Leads-at i (omega arith) (Leads-done (At-part (At-opens e (f t.start) d w) q))
+    Prefix-leads level.And f w q i j = Leads-at i (omega arith) (Leads-done (At-part (At-opens e (f t.start) d w) q))
+    Prefix-leads level.Comparison f w q i j = Leads-at i (omega arith) (Leads-done (At-part (At-opens e (f t.start) d w) q))
+    Prefix-leads level.Sum f w q i j = Leads-at i (omega arith) (Leads-done (At-part (At-opens e (f t.start) d w) q))
+    Prefix-leads level.Product f w q i j = Leads-at i (omega arith) (Leads-done (At-part (At-opens e (f t.start) d w) q))
+
+-- productions that begin with a word or a sign
+module _ {ts us : List Token} {t : Token} {d : ℕ} (e : ts ≡ t ∷ us) where
+  pub At-conditional : first_kind ts ≡ Key If → d + 1 + 1 ≤ 200 → At ts Expression d us (conditional_of t.start) 0
+  At-conditional q w = At-opens e (opens_conditional q) d w
+
+  pub At-parens : first_kind ts ≡ Sign LeftParen → d + 1 + 1 ≤ 200 → At ts Unary d us (enclosed (the.Sign RightParen) (λ a. done a)) 0
+  At-parens q w = At-opens e (opens_parens q) d w
+
+-- An expression and the word behind it.
+module _ {ts us : List Token} {d : ℕ} {w : Word} where
+  pub Encloses-done : {vs : List Token} {e : Tree} {h : ℕ} → Leads ts Expression d us e h → Takes (word w) us vs → Encloses ts d w vs e h
   Encloses-done {e = e} {h = h} p q = record {
     comes = λ f m c K.
-        run-part 200 ts expression (λ a. sign w (f a)) m d c K ∙ p.comes (Inside (λ a. sign w (f a)) m d c ∷ K)
-        ∙ run-inside 200 us e h (λ a. sign w (f a)) m d c K ∙ q.comes (f e) (max m h) d c K;
+        run-part 200 ts Expression (λ a. word w (f a)) m d c K ∙ p.comes (Inside (λ a. word w (f a)) m d c ∷ K)
+        ∙ run-inside 200 us e h (λ a. word w (f a)) m d c K ∙ q.comes (f e) (max m h) d c K;
   }
 
-  pub Exposes-sign : {e : Tree} {h : ℕ} {x : TreeError} → Leads ts expression d us e h → Misses (sign w) us x → Exposes ts d w x
-  Exposes-sign {e = e} {h = h} {x = x} p q = record {
+  pub Exposes-word : {e : Tree} {h : ℕ} {x : TreeError} → Leads ts Expression d us e h → Misses (word w) us x → Exposes ts d w x
+  Exposes-word {e = e} {h = h} {x = x} p q = record {
     fails = λ f m c K.
         EndsBy-at x
-        (run-part 200 ts expression (λ a. sign w (f a)) m d c K ∙ p.comes (Inside (λ a. sign w (f a)) m d c ∷ K)
-        ∙ run-inside 200 us e h (λ a. sign w (f a)) m d c K)
+        (run-part 200 ts Expression (λ a. word w (f a)) m d c K ∙ p.comes (Inside (λ a. word w (f a)) m d c ∷ K)
+        ∙ run-inside 200 us e h (λ a. word w (f a)) m d c K)
         (q.fails (f e) (max m h) d c K);
   }
 
-pub Exposes-part : (w : Symbol) {ts : List Token} {d : ℕ} {x : TreeError} → Fails ts expression d x → Exposes ts d w x
+pub Exposes-part : (w : Word) {ts : List Token} {d : ℕ} {x : TreeError} → Fails ts Expression d x → Exposes ts d w x
 Exposes-part w {ts = ts} {d = d} {x = x} q = record {
-  fails = λ f m c K. EndsBy-at x (run-part 200 ts expression (λ a. sign w (f a)) m d c K) (q.fails (Inside (λ a. sign w (f a)) m d c ∷ K));
+  fails = λ f m c K. EndsBy-at x (run-part 200 ts Expression (λ a. word w (f a)) m d c K) (q.fails (Inside (λ a. word w (f a)) m d c ∷ K));
 }
 
 -- Levels: the first operand has come, and the level is open.
@@ -180,8 +235,20 @@ pub IsRead-then : {ts us vs : List Token} {d m n : ℕ} → IsRead ts us d m →
 IsRead-then p q = record { behind = record { ends = q.behind.ends; shorter = omega (arith, p.behind.shorter, q.behind.shorter) }; some = q.some; fits = q.fits }
 
 module _ {l : Level} {d : ℕ} {ts us : List Token} where
-  pub Level-grows : {vs : List Token} {a e : Tree} {m h : ℕ} → Begun ts l d us a m → Grows us l d a m vs e h → Begun ts l d vs e h
-  Level-grows p q = record { comes = λ K. p.comes K ∙ q.comes K }
+  -- a level that may go on is open again, and another is there
+  pub Level-grows : {vs : List Token} {a e : Tree} {m h : ℕ} → Begun ts l d us a m → Grows us l d a m vs e h → (l ≡ level.Comparison → ⊥) → Begun ts l d vs e h
+  Level-grows {vs = vs} {e = e} {h = h} p q f = record { comes = λ K. p.comes K ∙ q.comes K ∙ ap (λ S. run 200 vs (Have e h S)) (is_open l d K f) }
+    where
+      is_open : (l : Level) (d : ℕ) (K : List Frame) → (l ≡ level.Comparison → ⊥) → again l d K ≡ Left l d ∷ K
+      is_open level.Or d K f = refl
+      is_open level.And d K f = refl
+      is_open level.Comparison d K f = absurd (f refl)
+      is_open level.Sum d K f = refl
+      is_open level.Product d K f = refl
+
+  pub Level-grown : {vs : List Token} {a e : Tree} {m h : ℕ} → Begun ts l d us a m → Grows us l d a m vs e h →
+      l ≡ level.Comparison → Leads ts (Grouped l) d vs e h
+  Level-grown {vs = vs} {e = e} {h = h} p q i = record { comes = λ K. p.comes K ∙ q.comes K ∙ ap (λ l. run 200 vs (Have e h (again l d K))) i }
 
   pub Level-stunts : {a : Tree} {m : ℕ} {x : TreeError} → Begun ts l d us a m → Stunts us l d a m x → Fails ts (Grouped l) d x
   Level-stunts {x = x} p q = record { fails = λ K. EndsBy-at x (p.comes K) (q.fails K) }
@@ -195,6 +262,17 @@ module _ {l : Level} {d : ℕ} {ts us : List Token} where
 pub Level-fails : (l : Level) {d : ℕ} {ts : List Token} {x : TreeError} → Fails ts (operand l) d x → Fails ts (Grouped l) d x
 Level-fails l {d = d} {ts = ts} {x = x} q = record { fails = λ K. EndsBy-at x (run-level 200 ts l d K) (q.fails (Left l d ∷ K)) }
 
+-- an operator that takes too much nesting
+pub Right-deep : {ts : List Token} → EndsOnce ts → (l : Level) (o : BinaryOp) → operator_of l (first_kind ts) ≡ Some o →
+    (d : ℕ) (a : Tree) (m : ℕ) (x : TreeError) →
+    x ≡ TooDeep (first_start ts) → 200 < d + m + 1 → Stunts ts l d a m x
+Right-deep {ts = []} w l o i d a m x j h = absurd w
+Right-deep {ts = t ∷ us} w l o i d a m x j h = record {
+  fails = λ K.
+      let move : Move = record { need = d + m + 1; next = Want (operand l) (d + 1) (Right l o a m t.start d ∷ K) } in
+      rw j (run-deep 200 t us (Have a m (Left l d ∷ K)) move (rw i refl) h);
+}
+
 -- an operator and its right operand
 module _ {ts us : List Token} {t : Token} (e : ts ≡ t ∷ us) (l : Level) (o : BinaryOp) (i : operator_of l (first_kind ts) ≡ Some o) (d : ℕ) (a : Tree) (m : ℕ) where
   operator_is : operator_of l t.kind ≡ Some o
@@ -203,67 +281,43 @@ module _ {ts us : List Token} {t : Token} (e : ts ≡ t ∷ us) (l : Level) (o :
   right_wanted : d + m + 1 ≤ 200 → (K : List Frame) → run 200 ts (Have a m (Left l d ∷ K)) ≡ run 200 us (Want (operand l) (d + 1) (Right l o a m t.start d ∷ K))
   right_wanted w K = rw e (run-operator 200 t us l o a m d K operator_is w)
 
-  pub Right-deep : (x : TreeError) → x ≡ TooDeep (first_start ts) → 200 < d + m + 1 → Stunts ts l d a m x
-  Right-deep x j w = record { fails = λ K. let q = operator_is in rw (j, e) (run-deep 200 t us (Have a m (Left l d ∷ K)) (record { need = d + m + 1; next = Want (operand l) (d + 1) (Right l o a m t.start d ∷ K) }) (rw q refl) w) }
-
   pub Right-fails : {x : TreeError} → d + m + 1 ≤ 200 → Fails us (operand l) (d + 1) x → Stunts ts l d a m x
   Right-fails {x = x} w f = record { fails = λ K. EndsBy-at x (right_wanted w K) (f.fails (Right l o a m t.start d ∷ K)) }
 
   pub Right-grows : {vs : List Token} {b f : Tree} {k h : ℕ} → d + m + 1 ≤ 200 → Leads us (operand l) (d + 1) vs b k → f ≡ binary o a b t.start → h ≡ max m k + 1 → Grows ts l d a m vs f h
   Right-grows {vs = vs} {b = b} {k = k} w q u v = record { comes = λ K. rw (u, v) (right_wanted w K ∙ q.comes (Right l o a m t.start d ∷ K) ∙ run-right 200 vs b k l o a m t.start d K) }
 
--- Comparisons: the first sum has come.
-pub Compare-fails : {d : ℕ} {ts : List Token} {x : TreeError} → Fails ts (Grouped level.Sum) d x → Fails ts Comparison d x
-Compare-fails {d = d} {ts = ts} {x = x} q = record { fails = λ K. EndsBy-at x (run-compare 200 ts d K) (q.fails (Compare d ∷ K)) }
+-- Without `if` operands of `or` are read, and without `not` a comparison is.
+no_if : (ts : List Token) → (first_kind ts ≡ Key If → ⊥) → Unopened Expression ts
+no_if [] f = tt
+no_if (t ∷ ts) f = unopened t.kind t.start f
+  where
+    unopened : (k : TokenKind) (p : ℕ) → (k ≡ Key If → ⊥) → opening Expression k p ≡ None
+    unopened (Key If) p g = absurd (g refl)
+    unopened _ p g = refl
 
-first-no_comparison : (vs : List Token) → comparison_of (first_kind vs) ≡ None → First (λ k. comparison_of k ≡ None) vs
-first-no_comparison [] q = tt
-first-no_comparison (t ∷ vs) q = q
+no_not : (ts : List Token) → (first_kind ts ≡ Key Not → ⊥) → Unopened Negation ts
+no_not [] f = tt
+no_not (t ∷ ts) f = unopened t.kind t.start f
+  where
+    unopened : (k : TokenKind) (p : ℕ) → (k ≡ Key Not → ⊥) → opening Negation k p ≡ None
+    unopened (Key Not) p g = absurd (g refl)
+    unopened _ p g = refl
 
-module _ {ts us : List Token} {d m : ℕ} {a : Tree} (f : Leads ts (Grouped level.Sum) d us a m) where
-  compare_comes : (K : List Frame) → run 200 ts (Want Comparison d K) ≡ run 200 us (Have a m (Compare d ∷ K))
-  compare_comes K = run-compare 200 ts d K ∙ f.comes (Compare d ∷ K)
+module _ {ts : List Token} {d : ℕ} where
+  pub Expression-leads : {vs : List Token} {a : Tree} {h : ℕ} → (first_kind ts ≡ Key If → ⊥) →
+      Leads ts (Grouped level.Or) d vs a h → Leads ts Expression d vs a h
+  Expression-leads f q = record { comes = λ K. run-unconditional 200 ts d K (no_if ts f) ∙ q.comes K }
 
-  pub Compare-alone : comparison_of (first_kind us) ≡ None → Leads ts Comparison d us a m
-  Compare-alone q = record { comes = λ K. compare_comes K ∙ run-alone 200 us a m d K (first-no_comparison us q) }
+  pub Expression-fails : {x : TreeError} → (first_kind ts ≡ Key If → ⊥) → Fails ts (Grouped level.Or) d x → Fails ts Expression d x
+  Expression-fails {x = x} f q = record { fails = λ K. EndsBy-at x (run-unconditional 200 ts d K (no_if ts f)) (q.fails K) }
 
-  -- its operator and the second sum
-  module _ {vs : List Token} {t : Token} (e : us ≡ t ∷ vs) (o : BinaryOp) (i : comparison_of (first_kind us) ≡ Some o) where
-    comparison_is : comparison_of t.kind ≡ Some o
-    comparison_is = ap (λ xs. comparison_of (first_kind xs)) (sym e) ∙ i
+  pub Negation-leads : {vs : List Token} {a : Tree} {h : ℕ} → (first_kind ts ≡ Key Not → ⊥) →
+      Leads ts (Grouped level.Comparison) d vs a h → Leads ts Negation d vs a h
+  Negation-leads f q = record { comes = λ K. run-plain 200 ts d K (no_not ts f) ∙ q.comes K }
 
-    second_wanted : d + m + 1 ≤ 200 → (K : List Frame) → run 200 us (Have a m (Compare d ∷ K)) ≡ run 200 vs (Want (Grouped level.Sum) (d + 1) (Against o a m t.start d ∷ K))
-    second_wanted w K = rw e (run-matches 200 t vs o a m d K comparison_is w)
-
-    pub Second-deep : (x : TreeError) → x ≡ TooDeep (first_start us) → 200 < d + m + 1 → Fails ts Comparison d x
-    Second-deep x j w = record {
-      fails = λ K.
-          let q = comparison_is in
-          EndsBy-at x (compare_comes K) (rw (j, e) (run-deep 200 t vs (Have a m (Compare d ∷ K)) (record { need = d + m + 1; next = Want (Grouped level.Sum) (d + 1) (Against o a m t.start d ∷ K) }) (rw q refl) w));
-    }
-
-    pub Second-fails : {x : TreeError} → d + m + 1 ≤ 200 → Fails vs (Grouped level.Sum) (d + 1) x → Fails ts Comparison d x
-    Second-fails {x = x} w g = record { fails = λ K. EndsBy-at x (compare_comes K ∙ second_wanted w K) (g.fails (Against o a m t.start d ∷ K)) }
-
-    pub Second-leads : {ws : List Token} {b g : Tree} {k h : ℕ} → d + m + 1 ≤ 200 → Leads vs (Grouped level.Sum) (d + 1) ws b k → g ≡ binary o a b t.start → h ≡ max m k + 1 → Leads ts Comparison d ws g h
-    Second-leads {ws = ws} {b = b} {k = k} w q u v = record {
-      comes = λ K. rw (u, v) (compare_comes K ∙ second_wanted w K ∙ q.comes (Against o a m t.start d ∷ K) ∙ run-against 200 ws b k o a m t.start d K);
-    }
-
--- Negations: without `not` a comparison is read.
-not_denied : (k : TokenKind) (p : ℕ) → (k ≡ Key Not → ⊥) → opening Negation k p ≡ None
-not_denied (Key Not) p f = absurd (f refl)
-not_denied _ p f = refl
-
-module _ {ts us : List Token} {t : Token} (e : ts ≡ t ∷ us) (f : t.kind ≡ Key Not → ⊥) where
-  plain_first : Plain ts
-  plain_first = rw e (not_denied t.kind t.start f)
-
-  pub Negation-leads : {d h : ℕ} {vs : List Token} {a : Tree} → Leads ts Comparison d vs a h → Leads ts Negation d vs a h
-  Negation-leads {d = d} q = record { comes = λ K. run-plain 200 ts d K plain_first ∙ q.comes K }
-
-  pub Negation-fails : {d : ℕ} {x : TreeError} → Fails ts Comparison d x → Fails ts Negation d x
-  Negation-fails {d = d} {x = x} q = record { fails = λ K. EndsBy-at x (run-plain 200 ts d K plain_first) (q.fails K) }
+  pub Negation-fails : {x : TreeError} → (first_kind ts ≡ Key Not → ⊥) → Fails ts (Grouped level.Comparison) d x → Fails ts Negation d x
+  Negation-fails {x = x} f q = record { fails = λ K. EndsBy-at x (run-plain 200 ts d K (no_not ts f)) (q.fails K) }
 
 -- behind a program, only the end
 ends-end : (k : TokenKind) (e : Tree) → k ≡ End → ends k e ≡ Some (record { need = 0; next = Finished e })

@@ -9,7 +9,7 @@ use Rattle.id_tree.specs.Readers.{EndsBy}
 use Rattle.id_tree.specs.Grammar.{Phrase, Rest, done, word, name, of_kind, part, own_height, Program}
 use Rattle.id_tree.specs.Accepted.{Accepts, GoesOn, GoesOnDeeper, StopsAt, RefusedBy, IsMemory}
 use Rattle.id_tree.specs.Machine.{Move, pick, takes, Frame, State, Begin, Want, Have, Next, Finished, Accepted, Refused, run}
-use Rattle.id_tree.specs.Standing.{Around, outermost, left, right, plainly, compare, against, inside, Stands, begun, wanting, having, within, finished, Roomy}
+use Rattle.id_tree.specs.Standing.{Around, outermost, unconditionally, left, right, plainly, inside, Stands, begun, wanting, having, within, finished, Roomy}
 use Rattle.id_tree.proofs.RunLemmas.{run-step, run-none, run-deep}
 use Rattle.id_tree.proofs.CompleteLemmas.{run-program}
 use Rattle.id_tree.proofs.SoundLemmas.{Moves, Moves-takes}
@@ -101,9 +101,8 @@ Around-wider : {n : ℕ} {s : Phrase} {d : ℕ} {K : List Frame} {us : List Toke
 Around-wider outermost m w = outermost
 Around-wider (left a) m w = left (Around-wider a m w)
 Around-wider (right a y t q fit) m w = right (Around-wider a m w) y t q (omega arith)
+Around-wider (unconditionally a) m w = unconditionally (Around-wider a m w)
 Around-wider (plainly a) m w = plainly (Around-wider a m w)
-Around-wider (compare a) m w = compare (Around-wider a m w)
-Around-wider (against a y t q fit) m w = against (Around-wider a m w) y t q (omega arith)
 Around-wider {n = n} (inside {s = s} {f = f} {d = d} a b fit roomy) m w = inside (Around-wider a m w) b (omega arith) (λ e. Roomy-wider n m (d + own_height s) (f e) w (roomy e))
 
 -- what stands within n stands within more

@@ -5,12 +5,12 @@ use Rattle.id_text.specs.declared.token.TokenKind.{TokenKind}
 use Rattle.id_text.specs.declared.token.TokenKind.TheVariants.{Key, Sign}
 use Rattle.id_text.specs.declared.token.Keyword.TheVariants.{And, Or}
 use Rattle.id_text.specs.declared.token.Symbol.TheVariants.{Equal, NotEqual, Less, LessEqual, Greater, GreaterEqual, Plus, Minus}
-use Rattle.id_tree.specs.declared.tree.BinaryOp.{BinaryOp}
-use Rattle.id_tree.specs.declared.tree.Kind.{Kind}
+use Rattle.id_value.specs.declared.BinaryOp.{BinaryOp}
+use Rattle.id_value.specs.declared.Kind.{Kind}
 use Rattle.id_tree.specs.declared.parser.Level.{Level}
 use Rattle.id_tree.specs.declared.parser.Level.TheVariants as level
 use Rattle.id_tree.specs.Tree.{Tree}
-use Rattle.id_tree.specs.Grammar.{Phrase, Definition, Parameters, MoreParameters, Grouped, Negation, Comparison, Unary, Tail, kind_of, Rest, done, word, name, of_kind, part, Opens, definition, no_parameters, first_parameter, last_parameter, next_parameter, denied, negated, number, by_true, by_false, parens, by_name, by_block, by_binding, by_body, operand, operator_of, comparison_of, own_height, Derives, opened, single, grouped, plain, alone, compared, Follows, ended, taken, named, kinded, given}
+use Rattle.id_tree.specs.Grammar.{Phrase, Definition, Parameters, MoreParameters, Expression, Grouped, Negation, Unary, Tail, kind_of, Rest, done, word, name, of_kind, part, Opens, definition, no_parameters, first_parameter, last_parameter, next_parameter, by_conditional, denied, negated, number, by_true, by_false, parens, by_name, by_block, by_binding, by_body, operand, left_operand, operator_of, own_height, Derives, opened, unconditional, single, grouped, plain, Follows, ended, taken, named, kinded, given}
 use Rattle.id_tree.specs.Machine.{opening, least_height, room}
 use Rattle.id_tree.specs.Standing.{Roomy}
 
@@ -20,23 +20,28 @@ QuietSum k = (operator_of level.Sum k ≡ None) × (operator_of level.Product k 
 
 -- nor of a comparison
 abbrev pub QuietComparison : TokenKind → Type 0
-QuietComparison k = (comparison_of k ≡ None) × QuietSum k
+QuietComparison k = (operator_of level.Comparison k ≡ None) × QuietSum k
 
 -- nor `and`
 abbrev pub QuietAnd : TokenKind → Type 0
 QuietAnd k = (operator_of level.And k ≡ None) × QuietComparison k
+
+-- nor `or`
+abbrev pub QuietOr : TokenKind → Type 0
+QuietOr k = (operator_of level.Or k ≡ None) × QuietAnd k
 
 -- a kind is no operator within the phrase
 abbrev pub Quiet : Phrase → TokenKind → Type 0
 Quiet Definition k = Unit {0}
 Quiet Parameters k = Unit {0}
 Quiet MoreParameters k = Unit {0}
-Quiet (Grouped level.Or) k = (operator_of level.Or k ≡ None) × QuietAnd k
+Quiet Expression k = QuietOr k
+Quiet (Grouped level.Or) k = QuietOr k
 Quiet (Grouped level.And) k = QuietAnd k
+Quiet (Grouped level.Comparison) k = QuietComparison k
 Quiet (Grouped level.Sum) k = QuietSum k
 Quiet (Grouped level.Product) k = operator_of level.Product k ≡ None
 Quiet Negation k = QuietComparison k
-Quiet Comparison k = QuietComparison k
 Quiet Unary k = Unit {0}
 Quiet Tail k = Unit {0}
 
@@ -103,6 +108,12 @@ valid next_parameter = record {
   needs = λ x p k. (0, omega arith, λ a. omega arith);
   roomy = λ n d h x p k. (h, λ a. tt);
 }
+valid by_conditional = record {
+  parts = λ t. ((refl, (refl, (refl, (refl, refl)))), λ x. ((refl, (refl, (refl, (refl, refl)))), λ y. (λ k q. q, tt)));
+  high = omega arith;
+  needs = (0, omega arith, λ t. (0, omega arith, λ x. (0, omega arith, λ y. omega arith)));
+  roomy = λ n d h. (h, λ t. (h, λ x. (h, λ y. tt)));
+}
 valid denied = record {
   parts = λ e. (λ k q. q, tt);
   high = omega arith;
@@ -151,6 +162,7 @@ opening-from_opens no_parameters = refl
 opening-from_opens first_parameter = refl
 opening-from_opens last_parameter = refl
 opening-from_opens next_parameter = refl
+opening-from_opens by_conditional = refl
 opening-from_opens denied = refl
 opening-from_opens negated = refl
 opening-from_opens number = refl
@@ -168,36 +180,41 @@ Quiet-operator level.Product k o e = tt
 Quiet-operator level.Sum (Sign Plus) o e = refl
 Quiet-operator level.Sum (Sign Minus) o e = refl
 Quiet-operator level.Sum _ o e = cc
+Quiet-operator level.Comparison (Sign Equal) o e = (refl, refl)
+Quiet-operator level.Comparison (Sign NotEqual) o e = (refl, refl)
+Quiet-operator level.Comparison (Sign Less) o e = (refl, refl)
+Quiet-operator level.Comparison (Sign LessEqual) o e = (refl, refl)
+Quiet-operator level.Comparison (Sign Greater) o e = (refl, refl)
+Quiet-operator level.Comparison (Sign GreaterEqual) o e = (refl, refl)
+Quiet-operator level.Comparison _ o e = cc
 Quiet-operator level.And (Key And) o e = (refl, (refl, refl))
 Quiet-operator level.And _ o e = cc
 Quiet-operator level.Or (Key Or) o e = (refl, (refl, (refl, refl)))
 Quiet-operator level.Or _ o e = cc
-
--- a comparison is no operator of a sum, nor of a tighter level
-pub Quiet-comparison : (k : TokenKind) (o : BinaryOp) → comparison_of k ≡ Some o → QuietSum k
-Quiet-comparison (Sign Equal) o e = (refl, refl)
-Quiet-comparison (Sign NotEqual) o e = (refl, refl)
-Quiet-comparison (Sign Less) o e = (refl, refl)
-Quiet-comparison (Sign LessEqual) o e = (refl, refl)
-Quiet-comparison (Sign Greater) o e = (refl, refl)
-Quiet-comparison (Sign GreaterEqual) o e = (refl, refl)
-Quiet-comparison _ o e = cc
 
 -- no phrase has a least height above 1
 pub least-most : (s : Phrase) → least_height s ≤ 1
 least-most Definition = omega arith
 least-most Parameters = omega arith
 least-most MoreParameters = omega arith
+least-most Expression = omega arith
 least-most (Grouped l) = omega arith
 least-most Negation = omega arith
-least-most Comparison = omega arith
 least-most Unary = omega arith
 least-most Tail = omega arith
 
--- the operands of a level have a height
+-- what stands before an operator of a level has a height, and so have its operands
+pub left_operand-least : (l : Level) → 1 ≤ least_height (left_operand l)
+left_operand-least level.Or = omega arith
+left_operand-least level.And = omega arith
+left_operand-least level.Comparison = omega arith
+left_operand-least level.Sum = omega arith
+left_operand-least level.Product = omega arith
+
 pub operand-least : (l : Level) → 1 ≤ least_height (operand l)
 operand-least level.Or = omega arith
 operand-least level.And = omega arith
+operand-least level.Comparison = omega arith
 operand-least level.Sum = omega arith
 operand-least level.Product = omega arith
 
@@ -205,11 +222,10 @@ mutual
   -- each phrase has its least height
   pub Derives-height : {s : Phrase} {ts : List Token} {e : Tree} {h : ℕ} → Derives s ts e h → least_height s ≤ h
   Derives-height (opened {r = r} o f) = omega (arith, (valid o).high, Follows-height f (room r) (valid o).needs)
+  Derives-height (unconditional d) = Derives-height d
   Derives-height (single {l = l} d) = omega (arith, operand-least l, Derives-height d)
   Derives-height (grouped a t q b) = omega arith
   Derives-height (plain d) = Derives-height d
-  Derives-height (alone d) = Derives-height d
-  Derives-height (compared a t q b) = omega arith
 
   -- the parts have the height that they need
   pub Follows-height : {r : Rest} {ts : List Token} {e : Tree} {h : ℕ} → Follows r ts e h → (m : ℕ) → Needs m r → m ≤ h

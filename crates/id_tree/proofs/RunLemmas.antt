@@ -9,23 +9,25 @@ use Rattle.id_text.specs.declared.token.TokenKind.{TokenKind}
 use Rattle.id_text.specs.declared.token.TokenKind.TheVariants.{Name, Key, Sign}
 use Rattle.id_tree.specs.declared.parser.Level.{Level}
 use Rattle.id_tree.specs.declared.parser.Level.TheVariants as level
-use Rattle.id_tree.specs.declared.tree.Kind.{Kind}
-use Rattle.id_tree.specs.declared.tree.BinaryOp.{BinaryOp}
+use Rattle.id_tree.specs.declared.tokens.Word.{Word}
+use Rattle.id_tree.specs.declared.tokens.Word.TheVariants as the
+use Rattle.id_value.specs.declared.Kind.{Kind}
+use Rattle.id_value.specs.declared.BinaryOp.{BinaryOp}
 use Rattle.id_tree.specs.Tree.{Tree, binary}
-use Rattle.id_tree.specs.Grammar.{Phrase, Definition, Parameters, MoreParameters, Grouped, Negation, Comparison, Unary, Tail, Word, the_key, the_sign, kind_of, Rest, done, word, name, of_kind, part, kind_named, Opens, operand, operator_of, comparison_of, own_height}
-use Rattle.id_tree.specs.Machine.{opening, room, Frame, Left, Right, Compare, Against, Inside, State, Want, Have, Next, Move, is_word, takes, Refused, run}
+use Rattle.id_tree.specs.Grammar.{Phrase, Definition, Parameters, MoreParameters, Expression, Grouped, Negation, Unary, Tail, kind_of, Rest, done, word, name, of_kind, part, kind_named, Opens, operand, operator_of, own_height}
+use Rattle.id_tree.specs.Machine.{opening, room, Frame, Left, Right, Inside, again, State, Want, Have, Next, Move, is_word, takes, Refused, run}
 use Rattle.id_tree.proofs.RowLemmas.{opening-from_opens}
 
 -- the word test is true of the word alone
 pub is_word-same : (w : Word) (k : TokenKind) → k ≡ kind_of w → is_word w k ≡ true
-is_word-same (the_key j) k e = rw e (true_same keyword.the_type j j refl)
-is_word-same (the_sign j) k e = rw e (true_same symbol.the_type j j refl)
+is_word-same (the.Key j) k e = rw e (true_same keyword.the_type j j refl)
+is_word-same (the.Sign j) k e = rw e (true_same symbol.the_type j j refl)
 
 pub same-is_word : (w : Word) (k : TokenKind) → is_word w k ≡ true → k ≡ kind_of w
-same-is_word (the_key j) (Key k) e = ap Key (same_true keyword.the_type tt k j e)
-same-is_word (the_sign j) (Sign k) e = ap Sign (same_true symbol.the_type tt k j e)
-same-is_word (the_key j) _ e = cc
-same-is_word (the_sign j) _ e = cc
+same-is_word (the.Key j) (Key k) e = ap Key (same_true keyword.the_type tt k j e)
+same-is_word (the.Sign j) (Sign k) e = ap Sign (same_true symbol.the_type tt k j e)
+same-is_word (the.Key j) _ e = cc
+same-is_word (the.Sign j) _ e = cc
 
 module _ (n : ℕ) (t : Token) (ts : List Token) where
   -- a token that is taken
@@ -60,29 +62,26 @@ module _ (n : ℕ) (t : Token) (ts : List Token) where
   run-opens Definition r d K o h = run-step (Want Definition d K) _ (rw (opening-from_opens o) refl) h
   run-opens Parameters r d K o h = run-step (Want Parameters d K) _ (rw (opening-from_opens o) refl) h
   run-opens MoreParameters r d K o h = run-step (Want MoreParameters d K) _ (rw (opening-from_opens o) refl) h
+  run-opens Expression r d K o h = run-step (Want Expression d K) _ (rw (opening-from_opens o) refl) h
   run-opens Negation r d K o h = run-step (Want Negation d K) _ (rw (opening-from_opens o) refl) h
   run-opens Unary r d K o h = run-step (Want Unary d K) _ (rw (opening-from_opens o) refl) h
   run-opens Tail r d K o h = run-step (Want Tail d K) _ (rw (opening-from_opens o) refl) h
   run-opens (Grouped l) r d K o h = elim o [ ]
-  run-opens Comparison r d K o h = elim o [ ]
 
   pub run-opens-deep : (s : Phrase) (r : Rest) (d : ℕ) (K : List Frame) → Opens s t.kind t.start r → n < d + own_height s + room r → run n (t ∷ ts) (Want s d K) ≡ Refused true t.start
   run-opens-deep Definition r d K o h = run-deep (Want Definition d K) (record { need = d + 0 + room r; next = Next r 0 (d + 0) 0 K }) (rw (opening-from_opens o) refl) h
   run-opens-deep Parameters r d K o h = run-deep (Want Parameters d K) (record { need = d + 0 + room r; next = Next r 0 (d + 0) 0 K }) (rw (opening-from_opens o) refl) h
   run-opens-deep MoreParameters r d K o h = run-deep (Want MoreParameters d K) (record { need = d + 0 + room r; next = Next r 0 (d + 0) 0 K }) (rw (opening-from_opens o) refl) h
+  run-opens-deep Expression r d K o h =
+      run-deep (Want Expression d K) (record { need = d + 1 + room r; next = Next r 0 (d + 1) 1 K }) (rw (opening-from_opens o) refl) h
   run-opens-deep Negation r d K o h = run-deep (Want Negation d K) (record { need = d + 1 + room r; next = Next r 0 (d + 1) 1 K }) (rw (opening-from_opens o) refl) h
   run-opens-deep Unary r d K o h = run-deep (Want Unary d K) (record { need = d + 1 + room r; next = Next r 0 (d + 1) 1 K }) (rw (opening-from_opens o) refl) h
   run-opens-deep Tail r d K o h = run-deep (Want Tail d K) (record { need = d + 0 + room r; next = Next r 0 (d + 0) 0 K }) (rw (opening-from_opens o) refl) h
   run-opens-deep (Grouped l) r d K o h = elim o [ ]
-  run-opens-deep Comparison r d K o h = elim o [ ]
 
   -- an operator of a level
   pub run-operator : (l : Level) (o : BinaryOp) (a : Tree) (m d : ℕ) (K : List Frame) → operator_of l t.kind ≡ Some o → d + m + 1 ≤ n → run n (t ∷ ts) (Have a m (Left l d ∷ K)) ≡ run n ts (Want (operand l) (d + 1) (Right l o a m t.start d ∷ K))
   run-operator l o a m d K q h = run-step (Have a m (Left l d ∷ K)) (record { need = d + m + 1; next = Want (operand l) (d + 1) (Right l o a m t.start d ∷ K) }) (rw q refl) h
-
-  -- the operator of a comparison
-  pub run-matches : (o : BinaryOp) (a : Tree) (m d : ℕ) (K : List Frame) → comparison_of t.kind ≡ Some o → d + m + 1 ≤ n → run n (t ∷ ts) (Have a m (Compare d ∷ K)) ≡ run n ts (Want (Grouped level.Sum) (d + 1) (Against o a m t.start d ∷ K))
-  run-matches o a m d K q h = run-step (Have a m (Compare d ∷ K)) (record { need = d + m + 1; next = Want (Grouped level.Sum) (d + 1) (Against o a m t.start d ∷ K) }) (rw q refl) h
 
 -- What takes no token.
 pub run-done : (n : ℕ) (ts : List Token) (e : Tree) (h d c : ℕ) (K : List Frame) → run n ts (Next (done e) h d c K) ≡ run n ts (Have e (h + c) K)
@@ -100,36 +99,40 @@ unfolding run
 run-inside n [] e h f m d c K = refl
 run-inside n (t ∷ ts) e h f m d c K = refl
 
-pub run-right : (n : ℕ) (ts : List Token) (b : Tree) (k : ℕ) (l : Level) (o : BinaryOp) (a : Tree) (m p d : ℕ) (K : List Frame) → run n ts (Have b k (Right l o a m p d ∷ K)) ≡ run n ts (Have (binary o a b p) (max m k + 1) (Left l d ∷ K))
+pub run-right : (n : ℕ) (ts : List Token) (b : Tree) (k : ℕ) (l : Level) (o : BinaryOp) (a : Tree) (m p d : ℕ) (K : List Frame) →
+    run n ts (Have b k (Right l o a m p d ∷ K)) ≡ run n ts (Have (binary o a b p) (max m k + 1) (again l d K))
 unfolding run
 run-right n [] b k l o a m p d K = refl
-run-right n (t ∷ ts) b k l o a m p d K = refl
+run-right n (t ∷ ts) b k level.Or o a m p d K = refl
+run-right n (t ∷ ts) b k level.And o a m p d K = refl
+run-right n (t ∷ ts) b k level.Comparison o a m p d K = refl
+run-right n (t ∷ ts) b k level.Sum o a m p d K = refl
+run-right n (t ∷ ts) b k level.Product o a m p d K = refl
 
 pub run-level : (n : ℕ) (ts : List Token) (l : Level) (d : ℕ) (K : List Frame) → run n ts (Want (Grouped l) d K) ≡ run n ts (Want (operand l) d (Left l d ∷ K))
 unfolding run
 run-level n [] l d K = refl
 run-level n (t ∷ ts) level.Or d K = refl
 run-level n (t ∷ ts) level.And d K = refl
+run-level n (t ∷ ts) level.Comparison d K = refl
 run-level n (t ∷ ts) level.Sum d K = refl
 run-level n (t ∷ ts) level.Product d K = refl
 
-pub run-against : (n : ℕ) (ts : List Token) (b : Tree) (k : ℕ) (o : BinaryOp) (a : Tree) (m p d : ℕ) (K : List Frame) → run n ts (Have b k (Against o a m p d ∷ K)) ≡ run n ts (Have (binary o a b p) (max m k + 1) K)
-unfolding run
-run-against n [] b k o a m p d K = refl
-run-against n (t ∷ ts) b k o a m p d K = refl
+-- no production of the phrase begins the tokens
+abbrev pub Unopened : Phrase → List Token → Type 0
+Unopened s [] = Unit {0}
+Unopened s (t ∷ ts) = opening s t.kind t.start ≡ None
 
-pub run-compare : (n : ℕ) (ts : List Token) (d : ℕ) (K : List Frame) → run n ts (Want Comparison d K) ≡ run n ts (Want (Grouped level.Sum) d (Compare d ∷ K))
+-- without `if` operands of `or` are wanted
+pub run-unconditional : (n : ℕ) (ts : List Token) (d : ℕ) (K : List Frame) → Unopened Expression ts →
+    run n ts (Want Expression d K) ≡ run n ts (Want (Grouped level.Or) d K)
 unfolding run
-run-compare n [] d K = refl
-run-compare n (t ∷ ts) d K = refl
-
--- no `not` begins the tokens
-abbrev pub Plain : List Token → Type 0
-Plain [] = Unit {0}
-Plain (t ∷ ts) = opening Negation t.kind t.start ≡ None
+run-unconditional n [] d K q = refl
+run-unconditional n (t ∷ ts) d K q = rw q refl
 
 -- without `not` a comparison is wanted
-pub run-plain : (n : ℕ) (ts : List Token) (d : ℕ) (K : List Frame) → Plain ts → run n ts (Want Negation d K) ≡ run n ts (Want Comparison d K)
+pub run-plain : (n : ℕ) (ts : List Token) (d : ℕ) (K : List Frame) → Unopened Negation ts →
+    run n ts (Want Negation d K) ≡ run n ts (Want (Grouped level.Comparison) d K)
 unfolding run
 run-plain n [] d K q = refl
 run-plain n (t ∷ ts) d K q = rw q refl
@@ -144,9 +147,3 @@ pub run-left : (n : ℕ) (ts : List Token) (l : Level) (e : Tree) (h d : ℕ) (K
 unfolding run
 run-left n [] l e h d K q = refl
 run-left n (t ∷ ts) l e h d K q = rw q refl
-
--- a comparison ends where no operator of it stands
-pub run-alone : (n : ℕ) (ts : List Token) (e : Tree) (h d : ℕ) (K : List Frame) → First (λ k. comparison_of k ≡ None) ts → run n ts (Have e h (Compare d ∷ K)) ≡ run n ts (Have e h K)
-unfolding run
-run-alone n [] e h d K q = refl
-run-alone n (t ∷ ts) e h d K q = rw q refl

@@ -6,10 +6,10 @@ use Rattle.id_text.specs.declared.token.TokenKind.TheVariants.{Name, End}
 use Rattle.id_tree.specs.declared.parser.Level.{Level}
 use Rattle.id_tree.specs.declared.parser.Level.TheVariants as level
 use Rattle.id_tree.specs.Tree.{Tree, binary, none, more}
-use Rattle.id_tree.specs.Grammar.{Phrase, Definition, Parameters, MoreParameters, Grouped, Negation, Comparison, Unary, Tail, Rest, done, word, name, of_kind, part, kind_named, operand, operator_of, comparison_of, own_height, Derives, opened, single, grouped, plain, alone, compared, ended, taken, named, kinded, given, Program, empty, single_def}
-use Rattle.id_tree.specs.Machine.{opening, Move, pick, is_word, name_in, ends, enters, sums, negates, wants, operates, matches, nexts, closes, takes, Frame, Compare, State}
-use Rattle.id_tree.specs.Standing.{Begins, Roomy, Around, outermost, left, right, plainly, compare, against, inside, Stands, begun, wanting, having, within, finished}
-use Rattle.id_tree.proofs.RowLemmas.{valid, least-most, Derives-height}
+use Rattle.id_tree.specs.Grammar.{Phrase, Definition, Parameters, MoreParameters, Expression, Grouped, Negation, Unary, Tail, Rest, done, word, name, of_kind, part, kind_named, operand, left_operand, operator_of, own_height, Derives, opened, unconditional, single, grouped, plain, ended, taken, named, kinded, given, Program, empty, single_def}
+use Rattle.id_tree.specs.Machine.{opening, Move, pick, is_word, name_in, ends, enters, sums, negates, wants, operates, repeats, nexts, closes, takes, Frame, Left, State}
+use Rattle.id_tree.specs.Standing.{Begins, Roomy, Around, outermost, unconditionally, left, right, plainly, inside, Stands, begun, wanting, having, within, finished}
+use Rattle.id_tree.proofs.RowLemmas.{valid, least-most, left_operand-least, Derives-height}
 use Rattle.id_tree.proofs.RunLemmas.{same-is_word}
 
 -- a move within n leads on
@@ -45,6 +45,14 @@ name-from_in : (k : TokenKind) (x : List ℕ) → name_in k ≡ Some x → k ≡
 name-from_in (Name y) x q = cc
 name-from_in _ x q = cc
 
+-- an operand of a level may stand before an operator of it
+first_operand : (l : Level) {ts : List Token} {e : Tree} {h : ℕ} → Derives (operand l) ts e h → Derives (left_operand l) ts e h
+first_operand level.Or x = single x
+first_operand level.And x = single x
+first_operand level.Comparison x = x
+first_operand level.Sum x = single x
+first_operand level.Product x = single x
+
 module _ (n : ℕ) (t : Token) where
   -- a token begins a production, or else moves
   Moves-enters : {s : Phrase} {d : ℕ} {K : List Frame} {us : List Token} (other : Option Move) → Around n s d K us → Moves n (us ++ t ∷ []) other → Moves n (us ++ t ∷ []) (enters t s d K other)
@@ -55,7 +63,7 @@ module _ (n : ℕ) (t : Token) where
   Moves-sums a = Moves-enters None (left (left a)) tt
 
   Moves-negates : {d : ℕ} {K : List Frame} {us : List Token} → Around n Negation d K us → Moves n (us ++ t ∷ []) (negates t d K)
-  Moves-negates {d = d} {K = K} a = Moves-enters (sums t d (Compare d ∷ K)) a (Moves-sums (compare (plainly a)))
+  Moves-negates {d = d} {K = K} a = Moves-enters (sums t d (Left level.Comparison d ∷ K)) a (Moves-sums (left (plainly a)))
 
   Moves-wants : {s : Phrase} {d : ℕ} {K : List Frame} {us : List Token} → Around n s d K us → Moves n (us ++ t ∷ []) (wants t s d K)
   Moves-wants {s = Definition} a = Moves-enters None a tt
@@ -63,22 +71,30 @@ module _ (n : ℕ) (t : Token) where
   Moves-wants {s = MoreParameters} a = Moves-enters None a tt
   Moves-wants {s = Unary} a = Moves-enters None a tt
   Moves-wants {s = Tail} a = Moves-enters None a tt
+  Moves-wants {s = Expression} {d = d} {K = K} a =
+      Moves-enters (negates t d (Left level.And d ∷ Left level.Or d ∷ K)) a (Moves-negates (left (left (unconditionally a))))
   Moves-wants {s = Negation} a = Moves-negates a
-  Moves-wants {s = Comparison} a = Moves-sums (compare a)
   Moves-wants {s = Grouped level.Product} a = Moves-enters None (left a) tt
+  Moves-wants {s = Grouped level.Comparison} a = Moves-sums (left a)
   Moves-wants {s = Grouped level.Sum} a = Moves-sums a
   Moves-wants {s = Grouped level.And} a = Moves-negates (left a)
   Moves-wants {s = Grouped level.Or} a = Moves-negates (left (left a))
 
   -- an operator of a level, or what the level's end makes
-  Moves-operates : {l : Level} {d h : ℕ} {K : List Frame} {us vs : List Token} {e : Tree} (other : Option Move) → Around n (Grouped l) d K us → Derives (Grouped l) vs e h → Moves n ((us ++ vs) ++ t ∷ []) other → Moves n ((us ++ vs) ++ t ∷ []) (operates t e h l d K other)
+  Moves-operates : {l : Level} {d h : ℕ} {K : List Frame} {us vs : List Token} {e : Tree} (other : Option Move) → Around n (Grouped l) d K us →
+      Derives (left_operand l) vs e h → Moves n ((us ++ vs) ++ t ∷ []) other → Moves n ((us ++ vs) ++ t ∷ []) (operates t e h l d K other)
   Moves-operates {l = l} {d = d} {h = h} {K = K} {us = us} {vs = vs} {e = e} other a x other_moves = Moves-pick n _ (operator_of l t.kind) _ other (λ o q fits.
-      Stands-at (sym (append_assoc us vs (t ∷ []))) (wanting (right a x t q fits) (omega (arith, least-most (operand l), Derives-height x)))) other_moves
+      Stands-at (sym (append_assoc us vs (t ∷ [])))
+      (wanting (right a x t q fits) (omega (arith, least-most (operand l), left_operand-least l, Derives-height x)))) other_moves
 
-  -- the operator of a comparison, or what the comparison's end makes
-  Moves-matches : {d h : ℕ} {K : List Frame} {us vs : List Token} {e : Tree} (other : Option Move) → Around n Comparison d K us → Derives (Grouped level.Sum) vs e h → Moves n ((us ++ vs) ++ t ∷ []) other → Moves n ((us ++ vs) ++ t ∷ []) (matches t e h d K other)
-  Moves-matches {d = d} {h = h} {K = K} {us = us} {vs = vs} {e = e} other a x other_moves = Moves-pick n _ (comparison_of t.kind) _ other (λ o q fits.
-      Stands-at (sym (append_assoc us vs (t ∷ []))) (wanting (against a x t q fits) (omega (arith, Derives-height x)))) other_moves
+  -- another operator of a level, or what the level's end makes
+  Moves-repeats : (l : Level) {d h : ℕ} {K : List Frame} {us vs : List Token} {e : Tree} (other : Option Move) → Around n (Grouped l) d K us →
+      Derives (Grouped l) vs e h → Moves n ((us ++ vs) ++ t ∷ []) other → Moves n ((us ++ vs) ++ t ∷ []) (repeats t e h l d K other)
+  Moves-repeats level.Or other a x q = Moves-operates other a x q
+  Moves-repeats level.And other a x q = Moves-operates other a x q
+  Moves-repeats level.Comparison other a x q = q
+  Moves-repeats level.Sum other a x q = Moves-operates other a x q
+  Moves-repeats level.Product other a x q = Moves-operates other a x q
 
   Moves-ends : (us : List Token) (e : Tree) (h : ℕ) (k : TokenKind) → (k ≡ End → Program us e h) → h ≤ n → Moves n us (ends k e)
   Moves-ends us e h End p w = λ fits. finished (p refl) w
@@ -106,18 +122,15 @@ module _ (n : ℕ) (t : Token) where
   Moves-closes : {s : Phrase} {d : ℕ} {K : List Frame} {us : List Token} → Around n s d K us →
       (vs : List Token) (e : Tree) (h : ℕ) → Derives s vs e h → d + h ≤ n → Moves n ((us ++ vs) ++ t ∷ []) (closes t e h K)
   Moves-closes outermost vs e h x w = Moves-ends (vs ++ t ∷ []) (more e none) h t.kind (λ q. single_def t x q) (omega arith)
-  Moves-closes (left {d = d} {K = K} a) vs e h x w = Moves-operates (closes t e h K) a (single x) (Moves-closes a vs e h (single x) w)
+  Moves-closes (left {l = l} {d = d} {K = K} a) vs e h x w = Moves-operates (closes t e h K) a (first_operand l x) (Moves-closes a vs e h (single x) w)
   Moves-closes (right {l = l} {d = d} {m = m} {K = K} {us = us} {vs = vs} {o = o} {a = b} a y i q fit) ws e k x w =
       let whole = grouped y i q x in
-      Moves-at n (operates t (binary o b e i.start) (max m k + 1) l d K (closes t (binary o b e i.start) (max m k + 1) K))
+      Moves-at n (repeats t (binary o b e i.start) (max m k + 1) l d K (closes t (binary o b e i.start) (max m k + 1) K))
       (ap (λ xs. xs ++ t ∷ []) (ap (λ xs. us ++ xs) (sym (snoc-at vs ws i)) ∙ sym (append_assoc us (vs ++ i ∷ []) ws)))
-      (Moves-operates (closes t (binary o b e i.start) (max m k + 1) K) a whole (Moves-closes a (vs ++ i ∷ ws) (binary o b e i.start) (max m k + 1) whole (omega arith)))
+      (Moves-repeats l (closes t (binary o b e i.start) (max m k + 1) K) a whole
+      (Moves-closes a (vs ++ i ∷ ws) (binary o b e i.start) (max m k + 1) whole (omega arith)))
+  Moves-closes (unconditionally a) vs e h x w = Moves-closes a vs e h (unconditional x) w
   Moves-closes (plainly a) vs e h x w = Moves-closes a vs e h (plain x) w
-  Moves-closes (compare {d = d} {K = K} a) vs e h x w = Moves-matches (closes t e h K) a x (Moves-closes a vs e h (alone x) w)
-  Moves-closes (against {d = d} {m = m} {K = K} {us = us} {vs = vs} {o = o} {a = b} a y i q fit) ws e k x w =
-      Moves-at n (closes t (binary o b e i.start) (max m k + 1) K)
-      (ap (λ xs. xs ++ t ∷ []) (ap (λ xs. us ++ xs) (sym (snoc-at vs ws i)) ∙ sym (append_assoc us (vs ++ i ∷ []) ws)))
-      (Moves-closes a (vs ++ i ∷ ws) (binary o b e i.start) (max m k + 1) (compared y i q x) (omega arith))
   Moves-closes (inside {s = s} {i = i} {f = f} {d = d} {h = h} {K = K} {us = us} {vs = vs} a b fit roomy) ws e k x w =
       Moves-at n (nexts t (f e) (max h k) (d + own_height s) (own_height s) K (λ u j. closes t u j K))
       (ap (λ xs. xs ++ t ∷ []) (sym (append_assoc us vs ws)))

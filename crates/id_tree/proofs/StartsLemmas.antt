@@ -4,9 +4,9 @@ use Rattle.std.proofs.lemmas.List.Elements.{All-head, All-tail}
 use Rattle.id_text.specs.Tokens.{IsWithin}
 use Rattle.id_text.specs.declared.token.Token.{Token}
 use Rattle.id_text.specs.declared.token.TokenKind.{TokenKind}
-use Rattle.id_tree.specs.declared.tree.Kind.{Kind}
-use Rattle.id_tree.specs.Tree.{Tree, binding, param, none, more}
-use Rattle.id_tree.specs.Grammar.{Phrase, Rest, done, word, name, of_kind, part, with_statement, block_of, Opens, definition, no_parameters, first_parameter, last_parameter, next_parameter, denied, negated, number, by_true, by_false, parens, by_name, by_block, by_binding, by_body, Derives, opened, single, grouped, plain, alone, compared, Follows, ended, taken, named, kinded, given, Program, empty, single_def}
+use Rattle.id_value.specs.declared.Kind.{Kind}
+use Rattle.id_tree.specs.Tree.{Tree, conditional, binding, param, none, more}
+use Rattle.id_tree.specs.Grammar.{Phrase, Rest, done, word, name, of_kind, part, with_statement, block_of, Opens, definition, no_parameters, first_parameter, last_parameter, next_parameter, by_conditional, denied, negated, number, by_true, by_false, parens, by_name, by_block, by_binding, by_body, Derives, opened, unconditional, single, grouped, plain, Follows, ended, taken, named, kinded, given, Program, empty, single_def}
 use Rattle.id_tree.specs.Distinct.{HasPlace}
 use Rattle.id_tree.specs.Starts.{StartsAt, PlacesAreStarts}
 
@@ -45,6 +45,12 @@ module _ (P : ℕ → Type 0) where
   of_parts a b u v w q (inr (inl i)) = v q i
   of_parts a b u v w q (inr (inr i)) = w q i
 
+  of_conditional : {p : ℕ} (t x y : Tree) → P p → AllPlaced P t → AllPlaced P x → AllPlaced P y → AllPlaced P (conditional t x y p)
+  of_conditional t x y u v w z q (inl i) = at_own i u
+  of_conditional t x y u v w z q (inr (inl i)) = v q i
+  of_conditional t x y u v w z q (inr (inr (inl i))) = w q i
+  of_conditional t x y u v w z q (inr (inr (inr i))) = z q i
+
   of_block : {p : ℕ} (a : Tree) → P p → AllPlaced P a → AllPlaced P (block_of a p)
   of_block (more a e) g h q (inl i) = at_own i g
   of_block (more a e) g h q (inr i) = h q i
@@ -62,6 +68,7 @@ module _ (P : ℕ → Type 0) where
   Opens-fills (first_parameter {x = x} {p = p}) g = λ k a h. of_both (param x k p) a (λ q i. at_own i g) h
   Opens-fills last_parameter g = λ q h. absurd h
   Opens-fills next_parameter g = λ x p i k a h. of_both (param x k p) a (λ q j. at_own j i) h
+  Opens-fills by_conditional g = λ t h x i y j. of_conditional t x y g h i j
   Opens-fills denied g = λ e h. of_part e g h
   Opens-fills negated g = λ e h. of_part e g h
   Opens-fills number g = λ q i. at_own i g
@@ -84,13 +91,11 @@ module _ (P : ℕ → Type 0) where
   mutual
     Derives-placed : {s : Phrase} {ts : List Token} {e : Tree} {h : ℕ} → Derives s ts e h → AllStart P ts → AllPlaced P e
     Derives-placed (opened o f) g = Follows-placed f (Opens-fills o g.0) g.1
+    Derives-placed (unconditional d) g = Derives-placed d g
     Derives-placed (single d) g = Derives-placed d g
     Derives-placed (grouped {us = us} {vs = vs} {a = a} {b = b} x t i y) g = of_parts a b
         (AllStart-back us (t ∷ vs) g).0 (Derives-placed x (AllStart-front us (t ∷ vs) g)) (Derives-placed y (AllStart-back us (t ∷ vs) g).1)
     Derives-placed (plain d) g = Derives-placed d g
-    Derives-placed (alone d) g = Derives-placed d g
-    Derives-placed (compared {us = us} {vs = vs} {a = a} {b = b} x t i y) g = of_parts a b
-        (AllStart-back us (t ∷ vs) g).0 (Derives-placed x (AllStart-front us (t ∷ vs) g)) (Derives-placed y (AllStart-back us (t ∷ vs) g).1)
 
     Follows-placed : {r : Rest} {ts : List Token} {e : Tree} {h : ℕ} → Follows r ts e h → Fills P r → AllStart P ts → AllPlaced P e
     Follows-placed ended k g = k

@@ -3,51 +3,46 @@ use Rattle.std.specs.Prelude.{◌≡◌, ◌+◌, ℕ, ℤ, true, false, Option,
 use Rattle.id_text.specs.declared.token.Token.{Token}
 use Rattle.id_text.specs.declared.token.TokenKind.{TokenKind}
 use Rattle.id_text.specs.declared.token.TokenKind.TheVariants.{Name, Number, Key, Sign, End}
-use Rattle.id_text.specs.declared.token.Keyword.{Keyword}
-use Rattle.id_text.specs.declared.token.Keyword.TheVariants.{Def, In, True, False, Int, Bool, Array, Div, Rem, And, Or, Not}
+use Rattle.id_text.specs.declared.token.Keyword.TheVariants.{Def, If, Then, Else, In, True, False, Int, Bool, Array, Div, Rem, And, Or, Not}
 use Rattle.id_text.specs.declared.token.Symbol.{Symbol}
 use Rattle.id_text.specs.declared.token.Symbol.TheVariants.{LeftParen, RightParen, LeftBrace, RightBrace, Comma, Semicolon, Colon, Becomes, Equal, NotEqual, Less, LessEqual, Greater, GreaterEqual, Plus, Minus, Star}
-use Rattle.id_tree.specs.declared.tree.Kind.{Kind}
-use Rattle.id_tree.specs.declared.tree.Kind.TheVariants as kind
-use Rattle.id_tree.specs.declared.tree.Constant.TheVariants as constant
-use Rattle.id_tree.specs.declared.tree.UnaryOp.TheVariants as unary_op
-use Rattle.id_tree.specs.declared.tree.BinaryOp.{BinaryOp}
-use Rattle.id_tree.specs.declared.tree.BinaryOp.TheVariants as op
+use Rattle.id_value.specs.declared.Kind.{Kind}
+use Rattle.id_value.specs.declared.Kind.TheVariants as kind
+use Rattle.id_value.specs.declared.Constant.TheVariants as constant
+use Rattle.id_value.specs.declared.UnaryOp.TheVariants as unary_op
+use Rattle.id_value.specs.declared.BinaryOp.{BinaryOp}
+use Rattle.id_value.specs.declared.BinaryOp.TheVariants as op
+use Rattle.id_value.specs.declared.Arithmetic.TheVariants as arithmetic
+use Rattle.id_value.specs.declared.Comparison.TheVariants as comparison
+use Rattle.id_value.specs.declared.Logic.TheVariants as logic
 use Rattle.id_tree.specs.declared.parser.Level.{Level}
 use Rattle.id_tree.specs.declared.parser.Level.TheVariants as level
+use Rattle.id_tree.specs.declared.tokens.Word.{Word}
+use Rattle.id_tree.specs.declared.tokens.Word.TheVariants as the
 use Rattle.id_tree.specs.Tree as tree
-use Rattle.id_tree.specs.Tree.{Tree, literal, unary, block, binding, param, define, binary, none, more}
+use Rattle.id_tree.specs.Tree.{Tree, literal, unary, conditional, block, binding, param, define, binary, none, more}
 
--- What a rule is for: a definition; its parameters behind the bracket, and more of them behind one; a left-grouped level
--- of operators; what stands behind `not` or without it; a comparison; an operand of the tightest level; or the tail of a
--- block, which stands behind its brace and behind each of its statements.
+-- What a rule is for: a definition; its parameters behind the bracket, and more of them behind one; an expression of
+-- any form; a level of operators; what stands behind `not` or without it; an operand of the tightest level; or the
+-- tail of a block, which stands behind its brace and behind each of its statements.
 pub data Phrase : Type 0 where
   Definition : Phrase
   Parameters : Phrase
   MoreParameters : Phrase
+  Expression : Phrase
   Grouped : Level → Phrase
   Negation : Phrase
-  Comparison : Phrase
   Unary : Phrase
   Tail : Phrase
 
--- an expression of any form
-abbrev pub expression : Phrase
-expression = Grouped level.Or
-
--- a reserved word or a sign, which a production fixes
-pub data Word : Type 0 where
-  the_key : Keyword → Word
-  the_sign : Symbol → Word
-
 -- the kind of the word's token
 abbrev pub kind_of : Word → TokenKind
-kind_of (the_key k) = Key k
-kind_of (the_sign s) = Sign s
+kind_of (the.Key k) = Key k
+kind_of (the.Sign s) = Sign s
 
--- What is left of a production, and the tree that it makes: nothing, and the tree; a word, and then more;
--- a name, and then more for its spelling and its place; a kind's word, and then more for the kind; a part, and then more
--- for its tree.
+-- What is left of a production, and the tree that it makes: nothing, and the tree; a reserved word or a sign, and
+-- then more; a name, and then more for its spelling and its place; a kind's word, and then more for the kind; a part,
+-- and then more for its tree.
 pub data Rest : Type 0 where
   done : Tree → Rest
   word : Word → Rest → Rest
@@ -57,11 +52,11 @@ pub data Rest : Type 0 where
 
 -- a sign, and then more
 abbrev pub sign : Symbol → Rest → Rest
-sign s r = word (the_sign s) r
+sign s r = word (the.Sign s) r
 
--- a reserved word, and then more
-abbrev pub key : Keyword → Rest → Rest
-key k r = word (the_key k) r
+-- an expression and a word or a sign behind it, and then more for its tree
+abbrev pub enclosed : Word → (Tree → Rest) → Rest
+enclosed w f = part Expression (λ e. word w (f e))
 
 -- the kind that a word names
 abbrev pub kind_named : TokenKind → Option Kind
@@ -70,96 +65,114 @@ kind_named (Key Bool) = Some kind.Bool
 kind_named (Key Array) = Some kind.Array
 kind_named _ = None
 
--- behind the name of a definition: "(", its parameters, ":", its kind, "=", its body, ";"
+-- behind the "=" of a definition: its body, ";"
+abbrev pub body_of : List ℕ → Tree → Kind → ℕ → Rest
+body_of x a k q = enclosed (the.Sign Semicolon) (λ e. done (define x a k e q))
+
+-- behind the name of a definition: "(", its parameters, ":", its kind, "=" and what stands behind it
 abbrev pub definition_of : List ℕ → ℕ → Rest
-definition_of x q = sign LeftParen (part Parameters (λ a. sign Colon (of_kind (λ k. sign Becomes (part expression (λ e. sign Semicolon (done (define x a k e q))))))))
+definition_of x q = sign LeftParen (part Parameters (λ a. sign Colon (of_kind (λ k. sign Becomes (body_of x a k q)))))
 
 -- behind the name of a parameter: ":", its kind, and the parameters behind it
 abbrev pub parameter_of : List ℕ → ℕ → Rest
 parameter_of x q = sign Colon (of_kind (λ k. part MoreParameters (λ a. done (more (param x k q) a))))
+
+-- behind the word `if`: the predicate, "then", the arm for true, "else", the arm for false
+abbrev pub conditional_of : ℕ → Rest
+conditional_of p =
+    enclosed (the.Key Then) (λ t. enclosed (the.Key Else) (λ x. part Expression (λ y. done (conditional t x y p))))
 
 -- a statement before the others of a tail, whose tree has its statements and its body
 abbrev pub with_statement : Tree → Tree → Tree
 with_statement s (more a e) = more (more s a) e
 with_statement s _ = none
 
+-- behind the "=" of a binding: its value, ";", the tail behind it
+abbrev pub binding_of : List ℕ → ℕ → Rest
+binding_of x p =
+    enclosed (the.Sign Semicolon) (λ e. part Tail (λ a. done (with_statement (binding x e p) a)))
+
 -- the block with this tail
 abbrev pub block_of : Tree → ℕ → Tree
 block_of (more a e) p = block a e p
 block_of _ p = none
 
--- The productions that begin with a token of their own: a phrase, the token's kind and place, and what is left behind it.
+-- The productions that begin with a token of their own: a phrase, the token's kind and place, and what is left behind
+-- it.
 pub data Opens : Phrase → TokenKind → ℕ → Rest → Type 0 where
   definition : {p : ℕ} → Opens Definition (Key Def) p (name definition_of)
   no_parameters : {p : ℕ} → Opens Parameters (Sign RightParen) p (done none)
   first_parameter : {x : List ℕ} {p : ℕ} → Opens Parameters (Name x) p (parameter_of x p)
   last_parameter : {p : ℕ} → Opens MoreParameters (Sign RightParen) p (done none)
   next_parameter : {p : ℕ} → Opens MoreParameters (Sign Comma) p (name parameter_of)
+  by_conditional : {p : ℕ} → Opens Expression (Key If) p (conditional_of p)
   denied : {p : ℕ} → Opens Negation (Key Not) p (part Negation (λ e. done (unary unary_op.Not e p)))
   negated : {p : ℕ} → Opens Unary (Sign Minus) p (part Unary (λ e. done (unary unary_op.Neg e p)))
   number : {v : ℤ} {p : ℕ} → Opens Unary (Number v) p (done (literal (constant.Int v) p))
   by_true : {p : ℕ} → Opens Unary (Key True) p (done (literal (constant.Bool true) p))
   by_false : {p : ℕ} → Opens Unary (Key False) p (done (literal (constant.Bool false) p))
-  parens : {p : ℕ} → Opens Unary (Sign LeftParen) p (part expression (λ e. sign RightParen (done e)))
+  parens : {p : ℕ} → Opens Unary (Sign LeftParen) p (enclosed (the.Sign RightParen) (λ e. done e))
   by_name : {x : List ℕ} {p : ℕ} → Opens Unary (Name x) p (done (tree.name x p))
   by_block : {p : ℕ} → Opens Unary (Sign LeftBrace) p (part Tail (λ a. done (block_of a p)))
-  by_binding : {x : List ℕ} {p : ℕ} → Opens Tail (Name x) p (sign Becomes (part expression (λ e. sign Semicolon (part Tail (λ a. done (with_statement (binding x e p) a))))))
-  by_body : {p : ℕ} → Opens Tail (Key In) p (part expression (λ e. sign RightBrace (done (more none e))))
+  by_binding : {x : List ℕ} {p : ℕ} → Opens Tail (Name x) p (sign Becomes (binding_of x p))
+  by_body : {p : ℕ} → Opens Tail (Key In) p (enclosed (the.Sign RightBrace) (λ e. done (more none e)))
 
 -- the operands of a level
 abbrev pub operand : Level → Phrase
 operand level.Or = Grouped level.And
 operand level.And = Negation
+operand level.Comparison = Grouped level.Sum
 operand level.Sum = Grouped level.Product
 operand level.Product = Unary
 
+-- what may stand before an operator of a level: more of the level, but in a comparison one operand
+abbrev pub left_operand : Level → Phrase
+left_operand level.Or = Grouped level.Or
+left_operand level.And = Grouped level.And
+left_operand level.Comparison = Grouped level.Sum
+left_operand level.Sum = Grouped level.Sum
+left_operand level.Product = Grouped level.Product
+
 -- the operator of a level that a token is
 abbrev pub operator_of : Level → TokenKind → Option BinaryOp
-operator_of level.Or (Key Or) = Some op.Or
-operator_of level.And (Key And) = Some op.And
-operator_of level.Sum (Sign Plus) = Some op.Add
-operator_of level.Sum (Sign Minus) = Some op.Sub
-operator_of level.Product (Sign Star) = Some op.Mul
-operator_of level.Product (Key Div) = Some op.Div
-operator_of level.Product (Key Rem) = Some op.Rem
+operator_of level.Or (Key Or) = Some (op.Logic logic.Or)
+operator_of level.And (Key And) = Some (op.Logic logic.And)
+operator_of level.Comparison (Sign Equal) = Some (op.Comparison comparison.Eq)
+operator_of level.Comparison (Sign NotEqual) = Some (op.Comparison comparison.Ne)
+operator_of level.Comparison (Sign Less) = Some (op.Comparison comparison.Lt)
+operator_of level.Comparison (Sign LessEqual) = Some (op.Comparison comparison.Le)
+operator_of level.Comparison (Sign Greater) = Some (op.Comparison comparison.Gt)
+operator_of level.Comparison (Sign GreaterEqual) = Some (op.Comparison comparison.Ge)
+operator_of level.Sum (Sign Plus) = Some (op.Arithmetic arithmetic.Add)
+operator_of level.Sum (Sign Minus) = Some (op.Arithmetic arithmetic.Sub)
+operator_of level.Product (Sign Star) = Some (op.Arithmetic arithmetic.Mul)
+operator_of level.Product (Key Div) = Some (op.Arithmetic arithmetic.Div)
+operator_of level.Product (Key Rem) = Some (op.Arithmetic arithmetic.Rem)
 operator_of _ _ = None
-
--- the comparison that a token is
-abbrev pub comparison_of : TokenKind → Option BinaryOp
-comparison_of (Sign Equal) = Some op.Eq
-comparison_of (Sign NotEqual) = Some op.Ne
-comparison_of (Sign Less) = Some op.Lt
-comparison_of (Sign LessEqual) = Some op.Le
-comparison_of (Sign Greater) = Some op.Gt
-comparison_of (Sign GreaterEqual) = Some op.Ge
-comparison_of _ = None
 
 -- what a phrase adds to the height of its parts: an expression one, the others nothing
 abbrev pub own_height : Phrase → ℕ
 own_height Definition = 0
 own_height Parameters = 0
 own_height MoreParameters = 0
+own_height Expression = 1
 own_height (Grouped l) = 1
 own_height Negation = 1
-own_height Comparison = 1
 own_height Unary = 1
 own_height Tail = 0
 
 mutual
-  -- the tokens are a phrase, with this tree of this height: a production, the operands of a level from the left, or one or
-  -- two sums compared, without `not` before them
+  -- the tokens are a phrase, with this tree of this height: a production, an expression without `if`, one operand of a
+  -- level or more of them from the left, or a comparison without `not` before it
   pub data Derives : Phrase → List Token → Tree → ℕ → Type 0 where
     opened : {s : Phrase} {t : Token} {r : Rest} {ts : List Token} {e : Tree} {h : ℕ} →
         Opens s t.kind t.start r → Follows r ts e h → Derives s (t ∷ ts) e (h + own_height s)
+    unconditional : {ts : List Token} {e : Tree} {h : ℕ} → Derives (Grouped level.Or) ts e h → Derives Expression ts e h
     single : {l : Level} {ts : List Token} {e : Tree} {h : ℕ} → Derives (operand l) ts e h → Derives (Grouped l) ts e h
     grouped : {l : Level} {us vs : List Token} {o : BinaryOp} {a b : Tree} {m n : ℕ} →
-        Derives (Grouped l) us a m → (t : Token) → operator_of l t.kind ≡ Some o → Derives (operand l) vs b n →
+        Derives (left_operand l) us a m → (t : Token) → operator_of l t.kind ≡ Some o → Derives (operand l) vs b n →
         Derives (Grouped l) (us ++ t ∷ vs) (binary o a b t.start) (max m n + 1)
-    plain : {ts : List Token} {e : Tree} {h : ℕ} → Derives Comparison ts e h → Derives Negation ts e h
-    alone : {ts : List Token} {e : Tree} {h : ℕ} → Derives (Grouped level.Sum) ts e h → Derives Comparison ts e h
-    compared : {us vs : List Token} {o : BinaryOp} {a b : Tree} {m n : ℕ} →
-        Derives (Grouped level.Sum) us a m → (t : Token) → comparison_of t.kind ≡ Some o → Derives (Grouped level.Sum) vs b n →
-        Derives Comparison (us ++ t ∷ vs) (binary o a b t.start) (max m n + 1)
+    plain : {ts : List Token} {e : Tree} {h : ℕ} → Derives (Grouped level.Comparison) ts e h → Derives Negation ts e h
 
   -- the tokens are what is left of a production, with the tree that it makes, and its parts have this greatest height
   pub data Follows : Rest → List Token → Tree → ℕ → Type 0 where

@@ -4,16 +4,18 @@ use denote.Enum.Bare.{sameb}
 use Rattle.id_text.specs.declared.token.Token.{Token}
 use Rattle.id_text.specs.declared.token.TokenKind.{TokenKind}
 use Rattle.id_text.specs.declared.token.TokenKind.TheVariants.{Name, Number, Key, Sign, End}
-use Rattle.id_text.specs.declared.token.Keyword.TheVariants.{Def, In, True, False, Not}
+use Rattle.id_text.specs.declared.token.Keyword.TheVariants.{Def, If, In, True, False, Not}
 use Rattle.id_text.specs.declared.token.Symbol.TheVariants.{LeftParen, RightParen, LeftBrace, Comma, Minus}
 use Rattle.id_text.specs.contracts.token.Keyword as keyword
 use Rattle.id_text.specs.contracts.token.Symbol as symbol
-use Rattle.id_tree.specs.declared.tree.BinaryOp.{BinaryOp}
+use Rattle.id_value.specs.declared.BinaryOp.{BinaryOp}
 use Rattle.id_tree.specs.declared.parser.Level.{Level}
 use Rattle.id_tree.specs.declared.parser.Level.TheVariants as level
-use Rattle.id_tree.specs.declared.tree.Kind.TheVariants as kind
+use Rattle.id_tree.specs.declared.tokens.Word.{Word}
+use Rattle.id_tree.specs.declared.tokens.Word.TheVariants as the
+use Rattle.id_value.specs.declared.Kind.TheVariants as kind
 use Rattle.id_tree.specs.Tree.{Tree, binary, none, more}
-use Rattle.id_tree.specs.Grammar.{Phrase, Definition, Parameters, MoreParameters, Grouped, Negation, Comparison, Unary, Tail, Word, the_key, the_sign, Rest, done, word, name, of_kind, part, kind_named, Opens, definition, no_parameters, first_parameter, last_parameter, next_parameter, denied, negated, number, by_true, by_false, parens, by_name, by_block, by_binding, by_body, operand, operator_of, comparison_of, own_height}
+use Rattle.id_tree.specs.Grammar.{Phrase, Definition, Parameters, MoreParameters, Expression, Grouped, Negation, Unary, Tail, Rest, done, word, name, of_kind, part, kind_named, Opens, definition, no_parameters, first_parameter, last_parameter, next_parameter, by_conditional, denied, negated, number, by_true, by_false, parens, by_name, by_block, by_binding, by_body, operand, operator_of, own_height}
 
 -- a production that begins with this token
 pub record Row (s : Phrase) (k : TokenKind) (p : ℕ) : Type 0 where
@@ -27,6 +29,7 @@ opening Parameters (Sign RightParen) p = Some (record { rest = _; opens = no_par
 opening Parameters (Name x) p = Some (record { rest = _; opens = first_parameter })
 opening MoreParameters (Sign RightParen) p = Some (record { rest = _; opens = last_parameter })
 opening MoreParameters (Sign Comma) p = Some (record { rest = _; opens = next_parameter })
+opening Expression (Key If) p = Some (record { rest = _; opens = by_conditional })
 opening Negation (Key Not) p = Some (record { rest = _; opens = denied })
 opening Unary (Sign Minus) p = Some (record { rest = _; opens = negated })
 opening Unary (Number v) p = Some (record { rest = _; opens = number })
@@ -44,9 +47,9 @@ abbrev pub least_height : Phrase → ℕ
 least_height Definition = 1
 least_height Parameters = 0
 least_height MoreParameters = 0
+least_height Expression = 1
 least_height (Grouped l) = 1
 least_height Negation = 1
-least_height Comparison = 1
 least_height Unary = 1
 least_height Tail = 1
 
@@ -58,17 +61,23 @@ room (name f) = room (f [] 0)
 room (of_kind f) = room (f kind.Int)
 room (part s f) = max (least_height s) (room (f none))
 
--- What stands round a part, from the inside: a level whose first operand it is, one whose next operand it is,
--- a comparison whose first sum it is, one whose second sum it is, or a production; the last numbers are the expressions
--- round the level, the comparison or the production's parts.
+-- What stands round a part, from the inside: a level whose first operand it is, one whose next operand it is, or a
+-- production; the last numbers are the expressions round the level or the production's parts.
 pub data Frame : Type 0 where
   Left : Level → ℕ → Frame
   Right : Level → BinaryOp → Tree → ℕ → ℕ → ℕ → Frame
-  Compare : ℕ → Frame
-  Against : BinaryOp → Tree → ℕ → ℕ → ℕ → Frame
   Inside : (Tree → Rest) → ℕ → ℕ → ℕ → Frame
 
--- before all tokens; a phrase is to come; a part has come, with its height; in a production, with the height so far; at the end
+-- what stands round a level behind one of its operators: more of the level, but in a comparison nothing of it
+abbrev pub again : Level → ℕ → List Frame → List Frame
+again level.Or d K = Left level.Or d ∷ K
+again level.And d K = Left level.And d ∷ K
+again level.Comparison d K = K
+again level.Sum d K = Left level.Sum d ∷ K
+again level.Product d K = Left level.Product d ∷ K
+
+-- before all tokens; a phrase is to come; a part has come, with its height; in a production, with the height so far;
+-- at the end
 pub data State : Type 0 where
   Begin : State
   Want : Phrase → ℕ → List Frame → State
@@ -92,8 +101,8 @@ pick (Some a) f d = f a
 
 -- whether a kind is this word
 abbrev pub is_word : Word → TokenKind → Bool
-is_word (the_key k) (Key j) = sameb keyword.the_type j k
-is_word (the_sign s) (Sign r) = sameb symbol.the_type r s
+is_word (the.Key k) (Key j) = sameb keyword.the_type j k
+is_word (the.Sign s) (Sign r) = sameb symbol.the_type r s
 is_word _ _ = false
 
 -- the name that a kind is
@@ -101,9 +110,15 @@ abbrev pub name_in : TokenKind → Option (List ℕ)
 name_in (Name x) = Some x
 name_in _ = None
 
+-- in a production of the phrase, behind its first token
+abbrev pub behind_first : Rest → Phrase → ℕ → List Frame → State
+behind_first r s d K = Next r 0 (d + own_height s) (own_height s) K
+
 -- a token that begins a production, or else another move
 abbrev pub enters : Token → Phrase → ℕ → List Frame → Option Move → Option Move
-enters t s d K other = pick (opening s t.kind t.start) (λ row. Some (record { need = d + own_height s + room row.rest; next = Next row.rest 0 (d + own_height s) (own_height s) K })) other
+enters t s d K other =
+    pick (opening s t.kind t.start)
+    (λ row. Some (record { need = d + own_height s + room row.rest; next = behind_first row.rest s d K })) other
 
 -- a token where a sum is to come
 abbrev pub sums : Token → ℕ → List Frame → Option Move
@@ -111,29 +126,36 @@ sums t d K = enters t Unary d (Left level.Product d ∷ Left level.Sum d ∷ K) 
 
 -- a token where `not` or a comparison is to come
 abbrev pub negates : Token → ℕ → List Frame → Option Move
-negates t d K = enters t Negation d K (sums t d (Compare d ∷ K))
+negates t d K = enters t Negation d K (sums t d (Left level.Comparison d ∷ K))
 
 -- a token where a phrase is to come
 abbrev pub wants : Token → Phrase → ℕ → List Frame → Option Move
 wants t Definition d K = enters t Definition d K None
 wants t Parameters d K = enters t Parameters d K None
 wants t MoreParameters d K = enters t MoreParameters d K None
+wants t Expression d K = enters t Expression d K (negates t d (Left level.And d ∷ Left level.Or d ∷ K))
 wants t (Grouped level.Or) d K = negates t d (Left level.And d ∷ Left level.Or d ∷ K)
 wants t (Grouped level.And) d K = negates t d (Left level.And d ∷ K)
+wants t (Grouped level.Comparison) d K = sums t d (Left level.Comparison d ∷ K)
 wants t (Grouped level.Sum) d K = sums t d K
 wants t (Grouped level.Product) d K = enters t Unary d (Left level.Product d ∷ K) None
 wants t Negation d K = negates t d K
-wants t Comparison d K = sums t d (Compare d ∷ K)
 wants t Unary d K = enters t Unary d K None
 wants t Tail d K = enters t Tail d K None
 
 -- a token behind an operand of a level: an operator of the level, or else what the level's end makes of it
 abbrev pub operates : Token → Tree → ℕ → Level → ℕ → List Frame → Option Move → Option Move
-operates t e h l d K other = pick (operator_of l t.kind) (λ o. Some (record { need = d + h + 1; next = Want (operand l) (d + 1) (Right l o e h t.start d ∷ K) })) other
+operates t e h l d K other =
+    pick (operator_of l t.kind)
+    (λ o. Some (record { need = d + h + 1; next = Want (operand l) (d + 1) (Right l o e h t.start d ∷ K) })) other
 
--- a token behind the first sum of a comparison: its operator, or else what the comparison's end makes of it
-abbrev pub matches : Token → Tree → ℕ → ℕ → List Frame → Option Move → Option Move
-matches t e h d K other = pick (comparison_of t.kind) (λ o. Some (record { need = d + h + 1; next = Want (Grouped level.Sum) (d + 1) (Against o e h t.start d ∷ K) })) other
+-- a token behind a later operand of a level: another operator, but in a comparison what its end makes of it
+abbrev pub repeats : Token → Tree → ℕ → Level → ℕ → List Frame → Option Move → Option Move
+repeats t e h level.Or d K other = operates t e h level.Or d K other
+repeats t e h level.And d K other = operates t e h level.And d K other
+repeats t e h level.Comparison d K other = other
+repeats t e h level.Sum d K other = operates t e h level.Sum d K other
+repeats t e h level.Product d K other = operates t e h level.Product d K other
 
 -- a token in a production, whose end closes
 abbrev pub nexts : Token → Rest → ℕ → ℕ → ℕ → List Frame → (Tree → ℕ → Option Move) → Option Move
@@ -152,9 +174,8 @@ ends _ e = None
 abbrev pub closes : Token → Tree → ℕ → List Frame → Option Move
 closes t e h [] = ends t.kind (more e none)
 closes t e h (Left l d ∷ K) = operates t e h l d K (closes t e h K)
-closes t b n (Right l o a m p d ∷ K) = operates t (binary o a b p) (max m n + 1) l d K (closes t (binary o a b p) (max m n + 1) K)
-closes t e h (Compare d ∷ K) = matches t e h d K (closes t e h K)
-closes t b n (Against o a m p d ∷ K) = closes t (binary o a b p) (max m n + 1) K
+closes t b n (Right l o a m p d ∷ K) =
+    repeats t (binary o a b p) (max m n + 1) l d K (closes t (binary o a b p) (max m n + 1) K)
 closes t e h (Inside f m d c ∷ K) = nexts t (f e) (max m h) d c K (λ a n. closes t a n K)
 
 -- what a token does
@@ -175,4 +196,5 @@ pub data Outcome : Type 0 where
 unfoldable pub run : ℕ → List Token → State → Outcome
 run n [] (Finished e) = Accepted e
 run n [] _ = Unfinished
-run n (t ∷ ts) S = pick (takes t S) (λ m. cond (nat_le m.need n) (run n ts m.next) (Refused true t.start)) (Refused false t.start)
+run n (t ∷ ts) S =
+    pick (takes t S) (λ m. cond (nat_le m.need n) (run n ts m.next) (Refused true t.start)) (Refused false t.start)

@@ -5,17 +5,18 @@ use Rattle.id_text.specs.declared.token.Token.{Token}
 use Rattle.id_text.specs.declared.token.TokenKind.{TokenKind}
 use Rattle.id_text.specs.declared.token.TokenKind.TheVariants.{Name, Key, End}
 use Rattle.id_text.specs.declared.token.Keyword.TheVariants.{True, False}
-use Rattle.id_text.specs.declared.token.Symbol.{Symbol}
 use Rattle.id_text.specs.declared.token.Symbol.TheVariants.{LeftParen, Colon, Becomes}
 use Rattle.id_tree.specs.declared.parser.Level.{Level}
-use Rattle.id_tree.specs.declared.tree.Kind.{Kind}
+use Rattle.id_tree.specs.declared.tokens.Word.{Word}
+use Rattle.id_value.specs.declared.Kind.{Kind}
+use Rattle.id_value.specs.declared.UnaryOp.{UnaryOp}
 use Rattle.id_tree.specs.declared.tree.Stmt.{Stmt}
 use Rattle.id_tree.specs.declared.tree.Param.{Param}
 use Rattle.id_tree.specs.declared.tree.TreeError.{TreeError}
 use Rattle.id_tree.specs.declared.tree.TreeError.TheVariants.{Unexpected, TooDeep, Memory}
-use Rattle.id_tree.specs.Tree.{Tree, stmt_tree, param, more}
-use Rattle.id_tree.specs.Grammar.{Phrase, Definition, Parameters, MoreParameters, expression, Tail, Rest, done, of_kind, part, sign, with_statement}
-use Rattle.id_tree.specs.Machine.{Frame, Left, Inside, Want, Have, Next, Outcome, Refused, name_in, run}
+use Rattle.id_tree.specs.Tree.{Tree, stmt_tree, unary, param, more}
+use Rattle.id_tree.specs.Grammar.{Phrase, Definition, Parameters, MoreParameters, Tail, Rest, done, of_kind, part, sign, enclosed, with_statement, Opens, operand}
+use Rattle.id_tree.specs.Machine.{Frame, Left, Inside, again, Want, Have, Next, Outcome, Refused, name_in, run}
 
 -- what the first token is
 abbrev pub first_kind : List Token → TokenKind
@@ -54,13 +55,18 @@ EndsBy o Memory = Unit {0}
 pub record Leads (ts : List Token) (s : Phrase) (d : ℕ) (us : List Token) (e : Tree) (h : ℕ) : Type 0 where
   pub comes : (K : List Frame) → run 200 ts (Want s d K) ≡ run 200 us (Have e h K)
 
+-- the operator before an operand of the level is one, and it begins with this token
+abbrev pub IsPrefix : Level → UnaryOp → TokenKind → Type 0
+IsPrefix l o k = (p : ℕ) → Opens (operand l) k p (part (operand l) (λ e. done (unary o e p)))
+
 -- from where the phrase is wanted the run ends so
 pub record Fails (ts : List Token) (s : Phrase) (d : ℕ) (x : TreeError) : Type 0 where
   pub fails : (K : List Frame) → EndsBy (run 200 ts (Want s d K)) x
 
 -- the run takes an operator and its right operand into the left one
-pub record Grows (ts : List Token) (l : Level) (d : ℕ) (a : Tree) (m : ℕ) (us : List Token) (e : Tree) (h : ℕ) : Type 0 where
-  pub comes : (K : List Frame) → run 200 ts (Have a m (Left l d ∷ K)) ≡ run 200 us (Have e h (Left l d ∷ K))
+pub record Grows (ts : List Token) (l : Level) (d : ℕ) (a : Tree) (m : ℕ)
+    (us : List Token) (e : Tree) (h : ℕ) : Type 0 where
+  pub comes : (K : List Frame) → run 200 ts (Have a m (Left l d ∷ K)) ≡ run 200 us (Have e h (again l d K))
 
 -- the run ends so behind the left operand
 pub record Stunts (ts : List Token) (l : Level) (d : ℕ) (a : Tree) (m : ℕ) (x : TreeError) : Type 0 where
@@ -95,11 +101,13 @@ LacksName ts x = (x ≡ Memory) ⊎ NoName ts x
 
 -- the run takes a colon and a kind behind it
 pub record Types (ts us : List Token) (k : Kind) : Type 0 where
-  pub comes : (f : Kind → Rest) (h d c : ℕ) (K : List Frame) → run 200 ts (Next (sign Colon (of_kind f)) h d c K) ≡ run 200 us (Next (f k) h d c K)
+  pub comes : (f : Kind → Rest) (h d c : ℕ) (K : List Frame) →
+      run 200 ts (Next (sign Colon (of_kind f)) h d c K) ≡ run 200 us (Next (f k) h d c K)
 
 -- the run ends so at a colon or the kind behind it
 pub record Untypes (ts : List Token) (x : TreeError) : Type 0 where
-  pub fails : (f : Kind → Rest) (h d c : ℕ) (K : List Frame) → EndsBy (run 200 ts (Next (sign Colon (of_kind f)) h d c K)) x
+  pub fails : (f : Kind → Rest) (h d c : ℕ) (K : List Frame) →
+      EndsBy (run 200 ts (Next (sign Colon (of_kind f)) h d c K)) x
 
 -- the list begins with a parameter: its name, a colon and its kind
 pub record Declares (ts us : List Token) (p : Param) : Type 0 where
@@ -140,19 +148,21 @@ heading f = sign LeftParen (part Parameters (λ a. sign Colon (of_kind (λ k. si
 
 -- the run takes a heading
 pub record Heads (ts us : List Token) (a : Tree) (k : Kind) : Type 0 where
-  pub comes : (f : Tree → Kind → Rest) (K : List Frame) → run 200 ts (Next (heading f) 0 0 0 K) ≡ run 200 us (Next (f a k) 0 0 0 K)
+  pub comes : (f : Tree → Kind → Rest) (K : List Frame) →
+      run 200 ts (Next (heading f) 0 0 0 K) ≡ run 200 us (Next (f a k) 0 0 0 K)
 
 -- the run ends so in a heading
 pub record Beheads (ts : List Token) (x : TreeError) : Type 0 where
   pub fails : (f : Tree → Kind → Rest) (K : List Frame) → EndsBy (run 200 ts (Next (heading f) 0 0 0 K)) x
 
--- the run takes an expression of a production and the sign behind it
-pub record Encloses (ts : List Token) (d : ℕ) (w : Symbol) (us : List Token) (e : Tree) (h : ℕ) : Type 0 where
-  pub comes : (f : Tree → Rest) (m c : ℕ) (K : List Frame) → run 200 ts (Next (part expression (λ a. sign w (f a))) m d c K) ≡ run 200 us (Next (f e) (max m h) d c K)
+-- the run takes an expression of a production and the word behind it
+pub record Encloses (ts : List Token) (d : ℕ) (w : Word) (us : List Token) (e : Tree) (h : ℕ) : Type 0 where
+  pub comes : (f : Tree → Rest) (m c : ℕ) (K : List Frame) →
+      run 200 ts (Next (enclosed w f) m d c K) ≡ run 200 us (Next (f e) (max m h) d c K)
 
--- the run ends so at an expression of a production or the sign behind it
-pub record Exposes (ts : List Token) (d : ℕ) (w : Symbol) (x : TreeError) : Type 0 where
-  pub fails : (f : Tree → Rest) (m c : ℕ) (K : List Frame) → EndsBy (run 200 ts (Next (part expression (λ a. sign w (f a))) m d c K)) x
+-- the run ends so at an expression of a production or the word behind it
+pub record Exposes (ts : List Token) (d : ℕ) (w : Word) (x : TreeError) : Type 0 where
+  pub fails : (f : Tree → Rest) (m c : ℕ) (K : List Frame) → EndsBy (run 200 ts (Next (enclosed w f) m d c K)) x
 
 -- the statements' trees, in order, put before a list of trees
 abbrev pub onto : List Stmt → Tree → Tree
@@ -161,13 +171,15 @@ onto (s ∷ ss) a = more (stmt_tree s) (onto ss a)
 
 -- the run takes a statement of a block's tail
 pub record Adds (ts : List Token) (d : ℕ) (us : List Token) (s : Tree) (h : ℕ) : Type 0 where
-  pub comes : (K : List Frame) → run 200 ts (Want Tail d K) ≡ run 200 us (Want Tail d (Inside (λ a. done (with_statement s a)) h d 0 ∷ K))
+  pub comes : (K : List Frame) →
+      run 200 ts (Want Tail d K) ≡ run 200 us (Want Tail d (Inside (λ a. done (with_statement s a)) h d 0 ∷ K))
 
 -- the run takes statements of a block's tail, and puts them before those that come behind
 pub record Stacks (ts : List Token) (d : ℕ) (us : List Token) (ss : List Stmt) (h : ℕ) (K : List Frame) : Type 0 where
   pub stack : List Frame
   pub comes : run 200 ts (Want Tail d K) ≡ run 200 us (Want Tail d stack)
-  pub folds : (vs : List Token) (a e : Tree) (m : ℕ) → run 200 vs (Have (more a e) m stack) ≡ run 200 vs (Have (more (onto ss a) e) (max h m) K)
+  pub folds : (vs : List Token) (a e : Tree) (m : ℕ) →
+      run 200 vs (Have (more a e) m stack) ≡ run 200 vs (Have (more (onto ss a) e) (max h m) K)
 
 -- the same, whatever stands round the block
 pub record Gathers (ts : List Token) (d : ℕ) (us : List Token) (ss : List Stmt) (h : ℕ) : Type 0 where

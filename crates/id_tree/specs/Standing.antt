@@ -3,15 +3,16 @@ use Rattle.std.specs.Prelude.{◌≡◌, ◌+◌, ◌≤◌, ℕ, Some, List, []
 use Rattle.id_text.specs.declared.token.Token.{Token}
 use Rattle.id_tree.specs.declared.parser.Level.{Level}
 use Rattle.id_tree.specs.declared.parser.Level.TheVariants as level
-use Rattle.id_tree.specs.declared.tree.BinaryOp.{BinaryOp}
-use Rattle.id_tree.specs.declared.tree.Kind.{Kind}
+use Rattle.id_value.specs.declared.BinaryOp.{BinaryOp}
+use Rattle.id_value.specs.declared.Kind.{Kind}
 use Rattle.id_tree.specs.Tree.{Tree}
-use Rattle.id_tree.specs.Grammar.{Phrase, Definition, Grouped, Negation, Comparison, Rest, done, word, name, of_kind, part, operand, operator_of, comparison_of, own_height, Derives, Follows, Program}
-use Rattle.id_tree.specs.Machine.{least_height, Frame, Left, Right, Compare, Against, Inside, State, Begin, Want, Have, Next, Finished}
+use Rattle.id_tree.specs.Grammar.{Phrase, Definition, Expression, Grouped, Negation, Rest, done, word, name, of_kind, part, operand, left_operand, operator_of, own_height, Derives, Follows, Program}
+use Rattle.id_tree.specs.Machine.{least_height, Frame, Left, Right, Inside, State, Begin, Want, Have, Next, Finished}
 
 -- the tokens begin a phrase, of which this is left, and its parts so far have this greatest height
 pub record Begins (s : Phrase) (vs : List Token) (r : Rest) (h : ℕ) : Type 0 where
-  pub completes : (ts : List Token) (e : Tree) (m : ℕ) → Follows r ts e m → Derives s (vs ++ ts) e (max h m + own_height s)
+  pub completes : (ts : List Token) (e : Tree) (m : ℕ) →
+      Follows r ts e m → Derives s (vs ++ ts) e (max h m + own_height s)
 
 -- there is room for each part within n, where the parts stand in d expressions
 abbrev pub Roomy : ℕ → ℕ → Rest → Type 0
@@ -24,19 +25,18 @@ Roomy n d (part s f) = (d + least_height s ≤ n) × ((a : Tree) → Roomy n d (
 -- inside d expressions, behind these tokens, a phrase is to come, and what stands round it fits n
 pub data Around (n : ℕ) : Phrase → ℕ → List Frame → List Token → Type 0 where
   outermost : Around n Definition 0 [] []
+  unconditionally : {d : ℕ} {K : List Frame} {us : List Token} →
+      Around n Expression d K us → Around n (Grouped level.Or) d K us
   left : {l : Level} {d : ℕ} {K : List Frame} {us : List Token} →
       Around n (Grouped l) d K us → Around n (operand l) d (Left l d ∷ K) us
   right : {l : Level} {d m : ℕ} {K : List Frame} {us vs : List Token} {o : BinaryOp} {a : Tree} →
-      Around n (Grouped l) d K us → Derives (Grouped l) vs a m → (t : Token) → operator_of l t.kind ≡ Some o →
+      Around n (Grouped l) d K us → Derives (left_operand l) vs a m → (t : Token) → operator_of l t.kind ≡ Some o →
       d + m + 1 ≤ n → Around n (operand l) (d + 1) (Right l o a m t.start d ∷ K) (us ++ (vs ++ t ∷ []))
-  plainly : {d : ℕ} {K : List Frame} {us : List Token} → Around n Negation d K us → Around n Comparison d K us
-  compare : {d : ℕ} {K : List Frame} {us : List Token} →
-      Around n Comparison d K us → Around n (Grouped level.Sum) d (Compare d ∷ K) us
-  against : {d m : ℕ} {K : List Frame} {us vs : List Token} {o : BinaryOp} {a : Tree} →
-      Around n Comparison d K us → Derives (Grouped level.Sum) vs a m → (t : Token) → comparison_of t.kind ≡ Some o →
-      d + m + 1 ≤ n → Around n (Grouped level.Sum) (d + 1) (Against o a m t.start d ∷ K) (us ++ (vs ++ t ∷ []))
+  plainly : {d : ℕ} {K : List Frame} {us : List Token} →
+      Around n Negation d K us → Around n (Grouped level.Comparison) d K us
   inside : {s i : Phrase} {f : Tree → Rest} {d h : ℕ} {K : List Frame} {us vs : List Token} →
-      Around n s d K us → Begins s vs (part i f) h → d + own_height s + h ≤ n → ((a : Tree) → Roomy n (d + own_height s) (f a)) →
+      Around n s d K us → Begins s vs (part i f) h → d + own_height s + h ≤ n →
+      ((a : Tree) → Roomy n (d + own_height s) (f a)) →
       Around n i (d + own_height s) (Inside f h (d + own_height s) (own_height s) ∷ K) (us ++ vs)
 
 -- the tokens lead to the state, within n

@@ -1,10 +1,10 @@
 -- Trees as values: what stands in a `Program`, without the addresses of its boxes (docs/LANGUAGE.md, "Grammar").
 use Rattle.std.specs.Prelude.{ℕ, List, [], ◌∷◌}
-use Rattle.id_tree.specs.declared.tree.Kind.{Kind}
-use Rattle.id_tree.specs.declared.tree.Constant.{Constant}
-use Rattle.id_tree.specs.declared.tree.UnaryOp.{UnaryOp}
-use Rattle.id_tree.specs.declared.tree.BinaryOp.{BinaryOp}
-use Rattle.id_tree.specs.declared.tree.Expr.{Expr, Literal, Unary', Binary', Name, Block', Row_of-Stmt, end_of-Stmt, more_of-Stmt}
+use Rattle.id_value.specs.declared.Kind.{Kind}
+use Rattle.id_value.specs.declared.Constant.{Constant}
+use Rattle.id_value.specs.declared.UnaryOp.{UnaryOp}
+use Rattle.id_value.specs.declared.BinaryOp.{BinaryOp}
+use Rattle.id_tree.specs.declared.tree.Expr.{Expr, Literal, Unary', Binary', Name, If', Block', Row_of-Stmt, end_of-Stmt, more_of-Stmt}
 use Rattle.id_tree.specs.declared.tree.Stmt.{Stmt, Binding}
 use Rattle.id_tree.specs.declared.tree.Param.{Param}
 use Rattle.id_tree.specs.declared.tree.Def.{Def}
@@ -17,6 +17,7 @@ pub data Tree : Type 0 where
   unary : UnaryOp → Tree → ℕ → Tree
   binary : BinaryOp → Tree → Tree → ℕ → Tree
   name : List ℕ → ℕ → Tree
+  conditional : Tree → Tree → Tree → ℕ → Tree
   block : Tree → Tree → ℕ → Tree
   binding : List ℕ → Tree → ℕ → Tree
   param : List ℕ → Kind → ℕ → Tree
@@ -31,6 +32,7 @@ abbrev mutual
   tree_of (Unary' op p operand place) = unary op (tree_of operand) place
   tree_of (Binary' op p left q right place) = binary op (tree_of left) (tree_of right) place
   tree_of (Name x place) = name x place
+  tree_of (If' p test q then r otherwise place) = conditional (tree_of test) (tree_of then) (tree_of otherwise) place
   tree_of (Block' n statements p body place) = block (row_tree statements) (tree_of body) place
 
   -- the statement's tree

@@ -5,7 +5,7 @@
 //! Errors: `TreeError`, the refusals 5 and 6 or want of memory.
 //! Read first: docs/LANGUAGE.md ("Grammar", "Nesting", "Place"), `specs/Grammar.antt`,
 //! `specs/Accepted.antt`, then `parse`.
-//! Not here: tokens (`id_text`), names and kinds (`id_check`).
+//! Not here: tokens (`id_text`), operators (`id_value`), names and kinds (`id_check`).
 #![tactic(auto)]
 
 mod parser;
@@ -13,10 +13,6 @@ mod part;
 mod tokens;
 mod tree;
 
+pub use id_value::{BinaryOp, Constant, Kind, UnaryOp};
 pub use parser::parse;
-pub use tree::{
-    BinaryOp, Constant, Def, Expr, Kind, MAX_NESTING, Param, Program, Stmt, TreeError, UnaryOp,
-};
-
-#[cfg(test)]
-mod tests;
+pub use tree::{Def, Expr, MAX_NESTING, Param, Program, Stmt, TreeError};

@@ -3,23 +3,23 @@
 //! A reader takes the tokens from its part on, and how many expressions stand round the part.
 //! It gives the part back with the tokens behind it.
 
-ghost use Rattle.std.specs.Prelude.{◌≡◌, ◌≢◌, ◌∷◌, ◌+◌, ◌<◌, ◌≤◌, ℕ, IfOk, IfErr, MatchResult, Some};
+ghost use Rattle.std.specs.Prelude.{◌≡◌, ◌≢◌, [], ◌∷◌, ◌++◌, ◌+◌, ◌<◌, ◌≤◌, ◌↔◌, ℕ, IsTrue, IfOk, IfErr, MatchResult, Some};
 ghost use Rattle.id_text.specs.Tokens.{EndsOnce, Rises};
 ghost use Rattle.id_tree.specs.Tree.{Tree, tree_of, stmt_tree, params_tree, def_tree, program_tree};
+ghost use Rattle.id_tree.specs.declared.tree.Param.{Param};
 ghost use Rattle.id_tree.specs.Accepted.{Accepts, RefusedBy, IsMemory};
 ghost use Rattle.id_tree.specs.Distinct.{Distinct};
 ghost use Rattle.id_tree.specs.Starts.{PlacesAreStarts};
 ghost use Rattle.id_tree.specs.Grammar.{
   Definition,
   Parameters,
+  Expression,
   Grouped,
   Negation,
-  Comparison,
   Unary,
   Tail,
   operand,
   operator_of,
-  comparison_of,
 };
 ghost use Rattle.id_tree.specs.Machine.{run, Begin, Accepted};
 ghost use Rattle.id_tree.specs.Readers.{
@@ -27,6 +27,7 @@ ghost use Rattle.id_tree.specs.Readers.{
   EndsBy,
   IsBehind,
   IsRead,
+  IsPrefix,
   Leads,
   Defines,
   Fails,
@@ -43,20 +44,22 @@ ghost use Rattle.id_tree.specs.Readers.{
   IsGathered,
 };
 
-use crate::part::{Part, binary, binding, block, name, number, truth, unary};
+use crate::part::{Part, binary, binding, block, conditional, name, number, truth, unary};
 use crate::tokens::{
-    begins_with, begins_with_sign, check_nesting, expect_end, expect_kind, expect_name,
-    expect_sign, is_key, is_sign, split, truth_of, unexpected,
+    Word, begins_with, begins_with_sign, comparison_of, enter, expect_end, expect_kind,
+    expect_name, expect_word, is_key, is_sign, split, truth_of, unexpected,
 };
-use crate::tree::{BinaryOp, Def, Kind, MAX_NESTING, Param, Program, Stmt, TreeError, UnaryOp};
+use crate::tree::{Def, MAX_NESTING, Param, Program, Stmt, TreeError};
 use id_text::{Keyword, Sequence, Symbol, Token, TokenKind};
+use id_value::{Arithmetic, BinaryOp, Kind, Logic, UnaryOp};
 use std::alloc::Global;
 
-/// The levels of operators that group to the left, the loosest first.
-#[derive(Clone, Copy, Debug, PartialEq, Eq)]
+/// The levels of operators, the loosest first. They group to the left, and of comparisons there is one.
+#[derive(Clone, Copy)]
 pub enum Level {
     Or,
     And,
+    Comparison,
     Sum,
     Product,
 }
@@ -91,8 +94,8 @@ fn parse_program(alloc: Global, tokens: &[Token]) -> Result<Program, TreeError>
     let (first, _) = split(tokens);
     if is_key(first, Keyword::Def) {
         let (def, rest) = parse_def(alloc, tokens)?;
-        expect_end(rest)?;
         defs.push(def)?;
+        expect_end(rest)?;
         return Ok(Program {
             defs: Sequence::new(defs),
         });
@@ -114,12 +117,12 @@ fn parse_def(alloc: Global, tokens: &[Token]) -> Result<(Def, &[Token]), TreeErr
     let (_, named) = split(tokens);
     let (name, place, headed) = expect_name(alloc, named)?;
     let (params, result, begun) = parse_heading(alloc, headed)?;
-    let (body, rest) = parse_enclosed(alloc, begun, Symbol::Semicolon, 0)?;
+    let (body, rest) = parse_enclosed(alloc, begun, Word::Sign(Symbol::Semicolon), 0)?;
     let def = Def {
         name,
         params: Sequence::new(params),
         result,
-        body: body.expr,
+        body: body.into_expr(),
         place,
     };
     Ok((def, rest))
@@ -132,10 +135,10 @@ fn parse_heading(alloc: Global, tokens: &[Token]) -> Result<(Vec<Param>, Kind, &
     ensures ok { IfOk result (λ x. Heads tokens.now x.2.now (params_tree x.0.items) x.1) }
     ensures err { IfErr result (Beheads tokens.now) }
 {
-    let opened = expect_sign(tokens, Symbol::LeftParen)?;
+    let opened = expect_word(tokens, Word::Sign(Symbol::LeftParen))?;
     let (params, closed) = parse_params(alloc, opened)?;
     let (kind, headed) = expect_kind(closed)?;
-    let rest = expect_sign(headed, Symbol::Becomes)?;
+    let rest = expect_word(headed, Word::Sign(Symbol::Becomes))?;
     Ok((params, kind, rest))
 }
 
@@ -152,14 +155,10 @@ fn parse_params(alloc: Global, tokens: &[Token]) -> Result<(Vec<Param>, &[Token]
     if is_sign(first, Symbol::RightParen) {
         return Ok((params, closed));
     }
-    let (param, behind) = parse_param(alloc, tokens)?;
-    params.push(param)?;
-    let mut rest = behind;
+    let mut rest = add_param(alloc, &mut params, tokens)?;
     'params: while begins_with_sign(rest, Symbol::Comma) {
         let (_, named) = split(rest);
-        let (next, behind) = parse_param(alloc, named)?;
-        params.push(next)?;
-        rest = behind;
+        rest = add_param(alloc, &mut params, named)?;
     }
     let (last, closed) = split(rest);
     if is_sign(last, Symbol::RightParen) {
@@ -167,6 +166,23 @@ fn parse_params(alloc: Global, tokens: &[Token]) -> Result<(Vec<Param>, &[Token]
     } else {
         Err(unexpected(rest))
     }
+}
+
+/// Adds the parameter that the tokens begin with to the list, and gives the tokens behind it.
+fn add_param<'a>(
+    alloc: Global,
+    params: &mut Vec<Param>,
+    tokens: &'a [Token],
+) -> Result<&'a [Token], TreeError>
+    requires { EndsOnce tokens.now }
+    ensures behind { IfOk result (λ rest. IsBehind rest.now tokens.now) }
+    ensures ok { IfOk result (λ rest.
+        (p : Param) × (params.new.items ≡ params.old.items ++ p ∷ []) × Declares tokens.now rest.now p) }
+    ensures err { IfErr result (Undeclares tokens.now) }
+{
+    let (param, rest) = parse_param(alloc, tokens)?;
+    params.push(param)?;
+    Ok(rest)
 }
 
 /// `param = NAME ":" kind`
@@ -182,7 +198,53 @@ fn parse_param(alloc: Global, tokens: &[Token]) -> Result<(Param, &[Token]), Tre
     Ok((param, rest))
 }
 
-/// `or = and { "or" and }`, `and = not { "and" not }`, `sum = product { ("+" | "-") product }`,
+/// `expr = conditional | or`
+#[cycle(expr)]
+fn parse_expression(
+    alloc: Global,
+    tokens: &[Token],
+    depth: usize,
+) -> Result<(Part, &[Token]), TreeError>
+    requires ends { EndsOnce tokens.now }
+    requires room { depth < MAX_NESTING }
+    ensures read { IfOk result (λ x. IsRead tokens.now x.1.now depth x.0.height) }
+    ensures ok { IfOk result (λ x.
+        Leads tokens.now Expression depth x.1.now (tree_of x.0.expr) x.0.height) }
+    ensures err { IfErr result (Fails tokens.now Expression depth) }
+{
+    if begins_with(tokens, Keyword::If) {
+        parse_conditional(alloc, tokens, depth)
+    } else {
+        parse_grouped(alloc, tokens, Level::Or, depth)
+    }
+}
+
+/// `conditional = "if" expr "then" expr "else" expr`
+#[cycle(expr)]
+fn parse_conditional(
+    alloc: Global,
+    tokens: &[Token],
+    depth: usize,
+) -> Result<(Part, &[Token]), TreeError>
+    requires ends { EndsOnce tokens.now }
+    requires begins { first_kind tokens.now ≡ TokenKind.Key Keyword.If }
+    requires room { depth < MAX_NESTING }
+    ensures read { IfOk result (λ x. IsRead tokens.now x.1.now depth x.0.height) }
+    ensures ok { IfOk result (λ x.
+        Leads tokens.now Expression depth x.1.now (tree_of x.0.expr) x.0.height) }
+    ensures err { IfErr result (Fails tokens.now Expression depth) }
+{
+    let inner = depth + 1;
+    let (first, begun) = enter(tokens, inner + 1)?;
+    let (test, behind_then) = parse_enclosed(alloc, begun, Word::Key(Keyword::Then), inner)?;
+    let (then, behind_else) = parse_enclosed(alloc, behind_then, Word::Key(Keyword::Else), inner)?;
+    let (otherwise, rest) = parse_expression(alloc, behind_else, inner)?;
+    let whole = conditional(alloc, test, then, otherwise, first.start)?;
+    Ok((whole, rest))
+}
+
+/// `or = and { "or" and }`, `and = not { "and" not }`,
+/// `cmp = sum [ ("==" | "<>" | "<" | "<=" | ">" | ">=") sum ]`, `sum = product { ("+" | "-") product }`,
 /// `product = unary { ("*" | "div" | "rem") unary }`
 #[cycle(expr)]
 fn parse_grouped(
@@ -201,6 +263,9 @@ fn parse_grouped(
     let (mut left, mut rest) = parse_operand(alloc, tokens, level, depth)?;
     while let Some(op) = operator_at(rest, level) {
         let (grown, behind) = parse_right(alloc, left, op, rest, level, depth)?;
+        if takes_one(level) {
+            return Ok((grown, behind));
+        }
         left = grown;
         rest = behind;
     }
@@ -227,8 +292,7 @@ fn parse_right(
         x.1.now (tree_of x.0.expr) x.0.height) }
     ensures err { IfErr result (Stunts tokens.now level depth (tree_of left.expr) left.height) }
 {
-    let (first, behind) = split(tokens);
-    check_nesting(tokens, depth + left.height + 1)?;
+    let (first, behind) = enter(tokens, depth + left.height + 1)?;
     let (right, rest) = parse_operand(alloc, behind, level, depth + 1)?;
     let whole = binary(alloc, op, left, right, first.start)?;
     Ok((whole, rest))
@@ -252,6 +316,7 @@ fn parse_operand(
     match level {
         Level::Or => parse_grouped(alloc, tokens, Level::And, depth),
         Level::And => parse_negation(alloc, tokens, depth),
+        Level::Comparison => parse_grouped(alloc, tokens, Level::Sum, depth),
         Level::Sum => parse_grouped(alloc, tokens, Level::Product, depth),
         Level::Product => parse_unary(alloc, tokens, depth),
     }
@@ -271,38 +336,34 @@ fn parse_negation(
         Leads tokens.now Negation depth x.1.now (tree_of x.0.expr) x.0.height) }
     ensures err { IfErr result (Fails tokens.now Negation depth) }
 {
-    let (first, behind) = split(tokens);
-    if !is_key(first, Keyword::Not) {
-        return parse_comparison(alloc, tokens, depth);
+    if begins_with(tokens, Keyword::Not) {
+        parse_prefixed(alloc, UnaryOp::Not, tokens, Level::And, depth)
+    } else {
+        parse_grouped(alloc, tokens, Level::Comparison, depth)
     }
-    check_nesting(tokens, depth + 2)?;
-    let (operand, rest) = parse_negation(alloc, behind, depth + 1)?;
-    let whole = unary(alloc, UnaryOp::Not, operand, first.start)?;
-    Ok((whole, rest))
 }
 
-/// `cmp = sum [ ("==" | "<>" | "<" | "<=" | ">" | ">=") sum ]`
+/// A prefix operator and its operand, where an operand of the level stands.
 #[cycle(expr)]
-fn parse_comparison(
+fn parse_prefixed(
     alloc: Global,
+    op: UnaryOp,
     tokens: &[Token],
+    level: Level,
     depth: usize,
 ) -> Result<(Part, &[Token]), TreeError>
     requires ends { EndsOnce tokens.now }
+    requires prefix { IsPrefix level op (first_kind tokens.now) }
     requires room { depth < MAX_NESTING }
     ensures read { IfOk result (λ x. IsRead tokens.now x.1.now depth x.0.height) }
     ensures ok { IfOk result (λ x.
-        Leads tokens.now Comparison depth x.1.now (tree_of x.0.expr) x.0.height) }
-    ensures err { IfErr result (Fails tokens.now Comparison depth) }
+        Leads tokens.now (operand level) depth x.1.now (tree_of x.0.expr) x.0.height) }
+    ensures err { IfErr result (Fails tokens.now (operand level) depth) }
 {
-    let (left, compared) = parse_grouped(alloc, tokens, Level::Sum, depth)?;
-    let Some(op) = comparison_at(compared) else {
-        return Ok((left, compared));
-    };
-    let (sign, behind) = split(compared);
-    check_nesting(compared, depth + left.height + 1)?;
-    let (right, rest) = parse_grouped(alloc, behind, Level::Sum, depth + 1)?;
-    let whole = binary(alloc, op, left, right, sign.start)?;
+    let inner = depth + 1;
+    let (first, behind) = enter(tokens, inner + 1)?;
+    let (operand, rest) = parse_operand(alloc, behind, level, inner)?;
+    let whole = unary(alloc, op, operand, first.start)?;
     Ok((whole, rest))
 }
 
@@ -318,7 +379,7 @@ fn parse_unary(alloc: Global, tokens: &[Token], depth: usize) -> Result<(Part, &
 {
     let (first, _) = split(tokens);
     if is_sign(first, Symbol::Minus) {
-        parse_negated(alloc, tokens, depth)
+        parse_prefixed(alloc, UnaryOp::Neg, tokens, Level::Product, depth)
     } else if is_sign(first, Symbol::LeftParen) {
         parse_parens(alloc, tokens, depth)
     } else if is_sign(first, Symbol::LeftBrace) {
@@ -326,28 +387,6 @@ fn parse_unary(alloc: Global, tokens: &[Token], depth: usize) -> Result<(Part, &
     } else {
         parse_leaf(alloc, tokens, depth)
     }
-}
-
-/// `"-" unary`
-#[cycle(expr)]
-fn parse_negated(
-    alloc: Global,
-    tokens: &[Token],
-    depth: usize,
-) -> Result<(Part, &[Token]), TreeError>
-    requires ends { EndsOnce tokens.now }
-    requires begins { first_kind tokens.now ≡ TokenKind.Sign Symbol.Minus }
-    requires room { depth < MAX_NESTING }
-    ensures read { IfOk result (λ x. IsRead tokens.now x.1.now depth x.0.height) }
-    ensures ok { IfOk result (λ x.
-        Leads tokens.now Unary depth x.1.now (tree_of x.0.expr) x.0.height) }
-    ensures err { IfErr result (Fails tokens.now Unary depth) }
-{
-    let (first, behind) = split(tokens);
-    check_nesting(tokens, depth + 2)?;
-    let (operand, rest) = parse_unary(alloc, behind, depth + 1)?;
-    let whole = unary(alloc, UnaryOp::Neg, operand, first.start)?;
-    Ok((whole, rest))
 }
 
 /// `"(" expr ")"`
@@ -365,22 +404,19 @@ fn parse_parens(
         Leads tokens.now Unary depth x.1.now (tree_of x.0.expr) x.0.height) }
     ensures err { IfErr result (Fails tokens.now Unary depth) }
 {
-    let (_, opened) = split(tokens);
-    check_nesting(tokens, depth + 2)?;
-    let (inside, rest) = parse_enclosed(alloc, opened, Symbol::RightParen, depth + 1)?;
-    let whole = Part {
-        expr: inside.expr,
-        height: inside.height + 1,
-    };
-    Ok((whole, rest))
+    let inner = depth + 1;
+    let (_, opened) = enter(tokens, inner + 1)?;
+    let (mut inside, rest) = parse_enclosed(alloc, opened, Word::Sign(Symbol::RightParen), inner)?;
+    inside.height += 1;
+    Ok((inside, rest))
 }
 
-/// An expression and the sign behind it.
+/// An expression and the word or sign behind it.
 #[cycle(expr)]
 fn parse_enclosed(
     alloc: Global,
     tokens: &[Token],
-    closing: Symbol,
+    closing: Word,
     depth: usize,
 ) -> Result<(Part, &[Token]), TreeError>
     requires ends { EndsOnce tokens.now }
@@ -390,8 +426,8 @@ fn parse_enclosed(
         Encloses tokens.now depth closing x.1.now (tree_of x.0.expr) x.0.height) }
     ensures err { IfErr result (Exposes tokens.now depth closing) }
 {
-    let (inside, closed) = parse_grouped(alloc, tokens, Level::Or, depth)?;
-    let rest = expect_sign(closed, closing)?;
+    let (inside, closed) = parse_expression(alloc, tokens, depth)?;
+    let rest = expect_word(closed, closing)?;
     Ok((inside, rest))
 }
 
@@ -406,12 +442,11 @@ fn parse_block(alloc: Global, tokens: &[Token], depth: usize) -> Result<(Part, &
         Leads tokens.now Unary depth x.1.now (tree_of x.0.expr) x.0.height) }
     ensures err { IfErr result (Fails tokens.now Unary depth) }
 {
-    let (first, opened) = split(tokens);
     let inner = depth + 1;
-    check_nesting(tokens, inner + 1)?;
+    let (first, opened) = enter(tokens, inner + 1)?;
     let (statements, height, last) = parse_statements(alloc, opened, inner)?;
     let (_, begun) = split(last);
-    let (body, rest) = parse_enclosed(alloc, begun, Symbol::RightBrace, inner)?;
+    let (body, rest) = parse_enclosed(alloc, begun, Word::Sign(Symbol::RightBrace), inner)?;
     let whole = block(alloc, statements, height, body, first.start)?;
     Ok((whole, rest))
 }
@@ -457,10 +492,11 @@ fn parse_binding(
     ensures err { IfErr result (Fails tokens.now Tail depth) }
 {
     let (name, place, named) = expect_name(alloc, tokens)?;
-    let begun = expect_sign(named, Symbol::Becomes)?;
-    let (value, rest) = parse_enclosed(alloc, begun, Symbol::Semicolon, depth)?;
-    let statement = binding(name, value.expr, place);
-    Ok((statement, value.height, rest))
+    let begun = expect_word(named, Word::Sign(Symbol::Becomes))?;
+    let (value, rest) = parse_enclosed(alloc, begun, Word::Sign(Symbol::Semicolon), depth)?;
+    let height = value.height;
+    let statement = binding(name, value, place);
+    Ok((statement, height, rest))
 }
 
 /// `NUMBER | "true" | "false" | NAME`
@@ -488,35 +524,36 @@ fn parse_leaf(alloc: Global, tokens: &[Token], depth: usize) -> Result<(Part, &[
     }
 }
 
+/// Whether an expression of this level has one operator at most.
+fn takes_one(level: Level) -> bool
+    ensures { IsTrue result ↔ (level ≡ Level.Comparison) }
+{
+    match level {
+        Level::Comparison => true,
+        Level::Or | Level::And | Level::Sum | Level::Product => false,
+    }
+}
+
 /// The operator of this level that the tokens begin with.
 fn operator_at(tokens: &[Token], level: Level) -> Option<BinaryOp>
     requires { EndsOnce tokens.now }
     ensures { result ≡ operator_of level (first_kind tokens.now) }
 {
     match (level, &tokens[0].kind) {
-        (Level::Or, TokenKind::Key(Keyword::Or)) => Some(BinaryOp::Or),
-        (Level::And, TokenKind::Key(Keyword::And)) => Some(BinaryOp::And),
-        (Level::Sum, TokenKind::Sign(Symbol::Plus)) => Some(BinaryOp::Add),
-        (Level::Sum, TokenKind::Sign(Symbol::Minus)) => Some(BinaryOp::Sub),
-        (Level::Product, TokenKind::Sign(Symbol::Star)) => Some(BinaryOp::Mul),
-        (Level::Product, TokenKind::Key(Keyword::Div)) => Some(BinaryOp::Div),
-        (Level::Product, TokenKind::Key(Keyword::Rem)) => Some(BinaryOp::Rem),
-        _ => None,
-    }
-}
-
-/// The comparison that the tokens begin with.
-fn comparison_at(tokens: &[Token]) -> Option<BinaryOp>
-    requires { EndsOnce tokens.now }
-    ensures { result ≡ comparison_of (first_kind tokens.now) }
-{
-    match &tokens[0].kind {
-        TokenKind::Sign(Symbol::Equal) => Some(BinaryOp::Eq),
-        TokenKind::Sign(Symbol::NotEqual) => Some(BinaryOp::Ne),
-        TokenKind::Sign(Symbol::Less) => Some(BinaryOp::Lt),
-        TokenKind::Sign(Symbol::LessEqual) => Some(BinaryOp::Le),
-        TokenKind::Sign(Symbol::Greater) => Some(BinaryOp::Gt),
-        TokenKind::Sign(Symbol::GreaterEqual) => Some(BinaryOp::Ge),
+        (Level::Or, TokenKind::Key(Keyword::Or)) => Some(BinaryOp::Logic(Logic::Or)),
+        (Level::And, TokenKind::Key(Keyword::And)) => Some(BinaryOp::Logic(Logic::And)),
+        (Level::Comparison, TokenKind::Sign(sign)) => comparison_of(*sign),
+        (Level::Sum, TokenKind::Sign(Symbol::Plus)) => Some(BinaryOp::Arithmetic(Arithmetic::Add)),
+        (Level::Sum, TokenKind::Sign(Symbol::Minus)) => Some(BinaryOp::Arithmetic(Arithmetic::Sub)),
+        (Level::Product, TokenKind::Sign(Symbol::Star)) => Some(BinaryOp::Arithmetic(
+            Arithmetic::Mul,
+        )),
+        (Level::Product, TokenKind::Key(Keyword::Div)) => Some(BinaryOp::Arithmetic(
+            Arithmetic::Div,
+        )),
+        (Level::Product, TokenKind::Key(Keyword::Rem)) => Some(BinaryOp::Arithmetic(
+            Arithmetic::Rem,
+        )),
         _ => None,
     }
 }

@@ -2,20 +2,37 @@
 
 ghost use Rattle.std.specs.Prelude.{◌≡◌, ◌+◌, ◌<◌, ◌^◌, IfOk, IfErr, max};
 ghost use Rattle.id_tree.specs.declared.tree.TreeError.TheVariants.{Memory};
-ghost use Rattle.id_tree.specs.declared.tree.Constant.TheVariants as constant;
+ghost use Rattle.id_value.specs.declared.Constant.TheVariants as constant;
 ghost use Rattle.id_tree.specs.Tree.{tree_of, stmt_tree, none};
 ghost use Rattle.id_tree.specs.Tree as tree;
 ghost use Rattle.id_tree.specs.Readers.{onto};
 
-use crate::tree::{BinaryOp, Constant, Expr, Stmt, TreeError, UnaryOp};
+use crate::tree::{Expr, Stmt, TreeError};
 use id_text::Identifier;
+use id_value::{BinaryOp, Constant, UnaryOp};
 use std::alloc::Global;
 
 /// An expression that was read, and its height.
-#[derive(Drop)]
 pub struct Part {
     pub expr: Expr,
     pub height: usize,
+}
+
+/// A drop of its own, so that a reader which gives up lets each part go by one call.
+impl Drop for Part {
+    fn drop(self) {
+        let Part { expr: _, height: _ } = self;
+    }
+}
+
+impl Part {
+    /// The expression alone.
+    pub fn into_expr(self) -> Expr
+        ensures { result ≡ self.expr }
+    {
+        let Part { expr, height: _ } = self;
+        expr
+    }
 }
 
 /// The number as an expression.
@@ -61,7 +78,7 @@ pub fn unary(alloc: Global, op: UnaryOp, operand: Part, place: usize) -> Result<
     ensures err { IfErr result (λ e. e ≡ Memory) }
 {
     let height = operand.height + 1;
-    let operand = Box::new(alloc, operand.expr)?;
+    let operand = Box::new(alloc, operand.into_expr())?;
     Ok(Part {
         expr: Expr::Unary { op, operand, place },
         height,
@@ -84,8 +101,8 @@ pub fn binary(
     ensures err { IfErr result (λ e. e ≡ Memory) }
 {
     let height = left.height.max(right.height) + 1;
-    let left = Box::new(alloc, left.expr)?;
-    let right = Box::new(alloc, right.expr)?;
+    let left = Box::new(alloc, left.into_expr())?;
+    let right = Box::new(alloc, right.into_expr())?;
     Ok(Part {
         expr: Expr::Binary {
             op,
@@ -97,11 +114,47 @@ pub fn binary(
     })
 }
 
-/// The name for the value of an expression.
-pub fn binding(name: Identifier, value: Expr, place: usize) -> Stmt
-    ensures { stmt_tree result ≡ tree.binding name (tree_of value) place }
+/// The predicate and the arms of an `if`.
+pub fn conditional(
+    alloc: Global,
+    test: Part,
+    then: Part,
+    otherwise: Part,
+    place: usize,
+) -> Result<Part, TreeError>
+    requires low { test.height < 2 ^ 63 }
+    requires middle { then.height < 2 ^ 63 }
+    requires high { otherwise.height < 2 ^ 63 }
+    ensures height { IfOk result (λ p.
+        p.height ≡ max (max test.height then.height) otherwise.height + 1) }
+    ensures tree { IfOk result (λ p. tree_of p.expr
+        ≡ tree.conditional (tree_of test.expr) (tree_of then.expr) (tree_of otherwise.expr) place) }
+    ensures err { IfErr result (λ e. e ≡ Memory) }
 {
-    Stmt::Binding { name, value, place }
+    let height = test.height.max(then.height).max(otherwise.height) + 1;
+    let test = Box::new(alloc, test.into_expr())?;
+    let then = Box::new(alloc, then.into_expr())?;
+    let otherwise = Box::new(alloc, otherwise.into_expr())?;
+    Ok(Part {
+        expr: Expr::If {
+            test,
+            then,
+            otherwise,
+            place,
+        },
+        height,
+    })
+}
+
+/// The name for the value of an expression.
+pub fn binding(name: Identifier, value: Part, place: usize) -> Stmt
+    ensures { stmt_tree result ≡ tree.binding name (tree_of value.expr) place }
+{
+    Stmt::Binding {
+        name,
+        value: value.into_expr(),
+        place,
+    }
 }
 
 /// The statements, whose values have at most this height, round the body.
@@ -120,7 +173,7 @@ pub fn block(
     ensures err { IfErr result (λ e. e ≡ Memory) }
 {
     let height = height.max(body.height) + 1;
-    let body = Box::new(alloc, body.expr)?;
+    let body = Box::new(alloc, body.into_expr())?;
     Ok(Part {
         expr: Expr::Block {
             statements,

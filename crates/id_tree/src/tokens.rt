@@ -14,11 +14,20 @@ ghost use Rattle.id_tree.specs.Readers.{
   Untypes,
   truth_in,
 };
-ghost use Rattle.id_tree.specs.Grammar.{sign, kind_named};
+ghost use Rattle.id_tree.specs.declared.parser.Level.TheVariants as level;
+ghost use Rattle.id_tree.specs.Grammar.{word, kind_of, kind_named, operator_of};
 
-use crate::tree::{Kind, MAX_NESTING, TreeError};
+use crate::tree::{MAX_NESTING, TreeError};
 use id_text::{Identifier, Keyword, Symbol, Token, TokenKind};
+use id_value::{BinaryOp, Comparison, Kind};
 use std::alloc::Global;
+
+/// A reserved word or a sign, which a production fixes.
+#[derive(Clone, Copy)]
+pub enum Word {
+    Key(Keyword),
+    Sign(Symbol),
+}
 
 /// The first token and those behind it.
 pub fn split(tokens: &[Token]) -> (&Token, &[Token])
@@ -52,6 +61,16 @@ pub fn is_key(token: &Token, wanted: Keyword) -> bool
         TokenKind::Number(_) => false,
         TokenKind::Sign(_) => false,
         TokenKind::End => false,
+    }
+}
+
+/// Whether the token is this word or sign.
+pub fn is_word(token: &Token, wanted: Word) -> bool
+    ensures { IsTrue result ↔ (token.now.kind ≡ kind_of wanted) }
+{
+    match wanted {
+        Word::Key(key) => is_key(token, key),
+        Word::Sign(sign) => is_sign(token, sign),
     }
 }
 
@@ -95,6 +114,21 @@ pub fn kind_at(tokens: &[Token]) -> Option<Kind>
     }
 }
 
+/// The comparison that the sign is.
+pub fn comparison_of(sign: Symbol) -> Option<BinaryOp>
+    ensures { result ≡ operator_of level.Comparison (TokenKind.Sign sign) }
+{
+    match sign {
+        Symbol::Equal => Some(BinaryOp::Comparison(Comparison::Eq)),
+        Symbol::NotEqual => Some(BinaryOp::Comparison(Comparison::Ne)),
+        Symbol::Less => Some(BinaryOp::Comparison(Comparison::Lt)),
+        Symbol::LessEqual => Some(BinaryOp::Comparison(Comparison::Le)),
+        Symbol::Greater => Some(BinaryOp::Comparison(Comparison::Gt)),
+        Symbol::GreaterEqual => Some(BinaryOp::Comparison(Comparison::Ge)),
+        _ => None,
+    }
+}
+
 /// The refusal of the first token, since no program goes on with it.
 pub fn unexpected(tokens: &[Token]) -> TreeError
     requires { EndsOnce tokens.now }
@@ -105,10 +139,12 @@ pub fn unexpected(tokens: &[Token]) -> TreeError
     }
 }
 
-/// Refuses the first token where it makes this nesting and that is too much.
-pub fn check_nesting(tokens: &[Token], nesting: usize) -> Result<(), TreeError>
+/// The first token and those behind it, unless it makes this nesting and that is too much.
+pub fn enter(tokens: &[Token], nesting: usize) -> Result<(&Token, &[Token]), TreeError>
     requires { EndsOnce tokens.now }
-    ensures ok { IfOk result (λ _. nesting ≤ MAX_NESTING) }
+    ensures whole { IfOk result (λ x. tokens.now ≡ x.0.now ∷ x.1.now) }
+    ensures ends { IfOk result (λ x. x.0.now.kind ≢ TokenKind.End → EndsOnce x.1.now) }
+    ensures fits { IfOk result (λ _. nesting ≤ MAX_NESTING) }
     ensures deep { IfErr result (λ _. MAX_NESTING < nesting) }
     ensures err { IfErr result (λ e. e ≡ TreeError.TooDeep (first_start tokens.now)) }
 {
@@ -117,18 +153,18 @@ pub fn check_nesting(tokens: &[Token], nesting: usize) -> Result<(), TreeError>
             at: tokens[0].start,
         });
     }
-    Ok(())
+    Ok(split(tokens))
 }
 
-/// The tokens behind this sign.
-pub fn expect_sign(tokens: &[Token], wanted: Symbol) -> Result<&[Token], TreeError>
+/// The tokens behind this word or sign.
+pub fn expect_word(tokens: &[Token], wanted: Word) -> Result<&[Token], TreeError>
     requires { EndsOnce tokens.now }
     ensures behind { IfOk result (λ rest. IsBehind rest.now tokens.now) }
-    ensures ok { IfOk result (λ rest. Takes (sign wanted) tokens.now rest.now) }
-    ensures err { IfErr result (Misses (sign wanted) tokens.now) }
+    ensures ok { IfOk result (λ rest. Takes (word wanted) tokens.now rest.now) }
+    ensures err { IfErr result (Misses (word wanted) tokens.now) }
 {
     let (first, rest) = split(tokens);
-    if is_sign(first, wanted) {
+    if is_word(first, wanted) {
         Ok(rest)
     } else {
         Err(unexpected(tokens))
@@ -162,7 +198,7 @@ pub fn expect_kind(tokens: &[Token]) -> Result<(Kind, &[Token]), TreeError>
     ensures ok { IfOk result (λ x. Types tokens.now x.1.now x.0) }
     ensures err { IfErr result (Untypes tokens.now) }
 {
-    let named = expect_sign(tokens, Symbol::Colon)?;
+    let named = expect_word(tokens, Word::Sign(Symbol::Colon))?;
     let (_, rest) = split(named);
     match kind_at(named) {
         Some(kind) => Ok((kind, rest)),

@@ -1,54 +1,14 @@
 //! The tree of a program. The place of a thing is the byte offset of its head token.
 
 use id_text::{Identifier, Sequence};
+use id_value::{BinaryOp, Constant, Kind, UnaryOp};
 use std::alloc::{AllocError, AllocFailed};
-use thiserror::Error;
 
 /// The most nesting that a program may have.
 pub const MAX_NESTING: usize = 200;
 
-/// The kind of a value.
-#[derive(Clone, Copy, Debug, PartialEq, Eq)]
-pub enum Kind {
-    Int,
-    Bool,
-    Array,
-}
-
-/// What a literal stands for.
-#[derive(Clone, Copy, Debug, PartialEq, Eq)]
-pub enum Constant {
-    Int(i64),
-    Bool(bool),
-}
-
-/// An operator before its operand.
-#[derive(Clone, Copy, Debug, PartialEq, Eq)]
-pub enum UnaryOp {
-    Neg,
-    Not,
-}
-
-/// An operator between its operands.
-#[derive(Clone, Copy, Debug, PartialEq, Eq)]
-pub enum BinaryOp {
-    Add,
-    Sub,
-    Mul,
-    Div,
-    Rem,
-    Lt,
-    Le,
-    Gt,
-    Ge,
-    Eq,
-    Ne,
-    And,
-    Or,
-}
-
 /// An expression. Parentheses leave no trace in it.
-#[derive(Debug, Drop)]
+#[derive(Drop)]
 #[cycle(tree)]
 pub enum Expr {
     /// A number, at its first digit, or a truth value, at its word.
@@ -74,6 +34,13 @@ pub enum Expr {
         name: Identifier,
         place: usize,
     },
+    /// A predicate, and an arm for each of its values, at the word `if`.
+    If {
+        test: Box<Expr>,
+        then: Box<Expr>,
+        otherwise: Box<Expr>,
+        place: usize,
+    },
     /// Statements in whatever order, and the body that gives the value, at the brace.
     Block {
         statements: Vec<Stmt>,
@@ -83,7 +50,7 @@ pub enum Expr {
 }
 
 /// A statement of a block.
-#[derive(Debug, Drop)]
+#[derive(Drop)]
 #[cycle(tree)]
 pub enum Stmt {
     /// A name for the value of an expression, at the name.
@@ -95,7 +62,7 @@ pub enum Stmt {
 }
 
 /// A parameter of a definition, at its name.
-#[derive(Debug, Drop)]
+#[derive(Drop)]
 pub struct Param {
     pub name: Identifier,
     pub kind: Kind,
@@ -103,7 +70,7 @@ pub struct Param {
 }
 
 /// A definition, at its name, with its parameters in order.
-#[derive(Debug, Drop)]
+#[derive(Drop)]
 pub struct Def {
     pub name: Identifier,
     pub params: Sequence<Param>,
@@ -113,22 +80,19 @@ pub struct Def {
 }
 
 /// The definitions of a text, in order.
-#[derive(Debug, Drop)]
+#[derive(Drop)]
 pub struct Program {
     pub defs: Sequence<Def>,
 }
 
 /// Why a list of tokens is no program.
-#[derive(Clone, Copy, Debug, PartialEq, Eq, Error)]
+#[derive(Clone, Copy)]
 pub enum TreeError {
     /// No program begins with the tokens up to and with the one at this place: `def +`
-    #[error("unexpected at byte {at}")]
     Unexpected { at: usize },
     /// Programs do so begin, but each of them has nesting above 200.
-    #[error("too deep at byte {at}")]
     TooDeep { at: usize },
     /// A growth was refused.
-    #[error("out of memory")]
     Memory,
 }
 

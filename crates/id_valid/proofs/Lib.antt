@@ -1,3 +1,4 @@
 pub mod PastLemmas
 pub mod RolesLemmas
 pub mod ValidatorLemmas
+mod SurveyLemmas

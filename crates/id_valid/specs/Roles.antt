@@ -4,7 +4,7 @@ use Rattle.std.specs.List.{list_any}
 use Rattle.id_graph.specs.declared.instr.Block.{Block}
 use Rattle.id_graph.specs.declared.instr.Instr.{Instr}
 use Rattle.id_graph.specs.declared.instr.Op.{Op}
-use Rattle.id_graph.specs.declared.instr.Op.TheVariants.{Const, Unary, Binary, Merge, Back}
+use Rattle.id_graph.specs.declared.instr.Op.TheVariants.{Const, Unary, Binary, Merge, Switch, Back}
 use Rattle.id_graph.specs.declared.instr.PortKind.{PortKind}
 use Rattle.id_graph.specs.declared.dests.Dest.{Dest}
 use Rattle.id_graph.specs.declared.dests.Port.{Port}
@@ -21,6 +21,7 @@ merge_kind (Merge k) = Some k
 merge_kind (Const v) = None
 merge_kind (Unary f) = None
 merge_kind (Binary f) = None
+merge_kind (Switch k) = None
 merge_kind (Back k) = None
 
 -- the kind of a `back`
@@ -30,6 +31,7 @@ back_kind (Const v) = None
 back_kind (Unary f) = None
 back_kind (Binary f) = None
 back_kind (Merge k) = None
+back_kind (Switch k) = None
 
 -- the kind of a block's result: that of the `back` at its `first + 1`, if it is one
 abbrev pub result_kind : Parts → Block → Option PortKind

@@ -63,12 +63,15 @@ fn fills_roles(survey: &Survey<'_>, number: usize, op: Op) -> bool
 fn are_taken(instrs: &[Instr], instr: &Instr) -> bool
     ensures { IsTrue result ↔ All (IsTaken instrs.now instr.now.op) (arcs instr.now) }
 {
-    let op = instr.op;
-    instr
-        .dests
-        .as_slice()
-        .iter()
-        .all(|dest| is_taken(instrs, op, *dest))
+    all_take(instrs, instr.op, instr.dests.as_slice())
+        && all_take(instrs, instr.op, instr.false_arcs())
+}
+
+/// Whether each of the destinations takes what the operator sends.
+fn all_take(instrs: &[Instr], op: Op, dests: &[Dest]) -> bool
+    ensures { IsTrue result ↔ All (IsTaken instrs.now op) dests.now }
+{
+    dests.iter().all(|dest| is_taken(instrs, op, *dest))
 }
 
 /// Whether the port at a destination takes the kind that an operator sends.

@@ -2,10 +2,11 @@
 
 ghost use Rattle.std.specs.Prelude.{◌≡◌, ◌<◌, ◌==◌, length, min, All, IfOk, cond, count_by};
 ghost use Rattle.std.specs.List.{list_any};
+ghost use Rattle.id_graph.specs.Graph.{arcs};
 ghost use Rattle.id_valid.specs.Roles.{arcs_into, is_dest, is_entry, is_first, is_second};
 ghost use Rattle.id_valid.specs.Survey.{Adds, Counts, Marks, Notes};
 
-use id_graph::{Dest, Graph, Port};
+use id_graph::{Dest, Graph, Instr, Port};
 use std::alloc::{AllocError, Global};
 use std::marker::Model;
 
@@ -141,9 +142,18 @@ fn arcs_into(alloc: Global, graph: &Graph, port: Port) -> Result<Vec<u8>, AllocE
     let instrs = graph.instrs();
     let mut counts = vec![in alloc; 0; instrs.len()]?;
     for instr in instrs {
-        feed(&mut counts, port, instr.dests.as_slice());
+        feed_from(&mut counts, port, instr);
     }
     Ok(counts)
+}
+
+/// Adds the arcs from an instruction that feed this port.
+fn feed_from(counts: &mut [u8], port: Port, instr: &Instr)
+    requires { All (λ d. d.instr < length counts.old) (arcs instr.now) }
+    ensures { Adds counts.old counts.new (λ k. count_by (is_dest k port) (arcs instr.now)) }
+{
+    feed(counts, port, instr.dests.as_slice());
+    feed(counts, port, instr.false_arcs());
 }
 
 /// Adds the arcs to these destinations that feed this port.

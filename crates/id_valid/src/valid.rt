@@ -10,6 +10,7 @@ use crate::rules::is_sound;
 use crate::survey::Survey;
 use id_graph::{Block, Graph};
 use std::alloc::{AllocError, Global};
+use std::fmt;
 use std::marker::Model;
 use thiserror::Error;
 
@@ -25,11 +26,18 @@ pub enum InvalidCause {
 }
 
 /// A graph that is not known to be valid, as it was passed, and why.
-#[derive(Debug, Drop, Error)]
+#[derive(Drop, Error)]
 #[error("{cause}")]
 pub struct Invalid {
     pub graph: Graph,
     pub cause: InvalidCause,
+}
+
+// The cause tells all that a reader wants; the graph is long.
+impl fmt::Debug for Invalid {
+    fn fmt<W: fmt::Write>(&self, f: &mut fmt::Formatter<W>) -> fmt::Result {
+        fmt::Debug::fmt(&self.cause, f)
+    }
 }
 
 /// The graph, if no instruction of it is faulty.

@@ -1,6 +1,6 @@
-use Rattle.id_laws.proofs.Places.{Distinct-checked}
-use Rattle.id_laws.proofs.Coherence.{coherence}
+-- What a source Has at a path and a place, it Has there alone.
+use Rattle.id_meaning.proofs.Coherence.{coherence}
 use Rattle.id_laws.proofs.coherent.Goals as goal
 
 pub returns : goal.returns
-returns c = λ S. coherence S (Distinct-checked S.checked)
+returns c = coherence

@@ -1,5 +1,5 @@
 -- The inputs of a program are inputs for each graph that the schemas give it.
-use Rattle.id_laws.proofs.Validity.{inputs_taken}
+use Rattle.id_laws.proofs.InputsFit.{inputs_taken}
 use Rattle.id_laws.proofs.inputs_fit.Goals as goal
 
 pub returns : goal.returns

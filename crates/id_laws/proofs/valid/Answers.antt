@@ -1,3 +1,4 @@
+-- Every graph that the schemas give a program is valid.
 use Rattle.id_laws.proofs.Validity.{validity}
 use Rattle.id_laws.proofs.valid.Goals as goal
 

@@ -1,4 +1,4 @@
--- A message that fits names an instruction, and has at most as many outputs as that has destinations, or one.
+-- A message that fits names an instruction, and has at most as many outputs as that has destinations on a side, or one.
 use Rattle.std.proofs.Common.{◌≡◌, Some, refl}
 use Rattle.std.specs.Prelude.{slice_get}
 use Rattle.std.proofs.lemmas.Option.{slice_get_read}

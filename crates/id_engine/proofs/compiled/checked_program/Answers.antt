@@ -49,4 +49,4 @@ returns-clause-inside c =
     checker_inside c.args.text.now c.in-Ok-parse.program
     (λ q h. StartsAt-within (length c.args.text.now) c.in-Ok.tokens.items c.in-Ok.ensures.within q (subst (λ (ts : List Token). StartsAt q ts) c.as_slice.ensures.value (c.in-Ok-parse.ensures.within q h)))
     (short_text c.args.text.now (λ long. (let e = c.in-Ok.ensures.too_long.1 long in absurd cc)))
-    c.in-Err-check.error.cause c.in-Err-check.ensures.refused
+    c.in-Err-check.error.cause c.in-Err-check.ensures.inside

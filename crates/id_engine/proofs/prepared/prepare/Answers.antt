@@ -1,5 +1,5 @@
 use Rattle.std.proofs.Common.{map, subst}
-use Rattle.id_check.specs.declared.Checked.{Checked}
+use Rattle.id_check.specs.declared.checked.Checked.{Checked}
 use Rattle.id_engine.specs.Refusals.{AreRefusedFor}
 use Rattle.id_engine.specs.Refusals.IsRefusedSource.{by_text, by_words}
 use Rattle.id_engine.proofs.prepared.prepare.Goals as goal

@@ -1,4 +1,5 @@
 use Rattle.std.proofs.Common.{◌≤◌, length, All, arith, subst, refl, List}
+use Rattle.std.proofs.lemmas.Grind.{common_steps}
 use Rattle.std.proofs.lemmas.List.{take_all}
 use Rattle.std.proofs.lemmas.List.Elements.{All-more}
 use Rattle.id_graph.specs.declared.instr.Instr.{Instr}
@@ -16,3 +17,15 @@ returns c =
     let all : length c.args.instrs.now ≤ c.loop-number.number = omega arith
     in let P : List Instr → Type 0 = λ is. All (ArcsExist c.args.instrs.now) is
     in subst P (take_all _ _ all) c.loop-number.invariant
+
+pub loop-number-init : goal.loop-number-init
+loop-number-init c = grind (arith, common_steps)
+
+pub offset_bounds-instrs-number : goal.offset_bounds-instrs-number
+offset_bounds-instrs-number c = grind (arith, common_steps)
+
+pub bounds-instrs-number : goal.bounds-instrs-number
+bounds-instrs-number c = grind (arith, common_steps)
+
+pub overflow_cast-result : goal.overflow_cast-result
+overflow_cast-result c = grind (arith, common_steps)

@@ -2,7 +2,8 @@
 use Rattle.std.proofs.Common.{◌<◌, length, ap, sym, ◌∙◌}
 use Rattle.std.specs.Option.{option_and_then}
 use Rattle.std.proofs.lemmas.Option.{slice_get-get_or}
-use Rattle.id_meaning.specs.Inputs.{cut_so, said_by, said_of, value_spelled, Says}
+use Rattle.id_meaning.specs.Inputs.{said_by, said_of, value_spelled, Says}
+use Rattle.id_meaning.specs.Reading.{cut_so}
 use Rattle.id_meaning.proofs.inputs.said.Goals as goal
 
 pub returns-in_default-clause-said : goal.returns-in_default-clause-said

@@ -3,13 +3,14 @@ use Rattle.std.proofs.Common.{◌<◌, length, ap, sym, ◌∙◌, Some, arith, 
 use Rattle.std.specs.Prelude.{slice_get, option_map}
 use Rattle.std.proofs.lemmas.List.{length-map}
 use Rattle.std.proofs.lemmas.Option.{slice_get-map, slice_get-get_or}
-use Rattle.id_record.specs.Sends.{sent, token_to}
+use Rattle.id_record.specs.Sends.{token_to}
+use Rattle.id_record.proofs.SendsLemmas.{sent-out}
 use Rattle.id_record.proofs.outputs.payload.Goals as goal
 
 within : (c : goal.In-Out) → c.args.number < length c.args.dests.now
 within c =
-    let many = ap (λ f. length (sent c.args.dests.now c.args.tag f)) c.in-Out.is ∙ length-map c.args.dests.now (token_to c.args.tag c.in-Out.value) in
-    omega (arith, many, c.requires)
+    let ds = c.args.dests.now in
+    omega (arith, ap length (sent-out ds c.args.tag c.args.fired c.in-Out.value c.in-Out.is), length-map ds (token_to c.args.tag c.in-Out.value), c.requires)
 
 pub bounds-dests-number : goal.bounds-dests-number
 bounds-dests-number c = within c
@@ -22,8 +23,9 @@ offset_bounds-dests-number c =
 pub returns-in-Out : goal.returns-in-Out
 returns-in-Out c =
     let ds = c.args.dests.now in
-    let below : c.args.number < length ds = omega (arith, ap (λ f. length (sent ds c.args.tag f)) c.in-Out.is, length-map ds (token_to c.args.tag c.in-Out.value), c.requires) in
-    ap (λ f. slice_get (sent ds c.args.tag f) c.args.number) c.in-Out.is
+    let out = sent-out ds c.args.tag c.args.fired c.in-Out.value c.in-Out.is in
+    let below : c.args.number < length ds = omega (arith, ap length out, length-map ds (token_to c.args.tag c.in-Out.value), c.requires) in
+    ap (λ xs. slice_get xs c.args.number) out
     ∙ slice_get-map (token_to c.args.tag c.in-Out.value) ds c.args.number
     ∙ ap (option_map (token_to c.args.tag c.in-Out.value)) (slice_get-get_or ds c.args.number _ below)
     ∙ ap (λ x. Some x) (sym c.token_to.ensures)

@@ -1,14 +1,58 @@
 -- Each reader's run, from its first token to its way out (proofs/ReaderLemmas.antt).
-use Rattle.std.proofs.Common.{◌≡◌, ◌∙◌, sym, refl, arith, rules}
+use Rattle.std.proofs.Common.{◌≡◌, ◌∙◌, ap, sym, refl, arith, rules}
+use Rattle.std.proofs.lemmas.Grind.{common_steps}
 use Rattle.std.proofs.lemmas.Result.{err_from_is_err_and, IfOk-weaker, IfErr-weaker}
-use Rattle.id_text.specs.declared.token.TokenKind.TheVariants.{Key}
-use Rattle.id_text.specs.declared.token.Keyword.TheVariants.{Not}
-use Rattle.id_tree.specs.Grammar.{Negation, Comparison}
-use Rattle.id_tree.specs.Readers.{Leads, Fails}
+use Rattle.id_text.specs.declared.token.TokenKind.TheVariants.{Key, Sign}
+use Rattle.id_text.specs.declared.token.Symbol.TheVariants.{Minus}
+use Rattle.id_text.specs.declared.token.Keyword.TheVariants.{If, Not}
+use Rattle.id_tree.specs.declared.parser.Level.TheVariants as level
+use Rattle.id_tree.specs.Grammar.{Expression, Grouped, Negation}
+use Rattle.id_tree.specs.Readers.{first_kind, Leads, Fails}
 use Rattle.id_tree.specs.Tree.{tree_of}
-use Rattle.id_tree.proofs.ReaderLemmas.{first_of, IsRead-then, Level-begins, Level-grows, Level-fails, Level-stunts, Level-ends, Right-deep, Right-fails, Right-grows, At-opens, At-part, At-word, At-enclosed, Leads-done, Leads-at, Fails-deep, Fails-part, Fails-word, Fails-enclosed, Encloses-done, Exposes-sign, Exposes-part, opens_negated, opens_denied, opens_parens, Compare-fails, Compare-alone, Second-deep, Second-fails, Second-leads, Negation-leads, Negation-fails}
-use Rattle.id_tree.proofs.BlockLemmas.{opens_block, Encloses-tail, Exposes-tail, At-binding, Fails-tail, Adds-done, IsGathered-add, Gathers-none, Gathers-add, Fails-gathered, Leads-gathered, Leads-body, Fails-body}
+use Rattle.id_tree.proofs.ReaderLemmas.{IsRead-then, Level-begins, Level-grows, Level-grown, Level-fails, Level-stunts, Level-ends, Right-deep, Right-fails, Right-grows, At-conditional, At-parens, At-part, At-word, At-enclosed, Leads-done, Leads-at, Fails-deep, Fails-part, Fails-word, Fails-enclosed, IsPrefix-begins, Prefix-deep, Prefix-fails, Prefix-leads, Encloses-done, Exposes-word, Exposes-part, opens_negated, opens_denied, opens_conditional, opens_parens, Expression-leads, Expression-fails, Negation-leads, Negation-fails}
+use Rattle.id_tree.proofs.BlockLemmas.{opens_block, At-block, Encloses-tail, Exposes-tail, At-binding, Fails-tail, Adds-done, IsGathered-add, Gathers-none, Gathers-add, Fails-gathered, Leads-gathered, Leads-body, Fails-body}
 use Rattle.id_tree.proofs.parser.+expr.Goals as goal
+
+pub parse_expression-returns-else-begins_with-clause-ok : goal.parse_expression-returns-else-begins_with-clause-ok
+parse_expression-returns-else-begins_with-clause-ok t c =
+    let is_not : first_kind c.args.tokens.now ≡ Key If → ⊥ = search rules in
+    IfOk-weaker c.parse_grouped.result (λ x. Leads c.args.tokens.now (Grouped level.Or) c.args.depth x.1.now (tree_of x.0.expr) x.0.height)
+    (λ x. Leads c.args.tokens.now Expression c.args.depth x.1.now (tree_of x.0.expr) x.0.height)
+    (λ x q. Expression-leads is_not q) c.parse_grouped.ensures.ok
+
+pub parse_expression-returns-else-begins_with-clause-err : goal.parse_expression-returns-else-begins_with-clause-err
+parse_expression-returns-else-begins_with-clause-err t c =
+    let is_not : first_kind c.args.tokens.now ≡ Key If → ⊥ = search rules in
+    IfErr-weaker c.parse_grouped.result (Fails c.args.tokens.now (Grouped level.Or) c.args.depth) (Fails c.args.tokens.now Expression c.args.depth)
+    (λ x q. Expression-fails is_not q) c.parse_grouped.ensures.err
+
+pub parse_conditional-returns-in_err-first-clause-err : goal.parse_conditional-returns-in_err-first-clause-err
+parse_conditional-returns-in_err-first-clause-err t c =
+    let p = err_from_is_err_and c.from_residual.result c.from_residual.ensures.1 in
+    rw (p.1, p.2) (Fails-deep c.requires.ends (opens_conditional c.requires.begins) _ _ c.in_err-first.ensures.err c.in_err-first.ensures.deep)
+
+pub parse_conditional-returns-in_err-test-clause-err : goal.parse_conditional-returns-in_err-test-clause-err
+parse_conditional-returns-in_err-test-clause-err t c =
+    let p = err_from_is_err_and c.from_residual-in_err-test.result c.from_residual-in_err-test.ensures.1 in
+    rw (p.1, p.2) (Fails-enclosed (At-conditional c.in_ok-first.ensures.whole c.requires.begins c.in_ok-first.ensures.fits) c.in_err-test.ensures.err)
+
+pub parse_conditional-returns-in_err-then-clause-err : goal.parse_conditional-returns-in_err-then-clause-err
+parse_conditional-returns-in_err-then-clause-err t c =
+    let p = err_from_is_err_and c.from_residual-in_err-then.result c.from_residual-in_err-then.ensures.1 in
+    rw (p.1, p.2) (Fails-enclosed (At-enclosed (At-conditional c.in_ok-first.ensures.whole c.requires.begins c.in_ok-first.ensures.fits)
+    c.in_ok-test.ensures.ok) c.in_err-then.ensures.err)
+
+pub parse_conditional-returns-in_err-otherwise-clause-err : goal.parse_conditional-returns-in_err-otherwise-clause-err
+parse_conditional-returns-in_err-otherwise-clause-err t c =
+    let p = err_from_is_err_and c.from_residual-in_err-otherwise.result c.from_residual-in_err-otherwise.ensures.1 in
+    rw (p.1, p.2) (Fails-part (At-enclosed (At-enclosed (At-conditional c.in_ok-first.ensures.whole c.requires.begins c.in_ok-first.ensures.fits)
+    c.in_ok-test.ensures.ok) c.in_ok-then.ensures.ok) c.in_err-otherwise.ensures.err)
+
+pub parse_conditional-returns-clause-ok : goal.parse_conditional-returns-clause-ok
+parse_conditional-returns-clause-ok t c =
+    Leads-at c.in_ok-whole.ensures.tree (omega (arith, c.in_ok-whole.ensures.height))
+    (Leads-done (At-part (At-enclosed (At-enclosed (At-conditional c.in_ok-first.ensures.whole c.requires.begins c.in_ok-first.ensures.fits)
+    c.in_ok-test.ensures.ok) c.in_ok-then.ensures.ok) c.in_ok-otherwise.ensures.ok))
 
 pub parse_grouped-returns-in_err-left-clause-err : goal.parse_grouped-returns-in_err-left-clause-err
 parse_grouped-returns-in_err-left-clause-err t c =
@@ -20,7 +64,16 @@ parse_grouped-loop-op-init t c = (c.in_ok-left.ensures.read, Level-begins c.in_o
 
 pub parse_grouped-loop-op-preserved : goal.parse_grouped-loop-op-preserved
 parse_grouped-loop-op-preserved t c =
-    (IsRead-then c.loop-op.invariant.0 c.in_ok-grown.ensures.read, Level-grows c.loop-op.invariant.1 c.in_ok-grown.ensures.ok)
+    let is_not : c.args.level ≡ level.Comparison → ⊥ = search rules in
+    (IsRead-then c.loop-op.invariant.0 c.in_ok-grown.ensures.read, Level-grows c.loop-op.invariant.1 c.in_ok-grown.ensures.ok is_not)
+
+pub parse_grouped-returns-then-takes_one-clause-read : goal.parse_grouped-returns-then-takes_one-clause-read
+parse_grouped-returns-then-takes_one-clause-read t c = IsRead-then c.loop-op.invariant.0 c.in_ok-grown.ensures.read
+
+pub parse_grouped-returns-then-takes_one-clause-ok : goal.parse_grouped-returns-then-takes_one-clause-ok
+parse_grouped-returns-then-takes_one-clause-ok t c =
+    let is : c.args.level ≡ level.Comparison = search rules in
+    Level-grown c.loop-op.invariant.1 c.in_ok-grown.ensures.ok is
 
 pub parse_grouped-returns-in_err-grown-clause-err : goal.parse_grouped-returns-in_err-grown-clause-err
 parse_grouped-returns-in_err-grown-clause-err t c =
@@ -30,35 +83,20 @@ parse_grouped-returns-in_err-grown-clause-err t c =
 pub parse_grouped-returns-clause-ok : goal.parse_grouped-returns-clause-ok
 parse_grouped-returns-clause-ok t c = Level-ends c.loop-op.invariant.1 (sym c.operator_at.ensures ∙ c.in_default.is)
 
-pub parse_negated-returns-in_err-check_nesting-clause-err : goal.parse_negated-returns-in_err-check_nesting-clause-err
-parse_negated-returns-in_err-check_nesting-clause-err t c =
+pub parse_parens-returns-in_err-opened-clause-err : goal.parse_parens-returns-in_err-opened-clause-err
+parse_parens-returns-in_err-opened-clause-err t c =
     let p = err_from_is_err_and c.from_residual.result c.from_residual.ensures.1 in
-    rw (p.1, p.2) (Fails-deep c.split.ensures.whole (opens_negated (first_of c.split.ensures.whole c.requires.begins)) c.args.depth c.in_err-check_nesting.field-0.0 c.in_err-check_nesting.ensures.err (omega (arith, c.in_err-check_nesting.ensures.deep)))
-
-pub parse_negated-returns-in_err-operand-clause-err : goal.parse_negated-returns-in_err-operand-clause-err
-parse_negated-returns-in_err-operand-clause-err t c =
-    let p = err_from_is_err_and c.from_residual-in_err-operand.result c.from_residual-in_err-operand.ensures.1 in
-    rw (p.1, p.2) (Fails-part (At-opens c.split.ensures.whole (opens_negated (first_of c.split.ensures.whole c.requires.begins)) c.args.depth (omega (arith, c.in_ok-check_nesting.ensures.ok))) c.in_err-operand.ensures.err)
-
-pub parse_negated-returns-clause-ok : goal.parse_negated-returns-clause-ok
-parse_negated-returns-clause-ok t c =
-    Leads-at c.in_ok-whole.ensures.tree (omega (arith, c.in_ok-whole.ensures.height))
-    (Leads-done (At-part (At-opens c.split.ensures.whole (opens_negated (first_of c.split.ensures.whole c.requires.begins)) c.args.depth (omega (arith, c.in_ok-check_nesting.ensures.ok))) c.in_ok-operand.ensures.ok))
-
-pub parse_parens-returns-in_err-check_nesting-clause-err : goal.parse_parens-returns-in_err-check_nesting-clause-err
-parse_parens-returns-in_err-check_nesting-clause-err t c =
-    let p = err_from_is_err_and c.from_residual.result c.from_residual.ensures.1 in
-    rw (p.1, p.2) (Fails-deep c.split.ensures.whole (opens_parens (first_of c.split.ensures.whole c.requires.begins)) c.args.depth c.in_err-check_nesting.field-0.0 c.in_err-check_nesting.ensures.err (omega (arith, c.in_err-check_nesting.ensures.deep)))
+    rw (p.1, p.2) (Fails-deep c.requires.ends (opens_parens c.requires.begins) _ _ c.in_err-opened.ensures.err c.in_err-opened.ensures.deep)
 
 pub parse_parens-returns-in_err-inside-clause-err : goal.parse_parens-returns-in_err-inside-clause-err
 parse_parens-returns-in_err-inside-clause-err t c =
     let p = err_from_is_err_and c.from_residual-in_err-inside.result c.from_residual-in_err-inside.ensures.1 in
-    rw (p.1, p.2) (Fails-enclosed (At-opens c.split.ensures.whole (opens_parens (first_of c.split.ensures.whole c.requires.begins)) c.args.depth (omega (arith, c.in_ok-check_nesting.ensures.ok))) c.in_err-inside.ensures.err)
+    rw (p.1, p.2) (Fails-enclosed (At-parens c.in_ok-opened.ensures.whole c.requires.begins c.in_ok-opened.ensures.fits) c.in_err-inside.ensures.err)
 
 pub parse_parens-returns-clause-ok : goal.parse_parens-returns-clause-ok
 parse_parens-returns-clause-ok t c =
     Leads-at refl (omega arith)
-    (Leads-done (At-enclosed (At-opens c.split.ensures.whole (opens_parens (first_of c.split.ensures.whole c.requires.begins)) c.args.depth (omega (arith, c.in_ok-check_nesting.ensures.ok))) c.in_ok-inside.ensures.ok))
+    (Leads-done (At-enclosed (At-parens c.in_ok-opened.ensures.whole c.requires.begins c.in_ok-opened.ensures.fits) c.in_ok-inside.ensures.ok))
 
 pub parse_enclosed-returns-in_err-inside-clause-err : goal.parse_enclosed-returns-in_err-inside-clause-err
 parse_enclosed-returns-in_err-inside-clause-err t c =
@@ -68,32 +106,34 @@ parse_enclosed-returns-in_err-inside-clause-err t c =
 pub parse_enclosed-returns-in_err-rest-clause-err : goal.parse_enclosed-returns-in_err-rest-clause-err
 parse_enclosed-returns-in_err-rest-clause-err t c =
     let p = err_from_is_err_and c.from_residual-in_err-rest.result c.from_residual-in_err-rest.ensures.1 in
-    rw (p.1, p.2) (Exposes-sign c.in_ok-inside.ensures.ok c.in_err-rest.ensures.err)
+    rw (p.1, p.2) (Exposes-word c.in_ok-inside.ensures.ok c.in_err-rest.ensures.err)
 
 pub parse_enclosed-returns-clause-ok : goal.parse_enclosed-returns-clause-ok
 parse_enclosed-returns-clause-ok t c = Encloses-done c.in_ok-inside.ensures.ok c.in_ok-rest.ensures.ok
 
-pub parse_block-returns-in_err-check_nesting-clause-err : goal.parse_block-returns-in_err-check_nesting-clause-err
-parse_block-returns-in_err-check_nesting-clause-err t c =
+pub parse_block-returns-in_err-first-clause-err : goal.parse_block-returns-in_err-first-clause-err
+parse_block-returns-in_err-first-clause-err t c =
     let p = err_from_is_err_and c.from_residual.result c.from_residual.ensures.1 in
-    rw (p.1, p.2) (Fails-deep c.split.ensures.whole (opens_block (first_of c.split.ensures.whole c.requires.begins)) c.args.depth c.in_err-check_nesting.field-0.0 c.in_err-check_nesting.ensures.err (omega (arith, c.in_err-check_nesting.ensures.deep)))
+    rw (p.1, p.2) (Fails-deep c.requires.ends (opens_block c.requires.begins) _ _ c.in_err-first.ensures.err c.in_err-first.ensures.deep)
 
 pub parse_block-returns-in_err-statements-clause-err : goal.parse_block-returns-in_err-statements-clause-err
 parse_block-returns-in_err-statements-clause-err t c =
     let p = err_from_is_err_and c.from_residual-in_err-statements.result c.from_residual-in_err-statements.ensures.1 in
-    rw (p.1, p.2) (Fails-part (At-opens c.split.ensures.whole (opens_block (first_of c.split.ensures.whole c.requires.begins)) c.args.depth (omega (arith, c.in_ok-check_nesting.ensures.ok))) c.in_err-statements.ensures.err)
+    rw (p.1, p.2) (Fails-part (At-block c.in_ok-first.ensures.whole c.requires.begins c.in_ok-first.ensures.fits) c.in_err-statements.ensures.err)
 
 pub parse_block-returns-in_err-body-clause-err : goal.parse_block-returns-in_err-body-clause-err
 parse_block-returns-in_err-body-clause-err t c =
     let p = err_from_is_err_and c.from_residual-in_err-body.result c.from_residual-in_err-body.ensures.1 in
-    rw (p.1, p.2) (Fails-part (At-opens c.split.ensures.whole (opens_block (first_of c.split.ensures.whole c.requires.begins)) c.args.depth (omega (arith, c.in_ok-check_nesting.ensures.ok)))
-    (Fails-gathered c.in_ok-statements.ensures.ok (Fails-body c.split-2.ensures.whole c.in_ok-statements.ensures.last (omega (arith, c.in_ok-check_nesting.ensures.ok)) c.in_err-body.ensures.err)))
+    rw (p.1, p.2) (Fails-part (At-block c.in_ok-first.ensures.whole c.requires.begins c.in_ok-first.ensures.fits)
+    (Fails-gathered c.in_ok-statements.ensures.ok
+    (Fails-body c.split.ensures.whole c.in_ok-statements.ensures.last c.in_ok-first.ensures.fits c.in_err-body.ensures.err)))
 
 pub parse_block-returns-clause-ok : goal.parse_block-returns-clause-ok
 parse_block-returns-clause-ok t c =
     Leads-at c.in_ok-whole.ensures.tree (omega (arith, c.in_ok-whole.ensures.height))
-    (Leads-done (At-part (At-opens c.split.ensures.whole (opens_block (first_of c.split.ensures.whole c.requires.begins)) c.args.depth (omega (arith, c.in_ok-check_nesting.ensures.ok)))
-    (Leads-gathered c.in_ok-statements.ensures.ok (Leads-body c.split-2.ensures.whole c.in_ok-statements.ensures.last (omega (arith, c.in_ok-check_nesting.ensures.ok)) c.in_ok-body.ensures.ok))))
+    (Leads-done (At-part (At-block c.in_ok-first.ensures.whole c.requires.begins c.in_ok-first.ensures.fits)
+    (Leads-gathered c.in_ok-statements.ensures.ok
+    (Leads-body c.split.ensures.whole c.in_ok-statements.ensures.last c.in_ok-first.ensures.fits c.in_ok-body.ensures.ok))))
 
 pub parse_statements-stmts-init : goal.parse_statements-stmts-init
 parse_statements-stmts-init t c = (record { ends = c.requires.ends; shorter = omega arith; fits = omega arith }, rw c.new-statements.ensures.items (Gathers-none c.args.tokens.now c.args.depth))
@@ -129,67 +169,175 @@ parse_binding-returns-clause-ok t c =
     Adds-done c.binding-statement.ensures (omega arith)
     (At-enclosed (At-word (At-binding c.args.depth (omega arith) c.in_ok-name.ensures.ok) c.in_ok-begun.ensures.ok) (Encloses-tail c.in_ok-value.ensures.ok))
 
-pub parse_right-returns-in_err-check_nesting-clause-err : goal.parse_right-returns-in_err-check_nesting-clause-err
-parse_right-returns-in_err-check_nesting-clause-err t c =
+pub parse_right-returns-in_err-first-clause-err : goal.parse_right-returns-in_err-first-clause-err
+parse_right-returns-in_err-first-clause-err t c =
     let p = err_from_is_err_and c.from_residual.result c.from_residual.ensures.1 in
-    rw (p.1, p.2) (Right-deep c.split.ensures.whole c.args.level c.args.op c.requires.operator c.args.depth (tree_of c.args.left.expr) c.args.left.height c.in_err-check_nesting.field-0.0 c.in_err-check_nesting.ensures.err c.in_err-check_nesting.ensures.deep)
+    rw (p.1, p.2) (Right-deep c.requires.ends c.args.level c.args.op c.requires.operator _ _ _ _ c.in_err-first.ensures.err c.in_err-first.ensures.deep)
 
 pub parse_right-returns-in_err-right-clause-err : goal.parse_right-returns-in_err-right-clause-err
 parse_right-returns-in_err-right-clause-err t c =
     let p = err_from_is_err_and c.from_residual-in_err-right.result c.from_residual-in_err-right.ensures.1 in
-    rw (p.1, p.2) (Right-fails c.split.ensures.whole c.args.level c.args.op c.requires.operator c.args.depth (tree_of c.args.left.expr) c.args.left.height c.in_ok-check_nesting.ensures.ok c.in_err-right.ensures.err)
+    rw (p.1, p.2) (Right-fails c.in_ok-first.ensures.whole c.args.level c.args.op c.requires.operator _ _ _
+    c.in_ok-first.ensures.fits c.in_err-right.ensures.err)
 
 pub parse_right-returns-clause-ok : goal.parse_right-returns-clause-ok
-parse_right-returns-clause-ok t c = Right-grows c.split.ensures.whole c.args.level c.args.op c.requires.operator c.args.depth (tree_of c.args.left.expr) c.args.left.height c.in_ok-check_nesting.ensures.ok c.in_ok-right.ensures.ok c.in_ok-whole.ensures.tree c.in_ok-whole.ensures.height
+parse_right-returns-clause-ok t c =
+    Right-grows c.in_ok-first.ensures.whole c.args.level c.args.op c.requires.operator _ _ _
+    c.in_ok-first.ensures.fits c.in_ok-right.ensures.ok c.in_ok-whole.ensures.tree c.in_ok-whole.ensures.height
 
-pub parse_comparison-returns-in_err-left-clause-err : goal.parse_comparison-returns-in_err-left-clause-err
-parse_comparison-returns-in_err-left-clause-err t c =
-    let p = err_from_is_err_and c.from_residual.result c.from_residual.ensures.1 in
-    rw (p.1, p.2) (Compare-fails c.in_err-left.ensures.err)
+pub parse_binding-returns-clause-read : goal.parse_binding-returns-clause-read
+parse_binding-returns-clause-read t c = grind (arith, common_steps)
 
-pub parse_comparison-returns-in_default-clause-ok : goal.parse_comparison-returns-in_default-clause-ok
-parse_comparison-returns-in_default-clause-ok t c = Compare-alone c.in_ok-left.ensures.ok (sym c.comparison_at.ensures ∙ c.in_default.is)
+pub parse_block-overflow_add-inner : goal.parse_block-overflow_add-inner
+parse_block-overflow_add-inner t c = grind (arith, common_steps)
 
-pub parse_comparison-returns-in_err-check_nesting-clause-err : goal.parse_comparison-returns-in_err-check_nesting-clause-err
-parse_comparison-returns-in_err-check_nesting-clause-err t c =
-    let p = err_from_is_err_and c.from_residual-in_err-check_nesting.result c.from_residual-in_err-check_nesting.ensures.1 in
-    rw (p.1, p.2) (Second-deep c.in_ok-left.ensures.ok c.split.ensures.whole c.in-Some.op (sym c.comparison_at.ensures ∙ c.in-Some.is) c.in_err-check_nesting.field-0.0 c.in_err-check_nesting.ensures.err c.in_err-check_nesting.ensures.deep)
+pub parse_block-overflow_add-inner-2 : goal.parse_block-overflow_add-inner-2
+parse_block-overflow_add-inner-2 t c = grind (arith, common_steps)
 
-pub parse_comparison-returns-in_err-right-clause-err : goal.parse_comparison-returns-in_err-right-clause-err
-parse_comparison-returns-in_err-right-clause-err t c =
-    let p = err_from_is_err_and c.from_residual-in_err-right.result c.from_residual-in_err-right.ensures.1 in
-    rw (p.1, p.2) (Second-fails c.in_ok-left.ensures.ok c.split.ensures.whole c.in-Some.op (sym c.comparison_at.ensures ∙ c.in-Some.is) c.in_ok-check_nesting.ensures.ok c.in_err-right.ensures.err)
+pub parse_block-block-requires-clause-low : goal.parse_block-block-requires-clause-low
+parse_block-block-requires-clause-low t c = grind (arith, common_steps)
 
-pub parse_comparison-returns-clause-ok : goal.parse_comparison-returns-clause-ok
-parse_comparison-returns-clause-ok t c = Second-leads c.in_ok-left.ensures.ok c.split.ensures.whole c.in-Some.op (sym c.comparison_at.ensures ∙ c.in-Some.is) c.in_ok-check_nesting.ensures.ok c.in_ok-right.ensures.ok c.in_ok-whole.ensures.tree c.in_ok-whole.ensures.height
+pub parse_block-block-requires-clause-high : goal.parse_block-block-requires-clause-high
+parse_block-block-requires-clause-high t c = grind (arith, common_steps)
 
-pub parse_negation-returns-then-not-is_key-clause-ok : goal.parse_negation-returns-then-not-is_key-clause-ok
-parse_negation-returns-then-not-is_key-clause-ok t c =
-    let is_not : c.split.result.0.now.kind ≡ Key Not → ⊥ = search rules in
-    IfOk-weaker c.parse_comparison.result (λ x. Leads c.args.tokens.now Comparison c.args.depth x.1.now (tree_of x.0.expr) x.0.height)
+pub parse_block-returns-clause-read : goal.parse_block-returns-clause-read
+parse_block-returns-clause-read t c = grind (arith, common_steps)
+
+pub parse_enclosed-returns-clause-read : goal.parse_enclosed-returns-clause-read
+parse_enclosed-returns-clause-read t c = grind (arith, common_steps)
+
+pub parse_conditional-overflow_add-inner : goal.parse_conditional-overflow_add-inner
+parse_conditional-overflow_add-inner t c = grind (arith, common_steps)
+
+pub parse_conditional-overflow_add-inner-2 : goal.parse_conditional-overflow_add-inner-2
+parse_conditional-overflow_add-inner-2 t c = grind (arith, common_steps)
+
+pub parse_conditional-conditional-requires-clause-low : goal.parse_conditional-conditional-requires-clause-low
+parse_conditional-conditional-requires-clause-low t c = grind (arith, common_steps)
+
+pub parse_conditional-conditional-requires-clause-middle : goal.parse_conditional-conditional-requires-clause-middle
+parse_conditional-conditional-requires-clause-middle t c = grind (arith, common_steps)
+
+pub parse_conditional-conditional-requires-clause-high : goal.parse_conditional-conditional-requires-clause-high
+parse_conditional-conditional-requires-clause-high t c = grind (arith, common_steps)
+
+pub parse_conditional-returns-clause-read : goal.parse_conditional-returns-clause-read
+parse_conditional-returns-clause-read t c = grind (arith, common_steps)
+
+pub parse_grouped-loop-op-smaller : goal.parse_grouped-loop-op-smaller
+parse_grouped-loop-op-smaller t c = grind (arith, common_steps)
+
+pub parse_grouped-returns-clause-read : goal.parse_grouped-returns-clause-read
+parse_grouped-returns-clause-read t c = grind (arith, common_steps)
+
+pub parse_operand-returns-in-Or-clause-read : goal.parse_operand-returns-in-Or-clause-read
+parse_operand-returns-in-Or-clause-read t c = grind (arith, common_steps)
+
+pub parse_operand-returns-in-And-clause-read : goal.parse_operand-returns-in-And-clause-read
+parse_operand-returns-in-And-clause-read t c = grind (arith, common_steps)
+
+pub parse_operand-returns-in-Sum-clause-read : goal.parse_operand-returns-in-Sum-clause-read
+parse_operand-returns-in-Sum-clause-read t c = grind (arith, common_steps)
+
+pub parse_operand-returns-in-Product-clause-read : goal.parse_operand-returns-in-Product-clause-read
+parse_operand-returns-in-Product-clause-read t c = grind (arith, common_steps)
+
+pub parse_parens-overflow_add-inner : goal.parse_parens-overflow_add-inner
+parse_parens-overflow_add-inner t c = grind (arith, common_steps)
+
+pub parse_parens-overflow_add-inner-2 : goal.parse_parens-overflow_add-inner-2
+parse_parens-overflow_add-inner-2 t c = grind (arith, common_steps)
+
+pub parse_parens-overflow_add-inside : goal.parse_parens-overflow_add-inside
+parse_parens-overflow_add-inside t c = grind (arith, common_steps)
+
+pub parse_parens-returns-clause-read : goal.parse_parens-returns-clause-read
+parse_parens-returns-clause-read t c = grind (arith, common_steps)
+
+pub parse_right-overflow_add-depth : goal.parse_right-overflow_add-depth
+parse_right-overflow_add-depth t c = grind (arith, common_steps)
+
+pub parse_right-overflow_add-depth-2 : goal.parse_right-overflow_add-depth-2
+parse_right-overflow_add-depth-2 t c = grind (arith, common_steps)
+
+pub parse_right-overflow_add-depth-3 : goal.parse_right-overflow_add-depth-3
+parse_right-overflow_add-depth-3 t c = grind (arith, common_steps)
+
+pub parse_right-binary-requires-clause-low : goal.parse_right-binary-requires-clause-low
+parse_right-binary-requires-clause-low t c = grind (arith, common_steps)
+
+pub parse_right-binary-requires-clause-high : goal.parse_right-binary-requires-clause-high
+parse_right-binary-requires-clause-high t c = grind (arith, common_steps)
+
+pub parse_right-returns-clause-read : goal.parse_right-returns-clause-read
+parse_right-returns-clause-read t c = grind (arith, common_steps)
+
+pub parse_statements-stmts-smaller : goal.parse_statements-stmts-smaller
+parse_statements-stmts-smaller t c = grind (arith, common_steps)
+
+pub parse_statements-returns-clause-read : goal.parse_statements-returns-clause-read
+parse_statements-returns-clause-read t c = grind (arith, common_steps)
+
+pub parse_unary-returns-then-is_sign-clause-read : goal.parse_unary-returns-then-is_sign-clause-read
+parse_unary-returns-then-is_sign-clause-read t c = grind (arith, common_steps)
+
+pub parse_unary-returns-then-is_sign-2-clause-read : goal.parse_unary-returns-then-is_sign-2-clause-read
+parse_unary-returns-then-is_sign-2-clause-read t c = grind (arith, common_steps)
+
+pub parse_unary-returns-then-is_sign-3-clause-read : goal.parse_unary-returns-then-is_sign-3-clause-read
+parse_unary-returns-then-is_sign-3-clause-read t c = grind (arith, common_steps)
+
+pub parse_unary-returns-else-is_sign-3-clause-read : goal.parse_unary-returns-else-is_sign-3-clause-read
+parse_unary-returns-else-is_sign-3-clause-read t c = grind (arith, common_steps)
+
+pub parse_negation-returns-else-begins_with-clause-ok : goal.parse_negation-returns-else-begins_with-clause-ok
+parse_negation-returns-else-begins_with-clause-ok t c =
+    let is_not : first_kind c.args.tokens.now ≡ Key Not → ⊥ = search rules in
+    IfOk-weaker c.parse_grouped.result (λ x. Leads c.args.tokens.now (Grouped level.Comparison) c.args.depth x.1.now (tree_of x.0.expr) x.0.height)
     (λ x. Leads c.args.tokens.now Negation c.args.depth x.1.now (tree_of x.0.expr) x.0.height)
-    (λ x q. Negation-leads c.split.ensures.whole is_not q) c.parse_comparison.ensures.ok
+    (λ x q. Negation-leads is_not q) c.parse_grouped.ensures.ok
 
-pub parse_negation-returns-then-not-is_key-clause-err : goal.parse_negation-returns-then-not-is_key-clause-err
-parse_negation-returns-then-not-is_key-clause-err t c =
-    let is_not : c.split.result.0.now.kind ≡ Key Not → ⊥ = search rules in
-    IfErr-weaker c.parse_comparison.result (Fails c.args.tokens.now Comparison c.args.depth) (Fails c.args.tokens.now Negation c.args.depth)
-    (λ x q. Negation-fails c.split.ensures.whole is_not q) c.parse_comparison.ensures.err
+pub parse_negation-returns-else-begins_with-clause-err : goal.parse_negation-returns-else-begins_with-clause-err
+parse_negation-returns-else-begins_with-clause-err t c =
+    let is_not : first_kind c.args.tokens.now ≡ Key Not → ⊥ = search rules in
+    IfErr-weaker c.parse_grouped.result (Fails c.args.tokens.now (Grouped level.Comparison) c.args.depth) (Fails c.args.tokens.now Negation c.args.depth)
+    (λ x q. Negation-fails is_not q) c.parse_grouped.ensures.err
 
-pub parse_negation-returns-in_err-check_nesting-clause-err : goal.parse_negation-returns-in_err-check_nesting-clause-err
-parse_negation-returns-in_err-check_nesting-clause-err t c =
-    let is : c.split.result.0.now.kind ≡ Key Not = search rules in
+pub parse_negation-parse_prefixed-requires : goal.parse_negation-parse_prefixed-requires
+parse_negation-parse_prefixed-requires t c =
+    let is : first_kind c.args.tokens.now ≡ Key Not = search rules in
+    (grind (arith, common_steps), (c.requires.ends, (opens_denied is, c.requires.room)))
+
+pub parse_unary-parse_prefixed-requires : goal.parse_unary-parse_prefixed-requires
+parse_unary-parse_prefixed-requires t c =
+    let is : c.split.result.0.now.kind ≡ Sign Minus = search rules in
+    (grind (arith, common_steps), (c.requires.ends, (opens_negated (ap first_kind c.split.ensures.whole ∙ is), c.requires.room)))
+
+pub parse_prefixed-parse_operand-requires : goal.parse_prefixed-parse_operand-requires
+parse_prefixed-parse_operand-requires t c =
+    let ends = c.in_ok-first.ensures.ends (λ q. IsPrefix-begins c.args.op c.args.level c.requires.prefix (ap first_kind c.in_ok-first.ensures.whole ∙ q)) in
+    (grind (arith, common_steps), (ends, grind (arith, common_steps)))
+
+pub parse_prefixed-returns-in_err-first-clause-err : goal.parse_prefixed-returns-in_err-first-clause-err
+parse_prefixed-returns-in_err-first-clause-err t c =
     let p = err_from_is_err_and c.from_residual.result c.from_residual.ensures.1 in
-    rw (p.1, p.2) (Fails-deep c.split.ensures.whole (opens_denied is) c.args.depth c.in_err-check_nesting.field-0.0 c.in_err-check_nesting.ensures.err (omega (arith, c.in_err-check_nesting.ensures.deep)))
+    rw (p.1, p.2) (Prefix-deep c.args.op _ c.args.level c.requires.ends c.requires.prefix _ c.in_err-first.ensures.err c.in_err-first.ensures.deep)
 
-pub parse_negation-returns-in_err-operand-clause-err : goal.parse_negation-returns-in_err-operand-clause-err
-parse_negation-returns-in_err-operand-clause-err t c =
-    let is : c.split.result.0.now.kind ≡ Key Not = search rules in
+pub parse_prefixed-returns-in_err-operand-clause-err : goal.parse_prefixed-returns-in_err-operand-clause-err
+parse_prefixed-returns-in_err-operand-clause-err t c =
     let p = err_from_is_err_and c.from_residual-in_err-operand.result c.from_residual-in_err-operand.ensures.1 in
-    rw (p.1, p.2) (Fails-part (At-opens c.split.ensures.whole (opens_denied is) c.args.depth (omega (arith, c.in_ok-check_nesting.ensures.ok))) c.in_err-operand.ensures.err)
+    rw (p.1, p.2) (Prefix-fails c.args.op _ c.in_ok-first.ensures.whole c.args.level c.requires.prefix c.in_ok-first.ensures.fits c.in_err-operand.ensures.err)
 
-pub parse_negation-returns-clause-ok : goal.parse_negation-returns-clause-ok
-parse_negation-returns-clause-ok t c =
-    let is : c.split.result.0.now.kind ≡ Key Not = search rules in
-    Leads-at c.in_ok-whole.ensures.tree (omega (arith, c.in_ok-whole.ensures.height))
-    (Leads-done (At-part (At-opens c.split.ensures.whole (opens_denied is) c.args.depth (omega (arith, c.in_ok-check_nesting.ensures.ok))) c.in_ok-operand.ensures.ok))
+pub parse_prefixed-returns-clause-ok : goal.parse_prefixed-returns-clause-ok
+parse_prefixed-returns-clause-ok t c =
+    Prefix-leads c.args.op _ c.in_ok-first.ensures.whole c.args.level c.requires.prefix c.in_ok-first.ensures.fits
+    c.in_ok-operand.ensures.ok c.in_ok-whole.ensures.tree c.in_ok-whole.ensures.height
+
+pub parse_prefixed-overflow_add-inner : goal.parse_prefixed-overflow_add-inner
+parse_prefixed-overflow_add-inner t c = grind (arith, common_steps)
+
+pub parse_prefixed-overflow_add-inner-2 : goal.parse_prefixed-overflow_add-inner-2
+parse_prefixed-overflow_add-inner-2 t c = grind (arith, common_steps)
+
+pub parse_prefixed-returns-clause-read : goal.parse_prefixed-returns-clause-read
+parse_prefixed-returns-clause-read t c = grind (arith, common_steps)

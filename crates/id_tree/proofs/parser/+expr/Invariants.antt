@@ -9,46 +9,50 @@ use Rattle.id_tree.proofs.parser.+expr.Given as goal
 
 -- the looser level has the higher rank
 abbrev rank : Level → ℕ
-rank level.Or = 4
-rank level.And = 3
+rank level.Or = 5
+rank level.And = 4
+rank level.Comparison = 2
 rank level.Sum = 1
 rank level.Product = 0
 
 abbrev pub decreases-parse_parens : goal.decreases-parse_parens
-decreases-parse_parens l = (200 - l.depth) * 16
+decreases-parse_parens l = (200 - l.depth) * 32
 
-abbrev pub decreases-parse_negated : goal.decreases-parse_negated
-decreases-parse_negated l = (200 - l.depth) * 16
+abbrev pub decreases-parse_prefixed : goal.decreases-parse_prefixed
+decreases-parse_prefixed l = (200 - l.depth) * 32
 
 abbrev pub decreases-parse_right : goal.decreases-parse_right
-decreases-parse_right l = (200 - l.depth) * 16
+decreases-parse_right l = (200 - l.depth) * 32
 
 abbrev pub decreases-parse_block : goal.decreases-parse_block
-decreases-parse_block l = (200 - l.depth) * 16
+decreases-parse_block l = (200 - l.depth) * 32
+
+abbrev pub decreases-parse_conditional : goal.decreases-parse_conditional
+decreases-parse_conditional l = (200 - l.depth) * 32
 
 abbrev pub decreases-parse_unary : goal.decreases-parse_unary
-decreases-parse_unary l = (200 - l.depth) * 16 + 1
+decreases-parse_unary l = (200 - l.depth) * 32 + 1
 
 abbrev pub decreases-parse_operand : goal.decreases-parse_operand
-decreases-parse_operand l = (200 - l.depth) * 16 + (2 + 2 * rank l.level)
+decreases-parse_operand l = (200 - l.depth) * 32 + (2 + 2 * rank l.level)
 
 abbrev pub decreases-parse_grouped : goal.decreases-parse_grouped
-decreases-parse_grouped l = (200 - l.depth) * 16 + (3 + 2 * rank l.level)
-
-abbrev pub decreases-parse_comparison : goal.decreases-parse_comparison
-decreases-parse_comparison l = (200 - l.depth) * 16 + 6
+decreases-parse_grouped l = (200 - l.depth) * 32 + (3 + 2 * rank l.level)
 
 abbrev pub decreases-parse_negation : goal.decreases-parse_negation
-decreases-parse_negation l = (200 - l.depth) * 16 + 7
+decreases-parse_negation l = (200 - l.depth) * 32 + 8
+
+abbrev pub decreases-parse_expression : goal.decreases-parse_expression
+decreases-parse_expression l = (200 - l.depth) * 32 + 14
 
 abbrev pub decreases-parse_enclosed : goal.decreases-parse_enclosed
-decreases-parse_enclosed l = (200 - l.depth) * 16 + 12
+decreases-parse_enclosed l = (200 - l.depth) * 32 + 15
 
 abbrev pub decreases-parse_binding : goal.decreases-parse_binding
-decreases-parse_binding l = (200 - l.depth) * 16 + 13
+decreases-parse_binding l = (200 - l.depth) * 32 + 16
 
 abbrev pub decreases-parse_statements : goal.decreases-parse_statements
-decreases-parse_statements l = (200 - l.depth) * 16 + 14
+decreases-parse_statements l = (200 - l.depth) * 32 + 17
 
 -- the first operand has come, and the level is open
 abbrev pub invariant-parse_grouped-loop-op : goal.invariant-parse_grouped-loop-op

@@ -8,18 +8,22 @@ use Rattle.id_tree.proofs.parser.parse_leaf.Goals as goal
 pub returns-in-Number-clause-ok : goal.returns-in-Number-clause-ok
 returns-in-Number-clause-ok c =
     Leads-at c.number.ensures.tree (omega (arith, c.number.ensures.height))
-    (Leads-done (At-opens c.split.ensures.whole (opens_number c.in-Number.value c.in-Number.is) c.args.depth (omega (arith, c.requires.room))))
+    (Leads-done (At-opens c.split.ensures.whole
+    (opens_number c.in-Number.value (ap first_kind c.split.ensures.whole ∙ c.in-Number.is)) c.args.depth (omega (arith, c.requires.room))))
 
 pub returns-in_ok-copy-in-Name-clause-ok : goal.returns-in_ok-copy-in-Name-clause-ok
 returns-in_ok-copy-in-Name-clause-ok c =
     let is : c.split.result.0.now.kind ≡ Name c.in_ok-copy-in-Name.field-0 = c.in-Name.is ∙ ap Name (sym c.in_ok-copy-in-Name.ensures) in
     Leads-at c.name.ensures.tree (omega (arith, c.name.ensures.height))
-    (Leads-done (At-opens c.split.ensures.whole (opens_name c.in_ok-copy-in-Name.field-0 is) c.args.depth (omega (arith, c.requires.room))))
+    (Leads-done (At-opens c.split.ensures.whole
+    (opens_name c.in_ok-copy-in-Name.field-0 (ap first_kind c.split.ensures.whole ∙ is)) c.args.depth (omega (arith, c.requires.room))))
 
 pub returns-in-Some-clause-ok : goal.returns-in-Some-clause-ok
 returns-in-Some-clause-ok c =
     Leads-at c.truth.ensures.tree (omega (arith, c.truth.ensures.height))
-    (Leads-done (At-opens c.split.ensures.whole (opens_truth c.in-Some.value (sym c.truth_of.ensures ∙ c.in-Some.is)) c.args.depth (omega (arith, c.requires.room))))
+    (Leads-done (At-opens c.split.ensures.whole
+    (opens_truth c.in-Some.value
+    (ap (λ xs. truth_in (first_kind xs)) c.split.ensures.whole ∙ sym c.truth_of.ensures ∙ c.in-Some.is)) c.args.depth (omega (arith, c.requires.room))))
 
 pub returns-in-None-clause-err : goal.returns-in-None-clause-err
 returns-in-None-clause-err c = Unary-fails c.split.ensures.whole c.args.depth c.unexpected.result c.unexpected.ensures

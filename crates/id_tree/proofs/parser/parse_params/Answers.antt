@@ -9,13 +9,16 @@ use Rattle.id_tree.proofs.ParamLemmas.{IsBehind-more, Leads-none, Counts-first, 
 use Rattle.id_tree.proofs.parser.parse_params.Goals as goal
 
 pub params-init : goal.params-init
-params-init c = (c.in_ok-param.ensures.behind, rw (c.in_ok-push.ensures.items, c.new-params.ensures.items) (Counts-first c.in_ok-param.param c.in_ok-param.ensures.ok))
+params-init c =
+    let more = c.in_ok-rest.ensures.ok in
+    (c.in_ok-rest.ensures.behind, rw (more.1, c.new-params.ensures.items) (Counts-first more.0 more.2))
 
 pub params-preserved : goal.params-preserved
 params-preserved c =
-    let comma : first_kind c.params.rest.now ≡ Sign Comma = search rules in (
-      IsBehind-more c.params.invariant.0 c.split-in-params.ensures.whole c.in_ok-next.ensures.behind,
-      rw c.in_ok-push-2.ensures.items (Counts-add c.in_ok-next.next c.params.invariant.1 c.split-in-params.ensures.whole comma c.in_ok-next.ensures.ok),
+    let comma : first_kind c.params.rest.now ≡ Sign Comma = search rules in
+    let more = c.in_ok-rest-2.ensures.ok in (
+      IsBehind-more c.params.invariant.0 c.split-in-params.ensures.whole c.in_ok-rest-2.ensures.behind,
+      rw more.1 (Counts-add more.0 c.params.invariant.1 c.split-in-params.ensures.whole comma more.2),
     )
 
 pub returns-then-is_sign-clause-ok : goal.returns-then-is_sign-clause-ok
@@ -23,17 +26,17 @@ returns-then-is_sign-clause-ok c =
     let is : c.split.result.0.now.kind ≡ Sign RightParen = search rules in
     rw c.new-params.ensures.items (Leads-none c.split.ensures.whole is)
 
-pub returns-in_err-param-clause-err : goal.returns-in_err-param-clause-err
-returns-in_err-param-clause-err c =
+pub returns-in_err-rest-clause-err : goal.returns-in_err-rest-clause-err
+returns-in_err-rest-clause-err c =
     let is_not : c.split.result.0.now.kind ≡ Sign RightParen → ⊥ = search rules in
     let p = err_from_is_err_and c.from_residual.result c.from_residual.ensures.1 in
-    rw (p.1, p.2) (Fails-first (λ q. is_not (first_of c.split.ensures.whole q)) c.in_err-param.ensures.err)
+    rw (p.1, p.2) (Fails-first (λ q. is_not (first_of c.split.ensures.whole q)) c.in_err-rest.ensures.err)
 
-pub returns-in_err-next-clause-err : goal.returns-in_err-next-clause-err
-returns-in_err-next-clause-err c =
+pub returns-in_err-rest-2-clause-err : goal.returns-in_err-rest-2-clause-err
+returns-in_err-rest-2-clause-err c =
     let comma : first_kind c.params.rest.now ≡ Sign Comma = search rules in
-    let p = err_from_is_err_and c.from_residual-in_err-next.result c.from_residual-in_err-next.ensures.1 in
-    rw (p.1, p.2) (Fails-next c.params.invariant.1 c.split-in-params.ensures.whole comma c.in_err-next.ensures.err)
+    let p = err_from_is_err_and c.from_residual-in_err-rest-2.result c.from_residual-in_err-rest-2.ensures.1 in
+    rw (p.1, p.2) (Fails-next c.params.invariant.1 c.split-in-params.ensures.whole comma c.in_err-rest-2.ensures.err)
 
 pub returns-then-is_sign-2-clause-ok : goal.returns-then-is_sign-2-clause-ok
 returns-then-is_sign-2-clause-ok c =

@@ -6,4 +6,6 @@ use Rattle.id_tree.proofs.StatementLemmas.{tree-block}
 use Rattle.id_tree.proofs.part.block.Goals as goal
 
 pub returns-clause-tree : goal.returns-clause-tree
-returns-clause-tree c = tree-block c.args.statements c.in_ok-body.body c.args.place ∙ ap (λ e. block (onto c.args.statements.items none) (tree_of e) c.args.place) c.in_ok-body.ensures.ok
+returns-clause-tree c =
+    tree-block c.args.statements c.in_ok-body.body c.args.place
+    ∙ ap (λ e. block (onto c.args.statements.items none) (tree_of e) c.args.place) (c.in_ok-body.ensures.ok ∙ c.into_expr.ensures)

@@ -1,0 +1,37 @@
+-- Each row is there once, and has the next number.
+use Rattle.std.proofs.Common.{◌+◌, ℕ, ◌<◌, ap, arith, get_or, length}
+use Rattle.id_build.proofs.FillLemmas.{Among-get_or, first_in-next, pieces_in-next, pieces_in-take}
+use Rattle.std.proofs.Math.ListN.{length-set}
+use Rattle.id_build.proofs.program.number.Goals as goal
+
+pub index_mut-requires : goal.index_mut-requires
+index_mut-requires c =
+    let h = c.requires.within (get_or c.args.order.now c.loop-n.n-index 0) (Among-get_or c.args.order.now c.loop-n.n-index (omega arith)) in
+    omega (arith, h, c.loop-n.invariant.many, c.loop-n.firsts.ok.0)
+
+pub push_pieces-requires-clause-within : goal.push_pieces-requires-clause-within
+push_pieces-requires-clause-within c =
+    c.requires.within (get_or c.args.order.now c.loop-n.n-index 0) (Among-get_or c.args.order.now c.loop-n.n-index (omega arith))
+
+pub returns-then-len-gt1000000-clause-large : goal.returns-then-len-gt1000000-clause-large
+returns-then-len-gt1000000-clause-large c = λ e.
+    (let i : c.loop-n.n-index < length c.args.order.now = omega arith in
+    let next = pieces_in-next c.args.checked.now c.args.order.now c.loop-n.n-index c.loop-n.pieces.items c.push_pieces.new.pieces.items i c.loop-n.invariant.pieces c.in_ok-push_pieces.ensures.pieces in
+    let few = pieces_in-take c.args.checked.now (c.loop-n.n-index + 1) c.args.order.now in
+    omega (arith, ap length next, few, c.push_pieces.new.pieces.ok.0))
+
+pub loop-n-preserved : goal.loop-n-preserved
+loop-n-preserved c =
+    let P = c.args.checked.now in
+    let order = c.args.order.now in
+    let i = c.loop-n.n-index in
+    let h : i < length order = omega arith in
+    let n = get_or order i 0 in
+    let low = c.requires.within n (Among-get_or order i h) in
+    let many = c.loop-n.invariant.many in
+    record {
+      pieces = pieces_in-next P order i c.loop-n.pieces.items c.push_pieces.new.pieces.items h c.loop-n.invariant.pieces c.in_ok-push_pieces.ensures.pieces;
+      many = omega (arith, length-set {A = ℕ});
+      firsts = first_in-next P order c.loop-n.firsts.items i c.len-in-loop-n.result c.requires.differ h (omega (arith, low, many)) (omega (arith, ap length c.loop-n.invariant.pieces, c.loop-n.pieces.ok.0)) c.loop-n.invariant.firsts;
+      few = omega (arith, c.push_pieces.new.pieces.ok.0);
+    }

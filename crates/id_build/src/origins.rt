@@ -1,0 +1,125 @@
+//! Where values come from (docs/GRAPH.md, "Sources").
+
+ghost use Rattle.std.specs.Prelude.{◌≡◌, ◌<◌, ◌+◌, ◌^◌, [], slice_get, unwrap_or, length};
+ghost use Rattle.id_desugar.specs.Regions as regions;
+ghost use Rattle.id_build.specs.Rows.{name_in, named_in, origin, origin_of, output, same_region, slot_of, trigger_of};
+
+use crate::arc::Origin;
+use id_check::Checked;
+use id_desugar::{binder_at, row_at};
+use id_list::Sequence;
+use id_parts::{Node, Region};
+
+/// What the first instruction of a row gives.
+pub fn output(row: usize) -> Origin
+    ensures { result ≡ output row }
+{
+    Origin {
+        row,
+        part: 0,
+        side: true,
+    }
+}
+
+/// What turns a region on.
+pub fn trigger_of(region: Region) -> Origin
+    ensures { result ≡ trigger_of region }
+{
+    Origin {
+        row: region.head,
+        part: 0,
+        side: region.side,
+    }
+}
+
+/// Where the value of the expression at a row comes from.
+pub fn origin(checked: &Checked, imports: &[Sequence<usize>], expr: usize) -> Origin
+    requires { imports.now ≡ regions.all_imports checked.now }
+    ensures origin { result ≡ origin checked.now expr }
+    ensures few { result.part < 2 ^ 62 }
+{
+    let value = row_at(checked, expr).value;
+    let row = row_at(checked, value);
+    match row.node {
+        Node::Name { .. } => named_in(
+            checked,
+            imports,
+            row.region,
+            value,
+            binder_at(checked, value),
+        ),
+        _ => output(value),
+    }
+}
+
+/// Where the value of the name at a row comes from, in its region, which has this binder.
+fn named_in(
+    checked: &Checked,
+    imports: &[Sequence<usize>],
+    region: Region,
+    name: usize,
+    binder: Option<usize>,
+) -> Origin
+    requires { imports.now ≡ regions.all_imports checked.now }
+    ensures origin { result ≡ named_in checked.now region name binder }
+    ensures few { result.part < 2 ^ 62 }
+{
+    match binder {
+        Some(binder) => name_in(checked, imports, region, binder),
+        None => output(name),
+    }
+}
+
+/// Where the value of a binder comes from in a region.
+pub fn name_in(
+    checked: &Checked,
+    imports: &[Sequence<usize>],
+    region: Region,
+    binder: usize,
+) -> Origin
+    requires { imports.now ≡ regions.all_imports checked.now }
+    ensures origin { result ≡ name_in checked.now region binder }
+    ensures few { result.part < 2 ^ 62 }
+{
+    if same_region(row_at(checked, binder).region, region) {
+        output(binder)
+    } else {
+        Origin {
+            row: region.head,
+            part: slot_of(imports_at(checked, imports, region.head), binder) + 1,
+            side: region.side,
+        }
+    }
+}
+
+/// The binders that the head at a row imports.
+pub fn imports_at<'a>(checked: &Checked, imports: &'a [Sequence<usize>], row: usize) -> &'a [usize]
+    requires { imports.now ≡ regions.all_imports checked.now }
+    ensures { result.now ≡ regions.imports_of checked.now row }
+{
+    let _ = checked;
+    if row < imports.len() {
+        imports[row].as_slice()
+    } else {
+        &[]
+    }
+}
+
+/// How many stand before the binder: an index by head and binder comes in here once heads import many.
+fn slot_of(imports: &[usize], binder: usize) -> usize
+    ensures slot { result ≡ slot_of imports.now binder }
+    ensures within { result < 2 ^ 61 }
+{
+    for (slot, import) in imports.iter().enumerate() {
+        if *import == binder {
+            return slot;
+        }
+    }
+    imports.len()
+}
+
+fn same_region(left: Region, right: Region) -> bool
+    ensures { result ≡ same_region left right }
+{
+    left.head == right.head && left.side == right.side
+}

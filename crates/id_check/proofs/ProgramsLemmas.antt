@@ -1,0 +1,455 @@
+-- What holds of a checked program, row by row.
+use Rattle.std.proofs.Common.{◌≡◌, ◌⊎◌, inl, inr, ◌+◌, ◌<◌, ◌≤◌, ℕ, zero, suc, Bool as Truth, true, false, List, [], ◌∷◌, ◌++◌, Option, Some, None, length, refl, ap, sym, ◌∙◌, subst, arith}
+use Rattle.std.specs.Prelude.{◌&&◌, ◌||◌, not, nat_eq, nat_le, nat_lt, if◌then◌else◌}
+use Rattle.std.proofs.lemmas.Bool.{cases_lt, false≢true, ltb-true}
+use Rattle.std.proofs.lemmas.Bool.Decides.{nat_tests}
+use Rattle.id_list.specs.List.{Among}
+use Rattle.id_value.specs.declared.Kind.{Kind}
+use Rattle.id_value.specs.declared.Kind.TheVariants.{Int, Bool, Array}
+use Rattle.id_value.specs.declared.UnaryOp.{UnaryOp}
+use Rattle.id_value.specs.declared.BinaryOp.{BinaryOp}
+use Rattle.id_value.specs.declared.BinaryOp.TheVariants as class
+use Rattle.id_value.specs.declared.Arithmetic.{Arithmetic}
+use Rattle.id_value.specs.declared.Logic.{Logic}
+use Rattle.id_value.specs.declared.Comparison.{Comparison}
+use Rattle.id_value.specs.declared.Comparison.TheVariants.{Lt, Le, Gt, Ge, Eq, Ne}
+use Rattle.id_tree.specs.Tree.{program_tree}
+use Rattle.id_parts.specs.declared.row.Row.{Row}
+use Rattle.id_parts.specs.declared.row.Node.{Node}
+use Rattle.id_parts.specs.declared.row.Node.TheVariants.{Head, Param, Literal, Name, Unary, Binary, Split, If, Block, Binding, Def, Program}
+use Rattle.id_parts.specs.Rows.{at, top}
+use Rattle.id_parts.specs.Tables.{HasOperand, around, is_binder, is_binding, is_block, is_expression, is_param, is_top}
+use Rattle.id_parts.specs.Regions.{Lies, StandsInside, StandsWith}
+use Rattle.id_parts.specs.Turns.{IsTable, in_block, params_at}
+use Rattle.id_parts.proofs.RegionLemmas.{HasPart-operand}
+use Rattle.id_parts.proofs.TableLemmas.{IsTable-rows_of}
+use Rattle.id_parts.proofs.TreeLemmas.{IsProgramTree-program_tree}
+use Rattle.id_check.specs.declared.cause.CheckCause.TheVariants.{MainKind, TooManyParams, Unknown, WrongKind}
+use Rattle.id_check.specs.declared.checked.Checked.{Checked}
+use Rattle.id_check.specs.Causes.{array_param, causes_below, causes_in, duplicates, is_array_param, same_kind, unknown, unless_found, wrong, wrong_arm, wrong_both, wrong_equals, wrong_params}
+use Rattle.id_check.specs.Kinds.{AreKinds, EndsIn, binary_kind, constant_kind, Fixed, To, Nowhere, in_kind, in_nothing, further, link_at, link_of, link_of_name, unary_kind}
+use Rattle.id_check.specs.Programs.{Stands, binder, kind, rows}
+use Rattle.id_check.specs.Scopes.{binder_by, binder_in, binder_of, binds, bound_name, held, is_free, is_name, keeps, looks, sees, takes, used_name}
+use Rattle.id_check.proofs.ChainsLemmas.{after}
+use Rattle.id_check.proofs.LinksLemmas.{link_below, part_of}
+use Rattle.id_check.proofs.ScopesLemmas.{binder_at-below, first_of-some}
+use Rattle.id_parts.proofs.BlocksLemmas.{not_last}
+
+-- ---- the table
+
+-- the rows are the table of a program's tree
+pub table_of : (P : Checked) → IsTable (rows P)
+table_of P = subst IsTable (sym P.tabled) (IsTable-rows_of (program_tree P.program) (IsProgramTree-program_tree P.program))
+
+-- ---- kinds
+
+option_kind : (o p : Option Kind) → ((o ≡ p → ⊥) → ⊥) → o ≡ p
+option_kind None None h = refl
+option_kind None (Some k) h = absurd (h (λ e. cc))
+option_kind (Some j) None h = absurd (h (λ e. cc))
+option_kind (Some Int) (Some Int) h = refl
+option_kind (Some Int) (Some Bool) h = absurd (h (λ e. cc))
+option_kind (Some Int) (Some Array) h = absurd (h (λ e. cc))
+option_kind (Some Bool) (Some Int) h = absurd (h (λ e. cc))
+option_kind (Some Bool) (Some Bool) h = refl
+option_kind (Some Bool) (Some Array) h = absurd (h (λ e. cc))
+option_kind (Some Array) (Some Int) h = absurd (h (λ e. cc))
+option_kind (Some Array) (Some Bool) h = absurd (h (λ e. cc))
+option_kind (Some Array) (Some Array) h = refl
+
+-- the kinds of rows are the only ones
+pub kind_once : (R : List Row) (β : ℕ → Option ℕ) (κ μ : ℕ → Option Kind) → AreKinds R β κ → AreKinds R β μ → (i : ℕ) → i < length R → κ i ≡ μ i
+kind_once R β κ μ g h i less = option_kind (κ i) (μ i) (λ d.
+    let endless : (o : Option Kind) → EndsIn (link_at R β) i o → ⊥ = λ o e. d (g.ends i o less e ∙ sym (h.ends i o less e)) in
+    d (g.endless i less endless ∙ sym (h.endless i less endless)))
+
+-- the kind is one all along a chain
+kind_to : (R : List Row) (β : ℕ → Option ℕ) (κ : ℕ → Option Kind) (i j : ℕ) → AreKinds R β κ → i < length R → j < length R → link_at R β i ≡ To j → κ i ≡ κ j
+kind_to R β κ i j h less low e = option_kind (κ i) (κ j) (λ d.
+    let endless : (o : Option Kind) → EndsIn (link_at R β) j o → ⊥ = λ o f. d (h.ends i o less (further j e f) ∙ sym (h.ends j o low f)) in
+    d (h.endless i less (λ o f. endless o (after j f e)) ∙ sym (h.endless j low endless)))
+
+-- a row's binder is a row
+pub binder_below : (P : Checked) (i b : ℕ) → i < length (rows P) → binder P i ≡ Some b → b < length (rows P)
+binder_below P i b less e = binder_at-below (rows P) (length (rows P)) i b (sym (P.bound.each i less) ∙ e)
+
+-- the kind is one all along a chain: where that of a row goes on to another row
+pub kind_along : (P : Checked) (i j : ℕ) (n : Node) → Stands P i n → link_of (binder P i) n ≡ To j → kind P i ≡ kind P j
+kind_along P i j n h e =
+    let link : link_at (rows P) (binder P) i ≡ To j = ap (link_of (binder P i)) h.node ∙ e in
+    kind_to (rows P) (binder P) (kind P) i j P.kinded h.within (link_below (rows P) (binder P) P.table.formed (binder_below P) i j h.within link) link
+
+-- where it ends in a kind
+pub kind_fixed : (P : Checked) (i : ℕ) (n : Node) (k : Kind) → Stands P i n → link_of (binder P i) n ≡ Fixed k → kind P i ≡ Some k
+kind_fixed P i n k h e = P.kinded.ends i (Some k) h.within (in_kind k (ap (link_of (binder P i)) h.node ∙ e))
+
+-- ---- no cause
+
+both_nil : {A : Type 0} (xs ys : List A) → xs ++ ys ≡ [] → (xs ≡ []) × (ys ≡ [])
+both_nil [] ys e = (refl, e)
+both_nil (x ∷ xs) ys e = cc
+
+below_nil : (R : List Row) (β : ℕ → Option ℕ) (κ : ℕ → Option Kind) (n i : ℕ) → causes_below R β κ n ≡ [] → i < n → causes_in R κ (β i) (at R i).place (at R i).node ≡ []
+below_nil R β κ zero i e less = absurd (omega arith)
+below_nil R β κ (suc n) i e less =
+    let w = both_nil (causes_below R β κ n) (causes_in R κ (β n) (at R n).place (at R n).node) e in
+    one w.1 (cases_lt i n) (below_nil R β κ n i w.0)
+  where
+    one : causes_in R κ (β n) (at R n).place (at R n).node ≡ [] → (i < n) ⊎ (n ≤ i) → (i < n → causes_in R κ (β i) (at R i).place (at R i).node ≡ []) → causes_in R κ (β i) (at R i).place (at R i).node ≡ []
+    one f (inl c) r = r c
+    one f (inr c) r = let same : i ≡ n = omega arith in subst (λ k. causes_in R κ (β k) (at R k).place (at R k).node ≡ []) (sym same) f
+
+-- a row of a checked program has no cause
+none_in : (P : Checked) (i : ℕ) (n : Node) → Stands P i n → causes_in (rows P) (kind P) (binder P i) (at (rows P) i).place n ≡ []
+none_in P i n h =
+    subst (λ z. causes_in (rows P) (kind P) (binder P i) (at (rows P) i).place z ≡ []) h.node
+    (below_nil (rows P) (binder P) (kind P) (length (rows P)) i (both_nil (duplicates (rows P) (length (rows P))) (causes_below (rows P) (binder P) (kind P) (length (rows P))) P.accepted).1 h.within)
+
+-- ---- names
+
+-- the name x at the row i has its binder at the row b, and stands where that does, or further in
+pub record IsBoundAt (P : Checked) (i x b : ℕ) : Type 0 where
+  pub binder : binder P i ≡ Some b
+  pub within : b < length (rows P)
+  pub is_binder : is_binder (at (rows P) b).node ≡ true
+  pub name : bound_name (at (rows P) b).node ≡ Some x
+  pub stands : StandsInside (rows P) b i
+
+and_first : (a b : Truth) → (a && b) ≡ true → a ≡ true
+and_first true b e = refl
+and_first false b e = e
+
+and_second : (a b : Truth) → (a && b) ≡ true → b ≡ true
+and_second true b e = e
+and_second false b e = cc
+
+if_some : (t : Truth) (o : Option ℕ) (b : ℕ) → (if t then o else None) ≡ Some b → (t ≡ true) × (o ≡ Some b)
+if_some true o b e = (refl, e)
+if_some false o b e = let d : None ≡ Some b = e in cc
+
+same_some : (k b : ℕ) → Some k ≡ Some b → k ≡ b
+same_some k b f = cc
+
+named : (x : ℕ) (o : Option ℕ) → is_name x o ≡ true → o ≡ Some x
+named x None e = let d : false ≡ true = e in cc
+named x (Some y) e = let f : y ≡ x = grind (arith, nat_tests) in ap (λ z. Some z) f
+
+-- what a scope that looks for names takes is a binder
+taken_binder : (m n : Node) (x : ℕ) → looks m (Name x) ≡ true → takes m n ≡ true → is_binder n ≡ true
+taken_binder (Block b) (Binding y a) x e f = refl
+taken_binder (Def z h k b) (Param y j) x e f = refl
+taken_binder (Block b) n x e f = other n f
+  where
+    other : (n : Node) → is_binding n ≡ true → is_binder n ≡ true
+    other (Binding y a) g = refl
+    other _ g = absurd (false≢true g)
+taken_binder (Def z h k b) n x e f = other n f
+  where
+    other : (n : Node) → is_param n ≡ true → is_binder n ≡ true
+    other (Param y j) g = refl
+    other _ g = absurd (false≢true g)
+taken_binder _ n x e f = absurd (false≢true e)
+
+looks_any : (m : Node) (x : ℕ) → looks m (Name x) ≡ true → looks m (Name 0) ≡ true
+looks_any (Block b) x e = refl
+looks_any (Def z h k b) x e = refl
+looks_any _ x e = absurd (false≢true e)
+
+-- ---- what a scope binds stands right in it
+
+takes_block : (m : Node) (y a : ℕ) → takes m (Binding y a) ≡ is_block m
+takes_block (Block b) y a = refl
+takes_block (Def x h k b) y a = refl
+takes_block Program y a = refl
+takes_block _ y a = refl
+
+-- of a binding, scopes are blocks
+held_block : (R : List Row) (b n y a : ℕ) → (at R b).node ≡ Binding y a → held R b n ≡ in_block R b n
+held_block R b zero y a e = refl
+held_block R b (suc s) y a e =
+    ap (λ z. z || keeps R s b) (held_block R b s y a e)
+    ∙ ap (λ z. in_block R b s || (z && around R s b)) (ap (takes (at R s).node) e ∙ takes_block (at R s).node y a)
+
+not_true : (t : Truth) → not t ≡ true → t ≡ false
+not_true true e = cc
+not_true false e = refl
+
+bound_stands : (R : List Row) → IsTable R → (s x b : ℕ) → s + 1 < length R → looks (at R s).node (Name x) ≡ true → takes (at R s).node (at R b).node ≡ true
+    → around R s b ≡ true → held R b s ≡ false → StandsWith R s b
+bound_stands R t s x b inner look take inside free = by (at R s).node (at R b).node refl refl look take
+  where
+    less : s < length R
+    less = omega arith
+
+    within : b < length R
+    within = let w = ltb-true b s (and_second (nat_le (at R s).first b) (nat_lt b s) inside) in omega arith
+
+    by : (m n : Node) → (at R s).node ≡ m → (at R b).node ≡ n → looks m (Name x) ≡ true → takes m n ≡ true → StandsWith R s b
+    by (Block c) (Binding y a) f g l k =
+        t.statement_stands s b less (record { block = ap is_block f; binding = ap is_binding g; inside = inside; right = sym (held_block R b s y a g) ∙ free })
+    by (Def y h j c) (Param z k) f g l e =
+        let near = t.inside s b inner inside in
+        (near.0, t.at_top b within (ap is_top g) ∙ ap top near.0 ∙ sym (t.at_top s less (ap is_top f)))
+    by (Block c) n f g l k = absurd (false≢true k)
+    by (Def y h j c) n f g l k = absurd (false≢true k)
+    by _ n f g l k = absurd (false≢true l)
+
+-- a name of a checked program has a binder
+pub bound_name_row : (P : Checked) (i x : ℕ) → Stands P i (Name x) → (b : ℕ) × IsBoundAt P i x b
+bound_name_row P i x h = by (binder P i) refl (none_in P i (Name x) h)
+  where
+    found : (b : ℕ) → binder P i ≡ Some b → IsBoundAt P i x b
+    found b e =
+        let means : binder_of (rows P) x i (length (rows P)) ≡ Some b = sym (ap (λ n. binder_by (rows P) i (used_name n) (length (rows P))) h.node) ∙ (sym (P.bound.each i h.within) ∙ e) in
+        let v = first_of-some (λ s. if sees (rows P) s i then binder_in (rows P) s x s else None) (length (rows P)) b means in
+        let s = v.0 in
+        let w = if_some (sees (rows P) s i) (binder_in (rows P) s x s) b v.2 in
+        let u = first_of-some (λ k. if binds (rows P) s x k then Some k else None) s b w.1 in
+        let t = if_some (binds (rows P) s x u.0) (Some u.0) b u.2 in
+        let it : binds (rows P) s x b ≡ true = subst (λ k. binds (rows P) s x k ≡ true) (same_some u.0 b t.1) t.0 in
+        let free = and_first (keeps (rows P) s b && not (held (rows P) b s)) (is_name x (bound_name (at (rows P) b).node)) it in
+        let kept = and_first (keeps (rows P) s b) (not (held (rows P) b s)) free in
+        let sight = and_first (looks (at (rows P) s).node (at (rows P) i).node && around (rows P) s i) (is_free (bound_name (at (rows P) i).node) || held (rows P) i s) w.0 in
+        let look : looks (at (rows P) s).node (Name x) ≡ true = sym (ap (looks (at (rows P) s).node) h.node) ∙ and_first (looks (at (rows P) s).node (at (rows P) i).node) (around (rows P) s i) sight in
+        let inner : s + 1 < length (rows P) = not_last (rows P) (table_of P) (λ n. looks n (Name 0)) refl s v.1 (looks_any (at (rows P) s).node x look) in
+        let near = (table_of P).inside s i inner (and_second (looks (at (rows P) s).node (at (rows P) i).node) (around (rows P) s i) sight) in
+        let taken = and_first (takes (at (rows P) s).node (at (rows P) b).node) (around (rows P) s b) kept in
+        let inside = and_second (takes (at (rows P) s).node (at (rows P) b).node) (around (rows P) s b) kept in
+        let bare = not_true (held (rows P) b s) (and_second (keeps (rows P) s b) (not (held (rows P) b s)) free) in
+        let bind = bound_stands (rows P) (table_of P) s x b inner look taken inside bare in
+        record {
+          binder = e;
+          within = binder_below P i b h.within e;
+          is_binder = taken_binder (at (rows P) s).node (at (rows P) b).node x look taken;
+          name = named x (bound_name (at (rows P) b).node) (and_second (keeps (rows P) s b && not (held (rows P) b s)) (is_name x (bound_name (at (rows P) b).node)) it);
+          stands = (near.0 ∙ sym bind.0, subst (λ r. Lies (rows P) r (at (rows P) i).region) (sym bind.1) near.1);
+        }
+
+    by : (o : Option ℕ) → binder P i ≡ o → unknown o (at (rows P) i).place ≡ [] → (b : ℕ) × IsBoundAt P i x b
+    by None e f = let d : Unknown (at (rows P) i).place ∷ [] ≡ [] = f in cc
+    by (Some b) e f = (b, found b e)
+
+-- ---- each expression and each binder has a kind
+
+-- the operands of a row are expressions
+pub part_row : (P : Checked) (i a : ℕ) (n : Node) → Stands P i n → HasOperand n a → (a < length (rows P)) × (is_expression (at (rows P) a).node ≡ true)
+part_row P i a n h e =
+    (part_of a P.table.formed h.within h.node (HasPart-operand n a e), (table_of P).operand_is i a h.within (subst (λ z. HasOperand z a) (sym h.node) e))
+
+-- a value is given at a row of this node
+abbrev IsValued : Node → Type 0
+IsValued n = (is_expression n || is_binder n) ≡ true
+
+or_left : (a b : Truth) → a ≡ true → (a || b) ≡ true
+or_left true b e = refl
+or_left false b e = absurd (false≢true e)
+
+or_right : (a b : Truth) → b ≡ true → (a || b) ≡ true
+or_right true b e = refl
+or_right false b e = e
+
+valued_expression : (n : Node) → is_expression n ≡ true → IsValued n
+valued_expression n e = or_left (is_expression n) (is_binder n) e
+
+to_same : (a b : ℕ) → To a ≡ To b → a ≡ b
+to_same a b e = cc
+
+nowhere : (P : Checked) (i : ℕ) (n : Node) → Stands P i n → IsValued n → link_of (binder P i) n ≡ Nowhere → ⊥
+nowhere P i Head h v e = false≢true v
+nowhere P i Program h v e = false≢true v
+nowhere P i (Def x d k b) h v e = false≢true v
+nowhere P i (Name x) h v e =
+    let w = bound_name_row P i x h in
+    let d : To w.0 ≡ Nowhere = sym (ap link_of_name w.1.binder) ∙ e in cc
+nowhere P i (Param x k) h v e = let d : Fixed k ≡ Nowhere = e in cc
+nowhere P i (Literal c) h v e = let d : Fixed (constant_kind c) ≡ Nowhere = e in cc
+nowhere P i (Unary p a) h v e = let d : Fixed (unary_kind p) ≡ Nowhere = e in cc
+nowhere P i (Binary p a b) h v e = let d : Fixed (binary_kind p) ≡ Nowhere = e in cc
+nowhere P i (Split t) h v e = false≢true v
+nowhere P i (If s x y) h v e = let d : To x ≡ Nowhere = e in cc
+nowhere P i (Block b) h v e = let d : To b ≡ Nowhere = e in cc
+nowhere P i (Binding x a) h v e = let d : To a ≡ Nowhere = e in cc
+
+-- a chain goes on to a row that gives a value
+goes : (P : Checked) (i j : ℕ) (n : Node) → Stands P i n → link_of (binder P i) n ≡ To j → (j < length (rows P)) × IsValued (at (rows P) j).node
+goes P i j Head h e = let d : Nowhere ≡ To j = e in cc
+goes P i j Program h e = let d : Nowhere ≡ To j = e in cc
+goes P i j (Def x d k b) h e = let c : Fixed k ≡ To j = e in cc
+goes P i j (Name x) h e =
+    let w = bound_name_row P i x h in
+    let same : w.0 ≡ j = to_same w.0 j (sym (ap link_of_name w.1.binder) ∙ e) in
+    subst (λ b. (b < length (rows P)) × IsValued (at (rows P) b).node) same (w.1.within, or_right (is_expression (at (rows P) w.0).node) (is_binder (at (rows P) w.0).node) w.1.is_binder)
+goes P i j (Param x k) h e = let d : Fixed k ≡ To j = e in cc
+goes P i j (Literal c) h e = let d : Fixed (constant_kind c) ≡ To j = e in cc
+goes P i j (Unary p a) h e = let d : Fixed (unary_kind p) ≡ To j = e in cc
+goes P i j (Binary p a b) h e = let d : Fixed (binary_kind p) ≡ To j = e in cc
+goes P i j (Split t) h e = let d : Nowhere ≡ To j = e in cc
+goes P i j (If s x y) h e =
+    let w = part_row P i x (If s x y) h (inl refl) in
+    subst (λ a. (a < length (rows P)) × IsValued (at (rows P) a).node) (to_same x j e) (w.0, valued_expression (at (rows P) x).node w.1)
+goes P i j (Block b) h e =
+    let w = part_row P i b (Block b) h refl in
+    subst (λ a. (a < length (rows P)) × IsValued (at (rows P) a).node) (to_same b j e) (w.0, valued_expression (at (rows P) b).node w.1)
+goes P i j (Binding x b) h e =
+    let w = part_row P i b (Binding x b) h refl in
+    subst (λ a. (a < length (rows P)) × IsValued (at (rows P) a).node) (to_same b j e) (w.0, valued_expression (at (rows P) b).node w.1)
+
+-- its chain ends in a kind, if it ends
+no_nothing : (P : Checked) (i : ℕ) (o : Option Kind) → EndsIn (link_at (rows P) (binder P)) i o → o ≡ None → i < length (rows P) → IsValued (at (rows P) i).node → ⊥
+no_nothing P i _ (in_kind k e) f less v = let d : Some k ≡ None = f in cc
+no_nothing P i _ (in_nothing e) f less v = nowhere P i (at (rows P) i).node (record { within = less; node = refl }) v e
+no_nothing P i o (further j e g) f less v =
+    let w = goes P i j (at (rows P) i).node (record { within = less; node = refl }) e in
+    no_nothing P j o g f w.0 w.1
+
+kinded : (P : Checked) (i : ℕ) → i < length (rows P) → IsValued (at (rows P) i).node → (o : Option Kind) → kind P i ≡ o → (k : Kind) × (kind P i ≡ Some k)
+kinded P i less v (Some k) e = (k, e)
+kinded P i less v None e =
+    let d : Some Int ≡ None = sym (P.kinded.endless i less (λ o g. no_nothing P i o g (sym (P.kinded.ends i o less g) ∙ e) less v)) ∙ e in cc
+
+-- each expression of a checked program has a kind
+pub has_kind : (P : Checked) (i : ℕ) → i < length (rows P) → is_expression (at (rows P) i).node ≡ true → (k : Kind) × (kind P i ≡ Some k)
+has_kind P i less e = kinded P i less (valued_expression (at (rows P) i).node e) (kind P i) refl
+
+-- and so has each binder
+pub binder_has_kind : (P : Checked) (i : ℕ) → i < length (rows P) → is_binder (at (rows P) i).node ≡ true → (k : Kind) × (kind P i ≡ Some k)
+binder_has_kind P i less e = kinded P i less (or_right (is_expression (at (rows P) i).node) (is_binder (at (rows P) i).node) e) (kind P i) refl
+
+-- ---- the wanted kinds
+
+same_is : (j k : Kind) → same_kind j k ≡ true → j ≡ k
+same_is Int Int e = refl
+same_is Bool Bool e = refl
+same_is Array Array e = refl
+same_is Int Bool e = absurd (false≢true e)
+same_is Int Array e = absurd (false≢true e)
+same_is Bool Int e = absurd (false≢true e)
+same_is Bool Array e = absurd (false≢true e)
+same_is Array Int e = absurd (false≢true e)
+same_is Array Bool e = absurd (false≢true e)
+
+-- an expression of which a kind is wanted has it, where there is no cause
+wanted_kind : (P : Checked) (k : Kind) (a : ℕ) → a < length (rows P) → is_expression (at (rows P) a).node ≡ true → wrong (rows P) (kind P) k a ≡ [] → kind P a ≡ Some k
+wanted_kind P k a less e f =
+    let w = has_kind P a less e in
+    w.1 ∙ ap (λ z. Some z) (same_is w.0 k (by (same_kind w.0 k) (sym (ap (λ o. unless_found k o (at (rows P) a).place) w.1) ∙ f)))
+  where
+    by : (t : Truth) → (if t then [] else (WrongKind (at (rows P) a).place k (has_kind P a less e).0 ∷ [])) ≡ [] → t ≡ true
+    by true g = refl
+    by false g = cc
+
+-- the operand of an operator before it
+pub unary_row : (P : Checked) (i a : ℕ) (p : UnaryOp) → Stands P i (Unary p a) → kind P a ≡ Some (unary_kind p)
+unary_row P i a p h = let w = part_row P i a (Unary p a) h refl in wanted_kind P (unary_kind p) a w.0 w.1 (none_in P i (Unary p a) h)
+
+both_wanted : (P : Checked) (i a b : ℕ) (p : BinaryOp) (k : Kind) → Stands P i (Binary p a b) → wrong_both (rows P) (kind P) k a b ≡ [] → (kind P a ≡ Some k) × (kind P b ≡ Some k)
+both_wanted P i a b p k h e =
+    let v = part_row P i a (Binary p a b) h (inl refl) in
+    let w = part_row P i b (Binary p a b) h (inr refl) in
+    let n = both_nil (wrong (rows P) (kind P) k a) (wrong (rows P) (kind P) k b) e in
+    (wanted_kind P k a v.0 v.1 n.0, wanted_kind P k b w.0 w.1 n.1)
+
+-- the operands of arithmetic are numbers
+pub arithmetic_row : (P : Checked) (i a b : ℕ) (o : Arithmetic) → Stands P i (Binary (class.Arithmetic o) a b) → (kind P a ≡ Some Int) × (kind P b ≡ Some Int)
+arithmetic_row P i a b o h = both_wanted P i a b (class.Arithmetic o) Int h (none_in P i (Binary (class.Arithmetic o) a b) h)
+
+-- those of a connective are truth values
+pub logic_row : (P : Checked) (i a b : ℕ) (o : Logic) → Stands P i (Binary (class.Logic o) a b) → (kind P a ≡ Some Bool) × (kind P b ≡ Some Bool)
+logic_row P i a b o h = both_wanted P i a b (class.Logic o) Bool h (none_in P i (Binary (class.Logic o) a b) h)
+
+-- whether the comparison is `==` or `<>`
+abbrev pub is_equality : Comparison → Truth
+is_equality Eq = true
+is_equality Ne = true
+is_equality _ = false
+
+-- those of the other comparisons are numbers
+pub order_row : (P : Checked) (i a b : ℕ) (o : Comparison) → is_equality o ≡ false → Stands P i (Binary (class.Comparison o) a b) → (kind P a ≡ Some Int) × (kind P b ≡ Some Int)
+order_row P i a b Lt e h = both_wanted P i a b (class.Comparison Lt) Int h (none_in P i (Binary (class.Comparison Lt) a b) h)
+order_row P i a b Le e h = both_wanted P i a b (class.Comparison Le) Int h (none_in P i (Binary (class.Comparison Le) a b) h)
+order_row P i a b Gt e h = both_wanted P i a b (class.Comparison Gt) Int h (none_in P i (Binary (class.Comparison Gt) a b) h)
+order_row P i a b Ge e h = both_wanted P i a b (class.Comparison Ge) Int h (none_in P i (Binary (class.Comparison Ge) a b) h)
+order_row P i a b Eq e h = let d : true ≡ false = e in cc
+order_row P i a b Ne e h = let d : true ≡ false = e in cc
+
+equal_kinds : (P : Checked) (i a b : ℕ) (p : BinaryOp) → Stands P i (Binary p a b) → wrong_equals (rows P) (kind P) (kind P a) a b ≡ []
+    → ((kind P a ≡ Some Int) ⊎ (kind P a ≡ Some Bool)) × (kind P b ≡ kind P a)
+equal_kinds P i a b p h e = by v.0 v.1
+  where
+    v : (k : Kind) × (kind P a ≡ Some k)
+    v = let w = part_row P i a (Binary p a b) h (inl refl) in has_kind P a w.0 w.1
+
+    right : (k : Kind) → wrong (rows P) (kind P) k b ≡ [] → kind P b ≡ Some k
+    right k f = let w = part_row P i b (Binary p a b) h (inr refl) in wanted_kind P k b w.0 w.1 f
+
+    by : (k : Kind) → kind P a ≡ Some k → ((kind P a ≡ Some Int) ⊎ (kind P a ≡ Some Bool)) × (kind P b ≡ kind P a)
+    by Int f = (inl f, right Int (sym (ap (λ o. wrong_equals (rows P) (kind P) o a b) f) ∙ e) ∙ sym f)
+    by Bool f = (inr f, right Bool (sym (ap (λ o. wrong_equals (rows P) (kind P) o a b) f) ∙ e) ∙ sym f)
+    by Array f = let d : WrongKind (at (rows P) a).place Int Array ∷ [] ≡ [] = sym (ap (λ o. wrong_equals (rows P) (kind P) o a b) f) ∙ e in cc
+
+-- those of `==` and `<>` are both numbers or both truth values
+pub equality_row : (P : Checked) (i a b : ℕ) (o : Comparison) → is_equality o ≡ true → Stands P i (Binary (class.Comparison o) a b)
+    → ((kind P a ≡ Some Int) ⊎ (kind P a ≡ Some Bool)) × (kind P b ≡ kind P a)
+equality_row P i a b Eq e h = equal_kinds P i a b (class.Comparison Eq) h (none_in P i (Binary (class.Comparison Eq) a b) h)
+equality_row P i a b Ne e h = equal_kinds P i a b (class.Comparison Ne) h (none_in P i (Binary (class.Comparison Ne) a b) h)
+equality_row P i a b Lt e h = absurd (false≢true e)
+equality_row P i a b Le e h = absurd (false≢true e)
+equality_row P i a b Gt e h = absurd (false≢true e)
+equality_row P i a b Ge e h = absurd (false≢true e)
+
+-- ---- conditionals
+
+-- the predicate of a conditional is a truth value
+pub split_row : (P : Checked) (i t : ℕ) → Stands P i (Split t) → kind P t ≡ Some Bool
+split_row P i t h = let w = part_row P i t (Split t) h refl in wanted_kind P Bool t w.0 w.1 (none_in P i (Split t) h)
+
+-- its arms have its kind
+pub if_row : (P : Checked) (i s x y : ℕ) → Stands P i (If s x y) → (kind P x ≡ kind P i) × (kind P y ≡ kind P i)
+if_row P i s x y h = (sym along, other ∙ sym along)
+  where
+    along : kind P i ≡ kind P x
+    along = kind_along P i x (If s x y) h refl
+
+    first : (k : Kind) × (kind P x ≡ Some k)
+    first = let w = part_row P i x (If s x y) h (inl refl) in has_kind P x w.0 w.1
+
+    other : kind P y ≡ kind P x
+    other =
+        let w = part_row P i y (If s x y) h (inr refl) in
+        wanted_kind P first.0 y w.0 w.1 (sym (ap (λ o. wrong_arm (rows P) (kind P) o y) first.1) ∙ none_in P i (If s x y) h) ∙ sym first.1
+
+-- ---- definitions
+
+def_none : (P : Checked) (i x d b : ℕ) (k : Kind) → Stands P i (Def x d k b) → (wrong (rows P) (kind P) k b ≡ []) × (wrong_params (rows P) x (at (rows P) i).place (params_at (rows P) d) ≡ [])
+def_none P i x d b k h = both_nil (wrong (rows P) (kind P) k b) (wrong_params (rows P) x (at (rows P) i).place (params_at (rows P) d)) (none_in P i (Def x d k b) h)
+
+-- the body of a definition has the kind of its result
+pub def_row : (P : Checked) (i x d b : ℕ) (k : Kind) → Stands P i (Def x d k b) → kind P b ≡ Some k
+def_row P i x d b k h =
+    let w = part_row P i b (Def x d k b) h refl in wanted_kind P k b w.0 w.1 (def_none P i x d b k h).0
+
+no_array : (R : List Row) (ps : List ℕ) (p : ℕ) → array_param R ps ≡ [] → Among p ps → is_array_param (at R p).node ≡ false
+no_array R [] p e a = absurd a
+no_array R (x ∷ xs) p e a = by (is_array_param (at R x).node) refl e a (no_array R xs p)
+  where
+    by : (t : Truth) → is_array_param (at R x).node ≡ t → (if t then (MainKind (at R x).place ∷ []) else array_param R xs) ≡ [] → (p ≡ x) ⊎ Among p xs
+        → (array_param R xs ≡ [] → Among p xs → is_array_param (at R p).node ≡ false) → is_array_param (at R p).node ≡ false
+    by true f g b r = cc
+    by false f g (inl b) r = ap (λ z. is_array_param (at R z).node) b ∙ f
+    by false f g (inr b) r = r g b
+
+-- `main` takes no array
+pub main_row : (P : Checked) (i d b p : ℕ) (k : Kind) → Stands P i (Def 0 d k b) → Among p (params_at (rows P) d) → is_array_param (at (rows P) p).node ≡ false
+main_row P i d b p k h a =
+    no_array (rows P) (params_at (rows P) d) p
+    (both_nil (array_param (rows P) (params_at (rows P) d)) (if nat_lt 16 (length (params_at (rows P) d)) then (TooManyParams (at (rows P) i).place ∷ []) else []) (def_none P i 0 d b k h).1).0 a
+
+-- a definition has at most 16 parameters
+pub few_params : (P : Checked) (i x d b : ℕ) (k : Kind) → Stands P i (Def x d k b) → length (params_at (rows P) d) ≤ 16
+few_params P i x d b k h =
+    by (nat_lt 16 (length (params_at (rows P) d))) refl
+    (both_nil (if nat_eq x 0 then array_param (rows P) (params_at (rows P) d) else []) (if nat_lt 16 (length (params_at (rows P) d)) then (TooManyParams (at (rows P) i).place ∷ []) else []) (def_none P i x d b k h).1).1
+  where
+    by : (t : Truth) → nat_lt 16 (length (params_at (rows P) d)) ≡ t → (if t then (TooManyParams (at (rows P) i).place ∷ []) else []) ≡ [] → length (params_at (rows P) d) ≤ 16
+    by true e f = cc
+    by false e f = grind (arith, nat_tests)

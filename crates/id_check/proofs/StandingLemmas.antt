@@ -1,0 +1,269 @@
+-- Each cause is at the place of a thing of the program.
+use Rattle.std.proofs.Common.{◌≡◌, inl, inr, ◌<◌, ◌≤◌, ℕ, zero, suc, Bool as Truth, true, false, List, [], ◌∷◌, ◌++◌, Option, Some, None, length, refl, ap, sym, ◌∙◌, subst, arith}
+use Rattle.std.specs.Prelude.{◌&&◌, not, nat_eq, nat_lt, if◌then◌else◌}
+use Rattle.id_list.specs.List.{Among}
+use Rattle.id_list.proofs.AmongLemmas.{Among-either, Among-one}
+use Rattle.id_value.specs.declared.Kind.{Kind}
+use Rattle.id_value.specs.declared.Kind.TheVariants.{Int, Bool, Array}
+use Rattle.id_value.specs.declared.BinaryOp.{BinaryOp}
+use Rattle.id_value.specs.declared.BinaryOp.TheVariants as class
+use Rattle.id_value.specs.declared.Comparison.TheVariants.{Lt, Le, Gt, Ge, Eq, Ne}
+use Rattle.id_parts.specs.declared.row.Row.{Row}
+use Rattle.id_parts.specs.declared.row.Node.{Node}
+use Rattle.id_parts.specs.declared.row.Node.TheVariants.{Head, Param, Name, Unary, Binary, Split, If, Binding, Def, Program}
+use Rattle.id_tree.specs.Tree.{Tree}
+use Rattle.id_tree.specs.Distinct.{HasPlace}
+use Rattle.id_parts.specs.Rows.{at, rows_of}
+use Rattle.id_parts.specs.Tables.{IsFormed, is_param, is_thing}
+use Rattle.id_parts.specs.Turns.{params_at, params_below}
+use Rattle.id_parts.proofs.PlacesLemmas.{HasPlace-rows_of}
+use Rattle.id_check.specs.declared.cause.CheckCause.{CheckCause}
+use Rattle.id_check.specs.declared.cause.CheckCause.TheVariants.{NoMain, MainKind, Duplicate, Unknown, WrongKind, TooManyParams, Memory}
+use Rattle.id_check.specs.Scopes.{binder_in, binds, bound_name, is_name, keeps, held}
+use Rattle.id_check.specs.Kinds.{AreKinds, Nowhere, in_nothing, link_at, link_of, unary_kind}
+use Rattle.id_check.specs.Causes.{HasFirst, IsInside, IsRefusedFor, array_param, causes, causes_below, causes_in, duplicates, is_array_param, repeated, same_kind, second, seconds, unknown, unless_found, wrong, wrong_arm, wrong_both, wrong_equals, wrong_operands, wrong_params}
+use Rattle.id_check.proofs.LinksLemmas.{part_of}
+use Rattle.id_check.proofs.ScopesLemmas.{binder_in-below, first_of-some}
+
+-- a thing stands at the place
+abbrev IsThingAt : List Row → ℕ → Type 0
+IsThingAt R e = (i : ℕ) × (i < length R) × (is_thing (at R i).node ≡ true) × ((at R i).place ≡ e)
+
+-- the cause is at the places of things
+abbrev pub IsStanding : List Row → CheckCause → Type 0
+IsStanding R NoMain = ⊥
+IsStanding R (MainKind e) = IsThingAt R e
+IsStanding R (Duplicate e first) = IsThingAt R e × IsThingAt R first
+IsStanding R (Unknown e) = IsThingAt R e
+IsStanding R (WrongKind e wanted found) = IsThingAt R e
+IsStanding R (TooManyParams e) = IsThingAt R e
+IsStanding R Memory = ⊥
+
+one : (R : List Row) (c d : CheckCause) → IsStanding R d → Among c (d ∷ []) → IsStanding R c
+one R c d h a = subst (IsStanding R) (sym (Among-one c d a)) h
+
+-- ---- second binders
+
+bound_thing : (n : Node) (x : ℕ) → bound_name n ≡ Some x → is_thing n ≡ true
+bound_thing (Param y k) x e = refl
+bound_thing (Binding y a) x e = refl
+bound_thing (Def y h k b) x e = refl
+bound_thing _ x e = let d : None ≡ Some x = e in cc
+
+and_second : (a b : Truth) → (a && b) ≡ true → b ≡ true
+and_second true b e = e
+and_second false b e = cc
+
+if_same : (t : Truth) (k a : ℕ) → (if t then Some k else None) ≡ Some a → (t ≡ true) × (k ≡ a)
+if_same true k a e = (refl, same k a e)
+  where
+    same : (k a : ℕ) → Some k ≡ Some a → k ≡ a
+    same k a f = cc
+if_same false k a e = let d : None ≡ Some a = e in cc
+
+named : (x : ℕ) (o : Option ℕ) → is_name x o ≡ true → (y : ℕ) × (o ≡ Some y)
+named x None e = let d : false ≡ true = e in cc
+named x (Some y) e = (y, refl)
+
+-- a binder in a scope is a thing
+binder_thing : (R : List Row) (s x n a : ℕ) → binder_in R s x n ≡ Some a → is_thing (at R a).node ≡ true
+binder_thing R s x n a e =
+    let w = first_of-some (λ b. if binds R s x b then Some b else None) n a e in
+    let t = if_same (binds R s x w.0) w.0 a w.2 in
+    let it : binds R s x a ≡ true = subst (λ b. binds R s x b ≡ true) t.1 t.0 in
+    let y = named x (bound_name (at R a).node) (and_second (keeps R s a && not (held R a s)) (is_name x (bound_name (at R a).node)) it) in
+    bound_thing (at R a).node y.0 y.1
+
+second_standing : (R : List Row) (s b : ℕ) (o : Option ℕ) (c : CheckCause) → b < length R → bound_name (at R b).node ≡ o → Among c (second R s b o) → IsStanding R c
+second_standing R s b None c less e a = absurd a
+second_standing R s b (Some x) c less e a = by (binds R s x b) a
+  where
+    again : (p : Option ℕ) → binder_in R s x b ≡ p → Among c (repeated R b p) → IsStanding R c
+    again None f g = absurd g
+    again (Some d) f g =
+        let low = binder_in-below R s x b d f in
+        one R c (Duplicate (at R b).place (at R d).place) ((b, less, bound_thing (at R b).node x e, refl), (d, omega arith, binder_thing R s x b d f, refl)) g
+
+    by : (t : Truth) → Among c (if t then repeated R b (binder_in R s x b) else []) → IsStanding R c
+    by true g = again (binder_in R s x b) refl g
+    by false g = absurd g
+
+seconds_standing : (R : List Row) (s n : ℕ) (c : CheckCause) → n ≤ length R → Among c (seconds R s n) → IsStanding R c
+seconds_standing R s zero c less a = absurd a
+seconds_standing R s (suc n) c less a = elim (Among-either c (seconds R s n) (second R s n (bound_name (at R n).node)) a) [
+  | inl b ↦ seconds_standing R s n c (omega arith) b
+  | inr b ↦ second_standing R s n (bound_name (at R n).node) c (omega arith) refl b
+]
+
+duplicates_standing : (R : List Row) (n : ℕ) (c : CheckCause) → n ≤ length R → Among c (duplicates R n) → IsStanding R c
+duplicates_standing R zero c less a = absurd a
+duplicates_standing R (suc n) c less a = elim (Among-either c (duplicates R n) (seconds R n n) a) [
+  | inl b ↦ duplicates_standing R n c (omega arith) b
+  | inr b ↦ seconds_standing R n n c (omega arith) b
+]
+
+-- ---- parts of another kind
+
+-- what has a kind is a thing
+kinded_thing : (R : List Row) (β : ℕ → Option ℕ) (κ : ℕ → Option Kind) (a : ℕ) (k : Kind) → AreKinds R β κ → a < length R → κ a ≡ Some k → is_thing (at R a).node ≡ true
+kinded_thing R β κ a k h less e = by (at R a).node refl
+  where
+    never : link_at R β a ≡ Nowhere → ⊥
+    never f = let d : None ≡ Some k = sym (h.ends a None less (in_nothing f)) ∙ e in cc
+
+    by : (n : Node) → (at R a).node ≡ n → is_thing n ≡ true
+    by Head f = absurd (never (ap (link_of (β a)) f))
+    by (Split t) f = absurd (never (ap (link_of (β a)) f))
+    by Program f = absurd (never (ap (link_of (β a)) f))
+    by _ f = refl
+
+wrong_standing : (R : List Row) (β : ℕ → Option ℕ) (κ : ℕ → Option Kind) (wanted : Kind) (a : ℕ) (c : CheckCause) → AreKinds R β κ → a < length R → Among c (wrong R κ wanted a) → IsStanding R c
+wrong_standing R β κ wanted a c h less g = by (κ a) refl g
+  where
+    at_kind : (found : Kind) → κ a ≡ Some found → (t : Truth) → Among c (if t then [] else (WrongKind (at R a).place wanted found ∷ [])) → IsStanding R c
+    at_kind found e true f = absurd f
+    at_kind found e false f = one R c (WrongKind (at R a).place wanted found) (a, less, kinded_thing R β κ a found h less e, refl) f
+
+    by : (o : Option Kind) → κ a ≡ o → Among c (unless_found wanted o (at R a).place) → IsStanding R c
+    by None e f = absurd f
+    by (Some found) e f = at_kind found e (same_kind found wanted) f
+
+both_standing : (R : List Row) (β : ℕ → Option ℕ) (κ : ℕ → Option Kind) (wanted : Kind) (a b : ℕ) (c : CheckCause) → AreKinds R β κ → a < length R → b < length R
+    → Among c (wrong_both R κ wanted a b) → IsStanding R c
+both_standing R β κ wanted a b c h low less g = elim (Among-either c (wrong R κ wanted a) (wrong R κ wanted b) g) [
+  | inl f ↦ wrong_standing R β κ wanted a c h low f
+  | inr f ↦ wrong_standing R β κ wanted b c h less f
+]
+
+equals_standing : (R : List Row) (β : ℕ → Option ℕ) (κ : ℕ → Option Kind) (a b : ℕ) (c : CheckCause) → AreKinds R β κ → a < length R → b < length R
+    → (o : Option Kind) → κ a ≡ o → Among c (wrong_equals R κ o a b) → IsStanding R c
+equals_standing R β κ a b c h low less None e g = absurd g
+equals_standing R β κ a b c h low less (Some Int) e g = wrong_standing R β κ Int b c h less g
+equals_standing R β κ a b c h low less (Some Bool) e g = wrong_standing R β κ Bool b c h less g
+equals_standing R β κ a b c h low less (Some Array) e g = one R c (WrongKind (at R a).place Int Array) (a, low, kinded_thing R β κ a Array h low e, refl) g
+
+arm_standing : (R : List Row) (β : ℕ → Option ℕ) (κ : ℕ → Option Kind) (b : ℕ) (c : CheckCause) → AreKinds R β κ → b < length R
+    → (o : Option Kind) → Among c (wrong_arm R κ o b) → IsStanding R c
+arm_standing R β κ b c h less None g = absurd g
+arm_standing R β κ b c h less (Some k) g = wrong_standing R β κ k b c h less g
+
+operands_standing : (R : List Row) (β : ℕ → Option ℕ) (κ : ℕ → Option Kind) (p : BinaryOp) (a b : ℕ) (c : CheckCause) → AreKinds R β κ → a < length R → b < length R
+    → Among c (wrong_operands R κ p a b) → IsStanding R c
+operands_standing R β κ (class.Arithmetic o) a b c h low less g = both_standing R β κ Int a b c h low less g
+operands_standing R β κ (class.Logic o) a b c h low less g = both_standing R β κ Bool a b c h low less g
+operands_standing R β κ (class.Comparison Eq) a b c h low less g = equals_standing R β κ a b c h low less (κ a) refl g
+operands_standing R β κ (class.Comparison Ne) a b c h low less g = equals_standing R β κ a b c h low less (κ a) refl g
+operands_standing R β κ (class.Comparison Lt) a b c h low less g = both_standing R β κ Int a b c h low less g
+operands_standing R β κ (class.Comparison Le) a b c h low less g = both_standing R β κ Int a b c h low less g
+operands_standing R β κ (class.Comparison Gt) a b c h low less g = both_standing R β κ Int a b c h low less g
+operands_standing R β κ (class.Comparison Ge) a b c h low less g = both_standing R β κ Int a b c h low less g
+
+-- ---- parameters
+
+and_first : (a b : Truth) → (a && b) ≡ true → a ≡ true
+and_first true b e = refl
+and_first false b e = e
+
+pub params_among : (R : List Row) (h n p : ℕ) → Among p (params_below R h n) → (p < n) × (is_param (at R p).node ≡ true)
+params_among R h zero p a = absurd a
+params_among R h (suc n) p a = by (is_param (at R n).node && nat_eq (at R n).block h) refl a (params_among R h n p)
+  where
+    more : (p < n) × (is_param (at R p).node ≡ true) → (p < suc n) × (is_param (at R p).node ≡ true)
+    more w = let low = w.0 in (omega arith, w.1)
+
+    last : (is_param (at R n).node && nat_eq (at R n).block h) ≡ true → p ≡ n → (p < suc n) × (is_param (at R p).node ≡ true)
+    last e f = (omega arith, ap (λ z. is_param (at R z).node) f ∙ and_first (is_param (at R n).node) (nat_eq (at R n).block h) e)
+
+    by : (t : Truth) → (is_param (at R n).node && nat_eq (at R n).block h) ≡ t → Among p (if t then params_below R h n ++ n ∷ [] else params_below R h n)
+        → (Among p (params_below R h n) → (p < n) × (is_param (at R p).node ≡ true)) → (p < suc n) × (is_param (at R p).node ≡ true)
+    by true e b r = elim (Among-either p (params_below R h n) (n ∷ []) b) [ inl d ↦ more (r d) | inr d ↦ last e (Among-one p n d) ]
+    by false e b r = more (r b)
+
+param_thing : (n : Node) → is_param n ≡ true → is_thing n ≡ true
+param_thing (Param y k) e = refl
+param_thing _ e = let d : false ≡ true = e in cc
+
+array_standing : (R : List Row) (ps : List ℕ) (c : CheckCause) → ((p : ℕ) → Among p ps → (p < length R) × (is_param (at R p).node ≡ true)) → Among c (array_param R ps) → IsStanding R c
+array_standing R [] c h a = absurd a
+array_standing R (x ∷ xs) c h a = by (is_array_param (at R x).node) a (array_standing R xs c (λ p b. h p (inr b)))
+  where
+    by : (t : Truth) → Among c (if t then (MainKind (at R x).place ∷ []) else array_param R xs) → (Among c (array_param R xs) → IsStanding R c) → IsStanding R c
+    by true b r = let w = h x (inl refl) in one R c (MainKind (at R x).place) (x, w.0, param_thing (at R x).node w.1, refl) b
+    by false b r = r b
+
+-- ---- each row
+
+causes_in_standing : (R : List Row) (β : ℕ → Option ℕ) (κ : ℕ → Option Kind) (i : ℕ) (c : CheckCause) → IsFormed R → AreKinds R β κ → i < length R
+    → Among c (causes_in R κ (β i) (at R i).place (at R i).node) → IsStanding R c
+causes_in_standing R β κ i c f h less a = by (at R i).node refl a
+  where
+    here : is_thing (at R i).node ≡ true → IsThingAt R (at R i).place
+    here t = (i, less, t, refl)
+
+    no_binder : (o : Option ℕ) → is_thing (at R i).node ≡ true → Among c (unknown o (at R i).place) → IsStanding R c
+    no_binder None t b = one R c (Unknown (at R i).place) (here t) b
+    no_binder (Some z) t b = absurd b
+
+    main : (t : Truth) (d : ℕ) → Among c (if t then array_param R (params_at R d) else []) → IsStanding R c
+    main true d b = array_standing R (params_at R d) c (params_among R d (length R)) b
+    main false d b = absurd b
+
+    many : (t : Truth) → is_thing (at R i).node ≡ true → Among c (if t then (TooManyParams (at R i).place ∷ []) else []) → IsStanding R c
+    many true e b = one R c (TooManyParams (at R i).place) (here e) b
+    many false e b = absurd b
+
+    by : (n : Node) → (at R i).node ≡ n → Among c (causes_in R κ (β i) (at R i).place n) → IsStanding R c
+    by (Name x) e b = no_binder (β i) (ap is_thing e) b
+    by (Unary p a) e b = wrong_standing R β κ (unary_kind p) a c h (part_of a f less e refl) b
+    by (Binary p x y) e b = operands_standing R β κ p x y c h (part_of x f less e (inl refl)) (part_of y f less e (inr refl)) b
+    by (Split t) e b = wrong_standing R β κ Bool t c h (part_of t f less e refl) b
+    by (If s x y) e b = arm_standing R β κ y c h (part_of y f less e (inr (inr refl))) (κ x) b
+    by (Def x d k y) e b = elim (Among-either c (wrong R κ k y) (wrong_params R x (at R i).place (params_at R d)) b) [
+      | inl g ↦ wrong_standing R β κ k y c h (part_of y f less e (inr refl)) g
+      | inr g ↦ elim (Among-either c (if nat_eq x 0 then array_param R (params_at R d) else []) (if nat_lt 16 (length (params_at R d)) then (TooManyParams (at R i).place ∷ []) else []) g) [
+        | inl j ↦ main (nat_eq x 0) d j
+        | inr j ↦ many (nat_lt 16 (length (params_at R d))) (ap is_thing e) j
+      ]
+    ]
+    by _ e b = absurd b
+
+below_standing : (R : List Row) (β : ℕ → Option ℕ) (κ : ℕ → Option Kind) (n : ℕ) (c : CheckCause) → IsFormed R → AreKinds R β κ → n ≤ length R → Among c (causes_below R β κ n) → IsStanding R c
+below_standing R β κ zero c f h less a = absurd a
+below_standing R β κ (suc n) c f h less a = elim (Among-either c (causes_below R β κ n) (causes_in R κ (β n) (at R n).place (at R n).node) a) [
+  | inl b ↦ below_standing R β κ n c f h (omega arith) b
+  | inr b ↦ causes_in_standing R β κ n c f h (omega arith) b
+]
+
+-- a cause in a program is at the places of things
+pub causes_standing : (R : List Row) (β : ℕ → Option ℕ) (κ : ℕ → Option Kind) (c : CheckCause) → IsFormed R → AreKinds R β κ → Among c (causes R β κ) → IsStanding R c
+causes_standing R β κ c f h a = elim (Among-either c (duplicates R (length R)) (causes_below R β κ (length R)) a) [
+  | inl b ↦ duplicates_standing R (length R) c (omega arith) b
+  | inr b ↦ below_standing R β κ (length R) c f h (omega arith) b
+]
+
+-- ---- the first cause
+
+pub IsRefusedFor-first : (R : List Row) (c : CheckCause) → IsFormed R → HasFirst R c → IsRefusedFor R c
+IsRefusedFor-first R NoMain f h = absurd (causes_standing R h.binders h.kinds NoMain f h.are_kinds h.first.among)
+IsRefusedFor-first R (MainKind e) f h = h
+IsRefusedFor-first R (Duplicate e d) f h = h
+IsRefusedFor-first R (Unknown e) f h = h
+IsRefusedFor-first R (WrongKind e k j) f h = h
+IsRefusedFor-first R (TooManyParams e) f h = h
+IsRefusedFor-first R Memory f h = tt
+
+has_place : (t : Tree) (e : ℕ) → IsThingAt (rows_of t) e → HasPlace t e
+has_place t e w = subst (HasPlace t) w.3 (HasPlace-rows_of t w.0 w.1 w.2)
+
+standing : (R : List Row) (c : CheckCause) → IsFormed R → HasFirst R c → IsStanding R c
+standing R c f h = causes_standing R h.binders h.kinds c f h.are_kinds h.first.among
+
+-- a program is refused for a cause at places of its tree
+pub IsInside-refused : (t : Tree) (c : CheckCause) → IsFormed (rows_of t) → IsRefusedFor (rows_of t) c → IsInside t c
+IsInside-refused t NoMain f h = tt
+IsInside-refused t (MainKind e) f h = has_place t e (standing (rows_of t) (MainKind e) f h)
+IsInside-refused t (Duplicate e d) f h = let w = standing (rows_of t) (Duplicate e d) f h in (has_place t e w.0, has_place t d w.1)
+IsInside-refused t (Unknown e) f h = has_place t e (standing (rows_of t) (Unknown e) f h)
+IsInside-refused t (WrongKind e k j) f h = has_place t e (standing (rows_of t) (WrongKind e k j) f h)
+IsInside-refused t (TooManyParams e) f h = has_place t e (standing (rows_of t) (TooManyParams e) f h)
+IsInside-refused t Memory f h = tt

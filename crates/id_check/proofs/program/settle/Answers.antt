@@ -1,0 +1,27 @@
+use Rattle.std.proofs.Common.{ℕ, get_or, subst, arith}
+use Rattle.std.proofs.lemmas.Grind.{common_steps}
+use Rattle.std.specs.Prelude.{None}
+use Rattle.id_check.specs.Causes.{IsRefusedFor, causes}
+use Rattle.id_check.specs.Firsts.{IsFirstOf}
+use Rattle.id_check.proofs.StandingLemmas.{IsRefusedFor-first}
+use Rattle.id_check.proofs.program.settle.Goals as goal
+
+pub returns-in-Some-clause-refused : goal.returns-in-Some-clause-refused
+returns-in-Some-clause-refused c =
+    let R = c.args.table.rows.items in
+    let β : ℕ → _ = λ i. get_or c.args.columns.binders.items i None in
+    let κ : ℕ → _ = λ i. get_or c.args.columns.kinds.items i None in
+    subst (λ r. IsRefusedFor r c.in-Some.cause) c.requires.tabled
+    (IsRefusedFor-first R c.in-Some.cause c.args.table.formed (record {
+      binders = β;
+      are_binders = c.requires.bound;
+      kinds = κ;
+      are_kinds = c.requires.kinded;
+      first = subst (λ o. IsFirstOf o (causes R β κ)) c.in-Some.is c.requires.first;
+    }))
+
+pub invariant_of-result : goal.invariant_of-result
+invariant_of-result c = grind (arith, common_steps)
+
+pub returns-in-None-clause-refused : goal.returns-in-None-clause-refused
+returns-in-None-clause-refused c = grind (arith, common_steps)

@@ -1,0 +1,33 @@
+-- A checked program, row by row (docs/MEANING.md, "Parts").
+use Rattle.std.specs.Prelude.{◌≡◌, ◌<◌, ℕ, List, length, get_or, Option, None}
+use Rattle.id_value.specs.declared.Kind.{Kind}
+use Rattle.id_parts.specs.declared.row.Region.{Region}
+use Rattle.id_parts.specs.declared.row.Row.{Row}
+use Rattle.id_parts.specs.declared.row.Node.{Node}
+use Rattle.id_parts.specs.Rows.{at}
+use Rattle.id_check.specs.declared.checked.Checked.{Checked}
+
+-- the rows of the program
+abbrev pub rows : Checked → List Row
+rows P = P.table.rows.items
+
+-- the binder of the name at the row, if a name stands there
+abbrev pub binder : Checked → ℕ → Option ℕ
+binder P i = get_or P.binders.items i None
+
+-- the kind of the row, if it has one
+abbrev pub kind : Checked → ℕ → Option Kind
+kind P i = get_or P.kinds.items i None
+
+-- where the row stands in the text
+abbrev pub place : Checked → ℕ → ℕ
+place P i = (at (rows P) i).place
+
+-- the region that the row stands in
+abbrev pub region : Checked → ℕ → Region
+region P i = (at (rows P) i).region
+
+-- the row has this node
+pub record Stands (P : Checked) (i : ℕ) (n : Node) : Type 0 where
+  pub within : i < length (rows P)
+  pub node : (at (rows P) i).node ≡ n

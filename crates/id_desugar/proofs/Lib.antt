@@ -1,0 +1,4 @@
+pub mod EndsLemmas
+pub mod FilledLemmas
+pub mod NotesLemmas
+pub mod UsesLemmas

@@ -1,0 +1,127 @@
+-- Marks: which binders were noted.
+use Rattle.std.proofs.Common.{◌≡◌, ◌≢◌, ◌⊎◌, inl, inr, ℕ, zero, suc, ◌+◌, ◌-◌, ◌≤◌, ◌<◌, Bool, true, false, List, [], ◌∷◌, ◌++◌, Option, Some, None, refl, ap, sym, ◌∙◌, arith, length, get_or, slice_set}
+use Rattle.std.specs.Prelude.{◌==◌, if◌then◌else◌, IfSome, nat_lt, take, unwrap_or}
+use Rattle.std.proofs.lemmas.Bool.{eqb-true, false≢true}
+use Rattle.std.proofs.lemmas.Bool.Decides.{nat_tests}
+use Rattle.std.proofs.lemmas.Grind.{common_steps}
+use Rattle.std.proofs.lemmas.List.{get_or-set_same, get_or-set_other}
+use Rattle.id_list.specs.List.{Among}
+use Rattle.id_list.proofs.AmongLemmas.{Among-either}
+use Rattle.id_parts.specs.declared.row.Node.{Node}
+use Rattle.id_parts.specs.declared.row.Node.TheVariants.{Split}
+use Rattle.id_parts.specs.Rows.{at}
+use Rattle.id_check.specs.declared.checked.Checked.{Checked}
+use Rattle.id_check.specs.Programs.{binder, rows}
+use Rattle.id_check.proofs.ProgramsLemmas.{binder_below}
+use Rattle.id_desugar.specs.Ends.{end_row}
+use Rattle.id_desugar.specs.Regions.{handed, has, imports, imports_by, imports_of, is_outside, with_use}
+use Rattle.id_desugar.specs.Gathering.{AreFilled, AreMarked, AreUpTo, is_before, is_split, with_uses}
+use Rattle.id_desugar.proofs.UsesLemmas.{has_last, inner_span}
+
+-- a list with one more behind it has no other besides what it had
+has_other : (bs : List ℕ) (c b : ℕ) → b ≢ c → has (bs ++ c ∷ []) b ≡ has bs b
+has_other [] c b n = at (c == b) refl
+  where
+    at : (t : Bool) → (c == b) ≡ t → (if t then true else false) ≡ false
+    at true e = absurd (n (sym (eqb-true c b e)))
+    at false e = refl
+has_other (x ∷ xs) c b n = ap (λ z. if x == b then true else z) (has_other xs c b n)
+
+-- a binder is noted with its mark
+pub AreMarked-noted : (s b : ℕ) (M bs : List ℕ) → AreMarked s M bs → b < length M → AreMarked s (slice_set M b s) (bs ++ b ∷ [])
+AreMarked-noted s b M bs m less = record { up_to = λ k. up k (k == b) refl; marked = λ k l. mark k (k == b) refl l }
+  where
+    long : length (slice_set M b s) ≡ length M
+    long = grind (arith, common_steps)
+
+    apart : (k : ℕ) → (k == b) ≡ false → k ≢ b
+    apart k e same = grind (arith, nat_tests)
+
+    up : (k : ℕ) (t : Bool) → (k == b) ≡ t → get_or (slice_set M b s) k 0 ≤ s
+    up k true e =
+        let there : get_or (slice_set M b s) k 0 ≡ s = ap (λ z. get_or (slice_set M b s) z 0) (eqb-true k b e) ∙ get_or-set_same M b s 0 less in
+        omega (arith, there)
+    up k false e =
+        let there : get_or (slice_set M b s) k 0 ≡ get_or M k 0 = get_or-set_other M b k s 0 (apart k e) in
+        omega (arith, there, m.up_to k)
+
+    mark : (k : ℕ) (t : Bool) → (k == b) ≡ t → k < length (slice_set M b s) → (get_or (slice_set M b s) k 0 == s) ≡ has (bs ++ b ∷ []) k
+    mark k true e l =
+        let is : k ≡ b = eqb-true k b e in
+        let there : get_or (slice_set M b s) k 0 ≡ s = ap (λ z. get_or (slice_set M b s) z 0) is ∙ get_or-set_same M b s 0 less in
+        let same : (get_or (slice_set M b s) k 0 == s) ≡ true = grind (arith, nat_tests) in
+        same ∙ sym (has_last bs b) ∙ ap (has (bs ++ b ∷ [])) (sym is)
+    mark k false e l =
+        let there : get_or (slice_set M b s) k 0 ≡ get_or M k 0 = get_or-set_other M b k s 0 (apart k e) in
+        ap (λ z. z == s) there ∙ m.marked k (omega (arith, long, l)) ∙ sym (has_other bs b k (apart k e))
+
+-- no binder is noted at first
+pub AreMarked-none : (s : ℕ) (M : List ℕ) → AreUpTo s M → AreMarked (s + 1) M []
+AreMarked-none s M up = record { up_to = λ b. omega (arith, up b); marked = λ b l. none b (up b) }
+  where
+    none : (b : ℕ) → get_or M b 0 ≤ s → (get_or M b 0 == (s + 1)) ≡ false
+    none b u = grind (arith, nat_tests)
+
+-- one more of a list is noted
+pub with_uses-next : (lo hi : ℕ) (bs cs : List ℕ) (i : ℕ) → i < length cs → with_uses lo hi bs (take (suc i) cs) ≡ with_use lo hi (with_uses lo hi bs (take i cs)) (Some (get_or cs i 0))
+with_uses-next lo hi bs [] i l = absurd (omega arith)
+with_uses-next lo hi bs (c ∷ cs) zero l = refl
+with_uses-next lo hi bs (c ∷ cs) (suc i) l = with_uses-next lo hi (with_use lo hi bs (Some c)) cs i (omega (arith, l))
+
+-- a row's binder is a row
+pub binder_within : (P : Checked) (i n : ℕ) (o : Option ℕ) → i < length (rows P) → o ≡ binder P i → n ≡ length (rows P) → IfSome o (λ b. b < n)
+binder_within P i n None l e f = tt
+binder_within P i n (Some b) l e f = let low = binder_below P i b l (sym e) in omega (arith, low, f)
+
+with_use-among : (lo hi : ℕ) (bs : List ℕ) (o : Option ℕ) (b : ℕ) → Among b (with_use lo hi bs o) → Among b bs ⊎ (o ≡ Some b)
+with_use-among lo hi bs None b h = inl h
+with_use-among lo hi bs (Some c) b h = by (is_outside lo hi c) (has bs c) h
+  where
+    by : (t u : Bool) → Among b (if t then (if u then bs else bs ++ c ∷ []) else bs) → Among b bs ⊎ (Some c ≡ Some b)
+    by true true i = inl i
+    by true false i = elim (Among-either b bs (c ∷ []) i) [ inl j ↦ inl j | inr (inl e) ↦ inr (ap (λ z. Some z) (sym e)) | inr (inr x) ↦ absurd x ]
+    by false u i = inl i
+
+-- and so is an import
+pub imports_within : (P : Checked) (lo hi k b : ℕ) → lo + k ≤ length (rows P) → Among b (imports_by P lo hi k) → b < length (rows P)
+imports_within P lo hi zero b l h = absurd h
+imports_within P lo hi (suc k) b l h = elim (with_use-among lo hi (imports_by P lo hi k) (binder P (lo + k)) b h) [
+  | inl i ↦ imports_within P lo hi k b (omega arith) i
+  | inr e ↦ binder_below P (lo + k) b (omega arith) e
+]
+
+pub split_node : (n : Node) → is_split n ≡ true → (t : ℕ) × (n ≡ Split t)
+split_node (Split t) e = (t, refl)
+split_node _ e = absurd (false≢true e)
+
+-- what the list of a conditional holds that ends before
+pub filled_at : (P : Checked) (n s e : ℕ) (L : List (List ℕ)) → AreFilled P n L → s < length (rows P) → end_row P s ≡ Some e → e < n → is_split (at (rows P) s).node ≡ true
+    → get_or L s [] ≡ imports P (s + 1) e
+filled_at P n s e L f l is low split =
+    let z = split_node (at (rows P) s).node split in
+    let before : is_before n (end_row P s) ≡ true = ap (is_before n) is ∙ less in
+    f.each s l ∙ ap (λ t. if t then imports_of P s else []) before ∙ ap (handed P s) z.1 ∙ ap (imports P (s + 1)) (ap (λ o. unwrap_or o 0) is)
+  where
+    less : nat_lt e n ≡ true
+    less = grind (arith, nat_tests)
+
+-- noting a row's binder is one step
+pub imports_by-next : (P : Checked) (lo hi n : ℕ) (bs new : List ℕ) (o : Option ℕ) → lo ≤ n → bs ≡ imports_by P lo hi (n - lo) → o ≡ binder P n → new ≡ with_use lo hi bs o → new ≡ imports_by P lo hi (n + 1 - lo)
+imports_by-next P lo hi n bs new o l e b h =
+    let next : suc (n - lo) ≡ n + 1 - lo = omega (arith, l) in
+    let here : lo + (n - lo) ≡ n = omega (arith, l) in
+    h ∙ ap (λ z. with_use lo hi z o) e ∙ ap (with_use lo hi (imports_by P lo hi (n - lo))) (b ∙ ap (binder P) (sym here)) ∙ ap (imports_by P lo hi) next
+
+-- and noting the imports of an inner conditional goes on to its end
+pub imports_by-over : (P : Checked) (lo hi n e : ℕ) (bs cs new : List ℕ) → lo ≤ n → n < e → e ≤ hi → bs ≡ imports_by P lo hi (n + 1 - lo) → cs ≡ imports P (n + 1) e
+    → new ≡ with_uses lo hi bs cs → new ≡ imports_by P lo hi (e - lo)
+imports_by-over P lo hi n e bs cs new l m h b c is =
+    let over : (n + 1 - lo) + (e - (n + 1)) ≡ e - lo = omega (arith, l, m) in
+    is ∙ ap (λ z. with_uses lo hi z cs) b ∙ ap (with_uses lo hi (imports_by P lo hi (n + 1 - lo))) c
+    ∙ sym (inner_span P lo hi (n + 1) e (e - (n + 1)) (omega (arith, l)) h) ∙ ap (imports_by P lo hi) over
+
+-- what stands at a number of a list is among it
+pub among_at : (xs : List ℕ) (i : ℕ) → i < length xs → Among (get_or xs i 0) xs
+among_at [] i l = absurd (omega arith)
+among_at (x ∷ xs) zero l = inl refl
+among_at (x ∷ xs) (suc i) l = inr (among_at xs i (omega (arith, l)))

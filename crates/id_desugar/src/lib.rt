@@ -1,0 +1,16 @@
+//! The regions of a checked program: in which order its rows are made into instructions, and which names each
+//! region imports.
+//!
+//! Keeps: the order is that of the graph's blocks; each head has exactly its imports, in order of first use.
+//! Errors: want of memory alone.
+//! Read first: `specs/Regions.antt`, docs/GRAPH.md ("Imports").
+//! Not here: instructions and arcs (`id_build`).
+#![tactic(auto)]
+
+mod access;
+mod ends;
+mod imports;
+mod kernel;
+
+pub use access::{binder_at, end_of, row_at};
+pub use kernel::{Kernel, regions};

@@ -1,0 +1,50 @@
+-- What is known of the rows of a checked program.
+use Rattle.std.proofs.Common.{◌≡◌, ℕ, ◌<◌, true, length, Some}
+use Rattle.id_list.specs.List.{Among}
+use Rattle.id_value.specs.declared.Kind.{Kind}
+use Rattle.id_value.specs.declared.Kind.TheVariants as kinds
+use Rattle.id_value.specs.declared.Constant.{Constant}
+use Rattle.id_value.specs.declared.UnaryOp.{UnaryOp}
+use Rattle.id_value.specs.declared.BinaryOp.{BinaryOp}
+use Rattle.id_parts.specs.declared.row.Node.TheVariants.{Param, Literal, Name, Unary, Binary, Split, If, Block, Binding}
+use Rattle.id_parts.specs.Rows.{at, top}
+use Rattle.id_parts.specs.Tables.{AreApart, HasOperand, is_binder, is_expression}
+use Rattle.id_parts.specs.Turns.{IsTable, IsDefOf}
+use Rattle.id_check.specs.declared.checked.Checked.{Checked}
+use Rattle.id_check.specs.Kinds.{constant_kind, unary_kind, binary_kind}
+use Rattle.id_check.specs.Programs.{binder, kind, place, region, rows}
+use Rattle.id_desugar.specs.Regions.{imports_of}
+use Rattle.id_build.specs.Rows.{node}
+use Rattle.id_laws.specs.Activations.{main_head}
+use Rattle.id_build.proofs.NamesSeen.{Sees}
+
+-- the rows are those of a checked program
+pub record IsKnown (P : Checked) : Type 0 where
+  pub table : IsTable (rows P)
+  -- no two things have one place; a definition's head has its place
+  pub apart : AreApart (rows P)
+  pub head_place : (n h : ℕ) → IsDefOf (rows P) n h → place P h ≡ place P n
+  -- main is a definition
+  pub main : IsDefOf (rows P) P.main (main_head P)
+  -- a parameter stands right in its procedure's region
+  pub params : (b x : ℕ) (k : Kind) → b < length (rows P) → node P b ≡ Param x k → region P b ≡ top (at (rows P) b).block
+  -- each name has a binder, which its region sees, and so do those that a conditional imports
+  pub bound : (n x : ℕ) → n < length (rows P) → node P n ≡ Name x
+      → (b : ℕ) × (binder P n ≡ Some b) × (b < length (rows P)) × (is_binder (node P b) ≡ true) × Sees P b (region P n)
+  pub imported : (n t b : ℕ) → n < length (rows P) → node P n ≡ Split t → Among b (imports_of P n)
+      → (b < length (rows P)) × (is_binder (node P b) ≡ true) × Sees P b (region P n)
+  -- the operands of a row are expressions
+  pub operands : (n a : ℕ) → n < length (rows P) → HasOperand (node P n) a → is_expression (node P a) ≡ true
+  -- the kinds of rows: a name's is its binder's, a block's its body's, a binding's its expression's, a conditional's that of both
+  -- arms; a predicate is a truth value
+  pub param_kind : (n x : ℕ) (k : Kind) → n < length (rows P) → node P n ≡ Param x k → kind P n ≡ Some k
+  pub literal_kind : (n : ℕ) (c : Constant) → n < length (rows P) → node P n ≡ Literal c → kind P n ≡ Some (constant_kind c)
+  pub name_kind : (n x b : ℕ) → n < length (rows P) → node P n ≡ Name x → binder P n ≡ Some b → kind P n ≡ kind P b
+  pub unary_kinds : (n a : ℕ) (o : UnaryOp) → n < length (rows P) → node P n ≡ Unary o a → kind P n ≡ Some (unary_kind o)
+  pub binary_kinds : (n a b : ℕ) (o : BinaryOp) → n < length (rows P) → node P n ≡ Binary o a b → kind P n ≡ Some (binary_kind o)
+  pub test_kind : (n t : ℕ) → n < length (rows P) → node P n ≡ Split t → kind P t ≡ Some kinds.Bool
+  pub arm_kinds : (n s x y : ℕ) → n < length (rows P) → node P n ≡ If s x y → (kind P n ≡ kind P x) × (kind P n ≡ kind P y)
+  pub block_kind : (n b : ℕ) → n < length (rows P) → node P n ≡ Block b → kind P n ≡ kind P b
+  pub binding_kind : (n x a : ℕ) → n < length (rows P) → node P n ≡ Binding x a → kind P n ≡ kind P a
+  -- the body of a definition is of its kind
+  pub result_kind : (n h : ℕ) (d : IsDefOf (rows P) n h) → kind P d.body ≡ Some d.result

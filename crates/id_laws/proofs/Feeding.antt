@@ -1,0 +1,132 @@
+-- What comes along an arc tells what its port wants, where it tells what its origin speaks of.
+use Rattle.std.proofs.Common.{◌≡◌, inl, inr, ℕ, suc, ◌<◌, Bool as Truth, true, false, List, length, get_or, refl, sym, ◌∙◌, ap, subst, arith}
+use Rattle.id_parts.specs.declared.row.Region.{Region}
+use Rattle.id_parts.specs.declared.row.Node.{Node}
+use Rattle.id_parts.specs.declared.row.Node.TheVariants.{Head, Literal, Unary, Binary, Split, If, Binding, Program}
+use Rattle.id_parts.specs.Tables.{HasPart, HasOperand, is_expression}
+use Rattle.id_check.specs.declared.checked.Checked.{Checked}
+use Rattle.id_check.specs.Programs.{place, region, rows}
+use Rattle.id_graph.specs.declared.dests.Port.{Port}
+use Rattle.id_graph.specs.declared.dests.Port.TheVariants.{Zero, One}
+use Rattle.id_tag.specs.declared.Value.{Value}
+use Rattle.id_meaning.specs.declared.Fact.TheVariants.{Has}
+use Rattle.id_meaning.specs.Sources.{Source}
+use Rattle.id_meaning.specs.Facts.{conditional_has}
+use Rattle.id_meaning.specs.Rounds.{Holds}
+use Rattle.id_desugar.specs.Ends.{end_of}
+use Rattle.id_desugar.specs.Regions.{imports_of}
+use Rattle.id_build.specs.declared.arc.Origin.{Origin}
+use Rattle.id_build.specs.Rows.{node, body_of, trigger_of, origin}
+use Rattle.id_build.specs.Schemas.{Feeds}
+use Rattle.id_runs.specs.Activations.{Activation}
+use Rattle.id_runs.specs.Events.{Event}
+use Rattle.id_laws.specs.Activations.{of_arms, Speaks, Live, at_start, on_side}
+use Rattle.id_laws.specs.Topics.{Turned, ValueOf, TestOf, Tells, ShownResult, speaks_of, topic_of, wants, topic_at, result_of}
+use Rattle.id_laws.proofs.Assumed.{IsKnown}
+use Rattle.id_laws.proofs.Arcs.{Arc, to_back, to_literal, to_unary, to_left, to_right, to_test, to_trigger, to_import_test, to_import, to_then, to_else}
+use Rattle.id_laws.proofs.Arcs.{to_label, fed}
+use Rattle.id_laws.proofs.Conditionals.{arm_of, chosen, conditional, test_at, arm_live}
+use Rattle.id_build.proofs.EndsLemmas.{end_is, HeadOf, of_procedure, of_arm, region_of}
+use Rattle.id_laws.proofs.Origins.{origin_shows, named_tells}
+use Rattle.id_laws.proofs.TurnedOn.{holds_by, one_path, without_none, turned_on, test_has}
+
+-- a live region of a procedure is live at iteration 0
+pub live_first : {S : Source} {number : ℕ → ℕ → ℕ} {run : List Event} {a : Activation} {r : Region} → Live S number run a r → a.iteration ≡ 0
+live_first at_start = refl
+live_first (on_side within tests live says goes) = live_first live
+
+module _ (S : Source) (known : IsKnown S.checked) (number : ℕ → ℕ → ℕ) (run : List Event) (a : Activation) where
+  abbrev P : Checked
+  P = S.checked
+
+  abbrev T : Rattle.id_laws.specs.Topics.Topic → Value → Type 0
+  T t v = Tells S number run a t v
+
+  -- an operand's value
+  operand_tells : (n e : ℕ) (m : Node) (v : Value) → n < length (rows P) → node P n ≡ m → HasPart m e → HasOperand m e
+      → T (topic_of P (origin P e)) v → T (ValueOf e) v
+  operand_tells n e m v within is part operand tells =
+      let less = (((known.table).formed).each n within).parts e (subst (λ z. HasPart z e) (sym is) part) in
+      origin_shows S known number run a e v (omega (arith, within, less.1)) (known.operands n e within (subst (λ z. HasOperand z e) (sym is) operand)) tells
+
+  -- the value of a procedure's body
+  result_tells : (h : ℕ) (v : Value) → h < length (rows P) → node P h ≡ Head → T (topic_of P (origin P (result_of P h))) v → ShownResult S number run a h v
+  result_tells h v within is tells =
+      let def = end_is P (known.table) h within is in
+      let b = result_of P h in
+      let body_is : b ≡ def.body = ap body_of def.node in
+      let parts = (((known.table).formed).each (end_of P h) def.within).parts def.body (subst (λ z. HasPart z def.body) (sym def.node) (inr refl)) in
+      let expression = ((known.table).head_is (end_of P h) def.name h def.body def.result def.within def.node).2 in
+      let shows = origin_shows S known number run a b v (subst (λ z. z < length (rows P)) (sym body_is) (omega (arith, def.within, parts.1))) (ap (λ z. is_expression (node P z)) body_is ∙ expression) tells in
+      record { iteration = a.iteration; live = shows.0; shown = shows.1; at_first = live_first shows.0 }
+
+  -- what the trigger of a region speaks of
+  trigger_topic : (r : Region) → HeadOf P (known.table) r → topic_of P (trigger_of r) ≡ Turned r
+  trigger_topic r (of_procedure is top_is) = ap (λ z. speaks_of P r.head (region P r.head) z 0 r.side) is ∙ ap Turned (sym top_is)
+  trigger_topic r (of_arm is) = ap (λ z. speaks_of P r.head (region P r.head) z 0 r.side) is
+
+  -- a signal from the head of the row's region
+  signal_tells : (n : ℕ) (v : Value) → n < length (rows P) → (node P n ≡ Program → ⊥) → T (topic_of P (trigger_of (region P n))) v → T (Turned (region P n)) v
+  signal_tells n v within other tells =
+      subst (λ z. T z v) (trigger_topic (region P n) (region_of P (known.table) n within other).head) tells
+
+  -- the predicate's value
+  test_tells : (n t : ℕ) (v : Value) → n < length (rows P) → node P n ≡ Split t → Speaks S number run a (origin P t) v
+      → T (topic_of P (origin P t)) v → T (TestOf n) v
+  test_tells n t v within is says tells =
+      let z = test_at known within is in
+      let shows = origin_shows S known number run a t v z.within z.expression tells in
+      record { test = t; tests = of_arms is; live = subst (Live S number run a) z.region shows.0; spoken = says; shown = shows.1 }
+
+  -- the value of an arm
+  arm_tells : (n s x y : ℕ) (b : Truth) (v : Value) → n < length (rows P) → node P n ≡ If s x y → T (topic_of P (origin P (arm_of b x y))) v → T (ValueOf n) v
+  arm_tells n s x y b v within is tells =
+      let c = conditional known within is in
+      let e = arm_of b x y in
+      let shows = origin_shows S known number run a e v (c.arm_within b) (c.arm_expression b) tells in
+      let shown = shows.1 in
+      let l = arm_live known shows.0 (c.arm_region b) c.node in
+      let live = subst (Live S number run a) c.region l.live in
+      let on = turned_on S known live shown.path_of ((known.table).turned n within (ap is_expression is)) in
+      let goes = subst (λ p. Rattle.id_laws.specs.Activations.Goes S p s b) (one_path (l.goes).path_of shown.path_of) (l.goes).goes in
+      let test = test_has S known c.node goes in
+      let has = subst (λ z. Holds S (Has z (place P e) shown.value)) (without_none shown.path) shown.holds in (
+        live,
+        record {
+          path = shown.path;
+          path_of = shown.path_of;
+          value = shown.value;
+          stands = shown.stands;
+          holds = subst (λ z. Holds S (Has z (place P n) shown.value)) (sym (without_none shown.path))
+              (holds_by S _ _ (conditional_has (chosen b (record { within = within; node = is }) (record { within = c.within; node = c.node }))) (on, (test, (has, tt))));
+        },
+      )
+
+  -- what the part wants, by its node
+  at_node : (n part : ℕ) (p : Port) (v : Value) (m : Node) → node P n ≡ m → T (wants P n (region P n) m part p) v → T (topic_at P n part p) v
+  at_node n part p v m is tells = subst (λ z. T (wants P n (region P n) z part p) v) (sym is) tells
+
+  by_arc : {n part : ℕ} {p : Port} {s : Origin} (v : Value) → n < length (rows P) → Arc P n part p s → Speaks S number run a s v → T (topic_of P s) v
+      → T (topic_at P n part p) v
+  by_arc {n} v within (to_back is) says tells = at_node n 1 One v Head is (result_tells n v within is tells)
+  by_arc {n} v within (to_literal {c = c} is) says tells =
+      at_node n 0 Zero v (Literal c) is (signal_tells n v within (λ e. let bad : Program ≡ Literal c = sym e ∙ is in cc) tells)
+  by_arc {n} v within (to_unary {o = o} {a = e} is) says tells = at_node n 0 Zero v (Unary o e) is (operand_tells n e (Unary o e) v within is refl refl tells)
+  by_arc {n} v within (to_left {o = o} {a = e} {b = f} is) says tells = at_node n 0 Zero v (Binary o e f) is (operand_tells n e (Binary o e f) v within is (inl refl) (inl refl) tells)
+  by_arc {n} v within (to_right {o = o} {a = e} {b = f} is) says tells = at_node n 0 One v (Binary o e f) is (operand_tells n f (Binary o e f) v within is (inr refl) (inr refl) tells)
+  by_arc {n} v within (to_test {t = t} is) says tells = at_node n 0 Zero v (Split t) is (test_tells n t v within is says tells)
+  by_arc {n} v within (to_trigger {t = t} is) says tells =
+      at_node n 0 One v (Split t) is (signal_tells n v within (λ e. let bad : Program ≡ Split t = sym e ∙ is in cc) tells)
+  by_arc {n} v within (to_import_test {t = t} k is less) says tells = at_node n (suc k) Zero v (Split t) is (test_tells n t v within is says tells)
+  by_arc {n} v within (to_import {t = t} k is less) says tells =
+      let b = get_or (imports_of P n) k 0 in
+      let z = known.imported n t b within is (Rattle.id_build.proofs.NamesSeen.listed (imports_of P n) k less) in
+      at_node n (suc k) One v (Split t) is (named_tells S known number run a (region P n) b v z.1 z.2 tells)
+  by_arc {n} v within (to_then {s = s} {x = x} {y = y} is) says tells = at_node n 0 Zero v (If s x y) is (arm_tells n s x y true v within is tells)
+  by_arc {n} v within (to_else {s = s} {x = x} {y = y} is) says tells = at_node n 0 Zero v (If s x y) is (arm_tells n s x y false v within is tells)
+  by_arc {n} v within (to_label {x = x} {a = e} is) says tells = at_node n 0 Zero v (Binding x e) is (operand_tells n e (Binding x e) v within is refl refl tells)
+
+  -- what tells what an origin speaks of, tells what it feeds wants
+  pub feeds_tell : (s : Origin) (n part : ℕ) (p : Port) (v : Value) → Feeds P s n part p → Speaks S number run a s v → T (topic_of P s) v
+      → T (topic_at P n part p) v
+  feeds_tell s n part p v h says tells = by_arc v h.within (fed h) says tells

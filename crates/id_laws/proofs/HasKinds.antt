@@ -1,0 +1,226 @@
+-- What a thing Has is of its kind.
+use Rattle.std.proofs.Common.{◌≡◌, inl, inr, ℕ, zero, suc, ◌<◌, ℤ, Bool as Truth, true, false, cond, Some, None, List, [], ◌∷◌, length, slice_get}
+use Rattle.std.proofs.Common.{unwrap_or, arith, refl, sym, ◌∙◌, ap, subst}
+use Rattle.std.specs.Prelude.{neg_ℤ}
+use Rattle.id_value.specs.declared.Kind.{Kind}
+use Rattle.id_value.specs.declared.Kind.TheVariants as kinds
+use Rattle.id_value.specs.declared.Constant.{Constant}
+use Rattle.id_value.specs.declared.Constant.TheVariants.{Int, Bool}
+use Rattle.id_value.specs.declared.UnaryOp.{UnaryOp}
+use Rattle.id_value.specs.declared.UnaryOp.TheVariants.{Neg, Not}
+use Rattle.id_value.specs.declared.Comparison.TheVariants.{Eq, Ne}
+use Rattle.id_value.specs.declared.Logic.TheVariants.{And, Or}
+use Rattle.id_value.specs.declared.BinaryOp.{BinaryOp}
+use Rattle.id_value.specs.declared.BinaryOp.TheVariants as class
+use Rattle.id_value.specs.declared.Outcome.{Outcome}
+use Rattle.id_value.specs.declared.Outcome.TheVariants.{Gives, Lacks}
+use Rattle.id_value.specs.Results.{result_of_unary, result_of_binary}
+use Rattle.id_value.proofs.ResultsLemmas.{IsNumberOrFault, whole-number, calculated-number}
+use Rattle.id_list.proofs.AmongLemmas.{Among-from_at}
+use Rattle.id_parts.specs.declared.row.Node.{Node}
+use Rattle.id_parts.specs.declared.row.Node.TheVariants.{Head, Param, Split, If, Binding, Program}
+use Rattle.id_parts.specs.Rows.{at}
+use Rattle.id_parts.specs.Tables.{HasOperand, is_thing, is_binder, is_expression}
+use Rattle.id_parts.proofs.RegionLemmas.{HasPart-operand}
+use Rattle.id_check.specs.declared.checked.Checked.{Checked}
+use Rattle.id_check.specs.Kinds.{constant_kind, unary_kind, binary_kind}
+use Rattle.id_check.specs.Programs.{Stands, kind, place, rows}
+use Rattle.id_meaning.specs.declared.Path.{Path}
+use Rattle.id_meaning.specs.declared.SourceValue.{SourceValue}
+use Rattle.id_meaning.specs.declared.Fact.{Fact}
+use Rattle.id_meaning.specs.declared.Fact.TheVariants.{On, Has}
+use Rattle.id_meaning.specs.Sources.{Source, AreFor, AreInputs, IsInput, SuitsParam, main_params, value_kind, value_of}
+use Rattle.id_meaning.specs.Facts.{Rule, Chooses, then_arm, else_arm, param_has, literal_has, unary_has, binary_has, name_has, conditional_has, block_has}
+use Rattle.id_meaning.specs.Facts.{binding_has}
+use Rattle.id_meaning.specs.Rounds.{Every, Rounds, Holds}
+use Rattle.id_build.specs.Rows.{node, port_at, port_of}
+use Rattle.id_laws.specs.Activations.{main_head}
+use Rattle.id_laws.proofs.Assumed.{IsKnown}
+use Rattle.id_laws.proofs.Blocks.{IsParam, a_param}
+
+-- the kind of a constant
+abbrev kind_of : Constant → Kind
+kind_of c = value_kind (value_of c)
+
+pub constant_kind_is : (c : Constant) → constant_kind c ≡ kind_of c
+constant_kind_is (Int n) = refl
+constant_kind_is (Bool b) = refl
+
+gives_truth : (b : Truth) (c : Constant) → Gives (Bool b) ≡ Gives c → kind_of c ≡ kinds.Bool
+gives_truth b (Int m) e = cc
+gives_truth b (Bool d) e = refl
+
+lacks_gives : (c : Constant) {A : Type 0} → Lacks ≡ Gives c → A
+lacks_gives c e = absurd (no e)
+  where
+    no : {c : Constant} → Lacks ≡ Gives c → ⊥
+    no e = cc
+
+number_kind : (c : Constant) → IsNumberOrFault (Gives c) → kind_of c ≡ kinds.Int
+number_kind (Int n) h = refl
+number_kind (Bool b) h = absurd h
+
+number_given : (o : Outcome) (c : Constant) → IsNumberOrFault o → o ≡ Gives c → kind_of c ≡ kinds.Int
+number_given o c h e = number_kind c (subst IsNumberOrFault e h)
+
+-- the results of an operator are of its kind
+unary_gives : (o : UnaryOp) (a c : Constant) → result_of_unary o a ≡ Gives c → kind_of c ≡ unary_kind o
+unary_gives Neg (Int n) c e = number_given _ c (whole-number (neg_ℤ n)) e
+unary_gives Neg (Bool b) c e = lacks_gives c e
+unary_gives Not (Int n) c e = lacks_gives c e
+unary_gives Not (Bool b) c e = gives_truth _ c e
+
+binary_gives : (o : BinaryOp) (a b c : Constant) → result_of_binary o a b ≡ Gives c → kind_of c ≡ binary_kind o
+binary_gives (class.Arithmetic o) (Int m) (Int n) c e = number_given _ c (calculated-number o m n) e
+binary_gives (class.Comparison o) (Int m) (Int n) c e = gives_truth _ c e
+binary_gives (class.Comparison Eq) (Bool m) (Bool n) c e = gives_truth _ c e
+binary_gives (class.Comparison Ne) (Bool m) (Bool n) c e = gives_truth _ c e
+binary_gives (class.Logic And) (Bool m) (Bool n) c e = gives_truth _ c e
+binary_gives (class.Logic Or) (Bool m) (Bool n) c e = gives_truth _ c e
+binary_gives _ _ _ c e = lacks_gives c e
+
+-- an input is of its parameter's kind
+input_suits : (P : Checked) (bs : List ℕ) (vs : List SourceValue) (n b : ℕ) (v : SourceValue) → AreFor P bs vs → slice_get bs n ≡ Some b
+    → slice_get vs n ≡ Some v → SuitsParam (at (rows P) b).node v
+input_suits P [] vs n b v h e f = absurd (none e)
+  where
+    none : {x : ℕ} → None ≡ Some x → ⊥
+    none e = cc
+input_suits P (x ∷ bs) [] n b v h e f = absurd h
+input_suits P (x ∷ bs) (w ∷ vs) zero b v h e f =
+    let row_is : x ≡ b = some_is e in
+    let value_is : w ≡ v = some_is f in
+    subst (λ (z : ℕ × SourceValue). SuitsParam (at (rows P) z.0).node z.1) {x = (x, w)} {y = (b, v)} (λ i. (row_is i, value_is i)) h.0
+  where
+    some_is : {A : Type 0} {x y : A} → Some x ≡ Some y → x ≡ y
+    some_is e = cc
+input_suits P (x ∷ bs) (w ∷ vs) (suc n) b v h e f = input_suits P bs vs n b v h.1 e f
+
+-- a parameter that suits the value has its kind
+param_suits : (P : Checked) → IsKnown P → (b : ℕ) (v : SourceValue) → b < length (rows P) → (m : Node) → node P b ≡ m → SuitsParam m v
+    → kind P b ≡ Some (value_kind v)
+param_suits P known b v within (Param x k) is h = known.param_kind b x k within is ∙ ap (λ z. Some z) (sym h)
+param_suits P known b v within _ is h = absurd h
+
+some_is : {A : Type 0} {x y : A} → Some x ≡ Some y → x ≡ y
+some_is e = cc
+
+same_fact : {p q : Path} {e d : ℕ} {v w : SourceValue} → Has p e v ≡ Has q d w → (e ≡ d) × (v ≡ w)
+same_fact h = (cc, cc)
+
+no_on : {p q : Path} {e d : ℕ} {w : SourceValue} → On p e ≡ Has q d w → ⊥
+no_on h = cc
+
+pub binder_thing : (m : Node) → is_binder m ≡ true → is_thing m ≡ true
+binder_thing (Param x k) h = refl
+binder_thing (Binding x a) h = refl
+binder_thing _ h = absurd (no h)
+  where
+    no : false ≡ true → ⊥
+    no h = cc
+
+pub expression_thing : (m : Node) → is_expression m ≡ true → is_thing m ≡ true
+expression_thing Head h = h
+expression_thing (Split t) h = h
+expression_thing Program h = h
+expression_thing _ h = refl
+
+param_thing : {m : Node} → IsParam m → is_thing m ≡ true
+param_thing x = ap is_thing x.is
+
+module _ (S : Source) (known : IsKnown S.checked) (inputs : AreInputs S.checked S.inputs) where
+  abbrev P : Checked
+  P = S.checked
+
+  abbrev OfKind : ℕ → SourceValue → Type 0
+  OfKind n v = kind P n ≡ Some (value_kind v)
+
+  -- the values of a place are of the kind of the thing there, as far as this round
+  abbrev Kinded : ℕ → Type 0
+  Kinded m = (n : ℕ) (p : Path) (v : SourceValue) → n < length (rows P) → is_thing (node P n) ≡ true → Rounds S m (Has p (place P n) v) → OfKind n v
+
+  -- what stands at one place is one row
+  one_row : (n m : ℕ) (x : Node) (v : SourceValue) → Stands P m x → is_thing x ≡ true → n < length (rows P) → is_thing (node P n) ≡ true
+      → place P m ≡ place P n → OfKind m v → OfKind n v
+  one_row n m x v stands thing within is_a_thing same h =
+      subst (λ z. OfKind z v) ((known.apart).apart m n stands.within within (ap is_thing stands.node ∙ thing) is_a_thing same) h
+
+  -- an operand is a thing
+  pub operand_of : (n a : ℕ) → n < length (rows P) → HasOperand (node P n) a → (a < length (rows P)) × (is_thing (node P a) ≡ true)
+  operand_of n a within operand =
+      let less = (((known.table).formed).each n within).parts a (HasPart-operand (node P n) a operand) in
+      (omega (arith, less.1, within), expression_thing (node P a) (known.operands n a within operand))
+
+  input_kind : (b : ℕ) (v : SourceValue) → IsInput S b v → OfKind b v
+  input_kind b v x =
+      let z = a_param (rows P) (main_head P) (length (rows P)) b (Among-from_at b (main_params P) x.number x.param) in
+      param_suits P known b v z.within (node P b) refl (input_suits P (main_params P) S.inputs x.number b v inputs x.param x.value)
+
+  -- a conditional's arm: it is of the conditional's kind
+  record ArmOf (n a : ℕ) : Type 0 where
+    split : ℕ
+    then : ℕ
+    otherwise : ℕ
+    stands : Stands P n (If split then otherwise)
+    within : a < length (rows P)
+    thing : is_thing (node P a) ≡ true
+    kind_is : kind P n ≡ kind P a
+
+  arm_chosen : {n t a : ℕ} {b : Truth} → Chooses S n t b a → ArmOf n a
+  arm_chosen {n} (then_arm {s = s} {a = x} {b = y} h k) =
+      let inner = operand_of n x h.within (subst (λ z. HasOperand z x) (sym h.node) (inl refl)) in
+      record { split = s; then = x; otherwise = y; stands = h; within = inner.0; thing = inner.1; kind_is = (known.arm_kinds n s x y h.within h.node).0 }
+  arm_chosen {n} (else_arm {s = s} {a = x} {b = y} h k) =
+      let inner = operand_of n y h.within (subst (λ z. HasOperand z y) (sym h.node) (inr refl)) in
+      record { split = s; then = x; otherwise = y; stands = h; within = inner.0; thing = inner.1; kind_is = (known.arm_kinds n s x y h.within h.node).1 }
+
+  kind_by : {fs : List Fact} {f : Fact} (m : ℕ) → Kinded m → Rule S fs f → Every (Rounds S m) fs → (n : ℕ) (p : Path) (v : SourceValue)
+      → n < length (rows P) → is_thing (node P n) ≡ true → f ≡ Has p (place P n) v → OfKind n v
+  kind_by m early (param_has {b = b} {v = w} x) h n p v within thing is =
+      let z = a_param (rows P) (main_head P) (length (rows P)) b (Among-from_at b (main_params P) x.number x.param) in
+      let parts = same_fact is in
+      subst (OfKind n) parts.1 (one_row n b _ w (record { within = z.within; node = refl }) (param_thing z.param) within thing parts.0 (input_kind b w x))
+  kind_by m early (literal_has {n = r} {c = c} x) h n p v within thing is =
+      let parts = same_fact is in
+      subst (OfKind n) parts.1 (one_row n r _ (value_of c) x refl within thing parts.0 (known.literal_kind r c x.within x.node ∙ ap (λ z. Some z) (constant_kind_is c)))
+  kind_by m early (unary_has {n = r} {a = a} {o = o} {x = y} c x result) h n p v within thing is =
+      let parts = same_fact is in
+      subst (OfKind n) parts.1 (one_row n r _ (value_of y) x refl within thing parts.0 (known.unary_kinds r a o x.within x.node ∙ ap (λ z. Some z) (sym (unary_gives o c y result))))
+  kind_by m early (binary_has {n = r} {a = a} {b = b} {o = o} {x = y} c d x result) h n p v within thing is =
+      let parts = same_fact is in
+      subst (OfKind n) parts.1 (one_row n r _ (value_of y) x refl within thing parts.0 (known.binary_kinds r a b o x.within x.node ∙ ap (λ z. Some z) (sym (binary_gives o c d y result))))
+  kind_by m early (name_has {n = r} {x = y} {b = b} {v = w} x binds) h n p v within thing is =
+      let parts = same_fact is in
+      let known_binder = known.bound r y x.within x.node in
+      let same : known_binder.0 ≡ b = some_is (sym known_binder.1 ∙ binds) in
+      let b_within = subst (λ z. z < length (rows P)) same known_binder.2 in
+      let b_thing = binder_thing (node P b) (subst (λ z. is_binder (node P z) ≡ true) same known_binder.3) in
+      subst (OfKind n) parts.1 (one_row n r _ w x refl within thing parts.0 (known.name_kind r y b x.within x.node binds ∙ early b _ w b_within b_thing h.1.0))
+  kind_by m early (conditional_has {n = r} {a = a} {v = w} chooses) h n p v within thing is =
+      let parts = same_fact is in
+      let c = arm_chosen chooses in
+      subst (OfKind n) parts.1 (one_row n r _ w c.stands refl within thing parts.0 (c.kind_is ∙ early a _ w c.within c.thing h.1.1.0))
+  kind_by m early (block_has {n = r} {b = b} {v = w} x) h n p v within thing is =
+      let parts = same_fact is in
+      let inner = operand_of r b x.within (subst (λ z. HasOperand z b) (sym x.node) refl) in
+      subst (OfKind n) parts.1 (one_row n r _ w x refl within thing parts.0 (known.block_kind r b x.within x.node ∙ early b _ w inner.0 inner.1 h.1.0))
+  kind_by m early (binding_has {n = r} {x = y} {a = a} {v = w} x) h n p v within thing is =
+      let parts = same_fact is in
+      let inner = operand_of r a x.within (subst (λ z. HasOperand z a) (sym x.node) refl) in
+      subst (OfKind n) parts.1 (one_row n r _ w x refl within thing parts.0 (known.binding_kind r y a x.within x.node ∙ early a _ w inner.0 inner.1 h.0))
+  kind_by m early _ h n p v within thing is = absurd (no_on is)
+
+  kinded : (m : ℕ) → Kinded m
+  kinded zero n p v within thing h = absurd h
+  kinded (suc m) n p v within thing (inl h) = kinded m n p v within thing h
+  kinded (suc m) n p v within thing (inr t) = kind_by m (kinded m) t.1 t.2 n p v within thing refl
+
+  -- what a thing Has is of its kind
+  pub Has_kind : (n : ℕ) (p : Path) (v : SourceValue) → n < length (rows P) → is_thing (node P n) ≡ true → Holds S (Has p (place P n) v)
+      → kind P n ≡ Some (value_kind v)
+  Has_kind n p v within thing h = kinded h.round n p v within thing h.there
+
+  -- so the ports that take it are of that kind
+  pub port_taking : (n : ℕ) (p : Path) (v : SourceValue) → n < length (rows P) → is_thing (node P n) ≡ true → Holds S (Has p (place P n) v)
+      → port_at P n ≡ port_of (value_kind v)
+  port_taking n p v within thing h = ap (λ o. port_of (unwrap_or o kinds.Int)) (Has_kind n p v within thing h)

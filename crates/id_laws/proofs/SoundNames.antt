@@ -1,0 +1,204 @@
+-- What a run of a schemas' graph shows that binders Have, they Have, and it shows nothing twice.
+use Rattle.std.proofs.Common.{◌≡◌, inl, inr, ℕ, ◌≤◌, ◌<◌, Bool as Truth, true, false, cond, Option, Some, None, List, [], ◌∷◌, length, refl, sym, ◌∙◌, ap}
+use Rattle.std.proofs.Common.{subst, arith}
+use Rattle.std.specs.List.{filter_map, cons_option}
+use Rattle.id_list.specs.List.{Among, AllDiffer}
+use Rattle.id_list.proofs.AmongLemmas.{Among-map}
+use Rattle.id_parts.specs.declared.row.Node.{Node}
+use Rattle.id_parts.specs.declared.row.Node.TheVariants.{Head, Param, Literal, Name, Unary, Binary, Split, If, Block, Binding, Def, Program}
+use Rattle.id_parts.specs.Tables.{is_binder, is_thing}
+use Rattle.id_check.specs.declared.checked.Checked.{Checked}
+use Rattle.id_check.specs.Programs.{place, region, rows}
+use Rattle.id_graph.specs.declared.dests.Port.{Port}
+use Rattle.id_graph.specs.declared.dests.Port.TheVariants.{Zero, One}
+use Rattle.id_graph.specs.Graph.{Parts}
+use Rattle.id_tag.specs.declared.Tag.{Tag}
+use Rattle.id_tag.specs.declared.Value.{Value}
+use Rattle.id_tag.specs.declared.Payload.{Payload}
+use Rattle.id_tag.specs.declared.Payload.TheVariants.{Token}
+use Rattle.id_core.specs.Events.{EventView, tag_of}
+use Rattle.id_core.specs.Machines.{World}
+use Rattle.id_core.specs.Observed as shown
+use Rattle.id_meaning.specs.declared.Path.{Path}
+use Rattle.id_meaning.specs.declared.SourceValue.{SourceValue}
+use Rattle.id_meaning.specs.declared.NameValue.{NameValue}
+use Rattle.id_meaning.specs.declared.Fact.TheVariants.{Has}
+use Rattle.id_meaning.specs.Sources.{Source}
+use Rattle.id_meaning.specs.Facts.{outermost, binding_has}
+use Rattle.id_meaning.specs.Rounds.{Holds}
+use Rattle.id_meaning.specs.Names.{IsNameValue}
+use Rattle.id_build.specs.Rows.{node}
+use Rattle.id_build.specs.Schemas.{Numbered}
+use Rattle.id_runs.specs.Activations.{Activation, main_activation, tag_in}
+use Rattle.id_runs.specs.Events.{Event}
+use Rattle.id_runs.specs.Keys.{Key, AtPort, key_of}
+use Rattle.id_runs.specs.Runs.{Reach, handled}
+use Rattle.id_runs.specs.OneMessage.{count_for}
+use Rattle.id_runs.proofs.Keys.{hit, hit_itself, counts, count_cons}
+use Rattle.id_runs.proofs.RecordsOfRuns.{among_filter_map, told, told_once}
+use Rattle.id_laws.specs.Laws.{events}
+use Rattle.id_laws.specs.Topics.{Tells, topic_at, wants}
+use Rattle.id_laws.proofs.Assumed.{IsKnown}
+use Rattle.id_laws.proofs.Arcs.{place_shown}
+use Rattle.id_laws.proofs.Tokens.{port_of, value_of}
+use Rattle.id_laws.proofs.TurnedOn.{holds_by}
+use Rattle.id_laws.proofs.Start.{main_is_head, main_within}
+use Rattle.id_laws.proofs.LabelsBind.{label_binds}
+use Rattle.id_laws.proofs.OneSender.{exclusive}
+use Rattle.id_laws.proofs.StartTells.{all_tell, all_speak}
+use Rattle.id_laws.proofs.Observing.{shown_holds, live_main, part_place, message_handled}
+
+-- a message that shows what a binder Has: a token for a label
+pub record Names (g : Parts) (x : Payload) (n : NameValue) : Type 0 where
+  pub tag : Tag
+  pub port : Port
+  pub token : Value
+  pub value : SourceValue
+  pub is : x ≡ Token tag port token
+  pub label : shown.is_label g tag.instr ≡ true
+  pub brings : shown.source_value token ≡ Some value
+  pub shows : n ≡ record { path = shown.main_path; place = shown.place_of g tag.instr; value = value }
+
+names_is : (g : Parts) (x : Payload) (n : NameValue) → shown.name_in g x ≡ Some n → Names g x n
+names_is g (Token t p v) n e = go (shown.is_label g t.instr) (shown.source_value v) refl refl e
+  where
+    go : (b : Truth) (o : Option SourceValue) → shown.is_label g t.instr ≡ b → shown.source_value v ≡ o → cond b (shown.name_at g t.instr o) None ≡ Some n
+        → Names g (Token t p v) n
+    go false o f h e = cc
+    go true None f h e = cc
+    go true (Some u) f h e = record { tag = t; port = p; token = v; value = u; is = refl; label = f; brings = h; shows = cc }
+
+-- what events show differs, where two that show one thing handled messages of one key, and no key has two
+shown_differ : {B : Type 0} (f : EventView → Option B) (vs : List EventView)
+    → ((v w : EventView) (y : B) → Among v vs → Among w vs → f v ≡ Some y → f w ≡ Some y → key_of v.message.payload ≡ key_of w.message.payload)
+    → ((k : Key) → count_for k (told vs) ≤ 1) → AllDiffer (filter_map f vs)
+shown_differ f [] same few = tt
+shown_differ {B} f (v ∷ vs) same few =
+    go (f v) refl (shown_differ f vs (λ u w y h k. same u w y (inr h) (inr k)) (λ k. omega (arith, few k, count_cons k v.message.payload (told vs))))
+  where
+    go : (o : Option B) → f v ≡ o → AllDiffer (filter_map f vs) → AllDiffer (cons_option o (filter_map f vs))
+    go None e rest = rest
+    go (Some y) e rest = (
+      λ h. let t = among_filter_map f vs y h in
+          let k = key_of v.message.payload in
+          let first : hit k v.message.payload ≡ 1 = hit_itself k v.message.payload refl in
+          let second = counts k (t.0).message.payload (told vs) (Among-map (λ (u : EventView). u.message.payload) t.0 vs t.1) (sym (same v t.0 y (inl refl) (inr t.1) e t.2)) in
+          omega (arith, few k, count_cons k v.message.payload (told vs)),
+      rest,
+    )
+
+-- a binder is a thing, whose first instruction shows its place
+binder_thing : (m : Node) → is_binder m ≡ true → is_thing m ≡ true
+binder_thing (Param x k) e = refl
+binder_thing (Binding x a) e = refl
+binder_thing Head e = cc
+binder_thing (Literal c) e = cc
+binder_thing (Name x) e = cc
+binder_thing (Unary o a) e = cc
+binder_thing (Binary o a b) e = cc
+binder_thing (Split t) e = cc
+binder_thing (If s x y) e = cc
+binder_thing (Block b) e = cc
+binder_thing (Def x h k b) e = cc
+binder_thing Program e = cc
+
+binder_shows : (P : Checked) (e : ℕ) (m : Node) → is_binder m ≡ true → place_shown P e m ≡ e
+binder_shows P e (Param x k) h = refl
+binder_shows P e (Binding x a) h = refl
+binder_shows P e Head h = refl
+binder_shows P e (Literal c) h = refl
+binder_shows P e (Name x) h = refl
+binder_shows P e (Unary o a) h = refl
+binder_shows P e (Binary o a b) h = refl
+binder_shows P e (Split t) h = refl
+binder_shows P e (If s x y) h = refl
+binder_shows P e (Block b) h = refl
+binder_shows P e (Def x h' k b) h = refl
+binder_shows P e Program h = cc
+
+module _ (S : Source) (known : IsKnown S.checked) (g : Parts) (number : ℕ → ℕ → ℕ) (numbered : Numbered S.checked g number) (count : ℕ) (s : World) (run : List Event) (r : Reach g S.inputs count s run) where
+  abbrev P : Checked
+  P = S.checked
+
+  abbrev T : Activation → ℕ → Node → Port → Value → Type 0
+  T a b m p v = Tells S number run a (wants P b (region P b) m 0 p) v
+
+  -- a token for a binder's label: main's, at port 0, with what the binder Has
+  record Label (b : ℕ) (a : Activation) (p : Port) (v : Value) : Type 0 where
+    main : a ≡ main_activation
+    port : p ≡ Zero
+    has : (w : SourceValue) → shown.source_value v ≡ Some w → Holds S (Has outermost (place P b) w)
+
+  at_label : (b : ℕ) → b < length (rows P) → (a : Activation) (p : Port) (v : Value) (m : Node) → node P b ≡ m → is_binder m ≡ true → T a b m p v
+      → Label b a p v
+  at_label b within a Zero v (Param x k) is h w = record { main = live_main w.0; port = refl; has = λ u e. shown_holds w.1 e }
+  at_label b within a One v (Param x k) is h w = absurd w
+  at_label b within a Zero v (Binding x e) is h w =
+      record { main = live_main w.0; port = refl; has = λ u f. holds_by S _ _ (binding_has (record { within = within; node = is })) (shown_holds w.1 f, tt) }
+  at_label b within a One v (Binding x e) is h w = absurd w
+  at_label b within a p v Head is h w = cc
+  at_label b within a p v (Literal c) is h w = cc
+  at_label b within a p v (Name x) is h w = cc
+  at_label b within a p v (Unary o e) is h w = cc
+  at_label b within a p v (Binary o e f) is h w = cc
+  at_label b within a p v (Split t) is h w = cc
+  at_label b within a p v (If s x y) is h w = cc
+  at_label b within a p v (Block e) is h w = cc
+  at_label b within a p v (Def x f k e) is h w = cc
+  at_label b within a p v Program is h w = cc
+
+  -- what shows a name came to its binder's label
+  record Came (n : NameValue) (x : Payload) : Type 0 where
+    row : ℕ
+    within : row < length (rows P)
+    binds : is_binder (node P row) ≡ true
+    place_is : n.place ≡ place P row
+    path : n.path ≡ outermost
+    key : key_of x ≡ AtPort (tag_in main_activation (number row 0)) Zero
+    has : Holds S (Has outermost (place P row) n.value)
+
+  came_to : (n : NameValue) (x : Payload) → Among x (handled run) → shown.name_in g x ≡ Some n → Came n x
+  came_to n x among e =
+      let y = names_is g x n e in
+      let z = all_tell S known g number numbered run count s r x (inr among) in
+      let tag_is : tag_in z.activation (number z.row z.part) ≡ y.tag = ap tag_of (sym z.is ∙ y.is) in
+      let port_is : z.port ≡ y.port = ap port_of (sym z.is ∙ y.is) in
+      let token_is : z.value ≡ y.token = ap value_of (sym z.is ∙ y.is) in
+      let instr_is : number z.row z.part ≡ (y.tag).instr = ap (λ (t : Tag). t.instr) tag_is in
+      let label = label_binds P known g number numbered (main_is_head S g number numbered known) (main_within S g number numbered known) z.row z.part z.is_part (ap (shown.is_label g) instr_is ∙ y.label) in
+      let within = ((z.is_part).makes).within in
+      let tells = subst (λ k. Tells S number run z.activation (topic_at P z.row k z.port) z.value) label.first z.tells in
+      let at = at_label z.row within z.activation z.port z.value (node P z.row) refl label.binds tells in
+      let shown_there : shown.place_of g (y.tag).instr ≡ place P z.row = ap (shown.place_of g) (sym instr_is) ∙ part_place numbered z.is_part ∙ binder_shows P (place P z.row) (node P z.row) label.binds in
+      let value_is : n.value ≡ y.value = ap (λ (w : NameValue). w.value) y.shows in
+      record {
+        row = z.row;
+        within = within;
+        binds = label.binds;
+        place_is = ap (λ (w : NameValue). w.place) y.shows ∙ shown_there;
+        path = ap (λ (w : NameValue). w.path) y.shows;
+        key = ap key_of z.is ∙ (λ i. AtPort (tag_in (at.main i) (number z.row (label.first i))) (at.port i));
+        has = subst (λ w. Holds S (Has outermost (place P z.row) w)) (sym value_is) (at.has y.value (ap shown.source_value token_is ∙ y.brings));
+      }
+
+  event_came : (n : NameValue) (v : EventView) → Among v (events s) → shown.name_in g v.message.payload ≡ Some n → Came n v.message.payload
+  event_came n v among e = came_to n v.message.payload (message_handled g S.inputs count s run r v among) e
+
+  pub sound_names : (n : NameValue) → Among n (shown.names g s) → IsNameValue S n
+  sound_names n among =
+      let event = among_filter_map (λ (u : EventView). shown.name_in g u.message.payload) (events s) n among in
+      let x = event_came n event.0 event.1 event.2 in
+      record {
+        binder = record { row = x.row; within = x.within; binds = x.binds; here = sym x.place_is };
+        holds = subst (λ (z : Path × ℕ). Holds S (Has z.0 z.1 n.value)) (λ i. (sym x.path i, sym x.place_is i)) x.has;
+      }
+
+  pub names_differ : AllDiffer (shown.names g s)
+  names_differ =
+      shown_differ (λ (u : EventView). shown.name_in g u.message.payload) (events s)
+      (λ v w n h k e f.
+      let x = event_came n v h e in
+      let y = event_came n w k f in
+      let same : x.row ≡ y.row = (known.apart).apart x.row y.row x.within y.within (binder_thing (node P x.row) x.binds) (binder_thing (node P y.row) y.binds) (sym x.place_is ∙ y.place_is) in
+      x.key ∙ ap (λ b. AtPort (tag_in main_activation (number b 0)) Zero) same ∙ sym y.key)
+      (told_once g S.inputs count (exclusive S g number numbered known count (λ t hs q. all_tell S known g number numbered hs count t q) (λ t hs q. all_speak S known g number numbered hs count t q)) s run r)

@@ -1,0 +1,38 @@
+-- *Sound* and *Never stuck* of a run of a schemas' graph.
+use Rattle.std.proofs.Common.{ℕ, List}
+use Rattle.id_graph.specs.Graph.{Parts}
+use Rattle.id_core.specs.Machines.{World}
+use Rattle.id_meaning.specs.Sources.{Source}
+use Rattle.id_build.specs.Schemas.{Numbered}
+use Rattle.id_runs.specs.Events.{Event}
+use Rattle.id_runs.specs.Runs.{Reach}
+use Rattle.id_runs.specs.OneMessage.{Exclusive}
+use Rattle.id_laws.specs.Laws.{IsSound, IsNeverStuck}
+use Rattle.id_laws.proofs.Assumed.{IsKnown}
+use Rattle.id_laws.proofs.OneSender.{exclusive}
+use Rattle.id_laws.proofs.NeverStuck.{never_stuck_at}
+use Rattle.id_laws.proofs.StartTells.{all_tell, all_speak}
+use Rattle.id_laws.proofs.SoundAnswer.{sound_answer}
+use Rattle.id_laws.proofs.SoundNames.{sound_names, names_differ}
+use Rattle.id_laws.proofs.SoundFaults.{sound_faults}
+use Rattle.id_laws.proofs.SoundValues.{sound_values}
+
+-- in any run one event alone, or the start alone, sends for each key
+pub alone : (S : Source) → IsKnown S.checked → (g : Parts) (number : ℕ → ℕ → ℕ) → Numbered S.checked g number → (count : ℕ) → Exclusive g S.inputs count
+alone S known g number numbered count = exclusive S g number numbered known count (λ s run r. all_tell S known g number numbered run count s r)
+    (λ s run r. all_speak S known g number numbered run count s r)
+
+module _ (S : Source) (known : IsKnown S.checked) (g : Parts) (number : ℕ → ℕ → ℕ) (numbered : Numbered S.checked g number) (count : ℕ) (s : World) (run : List Event) (r : Reach g S.inputs count s run) where
+  -- what is shown is sound
+  pub sound_at : IsSound S g number s
+  sound_at = record {
+    answer = sound_answer S known g number numbered count s run r;
+    names = sound_names S known g number numbered count s run r;
+    names_once = names_differ S known g number numbered count s run r;
+    faults = sound_faults S known g number numbered count s run r;
+    values = sound_values S known g number numbered count s run r;
+  }
+
+  -- no event is `Stuck`, and each port has got at most one token under each tag
+  pub free_at : IsNeverStuck s
+  free_at = never_stuck_at S g count (alone S known g number numbered count) s run r

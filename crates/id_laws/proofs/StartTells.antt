@@ -1,0 +1,95 @@
+-- What is there at the start tells what its port wants.
+use Rattle.std.proofs.Common.{◌≡◌, ℕ, zero, suc, ◌-◌, List, [], length, refl, sym, ◌∙◌, ap, subst}
+use Rattle.std.specs.Prelude.{take}
+use Rattle.id_list.specs.List.{Among}
+use Rattle.id_list.proofs.AmongLemmas.{Among-from_at}
+use Rattle.id_parts.specs.Rows.{top}
+use Rattle.id_parts.specs.Turns.{params_at}
+use Rattle.id_check.specs.declared.checked.Checked.{Checked}
+use Rattle.id_check.specs.Scopes.{loops_between}
+use Rattle.id_check.specs.Programs.{place, region, rows}
+use Rattle.id_graph.specs.declared.dests.Port.{Port}
+use Rattle.id_graph.specs.declared.dests.Port.TheVariants.{Zero}
+use Rattle.id_graph.specs.Graph.{Parts}
+use Rattle.id_tag.specs.declared.Value.{Value}
+use Rattle.id_tag.specs.declared.Value.TheVariants.{Signal, Continuation}
+use Rattle.id_tag.specs.declared.Payload.{Payload}
+use Rattle.id_core.specs.Machines.{World, token_value}
+use Rattle.id_meaning.specs.declared.SourceValue.{SourceValue}
+use Rattle.id_meaning.specs.declared.SourceValue.TheVariants as source
+use Rattle.id_meaning.specs.declared.Fact.TheVariants.{Has}
+use Rattle.id_meaning.specs.Sources.{Source, IsInput}
+use Rattle.id_meaning.specs.Facts.{outermost, without, param_has}
+use Rattle.id_meaning.specs.Rounds.{Holds}
+use Rattle.id_build.specs.Rows.{answer_row}
+use Rattle.id_build.specs.Schemas.{Numbered}
+use Rattle.id_runs.specs.Activations.{main_activation, tag_in}
+use Rattle.id_runs.specs.Events.{Event}
+use Rattle.id_runs.specs.Runs.{Reach, starting}
+use Rattle.id_laws.specs.Activations.{main_head, Live, at_start, to_answer}
+use Rattle.id_laws.specs.Topics.{StandsFor, number_stands, truth_stands, Tells, Told, AllTell, AllSpeak, topic_at, wants}
+use Rattle.id_laws.specs.Ways.{StartsAt, signal, way_back, input}
+use Rattle.id_laws.proofs.Assumed.{IsKnown}
+use Rattle.id_laws.proofs.Blocks.{a_param}
+use Rattle.id_laws.proofs.Start.{main_is_head, started}
+use Rattle.id_laws.proofs.TurnedOn.{holds_by, main_path}
+use Rattle.id_laws.proofs.AllTell as tell
+
+pub input_stands : (S : Source) (number : ℕ → ℕ → ℕ) (run : List Event) (v : SourceValue) → StandsFor S number run (token_value v) v
+input_stands S number run (source.Int n) = number_stands n
+input_stands S number run (source.Bool b) = truth_stands b
+
+take_none : {A : Type 0} (n : ℕ) → take {A = A} n [] ≡ []
+take_none zero = refl
+take_none (suc n) = refl
+
+-- the empty path without some of its steps
+without_outermost : (d : ℕ) → without d outermost ≡ outermost
+without_outermost d = ap (λ ss. record { steps = ss }) (take_none (0 - d))
+
+module _ (S : Source) (known : IsKnown S.checked) (g : Parts) (number : ℕ → ℕ → ℕ) (numbered : Numbered S.checked g number) (run : List Event) where
+  abbrev P : Checked
+  P = S.checked
+
+  -- main's parameters stand in main's region
+  input_live : (b : ℕ) (v : SourceValue) (x : IsInput S b v) → Live S number run main_activation (region P b)
+  input_live b v x =
+      let p = a_param (rows P) (main_head P) (length (rows P)) b (Among-from_at b (params_at (rows P) (main_head P)) x.number x.param) in
+      subst (Live S number run main_activation) (sym (known.params b (p.param).name (p.param).kind p.within (p.param).is ∙ ap top p.block)) at_start
+
+  input_tells : (b : ℕ) (v : SourceValue) (x : IsInput S b v) → Tells S number run main_activation (topic_at P b 0 Zero) (token_value v)
+  input_tells b v x =
+      let p = a_param (rows P) (main_head P) (length (rows P)) b (Among-from_at b (params_at (rows P) (main_head P)) x.number x.param) in
+      let d = loops_between (rows P) (region P b).head b in
+      subst (λ m. Tells S number run main_activation (wants P b (region P b) m 0 Zero) (token_value v)) (sym (p.param).is) (
+        input_live b v x,
+        record {
+          path = outermost;
+          path_of = main_path;
+          value = v;
+          stands = input_stands S number run v;
+          holds = subst (λ z. Holds S (Has z (place P b) v)) (sym (without_outermost d)) (holds_by S _ _ (param_has x) tt);
+        },
+      )
+
+  tells_at_start : {n part : ℕ} {p : Port} {v : Value} → StartsAt S number n part p v → Tells S number run main_activation (topic_at P n part p) v
+  tells_at_start signal =
+      subst (λ m. Tells S number run main_activation (wants P (main_head P) (region P (main_head P)) m 0 Zero) Signal) (sym (main_is_head S g number numbered known)) (refl, at_start)
+  tells_at_start way_back =
+      subst (λ m. Tells S number run main_activation (wants P (main_head P) (region P (main_head P)) m 1 Zero) (Continuation (tag_in main_activation (number (answer_row P) 0)))) (sym (main_is_head S g number numbered known))
+      (record { caller = main_activation; row = _; is = refl; returns = to_answer; at_first = refl })
+  tells_at_start (input b v x) = input_tells b v x
+
+  start_tells : (x : Payload) → Among x (starting g S.inputs) → Told S number run x
+  start_tells x h =
+      let z = started S g number numbered known x h in
+      record { activation = main_activation; row = z.row; part = z.part; port = z.port; value = z.value; is_part = z.is_part; is = z.is; tells = tells_at_start z.starts_at }
+
+  module _ (count : ℕ) (s : World) (r : Reach g S.inputs count s run) where
+    -- every message of a run tells what its port wants
+    pub all_tell : AllTell S number run s
+    all_tell = tell.all_tell S known g number numbered run start_tells count s r
+
+    -- and what feeds a part tells what it speaks of
+    pub all_speak : AllSpeak S number run
+    all_speak = tell.all_speak S known g number numbered run start_tells count s r

@@ -1,0 +1,169 @@
+-- What each instruction speaks of and what each port wants, and when a value tells it under an activation
+-- (docs/MEANING.md, "Laws").
+use Rattle.std.specs.Prelude.{◌≡◌, ℕ, zero, suc, ℤ, Bool as Truth, List, get_or}
+use Rattle.id_parts.specs.declared.row.Region.{Region}
+use Rattle.id_parts.specs.declared.row.Node.{Node}
+use Rattle.id_parts.specs.declared.row.Node.TheVariants.{Head, Param, Literal, Unary, Binary, Split, If, Binding}
+use Rattle.id_parts.specs.declared.row.Node.TheVariants.{Program}
+use Rattle.id_parts.specs.Rows.{arm_at, top}
+use Rattle.id_check.specs.declared.checked.Checked.{Checked}
+use Rattle.id_check.specs.Scopes.{loops_between}
+use Rattle.id_check.specs.Programs.{place, region, rows}
+use Rattle.id_graph.specs.declared.dests.Port.{Port}
+use Rattle.id_graph.specs.declared.dests.Port.TheVariants.{Zero, One}
+use Rattle.id_tag.specs.declared.Value.{Value}
+use Rattle.id_tag.specs.declared.Value.TheVariants as value
+use Rattle.id_tag.specs.declared.Payload.{Payload}
+use Rattle.id_tag.specs.declared.Payload.TheVariants.{Token}
+use Rattle.id_core.specs.Machines.{World}
+use Rattle.id_meaning.specs.declared.Path.{Path}
+use Rattle.id_meaning.specs.declared.SourceValue.{SourceValue}
+use Rattle.id_meaning.specs.declared.SourceValue.TheVariants as source
+use Rattle.id_meaning.specs.declared.Fact.TheVariants.{Has}
+use Rattle.id_meaning.specs.Sources.{Source}
+use Rattle.id_meaning.specs.Facts.{without}
+use Rattle.id_meaning.specs.Rounds.{Holds}
+use Rattle.id_desugar.specs.Ends.{end_of}
+use Rattle.id_desugar.specs.Regions.{imports_of}
+use Rattle.id_build.specs.declared.arc.Origin.{Origin}
+use Rattle.id_build.specs.declared.arc.Form.{Form}
+use Rattle.id_build.specs.Rows.{node, body_of, origin}
+use Rattle.id_build.specs.Schemas.{Makes, Feeds}
+use Rattle.id_runs.specs.Activations.{Activation, at_iteration, tag_in}
+use Rattle.id_runs.specs.Events.{Event}
+use Rattle.id_runs.specs.Runs.{Moving}
+use Rattle.id_laws.specs.Activations.{main_head}
+use Rattle.id_laws.specs.Activations as activations
+
+-- what is spoken of: that a region is live, what a row's expression Has, what a binder Has as a region sees it, what
+-- the predicate Has by which the switches of a row go, what the block with this head gives, and where that goes
+pub data Topic : Type 0 where
+  Turned : Region → Topic
+  ValueOf : ℕ → Topic
+  NameIn : Region → ℕ → Topic
+  TestOf : ℕ → Topic
+  ResultOf : ℕ → Topic
+  WayBack : ℕ → Topic
+  Nothing : Topic
+
+-- what is handed into a region by a part: the trigger, and each name
+abbrev pub split_of : Region → List ℕ → ℕ → Topic
+split_of r bs zero = Turned r
+split_of r bs (suc k) = NameIn r (get_or bs k 0)
+
+-- what a part of the row n, in this region with this node, speaks of on a side
+abbrev pub speaks_of : Checked → ℕ → Region → Node → ℕ → Truth → Topic
+speaks_of P n r Head zero side = Turned (top n)
+speaks_of P n r (Param x k) part side = NameIn r n
+speaks_of P n r (Literal v) part side = ValueOf n
+speaks_of P n r (Unary o a) part side = ValueOf n
+speaks_of P n r (Binary o a b) part side = ValueOf n
+speaks_of P n r (Split t) part side = split_of (arm_at n side) (imports_of P n) part
+speaks_of P n r (If s x y) part side = ValueOf n
+speaks_of P n r (Binding x a) part side = NameIn r n
+speaks_of P n r _ part side = Nothing
+
+-- what comes from there speaks of
+abbrev pub topic_of : Checked → Origin → Topic
+topic_of P s = speaks_of P s.row (region P s.row) (node P s.row) s.part s.side
+
+-- what a port of a part of the row n, in this region with this node, wants
+abbrev pub wants : Checked → ℕ → Region → Node → ℕ → Port → Topic
+wants P n r Head zero Zero = Turned (top n)
+wants P n r Head (suc part) Zero = WayBack n
+wants P n r Head (suc part) One = ResultOf n
+wants P n r (Param x k) part Zero = NameIn r n
+wants P n r (Literal v) part Zero = Turned r
+wants P n r (Unary o a) part Zero = ValueOf a
+wants P n r (Binary o a b) part Zero = ValueOf a
+wants P n r (Binary o a b) part One = ValueOf b
+wants P n r (Split t) part Zero = TestOf n
+wants P n r (Split t) part One = split_of r (imports_of P n) part
+wants P n r (If s x y) part Zero = ValueOf n
+wants P n r (Binding x a) part Zero = ValueOf a
+wants P n r Program part Zero = ResultOf (main_head P)
+wants P n r _ part p = Nothing
+
+-- what the port of the part wants
+abbrev pub topic_at : Checked → ℕ → ℕ → Port → Topic
+topic_at P n part p = wants P n (region P n) (node P n) part p
+
+-- the row that gives the value of the block with this head
+abbrev pub result_of : Checked → ℕ → ℕ
+result_of P h = body_of (node P (end_of P h))
+
+-- the row has the part
+pub record IsPart (P : Checked) (n part : ℕ) : Type 0 where
+  pub form : Form
+  pub place : ℕ
+  pub makes : Makes P n part form place
+
+-- the value of a token stands for the value of the source
+pub data StandsFor (S : Source) (number : ℕ → ℕ → ℕ) (run : List Event) : Value → SourceValue → Type 0 where
+  number_stands : (n : ℤ) → StandsFor S number run (value.Int n) (source.Int n)
+  truth_stands : (b : Truth) → StandsFor S number run (value.Bool b) (source.Bool b)
+
+module _ (S : Source) (number : ℕ → ℕ → ℕ) (run : List Event) where
+  abbrev Live : Activation → Region → Type 0
+  Live a r = activations.Live S number run a r
+
+  -- the value is one that the place Has, on the activation's path without its last d steps
+  pub record Shown (a : Activation) (d e : ℕ) (v : Value) : Type 0 where
+    pub path : Path
+    pub path_of : activations.PathOf S number run a path
+    pub value : SourceValue
+    pub stands : StandsFor S number run v value
+    pub holds : Holds S (Has (without d path) e value)
+
+  -- the predicate by which the switches of the row n go has spoken the value, and Has it
+  pub record ShownTest (a : Activation) (n : ℕ) (v : Value) : Type 0 where
+    pub test : ℕ
+    pub tests : activations.Tests S.checked n test
+    pub live : Live a (region S.checked n)
+    pub spoken : activations.Speaks S number run a (origin S.checked test) v
+    pub shown : Shown a 0 (place S.checked test) v
+
+  -- some iteration of the activation's context has given the value of the block with this head
+  pub record ShownResult (a : Activation) (h : ℕ) (v : Value) : Type 0 where
+    pub iteration : ℕ
+    pub live : Live (at_iteration a.context iteration) (region S.checked (result_of S.checked h))
+    pub shown : Shown (at_iteration a.context iteration) 0 (place S.checked (result_of S.checked h)) v
+    pub at_first : a.iteration ≡ 0
+
+  -- the value is the way back of the block with this head
+  pub record ShownWayBack (a : Activation) (h : ℕ) (v : Value) : Type 0 where
+    pub caller : Activation
+    pub row : ℕ
+    pub is : v ≡ value.Continuation (tag_in caller (number row 0))
+    pub returns : activations.ReturnsTo S number run a.context h caller row
+    pub at_first : a.iteration ≡ 0
+
+  -- the value tells the topic under the activation
+  abbrev pub Tells : Activation → Topic → Value → Type 0
+  Tells a (Turned r) v = (v ≡ value.Signal) × Live a r
+  Tells a (ValueOf e) v = Live a (region S.checked e) × Shown a 0 (place S.checked e) v
+  Tells a (NameIn r b) v = Live a r × Shown a (loops_between (rows S.checked) r.head b) (place S.checked b) v
+  Tells a (TestOf n) v = ShownTest a n v
+  Tells a (ResultOf h) v = ShownResult a h v
+  Tells a (WayBack h) v = ShownWayBack a h v
+  Tells a Nothing v = ⊥
+
+  -- the message is a token for a part, and tells what its port wants
+  pub record Told (x : Payload) : Type 0 where
+    pub activation : Activation
+    pub row : ℕ
+    pub part : ℕ
+    pub port : Port
+    pub value : Value
+    pub is_part : IsPart S.checked row part
+    pub is : x ≡ Token (tag_in activation (number row part)) port value
+    pub tells : Tells activation (topic_at S.checked row part port) value
+
+  -- each message in flight or handled tells what its port wants
+  abbrev pub AllTell : World → Type 0
+  AllTell s = (x : Payload) → Moving s run x → Told x
+
+  -- what comes from what feeds a part tells what it speaks of
+  abbrev pub AllSpeak : Type 0
+  AllSpeak = (a : Activation) (s : Origin) (n part : ℕ) (p : Port) (v : Value) → Feeds S.checked s n part p → activations.Speaks S number run a s v
+      → Tells a (topic_of S.checked s) v

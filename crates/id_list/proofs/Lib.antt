@@ -1,0 +1,3 @@
+pub mod AmongLemmas
+pub mod DifferLemmas
+pub mod PlacesLemmas

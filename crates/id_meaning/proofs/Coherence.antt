@@ -1,0 +1,178 @@
+-- Each path and place has at most one value.
+use Rattle.std.proofs.Common.{◌≡◌, inl, inr, ℕ, zero, suc, Bool as Truth, true, Some, List, [], ◌∷◌, refl, ap, sym, ◌∙◌, subst}
+use Rattle.std.proofs.lemmas.Bool.{false≢true}
+use Rattle.id_value.specs.declared.Constant.{Constant}
+use Rattle.id_value.specs.declared.Constant.TheVariants as constant
+use Rattle.id_value.specs.declared.Outcome.{Outcome}
+use Rattle.id_value.specs.declared.Outcome.TheVariants.{Gives}
+use Rattle.id_value.specs.Results.{result_of_unary, result_of_binary}
+use Rattle.id_parts.specs.declared.row.Node.{Node}
+use Rattle.id_parts.specs.declared.row.Node.TheVariants.{Param, Literal, Name, Unary, Binary, Split, If, Block, Binding}
+use Rattle.id_parts.specs.Rows.{at}
+use Rattle.id_parts.specs.Tables.{is_param, is_thing}
+use Rattle.id_check.specs.Programs.{Stands, binder, place, rows}
+use Rattle.id_meaning.specs.declared.Path.{Path}
+use Rattle.id_meaning.specs.declared.SourceValue.{SourceValue}
+use Rattle.id_meaning.specs.declared.SourceValue.TheVariants.{Bool}
+use Rattle.id_meaning.specs.declared.Fact.{Fact}
+use Rattle.id_meaning.specs.declared.Fact.TheVariants.{Has}
+use Rattle.id_meaning.specs.Sources.{Source, IsInput, value_of}
+use Rattle.id_meaning.specs.Facts.{outermost, without, between, Chooses, then_arm, else_arm, Rule, param_has, literal_has, unary_has, binary_has, name_has, conditional_has, block_has, binding_has}
+use Rattle.id_meaning.specs.Rounds.{Every, Rounds, Holds, IsCoherent}
+use Rattle.id_meaning.specs.Cells.{arm_of, constant_of}
+use Rattle.id_meaning.proofs.CheckedLemmas.{apart_of}
+use Rattle.id_meaning.proofs.ParamsLemmas.{input_param, one_input}
+
+-- a value is what its constant is, and the other way round
+pub constant-value : (c : Constant) → constant_of (value_of c) ≡ c
+constant-value (constant.Int n) = refl
+constant-value (constant.Bool b) = refl
+
+same-constant : (c d : Constant) → value_of c ≡ value_of d → c ≡ d
+same-constant c d e = sym (constant-value c) ∙ ap constant_of e ∙ constant-value d
+
+every_holds : (S : Source) (n : ℕ) (fs : List Fact) → Every (Rounds S n) fs → Every (Holds S) fs
+every_holds S n [] h = tt
+every_holds S n (f ∷ fs) h = (record { round = n; there = h.0 }, every_holds S n fs h.1)
+
+-- what a source has follows by a rule from what it has
+pub record Because (S : Source) (f : Fact) : Type 0 where
+  pub premises : List Fact
+  pub rule : Rule S premises f
+  pub hold : Every (Holds S) premises
+
+pub because : (S : Source) (n : ℕ) (f : Fact) → Rounds S n f → Because S f
+because S zero f h = absurd h
+because S (suc n) f (inl h) = because S n f h
+because S (suc n) f (inr t) = record { premises = t.0; rule = t.1; hold = every_holds S n t.0 t.2 }
+
+-- ---- what a thing Has, by what stands there
+
+-- the conditional at the row n has its predicate at the row t, and this truth value of it turns On the arm at the row a
+pub record IsChoice (S : Source) (n t : ℕ) (b : Truth) (a : ℕ) : Type 0 where
+  pub split : ℕ
+  pub then : ℕ
+  pub otherwise : ℕ
+  pub stands : Stands S.checked n (If split then otherwise)
+  pub splits : Stands S.checked split (Split t)
+  pub arm : arm_of then otherwise (Some (Bool b)) ≡ Some a
+
+pub choice : {S : Source} {n t a : ℕ} {b : Truth} → Chooses S n t b a → IsChoice S n t b a
+choice (then_arm {s = s} {a = a} {b = b} u v) = record { split = s; then = a; otherwise = b; stands = u; splits = v; arm = refl }
+choice (else_arm {s = s} {a = a} {b = b} u v) = record { split = s; then = a; otherwise = b; stands = u; splits = v; arm = refl }
+
+-- it has one predicate
+one_test : {S : Source} {n t u a d : ℕ} {b c : Truth} → IsChoice S n t b a → IsChoice S n u c d → t ≡ u
+one_test {S} {t = t} {u = u} f g =
+    let e : If f.split f.then f.otherwise ≡ If g.split g.then g.otherwise = sym f.stands.node ∙ g.stands.node in
+    let q : f.split ≡ g.split = cc in
+    let k : Split t ≡ Split u = sym f.splits.node ∙ ap (λ i. (at (rows S.checked) i).node) q ∙ g.splits.node in
+    cc
+
+-- and for each truth value one arm
+one_arm : {S : Source} {n t u a d : ℕ} {b c : Truth} → IsChoice S n t b a → IsChoice S n u c d → b ≡ c → a ≡ d
+one_arm {a = a} {d = d} {b = b} {c = c} f g e =
+    let k : If f.split f.then f.otherwise ≡ If g.split g.then g.otherwise = sym f.stands.node ∙ g.stands.node in
+    let x : f.then ≡ g.then = cc in
+    let y : f.otherwise ≡ g.otherwise = cc in
+    let r : Some a ≡ Some d =
+    sym f.arm ∙ ap (λ i. arm_of i f.otherwise (Some (Bool b))) x ∙ ap (λ i. arm_of g.then i (Some (Bool b))) y ∙ ap (λ i. arm_of g.then g.otherwise (Some (Bool i))) e ∙ g.arm in
+    cc
+
+-- what follows at a row of this node from facts: a literal's value, an operator's result on what its operands Have, what a name's
+-- binder, the chosen arm of a conditional, a block's body and a binding's expression Has, and a parameter's input
+abbrev pub Follows : Source → (Fact → Type 0) → ℕ → Node → Path → SourceValue → Type 0
+Follows S F n (Literal c) p v = v ≡ value_of c
+Follows S F n (Unary o a) p v = (c : Constant) × (x : Constant) × F (Has p (place S.checked a) (value_of c)) × (result_of_unary o c ≡ Gives x) × (v ≡ value_of x)
+Follows S F n (Binary o a b) p v = (c : Constant) × (d : Constant) × (x : Constant) × F (Has p (place S.checked a) (value_of c)) × F (Has p (place S.checked b) (value_of d)) × (result_of_binary o c d ≡ Gives x) × (v ≡ value_of x)
+Follows S F n (Name y) p v = (b : ℕ) × (binder S.checked n ≡ Some b) × F (Has (without (between S n b) p) (place S.checked b) v)
+Follows S F n (If s x y) p v = (t : ℕ) × (b : Truth) × (a : ℕ) × IsChoice S n t b a × F (Has p (place S.checked t) (value_of (constant.Bool b))) × F (Has p (place S.checked a) v)
+Follows S F n (Block b) p v = F (Has p (place S.checked b) v)
+Follows S F n (Binding y a) p v = F (Has p (place S.checked a) v)
+Follows S F n (Param y k) p v = (p ≡ outermost) × IsInput S n v
+Follows S F n _ p v = ⊥
+
+-- a thing stands there, and at its node the value follows
+pub record FollowsAt (S : Source) (F : Fact → Type 0) (p : Path) (e : ℕ) (v : SourceValue) : Type 0 where
+  pub row : ℕ
+  pub node : Node
+  pub stands : Stands S.checked row node
+  pub thing : is_thing node ≡ true
+  pub here : place S.checked row ≡ e
+  pub follows : Follows S F row node p v
+
+param_follows : {S : Source} (F : Fact → Type 0) {b : ℕ} {v : SourceValue} (n : Node) → Stands S.checked b n → is_param n ≡ true → IsInput S b v → FollowsAt S F outermost (place S.checked b) v
+param_follows F (Param x k) s t i = record { row = _; node = _; stands = s; thing = refl; here = refl; follows = (refl, i) }
+param_follows F _ s t i = absurd (false≢true t)
+
+pub follows_by : {S : Source} (F : Fact → Type 0) {p : Path} {e : ℕ} {v : SourceValue} {fs : List Fact} → Rule S fs (Has p e v) → Every F fs → FollowsAt S F p e v
+follows_by F (param_has i) h = let q = input_param i in param_follows F _ (record { within = q.0; node = refl }) q.1 i
+follows_by F (literal_has s) h = record { row = _; node = _; stands = s; thing = refl; here = refl; follows = refl }
+follows_by F (unary_has {x = x} c s is) h = record { row = _; node = _; stands = s; thing = refl; here = refl; follows = (c, x, h.1.0, is, refl) }
+follows_by F (binary_has {x = x} c d s is) h = record { row = _; node = _; stands = s; thing = refl; here = refl; follows = (c, d, x, h.1.0, h.1.1.0, is, refl) }
+follows_by F (name_has {b = b} s is) h = record { row = _; node = _; stands = s; thing = refl; here = refl; follows = (b, is, h.1.0) }
+follows_by F (conditional_has {t = t} {a = a} {b = b} c) h =
+    let d = choice c in
+    record { row = _; node = If d.split d.then d.otherwise; stands = d.stands; thing = refl; here = refl; follows = (t, b, a, d, h.1.0, h.1.1.0) }
+follows_by F (block_has s) h = record { row = _; node = _; stands = s; thing = refl; here = refl; follows = h.1.0 }
+follows_by F (binding_has s) h = record { row = _; node = _; stands = s; thing = refl; here = refl; follows = h.0 }
+
+-- what follows at a place follows at the thing that stands there
+pub follows_at : {S : Source} (F : Fact → Type 0) {p : Path} {e : ℕ} {v : SourceValue} (n : ℕ) (m : Node) → Stands S.checked n m → is_thing m ≡ true → place S.checked n ≡ e → FollowsAt S F p e v → Follows S F n m p v
+follows_at {S} F {p} {e} {v} n m s t here f =
+    let R = rows S.checked in
+    let T : Node → Type 0 = λ z. is_thing z ≡ true in
+    let q : f.row ≡ n = (apart_of S.checked).apart f.row n f.stands.within s.within (subst T (sym f.stands.node) f.thing) (subst T (sym s.node) t) (f.here ∙ sym here) in
+    let k : f.node ≡ m = sym f.stands.node ∙ ap (λ i. (at R i).node) q ∙ s.node in
+    let A : ℕ → Type 0 = λ i. Follows S F i f.node p v in
+    let B : Node → Type 0 = λ z. Follows S F n z p v in
+    subst B k (subst A q f.follows)
+
+one_outcome : {v w : Constant} (a b : Outcome) → a ≡ b → a ≡ Gives v → b ≡ Gives w → v ≡ w
+one_outcome a b e p q = cc
+
+-- the values of a place are those of earlier rounds' one value
+abbrev Earlier : Source → ℕ → Type 0
+Earlier S n = (p : Path) (e : ℕ) (v w : SourceValue) → Rounds S n (Has p e v) → Holds S (Has p e w) → v ≡ w
+
+-- what follows at a node is one value
+one_at_node : (S : Source) (m : ℕ) → Earlier S m → (n : ℕ) (z : Node) (p : Path) (v w : SourceValue) → Follows S (Rounds S m) n z p v → Follows S (Holds S) n z p w → v ≡ w
+one_at_node S m early n (Literal c) p v w h k = h ∙ sym k
+one_at_node S m early n (Unary o a) p v w h k =
+    let c = same-constant h.0 k.0 (early p _ _ _ h.2 k.2) in
+    let x = one_outcome _ _ (ap (λ d. result_of_unary o d) c) h.3 k.3 in
+    h.4 ∙ ap value_of x ∙ sym k.4
+one_at_node S m early n (Binary o a b) p v w h k =
+    let c = same-constant h.0 k.0 (early p _ _ _ h.3 k.3) in
+    let d = same-constant h.1 k.1 (early p _ _ _ h.4 k.4) in
+    let x = one_outcome _ _ (λ i. result_of_binary o (c i) (d i)) h.5 k.5 in
+    h.6 ∙ ap value_of x ∙ sym k.6
+one_at_node S m early n (Name y) p v w h k =
+    let s : Some k.0 ≡ Some h.0 = sym k.1 ∙ h.1 in
+    let q : k.0 ≡ h.0 = cc in
+    let P : ℕ → Type 0 = λ b. Holds S (Has (without (between S n b) p) (place S.checked b) w) in
+    early (without (between S n h.0) p) (place S.checked h.0) v w h.2 (subst P q k.2)
+one_at_node S m early n (If s x y) p v w h k =
+    let t = one_test k.3 h.3 in
+    let there : Holds S (Has p (place S.checked h.0) (value_of (constant.Bool k.1))) = subst (λ i. Holds S (Has p (place S.checked i) (value_of (constant.Bool k.1)))) t k.4 in
+    let c = same-constant (constant.Bool h.1) (constant.Bool k.1) (early p _ _ _ h.4 there) in
+    let b : h.1 ≡ k.1 = cc in
+    let a = one_arm k.3 h.3 (sym b) in
+    early p _ v w h.5 (subst (λ i. Holds S (Has p (place S.checked i) w)) a k.5)
+one_at_node S m early n (Block b) p v w h k = early p _ v w h k
+one_at_node S m early n (Binding y a) p v w h k = early p _ v w h k
+one_at_node S m early n (Param y k) p v w h l = one_input h.1 l.1
+one_at_node S m early n _ p v w h k = absurd h
+
+one_by_round : (S : Source) (n : ℕ) → Earlier S n
+one_by_round S zero p e v w h k = absurd h
+one_by_round S (suc n) p e v w (inl h) k = one_by_round S n p e v w h k
+one_by_round S (suc n) p e v w (inr t) k =
+    let f = follows_by (Rounds S n) t.1 t.2 in
+    let b = because S k.round _ k.there in
+    let g = follows_by (Holds S) b.rule b.hold in
+    one_at_node S n (one_by_round S n) f.row f.node p v w f.follows (follows_at (Holds S) f.row f.node f.stands f.thing f.here g)
+
+-- each path and place has at most one value
+pub coherence : (S : Source) → IsCoherent S
+coherence S p e v w h k = one_by_round S h.round p e v w h.there k

@@ -1,0 +1,469 @@
+-- Lemmas on specs/Links.antt.
+use Rattle.std.proofs.Common.{◌≡◌, ◌⊎◌, inl, inr, ℕ, zero, suc, ◌≤◌, ◌<◌, Bool, true, false, ◌||◌, ◌&&◌, nat_lt, nat_le, Some, Option, List, [], ◌∷◌, ◌++◌, length, get_or, set, Vec, Global, refl, ap, sym, ◌∙◌, subst, arith}
+use Rattle.std.specs.Prelude.{slice_get}
+use Rattle.std.proofs.lemmas.Bool.{leb-true, ltb-true, lt-leb, le-leb, le-ltb, lt-ltb}
+use Rattle.std.proofs.lemmas.Bool.Decides.{eqb_tells}
+use Rattle.std.proofs.lemmas.List.{get_or-set_same, length-set}
+use Rattle.std.proofs.lemmas.Option.{slice_get_within}
+use Rattle.id_list.specs.List.{Among}
+use Rattle.id_list.proofs.AmongLemmas.{Among-either, Among-from_at, Among-left, Among-right, at-from_Among}
+use Rattle.id_check.specs.declared.checked.Checked.{Checked}
+use Rattle.id_check.specs.Programs.{rows}
+use Rattle.id_meaning.specs.declared.edges.Edges.{Edges}
+use Rattle.id_list.proofs.PlacesLemmas.{slice_get-left, slice_get-last}
+use Rattle.id_parts.specs.declared.row.Row.{Row}
+use Rattle.id_parts.specs.declared.row.Node.{Node}
+use Rattle.id_parts.specs.declared.row.Node.TheVariants.{Unary, Binary, Split, If, Block, Binding}
+use Rattle.id_parts.specs.Rows.{at}
+use Rattle.id_parts.specs.Tables.{around, is_block, is_binding}
+use Rattle.id_parts.specs.Turns.{IsStatement, Turns, operand, left, right, test, body, statement, in_block}
+use Rattle.id_meaning.specs.declared.links.Statement.{Statement}
+use Rattle.id_meaning.specs.Links.{AreNone, AreOpen, AreReadsTo, AreTurnsTo, Gains, GainsTo, Leads, Statements, Statements_at, StatementsRise, Takes, TakesAll, beyond, parts_turned, reads_at, reads_of, some_row, targets, test_of, width}
+
+-- ---- edges
+
+pub targets-at : (vs : List (Vec ℕ Global)) (n : ℕ) (d : Vec ℕ Global) → n < length vs → targets vs n ≡ (get_or vs n d).items
+targets-at [] n d h = absurd (omega arith)
+targets-at (v ∷ vs) zero d h = refl
+targets-at (v ∷ vs) (suc n) d h = targets-at vs n d (omega arith)
+
+pub targets-past : (vs : List (Vec ℕ Global)) (n : ℕ) → length vs ≤ n → targets vs n ≡ []
+targets-past [] n h = refl
+targets-past (v ∷ vs) zero h = absurd (omega arith)
+targets-past (v ∷ vs) (suc n) h = targets-past vs n (omega arith)
+
+targets-same : (vs : List (Vec ℕ Global)) (n : ℕ) (w : Vec ℕ Global) → n < length vs → targets (set vs n w) n ≡ w.items
+targets-same vs n w h =
+    let l = length-set vs n w in
+    targets-at (set vs n w) n w (omega arith) ∙ ap (λ v. v.items) (get_or-set_same vs n w w h)
+
+targets-other : (vs : List (Vec ℕ Global)) (n m : ℕ) (w : Vec ℕ Global) → (m ≡ n → ⊥) → targets (set vs n w) m ≡ targets vs m
+targets-other [] n m w h = refl
+targets-other (v ∷ vs) zero zero w h = absurd (h refl)
+targets-other (v ∷ vs) zero (suc m) w h = refl
+targets-other (v ∷ vs) (suc n) zero w h = refl
+targets-other (v ∷ vs) (suc n) (suc m) w h = targets-other vs n m w (λ e. h (ap (λ k. suc k) e))
+
+-- one edge more
+pub gains-one : (E F : Edges) (a b : ℕ) (w : Vec ℕ Global) → F.rows.items ≡ set E.rows.items a w → a < length E.rows.items → w.items ≡ targets E.rows.items a ++ b ∷ [] → Gains E F a (b ∷ [])
+gains-one E F a b w e inside added =
+    let vs = E.rows.items in
+    let here : targets F.rows.items a ≡ targets vs a ++ b ∷ [] = ap (λ xs. targets xs a) e ∙ targets-same vs a w inside ∙ added in
+    let other : (n : ℕ) → (n ≡ a → ⊥) → targets F.rows.items n ≡ targets vs n = λ n k. ap (λ xs. targets xs n) e ∙ targets-other vs a n w k in
+    let A : ℕ → List ℕ → Type 0 = λ c xs. Among c xs in
+    record {
+      wide = ap length e ∙ length-set vs a w;
+      kept = λ n c h. elim (eqb_tells n a) [
+        | inl q ↦
+            let P : ℕ → Type 0 = λ m. Among c (targets F.rows.items m) in
+            let Q : ℕ → Type 0 = λ m. Among c (targets vs m) in
+            subst P (sym q.1) (subst (A c) (sym here) (Among-left c (targets vs a) (b ∷ []) (subst Q q.1 h)))
+        | inr q ↦ subst (A c) (sym (other n q.1)) h
+      ];
+      added = λ c l h. subst (A c) (sym here) (Among-right c (targets vs a) (b ∷ []) h);
+      only = λ n c h. elim (eqb_tells n a) [
+        | inl q ↦
+            let P : ℕ → Type 0 = λ m. Among c (targets F.rows.items m) in
+            let Q : ℕ → Type 0 = λ m. Among c (targets vs m) in
+            elim (Among-either c (targets vs a) (b ∷ []) (subst (A c) here (subst P q.1 h))) [
+              | inl i ↦ inl (subst Q (sym q.1) i)
+              | inr i ↦ inr (q.1, i)
+            ]
+        | inr q ↦ inl (subst (A c) (other n q.1) h)
+      ];
+    }
+
+-- edges after edges
+pub gains-both : (E F G : Edges) (a : ℕ) (bs cs : List ℕ) → Gains E F a bs → Gains F G a cs → Gains E G a (bs ++ cs)
+gains-both E F G a bs cs g h = record {
+  wide = h.wide ∙ g.wide;
+  kept = λ n b k. h.kept n b (g.kept n b k);
+  added = λ b l k. (let w = g.wide in elim (Among-either b bs cs k) [ inl i ↦ h.kept a b (g.added b l i) | inr i ↦ h.added b (omega arith) i ]);
+  only = λ n b k. elim (h.only n b k) [
+    | inl i ↦ elim (g.only n b i) [ inl j ↦ inl j | inr j ↦ inr (j.0, Among-left b bs cs j.1) ]
+    | inr i ↦ inr (i.0, Among-right b bs cs i.1)
+  ];
+}
+
+-- one edge to a row
+pub gains-to : (E F : Edges) (a b : ℕ) → Gains E F a (b ∷ []) → GainsTo E F (a ∷ []) b
+gains-to E F a b g = record {
+  wide = g.wide;
+  kept = g.kept;
+  added = λ n l h. elim h [
+    | inl q ↦ (let P : ℕ → Type 0 = λ m. Leads F m b in let k : a < width E = omega arith in subst P (sym q) (g.added b k (inl refl)))
+    | inr f ↦ absurd f
+  ];
+}
+
+pub gains_to-both : (E F G : Edges) (ds bs : List ℕ) (c : ℕ) → GainsTo E F ds c → GainsTo F G bs c → GainsTo E G (ds ++ bs) c
+gains_to-both E F G ds bs c g h = record {
+  wide = h.wide ∙ g.wide;
+  kept = λ n b k. h.kept n b (g.kept n b k);
+  added = λ b l k. (let w = g.wide in elim (Among-either b ds bs k) [ inl i ↦ h.kept b c (g.added b l i) | inr i ↦ h.added b (omega arith) i ]);
+}
+
+-- ---- statements that wait
+
+-- what stands in a list with one more stands in the list, or it is that one
+slice_get-either : (ss : List Statement) (x : Statement) (i : ℕ) (s : Statement) → slice_get (ss ++ x ∷ []) i ≡ Some s → (slice_get ss i ≡ Some s) ⊎ ((i ≡ length ss) × (s ≡ x))
+slice_get-either [] x zero s h = inr (refl, let e : x ≡ s = cc in sym e)
+slice_get-either [] x (suc i) s h = cc
+slice_get-either (y ∷ ss) x zero s h = inl h
+slice_get-either (y ∷ ss) x (suc i) s h = elim (slice_get-either ss x i s h) [ inl k ↦ inl k | inr k ↦ inr (let e = k.0 in omega arith, k.1) ]
+
+rise-front : (us vs : List Statement) → StatementsRise (us ++ vs) → StatementsRise us
+rise-front us vs r i j s t h k l = r i j s t (slice_get-left s us vs i h) (slice_get-left t us vs j k) l
+
+pub takes-init : (E : Edges) (ss : List Statement) (first a : ℕ) → StatementsRise ss → Takes E E ss ss first a
+takes-init E ss first a r = record { wide = refl; kept = λ n b h. h; only = λ n b h. inl h; some = λ s h. h; gone = λ s h. inl h; rise = r }
+
+pub takes-step : (E F G : Edges) (ss ts us : List Statement) (s : Statement) (first a : ℕ) → Takes E F ss ts first a → ts ≡ us ++ s ∷ [] → first ≤ s.row → Gains F G a (s.value ∷ []) → Takes E G ss us first a
+takes-step E F G ss ts us s first a t e l g =
+    let A : Statement → List Statement → Type 0 = λ x xs. Among x xs in
+    let was : (x : Statement) → Among x us → Among x ts = λ x h. subst (A x) (sym e) (Among-left x us (s ∷ []) h) in
+    let last : Among s ss = t.some s (subst (A s) (sym e) (Among-right s us (s ∷ []) (inl refl))) in
+    record {
+      wide = g.wide ∙ t.wide;
+      kept = λ n b h. g.kept n b (t.kept n b h);
+      only = λ n b h. elim (g.only n b h) [
+        | inl i ↦ t.only n b i
+        | inr i ↦ elim i.1 [ inl q ↦ inr (i.0, (s, last, l, q)) | inr f ↦ absurd f ]
+      ];
+      some = λ x h. t.some x (was x h);
+      gone = λ x h. elim (t.gone x h) [
+        | inl i ↦ elim (Among-either x us (s ∷ []) (subst (A x) e i)) [
+          | inl j ↦ inl j
+          | inr j ↦ elim j [
+            | inl q ↦
+                let P : Statement → Type 0 = λ y. (first ≤ y.row) × (a < width E → Leads G a y.value) in
+                inr (subst P (sym q) (l, λ k. let w = t.wide in g.added s.value (omega arith) (inl refl)))
+            | inr f ↦ absurd f
+          ]
+        ]
+        | inr i ↦ inr (i.0, λ k. g.kept a x.value (i.1 k))
+      ];
+      rise = (let P : List Statement → Type 0 = λ xs. StatementsRise xs in rise-front us (s ∷ []) (subst P e t.rise));
+    }
+
+pub takes-some : (E F : Edges) (ss ts us vs : List Statement) (s : Statement) (first a : ℕ) → Takes E F ss ts first a → ts ≡ us ++ s ∷ [] → vs ≡ us ++ s ∷ [] → s.row < first → TakesAll E F ss vs first a
+takes-some E F ss ts us vs s first a t e f l =
+    let P : List Statement → Type 0 = λ xs. StatementsRise xs in
+    let T : List Statement → Type 0 = λ xs. Takes E F ss xs first a in
+    let A : Statement → List Statement → Type 0 = λ x xs. Among x xs in
+    let r : StatementsRise (us ++ s ∷ []) = subst P e t.rise in
+    record {
+      takes = subst T (e ∙ sym f) t;
+      before = λ x h. elim (Among-either x us (s ∷ []) (subst (A x) f h)) [
+        | inl i ↦
+            let k = at-from_Among x us i in
+            let w = slice_get_within us k.0 x k.1 in
+            let b = r k.0 (length us) x s (slice_get-left x us (s ∷ []) k.0 k.1) (slice_get-last s us) w in
+            omega arith
+        | inr i ↦ elim i [ inl q ↦ (let Q : Statement → Type 0 = λ y. y.row < first in subst Q (sym q) l) | inr z ↦ absurd z ]
+      ];
+    }
+
+pub takes-none : (E F : Edges) (ss ts us : List Statement) (first a : ℕ) → Takes E F ss ts first a → ts ≡ [] → us ≡ [] → TakesAll E F ss us first a
+takes-none E F ss ts us first a t e f =
+    let T : List Statement → Type 0 = λ xs. Takes E F ss xs first a in
+    let A : Statement → List Statement → Type 0 = λ x xs. Among x xs in
+    record { takes = subst T (e ∙ sym f) t; before = λ x h. absurd (subst (A x) f h) }
+
+-- ---- what expressions turn On
+
+or-false : (b c : Bool) → b || c ≡ false → (b ≡ false) × (c ≡ false)
+or-false false c h = (refl, h)
+or-false true c h = cc
+
+both-false : (b c : Bool) → b ≡ false → c ≡ false → b || c ≡ false
+both-false false c e h = h
+both-false true c e h = cc
+
+and-true : (b c : Bool) → b ≡ true → c ≡ true → b && c ≡ true
+and-true true c e h = h
+and-true false c e h = cc
+
+and-both : (b c : Bool) → b && c ≡ true → (b ≡ true) × (c ≡ true)
+and-both true c h = (refl, h)
+and-both false c h = cc
+
+and-first : (b c : Bool) → b ≡ false → b && c ≡ false
+and-first false c h = refl
+and-first true c h = cc
+
+and-second : (b c : Bool) → b ≡ true → b && c ≡ false → c ≡ false
+and-second true c e h = h
+and-second false c e h = cc
+
+around-true : (R : List Row) (s i : ℕ) → (at R s).first ≤ i → i < s → around R s i ≡ true
+around-true R s i l b = and-true (nat_le (at R s).first i) (nat_lt i s) (le-leb (at R s).first i l) (lt-ltb i s b)
+
+pub around-within : (R : List Row) (s i : ℕ) → around R s i ≡ true → ((at R s).first ≤ i) × (i < s)
+around-within R s i h =
+    let t = and-both (nat_le (at R s).first i) (nat_lt i s) h in
+    (leb-true (at R s).first i t.0, ltb-true i s t.1)
+
+and-late : (b c : Bool) → c ≡ false → b && c ≡ false
+and-late true c h = h
+and-late false c h = refl
+
+true≢false : true ≡ false → ⊥
+true≢false e = cc
+
+-- no block round a row stands before it
+in_block-before : (R : List Row) (i s : ℕ) → s ≤ suc i → in_block R i s ≡ false
+in_block-before R i zero l = refl
+in_block-before R i (suc s) l =
+    let b : nat_lt i s ≡ false = le-ltb i s (omega arith) in
+    let k : around R s i ≡ false = and-late (nat_le (at R s).first i) (nat_lt i s) b in
+    both-false (in_block R i s) (is_block (at R s).node && around R s i) (in_block-before R i s (omega arith)) (and-late (is_block (at R s).node) (around R s i) k)
+
+-- what an expression turns On is a part, or a statement's expression
+turned-part : (R : List Row) (n a : ℕ) → Turns R n a → Among a (parts_turned R (at R n).node) ⊎ ((m : ℕ) × (x : ℕ) × IsStatement R n m × ((at R m).node ≡ Binding x a))
+turned-part R n a (operand {o = o} e) = let P : Node → Type 0 = λ z. Among a (parts_turned R z) in inl (subst P (sym e) (inl refl))
+turned-part R n a (left {b = b} {o = o} e) = let P : Node → Type 0 = λ z. Among a (parts_turned R z) in inl (subst P (sym e) (inl refl))
+turned-part R n a (right {b = b} {o = o} e) = let P : Node → Type 0 = λ z. Among a (parts_turned R z) in inl (subst P (sym e) (inr (inl refl)))
+turned-part R n a (test e f) =
+    let P : Node → Type 0 = λ z. Among a (parts_turned R z) in
+    let Q : Node → Type 0 = λ z. Among a (some_row (test_of z)) in
+    inl (subst P (sym e) (subst Q (sym f) (inl refl)))
+turned-part R n a (body e) = let P : Node → Type 0 = λ z. Among a (parts_turned R z) in inl (subst P (sym e) (inl refl))
+turned-part R n a (statement {m = m} {x = x} s e) = inr (m, x, s, e)
+
+part-turned : (R : List Row) (n a : ℕ) (z : Node) → (at R n).node ≡ z → Among a (parts_turned R z) → Turns R n a
+part-turned R n a (Unary o b) e (inl q) = let P : ℕ → Type 0 = λ c. Turns R n c in subst P (sym q) (operand e)
+part-turned R n a (Unary o b) e (inr f) = absurd f
+part-turned R n a (Binary o b c) e (inl q) = let P : ℕ → Type 0 = λ d. Turns R n d in subst P (sym q) (left e)
+part-turned R n a (Binary o b c) e (inr (inl q)) = let P : ℕ → Type 0 = λ d. Turns R n d in subst P (sym q) (right e)
+part-turned R n a (Binary o b c) e (inr (inr f)) = absurd f
+part-turned R n a (If s x y) e h = go (at R s).node refl h
+  where
+    go : (m : Node) → (at R s).node ≡ m → Among a (some_row (test_of m)) → Turns R n a
+    go (Split t) f (inl q) = let P : ℕ → Type 0 = λ c. Turns R n c in subst P (sym q) (test e f)
+    go (Split t) f (inr k) = absurd k
+    go _ f k = absurd k
+part-turned R n a (Block b) e (inl q) = let P : ℕ → Type 0 = λ c. Turns R n c in subst P (sym q) (body e)
+part-turned R n a (Block b) e (inr f) = absurd f
+part-turned R n a _ e h = absurd h
+
+-- at a row that is no block only its parts are added
+module _ (R : List Row) (n : ℕ) (E F : Edges) (ss : List Statement) (t : AreTurnsTo R n E) (o : AreOpen R n ss) (g : Gains E F n (parts_turned R (at R n).node)) where
+  -- the edges of earlier rows, and of the parts of this one, are kept
+  earlier : (G : Edges) → ((m b : ℕ) → Leads F m b → Leads G m b) → (m a : ℕ) → m < n → m < length R → Turns R m a → Leads G m a
+  earlier G more m a l w h = more m a (g.kept m a (t.all m a l w h))
+
+  part : (G : Edges) → ((m b : ℕ) → Leads F m b → Leads G m b) → (a : ℕ) → n < length R → Among a (parts_turned R (at R n).node) → Leads G n a
+  part G more a w h = let q = t.wide in more n a (g.added a (omega arith) h)
+
+  from : (m a : ℕ) → Leads F m a → (m < suc n) × Turns R m a
+  from m a h = elim (g.only m a h) [
+    | inl i ↦ let k = t.only m a i in (omega (arith, k.0), k.1)
+    | inr i ↦
+        let P : ℕ → Type 0 = λ j. (j < suc n) × Turns R j a in
+        let l : n < suc n = omega arith in
+        subst P (sym i.0) (l, part-turned R n a (at R n).node refl i.1)
+  ]
+
+  plain-turns : is_block (at R n).node ≡ false → AreTurnsTo R (suc n) F
+  plain-turns b = record {
+    wide = g.wide ∙ t.wide;
+    all = λ m a l w h. elim (eqb_tells m n) [
+      | inl q ↦
+          let P : ℕ → Type 0 = λ j. Turns R j a in
+          let Q : ℕ → Type 0 = λ j. Leads F j a in
+          let W : ℕ → Type 0 = λ j. j < length R in
+          subst Q (sym q.1) (elim (turned-part R n a (subst P q.1 h)) [
+            | inl i ↦ part F (λ x y k. k) a (subst W q.1 w) i
+            | inr i ↦ (let s = i.2 in let e : true ≡ false = sym s.block ∙ b in absurd (true≢false e))
+          ])
+      | inr q ↦ (let s : m < n = let d = q.1 in omega arith in earlier F (λ x y k. k) m a s w h)
+    ];
+    only = from;
+  }
+
+  -- a binding stands in no block before this row where it does in none before the next
+  right-before : (b : ℕ) → in_block R b (suc n) ≡ false → in_block R b n ≡ false
+  right-before b h = (or-false (in_block R b n) (is_block (at R n).node && around R n b) h).0
+
+  right-after : (b : ℕ) → is_block (at R n).node ≡ false → in_block R b n ≡ false → in_block R b (suc n) ≡ false
+  right-after b k h = both-false (in_block R b n) (is_block (at R n).node && around R n b) h (and-first (is_block (at R n).node) (around R n b) k)
+
+  plain-open : is_block (at R n).node ≡ false → is_binding (at R n).node ≡ false → AreOpen R (suc n) ss
+  plain-open k j = record {
+    all = λ m x a l w e h. elim (eqb_tells m n) [
+      | inl q ↦ (let f : true ≡ false = ap is_binding (sym e) ∙ ap (λ i. is_binding (at R i).node) q.1 ∙ j in absurd (true≢false f))
+      | inr q ↦ (let s : m < n = let d = q.1 in omega arith in o.all m x a s w e (right-before m h))
+    ];
+    only = λ s h. (let x = o.only s h in (omega (arith, x.0), right-after s.row k x.1, x.2));
+    rise = o.rise;
+  }
+
+  binding-open : (x a : ℕ) → (at R n).node ≡ Binding x a → AreOpen R (suc n) (ss ++ record { row = n; value = a } ∷ [])
+  binding-open x a e =
+      let new : Statement = record { row = n; value = a } in
+      let plain : is_block (at R n).node ≡ false = ap is_block e in
+      record {
+        all = λ m y b l w f h. elim (eqb_tells m n) [
+          | inl q ↦
+              let k : Binding y b ≡ Binding x a = sym f ∙ ap (λ i. (at R i).node) q.1 ∙ e in
+              let p : a ≡ b = cc in
+              (new, Among-right new ss (new ∷ []) (inl refl), sym q.1, p)
+          | inr q ↦ (let s : m < n = let d = q.1 in omega arith in let r = o.all m y b s w f (right-before m h) in (r.0, Among-left r.0 ss (new ∷ []) r.1, r.2, r.3))
+        ];
+        only = λ s h. elim (Among-either s ss (new ∷ []) h) [
+          | inl i ↦ (let z = o.only s i in (omega (arith, z.0), right-after s.row plain z.1, z.2))
+          | inr i ↦ elim i [
+            | inl q ↦
+                let P : Statement → Type 0 = λ z. (z.row < suc n) × (in_block R z.row (suc n) ≡ false) × ((y : ℕ) × ((at R z.row).node ≡ Binding y z.value)) in
+                let l : n < suc n = omega arith in
+                subst P (sym q) (l, in_block-before R n (suc n) (omega arith), (x, e))
+            | inr f ↦ absurd f
+          ]
+        ];
+        rise = λ i j s u h k l. elim (slice_get-either ss new i s h) [
+          | inl p ↦ elim (slice_get-either ss new j u k) [
+            | inl r ↦ o.rise i j s u p r l
+            | inr r ↦ (let z = (o.only s (Among-from_at s ss i p)).0 in let f : u.row ≡ n = ap (λ v. v.row) r.1 in omega arith)
+          ]
+          | inr p ↦ elim (slice_get-either ss new j u k) [
+            | inl r ↦ (let z = slice_get_within ss j u r in let d = p.0 in absurd (omega arith))
+            | inr r ↦ (let d = p.0 in let f = r.0 in absurd (omega arith))
+          ]
+        ];
+      }
+
+  -- at a block its statements are added, and wait no longer
+  block-turns : (G : Edges) (ts : List Statement) (b : ℕ) → (at R n).node ≡ Block b → n < length R → TakesAll F G ss ts (at R n).first n → AreTurnsTo R (suc n) G
+  block-turns G ts b e w k = record {
+    wide = k.takes.wide ∙ g.wide ∙ t.wide;
+    all = λ m a l v h. elim (eqb_tells m n) [
+      | inl q ↦
+          let P : ℕ → Type 0 = λ j. Turns R j a in
+          let Q : ℕ → Type 0 = λ j. Leads G j a in
+          subst Q (sym q.1) (elim (turned-part R n a (subst P q.1 h)) [
+            | inl i ↦ part G k.takes.kept a w i
+            | inr i ↦
+                let s = i.2 in
+                let r = around-within R n i.0 s.inside in
+                let x = o.all i.0 i.1 a r.1 (omega arith) i.3 s.right in
+                elim (k.takes.gone x.0 x.1) [
+                  | inl j ↦ (let c = k.before x.0 j in let f = x.2 in let d = r.0 in absurd (omega arith))
+                  | inr j ↦
+                      let A : ℕ → Type 0 = λ c. Leads G n c in
+                      let p = t.wide in
+                      let q = g.wide in
+                      subst A x.3 (j.1 (omega arith))
+                ]
+          ])
+      | inr q ↦ (let s : m < n = let d = q.1 in omega arith in earlier G k.takes.kept m a s v h)
+    ];
+    only = λ m a h. elim (k.takes.only m a h) [
+      | inl i ↦ from m a i
+      | inr i ↦
+          let s = i.1.0 in
+          let z = o.only s i.1.1 in
+          let P : ℕ → Type 0 = λ j. (j < suc n) × Turns R j a in
+          let A : ℕ → Type 0 = λ c. Turns R n c in
+          let l : n < suc n = omega arith in
+          let block : is_block (at R n).node ≡ true = ap is_block e in
+          let binding : is_binding (at R s.row).node ≡ true = ap is_binding z.2.1 in
+          let is : IsStatement R n s.row = record { block = block; binding = binding; inside = around-true R n s.row i.1.2 z.0; right = z.1 } in
+          subst P (sym i.0) (l, subst A (sym i.1.3) (statement is z.2.1))
+    ];
+  }
+
+  block-open : (G : Edges) (ts : List Statement) (b : ℕ) → (at R n).node ≡ Block b → TakesAll F G ss ts (at R n).first n → AreOpen R (suc n) ts
+  block-open G ts b e k = record {
+    all = λ m x a l w f h. elim (eqb_tells m n) [
+      | inl q ↦ (let c : Binding x a ≡ Block b = sym f ∙ ap (λ i. (at R i).node) q.1 ∙ e in cc)
+      | inr q ↦
+          let s : m < n = let d = q.1 in omega arith in
+          let r = or-false (in_block R m n) (is_block (at R n).node && around R n m) h in
+          let y = o.all m x a s w f r.0 in
+          elim (k.takes.gone y.0 y.1) [
+            | inl j ↦ (y.0, j, y.2, y.3)
+            | inr j ↦
+                let c : (at R n).first ≤ m = let d = j.0 in let z = y.2 in omega arith in
+                let u : around R n m ≡ false = and-second (is_block (at R n).node) (around R n m) (ap is_block e) r.1 in
+                absurd (true≢false (sym (around-true R n m c s) ∙ u))
+          ]
+    ];
+    only = λ s h.
+        let z = o.only s (k.takes.some s h) in
+        let c = k.before s h in
+        let u : around R n s.row ≡ false = and-first (nat_le (at R n).first s.row) (nat_lt s.row n) (lt-leb (at R n).first s.row c) in
+        (omega (arith, z.0), both-false (in_block R s.row n) (is_block (at R n).node && around R n s.row) z.1 (and-late (is_block (at R n).node) (around R n s.row) u), z.2);
+    rise = k.takes.rise;
+  }
+
+  -- at each row
+  abbrev After : Edges → List Statement → Type 0
+  After G ts = AreTurnsTo R (suc n) G × AreOpen R (suc n) ts
+
+  plain : (G : Edges) (ts : List Statement) → is_block (at R n).node ≡ false → is_binding (at R n).node ≡ false → (G ≡ F) × (ts ≡ ss) → After G ts
+  plain G ts b c h =
+      let P : Edges → Type 0 = λ H. AreTurnsTo R (suc n) H in
+      let Q : List Statement → Type 0 = λ us. AreOpen R (suc n) us in
+      (subst P (sym h.0) (plain-turns b), subst Q (sym h.1) (plain-open b c))
+
+  after : (G : Edges) (ts : List Statement) (z : Node) → (at R n).node ≡ z → n < length R → Statements_at F G ss ts n (at R n).first z → After G ts
+  after G ts (Block b) e w h = (block-turns G ts b e w h, block-open G ts b e h)
+  after G ts (Binding x a) e w h =
+      let P : Edges → Type 0 = λ H. AreTurnsTo R (suc n) H in
+      let Q : List Statement → Type 0 = λ us. AreOpen R (suc n) us in
+      (subst P (sym h.0) (plain-turns (ap is_block e)), subst Q (sym h.1) (binding-open x a e))
+  after G ts _ e w h = plain G ts (ap is_block e) (ap is_binding e) h
+
+-- what one row more turns On, and the statements that wait then
+pub turns-step : (R : List Row) (n m : ℕ) (E F G : Edges) (ss ts : List Statement) → m ≡ suc n → n < length R → AreTurnsTo R n E → AreOpen R n ss → Gains E F n (parts_turned R (at R n).node) → Statements F G ss ts n (at R n) → AreTurnsTo R m G × AreOpen R m ts
+turns-step R n m E F G ss ts q w t o g h =
+    let P : ℕ → Type 0 = λ k. AreTurnsTo R k G × AreOpen R k ts in
+    subst P (sym q) (after R n E F ss t o g G ts (at R n).node refl w h)
+
+pub turns-init : (R : List Row) (E : Edges) (ss : List Statement) → AreNone E (length R) → ss ≡ [] → AreTurnsTo R 0 E × AreOpen R 0 ss
+turns-init R E ss k e =
+    let P : List Statement → Type 0 = λ xs. AreOpen R 0 xs in (
+      record { wide = k.wide; all = λ n a l w h. absurd (omega arith); only = λ n a h. absurd (k.none n a h) },
+      subst P (sym e) (record { all = λ m x a l w f h. absurd (omega arith); only = λ s h. absurd h; rise = λ i j s u h v l. cc }),
+    )
+
+-- one row more without edges
+pub none-push : (vs : List (Vec ℕ Global)) (v : Vec ℕ Global) → v.items ≡ [] → ((a b : ℕ) → Among b (targets vs a) → ⊥) → (a b : ℕ) → Among b (targets (vs ++ v ∷ []) a) → ⊥
+none-push [] v e h zero b k = let A : List ℕ → Type 0 = λ xs. Among b xs in subst A e k
+none-push [] v e h (suc a) b k = k
+none-push (w ∷ vs) v e h zero b k = h 0 b k
+none-push (w ∷ vs) v e h (suc a) b k = none-push vs v e (λ c. h (suc c)) a b k
+
+-- what one row more reads
+pub reads-step : (P : Checked) (n m : ℕ) (E F : Edges) → m ≡ suc n → AreReadsTo P n E → GainsTo E F (reads_at P n) n → AreReadsTo P m F
+reads-step P n m E F q t g = record {
+  wide = g.wide ∙ t.wide;
+  all = λ k a l w h. elim (eqb_tells k n) [
+    | inl e ↦
+        let A : ℕ → Type 0 = λ j. Among a (reads_at P j) in
+        let B : ℕ → Type 0 = λ j. Leads F a j in
+        let c = t.wide in
+        subst B (sym e.1) (g.added a (omega arith) (subst A e.1 h))
+    | inr e ↦ (let s : k < n = let d = e.1 in omega arith in g.kept a k (t.all k a s w h))
+  ];
+}
+
+targets-within : (vs : List (Vec ℕ Global)) (n a : ℕ) → Among a (targets vs n) → n < length vs
+targets-within [] n a h = absurd h
+targets-within (v ∷ vs) zero a h = omega arith
+targets-within (v ∷ vs) (suc n) a h = let l = targets-within vs n a h in omega arith
+
+pub turns-end : (R : List Row) (n : ℕ) (E : Edges) → length R ≤ n → AreTurnsTo R n E → AreTurnsTo R (length R) E
+turns-end R n E l t = record {
+  wide = t.wide;
+  all = λ m a k w h. t.all m a (omega arith) w h;
+  only = λ m a h. (let x = t.only m a h in let w = t.wide in let b = targets-within E.rows.items m a h in (omega arith, x.1));
+}
+
+-- where the row is read of another list, and the row beyond its parts is given
+pub reads-by : (P : Checked) (n m : ℕ) (E F : Edges) (R : List Row) (b : Option ℕ) → m ≡ suc n → R ≡ rows P → b ≡ beyond P n (at R n).node → AreReadsTo P n E → GainsTo E F (reads_of b (at R n).node) n → AreReadsTo P m F
+reads-by P n m E F R b q r e t g =
+    let A : List Row → Type 0 = λ xs. GainsTo E F (reads_of (beyond P n (at xs n).node) (at xs n).node) n in
+    let B : Option ℕ → Type 0 = λ o. GainsTo E F (reads_of o (at R n).node) n in
+    reads-step P n m E F q t (subst A r (subst B e g))

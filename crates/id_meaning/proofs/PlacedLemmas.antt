@@ -1,0 +1,81 @@
+-- Facts of a source stand at the empty path, at places of its program.
+use Rattle.std.proofs.Common.{◌≡◌, inl, inr, ℕ, zero, suc, List, [], ◌∷◌, refl}
+use Rattle.id_tree.specs.Tree.{program_tree}
+use Rattle.id_tree.specs.Distinct.{HasPlace}
+use Rattle.id_parts.specs.Rows.{at}
+use Rattle.id_parts.specs.declared.row.Node.TheVariants.{Unary, Binary, Split, If, Block, Binding}
+use Rattle.id_check.specs.declared.checked.Checked.{Checked}
+use Rattle.id_check.specs.Programs.{place, rows}
+use Rattle.id_meaning.specs.declared.Path.{Path}
+use Rattle.id_meaning.specs.declared.Fact.{Fact}
+use Rattle.id_meaning.specs.declared.Fact.TheVariants.{On, Has}
+use Rattle.id_meaning.specs.declared.SourceFault.{SourceFault}
+use Rattle.id_meaning.specs.Sources.{Source}
+use Rattle.id_meaning.specs.Facts.{outermost, Rule, main_on, literal_has, operand_on, left_on, right_on, unary_has, binary_has, name_has, test_on, arm_on, conditional_has, statement_on, body_on, block_has, binding_has, param_has, FaultRule, unary_fails, binary_fails}
+use Rattle.id_meaning.specs.Rounds.{Rounds, Every, Holds, Faulty}
+use Rattle.id_meaning.specs.Listed.{IsThing}
+use Rattle.id_meaning.proofs.CheckedLemmas.{placed_of}
+use Rattle.id_meaning.proofs.Coherence.{choice}
+use Rattle.id_meaning.proofs.ParamsLemmas.{input_param}
+use Rattle.id_meaning.proofs.StepLemmas.{arm-among, main-thing, node-thing, part-thing, thing-param}
+
+-- the path is the empty one, and the place is one of the program
+pub record IsPoint (P : Checked) (p : Path) (e : ℕ) : Type 0 where
+  pub path : p ≡ outermost
+  pub place : HasPlace (program_tree P.program) e
+
+abbrev pub Placed : Checked → Fact → Type 0
+Placed P (On p e) = IsPoint P p e
+Placed P (Has p e v) = IsPoint P p e
+
+thing-place : (S : Source) (n : ℕ) → IsThing S n → HasPlace (program_tree S.checked.program) (place S.checked n)
+thing-place S n t = placed_of S.checked n t.within t.thing
+
+-- what follows from placed facts is placed
+rule_placed : {S : Source} {fs : List Fact} {f : Fact} → Rule S fs f → Every (Placed S.checked) fs → Placed S.checked f
+rule_placed {S} main_on h = record { path = refl; place = thing-place S _ (main-thing S) }
+rule_placed {S} (param_has {b = b} i) h =
+    let q = input_param i in
+    record { path = refl; place = thing-place S b (record { within = q.0; thing = thing-param (at (rows S.checked) b).node q.1 }) }
+rule_placed (literal_has s) h = h.0
+rule_placed {S} (operand_on {n = n} {a = a} {o = o} s) h = let p = h.0 in record { path = p.path; place = thing-place S a (part-thing S n a (Unary o a) s refl) }
+rule_placed {S} (left_on {n = n} {a = a} {b = b} {o = o} s) h = let p = h.0 in record { path = p.path; place = thing-place S a (part-thing S n a (Binary o a b) s (inl refl)) }
+rule_placed {S} (right_on {n = n} {a = a} {b = b} {o = o} s) h = let p = h.0 in record { path = p.path; place = thing-place S b (part-thing S n b (Binary o a b) s (inr refl)) }
+rule_placed (unary_has c s e) h = h.0
+rule_placed (binary_has c d s e) h = h.0
+rule_placed (name_has s e) h = h.0
+rule_placed {S} (test_on {t = t} c) h =
+    let p = h.0 in
+    let d = choice c in
+    record { path = p.path; place = thing-place S t (part-thing S d.split t (Split t) d.splits refl) }
+rule_placed {S} (arm_on {n = n} {a = a} {b = b} c) h =
+    let p = h.0 in
+    let d = choice c in
+    record { path = p.path; place = thing-place S a (part-thing S n a (If d.split d.then d.otherwise) d.stands (arm-among d.then d.otherwise b a d.arm)) }
+rule_placed (conditional_has c) h = h.0
+rule_placed {S} (statement_on {m = m} {x = x} {a = a} s i t) h = let p = h.0 in record { path = p.path; place = thing-place S a (part-thing S m a (Binding x a) t refl) }
+rule_placed {S} (body_on {n = n} {b = b} s) h = let p = h.0 in record { path = p.path; place = thing-place S b (part-thing S n b (Block b) s refl) }
+rule_placed (block_has s) h = h.0
+rule_placed {S} (binding_has {n = n} {x = x} {a = a} s) h = let p = h.0 in record { path = p.path; place = thing-place S n (node-thing S n (Binding x a) s refl) }
+
+every_map : (F G : Fact → Type 0) (fs : List Fact) → ((f : Fact) → F f → G f) → Every F fs → Every G fs
+every_map F G [] t h = tt
+every_map F G (f ∷ fs) t h = (t f h.0, every_map F G fs t h.1)
+
+-- a fact of a round is placed
+pub round_placed : (S : Source) (n : ℕ) (f : Fact) → Rounds S n f → Placed S.checked f
+round_placed S zero f h = absurd h
+round_placed S (suc n) f (inl h) = round_placed S n f h
+round_placed S (suc n) f (inr h) = rule_placed h.1 (every_map (Rounds S n) (Placed S.checked) h.0 (round_placed S n) h.2)
+
+-- a fact of the source is placed
+pub holds_placed : (S : Source) (f : Fact) → Holds S f → Placed S.checked f
+holds_placed S f h = round_placed S h.round f h.there
+
+-- a fault of the source stands at the empty path, at a place of its program
+pub fault_placed : (S : Source) (f : SourceFault) → Faulty S f → IsPoint S.checked f.path f.place
+fault_placed S f k = go k.rule (every_map (Holds S) (Placed S.checked) k.premises (holds_placed S) k.hold)
+  where
+    go : {fs : List Fact} {g : SourceFault} → FaultRule S fs g → Every (Placed S.checked) fs → IsPoint S.checked g.path g.place
+    go (unary_fails c s e) t = t.0
+    go (binary_fails c d s e) t = t.0

@@ -1,0 +1,10 @@
+-- What one row more reads.
+use Rattle.std.proofs.Common.{◌≡◌, ◌+◌, suc, arith}
+use Rattle.id_meaning.proofs.LinksLemmas.{reads-by}
+use Rattle.id_meaning.proofs.links.reads.Goals as goal
+
+pub loop-n-preserved : goal.loop-n-preserved
+loop-n-preserved c =
+    let n = c.loop-n.n in
+    let next : n + 1 ≡ suc n = omega arith in
+    reads-by c.args.checked.now n (n + 1) _ _ c.as_slice-row-items.result.now c.beyond.result next c.as_slice-row-items.ensures.value c.beyond.ensures c.loop-n.invariant c.in_ok-add_reads.ensures

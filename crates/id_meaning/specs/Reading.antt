@@ -1,0 +1,36 @@
+-- What private functions say of words and of values so far, in the forms that they have.
+use Rattle.std.specs.Prelude.{◌≡◌, ◌<◌, ℕ, List, slice_get, slice_index_or, slice_set, Option, None, Some, IsSome, if◌then◌else◌}
+use Rattle.std.specs.Option.{is_some}
+use Rattle.std.specs.Borrow.{Bor}
+use Rattle.id_meaning.specs.declared.SourceValue.{SourceValue}
+use Rattle.id_meaning.specs.declared.inputs.InputError.{InputError}
+use Rattle.id_meaning.specs.declared.inputs.InputError.TheVariants.{MissingInput, UnknownInput, RepeatedInput, BadInput, Memory}
+use Rattle.id_meaning.specs.Inputs.{Cut, Said, Nothing, Says, option_bad}
+
+-- the cut, where it is given as two texts or as nothing
+abbrev pub cut_so : Option (Bor (List ℕ) × Bor (List ℕ)) → Option Cut
+cut_so None = None
+cut_so (Some x) = Some (record { name = x.0.now; value = x.1.now })
+
+-- what is said, where it is given as a parameter's number, with a value or without, or as nothing
+abbrev pub said_so : Option (ℕ × Option SourceValue) → Said
+said_so None = Nothing
+said_so (Some x) = Says x.0 x.1
+
+-- why the word of number j is refused that says so, where the parameters have these values so far
+abbrev pub cause_so : List (Option SourceValue) → ℕ → Option (ℕ × Option SourceValue) → Option InputError
+cause_so vs j None = Some (UnknownInput j)
+cause_so vs j (Some x) = if is_some (slice_index_or vs x.0 None) then Some (RepeatedInput j) else option_bad j x.1
+
+-- the values so far, with what is said
+abbrev pub values_so : List (Option SourceValue) → Option (ℕ × Option SourceValue) → List (Option SourceValue)
+values_so vs None = vs
+values_so vs (Some x) = slice_set vs x.0 x.1
+
+-- the cause is that the value of this number is the first to lack, or want of memory
+abbrev pub IsFirstLack : List (Option SourceValue) → InputError → Type 0
+IsFirstLack vs (MissingInput n) = (slice_get vs n ≡ Some None) × ((m : ℕ) → m < n → IsSome (slice_index_or vs m None))
+IsFirstLack vs (UnknownInput j) = ⊥
+IsFirstLack vs (RepeatedInput j) = ⊥
+IsFirstLack vs (BadInput j) = ⊥
+IsFirstLack vs Memory = Unit {0}

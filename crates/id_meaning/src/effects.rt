@@ -1,0 +1,285 @@
+//! What follows by one rule, row by row (docs/MEANING.md, "Rules").
+
+ghost use Rattle.std.specs.Prelude.{◌≡◌, ◌++◌, slice_get, IfOk, OnOk};
+ghost use Rattle.id_meaning.specs.Cells.{all_effects, arm_of, binary_of, chosen, constant_of, effects, first_facts, gained, gains, given, given_at, given_of, input_facts, ons, seen, unary_of, value_fact, when};
+ghost use Rattle.id_meaning.specs.Links.{some_row};
+ghost use Rattle.id_meaning.specs.Sources.{main_body, value_of};
+
+use crate::SourceValue;
+use crate::cells::{Cell, RowFact, read};
+use crate::links::{Links, beyond};
+use crate::params::{main_body, main_params, node_of};
+use id_check::Checked;
+use id_parts::Node;
+use id_value::{BinaryOp, Constant, Outcome, UnaryOp, binary_result, unary_result};
+use std::alloc::{AllocError, Global};
+
+/// The facts that follow from none: main's body is On, and its parameters Have their inputs.
+pub fn first_facts(
+    alloc: Global,
+    checked: &Checked,
+    inputs: &[SourceValue],
+) -> Result<Vec<RowFact>, AllocError>
+    ensures { IfOk result (λ v. v.items ≡ first_facts checked.now inputs.now) }
+{
+    let mut facts = Vec::new(alloc);
+    facts.push(RowFact::On {
+        row: main_body(checked),
+    })?;
+    let params = main_params(alloc, checked)?;
+    add_inputs(&mut facts, params.as_slice(), inputs)?;
+    Ok(facts)
+}
+
+/// Adds the facts that parameters at these rows have their inputs.
+fn add_inputs(
+    facts: &mut Vec<RowFact>,
+    params: &[usize],
+    inputs: &[SourceValue],
+) -> Result<(), AllocError>
+    ensures { OnOk result (facts.new.items ≡ facts.old.items ++ input_facts 0 params.now inputs.now) }
+{
+    for (number, row) in params.iter().enumerate() {
+        add_value(facts, *row, input(inputs, number))?;
+    }
+    Ok(())
+}
+
+/// The input of this number.
+fn input(inputs: &[SourceValue], number: usize) -> Option<SourceValue>
+    ensures { result ≡ slice_get inputs.now number }
+{
+    match inputs.get(number) {
+        Some(value) => Some(*value),
+        None => None,
+    }
+}
+
+/// Adds the facts that follow from one of these, with others that the cells have.
+pub fn add_all_effects(
+    found: &mut Vec<RowFact>,
+    checked: &Checked,
+    links: &Links,
+    cells: &[Cell],
+    news: &[RowFact],
+) -> Result<(), AllocError>
+    ensures { OnOk result
+        (found.new.items ≡ found.old.items ++ all_effects checked.now links.now cells.now news.now) }
+{
+    for fact in news {
+        add_effects(found, checked, links, cells, *fact)?;
+    }
+    Ok(())
+}
+
+/// Adds the facts that follow from this one, with others that the cells have.
+fn add_effects(
+    found: &mut Vec<RowFact>,
+    checked: &Checked,
+    links: &Links,
+    cells: &[Cell],
+    fact: RowFact,
+) -> Result<(), AllocError>
+    ensures { OnOk result
+        (found.new.items ≡ found.old.items ++ effects checked.now links.now cells.now fact) }
+{
+    match fact {
+        RowFact::On { row } => {
+            add_ons(found, links.turns.of(row))?;
+            add_given(found, checked, cells, row)
+        }
+        RowFact::Has { row, .. } => add_gains(found, checked, cells, links.reads.of(row)),
+    }
+}
+
+/// Adds that these rows are On.
+fn add_ons(found: &mut Vec<RowFact>, rows: &[usize]) -> Result<(), AllocError>
+    ensures { OnOk result (found.new.items ≡ found.old.items ++ ons rows.now) }
+{
+    for row in rows {
+        found.push(RowFact::On { row: *row })?;
+    }
+    Ok(())
+}
+
+/// Adds the facts that the cells give at these rows.
+fn add_gains(
+    found: &mut Vec<RowFact>,
+    checked: &Checked,
+    cells: &[Cell],
+    rows: &[usize],
+) -> Result<(), AllocError>
+    ensures { OnOk result (found.new.items ≡ found.old.items ++ gains checked.now cells.now rows.now) }
+{
+    for row in rows {
+        add_given(found, checked, cells, *row)?;
+    }
+    Ok(())
+}
+
+/// Adds the facts that the cells give at the row.
+fn add_given(
+    found: &mut Vec<RowFact>,
+    checked: &Checked,
+    cells: &[Cell],
+    row: usize,
+) -> Result<(), AllocError>
+    ensures { OnOk result (found.new.items ≡ found.old.items ++ given_at checked.now cells.now row) }
+{
+    let node = node_of(checked, row);
+    let on = read(cells, row).on;
+    add_arm(found, cells, on, beyond(checked, row, node), node)?;
+    add_value(
+        found,
+        row,
+        gained(cells, on, beyond(checked, row, node), node),
+    )
+}
+
+/// Adds that the arm that the cells choose at a row of this node is On, if they choose one.
+fn add_arm(
+    found: &mut Vec<RowFact>,
+    cells: &[Cell],
+    on: bool,
+    beyond: Option<usize>,
+    node: Node,
+) -> Result<(), AllocError>
+    ensures { OnOk result
+        (found.new.items ≡ found.old.items ++ ons (some_row (chosen cells.now on beyond node))) }
+{
+    if let Some(row) = chosen(cells, on, beyond, node) {
+        found.push(RowFact::On { row })?;
+    }
+    Ok(())
+}
+
+/// Adds that the row has the value, if there is one.
+fn add_value(
+    found: &mut Vec<RowFact>,
+    row: usize,
+    value: Option<SourceValue>,
+) -> Result<(), AllocError>
+    ensures { OnOk result (found.new.items ≡ found.old.items ++ value_fact row value) }
+{
+    if let Some(value) = value {
+        found.push(RowFact::Has { row, value })?;
+    }
+    Ok(())
+}
+
+/// The arm that the cells turn On with a row of this node, which may be On and may look at this row beyond its parts.
+fn chosen(cells: &[Cell], on: bool, beyond: Option<usize>, node: Node) -> Option<usize>
+    ensures { result ≡ chosen cells.now on beyond node }
+{
+    match node {
+        Node::If {
+            then,
+            otherwise,
+            ..
+        } if on => arm_of(then, otherwise, seen(cells, beyond)),
+        _ => None,
+    }
+}
+
+/// The arm that this value of the predicate turns On.
+fn arm_of(then: usize, otherwise: usize, test: Option<SourceValue>) -> Option<usize>
+    ensures { result ≡ arm_of then otherwise test }
+{
+    match test {
+        Some(SourceValue::Bool(true)) => Some(then),
+        Some(SourceValue::Bool(false)) => Some(otherwise),
+        _ => None,
+    }
+}
+
+/// What the cells give a row of this node, which may be On and may look at this row beyond its parts.
+fn gained(cells: &[Cell], on: bool, beyond: Option<usize>, node: Node) -> Option<SourceValue>
+    ensures { result ≡ gained cells.now on beyond node }
+{
+    match node {
+        Node::Literal { value } => when(on, Some(value_of(value))),
+        Node::Name { .. } => when(on, seen(cells, beyond)),
+        Node::Unary { op, operand } => when(on, gain_unary(op, read(cells, operand).has)),
+        Node::Binary { op, left, right } => {
+            when(
+                on,
+                gain_binary(op, read(cells, left).has, read(cells, right).has),
+            )
+        }
+        Node::If { .. } => seen(cells, chosen(cells, on, beyond, node)),
+        Node::Block { body } => when(on, read(cells, body).has),
+        Node::Binding { value, .. } => read(cells, value).has,
+        _ => None,
+    }
+}
+
+/// The value, where it is wanted.
+fn when(wanted: bool, value: Option<SourceValue>) -> Option<SourceValue>
+    ensures { result ≡ when wanted value }
+{
+    if wanted { value } else { None }
+}
+
+/// What the row has, if there is one.
+fn seen(cells: &[Cell], row: Option<usize>) -> Option<SourceValue>
+    ensures { result ≡ seen cells.now row }
+{
+    match row {
+        Some(row) => read(cells, row).has,
+        None => None,
+    }
+}
+
+fn gain_unary(op: UnaryOp, operand: Option<SourceValue>) -> Option<SourceValue>
+    ensures { result ≡ unary_of op operand }
+{
+    match operand {
+        Some(operand) => given(unary_result(op, constant_of(operand))),
+        None => None,
+    }
+}
+
+fn gain_binary(
+    op: BinaryOp,
+    left: Option<SourceValue>,
+    right: Option<SourceValue>,
+) -> Option<SourceValue>
+    ensures { result ≡ binary_of op left right }
+{
+    match (left, right) {
+        (Some(left), Some(right)) => {
+            given(binary_result(op, constant_of(left), constant_of(right)))
+        }
+        _ => None,
+    }
+}
+
+/// The value that an operator gives, if it gives one.
+fn given(outcome: Outcome) -> Option<SourceValue>
+    ensures { result ≡ given outcome }
+{
+    match outcome {
+        Outcome::Gives(constant) => Some(value_of(constant)),
+        _ => None,
+    }
+}
+
+/// The value that a constant is.
+fn value_of(constant: Constant) -> SourceValue
+    ensures { result ≡ value_of constant }
+{
+    match constant {
+        Constant::Int(number) => SourceValue::Int(number),
+        Constant::Bool(truth) => SourceValue::Bool(truth),
+    }
+}
+
+/// The constant that a value is.
+fn constant_of(value: SourceValue) -> Constant
+    ensures { result ≡ constant_of value }
+{
+    match value {
+        SourceValue::Int(number) => Constant::Int(number),
+        SourceValue::Bool(truth) => Constant::Bool(truth),
+    }
+}

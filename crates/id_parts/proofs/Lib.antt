@@ -1,0 +1,15 @@
+-- What crates above import.
+pub mod TreeLemmas
+pub mod TableLemmas
+pub mod PlacesLemmas
+pub mod BlocksLemmas
+pub mod NumbersLemmas
+pub mod RegionLemmas
+-- For the proofs of this crate alone.
+mod BlockLemmas
+mod ConditionalLemmas
+mod ExpressionLemmas
+mod HasLemmas
+mod MakingLemmas
+mod NamesLemmas
+mod RowLemmas

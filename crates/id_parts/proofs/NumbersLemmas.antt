@@ -1,0 +1,211 @@
+-- Each name of a table stands once among its names, and each number of a row is that of one.
+use Rattle.std.proofs.Common.{◌≡◌, ◌⊎◌, inl, inr, ◌+◌, ◌<◌, ◌≤◌, ℕ, Bool, true, false, Some, None, List, [], ◌∷◌, ◌++◌, length, refl, sym, ap, ◌∙◌, arith}
+use Rattle.std.proofs.lemmas.Bool.{cases_lt, false≢true}
+use Rattle.std.proofs.lemmas.Slice.Eq.{bytes_eq-Decides}
+use Rattle.std.specs.Prelude.{if◌then◌else◌}
+use Rattle.std.specs.Str.{bytes_eq}
+use Rattle.id_list.specs.List.{AllDiffer, Among}
+use Rattle.id_tree.specs.Tree.{Tree, literal, unary, binary, name, conditional, block, binding, param, define, none, more}
+use Rattle.id_parts.specs.declared.row.Row.{Row}
+use Rattle.id_parts.specs.declared.row.Stand.{Stand}
+use Rattle.id_parts.specs.declared.row.Node.TheVariants.{Head, Split}
+use Rattle.id_parts.specs.Names.{first_names, number_of, with_name}
+use Rattle.id_parts.specs.Rows.{Parts, add, arm, at, in_top, last, parts_of, rows_of, size, with_row}
+use Rattle.id_parts.specs.Tables.{AreNamed, name_of}
+use Rattle.id_parts.proofs.HasLemmas.{Has, Has-add, Has-itself, Has-push, at-push, push-size}
+
+Among-with_name : (xs : List (List ℕ)) (x y : List ℕ) → Among y (with_name xs x) → Among y xs ⊎ (y ≡ x)
+Among-with_name [] x y (inl e) = inr e
+Among-with_name [] x y (inr h) = inl h
+Among-with_name (z ∷ xs) x y h = step (bytes_eq x z) h (Among-with_name xs x y)
+  where
+    step : (b : Bool) → Among y (if b then z ∷ xs else z ∷ with_name xs x) → (Among y (with_name xs x) → Among y xs ⊎ (y ≡ x)) → Among y (z ∷ xs) ⊎ (y ≡ x)
+    step true h rest = inl h
+    step false (inl e) rest = inl (inl e)
+    step false (inr h) rest = elim (rest h) [ inl k ↦ inl (inr k) | inr e ↦ inr e ]
+
+AllDiffer-with_name : (xs : List (List ℕ)) (x : List ℕ) → AllDiffer xs → AllDiffer (with_name xs x)
+AllDiffer-with_name [] x d = (λ h. h, tt)
+AllDiffer-with_name (z ∷ xs) x d = step (bytes_eq x z) refl (AllDiffer-with_name xs x d.1)
+  where
+    step : (b : Bool) → bytes_eq x z ≡ b → AllDiffer (with_name xs x) → AllDiffer (if b then z ∷ xs else z ∷ with_name xs x)
+    step true e rest = d
+    step false e rest =
+        (λ h. elim (Among-with_name xs x z h) [ inl k ↦ d.0 k | inr w ↦ false≢true (sym e ∙ (bytes_eq-Decides x z).1 (sym w)) ], rest)
+
+with_name-longer : (xs : List (List ℕ)) (x : List ℕ) → length xs ≤ length (with_name xs x)
+with_name-longer [] x = omega arith
+with_name-longer (z ∷ xs) x =
+    let rest = with_name-longer xs x in
+    elim (bytes_eq x z) as (λ b. length (z ∷ xs) ≤ length (if b then z ∷ xs else z ∷ with_name xs x)) [ true ↦ omega arith | false ↦ omega arith ]
+
+number_of-within : (xs : List (List ℕ)) (x : List ℕ) → number_of xs x < length (with_name xs x)
+number_of-within [] x = omega arith
+number_of-within (z ∷ xs) x =
+    let rest = number_of-within xs x in
+    elim (bytes_eq x z) as (λ b. (if b then 0 else number_of xs x + 1) < length (if b then z ∷ xs else z ∷ with_name xs x)) [
+      | true ↦ omega arith
+      | false ↦ omega arith
+    ]
+
+AllDiffer-add : (t : Tree) (s : Stand) (T : Parts) → AllDiffer T.names → AllDiffer (add s T t).names
+AllDiffer-add (literal v p) s T d = d
+AllDiffer-add (unary o a p) s T d = AllDiffer-add a s T d
+AllDiffer-add (binary o a b p) s T d = AllDiffer-add b s (add s T a) (AllDiffer-add a s T d)
+AllDiffer-add (name x p) s T d = AllDiffer-with_name T.names x d
+AllDiffer-add (conditional t x y p) s T d =
+    let U = add s T t in
+    let n = size U in
+    let S = with_row U s p (size T) (Split (last U)) in
+    AllDiffer-add y (arm s n false) (add (arm s n true) S x) (AllDiffer-add x (arm s n true) S (AllDiffer-add t s T d))
+AllDiffer-add (block a b p) s T d = AllDiffer-add b s (add s T a) (AllDiffer-add a s T d)
+AllDiffer-add (binding x a p) s T d = AllDiffer-with_name (add s T a).names x (AllDiffer-add a s T d)
+AllDiffer-add (param x k p) s T d = AllDiffer-with_name T.names x d
+AllDiffer-add (define x a k b p) s T d =
+    let w = in_top (size T) in
+    let H = with_row T w p (size T) Head in
+    let U = add w H a in
+    AllDiffer-with_name (add w U b).names x (AllDiffer-add b w U (AllDiffer-add a w H d))
+AllDiffer-add none s T d = d
+AllDiffer-add (more a b) s T d = AllDiffer-add b s (add s T a) (AllDiffer-add a s T d)
+
+-- no name stands twice among the names of a table
+pub AllDiffer-parts_of : (t : Tree) → AllDiffer (parts_of t).names
+AllDiffer-parts_of t = AllDiffer-add t (in_top 0) (record { rows = []; names = first_names }) (λ h. h, tt)
+
+module _ (F : List Row) where
+  -- the numbers of names in the rows from lo up to hi are below n
+  abbrev Below : ℕ → ℕ → ℕ → Type 0
+  Below n lo hi = (i x : ℕ) → lo ≤ i → i < hi → name_of (at F i).node ≡ Some x → x < n
+
+  below-both : (n lo mid hi : ℕ) → Below n lo mid → Below n mid hi → Below n lo hi
+  below-both n lo mid hi f g i x b c e = elim (cases_lt i mid) [ inl l ↦ f i x b l e | inr l ↦ g i x l c e ]
+
+  below-push : (n lo : ℕ) (R : List Row) (r : Row) → Has F (R ++ r ∷ []) → Below n lo (length R) → ((x : ℕ) → name_of r.node ≡ Some x → x < n)
+      → Below n lo (length (R ++ r ∷ []))
+  below-push n lo R r h f own i x b c e = elim (cases_lt i (length R)) [
+    | inl l ↦ f i x b l e
+    | inr l ↦ let q = push-size R r in let z : length R ≡ i = omega arith in
+        own x (ap (λ (y : Row). name_of y.node) (sym (at-push F R r h)) ∙ ap (λ k. name_of (at F k).node) z ∙ e)
+  ]
+
+  below-none : (n lo : ℕ) → Below n lo lo
+  below-none n lo i x b c e = absurd (omega arith)
+
+no_name : (n x : ℕ) → None ≡ Some x → x < n
+no_name n x e = cc
+
+one_name : (n y x : ℕ) → y < n → Some y ≡ Some x → x < n
+one_name n y x l e = let z : y ≡ x = cc in omega arith
+
+names-longer : (t : Tree) (s : Stand) (T : Parts) → length T.names ≤ length (add s T t).names
+names-longer (literal v p) s T = omega arith
+names-longer (unary o a p) s T = names-longer a s T
+names-longer (binary o a b p) s T = let l = names-longer a s T in let m = names-longer b s (add s T a) in omega arith
+names-longer (name x p) s T = with_name-longer T.names x
+names-longer (conditional t x y p) s T =
+    let U = add s T t in
+    let n = size U in
+    let S = with_row U s p (size T) (Split (last U)) in
+    let l = names-longer t s T in
+    let m = names-longer x (arm s n true) S in
+    let q = names-longer y (arm s n false) (add (arm s n true) S x) in
+    omega arith
+names-longer (block a b p) s T = let l = names-longer a s T in let m = names-longer b s (add s T a) in omega arith
+names-longer (binding x a p) s T = let l = names-longer a s T in let m = with_name-longer (add s T a).names x in omega arith
+names-longer (param x k p) s T = with_name-longer T.names x
+names-longer (define x a k b p) s T =
+    let w = in_top (size T) in
+    let H = with_row T w p (size T) Head in
+    let U = add w H a in
+    let l = names-longer a w H in
+    let m = names-longer b w U in
+    let q = with_name-longer (add w U b).names x in
+    omega arith
+names-longer none s T = omega arith
+names-longer (more a b) s T = let l = names-longer a s T in let m = names-longer b s (add s T a) in omega arith
+
+module _ (F : List Row) (n : ℕ) where
+  named : (t : Tree) (s : Stand) (T : Parts) → Has F (add s T t).rows → length (add s T t).names ≤ n → Below F n (size T) (size (add s T t))
+  named (literal v p) s T h l = below-push F n (size T) T.rows _ h (below-none F n (size T)) (no_name n)
+  named (name x p) s T h l =
+      let w = number_of-within T.names x in
+      below-push F n (size T) T.rows _ h (below-none F n (size T)) (λ y. one_name n (number_of T.names x) y (omega arith))
+  named (param x k p) s T h l =
+      let w = number_of-within T.names x in
+      below-push F n (size T) T.rows _ h (below-none F n (size T)) (λ y. one_name n (number_of T.names x) y (omega arith))
+  named (unary o a p) s T h l =
+      let U = add s T a in
+      below-push F n (size T) U.rows _ h (named a s T (Has-push F U.rows _ h) l) (no_name n)
+  named (binding x a p) s T h l =
+      let U = add s T a in
+      let w = number_of-within U.names x in
+      let m = with_name-longer U.names x in
+      below-push F n (size T) U.rows _ h (named a s T (Has-push F U.rows _ h) (omega arith)) (λ y. one_name n (number_of U.names x) y (omega arith))
+  named (binary o a b p) s T h l =
+      let U = add s T a in
+      let V = add s U b in
+      let g = Has-push F V.rows _ h in
+      let m = names-longer b s U in
+      below-push F n (size T) V.rows _ h (below-both F n (size T) (size U) (size V) (named a s T (Has-add F b s U g) (omega arith)) (named b s U g l))
+      (no_name n)
+  named (conditional t x y p) s T h l =
+      let U = add s T t in
+      let u = size U in
+      let S = with_row U s p (size T) (Split (last U)) in
+      let X = add (arm s u true) S x in
+      let Y = add (arm s u false) X y in
+      let g = Has-push F Y.rows _ h in
+      let f = Has-add F y (arm s u false) X g in
+      let e = Has-add F x (arm s u true) S f in
+      let m = names-longer x (arm s u true) S in
+      let q = names-longer y (arm s u false) X in
+      below-push F n (size T) Y.rows _ h
+      (below-both F n (size T) (size X) (size Y)
+      (below-both F n (size T) (size S) (size X)
+      (below-push F n (size T) U.rows _ e (named t s T (Has-push F U.rows _ e) (omega arith)) (no_name n))
+      (named x (arm s u true) S f (omega arith)))
+      (named y (arm s u false) X g l))
+      (no_name n)
+  named (block a b p) s T h l =
+      let U = add s T a in
+      let V = add s U b in
+      let g = Has-push F V.rows _ h in
+      let m = names-longer b s U in
+      below-push F n (size T) V.rows _ h (below-both F n (size T) (size U) (size V) (named a s T (Has-add F b s U g) (omega arith)) (named b s U g l))
+      (no_name n)
+  named (define x a k b p) s T h l =
+      let w = in_top (size T) in
+      let H = with_row T w p (size T) Head in
+      let U = add w H a in
+      let V = add w U b in
+      let g = Has-push F V.rows _ h in
+      let start = Has-add F b w U g in
+      let m = names-longer b w U in
+      let q = with_name-longer V.names x in
+      let z = number_of-within V.names x in
+      below-push F n (size T) V.rows _ h
+      (below-both F n (size T) (size U) (size V)
+      (below-both F n (size T) (size H) (size U)
+      (below-push F n (size T) T.rows _ (Has-add F a w H start) (below-none F n (size T)) (no_name n))
+      (named a w H start (omega arith)))
+      (named b w U g (omega arith)))
+      (λ y. one_name n (number_of V.names x) y (omega arith))
+  named none s T h l = below-none F n (size T)
+  named (more a b) s T h l =
+      let U = add s T a in
+      let m = names-longer b s U in
+      below-both F n (size T) (size U) (size (add s U b)) (named a s T (Has-add F b s U h) (omega arith)) (named b s U h l)
+
+-- each number of a name in a table is that of one of its names
+pub AreNamed-parts_of : (t : Tree) → AreNamed (rows_of t) (parts_of t).names
+AreNamed-parts_of t =
+    let start : Parts = record { rows = []; names = first_names } in
+    let T = add (in_top 0) start t in
+    let F = rows_of t in
+    let n = length (parts_of t).names in
+    record {
+      each = λ i x b e.
+          below-push F n 0 T.rows _ (Has-itself F) (named F n t (in_top 0) start (Has-push F T.rows _ (Has-itself F)) (omega arith)) (no_name n) i x
+          (omega arith) b e;
+    }

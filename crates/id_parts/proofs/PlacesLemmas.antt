@@ -1,0 +1,244 @@
+-- The places of the things of a table are those of its tree, and they differ.
+use Rattle.std.proofs.Common.{◌≡◌, ◌⊎◌, inl, inr, ◌<◌, ◌≤◌, ℕ, suc, true, false, List, [], ◌∷◌, ◌++◌, length, refl, sym, ap, ◌∙◌, subst, arith}
+use Rattle.std.proofs.lemmas.Bool.{cases_lt, false≢true}
+use Rattle.id_tree.specs.Tree.{Tree, literal, unary, binary, name, conditional, block, binding, param, define, none, more}
+use Rattle.id_tree.specs.Distinct.{Apart, Distinct, HasPlace}
+use Rattle.id_parts.specs.declared.row.Row.{Row}
+use Rattle.id_parts.specs.declared.row.Stand.{Stand}
+use Rattle.id_parts.specs.declared.row.Node.TheVariants.{Head, Split, Program}
+use Rattle.id_parts.specs.Names.{first_names}
+use Rattle.id_parts.specs.Rows.{Parts, add, arm, at, in_top, last, rows_of, size, with_row}
+use Rattle.id_parts.specs.Tables.{AreApart, is_thing}
+use Rattle.id_parts.proofs.HasLemmas.{Has, Has-add, Has-itself, Has-push, at-push, push-size, row_for}
+
+pub add-longer : (t : Tree) (s : Stand) (T : Parts) → size T ≤ size (add s T t)
+add-longer t s T = (Has-add (add s T t).rows t s T (Has-itself (add s T t).rows)).within
+
+module _ (F : List Row) where
+  -- the places of the things from lo up to hi are such
+  abbrev Placed : ℕ → ℕ → (ℕ → Type 0) → Type 0
+  Placed lo hi P = (i : ℕ) → lo ≤ i → i < hi → is_thing (at F i).node ≡ true → P (at F i).place
+
+  -- the places of the things from lo up to hi differ
+  abbrev Differ : ℕ → ℕ → Type 0
+  Differ lo hi = (i j : ℕ) → lo ≤ i → i < hi → lo ≤ j → j < hi → is_thing (at F i).node ≡ true → is_thing (at F j).node ≡ true
+      → (at F i).place ≡ (at F j).place → i ≡ j
+
+  placed-leaf : (R : List Row) (r : Row) → Has F (R ++ r ∷ []) → Placed (length R) (length (R ++ r ∷ [])) (λ q. r.place ≡ q)
+  placed-leaf R r h i b c t =
+      let e = push-size R r in
+      let z : length R ≡ i = omega arith in
+      ap (λ (x : Row). x.place) (sym (at-push F R r h)) ∙ ap (λ k. (at F k).place) z
+
+  placed-push : (lo : ℕ) (P : ℕ → Type 0) (R : List Row) (r : Row) → Has F (R ++ r ∷ []) → Placed lo (length R) P
+      → Placed lo (length (R ++ r ∷ [])) (λ q. (r.place ≡ q) ⊎ P q)
+  placed-push lo P R r h f i b c t = elim (cases_lt i (length R)) [ inl l ↦ inr (f i b l t) | inr l ↦ inl (placed-leaf R r h i l c t) ]
+
+  placed-both : (lo mid hi : ℕ) (P Q : ℕ → Type 0) → Placed lo mid P → Placed mid hi Q → Placed lo hi (λ q. P q ⊎ Q q)
+  placed-both lo mid hi P Q f g i b c t = elim (cases_lt i mid) [ inl l ↦ inl (f i b l t) | inr l ↦ inr (g i l c t) ]
+
+  -- no thing stands at a marker
+  no_thing : (R : List Row) (r : Row) (i : ℕ) → Has F (R ++ r ∷ []) → is_thing r.node ≡ false → length R ≤ i → i < suc (length R)
+      → is_thing (at F i).node ≡ true → ⊥
+  no_thing R r i h e b c t =
+      let z : length R ≡ i = omega arith in
+      false≢true (sym e ∙ sym (ap (λ (x : Row). is_thing x.node) (at-push F R r h)) ∙ ap (λ k. is_thing (at F k).node) z ∙ t)
+
+  placed-mark : (lo : ℕ) (P : ℕ → Type 0) (R : List Row) (r : Row) → Has F (R ++ r ∷ []) → is_thing r.node ≡ false → Placed lo (length R) P
+      → Placed lo (length (R ++ r ∷ [])) P
+  placed-mark lo P R r h e f i b c t = let q = push-size R r in elim (cases_lt i (length R)) [
+    | inl l ↦ f i b l t
+    | inr l ↦ absurd (no_thing R r i h e l (omega arith) t)
+  ]
+
+  placed : (t : Tree) (s : Stand) (T : Parts) → Has F (add s T t).rows → Placed (size T) (size (add s T t)) (HasPlace t)
+  placed (literal v p) s T h = placed-leaf T.rows _ h
+  placed (name x p) s T h = placed-leaf T.rows _ h
+  placed (param x k p) s T h = placed-leaf T.rows _ h
+  placed (unary o a p) s T h = let U = add s T a in placed-push (size T) (HasPlace a) U.rows _ h (placed a s T (Has-push F U.rows _ h))
+  placed (binding x a p) s T h = let U = add s T a in placed-push (size T) (HasPlace a) U.rows _ h (placed a s T (Has-push F U.rows _ h))
+  placed (binary o a b p) s T h =
+      let U = add s T a in
+      let V = add s U b in
+      let g = Has-push F V.rows _ h in
+      placed-push (size T) (λ q. HasPlace a q ⊎ HasPlace b q) V.rows _ h
+      (placed-both (size T) (size U) (size V) (HasPlace a) (HasPlace b) (placed a s T (Has-add F b s U g)) (placed b s U g))
+  placed (conditional t x y p) s T h =
+      let U = add s T t in
+      let n = size U in
+      let S = with_row U s p (size T) (Split (last U)) in
+      let X = add (arm s n true) S x in
+      let Y = add (arm s n false) X y in
+      let g = Has-push F Y.rows _ h in
+      let f = Has-add F y (arm s n false) X g in
+      let e = Has-add F x (arm s n true) S f in
+      placed-push (size T) (λ q. HasPlace t q ⊎ (HasPlace x q ⊎ HasPlace y q)) Y.rows _ h
+      (placed-both (size T) (size S) (size Y) (HasPlace t) (λ q. HasPlace x q ⊎ HasPlace y q)
+      (placed-mark (size T) (HasPlace t) U.rows _ e refl (placed t s T (Has-push F U.rows _ e)))
+      (placed-both (size S) (size X) (size Y) (HasPlace x) (HasPlace y) (placed x (arm s n true) S f) (placed y (arm s n false) X g)))
+  placed (block a b p) s T h =
+      let U = add s T a in
+      let V = add s U b in
+      let g = Has-push F V.rows _ h in
+      placed-push (size T) (λ q. HasPlace a q ⊎ HasPlace b q) V.rows _ h
+      (placed-both (size T) (size U) (size V) (HasPlace a) (HasPlace b) (placed a s T (Has-add F b s U g)) (placed b s U g))
+  placed (define x a k b p) s T h =
+      let n = size T in
+      let w = in_top n in
+      let H = with_row T w p n Head in
+      let U = add w H a in
+      let V = add w U b in
+      let g = Has-push F V.rows _ h in
+      let k = Has-add F b w U g in
+      let r = row_for T.rows w p n Head in
+      let e = push-size T.rows r in
+      let body = placed-both (size H) (size U) (size V) (HasPlace a) (HasPlace b) (placed a w H k) (placed b w U g) in
+      placed-push n (λ q. HasPlace a q ⊎ HasPlace b q) V.rows _ h (λ i c d t. elim (cases_lt i (size H)) [
+        | inl l ↦ absurd (no_thing T.rows r i (Has-add F a w H k) refl c (omega arith) t)
+        | inr l ↦ body i l d t
+      ])
+  placed none s T h = λ i b c t. absurd (omega arith)
+  placed (more a b) s T h =
+      let U = add s T a in
+      placed-both (size T) (size U) (size (add s U b)) (HasPlace a) (HasPlace b) (placed a s T (Has-add F b s U h)) (placed b s U h)
+
+  differ-none : (lo hi : ℕ) → hi ≤ lo → Differ lo hi
+  differ-none lo hi h i j b c d e t u w = absurd (omega arith)
+
+  differ-both : (lo mid hi : ℕ) (P Q : ℕ → Type 0) → Placed lo mid P → Placed mid hi Q → ((q : ℕ) → P q → Q q → ⊥) → Differ lo mid → Differ mid hi
+      → Differ lo hi
+  differ-both lo mid hi P Q p q apart f g i j b c d e t u w = elim (cases_lt i mid) [
+    | inl l ↦ elim (cases_lt j mid) [ inl m ↦ f i j b l d m t u w | inr m ↦ absurd (apart (at F j).place (subst P w (p i b l t)) (q j m e u)) ]
+    | inr l ↦ elim (cases_lt j mid) [ inl m ↦ absurd (apart (at F i).place (subst P (sym w) (p j d m u)) (q i l c t)) | inr m ↦ g i j l c m e t u w ]
+  ]
+
+  differ-leaf : (R : List Row) (r : Row) → Differ (length R) (length (R ++ r ∷ []))
+  differ-leaf R r i j b c d e t u w = let n = push-size R r in omega arith
+
+  differ-push : (lo : ℕ) (P : ℕ → Type 0) (R : List Row) (r : Row) → Has F (R ++ r ∷ []) → Placed lo (length R) P → (P r.place → ⊥) → Differ lo (length R)
+      → Differ lo (length (R ++ r ∷ []))
+  differ-push lo P R r h f apart g =
+      differ-both lo (length R) (length (R ++ r ∷ [])) P (λ q. r.place ≡ q) f (placed-leaf R r h) (λ q x y. apart (subst P (sym y) x)) g (differ-leaf R r)
+
+  differ-mark : (lo : ℕ) (R : List Row) (r : Row) → Has F (R ++ r ∷ []) → is_thing r.node ≡ false → Differ lo (length R) → Differ lo (length (R ++ r ∷ []))
+  differ-mark lo R r h e f i j b c b' c' t t' z = let q = push-size R r in elim (cases_lt i (length R)) [
+    | inl l ↦ elim (cases_lt j (length R)) [ inl l' ↦ f i j b l b' l' t t' z | inr l' ↦ absurd (no_thing R r j h e l' (omega arith) t') ]
+    | inr l ↦ absurd (no_thing R r i h e l (omega arith) t)
+  ]
+
+  -- a row behind two parts
+  differ-two : (a b : Tree) (s : Stand) (T : Parts) (r : Row) → Has F ((add s (add s T a) b).rows ++ r ∷ []) → (HasPlace a r.place → ⊥)
+      → (HasPlace b r.place → ⊥) → Apart a b
+      → Differ (size T) (size (add s T a)) → Differ (size (add s T a)) (size (add s (add s T a) b))
+      → Differ (size T) (length ((add s (add s T a) b).rows ++ r ∷ []))
+  differ-two a b s T r h x y z f g =
+      let U = add s T a in
+      let V = add s U b in
+      let k = Has-push F V.rows r h in
+      let left = placed a s T (Has-add F b s U k) in
+      let right = placed b s U k in
+      differ-push (size T) (λ q. HasPlace a q ⊎ HasPlace b q) V.rows r h (placed-both (size T) (size U) (size V) (HasPlace a) (HasPlace b) left right)
+      (λ e. elim e [ inl i ↦ x i | inr i ↦ y i ]) (differ-both (size T) (size U) (size V) (HasPlace a) (HasPlace b) left right z f g)
+
+  differ : (t : Tree) (s : Stand) (T : Parts) → Has F (add s T t).rows → Distinct t → Differ (size T) (size (add s T t))
+  differ (literal v p) s T h d = differ-leaf T.rows _
+  differ (name x p) s T h d = differ-leaf T.rows _
+  differ (param x k p) s T h d = differ-leaf T.rows _
+  differ (unary o a p) s T h d =
+      let U = add s T a in
+      let g = Has-push F U.rows _ h in
+      differ-push (size T) (HasPlace a) U.rows _ h (placed a s T g) d.0 (differ a s T g d.1)
+  differ (binding x a p) s T h d =
+      let U = add s T a in
+      let g = Has-push F U.rows _ h in
+      differ-push (size T) (HasPlace a) U.rows _ h (placed a s T g) d.0 (differ a s T g d.1)
+  differ (binary o a b p) s T h d =
+      let U = add s T a in
+      let V = add s U b in
+      let k = Has-push F V.rows _ h in
+      differ-two a b s T _ h d.0 d.1 d.2 (differ a s T (Has-add F b s U k) d.3) (differ b s U k d.4)
+  differ (conditional t x y p) s T h d =
+      let U = add s T t in
+      let n = size U in
+      let S = with_row U s p (size T) (Split (last U)) in
+      let X = add (arm s n true) S x in
+      let Y = add (arm s n false) X y in
+      let g = Has-push F Y.rows _ h in
+      let f = Has-add F y (arm s n false) X g in
+      let e = Has-add F x (arm s n true) S f in
+      let k = Has-push F U.rows _ e in
+      let front = placed-mark (size T) (HasPlace t) U.rows _ e refl (placed t s T k) in
+      let then = placed x (arm s n true) S f in
+      let otherwise = placed y (arm s n false) X g in
+      let arms = placed-both (size S) (size X) (size Y) (HasPlace x) (HasPlace y) then otherwise in
+      differ-push (size T) (λ q. HasPlace t q ⊎ (HasPlace x q ⊎ HasPlace y q)) Y.rows _ h
+      (placed-both (size T) (size S) (size Y) (HasPlace t) (λ q. HasPlace x q ⊎ HasPlace y q) front arms)
+      (λ z. elim z [ inl i ↦ d.0 i | inr z' ↦ elim z' [ inl i ↦ d.1 i | inr i ↦ d.2 i ] ])
+      (differ-both (size T) (size S) (size Y) (HasPlace t) (λ q. HasPlace x q ⊎ HasPlace y q) front arms
+      (λ q i z. elim z [ inl j ↦ d.3 q i j | inr j ↦ d.4 q i j ])
+      (differ-mark (size T) U.rows _ e refl (differ t s T k d.6))
+      (differ-both (size S) (size X) (size Y) (HasPlace x) (HasPlace y) then otherwise d.5 (differ x (arm s n true) S f d.7)
+      (differ y (arm s n false) X g d.8)))
+  differ (block a b p) s T h d =
+      let U = add s T a in
+      let V = add s U b in
+      let k = Has-push F V.rows _ h in
+      differ-two a b s T _ h d.0 d.1 d.2 (differ a s T (Has-add F b s U k) d.3) (differ b s U k d.4)
+  differ (define x a k b p) s T h d =
+      let n = size T in
+      let w = in_top n in
+      let H = with_row T w p n Head in
+      let U = add w H a in
+      let V = add w U b in
+      let g = Has-push F V.rows _ h in
+      let m = Has-add F b w U g in
+      let start = Has-add F a w H m in
+      let r = row_for T.rows w p n Head in
+      let e = push-size T.rows r in
+      let rest = differ-two a b w H _ h d.0 d.1 d.2 (differ a w H m d.3) (differ b w U g d.4) in
+      λ i j c l c' l' t t' z. elim (cases_lt i (size H)) [
+        | inl f ↦ absurd (no_thing T.rows r i start refl c (omega arith) t)
+        | inr f ↦ elim (cases_lt j (size H)) [
+          | inl f' ↦ absurd (no_thing T.rows r j start refl c' (omega arith) t')
+          | inr f' ↦ rest i j f l f' l' t t' z
+        ]
+      ]
+  differ none s T h d = λ i j b c e f t u w. absurd (omega arith)
+  differ (more a b) s T h d =
+      let U = add s T a in
+      let g = Has-add F b s U h in
+      differ-both (size T) (size U) (size (add s U b)) (HasPlace a) (HasPlace b) (placed a s T g) (placed b s U h) d.0 (differ a s T g d.1)
+      (differ b s U h d.2)
+
+abbrev empty : Parts
+empty = record { rows = []; names = first_names }
+
+abbrev before_end : Tree → Parts
+before_end t = add (in_top 0) empty t
+
+end_has : (t : Tree) → Has (rows_of t) (before_end t).rows
+end_has t = Has-push (rows_of t) (before_end t).rows _ (Has-itself (rows_of t))
+
+-- a thing does not stand in the last row
+thing_before : (t : Tree) (i : ℕ) → i < length (rows_of t) → is_thing (at (rows_of t) i).node ≡ true → i < size (before_end t)
+thing_before t i b h =
+    let R = (before_end t).rows in
+    let r = row_for R (in_top 0) 0 0 Program in
+    let e = push-size R r in
+    elim (cases_lt i (length R)) [
+      | inl l ↦ l
+      | inr l ↦ let z : length R ≡ i = omega arith in
+          absurd (false≢true (sym (ap (λ (x : Row). is_thing x.node) (at-push (rows_of t) R r (Has-itself (rows_of t))))
+          ∙ ap (λ k. is_thing (at (rows_of t) k).node) z ∙ h))
+    ]
+
+-- each thing has a place of the tree
+pub HasPlace-rows_of : (t : Tree) (i : ℕ) → i < length (rows_of t) → is_thing (at (rows_of t) i).node ≡ true → HasPlace t (at (rows_of t) i).place
+HasPlace-rows_of t i b h = placed (rows_of t) t (in_top 0) empty (end_has t) i (omega arith) (thing_before t i b h) h
+
+-- the places of a table's things differ, where those of the tree do
+pub AreApart-rows_of : (t : Tree) → Distinct t → AreApart (rows_of t)
+AreApart-rows_of t d = record {
+  apart = λ i j b c h g e. differ (rows_of t) t (in_top 0) empty (end_has t) d i j (omega arith) (thing_before t i b h)
+      (omega arith) (thing_before t j c g) h g e;
+}

@@ -1,0 +1,154 @@
+-- The regions of a table lie in one another, and the rows of an arm are those that stand in its region or further in.
+use Rattle.std.proofs.Common.{◌≡◌, ◌⊎◌, inl, inr, ◌+◌, ◌<◌, ◌≤◌, ℕ, Bool, true, false, List, length, refl, sym, ap, ◌∙◌, subst, arith}
+use Rattle.std.proofs.lemmas.Bool.{cases_lt, false≢true}
+use Rattle.id_parts.specs.declared.row.Region.{Region}
+use Rattle.id_parts.specs.declared.row.Row.{Row}
+use Rattle.id_parts.specs.declared.row.Node.{Node}
+use Rattle.id_parts.specs.declared.row.Node.TheVariants.{Head, Split, If}
+use Rattle.id_parts.specs.Rows.{arm_at, at, top}
+use Rattle.id_parts.specs.Tables.{HasNear, HasOperand, HasPart, is_if, is_split, is_top}
+use Rattle.id_parts.specs.Regions.{InArm, IsIfOf, Lies, here, in_arm}
+use Rattle.id_parts.specs.Turns.{IsTable, Root, TurnedIn, Turns, body, left, of_otherwise, of_procedure, of_then, operand, part, right, root, statement, test}
+use Rattle.id_parts.proofs.BlockLemmas.{around-within}
+use Rattle.id_parts.proofs.BlocksLemmas.{not_last}
+use Rattle.id_parts.proofs.RowLemmas.{Lies-both, differs, near_part, operand_part}
+
+-- what lies in a region that lies in another lies in that
+pub Lies-trans : (R : List Row) {p q r : Region} → Lies R p q → Lies R q r → Lies R p r
+Lies-trans R l m = Lies-both R l m
+
+-- of two regions that a region lies in, one lies in the other
+pub Lies-chain : (R : List Row) {p q r : Region} → Lies R p r → Lies R q r → Lies R p q ⊎ Lies R q p
+Lies-chain R here m = inr m
+Lies-chain R l here = inl l
+Lies-chain R (in_arm w e l) (in_arm v f m) = Lies-chain R l m
+
+-- such a part of a node is one of its parts
+pub HasPart-operand : (n : Node) (a : ℕ) → HasOperand n a → HasPart n a
+HasPart-operand = operand_part
+
+pub HasPart-near : (n : Node) (a : ℕ) → HasNear n a → HasPart n a
+HasPart-near = near_part
+
+abbrev then_or : ℕ → Node → ℕ
+then_or d (If s x y) = x
+then_or d _ = d
+
+-- a node that is a split
+split_node : (n : Node) → is_split n ≡ true → (t : ℕ) × (n ≡ Split t)
+split_node (Split t) e = (t, refl)
+split_node _ e = absurd (false≢true e)
+
+-- between two rows of an arm are rows of it
+InArm-between : (s x n i j k : ℕ) (b : Bool) → InArm s x n b i → InArm s x n b k → i ≤ j → j ≤ k → InArm s x n b j
+InArm-between s x n i j k true f g l m = (omega (arith, f.0), omega (arith, g.1))
+InArm-between s x n i j k false f g l m = (omega (arith, f.0), omega (arith, g.1))
+
+module _ (R : List Row) (t : IsTable R) where
+  -- a conditional is not the last row
+  pub if_not_last : (n s : ℕ) → IsIfOf R n s → n + 1 < length R
+  if_not_last n s c = not_last R t is_if refl n c.within (ap is_if c.node)
+
+  -- a row right in an arm's region is one of the arm
+  pub InArm-region : (n s i : ℕ) (b : Bool) (c : IsIfOf R n s) → i + 1 < length R → (at R i).region ≡ arm_at s b → InArm s c.then n b i
+  InArm-region n s i b c l e = elim (t.region i l) [
+    | inl k ↦
+        let same : (at R i).block ≡ s = ap (λ (r : Region). r.head) (sym k ∙ e) in
+        let z = t.split_of n s c in
+        absurd (differs is_split (at R s).node Head (ap is_split z.node) refl (ap (λ j. (at R j).node) (sym same) ∙ (t.block i l).1))
+    | inr k ↦
+        let one : k.split ≡ s = ap (λ (r : Region). r.head) (sym k.region ∙ e) in
+        let side : k.side ≡ b = ap (λ (r : Region). r.side) (sym k.region ∙ e) in
+        in_this k.split k.row k.side one side k.conditional k.among
+  ]
+    where
+      in_this : (u m : ℕ) (a : Bool) → u ≡ s → a ≡ b → (d : IsIfOf R m u) → InArm u d.then m a i → InArm s c.then n b i
+      in_this u m a one side d among =
+          let row : m ≡ n = t.one_if m n s (subst (IsIfOf R m) one d) c in
+          let arm : d.then ≡ c.then = ap (then_or 0) (sym d.node ∙ ap (λ j. (at R j).node) row ∙ c.node) in
+          subst (λ x. InArm s x n b i) arm
+          (subst (λ j. InArm s d.then j b i) row (subst (λ y. InArm s d.then m y i) side (subst (λ j. InArm j d.then m a i) one among)))
+
+  -- an arm stands between the split and the conditional
+  pub InArm-within : (n s i : ℕ) (b : Bool) (c : IsIfOf R n s) → InArm s c.then n b i → (s < i) × (i < n)
+  InArm-within n s i true c h = let a = t.arms n s c in (h.0, omega (arith, h.1, a.next, a.ends))
+  InArm-within n s i false c h = let a = t.arms n s c in (omega (arith, h.0, a.low), h.1)
+
+  -- each row between them is one of an arm
+  pub InArm-either : (n s i : ℕ) (c : IsIfOf R n s) → s < i → i < n → (b : Bool) × InArm s c.then n b i
+  InArm-either n s i c l m = elim (cases_lt c.then i) [ inl k ↦ (false, (k, m)) | inr k ↦ (true, (l, k)) ]
+
+  -- and none of both
+  pub InArm-apart : (n s i : ℕ) (c : IsIfOf R n s) → InArm s c.then n true i → InArm s c.then n false i → ⊥
+  InArm-apart n s i c f g = omega (arith, f.1, g.0)
+
+  module _ (n s : ℕ) (b : Bool) (c : IsIfOf R n s) where
+    lies-row : {r : Region} → Lies R (arm_at s b) r → (i : ℕ) → i + 1 < length R → (at R i).region ≡ r → InArm s c.then n b i
+    lies-row here i l e = InArm-region n s i b c l e
+    lies-row (in_arm {s = u} {b = a} w is m) i l e =
+        let z = split_node (at R u).node is in
+        let d = t.has_if u z.0 w z.1 in
+        let inner = InArm-within d.0 u i a d.1 (InArm-region d.0 u i a d.1 l e) in
+        let from = lies-row m u (omega (arith, inner.0, l)) refl in
+        let to = lies-row m d.0 (if_not_last d.0 u d.1) (sym (t.split_of d.0 u d.1).region) in
+        InArm-between s c.then n u i d.0 b from to (omega (arith, inner.0)) (omega (arith, inner.1))
+
+    -- a row that stands in an arm's region or further in is one of the arm
+    pub InArm-lies : (i : ℕ) → i + 1 < length R → Lies R (arm_at s b) (at R i).region → InArm s c.then n b i
+    InArm-lies i l m = lies-row m i l refl
+
+    -- a conditional in an arm ends there, as its split stands there
+    pub InArm-inner : (m u : ℕ) → IsIfOf R m u → InArm s c.then n b u → InArm s c.then n b m
+    InArm-inner m u d h =
+        let same = (t.split_of m u d).region in
+        InArm-lies m (if_not_last m u d) (subst (Lies R (arm_at s b)) same ((t.arms n s c).each b u h))
+
+    -- a region that a split stands in does not lie in its arms
+    pub Lies-split : Lies R (arm_at s b) (at R s).region → ⊥
+    Lies-split m =
+        let z = t.split_of n s c in
+        let p = (t.formed.each n c.within).parts s (subst (λ x. HasPart x s) (sym c.node) (inl refl)) in
+        let h = InArm-within n s s b c (InArm-lies s (omega (arith, p.1, c.within)) m) in
+        omega (arith, h.0)
+
+  -- what stands where the split of a conditional does, or further out, stands before the arms or behind them
+  pub outside_arms : (n s i : ℕ) → IsIfOf R n s → Lies R (at R i).region (at R s).region → (i ≤ s) ⊎ (n ≤ i)
+  outside_arms n s i c m = elim (cases_lt s i) [
+    | inr k ↦ inl k
+    | inl k ↦ elim (cases_lt i n) [
+      | inr l ↦ inr l
+      | inl l ↦ let a = InArm-either n s i c k l in
+          absurd (Lies-split n s a.0 c (Lies-both R ((t.arms n s c).each a.0 i a.1) m))
+    ]
+  ]
+
+  -- an expression that another turns on stands where that does
+  pub Turns-stands : (n a : ℕ) → n < length R → Turns R n a → (at R a).region ≡ (at R n).region
+  Turns-stands n a l (operand e) = (t.part_stands n a l (subst (λ m. HasNear m a) (sym e) refl)).1
+  Turns-stands n a l (left e) = (t.part_stands n a l (subst (λ m. HasNear m a) (sym e) (inl refl))).1
+  Turns-stands n a l (right e) = (t.part_stands n a l (subst (λ m. HasNear m a) (sym e) (inr refl))).1
+  Turns-stands n a l (test {s} e f) =
+      let p = (t.formed.each n l).parts s (subst (λ m. HasPart m s) (sym e) (inl refl)) in
+      (t.part_stands s a (omega (arith, p.1, l)) (subst (λ m. HasNear m a) (sym f) refl)).1
+      ∙ (t.part_stands n s l (subst (λ m. HasNear m s) (sym e) refl)).1
+  Turns-stands n a l (body e) = (t.part_stands n a l (subst (λ m. HasNear m a) (sym e) refl)).1
+  Turns-stands n a l (statement {m} s e) =
+      let w = around-within R n m s.inside in
+      (t.part_stands m a (omega (arith, w.1, l)) (subst (λ m. HasNear m a) (sym e) refl)).1 ∙ (t.statement_stands n m l s).1
+
+  -- a root of a region stands right in it
+  pub Root-stands : (r : Region) (e : ℕ) → Root R r e → (at R e).region ≡ r
+  Root-stands r e (of_procedure {n} {x} {h} {b} {k} l d) =
+      let p = (t.formed.each n l).parts h (subst (λ m. HasPart m h) (sym d) (inl refl)) in
+      let head = (t.head_is n x h b k l d).0 in
+      let within : h < length R = omega (arith, p.1, l) in
+      let body = (t.part_stands n b l (subst (λ m. HasNear m b) (sym d) (inr refl))).1 in
+      let own = (t.part_stands n h l (subst (λ m. HasNear m h) (sym d) (inl refl))).1 in
+      body ∙ sym own ∙ t.at_top h within (ap is_top head) ∙ ap top (t.head_block h within head)
+  Root-stands r e (of_then {n} {s} {x} {y} l d) = (t.arms n s (record { then = x; otherwise = y; within = l; node = d })).then_stands
+  Root-stands r e (of_otherwise {n} {s} {x} {y} l d) = (t.arms n s (record { then = x; otherwise = y; within = l; node = d })).otherwise_stands
+
+  -- an expression that is turned on with a region stands right in it
+  pub TurnedIn-stands : (r : Region) (e : ℕ) → TurnedIn R r e → (at R e).region ≡ r
+  TurnedIn-stands r e (root x) = Root-stands r e x
+  TurnedIn-stands r e (part {n} u l x) = Turns-stands n e l x ∙ TurnedIn-stands r n u

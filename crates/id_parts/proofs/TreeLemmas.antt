@@ -1,0 +1,35 @@
+-- The tree of a program is one.
+use Rattle.std.proofs.Common.{List, [], ◌∷◌}
+use Rattle.id_tree.specs.declared.tree.Expr.{Expr, Literal, Unary', Binary', Name, If', Block', Row_of-Stmt, end_of-Stmt, more_of-Stmt}
+use Rattle.id_tree.specs.declared.tree.Stmt.{Binding}
+use Rattle.id_tree.specs.declared.tree.Param.{Param}
+use Rattle.id_tree.specs.declared.tree.Def.{Def}
+use Rattle.id_tree.specs.declared.tree.Program.{Program}
+use Rattle.id_tree.specs.Tree.{tree_of, row_tree, params_tree, defs_tree, program_tree}
+use Rattle.id_parts.specs.Trees.{IsTree, IsProgramTree, Expression, Statements, Params, Defs, by_literal, by_unary, by_binary, by_name, by_conditional}
+use Rattle.id_parts.specs.Trees.{by_block, no_statements, more_statements, no_params, more_params, no_defs, more_defs}
+
+mutual
+  pub IsTree-tree_of : (e : Expr) → IsTree Expression (tree_of e)
+  IsTree-tree_of (Literal value place) = by_literal
+  IsTree-tree_of (Unary' op p operand place) = by_unary (IsTree-tree_of operand)
+  IsTree-tree_of (Binary' op p left q right place) = by_binary (IsTree-tree_of left) (IsTree-tree_of right)
+  IsTree-tree_of (Name x place) = by_name
+  IsTree-tree_of (If' p test q then r otherwise place) = by_conditional (IsTree-tree_of test) (IsTree-tree_of then) (IsTree-tree_of otherwise)
+  IsTree-tree_of (Block' n statements p body place) = by_block (IsTree-row_tree statements) (IsTree-tree_of body)
+
+  IsTree-row_tree : {n : _} (ss : Row_of-Stmt n) → IsTree Statements (row_tree ss)
+  IsTree-row_tree end_of-Stmt = no_statements
+  IsTree-row_tree (more_of-Stmt (Binding x value place) rest) = more_statements (IsTree-tree_of value) (IsTree-row_tree rest)
+
+IsTree-params_tree : (ps : List Param) → IsTree Params (params_tree ps)
+IsTree-params_tree [] = no_params
+IsTree-params_tree (x ∷ xs) = more_params (IsTree-params_tree xs)
+
+IsTree-defs_tree : (ds : List Def) → IsTree Defs (defs_tree ds)
+IsTree-defs_tree [] = no_defs
+IsTree-defs_tree (d ∷ ds) = more_defs (IsTree-params_tree d.params) (IsTree-tree_of d.body) (IsTree-defs_tree ds)
+
+-- the tree of a program is one
+pub IsProgramTree-program_tree : (p : Program) → IsProgramTree (program_tree p)
+IsProgramTree-program_tree p = IsTree-defs_tree p.defs

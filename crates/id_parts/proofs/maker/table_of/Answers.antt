@@ -1,0 +1,21 @@
+use Rattle.std.proofs.Common.{◌≡◌, sym, ap, ◌∙◌, subst}
+use Rattle.id_tree.specs.Tree.{program_tree}
+use Rattle.id_parts.specs.Rows.{Parts, parts_of, rows_of}
+use Rattle.id_parts.specs.Tables.{AreNamed, IsFormed, IsNested}
+use Rattle.id_parts.proofs.NumbersLemmas.{AreNamed-parts_of}
+use Rattle.id_parts.proofs.TableLemmas.{IsTable-rows_of}
+use Rattle.id_parts.proofs.TreeLemmas.{IsProgramTree-program_tree}
+use Rattle.id_parts.proofs.maker.table_of.Goals as goal
+
+pub invariant_of-result : goal.invariant_of-result
+invariant_of-result c =
+    let t = program_tree c.args.program.now in
+    let rows : c.add_program.new.self.rows.items ≡ rows_of t = ap (λ (T : Parts). T.rows) (c.in_ok-add_program.ensures c.in_ok-maker.ensures) in
+    let table = IsTable-rows_of t (IsProgramTree-program_tree c.args.program.now) in
+    let names : c.in_ok-names.names.items ≡ (parts_of t).names = c.in_ok-names.ensures
+    ∙ ap (λ (T : Parts). T.names) (c.in_ok-add_program.ensures c.in_ok-maker.ensures) in
+    record {
+      formed = subst IsFormed (sym rows) table.formed;
+      nested = subst IsNested (sym rows) table.nested;
+      named = subst (λ R. AreNamed R c.in_ok-names.names.items) (sym rows) (subst (AreNamed (rows_of t)) (sym names) (AreNamed-parts_of t));
+    }

@@ -1,0 +1,9 @@
+-- What public clauses cite.
+pub mod Names
+pub mod Rows
+pub mod Tables
+pub mod Regions
+pub mod Trees
+pub mod Turns
+-- For the proof of `table_of` alone.
+pub mod Making

@@ -1,0 +1,27 @@
+-- What the maker of the table has made so far.
+use Rattle.std.specs.Prelude.{◌≡◌, ℕ, List, [], ◌∷◌}
+use Rattle.std.specs.Borrow.{Bor}
+use Rattle.id_tree.specs.declared.tree.Stmt.{Stmt}
+use Rattle.id_tree.specs.Tree.{Tree, none, more, stmt_tree}
+use Rattle.id_parts.specs.declared.maker.Maker.{Maker}
+use Rattle.id_parts.specs.Names.{first_names}
+use Rattle.id_parts.specs.Rows.{Parts}
+
+-- the texts that the references point to
+abbrev pub texts : List (Bor (List ℕ)) → List (List ℕ)
+texts [] = []
+texts (k ∷ ks) = k.now ∷ texts ks
+
+-- the rows and the names that the maker has
+abbrev pub parts : Maker → Parts
+parts m = record { rows = m.rows.items; names = texts m.numbers.keys }
+
+-- the maker has no rows yet
+pub record IsStart (m : Maker) : Type 0 where
+  pub rows : m.rows.items ≡ []
+  pub names : texts m.numbers.keys ≡ first_names
+
+-- the trees of statements, in order
+abbrev pub stmts_tree : List Stmt → Tree
+stmts_tree [] = none
+stmts_tree (s ∷ ss) = more (stmt_tree s) (stmts_tree ss)

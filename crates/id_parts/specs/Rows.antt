@@ -1,0 +1,102 @@
+-- The table of parts of a tree: one clause for each form (docs/GRAPH.md, "Parts").
+use Rattle.std.specs.Prelude.{ℕ, ◌-◌, Bool, List, [], ◌∷◌, ◌++◌, length, get_or, true, false}
+use Rattle.id_parts.specs.declared.row.Region.{Region}
+use Rattle.id_parts.specs.declared.row.Stand.{Stand}
+use Rattle.id_parts.specs.declared.row.Row.{Row}
+use Rattle.id_parts.specs.declared.row.Node.{Node}
+use Rattle.id_parts.specs.declared.row.Node.TheVariants.{Head, Param, Literal, Name, Unary, Binary}
+use Rattle.id_parts.specs.declared.row.Node.TheVariants.{Split, If, Block, Binding, Def, Program}
+use Rattle.id_tree.specs.Tree.{Tree, literal, unary, binary, name, conditional, block, binding, param, define}
+use Rattle.id_tree.specs.Tree.{none, more}
+use Rattle.id_parts.specs.Names.{number_of, with_name, first_names}
+
+-- rows, and the names in them by their numbers
+pub record Parts : Type 0 where
+  pub rows : List Row
+  pub names : List (List ℕ)
+
+-- the region of a procedure's body
+abbrev pub top : ℕ → Region
+top h = record { head = h; side = true }
+
+-- what stands past the end of a table
+abbrev pub no_row : Row
+no_row = record { place = 0; first = 0; block = 0; region = record { head = 0; side = false }; value = 0; node = Head }
+
+-- the row of a number
+abbrev pub at : List Row → ℕ → Row
+at R i = get_or R i no_row
+
+-- in the body of the procedure with this head
+abbrev pub in_top : ℕ → Stand
+in_top h = record { block = h; region = top h }
+
+-- this side of the split at the row n: the region of an arm
+abbrev pub arm_at : ℕ → Bool → Region
+arm_at n b = record { head = n; side = b }
+
+-- in this arm of a conditional that stands in s, whose split is at the row n
+abbrev pub arm : Stand → ℕ → Bool → Stand
+arm s n b = record { block = s.block; region = arm_at n b }
+
+-- the number of rows, which the next row gets
+abbrev pub size : Parts → ℕ
+size T = length T.rows
+
+-- the number of the last row
+abbrev pub last : Parts → ℕ
+last T = size T - 1
+
+-- the row that gives the value of the next row, which has this node
+abbrev pub value_of : List Row → Node → ℕ
+value_of R (Block b) = (at R b).value
+value_of R n = length R
+
+-- the table with one more row, of this place and node; its own parts are the rows from the number f on
+abbrev pub with_row : Parts → Stand → ℕ → ℕ → Node → Parts
+with_row T s p f n =
+    let v = value_of T.rows n in
+    let r : Row = record { place = p; first = f; block = s.block; region = s.region; value = v; node = n } in
+    record { rows = T.rows ++ r ∷ []; names = T.names }
+
+-- the table with this name among its names
+abbrev pub naming : Parts → List ℕ → Parts
+naming T x = record { rows = T.rows; names = with_name T.names x }
+
+-- the table with the rows of a tree, each behind those of its parts
+abbrev pub add : Stand → Parts → Tree → Parts
+add s T (literal v p) = with_row T s p (size T) (Literal v)
+add s T (unary o a p) = let U = add s T a in with_row U s p (size T) (Unary o (last U))
+add s T (binary o a b p) =
+    let U = add s T a in
+    let V = add s U b in
+    with_row V s p (size T) (Binary o (last U) (last V))
+add s T (name x p) = with_row (naming T x) s p (size T) (Name (number_of T.names x))
+add s T (conditional t x y p) =
+    let U = add s T t in
+    let n = size U in
+    let X = add (arm s n true) (with_row U s p (size T) (Split (last U))) x in
+    let Y = add (arm s n false) X y in
+    with_row Y s p (size T) (If n (last X) (last Y))
+add s T (block ss b p) = let V = add s (add s T ss) b in with_row V s p (size T) (Block (last V))
+add s T (binding x a p) =
+    let U = add s T a in
+    with_row (naming U x) s p (size T) (Binding (number_of U.names x) (last U))
+add s T (param x k p) = with_row (naming T x) s p (size T) (Param (number_of T.names x) k)
+add s T (define x ps k b p) =
+    let h = size T in
+    let H = with_row T (in_top h) p h Head in
+    let V = add (in_top h) (add (in_top h) H ps) b in
+    with_row (naming V x) (in_top h) p h (Def (number_of V.names x) h k (last V))
+add s T none = T
+add s T (more a b) = add s (add s T a) b
+
+-- the table of a program's tree
+abbrev pub parts_of : Tree → Parts
+parts_of t =
+    let T = add (in_top 0) (record { rows = []; names = first_names }) t in
+    with_row T (in_top 0) 0 0 Program
+
+-- its rows
+abbrev pub rows_of : Tree → List Row
+rows_of t = (parts_of t).rows

@@ -1,0 +1,122 @@
+-- What turns what on, and what stands where, in the table of a program's tree (docs/GRAPH.md, "Parts").
+use Rattle.std.specs.Prelude.{◌≡◌, ◌⊎◌, ◌<◌, ◌≤◌, ◌+◌, ◌-◌, ℕ, zero, suc, Bool, true, false, ◌&&◌, ◌||◌, nat_eq}
+use Rattle.std.specs.Prelude.{List, [], ◌∷◌, ◌++◌, length, if◌then◌else◌}
+use Rattle.id_list.specs.List.{Among}
+use Rattle.id_value.specs.declared.Kind.{Kind}
+use Rattle.id_parts.specs.declared.row.Region.{Region}
+use Rattle.id_parts.specs.declared.row.Row.{Row}
+use Rattle.id_parts.specs.declared.row.Node.TheVariants.{Head, Unary, Binary, Split, If, Block, Binding, Def, Program}
+use Rattle.id_parts.specs.Rows.{arm_at, at, top}
+use Rattle.id_parts.specs.Tables.{HasOperand, HasNear, IsFormed, IsNested, around}
+use Rattle.id_parts.specs.Tables.{is_binding, is_block, is_expression, is_head, is_param, is_top}
+use Rattle.id_parts.specs.Regions.{AreArms, IsIfOf, IsSplitOf, StandsInArm, StandsInside, StandsWith}
+
+-- whether one of the rows before s is a block round the row i
+abbrev pub in_block : List Row → ℕ → ℕ → Bool
+in_block R i zero = false
+in_block R i (suc s) = in_block R i s || (is_block (at R s).node && around R s i)
+
+-- the row b is a binding right in the block at the row s: no smaller block is round it
+pub record IsStatement (R : List Row) (s b : ℕ) : Type 0 where
+  pub block : is_block (at R s).node ≡ true
+  pub binding : is_binding (at R b).node ≡ true
+  pub inside : around R s b ≡ true
+  pub right : in_block R b s ≡ false
+
+-- an expression of this node that is On turns the expression at the row a on with it
+pub data Turns (R : List Row) (n : ℕ) : ℕ → Type 0 where
+  operand : {a : ℕ} {o : _} → (at R n).node ≡ Unary o a → Turns R n a
+  left : {a b : ℕ} {o : _} → (at R n).node ≡ Binary o a b → Turns R n a
+  right : {a b : ℕ} {o : _} → (at R n).node ≡ Binary o a b → Turns R n b
+  test : {s x y t : ℕ} → (at R n).node ≡ If s x y → (at R s).node ≡ Split t → Turns R n t
+  body : {b : ℕ} → (at R n).node ≡ Block b → Turns R n b
+  statement : {m x a : ℕ} → IsStatement R n m → (at R m).node ≡ Binding x a → Turns R n a
+
+-- the expression at the row is a root of the region: it is turned on with the region itself
+pub data Root (R : List Row) : Region → ℕ → Type 0 where
+  of_procedure : {n x h b : ℕ} {k : Kind} → n < length R → (at R n).node ≡ Def x h k b → Root R (top h) b
+  of_then : {n s x y : ℕ} → n < length R → (at R n).node ≡ If s x y → Root R (arm_at s true) x
+  of_otherwise : {n s x y : ℕ} → n < length R → (at R n).node ≡ If s x y → Root R (arm_at s false) y
+
+-- the expression at the row is turned on wherever the region is live
+pub data TurnedIn (R : List Row) (r : Region) : ℕ → Type 0 where
+  root : {e : ℕ} → Root R r e → TurnedIn R r e
+  part : {n e : ℕ} → TurnedIn R r n → n < length R → Turns R n e → TurnedIn R r e
+
+-- the rows of the parameters of the procedure with this head, among the first n rows, in order
+abbrev pub params_below : List Row → ℕ → ℕ → List ℕ
+params_below R h zero = []
+params_below R h (suc i) =
+    if is_param (at R i).node && nat_eq (at R i).block h then params_below R h i ++ i ∷ [] else params_below R h i
+
+-- the rows of the parameters of the procedure with this head, in order
+abbrev pub params_at : List Row → ℕ → List ℕ
+params_at R h = params_below R h (length R)
+
+-- the heads of the blocks among the first n rows: those of the procedures, in order of definition
+abbrev pub heads_below : List Row → ℕ → List ℕ
+heads_below R zero = []
+heads_below R (suc i) = if is_head (at R i).node then heads_below R i ++ i ∷ [] else heads_below R i
+
+-- the heads of the blocks
+abbrev pub heads_of : List Row → List ℕ
+heads_of R = heads_below R (length R)
+
+-- each number of the list is below those behind it
+abbrev pub Rising : List ℕ → Type 0
+Rising [] = Unit {0}
+Rising (i ∷ is) = ((j : ℕ) → Among j is → i < j) × Rising is
+
+-- the definition at the row n has the head h
+pub record IsDefOf (R : List Row) (n h : ℕ) : Type 0 where
+  pub name : ℕ
+  pub result : Kind
+  pub body : ℕ
+  pub within : n < length R
+  pub node : (at R n).node ≡ Def name h result body
+
+-- a table of a program's tree
+pub record IsTable (R : List Row) : Type 0 where
+  pub formed : IsFormed R
+  pub nested : IsNested R
+  -- the last row is `Program`, and it alone
+  pub ends : (at R (length R - 1)).node ≡ Program
+  pub ends_once : (i : ℕ) → i < length R → (at R i).node ≡ Program → i + 1 ≡ length R
+  pub some : zero < length R
+  -- each row but the last stands in the block of a head, and there right in the block's region or in an arm
+  pub block : (i : ℕ) → i + 1 < length R → ((at R i).block ≤ i) × ((at R (at R i).block).node ≡ Head)
+  pub region : (i : ℕ) → i + 1 < length R → ((at R i).region ≡ top (at R i).block) ⊎ StandsInArm R i
+  pub at_top : (i : ℕ) → i < length R → is_top (at R i).node ≡ true → (at R i).region ≡ top (at R i).block
+  pub head_block : (h : ℕ) → h < length R → (at R h).node ≡ Head → (at R h).block ≡ h
+  -- a row's parts stand where it does, save the arms of a conditional, and so do the bindings of a block
+  pub part_stands : (n a : ℕ) → n < length R → HasNear (at R n).node a → StandsWith R n a
+  pub statement_stands : (s b : ℕ) → s < length R → IsStatement R s b → StandsWith R s b
+  -- what stands in a row that is not the last stands where it does, or further in
+  pub inside : (n i : ℕ) → n + 1 < length R → around R n i ≡ true → StandsInside R n i
+  -- the parts that a row names are expressions, save the head of a definition and the split of a conditional
+  pub operand_is : (n a : ℕ) → n < length R → HasOperand (at R n).node a → is_expression (at R a).node ≡ true
+  pub head_is : (n x h b : ℕ) (k : Kind) → n < length R → (at R n).node ≡ Def x h k b
+      → ((at R h).node ≡ Head) × ((at R n).first ≡ h) × (is_expression (at R b).node ≡ true)
+  -- each head has one definition, whose place it has
+  pub has_def : (h : ℕ) → h < length R → (at R h).node ≡ Head → (n : ℕ) × IsDefOf R n h
+  pub head_place : (n h : ℕ) → IsDefOf R n h → (at R h).place ≡ (at R n).place
+  -- a row that is not the last stands before the definition of its block, or is it
+  pub def_of : (i : ℕ) → i + 1 < length R → (n : ℕ) × IsDefOf R n (at R i).block × (i ≤ n)
+  pub one_def : (n m h : ℕ) → IsDefOf R n h → IsDefOf R m h → n ≡ m
+  -- each split has one conditional, which stands with it, behind the arms
+  pub has_if : (s t : ℕ) → s < length R → (at R s).node ≡ Split t → (n : ℕ) × IsIfOf R n s
+  pub one_if : (n m s : ℕ) → IsIfOf R n s → IsIfOf R m s → n ≡ m
+  pub split_of : (n s : ℕ) → IsIfOf R n s → IsSplitOf R s n
+  pub arms : (n s : ℕ) (c : IsIfOf R n s) → AreArms R s c.then c.otherwise n
+  -- a block's value is its body's, any other row's is itself; what gives a value is an expression that is no block,
+  -- and stands where the row does
+  pub value_block : (n b : ℕ) → n < length R → (at R n).node ≡ Block b → (at R n).value ≡ (at R b).value
+  pub value_self : (n : ℕ) → n < length R → is_block (at R n).node ≡ false → (at R n).value ≡ n
+  pub value_stands : (n : ℕ) → n < length R → is_expression (at R n).node ≡ true
+      → ((at R n).value ≤ n) × (is_expression (at R (at R n).value).node ≡ true)
+      × (is_block (at R (at R n).value).node ≡ false)
+      × ((at R (at R n).value).region ≡ (at R n).region) × ((at R (at R n).value).block ≡ (at R n).block)
+  -- each expression is turned on with its region, and each binding stands right in a block
+  pub turned : (n : ℕ) → n < length R → is_expression (at R n).node ≡ true → TurnedIn R (at R n).region n
+  pub in_a_block : (b : ℕ) → b < length R → is_binding (at R b).node ≡ true
+      → (s : ℕ) × (s < length R) × IsStatement R s b

@@ -1,0 +1,32 @@
+//! The parts of a program as one flat table, made once from its tree.
+//!
+//! Keeps: each part stands before its row, within the row's interval; the intervals nest.
+//! Errors: want of memory alone.
+//! Read first: `Node` (which forms have which rows), `specs/Rows.antt`, then `table_of`; docs/GRAPH.md ("Parts").
+//! Not here: the tree (`id_tree`), binders and kinds (`id_check`).
+//!
+//! Rows stand in the order in which the text finishes its parts; a **marker** row stands wherever a region or a
+//! scope begins that has no row of its own, or where instructions are made between parts. A row's own parts are
+//! the rows from `first` up to it. The rows of each form, those of later forms settled beforehand:
+//!
+//! | Form | Its rows, in order |
+//! |---|---|
+//! | definition | `Head`, a `Param` each, the body's rows, `Def` |
+//! | literal, name, unary, binary | the parts' rows, then its own |
+//! | block | each statement's rows, the body's rows, `Block` |
+//! | binding | its expression's rows, `Binding` |
+//! | conditional | the predicate's rows, `Split`, the `then` arm's, the `else` arm's, `If` |
+//! | call | `Enter`, for each argument its rows and `Arg`, then `Call` |
+//! | array | lo, hi, `Array` |
+//! | fetch | target, index, `Fetch` |
+//! | store | target, index, `Address`, value, `Store` |
+//! | loop | `Start`, `LoopHead`, a `Variable` each, `Entries`, predicate, `Switches`, `Turn`, the body's rows with a
+//! `NextUse`, an expression and a `Next` for each `next`, `finally`, `Reset`, `Loop` |
+//! | program | the definitions' rows, then `Program` |
+#![tactic(auto)]
+
+mod maker;
+mod row;
+
+pub use maker::table_of;
+pub use row::{Node, Region, Row, Table};

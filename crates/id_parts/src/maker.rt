@@ -1,0 +1,356 @@
+//! The maker of the table: one walk over the tree, in which a name gets its number where it first stands.
+
+ghost use Rattle.std.specs.Prelude.{ℕ, ◌≡◌, ◌+◌, ◌++◌, ◌∷◌, [], length, map, IfOk, OnOk};
+ghost use Rattle.id_tree.specs.Tree.{unary, binary, name as name_tree, conditional, block, binding};
+ghost use Rattle.id_tree.specs.Tree.{tree_of, params_tree, def_tree, defs_tree, program_tree};
+ghost use Rattle.id_parts.specs.Names.{number_of, with_name};
+ghost use Rattle.id_parts.specs.Rows.{arm, in_top, value_of, with_row, add, parts_of, rows_of};
+ghost use Rattle.id_parts.specs.Making.{parts, texts, stmts_tree, IsStart};
+
+use crate::row::{Node, Region, Row, Stand, Table};
+use id_text::Identifier;
+use id_tree::{Def, Expr, Param, Program, Stmt};
+use id_value::{BinaryOp, UnaryOp};
+use indexmap::IndexSet;
+use std::alloc::{AllocError, Global};
+
+/// The rows so far, and the names in them, each once. After an error neither is of use.
+#[derive(Drop)]
+pub struct Maker<'a> {
+    pub rows: Vec<Row>,
+    pub numbers: IndexSet<&'a str>,
+}
+
+/// The table of the program.
+pub fn table_of(alloc: Global, program: &Program) -> Result<Table, AllocError>
+    ensures rows { IfOk result (λ t. t.rows.items ≡ rows_of (program_tree program.now)) }
+    ensures names { IfOk result (λ t. t.names.items ≡ (parts_of (program_tree program.now)).names) }
+{
+    let mut maker = Maker::new(alloc)?;
+    maker.add_program(program)?;
+    let names = copy_names(alloc, &maker.numbers)?;
+    let Maker { rows, .. } = maker;
+    Ok(Table { rows, names })
+}
+
+/// The names of the set, in order.
+fn copy_names(alloc: Global, numbers: &IndexSet<&str>) -> Result<Vec<Identifier>, AllocError>
+    ensures { IfOk result (λ names. names.items ≡ texts numbers.now.keys) }
+{
+    let mut names = Vec::new(alloc);
+    for name in numbers.iter() {
+        names.push(Identifier::new(String::from_str(alloc, name)?))?;
+    }
+    Ok(names)
+}
+
+/// Where the body of the procedure with this head stands.
+fn stand_in(head: usize) -> Stand
+    ensures { result ≡ in_top head }
+{
+    Stand {
+        block: head,
+        region: Region { head, side: true },
+    }
+}
+
+/// Where this arm of a conditional stands, whose switches are at the row `split`.
+fn in_arm(stand: Stand, split: usize, side: bool) -> Stand
+    ensures { result ≡ arm stand split side }
+{
+    Stand {
+        block: stand.block,
+        region: Region { head: split, side },
+    }
+}
+
+impl<'a> Maker<'a> {
+    /// No rows, and the name `main`.
+    fn new(alloc: Global) -> Result<Maker<'a>, AllocError>
+        ensures { IfOk result IsStart }
+    {
+        let mut numbers = IndexSet::new(alloc);
+        numbers.insert("main")?;
+        Ok(Maker {
+            rows: Vec::new(alloc),
+            numbers,
+        })
+    }
+
+    /// The number of the name, which is new where it did not stand before.
+    fn number(&mut self, name: &'a Identifier) -> Result<usize, AllocError>
+        ensures number { IfOk result (λ n. n ≡ number_of (texts self.old.numbers.keys) name.now) }
+        ensures names { OnOk result (texts self.new.numbers.keys ≡ with_name (texts self.old.numbers.keys) name.now) }
+        ensures rows { self.new.rows ≡ self.old.rows }
+    {
+        let (number, _) = self.numbers.insert_full(name.as_str())?;
+        Ok(number)
+    }
+
+    /// The row that gives the value of the next row, which has this node.
+    fn value_of(&self, node: Node) -> usize
+        ensures { result ≡ value_of self.now.rows.items node }
+    {
+        match node {
+            Node::Block { body } => match self.rows.get(body) {
+                Some(row) => row.value,
+                None => 0,
+            },
+            _ => self.rows.len(),
+        }
+    }
+
+    /// Adds a row, and gives its number.
+    fn push(
+        &mut self,
+        stand: Stand,
+        place: usize,
+        first: usize,
+        node: Node,
+    ) -> Result<usize, AllocError>
+        ensures added { OnOk result (parts self.new ≡ with_row (parts self.old) stand place first node) }
+        ensures number { IfOk result (λ i. i + 1 ≡ length self.new.rows.items) }
+    {
+        let number = self.rows.len();
+        let value = self.value_of(node);
+        self.rows.push(Row {
+            place,
+            first,
+            block: stand.block,
+            region: stand.region,
+            value,
+            node,
+        })?;
+        Ok(number)
+    }
+
+    /// Adds the rows of the definitions, and the last row.
+    fn add_program(&mut self, program: &'a Program) -> Result<(), AllocError>
+        ensures { OnOk result (IsStart self.old → parts self.new ≡ parts_of (program_tree program.now)) }
+    {
+        self.add_defs(program.defs.as_slice())?;
+        self.push(stand_in(0), 0, 0, Node::Program)?;
+        Ok(())
+    }
+
+    fn add_defs(&mut self, defs: &'a [Def]) -> Result<(), AllocError>
+        ensures { OnOk result (parts self.new ≡ add (in_top 0) (parts self.old) (defs_tree defs.now)) }
+    {
+        for def in defs {
+            self.add_def(def)?;
+        }
+        Ok(())
+    }
+
+    fn add_def(&mut self, def: &'a Def) -> Result<(), AllocError>
+        ensures { OnOk result (parts self.new ≡ add (in_top 0) (parts self.old) (def_tree def.now)) }
+    {
+        let head = self.rows.len();
+        let stand = stand_in(head);
+        self.push(stand, def.place, head, Node::Head)?;
+        self.add_params(stand, def.params.as_slice())?;
+        let body = self.add_expr(stand, &def.body)?;
+        let name = self.number(&def.name)?;
+        self.push(
+            stand,
+            def.place,
+            head,
+            Node::Def {
+                name,
+                head,
+                result: def.result,
+                body,
+            },
+        )?;
+        Ok(())
+    }
+
+    fn add_params(&mut self, stand: Stand, params: &'a [Param]) -> Result<(), AllocError>
+        ensures { OnOk result (parts self.new ≡ add stand (parts self.old) (params_tree params.now)) }
+    {
+        for param in params {
+            self.add_param(stand, param)?;
+        }
+        Ok(())
+    }
+
+    fn add_param(&mut self, stand: Stand, param: &'a Param) -> Result<(), AllocError>
+        ensures { OnOk result (parts self.new ≡ add stand (parts self.old) (params_tree (param.now ∷ []))) }
+    {
+        let first = self.rows.len();
+        let name = self.number(&param.name)?;
+        self.push(
+            stand,
+            param.place,
+            first,
+            Node::Param {
+                name,
+                kind: param.kind,
+            },
+        )?;
+        Ok(())
+    }
+
+    /// Adds the rows of an expression, and gives the number of its own.
+    #[cycle(add)]
+    fn add_expr(&mut self, stand: Stand, expr: &'a Expr) -> Result<usize, AllocError>
+        ensures added { OnOk result (parts self.new ≡ add stand (parts self.old) (tree_of expr.now)) }
+        ensures number { IfOk result (λ i. i + 1 ≡ length self.new.rows.items) }
+    {
+        match expr {
+            Expr::Literal { value, place } => {
+                let first = self.rows.len();
+                self.push(stand, *place, first, Node::Literal { value: *value })
+            }
+            Expr::Name { name, place } => self.add_name(stand, name, *place),
+            Expr::Unary { op, operand, place } => self.add_unary(stand, *op, operand, *place),
+            Expr::Binary {
+                op,
+                left,
+                right,
+                place,
+            } => self.add_binary(stand, *op, left, right, *place),
+            Expr::If {
+                test,
+                then,
+                otherwise,
+                place,
+            } => self.add_conditional(stand, test, then, otherwise, *place),
+            Expr::Block {
+                statements,
+                body,
+                place,
+            } => self.add_block(stand, statements, body, *place),
+        }
+    }
+
+    fn add_name(
+        &mut self,
+        stand: Stand,
+        name: &'a Identifier,
+        place: usize,
+    ) -> Result<usize, AllocError>
+        ensures added { OnOk result (parts self.new ≡ add stand (parts self.old) (name_tree name.now place)) }
+        ensures number { IfOk result (λ i. i + 1 ≡ length self.new.rows.items) }
+    {
+        let first = self.rows.len();
+        let name = self.number(name)?;
+        self.push(stand, place, first, Node::Name { name })
+    }
+
+    #[cycle(add)]
+    fn add_unary(
+        &mut self,
+        stand: Stand,
+        op: UnaryOp,
+        operand: &'a Expr,
+        place: usize,
+    ) -> Result<usize, AllocError>
+        ensures added { OnOk result (parts self.new
+            ≡ add stand (parts self.old) (unary op (tree_of operand.now) place)) }
+        ensures number { IfOk result (λ i. i + 1 ≡ length self.new.rows.items) }
+    {
+        let first = self.rows.len();
+        let operand = self.add_expr(stand, operand)?;
+        self.push(stand, place, first, Node::Unary { op, operand })
+    }
+
+    #[cycle(add)]
+    fn add_binary(
+        &mut self,
+        stand: Stand,
+        op: BinaryOp,
+        left: &'a Expr,
+        right: &'a Expr,
+        place: usize,
+    ) -> Result<usize, AllocError>
+        ensures added { OnOk result (parts self.new
+            ≡ add stand (parts self.old) (binary op (tree_of left.now) (tree_of right.now) place)) }
+        ensures number { IfOk result (λ i. i + 1 ≡ length self.new.rows.items) }
+    {
+        let first = self.rows.len();
+        let left = self.add_expr(stand, left)?;
+        let right = self.add_expr(stand, right)?;
+        self.push(stand, place, first, Node::Binary { op, left, right })
+    }
+
+    #[cycle(add)]
+    fn add_conditional(
+        &mut self,
+        stand: Stand,
+        test: &'a Expr,
+        then: &'a Expr,
+        otherwise: &'a Expr,
+        place: usize,
+    ) -> Result<usize, AllocError>
+        ensures added { OnOk result (parts self.new ≡ add stand (parts self.old)
+            (conditional (tree_of test.now) (tree_of then.now) (tree_of otherwise.now) place)) }
+        ensures number { IfOk result (λ i. i + 1 ≡ length self.new.rows.items) }
+    {
+        let first = self.rows.len();
+        let test = self.add_expr(stand, test)?;
+        let split = self.push(stand, place, first, Node::Split { test })?;
+        let then = self.add_expr(in_arm(stand, split, true), then)?;
+        let otherwise = self.add_expr(in_arm(stand, split, false), otherwise)?;
+        self.push(
+            stand,
+            place,
+            first,
+            Node::If {
+                split,
+                then,
+                otherwise,
+            },
+        )
+    }
+
+    #[cycle(add)]
+    fn add_block(
+        &mut self,
+        stand: Stand,
+        statements: &'a [Stmt],
+        body: &'a Expr,
+        place: usize,
+    ) -> Result<usize, AllocError>
+        ensures added { OnOk result (parts self.new
+            ≡ add stand (parts self.old) (block (stmts_tree statements.now) (tree_of body.now) place)) }
+        ensures number { IfOk result (λ i. i + 1 ≡ length self.new.rows.items) }
+    {
+        let first = self.rows.len();
+        self.add_statements(stand, statements)?;
+        let body = self.add_expr(stand, body)?;
+        self.push(stand, place, first, Node::Block { body })
+    }
+
+    #[cycle(add)]
+    fn add_statements(&mut self, stand: Stand, statements: &'a [Stmt]) -> Result<(), AllocError>
+        ensures { OnOk result (parts self.new ≡ add stand (parts self.old) (stmts_tree statements.now)) }
+    {
+        for statement in statements {
+            match statement {
+                Stmt::Binding { name, value, place } => self.add_binding(
+                    stand, name, value, *place,
+                )?,
+            }
+        }
+        Ok(())
+    }
+
+    #[cycle(add)]
+    fn add_binding(
+        &mut self,
+        stand: Stand,
+        name: &'a Identifier,
+        value: &'a Expr,
+        place: usize,
+    ) -> Result<(), AllocError>
+        ensures { OnOk result (parts self.new
+            ≡ add stand (parts self.old) (binding name.now (tree_of value.now) place)) }
+    {
+        let first = self.rows.len();
+        let value = self.add_expr(stand, value)?;
+        let name = self.number(name)?;
+        self.push(stand, place, first, Node::Binding { name, value })?;
+        Ok(())
+    }
+}

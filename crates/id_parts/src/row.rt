@@ -1,0 +1,99 @@
+//! Rows and the table that they stand in.
+
+ghost use Rattle.std.proofs.Props.{props};
+ghost use Rattle.id_parts.specs.Tables.{AreNamed, IsFormed, IsNested};
+
+use id_text::Identifier;
+use id_value::{BinaryOp, Constant, Kind, UnaryOp};
+
+/// A stretch of rows that is turned on as a whole, by one side of what its head makes: the body of a
+/// procedure by its `Head`, an arm of a conditional by its `Split`.
+#[derive(Clone, Copy, PartialEq, Eq)]
+pub struct Region {
+    pub head: usize,
+    pub side: bool,
+}
+
+/// Where parts stand: in the block of the graph with this head, in this region of it.
+#[derive(Clone, Copy)]
+pub struct Stand {
+    pub block: usize,
+    pub region: Region,
+}
+
+/// A part of the program. Its own parts are the rows from `first` up to it.
+#[derive(Clone, Copy)]
+pub struct Row {
+    /// The byte offset of its head token; a marker has that of its construct, `Program` has 0.
+    pub place: usize,
+    pub first: usize,
+    /// The row of the head of the block of the graph that it stands in.
+    pub block: usize,
+    pub region: Region,
+    /// The row that gives its value: a block's is its body's, any other's itself.
+    pub value: usize,
+    pub node: Node,
+}
+
+/// What a part is. It names its own parts by the numbers of their rows, and names by their numbers.
+#[derive(Clone, Copy)]
+pub enum Node {
+    /// The beginning of a definition: its trigger and its way back.
+    Head,
+    Param {
+        name: usize,
+        kind: Kind,
+    },
+    Literal {
+        value: Constant,
+    },
+    Name {
+        name: usize,
+    },
+    Unary {
+        op: UnaryOp,
+        operand: usize,
+    },
+    Binary {
+        op: BinaryOp,
+        left: usize,
+        right: usize,
+    },
+    /// The switches of a conditional, at its place, behind the predicate and before the arms.
+    Split {
+        test: usize,
+    },
+    /// A conditional behind its arms: the row of its switches, and what gives its value where the predicate is true,
+    /// and where it is not.
+    If {
+        split: usize,
+        then: usize,
+        otherwise: usize,
+    },
+    /// Statements in whatever order, and the body that gives the value.
+    Block {
+        body: usize,
+    },
+    Binding {
+        name: usize,
+        value: usize,
+    },
+    Def {
+        name: usize,
+        head: usize,
+        result: Kind,
+        body: usize,
+    },
+    /// The end of the table: the answer.
+    Program,
+}
+
+/// The parts of a program: its rows, and the names in them, each once. The name of number 0 is `main`.
+#[derive(Drop)]
+pub struct Table {
+    pub rows: Vec<Row>,
+    pub names: Vec<Identifier>,
+    pub ghost formed: { IsFormed rows.items } by { Prim.hlevel props },
+    pub ghost nested: { IsNested rows.items } by { Prim.hlevel props },
+    pub ghost named: { AreNamed rows.items names.items } by { Prim.hlevel props },
+}

@@ -1,0 +1,12 @@
+pub mod Events
+pub mod Runs
+pub mod Keys
+pub mod Messages
+pub mod Waiting
+pub mod OneMessage
+pub mod SentOnce
+pub mod Givings
+pub mod Meeting
+pub mod EveryMessage
+pub mod RecordsOfRuns
+pub mod Suited

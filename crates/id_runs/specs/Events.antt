@@ -1,0 +1,76 @@
+-- The events of a run: which element handled which message, and what came of it (docs/MACHINE.md, "Element step").
+use Rattle.std.specs.Prelude.{◌≡◌, ℕ, Bool, true, List, []}
+use Rattle.id_graph.specs.declared.dests.Dest.{Dest}
+use Rattle.id_graph.specs.declared.dests.Port.{Port}
+use Rattle.id_graph.specs.Graph.{Parts}
+use Rattle.id_tag.specs.declared.Tag.{Tag}
+use Rattle.id_tag.specs.declared.Value.{Value}
+use Rattle.id_tag.specs.declared.Payload.{Payload}
+use Rattle.id_tag.specs.declared.Payload.TheVariants.{Token}
+use Rattle.id_ops.specs.declared.Operands.{Operands}
+use Rattle.id_ops.specs.declared.Fired.{Fired}
+use Rattle.id_ops.specs.declared.Fired.TheVariants.{Out, Side, Sent, Failed, Nothing}
+use Rattle.id_ops.specs.Operators.{side_of}
+use Rattle.id_record.specs.declared.step.Step.{Step}
+use Rattle.id_record.specs.declared.step.Step.TheVariants as steps
+use Rattle.id_record.specs.Records.{dests_at}
+use Rattle.id_core.specs.Steps.{sent, fired_step}
+use Rattle.id_list.specs.List.{Among}
+
+-- what came of a token: it waits for its partner, its port was filled already, or its instruction fired
+pub data Arrival : Type 0 where
+  Waits : Arrival
+  Blocked : Arrival
+  Fires : Operands → Fired → Arrival
+
+-- an event: an element took a token to a port under a tag
+pub data Event : Type 0 where
+  Took : ℕ → Tag → Port → Value → Arrival → Event
+
+-- what the handled message said
+abbrev pub payload_of : Event → Payload
+payload_of (Took n t p v a) = Token t p v
+
+-- what an instruction with these destinations on each side sends under a tag
+abbrev pub sent_on : (Bool → List Dest) → Tag → Arrival → List Payload
+sent_on ds t Waits = []
+sent_on ds t Blocked = []
+sent_on ds t (Fires ops f) = sent (ds (side_of f)) t f
+
+-- what an event sends
+abbrev pub sends_of : Parts → Event → List Payload
+sends_of g (Took n t p v a) = sent_on (dests_at g t.instr) t a
+
+-- what becomes of a token, as its record says it
+abbrev pub step_on : Tag → Arrival → Step
+step_on t Waits = steps.Went
+step_on t Blocked = steps.Stuck
+step_on t (Fires ops f) = fired_step t f
+
+-- what an event came to
+abbrev pub came_to : Event → Step
+came_to (Took n t p v a) = step_on t a
+
+-- in the run the instruction at the tag has fired so
+pub record FiresAs (run : List Event) (t : Tag) (f : Fired) : Type 0 where
+  pub element : ℕ
+  pub port : Port
+  pub value : Value
+  pub operands : Operands
+  pub among : Among (Took element t port value (Fires operands f)) run
+
+-- a firing gives the value on a side, under its own tag: a switch on the side that it chose, another on the true side
+abbrev pub GivesOn : Fired → Bool → Value → Type 0
+GivesOn (Out w) b v = (b ≡ true) × (v ≡ w)
+GivesOn (Side c w) b v = (b ≡ c) × (v ≡ w)
+GivesOn (Sent u w) b v = ⊥
+GivesOn (Failed k) b v = ⊥
+GivesOn Nothing b v = ⊥
+
+-- the event of a firing
+abbrev pub fired_event : {run : List Event} {t : Tag} {f : Fired} → FiresAs run t f → Event
+fired_event {t = t} {f = f} x = Took x.element t x.port x.value (Fires x.operands f)
+
+-- two firings under one tag are one event
+abbrev pub FiresOnce : List Event → Type 0
+FiresOnce run = (t : Tag) (f f' : Fired) (x : FiresAs run t f) (y : FiresAs run t f') → fired_event x ≡ fired_event y

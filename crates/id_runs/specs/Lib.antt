@@ -1,0 +1,6 @@
+pub mod Events
+pub mod Activations
+pub mod Runs
+pub mod Keys
+pub mod OneMessage
+pub mod Suited

@@ -1,0 +1,7 @@
+//! Runs of any graph: which events happen, what they send, and what becomes of what is sent.
+//!
+//! Keeps: nothing; there is no code here.
+//! Errors: none.
+//! Read first: `specs/Events.antt`, then `specs/Runs.antt`, `specs/OneMessage.antt` and `specs/Suited.antt`.
+//! Not here: the machine's step and its records (`id_core`), the graphs of the schemas (`id_laws`).
+#![tactic(auto)]
