@@ -185,7 +185,10 @@ fn deliver_five(machine: &mut Machine<'_>) -> Result<bool, TakeError> {
 
 /// Whether there is no machine of so many elements.
 fn is_refused(rt: &impl Abort, alloc: Global, graph: &Valid, count: u32) -> bool {
-    matches!(machine(rt, alloc, graph, count), Err(MachineError::BadElements))
+    matches!(
+        machine(rt, alloc, graph, count),
+        Err(MachineError::BadElements)
+    )
 }
 
 #[test]
