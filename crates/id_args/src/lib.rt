@@ -8,7 +8,7 @@
 
 use clap::error::ErrorKind;
 use clap::{Arg, ArgAction, ArgMatches, Command, Error, value_parser};
-use id_engine::{Request, Unasked};
+use id_request::{Request, Unasked};
 use std::alloc::{AllocError, Global};
 use std::convert::AsStr;
 use std::env::Env;
@@ -49,68 +49,110 @@ fn inputs_argument<'a>(alloc: Global) -> Arg<'a> {
         .help("A value for the parameter of main with that name")
 }
 
-/// The command `check`.
-fn check_command<'a>(alloc: Global) -> Result<Command<'a>, AllocError> {
-    Command::new(alloc, "check")
-        .bin_name("idc check")?
-        .about("Says whether a program is accepted")
-        .arg(file_argument(alloc))
-}
-
-/// The command `graph`.
-fn graph_command<'a>(alloc: Global) -> Result<Command<'a>, AllocError> {
-    Command::new(alloc, "graph")
-        .bin_name("idc graph")?
-        .about("Prints the tagged-token graph of a program")
-        .arg(file_argument(alloc))
-}
-
-/// The command `run`.
-fn run_command<'a>(alloc: Global) -> Result<Command<'a>, AllocError> {
-    let steps = Arg::new(alloc, "steps")
+/// The argument for the limit of steps.
+fn steps_argument<'a>(alloc: Global) -> Arg<'a> {
+    Arg::new(alloc, "steps")
         .long("steps")
         .value_name("N")
         .value_parser(value_parser!(u64).range(1..=MAX_STEPS))
         .default_value(DEFAULT_STEPS)
-        .help("The most messages that each element handles");
-    let names = Arg::new(alloc, "names")
+        .help("The most messages that each element handles")
+}
+
+/// The argument that asks for names.
+fn names_argument<'a>(alloc: Global) -> Arg<'a> {
+    Arg::new(alloc, "names")
         .long("names")
         .action(ArgAction::SetTrue)
-        .help("Prints the value of each name");
-    Command::new(alloc, "run")
-        .bin_name("idc run")?
-        .about("Runs a program and prints its answer or its fault")
+        .help("Prints the value of each name")
+}
+
+/// The argument for the round.
+fn rounds_argument<'a>(alloc: Global) -> Arg<'a> {
+    Arg::new(alloc, "ROUNDS")
+        .required(true)
+        .value_parser(value_parser!(u32).range(0..=LAST_ROUND))
+        .help("How often the rules are used")
+}
+
+/// A command on a file.
+fn file_command<'a>(
+    alloc: Global,
+    name: &'a str,
+    bin_name: &'a str,
+    about: &'a str,
+) -> Result<Command<'a>, AllocError> {
+    Command::new(alloc, name)
+        .bin_name(bin_name)?
+        .about(about)
+        .arg(file_argument(alloc))
+}
+
+/// The command `check`.
+fn check_command<'a>(alloc: Global) -> Result<Command<'a>, AllocError> {
+    file_command(
+        alloc,
+        "check",
+        "idc check",
+        "Says whether a program is accepted",
+    )
+}
+
+/// The command `graph`.
+fn graph_command<'a>(alloc: Global) -> Result<Command<'a>, AllocError> {
+    file_command(
+        alloc,
+        "graph",
+        "idc graph",
+        "Prints the tagged-token graph of a program",
+    )
+}
+
+/// The command `run`.
+fn run_command<'a>(alloc: Global) -> Result<Command<'a>, AllocError> {
+    let about = "Runs a program and prints its answer or its fault";
+    file_command(alloc, "run", "idc run", about)?
         .after_help(STATUSES)
-        .arg(file_argument(alloc))?
         .arg(inputs_argument(alloc))?
-        .arg(steps)?
-        .arg(names)
+        .arg(steps_argument(alloc))?
+        .arg(names_argument(alloc))
 }
 
 /// The command `facts`.
 fn facts_command<'a>(alloc: Global) -> Result<Command<'a>, AllocError> {
-    let rounds = Arg::new(alloc, "ROUNDS")
-        .required(true)
-        .value_parser(value_parser!(u32).range(0..=LAST_ROUND))
-        .help("How often the rules are used");
-    Command::new(alloc, "facts")
-        .bin_name("idc facts")?
-        .about("Prints the facts that the rules of the language give a program")
-        .arg(file_argument(alloc))?
-        .arg(rounds)?
+    let about = "Prints the facts that the rules of the language give a program";
+    file_command(alloc, "facts", "idc facts", about)?
+        .arg(rounds_argument(alloc))?
         .arg(inputs_argument(alloc))
 }
 
-/// The whole command line.
-fn command<'a>(alloc: Global) -> Result<Command<'a>, AllocError> {
+/// The command line without its commands.
+fn bare_command<'a>(alloc: Global) -> Command<'a> {
     Command::new(alloc, "idc")
         .about("Compiles a lenient dataflow program to a tagged-token graph and runs it")
         .no_binary_name(true)
         .subcommand_required(true)
-        .subcommand(check_command(alloc)?)?
-        .subcommand(graph_command(alloc)?)?
-        .subcommand(run_command(alloc)?)?
-        .subcommand(facts_command(alloc)?)
+}
+
+/// The command with one more below it, unless that could not be made.
+fn add_command<'a>(
+    command: Command<'a>,
+    below: Result<Command<'a>, AllocError>,
+) -> Result<Command<'a>, AllocError> {
+    command.subcommand(below?)
+}
+
+/// The command line with its first two commands.
+fn first_commands<'a>(alloc: Global) -> Result<Command<'a>, AllocError> {
+    let command = add_command(bare_command(alloc), check_command(alloc))?;
+    add_command(command, graph_command(alloc))
+}
+
+/// The whole command line.
+fn command<'a>(alloc: Global) -> Result<Command<'a>, AllocError> {
+    let first = first_commands(alloc)?;
+    let command = add_command(first, run_command(alloc))?;
+    add_command(command, facts_command(alloc))
 }
 
 /// What the parser's error tells the user.
@@ -133,6 +175,42 @@ fn inputs_of<'a>(alloc: Global, matches: &ArgMatches<'a>) -> Result<Vec<&'a str>
     }
 }
 
+/// What the words of `run` ask for of this file.
+fn run_request<'a>(
+    alloc: Global,
+    file: &'a str,
+    matches: &ArgMatches<'a>,
+) -> Result<Option<Request<'a>>, AllocError> {
+    let Some(steps) = matches.get_one::<u64>("steps") else {
+        return Ok(None);
+    };
+    let names = matches.get_flag("names");
+    let inputs = inputs_of(alloc, matches)?;
+    Ok(Some(Request::Run {
+        file,
+        inputs,
+        steps,
+        names,
+    }))
+}
+
+/// What the words of `facts` ask for of this file, if they name a round.
+fn facts_request<'a>(
+    alloc: Global,
+    file: &'a str,
+    matches: &ArgMatches<'a>,
+) -> Result<Option<Request<'a>>, AllocError> {
+    let Some(rounds) = matches.get_one::<u32>("ROUNDS") else {
+        return Ok(None);
+    };
+    let inputs = inputs_of(alloc, matches)?;
+    Ok(Some(Request::Facts {
+        file,
+        rounds,
+        inputs,
+    }))
+}
+
 /// What the words of a command ask for, if they name a file and what else the command needs.
 fn request_of<'a>(
     alloc: Global,
@@ -142,34 +220,16 @@ fn request_of<'a>(
     let Some(file) = matches.get_str("FILE") else {
         return Ok(None);
     };
-    let inputs = inputs_of(alloc, matches)?;
-    let request = match name {
-        "check" => Some(Request::Check { file }),
-        "graph" => Some(Request::Graph { file }),
-        "run" => matches.get_one::<u64>("steps").map(|steps| Request::Run {
-            file,
-            inputs,
-            steps,
-            names: matches.get_flag("names"),
-        }),
-        _ => matches
-            .get_one::<u32>("ROUNDS")
-            .map(|rounds| Request::Facts {
-                file,
-                rounds,
-                inputs,
-            }),
-    };
-    Ok(request)
+    match name {
+        "check" => Ok(Some(Request::Check { file })),
+        "graph" => Ok(Some(Request::Graph { file })),
+        "run" => run_request(alloc, file, matches),
+        _ => facts_request(alloc, file, matches),
+    }
 }
 
-/// What these words ask for, the program's own name left out.
-pub fn read_words<'a, S: AsStr>(alloc: Global, words: &'a [S]) -> Result<Request<'a>, Unasked> {
-    let command = command(alloc)?;
-    let matches = match command.try_get_matches_from(words) {
-        Ok(matches) => matches,
-        Err(error) => return Err(answer_to(alloc, &error)),
-    };
+/// What the words with these matches ask for.
+fn request_by<'a>(alloc: Global, matches: &ArgMatches<'a>) -> Result<Request<'a>, Unasked> {
     let asked = match matches.subcommand() {
         Some((name, matches)) => request_of(alloc, name, matches)?,
         None => None,
@@ -177,6 +237,14 @@ pub fn read_words<'a, S: AsStr>(alloc: Global, words: &'a [S]) -> Result<Request
     match asked {
         Some(request) => Ok(request),
         None => Err(Unasked::Refused(String::new(alloc))),
+    }
+}
+
+/// What these words ask for, the program's own name left out.
+pub fn read_words<'a, S: AsStr>(alloc: Global, words: &'a [S]) -> Result<Request<'a>, Unasked> {
+    match command(alloc)?.try_get_matches_from(words) {
+        Ok(matches) => request_by(alloc, &matches),
+        Err(error) => Err(answer_to(alloc, &error)),
     }
 }
 

@@ -1,5 +1,5 @@
 -- What is said of one answer of a call, said in other words.
-use Rattle.std.proofs.Common.{◌≡◌, ◌≢◌, ℕ, List, Result, Ok, Err}
+use Rattle.std.proofs.Common.{◌≡◌, ◌≢◌, ℕ, List, Result, Ok, Err, inl, inr}
 use Rattle.std.specs.Prelude.{IfOk, IfErr, OnOk}
 use Rattle.id_check.specs.declared.checked.Checked.{Checked}
 use Rattle.id_meaning.specs.Sources.{source}
@@ -8,10 +8,11 @@ use Rattle.id_engine.specs.declared.compiled.CompileError.TheVariants as compile
 use Rattle.id_engine.specs.declared.error.EngineError.{EngineError}
 use Rattle.id_engine.specs.declared.error.EngineError.TheVariants.{Compile, MissingInput, UnknownInput, RepeatedInput, BadInput, BadSteps, BadRounds, TooManyFacts, Memory, Write}
 use Rattle.id_engine.specs.Programs.{HasInputs, IsProgramOf, IsRefusedBy, by_memory, too_large}
-use Rattle.id_engine.specs.Refusals.{AreRefusedFacts, IsInsideOf}
+use Rattle.id_engine.specs.Refusals.{AreRefusedFacts, IsRefusedRun, IsInsideOf}
+use Rattle.id_engine.specs.Refusals.IsRefusedRun.{by_source as by_run_source, no_steps, too_many_steps}
 use Rattle.id_engine.specs.Refusals.IsRefusedSource.{by_memory as no_memory}
 use Rattle.id_engine.specs.Refusals.AreRefusedFacts.{by_source, bad_rounds, too_many_facts}
-use Rattle.id_engine.specs.Reports.{AreRefusedRounds, IsRefusedGraph}
+use Rattle.id_engine.specs.Reports.{AreRefusedRounds, AreRefusedSteps, IsRefusedGraph}
 
 module _ {A E : Type 0} where
   pub on_ok : (r : Result A E) (P : Type 0) → P → OnOk r P
@@ -25,6 +26,14 @@ module _ {A E : Type 0} where
   pub on_ok_both : (r : Result A E) (P Q : A → Type 0) (R : Type 0) → ((a : A) → P a → Q a → R) → IfOk r P → IfOk r Q → OnOk r R
   on_ok_both (Ok a) P Q R t h k = t a h k
   on_ok_both (Err e) P Q R t h k = tt
+
+  pub on_ok_from : (r : Result A E) (P Q : Type 0) → (P → Q) → OnOk r P → OnOk r Q
+  on_ok_from (Ok a) P Q t h = t h
+  on_ok_from (Err e) P Q t h = tt
+
+  pub if_ok_all : (r : Result A E) (P Q R : A → Type 0) (X : Type 0) → ((a : A) → P a → X → Q a → R a) → IfOk r P → OnOk r X → IfOk r Q → IfOk r R
+  if_ok_all (Ok a) P Q R X t h x k = t a h x k
+  if_ok_all (Err e) P Q R X t h x k = tt
 
   pub if_err : (r : Result A E) (P Q : E → Type 0) → ((e : E) → P e → Q e) → IfErr r P → IfErr r Q
   if_err (Ok a) P Q t h = tt
@@ -55,6 +64,32 @@ late_memory text BadRounds h = absurd cc
 late_memory text TooManyFacts h = absurd cc
 late_memory text Memory h = let n : Memory ≢ Write = λ k. absurd cc in (tt, n)
 late_memory text Write h = absurd cc
+
+pub late_steps : (text : List ℕ) (steps : ℕ) (e : EngineError) → AreRefusedSteps steps e → IsLate text e
+late_steps text steps (Compile x) h = absurd cc
+late_steps text steps (MissingInput x) h = absurd cc
+late_steps text steps (UnknownInput j) h = absurd cc
+late_steps text steps (RepeatedInput j) h = absurd cc
+late_steps text steps (BadInput j) h = absurd cc
+late_steps text steps BadSteps h = let n : BadSteps ≢ Write = λ k. absurd cc in (tt, n)
+late_steps text steps BadRounds h = absurd cc
+late_steps text steps TooManyFacts h = absurd cc
+late_steps text steps Memory h = let n : Memory ≢ Write = λ k. absurd cc in (tt, n)
+late_steps text steps Write h = absurd cc
+
+-- why steps are refused is why the run of the text is
+pub refused_steps : (text : List ℕ) (ws : List (List ℕ)) (steps : ℕ) → HasInputs text ws → (e : EngineError) → AreRefusedSteps steps e → IsRefusedRun text ws steps e
+refused_steps text ws steps i (Compile x) h = absurd cc
+refused_steps text ws steps i (MissingInput x) h = absurd cc
+refused_steps text ws steps i (UnknownInput j) h = absurd cc
+refused_steps text ws steps i (RepeatedInput j) h = absurd cc
+refused_steps text ws steps i (BadInput j) h = absurd cc
+refused_steps text ws steps i BadSteps (inl h) = no_steps i h
+refused_steps text ws steps i BadSteps (inr h) = too_many_steps i h
+refused_steps text ws steps i BadRounds h = absurd cc
+refused_steps text ws steps i TooManyFacts h = absurd cc
+refused_steps text ws steps i Memory h = by_run_source no_memory
+refused_steps text ws steps i Write h = absurd cc
 
 -- why rounds are refused is why the facts of the text are
 pub refused_rounds : (text : List ℕ) (ws : List (List ℕ)) (round : ℕ) (h : HasInputs text ws) (e : EngineError) → AreRefusedRounds (source h.program h.inputs) round e

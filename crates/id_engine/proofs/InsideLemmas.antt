@@ -1,5 +1,5 @@
 -- The place of each refusal of a text lies in the text (specs/Refusals.antt).
-use Rattle.std.proofs.Common.{◌≡◌, ◌⊎◌, inl, inr, ℕ, zero, suc, ◌≤◌, ◌<◌, List, [], ◌∷◌, ◌++◌, All, length, Option, None, Some, refl, sym, subst, arith}
+use Rattle.std.proofs.Common.{◌≡◌, ◌⊎◌, inl, inr, ℕ, zero, suc, ◌≤◌, ◌<◌, List, ◌∷◌, ◌++◌, All, length, refl, subst, arith}
 use Rattle.id_text.specs.declared.token.Token.{Token}
 use Rattle.id_text.specs.declared.token.TextError.{TextError}
 use Rattle.id_text.specs.declared.token.TextError.TheVariants as lexer

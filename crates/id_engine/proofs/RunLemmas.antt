@@ -1,13 +1,13 @@
 -- Lemmas on runs of machines, and on what their reports say (specs/Reports.antt).
-use Rattle.std.proofs.Common.{◌≡◌, ℕ, List, [], ◌∷◌, ◌++◌, Option, Some, None, inl, inr, refl, sym, ap, subst, ◌∙◌}
+use Rattle.std.proofs.Common.{◌≡◌, ℕ, List, [], ◌∷◌, ◌++◌, Option, Some, None, refl, sym, subst, ◌∙◌}
 use Rattle.std.specs.Prelude.{◌≤◌, All, length, IfSome, slice_get}
 use Rattle.id_graph.specs.Graph.{Parts}
 use Rattle.id_meaning.specs.declared.SourceValue.{SourceValue}
 use Rattle.id_meaning.specs.declared.SourceFault.{SourceFault}
 use Rattle.id_meaning.specs.Sources.{Source, AreInputs}
-use Rattle.id_meaning.specs.Names.{AreNames, AreSomeNames}
+use Rattle.id_meaning.specs.Names.{AreSomeNames}
 use Rattle.id_meaning.specs.Orders.{NamesRise}
-use Rattle.id_meaning.specs.Rounds.{Answers, IsAnswer, Faulty, FaultFree}
+use Rattle.id_meaning.specs.Rounds.{Answers, IsAnswer, Faulty}
 use Rattle.id_build.specs.Schemas.{Schemas}
 use Rattle.id_core.specs.Machines.{World, MachineView, IsQuiet, start, delivered, run}
 use Rattle.id_core.specs.Observed.{answer, faults, names}

@@ -1,7 +1,7 @@
 -- A refused request is served (specs/Served.antt).
 use Rattle.std.proofs.Common.{◌≡◌, ◌≢◌, ℕ, List, [], Option, Result, refl, sym, ap, subst, ◌∙◌}
 use Rattle.id_print.specs.Told.{Told}
-use Rattle.id_engine.specs.declared.request.Request.{Request}
+use Rattle.id_request.specs.declared.Request.{Request}
 use Rattle.id_engine.specs.declared.error.EngineError.{EngineError}
 use Rattle.id_engine.specs.declared.error.EngineError.TheVariants.{Compile, MissingInput, UnknownInput, RepeatedInput, BadInput, BadSteps, BadRounds, TooManyFacts, Memory, Write}
 use Rattle.id_engine.specs.declared.refusal.Cause.{Cause}

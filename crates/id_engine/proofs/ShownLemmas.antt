@@ -1,5 +1,5 @@
 -- Lemmas on specs/Commands.antt: from a report that is so to what is printed.
-use Rattle.std.proofs.Common.{◌≡◌, ℕ, zero, suc, Bool, List, [], ◌∷◌, Option, Some, None, Result, Ok, slice_get, codes, refl, sym, ap, ◌∙◌, subst}
+use Rattle.std.proofs.Common.{◌≡◌, ℕ, zero, suc, Bool, List, [], ◌∷◌, Option, Some, Result, Ok, slice_get, codes, refl, sym, ap, ◌∙◌, subst}
 use Rattle.id_observe.proofs.FirstsLemmas.{first_is_shown}
 use Rattle.id_check.specs.declared.checked.Checked.{Checked}
 use Rattle.id_print.specs.declared.sink.PrintError.{PrintError}

@@ -1,5 +1,5 @@
 -- Deliveries to a machine of one element (specs/Reports.antt).
-use Rattle.std.proofs.Common.{◌≡◌, ◌≢◌, ℕ, suc, ◌+◌, ◌<◌, ◌≤◌, Bool, true, false, cond, inl, inr, List, [], ◌∷◌, ◌++◌, All, length, Option, Some, None, slice_get, slice_index_or, slice_set, IsTrue, refl, sym, ap, subst, ◌∙◌, arith, append-nil, length-append}
+use Rattle.std.proofs.Common.{◌≡◌, ◌≢◌, ℕ, ◌+◌, ◌<◌, ◌≤◌, Bool, true, false, cond, inl, inr, List, [], ◌∷◌, ◌++◌, All, length, Option, Some, None, slice_get, slice_index_or, slice_set, IsTrue, refl, sym, ap, subst, ◌∙◌, arith, append-nil, length-append}
 use Rattle.std.proofs.Math.Nat.{mod-one}
 use Rattle.std.specs.List.{filter_map, cons_option}
 use Rattle.std.proofs.lemmas.List.Elements.{filter_map-append, All-from_recursion}
@@ -15,10 +15,10 @@ use Rattle.id_record.specs.declared.step.Step.TheVariants.{Went, Fault, Stuck}
 use Rattle.id_record.specs.declared.step.Fault.TheVariants.{Operator}
 use Rattle.id_core.specs.Events.{EventView}
 use Rattle.id_core.specs.Steps.{State, event_of, is_ended, state_after}
-use Rattle.id_core.specs.Machines.{World, MachineView, delivered, event_at, event_of_given, event_of_routed, given_to, routed_to, run, start, taken_from}
+use Rattle.id_core.specs.Machines.{World, MachineView, delivered, event_at, event_of_given, event_of_routed, given_to, routed_to, run, taken_from}
 use Rattle.id_core.specs.Observed.{fault_of, faults, faults_in}
-use Rattle.id_engine.specs.Runs.{EndsAt, IsHeldBack}
-use Rattle.id_engine.specs.Reports.{GoesOn, HasEnded, at_fault, at_rest, HasRun, IsAtRest, IsDelivery, IsFreshMachine, IsSingle}
+use Rattle.id_engine.specs.Runs.{IsHeldBack}
+use Rattle.id_engine.specs.Reports.{GoesOn, at_fault, at_rest, HasRun, IsAtRest, IsDelivery, IsFreshMachine, IsSingle}
 use Rattle.id_engine.proofs.RunLemmas.{run-append}
 
 -- everything is for the one element

@@ -1,5 +1,5 @@
 -- How refusals are printed, and why a command refuses (docs/PROMISES.md, "Refusals").
-use Rattle.std.specs.Prelude.{◌≡◌, ◌<◌, ◌≤◌, ℕ, List, [], ◌++◌, codes, decimal, length, slice_get, Option, None, Some, IfSome, Result}
+use Rattle.std.specs.Prelude.{◌≡◌, ◌<◌, ◌≤◌, ℕ, List, [], ◌++◌, codes, decimal, length, slice_get, Option, None, Some, Result}
 use Rattle.id_text.specs.declared.token.TextError.{TextError}
 use Rattle.id_text.specs.declared.token.TextError.TheVariants as lexer
 use Rattle.id_value.specs.declared.Kind.{Kind}

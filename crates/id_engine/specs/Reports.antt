@@ -1,5 +1,5 @@
 -- The report of a run of a text's program, and deliveries to a machine of one element.
-use Rattle.std.specs.Prelude.{◌≡◌, ◌≤◌, ◌<◌, ℕ, List, [], ◌∷◌, All, length, Option, None, Some, IfSome}
+use Rattle.std.specs.Prelude.{◌≡◌, ◌≤◌, ◌<◌, ◌⊎◌, ℕ, List, [], ◌∷◌, All, length, Option, None, Some, IfSome}
 use Rattle.id_check.specs.declared.checked.Checked.{Checked}
 use Rattle.id_meaning.specs.declared.SourceValue.{SourceValue}
 use Rattle.id_meaning.specs.declared.SourceFault.{SourceFault}
@@ -24,7 +24,7 @@ use Rattle.id_meaning.specs.Computed.{HasMoreFacts}
 use Rattle.id_engine.specs.declared.compiled.CompileError.{CompileError}
 use Rattle.id_engine.specs.declared.compiled.CompileError.TheVariants as compiler
 use Rattle.id_engine.specs.declared.error.EngineError.{EngineError}
-use Rattle.id_engine.specs.declared.error.EngineError.TheVariants.{BadRounds, TooManyFacts, Memory}
+use Rattle.id_engine.specs.declared.error.EngineError.TheVariants.{BadSteps, BadRounds, TooManyFacts, Memory}
 use Rattle.id_engine.specs.Programs.{IsProgramOf}
 use Rattle.id_engine.specs.Runs.{EndsAt, IsHeldBack, after}
 
@@ -123,6 +123,11 @@ abbrev pub AreRefusedRounds : Source → ℕ → EngineError → Type 0
 AreRefusedRounds S round BadRounds = 10000 < round
 AreRefusedRounds S round TooManyFacts = (round ≤ 10000) × HasMoreFacts S round 1000000
 AreRefusedRounds S round e = e ≡ Memory
+
+-- why a run with so many steps for each element is refused
+abbrev pub AreRefusedSteps : ℕ → EngineError → Type 0
+AreRefusedSteps steps BadSteps = (steps ≡ 0) ⊎ (100000000 < steps)
+AreRefusedSteps steps e = e ≡ Memory
 
 -- why a program has no graph
 abbrev pub IsRefusedGraph : Checked → CompileError → Type 0

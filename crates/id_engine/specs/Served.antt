@@ -1,11 +1,11 @@
 -- What the program does with a request (docs/PROMISES.md, "The program").
-use Rattle.std.specs.Prelude.{◌≡◌, ◌≢◌, ℕ, List, [], map, Option, None, Some, Result, Ok, Err, string_bytes}
+use Rattle.std.specs.Prelude.{◌≡◌, ◌≢◌, ℕ, List, [], map, Option, Result, Ok, Err, string_bytes}
 use Rattle.id_print.specs.declared.sink.PrintError.{PrintError}
 use Rattle.id_print.specs.Told.{Told, Prints}
-use Rattle.id_engine.specs.declared.request.Request.{Request}
-use Rattle.id_engine.specs.declared.request.Request.TheVariants as asks
-use Rattle.id_engine.specs.declared.request.Unasked.{Unasked}
-use Rattle.id_engine.specs.declared.request.Unasked.TheVariants.{Help, Refused, Memory}
+use Rattle.id_request.specs.declared.Request.{Request}
+use Rattle.id_request.specs.declared.Request.TheVariants as asks
+use Rattle.id_request.specs.declared.Unasked.{Unasked}
+use Rattle.id_request.specs.declared.Unasked.TheVariants.{Help, Refused, Memory}
 use Rattle.id_engine.specs.declared.error.EngineError.{EngineError}
 use Rattle.id_engine.specs.declared.error.EngineError.TheVariants.{Write}
 use Rattle.id_engine.specs.declared.refusal.Cause.TheVariants as cause

@@ -8,10 +8,10 @@ ghost use Rattle.id_engine.specs.Served.{Answers, Drives, HasHelped, IsRefusedRe
 use crate::commands::{check_text, facts_text, graph_text};
 use crate::error::EngineError;
 use crate::refusal::{Cause, of_engine_error, of_source_fault, plain, refuse};
-use crate::request::{Request, Unasked};
 use crate::run::engine;
 use crate::source::Source;
 use id_print::{Sink, put};
+use id_request::{Request, Unasked};
 use std::alloc::Global;
 
 /// The status of a command line that is refused.

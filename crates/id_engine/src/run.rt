@@ -1,13 +1,13 @@
 //! A text, compiled, run and printed.
 
-ghost use Rattle.std.specs.Prelude.{◌≡◌, ◌≢◌, ◌≤◌, ◌↔◌, length, map, IsTrue, IfOk, IfErr, OnOk};
+ghost use Rattle.std.specs.Prelude.{◌≡◌, ◌≢◌, ◌<◌, ◌≤◌, ◌↔◌, length, map, IsTrue, IfOk, IfErr, OnOk};
 ghost use Rattle.id_build.specs.Schemas.{Schemas};
 ghost use Rattle.id_core.specs.Machines.{TakesInputs, start};
 ghost use Rattle.id_meaning.specs.Sources.{AreInputs, source};
 ghost use Rattle.id_print.specs.Within.{ReportWithin};
 ghost use Rattle.id_engine.specs.Commands.{Run, ShowsAll, ShowsFront};
 ghost use Rattle.id_engine.specs.Refusals.{IsInsideOf, IsRefusedRun, IsTakenRun};
-ghost use Rattle.id_engine.specs.Reports.{Delivers, IsAtRest, HasRun, IsFreshMachine, IsReportOf, IsReportOfRun, IsTrueOf, status_of};
+ghost use Rattle.id_engine.specs.Reports.{AreRefusedSteps, Delivers, IsAtRest, HasRun, IsFreshMachine, IsReportOf, IsReportOfRun, IsTrueOf, status_of};
 ghost use Rattle.id_engine.specs.Runs.{Ran};
 
 use crate::error::EngineError;
@@ -124,20 +124,28 @@ fn run_text(alloc: Global, text: &str, inputs: &[&str], steps: u64) -> Result<Re
     ensures inside { IfErr result (IsInsideOf text.now) }
     ensures not_write { IfErr result (λ e. e ≢ EngineError.Write) }
 {
-    let prepared = match prepare(alloc, text, inputs) {
-        Ok(prepared) => prepared,
-        Err(error) => return Err(error),
-    };
+    match prepare(alloc, text, inputs) {
+        Ok(prepared) => run_limited(alloc, &prepared, steps),
+        Err(error) => Err(error),
+    }
+}
+
+/// The report of a run of a compiled program with its inputs, where so many steps are allowed.
+fn run_limited(alloc: Global, prepared: &Prepared, steps: u64) -> Result<Report, EngineError>
+    requires { AreInputs prepared.now.compiled.checked prepared.now.inputs.values }
+    ensures is_true { IfOk result (IsTrueOf (source prepared.now.compiled.checked prepared.now.inputs.values)) }
+    ensures schemas { OnOk result (Schemas prepared.now.compiled.checked prepared.now.compiled.graph) }
+    ensures run { IfOk result (IsReportOfRun prepared.now.compiled.graph prepared.now.inputs.values steps) }
+    ensures few { OnOk result ((0 < steps) × (steps ≤ 100000000)) }
+    ensures refused { IfErr result (AreRefusedSteps steps) }
+{
     if steps == 0 {
         return Err(EngineError::BadSteps);
     }
     if steps > MAX_STEPS {
         return Err(EngineError::BadSteps);
     }
-    match run_prepared(alloc, &prepared, steps) {
-        Ok(report) => Ok(report),
-        Err(error) => Err(error),
-    }
+    run_prepared(alloc, prepared, steps)
 }
 
 /// The status of a run that ended so.

@@ -2,14 +2,14 @@
 
 ghost use Rattle.std.specs.Prelude.{◌≡◌, ◌≤◌, ◌↔◌, ◌++◌, length, codes, IsTrue};
 ghost use Rattle.id_print.specs.Told.{Prints};
-ghost use Rattle.id_print.specs.Texts.{point_text, fact_text, facts_text};
+ghost use Rattle.id_print.specs.Texts.{point_text, point_value_text, fact_text, facts_text};
 ghost use Rattle.id_print.specs.Within.{PointWithin, FactWithin, FactsWithin};
 
 use crate::cursor::Cursor;
 use crate::report::is_point_within;
 use crate::sink::{PrintError, Sink, put};
 use crate::texts::{put_point, put_point_value};
-use id_meaning::{Fact, Path};
+use id_meaning::{Fact, Path, SourceValue};
 use id_text::MAX_BYTES;
 
 /// Writes a line for each fact of the text, in order. Takes no memory.
@@ -42,6 +42,21 @@ fn put_on<W: Sink>(
     put(sink, b"\n")
 }
 
+fn put_has<W: Sink>(
+    sink: &mut W,
+    cursor: &mut Cursor<'_>,
+    path: &Path,
+    place: usize,
+    value: SourceValue,
+) -> Result<(), PrintError>
+    requires { PointWithin (length cursor.old) path.now place }
+    ensures prints { Prints (W.told sink.old) (W.told sink.new) (codes "has " ++ point_value_text cursor.old path.now place value) result }
+    ensures same { cursor.new ≡ cursor.old }
+{
+    put(sink, b"has ")?;
+    put_point_value(sink, cursor, path, place, value)
+}
+
 fn put_fact<W: Sink>(sink: &mut W, cursor: &mut Cursor<'_>, fact: &Fact) -> Result<(), PrintError>
     requires { FactWithin (length cursor.old) fact.now }
     ensures prints { Prints (W.told sink.old) (W.told sink.new) (fact_text cursor.old fact.now) result }
@@ -49,10 +64,7 @@ fn put_fact<W: Sink>(sink: &mut W, cursor: &mut Cursor<'_>, fact: &Fact) -> Resu
 {
     match fact {
         Fact::On { path, place } => put_on(sink, cursor, path, *place),
-        Fact::Has { path, place, value } => {
-            put(sink, b"has ")?;
-            put_point_value(sink, cursor, path, *place, *value)
-        }
+        Fact::Has { path, place, value } => put_has(sink, cursor, path, *place, *value),
     }
 }
 

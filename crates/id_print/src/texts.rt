@@ -20,12 +20,32 @@ pub fn put_number<W: Sink>(sink: &mut W, n: u32) -> Result<(), PrintError>
     put(sink, buffer.format(n).as_bytes())
 }
 
+/// A number of 64 bits.
+pub(crate) fn put_long<W: Sink>(sink: &mut W, n: u64) -> Result<(), PrintError>
+    ensures { Prints (W.told sink.old) (W.told sink.new) (decimal n) result }
+{
+    let mut buffer = Buffer::new();
+    put(sink, buffer.format(n).as_bytes())
+}
+
+/// Two numbers, with these bytes between them.
+pub(crate) fn put_numbers<W: Sink>(
+    sink: &mut W,
+    first: u64,
+    between: &[u8],
+    second: u64,
+) -> Result<(), PrintError>
+    ensures { Prints (W.told sink.old) (W.told sink.new) (decimal first ++ (between.now ++ decimal second)) result }
+{
+    put_long(sink, first)?;
+    put(sink, between)?;
+    put_long(sink, second)
+}
+
 fn put_line_column<W: Sink>(sink: &mut W, line: u32, column: u32) -> Result<(), PrintError>
     ensures { Prints (W.told sink.old) (W.told sink.new) (line_column_text line column) result }
 {
-    put_number(sink, line)?;
-    put(sink, b":")?;
-    put_number(sink, column)
+    put_numbers(sink, line as u64, b":", column as u64)
 }
 
 /// A place of the text, as its line and column.

@@ -1,15 +1,14 @@
 //! Traces: the events of an element, a line for each.
 
-ghost use Rattle.std.specs.Prelude.{◌≡◌, ◌++◌, decimal};
+ghost use Rattle.std.specs.Prelude.{◌≡◌, ◌++◌};
 ghost use Rattle.id_print.specs.Told.{Prints};
 ghost use Rattle.id_print.specs.Traces.{carried_text, context_text, continuation_text, delivery_text, end_text, entry_text, goal_text, handled_text, moment_text, payload_text, port_text, tag_text, token_text, trace_text, turn_text};
 
 use crate::sink::{PrintError, Sink, put};
-use crate::texts::{put_int, put_number, truth_bytes};
+use crate::texts::{put_int, put_long, put_number, put_numbers, truth_bytes};
 use id_core::{Event, Events, Step};
 use id_graph::Port;
 use id_tag::{Context, Payload, Tag, Value};
-use itoa::Buffer;
 
 /// Writes a line for each event, in order. Takes no memory.
 pub fn write_trace<W: Sink>(events: &Events<'_>, sink: &mut W) -> Result<(), PrintError>
@@ -56,9 +55,7 @@ fn put_handled<W: Sink>(
 fn put_moment<W: Sink>(sink: &mut W, stamp: u64, element: u32) -> Result<(), PrintError>
     ensures { Prints (W.told sink.old) (W.told sink.new) (moment_text stamp element) result }
 {
-    put_long(sink, stamp)?;
-    put(sink, b" ")?;
-    put_number(sink, element)
+    put_numbers(sink, stamp, b" ", element as u64)
 }
 
 fn put_payload<W: Sink>(sink: &mut W, payload: &Payload) -> Result<(), PrintError>
@@ -147,15 +144,5 @@ fn put_turn<W: Sink>(sink: &mut W, tag: Tag) -> Result<(), PrintError>
 fn put_context<W: Sink>(sink: &mut W, context: Context) -> Result<(), PrintError>
     ensures { Prints (W.told sink.old) (W.told sink.new) (context_text context) result }
 {
-    put_number(sink, context.element)?;
-    put(sink, b".")?;
-    put_long(sink, context.serial)
-}
-
-/// A number of 64 bits.
-fn put_long<W: Sink>(sink: &mut W, n: u64) -> Result<(), PrintError>
-    ensures { Prints (W.told sink.old) (W.told sink.new) (decimal n) result }
-{
-    let mut buffer = Buffer::new();
-    put(sink, buffer.format(n).as_bytes())
+    put_numbers(sink, context.element as u64, b".", context.serial)
 }

@@ -1,4 +1,4 @@
-use Rattle.std.proofs.Common.{◌≡◌, ap, sym, subst, ◌∙◌}
+use Rattle.std.proofs.Common.{ap, sym, subst, ◌∙◌}
 use Rattle.id_graph.specs.Graph.{Parts}
 use Rattle.id_build.specs.Schemas.{Schemas}
 use Rattle.id_meaning.specs.Sources.{Source, source}

@@ -1,4 +1,4 @@
-use Rattle.std.proofs.Common.{◌≡◌, ℕ, ◌+◌, ◌<◌, ◌≤◌, min, List, take, length, Option, Some, None, IfSome, Result, Ok, Err, ap, ◌∙◌, arith}
+use Rattle.std.proofs.Common.{◌≡◌, ℕ, ◌+◌, ◌≤◌, List, take, length, Option, Some, None, IfSome, Result, Ok, Err, ap, ◌∙◌, arith}
 use Rattle.std.specs.Prelude.{String}
 use Rattle.std.proofs.lemmas.List.{length-take, take_all}
 use Rattle.id_engine.specs.declared.source.SourceFault.{SourceFault}

@@ -9,3 +9,7 @@ returns-in_err-put-clause-prints g c =
 
 pub returns-clause-prints : goal.returns-clause-prints
 returns-clause-prints g c = Prints-then _ _ _ _ _ _ _ c.in_ok-put.ensures (Prints-then _ _ _ _ _ _ _ c.in_ok-put_point.ensures.prints c.put-2.ensures)
+
+pub returns-in_err-put_point-clause-prints : goal.returns-in_err-put_point-clause-prints
+returns-in_err-put_point-clause-prints g c =
+    Prints-then _ _ _ _ _ _ _ c.in_ok-put.ensures (Prints-stop _ _ _ (codes "\n") _ _ c.in_err-put_point.ensures.prints c.from_residual-in_err-put_point.ensures.0)

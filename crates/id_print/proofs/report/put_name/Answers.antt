@@ -1,8 +1,11 @@
 use Rattle.id_print.specs.Texts.{point_value_text}
-use Rattle.id_print.proofs.SinkLemmas.{Prints-stop}
+use Rattle.id_print.proofs.SinkLemmas.{Prints-stop, Prints-then}
 use Rattle.id_print.proofs.report.put_name.Goals as goal
 
 pub returns-in_err-put-clause-prints : goal.returns-in_err-put-clause-prints
 returns-in_err-put-clause-prints g c =
     let name = c.args.name.now in
     Prints-stop _ _ _ (point_value_text c.args.cursor.now name.path name.place name.value) _ _ c.in_err-put.ensures c.from_residual.ensures.0
+
+pub returns-clause-prints : goal.returns-clause-prints
+returns-clause-prints g c = Prints-then _ _ _ _ _ _ _ c.in_ok-put.ensures c.put_point_value.ensures.prints

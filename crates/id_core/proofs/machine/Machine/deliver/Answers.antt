@@ -80,3 +80,51 @@ returns-clause-end c =
     let event = event-delivered c.self.inside.graph.now (length es) es fl c.args.position c.route-number.result c.index.result.now c.index_mut.result.now (delivery c) in
     rw (← ap (λ v. v.graph) c.self.view_is, ← ap (λ v. v.count) c.self.view_is, ← ap (λ v. v.world) c.self.view_is)
     (λ bad. cc, λ none. absurd (no_event _ _ event none))
+
+pub index-requires : goal.index-requires
+index-requires c = grind (arith, common_steps)
+
+pub overflow_cast-len : goal.overflow_cast-len
+overflow_cast-len c = grind (arith, common_steps)
+
+pub route-number-requires : goal.route-number-requires
+route-number-requires c = grind (arith, common_steps)
+
+pub overflow_cast-number : goal.overflow_cast-number
+overflow_cast-number c = grind (arith, common_steps)
+
+pub index-requires-2 : goal.index-requires-2
+index-requires-2 c = grind (arith, common_steps)
+
+pub is_ended-requires : goal.is_ended-requires
+is_ended-requires c = grind (arith, common_steps)
+
+pub most_outputs-requires : goal.most_outputs-requires
+most_outputs-requires c = grind (arith, common_steps)
+
+pub invariant_of-self : goal.invariant_of-self
+invariant_of-self c = grind (arith, common_steps)
+
+pub returns-in_err-reserve-clause-err : goal.returns-in_err-reserve-clause-err
+returns-in_err-reserve-clause-err c = grind (arith, common_steps)
+
+pub index_mut-requires : goal.index_mut-requires
+index_mut-requires c = grind (arith, common_steps)
+
+pub take-requires : goal.take-requires
+take-requires c = grind (arith, common_steps)
+
+pub invariant_of-self-in_err-step : goal.invariant_of-self-in_err-step
+invariant_of-self-in_err-step c = grind (arith, common_steps)
+
+pub returns-in_err-step-clause-err : goal.returns-in_err-step-clause-err
+returns-in_err-step-clause-err c = grind (arith, common_steps)
+
+pub take_out-requires : goal.take_out-requires
+take_out-requires c = grind (arith, common_steps)
+
+pub move_all-requires : goal.move_all-requires
+move_all-requires c = grind (arith, common_steps)
+
+pub returns-clause-err : goal.returns-clause-err
+returns-clause-err c = grind (arith, common_steps)

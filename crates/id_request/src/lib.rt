@@ -1,4 +1,10 @@
 //! What the words of a command line ask for.
+//!
+//! Keeps: nothing beyond its values.
+//! Errors: none; `Unasked` is why words ask for nothing.
+//! Read first: `Request`.
+//! Not here: how words are read (`id_args`), what is done with a request (`id_engine`).
+#![tactic(auto)]
 
 use std::alloc::AllocError;
 
@@ -42,7 +48,7 @@ pub enum Unasked {
 
 impl From<AllocError> for Unasked {
     ghost use Rattle.std.specs.Prelude.{◌≡◌};
-    ghost use Rattle.id_engine.specs.declared.request.Unasked.TheVariants.{Memory};
+    ghost use Rattle.id_request.specs.declared.Unasked.TheVariants.{Memory};
 
     ghost from_gives = { λ _ u. u ≡ Memory };
 

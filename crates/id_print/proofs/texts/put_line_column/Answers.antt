@@ -1,8 +1,0 @@
-use Rattle.id_print.proofs.SinkLemmas.{Prints-stop, Prints-then}
-use Rattle.id_print.proofs.texts.put_line_column.Goals as goal
-
-pub returns-in_err-put : goal.returns-in_err-put
-returns-in_err-put g c = Prints-then _ _ _ _ _ _ _ c.in_ok-put_number.ensures (Prints-stop _ _ _ _ _ _ c.in_err-put.ensures c.from_residual-in_err-put.ensures.0)
-
-pub returns : goal.returns
-returns g c = Prints-then _ _ _ _ _ _ _ c.in_ok-put_number.ensures (Prints-then _ _ _ _ _ _ _ c.in_ok-put.ensures c.put_number-2.ensures)
