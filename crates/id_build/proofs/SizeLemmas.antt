@@ -15,6 +15,12 @@ length-switches P e (b ∷ bs) = ap suc (length-switches P e bs)
 pub length-split : (P : Checked) (n e t : ℕ) → length (made_of P n e (Split t)) ≡ length (imports_of P n) + 1
 length-split P n e t = omega (arith, length-switches P e (imports_of P n))
 
+-- what one more row makes
+pub size_below-next : (P : Checked) (n : ℕ) → size_below P (n + 1) ≡ size_below P n + length (made P n)
+size_below-next P n =
+    let next : n + 1 ≡ suc n = omega arith in
+    ap (size_below P) next
+
 -- more rows make no fewer
 size_below-rises : (P : Checked) (n k : ℕ) → size_below P n ≤ size_below P (k + n)
 size_below-rises P n zero =

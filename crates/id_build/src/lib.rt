@@ -19,4 +19,4 @@ mod size;
 pub use arc::{Arc, Feed, Form, Origin, Piece};
 pub use error::BuildError;
 pub use program::build;
-pub use size::is_small;
+pub use size::{is_small, is_small_and_plain};

@@ -8,7 +8,7 @@ ghost use Rattle.id_engine.specs.Programs.{HasProgram, IsProgramOf, IsPlacedWith
 ghost use Rattle.id_engine.specs.Reports.{IsRefusedGraph};
 ghost use Rattle.id_engine.specs.Refusals.{IsCauseInside};
 
-use id_build::{BuildError, build, is_small};
+use id_build::{BuildError, build, is_small, is_small_and_plain};
 use id_check::{CheckCause, Checked, check};
 use id_desugar::regions;
 use id_graph::Graph;
@@ -103,6 +103,7 @@ fn checked_program(alloc: Global, text: &str) -> Result<Checked, CompileError>
         Ok(program) => program,
         Err(error) => return Err(CompileError::Tree(error)),
     };
+    drop(tokens);
     match check(alloc, program) {
         Ok(checked) => Ok(checked),
         Err(error) => Err(CompileError::Check(error.cause)),
@@ -181,6 +182,9 @@ fn has_graph(alloc: Global, checked: &Checked) -> Result<(), CompileError>
     ensures small { OnOk result (size checked.now ≤ 1000000) }
     ensures refused { IfErr result (IsRefusedGraph checked.now) }
 {
+    if is_small_and_plain(checked) {
+        return Ok(());
+    }
     let Ok(kernel) = regions(alloc, checked) else {
         return Err(CompileError::Memory);
     };
