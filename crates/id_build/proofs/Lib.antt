@@ -3,6 +3,7 @@ pub mod NamesSeen
 pub mod EndsLemmas
 pub mod FeedsLemmas
 pub mod NumberLemmas
+pub mod SizeLemmas
 pub mod JoinedLemmas
 pub mod FillLemmas
 pub mod ArcsLemmas

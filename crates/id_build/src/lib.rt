@@ -14,7 +14,9 @@ mod operators;
 mod origins;
 mod pieces;
 mod program;
+mod size;
 
 pub use arc::{Arc, Feed, Form, Origin, Piece};
 pub use error::BuildError;
 pub use program::build;
+pub use size::{is_small, is_small_and_plain};

@@ -9,7 +9,7 @@ ghost use Rattle.id_engine.specs.Programs.{HasProgram, IsPlacedWithin, IsProgram
 ghost use Rattle.id_engine.specs.Refusals.{AreRefusedFacts, AreTakenFacts, IsInsideOf, IsRefusedText};
 ghost use Rattle.id_engine.specs.Reports.{AreRefusedRounds};
 
-use crate::compiled::{Compiled, compile};
+use crate::compiled::{Compiled, accept, compile};
 use crate::error::EngineError;
 use crate::prepared::{Prepared, prepare};
 use id_graph::list;
@@ -40,8 +40,8 @@ fn accept_text(alloc: Global, text: &str) -> Result<(), EngineError>
     ensures inside { IfErr result (IsInsideOf text.now) }
     ensures not_write { IfErr result (λ e. e ≢ EngineError.Write) }
 {
-    match compile(alloc, text) {
-        Ok(_compiled) => Ok(()),
+    match accept(alloc, text) {
+        Ok(()) => Ok(()),
         Err(error) => Err(EngineError::Compile(error)),
     }
 }

@@ -4,11 +4,11 @@ ghost use Rattle.std.specs.Prelude.{◌≡◌, ◌<◌, ◌≤◌, length, IfErr
 ghost use Rattle.id_build.specs.Rows.{size};
 ghost use Rattle.id_build.specs.Schemas.{Schemas};
 ghost use Rattle.id_valid.specs.Validator.{TellsFault};
-ghost use Rattle.id_engine.specs.Programs.{IsProgramOf, IsPlacedWithin, IsRefusedBy};
+ghost use Rattle.id_engine.specs.Programs.{HasProgram, IsProgramOf, IsPlacedWithin, IsRefusedBy};
 ghost use Rattle.id_engine.specs.Reports.{IsRefusedGraph};
 ghost use Rattle.id_engine.specs.Refusals.{IsCauseInside};
 
-use id_build::{BuildError, build};
+use id_build::{BuildError, build, is_small, is_small_and_plain};
 use id_check::{CheckCause, Checked, check};
 use id_desugar::regions;
 use id_graph::Graph;
@@ -103,6 +103,7 @@ fn checked_program(alloc: Global, text: &str) -> Result<Checked, CompileError>
         Ok(program) => program,
         Err(error) => return Err(CompileError::Tree(error)),
     };
+    drop(tokens);
     match check(alloc, program) {
         Ok(checked) => Ok(checked),
         Err(error) => Err(CompileError::Check(error.cause)),
@@ -160,5 +161,36 @@ pub fn compile(alloc: Global, text: &str) -> Result<Compiled, CompileError>
     match graph_of(alloc, &checked) {
         Ok(valid) => Ok(Compiled { checked, valid }),
         Err(error) => Err(error),
+    }
+}
+
+/// Whether a text has a program of which a graph can be built: what `compile` would answer, without making the graph.
+pub fn accept(alloc: Global, text: &str) -> Result<(), CompileError>
+    ensures program { OnOk result (HasProgram text.now) }
+    ensures refused { IfErr result (IsRefusedBy text.now) }
+    ensures inside { IfErr result (IsCauseInside text.now) }
+{
+    let checked = checked_program(alloc, text)?;
+    match has_graph(alloc, &checked) {
+        Ok(()) => Ok(()),
+        Err(error) => Err(error),
+    }
+}
+
+/// Whether a checked program has a graph.
+fn has_graph(alloc: Global, checked: &Checked) -> Result<(), CompileError>
+    ensures small { OnOk result (size checked.now ≤ 1000000) }
+    ensures refused { IfErr result (IsRefusedGraph checked.now) }
+{
+    if is_small_and_plain(checked) {
+        return Ok(());
+    }
+    let Ok(kernel) = regions(alloc, checked) else {
+        return Err(CompileError::Memory);
+    };
+    if is_small(&kernel) {
+        Ok(())
+    } else {
+        Err(CompileError::TooLarge)
     }
 }

@@ -3,6 +3,3 @@ use Rattle.id_engine.proofs.commands.accept_text.Goals as goal
 
 pub returns-in-Err-clause-refused : goal.returns-in-Err-clause-refused
 returns-in-Err-clause-refused c = by_text _ c.in-Err.ensures.refused
-
-pub returns-in-Ok-clause-program : goal.returns-in-Ok-clause-program
-returns-in-Ok-clause-program c = record { program = c.in-Ok._compiled.checked; is_program = c.in-Ok.ensures.program; small = c.in-Ok.ensures.small }

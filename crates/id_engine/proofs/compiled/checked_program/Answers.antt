@@ -29,8 +29,8 @@ returns-in-Ok-check-clause-within c = record {
       StartsAt-within (length c.args.text.now) c.in-Ok.tokens.items c.in-Ok.ensures.within q starts);
 }
 
-pub returns-clause-refused : goal.returns-clause-refused
-returns-clause-refused c =
+pub returns-in-Err-check-clause-refused : goal.returns-in-Err-check-clause-refused
+returns-in-Err-check-clause-refused c =
     let lexes = subst (λ (ts : List Token). Lexes 0 c.args.text.now ts Whole) (sym c.as_slice.ensures.value) c.in-Ok.ensures.tokens in
     by_check _ _ _ lexes c.in-Ok-parse.ensures.tree c.in-Err-check.ensures.refused
 
@@ -44,8 +44,8 @@ returns-in-Err-parse-clause-inside c =
     let all = subst (λ (ts : List Token). All (IsWithin (length c.args.text.now)) ts) (sym c.as_slice.ensures.value) c.in-Ok.ensures.within in
     parser_inside c.args.text.now _ c.in-Err-parse.error c.in-Err-parse.ensures.refused all (short_text c.args.text.now (λ long. (let e = c.in-Ok.ensures.too_long.1 long in absurd cc)))
 
-pub returns-clause-inside : goal.returns-clause-inside
-returns-clause-inside c =
+pub returns-in-Err-check-clause-inside : goal.returns-in-Err-check-clause-inside
+returns-in-Err-check-clause-inside c =
     checker_inside c.args.text.now c.in-Ok-parse.program
     (λ q h. StartsAt-within (length c.args.text.now) c.in-Ok.tokens.items c.in-Ok.ensures.within q (subst (λ (ts : List Token). StartsAt q ts) c.as_slice.ensures.value (c.in-Ok-parse.ensures.within q h)))
     (short_text c.args.text.now (λ long. (let e = c.in-Ok.ensures.too_long.1 long in absurd cc)))
