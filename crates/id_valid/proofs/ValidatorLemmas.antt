@@ -7,7 +7,7 @@ use Rattle.std.proofs.lemmas.Bool.Decides.{nat_tests}
 use Rattle.id_graph.specs.declared.instr.Block.{Block}
 use Rattle.id_graph.specs.declared.instr.PortKind.{PortKind}
 use Rattle.id_graph.specs.declared.instr.Op.{Op}
-use Rattle.id_graph.specs.declared.instr.Op.TheVariants.{Const, Unary, Binary, Merge, Switch, Back}
+use Rattle.id_graph.specs.declared.instr.Op.TheVariants.{Const, Unary, Binary, Merge, Switch, Back, Enter, Send}
 use Rattle.id_graph.specs.Graph.{Parts}
 use Rattle.id_valid.specs.Roles.{back_kind, IsMain}
 use Rattle.id_valid.specs.Validator.{IsAnswer, IsSound, IsValid, FirstFaulty, IsMainBlock}
@@ -22,6 +22,8 @@ back_kind-some (Some (Unary f)) k e = cc
 back_kind-some (Some (Binary f)) k e = cc
 back_kind-some (Some (Merge j)) k e = cc
 back_kind-some (Some (Switch j)) k e = cc
+back_kind-some (Some (Enter b r)) k e = cc
+back_kind-some (Some (Send j t)) k e = cc
 
 -- a number equals itself
 same_number : (n : ℕ) → (n == n) ≡ true

@@ -4,7 +4,7 @@ use Rattle.std.specs.List.{list_any}
 use Rattle.id_graph.specs.declared.instr.Block.{Block}
 use Rattle.id_graph.specs.declared.instr.Instr.{Instr}
 use Rattle.id_graph.specs.declared.instr.Op.{Op}
-use Rattle.id_graph.specs.declared.instr.Op.TheVariants.{Const, Unary, Binary, Merge, Switch, Back}
+use Rattle.id_graph.specs.declared.instr.Op.TheVariants.{Const, Unary, Binary, Merge, Switch, Back, Enter, Send}
 use Rattle.id_graph.specs.declared.instr.PortKind.{PortKind}
 use Rattle.id_graph.specs.declared.dests.Dest.{Dest}
 use Rattle.id_graph.specs.declared.dests.Port.{Port}
@@ -23,6 +23,8 @@ merge_kind (Unary f) = None
 merge_kind (Binary f) = None
 merge_kind (Switch k) = None
 merge_kind (Back k) = None
+merge_kind (Enter b r) = None
+merge_kind (Send k t) = None
 
 -- the kind of a `back`
 abbrev pub back_kind : Op → Option PortKind
@@ -32,6 +34,8 @@ back_kind (Unary f) = None
 back_kind (Binary f) = None
 back_kind (Merge k) = None
 back_kind (Switch k) = None
+back_kind (Enter b r) = None
+back_kind (Send k t) = None
 
 -- the kind of a block's result: that of the `back` at its `first + 1`, if it is one
 abbrev pub result_kind : Parts → Block → Option PortKind
