@@ -5,7 +5,7 @@ use Rattle.std.specs.Option.{ForSome}
 use Rattle.id_graph.specs.declared.instr.Block.{Block}
 use Rattle.id_graph.specs.declared.instr.Instr.{Instr}
 use Rattle.id_graph.specs.declared.instr.Op.{Op}
-use Rattle.id_graph.specs.declared.instr.Op.TheVariants.{Const, Unary, Binary, Merge, Switch, Back, Enter, Send}
+use Rattle.id_graph.specs.declared.instr.Op.TheVariants.{Merge, Back}
 use Rattle.id_graph.specs.declared.instr.PortKind.{PortKind}
 use Rattle.id_graph.specs.declared.instr.PortKind.TheVariants.{Signal, Int, Bool as BoolKind, Structure, Address, Context, Continuation}
 use Rattle.id_graph.specs.declared.dests.Dest.{Dest}
@@ -45,29 +45,6 @@ pub record FillsRoles (g : Parts) (n : ℕ) : Type 0 where
 abbrev pub IsTaken : List Instr → Op → Dest → Type 0
 IsTaken is op d = IsSomeAnd (sends op) (λ k. kind_at is d ≡ Some k)
 
--- b is the first instruction of a block, and r a merge of that block's result kind
-pub record EntersBlock (g : Parts) (b r : ℕ) : Type 0 where
-  pub kind : PortKind
-  pub first : IsTrue (is_first g b)
-  pub back : op_at g (b + 1) ≡ Some (Back kind)
-  pub merge : op_at g r ≡ Some (Merge kind)
-
--- the instruction is an entry, a merge of this kind
-pub record IsEntryOf (g : Parts) (k : PortKind) (n : ℕ) : Type 0 where
-  pub entry : IsTrue (is_entry g n)
-  pub merge : op_at g n ≡ Some (Merge k)
-
--- the instructions that the operator names are what it takes them for
-abbrev pub NamesWell : Parts → Op → Type 0
-NamesWell g (Enter b r) = EntersBlock g b r
-NamesWell g (Send k n) = IsEntryOf g k n
-NamesWell g (Const v) = Unit {0}
-NamesWell g (Unary f) = Unit {0}
-NamesWell g (Binary f) = Unit {0}
-NamesWell g (Merge k) = Unit {0}
-NamesWell g (Switch k) = Unit {0}
-NamesWell g (Back k) = Unit {0}
-
 -- the port is fed by an arc unless it needs none, and by several only at a merge
 pub record IsFed (g : Parts) (n : ℕ) (op : Op) (p : Port) : Type 0 where
   pub fed : IsFalse (needs_no_arc g n p) → 0 < arcs_into g n p
@@ -82,7 +59,6 @@ pub record IsSound (g : Parts) (n : ℕ) : Type 0 where
   pub answer : n ≡ 0 → IsAnswer g
   pub roles : FillsRoles g n
   pub taken : ForSome (slice_get g.instrs n) (λ i. All (IsTaken g.instrs i.op) (arcs i))
-  pub names : ForSome (op_at g n) (NamesWell g)
   pub fed : ForSome (op_at g n) (AreFed g n)
 
 -- no instruction is faulty

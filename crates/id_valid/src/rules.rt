@@ -1,11 +1,10 @@
 //! The rules of the validator, a function for each (docs/GRAPH.md, "Validator").
 
-ghost use Rattle.std.specs.Prelude.{◌≡◌, ◌<◌, ◌^◌, ◌↔◌, length, Some, All, IsTrue, IsSome};
+ghost use Rattle.std.specs.Prelude.{◌≡◌, ◌<◌, ◌↔◌, length, Some, All, IsTrue, IsSome};
 ghost use Rattle.id_graph.specs.Graph.{arcs};
 ghost use Rattle.id_graph.specs.Ports.{port_kind};
 ghost use Rattle.id_valid.specs.Roles.{needs_no_arc, op_at};
-ghost use Rattle.id_valid.specs.Validator.{is_value, AreFed, EntersBlock, FillsRoles, IsAnswer, IsEntryOf, IsFed};
-ghost use Rattle.id_valid.specs.Validator.{IsSound, IsTaken, NamesWell};
+ghost use Rattle.id_valid.specs.Validator.{is_value, AreFed, FillsRoles, IsAnswer, IsFed, IsSound, IsTaken};
 
 use crate::roles::{back_kind, main_block, merge_kind, op_at, result_kind};
 use crate::survey::Survey;
@@ -23,7 +22,6 @@ pub fn is_sound(survey: &Survey<'_>, number: usize) -> bool
     }
     fills_roles(survey, number, instr.op)
         && are_taken(graph.instrs(), instr)
-        && names_well(survey, instr.op)
         && are_fed(survey, number, instr.op)
 }
 
@@ -84,42 +82,6 @@ fn is_taken(instrs: &[Instr], op: Op, dest: Dest) -> bool
         Some(kind) => kind_at(instrs, dest) == Some(kind),
         None => false,
     }
-}
-
-/// Whether the instructions that an operator names are what it takes them for.
-fn names_well(survey: &Survey<'_>, op: Op) -> bool
-    ensures { IsTrue result ↔ NamesWell survey.now op }
-{
-    match op {
-        Op::Enter { block, reply } => enters_block(survey, block as usize, reply as usize),
-        Op::Send { kind, target } => is_entry_of(survey, kind, target as usize),
-        _ => true,
-    }
-}
-
-/// Whether one instruction is the first of a block, and the other a merge of its result kind.
-fn enters_block(survey: &Survey<'_>, block: usize, reply: usize) -> bool
-    requires block { block < 2 ^ 32 }
-    ensures { IsTrue result ↔ EntersBlock survey.now block reply }
-{
-    let graph = survey.graph();
-    if block >= graph.instrs().len() || !survey.is_first(block) {
-        return false;
-    }
-    match (op_at(graph, block + 1), op_at(graph, reply)) {
-        (Some(Op::Back(kind)), Some(Op::Merge(other))) => kind == other,
-        _ => false,
-    }
-}
-
-/// Whether the instruction is an entry, a merge of this kind.
-fn is_entry_of(survey: &Survey<'_>, kind: PortKind, number: usize) -> bool
-    ensures { IsTrue result ↔ IsEntryOf survey.now kind number }
-{
-    let graph = survey.graph();
-    number < graph.instrs().len()
-        && survey.is_entry(number)
-        && op_at(graph, number) == Some(Op::Merge(kind))
 }
 
 /// Whether each port of the operator is fed.
