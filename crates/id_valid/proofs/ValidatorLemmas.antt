@@ -9,8 +9,8 @@ use Rattle.id_graph.specs.declared.instr.PortKind.{PortKind}
 use Rattle.id_graph.specs.declared.instr.Op.{Op}
 use Rattle.id_graph.specs.declared.instr.Op.TheVariants.{Const, Unary, Binary, Merge, Switch, Back, Enter, Send}
 use Rattle.id_graph.specs.Graph.{Parts}
-use Rattle.id_valid.specs.Roles.{back_kind, IsMain}
-use Rattle.id_valid.specs.Validator.{IsAnswer, IsSound, IsValid, FirstFaulty, IsMainBlock}
+use Rattle.id_valid.specs.Roles.{op_at, back_kind, IsMain}
+use Rattle.id_valid.specs.Validator.{IsAnswer, IsEntered, IsSentTo, IsSound, IsValid, FirstFaulty, IsMainBlock}
 use Rattle.id_valid.specs.Past.{FirstPast}
 
 -- an instruction with the kind of a `back` is one
@@ -59,6 +59,14 @@ IsMainBlock-valid g b valid main =
       answer = answer.merge;
       value = answer.value;
     }
+
+-- an `enter` of a valid graph names a block, and a merge for that block's result
+pub IsEntered-valid : (g : Parts) (n b r : ℕ) → IsValid g → op_at g n ≡ Some (Enter b r) → IsEntered g b r
+IsEntered-valid g n b r valid here = (valid.sound n).named (Enter b r) here
+
+-- a `send` of a valid graph names an entry of its kind
+pub IsSentTo-valid : (g : Parts) (n : ℕ) (k : PortKind) (t : ℕ) → IsValid g → op_at g n ≡ Some (Send k t) → IsSentTo g k t
+IsSentTo-valid g n k t valid here = (valid.sound n).named (Send k t) here
 
 -- where all instructions up to the end are sound, the first faulty one is the first past the end
 pub FirstFaulty-past : (g : Parts) (i : ℕ) (o : Option ℕ) → length g.instrs ≤ i → ((n : ℕ) → n < i → IsSound g n) → FirstPast g o → FirstFaulty g o

@@ -53,6 +53,21 @@ is_second g n = list_any (λ b. b.first + 1 == n) g.blocks
 abbrev pub is_entry : Parts → ℕ → Bool
 is_entry g n = list_any (λ b. list_any (λ e. e == n) b.entries) g.blocks
 
+-- whether the operator names the instruction as the one that replies come to: the last one of an `enter`
+abbrev pub replies_to : Op → ℕ → Bool
+replies_to (Enter b r) n = r == n
+replies_to (Const v) n = false
+replies_to (Unary f) n = false
+replies_to (Binary f) n = false
+replies_to (Merge k) n = false
+replies_to (Switch k) n = false
+replies_to (Back k) n = false
+replies_to (Send k t) n = false
+
+-- whether replies come to the instruction
+abbrev pub is_reply : Parts → ℕ → Bool
+is_reply g n = list_any (λ i. replies_to i.op n) g.instrs
+
 -- whether there are two instructions, and they have one place
 abbrev pub same_place : Option Instr → Option Instr → Bool
 same_place (Some i) (Some j) = i.place == j.place
@@ -82,6 +97,6 @@ is_dest n p d = (d.instr == n) && same_port d.port p
 abbrev pub arcs_into : Parts → ℕ → Port → ℕ
 arcs_into g n p = sum_by (λ i. count_by (is_dest n p) (arcs i)) g.instrs
 
--- whether the port needs no arc, since it is fed by a result, by entering or by a send
+-- whether the port needs no arc, since it is fed by a result, by entering, by a send or by a reply
 abbrev pub needs_no_arc : Parts → ℕ → Port → Bool
-needs_no_arc g n p = (n == 0) || is_first g n || is_entry g n || (is_second g n && same_port p Zero)
+needs_no_arc g n p = (n == 0) || is_first g n || is_entry g n || (is_second g n && same_port p Zero) || is_reply g n
