@@ -192,8 +192,8 @@ fn fire_send(kind: PortKind, target: u32, operands: Operands) -> Fired
     }
 }
 
-// The tag of an instruction in a context, at iteration 0.
-fn tag_within(context: Context, instr: u32) -> Tag
+/// The tag of an instruction in a context, at iteration 0. Takes no memory.
+pub fn tag_within(context: Context, instr: u32) -> Tag
     ensures { result ≡ tag_within context instr }
 {
     Tag {
