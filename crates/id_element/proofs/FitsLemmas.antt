@@ -28,6 +28,7 @@ TokenFits-later g a b t p v later fits = record {
   continuation_later value.Signal c = tt
   continuation_later (value.Int n) c = tt
   continuation_later (value.Bool x) c = tt
+  continuation_later (value.Context x) c = tt
 
 same_port-true : (p q : Port) → same_port p q ≡ true → p ≡ q
 same_port-true port.Zero port.Zero e = refl

@@ -18,11 +18,14 @@ use Rattle.id_valid.specs.Validator.{IsValid}
 use Rattle.id_match.specs.Ports.{other_port}
 use Rattle.id_match.specs.Waiting.{Store, waits, answer_of, offer_answer, offer_after}
 use Rattle.id_ops.specs.declared.Operands.TheVariants as operands
+use Rattle.id_ops.specs.declared.Fresh.{Fresh}
+use Rattle.id_ops.specs.declared.Fired.{Fired}
+use Rattle.id_ops.specs.declared.Fired.TheVariants.{Out, Side, Entered, Sent, Failed, Nothing}
 use Rattle.id_ops.specs.Operators.{fired}
 use Rattle.id_element.specs.declared.step.Arrival.{Arrival}
 use Rattle.id_element.specs.declared.step.Arrival.TheVariants.{Fires, Waits, Blocked}
 use Rattle.id_element.specs.Fits.{TokenFits, PayloadFits, Fits}
-use Rattle.id_element.specs.Steps.{State, arrival, arrival_of, waiting_after, fresh_numbers, arriving, at_instr, outcome, next_stamp, outputs_of, state_after}
+use Rattle.id_element.specs.Steps.{State, arrival, arrival_of, waiting_after, next_numbers, made_by, arriving, at_instr, outcome, next_stamp, outputs_of, state_after}
 use Rattle.id_record.specs.Sends.{numbered}
 use Rattle.id_element.specs.Replays.{WaitingFits}
 use Rattle.id_element.proofs.FitsLemmas.{TokenFits-later, offer_came}
@@ -69,14 +72,14 @@ arrival_fits g stamp w t p v i is waiting fits = by_ports (two_ports i.op) refl
     by_ports false e = one_port g stamp t p v i is e fits
 
 -- what is sent on an arrival fits
-arriving_fits : (g : Parts) (stamp n : ℕ) (w : Store) (t : Tag) (i : Instr) (a : Arrival) → IsValid g → slice_get g.instrs t.instr ≡ Some i → t.iteration ≤ stamp → ArrivalFits g stamp t a → All (PayloadFits g stamp) (arriving n i t w a).sends
+arriving_fits : (g : Parts) (stamp : ℕ) (n : Fresh) (w : Store) (t : Tag) (i : Instr) (a : Arrival) → IsValid g → slice_get g.instrs t.instr ≡ Some i → t.iteration ≤ stamp → ArrivalFits g stamp t a → All (PayloadFits g stamp) (arriving n i t w a).sends
 arriving_fits g stamp n w t i (Fires o) valid is in_time fits =
-    sent_fits g stamp t i (fired i.op t o (fresh_numbers n)) in_time ((valid.sound t.instr).taken i is) (fired_fits g stamp t i.op o (fresh_numbers n) (ap (option_map (λ i. i.op)) is) fits)
+    sent_fits g stamp t i (fired i.op t o n) valid is in_time (fired_fits g stamp t i.op o n valid (ap (option_map (λ i. i.op)) is) fits)
 arriving_fits g stamp n w t i Waits valid is in_time fits = All-nil (PayloadFits g stamp)
 arriving_fits g stamp n w t i Blocked valid is in_time fits = All-nil (PayloadFits g stamp)
 
 -- what a token sends fits
-sends_fit : (g : Parts) (stamp n : ℕ) (w : Store) (x : Payload) → IsValid g → AllFit g stamp w → PayloadFits g stamp x → All (PayloadFits g stamp) (outcome g n w x).sends
+sends_fit : (g : Parts) (stamp : ℕ) (n : Fresh) (w : Store) (x : Payload) → IsValid g → AllFit g stamp w → PayloadFits g stamp x → All (PayloadFits g stamp) (outcome g n w x).sends
 sends_fit g stamp n w (Token t p v) valid waiting fits = at (slice_get g.instrs t.instr) refl
   where
     at : (o : Option Instr) → slice_get g.instrs t.instr ≡ o → All (PayloadFits g stamp) (at_instr n w t p v o).sends
@@ -100,7 +103,7 @@ AllFit-later g a b w later fit t p v is = TokenFits-later g a b t p v later (fit
 pub outputs_fit : (g : Parts) (n : ℕ) (s : State) (m : Message) → IsValid g → WaitingFits g s → Fits g m → All (Fits g) (outputs_of g n s m)
 outputs_fit g n s m valid waiting fits =
     numbered_fit g n (length s.events) (next_stamp s m) 0 _
-    (sends_fit g (next_stamp s m) n s.waiting m.payload valid
+    (sends_fit g (next_stamp s m) (next_numbers n s) s.waiting m.payload valid
     (AllFit-later g s.stamp (next_stamp s m) s.waiting (omega arith) waiting)
     (PayloadFits-later g m.stamp (next_stamp s m) m.payload (omega arith) fits))
 
@@ -113,28 +116,54 @@ offered_fit g stamp w t p v waiting fits u q x is =
     moved (a, b, c) = subst (λ y. TokenFits g stamp u q y) c (subst (λ r. TokenFits g stamp u r v) b (subst (λ y. TokenFits g stamp y p v) a fits))
 
 -- whatever arrives, what waits afterwards is what was handed on
-arriving_waiting : (n : ℕ) (i : Instr) (t : Tag) (w : Store) (a : Arrival) → (arriving n i t w a).waiting ≡ w
+arriving_waiting : (n : Fresh) (i : Instr) (t : Tag) (w : Store) (a : Arrival) → (arriving n i t w a).waiting ≡ w
 arriving_waiting n i t w (Fires o) = refl
 arriving_waiting n i t w Waits = refl
 arriving_waiting n i t w Blocked = refl
 
-waiting_after_fits : (g : Parts) (stamp n : ℕ) (w : Store) (t : Tag) (p : Port) (v : Value) (op : Op) → AllFit g stamp w → TokenFits g stamp t p v → AllFit g stamp (waiting_after op w t p v)
-waiting_after_fits g stamp n w t p v op waiting fits = by_ports (two_ports op)
+waiting_after_fits : (g : Parts) (stamp : ℕ) (w : Store) (t : Tag) (p : Port) (v : Value) (op : Op) → AllFit g stamp w → TokenFits g stamp t p v → AllFit g stamp (waiting_after op w t p v)
+waiting_after_fits g stamp w t p v op waiting fits = by_ports (two_ports op)
   where
     by_ports : (b : Bool) → AllFit g stamp (cond b (offer_after w t p v) w)
     by_ports true = offered_fit g stamp w t p v waiting fits
     by_ports false = waiting
 
-outcome_fits : (g : Parts) (stamp n : ℕ) (w : Store) (x : Payload) → AllFit g stamp w → PayloadFits g stamp x → AllFit g stamp (outcome g n w x).waiting
+outcome_fits : (g : Parts) (stamp : ℕ) (n : Fresh) (w : Store) (x : Payload) → AllFit g stamp w → PayloadFits g stamp x → AllFit g stamp (outcome g n w x).waiting
 outcome_fits g stamp n w (Token t p v) waiting fits = at (slice_get g.instrs t.instr)
   where
     at : (o : Option Instr) → AllFit g stamp (at_instr n w t p v o).waiting
     at None = waiting
-    at (Some i) = subst (AllFit g stamp) (sym (arriving_waiting n i t (waiting_after i.op w t p v) (arrival i.op w t p v))) (waiting_after_fits g stamp n w t p v i.op waiting fits)
+    at (Some i) = subst (AllFit g stamp) (sym (arriving_waiting n i t (waiting_after i.op w t p v) (arrival i.op w t p v))) (waiting_after_fits g stamp w t p v i.op waiting fits)
 
 -- after a message that fits, what waits fits
 pub WaitingFits-take : (g : Parts) (n : ℕ) (s : State) (m : Message) → WaitingFits g s → Fits g m → WaitingFits g (state_after g n s m)
 WaitingFits-take g n s m waiting fits =
-    outcome_fits g (next_stamp s m) n s.waiting m.payload
+    outcome_fits g (next_stamp s m) (next_numbers n s) s.waiting m.payload
     (AllFit-later g s.stamp (next_stamp s m) s.waiting (omega arith) waiting)
     (PayloadFits-later g m.stamp (next_stamp s m) m.payload (omega arith) fits)
+
+-- ---- how many contexts are made
+
+at_most_one : (f : Fired) → made_by f ≤ 1
+at_most_one (Out v) = omega arith
+at_most_one (Side b v) = omega arith
+at_most_one (Entered c) = omega arith
+at_most_one (Sent u v) = omega arith
+at_most_one (Failed k) = omega arith
+at_most_one Nothing = omega arith
+
+arriving_makes : (n : Fresh) (i : Instr) (t : Tag) (w : Store) (a : Arrival) → (arriving n i t w a).made ≤ 1
+arriving_makes n i t w (Fires o) = at_most_one (fired i.op t o n)
+arriving_makes n i t w Waits = omega arith
+arriving_makes n i t w Blocked = omega arith
+
+outcome_makes : (g : Parts) (n : Fresh) (w : Store) (x : Payload) → (outcome g n w x).made ≤ 1
+outcome_makes g n w (Token t p v) = at (slice_get g.instrs t.instr)
+  where
+    at : (o : Option Instr) → (at_instr n w t p v o).made ≤ 1
+    at None = omega arith
+    at (Some i) = arriving_makes n i t (waiting_after i.op w t p v) (arrival i.op w t p v)
+
+-- an event takes a stamp and at most one context, so the stamps run out first
+pub counted-take : (g : Parts) (n : ℕ) (s : State) (m : Message) → s.contexts ≤ s.stamp → (state_after g n s m).contexts ≤ (state_after g n s m).stamp
+counted-take g n s m counted = omega (arith, counted, outcome_makes g (next_numbers n s) s.waiting m.payload)

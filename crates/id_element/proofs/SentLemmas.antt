@@ -1,7 +1,7 @@
 -- What a firing sends fits the graph, where its operands do.
-use Rattle.std.proofs.Common.{◌≡◌, ℕ, ◌≤◌, Bool, true, false, cond, Option, Some, None, [], map, refl, sym, ap, subst, ◌∙◌}
+use Rattle.std.proofs.Common.{◌≡◌, ◌==◌, ◌||◌, ℕ, ◌+◌, ◌≤◌, Bool, true, false, cond, Option, Some, None, List, [], ◌∷◌, map, refl, sym, ap, subst, ◌∙◌, arith}
 use Rattle.std.specs.Prelude.{All, IsSomeAnd, slice_get, option_map, option_and_then, neg_ℤ}
-use Rattle.std.proofs.lemmas.List.Elements.{All-nil, All-cons, All-map, All-weaker}
+use Rattle.std.proofs.lemmas.List.Elements.{All-nil, All-cons, All-append, All-map, All-weaker}
 use Rattle.id_graph.specs.declared.dests.Dest.{Dest}
 use Rattle.id_graph.specs.declared.dests.Port.{Port}
 use Rattle.id_graph.specs.declared.dests.Port.TheVariants as port
@@ -17,38 +17,47 @@ use Rattle.id_value.proofs.ResultsLemmas.{IsNumberOrFault, calculated-number, wh
 use Rattle.id_graph.specs.declared.instr.Dyadic.{Dyadic}
 use Rattle.id_graph.specs.declared.instr.Dyadic.TheVariants as class
 use Rattle.id_graph.specs.declared.instr.Op.{Op}
-use Rattle.id_graph.specs.declared.instr.Op.TheVariants.{Const, Unary, Binary, Merge, Switch, Back}
+use Rattle.id_graph.specs.declared.instr.Op.TheVariants.{Const, Unary, Binary, Merge, Switch, Back, Enter, Send}
 use Rattle.id_graph.specs.declared.instr.PortKind.{PortKind}
 use Rattle.id_graph.specs.declared.instr.PortKind.TheVariants as kind
 use Rattle.id_graph.specs.Ports.{outcome_kind, port_kind, sends, two_sides, unary_kind}
 use Rattle.id_graph.specs.Graph.{Parts, arcs, arcs_on, kind_at}
 use Rattle.id_graph.proofs.GraphLemmas.{All-true_arcs, All-arcs_on}
+use Rattle.id_tag.specs.declared.Context.{Context}
 use Rattle.id_tag.specs.declared.Tag.{Tag}
 use Rattle.id_tag.specs.declared.Value.{Value}
 use Rattle.id_tag.specs.declared.Value.TheVariants as value
 use Rattle.id_tag.specs.Kinds.{kind_of, same_kind}
-use Rattle.id_valid.specs.Roles.{op_at}
-use Rattle.id_valid.specs.Validator.{IsTaken}
+use Rattle.id_tag.specs.declared.Payload.{Payload}
+use Rattle.id_tag.specs.declared.Payload.TheVariants.{Token}
+use Rattle.id_graph.specs.declared.instr.Block.{Block}
+use Rattle.std.specs.List.{list_any}
+use Rattle.std.proofs.lemmas.Bool.Decides.{nat_tests}
+use Rattle.id_valid.specs.Roles.{op_at, is_first, is_second}
+use Rattle.id_valid.specs.Validator.{IsTaken, IsValid}
+use Rattle.id_valid.proofs.ValidatorLemmas.{IsEntered-valid, IsSentTo-valid}
 use Rattle.id_ops.specs.declared.Operands.{Operands}
 use Rattle.id_ops.specs.declared.Operands.TheVariants as operands
 use Rattle.id_ops.specs.declared.Fresh.{Fresh}
 use Rattle.id_ops.specs.declared.Fired.{Fired}
-use Rattle.id_ops.specs.declared.Fired.TheVariants.{Out, Side, Sent, Failed, Nothing}
-use Rattle.id_ops.specs.Operators.{fired, fired_by, fired_const, fired_unary, fired_binary, fired_merge, fired_switch, fired_back, side_of}
+use Rattle.id_ops.specs.declared.Fired.TheVariants.{Out, Side, Entered, Sent, Failed, Nothing}
+use Rattle.id_ops.specs.Operators.{fired, fired_by, fired_const, fired_unary, fired_binary, fired_merge, fired_switch, fired_back, fired_enter, tag_within, fired_send, side_of}
 use Rattle.id_element.specs.Fits.{TokenFits, PayloadFits, ContinuationFits}
-use Rattle.id_record.specs.Sends.{sent, token_to}
+use Rattle.id_record.specs.Sends.{beside, sent, started, token_to}
 
 -- the value is no continuation
 abbrev pub IsPlain : Value → Type 0
 IsPlain value.Signal = Unit {0}
 IsPlain (value.Int n) = Unit {0}
 IsPlain (value.Bool b) = Unit {0}
+IsPlain (value.Context c) = Unit {0}
 IsPlain (value.Continuation u) = ⊥
 
 -- what fires is of the kind that the operator sends, and no continuation, and goes to a side where there are two; or fits where it goes
 abbrev pub FiredFits : Parts → ℕ → Option PortKind → Bool → Fired → Type 0
 FiredFits g stamp k two (Out v) = (k ≡ Some (kind_of v)) × IsPlain v
 FiredFits g stamp k two (Side b v) = (k ≡ Some (kind_of v)) × IsPlain v × (two ≡ true)
+FiredFits g stamp k two (Entered c) = k ≡ Some kind.Context
 FiredFits g stamp k two (Sent u v) = TokenFits g stamp u port.Zero v
 FiredFits g stamp k two (Failed f) = Unit {0}
 FiredFits g stamp k two Nothing = Unit {0}
@@ -63,6 +72,7 @@ const_fits g stamp (constant.Int n) (operands.One value.Signal) = (refl, tt)
 const_fits g stamp (constant.Bool b) (operands.One value.Signal) = (refl, tt)
 const_fits g stamp c (operands.One (value.Int n)) = tt
 const_fits g stamp c (operands.One (value.Bool b)) = tt
+const_fits g stamp c (operands.One (value.Context x)) = tt
 const_fits g stamp c (operands.One (value.Continuation u)) = tt
 const_fits g stamp c (operands.Two v w) = tt
 
@@ -89,6 +99,7 @@ plain_at_merge : (g : Parts) (stamp : ℕ) (t : Tag) (k : PortKind) (v : Value) 
 plain_at_merge g stamp t k value.Signal is fits = tt
 plain_at_merge g stamp t k (value.Int n) is fits = tt
 plain_at_merge g stamp t k (value.Bool b) is fits = tt
+plain_at_merge g stamp t k (value.Context c) is fits = tt
 plain_at_merge g stamp t k (value.Continuation u) is fits =
     let back = fits.continuation.1.1.back in cc
 
@@ -97,6 +108,7 @@ plain_at_one : (g : Parts) (stamp : ℕ) (t : Tag) (v : Value) → TokenFits g s
 plain_at_one g stamp t value.Signal fits = tt
 plain_at_one g stamp t (value.Int n) fits = tt
 plain_at_one g stamp t (value.Bool b) fits = tt
+plain_at_one g stamp t (value.Context c) fits = tt
 plain_at_one g stamp t (value.Continuation u) fits = let zero = fits.continuation.0 in cc
 
 -- a value that is no continuation needs nothing more
@@ -104,6 +116,7 @@ plain_fits : (g : Parts) (stamp : ℕ) (t : Tag) (p : Port) (v : Value) → IsPl
 plain_fits g stamp t p value.Signal h = tt
 plain_fits g stamp t p (value.Int n) h = tt
 plain_fits g stamp t p (value.Bool b) h = tt
+plain_fits g stamp t p (value.Context c) h = tt
 plain_fits g stamp t p (value.Continuation u) h = absurd h
 
 -- the kind at a port of an instruction is that of its operator
@@ -138,6 +151,7 @@ switch_fits g stamp t k (operands.Two (value.Bool b) w) is fits = zero (same_kin
     zero false = tt
 switch_fits g stamp t k (operands.Two value.Signal w) is fits = tt
 switch_fits g stamp t k (operands.Two (value.Int n) w) is fits = tt
+switch_fits g stamp t k (operands.Two (value.Context c) w) is fits = tt
 switch_fits g stamp t k (operands.Two (value.Continuation u) w) is fits = tt
 switch_fits g stamp t k (operands.One v) is fits = tt
 
@@ -163,17 +177,97 @@ back_fits g stamp t k (operands.Two (value.Continuation u) w) is fits = zero (sa
 back_fits g stamp t k (operands.Two value.Signal w) is fits = tt
 back_fits g stamp t k (operands.Two (value.Int n) w) is fits = tt
 back_fits g stamp t k (operands.Two (value.Bool b) w) is fits = tt
+back_fits g stamp t k (operands.Two (value.Context c) w) is fits = tt
 back_fits g stamp t k (operands.One v) is fits = tt
 
+enter_fits : (g : Parts) (stamp : ℕ) (next : Context) (o : Operands) → FiredFits g stamp (Some kind.Context) false (fired_enter next o)
+enter_fits g stamp next (operands.One value.Signal) = refl
+enter_fits g stamp next _ = tt
+
+-- a value that is sent into a context fits at the entry
+send_fits : (g : Parts) (stamp : ℕ) (t : Tag) (k : PortKind) (n : ℕ) (o : Operands) → IsValid g → op_at g t.instr ≡ Some (Send k n) → OperandsFit g stamp t o
+    → FiredFits g stamp None false (fired_send k n o)
+send_fits g stamp t k n (operands.Two (value.Context c) w) valid is fits = zero (same_kind (kind_of w) k)
+  where
+    sent_to_entry : TokenFits g stamp (tag_within c n) port.Zero w
+    sent_to_entry =
+        let entry = IsSentTo-valid g t.instr k n valid is in
+        let kinds : Some k ≡ Some (kind_of w) = sym (kind_at_op g t.instr port.One (Send k n) is) ∙ fits.1.kind in
+        record {
+          kind = kind_at_op g n port.Zero (Merge k) entry.merge ∙ kinds;
+          in_time = omega arith;
+          continuation = plain_fits g stamp (tag_within c n) port.Zero w (plain_at_one g stamp t w fits.1);
+        }
+
+    zero : (b : Bool) → FiredFits g stamp None false (cond b (Sent (tag_within c n) w) Nothing)
+    zero true = sent_to_entry
+    zero false = tt
+send_fits g stamp t k n (operands.Two value.Signal w) valid is fits = tt
+send_fits g stamp t k n (operands.Two (value.Int i) w) valid is fits = tt
+send_fits g stamp t k n (operands.Two (value.Bool b) w) valid is fits = tt
+send_fits g stamp t k n (operands.Two (value.Continuation u) w) valid is fits = tt
+send_fits g stamp t k n (operands.One v) valid is fits = tt
+
 -- what fires fits, where the operands do
-pub fired_fits : (g : Parts) (stamp : ℕ) (t : Tag) (op : Op) (o : Operands) (fresh : Fresh) → op_at g t.instr ≡ Some op → OperandsFit g stamp t o
+pub fired_fits : (g : Parts) (stamp : ℕ) (t : Tag) (op : Op) (o : Operands) (fresh : Fresh) → IsValid g → op_at g t.instr ≡ Some op → OperandsFit g stamp t o
     → FiredFits g stamp (sends op) (two_sides op) (fired op t o fresh)
-fired_fits g stamp t (Const c) o fresh is fits = const_fits g stamp c o
-fired_fits g stamp t (Unary a) o fresh is fits = unary_fits g stamp a o
-fired_fits g stamp t (Binary a) o fresh is fits = binary_fits g stamp a o
-fired_fits g stamp t (Merge k) o fresh is fits = merge_fits g stamp t k o is fits
-fired_fits g stamp t (Switch k) o fresh is fits = switch_fits g stamp t k o is fits
-fired_fits g stamp t (Back k) o fresh is fits = back_fits g stamp t k o is fits
+fired_fits g stamp t (Const c) o fresh valid is fits = const_fits g stamp c o
+fired_fits g stamp t (Unary a) o fresh valid is fits = unary_fits g stamp a o
+fired_fits g stamp t (Binary a) o fresh valid is fits = binary_fits g stamp a o
+fired_fits g stamp t (Merge k) o fresh valid is fits = merge_fits g stamp t k o is fits
+fired_fits g stamp t (Switch k) o fresh valid is fits = switch_fits g stamp t k o is fits
+fired_fits g stamp t (Back k) o fresh valid is fits = back_fits g stamp t k o is fits
+fired_fits g stamp t (Enter b r) o fresh valid is fits = enter_fits g stamp fresh.context o
+fired_fits g stamp t (Send k n) o fresh valid is fits = send_fits g stamp t k n o valid is fits
+
+-- ---- what starts a block
+
+same_behind : (m n : ℕ) → (m + 1 == n + 1) ≡ (m == n)
+same_behind m n = grind (arith, nat_tests)
+
+-- behind the first instruction of a block is its second
+second_behind : (g : Parts) (n : ℕ) → is_first g n ≡ true → is_second g (n + 1) ≡ true
+second_behind g n = go g.blocks
+  where
+    go : (bs : List Block) → list_any (λ b. b.first == n) bs ≡ true → list_any (λ b. b.first + 1 == n + 1) bs ≡ true
+    go [] e = cc
+    go (b ∷ bs) e =
+        let rest = go bs in
+        let same : (b.first + 1 == n + 1) ≡ (b.first == n) = same_behind b.first n in
+        rw same (elim (b.first == n) as (λ c. (c || list_any (λ x. x.first == n) bs) ≡ true → (c || list_any (λ x. x.first + 1 == n + 1) bs) ≡ true) [
+          | true ↦ λ h. refl
+          | false ↦ λ h. rest h
+        ] e)
+
+-- the signal and the continuation that start a block fit there
+enter_starts : (g : Parts) (stamp : ℕ) (t : Tag) (c : Context) (b r : ℕ) → IsValid g → op_at g t.instr ≡ Some (Enter b r) → t.iteration ≤ stamp
+    → All (PayloadFits g stamp) (started (Some (Enter b r)) t c)
+enter_starts g stamp t c b r valid is in_time =
+    let entered = IsEntered-valid g t.instr b r valid is in
+    let trigger = (valid.sound b).roles.first entered.first in
+    let signal : PayloadFits g stamp (Token (tag_within c b) port.Zero value.Signal) = record {
+      kind = kind_at_op g b port.Zero (Merge kind.Signal) trigger;
+      in_time = omega arith;
+      continuation = tt;
+    } in
+    let back : PayloadFits g stamp (Token (tag_within c (b + 1)) port.Zero (value.Continuation (beside t r))) = record {
+      kind = kind_at_op g (b + 1) port.Zero (Back entered.kind) entered.back;
+      in_time = omega arith;
+      continuation = (refl, (entered.kind, record { second = second_behind g b entered.first; back = entered.back; merge = entered.reply }), in_time);
+    } in
+    let second : Payload = Token (tag_within c (b + 1)) port.Zero (value.Continuation (beside t r)) in
+    All-cons (PayloadFits g stamp) _ (second ∷ []) signal (All-cons (PayloadFits g stamp) second [] back (All-nil (PayloadFits g stamp)))
+
+starts_fit : (g : Parts) (stamp : ℕ) (t : Tag) (c : Context) (op : Op) → IsValid g → op_at g t.instr ≡ Some op → t.iteration ≤ stamp
+    → All (PayloadFits g stamp) (started (Some op) t c)
+starts_fit g stamp t c (Enter b r) valid is in_time = enter_starts g stamp t c b r valid is in_time
+starts_fit g stamp t c (Const v) valid is in_time = All-nil (PayloadFits g stamp)
+starts_fit g stamp t c (Unary f) valid is in_time = All-nil (PayloadFits g stamp)
+starts_fit g stamp t c (Binary f) valid is in_time = All-nil (PayloadFits g stamp)
+starts_fit g stamp t c (Merge k) valid is in_time = All-nil (PayloadFits g stamp)
+starts_fit g stamp t c (Switch k) valid is in_time = All-nil (PayloadFits g stamp)
+starts_fit g stamp t c (Back k) valid is in_time = All-nil (PayloadFits g stamp)
+starts_fit g stamp t c (Send k n) valid is in_time = All-nil (PayloadFits g stamp)
 
 -- a token of the kind that the instruction sends fits at each of its destinations
 token_fits : (g : Parts) (stamp : ℕ) (t : Tag) (i : Instr) (v : Value) → t.iteration ≤ stamp → sends i.op ≡ Some (kind_of v) → IsPlain v → (d : Dest) → IsTaken g.instrs i.op d → PayloadFits g stamp (token_to t v d)
@@ -191,12 +285,20 @@ tokens_fit g stamp t i v b in_time kinds plain taken =
     (All-weaker (IsTaken g.instrs i.op) (λ d. PayloadFits g stamp (token_to t v d)) (token_fits g stamp t i v in_time kinds plain) (arcs_on b i) taken)
 
 -- what is sent fits
-pub sent_fits : (g : Parts) (stamp : ℕ) (t : Tag) (i : Instr) (f : Fired) → t.iteration ≤ stamp → All (IsTaken g.instrs i.op) (arcs i)
-    → FiredFits g stamp (sends i.op) (two_sides i.op) f → All (PayloadFits g stamp) (sent (arcs_on (side_of f) i) t f)
-sent_fits g stamp t i (Out v) in_time taken fits =
-    tokens_fit g stamp t i v true in_time fits.0 fits.1 (All-true_arcs (IsTaken g.instrs i.op) i taken)
-sent_fits g stamp t i (Side b v) in_time taken fits =
-    tokens_fit g stamp t i v b in_time fits.0 fits.1 (All-arcs_on (IsTaken g.instrs i.op) i b fits.2 taken)
-sent_fits g stamp t i (Sent u v) in_time taken fits = All-cons (PayloadFits g stamp) _ [] fits (All-nil (PayloadFits g stamp))
-sent_fits g stamp t i (Failed f) in_time taken fits = All-nil (PayloadFits g stamp)
-sent_fits g stamp t i Nothing in_time taken fits = All-nil (PayloadFits g stamp)
+pub sent_fits : (g : Parts) (stamp : ℕ) (t : Tag) (i : Instr) (f : Fired) → IsValid g → slice_get g.instrs t.instr ≡ Some i → t.iteration ≤ stamp
+    → FiredFits g stamp (sends i.op) (two_sides i.op) f → All (PayloadFits g stamp) (sent (Some i.op) (arcs_on (side_of f) i) t f)
+sent_fits g stamp t i f valid is in_time = at f
+  where
+    taken : All (IsTaken g.instrs i.op) (arcs i)
+    taken = (valid.sound t.instr).taken i is
+
+    at : (f : Fired) → FiredFits g stamp (sends i.op) (two_sides i.op) f → All (PayloadFits g stamp) (sent (Some i.op) (arcs_on (side_of f) i) t f)
+    at (Out v) fits = tokens_fit g stamp t i v true in_time fits.0 fits.1 (All-true_arcs (IsTaken g.instrs i.op) i taken)
+    at (Side b v) fits = tokens_fit g stamp t i v b in_time fits.0 fits.1 (All-arcs_on (IsTaken g.instrs i.op) i b fits.2 taken)
+    at (Entered c) fits =
+        All-append (PayloadFits g stamp) (map (token_to t (value.Context c)) (arcs_on true i)) (started (Some i.op) t c)
+        (tokens_fit g stamp t i (value.Context c) true in_time fits tt (All-true_arcs (IsTaken g.instrs i.op) i taken))
+        (starts_fit g stamp t c i.op valid (ap (option_map (λ j. j.op)) is) in_time)
+    at (Sent u v) fits = All-cons (PayloadFits g stamp) _ [] fits (All-nil (PayloadFits g stamp))
+    at (Failed k) fits = All-nil (PayloadFits g stamp)
+    at Nothing fits = All-nil (PayloadFits g stamp)

@@ -1,7 +1,8 @@
 -- A message's outcome in the two parts that the code computes: what fires, and what the record keeps.
-use Rattle.std.specs.Prelude.{ℕ, length, max}
+use Rattle.std.specs.Prelude.{ℕ, ◌+◌, Some, length, max}
 use Rattle.id_graph.specs.declared.instr.Instr.{Instr}
 use Rattle.id_tag.specs.declared.Tag.{Tag}
+use Rattle.id_ops.specs.declared.Fresh.{Fresh}
 use Rattle.id_ops.specs.declared.Fired.{Fired}
 use Rattle.id_ops.specs.declared.Fired.TheVariants.{Nothing}
 use Rattle.id_ops.specs.Operators.{fired}
@@ -9,17 +10,19 @@ use Rattle.id_element.specs.declared.step.Arrival.{Arrival}
 use Rattle.id_element.specs.declared.step.Arrival.TheVariants.{Fires, Waits, Blocked}
 use Rattle.id_record.specs.declared.step.Verdict.{Verdict}
 use Rattle.id_record.specs.declared.step.Verdict.TheVariants.{Stuck}
-use Rattle.id_element.specs.Steps.{fresh_numbers, fired_verdict}
+use Rattle.id_record.specs.Sends.{count_started}
+use Rattle.id_element.specs.Steps.{fired_verdict}
 
--- what one message at the instruction sends at most: to each destination on a side, or one
+-- what one message at the instruction sends at most: to each destination on a side, and what starts a block, or one
 abbrev pub most_sent : Instr → ℕ
-most_sent i = max (max (length i.dests) (length i.others)) 1
+most_sent i = max (max (length i.dests) (length i.others)) 1 + count_started (Some i.op)
 
--- what the instruction does with what arrived at the element n: nothing where the token waits or is blocked
-abbrev pub firing_of : Instr → Tag → ℕ → Arrival → Fired
-firing_of i t n (Fires operands) = fired i.op t operands (fresh_numbers n)
-firing_of i t n Waits = Nothing
-firing_of i t n Blocked = Nothing
+-- what the instruction does with what arrived, with the element's next numbers: nothing where the token waits or is
+-- blocked
+abbrev pub firing_of : Instr → Tag → Fresh → Arrival → Fired
+firing_of i t next (Fires operands) = fired i.op t operands next
+firing_of i t next Waits = Nothing
+firing_of i t next Blocked = Nothing
 
 -- what the record keeps of an event
 abbrev pub verdict_of : Arrival → Fired → Verdict

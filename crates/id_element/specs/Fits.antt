@@ -27,6 +27,7 @@ ContinuationFits g stamp t p (value.Continuation u) = (p ≡ Zero) × ((k : Port
 ContinuationFits g stamp t p value.Signal = Unit {0}
 ContinuationFits g stamp t p (value.Int n) = Unit {0}
 ContinuationFits g stamp t p (value.Bool b) = Unit {0}
+ContinuationFits g stamp t p (value.Context c) = Unit {0}
 
 -- a token fits: its port exists and takes its kind, and neither its tag nor a continuation in it has an iteration above the stamp
 pub record TokenFits (g : Parts) (stamp : ℕ) (t : Tag) (p : Port) (v : Value) : Type 0 where

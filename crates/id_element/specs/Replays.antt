@@ -1,5 +1,5 @@
 -- The record of an element leads to its state (docs/MACHINE.md, "The record").
-use Rattle.std.specs.Prelude.{◌≡◌, ◌↔◌, Bool, IsTrue, ◌<◌, ◌-◌, ◌^◌, ℕ, Some, List, [], ◌∷◌, map, All}
+use Rattle.std.specs.Prelude.{◌≡◌, ◌↔◌, Bool, IsTrue, ◌<◌, ◌≤◌, ◌-◌, ◌^◌, ℕ, Some, List, [], ◌∷◌, map, All}
 use Rattle.id_graph.specs.declared.dests.Port.{Port}
 use Rattle.id_tag.specs.declared.Tag.{Tag}
 use Rattle.id_tag.specs.declared.Value.{Value}
@@ -40,11 +40,13 @@ pub record ElementView : Type 0 where
 abbrev pub WaitingFits : Parts → State → Type 0
 WaitingFits g s = (t : Tag) (p : Port) (v : Value) → waits s.waiting t p ≡ Some v → TokenFits g s.stamp t p v
 
--- what every element keeps: its record leads to its state, by legal events, and what waits fits the graph
+-- what every element keeps: its record leads to its state, by legal events, what waits fits the graph, and as it makes
+-- at most one context in an event, the stamp runs out before their numbers do
 pub record Replays (e : ElementView) : Type 0 where
   pub state : IsReplayed e.graph e.number e.state
   pub legal : All (IsLegal e.graph e.count e.number) e.state.events
   pub waiting : WaitingFits e.graph e.state
+  pub counted : e.state.contexts ≤ e.state.stamp
 
 -- what an element keeps beside its state: its record replays, and a flag says whether every event went well
 pub record IsKept (e : ElementView) (went : Bool) : Type 0 where

@@ -1,19 +1,21 @@
-//! What an element works on: what waits, the last stamp and the record.
+//! What an element works on: what waits, the last stamp, how many contexts it has made, and the record.
 
-use crate::outcome::{most_sent, next_stamp, react, send};
+use crate::outcome::{made_by, most_sent, next_stamp, react, send};
 use crate::step::TakeError;
 use id_graph::{Graph, Instr};
 use id_match::Waiting;
-use id_record::{Envelope, Handled, Reaction, Record, Step, chosen, full_step};
+use id_record::{Envelope, Handled, Reaction, Record, Step, full_step};
 use id_tag::{Message, Payload, Tag};
 use id_valid::Valid;
 use std::alloc::{AllocError, Global};
 
-/// What waits at an element, its last stamp, and its record, which knows its number.
+/// What waits at an element, its last stamp, how many contexts it has made, and its record, which
+/// knows its number.
 #[derive(Drop)]
 pub(crate) struct Desk<'a> {
     pub(crate) waiting: Waiting,
     pub(crate) stamp: u64,
+    pub(crate) contexts: u64,
     pub(crate) log: Record<'a>,
 }
 
@@ -22,11 +24,12 @@ impl<'a> Desk<'a> {
     ghost use Rattle.id_element.specs.declared.step.TakeError.TheVariants.{StampEnd};
     ghost use Rattle.id_record.specs.Events.{full_step, tag_of};
     ghost use Rattle.id_element.specs.Fits.{Fits};
-    ghost use Rattle.id_element.specs.Steps.{fresh, is_ended, step_of, outputs_of, state_after};
+    ghost use Rattle.id_element.specs.Steps.{fresh, is_ended, made_by, step_of, outputs_of, state_after};
     ghost use Rattle.id_record.specs.Sends.{numbered, sent};
+    ghost use Rattle.id_valid.specs.Validator.{IsValid};
     ghost use Rattle.id_element.specs.Desks.{state_of};
     ghost use Rattle.id_element.specs.Firings.{most_sent};
-    ghost use Rattle.id_graph.specs.Graph.{arcs_on};
+    ghost use Rattle.id_graph.specs.Graph.{arcs_on, IsGraph};
     ghost use Rattle.id_ops.specs.Operators.{side_of};
 
     /// The desk of the element of this number, at which nothing was handled. Takes no memory.
@@ -38,6 +41,7 @@ impl<'a> Desk<'a> {
         Desk {
             waiting: Waiting::new(alloc),
             stamp: 0,
+            contexts: 0,
             log: Record::new(alloc, number, graph),
         }
     }
@@ -50,6 +54,8 @@ impl<'a> Desk<'a> {
         outputs: &mut Vec<Message>,
     ) -> Result<Step, TakeError>
         requires own { graph.now ≡ self.old.log.graph }
+        requires valid { IsValid graph.now }
+        requires counted { self.old.contexts ≤ self.old.stamp }
         requires fits { Fits graph.now message }
 
         ensures step { IfOk result (λ step. step ≡ step_of graph.now self.old.log.element (state_of self.old) message) }
@@ -70,7 +76,8 @@ impl<'a> Desk<'a> {
                 let instr = &graph.instrs()[tag.instr as usize];
                 self.reserve(instr, outputs)?;
                 let number = self.log.element();
-                let reaction = react(&mut self.waiting, instr, number, tag, port, value)?;
+                let made = self.contexts;
+                let reaction = react(&mut self.waiting, instr, number, made, tag, port, value)?;
                 Ok(self.conclude(instr, tag, message, stamp, reaction, outputs))
             }
         }
@@ -108,10 +115,14 @@ impl<'a> Desk<'a> {
         requires own { slice_get self.old.log.graph.instrs (tag_of message.payload).instr ≡ Some instr.now }
         requires tag { tag ≡ tag_of message.payload }
         requires room_in_outputs { vec_len outputs.old + most_sent instr.now ≤ vec_capacity outputs.old }
+        requires graph { IsGraph self.old.log.graph }
+        requires valid { IsValid self.old.log.graph }
+        requires counted { self.old.contexts + 1 < 2 ^ 64 }
 
         ensures step { result ≡ full_step message.payload reaction.verdict }
         ensures waiting { self.new.waiting ≡ self.old.waiting }
         ensures stamp { self.new.stamp ≡ stamp }
+        ensures contexts { self.new.contexts ≡ self.old.contexts + made_by reaction.fired }
         ensures number { self.new.log.element ≡ self.old.log.element }
         ensures graph { self.new.log.graph ≡ self.old.log.graph }
         ensures events { self.new.log.events ≡ self.old.log.events ++ record {
@@ -119,31 +130,26 @@ impl<'a> Desk<'a> {
           stamp = stamp;
           message = message;
           outputs = numbered self.old.log.element (length self.old.log.events) stamp 0
-              (sent (arcs_on (side_of reaction.fired) instr.now) tag reaction.fired);
+              (sent (Some instr.now.op) (arcs_on (side_of reaction.fired) instr.now) tag reaction.fired);
           step = full_step message.payload reaction.verdict;
         } ∷ [] }
         ensures outputs { outputs.new.items ≡ outputs.old.items
             ++ numbered self.old.log.element (length self.old.log.events) stamp 0
-            (sent (arcs_on (side_of reaction.fired) instr.now) tag reaction.fired) }
+            (sent (Some instr.now.op) (arcs_on (side_of reaction.fired) instr.now) tag reaction.fired) }
     {
         let envelope = Envelope {
             number: self.log.element(),
             position: self.log.len(),
             stamp,
         };
-        send(
-            chosen(instr, reaction.fired),
-            tag,
-            reaction.fired,
-            envelope,
-            outputs,
-        );
+        send(instr, tag, reaction.fired, envelope, outputs);
         self.log.push(Handled {
             message,
             stamp,
             reaction,
         });
         self.stamp = stamp;
+        self.contexts += made_by(reaction.fired);
         full_step(&message.payload, reaction.verdict)
     }
 }

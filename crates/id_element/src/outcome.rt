@@ -2,8 +2,8 @@
 
 ghost use Rattle.std.specs.Prelude.{ℕ, Some, ◌≡◌, ◌+◌, ◌-◌, ◌^◌, ◌<◌, ◌≤◌, ◌++◌, ◌||◌, ◌==◌, length, max, vec_len, vec_capacity, IfOk, OnOk, OnErr, IfErr, IsTrue, false, map};
 ghost use Rattle.id_element.specs.Fits.{Fits};
-ghost use Rattle.id_element.specs.Steps.{State, outputs_of, at_instr, arrival, waiting_after, fresh_numbers};
-ghost use Rattle.id_record.specs.Sends.{sent, numbered, token_to};
+ghost use Rattle.id_element.specs.Steps.{State, outputs_of, at_instr, arrival, made_by, waiting_after, fresh_numbers};
+ghost use Rattle.id_record.specs.Sends.{HasSecond, count_started, sent, started, numbered, token_to};
 ghost use Rattle.id_tag.specs.declared.Sender.TheVariants.{Element};
 ghost use Rattle.id_tag.specs.declared.Payload.TheVariants.{Token};
 ghost use Rattle.id_record.specs.Events.{full_step};
@@ -15,7 +15,9 @@ use crate::step::{Arrival, TakeError};
 use id_graph::{Dest, Graph, Instr, Op, Port};
 use id_match::{Offered, Waiting};
 use id_ops::{Fired, Fresh, Operands, fire};
-use id_record::{Envelope, Reaction, Verdict, message, tag_of, token_to};
+use id_record::{
+    Envelope, Reaction, Verdict, chosen, count_started, message, start, tag_of, token_to,
+};
 use id_tag::{Context, Message, Payload, Tag, Value};
 use std::alloc::AllocError;
 
@@ -38,7 +40,7 @@ pub(crate) fn most_sent(instr: &Instr) -> usize
     ensures { result ≡ most_sent instr.now }
 {
     let dests = instr.dests.as_slice().len();
-    dests.max(instr.others.as_slice().len()).max(1)
+    dests.max(instr.others.as_slice().len()).max(1) + count_started(Some(instr.op))
 }
 
 /// An upper bound on what any element sends for a message that fits.
@@ -50,25 +52,29 @@ pub fn most_outputs(graph: &Graph, message: &Message) -> usize
     most_sent(&graph.instrs()[tag.instr as usize])
 }
 
-/// Lets a token come to its instruction, at the element of this number. After an error nothing has changed.
+/// Lets a token come to its instruction, at the element of this number, which has made so many
+/// contexts. After an error nothing has changed.
 pub(crate) fn react(
     waiting: &mut Waiting,
     instr: &Instr,
     number: u32,
+    made: u64,
     tag: Tag,
     port: Port,
     value: Value,
 ) -> Result<Reaction, AllocError>
-    ensures outcome { IfOk result (λ r. at_instr number waiting.old tag port value (Some instr.now)
+    requires { made + 1 < 2 ^ 64 }
+    ensures outcome { IfOk result (λ r. at_instr (fresh_numbers number made) waiting.old tag port value (Some instr.now)
         ≡ record {
-          sends = sent (arcs_on (side_of r.fired) instr.now) tag r.fired;
+          sends = sent (Some instr.now.op) (arcs_on (side_of r.fired) instr.now) tag r.fired;
           step = full_step (Token tag port value) r.verdict;
           waiting = waiting.new;
+          made = made_by r.fired;
         }) }
     ensures err { OnErr result (waiting.new ≡ waiting.old) }
 {
     let arrival = arrive(waiting, instr.op, tag, port, value)?;
-    let fired = firing(instr, tag, number, arrival);
+    let fired = firing(instr, tag, number, made, arrival);
     let verdict = verdict(arrival, fired);
     Ok(Reaction { fired, verdict })
 }
@@ -96,26 +102,38 @@ fn arrive(
 }
 
 /// What the instruction does with what arrived: nothing where the token waits or is blocked.
-fn firing(instr: &Instr, tag: Tag, number: u32, arrival: Arrival) -> Fired
-    ensures { result ≡ firing_of instr.now tag number arrival }
+fn firing(instr: &Instr, tag: Tag, number: u32, made: u64, arrival: Arrival) -> Fired
+    requires { made + 1 < 2 ^ 64 }
+    ensures { result ≡ firing_of instr.now tag (fresh_numbers number made) arrival }
 {
     match arrival {
-        Arrival::Fires(operands) => fire(instr, tag, operands, fresh_numbers(number)),
+        Arrival::Fires(operands) => fire(instr, tag, operands, fresh_numbers(number, made)),
         Arrival::Waits | Arrival::Blocked => Fired::Nothing,
     }
 }
 
-/// The numbers that an element would give next: no operator takes one yet.
-fn fresh_numbers(number: u32) -> Fresh
-    ensures { result ≡ fresh_numbers number }
+/// The numbers that an element gives next, where it has made so many contexts. Takes no memory.
+fn fresh_numbers(number: u32, made: u64) -> Fresh
+    requires { made + 1 < 2 ^ 64 }
+    ensures { result ≡ fresh_numbers number made }
 {
     Fresh {
         context: Context {
             element: number,
-            serial: 1,
+            serial: made + 1,
         },
         element: number,
         structure: 1,
+    }
+}
+
+/// How many contexts a firing takes. Takes no memory.
+pub(crate) fn made_by(fired: Fired) -> u64
+    ensures { result ≡ made_by fired }
+{
+    match fired {
+        Fired::Entered(_) => 1,
+        _ => 0,
     }
 }
 
@@ -132,17 +150,24 @@ fn verdict(arrival: Arrival, fired: Fired) -> Verdict
 
 /// Appends the outputs of a firing, for which there is room. Takes no memory.
 pub(crate) fn send(
-    dests: &[Dest],
+    instr: &Instr,
     tag: Tag,
     fired: Fired,
     envelope: Envelope,
     outputs: &mut Vec<Message>,
 )
-    requires { vec_len outputs.old + max (length dests.now) 1 ≤ vec_capacity outputs.old }
-    ensures { outputs.new.items ≡ outputs.old.items ++ numbered envelope.number envelope.position envelope.stamp 0 (sent dests.now tag fired) }
+    requires room { vec_len outputs.old + most_sent instr.now ≤ vec_capacity outputs.old }
+    requires second { HasSecond (Some instr.now.op) }
+    ensures { outputs.new.items ≡ outputs.old.items ++ numbered envelope.number envelope.position envelope.stamp 0
+        (sent (Some instr.now.op) (arcs_on (side_of fired) instr.now) tag fired) }
 {
+    let dests = chosen(instr, fired);
     match fired {
         Fired::Out(value) | Fired::Side(_, value) => send_all(dests, tag, value, envelope, outputs),
+        Fired::Entered(context) => {
+            send_all(dests, tag, Value::Context(context), envelope, outputs);
+            send_start(instr.op, tag, context, dests.len(), envelope, outputs);
+        }
         Fired::Sent(target, value) => {
             outputs.push_reserved(message(
                 envelope,
@@ -158,10 +183,35 @@ pub(crate) fn send(
     }
 }
 
+/// Appends what starts the block that the operator names, with numbers from this one on.
+fn send_start(
+    op: Op,
+    tag: Tag,
+    context: Context,
+    number: usize,
+    envelope: Envelope,
+    outputs: &mut Vec<Message>,
+)
+    requires room { vec_len outputs.old + count_started (Some op) ≤ vec_capacity outputs.old }
+    requires number { number < 2 ^ 63 }
+    requires second { HasSecond (Some op) }
+    ensures { outputs.new.items ≡ outputs.old.items
+        ++ numbered envelope.number envelope.position envelope.stamp number (started (Some op) tag context) }
+{
+    if let Op::Enter { .. } = op {
+        let signal = start(Some(op), tag, context, 0);
+        outputs.push_reserved(message(envelope, number, signal));
+        let continuation = start(Some(op), tag, context, 1);
+        outputs.push_reserved(message(envelope, number + 1, continuation));
+    }
+}
+
 /// Appends one token for each destination, in order.
 fn send_all(dests: &[Dest], tag: Tag, value: Value, envelope: Envelope, outputs: &mut Vec<Message>)
     requires { vec_len outputs.old + length dests.now ≤ vec_capacity outputs.old }
-    ensures { outputs.new.items ≡ outputs.old.items ++ numbered envelope.number envelope.position envelope.stamp 0 (map (token_to tag value) dests.now) }
+    ensures items { outputs.new.items ≡ outputs.old.items ++ numbered envelope.number envelope.position envelope.stamp 0 (map (token_to tag value) dests.now) }
+    ensures len { vec_len outputs.new ≡ vec_len outputs.old + length dests.now }
+    ensures capacity { vec_capacity outputs.new ≡ vec_capacity outputs.old }
 {
     for (number, dest) in dests.iter().enumerate() {
         outputs.push_reserved(message(envelope, number, token_to(tag, value, *dest)));

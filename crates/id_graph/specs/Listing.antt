@@ -5,7 +5,7 @@ use Rattle.std.specs.Fmt.{decimal, signed_decimal}
 use Rattle.id_text.specs.Places.{line_of, column_of}
 use Rattle.id_graph.specs.declared.instr.Instr.{Instr}
 use Rattle.id_graph.specs.declared.instr.Op.{Op}
-use Rattle.id_graph.specs.declared.instr.Op.TheVariants.{Const, Unary, Binary, Merge, Switch, Back}
+use Rattle.id_graph.specs.declared.instr.Op.TheVariants.{Const, Unary, Binary, Merge, Switch, Back, Enter, Send}
 use Rattle.id_graph.specs.declared.instr.Dyadic.{Dyadic}
 use Rattle.id_graph.specs.declared.instr.Dyadic.TheVariants as class
 use Rattle.id_graph.specs.declared.instr.PortKind.{PortKind}
@@ -85,6 +85,8 @@ op_text (Binary f) = dyadic_name f
 op_text (Merge k) = codes "merge " ++ kind_name k
 op_text (Switch k) = codes "switch " ++ kind_name k
 op_text (Back k) = codes "back " ++ kind_name k
+op_text (Enter b r) = codes "enter " ++ decimal b ++ codes " " ++ decimal r
+op_text (Send k t) = codes "send " ++ kind_name k ++ codes " " ++ decimal t
 
 -- the number of a port
 abbrev pub port_number : Port → ℕ

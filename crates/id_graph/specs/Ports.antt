@@ -1,7 +1,7 @@
 -- The ports of operators, and what they take and send (docs/GRAPH.md, "Operators").
 use Rattle.std.specs.Prelude.{Bool, true, false, Option, Some, None, is_some}
 use Rattle.id_graph.specs.declared.instr.Op.{Op}
-use Rattle.id_graph.specs.declared.instr.Op.TheVariants.{Const, Unary, Binary, Merge, Switch, Back}
+use Rattle.id_graph.specs.declared.instr.Op.TheVariants.{Const, Unary, Binary, Merge, Switch, Back, Enter, Send}
 use Rattle.id_graph.specs.declared.instr.Dyadic.{Dyadic}
 use Rattle.id_graph.specs.declared.instr.Dyadic.TheVariants.{Arithmetic, Comparison, Truth}
 use Rattle.id_value.specs.declared.UnaryOp.{UnaryOp}
@@ -9,7 +9,7 @@ use Rattle.id_value.specs.declared.UnaryOp.TheVariants.{Neg, Not}
 use Rattle.id_value.specs.declared.Constant.{Constant}
 use Rattle.id_value.specs.declared.Constant.TheVariants.{Int as IntConstant, Bool as BoolConstant}
 use Rattle.id_graph.specs.declared.instr.PortKind.{PortKind}
-use Rattle.id_graph.specs.declared.instr.PortKind.TheVariants.{Signal, Int, Bool as BoolKind, Continuation}
+use Rattle.id_graph.specs.declared.instr.PortKind.TheVariants.{Signal, Int, Bool as BoolKind, Context, Continuation}
 use Rattle.id_graph.specs.declared.dests.Port.{Port}
 use Rattle.id_graph.specs.declared.dests.Port.TheVariants.{Zero, One}
 
@@ -43,6 +43,10 @@ port_kind (Switch k) Zero = Some BoolKind
 port_kind (Switch k) One = Some k
 port_kind (Back k) Zero = Some Continuation
 port_kind (Back k) One = Some k
+port_kind (Enter b r) Zero = Some Signal
+port_kind (Enter b r) One = None
+port_kind (Send k t) Zero = Some Context
+port_kind (Send k t) One = Some k
 
 -- whether the operator has a second port
 abbrev pub two_ports : Op → Bool
@@ -61,6 +65,8 @@ sends (Binary f) = Some (outcome_kind f)
 sends (Merge k) = Some k
 sends (Switch k) = Some k
 sends (Back k) = None
+sends (Enter b r) = Some Context
+sends (Send k t) = None
 
 -- whether the operator has two sides, each with its destinations: a switch alone has
 abbrev pub two_sides : Op → Bool
@@ -70,3 +76,5 @@ two_sides (Binary f) = false
 two_sides (Merge k) = false
 two_sides (Switch k) = true
 two_sides (Back k) = false
+two_sides (Enter b r) = false
+two_sides (Send k t) = false

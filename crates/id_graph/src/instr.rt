@@ -69,6 +69,12 @@ pub enum Op {
     Switch(PortKind),
     /// Sends a value of one kind to the continuation that came with it.
     Back(PortKind),
+    /// Makes a context, sends it on, and starts the block with this first instruction in it; what
+    /// the block gives comes back to the instruction `reply`.
+    Enter { block: u32, reply: u32 },
+    /// Sends a value of one kind to an entry, the instruction `target`, in the context that came
+    /// with it.
+    Send { kind: PortKind, target: u32 },
 }
 
 impl Op {
@@ -84,14 +90,15 @@ impl Op {
         ensures { result ≡ port_kind self port }
     {
         match (self, port) {
-            (Op::Const(_), Port::Zero) => Some(PortKind::Signal),
+            (Op::Const(_) | Op::Enter { .. }, Port::Zero) => Some(PortKind::Signal),
             (Op::Unary(operator), Port::Zero) => Some(unary_kind(operator)),
             (Op::Binary(operator), _) => Some(operator.operand_kind()),
             (Op::Merge(kind), Port::Zero) => Some(kind),
             (Op::Switch(_), Port::Zero) => Some(PortKind::Bool),
-            (Op::Switch(kind) | Op::Back(kind), Port::One) => Some(kind),
+            (Op::Switch(kind) | Op::Back(kind) | Op::Send { kind, .. }, Port::One) => Some(kind),
             (Op::Back(_), Port::Zero) => Some(PortKind::Continuation),
-            (Op::Const(_) | Op::Unary(_) | Op::Merge(_), Port::One) => None,
+            (Op::Send { .. }, Port::Zero) => Some(PortKind::Context),
+            (Op::Const(_) | Op::Unary(_) | Op::Merge(_) | Op::Enter { .. }, Port::One) => None,
         }
     }
 
@@ -105,7 +112,8 @@ impl Op {
             Op::Unary(operator) => Some(unary_kind(operator)),
             Op::Binary(operator) => Some(operator.outcome_kind()),
             Op::Merge(kind) | Op::Switch(kind) => Some(kind),
-            Op::Back(_) => None,
+            Op::Enter { .. } => Some(PortKind::Context),
+            Op::Back(_) | Op::Send { .. } => None,
         }
     }
 

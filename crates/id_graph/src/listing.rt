@@ -96,6 +96,8 @@ fn write_op(out: &mut String, op: Op) -> Result<(), AllocError>
         Op::Merge(kind) => write!(out, "merge {}", kind_name(kind)),
         Op::Switch(kind) => write!(out, "switch {}", kind_name(kind)),
         Op::Back(kind) => write!(out, "back {}", kind_name(kind)),
+        Op::Enter { block, reply } => write!(out, "enter {block} {reply}"),
+        Op::Send { kind, target } => write!(out, "send {} {target}", kind_name(kind)),
     }
 }
 

@@ -18,7 +18,7 @@ use Rattle.id_tag.specs.declared.Payload.TheVariants.{Token}
 use Rattle.id_ops.specs.declared.Operands.{Operands}
 use Rattle.id_ops.specs.declared.Fresh.{Fresh}
 use Rattle.id_ops.specs.declared.Fired.{Fired}
-use Rattle.id_ops.specs.declared.Fired.TheVariants.{Out, Side, Sent, Failed, Nothing}
+use Rattle.id_ops.specs.declared.Fired.TheVariants.{Out, Side, Entered, Sent, Failed, Nothing}
 use Rattle.id_ops.specs.Operators.{fired}
 use Rattle.id_record.specs.Records.{dests_at, sent_by}
 use Rattle.id_core.specs.Steps.{token_to}
@@ -30,7 +30,7 @@ use Rattle.id_build.specs.Schemas.{Numbered}
 use Rattle.id_runs.specs.Activations.{Activation, main_activation, at_iteration, activation_of, tag_in}
 use Rattle.id_runs.specs.Events.{Event, FiresAs, GivesOn}
 use Rattle.id_runs.specs.Runs.{Reach, handled, starting}
-use Rattle.id_runs.proofs.Givings.{SentAs, along as along_arc, to_tag, sent_as}
+use Rattle.id_runs.proofs.Givings.{SentAs, along as along_arc, to_tag, to_start, sent_as}
 use Rattle.id_runs.proofs.Messages.{sent_from}
 use Rattle.id_runs.proofs.Waiting.{HasFired, has_fired, OperandsHandled, one_handled, two_handled}
 use Rattle.id_runs.proofs.EveryMessage.{Passes, every_message}
@@ -129,6 +129,7 @@ module _ (S : Source) (known : IsKnown S.checked) (g : Parts) (number : ℕ → 
       let at = one_part numbered here there same in
       let is : record { row = row; part = part; side = b } ≡ s = (λ i. record { row = sym at.0 i; part = sym at.1 i; side = sym gives.0 i }) in
       subst (λ (z : Origin × Value). Tells S number run a (topic_of P z.0) z.1) {x = (record { row = row; part = part; side = b }, w)} {y = (s, v)} (λ i. (is i, sym gives.1 i)) means
+  origin_tells a s row part (Entered c) v here other there same gives means = absurd means
   origin_tells a s row part (Sent u w) v here other there same gives means = absurd gives
   origin_tells a s row part (Failed k) v here other there same gives means = absurd gives
   origin_tells a s row part Nothing v here other there same gives means = absurd gives
@@ -168,6 +169,7 @@ module _ (S : Source) (known : IsKnown S.checked) (g : Parts) (number : ℕ → 
       by : SentAs g t f x → T x
       by (along_arc b v d gives among says) = subst T (sym says) (along t row part f b v fires gives is_part at means d among)
       by (to_tag u v is says) = subst T (sym says) (back (activation_of t) row u v (subst (Means S number run (activation_of t) row part) is means))
+      by (to_start c is among) = absurd (subst (Means S number run (activation_of t) row part) is means)
 
   abbrev InRun : Event → Type 0
   InRun e = Among e run

@@ -26,7 +26,7 @@ use Rattle.id_ops.specs.declared.Operands.{Operands}
 use Rattle.id_ops.specs.declared.Operands.TheVariants as operands
 use Rattle.id_ops.specs.declared.Fresh.{Fresh}
 use Rattle.id_ops.specs.declared.Fired.{Fired}
-use Rattle.id_ops.specs.declared.Fired.TheVariants.{Out, Side, Sent, Failed, Nothing}
+use Rattle.id_ops.specs.declared.Fired.TheVariants.{Out, Side, Entered, Sent, Failed, Nothing}
 use Rattle.id_ops.specs.Operators.{constant_value, fired_by, fired_unary, fired_binary, fired_switch, fired}
 use Rattle.id_meaning.specs.declared.Path.{Path}
 use Rattle.id_meaning.specs.declared.SourceValue.{SourceValue}
@@ -95,6 +95,7 @@ module _ (S : Source) (number : ℕ → ℕ → ℕ) (run : List Event) where
   abbrev pub Means : Activation → ℕ → ℕ → Fired → Type 0
   Means a n part (Out v) = (node S.checked n ≡ Program → ⊥) → Tells S number run a (topic_of S.checked (record { row = n; part = part; side = true })) v
   Means a n part (Side b v) = Tells S number run a (topic_of S.checked (record { row = n; part = part; side = b })) v
+  Means a n part (Entered c) = ⊥
   Means a n part (Sent u v) = Returned a n u v
   Means a n part (Failed k) = FaultAt a n k
   Means a n part Nothing = Unit {0}

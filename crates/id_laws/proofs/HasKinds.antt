@@ -1,5 +1,5 @@
 -- What a thing Has is of its kind.
-use Rattle.std.proofs.Common.{◌≡◌, inl, inr, ℕ, zero, suc, ◌<◌, ℤ, Bool as Truth, true, false, cond, Some, None, List, [], ◌∷◌, length, slice_get}
+use Rattle.std.proofs.Common.{◌≡◌, inl, inr, ℕ, zero, suc, ◌<◌, Bool as Truth, true, false, Some, None, List, [], ◌∷◌, length, slice_get}
 use Rattle.std.proofs.Common.{unwrap_or, arith, refl, sym, ◌∙◌, ap, subst}
 use Rattle.std.specs.Prelude.{neg_ℤ}
 use Rattle.id_value.specs.declared.Kind.{Kind}

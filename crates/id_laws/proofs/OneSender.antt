@@ -24,7 +24,7 @@ use Rattle.id_tag.specs.declared.Value.{Value}
 use Rattle.id_tag.specs.declared.Payload.{Payload}
 use Rattle.id_tag.specs.declared.Payload.TheVariants.{Token}
 use Rattle.id_ops.specs.declared.Fired.{Fired}
-use Rattle.id_ops.specs.declared.Fired.TheVariants.{Out, Side, Sent, Failed, Nothing}
+use Rattle.id_ops.specs.declared.Fired.TheVariants.{Out, Side, Entered, Sent, Failed, Nothing}
 use Rattle.id_ops.specs.Operators.{side_of}
 use Rattle.id_core.specs.Steps.{sent, token_to}
 use Rattle.id_record.specs.Records.{dests_at}
@@ -40,7 +40,7 @@ use Rattle.id_runs.specs.Events.{Event, Took, Waits, Blocked, Fires, FiresOnce, 
 use Rattle.id_runs.specs.Keys.{Key, AtPort, key_of}
 use Rattle.id_runs.specs.Runs.{Reach, handled, starting}
 use Rattle.id_runs.specs.OneMessage.{count_for, Exclusive}
-use Rattle.id_runs.proofs.Keys.{count_none, count_one, count_first}
+use Rattle.id_runs.proofs.Keys.{count_none, count_one, count_first, count_append}
 use Rattle.id_runs.proofs.Messages.{one_firing}
 use Rattle.id_laws.specs.Activations.{main_head, Speaks, Live, ReturnsTo, to_answer}
 use Rattle.id_laws.specs.Topics.{AllTell, AllSpeak, Tells, topic_at, wants}
@@ -51,7 +51,11 @@ use Rattle.id_laws.proofs.Assumed.{IsKnown}
 use Rattle.id_laws.proofs.Blocks.{IsParam, a_param}
 use Rattle.id_laws.proofs.Conditionals.{arm_of, conditional, sides_apart}
 use Rattle.id_laws.proofs.Origins.{origin_shows}
-use Rattle.id_laws.proofs.Senders.{came_by}
+use Rattle.std.specs.Prelude.{option_map}
+use Rattle.id_tag.specs.declared.Value.TheVariants as value
+use Rattle.id_valid.specs.Roles.{op_at}
+use Rattle.id_record.specs.Sends.{started as block_started}
+use Rattle.id_laws.proofs.Senders.{came_by, no_enter, starts_none}
 use Rattle.id_laws.proofs.Start.{started, starts_once}
 use Rattle.id_laws.proofs.Tokens.{one_part, port_of}
 
@@ -87,22 +91,35 @@ dests_apart k u v (d ∷ ds) differ =
     let one : d ≡ other.0 = (λ i. record { instr = instr_is i; port = port_is i }) in
     differ.0 (subst (λ w. Among w ds) (sym one) other.1))
 
-sent_apart : (k : Key) (u : Tag) (ds : List Dest) (f : Fired) → AllDiffer ds → count_for k (sent ds u f) ≤ 1
-sent_apart k u ds (Out v) differ = dests_apart k u v ds differ
-sent_apart k u ds (Side b v) differ = dests_apart k u v ds differ
-sent_apart k u ds (Sent t v) differ = count_one k (Token t Zero v)
-sent_apart k u ds (Failed x) differ = omega (arith, count_none k)
-sent_apart k u ds Nothing differ = omega (arith, count_none k)
+sent_apart : (k : Key) (o : Option Op) (u : Tag) (ds : List Dest) (f : Fired) → ((c : Context) → block_started o u c ≡ []) → AllDiffer ds → count_for k (sent o ds u f) ≤ 1
+sent_apart k o u ds (Out v) none differ = dests_apart k u v ds differ
+sent_apart k o u ds (Side b v) none differ = dests_apart k u v ds differ
+sent_apart k o u ds (Entered c) none differ =
+    let tokens = map (token_to u (value.Context c)) ds in
+    omega (arith, dests_apart k u (value.Context c) ds differ, count_append k tokens (block_started o u c), ap (count_for k) (none c), count_none k)
+sent_apart k o u ds (Sent t v) none differ = count_one k (Token t Zero v)
+sent_apart k o u ds (Failed x) none differ = omega (arith, count_none k)
+sent_apart k o u ds Nothing none differ = omega (arith, count_none k)
 
 module _ (P : Checked) (g : Parts) (number : ℕ → ℕ → ℕ) (numbered : Numbered P g number) where
   differ_at : (m : ℕ) (b : Truth) (o : Option Instr) → slice_get g.instrs m ≡ o → AllDiffer (option_map_or (arcs_on b) o [])
   differ_at m b None is = tt
   differ_at m b (Some i) is = numbered.once m i b is
 
+  starts_nothing : (t : Tag) (o : Option Instr) → slice_get g.instrs t.instr ≡ o → (c : Context) → block_started (op_at g t.instr) t c ≡ []
+  starts_nothing t None at c = ap (λ o. block_started (option_map (λ (i : Instr). i.op) o) t c) at
+  starts_nothing t (Some i) at c =
+      let z = numbered.only t.instr i at in
+      let d = doing z.makes in
+      let m = numbered.made z.row z.part z.form z.place z.makes in
+      let both : Some m.instr ≡ Some i = sym m.at ∙ ap (slice_get g.instrs) z.is ∙ at in
+      let op_is : d.op ≡ i.op = sym (ap (op_by number) d.form_is) ∙ sym m.op ∙ ap (λ (j : Instr). j.op) (some_is both) in
+      ap (λ o. block_started (option_map (λ (j : Instr). j.op) o) t c) at ∙ starts_none i.op t c (no_enter (subst (λ o. Does P z.row z.part o) op_is d.does))
+
   pub sends_once : (e : Event) (k : Key) → count_for k (sends_of g e) ≤ 1
   sends_once (Took n t p v Waits) k = omega (arith, count_none k)
   sends_once (Took n t p v Blocked) k = omega (arith, count_none k)
-  sends_once (Took n t p v (Fires ops f)) k = sent_apart k t (dests_at g t.instr (side_of f)) f (differ_at t.instr (side_of f) _ refl)
+  sends_once (Took n t p v (Fires ops f)) k = sent_apart k (op_at g t.instr) t (dests_at g t.instr (side_of f)) f (starts_nothing t _ refl) (differ_at t.instr (side_of f) _ refl)
 
 -- ---- two ways to one port are of one event
 

@@ -30,7 +30,7 @@ use Rattle.id_ops.specs.declared.Operands.{Operands}
 use Rattle.id_ops.specs.declared.Operands.TheVariants.{One as Alone, Two}
 use Rattle.id_ops.specs.declared.Fresh.{Fresh}
 use Rattle.id_ops.specs.declared.Fired.{Fired}
-use Rattle.id_ops.specs.declared.Fired.TheVariants.{Out, Side, Sent, Failed, Nothing}
+use Rattle.id_ops.specs.declared.Fired.TheVariants.{Out, Side, Entered, Sent, Failed, Nothing}
 use Rattle.id_ops.specs.Operators.{fired, fired_by, fired_merge}
 use Rattle.id_valid.specs.Validator.{is_value}
 use Rattle.id_record.specs.declared.step.Step.TheVariants.{Went, Fault}
@@ -65,6 +65,7 @@ use Rattle.id_laws.specs.Activations.{Live, at_start, Speaks, main_head}
 use Rattle.id_laws.specs.Carried.{Here, CarriedHas, speaker}
 use Rattle.id_laws.specs.Ways.{way_back}
 use Rattle.id_laws.proofs.Agreement.{agree_unary, agree_at}
+use Rattle.id_tag.specs.declared.Context.{Context}
 use Rattle.id_laws.proofs.Arcs.{returns, unary, binary}
 use Rattle.id_laws.proofs.Assumed.{IsKnown}
 use Rattle.id_laws.proofs.CarriedFacts.{carried, here_is, operand_spoken, stands_is, body_region}
@@ -129,6 +130,14 @@ merged_no_side false c v u h = cc
 merge_no_side : (k : PortKind) (ops : Operands) (c : Truth) (u : Value) → Side c u ≡ fired_merge k ops → ⊥
 merge_no_side k (Alone v) c u h = merged_no_side (same_kind (kind_of v) k) c v u h
 merge_no_side k (Two v w) c u h = cc
+
+merged_enters_none : (b : _) (v : Value) (c : Context) → Entered c ≡ cond b (Out v) Nothing → ⊥
+merged_enters_none true v c h = cc
+merged_enters_none false v c h = cc
+
+merge_enters_none : (k : PortKind) (ops : Operands) (c : Context) → Entered c ≡ fired_merge k ops → ⊥
+merge_enters_none k (Alone v) c h = merged_enters_none (same_kind (kind_of v) k) v c h
+merge_enters_none k (Two v w) c h = cc
 
 -- what a merge lets out came in
 merged_is : (b : Truth) (v u : Value) → cond b (Out v) Nothing ≡ Out u → v ≡ u
@@ -274,6 +283,12 @@ module _ (S : Source) (g : Parts) (number : ℕ → ℕ → ℕ) (numbered : Num
           let same : z.instr ≡ m.instr = some_is (sym z.at ∙ m.at) in
           let op_is : (z.instr).op ≡ op.Merge (port_at P b) = ap (λ (i : Instr). i.op) same ∙ m.op in
           absurd (merge_no_side (port_at P b) y.operands c u (z.is ∙ ap (λ o. fired o t y.operands z.fresh) op_is))
+      by (Entered c) y gives =
+          let z = has_fired g S.inputs count s run r y in
+          let m = label_made P known g number numbered b within binds in
+          let same : z.instr ≡ m.instr = some_is (sym z.at ∙ m.at) in
+          let op_is : (z.instr).op ≡ op.Merge (port_at P b) = ap (λ (i : Instr). i.op) same ∙ m.op in
+          absurd (merge_enters_none (port_at P b) y.operands c (z.is ∙ ap (λ o. fired o t y.operands z.fresh) op_is))
       by (Sent u v) y gives = absurd gives
       by (Failed k) y gives = absurd gives
       by Nothing y gives = absurd gives

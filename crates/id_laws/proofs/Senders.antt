@@ -1,5 +1,5 @@
 -- Each message that an event sends came one of the ways.
-use Rattle.std.proofs.Common.{◌≡◌, inr, ℕ, ◌<◌, ◌-◌, length, arith, Bool as Truth, true, false, cond, Some, List, slice_get, refl, sym, ◌∙◌, ap, subst}
+use Rattle.std.proofs.Common.{◌≡◌, inr, ℕ, ◌<◌, ◌-◌, length, arith, Bool as Truth, true, false, cond, Some, List, [], slice_get, refl, sym, ◌∙◌, ap, subst}
 use Rattle.id_value.specs.declared.Outcome.{Outcome}
 use Rattle.id_value.specs.declared.Outcome.TheVariants.{Gives, Fails, Lacks}
 use Rattle.id_value.specs.declared.Constant.TheVariants as constants
@@ -22,6 +22,9 @@ use Rattle.id_tag.specs.declared.Context.{Context}
 use Rattle.id_tag.specs.declared.Tag.{Tag}
 use Rattle.id_tag.specs.declared.Value.{Value}
 use Rattle.id_tag.specs.declared.Value.TheVariants.{Signal, Int, Bool, Continuation}
+use Rattle.id_valid.specs.Roles.{op_at}
+use Rattle.id_record.specs.Sends.{started}
+use Rattle.std.specs.Prelude.{option_map}
 use Rattle.id_tag.specs.declared.Payload.{Payload}
 use Rattle.id_tag.specs.declared.Payload.TheVariants.{Token}
 use Rattle.id_ops.specs.declared.Operands.{Operands}
@@ -29,7 +32,7 @@ use Rattle.id_ops.specs.declared.Operands.TheVariants.{One as Alone, Two}
 use Rattle.id_ops.specs.declared.Fresh.{Fresh}
 use Rattle.id_ops.specs.declared.Fired.{Fired}
 use Rattle.id_ops.specs.declared.Fired.TheVariants.{Out, Side, Sent, Nothing}
-use Rattle.id_ops.specs.Operators.{fired, fired_by}
+use Rattle.id_ops.specs.Operators.{fired, fired_by, fired_enter}
 use Rattle.id_core.specs.Steps.{token_to}
 use Rattle.id_record.specs.Records.{dests_at, sent_by}
 use Rattle.id_core.specs.Machines.{World}
@@ -39,12 +42,13 @@ use Rattle.id_build.specs.Schemas.{Numbered, IsNumber}
 use Rattle.id_runs.specs.Activations.{Activation, at_iteration, tag_in, activation_of}
 use Rattle.id_runs.specs.Events.{Event, FiresAs, GivesOn, fired_event, sends_of}
 use Rattle.id_runs.specs.Runs.{Reach, handled}
-use Rattle.id_runs.proofs.Givings.{SentAs, along as along_arc, to_tag, sent_as}
+use Rattle.id_runs.proofs.Givings.{SentAs, along as along_arc, to_tag, to_start, sent_as}
 use Rattle.id_runs.proofs.Messages.{sent_from}
 use Rattle.id_runs.proofs.Waiting.{has_fired, HasFired, OperandsHandled, one_handled, two_handled}
 use Rattle.id_laws.specs.Activations.{ReturnsTo, to_answer}
 use Rattle.id_laws.specs.Topics.{AllTell, IsPart, Tells, Told, ShownWayBack, wants}
 use Rattle.id_laws.specs.Ways.{Way, by_arc, by_back}
+use Rattle.id_check.specs.declared.checked.Checked.{Checked}
 use Rattle.id_laws.proofs.Arcs.{Does, starts, returns, enters, constant, unary, binary, turns_on, hands, joins, names, answers, doing, part_of, target_part}
 use Rattle.id_laws.proofs.Assumed.{IsKnown}
 use Rattle.id_laws.proofs.Tokens.{told_at}
@@ -71,28 +75,73 @@ result_sends (Gives c) u w h = cc
 result_sends (Fails k) u w h = cc
 result_sends Lacks u w h = cc
 
+enter_sends : (c : Context) (ops : Operands) (u : Tag) (w : Value) → fired_enter c ops ≡ Sent u w → ⊥
+enter_sends c (Alone Signal) u w h = cc
+enter_sends c _ u w h = cc
+
+-- no part of a row is a `send`, or an `enter`
+pub no_send : {P : Checked} {n part : ℕ} {o : Op} → Does P n part o → (k : PortKind) (m : ℕ) → o ≡ op.Send k m → ⊥
+no_send (starts is) k m e = cc
+no_send (returns is) k m e = cc
+no_send (enters is) k m e = cc
+no_send (constant is) k m e = cc
+no_send (unary is) k m e = cc
+no_send (binary is) k m e = cc
+no_send (turns_on is) k m e = cc
+no_send (hands j is less) k m e = cc
+no_send (joins is) k m e = cc
+no_send (names is) k m e = cc
+no_send (answers is) k m e = cc
+
+pub no_enter : {P : Checked} {n part : ℕ} {o : Op} → Does P n part o → (b r : ℕ) → o ≡ op.Enter b r → ⊥
+no_enter (starts is) b r e = cc
+no_enter (returns is) b r e = cc
+no_enter (enters is) b r e = cc
+no_enter (constant is) b r e = cc
+no_enter (unary is) b r e = cc
+no_enter (binary is) b r e = cc
+no_enter (turns_on is) b r e = cc
+no_enter (hands j is less) b r e = cc
+no_enter (joins is) b r e = cc
+no_enter (names is) b r e = cc
+no_enter (answers is) b r e = cc
+
+-- what no `enter` names starts no block
+pub starts_none : (o : Op) (t : Tag) (c : Context) → ((b r : ℕ) → o ≡ op.Enter b r → ⊥) → started (Some o) t c ≡ []
+starts_none (op.Enter b r) t c none = absurd (none b r refl)
+starts_none (op.Const v) t c none = refl
+starts_none (op.Unary f) t c none = refl
+starts_none (op.Binary f) t c none = refl
+starts_none (op.Merge k) t c none = refl
+starts_none (op.Switch k) t c none = refl
+starts_none (op.Back k) t c none = refl
+starts_none (op.Send k n) t c none = refl
+
 back_sends : (k : PortKind) (t : Tag) (v : Value) (b : Truth) (u : Tag) (w : Value) → cond b (Sent t v) Nothing ≡ Sent u w → (t ≡ u) × (v ≡ w)
 back_sends k t v true u w h = (cc, cc)
 back_sends k t v false u w h = cc
 
-pub sent_back : (o : Op) (t : Tag) (ops : Operands) (f : Fresh) (u : Tag) (w : Value) → fired o t ops f ≡ Sent u w → SentBack o ops u w
-sent_back (op.Const c) t (Alone Signal) f u w h = cc
-sent_back (op.Const c) t _ f u w h = cc
-sent_back (op.Unary o) t (Alone (Int n)) f u w h = absurd (result_sends (result_of_unary o (constants.Int n)) u w h)
-sent_back (op.Unary o) t (Alone (Bool b)) f u w h = absurd (result_sends (result_of_unary o (constants.Bool b)) u w h)
-sent_back (op.Unary o) t _ f u w h = cc
-sent_back (op.Binary (class.Arithmetic o)) t (Two (Int a) (Int b)) f u w h = absurd (result_sends (calculated o a b) u w h)
-sent_back (op.Binary (class.Comparison o)) t (Two (Int a) (Int b)) f u w h = cc
-sent_back (op.Binary (class.Truth o)) t (Two (Bool a) (Bool b)) f u w h = cc
-sent_back (op.Binary o) t _ f u w h = cc
-sent_back (op.Merge k) t (Alone v) f u w h = absurd (merge_sends v (same_kind (kind_of v) k) u w h)
-sent_back (op.Merge k) t (Two v x) f u w h = cc
-sent_back (op.Switch k) t (Two (Bool b) v) f u w h = absurd (switch_sends b v (same_kind (kind_of v) k) u w h)
-sent_back (op.Switch k) t _ f u w h = cc
-sent_back (op.Back k) t (Two (Continuation y) v) f u w h =
+pub sent_back : (o : Op) (t : Tag) (ops : Operands) (f : Fresh) (u : Tag) (w : Value) → ((k : PortKind) (m : ℕ) → o ≡ op.Send k m → ⊥)
+    → fired o t ops f ≡ Sent u w → SentBack o ops u w
+sent_back (op.Const c) t (Alone Signal) f u w none h = cc
+sent_back (op.Const c) t _ f u w none h = cc
+sent_back (op.Unary o) t (Alone (Int n)) f u w none h = absurd (result_sends (result_of_unary o (constants.Int n)) u w h)
+sent_back (op.Unary o) t (Alone (Bool b)) f u w none h = absurd (result_sends (result_of_unary o (constants.Bool b)) u w h)
+sent_back (op.Unary o) t _ f u w none h = cc
+sent_back (op.Binary (class.Arithmetic o)) t (Two (Int a) (Int b)) f u w none h = absurd (result_sends (calculated o a b) u w h)
+sent_back (op.Binary (class.Comparison o)) t (Two (Int a) (Int b)) f u w none h = cc
+sent_back (op.Binary (class.Truth o)) t (Two (Bool a) (Bool b)) f u w none h = cc
+sent_back (op.Binary o) t _ f u w none h = cc
+sent_back (op.Merge k) t (Alone v) f u w none h = absurd (merge_sends v (same_kind (kind_of v) k) u w h)
+sent_back (op.Merge k) t (Two v x) f u w none h = cc
+sent_back (op.Switch k) t (Two (Bool b) v) f u w none h = absurd (switch_sends b v (same_kind (kind_of v) k) u w h)
+sent_back (op.Switch k) t _ f u w none h = cc
+sent_back (op.Back k) t (Two (Continuation y) v) f u w none h =
     let b = back_sends k y v (same_kind (kind_of v) k) u w h in
     record { kind = k; back = refl; operands = (λ i. Two (Continuation (b.0 i)) (b.1 i)) }
-sent_back (op.Back k) t _ f u w h = cc
+sent_back (op.Back k) t _ f u w none h = cc
+sent_back (op.Send k m) t ops f u w none h = absurd (none k m refl)
+sent_back (op.Enter b r) t ops f u w none h = absurd (enter_sends f.context ops u w h)
 
 -- ---- the ways
 
@@ -177,6 +226,24 @@ module _ (S : Source) (g : Parts) (number : ℕ → ℕ → ℕ) (numbered : Num
       let wanted = told_at S g number run numbered a n 1 Zero (Continuation u) (part_of within (returns is)) told in
       subst (λ m. Tells S number run a (wants S.checked n (region S.checked n) m 1 Zero) (Continuation u)) is wanted
 
+  -- the instruction at a tag does what its part does
+  does_there : (t : Tag) (i : Instr) (at : slice_get g.instrs t.instr ≡ Some i) → Does S.checked (numbered.only t.instr i at).row (numbered.only t.instr i at).part i.op
+  does_there t i at =
+      let z = numbered.only t.instr i at in
+      let d = doing z.makes in
+      let m = numbered.made z.row z.part z.form z.place z.makes in
+      let both : Some m.instr ≡ Some i = sym m.at ∙ ap (slice_get g.instrs) z.is ∙ at in
+      let op_is : d.op ≡ i.op = sym (ap (op_by number) d.form_is) ∙ sym m.op ∙ ap (λ (j : Instr). j.op) (one_instr both) in
+      subst (λ o. Does S.checked z.row z.part o) op_is d.does
+
+  -- no firing starts a block
+  starts_no_block : (t : Tag) (y : Fired) (f : FiresAs run t y) (c : Context) (x : Payload) → Among x (started (op_at g t.instr) t c) → ⊥
+  starts_no_block t y f c x h =
+      let z = has_fired g S.inputs count s run r f in
+      let there : op_at g t.instr ≡ Some (z.instr).op = ap (option_map (λ (j : Instr). j.op)) z.at in
+      let nothing = ap (λ o. started o t c) there ∙ starts_none (z.instr).op t c (no_enter (does_there t z.instr z.at)) in
+      subst (Among x) nothing h
+
   came_back : (e : Event) (x : Payload) (t u : Tag) (v : Value) (f : FiresAs run t (Sent u v)) → fired_event f ≡ e → x ≡ Token u Zero v
       → CameBy S number run e x
   came_back e x t u v f is says = by y.handled_are
@@ -184,11 +251,14 @@ module _ (S : Source) (g : Parts) (number : ℕ → ℕ → ℕ) (numbered : Num
       y : HasFired g run t (Sent u v) f.operands
       y = has_fired g S.inputs count s run r f
 
-      b : SentBack (y.instr).op f.operands u v
-      b = sent_back (y.instr).op t f.operands y.fresh u v (sym y.is)
-
       z : IsNumber S.checked number t.instr
       z = numbered.only t.instr y.instr y.at
+
+      does_so : Does S.checked z.row z.part (y.instr).op
+      does_so = does_there t y.instr y.at
+
+      b : SentBack (y.instr).op f.operands u v
+      b = sent_back (y.instr).op t f.operands y.fresh u v (no_send does_so) (sym y.is)
 
       is_back : (part : ℕ) (n : ℕ) (o : Op) → Does S.checked n part o → o ≡ op.Back b.kind → (part ≡ 1) × (node S.checked n ≡ Head)
       is_back part n o (starts at) e = cc
@@ -230,6 +300,7 @@ module _ (S : Source) (g : Parts) (number : ℕ → ℕ → ℕ) (numbered : Num
     where
       by : SentAs g t f x → CameBy S number run e x
       by (along_arc b v d gives among says) = along e x t f b v y is gives d among says
+      by (to_start c fired_so among) = absurd (starts_no_block t f y c x among)
       by (to_tag u v fired_so says) = let z = subst (λ z. (w : FiresAs run t z) × (fired_event w ≡ e)) fired_so (y, is) in came_back e x t u v z.0 z.1 says
 
   -- each message that an event sends came one of the ways

@@ -7,7 +7,7 @@ use Rattle.id_check.specs.Programs.{place}
 use Rattle.id_graph.specs.Graph.{Parts}
 use Rattle.id_tag.specs.declared.Tag.{Tag}
 use Rattle.id_ops.specs.declared.Fired.{Fired}
-use Rattle.id_ops.specs.declared.Fired.TheVariants.{Out, Side, Sent, Failed, Nothing}
+use Rattle.id_ops.specs.declared.Fired.TheVariants.{Out, Side, Entered, Sent, Failed, Nothing}
 use Rattle.id_record.specs.declared.step.Step.{Step}
 use Rattle.id_record.specs.declared.step.Step.TheVariants.{Went, Stuck, Fault}
 use Rattle.id_record.specs.declared.step.Fault.TheVariants.{Operator}
@@ -57,6 +57,7 @@ module _ (S : Source) (known : IsKnown S.checked) (g : Parts) (number : ℕ → 
   failed_as : (t : Tag) (f : Fired) → FiresAs run t f → (k : FaultKind) (u : Tag) → fired_step t f ≡ Fault (Operator k u) → FaultyAt k u
   failed_as t (Out v) x k u e = cc
   failed_as t (Side b v) x k u e = cc
+  failed_as t (Entered c) x k u e = cc
   failed_as t (Sent w v) x k u e = cc
   failed_as t Nothing x k u e = cc
   failed_as t (Failed j) x k u e =

@@ -15,7 +15,7 @@ use Rattle.id_tag.specs.declared.Tag.{Tag}
 use Rattle.id_tag.specs.declared.Value.{Value}
 use Rattle.id_tag.specs.declared.Message.{Message}
 use Rattle.id_ops.specs.declared.Fired.{Fired}
-use Rattle.id_ops.specs.declared.Fired.TheVariants.{Out, Side, Sent, Failed, Nothing}
+use Rattle.id_ops.specs.declared.Fired.TheVariants.{Out, Side, Entered, Sent, Failed, Nothing}
 use Rattle.id_core.specs.Events.{EventView, tag_of}
 use Rattle.id_record.specs.Records.{dests_at, sent_by}
 use Rattle.id_core.specs.Steps.{token_to}
@@ -36,7 +36,7 @@ use Rattle.id_laws.specs.Topics.{IsPart, ValueOf, Tells, speaks_of, topic_of}
 use Rattle.id_laws.proofs.Assumed.{IsKnown}
 use Rattle.id_laws.proofs.Arcs.{Does, starts, returns, enters, constant, unary, binary, turns_on, hands, joins, names, answers, doing, place_shown}
 use Rattle.id_laws.proofs.Tokens.{one_part}
-use Rattle.id_laws.proofs.Senders.{sent_back}
+use Rattle.id_laws.proofs.Senders.{sent_back, no_send}
 use Rattle.id_laws.proofs.Firing.{Means}
 use Rattle.id_laws.proofs.AllTell.{FiredPart, firing_tells}
 use Rattle.id_laws.proofs.StartTells.{all_tell}
@@ -118,8 +118,9 @@ module _ (S : Source) (known : IsKnown S.checked) (g : Parts) (number : ℕ → 
   carried_by n e t (Side b v) ops y row x expression place_is means part m out =
       let to = Among-from_map (token_to t v) m.payload (dests_at g t.instr b) out in
       brought_by n e t b v y.row y.part row x place_is means part m to.0 to.2
+  carried_by n e t (Entered c) ops y row x expression place_is means part m out = absurd means
   carried_by n e t (Sent u v) ops y row x expression place_is means part m out =
-      let b = sent_back y.op t ops y.fresh u v (sym y.is) in
+      let b = sent_back y.op t ops y.fresh u v (no_send y.does) (sym y.is) in
       absurd (no_back y.does (ap (λ z. is_expression (node P z)) row ∙ expression) b.back)
   carried_by n e t (Failed k) ops y row x expression place_is means part m out = absurd out
   carried_by n e t Nothing ops y row x expression place_is means part m out = absurd out

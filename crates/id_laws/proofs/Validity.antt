@@ -22,7 +22,7 @@ use Rattle.id_graph.specs.declared.dests.Port.TheVariants.{Zero, One}
 use Rattle.id_graph.specs.declared.dests.Dest.{Dest}
 use Rattle.id_graph.specs.declared.instr.PortKind.TheVariants.{Signal}
 use Rattle.id_graph.specs.declared.instr.Op.{Op}
-use Rattle.id_graph.specs.declared.instr.Op.TheVariants.{Const, Unary, Binary, Merge, Switch, Back}
+use Rattle.id_graph.specs.declared.instr.Op.TheVariants.{Const, Unary, Binary, Merge, Switch, Back, Enter, Send}
 use Rattle.id_graph.specs.declared.instr.Instr.{Instr}
 use Rattle.id_graph.specs.declared.instr.Block.{Block}
 use Rattle.id_graph.specs.Ports.{port_kind, sends, two_sides}
@@ -33,8 +33,8 @@ use Rattle.id_desugar.specs.Ends.{end_of}
 use Rattle.id_desugar.specs.Regions.{imports_of}
 use Rattle.id_build.specs.Rows.{node, answer_row, body_of, name_in, feed, feeds_of, origin, port_at, port_of, result_of, trigger_of}
 use Rattle.id_build.specs.Schemas.{Feeds, HasSide, Numbered, Schemas, Sends, block_of}
-use Rattle.id_valid.specs.Roles.{op_at, merge_kind, back_kind, is_first, is_second, is_entry, same_port, is_dest, arcs_into, needs_no_arc}
-use Rattle.id_valid.specs.Validator.{is_value, IsAnswer, FillsRoles, IsTaken, IsFed, IsSound, IsValid}
+use Rattle.id_valid.specs.Roles.{op_at, merge_kind, back_kind, is_first, is_second, is_entry, is_reply, same_port, is_dest, arcs_into, needs_no_arc}
+use Rattle.id_valid.specs.Validator.{is_value, IsAnswer, FillsRoles, IsTaken, IsFed, AreNamed, IsSound, IsValid}
 use Rattle.id_laws.specs.Activations.{main_head}
 use Rattle.id_laws.specs.Topics.{IsPart}
 use Rattle.id_laws.proofs.Arcs.{Does, starts, returns, enters, constant, unary, binary, turns_on, hands, joins, names, answers, doing, makes, imports_fed}
@@ -68,6 +68,9 @@ ports_same One One e = refl
 both_true : (a b : Bool) → (a && b) ≡ true → (a ≡ true) × (b ≡ true)
 both_true true b e = (refl, e)
 both_true false b e = cc
+
+or_true : (a b : Bool) → a ≡ true → (a || b) ≡ true
+or_true a b e = rw e refl
 
 second_of : (a b c d : Bool) → b ≡ true → (a || b || c || d) ≡ true
 second_of true b c d e = refl
@@ -114,6 +117,8 @@ false_side (Const v) h = absurd (true_false (sym h))
 false_side (Unary f) h = absurd (true_false (sym h))
 false_side (Binary f) h = absurd (true_false (sym h))
 false_side (Merge k) h = absurd (true_false (sym h))
+false_side (Enter b r) h = absurd (true_false (sym h))
+false_side (Send k n) h = absurd (true_false (sym h))
 
 -- what is on a side that an operator has counts
 side_counts : (i : Instr) (d : Dest) (b : Bool) → HasSide i.op b → Among d (arcs_on b i) → Among d (arcs i)
@@ -249,8 +254,9 @@ module _ (P : Checked) (g : Parts) (number : ℕ → ℕ → ℕ) (numbered : Nu
   first_served : (n : ℕ) (p : Port) → n < length R → node P n ≡ Head → needs_no_arc g (number n 0) p ≡ true
   first_served n p within is =
       let k = number n 0 in
-      second_of (k == 0) (is_first g k) (is_entry g k) (is_second g k && same_port p Zero)
-      (any_among (λ (b : Block). b.first == k) (block_of P number n) g.blocks (block_among n within is) (same_number k k refl))
+      or_true ((k == 0) || is_first g k || is_entry g k || (is_second g k && same_port p Zero)) (is_reply g k)
+      (second_of (k == 0) (is_first g k) (is_entry g k) (is_second g k && same_port p Zero)
+      (any_among (λ (b : Block). b.first == k) (block_of P number n) g.blocks (block_among n within is) (same_number k k refl)))
 
   second_served : (n : ℕ) → n < length R → node P n ≡ Head → needs_no_arc g (number n 1) Zero ≡ true
   second_served n within is =
@@ -258,7 +264,8 @@ module _ (P : Checked) (g : Parts) (number : ℕ → ℕ → ℕ) (numbered : Nu
       let second : is_second g k ≡ true =
       any_among (λ (b : Block). b.first + 1 == k) (block_of P number n) g.blocks (block_among n within is)
       (same_number (number n 0 + 1) k (sym (numbered.parts_behind n 1))) in
-      fourth_of (k == 0) (is_first g k) (is_entry g k) (is_second g k && same_port Zero Zero) (rw second refl)
+      or_true ((k == 0) || is_first g k || is_entry g k || (is_second g k && same_port Zero Zero)) (is_reply g k)
+      (fourth_of (k == 0) (is_first g k) (is_entry g k) (is_second g k && same_port Zero Zero) (rw second refl))
 
   entry_served : (b x : ℕ) (k : Kind) → b < length R → node P b ≡ Param x k → needs_no_arc g (number b 0) Zero ≡ true
   entry_served b x k within is =
@@ -271,7 +278,8 @@ module _ (P : Checked) (g : Parts) (number : ℕ → ℕ → ℕ) (numbered : Nu
       let entry : is_entry g n ≡ true =
       any_among (λ (c : Block). list_any (λ e. e == n) c.entries) (block_of P number h) g.blocks (block_among h less block.1)
       (any_among (λ e. e == n) n labels listed (same_number n n refl)) in
-      third_of (n == 0) (is_first g n) (is_entry g n) (is_second g n && same_port Zero Zero) entry
+      or_true ((n == 0) || is_first g n || is_entry g n || (is_second g n && same_port Zero Zero)) (is_reply g n)
+      (third_of (n == 0) (is_first g n) (is_entry g n) (is_second g n && same_port Zero Zero) entry)
 
   served : {n part : ℕ} {o : Op} → n < length R → Does P n part o → (p : Port) → IsSome (port_kind o p) → Served n part p
   unfolding Served
@@ -410,6 +418,21 @@ module _ (P : Checked) (g : Parts) (number : ℕ → ℕ → ℕ) (numbered : Nu
         ];
       }
 
+  -- ---- what operators name
+
+  named : {n part : ℕ} {o : Op} → Does P n part o → AreNamed g o
+  named (starts is) = tt
+  named (returns is) = tt
+  named (enters is) = tt
+  named (constant is) = tt
+  named (unary is) = tt
+  named (binary is) = tt
+  named (turns_on is) = tt
+  named (hands k is less) = tt
+  named (joins is) = tt
+  named (names is) = tt
+  named (answers is) = tt
+
   -- ---- the answer
 
   answer : IsAnswer g
@@ -438,6 +461,7 @@ module _ (P : Checked) (g : Parts) (number : ℕ → ℕ → ℕ) (numbered : Nu
     answer = λ e. answer;
     roles = fills n;
     taken = λ i at. all_among (IsTaken g.instrs i.op) (arcs i) (λ to h. taken n i to at h);
+    named = λ o at. named ((stands n o (slice_get g.instrs n) refl at).does);
     fed = λ o at p h. fed n o p at h;
   }
 

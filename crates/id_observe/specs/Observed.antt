@@ -41,6 +41,7 @@ abbrev pub source_value : Value → Option SourceValue
 source_value value.Signal = None
 source_value (value.Int n) = Some (source.Int n)
 source_value (value.Bool b) = Some (source.Bool b)
+source_value (value.Context c) = None
 source_value (value.Continuation t) = None
 
 -- the values that these events brought to instruction 0 under main's tag, in order

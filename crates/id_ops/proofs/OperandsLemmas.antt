@@ -1,5 +1,5 @@
 -- Lemmas on specs/Operands.antt, in the order of its definitions.
-use Rattle.std.proofs.Common.{◌≡◌, ◌≢◌, Bool, true, false, cond, Some, refl, sym, ap, subst}
+use Rattle.std.proofs.Common.{ℕ, ◌≡◌, ◌≢◌, Bool, true, false, cond, Some, refl, sym, ap, subst}
 use Rattle.std.specs.Prelude.{neg_ℤ}
 use Rattle.id_value.specs.declared.Constant.{Constant}
 use Rattle.id_value.specs.declared.Constant.TheVariants as constant
@@ -14,18 +14,19 @@ use Rattle.id_graph.specs.declared.instr.PortKind.TheVariants as kind
 use Rattle.id_graph.specs.declared.instr.Dyadic.{Dyadic}
 use Rattle.id_graph.specs.declared.instr.Dyadic.TheVariants as class
 use Rattle.id_graph.specs.declared.instr.Op.{Op}
-use Rattle.id_graph.specs.declared.instr.Op.TheVariants.{Const, Unary, Binary, Merge, Switch, Back}
+use Rattle.id_graph.specs.declared.instr.Op.TheVariants.{Const, Unary, Binary, Merge, Switch, Back, Enter, Send}
 use Rattle.id_graph.specs.Ports.{sends}
 use Rattle.id_tag.specs.Kinds.{kind_of, same_kind}
+use Rattle.id_tag.specs.declared.Context.{Context}
 use Rattle.id_tag.specs.declared.Tag.{Tag}
 use Rattle.id_tag.specs.declared.Value.{Value}
-use Rattle.id_tag.specs.declared.Value.TheVariants.{Signal, Int, Bool as Truth, Continuation}
+use Rattle.id_tag.specs.declared.Value.TheVariants.{Signal, Int, Bool as Truth, Context as Opened, Continuation}
 use Rattle.id_ops.specs.declared.Fresh.{Fresh}
 use Rattle.id_ops.specs.declared.Operands.{Operands}
 use Rattle.id_ops.specs.declared.Operands.TheVariants.{One, Two}
 use Rattle.id_ops.specs.declared.Fired.{Fired}
 use Rattle.id_ops.specs.declared.Fired.TheVariants.{Out, Side, Sent, Nothing}
-use Rattle.id_ops.specs.Operators.{fired_by, fired_const, fired_unary, fired_binary, fired_merge, fired_switch, fired_back, fired}
+use Rattle.id_ops.specs.Operators.{fired_by, fired_const, fired_unary, fired_binary, fired_merge, fired_switch, fired_back, fired_enter, tag_within, fired_send, fired}
 use Rattle.id_ops.specs.Operands.{IsOfKind, Suits}
 
 -- ---- the test of a kind
@@ -89,6 +90,7 @@ fires_const : (c : Constant) (o : Operands) → Suits (Const c) o → fired_cons
 fires_const c (One Signal) h e = cc
 fires_const c (One (Int n)) h e = let k = h.0 in cc
 fires_const c (One (Truth b)) h e = let k = h.0 in cc
+fires_const c (One (Opened u)) h e = let k = h.0 in cc
 fires_const c (One (Continuation u)) h e = let k = h.0 in cc
 fires_const c (Two v w) h e = let k = h.1 in cc
 
@@ -97,9 +99,11 @@ fires_unary Neg (One (Int n)) h e = fires_number (whole (neg_ℤ n)) (whole-numb
 fires_unary Not (One (Truth b)) h e = cc
 fires_unary Neg (One Signal) h e = let k = h.0 in cc
 fires_unary Neg (One (Truth b)) h e = let k = h.0 in cc
+fires_unary Neg (One (Opened u)) h e = let k = h.0 in cc
 fires_unary Neg (One (Continuation u)) h e = let k = h.0 in cc
 fires_unary Not (One Signal) h e = let k = h.0 in cc
 fires_unary Not (One (Int n)) h e = let k = h.0 in cc
+fires_unary Not (One (Opened u)) h e = let k = h.0 in cc
 fires_unary Not (One (Continuation u)) h e = let k = h.0 in cc
 fires_unary a (Two v w) h e = let k = h.1 in cc
 
@@ -119,6 +123,7 @@ fires_switch : (k : PortKind) (o : Operands) → Suits (Switch k) o → fired_sw
 fires_switch k (Two (Truth b) v) h e = passes v k (Side b v) h.1 (λ x. cc) e
 fires_switch k (Two Signal v) h e = let z = h.0 in cc
 fires_switch k (Two (Int n) v) h e = let z = h.0 in cc
+fires_switch k (Two (Opened u) v) h e = let z = h.0 in cc
 fires_switch k (Two (Continuation u) v) h e = let z = h.0 in cc
 fires_switch k (One v) h e = let z = h.1 in cc
 
@@ -127,7 +132,24 @@ fires_back k (Two (Continuation u) v) h e = passes v k (Sent u v) h.1 (λ x. cc)
 fires_back k (Two Signal v) h e = let z = h.0 in cc
 fires_back k (Two (Int n) v) h e = let z = h.0 in cc
 fires_back k (Two (Truth b) v) h e = let z = h.0 in cc
+fires_back k (Two (Opened u) v) h e = let z = h.0 in cc
 fires_back k (One v) h e = let z = h.1 in cc
+
+fires_enter : (b r : ℕ) (next : Context) (o : Operands) → Suits (Enter b r) o → fired_enter next o ≢ Nothing
+fires_enter b r next (One Signal) h e = cc
+fires_enter b r next (One (Int n)) h e = let z = h.0 in cc
+fires_enter b r next (One (Truth t)) h e = let z = h.0 in cc
+fires_enter b r next (One (Opened u)) h e = let z = h.0 in cc
+fires_enter b r next (One (Continuation u)) h e = let z = h.0 in cc
+fires_enter b r next (Two v w) h e = let z = h.1 in cc
+
+fires_send : (k : PortKind) (n : ℕ) (o : Operands) → Suits (Send k n) o → fired_send k n o ≢ Nothing
+fires_send k n (Two (Opened c) v) h e = passes v k (Sent (tag_within c n) v) h.1 (λ x. cc) e
+fires_send k n (Two Signal v) h e = let z = h.0 in cc
+fires_send k n (Two (Int i) v) h e = let z = h.0 in cc
+fires_send k n (Two (Truth b) v) h e = let z = h.0 in cc
+fires_send k n (Two (Continuation u) v) h e = let z = h.0 in cc
+fires_send k n (One v) h e = let z = h.1 in cc
 
 pub fires-from_Suits : (op : Op) (t : Tag) (o : Operands) (fresh : Fresh) → Suits op o → fired op t o fresh ≢ Nothing
 fires-from_Suits (Const c) t o fresh = fires_const c o
@@ -136,6 +158,8 @@ fires-from_Suits (Binary f) t o fresh = fires_binary f o
 fires-from_Suits (Merge k) t o fresh = fires_merge k o
 fires-from_Suits (Switch k) t o fresh = fires_switch k o
 fires-from_Suits (Back k) t o fresh = fires_back k o
+fires-from_Suits (Enter b r) t o fresh = fires_enter b r fresh.context o
+fires-from_Suits (Send k n) t o fresh = fires_send k n o
 
 -- ---- operands with which an operator does something suit it
 
@@ -166,6 +190,14 @@ suits_back : (k : PortKind) (o : Operands) → fired_back k o ≢ Nothing → Su
 suits_back k (Two (Continuation u) v) h = (refl, passed v k (Sent u v) h)
 suits_back k _ h = absurd (h refl)
 
+suits_enter : (b r : ℕ) (next : Context) (o : Operands) → fired_enter next o ≢ Nothing → Suits (Enter b r) o
+suits_enter b r next (One Signal) h = (refl, refl)
+suits_enter b r next _ h = absurd (h refl)
+
+suits_send : (k : PortKind) (n : ℕ) (o : Operands) → fired_send k n o ≢ Nothing → Suits (Send k n) o
+suits_send k n (Two (Opened c) v) h = (refl, passed v k (Sent (tag_within c n) v) h)
+suits_send k n _ h = absurd (h refl)
+
 pub Suits-from_fires : (op : Op) (t : Tag) (o : Operands) (fresh : Fresh) → fired op t o fresh ≢ Nothing → Suits op o
 Suits-from_fires (Const c) t o fresh = suits_const c o
 Suits-from_fires (Unary a) t o fresh = suits_unary a o
@@ -173,6 +205,8 @@ Suits-from_fires (Binary f) t o fresh = suits_binary f o
 Suits-from_fires (Merge k) t o fresh = suits_merge k o
 Suits-from_fires (Switch k) t o fresh = suits_switch k o
 Suits-from_fires (Back k) t o fresh = suits_back k o
+Suits-from_fires (Enter b r) t o fresh = suits_enter b r fresh.context o
+Suits-from_fires (Send k n) t o fresh = suits_send k n o
 
 -- ---- what an operator sends is of the kind that is said
 
@@ -210,6 +244,14 @@ kind_back : (k : PortKind) (o : Operands) → IsOfKind (Back k) (fired_back k o)
 kind_back k (Two (Continuation u) v) = of_kind (Back k) v k (Sent u v) (λ e. e)
 kind_back k _ = tt
 
+kind_enter : (b r : ℕ) (next : Context) (o : Operands) → IsOfKind (Enter b r) (fired_enter next o)
+kind_enter b r next (One Signal) = refl
+kind_enter b r next _ = tt
+
+kind_send : (k : PortKind) (n : ℕ) (o : Operands) → IsOfKind (Send k n) (fired_send k n o)
+kind_send k n (Two (Opened c) v) = of_kind (Send k n) v k (Sent (tag_within c n) v) (λ e. e)
+kind_send k n _ = tt
+
 pub IsOfKind-fired : (op : Op) (t : Tag) (o : Operands) (fresh : Fresh) → IsOfKind op (fired op t o fresh)
 IsOfKind-fired (Const c) t o fresh = kind_const c o
 IsOfKind-fired (Unary a) t o fresh = kind_unary a o
@@ -217,3 +259,5 @@ IsOfKind-fired (Binary f) t o fresh = kind_binary f o
 IsOfKind-fired (Merge k) t o fresh = kind_merge k o
 IsOfKind-fired (Switch k) t o fresh = kind_switch k o
 IsOfKind-fired (Back k) t o fresh = kind_back k o
+IsOfKind-fired (Enter b r) t o fresh = kind_enter b r fresh.context o
+IsOfKind-fired (Send k n) t o fresh = kind_send k n o

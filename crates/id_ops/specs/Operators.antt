@@ -1,5 +1,5 @@
 -- What each operator does with its operands (docs/MACHINE.md, "Firing").
-use Rattle.std.specs.Prelude.{Bool as Truth, true, if◌then◌else◌}
+use Rattle.std.specs.Prelude.{ℕ, Bool as Truth, true, if◌then◌else◌}
 use Rattle.id_value.specs.declared.Constant.{Constant}
 use Rattle.id_value.specs.declared.Constant.TheVariants as constant
 use Rattle.id_value.specs.declared.UnaryOp.{UnaryOp}
@@ -10,16 +10,17 @@ use Rattle.id_graph.specs.declared.instr.PortKind.{PortKind}
 use Rattle.id_graph.specs.declared.instr.Dyadic.{Dyadic}
 use Rattle.id_graph.specs.declared.instr.Dyadic.TheVariants as class
 use Rattle.id_graph.specs.declared.instr.Op.{Op}
-use Rattle.id_graph.specs.declared.instr.Op.TheVariants.{Const, Unary, Binary, Merge, Switch, Back}
+use Rattle.id_graph.specs.declared.instr.Op.TheVariants.{Const, Unary, Binary, Merge, Switch, Back, Enter, Send}
 use Rattle.id_tag.specs.Kinds.{kind_of, same_kind}
+use Rattle.id_tag.specs.declared.Context.{Context}
 use Rattle.id_tag.specs.declared.Tag.{Tag}
 use Rattle.id_tag.specs.declared.Value.{Value}
-use Rattle.id_tag.specs.declared.Value.TheVariants.{Signal, Int, Bool, Continuation}
+use Rattle.id_tag.specs.declared.Value.TheVariants.{Signal, Int, Bool, Context as Opened, Continuation}
 use Rattle.id_ops.specs.declared.Operands.{Operands}
 use Rattle.id_ops.specs.declared.Operands.TheVariants.{One, Two}
 use Rattle.id_ops.specs.declared.Fresh.{Fresh}
 use Rattle.id_ops.specs.declared.Fired.{Fired}
-use Rattle.id_ops.specs.declared.Fired.TheVariants.{Out, Side, Sent, Failed, Nothing}
+use Rattle.id_ops.specs.declared.Fired.TheVariants.{Out, Side, Entered, Sent, Failed, Nothing}
 
 -- the constant as a value
 abbrev pub constant_value : Constant → Value
@@ -65,6 +66,20 @@ abbrev pub fired_back : PortKind → Operands → Fired
 fired_back k (Two (Continuation t) v) = if same_kind (kind_of v) k then Sent t v else Nothing
 fired_back k _ = Nothing
 
+-- `enter`: a signal opens the next context of the element
+abbrev pub fired_enter : Context → Operands → Fired
+fired_enter next (One Signal) = Entered next
+fired_enter next _ = Nothing
+
+-- the tag of an instruction in a context, at iteration 0
+abbrev pub tag_within : Context → ℕ → Tag
+tag_within c n = record { context = c; iteration = 0; instr = n }
+
+-- `send`: a value of its kind goes to the instruction that it names, in the context that came with it
+abbrev pub fired_send : PortKind → ℕ → Operands → Fired
+fired_send k n (Two (Opened c) v) = if same_kind (kind_of v) k then Sent (tag_within c n) v else Nothing
+fired_send k n _ = Nothing
+
 -- what the operator does under a tag, with its operands and the next numbers of the element
 abbrev pub fired : Op → Tag → Operands → Fresh → Fired
 fired (Const c) t operands fresh = fired_const c operands
@@ -73,11 +88,14 @@ fired (Binary o) t operands fresh = fired_binary o operands
 fired (Merge k) t operands fresh = fired_merge k operands
 fired (Switch k) t operands fresh = fired_switch k operands
 fired (Back k) t operands fresh = fired_back k operands
+fired (Enter b r) t operands fresh = fired_enter fresh.context operands
+fired (Send k n) t operands fresh = fired_send k n operands
 
 -- the side to which a firing sends: the true side, unless a switch goes to the false side
 abbrev pub side_of : Fired → Truth
 side_of (Out v) = true
 side_of (Side b v) = b
+side_of (Entered c) = true
 side_of (Sent t v) = true
 side_of (Failed k) = true
 side_of Nothing = true

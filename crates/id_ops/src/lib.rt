@@ -11,7 +11,7 @@ ghost use Rattle.std.specs.Prelude.{◌≡◌, ◌≢◌};
 ghost use Rattle.id_ops.specs.declared.Fired.TheVariants.{Nothing};
 ghost use Rattle.id_ops.specs.Operands.{Suits, IsOfKind};
 ghost use Rattle.id_ops.specs.Operators.{constant_value, fired_by, fired_const, fired_unary, fired_binary, fired_merge};
-ghost use Rattle.id_ops.specs.Operators.{fired_switch, fired_back, fired};
+ghost use Rattle.id_ops.specs.Operators.{fired_switch, fired_back, fired_enter, tag_within, fired_send, fired};
 
 use id_graph::{Dyadic, Instr, Op, PortKind};
 use id_tag::{Context, Tag, Value};
@@ -40,6 +40,9 @@ pub enum Fired {
     Out(Value),
     /// The value goes to each destination on this side, under the tag of the operands.
     Side(bool, Value),
+    /// A block is entered in this fresh context, which goes to each destination under the tag of the
+    /// operands.
+    Entered(Context),
     /// The value goes to port 0 of this tag.
     Sent(Tag, Value),
     /// The operator fails.
@@ -48,8 +51,9 @@ pub enum Fired {
     Nothing,
 }
 
-/// What the instruction does under this tag with its operands. No operator looks at the tag or at
-/// the next numbers yet. Takes no memory (docs/MACHINE.md, "Firing").
+/// What the instruction does under this tag with its operands. No operator looks at the tag yet, and
+/// of the next numbers `enter` looks at the next context alone. Takes no memory (docs/MACHINE.md,
+/// "Firing").
 pub fn fire(instr: &Instr, tag: Tag, operands: Operands, fresh: Fresh) -> Fired
     ensures table { result ≡ fired instr.now.op tag operands fresh }
 
@@ -72,6 +76,8 @@ fn fire_op(op: Op, tag: Tag, operands: Operands, fresh: Fresh) -> Fired
         Op::Merge(kind) => fire_merge(kind, operands),
         Op::Switch(kind) => fire_switch(kind, operands),
         Op::Back(kind) => fire_back(kind, operands),
+        Op::Enter { .. } => fire_enter(fresh.context, operands),
+        Op::Send { kind, target } => fire_send(kind, target, operands),
     }
 }
 
@@ -163,5 +169,36 @@ fn fire_back(kind: PortKind, operands: Operands) -> Fired
             Fired::Sent(caller, value)
         }
         _ => Fired::Nothing,
+    }
+}
+
+fn fire_enter(next: Context, operands: Operands) -> Fired
+    ensures { result ≡ fired_enter next operands }
+{
+    match operands {
+        Operands::One(Value::Signal) => Fired::Entered(next),
+        _ => Fired::Nothing,
+    }
+}
+
+fn fire_send(kind: PortKind, target: u32, operands: Operands) -> Fired
+    ensures { result ≡ fired_send kind target operands }
+{
+    match operands {
+        Operands::Two(Value::Context(context), value) if value.has_kind(kind) => {
+            Fired::Sent(tag_within(context, target), value)
+        }
+        _ => Fired::Nothing,
+    }
+}
+
+/// The tag of an instruction in a context, at iteration 0. Takes no memory.
+pub fn tag_within(context: Context, instr: u32) -> Tag
+    ensures { result ≡ tag_within context instr }
+{
+    Tag {
+        context,
+        iteration: 0,
+        instr,
     }
 }

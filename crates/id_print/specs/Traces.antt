@@ -30,11 +30,16 @@ tag_text t = turn_text t ++ (codes ":" ++ decimal t.instr)
 abbrev pub continuation_text : Tag → List ℕ
 continuation_text t = codes "k" ++ tag_text t
 
+-- a context that a token carries
+abbrev pub opened_text : Context → List ℕ
+opened_text c = codes "c" ++ context_text c
+
 -- a value that a token carries
 abbrev pub carried_text : Value → List ℕ
 carried_text value.Signal = codes "signal"
 carried_text (value.Int n) = signed_decimal n
 carried_text (value.Bool b) = truth_text b
+carried_text (value.Context c) = opened_text c
 carried_text (value.Continuation t) = continuation_text t
 
 -- the number of a port

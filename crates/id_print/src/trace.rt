@@ -2,7 +2,7 @@
 
 ghost use Rattle.std.specs.Prelude.{◌≡◌, ◌++◌};
 ghost use Rattle.id_print.specs.Told.{Prints};
-ghost use Rattle.id_print.specs.Traces.{carried_text, context_text, continuation_text, delivery_text, end_text, entry_text, goal_text, handled_text, moment_text, payload_text, port_text, tag_text, token_text, trace_text, turn_text};
+ghost use Rattle.id_print.specs.Traces.{carried_text, context_text, continuation_text, delivery_text, end_text, entry_text, goal_text, handled_text, moment_text, opened_text, payload_text, port_text, tag_text, token_text, trace_text, turn_text};
 
 use crate::sink::{PrintError, Sink, put};
 use crate::texts::{put_int, put_long, put_number, put_numbers, truth_bytes};
@@ -114,8 +114,16 @@ fn put_carried<W: Sink>(sink: &mut W, value: Value) -> Result<(), PrintError>
         Value::Signal => put(sink, b"signal"),
         Value::Int(n) => put_int(sink, n),
         Value::Bool(truth) => put(sink, truth_bytes(truth)),
+        Value::Context(context) => put_opened(sink, context),
         Value::Continuation(tag) => put_continuation(sink, tag),
     }
+}
+
+fn put_opened<W: Sink>(sink: &mut W, context: Context) -> Result<(), PrintError>
+    ensures { Prints (W.told sink.old) (W.told sink.new) (opened_text context) result }
+{
+    put(sink, b"c")?;
+    put_context(sink, context)
 }
 
 fn put_continuation<W: Sink>(sink: &mut W, tag: Tag) -> Result<(), PrintError>

@@ -1,6 +1,6 @@
 -- Lemmas on specs/Lines.antt and specs/Records.antt: a record goes on by one event.
 use Rattle.std.proofs.Common.{◌≡◌, ℕ, zero, suc, ◌+◌, ◌<◌, List, [], ◌∷◌, ◌++◌, Some, length, refl, sym, ap, subst, ◌∙◌, length-append, get_or, arith}
-use Rattle.std.specs.Prelude.{All, slice_get}
+use Rattle.std.specs.Prelude.{All, slice_get, option_map}
 use Rattle.std.specs.List.{AllByRecursion}
 use Rattle.std.proofs.lemmas.List.{get_or_append_left}
 use Rattle.std.proofs.lemmas.List.Elements.{recursion_from_All, All-from_recursion}
@@ -115,11 +115,11 @@ pub event_at_instr : (g : Parts) (n k : ℕ) (h : Handled) (i : Instr) (t : Tag)
       element = n;
       stamp = h.stamp;
       message = h.message;
-      outputs = numbered n k h.stamp 0 (sent (arcs_on (side_of h.reaction.fired) i) t h.reaction.fired);
+      outputs = numbered n k h.stamp 0 (sent (Some i.op) (arcs_on (side_of h.reaction.fired) i) t h.reaction.fired);
       step = full_step h.message.payload h.reaction.verdict;
     }
 event_at_instr g n k h i t there tag =
     let event : List Message → EventView = λ ms. record { element = n; stamp = h.stamp; message = h.message; outputs = ms; step = full_step h.message.payload h.reaction.verdict } in
     let b = side_of h.reaction.fired in
-    ap (λ o. event (numbered n k h.stamp 0 (sent (option_map_or (arcs_on b) o []) (tag_of h.message.payload) h.reaction.fired))) there
-    ∙ ap (λ u. event (numbered n k h.stamp 0 (sent (arcs_on b i) u h.reaction.fired))) (sym tag)
+    ap (λ o. event (numbered n k h.stamp 0 (sent (option_map (λ j. j.op) o) (option_map_or (arcs_on b) o []) (tag_of h.message.payload) h.reaction.fired))) there
+    ∙ ap (λ u. event (numbered n k h.stamp 0 (sent (Some i.op) (arcs_on b i) u h.reaction.fired))) (sym tag)

@@ -1,35 +1,86 @@
 -- Lemmas on specs/Sends.antt, in the order of its definitions.
-use Rattle.std.specs.Prelude.{slice_get}
+use Rattle.std.specs.Prelude.{slice_get, option_map}
+use Rattle.std.proofs.lemmas.Option.{slice_get_within}
+use Rattle.id_graph.specs.Graph.{Parts, IsGraph}
+use Rattle.id_graph.specs.declared.instr.Instr.{Instr}
+use Rattle.id_valid.specs.Roles.{op_at}
+use Rattle.id_valid.specs.Validator.{IsValid}
+use Rattle.id_valid.proofs.ValidatorLemmas.{IsEntered-valid}
 use Rattle.std.proofs.Common.{zero, suc, Some, ◌≡◌, ◌⊎◌, inl, inr, Bool, ℕ, ◌+◌, ◌≤◌, ◌<◌}
-use Rattle.std.proofs.Common.{List, [], ◌∷◌, ◌++◌, length, map, max, take, get_or, refl, ap, ◌∙◌, arith}
+use Rattle.std.proofs.Common.{List, [], ◌∷◌, ◌++◌, length, length-append, map, max, take, get_or, refl, ap, ◌∙◌, arith}
 use Rattle.std.proofs.lemmas.List.{length-map, length-take, map_more}
+use Rattle.std.specs.Prelude.{Option, None}
+use Rattle.id_graph.specs.declared.instr.Op.{Op}
+use Rattle.id_graph.specs.declared.instr.Op.TheVariants.{Const, Unary, Binary, Merge, Switch, Back, Enter, Send}
 use Rattle.id_graph.specs.declared.dests.Dest.{Dest}
+use Rattle.id_tag.specs.declared.Context.{Context}
 use Rattle.id_tag.specs.declared.Tag.{Tag}
 use Rattle.id_tag.specs.declared.Value.{Value}
+use Rattle.id_tag.specs.declared.Value.TheVariants as value
 use Rattle.id_tag.specs.declared.Payload.{Payload}
 use Rattle.id_tag.specs.declared.Message.{Message}
 use Rattle.id_tag.specs.declared.Sender.TheVariants.{Element}
 use Rattle.id_ops.specs.declared.Fired.{Fired}
-use Rattle.id_ops.specs.declared.Fired.TheVariants.{Out, Side, Sent, Failed, Nothing}
-use Rattle.id_record.specs.Sends.{sent, token_to, numbered}
+use Rattle.id_ops.specs.declared.Fired.TheVariants.{Out, Side, Entered, Sent, Failed, Nothing}
+use Rattle.id_record.specs.Sends.{HasSecond, count_started, sent, started, token_to, numbered}
 
 -- a value that goes out goes to each destination
-pub sent-out : (ds : List Dest) (t : Tag) (f : Fired) (v : Value) → (f ≡ Out v) ⊎ ((b : Bool) × (f ≡ Side b v)) → sent ds t f ≡ map (token_to t v) ds
-sent-out ds t f v (inl is) = ap (sent ds t) is
-sent-out ds t f v (inr is) = ap (sent ds t) is.1
+pub sent-out : (o : Option Op) (ds : List Dest) (t : Tag) (f : Fired) (v : Value) → (f ≡ Out v) ⊎ ((b : Bool) × (f ≡ Side b v)) → sent o ds t f ≡ map (token_to t v) ds
+sent-out o ds t f v (inl is) = ap (sent o ds t) is
+sent-out o ds t f v (inr is) = ap (sent o ds t) is.1
 
-pub length-out : (ds : List Dest) (t : Tag) (f : Fired) → ((v : Value) × (f ≡ Out v)) ⊎ ((b : Bool) × (v : Value) × (f ≡ Side b v))
-    → length (sent ds t f) ≡ length ds
-length-out ds t f (inl is) = ap (λ g. length (sent ds t g)) is.1 ∙ length-map ds (token_to t is.0)
-length-out ds t f (inr is) = ap (λ g. length (sent ds t g)) is.2 ∙ length-map ds (token_to t is.1)
+pub length-out : (o : Option Op) (ds : List Dest) (t : Tag) (f : Fired) → ((v : Value) × (f ≡ Out v)) ⊎ ((b : Bool) × (v : Value) × (f ≡ Side b v))
+    → length (sent o ds t f) ≡ length ds
+length-out o ds t f (inl is) = ap (λ g. length (sent o ds t g)) is.1 ∙ length-map ds (token_to t is.0)
+length-out o ds t f (inr is) = ap (λ g. length (sent o ds t g)) is.2 ∙ length-map ds (token_to t is.1)
 
--- at most one payload for each destination, or one
-pub length-sent : (ds : List Dest) (t : Tag) (f : Fired) → length (sent ds t f) ≤ max (length ds) 1
-length-sent ds t (Out v) = omega (arith, length-map ds (token_to t v))
-length-sent ds t (Side b v) = omega (arith, length-map ds (token_to t v))
-length-sent ds t (Sent u v) = omega arith
-length-sent ds t (Failed f) = omega arith
-length-sent ds t Nothing = omega arith
+-- an instruction that does something is there
+within_op : (g : Parts) (n : ℕ) (op : Op) → op_at g n ≡ Some op → n < length g.instrs
+within_op g n op is = at (slice_get g.instrs n) refl is
+  where
+    at : (o : Option Instr) → slice_get g.instrs n ≡ o → option_map (λ i. i.op) o ≡ Some op → n < length g.instrs
+    at None e h = cc
+    at (Some i) e h = slice_get_within g.instrs n i e
+
+-- a block that an operator of a valid graph names has a second instruction
+pub HasSecond-valid : (g : Parts) (n : ℕ) (o : Option Op) → IsGraph g → IsValid g → op_at g n ≡ o → HasSecond o
+HasSecond-valid g n (Some (Enter b r)) graph valid is =
+    let back = (IsEntered-valid g n b r valid is).back in
+    omega (arith, within_op g (b + 1) (Back (IsEntered-valid g n b r valid is).kind) back, graph.few)
+HasSecond-valid g n None graph valid is = tt
+HasSecond-valid g n (Some (Const v)) graph valid is = tt
+HasSecond-valid g n (Some (Unary f)) graph valid is = tt
+HasSecond-valid g n (Some (Binary f)) graph valid is = tt
+HasSecond-valid g n (Some (Merge k)) graph valid is = tt
+HasSecond-valid g n (Some (Switch k)) graph valid is = tt
+HasSecond-valid g n (Some (Back k)) graph valid is = tt
+HasSecond-valid g n (Some (Send k t)) graph valid is = tt
+
+-- so many payloads start a block
+pub length-started : (o : Option Op) (t : Tag) (c : Context) → length (started o t c) ≡ count_started o
+length-started None t c = refl
+length-started (Some (Enter b r)) t c = refl
+length-started (Some (Const v)) t c = refl
+length-started (Some (Unary f)) t c = refl
+length-started (Some (Binary f)) t c = refl
+length-started (Some (Merge k)) t c = refl
+length-started (Some (Switch k)) t c = refl
+length-started (Some (Back k)) t c = refl
+length-started (Some (Send k n)) t c = refl
+
+-- a context that is entered goes to each destination, and then the block is started
+pub length-entered : (o : Option Op) (ds : List Dest) (t : Tag) (c : Context) → length (sent o ds t (Entered c)) ≡ length ds + count_started o
+length-entered o ds t c =
+    omega (arith, length-append (map (token_to t (value.Context c)) ds) (started o t c), length-map ds (token_to t (value.Context c)), length-started o t c)
+
+-- at most one payload for each destination, and what starts a block, or one
+pub length-sent : (o : Option Op) (ds : List Dest) (t : Tag) (f : Fired) → length (sent o ds t f) ≤ max (length ds) 1 + count_started o
+length-sent o ds t (Out v) = omega (arith, length-map ds (token_to t v))
+length-sent o ds t (Side b v) = omega (arith, length-map ds (token_to t v))
+length-sent o ds t (Entered c) = omega (arith, length-entered o ds t c)
+length-sent o ds t (Sent u v) = omega arith
+length-sent o ds t (Failed f) = omega arith
+length-sent o ds t Nothing = omega arith
 
 -- the message of the element n that has the number k
 abbrev pub numbered_as : ℕ → ℕ → ℕ → ℕ → Payload → Message
@@ -41,6 +92,13 @@ numbered-push n p s k [] x = ap (λ j. numbered_as n p s j x ∷ []) (omega arit
 numbered-push n p s k (y ∷ ys) x =
     let number : k + 1 + length ys ≡ k + length (y ∷ ys) = omega arith in
     ap (λ zs. numbered_as n p s k y ∷ zs) (numbered-push n p s (k + 1) ys x ∙ ap (λ j. numbered n p s (k + 1) ys ++ numbered_as n p s j x ∷ []) number)
+
+-- the payloads of two lists are numbered on
+pub numbered-append : (n p s k : ℕ) (xs ys : List Payload) → numbered n p s k (xs ++ ys) ≡ numbered n p s k xs ++ numbered n p s (k + length xs) ys
+numbered-append n p s k [] ys = ap (λ j. numbered n p s j ys) (omega arith)
+numbered-append n p s k (x ∷ xs) ys =
+    let number : k + 1 + length xs ≡ k + length (x ∷ xs) = omega arith in
+    ap (λ zs. numbered_as n p s k x ∷ zs) (numbered-append n p s (k + 1) xs ys ∙ ap (λ j. numbered n p s (k + 1) xs ++ numbered n p s j ys) number)
 
 -- one more destination has one more token
 pub numbered-more : (n p s : ℕ) (t : Tag) (v : Value) (ds : List Dest) (i : ℕ) (d : Dest) (x : Payload) → i < length ds → x ≡ token_to t v (get_or ds i d) → numbered n p s 0 (map (token_to t v) (take (i + 1) ds)) ≡ numbered n p s 0 (map (token_to t v) (take i ds)) ++ numbered_as n p s i x ∷ []

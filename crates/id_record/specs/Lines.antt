@@ -29,6 +29,7 @@ abbrev pub carried_of : Value → Option Carried
 carried_of value.Signal = Some Signal
 carried_of (value.Int n) = Some (Int n)
 carried_of (value.Bool b) = Some (Truth b)
+carried_of (value.Context c) = None
 carried_of (value.Continuation t) = None
 
 -- the number that the value is, or 0
@@ -36,12 +37,14 @@ abbrev pub number_in : Value → ℤ
 number_in value.Signal = pos 0
 number_in (value.Int n) = n
 number_in (value.Bool b) = pos 0
+number_in (value.Context c) = pos 0
 number_in (value.Continuation t) = pos 0
 
 -- the number that was sent, or 0
 abbrev pub number_of : Fired → ℤ
 number_of (fired.Out v) = number_in v
 number_of (fired.Side b v) = number_in v
+number_of (fired.Entered c) = pos 0
 number_of (fired.Sent u v) = pos 0
 number_of (fired.Failed f) = pos 0
 number_of fired.Nothing = pos 0
@@ -50,6 +53,7 @@ number_of fired.Nothing = pos 0
 abbrev pub exit_of : Fired → Exit
 exit_of (fired.Out v) = Only
 exit_of (fired.Side b v) = On b
+exit_of (fired.Entered c) = Only
 exit_of (fired.Sent u v) = Only
 exit_of (fired.Failed f) = Only
 exit_of fired.Nothing = Only

@@ -12,6 +12,7 @@ use Rattle.id_record.specs.declared.line.Handled.{Handled}
 use Rattle.id_record.specs.declared.line.Line.{Line}
 use Rattle.id_record.specs.Events.{EventView, full_step, tag_of}
 use Rattle.id_record.specs.Lines.{unpacked}
+use Rattle.id_valid.specs.Roles.{op_at}
 use Rattle.id_record.specs.Sends.{numbered, sent}
 
 -- the destinations of the instruction of this number on a side
@@ -20,7 +21,7 @@ dests_at g n b = option_map_or (arcs_on b) (slice_get g.instrs n) []
 
 -- what is sent where the instruction of the tag fires: to the destinations on the side of the firing
 abbrev pub sent_by : Parts → Tag → Fired → List Payload
-sent_by g t f = sent (dests_at g t.instr (side_of f)) t f
+sent_by g t f = sent (op_at g t.instr) (dests_at g t.instr (side_of f)) t f
 
 -- what the element n sends in the event at this position, at this stamp, where the instruction of the tag fires
 abbrev pub sent_at : Parts → ℕ → ℕ → ℕ → Tag → Fired → List Message

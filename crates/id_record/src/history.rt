@@ -4,11 +4,13 @@ ghost use Rattle.std.specs.Prelude.{◌≡◌, ◌<◌, ◌++◌, ◌∷◌, [],
 ghost use Rattle.id_record.specs.Events.{full_step, tag_of};
 ghost use Rattle.id_ops.specs.Operators.{side_of};
 ghost use Rattle.id_record.specs.Records.{dests_at};
+ghost use Rattle.id_valid.specs.Roles.{op_at};
+ghost use Rattle.id_graph.specs.Graph.{IsGraph};
 
 use crate::line::{Handled, Line, line_aside, packed, unpack};
 use crate::outputs::{Envelope, Outputs, chosen};
 use crate::step::{Fault, Step, Verdict};
-use id_graph::{Dest, Graph};
+use id_graph::{Dest, Graph, Op};
 use id_ops::Fired;
 use id_tag::{Message, Payload, Tag};
 use id_valid::Valid;
@@ -163,12 +165,14 @@ impl<'a> Record<'a> {
             position,
             stamp: handled.stamp,
         };
+        let graph = self.graph.graph();
         Event {
             element: self.element,
             stamp: handled.stamp,
             message: handled.message,
             outputs: Outputs::new(
-                dests_at(self.graph.graph(), tag.instr, handled.reaction.fired),
+                op_at(graph, tag.instr),
+                dests_at(graph, tag.instr, handled.reaction.fired),
                 tag,
                 handled.reaction.fired,
                 envelope,
@@ -210,6 +214,15 @@ fn add_line(lines: &mut Vec<Line>, line: Line)
     ensures { lines.new.items ≡ lines.old.items ++ line ∷ [] }
 {
     lines.push_reserved(line);
+}
+
+/// What the instruction of this number does, if there is one.
+fn op_at(graph: &Graph, number: u32) -> Option<Op>
+    ensures op { result ≡ op_at graph.now number }
+    ensures graph { IsGraph graph.now }
+{
+    let instrs = graph.instrs();
+    instrs.get(number as usize).map(|instr| instr.op)
 }
 
 /// The destinations of the instruction of this number, on the side to which it fired.

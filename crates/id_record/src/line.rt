@@ -137,7 +137,7 @@ fn carry(value: Value) -> Option<Carried>
         Value::Signal => Some(Carried::Signal),
         Value::Int(number) => Some(Carried::Int(number)),
         Value::Bool(truth) => Some(Carried::Bool(truth)),
-        Value::Continuation(_) => None,
+        Value::Context(_) | Value::Continuation(_) => None,
     }
 }
 
@@ -169,7 +169,7 @@ fn sent(value: Value) -> Option<Effect>
         Value::Int(_) => Some(Effect::Int),
         Value::Bool(true) => Some(Effect::True),
         Value::Bool(false) => Some(Effect::False),
-        Value::Continuation(_) => None,
+        Value::Context(_) | Value::Continuation(_) => None,
     }
 }
 

@@ -1,14 +1,17 @@
 //! What an event sent, which contracts see as a list of messages.
 
 ghost use Rattle.std.specs.Prelude.{◌≡◌, ◌<◌, length, slice_get, Some};
+ghost use Rattle.id_graph.specs.declared.dests.Port.TheVariants.{Zero};
+ghost use Rattle.id_tag.specs.declared.Payload.TheVariants.{Token};
 ghost use Rattle.id_tag.specs.declared.Sender.TheVariants.{Element};
+ghost use Rattle.id_ops.specs.declared.Fired.TheVariants.{Entered};
 ghost use Rattle.id_graph.specs.Graph.{arcs_on};
 ghost use Rattle.id_ops.specs.Operators.{side_of};
-ghost use Rattle.id_record.specs.Sends.{sent, token_to};
+ghost use Rattle.id_record.specs.Sends.{HasSecond, beside, count_started, sent, started, token_to};
 
-use id_graph::{Dest, Instr, Port};
-use id_ops::Fired;
-use id_tag::{Message, Payload, Sender, Tag, Value};
+use id_graph::{Dest, Instr, Op, Port};
+use id_ops::{Fired, tag_within};
+use id_tag::{Context, Message, Payload, Sender, Tag, Value};
 use std::marker::Model;
 
 /// What each output of an event carries: the element, the event's position in its record, and its stamp.
@@ -23,6 +26,7 @@ pub struct Envelope {
 /// from what the instruction fired.
 #[derive(Drop)]
 pub struct Outputs<'a> {
+    op: Option<Op>,
     dests: &'a [Dest],
     tag: Tag,
     fired: Fired,
@@ -32,23 +36,33 @@ pub struct Outputs<'a> {
 impl<'a> Model for Outputs<'a> {
     ghost use Rattle.std.specs.Prelude.{List};
     ghost use Rattle.id_tag.specs.declared.Message.{Message};
-    ghost use Rattle.id_record.specs.Sends.{numbered, sent};
+    ghost use Rattle.id_record.specs.Sends.{HasSecond, numbered, sent};
 
     ghost Value = { List Message };
 
-    ghost view = { λ o. numbered o.envelope.number o.envelope.position o.envelope.stamp 0 (sent o.dests.now o.tag o.fired) };
+    ghost view = { λ o. numbered o.envelope.number o.envelope.position o.envelope.stamp 0 (sent o.op o.dests.now o.tag o.fired) };
+
+    ghost invariant = { λ o. HasSecond o.op };
 }
 
 impl<'a> Outputs<'a> {
     ghost use Rattle.std.specs.Prelude.{◌≡◌, ◌<◌, ◌==◌, length, slice_get, Some};
-    ghost use Rattle.id_record.specs.Sends.{numbered, sent};
+    ghost use Rattle.id_record.specs.Sends.{HasSecond, numbered, sent};
 
-    /// What is sent where an instruction fires under this tag, with these destinations on the side of
-    /// the firing. Takes no memory.
-    pub fn new(dests: &'a [Dest], tag: Tag, fired: Fired, envelope: Envelope) -> Outputs<'a>
-        ensures { result ≡ numbered envelope.number envelope.position envelope.stamp 0 (sent dests.now tag fired) }
+    /// What is sent where the operator of an instruction fires under this tag, with these
+    /// destinations on the side of the firing. Takes no memory.
+    pub fn new(
+        op: Option<Op>,
+        dests: &'a [Dest],
+        tag: Tag,
+        fired: Fired,
+        envelope: Envelope,
+    ) -> Outputs<'a>
+        requires { HasSecond op }
+        ensures { result ≡ numbered envelope.number envelope.position envelope.stamp 0 (sent op dests.now tag fired) }
     {
         Outputs {
+            op,
             dests,
             tag,
             fired,
@@ -62,6 +76,7 @@ impl<'a> Outputs<'a> {
     {
         match self.fired {
             Fired::Out(_) | Fired::Side(..) => self.dests.len(),
+            Fired::Entered(_) => self.dests.len() + count_started(self.op),
             Fired::Sent(..) => 1,
             Fired::Failed(_) | Fired::Nothing => 0,
         }
@@ -82,7 +97,7 @@ impl<'a> Outputs<'a> {
         message(
             self.envelope,
             number,
-            payload(self.dests, self.tag, self.fired, number),
+            payload(self.op, self.dests, self.tag, self.fired, number),
         )
     }
 }
@@ -98,21 +113,81 @@ pub fn chosen(instr: &Instr, fired: Fired) -> &[Dest]
 }
 
 /// What the message of this number says.
-fn payload(dests: &[Dest], tag: Tag, fired: Fired, number: usize) -> Payload
-    requires { number < length (sent dests.now tag fired) }
-    ensures { slice_get (sent dests.now tag fired) number ≡ Some result }
+fn payload(op: Option<Op>, dests: &[Dest], tag: Tag, fired: Fired, number: usize) -> Payload
+    requires second { HasSecond op }
+    requires number { number < length (sent op dests.now tag fired) }
+    ensures { slice_get (sent op dests.now tag fired) number ≡ Some result }
 {
     match fired {
         Fired::Out(value) | Fired::Side(_, value) => {
             let dest = dests[number];
             token_to(tag, value, dest)
         }
-        Fired::Sent(target, value) => Payload::Token {
-            tag: target,
-            port: Port::Zero,
-            value,
-        },
+        Fired::Entered(context) => entering(op, dests, tag, context, number),
+        Fired::Sent(target, value) => token_at(target, value),
         Fired::Failed(_) | Fired::Nothing => unreachable!(),
+    }
+}
+
+/// What the message of this number says where a block is entered in this context: the context, for
+/// each destination, and then what starts the block.
+fn entering(op: Option<Op>, dests: &[Dest], tag: Tag, context: Context, number: usize) -> Payload
+    requires second { HasSecond op }
+    requires number { number < length (sent op dests.now tag (Entered context)) }
+    ensures { slice_get (sent op dests.now tag (Entered context)) number ≡ Some result }
+{
+    if number < dests.len() {
+        let dest = dests[number];
+        token_to(tag, Value::Context(context), dest)
+    } else {
+        start(op, tag, context, number - dests.len())
+    }
+}
+
+/// How many messages start the block that the operator names.
+pub fn count_started(op: Option<Op>) -> usize
+    ensures { result ≡ count_started op }
+{
+    match op {
+        Some(Op::Enter { .. }) => 2,
+        _ => 0,
+    }
+}
+
+/// What the message of this number says, of those that start the block that the operator names.
+pub fn start(op: Option<Op>, tag: Tag, context: Context, number: usize) -> Payload
+    requires second { HasSecond op }
+    requires number { number < length (started op tag context) }
+    ensures { slice_get (started op tag context) number ≡ Some result }
+{
+    match op {
+        Some(Op::Enter { block, reply }) => {
+            if number == 0 {
+                token_at(tag_within(context, block), Value::Signal)
+            } else {
+                let caller = beside(tag, reply);
+                token_at(tag_within(context, block + 1), Value::Continuation(caller))
+            }
+        }
+        _ => unreachable!(),
+    }
+}
+
+/// The tag of another instruction, under the same context and iteration.
+fn beside(tag: Tag, instr: u32) -> Tag
+    ensures { result ≡ beside tag instr }
+{
+    Tag { instr, ..tag }
+}
+
+/// A token with this value for port 0 of a tag.
+fn token_at(tag: Tag, value: Value) -> Payload
+    ensures { result ≡ Token tag Zero value }
+{
+    Payload::Token {
+        tag,
+        port: Port::Zero,
+        value,
     }
 }
 

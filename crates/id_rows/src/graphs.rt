@@ -90,6 +90,29 @@ pub(crate) fn either(alloc: Global, second: u32) -> Result<Vec<Instr>, AllocErro
     )
 }
 
+/// The instructions of `def f(n: int): int = n; def main(): int = f(7);`, with these operators for the `enter` at 6 and
+/// the `send` at 8. The block of f is 1 to 3, that of main 4 to 9, where 9 is the result of the call.
+pub(crate) fn call(alloc: Global, enter: Op, send: Op) -> Result<Vec<Instr>, AllocError> {
+    let merge = Op::Merge(PortKind::Int);
+    let trigger = Op::Merge(PortKind::Signal);
+    let back = Op::Back(PortKind::Int);
+    instrs(
+        alloc,
+        &[
+            (merge, &[], &[], 28),
+            (trigger, &[], &[], 4),
+            (back, &[], &[], 4),
+            (merge, &[(2, Port::One)], &[], 6),
+            (trigger, &[(6, Port::Zero), (7, Port::Zero)], &[], 28),
+            (back, &[], &[], 28),
+            (enter, &[(8, Port::Zero)], &[], 42),
+            (number(7), &[(8, Port::One)], &[], 44),
+            (send, &[], &[], 42),
+            (merge, &[(5, Port::One)], &[], 42),
+        ],
+    )
+}
+
 /// The instructions of `def main(): int = 7;`.
 fn only_seven(alloc: Global) -> Result<Vec<Instr>, AllocError> {
     instrs(
@@ -108,6 +131,22 @@ pub(crate) fn block(alloc: Global, first: u32) -> Result<Vec<Block>, AllocError>
     let mut list = Vec::new(alloc);
     list.push(Block {
         first,
+        entries: Sequence::new(Vec::new(alloc)),
+    })?;
+    Ok(list)
+}
+
+/// The blocks of `call`.
+pub(crate) fn called_blocks(alloc: Global) -> Result<Vec<Block>, AllocError> {
+    let mut list = Vec::new(alloc);
+    let mut entries = Vec::new(alloc);
+    entries.push(3)?;
+    list.push(Block {
+        first: 1,
+        entries: Sequence::new(entries),
+    })?;
+    list.push(Block {
+        first: 4,
         entries: Sequence::new(Vec::new(alloc)),
     })?;
     Ok(list)

@@ -2,9 +2,9 @@
 
 ghost use Rattle.std.specs.Prelude.{◌≡◌};
 
-use crate::graphs::{block, either, seven, sum_and_product};
+use crate::graphs::{block, call, called_blocks, either, seven, sum_and_product};
 use id_core::{Element, Machine, MachineError, Step, TakeError, fits, merge_records, takes_inputs};
-use id_graph::{Constant, Graph, GraphCause, Instr, Op, Port};
+use id_graph::{Block, Constant, Graph, GraphCause, Instr, Op, Port, PortKind};
 use id_list::Sequence;
 use id_match::{Entry, Offered, Waiting};
 use id_meaning::{Inputs, SourceValue};
@@ -87,16 +87,15 @@ fn routes_by_context_and_iteration(rt: HostRuntime) {
     assert!(rt; route(&signal(tag, 0), 2) == 1);
 }
 
-/// The first faulty instruction of the graph of 8 instructions with this first instruction of its block, if there is one;
+/// The first faulty instruction of the graph of these blocks and instructions, of which there are few, if there is one;
 /// or that for which there is no such graph, and 1000 more.
 fn faulty(
     rt: &impl Abort,
     alloc: Global,
+    blocks: Vec<Block>,
     list: Vec<Instr>,
-    first: u32,
 ) -> Result<Option<u64>, AllocError> {
-    let blocks = block(alloc, first)?;
-    assert!(rt; list.len() == 8);
+    assert!(rt; list.len() < 100);
     match Graph::new(blocks, list) {
         Ok(graph) => first_faulty(alloc, graph),
         Err(error) => {
@@ -129,7 +128,7 @@ fn an_invalid_graph_is_refused_at_an_instruction(rt: HostRuntime) -> Result<(), 
     ];
     for (four, first, sum, wanted) in table {
         let list = sum_and_product(rt.alloc(), four, sum)?;
-        let found = faulty(&rt, rt.alloc(), list, first)?;
+        let found = faulty(&rt, rt.alloc(), block(rt.alloc(), first)?, list)?;
         assert!(rt; found == wanted);
     }
     Ok(())
@@ -139,7 +138,37 @@ fn an_invalid_graph_is_refused_at_an_instruction(rt: HostRuntime) -> Result<(), 
 fn both_lists_of_a_switch_are_looked_at(rt: HostRuntime) -> Result<(), Fail> {
     for (second, wanted) in [(6, None), (5, Some(5)), (8, Some(1004))] {
         let list = either(rt.alloc(), second)?;
-        let found = faulty(&rt, rt.alloc(), list, 1)?;
+        let found = faulty(&rt, rt.alloc(), block(rt.alloc(), 1)?, list)?;
+        assert!(rt; found == wanted);
+    }
+    Ok(())
+}
+
+// 1 is the first of a block, 3 its entry, both merges; 7 is no merge, 9 a merge and no entry, 10 past the end.
+#[test]
+fn enters_and_sends_name_what_is_there(rt: HostRuntime) -> Result<(), Fail> {
+    let table = [
+        (1, 9, PortKind::Int, 3, None),
+        (4, 9, PortKind::Int, 3, None),
+        (0, 9, PortKind::Int, 3, Some(6)),
+        (3, 9, PortKind::Int, 3, Some(6)),
+        (10, 9, PortKind::Int, 3, Some(6)),
+        (1, 1, PortKind::Int, 3, Some(6)),
+        (1, 7, PortKind::Int, 3, Some(6)),
+        (1, 10, PortKind::Int, 3, Some(6)),
+        (1, 3, PortKind::Int, 3, Some(9)),
+        (1, 9, PortKind::Bool, 3, Some(7)),
+        (1, 9, PortKind::Int, 1, Some(8)),
+        (1, 9, PortKind::Int, 9, Some(8)),
+        (1, 9, PortKind::Int, 10, Some(8)),
+    ];
+    for (first, reply, kind, target, wanted) in table {
+        let enter = Op::Enter {
+            block: first,
+            reply,
+        };
+        let list = call(rt.alloc(), enter, Op::Send { kind, target })?;
+        let found = faulty(&rt, rt.alloc(), called_blocks(rt.alloc())?, list)?;
         assert!(rt; found == wanted);
     }
     Ok(())

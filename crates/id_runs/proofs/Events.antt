@@ -1,6 +1,6 @@
 -- What comes of a token, by what waits under its tag, and what waits there afterwards.
 use Rattle.std.proofs.Common.{◌≡◌, ◌⊎◌, inl, inr, ℕ, Bool, true, false, cond, Option, Some, None, [], slice_get, refl, sym, ◌∙◌, ap, subst}
-use Rattle.std.specs.Option.{option_map_or}
+use Rattle.std.specs.Option.{option_map, option_map_or}
 use Rattle.std.specs.FinMap.{get, get-insert, get-remove}
 use Rattle.std.specs.Cmp.{eq_by_cmp_equiv}
 use Rattle.std.specs.Ordering.{eq_by_cmp, is_eq}
@@ -30,8 +30,8 @@ use Rattle.id_ops.specs.declared.Operands.TheVariants as operands
 use Rattle.id_ops.specs.declared.Fired.{Fired}
 use Rattle.id_ops.specs.declared.Fired.TheVariants as fires
 use Rattle.id_record.specs.declared.step.Step.TheVariants.{Stuck}
-use Rattle.id_core.specs.Steps.{State, arrival_of, arrival, waiting_after, fired_step, fresh_numbers, arriving, at_instr, outcome}
-use Rattle.id_runs.specs.Events.{Arrival, Waits, Blocked, Fires, Took, payload_of, sent_on, sends_of, step_on, came_to}
+use Rattle.id_core.specs.Steps.{State, arrival_of, arrival, waiting_after, fired_step, made_by, next_numbers, arriving, at_instr, outcome}
+use Rattle.id_runs.specs.Events.{Arrival, Waits, Blocked, Fires, Event, Took, payload_of, sent_on, sends_of, step_on, came_to}
 use Rattle.id_runs.specs.Runs.{fires_on, offered_to, arrival_at, happens}
 
 -- a value that waits at a port
@@ -129,34 +129,47 @@ effect_in g fresh w t p v (Some i) e = effect_at g fresh w t p v i (two_ports i.
 
 -- ---- the event as the machine's step has it
 
-same_answer : (n : ℕ) (i : Instr) (t : Tag) (w : Store) (a : Offered)
+-- how many contexts an arrival takes
+abbrev pub made_in : Arrival → ℕ
+made_in Waits = 0
+made_in Blocked = 0
+made_in (Fires ops f) = made_by f
+
+same_answer : (n : Fresh) (i : Instr) (t : Tag) (w : Store) (a : Offered)
     → let x = arriving n i t w (arrival_of a) in
-    let y = offered_to (fresh_numbers n) i t a in
-    (x.sends ≡ sent_on (λ b. arcs_on b i) t y) × (x.step ≡ step_on t y) × (x.waiting ≡ w)
-same_answer n i t w Kept = (refl, refl, refl)
-same_answer n i t w (Pair v u) = (refl, refl, refl)
-same_answer n i t w Taken = (refl, refl, refl)
+    let y = offered_to n i t a in
+    (x.sends ≡ sent_on (Some i.op) (λ b. arcs_on b i) t y) × (x.step ≡ step_on t y) × (x.waiting ≡ w) × (x.made ≡ made_in y)
+same_answer n i t w Kept = (refl, refl, refl, refl)
+same_answer n i t w (Pair v u) = (refl, refl, refl, refl)
+same_answer n i t w Taken = (refl, refl, refl, refl)
 
 -- an operator with one port, as `neg`, fires alone
-same_outcome : (n : ℕ) (i : Instr) (t : Tag) (w w' : Store) (p : Port) (v : Value) (a : Offered) (b : Bool)
+same_outcome : (n : Fresh) (i : Instr) (t : Tag) (w w' : Store) (p : Port) (v : Value) (a : Offered) (b : Bool)
     → let x = arriving n i t w' (cond b (arrival_of a) (arrival (Unary Neg) w t p v)) in
-    let y = cond b (offered_to (fresh_numbers n) i t a) (fires_on (fresh_numbers n) i t (operands.One v)) in
-    (x.sends ≡ sent_on (λ b. arcs_on b i) t y) × (x.step ≡ step_on t y) × (x.waiting ≡ w')
+    let y = cond b (offered_to n i t a) (fires_on n i t (operands.One v)) in
+    (x.sends ≡ sent_on (Some i.op) (λ b. arcs_on b i) t y) × (x.step ≡ step_on t y) × (x.waiting ≡ w') × (x.made ≡ made_in y)
 same_outcome n i t w w' p v a true = same_answer n i t w' a
-same_outcome n i t w w' p v a false = (refl, refl, refl)
+same_outcome n i t w w' p v a false = (refl, refl, refl, refl)
 
-by_instr : (n : ℕ) (w : Store) (t : Tag) (p : Port) (v : Value) (o : Option Instr)
+by_instr : (n : Fresh) (w : Store) (t : Tag) (p : Port) (v : Value) (o : Option Instr)
     → let x = at_instr n w t p v o in
-    let y = arrival_at (fresh_numbers n) o w t p v in
-    (x.sends ≡ sent_on (λ b. option_map_or (arcs_on b) o []) t y) × (x.step ≡ step_on t y) × (x.waiting ≡ stores o w t p v)
-by_instr n w t p v None = (refl, refl, refl)
+    let y = arrival_at n o w t p v in
+    (x.sends ≡ sent_on (option_map (λ i. i.op) o) (λ b. option_map_or (arcs_on b) o []) t y) × (x.step ≡ step_on t y) × (x.waiting ≡ stores o w t p v) × (x.made ≡ made_in y)
+by_instr n w t p v None = (refl, refl, refl, refl)
 by_instr n w t p v (Some i) = same_outcome n i t w (waiting_after i.op w t p v) p v (offer_answer w t p v) (two_ports i.op)
 
-pub outcome_sends : (g : Parts) (n : ℕ) (e : State) (x : Payload) → (outcome g n e.waiting x).sends ≡ sends_of g (happens g n e x)
-outcome_sends g n e (Token t p v) = (by_instr n e.waiting t p v (slice_get g.instrs t.instr)).0
+pub outcome_sends : (g : Parts) (n : ℕ) (e : State) (x : Payload) → (outcome g (next_numbers n e) e.waiting x).sends ≡ sends_of g (happens g n e x)
+outcome_sends g n e (Token t p v) = (by_instr (next_numbers n e) e.waiting t p v (slice_get g.instrs t.instr)).0
 
-pub outcome_step : (g : Parts) (n : ℕ) (e : State) (x : Payload) → (outcome g n e.waiting x).step ≡ came_to (happens g n e x)
-outcome_step g n e (Token t p v) = (by_instr n e.waiting t p v (slice_get g.instrs t.instr)).1
+pub outcome_step : (g : Parts) (n : ℕ) (e : State) (x : Payload) → (outcome g (next_numbers n e) e.waiting x).step ≡ came_to (happens g n e x)
+outcome_step g n e (Token t p v) = (by_instr (next_numbers n e) e.waiting t p v (slice_get g.instrs t.instr)).1
+
+-- how many contexts the event takes
+abbrev pub made_at : Event → ℕ
+made_at (Took n t p v a) = made_in a
+
+pub outcome_made : (g : Parts) (n : ℕ) (e : State) (x : Payload) → (outcome g (next_numbers n e) e.waiting x).made ≡ made_at (happens g n e x)
+outcome_made g n e (Token t p v) = (by_instr (next_numbers n e) e.waiting t p v (slice_get g.instrs t.instr)).3
 
 -- the event has the message's payload
 pub payload_of-happens : (g : Parts) (n : ℕ) (e : State) (x : Payload) → payload_of (happens g n e x) ≡ x
@@ -171,8 +184,8 @@ pub record Taking (g : Parts) (n : ℕ) (e : State) (x : Payload) : Type 0 where
   pub fresh : Fresh
   pub says : x ≡ Token tag port value
   pub is : happens g n e x ≡ Took n tag port value arrival
-  pub effect : Effect g fresh tag port value (get e.waiting tag) arrival (get (outcome g n e.waiting x).waiting tag)
-  pub others : (u : Tag) → (u ≡ tag → ⊥) → get (outcome g n e.waiting x).waiting u ≡ get e.waiting u
+  pub effect : Effect g fresh tag port value (get e.waiting tag) arrival (get (outcome g (next_numbers n e) e.waiting x).waiting tag)
+  pub others : (u : Tag) → (u ≡ tag → ⊥) → get (outcome g (next_numbers n e) e.waiting x).waiting u ≡ get e.waiting u
 
 stores_other : (w : Store) (t : Tag) (p : Port) (v : Value) (u : Tag) (b : Bool) → (u ≡ t → ⊥) → get (cond b (offer_after w t p v) w) u ≡ get w u
 stores_other w t p v u true n = others_stay w t p v u _ n
@@ -185,17 +198,18 @@ other_instr w t p v u (Some i) n = stores_other w t p v u (two_ports i.op) n
 pub taking : (g : Parts) (n : ℕ) (e : State) (x : Payload) → Taking g n e x
 taking g n e (Token t p v) =
     let o = slice_get g.instrs t.instr in
-    let waiting_is = (by_instr n e.waiting t p v o).2 in
+    let next = next_numbers n e in
+    let waiting_is = (by_instr next e.waiting t p v o).2 in
     record {
       tag = t;
       port = p;
       value = v;
-      arrival = arrival_at (fresh_numbers n) o e.waiting t p v;
-      fresh = fresh_numbers n;
+      arrival = arrival_at next o e.waiting t p v;
+      fresh = next;
       says = refl;
       is = refl;
-      effect = subst (λ s. Effect g (fresh_numbers n) t p v (get e.waiting t) (arrival_at (fresh_numbers n) o e.waiting t p v) (get s t)) (sym waiting_is)
-          (effect_in g (fresh_numbers n) e.waiting t p v o refl);
+      effect = subst (λ s. Effect g next t p v (get e.waiting t) (arrival_at next o e.waiting t p v) (get s t)) (sym waiting_is)
+          (effect_in g next e.waiting t p v o refl);
       others = λ u differs. ap (λ s. get s u) waiting_is ∙ other_instr e.waiting t p v u o differs;
     }
 
@@ -204,6 +218,7 @@ taking g n e (Token t p v) =
 stuck_fired : (t : Tag) (f : Fired) → fired_step t f ≡ Stuck → ⊥
 stuck_fired t (fires.Out v) e = cc
 stuck_fired t (fires.Side b v) e = cc
+stuck_fired t (fires.Entered c) e = cc
 stuck_fired t (fires.Sent u v) e = cc
 stuck_fired t (fires.Failed k) e = cc
 stuck_fired t fires.Nothing e = cc

@@ -10,3 +10,4 @@ pub mod Meeting
 pub mod EveryMessage
 pub mod RecordsOfRuns
 pub mod Suited
+pub mod Serials

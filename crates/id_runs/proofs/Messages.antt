@@ -9,7 +9,7 @@ use Rattle.id_tag.specs.declared.Message.{Message}
 use Rattle.id_tag.specs.Routes.{route_of}
 use Rattle.id_ops.specs.declared.Fired.{Fired}
 use Rattle.id_record.specs.Records.{sent_by}
-use Rattle.id_core.specs.Steps.{State, numbered, outputs_of, next_stamp, outcome}
+use Rattle.id_core.specs.Steps.{State, next_numbers, numbered, outputs_of, next_stamp, outcome}
 use Rattle.id_core.specs.Machines.{World, taken_from}
 use Rattle.id_meaning.specs.declared.SourceValue.{SourceValue}
 use Rattle.id_list.specs.List.{Among}
@@ -28,7 +28,7 @@ numbered_payloads n position stamp k (x ∷ xs) = ap (λ ys. x ∷ ys) (numbered
 
 pub sent_payloads : (g : Parts) (n : ℕ) (e : State) (m : Message) → map said (outputs_of g n e m) ≡ sends_of g (happens g n e m.payload)
 sent_payloads g n e m =
-    numbered_payloads n (length e.events) (next_stamp e m) 0 (outcome g n e.waiting m.payload).sends ∙ outcome_sends g n e m.payload
+    numbered_payloads n (length e.events) (next_stamp e m) 0 (outcome g (next_numbers n e) e.waiting m.payload).sends ∙ outcome_sends g n e m.payload
 
 -- what is in flight after an event: what is left of before, and what the event sends
 pub flying_after : (g : Parts) (k : ℕ) (s : World) (m : Message) (n : ℕ) (e : State)

@@ -106,9 +106,9 @@ module _ (g : Parts) (vs : List SourceValue) (count : ℕ) (valid : IsValid g) (
       let y = has_fired g vs count s events r (record { element = n; port = p; value = v; operands = ops; among = among }) in
       let i = y.instr in
       let z = suitable g t i ops events y.at fit y.handled_are in
-      let all = sent_fits g z.stamp t i (fired i.op t ops y.fresh) z.in_time ((valid.sound t.instr).taken i y.at)
-      (fired_fits g z.stamp t i.op ops y.fresh (ap (option_map (λ j. j.op)) y.at) z.fit) in
-      let same = ap (λ o. sent (option_map_or (arcs_on (side_of f)) o []) t f) y.at ∙ ap (λ u. sent (arcs_on (side_of u) i) t u) y.is in
+      let all = sent_fits g z.stamp t i (fired i.op t ops y.fresh) valid y.at z.in_time
+      (fired_fits g z.stamp t i.op ops y.fresh valid (ap (option_map (λ j. j.op)) y.at) z.fit) in
+      let same = ap (λ o. sent (option_map (λ j. j.op) o) (option_map_or (arcs_on (side_of f)) o []) t f) y.at ∙ ap (λ u. sent (Some i.op) (arcs_on (side_of u) i) t u) y.is in
       record { stamp = z.stamp; fits = of_all (PayloadFits g z.stamp) _ x all (subst (Among x) same h) }
 
   -- so each firing is suited

@@ -20,7 +20,7 @@ use Rattle.id_ops.specs.declared.Fired.{Fired}
 use Rattle.id_ops.specs.declared.Operands.{Operands}
 use Rattle.id_ops.specs.declared.Operands.TheVariants as operands
 use Rattle.id_ops.specs.Operators.{fired}
-use Rattle.id_core.specs.Steps.{State, outcome, state_after}
+use Rattle.id_core.specs.Steps.{State, next_numbers, outcome, state_after}
 use Rattle.id_core.specs.Machines.{World, taken_from}
 use Rattle.id_meaning.specs.declared.SourceValue.{SourceValue}
 use Rattle.id_list.specs.List.{Among}
@@ -68,12 +68,12 @@ waited g vs count s run (deliver {s = s₀} {run = run₀} k m e r f at) n x t h
     let new = taking g n₀ e m.payload in
     elim (slice_get-set s₀.elements n₀ n (state_after g n₀ e m) x got) [
       | inl q ↦
-          let there : get (outcome g n₀ e.waiting m.payload).waiting t ≡ Some h = ap (λ (y : State). get y.waiting t) (sym q.1) ∙ w in
+          let there : get (outcome g (next_numbers n₀ e) e.waiting m.payload).waiting t ≡ Some h = ap (λ (y : State). get y.waiting t) (sym q.1) ∙ w in
           elim (tag_cases t new.tag) [
             | inl same ↦
                 subst (λ (z : Event × Tag). Waited (z.0 ∷ run₀) z.1 h.port h.value) (λ i. (sym new.is i, sym same i))
                 (still_waits g new.fresh n₀ new.tag new.port new.value _ _ _ run₀ new.effect
-                (λ h' e'. before n₀ e new.tag h' at e') h (ap (λ u. get (outcome g n₀ e.waiting m.payload).waiting u) (sym same) ∙ there))
+                (λ h' e'. before n₀ e new.tag h' at e') h (ap (λ u. get (outcome g (next_numbers n₀ e) e.waiting m.payload).waiting u) (sym same) ∙ there))
             | inr other ↦ waited_later _ (before n₀ e t h at (sym (new.others t other) ∙ there))
           ]
       | inr old ↦ waited_later _ (before n x t h old w)
@@ -318,7 +318,7 @@ settled g vs count s run (deliver {s = s₀} {run = run₀} k m e r f q) t p v i
         ap (λ (y : State). get y.waiting new.tag) (sym one) ∙ w.there
 
     there_now : {u : Port} {x : Value}
-        → (get (outcome g n e.waiting m.payload).waiting new.tag ≡ Some (half u x)) ⊎ (FiredWith (event ∷ run₀) new.tag u x ⊎ BlockedAt (event ∷ run₀) new.tag)
+        → (get (outcome g (next_numbers n e) e.waiting m.payload).waiting new.tag ≡ Some (half u x)) ⊎ (FiredWith (event ∷ run₀) new.tag u x ⊎ BlockedAt (event ∷ run₀) new.tag)
         → Settled count s' (event ∷ run₀) new.tag u x
     there_now (inl w) = inl (record { state = e'; at = ap (slice_get (set s₀.elements n e')) (sym here) ∙ set-here s₀.elements n e' e q; there = w })
     there_now (inr z) = inr z

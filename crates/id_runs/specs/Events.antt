@@ -1,15 +1,19 @@
 -- The events of a run: which element handled which message, and what came of it (docs/MACHINE.md, "Element step").
-use Rattle.std.specs.Prelude.{◌≡◌, ℕ, Bool, true, List, []}
+use Rattle.std.specs.Prelude.{◌≡◌, ℕ, Bool, true, Option, List, []}
 use Rattle.id_graph.specs.declared.dests.Dest.{Dest}
 use Rattle.id_graph.specs.declared.dests.Port.{Port}
+use Rattle.id_graph.specs.declared.instr.Op.{Op}
 use Rattle.id_graph.specs.Graph.{Parts}
 use Rattle.id_tag.specs.declared.Tag.{Tag}
+use Rattle.id_tag.specs.declared.Context.{Context}
 use Rattle.id_tag.specs.declared.Value.{Value}
+use Rattle.id_tag.specs.declared.Value.TheVariants as value
+use Rattle.id_valid.specs.Roles.{op_at}
 use Rattle.id_tag.specs.declared.Payload.{Payload}
 use Rattle.id_tag.specs.declared.Payload.TheVariants.{Token}
 use Rattle.id_ops.specs.declared.Operands.{Operands}
 use Rattle.id_ops.specs.declared.Fired.{Fired}
-use Rattle.id_ops.specs.declared.Fired.TheVariants.{Out, Side, Sent, Failed, Nothing}
+use Rattle.id_ops.specs.declared.Fired.TheVariants.{Out, Side, Entered, Sent, Failed, Nothing}
 use Rattle.id_ops.specs.Operators.{side_of}
 use Rattle.id_record.specs.declared.step.Step.{Step}
 use Rattle.id_record.specs.declared.step.Step.TheVariants as steps
@@ -31,15 +35,15 @@ pub data Event : Type 0 where
 abbrev pub payload_of : Event → Payload
 payload_of (Took n t p v a) = Token t p v
 
--- what an instruction with these destinations on each side sends under a tag
-abbrev pub sent_on : (Bool → List Dest) → Tag → Arrival → List Payload
-sent_on ds t Waits = []
-sent_on ds t Blocked = []
-sent_on ds t (Fires ops f) = sent (ds (side_of f)) t f
+-- what an instruction with this operator and these destinations on each side sends under a tag
+abbrev pub sent_on : Option Op → (Bool → List Dest) → Tag → Arrival → List Payload
+sent_on o ds t Waits = []
+sent_on o ds t Blocked = []
+sent_on o ds t (Fires ops f) = sent o (ds (side_of f)) t f
 
 -- what an event sends
 abbrev pub sends_of : Parts → Event → List Payload
-sends_of g (Took n t p v a) = sent_on (dests_at g t.instr) t a
+sends_of g (Took n t p v a) = sent_on (op_at g t.instr) (dests_at g t.instr) t a
 
 -- what becomes of a token, as its record says it
 abbrev pub step_on : Tag → Arrival → Step
@@ -59,13 +63,21 @@ pub record FiresAs (run : List Event) (t : Tag) (f : Fired) : Type 0 where
   pub operands : Operands
   pub among : Among (Took element t port value (Fires operands f)) run
 
--- a firing gives the value on a side, under its own tag: a switch on the side that it chose, another on the true side
+-- a firing gives the value on a side, under its own tag: a switch on the side that it chose, another on the true side;
+-- one that enters a block gives the context
 abbrev pub GivesOn : Fired → Bool → Value → Type 0
 GivesOn (Out w) b v = (b ≡ true) × (v ≡ w)
 GivesOn (Side c w) b v = (b ≡ c) × (v ≡ w)
+GivesOn (Entered c) b v = (b ≡ true) × (v ≡ value.Context c)
 GivesOn (Sent u w) b v = ⊥
 GivesOn (Failed k) b v = ⊥
 GivesOn Nothing b v = ⊥
+
+-- the event enters a block in the context
+abbrev pub Enters : Event → Context → Type 0
+Enters (Took n t p v Waits) c = ⊥
+Enters (Took n t p v Blocked) c = ⊥
+Enters (Took n t p v (Fires ops f)) c = f ≡ Entered c
 
 -- the event of a firing
 abbrev pub fired_event : {run : List Event} {t : Tag} {f : Fired} → FiresAs run t f → Event

@@ -4,3 +4,4 @@ pub mod Runs
 pub mod Keys
 pub mod OneMessage
 pub mod Suited
+pub mod Serials

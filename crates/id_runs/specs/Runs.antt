@@ -17,7 +17,7 @@ use Rattle.id_ops.specs.declared.Operands.{Operands}
 use Rattle.id_ops.specs.declared.Operands.TheVariants.{One, Two}
 use Rattle.id_ops.specs.declared.Fresh.{Fresh}
 use Rattle.id_ops.specs.Operators.{fired}
-use Rattle.id_core.specs.Steps.{State, fresh_numbers}
+use Rattle.id_core.specs.Steps.{State, next_numbers}
 use Rattle.id_core.specs.Machines.{World, start, start_messages, taken_from}
 use Rattle.id_meaning.specs.declared.SourceValue.{SourceValue}
 use Rattle.id_list.specs.List.{Among}
@@ -40,7 +40,7 @@ arrival_at fresh (Some i) w t p v = if two_ports i.op then offered_to fresh i t 
 
 -- the event of the element n in a state, on a message
 abbrev pub happens : Parts → ℕ → State → Payload → Event
-happens g n e (Token t p v) = Took n t p v (arrival_at (fresh_numbers n) (slice_get g.instrs t.instr) e.waiting t p v)
+happens g n e (Token t p v) = Took n t p v (arrival_at (next_numbers n e) (slice_get g.instrs t.instr) e.waiting t p v)
 
 -- the machine comes to this state by these events
 pub data Reach (g : Parts) (vs : List SourceValue) (count : ℕ) : World → List Event → Type 0 where

@@ -40,31 +40,34 @@ port_of-is_port_one One = refl
 abbrev pub coded_port : Coded Port
 coded_port = code_by Bool coded_bool is_port_one port_of port_of-is_port_one
 
--- a truth value for a signal, or else a number, a truth value or a tag
+-- a truth value for a signal, or else a number, a truth value, a context or a tag
 abbrev pub Parts : Type 0
-Parts = Bool ⊎ (ℤ ⊎ (Bool ⊎ Tag))
+Parts = Bool ⊎ (ℤ ⊎ (Bool ⊎ (Context ⊎ Tag)))
 
 -- what a value holds
 abbrev pub parts_of : Value → Parts
 parts_of value.Signal = inl false
 parts_of (value.Int n) = inr (inl n)
 parts_of (value.Bool b) = inr (inr (inl b))
-parts_of (value.Continuation t) = inr (inr (inr t))
+parts_of (value.Context c) = inr (inr (inr (inl c)))
+parts_of (value.Continuation t) = inr (inr (inr (inr t)))
 
 -- the value that holds it
 abbrev pub from_parts : Parts → Value
 from_parts (inl _) = value.Signal
 from_parts (inr (inl n)) = value.Int n
 from_parts (inr (inr (inl b))) = value.Bool b
-from_parts (inr (inr (inr t))) = value.Continuation t
+from_parts (inr (inr (inr (inl c)))) = value.Context c
+from_parts (inr (inr (inr (inr t)))) = value.Continuation t
 
 pub from_parts-parts_of : (v : Value) → from_parts (parts_of v) ≡ v
 from_parts-parts_of value.Signal = refl
 from_parts-parts_of (value.Int _) = refl
 from_parts-parts_of (value.Bool _) = refl
+from_parts-parts_of (value.Context _) = refl
 from_parts-parts_of (value.Continuation _) = refl
 
 -- a value as what it holds
 abbrev pub coded_value : Coded Value
 coded_value =
-    code_by Parts (coded⊎ coded_bool (coded⊎ coded_ℤ (coded⊎ coded_bool coded_tag))) parts_of from_parts from_parts-parts_of
+    code_by Parts (coded⊎ coded_bool (coded⊎ coded_ℤ (coded⊎ coded_bool (coded⊎ coded_context coded_tag)))) parts_of from_parts from_parts-parts_of

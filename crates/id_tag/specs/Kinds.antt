@@ -10,6 +10,7 @@ abbrev pub kind_of : Value → PortKind
 kind_of value.Signal = Signal
 kind_of (value.Int _) = Int
 kind_of (value.Bool _) = Truth
+kind_of (value.Context _) = Context
 kind_of (value.Continuation _) = Continuation
 
 -- whether two kinds are one

@@ -34,6 +34,7 @@ pub enum Value {
     Signal,
     Int(i64),
     Bool(bool),
+    Context(Context),
     Continuation(Tag),
 }
 
@@ -73,6 +74,7 @@ impl Value {
             Value::Signal => PortKind::Signal,
             Value::Int(_) => PortKind::Int,
             Value::Bool(_) => PortKind::Bool,
+            Value::Context(_) => PortKind::Context,
             Value::Continuation(_) => PortKind::Continuation,
         }
     }

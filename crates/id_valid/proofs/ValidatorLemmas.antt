@@ -7,10 +7,10 @@ use Rattle.std.proofs.lemmas.Bool.Decides.{nat_tests}
 use Rattle.id_graph.specs.declared.instr.Block.{Block}
 use Rattle.id_graph.specs.declared.instr.PortKind.{PortKind}
 use Rattle.id_graph.specs.declared.instr.Op.{Op}
-use Rattle.id_graph.specs.declared.instr.Op.TheVariants.{Const, Unary, Binary, Merge, Switch, Back}
+use Rattle.id_graph.specs.declared.instr.Op.TheVariants.{Const, Unary, Binary, Merge, Switch, Back, Enter, Send}
 use Rattle.id_graph.specs.Graph.{Parts}
-use Rattle.id_valid.specs.Roles.{back_kind, IsMain}
-use Rattle.id_valid.specs.Validator.{IsAnswer, IsSound, IsValid, FirstFaulty, IsMainBlock}
+use Rattle.id_valid.specs.Roles.{op_at, back_kind, IsMain}
+use Rattle.id_valid.specs.Validator.{IsAnswer, IsEntered, IsSentTo, IsSound, IsValid, FirstFaulty, IsMainBlock}
 use Rattle.id_valid.specs.Past.{FirstPast}
 
 -- an instruction with the kind of a `back` is one
@@ -22,6 +22,8 @@ back_kind-some (Some (Unary f)) k e = cc
 back_kind-some (Some (Binary f)) k e = cc
 back_kind-some (Some (Merge j)) k e = cc
 back_kind-some (Some (Switch j)) k e = cc
+back_kind-some (Some (Enter b r)) k e = cc
+back_kind-some (Some (Send j t)) k e = cc
 
 -- a number equals itself
 same_number : (n : ℕ) → (n == n) ≡ true
@@ -57,6 +59,14 @@ IsMainBlock-valid g b valid main =
       answer = answer.merge;
       value = answer.value;
     }
+
+-- an `enter` of a valid graph names a block, and a merge for that block's result
+pub IsEntered-valid : (g : Parts) (n b r : ℕ) → IsValid g → op_at g n ≡ Some (Enter b r) → IsEntered g b r
+IsEntered-valid g n b r valid here = (valid.sound n).named (Enter b r) here
+
+-- a `send` of a valid graph names an entry of its kind
+pub IsSentTo-valid : (g : Parts) (n : ℕ) (k : PortKind) (t : ℕ) → IsValid g → op_at g n ≡ Some (Send k t) → IsSentTo g k t
+IsSentTo-valid g n k t valid here = (valid.sound n).named (Send k t) here
 
 -- where all instructions up to the end are sound, the first faulty one is the first past the end
 pub FirstFaulty-past : (g : Parts) (i : ℕ) (o : Option ℕ) → length g.instrs ≤ i → ((n : ℕ) → n < i → IsSound g n) → FirstPast g o → FirstFaulty g o

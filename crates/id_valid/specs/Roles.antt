@@ -4,7 +4,7 @@ use Rattle.std.specs.List.{list_any}
 use Rattle.id_graph.specs.declared.instr.Block.{Block}
 use Rattle.id_graph.specs.declared.instr.Instr.{Instr}
 use Rattle.id_graph.specs.declared.instr.Op.{Op}
-use Rattle.id_graph.specs.declared.instr.Op.TheVariants.{Const, Unary, Binary, Merge, Switch, Back}
+use Rattle.id_graph.specs.declared.instr.Op.TheVariants.{Const, Unary, Binary, Merge, Switch, Back, Enter, Send}
 use Rattle.id_graph.specs.declared.instr.PortKind.{PortKind}
 use Rattle.id_graph.specs.declared.dests.Dest.{Dest}
 use Rattle.id_graph.specs.declared.dests.Port.{Port}
@@ -23,6 +23,8 @@ merge_kind (Unary f) = None
 merge_kind (Binary f) = None
 merge_kind (Switch k) = None
 merge_kind (Back k) = None
+merge_kind (Enter b r) = None
+merge_kind (Send k t) = None
 
 -- the kind of a `back`
 abbrev pub back_kind : Op → Option PortKind
@@ -32,6 +34,8 @@ back_kind (Unary f) = None
 back_kind (Binary f) = None
 back_kind (Merge k) = None
 back_kind (Switch k) = None
+back_kind (Enter b r) = None
+back_kind (Send k t) = None
 
 -- the kind of a block's result: that of the `back` at its `first + 1`, if it is one
 abbrev pub result_kind : Parts → Block → Option PortKind
@@ -48,6 +52,21 @@ is_second g n = list_any (λ b. b.first + 1 == n) g.blocks
 -- whether the instruction is an entry of a block
 abbrev pub is_entry : Parts → ℕ → Bool
 is_entry g n = list_any (λ b. list_any (λ e. e == n) b.entries) g.blocks
+
+-- whether the operator names the instruction as the one that replies come to: the last one of an `enter`
+abbrev pub replies_to : Op → ℕ → Bool
+replies_to (Enter b r) n = r == n
+replies_to (Const v) n = false
+replies_to (Unary f) n = false
+replies_to (Binary f) n = false
+replies_to (Merge k) n = false
+replies_to (Switch k) n = false
+replies_to (Back k) n = false
+replies_to (Send k t) n = false
+
+-- whether replies come to the instruction
+abbrev pub is_reply : Parts → ℕ → Bool
+is_reply g n = list_any (λ i. replies_to i.op n) g.instrs
 
 -- whether there are two instructions, and they have one place
 abbrev pub same_place : Option Instr → Option Instr → Bool
@@ -78,6 +97,6 @@ is_dest n p d = (d.instr == n) && same_port d.port p
 abbrev pub arcs_into : Parts → ℕ → Port → ℕ
 arcs_into g n p = sum_by (λ i. count_by (is_dest n p) (arcs i)) g.instrs
 
--- whether the port needs no arc, since it is fed by a result, by entering or by a send
+-- whether the port needs no arc, since it is fed by a result, by entering, by a send or by a reply
 abbrev pub needs_no_arc : Parts → ℕ → Port → Bool
-needs_no_arc g n p = (n == 0) || is_first g n || is_entry g n || (is_second g n && same_port p Zero)
+needs_no_arc g n p = (n == 0) || is_first g n || is_entry g n || (is_second g n && same_port p Zero) || is_reply g n

@@ -2,7 +2,7 @@
 use Rattle.std.specs.Prelude.{◌≡◌, ℕ, ◌+◌, ◌<◌, ◌||◌, Bool, List, length, min, slice_index, slice_index_or}
 use Rattle.id_graph.specs.declared.dests.Port.TheVariants.{Zero, One}
 use Rattle.id_graph.specs.Graph.{Parts}
-use Rattle.id_valid.specs.Roles.{is_first, is_entry, arcs_into}
+use Rattle.id_valid.specs.Roles.{is_first, is_entry, is_reply, arcs_into}
 
 -- the list has the value of the test at each number below n
 pub record Notes (test : ℕ → Bool) (n : ℕ) (marks : List Bool) : Type 0 where
@@ -25,8 +25,9 @@ pub record Adds (old new : List ℕ) (f : ℕ → ℕ) : Type 0 where
   pub at : (k : ℕ) → k < length old → min 2 (slice_index new k) ≡ min 2 (slice_index old k + f k)
 
 -- the roles of the instructions, and the arcs into their ports, are noted
-pub record IsSurvey (g : Parts) (firsts entries : List Bool) (zero one : List ℕ) : Type 0 where
+pub record IsSurvey (g : Parts) (firsts entries replies : List Bool) (zero one : List ℕ) : Type 0 where
   pub firsts_noted : Notes (is_first g) (length g.instrs) firsts
   pub entries_noted : Notes (is_entry g) (length g.instrs) entries
+  pub replies_noted : Notes (is_reply g) (length g.instrs) replies
   pub zero_counted : Counts (λ n. arcs_into g n Zero) (length g.instrs) zero
   pub one_counted : Counts (λ n. arcs_into g n One) (length g.instrs) one

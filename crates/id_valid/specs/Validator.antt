@@ -5,7 +5,7 @@ use Rattle.std.specs.Option.{ForSome}
 use Rattle.id_graph.specs.declared.instr.Block.{Block}
 use Rattle.id_graph.specs.declared.instr.Instr.{Instr}
 use Rattle.id_graph.specs.declared.instr.Op.{Op}
-use Rattle.id_graph.specs.declared.instr.Op.TheVariants.{Merge, Back}
+use Rattle.id_graph.specs.declared.instr.Op.TheVariants.{Const, Unary, Binary, Merge, Switch, Back, Enter, Send}
 use Rattle.id_graph.specs.declared.instr.PortKind.{PortKind}
 use Rattle.id_graph.specs.declared.instr.PortKind.TheVariants.{Signal, Int, Bool as BoolKind, Structure, Address, Context, Continuation}
 use Rattle.id_graph.specs.declared.dests.Dest.{Dest}
@@ -41,6 +41,29 @@ pub record FillsRoles (g : Parts) (n : ℕ) : Type 0 where
   pub second : IsTrue (is_second g n) → IsSome (option_and_then back_kind (op_at g n))
   pub entry : IsTrue (is_entry g n) → IsSome (option_and_then merge_kind (op_at g n))
 
+-- b is the first of a block, and r a merge of the kind of that block's result
+pub record IsEntered (g : Parts) (b r : ℕ) : Type 0 where
+  pub kind : PortKind
+  pub first : IsTrue (is_first g b)
+  pub back : op_at g (b + 1) ≡ Some (Back kind)
+  pub reply : op_at g r ≡ Some (Merge kind)
+
+-- t is an entry of a block, and a merge of kind k
+pub record IsSentTo (g : Parts) (k : PortKind) (t : ℕ) : Type 0 where
+  pub entry : IsTrue (is_entry g t)
+  pub merge : op_at g t ≡ Some (Merge k)
+
+-- the instructions that the operator names are what it asks of them
+abbrev pub AreNamed : Parts → Op → Type 0
+AreNamed g (Enter b r) = IsEntered g b r
+AreNamed g (Send k t) = IsSentTo g k t
+AreNamed g (Const v) = Unit {0}
+AreNamed g (Unary f) = Unit {0}
+AreNamed g (Binary f) = Unit {0}
+AreNamed g (Merge k) = Unit {0}
+AreNamed g (Switch k) = Unit {0}
+AreNamed g (Back k) = Unit {0}
+
 -- the port at the destination takes the kind that the operator sends
 abbrev pub IsTaken : List Instr → Op → Dest → Type 0
 IsTaken is op d = IsSomeAnd (sends op) (λ k. kind_at is d ≡ Some k)
@@ -59,6 +82,7 @@ pub record IsSound (g : Parts) (n : ℕ) : Type 0 where
   pub answer : n ≡ 0 → IsAnswer g
   pub roles : FillsRoles g n
   pub taken : ForSome (slice_get g.instrs n) (λ i. All (IsTaken g.instrs i.op) (arcs i))
+  pub named : ForSome (op_at g n) (AreNamed g)
   pub fed : ForSome (op_at g n) (AreFed g n)
 
 -- no instruction is faulty

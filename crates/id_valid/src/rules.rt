@@ -4,7 +4,7 @@ ghost use Rattle.std.specs.Prelude.{◌≡◌, ◌<◌, ◌↔◌, length, Some,
 ghost use Rattle.id_graph.specs.Graph.{arcs};
 ghost use Rattle.id_graph.specs.Ports.{port_kind};
 ghost use Rattle.id_valid.specs.Roles.{needs_no_arc, op_at};
-ghost use Rattle.id_valid.specs.Validator.{is_value, AreFed, FillsRoles, IsAnswer, IsFed, IsSound, IsTaken};
+ghost use Rattle.id_valid.specs.Validator.{is_value, AreFed, AreNamed, FillsRoles, IsAnswer, IsEntered, IsFed, IsSentTo, IsSound, IsTaken};
 
 use crate::roles::{back_kind, main_block, merge_kind, op_at, result_kind};
 use crate::survey::Survey;
@@ -22,6 +22,7 @@ pub fn is_sound(survey: &Survey<'_>, number: usize) -> bool
     }
     fills_roles(survey, number, instr.op)
         && are_taken(graph.instrs(), instr)
+        && are_named(survey, instr.op)
         && are_fed(survey, number, instr.op)
 }
 
@@ -84,6 +85,46 @@ fn is_taken(instrs: &[Instr], op: Op, dest: Dest) -> bool
     }
 }
 
+/// Whether the instructions that an operator names are what it asks of them.
+fn are_named(survey: &Survey<'_>, op: Op) -> bool
+    ensures { IsTrue result ↔ AreNamed survey.now op }
+{
+    match op {
+        Op::Enter { block, reply } => is_entered(survey, block, reply),
+        Op::Send { kind, target } => is_sent_to(survey, kind, target),
+        Op::Const(_)
+        | Op::Unary(_)
+        | Op::Binary(_)
+        | Op::Merge(_)
+        | Op::Switch(_)
+        | Op::Back(_) => true,
+    }
+}
+
+/// Whether the first is the first of a block, and the other a merge of the kind of its result.
+fn is_entered(survey: &Survey<'_>, first: u32, reply: u32) -> bool
+    ensures { IsTrue result ↔ IsEntered survey.now first reply }
+{
+    let back = op_at(survey.graph(), first as usize + 1);
+    let reply = op_at(survey.graph(), reply as usize);
+    match (back, reply) {
+        (Some(Op::Back(kind)), Some(Op::Merge(other))) => {
+            kind == other && survey.is_first(first as usize)
+        }
+        _ => false,
+    }
+}
+
+/// Whether the instruction is an entry of a block, and a merge of this kind.
+fn is_sent_to(survey: &Survey<'_>, kind: PortKind, target: u32) -> bool
+    ensures { IsTrue result ↔ IsSentTo survey.now kind target }
+{
+    match op_at(survey.graph(), target as usize) {
+        Some(Op::Merge(other)) => kind == other && survey.is_entry(target as usize),
+        _ => false,
+    }
+}
+
 /// Whether each port of the operator is fed.
 fn are_fed(survey: &Survey<'_>, number: usize, op: Op) -> bool
     requires { number < length survey.now.instrs }
@@ -105,7 +146,7 @@ fn is_fed(survey: &Survey<'_>, number: usize, op: Op, port: Port) -> bool
     (arcs > 0 || needs_no_arc(survey, number, port)) && (arcs < 2 || merge_kind(op).is_some())
 }
 
-/// Whether the port is fed by a result, by entering or by a send, and needs no arc.
+/// Whether the port is fed by a result, by entering, by a send or by a reply, and needs no arc.
 fn needs_no_arc(survey: &Survey<'_>, number: usize, port: Port) -> bool
     requires { number < length survey.now.instrs }
     ensures { result ≡ needs_no_arc survey.now number port }
@@ -114,4 +155,5 @@ fn needs_no_arc(survey: &Survey<'_>, number: usize, port: Port) -> bool
         || survey.is_first(number)
         || survey.is_entry(number)
         || (survey.is_second(number) && port == Port::Zero)
+        || survey.is_reply(number)
 }

@@ -3,20 +3,22 @@
 ghost use Rattle.std.specs.Prelude.{◌≡◌, ◌<◌, ◌==◌, length, min, All, IfOk, cond, count_by};
 ghost use Rattle.std.specs.List.{list_any};
 ghost use Rattle.id_graph.specs.Graph.{arcs};
-ghost use Rattle.id_valid.specs.Roles.{arcs_into, is_dest, is_entry, is_first, is_second};
+ghost use Rattle.id_valid.specs.Roles.{arcs_into, is_dest, is_entry, is_first, is_reply, is_second, replies_to};
 ghost use Rattle.id_valid.specs.Survey.{Adds, Counts, Marks, Notes};
 
-use id_graph::{Dest, Graph, Instr, Port};
+use id_graph::{Dest, Graph, Instr, Op, Port};
 use std::alloc::{AllocError, Global};
 use std::marker::Model;
 
 /// A graph with what was noted of each of its instructions, by number: whether it is the first of a
-/// block, whether it is an entry, and how many arcs feed its ports, where 2 stands for any more.
+/// block, whether it is an entry, whether replies come to it, and how many arcs feed its ports, where
+/// 2 stands for any more.
 #[derive(Drop)]
 pub struct Survey<'a> {
     graph: &'a Graph,
     firsts: Vec<bool>,
     entries: Vec<bool>,
+    replies: Vec<bool>,
     zero: Vec<u8>,
     one: Vec<u8>,
 }
@@ -30,7 +32,7 @@ impl<'a> Model for Survey<'a> {
 
     ghost use Rattle.id_valid.specs.Survey.{IsSurvey};
 
-    ghost invariant = { λ s. IsSurvey s.graph.now s.firsts.items s.entries.items s.zero.items s.one.items };
+    ghost invariant = { λ s. IsSurvey s.graph.now s.firsts.items s.entries.items s.replies.items s.zero.items s.one.items };
 }
 
 impl<'a> Survey<'a> {
@@ -40,12 +42,14 @@ impl<'a> Survey<'a> {
     {
         let firsts = firsts(alloc, graph)?;
         let entries = entries(alloc, graph)?;
+        let replies = replies(alloc, graph)?;
         let zero = arcs_into(alloc, graph, Port::Zero)?;
         let one = arcs_into(alloc, graph, Port::One)?;
         Ok(Survey {
             graph,
             firsts,
             entries,
+            replies,
             zero,
             one,
         })
@@ -82,6 +86,14 @@ impl<'a> Survey<'a> {
         self.entries[number]
     }
 
+    /// Whether replies come to the instruction.
+    pub fn is_reply(&self, number: usize) -> bool
+        requires { number < length self.now.instrs }
+        ensures { result ≡ is_reply self.now number }
+    {
+        self.replies[number]
+    }
+
     /// How many arcs feed the port, where 2 stands for any more.
     pub fn arcs_into(&self, number: usize, port: Port) -> u8
         requires { number < length self.now.instrs }
@@ -114,6 +126,26 @@ fn entries(alloc: Global, graph: &Graph) -> Result<Vec<bool>, AllocError>
         mark_all(&mut marks, block.entries.as_slice());
     }
     Ok(marks)
+}
+
+/// For each instruction, whether replies come to it.
+fn replies(alloc: Global, graph: &Graph) -> Result<Vec<bool>, AllocError>
+    ensures { IfOk result (λ v. Notes (is_reply graph.now) (length graph.now.instrs) v.items) }
+{
+    let mut marks = vec![in alloc; false; graph.instrs().len()]?;
+    for instr in graph.instrs() {
+        mark_reply(&mut marks, instr.op);
+    }
+    Ok(marks)
+}
+
+/// Marks the place that the operator names for replies, if it names one below the length.
+fn mark_reply(marks: &mut [bool], op: Op)
+    ensures { Marks marks.old marks.new (replies_to op) }
+{
+    if let Op::Enter { reply, .. } = op {
+        mark(marks, reply);
+    }
 }
 
 /// Marks the place of each number that is below the length.

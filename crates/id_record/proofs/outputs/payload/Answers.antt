@@ -10,7 +10,7 @@ use Rattle.id_record.proofs.outputs.payload.Goals as goal
 within : (c : goal.In-Out) → c.args.number < length c.args.dests.now
 within c =
     let ds = c.args.dests.now in
-    omega (arith, ap length (sent-out ds c.args.tag c.args.fired c.in-Out.value c.in-Out.is), length-map ds (token_to c.args.tag c.in-Out.value), c.requires)
+    omega (arith, ap length (sent-out c.args.op ds c.args.tag c.args.fired c.in-Out.value c.in-Out.is), length-map ds (token_to c.args.tag c.in-Out.value), c.requires.number)
 
 pub bounds-dests-number : goal.bounds-dests-number
 bounds-dests-number c = within c
@@ -23,8 +23,8 @@ offset_bounds-dests-number c =
 pub returns-in-Out : goal.returns-in-Out
 returns-in-Out c =
     let ds = c.args.dests.now in
-    let out = sent-out ds c.args.tag c.args.fired c.in-Out.value c.in-Out.is in
-    let below : c.args.number < length ds = omega (arith, ap length out, length-map ds (token_to c.args.tag c.in-Out.value), c.requires) in
+    let out = sent-out c.args.op ds c.args.tag c.args.fired c.in-Out.value c.in-Out.is in
+    let below : c.args.number < length ds = omega (arith, ap length out, length-map ds (token_to c.args.tag c.in-Out.value), c.requires.number) in
     ap (λ xs. slice_get xs c.args.number) out
     ∙ slice_get-map (token_to c.args.tag c.in-Out.value) ds c.args.number
     ∙ ap (option_map (token_to c.args.tag c.in-Out.value)) (slice_get-get_or ds c.args.number _ below)

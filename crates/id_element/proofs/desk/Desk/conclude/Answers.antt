@@ -1,15 +1,18 @@
 -- What is recorded is what was sent: the event is at the instruction.
-use Rattle.std.proofs.Common.{arith, ◌∷◌, ◌++◌, [], length, ap, ◌∙◌}
+use Rattle.std.proofs.Common.{◌∷◌, ◌++◌, [], length, ap, ◌∙◌}
 use Rattle.id_record.specs.declared.line.Handled.{Handled}
-use Rattle.id_ops.specs.Operators.{side_of}
+use Rattle.std.specs.Prelude.{Some, option_map}
+use Rattle.id_record.specs.Events.{tag_of}
+use Rattle.id_record.proofs.SendsLemmas.{HasSecond-valid}
 use Rattle.id_record.proofs.LinesLemmas.{event_at_instr}
-use Rattle.id_element.proofs.LengthsLemmas.{length-arcs_on}
 use Rattle.id_element.proofs.desk.Desk.conclude.Goals as goal
 
-pub send-requires : goal.send-requires
-send-requires c =
-    let many = ap (λ ds. length ds) c.chosen.ensures in
-    omega (arith, many, length-arcs_on (side_of c.args.reaction.fired) c.args.instr.now, c.requires.room_in_outputs)
+-- the block that the operator names has a second instruction
+pub send-requires-clause-second : goal.send-requires-clause-second
+send-requires-clause-second c =
+    let log = c.args.self.now.log in
+    HasSecond-valid log.graph (tag_of c.args.message.payload).instr (Some c.args.instr.now.op) c.requires.graph c.requires.valid
+    (ap (option_map (λ i. i.op)) c.requires.own)
 
 pub returns-clause-events : goal.returns-clause-events
 returns-clause-events c =

@@ -4,6 +4,9 @@ use Rattle.id_record.specs.Lines.{unpacked}
 use Rattle.id_record.specs.Records.{event_of_handled}
 use Rattle.std.proofs.lemmas.Grind.{common_steps}
 use Rattle.std.proofs.lemmas.Option.{slice_get_read}
+use Rattle.std.proofs.Common.{subst}
+use Rattle.id_valid.specs.Validator.{IsValid}
+use Rattle.id_record.proofs.SendsLemmas.{HasSecond-valid}
 use Rattle.id_record.proofs.LinesLemmas.{length-events_from, events_from-get, line_within}
 use Rattle.id_record.proofs.history.Record.event.Goals as goal
 
@@ -26,9 +29,15 @@ returns c =
     let there = slice_get_read r.lines.items _ _ _ refl below c.index-line.ensures in
     let handled : unpacked r.asides.items c.index-line.result.now ≡ c.unpack-handled.result = ap (λ a. unpacked a c.index-line.result.now) (sym c.as_slice.ensures.value) ∙ sym c.unpack-handled.ensures in
     let number : 0 + c.args.position ≡ c.args.position = omega arith in
-    rw (c.full_step.ensures, c.new.ensures, c.dests_at.ensures, c.graph.ensures.value, c.tag_of-tag.ensures, ← ap (λ v. v.events) c.self.view_is)
+    rw (c.full_step.ensures, c.new.ensures, c.op_at.ensures.op, c.dests_at.ensures, c.graph-graph.ensures.value, c.tag_of-tag.ensures, ← ap (λ v. v.events) c.self.view_is)
     (
     events_from-get r.graph.now r.element 0 r.asides.items r.lines.items c.args.position c.index-line.result.now there
     ∙ ap (λ h. Some (event_of_handled r.graph.now r.element (0 + c.args.position) h)) handled
     ∙ ap (λ k. Some (event_of_handled r.graph.now r.element k c.unpack-handled.result)) number
     )
+
+pub new-requires : goal.new-requires
+new-requires c =
+    let g = c.graph-graph.result.now in
+    let valid : IsValid g = subst IsValid (sym c.graph-graph.ensures.value) c.graph-graph.ensures.kept in
+    HasSecond-valid g c.tag_of-tag.result.instr c.op_at.result c.op_at.ensures.graph valid (sym c.op_at.ensures.op)
