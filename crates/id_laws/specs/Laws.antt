@@ -29,8 +29,9 @@ use Rattle.id_meaning.specs.Names.{IsNameValue}
 use Rattle.id_build.specs.declared.arc.Form.{Form}
 use Rattle.id_build.specs.Schemas.{Makes, Schemas}
 use Rattle.id_valid.specs.Validator.{IsValid}
--- *Suited* speaks of the runs of every valid graph
+-- *Suited* speaks of the runs of every valid graph, *Serials* of those of every graph
 pub use Rattle.id_runs.specs.Suited.{Suited}
+pub use Rattle.id_runs.specs.Serials.{Serials}
 
 -- the events of a machine in this state
 abbrev pub events : World → List EventView

@@ -7,7 +7,7 @@
 #![tactic(auto)]
 
 ghost use Rattle.id_laws.specs.Laws.{Coherence, InputsFit, Kinded, Labels, NeverStuck, QuietIsComplete, Soundness};
-ghost use Rattle.id_laws.specs.Laws.{Suited, Validity};
+ghost use Rattle.id_laws.specs.Laws.{Serials, Suited, Validity};
 
 /// *Sound*: what any run of a schemas' graph shows is of the source. The answer is the source's, each
 /// fault is one of the source, what a binder is shown to have it Has, and each value that the
@@ -45,6 +45,12 @@ pub fn valid()
 /// `Nothing` (docs/MEANING.md, "Laws"). Takes no memory.
 pub fn suited()
     ensures { Suited }
+{}
+
+/// *Serials*: in any run of any graph no two events enter the same context, and none enters main's
+/// (docs/MEANING.md, "Laws"). Takes no memory.
+pub fn serials()
+    ensures { Serials }
 {}
 
 /// *Inputs fit*: every graph that the schemas give a program takes the inputs of the program: one for each
