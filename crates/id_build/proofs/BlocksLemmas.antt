@@ -4,7 +4,7 @@ use Rattle.std.specs.Prelude.{◌&&◌, nat_eq}
 use Rattle.std.proofs.lemmas.Bool.{cases_lt, eqb-true}
 use Rattle.std.proofs.lemmas.List.{map-append}
 use Rattle.id_parts.specs.declared.row.Node.{Node}
-use Rattle.id_parts.specs.declared.row.Node.TheVariants.{Head, Param, Literal, Name, Unary, Binary, Split, If, Block as BlockNode, Binding, Def, Program}
+use Rattle.id_parts.specs.declared.row.Node.TheVariants.{Head, Param, Literal, Name, Unary, Binary, Split, If, Enter, Arg, Call, Block as BlockNode, Binding, Def, Program}
 use Rattle.id_parts.specs.Rows.{at}
 use Rattle.id_parts.specs.Tables.{is_head, is_param}
 use Rattle.id_parts.specs.Turns.{IsDefOf, heads_below, params_at, params_below}
@@ -32,6 +32,9 @@ head_of (Unary o a) e = cc
 head_of (Binary o a b) e = cc
 head_of (Split t) e = cc
 head_of (If s x y) e = cc
+head_of (Enter x) e = cc
+head_of (Arg s k v) e = cc
+head_of (Call s c) e = cc
 head_of (BlockNode b) e = cc
 head_of (Binding x a) e = cc
 head_of (Def x h k b) e = cc

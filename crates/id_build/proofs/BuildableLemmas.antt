@@ -2,9 +2,9 @@
 use Rattle.std.proofs.Common.{◌≡◌, inl, inr, ℕ, ◌<◌, true, false, List, length, refl, ap, sym, subst, ◌∙◌, arith}
 use Rattle.id_parts.specs.declared.row.Region.{Region}
 use Rattle.id_parts.specs.declared.row.Node.{Node}
-use Rattle.id_parts.specs.declared.row.Node.TheVariants.{Head, Param, Literal, Name, Unary as UnaryNode, Binary as BinaryNode, Split, If, Block, Binding, Def, Program}
+use Rattle.id_parts.specs.declared.row.Node.TheVariants.{Head, Param, Literal, Name, Unary as UnaryNode, Binary as BinaryNode, Split, If, Enter, Arg, Call, Block, Binding, Def, Program}
 use Rattle.id_parts.specs.Rows.{arm_at, at, top}
-use Rattle.id_parts.specs.Tables.{HasNear, HasOperand, HasPart, is_block, is_expression}
+use Rattle.id_parts.specs.Tables.{HasNear, HasOperand, HasPart, is_block, is_enter, is_expression}
 use Rattle.id_parts.specs.Regions.{IsIfOf}
 use Rattle.id_parts.specs.Turns.{IsDefOf}
 use Rattle.id_parts.proofs.RegionLemmas.{HasPart-operand}
@@ -14,10 +14,11 @@ use Rattle.id_check.proofs.ProgramsLemmas.{bound_name_row, table_of}
 use Rattle.id_desugar.specs.Ends.{end_of}
 use Rattle.id_desugar.specs.Regions.{order_of}
 use Rattle.id_build.specs.Rows.{body_of, node}
+use Rattle.id_build.proofs.CallsLemmas.{enter_of_arg}
 use Rattle.id_build.proofs.EndsLemmas.{HeadOf, body_region, end_is, of_arm, of_procedure, region_of}
 use Rattle.id_build.proofs.ImportsLemmas.{import_sees, name_sees}
 use Rattle.id_build.proofs.OrderLemmas.{IsOrder, IsOrder-order_of}
-use Rattle.id_build.proofs.RowLemmas.{Heads, IsBuildable, IsNamed, IsPart, IsTurned, IsValue, Suits}
+use Rattle.id_build.proofs.RowLemmas.{Heads, IsBuildable, IsEntered, IsNamed, IsPart, IsTurned, IsValue, Suits}
 
 value_is : (n : Node) → is_expression n ≡ true → is_block n ≡ false → IsValue n
 value_is (Literal v) e b = tt
@@ -25,6 +26,9 @@ value_is (Name x) e b = tt
 value_is (UnaryNode o a) e b = tt
 value_is (BinaryNode o a b) e f = tt
 value_is (If s x y) e f = tt
+value_is (Call s c) e f = tt
+value_is (Enter x) e b = cc
+value_is (Arg s k v) e b = cc
 value_is Head e b = cc
 value_is (Param x k) e b = cc
 value_is (Split t) e b = cc
@@ -68,6 +72,13 @@ turned P n l other =
     by r (of_procedure head is) = subst (λ x. Heads x r.side) (sym head) (ap (λ (z : Region). z.side) is)
     by r (of_arm split) = subst (λ x. Heads x r.side) (sym split) tt
 
+-- what an argument names as its `Enter` is one
+enter_part : (P : Checked) (n s k v : ℕ) → n < length (rows P) → node P n ≡ Arg s k v → IsEntered P s
+enter_part P n s k v l e =
+    let low = ((table_of P).formed.each n l).parts s (subst (λ z. HasPart z s) (sym e) (inl refl)) in
+    let z = enter_of_arg P n s k v l e in
+    record { within = omega (arith, low.1, l); is_enter = ap is_enter z.1 }
+
 suits : (P : Checked) (n : ℕ) (x : Node) → n < length (rows P) → node P n ≡ x → Suits P n (region P n) x
 suits P n Head l e = def_part P (end_of P n) n (end_is P (table_of P) n l e)
 suits P n (Param x k) l e = tt
@@ -87,6 +98,12 @@ suits P n (If s x y) l e =
       part P (arm_at s true) x (before P n x (If s x y) l e (inl refl)) (is x (inl refl)) arms.then_stands,
       part P (arm_at s false) y (before P n y (If s x y) l e (inr refl)) (is y (inr refl)) arms.otherwise_stands,
     )
+suits P n (Enter x) l e = turned P n l (λ f. (let bad : Enter x ≡ Program = sym e ∙ f in cc))
+suits P n (Arg s k v) l e = (
+  enter_part P n s k v l e,
+  operand P n v (Arg s k v) l e refl (inr refl),
+)
+suits P n (Call s c) l e = tt
 suits P n (Block b) l e = tt
 suits P n (Binding x a) l e = operand P n a (Binding x a) l e refl refl
 suits P n (Def x h k b) l e = tt
@@ -96,7 +113,7 @@ suits P n Program l e = tt
 pub is_named : (P : Checked) (v x : ℕ) → v < length (rows P) → node P v ≡ Name x → IsNamed P v
 is_named P v x l e =
     let z = bound_name_row P v x (record { within = l; node = e }) in
-    record { row = z.0; binds = (z.1).binder; seen = record { within = (z.1).within; is_binder = (z.1).is_binder; sees = name_sees P v z.0 l (z.1).binder } }
+    record { row = z.0; binds = (z.1).binder; seen = record { within = (z.1).within; is_binder = (z.1).is_binder; sees = name_sees P v x z.0 l e (z.1).binder } }
 
 -- a checked program is one that a graph can be built of
 pub IsBuildable-checked : (P : Checked) → IsBuildable P

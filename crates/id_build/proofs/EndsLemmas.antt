@@ -7,9 +7,10 @@ use Rattle.std.proofs.lemmas.Bool.{cases_eq, eqb-true}
 use Rattle.std.proofs.lemmas.Bool.Decides.{nat_tests}
 use Rattle.id_parts.specs.declared.row.Region.{Region}
 use Rattle.id_parts.specs.declared.row.Node.{Node}
-use Rattle.id_parts.specs.declared.row.Node.TheVariants.{Head, Param, Literal, Name, Unary, Binary, Split, If, Block, Binding, Def, Program}
+use Rattle.id_parts.specs.declared.row.Node.TheVariants.{Head, Param, Literal, Name, Unary, Binary, Split, If, Enter, Arg, Call, Block, Binding, Def, Program}
 use Rattle.id_parts.specs.Rows.{at, top}
 use Rattle.id_parts.specs.Tables.{HasPart}
+use Rattle.id_parts.specs.Calls.{IsCallOf}
 use Rattle.id_parts.specs.Regions.{IsIfOf, StandsInArm}
 use Rattle.id_parts.specs.Turns as roots
 use Rattle.id_parts.specs.Turns.{IsTable, IsDefOf}
@@ -84,6 +85,12 @@ module _ (P : Checked) (table : IsTable (rows P)) where
       by_node : (n : ℕ) → n < length (rows P) → (m : Node) → node P n ≡ m → ends_what h m ≡ true → IsDefOf (rows P) n h
       by_node n less (Def x g k b) m e = record { name = x; result = k; body = b; within = less; node = m ∙ ap (λ z. Def x z k b) (eqb-true g h e) }
       by_node n less (If s x y) m e = absurd (split_no_head n s x y less m (ap (node P) (eqb-true s h e) ∙ is))
+      by_node n less (Call g c) m e =
+          let z = table.enter_of n g (record { count = c; within = less; node = m }) in
+          let bad : Head ≡ Enter z.name = sym is ∙ ap (node P) (sym (eqb-true g h e)) ∙ z.node in
+          cc
+      by_node n less (Enter x) m e = cc
+      by_node n less (Arg g k v) m e = cc
       by_node n less Head m e = cc
       by_node n less (Param x k) m e = cc
       by_node n less (Literal c) m e = cc
@@ -108,6 +115,12 @@ module _ (P : Checked) (table : IsTable (rows P)) where
           let heads = table.head_is n x g b k less m in
           let bad : Head ≡ Split t = sym heads.0 ∙ ap (node P) (eqb-true g s e) ∙ is in
           cc
+      by_node n less (Call g c) m e =
+          let z = table.enter_of n g (record { count = c; within = less; node = m }) in
+          let bad : Split t ≡ Enter z.name = sym is ∙ ap (node P) (sym (eqb-true g s e)) ∙ z.node in
+          cc
+      by_node n less (Enter x) m e = cc
+      by_node n less (Arg g k v) m e = cc
       by_node n less Head m e = cc
       by_node n less (Param x k) m e = cc
       by_node n less (Literal c) m e = cc
@@ -117,6 +130,36 @@ module _ (P : Checked) (table : IsTable (rows P)) where
       by_node n less (Split t) m e = cc
       by_node n less (Block b) m e = cc
       by_node n less (Binding x a) m e = cc
+      by_node n less Program m e = cc
+
+  -- the row where a call ends that begins at an `Enter` is the call
+  pub call_is : (s x : ℕ) → s < length (rows P) → node P s ≡ Enter x → IsCallOf (rows P) (end_of P s) s
+  call_is s x within is =
+      let c = table.has_call s x within is in
+      let end = end_there s c.0 (c.1).within (ap (ends_what s) (c.1).node ∙ itself_eq s) in
+      by_node (end_of P s) end.0 (node P (end_of P s)) refl end.1
+    where
+      by_node : (n : ℕ) → n < length (rows P) → (m : Node) → node P n ≡ m → ends_what s m ≡ true → IsCallOf (rows P) n s
+      by_node n less (Call g c) m e = record { count = c; within = less; node = m ∙ ap (λ z. Call z c) (eqb-true g s e) }
+      by_node n less (Def y g k b) m e =
+          let heads = table.head_is n y g b k less m in
+          let bad : Head ≡ Enter x = sym heads.0 ∙ ap (node P) (eqb-true g s e) ∙ is in
+          cc
+      by_node n less (If g y z) m e =
+          let split = table.split_of n g (record { then = y; otherwise = z; within = less; node = m }) in
+          let bad : Enter x ≡ Split split.test = sym is ∙ ap (node P) (sym (eqb-true g s e)) ∙ split.node in
+          cc
+      by_node n less Head m e = cc
+      by_node n less (Param y k) m e = cc
+      by_node n less (Literal c) m e = cc
+      by_node n less (Name y) m e = cc
+      by_node n less (Unary o a) m e = cc
+      by_node n less (Binary o a b) m e = cc
+      by_node n less (Split t) m e = cc
+      by_node n less (Enter y) m e = cc
+      by_node n less (Arg g k v) m e = cc
+      by_node n less (Block b) m e = cc
+      by_node n less (Binding y a) m e = cc
       by_node n less Program m e = cc
 
   -- a row of another node is not the last

@@ -14,11 +14,11 @@ use Rattle.id_parts.specs.Regions.{Lies, here, in_arm, IsIfOf}
 use Rattle.id_parts.specs.Turns.{IsTable}
 use Rattle.id_parts.proofs.RegionLemmas.{InArm-region, InArm-within, InArm-either, InArm-lies, Lies-chain, if_not_last, outside_arms}
 use Rattle.id_check.specs.declared.checked.Checked.{Checked}
-use Rattle.id_check.specs.Scopes.{used_name, binder_by}
 use Rattle.id_check.specs.Programs.{binder, region, rows}
 use Rattle.id_check.proofs.ProgramsLemmas.{bound_name_row, table_of}
 use Rattle.id_desugar.specs.Ends.{end_of}
-use Rattle.id_desugar.specs.Regions.{is_outside, has, with_use, imports_by, imports, handed, imports_of}
+use Rattle.id_desugar.proofs.NotesLemmas.{used_node}
+use Rattle.id_desugar.specs.Regions.{is_outside, has, used, used_by, with_use, imports_by, imports, handed, imports_of}
 use Rattle.id_build.specs.Rows.{node}
 use Rattle.id_build.proofs.EndsLemmas.{if_is, not_last}
 use Rattle.id_build.proofs.NamesSeen.{Sees, own, handed as sees_handed}
@@ -67,22 +67,22 @@ from_use lo hi bs (Some b) x h = go (is_outside lo hi b) (has bs b) refl h
 
 module _ (P : Checked) (lo hi : ℕ) where
   -- a binder outside that a row means is imported
-  imports_have : (m k b : ℕ) → k < m → binder P (lo + k) ≡ Some b → is_outside lo hi b ≡ true → Among b (imports_by P lo hi m)
+  imports_have : (m k b : ℕ) → k < m → used P (lo + k) ≡ Some b → is_outside lo hi b ≡ true → Among b (imports_by P lo hi m)
   imports_have zero k b less binds out = absurd (omega (arith, less))
   imports_have (suc m) k b less binds out =
       elim (cases_eq k m) [
-        | inl is ↦ subst (λ o. Among b (with_use lo hi (imports_by P lo hi m) o)) (sym (ap (λ z. binder P (lo + z)) (sym is) ∙ binds)) (new_use lo hi (imports_by P lo hi m) b out)
-        | inr other ↦ kept_use lo hi (imports_by P lo hi m) (binder P (lo + m)) b (imports_have m k b (below k m less other) binds out)
+        | inl is ↦ subst (λ o. Among b (with_use lo hi (imports_by P lo hi m) o)) (sym (ap (λ z. used P (lo + z)) (sym is) ∙ binds)) (new_use lo hi (imports_by P lo hi m) b out)
+        | inr other ↦ kept_use lo hi (imports_by P lo hi m) (used P (lo + m)) b (imports_have m k b (below k m less other) binds out)
       ]
     where
       below : (k m : ℕ) → k < suc m → (k ≡ m → ⊥) → k < m
       below k m less other = omega (arith, less, other)
 
   -- and what is imported is such a binder
-  imports_from : (m b : ℕ) → Among b (imports_by P lo hi m) → (k : ℕ) × (k < m) × (binder P (lo + k) ≡ Some b) × (is_outside lo hi b ≡ true)
+  imports_from : (m b : ℕ) → Among b (imports_by P lo hi m) → (k : ℕ) × (k < m) × (used P (lo + k) ≡ Some b) × (is_outside lo hi b ≡ true)
   imports_from zero b h = absurd h
   imports_from (suc m) b h =
-      elim (from_use lo hi (imports_by P lo hi m) (binder P (lo + m)) b h) [
+      elim (from_use lo hi (imports_by P lo hi m) (used P (lo + m)) b h) [
         | inl old ↦ let z = imports_from m b old in (z.0, omega (arith, z.1), z.2, z.3)
         | inr new ↦ (m, omega arith, new.0, new.1)
       ]
@@ -102,17 +102,6 @@ split_is _ e = absurd (no e)
   where
     no : false ≡ true → ⊥
     no e = cc
-
--- only a name has a binder
-named_by : (P : Checked) (i b : ℕ) → i < length (rows P) → binder P i ≡ Some b → (x : ℕ) × (node P i ≡ Name x)
-named_by P i b within e = go (node P i) refl (sym ((P.bound).each i within) ∙ e)
-  where
-    go : (m : Node) → node P i ≡ m → binder_by (rows P) i (used_name (node P i)) (length (rows P)) ≡ Some b → (x : ℕ) × (node P i ≡ Name x)
-    go (Name x) is h = (x, is)
-    go _ is h = absurd (none (sym (ap (λ z. binder_by (rows P) i (used_name z) (length (rows P))) is) ∙ h))
-      where
-        none : None ≡ Some b → ⊥
-        none h = cc
 
 module _ (P : Checked) where
   T : IsTable (rows P)
@@ -144,7 +133,7 @@ module _ (P : Checked) where
       (omega (arith, first.0, low), omega (arith, last.1, high))
 
   -- the regions between a name and its binder see that
-  sees_from : (i b : ℕ) → binder P i ≡ Some b → {r : Region} → Lies (rows P) (region P b) r → StandsIn i r → Sees P b r
+  sees_from : (i b : ℕ) → used P i ≡ Some b → {r : Region} → Lies (rows P) (region P b) r → StandsIn i r → Sees P b r
   sees_from i b binds here stands = own refl
   sees_from i b binds (in_arm {s = s} {b = c} within split lies) stands =
       let t = split_is (node P s) split in
@@ -152,7 +141,7 @@ module _ (P : Checked) where
       let d = if_is P T s t.0 within t.1 in
       let out = outside_is (s + 1) (end_of P s) b (beside (outside_arms (rows P) T (end_of P s) s b d lies)) in
       let at : (s + 1) + (i - (s + 1)) ≡ i = omega (arith, between.0) in
-      let among = imports_have P (s + 1) (end_of P s) (end_of P s - (s + 1)) (i - (s + 1)) b (omega (arith, between.0, between.1)) (ap (binder P) at ∙ binds) out in
+      let among = imports_have P (s + 1) (end_of P s) (end_of P s - (s + 1)) (i - (s + 1)) b (omega (arith, between.0, between.1)) (ap (used P) at ∙ binds) out in
       sees_handed within t.1 (subst (Among b) (sym (imports_are s t.0 t.1)) among)
       (sees_from i b binds lies (stands_on i s t.0 within t.1 between.0 between.1))
     where
@@ -172,18 +161,18 @@ module _ (P : Checked) where
   name_inner : (i x : ℕ) → i < length (rows P) → node P i ≡ Name x → i + 1 < length (rows P)
   name_inner i x within is = not_last P T i within (λ e. let bad : Name x ≡ Program = sym is ∙ e in cc)
 
-  pub bound_at : (i b : ℕ) → i < length (rows P) → binder P i ≡ Some b → Bound i b
+  pub bound_at : (i b : ℕ) → i < length (rows P) → used P i ≡ Some b → Bound i b
   bound_at i b within binds =
-      let x = named_by P i b within binds in
-      let z = bound_name_row P i x.0 (record { within = within; node = x.1 }) in
-      let same : z.0 ≡ b = some_is (sym (z.1).binder ∙ binds) in
+      let u = used_node (binder P i) (node P i) b binds in
+      let z = bound_name_row P i u.1.0 (record { within = within; node = u.1.1 }) in
+      let same : z.0 ≡ b = some_is (sym (z.1).binder ∙ u.0) in
       subst (Bound i) same (record { within = (z.1).within; binds = (z.1).is_binder; lies = ((z.1).stands).1 })
 
   -- a name's region sees its binder
-  pub name_sees : (i b : ℕ) → i < length (rows P) → binder P i ≡ Some b → Sees P b (region P i)
-  name_sees i b within binds =
-      let x = named_by P i b within binds in
-      sees_from i b binds (bound_at i b within binds).lies (stands_itself i (name_inner i x.0 within x.1))
+  pub name_sees : (i x b : ℕ) → i < length (rows P) → node P i ≡ Name x → binder P i ≡ Some b → Sees P b (region P i)
+  name_sees i x b within is bound =
+      let binds = ap (used_by (binder P i)) is ∙ bound in
+      sees_from i b binds (bound_at i b within binds).lies (stands_itself i (name_inner i x within is))
 
   -- the region round an arm in which something lies, save the arm itself
   out_of : (n t : ℕ) (c : Truth) {q r : Region} → node P n ≡ Split t → Lies (rows P) q r → r ≡ arm_at n c → (q ≡ arm_at n c → ⊥) → Lies (rows P) q (region P n)

@@ -1,3 +1,4 @@
+pub mod CallsLemmas
 pub mod ImportsLemmas
 pub mod NamesSeen
 pub mod EndsLemmas
@@ -9,6 +10,7 @@ pub mod FillLemmas
 pub mod ArcsLemmas
 pub mod RowLemmas
 pub mod OrderLemmas
+pub mod SlotsLemmas
 pub mod SchemasLemmas
 pub mod BuildableLemmas
 pub mod BlocksLemmas

@@ -4,9 +4,9 @@ use Rattle.std.specs.Prelude.{slice_get, IsSome}
 use Rattle.id_list.specs.List.{Among, AllDiffer}
 use Rattle.id_parts.specs.declared.row.Region.{Region}
 use Rattle.id_parts.specs.declared.row.Node.{Node}
-use Rattle.id_parts.specs.declared.row.Node.TheVariants.{Head, Param, Literal, Name, Unary as UnaryNode, Binary as BinaryNode, Split, If, Block, Binding, Def, Program}
+use Rattle.id_parts.specs.declared.row.Node.TheVariants.{Head, Param, Literal, Name, Unary as UnaryNode, Binary as BinaryNode, Split, If, Enter, Arg, Call, Block, Binding, Def, Program}
 use Rattle.id_parts.specs.Rows.{arm_at, at, top}
-use Rattle.id_parts.specs.Tables.{is_binder}
+use Rattle.id_parts.specs.Tables.{is_binder, is_enter}
 use Rattle.id_check.specs.declared.checked.Checked.{Checked}
 use Rattle.id_check.specs.Programs as checked
 use Rattle.id_check.specs.Programs.{rows, place, region}
@@ -87,6 +87,18 @@ feeds_take P m e r (If s x y) f (inr (inl i)) =
     let Z : Feed → Type 0 = λ g. Takes (made_of P m e (If s x y)) g.part g.port in
     subst Z (sym i) (record { piece = _; at = refl; takes = λ _. refl })
 feeds_take P m e r (If s x y) f (inr (inr h)) = absurd h
+feeds_take P m e r (Enter x) f (inl i) =
+    let Z : Feed → Type 0 = λ g. Takes (made_of P m e (Enter x)) g.part g.port in
+    subst Z (sym i) (record { piece = _; at = refl; takes = λ _. refl })
+feeds_take P m e r (Enter x) f (inr h) = absurd h
+feeds_take P m e r (Arg s k v) f (inl i) =
+    let Z : Feed → Type 0 = λ g. Takes (made_of P m e (Arg s k v)) g.part g.port in
+    subst Z (sym i) (record { piece = _; at = refl; takes = λ _. refl })
+feeds_take P m e r (Arg s k v) f (inr (inl i)) =
+    let Z : Feed → Type 0 = λ g. Takes (made_of P m e (Arg s k v)) g.part g.port in
+    subst Z (sym i) (record { piece = _; at = refl; takes = λ _. refl })
+feeds_take P m e r (Arg s k v) f (inr (inr h)) = absurd h
+feeds_take P m e r (Call s c) f h = absurd h
 feeds_take P m e r (Block b) f h = absurd h
 feeds_take P m e r (Binding x a) f (inl i) =
     let Z : Feed → Type 0 = λ g. Takes (made_of P m e (Binding x a)) g.part g.port in
@@ -121,6 +133,7 @@ IsValue (Name x) = Unit {0}
 IsValue (UnaryNode o a) = Unit {0}
 IsValue (BinaryNode o a b) = Unit {0}
 IsValue (If s x y) = Unit {0}
+IsValue (Call s c) = Unit {0}
 IsValue _ = ⊥
 
 -- the expression at the row stands in the region, and what gives its value gives its own
@@ -157,6 +170,11 @@ pub record IsTurned (P : Checked) (r : Region) : Type 0 where
   pub within : r.head < length (rows P)
   pub heads : Heads (node P r.head) r.side
 
+-- a call begins at the row
+pub record IsEntered (P : Checked) (e : ℕ) : Type 0 where
+  pub within : e < length (rows P)
+  pub is_enter : is_enter (node P e) ≡ true
+
 -- what stands in the region fits the rest of the table
 abbrev pub Suits : Checked → ℕ → Region → Node → Type 0
 Suits P n r Head = IsPart P (top n) (body_of (node P (end_of P n)))
@@ -165,6 +183,8 @@ Suits P n r (UnaryNode o a) = IsPart P r a
 Suits P n r (BinaryNode o a b) = IsPart P r a × IsPart P r b
 Suits P n r (Split t) = IsPart P r t × IsTurned P r × AllSeen P r (imports_of P n)
 Suits P n r (If s x y) = IsPart P (arm_at s true) x × IsPart P (arm_at s false) y
+Suits P n r (Enter x) = IsTurned P r
+Suits P n r (Arg s k v) = IsEntered P s × IsPart P r v
 Suits P n r (Binding x a) = IsPart P r a
 Suits P n r _ = Unit {0}
 
@@ -183,6 +203,9 @@ binder_gives P m e (UnaryNode o a) h = cc
 binder_gives P m e (BinaryNode o a b) h = cc
 binder_gives P m e (Split t) h = cc
 binder_gives P m e (If s x y) h = cc
+binder_gives P m e (Enter x) h = cc
+binder_gives P m e (Arg s k v) h = cc
+binder_gives P m e (Call s c) h = cc
 binder_gives P m e (Block b) h = cc
 binder_gives P m e (Def x g k b) h = cc
 binder_gives P m e Program h = cc
@@ -197,6 +220,9 @@ binder_home (Name x) r s h = refl
 binder_home (UnaryNode o a) r s h = refl
 binder_home (BinaryNode o a b) r s h = refl
 binder_home (If g x y) r s h = refl
+binder_home (Enter x) r s h = refl
+binder_home (Arg g k v) r s h = refl
+binder_home (Call g c) r s h = refl
 binder_home (Block b) r s h = refl
 binder_home (Binding x a) r s h = refl
 binder_home (Def x g k b) r s h = refl
@@ -247,6 +273,7 @@ value_origin P v (Literal c) t l e h = own P v (Literal c) l e refl (record { pi
 value_origin P v (UnaryNode o a) t l e h = own P v (UnaryNode o a) l e refl (record { piece = _; at = refl; gives = λ _. refl })
 value_origin P v (BinaryNode o a b) t l e h = own P v (BinaryNode o a b) l e refl (record { piece = _; at = refl; gives = λ _. refl })
 value_origin P v (If s x y) t l e h = own P v (If s x y) l e refl (record { piece = _; at = refl; gives = λ _. refl })
+value_origin P v (Call s c) t l e h = own P v (Call s c) l e refl (record { piece = _; at = refl; gives = λ _. refl })
 value_origin P v _ t l e h = absurd h
 
 -- the value of a part comes from an origin of its region
@@ -264,6 +291,14 @@ head_gives P m e _ b h = absurd h
 -- what turns a region on is the side of an instruction
 pub trigger_origin : (P : Checked) (r : Region) → IsTurned P r → IsOrigin P (trigger_of r)
 trigger_origin P r h = record { within = h.within; gives = head_gives P r.head (place P r.head) (node P r.head) r.side h.heads }
+
+enter_gives : (P : Checked) (m e : ℕ) (n : Node) → is_enter n ≡ true → Gives (made_of P m e n) 0 true
+enter_gives P m e (Enter x) h = record { piece = _; at = refl; gives = λ _. refl }
+enter_gives P m e _ h = cc
+
+-- the context of a call comes from an origin
+pub context_origin : (P : Checked) (e : ℕ) → IsEntered P e → IsOrigin P (output e)
+context_origin P e h = record { within = h.within; gives = enter_gives P e (place P e) (node P e) h.is_enter }
 
 -- a feed has the origin that it is made with
 from_only : (P : Checked) (s : Origin) (k : ℕ) (p : Port) (f : Feed) → IsOrigin P s → f ≡ feed s k p → IsOrigin P f.origin
@@ -294,6 +329,12 @@ feeds_come P m r (Split c) f t s (inr (inr h)) = imports_come P (origin P c) r 1
 feeds_come P m r (If g x y) f t s (inl i) = from_only P _ _ _ f (part_origin P (arm_at g true) x t s.0).is_origin i
 feeds_come P m r (If g x y) f t s (inr (inl i)) = from_only P _ _ _ f (part_origin P (arm_at g false) y t s.1).is_origin i
 feeds_come P m r (If g x y) f t s (inr (inr h)) = absurd h
+feeds_come P m r (Enter x) f t s (inl i) = from_only P _ _ _ f (trigger_origin P r s) i
+feeds_come P m r (Enter x) f t s (inr h) = absurd h
+feeds_come P m r (Arg g k v) f t s (inl i) = from_only P _ _ _ f (context_origin P g s.0) i
+feeds_come P m r (Arg g k v) f t s (inr (inl i)) = from_only P _ _ _ f (part_origin P r v t s.1).is_origin i
+feeds_come P m r (Arg g k v) f t s (inr (inr h)) = absurd h
+feeds_come P m r (Call g c) f t s h = absurd h
 feeds_come P m r (Block b) f t s h = absurd h
 feeds_come P m r (Binding x a) f t s (inl i) = from_only P _ _ _ f (part_origin P r a t s).is_origin i
 feeds_come P m r (Binding x a) f t s (inr h) = absurd h
@@ -348,6 +389,9 @@ feeds_differ P m r (If g x y) t s = (
   ],
   (λ h. h, tt),
 )
+feeds_differ P m r (Enter x) t s = (λ h. h, tt)
+feeds_differ P m r (Arg g k v) t s = (λ h. elim h [ inl i ↦ (let e = ap (λ f. f.port) i in cc) | inr i ↦ i ], (λ h. h, tt))
+feeds_differ P m r (Call g c) t s = tt
 feeds_differ P m r (Block b) t s = tt
 feeds_differ P m r (Binding x a) t s = (λ h. h, tt)
 feeds_differ P m r (Def x g k b) t s = tt

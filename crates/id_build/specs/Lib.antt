@@ -3,3 +3,4 @@ pub mod Rows
 pub mod Schemas
 -- For use inside: the graph that the builder makes.
 pub mod Made
+pub mod Slots

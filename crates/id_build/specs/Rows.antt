@@ -10,15 +10,17 @@ use Rattle.id_value.specs.declared.Logic.TheVariants as logic
 use Rattle.id_value.specs.declared.Truth.TheVariants.{Eqb, Neb, And, Or}
 use Rattle.id_parts.specs.declared.row.Region.{Region}
 use Rattle.id_parts.specs.declared.row.Node.{Node}
-use Rattle.id_parts.specs.declared.row.Node.TheVariants.{Head, Param, Literal, Name, Unary as UnaryNode, Binary as BinaryNode, Split, If, Block, Binding, Def, Program}
+use Rattle.id_parts.specs.declared.row.Node.TheVariants.{Head, Param, Literal, Name, Unary as UnaryNode, Binary as BinaryNode, Split, If, Enter, Arg, Call, Block, Binding, Def, Program}
 use Rattle.id_parts.specs.Rows.{at}
+use Rattle.id_parts.specs.Tables.{is_param}
 use Rattle.id_check.specs.declared.checked.Checked.{Checked}
 use Rattle.id_check.specs.Programs as checked
-use Rattle.id_check.specs.Programs.{rows, place, region}
+use Rattle.id_check.specs.Programs.{binder, rows, place, region}
 use Rattle.id_desugar.specs.Ends.{end_of}
 use Rattle.id_desugar.specs.Regions.{imports_of}
 use Rattle.id_graph.specs.declared.instr.Op.{Op}
 use Rattle.id_graph.specs.declared.instr.Op.TheVariants.{Const, Unary, Binary, Merge, Switch, Back}
+use Rattle.id_graph.specs.declared.instr.Op.TheVariants.{Enter as EnterOp, Send}
 use Rattle.id_graph.specs.declared.instr.Dyadic.{Dyadic}
 use Rattle.id_graph.specs.declared.instr.Dyadic.TheVariants as dyadic
 use Rattle.id_graph.specs.declared.instr.PortKind.{PortKind}
@@ -28,7 +30,7 @@ use Rattle.id_graph.specs.declared.dests.Port.TheVariants.{Zero, One}
 use Rattle.id_build.specs.declared.arc.Origin.{Origin}
 use Rattle.id_build.specs.declared.arc.Feed.{Feed}
 use Rattle.id_build.specs.declared.arc.Form.{Form}
-use Rattle.id_build.specs.declared.arc.Form.TheVariants.{Plain}
+use Rattle.id_build.specs.declared.arc.Form.TheVariants.{Plain, EnterAt, SendTo}
 use Rattle.id_build.specs.declared.arc.Piece.{Piece}
 
 -- the node of a row
@@ -65,12 +67,31 @@ abbrev pub body_of : Node → ℕ
 body_of (Def x h k b) = b
 body_of _ = 0
 
+-- its head
+abbrev pub head_of : Node → ℕ
+head_of (Def x h k b) = h
+head_of _ = 0
+
+-- the head of the procedure that the `Enter` at the row e calls
+abbrev pub called : Checked → ℕ → ℕ
+called P e = head_of (node P (unwrap_or (binder P e) 0))
+
+-- the row b, if a parameter stands there, and else row 0
+abbrev pub param_at : Checked → ℕ → ℕ
+param_at P b = if is_param (node P b) then b else 0
+
+-- the row of its parameter of this index: the parameters of a definition stand right behind its head
+abbrev pub param_of : Checked → ℕ → ℕ → ℕ
+param_of P e i = param_at P (called P e + 1 + i)
+
 abbrev pub piece : Form → ℕ → Piece
 piece f e = record { form = f; place = e }
 
 -- the operator of a form, by the numbers of instructions
 abbrev pub op_by : (ℕ → ℕ → ℕ) → Form → Op
 op_by number (Plain o) = o
+op_by number (EnterAt h c) = EnterOp (number h 0) (number c 0)
+op_by number (SendTo k b) = Send k (number b 0)
 
 -- the switches of imports at a place, one each
 abbrev pub switches : Checked → ℕ → List ℕ → List Piece
@@ -87,6 +108,9 @@ made_of P n e (UnaryNode o a) = piece (Plain (Unary o)) e ∷ []
 made_of P n e (BinaryNode o a b) = piece (Plain (Binary (binary_op o (port_at P a)))) e ∷ []
 made_of P n e (Split t) = piece (Plain (Switch Signal)) e ∷ switches P e (imports_of P n)
 made_of P n e (If s x y) = piece (Plain (Merge (port_at P n))) e ∷ []
+made_of P n e (Enter x) = piece (EnterAt (called P n) (end_of P n)) e ∷ []
+made_of P n e (Arg s i v) = let b = param_of P s i in piece (SendTo (port_at P b) b) e ∷ []
+made_of P n e (Call s c) = piece (Plain (Merge (port_at P n))) e ∷ []
 made_of P n e (Block b) = []
 made_of P n e (Binding x a) = piece (Plain (Merge (port_at P n))) e ∷ []
 made_of P n e (Def x h k b) = []
@@ -153,6 +177,9 @@ feeds_of P n r (BinaryNode o a b) = feed (origin P a) 0 Zero ∷ feed (origin P 
 feeds_of P n r (Split t) =
     feed (origin P t) 0 Zero ∷ feed (trigger_of r) 0 One ∷ import_feeds P (origin P t) r 1 (imports_of P n)
 feeds_of P n r (If s x y) = feed (origin P x) 0 Zero ∷ feed (origin P y) 0 Zero ∷ []
+feeds_of P n r (Enter x) = feed (trigger_of r) 0 Zero ∷ []
+feeds_of P n r (Arg s i v) = feed (output s) 0 Zero ∷ feed (origin P v) 0 One ∷ []
+feeds_of P n r (Call s c) = []
 feeds_of P n r (Block b) = []
 feeds_of P n r (Binding x a) = feed (origin P a) 0 Zero ∷ []
 feeds_of P n r (Def x h k b) = []

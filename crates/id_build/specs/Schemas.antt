@@ -7,7 +7,7 @@ use Rattle.id_check.specs.Programs.{rows}
 use Rattle.id_graph.specs.declared.dests.Port.{Port}
 use Rattle.id_graph.specs.declared.dests.Dest.{Dest}
 use Rattle.id_graph.specs.declared.instr.Op.{Op}
-use Rattle.id_graph.specs.declared.instr.Op.TheVariants.{Switch, Back}
+use Rattle.id_graph.specs.declared.instr.Op.TheVariants.{Switch, Back, Send}
 use Rattle.id_graph.specs.declared.instr.Instr.{Instr}
 use Rattle.id_graph.specs.declared.instr.Block.{Block}
 use Rattle.id_graph.specs.Graph.{Parts, IsPort, arcs_on}
@@ -29,6 +29,7 @@ pub record Feeds (P : Checked) (s : Origin) (n k : ℕ) (p : Port) : Type 0 wher
 abbrev pub HasSide : Op → Truth → Type 0
 HasSide (Switch k) b = Unit {0}
 HasSide (Back k) b = ⊥
+HasSide (Send k t) b = ⊥
 HasSide _ b = b ≡ true
 
 -- the instruction of this number has this form of operator and this place

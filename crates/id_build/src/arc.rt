@@ -1,6 +1,6 @@
 //! Where values come from, and arcs.
 
-use id_graph::{Op, Port};
+use id_graph::{Op, Port, PortKind};
 
 /// Where a value comes from: the instruction that is this part of a row's, and which side of it; what is no
 /// switch has the true side alone.
@@ -32,6 +32,10 @@ pub struct Arc {
 #[derive(Clone, Copy)]
 pub enum Form {
     Plain(Op),
+    /// An `enter` of the block with this head, to whose call, at the row `call`, the result comes.
+    EnterAt { head: usize, call: usize },
+    /// A `send` of values of a kind to the entry of the parameter at a row.
+    SendTo { kind: PortKind, param: usize },
 }
 
 /// An instruction without its arcs.

@@ -8,15 +8,16 @@ ghost use Rattle.id_build.specs.Rows as rows;
 ghost use Rattle.id_parts.specs.declared.row.Node.{Node};
 ghost use Rattle.id_graph.specs.declared.dests.Port.TheVariants.{Zero, One};
 ghost use Rattle.id_build.specs.Made.{arc_of, number_by};
+ghost use Rattle.id_build.specs.Slots.{AreSlots};
 ghost use Rattle.id_desugar.specs.Ends.{AreEnds};
 
 use crate::arc::{Arc, Origin};
 use crate::error::BuildError;
-use crate::origins::{imports_at, name_in, origin, trigger_of};
+use crate::origins::{imports_at, name_in, origin, output, trigger_of};
+use crate::slots::Slots;
 use id_check::Checked;
 use id_desugar::{end_of, row_at};
 use id_graph::Port;
-use id_list::Sequence;
 use id_parts::{Node, Region};
 
 /// The arcs of a graph in the making: the numbers of the rows' first instructions, and the arcs so far.
@@ -29,12 +30,12 @@ pub struct Arcs {
 /// Adds the arcs to the instructions of the row n.
 pub fn push_feeds(
     checked: &Checked,
-    imports: &[Sequence<usize>],
+    slots: &Slots<'_>,
     ends: &[Option<usize>],
     n: usize,
     arcs: &mut Arcs,
 ) -> Result<(), BuildError>
-    requires imports { imports.now ≡ regions.all_imports checked.now }
+    requires slots { AreSlots checked.now slots.now }
     requires ends { AreEnds checked.now ends.now }
     requires within { n < length (programs.rows checked.now) }
     ensures list { OnOk result (arcs.new.list.items
@@ -46,42 +47,42 @@ pub fn push_feeds(
     let node = row.node;
     if let Node::Head = node {
         let body = body_of(row_at(checked, end_of(checked, ends, n)).node);
-        push_back(checked, imports, n, body, arcs)?;
+        push_back(checked, slots, n, body, arcs)?;
         return Ok(());
     }
-    push_row(checked, imports, n, row.region, node, arcs)?;
+    push_row(checked, slots, n, row.region, node, arcs)?;
     Ok(())
 }
 
 /// Adds the arc of a body to the way back of the head n.
 fn push_back(
     checked: &Checked,
-    imports: &[Sequence<usize>],
+    slots: &Slots<'_>,
     n: usize,
     body: usize,
     arcs: &mut Arcs,
 ) -> Result<(), BuildError>
-    requires imports { imports.now ≡ regions.all_imports checked.now }
+    requires slots { AreSlots checked.now slots.now }
     ensures list { OnOk result (arcs.new.list.items
         ≡ arcs.old.list.items ++ arc_of arcs.old.firsts.items n (rows.feed (rows.origin checked.now body) 1 One) ∷ []) }
     ensures firsts { arcs.new.firsts.items ≡ arcs.old.firsts.items }
     ensures memory { IfErr result (λ e. e ≡ BuildError.Memory) }
 {
     let first = number_by(arcs.firsts.as_slice(), n);
-    arcs.push(origin(checked, imports, body), first + 1, Port::One)?;
+    arcs.push(origin(checked, slots, body), first + 1, Port::One)?;
     Ok(())
 }
 
 /// Adds the arcs to the instructions of the row n in this region with this node, which is no head.
 fn push_row(
     checked: &Checked,
-    imports: &[Sequence<usize>],
+    slots: &Slots<'_>,
     n: usize,
     region: Region,
     node: Node,
     arcs: &mut Arcs,
 ) -> Result<(), BuildError>
-    requires imports { imports.now ≡ regions.all_imports checked.now }
+    requires slots { AreSlots checked.now slots.now }
     requires no_head { node ≢ Node.Head }
     ensures list { OnOk result (arcs.new.list.items
         ≡ arcs.old.list.items ++ map (arc_of arcs.old.firsts.items n) (feeds_of checked.now n region node)) }
@@ -92,32 +93,38 @@ fn push_row(
     match node {
         Node::Head => unreachable!(),
         Node::Param { .. } | Node::Name { .. } | Node::Block { .. } => Ok(()),
-        Node::Def { .. } | Node::Program => Ok(()),
-        Node::Literal { .. } => arcs.push(trigger_of(region), first, Port::Zero),
+        Node::Call { .. } | Node::Def { .. } | Node::Program => Ok(()),
+        Node::Literal { .. } | Node::Enter { .. } => {
+            arcs.push(trigger_of(region), first, Port::Zero)
+        }
         Node::Unary { operand, .. } | Node::Binding { value: operand, .. } => {
-            arcs.push(origin(checked, imports, operand), first, Port::Zero)
+            arcs.push(origin(checked, slots, operand), first, Port::Zero)
         }
         Node::Binary { left, right, .. } => {
-            arcs.push(origin(checked, imports, left), first, Port::Zero)?;
-            arcs.push(origin(checked, imports, right), first, Port::One)
+            arcs.push(origin(checked, slots, left), first, Port::Zero)?;
+            arcs.push(origin(checked, slots, right), first, Port::One)
         }
         Node::Split { test } => {
             push_split(
                 checked,
-                imports,
+                slots,
                 n,
                 region,
-                origin(checked, imports, test),
+                origin(checked, slots, test),
                 arcs,
             )
+        }
+        Node::Arg { enter, value, .. } => {
+            arcs.push(output(enter), first, Port::Zero)?;
+            arcs.push(origin(checked, slots, value), first, Port::One)
         }
         Node::If {
             then,
             otherwise,
             ..
         } => {
-            arcs.push(origin(checked, imports, then), first, Port::Zero)?;
-            arcs.push(origin(checked, imports, otherwise), first, Port::Zero)
+            arcs.push(origin(checked, slots, then), first, Port::Zero)?;
+            arcs.push(origin(checked, slots, otherwise), first, Port::Zero)
         }
     }
 }
@@ -126,13 +133,13 @@ fn push_row(
 /// this origin: to the trigger's, and to that of each import.
 fn push_split(
     checked: &Checked,
-    imports: &[Sequence<usize>],
+    slots: &Slots<'_>,
     n: usize,
     region: Region,
     test: Origin,
     arcs: &mut Arcs,
 ) -> Result<(), BuildError>
-    requires imports { imports.now ≡ regions.all_imports checked.now }
+    requires slots { AreSlots checked.now slots.now }
     requires part { test.part < 2 ^ 62 }
     ensures list { OnOk result (arcs.new.list.items ≡ arcs.old.list.items ++ map (arc_of arcs.old.firsts.items n)
         (rows.feed test 0 Zero ∷ rows.feed (rows.trigger_of region) 0 One
@@ -144,10 +151,10 @@ fn push_split(
     arcs.push(test, first, Port::Zero)?;
     arcs.push(trigger_of(region), first, Port::One)?;
     let mut next = first;
-    for import in imports_at(checked, imports, n) {
+    for import in imports_at(checked, slots.imports, n) {
         next += 1;
         arcs.push(test, next, Port::Zero)?;
-        arcs.push(name_in(checked, imports, region, *import), next, Port::One)?;
+        arcs.push(name_in(checked, slots, region, *import), next, Port::One)?;
     }
     Ok(())
 }

@@ -5,6 +5,7 @@ ghost use Rattle.id_build.specs.Rows.{op_by};
 ghost use Rattle.id_build.specs.Made.{instrs_from, IsFrom, connected, number_by};
 
 use crate::arc::{Arc, Form, Piece};
+use crate::feeds::number_by;
 use id_graph::{Dest, Dests, Instr, Op};
 use std::alloc::{AllocError, Global};
 
@@ -43,11 +44,19 @@ fn bare_instrs(alloc: Global, firsts: &[u32], pieces: &[Piece]) -> Result<Vec<In
 }
 
 /// The operator of this form.
-fn op_by(_firsts: &[u32], form: Form) -> Op
-    ensures { result ≡ op_by (number_by _firsts.now) form }
+fn op_by(firsts: &[u32], form: Form) -> Op
+    ensures { result ≡ op_by (number_by firsts.now) form }
 {
     match form {
         Form::Plain(op) => op,
+        Form::EnterAt { head, call } => Op::Enter {
+            block: number_by(firsts, head) as u32,
+            reply: number_by(firsts, call) as u32,
+        },
+        Form::SendTo { kind, param } => Op::Send {
+            kind,
+            target: number_by(firsts, param) as u32,
+        },
     }
 }
 

@@ -7,6 +7,7 @@
 #![tactic(auto)]
 
 mod arc;
+mod calls;
 mod error;
 mod feeds;
 mod joined;
@@ -15,6 +16,7 @@ mod origins;
 mod pieces;
 mod program;
 mod size;
+mod slots;
 
 pub use arc::{Arc, Feed, Form, Origin, Piece};
 pub use error::BuildError;

@@ -2,9 +2,11 @@
 
 ghost use Rattle.std.specs.Prelude.{◌≡◌, ◌<◌, ◌+◌, ◌^◌, [], slice_get, unwrap_or, length};
 ghost use Rattle.id_desugar.specs.Regions as regions;
-ghost use Rattle.id_build.specs.Rows.{name_in, named_in, origin, origin_of, output, same_region, slot_of, trigger_of};
+ghost use Rattle.id_build.specs.Rows.{name_in, named_in, origin, origin_of, output, same_region, trigger_of};
+ghost use Rattle.id_build.specs.Slots.{AreSlots};
 
 use crate::arc::Origin;
+use crate::slots::{Slots, slot_of};
 use id_check::Checked;
 use id_desugar::{binder_at, row_at};
 use id_list::Sequence;
@@ -33,21 +35,15 @@ pub fn trigger_of(region: Region) -> Origin
 }
 
 /// Where the value of the expression at a row comes from.
-pub fn origin(checked: &Checked, imports: &[Sequence<usize>], expr: usize) -> Origin
-    requires { imports.now ≡ regions.all_imports checked.now }
+pub fn origin(checked: &Checked, slots: &Slots<'_>, expr: usize) -> Origin
+    requires slots { AreSlots checked.now slots.now }
     ensures origin { result ≡ origin checked.now expr }
     ensures few { result.part < 2 ^ 62 }
 {
     let value = row_at(checked, expr).value;
     let row = row_at(checked, value);
     match row.node {
-        Node::Name { .. } => named_in(
-            checked,
-            imports,
-            row.region,
-            value,
-            binder_at(checked, value),
-        ),
+        Node::Name { .. } => named_in(checked, slots, row.region, value, binder_at(checked, value)),
         _ => output(value),
     }
 }
@@ -55,29 +51,24 @@ pub fn origin(checked: &Checked, imports: &[Sequence<usize>], expr: usize) -> Or
 /// Where the value of the name at a row comes from, in its region, which has this binder.
 fn named_in(
     checked: &Checked,
-    imports: &[Sequence<usize>],
+    slots: &Slots<'_>,
     region: Region,
     name: usize,
     binder: Option<usize>,
 ) -> Origin
-    requires { imports.now ≡ regions.all_imports checked.now }
+    requires slots { AreSlots checked.now slots.now }
     ensures origin { result ≡ named_in checked.now region name binder }
     ensures few { result.part < 2 ^ 62 }
 {
     match binder {
-        Some(binder) => name_in(checked, imports, region, binder),
+        Some(binder) => name_in(checked, slots, region, binder),
         None => output(name),
     }
 }
 
 /// Where the value of a binder comes from in a region.
-pub fn name_in(
-    checked: &Checked,
-    imports: &[Sequence<usize>],
-    region: Region,
-    binder: usize,
-) -> Origin
-    requires { imports.now ≡ regions.all_imports checked.now }
+pub fn name_in(checked: &Checked, slots: &Slots<'_>, region: Region, binder: usize) -> Origin
+    requires slots { AreSlots checked.now slots.now }
     ensures origin { result ≡ name_in checked.now region binder }
     ensures few { result.part < 2 ^ 62 }
 {
@@ -86,7 +77,7 @@ pub fn name_in(
     } else {
         Origin {
             row: region.head,
-            part: slot_of(imports_at(checked, imports, region.head), binder) + 1,
+            part: slot_of(checked, slots, region.head, binder) + 1,
             side: region.side,
         }
     }
@@ -103,19 +94,6 @@ pub fn imports_at<'a>(checked: &Checked, imports: &'a [Sequence<usize>], row: us
     } else {
         &[]
     }
-}
-
-/// How many stand before the binder: an index by head and binder comes in here once heads import many.
-fn slot_of(imports: &[usize], binder: usize) -> usize
-    ensures slot { result ≡ slot_of imports.now binder }
-    ensures within { result < 2 ^ 61 }
-{
-    for (slot, import) in imports.iter().enumerate() {
-        if *import == binder {
-            return slot;
-        }
-    }
-    imports.len()
 }
 
 fn same_region(left: Region, right: Region) -> bool

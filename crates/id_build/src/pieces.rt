@@ -6,11 +6,12 @@ ghost use Rattle.id_desugar.specs.Ends.{AreEnds};
 ghost use Rattle.id_desugar.specs.Regions as regions;
 ghost use Rattle.id_build.specs.Rows.{made, made_of, result_of, switches};
 ghost use Rattle.id_build.specs.Rows as rows;
-ghost use Rattle.id_build.specs.declared.arc.Form.TheVariants.{Plain};
+ghost use Rattle.id_build.specs.declared.arc.Form.TheVariants.{Plain, EnterAt, SendTo};
 ghost use Rattle.id_graph.specs.declared.instr.Op.TheVariants.{Merge, Back, Switch};
 ghost use Rattle.id_graph.specs.declared.instr.PortKind.TheVariants.{Signal};
 
 use crate::arc::{Form, Piece};
+use crate::calls::{called, param_of};
 use crate::error::BuildError;
 use crate::operators::{binary_op, port_at, port_of};
 use crate::origins::imports_at;
@@ -62,7 +63,7 @@ fn push_row(
             place,
             pieces,
         ),
-        Node::Param { .. } | Node::Binding { .. } | Node::If { .. } => {
+        Node::Param { .. } | Node::Binding { .. } | Node::If { .. } | Node::Call { .. } => {
             push(pieces, Op::Merge(port_at(checked, n)), place)
         }
         Node::Literal { value } => push(pieces, Op::Const(value), place),
@@ -74,6 +75,10 @@ fn push_row(
         ),
         Node::Split { .. } => {
             push_split(checked, imports_at(checked, imports, n), place, pieces)
+        }
+        Node::Enter { .. } => push_enter(checked, n, end_of(checked, ends, n), place, pieces),
+        Node::Arg { enter, index, .. } => {
+            push_send(checked, param_of(checked, enter, index), place, pieces)
         }
         Node::Name { .. } | Node::Block { .. } | Node::Def { .. } => Ok(()),
         Node::Program => push_answer(checked, pieces),
@@ -108,6 +113,43 @@ fn push_split(
     Ok(())
 }
 
+/// Adds the `enter` of the call that begins at the row n and ends at the row `call`.
+fn push_enter(
+    checked: &Checked,
+    n: usize,
+    call: usize,
+    place: usize,
+    pieces: &mut Vec<Piece>,
+) -> Result<(), BuildError>
+    ensures pieces { OnOk result (pieces.new.items
+        ≡ pieces.old.items ++ record { form = EnterAt (rows.called checked.now n) call; place = place } ∷ []) }
+    ensures memory { IfErr result (λ e. e ≡ BuildError.Memory) }
+{
+    let form = Form::EnterAt {
+        head: called(checked, n),
+        call,
+    };
+    push_form(pieces, form, place)
+}
+
+/// Adds the `send` to the entry of the parameter at a row.
+fn push_send(
+    checked: &Checked,
+    param: usize,
+    place: usize,
+    pieces: &mut Vec<Piece>,
+) -> Result<(), BuildError>
+    ensures pieces { OnOk result (pieces.new.items
+        ≡ pieces.old.items ++ record { form = SendTo (rows.port_at checked.now param) param; place = place } ∷ []) }
+    ensures memory { IfErr result (λ e. e ≡ BuildError.Memory) }
+{
+    let form = Form::SendTo {
+        kind: port_at(checked, param),
+        param,
+    };
+    push_form(pieces, form, place)
+}
+
 /// Adds the answer's instruction.
 fn push_answer(checked: &Checked, pieces: &mut Vec<Piece>) -> Result<(), BuildError>
     ensures pieces { OnOk result (pieces.new.items ≡ pieces.old.items
@@ -132,9 +174,14 @@ fn push(pieces: &mut Vec<Piece>, op: Op, place: usize) -> Result<(), BuildError>
     ensures pieces { OnOk result (pieces.new.items ≡ pieces.old.items ++ record { form = Plain op; place = place } ∷ []) }
     ensures memory { IfErr result (λ e. e ≡ BuildError.Memory) }
 {
-    pieces.push(Piece {
-        form: Form::Plain(op),
-        place,
-    })?;
+    push_form(pieces, Form::Plain(op), place)
+}
+
+fn push_form(pieces: &mut Vec<Piece>, form: Form, place: usize) -> Result<(), BuildError>
+    ensures pieces { OnOk result (pieces.new.items
+        ≡ pieces.old.items ++ record { form = form; place = place } ∷ []) }
+    ensures memory { IfErr result (λ e. e ≡ BuildError.Memory) }
+{
+    pieces.push(Piece { form, place })?;
     Ok(())
 }

@@ -12,12 +12,15 @@ ghost use Rattle.id_build.specs.Rows.{size};
 ghost use Rattle.id_build.specs.Schemas.{Schemas, block_of};
 ghost use Rattle.id_desugar.specs.Ends.{AreEnds};
 ghost use Rattle.id_build.specs.Made.{AreFirsts, arcs_in, graph_by, number_by, pieces_in};
+ghost use Rattle.id_build.specs.Slots.{AreSlots};
 
 use crate::arc::Piece;
+use crate::calls::is_param;
 use crate::error::BuildError;
 use crate::feeds::{Arcs, number_by, push_feeds};
 use crate::joined::join;
 use crate::pieces::push_pieces;
+use crate::slots::{Slots, find_slots};
 use id_check::Checked;
 use id_desugar::{Kernel, end_of, row_at};
 use id_graph::{Block, Graph, Instr};
@@ -120,7 +123,8 @@ fn connected(
     ensures memory { IfErr result (λ e. e ≡ BuildError.Memory) }
 {
     let Draft { pieces, firsts } = draft;
-    let arcs = arcs(alloc, checked, imports, ends, order, firsts)?;
+    let slots = find_slots(alloc, checked, imports)?;
+    let arcs = arcs(alloc, checked, &slots, ends, order, firsts)?;
     let instrs = join(
         alloc,
         arcs.firsts.as_slice(),
@@ -134,12 +138,12 @@ fn connected(
 fn arcs(
     alloc: Global,
     checked: &Checked,
-    imports: &[Sequence<usize>],
+    slots: &Slots<'_>,
     ends: &[Option<usize>],
     order: &[usize],
     firsts: Vec<u32>,
 ) -> Result<Arcs, BuildError>
-    requires imports { imports.now ≡ regions.all_imports checked.now }
+    requires slots { AreSlots checked.now slots.now }
     requires ends { AreEnds checked.now ends.now }
     requires within { (n : ℕ) → Among n order.now → n < length (programs.rows checked.now) }
     ensures list { IfOk result (λ a. a.list.items ≡ arcs_in checked.now firsts.items order.now) }
@@ -151,7 +155,7 @@ fn arcs(
         list: Vec::new(alloc),
     };
     for n in order {
-        push_feeds(checked, imports, ends, *n, &mut arcs)?;
+        push_feeds(checked, slots, ends, *n, &mut arcs)?;
     }
     Ok(arcs)
 }
@@ -242,10 +246,4 @@ fn is_head(node: Node) -> bool
     ensures { result ≡ tables.is_head node }
 {
     matches!(node, Node::Head)
-}
-
-fn is_param(node: Node) -> bool
-    ensures { result ≡ tables.is_param node }
-{
-    matches!(node, Node::Param { .. })
 }

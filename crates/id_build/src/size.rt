@@ -68,6 +68,7 @@ fn plain_count(node: Node) -> Option<usize>
         Node::Head => Some(2),
         Node::Param { .. } | Node::Binding { .. } | Node::If { .. } => Some(1),
         Node::Literal { .. } | Node::Unary { .. } | Node::Binary { .. } => Some(1),
+        Node::Enter { .. } | Node::Arg { .. } | Node::Call { .. } => Some(1),
         Node::Split { .. } => None,
         Node::Name { .. } | Node::Block { .. } | Node::Def { .. } => Some(0),
         Node::Program => Some(1),

@@ -1,5 +1,6 @@
 pub mod BindLemmas
 pub mod ChainsLemmas
+mod CountsLemmas
 pub mod FillsLemmas
 pub mod FirstsLemmas
 pub mod LinksLemmas

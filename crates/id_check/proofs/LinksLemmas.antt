@@ -2,9 +2,11 @@
 use Rattle.std.proofs.Common.{◌≡◌, ◌<◌, inl, inr, ℕ, List, Option, Some, None, length, refl, sym, subst, arith}
 use Rattle.id_parts.specs.declared.row.Row.{Row}
 use Rattle.id_parts.specs.declared.row.Node.{Node}
-use Rattle.id_parts.specs.declared.row.Node.TheVariants.{Head, Param, Literal, Name, Unary, Binary, Split, If, Block, Binding, Def, Program}
+use Rattle.id_parts.specs.declared.row.Node.TheVariants.{Head, Param, Literal, Name, Unary, Binary, Split, If, Enter, Arg, Call, Block, Binding, Def, Program}
 use Rattle.id_parts.specs.Rows.{at}
 use Rattle.id_parts.specs.Tables.{HasPart, IsFormed}
+use Rattle.id_check.specs.Causes.{callee, head_in}
+use Rattle.id_check.specs.Scopes.{user_of}
 use Rattle.id_check.specs.Kinds.{Fixed, To, Nowhere, link_at, link_of, link_of_name, constant_kind, unary_kind, binary_kind}
 
 -- a part of a row is a row
@@ -20,6 +22,15 @@ named : (n j : ℕ) (o : Option ℕ) → ((b : ℕ) → o ≡ Some b → b < n) 
 named n j None h e = let d : Nowhere ≡ To j = e in cc
 named n j (Some b) h e = subst (λ z. z < n) (to_same b j e) (h b refl)
 
+-- the row that uses the name which a row is about is a row
+pub user_below : (R : List Row) (i : ℕ) → IsFormed R → i < length R → user_of i (at R i).node < length R
+user_below R i t less = of (at R i).node refl
+  where
+    of : (n : Node) → (at R i).node ≡ n → user_of i n < length R
+    of (Arg e k v) s = part_of e t less s (inl refl)
+    of (Call e c) s = part_of e t less s refl
+    of _ s = less
+
 pub link_below : (R : List Row) (β : ℕ → Option ℕ) → IsFormed R → ((i b : ℕ) → i < length R → β i ≡ Some b → b < length R)
     → (i j : ℕ) → i < length R → link_at R β i ≡ To j → j < length R
 link_below R β t within i j less e = of (at R i).node refl e
@@ -27,7 +38,7 @@ link_below R β t within i j less e = of (at R i).node refl e
     part : (n : Node) (a : ℕ) → (at R i).node ≡ n → HasPart n a → To a ≡ To j → j < length R
     part n a s h f = subst (λ z. z < length R) (to_same a j f) (part_of a t less s h)
 
-    of : (n : Node) → (at R i).node ≡ n → link_of (β i) n ≡ To j → j < length R
+    of : (n : Node) → (at R i).node ≡ n → link_of (β (user_of i n)) n ≡ To j → j < length R
     of Head s f = let d : Nowhere ≡ To j = f in cc
     of (Param x k) s f = let d : Fixed k ≡ To j = f in cc
     of (Literal v) s f = let d : Fixed (constant_kind v) ≡ To j = f in cc
@@ -36,7 +47,22 @@ link_below R β t within i j less e = of (at R i).node refl e
     of (Binary p a b) s f = let d : Fixed (binary_kind p) ≡ To j = f in cc
     of (Split t) s f = let d : Nowhere ≡ To j = f in cc
     of (If t x y) s f = part (If t x y) x s (inr (inl refl)) f
+    of (Enter x) s f = let d : Nowhere ≡ To j = f in cc
+    of (Arg e k v) s f = let d : Nowhere ≡ To j = f in cc
+    of (Call e c) s f = named (length R) j (β e) (λ b. within e b (part_of e t less s refl)) f
     of (Block b) s f = part (Block b) b s refl f
     of (Binding x a) s f = part (Binding x a) a s refl f
     of (Def x h k b) s f = let d : Fixed k ≡ To j = f in cc
     of Program s f = let d : Nowhere ≡ To j = f in cc
+
+-- the head of a definition that a row has as its binder is a row
+pub head_below : (R : List Row) → IsFormed R → (o : Option ℕ) → ((b : ℕ) → o ≡ Some b → b < length R) → (h : ℕ) → callee R o ≡ Some h → h < length R
+head_below R t None f h e = let d : None ≡ Some h = e in cc
+head_below R t (Some b) f h e = of (at R b).node refl e
+  where
+    of : (n : Node) → (at R b).node ≡ n → head_in n ≡ Some h → h < length R
+    of (Def x g k y) s q = let z : g ≡ h = same g q in subst (λ k. k < length R) z (part_of g t (f b refl) s (inl refl))
+      where
+        same : (g : ℕ) → Some g ≡ Some h → g ≡ h
+        same g q = cc
+    of _ s q = let d : None ≡ Some h = q in cc

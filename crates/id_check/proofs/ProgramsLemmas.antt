@@ -1,8 +1,10 @@
 -- What holds of a checked program, row by row.
 use Rattle.std.proofs.Common.{◌≡◌, ◌⊎◌, inl, inr, ◌+◌, ◌<◌, ◌≤◌, ℕ, zero, suc, Bool as Truth, true, false, List, [], ◌∷◌, ◌++◌, Option, Some, None, length, refl, ap, sym, ◌∙◌, subst, arith}
 use Rattle.std.specs.Prelude.{◌&&◌, ◌||◌, not, nat_eq, nat_le, nat_lt, if◌then◌else◌}
-use Rattle.std.proofs.lemmas.Bool.{cases_lt, false≢true, ltb-true}
-use Rattle.std.proofs.lemmas.Bool.Decides.{nat_tests}
+use Rattle.std.specs.Option.{option_or}
+use Rattle.std.proofs.lemmas.Bool.{cases_lt, eqb-true, false≢true, ltb-true}
+use Rattle.std.proofs.lemmas.Bool.Decides.{Decides-eqb, nat_tests}
+use Rattle.std.proofs.lemmas.List.{get_or_past}
 use Rattle.id_list.specs.List.{Among}
 use Rattle.id_value.specs.declared.Kind.{Kind}
 use Rattle.id_value.specs.declared.Kind.TheVariants.{Int, Bool, Array}
@@ -16,24 +18,25 @@ use Rattle.id_value.specs.declared.Comparison.TheVariants.{Lt, Le, Gt, Ge, Eq, N
 use Rattle.id_tree.specs.Tree.{program_tree}
 use Rattle.id_parts.specs.declared.row.Row.{Row}
 use Rattle.id_parts.specs.declared.row.Node.{Node}
-use Rattle.id_parts.specs.declared.row.Node.TheVariants.{Head, Param, Literal, Name, Unary, Binary, Split, If, Block, Binding, Def, Program}
-use Rattle.id_parts.specs.Rows.{at, top}
-use Rattle.id_parts.specs.Tables.{HasOperand, around, is_binder, is_binding, is_block, is_expression, is_param, is_top}
+use Rattle.id_parts.specs.declared.row.Node.TheVariants.{Head, Param, Literal, Name, Unary, Binary, Split, If, Enter, Arg, Call, Block, Binding, Def, Program}
+use Rattle.id_parts.specs.Rows.{at, no_row, top}
+use Rattle.id_parts.specs.Tables.{HasOperand, around, is_binder, is_binding, is_block, is_def, is_expression, is_param, is_top}
 use Rattle.id_parts.specs.Regions.{Lies, StandsInside, StandsWith}
 use Rattle.id_parts.specs.Turns.{IsTable, in_block, params_at}
 use Rattle.id_parts.proofs.RegionLemmas.{HasPart-operand}
 use Rattle.id_parts.proofs.TableLemmas.{IsTable-rows_of}
 use Rattle.id_parts.proofs.TreeLemmas.{IsProgramTree-program_tree}
-use Rattle.id_check.specs.declared.cause.CheckCause.TheVariants.{MainKind, TooManyParams, Unknown, WrongKind}
+use Rattle.id_check.specs.declared.cause.CheckCause.TheVariants.{MainKind, TooManyParams, Unknown, WrongCount, WrongKind}
 use Rattle.id_check.specs.declared.checked.Checked.{Checked}
-use Rattle.id_check.specs.Causes.{array_param, causes_below, causes_in, duplicates, is_array_param, same_kind, unknown, unless_found, wrong, wrong_arm, wrong_both, wrong_equals, wrong_params}
-use Rattle.id_check.specs.Kinds.{AreKinds, EndsIn, binary_kind, constant_kind, Fixed, To, Nowhere, in_kind, in_nothing, further, link_at, link_of, link_of_name, unary_kind}
-use Rattle.id_check.specs.Programs.{Stands, binder, kind, rows}
-use Rattle.id_check.specs.Scopes.{binder_by, binder_in, binder_of, binds, bound_name, held, is_free, is_name, keeps, looks, sees, takes, used_name}
+use Rattle.id_check.specs.declared.cause.CheckCause.{CheckCause}
+use Rattle.id_check.specs.Causes.{array_param, callee, causes_below, causes_in, count_at, count_in, duplicates, head_in, is_count, is_array_param, same_kind, unknown, unless_found, wrong, wrong_argument, wrong_both, wrong_count, wrong_equals, wrong_like, wrong_params}
+use Rattle.id_check.specs.Kinds.{AreKinds, EndsIn, Link, binary_kind, constant_kind, Fixed, To, Nowhere, in_kind, in_nothing, further, link_at, link_of, link_of_name, unary_kind}
+use Rattle.id_check.specs.Programs.{Calls, Stands, binder, kind, rows}
+use Rattle.id_check.specs.Scopes.{binder_by, binder_in, binder_of, binds, bound_name, first_of, held, is_free, is_name, keeps, looks, sees, takes, used_name, user_of}
 use Rattle.id_check.proofs.ChainsLemmas.{after}
 use Rattle.id_check.proofs.LinksLemmas.{link_below, part_of}
 use Rattle.id_check.proofs.ScopesLemmas.{binder_at-below, first_of-some}
-use Rattle.id_parts.proofs.BlocksLemmas.{not_last}
+use Rattle.id_parts.proofs.BlocksLemmas.{Among-from_params_at, not_last, param_at}
 
 -- ---- the table
 
@@ -73,15 +76,19 @@ kind_to R β κ i j h less low e = option_kind (κ i) (κ j) (λ d.
 pub binder_below : (P : Checked) (i b : ℕ) → i < length (rows P) → binder P i ≡ Some b → b < length (rows P)
 binder_below P i b less e = binder_at-below (rows P) (length (rows P)) i b (sym (P.bound.each i less) ∙ e)
 
+-- where the chain of the row i goes on, if it has this node
+abbrev pub link_in : Checked → ℕ → Node → Link
+link_in P i n = link_of (binder P (user_of i n)) n
+
 -- the kind is one all along a chain: where that of a row goes on to another row
-pub kind_along : (P : Checked) (i j : ℕ) (n : Node) → Stands P i n → link_of (binder P i) n ≡ To j → kind P i ≡ kind P j
+pub kind_along : (P : Checked) (i j : ℕ) (n : Node) → Stands P i n → link_in P i n ≡ To j → kind P i ≡ kind P j
 kind_along P i j n h e =
-    let link : link_at (rows P) (binder P) i ≡ To j = ap (link_of (binder P i)) h.node ∙ e in
+    let link : link_at (rows P) (binder P) i ≡ To j = ap (link_in P i) h.node ∙ e in
     kind_to (rows P) (binder P) (kind P) i j P.kinded h.within (link_below (rows P) (binder P) P.table.formed (binder_below P) i j h.within link) link
 
 -- where it ends in a kind
-pub kind_fixed : (P : Checked) (i : ℕ) (n : Node) (k : Kind) → Stands P i n → link_of (binder P i) n ≡ Fixed k → kind P i ≡ Some k
-kind_fixed P i n k h e = P.kinded.ends i (Some k) h.within (in_kind k (ap (link_of (binder P i)) h.node ∙ e))
+pub kind_fixed : (P : Checked) (i : ℕ) (n : Node) (k : Kind) → Stands P i n → link_in P i n ≡ Fixed k → kind P i ≡ Some k
+kind_fixed P i n k h e = P.kinded.ends i (Some k) h.within (in_kind k (ap (link_in P i) h.node ∙ e))
 
 -- ---- no cause
 
@@ -89,20 +96,24 @@ both_nil : {A : Type 0} (xs ys : List A) → xs ++ ys ≡ [] → (xs ≡ []) × 
 both_nil [] ys e = (refl, e)
 both_nil (x ∷ xs) ys e = cc
 
-below_nil : (R : List Row) (β : ℕ → Option ℕ) (κ : ℕ → Option Kind) (n i : ℕ) → causes_below R β κ n ≡ [] → i < n → causes_in R κ (β i) (at R i).place (at R i).node ≡ []
+-- the causes in the row i
+abbrev causes_of : List Row → (ℕ → Option ℕ) → (ℕ → Option Kind) → ℕ → List CheckCause
+causes_of R β κ i = causes_in R κ (β (user_of i (at R i).node)) (at R i).place (at R i).node
+
+below_nil : (R : List Row) (β : ℕ → Option ℕ) (κ : ℕ → Option Kind) (n i : ℕ) → causes_below R β κ n ≡ [] → i < n → causes_of R β κ i ≡ []
 below_nil R β κ zero i e less = absurd (omega arith)
 below_nil R β κ (suc n) i e less =
-    let w = both_nil (causes_below R β κ n) (causes_in R κ (β n) (at R n).place (at R n).node) e in
+    let w = both_nil (causes_below R β κ n) (causes_of R β κ n) e in
     one w.1 (cases_lt i n) (below_nil R β κ n i w.0)
   where
-    one : causes_in R κ (β n) (at R n).place (at R n).node ≡ [] → (i < n) ⊎ (n ≤ i) → (i < n → causes_in R κ (β i) (at R i).place (at R i).node ≡ []) → causes_in R κ (β i) (at R i).place (at R i).node ≡ []
+    one : causes_of R β κ n ≡ [] → (i < n) ⊎ (n ≤ i) → (i < n → causes_of R β κ i ≡ []) → causes_of R β κ i ≡ []
     one f (inl c) r = r c
-    one f (inr c) r = let same : i ≡ n = omega arith in subst (λ k. causes_in R κ (β k) (at R k).place (at R k).node ≡ []) (sym same) f
+    one f (inr c) r = let same : i ≡ n = omega arith in subst (λ k. causes_of R β κ k ≡ []) (sym same) f
 
 -- a row of a checked program has no cause
-none_in : (P : Checked) (i : ℕ) (n : Node) → Stands P i n → causes_in (rows P) (kind P) (binder P i) (at (rows P) i).place n ≡ []
+none_in : (P : Checked) (i : ℕ) (n : Node) → Stands P i n → causes_in (rows P) (kind P) (binder P (user_of i n)) (at (rows P) i).place n ≡ []
 none_in P i n h =
-    subst (λ z. causes_in (rows P) (kind P) (binder P i) (at (rows P) i).place z ≡ []) h.node
+    subst (λ z. causes_in (rows P) (kind P) (binder P (user_of i z)) (at (rows P) i).place z ≡ []) h.node
     (below_nil (rows P) (binder P) (kind P) (length (rows P)) i (both_nil (duplicates (rows P) (length (rows P))) (causes_below (rows P) (binder P) (kind P) (length (rows P))) P.accepted).1 h.within)
 
 -- ---- names
@@ -229,6 +240,59 @@ bound_name_row P i x h = by (binder P i) refl (none_in P i (Name x) h)
     by None e f = let d : Unknown (at (rows P) i).place ∷ [] ≡ [] = f in cc
     by (Some b) e f = (b, found b e)
 
+-- what takes the names of procedures takes definitions
+taken_def : (m n : Node) (x : ℕ) → looks m (Enter x) ≡ true → takes m n ≡ true → is_def n ≡ true
+taken_def Program n x e f = f
+taken_def (Block b) n x e f = absurd (false≢true e)
+taken_def (Def z h k b) n x e f = absurd (false≢true e)
+taken_def _ n x e f = absurd (false≢true e)
+
+def_named : (n : Node) (x : ℕ) → is_def n ≡ true → bound_name n ≡ Some x → (h : ℕ) × (k : Kind) × (b : ℕ) × (n ≡ Def x h k b)
+def_named (Def y h k b) x e f = (h, k, b, ap (λ z. Def z h k b) (same_some y x f))
+def_named _ x e f = absurd (false≢true e)
+
+-- the `Enter` of a call in a checked program has the definition of its procedure as binder
+pub enter_row : (P : Checked) (e x : ℕ) → Stands P e (Enter x) → (d : ℕ) × (h : ℕ) × Calls P e d h
+enter_row P i x h = by (binder P i) refl (none_in P i (Enter x) h)
+  where
+    found : (b : ℕ) → binder P i ≡ Some b → (d : ℕ) × (g : ℕ) × Calls P i d g
+    found b e =
+        let means : binder_of (rows P) x i (length (rows P)) ≡ Some b = sym (ap (λ n. binder_by (rows P) i (used_name n) (length (rows P))) h.node) ∙ (sym (P.bound.each i h.within) ∙ e) in
+        let v = first_of-some (λ s. if sees (rows P) s i then binder_in (rows P) s x s else None) (length (rows P)) b means in
+        let s = v.0 in
+        let w = if_some (sees (rows P) s i) (binder_in (rows P) s x s) b v.2 in
+        let u = first_of-some (λ k. if binds (rows P) s x k then Some k else None) s b w.1 in
+        let t = if_some (binds (rows P) s x u.0) (Some u.0) b u.2 in
+        let it : binds (rows P) s x b ≡ true = subst (λ k. binds (rows P) s x k ≡ true) (same_some u.0 b t.1) t.0 in
+        let free = and_first (keeps (rows P) s b && not (held (rows P) b s)) (is_name x (bound_name (at (rows P) b).node)) it in
+        let kept = and_first (keeps (rows P) s b) (not (held (rows P) b s)) free in
+        let sight = and_first (looks (at (rows P) s).node (at (rows P) i).node && around (rows P) s i) (is_free (bound_name (at (rows P) i).node) || held (rows P) i s) w.0 in
+        let look : looks (at (rows P) s).node (Enter x) ≡ true = sym (ap (looks (at (rows P) s).node) h.node) ∙ and_first (looks (at (rows P) s).node (at (rows P) i).node) (around (rows P) s i) sight in
+        let taken = and_first (takes (at (rows P) s).node (at (rows P) b).node) (around (rows P) s b) kept in
+        let name = named x (bound_name (at (rows P) b).node) (and_second (keeps (rows P) s b && not (held (rows P) b s)) (is_name x (bound_name (at (rows P) b).node)) it) in
+        let d = def_named (at (rows P) b).node x (taken_def (at (rows P) s).node (at (rows P) b).node x look taken) name in (
+          b,
+          d.0,
+          record {
+            name = x;
+            result = d.1;
+            body = d.2;
+            enter = h;
+            binder = e;
+            definition = record { within = binder_below P i b h.within e; node = d.3 };
+          },
+        )
+
+    by : (o : Option ℕ) → binder P i ≡ o → unknown o (at (rows P) i).place ≡ [] → (d : ℕ) × (g : ℕ) × Calls P i d g
+    by None e f = let d : Unknown (at (rows P) i).place ∷ [] ≡ [] = f in cc
+    by (Some b) e f = found b e
+
+-- and so has that of each call
+pub callee_row : (P : Checked) (i e c : ℕ) → Stands P i (Call e c) → (d : ℕ) × (h : ℕ) × Calls P e d h
+callee_row P i e c h =
+    let z = (table_of P).enter_of i e (record { count = c; within = h.within; node = h.node }) in
+    enter_row P e z.name (record { within = omega (arith, z.before, h.within); node = z.node })
+
 -- ---- each expression and each binder has a kind
 
 -- the operands of a row are expressions
@@ -236,9 +300,9 @@ pub part_row : (P : Checked) (i a : ℕ) (n : Node) → Stands P i n → HasOper
 part_row P i a n h e =
     (part_of a P.table.formed h.within h.node (HasPart-operand n a e), (table_of P).operand_is i a h.within (subst (λ z. HasOperand z a) (sym h.node) e))
 
--- a value is given at a row of this node
+-- a kind is given to a row of this node
 abbrev IsValued : Node → Type 0
-IsValued n = (is_expression n || is_binder n) ≡ true
+IsValued n = (is_expression n || (is_binder n || is_def n)) ≡ true
 
 or_left : (a b : Truth) → a ≡ true → (a || b) ≡ true
 or_left true b e = refl
@@ -249,15 +313,21 @@ or_right true b e = refl
 or_right false b e = e
 
 valued_expression : (n : Node) → is_expression n ≡ true → IsValued n
-valued_expression n e = or_left (is_expression n) (is_binder n) e
+valued_expression n e = or_left (is_expression n) (is_binder n || is_def n) e
+
+valued_binder : (n : Node) → is_binder n ≡ true → IsValued n
+valued_binder n e = or_right (is_expression n) (is_binder n || is_def n) (or_left (is_binder n) (is_def n) e)
+
+valued_def : (n : Node) → is_def n ≡ true → IsValued n
+valued_def n e = or_right (is_expression n) (is_binder n || is_def n) (or_right (is_binder n) (is_def n) e)
 
 to_same : (a b : ℕ) → To a ≡ To b → a ≡ b
 to_same a b e = cc
 
-nowhere : (P : Checked) (i : ℕ) (n : Node) → Stands P i n → IsValued n → link_of (binder P i) n ≡ Nowhere → ⊥
+nowhere : (P : Checked) (i : ℕ) (n : Node) → Stands P i n → IsValued n → link_in P i n ≡ Nowhere → ⊥
 nowhere P i Head h v e = false≢true v
 nowhere P i Program h v e = false≢true v
-nowhere P i (Def x d k b) h v e = false≢true v
+nowhere P i (Def x d k b) h v e = let c : Fixed k ≡ Nowhere = e in cc
 nowhere P i (Name x) h v e =
     let w = bound_name_row P i x h in
     let d : To w.0 ≡ Nowhere = sym (ap link_of_name w.1.binder) ∙ e in cc
@@ -267,23 +337,35 @@ nowhere P i (Unary p a) h v e = let d : Fixed (unary_kind p) ≡ Nowhere = e in 
 nowhere P i (Binary p a b) h v e = let d : Fixed (binary_kind p) ≡ Nowhere = e in cc
 nowhere P i (Split t) h v e = false≢true v
 nowhere P i (If s x y) h v e = let d : To x ≡ Nowhere = e in cc
+nowhere P i (Enter x) h v e = false≢true v
+nowhere P i (Arg s j a) h v e = false≢true v
+nowhere P i (Call s c) h v e =
+    let w = callee_row P i s c h in
+    let d : To w.0 ≡ Nowhere = sym (ap link_of_name w.2.binder) ∙ e in cc
 nowhere P i (Block b) h v e = let d : To b ≡ Nowhere = e in cc
 nowhere P i (Binding x a) h v e = let d : To a ≡ Nowhere = e in cc
 
 -- a chain goes on to a row that gives a value
-goes : (P : Checked) (i j : ℕ) (n : Node) → Stands P i n → link_of (binder P i) n ≡ To j → (j < length (rows P)) × IsValued (at (rows P) j).node
+goes : (P : Checked) (i j : ℕ) (n : Node) → Stands P i n → link_in P i n ≡ To j → (j < length (rows P)) × IsValued (at (rows P) j).node
 goes P i j Head h e = let d : Nowhere ≡ To j = e in cc
 goes P i j Program h e = let d : Nowhere ≡ To j = e in cc
 goes P i j (Def x d k b) h e = let c : Fixed k ≡ To j = e in cc
 goes P i j (Name x) h e =
     let w = bound_name_row P i x h in
     let same : w.0 ≡ j = to_same w.0 j (sym (ap link_of_name w.1.binder) ∙ e) in
-    subst (λ b. (b < length (rows P)) × IsValued (at (rows P) b).node) same (w.1.within, or_right (is_expression (at (rows P) w.0).node) (is_binder (at (rows P) w.0).node) w.1.is_binder)
+    subst (λ b. (b < length (rows P)) × IsValued (at (rows P) b).node) same (w.1.within, valued_binder (at (rows P) w.0).node w.1.is_binder)
 goes P i j (Param x k) h e = let d : Fixed k ≡ To j = e in cc
 goes P i j (Literal c) h e = let d : Fixed (constant_kind c) ≡ To j = e in cc
 goes P i j (Unary p a) h e = let d : Fixed (unary_kind p) ≡ To j = e in cc
 goes P i j (Binary p a b) h e = let d : Fixed (binary_kind p) ≡ To j = e in cc
 goes P i j (Split t) h e = let d : Nowhere ≡ To j = e in cc
+goes P i j (Enter x) h e = let d : Nowhere ≡ To j = e in cc
+goes P i j (Arg s k a) h e = let d : Nowhere ≡ To j = e in cc
+goes P i j (Call s c) h e =
+    let w = callee_row P i s c h in
+    let same : w.0 ≡ j = to_same w.0 j (sym (ap link_of_name w.2.binder) ∙ e) in
+    let d = w.2.definition in
+    subst (λ b. (b < length (rows P)) × IsValued (at (rows P) b).node) same (d.within, valued_def (at (rows P) w.0).node (ap is_def d.node))
 goes P i j (If s x y) h e =
     let w = part_row P i x (If s x y) h (inl refl) in
     subst (λ a. (a < length (rows P)) × IsValued (at (rows P) a).node) (to_same x j e) (w.0, valued_expression (at (rows P) x).node w.1)
@@ -313,7 +395,7 @@ has_kind P i less e = kinded P i less (valued_expression (at (rows P) i).node e)
 
 -- and so has each binder
 pub binder_has_kind : (P : Checked) (i : ℕ) → i < length (rows P) → is_binder (at (rows P) i).node ≡ true → (k : Kind) × (kind P i ≡ Some k)
-binder_has_kind P i less e = kinded P i less (or_right (is_expression (at (rows P) i).node) (is_binder (at (rows P) i).node) e) (kind P i) refl
+binder_has_kind P i less e = kinded P i less (valued_binder (at (rows P) i).node e) (kind P i) refl
 
 -- ---- the wanted kinds
 
@@ -416,7 +498,113 @@ if_row P i s x y h = (sym along, other ∙ sym along)
     other : kind P y ≡ kind P x
     other =
         let w = part_row P i y (If s x y) h (inr refl) in
-        wanted_kind P first.0 y w.0 w.1 (sym (ap (λ o. wrong_arm (rows P) (kind P) o y) first.1) ∙ none_in P i (If s x y) h) ∙ sym first.1
+        wanted_kind P first.0 y w.0 w.1 (sym (ap (λ o. wrong_like (rows P) (kind P) o y) first.1) ∙ none_in P i (If s x y) h) ∙ sym first.1
+
+-- ---- calls
+
+-- the number that a function gives first, where it gives one alone
+first_of-only : (f : ℕ → Option ℕ) (n m c : ℕ) → m < n → f m ≡ Some c → ((i : ℕ) (d : ℕ) → f i ≡ Some d → i ≡ m) → first_of f n ≡ Some c
+first_of-only f zero m c less e once = absurd (omega arith)
+first_of-only f (suc n) m c less e once = elim (cases_lt m n) [
+  | inl l ↦ ap (λ o. option_or o (f n)) (first_of-only f n m c l e once)
+  | inr l ↦ let z : m ≡ n = omega arith in
+      ap (λ o. option_or o (f n)) (none n (λ i w d g. let y = once i d g in omega arith)) ∙ ap f (sym z) ∙ e
+]
+  where
+    none : (k : ℕ) → ((i : ℕ) → i < k → (d : ℕ) → f i ≡ Some d → ⊥) → first_of f k ≡ None
+    none zero h = refl
+    none (suc k) h = ap (λ o. option_or o (f k)) (none k (λ i w. h i (omega arith))) ∙ no (f k) refl
+      where
+        no : (o : Option ℕ) → f k ≡ o → f k ≡ None
+        no None g = g
+        no (Some d) g = absurd (h k (omega arith) d g)
+
+-- where a number is given for a call's `Enter`, that call stands there
+counted_call : (n : Node) (e c : ℕ) → count_in e n ≡ Some c → n ≡ Call e c
+counted_call (Call f d) e c g = by (nat_eq f e) refl g
+  where
+    by : (t : Truth) → nat_eq f e ≡ t → (if t then Some d else None) ≡ Some c → Call f d ≡ Call e c
+    by true w q = let x : f ≡ e = eqb-true f e w in let y : d ≡ c = cc in ap (λ k. Call k d) x ∙ ap (Call e) y
+    by false w q = let x : None ≡ Some c = q in cc
+counted_call _ e c g = let x : None ≡ Some c = g in cc
+
+-- the number of arguments that was found for an `Enter` is its call's
+count_row : (P : Checked) (i e c : ℕ) → Stands P i (Call e c) → count_at (rows P) (length (rows P)) e ≡ Some c
+count_row P i e c h =
+    first_of-only (λ k. count_in e (at (rows P) k).node) (length (rows P)) i c h.within
+    (ap (count_in e) h.node ∙ ap (λ t. if t then Some c else None) (eqb-refl e)) (λ k d g. only k d (counted_call (at (rows P) k).node e d g))
+  where
+    eqb-refl : (n : ℕ) → nat_eq n n ≡ true
+    eqb-refl n = (Decides-eqb n n).1 refl
+
+    only : (k d : ℕ) → (at (rows P) k).node ≡ Call e d → k ≡ i
+    only k d g = elim (cases_lt k (length (rows P))) [
+      | inl l ↦ (table_of P).one_call k i e (record { count = d; within = l; node = g }) (record { count = c; within = h.within; node = h.node })
+      | inr l ↦ let x : Head ≡ Call e d = sym (ap (λ (r : Row). r.node) (get_or_past (rows P) k no_row l)) ∙ g in absurd (false≢true (ap is_expression x))
+    ]
+
+equal_count : (R : List Row) (h c e : ℕ) → wrong_count R (Some h) c e ≡ [] → c ≡ length (params_at R h)
+equal_count R h c e f = by (nat_eq c (length (params_at R h))) refl f
+  where
+    by : (t : Truth) → nat_eq c (length (params_at R h)) ≡ t → (if t then [] else (WrongCount e ∷ [])) ≡ [] → c ≡ length (params_at R h)
+    by true g q = eqb-true c (length (params_at R h)) g
+    by false g q = let x : WrongCount e ∷ [] ≡ [] = q in cc
+
+callee_head : (P : Checked) (e d h : ℕ) → Calls P e d h → callee (rows P) (binder P e) ≡ Some h
+callee_head P e d h w = ap (callee (rows P)) w.binder ∙ ap head_in w.definition.node
+
+-- a call has as many arguments as its procedure has parameters, and the kind of the procedure's result
+pub call_row : (P : Checked) (i e c d h : ℕ) → Stands P i (Call e c) → (w : Calls P e d h)
+    → (c ≡ length (params_at (rows P) h)) × (kind P i ≡ Some w.result)
+call_row P i e c d h s w = (
+  equal_count (rows P) h c (at (rows P) i).place (sym (ap (λ o. wrong_count (rows P) o c (at (rows P) i).place) (callee_head P e d h w)) ∙ none_in P i (Call e c) s),
+  kind_along P i d (Call e c) s (ap link_of_name w.binder) ∙ kind_fixed P d (Def w.name h w.result w.body) w.result w.definition refl,
+)
+
+-- the call that an argument belongs to
+pub record IsArgument (P : Checked) (m e k v : ℕ) : Type 0 where
+  pub call : ℕ
+  pub count : ℕ
+  pub stands : Stands P call (Call e count)
+  pub low : k < count
+
+pub argument_call : (P : Checked) (m e k v : ℕ) → Stands P m (Arg e k v) → IsArgument P m e k v
+argument_call P m e k v s =
+    let a = (table_of P).arg_of m e k (record { value = v; within = s.within; node = s.node }) in
+    record { call = a.row; count = a.call.count; stands = record { within = a.call.within; node = a.call.node }; low = a.stands.index }
+
+-- an argument has the kind of the parameter of its index, which is the row so far behind the head
+pub argument_row : (P : Checked) (m e k v d h : ℕ) → Stands P m (Arg e k v) → Calls P e d h
+    → Among (h + 1 + k) (params_at (rows P) h) × (kind P v ≡ kind P (h + 1 + k))
+argument_row P m e k v d h s w = (param, same)
+  where
+    a : IsArgument P m e k v
+    a = argument_call P m e k v s
+
+    count : a.count ≡ length (params_at (rows P) h)
+    count = (call_row P a.call e a.count d h a.stands w).0
+
+    param : Among (h + 1 + k) (params_at (rows P) h)
+    param = param_at (rows P) (table_of P) h d
+        (record { name = w.name; result = w.result; body = w.body; within = w.definition.within; node = w.definition.node }) k (omega (arith, a.low, count))
+
+    none : wrong_like (rows P) (kind P) (kind P (h + 1 + k)) v ≡ []
+    none =
+        ap (λ t. if t then wrong_like (rows P) (kind P) (kind P (h + 1 + k)) v else []) (sym
+        (ap (is_count (rows P) h) (count_row P a.call e a.count a.stands) ∙ (Decides-eqb a.count (length (params_at (rows P) h))).1 count))
+        ∙ sym (ap (λ o. wrong_argument (rows P) (kind P) o (count_at (rows P) (length (rows P)) e) k v) (callee_head P e d h w))
+        ∙ none_in P m (Arg e k v) s
+
+    same : kind P v ≡ kind P (h + 1 + k)
+    same =
+        let q = Among-from_params_at (rows P) h (h + 1 + k) param in
+        let z = binder_has_kind P (h + 1 + k) q.0 (param_binder (at (rows P) (h + 1 + k)).node q.1) in
+        let u = part_row P m v (Arg e k v) s refl in
+        wanted_kind P z.0 v u.0 u.1 (sym (ap (λ o. wrong_like (rows P) (kind P) o v) z.1) ∙ none) ∙ sym z.1
+      where
+        param_binder : (n : Node) → is_param n ≡ true → is_binder n ≡ true
+        param_binder (Param x j) g = refl
+        param_binder _ g = absurd (false≢true g)
 
 -- ---- definitions
 

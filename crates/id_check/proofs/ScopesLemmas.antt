@@ -102,6 +102,7 @@ takes-unbound m n e = takes-neither m n refl refl refl
 looks-none : (m n : Node) → is_scope m ≡ false → looks m n ≡ false
 looks-none (Block b) n e = cc
 looks-none (Def x h k b) n e = cc
+looks-none Program n e = cc
 looks-none _ n e = refl
 
 -- a row that binds no name is kept by none

@@ -1,5 +1,5 @@
 -- Each cause is at the place of a thing of the program.
-use Rattle.std.proofs.Common.{◌≡◌, inl, inr, ◌<◌, ◌≤◌, ℕ, zero, suc, Bool as Truth, true, false, List, [], ◌∷◌, ◌++◌, Option, Some, None, length, refl, ap, sym, ◌∙◌, subst, arith}
+use Rattle.std.proofs.Common.{◌≡◌, inl, inr, ◌+◌, ◌<◌, ◌≤◌, ℕ, zero, suc, Bool as Truth, true, false, List, [], ◌∷◌, ◌++◌, Option, Some, None, length, refl, ap, sym, ◌∙◌, subst, arith}
 use Rattle.std.specs.Prelude.{◌&&◌, not, nat_eq, nat_lt, if◌then◌else◌}
 use Rattle.id_list.specs.List.{Among}
 use Rattle.id_list.proofs.AmongLemmas.{Among-either, Among-one}
@@ -10,18 +10,18 @@ use Rattle.id_value.specs.declared.BinaryOp.TheVariants as class
 use Rattle.id_value.specs.declared.Comparison.TheVariants.{Lt, Le, Gt, Ge, Eq, Ne}
 use Rattle.id_parts.specs.declared.row.Row.{Row}
 use Rattle.id_parts.specs.declared.row.Node.{Node}
-use Rattle.id_parts.specs.declared.row.Node.TheVariants.{Head, Param, Name, Unary, Binary, Split, If, Binding, Def, Program}
+use Rattle.id_parts.specs.declared.row.Node.TheVariants.{Head, Param, Name, Unary, Binary, Split, If, Enter, Arg, Call, Binding, Def, Program}
 use Rattle.id_tree.specs.Tree.{Tree}
 use Rattle.id_tree.specs.Distinct.{HasPlace}
 use Rattle.id_parts.specs.Rows.{at, rows_of}
 use Rattle.id_parts.specs.Tables.{IsFormed, is_param, is_thing}
-use Rattle.id_parts.specs.Turns.{params_at, params_below}
+use Rattle.id_parts.specs.Turns.{IsTable, params_at, params_below}
 use Rattle.id_parts.proofs.PlacesLemmas.{HasPlace-rows_of}
 use Rattle.id_check.specs.declared.cause.CheckCause.{CheckCause}
-use Rattle.id_check.specs.declared.cause.CheckCause.TheVariants.{NoMain, MainKind, Duplicate, Unknown, WrongKind, TooManyParams, Memory}
-use Rattle.id_check.specs.Scopes.{binder_in, binds, bound_name, is_name, keeps, held}
-use Rattle.id_check.specs.Kinds.{AreKinds, Nowhere, in_nothing, link_at, link_of, unary_kind}
-use Rattle.id_check.specs.Causes.{HasFirst, IsInside, IsRefusedFor, array_param, causes, causes_below, causes_in, duplicates, is_array_param, repeated, same_kind, second, seconds, unknown, unless_found, wrong, wrong_arm, wrong_both, wrong_equals, wrong_operands, wrong_params}
+use Rattle.id_check.specs.declared.cause.CheckCause.TheVariants.{NoMain, MainKind, Duplicate, Unknown, WrongCount, WrongKind, TooManyParams, Memory}
+use Rattle.id_check.specs.Scopes.{binder_in, binds, bound_name, is_name, keeps, held, user_of}
+use Rattle.id_check.specs.Kinds.{AreKinds, Link, Nowhere, in_nothing, link_at, link_of, unary_kind}
+use Rattle.id_check.specs.Causes.{HasFirst, IsInside, IsRefusedFor, array_param, callee, causes, causes_below, causes_in, count_at, duplicates, is_count, is_array_param, repeated, same_kind, second, seconds, unknown, unless_found, wrong, wrong_argument, wrong_both, wrong_count, wrong_equals, wrong_like, wrong_operands, wrong_params}
 use Rattle.id_check.proofs.LinksLemmas.{part_of}
 use Rattle.id_check.proofs.ScopesLemmas.{binder_in-below, first_of-some}
 
@@ -35,6 +35,7 @@ IsStanding R NoMain = ⊥
 IsStanding R (MainKind e) = IsThingAt R e
 IsStanding R (Duplicate e first) = IsThingAt R e × IsThingAt R first
 IsStanding R (Unknown e) = IsThingAt R e
+IsStanding R (WrongCount e) = IsThingAt R e
 IsStanding R (WrongKind e wanted found) = IsThingAt R e
 IsStanding R (TooManyParams e) = IsThingAt R e
 IsStanding R Memory = ⊥
@@ -111,10 +112,15 @@ kinded_thing R β κ a k h less e = by (at R a).node refl
     never : link_at R β a ≡ Nowhere → ⊥
     never f = let d : None ≡ Some k = sym (h.ends a None less (in_nothing f)) ∙ e in cc
 
+    gone : ℕ → Node → Link
+    gone i n = link_of (β (user_of i n)) n
+
     by : (n : Node) → (at R a).node ≡ n → is_thing n ≡ true
-    by Head f = absurd (never (ap (link_of (β a)) f))
-    by (Split t) f = absurd (never (ap (link_of (β a)) f))
-    by Program f = absurd (never (ap (link_of (β a)) f))
+    by Head f = absurd (never (ap (gone a) f))
+    by (Split t) f = absurd (never (ap (gone a) f))
+    by (Enter x) f = absurd (never (ap (gone a) f))
+    by (Arg s j v) f = absurd (never (ap (gone a) f))
+    by Program f = absurd (never (ap (gone a) f))
     by _ f = refl
 
 wrong_standing : (R : List Row) (β : ℕ → Option ℕ) (κ : ℕ → Option Kind) (wanted : Kind) (a : ℕ) (c : CheckCause) → AreKinds R β κ → a < length R → Among c (wrong R κ wanted a) → IsStanding R c
@@ -142,10 +148,10 @@ equals_standing R β κ a b c h low less (Some Int) e g = wrong_standing R β κ
 equals_standing R β κ a b c h low less (Some Bool) e g = wrong_standing R β κ Bool b c h less g
 equals_standing R β κ a b c h low less (Some Array) e g = one R c (WrongKind (at R a).place Int Array) (a, low, kinded_thing R β κ a Array h low e, refl) g
 
-arm_standing : (R : List Row) (β : ℕ → Option ℕ) (κ : ℕ → Option Kind) (b : ℕ) (c : CheckCause) → AreKinds R β κ → b < length R
-    → (o : Option Kind) → Among c (wrong_arm R κ o b) → IsStanding R c
-arm_standing R β κ b c h less None g = absurd g
-arm_standing R β κ b c h less (Some k) g = wrong_standing R β κ k b c h less g
+like_standing : (R : List Row) (β : ℕ → Option ℕ) (κ : ℕ → Option Kind) (b : ℕ) (c : CheckCause) → AreKinds R β κ → b < length R
+    → (o : Option Kind) → Among c (wrong_like R κ o b) → IsStanding R c
+like_standing R β κ b c h less None g = absurd g
+like_standing R β κ b c h less (Some k) g = wrong_standing R β κ k b c h less g
 
 operands_standing : (R : List Row) (β : ℕ → Option ℕ) (κ : ℕ → Option Kind) (p : BinaryOp) (a b : ℕ) (c : CheckCause) → AreKinds R β κ → a < length R → b < length R
     → Among c (wrong_operands R κ p a b) → IsStanding R c
@@ -193,15 +199,41 @@ array_standing R (x ∷ xs) c h a = by (is_array_param (at R x).node) a (array_s
 
 -- ---- each row
 
-causes_in_standing : (R : List Row) (β : ℕ → Option ℕ) (κ : ℕ → Option Kind) (i : ℕ) (c : CheckCause) → IsFormed R → AreKinds R β κ → i < length R
-    → Among c (causes_in R κ (β i) (at R i).place (at R i).node) → IsStanding R c
-causes_in_standing R β κ i c f h less a = by (at R i).node refl a
+count_standing : (R : List Row) (o : Option ℕ) (n e : ℕ) (c : CheckCause) → IsThingAt R e → Among c (wrong_count R o n e) → IsStanding R c
+count_standing R None n e c t b = absurd b
+count_standing R (Some h) n e c t b = by (nat_eq n (length (params_at R h))) b
   where
+    by : (q : Truth) → Among c (if q then [] else (WrongCount e ∷ [])) → IsStanding R c
+    by true b = absurd b
+    by false b = one R c (WrongCount e) t b
+
+argument_standing : (R : List Row) (β : ℕ → Option ℕ) (κ : ℕ → Option Kind) (o n : Option ℕ) (k v : ℕ) (c : CheckCause) → AreKinds R β κ → v < length R
+    → Among c (wrong_argument R κ o n k v) → IsStanding R c
+argument_standing R β κ None n k v c t less b = absurd b
+argument_standing R β κ (Some h) n k v c t less b = by (is_count R h n) b
+  where
+    by : (q : Truth) → Among c (if q then wrong_like R κ (κ (h + 1 + k)) v else []) → IsStanding R c
+    by true b = like_standing R β κ v c t less (κ (h + 1 + k)) b
+    by false b = absurd b
+
+causes_in_standing : (R : List Row) (β : ℕ → Option ℕ) (κ : ℕ → Option Kind) (i : ℕ) (c : CheckCause) → IsTable R → AreKinds R β κ → i < length R
+    → Among c (causes_in R κ (β (user_of i (at R i).node)) (at R i).place (at R i).node) → IsStanding R c
+causes_in_standing R β κ i c t h less a = by (at R i).node refl a
+  where
+    f : IsFormed R
+    f = t.formed
+
     here : is_thing (at R i).node ≡ true → IsThingAt R (at R i).place
     here t = (i, less, t, refl)
 
-    no_binder : (o : Option ℕ) → is_thing (at R i).node ≡ true → Among c (unknown o (at R i).place) → IsStanding R c
-    no_binder None t b = one R c (Unknown (at R i).place) (here t) b
+    -- a call stands where its `Enter` does
+    call_here : (x : ℕ) → (at R i).node ≡ Enter x → IsThingAt R (at R i).place
+    call_here x e =
+        let w = t.has_call i x less e in
+        (w.0, w.1.within, ap is_thing w.1.node, sym (t.enter_of w.0 i w.1).place)
+
+    no_binder : (o : Option ℕ) → IsThingAt R (at R i).place → Among c (unknown o (at R i).place) → IsStanding R c
+    no_binder None t b = one R c (Unknown (at R i).place) t b
     no_binder (Some z) t b = absurd b
 
     main : (t : Truth) (d : ℕ) → Among c (if t then array_param R (params_at R d) else []) → IsStanding R c
@@ -212,12 +244,15 @@ causes_in_standing R β κ i c f h less a = by (at R i).node refl a
     many true e b = one R c (TooManyParams (at R i).place) (here e) b
     many false e b = absurd b
 
-    by : (n : Node) → (at R i).node ≡ n → Among c (causes_in R κ (β i) (at R i).place n) → IsStanding R c
-    by (Name x) e b = no_binder (β i) (ap is_thing e) b
+    by : (n : Node) → (at R i).node ≡ n → Among c (causes_in R κ (β (user_of i n)) (at R i).place n) → IsStanding R c
+    by (Name x) e b = no_binder (β i) (here (ap is_thing e)) b
+    by (Enter x) e b = no_binder (β i) (call_here x e) b
+    by (Arg s k v) e b = argument_standing R β κ (callee R (β s)) (count_at R (length R) s) k v c h (part_of v f less e (inr refl)) b
+    by (Call s n) e b = count_standing R (callee R (β s)) n (at R i).place c (here (ap is_thing e)) b
     by (Unary p a) e b = wrong_standing R β κ (unary_kind p) a c h (part_of a f less e refl) b
     by (Binary p x y) e b = operands_standing R β κ p x y c h (part_of x f less e (inl refl)) (part_of y f less e (inr refl)) b
     by (Split t) e b = wrong_standing R β κ Bool t c h (part_of t f less e refl) b
-    by (If s x y) e b = arm_standing R β κ y c h (part_of y f less e (inr (inr refl))) (κ x) b
+    by (If s x y) e b = like_standing R β κ y c h (part_of y f less e (inr (inr refl))) (κ x) b
     by (Def x d k y) e b = elim (Among-either c (wrong R κ k y) (wrong_params R x (at R i).place (params_at R d)) b) [
       | inl g ↦ wrong_standing R β κ k y c h (part_of y f less e (inr refl)) g
       | inr g ↦ elim (Among-either c (if nat_eq x 0 then array_param R (params_at R d) else []) (if nat_lt 16 (length (params_at R d)) then (TooManyParams (at R i).place ∷ []) else []) g) [
@@ -227,15 +262,15 @@ causes_in_standing R β κ i c f h less a = by (at R i).node refl a
     ]
     by _ e b = absurd b
 
-below_standing : (R : List Row) (β : ℕ → Option ℕ) (κ : ℕ → Option Kind) (n : ℕ) (c : CheckCause) → IsFormed R → AreKinds R β κ → n ≤ length R → Among c (causes_below R β κ n) → IsStanding R c
+below_standing : (R : List Row) (β : ℕ → Option ℕ) (κ : ℕ → Option Kind) (n : ℕ) (c : CheckCause) → IsTable R → AreKinds R β κ → n ≤ length R → Among c (causes_below R β κ n) → IsStanding R c
 below_standing R β κ zero c f h less a = absurd a
-below_standing R β κ (suc n) c f h less a = elim (Among-either c (causes_below R β κ n) (causes_in R κ (β n) (at R n).place (at R n).node) a) [
+below_standing R β κ (suc n) c f h less a = elim (Among-either c (causes_below R β κ n) (causes_in R κ (β (user_of n (at R n).node)) (at R n).place (at R n).node) a) [
   | inl b ↦ below_standing R β κ n c f h (omega arith) b
   | inr b ↦ causes_in_standing R β κ n c f h (omega arith) b
 ]
 
 -- a cause in a program is at the places of things
-pub causes_standing : (R : List Row) (β : ℕ → Option ℕ) (κ : ℕ → Option Kind) (c : CheckCause) → IsFormed R → AreKinds R β κ → Among c (causes R β κ) → IsStanding R c
+pub causes_standing : (R : List Row) (β : ℕ → Option ℕ) (κ : ℕ → Option Kind) (c : CheckCause) → IsTable R → AreKinds R β κ → Among c (causes R β κ) → IsStanding R c
 causes_standing R β κ c f h a = elim (Among-either c (duplicates R (length R)) (causes_below R β κ (length R)) a) [
   | inl b ↦ duplicates_standing R (length R) c (omega arith) b
   | inr b ↦ below_standing R β κ (length R) c f h (omega arith) b
@@ -243,11 +278,12 @@ causes_standing R β κ c f h a = elim (Among-either c (duplicates R (length R))
 
 -- ---- the first cause
 
-pub IsRefusedFor-first : (R : List Row) (c : CheckCause) → IsFormed R → HasFirst R c → IsRefusedFor R c
+pub IsRefusedFor-first : (R : List Row) (c : CheckCause) → IsTable R → HasFirst R c → IsRefusedFor R c
 IsRefusedFor-first R NoMain f h = absurd (causes_standing R h.binders h.kinds NoMain f h.are_kinds h.first.among)
 IsRefusedFor-first R (MainKind e) f h = h
 IsRefusedFor-first R (Duplicate e d) f h = h
 IsRefusedFor-first R (Unknown e) f h = h
+IsRefusedFor-first R (WrongCount e) f h = h
 IsRefusedFor-first R (WrongKind e k j) f h = h
 IsRefusedFor-first R (TooManyParams e) f h = h
 IsRefusedFor-first R Memory f h = tt
@@ -255,15 +291,16 @@ IsRefusedFor-first R Memory f h = tt
 has_place : (t : Tree) (e : ℕ) → IsThingAt (rows_of t) e → HasPlace t e
 has_place t e w = subst (HasPlace t) w.3 (HasPlace-rows_of t w.0 w.1 w.2)
 
-standing : (R : List Row) (c : CheckCause) → IsFormed R → HasFirst R c → IsStanding R c
+standing : (R : List Row) (c : CheckCause) → IsTable R → HasFirst R c → IsStanding R c
 standing R c f h = causes_standing R h.binders h.kinds c f h.are_kinds h.first.among
 
 -- a program is refused for a cause at places of its tree
-pub IsInside-refused : (t : Tree) (c : CheckCause) → IsFormed (rows_of t) → IsRefusedFor (rows_of t) c → IsInside t c
+pub IsInside-refused : (t : Tree) (c : CheckCause) → IsTable (rows_of t) → IsRefusedFor (rows_of t) c → IsInside t c
 IsInside-refused t NoMain f h = tt
 IsInside-refused t (MainKind e) f h = has_place t e (standing (rows_of t) (MainKind e) f h)
 IsInside-refused t (Duplicate e d) f h = let w = standing (rows_of t) (Duplicate e d) f h in (has_place t e w.0, has_place t d w.1)
 IsInside-refused t (Unknown e) f h = has_place t e (standing (rows_of t) (Unknown e) f h)
+IsInside-refused t (WrongCount e) f h = has_place t e (standing (rows_of t) (WrongCount e) f h)
 IsInside-refused t (WrongKind e k j) f h = has_place t e (standing (rows_of t) (WrongKind e k j) f h)
 IsInside-refused t (TooManyParams e) f h = has_place t e (standing (rows_of t) (TooManyParams e) f h)
 IsInside-refused t Memory f h = tt

@@ -7,13 +7,13 @@ use Rattle.std.proofs.lemmas.Bool.Decides.{nat_tests}
 use Rattle.std.proofs.lemmas.List.{get_or_default, length-set}
 use Rattle.id_parts.specs.declared.row.Row.{Row}
 use Rattle.id_parts.specs.declared.row.Node.{Node}
-use Rattle.id_parts.specs.declared.row.Node.TheVariants.{Name, Block, Def}
+use Rattle.id_parts.specs.declared.row.Node.TheVariants.{Name, Enter}
 use Rattle.id_parts.specs.Rows.{at}
 use Rattle.id_parts.specs.Tables.{around}
 use Rattle.id_check.specs.declared.scope.Bound.{Bound}
 use Rattle.id_check.specs.Scopes.{binder_at, binder_in, binds, bound_name, held, is_free, is_name, keeps, looks, sees, used_name}
 use Rattle.id_check.specs.Causes.{repeated, second, seconds}
-use Rattle.id_check.specs.Names.{AreBound, AreHeld, AreNames, IsBinding, IsFresh, IsOpen, IsTaking, again, given, in_scope, newly, seen}
+use Rattle.id_check.specs.Names.{AreBound, AreHeld, AreNames, IsBinding, IsFresh, IsOpen, IsTaking, again, in_scope, newly, seen}
 use Rattle.id_check.proofs.FillsLemmas.{fill_done, fill_rest}
 use Rattle.id_check.proofs.ScopesLemmas.{binder_at-step, binder_in-open, binder_in-shut, binds_open, binds_none, binds_shut, keeps_behind, keeps_unbound, name_same, or_false, or_first, or_none, or_true, second-open, seconds-shut}
 
@@ -130,28 +130,21 @@ shut_between R s k b ps h less before behind = by (held R b s) refl (bound_name 
 binder_in-bound : (R : List Row) (s x b a : ℕ) → binder_in R s x b ≡ Some a → binder_in R s x (suc b) ≡ binder_in R s x b
 binder_in-bound R s x b a e = ap (λ o. option_or o (if binds R s x b then Some b else None)) e ∙ sym e
 
-used-name : (n : Node) (y : ℕ) → used_name n ≡ Some y → n ≡ Name y
-used-name (Name x) y e = let d : Some x ≡ Some y = e in let f : x ≡ y = same x y d in ap (λ z. Name z) f
-  where
-    same : (x y : ℕ) → Some x ≡ Some y → x ≡ y
-    same x y d = cc
-used-name _ y e = let d : None ≡ Some y = e in cc
-
--- whether a part looks for a name does not hang on the name
-looks_same : (m : Node) (x y : ℕ) → looks m (Name x) ≡ looks m (Name y)
-looks_same (Block b) x y = refl
-looks_same (Def z h k b) x y = refl
-looks_same _ x y = refl
+-- a use binds nothing
+use_free : (n : Node) (y : ℕ) → used_name n ≡ Some y → is_free (bound_name n) ≡ true
+use_free (Name x) y e = refl
+use_free (Enter x) y e = refl
+use_free _ y e = let d : None ≡ Some y = e in cc
 
 and_true : (a : Bool) → (a && true) ≡ a
 and_true true = refl
 and_true false = refl
 
--- a use sees what a scope round it binds, where that looks for names
-sees_use : (R : List Row) (s i y : ℕ) → used_name (at R i).node ≡ Some y → sees R s i ≡ (looks (at R s).node (Name y) && around R s i)
+-- a use sees what a scope round it binds, where that looks for it
+sees_use : (R : List Row) (s i y : ℕ) → used_name (at R i).node ≡ Some y → sees R s i ≡ (looks (at R s).node (at R i).node && around R s i)
 sees_use R s i y e =
-    let n = used-name (at R i).node y e in
-    ap (λ z. (looks (at R s).node z && around R s i) && (is_free (bound_name z) || held R i s)) n ∙ and_true (looks (at R s).node (Name y) && around R s i)
+    ap (λ t. (looks (at R s).node (at R i).node && around R s i) && (t || held R i s)) (use_free (at R i).node y e)
+    ∙ and_true (looks (at R s).node (at R i).node && around R s i)
 
 is_name-not : (x y : ℕ) → y ≢ x → is_name y (Some x) ≡ false
 is_name-not x y e = grind (arith, nat_tests)
@@ -159,75 +152,70 @@ is_name-not x y e = grind (arith, nat_tests)
 is_name-other : (x y : ℕ) → y ≢ x → is_name x (Some y) ≡ false
 is_name-other x y e = grind (arith, nat_tests)
 
+-- whether the row i looks in s for its binder
+abbrev looking : List Row → ℕ → ℕ → Bool
+looking R s i = looks (at R s).node (at R i).node && around R s i
+
 -- what a row gets where the row b binds x in s
 seen_more : (R : List Row) (s b x i : ℕ) (bs : List (Option Bound)) (p : Option ℕ) → keeps R s b ≡ true → held R b s ≡ false → bound_name (at R b).node ≡ Some x
     → in_scope s (get_or bs x None) ≡ binder_in R s x b → (o : Option ℕ) → used_name (at R i).node ≡ o
     → option_or (option_or p (seen R s b i o)) (newly R s b bs (Some x) i) ≡ option_or p (seen R s (suc b) i o)
 seen_more R s b x i bs p is bare bound noted None e =
-    or_none (option_or p None) (newly R s b bs (Some x) i) (out (is_free (in_scope s (get_or bs x None)) && looks (at R s).node (Name x)))
+    or_none (option_or p None) (newly R s b bs (Some x) i)
+    (ap (λ o. if is_free (in_scope s (get_or bs x None)) && ((looks (at R s).node (at R i).node && around R s i) && is_name x o) then Some b else None) e
+    ∙ ap (λ t. if t then Some b else None) (and_last (is_free (in_scope s (get_or bs x None))) (looks (at R s).node (at R i).node && around R s i)))
   where
-    out : (t : Bool) → (if t then given R s x b i else None) ≡ None
-    out true = ap (λ o. if is_name x o && around R s i then Some b else None) e
-    out false = refl
+    and_last : (a c : Bool) → a && (c && false) ≡ false
+    and_last true true = refl
+    and_last true false = refl
+    and_last false c = refl
 seen_more R s b x i bs p is bare bound noted (Some y) e = one (cases_eq y x)
   where
     bind : (z : ℕ) → binds R s z b ≡ is_name z (Some x)
     bind z = binds_open R s z b is bare ∙ ap (is_name z) bound
 
-    new : option_or (option_or p (seen R s b i (Some y))) (newly R s b bs (Some x) i)
-        ≡ option_or (option_or p (if (looks (at R s).node (Name y) && around R s i) then binder_in R s y b else None))
-        (if is_free (binder_in R s x b) && looks (at R s).node (Name x) then (if is_name x (Some y) && around R s i then Some b else None) else None)
-    new =
+    -- what the row gets in the end, by the tests of names
+    both : (f g : Bool) → is_name x (Some y) ≡ f → is_name y (Some x) ≡ g
+        → option_or (option_or p (if looking R s i then binder_in R s y b else None)) (if is_free (binder_in R s x b) && (looking R s i && f) then Some b else None)
+        ≡ option_or p (if looking R s i then option_or (binder_in R s y b) (if g then Some b else None) else None)
+        → option_or (option_or p (seen R s b i (Some y))) (newly R s b bs (Some x) i) ≡ option_or p (seen R s (suc b) i (Some y))
+    both f g d k q =
         ap (λ t. option_or (option_or p (if t then binder_in R s y b else None)) (newly R s b bs (Some x) i)) (sees_use R s i y e)
-        ∙ (ap (λ o. option_or (option_or p (if (looks (at R s).node (Name y) && around R s i) then binder_in R s y b else None))
-        (if is_free o && looks (at R s).node (Name x) then given R s x b i else None)) noted
-        ∙ ap (λ o. option_or (option_or p (if (looks (at R s).node (Name y) && around R s i) then binder_in R s y b else None))
-        (if is_free (binder_in R s x b) && looks (at R s).node (Name x) then (if is_name x o && around R s i then Some b else None) else None)) e)
-
-    old : option_or p (seen R s (suc b) i (Some y)) ≡ option_or p (if (looks (at R s).node (Name y) && around R s i) then option_or (binder_in R s y b) (if is_name y (Some x) then Some b else None) else None)
-    old =
-        ap (λ t. option_or p (if t then binder_in R s y (suc b) else None)) (sees_use R s i y e)
-        ∙ ap (λ t. option_or p (if (looks (at R s).node (Name y) && around R s i) then option_or (binder_in R s y b) (if t then Some b else None) else None)) (bind y)
+        ∙ ap (λ o. option_or (option_or p (if looking R s i then binder_in R s y b else None)) (if is_free o && (looking R s i && is_name x (used_name (at R i).node)) then Some b else None)) noted
+        ∙ ap (λ t. option_or (option_or p (if looking R s i then binder_in R s y b else None)) (if is_free (binder_in R s x b) && (looking R s i && t) then Some b else None))
+        (ap (is_name x) e ∙ d)
+        ∙ q
+        ∙ ap (λ t. option_or p (if looking R s i then option_or (binder_in R s y b) (if t then Some b else None) else None)) (sym (bind y ∙ k))
+        ∙ ap (λ t. option_or p (if t then binder_in R s y (suc b) else None)) (sym (sees_use R s i y e))
 
     -- the names differ
-    other : (l r : Bool) (o : Option ℕ) (q : Option ℕ) (f g : Bool) → f ≡ false → g ≡ false
-        → (m : Bool) → option_or (option_or p (if (l && r) then o else None)) (if m then (if f && r then Some b else None) else None)
-        ≡ option_or p (if (l && r) then option_or o (if g then Some b else None) else None)
-    other l r o q f g d k m =
-        or_none (option_or p (if (l && r) then o else None)) (if m then (if f && r then Some b else None) else None) (gone m (ap (λ t. if t && r then Some b else None) d))
-        ∙ sym (ap (λ z. option_or p (if (l && r) then z else None)) (or_none o (if g then Some b else None) (ap (λ t. if t then Some b else None) k)))
-      where
-        gone : (m : Bool) → (if f && r then Some b else None) ≡ None → (if m then (if f && r then Some b else None) else None) ≡ None
-        gone true z = z
-        gone false z = refl
+    other : (l q : Bool) (o : Option ℕ) → option_or (option_or p (if l then o else None)) (if q && (l && false) then Some b else None)
+        ≡ option_or p (if l then option_or o None else None)
+    other true true o = or_none (option_or p o) None refl ∙ ap (option_or p) (sym (or_none o None refl))
+    other true false o = or_none (option_or p o) None refl ∙ ap (option_or p) (sym (or_none o None refl))
+    other false true o = or_none (option_or p None) None refl
+    other false false o = or_none (option_or p None) None refl
 
     -- the name is x
-    mine : (l r : Bool) (p o : Option ℕ) → option_or (option_or p (if (l && r) then o else None)) (if is_free o && l then (if r then Some b else None) else None)
-        ≡ option_or p (if (l && r) then option_or o (Some b) else None)
-    mine true true None None = refl
-    mine true true None (Some a) = refl
-    mine true true (Some z) o = refl
-    mine true false None None = refl
-    mine true false None (Some a) = refl
-    mine true false (Some z) o = refl
-    mine false r None None = refl
-    mine false r None (Some a) = refl
-    mine false r (Some z) o = refl
+    mine : (l : Bool) (p o : Option ℕ) → option_or (option_or p (if l then o else None)) (if is_free o && (l && true) then Some b else None)
+        ≡ option_or p (if l then option_or o (Some b) else None)
+    mine true None None = refl
+    mine true None (Some a) = refl
+    mine true (Some z) None = refl
+    mine true (Some z) (Some a) = refl
+    mine false None None = refl
+    mine false None (Some a) = refl
+    mine false (Some z) None = refl
+    mine false (Some z) (Some a) = refl
 
     one : (y ≡ x) ⊎ (y ≢ x) → option_or (option_or p (seen R s b i (Some y))) (newly R s b bs (Some x) i) ≡ option_or p (seen R s (suc b) i (Some y))
-    one (inr d) = new ∙ (other (looks (at R s).node (Name y)) (around R s i) (binder_in R s y b) None (is_name x (Some y)) (is_name y (Some x)) (is_name-other x y d) (is_name-not x y d)
-        (is_free (binder_in R s x b) && looks (at R s).node (Name x)) ∙ sym old)
+    one (inr d) = both false false (is_name-other x y d) (is_name-not x y d) (other (looking R s i) (is_free (binder_in R s x b)) (binder_in R s y b))
     one (inl d) =
-        new
-        ∙ (ap (λ t. option_or (option_or p (if (looks (at R s).node (Name y) && around R s i) then binder_in R s y b else None))
-        (if is_free (binder_in R s x b) && looks (at R s).node (Name x) then (if t && around R s i then Some b else None) else None)) (ap (λ z. is_name x (Some z)) d ∙ name_same x)
-        ∙ (ap (λ l. option_or (option_or p (if (looks (at R s).node (Name y) && around R s i) then binder_in R s y b else None))
-        (if is_free (binder_in R s x b) && l then (if around R s i then Some b else None) else None)) (looks_same (at R s).node x y)
-        ∙ (ap (λ z. option_or (option_or p (if (looks (at R s).node (Name y) && around R s i) then binder_in R s y b else None))
-        (if is_free (binder_in R s z b) && looks (at R s).node (Name y) then (if around R s i then Some b else None) else None)) (sym d)
-        ∙ (mine (looks (at R s).node (Name y)) (around R s i) p (binder_in R s y b)
-        ∙ (ap (λ t. option_or p (if (looks (at R s).node (Name y) && around R s i) then option_or (binder_in R s y b) (if t then Some b else None) else None)) (sym (ap (λ z. is_name z (Some x)) d ∙ name_same x))
-        ∙ sym old)))))
+        let same = ap (λ z. is_name x (Some z)) d ∙ name_same x in
+        let also = ap (λ z. is_name z (Some x)) d ∙ name_same x in
+        both true true same also
+        (subst (λ z. option_or (option_or p (if looking R s i then binder_in R s y b else None)) (if is_free (binder_in R s z b) && (looking R s i && true) then Some b else None)
+        ≡ option_or p (if looking R s i then option_or (binder_in R s y b) (Some b) else None)) d (mine (looking R s i) p (binder_in R s y b)))
 
 newly-none : (R : List Row) (s b i : ℕ) (bs : List (Option Bound)) (o : Option ℕ) → o ≡ None → newly R s b bs o i ≡ None
 newly-none R s b i bs None e = refl

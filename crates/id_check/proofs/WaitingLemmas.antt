@@ -8,8 +8,8 @@ use Rattle.std.proofs.lemmas.List.{length-set, get_or-set_same, get_or-set_other
 use Rattle.id_parts.specs.declared.row.Row.{Row}
 use Rattle.id_parts.specs.Rows.{at}
 use Rattle.id_parts.specs.Tables.{around}
-use Rattle.id_check.specs.Scopes.{is_free, is_name, used_name}
-use Rattle.id_check.specs.Names.{AreWaiting, given, is_waiting, last_of, not_before, reach}
+use Rattle.id_check.specs.Scopes.{is_free, is_name}
+use Rattle.id_check.specs.Names.{AreWaiting, given, is_waiting, key_of, last_of, not_before, reach}
 
 -- ---- the last number of which something is true
 
@@ -81,17 +81,17 @@ is_name-once x y (Some z) e d = grind (arith, nat_tests)
 -- a row waits for one name
 waits_once : (R : List Row) (os : List (Option ℕ)) (x y u : ℕ) → is_waiting R os x u ≡ true → y ≢ x → is_waiting R os y u ≡ false
 waits_once R os x y u e d =
-    and_none (is_name y (used_name (at R u).node)) (is_free (get_or os u None))
-    (is_name-once x y (used_name (at R u).node) (and_first (is_name x (used_name (at R u).node)) (is_free (get_or os u None)) e) d)
+    and_none (is_name y (key_of (at R u).node)) (is_free (get_or os u None))
+    (is_name-once x y (key_of (at R u).node) (and_first (is_name x (key_of (at R u).node)) (is_free (get_or os u None)) e) d)
 
 -- another row waits as before
 waits_other : (R : List Row) (os : List (Option ℕ)) (o : Option ℕ) (y u v : ℕ) → v ≢ u → is_waiting R (set os u o) y v ≡ is_waiting R os y v
-waits_other R os o y u v d = ap (λ p. is_name y (used_name (at R v).node) && is_free p) (get_or-set_other os u v o None d)
+waits_other R os o y u v d = ap (λ p. is_name y (key_of (at R v).node) && is_free p) (get_or-set_other os u v o None d)
 
 -- the row waits no more
 waits_not : (R : List Row) (os : List (Option ℕ)) (b y u : ℕ) → u < length os → is_waiting R (set os u (Some b)) y u ≡ false
 waits_not R os b y u less =
-    and_never (is_name y (used_name (at R u).node)) (is_free (get_or (set os u (Some b)) u None)) (ap is_free (get_or-set_same os u (Some b) None less))
+    and_never (is_name y (key_of (at R u).node)) (is_free (get_or (set os u (Some b)) u None)) (ap is_free (get_or-set_same os u (Some b) None less))
 
 not_true : (t : Bool) → (t ≡ true → ⊥) → t ≡ false
 not_true true h = absurd (h refl)
@@ -148,7 +148,7 @@ waiting_set R n m x u b os ls es fit less e h = record {
 
 -- ---- one more use waits
 
-pub waiting_more : (R : List Row) (n m x : ℕ) (os ls es : List (Option ℕ)) → n < length R → x < m → used_name (at R n).node ≡ Some x → get_or os n None ≡ None
+pub waiting_more : (R : List Row) (n m x : ℕ) (os ls es : List (Option ℕ)) → n < length R → x < m → key_of (at R n).node ≡ Some x → get_or os n None ≡ None
     → AreWaiting R n m os ls es → AreWaiting R (n + 1) m os (set ls x (Some n)) (set es n (get_or ls x None))
 waiting_more R n m x os ls es fit less e free h = subst (λ k. AreWaiting R k m os (set ls x (Some n)) (set es n (get_or ls x None))) (sym (add-one n)) (record {
   long_binders = h.long_binders;
@@ -184,7 +184,7 @@ waiting_more R n m x os ls es fit less e free h = subst (λ k. AreWaiting R k m 
     earlier y v c d w (inr f) = get_or-set_other es n v (get_or ls x None) None f ∙ h.earlier y v c (omega arith) w
 
 -- the row uses no name
-pub waiting_same : (R : List Row) (n m : ℕ) (os ls es : List (Option ℕ)) → used_name (at R n).node ≡ None → AreWaiting R n m os ls es → AreWaiting R (n + 1) m os ls es
+pub waiting_same : (R : List Row) (n m : ℕ) (os ls es : List (Option ℕ)) → key_of (at R n).node ≡ None → AreWaiting R n m os ls es → AreWaiting R (n + 1) m os ls es
 waiting_same R n m os ls es e h = subst (λ k. AreWaiting R k m os ls es) (sym (add-one n)) (record {
   long_binders = h.long_binders;
   long_last = h.long_last;
@@ -266,14 +266,14 @@ pub given_set : (R : List Row) (s x b u i : ℕ) (ps os : List (Option ℕ)) →
     → IsGiven R s x b ps os i → IsGiven R s x b ps (set os u (Some b)) i
 given_set R s x b u i ps os behind below less e h = one (cases_eq i u) h
   where
-    name : is_name x (used_name (at R u).node) ≡ true
-    name = and_first (is_name x (used_name (at R u).node)) (is_free (get_or os u None)) e
+    name : is_name x (key_of (at R u).node) ≡ true
+    name = and_first (is_name x (key_of (at R u).node)) (is_free (get_or os u None)) e
 
     none : get_or os u None ≡ None
-    none = free_none (get_or os u None) (and_second (is_name x (used_name (at R u).node)) (is_free (get_or os u None)) e)
+    none = free_none (get_or os u None) (and_second (is_name x (key_of (at R u).node)) (is_free (get_or os u None)) e)
 
     it : given R s x b u ≡ Some b
-    it = ap (λ t. if t then Some b else None) (and_both (is_name x (used_name (at R u).node)) (around R s u) name (around_is R s u behind below))
+    it = ap (λ t. if t then Some b else None) (and_both (is_name x (key_of (at R u).node)) (around R s u) name (around_is R s u behind below))
 
     here : IsGiven R s x b ps os u → IsGiven R s x b ps (set os u (Some b)) u
     here (inl f) = inr (sym f ∙ none, it, get_or-set_same os u (Some b) None less)
@@ -289,11 +289,11 @@ pub given_all : (R : List Row) (s m x b i : ℕ) (ps os ls es : List (Option ℕ
 given_all R s m x b i ps os ls es less h e (inr g) = g.2 ∙ sym (ap (λ o. option_or o (given R s x b i)) g.0 ∙ g.1)
 given_all R s m x b i ps os ls es less h e (inl g) = g ∙ sym (stay (get_or ps i None) refl)
   where
-    none : get_or ps i None ≡ None → (is_name x (used_name (at R i).node) && around R s i) ≡ true → ⊥
+    none : get_or ps i None ≡ None → (is_name x (key_of (at R i).node) && around R s i) ≡ true → ⊥
     none f t =
-        let name = and_first (is_name x (used_name (at R i).node)) (around R s i) t in
-        let round = and_second (is_name x (used_name (at R i).node)) (around R s i) t in
-        let waits : is_waiting R os x i ≡ true = and_both (is_name x (used_name (at R i).node)) (is_free (get_or os i None)) name (ap is_free (g ∙ f)) in
+        let name = and_first (is_name x (key_of (at R i).node)) (around R s i) t in
+        let round = and_second (is_name x (key_of (at R i).node)) (around R s i) t in
+        let waits : is_waiting R os x i ≡ true = and_both (is_name x (key_of (at R i).node)) (is_free (get_or os i None)) name (ap is_free (g ∙ f)) in
         end (around_from R s i round) (around_below R s i round) waits (get_or ls x None) refl
       where
         end : (at R s).first ≤ i → i < s → is_waiting R os x i ≡ true → (o : Option ℕ) → get_or ls x None ≡ o → ⊥
@@ -303,5 +303,5 @@ given_all R s m x b i ps os ls es less h e (inl g) = g ∙ sym (stay (get_or ps 
             false≢true (sym ((last_of-some (is_waiting R os x) s u (sym (h.last x less) ∙ d)).2 i (omega arith) c) ∙ w)
 
     stay : (o : Option ℕ) → get_or ps i None ≡ o → option_or o (given R s x b i) ≡ o
-    stay None f = ap (λ t. if t then Some b else None) (not_true (is_name x (used_name (at R i).node) && around R s i) (none f))
+    stay None f = ap (λ t. if t then Some b else None) (not_true (is_name x (key_of (at R i).node) && around R s i) (none f))
     stay (Some z) f = refl

@@ -1,5 +1,5 @@
 -- Why a program is refused (docs/LANGUAGE.md, "Refusals").
-use Rattle.std.specs.Prelude.{◌≡◌, ◌⊎◌, ◌<◌, ◌≤◌, ℕ, zero, suc, Bool as Truth, true, false, List, [], ◌∷◌, ◌++◌, length}
+use Rattle.std.specs.Prelude.{◌≡◌, ◌⊎◌, ◌<◌, ◌≤◌, ◌+◌, ℕ, zero, suc, Bool as Truth, true, false, List, [], ◌∷◌, ◌++◌, length}
 use Rattle.std.specs.Prelude.{nat_eq, nat_lt, Option, None, Some, if◌then◌else◌}
 use Rattle.id_value.specs.declared.Kind.{Kind}
 use Rattle.id_value.specs.declared.Kind.TheVariants.{Int, Bool, Array}
@@ -8,7 +8,7 @@ use Rattle.id_value.specs.declared.BinaryOp.TheVariants as class
 use Rattle.id_value.specs.declared.Comparison.TheVariants.{Eq, Ne}
 use Rattle.id_parts.specs.declared.row.Row.{Row}
 use Rattle.id_parts.specs.declared.row.Node.{Node}
-use Rattle.id_parts.specs.declared.row.Node.TheVariants.{Param, Name, Unary, Binary, Split, If, Def}
+use Rattle.id_parts.specs.declared.row.Node.TheVariants.{Param, Name, Unary, Binary, Split, If, Enter, Arg, Call, Def}
 use Rattle.id_list.specs.List.{Among}
 use Rattle.id_tree.specs.Tree.{Tree}
 use Rattle.id_tree.specs.Distinct.{HasPlace}
@@ -16,8 +16,8 @@ use Rattle.id_parts.specs.Rows.{at}
 use Rattle.id_parts.specs.Turns.{params_at}
 use Rattle.id_check.specs.declared.cause.CheckCause.{CheckCause}
 use Rattle.id_check.specs.declared.cause.CheckCause.TheVariants.{NoMain, MainKind, Duplicate, Unknown, WrongKind}
-use Rattle.id_check.specs.declared.cause.CheckCause.TheVariants.{TooManyParams, Memory}
-use Rattle.id_check.specs.Scopes.{AreBinders, binder_in, binds, bound_name}
+use Rattle.id_check.specs.declared.cause.CheckCause.TheVariants.{WrongCount, TooManyParams, Memory}
+use Rattle.id_check.specs.Scopes.{AreBinders, binder_in, binds, bound_name, first_of, user_of}
 use Rattle.id_check.specs.Kinds.{AreKinds, unary_kind}
 
 -- the cause at a row that binds a name in s, where an earlier one of s is given
@@ -81,10 +81,45 @@ wrong_operands R κ (class.Comparison Ne) a b = wrong_equals R κ (κ a) a b
 wrong_operands R κ (class.Comparison o) a b = wrong_both R κ Int a b
 wrong_operands R κ (class.Logic o) a b = wrong_both R κ Bool a b
 
--- the causes in the `else` arm of a conditional, where the `then` arm has this kind
-abbrev pub wrong_arm : List Row → (ℕ → Option Kind) → Option Kind → ℕ → List CheckCause
-wrong_arm R κ None y = []
-wrong_arm R κ (Some k) y = wrong R κ k y
+-- the causes in a row of which the kind of another one is wanted, which has this kind
+abbrev pub wrong_like : List Row → (ℕ → Option Kind) → Option Kind → ℕ → List CheckCause
+wrong_like R κ None y = []
+wrong_like R κ (Some k) y = wrong R κ k y
+
+-- the head of the definition at a row of this node
+abbrev pub head_in : Node → Option ℕ
+head_in (Def x h k b) = Some h
+head_in _ = None
+
+-- the head of the procedure that is defined at this row
+abbrev pub callee : List Row → Option ℕ → Option ℕ
+callee R None = None
+callee R (Some b) = head_in (at R b).node
+
+-- how many arguments the call at a row of this node has, if its `Enter` is at the row e
+abbrev pub count_in : ℕ → Node → Option ℕ
+count_in e (Call f c) = if nat_eq f e then Some c else None
+count_in e _ = None
+
+-- that of the first such call among the first n rows
+abbrev pub count_at : List Row → ℕ → ℕ → Option ℕ
+count_at R n e = first_of (λ i. count_in e (at R i).node) n
+
+-- the cause in a call at a place, with c arguments, of the procedure with this head
+abbrev pub wrong_count : List Row → Option ℕ → ℕ → ℕ → List CheckCause
+wrong_count R None c e = []
+wrong_count R (Some h) c e = if nat_eq c (length (params_at R h)) then [] else (WrongCount e ∷ [])
+
+-- whether this is the number of the parameters of the procedure with the head h
+abbrev pub is_count : List Row → ℕ → Option ℕ → Truth
+is_count R h None = false
+is_count R h (Some c) = nat_eq c (length (params_at R h))
+
+-- the causes in the argument v of the index k in a call with so many arguments, of the procedure with this head: where
+-- their number is right, the kind of the parameter of the index is wanted, which stands right behind the head
+abbrev pub wrong_argument : List Row → (ℕ → Option Kind) → Option ℕ → Option ℕ → ℕ → ℕ → List CheckCause
+wrong_argument R κ None c k v = []
+wrong_argument R κ (Some h) c k v = if is_count R h c then wrong_like R κ (κ (h + 1 + k)) v else []
 
 -- whether an array is a parameter at a row of this node
 abbrev pub is_array_param : Node → Truth
@@ -102,22 +137,26 @@ abbrev pub wrong_params : List Row → ℕ → ℕ → List ℕ → List CheckCa
 wrong_params R x e ps =
     (if nat_eq x 0 then array_param R ps else []) ++ (if nat_lt 16 (length ps) then (TooManyParams e ∷ []) else [])
 
--- the causes in a row at a place, with this binder if it uses a name: of a predicate the kind `bool` is wanted, of an
--- `else` arm that of the `then` arm; a definition's are those in its parameters, and of its body the kind of the result
--- is wanted
+-- the causes in a row at a place, with this binder if it is about a name: of a predicate the kind `bool` is wanted, of
+-- an `else` arm that of the `then` arm; a definition's are those in its parameters, and of its body the kind of the
+-- result is wanted
 abbrev pub causes_in : List Row → (ℕ → Option Kind) → Option ℕ → ℕ → Node → List CheckCause
 causes_in R κ o e (Name x) = unknown o e
 causes_in R κ o e (Unary p a) = wrong R κ (unary_kind p) a
 causes_in R κ o e (Binary p a b) = wrong_operands R κ p a b
 causes_in R κ o e (Split t) = wrong R κ Bool t
-causes_in R κ o e (If s x y) = wrong_arm R κ (κ x) y
+causes_in R κ o e (If s x y) = wrong_like R κ (κ x) y
+causes_in R κ o e (Enter x) = unknown o e
+causes_in R κ o e (Arg s k v) = wrong_argument R κ (callee R o) (count_at R (length R) s) k v
+causes_in R κ o e (Call s c) = wrong_count R (callee R o) c e
 causes_in R κ o e (Def x h k b) = wrong R κ k b ++ wrong_params R x e (params_at R h)
 causes_in R κ o e _ = []
 
 -- the causes in the first n rows
 abbrev pub causes_below : List Row → (ℕ → Option ℕ) → (ℕ → Option Kind) → ℕ → List CheckCause
 causes_below R β κ zero = []
-causes_below R β κ (suc i) = causes_below R β κ i ++ causes_in R κ (β i) (at R i).place (at R i).node
+causes_below R β κ (suc i) =
+    causes_below R β κ i ++ causes_in R κ (β (user_of i (at R i).node)) (at R i).place (at R i).node
 
 -- all causes in a program, where β gives the names their binders and κ the rows their kinds
 abbrev pub causes : List Row → (ℕ → Option ℕ) → (ℕ → Option Kind) → List CheckCause
@@ -128,6 +167,7 @@ abbrev pub place_of : CheckCause → ℕ
 place_of (MainKind e) = e
 place_of (Duplicate e first) = e
 place_of (Unknown e) = e
+place_of (WrongCount e) = e
 place_of (WrongKind e wanted found) = e
 place_of (TooManyParams e) = e
 place_of NoMain = 0
@@ -139,6 +179,7 @@ number_of NoMain = 7
 number_of (MainKind e) = 8
 number_of (Duplicate e first) = 9
 number_of (Unknown e) = 10
+number_of (WrongCount e) = 11
 number_of (WrongKind e wanted found) = 12
 number_of (TooManyParams e) = 13
 number_of Memory = 0
@@ -158,6 +199,7 @@ IsInside t NoMain = Unit {0}
 IsInside t (MainKind e) = HasPlace t e
 IsInside t (Duplicate e first) = HasPlace t e × HasPlace t first
 IsInside t (Unknown e) = HasPlace t e
+IsInside t (WrongCount e) = HasPlace t e
 IsInside t (WrongKind e wanted found) = HasPlace t e
 IsInside t (TooManyParams e) = HasPlace t e
 IsInside t Memory = Unit {0}
@@ -198,6 +240,7 @@ IsRefusedFor R NoMain = HasNoCause R × HasNoMain R
 IsRefusedFor R (MainKind e) = HasFirst R (MainKind e)
 IsRefusedFor R (Duplicate e first) = HasFirst R (Duplicate e first)
 IsRefusedFor R (Unknown e) = HasFirst R (Unknown e)
+IsRefusedFor R (WrongCount e) = HasFirst R (WrongCount e)
 IsRefusedFor R (WrongKind e wanted found) = HasFirst R (WrongKind e wanted found)
 IsRefusedFor R (TooManyParams e) = HasFirst R (TooManyParams e)
 IsRefusedFor R Memory = Unit {0}

@@ -1,7 +1,7 @@
 -- That no two things of a tree have one place can be kept by a type: there is at most one proof of it.
 use Rattle.std.specs.Prelude.{ℕ}
 use Rattle.std.specs.Coded.{×_prop, Π_prop, →_prop, Unit-prop}
-use Rattle.id_tree.specs.Tree.{Tree, literal, unary, binary, name, conditional, block, binding, param, define}
+use Rattle.id_tree.specs.Tree.{Tree, literal, unary, binary, name, conditional, call, block, binding, param, define}
 use Rattle.id_tree.specs.Tree.{none, more}
 use Rattle.id_tree.specs.Distinct.{Apart, Distinct, HasPlace}
 
@@ -35,6 +35,7 @@ Distinct-prop (conditional t x y p) = λ d e i. (
   Distinct-prop x d.7 e.7 i,
   Distinct-prop y d.8 e.8 i,
 )
+Distinct-prop (call x a p) = ×_prop not-prop (Distinct-prop a)
 Distinct-prop (block a b p) = two-prop a b p (Distinct-prop a) (Distinct-prop b)
 Distinct-prop (binding x a p) = ×_prop not-prop (Distinct-prop a)
 Distinct-prop (param x k p) = Unit-prop

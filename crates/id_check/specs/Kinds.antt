@@ -11,8 +11,9 @@ use Rattle.id_value.specs.declared.BinaryOp.TheVariants as class
 use Rattle.id_parts.specs.declared.row.Row.{Row}
 use Rattle.id_parts.specs.declared.row.Node.{Node}
 use Rattle.id_parts.specs.declared.row.Node.TheVariants.{Head, Param, Literal, Name, Unary, Binary}
-use Rattle.id_parts.specs.declared.row.Node.TheVariants.{Split, If, Block, Binding, Def, Program}
+use Rattle.id_parts.specs.declared.row.Node.TheVariants.{Split, If, Enter, Arg, Call, Block, Binding, Def, Program}
 use Rattle.id_parts.specs.Rows.{at}
+use Rattle.id_check.specs.Scopes.{user_of}
 pub use Rattle.id_check.specs.declared.kinds.Link.{Link}
 pub use Rattle.id_check.specs.declared.kinds.Link.TheVariants.{Fixed, To, Nowhere}
 
@@ -37,7 +38,8 @@ abbrev pub link_of_name : Option ℕ → Link
 link_of_name None = Nowhere
 link_of_name (Some b) = To b
 
--- where the chain of a row goes on, which has this binder if it is a name
+-- where the chain of a row goes on, which has this binder if it is about a name: that of a call to its procedure's
+-- definition
 abbrev pub link_of : Option ℕ → Node → Link
 link_of o Head = Nowhere
 link_of o (Param x k) = Fixed k
@@ -47,6 +49,9 @@ link_of o (Unary p a) = Fixed (unary_kind p)
 link_of o (Binary p a b) = Fixed (binary_kind p)
 link_of o (Split t) = Nowhere
 link_of o (If s x y) = To x
+link_of o (Enter x) = Nowhere
+link_of o (Arg e i v) = Nowhere
+link_of o (Call e c) = link_of_name o
 link_of o (Block b) = To b
 link_of o (Binding x a) = To a
 link_of o (Def x h k b) = Fixed k
@@ -54,7 +59,7 @@ link_of o Program = Nowhere
 
 -- where the chain of the row goes on, where β gives the names their binders
 abbrev pub link_at : List Row → (ℕ → Option ℕ) → ℕ → Link
-link_at R β i = link_of (β i) (at R i).node
+link_at R β i = link_of (β (user_of i (at R i).node)) (at R i).node
 
 -- the chain of the row i ends so, where l says how each goes on
 pub data EndsIn (l : ℕ → Link) : ℕ → Option Kind → Type 0 where

@@ -6,6 +6,7 @@ pub mod Programs
 pub mod Kept
 -- For use inside.
 pub mod Chains
+pub mod Counts
 pub mod Firsts
 pub mod Names
 pub mod Tallies

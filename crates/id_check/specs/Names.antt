@@ -1,9 +1,10 @@
 -- What is known of the names while the scopes are passed, innermost first, for use inside.
-use Rattle.std.specs.Prelude.{◌≡◌, ℕ, zero, suc, ◌<◌, ◌≤◌, Bool, true, false, ◌&&◌, ◌||◌, ◌==◌, List, []}
+use Rattle.std.specs.Prelude.{◌≡◌, ℕ, zero, suc, ◌+◌, ◌<◌, ◌≤◌, Bool, true, false, ◌&&◌, ◌||◌, ◌==◌, List, []}
 use Rattle.std.specs.Prelude.{length, get_or, nat_le, Option, None, Some, if◌then◌else◌}
 use Rattle.std.specs.Option.{option_or}
 use Rattle.id_parts.specs.declared.row.Row.{Row}
-use Rattle.id_parts.specs.declared.row.Node.TheVariants.{Name}
+use Rattle.id_parts.specs.declared.row.Node.{Node}
+use Rattle.id_parts.specs.declared.row.Node.TheVariants.{Name, Enter, Block, Def, Program}
 use Rattle.id_parts.specs.Rows.{at}
 use Rattle.id_parts.specs.Tables.{around}
 use Rattle.id_check.specs.declared.cause.CheckCause.{CheckCause}
@@ -72,16 +73,33 @@ pub record IsTaking (R : List Row) (s n : ℕ) (hs : List Bool) (bs : List (Opti
   pub later : (x t : ℕ) → s < t → in_scope t (get_or bs x None) ≡ None
   pub binders : AreSeen R s n os
 
--- whether the row u uses the name x, and has no binder yet
+-- how many keys there are for so many names
+abbrev pub keys : ℕ → ℕ
+keys m = m + m
+
+-- the key by which the use of a name waits: those of values are even, those of procedures odd
+abbrev pub key_of : Node → Option ℕ
+key_of (Name x) = Some (x + x)
+key_of (Enter x) = Some (x + x + 1)
+key_of _ = None
+
+-- the key of the uses of the name x that look for their binder in a part of this node
+abbrev pub sought : Node → ℕ → Option ℕ
+sought (Block b) x = Some (x + x)
+sought (Def y h k b) x = Some (x + x)
+sought Program x = Some (x + x + 1)
+sought _ x = None
+
+-- whether the row u uses the name of the key x, and has no binder yet
 abbrev pub is_waiting : List Row → List (Option ℕ) → ℕ → ℕ → Bool
-is_waiting R os x u = is_name x (used_name (at R u).node) && is_free (get_or os u None)
+is_waiting R os x u = is_name x (key_of (at R u).node) && is_free (get_or os u None)
 
 -- the last number below n of which f is true
 abbrev pub last_of : (ℕ → Bool) → ℕ → Option ℕ
 last_of f zero = None
 last_of f (suc n) = if f n then Some n else last_of f n
 
--- of the first n rows, the last that waits, by name below m, and for each row that waits the one before it
+-- of the first n rows, the last that waits, by key below m, and for each row that waits the one before it
 pub record AreWaiting (R : List Row) (n m : ℕ) (os ls es : List (Option ℕ)) : Type 0 where
   pub long_binders : length os ≡ length R
   pub long_last : length ls ≡ m
@@ -95,15 +113,16 @@ abbrev pub again : List Row → ℕ → ℕ → List (Option Bound) → Option �
 again R s b bs None = []
 again R s b bs (Some x) = repeated R b (in_scope s (get_or bs x None))
 
--- the binder b, if the row i uses this name and stands in s
+-- the binder b, if the row i uses the name of this key and stands in s
 abbrev pub given : List Row → ℕ → ℕ → ℕ → ℕ → Option ℕ
-given R s x b i = if is_name x (used_name (at R i).node) && around R s i then Some b else None
+given R s x b i = if is_name x (key_of (at R i).node) && around R s i then Some b else None
 
 -- what the row i gets where the row b binds this name in s, if these are noted
 abbrev pub newly : List Row → ℕ → ℕ → List (Option Bound) → Option ℕ → ℕ → Option ℕ
 newly R s b bs None i = None
 newly R s b bs (Some x) i =
-    if is_free (in_scope s (get_or bs x None)) && looks (at R s).node (Name x) then given R s x b i else None
+    if is_free (in_scope s (get_or bs x None))
+    && ((looks (at R s).node (at R i).node && around R s i) && is_name x (used_name (at R i).node)) then Some b else None
 
 -- the use, if it is not before the row f
 abbrev pub not_before : ℕ → Option ℕ → Option ℕ

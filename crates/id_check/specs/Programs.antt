@@ -1,9 +1,10 @@
 -- A checked program, row by row (docs/MEANING.md, "Parts").
-use Rattle.std.specs.Prelude.{◌≡◌, ◌<◌, ℕ, List, length, get_or, Option, None}
+use Rattle.std.specs.Prelude.{◌≡◌, ◌<◌, ℕ, List, length, get_or, Option, None, Some}
 use Rattle.id_value.specs.declared.Kind.{Kind}
 use Rattle.id_parts.specs.declared.row.Region.{Region}
 use Rattle.id_parts.specs.declared.row.Row.{Row}
 use Rattle.id_parts.specs.declared.row.Node.{Node}
+use Rattle.id_parts.specs.declared.row.Node.TheVariants.{Enter, Def}
 use Rattle.id_parts.specs.Rows.{at}
 use Rattle.id_check.specs.declared.checked.Checked.{Checked}
 
@@ -31,3 +32,12 @@ region P i = (at (rows P) i).region
 pub record Stands (P : Checked) (i : ℕ) (n : Node) : Type 0 where
   pub within : i < length (rows P)
   pub node : (at (rows P) i).node ≡ n
+
+-- the `Enter` at the row e calls the procedure that is defined at the row d, with the head h
+pub record Calls (P : Checked) (e d h : ℕ) : Type 0 where
+  pub name : ℕ
+  pub result : Kind
+  pub body : ℕ
+  pub enter : Stands P e (Enter name)
+  pub binder : binder P e ≡ Some d
+  pub definition : Stands P d (Def name h result body)

@@ -5,7 +5,7 @@ use Rattle.std.specs.Prelude.{Option, None, Some, if◌then◌else◌}
 use Rattle.std.specs.Option.{option_or}
 use Rattle.id_parts.specs.declared.row.Row.{Row}
 use Rattle.id_parts.specs.declared.row.Node.{Node}
-use Rattle.id_parts.specs.declared.row.Node.TheVariants.{Param, Name, Block, Binding, Def, Program}
+use Rattle.id_parts.specs.declared.row.Node.TheVariants.{Param, Name, Enter, Arg, Call, Block, Binding, Def, Program}
 use Rattle.id_parts.specs.Rows.{at}
 use Rattle.id_parts.specs.Tables.{around, is_binding, is_def, is_param}
 
@@ -28,6 +28,7 @@ takes _ n = false
 abbrev pub looks : Node → Node → Bool
 looks (Block b) (Name x) = true
 looks (Def y h k b) (Name x) = true
+looks Program (Enter x) = true
 looks _ _ = false
 
 -- the name that a node binds, if it does
@@ -40,7 +41,14 @@ bound_name _ = None
 -- the name that a node uses, if it does
 abbrev pub used_name : Node → Option ℕ
 used_name (Name x) = Some x
+used_name (Enter x) = Some x
 used_name _ = None
+
+-- the row that uses the name which the row i of this node is about: the `Enter` of its call, or itself
+abbrev pub user_of : ℕ → Node → ℕ
+user_of i (Arg e k v) = e
+user_of i (Call e c) = e
+user_of i n = i
 
 -- the first answer of f below n
 abbrev pub first_of : (ℕ → Option ℕ) → ℕ → Option ℕ

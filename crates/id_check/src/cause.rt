@@ -21,8 +21,13 @@ pub enum CheckCause {
         at: usize,
         first: usize,
     },
-    /// A name without binder: `def main(): int = x;`
+    /// A name, of a value or of a procedure, without binder: `def main(): int = x;`
     Unknown {
+        at: usize,
+    },
+    /// A call with another number of arguments than its procedure has parameters, at the call: `f(1)`, where `f` has
+    /// none.
+    WrongCount {
         at: usize,
     },
     /// An expression of another kind than is wanted, at its place: `1 + true`
@@ -63,6 +68,7 @@ impl CheckCause {
             CheckCause::MainKind { at }
             | CheckCause::Duplicate { at, .. }
             | CheckCause::Unknown { at }
+            | CheckCause::WrongCount { at }
             | CheckCause::WrongKind { at, .. }
             | CheckCause::TooManyParams { at } => at,
             CheckCause::NoMain | CheckCause::Memory => 0,
@@ -78,6 +84,7 @@ impl CheckCause {
             CheckCause::MainKind { .. } => 8,
             CheckCause::Duplicate { .. } => 9,
             CheckCause::Unknown { .. } => 10,
+            CheckCause::WrongCount { .. } => 11,
             CheckCause::WrongKind { .. } => 12,
             CheckCause::TooManyParams { .. } => 13,
             CheckCause::Memory => 0,

@@ -4,10 +4,11 @@ ghost use Rattle.std.specs.Prelude.{◌≡◌, ◌<◌, ◌+◌, ◌⊎◌, ℕ,
 ghost use Rattle.id_list.specs.List.{Among};
 ghost use Rattle.id_parts.specs.Tables.{IsFormed};
 ghost use Rattle.id_check.specs.Kinds as kinds;
-ghost use Rattle.id_check.specs.Kinds.{AreKinds, To, Nowhere, link_at};
+ghost use Rattle.id_check.specs.Kinds.{AreKinds, To, Nowhere};
 ghost use Rattle.id_check.specs.Chains as chains;
 ghost use Rattle.id_check.specs.Chains.{IsGoing, IsFilling, IsEnd};
 
+use crate::rows::user_of;
 use id_parts::{Node, Row};
 use id_tree::{BinaryOp, Constant, Kind, UnaryOp};
 use std::alloc::{AllocError, Global};
@@ -47,15 +48,35 @@ fn find_links(
     rows: &[Row],
     binders: &[Option<usize>],
 ) -> Result<Vec<Link>, AllocError>
-    requires { length binders.now ≡ length rows.now }
+    requires formed { IsFormed rows.now }
+    requires binders { length binders.now ≡ length rows.now }
     ensures long { IfOk result (λ v. length v.items ≡ length rows.now) }
-    ensures each { IfOk result (λ v. (i : ℕ) → i < length rows.now → get_or v.items i Nowhere ≡ link_at rows.now (λ k. get_or binders.now k None) i) }
+    ensures each { IfOk result (λ v. (i : ℕ) → i < length rows.now → get_or v.items i Nowhere ≡ kinds.link_at rows.now (λ k. get_or binders.now k None) i) }
 {
     let mut links = Vec::new(alloc);
     for i in 0..rows.len() {
-        links.push(link_of(binders[i], rows[i].node))?;
+        links.push(link_at(rows, binders, i))?;
     }
     Ok(links)
+}
+
+/// Where the chain of the row goes on.
+fn link_at(rows: &[Row], binders: &[Option<usize>], i: usize) -> Link
+    requires formed { IsFormed rows.now }
+    requires binders { length binders.now ≡ length rows.now }
+    requires row { i < length rows.now }
+    ensures { result ≡ kinds.link_at rows.now (λ k. get_or binders.now k None) i }
+{
+    let node = rows[i].node;
+    link_of(binder_at(binders, user_of(i, node)), node)
+}
+
+/// The binder of the row.
+pub fn binder_at(binders: &[Option<usize>], i: usize) -> Option<usize>
+    requires { i < length binders.now }
+    ensures { result ≡ get_or binders.now i None }
+{
+    binders[i]
 }
 
 /// The kinds that the links give.
@@ -115,14 +136,14 @@ fn kind_of(link: Link) -> Option<Kind>
     }
 }
 
-/// Where the chain of a row goes on, which has this binder if it is a name.
+/// Where the chain of a row goes on, which has this binder if it is about a name.
 fn link_of(binder: Option<usize>, node: Node) -> Link
     ensures { result ≡ kinds.link_of binder node }
 {
     match node {
         Node::Param { kind, .. } => Link::Fixed(kind),
         Node::Literal { value } => Link::Fixed(constant_kind(value)),
-        Node::Name { .. } => link_of_name(binder),
+        Node::Name { .. } | Node::Call { .. } => link_of_name(binder),
         Node::Unary { op, .. } => Link::Fixed(unary_kind(op)),
         Node::Binary { op, .. } => Link::Fixed(binary_kind(op)),
         Node::If { then, .. } => Link::To(then),
@@ -130,6 +151,7 @@ fn link_of(binder: Option<usize>, node: Node) -> Link
         Node::Binding { value, .. } => Link::To(value),
         Node::Def { result, .. } => Link::Fixed(result),
         Node::Head | Node::Split { .. } | Node::Program => Link::Nowhere,
+        Node::Enter { .. } | Node::Arg { .. } => Link::Nowhere,
     }
 }
 

@@ -2,13 +2,14 @@
 //!
 //! Keeps: the rows are those of the program's tree; which definition is `main`; which binder each use of a name
 //! has, and which kind each row; that no cause to refuse the program holds; that no two things have one place.
-//! Errors: `CheckError`, the refusals 7 to 10, 12 and 13 or want of memory, with the program handed back.
+//! Errors: `CheckError`, the refusals 7 to 13 or want of memory, with the program handed back.
 //! Read first: `Checked`, `specs/Scopes.antt`, `specs/Kinds.antt`, `specs/Causes.antt`, docs/LANGUAGE.md
 //! ("Names", "Kinds").
 //! Not here: the table of parts (`id_parts`), the graph (`id_build`).
 #![tactic(auto)]
 
 mod access;
+mod calls;
 mod cause;
 mod checked;
 mod kinds;

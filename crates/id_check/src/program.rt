@@ -3,6 +3,7 @@
 ghost use Rattle.std.specs.Prelude.{◌≡◌, get_or, length, IfOk, IfErr, IfNone, IfSome, None};
 ghost use Rattle.id_tree.specs.Tree.{program_tree};
 ghost use Rattle.id_tree.specs.Distinct.{Distinct};
+ghost use Rattle.id_tree.specs.Uncalled.{Uncalled};
 ghost use Rattle.id_parts.specs.Rows.{at, parts_of, rows_of};
 ghost use Rattle.id_parts.specs.Tables.{IsFormed};
 ghost use Rattle.id_check.specs.Causes.{HasNoMain, IsInside, IsMain, IsRefusedFor, causes};
@@ -12,6 +13,7 @@ ghost use Rattle.id_check.specs.Kinds.{AreKinds};
 ghost use Rattle.id_check.specs.Names.{AreNames};
 ghost use Rattle.id_check.specs.Scopes.{AreBinders};
 
+use crate::calls::find_counts;
 use crate::cause::{CheckCause, CheckError};
 use crate::checked::Checked;
 use crate::kinds::find_kinds;
@@ -33,7 +35,9 @@ struct Columns {
 /// The program, checked, or the first cause to refuse it: the one at the smallest place, of two at one
 /// place the one with the smaller number, and where there is none, that it has no `main`.
 pub fn check(alloc: Global, program: Program) -> Result<Checked, CheckError>
-    requires { Distinct (program_tree program) }
+    requires distinct { Distinct (program_tree program) }
+    // The grammar has no calls yet.
+    requires uncalled { Uncalled (program_tree program) }
     ensures ok { IfOk result (λ c. c.program ≡ program) }
     ensures back { IfErr result (λ e. e.program ≡ program) }
     ensures refused { IfErr result (λ e. IsRefusedFor (rows_of (program_tree program)) e.cause) }
@@ -72,12 +76,14 @@ fn find_columns(alloc: Global, rows: &[Row], count: usize) -> Result<Columns, Al
     let Found { binders, mut first } = find_binders(alloc, rows, count)?;
     let kinds = find_kinds(alloc, rows, binders.as_slice())?;
     let tallies = find_params(alloc, rows)?;
+    let counts = find_counts(alloc, rows)?;
     note_rows(
         &mut first,
         rows,
         binders.as_slice(),
         kinds.as_slice(),
         tallies.as_slice(),
+        counts.as_slice(),
     );
     Ok(Columns {
         binders,
@@ -89,6 +95,7 @@ fn find_columns(alloc: Global, rows: &[Row], count: usize) -> Result<Columns, Al
 /// The program, checked, or why it is refused, where this is its table, and this was found in it. Takes no memory.
 fn settle(program: Program, table: Table, columns: Columns) -> Result<Checked, CheckError>
     requires distinct { Distinct (program_tree program) }
+    requires uncalled { Uncalled (program_tree program) }
     requires tabled { table.rows.items ≡ rows_of (program_tree program) }
     requires named { table.names.items ≡ (parts_of (program_tree program)).names }
     requires bound { AreBinders table.rows.items (λ i. get_or columns.binders.items i None) }

@@ -24,16 +24,6 @@ pub fn takes(scope: Node, binder: Node) -> bool
     }
 }
 
-/// Whether a use like the second looks for its binder in a part like the first.
-pub fn looks(scope: Node, user: Node) -> bool
-    ensures { result ≡ scopes.looks scope user }
-{
-    match scope {
-        Node::Block { .. } | Node::Def { .. } => matches!(user, Node::Name { .. }),
-        _ => false,
-    }
-}
-
 /// The name that a node binds, if it does.
 pub fn bound_name(node: Node) -> Option<usize>
     ensures { result ≡ scopes.bound_name node }
@@ -46,12 +36,12 @@ pub fn bound_name(node: Node) -> Option<usize>
     }
 }
 
-/// The name that a node uses, if it does.
-pub fn used_name(node: Node) -> Option<usize>
-    ensures { result ≡ scopes.used_name node }
+/// The row that uses the name which the row i of this node is about.
+pub fn user_of(i: usize, node: Node) -> usize
+    ensures { result ≡ scopes.user_of i node }
 {
     match node {
-        Node::Name { name } => Some(name),
-        _ => None,
+        Node::Arg { enter, .. } | Node::Call { enter, .. } => enter,
+        _ => i,
     }
 }

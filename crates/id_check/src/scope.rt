@@ -2,7 +2,7 @@
 //! yet, and gives the uses within it that wait for a name that it binds their binder. So a binder is looked at by one
 //! scope, and a use once.
 
-ghost use Rattle.std.specs.Prelude.{◌≡◌, ◌<◌, ◌≤◌, ◌+◌, ℕ, true, false, get_or, length, replicate, if◌then◌else◌};
+ghost use Rattle.std.specs.Prelude.{◌≡◌, ◌<◌, ◌≤◌, ◌+◌, ◌^◌, ℕ, true, false, get_or, length, replicate, if◌then◌else◌};
 ghost use Rattle.std.specs.Prelude.{IfOk, OnOk, None, Some};
 ghost use Rattle.std.specs.Option.{option_or};
 ghost use Rattle.id_parts.specs.Rows.{at};
@@ -11,10 +11,10 @@ ghost use Rattle.id_check.specs.Scopes.{AreBinders, is_name};
 ghost use Rattle.id_check.specs.Causes.{duplicates, repeated, second, seconds};
 ghost use Rattle.id_check.specs.Firsts.{IsFirstOf, Notes};
 ghost use Rattle.id_check.specs.Names as names;
-ghost use Rattle.id_check.specs.Names.{AreBound, AreHeld, AreNames, AreWaiting, IsFresh, IsOpen, IsTaking, again, given, newly};
+ghost use Rattle.id_check.specs.Names.{AreBound, AreHeld, AreNames, AreWaiting, IsFresh, IsOpen, IsTaking, again, given, keys, newly};
 
 use crate::cause::{CheckCause, note};
-use crate::rows::{bound_name, is_scope, looks, takes, used_name};
+use crate::rows::{bound_name, is_scope, takes};
 use id_parts::{Node, Row};
 use std::alloc::{AllocError, Global};
 
@@ -30,7 +30,7 @@ pub struct Bound {
 #[derive(Drop)]
 pub struct Uses {
     pub binders: Vec<Option<usize>>,
-    /// By name, its last use that waits.
+    /// By key, the last use that waits: names of values have the even keys, those of procedures the odd ones.
     pub last: Vec<Option<usize>>,
     /// By row, the use of the same name before it that waits.
     pub earlier: Vec<Option<usize>>,
@@ -53,7 +53,7 @@ pub fn find_binders(alloc: Global, rows: &[Row], count: usize) -> Result<Found, 
 {
     let mut held = vec![in alloc; false; rows.len()]?;
     let mut bound: Vec<Option<Bound>> = vec![in alloc; None; count]?;
-    let mut uses = no_uses(alloc, rows, count)?;
+    let mut uses = no_uses(alloc, rows, bound.len())?;
     let mut first = None;
     pass_rows(alloc, rows, &mut held, &mut bound, &mut uses, &mut first)?;
     let Uses { binders, .. } = uses;
@@ -62,17 +62,18 @@ pub fn find_binders(alloc: Global, rows: &[Row], count: usize) -> Result<Found, 
 
 /// The uses before any row is passed, of names whose numbers are below `count`.
 fn no_uses(alloc: Global, rows: &[Row], count: usize) -> Result<Uses, AllocError>
+    requires { keys count < 2 ^ 64 }
     ensures binders { IfOk result (λ u. AreBound rows.now 0 u.binders.items) }
-    ensures waiting { IfOk result (λ u. AreWaiting rows.now 0 count u.binders.items u.last.items u.earlier.items) }
+    ensures waiting { IfOk result (λ u. AreWaiting rows.now 0 (keys count) u.binders.items u.last.items u.earlier.items) }
 {
     Ok(Uses {
         binders: nothing(alloc, rows.len())?,
-        last: nothing(alloc, count)?,
+        last: nothing(alloc, count + count)?,
         earlier: nothing(alloc, rows.len())?,
     })
 }
 
-/// A list of so many rows or names that have no row.
+/// A list of so many rows or keys that have no row.
 fn nothing(alloc: Global, count: usize) -> Result<Vec<Option<usize>>, AllocError>
     ensures { IfOk result (λ v. v.items ≡ replicate count None) }
 {
@@ -92,7 +93,7 @@ fn pass_rows(
     requires held { AreHeld rows.now 0 held.old.items }
     requires fresh { IsFresh 0 bound.old.items }
     requires binders { AreBound rows.now 0 uses.old.binders.items }
-    requires waiting { AreWaiting rows.now 0 (length bound.old.items) uses.old.binders.items uses.old.last.items uses.old.earlier.items }
+    requires waiting { AreWaiting rows.now 0 (keys (length bound.old.items)) uses.old.binders.items uses.old.last.items uses.old.earlier.items }
     requires first { first.old ≡ None }
     ensures binders { OnOk result (AreBound rows.now (length rows.now) uses.new.binders.items) }
     ensures first { OnOk result (IsFirstOf first.new (duplicates rows.now (length rows.now))) }
@@ -121,13 +122,13 @@ fn pass(
     requires held { AreHeld rows.now s held.old.items }
     requires fresh { IsFresh s bound.old.items }
     requires binders { AreBound rows.now s uses.old.binders.items }
-    requires waiting { AreWaiting rows.now s (length bound.old.items) uses.old.binders.items uses.old.last.items uses.old.earlier.items }
+    requires waiting { AreWaiting rows.now s (keys (length bound.old.items)) uses.old.binders.items uses.old.last.items uses.old.earlier.items }
     ensures untaken { OnOk result (IsOpen rows.now (s + 1) (s + 1) untaken.new.items) }
     ensures held { OnOk result (AreHeld rows.now (s + 1) held.new.items) }
     ensures long { OnOk result (length bound.new.items ≡ length bound.old.items) }
     ensures fresh { OnOk result (IsFresh (s + 1) bound.new.items) }
     ensures binders { OnOk result (AreBound rows.now (s + 1) uses.new.binders.items) }
-    ensures waiting { OnOk result (AreWaiting rows.now (s + 1) (length bound.old.items) uses.new.binders.items uses.new.last.items uses.new.earlier.items) }
+    ensures waiting { OnOk result (AreWaiting rows.now (s + 1) (keys (length bound.old.items)) uses.new.binders.items uses.new.last.items uses.new.earlier.items) }
     ensures first { OnOk result (Notes first.old (seconds rows.now s s) first.new) }
 {
     take(rows, untaken, held, bound, uses, first, s);
@@ -154,13 +155,13 @@ fn take(
     requires held { AreHeld rows.now s held.old.items }
     requires fresh { IsFresh s bound.old.items }
     requires binders { AreBound rows.now s uses.old.binders.items }
-    requires waiting { AreWaiting rows.now s (length bound.old.items) uses.old.binders.items uses.old.last.items uses.old.earlier.items }
+    requires waiting { AreWaiting rows.now s (keys (length bound.old.items)) uses.old.binders.items uses.old.last.items uses.old.earlier.items }
     ensures untaken { IsOpen rows.now s (s + 1) untaken.new.items }
     ensures held { AreHeld rows.now (s + 1) held.new.items }
     ensures long { length bound.new.items ≡ length bound.old.items }
     ensures fresh { IsFresh (s + 1) bound.new.items }
     ensures binders { AreBound rows.now (s + 1) uses.new.binders.items }
-    ensures waiting { AreWaiting rows.now s (length bound.old.items) uses.new.binders.items uses.new.last.items uses.new.earlier.items }
+    ensures waiting { AreWaiting rows.now s (keys (length bound.old.items)) uses.new.binders.items uses.new.last.items uses.new.earlier.items }
     ensures first { Notes first.old (seconds rows.now s s) first.new }
 {
     if is_scope(rows[s].node) {
@@ -186,12 +187,12 @@ fn enter(
     requires held { AreHeld rows.now s held.old.items }
     requires fresh { IsFresh s bound.old.items }
     requires binders { AreBound rows.now s uses.old.binders.items }
-    requires waiting { AreWaiting rows.now s (length bound.old.items) uses.old.binders.items uses.old.last.items uses.old.earlier.items }
+    requires waiting { AreWaiting rows.now s (keys (length bound.old.items)) uses.old.binders.items uses.old.last.items uses.old.earlier.items }
     ensures held { AreHeld rows.now (s + 1) held.new.items }
     ensures long { length bound.new.items ≡ length bound.old.items }
     ensures fresh { IsFresh (s + 1) bound.new.items }
     ensures binders { AreBound rows.now (s + 1) uses.new.binders.items }
-    ensures waiting { AreWaiting rows.now s (length bound.old.items) uses.new.binders.items uses.new.last.items uses.new.earlier.items }
+    ensures waiting { AreWaiting rows.now s (keys (length bound.old.items)) uses.new.binders.items uses.new.last.items uses.new.earlier.items }
     ensures first { Notes first.old (seconds rows.now s s) first.new }
 {
     let start = start_of(untaken, rows[s].first);
@@ -242,10 +243,10 @@ fn enter_row(
     requires behind { (at rows.now s).first ≤ b }
     requires names { AreNames rows.now (length bound.old.items) }
     requires taking { IsTaking rows.now s b held.old.items bound.old.items uses.old.binders.items }
-    requires waiting { AreWaiting rows.now s (length bound.old.items) uses.old.binders.items uses.old.last.items uses.old.earlier.items }
+    requires waiting { AreWaiting rows.now s (keys (length bound.old.items)) uses.old.binders.items uses.old.last.items uses.old.earlier.items }
     ensures long { length bound.new.items ≡ length bound.old.items }
     ensures taking { IsTaking rows.now s (b + 1) held.new.items bound.new.items uses.new.binders.items }
-    ensures waiting { AreWaiting rows.now s (length bound.old.items) uses.new.binders.items uses.new.last.items uses.new.earlier.items }
+    ensures waiting { AreWaiting rows.now s (keys (length bound.old.items)) uses.new.binders.items uses.new.last.items uses.new.earlier.items }
     ensures first { Notes first.old (second rows.now s b (scopes.bound_name (at rows.now b).node)) first.new }
 {
     if !held[b] && takes(rows[s].node, rows[b].node) {
@@ -267,12 +268,12 @@ fn bind(
     requires inside { b < s }
     requires names { AreNames rows.now (length bound.old.items) }
     requires earlier { (x a : ℕ) → x < length bound.old.items → names.in_scope s (get_or bound.old.items x None) ≡ Some a → a < length rows.now }
-    requires waiting { AreWaiting rows.now s (length bound.old.items) uses.old.binders.items uses.old.last.items uses.old.earlier.items }
+    requires waiting { AreWaiting rows.now s (keys (length bound.old.items)) uses.old.binders.items uses.old.last.items uses.old.earlier.items }
     ensures long { length bound.new.items ≡ length bound.old.items }
     ensures bound { (x : ℕ) → x < length bound.old.items → names.in_scope s (get_or bound.new.items x None)
         ≡ option_or (names.in_scope s (get_or bound.old.items x None)) (if is_name x (scopes.bound_name (at rows.now b).node) then Some b else None) }
     ensures later { (x t : ℕ) → s < t → names.in_scope t (get_or bound.old.items x None) ≡ None → names.in_scope t (get_or bound.new.items x None) ≡ None }
-    ensures waiting { AreWaiting rows.now s (length bound.old.items) uses.new.binders.items uses.new.last.items uses.new.earlier.items }
+    ensures waiting { AreWaiting rows.now s (keys (length bound.old.items)) uses.new.binders.items uses.new.last.items uses.new.earlier.items }
     ensures binders { (i : ℕ) → i < length rows.now → get_or uses.new.binders.items i None
         ≡ option_or (get_or uses.old.binders.items i None) (newly rows.now s b bound.old.items (scopes.bound_name (at rows.now b).node) i) }
     ensures first { Notes first.old (again rows.now s b bound.old.items (scopes.bound_name (at rows.now b).node)) first.new }
@@ -285,8 +286,8 @@ fn bind(
                 scope: s,
                 binder: b,
             });
-            if looks(rows[s].node, Node::Name { name }) {
-                resolve(rows, uses, s, name, b);
+            if let Some(key) = sought(rows[s].node, name) {
+                resolve(rows, uses, s, key, b);
             }
         }
     }
@@ -302,18 +303,18 @@ fn note_second(first: &mut Option<CheckCause>, rows: &[Row], b: usize, earlier: 
     note(first, CheckCause::Duplicate { at, first: earlier });
 }
 
-/// Gives the uses of the name within the scope that wait for a binder this one. Takes no memory.
-fn resolve(rows: &[Row], uses: &mut Uses, s: usize, name: usize, b: usize)
+/// Gives the uses of this key within the scope that wait for a binder this one. Takes no memory.
+fn resolve(rows: &[Row], uses: &mut Uses, s: usize, key: usize, b: usize)
     requires row { s < length rows.now }
-    requires name { name < length uses.old.last.items }
+    requires key { key < length uses.old.last.items }
     requires waiting { AreWaiting rows.now s (length uses.old.last.items) uses.old.binders.items uses.old.last.items uses.old.earlier.items }
     ensures waiting { AreWaiting rows.now s (length uses.old.last.items) uses.new.binders.items uses.new.last.items uses.new.earlier.items }
-    ensures binders { (i : ℕ) → i < length rows.now → get_or uses.new.binders.items i None ≡ option_or (get_or uses.old.binders.items i None) (given rows.now s name b i) }
+    ensures binders { (i : ℕ) → i < length rows.now → get_or uses.new.binders.items i None ≡ option_or (get_or uses.old.binders.items i None) (given rows.now s key b i) }
 {
     let first = rows[s].first;
-    while let Some(u) = not_before(first, uses.last[name]) {
+    while let Some(u) = not_before(first, uses.last[key]) {
         uses.binders[u] = Some(b);
-        uses.last[name] = uses.earlier[u];
+        uses.last[key] = uses.earlier[u];
     }
 }
 
@@ -340,14 +341,38 @@ fn in_scope(scope: usize, bound: Option<Bound>) -> Option<usize>
 /// The row waits for its binder, if it uses a name. Takes no memory.
 fn wait(rows: &[Row], uses: &mut Uses, s: usize)
     requires row { s < length rows.now }
-    requires name { (x : ℕ) → scopes.used_name (at rows.now s).node ≡ Some x → x < length uses.old.last.items }
+    requires key { (x : ℕ) → names.key_of (at rows.now s).node ≡ Some x → x < length uses.old.last.items }
     requires none { get_or uses.old.binders.items s None ≡ None }
     requires waiting { AreWaiting rows.now s (length uses.old.last.items) uses.old.binders.items uses.old.last.items uses.old.earlier.items }
     ensures binders { uses.new.binders.items ≡ uses.old.binders.items }
     ensures waiting { AreWaiting rows.now (s + 1) (length uses.old.last.items) uses.new.binders.items uses.new.last.items uses.new.earlier.items }
 {
-    if let Some(name) = used_name(rows[s].node) {
-        uses.earlier[s] = uses.last[name];
-        uses.last[name] = Some(s);
+    if let Some(key) = key_of(rows[s].node) {
+        uses.earlier[s] = uses.last[key];
+        uses.last[key] = Some(s);
+    }
+}
+
+/// The key by which the use of a name waits.
+fn key_of(node: Node) -> Option<usize>
+    requires { (k : ℕ) → names.key_of node ≡ Some k → k < 2 ^ 64 }
+    ensures { result ≡ names.key_of node }
+{
+    match node {
+        Node::Name { name } => Some(name + name),
+        Node::Enter { name } => Some(name + name + 1),
+        _ => None,
+    }
+}
+
+/// The key of the uses of the name that look for their binder in a part of this node.
+fn sought(scope: Node, name: usize) -> Option<usize>
+    requires { keys name + 1 < 2 ^ 64 }
+    ensures { result ≡ names.sought scope name }
+{
+    match scope {
+        Node::Block { .. } | Node::Def { .. } => Some(name + name),
+        Node::Program => Some(name + name + 1),
+        _ => None,
     }
 }

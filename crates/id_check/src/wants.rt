@@ -1,41 +1,49 @@
-//! What is wrong in each row: names without binder, parts of another kind than is wanted, and parameters.
+//! What is wrong in each row: names without binder, parts of another kind than is wanted, numbers of arguments, and
+//! parameters.
 
-ghost use Rattle.std.specs.Prelude.{◌≡◌, ◌<◌, ℕ, get_or, length, None};
+ghost use Rattle.std.specs.Prelude.{◌≡◌, ◌<◌, ◌+◌, ℕ, get_or, length, None, Some};
 ghost use Rattle.id_parts.specs.Rows.{at};
 ghost use Rattle.id_parts.specs.Tables.{IsFormed};
 ghost use Rattle.id_parts.specs.Turns.{params_at};
 ghost use Rattle.id_check.specs.Causes as causes;
-ghost use Rattle.id_check.specs.Causes.{causes_below, causes_in, unknown, wrong, wrong_arm, wrong_both};
+ghost use Rattle.id_check.specs.Causes.{causes_below, causes_in, unknown, wrong, wrong_argument, wrong_both};
+ghost use Rattle.id_check.specs.Causes.{wrong_count, wrong_like};
 ghost use Rattle.id_check.specs.Causes.{wrong_equals, wrong_operands, wrong_params};
 ghost use Rattle.id_value.specs.declared.BinaryOp.TheVariants as class;
+ghost use Rattle.id_check.specs.Counts.{AreCounts};
 ghost use Rattle.id_check.specs.Firsts.{Notes};
+ghost use Rattle.id_check.specs.Scopes.{user_of};
 ghost use Rattle.id_check.specs.Tallies.{AreTallies, array_cause, count_cause};
 
 use crate::cause::{CheckCause, note};
-use crate::kinds::unary_kind;
+use crate::kinds::{binder_at, unary_kind};
 use crate::params::{MAX_PARAMS, Tally};
 use id_parts::{Node, Row};
 use id_tree::{BinaryOp, Kind};
 use id_value::Comparison;
 
-/// Notes what is wrong in the rows, which have these binders and kinds, and these parameters by head. Takes no memory.
+/// Notes what is wrong in the rows, which have these binders and kinds, these parameters by head, and these numbers of
+/// arguments by `Enter`. Takes no memory.
 pub fn note_rows(
     first: &mut Option<CheckCause>,
     rows: &[Row],
     binders: &[Option<usize>],
     kinds: &[Option<Kind>],
     tallies: &[Tally],
+    counts: &[Option<usize>],
 )
     requires formed { IsFormed rows.now }
     requires binders { length binders.now ≡ length rows.now }
+    requires within { (i b : ℕ) → i < length rows.now → get_or binders.now i None ≡ Some b → b < length rows.now }
     requires kinds { length kinds.now ≡ length rows.now }
     requires tallies { AreTallies rows.now (length rows.now) tallies.now }
+    requires counts { AreCounts rows.now (length rows.now) counts.now }
     ensures { Notes first.old
         (causes_below rows.now (λ i. get_or binders.now i None) (λ i. get_or kinds.now i None) (length rows.now))
         first.new }
 {
     for i in 0..rows.len() {
-        note_row(first, rows, binders, kinds, tallies, i);
+        note_row(first, rows, binders, kinds, tallies, counts, i);
     }
 }
 
@@ -46,19 +54,45 @@ fn note_row(
     binders: &[Option<usize>],
     kinds: &[Option<Kind>],
     tallies: &[Tally],
+    counts: &[Option<usize>],
     i: usize,
 )
     requires formed { IsFormed rows.now }
     requires binders { length binders.now ≡ length rows.now }
+    requires within { (i b : ℕ) → i < length rows.now → get_or binders.now i None ≡ Some b → b < length rows.now }
     requires kinds { length kinds.now ≡ length rows.now }
     requires tallies { AreTallies rows.now (length rows.now) tallies.now }
+    requires counts { AreCounts rows.now (length rows.now) counts.now }
     requires row { i < length rows.now }
     ensures { let row = at rows.now i in Notes first.old
-        (causes_in rows.now (λ i. get_or kinds.now i None) (get_or binders.now i None) row.place row.node) first.new }
+        (causes_in rows.now (λ i. get_or kinds.now i None) (get_or binders.now (user_of i row.node) None) row.place row.node)
+        first.new }
 {
     let row = rows[i];
     match row.node {
         Node::Name { .. } => note_unknown(first, binders[i], row.place),
+        Node::Enter { .. } => note_unknown(first, binders[i], row.place),
+        Node::Arg {
+            enter,
+            index,
+            value,
+        } => {
+            let callee = callee(rows, binder_at(binders, enter));
+            note_argument(
+                first,
+                rows,
+                kinds,
+                tallies,
+                callee,
+                count_at(counts, enter),
+                index,
+                value,
+            );
+        }
+        Node::Call { enter, count } => {
+            let callee = callee(rows, binder_at(binders, enter));
+            note_count_of(first, rows, tallies, callee, count, row.place);
+        }
         Node::Unary { op, operand } => note_wrong(first, rows, kinds, unary_kind(op), operand),
         Node::Binary { op, left, right } => note_operands(first, rows, kinds, op, left, right),
         Node::Split { test } => note_wrong(first, rows, kinds, Kind::Bool, test),
@@ -86,6 +120,123 @@ fn note_unknown(first: &mut Option<CheckCause>, binder: Option<usize>, place: us
 {
     if binder.is_none() {
         note(first, CheckCause::Unknown { at: place });
+    }
+}
+
+/// The head of the procedure that is defined at the row. Takes no memory.
+fn callee(rows: &[Row], definition: Option<usize>) -> Option<usize>
+    requires { (b : ℕ) → definition ≡ Some b → b < length rows.now }
+    ensures { result ≡ causes.callee rows.now definition }
+{
+    match definition {
+        Some(row) => head_in(rows[row].node),
+        None => None,
+    }
+}
+
+/// The head of the definition at a row of this node.
+fn head_in(node: Node) -> Option<usize>
+    ensures { result ≡ causes.head_in node }
+{
+    match node {
+        Node::Def { head, .. } => Some(head),
+        _ => None,
+    }
+}
+
+/// The number of arguments of the call with this `Enter`.
+fn count_at(counts: &[Option<usize>], enter: usize) -> Option<usize>
+    requires { enter < length counts.now }
+    ensures { result ≡ get_or counts.now enter None }
+{
+    counts[enter]
+}
+
+/// Notes it if a call at this place has another number of arguments than its procedure, which has this head, has
+/// parameters. Takes no memory.
+fn note_count_of(
+    first: &mut Option<CheckCause>,
+    rows: &[Row],
+    tallies: &[Tally],
+    callee: Option<usize>,
+    count: usize,
+    place: usize,
+)
+    requires tallies { AreTallies rows.now (length rows.now) tallies.now }
+    requires callee { (h : ℕ) → callee ≡ Some h → h < length rows.now }
+    ensures { Notes first.old (wrong_count rows.now callee count place) first.new }
+{
+    if let Some(head) = callee {
+        if !is_count(rows, tallies, head, Some(count)) {
+            note(first, CheckCause::WrongCount { at: place });
+        }
+    }
+}
+
+/// Whether this is the number of the parameters of the procedure with this head. Takes no memory.
+fn is_count(rows: &[Row], tallies: &[Tally], head: usize, count: Option<usize>) -> bool
+    requires tallies { AreTallies rows.now (length rows.now) tallies.now }
+    requires head { head < length rows.now }
+    ensures { result ≡ causes.is_count rows.now head count }
+{
+    match count {
+        Some(count) => count == tallies[head].count,
+        None => false,
+    }
+}
+
+/// Notes the argument of this index in a call with so many arguments, of the procedure with this head, if it is of
+/// another kind than the parameter of that index. Takes no memory.
+fn note_argument(
+    first: &mut Option<CheckCause>,
+    rows: &[Row],
+    kinds: &[Option<Kind>],
+    tallies: &[Tally],
+    callee: Option<usize>,
+    count: Option<usize>,
+    index: usize,
+    value: usize,
+)
+    requires kinds { length kinds.now ≡ length rows.now }
+    requires tallies { AreTallies rows.now (length rows.now) tallies.now }
+    requires callee { (h : ℕ) → callee ≡ Some h → h < length rows.now }
+    requires value { value < length rows.now }
+    ensures { Notes first.old
+        (wrong_argument rows.now (λ i. get_or kinds.now i None) callee count index value) first.new }
+{
+    if let Some(head) = callee {
+        if is_count(rows, tallies, head, count) {
+            note_like(first, rows, kinds, param_kind(kinds, head, index), value);
+        }
+    }
+}
+
+/// The kind of the parameter of this index, behind its head. Takes no memory.
+fn param_kind(kinds: &[Option<Kind>], head: usize, index: usize) -> Option<Kind>
+    requires { head < length kinds.now }
+    ensures { result ≡ get_or kinds.now (head + 1 + index) None }
+{
+    if index < kinds.len() - head - 1 {
+        kinds[head + 1 + index]
+    } else {
+        None
+    }
+}
+
+/// Notes the row if it is of another kind than this, if there is one. Takes no memory.
+fn note_like(
+    first: &mut Option<CheckCause>,
+    rows: &[Row],
+    kinds: &[Option<Kind>],
+    wanted: Option<Kind>,
+    i: usize,
+)
+    requires kinds { length kinds.now ≡ length rows.now }
+    requires row { i < length rows.now }
+    ensures { Notes first.old (wrong_like rows.now (λ i. get_or kinds.now i None) wanted i) first.new }
+{
+    if let Some(wanted) = wanted {
+        note_wrong(first, rows, kinds, wanted, i);
     }
 }
 
@@ -178,11 +329,9 @@ fn note_arm(
     requires then { then < length rows.now }
     requires otherwise { otherwise < length rows.now }
     ensures { Notes first.old
-        (wrong_arm rows.now (λ i. get_or kinds.now i None) (get_or kinds.now then None) otherwise) first.new }
+        (wrong_like rows.now (λ i. get_or kinds.now i None) (get_or kinds.now then None) otherwise) first.new }
 {
-    if let Some(wanted) = kinds[then] {
-        note_wrong(first, rows, kinds, wanted, otherwise);
-    }
+    note_like(first, rows, kinds, kinds[then], otherwise);
 }
 
 /// Notes the operands that are wrong, where one kind is wanted of both. Takes no memory.

@@ -15,7 +15,7 @@ use crate::flight::Flight;
 use id_element::{Element, TakeError, most_outputs};
 use id_graph::Port;
 use id_meaning::{Inputs, SourceFault, SourceValue};
-use id_observe::{Observed, first_fault, main_tag, observe_records};
+use id_observe::{Observed, answer, first_fault, main_tag, observe_records};
 use id_record::Step;
 use id_tag::{Message, Payload, Sender, Value, route};
 use id_valid::Valid;
@@ -168,6 +168,13 @@ impl<'a> Machine<'a> {
     {
         let shown = observe_records(alloc, self.graph, self.elements.as_slice())?;
         Ok(shown)
+    }
+
+    /// The answer that the run so far shows, for who asks for nothing else. Takes no memory.
+    pub fn answer(&self) -> Option<SourceValue>
+        ensures { result ≡ answer self.now.world }
+    {
+        answer(self.elements.as_slice())
     }
 
     /// The first fault of the run so far, by stamp and then by element, if there is one.

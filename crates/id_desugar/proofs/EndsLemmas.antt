@@ -8,7 +8,7 @@ use Rattle.id_check.specs.Programs.{rows}
 use Rattle.id_check.specs.Scopes.{first_of}
 use Rattle.id_check.proofs.ScopesLemmas.{first_of-some}
 use Rattle.id_parts.specs.declared.row.Node.{Node}
-use Rattle.id_parts.specs.declared.row.Node.TheVariants.{Head, Param, Literal, Name, Unary, Binary, Split, If, Block, Binding, Def, Program}
+use Rattle.id_parts.specs.declared.row.Node.TheVariants.{Head, Param, Literal, Name, Unary, Binary, Split, If, Enter, Arg, Call, Block, Binding, Def, Program}
 use Rattle.id_parts.specs.Rows.{at}
 use Rattle.id_parts.specs.Tables.{HasPart}
 use Rattle.id_desugar.specs.Gathering.{EndsNoSplit, is_split}
@@ -58,6 +58,9 @@ begun_part (Name x) s e = cc
 begun_part (Unary o a) s e = cc
 begun_part (Binary o a b) s e = cc
 begun_part (Split t) s e = cc
+begun_part (Enter x) s e = cc
+begun_part (Arg h k v) s e = cc
+begun_part (Call h c) s e = let is : h ≡ s = cc in sym is
 begun_part (Block b) s e = cc
 begun_part (Binding x a) s e = cc
 begun_part Program s e = cc

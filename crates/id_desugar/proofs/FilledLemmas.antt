@@ -6,7 +6,7 @@ use Rattle.std.proofs.lemmas.Bool.Decides.{nat_tests}
 use Rattle.std.proofs.lemmas.Grind.{common_steps}
 use Rattle.std.proofs.lemmas.List.{ext_get_or, get_or-set_same, get_or-set_other}
 use Rattle.id_parts.specs.declared.row.Node.{Node}
-use Rattle.id_parts.specs.declared.row.Node.TheVariants.{Head, Param, Literal, Name, Unary, Binary, Split, If, Block, Binding, Def, Program}
+use Rattle.id_parts.specs.declared.row.Node.TheVariants.{Head, Param, Literal, Name, Unary, Binary, Split, If, Enter, Arg, Call, Block, Binding, Def, Program}
 use Rattle.id_parts.specs.Rows.{at}
 use Rattle.id_check.specs.declared.checked.Checked.{Checked}
 use Rattle.id_check.specs.Programs.{rows}
@@ -26,6 +26,9 @@ handed_none P h (Name x) e = refl
 handed_none P h (Unary o a) e = refl
 handed_none P h (Binary o a b) e = refl
 handed_none P h (If s x y) e = refl
+handed_none P h (Enter x) e = refl
+handed_none P h (Arg g k v) e = refl
+handed_none P h (Call g c) e = refl
 handed_none P h (Block b) e = refl
 handed_none P h (Binding x a) e = refl
 handed_none P h (Def x g k b) e = refl
@@ -52,6 +55,17 @@ same_list n xs (Some e) f = at (e == n) refl
       where
         same : nat_lt e n ≡ nat_lt e (n + 1)
         same = grind (arith, nat_tests)
+
+-- before the first row nothing has ended
+pub AreFilled-none : (P : Checked) (L : List (List ℕ)) → length L ≡ length (rows P) → ((h : ℕ) → get_or L h [] ≡ []) → AreFilled P 0 L
+AreFilled-none P L long none = record { many = long; each = λ h l. none h ∙ sym (by (imports_of P h) (end_row P h)) }
+  where
+    by : (xs : List ℕ) (o : Option ℕ) → list_by 0 xs o ≡ []
+    by xs None = refl
+    by xs (Some e) = ap (λ t. if t then xs else []) not_before
+      where
+        not_before : nat_lt e 0 ≡ false
+        not_before = grind (arith, nat_tests)
 
 -- no conditional ends at the row n
 pub AreFilled-same : (P : Checked) (n : ℕ) (L : List (List ℕ)) → AreFilled P n L → EndsNoSplit P n → AreFilled P (n + 1) L
@@ -138,6 +152,9 @@ endless P h (Name x) e = refl
 endless P h (Unary o a) e = refl
 endless P h (Binary o a b) e = refl
 endless P h (If s x y) e = refl
+endless P h (Enter x) e = refl
+endless P h (Arg g k v) e = refl
+endless P h (Call g c) e = refl
 endless P h (Block b) e = refl
 endless P h (Binding x a) e = refl
 endless P h (Def x g k b) e = refl

@@ -8,13 +8,13 @@ use Rattle.std.proofs.lemmas.List.{get_or-set_same, get_or-set_other}
 use Rattle.id_list.specs.List.{Among}
 use Rattle.id_list.proofs.AmongLemmas.{Among-either}
 use Rattle.id_parts.specs.declared.row.Node.{Node}
-use Rattle.id_parts.specs.declared.row.Node.TheVariants.{Split}
+use Rattle.id_parts.specs.declared.row.Node.TheVariants.{Name, Split}
 use Rattle.id_parts.specs.Rows.{at}
 use Rattle.id_check.specs.declared.checked.Checked.{Checked}
 use Rattle.id_check.specs.Programs.{binder, rows}
 use Rattle.id_check.proofs.ProgramsLemmas.{binder_below}
 use Rattle.id_desugar.specs.Ends.{end_row}
-use Rattle.id_desugar.specs.Regions.{handed, has, imports, imports_by, imports_of, is_outside, with_use}
+use Rattle.id_desugar.specs.Regions.{handed, has, imports, imports_by, imports_of, is_outside, used, used_by, with_use}
 use Rattle.id_desugar.specs.Gathering.{AreFilled, AreMarked, AreUpTo, is_before, is_split, with_uses}
 use Rattle.id_desugar.proofs.UsesLemmas.{has_last, inner_span}
 
@@ -68,10 +68,18 @@ with_uses-next lo hi bs [] i l = absurd (omega arith)
 with_uses-next lo hi bs (c ∷ cs) zero l = refl
 with_uses-next lo hi bs (c ∷ cs) (suc i) l = with_uses-next lo hi (with_use lo hi bs (Some c)) cs i (omega (arith, l))
 
--- a row's binder is a row
-pub binder_within : (P : Checked) (i n : ℕ) (o : Option ℕ) → i < length (rows P) → o ≡ binder P i → n ≡ length (rows P) → IfSome o (λ b. b < n)
-binder_within P i n None l e f = tt
-binder_within P i n (Some b) l e f = let low = binder_below P i b l (sym e) in omega (arith, low, f)
+-- what a row uses is what its name is bound to, and the row of a name
+pub used_node : (o : Option ℕ) (n : Node) (b : ℕ) → used_by o n ≡ Some b → (o ≡ Some b) × ((x : ℕ) × (n ≡ Name x))
+used_node o (Name x) b e = (e, (x, refl))
+used_node o _ b e = cc
+
+used_below : (P : Checked) (i b : ℕ) → i < length (rows P) → used P i ≡ Some b → b < length (rows P)
+used_below P i b l e = binder_below P i b l (used_node (binder P i) (at (rows P) i).node b e).0
+
+-- the binder of what a row uses is a row
+pub used_within : (P : Checked) (i n : ℕ) (o : Option ℕ) → i < length (rows P) → o ≡ used P i → n ≡ length (rows P) → IfSome o (λ b. b < n)
+used_within P i n None l e f = tt
+used_within P i n (Some b) l e f = let low = used_below P i b l (sym e) in omega (arith, low, f)
 
 with_use-among : (lo hi : ℕ) (bs : List ℕ) (o : Option ℕ) (b : ℕ) → Among b (with_use lo hi bs o) → Among b bs ⊎ (o ≡ Some b)
 with_use-among lo hi bs None b h = inl h
@@ -85,9 +93,9 @@ with_use-among lo hi bs (Some c) b h = by (is_outside lo hi c) (has bs c) h
 -- and so is an import
 pub imports_within : (P : Checked) (lo hi k b : ℕ) → lo + k ≤ length (rows P) → Among b (imports_by P lo hi k) → b < length (rows P)
 imports_within P lo hi zero b l h = absurd h
-imports_within P lo hi (suc k) b l h = elim (with_use-among lo hi (imports_by P lo hi k) (binder P (lo + k)) b h) [
+imports_within P lo hi (suc k) b l h = elim (with_use-among lo hi (imports_by P lo hi k) (used P (lo + k)) b h) [
   | inl i ↦ imports_within P lo hi k b (omega arith) i
-  | inr e ↦ binder_below P (lo + k) b (omega arith) e
+  | inr e ↦ used_below P (lo + k) b (omega arith) e
 ]
 
 pub split_node : (n : Node) → is_split n ≡ true → (t : ℕ) × (n ≡ Split t)
@@ -105,12 +113,12 @@ filled_at P n s e L f l is low split =
     less : nat_lt e n ≡ true
     less = grind (arith, nat_tests)
 
--- noting a row's binder is one step
-pub imports_by-next : (P : Checked) (lo hi n : ℕ) (bs new : List ℕ) (o : Option ℕ) → lo ≤ n → bs ≡ imports_by P lo hi (n - lo) → o ≡ binder P n → new ≡ with_use lo hi bs o → new ≡ imports_by P lo hi (n + 1 - lo)
+-- noting what a row uses is one step
+pub imports_by-next : (P : Checked) (lo hi n : ℕ) (bs new : List ℕ) (o : Option ℕ) → lo ≤ n → bs ≡ imports_by P lo hi (n - lo) → o ≡ used P n → new ≡ with_use lo hi bs o → new ≡ imports_by P lo hi (n + 1 - lo)
 imports_by-next P lo hi n bs new o l e b h =
     let next : suc (n - lo) ≡ n + 1 - lo = omega (arith, l) in
     let here : lo + (n - lo) ≡ n = omega (arith, l) in
-    h ∙ ap (λ z. with_use lo hi z o) e ∙ ap (with_use lo hi (imports_by P lo hi (n - lo))) (b ∙ ap (binder P) (sym here)) ∙ ap (imports_by P lo hi) next
+    h ∙ ap (λ z. with_use lo hi z o) e ∙ ap (with_use lo hi (imports_by P lo hi (n - lo))) (b ∙ ap (used P) (sym here)) ∙ ap (imports_by P lo hi) next
 
 -- and noting the imports of an inner conditional goes on to its end
 pub imports_by-over : (P : Checked) (lo hi n e : ℕ) (bs cs new : List ℕ) → lo ≤ n → n < e → e ≤ hi → bs ≡ imports_by P lo hi (n + 1 - lo) → cs ≡ imports P (n + 1) e

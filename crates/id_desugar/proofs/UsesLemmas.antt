@@ -4,8 +4,7 @@ use Rattle.std.specs.Prelude.{◌==◌, ◌-◌, if◌then◌else◌}
 use Rattle.std.proofs.lemmas.Bool.{false≢true}
 use Rattle.std.proofs.lemmas.Bool.Decides.{nat_tests}
 use Rattle.id_check.specs.declared.checked.Checked.{Checked}
-use Rattle.id_check.specs.Programs.{binder}
-use Rattle.id_desugar.specs.Regions.{has, imports_by, is_outside, with_use}
+use Rattle.id_desugar.specs.Regions.{has, imports_by, is_outside, used, with_use}
 use Rattle.id_desugar.specs.Gathering.{with_uses}
 
 keep : (t u v : Bool) → (u ≡ true → v ≡ true) → (if t then true else u) ≡ true → (if t then true else v) ≡ true
@@ -95,6 +94,6 @@ inner_span P lo hi a e zero l h = ap (imports_by P lo hi) (omega arith)
 inner_span P lo hi a e (suc k) l h =
     let there : (a - lo) + suc k ≡ suc ((a - lo) + k) = omega arith in
     let row : lo + ((a - lo) + k) ≡ a + k = omega (arith, l) in
-    ap (imports_by P lo hi) there ∙ ap (λ z. with_use lo hi (imports_by P lo hi ((a - lo) + k)) (binder P z)) row
-    ∙ ap (λ z. with_use lo hi z (binder P (a + k))) (inner_span P lo hi a e k l h)
-    ∙ sym (one_more lo hi a e (imports_by P lo hi (a - lo)) (imports_by P a e k) (binder P (a + k)) l h)
+    ap (imports_by P lo hi) there ∙ ap (λ z. with_use lo hi (imports_by P lo hi ((a - lo) + k)) (used P z)) row
+    ∙ ap (λ z. with_use lo hi z (used P (a + k))) (inner_span P lo hi a e k l h)
+    ∙ sym (one_more lo hi a e (imports_by P lo hi (a - lo)) (imports_by P a e k) (used P (a + k)) l h)

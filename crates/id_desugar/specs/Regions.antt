@@ -1,7 +1,7 @@
 -- The order in which rows are made into instructions, and the names that regions import (docs/GRAPH.md, "Imports").
 use Rattle.std.specs.Prelude.{ℕ, zero, suc, ◌+◌, ◌-◌, ◌==◌, Bool, true, false, if◌then◌else◌, ◌||◌, nat_lt, nat_le, List, [], ◌∷◌, ◌++◌, length, Option, None, Some}
 use Rattle.id_parts.specs.declared.row.Node.{Node}
-use Rattle.id_parts.specs.declared.row.Node.TheVariants.{Split}
+use Rattle.id_parts.specs.declared.row.Node.TheVariants.{Name, Split}
 use Rattle.id_parts.specs.Rows.{at}
 use Rattle.id_check.specs.declared.checked.Checked.{Checked}
 use Rattle.id_check.specs.Programs.{rows, binder}
@@ -20,6 +20,15 @@ order_by (suc n) = n ∷ below n
 abbrev pub order_of : Checked → List ℕ
 order_of P = order_by (length (rows P))
 
+-- the binder of the value that a row of this node uses, where o is the binder of its name: a procedure's name is none of a value
+abbrev pub used_by : Option ℕ → Node → Option ℕ
+used_by o (Name x) = o
+used_by o _ = None
+
+-- the binder of the value that the row uses, if it uses one
+abbrev pub used : Checked → ℕ → Option ℕ
+used P i = used_by (binder P i) (at (rows P) i).node
+
 -- whether the row is none of those from lo up to hi
 abbrev pub is_outside : ℕ → ℕ → ℕ → Bool
 is_outside lo hi b = nat_lt b lo || nat_le hi b
@@ -36,7 +45,7 @@ with_use lo hi bs (Some b) = if is_outside lo hi b then (if has bs b then bs els
 -- the imports of the rows from lo on, as far as the first k of them use them
 abbrev pub imports_by : Checked → ℕ → ℕ → ℕ → List ℕ
 imports_by P lo hi zero = []
-imports_by P lo hi (suc k) = with_use lo hi (imports_by P lo hi k) (binder P (lo + k))
+imports_by P lo hi (suc k) = with_use lo hi (imports_by P lo hi k) (used P (lo + k))
 
 -- the binders outside that uses in the rows from lo up to hi mean, each once, in order of first use
 abbrev pub imports : Checked → ℕ → ℕ → List ℕ

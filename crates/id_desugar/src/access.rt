@@ -4,6 +4,7 @@ ghost use Rattle.std.specs.Prelude.{◌≡◌, ◌<◌, length};
 ghost use Rattle.id_check.specs.Programs as programs;
 ghost use Rattle.id_parts.specs.Rows as table;
 ghost use Rattle.id_desugar.specs.Ends.{AreEnds, end_of};
+ghost use Rattle.id_desugar.specs.Regions.{used};
 
 use id_check::Checked;
 use id_parts::{Node, Region, Row};
@@ -38,6 +39,16 @@ pub fn binder_at(checked: &Checked, n: usize) -> Option<usize>
     match checked.binders.get(n) {
         Some(binder) => *binder,
         None => None,
+    }
+}
+
+/// The binder of the value that a row uses, if it uses one: a procedure's name is none of a value.
+pub fn used_at(checked: &Checked, n: usize) -> Option<usize>
+    ensures { result ≡ used checked.now n }
+{
+    match row_at(checked, n).node {
+        Node::Name { .. } => binder_at(checked, n),
+        _ => None,
     }
 }
 

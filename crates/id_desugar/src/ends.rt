@@ -28,6 +28,7 @@ pub fn begun_at(node: Node) -> Option<usize>
     match node {
         Node::Def { head, .. } => Some(head),
         Node::If { split, .. } => Some(split),
+        Node::Call { enter, .. } => Some(enter),
         _ => None,
     }
 }

@@ -9,7 +9,7 @@ ghost use Rattle.id_desugar.specs.Gathering.{AreFilled, AreMarked, AreUpTo, Ends
 ghost use Rattle.id_list.specs.List.{Among};
 ghost use Rattle.id_parts.specs.Rows.{at};
 
-use crate::access::{binder_at, row_at};
+use crate::access::{row_at, used_at};
 use crate::ends::begun_at;
 use id_check::Checked;
 use id_list::Sequence;
@@ -161,7 +161,7 @@ fn note_row(
     ensures up_to { AreUpTo (span.hi + 1) marks.new.items }
     ensures marks { OnOk result (AreMarked (span.hi + 1) marks.new.items list.new.items) }
 {
-    note_used(marks, list, span, binder_at(checked, row))?;
+    note_used(marks, list, span, used_at(checked, row))?;
     let next = inner_end(checked, ends, row);
     if row < next && next < span.hi {
         note_all(marks, list, span, lists[row].as_slice())?;
@@ -185,7 +185,7 @@ fn inner_end(checked: &Checked, ends: &[Option<usize>], row: usize) -> usize
     }
 }
 
-/// Notes the binder of a row, if it has one.
+/// Notes the binder of what a row uses, if it uses something.
 fn note_used(
     marks: &mut Vec<usize>,
     list: &mut Vec<usize>,

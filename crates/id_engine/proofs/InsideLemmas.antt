@@ -48,6 +48,7 @@ module _ (text : List ℕ) (p : Program) (within : (q : ℕ) → HasPlace (progr
   checker_inside (checker.MainKind at) h = place_inside at h
   checker_inside (checker.Duplicate at first) h = place_inside at h.0
   checker_inside (checker.Unknown at) h = place_inside at h
+  checker_inside (checker.WrongCount at) h = place_inside at h
   checker_inside (checker.WrongKind at wanted found) h = place_inside at h
   checker_inside (checker.TooManyParams at) h = place_inside at h
   checker_inside checker.Memory h = tt

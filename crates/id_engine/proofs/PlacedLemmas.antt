@@ -1,6 +1,6 @@
 -- The facts and the instructions of a source stand at places of its program, and those lie in its text.
 use Rattle.std.proofs.Common.{◌≡◌, ℕ, zero, suc, ◌<◌, ◌≤◌, true, List, [], ◌∷◌, All, length, Some, refl, sym, ap, subst, ◌∙◌, arith}
-use Rattle.std.specs.Prelude.{slice_get}
+use Rattle.std.specs.Prelude.{get_or, slice_get}
 use Rattle.std.proofs.lemmas.Option.{slice_get-get_or}
 use Rattle.id_list.proofs.AmongLemmas.{Among-from_at}
 use Rattle.id_parts.specs.declared.row.Node.{Node}
@@ -18,7 +18,6 @@ use Rattle.id_meaning.specs.declared.Fact.TheVariants.{On, Has}
 use Rattle.id_meaning.specs.declared.NameValue.{NameValue}
 use Rattle.id_meaning.specs.declared.SourceFault.{SourceFault}
 use Rattle.id_meaning.specs.Sources.{Source}
-use Rattle.id_meaning.specs.Facts.{outermost}
 use Rattle.id_meaning.specs.Rounds.{Holds, Faulty}
 use Rattle.id_meaning.specs.Names.{AreSomeNames}
 use Rattle.id_meaning.specs.Computed.{AreFacts}
@@ -34,12 +33,9 @@ use Rattle.id_laws.proofs.Known.{known}
 use Rattle.id_print.specs.declared.report.Ending.{Ending}
 use Rattle.id_print.specs.declared.report.Ending.TheVariants.{Quiet, Stopped, Fault}
 use Rattle.id_print.specs.declared.report.Report.{Report}
-use Rattle.id_print.specs.Within.{StepsWithin, PointWithin, FaultWithin, EndingWithin, NameWithin, NamesWithin, ReportWithin, FactWithin, FactsWithin}
+use Rattle.id_print.specs.Within.{PointWithin, FaultWithin, EndingWithin, NameWithin, NamesWithin, ReportWithin, FactWithin, FactsWithin}
 use Rattle.id_engine.specs.Programs.{IsPlacedWithin}
 use Rattle.id_engine.specs.Reports.{SaysTruly, IsTrueOf}
-
-no_steps : (size : ℕ) → StepsWithin size outermost.steps
-no_steps size = λ k d within. absurd (omega (arith, within))
 
 -- a piece of a list of one or two, which have one place, has it
 one_place : (a : Piece) (k : ℕ) (f : Form) (e : ℕ) → slice_get (a ∷ []) k ≡ Some (piece f e) → e ≡ a.place
@@ -61,7 +57,7 @@ switch_place P q (b ∷ bs) (suc k) f e h = switch_place P q bs k f e h
 
 module _ {size : ℕ} {P : Checked} (h : IsPlacedWithin size P) where
   point_within : (p : Path) (e : ℕ) → IsPoint P p e → PointWithin size p e
-  point_within p e k = record { path = subst (λ (q : Path). StepsWithin size q.steps) (sym k.path) (no_steps size); place = h.within e k.place }
+  point_within p e k = record { path = λ j d l. h.within (get_or p.steps j d).place (k.path j d l); place = h.within e k.place }
 
   fact_within : (f : Fact) → Placed P f → FactWithin size f
   fact_within (On p e) k = point_within p e k

@@ -28,7 +28,7 @@ use Rattle.id_engine.specs.declared.refusal.Detail.{Detail}
 use Rattle.id_engine.specs.declared.refusal.Detail.TheVariants.{Nothing, Place, Kinds, Word}
 use Rattle.id_engine.specs.declared.refusal.Refusal.{Refusal}
 use Rattle.id_engine.specs.declared.refusal.Cause.{Cause}
-use Rattle.id_engine.specs.declared.refusal.Cause.TheVariants.{TooLong, BadByte, NumberTooLarge, File, Unexpected, TooDeep, NoMain, MainKind, Duplicate, Unknown, WrongKind, TooManyParams, TooLarge, MissingInput, UnknownInput, RepeatedInput, BadInput, BadSteps, BadRounds, TooManyFacts, Memory, Write}
+use Rattle.id_engine.specs.declared.refusal.Cause.TheVariants.{TooLong, BadByte, NumberTooLarge, File, Unexpected, TooDeep, NoMain, MainKind, Duplicate, Unknown, WrongCount, WrongKind, TooManyParams, TooLarge, MissingInput, UnknownInput, RepeatedInput, BadInput, BadSteps, BadRounds, TooManyFacts, Memory, Write}
 use Rattle.id_engine.specs.Programs.{IsProgramOf, HasInputs, IsNameOfParam, IsRefusedBy}
 
 -- the number of a cause, where it has one, its name, and the status of the program after it
@@ -43,6 +43,7 @@ row_of NoMain = (Some 7, codes "NoMain", 2)
 row_of MainKind = (Some 8, codes "MainKind", 2)
 row_of Duplicate = (Some 9, codes "Duplicate", 2)
 row_of Unknown = (Some 10, codes "Unknown", 2)
+row_of WrongCount = (Some 11, codes "WrongCount", 2)
 row_of WrongKind = (Some 12, codes "WrongKind", 2)
 row_of TooManyParams = (Some 13, codes "TooManyParams", 2)
 row_of TooLarge = (Some 14, codes "TooLarge", 2)
@@ -81,6 +82,7 @@ checker_refusal checker.NoMain = plain NoMain
 checker_refusal (checker.MainKind at) = placed MainKind at
 checker_refusal (checker.Duplicate at first) = placed Duplicate at
 checker_refusal (checker.Unknown at) = placed Unknown at
+checker_refusal (checker.WrongCount at) = placed WrongCount at
 checker_refusal (checker.WrongKind at wanted found) = record { cause = WrongKind; detail = Kinds at wanted found }
 checker_refusal (checker.TooManyParams at) = placed TooManyParams at
 checker_refusal checker.Memory = plain Memory

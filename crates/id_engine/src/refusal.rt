@@ -39,6 +39,8 @@ pub enum Cause {
     Duplicate,
     /// A name without binder: `x`
     Unknown,
+    /// A call with another number of arguments than its procedure has parameters: no text brings it yet.
+    WrongCount,
     /// An expression of another kind than is wanted: `true`, where `main` is an int.
     WrongKind,
     /// More than 16 parameters.
@@ -117,6 +119,7 @@ impl Cause {
             Cause::MainKind => numbered(8, b"MainKind", 2),
             Cause::Duplicate => numbered(9, b"Duplicate", 2),
             Cause::Unknown => numbered(10, b"Unknown", 2),
+            Cause::WrongCount => numbered(11, b"WrongCount", 2),
             Cause::WrongKind => numbered(12, b"WrongKind", 2),
             Cause::TooManyParams => numbered(13, b"TooManyParams", 2),
             Cause::TooLarge => numbered(14, b"TooLarge", 2),
@@ -229,6 +232,7 @@ fn of_check_cause<'a>(cause: CheckCause) -> Refusal<'a>
         CheckCause::MainKind { at } => placed(Cause::MainKind, at),
         CheckCause::Duplicate { at, .. } => placed(Cause::Duplicate, at),
         CheckCause::Unknown { at } => placed(Cause::Unknown, at),
+        CheckCause::WrongCount { at } => placed(Cause::WrongCount, at),
         CheckCause::WrongKind { at, wanted, found } => Refusal {
             cause: Cause::WrongKind,
             detail: Detail::Kinds { at, wanted, found },

@@ -1,48 +1,69 @@
 -- Every message of a run of a schemas' graph tells what its port wants, and so does every firing.
-use Rattle.std.proofs.Common.{◌≡◌, inr, ℕ, Bool as Truth, true, Some, List, slice_get, refl, sym, ◌∙◌, ap, subst}
+use Rattle.std.proofs.Common.{◌≡◌, ◌⊎◌, inl, inr, length, arith, ℕ, ◌+◌, ◌<◌, Bool as Truth, true, Some, List, slice_get, refl, sym, ◌∙◌, ap, subst}
+use Rattle.std.specs.Prelude.{option_map}
 use Rattle.id_list.specs.List.{Among}
-use Rattle.id_parts.specs.declared.row.Node.TheVariants.{Program}
+use Rattle.id_list.proofs.AmongLemmas.{Among-from_at}
+use Rattle.id_parts.specs.declared.row.Node.TheVariants.{Head, Param, Enter, Call, Program}
+use Rattle.id_parts.specs.Rows.{at, top}
+use Rattle.id_parts.specs.Tables.{HasPart, is_expression}
+use Rattle.id_parts.specs.Turns.{IsDefOf, params_at}
 use Rattle.id_check.specs.declared.checked.Checked.{Checked}
-use Rattle.id_check.specs.Programs.{place, region}
+use Rattle.id_check.specs.Programs.{Stands, place, region, rows}
 use Rattle.id_graph.specs.declared.dests.Dest.{Dest}
 use Rattle.id_graph.specs.declared.dests.Port.{Port}
 use Rattle.id_graph.specs.declared.dests.Port.TheVariants.{Zero, One}
 use Rattle.id_graph.specs.declared.instr.Instr.{Instr}
 use Rattle.id_graph.specs.declared.instr.Op.{Op}
+use Rattle.id_graph.specs.declared.instr.Op.TheVariants as op
 use Rattle.id_graph.specs.Graph.{Parts}
 use Rattle.id_tag.specs.declared.Context.{Context}
 use Rattle.id_tag.specs.declared.Tag.{Tag}
 use Rattle.id_tag.specs.declared.Value.{Value}
+use Rattle.id_tag.specs.declared.Value.TheVariants as value
 use Rattle.id_tag.specs.declared.Payload.{Payload}
 use Rattle.id_tag.specs.declared.Payload.TheVariants.{Token}
 use Rattle.id_ops.specs.declared.Operands.{Operands}
 use Rattle.id_ops.specs.declared.Fresh.{Fresh}
 use Rattle.id_ops.specs.declared.Fired.{Fired}
 use Rattle.id_ops.specs.declared.Fired.TheVariants.{Out, Side, Entered, Sent, Failed, Nothing}
-use Rattle.id_ops.specs.Operators.{fired}
+use Rattle.id_ops.specs.Operators.{fired, tag_within}
+use Rattle.id_valid.specs.Roles.{op_at}
+use Rattle.id_record.specs.Sends.{beside}
 use Rattle.id_record.specs.Records.{dests_at, sent_by}
 use Rattle.id_core.specs.Steps.{token_to}
 use Rattle.id_core.specs.Machines.{World}
+use Rattle.id_meaning.specs.declared.Path.{Path}
+use Rattle.id_meaning.specs.declared.Fact.TheVariants.{Has}
 use Rattle.id_meaning.specs.Sources.{Source}
+use Rattle.id_meaning.specs.Facts.{below, argument_has, call_has}
+use Rattle.id_meaning.specs.Rounds.{Holds}
+use Rattle.id_desugar.specs.Ends.{end_of}
+use Rattle.id_build.specs.declared.arc.Form.{Form}
 use Rattle.id_build.specs.declared.arc.Origin.{Origin}
-use Rattle.id_build.specs.Rows.{node, op_by, answer_row}
+use Rattle.id_build.specs.Rows.{answer_row, body_of, called, node, op_by, param_of}
 use Rattle.id_build.specs.Schemas.{Numbered}
 use Rattle.id_runs.specs.Activations.{Activation, main_activation, at_iteration, activation_of, tag_in}
 use Rattle.id_runs.specs.Events.{Event, FiresAs, GivesOn}
 use Rattle.id_runs.specs.Runs.{Reach, handled, starting}
-use Rattle.id_runs.proofs.Givings.{SentAs, along as along_arc, to_tag, to_start, sent_as}
+use Rattle.id_runs.proofs.Givings.{SentAs, along as along_arc, to_tag, sent_as, to_start}
 use Rattle.id_runs.proofs.Messages.{sent_from}
 use Rattle.id_runs.proofs.Waiting.{HasFired, has_fired, OperandsHandled, one_handled, two_handled}
 use Rattle.id_runs.proofs.EveryMessage.{Passes, every_message}
-use Rattle.id_laws.specs.Activations.{Speaks, Live, ReturnsTo, to_answer}
-use Rattle.id_laws.specs.Topics.{IsPart, Shown, Tells, Told, AllTell, AllSpeak, topic_of, topic_at, wants, result_of}
+use Rattle.id_laws.specs.Activations.{Opens, PathOf, Speaks, Live, entered, ReturnsTo, to_answer, to_row}
+use Rattle.id_laws.specs.Topics.{IsPart, Shown, ShownContext, Tells, Told, AllTell, AllSpeak, ContextOf, speaks_of, topic_of, topic_at, wants, result_of}
 use Rattle.id_laws.proofs.Assumed.{IsKnown}
-use Rattle.id_laws.proofs.Arcs.{Does, answers, doing, part_of, target_part}
+use Rattle.id_laws.proofs.Arcs.{Does, answers, enters, gets, opens, returns, starts, doing, makes, part_of, target_part}
+use Rattle.id_laws.proofs.Blocks.{a_param}
+use Rattle.id_laws.proofs.Calls.{arg_at, call_at, callee_stands}
 use Rattle.id_laws.proofs.Sent.{sends_there}
+use Rattle.id_build.proofs.EndsLemmas.{end_is}
 use Rattle.id_laws.proofs.Tokens.{one_part, told_at}
+use Rattle.id_laws.proofs.Seats.{OneSeat, one_path, entered_path, live_first, live_path}
 use Rattle.id_laws.proofs.Sources.{feeds_source}
 use Rattle.id_laws.proofs.Feeding.{feeds_tell}
-use Rattle.id_laws.proofs.Firing.{Returned, Means, OperandsTell, one, two, firing_means}
+use Rattle.id_laws.proofs.TurnedOn.{holds_by, turned_on, without_none}
+use Rattle.id_laws.proofs.Firing.{Returned, Passed, Entering, Means, OperandsTell, one, two, firing_means}
+use Rattle.id_laws.proofs.Started.{Starts, first, second, starts_as}
 
 -- ---- the part that a firing is of
 
@@ -50,12 +71,12 @@ use Rattle.id_laws.proofs.Firing.{Returned, Means, OperandsTell, one, two, firin
 pub record FiredPart (P : Checked) (g : Parts) (number : ℕ → ℕ → ℕ) (t : Tag) (f : Fired) (ops : Operands) : Type 0 where
   pub row : ℕ
   pub part : ℕ
-  pub op : Op
+  pub form : Form
   pub fresh : Fresh
-  pub does : Does P row part op
+  pub does : Does P row part form
   pub is_part : IsPart P row part
   pub at : tag_in (activation_of t) (number row part) ≡ t
-  pub is : f ≡ fired op t ops fresh
+  pub is : f ≡ fired (op_by number form) t ops fresh
 
 one_instr : {i j : Instr} → Some i ≡ Some j → i ≡ j
 one_instr e = cc
@@ -67,11 +88,11 @@ fired_part {P} {g} {number} {run} {t} {f} {ops} numbered h =
     let d = doing n.makes in
     let m = numbered.made n.row n.part n.form n.place n.makes in
     let same : h.instr ≡ m.instr = one_instr (sym h.at ∙ ap (slice_get g.instrs) (sym n.is) ∙ m.at) in
-    let op_is : (h.instr).op ≡ d.op = ap (λ (i : Instr). i.op) same ∙ m.op ∙ ap (op_by number) d.form_is in
+    let op_is : (h.instr).op ≡ op_by number n.form = ap (λ (i : Instr). i.op) same ∙ m.op in
     record {
       row = n.row;
       part = n.part;
-      op = d.op;
+      form = n.form;
       fresh = h.fresh;
       does = d.does;
       is_part = record { form = n.form; place = n.place; makes = n.makes };
@@ -79,7 +100,7 @@ fired_part {P} {g} {number} {run} {t} {f} {ops} numbered h =
       is = h.is ∙ ap (λ o. fired o t ops h.fresh) op_is;
     }
 
-module _ (S : Source) (known : IsKnown S.checked) (g : Parts) (number : ℕ → ℕ → ℕ) (numbered : Numbered S.checked g number) (run : List Event) where
+module _ (S : Source) (known : IsKnown S.checked) (g : Parts) (number : ℕ → ℕ → ℕ) (numbered : Numbered S.checked g number) (run : List Event) (seats : OneSeat S number run) where
   abbrev P : Checked
   P = S.checked
 
@@ -105,7 +126,17 @@ module _ (S : Source) (known : IsKnown S.checked) (g : Parts) (number : ℕ → 
       let h = has_fired g S.inputs count s hs r x in
       let y = fired_part numbered h in
       let tell = operands_tell hs all t _ x.operands y.row y.part y.is_part y.at h.handled_are in
-      (y, subst (Means S number run (activation_of t) y.row y.part) (sym y.is) (firing_means S known number run (activation_of t) y.row ((y.is_part).makes).within t y.fresh y.part y.op x.operands y.does tell))
+      (y, subst (Means S number run (activation_of t) y.row y.part) (sym y.is) (firing_means S known number run seats (activation_of t) y.row ((y.is_part).makes).within t y.fresh y.part y.form x.operands y.does tell))
+
+  -- the body of the procedure that an `Enter` calls is what its block gives
+  callee_body : (n : ℕ) {d : ℕ} (def : IsDefOf (rows P) d (called P n)) → result_of P (called P n) ≡ def.body
+  callee_body n {d} def =
+      let t = known.table in
+      let head = (t.head_is d def.name (called P n) def.body def.result def.within def.node).0 in
+      let less = ((t.formed).each d def.within).parts (called P n) (subst (λ m. HasPart m (called P n)) (sym def.node) (inl refl)) in
+      let end = end_is P t (called P n) (omega (arith, def.within, less.1)) head in
+      let one = t.one_def (end_of P (called P n)) d (called P n) end def in
+      ap (λ z. body_of (node P z)) one ∙ ap body_of def.node
 
   -- what a block gives goes to where it returns
   return_tells : {c : Context} {h : ℕ} {caller : Activation} {row : ℕ} → ReturnsTo S number run c h caller row → (v : Value) (k : ℕ)
@@ -116,23 +147,57 @@ module _ (S : Source) (known : IsKnown S.checked) (g : Parts) (number : ℕ → 
         subst (λ m. Tells S number run main_activation (wants P (answer_row P) (region P (answer_row P)) m 0 Zero) v) (sym ends) (record { iteration = k; live = live; shown = shown; at_first = refl }),
         part_of (Rattle.id_laws.proofs.Senders.last_row (known.table).some) (answers ends),
       )
+  return_tells {c = c} (to_row {a = a} {n = n} within is live opened) v k up shown =
+      let d = call_at known within is in
+      let q = end_of P n in
+      let body_is : result_of P (called P n) ≡ (d.def).body = callee_body n d.def in
+      let first : k ≡ 0 = live_first up in
+      let path = live_path live in
+      let here = entered_path within is opened path.1 in
+      let shown_path = subst (λ j. PathOf S number run (at_iteration c j) shown.path) first shown.path_of in
+      let same : shown.path ≡ below path.0 (place P q) 0 = one_path seats shown_path here ∙ ap (λ z. below path.0 z 0) d.place in
+      let has = subst (λ (z : Path × ℕ). Holds S (Has z.0 (place P z.1) shown.value)) {x = (_, result_of P (called P n))} {y = (below path.0 (place P q) 0, (d.def).body)} (λ i. ((without_none shown.path ∙ same) i, body_is i)) shown.holds in
+      let call_live = subst (Live S number run a) d.region live in
+      let on = turned_on S known seats call_live path.1 ((known.table).turned q d.within (ap is_expression d.node)) in
+      let stands : Stands P q (Call n d.count) = record { within = d.within; node = d.node } in
+      let gives = holds_by S _ _ (call_has stands d.bound (callee_stands d.def)) (on, (has, tt)) in (
+        subst (λ m. Tells S number run a (wants P q (region P q) m 0 Zero) v) (sym d.node) (
+          call_live,
+          record {
+            path = path.0;
+            path_of = path.1;
+            value = shown.value;
+            stands = shown.stands;
+            holds = subst (λ z. Holds S (Has z (place P q) shown.value)) (sym (without_none path.0)) gives;
+          },
+        ),
+        part_of d.within (gets d.node),
+      )
 
   -- what comes from a part, where its firing means so
-  origin_tells : (a : Activation) (s : Origin) (row part : ℕ) (f : Fired) (v : Value) → IsPart P s.row s.part → (node P s.row ≡ Program → ⊥) → IsPart P row part
+  origin_tells : (a : Activation) (s : Origin) (row part : ℕ) (f : Fired) (v : Value) → FiresAs run (tag_in a (number row part)) f
+      → IsPart P s.row s.part → (node P s.row ≡ Program → ⊥) → IsPart P row part
       → number s.row s.part ≡ number row part → GivesOn f s.side v
       → Means S number run a row part f → Tells S number run a (topic_of P s) v
-  origin_tells a s row part (Out w) v here other there same gives means =
+  origin_tells a s row part (Out w) v fires here other there same gives means =
       let at = one_part numbered here there same in
       let is : record { row = row; part = part; side = true } ≡ s = (λ i. record { row = sym at.0 i; part = sym at.1 i; side = sym gives.0 i }) in
       subst (λ (z : Origin × Value). Tells S number run a (topic_of P z.0) z.1) {x = (record { row = row; part = part; side = true }, w)} {y = (s, v)} (λ i. (is i, sym gives.1 i)) (means (λ e. other (ap (node P) at.0 ∙ e)))
-  origin_tells a s row part (Side b w) v here other there same gives means =
+  origin_tells a s row part (Side b w) v fires here other there same gives means =
       let at = one_part numbered here there same in
       let is : record { row = row; part = part; side = b } ≡ s = (λ i. record { row = sym at.0 i; part = sym at.1 i; side = sym gives.0 i }) in
       subst (λ (z : Origin × Value). Tells S number run a (topic_of P z.0) z.1) {x = (record { row = row; part = part; side = b }, w)} {y = (s, v)} (λ i. (is i, sym gives.1 i)) means
-  origin_tells a s row part (Entered c) v here other there same gives means = absurd means
-  origin_tells a s row part (Sent u w) v here other there same gives means = absurd gives
-  origin_tells a s row part (Failed k) v here other there same gives means = absurd gives
-  origin_tells a s row part Nothing v here other there same gives means = absurd gives
+  origin_tells a s row part (Entered c) v fires here other there same gives means =
+      let at = one_part numbered here there same in
+      let is : record { row = row; part = part; side = true } ≡ s = (λ i. record { row = sym at.0 i; part = sym at.1 i; side = sym gives.0 i }) in
+      let context : ShownContext S number run a row (value.Context c) =
+      record { context = c; is = refl; live = means.live; opens = subst (λ k. FiresAs run (tag_in a (number row k)) (Entered c)) means.first fires } in
+      let tells : Tells S number run a (topic_of P (record { row = row; part = part; side = true })) (value.Context c) =
+      subst (λ m. Tells S number run a (speaks_of P row (region P row) m part true) (value.Context c)) (sym means.node) context in
+      subst (λ (z : Origin × Value). Tells S number run a (topic_of P z.0) z.1) {x = (record { row = row; part = part; side = true }, value.Context c)} {y = (s, v)} (λ i. (is i, sym gives.1 i)) tells
+  origin_tells a s row part (Sent u w) v fires here other there same gives means = absurd gives
+  origin_tells a s row part (Failed k) v fires here other there same gives means = absurd gives
+  origin_tells a s row part Nothing v fires here other there same gives means = absurd gives
 
   along : (t : Tag) (row part : ℕ) (f : Fired) (b : Truth) (v : Value) → FiresAs run t f → GivesOn f b v → IsPart P row part
       → tag_in (activation_of t) (number row part) ≡ t
@@ -143,7 +208,7 @@ module _ (S : Source) (known : IsKnown S.checked) (g : Parts) (number : ℕ → 
       let source = feeds_source P known arc.feeds in
       let a = activation_of t in
       let gives' = subst (λ c. GivesOn f c v) (sym arc.on) gives in
-      let tells = origin_tells a arc.origin row part f v source.is_part source.not_answer is_part (arc.from ∙ ap (λ (u : Tag). u.instr) (sym at)) gives' means in
+      let tells = origin_tells a arc.origin row part f v (subst (λ u. FiresAs run u f) (sym at) fires) source.is_part source.not_answer is_part (arc.from ∙ ap (λ (u : Tag). u.instr) (sym at)) gives' means in
       let says : Speaks S number run a arc.origin v = record { fired = f; fires = subst (λ u. FiresAs run u f) (ap (tag_in a) (sym arc.from)) fires; gives = gives' } in
       record {
         activation = a;
@@ -153,7 +218,7 @@ module _ (S : Source) (known : IsKnown S.checked) (g : Parts) (number : ℕ → 
         value = v;
         is_part = target_part arc.feeds;
         is = ap (λ n. Token (tag_in a n) d.port v) (sym arc.goes);
-        tells = feeds_tell S known number run a arc.origin arc.row arc.part d.port v arc.feeds says tells;
+        tells = feeds_tell S known number run seats a arc.origin arc.row arc.part d.port v arc.feeds says tells;
       }
 
   back : (a : Activation) (h : ℕ) (u : Tag) (v : Value) → Returned S number run a h u v → T (Token u Zero v)
@@ -161,15 +226,135 @@ module _ (S : Source) (known : IsKnown S.checked) (g : Parts) (number : ℕ → 
       let z = return_tells r.returns_to v (r.result).iteration (r.result).live (r.result).shown in
       record { activation = r.caller; row = r.row; part = 0; port = Zero; value = v; is_part = z.1; is = ap (λ t. Token t Zero v) r.goes; tells = z.0 }
 
+  -- the head of the procedure that an `Enter` calls
+  callee_head : (n : ℕ) {d : ℕ} (def : IsDefOf (rows P) d (called P n)) → (called P n < length (rows P)) × (node P (called P n) ≡ Head)
+  callee_head n {d} def =
+      let t = known.table in
+      let less = ((t.formed).each d def.within).parts (called P n) (subst (λ m. HasPart m (called P n)) (sym def.node) (inl refl)) in
+      (omega (arith, def.within, less.1), (t.head_is d def.name (called P n) def.body def.result def.within def.node).0)
+
+  -- an argument goes to its parameter, in the context that its `Enter` has made
+  passed_tells : (a : Activation) (n : ℕ) (u : Tag) (v : Value) → n < length (rows P) → Passed S number run a n u v → T (Token u Zero v)
+  passed_tells a n u v within x =
+      let arg = arg_at known within x.node in
+      let d = call_at known arg.enter_within arg.enter in
+      let e = x.enter in
+      let q = end_of P e in
+      let b = param_of P e x.index in
+      let goes = known.passed n e x.index x.argument within x.node in
+      let param = a_param (rows P) (called P e) (length (rows P)) b (Among-from_at b (params_at (rows P) (called P e)) x.index goes.0) in
+      let region_is : region P b ≡ top (called P e) = known.params b (param.param).name (param.param).kind param.within (param.param).is ∙ ap top param.block in
+      let shown = (x.value).1 in
+      let here = entered_path arg.enter_within arg.enter x.opens shown.path_of in
+      let on = turned_on S known seats (subst (Live S number run a) d.region x.live) shown.path_of ((known.table).turned q d.within (ap is_expression d.node)) in
+      let stands : Stands P q (Call e d.count) = record { within = d.within; node = d.node } in
+      let has = subst (λ z. Holds S (Has z (place P x.argument) shown.value)) (without_none shown.path) shown.holds in
+      let gets_it = holds_by S _ _ (argument_has stands (record { within = within; node = x.node }) d.bound (callee_stands d.def) goes.0) (on, (has, tt)) in
+      let path_is : below shown.path (place P q) 0 ≡ below shown.path (place P e) 0 = ap (λ z. below shown.path z 0) (sym d.place) in
+      let p = below shown.path (place P e) 0 in
+      record {
+        activation = at_iteration x.context 0;
+        row = b;
+        part = 0;
+        port = Zero;
+        value = v;
+        is_part = part_of param.within (enters (param.param).is);
+        is = ap (λ t. Token t Zero v) x.goes;
+        tells = subst (λ m. Tells S number run (at_iteration x.context 0) (wants P b (region P b) m 0 Zero) v) (sym (param.param).is) (
+          subst (Live S number run (at_iteration x.context 0)) (sym region_is) (entered arg.enter_within arg.enter x.live x.opens),
+          record {
+            path = p;
+            path_of = here;
+            value = shown.value;
+            stands = shown.stands;
+            holds = subst (λ z. Holds S (Has z (place P b) shown.value)) (path_is ∙ sym (without_none p)) gets_it;
+          },
+        );
+      }
+
+  -- the operator of an `Enter` names the first instruction of its block, and the call's
+  enter_names : {n x b r : ℕ} (t : Tag) → n < length (rows P) → node P n ≡ Enter x → t.instr ≡ number n 0 → op_at g t.instr ≡ Some (op.Enter b r)
+      → (b ≡ number (called P n) 0) × (r ≡ number (end_of P n) 0)
+  enter_names {n} {b = b} {r = r} t within is at names_are =
+      let m = numbered.made n 0 _ _ (makes within (opens is)) in
+      let made : op_at g t.instr ≡ Some (op.Enter (number (called P n) 0) (number (end_of P n) 0)) =
+      ap (op_at g) at ∙ ap (option_map (λ (i : Instr). i.op)) m.at ∙ ap (λ o. Some o) m.op in
+      let both : Some (op.Enter b r) ≡ Some (op.Enter (number (called P n) 0) (number (end_of P n) 0)) = sym names_are ∙ made in
+      (cc, cc)
+
+  -- the signal of an `Enter`
+  first_tells : (t : Tag) (n : ℕ) (c : Context) (b : ℕ) → n < length (rows P) → Entering S number run (activation_of t) n 0
+      → Opens S number run (activation_of t) n c → b ≡ number (called P n) 0 → T (Token (tag_within c b) Zero value.Signal)
+  first_tells t n c b within x opened at =
+      let d = call_at known within x.node in
+      let head = callee_head n d.def in
+      record {
+        activation = at_iteration c 0;
+        row = called P n;
+        part = 0;
+        port = Zero;
+        value = value.Signal;
+        is_part = part_of head.0 (starts head.1);
+        is = ap (λ m. Token (tag_within c m) Zero value.Signal) at;
+        tells = subst (λ m. Tells S number run (at_iteration c 0) (wants P (called P n) (region P (called P n)) m 0 Zero) value.Signal) (sym head.1)
+            (refl, entered within x.node x.live opened);
+      }
+
+  -- and its way back
+  second_tells : (t : Tag) (n : ℕ) (c : Context) (b r : ℕ) → n < length (rows P) → Entering S number run (activation_of t) n 0
+      → Opens S number run (activation_of t) n c → b ≡ number (called P n) 0 → r ≡ number (end_of P n) 0
+      → T (Token (tag_within c (b + 1)) Zero (value.Continuation (beside t r)))
+  second_tells t n c b r within x opened at back_at =
+      let d = call_at known within x.node in
+      let head = callee_head n d.def in
+      let second : b + 1 ≡ number (called P n) 1 = ap (λ m. m + 1) at ∙ sym (numbered.parts_behind (called P n) 1) in
+      let v = value.Continuation (beside t r) in
+      let value_is : v ≡ value.Continuation (tag_in (activation_of t) (number (end_of P n) 0)) = ap (λ m. value.Continuation (beside t m)) back_at in
+      record {
+        activation = at_iteration c 0;
+        row = called P n;
+        part = 1;
+        port = Zero;
+        value = v;
+        is_part = part_of head.0 (returns head.1);
+        is = ap (λ m. Token (tag_within c m) Zero v) second;
+        tells = subst (λ m. Tells S number run (at_iteration c 0) (wants P (called P n) (region P (called P n)) m 1 Zero) v) (sym head.1)
+            (record { caller = activation_of t; row = end_of P n; is = value_is; returns = to_row within x.node x.live opened; at_first = refl });
+      }
+
   sent_tells : (t : Tag) (row part : ℕ) → IsPart P row part → tag_in (activation_of t) (number row part) ≡ t → (f : Fired) → FiresAs run t f
       → Means S number run (activation_of t) row part f
       → (x : Payload) → Among x (sent_by g t f) → T x
   sent_tells t row part is_part at f fires means x out = by (sent_as g t f x out)
     where
+      entering : (c : Context) → f ≡ Entered c
+          → (Entering S number run (activation_of t) row 0) × (Opens S number run (activation_of t) row c) × (t.instr ≡ number row 0)
+      entering c is =
+          let z = subst (Means S number run (activation_of t) row part) is means in
+          let tag_is : t ≡ tag_in (activation_of t) (number row 0) = sym at ∙ ap (λ k. tag_in (activation_of t) (number row k)) z.first in (
+            record { name = z.name; node = z.node; first = refl; live = z.live },
+            subst (λ (y : Tag × Fired). FiresAs run y.0 y.1) {x = (t, f)} {y = (tag_in (activation_of t) (number row 0), Entered c)} (λ i. (tag_is i, is i)) fires,
+            ap (λ (u : Tag). u.instr) tag_is,
+          )
+
+      sends : (u : Tag) (v : Value) → Returned S number run (activation_of t) row u v ⊎ Passed S number run (activation_of t) row u v → T (Token u Zero v)
+      sends u v (inl z) = back (activation_of t) row u v z
+      sends u v (inr z) = passed_tells (activation_of t) row u v (is_part.makes).within z
+
+      starting_tells : (c : Context) → f ≡ Entered c → Starts (op_at g t.instr) t c x → T x
+      starting_tells c is (first b r names_are says) =
+          let z = entering c is in
+          let names = enter_names t (is_part.makes).within (z.0).node z.2 names_are in
+          subst T (sym says) (first_tells t row c b (is_part.makes).within z.0 z.1 names.0)
+      starting_tells c is (second b r names_are says) =
+          let z = entering c is in
+          let names = enter_names t (is_part.makes).within (z.0).node z.2 names_are in
+          subst T (sym says) (second_tells t row c b r (is_part.makes).within z.0 z.1 names.0 names.1)
+
       by : SentAs g t f x → T x
       by (along_arc b v d gives among says) = subst T (sym says) (along t row part f b v fires gives is_part at means d among)
-      by (to_tag u v is says) = subst T (sym says) (back (activation_of t) row u v (subst (Means S number run (activation_of t) row part) is means))
-      by (to_start c is among) = absurd (subst (Means S number run (activation_of t) row part) is means)
+      by (to_tag u v is says) = subst T (sym says) (sends u v (subst (Means S number run (activation_of t) row part) is means))
+      by (to_start c is h) = starting_tells c is (starts_as t c x (op_at g t.instr) h)
 
   abbrev InRun : Event → Type 0
   InRun e = Among e run
@@ -193,4 +378,4 @@ module _ (S : Source) (known : IsKnown S.checked) (g : Parts) (number : ℕ → 
         let source = feeds_source P known feeds in
         let m = firing_tells run r (λ z h. all_tell z (inr h)) x.fires in
         let here : number o.row o.part ≡ number (m.0).row (m.0).part = sym (ap (λ (t : Tag). t.instr) (m.0).at) in
-        origin_tells a o (m.0).row (m.0).part x.fired v source.is_part source.not_answer (m.0).is_part here x.gives m.1
+        origin_tells a o (m.0).row (m.0).part x.fired v (subst (λ u. FiresAs run u x.fired) (sym (m.0).at) x.fires) source.is_part source.not_answer (m.0).is_part here x.gives m.1

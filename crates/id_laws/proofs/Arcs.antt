@@ -8,55 +8,56 @@ use Rattle.id_value.specs.declared.BinaryOp.{BinaryOp}
 use Rattle.id_list.specs.List.{Among}
 use Rattle.id_parts.specs.declared.row.Region.{Region}
 use Rattle.id_parts.specs.declared.row.Node.{Node}
-use Rattle.id_parts.specs.declared.row.Node.TheVariants.{Head, Param, Literal, Name, Unary, Binary, Split, If, Block, Binding, Def, Program}
+use Rattle.id_parts.specs.declared.row.Node.TheVariants.{Head, Param, Literal, Name, Unary, Binary, Split, If, Enter, Arg, Call, Block}
+use Rattle.id_parts.specs.declared.row.Node.TheVariants.{Binding, Def, Program}
 use Rattle.id_check.specs.declared.checked.Checked.{Checked}
 use Rattle.id_check.specs.Programs.{place, region, rows}
 use Rattle.id_graph.specs.declared.dests.Port.{Port}
 use Rattle.id_graph.specs.declared.dests.Port.TheVariants.{Zero, One}
-use Rattle.id_graph.specs.declared.instr.Op.{Op}
 use Rattle.id_graph.specs.declared.instr.Op.TheVariants as op
 use Rattle.id_graph.specs.declared.instr.PortKind.TheVariants.{Signal}
 use Rattle.id_desugar.specs.Ends.{end_of}
 use Rattle.id_desugar.specs.Regions.{imports_of}
 use Rattle.id_build.specs.declared.arc.Origin.{Origin}
 use Rattle.id_build.specs.declared.arc.Form.{Form}
-use Rattle.id_build.specs.declared.arc.Form.TheVariants.{Plain}
+use Rattle.id_build.specs.declared.arc.Form.TheVariants.{Plain, EnterAt, SendTo}
 use Rattle.id_build.specs.Rows.{node, body_of, result_of, port_of, port_at, binary_op, made_of, switches, feed, feeds_of, import_feeds, name_in, origin}
-use Rattle.id_build.specs.Rows.{trigger_of, piece}
+use Rattle.id_build.specs.Rows.{called, output, param_of, trigger_of, piece}
 use Rattle.id_build.specs.Schemas.{Makes, Feeds}
 use Rattle.id_laws.specs.Topics.{IsPart}
 
 -- ---- parts
 
--- the part of the row n does this
-pub data Does (P : Checked) (n : ℕ) : ℕ → Op → Type 0 where
-  starts : node P n ≡ Head → Does P n 0 (op.Merge Signal)
-  returns : node P n ≡ Head → Does P n 1 (op.Back (port_of (result_of (node P (end_of P n)))))
-  enters : {x : ℕ} {k : Kind} → node P n ≡ Param x k → Does P n 0 (op.Merge (port_at P n))
-  constant : {c : Constant} → node P n ≡ Literal c → Does P n 0 (op.Const c)
-  unary : {o : UnaryOp} {a : ℕ} → node P n ≡ Unary o a → Does P n 0 (op.Unary o)
-  binary : {o : BinaryOp} {a b : ℕ} → node P n ≡ Binary o a b → Does P n 0 (op.Binary (binary_op o (port_at P a)))
-  turns_on : {t : ℕ} → node P n ≡ Split t → Does P n 0 (op.Switch Signal)
-  hands : {t : ℕ} (k : ℕ) → node P n ≡ Split t → k < length (imports_of P n) → Does P n (suc k) (op.Switch (port_at P (get_or (imports_of P n) k 0)))
-  joins : {s x y : ℕ} → node P n ≡ If s x y → Does P n 0 (op.Merge (port_at P n))
-  names : {x a : ℕ} → node P n ≡ Binding x a → Does P n 0 (op.Merge (port_at P n))
-  answers : node P n ≡ Program → Does P n 0 (op.Merge (port_of (result_of (node P P.main))))
+-- the part of the row n has this form of operator
+pub data Does (P : Checked) (n : ℕ) : ℕ → Form → Type 0 where
+  starts : node P n ≡ Head → Does P n 0 (Plain (op.Merge Signal))
+  returns : node P n ≡ Head → Does P n 1 (Plain (op.Back (port_of (result_of (node P (end_of P n))))))
+  enters : {x : ℕ} {k : Kind} → node P n ≡ Param x k → Does P n 0 (Plain (op.Merge (port_at P n)))
+  constant : {c : Constant} → node P n ≡ Literal c → Does P n 0 (Plain (op.Const c))
+  unary : {o : UnaryOp} {a : ℕ} → node P n ≡ Unary o a → Does P n 0 (Plain (op.Unary o))
+  binary : {o : BinaryOp} {a b : ℕ} → node P n ≡ Binary o a b → Does P n 0 (Plain (op.Binary (binary_op o (port_at P a))))
+  turns_on : {t : ℕ} → node P n ≡ Split t → Does P n 0 (Plain (op.Switch Signal))
+  hands : {t : ℕ} (k : ℕ) → node P n ≡ Split t → k < length (imports_of P n) → Does P n (suc k) (Plain (op.Switch (port_at P (get_or (imports_of P n) k 0))))
+  joins : {s x y : ℕ} → node P n ≡ If s x y → Does P n 0 (Plain (op.Merge (port_at P n)))
+  opens : {x : ℕ} → node P n ≡ Enter x → Does P n 0 (EnterAt (called P n) (end_of P n))
+  passes : {e k v : ℕ} → node P n ≡ Arg e k v → Does P n 0 (SendTo (port_at P (param_of P e k)) (param_of P e k))
+  gets : {e c : ℕ} → node P n ≡ Call e c → Does P n 0 (Plain (op.Merge (port_at P n)))
+  names : {x a : ℕ} → node P n ≡ Binding x a → Does P n 0 (Plain (op.Merge (port_at P n)))
+  answers : node P n ≡ Program → Does P n 0 (Plain (op.Merge (port_of (result_of (node P P.main)))))
 
 -- the place that the part of a row with this node shows: the answer's is main's, any other's its row's
 abbrev pub place_shown : Checked → ℕ → Node → ℕ
 place_shown P e Program = place P P.main
 place_shown P e _ = e
 
-same_form : (o : Op) (f : Form) (e e' : ℕ) → Some (piece (Plain o) e) ≡ Some (piece f e') → (f ≡ Plain o) × (e' ≡ e)
+same_form : (o f : Form) (e e' : ℕ) → Some (piece o e) ≡ Some (piece f e') → (o ≡ f) × (e' ≡ e)
 same_form o f e e' h =
-    let both : piece (Plain o) e ≡ piece f e' = cc in
-    (ap (λ (z : Rattle.id_build.specs.declared.arc.Piece.Piece). z.form) (sym both), ap (λ (z : Rattle.id_build.specs.declared.arc.Piece.Piece). z.place) (sym both))
+    let both : piece o e ≡ piece f e' = cc in
+    (ap (λ (z : Rattle.id_build.specs.declared.arc.Piece.Piece). z.form) both, ap (λ (z : Rattle.id_build.specs.declared.arc.Piece.Piece). z.place) (sym both))
 
 -- a part that is made, as its row's node has it
 pub record Doing (P : Checked) (n part : ℕ) (f : Form) (e : ℕ) : Type 0 where
-  pub op : Op
-  pub does : Does P n part op
-  pub form_is : f ≡ Plain op
+  pub does : Does P n part f
   pub place_is : e ≡ place_shown P (place P n) (node P n)
 
 -- the part k of the switches of imports
@@ -67,7 +68,7 @@ record SwitchAt (P : Checked) (e : ℕ) (bs : List ℕ) (k : ℕ) (f : Form) (e'
 
 switch_at : (P : Checked) (e : ℕ) (bs : List ℕ) (k : ℕ) (f : Form) (e' : ℕ) → slice_get (switches P e bs) k ≡ Some (piece f e') → SwitchAt P e bs k f e'
 switch_at P e [] k f e' h = cc
-switch_at P e (b ∷ bs) zero f e' h = let z = same_form _ f _ e' h in record { within = omega arith; form = z.0; place = z.1 }
+switch_at P e (b ∷ bs) zero f e' h = let z = same_form _ f _ e' h in record { within = omega arith; form = sym z.0; place = z.1 }
 switch_at P e (b ∷ bs) (suc k) f e' h = let z = switch_at P e bs k f e' h in record { within = omega (arith, z.within); form = z.form; place = z.place }
 
 switch_made : (P : Checked) (e : ℕ) (bs : List ℕ) (k : ℕ) → k < length bs
@@ -78,29 +79,35 @@ switch_made P e (b ∷ bs) (suc k) h = switch_made P e bs k (omega (arith, h))
 
 made_by : (P : Checked) (n part : ℕ) (f : Form) (e : ℕ) (m : Node) → node P n ≡ m → slice_get (made_of P n (place P n) m) part ≡ Some (piece f e)
     → Doing P n part f e
-made_by P n zero f e Head is h = let b = same_form _ f _ e h in record { op = _; does = starts is; form_is = b.0; place_is = b.1 ∙ ap (place_shown P (place P n)) (sym is) }
-made_by P n (suc zero) f e Head is h = let b = same_form _ f _ e h in record { op = _; does = returns is; form_is = b.0; place_is = b.1 ∙ ap (place_shown P (place P n)) (sym is) }
+made_by P n zero f e Head is h = let b = same_form _ f _ e h in record { does = subst (Does P n _) b.0 (starts is); place_is = b.1 ∙ ap (place_shown P (place P n)) (sym is) }
+made_by P n (suc zero) f e Head is h = let b = same_form _ f _ e h in record { does = subst (Does P n _) b.0 (returns is); place_is = b.1 ∙ ap (place_shown P (place P n)) (sym is) }
 made_by P n (suc (suc k)) f e Head is h = cc
-made_by P n zero f e (Param x k) is h = let b = same_form _ f _ e h in record { op = _; does = enters is; form_is = b.0; place_is = b.1 ∙ ap (place_shown P (place P n)) (sym is) }
+made_by P n zero f e (Param x k) is h = let b = same_form _ f _ e h in record { does = subst (Does P n _) b.0 (enters is); place_is = b.1 ∙ ap (place_shown P (place P n)) (sym is) }
 made_by P n (suc j) f e (Param x k) is h = cc
-made_by P n zero f e (Literal c) is h = let b = same_form _ f _ e h in record { op = _; does = constant is; form_is = b.0; place_is = b.1 ∙ ap (place_shown P (place P n)) (sym is) }
+made_by P n zero f e (Literal c) is h = let b = same_form _ f _ e h in record { does = subst (Does P n _) b.0 (constant is); place_is = b.1 ∙ ap (place_shown P (place P n)) (sym is) }
 made_by P n (suc j) f e (Literal c) is h = cc
 made_by P n j f e (Name x) is h = cc
-made_by P n zero f e (Unary o a) is h = let b = same_form _ f _ e h in record { op = _; does = unary is; form_is = b.0; place_is = b.1 ∙ ap (place_shown P (place P n)) (sym is) }
+made_by P n zero f e (Unary o a) is h = let b = same_form _ f _ e h in record { does = subst (Does P n _) b.0 (unary is); place_is = b.1 ∙ ap (place_shown P (place P n)) (sym is) }
 made_by P n (suc j) f e (Unary o a) is h = cc
-made_by P n zero f e (Binary o a c) is h = let b = same_form _ f _ e h in record { op = _; does = binary is; form_is = b.0; place_is = b.1 ∙ ap (place_shown P (place P n)) (sym is) }
+made_by P n zero f e (Binary o a c) is h = let b = same_form _ f _ e h in record { does = subst (Does P n _) b.0 (binary is); place_is = b.1 ∙ ap (place_shown P (place P n)) (sym is) }
 made_by P n (suc j) f e (Binary o a b) is h = cc
-made_by P n zero f e (Split t) is h = let b = same_form _ f _ e h in record { op = _; does = turns_on is; form_is = b.0; place_is = b.1 ∙ ap (place_shown P (place P n)) (sym is) }
+made_by P n zero f e (Split t) is h = let b = same_form _ f _ e h in record { does = subst (Does P n _) b.0 (turns_on is); place_is = b.1 ∙ ap (place_shown P (place P n)) (sym is) }
 made_by P n (suc k) f e (Split t) is h =
     let z = switch_at P (place P n) (imports_of P n) k f e h in
-    record { op = _; does = hands k is z.within; form_is = z.form; place_is = z.place ∙ ap (place_shown P (place P n)) (sym is) }
-made_by P n zero f e (If s x y) is h = let b = same_form _ f _ e h in record { op = _; does = joins is; form_is = b.0; place_is = b.1 ∙ ap (place_shown P (place P n)) (sym is) }
+    record { does = subst (Does P n _) (sym z.form) (hands k is z.within); place_is = z.place ∙ ap (place_shown P (place P n)) (sym is) }
+made_by P n zero f e (If s x y) is h = let b = same_form _ f _ e h in record { does = subst (Does P n _) b.0 (joins is); place_is = b.1 ∙ ap (place_shown P (place P n)) (sym is) }
 made_by P n (suc j) f e (If s x y) is h = cc
+made_by P n zero f e (Enter x) is h = let b = same_form _ f _ e h in record { does = subst (Does P n _) b.0 (opens is); place_is = b.1 ∙ ap (place_shown P (place P n)) (sym is) }
+made_by P n (suc j) f e (Enter x) is h = cc
+made_by P n zero f e (Arg s k v) is h = let b = same_form _ f _ e h in record { does = subst (Does P n _) b.0 (passes is); place_is = b.1 ∙ ap (place_shown P (place P n)) (sym is) }
+made_by P n (suc j) f e (Arg s k v) is h = cc
+made_by P n zero f e (Call s c) is h = let b = same_form _ f _ e h in record { does = subst (Does P n _) b.0 (gets is); place_is = b.1 ∙ ap (place_shown P (place P n)) (sym is) }
+made_by P n (suc j) f e (Call s c) is h = cc
 made_by P n j f e (Block b) is h = cc
-made_by P n zero f e (Binding x a) is h = let b = same_form _ f _ e h in record { op = _; does = names is; form_is = b.0; place_is = b.1 ∙ ap (place_shown P (place P n)) (sym is) }
+made_by P n zero f e (Binding x a) is h = let b = same_form _ f _ e h in record { does = subst (Does P n _) b.0 (names is); place_is = b.1 ∙ ap (place_shown P (place P n)) (sym is) }
 made_by P n (suc j) f e (Binding x a) is h = cc
 made_by P n j f e (Def x g k b) is h = cc
-made_by P n zero f e Program is h = let b = same_form _ f _ e h in record { op = _; does = answers is; form_is = b.0; place_is = b.1 ∙ ap (place_shown P (place P n)) (sym is) }
+made_by P n zero f e Program is h = let b = same_form _ f _ e h in record { does = subst (Does P n _) b.0 (answers is); place_is = b.1 ∙ ap (place_shown P (place P n)) (sym is) }
 made_by P n (suc j) f e Program is h = cc
 
 pub doing : {P : Checked} {n part : ℕ} {f : Form} {e : ℕ} → Makes P n part f e → Doing P n part f e
@@ -112,7 +119,7 @@ made_at : (P : Checked) (n part : ℕ) (m : Node) (f : Form) → n < length (row
 made_at P n part m f within is h = record { within = within; at = subst (λ z. slice_get (made_of P n (place P n) z) part ≡ Some (piece f (place_shown P (place P n) z))) (sym is) h }
 
 -- what the node says is made
-pub makes : {P : Checked} {n part : ℕ} {o : Op} → n < length (rows P) → Does P n part o → Makes P n part (Plain o) (place_shown P (place P n) (node P n))
+pub makes : {P : Checked} {n part : ℕ} {f : Form} → n < length (rows P) → Does P n part f → Makes P n part f (place_shown P (place P n) (node P n))
 makes {P} {n} within (starts is) = made_at P n 0 Head _ within is refl
 makes {P} {n} within (returns is) = made_at P n 1 Head _ within is refl
 makes {P} {n} within (enters {x = x} {k = k} is) = made_at P n 0 (Param x k) _ within is refl
@@ -122,10 +129,13 @@ makes {P} {n} within (binary {o = o} {a = a} {b = b} is) = made_at P n 0 (Binary
 makes {P} {n} within (turns_on {t = t} is) = made_at P n 0 (Split t) _ within is refl
 makes {P} {n} within (hands {t = t} k is less) = made_at P n (suc k) (Split t) _ within is (switch_made P (place P n) (imports_of P n) k less)
 makes {P} {n} within (joins {s = s} {x = x} {y = y} is) = made_at P n 0 (If s x y) _ within is refl
+makes {P} {n} within (opens {x = x} is) = made_at P n 0 (Enter x) _ within is refl
+makes {P} {n} within (passes {e = e} {k = k} {v = v} is) = made_at P n 0 (Arg e k v) _ within is refl
+makes {P} {n} within (gets {e = e} {c = c} is) = made_at P n 0 (Call e c) _ within is refl
 makes {P} {n} within (names {x = x} {a = a} is) = made_at P n 0 (Binding x a) _ within is refl
 makes {P} {n} within (answers is) = made_at P n 0 Program _ within is refl
 
-pub part_of : {P : Checked} {n part : ℕ} {o : Op} → n < length (rows P) → Does P n part o → IsPart P n part
+pub part_of : {P : Checked} {n part : ℕ} {f : Form} → n < length (rows P) → Does P n part f → IsPart P n part
 part_of within d = record { form = _; place = _; makes = makes within d }
 
 -- ---- arcs
@@ -143,6 +153,9 @@ pub data Arc (P : Checked) (n : ℕ) : ℕ → Port → Origin → Type 0 where
   to_import : {t : ℕ} (k : ℕ) → node P n ≡ Split t → k < length (imports_of P n) → Arc P n (suc k) One (name_in P (region P n) (get_or (imports_of P n) k 0))
   to_then : {s x y : ℕ} → node P n ≡ If s x y → Arc P n 0 Zero (origin P x)
   to_else : {s x y : ℕ} → node P n ≡ If s x y → Arc P n 0 Zero (origin P y)
+  to_enter : {x : ℕ} → node P n ≡ Enter x → Arc P n 0 Zero (trigger_of (region P n))
+  to_context : {e k v : ℕ} → node P n ≡ Arg e k v → Arc P n 0 Zero (output e)
+  to_argument : {e k v : ℕ} → node P n ≡ Arg e k v → Arc P n 0 One (origin P v)
   to_label : {x a : ℕ} → node P n ≡ Binding x a → Arc P n 0 Zero (origin P a)
 
 moved : {P : Checked} {n : ℕ} (s t : Origin) (part k : ℕ) (p q : Port) → feed s part p ≡ feed t k q → Arc P n k q t → Arc P n part p s
@@ -200,6 +213,12 @@ arc_by P s n part p (Split t) is (inr (inr h)) = as_arc is (import_fed P (origin
 arc_by P s n part p (If t x y) is (inl h) = moved s _ part 0 p Zero h (to_then is)
 arc_by P s n part p (If t x y) is (inr (inl h)) = moved s _ part 0 p Zero h (to_else is)
 arc_by P s n part p (If t x y) is (inr (inr h)) = absurd h
+arc_by P s n part p (Enter x) is (inl h) = moved s _ part 0 p Zero h (to_enter is)
+arc_by P s n part p (Enter x) is (inr h) = absurd h
+arc_by P s n part p (Arg e k v) is (inl h) = moved s _ part 0 p Zero h (to_context is)
+arc_by P s n part p (Arg e k v) is (inr (inl h)) = moved s _ part 0 p One h (to_argument is)
+arc_by P s n part p (Arg e k v) is (inr (inr h)) = absurd h
+arc_by P s n part p (Call e c) is h = absurd h
 arc_by P s n part p (Block b) is h = absurd h
 arc_by P s n part p (Binding x a) is (inl h) = moved s _ part 0 p Zero h (to_label is)
 arc_by P s n part p (Binding x a) is (inr h) = absurd h
@@ -223,6 +242,9 @@ fed_part within (to_import_test k is less) = part_of within (hands k is less)
 fed_part within (to_import k is less) = part_of within (hands k is less)
 fed_part within (to_then is) = part_of within (joins is)
 fed_part within (to_else is) = part_of within (joins is)
+fed_part within (to_enter is) = part_of within (opens is)
+fed_part within (to_context is) = part_of within (passes is)
+fed_part within (to_argument is) = part_of within (passes is)
 fed_part within (to_label is) = part_of within (names is)
 
 pub target_part : {P : Checked} {s : Origin} {n part : ℕ} {p : Port} → Feeds P s n part p → IsPart P n part
@@ -241,6 +263,9 @@ no_param at (to_import_test k is less) = cc
 no_param at (to_import k is less) = cc
 no_param at (to_then is) = cc
 no_param at (to_else is) = cc
+no_param at (to_enter is) = cc
+no_param at (to_context is) = cc
+no_param at (to_argument is) = cc
 no_param at (to_label is) = cc
 
 pub param_unfed : {P : Checked} {n part : ℕ} {p : Port} {s : Origin} {x : ℕ} {k : Kind} → node P n ≡ Param x k → Feeds P s n part p → ⊥
@@ -258,7 +283,31 @@ no_answer at (to_import_test k is less) = cc
 no_answer at (to_import k is less) = cc
 no_answer at (to_then is) = cc
 no_answer at (to_else is) = cc
+no_answer at (to_enter is) = cc
+no_answer at (to_context is) = cc
+no_answer at (to_argument is) = cc
 no_answer at (to_label is) = cc
+
+-- nor to a call's merge
+no_call : {P : Checked} {n part : ℕ} {p : Port} {s : Origin} {e c : ℕ} → node P n ≡ Call e c → Arc P n part p s → ⊥
+no_call at (to_back is) = cc
+no_call at (to_literal is) = cc
+no_call at (to_unary is) = cc
+no_call at (to_left is) = cc
+no_call at (to_right is) = cc
+no_call at (to_test is) = cc
+no_call at (to_trigger is) = cc
+no_call at (to_import_test k is less) = cc
+no_call at (to_import k is less) = cc
+no_call at (to_then is) = cc
+no_call at (to_else is) = cc
+no_call at (to_enter is) = cc
+no_call at (to_context is) = cc
+no_call at (to_argument is) = cc
+no_call at (to_label is) = cc
+
+pub call_unfed : {P : Checked} {n part : ℕ} {p : Port} {s : Origin} {e c : ℕ} → node P n ≡ Call e c → Feeds P s n part p → ⊥
+call_unfed at h = no_call at (fed h)
 
 pub answer_unfed : {P : Checked} {n part : ℕ} {p : Port} {s : Origin} → node P n ≡ Program → Feeds P s n part p → ⊥
 answer_unfed at h = no_answer at (fed h)
@@ -275,6 +324,9 @@ no_head at (to_import_test k is less) z = cc
 no_head at (to_import k is less) z = cc
 no_head at (to_then is) z = cc
 no_head at (to_else is) z = cc
+no_head at (to_enter is) z = cc
+no_head at (to_context is) z = cc
+no_head at (to_argument is) z = cc
 no_head at (to_label is) z = cc
 
 pub head_unfed : {P : Checked} {n part : ℕ} {s : Origin} → node P n ≡ Head → Feeds P s n part Zero → ⊥
@@ -292,6 +344,9 @@ feeder P n r (Binary o a b) zero One = Some (origin P b)
 feeder P n r (Split t) part Zero = Some (origin P t)
 feeder P n r (Split t) zero One = Some (trigger_of r)
 feeder P n r (Split t) (suc k) One = Some (name_in P r (get_or (imports_of P n) k 0))
+feeder P n r (Enter x) zero Zero = Some (trigger_of r)
+feeder P n r (Arg e k v) zero Zero = Some (output e)
+feeder P n r (Arg e k v) zero One = Some (origin P v)
 feeder P n r (Binding x a) zero Zero = Some (origin P a)
 feeder P n r _ part p = None
 
@@ -315,6 +370,9 @@ feeder_is {P} {n} (to_import_test k is less) = inl (ap (λ m. feeder P n (region
 feeder_is {P} {n} (to_import k is less) = inl (ap (λ m. feeder P n (region P n) m (suc k) One) is)
 feeder_is {P} {n} (to_then {s = s} {x = x} {y = y} is) = inr (record { split = s; then = x; otherwise = y; node = is; from = inl refl })
 feeder_is {P} {n} (to_else {s = s} {x = x} {y = y} is) = inr (record { split = s; then = x; otherwise = y; node = is; from = inr refl })
+feeder_is {P} {n} (to_enter is) = inl (ap (λ m. feeder P n (region P n) m 0 Zero) is)
+feeder_is {P} {n} (to_context is) = inl (ap (λ m. feeder P n (region P n) m 0 Zero) is)
+feeder_is {P} {n} (to_argument is) = inl (ap (λ m. feeder P n (region P n) m 0 One) is)
 feeder_is {P} {n} (to_label is) = inl (ap (λ m. feeder P n (region P n) m 0 Zero) is)
 
 none_there : {P : Checked} {n : ℕ} (part : ℕ) (p : Port) {s t : Origin} → FromArm P n s → feeder P n (region P n) (node P n) part p ≡ Some t → ⊥

@@ -1,20 +1,23 @@
 -- What is known of the rows of a checked program.
-use Rattle.std.proofs.Common.{◌≡◌, ℕ, ◌<◌, true, length, Some}
+use Rattle.std.proofs.Common.{◌≡◌, ℕ, ◌<◌, true, length, slice_get, Some}
 use Rattle.id_list.specs.List.{Among}
 use Rattle.id_value.specs.declared.Kind.{Kind}
 use Rattle.id_value.specs.declared.Kind.TheVariants as kinds
 use Rattle.id_value.specs.declared.Constant.{Constant}
 use Rattle.id_value.specs.declared.UnaryOp.{UnaryOp}
 use Rattle.id_value.specs.declared.BinaryOp.{BinaryOp}
-use Rattle.id_parts.specs.declared.row.Node.TheVariants.{Param, Literal, Name, Unary, Binary, Split, If, Block, Binding}
+use Rattle.id_parts.specs.declared.row.Node.TheVariants.{Param, Literal, Name, Unary, Binary, Split, If, Enter, Arg, Call}
+use Rattle.id_parts.specs.declared.row.Node.TheVariants.{Block, Binding}
 use Rattle.id_parts.specs.Rows.{at, top}
 use Rattle.id_parts.specs.Tables.{AreApart, HasOperand, is_binder, is_expression}
-use Rattle.id_parts.specs.Turns.{IsTable, IsDefOf}
+use Rattle.id_parts.specs.Calls.{IsCallOf}
+use Rattle.id_parts.specs.Turns.{IsTable, IsDefOf, params_at}
 use Rattle.id_check.specs.declared.checked.Checked.{Checked}
 use Rattle.id_check.specs.Kinds.{constant_kind, unary_kind, binary_kind}
 use Rattle.id_check.specs.Programs.{binder, kind, place, region, rows}
+use Rattle.id_desugar.specs.Ends.{end_of}
 use Rattle.id_desugar.specs.Regions.{imports_of}
-use Rattle.id_build.specs.Rows.{node}
+use Rattle.id_build.specs.Rows.{called, node, param_of}
 use Rattle.id_laws.specs.Activations.{main_head}
 use Rattle.id_build.proofs.NamesSeen.{Sees}
 
@@ -48,3 +51,11 @@ pub record IsKnown (P : Checked) : Type 0 where
   pub binding_kind : (n x a : ℕ) → n < length (rows P) → node P n ≡ Binding x a → kind P n ≡ kind P a
   -- the body of a definition is of its kind
   pub result_kind : (n h : ℕ) (d : IsDefOf (rows P) n h) → kind P d.body ≡ Some d.result
+  -- what an `Enter` begins ends at its call, and it enters the definition that its name is bound to
+  pub call_end : (e x : ℕ) → e < length (rows P) → node P e ≡ Enter x → IsCallOf (rows P) (end_of P e) e
+  pub callee : (e x : ℕ) → e < length (rows P) → node P e ≡ Enter x → (d : ℕ) × (binder P e ≡ Some d) × IsDefOf (rows P) d (called P e)
+  -- each argument goes to the parameter of its index, whose kind its value has
+  pub passed : (m e k v : ℕ) → m < length (rows P) → node P m ≡ Arg e k v
+      → (slice_get (params_at (rows P) (called P e)) k ≡ Some (param_of P e k)) × (kind P v ≡ kind P (param_of P e k))
+  -- a call is of the kind of its procedure's result
+  pub call_kind : (n e c x d : ℕ) (h : IsDefOf (rows P) d (called P e)) → n < length (rows P) → node P n ≡ Call e c → kind P n ≡ Some h.result

@@ -1,16 +1,16 @@
 -- In a quiet run each fact of the source is carried.
-use Rattle.std.proofs.Common.{◌≡◌, inl, inr, ℕ, zero, suc, ◌<◌, Bool as Truth, true, false, cond, Some, List, [], ◌∷◌, length, refl, sym, ◌∙◌, ap, subst}
+use Rattle.std.proofs.Common.{◌≡◌, inl, inr, ℕ, zero, suc, ◌<◌, Bool as Truth, true, false, cond, Some, List, [], ◌∷◌, length, refl, sym, ◌∙◌, ap, subst, unwrap_or, slice_get}
 use Rattle.id_value.specs.declared.Constant.{Constant}
 use Rattle.id_value.specs.declared.Outcome.{Outcome}
 use Rattle.id_value.specs.declared.Outcome.TheVariants.{Gives}
 use Rattle.id_list.specs.List.{Among}
 use Rattle.id_list.proofs.AmongLemmas.{Among-from_at}
 use Rattle.id_parts.specs.declared.row.Node.{Node}
-use Rattle.id_parts.specs.declared.row.Node.TheVariants.{Param, Literal, Unary, Binary, Split, If, Binding}
+use Rattle.id_parts.specs.declared.row.Node.TheVariants.{Param, Literal, Unary, Binary, Split, If, Binding, Head, Enter, Arg, Call, Def}
 use Rattle.id_parts.specs.Rows.{top}
 use Rattle.id_parts.specs.Tables.{HasNear, HasOperand, is_binder, is_expression, is_thing}
 use Rattle.id_check.specs.declared.checked.Checked.{Checked}
-use Rattle.id_check.specs.Programs.{Stands, place, region, rows}
+use Rattle.id_check.specs.Programs.{Stands, place, region, rows, binder}
 use Rattle.id_graph.specs.declared.dests.Port.TheVariants.{Zero, One}
 use Rattle.id_graph.specs.declared.instr.Op.TheVariants as op
 use Rattle.id_graph.specs.declared.instr.PortKind.{PortKind}
@@ -22,7 +22,7 @@ use Rattle.id_tag.specs.declared.Value.TheVariants as value
 use Rattle.id_tag.specs.declared.Payload.TheVariants.{Token}
 use Rattle.id_ops.specs.declared.Operands.TheVariants.{One as Alone, Two}
 use Rattle.id_ops.specs.declared.Fresh.{Fresh}
-use Rattle.id_ops.specs.declared.Fired.TheVariants.{Out, Nothing}
+use Rattle.id_ops.specs.declared.Fired.TheVariants.{Out, Nothing, Entered, Sent}
 use Rattle.id_ops.specs.Operators.{fired, fired_by}
 use Rattle.id_core.specs.Machines.{World, token_value}
 use Rattle.id_meaning.specs.declared.Path.{Path}
@@ -32,31 +32,41 @@ use Rattle.id_meaning.specs.declared.Fact.{Fact}
 use Rattle.id_meaning.specs.declared.Fact.TheVariants.{Has}
 use Rattle.id_meaning.specs.Sources.{Source, AreInputs, IsInput, body_of, main_body, main_params, value_kind, value_of}
 use Rattle.id_meaning.specs.Facts.{outermost, Rule, Chooses, then_arm, else_arm, main_on, param_has, literal_has, operand_on, left_on, right_on, unary_has}
-use Rattle.id_meaning.specs.Facts.{binary_has, name_has, test_on, arm_on, conditional_has, statement_on, body_on, block_has, binding_has}
+use Rattle.id_meaning.specs.Facts.{binary_has, name_has, test_on, arm_on, conditional_has, statement_on, body_on, block_has, binding_has, argument_on, callee_on, argument_has, call_has, below}
 use Rattle.id_meaning.specs.Rounds.{Every, Rounds, Holds}
 use Rattle.id_build.specs.declared.arc.Origin.{Origin}
-use Rattle.id_build.specs.Rows.{node, feed, origin, output, trigger_of, binary_op, port_at, port_of}
+use Rattle.id_build.specs.Rows as built
+use Rattle.id_build.specs.Rows.{node, feed, origin, output, trigger_of, binary_op, port_at, port_of, called, param_of}
 use Rattle.id_build.specs.Schemas.{Numbered}
-use Rattle.id_runs.specs.Activations.{Activation, main_activation, tag_in}
-use Rattle.id_runs.specs.Events.{Event}
+use Rattle.id_runs.specs.Activations.{Activation, main_activation, tag_in, at_iteration}
+use Rattle.id_runs.specs.Events.{Event, FiresAs}
 use Rattle.id_runs.specs.Runs.{Reach, handled}
 use Rattle.id_runs.specs.OneMessage.{Exclusive}
-use Rattle.id_laws.specs.Activations.{Live, at_start, on_side, by_test, of_arms, PathOf, Speaks, main_head}
+use Rattle.id_laws.specs.Activations.{Live, at_start, on_side, by_test, of_arms, PathOf, Speaks, main_head, Opens, entered}
 use Rattle.id_laws.specs.Carried.{Here, CarriedHas, Carried, speaker}
 use Rattle.id_laws.specs.Topics.{StandsFor, number_stands, truth_stands}
 use Rattle.id_laws.specs.Ways.{input}
 use Rattle.id_laws.proofs.Agreement.{constant_is, agree_unary, agree_at}
-use Rattle.id_laws.proofs.Arcs.{Does, enters, constant, unary, binary, joins, names}
+use Rattle.id_laws.proofs.Arcs.{Does, enters, constant, unary, binary, joins, names, opens, passes, gets, returns}
 use Rattle.id_laws.proofs.Assumed.{IsKnown}
 use Rattle.id_laws.proofs.Blocks.{a_param}
 use Rattle.id_laws.proofs.Conditionals.{arm_of, Conditional, conditional}
 use Rattle.id_build.proofs.EndsLemmas as ends
 use Rattle.id_laws.proofs.HasKinds.{port_taking, binder_thing, expression_thing, operand_of}
-use Rattle.id_laws.proofs.Firings.{alone_fired, both_fired, came, spoken, start_handled}
+use Rattle.id_laws.proofs.Firings.{alone_fired, both_fired, came, spoken, start_handled, alone_formed, both_formed, sent_handled}
 use Rattle.id_build.proofs.NamesSeen.{Sees}
-use Rattle.id_laws.proofs.Triggers.{Home, home, live_turned, one_activation}
+use Rattle.id_laws.proofs.Triggers.{Home, home, live_turned, one_activation, second_came}
 use Rattle.id_laws.proofs.Speakers.{own_origin, name_origin, block_origin, expression_speaks, binder_speaks, fed_as}
-use Rattle.id_laws.proofs.TurnedOn.{holds_by, main_path}
+use Rattle.id_laws.proofs.Seats.{main_path, entered_path}
+use Rattle.id_laws.proofs.TurnedOn.{holds_by}
+use Rattle.id_build.specs.declared.arc.Form.TheVariants.{Plain, EnterAt, SendTo}
+use Rattle.id_laws.proofs.Calls.{arg_at, call_at, enter_at, as_def, called_head, called_is}
+use Rattle.id_parts.specs.Turns.{IsDefOf, params_at}
+use Rattle.id_tag.specs.declared.Context.{Context}
+use Rattle.id_desugar.specs.Ends.{end_of}
+use Rattle.id_value.specs.declared.Kind.{Kind}
+use Rattle.id_value.specs.declared.Kind.TheVariants as sort
+use Rattle.id_tag.specs.declared.Tag.{Tag}
 
 -- a value of the source stands for itself, and alone
 pub stands_itself : {S : Source} {number : ℕ → ℕ → ℕ} {run : List Event} (v : SourceValue) → StandsFor S number run (token_value v) v
@@ -118,7 +128,7 @@ module _ (S : Source) (g : Parts) (number : ℕ → ℕ → ℕ) (numbered : Num
       → Speaks S number run h.activation (origin P a) (token_value v)
   said_at {v = v} h a within expression c =
       let row_is = here_is c.here (record { within = within; node = refl }) (expression_thing (node P a) expression) in
-      let one = one_activation c.here.live h.live c.here.path_of h.path_of in
+      let one = one_activation S g number numbered known count only s run r quiet c.here.live h.live c.here.path_of h.path_of in
       let from : speaker P c.here.row ≡ origin P a = ap (speaker P) row_is ∙ expression_speaks P known a (node P a) refl expression in
       subst (λ (z : Activation × (Origin × Value)). Speaks S number run z.0 z.1.0 z.1.1) {x = (c.here.activation, (speaker P c.here.row, c.value))} {y = (h.activation, (origin P a, token_value v))}
       (λ i. (one i, (from i, stands_is c.stands i))) c.spoken
@@ -145,7 +155,7 @@ module _ (S : Source) (g : Parts) (number : ℕ → ℕ → ℕ) (numbered : Num
 
   -- a value of its kind that came to the label of a binder
   label_has : {p : Path} (b : ℕ) (m : Node) (v : SourceValue) (a : Activation) → PathOf S number run a p → Stands P b m → is_binder m ≡ true
-      → Live S number run a (region P b) → Does P b 0 (op.Merge (port_at P b))
+      → Live S number run a (region P b) → Does P b 0 (Plain (op.Merge (port_at P b)))
       → port_at P b ≡ port_of (value_kind v) → Among (Token (tag_in a (number b 0)) Zero (token_value v)) (handled run)
       → CarriedHas S number run p (place P b) v
   label_has b m v a path_of x binder live does kind_is h =
@@ -253,6 +263,124 @@ module _ (S : Source) (g : Parts) (number : ℕ → ℕ → ℕ) (numbered : Num
       arm_listed true o q s e = inl (ap (λ z. feed z 0 Zero) e)
       arm_listed false o q s e = inr (inl (ap (λ z. feed z 0 Zero) e))
 
+  -- the context in which an On call runs, which its `Enter` has made
+  record Calling (p : Path) (n e : ℕ) (a : Activation) : Type 0 where
+    context : Context
+    opens : Opens S number run a e context
+    path_of : PathOf S number run (at_iteration context 0) (below p (place P n) 0)
+    live : Live S number run (at_iteration context 0) (top (called P e))
+
+  calling : {p : Path} {n e c : ℕ} (h : H p (place P n)) → Stands P n (Call e c) → Calling p n e h.activation
+  calling {p} {n} {e} h x =
+      let z = enter_at known x.within x.node in
+      let d = call_at known z.within z.node in
+      let a = h.activation in
+      let live = subst (Live S number run a) (sym (d.region ∙ ap (region P) z.ends)) (live_at h x refl) in
+      let signal = came S g number numbered known count only s run r quiet a (trigger_of (region P e)) e 0 Zero value.Signal
+      (live_turned S g number numbered known count only s run r quiet live) (fed_as P known (trigger_of (region P e)) e 0 Zero (Enter z.name) z.within z.node (inl refl)) in
+      let fired_so = alone_formed S g number numbered known count only s run r quiet a e 0 (EnterAt (called P e) (end_of P e)) Zero value.Signal z.within (opens z.node) refl signal in
+      record {
+        context = (fired_so.fresh).context;
+        opens = fired_so.fires;
+        path_of = subst (λ q. PathOf S number run (at_iteration (fired_so.fresh).context 0) (below p q 0)) (d.place ∙ ap (place P) z.ends)
+            (entered_path z.within z.node fired_so.fires h.path_of);
+        live = entered z.within z.node live fired_so.fires;
+      }
+
+  -- the body of a definition stands right in the region of its head
+  body_row : {d y f b : ℕ} {k : Kind} → Stands P d (Def y f k b) → (b < length (rows P)) × (is_expression (node P b) ≡ true) × (region P b ≡ top f)
+  body_row {d} {y} {f} {b} {k} def =
+      let body = ends.body_region P known.table d f (as_def def) in
+      (body.0, ((known.table).head_is d y f b k def.within def.node).2, body.1)
+
+  -- so its procedure's body is carried there
+  abbrev callee_at : {p : Path} {n e x d y f b : ℕ} {k : Kind} {a : Activation} → Calling p n e a → e < length (rows P) → node P e ≡ Enter x
+      → binder P e ≡ Some d → Stands P d (Def y f k b) → H (below p (place P n) 0) (place P b)
+  callee_at {b = b} w within is bound def =
+      let body = body_row def in
+      record {
+        activation = at_iteration w.context 0;
+        path_of = w.path_of;
+        row = b;
+        within = body.0;
+        thing = expression_thing (node P b) body.1;
+        place = refl;
+        live = subst (Live S number run (at_iteration w.context 0)) (ap top (called_is known within is bound def) ∙ sym body.2) w.live;
+      }
+
+  -- a value of its kind goes into the context
+  sent_in : (v : SourceValue) (k : PortKind) (u : Tag) → k ≡ port_of (value_kind v)
+      → cond (same_kind (kind_of (token_value v)) k) (Sent u (token_value v)) Nothing ≡ Sent u (token_value v)
+  sent_in v k u e = ap (λ z. cond z (Sent u (token_value v)) Nothing) (value_fits v k e)
+
+  -- and what an argument has spoken came to the label of its parameter
+  argument_carried : {p : Path} {n e c d y f b m i v q : ℕ} {k : Kind} {u : SourceValue} (h : H p (place P n)) → Stands P n (Call e c) → Stands P m (Arg e i v)
+      → binder P e ≡ Some d → Stands P d (Def y f k b) → slice_get (params_at (rows P) f) i ≡ Some q → CarriedHas S number run p (place P v) u
+      → Holds S (Has p (place P v) u) → CarriedHas S number run (below p (place P n) 0) (place P q) u
+  argument_carried {p} {n} {e} {m = m} {i = i} {v = v} {q = q} {u = u} h x arg bound def param has holds =
+      let w = calling h x in
+      let a = h.activation in
+      let z = enter_at known x.within x.node in
+      let t = param_of P e i in
+      let y = arg_at known arg.within arg.node in
+      let goes = known.passed m e i v arg.within arg.node in
+      let head = called_is known z.within z.node bound def in
+      let to : t ≡ q = some_is (sym goes.0 ∙ ap (λ k. slice_get (params_at (rows P) k) i) head ∙ param) in
+      let said = said_at h v y.within y.expression has in
+      let value_in = came S g number numbered known count only s run r quiet a (origin P v) m 0 One (token_value u) said
+      (fed_as P known (origin P v) m 0 One (Arg e i v) arg.within arg.node (inr (inl refl))) in
+      let speaks : Speaks S number run a (output e) (value.Context w.context) = record { fired = Entered w.context; fires = w.opens; gives = (refl, refl) } in
+      let context_in = came S g number numbered known count only s run r quiet a (output e) m 0 Zero (value.Context w.context) speaks
+      (fed_as P known (output e) m 0 Zero (Arg e i v) arg.within arg.node (inl refl)) in
+      let fired_so = both_formed S g number numbered known count only s run r quiet a m 0 (SendTo (port_at P t) t) (value.Context w.context) (token_value u) arg.within (passes arg.node) refl context_in value_in in
+      let of_value = port_taking S known inputs v p u y.within (expression_thing (node P v) y.expression) holds in
+      let kind_is : port_at P t ≡ port_of (value_kind u) = ap (λ o. port_of (unwrap_or o sort.Int)) (sym goes.1) ∙ of_value in
+      let into = tag_in (at_iteration w.context 0) (number t 0) in
+      let out = sent_handled S g number numbered known count only s run r quiet
+      (subst (λ k. FiresAs run (tag_in a (number m 0)) k) (sent_in u (port_at P t) into kind_is) fired_so.fires) (Token into Zero (token_value u)) (inl refl) in
+      let row = a_param (rows P) (called P e) (length (rows P)) t (Among-from_at t (params_at (rows P) (called P e)) i goes.0) in
+      let live = subst (Live S number run (at_iteration w.context 0)) (sym (known.params t (row.param).name (row.param).kind row.within (row.param).is ∙ ap top row.block)) w.live in
+      let stands : Stands P t (Param (row.param).name (row.param).kind) = record { within = row.within; node = (row.param).is } in
+      subst (λ k. CarriedHas S number run (below p (place P n) 0) (place P k) u) to
+      (label_has t (Param (row.param).name (row.param).kind) u (at_iteration w.context 0) w.path_of stands refl live (enters (row.param).is) kind_is out)
+
+  -- what the body has spoken came back to the call's merge
+  call_carried : {p : Path} {n e c d y f b : ℕ} {k : Kind} {u : SourceValue} (h : H p (place P n)) → Stands P n (Call e c) → binder P e ≡ Some d
+      → Stands P d (Def y f k b) → CarriedHas S number run (below p (place P n) 0) (place P b) u → Holds S (Has (below p (place P n) 0) (place P b) u)
+      → Holds S (Has p (place P n) u) → CarriedHas S number run p (place P n) u
+  call_carried {p} {n} {e} {c} {d} {y} {f} {b} {k} {u} h x bound def has body_has holds =
+      let w = calling h x in
+      let a = h.activation in
+      let z = enter_at known x.within x.node in
+      let i = called P e in
+      let hd = called_head known z.within z.node in
+      let head : i ≡ f = called_is known z.within z.node bound def in
+      let here : IsDefOf (rows P) d i = subst (λ q. IsDefOf (rows P) d q) (sym head) (as_def def) in
+      let end : end_of P i ≡ d = (known.table).one_def (end_of P i) d i (ends.end_is P known.table i hd.0 hd.1) here in
+      let body_is : built.body_of (node P (end_of P i)) ≡ b = ap (λ q. built.body_of (node P q)) end ∙ ap built.body_of def.node in
+      let inner = callee_at w z.within z.node bound def in
+      let row = body_row def in
+      let said = said_at inner b row.0 row.1 has in
+      let t = at_iteration w.context 0 in
+      let from = origin P (built.body_of (node P (end_of P i))) in
+      let result = came S g number numbered known count only s run r quiet t from i 1 One (token_value u) (subst (λ q. Speaks S number run t (origin P q) (token_value u)) (sym body_is) said)
+      (fed_as P known from i 1 One Head hd.0 hd.1 (inl refl)) in
+      let way_back = second_came S g number numbered known count only s run r quiet z.within z.node w.opens in
+      let reply = tag_in a (number (end_of P e) 0) in
+      let back = port_of (built.result_of (node P (end_of P i))) in
+      let fired_so = both_fired S g number numbered known count only s run r quiet t i 1 (op.Back back) (value.Continuation reply) (token_value u) hd.0 (returns hd.1) refl way_back result in
+      let of_body = port_taking S known inputs b (below p (place P n) 0) u row.0 (expression_thing (node P b) row.1) body_has in
+      let back_is : back ≡ port_of (value_kind u) =
+      ap (λ q. port_of (built.result_of (node P q))) end ∙ ap (λ q. port_of (built.result_of q)) def.node
+      ∙ ap (λ o. port_of (unwrap_or o sort.Int)) (sym (known.result_kind d f (as_def def))) ∙ of_body in
+      let out = sent_handled S g number numbered known count only s run r quiet
+      (subst (λ q. FiresAs run (tag_in t (number i 1)) q) (sent_in u back reply back_is) fired_so.fires) (Token reply Zero (token_value u)) (inl refl) in
+      let there = subst (λ q. Among (Token (tag_in a (number q 0)) Zero (token_value u)) (handled run)) z.ends out in
+      let merge_so = alone_fired S g number numbered known count only s run r quiet a n 0 (op.Merge (port_at P n)) Zero (token_value u) x.within (gets x.node) refl there in
+      let kind_is = port_taking S known inputs n p u x.within (ap is_thing x.node) holds in
+      let spoken_so = spoken S g number numbered known count only s run r quiet a n 0 (op.Merge (port_at P n)) (Alone (token_value u)) (token_value u) merge_so (λ q. merged u (port_at P n) kind_is) in
+      has_spoken h x refl refl (subst (λ q. Speaks S number run a q (token_value u)) (sym (own_origin P known n (Call e c) x.within x.node refl (λ q. refl))) spoken_so)
+
   -- where the premises of a rule are carried, so is what follows
   carried_by : {fs : List Fact} {f : Fact} → Rule S fs f → Every (Holds S) fs → Every C fs → C f
   carried_by main_on holds c =
@@ -313,7 +441,7 @@ module _ (S : Source) (g : Parts) (number : ℕ → ℕ → ℕ) (numbered : Num
       let fits = value_fits v (port_at P b) (port_taking S known inputs b _ v b_within (binder_thing (node P b) b_binds) holds.1.0) in
       let row_is = here_is has.here (record { within = b_within; node = refl }) (binder_thing (node P b) b_binds) in
       let t : Home S g number numbered known count only s run r quiet a (region P n) b = home S g number numbered known count only s run r quiet b (live_at h x refl) seen in
-      let one = one_activation (has.here).live t.live (has.here).path_of (t.path p h.path_of) in
+      let one = one_activation S g number numbered known count only s run r quiet (has.here).live t.live (has.here).path_of (t.path p h.path_of) in
       let said : Speaks S number run t.activation (output b) (token_value v) =
       subst (λ (z : Activation × (Origin × Value)). Speaks S number run z.0 z.1.0 z.1.1) {x = ((has.here).activation, (speaker P (has.here).row, has.value))} {y = (t.activation, (output b, token_value v))}
       (λ i. (one i, ((ap (speaker P) row_is ∙ binder_speaks P known b (node P b) refl b_binds) i, stands_is has.stands i))) has.spoken in
@@ -321,6 +449,16 @@ module _ (S : Source) (g : Parts) (number : ℕ → ℕ → ℕ) (numbered : Num
   carried_by (test_on chooses) holds c = test_here (arm_rows chooses) c.0
   carried_by (arm_on {b = b} chooses) holds c = arm_here (arm_rows chooses) c.0 c.1.0 holds.1.0
   carried_by (conditional_has {n = n} {b = b} {v = v} chooses) holds c = merge_has (arm_rows chooses) c.0 c.1.1.0 (holds_by S _ _ (conditional_has chooses) holds)
+  carried_by (argument_on {n = n} {v = v} x y) holds c =
+      let h = c.0 in
+      let arg = arg_at known y.within y.node in
+      let z = enter_at known x.within x.node in
+      let d = call_at known z.within z.node in
+      let there : region P v ≡ region P n = arg.value_region ∙ d.region ∙ ap (region P) z.ends in
+      same_here h v arg.within (expression_thing (node P v) arg.expression) (subst (Live S number run h.activation) (sym there) (live_at h x refl))
+  carried_by (callee_on x bound def) holds c = (let z = enter_at known x.within x.node in callee_at (calling c.0 x) z.within z.node bound def)
+  carried_by (argument_has x y bound def param) holds c = argument_carried c.0 x y bound def param c.1.0 holds.1.0
+  carried_by (call_has x bound def) holds c = call_carried c.0 x bound def c.1.0 holds.1.0 (holds_by S _ _ (call_has x bound def) holds)
   carried_by (statement_on {n = n} {m = m} {a = a} x statement y) holds c =
       let h = c.0 in
       let inner = operand_of S known inputs m a y.within (subst (λ z. HasOperand z a) (sym y.node) refl) in

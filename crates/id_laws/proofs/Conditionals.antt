@@ -10,12 +10,13 @@ use Rattle.id_check.specs.Programs.{Stands, place, region, rows}
 use Rattle.id_tag.specs.declared.Value.TheVariants as value
 use Rattle.id_meaning.specs.Sources.{Source}
 use Rattle.id_meaning.specs.Facts.{Chooses, then_arm, else_arm}
-use Rattle.id_build.specs.Rows.{node, origin}
+use Rattle.id_build.specs.Rows.{called, node, origin}
 use Rattle.id_runs.specs.Activations.{Activation}
 use Rattle.id_runs.specs.Events.{Event, FiresOnce}
 use Rattle.id_runs.proofs.Givings.{gives_once}
-use Rattle.id_laws.specs.Activations.{main_head, Tests, of_arms, GoesAt, Speaks, Live, at_start, on_side}
+use Rattle.id_laws.specs.Activations.{main_head, Tests, of_arms, GoesAt, Speaks, Live, at_start, on_side, entered}
 use Rattle.id_laws.proofs.Assumed.{IsKnown}
+use Rattle.id_laws.proofs.Calls.{call_at}
 
 -- the predicate of the switches at the row n
 pub record TestAt (P : Checked) (n t : ℕ) : Type 0 where
@@ -104,6 +105,10 @@ pub arm_live : {S : Source} (known : IsKnown S.checked) {number : ℕ → ℕ �
 arm_live {S} known at_start is at = absurd (head_no_split (sym (main_head_is known) ∙ ap (λ (z : Region). node S.checked z.head) is ∙ at))
 arm_live {S} known {number} {run} {a} {n = n} {b = b} (on_side {n = m} {e = e} {b = c} within tests live says goes) is at =
     subst (λ (z : Region). ArmLive S number run a z.head z.side) is (record { test = e; tests = tests; live = live; spoken = says; goes = goes })
+arm_live {S} known (entered {n = m} within enter live opened) is at =
+    let d = (call_at known within enter).def in
+    let head = ((known.table).head_is _ d.name (called S.checked m) d.body d.result d.within d.node).0 in
+    absurd (head_no_split (sym head ∙ ap (λ (z : Region). node S.checked z.head) is ∙ at))
 
 -- two arms of one conditional are not both live: the predicate has spoken once
 pub sides_apart : {S : Source} (known : IsKnown S.checked) {number : ℕ → ℕ → ℕ} {run : List Event} {a : Activation} {n t : ℕ} → FiresOnce run

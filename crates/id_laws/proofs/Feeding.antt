@@ -2,7 +2,7 @@
 use Rattle.std.proofs.Common.{◌≡◌, inl, inr, ℕ, suc, ◌<◌, Bool as Truth, true, false, List, length, get_or, refl, sym, ◌∙◌, ap, subst, arith}
 use Rattle.id_parts.specs.declared.row.Region.{Region}
 use Rattle.id_parts.specs.declared.row.Node.{Node}
-use Rattle.id_parts.specs.declared.row.Node.TheVariants.{Head, Literal, Unary, Binary, Split, If, Binding, Program}
+use Rattle.id_parts.specs.declared.row.Node.TheVariants.{Head, Literal, Unary, Binary, Split, If, Enter, Arg, Binding, Program}
 use Rattle.id_parts.specs.Tables.{HasPart, HasOperand, is_expression}
 use Rattle.id_check.specs.declared.checked.Checked.{Checked}
 use Rattle.id_check.specs.Programs.{place, region, rows}
@@ -20,22 +20,19 @@ use Rattle.id_build.specs.Rows.{node, body_of, trigger_of, origin}
 use Rattle.id_build.specs.Schemas.{Feeds}
 use Rattle.id_runs.specs.Activations.{Activation}
 use Rattle.id_runs.specs.Events.{Event}
-use Rattle.id_laws.specs.Activations.{of_arms, Speaks, Live, at_start, on_side}
+use Rattle.id_laws.specs.Activations.{of_arms, Speaks, Live}
 use Rattle.id_laws.specs.Topics.{Turned, ValueOf, TestOf, Tells, ShownResult, speaks_of, topic_of, wants, topic_at, result_of}
 use Rattle.id_laws.proofs.Assumed.{IsKnown}
 use Rattle.id_laws.proofs.Arcs.{Arc, to_back, to_literal, to_unary, to_left, to_right, to_test, to_trigger, to_import_test, to_import, to_then, to_else}
-use Rattle.id_laws.proofs.Arcs.{to_label, fed}
+use Rattle.id_laws.proofs.Arcs.{to_enter, to_context, to_argument, to_label, fed}
+use Rattle.id_laws.proofs.Calls.{arg_at}
 use Rattle.id_laws.proofs.Conditionals.{arm_of, chosen, conditional, test_at, arm_live}
 use Rattle.id_build.proofs.EndsLemmas.{end_is, HeadOf, of_procedure, of_arm, region_of}
 use Rattle.id_laws.proofs.Origins.{origin_shows, named_tells}
-use Rattle.id_laws.proofs.TurnedOn.{holds_by, one_path, without_none, turned_on, test_has}
+use Rattle.id_laws.proofs.Seats.{OneSeat, one_path, live_first}
+use Rattle.id_laws.proofs.TurnedOn.{holds_by, without_none, turned_on, test_has}
 
--- a live region of a procedure is live at iteration 0
-pub live_first : {S : Source} {number : ℕ → ℕ → ℕ} {run : List Event} {a : Activation} {r : Region} → Live S number run a r → a.iteration ≡ 0
-live_first at_start = refl
-live_first (on_side within tests live says goes) = live_first live
-
-module _ (S : Source) (known : IsKnown S.checked) (number : ℕ → ℕ → ℕ) (run : List Event) (a : Activation) where
+module _ (S : Source) (known : IsKnown S.checked) (number : ℕ → ℕ → ℕ) (run : List Event) (seats : OneSeat S number run) (a : Activation) where
   abbrev P : Checked
   P = S.checked
 
@@ -47,7 +44,7 @@ module _ (S : Source) (known : IsKnown S.checked) (number : ℕ → ℕ → ℕ)
       → T (topic_of P (origin P e)) v → T (ValueOf e) v
   operand_tells n e m v within is part operand tells =
       let less = (((known.table).formed).each n within).parts e (subst (λ z. HasPart z e) (sym is) part) in
-      origin_shows S known number run a e v (omega (arith, within, less.1)) (known.operands n e within (subst (λ z. HasOperand z e) (sym is) operand)) tells
+      origin_shows S known number run seats a e v (omega (arith, within, less.1)) (known.operands n e within (subst (λ z. HasOperand z e) (sym is) operand)) tells
 
   -- the value of a procedure's body
   result_tells : (h : ℕ) (v : Value) → h < length (rows P) → node P h ≡ Head → T (topic_of P (origin P (result_of P h))) v → ShownResult S number run a h v
@@ -57,7 +54,7 @@ module _ (S : Source) (known : IsKnown S.checked) (number : ℕ → ℕ → ℕ)
       let body_is : b ≡ def.body = ap body_of def.node in
       let parts = (((known.table).formed).each (end_of P h) def.within).parts def.body (subst (λ z. HasPart z def.body) (sym def.node) (inr refl)) in
       let expression = ((known.table).head_is (end_of P h) def.name h def.body def.result def.within def.node).2 in
-      let shows = origin_shows S known number run a b v (subst (λ z. z < length (rows P)) (sym body_is) (omega (arith, def.within, parts.1))) (ap (λ z. is_expression (node P z)) body_is ∙ expression) tells in
+      let shows = origin_shows S known number run seats a b v (subst (λ z. z < length (rows P)) (sym body_is) (omega (arith, def.within, parts.1))) (ap (λ z. is_expression (node P z)) body_is ∙ expression) tells in
       record { iteration = a.iteration; live = shows.0; shown = shows.1; at_first = live_first shows.0 }
 
   -- what the trigger of a region speaks of
@@ -75,7 +72,7 @@ module _ (S : Source) (known : IsKnown S.checked) (number : ℕ → ℕ → ℕ)
       → T (topic_of P (origin P t)) v → T (TestOf n) v
   test_tells n t v within is says tells =
       let z = test_at known within is in
-      let shows = origin_shows S known number run a t v z.within z.expression tells in
+      let shows = origin_shows S known number run seats a t v z.within z.expression tells in
       record { test = t; tests = of_arms is; live = subst (Live S number run a) z.region shows.0; spoken = says; shown = shows.1 }
 
   -- the value of an arm
@@ -83,12 +80,12 @@ module _ (S : Source) (known : IsKnown S.checked) (number : ℕ → ℕ → ℕ)
   arm_tells n s x y b v within is tells =
       let c = conditional known within is in
       let e = arm_of b x y in
-      let shows = origin_shows S known number run a e v (c.arm_within b) (c.arm_expression b) tells in
+      let shows = origin_shows S known number run seats a e v (c.arm_within b) (c.arm_expression b) tells in
       let shown = shows.1 in
       let l = arm_live known shows.0 (c.arm_region b) c.node in
       let live = subst (Live S number run a) c.region l.live in
-      let on = turned_on S known live shown.path_of ((known.table).turned n within (ap is_expression is)) in
-      let goes = subst (λ p. Rattle.id_laws.specs.Activations.Goes S p s b) (one_path (l.goes).path_of shown.path_of) (l.goes).goes in
+      let on = turned_on S known seats live shown.path_of ((known.table).turned n within (ap is_expression is)) in
+      let goes = subst (λ p. Rattle.id_laws.specs.Activations.Goes S p s b) (one_path seats (l.goes).path_of shown.path_of) (l.goes).goes in
       let test = test_has S known c.node goes in
       let has = subst (λ z. Holds S (Has z (place P e) shown.value)) (without_none shown.path) shown.holds in (
         live,
@@ -121,9 +118,16 @@ module _ (S : Source) (known : IsKnown S.checked) (number : ℕ → ℕ → ℕ)
   by_arc {n} v within (to_import {t = t} k is less) says tells =
       let b = get_or (imports_of P n) k 0 in
       let z = known.imported n t b within is (Rattle.id_build.proofs.NamesSeen.listed (imports_of P n) k less) in
-      at_node n (suc k) One v (Split t) is (named_tells S known number run a (region P n) b v z.1 z.2 tells)
+      at_node n (suc k) One v (Split t) is (named_tells S known number run seats a (region P n) b v z.1 z.2 tells)
   by_arc {n} v within (to_then {s = s} {x = x} {y = y} is) says tells = at_node n 0 Zero v (If s x y) is (arm_tells n s x y true v within is tells)
   by_arc {n} v within (to_else {s = s} {x = x} {y = y} is) says tells = at_node n 0 Zero v (If s x y) is (arm_tells n s x y false v within is tells)
+  by_arc {n} v within (to_enter {x = x} is) says tells =
+      at_node n 0 Zero v (Enter x) is (signal_tells n v within (λ e. let bad : Program ≡ Enter x = sym e ∙ is in cc) tells)
+  by_arc {n} v within (to_context {e = e} {k = k} {v = w} is) says tells =
+      let z = arg_at known within is in
+      at_node n 0 Zero v (Arg e k w) is (subst (λ m. T (speaks_of P e (region P e) m 0 true) v) z.enter tells)
+  by_arc {n} v within (to_argument {e = e} {k = k} {v = w} is) says tells =
+      at_node n 0 One v (Arg e k w) is (operand_tells n w (Arg e k w) v within is (inr refl) refl tells)
   by_arc {n} v within (to_label {x = x} {a = e} is) says tells = at_node n 0 Zero v (Binding x e) is (operand_tells n e (Binding x e) v within is refl refl tells)
 
   -- what tells what an origin speaks of, tells what it feeds wants

@@ -1,5 +1,5 @@
 -- What a firing tells, where its operands tell what their ports want: one case for each part of a row.
-use Rattle.std.proofs.Common.{◌≡◌, inl, inr, ℕ, zero, suc, ◌<◌, Bool as Truth, true, false, cond, List, length, get_or, refl, sym, ◌∙◌, ap, subst}
+use Rattle.std.proofs.Common.{◌≡◌, ◌⊎◌, inl, inr, ℕ, zero, suc, ◌<◌, Bool as Truth, true, false, cond, List, length, get_or, refl, sym, ◌∙◌, ap, subst}
 use Rattle.id_value.specs.declared.Constant.{Constant}
 use Rattle.id_value.specs.declared.Constant.TheVariants as constants
 use Rattle.id_value.specs.declared.FaultKind.{FaultKind}
@@ -9,15 +9,17 @@ use Rattle.id_value.specs.declared.Outcome.{Outcome}
 use Rattle.id_value.specs.declared.Outcome.TheVariants.{Gives, Fails, Lacks}
 use Rattle.id_value.specs.Results.{result_of_unary, result_of_binary}
 use Rattle.id_parts.specs.declared.row.Node.{Node}
-use Rattle.id_parts.specs.declared.row.Node.TheVariants.{Head, Param, Literal, Unary, Binary, Split, If, Binding, Program}
+use Rattle.id_parts.specs.declared.row.Node.TheVariants.{Head, Param, Literal, Unary, Binary, Split, If, Enter, Arg, Call}
+use Rattle.id_parts.specs.declared.row.Node.TheVariants.{Binding, Program}
 use Rattle.id_parts.specs.Rows.{arm_at}
 use Rattle.id_parts.specs.Tables.{HasNear, is_expression}
 use Rattle.id_check.specs.declared.checked.Checked.{Checked}
 use Rattle.id_check.specs.Programs.{Stands, place, region, rows}
 use Rattle.id_graph.specs.declared.dests.Port.{Port}
 use Rattle.id_graph.specs.declared.dests.Port.TheVariants.{Zero, One}
-use Rattle.id_graph.specs.declared.instr.Op.{Op}
+use Rattle.id_build.specs.declared.arc.Form.{Form}
 use Rattle.id_graph.specs.declared.instr.PortKind.TheVariants.{Signal as SignalKind}
+use Rattle.id_tag.specs.declared.Context.{Context}
 use Rattle.id_tag.specs.declared.Tag.{Tag}
 use Rattle.id_tag.specs.declared.Value.{Value}
 use Rattle.id_tag.specs.declared.Value.TheVariants as value
@@ -27,25 +29,27 @@ use Rattle.id_ops.specs.declared.Operands.TheVariants as operands
 use Rattle.id_ops.specs.declared.Fresh.{Fresh}
 use Rattle.id_ops.specs.declared.Fired.{Fired}
 use Rattle.id_ops.specs.declared.Fired.TheVariants.{Out, Side, Entered, Sent, Failed, Nothing}
-use Rattle.id_ops.specs.Operators.{constant_value, fired_by, fired_unary, fired_binary, fired_switch, fired}
+use Rattle.id_ops.specs.Operators.{constant_value, fired_by, fired_unary, fired_binary, fired_switch, fired_send, fired}
 use Rattle.id_meaning.specs.declared.Path.{Path}
 use Rattle.id_meaning.specs.declared.SourceValue.{SourceValue}
 use Rattle.id_meaning.specs.declared.SourceValue.TheVariants as source
 use Rattle.id_meaning.specs.declared.Fact.TheVariants.{On, Has}
 use Rattle.id_meaning.specs.Sources.{Source, value_of}
-use Rattle.id_meaning.specs.Facts.{outermost, literal_has, unary_has, binary_has, binding_has, unary_fails, binary_fails}
+use Rattle.id_meaning.specs.Facts.{literal_has, unary_has, binary_has, binding_has, unary_fails, binary_fails}
 use Rattle.id_meaning.specs.Rounds.{Holds, Faulty}
 use Rattle.id_desugar.specs.Ends.{end_of}
 use Rattle.id_desugar.specs.Regions.{imports_of}
-use Rattle.id_build.specs.Rows.{node, port_at, binary_op, port_of, result_of}
-use Rattle.id_runs.specs.Activations.{Activation, tag_in}
+use Rattle.id_build.specs.Rows.{node, port_at, binary_op, op_by, param_of, port_of, result_of}
+use Rattle.id_runs.specs.Activations.{Activation, at_iteration, tag_in}
 use Rattle.id_runs.specs.Events.{Event}
-use Rattle.id_laws.specs.Activations.{PathOf, by_test, Live, at_start, on_side, ReturnsTo}
-use Rattle.id_laws.specs.Topics.{Topic, Turned, ValueOf, TestOf, StandsFor, number_stands, truth_stands, Shown, ShownTest, ShownResult, Tells, split_of}
+use Rattle.id_laws.specs.Activations.{Opens, PathOf, by_test, Live, on_side, ReturnsTo}
+use Rattle.id_laws.specs.Topics.{Topic, Turned, ValueOf, TestOf, StandsFor, number_stands, truth_stands, Shown, ShownTest, ShownResult, ShownContext, Tells, split_of}
 use Rattle.id_laws.specs.Topics.{speaks_of, topic_of, wants, topic_at}
 use Rattle.id_laws.proofs.Assumed.{IsKnown}
-use Rattle.id_laws.proofs.Arcs.{Does, starts, returns, enters, constant, unary, binary, turns_on, hands, joins, names, answers, place_shown}
-use Rattle.id_laws.proofs.TurnedOn.{holds_by, without_none, one_path, main_path, turned_on}
+use Rattle.id_laws.proofs.Arcs.{Does, starts, returns, enters, constant, unary, binary, turns_on, hands, joins, opens, passes, gets, names, answers}
+use Rattle.id_laws.proofs.Arcs.{place_shown}
+use Rattle.id_laws.proofs.Seats.{OneSeat, one_path, live_path}
+use Rattle.id_laws.proofs.TurnedOn.{holds_by, without_none, turned_on}
 use Rattle.id_laws.proofs.OperatorsAgree.{agree_unary, alone_nothing, agree_binary}
 
 -- the value that a token's stands for is a constant
@@ -69,11 +73,6 @@ pub stands_truth : {S : Source} {number : ℕ → ℕ → ℕ} {run : List Event
 stands_truth {b = b} (number_stands n) e = cc
 stands_truth {b = b} (truth_stands c) e = let same : c ≡ b = cc in ap (λ z. source.Bool z) same
 
--- a live region's activation has a path
-pub live_path : {S : Source} {number : ℕ → ℕ → ℕ} {run : List Event} {a : Activation} {r : _} → Live S number run a r → (p : Path) × PathOf S number run a p
-live_path at_start = (outermost, main_path)
-live_path (on_side within tests live says goes) = live_path live
-
 module _ (S : Source) (number : ℕ → ℕ → ℕ) (run : List Event) where
   -- the value of the block with this head goes to where it returns
   pub record Returned (a : Activation) (h : ℕ) (u : Tag) (v : Value) : Type 0 where
@@ -82,6 +81,25 @@ module _ (S : Source) (number : ℕ → ℕ → ℕ) (run : List Event) where
     pub goes : u ≡ tag_in caller (number row 0)
     pub returns_to : ReturnsTo S number run a.context h caller row
     pub result : ShownResult S number run a h v
+
+  -- the value of an argument goes to the entry of its parameter, in a context that its `Enter` has made
+  pub record Passed (a : Activation) (n : ℕ) (u : Tag) (v : Value) : Type 0 where
+    pub enter : ℕ
+    pub index : ℕ
+    pub argument : ℕ
+    pub node : node S.checked n ≡ Arg enter index argument
+    pub context : Context
+    pub goes : u ≡ tag_in (at_iteration context 0) (number (param_of S.checked enter index) 0)
+    pub live : Live S number run a (region S.checked enter)
+    pub opens : Opens S number run a enter context
+    pub value : Tells S number run a (ValueOf argument) v
+
+  -- the row is an `Enter` of a live region
+  pub record Entering (a : Activation) (n part : ℕ) : Type 0 where
+    pub name : ℕ
+    pub node : node S.checked n ≡ Enter name
+    pub first : part ≡ 0
+    pub live : Live S number run a (region S.checked n)
 
   -- the fault at the row is one of the source
   pub record FaultAt (a : Activation) (n : ℕ) (k : FaultKind) : Type 0 where
@@ -95,8 +113,8 @@ module _ (S : Source) (number : ℕ → ℕ → ℕ) (run : List Event) where
   abbrev pub Means : Activation → ℕ → ℕ → Fired → Type 0
   Means a n part (Out v) = (node S.checked n ≡ Program → ⊥) → Tells S number run a (topic_of S.checked (record { row = n; part = part; side = true })) v
   Means a n part (Side b v) = Tells S number run a (topic_of S.checked (record { row = n; part = part; side = b })) v
-  Means a n part (Entered c) = ⊥
-  Means a n part (Sent u v) = Returned a n u v
+  Means a n part (Entered c) = Entering a n part
+  Means a n part (Sent u v) = Returned a n u v ⊎ Passed a n u v
   Means a n part (Failed k) = FaultAt a n k
   Means a n part Nothing = Unit {0}
 
@@ -106,7 +124,7 @@ module _ (S : Source) (number : ℕ → ℕ → ℕ) (run : List Event) where
     two : (v w : Value) → ops ≡ operands.Two v w → Tells S number run a (topic_at S.checked n part Zero) v
         → Tells S number run a (topic_at S.checked n part One) w → OperandsTell a n part ops
 
-module _ (S : Source) (known : IsKnown S.checked) (number : ℕ → ℕ → ℕ) (run : List Event) (a : Activation) (n : ℕ) (within : n < length (rows S.checked)) where
+module _ (S : Source) (known : IsKnown S.checked) (number : ℕ → ℕ → ℕ) (run : List Event) (seats : OneSeat S number run) (a : Activation) (n : ℕ) (within : n < length (rows S.checked)) where
   abbrev P : Checked
   P = S.checked
 
@@ -128,12 +146,16 @@ module _ (S : Source) (known : IsKnown S.checked) (number : ℕ → ℕ → ℕ)
   merged part v false means = tt
 
   returned : (part : ℕ) (u : Tag) (v : Value) (b : Truth) → Returned S number run a n u v → M part (cond b (Sent u v) Nothing)
-  returned part u v true means = means
+  returned part u v true means = inl means
   returned part u v false means = tt
+
+  passed : (part : ℕ) (u : Tag) (v : Value) (b : Truth) → Passed S number run a n u v → M part (cond b (Sent u v) Nothing)
+  passed part u v true means = inr means
+  passed part u v false means = tt
 
   -- at the path the row is On
   on_at : {p : Path} → PathOf S number run a p → Live S number run a (region P n) → is_expression (node P n) ≡ true → Holds S (On p (place P n))
-  on_at path live expression = turned_on S known live path ((known.table).turned n within expression)
+  on_at path live expression = turned_on S known seats live path ((known.table).turned n within expression)
 
   -- a part of the row stands in its region
   part_live : (e : ℕ) (m : Node) → node P n ≡ m → HasNear m e → Live S number run a (region P e) → Live S number run a (region P n)
@@ -190,7 +212,7 @@ module _ (S : Source) (known : IsKnown S.checked) (number : ℕ → ℕ → ℕ)
       let y = operand_at f w u.1 in
       let live = part_live e (Binary o e f) is (inl refl) t.0 in
       let on = on_at x.path_of live (ap is_expression is) in
-      let other = subst (λ z. Holds S (Has z (place P f) (value_of y.constant_is))) (one_path y.path_of x.path_of) y.holds in
+      let other = subst (λ z. Holds S (Has z (place P f) (value_of y.constant_is))) (one_path seats y.path_of x.path_of) y.holds in
       let stands : Stands P n (Binary o e f) = record { within = within; node = is } in
       let k = port_at P e in
       let both : fired_binary (binary_op o k) (operands.Two v w) ≡ fired_binary (binary_op o k) (operands.Two (constant_value x.constant_is) (constant_value y.constant_is)) =
@@ -258,7 +280,7 @@ module _ (S : Source) (known : IsKnown S.checked) (number : ℕ → ℕ → ℕ)
 
   module _ (t : Tag) (fresh : Fresh) where
     -- a firing on one operand
-    one_means : (part : ℕ) (o : Op) (p : Port) (v : Value) → Does P n part o → T (topic_at P n part p) v → M part (fired o t (operands.One v) fresh)
+    one_means : (part : ℕ) (o : Form) (p : Port) (v : Value) → Does P n part o → T (topic_at P n part p) v → M part (fired (op_by number o) t (operands.One v) fresh)
     one_means part o Zero v (starts is) w = merged part v (same_kind (kind_of v) SignalKind) (spoken Head 0 v is (wanted Head 0 Zero v is w))
     one_means part o One v (starts is) w = absurd (wanted Head 0 One v is w)
     one_means part o p v (returns is) w = tt
@@ -266,7 +288,7 @@ module _ (S : Source) (known : IsKnown S.checked) (number : ℕ → ℕ → ℕ)
     one_means part o One v (enters {x = x} {k = k} is) w = absurd (wanted (Param x k) 0 One v is w)
     one_means part o Zero v (constant {c = c} is) w =
         let tells = wanted (Literal c) 0 Zero v is w in
-        subst (λ z. M part (fired o t (operands.One z) fresh)) (sym tells.0) (literal_tells c v is tells)
+        subst (λ z. M part (fired (op_by number o) t (operands.One z) fresh)) (sym tells.0) (literal_tells c v is tells)
     one_means part o One v (constant {c = c} is) w = absurd (wanted (Literal c) 0 One v is w)
     one_means part o Zero v (unary {o = u} {a = e} is) w = unary_means u e v is (wanted (Unary u e) 0 Zero v is w)
     one_means part o One v (unary {o = u} {a = e} is) w = absurd (wanted (Unary u e) 0 One v is w)
@@ -275,18 +297,25 @@ module _ (S : Source) (known : IsKnown S.checked) (number : ℕ → ℕ → ℕ)
     one_means part o p v (hands k is less) w = tt
     one_means part o Zero v (joins {s = s} {x = x} {y = y} is) w = merged part v (same_kind (kind_of v) (port_at P n)) (spoken (If s x y) 0 v is (wanted (If s x y) 0 Zero v is w))
     one_means part o One v (joins {s = s} {x = x} {y = y} is) w = absurd (wanted (If s x y) 0 One v is w)
+    one_means part o Zero v (opens {x = x} is) w =
+        let tells = wanted (Enter x) 0 Zero v is w in
+        subst (λ z. M part (fired (op_by number o) t (operands.One z) fresh)) (sym tells.0) (record { name = x; node = is; first = refl; live = tells.1 })
+    one_means part o One v (opens {x = x} is) w = absurd (wanted (Enter x) 0 One v is w)
+    one_means part o p v (passes is) w = tt
+    one_means part o Zero v (gets {e = e} {c = c} is) w = merged part v (same_kind (kind_of v) (port_at P n)) (spoken (Call e c) 0 v is (wanted (Call e c) 0 Zero v is w))
+    one_means part o One v (gets {e = e} {c = c} is) w = absurd (wanted (Call e c) 0 One v is w)
     one_means part o Zero v (names {x = x} {a = e} is) w = merged part v (same_kind (kind_of v) (port_at P n)) (binding_tells x e v is (wanted (Binding x e) 0 Zero v is w))
     one_means part o One v (names {x = x} {a = e} is) w = absurd (wanted (Binding x e) 0 One v is w)
     one_means part o p v (answers is) w = merged part v (same_kind (kind_of v) (port_of (result_of (node P P.main)))) (λ other. absurd (other is))
 
     -- a firing on two operands
-    two_means : (part : ℕ) (o : Op) (v w : Value) → Does P n part o → T (topic_at P n part Zero) v → T (topic_at P n part One) w
-        → M part (fired o t (operands.Two v w) fresh)
+    two_means : (part : ℕ) (o : Form) (v w : Value) → Does P n part o → T (topic_at P n part Zero) v → T (topic_at P n part One) w
+        → M part (fired (op_by number o) t (operands.Two v w) fresh)
     two_means part o v w (starts is) x y = absurd (wanted Head 0 One w is y)
     two_means part o v w (returns is) x y =
         let back = wanted Head 1 Zero v is x in
         let result = wanted Head 1 One w is y in
-        subst (λ z. M part (fired o t (operands.Two z w) fresh)) (sym back.is)
+        subst (λ z. M part (fired (op_by number o) t (operands.Two z w) fresh)) (sym back.is)
         (returned part (tag_in back.caller (number back.row 0)) w (same_kind (kind_of w) (port_of (result_of (node P (end_of P n)))))
         (record { caller = back.caller; row = back.row; goes = refl; returns_to = back.returns; result = result }))
     two_means part o v w (enters {x = x} {k = k} is) t u = absurd (wanted (Param x k) 0 One w is u)
@@ -298,10 +327,28 @@ module _ (S : Source) (known : IsKnown S.checked) (number : ℕ → ℕ → ℕ)
     two_means part o v w (hands {t = e} k is less) x y =
         switch_means e (suc k) (port_at P (get_or (imports_of P n) k 0)) v w is (wanted (Split e) (suc k) Zero v is x) (wanted (Split e) (suc k) One w is y)
     two_means part o v w (joins {s = s} {x = x} {y = y} is) t u = absurd (wanted (If s x y) 0 One w is u)
+    two_means part o v w (opens {x = x} is) t u = absurd (wanted (Enter x) 0 One w is u)
+    two_means part o v w (passes {e = e} {k = k} {v = x} is) y z =
+        let into = wanted (Arg e k x) 0 Zero v is y in
+        let b = param_of P e k in
+        subst (λ q. M part (fired (op_by number o) t (operands.Two q w) fresh)) (sym into.is)
+        (passed part (tag_in (at_iteration into.context 0) (number b 0)) w (same_kind (kind_of w) (port_at P b))
+        (record {
+          enter = e;
+          index = k;
+          argument = x;
+          node = is;
+          context = into.context;
+          goes = refl;
+          live = into.live;
+          opens = into.opens;
+          value = wanted (Arg e k x) 0 One w is z;
+        }))
+    two_means part o v w (gets {e = e} {c = c} is) t u = absurd (wanted (Call e c) 0 One w is u)
     two_means part o v w (names {x = x} {a = e} is) t u = absurd (wanted (Binding x e) 0 One w is u)
     two_means part o v w (answers is) x y = absurd (wanted Program 0 One w is y)
 
     -- what a firing tells
-    pub firing_means : (part : ℕ) (o : Op) (ops : Operands) → Does P n part o → OperandsTell S number run a n part ops → M part (fired o t ops fresh)
-    firing_means part o ops does (one p v is w) = subst (λ z. M part (fired o t z fresh)) (sym is) (one_means part o p v does w)
-    firing_means part o ops does (two v w is x y) = subst (λ z. M part (fired o t z fresh)) (sym is) (two_means part o v w does x y)
+    pub firing_means : (part : ℕ) (o : Form) (ops : Operands) → Does P n part o → OperandsTell S number run a n part ops → M part (fired (op_by number o) t ops fresh)
+    firing_means part o ops does (one p v is w) = subst (λ z. M part (fired (op_by number o) t z fresh)) (sym is) (one_means part o p v does w)
+    firing_means part o ops does (two v w is x y) = subst (λ z. M part (fired (op_by number o) t z fresh)) (sym is) (two_means part o v w does x y)

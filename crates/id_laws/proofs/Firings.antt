@@ -39,6 +39,8 @@ use Rattle.id_laws.proofs.Arcs.{Does, makes}
 use Rattle.id_laws.proofs.Assumed.{IsKnown}
 use Rattle.id_laws.proofs.Sent.{dests_are}
 use Rattle.id_laws.proofs.Start.{is_there}
+use Rattle.id_build.specs.declared.arc.Form.{Form}
+use Rattle.id_build.specs.Rows.{op_by}
 
 module _ (S : Source) (g : Parts) (number : ℕ → ℕ → ℕ) (numbered : Numbered S.checked g number) (known : IsKnown S.checked) (count : ℕ) (only : Exclusive g S.inputs count)
     (s : World) (run : List Event) (r : Reach g S.inputs count s run) (quiet : s.flight ≡ []) where
@@ -65,18 +67,29 @@ module _ (S : Source) (g : Parts) (number : ℕ → ℕ → ℕ) (numbered : Num
   by_instr a n part o ops i is f =
       record { fresh = f.fresh; fires = subst (λ z. FiresAs run (tag_in a (number n part)) (fired z (tag_in a (number n part)) ops f.fresh)) is f.fires }
 
-  pub alone_fired : (a : Activation) (n part : ℕ) (o : Op) (p : Port) (v : Value) → n < length (rows S.checked) → Does S.checked n part o → two_ports o ≡ false
-      → Among (Token (tag_in a (number n part)) p v) (handled run) → PartFired a n part o (Alone v)
-  alone_fired a n part o p v within does one h =
-      let m = numbered.made n part (Plain o) _ (makes within does) in
-      by_instr a n part o (Alone v) m.instr m.op (alone g S.inputs count s run r (tag_in a (number n part)) p v m.instr m.at (ap two_ports m.op ∙ one) h)
+  pub alone_formed : (a : Activation) (n part : ℕ) (o : Form) (p : Port) (v : Value) → n < length (rows S.checked) → Does S.checked n part o
+      → two_ports (op_by number o) ≡ false → Among (Token (tag_in a (number n part)) p v) (handled run) → PartFired a n part (op_by number o) (Alone v)
+  alone_formed a n part o p v within does one h =
+      let m = numbered.made n part o _ (makes within does) in
+      by_instr a n part (op_by number o) (Alone v) m.instr m.op (alone g S.inputs count s run r (tag_in a (number n part)) p v m.instr m.at (ap two_ports m.op ∙ one) h)
 
-  pub both_fired : (a : Activation) (n part : ℕ) (o : Op) (v w : Value) → n < length (rows S.checked) → Does S.checked n part o → two_ports o ≡ true
+  pub alone_fired : (a : Activation) (n part : ℕ) (o : Op) (p : Port) (v : Value) → n < length (rows S.checked) → Does S.checked n part (Plain o)
+      → two_ports o ≡ false → Among (Token (tag_in a (number n part)) p v) (handled run) → PartFired a n part o (Alone v)
+  alone_fired a n part o p v within does one h = alone_formed a n part (Plain o) p v within does one h
+
+  pub both_formed : (a : Activation) (n part : ℕ) (o : Form) (v w : Value) → n < length (rows S.checked) → Does S.checked n part o
+      → two_ports (op_by number o) ≡ true
+      → Among (Token (tag_in a (number n part)) Zero v) (handled run) → Among (Token (tag_in a (number n part)) One w) (handled run)
+      → PartFired a n part (op_by number o) (Two v w)
+  both_formed a n part o v w within does two h k =
+      let m = numbered.made n part o _ (makes within does) in
+      by_instr a n part (op_by number o) (Two v w) m.instr m.op (met g S.inputs count only s run r (tag_in a (number n part)) v w m.instr m.at (ap two_ports m.op ∙ two) h k)
+
+  pub both_fired : (a : Activation) (n part : ℕ) (o : Op) (v w : Value) → n < length (rows S.checked) → Does S.checked n part (Plain o)
+      → two_ports o ≡ true
       → Among (Token (tag_in a (number n part)) Zero v) (handled run) → Among (Token (tag_in a (number n part)) One w) (handled run)
       → PartFired a n part o (Two v w)
-  both_fired a n part o v w within does two h k =
-      let m = numbered.made n part (Plain o) _ (makes within does) in
-      by_instr a n part o (Two v w) m.instr m.op (met g S.inputs count only s run r (tag_in a (number n part)) v w m.instr m.at (ap two_ports m.op ∙ two) h k)
+  both_fired a n part o v w within does two h k = both_formed a n part (Plain o) v w within does two h k
 
   -- a part that has fired so speaks the value that comes out
   pub spoken : (a : Activation) (n part : ℕ) (o : Op) (ops : Operands) (v : Value) → PartFired a n part o ops

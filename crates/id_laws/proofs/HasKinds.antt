@@ -1,5 +1,5 @@
 -- What a thing Has is of its kind.
-use Rattle.std.proofs.Common.{◌≡◌, inl, inr, ℕ, zero, suc, ◌<◌, Bool as Truth, true, false, Some, None, List, [], ◌∷◌, length, slice_get}
+use Rattle.std.proofs.Common.{◌≡◌, inl, inr, ℕ, zero, suc, ◌<◌, ℤ, Bool as Truth, true, false, cond, Some, None, List, [], ◌∷◌, length, slice_get}
 use Rattle.std.proofs.Common.{unwrap_or, arith, refl, sym, ◌∙◌, ap, subst}
 use Rattle.std.specs.Prelude.{neg_ℤ}
 use Rattle.id_value.specs.declared.Kind.{Kind}
@@ -18,7 +18,7 @@ use Rattle.id_value.specs.Results.{result_of_unary, result_of_binary}
 use Rattle.id_value.proofs.ResultsLemmas.{IsNumberOrFault, whole-number, calculated-number}
 use Rattle.id_list.proofs.AmongLemmas.{Among-from_at}
 use Rattle.id_parts.specs.declared.row.Node.{Node}
-use Rattle.id_parts.specs.declared.row.Node.TheVariants.{Head, Param, Split, If, Binding, Program}
+use Rattle.id_parts.specs.declared.row.Node.TheVariants.{Head, Param, Split, If, Binding, Program, Enter, Arg, Def}
 use Rattle.id_parts.specs.Rows.{at}
 use Rattle.id_parts.specs.Tables.{HasOperand, is_thing, is_binder, is_expression}
 use Rattle.id_parts.proofs.RegionLemmas.{HasPart-operand}
@@ -31,12 +31,14 @@ use Rattle.id_meaning.specs.declared.Fact.{Fact}
 use Rattle.id_meaning.specs.declared.Fact.TheVariants.{On, Has}
 use Rattle.id_meaning.specs.Sources.{Source, AreFor, AreInputs, IsInput, SuitsParam, main_params, value_kind, value_of}
 use Rattle.id_meaning.specs.Facts.{Rule, Chooses, then_arm, else_arm, param_has, literal_has, unary_has, binary_has, name_has, conditional_has, block_has}
-use Rattle.id_meaning.specs.Facts.{binding_has}
+use Rattle.id_meaning.specs.Facts.{binding_has, argument_has, call_has}
 use Rattle.id_meaning.specs.Rounds.{Every, Rounds, Holds}
-use Rattle.id_build.specs.Rows.{node, port_at, port_of}
+use Rattle.id_build.specs.Rows.{node, port_at, port_of, called, param_of}
 use Rattle.id_laws.specs.Activations.{main_head}
 use Rattle.id_laws.proofs.Assumed.{IsKnown}
 use Rattle.id_laws.proofs.Blocks.{IsParam, a_param}
+use Rattle.id_parts.specs.Turns.{IsDefOf, params_at}
+use Rattle.id_laws.proofs.Calls.{enter_at, called_is}
 
 -- the kind of a constant
 abbrev kind_of : Constant → Kind
@@ -122,6 +124,8 @@ binder_thing _ h = absurd (no h)
 pub expression_thing : (m : Node) → is_expression m ≡ true → is_thing m ≡ true
 expression_thing Head h = h
 expression_thing (Split t) h = h
+expression_thing (Enter x) h = h
+expression_thing (Arg e k v) h = h
 expression_thing Program h = h
 expression_thing _ h = refl
 
@@ -200,6 +204,26 @@ module _ (S : Source) (known : IsKnown S.checked) (inputs : AreInputs S.checked 
       let parts = same_fact is in
       let c = arm_chosen chooses in
       subst (OfKind n) parts.1 (one_row n r _ w c.stands refl within thing parts.0 (c.kind_is ∙ early a _ w c.within c.thing h.1.1.0))
+  kind_by m early (argument_has {n = r} {e = e} {b = body} {m = l} {i = i} {v = a} {q = q} {u = w} x y bound def param) h n p v within thing is =
+      let parts = same_fact is in
+      let c = enter_at known x.within x.node in
+      let inner = operand_of l a y.within (subst (λ z. HasOperand z a) (sym y.node) refl) in
+      let goes = known.passed l e i a y.within y.node in
+      let head = called_is known c.within c.node bound def in
+      let to : param_of P e i ≡ q = some_is (sym goes.0 ∙ ap (λ z. slice_get (params_at (rows P) z) i) head ∙ param) in
+      let there = a_param (rows P) _ (length (rows P)) q (Among-from_at q (params_at (rows P) _) i param) in
+      subst (OfKind n) parts.1 (one_row n q _ w (record { within = there.within; node = refl }) (param_thing there.param) within thing parts.0
+      (ap (kind P) (sym to) ∙ sym goes.1 ∙ early a _ w inner.0 inner.1 h.1.0))
+  kind_by m early (call_has {n = r} {e = e} {c = count} {d = f} {x = y} {h = g} {b = body} {k = k} {u = w} x bound def) h n p v within thing is =
+      let parts = same_fact is in
+      let c = enter_at known x.within x.node in
+      let head = called_is known c.within c.node bound def in
+      let here : IsDefOf (rows P) f g = record { name = y; result = k; body = body; within = def.within; node = def.node } in
+      let inner = operand_of f body def.within (subst (λ z. HasOperand z body) (sym def.node) refl) in
+      let result = known.result_kind f g here in
+      subst (OfKind n) parts.1 (one_row n r _ w x refl within thing parts.0
+      (known.call_kind r e count c.name f (record { name = y; result = k; body = body; within = def.within; node = def.node ∙ ap (λ z. Def y z k body) (sym head) }) x.within x.node
+      ∙ sym result ∙ early body _ w inner.0 inner.1 h.1.0))
   kind_by m early (block_has {n = r} {b = b} {v = w} x) h n p v within thing is =
       let parts = same_fact is in
       let inner = operand_of r b x.within (subst (λ z. HasOperand z b) (sym x.node) refl) in

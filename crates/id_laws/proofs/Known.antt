@@ -15,6 +15,7 @@ use Rattle.id_meaning.specs.Sources.{head_of}
 use Rattle.id_build.specs.Rows.{node}
 use Rattle.id_laws.specs.Activations.{main_head}
 use Rattle.id_laws.proofs.Assumed.{IsKnown}
+use Rattle.id_laws.proofs.Uncalled.{no_enter, no_arg, no_call}
 use Rattle.id_build.proofs.ImportsLemmas.{name_sees, import_sees}
 use Rattle.id_build.proofs.NamesSeen.{Sees}
 
@@ -58,4 +59,8 @@ known P = record {
   block_kind = λ n b within is. kind_along P n b (Block b) (record { within = within; node = is }) refl;
   binding_kind = λ n x a within is. kind_along P n a (Binding x a) (record { within = within; node = is }) refl;
   result_kind = λ n h d. def_row P n d.name h d.body d.result (record { within = d.within; node = d.node });
+  call_end = λ e x within is. absurd (no_enter P e x within is);
+  callee = λ e x within is. absurd (no_enter P e x within is);
+  passed = λ m e k v within is. absurd (no_arg P m e k v within is);
+  call_kind = λ n e c x d h within is. absurd (no_call P n e c within is);
 }

@@ -4,12 +4,11 @@ use Rattle.std.proofs.Common.{◌∙◌, ap, arith}
 use Rattle.std.specs.List.{count_by}
 use Rattle.std.proofs.lemmas.Bool.Decides.{nat_tests}
 use Rattle.std.proofs.lemmas.List.Sums.{sum_by-cons}
-use Rattle.id_parts.specs.declared.row.Node.TheVariants.{Head, Split, If, Program}
+use Rattle.id_parts.specs.declared.row.Node.TheVariants.{Head, Split, If, Program, Enter, Call}
 use Rattle.id_parts.specs.Tables.{is_binder}
 use Rattle.id_check.specs.declared.checked.Checked.{Checked}
 use Rattle.id_check.specs.Programs.{place, rows}
 use Rattle.id_graph.specs.declared.instr.Instr.{Instr}
-use Rattle.id_graph.specs.declared.instr.Op.{Op}
 use Rattle.id_graph.specs.Graph.{Parts}
 use Rattle.id_core.specs.Observed as shown
 use Rattle.id_build.specs.Rows.{node, op_by}
@@ -18,9 +17,11 @@ use Rattle.id_laws.specs.Activations.{main_head}
 use Rattle.id_laws.specs.Topics.{IsPart}
 use Rattle.id_laws.proofs.Assumed.{IsKnown}
 use Rattle.id_laws.proofs.Arcs.{Does, starts, returns, enters, constant, unary, binary, turns_on, hands, joins, names, answers, doing, makes, part_of}
-use Rattle.id_laws.proofs.Arcs.{place_shown}
+use Rattle.id_laws.proofs.Arcs.{place_shown, opens, passes, gets}
 use Rattle.id_laws.proofs.Conditionals.{conditional}
 use Rattle.id_laws.proofs.Tokens.{one_part}
+use Rattle.id_build.specs.declared.arc.Form.{Form}
+use Rattle.id_laws.proofs.Calls.{call_at, enter_at}
 
 -- ---- counts
 
@@ -101,6 +102,22 @@ module _ (P : Checked) (known : IsKnown P) (g : Parts) (number : ℕ → ℕ →
       (same_number _ _ refl) (same_number _ _ (h_place ∙ sym m_place)) in
       absurd (omega (arith, two, label.1))
 
+  -- a call's merge shares its place with its `enter`
+  call_no_label : (n : ℕ) {e c : ℕ} → node P n ≡ Call e c → (part : IsPart P n 0) → shown.is_label g (number n 0) ≡ true → ⊥
+  call_no_label n {e} {c} is part l =
+      let z = enter_at known (part.makes).within is in
+      let begins = call_at known z.within z.node in
+      let enter = makes z.within (opens z.node) in
+      let m = numbered.made n 0 part.form part.place part.makes in
+      let h = numbered.made e 0 _ _ enter in
+      let label = label_of g (number n 0) m.instr m.at l in
+      let m_place : (m.instr).place ≡ place P n = m.place ∙ (doing part.makes).place_is ∙ ap (place_shown P (place P n)) is in
+      let h_place : (h.instr).place ≡ place P n = h.place ∙ ap (place_shown P (place P e)) z.node ∙ begins.place ∙ ap (place P) z.ends in
+      let two = two_at (λ (j : Instr). j.place == (m.instr).place) g.instrs (number n 0) (number e 0) m.instr h.instr m.at h.at
+      (λ k. let rows_are = (one_part numbered part (part_of z.within (opens z.node)) k).0 in let bad : Call e c ≡ Enter z.name = sym is ∙ ap (node P) rows_are ∙ z.node in cc)
+      (same_number _ _ refl) (same_number _ _ (h_place ∙ sym m_place)) in
+      absurd (omega (arith, two, label.1))
+
   -- a label is the first instruction of a binder
   pub record LabelOf (n part : ℕ) : Type 0 where
     pub binds : is_binder (node P n) ≡ true
@@ -112,13 +129,10 @@ module _ (P : Checked) (known : IsKnown P) (g : Parts) (number : ℕ → ℕ →
       m : Made g number (number n part) x.form x.place
       m = numbered.made n part x.form x.place x.makes
 
-      op_is : (m.instr).op ≡ (doing x.makes).op
-      op_is = m.op ∙ ap (op_by number) (doing x.makes).form_is
+      merge : shown.is_value_merge (op_by number x.form) ≡ true
+      merge = ap shown.is_value_merge (sym m.op) ∙ (label_of g (number n part) m.instr m.at e).0
 
-      merge : shown.is_value_merge (doing x.makes).op ≡ true
-      merge = ap shown.is_value_merge (sym op_is) ∙ (label_of g (number n part) m.instr m.at e).0
-
-      go : {j : ℕ} {o : Op} → Does P n j o → shown.is_value_merge o ≡ true → shown.is_label g (number n j) ≡ true → IsPart P n j → LabelOf n j
+      go : {j : ℕ} {o : Form} → Does P n j o → shown.is_value_merge (op_by number o) ≡ true → shown.is_label g (number n j) ≡ true → IsPart P n j → LabelOf n j
       go (starts is) k l y = cc
       go (returns is) k l y = cc
       go (enters is) k l y = record { binds = ap is_binder is; first = refl }
@@ -128,5 +142,8 @@ module _ (P : Checked) (known : IsKnown P) (g : Parts) (number : ℕ → ℕ →
       go (turns_on is) k l y = cc
       go (hands j is less) k l y = cc
       go (joins is) k l y = absurd (merge_no_label n is y l)
+      go (opens is) k l y = cc
+      go (passes is) k l y = cc
+      go (gets is) k l y = absurd (call_no_label n is y l)
       go (names is) k l y = record { binds = ap is_binder is; first = refl }
       go (answers is) k l y = absurd (answer_no_label n is y l)

@@ -12,7 +12,6 @@ use Rattle.id_parts.specs.Turns.{IsDefOf}
 use Rattle.id_check.specs.declared.checked.Checked.{Checked}
 use Rattle.id_check.specs.Programs.{place, rows}
 use Rattle.id_graph.specs.declared.instr.Instr.{Instr}
-use Rattle.id_graph.specs.declared.instr.Op.{Op}
 use Rattle.id_graph.specs.declared.instr.Op.TheVariants as op
 use Rattle.id_graph.specs.Graph.{Parts}
 use Rattle.id_valid.specs.Validator.{is_value}
@@ -24,7 +23,10 @@ use Rattle.id_laws.specs.Activations.{main_head}
 use Rattle.id_laws.specs.Topics.{IsPart}
 use Rattle.id_laws.proofs.Assumed.{IsKnown}
 use Rattle.id_laws.proofs.Arcs.{Does, starts, returns, enters, constant, unary, binary, turns_on, hands, joins, names, answers, doing, makes, part_of}
-use Rattle.id_laws.proofs.Arcs.{place_shown}
+use Rattle.id_laws.proofs.Arcs.{place_shown, opens, passes, gets}
+use Rattle.id_build.specs.declared.arc.Form.{Form}
+use Rattle.id_laws.proofs.Calls.{CallAt, ArgAt, call_at, arg_at, arg_place}
+use Rattle.id_desugar.specs.Ends.{end_of}
 
 -- ---- where one of a list passes
 
@@ -73,7 +75,7 @@ module _ (P : Checked) (known : IsKnown P) (g : Parts) (number : ℕ → ℕ →
       true_false (sym binds ∙ ap (λ z. is_binder (node P z)) (sym one) ∙ ap is_binder d.node)
 
   -- what is made at the place of a binder is its first instruction
-  made_there : (b : ℕ) → b < length (rows P) → is_binder (node P b) ≡ true → (n part : ℕ) (o : Op) → n < length (rows P) → Does P n part o
+  made_there : (b : ℕ) → b < length (rows P) → is_binder (node P b) ≡ true → (n part : ℕ) (o : Form) → n < length (rows P) → Does P n part o
       → place_shown P (place P n) (node P n) ≡ place P b → (n ≡ b) × (part ≡ 0)
   made_there b inside binds n part o within does same = by does
     where
@@ -95,7 +97,16 @@ module _ (P : Checked) (known : IsKnown P) (g : Parts) (number : ℕ → ℕ →
           let one = (known.apart).apart c.0 b d.within inside (ap is_thing d.node) (binds_thing (node P b) binds) (sym z.place ∙ ap (place_shown P (place P n)) (sym is) ∙ same) in
           true_false (sym binds ∙ ap (λ m. is_binder (node P m)) (sym one) ∙ ap is_binder d.node)
 
-      by : {j : ℕ} {q : Op} → Does P n j q → (n ≡ b) × (j ≡ 0)
+      -- an `enter` and the `send`s of a call have its place
+      at_enter : {e : ℕ} → CallAt P e → place P e ≡ place P b → ⊥
+      at_enter {e} c at =
+          let one = (known.apart).apart (end_of P e) b c.within inside (ap is_thing c.node) (binds_thing (node P b) binds) (sym c.place ∙ at) in
+          true_false (sym binds ∙ ap (λ m. is_binder (node P m)) (sym one) ∙ ap is_binder c.node)
+
+      at_arg : {m e v : ℕ} → ArgAt P m e v → place P m ≡ place P e → place P m ≡ place P b → ⊥
+      at_arg x with_enter at = at_enter (call_at known x.enter_within x.enter) (sym with_enter ∙ at)
+
+      by : {j : ℕ} {q : Form} → Does P n j q → (n ≡ b) × (j ≡ 0)
       by (starts is) = absurd (at_head is)
       by (returns is) = absurd (at_head is)
       by (enters is) = (here _ is refl refl, refl)
@@ -105,11 +116,14 @@ module _ (P : Checked) (known : IsKnown P) (g : Parts) (number : ℕ → ℕ →
       by (turns_on is) = absurd (at_split is)
       by (hands k is less) = absurd (at_split is)
       by (joins is) = (here _ is refl refl, refl)
+      by (opens is) = absurd (at_enter (call_at known within is) (ap (place_shown P (place P n)) (sym is) ∙ same))
+      by (passes is) = absurd (at_arg (arg_at known within is) (arg_place known within is) (ap (place_shown P (place P n)) (sym is) ∙ same))
+      by (gets is) = (here _ is refl refl, refl)
       by (names is) = (here _ is refl refl, refl)
       by (answers is) = absurd (def_elsewhere P.main (main_head P) b known.main inside binds (ap (place_shown P (place P n)) (sym is) ∙ same))
 
   -- the first instruction of a binder
-  binder_does : (b : ℕ) (m : Node) → node P b ≡ m → is_binder m ≡ true → Does P b 0 (op.Merge (port_at P b))
+  binder_does : (b : ℕ) (m : Node) → node P b ≡ m → is_binder m ≡ true → Does P b 0 (Plain (op.Merge (port_at P b)))
   binder_does b (Param x k) is h = enters is
   binder_does b (Binding x a) is h = names is
   binder_does b _ is h = absurd (true_false (sym h))
@@ -143,6 +157,6 @@ module _ (P : Checked) (known : IsKnown P) (g : Parts) (number : ℕ → ℕ →
         let z = numbered.made k.row k.part k.form k.place k.makes in
         let same : z.instr ≡ j = some_is (sym z.at ∙ ap (slice_get g.instrs) k.is ∙ at) in
         let there : place_shown P (place P k.row) (node P k.row) ≡ place P b = sym d.place_is ∙ sym z.place ∙ ap (λ (x : Instr). x.place) same ∙ eqb-true j.place i.place e ∙ place_is in
-        let here = made_there b within binds k.row k.part d.op (k.makes).within d.does there in
+        let here = made_there b within binds k.row k.part k.form (k.makes).within d.does there in
         sym k.is ∙ (λ t. number (here.0 t) (here.1 t))) in
         ap (shown.is_label_of g) m.at ∙ (λ t. shown.is_value_merge (m.op t) && (one t == 1)) ∙ ap (λ t. t && true) merges

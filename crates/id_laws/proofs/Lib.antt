@@ -1,7 +1,12 @@
 pub mod Arcs
 pub mod Assumed
+pub mod Uncalled
+pub mod MainAlone
+pub mod Calls
 pub mod Conditionals
+pub mod Seats
 pub mod Sent
+pub mod Started
 pub mod Tokens
 pub mod Senders
 pub mod TurnedOn
@@ -10,11 +15,11 @@ pub mod Blocks
 pub mod Feeding
 pub mod Agreement
 pub mod Start
-pub mod OneSender
 pub mod NeverStuck
 pub mod Firing
 pub mod Sources
 pub mod AllTell
+pub mod Enters
 pub mod WantedKinds
 pub mod HasKinds
 pub mod Firings
@@ -23,6 +28,8 @@ pub mod Speakers
 pub mod CarriedFacts
 pub mod OperatorsAgree
 pub mod StartTells
+pub mod ValidCounts
+pub mod OneSender
 pub mod Observing
 pub mod SoundAnswer
 pub mod SoundFaults
@@ -33,7 +40,6 @@ pub mod SoundRuns
 pub mod Known
 pub mod LabelsShow
 pub mod QuietRuns
-pub mod ValidCounts
 pub mod ValidKinds
 pub mod Validity
 pub mod InputsFit

@@ -28,7 +28,8 @@ use Rattle.id_laws.specs.Laws.{events}
 use Rattle.id_laws.specs.Activations.{Live, at_start, on_side}
 use Rattle.id_laws.specs.Topics.{IsPart, StandsFor, number_stands, truth_stands, Shown}
 use Rattle.id_laws.proofs.Arcs.{doing, place_shown}
-use Rattle.id_laws.proofs.TurnedOn.{path_is, without_none}
+use Rattle.id_laws.proofs.TurnedOn.{without_none}
+use Rattle.id_laws.proofs.MainAlone.{path_is}
 
 -- the value of a token that stands for one of the source, as the source's
 pub stands_shown : {S : Source} {number : ℕ → ℕ → ℕ} {run : List Event} {v : Value} {w : SourceValue} → StandsFor S number run v w
@@ -45,11 +46,6 @@ pub shown_holds : {S : Source} {number : ℕ → ℕ → ℕ} {run : List Event}
 shown_holds {S} {number} {run} {a} {e} {v} {w} x is =
     let value_is : x.value ≡ w = some_value (sym (stands_shown x.stands) ∙ is) in
     subst (λ (z : Path × SourceValue). Holds S (Has z.0 e z.1)) (λ i. ((without_none x.path ∙ path_is x.path_of) i, value_is i)) x.holds
-
--- every live region is live under main's activation
-pub live_main : {S : Source} {number : ℕ → ℕ → ℕ} {run : List Event} {a : Activation} {r : Region} → Live S number run a r → a ≡ main_activation
-live_main at_start = refl
-live_main (on_side within tests live says goes) = live_main live
 
 -- the place that a part's instruction shows
 pub part_place : {P : Checked} {g : Parts} {number : ℕ → ℕ → ℕ} {n part : ℕ} → Numbered P g number → IsPart P n part

@@ -2,7 +2,8 @@
 use Rattle.std.proofs.Common.{◌≡◌, ℕ, zero, suc, ◌<◌, true, false, Some, List, length, get_or, refl, sym, ◌∙◌, ap, subst, arith}
 use Rattle.id_parts.specs.declared.row.Region.{Region}
 use Rattle.id_parts.specs.declared.row.Node.{Node}
-use Rattle.id_parts.specs.declared.row.Node.TheVariants.{Head, Param, Literal, Name, Unary, Binary, Split, If, Block, Binding, Def, Program}
+use Rattle.id_parts.specs.declared.row.Node.TheVariants.{Head, Param, Literal, Name, Unary, Binary, Split, If, Enter, Arg, Call, Block}
+use Rattle.id_parts.specs.declared.row.Node.TheVariants.{Binding, Def, Program}
 use Rattle.id_parts.specs.Rows.{arm_at, at}
 use Rattle.id_parts.specs.Tables.{HasPart, HasNear, HasOperand, is_binder, is_block, is_expression}
 use Rattle.id_check.specs.declared.checked.Checked.{Checked}
@@ -21,6 +22,7 @@ use Rattle.id_laws.specs.Activations.{Live}
 use Rattle.id_laws.specs.Topics.{ValueOf, NameIn, Tells, speaks_of, topic_of}
 use Rattle.id_laws.proofs.Assumed.{IsKnown}
 use Rattle.id_build.proofs.NamesSeen.{Sees, Comes, from_label, from_switch, comes}
+use Rattle.id_laws.proofs.Seats.{OneSeat}
 use Rattle.id_laws.proofs.TurnedOn.{holds_by, without_none, turned_on}
 
 -- what the label of a binder speaks of
@@ -33,6 +35,9 @@ label_topic P b e = go (node P b) refl e
     go Head is h = cc
     go (Split t) is h = cc
     go (If s x y) is h = cc
+    go (Enter x) is h = cc
+    go (Arg s k v) is h = cc
+    go (Call s c) is h = cc
     go (Literal v) is h = cc
     go (Name x) is h = cc
     go (Unary o a) is h = cc
@@ -41,7 +46,7 @@ label_topic P b e = go (node P b) refl e
     go (Def x h' k c) is h = cc
     go Program is h = cc
 
-module _ (S : Source) (known : IsKnown S.checked) (number : ℕ → ℕ → ℕ) (run : List Event) where
+module _ (S : Source) (known : IsKnown S.checked) (number : ℕ → ℕ → ℕ) (run : List Event) (seats : OneSeat S number run) where
   abbrev P : Checked
   P = S.checked
 
@@ -55,7 +60,7 @@ module _ (S : Source) (known : IsKnown S.checked) (number : ℕ → ℕ → ℕ)
       let stands = (known.table).part_stands e b within (subst (λ z. HasNear z b) (sym is) refl) in
       let live = subst (Live S number run a) stands.1 w.0 in
       let shown = w.1 in
-      let on = turned_on S known live shown.path_of ((known.table).turned e within (ap is_expression is)) in
+      let on = turned_on S known seats live shown.path_of ((known.table).turned e within (ap is_expression is)) in
       let has = subst (λ z. Holds S (Has z (place P b) shown.value)) (without_none shown.path) shown.holds in (
         live,
         record {
@@ -92,6 +97,9 @@ module _ (S : Source) (known : IsKnown S.checked) (number : ℕ → ℕ → ℕ)
       go (Binary o x y) m rest = itself (ap is_block m)
       go (Split t) m rest = itself (ap is_block m)
       go (If s x y) m rest = itself (ap is_block m)
+      go (Enter x) m rest = itself (ap is_block m)
+      go (Arg s k x) m rest = itself (ap is_block m)
+      go (Call s c) m rest = itself (ap is_block m)
       go (Binding x y) m rest = itself (ap is_block m)
       go (Def x h k b) m rest = itself (ap is_block m)
       go Program m rest = itself (ap is_block m)
@@ -102,7 +110,7 @@ module _ (S : Source) (known : IsKnown S.checked) (number : ℕ → ℕ → ℕ)
   name_shows a n x b v within is binds w =
       let live = w.0 in
       let shown = w.1 in
-      let on = turned_on S known live shown.path_of ((known.table).turned n within (ap is_expression is)) in (
+      let on = turned_on S known seats live shown.path_of ((known.table).turned n within (ap is_expression is)) in (
         live,
         record {
           path = shown.path;
@@ -149,6 +157,9 @@ module _ (S : Source) (known : IsKnown S.checked) (number : ℕ → ℕ → ℕ)
       go (Unary o x) is = own (Unary o x) is refl refl
       go (Binary o x y) is = own (Binary o x y) is refl refl
       go (If s x y) is = own (If s x y) is refl refl
+      go (Call s c) is = own (Call s c) is refl refl
+      go (Enter x) is = let bad : false ≡ true = sym (ap is_expression is) ∙ expression in cc
+      go (Arg s k x) is = let bad : false ≡ true = sym (ap is_expression is) ∙ expression in cc
       go (Split t) is = let bad : false ≡ true = sym (ap is_expression is) ∙ expression in cc
       go (Block b) is = let bad : true ≡ false = sym (ap is_block is) ∙ no_block in cc
       go Head is = let bad : false ≡ true = sym (ap is_expression is) ∙ expression in cc

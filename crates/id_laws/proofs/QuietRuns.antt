@@ -30,7 +30,7 @@ use Rattle.id_ops.specs.declared.Operands.{Operands}
 use Rattle.id_ops.specs.declared.Operands.TheVariants.{One as Alone, Two}
 use Rattle.id_ops.specs.declared.Fresh.{Fresh}
 use Rattle.id_ops.specs.declared.Fired.{Fired}
-use Rattle.id_ops.specs.declared.Fired.TheVariants.{Out, Side, Entered, Sent, Failed, Nothing}
+use Rattle.id_ops.specs.declared.Fired.TheVariants.{Out, Side, Sent, Failed, Nothing, Entered}
 use Rattle.id_ops.specs.Operators.{fired, fired_by, fired_merge}
 use Rattle.id_valid.specs.Validator.{is_value}
 use Rattle.id_record.specs.declared.step.Step.TheVariants.{Went, Fault}
@@ -65,7 +65,6 @@ use Rattle.id_laws.specs.Activations.{Live, at_start, Speaks, main_head}
 use Rattle.id_laws.specs.Carried.{Here, CarriedHas, speaker}
 use Rattle.id_laws.specs.Ways.{way_back}
 use Rattle.id_laws.proofs.Agreement.{agree_unary, agree_at}
-use Rattle.id_tag.specs.declared.Context.{Context}
 use Rattle.id_laws.proofs.Arcs.{returns, unary, binary}
 use Rattle.id_laws.proofs.Assumed.{IsKnown}
 use Rattle.id_laws.proofs.CarriedFacts.{carried, here_is, operand_spoken, stands_is, body_region}
@@ -77,7 +76,9 @@ use Rattle.id_laws.proofs.Observing.{message_handled}
 use Rattle.id_laws.proofs.SoundAnswer.{answer_tells, brought_is, main_result, sound_answer}
 use Rattle.id_laws.proofs.LabelsShow.{label_is, label_made, label_place}
 use Rattle.id_laws.proofs.Triggers.{one_activation, main_is, main_within}
-use Rattle.id_laws.proofs.TurnedOn.{main_path, path_is}
+use Rattle.id_laws.proofs.Seats.{main_path}
+use Rattle.id_laws.proofs.MainAlone.{path_is}
+use Rattle.id_laws.proofs.Enters.{entered_by}
 
 -- a value goes to where a procedure returns values of its kind
 returned : (k : Kind) (v : SourceValue) (t : Tag) → value_kind v ≡ k
@@ -131,14 +132,6 @@ merge_no_side : (k : PortKind) (ops : Operands) (c : Truth) (u : Value) → Side
 merge_no_side k (Alone v) c u h = merged_no_side (same_kind (kind_of v) k) c v u h
 merge_no_side k (Two v w) c u h = cc
 
-merged_enters_none : (b : _) (v : Value) (c : Context) → Entered c ≡ cond b (Out v) Nothing → ⊥
-merged_enters_none true v c h = cc
-merged_enters_none false v c h = cc
-
-merge_enters_none : (k : PortKind) (ops : Operands) (c : Context) → Entered c ≡ fired_merge k ops → ⊥
-merge_enters_none k (Alone v) c h = merged_enters_none (same_kind (kind_of v) k) v c h
-merge_enters_none k (Two v w) c h = cc
-
 -- what a merge lets out came in
 merged_is : (b : Truth) (v u : Value) → cond b (Out v) Nothing ≡ Out u → v ≡ u
 merged_is true v u e = out_is e
@@ -179,7 +172,7 @@ module _ (S : Source) (g : Parts) (number : ℕ → ℕ → ℕ) (numbered : Num
       let c : CarriedHas S number run outermost (place P (main_body P)) v = carried S g number numbered known inputs count only s run r quiet.empty _ has in
       let row_is = here_is S g number numbered known inputs count only s run r quiet.empty (c.here) (record { within = b.0; node = refl }) thing in
       let start : Live S number run main_activation (top main) = at_start in
-      let one = one_activation (c.here).live start (c.here).path_of main_path in
+      let one = one_activation S g number numbered known count only s run r quiet.empty (c.here).live start (c.here).path_of main_path in
       let from : speaker P (c.here).row ≡ origin P (main_body P) = ap (speaker P) row_is ∙ expression_speaks P known (main_body P) (node P (main_body P)) refl b.1 in
       let said : Speaks S number run main_activation (origin P (built.body_of (node P (end_of P main)))) (token_value v) =
       subst (λ (z : Activation × (Origin × Value)). Speaks S number run z.0 z.1.0 z.1.1) {x = ((c.here).activation, (speaker P (c.here).row, c.value))} {y = (main_activation, (origin P (built.body_of (node P (end_of P main))), token_value v))}
@@ -268,6 +261,9 @@ module _ (S : Source) (g : Parts) (number : ℕ → ℕ → ℕ) (numbered : Num
       merge_out k ops two u one (one_handled p v is few h) e = (p, subst (λ z. Among (Token t p z) (handled run)) (merged_is (same_kind (kind_of v) k) v u (sym (e ∙ ap (fired_merge k) is))) h)
       merge_out k ops two u one (two_handled v v' is few h h') e = absurd (true_false (sym few ∙ one))
 
+      no_merge : {k : PortKind} {x y : ℕ} → op.Merge k ≡ op.Enter x y → ⊥
+      no_merge h = cc
+
       by : (f : Fired) → FiresAs run t f → GivesOn f true w → (p : Port) × Among (Token t p w) (handled run)
       by (Out u) y gives =
           let z = has_fired g S.inputs count s run r y in
@@ -288,7 +284,8 @@ module _ (S : Source) (g : Parts) (number : ℕ → ℕ → ℕ) (numbered : Num
           let m = label_made P known g number numbered b within binds in
           let same : z.instr ≡ m.instr = some_is (sym z.at ∙ m.at) in
           let op_is : (z.instr).op ≡ op.Merge (port_at P b) = ap (λ (i : Instr). i.op) same ∙ m.op in
-          absurd (merge_enters_none (port_at P b) y.operands c (z.is ∙ ap (λ o. fired o t y.operands z.fresh) op_is))
+          let enters = entered_by (z.instr).op t y.operands z.fresh c (sym z.is) in
+          absurd (no_merge (sym op_is ∙ enters.is))
       by (Sent u v) y gives = absurd gives
       by (Failed k) y gives = absurd gives
       by Nothing y gives = absurd gives

@@ -7,7 +7,7 @@ use Rattle.id_check.specs.Programs.{place}
 use Rattle.id_graph.specs.Graph.{Parts}
 use Rattle.id_tag.specs.declared.Tag.{Tag}
 use Rattle.id_ops.specs.declared.Fired.{Fired}
-use Rattle.id_ops.specs.declared.Fired.TheVariants.{Out, Side, Entered, Sent, Failed, Nothing}
+use Rattle.id_ops.specs.declared.Fired.TheVariants.{Out, Side, Sent, Failed, Nothing, Entered}
 use Rattle.id_record.specs.declared.step.Step.{Step}
 use Rattle.id_record.specs.declared.step.Step.TheVariants.{Went, Stuck, Fault}
 use Rattle.id_record.specs.declared.step.Fault.TheVariants.{Operator}
@@ -25,10 +25,10 @@ use Rattle.id_runs.specs.Runs.{Reach}
 use Rattle.id_runs.proofs.RecordsOfRuns.{among_filter_map}
 use Rattle.id_laws.specs.Laws.{events}
 use Rattle.id_laws.proofs.Assumed.{IsKnown}
-use Rattle.id_laws.proofs.TurnedOn.{path_is}
+use Rattle.id_laws.proofs.MainAlone.{path_is}
 use Rattle.id_laws.proofs.Firing.{FaultAt}
 use Rattle.id_laws.proofs.AllTell.{firing_tells}
-use Rattle.id_laws.proofs.StartTells.{all_tell}
+use Rattle.id_laws.proofs.StartTells.{all_tell, seats}
 use Rattle.id_laws.proofs.Observing.{handled_event, part_place}
 
 -- a fault that is shown
@@ -62,7 +62,7 @@ module _ (S : Source) (known : IsKnown S.checked) (g : Parts) (number : ℕ → 
   failed_as t Nothing x k u e = cc
   failed_as t (Failed j) x k u e =
       let same = same_fault e in
-      let m = firing_tells S known g number numbered run run r (λ z h. all_tell S known g number numbered run count s r z (inr h)) x in
+      let m = firing_tells S known g number numbered run (seats S known g number numbered run count s r) run r (λ z h. all_tell S known g number numbered run count s r z (inr h)) x in
       let y = m.0 in
       let fault : FaultAt S number run (activation_of t) y.row j = m.1 in
       let here : shown.place_of g u.instr ≡ place P y.row =

@@ -5,7 +5,7 @@ use Rattle.std.specs.List.{filter_map, cons_option}
 use Rattle.id_list.specs.List.{Among, AllDiffer}
 use Rattle.id_list.proofs.AmongLemmas.{Among-map}
 use Rattle.id_parts.specs.declared.row.Node.{Node}
-use Rattle.id_parts.specs.declared.row.Node.TheVariants.{Head, Param, Literal, Name, Unary, Binary, Split, If, Block, Binding, Def, Program}
+use Rattle.id_parts.specs.declared.row.Node.TheVariants.{Head, Param, Literal, Name, Unary, Binary, Split, If, Block, Binding, Def, Program, Enter, Arg, Call}
 use Rattle.id_parts.specs.Tables.{is_binder, is_thing}
 use Rattle.id_check.specs.declared.checked.Checked.{Checked}
 use Rattle.id_check.specs.Programs.{place, region, rows}
@@ -46,7 +46,8 @@ use Rattle.id_laws.proofs.Start.{main_is_head, main_within}
 use Rattle.id_laws.proofs.LabelsBind.{label_binds}
 use Rattle.id_laws.proofs.OneSender.{exclusive}
 use Rattle.id_laws.proofs.StartTells.{all_tell, all_speak}
-use Rattle.id_laws.proofs.Observing.{shown_holds, live_main, part_place, message_handled}
+use Rattle.id_laws.proofs.Observing.{shown_holds, part_place, message_handled}
+use Rattle.id_laws.proofs.MainAlone.{live_main}
 
 -- a message that shows what a binder Has: a token for a label
 pub record Names (g : Parts) (x : Payload) (n : NameValue) : Type 0 where
@@ -98,6 +99,9 @@ binder_thing (Unary o a) e = cc
 binder_thing (Binary o a b) e = cc
 binder_thing (Split t) e = cc
 binder_thing (If s x y) e = cc
+binder_thing (Enter x) e = cc
+binder_thing (Arg h k v) e = cc
+binder_thing (Call h c) e = cc
 binder_thing (Block b) e = cc
 binder_thing (Def x h k b) e = cc
 binder_thing Program e = cc
@@ -112,6 +116,9 @@ binder_shows P e (Unary o a) h = refl
 binder_shows P e (Binary o a b) h = refl
 binder_shows P e (Split t) h = refl
 binder_shows P e (If s x y) h = refl
+binder_shows P e (Enter x) h = refl
+binder_shows P e (Arg s k v) h = refl
+binder_shows P e (Call s c) h = refl
 binder_shows P e (Block b) h = refl
 binder_shows P e (Def x h' k b) h = refl
 binder_shows P e Program h = cc
@@ -143,6 +150,9 @@ module _ (S : Source) (known : IsKnown S.checked) (g : Parts) (number : ℕ → 
   at_label b within a p v (Binary o e f) is h w = cc
   at_label b within a p v (Split t) is h w = cc
   at_label b within a p v (If s x y) is h w = cc
+  at_label b within a p v (Enter x) is h w = cc
+  at_label b within a p v (Arg s k x) is h w = cc
+  at_label b within a p v (Call s c) is h w = cc
   at_label b within a p v (Block e) is h w = cc
   at_label b within a p v (Def x f k e) is h w = cc
   at_label b within a p v Program is h w = cc

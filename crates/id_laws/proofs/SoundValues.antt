@@ -1,21 +1,20 @@
 -- What the instruction of an expression has sent brings a value that the expression Has.
-use Rattle.std.proofs.Common.{◌≡◌, inr, ℕ, Bool as Truth, true, false, List, refl, sym, ◌∙◌, ap, subst}
+use Rattle.std.proofs.Common.{◌≡◌, inr, ℕ, Bool as Truth, true, false, List, refl, sym, ◌∙◌, ap, subst, inl}
 use Rattle.id_list.specs.List.{Among}
 use Rattle.id_list.proofs.AmongLemmas.{Among-map, Among-from_map}
 use Rattle.id_parts.specs.declared.row.Node.{Node}
-use Rattle.id_parts.specs.declared.row.Node.TheVariants.{Literal, Unary, Binary, If, Program}
+use Rattle.id_parts.specs.declared.row.Node.TheVariants.{Literal, Unary, Binary, If, Program, Call}
 use Rattle.id_parts.specs.Tables.{is_expression}
 use Rattle.id_check.specs.declared.checked.Checked.{Checked}
 use Rattle.id_check.specs.Programs.{place, region}
 use Rattle.id_graph.specs.declared.dests.Dest.{Dest}
-use Rattle.id_graph.specs.declared.instr.Op.{Op}
 use Rattle.id_graph.specs.declared.instr.Op.TheVariants as op
 use Rattle.id_graph.specs.Graph.{Parts}
 use Rattle.id_tag.specs.declared.Tag.{Tag}
 use Rattle.id_tag.specs.declared.Value.{Value}
 use Rattle.id_tag.specs.declared.Message.{Message}
 use Rattle.id_ops.specs.declared.Fired.{Fired}
-use Rattle.id_ops.specs.declared.Fired.TheVariants.{Out, Side, Entered, Sent, Failed, Nothing}
+use Rattle.id_ops.specs.declared.Fired.TheVariants.{Out, Side, Sent, Failed, Nothing, Entered}
 use Rattle.id_core.specs.Events.{EventView, tag_of}
 use Rattle.id_record.specs.Records.{dests_at, sent_by}
 use Rattle.id_core.specs.Steps.{token_to}
@@ -25,7 +24,7 @@ use Rattle.id_meaning.specs.Sources.{Source}
 use Rattle.id_meaning.specs.Facts.{outermost}
 use Rattle.id_meaning.specs.Rounds.{Holds}
 use Rattle.id_build.specs.declared.arc.Form.{Form}
-use Rattle.id_build.specs.Rows.{node}
+use Rattle.id_build.specs.Rows.{node, op_by}
 use Rattle.id_build.specs.Schemas.{Makes, Numbered}
 use Rattle.id_runs.specs.Activations.{activation_of}
 use Rattle.id_runs.specs.Events.{Event, payload_of}
@@ -34,12 +33,12 @@ use Rattle.id_runs.proofs.Messages.{sent_from}
 use Rattle.id_laws.specs.Laws.{Carries, events, value_in}
 use Rattle.id_laws.specs.Topics.{IsPart, ValueOf, Tells, speaks_of, topic_of}
 use Rattle.id_laws.proofs.Assumed.{IsKnown}
-use Rattle.id_laws.proofs.Arcs.{Does, starts, returns, enters, constant, unary, binary, turns_on, hands, joins, names, answers, doing, place_shown}
+use Rattle.id_laws.proofs.Arcs.{Does, starts, returns, enters, constant, unary, binary, turns_on, hands, joins, names, answers, doing, place_shown, opens, passes, gets}
 use Rattle.id_laws.proofs.Tokens.{one_part}
-use Rattle.id_laws.proofs.Senders.{sent_back, no_send}
+use Rattle.id_laws.proofs.Senders.{sent_back}
 use Rattle.id_laws.proofs.Firing.{Means}
 use Rattle.id_laws.proofs.AllTell.{FiredPart, firing_tells}
-use Rattle.id_laws.proofs.StartTells.{all_tell}
+use Rattle.id_laws.proofs.StartTells.{all_tell, seats}
 use Rattle.id_laws.proofs.Observing.{stands_shown, shown_holds, handled_event}
 
 -- an expression that makes an instruction speaks of its value, and shows its place
@@ -48,7 +47,7 @@ pub record Expresses (P : Checked) (n : ℕ) : Type 0 where
   pub shows : place_shown P (place P n) (node P n) ≡ place P n
   pub not_answer : node P n ≡ Program → ⊥
 
-expresses : (P : Checked) (n part : ℕ) (o : Op) → Does P n part o → is_expression (node P n) ≡ true → Expresses P n
+expresses : (P : Checked) (n part : ℕ) (o : Form) → Does P n part o → is_expression (node P n) ≡ true → Expresses P n
 expresses P n part o d e = go d
   where
     by : (m : Node) → node P n ≡ m → ((b : Truth) → speaks_of P n (region P n) m 0 b ≡ ValueOf n) → place_shown P (place P n) m ≡ place P n
@@ -63,7 +62,7 @@ expresses P n part o d e = go d
     no : {m : Node} {A : Type 0} → node P n ≡ m → is_expression m ≡ false → A
     no is f = let bad : true ≡ false = sym e ∙ ap is_expression is ∙ f in cc
 
-    go : {j : ℕ} {q : Op} → Does P n j q → Expresses P n
+    go : {j : ℕ} {q : Form} → Does P n j q → Expresses P n
     go (constant {c = c} is) = by (Literal c) is (λ b. refl) refl refl
     go (unary {o = u} {a = a} is) = by (Unary u a) is (λ b. refl) refl refl
     go (binary {o = u} {a = a} {b = b} is) = by (Binary u a b) is (λ b. refl) refl refl
@@ -73,22 +72,44 @@ expresses P n part o d e = go d
     go (starts is) = no is refl
     go (returns is) = no is refl
     go (enters is) = no is refl
+    go (opens is) = no is refl
+    go (passes is) = no is refl
+    go (gets {e = s} {c = c} is) = by (Call s c) is (λ b. refl) refl refl
     go (names is) = no is refl
     go (answers is) = no is refl
 
--- an expression is no `back`
-no_back : {P : Checked} {n part : ℕ} {o : Op} {k : _} → Does P n part o → is_expression (node P n) ≡ true → o ≡ op.Back k → ⊥
-no_back (starts is) e b = cc
-no_back (returns is) e b = let bad : true ≡ false = sym e ∙ ap is_expression is in cc
-no_back (enters is) e b = cc
-no_back (constant is) e b = cc
-no_back (unary is) e b = cc
-no_back (binary is) e b = cc
-no_back (turns_on is) e b = cc
-no_back (hands k is less) e b = cc
-no_back (joins is) e b = cc
-no_back (names is) e b = cc
-no_back (answers is) e b = cc
+-- an expression is no `back`, no `send` and no `enter`
+no_back : (P : Checked) (number : ℕ → ℕ → ℕ) {n part : ℕ} {o : Form} {k : _} → Does P n part o → is_expression (node P n) ≡ true → op_by number o ≡ op.Back k → ⊥
+no_back P number (starts is) e b = cc
+no_back P number (returns is) e b = let bad : true ≡ false = sym e ∙ ap is_expression is in cc
+no_back P number (enters is) e b = cc
+no_back P number (constant is) e b = cc
+no_back P number (unary is) e b = cc
+no_back P number (binary is) e b = cc
+no_back P number (turns_on is) e b = cc
+no_back P number (hands k is less) e b = cc
+no_back P number (joins is) e b = cc
+no_back P number (opens is) e b = cc
+no_back P number (passes is) e b = cc
+no_back P number (gets is) e b = cc
+no_back P number (names is) e b = cc
+no_back P number (answers is) e b = cc
+
+no_send : (P : Checked) (number : ℕ → ℕ → ℕ) {n part : ℕ} {o : Form} {k : _} {m : ℕ} → Does P n part o → is_expression (node P n) ≡ true → op_by number o ≡ op.Send k m → ⊥
+no_send P number (starts is) e b = cc
+no_send P number (returns is) e b = cc
+no_send P number (enters is) e b = cc
+no_send P number (constant is) e b = cc
+no_send P number (unary is) e b = cc
+no_send P number (binary is) e b = cc
+no_send P number (turns_on is) e b = cc
+no_send P number (hands k is less) e b = cc
+no_send P number (joins is) e b = cc
+no_send P number (opens is) e b = cc
+no_send P number (passes is) e b = let bad : true ≡ false = sym e ∙ ap is_expression is in cc
+no_send P number (gets is) e b = cc
+no_send P number (names is) e b = cc
+no_send P number (answers is) e b = cc
 
 module _ (S : Source) (known : IsKnown S.checked) (g : Parts) (number : ℕ → ℕ → ℕ) (numbered : Numbered S.checked g number) (count : ℕ) (s : World) (run : List Event) (r : Reach g S.inputs count s run) where
   abbrev P : Checked
@@ -118,10 +139,14 @@ module _ (S : Source) (known : IsKnown S.checked) (g : Parts) (number : ℕ → 
   carried_by n e t (Side b v) ops y row x expression place_is means part m out =
       let to = Among-from_map (token_to t v) m.payload (dests_at g t.instr b) out in
       brought_by n e t b v y.row y.part row x place_is means part m to.0 to.2
-  carried_by n e t (Entered c) ops y row x expression place_is means part m out = absurd means
+  carried_by n e t (Entered c) ops y row x expression place_is means part m out =
+      let bad : true ≡ false = sym expression ∙ ap (λ z. is_expression (node P z)) (sym row) ∙ ap is_expression means.node in
+      cc
   carried_by n e t (Sent u v) ops y row x expression place_is means part m out =
-      let b = sent_back y.op t ops y.fresh u v (no_send y.does) (sym y.is) in
-      absurd (no_back y.does (ap (λ z. is_expression (node P z)) row ∙ expression) b.back)
+      elim (sent_back (op_by number y.form) t ops y.fresh u v (sym y.is)) [
+        | inl b ↦ absurd (no_back P number y.does (ap (λ z. is_expression (node P z)) row ∙ expression) b.back)
+        | inr b ↦ absurd (no_send P number y.does (ap (λ z. is_expression (node P z)) row ∙ expression) b.send)
+      ]
   carried_by n e t (Failed k) ops y row x expression place_is means part m out = absurd out
   carried_by n e t Nothing ops y row x expression place_is means part m out = absurd out
 
@@ -131,11 +156,11 @@ module _ (S : Source) (known : IsKnown S.checked) (g : Parts) (number : ℕ → 
       let known_event = handled_event g S.inputs count s run r v among in
       let sends = subst (Among m.payload) (known_event.2).outputs (Among-map (λ (y : Message). y.payload) m v.outputs out) in
       let z = sent_from g run known_event.0 known_event.1 m.payload sends in
-      let told = firing_tells S known g number numbered run run r (λ x h. all_tell S known g number numbered run count s r x (inr h)) z.fires in
+      let told = firing_tells S known g number numbered run (seats S known g number numbered run count s r) run r (λ x h. all_tell S known g number numbered run count s r x (inr h)) z.fires in
       let y = told.0 in
       let tag_is : z.tag ≡ tag_of v.message.payload = ap (λ x. tag_of (payload_of x)) z.is ∙ ap tag_of (sym (known_event.2).payload) in
       let here : IsPart P n 0 = record { form = f; place = e; makes = makes } in
       let one = one_part numbered y.is_part here (ap (λ (t : Tag). t.instr) (y.at ∙ tag_is) ∙ at) in
       let d = doing makes in
-      let x = expresses P n 0 d.op d.does expression in
+      let x = expresses P n 0 f d.does expression in
       carried_by n e z.tag z.fired (z.fires).operands y one.0 x expression (d.place_is ∙ x.shows) told.1 one.1 m z.sends

@@ -2,7 +2,8 @@
 use Rattle.std.proofs.Common.{◌≡◌, inl, inr, ℕ, ◌<◌, Bool as Truth, true, false, length, get_or, refl, sym, ◌∙◌, ap, subst, arith}
 use Rattle.id_parts.specs.declared.row.Region.{Region}
 use Rattle.id_parts.specs.declared.row.Node.{Node}
-use Rattle.id_parts.specs.declared.row.Node.TheVariants.{Head, Param, Literal, Name, Unary, Binary, Split, If, Block, Binding, Def, Program}
+use Rattle.id_parts.specs.declared.row.Node.TheVariants.{Head, Param, Literal, Name, Unary, Binary, Split, If, Enter, Arg, Call, Block}
+use Rattle.id_parts.specs.declared.row.Node.TheVariants.{Binding, Def, Program}
 use Rattle.id_parts.specs.Rows.{at}
 use Rattle.id_parts.specs.Tables.{HasPart, HasOperand, is_binder, is_block, is_expression}
 use Rattle.id_check.specs.declared.checked.Checked.{Checked}
@@ -15,9 +16,10 @@ use Rattle.id_build.specs.Rows.{node, output, name_in, named_in, origin_of, orig
 use Rattle.id_build.specs.Schemas.{Feeds}
 use Rattle.id_laws.specs.Topics.{IsPart}
 use Rattle.id_laws.proofs.Assumed.{IsKnown}
-use Rattle.id_laws.proofs.Arcs.{starts, enters, constant, unary, binary, turns_on, hands, joins, names, part_of, fed}
+use Rattle.id_laws.proofs.Arcs.{starts, enters, constant, unary, binary, turns_on, hands, joins, opens, gets, names, part_of, fed}
 use Rattle.id_laws.proofs.Arcs.{Arc, to_back, to_literal, to_unary, to_left, to_right, to_test, to_trigger, to_import_test, to_import, to_then, to_else}
-use Rattle.id_laws.proofs.Arcs.{to_label}
+use Rattle.id_laws.proofs.Arcs.{to_enter, to_context, to_argument, to_label}
+use Rattle.id_laws.proofs.Calls.{arg_at}
 use Rattle.id_laws.proofs.Conditionals.{arm_of, conditional, test_at}
 use Rattle.id_build.proofs.EndsLemmas.{end_is, HeadOf, of_procedure, of_arm, region_of}
 use Rattle.id_build.proofs.NamesSeen.{Sees, Comes, from_label, from_switch, comes, listed}
@@ -37,6 +39,9 @@ module _ (P : Checked) (known : IsKnown P) where
       go Head is h = cc
       go (Split t) is h = cc
       go (If s x y) is h = cc
+      go (Enter x) is h = cc
+      go (Arg s k v) is h = cc
+      go (Call s c) is h = cc
       go (Literal v) is h = cc
       go (Name x) is h = cc
       go (Unary o a) is h = cc
@@ -69,6 +74,9 @@ module _ (P : Checked) (known : IsKnown P) where
       go (Unary o x) is = at_node (Unary o x) is (record { is_part = part_of within (unary is); not_answer = λ z. let bad : Unary o x ≡ Program = sym is ∙ z in cc })
       go (Binary o x y) is = at_node (Binary o x y) is (record { is_part = part_of within (binary is); not_answer = λ z. let bad : Binary o x y ≡ Program = sym is ∙ z in cc })
       go (If s x y) is = at_node (If s x y) is (record { is_part = part_of within (joins is); not_answer = λ z. let bad : If s x y ≡ Program = sym is ∙ z in cc })
+      go (Call s c) is = at_node (Call s c) is (record { is_part = part_of within (gets is); not_answer = λ z. let bad : Call s c ≡ Program = sym is ∙ z in cc })
+      go (Enter x) is = let bad : false ≡ true = sym (ap is_expression is) ∙ expression in cc
+      go (Arg s k v) is = let bad : false ≡ true = sym (ap is_expression is) ∙ expression in cc
       go (Split t) is = let bad : false ≡ true = sym (ap is_expression is) ∙ expression in cc
       go (Block b) is = let bad : true ≡ false = sym (ap is_block is) ∙ no_block in cc
       go Head is = let bad : false ≡ true = sym (ap is_expression is) ∙ expression in cc
@@ -122,6 +130,11 @@ module _ (P : Checked) (known : IsKnown P) where
       named_source (region P n) (get_or (imports_of P n) k 0) z.0 z.1 z.2
   by_arc {n} within (to_then {s = s} {x = x} {y = y} is) = arm_source n s x y true within is
   by_arc {n} within (to_else {s = s} {x = x} {y = y} is) = arm_source n s x y false within is
+  by_arc {n} within (to_enter {x = x} is) = trigger_source n within (λ e. let bad : Program ≡ Enter x = sym e ∙ is in cc)
+  by_arc {n} within (to_context {e = e} is) =
+      let z = arg_at known within is in
+      record { is_part = part_of z.enter_within (opens z.enter); not_answer = λ q. let bad : Enter z.name ≡ Program = sym z.enter ∙ q in cc }
+  by_arc {n} within (to_argument {e = e} {k = k} {v = v} is) = operand_source n v (Arg e k v) within is (inr refl) refl
   by_arc {n} within (to_label {x = x} {a = e} is) = operand_source n e (Binding x e) within is refl refl
 
   -- what feeds a part

@@ -3,7 +3,7 @@ use Rattle.std.proofs.Common.{◌≡◌, ℕ, ◌<◌, true, false, Some, length
 use Rattle.id_list.specs.List.{Among}
 use Rattle.id_parts.specs.declared.row.Region.{Region}
 use Rattle.id_parts.specs.declared.row.Node.{Node}
-use Rattle.id_parts.specs.declared.row.Node.TheVariants.{Param, Literal, Name, Unary, Binary, If, Block, Binding}
+use Rattle.id_parts.specs.declared.row.Node.TheVariants.{Param, Literal, Name, Unary, Binary, If, Block, Binding, Call}
 use Rattle.id_parts.specs.Tables.{is_binder, is_block, is_expression}
 use Rattle.id_check.specs.declared.checked.Checked.{Checked}
 use Rattle.id_check.specs.Programs as checked
@@ -48,6 +48,7 @@ module _ (P : Checked) (known : IsKnown P) where
       by (Unary o a) is h = ap (speaker_of P n) is
       by (Binary o a b) is h = ap (speaker_of P n) is
       by (If s x y) is h = ap (speaker_of P n) is
+      by (Call s c) is h = ap (speaker_of P n) is
       by (Block b) is h = ap (speaker_of P n) is
       by _ is h = absurd (true_false (sym h))
 

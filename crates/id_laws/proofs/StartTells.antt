@@ -1,5 +1,5 @@
 -- What is there at the start tells what its port wants.
-use Rattle.std.proofs.Common.{◌≡◌, ℕ, zero, suc, ◌-◌, List, [], length, refl, sym, ◌∙◌, ap, subst}
+use Rattle.std.proofs.Common.{◌≡◌, ℕ, zero, suc, ◌-◌, List, [], length, refl, sym, ◌∙◌, ap, subst, inr, ◌<◌}
 use Rattle.std.specs.Prelude.{take}
 use Rattle.id_list.specs.List.{Among}
 use Rattle.id_list.proofs.AmongLemmas.{Among-from_at}
@@ -21,19 +21,26 @@ use Rattle.id_meaning.specs.declared.Fact.TheVariants.{Has}
 use Rattle.id_meaning.specs.Sources.{Source, IsInput}
 use Rattle.id_meaning.specs.Facts.{outermost, without, param_has}
 use Rattle.id_meaning.specs.Rounds.{Holds}
-use Rattle.id_build.specs.Rows.{answer_row}
+use Rattle.id_build.specs.Rows.{answer_row, node}
 use Rattle.id_build.specs.Schemas.{Numbered}
-use Rattle.id_runs.specs.Activations.{main_activation, tag_in}
+use Rattle.id_runs.specs.Activations.{main_activation, tag_in, Activation}
 use Rattle.id_runs.specs.Events.{Event}
 use Rattle.id_runs.specs.Runs.{Reach, starting}
-use Rattle.id_laws.specs.Activations.{main_head, Live, at_start, to_answer}
+use Rattle.id_laws.specs.Activations.{main_head, Live, at_start, to_answer, Opens}
 use Rattle.id_laws.specs.Topics.{StandsFor, number_stands, truth_stands, Tells, Told, AllTell, AllSpeak, topic_at, wants}
 use Rattle.id_laws.specs.Ways.{StartsAt, signal, way_back, input}
 use Rattle.id_laws.proofs.Assumed.{IsKnown}
 use Rattle.id_laws.proofs.Blocks.{a_param}
 use Rattle.id_laws.proofs.Start.{main_is_head, started}
-use Rattle.id_laws.proofs.TurnedOn.{holds_by, main_path}
+use Rattle.id_laws.proofs.Seats.{OneSeat, main_path, one_seat}
+use Rattle.id_runs.proofs.Serials.{contexts_apart}
+use Rattle.id_laws.proofs.TurnedOn.{holds_by}
 use Rattle.id_laws.proofs.AllTell as tell
+use Rattle.id_parts.specs.declared.row.Node.TheVariants.{Enter}
+use Rattle.id_tag.specs.declared.Context.{Context}
+use Rattle.id_tag.specs.declared.Tag.{Tag}
+use Rattle.id_laws.proofs.Arcs.{opens, part_of}
+use Rattle.id_laws.proofs.Tokens.{one_part}
 
 pub input_stands : (S : Source) (number : ℕ → ℕ → ℕ) (run : List Event) (v : SourceValue) → StandsFor S number run (token_value v) v
 input_stands S number run (source.Int n) = number_stands n
@@ -86,10 +93,22 @@ module _ (S : Source) (known : IsKnown S.checked) (g : Parts) (number : ℕ → 
       record { activation = main_activation; row = z.row; part = z.part; port = z.port; value = z.value; is_part = z.is_part; is = z.is; tells = tells_at_start z.starts_at }
 
   module _ (count : ℕ) (s : World) (r : Reach g S.inputs count s run) where
+    -- each context has one seat
+    pub seats : OneSeat S number run
+    seats = one_seat S known g number numbered run (contexts_apart g S.inputs count s run r)
+
     -- every message of a run tells what its port wants
     pub all_tell : AllTell S number run s
-    all_tell = tell.all_tell S known g number numbered run start_tells count s r
+    all_tell = tell.all_tell S known g number numbered run seats start_tells count s r
+
+    -- an `Enter` that has made a context stands in a live region
+    pub opening_live : (a : Activation) (n x : ℕ) (c : Context) → n < length (rows P) → node P n ≡ Enter x → Opens S number run a n c
+        → Live S number run a (region P n)
+    opening_live a n x c within is o =
+        let m = tell.firing_tells S known g number numbered run seats run r (λ z h. all_tell z (inr h)) o in
+        let one = one_part numbered (m.0).is_part (part_of within (opens is)) (ap (λ (t : Tag). t.instr) (m.0).at) in
+        subst (λ k. Live S number run a (region P k)) one.0 (m.1).live
 
     -- and what feeds a part tells what it speaks of
     pub all_speak : AllSpeak S number run
-    all_speak = tell.all_speak S known g number numbered run start_tells count s r
+    all_speak = tell.all_speak S known g number numbered run seats start_tells count s r

@@ -7,25 +7,30 @@ use Rattle.std.proofs.lemmas.Bool.Decides.{nat_tests}
 use Rattle.id_value.specs.declared.Kind.{Kind}
 use Rattle.id_parts.specs.declared.row.Region.{Region}
 use Rattle.id_parts.specs.declared.row.Node.{Node}
-use Rattle.id_parts.specs.declared.row.Node.TheVariants.{Head, Param, Literal, Name, Unary, Binary, Split, If, Block, Binding, Def, Program}
+use Rattle.id_parts.specs.declared.row.Node.TheVariants.{Head, Param, Literal, Name, Unary, Binary, Split, If, Enter, Arg, Call, Block}
+use Rattle.id_parts.specs.declared.row.Node.TheVariants.{Binding, Def, Program}
 use Rattle.id_parts.specs.Rows.{arm_at, at, top}
 use Rattle.id_parts.specs.Tables.{is_block, is_expression}
-use Rattle.id_parts.specs.Turns.{IsDefOf, operand, left, right, test, body, statement, Root, of_procedure, of_then, of_otherwise, TurnedIn, root, part}
+use Rattle.id_parts.specs.Turns.{IsDefOf, operand, left, right, test, argument, body, statement, Root, of_procedure, of_then, of_otherwise, TurnedIn, root, part}
 use Rattle.id_check.specs.declared.checked.Checked.{Checked}
-use Rattle.id_check.specs.Programs.{place, region, rows}
+use Rattle.id_check.specs.Programs.{Stands, place, region, rows}
+use Rattle.id_desugar.specs.Ends.{end_of}
 use Rattle.id_meaning.specs.declared.Path.{Path}
 use Rattle.id_meaning.specs.declared.Fact.{Fact}
 use Rattle.id_meaning.specs.declared.SourceValue.TheVariants as source
 use Rattle.id_meaning.specs.declared.Fact.TheVariants.{On, Has}
-use Rattle.id_meaning.specs.Sources.{Source, main_body, body_of}
-use Rattle.id_meaning.specs.Facts.{outermost, without, Rule, main_on, operand_on, left_on, right_on, test_on, arm_on, statement_on, body_on}
+use Rattle.id_meaning.specs.Sources.{Source, body_of}
+use Rattle.id_meaning.specs.Facts.{outermost, below, without, Rule, main_on, operand_on, left_on, right_on, test_on, arm_on, argument_on, callee_on}
+use Rattle.id_meaning.specs.Facts.{statement_on, body_on}
 use Rattle.id_meaning.specs.Rounds.{Every, Rounds, Holds}
 use Rattle.id_build.specs.Rows.{node}
-use Rattle.id_runs.specs.Activations.{Activation, main_activation}
+use Rattle.id_runs.specs.Activations.{Activation}
 use Rattle.id_runs.specs.Events.{Event}
-use Rattle.id_laws.specs.Activations.{main_head, Outermost, path_at, SeatOf, main_seat, PathOf, Goes, by_test, of_arms, Live, at_start, on_side}
+use Rattle.id_laws.specs.Activations.{PathOf, Goes, by_test, of_arms, Live, at_start, on_side, entered}
 use Rattle.id_laws.proofs.Assumed.{IsKnown}
-use Rattle.id_laws.proofs.Conditionals.{arm_of, chosen, conditional, main_head_is}
+use Rattle.id_laws.proofs.Calls.{call_at, callee_stands}
+use Rattle.id_laws.proofs.Conditionals.{arm_of, chosen, conditional}
+use Rattle.id_laws.proofs.Seats.{OneSeat, one_path, main_path_is, live_path, entered_path}
 
 -- ---- rules
 
@@ -67,20 +72,6 @@ take_all (suc n) (x ∷ xs) h = ap (λ ys. x ∷ ys) (take_all n xs (omega arith
 pub without_none : (p : Path) → without 0 p ≡ p
 without_none p = ap (λ ss. record { steps = ss }) (take_all (length p.steps - 0) p.steps (omega arith))
 
--- every path of an activation is empty: there is main's alone
-pub path_is : {S : Source} {number : ℕ → ℕ → ℕ} {run : List Event} {a : Activation} {p : Path} → PathOf S number run a p → p ≡ outermost
-path_is {S} {number} {run} {a} {p} h = go h.seat h.of_context h.is
-  where
-    go : (s : _) → SeatOf S number run a.context s → p ≡ path_at s a.iteration → p ≡ outermost
-    go Outermost of is = is
-
--- an activation has one path
-pub one_path : {S : Source} {number : ℕ → ℕ → ℕ} {run : List Event} {a : Activation} {p q : Path} → PathOf S number run a p → PathOf S number run a q → p ≡ q
-one_path h k = path_is h ∙ sym (path_is k)
-
-pub main_path : {S : Source} {number : ℕ → ℕ → ℕ} {run : List Event} → PathOf S number run main_activation outermost
-main_path = record { seat = Outermost; of_context = main_seat; is = refl }
-
 -- ---- live regions
 
 -- what stands in a row stands before it
@@ -97,6 +88,9 @@ is_a_block (Unary o a) e = cc
 is_a_block (Binary o a b) e = cc
 is_a_block (Split t) e = cc
 is_a_block (If s x y) e = cc
+is_a_block (Enter x) e = cc
+is_a_block (Arg h k v) e = cc
+is_a_block (Call h c) e = cc
 is_a_block (Binding x a) e = cc
 is_a_block (Def x h k b) e = cc
 is_a_block Program e = cc
@@ -104,14 +98,6 @@ is_a_block Program e = cc
 module _ (S : Source) (known : IsKnown S.checked) where
   abbrev P : Checked
   P = S.checked
-
-  -- the root of main's region is main's body
-  main_root : {n x h b : ℕ} {k : Kind} → n < length (rows P) → node P n ≡ Def x h k b → top h ≡ top (main_head P) → b ≡ main_body P
-  main_root {n} {x} {h} {b} {k} within is e =
-      let head_is : h ≡ main_head P = ap (λ (r : Region). r.head) e in
-      let here : IsDefOf (rows P) n (main_head P) = record { name = x; result = k; body = b; within = within; node = is ∙ ap (λ z. Def x z k b) head_is } in
-      let same = (known.table).one_def n P.main (main_head P) here known.main in
-      sym (ap body_of is) ∙ ap (λ z. body_of (node P z)) same
 
   -- what the roots of a region being On turn On
   turned_by : {r : Region} {p : Path} → ((e : ℕ) → Root (rows P) r e → Holds S (On p (place P e))) → {e : ℕ} → TurnedIn (rows P) r e
@@ -123,20 +109,32 @@ module _ (S : Source) (known : IsKnown S.checked) where
   turned_by roots (part {n = n} t within (test o split)) =
       let c = conditional known within o in
       holds_by S _ _ (test_on (chosen true (record { within = within; node = o }) (record { within = c.within; node = split }))) (turned_by roots t, tt)
+  turned_by roots (part {n = n} t within (argument o less arg)) =
+      holds_by S _ _ (argument_on (record { within = within; node = o }) (record { within = less; node = arg })) (turned_by roots t, tt)
   turned_by roots (part {n = n} t within (body o)) = holds_by S _ _ (body_on (record { within = within; node = o })) (turned_by roots t, tt)
   turned_by roots (part {n = n} t within (statement {m = m} st o)) =
       let block = is_a_block (node P n) st.block in
       let inside = before (at (rows P) n).first n m st.inside in
       holds_by S _ _ (statement_on (record { within = within; node = block.1 }) st (record { within = omega arith; node = o })) (turned_by roots t, tt)
 
-  no_arm : {n s x y : ℕ} → n < length (rows P) → node P n ≡ If s x y → s ≡ main_head P → ⊥
-  no_arm within def e = let c = conditional known within def in let bad : Split c.test ≡ Head = sym c.node ∙ ap (node P) e ∙ main_head_is known in cc
+  head_of_def : {d h : ℕ} → IsDefOf (rows P) d h → node P h ≡ Head
+  head_of_def {d} {h} x = ((known.table).head_is d x.name h x.body x.result x.within x.node).0
 
-  -- main's region has main's body alone as its root
-  main_roots : {r : Region} {e : ℕ} → r ≡ top (main_head P) → Root (rows P) r e → Holds S (On outermost (place P e))
-  main_roots is (of_procedure within def) = subst (λ z. Holds S (On outermost (place P z))) (sym (main_root within def is)) (holds_by S _ _ main_on tt)
-  main_roots is (of_then {s = s} within def) = absurd (no_arm within def (ap (λ (r : Region). r.head) is))
-  main_roots is (of_otherwise {s = s} within def) = absurd (no_arm within def (ap (λ (r : Region). r.head) is))
+  -- the switches of a conditional are no head
+  no_arm : {n s x y h : ℕ} → n < length (rows P) → node P n ≡ If s x y → node P h ≡ Head → s ≡ h → ⊥
+  no_arm within def head e = let c = conditional known within def in let bad : Split c.test ≡ Head = sym c.node ∙ ap (node P) e ∙ head in cc
+
+  -- the region of a procedure's body has the body alone as its root
+  procedure_roots : {d h : ℕ} (x : IsDefOf (rows P) d h) {p : Path} → Holds S (On p (place P x.body)) → {r : Region} {e : ℕ} → r ≡ top h
+      → Root (rows P) r e → Holds S (On p (place P e))
+  procedure_roots {d} {h} x {p} on is (of_procedure {n = n} {x = y} {h = g} {b = b} {k = k} within def) =
+      let head_is : g ≡ h = ap (λ (r : Region). r.head) is in
+      let here : IsDefOf (rows P) n h = record { name = y; result = k; body = b; within = within; node = def ∙ ap (λ z. Def y z k b) head_is } in
+      let same = (known.table).one_def n d h here x in
+      let body_is : b ≡ x.body = ap body_of (sym def ∙ ap (node P) same ∙ x.node) in
+      subst (λ z. Holds S (On p (place P z))) (sym body_is) on
+  procedure_roots {d} {h} x on is (of_then {s = s} within def) = absurd (no_arm within def (head_of_def x) (ap (λ (r : Region). r.head) is))
+  procedure_roots {d} {h} x on is (of_otherwise {s = s} within def) = absurd (no_arm within def (head_of_def x) (ap (λ (r : Region). r.head) is))
 
   by_arm : {p : Path} {m t : ℕ} {b : Truth} → node P m ≡ Split t → Holds S (Has p (place P t) (source.Bool b))
       → ((n : ℕ) → n < length (rows P) → is_expression (node P n) ≡ true → region P n ≡ region P m → Holds S (On p (place P n)))
@@ -169,17 +167,31 @@ module _ (S : Source) (known : IsKnown S.checked) where
       let test : e ≡ t = cc in
       subst (λ z. Holds S (Has p (place P z) (source.Bool b))) test has
 
+  -- main's body is On at the empty path
+  main_body_on : Holds S (On outermost (place P (known.main).body))
+  main_body_on = subst (λ z. Holds S (On outermost (place P z))) (ap body_of (known.main).node) (holds_by S _ _ main_on tt)
+
   -- the roots of a live region are On, at the activation's path
-  roots_on : {number : ℕ → ℕ → ℕ} {run : List Event} {a : Activation} {r : Region} {p : Path} → Live S number run a r
+  roots_on : {number : ℕ → ℕ → ℕ} {run : List Event} → OneSeat S number run → {a : Activation} {r : Region} {p : Path} → Live S number run a r
       → PathOf S number run a p → (e : ℕ) → Root (rows P) r e → Holds S (On p (place P e))
-  roots_on at_start path e x = subst (λ z. Holds S (On z (place P e))) (sym (path_is path)) (main_roots refl x)
-  roots_on {p = p} (on_side {n = m} {b = b} within (of_arms is) live says goes) path e x =
-      let has = subst (λ z. Goes S z m b) (one_path goes.path_of path) goes.goes in
+  roots_on seats at_start path e x =
+      subst (λ z. Holds S (On z (place P e))) (sym (main_path_is seats path)) (procedure_roots known.main main_body_on refl x)
+  roots_on seats {p = p} (on_side {n = m} {b = b} within (of_arms is) live says goes) path e x =
+      let has = subst (λ z. Goes S z m b) (one_path seats goes.path_of path) goes.goes in
       arm_roots is (test_has is has)
-      (λ n less expression same. turned_by (roots_on live path) (subst (λ q. TurnedIn (rows P) q n) same ((known.table).turned n less expression)))
+      (λ n less expression same. turned_by (roots_on seats live path) (subst (λ q. TurnedIn (rows P) q n) same ((known.table).turned n less expression)))
       refl x
+  roots_on seats {p = p} (entered {n = m} within is live opened) path e x =
+      let c = call_at known within is in
+      let up = live_path live in
+      let call_stands : Stands P (end_of P m) (Call m c.count) = record { within = c.within; node = c.node } in
+      let turned = subst (λ q. TurnedIn (rows P) q (end_of P m)) (sym c.region) ((known.table).turned (end_of P m) c.within (ap is_expression c.node)) in
+      let on = turned_by (roots_on seats live up.1) turned in
+      let body = holds_by S _ _ (callee_on call_stands c.bound (callee_stands c.def)) (on, tt) in
+      let same : below up.0 (place P (end_of P m)) 0 ≡ p = ap (λ z. below up.0 z 0) (sym c.place) ∙ one_path seats (entered_path within is opened up.1) path in
+      procedure_roots c.def (subst (λ z. Holds S (On z (place P (c.def).body))) same body) refl x
 
   -- each expression of a live region is On, at the activation's path
-  pub turned_on : {number : ℕ → ℕ → ℕ} {run : List Event} {a : Activation} {r : Region} {e : ℕ} {p : Path} → Live S number run a r
+  pub turned_on : {number : ℕ → ℕ → ℕ} {run : List Event} → OneSeat S number run → {a : Activation} {r : Region} {e : ℕ} {p : Path} → Live S number run a r
       → PathOf S number run a p → TurnedIn (rows P) r e → Holds S (On p (place P e))
-  turned_on live path t = turned_by (roots_on live path) t
+  turned_on seats live path t = turned_by (roots_on seats live path) t

@@ -71,7 +71,7 @@ sum_once f (x ∷ xs) few apart =
         absurd (omega arith)
 
 -- in a list where all differ, one thing has one place
-differ_at : {X : Type 0} (xs : List X) (n m : ℕ) (x : X) → AllDiffer xs → slice_get xs n ≡ Some x → slice_get xs m ≡ Some x → n ≡ m
+pub differ_at : {X : Type 0} (xs : List X) (n m : ℕ) (x : X) → AllDiffer xs → slice_get xs n ≡ Some x → slice_get xs m ≡ Some x → n ≡ m
 differ_at [] n m x d a b = cc
 differ_at (y ∷ xs) zero zero x d a b = refl
 differ_at (y ∷ xs) zero (suc m) x d a b = let is : x ≡ y = cc in absurd (d.0 (subst (λ z. Among z xs) is (Among-from_at x xs m b)))

@@ -9,10 +9,10 @@ use Rattle.std.proofs.lemmas.Bool.Decides.{nat_tests}
 use Rattle.id_value.specs.declared.Kind.{Kind}
 use Rattle.id_value.specs.declared.Kind.TheVariants as kinds
 use Rattle.id_list.specs.List.{Among, AllDiffer}
-use Rattle.id_list.proofs.AmongLemmas.{Among-map, Among-from_map, Among-left, Among-right, Among-either}
+use Rattle.id_list.proofs.AmongLemmas.{Among-map, Among-from_map, Among-left, Among-right, Among-either, Among-from_at}
 use Rattle.id_parts.specs.declared.row.Row.{Row}
 use Rattle.id_parts.specs.declared.row.Node.{Node}
-use Rattle.id_parts.specs.declared.row.Node.TheVariants.{Head, Param, Literal, Unary as UnaryNode, Binary as BinaryNode, Split, If, Binding, Program}
+use Rattle.id_parts.specs.declared.row.Node.TheVariants.{Head, Param, Literal, Unary as UnaryNode, Binary as BinaryNode, Split, If, Binding, Program, Enter as EnterNode, Arg, Call}
 use Rattle.id_parts.specs.Rows.{at}
 use Rattle.id_parts.specs.Turns.{heads_of, params_at}
 use Rattle.id_check.specs.declared.checked.Checked.{Checked}
@@ -31,21 +31,23 @@ use Rattle.id_meaning.specs.Sources.{source}
 use Rattle.id_build.specs.declared.arc.Origin.{Origin}
 use Rattle.id_desugar.specs.Ends.{end_of}
 use Rattle.id_desugar.specs.Regions.{imports_of}
-use Rattle.id_build.specs.Rows.{node, answer_row, body_of, name_in, feed, feeds_of, origin, port_at, port_of, result_of, trigger_of}
+use Rattle.id_build.specs.Rows.{node, answer_row, body_of, name_in, feed, feeds_of, origin, port_at, port_of, result_of, trigger_of, called, op_by, output, param_of}
 use Rattle.id_build.specs.Schemas.{Feeds, HasSide, Numbered, Schemas, Sends, block_of}
-use Rattle.id_valid.specs.Roles.{op_at, merge_kind, back_kind, is_first, is_second, is_entry, is_reply, same_port, is_dest, arcs_into, needs_no_arc}
-use Rattle.id_valid.specs.Validator.{is_value, IsAnswer, FillsRoles, IsTaken, IsFed, AreNamed, IsSound, IsValid}
+use Rattle.id_valid.specs.Roles.{op_at, merge_kind, back_kind, is_first, is_second, is_entry, is_reply, replies_to, same_port, is_dest, arcs_into, needs_no_arc}
+use Rattle.id_valid.specs.Validator.{is_value, IsAnswer, FillsRoles, IsTaken, IsFed, IsEntered, IsSentTo, AreNamed, IsSound, IsValid}
 use Rattle.id_laws.specs.Activations.{main_head}
 use Rattle.id_laws.specs.Topics.{IsPart}
 use Rattle.id_laws.proofs.Arcs.{Does, starts, returns, enters, constant, unary, binary, turns_on, hands, joins, names, answers, doing, makes, imports_fed}
-use Rattle.id_laws.proofs.Arcs.{FromArm, one_feed, target_part}
+use Rattle.id_laws.proofs.Arcs.{FromArm, one_feed, target_part, opens, passes, gets}
 use Rattle.id_laws.proofs.Blocks.{a_head, a_param, head_listed, param_listed}
 use Rattle.id_build.proofs.EndsLemmas.{end_is, not_last}
 use Rattle.id_laws.proofs.Known.{known}
 use Rattle.id_laws.proofs.Start.{main_block, main_is_head, main_within}
 use Rattle.id_laws.proofs.Tokens.{one_part}
 use Rattle.id_laws.proofs.ValidCounts.{any_among, among_any, all_among, sum_at, sum_once, count_among, count_some, count_once}
-use Rattle.id_laws.proofs.ValidKinds.{typed}
+use Rattle.id_laws.proofs.ValidKinds.{typed, port_is}
+use Rattle.id_build.specs.declared.arc.Form.{Form}
+use Rattle.id_laws.proofs.Calls.{arg_at, call_at, called_head, enter_at}
 
 -- ---- tests
 
@@ -69,9 +71,6 @@ both_true : (a b : Bool) → (a && b) ≡ true → (a ≡ true) × (b ≡ true)
 both_true true b e = (refl, e)
 both_true false b e = cc
 
-or_true : (a b : Bool) → a ≡ true → (a || b) ≡ true
-or_true a b e = rw e refl
-
 second_of : (a b c d : Bool) → b ≡ true → (a || b || c || d) ≡ true
 second_of true b c d e = refl
 second_of false b c d e = rw e refl
@@ -87,6 +86,13 @@ fourth_of true b c d e = refl
 fourth_of false true c d e = refl
 fourth_of false false true d e = refl
 fourth_of false false false d e = e
+
+still : {a : Bool} (b : Bool) → a ≡ true → (a || b) ≡ true
+still b e = rw e refl
+
+or_last : (a : Bool) {b : Bool} → b ≡ true → (a || b) ≡ true
+or_last true e = refl
+or_last false e = e
 
 abbrev dest : ℕ → Port → Dest
 dest n p = record { instr = n; port = p }
@@ -116,9 +122,9 @@ false_side (Back k) h = absurd h
 false_side (Const v) h = absurd (true_false (sym h))
 false_side (Unary f) h = absurd (true_false (sym h))
 false_side (Binary f) h = absurd (true_false (sym h))
-false_side (Merge k) h = absurd (true_false (sym h))
 false_side (Enter b r) h = absurd (true_false (sym h))
-false_side (Send k n) h = absurd (true_false (sym h))
+false_side (Send k t) h = absurd h
+false_side (Merge k) h = absurd (true_false (sym h))
 
 -- what is on a side that an operator has counts
 side_counts : (i : Instr) (d : Dest) (b : Bool) → HasSide i.op b → Among d (arcs_on b i) → Among d (arcs i)
@@ -160,7 +166,7 @@ module _ (P : Checked) (g : Parts) (number : ℕ → ℕ → ℕ) (numbered : Nu
   abbrev R : List Row
   R = rows P
 
-  pub op_made : {n part : ℕ} {o : Op} → n < length R → Does P n part o → op_at g (number n part) ≡ Some o
+  pub op_made : {n part : ℕ} {o : Form} → n < length R → Does P n part o → op_at g (number n part) ≡ Some (op_by number o)
   op_made {n} {part} within d = let i = numbered.made n part _ _ (makes within d) in ap (option_map (λ (x : Instr). x.op)) i.at ∙ ap (λ x. Some x) i.op
 
   block_among : (h : ℕ) → h < length R → node P h ≡ Head → Among (block_of P number h) g.blocks
@@ -217,7 +223,7 @@ module _ (P : Checked) (g : Parts) (number : ℕ → ℕ → ℕ) (numbered : Nu
   -- ---- what is sent is taken
 
   -- the instruction at a number does what its part does
-  does_at : {q part : ℕ} {o : Op} (n : ℕ) (i : Instr) → q < length R → Does P q part o → number q part ≡ n → slice_get g.instrs n ≡ Some i → i.op ≡ o
+  does_at : {q part : ℕ} {o : Form} (n : ℕ) (i : Instr) → q < length R → Does P q part o → number q part ≡ n → slice_get g.instrs n ≡ Some i → i.op ≡ op_by number o
   does_at {q} {part} {o} n i within d is at =
       let k = numbered.made q part _ _ (makes within d) in
       let both : Some i ≡ Some k.instr = sym at ∙ ap (slice_get g.instrs) (sym is) ∙ k.at in
@@ -231,11 +237,11 @@ module _ (P : Checked) (g : Parts) (number : ℕ → ℕ → ℕ) (numbered : Nu
       let t = typed P a.origin a.row a.part to.port a.feeds in
       let s = t.source in
       let q = t.target in
-      let out : sends i.op ≡ Some t.kind = ap sends (does_at n i s.within s.does a.from at) ∙ s.out in
+      let out : sends i.op ≡ Some t.kind = ap sends (does_at n i s.within s.does a.from at) ∙ s.out number in
       let m = numbered.made a.row a.part _ _ (makes q.within q.does) in
       let there : slice_get g.instrs to.instr ≡ Some m.instr = ap (slice_get g.instrs) (sym a.goes) ∙ m.at in
       let into : kind_at g.instrs to ≡ Some t.kind =
-      ap (option_and_then (λ (x : Instr). port_kind x.op to.port)) there ∙ ap (λ (o : Op). port_kind o to.port) m.op ∙ q.into in
+      ap (option_and_then (λ (x : Instr). port_kind x.op to.port)) there ∙ ap (λ (o : Op). port_kind o to.port) m.op ∙ q.into number in
       rw out into
 
   -- ---- ports are fed
@@ -254,7 +260,7 @@ module _ (P : Checked) (g : Parts) (number : ℕ → ℕ → ℕ) (numbered : Nu
   first_served : (n : ℕ) (p : Port) → n < length R → node P n ≡ Head → needs_no_arc g (number n 0) p ≡ true
   first_served n p within is =
       let k = number n 0 in
-      or_true ((k == 0) || is_first g k || is_entry g k || (is_second g k && same_port p Zero)) (is_reply g k)
+      still (is_reply g k)
       (second_of (k == 0) (is_first g k) (is_entry g k) (is_second g k && same_port p Zero)
       (any_among (λ (b : Block). b.first == k) (block_of P number n) g.blocks (block_among n within is) (same_number k k refl)))
 
@@ -264,8 +270,7 @@ module _ (P : Checked) (g : Parts) (number : ℕ → ℕ → ℕ) (numbered : Nu
       let second : is_second g k ≡ true =
       any_among (λ (b : Block). b.first + 1 == k) (block_of P number n) g.blocks (block_among n within is)
       (same_number (number n 0 + 1) k (sym (numbered.parts_behind n 1))) in
-      or_true ((k == 0) || is_first g k || is_entry g k || (is_second g k && same_port Zero Zero)) (is_reply g k)
-      (fourth_of (k == 0) (is_first g k) (is_entry g k) (is_second g k && same_port Zero Zero) (rw second refl))
+      still (is_reply g k) (fourth_of (k == 0) (is_first g k) (is_entry g k) (is_second g k && same_port Zero Zero) (rw second refl))
 
   entry_served : (b x : ℕ) (k : Kind) → b < length R → node P b ≡ Param x k → needs_no_arc g (number b 0) Zero ≡ true
   entry_served b x k within is =
@@ -278,10 +283,19 @@ module _ (P : Checked) (g : Parts) (number : ℕ → ℕ → ℕ) (numbered : Nu
       let entry : is_entry g n ≡ true =
       any_among (λ (c : Block). list_any (λ e. e == n) c.entries) (block_of P number h) g.blocks (block_among h less block.1)
       (any_among (λ e. e == n) n labels listed (same_number n n refl)) in
-      or_true ((n == 0) || is_first g n || is_entry g n || (is_second g n && same_port Zero Zero)) (is_reply g n)
-      (third_of (n == 0) (is_first g n) (is_entry g n) (is_second g n && same_port Zero Zero) entry)
+      still (is_reply g n) (third_of (n == 0) (is_first g n) (is_entry g n) (is_second g n && same_port Zero Zero) entry)
 
-  served : {n part : ℕ} {o : Op} → n < length R → Does P n part o → (p : Port) → IsSome (port_kind o p) → Served n part p
+  call_served : (n e c : ℕ) (p : Port) → n < length R → node P n ≡ Call e c → needs_no_arc g (number n 0) p ≡ true
+  call_served n e c p within is =
+      let k = number n 0 in
+      let z = enter_at (known P) within is in
+      let m = numbered.made e 0 _ _ (makes z.within (opens z.node)) in
+      let op_is : (m.instr).op ≡ Enter (number (called P e) 0) k = m.op ∙ ap (λ q. Enter (number (called P e) 0) (number q 0)) z.ends in
+      let reply : is_reply g k ≡ true =
+      any_among (λ (i : Instr). replies_to i.op k) m.instr g.instrs (Among-from_at m.instr g.instrs (number e 0) m.at) (ap (λ o. replies_to o k) op_is ∙ same_number k k refl) in
+      or_last ((k == 0) || is_first g k || is_entry g k || (is_second g k && same_port p Zero)) reply
+
+  served : {n part : ℕ} {o : Form} → n < length R → Does P n part o → (p : Port) → IsSome (port_kind (op_by number o) p) → Served n part p
   unfolding Served
   served {n} within (answers is) p h = inl (answer_served n p within is)
   served {n} within (starts is) p h = inl (first_served n p within is)
@@ -301,6 +315,11 @@ module _ (P : Checked) (g : Parts) (number : ℕ → ℕ → ℕ) (numbered : Nu
   served {n} within (hands {t = t} k is less) One h = inr (record { from = name_in P (region P n) (get_or (imports_of P n) k 0); feeds = (imports_fed P n t k within is less).1 })
   served {n} within (joins {s = s} {x = x} {y = y} is) Zero h = inr (feeds_at P (origin P x) n 0 Zero (If s x y) within is (inl refl))
   served within (joins is) One h = cc
+  served {n} within (opens {x = x} is) Zero h = inr (feeds_at P (trigger_of (region P n)) n 0 Zero (EnterNode x) within is (inl refl))
+  served within (opens is) One h = cc
+  served {n} within (passes {e = e} {k = k} {v = v} is) Zero h = inr (feeds_at P (output e) n 0 Zero (Arg e k v) within is (inl refl))
+  served {n} within (passes {e = e} {k = k} {v = v} is) One h = inr (feeds_at P (origin P v) n 0 One (Arg e k v) within is (inr (inl refl)))
+  served {n} within (gets {e = e} {c = c} is) p h = inl (call_served n e c p within is)
   served {n} within (names {x = x} {a = a} is) Zero h = inr (feeds_at P (origin P a) n 0 Zero (Binding x a) within is (inl refl))
   served within (names is) One h = cc
 
@@ -319,7 +338,7 @@ module _ (P : Checked) (g : Parts) (number : ℕ → ℕ → ℕ) (numbered : Nu
   alone never (inr arms) = absurd (never arms)
 
   -- a part is fed from one origin at each port, or is a merge
-  one_or_merge : {n part : ℕ} {o : Op} → Does P n part o → IsSome (merge_kind o) ⊎ ((x y : Origin) (p : Port) → Feeds P x n part p → Feeds P y n part p → x ≡ y)
+  one_or_merge : {n part : ℕ} {o : Form} → Does P n part o → IsSome (merge_kind (op_by number o)) ⊎ ((x y : Origin) (p : Port) → Feeds P x n part p → Feeds P y n part p → x ≡ y)
   one_or_merge (starts is) = inl refl
   one_or_merge (returns is) = inr (λ x y p h k. alone (λ a. let bad : If (a.0).split (a.0).then (a.0).otherwise ≡ Head = sym (a.0).node ∙ is in cc) (one_feed h k))
   one_or_merge (enters is) = inl refl
@@ -329,6 +348,9 @@ module _ (P : Checked) (g : Parts) (number : ℕ → ℕ → ℕ) (numbered : Nu
   one_or_merge (turns_on {t = t} is) = inr (λ x y p h k. alone (λ a. let bad : If (a.0).split (a.0).then (a.0).otherwise ≡ Split t = sym (a.0).node ∙ is in cc) (one_feed h k))
   one_or_merge (hands {t = t} j is less) = inr (λ x y p h k. alone (λ a. let bad : If (a.0).split (a.0).then (a.0).otherwise ≡ Split t = sym (a.0).node ∙ is in cc) (one_feed h k))
   one_or_merge (joins is) = inl refl
+  one_or_merge (opens {x = x} is) = inr (λ y z p h k. alone (λ a. let bad : If (a.0).split (a.0).then (a.0).otherwise ≡ EnterNode x = sym (a.0).node ∙ is in cc) (one_feed h k))
+  one_or_merge (passes {e = e} {k = i} {v = v} is) = inr (λ y z p h k. alone (λ a. let bad : If (a.0).split (a.0).then (a.0).otherwise ≡ Arg e i v = sym (a.0).node ∙ is in cc) (one_feed h k))
+  one_or_merge (gets is) = inl refl
   one_or_merge (names is) = inl refl
   one_or_merge (answers is) = inl refl
 
@@ -391,7 +413,9 @@ module _ (P : Checked) (g : Parts) (number : ℕ → ℕ → ℕ) (numbered : Nu
     row : ℕ
     part : ℕ
     within : row < length R
-    does : Does P row part o
+    form : Form
+    does : Does P row part form
+    op_is : op_by number form ≡ o
     is : number row part ≡ n
 
   stands : (n : ℕ) (o : Op) (x : Option Instr) → slice_get g.instrs n ≡ x → option_map (λ (i : Instr). i.op) x ≡ Some o → Stands n o
@@ -400,38 +424,77 @@ module _ (P : Checked) (g : Parts) (number : ℕ → ℕ → ℕ) (numbered : Nu
       let r = numbered.only n i e in
       let d = doing r.makes in
       let here : i.op ≡ o = cc in
-      let op_is : d.op ≡ o = sym (does_at n i (r.makes).within d.does r.is e) ∙ here in
-      record { row = r.row; part = r.part; within = (r.makes).within; does = subst (λ z. Does P r.row r.part z) op_is d.does; is = r.is }
+      let op_is : op_by number r.form ≡ o = sym (does_at n i (r.makes).within d.does r.is e) ∙ here in
+      record { row = r.row; part = r.part; within = (r.makes).within; form = r.form; does = d.does; op_is = op_is; is = r.is }
 
   fed : (n : ℕ) (o : Op) (p : Port) → op_at g n ≡ Some o → IsSome (port_kind o p) → IsFed g n o p
   unfolding Served
   fed n o p at h =
       let s = stands n o (slice_get g.instrs n) refl at in
       record {
-        fed = λ needs. elim (served s.within s.does p h) [
+        fed = λ needs. elim (served s.within s.does p (subst (λ z. IsSome (port_kind z p)) (sym s.op_is) h)) [
           | inl free ↦ absurd (true_false (sym free ∙ ap (λ k. needs_no_arc g k p) s.is ∙ needs))
           | inr f ↦ subst (λ k. 0 < arcs_into g k p) s.is (let some = fed_counts s.row s.part p f in omega arith)
         ];
         once = λ many. elim (one_or_merge s.does) [
-          | inl merges ↦ merges
+          | inl merges ↦ subst (λ z. IsSome (merge_kind z)) s.op_is merges
           | inr one ↦ absurd (omega (arith, many, fed_once n p s.row s.part (record { form = _; place = _; makes = makes s.within s.does }) s.is (λ x y. one x y p)))
         ];
       }
 
   -- ---- what operators name
 
-  named : {n part : ℕ} {o : Op} → Does P n part o → AreNamed g o
-  named (starts is) = tt
-  named (returns is) = tt
-  named (enters is) = tt
-  named (constant is) = tt
-  named (unary is) = tt
-  named (binary is) = tt
-  named (turns_on is) = tt
-  named (hands k is less) = tt
-  named (joins is) = tt
-  named (names is) = tt
-  named (answers is) = tt
+  -- an `enter` names the first instruction of a block, whose `back` is of the kind of the call's merge
+  enter_named : (n x : ℕ) → n < length R → node P n ≡ EnterNode x → IsEntered g (number (called P n) 0) (number (end_of P n) 0)
+  enter_named n x within is =
+      let k = known P in
+      let c = call_at k within is in
+      let h = called P n in
+      let head = called_head k within is in
+      let end : end_of P h ≡ c.callee = (k.table).one_def (end_of P h) c.callee h (end_is P (k.table) h head.0 head.1) c.def in
+      let result_is : port_of (result_of (node P (end_of P h))) ≡ port_at P (end_of P n) =
+      ap (λ z. port_of (result_of (node P z))) end ∙ ap (λ z. port_of (result_of z)) (c.def).node
+      ∙ sym (port_is P (end_of P n) (c.def).result (k.call_kind (end_of P n) n c.count x c.callee c.def c.within c.node)) in
+      record {
+        kind = port_at P (end_of P n);
+        first = any_among (λ (b : Block). b.first == number h 0) (block_of P number h) g.blocks (block_among h head.0 head.1) (same_number (number h 0) (number h 0) refl);
+        back = ap (op_at g) (sym (numbered.parts_behind h 1)) ∙ op_made head.0 (returns head.1) ∙ ap (λ z. Some (Back z)) result_is;
+        reply = op_made c.within (gets c.node);
+      }
+
+  -- a `send` names the entry of a parameter
+  send_named : (n e k v : ℕ) → n < length R → node P n ≡ Arg e k v → IsSentTo g (port_at P (param_of P e k)) (number (param_of P e k) 0)
+  send_named n e k v within is =
+      let b = param_of P e k in
+      let z = arg_at (known P) within is in
+      let h = called P e in
+      let head = called_head (known P) z.enter_within z.enter in
+      let to = (known P).passed n e k v within is in
+      let among = Among-from_at b (params_at R h) k to.0 in
+      let x = a_param R h (length R) b among in
+      let labels = map (λ y. number y 0) (params_at R h) in
+      let listed : Among (number b 0) labels = Among-map (λ y. number y 0) b (params_at R h) among in
+      record {
+        entry = any_among (λ (c : Block). list_any (λ q. q == number b 0) c.entries) (block_of P number h) g.blocks (block_among h head.0 head.1)
+            (any_among (λ q. q == number b 0) (number b 0) labels listed (same_number (number b 0) (number b 0) refl));
+        merge = op_made x.within (enters (x.param).is);
+      }
+
+  named : {n part : ℕ} {o : Form} → n < length R → Does P n part o → AreNamed g (op_by number o)
+  named within (starts is) = tt
+  named within (returns is) = tt
+  named within (enters is) = tt
+  named within (constant is) = tt
+  named within (unary is) = tt
+  named within (binary is) = tt
+  named within (turns_on is) = tt
+  named within (hands k is less) = tt
+  named within (joins is) = tt
+  named {n} within (opens {x = x} is) = enter_named n x within is
+  named {n} within (passes {e = e} {k = k} {v = v} is) = send_named n e k v within is
+  named within (gets is) = tt
+  named within (names is) = tt
+  named within (answers is) = tt
 
   -- ---- the answer
 
@@ -461,7 +524,7 @@ module _ (P : Checked) (g : Parts) (number : ℕ → ℕ → ℕ) (numbered : Nu
     answer = λ e. answer;
     roles = fills n;
     taken = λ i at. all_among (IsTaken g.instrs i.op) (arcs i) (λ to h. taken n i to at h);
-    named = λ o at. named ((stands n o (slice_get g.instrs n) refl at).does);
+    named = λ o at. (let x = stands n o (slice_get g.instrs n) refl at in subst (AreNamed g) x.op_is (named x.within x.does));
     fed = λ o at p h. fed n o p at h;
   }
 

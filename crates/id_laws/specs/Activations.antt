@@ -1,7 +1,7 @@
 -- Where a context stands, which regions are live and where procedures return to, in a run (docs/MEANING.md, "Laws").
 use Rattle.std.specs.Prelude.{◌≡◌, ◌<◌, ℕ, Bool, List, length}
 use Rattle.id_parts.specs.declared.row.Region.{Region}
-use Rattle.id_parts.specs.declared.row.Node.TheVariants.{Split}
+use Rattle.id_parts.specs.declared.row.Node.TheVariants.{Split, Enter}
 use Rattle.id_parts.specs.Rows.{arm_at, at, top}
 use Rattle.id_check.specs.declared.checked.Checked.{Checked}
 use Rattle.id_check.specs.Programs.{place, region, rows}
@@ -9,28 +9,33 @@ use Rattle.id_tag.specs.declared.Context.{Context}
 use Rattle.id_tag.specs.declared.Value.{Value}
 use Rattle.id_tag.specs.declared.Value.TheVariants as value
 use Rattle.id_ops.specs.declared.Fired.{Fired}
+use Rattle.id_ops.specs.declared.Fired.TheVariants.{Entered}
 use Rattle.id_meaning.specs.declared.Path.{Path}
 use Rattle.id_meaning.specs.declared.SourceValue.TheVariants as source
 use Rattle.id_meaning.specs.declared.Fact.TheVariants.{Has}
 use Rattle.id_meaning.specs.Sources.{Source, head_of}
-use Rattle.id_meaning.specs.Facts.{outermost}
+use Rattle.id_meaning.specs.Facts.{outermost, below}
+use Rattle.id_desugar.specs.Ends.{end_of}
 use Rattle.id_meaning.specs.Rounds.{Holds}
 use Rattle.id_build.specs.declared.arc.Origin.{Origin}
-use Rattle.id_build.specs.Rows.{answer_row, node, origin}
-use Rattle.id_runs.specs.Activations.{Activation, main_context, main_activation, tag_in}
+use Rattle.id_build.specs.Rows.{answer_row, called, node, origin}
+use Rattle.id_runs.specs.Activations.{Activation, at_iteration, main_context, main_activation, tag_in}
 use Rattle.id_runs.specs.Events.{Event, FiresAs, GivesOn}
 
 -- the head of main's definition
 abbrev pub main_head : Checked → ℕ
 main_head P = head_of (at (rows P) P.main).node
 
--- where a context stands: it is main's
+-- where a context stands: it is main's, or its path goes on below one by a step at a place, whose number is the iteration
+-- (a call's is 0)
 pub data Seat : Type 0 where
   Outermost : Seat
+  Below : Path → ℕ → Seat
 
 -- the path of an iteration of a context with this seat
 abbrev pub path_at : Seat → ℕ → Path
 path_at Outermost k = outermost
+path_at (Below p e) k = below p e k
 
 -- the switches at the row n go by the predicate at the row e
 pub data Tests (P : Checked) (n : ℕ) : ℕ → Type 0 where
@@ -41,9 +46,15 @@ pub data Goes (S : Source) (p : Path) (n : ℕ) (b : Bool) : Type 0 where
   by_test : {e : ℕ} → Tests S.checked n e → Holds S (Has p (place S.checked e) (source.Bool b)) → Goes S p n b
 
 module _ (S : Source) (number : ℕ → ℕ → ℕ) (run : List Event) where
+  -- the `Enter` at the row n has made the context under the activation
+  abbrev pub Opens : Activation → ℕ → Context → Type 0
+  Opens a n c = FiresAs run (tag_in a (number n 0)) (Entered c)
+
   -- the context stands there
   pub data SeatOf : Context → Seat → Type 0 where
     main_seat : SeatOf main_context Outermost
+    made_seat : {a : Activation} {n x : ℕ} {c : Context} {s : Seat} → n < length (rows S.checked) → node S.checked n ≡ Enter x → Opens a n c
+        → SeatOf a.context s → SeatOf c (Below (path_at s a.iteration) (place S.checked n))
 
   -- the activation has the path
   pub record PathOf (a : Activation) (p : Path) : Type 0 where
@@ -63,14 +74,18 @@ module _ (S : Source) (number : ℕ → ℕ → ℕ) (run : List Event) where
     pub path_of : PathOf a path
     pub goes : Goes S path n b
 
-  -- the region is live under the activation: main's body is from the start, and an arm is where the predicate has
-  -- chosen it
+  -- the region is live under the activation: main's body is from the start, an arm is where the predicate has chosen it,
+  -- and a procedure's body in each context that an `Enter` of a live region has made for it
   pub data Live : Activation → Region → Type 0 where
     at_start : Live main_activation (top (main_head S.checked))
     on_side : {a : Activation} {n e : ℕ} {b : Bool} → n < length (rows S.checked) → Tests S.checked n e
         → Live a (region S.checked n) → Speaks a (origin S.checked e) (value.Bool b) → GoesAt a n b → Live a (arm_at n b)
+    entered : {a : Activation} {n x : ℕ} {c : Context} → n < length (rows S.checked) → node S.checked n ≡ Enter x
+        → Live a (region S.checked n) → Opens a n c → Live (at_iteration c 0) (top (called S.checked n))
 
   -- what the block with this head gives under the context goes to the first instruction of the row, under the
-  -- activation: main's to the answer
+  -- activation: main's to the answer, another's to the call where what its `Enter` has begun ends
   pub data ReturnsTo : Context → ℕ → Activation → ℕ → Type 0 where
     to_answer : ReturnsTo main_context (main_head S.checked) main_activation (answer_row S.checked)
+    to_row : {a : Activation} {n x : ℕ} {c : Context} → n < length (rows S.checked) → node S.checked n ≡ Enter x
+        → Live a (region S.checked n) → Opens a n c → ReturnsTo c (called S.checked n) a (end_of S.checked n)

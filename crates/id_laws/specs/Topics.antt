@@ -3,14 +3,15 @@
 use Rattle.std.specs.Prelude.{◌≡◌, ℕ, zero, suc, ℤ, Bool as Truth, List, get_or}
 use Rattle.id_parts.specs.declared.row.Region.{Region}
 use Rattle.id_parts.specs.declared.row.Node.{Node}
-use Rattle.id_parts.specs.declared.row.Node.TheVariants.{Head, Param, Literal, Unary, Binary, Split, If, Binding}
-use Rattle.id_parts.specs.declared.row.Node.TheVariants.{Program}
+use Rattle.id_parts.specs.declared.row.Node.TheVariants.{Head, Param, Literal, Unary, Binary, Split, If, Enter, Arg, Call}
+use Rattle.id_parts.specs.declared.row.Node.TheVariants.{Binding, Program}
 use Rattle.id_parts.specs.Rows.{arm_at, top}
 use Rattle.id_check.specs.declared.checked.Checked.{Checked}
 use Rattle.id_check.specs.Scopes.{loops_between}
 use Rattle.id_check.specs.Programs.{place, region, rows}
 use Rattle.id_graph.specs.declared.dests.Port.{Port}
 use Rattle.id_graph.specs.declared.dests.Port.TheVariants.{Zero, One}
+use Rattle.id_tag.specs.declared.Context.{Context}
 use Rattle.id_tag.specs.declared.Value.{Value}
 use Rattle.id_tag.specs.declared.Value.TheVariants as value
 use Rattle.id_tag.specs.declared.Payload.{Payload}
@@ -36,7 +37,8 @@ use Rattle.id_laws.specs.Activations.{main_head}
 use Rattle.id_laws.specs.Activations as activations
 
 -- what is spoken of: that a region is live, what a row's expression Has, what a binder Has as a region sees it, what
--- the predicate Has by which the switches of a row go, what the block with this head gives, and where that goes
+-- the predicate Has by which the switches of a row go, what the block with this head gives, where that goes, and which
+-- context the `Enter` at a row has made
 pub data Topic : Type 0 where
   Turned : Region → Topic
   ValueOf : ℕ → Topic
@@ -44,6 +46,7 @@ pub data Topic : Type 0 where
   TestOf : ℕ → Topic
   ResultOf : ℕ → Topic
   WayBack : ℕ → Topic
+  ContextOf : ℕ → Topic
   Nothing : Topic
 
 -- what is handed into a region by a part: the trigger, and each name
@@ -60,6 +63,8 @@ speaks_of P n r (Unary o a) part side = ValueOf n
 speaks_of P n r (Binary o a b) part side = ValueOf n
 speaks_of P n r (Split t) part side = split_of (arm_at n side) (imports_of P n) part
 speaks_of P n r (If s x y) part side = ValueOf n
+speaks_of P n r (Enter x) part side = ContextOf n
+speaks_of P n r (Call e c) part side = ValueOf n
 speaks_of P n r (Binding x a) part side = NameIn r n
 speaks_of P n r _ part side = Nothing
 
@@ -80,6 +85,10 @@ wants P n r (Binary o a b) part One = ValueOf b
 wants P n r (Split t) part Zero = TestOf n
 wants P n r (Split t) part One = split_of r (imports_of P n) part
 wants P n r (If s x y) part Zero = ValueOf n
+wants P n r (Enter x) part Zero = Turned r
+wants P n r (Arg e k v) part Zero = ContextOf e
+wants P n r (Arg e k v) part One = ValueOf v
+wants P n r (Call e c) part Zero = ValueOf n
 wants P n r (Binding x a) part Zero = ValueOf a
 wants P n r Program part Zero = ResultOf (main_head P)
 wants P n r _ part p = Nothing
@@ -138,6 +147,13 @@ module _ (S : Source) (number : ℕ → ℕ → ℕ) (run : List Event) where
     pub returns : activations.ReturnsTo S number run a.context h caller row
     pub at_first : a.iteration ≡ 0
 
+  -- the value is a context that the `Enter` at the row n has made
+  pub record ShownContext (a : Activation) (n : ℕ) (v : Value) : Type 0 where
+    pub context : Context
+    pub is : v ≡ value.Context context
+    pub live : Live a (region S.checked n)
+    pub opens : activations.Opens S number run a n context
+
   -- the value tells the topic under the activation
   abbrev pub Tells : Activation → Topic → Value → Type 0
   Tells a (Turned r) v = (v ≡ value.Signal) × Live a r
@@ -146,6 +162,7 @@ module _ (S : Source) (number : ℕ → ℕ → ℕ) (run : List Event) where
   Tells a (TestOf n) v = ShownTest a n v
   Tells a (ResultOf h) v = ShownResult a h v
   Tells a (WayBack h) v = ShownWayBack a h v
+  Tells a (ContextOf n) v = ShownContext a n v
   Tells a Nothing v = ⊥
 
   -- the message is a token for a part, and tells what its port wants

@@ -1,27 +1,33 @@
 -- Each path and place has at most one value.
-use Rattle.std.proofs.Common.{◌≡◌, inl, inr, ℕ, zero, suc, Bool as Truth, true, Some, List, [], ◌∷◌, refl, ap, sym, ◌∙◌, subst}
+use Rattle.std.proofs.Common.{◌≡◌, ◌⊎◌, inl, inr, ℕ, zero, suc, Bool as Truth, true, Some, List, [], ◌∷◌, length, refl, ap, sym, ◌∙◌, subst}
+use Rattle.std.specs.Prelude.{slice_get}
 use Rattle.std.proofs.lemmas.Bool.{false≢true}
+use Rattle.id_value.specs.declared.Kind.{Kind}
 use Rattle.id_value.specs.declared.Constant.{Constant}
 use Rattle.id_value.specs.declared.Constant.TheVariants as constant
 use Rattle.id_value.specs.declared.Outcome.{Outcome}
 use Rattle.id_value.specs.declared.Outcome.TheVariants.{Gives}
 use Rattle.id_value.specs.Results.{result_of_unary, result_of_binary}
 use Rattle.id_parts.specs.declared.row.Node.{Node}
-use Rattle.id_parts.specs.declared.row.Node.TheVariants.{Param, Literal, Name, Unary, Binary, Split, If, Block, Binding}
+use Rattle.id_parts.specs.declared.row.Node.TheVariants.{Param, Literal, Name, Unary, Binary, Split, If, Arg, Call, Block, Binding, Def}
 use Rattle.id_parts.specs.Rows.{at}
 use Rattle.id_parts.specs.Tables.{is_param, is_thing}
+use Rattle.id_parts.specs.Turns.{params_at}
 use Rattle.id_check.specs.Programs.{Stands, binder, place, rows}
+use Rattle.id_check.proofs.ProgramsLemmas.{table_of}
+use Rattle.id_list.proofs.AmongLemmas.{Among-from_at}
 use Rattle.id_meaning.specs.declared.Path.{Path}
 use Rattle.id_meaning.specs.declared.SourceValue.{SourceValue}
 use Rattle.id_meaning.specs.declared.SourceValue.TheVariants.{Bool}
 use Rattle.id_meaning.specs.declared.Fact.{Fact}
 use Rattle.id_meaning.specs.declared.Fact.TheVariants.{Has}
 use Rattle.id_meaning.specs.Sources.{Source, IsInput, value_of}
-use Rattle.id_meaning.specs.Facts.{outermost, without, between, Chooses, then_arm, else_arm, Rule, param_has, literal_has, unary_has, binary_has, name_has, conditional_has, block_has, binding_has}
+use Rattle.id_meaning.specs.Facts.{outermost, below, without, between, Chooses, then_arm, else_arm, Rule, param_has, literal_has, unary_has, binary_has, name_has, conditional_has, argument_has, call_has, block_has, binding_has}
 use Rattle.id_meaning.specs.Rounds.{Every, Rounds, Holds, IsCoherent}
 use Rattle.id_meaning.specs.Cells.{arm_of, constant_of}
 use Rattle.id_meaning.proofs.CheckedLemmas.{apart_of}
-use Rattle.id_meaning.proofs.ParamsLemmas.{input_param, one_input}
+use Rattle.id_meaning.proofs.ParamsLemmas.{input_param, once, one_input, params-among, params-differ}
+use Rattle.id_meaning.proofs.PathsLemmas.{below-once, none-below}
 
 -- a value is what its constant is, and the other way round
 pub constant-value : (c : Constant) → constant_of (value_of c) ≡ c
@@ -79,17 +85,75 @@ one_arm {a = a} {d = d} {b = b} {c = c} f g e =
     sym f.arm ∙ ap (λ i. arm_of i f.otherwise (Some (Bool b))) x ∙ ap (λ i. arm_of g.then i (Some (Bool b))) y ∙ ap (λ i. arm_of g.then g.otherwise (Some (Bool i))) e ∙ g.arm in
     cc
 
+-- the call at the row n is of the procedure that is defined at a row
+pub record IsCall (S : Source) (n : ℕ) : Type 0 where
+  pub enter : ℕ
+  pub count : ℕ
+  pub def : ℕ
+  pub name : ℕ
+  pub head : ℕ
+  pub kind : Kind
+  pub body : ℕ
+  pub stands : Stands S.checked n (Call enter count)
+  pub binder : binder S.checked enter ≡ Some def
+  pub definition : Stands S.checked def (Def name head kind body)
+
+-- it is of one
+pub record IsSameCall {S : Source} {n m : ℕ} (c : IsCall S n) (d : IsCall S m) : Type 0 where
+  pub enter : c.enter ≡ d.enter
+  pub head : c.head ≡ d.head
+  pub body : c.body ≡ d.body
+
+pub one_call : {S : Source} {n m : ℕ} (c : IsCall S n) (d : IsCall S m) → n ≡ m → IsSameCall c d
+one_call {S} c d e =
+    let R = rows S.checked in
+    let k : Call c.enter c.count ≡ Call d.enter d.count = sym c.stands.node ∙ ap (λ i. (at R i).node) e ∙ d.stands.node in
+    let enter : c.enter ≡ d.enter = cc in
+    let b : Some c.def ≡ Some d.def = sym c.binder ∙ ap (λ i. binder S.checked i) enter ∙ d.binder in
+    let q : c.def ≡ d.def = cc in
+    let f : Def c.name c.head c.kind c.body ≡ Def d.name d.head d.kind d.body = sym c.definition.node ∙ ap (λ i. (at R i).node) q ∙ d.definition.node in
+    record { enter = enter; head = cc; body = cc }
+
+-- the argument of one index has one value
+one_argument : (S : Source) (m l e f i j a b : ℕ) → Stands S.checked m (Arg e i a) → Stands S.checked l (Arg f j b) → e ≡ f → i ≡ j → a ≡ b
+one_argument S m l e f i j a b s t p q =
+    let R = rows S.checked in
+    let r : m ≡ l =
+    (table_of S.checked).one_arg m l e i (record { value = a; within = s.within; node = s.node })
+    (record { value = b; within = t.within; node = t.node ∙ (λ k. Arg (sym p k) (sym q k) b) }) in
+    let k : Arg e i a ≡ Arg f j b = sym s.node ∙ ap (λ n. (at R n).node) r ∙ t.node in
+    cc
+
+-- a call has an argument for the parameter at the row b, and passes on what that Has
+pub record IsPassed (S : Source) (F : Fact → Type 0) (b : ℕ) (p : Path) (v : SourceValue) : Type 0 where
+  pub call : ℕ
+  pub outer : Path
+  pub is_call : IsCall S call
+  pub row : ℕ
+  pub index : ℕ
+  pub value : ℕ
+  pub argument : Stands S.checked row (Arg is_call.enter index value)
+  pub param : slice_get (params_at (rows S.checked) is_call.head) index ≡ Some b
+  pub path : p ≡ below outer (place S.checked call) 0
+  pub has : F (Has outer (place S.checked value) v)
+
+-- what follows at a parameter: its input at the empty path, or what a call passes on
+abbrev pub FollowsParam : Source → (Fact → Type 0) → ℕ → Path → SourceValue → Type 0
+FollowsParam S F b p v = ((p ≡ outermost) × IsInput S b v) ⊎ IsPassed S F b p v
+
 -- what follows at a row of this node from facts: a literal's value, an operator's result on what its operands Have, what a name's
--- binder, the chosen arm of a conditional, a block's body and a binding's expression Has, and a parameter's input
+-- binder, the chosen arm of a conditional, a callee's body at the path of the call, a block's body and a binding's expression Has, and
+-- what follows at a parameter
 abbrev pub Follows : Source → (Fact → Type 0) → ℕ → Node → Path → SourceValue → Type 0
 Follows S F n (Literal c) p v = v ≡ value_of c
 Follows S F n (Unary o a) p v = (c : Constant) × (x : Constant) × F (Has p (place S.checked a) (value_of c)) × (result_of_unary o c ≡ Gives x) × (v ≡ value_of x)
 Follows S F n (Binary o a b) p v = (c : Constant) × (d : Constant) × (x : Constant) × F (Has p (place S.checked a) (value_of c)) × F (Has p (place S.checked b) (value_of d)) × (result_of_binary o c d ≡ Gives x) × (v ≡ value_of x)
 Follows S F n (Name y) p v = (b : ℕ) × (binder S.checked n ≡ Some b) × F (Has (without (between S n b) p) (place S.checked b) v)
 Follows S F n (If s x y) p v = (t : ℕ) × (b : Truth) × (a : ℕ) × IsChoice S n t b a × F (Has p (place S.checked t) (value_of (constant.Bool b))) × F (Has p (place S.checked a) v)
+Follows S F n (Call e c) p v = (d : IsCall S n) × F (Has (below p (place S.checked n) 0) (place S.checked d.body) v)
 Follows S F n (Block b) p v = F (Has p (place S.checked b) v)
 Follows S F n (Binding y a) p v = F (Has p (place S.checked a) v)
-Follows S F n (Param y k) p v = (p ≡ outermost) × IsInput S n v
+Follows S F n (Param y k) p v = FollowsParam S F n p v
 Follows S F n _ p v = ⊥
 
 -- a thing stands there, and at its node the value follows
@@ -101,12 +165,12 @@ pub record FollowsAt (S : Source) (F : Fact → Type 0) (p : Path) (e : ℕ) (v 
   pub here : place S.checked row ≡ e
   pub follows : Follows S F row node p v
 
-param_follows : {S : Source} (F : Fact → Type 0) {b : ℕ} {v : SourceValue} (n : Node) → Stands S.checked b n → is_param n ≡ true → IsInput S b v → FollowsAt S F outermost (place S.checked b) v
-param_follows F (Param x k) s t i = record { row = _; node = _; stands = s; thing = refl; here = refl; follows = (refl, i) }
+param_follows : {S : Source} (F : Fact → Type 0) {b : ℕ} {p : Path} {v : SourceValue} (n : Node) → Stands S.checked b n → is_param n ≡ true → FollowsParam S F b p v → FollowsAt S F p (place S.checked b) v
+param_follows F (Param x k) s t i = record { row = _; node = _; stands = s; thing = refl; here = refl; follows = i }
 param_follows F _ s t i = absurd (false≢true t)
 
 pub follows_by : {S : Source} (F : Fact → Type 0) {p : Path} {e : ℕ} {v : SourceValue} {fs : List Fact} → Rule S fs (Has p e v) → Every F fs → FollowsAt S F p e v
-follows_by F (param_has i) h = let q = input_param i in param_follows F _ (record { within = q.0; node = refl }) q.1 i
+follows_by F (param_has i) h = let q = input_param i in param_follows F _ (record { within = q.0; node = refl }) q.1 (inl (refl, i))
 follows_by F (literal_has s) h = record { row = _; node = _; stands = s; thing = refl; here = refl; follows = refl }
 follows_by F (unary_has {x = x} c s is) h = record { row = _; node = _; stands = s; thing = refl; here = refl; follows = (c, x, h.1.0, is, refl) }
 follows_by F (binary_has {x = x} c d s is) h = record { row = _; node = _; stands = s; thing = refl; here = refl; follows = (c, d, x, h.1.0, h.1.1.0, is, refl) }
@@ -114,6 +178,15 @@ follows_by F (name_has {b = b} s is) h = record { row = _; node = _; stands = s;
 follows_by F (conditional_has {t = t} {a = a} {b = b} c) h =
     let d = choice c in
     record { row = _; node = If d.split d.then d.otherwise; stands = d.stands; thing = refl; here = refl; follows = (t, b, a, d, h.1.0, h.1.1.0) }
+follows_by {S} F (argument_has {n = n} {h = g} {m = m} {i = i} {v = a} {q = q} {p = p} s t is def there) h =
+    let R = rows S.checked in
+    let w = params-among R g (length R) q (Among-from_at q (params_at R g) i there) in
+    let call : IsCall S n = record { enter = _; count = _; def = _; name = _; head = g; kind = _; body = _; stands = s; binder = is; definition = def } in
+    param_follows F _ (record { within = w.0; node = refl }) w.1
+    (inr (record { call = n; outer = p; is_call = call; row = m; index = i; value = a; argument = t; param = there; path = refl; has = h.1.0 }))
+follows_by {S} F (call_has {n = n} s is def) h =
+    let call : IsCall S n = record { enter = _; count = _; def = _; name = _; head = _; kind = _; body = _; stands = s; binder = is; definition = def } in
+    record { row = n; node = _; stands = s; thing = refl; here = refl; follows = (call, h.1.0) }
 follows_by F (block_has s) h = record { row = _; node = _; stands = s; thing = refl; here = refl; follows = h.1.0 }
 follows_by F (binding_has s) h = record { row = _; node = _; stands = s; thing = refl; here = refl; follows = h.0 }
 
@@ -134,6 +207,30 @@ one_outcome a b e p q = cc
 -- the values of a place are those of earlier rounds' one value
 abbrev Earlier : Source → ℕ → Type 0
 Earlier S n = (p : Path) (e : ℕ) (v w : SourceValue) → Rounds S n (Has p e v) → Holds S (Has p e w) → v ≡ w
+
+-- what calls pass on at a path is one value
+one_passed : (S : Source) (m : ℕ) → Earlier S m → (b : ℕ) (p : Path) (v w : SourceValue) → IsPassed S (Rounds S m) b p v → IsPassed S (Holds S) b p w → v ≡ w
+one_passed S m early b p v w h k =
+    let P = S.checked in
+    let R = rows P in
+    let z = below-once h.outer k.outer (place P h.call) (place P k.call) 0 (sym h.path ∙ k.path) in
+    let x = h.is_call.stands in
+    let y = k.is_call.stands in
+    let n : h.call ≡ k.call = (apart_of P).apart h.call k.call x.within y.within (ap is_thing x.node) (ap is_thing y.node) z.1 in
+    let c = one_call h.is_call k.is_call n in
+    let hs = params_at R h.is_call.head in
+    let i : h.index ≡ k.index =
+    once hs b h.index k.index (params-differ R h.is_call.head (length R)) h.param (ap (λ g. slice_get (params_at R g) k.index) c.head ∙ k.param) in
+    let a : h.value ≡ k.value = one_argument S h.row k.row h.is_call.enter k.is_call.enter h.index k.index h.value k.value h.argument k.argument c.enter i in
+    let A : Path → Type 0 = λ q. Holds S (Has q (place P k.value) w) in
+    let B : ℕ → Type 0 = λ j. Holds S (Has h.outer (place P j) w) in
+    early h.outer (place P h.value) v w h.has (subst B (sym a) (subst A (sym z.0) k.has))
+
+one_param : (S : Source) (m : ℕ) → Earlier S m → (b : ℕ) (p : Path) (v w : SourceValue) → FollowsParam S (Rounds S m) b p v → FollowsParam S (Holds S) b p w → v ≡ w
+one_param S m early b p v w (inl h) (inl k) = one_input h.1 k.1
+one_param S m early b p v w (inl h) (inr k) = absurd (none-below k.outer (place S.checked k.call) 0 (sym h.0 ∙ k.path))
+one_param S m early b p v w (inr h) (inl k) = absurd (none-below h.outer (place S.checked h.call) 0 (sym k.0 ∙ h.path))
+one_param S m early b p v w (inr h) (inr k) = one_passed S m early b p v w h k
 
 -- what follows at a node is one value
 one_at_node : (S : Source) (m : ℕ) → Earlier S m → (n : ℕ) (z : Node) (p : Path) (v w : SourceValue) → Follows S (Rounds S m) n z p v → Follows S (Holds S) n z p w → v ≡ w
@@ -159,9 +256,13 @@ one_at_node S m early n (If s x y) p v w h k =
     let b : h.1 ≡ k.1 = cc in
     let a = one_arm k.3 h.3 (sym b) in
     early p _ v w h.5 (subst (λ i. Holds S (Has p (place S.checked i) w)) a k.5)
+one_at_node S m early n (Call e c) p v w h k =
+    let q = one_call h.0 k.0 refl in
+    let F : ℕ → Type 0 = λ b. Holds S (Has (below p (place S.checked n) 0) (place S.checked b) w) in
+    early (below p (place S.checked n) 0) (place S.checked h.0.body) v w h.1 (subst F (sym q.body) k.1)
 one_at_node S m early n (Block b) p v w h k = early p _ v w h k
 one_at_node S m early n (Binding y a) p v w h k = early p _ v w h k
-one_at_node S m early n (Param y k) p v w h l = one_input h.1 l.1
+one_at_node S m early n (Param y k) p v w h l = one_param S m early n p v w h l
 one_at_node S m early n _ p v w h k = absurd h
 
 one_by_round : (S : Source) (n : ℕ) → Earlier S n

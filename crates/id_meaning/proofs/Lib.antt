@@ -3,10 +3,14 @@ pub mod ParamsLemmas
 pub mod RoundsLemmas
 pub mod Coherence
 pub mod LinksLemmas
+mod CallsLemmas
+mod ArgumentsLemmas
 pub mod CellsLemmas
+pub mod ChainsLemmas
+pub mod PathsLemmas
 pub mod StepLemmas
 pub mod RunLemmas
 pub mod InputsLemmas
+pub mod OrdersLemmas
 pub mod ListedLemmas
 pub mod PlacedLemmas
-pub mod PathsLemmas

@@ -13,12 +13,12 @@ use Rattle.id_meaning.specs.declared.edges.Edges.{Edges}
 use Rattle.id_list.proofs.PlacesLemmas.{slice_get-left, slice_get-last}
 use Rattle.id_parts.specs.declared.row.Row.{Row}
 use Rattle.id_parts.specs.declared.row.Node.{Node}
-use Rattle.id_parts.specs.declared.row.Node.TheVariants.{Unary, Binary, Split, If, Block, Binding}
+use Rattle.id_parts.specs.declared.row.Node.TheVariants.{Unary, Binary, Split, If, Call, Block, Binding}
 use Rattle.id_parts.specs.Rows.{at}
-use Rattle.id_parts.specs.Tables.{around, is_block, is_binding}
-use Rattle.id_parts.specs.Turns.{IsStatement, Turns, operand, left, right, test, body, statement, in_block}
+use Rattle.id_parts.specs.Tables.{around, is_block, is_binding, is_call}
+use Rattle.id_parts.specs.Turns.{IsStatement, Turns, operand, left, right, test, argument, body, statement, in_block}
 use Rattle.id_meaning.specs.declared.links.Statement.{Statement}
-use Rattle.id_meaning.specs.Links.{AreNone, AreOpen, AreReadsTo, AreTurnsTo, Gains, GainsTo, Leads, Statements, Statements_at, StatementsRise, Takes, TakesAll, beyond, parts_turned, reads_at, reads_of, some_row, targets, test_of, width}
+use Rattle.id_meaning.specs.Links.{AreNone, AreOpen, AreReadsTo, AreTurnsTo, Gains, GainsTo, Leads, Statements, Statements_at, StatementsRise, Takes, TakesAll, TurnsOn, beyond, parts_turned, reads_at, reads_of, some_row, targets, test_of, width}
 
 -- ---- edges
 
@@ -220,16 +220,17 @@ in_block-before R i (suc s) l =
     both-false (in_block R i s) (is_block (at R s).node && around R s i) (in_block-before R i s (omega arith)) (and-late (is_block (at R s).node) (around R s i) k)
 
 -- what an expression turns On is a part, or a statement's expression
-turned-part : (R : List Row) (n a : ℕ) → Turns R n a → Among a (parts_turned R (at R n).node) ⊎ ((m : ℕ) × (x : ℕ) × IsStatement R n m × ((at R m).node ≡ Binding x a))
-turned-part R n a (operand {o = o} e) = let P : Node → Type 0 = λ z. Among a (parts_turned R z) in inl (subst P (sym e) (inl refl))
-turned-part R n a (left {b = b} {o = o} e) = let P : Node → Type 0 = λ z. Among a (parts_turned R z) in inl (subst P (sym e) (inl refl))
-turned-part R n a (right {b = b} {o = o} e) = let P : Node → Type 0 = λ z. Among a (parts_turned R z) in inl (subst P (sym e) (inr (inl refl)))
-turned-part R n a (test e f) =
+turned-part : (R : List Row) (n a : ℕ) → is_call (at R n).node ≡ false → Turns R n a → Among a (parts_turned R (at R n).node) ⊎ ((m : ℕ) × (x : ℕ) × IsStatement R n m × ((at R m).node ≡ Binding x a))
+turned-part R n a k (operand {o = o} e) = let P : Node → Type 0 = λ z. Among a (parts_turned R z) in inl (subst P (sym e) (inl refl))
+turned-part R n a k (left {b = b} {o = o} e) = let P : Node → Type 0 = λ z. Among a (parts_turned R z) in inl (subst P (sym e) (inl refl))
+turned-part R n a k (right {b = b} {o = o} e) = let P : Node → Type 0 = λ z. Among a (parts_turned R z) in inl (subst P (sym e) (inr (inl refl)))
+turned-part R n a k (test e f) =
     let P : Node → Type 0 = λ z. Among a (parts_turned R z) in
     let Q : Node → Type 0 = λ z. Among a (some_row (test_of z)) in
     inl (subst P (sym e) (subst Q (sym f) (inl refl)))
-turned-part R n a (body e) = let P : Node → Type 0 = λ z. Among a (parts_turned R z) in inl (subst P (sym e) (inl refl))
-turned-part R n a (statement {m = m} {x = x} s e) = inr (m, x, s, e)
+turned-part R n a k (argument e l f) = let c : true ≡ false = sym (ap is_call e) ∙ k in absurd (true≢false c)
+turned-part R n a k (body e) = let P : Node → Type 0 = λ z. Among a (parts_turned R z) in inl (subst P (sym e) (inl refl))
+turned-part R n a k (statement {m = m} {x = x} s e) = inr (m, x, s, e)
 
 part-turned : (R : List Row) (n a : ℕ) (z : Node) → (at R n).node ≡ z → Among a (parts_turned R z) → Turns R n a
 part-turned R n a (Unary o b) e (inl q) = let P : ℕ → Type 0 = λ c. Turns R n c in subst P (sym q) (operand e)
@@ -247,22 +248,27 @@ part-turned R n a (Block b) e (inl q) = let P : ℕ → Type 0 = λ c. Turns R n
 part-turned R n a (Block b) e (inr f) = absurd f
 part-turned R n a _ e h = absurd h
 
+-- a call's arguments are none of these parts
+part-plain : (R : List Row) (a : ℕ) (z : Node) → Among a (parts_turned R z) → is_call z ≡ false
+part-plain R a (Call e c) h = absurd h
+part-plain R a _ h = refl
+
 -- at a row that is no block only its parts are added
 module _ (R : List Row) (n : ℕ) (E F : Edges) (ss : List Statement) (t : AreTurnsTo R n E) (o : AreOpen R n ss) (g : Gains E F n (parts_turned R (at R n).node)) where
   -- the edges of earlier rows, and of the parts of this one, are kept
-  earlier : (G : Edges) → ((m b : ℕ) → Leads F m b → Leads G m b) → (m a : ℕ) → m < n → m < length R → Turns R m a → Leads G m a
+  earlier : (G : Edges) → ((m b : ℕ) → Leads F m b → Leads G m b) → (m a : ℕ) → m < n → m < length R → TurnsOn R m a → Leads G m a
   earlier G more m a l w h = more m a (g.kept m a (t.all m a l w h))
 
   part : (G : Edges) → ((m b : ℕ) → Leads F m b → Leads G m b) → (a : ℕ) → n < length R → Among a (parts_turned R (at R n).node) → Leads G n a
   part G more a w h = let q = t.wide in more n a (g.added a (omega arith) h)
 
-  from : (m a : ℕ) → Leads F m a → (m < suc n) × Turns R m a
+  from : (m a : ℕ) → Leads F m a → (m < suc n) × TurnsOn R m a
   from m a h = elim (g.only m a h) [
     | inl i ↦ let k = t.only m a i in (omega (arith, k.0), k.1)
     | inr i ↦
-        let P : ℕ → Type 0 = λ j. (j < suc n) × Turns R j a in
+        let P : ℕ → Type 0 = λ j. (j < suc n) × TurnsOn R j a in
         let l : n < suc n = omega arith in
-        subst P (sym i.0) (l, part-turned R n a (at R n).node refl i.1)
+        subst P (sym i.0) (l, (part-turned R n a (at R n).node refl i.1, part-plain R a (at R n).node i.1))
   ]
 
   plain-turns : is_block (at R n).node ≡ false → AreTurnsTo R (suc n) F
@@ -270,10 +276,10 @@ module _ (R : List Row) (n : ℕ) (E F : Edges) (ss : List Statement) (t : AreTu
     wide = g.wide ∙ t.wide;
     all = λ m a l w h. elim (eqb_tells m n) [
       | inl q ↦
-          let P : ℕ → Type 0 = λ j. Turns R j a in
+          let P : ℕ → Type 0 = λ j. TurnsOn R j a in
           let Q : ℕ → Type 0 = λ j. Leads F j a in
           let W : ℕ → Type 0 = λ j. j < length R in
-          subst Q (sym q.1) (elim (turned-part R n a (subst P q.1 h)) [
+          subst Q (sym q.1) (elim (turned-part R n a (subst P q.1 h).1 (subst P q.1 h).0) [
             | inl i ↦ part F (λ x y k. k) a (subst W q.1 w) i
             | inr i ↦ (let s = i.2 in let e : true ≡ false = sym s.block ∙ b in absurd (true≢false e))
           ])
@@ -339,9 +345,9 @@ module _ (R : List Row) (n : ℕ) (E F : Edges) (ss : List Statement) (t : AreTu
     wide = k.takes.wide ∙ g.wide ∙ t.wide;
     all = λ m a l v h. elim (eqb_tells m n) [
       | inl q ↦
-          let P : ℕ → Type 0 = λ j. Turns R j a in
+          let P : ℕ → Type 0 = λ j. TurnsOn R j a in
           let Q : ℕ → Type 0 = λ j. Leads G j a in
-          subst Q (sym q.1) (elim (turned-part R n a (subst P q.1 h)) [
+          subst Q (sym q.1) (elim (turned-part R n a (subst P q.1 h).1 (subst P q.1 h).0) [
             | inl i ↦ part G k.takes.kept a w i
             | inr i ↦
                 let s = i.2 in
@@ -363,13 +369,13 @@ module _ (R : List Row) (n : ℕ) (E F : Edges) (ss : List Statement) (t : AreTu
       | inr i ↦
           let s = i.1.0 in
           let z = o.only s i.1.1 in
-          let P : ℕ → Type 0 = λ j. (j < suc n) × Turns R j a in
-          let A : ℕ → Type 0 = λ c. Turns R n c in
+          let P : ℕ → Type 0 = λ j. (j < suc n) × TurnsOn R j a in
+          let A : ℕ → Type 0 = λ c. TurnsOn R n c in
           let l : n < suc n = omega arith in
           let block : is_block (at R n).node ≡ true = ap is_block e in
           let binding : is_binding (at R s.row).node ≡ true = ap is_binding z.2.1 in
           let is : IsStatement R n s.row = record { block = block; binding = binding; inside = around-true R n s.row i.1.2 z.0; right = z.1 } in
-          subst P (sym i.0) (l, subst A (sym i.1.3) (statement is z.2.1))
+          subst P (sym i.0) (l, subst A (sym i.1.3) (statement is z.2.1, ap is_call e))
     ];
   }
 

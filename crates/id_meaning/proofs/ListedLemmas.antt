@@ -1,11 +1,8 @@
--- Lemmas on specs/Listed.antt: the list that the cells give is that of the facts that they show.
-use Rattle.std.proofs.Common.{◌≡◌, ◌⊎◌, inl, inr, ℕ, zero, suc, ◌+◌, ◌≤◌, ◌<◌, ◌||◌, Bool, true, false, nat_eq, Option, None, Some, List, [], ◌∷◌, ◌++◌, length, get_or, if◌then◌else◌, refl, ap, sym, ◌∙◌, subst, arith}
+-- Lemmas on specs/Listed.antt: the list of what the spots show is that of the facts.
+use Rattle.std.proofs.Common.{◌≡◌, ◌⊎◌, inl, inr, ℕ, zero, suc, ◌+◌, ◌<◌, Bool, true, false, Option, None, Some, List, [], ◌∷◌, ◌++◌, length, get_or, if◌then◌else◌, Ordering, Less, Equal, Greater, refl, ap, sym, ◌∙◌, subst, arith}
 use Rattle.std.specs.Prelude.{IsPermutation, Contains}
-use Rattle.std.specs.List.Sorted.{IsNonDecreasingBy}
 use Rattle.std.specs.List.{IsDistinct, AllByRecursion}
-use Rattle.std.specs.Option.{is_some}
-use Rattle.std.proofs.lemmas.Bool.{eqb-true, eqb-false, false≢true}
-use Rattle.std.proofs.lemmas.Bool.Decides.{eqb_tells}
+use Rattle.std.specs.Ordering.{is_eq}
 use Rattle.std.proofs.lemmas.List.Sorted.{Contains-permutation, IsPermutation-sym}
 use Rattle.std.proofs.lemmas.Map.Keys.{IsDistinct-IsPermutation}
 use Rattle.id_list.specs.List.{Among}
@@ -13,20 +10,21 @@ use Rattle.id_list.proofs.AmongLemmas.{Among-either, Among-left, Among-right}
 use Rattle.id_check.specs.declared.checked.Checked.{Checked}
 use Rattle.id_check.specs.Programs.{place}
 use Rattle.id_meaning.specs.declared.SourceValue.{SourceValue}
+use Rattle.id_meaning.specs.declared.Path.{Path}
 use Rattle.id_meaning.specs.declared.Fact.{Fact}
 use Rattle.id_meaning.specs.declared.Fact.TheVariants as fact
-use Rattle.id_meaning.specs.declared.cells.Cell.{Cell}
+use Rattle.id_meaning.specs.declared.cells.Spot.{Spot}
 use Rattle.id_meaning.specs.declared.cells.RowFact.{RowFact}
 use Rattle.id_meaning.specs.declared.cells.RowFact.TheVariants.{On, Has}
-use Rattle.id_meaning.specs.declared.listing.Placed.{Placed}
 use Rattle.id_meaning.specs.Sources.{Source}
-use Rattle.id_meaning.specs.Facts.{outermost}
-use Rattle.id_meaning.specs.Orders.{FactBefore, FactsRise}
 use Rattle.id_meaning.specs.Rounds.{Rounds}
 use Rattle.id_meaning.specs.Computed.{AreFacts}
-use Rattle.id_meaning.specs.Cells.{cell_at}
-use Rattle.id_meaning.specs.Listed.{AreInOrder, AreShown, IsRound, IsThing, Known, fact_of, has_facts, on_fact, on_facts, placed, value_fact}
+use Rattle.id_meaning.specs.Cells.{blank, cell_at, is_at, spot_at}
+use Rattle.id_meaning.specs.Listed.{AreShown, IsRound, Known, fact_cmp, fact_of, facts_in, on_fact, path_at, place_in, spot_facts, steps_in, steps_of, value_fact}
+use Rattle.id_meaning.proofs.CellsLemmas.{at-true, true-at}
 use Rattle.id_meaning.proofs.CheckedLemmas.{apart_of}
+use Rattle.id_meaning.proofs.OrdersLemmas.{FactsRise-up, point_same, same_point, same_point-flips}
+use Rattle.id_meaning.proofs.PathsLemmas.{path-once}
 
 -- ---- lists in another order
 
@@ -43,295 +41,230 @@ among_contained x (y ∷ ys) (suc k) below e = inr (among_contained x ys k (omeg
 moved : {A : Type 0} (xs ys : List A) → IsPermutation xs ys → (x : A) → Among x xs → Among x ys
 moved xs ys p x h = let r = Contains-permutation xs ys x p (contains_among x xs h) in among_contained x ys r.0 r.1 r.2
 
--- ---- rows by place
+-- ---- the facts of a spot
 
--- each stands before all behind it
-abbrev Rising : List Placed → Type 0
-Rising [] = Unit {0}
-Rising (x ∷ xs) = ((y : Placed) → Among y xs → x.place < y.place) × Rising xs
+on-here : (p : Path) (e : ℕ) (b : Bool) (f : Fact) → Among f (on_fact p e b) → (b ≡ true) × (f ≡ fact.On p e)
+on-here p e true f (inl k) = (refl, k)
+on-here p e true f (inr k) = absurd k
+on-here p e false f k = absurd k
 
-abbrev one_place : Placed → Placed → Bool
-one_place x y = nat_eq x.place y.place
+has-here : (p : Path) (e : ℕ) (o : Option SourceValue) (f : Fact) → Among f (value_fact p e o) → (v : SourceValue) × (o ≡ Some v) × (f ≡ fact.Has p e v)
+has-here p e None f h = absurd h
+has-here p e (Some v) f (inl k) = (v, refl, k)
+has-here p e (Some v) f (inr k) = absurd k
 
-eq-flips : (a b : ℕ) (t u : Bool) → nat_eq a b ≡ t → nat_eq b a ≡ u → t ≡ u
-eq-flips a b true true h k = refl
-eq-flips a b false false h k = refl
-eq-flips a b true false h k = let e = eqb-true a b h in let d = eqb-false b a k in absurd (d (sym e))
-eq-flips a b false true h k = let e = eqb-true b a k in let d = eqb-false a b h in absurd (d (sym e))
+-- the fact is one of the spot
+abbrev IsOf : Checked → List Spot → Spot → Fact → Type 0
+IsOf P es s f = ((s.cell.on ≡ true) × (f ≡ fact.On (path_at P es s.path) (place P s.row))) ⊎ ((v : SourceValue) × (s.cell.has ≡ Some v) × (f ≡ fact.Has (path_at P es s.path) (place P s.row) v))
 
-one_place-flips : (x y : Placed) → one_place x y ≡ one_place y x
-one_place-flips x y = eq-flips x.place y.place (nat_eq x.place y.place) (nat_eq y.place x.place) refl refl
+spot-only : (P : Checked) (es : List Spot) (s : Spot) (f : Fact) → Among f (spot_facts P es s) → IsOf P es s f
+spot-only P es s f h = elim (Among-either f (on_fact (path_at P es s.path) (place P s.row) s.cell.on) (value_fact (path_at P es s.path) (place P s.row) s.cell.has) h) [
+  | inl i ↦ inl (on-here (path_at P es s.path) (place P s.row) s.cell.on f i)
+  | inr i ↦ inr (has-here (path_at P es s.path) (place P s.row) s.cell.has f i)
+]
 
-each_among : (P : Placed → Type 0) (xs : List Placed) → ((y : Placed) → Among y xs → P y) → AllByRecursion P xs
-each_among P [] h = tt
-each_among P (x ∷ xs) h = (h x (inl refl), each_among P xs (λ y i. h y (inr i)))
+on-there : (p : Path) (e : ℕ) (b : Bool) → b ≡ true → Among (fact.On p e) (on_fact p e b)
+on-there p e true h = inl refl
+on-there p e false h = cc
 
-among_each : (P : Placed → Type 0) (xs : List Placed) → AllByRecursion P xs → (y : Placed) → Among y xs → P y
-among_each P [] h y i = absurd i
-among_each P (x ∷ xs) h y (inl q) = subst P (sym q) h.0
-among_each P (x ∷ xs) h y (inr i) = among_each P xs h.1 y i
+has-there : (p : Path) (e : ℕ) (o : Option SourceValue) (v : SourceValue) → o ≡ Some v → Among (fact.Has p e v) (value_fact p e o)
+has-there p e None v h = cc
+has-there p e (Some w) v h = let q : v ≡ w = cc in inl (ap (λ x. fact.Has p e x) q)
 
-up-tail : (x : Placed) (xs : List Placed) → IsNonDecreasingBy (λ z. z.place) (x ∷ xs) → IsNonDecreasingBy (λ z. z.place) xs
-up-tail x xs up i j d l m = up (suc i) (suc j) d (omega arith) (omega arith)
+-- those of the spots are each of one of them
+in-only : (P : Checked) (all es : List Spot) (f : Fact) → Among f (facts_in P all es) → (i : ℕ) × (i < length es) × IsOf P all (spot_at es i) f
+in-only P all [] f h = absurd h
+in-only P all (s ∷ es) f h = elim (Among-either f (spot_facts P all s) (facts_in P all es) h) [
+  | inl k ↦ (0, omega arith, spot-only P all s f k)
+  | inr k ↦ (let r = in-only P all es f k in (suc r.0, (let l = r.1 in omega arith), r.2))
+]
 
-up-first : (x : Placed) (xs : List Placed) → IsNonDecreasingBy (λ z. z.place) (x ∷ xs) → (y : Placed) → Among y xs → x.place ≤ y.place
-up-first x xs up y i =
-    let r = contains_among y xs i in
-    let b = up 0 (suc r.0) y (omega arith) (omega (arith, r.1)) in
-    let e : (get_or xs r.0 y).place ≡ y.place = ap (λ z. z.place) r.2 in
-    omega arith
+in-all : (P : Checked) (all es : List Spot) (i : ℕ) (f : Fact) → i < length es → Among f (spot_facts P all (spot_at es i)) → Among f (facts_in P all es)
+in-all P all [] i f l h = absurd (omega arith)
+in-all P all (s ∷ es) zero f l h = Among-left f (spot_facts P all s) (facts_in P all es) h
+in-all P all (s ∷ es) (suc i) f l h = Among-right f (spot_facts P all s) (facts_in P all es) (in-all P all es i f (omega arith) h)
 
-rising : (xs : List Placed) → IsNonDecreasingBy (λ z. z.place) xs → IsDistinct one_place xs → Rising xs
-unfolding IsDistinct
-rising [] up d = tt
-rising (x ∷ xs) up d = (
-  λ y i. (let b = up-first x xs up y i in let n = eqb-false x.place y.place (among_each (λ z. one_place x z ≡ false) xs d.0 y i) in omega (arith, b, n)),
-  rising xs (up-tail x xs up) d.1,
-)
+-- ---- where a fact is known, it is one of a spot
 
--- ---- the rows that have facts
-
--- a row from the number n on has a fact, and this is its place
-record IsPlaced (P : Checked) (n : ℕ) (cs : List Cell) (x : Placed) : Type 0 where
+-- where the row has something at the path, some spot has it
+record Stood (es : List Spot) (p n : ℕ) : Type 0 where
   number : ℕ
-  row : x.row ≡ n + number
-  here : x.place ≡ place P x.row
-  some : (cell_at cs number).on || is_some (cell_at cs number).has ≡ true
+  within : number < length es
+  path : (spot_at es number).path ≡ p
+  row : (spot_at es number).row ≡ n
+  cell : (spot_at es number).cell ≡ cell_at es p n
 
-later : (P : Checked) (n : ℕ) (c : Cell) (cs : List Cell) (x : Placed) → IsPlaced P (suc n) cs x → IsPlaced P n (c ∷ cs) x
-later P n c cs x p = record { number = suc p.number; row = (let e = p.row in omega arith); here = p.here; some = p.some }
+stood : (es : List Spot) (p n : ℕ) → (cell_at es p n ≡ blank → ⊥) → Stood es p n
+stood [] p n h = absurd (h refl)
+stood (s ∷ es) p n h = by (is_at s p n) refl (stood es p n) where
+  by : (t : Bool) → is_at s p n ≡ t → ((cell_at es p n ≡ blank → ⊥) → Stood es p n) → Stood (s ∷ es) p n
+  by true e rest =
+      let k = at-true s p n e in
+      record { number = 0; within = omega arith; path = k.0; row = k.1; cell = sym (ap (λ t. if t then s.cell else cell_at es p n) e) }
+  by false e rest =
+      let same : cell_at (s ∷ es) p n ≡ cell_at es p n = ap (λ t. if t then s.cell else cell_at es p n) e in
+      let k = rest (λ b. h (same ∙ b)) in
+      record { number = suc k.number; within = (let l = k.within in omega arith); path = k.path; row = k.row; cell = k.cell ∙ sym same }
 
-placed-step : (P : Checked) (n : ℕ) (c : Cell) (cs : List Cell) (x : Placed) (b : Bool) → c.on || is_some c.has ≡ b → ((i : Among x (placed P (suc n) cs)) → IsPlaced P (suc n) cs x)
-    → Among x ((if b then record { place = place P n; row = n } ∷ [] else []) ++ placed P (suc n) cs) → IsPlaced P n (c ∷ cs) x
-placed-step P n c cs x true e rest (inl q) =
-    let r : x.row ≡ n = ap (λ z. z.row) q in
-    record { number = 0; row = omega arith; here = ap (λ z. z.place) q ∙ ap (λ m. place P m) (sym r); some = e }
-placed-step P n c cs x true e rest (inr i) = later P n c cs x (rest i)
-placed-step P n c cs x false e rest i = later P n c cs x (rest i)
+-- and no two spots are of one path and row, so that each has what its row has at its path
+abbrev Apart : List Spot → Type 0
+Apart es = (i j : ℕ) → i < length es → j < length es → (spot_at es i).path ≡ (spot_at es j).path → (spot_at es i).row ≡ (spot_at es j).row → i ≡ j
 
-placed-only : (P : Checked) (n : ℕ) (cs : List Cell) (x : Placed) → Among x (placed P n cs) → IsPlaced P n cs x
-placed-only P n [] x h = absurd h
-placed-only P n (c ∷ cs) x h = placed-step P n c cs x (c.on || is_some c.has) refl (placed-only P (suc n) cs x) h
-
--- the row of this number, with its place
-abbrev at_row : Checked → ℕ → Placed
-at_row P n = record { place = place P n; row = n }
-
-placed-first : (P : Checked) (n : ℕ) (x : Placed) (xs : List Placed) (b : Bool) → Among x xs → Among x ((if b then at_row P n ∷ [] else []) ++ xs)
-placed-first P n x xs true h = inr h
-placed-first P n x xs false h = h
-
-placed-all : (P : Checked) (n : ℕ) (cs : List Cell) (j : ℕ) → (cell_at cs j).on || is_some (cell_at cs j).has ≡ true → Among (at_row P (n + j)) (placed P n cs)
-placed-all P n [] j h = absurd (false≢true h)
-placed-all P n (c ∷ cs) zero h =
-    let q : n + 0 ≡ n = omega arith in
-    let F : Bool → Type 0 = λ b. Among (at_row P n) ((if b then at_row P n ∷ [] else []) ++ placed P (suc n) cs) in
-    rw q (subst F (sym h) (inl refl))
-placed-all P n (c ∷ cs) (suc j) h =
-    let q : n + suc j ≡ suc n + j = omega arith in
-    rw q (placed-first P n (at_row P (suc n + j)) (placed P (suc n) cs) (c.on || is_some c.has) (placed-all P (suc n) cs j h))
-
--- rows are those of things, and so no two have one place
-module _ (S : Source) (all : List Cell) (thing : (n : ℕ) → (cell_at all n).on || is_some (cell_at all n).has ≡ true → IsThing S n) where
-  -- the cells are those from the number n on
-  abbrev From : ℕ → List Cell → Type 0
-  From n cs = (j : ℕ) → cell_at all (n + j) ≡ cell_at cs j
-
-  from-next : (n : ℕ) (c : Cell) (cs : List Cell) → From n (c ∷ cs) → From (suc n) cs
-  from-next n c cs h j = let q : suc n + j ≡ n + suc j = omega arith in ap (λ m. cell_at all m) q ∙ h (suc j)
-
-  thing-at : (n : ℕ) (cs : List Cell) → From n cs → (j : ℕ) → (cell_at cs j).on || is_some (cell_at cs j).has ≡ true → IsThing S (n + j)
-  thing-at n cs h j e = thing (n + j) (ap (λ c. c.on || is_some c.has) (h j) ∙ e)
-
-  apart : (n : ℕ) (y : Placed) (cs : List Cell) → IsThing S n → From (suc n) cs → Among y (placed S.checked (suc n) cs) → one_place (at_row S.checked n) y ≡ false
-  apart n y cs t h i = elim (eqb_tells (place S.checked n) y.place) [
-    | inl q ↦
-        let p = placed-only S.checked (suc n) cs y i in
-        let F : ℕ → Type 0 = λ m. IsThing S m in
-        let u : IsThing S y.row = subst F (sym p.row) (thing-at (suc n) cs h p.number p.some) in
-        let e : n ≡ y.row = (apart_of S.checked).apart n y.row t.within u.within t.thing u.thing (q.1 ∙ p.here) in
-        let r = p.row in
+cell-of : (es : List Spot) → Apart es → (i : ℕ) → i < length es → cell_at es (spot_at es i).path (spot_at es i).row ≡ (spot_at es i).cell
+cell-of [] a i l = absurd (omega arith)
+cell-of (s ∷ es) a zero l = ap (λ t. if t then s.cell else cell_at es s.path s.row) (true-at s s.path s.row refl refl)
+cell-of (s ∷ es) a (suc i) l =
+    let e = spot_at es i in
+    by (is_at s e.path e.row) refl (cell-of es (λ j k l m p r. let q : suc j ≡ suc k = a (suc j) (suc k) (omega arith) (omega arith) p r in omega arith) i (omega arith))
+  where
+    by : (t : Bool) → is_at s (spot_at es i).path (spot_at es i).row ≡ t → cell_at es (spot_at es i).path (spot_at es i).row ≡ (spot_at es i).cell
+        → cell_at (s ∷ es) (spot_at es i).path (spot_at es i).row ≡ (spot_at es i).cell
+    by true e rest =
+        let k = at-true s (spot_at es i).path (spot_at es i).row e in
+        let q : 0 ≡ suc i = a 0 (suc i) (omega arith) (omega arith) k.0 k.1 in
         absurd (omega arith)
-    | inr q ↦ q.0
-  ]
+    by false e rest = ap (λ t. if t then s.cell else cell_at es (spot_at es i).path (spot_at es i).row) e ∙ rest
 
-  differ : (n : ℕ) (cs : List Cell) → From n cs → IsDistinct one_place (placed S.checked n cs)
+-- ---- no two facts of the list are of one kind at one point
+
+each_among : (P : Fact → Type 0) (fs : List Fact) → ((g : Fact) → Among g fs → P g) → AllByRecursion P fs
+each_among P [] h = tt
+each_among P (f ∷ fs) h = (h f (inl refl), each_among P fs (λ g i. h g (inr i)))
+
+differ-cons : (f : Fact) (fs : List Fact) → ((g : Fact) → Among g fs → fact_cmp f g ≡ Equal → ⊥) → IsDistinct same_point fs → IsDistinct same_point (f ∷ fs)
+unfolding IsDistinct
+differ-cons f fs h d = (each_among (λ g. same_point f g ≡ false) fs (λ g i. at g i (fact_cmp f g) refl), d)
+  where
+    at : (g : Fact) → Among g fs → (o : Ordering) → fact_cmp f g ≡ o → is_eq o ≡ false
+    at g i Less e = refl
+    at g i Equal e = absurd (h g i e)
+    at g i Greater e = refl
+
+-- the facts of one spot, before others
+on-differ : (p : Path) (e : ℕ) (b : Bool) (fs : List Fact) → (b ≡ true → (g : Fact) → Among g fs → fact_cmp (fact.On p e) g ≡ Equal → ⊥) → IsDistinct same_point fs → IsDistinct same_point (on_fact p e b ++ fs)
+on-differ p e true fs h d = differ-cons (fact.On p e) fs (h refl) d
+on-differ p e false fs h d = d
+
+has-differ : (p : Path) (e : ℕ) (o : Option SourceValue) (fs : List Fact) → ((v : SourceValue) → o ≡ Some v → (g : Fact) → Among g fs → fact_cmp (fact.Has p e v) g ≡ Equal → ⊥) → IsDistinct same_point fs → IsDistinct same_point (value_fact p e o ++ fs)
+has-differ p e None fs h d = d
+has-differ p e (Some v) fs h d = differ-cons (fact.Has p e v) fs (h v refl) d
+
+-- On and Has differ
+kinds-differ : (p q : Path) (d e : ℕ) (v : SourceValue) → fact_cmp (fact.On p d) (fact.Has q e v) ≡ Equal → ⊥
+kinds-differ p q d e v h = let k = (point_same (fact.On p d) (fact.Has q e v) h).0 in omega arith
+
+append-same : {A : Type 0} (xs ys zs : List A) → (xs ++ ys) ++ zs ≡ xs ++ (ys ++ zs)
+append-same [] ys zs = refl
+append-same (x ∷ xs) ys zs = ap (λ l. x ∷ l) (append-same xs ys zs)
+
+-- where a fact of a spot stands
+at-steps : (P : Checked) (es : List Spot) (s : Spot) (f : Fact) → IsOf P es s f → (steps_in f ≡ steps_of P es s.path s.path) × (place_in f ≡ place P s.row)
+at-steps P es s f (inl h) = (ap (λ g. steps_in g) h.1, ap (λ g. place_in g) h.1)
+at-steps P es s f (inr h) = (ap (λ g. steps_in g) h.2, ap (λ g. place_in g) h.2)
+
+module _ (S : Source) (n : ℕ) (es : List Spot) (s : IsRound S n es) where
+  -- the spots from the number k on
+  abbrev From : ℕ → List Spot → Type 0
+  From k ds = (j : ℕ) → j < length ds → (k + j < length es) × (spot_at es (k + j) ≡ spot_at ds j)
+
+  from-next : (k : ℕ) (d : Spot) (ds : List Spot) → From k (d ∷ ds) → From (suc k) ds
+  from-next k d ds h j l =
+      let q : suc k + j ≡ k + suc j = omega arith in
+      let r = h (suc j) (omega arith) in
+      (omega (arith, r.0), ap (λ m. spot_at es m) q ∙ r.1)
+
+  -- at one point there is one spot
+  one-spot : (i j : ℕ) → i < length es → j < length es → steps_of S.checked es (spot_at es i).path (spot_at es i).path ≡ steps_of S.checked es (spot_at es j).path (spot_at es j).path
+      → place S.checked (spot_at es i).row ≡ place S.checked (spot_at es j).row → i ≡ j
+  one-spot i j l m e f =
+      let a = s.spots.before i l in
+      let b = s.spots.before j m in
+      let x = s.spots.things i l in
+      let y = s.spots.things j m in
+      let path = path-once S es s.spots (spot_at es i).path (spot_at es j).path (omega arith) (omega arith) (λ k. record { steps = e k }) in
+      s.spots.apart i j l m path ((apart_of S.checked).apart (spot_at es i).row (spot_at es j).row x.within y.within x.thing y.thing f)
+
+  -- facts of a spot and of a later one are at two points
+  later-differ : (k : ℕ) (d : Spot) (ds : List Spot) → From k (d ∷ ds) → (f g : Fact) → IsOf S.checked es d f → Among g (facts_in S.checked es ds) → fact_cmp f g ≡ Equal → ⊥
+  later-differ k d ds h f g o i e =
+      let r = in-only S.checked es ds g i in
+      let t = point_same f g e in
+      let a = at-steps S.checked es d f o in
+      let b = at-steps S.checked es (spot_at ds r.0) g r.2 in
+      let u = h 0 (omega arith) in
+      let v = h (suc r.0) (let l = r.1 in omega arith) in
+      let steps = λ (x : Spot). steps_of S.checked es x.path x.path in
+      let spots = λ (x : Spot). place S.checked x.row in
+      let w = one-spot (k + 0) (k + suc r.0) u.0 v.0 (ap steps u.1 ∙ sym a.0 ∙ t.1 ∙ b.0 ∙ sym (ap steps v.1)) (ap spots u.1 ∙ sym a.1 ∙ t.2 ∙ b.1 ∙ sym (ap spots v.1)) in
+      omega arith
+
+  differ-one : (k : ℕ) (d : Spot) (ds : List Spot) → From k (d ∷ ds) → IsDistinct same_point (facts_in S.checked es ds) → IsDistinct same_point (facts_in S.checked es (d ∷ ds))
+  differ-one k d ds h rest =
+      let P = S.checked in
+      let p = path_at P es d.path in
+      let e = place P d.row in
+      let fs = facts_in P es ds in
+      let had = has-differ p e d.cell.has fs (λ v y g i q. later-differ k d ds h (fact.Has p e v) g (inr (v, y, refl)) i q) rest in
+      let both = on-differ p e d.cell.on (value_fact p e d.cell.has ++ fs) (λ x g i q. elim (Among-either g (value_fact p e d.cell.has) fs i) [
+        | inl j ↦
+            let r = has-here p e d.cell.has g j in
+            let G : Fact → Type 0 = λ z. fact_cmp (fact.On p e) z ≡ Equal in
+            kinds-differ p p e e r.0 (subst G r.2 q)
+        | inr j ↦ later-differ k d ds h (fact.On p e) g (inl (x, refl)) j q
+      ]) had in
+      let F : List Fact → Type 0 = λ gs. IsDistinct same_point gs in
+      subst F (sym (append-same (on_fact p e d.cell.on) (value_fact p e d.cell.has) fs)) both
+
+  -- what is known is among them
+  shown : (f : RowFact) → Known es f → Among (fact_of S es f) (facts_in S.checked es es)
+  shown (On p m) h =
+      let t = stood es p m (λ b. let k : true ≡ false = sym h ∙ ap (λ c. c.on) b in cc) in
+      let e = spot_at es t.number in
+      let q = path_at S.checked es e.path in
+      let i = in-all S.checked es es t.number (fact.On q (place S.checked e.row)) t.within
+      (Among-left (fact.On q (place S.checked e.row)) (on_fact q (place S.checked e.row) e.cell.on) (value_fact q (place S.checked e.row) e.cell.has)
+      (on-there q (place S.checked e.row) e.cell.on (ap (λ c. c.on) t.cell ∙ h))) in
+      let F : ℕ → ℕ → Type 0 = λ a b. Among (fact.On (path_at S.checked es a) (place S.checked b)) (facts_in S.checked es es) in
+      subst (λ b. F p b) t.row (subst (λ a. F a e.row) t.path i)
+  shown (Has p m v) h =
+      let t = stood es p m (λ b. let k : Some v ≡ None = sym h ∙ ap (λ c. c.has) b in cc) in
+      let e = spot_at es t.number in
+      let q = path_at S.checked es e.path in
+      let i = in-all S.checked es es t.number (fact.Has q (place S.checked e.row) v) t.within
+      (Among-right (fact.Has q (place S.checked e.row) v) (on_fact q (place S.checked e.row) e.cell.on) (value_fact q (place S.checked e.row) e.cell.has)
+      (has-there q (place S.checked e.row) e.cell.has v (ap (λ c. c.has) t.cell ∙ h))) in
+      let F : ℕ → ℕ → Type 0 = λ a b. Among (fact.Has (path_at S.checked es a) (place S.checked b) v) (facts_in S.checked es es) in
+      subst (λ b. F p b) t.row (subst (λ a. F a e.row) t.path i)
+
+  differ : (k : ℕ) (ds : List Spot) → From k ds → IsDistinct same_point (facts_in S.checked es ds)
   unfolding IsDistinct
-  differ n [] h = tt
-  differ n (c ∷ cs) h = differ-step (c.on || is_some c.has) refl (differ (suc n) cs (from-next n c cs h)) where
-    differ-step : (b : Bool) → c.on || is_some c.has ≡ b → IsDistinct one_place (placed S.checked (suc n) cs) → IsDistinct one_place ((if b then at_row S.checked n ∷ [] else []) ++ placed S.checked (suc n) cs)
-    differ-step true e d =
-        let z : n + 0 ≡ n = omega arith in
-        let F : ℕ → Type 0 = λ m. IsThing S m in
-        let t : IsThing S n = subst F z (thing-at n (c ∷ cs) h 0 e) in
-        (each_among (λ y. one_place (at_row S.checked n) y ≡ false) (placed S.checked (suc n) cs) (λ y i. apart n y cs t (from-next n c cs h) i), d)
-    differ-step false e d = d
+  differ k [] h = tt
+  differ k (d ∷ ds) h = differ-one k d ds h (differ (suc k) ds (from-next k d ds h))
 
--- ---- that facts rise
-
-rise-cons : (f : Fact) (fs : List Fact) → ((g : Fact) → Among g fs → FactBefore f g) → FactsRise fs → FactsRise (f ∷ fs)
-rise-cons f [] h r = tt
-rise-cons f (g ∷ fs) h r = (h g (inl refl), r)
-
-rise-append : (fs gs : List Fact) → FactsRise fs → FactsRise gs → ((f g : Fact) → Among f fs → Among g gs → FactBefore f g) → FactsRise (fs ++ gs)
-rise-append [] gs r s h = s
-rise-append (f ∷ []) gs r s h = rise-cons f gs (λ g i. h f g (inl refl) i) s
-rise-append (f ∷ e ∷ fs) gs r s h = (r.0, rise-append (e ∷ fs) gs r.1 s (λ x y i j. h x y (inr i) j))
-
--- ---- On
-
-on-here : (e : ℕ) (b : Bool) (f : Fact) → Among f (if b then fact.On outermost e ∷ [] else []) → (b ≡ true) × (f ≡ fact.On outermost e)
-on-here e true f (inl k) = (refl, k)
-on-here e true f (inr k) = absurd k
-on-here e false f k = absurd k
-
-on-only : (cs : List Cell) (xs : List Placed) (f : Fact) → Among f (on_facts cs xs) → (x : Placed) × Among x xs × ((cell_at cs x.row).on ≡ true) × (f ≡ fact.On outermost x.place)
-on-only cs [] f h = absurd h
-on-only cs (x ∷ xs) f h = elim (Among-either f (on_fact x.place (cell_at cs x.row)) (on_facts cs xs) h) [
-  | inl i ↦ let r = on-here x.place (cell_at cs x.row).on f i in (x, inl refl, r.0, r.1)
-  | inr i ↦ let r = on-only cs xs f i in (r.0, inr r.1, r.2, r.3)
-]
-
-on-all : (cs : List Cell) (xs : List Placed) (x : Placed) → Among x xs → (cell_at cs x.row).on ≡ true → Among (fact.On outermost x.place) (on_facts cs xs)
-on-all cs [] x h e = absurd h
-on-all cs (y ∷ xs) x (inl q) e =
-    let F : Bool → Type 0 = λ b. Among (fact.On outermost y.place) (if b then fact.On outermost y.place ∷ [] else []) in
-    let G : Placed → Type 0 = λ z. Among (fact.On outermost z.place) (on_facts cs (y ∷ xs)) in
-    let e2 : (cell_at cs y.row).on ≡ true = ap (λ (z : Placed). (cell_at cs z.row).on) (sym q) ∙ e in
-    subst G (sym q) (Among-left (fact.On outermost y.place) (on_fact y.place (cell_at cs y.row)) (on_facts cs xs) (subst F (sym e2) (inl refl)))
-on-all cs (y ∷ xs) x (inr h) e = Among-right (fact.On outermost x.place) (on_fact y.place (cell_at cs y.row)) (on_facts cs xs) (on-all cs xs x h e)
-
-on-before : (cs : List Cell) (e : ℕ) (xs : List Placed) → ((y : Placed) → Among y xs → e < y.place) → (f : Fact) → Among f (on_facts cs xs) → FactBefore (fact.On outermost e) f
-on-before cs e xs b f h =
-    let r = on-only cs xs f h in
-    let F : Fact → Type 0 = λ g. FactBefore (fact.On outermost e) g in
-    subst F (sym r.3) (inr (refl, b r.0 r.1))
-
-on-step : (cs : List Cell) (e : ℕ) (xs : List Placed) → ((y : Placed) → Among y xs → e < y.place) → (b : Bool) → FactsRise (on_facts cs xs) → FactsRise ((if b then fact.On outermost e ∷ [] else []) ++ on_facts cs xs)
-on-step cs e xs h true r = rise-cons (fact.On outermost e) (on_facts cs xs) (on-before cs e xs h) r
-on-step cs e xs h false r = r
-
-on-rise : (cs : List Cell) (xs : List Placed) → Rising xs → FactsRise (on_facts cs xs)
-on-rise cs [] r = tt
-on-rise cs (x ∷ xs) r = on-step cs x.place xs r.0 (cell_at cs x.row).on (on-rise cs xs r.1)
-
--- ---- Has
-
-has-here : (e : ℕ) (o : Option SourceValue) (f : Fact) → Among f (value_fact e o) → (v : SourceValue) × (o ≡ Some v) × (f ≡ fact.Has outermost e v)
-has-here e None f h = absurd h
-has-here e (Some v) f (inl k) = (v, refl, k)
-has-here e (Some v) f (inr k) = absurd k
-
-has-only : (cs : List Cell) (xs : List Placed) (f : Fact) → Among f (has_facts cs xs) → (x : Placed) × (v : SourceValue) × Among x xs × ((cell_at cs x.row).has ≡ Some v) × (f ≡ fact.Has outermost x.place v)
-has-only cs [] f h = absurd h
-has-only cs (x ∷ xs) f h = elim (Among-either f (value_fact x.place (cell_at cs x.row).has) (has_facts cs xs) h) [
-  | inl i ↦ let r = has-here x.place (cell_at cs x.row).has f i in (x, r.0, inl refl, r.1, r.2)
-  | inr i ↦ let r = has-only cs xs f i in (r.0, r.1, inr r.2, r.3, r.4)
-]
-
-has-all : (cs : List Cell) (xs : List Placed) (x : Placed) (v : SourceValue) → Among x xs → (cell_at cs x.row).has ≡ Some v → Among (fact.Has outermost x.place v) (has_facts cs xs)
-has-all cs [] x v h e = absurd h
-has-all cs (y ∷ xs) x v (inl q) e =
-    let F : Option SourceValue → Type 0 = λ o. Among (fact.Has outermost y.place v) (value_fact y.place o) in
-    let G : Placed → Type 0 = λ z. Among (fact.Has outermost z.place v) (has_facts cs (y ∷ xs)) in
-    let e2 : (cell_at cs y.row).has ≡ Some v = ap (λ (z : Placed). (cell_at cs z.row).has) (sym q) ∙ e in
-    subst G (sym q) (Among-left (fact.Has outermost y.place v) (value_fact y.place (cell_at cs y.row).has) (has_facts cs xs) (subst F (sym e2) (inl refl)))
-has-all cs (y ∷ xs) x v (inr h) e = Among-right (fact.Has outermost x.place v) (value_fact y.place (cell_at cs y.row).has) (has_facts cs xs) (has-all cs xs x v h e)
-
-has-before : (cs : List Cell) (e : ℕ) (v : SourceValue) (xs : List Placed) → ((y : Placed) → Among y xs → e < y.place) → (f : Fact) → Among f (has_facts cs xs) → FactBefore (fact.Has outermost e v) f
-has-before cs e v xs b f h =
-    let r = has-only cs xs f h in
-    let F : Fact → Type 0 = λ g. FactBefore (fact.Has outermost e v) g in
-    subst F (sym r.4) (inl (inr (refl, b r.0 r.2)))
-
-has-step : (cs : List Cell) (e : ℕ) (xs : List Placed) → ((y : Placed) → Among y xs → e < y.place) → (o : Option SourceValue) → FactsRise (has_facts cs xs) → FactsRise (value_fact e o ++ has_facts cs xs)
-has-step cs e xs h None r = r
-has-step cs e xs h (Some v) r = rise-cons (fact.Has outermost e v) (has_facts cs xs) (has-before cs e v xs h) r
-
-has-rise : (cs : List Cell) (xs : List Placed) → Rising xs → FactsRise (has_facts cs xs)
-has-rise cs [] r = tt
-has-rise cs (x ∷ xs) r = has-step cs x.place xs r.0 (cell_at cs x.row).has (has-rise cs xs r.1)
-
--- ---- all facts
-
--- On comes before Has
-on-first : (cs : List Cell) (xs : List Placed) (f g : Fact) → Among f (on_facts cs xs) → Among g (has_facts cs xs) → FactBefore f g
-on-first cs xs f g h k =
-    let r = on-only cs xs f h in
-    let s = has-only cs xs g k in
-    let F : Fact → Type 0 = λ x. FactBefore x g in
-    let G : Fact → Type 0 = λ x. FactBefore (fact.On outermost r.0.place) x in
-    subst F (sym r.3) (subst G (sym s.4) tt)
-
-some-fact : (c : Cell) → c.on || is_some c.has ≡ true → (c.on ≡ true) ⊎ ((v : SourceValue) × (c.has ≡ Some v))
-some-fact c h = by c.on c.has h where
-  by : (b : Bool) (o : Option SourceValue) → b || is_some o ≡ true → (b ≡ true) ⊎ ((v : SourceValue) × (o ≡ Some v))
-  by true o k = inl refl
-  by false None k = cc
-  by false (Some v) k = inr (v, refl)
-
-or-left : (b c : Bool) → b ≡ true → b || c ≡ true
-or-left true c h = refl
-or-left false c h = cc
-
-or-right : (b c : Bool) → c ≡ true → b || c ≡ true
-or-right true c h = refl
-or-right false c h = h
-
-module _ (S : Source) (n : ℕ) (cs : List Cell) (s : IsRound S n cs) (xs : List Placed) (o : AreInOrder S.checked cs xs) where
-  thing-of : (m : ℕ) → (cell_at cs m).on || is_some (cell_at cs m).has ≡ true → IsThing S m
-  thing-of m h = elim (some-fact (cell_at cs m) h) [
-    | inl k ↦ s.thing (On m) k
-    | inr k ↦ s.thing (Has m k.0) k.1
-  ]
-
-  from-first : (j : ℕ) → cell_at cs (0 + j) ≡ cell_at cs j
-  from-first j = let q : 0 + j ≡ j = omega arith in ap (λ m. cell_at cs m) q
-
-  up : Rising xs
-  up = rising xs o.up (IsDistinct-IsPermutation one_place one_place-flips (placed S.checked 0 cs) xs o.same (differ S cs thing-of 0 cs from-first))
-
-  listed : (m : ℕ) → (cell_at cs m).on || is_some (cell_at cs m).has ≡ true → Among (at_row S.checked m) xs
-  listed m h =
-      let q : 0 + m ≡ m = omega arith in
-      let F : ℕ → Type 0 = λ k. Among (at_row S.checked k) (placed S.checked 0 cs) in
-      moved (placed S.checked 0 cs) xs o.same (at_row S.checked m) (subst F q (placed-all S.checked 0 cs m h))
-
-  here-of : (x : Placed) → Among x xs → x.place ≡ place S.checked x.row
-  here-of x h = (placed-only S.checked 0 cs x (moved xs (placed S.checked 0 cs) (IsPermutation-sym (placed S.checked 0 cs) xs o.same) x h)).here
-
-  abbrev Facts : List Fact
-  Facts = on_facts cs xs ++ has_facts cs xs
-
-  shown : (f : RowFact) → Known cs f → Among (fact_of S f) Facts
-  shown (On m) h = Among-left (fact_of S (On m)) (on_facts cs xs) (has_facts cs xs) (on-all cs xs (at_row S.checked m) (listed m (or-left (cell_at cs m).on (is_some (cell_at cs m).has) h)) h)
-  shown (Has m v) h =
-      Among-right (fact_of S (Has m v)) (on_facts cs xs) (has_facts cs xs)
-      (has-all cs xs (at_row S.checked m) v (listed m (or-right (cell_at cs m).on (is_some (cell_at cs m).has) (ap is_some h))) h)
-
-  pub facts-all : (f : Fact) → Rounds S n f → Among f Facts
+  facts-all : (f : Fact) → Rounds S n f → Among f (facts_in S.checked es es)
   facts-all f h =
       let r = s.all f h in
-      let F : Fact → Type 0 = λ g. Among g Facts in
+      let F : Fact → Type 0 = λ g. Among g (facts_in S.checked es es) in
       subst F (sym r.is) (shown r.fact r.known)
 
-  pub facts-only : (f : Fact) → Among f Facts → Rounds S n f
+  facts-only : (f : Fact) → Among f (facts_in S.checked es es) → Rounds S n f
   facts-only f h =
+      let r = in-only S.checked es es f h in
+      let c = cell-of es s.spots.apart r.0 r.1 in
+      let e = spot_at es r.0 in
       let F : Fact → Type 0 = λ g. Rounds S n g in
-      elim (Among-either f (on_facts cs xs) (has_facts cs xs) h) [
-        | inl i ↦ let r = on-only cs xs f i in subst F (sym (r.3 ∙ ap (λ e. fact.On outermost e) (here-of r.0 r.1))) (s.only (On r.0.row) r.2)
-        | inr i ↦ let r = has-only cs xs f i in subst F (sym (r.4 ∙ ap (λ e. fact.Has outermost e r.1) (here-of r.0 r.2))) (s.only (Has r.0.row r.1) r.3)
+      elim r.2 [
+        | inl k ↦ subst F (sym k.1) (s.only (On e.path e.row) (ap (λ x. x.on) c ∙ k.0))
+        | inr k ↦ subst F (sym k.2) (s.only (Has e.path e.row k.0) (ap (λ x. x.has) c ∙ k.1))
       ]
 
-  facts-are : AreFacts S n Facts
-  facts-are = record {
-    all = facts-all;
-    only = facts-only;
-    rise = rise-append (on_facts cs xs) (has_facts cs xs) (on-rise cs xs up) (has-rise cs xs up) (on-first cs xs);
-  }
-
--- where the cells show the facts of a round, their list is that of its facts
-pub AreFacts-from_cells : (S : Source) (n : ℕ) (cs : List Cell) (fs : List Fact) → IsRound S n cs → AreShown S.checked cs fs → AreFacts S n fs
-AreFacts-from_cells S n cs fs s h =
-    let F : List Fact → Type 0 = λ gs. AreFacts S n gs in
-    subst F (sym h.is) (facts-are S n cs s h.order h.in_order)
+-- where the spots show the facts of a round, their list is that of its facts
+pub AreFacts-from_spots : (S : Source) (n : ℕ) (es : List Spot) (fs : List Fact) → IsRound S n es → AreShown S.checked es fs → AreFacts S n fs
+AreFacts-from_spots S n es fs s h =
+    let all = facts_in S.checked es es in
+    let first : From S n es s 0 es = λ j l. (let q : 0 + j ≡ j = omega arith in (omega arith, ap (λ m. spot_at es m) q)) in
+    record {
+      all = λ f k. moved all fs h.same f (facts-all S n es s f k);
+      only = λ f k. facts-only S n es s f (moved fs all (IsPermutation-sym all fs h.same) f k);
+      rise = FactsRise-up fs h.up (IsDistinct-IsPermutation same_point same_point-flips all fs h.same (differ S n es s 0 es first));
+    }

@@ -1,27 +1,32 @@
--- Facts of a source stand at the empty path, at places of its program.
-use Rattle.std.proofs.Common.{◌≡◌, inl, inr, ℕ, zero, suc, List, [], ◌∷◌, refl}
+-- Facts of a source stand at paths and places of its program.
+use Rattle.std.proofs.Common.{inl, inr, ℕ, zero, suc, List, [], ◌∷◌, length, refl}
+use Rattle.std.specs.Prelude.{All}
+use Rattle.std.proofs.lemmas.List.Elements.{All-append, All-cons, All-nil}
+use Rattle.id_list.proofs.AmongLemmas.{Among-from_at}
 use Rattle.id_tree.specs.Tree.{program_tree}
 use Rattle.id_tree.specs.Distinct.{HasPlace}
 use Rattle.id_parts.specs.Rows.{at}
-use Rattle.id_parts.specs.declared.row.Node.TheVariants.{Unary, Binary, Split, If, Block, Binding}
+use Rattle.id_parts.specs.Turns.{params_at}
+use Rattle.id_parts.specs.declared.row.Node.TheVariants.{Unary, Binary, Split, If, Arg, Block, Binding, Def}
 use Rattle.id_check.specs.declared.checked.Checked.{Checked}
 use Rattle.id_check.specs.Programs.{place, rows}
 use Rattle.id_meaning.specs.declared.Path.{Path}
+use Rattle.id_meaning.specs.declared.PathStep.{PathStep}
 use Rattle.id_meaning.specs.declared.Fact.{Fact}
 use Rattle.id_meaning.specs.declared.Fact.TheVariants.{On, Has}
 use Rattle.id_meaning.specs.declared.SourceFault.{SourceFault}
 use Rattle.id_meaning.specs.Sources.{Source}
-use Rattle.id_meaning.specs.Facts.{outermost, Rule, main_on, literal_has, operand_on, left_on, right_on, unary_has, binary_has, name_has, test_on, arm_on, conditional_has, statement_on, body_on, block_has, binding_has, param_has, FaultRule, unary_fails, binary_fails}
+use Rattle.id_meaning.specs.Facts.{below, outermost, Rule, main_on, literal_has, operand_on, left_on, right_on, unary_has, binary_has, name_has, test_on, arm_on, conditional_has, argument_on, callee_on, argument_has, call_has, statement_on, body_on, block_has, binding_has, param_has, FaultRule, unary_fails, binary_fails}
 use Rattle.id_meaning.specs.Rounds.{Rounds, Every, Holds, Faulty}
 use Rattle.id_meaning.specs.Listed.{IsThing}
 use Rattle.id_meaning.proofs.CheckedLemmas.{placed_of}
 use Rattle.id_meaning.proofs.Coherence.{choice}
-use Rattle.id_meaning.proofs.ParamsLemmas.{input_param}
+use Rattle.id_meaning.proofs.ParamsLemmas.{input_param, params-among}
 use Rattle.id_meaning.proofs.StepLemmas.{arm-among, main-thing, node-thing, part-thing, thing-param}
 
--- the path is the empty one, and the place is one of the program
+-- the places of the path's steps are those of the program, and so is the place
 pub record IsPoint (P : Checked) (p : Path) (e : ℕ) : Type 0 where
-  pub path : p ≡ outermost
+  pub path : All (λ s. HasPlace (program_tree P.program) s.place) p.steps
   pub place : HasPlace (program_tree P.program) e
 
 abbrev pub Placed : Checked → Fact → Type 0
@@ -31,12 +36,24 @@ Placed P (Has p e v) = IsPoint P p e
 thing-place : (S : Source) (n : ℕ) → IsThing S n → HasPlace (program_tree S.checked.program) (place S.checked n)
 thing-place S n t = placed_of S.checked n t.within t.thing
 
+-- the empty path has no steps, and that of a call one more, at the place of the call
+abbrev InTree : Checked → PathStep → Type 0
+InTree P s = HasPlace (program_tree P.program) s.place
+
+no_steps : (S : Source) → All (λ s. HasPlace (program_tree S.checked.program) s.place) outermost.steps
+no_steps S = All-nil (InTree S.checked)
+
+below_steps : (S : Source) (p : Path) (e k : ℕ) → IsPoint S.checked p e → All (λ s. HasPlace (program_tree S.checked.program) s.place) (below p e k).steps
+below_steps S p e k h =
+    let s : PathStep = record { place = e; number = k } in
+    All-append (InTree S.checked) p.steps (s ∷ []) h.path (All-cons (InTree S.checked) s [] h.place (All-nil (InTree S.checked)))
+
 -- what follows from placed facts is placed
 rule_placed : {S : Source} {fs : List Fact} {f : Fact} → Rule S fs f → Every (Placed S.checked) fs → Placed S.checked f
-rule_placed {S} main_on h = record { path = refl; place = thing-place S _ (main-thing S) }
+rule_placed {S} main_on h = record { path = no_steps S; place = thing-place S _ (main-thing S) }
 rule_placed {S} (param_has {b = b} i) h =
     let q = input_param i in
-    record { path = refl; place = thing-place S b (record { within = q.0; thing = thing-param (at (rows S.checked) b).node q.1 }) }
+    record { path = no_steps S; place = thing-place S b (record { within = q.0; thing = thing-param (at (rows S.checked) b).node q.1 }) }
 rule_placed (literal_has s) h = h.0
 rule_placed {S} (operand_on {n = n} {a = a} {o = o} s) h = let p = h.0 in record { path = p.path; place = thing-place S a (part-thing S n a (Unary o a) s refl) }
 rule_placed {S} (left_on {n = n} {a = a} {b = b} {o = o} s) h = let p = h.0 in record { path = p.path; place = thing-place S a (part-thing S n a (Binary o a b) s (inl refl)) }
@@ -53,6 +70,14 @@ rule_placed {S} (arm_on {n = n} {a = a} {b = b} c) h =
     let d = choice c in
     record { path = p.path; place = thing-place S a (part-thing S n a (If d.split d.then d.otherwise) d.stands (arm-among d.then d.otherwise b a d.arm)) }
 rule_placed (conditional_has c) h = h.0
+rule_placed {S} (argument_on {e = e} {m = m} {k = k} {v = v} s t) h = let p = h.0 in record { path = p.path; place = thing-place S v (part-thing S m v (Arg e k v) t refl) }
+rule_placed {S} (callee_on {n = n} {d = d} {x = x} {h = g} {b = b} {k = k} {p = p} s is def) h =
+    record { path = below_steps S p (place S.checked n) 0 h.0; place = thing-place S b (part-thing S d b (Def x g k b) def refl) }
+rule_placed {S} (argument_has {n = n} {h = g} {i = i} {q = q} {p = p} s t is def there) h =
+    let R = rows S.checked in
+    let w = params-among R g (length R) q (Among-from_at q (params_at R g) i there) in
+    record { path = below_steps S p (place S.checked n) 0 h.0; place = thing-place S q (record { within = w.0; thing = thing-param (at R q).node w.1 }) }
+rule_placed {S} (call_has s is def) h = h.0
 rule_placed {S} (statement_on {m = m} {x = x} {a = a} s i t) h = let p = h.0 in record { path = p.path; place = thing-place S a (part-thing S m a (Binding x a) t refl) }
 rule_placed {S} (body_on {n = n} {b = b} s) h = let p = h.0 in record { path = p.path; place = thing-place S b (part-thing S n b (Block b) s refl) }
 rule_placed (block_has s) h = h.0
@@ -72,7 +97,7 @@ round_placed S (suc n) f (inr h) = rule_placed h.1 (every_map (Rounds S n) (Plac
 pub holds_placed : (S : Source) (f : Fact) → Holds S f → Placed S.checked f
 holds_placed S f h = round_placed S h.round f h.there
 
--- a fault of the source stands at the empty path, at a place of its program
+-- a fault of the source stands at a path and a place of its program
 pub fault_placed : (S : Source) (f : SourceFault) → Faulty S f → IsPoint S.checked f.path f.place
 fault_placed S f k = go k.rule (every_map (Holds S) (Placed S.checked) k.premises (holds_placed S) k.hold)
   where

@@ -1,64 +1,54 @@
 -- The cells after one round more, and what is found for the round after it.
-use Rattle.std.proofs.Common.{◌≡◌, ◌⊎◌, inl, inr, ℕ, zero, suc, ◌+◌, ◌-◌, ◌≤◌, ◌<◌, Bool, true, false, Option, None, Some, List, [], ◌∷◌, length, take, replicate, refl, ap, sym, ◌∙◌, subst, arith}
+use Rattle.std.proofs.Common.{◌≡◌, ◌⊎◌, inl, inr, ℕ, zero, suc, ◌+◌, ◌-◌, ◌≤◌, ◌<◌, Bool, true, false, Option, None, Some, List, [], ◌∷◌, length, refl, ap, sym, ◌∙◌, subst, arith}
 use Rattle.std.specs.Prelude.{slice_get}
 use Rattle.std.proofs.lemmas.Bool.{cases_lt, false≢true}
 use Rattle.std.proofs.lemmas.Option.{none-some}
-use Rattle.std.proofs.lemmas.List.{length-replicate}
 use Rattle.id_value.specs.declared.Constant.{Constant}
 use Rattle.id_value.specs.declared.Outcome.{Outcome}
 use Rattle.id_value.specs.declared.Outcome.TheVariants.{Gives, Fails, Lacks}
 use Rattle.id_value.specs.Results.{result_of_unary, result_of_binary}
 use Rattle.id_list.specs.List.{Among}
-use Rattle.id_list.proofs.AmongLemmas.{Among-either, Among-left, Among-right}
+use Rattle.id_list.proofs.AmongLemmas.{Among-either, Among-from_at, Among-left, Among-right}
 use Rattle.id_parts.specs.declared.row.Row.{Row}
 use Rattle.id_parts.specs.declared.row.Node.{Node}
-use Rattle.id_parts.specs.declared.row.Node.TheVariants.{Literal, Name, Unary, Binary, Split, If, Block, Binding}
+use Rattle.id_parts.specs.declared.row.Node.TheVariants.{Literal, Name, Unary, Binary, Split, If, Arg, Call, Block, Binding, Def}
 use Rattle.id_parts.specs.Rows.{at, no_row}
-use Rattle.id_parts.specs.Tables.{HasPart, around, is_block, is_thing}
-use Rattle.id_parts.specs.Turns.{Turns, operand, left, right, test, body, statement}
+use Rattle.id_parts.specs.Tables.{HasPart, around, is_arg, is_block, is_call, is_def, is_thing}
+use Rattle.id_parts.specs.Turns.{Turns, operand, left, right, test, argument, body, params_at, statement}
 use Rattle.id_check.specs.declared.checked.Checked.{Checked}
-use Rattle.id_check.specs.Programs.{Stands, binder, place, rows}
-use Rattle.id_check.proofs.ProgramsLemmas.{table_of}
+use Rattle.id_check.specs.Programs.{Calls, Stands, binder, place, rows}
+use Rattle.id_check.proofs.ProgramsLemmas.{callee_row, table_of}
 use Rattle.id_meaning.specs.declared.Path.{Path}
-use Rattle.id_meaning.specs.declared.PathStep.{PathStep}
 use Rattle.id_meaning.specs.declared.SourceValue.{SourceValue}
 use Rattle.id_meaning.specs.declared.SourceValue.TheVariants.{Int, Bool as Truth}
 use Rattle.id_meaning.specs.declared.Fact.{Fact}
 use Rattle.id_meaning.specs.declared.Fact.TheVariants as fact
-use Rattle.id_meaning.specs.declared.cells.Cell.{Cell}
+use Rattle.id_meaning.specs.declared.cells.Spot.{Spot}
 use Rattle.id_meaning.specs.declared.cells.RowFact.{RowFact}
 use Rattle.id_meaning.specs.declared.cells.RowFact.TheVariants.{On, Has}
 use Rattle.id_meaning.specs.declared.links.Links.{Links}
 use Rattle.id_meaning.specs.Sources.{Source, IsInput, main_params, value_of}
-use Rattle.id_meaning.specs.Facts.{outermost, without, between, Chooses, then_arm, else_arm, main_on, param_has, literal_has, operand_on, left_on, right_on, unary_has, binary_has, name_has, test_on, arm_on, conditional_has, statement_on, body_on, block_has, binding_has}
+use Rattle.id_meaning.specs.Facts.{without, between, Chooses, then_arm, else_arm, main_on, param_has, literal_has, operand_on, left_on, right_on, unary_has, binary_has, name_has, test_on, arm_on, conditional_has, argument_on, callee_on, argument_has, call_has, below, statement_on, body_on, block_has, binding_has}
 use Rattle.id_meaning.specs.Rounds.{Rounds}
-use Rattle.id_meaning.specs.Links.{AreReads, AreTurns, beyond, reads_at, test_of}
-use Rattle.id_meaning.specs.Cells.{all_effects, all_learnt, all_news, arm_of, binary_of, blank, cell_at, chosen, constant_of, first_facts, gained, given as given_by, input_facts, row_of, seen, unary_of, value_fact}
-use Rattle.id_meaning.specs.Listed.{IsRound, IsThing, Known, Shows, fact_of}
-use Rattle.id_meaning.proofs.CellsLemmas.{Effect, Follows, Given, Given_of, Learns, Learns-all, Taken, effects-all, effects-only, given as follows_given, itself, reads as reads-to, some-known, turned as follows_turned, turns as turns-to}
+use Rattle.id_meaning.specs.Links.{AreReads, AreTurns, Leads, beyond, reads_at, reads_of, test_of}
+use Rattle.id_meaning.specs.Cells.{all_effects, all_learnt, all_news, arm_of, binary_of, cell_at, chosen, constant_of, first_facts, gained, given as given_by, input_facts, path_of, row_of, seen, spot_at, unary_of, value_fact, blank, find}
+use Rattle.id_meaning.specs.Listed.{IsRound, IsThing, Known, Shows, fact_of, path_at}
+use Rattle.id_meaning.proofs.ArgumentsLemmas.{argument-get, param_row-some, past, row-within}
+use Rattle.id_meaning.proofs.CallsLemmas.{ArgsLead, Comes, IsOn, asks, begins, comes-on, ends, passes}
+use Rattle.id_meaning.proofs.ChainsLemmas.{found as spot-found, missing}
+use Rattle.id_meaning.proofs.CellsLemmas.{at-true, Effect, Follows, Given, Given_of, Learns, Learns-all, Taken, argument as effect_argument, call as effect_call, effects-all, effects-only, exit as effect_exit, comes as follows_comes, given as follows_given, itself, reads as reads-to, some-known, turned as follows_turned, turns as turns-to}
 use Rattle.id_meaning.proofs.Coherence.{coherence}
 use Rattle.id_meaning.proofs.LinksLemmas.{around-within}
-use Rattle.id_meaning.proofs.ParamsLemmas.{input_param}
+use Rattle.id_meaning.proofs.ParamsLemmas.{input_param, params-among}
+use Rattle.id_meaning.proofs.PathsLemmas.{path-grown, without-none}
 use Rattle.id_meaning.proofs.RoundsLemmas.{Rounds-follow}
-use Rattle.id_meaning.proofs.StepLemmas.{All, Arises, Linked, Picks, binary-some, complete, given, given-used, input, main, main-thing, part-thing, picks, read, seen-some, self, thing-param, turned, unary-some, when-some}
+use Rattle.id_meaning.proofs.StepLemmas.{All, Arises, Linked, Picks, binary-some, call-path, comes, complete, node-thing, given, given-used, input, known_thing, main, main-thing, part-thing, picks, read, seen-some, self, thing-param, turned, unary-some, when-some}
 
 -- ---- what arises follows by a rule
 
 value-constant : (v : SourceValue) → value_of (constant_of v) ≡ v
 value-constant (Int n) = refl
 value-constant (Truth b) = refl
-
--- nothing is left out of the empty path
-take-none : (n : ℕ) → take n outermost.steps ≡ outermost.steps
-take-none zero = refl
-take-none (suc n) = refl
-
-path_of : List PathStep → Path
-path_of ss = record { steps = ss }
-
-without-outermost : (d : ℕ) → without d outermost ≡ outermost
-unfolding path_of
-without-outermost d = ap path_of (take-none (length outermost.steps - d))
 
 given-some : (r : Outcome) (v : SourceValue) → given_by r ≡ Some v → (x : Constant) × (r ≡ Gives x) × (value_of x ≡ v)
 given-some (Gives x) v h = let e : value_of x ≡ v = cc in (x, refl, e)
@@ -69,34 +59,28 @@ block-node : (z : Node) → is_block z ≡ true → (b : ℕ) × (z ≡ Block b)
 block-node (Block b) h = (b, refl)
 block-node _ h = absurd (false≢true h)
 
--- at a row past the last nothing is given
-past : (R : List Row) (n : ℕ) → length R ≤ n → at R n ≡ no_row
-past [] n l = refl
-past (r ∷ R) zero l = absurd (omega arith)
-past (r ∷ R) (suc n) l = past R n (omega arith)
+none-given : (P : Checked) (es : List Spot) (p n : ℕ) (on : Bool) (f : RowFact) → Given_of es p n on (seen es p (beyond P n no_row.node)) no_row.node f → ⊥
+none-given P es p n on (On q a) h = absurd (none-some _ h.1)
+none-given P es p n on (Has q m v) h = absurd (none-some _ h.2)
 
-none-given : (P : Checked) (cs : List Cell) (n : ℕ) (on : Bool) (f : RowFact) → Given_of cs n on (beyond P n no_row.node) no_row.node f → ⊥
-none-given P cs n on (On a) h = absurd (none-some _ h)
-none-given P cs n on (Has m v) h = absurd (none-some _ h.1)
-
-given-within : (P : Checked) (cs : List Cell) (n : ℕ) (f : RowFact) → Given P cs n f → n < length (rows P)
-given-within P cs n f h = elim (cases_lt n (length (rows P))) [
+given-within : (P : Checked) (es : List Spot) (p n : ℕ) (f : RowFact) → Given P es p n f → n < length (rows P)
+given-within P es p n f h = elim (cases_lt n (length (rows P))) [
   | inl l ↦ l
   | inr l ↦
-      let F : Row → Type 0 = λ r. Given_of cs n (cell_at cs n).on (beyond P n r.node) r.node f in
-      absurd (none-given P cs n (cell_at cs n).on f (subst F (past (rows P) n l) h))
+      let F : Row → Type 0 = λ r. Given_of es p n (cell_at es p n).on (seen es p (beyond P n r.node)) r.node f in
+      absurd (none-given P es p n (cell_at es p n).on f (subst F (past (rows P) n l) h))
 ]
 
 -- what gains a value is a thing
-gain-thing : (cs : List Cell) (on : Bool) (b : Option ℕ) (z : Node) (v : SourceValue) → gained cs on b z ≡ Some v → is_thing z ≡ true
-gain-thing cs on b (Literal c) v h = refl
-gain-thing cs on b (Name x) v h = refl
-gain-thing cs on b (Unary o a) v h = refl
-gain-thing cs on b (Binary o a c) v h = refl
-gain-thing cs on b (If s x y) v h = refl
-gain-thing cs on b (Block a) v h = refl
-gain-thing cs on b (Binding x a) v h = refl
-gain-thing cs on b _ v h = absurd (none-some _ h)
+gain-thing : (es : List Spot) (p : ℕ) (on : Bool) (x : Option SourceValue) (z : Node) (v : SourceValue) → gained es p on x z ≡ Some v → is_thing z ≡ true
+gain-thing es p on x (Literal c) v h = refl
+gain-thing es p on x (Name y) v h = refl
+gain-thing es p on x (Unary o a) v h = refl
+gain-thing es p on x (Binary o a c) v h = refl
+gain-thing es p on x (If s a b) v h = refl
+gain-thing es p on x (Block a) v h = refl
+gain-thing es p on x (Binding y a) v h = refl
+gain-thing es p on x _ v h = absurd (none-some _ h)
 
 -- the split of a conditional is a row
 split-within : (S : Source) (n s x y : ℕ) → Stands S.checked n (If s x y) → s < length (rows S.checked)
@@ -112,209 +96,336 @@ some-same x y e = cc
 inside-before : (R : List Row) (n m : ℕ) → around R n m ≡ true → m < n
 inside-before R n m h = (around-within R n m h).1
 
-module _ (S : Source) (k : ℕ) (cs : List Cell) (s : IsRound S k cs) where
-  -- the fact is one of a thing, and of the next round
-  abbrev Sound : RowFact → Type 0
-  Sound f = IsThing S (row_of f) × Rounds S (suc k) (fact_of S f)
+module _ (S : Source) (k : ℕ) (es : List Spot) (s : IsRound S k es) where
+  -- the path of this number
+  abbrev Of : ℕ → Path
+  Of p = path_at S.checked es p
 
-  turned-sound : (n a : ℕ) → n < length (rows S.checked) → Turns (rows S.checked) n a → Known cs (On n) → Sound (On a)
-  turned-sound n a l (operand {o = o} e) on =
+  -- the fact is one of a thing, at a path that is there, and of the next round
+  abbrev Sound : RowFact → Type 0
+  Sound f = IsThing S (row_of f) × (path_of f ≤ length es) × Rounds S (suc k) (fact_of S es f)
+
+  -- the row that is On turns this one On by a rule
+  abbrev Turned : ℕ → ℕ → Type 0
+  Turned p a = IsThing S a × Rounds S (suc k) (fact.On (Of p) (place S.checked a))
+
+  turned-sound : (p n a : ℕ) → n < length (rows S.checked) → is_call (at (rows S.checked) n).node ≡ false → Turns (rows S.checked) n a → Known es (On p n) → Turned p a
+  turned-sound p n a l k (operand {o = o} e) on =
       let st : Stands S.checked n (Unary o a) = record { within = l; node = e } in
-      (part-thing S n a (Unary o a) st refl, inr (fact.On outermost (place S.checked n) ∷ [], operand_on st, (s.only (On n) on, tt)))
-  turned-sound n a l (left {b = b} {o = o} e) on =
+      (part-thing S n a (Unary o a) st refl, inr (fact.On (Of p) (place S.checked n) ∷ [], operand_on st, (s.only (On p n) on, tt)))
+  turned-sound p n a l k (left {b = b} {o = o} e) on =
       let st : Stands S.checked n (Binary o a b) = record { within = l; node = e } in
-      (part-thing S n a (Binary o a b) st (inl refl), inr (fact.On outermost (place S.checked n) ∷ [], left_on st, (s.only (On n) on, tt)))
-  turned-sound n a l (right {a = b} {o = o} e) on =
+      (part-thing S n a (Binary o a b) st (inl refl), inr (fact.On (Of p) (place S.checked n) ∷ [], left_on st, (s.only (On p n) on, tt)))
+  turned-sound p n a l k (right {a = b} {o = o} e) on =
       let st : Stands S.checked n (Binary o b a) = record { within = l; node = e } in
-      (part-thing S n a (Binary o b a) st (inr refl), inr (fact.On outermost (place S.checked n) ∷ [], right_on st, (s.only (On n) on, tt)))
-  turned-sound n a l (test {s = i} {x = x} {y = y} e f) on =
+      (part-thing S n a (Binary o b a) st (inr refl), inr (fact.On (Of p) (place S.checked n) ∷ [], right_on st, (s.only (On p n) on, tt)))
+  turned-sound p n a l k (test {s = i} {x = x} {y = y} e f) on =
       let st : Stands S.checked n (If i x y) = record { within = l; node = e } in
       let sp : Stands S.checked i (Split a) = record { within = split-within S n i x y st; node = f } in
-      (part-thing S i a (Split a) sp refl, inr (fact.On outermost (place S.checked n) ∷ [], test_on (then_arm st sp), (s.only (On n) on, tt)))
-  turned-sound n a l (body e) on =
+      (part-thing S i a (Split a) sp refl, inr (fact.On (Of p) (place S.checked n) ∷ [], test_on (then_arm st sp), (s.only (On p n) on, tt)))
+  turned-sound p n a l k (argument e w f) on = let c : true ≡ false = sym (ap is_call e) ∙ k in cc
+  turned-sound p n a l k (body e) on =
       let st : Stands S.checked n (Block a) = record { within = l; node = e } in
-      (part-thing S n a (Block a) st refl, inr (fact.On outermost (place S.checked n) ∷ [], body_on st, (s.only (On n) on, tt)))
-  turned-sound n a l (statement {m = m} {x = x} i e) on =
+      (part-thing S n a (Block a) st refl, inr (fact.On (Of p) (place S.checked n) ∷ [], body_on st, (s.only (On p n) on, tt)))
+  turned-sound p n a l k (statement {m = m} {x = x} i e) on =
       let z = block-node (at (rows S.checked) n).node i.block in
       let st : Stands S.checked n (Block z.0) = record { within = l; node = z.1 } in
       let w = inside-before (rows S.checked) n m i.inside in
       let tb : Stands S.checked m (Binding x a) = record { within = omega arith; node = e } in
-      (part-thing S m a (Binding x a) tb refl, inr (fact.On outermost (place S.checked n) ∷ [], statement_on st i tb, (s.only (On n) on, tt)))
+      (part-thing S m a (Binding x a) tb refl, inr (fact.On (Of p) (place S.checked n) ∷ [], statement_on st i tb, (s.only (On p n) on, tt)))
 
   -- what a row gains, with what it is gained from
-  abbrev Next : ℕ → SourceValue → Type 0
-  Next n v = Rounds S (suc k) (fact.Has outermost (place S.checked n) v)
+  abbrev Next : ℕ → ℕ → SourceValue → Type 0
+  Next p n v = (p ≤ length es) × Rounds S (suc k) (fact.Has (Of p) (place S.checked n) v)
 
-  name-sound : (n x : ℕ) (v : SourceValue) (o : Option ℕ) → Stands S.checked n (Name x) → binder S.checked n ≡ o → Known cs (On n) → seen cs o ≡ Some v → Next n v
-  name-sound n x v None st e on h = cc
-  name-sound n x v (Some b) st e on h =
-      let P : Path → Type 0 = λ p. Rounds S k (fact.Has p (place S.checked b) v) in
-      inr (
-        fact.On outermost (place S.checked n) ∷ fact.Has (without (between S n b) outermost) (place S.checked b) v ∷ [],
-        name_has st e,
-        (s.only (On n) on, (subst P (sym (without-outermost (between S n b))) (s.only (Has b v) h), tt)),
+  name-sound : (p n x : ℕ) (v : SourceValue) (o : Option ℕ) → Stands S.checked n (Name x) → binder S.checked n ≡ o → Known es (On p n) → seen es p o ≡ Some v → Next p n v
+  name-sound p n x v None st e on h = cc
+  name-sound p n x v (Some b) st e on h =
+      let F : Path → Type 0 = λ q. Rounds S k (fact.Has q (place S.checked b) v) in (
+        s.inside (On p n) on,
+        inr (
+          fact.On (Of p) (place S.checked n) ∷ fact.Has (without (between S n b) (Of p)) (place S.checked b) v ∷ [],
+          name_has st e,
+          (s.only (On p n) on, (subst F (sym (without-none (Of p))) (s.only (Has p b v) h), tt)),
+        ),
       )
 
   -- what is known is known as a constant's value
-  constant-known : (a : ℕ) (w : SourceValue) → Known cs (Has a w) → Rounds S k (fact.Has outermost (place S.checked a) (value_of (constant_of w)))
-  constant-known a w h =
-      let P : SourceValue → Type 0 = λ x. Rounds S k (fact.Has outermost (place S.checked a) x) in
-      subst P (sym (value-constant w)) (s.only (Has a w) h)
+  constant-known : (p a : ℕ) (w : SourceValue) → Known es (Has p a w) → Rounds S k (fact.Has (Of p) (place S.checked a) (value_of (constant_of w)))
+  constant-known p a w h =
+      let P : SourceValue → Type 0 = λ x. Rounds S k (fact.Has (Of p) (place S.checked a) x) in
+      subst P (sym (value-constant w)) (s.only (Has p a w) h)
 
   -- an arm that is chosen is turned On by a rule
-  record Chosen (n a : ℕ) : Type 0 where
+  record Chosen (p n a : ℕ) : Type 0 where
     pub test : ℕ
     pub truth : Bool
     pub chooses : Chooses S n test truth a
     pub thing : IsThing S a
-    pub on : Known cs (On n)
-    pub known : Known cs (Has test (Truth truth))
+    pub on : Known es (On p n)
+    pub known : Known es (Has p test (Truth truth))
 
-  chosen-at : (n s x y a : ℕ) (m : Node) → Stands S.checked n (If s x y) → s < length (rows S.checked) → (at (rows S.checked) s).node ≡ m → Picks cs n x y (test_of m) a → Chosen n a
-  chosen-at n s x y a (Split t) st l f p = go p.truth p.arm p.known
+  chosen-at : (p n s x y a : ℕ) (m : Node) → Stands S.checked n (If s x y) → s < length (rows S.checked) → (at (rows S.checked) s).node ≡ m → Picks es p n x y (test_of m) a → Chosen p n a
+  chosen-at p n s x y a (Split t) st l f k = go k.truth k.arm k.known
     where
-      splits : Stands S.checked s (Split p.test)
-      splits = let q : t ≡ p.test = some-same _ _ p.is_test in record { within = l; node = f ∙ ap (λ i. Split i) q }
+      splits : Stands S.checked s (Split k.test)
+      splits = let q : t ≡ k.test = some-same _ _ k.is_test in record { within = l; node = f ∙ ap (λ i. Split i) q }
 
-      go : (b : Bool) → arm_of x y (Some (Truth b)) ≡ Some a → Known cs (Has p.test (Truth b)) → Chosen n a
-      go true e k =
+      go : (b : Bool) → arm_of x y (Some (Truth b)) ≡ Some a → Known es (Has p k.test (Truth b)) → Chosen p n a
+      go true e h =
           let q : x ≡ a = some-same _ _ e in
-          let c : Chooses S n p.test true a = subst (λ i. Chooses S n p.test true i) q (then_arm st splits) in
-          record { test = p.test; truth = true; chooses = c; thing = part-thing S n a (If s x y) st (inl (sym q)); on = p.on; known = k }
-      go false e k =
+          let c : Chooses S n k.test true a = subst (λ i. Chooses S n k.test true i) q (then_arm st splits) in
+          record { test = k.test; truth = true; chooses = c; thing = part-thing S n a (If s x y) st (inl (sym q)); on = k.on; known = h }
+      go false e h =
           let q : y ≡ a = some-same _ _ e in
-          let c : Chooses S n p.test false a = subst (λ i. Chooses S n p.test false i) q (else_arm st splits) in
-          record { test = p.test; truth = false; chooses = c; thing = part-thing S n a (If s x y) st (inr (sym q)); on = p.on; known = k }
-  chosen-at n s x y a _ st l f p = absurd (none-some _ p.is_test)
+          let c : Chooses S n k.test false a = subst (λ i. Chooses S n k.test false i) q (else_arm st splits) in
+          record { test = k.test; truth = false; chooses = c; thing = part-thing S n a (If s x y) st (inr (sym q)); on = k.on; known = h }
+  chosen-at p n s x y a _ st l f k = absurd (none-some _ k.is_test)
 
-  chosen-by : (n a : ℕ) (z : Node) → Stands S.checked n z → chosen cs (cell_at cs n).on (beyond S.checked n z) z ≡ Some a → Chosen n a
-  chosen-by n a (If s x y) st h =
+  chosen-by : (p n a : ℕ) (z : Node) → Stands S.checked n z → chosen (cell_at es p n).on (seen es p (beyond S.checked n z)) z ≡ Some a → Chosen p n a
+  chosen-by p n a (If s x y) st h =
       let w = split-within S n s x y st in
-      chosen-at n s x y a (at (rows S.checked) s).node st w refl (picks cs n s x y (test_of (at (rows S.checked) s).node) a h)
-  chosen-by n a _ st h = absurd (none-some _ h)
+      chosen-at p n s x y a (at (rows S.checked) s).node st w refl (picks es p n s x y (test_of (at (rows S.checked) s).node) a h)
+  chosen-by p n a _ st h = absurd (none-some _ h)
 
-  arm-sound : (n a : ℕ) → Chosen n a → Sound (On a)
-  arm-sound n a c = (
+  arm-sound : (p n a : ℕ) → Chosen p n a → Sound (On p a)
+  arm-sound p n a c = (
     c.thing,
+    s.inside (On p n) c.on,
     inr (
-      fact.On outermost (place S.checked n) ∷ fact.Has outermost (place S.checked c.test) (Truth c.truth) ∷ [],
+      fact.On (Of p) (place S.checked n) ∷ fact.Has (Of p) (place S.checked c.test) (Truth c.truth) ∷ [],
       arm_on c.chooses,
-      (s.only (On n) c.on, (s.only (Has c.test (Truth c.truth)) c.known, tt)),
+      (s.only (On p n) c.on, (s.only (Has p c.test (Truth c.truth)) c.known, tt)),
     ),
   )
 
-  gain-sound : (n : ℕ) (z : Node) (v : SourceValue) → Stands S.checked n z → gained cs (cell_at cs n).on (beyond S.checked n z) z ≡ Some v → Next n v
-  gain-sound n (Literal c) v st h =
-      let t = when-some (cell_at cs n).on (Some (value_of c)) v h in
+  gain-sound : (p n : ℕ) (z : Node) (v : SourceValue) → Stands S.checked n z → gained es p (cell_at es p n).on (seen es p (beyond S.checked n z)) z ≡ Some v → Next p n v
+  gain-sound p n (Literal c) v st h =
+      let t = when-some (cell_at es p n).on (Some (value_of c)) v h in
       let g : Some (value_of c) ≡ Some v = t.1 in
       let q : value_of c ≡ v = cc in
-      let P : SourceValue → Type 0 = λ x. Next n x in
-      subst P q (inr (fact.On outermost (place S.checked n) ∷ [], literal_has st, (s.only (On n) t.0, tt)))
-  gain-sound n (Name x) v st h =
-      let t = when-some (cell_at cs n).on (seen cs (binder S.checked n)) v h in
-      name-sound n x v (binder S.checked n) st refl t.0 t.1
-  gain-sound n (Unary o a) v st h =
-      let t = when-some (cell_at cs n).on (unary_of o (cell_at cs a).has) v h in
-      let u = unary-some o (cell_at cs a).has v t.1 in
+      let P : SourceValue → Type 0 = λ x. Next p n x in
+      subst P q (s.inside (On p n) t.0, inr (fact.On (Of p) (place S.checked n) ∷ [], literal_has st, (s.only (On p n) t.0, tt)))
+  gain-sound p n (Name x) v st h =
+      let t = when-some (cell_at es p n).on (seen es p (binder S.checked n)) v h in
+      name-sound p n x v (binder S.checked n) st refl t.0 t.1
+  gain-sound p n (Unary o a) v st h =
+      let t = when-some (cell_at es p n).on (unary_of o (cell_at es p a).has) v h in
+      let u = unary-some o (cell_at es p a).has v t.1 in
       let g = given-some (result_of_unary o (constant_of u.0)) v u.2 in
-      let P : SourceValue → Type 0 = λ x. Next n x in
-      subst P g.2 (inr (
-        fact.On outermost (place S.checked n) ∷ fact.Has outermost (place S.checked a) (value_of (constant_of u.0)) ∷ [],
-        unary_has (constant_of u.0) st g.1,
-        (s.only (On n) t.0, (constant-known a u.0 u.1, tt)),
-      ))
-  gain-sound n (Binary o a b) v st h =
-      let t = when-some (cell_at cs n).on (binary_of o (cell_at cs a).has (cell_at cs b).has) v h in
-      let u = binary-some o (cell_at cs a).has (cell_at cs b).has v t.1 in
-      let g = given-some (result_of_binary o (constant_of u.0) (constant_of u.1)) v u.4 in
-      let P : SourceValue → Type 0 = λ x. Next n x in
-      subst P g.2 (inr (
-        fact.On outermost (place S.checked n) ∷ fact.Has outermost (place S.checked a) (value_of (constant_of u.0)) ∷ fact.Has outermost (place S.checked b) (value_of (constant_of u.1)) ∷ [],
-        binary_has (constant_of u.0) (constant_of u.1) st g.1,
-        (s.only (On n) t.0, (constant-known a u.0 u.2, (constant-known b u.1 u.3, tt))),
-      ))
-  gain-sound n (If i x y) v st h =
-      let z = If i x y in
-      let u = seen-some cs (chosen cs (cell_at cs n).on (beyond S.checked n z) z) v h in
-      let c = chosen-by n u.0 z st u.1 in
-      inr (
-        fact.On outermost (place S.checked n) ∷ fact.Has outermost (place S.checked c.test) (Truth c.truth) ∷ fact.Has outermost (place S.checked u.0) v ∷ [],
-        conditional_has c.chooses,
-        (s.only (On n) c.on, (s.only (Has c.test (Truth c.truth)) c.known, (s.only (Has u.0 v) u.2, tt))),
+      let P : SourceValue → Type 0 = λ x. Next p n x in
+      subst P g.2 (
+        s.inside (On p n) t.0,
+        inr (
+          fact.On (Of p) (place S.checked n) ∷ fact.Has (Of p) (place S.checked a) (value_of (constant_of u.0)) ∷ [],
+          unary_has (constant_of u.0) st g.1,
+          (s.only (On p n) t.0, (constant-known p a u.0 u.1, tt)),
+        ),
       )
-  gain-sound n (Block a) v st h =
-      let t = when-some (cell_at cs n).on (cell_at cs a).has v h in
-      inr (fact.On outermost (place S.checked n) ∷ fact.Has outermost (place S.checked a) v ∷ [], block_has st, (s.only (On n) t.0, (s.only (Has a v) t.1, tt)))
-  gain-sound n (Binding x a) v st h = inr (fact.Has outermost (place S.checked a) v ∷ [], binding_has st, (s.only (Has a v) h, tt))
-  gain-sound n _ v st h = absurd (none-some _ h)
+  gain-sound p n (Binary o a b) v st h =
+      let t = when-some (cell_at es p n).on (binary_of o (cell_at es p a).has (cell_at es p b).has) v h in
+      let u = binary-some o (cell_at es p a).has (cell_at es p b).has v t.1 in
+      let g = given-some (result_of_binary o (constant_of u.0) (constant_of u.1)) v u.4 in
+      let P : SourceValue → Type 0 = λ x. Next p n x in
+      subst P g.2 (
+        s.inside (On p n) t.0,
+        inr (
+          fact.On (Of p) (place S.checked n) ∷ fact.Has (Of p) (place S.checked a) (value_of (constant_of u.0)) ∷ fact.Has (Of p) (place S.checked b) (value_of (constant_of u.1)) ∷ [],
+          binary_has (constant_of u.0) (constant_of u.1) st g.1,
+          (s.only (On p n) t.0, (constant-known p a u.0 u.2, (constant-known p b u.1 u.3, tt))),
+        ),
+      )
+  gain-sound p n (If i x y) v st h =
+      let z = If i x y in
+      let u = seen-some es p (chosen (cell_at es p n).on (seen es p (beyond S.checked n z)) z) v h in
+      let c = chosen-by p n u.0 z st u.1 in (
+        s.inside (On p n) c.on,
+        inr (
+          fact.On (Of p) (place S.checked n) ∷ fact.Has (Of p) (place S.checked c.test) (Truth c.truth) ∷ fact.Has (Of p) (place S.checked u.0) v ∷ [],
+          conditional_has c.chooses,
+          (s.only (On p n) c.on, (s.only (Has p c.test (Truth c.truth)) c.known, (s.only (Has p u.0 v) u.2, tt))),
+        ),
+      )
+  gain-sound p n (Block a) v st h =
+      let t = when-some (cell_at es p n).on (cell_at es p a).has v h in
+      (s.inside (On p n) t.0, inr (fact.On (Of p) (place S.checked n) ∷ fact.Has (Of p) (place S.checked a) v ∷ [], block_has st, (s.only (On p n) t.0, (s.only (Has p a v) t.1, tt))))
+  gain-sound p n (Binding x a) v st h = (s.inside (Has p a v) h, inr (fact.Has (Of p) (place S.checked a) v ∷ [], binding_has st, (s.only (Has p a v) h, tt)))
+  gain-sound p n _ v st h = absurd (none-some _ h)
 
-  given-sound : (n : ℕ) (f : RowFact) → Stands S.checked n (at (rows S.checked) n).node → Given S.checked cs n f → Sound f
-  given-sound n (On a) st h = arm-sound n a (chosen-by n a (at (rows S.checked) n).node st h)
-  given-sound n (Has m v) st h =
+  given-sound : (p n : ℕ) (f : RowFact) → Stands S.checked n (at (rows S.checked) n).node → Given S.checked es p n f → Sound f
+  given-sound p n (On q a) st h = subst (λ i. Sound (On i a)) (sym h.0) (arm-sound p n a (chosen-by p n a (at (rows S.checked) n).node st h.1))
+  given-sound p n (Has q m v) st h =
       let z = (at (rows S.checked) n).node in
-      let t : IsThing S n = record { within = st.within; thing = gain-thing cs (cell_at cs n).on (beyond S.checked n z) z v h.1 } in
-      subst (λ i. Sound (Has i v)) (sym h.0) (t, gain-sound n z v st h.1)
+      let t : IsThing S n = record { within = st.within; thing = gain-thing es p (cell_at es p n).on (seen es p (beyond S.checked n z)) z v h.2 } in
+      let g = gain-sound p n z v st h.2 in
+      let F : ℕ → Type 0 = λ i. Sound (Has i m v) in
+      let G : ℕ → Type 0 = λ i. Sound (Has p i v) in
+      subst F (sym h.0) (subst G (sym h.1) (t, g.0, g.1))
 
-  pub sound : (f : RowFact) → Arises S cs f → Sound f
-  sound (On n) (main q) =
-      let P : ℕ → Type 0 = λ m. Sound (On m) in
-      subst P (sym q) (main-thing S, inr ([], main_on, tt))
-  sound (On a) (turned {n = n} l u on) = turned-sound n a l u on
-  sound (Has n v) (input i) =
+  -- a call that is On, with the rows of its parts
+  module _ (p n : ℕ) (c : IsOn S.checked es p n) where
+    call-stands : Stands S.checked n (Call c.enter c.count)
+    call-stands = record { within = row-within (rows S.checked) n is_call refl (ap is_call c.node); node = c.node }
+
+    def-stands : Stands S.checked c.def (Def c.name c.head c.kind c.body)
+    def-stands = record { within = row-within (rows S.checked) c.def is_def refl (ap is_def c.definition); node = c.definition }
+
+    callee-path : Of (c.spot + 1) ≡ below (Of p) (place S.checked n) 0
+    callee-path = sym (call-path S k es s p n (Of p) c refl)
+
+    callee-calls : Calls S.checked c.enter c.def c.head
+    callee-calls =
+        let r = callee_row S.checked n c.enter c.count call-stands in
+        let b : Some r.0 ≡ Some c.def = sym r.2.binder ∙ c.binder in
+        let d : r.0 ≡ c.def = cc in
+        let f : Def r.2.name r.1 r.2.result r.2.body ≡ Def c.name c.head c.kind c.body =
+        sym r.2.definition.node ∙ ap (λ j. (at (rows S.checked) j).node) d ∙ c.definition in
+        let h : r.1 ≡ c.head = cc in
+        subst (λ i. Calls S.checked c.enter c.def i) h (subst (λ i. Calls S.checked c.enter i r.1) d r.2)
+
+    begins-sound : Sound (On (c.spot + 1) c.body)
+    begins-sound =
+        let F : Path → Type 0 = λ q. Rounds S (suc k) (fact.On q (place S.checked c.body)) in
+        let w = c.within in (
+          part-thing S c.def c.body (Def c.name c.head c.kind c.body) def-stands refl,
+          omega arith,
+          subst F (sym callee-path) (inr (fact.On (Of p) (place S.checked n) ∷ [], callee_on call-stands c.binder def-stands, (s.only (On p n) c.on, tt))),
+        )
+
+    ends-sound : (v : SourceValue) → Known es (Has (c.spot + 1) c.body v) → Sound (Has p n v)
+    ends-sound v h =
+        let F : Path → Type 0 = λ q. Rounds S k (fact.Has q (place S.checked c.body) v) in (
+          node-thing S n (Call c.enter c.count) call-stands refl,
+          s.inside (On p n) c.on,
+          inr (
+            fact.On (Of p) (place S.checked n) ∷ fact.Has (below (Of p) (place S.checked n) 0) (place S.checked c.body) v ∷ [],
+            call_has call-stands c.binder def-stands,
+            (s.only (On p n) c.on, (subst F callee-path (s.only (Has (c.spot + 1) c.body v) h), tt)),
+          ),
+        )
+
+    arg-stands : (m i a : ℕ) → (at (rows S.checked) m).node ≡ Arg c.enter i a → Stands S.checked m (Arg c.enter i a)
+    arg-stands m i a is = record { within = row-within (rows S.checked) m is_arg refl (ap is_arg is); node = is }
+
+    asks-sound : (m i a : ℕ) → (at (rows S.checked) m).node ≡ Arg c.enter i a → Sound (On p a)
+    asks-sound m i a is =
+        let t = arg-stands m i a is in (
+          part-thing S m a (Arg c.enter i a) t refl,
+          s.inside (On p n) c.on,
+          inr (fact.On (Of p) (place S.checked n) ∷ [], argument_on call-stands t, (s.only (On p n) c.on, tt)),
+        )
+
+    passes-sound : (m i a b : ℕ) (v : SourceValue) → (at (rows S.checked) m).node ≡ Arg c.enter i a → c.head + 1 + i ≡ b → Known es (Has p a v) → Sound (Has (c.spot + 1) b v)
+    passes-sound m i a b v is e h =
+        let R = rows S.checked in
+        let t = arg-stands m i a is in
+        let w = callee-calls in
+        let there : slice_get (params_at R c.head) i ≡ Some b = argument-get S.checked m c.enter c.def c.head i a w t ∙ ap (λ j. Some j) e in
+        let q = params-among R c.head (length R) b (Among-from_at b (params_at R c.head) i there) in
+        let F : Path → Type 0 = λ r. Rounds S (suc k) (fact.Has r (place S.checked b) v) in
+        let l = c.within in (
+          record { within = q.0; thing = thing-param (at R b).node q.1 },
+          omega arith,
+          subst F (sym callee-path) (inr (
+            fact.On (Of p) (place S.checked n) ∷ fact.Has (Of p) (place S.checked a) v ∷ [],
+            argument_has call-stands t c.binder def-stands there,
+            (s.only (On p n) c.on, (s.only (Has p a v) h, tt)),
+          )),
+        )
+
+  comes-sound : (p n : ℕ) (f : RowFact) → Comes S.checked es p n f → Sound f
+  comes-sound p n f (begins c) = begins-sound p n c
+  comes-sound p n f (ends c {v = v} h) = ends-sound p n c v h
+  comes-sound p n f (asks c m {k = i} {a = a} is) = asks-sound p n c m i a is
+  comes-sound p n f (passes c m {k = i} {a = a} {b = b} {v = v} is e h) = passes-sound p n c m i a b v is (param_row-some (length (rows S.checked)) c.head i b e) h
+
+  pub sound : (f : RowFact) → Arises S es f → Sound f
+  sound (On p n) (main q) =
+      let P : ℕ → Type 0 = λ m. Sound (On 0 m) in
+      subst P (sym q) (main-thing S, omega arith, inr ([], main_on, tt))
+  sound (On p a) (turned {n = n} l u on) = let t = turned-sound p n a l u.1 u.0 on in (t.0, s.inside (On p n) on, t.1)
+  sound (Has p n v) (input i) =
       let q = input_param i in
-      (record { within = q.0; thing = thing-param (at (rows S.checked) n).node q.1 }, inr ([], param_has i, tt))
-  sound f (given n g) = given-sound n f (record { within = given-within S.checked cs n f g; node = refl }) g
+      (record { within = q.0; thing = thing-param (at (rows S.checked) n).node q.1 }, omega arith, inr ([], param_has i, tt))
+  sound f (comes p n c) = comes-sound p n f c
+  sound f (given p n g) = given-sound p n f (record { within = given-within S.checked es p n f g; node = refl }) g
 
 -- ---- one round more
 
--- the cells are those of a round, and these facts are all that arise from them and are not known, perhaps with some that are
-pub record State (S : Source) (k : ℕ) (cs : List Cell) (found : List RowFact) : Type 0 where
-  pub round : IsRound S k cs
-  pub wide : length cs ≡ length (rows S.checked)
-  pub all : (f : RowFact) → Arises S cs f → Known cs f ⊎ Among f found
-  pub only : (f : RowFact) → Among f found → Arises S cs f
+-- the spots are those of a round, and these facts are all that arise from them and are not known, perhaps with some that are
+pub record State (S : Source) (k : ℕ) (es : List Spot) (found : List RowFact) : Type 0 where
+  pub round : IsRound S k es
+  pub all : (f : RowFact) → Arises S es f → Known es f ⊎ Among f found
+  pub only : (f : RowFact) → Among f found → Arises S es f
 
-module _ (S : Source) (k : ℕ) (cs ds : List Cell) (found news : List RowFact) (t : State S k cs found) (l : Learns cs ds found news) where
+module _ (S : Source) (k : ℕ) (es ds : List Spot) (found news : List RowFact) (t : State S k es found) (l : Learns es ds found news) where
+  -- a fact at a path that was there is the same
+  same-fact : (f : RowFact) → path_of f ≤ length es → fact_of S ds f ≡ fact_of S es f
+  same-fact (On p n) w = ap (λ q. fact.On q (place S.checked n)) (path-grown S.checked es ds l.grows t.round.spots.before p w)
+  same-fact (Has p n v) w = ap (λ q. fact.Has q (place S.checked n) v) (path-grown S.checked es ds l.grows t.round.spots.before p w)
+
   -- what is known then is a fact of the next round
-  known-sound : (f : RowFact) → Known ds f → IsThing S (row_of f) × Rounds S (suc k) (fact_of S f)
+  known-sound : (f : RowFact) → Known ds f → Sound S k es t.round f
   known-sound f h = elim (l.only f h) [
-    | inl i ↦ (t.round.thing f i, inl (t.round.only f i))
-    | inr i ↦ sound S k cs t.round f (t.only f (l.news f i))
+    | inl i ↦ (known_thing S k es t.round f i, t.round.inside f i, inl (t.round.only f i))
+    | inr i ↦ sound S k es t.round f (t.only f (l.news f i))
   ]
 
   -- where a row has some value and this one arises, it is that
-  has-arisen : (n : ℕ) (v : SourceValue) → Arises S cs (Has n v) → (w : SourceValue) → Known ds (Has n w) → Known ds (Has n v)
-  has-arisen n v a w h =
-      let x = (known-sound (Has n w) h).1 in
-      let y = (sound S k cs t.round (Has n v) a).1 in
-      let e = coherence S outermost (place S.checked n) w v (record { round = suc k; there = x }) (record { round = suc k; there = y }) in
-      let P : SourceValue → Type 0 = λ z. Known ds (Has n z) in
+  has-arisen : (p n : ℕ) (v : SourceValue) → Arises S es (Has p n v) → (w : SourceValue) → Known ds (Has p n w) → Known ds (Has p n v)
+  has-arisen p n v a w h =
+      let x = (known-sound (Has p n w) h).2 in
+      let y = (sound S k es t.round (Has p n v) a).2 in
+      let e = coherence S (path_at S.checked es p) (place S.checked n) w v (record { round = suc k; there = x }) (record { round = suc k; there = y }) in
+      let P : SourceValue → Type 0 = λ z. Known ds (Has p n z) in
       subst P e h
 
-  taken-arisen : (f : RowFact) → Arises S cs f → Taken ds f → Known ds f
-  taken-arisen (On n) a h = h
-  taken-arisen (Has n v) a h = let w = some-known (cell_at ds n).has h in has-arisen n v a w.0 w.1
+  taken-arisen : (f : RowFact) → Arises S es f → Taken ds f → Known ds f
+  taken-arisen (On p n) a h = h
+  taken-arisen (Has p n v) a h = let w = some-known (cell_at ds p n).has h in has-arisen p n v a w.0 w.1
 
-  arisen : (f : RowFact) → Arises S cs f → Known ds f
+  arisen : (f : RowFact) → Arises S es f → Known ds f
   arisen f a = elim (t.all f a) [
     | inl i ↦ l.kept f i
-    | inr i ↦
-        let w = (sound S k cs t.round f a).0.within in
-        let q = t.wide in
-        taken-arisen f a (l.all f i (omega arith))
+    | inr i ↦ taken-arisen f a (l.all f i (sound S k es t.round f a).1)
   ]
 
   next-all : (f : Fact) → Rounds S (suc k) f → Shows S ds f
   next-all f h =
       let r = Rounds-follow S k f h in
-      let x = complete S k cs t.round r.1 r.2 in
-      record { fact = x.0; known = arisen x.0 x.2; is = x.1 }
+      let x = complete S k es t.round r.1 r.2 in
+      record { fact = x.0; known = arisen x.0 x.2; is = x.1 ∙ sym (same-fact x.0 (sound S k es t.round x.0 x.2).1) }
+
+  next-only : (f : RowFact) → Known ds f → Rounds S (suc k) (fact_of S ds f)
+  next-only f h =
+      let x = known-sound f h in
+      let F : Fact → Type 0 = λ g. Rounds S (suc k) g in
+      subst F (sym (same-fact f x.1)) x.2
+
+  next-thing : (i : ℕ) → i < length ds → IsThing S (spot_at ds i).row
+  next-thing i w =
+      let F : ℕ → Type 0 = λ n. IsThing S n in
+      elim (l.spots i w) [
+        | inl x ↦ subst F (sym (l.grows.row i x)) (t.round.spots.things i x)
+        | inr x ↦ subst F (sym x.row) (sound S k es t.round x.fact (t.only x.fact (l.news x.fact x.among))).0
+      ]
+
+  next-before : (i : ℕ) → i < length ds → (spot_at ds i).path ≤ i
+  next-before i w = elim (l.spots i w) [
+    | inl x ↦ (let e = l.grows.path i x in let b = t.round.spots.before i x in omega arith)
+    | inr x ↦ x.path
+  ]
 
   pub next-round : IsRound S (suc k) ds
-  next-round = record { all = next-all; only = λ f h. (known-sound f h).1; thing = λ f h. (known-sound f h).0 }
+  next-round = record {
+    all = next-all;
+    only = next-only;
+    inside = λ f h. (let w = l.grows.wide in let x = (known-sound f h).1 in omega arith);
+    spots = record { things = next-thing; before = next-before; apart = l.apart t.round.spots.apart };
+  }
 
   -- each of these facts is an old one, or one of them is news
-  old-or-new : (fs : List RowFact) → All (Known ds) fs → All (Known cs) fs ⊎ ((f : RowFact) × Among f fs × Among f news)
+  old-or-new : (fs : List RowFact) → All (Known ds) fs → All (Known es) fs ⊎ ((f : RowFact) × Among f fs × Among f news)
   old-or-new [] h = inl tt
   old-or-new (f ∷ fs) h = elim (l.only f h.0) [
     | inl i ↦ elim (old-or-new fs h.1) [ inl j ↦ inl (i, j) | inr j ↦ inr (j.0, inr j.1, j.2) ]
@@ -327,145 +438,230 @@ module _ (S : Source) (k : ℕ) (cs ds : List Cell) (found news : List RowFact) 
   all-among F (g ∷ fs) f h (inr i) = all-among F fs f h.1 i
 
   module _ (x : Links) (turns : AreTurns (rows S.checked) x.turns) (reads : AreReads S.checked x.reads) where
-    link-effect : (n : ℕ) (f g : RowFact) → n < length (rows S.checked) → Given S.checked ds n g → Known ds f → Linked n (reads_at S.checked n) f → Effect S.checked x ds f g
-    link-effect n (On m) g w h k self = itself h
-    link-effect n (Has a u) g w h k (read i) = reads-to n (reads.all n a w (known-sound (Has a u) k).0.within i) h
+    link-effect : (p n : ℕ) (f g : RowFact) → n < length (rows S.checked) → Given S.checked ds p n g → Known ds f → Linked p n (reads_at S.checked n) f → Effect S.checked x ds f g
+    link-effect p n (On q m) g w h k self = itself h
+    link-effect p n (Has q a u) g w h k (read i) = reads-to n (reads.all n a w (known-sound (Has q a u) k).0.within i) h
 
-    follow-given : (n : ℕ) (f : RowFact) → Given S.checked ds n f → Known ds f ⊎ Among f (all_effects S.checked x ds news)
-    follow-given n f g =
+    -- from what a row reads there is a link to it
+    reads-lead : (m e i a b : ℕ) → (at (rows S.checked) m).node ≡ Arg e i a → b < length (rows S.checked) → Among b (e ∷ a ∷ []) → Leads x.reads b m
+    reads-lead m e i a b is w h =
+        let l = row-within (rows S.checked) m is_arg refl (ap is_arg is) in
+        let F : Node → Type 0 = λ z. Among b (reads_of (beyond S.checked m z) z) in
+        reads.all m b l w (subst F (sym is) h)
+
+    args-lead : ArgsLead S.checked x
+    args-lead m e i a is =
+        let l = row-within (rows S.checked) m is_arg refl (ap is_arg is) in
+        let P : Node → Type 0 = λ z. HasPart z e in
+        let w = ((table_of S.checked).formed.each m l).parts e (subst P (sym is) (inl refl)) in
+        reads-lead m e i a e is (omega (arith, w.1)) (inl refl)
+
+    follow-given : (p n : ℕ) (f : RowFact) → Given S.checked ds p n f → Known ds f ⊎ Among f (all_effects S.checked x ds news)
+    follow-given p n f g =
         let z = (at (rows S.checked) n).node in
-        let y = given-used ds n (beyond S.checked n z) z f g in
-        let w = given-within S.checked ds n f g in
+        let y = given-used ds p n (beyond S.checked n z) z f g in
+        let w = given-within S.checked ds p n f g in
         elim (old-or-new (y.first ∷ y.rest) y.known) [
-          | inl i ↦ inl (arisen f (given n (y.enough cs i)))
+          | inl i ↦ inl (arisen f (given p n (y.enough es i)))
           | inr i ↦
-              let e = link-effect n i.0 f w g (l.told i.0 i.2) (all-among (Linked n (reads_at S.checked n)) (y.first ∷ y.rest) i.0 y.linked i.1) in
-              inr (effects-all S.checked x ds news i.0 f i.2 e)
+              let e = link-effect p n i.0 f w g (l.told i.0 i.2) (all-among (Linked p n (reads_at S.checked n)) (y.first ∷ y.rest) i.0 y.linked i.1) in
+              inr (effects-all S.checked x args-lead ds news i.0 f i.2 e)
         ]
 
-    follow-all : (f : RowFact) → Arises S ds f → Known ds f ⊎ Among f (all_effects S.checked x ds news)
-    follow-all (On n) (main q) = inl (arisen (On n) (main q))
-    follow-all (On a) (turned {n = n} w u h) = elim (l.only (On n) h) [
-      | inl i ↦ inl (arisen (On a) (turned w u i))
-      | inr i ↦ inr (effects-all S.checked x ds news (On n) (On a) i (turns-to (turns.all n a w w u)))
+    call-lead : (n e c : ℕ) → (at (rows S.checked) n).node ≡ Call e c → Leads x.reads e n
+    call-lead n e c is =
+        let l = row-within (rows S.checked) n is_call refl (ap is_call is) in
+        let P : Node → Type 0 = λ z. HasPart z e in
+        let w = ((table_of S.checked).formed.each n l).parts e (subst P (sym is) refl) in
+        let F : Node → Type 0 = λ z. Among e (reads_of (beyond S.checked n z) z) in
+        reads.all n e l (omega (arith, w.1)) (subst F (sym is) (inl refl))
+
+    -- a call that was On before had the same spot
+    on-before : (p n : ℕ) (c : IsOn S.checked ds p n) → Known es (On p n) → find es p n ≡ Some c.spot
+    on-before p n c h = go (find es p n) refl
+      where
+        go : (o : Option ℕ) → find es p n ≡ o → find es p n ≡ Some c.spot
+        go None f = let e : true ≡ false = sym h ∙ ap (λ y. y.on) (missing es p n blank f).0 in cc
+        go (Some j) f =
+            let y = spot-found es p n j blank f in
+            let z = spot-found ds p n c.spot blank c.found in
+            let a = at-true (spot_at es j) p n y.1 in
+            let b = at-true (spot_at ds c.spot) p n z.1 in
+            let w = l.grows.wide in
+            let v = y.0 in
+            let q = next-round.spots.apart j c.spot (omega arith) c.within (l.grows.path j v ∙ a.0 ∙ sym b.0) (l.grows.row j v ∙ a.1 ∙ sym b.1) in
+            f ∙ ap (λ i. Some i) q
+
+    abbrev was-on : (p n : ℕ) (c : IsOn S.checked ds p n) → Known es (On p n) → IsOn S.checked es p n
+    was-on p n c h =
+        let f = on-before p n c h in
+        record {
+          enter = c.enter;
+          count = c.count;
+          def = c.def;
+          name = c.name;
+          head = c.head;
+          kind = c.kind;
+          body = c.body;
+          spot = c.spot;
+          node = c.node;
+          binder = c.binder;
+          definition = c.definition;
+          on = h;
+          found = f;
+          within = (spot-found es p n c.spot blank f).0;
+        }
+
+    call-effect : (f g : RowFact) → Among f news → Effect S.checked x ds f g → Known ds g ⊎ Among g (all_effects S.checked x ds news)
+    call-effect f g i e = inr (effects-all S.checked x args-lead ds news f g i e)
+
+    follow-call : (p n : ℕ) (f : RowFact) → Comes S.checked ds p n f → Known es (On p n) → Known ds f ⊎ Among f (all_effects S.checked x ds news)
+    follow-call p n f (begins c) on = inl (arisen (On (c.spot + 1) c.body) (comes p n (begins (was-on p n c on))))
+    follow-call p n f (asks c m {a = a} is) on = inl (arisen (On p a) (comes p n (asks (was-on p n c on) m is)))
+    follow-call p n f (ends c {v = v} h) on = elim (l.only (Has (c.spot + 1) c.body v) h) [
+      | inl i ↦ inl (arisen (Has p n v) (comes p n (ends (was-on p n c on) i)))
+      | inr i ↦
+          let z = spot-found ds p n c.spot blank c.found in
+          let b = at-true (spot_at ds c.spot) p n z.1 in
+          call-effect (Has (c.spot + 1) c.body v) (Has p n v) i (effect_exit c b.0 b.1 (ends c h))
     ]
-    follow-all (Has n v) (input i) = inl (arisen (Has n v) (input i))
-    follow-all f (given n g) = follow-given n f g
+    follow-call p n f (passes c m {k = j} {a = a} {b = b} {v = v} is e h) on = elim (l.only (Has p a v) h) [
+      | inl i ↦ inl (arisen (Has (c.spot + 1) b v) (comes p n (passes (was-on p n c on) m is e i)))
+      | inr i ↦
+          let t = (known-sound (Has p a v) h).0 in
+          call-effect (Has p a v) (Has (c.spot + 1) b v) i
+          (effect_argument m n (reads-lead m c.enter j a a is t.within (inr (inl refl))) is (call-lead n c.enter c.count c.node) (passes c m is e h))
+    ]
+
+    follow-comes : (p n : ℕ) (f : RowFact) → Comes S.checked ds p n f → Known ds f ⊎ Among f (all_effects S.checked x ds news)
+    follow-comes p n f h = elim (l.only (On p n) (comes-on h).on) [
+      | inl i ↦ follow-call p n f h i
+      | inr i ↦ call-effect (On p n) f i (effect_call h)
+    ]
+
+    follow-all : (f : RowFact) → Arises S ds f → Known ds f ⊎ Among f (all_effects S.checked x ds news)
+    follow-all (On p n) (main q) = inl (arisen (On 0 n) (main q))
+    follow-all (On p a) (turned {n = n} w u h) = elim (l.only (On p n) h) [
+      | inl i ↦ inl (arisen (On p a) (turned w u i))
+      | inr i ↦ inr (effects-all S.checked x args-lead ds news (On p n) (On p a) i (turns-to (turns.all n a w w u)))
+    ]
+    follow-all (Has p n v) (input i) = inl (arisen (Has 0 n v) (input i))
+    follow-all f (given p n g) = follow-given p n f g
+    follow-all f (comes p n h) = follow-comes p n f h
 
     follow-only : (f : RowFact) → Among f (all_effects S.checked x ds news) → Arises S ds f
     follow-only f h = let r = effects-only S.checked x ds news f h in go r.0 f (l.told r.0 r.1) r.2 where
       go : (g f : RowFact) → Known ds g → Follows S.checked x ds g f → Arises S ds f
-      go g (On a) known (follows_turned {n = n} e u) =
+      go g (On q a) known (follows_turned {n = n} e u) =
           let P : RowFact → Type 0 = λ y. Known ds y in
           let w = turns.only n a u in
           turned w.0 w.1 (subst P e known)
-      go g f known (follows_given m e) = given m e
+      go g f known (follows_given p m e) = given p m e
+      go g f known (follows_comes p m e) = comes p m e
 
     pub next-state : State S (suc k) ds (all_effects S.checked x ds news)
-    next-state = record { round = next-round; wide = l.wide ∙ t.wide; all = follow-all; only = follow-only }
+    next-state = record { round = next-round; all = follow-all; only = follow-only }
 
 -- where nothing is news, the facts of all later rounds are those of this one
 module _ (S : Source) (x : Links) (turns : AreTurns (rows S.checked) x.turns) (reads : AreReads S.checked x.reads) where
-  pub still : (d k : ℕ) (cs : List Cell) → State S k cs [] → IsRound S (d + k) cs
-  still zero k cs t =
+  pub still : (d k : ℕ) (es : List Spot) → State S k es [] → IsRound S (d + k) es
+  still zero k es t =
       let e : 0 + k ≡ k = omega arith in
-      let P : ℕ → Type 0 = λ n. IsRound S n cs in
+      let P : ℕ → Type 0 = λ n. IsRound S n es in
       subst P (sym e) t.round
-  still (suc d) k cs t =
+  still (suc d) k es t =
       let e : d + suc k ≡ suc d + k = omega arith in
-      let P : ℕ → Type 0 = λ n. IsRound S n cs in
-      subst P e (still d (suc k) cs (next-state S k cs cs [] [] t (Learns-all cs []) x turns reads))
+      let P : ℕ → Type 0 = λ n. IsRound S n es in
+      subst P e (still d (suc k) es (next-state S k es es [] [] t (Learns-all es []) x turns reads))
 
   -- so the cells are those of round n
-  pub at-rest : (k n : ℕ) (cs ds : List Cell) (found news : List RowFact) → k < n → State S k cs found → ds ≡ all_learnt cs found → news ≡ all_news cs found → news ≡ [] → IsRound S n ds
-  at-rest k n cs ds found news l t e f none =
-      let L : List Cell → List RowFact → Type 0 = λ ys ns. Learns cs ys found ns in
-      let learns : Learns cs ds found news = subst (λ ys. L ys news) (sym e) (subst (L (all_learnt cs found)) (sym f) (Learns-all cs found)) in
+  pub at-rest : (k n : ℕ) (es ds : List Spot) (found news : List RowFact) → k < n → State S k es found → ds ≡ all_learnt es found → news ≡ all_news es found → news ≡ [] → IsRound S n ds
+  at-rest k n es ds found news l t e f none =
+      let L : List Spot → List RowFact → Type 0 = λ ys ns. Learns es ys found ns in
+      let learns : Learns es ds found news = subst (λ ys. L ys news) (sym e) (subst (L (all_learnt es found)) (sym f) (Learns-all es found)) in
       let N : List RowFact → Type 0 = λ ns. State S (suc k) ds (all_effects S.checked x ds ns) in
       let q : n - suc k + suc k ≡ n = omega arith in
       let P : ℕ → Type 0 = λ m. IsRound S m ds in
-      subst P q (still (n - suc k) (suc k) ds (subst N none (next-state S k cs ds found news t learns x turns reads)))
+      subst P q (still (n - suc k) (suc k) ds (subst N none (next-state S k es ds found news t learns x turns reads)))
 
-  pub onward : (k m : ℕ) (cs ds : List Cell) (found news next : List RowFact) → m ≡ suc k → State S k cs found → ds ≡ all_learnt cs found → news ≡ all_news cs found → next ≡ all_effects S.checked x ds news → State S m ds next
-  onward k m cs ds found news next q t e f g =
-      let L : List Cell → List RowFact → Type 0 = λ ys ns. Learns cs ys found ns in
-      let learns : Learns cs ds found news = subst (λ ys. L ys news) (sym e) (subst (L (all_learnt cs found)) (sym f) (Learns-all cs found)) in
+  pub onward : (k m : ℕ) (es ds : List Spot) (found news next : List RowFact) → m ≡ suc k → State S k es found → ds ≡ all_learnt es found → news ≡ all_news es found → next ≡ all_effects S.checked x ds news → State S m ds next
+  onward k m es ds found news next q t e f g =
+      let L : List Spot → List RowFact → Type 0 = λ ys ns. Learns es ys found ns in
+      let learns : Learns es ds found news = subst (λ ys. L ys news) (sym e) (subst (L (all_learnt es found)) (sym f) (Learns-all es found)) in
       let N : List RowFact → Type 0 = λ ns. State S (suc k) ds ns in
       let P : ℕ → Type 0 = λ j. State S j ds next in
-      subst P (sym q) (subst N (sym g) (next-state S k cs ds found news t learns x turns reads))
+      subst P (sym q) (subst N (sym g) (next-state S k es ds found news t learns x turns reads))
 
 -- ---- before the first round
 
-blank-at : (n i : ℕ) → cell_at (replicate n blank) i ≡ blank
-blank-at zero i = refl
-blank-at (suc n) zero = refl
-blank-at (suc n) (suc i) = blank-at n i
-
-blank-unknown : (n : ℕ) (f : RowFact) → Known (replicate n blank) f → ⊥
-blank-unknown n (On m) h = let e : false ≡ true = ap (λ c. c.on) (sym (blank-at n m)) ∙ h in cc
-blank-unknown n (Has m v) h = let e : None ≡ Some v = ap (λ c. c.has) (sym (blank-at n m)) ∙ h in cc
-
-some-fact : (b : ℕ) (o : Option SourceValue) (v : SourceValue) → o ≡ Some v → Among (Has b v) (value_fact b o)
+some-fact : (b : ℕ) (o : Option SourceValue) (v : SourceValue) → o ≡ Some v → Among (Has 0 b v) (value_fact 0 b o)
 some-fact b None v h = cc
-some-fact b (Some w) v h = let e : v ≡ w = cc in inl (ap (λ x. Has b x) e)
+some-fact b (Some w) v h = let e : v ≡ w = cc in inl (ap (λ x. Has 0 b x) e)
 
-fact-some : (b : ℕ) (o : Option SourceValue) (f : RowFact) → Among f (value_fact b o) → (v : SourceValue) × (o ≡ Some v) × (f ≡ Has b v)
+fact-some : (b : ℕ) (o : Option SourceValue) (f : RowFact) → Among f (value_fact 0 b o) → (v : SourceValue) × (o ≡ Some v) × (f ≡ Has 0 b v)
 fact-some b None f h = absurd h
 fact-some b (Some v) f (inl q) = (v, refl, q)
 fact-some b (Some v) f (inr h) = absurd h
 
-input-among : (n : ℕ) (bs : List ℕ) (vs : List SourceValue) (j b : ℕ) (v : SourceValue) → slice_get bs j ≡ Some b → slice_get vs (n + j) ≡ Some v → Among (Has b v) (input_facts n bs vs)
+input-among : (n : ℕ) (bs : List ℕ) (vs : List SourceValue) (j b : ℕ) (v : SourceValue) → slice_get bs j ≡ Some b → slice_get vs (n + j) ≡ Some v → Among (Has 0 b v) (input_facts n bs vs)
 input-among n [] vs j b v h k = cc
 input-among n (c ∷ bs) vs zero b v h k =
     let e : b ≡ c = cc in
     let q : n + 0 ≡ n = omega arith in
-    let P : ℕ → Type 0 = λ d. Among (Has d v) (value_fact c (slice_get vs n)) in
-    Among-left (Has b v) (value_fact c (slice_get vs n)) (input_facts (suc n) bs vs) (subst P (sym e) (some-fact c (slice_get vs n) v (ap (λ i. slice_get vs i) (sym q) ∙ k)))
+    let P : ℕ → Type 0 = λ d. Among (Has 0 d v) (value_fact 0 c (slice_get vs n)) in
+    Among-left (Has 0 b v) (value_fact 0 c (slice_get vs n)) (input_facts (suc n) bs vs) (subst P (sym e) (some-fact c (slice_get vs n) v (ap (λ i. slice_get vs i) (sym q) ∙ k)))
 input-among n (c ∷ bs) vs (suc j) b v h k =
     let q : suc n + j ≡ n + suc j = omega arith in
-    Among-right (Has b v) (value_fact c (slice_get vs n)) (input_facts (suc n) bs vs) (input-among (suc n) bs vs j b v h (ap (λ i. slice_get vs i) q ∙ k))
+    Among-right (Has 0 b v) (value_fact 0 c (slice_get vs n)) (input_facts (suc n) bs vs) (input-among (suc n) bs vs j b v h (ap (λ i. slice_get vs i) q ∙ k))
 
-input-only : (n : ℕ) (bs : List ℕ) (vs : List SourceValue) (f : RowFact) → Among f (input_facts n bs vs) → (j : ℕ) × (b : ℕ) × (v : SourceValue) × (slice_get bs j ≡ Some b) × (slice_get vs (n + j) ≡ Some v) × (f ≡ Has b v)
+input-only : (n : ℕ) (bs : List ℕ) (vs : List SourceValue) (f : RowFact) → Among f (input_facts n bs vs) → (j : ℕ) × (b : ℕ) × (v : SourceValue) × (slice_get bs j ≡ Some b) × (slice_get vs (n + j) ≡ Some v) × (f ≡ Has 0 b v)
 input-only n [] vs f h = absurd h
-input-only n (c ∷ bs) vs f h = elim (Among-either f (value_fact c (slice_get vs n)) (input_facts (suc n) bs vs) h) [
+input-only n (c ∷ bs) vs f h = elim (Among-either f (value_fact 0 c (slice_get vs n)) (input_facts (suc n) bs vs) h) [
   | inl i ↦ let r = fact-some c (slice_get vs n) f i in let q : n + 0 ≡ n = omega arith in (0, c, r.0, refl, ap (λ j. slice_get vs j) q ∙ r.1, r.2)
   | inr i ↦ let r = input-only (suc n) bs vs f i in let q : n + suc r.0 ≡ suc n + r.0 = omega arith in (suc r.0, r.1, r.2, r.3, ap (λ j. slice_get vs j) q ∙ r.4, r.5)
 ]
 
 module _ (S : Source) where
-  first-all : (cs : List Cell) → ((f : RowFact) → Known cs f → ⊥) → (f : RowFact) → Arises S cs f → Among f (first_facts S.checked S.inputs)
-  first-all cs bare (On n) (main q) = inl (ap (λ m. On m) q)
-  first-all cs bare (On a) (turned {n = n} l u h) = absurd (bare (On n) h)
-  first-all cs bare (Has n v) (input i) =
+  first-all : (f : RowFact) → Arises S [] f → Among f (first_facts S.checked S.inputs)
+  first-all (On p n) (main q) = inl (ap (λ m. On 0 m) q)
+  first-all (On p a) (turned l u h) = cc
+  first-all (Has p n v) (input i) =
       let q : i.number ≡ 0 + i.number = omega arith in
       inr (input-among 0 (main_params S.checked) S.inputs i.number n v i.param (ap (λ j. slice_get S.inputs j) (sym q) ∙ i.value))
-  first-all cs bare f (given n g) =
+  first-all f (comes p n h) = let e : false ≡ true = (comes-on h).on in cc
+  first-all f (given p n g) =
       let z = (at (rows S.checked) n).node in
-      let y = given-used cs n (beyond S.checked n z) z f g in
-      absurd (bare y.first y.known.0)
+      let y = given-used [] p n (beyond S.checked n z) z f g in
+      absurd (none-known y.first y.known.0)
+    where
+      none-known : (f : RowFact) → Known [] f → ⊥
+      none-known (On q m) h = cc
+      none-known (Has q m w) h = cc
 
-  first-only : (cs : List Cell) (f : RowFact) → Among f (first_facts S.checked S.inputs) → Arises S cs f
-  first-only cs f (inl q) = let P : RowFact → Type 0 = λ g. Arises S cs g in subst P (sym q) (main refl)
-  first-only cs f (inr h) =
+  first-only : (f : RowFact) → Among f (first_facts S.checked S.inputs) → Arises S [] f
+  first-only f (inl q) = let P : RowFact → Type 0 = λ g. Arises S [] g in subst P (sym q) (main refl)
+  first-only f (inr h) =
       let r = input-only 0 (main_params S.checked) S.inputs f h in
       let q : 0 + r.0 ≡ r.0 = omega arith in
       let i : IsInput S r.1 r.2 = record { number = r.0; param = r.3; value = ap (λ j. slice_get S.inputs j) (sym q) ∙ r.4 } in
-      let P : RowFact → Type 0 = λ g. Arises S cs g in
+      let P : RowFact → Type 0 = λ g. Arises S [] g in
       subst P (sym r.5) (input i)
 
-  first-round : (cs : List Cell) → ((f : RowFact) → Known cs f → ⊥) → IsRound S 0 cs
-  first-round cs bare = record { all = λ f h. absurd h; only = λ f h. absurd (bare f h); thing = λ f h. absurd (bare f h) }
+  none-there : (f : RowFact) → Known [] f → ⊥
+  none-there (On q m) h = cc
+  none-there (Has q m w) h = cc
 
-  pub first-state : (n : ℕ) (cs : List Cell) (found : List RowFact) → n ≡ length (rows S.checked) → cs ≡ replicate n blank → found ≡ first_facts S.checked S.inputs → State S 0 cs found
-  first-state n cs found e f g =
-      let bs = replicate n blank in
-      let bare = blank-unknown n in
-      let P : List RowFact → Type 0 = λ fs. State S 0 bs fs in
-      let Q : List Cell → Type 0 = λ ds. State S 0 ds found in
-      let t : State S 0 bs (first_facts S.checked S.inputs) = record {
-        round = first-round bs bare;
-        wide = length-replicate n blank ∙ e;
-        all = λ h a. inr (first-all bs bare h a);
-        only = first-only bs;
-      } in
+  first-round : IsRound S 0 []
+  first-round = record {
+    all = λ f h. absurd h;
+    only = λ f h. absurd (none-there f h);
+    inside = λ f h. absurd (none-there f h);
+    spots = record { things = λ i w. absurd (omega arith); before = λ i w. absurd (omega arith); apart = λ i j w v. absurd (omega arith) };
+  }
+
+  pub first-state : (es : List Spot) (found : List RowFact) → es ≡ [] → found ≡ first_facts S.checked S.inputs → State S 0 es found
+  first-state es found f g =
+      let P : List RowFact → Type 0 = λ fs. State S 0 [] fs in
+      let Q : List Spot → Type 0 = λ ds. State S 0 ds found in
+      let t : State S 0 [] (first_facts S.checked S.inputs) = record { round = first-round; all = λ h a. inr (first-all h a); only = first-only } in
       subst Q (sym f) (subst P (sym g) t)

@@ -1,17 +1,19 @@
 -- Where the cells have the facts of a round, the cells after one round more have those of the next.
-use Rattle.std.proofs.Common.{◌≡◌, ◌⊎◌, inl, inr, ◌++◌, ℕ, ◌<◌, Bool, true, false, Option, None, Some, List, [], ◌∷◌, length, refl, ap, sym, ◌∙◌, subst}
+use Rattle.std.proofs.Common.{◌≡◌, ◌⊎◌, inl, inr, ◌++◌, ℕ, ◌<◌, Bool, true, false, Option, None, Some, List, [], ◌∷◌, length, suc, ◌+◌, if◌then◌else◌, refl, ap, sym, ◌∙◌, subst, arith}
 use Rattle.std.proofs.lemmas.Bool.{false≢true}
 use Rattle.std.proofs.lemmas.Option.{none-some}
+use Rattle.std.specs.Prelude.{slice_get}
+use Rattle.id_value.specs.declared.Kind.{Kind}
 use Rattle.id_value.specs.declared.UnaryOp.{UnaryOp}
 use Rattle.id_value.specs.declared.BinaryOp.{BinaryOp}
 use Rattle.id_value.specs.Results.{result_of_unary, result_of_binary}
 use Rattle.id_list.specs.List.{Among}
 use Rattle.id_list.proofs.AmongLemmas.{Among-right}
 use Rattle.id_parts.specs.declared.row.Node.{Node}
-use Rattle.id_parts.specs.declared.row.Node.TheVariants.{Param, Literal, Name, Unary, Binary, Split, If, Block, Binding, Def}
+use Rattle.id_parts.specs.declared.row.Node.TheVariants.{Param, Literal, Name, Unary, Binary, Split, If, Arg, Call, Block, Binding, Def}
 use Rattle.id_parts.specs.Rows.{at}
-use Rattle.id_parts.specs.Tables.{HasOperand, is_binder, is_expression, is_param, is_thing}
-use Rattle.id_parts.specs.Turns.{Turns, operand, left, right, test, body, statement}
+use Rattle.id_parts.specs.Tables.{HasOperand, is_binder, is_call, is_expression, is_param, is_thing}
+use Rattle.id_parts.specs.Turns.{IsDefOf, Turns, operand, left, right, test, body, params_at, statement}
 use Rattle.id_check.specs.Causes.{defines_main}
 use Rattle.id_check.specs.Programs.{Stands, binder, place, rows}
 use Rattle.id_meaning.specs.declared.Path.{Path}
@@ -19,19 +21,23 @@ use Rattle.id_meaning.specs.declared.SourceValue.{SourceValue}
 use Rattle.id_meaning.specs.declared.SourceValue.TheVariants.{Int, Bool as Truth}
 use Rattle.id_meaning.specs.declared.Fact.{Fact}
 use Rattle.id_meaning.specs.declared.Fact.TheVariants as fact
-use Rattle.id_meaning.specs.declared.cells.Cell.{Cell}
+use Rattle.id_meaning.specs.declared.cells.Spot.{Spot}
 use Rattle.id_meaning.specs.declared.cells.RowFact.{RowFact}
 use Rattle.id_meaning.specs.declared.cells.RowFact.TheVariants.{On, Has}
 use Rattle.id_meaning.specs.Sources.{Source, IsInput, body_of, main_body, value_of}
-use Rattle.id_meaning.specs.Facts.{outermost, without, between, Rule, main_on, param_has, literal_has, operand_on, left_on, right_on, unary_has, binary_has, name_has, test_on, arm_on, conditional_has, statement_on, body_on, block_has, binding_has}
+use Rattle.id_meaning.specs.Facts.{below, Rule, main_on, param_has, literal_has, operand_on, left_on, right_on, unary_has, binary_has, name_has, test_on, arm_on, conditional_has, argument_on, callee_on, argument_has, call_has, statement_on, body_on, block_has, binding_has}
 use Rattle.id_meaning.specs.Rounds.{Every, Rounds}
-use Rattle.id_meaning.specs.Links.{beyond, reads_of, some_row, test_of}
-use Rattle.id_meaning.specs.Cells.{arm_of, binary_of, cell_at, chosen, constant_of, gained, given as given_by, seen, unary_of, when}
-use Rattle.id_meaning.specs.Listed.{IsRound, IsThing, Known, fact_of}
-use Rattle.id_check.proofs.ProgramsLemmas.{part_row}
-use Rattle.id_meaning.proofs.CellsLemmas.{Given, Given_of}
+use Rattle.id_meaning.specs.Links.{TurnsOn, beyond, reads_of, some_row, test_of}
+use Rattle.id_meaning.specs.Cells.{arm_of, binary_of, cell_at, chosen, constant_of, find, gained, given as given_by, blank, is_at, path_of, row_of, seen, spot_at, unary_of, when}
+use Rattle.id_meaning.specs.Listed.{IsRound, IsThing, Known, fact_of, path_at}
+use Rattle.id_check.proofs.ProgramsLemmas.{callee_row, part_row}
+use Rattle.id_meaning.proofs.ArgumentsLemmas.{get-param_row}
+use Rattle.id_meaning.proofs.CallsLemmas.{Comes, IsOn, asks, begins, ends, passes}
+use Rattle.id_meaning.proofs.ChainsLemmas.{found, missing}
+use Rattle.id_meaning.proofs.CellsLemmas.{Given, Given_of, at-true}
 use Rattle.id_meaning.proofs.CheckedLemmas.{apart_of, binder_of}
 use Rattle.id_meaning.proofs.Coherence.{IsChoice, choice, constant-value}
+use Rattle.id_meaning.proofs.PathsLemmas.{path-below, path-once, without-none}
 
 -- ---- things
 
@@ -41,6 +47,7 @@ thing-expression (Name x) h = refl
 thing-expression (Unary o a) h = refl
 thing-expression (Binary o a b) h = refl
 thing-expression (If s x y) h = refl
+thing-expression (Call e c) h = refl
 thing-expression (Block b) h = refl
 thing-expression _ h = absurd (false≢true h)
 
@@ -76,28 +83,29 @@ main-thing S = let P : Node → Type 0 = λ z. defines_main z ≡ true in main-b
 
 -- ---- what follows by one rule, row by row
 
-pub data Arises (S : Source) (cs : List Cell) : RowFact → Type 0 where
-  main : {n : ℕ} → n ≡ main_body S.checked → Arises S cs (On n)
-  turned : {n a : ℕ} → n < length (rows S.checked) → Turns (rows S.checked) n a → Known cs (On n) → Arises S cs (On a)
-  input : {n : ℕ} {v : SourceValue} → IsInput S n v → Arises S cs (Has n v)
-  given : (n : ℕ) {f : RowFact} → Given S.checked cs n f → Arises S cs f
+pub data Arises (S : Source) (es : List Spot) : RowFact → Type 0 where
+  main : {n : ℕ} → n ≡ main_body S.checked → Arises S es (On 0 n)
+  turned : {p n a : ℕ} → n < length (rows S.checked) → TurnsOn (rows S.checked) n a → Known es (On p n) → Arises S es (On p a)
+  input : {n : ℕ} {v : SourceValue} → IsInput S n v → Arises S es (Has 0 n v)
+  given : (p n : ℕ) {f : RowFact} → Given S.checked es p n f → Arises S es f
+  comes : (p n : ℕ) {f : RowFact} → Comes S.checked es p n f → Arises S es f
 
--- what is given at a row is given from facts that are known: of the row itself, or of one that it reads
-pub data Linked (n : ℕ) (rs : List ℕ) : RowFact → Type 0 where
-  self : Linked n rs (On n)
-  read : {a : ℕ} {v : SourceValue} → Among a rs → Linked n rs (Has a v)
+-- what comes at a row comes from facts that are known: of the row itself, or of one that it reads
+pub data Linked (p n : ℕ) (rs : List ℕ) : RowFact → Type 0 where
+  self : Linked p n rs (On p n)
+  read : {a : ℕ} {v : SourceValue} → Among a rs → Linked p n rs (Has p a v)
 
 abbrev pub All : (RowFact → Type 0) → List RowFact → Type 0
 All F [] = Unit {0}
 All F (f ∷ fs) = F f × All F fs
 
--- it holds of the cells by facts that are linked to the row, and of all cells with these facts
-pub record Used (cs : List Cell) (n : ℕ) (rs : List ℕ) (G : List Cell → Type 0) : Type 0 where
+-- it holds of the spots by facts that are linked to the row, and of all spots with these facts
+pub record Used (es : List Spot) (p n : ℕ) (rs : List ℕ) (G : List Spot → Type 0) : Type 0 where
   pub first : RowFact
   pub rest : List RowFact
-  pub linked : All (Linked n rs) (first ∷ rest)
-  pub known : All (Known cs) (first ∷ rest)
-  pub enough : (ds : List Cell) → All (Known ds) (first ∷ rest) → G ds
+  pub linked : All (Linked p n rs) (first ∷ rest)
+  pub known : All (Known es) (first ∷ rest)
+  pub enough : (ds : List Spot) → All (Known ds) (first ∷ rest) → G ds
 
 pub when-some : {A : Type 0} (b : Bool) (x : Option A) (v : A) → when b x ≡ Some v → (b ≡ true) × (x ≡ Some v)
 when-some true x v h = (refl, h)
@@ -121,9 +129,9 @@ arm-some x y (Some (Int n)) a h = cc
 arm-some x y (Some (Truth true)) a h = (true, refl, h)
 arm-some x y (Some (Truth false)) a h = (false, refl, h)
 
-pub seen-some : (cs : List Cell) (o : Option ℕ) (v : SourceValue) → seen cs o ≡ Some v → (a : ℕ) × (o ≡ Some a) × Known cs (Has a v)
-seen-some cs None v h = cc
-seen-some cs (Some a) v h = (a, refl, h)
+pub seen-some : (es : List Spot) (p : ℕ) (o : Option ℕ) (v : SourceValue) → seen es p o ≡ Some v → (a : ℕ) × (o ≡ Some a) × Known es (Has p a v)
+seen-some es p None v h = cc
+seen-some es p (Some a) v h = (a, refl, h)
 
 -- the arm that is chosen is one of both
 pub arm-among : (x y : ℕ) (b : Bool) (a : ℕ) → arm_of x y (Some (Truth b)) ≡ Some a → (a ≡ x) ⊎ (a ≡ y)
@@ -131,29 +139,29 @@ arm-among x y true a h = let e : a ≡ x = cc in inl e
 arm-among x y false a h = let e : a ≡ y = cc in inr e
 
 -- a conditional at the row n, which looks at this row, chooses the arm where it is On and that row Has a truth value
-pub record Picks (cs : List Cell) (n x y : ℕ) (o : Option ℕ) (a : ℕ) : Type 0 where
-  pub on : Known cs (On n)
+pub record Picks (es : List Spot) (p n x y : ℕ) (o : Option ℕ) (a : ℕ) : Type 0 where
+  pub on : Known es (On p n)
   pub test : ℕ
   pub is_test : o ≡ Some test
   pub truth : Bool
-  pub known : Known cs (Has test (Truth truth))
+  pub known : Known es (Has p test (Truth truth))
   pub arm : arm_of x y (Some (Truth truth)) ≡ Some a
 
-pub picks : (cs : List Cell) (n s x y : ℕ) (o : Option ℕ) (a : ℕ) → chosen cs (cell_at cs n).on o (If s x y) ≡ Some a → Picks cs n x y o a
-picks cs n s x y o a h =
-    let t = when-some (cell_at cs n).on (arm_of x y (seen cs o)) a h in
-    let u = arm-some x y (seen cs o) a t.1 in
-    let w = seen-some cs o (Truth u.0) u.1 in
+pub picks : (es : List Spot) (p n s x y : ℕ) (o : Option ℕ) (a : ℕ) → chosen (cell_at es p n).on (seen es p o) (If s x y) ≡ Some a → Picks es p n x y o a
+picks es p n s x y o a h =
+    let t = when-some (cell_at es p n).on (arm_of x y (seen es p o)) a h in
+    let u = arm-some x y (seen es p o) a t.1 in
+    let w = seen-some es p o (Truth u.0) u.1 in
     record { on = t.0; test = w.0; is_test = w.1; truth = u.0; known = w.2; arm = u.2 }
 
-pub picked : (cs : List Cell) (n s x y : ℕ) (o : Option ℕ) (a : ℕ) → Picks cs n x y o a → chosen cs (cell_at cs n).on o (If s x y) ≡ Some a
-picked cs n s x y o a p =
-    let e : seen cs o ≡ Some (Truth p.truth) = ap (λ i. seen cs i) p.is_test ∙ p.known in
-    when-on (cell_at cs n).on (arm_of x y (seen cs o)) a p.on (ap (λ i. arm_of x y i) e ∙ p.arm)
+pub picked : (es : List Spot) (p n s x y : ℕ) (o : Option ℕ) (a : ℕ) → Picks es p n x y o a → chosen (cell_at es p n).on (seen es p o) (If s x y) ≡ Some a
+picked es p n s x y o a k =
+    let e : seen es p o ≡ Some (Truth k.truth) = ap (λ i. seen es p i) k.is_test ∙ k.known in
+    when-on (cell_at es p n).on (arm_of x y (seen es p o)) a k.on (ap (λ i. arm_of x y i) e ∙ k.arm)
 
 -- the same arm is chosen wherever the row is On and its predicate has that value
-picks-in : (cs ds : List Cell) (n x y : ℕ) (o : Option ℕ) (a : ℕ) (p : Picks cs n x y o a) → Known ds (On n) → Known ds (Has p.test (Truth p.truth)) → Picks ds n x y o a
-picks-in cs ds n x y o a p on known = record { on = on; test = p.test; is_test = p.is_test; truth = p.truth; known = known; arm = p.arm }
+picks-in : (es ds : List Spot) (p n x y : ℕ) (o : Option ℕ) (a : ℕ) (k : Picks es p n x y o a) → Known ds (On p n) → Known ds (Has p k.test (Truth k.truth)) → Picks ds p n x y o a
+picks-in es ds p n x y o a k on known = record { on = on; test = k.test; is_test = k.is_test; truth = k.truth; known = known; arm = k.arm }
 
 test-linked : (o : Option ℕ) (t : ℕ) (rs : List ℕ) → o ≡ Some t → Among t (some_row o ++ rs)
 test-linked None t rs e = cc
@@ -164,189 +172,303 @@ arm-linked o x y a (inl e) = Among-right a (some_row o) (x ∷ y ∷ []) (inl e)
 arm-linked o x y a (inr e) = Among-right a (some_row o) (x ∷ y ∷ []) (inr (inl e))
 
 -- the facts that an arm is chosen by
-chosen-used : (cs : List Cell) (n s x y : ℕ) (o : Option ℕ) (a : ℕ) → Picks cs n x y o a → Used cs n (reads_of o (If s x y)) (λ ds. chosen ds (cell_at ds n).on o (If s x y) ≡ Some a)
-chosen-used cs n s x y o a p = record {
-  first = On n;
-  rest = Has p.test (Truth p.truth) ∷ [];
-  linked = (self, (read (test-linked o p.test (x ∷ y ∷ []) p.is_test), tt));
-  known = (p.on, (p.known, tt));
-  enough = λ ds k. picked ds n s x y o a (picks-in cs ds n x y o a p k.0 k.1.0);
+chosen-used : (es : List Spot) (p n s x y : ℕ) (o : Option ℕ) (a : ℕ) → Picks es p n x y o a → Used es p n (reads_of o (If s x y)) (λ ds. chosen (cell_at ds p n).on (seen ds p o) (If s x y) ≡ Some a)
+chosen-used es p n s x y o a k = record {
+  first = On p n;
+  rest = Has p k.test (Truth k.truth) ∷ [];
+  linked = (self, (read (test-linked o k.test (x ∷ y ∷ []) k.is_test), tt));
+  known = (k.on, (k.known, tt));
+  enough = λ ds h. picked ds p n s x y o a (picks-in es ds p n x y o a k h.0 h.1.0);
 }
 
 -- the facts that a value is gained from
-used : (cs : List Cell) (n : ℕ) (b : Option ℕ) (z : Node) (v : SourceValue) → gained cs (cell_at cs n).on b z ≡ Some v → Used cs n (reads_of b z) (λ ds. gained ds (cell_at ds n).on b z ≡ Some v)
-used cs n b (Literal c) v h =
-    let t = when-some (cell_at cs n).on (Some (value_of c)) v h in
-    record { first = On n; rest = []; linked = (self, tt); known = (t.0, tt); enough = λ ds k. when-on (cell_at ds n).on (Some (value_of c)) v k.0 t.1 }
-used cs n None (Name x) v h = let t = when-some (cell_at cs n).on None v h in let e : None ≡ Some v = t.1 in cc
-used cs n (Some b) (Name x) v h =
-    let t = when-some (cell_at cs n).on (cell_at cs b).has v h in
+used : (es : List Spot) (p n : ℕ) (b : Option ℕ) (z : Node) (v : SourceValue) → gained es p (cell_at es p n).on (seen es p b) z ≡ Some v
+    → Used es p n (reads_of b z) (λ ds. gained ds p (cell_at ds p n).on (seen ds p b) z ≡ Some v)
+used es p n b (Literal c) v h =
+    let t = when-some (cell_at es p n).on (Some (value_of c)) v h in
+    record { first = On p n; rest = []; linked = (self, tt); known = (t.0, tt); enough = λ ds k. when-on (cell_at ds p n).on (Some (value_of c)) v k.0 t.1 }
+used es p n None (Name x) v h = let t = when-some (cell_at es p n).on None v h in let e : None ≡ Some v = t.1 in cc
+used es p n (Some b) (Name x) v h =
+    let t = when-some (cell_at es p n).on (cell_at es p b).has v h in
     record {
-      first = On n;
-      rest = Has b v ∷ [];
+      first = On p n;
+      rest = Has p b v ∷ [];
       linked = (self, (read (inl refl), tt));
       known = (t.0, (t.1, tt));
-      enough = λ ds k. when-on (cell_at ds n).on (cell_at ds b).has v k.0 k.1.0;
+      enough = λ ds k. when-on (cell_at ds p n).on (cell_at ds p b).has v k.0 k.1.0;
     }
-used cs n b (Unary o a) v h =
-    let t = when-some (cell_at cs n).on (unary_of o (cell_at cs a).has) v h in
-    let u = unary-some o (cell_at cs a).has v t.1 in
+used es p n b (Unary o a) v h =
+    let t = when-some (cell_at es p n).on (unary_of o (cell_at es p a).has) v h in
+    let u = unary-some o (cell_at es p a).has v t.1 in
     record {
-      first = On n;
-      rest = Has a u.0 ∷ [];
+      first = On p n;
+      rest = Has p a u.0 ∷ [];
       linked = (self, (read (inl refl), tt));
       known = (t.0, (u.1, tt));
-      enough = λ ds k. when-on (cell_at ds n).on (unary_of o (cell_at ds a).has) v k.0 (ap (λ x. unary_of o x) k.1.0 ∙ u.2);
+      enough = λ ds k. when-on (cell_at ds p n).on (unary_of o (cell_at ds p a).has) v k.0 (ap (λ x. unary_of o x) k.1.0 ∙ u.2);
     }
-used cs n b (Binary o a c) v h =
-    let t = when-some (cell_at cs n).on (binary_of o (cell_at cs a).has (cell_at cs c).has) v h in
-    let u = binary-some o (cell_at cs a).has (cell_at cs c).has v t.1 in
+used es p n b (Binary o a c) v h =
+    let t = when-some (cell_at es p n).on (binary_of o (cell_at es p a).has (cell_at es p c).has) v h in
+    let u = binary-some o (cell_at es p a).has (cell_at es p c).has v t.1 in
     record {
-      first = On n;
-      rest = Has a u.0 ∷ Has c u.1 ∷ [];
+      first = On p n;
+      rest = Has p a u.0 ∷ Has p c u.1 ∷ [];
       linked = (self, (read (inl refl), (read (inr (inl refl)), tt)));
       known = (t.0, (u.2, (u.3, tt)));
-      enough = λ ds k. when-on (cell_at ds n).on (binary_of o (cell_at ds a).has (cell_at ds c).has) v k.0
-          (ap (λ x. binary_of o x (cell_at ds c).has) k.1.0 ∙ ap (λ y. binary_of o (Some u.0) y) k.1.1.0 ∙ u.4);
+      enough = λ ds k. when-on (cell_at ds p n).on (binary_of o (cell_at ds p a).has (cell_at ds p c).has) v k.0
+          (ap (λ x. binary_of o x (cell_at ds p c).has) k.1.0 ∙ ap (λ y. binary_of o (Some u.0) y) k.1.1.0 ∙ u.4);
     }
-used cs n b (If s x y) v h =
-    let u = seen-some cs (chosen cs (cell_at cs n).on b (If s x y)) v h in
-    let p = picks cs n s x y b u.0 u.1 in
-    let c = chosen-used cs n s x y b u.0 p in
+used es p n b (If s x y) v h =
+    let u = seen-some es p (chosen (cell_at es p n).on (seen es p b) (If s x y)) v h in
+    let k = picks es p n s x y b u.0 u.1 in
+    let c = chosen-used es p n s x y b u.0 k in
     record {
-      first = Has u.0 v;
+      first = Has p u.0 v;
       rest = c.first ∷ c.rest;
-      linked = (read (arm-linked b x y u.0 (arm-among x y p.truth u.0 p.arm)), c.linked);
+      linked = (read (arm-linked b x y u.0 (arm-among x y k.truth u.0 k.arm)), c.linked);
       known = (u.2, c.known);
-      enough = λ ds k. ap (λ i. seen ds i) (c.enough ds k.1) ∙ k.0;
+      enough = λ ds h. ap (λ i. seen ds p i) (c.enough ds h.1) ∙ h.0;
     }
-used cs n b (Block a) v h =
-    let t = when-some (cell_at cs n).on (cell_at cs a).has v h in
+used es p n b (Block a) v h =
+    let t = when-some (cell_at es p n).on (cell_at es p a).has v h in
     record {
-      first = On n;
-      rest = Has a v ∷ [];
+      first = On p n;
+      rest = Has p a v ∷ [];
       linked = (self, (read (inl refl), tt));
       known = (t.0, (t.1, tt));
-      enough = λ ds k. when-on (cell_at ds n).on (cell_at ds a).has v k.0 k.1.0;
+      enough = λ ds k. when-on (cell_at ds p n).on (cell_at ds p a).has v k.0 k.1.0;
     }
-used cs n b (Binding x a) v h = record { first = Has a v; rest = []; linked = (read (inl refl), tt); known = (h, tt); enough = λ ds k. k.0 }
-used cs n b _ v h = absurd (none-some _ h)
+used es p n b (Binding x a) v h = record { first = Has p a v; rest = []; linked = (read (inl refl), tt); known = (h, tt); enough = λ ds k. k.0 }
+used es p n b _ v h = absurd (none-some _ h)
 
-arm-used : (cs : List Cell) (n : ℕ) (b : Option ℕ) (z : Node) (a : ℕ) → chosen cs (cell_at cs n).on b z ≡ Some a → Used cs n (reads_of b z) (λ ds. chosen ds (cell_at ds n).on b z ≡ Some a)
-arm-used cs n b (If s x y) a h = chosen-used cs n s x y b a (picks cs n s x y b a h)
-arm-used cs n b _ a h = absurd (none-some _ h)
+arm-used : (es : List Spot) (p n : ℕ) (b : Option ℕ) (z : Node) (a : ℕ) → chosen (cell_at es p n).on (seen es p b) z ≡ Some a
+    → Used es p n (reads_of b z) (λ ds. chosen (cell_at ds p n).on (seen ds p b) z ≡ Some a)
+arm-used es p n b (If s x y) a h = chosen-used es p n s x y b a (picks es p n s x y b a h)
+arm-used es p n b _ a h = absurd (none-some _ h)
 
--- the facts that a fact is given by
-pub given-used : (cs : List Cell) (n : ℕ) (b : Option ℕ) (z : Node) (f : RowFact) → Given_of cs n (cell_at cs n).on b z f → Used cs n (reads_of b z) (λ ds. Given_of ds n (cell_at ds n).on b z f)
-given-used cs n b z (On a) h = arm-used cs n b z a h
-given-used cs n b z (Has m v) h =
-    let u = used cs n b z v h.1 in
+-- the facts that a fact comes from
+pub given-used : (es : List Spot) (p n : ℕ) (b : Option ℕ) (z : Node) (f : RowFact) → Given_of es p n (cell_at es p n).on (seen es p b) z f
+    → Used es p n (reads_of b z) (λ ds. Given_of ds p n (cell_at ds p n).on (seen ds p b) z f)
+given-used es p n b z (On q a) h =
+    let u = arm-used es p n b z a h.1 in
     record { first = u.first; rest = u.rest; linked = u.linked; known = u.known; enough = λ ds k. (h.0, u.enough ds k) }
+given-used es p n b z (Has q m v) h =
+    let u = used es p n b z v h.2 in
+    record { first = u.first; rest = u.rest; linked = u.linked; known = u.known; enough = λ ds k. (h.0, h.1, u.enough ds k) }
 
 -- ---- what is known is a fact, and a fact of a thing is known
 
-module _ (S : Source) (k : ℕ) (cs : List Cell) (s : IsRound S k cs) where
+-- what has a fact stands at a spot
+some_spot : (es : List Spot) (p n : ℕ) → (cell_at es p n ≡ blank → ⊥) → (i : ℕ) × (i < length es) × ((spot_at es i).row ≡ n)
+some_spot [] p n h = absurd (h refl)
+some_spot (s ∷ es) p n h = by (is_at s p n) refl (some_spot es p n) where
+  by : (t : Bool) → is_at s p n ≡ t → ((cell_at es p n ≡ blank → ⊥) → (i : ℕ) × (i < length es) × ((spot_at es i).row ≡ n)) → (i : ℕ) × (i < length (s ∷ es)) × ((spot_at (s ∷ es) i).row ≡ n)
+  by true e rest = (0, omega arith, (at-true s p n e).1)
+  by false e rest =
+      let k = rest (λ b. h (ap (λ t. if t then s.cell else cell_at es p n) e ∙ b)) in
+      (suc k.0, (let l = k.1 in omega arith), k.2)
+
+blank-bare : (es : List Spot) (f : RowFact) → Known es f → cell_at es (path_of f) (row_of f) ≡ blank → ⊥
+blank-bare es (On p n) h e = let k : true ≡ false = sym h ∙ ap (λ c. c.on) e in cc
+blank-bare es (Has p n v) h e = let k : Some v ≡ None = sym h ∙ ap (λ c. c.has) e in cc
+
+-- what is known is of a thing
+pub known_thing : (S : Source) (k : ℕ) (es : List Spot) → IsRound S k es → (f : RowFact) → Known es f → IsThing S (row_of f)
+known_thing S k es s f h =
+    let i = some_spot es (path_of f) (row_of f) (blank-bare es f h) in
+    let F : ℕ → Type 0 = λ n. IsThing S n in
+    subst F i.2 (s.spots.things i.0 i.1)
+
+module _ (S : Source) (k : ℕ) (es : List Spot) (s : IsRound S k es) where
   same-row : (n m : ℕ) → IsThing S n → IsThing S m → place S.checked n ≡ place S.checked m → m ≡ n
   same-row n m t u e = (apart_of S.checked).apart m n u.within t.within u.thing t.thing (sym e)
 
-  known-on : (n : ℕ) (p : Path) → IsThing S n → Rounds S k (fact.On p (place S.checked n)) → (p ≡ outermost) × Known cs (On n)
-  known-on n p t h = go n p t (s.all (fact.On p (place S.checked n)) h).fact (s.all (fact.On p (place S.checked n)) h).known (s.all (fact.On p (place S.checked n)) h).is where
-    go : (n : ℕ) (p : Path) → IsThing S n → (f : RowFact) → Known cs f → fact.On p (place S.checked n) ≡ fact_of S f → (p ≡ outermost) × Known cs (On n)
-    go n p t (On m) known e =
-        let q : p ≡ outermost = cc in
-        let r : place S.checked n ≡ place S.checked m = cc in
-        let P : ℕ → Type 0 = λ i. Known cs (On i) in
-        (q, subst P (same-row n m t (s.thing (On m) known) r) known)
-    go n p t (Has m v) known e = cc
+  -- the path is that of this number, at which the fact is known
+  abbrev KnownAt : Path → (ℕ → RowFact) → Type 0
+  KnownAt P f = (q : ℕ) × (P ≡ path_at S.checked es q) × Known es (f q)
 
-  known-has : (n : ℕ) (p : Path) (v : SourceValue) → IsThing S n → Rounds S k (fact.Has p (place S.checked n) v) → (p ≡ outermost) × Known cs (Has n v)
-  known-has n p v t h = go n p v t (s.all (fact.Has p (place S.checked n) v) h).fact (s.all (fact.Has p (place S.checked n) v) h).known (s.all (fact.Has p (place S.checked n) v) h).is where
-    go : (n : ℕ) (p : Path) (v : SourceValue) → IsThing S n → (f : RowFact) → Known cs f → fact.Has p (place S.checked n) v ≡ fact_of S f → (p ≡ outermost) × Known cs (Has n v)
-    go n p v t (On m) known e = cc
-    go n p v t (Has m w) known e =
-        let q : p ≡ outermost = cc in
+  known-on : (n : ℕ) (P : Path) → IsThing S n → Rounds S k (fact.On P (place S.checked n)) → KnownAt P (λ q. On q n)
+  known-on n P t h = go n P t (s.all (fact.On P (place S.checked n)) h).fact (s.all (fact.On P (place S.checked n)) h).known (s.all (fact.On P (place S.checked n)) h).is where
+    go : (n : ℕ) (P : Path) → IsThing S n → (f : RowFact) → Known es f → fact.On P (place S.checked n) ≡ fact_of S es f → KnownAt P (λ q. On q n)
+    go n P t (On q m) known e =
+        let a : P ≡ path_at S.checked es q = cc in
+        let r : place S.checked n ≡ place S.checked m = cc in
+        let F : ℕ → Type 0 = λ i. Known es (On q i) in
+        (q, a, subst F (same-row n m t (known_thing S k es s (On q m) known) r) known)
+    go n P t (Has q m v) known e = cc
+
+  known-has : (n : ℕ) (P : Path) (v : SourceValue) → IsThing S n → Rounds S k (fact.Has P (place S.checked n) v) → KnownAt P (λ q. Has q n v)
+  known-has n P v t h = go n P v t (s.all (fact.Has P (place S.checked n) v) h).fact (s.all (fact.Has P (place S.checked n) v) h).known (s.all (fact.Has P (place S.checked n) v) h).is where
+    go : (n : ℕ) (P : Path) (v : SourceValue) → IsThing S n → (f : RowFact) → Known es f → fact.Has P (place S.checked n) v ≡ fact_of S es f → KnownAt P (λ q. Has q n v)
+    go n P v t (On q m) known e = cc
+    go n P v t (Has q m w) known e =
+        let a : P ≡ path_at S.checked es q = cc in
         let r : place S.checked n ≡ place S.checked m = cc in
         let u : w ≡ v = cc in
-        let P : ℕ → Type 0 = λ i. Known cs (Has i v) in
-        let Q : SourceValue → Type 0 = λ x. Known cs (Has m x) in
-        (q, subst P (same-row n m t (s.thing (Has m w) known) r) (subst Q u known))
+        let F : ℕ → Type 0 = λ i. Known es (Has q i v) in
+        let G : SourceValue → Type 0 = λ x. Known es (Has q m x) in
+        (q, a, subst F (same-row n m t (known_thing S k es s (Has q m w) known) r) (subst G u known))
+
+  -- at a path of known facts there is one number
+  same-path : (q r : ℕ) (P : Path) (f g : RowFact) → path_of f ≡ q → path_of g ≡ r → Known es f → Known es g → P ≡ path_at S.checked es q → P ≡ path_at S.checked es r → q ≡ r
+  same-path q r P f g a b h i d e =
+      let u = s.inside f h in
+      let v = s.inside g i in
+      path-once S es s.spots q r (omega arith) (omega arith) (sym d ∙ e)
+
+  -- what is a fact at the path of a row that is On is known at its number
+  has-at : (q n m : ℕ) (P : Path) (v : SourceValue) → IsThing S n → Known es (On q m) → P ≡ path_at S.checked es q → Rounds S k (fact.Has P (place S.checked n) v) → Known es (Has q n v)
+  has-at q n m P v t on e h =
+      let x = known-has n P v t h in
+      let F : ℕ → Type 0 = λ i. Known es (Has i n v) in
+      subst F (same-path x.0 q P (Has x.0 n v) (On q m) refl refl x.2 on x.1 e) x.2
 
   -- ---- what follows by a rule arises
 
   -- a fact is that of a row's that arises
   abbrev Rises : Fact → Type 0
-  Rises f = (g : RowFact) × (f ≡ fact_of S g) × Arises S cs g
+  Rises f = (g : RowFact) × (f ≡ fact_of S es g) × Arises S es g
 
-  on-rises : (n a : ℕ) (p : Path) (z : Node) → Stands S.checked n z → is_thing z ≡ true → Turns (rows S.checked) n a → Rounds S k (fact.On p (place S.checked n)) → Rises (fact.On p (place S.checked a))
-  on-rises n a p z st t u h =
-      let x = known-on n p (node-thing S n z st t) h in
-      (On a, ap (λ q. fact.On q (place S.checked a)) x.0, turned st.within u x.1)
+  on-rises : (n a : ℕ) (P : Path) (z : Node) → Stands S.checked n z → is_thing z ≡ true → is_call z ≡ false → Turns (rows S.checked) n a → Rounds S k (fact.On P (place S.checked n)) → Rises (fact.On P (place S.checked a))
+  on-rises n a P z st t c u h =
+      let x = known-on n P (node-thing S n z st t) h in
+      (On x.0 a, ap (λ q. fact.On q (place S.checked a)) x.1, turned st.within (u, ap is_call st.node ∙ c) x.2)
 
-  has-rises : (n : ℕ) (p : Path) (z : Node) (v : SourceValue) → Stands S.checked n z → p ≡ outermost → gained cs (cell_at cs n).on (beyond S.checked n z) z ≡ Some v → Rises (fact.Has p (place S.checked n) v)
-  has-rises n p z v st e g =
-      (Has n v, ap (λ q. fact.Has q (place S.checked n) v) e, given n (refl, ap (λ y. gained cs (cell_at cs n).on (beyond S.checked n y) y) st.node ∙ g))
+  has-rises : (q n : ℕ) (P : Path) (z : Node) (v : SourceValue) → Stands S.checked n z → P ≡ path_at S.checked es q
+      → gained es q (cell_at es q n).on (seen es q (beyond S.checked n z)) z ≡ Some v → Rises (fact.Has P (place S.checked n) v)
+  has-rises q n P z v st e g =
+      (Has q n v, ap (λ r. fact.Has r (place S.checked n) v) e, given q n (refl, refl, ap (λ y. gained es q (cell_at es q n).on (seen es q (beyond S.checked n y)) y) st.node ∙ g))
 
-  arm-rises : (n a : ℕ) (p : Path) (z : Node) → Stands S.checked n z → p ≡ outermost → chosen cs (cell_at cs n).on (beyond S.checked n z) z ≡ Some a → Rises (fact.On p (place S.checked a))
-  arm-rises n a p z st e g =
-      (On a, ap (λ q. fact.On q (place S.checked a)) e, given n (ap (λ y. chosen cs (cell_at cs n).on (beyond S.checked n y) y) st.node ∙ g))
+  arm-rises : (q n a : ℕ) (P : Path) (z : Node) → Stands S.checked n z → P ≡ path_at S.checked es q
+      → chosen (cell_at es q n).on (seen es q (beyond S.checked n z)) z ≡ Some a → Rises (fact.On P (place S.checked a))
+  arm-rises q n a P z st e g =
+      (On q a, ap (λ r. fact.On r (place S.checked a)) e, given q n (refl, ap (λ y. chosen (cell_at es q n).on (seen es q (beyond S.checked n y)) y) st.node ∙ g))
 
   -- where a conditional is On and its predicate Has a truth value, that arm is chosen
-  choice-picks : (n t a : ℕ) (b : Bool) (p : Path) (c : IsChoice S n t b a) → Rounds S k (fact.On p (place S.checked n)) → Rounds S k (fact.Has p (place S.checked t) (Truth b))
-      → (p ≡ outermost) × Picks cs n c.then c.otherwise (beyond S.checked n (If c.split c.then c.otherwise)) a
-  choice-picks n t a b p c h i =
-      let x = known-on n p (node-thing S n (If c.split c.then c.otherwise) c.stands refl) h in
-      let y = known-has t p (Truth b) (part-thing S c.split t (Split t) c.splits refl) i in
-      (x.0, record { on = x.1; test = t; is_test = ap test_of c.splits.node; truth = b; known = y.1; arm = c.arm })
+  choice-picks : (n t a : ℕ) (b : Bool) (P : Path) (c : IsChoice S n t b a) → Rounds S k (fact.On P (place S.checked n)) → Rounds S k (fact.Has P (place S.checked t) (Truth b))
+      → (q : ℕ) × (P ≡ path_at S.checked es q) × Picks es q n c.then c.otherwise (beyond S.checked n (If c.split c.then c.otherwise)) a
+  choice-picks n t a b P c h i =
+      let x = known-on n P (node-thing S n (If c.split c.then c.otherwise) c.stands refl) h in
+      let y = has-at x.0 t n P (Truth b) (part-thing S c.split t (Split t) c.splits refl) x.2 x.1 i in
+      (x.0, x.1, record { on = x.2; test = t; is_test = ap test_of c.splits.node; truth = b; known = y; arm = c.arm })
+
+  -- ---- calls
+
+  find-on : (q n : ℕ) → Known es (On q n) → (i : ℕ) × (find es q n ≡ Some i) × (i < length es)
+  find-on q n h = go (find es q n) refl
+    where
+      go : (o : Option ℕ) → find es q n ≡ o → (i : ℕ) × (find es q n ≡ Some i) × (i < length es)
+      go None f = let e : true ≡ false = sym h ∙ ap (λ y. y.on) (missing es q n blank f).0 in cc
+      go (Some i) f = (i, f, (found es q n i blank f).0)
+
+  abbrev is-on : (q n e c d x h b : ℕ) (j : Kind) → Stands S.checked n (Call e c) → binder S.checked e ≡ Some d → Stands S.checked d (Def x h j b) → Known es (On q n) → IsOn S.checked es q n
+  is-on q n e c d x h b j st bd df on =
+      let i = find-on q n on in
+      record { enter = e; count = c; def = d; name = x; head = h; kind = j; body = b; spot = i.0; node = st.node; binder = bd; definition = df.node; on = on; found = i.1; within = i.2 }
+
+  -- the path that a call begins
+  pub call-path : (q n : ℕ) (P : Path) (c : IsOn S.checked es q n) → P ≡ path_at S.checked es q → below P (place S.checked n) 0 ≡ path_at S.checked es (c.spot + 1)
+  call-path q n P c e =
+      let a = at-true (spot_at es c.spot) q n (found es q n c.spot blank c.found).1 in
+      ap (λ p. below p (place S.checked n) 0) e ∙ sym (path-below S.checked es s.spots.before c.spot q n a.0 a.1)
+
+  argument-rises : (n e c m i a : ℕ) (P : Path) → Stands S.checked n (Call e c) → Stands S.checked m (Arg e i a) → Rounds S k (fact.On P (place S.checked n)) → Rises (fact.On P (place S.checked a))
+  argument-rises n e c m i a P st t h =
+      let y = known-on n P (node-thing S n (Call e c) st refl) h in
+      let r = callee_row S.checked n e c st in
+      let w = r.2 in
+      let on = is-on y.0 n e c r.0 w.name r.1 w.body w.result st w.binder w.definition y.2 in
+      (On y.0 a, ap (λ q. fact.On q (place S.checked a)) y.1, comes y.0 n (asks on m t.node))
+
+  callee-rises : (n e c d x h b : ℕ) (j : Kind) (P : Path) → Stands S.checked n (Call e c) → binder S.checked e ≡ Some d → Stands S.checked d (Def x h j b)
+      → Rounds S k (fact.On P (place S.checked n)) → Rises (fact.On (below P (place S.checked n) 0) (place S.checked b))
+  callee-rises n e c d x h b j P st bd df g =
+      let y = known-on n P (node-thing S n (Call e c) st refl) g in
+      let on = is-on y.0 n e c d x h b j st bd df y.2 in
+      (On (on.spot + 1) b, ap (λ q. fact.On q (place S.checked b)) (call-path y.0 n P on y.1), comes y.0 n (begins on))
+
+  passed-rises : (n e c d x h b m i a r : ℕ) (j : Kind) (P : Path) (u : SourceValue) → Stands S.checked n (Call e c) → Stands S.checked m (Arg e i a) → binder S.checked e ≡ Some d
+      → Stands S.checked d (Def x h j b) → slice_get (params_at (rows S.checked) h) i ≡ Some r → Rounds S k (fact.On P (place S.checked n)) → Rounds S k (fact.Has P (place S.checked a) u)
+      → Rises (fact.Has (below P (place S.checked n) 0) (place S.checked r) u)
+  passed-rises n e c d x h b m i a r j P u st t bd df there f g =
+      let y = known-on n P (node-thing S n (Call e c) st refl) f in
+      let on = is-on y.0 n e c d x h b j st bd df y.2 in
+      let z = has-at y.0 a n P u (part-thing S m a (Arg e i a) t refl) y.2 y.1 g in
+      let def : IsDefOf (rows S.checked) d h = record { name = x; result = j; body = b; within = df.within; node = df.node } in
+      let row = get-param_row S.checked d h i r def there in
+      (Has (on.spot + 1) r u, ap (λ q. fact.Has q (place S.checked r) u) (call-path y.0 n P on y.1), comes y.0 n (passes on m t.node row z))
+
+  call-rises : (n e c d x h b : ℕ) (j : Kind) (P : Path) (u : SourceValue) → Stands S.checked n (Call e c) → binder S.checked e ≡ Some d → Stands S.checked d (Def x h j b)
+      → Rounds S k (fact.On P (place S.checked n)) → Rounds S k (fact.Has (below P (place S.checked n) 0) (place S.checked b) u) → Rises (fact.Has P (place S.checked n) u)
+  call-rises n e c d x h b j P u st bd df f g =
+      let y = known-on n P (node-thing S n (Call e c) st refl) f in
+      let on = is-on y.0 n e c d x h b j st bd df y.2 in
+      let z = known-has b (below P (place S.checked n) 0) u (part-thing S d b (Def x h j b) df refl) g in
+      let v = s.inside (Has z.0 b u) z.2 in
+      let w = on.within in
+      let one : z.0 ≡ on.spot + 1 = path-once S es s.spots z.0 (on.spot + 1) v (omega arith) (sym z.1 ∙ call-path y.0 n P on y.1) in
+      let F : ℕ → Type 0 = λ q. Known es (Has q b u) in
+      (Has y.0 n u, ap (λ q. fact.Has q (place S.checked n) u) y.1, comes y.0 n (ends on (subst F one z.2)))
 
   pub complete : {fs : List Fact} {f : Fact} → Rule S fs f → Every (Rounds S k) fs → Rises f
-  complete main_on h = (On (main_body S.checked), refl, main refl)
-  complete (param_has {b = b} {v = v} i) h = (Has b v, refl, input i)
+  complete main_on h = (On 0 (main_body S.checked), refl, main refl)
+  complete (param_has {b = b} {v = v} i) h = (Has 0 b v, refl, input i)
   complete (literal_has {n = n} {c = c} {p = p} st) h =
       let x = known-on n p (node-thing S n (Literal c) st refl) h.0 in
-      has-rises n p (Literal c) (value_of c) st x.0 (when-on (cell_at cs n).on (Some (value_of c)) (value_of c) x.1 refl)
-  complete (operand_on {n = n} {a = a} {o = o} {p = p} st) h = on-rises n a p (Unary o a) st refl (operand st.node) h.0
-  complete (left_on {n = n} {a = a} {b = b} {o = o} {p = p} st) h = on-rises n a p (Binary o a b) st refl (left st.node) h.0
-  complete (right_on {n = n} {a = a} {b = b} {o = o} {p = p} st) h = on-rises n b p (Binary o a b) st refl (right st.node) h.0
+      has-rises x.0 n p (Literal c) (value_of c) st x.1 (when-on (cell_at es x.0 n).on (Some (value_of c)) (value_of c) x.2 refl)
+  complete (operand_on {n = n} {a = a} {o = o} {p = p} st) h = on-rises n a p (Unary o a) st refl refl (operand st.node) h.0
+  complete (left_on {n = n} {a = a} {b = b} {o = o} {p = p} st) h = on-rises n a p (Binary o a b) st refl refl (left st.node) h.0
+  complete (right_on {n = n} {a = a} {b = b} {o = o} {p = p} st) h = on-rises n b p (Binary o a b) st refl refl (right st.node) h.0
   complete (unary_has {n = n} {a = a} {o = o} {p = p} {x = x} c st e) h =
       let y = known-on n p (node-thing S n (Unary o a) st refl) h.0 in
-      let z = known-has a p (value_of c) (part-thing S n a (Unary o a) st refl) h.1.0 in
-      let g : unary_of o (cell_at cs a).has ≡ Some (value_of x) = ap (λ q. unary_of o q) z.1 ∙ ap (λ d. given_by (result_of_unary o d)) (constant-value c) ∙ ap given_by e in
-      has-rises n p (Unary o a) (value_of x) st y.0 (when-on (cell_at cs n).on (unary_of o (cell_at cs a).has) (value_of x) y.1 g)
+      let q = y.0 in
+      let z = has-at q a n p (value_of c) (part-thing S n a (Unary o a) st refl) y.2 y.1 h.1.0 in
+      let g : unary_of o (cell_at es q a).has ≡ Some (value_of x) = ap (λ i. unary_of o i) z ∙ ap (λ d. given_by (result_of_unary o d)) (constant-value c) ∙ ap given_by e in
+      has-rises q n p (Unary o a) (value_of x) st y.1 (when-on (cell_at es q n).on (unary_of o (cell_at es q a).has) (value_of x) y.2 g)
   complete (binary_has {n = n} {a = a} {b = b} {o = o} {p = p} {x = x} c d st e) h =
       let y = known-on n p (node-thing S n (Binary o a b) st refl) h.0 in
-      let z = known-has a p (value_of c) (part-thing S n a (Binary o a b) st (inl refl)) h.1.0 in
-      let w = known-has b p (value_of d) (part-thing S n b (Binary o a b) st (inr refl)) h.1.1.0 in
-      let g : binary_of o (cell_at cs a).has (cell_at cs b).has ≡ Some (value_of x) =
-      ap (λ q. binary_of o q (cell_at cs b).has) z.1 ∙ ap (λ q. binary_of o (Some (value_of c)) q) w.1
+      let q = y.0 in
+      let z = has-at q a n p (value_of c) (part-thing S n a (Binary o a b) st (inl refl)) y.2 y.1 h.1.0 in
+      let w = has-at q b n p (value_of d) (part-thing S n b (Binary o a b) st (inr refl)) y.2 y.1 h.1.1.0 in
+      let g : binary_of o (cell_at es q a).has (cell_at es q b).has ≡ Some (value_of x) =
+      ap (λ i. binary_of o i (cell_at es q b).has) z ∙ ap (λ i. binary_of o (Some (value_of c)) i) w
       ∙ ap (λ t. given_by (result_of_binary o t (constant_of (value_of d)))) (constant-value c) ∙ ap (λ t. given_by (result_of_binary o c t)) (constant-value d) ∙ ap given_by e in
-      has-rises n p (Binary o a b) (value_of x) st y.0 (when-on (cell_at cs n).on (binary_of o (cell_at cs a).has (cell_at cs b).has) (value_of x) y.1 g)
+      has-rises q n p (Binary o a b) (value_of x) st y.1 (when-on (cell_at es q n).on (binary_of o (cell_at es q a).has (cell_at es q b).has) (value_of x) y.2 g)
   complete (name_has {n = n} {x = x} {b = b} {p = p} {v = v} st e) h =
       let y = known-on n p (node-thing S n (Name x) st refl) h.0 in
+      let r = y.0 in
       let q = binder_of S.checked n x b st e in
       let t : IsThing S b = record { within = q.0; thing = thing-binder (at (rows S.checked) b).node q.1 } in
-      let z = known-has b (without (between S n b) p) v t h.1.0 in
-      let g : seen cs (binder S.checked n) ≡ Some v = ap (λ c. seen cs c) e ∙ z.1 in
-      has-rises n p (Name x) v st y.0 (when-on (cell_at cs n).on (seen cs (binder S.checked n)) v y.1 g)
+      let F : Path → Type 0 = λ i. Rounds S k (fact.Has i (place S.checked b) v) in
+      let z = has-at r b n p v t y.2 y.1 (subst F (without-none p) h.1.0) in
+      let g : seen es r (binder S.checked n) ≡ Some v = ap (λ c. seen es r c) e ∙ z in
+      has-rises r n p (Name x) v st y.1 (when-on (cell_at es r n).on (seen es r (binder S.checked n)) v y.2 g)
   complete (test_on {n = n} {t = t} {p = p} c) h =
       let i = choice c in
-      on-rises n t p (If i.split i.then i.otherwise) i.stands refl (test i.stands.node i.splits.node) h.0
+      on-rises n t p (If i.split i.then i.otherwise) i.stands refl refl (test i.stands.node i.splits.node) h.0
   complete (arm_on {n = n} {t = t} {a = a} {b = b} {p = p} c) h =
       let i = choice c in
       let z = If i.split i.then i.otherwise in
       let y = choice-picks n t a b p i h.0 h.1.0 in
-      arm-rises n a p z i.stands y.0 (picked cs n i.split i.then i.otherwise (beyond S.checked n z) a y.1)
+      arm-rises y.0 n a p z i.stands y.1 (picked es y.0 n i.split i.then i.otherwise (beyond S.checked n z) a y.2)
   complete (conditional_has {n = n} {t = t} {a = a} {b = b} {p = p} {v = v} c) h =
       let i = choice c in
       let z = If i.split i.then i.otherwise in
       let y = choice-picks n t a b p i h.0 h.1.0 in
-      let w = known-has a p v (part-thing S n a z i.stands (arm-among i.then i.otherwise b a i.arm)) h.1.1.0 in
-      has-rises n p z v i.stands y.0 (ap (λ o. seen cs o) (picked cs n i.split i.then i.otherwise (beyond S.checked n z) a y.1) ∙ w.1)
-  complete (statement_on {n = n} {m = m} {x = x} {a = a} {b = b} {p = p} st i tb) h = on-rises n a p (Block b) st refl (statement i tb.node) h.0
-  complete (body_on {n = n} {b = b} {p = p} st) h = on-rises n b p (Block b) st refl (body st.node) h.0
+      let k = y.2 in
+      let w = has-at y.0 a n p v (part-thing S n a z i.stands (arm-among i.then i.otherwise b a i.arm)) k.on y.1 h.1.1.0 in
+      has-rises y.0 n p z v i.stands y.1 (ap (λ o. seen es y.0 o) (picked es y.0 n i.split i.then i.otherwise (beyond S.checked n z) a y.2) ∙ w)
+  complete (argument_on {n = n} {e = e} {c = c} {m = m} {k = i} {v = a} {p = p} st t) h = argument-rises n e c m i a p st t h.0
+  complete (callee_on {n = n} {e = e} {c = c} {d = d} {x = x} {h = g} {b = b} {k = j} {p = p} st bd df) h = callee-rises n e c d x g b j p st bd df h.0
+  complete (argument_has {n = n} {e = e} {c = c} {d = d} {x = x} {h = g} {b = b} {m = m} {i = i} {v = a} {q = q} {k = j} {p = p} {u = u} st t bd df there) h =
+      passed-rises n e c d x g b m i a q j p u st t bd df there h.0 h.1.0
+  complete (call_has {n = n} {e = e} {c = c} {d = d} {x = x} {h = g} {b = b} {k = j} {p = p} {u = u} st bd df) h = call-rises n e c d x g b j p u st bd df h.0 h.1.0
+  complete (statement_on {n = n} {m = m} {x = x} {a = a} {b = b} {p = p} st i tb) h = on-rises n a p (Block b) st refl refl (statement i tb.node) h.0
+  complete (body_on {n = n} {b = b} {p = p} st) h = on-rises n b p (Block b) st refl refl (body st.node) h.0
   complete (block_has {n = n} {b = b} {p = p} {v = v} st) h =
       let y = known-on n p (node-thing S n (Block b) st refl) h.0 in
-      let z = known-has b p v (part-thing S n b (Block b) st refl) h.1.0 in
-      has-rises n p (Block b) v st y.0 (when-on (cell_at cs n).on (cell_at cs b).has v y.1 z.1)
+      let z = has-at y.0 b n p v (part-thing S n b (Block b) st refl) y.2 y.1 h.1.0 in
+      has-rises y.0 n p (Block b) v st y.1 (when-on (cell_at es y.0 n).on (cell_at es y.0 b).has v y.2 z)
   complete (binding_has {n = n} {x = x} {a = a} {p = p} {v = v} st) h =
       let z = known-has a p v (part-thing S n a (Binding x a) st refl) h.0 in
-      has-rises n p (Binding x a) v st z.0 z.1
+      has-rises z.0 n p (Binding x a) v st z.1 z.2

@@ -1,5 +1,5 @@
--- What rows have after some rounds, and what follows from that by one rule, worked out row by row.
-use Rattle.std.specs.Prelude.{ℕ, suc, Bool as Truth, true, false, ◌&&◌, not, nat_lt, List, [], ◌∷◌, ◌++◌, length, get_or, slice_set, slice_get, Option, None, Some, if◌then◌else◌}
+-- What rows have at paths after some rounds, and what follows from that by one rule, worked out row by row.
+use Rattle.std.specs.Prelude.{ℕ, suc, ◌+◌, ◌-◌, ◌*◌, ◌%◌, ◌<◌, ◌≤◌, Bool as Truth, true, false, ◌&&◌, not, nat_eq, nat_le, nat_lt, List, [], ◌∷◌, ◌++◌, length, get_or, slice_get, Option, None, Some, if◌then◌else◌}
 use Rattle.std.specs.Option.{is_some}
 use Rattle.id_value.specs.declared.Constant.{Constant}
 use Rattle.id_value.specs.declared.Constant.TheVariants as constant
@@ -9,13 +9,15 @@ use Rattle.id_value.specs.declared.Outcome.{Outcome}
 use Rattle.id_value.specs.declared.Outcome.TheVariants.{Gives, Fails, Lacks}
 use Rattle.id_value.specs.Results.{result_of_unary, result_of_binary}
 use Rattle.id_parts.specs.declared.row.Node.{Node}
-use Rattle.id_parts.specs.declared.row.Node.TheVariants.{Literal, Name, Unary, Binary, If, Block, Binding}
+use Rattle.id_parts.specs.declared.row.Node.TheVariants.{Head, Literal, Name, Unary, Binary, If, Arg, Call, Block, Binding, Def}
 use Rattle.id_parts.specs.Rows.{at}
 use Rattle.id_check.specs.declared.checked.Checked.{Checked}
-use Rattle.id_check.specs.Programs.{rows}
+use Rattle.id_check.specs.Programs.{binder, rows}
 use Rattle.id_meaning.specs.declared.SourceValue.{SourceValue}
 use Rattle.id_meaning.specs.declared.SourceValue.TheVariants.{Int, Bool}
+use Rattle.id_meaning.specs.declared.calls.OnCall.{OnCall}
 use Rattle.id_meaning.specs.declared.cells.Cell.{Cell}
+use Rattle.id_meaning.specs.declared.cells.Spot.{Spot}
 use Rattle.id_meaning.specs.declared.cells.RowFact.{RowFact}
 use Rattle.id_meaning.specs.declared.cells.RowFact.TheVariants.{On, Has}
 use Rattle.id_meaning.specs.declared.links.Links.{Links}
@@ -43,23 +45,65 @@ binary_of o None w = None
 binary_of o (Some v) None = None
 binary_of o (Some v) (Some w) = given (result_of_binary o (constant_of v) (constant_of w))
 
+-- ---- spots
+
 -- what a row has before the first round
 abbrev pub blank : Cell
 blank = record { on = false; has = None }
 
--- what the row has
-abbrev pub cell_at : List Cell → ℕ → Cell
-cell_at cs n = get_or cs n blank
+-- the chain that the spot with this path and row hangs in
+abbrev pub bucket_of : ℕ → ℕ → ℕ
+bucket_of p n = (n % 262144 + p % 262144 * 40503) % 262144
+
+-- whether the spot has this path and row
+abbrev pub is_at : Spot → ℕ → ℕ → Truth
+is_at s p n = nat_eq s.path p && nat_eq s.row n
+
+-- the number of the first spot with this path and row, where that of the first spot is k
+abbrev pub find_from : ℕ → List Spot → ℕ → ℕ → Option ℕ
+find_from k [] p n = None
+find_from k (s ∷ es) p n = if is_at s p n then Some k else find_from (suc k) es p n
+
+abbrev pub find : List Spot → ℕ → ℕ → Option ℕ
+find es p n = find_from 0 es p n
+
+-- the number of the path that begins at the first spot with this path and row, where there are so many spots
+abbrev pub begun_at : ℕ → Option ℕ → Option ℕ
+begun_at c None = None
+begun_at c (Some i) = if nat_lt i c then Some (i + 1) else None
+
+abbrev pub begun : List Spot → ℕ → ℕ → Option ℕ
+begun es p n = begun_at (length es) (find es p n)
+
+-- what the row has at the path
+abbrev pub cell_at : List Spot → ℕ → ℕ → Cell
+cell_at [] p n = blank
+cell_at (s ∷ es) p n = if is_at s p n then s.cell else cell_at es p n
+
+-- the spot of this number
+abbrev pub spot_at : List Spot → ℕ → Spot
+spot_at es i = get_or es i (record { path = 0; row = 0; cell = blank })
+
+-- the path of each spot was there before it
+abbrev pub AreBefore : List Spot → Type 0
+AreBefore es = (i : ℕ) → i < length es → (spot_at es i).path ≤ i
+
+-- the spots, in which the row has this at the path
+abbrev pub put : List Spot → ℕ → ℕ → Cell → List Spot
+put [] p n c = record { path = p; row = n; cell = c } ∷ []
+put (s ∷ es) p n c = if is_at s p n then record { path = p; row = n; cell = c } ∷ es else s ∷ put es p n c
+
+-- ---- what follows
 
 -- the value or row, where it is wanted
 abbrev pub when : {A : Type 0} → Truth → Option A → Option A
 when true v = v
 when false v = None
 
--- what the row has, if there is one
-abbrev pub seen : List Cell → Option ℕ → Option SourceValue
-seen cs None = None
-seen cs (Some a) = (cell_at cs a).has
+-- what the row has at the path, if there is one
+abbrev pub seen : List Spot → ℕ → Option ℕ → Option SourceValue
+seen es p None = None
+seen es p (Some a) = (cell_at es p a).has
 
 -- the arm of a conditional that this value of its predicate turns On, if it is a truth value
 abbrev pub arm_of : ℕ → ℕ → Option SourceValue → Option ℕ
@@ -68,96 +112,175 @@ arm_of x y (Some (Int n)) = None
 arm_of x y (Some (Bool true)) = Some x
 arm_of x y (Some (Bool false)) = Some y
 
--- the arm that the cells turn On with a row of this node, which may be On and may look at this row beyond its parts
-abbrev pub chosen : List Cell → Truth → Option ℕ → Node → Option ℕ
-chosen cs on b (If s x y) = when on (arm_of x y (seen cs b))
-chosen cs on b _ = None
+-- the arm that a row of this node turns On, which may be On and may see this value beyond its parts
+abbrev pub chosen : Truth → Option SourceValue → Node → Option ℕ
+chosen on v (If s x y) = when on (arm_of x y v)
+chosen on v _ = None
 
--- what the cells give a row of this node, which may be On and may look at this row beyond its parts
-abbrev pub gained : List Cell → Truth → Option ℕ → Node → Option SourceValue
-gained cs on b (Literal c) = when on (Some (value_of c))
-gained cs on b (Name x) = when on (seen cs b)
-gained cs on b (Unary o a) = when on (unary_of o (cell_at cs a).has)
-gained cs on b (Binary o a c) = when on (binary_of o (cell_at cs a).has (cell_at cs c).has)
-gained cs on b (If s x y) = seen cs (chosen cs on b (If s x y))
-gained cs on b (Block a) = when on (cell_at cs a).has
-gained cs on b (Binding x a) = (cell_at cs a).has
-gained cs on b _ = None
+-- what a row of this node gains at the path, which may be On and may see this value beyond its parts
+abbrev pub gained : List Spot → ℕ → Truth → Option SourceValue → Node → Option SourceValue
+gained es p on v (Literal c) = when on (Some (value_of c))
+gained es p on v (Name x) = when on v
+gained es p on v (Unary o a) = when on (unary_of o (cell_at es p a).has)
+gained es p on v (Binary o a b) = when on (binary_of o (cell_at es p a).has (cell_at es p b).has)
+gained es p on v (If s x y) = seen es p (chosen on v (If s x y))
+gained es p on v (Block a) = when on (cell_at es p a).has
+gained es p on v (Binding x a) = (cell_at es p a).has
+gained es p on v _ = None
 
--- the fact that a row has the value, if there is one
-abbrev pub value_fact : ℕ → Option SourceValue → List RowFact
-value_fact n None = []
-value_fact n (Some v) = Has n v ∷ []
+-- the fact that a row has the value at the path, if there is one
+abbrev pub value_fact : ℕ → ℕ → Option SourceValue → List RowFact
+value_fact p n None = []
+value_fact p n (Some v) = Has p n v ∷ []
 
--- the facts that rows are On
-abbrev pub ons : List ℕ → List RowFact
-ons [] = []
-ons (n ∷ ns) = On n ∷ ons ns
+-- the facts that rows are On at the path
+abbrev pub ons : ℕ → List ℕ → List RowFact
+ons p [] = []
+ons p (n ∷ ns) = On p n ∷ ons p ns
 
--- the facts that the cells give at the row n, which may be On, may look at this row beyond its parts, and has this node
-abbrev pub given_of : List Cell → ℕ → Truth → Option ℕ → Node → List RowFact
-given_of cs n on b z = ons (some_row (chosen cs on b z)) ++ value_fact n (gained cs on b z)
+-- the facts at the path that come at the row n, which may be On, may see this value beyond its parts, and has this node
+abbrev pub given_of : List Spot → ℕ → ℕ → Truth → Option SourceValue → Node → List RowFact
+given_of es p n on v z = ons p (some_row (chosen on v z)) ++ value_fact p n (gained es p on v z)
 
--- the facts that the cells give at the row
-abbrev pub given_at : Checked → List Cell → ℕ → List RowFact
-given_at P cs n = let z = (at (rows P) n).node in given_of cs n (cell_at cs n).on (beyond P n z) z
+-- the facts that come at the row at the path
+abbrev pub given_at : Checked → List Spot → ℕ → ℕ → List RowFact
+given_at P es p n =
+    let z = (at (rows P) n).node in given_of es p n (cell_at es p n).on (seen es p (beyond P n z)) z
 
--- those that they give at these rows
-abbrev pub gains : Checked → List Cell → List ℕ → List RowFact
-gains P cs [] = []
-gains P cs (n ∷ ns) = given_at P cs n ++ gains P cs ns
+-- what stands where the `Enter` at the row has its binder
+abbrev pub callee_by : Checked → Option ℕ → Node
+callee_by P None = Head
+callee_by P (Some d) = (at (rows P) d).node
 
--- the facts that follow from this one, with others that the cells have, by one rule
-abbrev pub effects : Checked → Links → List Cell → RowFact → List RowFact
-effects P l cs (On n) = ons (targets l.turns.rows.items n) ++ given_at P cs n
-effects P l cs (Has n v) = gains P cs (targets l.reads.rows.items n)
+abbrev pub callee_of : Checked → ℕ → Node
+callee_of P e = callee_by P (binder P e)
+
+-- the call of the `Enter` at the row e with the path that it begins, where its procedure has this node
+abbrev pub entered_by : ℕ → Option ℕ → Node → Option OnCall
+entered_by e (Some q) (Def x h k b) = Some (record { enter = e; path = q; head = h; body = b })
+entered_by e _ _ = None
+
+-- the call at a row of this node at the path, if it is On
+abbrev pub entered_of : Checked → List Spot → ℕ → ℕ → Node → Option OnCall
+entered_of P es p n (Call e c) = when (cell_at es p n).on (entered_by e (begun es p n) (callee_of P e))
+entered_of P es p n _ = None
+
+abbrev pub entered : Checked → List Spot → ℕ → ℕ → Option OnCall
+entered P es p n = entered_of P es p n (at (rows P) n).node
+
+-- the row of the parameter of this index behind its head, if there are so many rows
+abbrev pub param_row : ℕ → ℕ → ℕ → Option ℕ
+param_row c h k = if nat_lt h c && nat_lt k (c - h - 1) then Some (h + 1 + k) else None
+
+-- the fact that the row has the value at the path, if there are both
+abbrev pub param_fact : ℕ → Option ℕ → Option SourceValue → List RowFact
+param_fact q None v = []
+param_fact q (Some a) v = value_fact q a v
+
+-- the facts that come by a row of this node, if it is an argument of the call at the path
+abbrev pub passed_of : Checked → List Spot → ℕ → OnCall → Node → List RowFact
+passed_of P es p c (Arg e k v) = if nat_eq e c.enter then On p v ∷ param_fact c.path (param_row (length (rows P)) c.head k) (cell_at es p v).has else []
+passed_of P es p c _ = []
+
+abbrev pub all_passed : Checked → List Spot → ℕ → OnCall → List ℕ → List RowFact
+all_passed P es p c [] = []
+all_passed P es p c (m ∷ ms) = passed_of P es p c (at (rows P) m).node ++ all_passed P es p c ms
+
+-- the facts that come by the call at the row at the path, if it is On
+abbrev pub call_by : Checked → Links → List Spot → ℕ → ℕ → Option OnCall → List RowFact
+call_by P l es p n None = []
+call_by P l es p n (Some c) = On c.path c.body ∷ (value_fact p n (cell_at es c.path c.body).has ++ all_passed P es p c (targets l.reads.rows.items c.enter))
+
+abbrev pub call_at : Checked → Links → List Spot → ℕ → ℕ → List RowFact
+call_at P l es p n = call_by P l es p n (entered P es p n)
+
+-- those that come by the calls at these rows
+abbrev pub calls : Checked → Links → List Spot → ℕ → List ℕ → List RowFact
+calls P l es p [] = []
+calls P l es p (n ∷ ns) = call_at P l es p n ++ calls P l es p ns
+
+-- those that come by the call of a row of this node, if it is an argument
+abbrev pub passes_of : Checked → Links → List Spot → ℕ → Node → List RowFact
+passes_of P l es p (Arg e k v) = calls P l es p (targets l.reads.rows.items e)
+passes_of P l es p _ = []
+
+-- whether the row is the body of the call's procedure, if there is a call
+abbrev pub returns : Option OnCall → ℕ → Truth
+returns None n = false
+returns (Some c) n = nat_eq c.body n
+
+-- the facts that come by the call that the path begins with, where the row is its callee's body
+abbrev pub exit_of : Checked → Links → List Spot → ℕ → Spot → List RowFact
+exit_of P l es n s = if returns (entered P es s.path s.row) n then call_at P l es s.path s.row else []
+
+abbrev pub exit_at : Checked → Links → List Spot → ℕ → ℕ → List RowFact
+exit_at P l es p n = if nat_lt 0 p then exit_of P l es n (spot_at es (p - 1)) else []
+
+-- those that come at the row, or by the call whose argument it is
+abbrev pub gain_at : Checked → Links → List Spot → ℕ → ℕ → List RowFact
+gain_at P l es p n = given_at P es p n ++ passes_of P l es p (at (rows P) n).node
+
+abbrev pub gains : Checked → Links → List Spot → ℕ → List ℕ → List RowFact
+gains P l es p [] = []
+gains P l es p (n ∷ ns) = gain_at P l es p n ++ gains P l es p ns
+
+-- the facts that follow from this one, with others of the spots, by one rule
+abbrev pub effects : Checked → Links → List Spot → RowFact → List RowFact
+effects P l es (On p n) = ons p (targets l.turns.rows.items n) ++ (given_at P es p n ++ call_at P l es p n)
+effects P l es (Has p n v) = gains P l es p (targets l.reads.rows.items n) ++ exit_at P l es p n
 
 -- the facts that follow from one of these
-abbrev pub all_effects : Checked → Links → List Cell → List RowFact → List RowFact
-all_effects P l cs [] = []
-all_effects P l cs (f ∷ fs) = effects P l cs f ++ all_effects P l cs fs
+abbrev pub all_effects : Checked → Links → List Spot → List RowFact → List RowFact
+all_effects P l es [] = []
+all_effects P l es (f ∷ fs) = effects P l es f ++ all_effects P l es fs
 
 -- the facts that parameters at these rows have their inputs, the first of which has the number n
 abbrev pub input_facts : ℕ → List ℕ → List SourceValue → List RowFact
 input_facts n [] vs = []
-input_facts n (b ∷ bs) vs = value_fact b (slice_get vs n) ++ input_facts (suc n) bs vs
+input_facts n (b ∷ bs) vs = value_fact 0 b (slice_get vs n) ++ input_facts (suc n) bs vs
 
 -- the facts that follow from none
 abbrev pub first_facts : Checked → List SourceValue → List RowFact
-first_facts P vs = On (main_body P) ∷ input_facts 0 (main_params P) vs
+first_facts P vs = On 0 (main_body P) ∷ input_facts 0 (main_params P) vs
 
--- the row that the fact is of
+-- ---- what is learnt
+
+-- the path that the fact is of, and the row
+abbrev pub path_of : RowFact → ℕ
+path_of (On p n) = p
+path_of (Has p n v) = p
+
 abbrev pub row_of : RowFact → ℕ
-row_of (On n) = n
-row_of (Has n v) = n
+row_of (On p n) = n
+row_of (Has p n v) = n
 
 -- whether the cell has a fact of this kind
 abbrev pub is_taken : Cell → RowFact → Truth
-is_taken c (On n) = c.on
-is_taken c (Has n v) = is_some c.has
+is_taken c (On p n) = c.on
+is_taken c (Has p n v) = is_some c.has
 
 -- the cell with the fact
 abbrev pub with_fact : Cell → RowFact → Cell
-with_fact c (On n) = record { on = true; has = c.has }
-with_fact c (Has n v) = record { on = c.on; has = Some v }
+with_fact c (On p n) = record { on = true; has = c.has }
+with_fact c (Has p n v) = record { on = c.on; has = Some v }
 
--- whether the fact is of one of the rows, which has none of this kind yet
-abbrev pub is_fresh : List Cell → RowFact → Truth
-is_fresh cs f = nat_lt (row_of f) (length cs) && not (is_taken (cell_at cs (row_of f)) f)
+-- whether the path of the fact is there, and its row has none of this kind yet
+abbrev pub is_fresh : List Spot → RowFact → Truth
+is_fresh es f = nat_le (path_of f) (length es) && not (is_taken (cell_at es (path_of f) (row_of f)) f)
 
--- the cells with the fact, where it is fresh
-abbrev pub learnt : List Cell → RowFact → List Cell
-learnt cs f = if is_fresh cs f then slice_set cs (row_of f) (with_fact (cell_at cs (row_of f)) f) else cs
+-- the spots with the fact, where it is fresh
+abbrev pub learnt : List Spot → RowFact → List Spot
+learnt es f = if is_fresh es f then put es (path_of f) (row_of f) (with_fact (cell_at es (path_of f) (row_of f)) f) else es
 
-abbrev pub all_learnt : List Cell → List RowFact → List Cell
-all_learnt cs [] = cs
-all_learnt cs (f ∷ fs) = all_learnt (learnt cs f) fs
+abbrev pub all_learnt : List Spot → List RowFact → List Spot
+all_learnt es [] = es
+all_learnt es (f ∷ fs) = all_learnt (learnt es f) fs
 
 -- the fact, where it is fresh
-abbrev pub news_of : List Cell → RowFact → List RowFact
-news_of cs f = if is_fresh cs f then f ∷ [] else []
+abbrev pub news_of : List Spot → RowFact → List RowFact
+news_of es f = if is_fresh es f then f ∷ [] else []
 
 -- those of the facts that are fresh, each when its turn comes
-abbrev pub all_news : List Cell → List RowFact → List RowFact
-all_news cs [] = []
-all_news cs (f ∷ fs) = news_of cs f ++ all_news (learnt cs f) fs
+abbrev pub all_news : List Spot → List RowFact → List RowFact
+all_news es [] = []
+all_news es (f ∷ fs) = news_of es f ++ all_news (learnt es f) fs

@@ -1,14 +1,15 @@
 -- The facts of a source, and the rules that give them (docs/MEANING.md, "Facts", "Rules").
-use Rattle.std.specs.Prelude.{◌≡◌, ℕ, ◌-◌, Bool as Truth, true, false, List, [], ◌∷◌, length, take, Some}
+use Rattle.std.specs.Prelude.{◌≡◌, ℕ, ◌-◌, ◌++◌, Bool as Truth, true, false, List, [], ◌∷◌, length, take, Some, slice_get}
 use Rattle.id_value.specs.declared.Constant.{Constant}
 use Rattle.id_value.specs.declared.Constant.TheVariants as constant
 use Rattle.id_value.specs.declared.UnaryOp.{UnaryOp}
 use Rattle.id_value.specs.declared.BinaryOp.{BinaryOp}
 use Rattle.id_value.specs.declared.FaultKind.{FaultKind}
+use Rattle.id_value.specs.declared.Kind.{Kind}
 use Rattle.id_value.specs.declared.Outcome.TheVariants.{Gives, Fails}
 use Rattle.id_value.specs.Results.{result_of_unary, result_of_binary}
-use Rattle.id_parts.specs.declared.row.Node.TheVariants.{Literal, Name, Unary, Binary, Split, If, Block, Binding}
-use Rattle.id_parts.specs.Turns.{IsStatement}
+use Rattle.id_parts.specs.declared.row.Node.TheVariants.{Literal, Name, Unary, Binary, Split, If, Arg, Call, Block, Binding, Def}
+use Rattle.id_parts.specs.Turns.{IsStatement, params_at}
 use Rattle.id_check.specs.Scopes.{loops_between}
 use Rattle.id_check.specs.Programs.{Stands, binder, place, rows}
 use Rattle.id_meaning.specs.declared.Path.{Path}
@@ -25,6 +26,10 @@ outermost = record { steps = [] }
 -- the path without its last d steps
 abbrev pub without : ℕ → Path → Path
 without d p = record { steps = take (length p.steps - d) p.steps }
+
+-- the path with one more step, at a place
+abbrev pub below : Path → ℕ → ℕ → Path
+below p e k = record { steps = p.steps ++ record { place = e; number = k } ∷ [] }
 
 -- how many loops stand between the name at the row i and its binder b
 abbrev pub between : Source → ℕ → ℕ → ℕ
@@ -66,6 +71,15 @@ pub data Rule (S : Source) : List Fact → Fact → Type 0 where
       → Rule S (On p (place S.checked n) ∷ Has p (place S.checked t) (value_of (constant.Bool b)) ∷ []) (On p (place S.checked a))
   conditional_has : {n t a : ℕ} {b : Truth} {p : Path} {v : SourceValue} → Chooses S n t b a
       → Rule S (On p (place S.checked n) ∷ Has p (place S.checked t) (value_of (constant.Bool b)) ∷ Has p (place S.checked a) v ∷ []) (Has p (place S.checked n) v)
+  argument_on : {n e c m k v : ℕ} {p : Path} → Stands S.checked n (Call e c) → Stands S.checked m (Arg e k v)
+      → Rule S (On p (place S.checked n) ∷ []) (On p (place S.checked v))
+  callee_on : {n e c d x h b : ℕ} {k : Kind} {p : Path} → Stands S.checked n (Call e c) → binder S.checked e ≡ Some d → Stands S.checked d (Def x h k b)
+      → Rule S (On p (place S.checked n) ∷ []) (On (below p (place S.checked n) 0) (place S.checked b))
+  argument_has : {n e c d x h b m i v q : ℕ} {k : Kind} {p : Path} {u : SourceValue} → Stands S.checked n (Call e c) → Stands S.checked m (Arg e i v)
+      → binder S.checked e ≡ Some d → Stands S.checked d (Def x h k b) → slice_get (params_at (rows S.checked) h) i ≡ Some q
+      → Rule S (On p (place S.checked n) ∷ Has p (place S.checked v) u ∷ []) (Has (below p (place S.checked n) 0) (place S.checked q) u)
+  call_has : {n e c d x h b : ℕ} {k : Kind} {p : Path} {u : SourceValue} → Stands S.checked n (Call e c) → binder S.checked e ≡ Some d → Stands S.checked d (Def x h k b)
+      → Rule S (On p (place S.checked n) ∷ Has (below p (place S.checked n) 0) (place S.checked b) u ∷ []) (Has p (place S.checked n) u)
   -- an On block turns the expressions of its bindings and its body On, and Has its body's value
   statement_on : {n m x a b : ℕ} {p : Path} → Stands S.checked n (Block b) → IsStatement (rows S.checked) n m → Stands S.checked m (Binding x a)
       → Rule S (On p (place S.checked n) ∷ []) (On p (place S.checked a))

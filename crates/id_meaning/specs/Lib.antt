@@ -9,5 +9,6 @@ pub mod Inputs
 -- For use inside.
 pub mod Links
 pub mod Cells
+pub mod Chains
 pub mod Listed
 pub mod Reading

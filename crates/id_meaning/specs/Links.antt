@@ -4,8 +4,9 @@ use Rattle.std.proofs.Common.{Vec, Global}
 use Rattle.id_list.specs.List.{Among}
 use Rattle.id_parts.specs.declared.row.Row.{Row}
 use Rattle.id_parts.specs.declared.row.Node.{Node}
-use Rattle.id_parts.specs.declared.row.Node.TheVariants.{Name, Unary, Binary, Split, If, Block, Binding}
+use Rattle.id_parts.specs.declared.row.Node.TheVariants.{Name, Unary, Binary, Split, If, Arg, Call, Block, Binding}
 use Rattle.id_parts.specs.Rows.{at}
+use Rattle.id_parts.specs.Tables.{is_call}
 use Rattle.id_parts.specs.Turns.{Turns, in_block}
 use Rattle.id_check.specs.declared.checked.Checked.{Checked}
 use Rattle.id_check.specs.Programs.{binder, rows}
@@ -68,12 +69,14 @@ parts_turned R (If s x y) = some_row (test_of (at R s).node)
 parts_turned R (Block b) = b ∷ []
 parts_turned R _ = []
 
--- the rows whose values a row of this node reads, which may look at this row beyond its parts
+-- the rows whose values a row of this node reads, which may look at this row beyond its parts, and the `Enter` that it names
 abbrev pub reads_of : Option ℕ → Node → List ℕ
 reads_of o (Name x) = some_row o
 reads_of o (Unary p a) = a ∷ []
 reads_of o (Binary p a b) = a ∷ b ∷ []
 reads_of o (If s x y) = some_row o ++ x ∷ y ∷ []
+reads_of o (Arg e k v) = e ∷ v ∷ []
+reads_of o (Call e c) = e ∷ []
 reads_of o (Block b) = b ∷ []
 reads_of o (Binding x a) = a ∷ []
 reads_of o _ = []
@@ -82,13 +85,17 @@ reads_of o _ = []
 abbrev pub reads_at : Checked → ℕ → List ℕ
 reads_at P n = let z = (at (rows P) n).node in reads_of (beyond P n z) z
 
--- of the first i rows the edges are what each expression turns On
+-- an expression that is no call turns this one On
+abbrev pub TurnsOn : List Row → ℕ → ℕ → Type 0
+TurnsOn R n a = Turns R n a × (is_call (at R n).node ≡ false)
+
+-- of the first i rows the edges are what each expression but a call turns On
 pub record AreTurnsTo (R : List Row) (i : ℕ) (E : Edges) : Type 0 where
   pub wide : width E ≡ length R
-  pub all : (n a : ℕ) → n < i → n < length R → Turns R n a → Leads E n a
-  pub only : (n a : ℕ) → Leads E n a → (n < i) × Turns R n a
+  pub all : (n a : ℕ) → n < i → n < length R → TurnsOn R n a → Leads E n a
+  pub only : (n a : ℕ) → Leads E n a → (n < i) × TurnsOn R n a
 
--- the edges are what each expression turns On
+-- the edges are what each expression but a call turns On
 abbrev pub AreTurns : List Row → Edges → Type 0
 AreTurns R E = AreTurnsTo R (length R) E
 

@@ -1,84 +1,114 @@
--- The facts of a round, worked out of what its rows have.
-use Rattle.std.specs.Prelude.{◌≡◌, ◌<◌, ◌||◌, ℕ, suc, true, List, [], ◌∷◌, ◌++◌, length, Option, None, Some, if◌then◌else◌, IsPermutation}
-use Rattle.std.specs.List.Sorted.{IsNonDecreasingBy}
-use Rattle.std.specs.Option.{is_some}
+-- The facts of a round, worked out of what rows have at paths.
+use Rattle.std.specs.Prelude.{◌≡◌, ◌<◌, ◌≤◌, ℕ, zero, suc, true, false, Bool as Truth, List, [], ◌∷◌, ◌++◌, length, Option, None, Some, if◌then◌else◌, AllPairs, IsPermutation}
+use Rattle.std.specs.declared.cmp.Ordering.{Ordering}
+use Rattle.std.specs.Ordering.{is_lt, nat_cmp, ordering_then}
+use Rattle.std.specs.Cmp.Lexicographic.{slice_cmp}
 use Rattle.id_check.specs.declared.checked.Checked.{Checked}
 use Rattle.id_parts.specs.Rows.{at}
 use Rattle.id_parts.specs.Tables.{is_thing}
 use Rattle.id_check.specs.Programs.{place, rows}
+use Rattle.id_meaning.specs.declared.PathStep.{PathStep}
+use Rattle.id_meaning.specs.declared.Path.{Path}
 use Rattle.id_meaning.specs.declared.SourceValue.{SourceValue}
 use Rattle.id_meaning.specs.declared.Fact.{Fact}
 use Rattle.id_meaning.specs.declared.Fact.TheVariants as fact
-use Rattle.id_meaning.specs.declared.cells.Cell.{Cell}
+use Rattle.id_meaning.specs.declared.cells.Spot.{Spot}
 use Rattle.id_meaning.specs.declared.cells.RowFact.{RowFact}
 use Rattle.id_meaning.specs.declared.cells.RowFact.TheVariants.{On, Has}
-use Rattle.id_meaning.specs.declared.listing.Placed.{Placed}
 use Rattle.id_meaning.specs.Sources.{Source}
-use Rattle.id_meaning.specs.Facts.{outermost}
 use Rattle.id_meaning.specs.Rounds.{Rounds}
-use Rattle.id_meaning.specs.Cells.{cell_at, row_of}
+use Rattle.id_meaning.specs.Cells.{cell_at, path_of, spot_at}
+
+-- the step to the call at the row
+abbrev pub step_at : Checked → ℕ → PathStep
+step_at P n = record { place = place P n; number = 0 }
+
+-- the steps of the path of this number, the last k of them: those of the path of the call's spot, and then the call
+abbrev pub steps_of : Checked → List Spot → ℕ → ℕ → List PathStep
+steps_of P es zero q = []
+steps_of P es (suc k) zero = []
+steps_of P es (suc k) (suc q) = steps_of P es k (spot_at es q).path ++ step_at P (spot_at es q).row ∷ []
+
+-- the path of this number: 0 is that of the outermost, and a call's that of its spot, counted from 1
+abbrev pub path_at : Checked → List Spot → ℕ → Path
+path_at P es q = record { steps = steps_of P es q q }
 
 -- the fact of the source that a row's fact is
-abbrev pub fact_of : Source → RowFact → Fact
-fact_of S (On n) = fact.On outermost (place S.checked n)
-fact_of S (Has n v) = fact.Has outermost (place S.checked n) v
+abbrev pub fact_of : Source → List Spot → RowFact → Fact
+fact_of S es (On p n) = fact.On (path_at S.checked es p) (place S.checked n)
+fact_of S es (Has p n v) = fact.Has (path_at S.checked es p) (place S.checked n) v
 
--- the cells have the fact
-abbrev pub Known : List Cell → RowFact → Type 0
-Known cs (On n) = (cell_at cs n).on ≡ true
-Known cs (Has n v) = (cell_at cs n).has ≡ Some v
+-- the spots have the fact
+abbrev pub Known : List Spot → RowFact → Type 0
+Known es (On p n) = (cell_at es p n).on ≡ true
+Known es (Has p n v) = (cell_at es p n).has ≡ Some v
 
 -- a thing stands at the row
 pub record IsThing (S : Source) (n : ℕ) : Type 0 where
   pub within : n < length (rows S.checked)
   pub thing : is_thing (at (rows S.checked) n).node ≡ true
 
--- the fact is one of a row that the cells have
-pub record Shows (S : Source) (cs : List Cell) (f : Fact) : Type 0 where
+-- the fact is one of a row that the spots have
+pub record Shows (S : Source) (es : List Spot) (f : Fact) : Type 0 where
   pub fact : RowFact
-  pub known : Known cs fact
-  pub is : f ≡ fact_of S fact
+  pub known : Known es fact
+  pub is : f ≡ fact_of S es fact
 
--- the cells have exactly the facts of round n
-pub record IsRound (S : Source) (n : ℕ) (cs : List Cell) : Type 0 where
-  pub all : (f : Fact) → Rounds S n f → Shows S cs f
-  pub only : (f : RowFact) → Known cs f → Rounds S n (fact_of S f)
-  pub thing : (f : RowFact) → Known cs f → IsThing S (row_of f)
+-- the spots are of things, each at a path that was there before it, and no two are of one path and row
+pub record AreSpots (S : Source) (es : List Spot) : Type 0 where
+  pub things : (i : ℕ) → i < length es → IsThing S (spot_at es i).row
+  pub before : (i : ℕ) → i < length es → (spot_at es i).path ≤ i
+  pub apart : (i j : ℕ) → i < length es → j < length es → (spot_at es i).path ≡ (spot_at es j).path → (spot_at es i).row ≡ (spot_at es j).row → i ≡ j
+
+-- the spots have exactly the facts of round n
+pub record IsRound (S : Source) (n : ℕ) (es : List Spot) : Type 0 where
+  pub all : (f : Fact) → Rounds S n f → Shows S es f
+  pub only : (f : RowFact) → Known es f → Rounds S n (fact_of S es f)
+  pub inside : (f : RowFact) → Known es f → path_of f ≤ length es
+  pub spots : AreSpots S es
+
+-- ---- as a list
 
 -- the fact that the row is On, where it is
-abbrev pub on_fact : ℕ → Cell → List Fact
-on_fact e c = if c.on then fact.On outermost e ∷ [] else []
+abbrev pub on_fact : Path → ℕ → Truth → List Fact
+on_fact p e on = if on then fact.On p e ∷ [] else []
 
 -- the fact that the row Has its value, where it has one
-abbrev pub value_fact : ℕ → Option SourceValue → List Fact
-value_fact e None = []
-value_fact e (Some v) = fact.Has outermost e v ∷ []
+abbrev pub value_fact : Path → ℕ → Option SourceValue → List Fact
+value_fact p e None = []
+value_fact p e (Some v) = fact.Has p e v ∷ []
 
--- those of rows with their places
-abbrev pub on_facts : List Cell → List Placed → List Fact
-on_facts cs [] = []
-on_facts cs (x ∷ xs) = on_fact x.place (cell_at cs x.row) ++ on_facts cs xs
+-- those of the spot, which is one of these
+abbrev pub spot_facts : Checked → List Spot → Spot → List Fact
+spot_facts P es s = let p = path_at P es s.path in on_fact p (place P s.row) s.cell.on ++ value_fact p (place P s.row) s.cell.has
 
-abbrev pub has_facts : List Cell → List Placed → List Fact
-has_facts cs [] = []
-has_facts cs (x ∷ xs) = value_fact x.place (cell_at cs x.row).has ++ has_facts cs xs
+-- those of all of the spots, which are some of these
+abbrev pub facts_in : Checked → List Spot → List Spot → List Fact
+facts_in P all [] = []
+facts_in P all (s ∷ es) = spot_facts P all s ++ facts_in P all es
 
--- the row, where its cell has a fact
-abbrev pub placed_row : Placed → Cell → List Placed
-placed_row x c = if c.on || is_some c.has then x ∷ [] else []
+-- 0 for On, 1 for Has; and where a fact stands
+abbrev pub kind_of : Fact → ℕ
+kind_of (fact.On p e) = 0
+kind_of (fact.Has p e v) = 1
 
--- the rows that the cells have facts of, with their places, the first of which has the number n
-abbrev pub placed : Checked → ℕ → List Cell → List Placed
-placed P n [] = []
-placed P n (c ∷ cs) = placed_row (record { place = place P n; row = n }) c ++ placed P (suc n) cs
+abbrev pub steps_in : Fact → List PathStep
+steps_in (fact.On p e) = p.steps
+steps_in (fact.Has p e v) = p.steps
 
--- these are those rows, by place
-pub record AreInOrder (P : Checked) (cs : List Cell) (xs : List Placed) : Type 0 where
-  pub same : IsPermutation (placed P 0 cs) xs
-  pub up : IsNonDecreasingBy (λ x. x.place) xs
+abbrev pub place_in : Fact → ℕ
+place_in (fact.On p e) = e
+place_in (fact.Has p e v) = e
 
--- the facts are those that the cells show, by place
-pub record AreShown (P : Checked) (cs : List Cell) (fs : List Fact) : Type 0 where
-  pub order : List Placed
-  pub in_order : AreInOrder P cs order
-  pub is : fs ≡ on_facts cs order ++ has_facts cs order
+-- how two steps compare: by place, then by number
+abbrev pub step_cmp : PathStep → PathStep → Ordering
+step_cmp s t = ordering_then (nat_cmp s.place t.place) (nat_cmp s.number t.number)
+
+-- how two facts compare: On before Has, then by path, then by place
+abbrev pub fact_cmp : Fact → Fact → Ordering
+fact_cmp f g = ordering_then (nat_cmp (kind_of f) (kind_of g)) (ordering_then (slice_cmp step_cmp (steps_in f) (steps_in g)) (nat_cmp (place_in f) (place_in g)))
+
+-- the facts are those that the spots show, and none stands behind one that it compares less than
+pub record AreShown (P : Checked) (es : List Spot) (fs : List Fact) : Type 0 where
+  pub same : IsPermutation (facts_in P es es) fs
+  pub up : AllPairs (λ f g. is_lt (fact_cmp g f) ≡ false) fs

@@ -1,12 +1,13 @@
-//! What the rows of a program have after some rounds (docs/MEANING.md, "Rounds").
+//! What rows have at paths after some rounds (docs/MEANING.md, "Rounds").
 
-ghost use Rattle.std.specs.Prelude.{◌≡◌, ◌++◌, OnOk};
-ghost use Rattle.id_meaning.specs.Cells.{all_learnt, all_news, cell_at, is_fresh, is_taken, learnt, row_of, with_fact};
+ghost use Rattle.std.specs.Prelude.{◌≡◌, ◌<◌, ◌≤◌, ◌++◌, length, replicate, OnOk, IfOk};
+ghost use Rattle.id_meaning.specs.Cells.{all_learnt, all_news, bucket_of, is_at, is_fresh, is_taken, learnt, path_of, row_of, with_fact};
 
 use crate::SourceValue;
-use std::alloc::AllocError;
+use std::alloc::{AllocError, Global};
+use std::marker::Model;
 
-/// What a row has so far: whether it is On, and its value.
+/// What a row has at a path so far: whether it is On, and its value.
 #[derive(Clone, Copy)]
 pub struct Cell {
     pub on: bool,
@@ -19,52 +20,255 @@ pub const BLANK: Cell = Cell {
     has: None,
 };
 
-/// A fact at the empty path, by row.
+/// A fact by path and row. The outermost path has the number 0.
 #[derive(Clone, Copy)]
 pub enum RowFact {
-    On { row: usize },
-    Has { row: usize, value: SourceValue },
+    On {
+        path: usize,
+        row: usize,
+    },
+    Has {
+        path: usize,
+        row: usize,
+        value: SourceValue,
+    },
+}
+
+/// What a row has at a path.
+#[derive(Clone, Copy)]
+pub struct Spot {
+    pub path: usize,
+    pub row: usize,
+    pub cell: Cell,
+}
+
+/// How many chains the spots hang in.
+const CHAINS: usize = 262_144;
+
+/// What rows have at paths. Contracts see a list of spots, no two of one path and row.
+///
+/// A spot is found by its chain: from the last one that is in it to those before it.
+#[derive(Drop)]
+pub struct Cells {
+    /// For each chain the last of its spots, counted from 1, or 0.
+    heads: Vec<usize>,
+    /// For each spot the one before it in its chain, counted from 1, or 0; more may stand behind.
+    nexts: Vec<usize>,
+    spots: Vec<Spot>,
+}
+
+impl Model for Cells {
+    ghost use Rattle.std.specs.Prelude.{List};
+    ghost use Rattle.id_meaning.specs.declared.cells.Spot.{Spot};
+    ghost use Rattle.id_meaning.specs.Chains.{IsChained};
+
+    ghost Value = { List Spot };
+
+    ghost view = { λ c. c.spots.items };
+
+    ghost invariant = { λ c. IsChained c.heads.items c.nexts.items c.spots.items };
+}
+
+impl Cells {
+    ghost use Rattle.std.specs.Prelude.{◌≡◌, ◌≤◌, [], length, Some, None, OnOk, IfOk};
+    ghost use Rattle.id_meaning.specs.Cells.{AreBefore, begun, cell_at, find, put, spot_at};
+
+    /// No spots.
+    pub fn new(alloc: Global) -> Result<Cells, AllocError>
+        ensures { IfOk result (λ c. c ≡ []) }
+    {
+        let heads = zeros(alloc, CHAINS)?;
+        Ok(Cells {
+            heads,
+            nexts: Vec::new(alloc),
+            spots: Vec::new(alloc),
+        })
+    }
+
+    /// How many spots there are.
+    pub fn len(&self) -> usize
+        ensures { result ≡ length self.now }
+    {
+        self.spots.len()
+    }
+
+    /// The number of the spot with this path and row, if there is one.
+    pub fn find(&self, path: usize, row: usize) -> Option<usize>
+        ensures { result ≡ find self.now path row }
+    {
+        let mut next = self.heads[bucket_of(path, row)];
+        while next > 0 {
+            let spot = self.spots[next - 1];
+            if is_at(spot, path, row) {
+                return Some(next - 1);
+            }
+            next = self.nexts[next - 1];
+        }
+        None
+    }
+
+    /// The number of the path that begins at the spot with this path and row, if there is one.
+    pub fn begun(&self, path: usize, row: usize) -> Option<usize>
+        ensures { result ≡ begun self.now path row }
+    {
+        match self.find(path, row) {
+            Some(number) if number < self.spots.len() => Some(number + 1),
+            _ => None,
+        }
+    }
+
+    /// The spots, in the order in which they came.
+    pub fn as_slice(&self) -> &[Spot]
+        ensures { result.now ≡ self.now }
+    {
+        self.spots.as_slice()
+    }
+
+    /// The spot of this number; past the last one, a blank one.
+    pub fn spot(&self, number: usize) -> Spot
+        ensures is { result ≡ spot_at self.now number }
+        ensures before { result.path ≤ number }
+        ensures kept { AreBefore self.now }
+    {
+        if number < self.spots.len() {
+            self.spots[number]
+        } else {
+            Spot {
+                path: 0,
+                row: 0,
+                cell: BLANK,
+            }
+        }
+    }
+
+    /// What the row has at the path.
+    pub fn read(&self, path: usize, row: usize) -> Cell
+        ensures { result ≡ cell_at self.now path row }
+    {
+        match self.find(path, row) {
+            Some(number) => self.spots[number].cell,
+            None => BLANK,
+        }
+    }
+
+    /// Puts the cell into the spot of this number, which has this path and row.
+    fn set(&mut self, number: usize, path: usize, row: usize, cell: Cell)
+        requires { find self.old path row ≡ Some number }
+        ensures { self.new ≡ put self.old path row cell }
+    {
+        self.spots[number] = Spot { path, row, cell };
+    }
+
+    /// Adds a spot.
+    fn push(&mut self, path: usize, row: usize, cell: Cell) -> Result<(), AllocError>
+        requires new { find self.old path row ≡ None }
+        requires inside { path ≤ length self.old }
+        ensures { OnOk result (self.new ≡ put self.old path row cell) }
+    {
+        let chain = bucket_of(path, row);
+        self.nexts.truncate(self.spots.len());
+        self.nexts.push(self.heads[chain])?;
+        self.spots.push(Spot { path, row, cell })?;
+        self.heads[chain] = self.spots.len();
+        Ok(())
+    }
+}
+
+/// So many zeros.
+fn zeros(alloc: Global, count: usize) -> Result<Vec<usize>, AllocError>
+    ensures { IfOk result (λ v. v.items ≡ replicate count 0) }
+{
+    let zeros = vec![in alloc; 0; count]?;
+    Ok(zeros)
+}
+
+/// Whether the spot has this path and row.
+fn is_at(spot: Spot, path: usize, row: usize) -> bool
+    ensures { result ≡ is_at spot path row }
+{
+    spot.path == path && spot.row == row
+}
+
+/// The chain that the spot with this path and row hangs in.
+fn bucket_of(path: usize, row: usize) -> usize
+    ensures chain { result ≡ bucket_of path row }
+    ensures within { result < 262144 }
+{
+    (row % CHAINS + path % CHAINS * 40_503) % CHAINS
 }
 
 /// Puts facts into the cells, and those among the news that were not there.
 pub fn learn_all(
-    cells: &mut Vec<Cell>,
+    cells: &mut Cells,
     news: &mut Vec<RowFact>,
     facts: &[RowFact],
 ) -> Result<(), AllocError>
-    ensures cells { OnOk result (cells.new.items ≡ all_learnt cells.old.items facts.now) }
-    ensures news { OnOk result (news.new.items ≡ news.old.items ++ all_news cells.old.items facts.now) }
+    ensures cells { OnOk result (cells.new ≡ all_learnt cells.old facts.now) }
+    ensures news { OnOk result (news.new.items ≡ news.old.items ++ all_news cells.old facts.now) }
 {
     for fact in facts {
-        if learn(cells, *fact) {
+        if learn(cells, *fact)? {
             news.push(*fact)?;
         }
     }
     Ok(())
 }
 
-/// Puts a fact into the cells, if the row has none of its kind; tells whether it was not there.
-fn learn(cells: &mut Vec<Cell>, fact: RowFact) -> bool
-    ensures cells { cells.new.items ≡ learnt cells.old.items fact }
-    ensures fresh { result ≡ is_fresh cells.old.items fact }
+/// Puts a fact into the cells, if its path is there and the row has none of its kind; tells whether it was not there.
+fn learn(cells: &mut Cells, fact: RowFact) -> Result<bool, AllocError>
+    ensures cells { OnOk result (cells.new ≡ learnt cells.old fact) }
+    ensures fresh { IfOk result (λ b. b ≡ is_fresh cells.old fact) }
 {
-    let row = row_of(fact);
-    if row >= cells.len() {
-        return false;
+    let path = path_of(fact);
+    if path > cells.len() {
+        return Ok(false);
     }
-    let cell = cells[row];
-    if is_taken(cell, fact) {
-        return false;
+    learn_there(cells, path, row_of(fact), fact)
+}
+
+/// Puts a fact into the cells at its path and row, if there is none of its kind; tells whether it was not there.
+fn learn_there(
+    cells: &mut Cells,
+    path: usize,
+    row: usize,
+    fact: RowFact,
+) -> Result<bool, AllocError>
+    requires path { path ≡ path_of fact }
+    requires row { row ≡ row_of fact }
+    requires inside { path ≤ length cells.old }
+    ensures cells { OnOk result (cells.new ≡ learnt cells.old fact) }
+    ensures fresh { IfOk result (λ b. b ≡ is_fresh cells.old fact) }
+{
+    match cells.find(path, row) {
+        Some(number) => {
+            let cell = cells.read(path, row);
+            if is_taken(cell, fact) {
+                return Ok(false);
+            }
+            cells.set(number, path, row, with_fact(cell, fact));
+            Ok(true)
+        }
+        None => {
+            cells.push(path, row, with_fact(BLANK, fact))?;
+            Ok(true)
+        }
     }
-    cells[row] = with_fact(cell, fact);
-    true
+}
+
+fn path_of(fact: RowFact) -> usize
+    ensures { result ≡ path_of fact }
+{
+    match fact {
+        RowFact::On { path, .. } => path,
+        RowFact::Has { path, .. } => path,
+    }
 }
 
 fn row_of(fact: RowFact) -> usize
     ensures { result ≡ row_of fact }
 {
     match fact {
-        RowFact::On { row } => row,
+        RowFact::On { row, .. } => row,
         RowFact::Has { row, .. } => row,
     }
 }
@@ -92,11 +296,4 @@ fn with_fact(cell: Cell, fact: RowFact) -> Cell
             has: Some(value),
         },
     }
-}
-
-/// What the row has; past the last one, nothing.
-pub fn read(cells: &[Cell], row: usize) -> Cell
-    ensures { result ≡ cell_at cells.now row }
-{
-    if row < cells.len() { cells[row] } else { BLANK }
 }

@@ -1,12 +1,13 @@
 //! What follows by one rule, row by row (docs/MEANING.md, "Rules").
 
 ghost use Rattle.std.specs.Prelude.{◌≡◌, ◌++◌, slice_get, IfOk, OnOk};
-ghost use Rattle.id_meaning.specs.Cells.{all_effects, arm_of, binary_of, chosen, constant_of, effects, first_facts, gained, gains, given, given_at, given_of, input_facts, ons, seen, unary_of, value_fact, when};
+ghost use Rattle.id_meaning.specs.Cells.{all_effects, arm_of, binary_of, chosen, constant_of, effects, first_facts, gain_at, gained, gains, given, given_at, given_of, input_facts, ons, seen, unary_of, value_fact, when};
 ghost use Rattle.id_meaning.specs.Links.{some_row};
 ghost use Rattle.id_meaning.specs.Sources.{main_body, value_of};
 
 use crate::SourceValue;
-use crate::cells::{Cell, RowFact, read};
+use crate::calls::{add_call, add_exit, add_passes};
+use crate::cells::{Cells, RowFact};
 use crate::links::{Links, beyond};
 use crate::params::{main_body, main_params, node_of};
 use id_check::Checked;
@@ -24,6 +25,7 @@ pub fn first_facts(
 {
     let mut facts = Vec::new(alloc);
     facts.push(RowFact::On {
+        path: 0,
         row: main_body(checked),
     })?;
     let params = main_params(alloc, checked)?;
@@ -40,7 +42,7 @@ fn add_inputs(
     ensures { OnOk result (facts.new.items ≡ facts.old.items ++ input_facts 0 params.now inputs.now) }
 {
     for (number, row) in params.iter().enumerate() {
-        add_value(facts, *row, input(inputs, number))?;
+        add_value(facts, 0, *row, input(inputs, number))?;
     }
     Ok(())
 }
@@ -60,7 +62,7 @@ pub fn add_all_effects(
     found: &mut Vec<RowFact>,
     checked: &Checked,
     links: &Links,
-    cells: &[Cell],
+    cells: &Cells,
     news: &[RowFact],
 ) -> Result<(), AllocError>
     ensures { OnOk result
@@ -77,106 +79,121 @@ fn add_effects(
     found: &mut Vec<RowFact>,
     checked: &Checked,
     links: &Links,
-    cells: &[Cell],
+    cells: &Cells,
     fact: RowFact,
 ) -> Result<(), AllocError>
     ensures { OnOk result
         (found.new.items ≡ found.old.items ++ effects checked.now links.now cells.now fact) }
 {
     match fact {
-        RowFact::On { row } => {
-            add_ons(found, links.turns.of(row))?;
-            add_given(found, checked, cells, row)
+        RowFact::On { path, row } => {
+            add_ons(found, path, links.turns.of(row))?;
+            add_given(found, checked, cells, path, row)?;
+            add_call(found, checked, links, cells, path, row)
         }
-        RowFact::Has { row, .. } => add_gains(found, checked, cells, links.reads.of(row)),
+        RowFact::Has { path, row, .. } => {
+            add_gains(found, checked, links, cells, path, links.reads.of(row))?;
+            add_exit(found, checked, links, cells, path, row)
+        }
     }
 }
 
-/// Adds that these rows are On.
-fn add_ons(found: &mut Vec<RowFact>, rows: &[usize]) -> Result<(), AllocError>
-    ensures { OnOk result (found.new.items ≡ found.old.items ++ ons rows.now) }
+/// Adds that these rows are On at the path.
+fn add_ons(found: &mut Vec<RowFact>, path: usize, rows: &[usize]) -> Result<(), AllocError>
+    ensures { OnOk result (found.new.items ≡ found.old.items ++ ons path rows.now) }
 {
     for row in rows {
-        found.push(RowFact::On { row: *row })?;
+        found.push(RowFact::On { path, row: *row })?;
     }
     Ok(())
 }
 
-/// Adds the facts that the cells give at these rows.
+/// Adds the facts that come at these rows at the path.
 fn add_gains(
     found: &mut Vec<RowFact>,
     checked: &Checked,
-    cells: &[Cell],
+    links: &Links,
+    cells: &Cells,
+    path: usize,
     rows: &[usize],
 ) -> Result<(), AllocError>
-    ensures { OnOk result (found.new.items ≡ found.old.items ++ gains checked.now cells.now rows.now) }
+    ensures { OnOk result
+        (found.new.items ≡ found.old.items ++ gains checked.now links.now cells.now path rows.now) }
 {
     for row in rows {
-        add_given(found, checked, cells, *row)?;
+        add_gain(found, checked, links, cells, path, *row)?;
     }
     Ok(())
 }
 
-/// Adds the facts that the cells give at the row.
+/// Adds the facts that come at the row at the path, or by the call whose argument it is.
+fn add_gain(
+    found: &mut Vec<RowFact>,
+    checked: &Checked,
+    links: &Links,
+    cells: &Cells,
+    path: usize,
+    row: usize,
+) -> Result<(), AllocError>
+    ensures { OnOk result
+        (found.new.items ≡ found.old.items ++ gain_at checked.now links.now cells.now path row) }
+{
+    add_given(found, checked, cells, path, row)?;
+    add_passes(found, checked, links, cells, path, node_of(checked, row))
+}
+
+/// Adds the facts that come at the row at the path.
 fn add_given(
     found: &mut Vec<RowFact>,
     checked: &Checked,
-    cells: &[Cell],
+    cells: &Cells,
+    path: usize,
     row: usize,
 ) -> Result<(), AllocError>
-    ensures { OnOk result (found.new.items ≡ found.old.items ++ given_at checked.now cells.now row) }
+    ensures { OnOk result (found.new.items ≡ found.old.items ++ given_at checked.now cells.now path row) }
 {
     let node = node_of(checked, row);
-    let on = read(cells, row).on;
-    add_arm(found, cells, on, beyond(checked, row, node), node)?;
-    add_value(
-        found,
-        row,
-        gained(cells, on, beyond(checked, row, node), node),
-    )
+    let on = cells.read(path, row).on;
+    let beyond = seen(cells, path, beyond(checked, row, node));
+    add_arm(found, path, chosen(on, beyond, node))?;
+    add_value(found, path, row, gained(cells, path, on, beyond, node))
 }
 
-/// Adds that the arm that the cells choose at a row of this node is On, if they choose one.
-fn add_arm(
-    found: &mut Vec<RowFact>,
-    cells: &[Cell],
-    on: bool,
-    beyond: Option<usize>,
-    node: Node,
-) -> Result<(), AllocError>
-    ensures { OnOk result
-        (found.new.items ≡ found.old.items ++ ons (some_row (chosen cells.now on beyond node))) }
+/// Adds that the row is On at the path, if there is one.
+fn add_arm(found: &mut Vec<RowFact>, path: usize, row: Option<usize>) -> Result<(), AllocError>
+    ensures { OnOk result (found.new.items ≡ found.old.items ++ ons path (some_row row)) }
 {
-    if let Some(row) = chosen(cells, on, beyond, node) {
-        found.push(RowFact::On { row })?;
+    if let Some(row) = row {
+        found.push(RowFact::On { path, row })?;
     }
     Ok(())
 }
 
-/// Adds that the row has the value, if there is one.
-fn add_value(
+/// Adds that the row has the value at the path, if there is one.
+pub fn add_value(
     found: &mut Vec<RowFact>,
+    path: usize,
     row: usize,
     value: Option<SourceValue>,
 ) -> Result<(), AllocError>
-    ensures { OnOk result (found.new.items ≡ found.old.items ++ value_fact row value) }
+    ensures { OnOk result (found.new.items ≡ found.old.items ++ value_fact path row value) }
 {
     if let Some(value) = value {
-        found.push(RowFact::Has { row, value })?;
+        found.push(RowFact::Has { path, row, value })?;
     }
     Ok(())
 }
 
-/// The arm that the cells turn On with a row of this node, which may be On and may look at this row beyond its parts.
-fn chosen(cells: &[Cell], on: bool, beyond: Option<usize>, node: Node) -> Option<usize>
-    ensures { result ≡ chosen cells.now on beyond node }
+/// The arm that a row of this node turns On, which may be On and may see this value beyond its parts.
+fn chosen(on: bool, beyond: Option<SourceValue>, node: Node) -> Option<usize>
+    ensures { result ≡ chosen on beyond node }
 {
     match node {
         Node::If {
             then,
             otherwise,
             ..
-        } if on => arm_of(then, otherwise, seen(cells, beyond)),
+        } if on => arm_of(then, otherwise, beyond),
         _ => None,
     }
 }
@@ -192,23 +209,29 @@ fn arm_of(then: usize, otherwise: usize, test: Option<SourceValue>) -> Option<us
     }
 }
 
-/// What the cells give a row of this node, which may be On and may look at this row beyond its parts.
-fn gained(cells: &[Cell], on: bool, beyond: Option<usize>, node: Node) -> Option<SourceValue>
-    ensures { result ≡ gained cells.now on beyond node }
+/// What a row of this node gains at the path, which may be On and may see this value beyond its parts.
+fn gained(
+    cells: &Cells,
+    path: usize,
+    on: bool,
+    beyond: Option<SourceValue>,
+    node: Node,
+) -> Option<SourceValue>
+    ensures { result ≡ gained cells.now path on beyond node }
 {
     match node {
         Node::Literal { value } => when(on, Some(value_of(value))),
-        Node::Name { .. } => when(on, seen(cells, beyond)),
-        Node::Unary { op, operand } => when(on, gain_unary(op, read(cells, operand).has)),
+        Node::Name { .. } => when(on, beyond),
+        Node::Unary { op, operand } => { when(on, gain_unary(op, cells.read(path, operand).has)) }
         Node::Binary { op, left, right } => {
             when(
                 on,
-                gain_binary(op, read(cells, left).has, read(cells, right).has),
+                gain_binary(op, cells.read(path, left).has, cells.read(path, right).has),
             )
         }
-        Node::If { .. } => seen(cells, chosen(cells, on, beyond, node)),
-        Node::Block { body } => when(on, read(cells, body).has),
-        Node::Binding { value, .. } => read(cells, value).has,
+        Node::If { .. } => seen(cells, path, chosen(on, beyond, node)),
+        Node::Block { body } => when(on, cells.read(path, body).has),
+        Node::Binding { value, .. } => cells.read(path, value).has,
         _ => None,
     }
 }
@@ -220,12 +243,12 @@ fn when(wanted: bool, value: Option<SourceValue>) -> Option<SourceValue>
     if wanted { value } else { None }
 }
 
-/// What the row has, if there is one.
-fn seen(cells: &[Cell], row: Option<usize>) -> Option<SourceValue>
-    ensures { result ≡ seen cells.now row }
+/// What the row has at the path, if there is one.
+fn seen(cells: &Cells, path: usize, row: Option<usize>) -> Option<SourceValue>
+    ensures { result ≡ seen cells.now path row }
 {
     match row {
-        Some(row) => read(cells, row).has,
+        Some(row) => cells.read(path, row).has,
         None => None,
     }
 }

@@ -6,6 +6,7 @@
 //! Not here: graphs, tags and messages, which the meaning does not speak of.
 #![tactic(auto)]
 
+mod calls;
 mod cells;
 mod edges;
 mod effects;

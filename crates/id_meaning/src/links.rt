@@ -15,7 +15,7 @@ use std::alloc::{AllocError, Global};
 pub struct Links {
     /// From each expression to those that it turns On.
     pub turns: Edges,
-    /// From each row to those that read its value.
+    /// From each row to those that read its value, and from an `Enter` to its call and its arguments.
     pub reads: Edges,
 }
 
@@ -161,6 +161,8 @@ fn add_reads(
             add_read(reads, n, beyond)?;
             add_both(reads, n, then, otherwise)
         }
+        Node::Arg { enter, value, .. } => add_both(reads, n, enter, value),
+        Node::Call { enter, .. } => add_read(reads, n, Some(enter)),
         Node::Block { body } => add_read(reads, n, Some(body)),
         Node::Binding { value, .. } => add_read(reads, n, Some(value)),
         _ => Ok(()),
@@ -198,7 +200,7 @@ pub fn beyond(checked: &Checked, n: usize, node: Node) -> Option<usize>
 }
 
 /// The binder of the name at the row, if a name stands there.
-fn binder_of(checked: &Checked, n: usize) -> Option<usize>
+pub fn binder_of(checked: &Checked, n: usize) -> Option<usize>
     ensures { result ≡ binder checked.now n }
 {
     if n < checked.binders.len() {

@@ -1,63 +1,104 @@
 //! The facts of a round as a list (docs/MEANING.md, "Order").
 
 ghost use Rattle.std.specs.Prelude.{◌≡◌, ◌++◌, IfOk, OnOk};
+ghost use Rattle.std.specs.Cmp.Lexicographic.{slice_cmp};
 ghost use Rattle.id_check.specs.Programs.{place};
-ghost use Rattle.id_meaning.specs.Facts.{outermost};
-ghost use Rattle.id_meaning.specs.Listed.{AreInOrder, AreShown, has_facts, on_facts, placed, placed_row};
+ghost use Rattle.id_meaning.specs.Listed.{AreShown, fact_cmp, facts_in, kind_of, on_fact, path_at, place_in, spot_facts, step_at, step_cmp, steps_in, value_fact};
 
-use crate::cells::{Cell, read};
-use crate::{Fact, Path};
+use crate::cells::{Cells, Spot};
+use crate::{Fact, Path, PathStep, SourceValue};
 use id_check::Checked;
 use id_list::Sequence;
 use std::alloc::{AllocError, Global};
-
-/// A row and where it stands in the text.
-#[derive(Clone, Copy)]
-pub struct Placed {
-    pub place: usize,
-    pub row: usize,
-}
+use std::cmp::Ordering;
 
 /// The facts that the cells show, in order.
-pub fn list(alloc: Global, checked: &Checked, cells: &[Cell]) -> Result<Vec<Fact>, AllocError>
+pub fn list(alloc: Global, checked: &Checked, cells: &Cells) -> Result<Vec<Fact>, AllocError>
     ensures { IfOk result (λ v. AreShown checked.now cells.now v.items) }
 {
-    let order = in_order(alloc, checked, cells)?;
-    let mut facts = Vec::new(alloc);
-    add_on_facts(alloc, &mut facts, cells, order.as_slice())?;
-    add_has_facts(alloc, &mut facts, cells, order.as_slice())?;
+    let mut facts = all_facts(alloc, checked, cells)?;
+    facts.sort_unstable_by(|a, b| compare(a, b));
     Ok(facts)
 }
 
-/// The rows that the cells have facts of, by place.
-fn in_order(alloc: Global, checked: &Checked, cells: &[Cell]) -> Result<Vec<Placed>, AllocError>
-    ensures { IfOk result (λ v. AreInOrder checked.now cells.now v.items) }
+/// The facts that the cells show, spot by spot.
+fn all_facts(alloc: Global, checked: &Checked, cells: &Cells) -> Result<Vec<Fact>, AllocError>
+    ensures { IfOk result (λ v. v.items ≡ facts_in checked.now cells.now cells.now) }
 {
-    let mut order = all_placed(alloc, checked, cells)?;
-    order.sort_unstable_by_key(|x| x.place);
-    Ok(order)
-}
-
-/// The rows that the cells have facts of, with their places.
-fn all_placed(alloc: Global, checked: &Checked, cells: &[Cell]) -> Result<Vec<Placed>, AllocError>
-    ensures { IfOk result (λ v. v.items ≡ placed checked.now 0 cells.now) }
-{
-    let mut order = Vec::new(alloc);
-    for (row, cell) in cells.iter().enumerate() {
-        let place = place_of(checked, row);
-        add_placed(&mut order, *cell, Placed { place, row })?;
+    let mut facts = Vec::new(alloc);
+    for spot in cells.as_slice() {
+        add_on_fact(alloc, &mut facts, checked, cells, *spot)?;
+        add_has_fact(alloc, &mut facts, checked, cells, *spot)?;
     }
-    Ok(order)
+    Ok(facts)
 }
 
-/// Adds the row, if its cell has a fact.
-fn add_placed(order: &mut Vec<Placed>, cell: Cell, x: Placed) -> Result<(), AllocError>
-    ensures { OnOk result (order.new.items ≡ order.old.items ++ placed_row x cell) }
+/// Adds the fact that the row of the spot is On, if it is.
+fn add_on_fact(
+    alloc: Global,
+    facts: &mut Vec<Fact>,
+    checked: &Checked,
+    cells: &Cells,
+    spot: Spot,
+) -> Result<(), AllocError>
+    ensures { OnOk result (facts.new.items ≡ facts.old.items ++ on_fact (path_at checked.now cells.now spot.path) (place checked.now spot.row) spot.cell.on) }
 {
-    if cell.on || cell.has.is_some() {
-        order.push(x)?;
+    if spot.cell.on {
+        let path = path_at(alloc, checked, cells, spot.path)?;
+        let place = place_of(checked, spot.row);
+        facts.push(Fact::On { path, place })?;
     }
     Ok(())
+}
+
+/// Adds the fact that the row of the spot Has its value, if it has one.
+fn add_has_fact(
+    alloc: Global,
+    facts: &mut Vec<Fact>,
+    checked: &Checked,
+    cells: &Cells,
+    spot: Spot,
+) -> Result<(), AllocError>
+    ensures { OnOk result (facts.new.items ≡ facts.old.items ++ value_fact (path_at checked.now cells.now spot.path) (place checked.now spot.row) spot.cell.has) }
+{
+    if let Some(value) = spot.cell.has {
+        let path = path_at(alloc, checked, cells, spot.path)?;
+        let place = place_of(checked, spot.row);
+        facts.push(Fact::Has { path, place, value })?;
+    }
+    Ok(())
+}
+
+/// The path of this number. Takes memory for each step.
+fn path_at(
+    alloc: Global,
+    checked: &Checked,
+    cells: &Cells,
+    number: usize,
+) -> Result<Path, AllocError>
+    ensures { IfOk result (λ p. p ≡ path_at checked.now cells.now number) }
+{
+    let mut steps = Vec::new(alloc);
+    let mut inner = number;
+    while inner > 0 {
+        let spot = cells.spot(inner - 1);
+        steps.push(step_at(checked, spot.row))?;
+        inner = spot.path;
+    }
+    steps.reverse();
+    Ok(Path {
+        steps: Sequence::new(steps),
+    })
+}
+
+/// The step to the call at the row.
+fn step_at(checked: &Checked, row: usize) -> PathStep
+    ensures { result ≡ step_at checked.now row }
+{
+    PathStep {
+        place: place_of(checked, row),
+        number: 0,
+    }
 }
 
 /// Where the row stands; past the last one, 0.
@@ -71,54 +112,49 @@ fn place_of(checked: &Checked, row: usize) -> usize
     }
 }
 
-/// Adds the facts that rows are On.
-fn add_on_facts(
-    alloc: Global,
-    facts: &mut Vec<Fact>,
-    cells: &[Cell],
-    order: &[Placed],
-) -> Result<(), AllocError>
-    ensures { OnOk result (facts.new.items ≡ facts.old.items ++ on_facts cells.now order.now) }
+/// How two facts compare: On before Has, then by path, a front of a path first, then by place.
+fn compare(a: &Fact, b: &Fact) -> Ordering
+    ensures { result ≡ fact_cmp a.now b.now }
 {
-    for x in order {
-        if read(cells, x.row).on {
-            let path = empty_path(alloc);
-            facts.push(Fact::On {
-                path,
-                place: x.place,
-            })?;
-        }
-    }
-    Ok(())
+    let kinds = kind_of(a).cmp(&kind_of(b));
+    let points = compare_steps(steps_in(a), steps_in(b)).then(place_in(a).cmp(&place_in(b)));
+    kinds.then(points)
 }
 
-/// Adds the facts that rows Have values.
-fn add_has_facts(
-    alloc: Global,
-    facts: &mut Vec<Fact>,
-    cells: &[Cell],
-    order: &[Placed],
-) -> Result<(), AllocError>
-    ensures { OnOk result (facts.new.items ≡ facts.old.items ++ has_facts cells.now order.now) }
+/// How two paths compare by their steps: of two that have none it is told at once.
+fn compare_steps(a: &[PathStep], b: &[PathStep]) -> Ordering
+    ensures { result ≡ slice_cmp step_cmp a.now b.now }
 {
-    for x in order {
-        if let Some(value) = read(cells, x.row).has {
-            let path = empty_path(alloc);
-            facts.push(Fact::Has {
-                path,
-                place: x.place,
-                value,
-            })?;
-        }
+    if a.is_empty() && b.is_empty() {
+        return Ordering::Equal;
     }
-    Ok(())
+    a.cmp(&b)
 }
 
-/// The path of main's body. Takes no memory.
-fn empty_path(alloc: Global) -> Path
-    ensures { result ≡ outermost }
+/// 0 for On, 1 for Has.
+fn kind_of(fact: &Fact) -> usize
+    ensures { result ≡ kind_of fact.now }
 {
-    Path {
-        steps: Sequence::new(Vec::new(alloc)),
+    match fact {
+        Fact::On { .. } => 0,
+        Fact::Has { .. } => 1,
+    }
+}
+
+fn steps_in(fact: &Fact) -> &[PathStep]
+    ensures { result.now ≡ steps_in fact.now }
+{
+    match fact {
+        Fact::On { path, .. } => path.steps.as_slice(),
+        Fact::Has { path, .. } => path.steps.as_slice(),
+    }
+}
+
+fn place_in(fact: &Fact) -> usize
+    ensures { result ≡ place_in fact.now }
+{
+    match fact {
+        Fact::On { place, .. } => *place,
+        Fact::Has { place, .. } => *place,
     }
 }

@@ -67,7 +67,7 @@ fn facts_of_round(
     ensures { IfOk result (λ v. AreFacts (source checked.now inputs.now.values) n v.items) }
 {
     let cells = run(alloc, checked, inputs.values.as_slice(), n)?;
-    let facts = list(alloc, checked, cells.as_slice())?;
+    let facts = list(alloc, checked, &cells)?;
     Ok(facts)
 }
 

@@ -5,7 +5,7 @@ ghost use Rattle.id_meaning.specs.Sources.{source};
 ghost use Rattle.id_meaning.specs.Listed.{IsRound};
 
 use crate::SourceValue;
-use crate::cells::{BLANK, Cell, learn_all};
+use crate::cells::{Cells, learn_all};
 use crate::effects::{add_all_effects, first_facts};
 use crate::links::link;
 use id_check::Checked;
@@ -18,11 +18,11 @@ pub fn run(
     checked: &Checked,
     inputs: &[SourceValue],
     n: u32,
-) -> Result<Vec<Cell>, AllocError>
-    ensures { IfOk result (λ v. IsRound (source checked.now inputs.now) n v.items) }
+) -> Result<Cells, AllocError>
+    ensures { IfOk result (λ v. IsRound (source checked.now inputs.now) n v) }
 {
     let links = link(alloc, checked)?;
-    let mut cells = vec![in alloc; BLANK; checked.table.rows.len()]?;
+    let mut cells = Cells::new(alloc)?;
     let mut found = first_facts(alloc, checked, inputs)?;
     let mut news = Vec::new(alloc);
     for _round in 0..n {
@@ -32,13 +32,7 @@ pub fn run(
             return Ok(cells);
         }
         found.clear();
-        add_all_effects(
-            &mut found,
-            checked,
-            &links,
-            cells.as_slice(),
-            news.as_slice(),
-        )?;
+        add_all_effects(&mut found, checked, &links, &cells, news.as_slice())?;
     }
     Ok(cells)
 }

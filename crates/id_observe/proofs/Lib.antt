@@ -1,4 +1,5 @@
 pub mod ObservedLemmas
+pub mod PathsLemmas
 pub mod OrderedLemmas
 pub mod MergedLemmas
 pub mod RecordsLemmas

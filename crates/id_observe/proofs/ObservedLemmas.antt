@@ -9,12 +9,14 @@ use Rattle.std.proofs.lemmas.Option.{slice_get_within, get_or_from_slice_get, sl
 use Rattle.std.proofs.Math.Seq.{drop-cons}
 use Rattle.id_graph.specs.declared.instr.Instr.{Instr}
 use Rattle.id_graph.specs.Graph.{Parts}
+use Rattle.id_tag.specs.declared.Tag.{Tag}
 use Rattle.id_tag.specs.declared.Value.{Value}
+use Rattle.id_meaning.specs.declared.Path.{Path}
 use Rattle.id_element.specs.Replays.{ElementView}
-use Rattle.id_observe.specs.Observed.{events_of, answers, faults_in, fault_of, names_in, name_in, label_marks, is_label, is_label_of}
+use Rattle.id_observe.specs.Observed.{events_of, answers, faults_of, fault_of, names_of, name_in, label_marks, is_label, is_label_of}
 
 -- one more element at the end of what was walked over
-take-next : {A : Type 0} (xs : List A) (i : ℕ) (x : A) → slice_get xs i ≡ Some x → take (i + 1) xs ≡ take i xs ++ x ∷ []
+pub take-next : {A : Type 0} (xs : List A) (i : ℕ) (x : A) → slice_get xs i ≡ Some x → take (i + 1) xs ≡ take i xs ++ x ∷ []
 take-next xs i x at =
     take_more xs i x (slice_get_within xs i x at) ∙ ap (λ y. take i xs ++ y ∷ []) (get_or_from_slice_get xs i x x at)
 
@@ -46,7 +48,7 @@ filter_map-nothing h xs i x None at before gives missed = rw (filter_map-next h 
 filter_map-nothing h xs i x (Some v) at before gives missed = cc
 
 -- the events of elements, one more element after those walked over
-events-next : (es : List ElementView) (i : ℕ) (e : ElementView) → slice_get es i ≡ Some e → events_of (map (λ x. x.state) (take (i + 1) es)) ≡ events_of (map (λ x. x.state) (take i es)) ++ e.state.events
+pub events-next : (es : List ElementView) (i : ℕ) (e : ElementView) → slice_get es i ≡ Some e → events_of (map (λ x. x.state) (take (i + 1) es)) ≡ events_of (map (λ x. x.state) (take i es)) ++ e.state.events
 events-next es i e at =
     ap (λ xs. events_of (map (λ x. x.state) xs)) (take-next es i e at)
     ∙ ap events_of (map-append (λ x. x.state) (take i es) (e ∷ []))
@@ -93,18 +95,18 @@ answers-next es i e at before none =
     ∙ rw (before, none)
 
 -- the faults of one more record come after those before
-pub faults-next : (g : Parts) (es : List ElementView) (i : ℕ) (e : ElementView) → slice_get es i ≡ Some e
-    → faults_in g (map (λ x. x.state) (take (i + 1) es)) ≡ faults_in g (map (λ x. x.state) (take i es)) ++ filter_map (λ v. fault_of g v.step) e.state.events
-faults-next g es i e at =
-    ap (filter_map (λ v. fault_of g v.step)) (events-next es i e at)
-    ∙ filter_map-append (λ v. fault_of g v.step) (events_of (map (λ x. x.state) (take i es))) e.state.events
+pub faults-next : (g : Parts) (path : Tag → Path) (es : List ElementView) (i : ℕ) (e : ElementView) → slice_get es i ≡ Some e
+    → faults_of g path (events_of (map (λ x. x.state) (take (i + 1) es))) ≡ faults_of g path (events_of (map (λ x. x.state) (take i es))) ++ faults_of g path e.state.events
+faults-next g path es i e at =
+    ap (faults_of g path) (events-next es i e at)
+    ∙ filter_map-append (λ v. fault_of g path v.step) (events_of (map (λ x. x.state) (take i es))) e.state.events
 
 -- the names of one more record come after those before
-pub names-next : (g : Parts) (es : List ElementView) (i : ℕ) (e : ElementView) → slice_get es i ≡ Some e
-    → names_in g (map (λ x. x.state) (take (i + 1) es)) ≡ names_in g (map (λ x. x.state) (take i es)) ++ filter_map (λ v. name_in g v.message.payload) e.state.events
-names-next g es i e at =
-    ap (filter_map (λ v. name_in g v.message.payload)) (events-next es i e at)
-    ∙ filter_map-append (λ v. name_in g v.message.payload) (events_of (map (λ x. x.state) (take i es))) e.state.events
+pub names-next : (g : Parts) (path : Tag → Path) (es : List ElementView) (i : ℕ) (e : ElementView) → slice_get es i ≡ Some e
+    → names_of g path (events_of (map (λ x. x.state) (take (i + 1) es))) ≡ names_of g path (events_of (map (λ x. x.state) (take i es))) ++ names_of g path e.state.events
+names-next g path es i e at =
+    ap (names_of g path) (events-next es i e at)
+    ∙ filter_map-append (λ v. name_in g path v.message.payload) (events_of (map (λ x. x.state) (take i es))) e.state.events
 
 -- the mark of a number, where there is one, says whether its instruction is a label
 pub is_label-from_mark : (g : Parts) (n : ℕ) → unwrap_or (slice_get (label_marks g) n) false ≡ is_label g n

@@ -1,4 +1,5 @@
 -- What public clauses cite.
+pub mod Paths
 pub mod Observed
 pub mod Merged
 pub mod Firsts

@@ -1,6 +1,5 @@
 -- What a run shows (docs/MACHINE.md, "Observed").
-use Rattle.std.specs.Prelude.{ℕ, Bool, false, ◌&&◌, ◌==◌, count_by, List, [], map, Option, Some, None, slice_get, option_and_then, if◌then◌else◌}
-use Rattle.std.specs.Option.{option_map_or}
+use Rattle.std.specs.Prelude.{ℕ, Bool, false, ◌&&◌, ◌==◌, count_by, List, map, Option, Some, None, slice_get, option_and_then, if◌then◌else◌}
 use Rattle.std.specs.List.{filter_map, flat_map}
 use Rattle.id_graph.specs.declared.instr.Op.{Op}
 use Rattle.id_graph.specs.declared.instr.Op.TheVariants as op
@@ -23,6 +22,7 @@ use Rattle.id_record.specs.declared.step.Step.TheVariants.{Went, Fault, Stuck}
 use Rattle.id_record.specs.declared.step.Fault.TheVariants.{Operator}
 use Rattle.id_record.specs.Events.{EventView}
 use Rattle.id_element.specs.Steps.{State}
+pub use Rattle.id_observe.specs.Paths.{place_of, path_of}
 
 -- a tag of main's context, at iteration 0
 abbrev pub main_tag : ℕ → Tag
@@ -52,27 +52,23 @@ answers es = filter_map (λ e. brought e.message.payload) es
 abbrev pub answer_in : List State → Option SourceValue
 answer_in elements = option_and_then source_value (slice_get (answers (events_of elements)) 0)
 
--- the place of the instruction of this number
-abbrev pub place_of : Parts → ℕ → ℕ
-place_of g n = option_map_or (λ i. i.place) (slice_get g.instrs n) 0
+-- the path of a tag, by the records of these elements
+abbrev pub path_in : Parts → List State → Tag → Path
+path_in g elements = path_of g (events_of elements)
 
--- the path of main's context, which is empty: no operator makes another context yet
-abbrev pub main_path : Path
-main_path = record { steps = [] }
-
--- the fault of the source that an event's step shows
-abbrev pub fault_of : Parts → Step → Option SourceFault
-fault_of g Went = None
-fault_of g (Fault (Operator f t)) = Some (record { kind = f; path = main_path; place = place_of g t.instr })
-fault_of g Stuck = None
+-- the fault of the source that an event's step shows, where each tag has this path
+abbrev pub fault_of : Parts → (Tag → Path) → Step → Option SourceFault
+fault_of g path Went = None
+fault_of g path (Fault (Operator f t)) = Some (record { kind = f; path = path t; place = place_of g t.instr })
+fault_of g path Stuck = None
 
 -- the faults of the source that these events show, in their order
-abbrev pub faults_of : Parts → List EventView → List SourceFault
-faults_of g es = filter_map (λ e. fault_of g e.step) es
+abbrev pub faults_of : Parts → (Tag → Path) → List EventView → List SourceFault
+faults_of g path es = filter_map (λ e. fault_of g path e.step) es
 
 -- the faults of the source that the records of these elements show
 abbrev pub faults_in : Parts → List State → List SourceFault
-faults_in g elements = faults_of g (events_of elements)
+faults_in g elements = faults_of g (path_in g elements) (events_of elements)
 
 -- a merge for values of the source
 abbrev pub is_value_merge : Op → Bool
@@ -88,18 +84,22 @@ is_label_of g (Some i) = is_value_merge i.op && (count_by (λ j. j.place == i.pl
 abbrev pub is_label : Parts → ℕ → Bool
 is_label g n = is_label_of g (slice_get g.instrs n)
 
--- what the binder of the label of this number Has, where a token brought it that value
-abbrev pub name_at : Parts → ℕ → Option SourceValue → Option NameValue
-name_at g n None = None
-name_at g n (Some v) = Some (record { path = main_path; place = place_of g n; value = v })
+-- what the binder of the label of this number Has at a path, where a token brought it that value
+abbrev pub name_at : Parts → ℕ → Path → Option SourceValue → Option NameValue
+name_at g n q None = None
+name_at g n q (Some v) = Some (record { path = q; place = place_of g n; value = v })
 
--- what a binder Has, where a token was handled by its label
-abbrev pub name_in : Parts → Payload → Option NameValue
-name_in g (Token t p v) = if is_label g t.instr then name_at g t.instr (source_value v) else None
+-- what a binder Has, where a token was handled by its label, and each tag has this path
+abbrev pub name_in : Parts → (Tag → Path) → Payload → Option NameValue
+name_in g path (Token t p v) = if is_label g t.instr then name_at g t.instr (path t) (source_value v) else None
+
+-- what these events show that binders Have, where each tag has this path
+abbrev pub names_of : Parts → (Tag → Path) → List EventView → List NameValue
+names_of g path es = filter_map (λ e. name_in g path e.message.payload) es
 
 -- what the records of these elements show that binders Have
 abbrev pub names_in : Parts → List State → List NameValue
-names_in g elements = filter_map (λ e. name_in g e.message.payload) (events_of elements)
+names_in g elements = names_of g (path_in g elements) (events_of elements)
 
 -- For use inside.
 

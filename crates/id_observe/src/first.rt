@@ -1,19 +1,22 @@
 //! The first fault of several elements (docs/MACHINE.md, "Observed").
 
-ghost use Rattle.std.specs.Prelude.{◌≡◌, [], map, slice_get, IfOk, MatchOption};
+ghost use Rattle.std.specs.Prelude.{◌≡◌, ◌↔◌, [], map, slice_get, All, IfOk, IsTrue, MatchOption};
+ghost use Rattle.id_record.specs.Events.{AllWent};
 ghost use Rattle.std.specs.List.Sorted.{IsStrictlyIncreasing};
 ghost use Rattle.id_observe.specs.Observed.{faults_in, faults_of};
+ghost use Rattle.id_observe.specs.Paths.{path_by};
 ghost use Rattle.id_observe.specs.Firsts.{IsFirstFault};
 
 use crate::merge::{Merged, merge_records};
 use crate::observe::source_fault;
+use crate::paths::Paths;
 use id_element::Element;
-use id_graph::Graph;
 use id_meaning::SourceFault;
 use id_valid::Valid;
 use std::alloc::{AllocError, Global};
 
 /// The first fault of all events of these elements, whose numbers rise, by stamp and then by element, if there is one.
+/// Where each event went well, that takes no look at the records.
 pub fn first_fault(
     alloc: Global,
     graph: &Valid,
@@ -23,20 +26,36 @@ pub fn first_fault(
     ensures { IfOk result (λ o. MatchOption o (faults_in graph.now (map (λ e. e.state) elements.now) ≡ [])
         (IsFirstFault graph.now (map (λ e. e.state) elements.now))) }
 {
+    if all_went(elements) {
+        return Ok(None);
+    }
+    let paths = Paths::new(alloc, graph.graph(), elements)?;
     let merged = merge_records(alloc, elements)?;
-    Ok(first_of(alloc, graph.graph(), &merged))
+    let first = first_of(alloc, &paths, &merged)?;
+    Ok(first)
+}
+
+/// Whether no event of these elements was a fault or `Stuck`.
+fn all_went(elements: &[Element<'_>]) -> bool
+    ensures { IsTrue result ↔ All (λ e. AllWent e.state.events) elements.now }
+{
+    elements.iter().all(|element| element.all_went())
 }
 
 /// The first fault that these events show, if there is one.
-fn first_of(alloc: Global, graph: &Graph, events: &Merged<'_>) -> Option<SourceFault>
-    ensures { result ≡ slice_get (faults_of graph.now events.now) 0 }
+fn first_of(
+    alloc: Global,
+    paths: &Paths<'_>,
+    events: &Merged<'_>,
+) -> Result<Option<SourceFault>, AllocError>
+    ensures { IfOk result (λ o. o ≡ slice_get (faults_of paths.now.graph.now (path_by paths.now) events.now) 0) }
 {
     for position in 0..events.len() {
         let event = events.event(position);
-        let fault = source_fault(alloc, graph, event.step);
+        let fault = source_fault(alloc, paths, event.step)?;
         if fault.is_some() {
-            return fault;
+            return Ok(fault);
         }
     }
-    None
+    Ok(None)
 }

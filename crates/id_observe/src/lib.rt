@@ -9,7 +9,8 @@
 mod first;
 mod merge;
 mod observe;
+mod paths;
 
 pub use first::first_fault;
 pub use merge::{Merged, merge_records};
-pub use observe::{Observed, main_tag, observe_records};
+pub use observe::{Observed, answer, main_tag, observe_records};

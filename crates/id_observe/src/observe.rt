@@ -4,12 +4,14 @@ ghost use Rattle.std.specs.Prelude.{◌≡◌, ◌==◌, ◌&&◌, ◌++◌, [],
 ghost use Rattle.std.specs.HashMap.{get};
 ghost use Rattle.std.specs.List.{cons_option, filter_map};
 ghost use Rattle.id_valid.specs.Validator.{is_value};
-ghost use Rattle.id_observe.specs.Observed.{answer_in, answers, brought, fault_of, faults_in, is_label, is_value_merge, label_marks, main_tag, name_at, name_in, names_in, place_of, source_value};
+ghost use Rattle.id_observe.specs.Observed.{answer_in, answers, brought, events_of, fault_of, faults_in, faults_of, is_label, is_value_merge, label_marks, main_tag, name_at, name_in, names_in, names_of, source_value};
+ghost use Rattle.id_observe.specs.Paths.{path_by, place_of};
 
+use crate::paths::Paths;
 use id_element::Element;
 use id_graph::{Graph, Instr, Op, PortKind};
 use id_list::Sequence;
-use id_meaning::{NameValue, Path, SourceFault, SourceValue};
+use id_meaning::{NameValue, SourceFault, SourceValue};
 use id_record::{Events, Fault, Step};
 use id_tag::{Context, Payload, Tag, Value};
 use id_valid::Valid;
@@ -37,8 +39,9 @@ pub fn observe_records(
     ensures names { IfOk result (λ o. o.names ≡ names_in graph.now (map (λ e. e.state) elements.now)) }
     ensures faults { IfOk result (λ o. o.faults ≡ faults_in graph.now (map (λ e. e.state) elements.now)) }
 {
-    let names = all_names(alloc, graph.graph(), elements)?;
-    let faults = all_faults(alloc, graph.graph(), elements)?;
+    let paths = Paths::new(alloc, graph.graph(), elements)?;
+    let names = all_names(alloc, &paths, elements)?;
+    let faults = all_faults(alloc, &paths, elements)?;
     let answer = answer(elements);
     Ok(Observed {
         answer,
@@ -50,17 +53,17 @@ pub fn observe_records(
 /// What these records show that binders have.
 fn all_names(
     alloc: Global,
-    graph: &Graph,
+    paths: &Paths<'_>,
     elements: &[Element<'_>],
 ) -> Result<Vec<NameValue>, AllocError>
-    ensures { IfOk result (λ v. v.items ≡ names_in graph.now (map (λ e. e.state) elements.now)) }
+    ensures { IfOk result (λ v. v.items ≡ names_of paths.now.graph.now (path_by paths.now) (events_of (map (λ e. e.state) elements.now))) }
 {
-    let marks = label_marks(alloc, graph)?;
+    let marks = label_marks(alloc, paths.graph())?;
     let mut names = Vec::new(alloc);
     for element in elements {
         add_names(
             alloc,
-            graph,
+            paths,
             marks.as_slice(),
             &element.events(),
             &mut names,
@@ -122,17 +125,17 @@ fn is_value(kind: PortKind) -> bool
 /// Adds what these events show that binders have.
 fn add_names(
     alloc: Global,
-    graph: &Graph,
+    paths: &Paths<'_>,
     marks: &[bool],
     events: &Events<'_>,
     names: &mut Vec<NameValue>,
 ) -> Result<(), AllocError>
-    requires { marks.now ≡ label_marks graph.now }
-    ensures { OnOk result (names.new.items ≡ names.old.items ++ filter_map (λ e. name_in graph.now e.message.payload) events.now) }
+    requires { marks.now ≡ label_marks paths.now.graph.now }
+    ensures { OnOk result (names.new.items ≡ names.old.items ++ names_of paths.now.graph.now (path_by paths.now) events.now) }
 {
     for position in 0..events.len() {
         let event = events.event(position);
-        add_name(name_in(alloc, graph, marks, &event.message.payload), names)?;
+        add_name(name_in(alloc, paths, marks, &event.message.payload)?, names)?;
     }
     Ok(())
 }
@@ -151,33 +154,40 @@ fn add_name(name: Option<NameValue>, names: &mut Vec<NameValue>) -> Result<(), A
 }
 
 /// What a binder has where its label handled this token.
-fn name_in(alloc: Global, graph: &Graph, marks: &[bool], payload: &Payload) -> Option<NameValue>
-    requires { marks.now ≡ label_marks graph.now }
-    ensures { result ≡ name_in graph.now payload.now }
+fn name_in(
+    alloc: Global,
+    paths: &Paths<'_>,
+    marks: &[bool],
+    payload: &Payload,
+) -> Result<Option<NameValue>, AllocError>
+    requires { marks.now ≡ label_marks paths.now.graph.now }
+    ensures { IfOk result (λ o. o ≡ name_in paths.now.graph.now (path_by paths.now) payload.now) }
 {
     match *payload {
         Payload::Token { tag, value, .. } => {
-            name_if_label(alloc, graph, marks, tag.instr, source_value(value))
+            name_if_label(alloc, paths, marks, tag, source_value(value))
         }
     }
 }
 
-/// What the binder of the label of this number has, where there is such a label, and a token
-/// brought it that value.
+/// What the binder of the label of this tag has, where there is such a label, and a token brought it
+/// that value.
 fn name_if_label(
     alloc: Global,
-    graph: &Graph,
+    paths: &Paths<'_>,
     marks: &[bool],
-    number: u32,
+    tag: Tag,
     value: Option<SourceValue>,
-) -> Option<NameValue>
-    requires { marks.now ≡ label_marks graph.now }
-    ensures { result ≡ (if is_label graph.now number then name_at graph.now number value else None) }
+) -> Result<Option<NameValue>, AllocError>
+    requires { marks.now ≡ label_marks paths.now.graph.now }
+    ensures { IfOk result (λ o. o ≡
+        (if is_label paths.now.graph.now tag.instr then name_at paths.now.graph.now tag.instr (path_by paths.now tag) value else None)) }
 {
-    if mark_at(marks, number) {
-        name_at(alloc, graph, number, value)
+    if mark_at(marks, tag.instr) {
+        let name = name_at(alloc, paths, tag, value)?;
+        Ok(name)
     } else {
-        None
+        Ok(None)
     }
 }
 
@@ -188,29 +198,27 @@ fn mark_at(marks: &[bool], number: u32) -> bool
     marks.get(number as usize).copied().unwrap_or(false)
 }
 
-/// What the binder of the label of this number has, where a token brought it that value.
+/// What the binder of the label of this tag has, where a token brought it that value.
 fn name_at(
     alloc: Global,
-    graph: &Graph,
-    number: u32,
+    paths: &Paths<'_>,
+    tag: Tag,
     value: Option<SourceValue>,
-) -> Option<NameValue>
-    ensures { result ≡ name_at graph.now number value }
+) -> Result<Option<NameValue>, AllocError>
+    ensures { IfOk result (λ o. o ≡ name_at paths.now.graph.now tag.instr (path_by paths.now tag) value) }
 {
     match value {
-        Some(value) => Some(NameValue {
-            path: Path {
-                steps: Sequence::new(Vec::new(alloc)),
-            },
-            place: place_of(graph, number),
+        Some(value) => Ok(Some(NameValue {
+            path: paths.path(alloc, tag)?,
+            place: place_of(paths.graph(), tag.instr),
             value,
-        }),
-        None => None,
+        })),
+        None => Ok(None),
     }
 }
 
-/// The answer that these records show.
-fn answer(elements: &[Element<'_>]) -> Option<SourceValue>
+/// The answer that these records show, for who asks for nothing else. Takes no memory.
+pub fn answer(elements: &[Element<'_>]) -> Option<SourceValue>
     ensures { result ≡ answer_in (map (λ e. e.state) elements.now) }
 {
     for element in elements {
@@ -279,14 +287,14 @@ fn source_value(value: Value) -> Option<SourceValue>
 /// The faults that these records show.
 fn all_faults(
     alloc: Global,
-    graph: &Graph,
+    paths: &Paths<'_>,
     elements: &[Element<'_>],
 ) -> Result<Vec<SourceFault>, AllocError>
-    ensures { IfOk result (λ v. v.items ≡ faults_in graph.now (map (λ e. e.state) elements.now)) }
+    ensures { IfOk result (λ v. v.items ≡ faults_of paths.now.graph.now (path_by paths.now) (events_of (map (λ e. e.state) elements.now))) }
 {
     let mut faults = Vec::new(alloc);
     for element in elements {
-        add_faults(alloc, graph, &element.events(), &mut faults)?;
+        add_faults(alloc, paths, &element.events(), &mut faults)?;
     }
     Ok(faults)
 }
@@ -294,15 +302,15 @@ fn all_faults(
 /// Adds the faults that these events show.
 fn add_faults(
     alloc: Global,
-    graph: &Graph,
+    paths: &Paths<'_>,
     events: &Events<'_>,
     faults: &mut Vec<SourceFault>,
 ) -> Result<(), AllocError>
-    ensures { OnOk result (faults.new.items ≡ faults.old.items ++ filter_map (λ e. fault_of graph.now e.step) events.now) }
+    ensures { OnOk result (faults.new.items ≡ faults.old.items ++ faults_of paths.now.graph.now (path_by paths.now) events.now) }
 {
     for position in 0..events.len() {
         let event = events.event(position);
-        add_fault(source_fault(alloc, graph, event.step), faults)?;
+        add_fault(source_fault(alloc, paths, event.step)?, faults)?;
     }
     Ok(())
 }
@@ -320,24 +328,26 @@ fn add_fault(fault: Option<SourceFault>, faults: &mut Vec<SourceFault>) -> Resul
     }
 }
 
-/// The fault of the source that a step shows, at the empty path: every tag is under main's context so far.
-pub(crate) fn source_fault(alloc: Global, graph: &Graph, step: Step) -> Option<SourceFault>
-    ensures { result ≡ fault_of graph.now step }
+/// The fault of the source that a step shows.
+pub(crate) fn source_fault(
+    alloc: Global,
+    paths: &Paths<'_>,
+    step: Step,
+) -> Result<Option<SourceFault>, AllocError>
+    ensures { IfOk result (λ o. o ≡ fault_of paths.now.graph.now (path_by paths.now) step) }
 {
     match step {
-        Step::Fault(Fault::Operator { fault, tag }) => Some(SourceFault {
+        Step::Fault(Fault::Operator { fault, tag }) => Ok(Some(SourceFault {
             kind: fault,
-            path: Path {
-                steps: Sequence::new(Vec::new(alloc)),
-            },
-            place: place_of(graph, tag.instr),
-        }),
-        Step::Went | Step::Stuck => None,
+            path: paths.path(alloc, tag)?,
+            place: place_of(paths.graph(), tag.instr),
+        })),
+        Step::Went | Step::Stuck => Ok(None),
     }
 }
 
 /// The place of the instruction of this number.
-fn place_of(graph: &Graph, number: u32) -> usize
+pub(crate) fn place_of(graph: &Graph, number: u32) -> usize
     ensures { result ≡ place_of graph.now number }
 {
     graph

@@ -3,6 +3,7 @@ use Rattle.std.proofs.Common.{◌≡◌, inl, inr, ◌+◌, ◌-◌, ◌<◌, �
 use Rattle.std.proofs.Common.{subst, arith}
 use Rattle.std.proofs.lemmas.Bool.{cases_lt, false≢true, eqb-true}
 use Rattle.std.proofs.lemmas.Bool.Decides.{Decides-eqb}
+use Rattle.std.proofs.lemmas.List.{length_push}
 use Rattle.std.specs.Prelude.{nat_eq, if◌then◌else◌}
 use Rattle.id_list.specs.List.{AllDiffer, Among}
 use Rattle.id_list.proofs.AmongLemmas.{Among-either, Among-left, Among-one, Among-right}
@@ -10,9 +11,9 @@ use Rattle.id_parts.specs.declared.row.Row.{Row}
 use Rattle.id_parts.specs.declared.row.Node.{Node}
 use Rattle.id_parts.specs.declared.row.Node.TheVariants.{Param, Program}
 use Rattle.id_parts.specs.Rows.{at}
-use Rattle.id_parts.specs.Tables.{is_def, is_head, is_param}
-use Rattle.id_parts.specs.Turns.{IsDefOf, IsTable, Rising, heads_below, heads_of, params_at, params_below}
-use Rattle.id_parts.proofs.BlockLemmas.{and_both, and_true}
+use Rattle.id_parts.specs.Tables.{HasNear, around, is_def, is_head, is_param}
+use Rattle.id_parts.specs.Turns.{AreParamsOf, IsDefOf, IsTable, Rising, heads_below, heads_of, params_at, params_below}
+use Rattle.id_parts.proofs.BlockLemmas.{and_both, and_true, around-true}
 
 -- the numbers below n that pass a test, rising
 abbrev chosen : (ℕ → Bool) → ℕ → List ℕ
@@ -143,3 +144,116 @@ param_within R t h i n a d =
           absurd (false≢true (sym ends.1 ∙ ap (λ k. is_def (at R k).node) z ∙ ap is_def d.node))
     ] in
     (below, before)
+
+-- so many numbers from a on
+abbrev pub run : ℕ → ℕ → List ℕ
+run a zero = []
+run a (suc n) = run a n ++ (a + n) ∷ []
+
+pub length-run : (a n : ℕ) → length (run a n) ≡ n
+length-run a zero = refl
+length-run a (suc n) = length_push (run a n) (a + n) ∙ ap (λ k. k + 1) (length-run a n) ∙ omega arith
+
+module _ (R : List Row) (t : IsTable R) (h n : ℕ) (d : IsDefOf R n h) where
+  abbrev ps : AreParamsOf R h n
+  ps = t.params n h d
+
+  -- a row is a parameter of the definition exactly where it is one of those behind the head
+  own_param : (i : ℕ) → i < length R → (is_param (at R i).node && nat_eq (at R i).block h) ≡ true → (h < i) × (i ≤ h + ps.count)
+  own_param i l e =
+      let q = and_both (is_param (at R i).node) (nat_eq (at R i).block h) e in
+      let w = param_within R t h i n (Among-params_at R h i l q.0 (eqb-true (at R i).block h q.1)) d in (
+        w.0,
+        elim (cases_lt (h + ps.count) i) [
+          | inl k ↦ absurd (false≢true (sym (ps.rest i k w.1) ∙ q.0))
+          | inr k ↦ k
+        ],
+      )
+
+  param_own : (i : ℕ) → h < i → i ≤ h + ps.count → (is_param (at R i).node && nat_eq (at R i).block h) ≡ true
+  param_own i l m =
+      let is = ps.param i l m in
+      let end = ps.before in
+      let within : i < length R = omega (arith, d.within) in
+      let own = t.def_of i (not_last R t is_param refl i within is) in
+      let block = (t.block i (not_last R t is_param refl i within is)).0 in
+      and_true (is_param (at R i).node) (nat_eq (at R i).block h) is ((Decides-eqb (at R i).block h).1 (in_block i l m own.0 own.1 own.2 block))
+    where
+      in_block : (i : ℕ) → h < i → i ≤ h + ps.count → (m : ℕ) → IsDefOf R m (at R i).block → i ≤ m → (at R i).block ≤ i → (at R i).block ≡ h
+      in_block i l m k e low high =
+          let within : around R n i ≡ true = around-true R n i (omega (arith, (t.head_is n d.name h d.body d.result d.within d.node).1)) (omega (arith, ps.before)) in
+          let inner = t.inside n i (not_last R t is_def refl n d.within (ap is_def d.node)) within in
+          let own = (t.part_stands n h d.within (subst (λ z. HasNear z h) (sym d.node) (inl refl))).0 in
+          let head = t.head_block h (omega (arith, ps.before, d.within)) (t.head_is n d.name h d.body d.result d.within d.node).0 in
+          inner.0 ∙ sym own ∙ head
+
+  below_head : (m : ℕ) → m ≤ suc h → m ≤ length R → params_below R h m ≡ []
+  below_head zero l w = refl
+  below_head (suc m) l w =
+      let none : (is_param (at R m).node && nat_eq (at R m).block h) ≡ false = not_own m (omega (arith, w)) (omega (arith, l)) in
+      ap (λ b. if b then params_below R h m ++ m ∷ [] else params_below R h m) none ∙ below_head m (omega arith) (omega arith)
+    where
+      not_own : (m : ℕ) → m < length R → m ≤ h → (is_param (at R m).node && nat_eq (at R m).block h) ≡ false
+      not_own m w l = elim (is_param (at R m).node && nat_eq (at R m).block h) as (λ b. (is_param (at R m).node && nat_eq (at R m).block h) ≡ b → b ≡ false) [
+        | true ↦ λ e. let q = own_param m w e in absurd (omega (arith, q.0))
+        | false ↦ λ e. refl
+      ] refl
+
+  of_params : (j : ℕ) → j ≤ ps.count → params_below R h (suc h + j) ≡ run (suc h) j
+  of_params zero l = let e : suc h + 0 ≡ suc h = omega arith in
+      ap (params_below R h) e ∙ below_head (suc h) (omega arith) (omega (arith, ps.before, d.within))
+  of_params (suc j) l =
+      let e : suc h + suc j ≡ suc (suc h + j) = omega arith in
+      let is = param_own (suc h + j) (omega arith) (omega (arith, l)) in
+      ap (params_below R h) e
+      ∙ ap (λ b. if b then params_below R h (suc h + j) ++ (suc h + j) ∷ [] else params_below R h (suc h + j)) is
+      ∙ ap (λ is. is ++ (suc h + j) ∷ []) (of_params j (omega arith))
+
+  behind_params : (j : ℕ) → suc h + ps.count + j ≤ length R → params_below R h (suc h + ps.count + j) ≡ run (suc h) ps.count
+  behind_params zero l = let e : suc h + ps.count + 0 ≡ suc h + ps.count = omega arith in ap (params_below R h) e ∙ of_params ps.count (omega arith)
+  behind_params (suc j) l =
+      let e : suc h + ps.count + suc j ≡ suc (suc h + ps.count + j) = omega arith in
+      let none = not_own (suc h + ps.count + j) (omega (arith, l)) (omega arith) in
+      ap (params_below R h) e
+      ∙ ap (λ b. if b then params_below R h (suc h + ps.count + j) ++ (suc h + ps.count + j) ∷ [] else params_below R h (suc h + ps.count + j)) none
+      ∙ behind_params j (omega (arith, l))
+    where
+      not_own : (m : ℕ) → m < length R → h + ps.count < m → (is_param (at R m).node && nat_eq (at R m).block h) ≡ false
+      not_own m w l = elim (is_param (at R m).node && nat_eq (at R m).block h) as (λ b. (is_param (at R m).node && nat_eq (at R m).block h) ≡ b → b ≡ false) [
+        | true ↦ λ e. let q = own_param m w e in absurd (omega (arith, q.1))
+        | false ↦ λ e. refl
+      ] refl
+
+  -- the parameters of a definition are the rows right behind its head, in order
+  pub params_at-run : params_at R h ≡ run (h + 1) (length (params_at R h))
+  params_at-run =
+      let end = ps.before in
+      let w = d.within in
+      let rest : suc h + ps.count + (length R - (suc h + ps.count)) ≡ length R = omega arith in
+      let all : params_at R h ≡ run (suc h) ps.count = ap (params_below R h) (sym rest) ∙ behind_params (length R - (suc h + ps.count)) (omega arith) in
+      let long : length (params_at R h) ≡ ps.count = ap length all ∙ length-run (suc h) ps.count in
+      let low : suc h ≡ h + 1 = omega arith in
+      all ∙ ap (run (suc h)) (sym long) ∙ ap (λ k. run k (length (params_at R h))) low
+
+  -- there are as many as the table says
+  pub length-params_at : length (params_at R h) ≡ ps.count
+  length-params_at =
+      let end = ps.before in
+      let w = d.within in
+      let rest : suc h + ps.count + (length R - (suc h + ps.count)) ≡ length R = omega arith in
+      ap length (ap (params_below R h) (sym rest) ∙ behind_params (length R - (suc h + ps.count)) (omega arith)) ∙ length-run (suc h) ps.count
+
+  -- the parameter of the index k is the row behind the head and those before it
+  pub param_at : (k : ℕ) → k < length (params_at R h) → Among (h + 1 + k) (params_at R h)
+  param_at k l =
+      let less : k < ps.count = omega (arith, length-params_at) in
+      let e = param_own (h + 1 + k) (omega arith) (omega (arith, less)) in
+      let q = and_both (is_param (at R (h + 1 + k)).node) (nat_eq (at R (h + 1 + k)).block h) e in
+      Among-params_at R h (h + 1 + k) (omega (arith, less, ps.before, d.within)) q.0 (eqb-true (at R (h + 1 + k)).block h q.1)
+
+  -- and each parameter has such an index
+  pub param_index : (i : ℕ) → Among i (params_at R h) → (k : ℕ) × (k < length (params_at R h)) × (i ≡ h + 1 + k)
+  param_index i a =
+      let p = Among-from_params_at R h i a in
+      let w = own_param i p.0 (and_true (is_param (at R i).node) (nat_eq (at R i).block h) p.1 ((Decides-eqb (at R i).block h).1 p.2)) in
+      (i - (h + 1), omega (arith, w.0, w.1, length-params_at), omega (arith, w.0))

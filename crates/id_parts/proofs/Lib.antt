@@ -5,11 +5,14 @@ pub mod PlacesLemmas
 pub mod BlocksLemmas
 pub mod NumbersLemmas
 pub mod RegionLemmas
+pub mod UncalledLemmas
 -- For the proofs of this crate alone.
 mod BlockLemmas
+mod CallLemmas
 mod ConditionalLemmas
 mod ExpressionLemmas
 mod HasLemmas
 mod MakingLemmas
 mod NamesLemmas
+mod ParamsLemmas
 mod RowLemmas

@@ -1,18 +1,18 @@
 -- Each name of a table stands once among its names, and each number of a row is that of one.
-use Rattle.std.proofs.Common.{◌≡◌, ◌⊎◌, inl, inr, ◌+◌, ◌<◌, ◌≤◌, ℕ, Bool, true, false, Some, None, List, [], ◌∷◌, ◌++◌, length, refl, sym, ap, ◌∙◌, arith}
+use Rattle.std.proofs.Common.{◌≡◌, ◌⊎◌, inl, inr, ◌+◌, ◌<◌, ◌≤◌, ℕ, suc, Bool, true, false, Some, None, List, [], ◌∷◌, ◌++◌, length, refl, sym, ap, ◌∙◌, arith}
 use Rattle.std.proofs.lemmas.Bool.{cases_lt, false≢true}
 use Rattle.std.proofs.lemmas.Slice.Eq.{bytes_eq-Decides}
 use Rattle.std.specs.Prelude.{if◌then◌else◌}
 use Rattle.std.specs.Str.{bytes_eq}
 use Rattle.id_list.specs.List.{AllDiffer, Among}
-use Rattle.id_tree.specs.Tree.{Tree, literal, unary, binary, name, conditional, block, binding, param, define, none, more}
+use Rattle.id_tree.specs.Tree.{Tree, literal, unary, binary, name, conditional, call, block, binding, param, define, none, more}
 use Rattle.id_parts.specs.declared.row.Row.{Row}
 use Rattle.id_parts.specs.declared.row.Stand.{Stand}
 use Rattle.id_parts.specs.declared.row.Node.TheVariants.{Head, Split}
 use Rattle.id_parts.specs.Names.{first_names, number_of, with_name}
-use Rattle.id_parts.specs.Rows.{Parts, add, arm, at, in_top, last, parts_of, rows_of, size, with_row}
+use Rattle.id_parts.specs.Rows.{Parts, add, add_arguments, arm, at, in_top, last, parts_of, rows_of, size, with_row}
 use Rattle.id_parts.specs.Tables.{AreNamed, name_of}
-use Rattle.id_parts.proofs.HasLemmas.{Has, Has-add, Has-itself, Has-push, at-push, push-size}
+use Rattle.id_parts.proofs.HasLemmas.{Has, Has-add, Has-arguments, Has-itself, Has-push, argued, at-push, entered, push-size}
 
 Among-with_name : (xs : List (List ℕ)) (x y : List ℕ) → Among y (with_name xs x) → Among y xs ⊎ (y ≡ x)
 Among-with_name [] x y (inl e) = inr e
@@ -48,26 +48,32 @@ number_of-within (z ∷ xs) x =
       | false ↦ omega arith
     ]
 
-AllDiffer-add : (t : Tree) (s : Stand) (T : Parts) → AllDiffer T.names → AllDiffer (add s T t).names
-AllDiffer-add (literal v p) s T d = d
-AllDiffer-add (unary o a p) s T d = AllDiffer-add a s T d
-AllDiffer-add (binary o a b p) s T d = AllDiffer-add b s (add s T a) (AllDiffer-add a s T d)
-AllDiffer-add (name x p) s T d = AllDiffer-with_name T.names x d
-AllDiffer-add (conditional t x y p) s T d =
-    let U = add s T t in
-    let n = size U in
-    let S = with_row U s p (size T) (Split (last U)) in
-    AllDiffer-add y (arm s n false) (add (arm s n true) S x) (AllDiffer-add x (arm s n true) S (AllDiffer-add t s T d))
-AllDiffer-add (block a b p) s T d = AllDiffer-add b s (add s T a) (AllDiffer-add a s T d)
-AllDiffer-add (binding x a p) s T d = AllDiffer-with_name (add s T a).names x (AllDiffer-add a s T d)
-AllDiffer-add (param x k p) s T d = AllDiffer-with_name T.names x d
-AllDiffer-add (define x a k b p) s T d =
-    let w = in_top (size T) in
-    let H = with_row T w p (size T) Head in
-    let U = add w H a in
-    AllDiffer-with_name (add w U b).names x (AllDiffer-add b w U (AllDiffer-add a w H d))
-AllDiffer-add none s T d = d
-AllDiffer-add (more a b) s T d = AllDiffer-add b s (add s T a) (AllDiffer-add a s T d)
+mutual
+  AllDiffer-add : (t : Tree) (s : Stand) (T : Parts) → AllDiffer T.names → AllDiffer (add s T t).names
+  AllDiffer-add (literal v p) s T d = d
+  AllDiffer-add (unary o a p) s T d = AllDiffer-add a s T d
+  AllDiffer-add (binary o a b p) s T d = AllDiffer-add b s (add s T a) (AllDiffer-add a s T d)
+  AllDiffer-add (name x p) s T d = AllDiffer-with_name T.names x d
+  AllDiffer-add (conditional t x y p) s T d =
+      let U = add s T t in
+      let n = size U in
+      let S = with_row U s p (size T) (Split (last U)) in
+      AllDiffer-add y (arm s n false) (add (arm s n true) S x) (AllDiffer-add x (arm s n true) S (AllDiffer-add t s T d))
+  AllDiffer-add (call x a p) s T d = AllDiffer-arguments a s p (size T) 0 (entered s T x p) (AllDiffer-with_name T.names x d)
+  AllDiffer-add (block a b p) s T d = AllDiffer-add b s (add s T a) (AllDiffer-add a s T d)
+  AllDiffer-add (binding x a p) s T d = AllDiffer-with_name (add s T a).names x (AllDiffer-add a s T d)
+  AllDiffer-add (param x k p) s T d = AllDiffer-with_name T.names x d
+  AllDiffer-add (define x a k b p) s T d =
+      let w = in_top (size T) in
+      let H = with_row T w p (size T) Head in
+      let U = add w H a in
+      AllDiffer-with_name (add w U b).names x (AllDiffer-add b w U (AllDiffer-add a w H d))
+  AllDiffer-add none s T d = d
+  AllDiffer-add (more a b) s T d = AllDiffer-add b s (add s T a) (AllDiffer-add a s T d)
+
+  AllDiffer-arguments : (t : Tree) (s : Stand) (p e i : ℕ) (T : Parts) → AllDiffer T.names → AllDiffer (add_arguments s p e i T t).names
+  AllDiffer-arguments (more a b) s p e i T d = AllDiffer-arguments b s p e (suc i) (argued s p e i (add s T a)) (AllDiffer-add a s T d)
+  AllDiffer-arguments _ s p e i T d = d
 
 -- no name stands twice among the names of a table
 pub AllDiffer-parts_of : (t : Tree) → AllDiffer (parts_of t).names
@@ -98,104 +104,142 @@ no_name n x e = cc
 one_name : (n y x : ℕ) → y < n → Some y ≡ Some x → x < n
 one_name n y x l e = let z : y ≡ x = cc in omega arith
 
-names-longer : (t : Tree) (s : Stand) (T : Parts) → length T.names ≤ length (add s T t).names
-names-longer (literal v p) s T = omega arith
-names-longer (unary o a p) s T = names-longer a s T
-names-longer (binary o a b p) s T = let l = names-longer a s T in let m = names-longer b s (add s T a) in omega arith
-names-longer (name x p) s T = with_name-longer T.names x
-names-longer (conditional t x y p) s T =
-    let U = add s T t in
-    let n = size U in
-    let S = with_row U s p (size T) (Split (last U)) in
-    let l = names-longer t s T in
-    let m = names-longer x (arm s n true) S in
-    let q = names-longer y (arm s n false) (add (arm s n true) S x) in
-    omega arith
-names-longer (block a b p) s T = let l = names-longer a s T in let m = names-longer b s (add s T a) in omega arith
-names-longer (binding x a p) s T = let l = names-longer a s T in let m = with_name-longer (add s T a).names x in omega arith
-names-longer (param x k p) s T = with_name-longer T.names x
-names-longer (define x a k b p) s T =
-    let w = in_top (size T) in
-    let H = with_row T w p (size T) Head in
-    let U = add w H a in
-    let l = names-longer a w H in
-    let m = names-longer b w U in
-    let q = with_name-longer (add w U b).names x in
-    omega arith
-names-longer none s T = omega arith
-names-longer (more a b) s T = let l = names-longer a s T in let m = names-longer b s (add s T a) in omega arith
-
-module _ (F : List Row) (n : ℕ) where
-  named : (t : Tree) (s : Stand) (T : Parts) → Has F (add s T t).rows → length (add s T t).names ≤ n → Below F n (size T) (size (add s T t))
-  named (literal v p) s T h l = below-push F n (size T) T.rows _ h (below-none F n (size T)) (no_name n)
-  named (name x p) s T h l =
-      let w = number_of-within T.names x in
-      below-push F n (size T) T.rows _ h (below-none F n (size T)) (λ y. one_name n (number_of T.names x) y (omega arith))
-  named (param x k p) s T h l =
-      let w = number_of-within T.names x in
-      below-push F n (size T) T.rows _ h (below-none F n (size T)) (λ y. one_name n (number_of T.names x) y (omega arith))
-  named (unary o a p) s T h l =
-      let U = add s T a in
-      below-push F n (size T) U.rows _ h (named a s T (Has-push F U.rows _ h) l) (no_name n)
-  named (binding x a p) s T h l =
-      let U = add s T a in
-      let w = number_of-within U.names x in
-      let m = with_name-longer U.names x in
-      below-push F n (size T) U.rows _ h (named a s T (Has-push F U.rows _ h) (omega arith)) (λ y. one_name n (number_of U.names x) y (omega arith))
-  named (binary o a b p) s T h l =
-      let U = add s T a in
-      let V = add s U b in
-      let g = Has-push F V.rows _ h in
-      let m = names-longer b s U in
-      below-push F n (size T) V.rows _ h (below-both F n (size T) (size U) (size V) (named a s T (Has-add F b s U g) (omega arith)) (named b s U g l))
-      (no_name n)
-  named (conditional t x y p) s T h l =
+mutual
+  names-longer : (t : Tree) (s : Stand) (T : Parts) → length T.names ≤ length (add s T t).names
+  names-longer (literal v p) s T = omega arith
+  names-longer (unary o a p) s T = names-longer a s T
+  names-longer (binary o a b p) s T = let l = names-longer a s T in let m = names-longer b s (add s T a) in omega arith
+  names-longer (name x p) s T = with_name-longer T.names x
+  names-longer (conditional t x y p) s T =
       let U = add s T t in
-      let u = size U in
+      let n = size U in
       let S = with_row U s p (size T) (Split (last U)) in
-      let X = add (arm s u true) S x in
-      let Y = add (arm s u false) X y in
-      let g = Has-push F Y.rows _ h in
-      let f = Has-add F y (arm s u false) X g in
-      let e = Has-add F x (arm s u true) S f in
-      let m = names-longer x (arm s u true) S in
-      let q = names-longer y (arm s u false) X in
-      below-push F n (size T) Y.rows _ h
-      (below-both F n (size T) (size X) (size Y)
-      (below-both F n (size T) (size S) (size X)
-      (below-push F n (size T) U.rows _ e (named t s T (Has-push F U.rows _ e) (omega arith)) (no_name n))
-      (named x (arm s u true) S f (omega arith)))
-      (named y (arm s u false) X g l))
-      (no_name n)
-  named (block a b p) s T h l =
-      let U = add s T a in
-      let V = add s U b in
-      let g = Has-push F V.rows _ h in
-      let m = names-longer b s U in
-      below-push F n (size T) V.rows _ h (below-both F n (size T) (size U) (size V) (named a s T (Has-add F b s U g) (omega arith)) (named b s U g l))
-      (no_name n)
-  named (define x a k b p) s T h l =
+      let l = names-longer t s T in
+      let m = names-longer x (arm s n true) S in
+      let q = names-longer y (arm s n false) (add (arm s n true) S x) in
+      omega arith
+  names-longer (call x a p) s T =
+      let l = with_name-longer T.names x in
+      let m = arguments-longer a s p (size T) 0 (entered s T x p) in
+      omega arith
+  names-longer (block a b p) s T = let l = names-longer a s T in let m = names-longer b s (add s T a) in omega arith
+  names-longer (binding x a p) s T = let l = names-longer a s T in let m = with_name-longer (add s T a).names x in omega arith
+  names-longer (param x k p) s T = with_name-longer T.names x
+  names-longer (define x a k b p) s T =
       let w = in_top (size T) in
       let H = with_row T w p (size T) Head in
       let U = add w H a in
-      let V = add w U b in
-      let g = Has-push F V.rows _ h in
-      let start = Has-add F b w U g in
+      let l = names-longer a w H in
       let m = names-longer b w U in
-      let q = with_name-longer V.names x in
-      let z = number_of-within V.names x in
-      below-push F n (size T) V.rows _ h
-      (below-both F n (size T) (size U) (size V)
-      (below-both F n (size T) (size H) (size U)
-      (below-push F n (size T) T.rows _ (Has-add F a w H start) (below-none F n (size T)) (no_name n))
-      (named a w H start (omega arith)))
-      (named b w U g (omega arith)))
-      (λ y. one_name n (number_of V.names x) y (omega arith))
-  named none s T h l = below-none F n (size T)
-  named (more a b) s T h l =
+      let q = with_name-longer (add w U b).names x in
+      omega arith
+  names-longer none s T = omega arith
+  names-longer (more a b) s T = let l = names-longer a s T in let m = names-longer b s (add s T a) in omega arith
+
+  arguments-longer : (t : Tree) (s : Stand) (p e i : ℕ) (T : Parts) → length T.names ≤ length (add_arguments s p e i T t).names
+  arguments-longer (more a b) s p e i T =
       let U = add s T a in
-      let m = names-longer b s U in
-      below-both F n (size T) (size U) (size (add s U b)) (named a s T (Has-add F b s U h) (omega arith)) (named b s U h l)
+      let l = names-longer a s T in
+      let m = arguments-longer b s p e (suc i) (argued s p e i U) in
+      omega arith
+  arguments-longer _ s p e i T = omega arith
+
+module _ (F : List Row) (n : ℕ) where
+  mutual
+    named : (t : Tree) (s : Stand) (T : Parts) → Has F (add s T t).rows → length (add s T t).names ≤ n → Below F n (size T) (size (add s T t))
+    named (literal v p) s T h l = below-push F n (size T) T.rows _ h (below-none F n (size T)) (no_name n)
+    named (name x p) s T h l =
+        let w = number_of-within T.names x in
+        below-push F n (size T) T.rows _ h (below-none F n (size T)) (λ y. one_name n (number_of T.names x) y (omega arith))
+    named (param x k p) s T h l =
+        let w = number_of-within T.names x in
+        below-push F n (size T) T.rows _ h (below-none F n (size T)) (λ y. one_name n (number_of T.names x) y (omega arith))
+    named (unary o a p) s T h l =
+        let U = add s T a in
+        below-push F n (size T) U.rows _ h (named a s T (Has-push F U.rows _ h) l) (no_name n)
+    named (binding x a p) s T h l =
+        let U = add s T a in
+        let w = number_of-within U.names x in
+        let m = with_name-longer U.names x in
+        below-push F n (size T) U.rows _ h (named a s T (Has-push F U.rows _ h) (omega arith)) (λ y. one_name n (number_of U.names x) y (omega arith))
+    named (binary o a b p) s T h l =
+        let U = add s T a in
+        let V = add s U b in
+        let g = Has-push F V.rows _ h in
+        let m = names-longer b s U in
+        below-push F n (size T) V.rows _ h (below-both F n (size T) (size U) (size V) (named a s T (Has-add F b s U g) (omega arith)) (named b s U g l))
+        (no_name n)
+    named (conditional t x y p) s T h l =
+        let U = add s T t in
+        let u = size U in
+        let S = with_row U s p (size T) (Split (last U)) in
+        let X = add (arm s u true) S x in
+        let Y = add (arm s u false) X y in
+        let g = Has-push F Y.rows _ h in
+        let f = Has-add F y (arm s u false) X g in
+        let e = Has-add F x (arm s u true) S f in
+        let m = names-longer x (arm s u true) S in
+        let q = names-longer y (arm s u false) X in
+        below-push F n (size T) Y.rows _ h
+        (below-both F n (size T) (size X) (size Y)
+        (below-both F n (size T) (size S) (size X)
+        (below-push F n (size T) U.rows _ e (named t s T (Has-push F U.rows _ e) (omega arith)) (no_name n))
+        (named x (arm s u true) S f (omega arith)))
+        (named y (arm s u false) X g l))
+        (no_name n)
+    named (call x a p) s T h l =
+        let e = size T in
+        let E = entered s T x p in
+        let U = add_arguments s p e 0 E a in
+        let g = Has-push F U.rows _ h in
+        let w = number_of-within T.names x in
+        let m = arguments-longer a s p e 0 E in
+        below-push F n e U.rows _ h
+        (below-both F n e (size E) (size U)
+        (below-push F n e T.rows _ (Has-arguments F a s p e 0 E g) (below-none F n e) (λ y. one_name n (number_of T.names x) y (omega arith)))
+        (named_arguments a s p e 0 E g l))
+        (no_name n)
+    named (block a b p) s T h l =
+        let U = add s T a in
+        let V = add s U b in
+        let g = Has-push F V.rows _ h in
+        let m = names-longer b s U in
+        below-push F n (size T) V.rows _ h (below-both F n (size T) (size U) (size V) (named a s T (Has-add F b s U g) (omega arith)) (named b s U g l))
+        (no_name n)
+    named (define x a k b p) s T h l =
+        let w = in_top (size T) in
+        let H = with_row T w p (size T) Head in
+        let U = add w H a in
+        let V = add w U b in
+        let g = Has-push F V.rows _ h in
+        let start = Has-add F b w U g in
+        let m = names-longer b w U in
+        let q = with_name-longer V.names x in
+        let z = number_of-within V.names x in
+        below-push F n (size T) V.rows _ h
+        (below-both F n (size T) (size U) (size V)
+        (below-both F n (size T) (size H) (size U)
+        (below-push F n (size T) T.rows _ (Has-add F a w H start) (below-none F n (size T)) (no_name n))
+        (named a w H start (omega arith)))
+        (named b w U g (omega arith)))
+        (λ y. one_name n (number_of V.names x) y (omega arith))
+    named none s T h l = below-none F n (size T)
+    named (more a b) s T h l =
+        let U = add s T a in
+        let m = names-longer b s U in
+        below-both F n (size T) (size U) (size (add s U b)) (named a s T (Has-add F b s U h) (omega arith)) (named b s U h l)
+
+    named_arguments : (t : Tree) (s : Stand) (p e i : ℕ) (T : Parts) → Has F (add_arguments s p e i T t).rows → length (add_arguments s p e i T t).names ≤ n
+        → Below F n (size T) (size (add_arguments s p e i T t))
+    named_arguments (more a b) s p e i T h l =
+        let U = add s T a in
+        let A = argued s p e i U in
+        let g = Has-arguments F b s p e (suc i) A h in
+        let m = arguments-longer b s p e (suc i) A in
+        below-both F n (size T) (size A) (size (add_arguments s p e (suc i) A b))
+        (below-push F n (size T) U.rows _ g (named a s T (Has-push F U.rows _ g) (omega arith)) (no_name n))
+        (named_arguments b s p e (suc i) A h l)
+    named_arguments _ s p e i T h l = below-none F n (size T)
 
 -- each number of a name in a table is that of one of its names
 pub AreNamed-parts_of : (t : Tree) → AreNamed (rows_of t) (parts_of t).names

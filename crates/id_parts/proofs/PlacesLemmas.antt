@@ -1,15 +1,15 @@
 -- The places of the things of a table are those of its tree, and they differ.
 use Rattle.std.proofs.Common.{◌≡◌, ◌⊎◌, inl, inr, ◌<◌, ◌≤◌, ℕ, suc, true, false, List, [], ◌∷◌, ◌++◌, length, refl, sym, ap, ◌∙◌, subst, arith}
 use Rattle.std.proofs.lemmas.Bool.{cases_lt, false≢true}
-use Rattle.id_tree.specs.Tree.{Tree, literal, unary, binary, name, conditional, block, binding, param, define, none, more}
+use Rattle.id_tree.specs.Tree.{Tree, literal, unary, binary, name, conditional, call, block, binding, param, define, none, more}
 use Rattle.id_tree.specs.Distinct.{Apart, Distinct, HasPlace}
 use Rattle.id_parts.specs.declared.row.Row.{Row}
 use Rattle.id_parts.specs.declared.row.Stand.{Stand}
-use Rattle.id_parts.specs.declared.row.Node.TheVariants.{Head, Split, Program}
-use Rattle.id_parts.specs.Names.{first_names}
-use Rattle.id_parts.specs.Rows.{Parts, add, arm, at, in_top, last, rows_of, size, with_row}
+use Rattle.id_parts.specs.declared.row.Node.TheVariants.{Head, Split, Enter, Program}
+use Rattle.id_parts.specs.Names.{first_names, number_of}
+use Rattle.id_parts.specs.Rows.{Parts, add, add_arguments, arm, at, in_top, last, rows_of, size, with_row}
 use Rattle.id_parts.specs.Tables.{AreApart, is_thing}
-use Rattle.id_parts.proofs.HasLemmas.{Has, Has-add, Has-itself, Has-push, at-push, push-size, row_for}
+use Rattle.id_parts.proofs.HasLemmas.{Has, Has-add, Has-arguments, Has-itself, Has-push, argued, at-push, entered, push-size, row_for}
 
 pub add-longer : (t : Tree) (s : Stand) (T : Parts) → size T ≤ size (add s T t)
 add-longer t s T = (Has-add (add s T t).rows t s T (Has-itself (add s T t).rows)).within
@@ -51,56 +51,83 @@ module _ (F : List Row) where
     | inr l ↦ absurd (no_thing R r i h e l (omega arith) t)
   ]
 
-  placed : (t : Tree) (s : Stand) (T : Parts) → Has F (add s T t).rows → Placed (size T) (size (add s T t)) (HasPlace t)
-  placed (literal v p) s T h = placed-leaf T.rows _ h
-  placed (name x p) s T h = placed-leaf T.rows _ h
-  placed (param x k p) s T h = placed-leaf T.rows _ h
-  placed (unary o a p) s T h = let U = add s T a in placed-push (size T) (HasPlace a) U.rows _ h (placed a s T (Has-push F U.rows _ h))
-  placed (binding x a p) s T h = let U = add s T a in placed-push (size T) (HasPlace a) U.rows _ h (placed a s T (Has-push F U.rows _ h))
-  placed (binary o a b p) s T h =
-      let U = add s T a in
-      let V = add s U b in
-      let g = Has-push F V.rows _ h in
-      placed-push (size T) (λ q. HasPlace a q ⊎ HasPlace b q) V.rows _ h
-      (placed-both (size T) (size U) (size V) (HasPlace a) (HasPlace b) (placed a s T (Has-add F b s U g)) (placed b s U g))
-  placed (conditional t x y p) s T h =
-      let U = add s T t in
-      let n = size U in
-      let S = with_row U s p (size T) (Split (last U)) in
-      let X = add (arm s n true) S x in
-      let Y = add (arm s n false) X y in
-      let g = Has-push F Y.rows _ h in
-      let f = Has-add F y (arm s n false) X g in
-      let e = Has-add F x (arm s n true) S f in
-      placed-push (size T) (λ q. HasPlace t q ⊎ (HasPlace x q ⊎ HasPlace y q)) Y.rows _ h
-      (placed-both (size T) (size S) (size Y) (HasPlace t) (λ q. HasPlace x q ⊎ HasPlace y q)
-      (placed-mark (size T) (HasPlace t) U.rows _ e refl (placed t s T (Has-push F U.rows _ e)))
-      (placed-both (size S) (size X) (size Y) (HasPlace x) (HasPlace y) (placed x (arm s n true) S f) (placed y (arm s n false) X g)))
-  placed (block a b p) s T h =
-      let U = add s T a in
-      let V = add s U b in
-      let g = Has-push F V.rows _ h in
-      placed-push (size T) (λ q. HasPlace a q ⊎ HasPlace b q) V.rows _ h
-      (placed-both (size T) (size U) (size V) (HasPlace a) (HasPlace b) (placed a s T (Has-add F b s U g)) (placed b s U g))
-  placed (define x a k b p) s T h =
-      let n = size T in
-      let w = in_top n in
-      let H = with_row T w p n Head in
-      let U = add w H a in
-      let V = add w U b in
-      let g = Has-push F V.rows _ h in
-      let k = Has-add F b w U g in
-      let r = row_for T.rows w p n Head in
-      let e = push-size T.rows r in
-      let body = placed-both (size H) (size U) (size V) (HasPlace a) (HasPlace b) (placed a w H k) (placed b w U g) in
-      placed-push n (λ q. HasPlace a q ⊎ HasPlace b q) V.rows _ h (λ i c d t. elim (cases_lt i (size H)) [
-        | inl l ↦ absurd (no_thing T.rows r i (Has-add F a w H k) refl c (omega arith) t)
-        | inr l ↦ body i l d t
-      ])
-  placed none s T h = λ i b c t. absurd (omega arith)
-  placed (more a b) s T h =
-      let U = add s T a in
-      placed-both (size T) (size U) (size (add s U b)) (HasPlace a) (HasPlace b) (placed a s T (Has-add F b s U h)) (placed b s U h)
+  -- behind a marker
+  placed-behind : (P : ℕ → Type 0) (R : List Row) (r : Row) (hi : ℕ) → Has F (R ++ r ∷ []) → is_thing r.node ≡ false → Placed (length (R ++ r ∷ [])) hi P
+      → Placed (length R) hi P
+  placed-behind P R r hi h e f i b c t = let q = push-size R r in elim (cases_lt i (length (R ++ r ∷ []))) [
+    | inl l ↦ absurd (no_thing R r i h e b (omega arith) t)
+    | inr l ↦ f i l c t
+  ]
+
+  mutual
+    placed : (t : Tree) (s : Stand) (T : Parts) → Has F (add s T t).rows → Placed (size T) (size (add s T t)) (HasPlace t)
+    placed (literal v p) s T h = placed-leaf T.rows _ h
+    placed (name x p) s T h = placed-leaf T.rows _ h
+    placed (param x k p) s T h = placed-leaf T.rows _ h
+    placed (unary o a p) s T h = let U = add s T a in placed-push (size T) (HasPlace a) U.rows _ h (placed a s T (Has-push F U.rows _ h))
+    placed (binding x a p) s T h = let U = add s T a in placed-push (size T) (HasPlace a) U.rows _ h (placed a s T (Has-push F U.rows _ h))
+    placed (binary o a b p) s T h =
+        let U = add s T a in
+        let V = add s U b in
+        let g = Has-push F V.rows _ h in
+        placed-push (size T) (λ q. HasPlace a q ⊎ HasPlace b q) V.rows _ h
+        (placed-both (size T) (size U) (size V) (HasPlace a) (HasPlace b) (placed a s T (Has-add F b s U g)) (placed b s U g))
+    placed (conditional t x y p) s T h =
+        let U = add s T t in
+        let n = size U in
+        let S = with_row U s p (size T) (Split (last U)) in
+        let X = add (arm s n true) S x in
+        let Y = add (arm s n false) X y in
+        let g = Has-push F Y.rows _ h in
+        let f = Has-add F y (arm s n false) X g in
+        let e = Has-add F x (arm s n true) S f in
+        placed-push (size T) (λ q. HasPlace t q ⊎ (HasPlace x q ⊎ HasPlace y q)) Y.rows _ h
+        (placed-both (size T) (size S) (size Y) (HasPlace t) (λ q. HasPlace x q ⊎ HasPlace y q)
+        (placed-mark (size T) (HasPlace t) U.rows _ e refl (placed t s T (Has-push F U.rows _ e)))
+        (placed-both (size S) (size X) (size Y) (HasPlace x) (HasPlace y) (placed x (arm s n true) S f) (placed y (arm s n false) X g)))
+    placed (call x a p) s T h =
+        let e = size T in
+        let E = entered s T x p in
+        let U = add_arguments s p e 0 E a in
+        let g = Has-push F U.rows _ h in
+        let r = row_for T.rows s p e (Enter (number_of T.names x)) in
+        placed-push e (HasPlace a) U.rows _ h
+        (placed-behind (HasPlace a) T.rows r (size U) (Has-arguments F a s p e 0 E g) refl (placed_arguments a s p e 0 E g))
+    placed (block a b p) s T h =
+        let U = add s T a in
+        let V = add s U b in
+        let g = Has-push F V.rows _ h in
+        placed-push (size T) (λ q. HasPlace a q ⊎ HasPlace b q) V.rows _ h
+        (placed-both (size T) (size U) (size V) (HasPlace a) (HasPlace b) (placed a s T (Has-add F b s U g)) (placed b s U g))
+    placed (define x a k b p) s T h =
+        let n = size T in
+        let w = in_top n in
+        let H = with_row T w p n Head in
+        let U = add w H a in
+        let V = add w U b in
+        let g = Has-push F V.rows _ h in
+        let k = Has-add F b w U g in
+        let r = row_for T.rows w p n Head in
+        let e = push-size T.rows r in
+        let body = placed-both (size H) (size U) (size V) (HasPlace a) (HasPlace b) (placed a w H k) (placed b w U g) in
+        placed-push n (λ q. HasPlace a q ⊎ HasPlace b q) V.rows _ h (λ i c d t. elim (cases_lt i (size H)) [
+          | inl l ↦ absurd (no_thing T.rows r i (Has-add F a w H k) refl c (omega arith) t)
+          | inr l ↦ body i l d t
+        ])
+    placed none s T h = λ i b c t. absurd (omega arith)
+    placed (more a b) s T h =
+        let U = add s T a in
+        placed-both (size T) (size U) (size (add s U b)) (HasPlace a) (HasPlace b) (placed a s T (Has-add F b s U h)) (placed b s U h)
+
+    placed_arguments : (t : Tree) (s : Stand) (p e i : ℕ) (T : Parts) → Has F (add_arguments s p e i T t).rows
+        → Placed (size T) (size (add_arguments s p e i T t)) (HasPlace t)
+    placed_arguments (more a b) s p e i T h =
+        let U = add s T a in
+        let A = argued s p e i U in
+        let g = Has-arguments F b s p e (suc i) A h in
+        placed-both (size T) (size A) (size (add_arguments s p e (suc i) A b)) (HasPlace a) (HasPlace b)
+        (placed-mark (size T) (HasPlace a) U.rows _ g refl (placed a s T (Has-push F U.rows _ g))) (placed_arguments b s p e (suc i) A h)
+    placed_arguments _ s p e i T h = λ j b c t. absurd (omega arith)
 
   differ-none : (lo hi : ℕ) → hi ≤ lo → Differ lo hi
   differ-none lo hi h i j b c d e t u w = absurd (omega arith)
@@ -140,75 +167,105 @@ module _ (F : List Row) where
       differ-push (size T) (λ q. HasPlace a q ⊎ HasPlace b q) V.rows r h (placed-both (size T) (size U) (size V) (HasPlace a) (HasPlace b) left right)
       (λ e. elim e [ inl i ↦ x i | inr i ↦ y i ]) (differ-both (size T) (size U) (size V) (HasPlace a) (HasPlace b) left right z f g)
 
-  differ : (t : Tree) (s : Stand) (T : Parts) → Has F (add s T t).rows → Distinct t → Differ (size T) (size (add s T t))
-  differ (literal v p) s T h d = differ-leaf T.rows _
-  differ (name x p) s T h d = differ-leaf T.rows _
-  differ (param x k p) s T h d = differ-leaf T.rows _
-  differ (unary o a p) s T h d =
-      let U = add s T a in
-      let g = Has-push F U.rows _ h in
-      differ-push (size T) (HasPlace a) U.rows _ h (placed a s T g) d.0 (differ a s T g d.1)
-  differ (binding x a p) s T h d =
-      let U = add s T a in
-      let g = Has-push F U.rows _ h in
-      differ-push (size T) (HasPlace a) U.rows _ h (placed a s T g) d.0 (differ a s T g d.1)
-  differ (binary o a b p) s T h d =
-      let U = add s T a in
-      let V = add s U b in
-      let k = Has-push F V.rows _ h in
-      differ-two a b s T _ h d.0 d.1 d.2 (differ a s T (Has-add F b s U k) d.3) (differ b s U k d.4)
-  differ (conditional t x y p) s T h d =
-      let U = add s T t in
-      let n = size U in
-      let S = with_row U s p (size T) (Split (last U)) in
-      let X = add (arm s n true) S x in
-      let Y = add (arm s n false) X y in
-      let g = Has-push F Y.rows _ h in
-      let f = Has-add F y (arm s n false) X g in
-      let e = Has-add F x (arm s n true) S f in
-      let k = Has-push F U.rows _ e in
-      let front = placed-mark (size T) (HasPlace t) U.rows _ e refl (placed t s T k) in
-      let then = placed x (arm s n true) S f in
-      let otherwise = placed y (arm s n false) X g in
-      let arms = placed-both (size S) (size X) (size Y) (HasPlace x) (HasPlace y) then otherwise in
-      differ-push (size T) (λ q. HasPlace t q ⊎ (HasPlace x q ⊎ HasPlace y q)) Y.rows _ h
-      (placed-both (size T) (size S) (size Y) (HasPlace t) (λ q. HasPlace x q ⊎ HasPlace y q) front arms)
-      (λ z. elim z [ inl i ↦ d.0 i | inr z' ↦ elim z' [ inl i ↦ d.1 i | inr i ↦ d.2 i ] ])
-      (differ-both (size T) (size S) (size Y) (HasPlace t) (λ q. HasPlace x q ⊎ HasPlace y q) front arms
-      (λ q i z. elim z [ inl j ↦ d.3 q i j | inr j ↦ d.4 q i j ])
-      (differ-mark (size T) U.rows _ e refl (differ t s T k d.6))
-      (differ-both (size S) (size X) (size Y) (HasPlace x) (HasPlace y) then otherwise d.5 (differ x (arm s n true) S f d.7)
-      (differ y (arm s n false) X g d.8)))
-  differ (block a b p) s T h d =
-      let U = add s T a in
-      let V = add s U b in
-      let k = Has-push F V.rows _ h in
-      differ-two a b s T _ h d.0 d.1 d.2 (differ a s T (Has-add F b s U k) d.3) (differ b s U k d.4)
-  differ (define x a k b p) s T h d =
-      let n = size T in
-      let w = in_top n in
-      let H = with_row T w p n Head in
-      let U = add w H a in
-      let V = add w U b in
-      let g = Has-push F V.rows _ h in
-      let m = Has-add F b w U g in
-      let start = Has-add F a w H m in
-      let r = row_for T.rows w p n Head in
-      let e = push-size T.rows r in
-      let rest = differ-two a b w H _ h d.0 d.1 d.2 (differ a w H m d.3) (differ b w U g d.4) in
-      λ i j c l c' l' t t' z. elim (cases_lt i (size H)) [
-        | inl f ↦ absurd (no_thing T.rows r i start refl c (omega arith) t)
-        | inr f ↦ elim (cases_lt j (size H)) [
-          | inl f' ↦ absurd (no_thing T.rows r j start refl c' (omega arith) t')
-          | inr f' ↦ rest i j f l f' l' t t' z
+  -- behind a marker
+  differ-behind : (R : List Row) (r : Row) (hi : ℕ) → Has F (R ++ r ∷ []) → is_thing r.node ≡ false → Differ (length (R ++ r ∷ [])) hi
+      → Differ (length R) hi
+  differ-behind R r hi h e f i j b c b' c' t t' z = let q = push-size R r in elim (cases_lt i (length (R ++ r ∷ []))) [
+    | inl l ↦ absurd (no_thing R r i h e b (omega arith) t)
+    | inr l ↦ elim (cases_lt j (length (R ++ r ∷ []))) [ inl l' ↦ absurd (no_thing R r j h e b' (omega arith) t') | inr l' ↦ f i j l c l' c' t t' z ]
+  ]
+
+  mutual
+    differ : (t : Tree) (s : Stand) (T : Parts) → Has F (add s T t).rows → Distinct t → Differ (size T) (size (add s T t))
+    differ (literal v p) s T h d = differ-leaf T.rows _
+    differ (name x p) s T h d = differ-leaf T.rows _
+    differ (param x k p) s T h d = differ-leaf T.rows _
+    differ (unary o a p) s T h d =
+        let U = add s T a in
+        let g = Has-push F U.rows _ h in
+        differ-push (size T) (HasPlace a) U.rows _ h (placed a s T g) d.0 (differ a s T g d.1)
+    differ (binding x a p) s T h d =
+        let U = add s T a in
+        let g = Has-push F U.rows _ h in
+        differ-push (size T) (HasPlace a) U.rows _ h (placed a s T g) d.0 (differ a s T g d.1)
+    differ (binary o a b p) s T h d =
+        let U = add s T a in
+        let V = add s U b in
+        let k = Has-push F V.rows _ h in
+        differ-two a b s T _ h d.0 d.1 d.2 (differ a s T (Has-add F b s U k) d.3) (differ b s U k d.4)
+    differ (conditional t x y p) s T h d =
+        let U = add s T t in
+        let n = size U in
+        let S = with_row U s p (size T) (Split (last U)) in
+        let X = add (arm s n true) S x in
+        let Y = add (arm s n false) X y in
+        let g = Has-push F Y.rows _ h in
+        let f = Has-add F y (arm s n false) X g in
+        let e = Has-add F x (arm s n true) S f in
+        let k = Has-push F U.rows _ e in
+        let front = placed-mark (size T) (HasPlace t) U.rows _ e refl (placed t s T k) in
+        let then = placed x (arm s n true) S f in
+        let otherwise = placed y (arm s n false) X g in
+        let arms = placed-both (size S) (size X) (size Y) (HasPlace x) (HasPlace y) then otherwise in
+        differ-push (size T) (λ q. HasPlace t q ⊎ (HasPlace x q ⊎ HasPlace y q)) Y.rows _ h
+        (placed-both (size T) (size S) (size Y) (HasPlace t) (λ q. HasPlace x q ⊎ HasPlace y q) front arms)
+        (λ z. elim z [ inl i ↦ d.0 i | inr z' ↦ elim z' [ inl i ↦ d.1 i | inr i ↦ d.2 i ] ])
+        (differ-both (size T) (size S) (size Y) (HasPlace t) (λ q. HasPlace x q ⊎ HasPlace y q) front arms
+        (λ q i z. elim z [ inl j ↦ d.3 q i j | inr j ↦ d.4 q i j ])
+        (differ-mark (size T) U.rows _ e refl (differ t s T k d.6))
+        (differ-both (size S) (size X) (size Y) (HasPlace x) (HasPlace y) then otherwise d.5 (differ x (arm s n true) S f d.7)
+        (differ y (arm s n false) X g d.8)))
+    differ (call x a p) s T h d =
+        let e = size T in
+        let E = entered s T x p in
+        let U = add_arguments s p e 0 E a in
+        let g = Has-push F U.rows _ h in
+        let r = row_for T.rows s p e (Enter (number_of T.names x)) in
+        let k = Has-arguments F a s p e 0 E g in
+        differ-push e (HasPlace a) U.rows _ h (placed-behind (HasPlace a) T.rows r (size U) k refl (placed_arguments a s p e 0 E g)) d.0
+        (differ-behind T.rows r (size U) k refl (differ_arguments a s p e 0 E g d.1))
+    differ (block a b p) s T h d =
+        let U = add s T a in
+        let V = add s U b in
+        let k = Has-push F V.rows _ h in
+        differ-two a b s T _ h d.0 d.1 d.2 (differ a s T (Has-add F b s U k) d.3) (differ b s U k d.4)
+    differ (define x a k b p) s T h d =
+        let n = size T in
+        let w = in_top n in
+        let H = with_row T w p n Head in
+        let U = add w H a in
+        let V = add w U b in
+        let g = Has-push F V.rows _ h in
+        let m = Has-add F b w U g in
+        let start = Has-add F a w H m in
+        let r = row_for T.rows w p n Head in
+        let e = push-size T.rows r in
+        let rest = differ-two a b w H _ h d.0 d.1 d.2 (differ a w H m d.3) (differ b w U g d.4) in
+        λ i j c l c' l' t t' z. elim (cases_lt i (size H)) [
+          | inl f ↦ absurd (no_thing T.rows r i start refl c (omega arith) t)
+          | inr f ↦ elim (cases_lt j (size H)) [
+            | inl f' ↦ absurd (no_thing T.rows r j start refl c' (omega arith) t')
+            | inr f' ↦ rest i j f l f' l' t t' z
+          ]
         ]
-      ]
-  differ none s T h d = λ i j b c e f t u w. absurd (omega arith)
-  differ (more a b) s T h d =
-      let U = add s T a in
-      let g = Has-add F b s U h in
-      differ-both (size T) (size U) (size (add s U b)) (HasPlace a) (HasPlace b) (placed a s T g) (placed b s U h) d.0 (differ a s T g d.1)
-      (differ b s U h d.2)
+    differ none s T h d = λ i j b c e f t u w. absurd (omega arith)
+    differ (more a b) s T h d =
+        let U = add s T a in
+        let g = Has-add F b s U h in
+        differ-both (size T) (size U) (size (add s U b)) (HasPlace a) (HasPlace b) (placed a s T g) (placed b s U h) d.0 (differ a s T g d.1)
+        (differ b s U h d.2)
+
+    differ_arguments : (t : Tree) (s : Stand) (p e i : ℕ) (T : Parts) → Has F (add_arguments s p e i T t).rows → Distinct t
+        → Differ (size T) (size (add_arguments s p e i T t))
+    differ_arguments (more a b) s p e i T h d =
+        let U = add s T a in
+        let A = argued s p e i U in
+        let g = Has-arguments F b s p e (suc i) A h in
+        let k = Has-push F U.rows _ g in
+        differ-both (size T) (size A) (size (add_arguments s p e (suc i) A b)) (HasPlace a) (HasPlace b)
+        (placed-mark (size T) (HasPlace a) U.rows _ g refl (placed a s T k)) (placed_arguments b s p e (suc i) A h) d.0
+        (differ-mark (size T) U.rows _ g refl (differ a s T k d.1)) (differ_arguments b s p e (suc i) A h d.2)
+    differ_arguments _ s p e i T h d = λ j k b c f g t u w. absurd (omega arith)
 
 abbrev empty : Parts
 empty = record { rows = []; names = first_names }

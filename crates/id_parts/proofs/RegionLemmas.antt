@@ -8,7 +8,7 @@ use Rattle.id_parts.specs.declared.row.Node.TheVariants.{Head, Split, If}
 use Rattle.id_parts.specs.Rows.{arm_at, at, top}
 use Rattle.id_parts.specs.Tables.{HasNear, HasOperand, HasPart, is_if, is_split, is_top}
 use Rattle.id_parts.specs.Regions.{InArm, IsIfOf, Lies, here, in_arm}
-use Rattle.id_parts.specs.Turns.{IsTable, Root, TurnedIn, Turns, body, left, of_otherwise, of_procedure, of_then, operand, part, right, root, statement, test}
+use Rattle.id_parts.specs.Turns.{IsTable, Root, TurnedIn, Turns, argument, body, left, of_otherwise, of_procedure, of_then, operand, part, right, root, statement, test}
 use Rattle.id_parts.proofs.BlockLemmas.{around-within}
 use Rattle.id_parts.proofs.BlocksLemmas.{not_last}
 use Rattle.id_parts.proofs.RowLemmas.{Lies-both, differs, near_part, operand_part}
@@ -131,6 +131,10 @@ module _ (R : List Row) (t : IsTable R) where
       let p = (t.formed.each n l).parts s (subst (λ m. HasPart m s) (sym e) (inl refl)) in
       (t.part_stands s a (omega (arith, p.1, l)) (subst (λ m. HasNear m a) (sym f) refl)).1
       ∙ (t.part_stands n s l (subst (λ m. HasNear m s) (sym e) refl)).1
+  Turns-stands n a l (argument {e = s} {c} {m} {k} e b f) =
+      let w = t.arg_of m s k (record { value = a; within = b; node = f }) in
+      let same = t.one_call w.row n s w.call (record { count = c; within = l; node = e }) in
+      (t.part_stands m a b (subst (λ z. HasNear z a) (sym f) (inr refl))).1 ∙ w.stands.region ∙ ap (λ z. (at R z).region) same
   Turns-stands n a l (body e) = (t.part_stands n a l (subst (λ m. HasNear m a) (sym e) refl)).1
   Turns-stands n a l (statement {m} s e) =
       let w = around-within R n m s.inside in

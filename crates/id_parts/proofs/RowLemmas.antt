@@ -4,9 +4,10 @@ use Rattle.std.proofs.lemmas.Bool.{cases_lt, false≢true}
 use Rattle.id_parts.specs.declared.row.Row.{Row}
 use Rattle.id_parts.specs.declared.row.Stand.{Stand}
 use Rattle.id_parts.specs.declared.row.Node.{Node}
-use Rattle.id_parts.specs.declared.row.Node.TheVariants.{Head, Split, If, Block, Def, Program}
+use Rattle.id_parts.specs.declared.row.Node.TheVariants.{Head, Split, If, Enter, Arg, Call, Block, Def, Program}
 use Rattle.id_parts.specs.Rows.{at, top, value_of}
 use Rattle.id_parts.specs.Tables.{HasNear, HasOperand, HasPart, is_binding, is_block, is_expression, is_top}
+use Rattle.id_parts.specs.Calls.{AreArgs, IsArgIn, IsCallOf, IsEnterOf}
 use Rattle.id_parts.specs.Regions.{AreArms, IsIfOf, IsSplitOf, Lies, StandsInArm, here, in_arm}
 use Rattle.id_parts.specs.Turns.{in_block}
 use Rattle.id_parts.proofs.HasLemmas.{row_in}
@@ -18,10 +19,13 @@ is_inner (Def x h k b) = false
 is_inner Program = false
 is_inner _ = true
 
--- whether besides a row of this node is of no conditional, and gives its own value
+-- whether besides a row of this node is of no conditional and of no call, and gives its own value
 abbrev pub is_simple : Node → Bool
 is_simple (Split t) = false
 is_simple (If s x y) = false
+is_simple (Enter x) = false
+is_simple (Arg e i v) = false
+is_simple (Call e c) = false
 is_simple (Block b) = false
 is_simple n = is_inner n
 
@@ -45,10 +49,13 @@ StandsWithin F s a = ((at F a).block ≡ s.block) × Lies F s.region (at F a).re
 abbrev pub stand_of : Row → Stand
 stand_of r = record { block = r.block; region = r.region }
 
--- a row of the number i with this node, if it is one of a conditional, belongs to the others of it
+-- a row of the number i with this node, if it is one of a conditional or of a call, belongs to the others of it
 abbrev pub Belongs : List Row → ℕ → Node → Type 0
 Belongs F i (Split t) = (n : ℕ) × IsIfOf F n i
 Belongs F i (If u x y) = IsSplitOf F u i × AreArms F u x y i
+Belongs F i (Enter x) = (n : ℕ) × IsCallOf F n i
+Belongs F i (Arg e k v) = IsArgIn F i e k v
+Belongs F i (Call e c) = IsEnterOf F e i × AreArgs F e i c
 Belongs F i _ = Unit {0}
 
 -- a row of the number i with this node, value and first row, in this stand, fits the rows before it
@@ -111,12 +118,17 @@ near_part _ a h = h
 
 pub operand_part : (n : Node) (a : ℕ) → HasOperand n a → HasPart n a
 operand_part (If s x y) a h = inr h
+operand_part (Arg e i v) a h = inr h
+operand_part (Call e c) a h = absurd h
 operand_part (Def x h k b) a e = inr e
 operand_part _ a h = h
 
 pub simple_inner : (n : Node) → is_simple n ≡ true → is_inner n ≡ true
 simple_inner (Split t) e = absurd (false≢true e)
 simple_inner (If s x y) e = absurd (false≢true e)
+simple_inner (Enter x) q = absurd (false≢true q)
+simple_inner (Arg e i v) q = absurd (false≢true q)
+simple_inner (Call e c) q = absurd (false≢true q)
 simple_inner (Block b) e = absurd (false≢true e)
 simple_inner _ e = e
 
@@ -127,6 +139,9 @@ simple_no_block _ e = refl
 belongs_none : (F : List Row) (i : ℕ) (n : Node) → is_simple n ≡ true → Belongs F i n
 belongs_none F i (Split t) e = absurd (false≢true e)
 belongs_none F i (If u x y) e = absurd (false≢true e)
+belongs_none F i (Enter x) e = absurd (false≢true e)
+belongs_none F i (Arg s k v) e = absurd (false≢true e)
+belongs_none F i (Call s c) e = absurd (false≢true e)
 belongs_none F i _ e = tt
 
 module _ (F : List Row) where

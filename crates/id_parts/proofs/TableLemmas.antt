@@ -8,20 +8,23 @@ use Rattle.id_parts.specs.declared.row.Row.{Row}
 use Rattle.id_parts.specs.declared.row.Stand.{Stand}
 use Rattle.id_parts.specs.declared.row.Region.{Region}
 use Rattle.id_parts.specs.declared.row.Node.{Node}
-use Rattle.id_parts.specs.declared.row.Node.TheVariants.{Head, Param, Literal, Name, Split, If, Def, Program}
+use Rattle.id_parts.specs.declared.row.Node.TheVariants.{Head, Param, Literal, Name, Split, If, Enter, Arg, Call, Def, Program}
 use Rattle.id_parts.specs.Names.{number_of, first_names}
-use Rattle.id_parts.specs.Rows.{Parts, add, arm, arm_at, at, in_top, last, rows_of, size, top, with_row}
+use Rattle.id_parts.specs.Rows.{Parts, add, add_arguments, arm, arm_at, count_of, at, in_top, last, rows_of, size, top, with_row}
 use Rattle.id_parts.specs.Tables.{Formed, HasNear, HasOperand, HasPart, IsFormed, IsNested}
-use Rattle.id_parts.specs.Tables.{is_binding, is_block, is_def, is_expression, is_head, is_if, is_param, is_split, is_top}
+use Rattle.id_parts.specs.Tables.{is_arg, is_binding, is_block, is_call, is_def, is_enter, is_expression, is_head, is_if, is_param, is_split, is_top}
+use Rattle.id_parts.specs.Calls.{AreArgs, IsArgIn, IsArgOf, IsCallOf, IsEnterOf}
 use Rattle.id_parts.specs.Regions.{AreArms, InArm, IsIfOf, IsSplitOf, Lies, StandsInArm, here, in_arm}
-use Rattle.id_parts.specs.Trees.{IsTree, IsProgramTree, Sort, Expression, Statements, Params, Defs, by_literal, by_unary, by_binary, by_name, by_conditional}
-use Rattle.id_parts.specs.Trees.{by_block, no_statements, more_statements, no_params, more_params, no_defs, more_defs}
-use Rattle.id_parts.specs.Turns.{IsDefOf, IsStatement, IsTable, Root, TurnedIn}
+use Rattle.id_parts.specs.Trees.{IsTree, IsProgramTree, Sort, Expression, Arguments, Statements, Params, Defs, by_literal, by_unary, by_binary, by_name, by_conditional}
+use Rattle.id_parts.specs.Trees.{by_call, no_arguments, more_arguments, by_block, no_statements, more_statements, no_params, more_params, no_defs, more_defs}
+use Rattle.id_parts.specs.Turns.{AreParamsOf, IsDefOf, IsStatement, IsTable, Root, TurnedIn}
 use Rattle.id_parts.proofs.BlockLemmas.{around-within, statement_of}
-use Rattle.id_parts.proofs.HasLemmas.{Has, Has-add, Has-itself, Has-push, at-push, push-size, push-within, row_for}
+use Rattle.id_parts.proofs.HasLemmas.{Has, Has-add, Has-arguments, Has-itself, Has-push, argued, at-push, entered, push-size, push-within, row_for}
 use Rattle.id_parts.proofs.RowLemmas.{Belongs, Fits, RowsAre, RowsAre-both, RowsAre-none, StandsWithin, differs, is_inner, stand_of}
 use Rattle.id_parts.proofs.ExpressionLemmas.{AreExpression, AreStatements, AreParams, are-binary, are-binding, are-block, are-leaf, are-param, are-unary}
+use Rattle.id_parts.proofs.CallLemmas.{Called, are-call, called-argument, called-enter}
 use Rattle.id_parts.proofs.ConditionalLemmas.{are-conditional}
+use Rattle.id_parts.proofs.ParamsLemmas.{NoParams, NoParams-expression}
 
 -- the row r of the number i stands in a procedure
 pub record StandsIn (F : List Row) (i : ℕ) (r : Row) : Type 0 where
@@ -36,6 +39,7 @@ pub record StandsIn (F : List Row) (i : ℕ) (r : Row) : Type 0 where
   pub head_place : (x h b : ℕ) (k : Kind) → r.node ≡ Def x h k b → (at F h).place ≡ r.place
   pub head_is : (x h b : ℕ) (k : Kind) → r.node ≡ Def x h k b → ((at F h).node ≡ Head) × (r.first ≡ h) × (is_expression (at F b).node ≡ true)
   pub def_of : (n : ℕ) × IsDefOf F n r.block × (i ≤ n)
+  pub params : is_def r.node ≡ true → AreParamsOf F r.first i
   pub alone : is_def r.node ≡ true → (j : ℕ) → r.first ≤ j → j < i → is_def (at F j).node ≡ false
   pub turned : is_expression r.node ≡ true → TurnedIn F r.region i
   pub in_a_block : is_binding r.node ≡ true → (s : ℕ) × (s < length F) × IsStatement F s i
@@ -85,6 +89,7 @@ module _ (F : List Row) where
         head_place = λ x g b k e. absurd (differs is_inner (at F i).node (Def x g k b) r.inner refl e);
         head_is = λ x g b k e. absurd (differs is_inner (at F i).node (Def x g k b) r.inner refl e);
         def_of = (n, subst (IsDefOf F n) (sym r.block) p.def, omega arith);
+        params = λ e. absurd (false≢true (sym (inner_no_def (at F i).node r.inner) ∙ e));
         alone = λ e. absurd (false≢true (sym (inner_no_def (at F i).node r.inner) ∙ e));
         turned = λ e. p.turned i l m e;
         in_a_block = p.held i l m;
@@ -118,6 +123,7 @@ module _ (F : List Row) where
     head_place = λ x g b k e. absurd (false≢true (ap is_def e));
     head_is = λ x g b k e. absurd (false≢true (ap is_def e));
     def_of = (n, q.def, omega (arith, q.low));
+    params = λ e. absurd (false≢true e);
     alone = λ e. absurd (false≢true e);
     turned = λ e. absurd (false≢true e);
     in_a_block = λ e. absurd (false≢true e);
@@ -143,9 +149,9 @@ module _ (F : List Row) where
 
   stands-def : (R : List Row) (p h x b : ℕ) (k : Kind) → Has F (R ++ row_for R (in_top h) p h (Def x h k b) ∷ []) → (at F h).first ≡ h → (at F h).block ≡ h
       → (at F h).region ≡ top h → (at F h).place ≡ p
-      → is_expression (at F b).node ≡ true → suc h ≤ b → b < length R → (at F b).region ≡ top h → IsProcedure F h (length R)
+      → is_expression (at F b).node ≡ true → suc h ≤ b → b < length R → (at F b).region ≡ top h → IsProcedure F h (length R) → AreParamsOf F h (length R)
       → StandsIn F (length R) (at F (length R))
-  stands-def R p h x b k has first stands region spot body low before within q = subst (StandsIn F (length R)) (sym (at-push F R _ has)) (record {
+  stands-def R p h x b k has first stands region spot body low before within q ps = subst (StandsIn F (length R)) (sym (at-push F R _ has)) (record {
     first = omega (arith, q.low);
     nested = λ j c d. elim (cases_lt h j) [
       | inl l ↦ let r = q.rows j l d in omega (arith, r.low)
@@ -168,6 +174,7 @@ module _ (F : List Row) where
         let w = ap (def_body b) e in
         (ap (λ i. (at F i).node) (sym s) ∙ q.head, s, ap (λ i. is_expression (at F i).node) (sym w) ∙ body);
     def_of = (length R, q.def, omega arith);
+    params = λ _. ps;
     alone = λ _ j c d. elim (cases_lt h j) [
       | inl l ↦ inner_no_def (at F j).node (q.rows j l d).inner
       | inr l ↦ let e : j ≡ h = omega arith in ap (λ i. is_def (at F i).node) e ∙ ap is_def q.head
@@ -179,9 +186,9 @@ module _ (F : List Row) where
   -- a definition behind its parameters and its body
   are-define : (T : List Row) (R : List Row) (p mid x b : ℕ) (k : Kind) → let h = length T in
       Has F (T ++ row_for T (in_top h) p h Head ∷ []) → Has F (R ++ row_for R (in_top h) p h (Def x h k b) ∷ [])
-      → AreParams F (in_top h) (length (T ++ row_for T (in_top h) p h Head ∷ [])) mid → AreExpression F (in_top h) mid (length R) → b ≡ length R - 1
+      → AreParams F (in_top h) (length (T ++ row_for T (in_top h) p h Head ∷ [])) mid → AreExpression F (in_top h) mid (length R) → NoParams F mid (length R) → b ≡ length R - 1
       → (i : ℕ) → h ≤ i → i < length (R ++ row_for R (in_top h) p h (Def x h k b) ∷ []) → StandsIn F i (at F i)
-  are-define T R p mid x b k start has ps e q i l m =
+  are-define T R p mid x b k start has ps e plain q i l m =
       let h = length T in
       let head = at-push F T _ start in
       let long = push-size T (row_for T (in_top h) p h Head) in
@@ -206,6 +213,12 @@ module _ (F : List Row) where
           | inr d ↦ statement_of F j (length R) (omega (arith, within)) w (e.held j d v w)
         ];
       } in
+      let params_of : AreParamsOf F h (length R) = record {
+        count = mid - suc h;
+        before = omega (arith, enough, e.low, e.ends);
+        param = λ j u v. ps.param j (omega (arith, u)) (omega (arith, u, v, enough));
+        rest = λ j u v. plain j (omega (arith, u, enough)) v;
+      } in
       elim (cases_lt h i) [
         | inr d ↦ let z : h ≡ i = omega arith in subst (λ j. StandsIn F j (at F j)) z (stands-head T p (length R) start procedure)
         | inl d ↦ elim (cases_lt i (length R)) [
@@ -215,7 +228,7 @@ module _ (F : List Row) where
               (stands-def R p h x b k has (ap (λ (r : Row). r.first) head) (ap (λ (r : Row). r.block) head) (ap (λ (r : Row). r.region) head)
               (ap (λ (r : Row). r.place) head)
               (subst (λ n. is_expression (at F n).node ≡ true) same e.expression) (omega (arith, e.low)) (omega (arith, e.ends))
-              (subst (λ n. (at F n).region ≡ top h) same e.region) procedure)
+              (subst (λ n. (at F n).region ≡ top h) same e.region) procedure params_of)
         ]
       ]
 
@@ -226,6 +239,7 @@ module _ (F : List Row) where
   -- the rows from lo up to hi are those of a tree of this sort
   abbrev pub Are : Sort → Stand → ℕ → ℕ → Type 0
   Are Expression s lo hi = AreExpression F s lo hi
+  Are Arguments s lo hi = Unit {0}
   Are Statements s lo hi = AreStatements F s lo hi
   Are Params s lo hi = s.region ≡ top s.block → AreParams F s lo hi
   Are Defs s lo hi = AreDefs lo hi
@@ -237,89 +251,120 @@ module _ (F : List Row) where
   grown : (s : Stand) (lo : ℕ) (R : List Row) (r : Row) → AreExpression F s lo (suc (length R)) → AreExpression F s lo (length (R ++ r ∷ []))
   grown s lo R r e = subst (AreExpression F s lo) (sym (push-size R r)) e
 
-  pub Are-add : {k : Sort} {t : Tree} (s : Stand) (T : Parts) → IsTree k t → Has F (add s T t).rows → Are k s (size T) (size (add s T t))
-  Are-add s T (by_literal {v} {p}) h = grown s (size T) T.rows _ (are-leaf F s p (size T) (Literal v) (at-push F T.rows _ h) refl refl (λ a q. q))
-  Are-add s T (by_name {x} {p}) h =
-      grown s (size T) T.rows _ (are-leaf F s p (size T) (Name (number_of T.names x)) (at-push F T.rows _ h) refl refl (λ a q. q))
-  Are-add s T (by_unary {o} {a} {p} t) h =
-      let U = add s T a in
-      let e = Are-add s T t (Has-push F U.rows _ h) in
-      grown s (size T) U.rows _
-      (are-unary F s p (size T) (last U) (size U) o (at-push F U.rows _ h) (push-within F U.rows _ h) (last_of s (size T) (size U) e) e)
-  Are-add s T (by_binary {o} {a} {b} {p} t u) h =
-      let U = add s T a in
-      let V = add s U b in
-      let after = Has-push F V.rows _ h in
-      let e = Are-add s T t (Has-add F b s U after) in
-      let f = Are-add s U u after in
-      grown s (size T) V.rows _
-      (are-binary F s p (size T) (size U) (last U) (last V) (size V) o (at-push F V.rows _ h) (push-within F V.rows _ h) (last_of s (size T) (size U) e)
-      (last_of s (size U) (size V) f) e f)
-  Are-add s T (by_conditional {t} {x} {y} {p} d e f) h =
-      let U = add s T t in
-      let n = size U in
-      let S = with_row U s p (size T) (Split (last U)) in
-      let X = add (arm s n true) S x in
-      let Y = add (arm s n false) X y in
-      let has = Has-push F Y.rows _ h in
-      let has_then = Has-add F y (arm s n false) X has in
-      let has_split = Has-add F x (arm s n true) S has_then in
-      let test = Are-add s T d (Has-push F U.rows _ has_split) in
-      let then = Are-add (arm s n true) S e has_then in
-      let otherwise = Are-add (arm s n false) X f has in
-      let then_last : suc (last X) ≡ size X = last_of (arm s n true) (size S) (size X) then in
-      let start : size S ≡ suc n = push-size U.rows _ in
-      grown s (size T) Y.rows _ (are-conditional F s p (size T) (last U) n (last X) (last Y) (size Y) (record {
-        within = push-within F Y.rows _ h;
-        test = test;
-        test_ends = last_of s (size T) n test;
-        split = at-push F U.rows _ has_split;
-        then = subst (λ m. AreExpression F (arm s n true) m (suc (last X))) start (subst (AreExpression F (arm s n true) (size S)) (sym then_last) then);
-        otherwise = subst (λ m. AreExpression F (arm s n false) m (size Y)) (sym then_last) otherwise;
-        otherwise_ends = last_of (arm s n false) (size X) (size Y) otherwise;
-        row = at-push F Y.rows _ h;
-      }))
-  Are-add s T (by_block {ss} {b} {p} t u) h =
-      let U = add s T ss in
-      let V = add s U b in
-      let after = Has-push F V.rows _ h in
-      let f = Are-add s U u after in
-      let ends = last_of s (size U) (size V) f in
-      grown s (size T) V.rows _
-      (are-block F s p (size T) (size U) (last V) (size V) (at V.rows (last V)).value (at-push F V.rows _ h) (push-within F V.rows _ h) ends
-      (ap (λ (r : Row). r.value) (sym (after.same (last V) (omega arith)))) (Are-add s T t (Has-add F b s U after)) f)
-  Are-add s T no_statements h = record {
-    low = omega arith;
-    rows = RowsAre-none F s (size T);
-    turned = λ i b c e. absurd (omega arith);
-    held = λ i b c e. absurd (omega arith);
-  }
-  Are-add s T (more_statements {x} {a} {ss} {p} t u) h =
-      let U = add s T a in
-      let V = add s T (binding x a p) in
-      let after = Has-add F ss s V h in
-      let e = Are-add s T t (Has-push F U.rows _ after) in
-      are-binding F s p (size T) (size (add s V ss)) (number_of U.names x) (last U) (size U) (at-push F U.rows _ after) (last_of s (size T) (size U) e) e
-      (subst (λ n. AreStatements F s n (size (add s V ss))) (push-size U.rows _) (Are-add s V u h))
-  Are-add s T no_params h = λ high. record { low = omega arith; rows = RowsAre-none F s (size T); param = λ i b c. absurd (omega arith) }
-  Are-add s T (more_params {x} {k} {ps} {p} t) h =
-      let U = add s T (param x k p) in
-      λ high. are-param F s p (size (add s U ps)) (number_of T.names x) (size T) k high (at-push F T.rows _ (Has-add F ps s U h))
-      (subst (λ n. AreParams F s n (size (add s U ps))) (push-size T.rows _) (Are-add s U t h high))
-  Are-add s T no_defs h = λ i b c. absurd (omega arith)
-  Are-add s T (more_defs {x} {k} {ps} {b} {ds} {p} t u v) h =
-      let D = add s T (define x ps k b p) in
-      let n = size T in
-      let w = in_top n in
-      let H = with_row T w p n Head in
-      let U = add w H ps in
-      let V = add w U b in
-      let has = Has-add F ds s D h in
-      let after = Has-push F V.rows _ has in
-      let own = are-define T.rows V.rows p (size U) (number_of V.names x) (last V) k (Has-add F ps w H (Has-add F b w U after)) has
-      (Are-add w H t (Has-add F b w U after) refl) (Are-add w U u after) refl in
-      let rest = Are-add s D v h in
-      λ i c d. elim (cases_lt i (size D)) [ inl f ↦ own i c f | inr f ↦ rest i f d ]
+  arguments-within : (t : Tree) (s : Stand) (p e i : ℕ) (T : Parts) → size T ≤ size (add_arguments s p e i T t)
+  arguments-within t s p e i T = (Has-arguments (add_arguments s p e i T t).rows t s p e i T (Has-itself (add_arguments s p e i T t).rows)).within
+
+  mutual
+    pub Are-add : {k : Sort} {t : Tree} (s : Stand) (T : Parts) → IsTree k t → Has F (add s T t).rows → Are k s (size T) (size (add s T t))
+    Are-add s T (by_literal {v} {p}) h = grown s (size T) T.rows _ (are-leaf F s p (size T) (Literal v) (at-push F T.rows _ h) refl refl (λ a q. q))
+    Are-add s T (by_name {x} {p}) h =
+        grown s (size T) T.rows _ (are-leaf F s p (size T) (Name (number_of T.names x)) (at-push F T.rows _ h) refl refl (λ a q. q))
+    Are-add s T (by_unary {o} {a} {p} t) h =
+        let U = add s T a in
+        let e = Are-add s T t (Has-push F U.rows _ h) in
+        grown s (size T) U.rows _
+        (are-unary F s p (size T) (last U) (size U) o (at-push F U.rows _ h) (push-within F U.rows _ h) (last_of s (size T) (size U) e) e)
+    Are-add s T (by_binary {o} {a} {b} {p} t u) h =
+        let U = add s T a in
+        let V = add s U b in
+        let after = Has-push F V.rows _ h in
+        let e = Are-add s T t (Has-add F b s U after) in
+        let f = Are-add s U u after in
+        grown s (size T) V.rows _
+        (are-binary F s p (size T) (size U) (last U) (last V) (size V) o (at-push F V.rows _ h) (push-within F V.rows _ h) (last_of s (size T) (size U) e)
+        (last_of s (size U) (size V) f) e f)
+    Are-add s T (by_conditional {t} {x} {y} {p} d e f) h =
+        let U = add s T t in
+        let n = size U in
+        let S = with_row U s p (size T) (Split (last U)) in
+        let X = add (arm s n true) S x in
+        let Y = add (arm s n false) X y in
+        let has = Has-push F Y.rows _ h in
+        let has_then = Has-add F y (arm s n false) X has in
+        let has_split = Has-add F x (arm s n true) S has_then in
+        let test = Are-add s T d (Has-push F U.rows _ has_split) in
+        let then = Are-add (arm s n true) S e has_then in
+        let otherwise = Are-add (arm s n false) X f has in
+        let then_last : suc (last X) ≡ size X = last_of (arm s n true) (size S) (size X) then in
+        let start : size S ≡ suc n = push-size U.rows _ in
+        grown s (size T) Y.rows _ (are-conditional F s p (size T) (last U) n (last X) (last Y) (size Y) (record {
+          within = push-within F Y.rows _ h;
+          test = test;
+          test_ends = last_of s (size T) n test;
+          split = at-push F U.rows _ has_split;
+          then = subst (λ m. AreExpression F (arm s n true) m (suc (last X))) start (subst (AreExpression F (arm s n true) (size S)) (sym then_last) then);
+          otherwise = subst (λ m. AreExpression F (arm s n false) m (size Y)) (sym then_last) otherwise;
+          otherwise_ends = last_of (arm s n false) (size X) (size Y) otherwise;
+          row = at-push F Y.rows _ h;
+        }))
+    Are-add s T (by_call {x} {a} {p} d) h =
+        let e = size T in
+        let E = entered s T x p in
+        let U = add_arguments s p e 0 E a in
+        let has = Has-push F U.rows _ h in
+        let own = Has-arguments F a s p e 0 E has in
+        let start = called-enter F s p e (size U) (count_of a) (number_of T.names x) (at-push F T.rows _ own) (at-push F U.rows _ h) (push-within F U.rows _ h) in
+        let all = Are-arguments s p e (size U) (count_of a) 0 E d has (omega arith) (omega arith)
+        (subst (Called F s p e (size U) (count_of a) 0) (sym (push-size T.rows _)) start) in
+        grown s e U.rows _ (are-call F s p e (size U) (count_of a) all)
+    Are-add s T no_arguments h = tt
+    Are-add s T (more_arguments d f) h = tt
+    Are-add s T (by_block {ss} {b} {p} t u) h =
+        let U = add s T ss in
+        let V = add s U b in
+        let after = Has-push F V.rows _ h in
+        let f = Are-add s U u after in
+        let ends = last_of s (size U) (size V) f in
+        grown s (size T) V.rows _
+        (are-block F s p (size T) (size U) (last V) (size V) (at V.rows (last V)).value (at-push F V.rows _ h) (push-within F V.rows _ h) ends
+        (ap (λ (r : Row). r.value) (sym (after.same (last V) (omega arith)))) (Are-add s T t (Has-add F b s U after)) f)
+    Are-add s T no_statements h = record {
+      low = omega arith;
+      rows = RowsAre-none F s (size T);
+      turned = λ i b c e. absurd (omega arith);
+      held = λ i b c e. absurd (omega arith);
+    }
+    Are-add s T (more_statements {x} {a} {ss} {p} t u) h =
+        let U = add s T a in
+        let V = add s T (binding x a p) in
+        let after = Has-add F ss s V h in
+        let e = Are-add s T t (Has-push F U.rows _ after) in
+        are-binding F s p (size T) (size (add s V ss)) (number_of U.names x) (last U) (size U) (at-push F U.rows _ after) (last_of s (size T) (size U) e) e
+        (subst (λ n. AreStatements F s n (size (add s V ss))) (push-size U.rows _) (Are-add s V u h))
+    Are-add s T no_params h = λ high. record { low = omega arith; rows = RowsAre-none F s (size T); param = λ i b c. absurd (omega arith) }
+    Are-add s T (more_params {x} {k} {ps} {p} t) h =
+        let U = add s T (param x k p) in
+        λ high. are-param F s p (size (add s U ps)) (number_of T.names x) (size T) k high (at-push F T.rows _ (Has-add F ps s U h))
+        (subst (λ n. AreParams F s n (size (add s U ps))) (push-size T.rows _) (Are-add s U t h high))
+    Are-add s T no_defs h = λ i b c. absurd (omega arith)
+    Are-add s T (more_defs {x} {k} {ps} {b} {ds} {p} t u v) h =
+        let D = add s T (define x ps k b p) in
+        let n = size T in
+        let w = in_top n in
+        let H = with_row T w p n Head in
+        let U = add w H ps in
+        let V = add w U b in
+        let has = Has-add F ds s D h in
+        let after = Has-push F V.rows _ has in
+        let own = are-define T.rows V.rows p (size U) (number_of V.names x) (last V) k (Has-add F ps w H (Has-add F b w U after)) has
+        (Are-add w H t (Has-add F b w U after) refl) (Are-add w U u after) (NoParams-expression F w U u after) refl in
+        let rest = Are-add s D v h in
+        λ i c d. elim (cases_lt i (size D)) [ inl f ↦ own i c f | inr f ↦ rest i f d ]
+
+    -- the rows of arguments come behind those of the arguments before them
+    Are-arguments : {t : Tree} (s : Stand) (p e n c i : ℕ) (T : Parts) → IsTree Arguments t → Has F (add_arguments s p e i T t).rows → i + count_of t ≡ c
+        → size (add_arguments s p e i T t) ≤ n → Called F s p e n c i (size T) → Called F s p e n c c (size (add_arguments s p e i T t))
+    Are-arguments s p e n c i T no_arguments h same within t = let z : i ≡ c = omega arith in subst (λ k. Called F s p e n c k (size T)) z t
+    Are-arguments s p e n c i T (more_arguments {a} {b} d f) h same within t =
+        let U = add s T a in
+        let A = argued s p e i U in
+        let has = Has-arguments F b s p e (suc i) A h in
+        let value = Are-add s T d (Has-push F U.rows _ has) in
+        let long = push-size U.rows (row_for U.rows s p e (Arg e i (last U))) in
+        let longer : size A ≤ size (add_arguments s p e (suc i) A b) = arguments-within b s p e (suc i) A in
+        let one = called-argument F s p e n c i (size T) (size U) (last U) t value (last_of s (size T) (size U) value) (at-push F U.rows _ has)
+        (omega arith) (omega arith) in
+        Are-arguments s p e n c (suc i) A f h (omega arith) within (subst (Called F s p e n c (suc i)) (sym long) one)
 
 -- an arm begins behind its split
 InArm-low : (s x n i : ℕ) (b : Bool) → s < x → InArm s x n b i → s < i
@@ -423,6 +468,35 @@ module _ (F : List Row) (n : ℕ) (h : Ends F n) where
       omega arith in
       elim (cases_lt e.then m) [ inl f ↦ in_one false (f, l) | inr f ↦ in_one true (low, f) ]
 
+  -- the parameters of a definition
+  params_at_def : (i g : ℕ) → IsDefOf F i g → AreParamsOf F g i
+  params_at_def i g d =
+      let first = (head_at i d.name g d.body d.result d.within d.node).1 in
+      subst (λ h. AreParamsOf F h i) first ((in_procedure i d.within (not_end is_def refl i (ap is_def d.node))).params (ap is_def d.node))
+
+  in_call : (i u : ℕ) (c : IsCallOf F i u) → IsEnterOf F u i × AreArgs F u i c.count
+  in_call i u c = belongs i (Call u c.count) c.within c.node (λ p. false≢true (sym (ap is_call p)))
+
+  arg_belongs : (i u k : ℕ) (a : IsArgOf F i u k) → IsArgIn F i u k a.value
+  arg_belongs i u k a = belongs i (Arg u k a.value) a.within a.node (λ p. false≢true (sym (ap is_arg p)))
+
+  call_once : (m k u : ℕ) → IsCallOf F m u → IsCallOf F k u → m ≡ k
+  call_once m k u d e = elim (cases_lt m k) [
+    | inl l ↦ absurd (later m k d e l)
+    | inr l ↦ elim (cases_lt k m) [ inl f ↦ absurd (later k m e d f) | inr f ↦ omega arith ]
+  ]
+    where
+      -- of two calls of one `Enter` none is behind the other
+      later : (m k : ℕ) (d : IsCallOf F m u) → IsCallOf F k u → m < k → ⊥
+      later m k d e l = (in_call k u e).1.alone m d.count (in_call m u d).0.before l d.node
+
+  arg_once : (m l u k : ℕ) → IsArgOf F m u k → IsArgOf F l u k → m ≡ l
+  arg_once m l u k a b =
+      let v = arg_belongs m u k a in
+      let w = arg_belongs l u k b in
+      let same = call_once w.row v.row u w.call v.call in
+      (in_call v.row u v.call).1.once m l k v.stands.after v.stands.before w.stands.after (omega (arith, w.stands.before, same)) a b
+
   IsTable-ends : IsTable F
   IsTable-ends = record {
     formed = Formed-ends;
@@ -443,6 +517,7 @@ module _ (F : List Row) (n : ℕ) (h : Ends F n) where
     operand_is = λ i a l e. (in_procedure i l (λ p. subst (λ m. HasOperand m a) p e)).fits.operand_is a e;
     head_place = λ i g d. (in_procedure i d.within (not_end is_def refl i (ap is_def d.node))).head_place d.name g d.body d.result d.node;
     head_is = λ i x g b k l e. head_at i x g b k l e;
+    params = λ i g d. params_at_def i g d;
     has_def = λ g l e. let s = in_procedure g l (not_end is_head refl g (ap is_head e)) in
         (s.def_of.0, subst (IsDefOf F s.def_of.0) (s.head_block e) s.def_of.1);
     def_of = λ i b. (def_here i b).def_of;
@@ -457,6 +532,12 @@ module _ (F : List Row) (n : ℕ) (h : Ends F n) where
     ];
     split_of = λ i u c. (branches i u c).0;
     arms = λ i u c. (branches i u c).1;
+    has_call = λ u x l e. belongs u (Enter x) l e (λ p. false≢true (sym (ap is_enter p)));
+    one_call = λ m k u d e. call_once m k u d e;
+    enter_of = λ i u c. (in_call i u c).0;
+    arg_of = λ i u k a. arg_belongs i u k a;
+    args_of = λ i u c. (in_call i u c).1;
+    one_arg = λ m l u k a b. arg_once m l u k a b;
     value_block = λ i b l e. (in_procedure i l (not_end is_block refl i (ap is_block e))).fits.value_block b e;
     value_self = by_row (λ i r. is_block r.node ≡ false → r.value ≡ i) (λ i s. s.fits.value_self) (λ _. ap (λ (r : Row). r.value) h.last);
     value_stands = λ i l e.

@@ -3,7 +3,9 @@ pub mod Names
 pub mod Rows
 pub mod Tables
 pub mod Regions
+pub mod Calls
 pub mod Trees
 pub mod Turns
+pub mod Uncalled
 -- For the proof of `table_of` alone.
 pub mod Making

@@ -2,10 +2,13 @@
 use Rattle.std.specs.Prelude.{◌≡◌, ℕ, List, [], ◌∷◌}
 use Rattle.std.specs.Borrow.{Bor}
 use Rattle.id_tree.specs.declared.tree.Stmt.{Stmt}
-use Rattle.id_tree.specs.Tree.{Tree, none, more, stmt_tree}
+use Rattle.id_tree.specs.declared.tree.Expr.{Expr}
+use Rattle.id_tree.specs.Tree.{Tree, none, more, stmt_tree, tree_of}
 use Rattle.id_parts.specs.declared.maker.Maker.{Maker}
 use Rattle.id_parts.specs.Names.{first_names}
-use Rattle.id_parts.specs.Rows.{Parts}
+use Rattle.id_parts.specs.declared.row.Stand.{Stand}
+use Rattle.id_parts.specs.declared.row.Node.TheVariants.{Arg}
+use Rattle.id_parts.specs.Rows.{Parts, add, last, with_row}
 
 -- the texts that the references point to
 abbrev pub texts : List (Bor (List ℕ)) → List (List ℕ)
@@ -20,6 +23,15 @@ parts m = record { rows = m.rows.items; names = texts m.numbers.keys }
 pub record IsStart (m : Maker) : Type 0 where
   pub rows : m.rows.items ≡ []
   pub names : texts m.numbers.keys ≡ first_names
+
+-- the trees of expressions, in order
+abbrev pub exprs_tree : List Expr → Tree
+exprs_tree [] = none
+exprs_tree (e ∷ es) = more (tree_of e) (exprs_tree es)
+
+-- the parts with the rows of the argument of the index i
+abbrev pub add_argument : Stand → ℕ → ℕ → ℕ → Parts → Tree → Parts
+add_argument s p e i T a = let U = add s T a in with_row U s p e (Arg e i (last U))
 
 -- the trees of statements, in order
 abbrev pub stmts_tree : List Stmt → Tree

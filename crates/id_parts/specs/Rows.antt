@@ -1,12 +1,12 @@
 -- The table of parts of a tree: one clause for each form (docs/GRAPH.md, "Parts").
-use Rattle.std.specs.Prelude.{ℕ, ◌-◌, Bool, List, [], ◌∷◌, ◌++◌, length, get_or, true, false}
+use Rattle.std.specs.Prelude.{ℕ, suc, ◌-◌, Bool, List, [], ◌∷◌, ◌++◌, length, get_or, true, false}
 use Rattle.id_parts.specs.declared.row.Region.{Region}
 use Rattle.id_parts.specs.declared.row.Stand.{Stand}
 use Rattle.id_parts.specs.declared.row.Row.{Row}
 use Rattle.id_parts.specs.declared.row.Node.{Node}
 use Rattle.id_parts.specs.declared.row.Node.TheVariants.{Head, Param, Literal, Name, Unary, Binary}
-use Rattle.id_parts.specs.declared.row.Node.TheVariants.{Split, If, Block, Binding, Def, Program}
-use Rattle.id_tree.specs.Tree.{Tree, literal, unary, binary, name, conditional, block, binding, param, define}
+use Rattle.id_parts.specs.declared.row.Node.TheVariants.{Split, If, Enter, Arg, Call, Block, Binding, Def, Program}
+use Rattle.id_tree.specs.Tree.{Tree, literal, unary, binary, name, conditional, call, block, binding, param, define}
 use Rattle.id_tree.specs.Tree.{none, more}
 use Rattle.id_parts.specs.Names.{number_of, with_name, first_names}
 
@@ -63,33 +63,51 @@ with_row T s p f n =
 abbrev pub naming : Parts → List ℕ → Parts
 naming T x = record { rows = T.rows; names = with_name T.names x }
 
--- the table with the rows of a tree, each behind those of its parts
-abbrev pub add : Stand → Parts → Tree → Parts
-add s T (literal v p) = with_row T s p (size T) (Literal v)
-add s T (unary o a p) = let U = add s T a in with_row U s p (size T) (Unary o (last U))
-add s T (binary o a b p) =
-    let U = add s T a in
-    let V = add s U b in
-    with_row V s p (size T) (Binary o (last U) (last V))
-add s T (name x p) = with_row (naming T x) s p (size T) (Name (number_of T.names x))
-add s T (conditional t x y p) =
-    let U = add s T t in
-    let n = size U in
-    let X = add (arm s n true) (with_row U s p (size T) (Split (last U))) x in
-    let Y = add (arm s n false) X y in
-    with_row Y s p (size T) (If n (last X) (last Y))
-add s T (block ss b p) = let V = add s (add s T ss) b in with_row V s p (size T) (Block (last V))
-add s T (binding x a p) =
-    let U = add s T a in
-    with_row (naming U x) s p (size T) (Binding (number_of U.names x) (last U))
-add s T (param x k p) = with_row (naming T x) s p (size T) (Param (number_of T.names x) k)
-add s T (define x ps k b p) =
-    let h = size T in
-    let H = with_row T (in_top h) p h Head in
-    let V = add (in_top h) (add (in_top h) H ps) b in
-    with_row (naming V x) (in_top h) p h (Def (number_of V.names x) h k (last V))
-add s T none = T
-add s T (more a b) = add s (add s T a) b
+-- how many trees are in the list
+abbrev pub count_of : Tree → ℕ
+count_of (more a b) = suc (count_of b)
+count_of t = 0
+
+abbrev mutual
+  -- the table with the rows of a tree, each behind those of its parts
+  pub add : Stand → Parts → Tree → Parts
+  add s T (literal v p) = with_row T s p (size T) (Literal v)
+  add s T (unary o a p) = let U = add s T a in with_row U s p (size T) (Unary o (last U))
+  add s T (binary o a b p) =
+      let U = add s T a in
+      let V = add s U b in
+      with_row V s p (size T) (Binary o (last U) (last V))
+  add s T (name x p) = with_row (naming T x) s p (size T) (Name (number_of T.names x))
+  add s T (conditional t x y p) =
+      let U = add s T t in
+      let n = size U in
+      let X = add (arm s n true) (with_row U s p (size T) (Split (last U))) x in
+      let Y = add (arm s n false) X y in
+      with_row Y s p (size T) (If n (last X) (last Y))
+  add s T (call x a p) =
+      let e = size T in
+      let U = add_arguments s p e 0 (with_row (naming T x) s p e (Enter (number_of T.names x))) a in
+      with_row U s p e (Call e (count_of a))
+  add s T (block ss b p) = let V = add s (add s T ss) b in with_row V s p (size T) (Block (last V))
+  add s T (binding x a p) =
+      let U = add s T a in
+      with_row (naming U x) s p (size T) (Binding (number_of U.names x) (last U))
+  add s T (param x k p) = with_row (naming T x) s p (size T) (Param (number_of T.names x) k)
+  add s T (define x ps k b p) =
+      let h = size T in
+      let H = with_row T (in_top h) p h Head in
+      let V = add (in_top h) (add (in_top h) H ps) b in
+      with_row (naming V x) (in_top h) p h (Def (number_of V.names x) h k (last V))
+  add s T none = T
+  add s T (more a b) = add s (add s T a) b
+
+  -- with those of the arguments of the call at this place whose `Enter` is at the row e, from that of index i on: each
+  -- argument is followed by its `Arg`
+  pub add_arguments : Stand → ℕ → ℕ → ℕ → Parts → Tree → Parts
+  add_arguments s p e i T (more a b) =
+      let U = add s T a in
+      add_arguments s p e (suc i) (with_row U s p e (Arg e i (last U))) b
+  add_arguments s p e i T t = T
 
 -- the table of a program's tree
 abbrev pub parts_of : Tree → Parts

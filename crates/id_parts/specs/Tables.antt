@@ -4,7 +4,7 @@ use Rattle.std.specs.Prelude.{Option, None, Some}
 use Rattle.id_parts.specs.declared.row.Row.{Row}
 use Rattle.id_parts.specs.declared.row.Node.{Node}
 use Rattle.id_parts.specs.declared.row.Node.TheVariants.{Head, Param, Literal, Name, Unary, Binary}
-use Rattle.id_parts.specs.declared.row.Node.TheVariants.{Split, If, Block, Binding, Def, Program}
+use Rattle.id_parts.specs.declared.row.Node.TheVariants.{Split, If, Enter, Arg, Call, Block, Binding, Def, Program}
 use Rattle.id_parts.specs.Rows.{at}
 
 -- the node names the row a as its part
@@ -13,15 +13,20 @@ HasPart (Unary o b) a = a ≡ b
 HasPart (Binary o b c) a = (a ≡ b) ⊎ (a ≡ c)
 HasPart (Split t) a = a ≡ t
 HasPart (If s x y) a = (a ≡ s) ⊎ ((a ≡ x) ⊎ (a ≡ y))
+HasPart (Arg e i v) a = (a ≡ e) ⊎ (a ≡ v)
+HasPart (Call e c) a = a ≡ e
 HasPart (Block b) a = a ≡ b
 HasPart (Binding x b) a = a ≡ b
 HasPart (Def x h k b) a = (a ≡ h) ⊎ (a ≡ b)
 HasPart _ a = ⊥
 
--- such a part that is an expression: any but the head of a definition and the split of a conditional
+-- such a part that is an expression: any but the head of a definition, the split of a conditional and the `Enter` of a
+-- call
 abbrev pub HasOperand : Node → ℕ → Type 0
 HasOperand (Def x h k b) a = a ≡ b
 HasOperand (If s x y) a = (a ≡ x) ⊎ (a ≡ y)
+HasOperand (Arg e i v) a = a ≡ v
+HasOperand (Call e c) a = ⊥
 HasOperand n a = HasPart n a
 
 -- such a part that stands where the node does: any but the arms of a conditional
@@ -46,6 +51,8 @@ pub record IsNested (R : List Row) : Type 0 where
 abbrev pub is_thing : Node → Bool
 is_thing Head = false
 is_thing (Split t) = false
+is_thing (Enter x) = false
+is_thing (Arg e i v) = false
 is_thing Program = false
 is_thing _ = true
 
@@ -57,6 +64,7 @@ pub record AreApart (R : List Row) : Type 0 where
 -- the number of the name that stands in a row of this node
 abbrev pub name_of : Node → Option ℕ
 name_of (Name x) = Some x
+name_of (Enter x) = Some x
 name_of (Param x k) = Some x
 name_of (Binding x a) = Some x
 name_of (Def x h k b) = Some x
@@ -73,6 +81,7 @@ is_expression (Name x) = true
 is_expression (Unary o a) = true
 is_expression (Binary o a b) = true
 is_expression (If s x y) = true
+is_expression (Call e c) = true
 is_expression (Block b) = true
 is_expression _ = false
 
@@ -102,6 +111,19 @@ is_split _ = false
 abbrev pub is_if : Node → Bool
 is_if (If s x y) = true
 is_if _ = false
+
+-- whether a call begins at a row of this node
+abbrev pub is_enter : Node → Bool
+is_enter (Enter x) = true
+is_enter _ = false
+
+abbrev pub is_arg : Node → Bool
+is_arg (Arg e i v) = true
+is_arg _ = false
+
+abbrev pub is_call : Node → Bool
+is_call (Call e c) = true
+is_call _ = false
 
 abbrev pub is_head : Node → Bool
 is_head Head = true

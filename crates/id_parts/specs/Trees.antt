@@ -4,12 +4,13 @@ use Rattle.id_value.specs.declared.Kind.{Kind}
 use Rattle.id_value.specs.declared.Constant.{Constant}
 use Rattle.id_value.specs.declared.UnaryOp.{UnaryOp}
 use Rattle.id_value.specs.declared.BinaryOp.{BinaryOp}
-use Rattle.id_tree.specs.Tree.{Tree, literal, unary, binary, name, conditional, block, binding, param, define}
+use Rattle.id_tree.specs.Tree.{Tree, literal, unary, binary, name, conditional, call, block, binding, param, define}
 use Rattle.id_tree.specs.Tree.{none, more}
 
 -- what a tree can be the tree of
 pub data Sort : Type 0 where
   Expression : Sort
+  Arguments : Sort
   Statements : Sort
   Params : Sort
   Defs : Sort
@@ -23,7 +24,10 @@ pub data IsTree : Sort → Tree → Type 0 where
   by_name : {x : List ℕ} {p : ℕ} → IsTree Expression (name x p)
   by_conditional : {t x y : Tree} {p : ℕ} → IsTree Expression t → IsTree Expression x → IsTree Expression y
       → IsTree Expression (conditional t x y p)
+  by_call : {x : List ℕ} {a : Tree} {p : ℕ} → IsTree Arguments a → IsTree Expression (call x a p)
   by_block : {ss b : Tree} {p : ℕ} → IsTree Statements ss → IsTree Expression b → IsTree Expression (block ss b p)
+  no_arguments : IsTree Arguments none
+  more_arguments : {a b : Tree} → IsTree Expression a → IsTree Arguments b → IsTree Arguments (more a b)
   no_statements : IsTree Statements none
   more_statements : {x : List ℕ} {a ss : Tree} {p : ℕ} → IsTree Expression a → IsTree Statements ss
       → IsTree Statements (more (binding x a p) ss)

@@ -5,10 +5,12 @@ use Rattle.id_list.specs.List.{Among}
 use Rattle.id_value.specs.declared.Kind.{Kind}
 use Rattle.id_parts.specs.declared.row.Region.{Region}
 use Rattle.id_parts.specs.declared.row.Row.{Row}
-use Rattle.id_parts.specs.declared.row.Node.TheVariants.{Head, Unary, Binary, Split, If, Block, Binding, Def, Program}
+use Rattle.id_parts.specs.declared.row.Node.TheVariants.{Head, Unary, Binary, Split, If, Enter, Arg, Call, Block, Binding}
+use Rattle.id_parts.specs.declared.row.Node.TheVariants.{Def, Program}
 use Rattle.id_parts.specs.Rows.{arm_at, at, top}
 use Rattle.id_parts.specs.Tables.{HasOperand, HasNear, IsFormed, IsNested, around}
 use Rattle.id_parts.specs.Tables.{is_binding, is_block, is_expression, is_head, is_param, is_top}
+use Rattle.id_parts.specs.Calls.{AreArgs, IsArgIn, IsArgOf, IsCallOf, IsEnterOf}
 use Rattle.id_parts.specs.Regions.{AreArms, IsIfOf, IsSplitOf, StandsInArm, StandsInside, StandsWith}
 
 -- whether one of the rows before s is a block round the row i
@@ -29,6 +31,7 @@ pub data Turns (R : List Row) (n : ℕ) : ℕ → Type 0 where
   left : {a b : ℕ} {o : _} → (at R n).node ≡ Binary o a b → Turns R n a
   right : {a b : ℕ} {o : _} → (at R n).node ≡ Binary o a b → Turns R n b
   test : {s x y t : ℕ} → (at R n).node ≡ If s x y → (at R s).node ≡ Split t → Turns R n t
+  argument : {e c m k v : ℕ} → (at R n).node ≡ Call e c → m < length R → (at R m).node ≡ Arg e k v → Turns R n v
   body : {b : ℕ} → (at R n).node ≡ Block b → Turns R n b
   statement : {m x a : ℕ} → IsStatement R n m → (at R m).node ≡ Binding x a → Turns R n a
 
@@ -75,6 +78,13 @@ pub record IsDefOf (R : List Row) (n h : ℕ) : Type 0 where
   pub within : n < length R
   pub node : (at R n).node ≡ Def name h result body
 
+-- the parameters of the definition at the row n are the rows right behind its head h, as many as count
+pub record AreParamsOf (R : List Row) (h n : ℕ) : Type 0 where
+  pub count : ℕ
+  pub before : h + count < n
+  pub param : (i : ℕ) → h < i → i ≤ h + count → is_param (at R i).node ≡ true
+  pub rest : (i : ℕ) → h + count < i → i < n → is_param (at R i).node ≡ false
+
 -- a table of a program's tree
 pub record IsTable (R : List Row) : Type 0 where
   pub formed : IsFormed R
@@ -103,11 +113,21 @@ pub record IsTable (R : List Row) : Type 0 where
   -- a row that is not the last stands before the definition of its block, or is it
   pub def_of : (i : ℕ) → i + 1 < length R → (n : ℕ) × IsDefOf R n (at R i).block × (i ≤ n)
   pub one_def : (n m h : ℕ) → IsDefOf R n h → IsDefOf R m h → n ≡ m
+  -- its parameters stand right behind its head
+  pub params : (n h : ℕ) → IsDefOf R n h → AreParamsOf R h n
   -- each split has one conditional, which stands with it, behind the arms
   pub has_if : (s t : ℕ) → s < length R → (at R s).node ≡ Split t → (n : ℕ) × IsIfOf R n s
   pub one_if : (n m s : ℕ) → IsIfOf R n s → IsIfOf R m s → n ≡ m
   pub split_of : (n s : ℕ) → IsIfOf R n s → IsSplitOf R s n
   pub arms : (n s : ℕ) (c : IsIfOf R n s) → AreArms R s c.then c.otherwise n
+  -- each `Enter` has one call, which stands with it; each argument stands right behind its value between the two, and
+  -- each index below the call's count has exactly one
+  pub has_call : (e x : ℕ) → e < length R → (at R e).node ≡ Enter x → (n : ℕ) × IsCallOf R n e
+  pub one_call : (n m e : ℕ) → IsCallOf R n e → IsCallOf R m e → n ≡ m
+  pub enter_of : (n e : ℕ) → IsCallOf R n e → IsEnterOf R e n
+  pub arg_of : (m e k : ℕ) (a : IsArgOf R m e k) → IsArgIn R m e k a.value
+  pub args_of : (n e : ℕ) (c : IsCallOf R n e) → AreArgs R e n c.count
+  pub one_arg : (m l e k : ℕ) → IsArgOf R m e k → IsArgOf R l e k → m ≡ l
   -- a block's value is its body's, any other row's is itself; what gives a value is an expression that is no block,
   -- and stands where the row does
   pub value_block : (n b : ℕ) → n < length R → (at R n).node ≡ Block b → (at R n).value ≡ (at R b).value

@@ -1,11 +1,11 @@
 //! The maker of the table: one walk over the tree, in which a name gets its number where it first stands.
 
 ghost use Rattle.std.specs.Prelude.{ℕ, ◌≡◌, ◌+◌, ◌++◌, ◌∷◌, [], length, map, IfOk, OnOk};
-ghost use Rattle.id_tree.specs.Tree.{unary, binary, name as name_tree, conditional, block, binding};
+ghost use Rattle.id_tree.specs.Tree.{unary, binary, name as name_tree, conditional, call, block, binding};
 ghost use Rattle.id_tree.specs.Tree.{tree_of, params_tree, def_tree, defs_tree, program_tree};
 ghost use Rattle.id_parts.specs.Names.{number_of, with_name};
-ghost use Rattle.id_parts.specs.Rows.{arm, in_top, value_of, with_row, add, parts_of, rows_of};
-ghost use Rattle.id_parts.specs.Making.{parts, texts, stmts_tree, IsStart};
+ghost use Rattle.id_parts.specs.Rows.{arm, in_top, value_of, with_row, add, add_arguments, parts_of, rows_of};
+ghost use Rattle.id_parts.specs.Making.{add_argument, parts, texts, exprs_tree, stmts_tree, IsStart};
 
 use crate::row::{Node, Region, Row, Stand, Table};
 use id_text::Identifier;
@@ -216,6 +216,7 @@ impl<'a> Maker<'a> {
                 otherwise,
                 place,
             } => self.add_conditional(stand, test, then, otherwise, *place),
+            Expr::Call { name, args, place } => self.add_call(stand, name, args, *place),
             Expr::Block {
                 statements,
                 body,
@@ -302,6 +303,73 @@ impl<'a> Maker<'a> {
                 otherwise,
             },
         )
+    }
+
+    #[cycle(add)]
+    fn add_call(
+        &mut self,
+        stand: Stand,
+        name: &'a Identifier,
+        args: &'a [Expr],
+        place: usize,
+    ) -> Result<usize, AllocError>
+        ensures added { OnOk result (parts self.new
+            ≡ add stand (parts self.old) (call name.now (exprs_tree args.now) place)) }
+        ensures number { IfOk result (λ i. i + 1 ≡ length self.new.rows.items) }
+    {
+        let enter = self.rows.len();
+        let name = self.number(name)?;
+        self.push(stand, place, enter, Node::Enter { name })?;
+        self.add_arguments(stand, place, enter, args)?;
+        let count = args.len();
+        self.push(stand, place, enter, Node::Call { enter, count })
+    }
+
+    /// Adds the rows of the arguments of the call at this place whose `Enter` is at this row.
+    #[cycle(add)]
+    fn add_arguments(
+        &mut self,
+        stand: Stand,
+        place: usize,
+        enter: usize,
+        args: &'a [Expr],
+    ) -> Result<(), AllocError>
+        ensures { OnOk result (parts self.new
+            ≡ add_arguments stand place enter 0 (parts self.old) (exprs_tree args.now)) }
+    {
+        let mut index = 0;
+        for argument in args {
+            self.add_argument(stand, place, enter, index, argument)?;
+            index += 1;
+        }
+        Ok(())
+    }
+
+    /// Adds the rows of the argument of this index.
+    #[cycle(add)]
+    fn add_argument(
+        &mut self,
+        stand: Stand,
+        place: usize,
+        enter: usize,
+        index: usize,
+        argument: &'a Expr,
+    ) -> Result<(), AllocError>
+        ensures { OnOk result (parts self.new
+            ≡ add_argument stand place enter index (parts self.old) (tree_of argument.now)) }
+    {
+        let value = self.add_expr(stand, argument)?;
+        self.push(
+            stand,
+            place,
+            enter,
+            Node::Arg {
+                enter,
+                index,
+                value,
+            },
+        )?;
+        Ok(())
     }
 
     #[cycle(add)]

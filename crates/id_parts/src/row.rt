@@ -70,6 +70,22 @@ pub enum Node {
         then: usize,
         otherwise: usize,
     },
+    /// The beginning of a call, at its place: the context that it makes for the procedure of this name.
+    Enter {
+        name: usize,
+    },
+    /// What an argument sends to the parameter of its index, from 0, at the call's place, right behind the argument:
+    /// the row of the call's `Enter`, and what gives the value.
+    Arg {
+        enter: usize,
+        index: usize,
+        value: usize,
+    },
+    /// A call behind its arguments: the row of its `Enter`, and how many arguments it has.
+    Call {
+        enter: usize,
+        count: usize,
+    },
     /// Statements in whatever order, and the body that gives the value.
     Block {
         body: usize,

@@ -4,7 +4,7 @@ use Rattle.id_text.specs.declared.token.Token.{Token}
 use Rattle.id_text.specs.declared.token.TokenKind.{TokenKind}
 use Rattle.id_value.specs.declared.Kind.{Kind}
 use Rattle.id_tree.specs.Tree as tree
-use Rattle.id_tree.specs.Tree.{Tree, literal, unary, binary, conditional, block, binding, param, define, none, more}
+use Rattle.id_tree.specs.Tree.{Tree, literal, unary, binary, conditional, call, block, binding, param, define, none, more}
 use Rattle.id_tree.specs.Grammar.{Phrase, Rest, done, word, name, of_kind, part, with_statement, block_of, Opens, definition, no_parameters, first_parameter, last_parameter, next_parameter, by_conditional, denied, negated, number, by_true, by_false, parens, by_name, by_block, by_binding, by_body, Derives, opened, unconditional, single, grouped, plain, Follows, ended, taken, named, kinded, given, Program, empty, single_def}
 use Rattle.id_tree.specs.Distinct.{HasPlace, Apart, Distinct}
 use Rattle.id_tree.proofs.FinishLemmas.{Laid}
@@ -16,6 +16,7 @@ Spans low (unary o a p) high = (low ≤ p) × Spans (p + 1) a high
 Spans low (binary o a b p) high = Spans low a p × Spans (p + 1) b high
 Spans low (tree.name x p) high = (low ≤ p) × (p < high)
 Spans low (conditional t x y p) high = (low ≤ p) × ((mid : ℕ) × (next : ℕ) × Spans (p + 1) t mid × Spans mid x next × Spans next y high)
+Spans low (call x a p) high = (low ≤ p) × Spans (p + 1) a high
 Spans low (block a b p) high = (low ≤ p) × ((mid : ℕ) × Spans (p + 1) a mid × Spans mid b high)
 Spans low (binding x a p) high = (low ≤ p) × Spans (p + 1) a high
 Spans low (param x k p) high = (low ≤ p) × (p < high)
@@ -31,6 +32,7 @@ Spans-order (binary o a b p) low high q = omega (arith, Spans-order a low p q.0,
 Spans-order (tree.name x p) low high q = omega (arith, q.0, q.1)
 Spans-order (conditional t x y p) low high (u, (mid, next, v, w, z)) =
     omega (arith, u, Spans-order t (p + 1) mid v, Spans-order x mid next w, Spans-order y next high z)
+Spans-order (call x a p) low high q = omega (arith, q.0, Spans-order a (p + 1) high q.1)
 Spans-order (block a b p) low high (u, (mid, v, w)) = omega (arith, u, Spans-order a (p + 1) mid v, Spans-order b mid high w)
 Spans-order (binding x a p) low high q = omega (arith, q.0, Spans-order a (p + 1) high q.1)
 Spans-order (param x k p) low high q = omega (arith, q.0, q.1)
@@ -46,6 +48,7 @@ Spans-wider (binary o a b p) low high below above u v q = (Spans-wider a low p b
 Spans-wider (tree.name x p) low high below above u v' q = (omega (arith, q.0), omega (arith, q.1))
 Spans-wider (conditional t x y p) low high below above u v (o, (mid, next, w, s, z)) =
     (omega (arith, o), (mid, next, w, s, Spans-wider y next high next above (omega arith) v z))
+Spans-wider (call x a p) low high below above u v q = (omega (arith, q.0), Spans-wider a (p + 1) high (p + 1) above (omega arith) v q.1)
 Spans-wider (block a b p) low high below above u v (o, (mid, s, t)) = (omega (arith, o), (mid, s, Spans-wider b mid high mid above (omega arith) v t))
 Spans-wider (binding x a p) low high below above u v q = (omega (arith, q.0), Spans-wider a (p + 1) high (p + 1) above (omega arith) v q.1)
 Spans-wider (param x k p) low high below above u v' q = (omega (arith, q.0), omega (arith, q.1))
@@ -70,6 +73,8 @@ Spans-place (conditional t x y p) low high q (o, (mid, next, u, v, w)) (inr (inr
     let r = Spans-place x mid next q v h in (omega (arith, o, r.0, Spans-order t (p + 1) mid u), omega (arith, r.1, Spans-order y next high w))
 Spans-place (conditional t x y p) low high q (o, (mid, next, u, v, w)) (inr (inr (inr h))) =
     let r = Spans-place y next high q w h in (omega (arith, o, r.0, Spans-order t (p + 1) mid u, Spans-order x mid next v), r.1)
+Spans-place (call x a p) low high q s (inl h) = (omega (arith, s.0, h), omega (arith, Spans-order a (p + 1) high s.1, h))
+Spans-place (call x a p) low high q s (inr h) = let r = Spans-place a (p + 1) high q s.1 h in (omega (arith, s.0, r.0), r.1)
 Spans-place (block a b p) low high q (o, (mid, s, t)) (inl h) = (omega (arith, o, h), omega (arith, Spans-order a (p + 1) mid s, Spans-order b mid high t, h))
 Spans-place (block a b p) low high q (o, (mid, s, t)) (inr (inl h)) = let r = Spans-place a (p + 1) mid q s h in (omega (arith, o, r.0), omega (arith, r.1, Spans-order b mid high t))
 Spans-place (block a b p) low high q (o, (mid, s, t)) (inr (inr h)) = let r = Spans-place b mid high q t h in (omega (arith, o, r.0, Spans-order a (p + 1) mid s), r.1)
@@ -110,6 +115,7 @@ Distinct-spans (conditional t x y p) low high (o, (mid, next, u, v, w)) = (
   Distinct-spans x mid next v,
   Distinct-spans y next high w,
 )
+Distinct-spans (call x a p) low high s = (λ h. omega (arith, (Spans-place a (p + 1) high p s.1 h).0), Distinct-spans a (p + 1) high s.1)
 Distinct-spans (block a b p) low high (o, (mid, s, t)) = (
   λ h. omega (arith, (Spans-place a (p + 1) mid p s h).0),
   λ h. omega (arith, (Spans-place b mid high p t h).0, Spans-order a (p + 1) mid s),

@@ -5,6 +5,7 @@ mod SoundLemmas
 mod FinishLemmas
 mod RefusedLemmas
 mod DistinctLemmas
+mod UncalledLemmas
 pub mod StartsLemmas
 mod ReaderLemmas
 mod BlockLemmas

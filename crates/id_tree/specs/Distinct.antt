@@ -1,6 +1,6 @@
 -- Places of things: no two things of a tree have one (docs/LANGUAGE.md, "Place").
 use Rattle.std.specs.Prelude.{◌≡◌, ◌⊎◌, ℕ}
-use Rattle.id_tree.specs.Tree.{Tree, literal, unary, binary, name, conditional, block, binding, param, define, none, more}
+use Rattle.id_tree.specs.Tree.{Tree, literal, unary, binary, name, conditional, call, block, binding, param, define, none, more}
 
 -- a thing of the tree has this place
 abbrev pub HasPlace : Tree → ℕ → Type 0
@@ -9,6 +9,7 @@ HasPlace (unary o a p) q = (p ≡ q) ⊎ HasPlace a q
 HasPlace (binary o a b p) q = (p ≡ q) ⊎ (HasPlace a q ⊎ HasPlace b q)
 HasPlace (name x p) q = p ≡ q
 HasPlace (conditional t x y p) q = (p ≡ q) ⊎ (HasPlace t q ⊎ (HasPlace x q ⊎ HasPlace y q))
+HasPlace (call x a p) q = (p ≡ q) ⊎ HasPlace a q
 HasPlace (block a b p) q = (p ≡ q) ⊎ (HasPlace a q ⊎ HasPlace b q)
 HasPlace (binding x a p) q = (p ≡ q) ⊎ HasPlace a q
 HasPlace (param x k p) q = p ≡ q
@@ -29,6 +30,7 @@ Distinct (name x p) = Unit {0}
 Distinct (conditional t x y p) =
     (¬ HasPlace t p) × (¬ HasPlace x p) × (¬ HasPlace y p) × Apart t x × Apart t y × Apart x y
     × Distinct t × Distinct x × Distinct y
+Distinct (call x a p) = (¬ HasPlace a p) × Distinct a
 Distinct (block a b p) = (¬ HasPlace a p) × (¬ HasPlace b p) × Apart a b × Distinct a × Distinct b
 Distinct (binding x a p) = (¬ HasPlace a p) × Distinct a
 Distinct (param x k p) = Unit {0}

@@ -4,20 +4,22 @@ use Rattle.id_value.specs.declared.Kind.{Kind}
 use Rattle.id_value.specs.declared.Constant.{Constant}
 use Rattle.id_value.specs.declared.UnaryOp.{UnaryOp}
 use Rattle.id_value.specs.declared.BinaryOp.{BinaryOp}
-use Rattle.id_tree.specs.declared.tree.Expr.{Expr, Literal, Unary', Binary', Name, If', Block', Row_of-Stmt, end_of-Stmt, more_of-Stmt}
+use Rattle.id_tree.specs.declared.tree.Expr.{Expr, Literal, Unary', Binary', Name, If', Call', Block'}
+use Rattle.id_tree.specs.declared.tree.Expr.{Row_of-Expr, end_of-Expr, more_of-Expr, Row_of-Stmt, end_of-Stmt, more_of-Stmt}
 use Rattle.id_tree.specs.declared.tree.Stmt.{Stmt, Binding}
 use Rattle.id_tree.specs.declared.tree.Param.{Param}
 use Rattle.id_tree.specs.declared.tree.Def.{Def}
 use Rattle.id_tree.specs.declared.tree.Program.{Program}
 
--- An expression, a statement, a parameter, a definition with its parameters and its body, or a list of trees. The last
--- number of a thing is its place.
+-- An expression, a statement, a parameter, a definition with its parameters and its body, or a list of trees; a call has
+-- the list of its arguments. The last number of a thing is its place.
 pub data Tree : Type 0 where
   literal : Constant → ℕ → Tree
   unary : UnaryOp → Tree → ℕ → Tree
   binary : BinaryOp → Tree → Tree → ℕ → Tree
   name : List ℕ → ℕ → Tree
   conditional : Tree → Tree → Tree → ℕ → Tree
+  call : List ℕ → Tree → ℕ → Tree
   block : Tree → Tree → ℕ → Tree
   binding : List ℕ → Tree → ℕ → Tree
   param : List ℕ → Kind → ℕ → Tree
@@ -33,7 +35,13 @@ abbrev mutual
   tree_of (Binary' op p left q right place) = binary op (tree_of left) (tree_of right) place
   tree_of (Name x place) = name x place
   tree_of (If' p test q then r otherwise place) = conditional (tree_of test) (tree_of then) (tree_of otherwise) place
+  tree_of (Call' x n args place) = call x (args_tree args) place
   tree_of (Block' n statements p body place) = block (row_tree statements) (tree_of body) place
+
+  -- the trees of the arguments, in order
+  pub args_tree : {n : _} → Row_of-Expr n → Tree
+  args_tree end_of-Expr = none
+  args_tree (more_of-Expr e rest) = more (tree_of e) (args_tree rest)
 
   -- the statement's tree
   pub stmt_tree : Stmt → Tree

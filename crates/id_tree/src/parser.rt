@@ -9,6 +9,7 @@ ghost use Rattle.id_tree.specs.Tree.{Tree, tree_of, stmt_tree, params_tree, def_
 ghost use Rattle.id_tree.specs.declared.tree.Param.{Param};
 ghost use Rattle.id_tree.specs.Accepted.{Accepts, RefusedBy, IsMemory};
 ghost use Rattle.id_tree.specs.Distinct.{Distinct};
+ghost use Rattle.id_tree.specs.Uncalled.{Uncalled};
 ghost use Rattle.id_tree.specs.Starts.{PlacesAreStarts};
 ghost use Rattle.id_tree.specs.Grammar.{
   Definition,
@@ -77,6 +78,8 @@ pub fn parse(alloc: Global, tokens: &[Token]) -> Result<Program, TreeError>
     ensures only { (e : Tree) → Accepts tokens.now e →
         MatchResult result (λ p. program_tree p ≡ e) IsMemory }
     ensures distinct { IfOk result (λ p. Distinct (program_tree p)) }
+    // The grammar has no calls yet.
+    ensures uncalled { IfOk result (λ p. Uncalled (program_tree p)) }
     ensures within { IfOk result (λ p. PlacesAreStarts tokens.now (program_tree p)) }
 
     ensures refused { IfErr result (RefusedBy tokens.now) }

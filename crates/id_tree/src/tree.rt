@@ -41,6 +41,12 @@ pub enum Expr {
         otherwise: Box<Expr>,
         place: usize,
     },
+    /// The name of a procedure, with the arguments in order, at the name.
+    Call {
+        name: Identifier,
+        args: Vec<Expr>,
+        place: usize,
+    },
     /// Statements in whatever order, and the body that gives the value, at the brace.
     Block {
         statements: Vec<Stmt>,

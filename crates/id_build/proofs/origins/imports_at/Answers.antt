@@ -1,12 +1,8 @@
 -- The list that stands at the row.
-use Rattle.std.proofs.Common.{◌∙◌, ◌<◌, ◌≤◌, ◌≡◌, [], List, ℕ, ap, sym, subst, arith, length, get_or}
+use Rattle.std.proofs.Common.{◌∙◌, ◌<◌, ◌≤◌, [], List, ℕ, ap, sym, subst, arith, length, get_or}
 use Rattle.std.proofs.lemmas.List.{get_or_default}
-use Rattle.std.proofs.Math.ListN.{get_or-eq_default}
-use Rattle.id_check.specs.declared.checked.Checked.{Checked}
-use Rattle.id_check.specs.Programs.{rows}
-use Rattle.id_parts.specs.Rows.{no_row}
-use Rattle.id_desugar.specs.Regions.{handed, imports_of}
 use Rattle.id_desugar.proofs.FilledLemmas.{all_imports-at, length-all_imports}
+use Rattle.id_build.proofs.SlotsLemmas.{past}
 use Rattle.id_build.proofs.origins.imports_at.Goals as goal
 
 pub returns-then-row-imports : goal.returns-then-row-imports
@@ -18,10 +14,6 @@ returns-then-row-imports c =
     let within = subst (λ (l : List (List ℕ)). c.args.row < length l) c.requires low in
     c.as_slice.ensures ∙ c.index-imports-row.is ∙ get_or_default L c.args.row x [] low ∙ ap (λ (l : List (List ℕ)). get_or l c.args.row []) c.requires
     ∙ all_imports-at P c.args.row (omega (arith, within, length-all_imports P))
-
--- past the end nothing stands
-past : (P : Checked) (i : ℕ) → length (rows P) ≤ i → imports_of P i ≡ []
-past P i l = ap (λ r. handed P i r.node) (get_or-eq_default (rows P) no_row l)
 
 pub returns-else-row-imports : goal.returns-else-row-imports
 returns-else-row-imports c =

@@ -1,8 +1,22 @@
 -- Each row is there once, and has the next number.
-use Rattle.std.proofs.Common.{◌+◌, ℕ, ◌<◌, ap, arith, get_or, length}
-use Rattle.id_build.proofs.FillLemmas.{Among-get_or, first_in-next, pieces_in-next, pieces_in-take}
+use Rattle.std.proofs.Common.{◌+◌, ℕ, ◌<◌, ap, arith, get_or, length, take_all, ◌∙◌}
+use Rattle.std.proofs.lemmas.Grind.{common_steps}
+use Rattle.id_build.specs.Made.{first_in, pieces_in}
+use Rattle.id_build.proofs.FillLemmas.{Among-get_or, first_in-next, pieces_in-next, pieces_in-take, zeros}
 use Rattle.std.proofs.Math.ListN.{length-set}
 use Rattle.id_build.proofs.program.number.Goals as goal
+
+-- at first there are no instructions, and all numbers are 0
+pub loop-n-init : goal.loop-n-init
+loop-n-init c = record {
+  pieces = c.new-pieces.ensures.items;
+  many = omega (arith, c.in_ok-firsts.ensures.len, c.len.ensures);
+  firsts = λ m l. zeros 0 m c.in_ok-firsts.firsts.items (λ k. grind (arith, common_steps));
+  few = omega (arith, ap length c.new-pieces.ensures.items);
+}
+
+pub overflow_cast-len : goal.overflow_cast-len
+overflow_cast-len c = grind (arith, common_steps)
 
 pub index_mut-requires : goal.index_mut-requires
 index_mut-requires c =
@@ -35,3 +49,16 @@ loop-n-preserved c =
       firsts = first_in-next P order c.loop-n.firsts.items i c.len-in-loop-n.result c.requires.differ h (omega (arith, low, many)) (omega (arith, ap length c.loop-n.invariant.pieces, c.loop-n.pieces.ok.0)) c.loop-n.invariant.firsts;
       few = omega (arith, c.push_pieces.new.pieces.ok.0);
     }
+
+-- at last those of all rows
+pub returns-clause-pieces : goal.returns-clause-pieces
+returns-clause-pieces c = c.loop-n.invariant.pieces ∙ ap (pieces_in c.args.checked.now) (take_all c.loop-n.n-index c.args.order.now c.loop-n-test.false)
+
+pub returns-clause-firsts : goal.returns-clause-firsts
+returns-clause-firsts c = record {
+  many = c.loop-n.invariant.many;
+  at = λ n l. c.loop-n.invariant.firsts n l ∙ ap (λ o. first_in c.args.checked.now 0 o n) (take_all c.loop-n.n-index c.args.order.now c.loop-n-test.false);
+}
+
+pub returns-clause-small : goal.returns-clause-small
+returns-clause-small c = omega (arith, ap length (returns-clause-pieces c), c.loop-n.invariant.few)

@@ -2,8 +2,16 @@
 use Rattle.std.proofs.Common.{◌≡◌, ◌∙◌, ap, arith, length, ◌≤◌}
 use Rattle.id_check.specs.Programs.{rows}
 use Rattle.id_build.specs.Rows.{size, size_below}
-use Rattle.id_build.proofs.SizeLemmas.{size_below-within}
+use Rattle.id_build.proofs.SizeLemmas.{size_below-next, size_below-within}
 use Rattle.id_build.proofs.size.is_small.Goals as goal
+
+pub loop-n-preserved : goal.loop-n-preserved
+loop-n-preserved c =
+    let P = c.args.kernel.now.checked.now in
+    record {
+      is = omega (arith, c.loop-n.invariant.is, c.made_count-size.ensures.count, size_below-next P c.loop-n.n);
+      small = omega (arith, c.if-size-gt1000000.false);
+    }
 
 pub returns-then-size-gt1000000 : goal.returns-then-size-gt1000000
 returns-then-size-gt1000000 c =

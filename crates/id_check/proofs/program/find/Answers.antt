@@ -1,9 +1,11 @@
 use Rattle.std.proofs.Common.{◌≡◌, ℕ, Some, get_or, length, sym, subst}
 use Rattle.std.specs.Prelude.{None}
 use Rattle.id_parts.specs.declared.row.Node.{Node}
-use Rattle.id_parts.specs.declared.row.Node.TheVariants.{Param, Name, Binding, Def}
+use Rattle.id_parts.specs.declared.row.Node.TheVariants.{Param, Name, Enter, Binding, Def}
 use Rattle.id_parts.specs.Rows.{at}
 use Rattle.id_parts.specs.Tables.{name_of}
+use Rattle.id_check.specs.Causes.{causes}
+use Rattle.id_check.specs.Firsts.{IsFirstOf}
 use Rattle.id_check.specs.Kinds.{AreKinds}
 use Rattle.id_check.specs.Names.{AreNames}
 use Rattle.id_check.specs.Scopes.{bound_name, used_name}
@@ -17,6 +19,7 @@ bound_one _ x e = let d : None ≡ Some x = e in cc
 
 used_one : (n : Node) (x : ℕ) → used_name n ≡ Some x → name_of n ≡ Some x
 used_one (Name y) x e = e
+used_one (Enter y) x e = e
 used_one _ x e = let d : None ≡ Some x = e in cc
 
 pub find_columns-requires-clause-names : goal.find_columns-requires-clause-names
@@ -32,3 +35,8 @@ find_columns-requires-clause-names c =
 pub returns-clause-kinded : goal.returns-clause-kinded
 returns-clause-kinded c =
     subst (λ R. AreKinds R (λ i. get_or c.in_ok-columns.columns.binders.items i None) (λ i. get_or c.in_ok-columns.columns.kinds.items i None)) c.as_slice.ensures.value c.in_ok-columns.ensures.kinded
+
+pub returns-clause-first : goal.returns-clause-first
+returns-clause-first c =
+    let o = c.in_ok-columns.columns in
+    subst (λ R. IsFirstOf o.first (causes R (λ i. get_or o.binders.items i None) (λ i. get_or o.kinds.items i None))) c.as_slice.ensures.value c.in_ok-columns.ensures.first

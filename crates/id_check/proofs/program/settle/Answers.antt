@@ -1,6 +1,10 @@
-use Rattle.std.proofs.Common.{ℕ, get_or, subst, arith}
+use Rattle.std.proofs.Common.{ℕ, get_or, sym, subst, arith}
 use Rattle.std.proofs.lemmas.Grind.{common_steps}
 use Rattle.std.specs.Prelude.{None}
+use Rattle.id_tree.specs.Tree.{program_tree}
+use Rattle.id_parts.specs.Turns.{IsTable}
+use Rattle.id_parts.proofs.TableLemmas.{IsTable-rows_of}
+use Rattle.id_parts.proofs.TreeLemmas.{IsProgramTree-program_tree}
 use Rattle.id_check.specs.Causes.{IsRefusedFor, causes}
 use Rattle.id_check.specs.Firsts.{IsFirstOf}
 use Rattle.id_check.proofs.StandingLemmas.{IsRefusedFor-first}
@@ -12,7 +16,8 @@ returns-in-Some-clause-refused c =
     let β : ℕ → _ = λ i. get_or c.args.columns.binders.items i None in
     let κ : ℕ → _ = λ i. get_or c.args.columns.kinds.items i None in
     subst (λ r. IsRefusedFor r c.in-Some.cause) c.requires.tabled
-    (IsRefusedFor-first R c.in-Some.cause c.args.table.formed (record {
+    (IsRefusedFor-first R c.in-Some.cause
+    (subst IsTable (sym c.requires.tabled) (IsTable-rows_of (program_tree c.args.program) (IsProgramTree-program_tree c.args.program))) (record {
       binders = β;
       are_binders = c.requires.bound;
       kinds = κ;

@@ -1,9 +1,8 @@
-use Rattle.std.proofs.Common.{◌≡◌, ◌<◌, None, get_or, length, sym, ◌∙◌, ap, subst, arith}
+use Rattle.std.proofs.Common.{◌≡◌, ◌<◌, ℕ, Option, Some, None, refl, get_or, length, sym, ◌∙◌, ap, subst, arith}
 use Rattle.std.specs.Option.{option_or}
 use Rattle.id_check.specs.Firsts.{Notes}
 use Rattle.id_check.specs.Names.{in_scope}
-use Rattle.id_check.proofs.BindLemmas.{read_at, again-bound, newly-bound, again-free, newly-given, newly-free, bound_more}
-use Rattle.id_check.proofs.FirstsLemmas.{Notes-none}
+use Rattle.id_check.proofs.BindLemmas.{read_at, again-bound, newly-bound, newly-given, newly-free}
 use Rattle.id_check.proofs.scope.bind.Goals as goal
 use Rattle.id_check.proofs.scope.bind.Goals.{After-in_scope}
 
@@ -36,40 +35,20 @@ returns-in-Some-in_scope-clause-binders c = λ i less.
     newly-bound c.args.rows.now c.args.s c.args.b c.in-Some.name c.args.bound.now.items _ (sym c.bound_name.ensures ∙ c.in-Some.is) c.in-Some-in_scope.earlier (looked d ∙ c.in-Some-in_scope.is) i
     (get_or c.args.uses.now.binders.items i None)
 
-pub returns-then-looks-clause-bound : goal.returns-then-looks-clause-bound
-returns-then-looks-clause-bound c =
-    let d = (goal.at.returns-then-looks-clause-bound c).After-in_scope in
-    bound_more c.args.rows.now c.args.s c.args.b c.in-Some.name c.args.bound.now.items _ (sym c.bound_name.ensures ∙ c.in-Some.is) (looked d ∙ c.in_default-in_scope.is) (counted d)
-
-pub returns-then-looks-clause-first : goal.returns-then-looks-clause-first
-returns-then-looks-clause-first c =
-    let d = (goal.at.returns-then-looks-clause-first c).After-in_scope in
-    subst (λ cs. Notes c.args.first.now cs c.args.first.now)
-    (sym (again-free c.args.rows.now c.args.s c.args.b c.in-Some.name c.args.bound.now.items _ (sym c.bound_name.ensures ∙ c.in-Some.is) (looked d ∙ c.in_default-in_scope.is)))
-    (Notes-none c.args.first.now)
-
-pub returns-then-looks-clause-binders : goal.returns-then-looks-clause-binders
-returns-then-looks-clause-binders c = λ i less.
-    let d = (goal.at.returns-then-looks-clause-binders c).After-in_scope in
+pub returns-in-Some-sought-clause-binders : goal.returns-in-Some-sought-clause-binders
+returns-in-Some-sought-clause-binders c = λ i less.
+    let d = (goal.at.returns-in-Some-sought-clause-binders c).After-in_scope in
     c.resolve.ensures.binders i less
     ∙ ap (option_or (get_or c.args.uses.now.binders.items i None))
-    (sym (newly-given c.args.rows.now c.args.s c.args.b c.in-Some.name c.args.bound.now.items _ (sym c.bound_name.ensures ∙ c.in-Some.is) (looked d ∙ c.in_default-in_scope.is) i
-    (sym c.looks.ensures ∙ c.if-looks.true)))
+    (sym (newly-given c.args.rows.now c.args.s c.args.b c.in-Some.name c.args.bound.now.items _ (sym c.bound_name.ensures ∙ c.in-Some.is) (looked d ∙ c.in_default-in_scope.is)
+    c.in-Some-sought.key i (sym c.sought.ensures ∙ c.in-Some-sought.is)))
 
-pub returns-else-looks-clause-bound : goal.returns-else-looks-clause-bound
-returns-else-looks-clause-bound c =
-    let d = (goal.at.returns-else-looks-clause-bound c).After-in_scope in
-    bound_more c.args.rows.now c.args.s c.args.b c.in-Some.name c.args.bound.now.items _ (sym c.bound_name.ensures ∙ c.in-Some.is) (looked d ∙ c.in_default-in_scope.is) (counted d)
+none : (o : Option ℕ) → ((k : ℕ) → o ≡ Some k → ⊥) → o ≡ None
+none None h = refl
+none (Some k) h = absurd (h k refl)
 
-pub returns-else-looks-clause-first : goal.returns-else-looks-clause-first
-returns-else-looks-clause-first c =
-    let d = (goal.at.returns-else-looks-clause-first c).After-in_scope in
-    subst (λ cs. Notes c.args.first.now cs c.args.first.now)
-    (sym (again-free c.args.rows.now c.args.s c.args.b c.in-Some.name c.args.bound.now.items _ (sym c.bound_name.ensures ∙ c.in-Some.is) (looked d ∙ c.in_default-in_scope.is)))
-    (Notes-none c.args.first.now)
-
-pub returns-else-looks-clause-binders : goal.returns-else-looks-clause-binders
-returns-else-looks-clause-binders c = λ i less.
-    let d = (goal.at.returns-else-looks-clause-binders c).After-in_scope in
+pub returns-in_default-sought-clause-binders : goal.returns-in_default-sought-clause-binders
+returns-in_default-sought-clause-binders c = λ i less.
+    let d = (goal.at.returns-in_default-sought-clause-binders c).After-in_scope in
     newly-free c.args.rows.now c.args.s c.args.b c.in-Some.name c.args.bound.now.items _ (sym c.bound_name.ensures ∙ c.in-Some.is) (looked d ∙ c.in_default-in_scope.is) i
-    (get_or c.args.uses.now.binders.items i None) (sym c.looks.ensures ∙ c.if-looks.false)
+    (get_or c.args.uses.now.binders.items i None) (sym c.sought.ensures ∙ none c.sought.result c.in_default-sought.not-Some)

@@ -7,7 +7,7 @@ use Rattle.id_parts.specs.Rows.{at}
 use Rattle.id_check.specs.Scopes.{bound_name}
 use Rattle.id_check.specs.Causes.{second, seconds}
 use Rattle.id_check.specs.Firsts.{Notes}
-use Rattle.id_check.specs.Names.{AreWaiting, IsOpen, IsTaking}
+use Rattle.id_check.specs.Names.{AreWaiting, IsOpen, IsTaking, keys}
 use Rattle.id_check.proofs.FirstsLemmas.{Notes-append, Notes-none}
 use Rattle.id_check.proofs.ScopesLemmas.{keeps_below}
 use Rattle.id_check.proofs.TakingLemmas.{IsShut, seconds_gap, shut_between, shut_kept, taking_end, taking_gap, taking_start}
@@ -72,7 +72,7 @@ loop-k-preserved c =
     record {
       long = c.enter_row.ensures.long ∙ c.loop-k.invariant.long;
       taking = taking_gap R s (b + 1) (get_or ps (k + 1) s) c.enter_row.new.held.items c.enter_row.new.bound.items c.enter_row.new.uses.binders.items more shut c.enter_row.ensures.taking;
-      waiting = subst (λ n. AreWaiting R s n c.enter_row.new.uses.binders.items c.enter_row.new.uses.last.items c.enter_row.new.uses.earlier.items) c.loop-k.invariant.long c.enter_row.ensures.waiting;
+      waiting = subst (λ n. AreWaiting R s n c.enter_row.new.uses.binders.items c.enter_row.new.uses.last.items c.enter_row.new.uses.earlier.items) (ap keys c.loop-k.invariant.long) c.enter_row.ensures.waiting;
       first = subst (λ cs. Notes c.args.first.now cs c.enter_row.new.first) (sym (seconds_gap R s (b + 1) (get_or ps (k + 1) s) more shut ∙ ap (seconds R s) (add-one b)))
           (Notes-append c.args.first.now c.loop-k.first c.enter_row.new.first (seconds R s b) (second R s b (bound_name (at R b).node))
           (subst (λ n. Notes c.args.first.now (seconds R s n) c.loop-k.first) here c.loop-k.invariant.first) c.enter_row.ensures.first);

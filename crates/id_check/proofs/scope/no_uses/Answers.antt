@@ -1,4 +1,5 @@
 use Rattle.id_check.proofs.NoneLemmas.{bound_none, waiting_none}
+use Rattle.id_check.specs.Names.{keys}
 use Rattle.id_check.proofs.scope.no_uses.Goals as goal
 
 pub returns-clause-binders : goal.returns-clause-binders
@@ -6,5 +7,5 @@ returns-clause-binders c = bound_none c.args.rows.now c.in_ok-nothing.field-0.it
 
 pub returns-clause-waiting : goal.returns-clause-waiting
 returns-clause-waiting c =
-    waiting_none c.args.rows.now c.args.count c.in_ok-nothing.field-0.items c.in_ok-nothing-2.field-0.items c.in_ok-nothing-3.field-0.items
+    waiting_none c.args.rows.now (keys c.args.count) c.in_ok-nothing.field-0.items c.in_ok-nothing-2.field-0.items c.in_ok-nothing-3.field-0.items
     c.in_ok-nothing.ensures c.in_ok-nothing-2.ensures c.in_ok-nothing-3.ensures

@@ -2,7 +2,7 @@ use Rattle.std.proofs.Common.{◌≡◌, ◌+◌, length, ap, sym, ◌∙◌, su
 use Rattle.std.proofs.lemmas.Result.{IfOk-from_err}
 use Rattle.id_check.specs.Causes.{duplicates}
 use Rattle.id_check.specs.Firsts.{IsFirstOf}
-use Rattle.id_check.specs.Names.{AreBound, AreWaiting}
+use Rattle.id_check.specs.Names.{AreBound, AreWaiting, keys}
 use Rattle.id_check.proofs.scope.pass_rows.Goals as goal
 use Rattle.id_check.proofs.scope.pass_rows.Goals.{After-loop-s}
 
@@ -19,7 +19,7 @@ loop-s-preserved c =
       held = e.held;
       fresh = e.fresh;
       binders = e.binders;
-      waiting = subst (λ m. AreWaiting R (s + 1) m u.binders.items u.last.items u.earlier.items) h.long e.waiting;
+      waiting = subst (λ m. AreWaiting R (s + 1) m u.binders.items u.last.items u.earlier.items) (ap keys h.long) e.waiting;
       first = subst (IsFirstOf c.pass.new.first) (ap (duplicates R) (sym (add-one s))) (e.first (duplicates R s) h.first);
     }
 

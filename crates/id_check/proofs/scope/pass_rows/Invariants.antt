@@ -1,7 +1,7 @@
 use Rattle.std.proofs.Common.{◌≡◌, length}
 use Rattle.id_check.specs.Causes.{duplicates}
 use Rattle.id_check.specs.Firsts.{IsFirstOf}
-use Rattle.id_check.specs.Names.{AreBound, AreHeld, AreWaiting, IsFresh, IsOpen}
+use Rattle.id_check.specs.Names.{AreBound, AreHeld, AreWaiting, IsFresh, IsOpen, keys}
 use Rattle.id_check.proofs.scope.pass_rows.Given as goal
 
 abbrev pub invariant-loop-s : goal.invariant-loop-s
@@ -11,6 +11,6 @@ invariant-loop-s l = record {
   held : AreHeld l.rows l.s l.held.items;
   fresh : IsFresh l.s l.bound.items;
   binders : AreBound l.rows l.s l.uses.binders.items;
-  waiting : AreWaiting l.rows l.s (length l.fn.bound.items) l.uses.binders.items l.uses.last.items l.uses.earlier.items;
+  waiting : AreWaiting l.rows l.s (keys (length l.fn.bound.items)) l.uses.binders.items l.uses.last.items l.uses.earlier.items;
   first : IsFirstOf l.first (duplicates l.rows l.s);
 }

@@ -1,4 +1,4 @@
-use Rattle.std.proofs.Common.{List, ℕ, Option, get_or, refl, sym, inl, inr, subst}
+use Rattle.std.proofs.Common.{◌<◌, List, ℕ, Option, get_or, length, refl, ap, sym, ◌∙◌, inl, inr, subst}
 use Rattle.std.specs.Prelude.{None}
 use Rattle.id_value.specs.declared.Kind.{Kind}
 use Rattle.id_parts.specs.declared.row.Row.{Row}
@@ -6,10 +6,11 @@ use Rattle.id_parts.specs.declared.row.Node.{Node}
 use Rattle.id_parts.specs.Rows.{at}
 use Rattle.id_parts.specs.Turns.{params_at}
 use Rattle.id_check.specs.declared.cause.CheckCause.{CheckCause}
-use Rattle.id_check.specs.Causes.{causes_in, wrong, wrong_params}
+use Rattle.id_check.specs.Causes.{callee, causes_in, count_at, wrong, wrong_argument, wrong_count, wrong_params}
 use Rattle.id_check.specs.Firsts.{Notes}
+use Rattle.id_check.specs.Scopes.{user_of}
 use Rattle.id_check.proofs.FirstsLemmas.{Notes-append}
-use Rattle.id_check.proofs.LinksLemmas.{part_of}
+use Rattle.id_check.proofs.LinksLemmas.{head_below, part_of}
 use Rattle.id_check.proofs.wants.note_row.Goals as goal
 
 pub note_wrong-requires-clause-row : goal.note_wrong-requires-clause-row
@@ -38,7 +39,7 @@ note_params-requires-clause-head c = part_of c.in-Def.head c.requires.formed c.r
 
 -- the causes in a row of this node, by these columns, are noted beside those from before
 abbrev Noted : List Row → List (Option Kind) → List (Option ℕ) → ℕ → Option CheckCause → Option CheckCause → Node → Type 0
-Noted R ks os i f g n = Notes f (causes_in R (λ k. get_or ks k None) (get_or os i None) (at R i).place n) g
+Noted R ks os i f g n = Notes f (causes_in R (λ k. get_or ks k None) (get_or os (user_of i n) None) (at R i).place n) g
 
 pub returns-in-Name : goal.returns-in-Name
 returns-in-Name c =
@@ -73,3 +74,61 @@ returns-in-Def c =
     subst (Noted R c.args.kinds.now c.args.binders.now c.args.i c.args.first.now c.note_params.new.first) (sym c.in-Def.is)
     (Notes-append c.args.first.now c.note_wrong-in-Def.new.first c.note_params.new.first (wrong R κ c.in-Def.wanted c.in-Def.body)
     (wrong_params R c.in-Def.name (at R c.args.i).place (params_at R c.in-Def.head)) c.note_wrong-in-Def.ensures c.note_params.ensures)
+
+pub binder_at-requires : goal.binder_at-requires
+binder_at-requires c =
+    let e = c.in-Arg.enter in
+    subst (λ n. e < n) (sym c.requires.binders) (part_of e c.requires.formed c.requires.row c.in-Arg.is (inl refl))
+
+pub binder_at-requires-in-Call : goal.binder_at-requires-in-Call
+binder_at-requires-in-Call c =
+    let e = c.in-Call.enter in
+    subst (λ n. e < n) (sym c.requires.binders) (part_of e c.requires.formed c.requires.row c.in-Call.is refl)
+
+pub count_at-requires : goal.count_at-requires
+count_at-requires c =
+    let e = c.in-Arg.enter in
+    subst (λ n. e < n) (sym c.requires.counts.long) (part_of e c.requires.formed c.requires.row c.in-Arg.is (inl refl))
+
+pub note_argument-requires-clause-value : goal.note_argument-requires-clause-value
+note_argument-requires-clause-value c = part_of c.in-Arg.value c.requires.formed c.requires.row c.in-Arg.is (inr refl)
+
+pub note_argument-requires-clause-callee : goal.note_argument-requires-clause-callee
+note_argument-requires-clause-callee c = λ h q.
+    let e = c.in-Arg.enter in
+    let less = part_of e c.requires.formed c.requires.row c.in-Arg.is (inl refl) in
+    head_below c.args.rows.now c.requires.formed (get_or c.args.binders.now e None) (λ b w. c.requires.within e b less w) h
+    (ap (callee c.args.rows.now) (sym c.binder_at.ensures) ∙ sym c.callee-callee.ensures ∙ q)
+
+pub note_count_of-requires-clause-callee : goal.note_count_of-requires-clause-callee
+note_count_of-requires-clause-callee c = λ h q.
+    let e = c.in-Call.enter in
+    let less = part_of e c.requires.formed c.requires.row c.in-Call.is refl in
+    head_below c.args.rows.now c.requires.formed (get_or c.args.binders.now e None) (λ b w. c.requires.within e b less w) h
+    (ap (callee c.args.rows.now) (sym c.binder_at-in-Call.ensures) ∙ sym c.callee-callee-in-Call.ensures ∙ q)
+
+pub returns-in-Enter : goal.returns-in-Enter
+returns-in-Enter c =
+    subst (Noted c.args.rows.now c.args.kinds.now c.args.binders.now c.args.i c.args.first.now c.note_unknown-in-Enter.new.first) (sym c.in-Enter.is)
+    c.note_unknown-in-Enter.ensures
+
+pub returns-in-Arg : goal.returns-in-Arg
+returns-in-Arg c =
+    let R = c.args.rows.now in
+    let κ : ℕ → Option Kind = λ k. get_or c.args.kinds.now k None in
+    let e = c.in-Arg.enter in
+    let k = c.in-Arg.index in
+    let v = c.in-Arg.value in
+    let less = part_of e c.requires.formed c.requires.row c.in-Arg.is (inl refl) in
+    let head = c.callee-callee.ensures ∙ ap (callee R) c.binder_at.ensures in
+    let count = c.count_at.ensures ∙ c.requires.counts.each e less in
+    subst (Noted R c.args.kinds.now c.args.binders.now c.args.i c.args.first.now c.note_argument.new.first) (sym c.in-Arg.is)
+    (subst (λ o. Notes c.args.first.now (wrong_argument R κ o (count_at R (length R) e) k v) c.note_argument.new.first) head
+    (subst (λ n. Notes c.args.first.now (wrong_argument R κ c.callee-callee.result n k v) c.note_argument.new.first) count c.note_argument.ensures))
+
+pub returns-in-Call : goal.returns-in-Call
+returns-in-Call c =
+    let R = c.args.rows.now in
+    let head = c.callee-callee-in-Call.ensures ∙ ap (callee R) c.binder_at-in-Call.ensures in
+    subst (Noted R c.args.kinds.now c.args.binders.now c.args.i c.args.first.now c.note_count_of.new.first) (sym c.in-Call.is)
+    (subst (λ o. Notes c.args.first.now (wrong_count R o c.in-Call.count (at R c.args.i).place) c.note_count_of.new.first) head c.note_count_of.ensures)

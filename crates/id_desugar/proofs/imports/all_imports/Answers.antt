@@ -1,7 +1,15 @@
--- All lists are filled.
+-- At first no list is filled, and at last all are.
 use Rattle.std.proofs.Common.{arith}
-use Rattle.id_desugar.proofs.FilledLemmas.{filled_all}
+use Rattle.std.proofs.lemmas.Grind.{common_steps}
+use Rattle.id_desugar.proofs.FilledLemmas.{AreFilled-none, filled_all}
 use Rattle.id_desugar.proofs.imports.all_imports.Goals as goal
+
+pub loop-end-init : goal.loop-end-init
+loop-end-init c = (
+  AreFilled-none c.args.checked.now c.in_ok-lists.lists.items (omega (arith, c.in_ok-lists.ensures.0, c.len-count.ensures)) c.in_ok-lists.ensures.1,
+  omega (arith, c.in_ok-marks.ensures.len, c.len-count.ensures),
+  λ b. grind (arith, common_steps),
+)
 
 pub returns : goal.returns
 returns c = filled_all c.args.checked.now c.loop-end.end c.loop-end.lists.items (omega (arith, c.loop-end-test.false, c.loop-end.auto.end-end, c.len-count.ensures)) c.loop-end.invariant.0

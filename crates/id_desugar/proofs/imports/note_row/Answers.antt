@@ -9,12 +9,12 @@ use Rattle.id_parts.specs.Rows.{at}
 use Rattle.id_desugar.specs.Ends.{end_row}
 use Rattle.id_desugar.specs.Regions.{imports}
 use Rattle.id_desugar.specs.Gathering.{AreFilled, is_split}
-use Rattle.id_desugar.proofs.NotesLemmas.{binder_within, filled_at, imports_by-next, imports_by-over, imports_within}
+use Rattle.id_desugar.proofs.NotesLemmas.{used_within, filled_at, imports_by-next, imports_by-over, imports_within}
 use Rattle.id_desugar.proofs.imports.note_row.Goals as goal
 
 pub note_used-requires-clause-binder : goal.note_used-requires-clause-binder
 note_used-requires-clause-binder c =
-    binder_within c.args.checked.now c.args.row (length c.args.marks.now.items) c.binder_at.result (omega (arith, c.requires.row.1, c.requires.within)) c.binder_at.ensures c.requires.long
+    used_within c.args.checked.now c.args.row (length c.args.marks.now.items) c.used_at.result (omega (arith, c.requires.row.1, c.requires.within)) c.used_at.ensures c.requires.long
 
 inner : {A : Type 0} (n row : ℕ) → row < n → n ≡ 0 ⊎ A → A
 inner n row l (inl z) = absurd (omega arith)
@@ -47,7 +47,7 @@ returns-then-next-span-clause-list c =
     let s = c.args.row in
     let e = c.inner_end-next.result in
     let xs = c.index-lists-row.result in
-    let one = imports_by-next P lo hi s c.args.list.now.items c.note_used.new.list.items c.binder_at.result c.requires.row.0 c.requires.list c.binder_at.ensures c.in_ok-note_used.ensures.list in
+    let one = imports_by-next P lo hi s c.args.list.now.items c.note_used.new.list.items c.used_at.result c.requires.row.0 c.requires.list c.used_at.ensures c.in_ok-note_used.ensures.list in
     let list : c.as_slice.result.now ≡ imports P (s + 1) e =
     c.as_slice.ensures ∙ listed P hi s e c.args.lists.now xs c.requires.lists c.requires.within c.if-row-next.true c.if-next-span.true c.index-lists-row.is c.inner_end-next.ensures in
     imports_by-over P lo hi s e c.note_used.new.list.items c.as_slice.result.now c.note_all.new.list.items c.requires.row.0 c.if-row-next.true (omega (arith, c.if-next-span.true)) one list
@@ -55,5 +55,5 @@ returns-then-next-span-clause-list c =
 
 pub returns-clause-list : goal.returns-clause-list
 returns-clause-list c =
-    imports_by-next c.args.checked.now c.args.span.lo c.args.span.hi c.args.row c.args.list.now.items c.note_used.new.list.items c.binder_at.result c.requires.row.0 c.requires.list c.binder_at.ensures
+    imports_by-next c.args.checked.now c.args.span.lo c.args.span.hi c.args.row c.args.list.now.items c.note_used.new.list.items c.used_at.result c.requires.row.0 c.requires.list c.used_at.ensures
     c.in_ok-note_used.ensures.list

@@ -5,6 +5,6 @@ use Rattle.id_meaning.proofs.cells.learn_all.Given as goal
 
 abbrev pub invariant-loop-fact : goal.invariant-loop-fact
 invariant-loop-fact l = record {
-  cells : all_learnt l.cells.items (drop l.fact-index l.facts) ≡ all_learnt l.initial.cells.items l.facts;
-  news : l.news.items ++ all_news l.cells.items (drop l.fact-index l.facts) ≡ l.initial.news.items ++ all_news l.initial.cells.items l.facts;
+  cells : all_learnt l.cells (drop l.fact-index l.facts) ≡ all_learnt l.initial.cells l.facts;
+  news : l.news.items ++ all_news l.cells (drop l.fact-index l.facts) ≡ l.initial.news.items ++ all_news l.initial.cells l.facts;
 }

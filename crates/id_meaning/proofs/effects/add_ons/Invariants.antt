@@ -4,4 +4,4 @@ use Rattle.id_meaning.specs.Cells.{ons}
 use Rattle.id_meaning.proofs.effects.add_ons.Given as goal
 
 abbrev pub invariant-loop-row : goal.invariant-loop-row
-invariant-loop-row l = l.found.items ++ ons (drop l.row-index l.rows) ≡ l.initial.found.items ++ ons l.rows
+invariant-loop-row l = l.found.items ++ ons l.path (drop l.row-index l.rows) ≡ l.initial.found.items ++ ons l.path l.rows

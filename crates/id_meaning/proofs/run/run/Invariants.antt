@@ -4,4 +4,4 @@ use Rattle.id_meaning.proofs.RunLemmas.{State}
 use Rattle.id_meaning.proofs.run.run.Given as goal
 
 abbrev pub invariant-loop-round : goal.invariant-loop-round
-invariant-loop-round l = State (source l.checked l.inputs) l._round l.cells.items l.found.items
+invariant-loop-round l = State (source l.checked l.inputs) l._round l.cells l.found.items

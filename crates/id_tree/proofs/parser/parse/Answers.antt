@@ -4,6 +4,7 @@ use Rattle.std.proofs.lemmas.Result.{IfOk-weaker, IfErr-weaker, MatchResult-weak
 use Rattle.id_tree.specs.Tree.{program_tree}
 use Rattle.id_tree.specs.Accepted.{Accepts, RefusedBy}
 use Rattle.id_tree.specs.Distinct.{Distinct}
+use Rattle.id_tree.specs.Uncalled.{Uncalled}
 use Rattle.id_tree.specs.Starts.{PlacesAreStarts}
 use Rattle.id_tree.specs.Machine.{run, Begin, Accepted}
 use Rattle.id_tree.specs.Readers.{EndsBy}
@@ -11,6 +12,7 @@ use Rattle.id_tree.proofs.FinishLemmas.{Laid-rises}
 use Rattle.id_tree.proofs.RefusedLemmas.{Accepts-from_run, RefusedBy-from_run, Same-from_run, IsMemory-from_run}
 use Rattle.id_tree.proofs.DistinctLemmas.{Program-distinct}
 use Rattle.id_tree.proofs.StartsLemmas.{Program-starts}
+use Rattle.id_tree.proofs.UncalledLemmas.{Program-uncalled}
 use Rattle.id_tree.proofs.parser.parse.Goals as goal
 
 pub returns-clause-tree : goal.returns-clause-tree
@@ -32,6 +34,12 @@ returns-clause-distinct c =
     let l = Laid-rises ts c.requires.rises in
     IfOk-weaker c.parse_program.result (λ p. run 200 ts Begin ≡ Accepted (program_tree p)) (λ p. Distinct (program_tree p))
     (λ p q. Program-distinct (Accepts-from_run ts (program_tree p) q).derives 0 l.0 l.1) c.parse_program.ensures.ok
+
+pub returns-clause-uncalled : goal.returns-clause-uncalled
+returns-clause-uncalled c =
+    let ts = c.args.tokens.now in
+    IfOk-weaker c.parse_program.result (λ p. run 200 ts Begin ≡ Accepted (program_tree p)) (λ p. Uncalled (program_tree p))
+    (λ p q. Program-uncalled (Accepts-from_run ts (program_tree p) q).derives) c.parse_program.ensures.ok
 
 pub returns-clause-within : goal.returns-clause-within
 returns-clause-within c =

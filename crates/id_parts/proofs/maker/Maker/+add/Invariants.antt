@@ -1,7 +1,7 @@
 use Rattle.std.proofs.Common.{◌≡◌, ◌+◌, ◌*◌, drop, max}
 use Rattle.id_tree.proofs.tree.Expr.TheLaws.{the_size}
-use Rattle.id_parts.specs.Rows.{add}
-use Rattle.id_parts.specs.Making.{parts, stmts_tree}
+use Rattle.id_parts.specs.Rows.{add, add_arguments}
+use Rattle.id_parts.specs.Making.{exprs_tree, parts, stmts_tree}
 use Rattle.id_parts.proofs.maker.Maker.+add.Given as goal
 
 abbrev pub invariant-add_statements-loop-statement : goal.invariant-add_statements-loop-statement
@@ -9,22 +9,38 @@ invariant-add_statements-loop-statement l =
     add l.stand (parts l.self) (stmts_tree (drop l.statement-index l.statements)) ≡ add l.stand (parts l.initial.self) (stmts_tree l.statements)
 
 abbrev pub decreases-add_expr : goal.decreases-add_expr
-decreases-add_expr l = 2 * goal.size-add_expr l
+decreases-add_expr l = 4 * goal.size-add_expr l
 
 abbrev pub decreases-add_unary : goal.decreases-add_unary
-decreases-add_unary l = 2 * goal.size-add_unary l + 1
+decreases-add_unary l = 4 * goal.size-add_unary l + 1
 
 abbrev pub decreases-add_binary : goal.decreases-add_binary
-decreases-add_binary l = 2 * max (the_size l.left.now) (the_size l.right.now) + 1
+decreases-add_binary l = 4 * max (the_size l.left.now) (the_size l.right.now) + 1
 
 abbrev pub decreases-add_conditional : goal.decreases-add_conditional
-decreases-add_conditional l = 2 * max (the_size l.test.now) (max (the_size l.then.now) (the_size l.otherwise.now)) + 1
+decreases-add_conditional l = 4 * max (the_size l.test.now) (max (the_size l.then.now) (the_size l.otherwise.now)) + 1
+
+abbrev pub decreases-add_call : goal.decreases-add_call
+decreases-add_call l = 4 * goal.size-add_call l + 3
+
+abbrev pub decreases-add_arguments : goal.decreases-add_arguments
+decreases-add_arguments l = 4 * goal.size-add_arguments l + 2
+
+abbrev pub decreases-add_argument : goal.decreases-add_argument
+decreases-add_argument l = 4 * goal.size-add_argument l + 1
+
+abbrev pub invariant-add_arguments-loop-argument : goal.invariant-add_arguments-loop-argument
+invariant-add_arguments-loop-argument l = record {
+  counted : l.index ≡ l.argument-index;
+  rest : add_arguments l.stand l.place l.enter l.index (parts l.self) (exprs_tree (drop l.argument-index l.args))
+      ≡ add_arguments l.stand l.place l.enter 0 (parts l.initial.self) (exprs_tree l.args);
+}
 
 abbrev pub decreases-add_block : goal.decreases-add_block
-decreases-add_block l = 2 * max (goal.size-add_block l) (the_size l.body.now) + 1
+decreases-add_block l = 4 * max (goal.size-add_block l) (the_size l.body.now) + 1
 
 abbrev pub decreases-add_binding : goal.decreases-add_binding
-decreases-add_binding l = 2 * goal.size-add_binding l + 1
+decreases-add_binding l = 4 * goal.size-add_binding l + 1
 
 abbrev pub decreases-add_statements : goal.decreases-add_statements
-decreases-add_statements l = 2 * goal.size-add_statements l
+decreases-add_statements l = 4 * goal.size-add_statements l

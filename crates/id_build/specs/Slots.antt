@@ -1,0 +1,36 @@
+-- Where each import stands among those of its head, as the builder notes it.
+use Rattle.std.specs.Prelude.{◌≡◌, ℕ, suc, ◌==◌, ◌&&◌, Bool, if◌then◌else◌, List, [], ◌∷◌, length}
+use Rattle.std.specs.Prelude.{Option, None, Some, unwrap_or}
+use Rattle.std.specs.HashMap.{get}
+use Rattle.id_check.specs.declared.checked.Checked.{Checked}
+use Rattle.id_desugar.specs.Regions.{all_imports, imports_of}
+use Rattle.id_build.specs.declared.slots.Import.{Import}
+use Rattle.id_build.specs.declared.slots.Slots.{Slots}
+use Rattle.id_build.specs.Rows.{slot_of}
+
+-- whether two imports are one
+abbrev pub same_import : Import → Import → Bool
+same_import i j = (i.head == j.head) && (i.binder == j.binder)
+
+abbrev pub behind : Option ℕ → Option ℕ
+behind None = None
+behind (Some k) = Some (suc k)
+
+-- how many stand before the first that is b, if one is
+abbrev pub found : List ℕ → ℕ → Option ℕ
+found [] b = None
+found (x ∷ xs) b = if x == b then Some 0 else behind (found xs b)
+
+-- what is noted of i where this import stands there
+abbrev pub noted : Import → ℕ → Import → Option ℕ
+noted j k i = if same_import j i then Some k else None
+
+-- what is noted of i where the head has these imports
+abbrev pub noted_all : ℕ → List ℕ → Import → Option ℕ
+noted_all h bs i = if h == i.head then found bs i.binder else None
+
+-- the slots of all imports
+pub record AreSlots (P : Checked) (s : Slots) : Type 0 where
+  pub imports : s.imports.now ≡ all_imports P
+  pub numbers : (h b : ℕ) → let i : Import = record { head = h; binder = b } in
+      unwrap_or (get same_import s.numbers i) (length (imports_of P h)) ≡ slot_of (imports_of P h) b

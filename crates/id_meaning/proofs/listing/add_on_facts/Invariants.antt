@@ -1,7 +1,0 @@
--- The facts so far, and those of the rows that are left.
-use Rattle.std.proofs.Common.{◌≡◌, ◌++◌, drop}
-use Rattle.id_meaning.specs.Listed.{on_facts}
-use Rattle.id_meaning.proofs.listing.add_on_facts.Given as goal
-
-abbrev pub invariant-loop-x : goal.invariant-loop-x
-invariant-loop-x l = l.facts.items ++ on_facts l.cells (drop l.x-index l.order) ≡ l.initial.facts.items ++ on_facts l.cells l.order

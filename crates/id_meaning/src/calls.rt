@@ -1,0 +1,223 @@
+//! What follows by the rules of calls (docs/MEANING.md, "Rules").
+
+ghost use Rattle.std.specs.Prelude.{◌≡◌, ◌++◌, OnOk};
+ghost use Rattle.id_meaning.specs.Cells.{all_passed, call_at, callee_of, calls, entered, entered_by, exit_at, param_fact, param_row, passed_of, passes_of, returns};
+
+use crate::SourceValue;
+use crate::cells::{Cells, RowFact};
+use crate::effects::add_value;
+use crate::links::{Links, binder_of};
+use crate::params::node_of;
+use id_check::Checked;
+use id_parts::Node;
+use std::alloc::AllocError;
+
+/// A call that is On.
+#[derive(Clone, Copy)]
+pub struct OnCall {
+    /// The row of its `Enter`.
+    pub enter: usize,
+    /// The number of the path on which its callee is.
+    pub path: usize,
+    /// The rows of the callee's head and body.
+    pub head: usize,
+    pub body: usize,
+}
+
+/// The call at the row at the path, if it is On.
+fn entered(checked: &Checked, cells: &Cells, path: usize, row: usize) -> Option<OnCall>
+    ensures { result ≡ entered checked.now cells.now path row }
+{
+    match node_of(checked, row) {
+        Node::Call { enter, .. } if cells.read(path, row).on => {
+            entered_by(enter, cells.begun(path, row), callee(checked, enter))
+        }
+        _ => None,
+    }
+}
+
+/// The call of this `Enter` with the path that it begins, where its procedure has this node.
+fn entered_by(enter: usize, path: Option<usize>, callee: Node) -> Option<OnCall>
+    ensures { result ≡ entered_by enter path callee }
+{
+    match (path, callee) {
+        (Some(path), Node::Def { head, body, .. }) => Some(OnCall {
+            enter,
+            path,
+            head,
+            body,
+        }),
+        _ => None,
+    }
+}
+
+/// What stands where the `Enter` at the row has its binder.
+fn callee(checked: &Checked, enter: usize) -> Node
+    ensures { result ≡ callee_of checked.now enter }
+{
+    match binder_of(checked, enter) {
+        Some(row) => node_of(checked, row),
+        None => Node::Head,
+    }
+}
+
+/// Adds the facts that come by the call at the row at the path.
+pub fn add_call(
+    found: &mut Vec<RowFact>,
+    checked: &Checked,
+    links: &Links,
+    cells: &Cells,
+    path: usize,
+    row: usize,
+) -> Result<(), AllocError>
+    ensures { OnOk result (found.new.items ≡ found.old.items ++ call_at checked.now links.now cells.now path row) }
+{
+    if let Some(call) = entered(checked, cells, path, row) {
+        found.push(RowFact::On {
+            path: call.path,
+            row: call.body,
+        })?;
+        add_value(found, path, row, cells.read(call.path, call.body).has)?;
+        add_all_passed(found, checked, cells, path, call, links.reads.of(call.enter))?;
+    }
+    Ok(())
+}
+
+/// Adds the facts that come by the arguments of the call at these rows.
+fn add_all_passed(
+    found: &mut Vec<RowFact>,
+    checked: &Checked,
+    cells: &Cells,
+    path: usize,
+    call: OnCall,
+    rows: &[usize],
+) -> Result<(), AllocError>
+    ensures { OnOk result
+        (found.new.items ≡ found.old.items ++ all_passed checked.now cells.now path call rows.now) }
+{
+    for row in rows {
+        add_passed(found, checked, cells, path, call, node_of(checked, *row))?;
+    }
+    Ok(())
+}
+
+/// Adds the facts that come by a row of this node, if it is an argument of the call.
+fn add_passed(
+    found: &mut Vec<RowFact>,
+    checked: &Checked,
+    cells: &Cells,
+    path: usize,
+    call: OnCall,
+    node: Node,
+) -> Result<(), AllocError>
+    ensures { OnOk result
+        (found.new.items ≡ found.old.items ++ passed_of checked.now cells.now path call node) }
+{
+    match node {
+        Node::Arg {
+            enter,
+            index,
+            value,
+        } if enter == call.enter => {
+            found.push(RowFact::On { path, row: value })?;
+            let param = param_row(checked.table.rows.len(), call.head, index);
+            add_param(found, call.path, param, cells.read(path, value).has)
+        }
+        _ => Ok(()),
+    }
+}
+
+/// The row of the parameter of this index, behind its head, if there are so many rows.
+fn param_row(count: usize, head: usize, index: usize) -> Option<usize>
+    ensures { result ≡ param_row count head index }
+{
+    if head < count && index < count - head - 1 {
+        Some(head + 1 + index)
+    } else {
+        None
+    }
+}
+
+/// Adds that the row has the value at the path, if there are both.
+fn add_param(
+    found: &mut Vec<RowFact>,
+    path: usize,
+    row: Option<usize>,
+    value: Option<SourceValue>,
+) -> Result<(), AllocError>
+    ensures { OnOk result (found.new.items ≡ found.old.items ++ param_fact path row value) }
+{
+    match row {
+        Some(row) => add_value(found, path, row, value),
+        None => Ok(()),
+    }
+}
+
+/// Adds the facts that come by the calls at these rows at the path.
+fn add_calls(
+    found: &mut Vec<RowFact>,
+    checked: &Checked,
+    links: &Links,
+    cells: &Cells,
+    path: usize,
+    rows: &[usize],
+) -> Result<(), AllocError>
+    ensures { OnOk result
+        (found.new.items ≡ found.old.items ++ calls checked.now links.now cells.now path rows.now) }
+{
+    for row in rows {
+        add_call(found, checked, links, cells, path, *row)?;
+    }
+    Ok(())
+}
+
+/// Adds the facts that come by the call of a row of this node, if it is an argument.
+pub fn add_passes(
+    found: &mut Vec<RowFact>,
+    checked: &Checked,
+    links: &Links,
+    cells: &Cells,
+    path: usize,
+    node: Node,
+) -> Result<(), AllocError>
+    ensures { OnOk result
+        (found.new.items ≡ found.old.items ++ passes_of checked.now links.now cells.now path node) }
+{
+    match node {
+        Node::Arg { enter, .. } => {
+            add_calls(found, checked, links, cells, path, links.reads.of(enter))
+        }
+        _ => Ok(()),
+    }
+}
+
+/// Adds the facts that come by the call that the path begins with, where the row is its callee's body.
+pub fn add_exit(
+    found: &mut Vec<RowFact>,
+    checked: &Checked,
+    links: &Links,
+    cells: &Cells,
+    path: usize,
+    row: usize,
+) -> Result<(), AllocError>
+    ensures { OnOk result
+        (found.new.items ≡ found.old.items ++ exit_at checked.now links.now cells.now path row) }
+{
+    if path > 0 {
+        let spot = cells.spot(path - 1);
+        if returns(entered(checked, cells, spot.path, spot.row), row) {
+            add_call(found, checked, links, cells, spot.path, spot.row)?;
+        }
+    }
+    Ok(())
+}
+
+/// Whether the row is the body of the call's procedure, if there is a call.
+fn returns(call: Option<OnCall>, row: usize) -> bool
+    ensures { result ≡ returns call row }
+{
+    match call {
+        Some(call) => call.body == row,
+        None => false,
+    }
+}

@@ -1,0 +1,74 @@
+-- Paths of tags (docs/MACHINE.md, "Paths of tags").
+use Rattle.std.specs.Prelude.{ℕ, zero, suc, ◌-◌, ◌==◌, Bool, false, List, [], ◌∷◌, ◌++◌, length, Option, Some, None, slice_get, option_map, if◌then◌else◌}
+use Rattle.std.specs.HashMap.{get}
+use Rattle.std.specs.Option.{option_map_or, option_or}
+use Rattle.id_graph.specs.declared.instr.Op.{Op}
+use Rattle.id_graph.specs.declared.instr.Op.TheVariants.{Enter}
+use Rattle.id_graph.specs.Graph.{Parts}
+use Rattle.id_valid.specs.Roles.{op_at}
+use Rattle.id_tag.specs.declared.Context.{Context}
+use Rattle.id_tag.specs.declared.Tag.{Tag}
+use Rattle.id_tag.specs.declared.Payload.{Payload}
+use Rattle.id_tag.specs.declared.Message.{Message}
+use Rattle.id_tag.specs.Tags.{same_context}
+use Rattle.id_record.specs.Events.{EventView, tag_of}
+use Rattle.id_observe.specs.declared.paths.Paths.{Paths}
+use Rattle.id_meaning.specs.declared.Path.{Path}
+use Rattle.id_meaning.specs.declared.PathStep.{PathStep}
+
+-- the place of the instruction of this number
+abbrev pub place_of : Parts → ℕ → ℕ
+place_of g n = option_map_or (λ i. i.place) (slice_get g.instrs n) 0
+
+-- the context that the last of these messages is for
+abbrev pub last_context : List Message → Option Context
+last_context ms = option_map (λ m. (tag_of m.payload).context) (slice_get ms (length ms - 1))
+
+-- the context that an instruction entered by sending these messages: an `enter` sends its last one into it
+abbrev pub entered_by : Option Op → List Message → Option Context
+entered_by (Some (Enter b r)) ms = last_context ms
+entered_by _ ms = None
+
+-- the context that was entered where an instruction took what came, and sent these messages
+abbrev pub entered : Parts → Payload → List Message → Option Context
+entered g x ms = entered_by (op_at g (tag_of x).instr) ms
+
+-- the tag, if the other context is this one
+abbrev pub if_same : Tag → Context → Option Context → Option Tag
+if_same t c None = None
+if_same t c (Some d) = if same_context d c then Some t else None
+
+-- the tag under which an event entered the context, if it did
+abbrev pub enter_of : Parts → EventView → Context → Option Tag
+enter_of g e c = if_same (tag_of e.message.payload) c (entered g e.message.payload e.outputs)
+
+-- the tag under which these events entered the context: by the last one that did
+unfoldable pub enter_in : Parts → List EventView → Context → Option Tag
+enter_in g [] c = None
+enter_in g (e ∷ es) c = option_or (enter_in g es c) (enter_of g e c)
+
+-- whether the operator is the `enter` of a loop, where the place is its own: its block's first instruction has that place too
+abbrev pub enters_loop : Parts → ℕ → Option Op → Bool
+enters_loop g p (Some (Enter b r)) = place_of g b == p
+enters_loop g p _ = false
+
+-- the step that an `enter` adds to the path of its tag, at iteration k of what it enters: a call counts none
+abbrev pub step_of : Parts → ℕ → ℕ → PathStep
+step_of g n k = record { place = place_of g n; number = if enters_loop g (place_of g n) (op_at g n) then k else 0 }
+
+-- the steps to a tag, at most n of them, where `enter` tells the tag under which each context was entered: those to that
+-- tag, and the step of its `enter`. A context that nothing entered is main's, which has none
+unfoldable pub steps_to : Parts → (Context → Option Tag) → ℕ → Tag → List PathStep
+steps_to g enter zero t = []
+steps_to g enter (suc n) t = option_map_or (λ u. steps_to g enter n u ++ step_of g u.instr t.iteration ∷ []) (enter t.context) []
+
+-- the path of a tag, by these events. In a run a context is entered by an event that comes after those that entered the
+-- contexts round it, so that a path has no more steps than there are events
+abbrev pub path_of : Parts → List EventView → Tag → Path
+path_of g es t = record { steps = steps_to g (enter_in g es) (length es) t }
+
+-- For use inside.
+
+-- the path of a tag, where these tables tell under which tag each context was entered, and how many steps it has at most
+abbrev pub path_by : Paths → Tag → Path
+path_by p t = record { steps = steps_to p.graph.now (get same_context p.enters) p.most t }

@@ -1,0 +1,94 @@
+-- No parameters stand in the rows of an expression.
+use Rattle.std.proofs.Common.{◌≡◌, inl, inr, ◌<◌, ◌≤◌, ℕ, suc, true, false, List, [], ◌∷◌, ◌++◌, length, refl, ap, ◌∙◌, arith}
+use Rattle.std.proofs.lemmas.Bool.{cases_lt}
+use Rattle.id_tree.specs.Tree.{Tree, binding}
+use Rattle.id_parts.specs.declared.row.Row.{Row}
+use Rattle.id_parts.specs.declared.row.Stand.{Stand}
+use Rattle.id_parts.specs.declared.row.Node.TheVariants.{Split}
+use Rattle.id_parts.specs.Rows.{Parts, add, add_arguments, arm, at, last, size, with_row}
+use Rattle.id_parts.specs.Tables.{is_param}
+use Rattle.id_parts.specs.Trees.{IsTree, Expression, Arguments, Statements, by_literal, by_unary, by_binary, by_name, by_conditional}
+use Rattle.id_parts.specs.Trees.{by_call, by_block, no_arguments, more_arguments, no_statements, more_statements}
+use Rattle.id_parts.proofs.HasLemmas.{Has, Has-add, Has-arguments, Has-push, argued, at-push, entered, push-size}
+
+module _ (F : List Row) where
+  -- none of the rows from lo up to hi is a parameter
+  abbrev pub NoParams : ℕ → ℕ → Type 0
+  NoParams lo hi = (i : ℕ) → lo ≤ i → i < hi → is_param (at F i).node ≡ false
+
+  free-none : (lo : ℕ) → NoParams lo lo
+  free-none lo i b c = absurd (omega arith)
+
+  free-both : (lo mid hi : ℕ) → NoParams lo mid → NoParams mid hi → NoParams lo hi
+  free-both lo mid hi f g i b c = elim (cases_lt i mid) [ inl l ↦ f i b l | inr l ↦ g i l c ]
+
+  free-push : (lo : ℕ) (R : List Row) (r : Row) → Has F (R ++ r ∷ []) → is_param r.node ≡ false → NoParams lo (length R) → NoParams lo (length (R ++ r ∷ []))
+  free-push lo R r h e f i b c = elim (cases_lt i (length R)) [
+    | inl l ↦ f i b l
+    | inr l ↦ let q = push-size R r in let z : i ≡ length R = omega arith in
+        ap (λ k. is_param (at F k).node) z ∙ ap (λ (x : Row). is_param x.node) (at-push F R r h) ∙ e
+  ]
+
+  mutual
+    pub NoParams-expression : {t : Tree} (s : Stand) (T : Parts) → IsTree Expression t → Has F (add s T t).rows → NoParams (size T) (size (add s T t))
+    NoParams-expression s T by_literal h = free-push (size T) T.rows _ h refl (free-none (size T))
+    NoParams-expression s T by_name h = free-push (size T) T.rows _ h refl (free-none (size T))
+    NoParams-expression s T (by_unary {a = a} d) h =
+        let U = add s T a in
+        free-push (size T) U.rows _ h refl (NoParams-expression s T d (Has-push F U.rows _ h))
+    NoParams-expression s T (by_binary {a = a} {b = b} d e) h =
+        let U = add s T a in
+        let V = add s U b in
+        let g = Has-push F V.rows _ h in
+        free-push (size T) V.rows _ h refl
+        (free-both (size T) (size U) (size V) (NoParams-expression s T d (Has-add F b s U g)) (NoParams-expression s U e g))
+    NoParams-expression s T (by_conditional {t} {x} {y} {p} d e f) h =
+        let U = add s T t in
+        let n = size U in
+        let S = with_row U s p (size T) (Split (last U)) in
+        let X = add (arm s n true) S x in
+        let Y = add (arm s n false) X y in
+        let g = Has-push F Y.rows _ h in
+        let j = Has-add F y (arm s n false) X g in
+        let k = Has-add F x (arm s n true) S j in
+        free-push (size T) Y.rows _ h refl
+        (free-both (size T) (size X) (size Y)
+        (free-both (size T) (size S) (size X)
+        (free-push (size T) U.rows _ k refl (NoParams-expression s T d (Has-push F U.rows _ k)))
+        (NoParams-expression (arm s n true) S e j))
+        (NoParams-expression (arm s n false) X f g))
+    NoParams-expression s T (by_call {x} {a} {p} d) h =
+        let E = entered s T x p in
+        let U = add_arguments s p (size T) 0 E a in
+        let g = Has-push F U.rows _ h in
+        free-push (size T) U.rows _ h refl
+        (free-both (size T) (size E) (size U)
+        (free-push (size T) T.rows _ (Has-arguments F a s p (size T) 0 E g) refl (free-none (size T)))
+        (NoParams-arguments s p (size T) 0 E d g))
+    NoParams-expression s T (by_block {ss} {b} d e) h =
+        let U = add s T ss in
+        let V = add s U b in
+        let g = Has-push F V.rows _ h in
+        free-push (size T) V.rows _ h refl
+        (free-both (size T) (size U) (size V) (NoParams-statements s T d (Has-add F b s U g)) (NoParams-expression s U e g))
+
+    NoParams-arguments : {t : Tree} (s : Stand) (p e i : ℕ) (T : Parts) → IsTree Arguments t → Has F (add_arguments s p e i T t).rows
+        → NoParams (size T) (size (add_arguments s p e i T t))
+    NoParams-arguments s p e i T no_arguments h = free-none (size T)
+    NoParams-arguments s p e i T (more_arguments {a} {b} d f) h =
+        let U = add s T a in
+        let A = argued s p e i U in
+        let g = Has-arguments F b s p e (suc i) A h in
+        free-both (size T) (size A) (size (add_arguments s p e (suc i) A b))
+        (free-push (size T) U.rows _ g refl (NoParams-expression s T d (Has-push F U.rows _ g)))
+        (NoParams-arguments s p e (suc i) A f h)
+
+    NoParams-statements : {t : Tree} (s : Stand) (T : Parts) → IsTree Statements t → Has F (add s T t).rows → NoParams (size T) (size (add s T t))
+    NoParams-statements s T no_statements h = free-none (size T)
+    NoParams-statements s T (more_statements {x} {a} {ss} {p} d e) h =
+        let U = add s T a in
+        let V = add s T (binding x a p) in
+        let g = Has-add F ss s V h in
+        free-both (size T) (size V) (size (add s V ss))
+        (free-push (size T) U.rows _ g refl (NoParams-expression s T d (Has-push F U.rows _ g)))
+        (NoParams-statements s V e h)
