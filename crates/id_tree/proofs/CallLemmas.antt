@@ -12,9 +12,9 @@ use Rattle.id_tree.specs.declared.tree.TreeError.{TreeError}
 use Rattle.id_tree.specs.declared.tree.TreeError.TheVariants.{Unexpected}
 use Rattle.id_tree.specs.Tree as tree
 use Rattle.id_tree.specs.Tree.{Tree, tree_of, call, none, more}
-use Rattle.id_tree.specs.Grammar.{Phrase, Expression, Unary, Arguments, MoreArguments, Rest, done, part, named_of, argument_of, arguments_of, Opens, no_arguments, last_argument, next_argument}
+use Rattle.id_tree.specs.Grammar.{Expression, Unary, Arguments, MoreArguments, Rest, done, part, named_of, argument_of, arguments_of, Opens, no_arguments, last_argument, next_argument}
 use Rattle.id_tree.specs.Machine.{opening, is_word, Frame, Inside, State, Move, Want, Have, Next, expresses, takes, Refused, run}
-use Rattle.id_tree.specs.Readers.{first_kind, first_start, IsRead, IsGathered, EndsBy, Leads, Fails, begins_expression, no_room_at, Applies, Misapplies, passed, Passes, Hands}
+use Rattle.id_tree.specs.Readers.{first_kind, first_start, IsRead, IsGathered, EndsBy, Leads, Fails, begins_expression, no_room_at, Applies, Misapplies, passed, Hands}
 use Rattle.id_tree.proofs.RowLemmas.{same-is_word}
 use Rattle.id_tree.proofs.RunLemmas.{First, Unopened, run-deep, run-none, run-done, run-part, run-inside, run-chosen, run-left_out, run-arguments}
 use Rattle.id_tree.proofs.ReaderLemmas.{EndsBy-at, At, At-opens, Leads-done, first_of, opens_name}
