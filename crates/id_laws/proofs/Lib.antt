@@ -1,6 +1,5 @@
 pub mod Arcs
 pub mod Assumed
-pub mod Uncalled
 pub mod MainAlone
 pub mod Calls
 pub mod Conditionals
