@@ -1,4 +1,4 @@
--- What the instruction of an expression has sent brings a value that the expression Has.
+-- What the instruction of an expression has sent under a tag brings a value that the expression Has at the tag's path.
 use Rattle.std.proofs.Common.{◌≡◌, inr, ℕ, Bool as Truth, true, false, List, refl, sym, ◌∙◌, ap, subst, inl}
 use Rattle.id_list.specs.List.{Among}
 use Rattle.id_list.proofs.AmongLemmas.{Among-map, Among-from_map}

@@ -10,9 +10,9 @@ ghost use Rattle.id_laws.specs.Laws.{Coherence, InputsFit, Kinded, Labels, Never
 ghost use Rattle.id_laws.specs.Laws.{Serials, Suited, Validity};
 
 /// *Sound*: what any run of a schemas' graph shows is of the source. The answer is the source's, each
-/// fault is one of the source, what a binder is shown to have it Has, and each value that the
-/// instruction of an expression sends is one that the expression Has (docs/MEANING.md, "Laws"). Takes no
-/// memory.
+/// fault is one of the source at its path, what a binder is shown to have at a path it Has there, and
+/// each value that the instruction of an expression sends under a tag is one that the expression Has at
+/// the tag's path (docs/MEANING.md, "Laws"). Takes no memory.
 pub fn sound()
     ensures { Soundness }
 {}
