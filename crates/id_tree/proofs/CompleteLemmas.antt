@@ -3,14 +3,16 @@ use Rattle.std.proofs.Common.{◌≡◌, ℕ, ◌+◌, ◌≤◌, max, true, fal
 use Rattle.std.proofs.Math.Dec.{leb-zero}
 use Rattle.id_text.specs.declared.token.Token.{Token}
 use Rattle.id_text.specs.declared.token.TokenKind.{TokenKind}
+use Rattle.id_text.specs.declared.token.TokenKind.TheVariants.{Sign}
+use Rattle.id_text.specs.declared.token.Symbol.TheVariants.{RightParen, Comma}
 use Rattle.id_tree.specs.declared.parser.Level.{Level}
 use Rattle.id_tree.specs.declared.parser.Level.TheVariants as level
 use Rattle.id_value.specs.declared.BinaryOp.{BinaryOp}
 use Rattle.id_tree.specs.Tree.{Tree, none, more}
-use Rattle.id_tree.specs.Grammar.{Phrase, Definition, Parameters, MoreParameters, Expression, Grouped, Negation, Unary, Tail, Rest, Opens, denied, negated, number, by_true, by_false, parens, by_name, by_block, operand, left_operand, operator_of, own_height, Derives, opened, unconditional, single, grouped, plain, Follows, ended, taken, named, kinded, given, Program, empty, single_def}
-use Rattle.id_tree.specs.Machine.{opening, room, Move, pick, ends, wants, Frame, Left, Right, Inside, again, State, Begin, Want, Have, Next, Accepted, Refused, run}
-use Rattle.id_tree.proofs.RowLemmas.{Quiet, Ends, Parts, valid, Quiet-operator, Follows-height}
-use Rattle.id_tree.proofs.RunLemmas.{First, Unopened, run-done, run-part, run-inside, run-right, run-level, run-left, run-unconditional, run-plain, run-word, run-name, run-kind, run-opens, run-operator}
+use Rattle.id_tree.specs.Grammar.{Phrase, Definition, Parameters, MoreParameters, Expression, Grouped, Negation, Unary, Arguments, MoreArguments, Tail, arguments_of, Rest, part, Opens, by_conditional, denied, negated, number, by_true, by_false, parens, by_name, by_block, last_argument, next_argument, operand, left_operand, operator_of, own_height, Derives, opened, unconditional, single, grouped, plain, some_arguments, Follows, ended, taken, chosen, left_out, named, kinded, given, Program, empty, defined}
+use Rattle.id_tree.specs.Machine.{opening, is_word, room, Move, pick, ahead, ends, wants, Frame, Left, Right, Inside, Outer, again, State, Begin, Want, Have, Next, Accepted, Refused, run}
+use Rattle.id_tree.proofs.RowLemmas.{Quiet, Ends, Parts, valid, Quiet-operator, Follows-height, arguments_parts}
+use Rattle.id_tree.proofs.RunLemmas.{First, Unopened, run-done, run-part, run-inside, run-outer, run-right, run-level, run-left, run-unconditional, run-plain, run-word, run-chosen, run-left_out, run-arguments, run-name, run-kind, run-opens, run-operator}
 
 -- no operator of a level within the phrase begins the tokens
 abbrev Stops : Phrase → List Token → Type 0
@@ -28,7 +30,9 @@ StopsInside Negation ts = Stops Negation ts
 StopsInside Definition ts = Unit {0}
 StopsInside Parameters ts = Unit {0}
 StopsInside MoreParameters ts = Unit {0}
-StopsInside Unary ts = Unit {0}
+StopsInside Unary ts = Stops Unary ts
+StopsInside Arguments ts = Unit {0}
+StopsInside MoreArguments ts = Unit {0}
 StopsInside Tail ts = Unit {0}
 
 -- the state behind a phrase, whose own level is still open where it may go on
@@ -40,6 +44,8 @@ After MoreParameters e h d K = Have e h K
 After Expression e h d K = Have e h K
 After Negation e h d K = Have e h K
 After Unary e h d K = Have e h K
+After Arguments e h d K = Have e h K
+After MoreArguments e h d K = Have e h K
 After Tail e h d K = Have e h K
 
 -- where the phrase is not gone on, no tighter level is
@@ -53,13 +59,15 @@ Stops-inside (Grouped level.Or) (t ∷ ts) q = q.1
 Stops-inside (Grouped level.And) (t ∷ ts) q = q.1
 Stops-inside (Grouped level.Comparison) (t ∷ ts) q = q
 Stops-inside (Grouped level.Sum) (t ∷ ts) q = q.1
-Stops-inside (Grouped level.Product) (t ∷ ts) q = tt
+Stops-inside (Grouped level.Product) (t ∷ ts) q = q.1
 Stops-inside Expression ts q = q
 Stops-inside Negation ts q = q
 Stops-inside Definition ts q = tt
 Stops-inside Parameters ts q = tt
 Stops-inside MoreParameters ts q = tt
-Stops-inside Unary ts q = tt
+Stops-inside Unary ts q = q
+Stops-inside Arguments ts q = tt
+Stops-inside MoreArguments ts q = tt
 Stops-inside Tail ts q = tt
 
 -- where a level is not gone on, no operator of it stands
@@ -69,7 +77,7 @@ Stops-own level.Or (t ∷ ts) q = q.0
 Stops-own level.And (t ∷ ts) q = q.0
 Stops-own level.Comparison (t ∷ ts) q = q.0
 Stops-own level.Sum (t ∷ ts) q = q.0
-Stops-own level.Product (t ∷ ts) q = q
+Stops-own level.Product (t ∷ ts) q = q.0
 
 -- where operators of a level may follow, those of its operands do not
 Stops-operand : (l : Level) (ts : List Token) → StopsInside (Grouped l) ts → Stops (operand l) ts
@@ -80,9 +88,9 @@ Stops-operand level.Comparison (t ∷ ts) q = q.1
 Stops-operand level.Sum ts q = q
 Stops-operand level.Product ts q = q
 
-Stops-definition : (ts : List Token) → Stops Definition ts
-Stops-definition [] = tt
-Stops-definition (t ∷ ts) = tt
+Stops-arguments : (ts : List Token) → Stops Arguments ts
+Stops-arguments [] = tt
+Stops-arguments (t ∷ ts) = tt
 
 -- what holds of the first kind, weakened
 First-weaker : (P Q : TokenKind → Type 0) → ((k : TokenKind) → P k → Q k) → (ts : List Token) → First P ts → First Q ts
@@ -102,7 +110,23 @@ run-after n us MoreParameters e h d K q = refl
 run-after n us Expression e h d K q = refl
 run-after n us Negation e h d K q = refl
 run-after n us Unary e h d K q = refl
+run-after n us Arguments e h d K q = refl
+run-after n us MoreArguments e h d K q = refl
 run-after n us Tail e h d K q = refl
+
+-- more arguments begin with a comma or the closing bracket
+Opens-more : {k : TokenKind} {p : ℕ} {r : Rest} → Opens MoreArguments k p r → (P : TokenKind → Type 0) → P (Sign RightParen) → P (Sign Comma) → P k
+Opens-more last_argument P f g = f
+Opens-more next_argument P f g = g
+
+Derives-more : {ts : List Token} {e : Tree} {h : ℕ} → Derives MoreArguments ts e h → (P : TokenKind → Type 0) → P (Sign RightParen) → P (Sign Comma) →
+    (us : List Token) → First P (ts ++ us)
+Derives-more (opened o f) P g h us = Opens-more o P g h
+
+-- a part that follows another ends it
+Part-stops : (i : Phrase) (f : Tree → Rest) {ts : List Token} {e : Tree} {h : ℕ} → Derives i ts e h → (s0 s : Phrase) (us : List Token) → Ends s0 s (part i f) → Stops s (ts ++ us)
+Part-stops MoreArguments f x s0 s us b = Derives-more x (Quiet s) b.0 b.1 us
+Part-stops _ f x s0 s us b = absurd b
 
 -- what is left of a production ends its last part
 Follows-stops : {r : Rest} {ts : List Token} {e : Tree} {h : ℕ} → Follows r ts e h → (s0 s : Phrase) (us : List Token) → Ends s0 s r → Stops s0 us → Stops s (ts ++ us)
@@ -110,18 +134,22 @@ Follows-stops ended s0 s us b q = First-weaker (Quiet s0) (Quiet s) b us q
 Follows-stops (taken {w = w} q f) s0 s us b p = rw q b
 Follows-stops (named q f) s0 s us b p = absurd b
 Follows-stops (kinded q f) s0 s us b p = absurd b
-Follows-stops (given d f) s0 s us b p = absurd b
+Follows-stops (chosen q f) s0 s us b p = absurd b
+Follows-stops left_out s0 s us b p = absurd b
+Follows-stops (given {s = i} {f = g} {us = xs} {ts = ts} x f) s0 s us b p = rw (append_assoc xs ts us) (Part-stops i g x s0 s (ts ++ us) b)
 
 -- what a production begins has no level
 Stops-opens : (s : Phrase) {k : TokenKind} {p : ℕ} {r : Rest} → Opens s k p r → (us : List Token) → StopsInside s us → Stops s us
 Stops-opens (Grouped l) o us q = elim o [ ]
 Stops-opens Expression o us q = q
 Stops-opens Negation o us q = q
+Stops-opens Unary o us q = q
 Stops-opens s o [] q = tt
 Stops-opens Definition o (t ∷ us) q = tt
 Stops-opens Parameters o (t ∷ us) q = tt
 Stops-opens MoreParameters o (t ∷ us) q = tt
-Stops-opens Unary o (t ∷ us) q = tt
+Stops-opens Arguments o (t ∷ us) q = tt
+Stops-opens MoreArguments o (t ∷ us) q = tt
 Stops-opens Tail o (t ∷ us) q = tt
 
 -- nothing of a production is still open behind it
@@ -133,6 +161,8 @@ After-opens Expression o e h d K = refl
 After-opens (Grouped l) o e h d K = elim o [ ]
 After-opens Negation o e h d K = refl
 After-opens Unary o e h d K = refl
+After-opens Arguments o e h d K = refl
+After-opens MoreArguments o e h d K = refl
 After-opens Tail o e h d K = refl
 
 -- the phrase is one that the tokens of the other can be without a production of its own, or stands first in one
@@ -144,6 +174,10 @@ IsFirst Negation (Grouped level.Comparison) = Unit {0}
 IsFirst Negation (Grouped level.Sum) = Unit {0}
 IsFirst Negation (Grouped level.Product) = Unit {0}
 IsFirst Negation Unary = Unit {0}
+IsFirst Arguments Expression = Unit {0}
+IsFirst Arguments (Grouped l) = Unit {0}
+IsFirst Arguments Negation = Unit {0}
+IsFirst Arguments Unary = Unit {0}
 IsFirst _ _ = ⊥
 
 IsFirst-operand : (s0 : Phrase) (l : Level) → IsFirst s0 (Grouped l) → IsFirst s0 (operand l)
@@ -155,10 +189,16 @@ IsFirst-operand Expression level.Product q = tt
 IsFirst-operand Negation level.Comparison q = tt
 IsFirst-operand Negation level.Sum q = tt
 IsFirst-operand Negation level.Product q = tt
+IsFirst-operand Arguments level.Or q = tt
+IsFirst-operand Arguments level.And q = tt
+IsFirst-operand Arguments level.Comparison q = tt
+IsFirst-operand Arguments level.Sum q = tt
+IsFirst-operand Arguments level.Product q = tt
 IsFirst-operand _ _ q = absurd q
 
 IsFirst-comparison : (s0 : Phrase) → IsFirst s0 Negation → IsFirst s0 (Grouped level.Comparison)
 IsFirst-comparison Expression q = tt
+IsFirst-comparison Arguments q = tt
 IsFirst-comparison _ q = absurd q
 
 IsFirst-left : (s0 : Phrase) (l : Level) → IsFirst s0 (Grouped l) → IsFirst s0 (left_operand l)
@@ -170,6 +210,11 @@ IsFirst-left Expression level.Product q = tt
 IsFirst-left Negation level.Comparison q = tt
 IsFirst-left Negation level.Sum q = tt
 IsFirst-left Negation level.Product q = tt
+IsFirst-left Arguments level.Or q = tt
+IsFirst-left Arguments level.And q = tt
+IsFirst-left Arguments level.Comparison q = tt
+IsFirst-left Arguments level.Sum q = tt
+IsFirst-left Arguments level.Product q = tt
 IsFirst-left _ _ q = absurd q
 
 -- its productions begin with no token with which one of the other's begins
@@ -189,6 +234,15 @@ Unopened-opens by_name Expression q = refl
 Unopened-opens by_name Negation q = refl
 Unopened-opens by_block Expression q = refl
 Unopened-opens by_block Negation q = refl
+Unopened-opens by_conditional Arguments q = refl
+Unopened-opens denied Arguments q = refl
+Unopened-opens negated Arguments q = refl
+Unopened-opens number Arguments q = refl
+Unopened-opens by_true Arguments q = refl
+Unopened-opens by_false Arguments q = refl
+Unopened-opens parens Arguments q = refl
+Unopened-opens by_name Arguments q = refl
+Unopened-opens by_block Arguments q = refl
 Unopened-opens _ Expression q = absurd q
 Unopened-opens _ Negation q = absurd q
 Unopened-opens _ _ q = absurd q
@@ -197,16 +251,26 @@ Unopened-opens _ _ q = absurd q
 Unopened-derives : {s : Phrase} {ts : List Token} {e : Tree} {h : ℕ} → Derives s ts e h → (s0 : Phrase) → IsFirst s0 s →
     (us : List Token) → Unopened s0 (ts ++ us)
 Unopened-derives (opened o f) s0 q us = Unopened-opens o s0 q
-Unopened-derives (unconditional x) s0 q us = absurd (no_expression s0 q)
+Unopened-derives (unconditional x) s0 q us = Unopened-derives x s0 (of_expression s0 q) us
   where
-    no_expression : (s0 : Phrase) → IsFirst s0 Expression → ⊥
-    no_expression Expression q = q
-    no_expression Negation q = q
-    no_expression _ q = q
+    of_expression : (s0 : Phrase) → IsFirst s0 Expression → IsFirst s0 (Grouped level.Or)
+    of_expression Arguments q = tt
+    of_expression _ q = absurd q
 Unopened-derives (single {l = l} x) s0 q us = Unopened-derives x s0 (IsFirst-operand s0 l q) us
 Unopened-derives (grouped {l = l} {us = xs} {vs = ys} x t p y) s0 q us =
     rw (append_assoc xs (t ∷ ys) us) (Unopened-derives x s0 (IsFirst-left s0 l q) (t ∷ (ys ++ us)))
 Unopened-derives (plain x) s0 q us = Unopened-derives x s0 (IsFirst-comparison s0 q) us
+Unopened-derives (some_arguments f) s0 q us = absurd (no_arguments s0 q)
+  where
+    no_arguments : (s0 : Phrase) → IsFirst s0 Arguments → ⊥
+    no_arguments Expression q = q
+    no_arguments Negation q = q
+    no_arguments Arguments q = q
+    no_arguments _ q = q
+
+-- nor does an argument begin with the closing bracket
+Unopened-arguments : {ts : List Token} {e : Tree} {h : ℕ} → Follows arguments_of ts e h → (us : List Token) → Unopened Arguments (ts ++ us)
+Unopened-arguments (given {us = xs} {ts = ts} x f) us = rw (append_assoc xs ts us) (Unopened-derives x Arguments tt (ts ++ us))
 
 max-assoc : (a b c d : ℕ) → max (max a b) c + d ≡ max a (max b c) + d
 max-assoc a b c d = omega arith
@@ -262,11 +326,19 @@ mutual
       ∙ run-after n us (operand l) b k (d + 1) (Right l o a m t.start d ∷ K) stops
       ∙ run-right n us b k l o a m t.start d K)
   run-derives (plain {ts = ts} x) n d K us b q = run-plain n (ts ++ us) d K (Unopened-derives x Negation tt us) ∙ run-derives x n d K us b q
+  run-derives (some_arguments {ts = ts} {e = e} {h = h} f) n d K us b q =
+      run-arguments n (ts ++ us) d K (Unopened-arguments f us)
+      ∙ run-follows f n 0 (d + 0) 0 K us Arguments (omega arith) (arguments_parts Arguments) (Stops-arguments us)
+      ∙ ap (λ x. run n us (Have e x K)) (omega arith)
 
   pub run-follows : {r : Rest} {ts : List Token} {e : Tree} {h : ℕ} → Follows r ts e h → (n m d c : ℕ) (K : List Frame) (us : List Token) (s0 : Phrase) → d + h ≤ n → Parts s0 r → Stops s0 us → run n (ts ++ us) (Next r m d c K) ≡ run n us (Have e (max m h + c) K)
   run-follows (ended {e = e}) n m d c K us s0 w p q = run-done n us e m d c K ∙ ap (λ x. run n us (Have e (x + c) K)) (omega arith)
   run-follows (taken {w = v} {t = t} {r = r} {ts = ts} i f) n m d c K us s0 w p q =
       run-word n t (ts ++ us) v r m d c K i ∙ run-follows f n m d c K us s0 w p q
+  run-follows (chosen {w = v} {t = t} {r = r} {ts = ts} {a = a} i f) n m d c K us s0 w p q =
+      run-chosen n t (ts ++ us) v r a m d c K i ∙ run-follows f n m d c K us s0 w p.1 q
+  run-follows (left_out {w = v} {r = r} {e = e}) n m d c K us s0 w p q =
+      run-left_out n us v r e m d c K (First-weaker (Quiet s0) (λ k. is_word v k ≡ false) p.0 us q) ∙ ap (λ x. run n us (Have e (x + c) K)) (omega arith)
   run-follows (named {t = t} {x = x} {f = g} {ts = ts} i f) n m d c K us s0 w p q =
       run-name n t (ts ++ us) x g m d c K i ∙ run-follows f n m d c K us s0 w (p x t.start) q
   run-follows (kinded {t = t} {k = k} {f = g} {ts = ts} i f) n m d c K us s0 w p q =
@@ -281,24 +353,34 @@ mutual
       ∙ run-follows f n (max m i) d c K us s0 (omega arith) (p a).1 q
       ∙ ap (λ x. run n us (Have e x K)) (max-assoc m i j c))
 
--- the first definition is wanted at once
-run-begin : (n : ℕ) (t : Token) (ts : List Token) (e : Tree) → run n (t ∷ ts) (Want Definition 0 []) ≡ Accepted e → run n (t ∷ ts) Begin ≡ Accepted e
+-- where a definition can come, it is wanted at once
+run-begin : (n : ℕ) (t : Token) (ts : List Token) (ds : List Tree) (e : Tree) → run n (t ∷ ts) (Want Definition 0 (Outer ds ∷ [])) ≡ Accepted e → run n (t ∷ ts) (Begin ds) ≡ Accepted e
 unfolding run
-run-begin n t ts e h = begun (wants t Definition 0 []) h
+run-begin n t ts ds e h = begun (wants t Definition 0 (Outer ds ∷ [])) h
   where
-    begun : (m : Option Move) → pick m (λ m. cond (leb m.need n) (run n ts m.next) (Refused true t.start)) (Refused false t.start) ≡ Accepted e → pick (pick m (λ m. Some m) (ends t.kind none)) (λ m. cond (leb m.need n) (run n ts m.next) (Refused true t.start)) (Refused false t.start) ≡ Accepted e
+    begun : (m : Option Move) → pick m (λ m. cond (leb m.need n) (run n ts m.next) (Refused true t.start)) (Refused false t.start) ≡ Accepted e → pick (pick m (λ m. Some m) (ends t.kind (ahead ds none))) (λ m. cond (leb m.need n) (run n ts m.next) (Refused true t.start)) (Refused false t.start) ≡ Accepted e
     begun None q = cc
     begun (Some m) q = q
 
 -- the same, of any tokens
-run-begun : (n : ℕ) (ts : List Token) (e : Tree) → run n ts (Want Definition 0 []) ≡ Accepted e → run n ts Begin ≡ Accepted e
+run-begun : (n : ℕ) (ts : List Token) (ds : List Tree) (e : Tree) → run n ts (Want Definition 0 (Outer ds ∷ [])) ≡ Accepted e → run n ts (Begin ds) ≡ Accepted e
 unfolding run
-run-begun n [] e h = cc
-run-begun n (t ∷ ts) e h = run-begin n t ts e h
+run-begun n [] ds e h = cc
+run-begun n (t ∷ ts) ds e h = run-begin n t ts ds e h
+
+-- a tree put behind others
+pub ahead-append : (ds : List Tree) (d e : Tree) → ahead (ds ++ d ∷ []) e ≡ ahead ds (more d e)
+ahead-append [] d e = refl
+ahead-append (a ∷ ds) d e = ap (λ b. more a b) (ahead-append ds d e)
+
+-- behind definitions a program is accepted within its height
+run-defined : {ts : List Token} {e : Tree} {h : ℕ} → Program ts e h → (n : ℕ) → h ≤ n → (ds : List Tree) → run n ts (Begin ds) ≡ Accepted (ahead ds e)
+unfolding run
+run-defined (empty {t = t} q) n w ds = rw (q, leb-zero n) refl
+run-defined (defined {us = us} {ts = ts} {a = a} {e = e} {m = m} x p) n w ds =
+    run-begun n (us ++ ts) ds (ahead ds (more a e))
+    (run-derives x n 0 (Outer ds ∷ []) ts (omega arith) tt ∙ run-outer n ts a m ds ∙ run-defined p n (omega arith) (ds ++ a ∷ []) ∙ ap Accepted (ahead-append ds a e))
 
 -- a program is accepted within its height
-pub run-program : {ts : List Token} {e : Tree} {h : ℕ} → Program ts e h → (n : ℕ) → h ≤ n → run n ts Begin ≡ Accepted e
-unfolding run
-run-program (empty {t = t} q) n w = rw (q, leb-zero n) refl
-run-program (single_def {ts = ts} {e = e} {h = h} t x q) n w =
-    run-begun n (ts ++ t ∷ []) (more e none) (run-derives x n 0 [] (t ∷ []) (omega arith) tt ∙ rw (q, leb-zero n) refl)
+pub run-program : {ts : List Token} {e : Tree} {h : ℕ} → Program ts e h → (n : ℕ) → h ≤ n → run n ts (Begin []) ≡ Accepted e
+run-program p n w = run-defined p n w []

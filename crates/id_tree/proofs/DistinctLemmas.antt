@@ -5,7 +5,7 @@ use Rattle.id_text.specs.declared.token.TokenKind.{TokenKind}
 use Rattle.id_value.specs.declared.Kind.{Kind}
 use Rattle.id_tree.specs.Tree as tree
 use Rattle.id_tree.specs.Tree.{Tree, literal, unary, binary, conditional, call, block, binding, param, define, none, more}
-use Rattle.id_tree.specs.Grammar.{Phrase, Rest, done, word, name, of_kind, part, with_statement, block_of, Opens, definition, no_parameters, first_parameter, last_parameter, next_parameter, by_conditional, denied, negated, number, by_true, by_false, parens, by_name, by_block, by_binding, by_body, Derives, opened, unconditional, single, grouped, plain, Follows, ended, taken, named, kinded, given, Program, empty, single_def}
+use Rattle.id_tree.specs.Grammar.{Phrase, Rest, done, word, optional, name, of_kind, part, with_statement, block_of, Opens, definition, no_parameters, first_parameter, last_parameter, next_parameter, by_conditional, denied, negated, number, by_true, by_false, parens, by_name, by_block, no_arguments, last_argument, next_argument, by_binding, by_body, Derives, opened, unconditional, single, grouped, plain, some_arguments, Follows, ended, taken, chosen, left_out, named, kinded, given, Program, empty, defined}
 use Rattle.id_tree.specs.Distinct.{HasPlace, Apart, Distinct}
 use Rattle.id_tree.proofs.FinishLemmas.{Laid}
 
@@ -139,6 +139,7 @@ Distinct-spans (more a b) low high s = (Spans-apart a b low s.0 s.0 high (omega 
 abbrev Keeps : ℕ → ℕ → Rest → Type 0
 Keeps from low (done e) = (high : ℕ) → low ≤ high → Spans from e high
 Keeps from low (word w r) = (mid : ℕ) → low ≤ mid → Keeps from mid r
+Keeps from low (optional w r e) = ((high : ℕ) → low ≤ high → Spans from e high) × ((mid : ℕ) → low ≤ mid → Keeps from mid r)
 Keeps from low (name f) = (x : List ℕ) (p : ℕ) → low ≤ p → Keeps from (p + 1) (f x p)
 Keeps from low (of_kind f) = (k : Kind) (mid : ℕ) → low ≤ mid → Keeps from mid (f k)
 Keeps from low (part s f) = (a : Tree) (mid : ℕ) → Spans low a mid → Keeps from mid (f a)
@@ -181,7 +182,13 @@ Opens-keeps (number {p = p}) = λ high w. (omega arith, omega arith)
 Opens-keeps (by_true {p = p}) = λ high w. (omega arith, omega arith)
 Opens-keeps (by_false {p = p}) = λ high w. (omega arith, omega arith)
 Opens-keeps (parens {p = p}) = λ e mid s z v high w. Spans-wider e (p + 1) mid p high (omega arith) (omega arith) s
-Opens-keeps (by_name {p = p}) = λ high w. (omega arith, omega arith)
+Opens-keeps (by_name {p = p}) = (
+  λ high w. (omega arith, omega arith),
+  λ mid u a next s high w. (omega arith, Spans-wider a mid next (p + 1) high (omega arith) w s),
+)
+Opens-keeps (no_arguments {p = p}) = λ high w. omega arith
+Opens-keeps (last_argument {p = p}) = λ high w. omega arith
+Opens-keeps (next_argument {p = p}) = λ e mid s a next t high w. (mid, Spans-wider e (p + 1) mid p mid (omega arith) (omega arith) s, Spans-wider a mid next mid high (omega arith) w t)
 Opens-keeps (by_block {p = p}) = λ a mid s high w. Spans-block_of a p mid high w s
 Opens-keeps (by_binding {x = x} {p = p}) = λ q1 u1 e mid s q2 u2 a next t high w.
     Spans-with_statement (binding x e p) a p q2 next high w (omega arith, Spans-wider e q1 mid (p + 1) q2 u1 u2 s) t
@@ -201,19 +208,26 @@ mutual
       let l = Laid-split us (t ∷ vs) low high p in
       (Spans-wider a low l.0 low t.start (omega arith) l.2.0 (Derives-spans x low l.0 l.1), Derives-spans y (t.start + 1) high l.2.1)
   Derives-spans (plain d) low high p = Derives-spans d low high p
+  Derives-spans (some_arguments f) low high p = Follows-spans f low low high (λ e mid s a next t high w. (mid, s, Spans-wider a mid next mid high (omega arith) w t)) p
 
   Follows-spans : {r : Rest} {ts : List Token} {e : Tree} {h : ℕ} → Follows r ts e h → (from low high : ℕ) → Keeps from low r → Laid low ts high → Spans from e high
   Follows-spans ended from low high k p = k high p
   Follows-spans (taken {t = t} q f) from low high k p = Follows-spans f from (t.start + 1) high (k (t.start + 1) (omega (arith, p.0))) p.1
+  Follows-spans (chosen {t = t} q f) from low high k p = Follows-spans f from (t.start + 1) high (k.1 (t.start + 1) (omega (arith, p.0))) p.1
+  Follows-spans left_out from low high k p = k.0 high p
   Follows-spans (named {t = t} {x = x} q f) from low high k p = Follows-spans f from (t.start + 1) high (k x t.start p.0) p.1
   Follows-spans (kinded {t = t} {k = j} q f) from low high k p = Follows-spans f from (t.start + 1) high (k j (t.start + 1) (omega (arith, p.0))) p.1
   Follows-spans (given {us = us} {ts = ts} {a = a} d f) from low high k p =
       let l = Laid-split us ts low high p in
       Follows-spans f from l.0 high (k a l.0 (Derives-spans d low l.0 l.1)) l.2
 
+-- a program spans what its tokens do
+Program-spans : {ts : List Token} {e : Tree} {h : ℕ} → Program ts e h → (low high : ℕ) → Laid low ts high → Spans low e high
+Program-spans (empty q) low high p = omega (arith, p.0, p.1)
+Program-spans (defined {us = us} {ts = ts} x q) low high p =
+    let l = Laid-split us ts low high p in
+    (l.0, Derives-spans x low l.0 l.1, Program-spans q l.0 high l.2)
+
 -- a program's things have different places
 pub Program-distinct : {ts : List Token} {e : Tree} {h : ℕ} → Program ts e h → (low high : ℕ) → Laid low ts high → Distinct e
-Program-distinct (empty q) low high p = tt
-Program-distinct (single_def {ts = ts} {e = e} t d q) low high p =
-    let l = Laid-split ts (t ∷ []) low high p in
-    (λ q g h. absurd h, Distinct-spans e low l.0 (Derives-spans d low l.0 l.1), tt)
+Program-distinct {e = e} q low high p = Distinct-spans e low high (Program-spans q low high p)

@@ -8,8 +8,8 @@ use Rattle.id_text.specs.declared.token.Keyword.TheVariants.{Def, In, Int}
 use Rattle.id_text.specs.declared.token.Symbol.TheVariants.{LeftParen, RightParen, RightBrace, Colon, Becomes, Semicolon}
 use Rattle.id_tree.specs.declared.parser.Level.TheVariants as level
 use Rattle.id_value.specs.declared.Kind.TheVariants as kind
-use Rattle.id_tree.specs.Tree.{Tree}
-use Rattle.id_tree.specs.Grammar.{Phrase, Definition, Parameters, MoreParameters, Expression, Grouped, Negation, Unary, Tail, kind_of, Rest, done, word, name, of_kind, part, definition, no_parameters, last_parameter, number, by_body, own_height, Derives, opened, unconditional, single, grouped, plain, Follows, ended, taken, named, kinded, given, Program, empty, single_def}
+use Rattle.id_tree.specs.Tree.{Tree, none, more}
+use Rattle.id_tree.specs.Grammar.{Phrase, Definition, Parameters, MoreParameters, Expression, Grouped, Negation, Unary, Arguments, MoreArguments, Tail, kind_of, Rest, done, word, optional, name, of_kind, part, definition, no_parameters, last_parameter, number, no_arguments, last_argument, by_body, own_height, Derives, opened, unconditional, single, grouped, plain, Follows, ended, taken, left_out, named, kinded, given, Program, empty, defined}
 use Rattle.id_tree.specs.Machine.{least_height, Frame, State}
 use Rattle.id_tree.specs.Standing.{Roomy, Around, outermost, unconditionally, left, right, plainly, inside, Stands, begun, wanting, having, within, finished}
 
@@ -135,6 +135,8 @@ least Negation from = least_negation from
 least Parameters from = record { tokens = token (Sign RightParen) from ∷ []; tree = _; to = from + 1; laid = (omega arith, omega arith); derives = opened no_parameters ended }
 least MoreParameters from = record { tokens = token (Sign RightParen) from ∷ []; tree = _; to = from + 1; laid = (omega arith, omega arith); derives = opened last_parameter ended }
 least Definition from = least_definition from (least_expression (from + 7))
+least Arguments from = record { tokens = token (Sign RightParen) from ∷ []; tree = _; to = from + 1; laid = (omega arith, omega arith); derives = opened no_arguments ended }
+least MoreArguments from = record { tokens = token (Sign RightParen) from ∷ []; tree = _; to = from + 1; laid = (omega arith, omega arith); derives = opened last_argument ended }
 least Tail from = least_tail from (least_expression (from + 1))
 
 -- what is left of a production, with tokens from a place on
@@ -153,6 +155,7 @@ finish (done e) n d from w roomy = record { tokens = []; tree = e; height = 0; t
 finish (word v r) n d from w roomy =
     let f = finish r n d (from + 1) w roomy in
     record { tokens = token (kind_of v) from ∷ f.tokens; tree = f.tree; height = f.height; to = f.to; laid = (omega arith, f.laid); follows = taken refl f.follows; fits = f.fits }
+finish (optional v r e) n d from w roomy = record { tokens = []; tree = e; height = 0; to = from; laid = omega arith; follows = left_out; fits = omega arith }
 finish (name g) n d from w roomy =
     let f = finish (g [] from) n d (from + 1) w (roomy [] from) in
     record { tokens = token (Name []) from ∷ f.tokens; tree = f.tree; height = f.height; to = f.to; laid = (omega arith, f.laid); follows = named refl f.follows; fits = f.fits }
@@ -194,13 +197,13 @@ Completed-more n from mid us ws l c = record {
 -- a part that has come is gone on to a program
 Around-completed : {n : ℕ} {s : Phrase} {d : ℕ} {K : List Frame} {us : List Token} → Around n s d K us →
     (vs : List Token) (e : Tree) (h from : ℕ) → Derives s vs e h → d + h ≤ n → Completed n from (us ++ vs)
-Around-completed outermost vs e h from x w = record {
+Around-completed (outermost {us = us} {h = k} p v) vs e h from x w = record {
   behind = token End from ∷ [];
   tree = _;
-  height = h;
+  height = max k (max h 0);
   to = from + 1;
   laid = (omega arith, omega arith);
-  derives = single_def (token End from) x refl;
+  derives = Program-at (sym (append_assoc us vs (token End from ∷ []))) (p.completes (vs ++ token End from ∷ []) (more e none) (max h 0) (defined x (empty refl)));
   fits = omega arith;
 }
 Around-completed (left a) vs e h from x w = Around-completed a vs e h from (single x) w
@@ -217,7 +220,15 @@ Around-completed {n = n} (inside {s = s} {f = f} {d = d} {h = h} {us = us} {vs =
 
 -- what stands is gone on to a program
 pub Stands-completed : {n : ℕ} {S : State} {us : List Token} → Stands n S us → (from : ℕ) → Completed n from us
-Stands-completed begun from = record { behind = token End from ∷ []; tree = _; height = 0; to = from + 1; laid = (omega arith, omega arith); derives = empty refl; fits = zero-le }
+Stands-completed (begun {h = h} p w) from = record {
+  behind = token End from ∷ [];
+  tree = _;
+  height = max h 0;
+  to = from + 1;
+  laid = (omega arith, omega arith);
+  derives = p.completes (token End from ∷ []) none 0 (empty refl);
+  fits = omega arith;
+}
 Stands-completed {n = n} (wanting {s = s} {us = us} a w) from =
     let l = least s from in
     Completed-more n from l.to us l.tokens l.laid (Around-completed a l.tokens l.tree (least_height s) l.to l.derives w)

@@ -5,9 +5,9 @@ mod SoundLemmas
 mod FinishLemmas
 mod RefusedLemmas
 mod DistinctLemmas
-mod UncalledLemmas
 pub mod StartsLemmas
 mod ReaderLemmas
 mod BlockLemmas
 mod ParamLemmas
+mod CallLemmas
 mod StatementLemmas

@@ -1,5 +1,5 @@
 -- How the readers' runs are put together, for each production and each way out of it.
-use Rattle.std.proofs.Common.{◌≡◌, ℕ, ℤ, ◌+◌, ◌≤◌, ◌<◌, max, inl, inr, Some, None, List, [], ◌∷◌, true, false, Bool, refl, sym, ap, ◌∙◌, subst, arith, zero-le}
+use Rattle.std.proofs.Common.{◌≡◌, ℕ, ℤ, ◌+◌, ◌≤◌, ◌<◌, max, inl, inr, Some, None, List, [], ◌∷◌, ◌++◌, true, false, Bool, refl, sym, ap, ◌∙◌, subst, arith, zero-le}
 use Rattle.id_text.specs.Tokens.{EndsOnce}
 use Rattle.id_text.specs.declared.token.Token.{Token}
 use Rattle.id_text.specs.declared.token.TokenKind.{TokenKind}
@@ -16,15 +16,15 @@ use Rattle.id_value.specs.declared.BinaryOp.{BinaryOp}
 use Rattle.id_value.specs.declared.UnaryOp.{UnaryOp}
 use Rattle.id_value.specs.declared.UnaryOp.TheVariants as unary_op
 use Rattle.id_value.specs.declared.Constant.TheVariants as constant
+use Rattle.id_tree.specs.declared.tree.Def.{Def as Definition_}
 use Rattle.id_tree.specs.declared.tree.TreeError.{TreeError}
 use Rattle.id_tree.specs.declared.tree.TreeError.TheVariants.{Unexpected, TooDeep}
-use Rattle.id_tree.specs.Tree as tree
-use Rattle.id_tree.specs.Tree.{Tree, literal, unary, binary, none, more}
-use Rattle.id_tree.specs.Grammar.{Phrase, Definition, Expression, Grouped, Negation, Unary, kind_of, Rest, done, word, name, part, enclosed, definition_of, conditional_of, Opens, definition, by_conditional, denied, negated, number, by_true, by_false, parens, by_name, operand, operator_of, own_height}
-use Rattle.id_tree.specs.Machine.{opening, room, Frame, Left, Right, Inside, again, Move, State, Begin, Want, Have, Next, Finished, is_word, name_in, takes, ends, wants, Outcome, Accepted, Refused, run}
-use Rattle.id_tree.specs.Readers.{first_kind, first_start, truth_in, IsRead, EndsBy, IsPrefix, Leads, Fails, Defines, Grows, Stunts, Takes, Misses, BeginsWithName, NoName, LacksName, Encloses, Exposes}
-use Rattle.id_tree.proofs.RowLemmas.{opening-from_opens}
-use Rattle.id_tree.proofs.RunLemmas.{First, Unopened, same-is_word, run-step, run-deep, run-none, run-word, run-name, run-opens, run-opens-deep, run-operator, run-done, run-part, run-inside, run-right, run-level, run-left, run-unconditional, run-plain}
+use Rattle.id_tree.specs.Tree.{Tree, def_tree, defs_tree, literal, unary, binary, none, more}
+use Rattle.id_tree.specs.Grammar.{Phrase, Definition, Expression, Grouped, Negation, Unary, kind_of, Rest, done, word, name, part, enclosed, definition_of, named_of, conditional_of, Opens, definition, by_conditional, denied, negated, number, by_true, by_false, parens, by_name, operand, operator_of, own_height}
+use Rattle.id_tree.specs.Machine.{opening, room, Frame, Left, Right, Inside, Outer, again, Move, State, Begin, Want, Have, Next, Finished, is_word, name_in, takes, ahead, ends, wants, Outcome, Accepted, Refused, run}
+use Rattle.id_tree.specs.Readers.{first_kind, first_start, truth_in, IsRead, EndsBy, IsPrefix, Leads, Fails, Defines, Grows, Stunts, Takes, Misses, BeginsWithName, NoName, LacksName, Encloses, Exposes, def_trees, Amasses}
+use Rattle.id_tree.proofs.RowLemmas.{opening-from_opens, same-is_word}
+use Rattle.id_tree.proofs.RunLemmas.{First, Unopened, run-step, run-deep, run-none, run-word, run-name, run-opens, run-opens-deep, run-operator, run-done, run-part, run-inside, run-outer, run-right, run-level, run-left, run-unconditional, run-plain}
 
 pub EndsBy-at : {o p : Outcome} (x : TreeError) → o ≡ p → EndsBy p x → EndsBy o x
 EndsBy-at x e q = subst (λ r. EndsBy r x) (sym e) q
@@ -133,7 +133,7 @@ opens_parens q = rw q parens
 pub opens_number : {k : TokenKind} {p : ℕ} (v : ℤ) → k ≡ Number v → Opens Unary k p (done (literal (constant.Int v) p))
 opens_number v q = rw q number
 
-pub opens_name : {k : TokenKind} {p : ℕ} (x : List ℕ) → k ≡ Name x → Opens Unary k p (done (tree.name x p))
+pub opens_name : {k : TokenKind} {p : ℕ} (x : List ℕ) → k ≡ Name x → Opens Unary k p (named_of x p)
 opens_name x q = rw q by_name
 
 pub opens_conditional : {k : TokenKind} {p : ℕ} → k ≡ Key If → Opens Expression k p (conditional_of p)
@@ -338,35 +338,56 @@ run-early : (ts : List Token) (S : State) → EndsOnce ts → ((t : Token) → t
 run-early [] S w f = absurd w
 run-early (t ∷ ts) S w f = run-none 200 t ts S (f t refl)
 
-wants-none : (t : Token) (k : TokenKind) → t.kind ≡ k → (k ≡ Key Def → ⊥) → wants t Definition 0 [] ≡ None
-wants-none t k q f = rw (no_def t.kind t.start (λ i. f (sym q ∙ i))) refl
+wants-none : (t : Token) (k : TokenKind) (ds : List Tree) → t.kind ≡ k → (k ≡ Key Def → ⊥) → wants t Definition 0 (Outer ds ∷ []) ≡ None
+wants-none t k ds q f = rw (no_def t.kind t.start (λ i. f (sym q ∙ i))) refl
   where
     no_def : (k : TokenKind) (p : ℕ) → (k ≡ Key Def → ⊥) → opening Definition k p ≡ None
     no_def (Key Def) p g = absurd (g refl)
     no_def _ p g = refl
 
-module _ (ts : List Token) where
-  -- no definition comes
-  pub Begin-empty : EndsOnce ts → first_kind ts ≡ End → run 200 ts Begin ≡ Accepted none
-  Begin-empty w q = run-last ts Begin none w q (λ t i. let n : wants t Definition 0 [] ≡ None = wants-none t End i (λ j. cc) in rw (n, ends-end t.kind none i) refl)
+-- Definitions.
+def_trees-append : (ds : List Definition_) (d : Definition_) → def_trees (ds ++ d ∷ []) ≡ def_trees ds ++ def_tree d ∷ []
+def_trees-append [] d = refl
+def_trees-append (a ∷ ds) d = ap (λ es. def_tree a ∷ es) (def_trees-append ds d)
 
-  pub Begin-unexpected : (x : TreeError) → x ≡ Unexpected (first_start ts) → EndsOnce ts → (first_kind ts ≡ End → ⊥) → (first_kind ts ≡ Key Def → ⊥) → EndsBy (run 200 ts Begin) x
-  Begin-unexpected x j w f g = rw j (run-early ts Begin w (λ t i. let n : wants t Definition 0 [] ≡ None = wants-none t (first_kind ts) i g in rw (n, ends-none t.kind none (λ k. f (sym i ∙ k))) refl))
+ahead-none : (ds : List Definition_) → ahead (def_trees ds) none ≡ defs_tree ds
+ahead-none [] = refl
+ahead-none (d ∷ ds) = ap (λ e. more (def_tree d) e) (ahead-none ds)
 
 -- a definition comes
-Begin-def : (ts : List Token) → first_kind ts ≡ Key Def → run 200 ts Begin ≡ run 200 ts (Want Definition 0 [])
-Begin-def [] q = cc
-Begin-def (t ∷ us) q =
+Begin-def : (ts : List Token) (ds : List Tree) → first_kind ts ≡ Key Def → run 200 ts (Begin ds) ≡ run 200 ts (Want Definition 0 (Outer ds ∷ []))
+Begin-def [] ds q = cc
+Begin-def (t ∷ us) ds q =
     let r : Rest = name definition_of in
     let o : Opens Definition t.kind t.start r = rw q definition in
-    run-step 200 t us Begin (record { need = 1; next = Next r 0 0 0 [] }) (rw (opening-from_opens o) refl) (omega arith) ∙ sym (run-opens 200 t us Definition r 0 [] o (omega arith))
+    run-step 200 t us (Begin ds) (record { need = 1; next = Next r 0 0 0 (Outer ds ∷ []) }) (rw (opening-from_opens o) refl) (omega arith) ∙ sym (run-opens 200 t us Definition r 0 (Outer ds ∷ []) o (omega arith))
 
-module _ (ts : List Token) (q : first_kind ts ≡ Key Def) where
-  pub Begin-fails : (x : TreeError) → Fails ts Definition 0 x → EndsBy (run 200 ts Begin) x
-  Begin-fails x f = EndsBy-at x (Begin-def ts q) (f.fails [])
+-- no definition yet
+pub Amasses-none : (ts : List Token) → EndsOnce ts → Amasses ts ts []
+Amasses-none ts w = record { ends = w; comes = refl }
 
-  pub Begin-stops : (us : List Token) (e : Tree) (x : TreeError) → Defines ts us e → EndsOnce us → (first_kind us ≡ End → ⊥) → x ≡ Unexpected (first_start us) → EndsBy (run 200 ts Begin) x
-  Begin-stops us e x p w f j = EndsBy-at x (Begin-def ts q ∙ p.1.comes []) (rw j (run-early us (Have e p.0 []) w (λ t i. ends-none t.kind (more e none) (λ k. f (sym i ∙ k)))))
+module _ {ts us : List Token} {ds : List Definition_} (g : Amasses ts us ds) where
+  -- one definition more
+  pub Amasses-add : {vs : List Token} (d : Definition_) → first_kind us ≡ Key Def → EndsOnce vs → Defines us vs (def_tree d) → Amasses ts vs (ds ++ d ∷ [])
+  Amasses-add {vs = vs} d q w p = record {
+    ends = w;
+    comes =
+        g.comes ∙ Begin-def us (def_trees ds) q ∙ p.1.comes (Outer (def_trees ds) ∷ []) ∙ run-outer 200 vs (def_tree d) p.0 (def_trees ds)
+        ∙ ap (λ es. run 200 vs (Begin es)) (sym (def_trees-append ds d));
+  }
 
-  pub Begin-accepts : (us : List Token) (e : Tree) → Defines ts us e → EndsOnce us → first_kind us ≡ End → run 200 ts Begin ≡ Accepted (more e none)
-  Begin-accepts us e p w i = Begin-def ts q ∙ p.1.comes [] ∙ run-last us (Have e p.0 []) (more e none) w i (λ t k. ends-end t.kind (more e none) k)
+  -- a definition that is refused
+  pub Amasses-fails : {x : TreeError} → first_kind us ≡ Key Def → Fails us Definition 0 x → EndsBy (run 200 ts (Begin [])) x
+  Amasses-fails {x = x} q f = EndsBy-at x (g.comes ∙ Begin-def us (def_trees ds) q) (f.fails (Outer (def_trees ds) ∷ []))
+
+  -- neither a definition comes nor the end
+  pub Amasses-stops : (x : TreeError) → (first_kind us ≡ Key Def → ⊥) → (first_kind us ≡ End → ⊥) → x ≡ Unexpected (first_start us) → EndsBy (run 200 ts (Begin [])) x
+  Amasses-stops x q f j = EndsBy-at x g.comes (rw j (run-early us (Begin (def_trees ds)) g.ends (λ t i.
+      let n : wants t Definition 0 (Outer (def_trees ds) ∷ []) ≡ None = wants-none t (first_kind us) (def_trees ds) i q in
+      rw (n, ends-none t.kind (ahead (def_trees ds) none) (λ k. f (sym i ∙ k))) refl)))
+
+  -- the end comes
+  pub Amasses-accepts : first_kind us ≡ End → run 200 ts (Begin []) ≡ Accepted (defs_tree ds)
+  Amasses-accepts q = g.comes ∙ run-last us (Begin (def_trees ds)) (ahead (def_trees ds) none) g.ends q (λ t i.
+      let n : wants t Definition 0 (Outer (def_trees ds) ∷ []) ≡ None = wants-none t End (def_trees ds) i (λ j. cc) in
+      rw (n, ends-end t.kind (ahead (def_trees ds) none) i) refl) ∙ ap Accepted (ahead-none ds)

@@ -1,18 +1,18 @@
 -- From a refused run to the first token after which nothing goes on.
-use Rattle.std.proofs.Common.{◌≡◌, ℕ, ◌+◌, ◌≤◌, ◌<◌, Bool, true, false, cond, leb, Option, Some, None, List, [], ◌∷◌, ◌++◌, refl, sym, ap, ◌∙◌, subst, append_assoc, append-nil, arith, leb-true, leb-false}
+use Rattle.std.proofs.Common.{◌≡◌, ℕ, ◌+◌, ◌≤◌, ◌<◌, Bool, true, false, cond, leb, Option, Some, None, List, [], ◌∷◌, ◌++◌, refl, sym, ap, ◌∙◌, subst, append_assoc, append-nil, arith, leb-true, leb-false, zero-le}
 use Rattle.id_text.specs.Tokens.{Rises}
 use Rattle.id_text.specs.declared.token.Token.{Token}
 use Rattle.id_tree.specs.Tree.{Tree}
 use Rattle.id_tree.specs.declared.tree.TreeError.{TreeError}
 use Rattle.id_tree.specs.declared.tree.TreeError.TheVariants.{Unexpected, TooDeep, Memory}
 use Rattle.id_tree.specs.Readers.{EndsBy}
-use Rattle.id_tree.specs.Grammar.{Phrase, Rest, done, word, name, of_kind, part, own_height, Program}
+use Rattle.id_tree.specs.Grammar.{Phrase, Rest, done, word, optional, name, of_kind, part, own_height, Program}
 use Rattle.id_tree.specs.Accepted.{Accepts, GoesOn, GoesOnDeeper, StopsAt, RefusedBy, IsMemory}
 use Rattle.id_tree.specs.Machine.{Move, pick, takes, Frame, State, Begin, Want, Have, Next, Finished, Accepted, Refused, run}
 use Rattle.id_tree.specs.Standing.{Around, outermost, unconditionally, left, right, plainly, inside, Stands, begun, wanting, having, within, finished, Roomy}
 use Rattle.id_tree.proofs.RunLemmas.{run-step, run-none, run-deep}
 use Rattle.id_tree.proofs.CompleteLemmas.{run-program}
-use Rattle.id_tree.proofs.SoundLemmas.{Moves, Moves-takes}
+use Rattle.id_tree.proofs.SoundLemmas.{Moves, Moves-takes, Defined-none}
 use Rattle.id_tree.proofs.FinishLemmas.{Laid-append, Laid-front, Rises-laid, Laid-rises, Stands-completed}
 
 -- why a token is refused: nothing takes it, or only with more nesting
@@ -34,7 +34,7 @@ record Stopped (n : ℕ) (S : State) (us ts : List Token) (deep : Bool) (at : �
 
 run-nothing : (n : ℕ) (S : State) (deep : Bool) (at : ℕ) → run n [] S ≡ Refused deep at → ⊥
 unfolding run
-run-nothing n Begin deep at q = cc
+run-nothing n (Begin ds) deep at q = cc
 run-nothing n (Want s d K) deep at q = cc
 run-nothing n (Have e h K) deep at q = cc
 run-nothing n (Next r h d c K) deep at q = cc
@@ -93,12 +93,13 @@ stopped n S us (t ∷ ts) deep at st q = Stopped-move n S us t ts deep at st (λ
 Roomy-wider : (n m d : ℕ) (r : Rest) → n ≤ m → Roomy n d r → Roomy m d r
 Roomy-wider n m d (done e) w q = tt
 Roomy-wider n m d (word v r) w q = Roomy-wider n m d r w q
+Roomy-wider n m d (optional v r e) w q = Roomy-wider n m d r w q
 Roomy-wider n m d (name f) w q = λ x p. Roomy-wider n m d (f x p) w (q x p)
 Roomy-wider n m d (of_kind f) w q = λ k. Roomy-wider n m d (f k) w (q k)
 Roomy-wider n m d (part s f) w q = (omega (arith, q.0), λ a. Roomy-wider n m d (f a) w (q.1 a))
 
 Around-wider : {n : ℕ} {s : Phrase} {d : ℕ} {K : List Frame} {us : List Token} → Around n s d K us → (m : ℕ) → n ≤ m → Around m s d K us
-Around-wider outermost m w = outermost
+Around-wider (outermost p v) m w = outermost p (omega arith)
 Around-wider (left a) m w = left (Around-wider a m w)
 Around-wider (right a y t q fit) m w = right (Around-wider a m w) y t q (omega arith)
 Around-wider (unconditionally a) m w = unconditionally (Around-wider a m w)
@@ -107,7 +108,7 @@ Around-wider {n = n} (inside {s = s} {f = f} {d = d} a b fit roomy) m w = inside
 
 -- what stands within n stands within more
 Stands-wider : {n : ℕ} {S : State} {us : List Token} → Stands n S us → (m : ℕ) → n ≤ m → Stands m S us
-Stands-wider begun m w = begun
+Stands-wider (begun p v) m w = begun p (omega arith)
 Stands-wider (wanting a v) m w = wanting (Around-wider a m w) (omega arith)
 Stands-wider (having a x v) m w = having (Around-wider a m w) x (omega arith)
 Stands-wider {n = n} (within {s = s} {r = r} {d = d} a b v roomy) m w = within (Around-wider a m w) b (omega arith) (Roomy-wider n m (d + own_height s) r w roomy)
@@ -130,19 +131,19 @@ goes_deeper n us vs S q st =
 
 module _ (ts : List Token) (rises : Rises ts) (at : ℕ) where
   -- what a token refuses is refused whatever stands behind it
-  refuses : (deep : Bool) (r : Stopped 200 Begin [] ts deep at) (vs : List Token) → run 200 (r.front ++ r.token ∷ vs) Begin ≡ Refused deep r.token.start
+  refuses : (deep : Bool) (r : Stopped 200 (Begin []) [] ts deep at) (vs : List Token) → run 200 (r.front ++ r.token ∷ vs) (Begin []) ≡ Refused deep r.token.start
   refuses false r vs = r.alike 200 (omega arith) (r.token ∷ vs) ∙ run-none 200 r.token vs r.last r.why
   refuses true r vs = r.alike 200 (omega arith) (r.token ∷ vs) ∙ run-deep 200 r.token vs r.last r.why.0 r.why.1 r.why.2
 
-  no_program : (deep : Bool) (r : Stopped 200 Begin [] ts deep at) → GoesOn (r.front ++ r.token ∷ []) → ⊥
+  no_program : (deep : Bool) (r : Stopped 200 (Begin []) [] ts deep at) → GoesOn (r.front ++ r.token ∷ []) → ⊥
   no_program deep r g =
       let yes = run-program g.accepts.derives 200 g.accepts.fits in
       let no = refuses deep r g.behind in
       let e = append_assoc r.front (r.token ∷ []) g.behind in
-      let both : Accepted g.tree ≡ Refused deep r.token.start = sym yes ∙ ap (λ xs. run 200 xs Begin) e ∙ no in
+      let both : Accepted g.tree ≡ Refused deep r.token.start = sym yes ∙ ap (λ xs. run 200 xs (Begin [])) e ∙ no in
       cc
 
-  abbrev stops_at : (deep : Bool) → Stopped 200 Begin [] ts deep at → StopsAt ts at
+  abbrev stops_at : (deep : Bool) → Stopped 200 (Begin []) [] ts deep at → StopsAt ts at
   stops_at deep r = record {
     front = r.front;
     token = r.token;
@@ -153,16 +154,16 @@ module _ (ts : List Token) (rises : Rises ts) (at : ℕ) where
     stops = no_program deep r;
   }
 
-  no_deeper : (r : Stopped 200 Begin [] ts false at) → GoesOnDeeper (r.front ++ r.token ∷ []) → ⊥
+  no_deeper : (r : Stopped 200 (Begin []) [] ts false at) → GoesOnDeeper (r.front ++ r.token ∷ []) → ⊥
   no_deeper r g =
       let n = 200 + g.height in
       let yes = run-program g.derives n (omega arith) in
       let no = r.alike n (omega arith) (r.token ∷ g.behind) ∙ run-none n r.token g.behind r.last r.why in
       let e = append_assoc r.front (r.token ∷ []) g.behind in
-      let both : Accepted g.tree ≡ Refused false r.token.start = sym yes ∙ ap (λ xs. run n xs Begin) e ∙ no in
+      let both : Accepted g.tree ≡ Refused false r.token.start = sym yes ∙ ap (λ xs. run n xs (Begin [])) e ∙ no in
       cc
 
-  deeper : (r : Stopped 200 Begin [] ts true at) → GoesOnDeeper (r.front ++ r.token ∷ [])
+  deeper : (r : Stopped 200 (Begin []) [] ts true at) → GoesOnDeeper (r.front ++ r.token ∷ [])
   deeper r =
       let m = r.why.0 in
       let st = Stands-wider r.stands m.need (omega (arith, r.why.2)) in
@@ -170,12 +171,12 @@ module _ (ts : List Token) (rises : Rises ts) (at : ℕ) where
       goes_deeper m.need (r.front ++ r.token ∷ []) r.behind m.next (subst Rises (r.whole ∙ sym (append_assoc r.front (r.token ∷ []) r.behind)) rises) next
 
   -- a run that refuses without regard to nesting
-  pub Refused-unexpected : run 200 ts Begin ≡ Refused false at → RefusedBy ts (Unexpected at)
-  Refused-unexpected q = let r = stopped 200 Begin [] ts false at begun q in (stops_at false r, no_deeper r)
+  pub Refused-unexpected : run 200 ts (Begin []) ≡ Refused false at → RefusedBy ts (Unexpected at)
+  Refused-unexpected q = let r = stopped 200 (Begin []) [] ts false at (begun Defined-none zero-le) q in (stops_at false r, no_deeper r)
 
   -- a run that refuses for the nesting
-  pub Refused-deep : run 200 ts Begin ≡ Refused true at → RefusedBy ts (TooDeep at)
-  Refused-deep q = let r = stopped 200 Begin [] ts true at begun q in (stops_at true r, deeper r)
+  pub Refused-deep : run 200 ts (Begin []) ≡ Refused true at → RefusedBy ts (TooDeep at)
+  Refused-deep q = let r = stopped 200 (Begin []) [] ts true at (begun Defined-none zero-le) q in (stops_at true r, deeper r)
 
 -- the tokens are a program that fits
 abbrev IsWhole : ℕ → List Token → Tree → Type 0
@@ -183,7 +184,7 @@ IsWhole n ts e = (h : ℕ) × Program ts e h × (h ≤ n)
 
 Whole-end : {n : ℕ} {S : State} {us : List Token} → Stands n S us → (e : Tree) → run n [] S ≡ Accepted e → IsWhole n us e
 unfolding run
-Whole-end begun e q = cc
+Whole-end (begun p w) e q = cc
 Whole-end (wanting a w) e q = cc
 Whole-end (having a x w) e q = cc
 Whole-end (within a b w roomy) e q = cc
@@ -206,19 +207,19 @@ Whole-run n S us [] e st q = subst (λ xs. IsWhole n xs e) (sym (append-nil us))
 Whole-run n S us (t ∷ ts) e st q = Whole-move n us t ts e
     (λ T s r. subst (λ xs. IsWhole n xs e) (append_assoc us (t ∷ []) ts) (Whole-run n T (us ++ t ∷ []) ts e s r)) (takes t S) (Moves-takes n t st) q
 
-pub Accepts-from_run : (ts : List Token) (e : Tree) → run 200 ts Begin ≡ Accepted e → Accepts ts e
-Accepts-from_run ts e q = let p = Whole-run 200 Begin [] ts e begun q in record { height = p.0; derives = p.1; fits = p.2 }
+pub Accepts-from_run : (ts : List Token) (e : Tree) → run 200 ts (Begin []) ≡ Accepted e → Accepts ts e
+Accepts-from_run ts e q = let p = Whole-run 200 (Begin []) [] ts e (begun Defined-none zero-le) q in record { height = p.0; derives = p.1; fits = p.2 }
 
 -- a run's end settles all that `parse` promises
-pub RefusedBy-from_run : (ts : List Token) (x : TreeError) → Rises ts → EndsBy (run 200 ts Begin) x → RefusedBy ts x
+pub RefusedBy-from_run : (ts : List Token) (x : TreeError) → Rises ts → EndsBy (run 200 ts (Begin [])) x → RefusedBy ts x
 RefusedBy-from_run ts (Unexpected at) q r = Refused-unexpected ts q at r
 RefusedBy-from_run ts (TooDeep at) q r = Refused-deep ts q at r
 RefusedBy-from_run ts Memory q r = tt
 
-pub Same-from_run : (ts : List Token) (a e : Tree) → run 200 ts Begin ≡ Accepted a → Accepts ts e → a ≡ e
+pub Same-from_run : (ts : List Token) (a e : Tree) → run 200 ts (Begin []) ≡ Accepted a → Accepts ts e → a ≡ e
 Same-from_run ts a e q p = let both : Accepted a ≡ Accepted e = sym q ∙ run-program p.derives 200 p.fits in cc
 
-pub IsMemory-from_run : (ts : List Token) (x : TreeError) (e : Tree) → EndsBy (run 200 ts Begin) x → Accepts ts e → IsMemory x
+pub IsMemory-from_run : (ts : List Token) (x : TreeError) (e : Tree) → EndsBy (run 200 ts (Begin [])) x → Accepts ts e → IsMemory x
 IsMemory-from_run ts (Unexpected at) e q p = let both : Refused false at ≡ Accepted e = sym q ∙ run-program p.derives 200 p.fits in cc
 IsMemory-from_run ts (TooDeep at) e q p = let both : Refused true at ≡ Accepted e = sym q ∙ run-program p.derives 200 p.fits in cc
 IsMemory-from_run ts Memory e q p = refl

@@ -1,22 +1,40 @@
 -- What each production keeps, from which the machine's lemmas follow for all of them at once.
-use Rattle.std.proofs.Common.{◌≡◌, ℕ, ◌+◌, ◌≤◌, max, Some, None, List, refl, arith}
+use Rattle.std.proofs.Common.{◌≡◌, ℕ, ◌+◌, ◌≤◌, max, Bool, true, false, Some, None, List, refl, sym, ap, ◌∙◌, arith, zero-le}
+use denote.Enum.Bare.{same_true, true_same}
+use Rattle.id_text.specs.contracts.token.Keyword as keyword
+use Rattle.id_text.specs.contracts.token.Symbol as symbol
 use Rattle.id_text.specs.declared.token.Token.{Token}
 use Rattle.id_text.specs.declared.token.TokenKind.{TokenKind}
 use Rattle.id_text.specs.declared.token.TokenKind.TheVariants.{Key, Sign}
 use Rattle.id_text.specs.declared.token.Keyword.TheVariants.{And, Or}
-use Rattle.id_text.specs.declared.token.Symbol.TheVariants.{Equal, NotEqual, Less, LessEqual, Greater, GreaterEqual, Plus, Minus}
+use Rattle.id_text.specs.declared.token.Symbol.TheVariants.{LeftParen, RightParen, Comma, Equal, NotEqual, Less, LessEqual, Greater, GreaterEqual, Plus, Minus}
+use Rattle.id_tree.specs.declared.tokens.Word.{Word}
+use Rattle.id_tree.specs.declared.tokens.Word.TheVariants as the
 use Rattle.id_value.specs.declared.BinaryOp.{BinaryOp}
 use Rattle.id_value.specs.declared.Kind.{Kind}
 use Rattle.id_tree.specs.declared.parser.Level.{Level}
 use Rattle.id_tree.specs.declared.parser.Level.TheVariants as level
 use Rattle.id_tree.specs.Tree.{Tree}
-use Rattle.id_tree.specs.Grammar.{Phrase, Definition, Parameters, MoreParameters, Expression, Grouped, Negation, Unary, Tail, kind_of, Rest, done, word, name, of_kind, part, Opens, definition, no_parameters, first_parameter, last_parameter, next_parameter, by_conditional, denied, negated, number, by_true, by_false, parens, by_name, by_block, by_binding, by_body, operand, left_operand, operator_of, own_height, Derives, opened, unconditional, single, grouped, plain, Follows, ended, taken, named, kinded, given}
-use Rattle.id_tree.specs.Machine.{opening, least_height, room}
+use Rattle.id_tree.specs.Grammar.{Phrase, Definition, Parameters, MoreParameters, Expression, Grouped, Negation, Unary, Arguments, MoreArguments, Tail, kind_of, arguments_of, Rest, done, word, optional, name, of_kind, part, Opens, definition, no_parameters, first_parameter, last_parameter, next_parameter, by_conditional, denied, negated, number, by_true, by_false, parens, by_name, by_block, no_arguments, last_argument, next_argument, by_binding, by_body, operand, left_operand, operator_of, own_height, Derives, opened, unconditional, single, grouped, plain, some_arguments, Follows, ended, taken, chosen, left_out, named, kinded, given}
+use Rattle.id_tree.specs.Machine.{opening, least_height, room, is_word}
 use Rattle.id_tree.specs.Standing.{Roomy}
 
--- a kind is no operator of a sum, nor of what is tighter
+-- whether a kind is the bracket with which the arguments of a call begin
+abbrev pub is_bracket : TokenKind → Bool
+is_bracket (Sign LeftParen) = true
+is_bracket _ = false
+
+-- a kind is no such bracket
+abbrev pub QuietUnary : TokenKind → Type 0
+QuietUnary k = is_bracket k ≡ false
+
+-- nor an operator of a product
+abbrev pub QuietProduct : TokenKind → Type 0
+QuietProduct k = (operator_of level.Product k ≡ None) × QuietUnary k
+
+-- nor of a sum
 abbrev pub QuietSum : TokenKind → Type 0
-QuietSum k = (operator_of level.Sum k ≡ None) × (operator_of level.Product k ≡ None)
+QuietSum k = (operator_of level.Sum k ≡ None) × QuietProduct k
 
 -- nor of a comparison
 abbrev pub QuietComparison : TokenKind → Type 0
@@ -30,7 +48,7 @@ QuietAnd k = (operator_of level.And k ≡ None) × QuietComparison k
 abbrev pub QuietOr : TokenKind → Type 0
 QuietOr k = (operator_of level.Or k ≡ None) × QuietAnd k
 
--- a kind is no operator within the phrase
+-- a kind goes on nothing within the phrase
 abbrev pub Quiet : Phrase → TokenKind → Type 0
 Quiet Definition k = Unit {0}
 Quiet Parameters k = Unit {0}
@@ -40,23 +58,32 @@ Quiet (Grouped level.Or) k = QuietOr k
 Quiet (Grouped level.And) k = QuietAnd k
 Quiet (Grouped level.Comparison) k = QuietComparison k
 Quiet (Grouped level.Sum) k = QuietSum k
-Quiet (Grouped level.Product) k = operator_of level.Product k ≡ None
+Quiet (Grouped level.Product) k = QuietProduct k
 Quiet Negation k = QuietComparison k
-Quiet Unary k = Unit {0}
+Quiet Unary k = QuietUnary k
+Quiet Arguments k = Unit {0}
+Quiet MoreArguments k = Unit {0}
 Quiet Tail k = Unit {0}
 
 -- what is left of a production of the phrase s0 does not go on a part of the phrase s
 abbrev pub Ends : Phrase → Phrase → Rest → Type 0
 Ends s0 s (done e) = (k : TokenKind) → Quiet s0 k → Quiet s k
 Ends s0 s (word w r) = Quiet s (kind_of w)
+Ends s0 s (optional w r e) = ⊥
 Ends s0 s (name f) = ⊥
 Ends s0 s (of_kind f) = ⊥
+Ends s0 s (part MoreArguments f) = Quiet s (Sign RightParen) × Quiet s (Sign Comma)
 Ends s0 s (part s' f) = ⊥
 
--- no part is gone on by what stands behind it
+-- a word is none with which anything within the phrase goes on
+abbrev Bars : Phrase → Word → Type 0
+Bars s0 w = (k : TokenKind) → Quiet s0 k → is_word w k ≡ false
+
+-- no part is gone on by what stands behind it, nor a production that could go on
 abbrev pub Parts : Phrase → Rest → Type 0
 Parts s0 (done e) = Unit {0}
 Parts s0 (word w r) = Parts s0 r
+Parts s0 (optional w r e) = Bars s0 w × Parts s0 r
 Parts s0 (name f) = (x : List ℕ) (p : ℕ) → Parts s0 (f x p)
 Parts s0 (of_kind f) = (k : Kind) → Parts s0 (f k)
 Parts s0 (part s f) = (a : Tree) → Ends s0 s (f a) × Parts s0 (f a)
@@ -65,6 +92,7 @@ Parts s0 (part s f) = (a : Tree) → Ends s0 s (f a) × Parts s0 (f a)
 abbrev pub Needs : ℕ → Rest → Type 0
 Needs m (done e) = m ≤ 0
 Needs m (word w r) = Needs m r
+Needs m (optional w r e) = m ≤ 0
 Needs m (name f) = (x : List ℕ) (p : ℕ) → Needs m (f x p)
 Needs m (of_kind f) = (k : Kind) → Needs m (f k)
 Needs m (part s f) = (k : ℕ) × (m ≤ max (least_height s) k) × ((a : Tree) → Needs k (f a))
@@ -77,9 +105,35 @@ pub record Valid (s : Phrase) (r : Rest) : Type 0 where
   pub needs : Needs (room r) r
   pub roomy : (n d : ℕ) → d + room r ≤ n → Roomy n d r
 
+-- the word test is true of the word alone
+pub is_word-same : (w : Word) (k : TokenKind) → k ≡ kind_of w → is_word w k ≡ true
+is_word-same (the.Key j) k e = rw e (true_same keyword.the_type j j refl)
+is_word-same (the.Sign j) k e = rw e (true_same symbol.the_type j j refl)
+
+pub same-is_word : (w : Word) (k : TokenKind) → is_word w k ≡ true → k ≡ kind_of w
+same-is_word (the.Key j) (Key k) e = ap Key (same_true keyword.the_type tt k j e)
+same-is_word (the.Sign j) (Sign k) e = ap Sign (same_true symbol.the_type tt k j e)
+same-is_word (the.Key j) _ e = cc
+same-is_word (the.Sign j) _ e = cc
+
+-- what is no bracket is not the word for one
+not_bracket : (k : TokenKind) → is_bracket k ≡ false → is_word (the.Sign LeftParen) k ≡ false
+not_bracket k q = tested (is_word (the.Sign LeftParen) k) refl
+  where
+    tested : (b : Bool) → is_word (the.Sign LeftParen) k ≡ b → is_word (the.Sign LeftParen) k ≡ false
+    tested true i = let e = same-is_word (the.Sign LeftParen) k i in absurd (no_truth (ap is_bracket (sym e) ∙ q))
+      where
+        no_truth : true ≡ false → ⊥
+        no_truth e = cc
+    tested false i = i
+
+-- behind an argument comes a comma or the closing bracket
+pub arguments_parts : (s0 : Phrase) → Parts s0 arguments_of
+arguments_parts s0 = λ e. (((refl, (refl, (refl, (refl, (refl, refl))))), (refl, (refl, (refl, (refl, (refl, refl)))))), λ a. (λ k q. tt, tt))
+
 pub valid : {s : Phrase} {k : TokenKind} {p : ℕ} {r : Rest} → Opens s k p r → Valid s r
 valid definition = record {
-  parts = λ x p a. (tt, λ k e. ((refl, (refl, (refl, (refl, refl)))), tt));
+  parts = λ x p a. (tt, λ k e. ((refl, (refl, (refl, (refl, (refl, refl))))), tt));
   high = omega arith;
   needs = λ x p. (1, omega arith, λ a k. (0, omega arith, λ e. omega arith));
   roomy = λ n d h x p. (omega arith, λ a k. (h, λ e. tt));
@@ -109,7 +163,7 @@ valid next_parameter = record {
   roomy = λ n d h x p k. (h, λ a. tt);
 }
 valid by_conditional = record {
-  parts = λ t. ((refl, (refl, (refl, (refl, refl)))), λ x. ((refl, (refl, (refl, (refl, refl)))), λ y. (λ k q. q, tt)));
+  parts = λ t. ((refl, (refl, (refl, (refl, (refl, refl))))), λ x. ((refl, (refl, (refl, (refl, (refl, refl))))), λ y. (λ k q. q, tt)));
   high = omega arith;
   needs = (0, omega arith, λ t. (0, omega arith, λ x. (0, omega arith, λ y. omega arith)));
   roomy = λ n d h. (h, λ t. (h, λ x. (h, λ y. tt)));
@@ -121,7 +175,7 @@ valid denied = record {
   roomy = λ n d h. (h, λ e. tt);
 }
 valid negated = record {
-  parts = λ e. (λ k q. tt, tt);
+  parts = λ e. (λ k q. q, tt);
   high = omega arith;
   needs = (0, omega arith, λ e. omega arith);
   roomy = λ n d h. (h, λ e. tt);
@@ -130,26 +184,39 @@ valid number = record { parts = tt; high = omega arith; needs = omega arith; roo
 valid by_true = record { parts = tt; high = omega arith; needs = omega arith; roomy = λ n d h. tt }
 valid by_false = record { parts = tt; high = omega arith; needs = omega arith; roomy = λ n d h. tt }
 valid parens = record {
-  parts = λ e. ((refl, (refl, (refl, (refl, refl)))), tt);
+  parts = λ e. ((refl, (refl, (refl, (refl, (refl, refl))))), tt);
   high = omega arith;
   needs = (0, omega arith, λ e. omega arith);
   roomy = λ n d h. (h, λ e. tt);
 }
-valid by_name = record { parts = tt; high = omega arith; needs = omega arith; roomy = λ n d h. tt }
+valid by_name = record {
+  parts = (not_bracket, λ a. (λ k q. tt, tt));
+  high = omega arith;
+  needs = omega arith;
+  roomy = λ n d h. (h, λ a. tt);
+}
 valid by_block = record {
   parts = λ a. (λ k q. tt, tt);
   high = omega arith;
   needs = (0, omega arith, λ a. omega arith);
   roomy = λ n d h. (h, λ a. tt);
 }
+valid no_arguments = record { parts = tt; high = omega arith; needs = omega arith; roomy = λ n d h. tt }
+valid last_argument = record { parts = tt; high = omega arith; needs = omega arith; roomy = λ n d h. tt }
+valid next_argument = record {
+  parts = arguments_parts MoreArguments;
+  high = omega arith;
+  needs = (0, omega arith, λ e. (0, omega arith, λ a. omega arith));
+  roomy = λ n d h. (h, λ e. (omega arith, λ a. tt));
+}
 valid by_binding = record {
-  parts = λ e. ((refl, (refl, (refl, (refl, refl)))), λ a. (λ k q. tt, tt));
+  parts = λ e. ((refl, (refl, (refl, (refl, (refl, refl))))), λ a. (λ k q. tt, tt));
   high = omega arith;
   needs = (1, omega arith, λ e. (0, omega arith, λ a. omega arith));
   roomy = λ n d h. (h, λ e. (h, λ a. tt));
 }
 valid by_body = record {
-  parts = λ e. ((refl, (refl, (refl, (refl, refl)))), tt);
+  parts = λ e. ((refl, (refl, (refl, (refl, (refl, refl))))), tt);
   high = omega arith;
   needs = (0, omega arith, λ e. omega arith);
   roomy = λ n d h. (h, λ e. tt);
@@ -171,25 +238,31 @@ opening-from_opens by_false = refl
 opening-from_opens parens = refl
 opening-from_opens by_name = refl
 opening-from_opens by_block = refl
+opening-from_opens no_arguments = refl
+opening-from_opens last_argument = refl
+opening-from_opens next_argument = refl
 opening-from_opens by_binding = refl
 opening-from_opens by_body = refl
 
 -- an operator of a level is none of a tighter one
 pub Quiet-operator : (l : Level) (k : TokenKind) (o : BinaryOp) → operator_of l k ≡ Some o → Quiet (operand l) k
-Quiet-operator level.Product k o e = tt
-Quiet-operator level.Sum (Sign Plus) o e = refl
-Quiet-operator level.Sum (Sign Minus) o e = refl
+Quiet-operator level.Product (Sign LeftParen) o e = cc
+Quiet-operator level.Product (Sign _) o e = refl
+Quiet-operator level.Product (Key _) o e = refl
+Quiet-operator level.Product _ o e = cc
+Quiet-operator level.Sum (Sign Plus) o e = (refl, refl)
+Quiet-operator level.Sum (Sign Minus) o e = (refl, refl)
 Quiet-operator level.Sum _ o e = cc
-Quiet-operator level.Comparison (Sign Equal) o e = (refl, refl)
-Quiet-operator level.Comparison (Sign NotEqual) o e = (refl, refl)
-Quiet-operator level.Comparison (Sign Less) o e = (refl, refl)
-Quiet-operator level.Comparison (Sign LessEqual) o e = (refl, refl)
-Quiet-operator level.Comparison (Sign Greater) o e = (refl, refl)
-Quiet-operator level.Comparison (Sign GreaterEqual) o e = (refl, refl)
+Quiet-operator level.Comparison (Sign Equal) o e = (refl, (refl, refl))
+Quiet-operator level.Comparison (Sign NotEqual) o e = (refl, (refl, refl))
+Quiet-operator level.Comparison (Sign Less) o e = (refl, (refl, refl))
+Quiet-operator level.Comparison (Sign LessEqual) o e = (refl, (refl, refl))
+Quiet-operator level.Comparison (Sign Greater) o e = (refl, (refl, refl))
+Quiet-operator level.Comparison (Sign GreaterEqual) o e = (refl, (refl, refl))
 Quiet-operator level.Comparison _ o e = cc
-Quiet-operator level.And (Key And) o e = (refl, (refl, refl))
+Quiet-operator level.And (Key And) o e = (refl, (refl, (refl, refl)))
 Quiet-operator level.And _ o e = cc
-Quiet-operator level.Or (Key Or) o e = (refl, (refl, (refl, refl)))
+Quiet-operator level.Or (Key Or) o e = (refl, (refl, (refl, (refl, refl))))
 Quiet-operator level.Or _ o e = cc
 
 -- no phrase has a least height above 1
@@ -201,6 +274,8 @@ least-most Expression = omega arith
 least-most (Grouped l) = omega arith
 least-most Negation = omega arith
 least-most Unary = omega arith
+least-most Arguments = omega arith
+least-most MoreArguments = omega arith
 least-most Tail = omega arith
 
 -- what stands before an operator of a level has a height, and so have its operands
@@ -226,11 +301,14 @@ mutual
   Derives-height (single {l = l} d) = omega (arith, operand-least l, Derives-height d)
   Derives-height (grouped a t q b) = omega arith
   Derives-height (plain d) = Derives-height d
+  Derives-height (some_arguments f) = zero-le
 
   -- the parts have the height that they need
   pub Follows-height : {r : Rest} {ts : List Token} {e : Tree} {h : ℕ} → Follows r ts e h → (m : ℕ) → Needs m r → m ≤ h
   Follows-height ended m n = n
   Follows-height (taken q f) m n = Follows-height f m n
+  Follows-height (chosen q f) m n = omega (arith, n)
+  Follows-height left_out m n = n
   Follows-height (named q f) m n = Follows-height f m (n _ _)
   Follows-height (kinded {k = k} q f) m n = Follows-height f m (n k)
   Follows-height (given {a = a} {m = i} {n = j} d f) m n = omega (arith, n.1, Derives-height d, Follows-height f n.0 (n.2 a))

@@ -1,33 +1,18 @@
 -- Runs of the machine, step by step.
-use Rattle.std.proofs.Common.{◌≡◌, ℕ, ◌+◌, ◌≤◌, ◌<◌, max, true, false, Some, None, List, [], ◌∷◌, refl, ap, zero-le, le-leb}
+use Rattle.std.proofs.Common.{◌≡◌, ℕ, ◌+◌, ◌≤◌, ◌<◌, max, true, false, Some, None, List, [], ◌∷◌, ◌++◌, refl, zero-le, le-leb}
 use Rattle.std.proofs.lemmas.Bool.{lt-leb}
-use denote.Enum.Bare.{same_true, true_same}
-use Rattle.id_text.specs.contracts.token.Keyword as keyword
-use Rattle.id_text.specs.contracts.token.Symbol as symbol
 use Rattle.id_text.specs.declared.token.Token.{Token}
 use Rattle.id_text.specs.declared.token.TokenKind.{TokenKind}
-use Rattle.id_text.specs.declared.token.TokenKind.TheVariants.{Name, Key, Sign}
+use Rattle.id_text.specs.declared.token.TokenKind.TheVariants.{Name}
 use Rattle.id_tree.specs.declared.parser.Level.{Level}
 use Rattle.id_tree.specs.declared.parser.Level.TheVariants as level
 use Rattle.id_tree.specs.declared.tokens.Word.{Word}
-use Rattle.id_tree.specs.declared.tokens.Word.TheVariants as the
 use Rattle.id_value.specs.declared.Kind.{Kind}
 use Rattle.id_value.specs.declared.BinaryOp.{BinaryOp}
 use Rattle.id_tree.specs.Tree.{Tree, binary}
-use Rattle.id_tree.specs.Grammar.{Phrase, Definition, Parameters, MoreParameters, Expression, Grouped, Negation, Unary, Tail, kind_of, Rest, done, word, name, of_kind, part, kind_named, Opens, operand, operator_of, own_height}
-use Rattle.id_tree.specs.Machine.{opening, room, Frame, Left, Right, Inside, again, State, Want, Have, Next, Move, is_word, takes, Refused, run}
-use Rattle.id_tree.proofs.RowLemmas.{opening-from_opens}
-
--- the word test is true of the word alone
-pub is_word-same : (w : Word) (k : TokenKind) → k ≡ kind_of w → is_word w k ≡ true
-is_word-same (the.Key j) k e = rw e (true_same keyword.the_type j j refl)
-is_word-same (the.Sign j) k e = rw e (true_same symbol.the_type j j refl)
-
-pub same-is_word : (w : Word) (k : TokenKind) → is_word w k ≡ true → k ≡ kind_of w
-same-is_word (the.Key j) (Key k) e = ap Key (same_true keyword.the_type tt k j e)
-same-is_word (the.Sign j) (Sign k) e = ap Sign (same_true symbol.the_type tt k j e)
-same-is_word (the.Key j) _ e = cc
-same-is_word (the.Sign j) _ e = cc
+use Rattle.id_tree.specs.Grammar.{Phrase, Definition, Parameters, MoreParameters, Expression, Grouped, Negation, Unary, Arguments, MoreArguments, Tail, kind_of, arguments_of, Rest, done, word, optional, name, of_kind, part, kind_named, Opens, operand, operator_of, own_height}
+use Rattle.id_tree.specs.Machine.{opening, room, Frame, Left, Right, Inside, Outer, again, State, Begin, Want, Have, Next, Move, is_word, takes, Refused, run}
+use Rattle.id_tree.proofs.RowLemmas.{opening-from_opens, is_word-same}
 
 module _ (n : ℕ) (t : Token) (ts : List Token) where
   -- a token that is taken
@@ -49,6 +34,10 @@ module _ (n : ℕ) (t : Token) (ts : List Token) where
   pub run-word : (w : Word) (r : Rest) (h d c : ℕ) (K : List Frame) → t.kind ≡ kind_of w → run n (t ∷ ts) (Next (word w r) h d c K) ≡ run n ts (Next r h d c K)
   run-word w r h d c K q = let b = is_word-same w t.kind q in run-step (Next (word w r) h d c K) (record { need = 0; next = Next r h d c K }) (rw b refl) zero-le
 
+  -- a word that may be left out
+  pub run-chosen : (w : Word) (r : Rest) (a : Tree) (h d c : ℕ) (K : List Frame) → t.kind ≡ kind_of w → run n (t ∷ ts) (Next (optional w r a) h d c K) ≡ run n ts (Next r h d c K)
+  run-chosen w r a h d c K q = let b = is_word-same w t.kind q in run-step (Next (optional w r a) h d c K) (record { need = 0; next = Next r h d c K }) (rw b refl) zero-le
+
   -- a name
   pub run-name : (x : List ℕ) (f : List ℕ → ℕ → Rest) (h d c : ℕ) (K : List Frame) → t.kind ≡ Name x → run n (t ∷ ts) (Next (name f) h d c K) ≡ run n ts (Next (f x t.start) h d c K)
   run-name x f h d c K q = run-step (Next (name f) h d c K) (record { need = 0; next = Next (f x t.start) h d c K }) (rw q refl) zero-le
@@ -65,6 +54,8 @@ module _ (n : ℕ) (t : Token) (ts : List Token) where
   run-opens Expression r d K o h = run-step (Want Expression d K) _ (rw (opening-from_opens o) refl) h
   run-opens Negation r d K o h = run-step (Want Negation d K) _ (rw (opening-from_opens o) refl) h
   run-opens Unary r d K o h = run-step (Want Unary d K) _ (rw (opening-from_opens o) refl) h
+  run-opens Arguments r d K o h = run-step (Want Arguments d K) _ (rw (opening-from_opens o) refl) h
+  run-opens MoreArguments r d K o h = run-step (Want MoreArguments d K) _ (rw (opening-from_opens o) refl) h
   run-opens Tail r d K o h = run-step (Want Tail d K) _ (rw (opening-from_opens o) refl) h
   run-opens (Grouped l) r d K o h = elim o [ ]
 
@@ -76,6 +67,8 @@ module _ (n : ℕ) (t : Token) (ts : List Token) where
       run-deep (Want Expression d K) (record { need = d + 1 + room r; next = Next r 0 (d + 1) 1 K }) (rw (opening-from_opens o) refl) h
   run-opens-deep Negation r d K o h = run-deep (Want Negation d K) (record { need = d + 1 + room r; next = Next r 0 (d + 1) 1 K }) (rw (opening-from_opens o) refl) h
   run-opens-deep Unary r d K o h = run-deep (Want Unary d K) (record { need = d + 1 + room r; next = Next r 0 (d + 1) 1 K }) (rw (opening-from_opens o) refl) h
+  run-opens-deep Arguments r d K o h = run-deep (Want Arguments d K) (record { need = d + 0 + room r; next = Next r 0 (d + 0) 0 K }) (rw (opening-from_opens o) refl) h
+  run-opens-deep MoreArguments r d K o h = run-deep (Want MoreArguments d K) (record { need = d + 0 + room r; next = Next r 0 (d + 0) 0 K }) (rw (opening-from_opens o) refl) h
   run-opens-deep Tail r d K o h = run-deep (Want Tail d K) (record { need = d + 0 + room r; next = Next r 0 (d + 0) 0 K }) (rw (opening-from_opens o) refl) h
   run-opens-deep (Grouped l) r d K o h = elim o [ ]
 
@@ -109,6 +102,12 @@ run-right n (t ∷ ts) b k level.Comparison o a m p d K = refl
 run-right n (t ∷ ts) b k level.Sum o a m p d K = refl
 run-right n (t ∷ ts) b k level.Product o a m p d K = refl
 
+-- a definition that has come stands behind those before it
+pub run-outer : (n : ℕ) (ts : List Token) (e : Tree) (h : ℕ) (ds : List Tree) → run n ts (Have e h (Outer ds ∷ [])) ≡ run n ts (Begin (ds ++ e ∷ []))
+unfolding run
+run-outer n [] e h ds = refl
+run-outer n (t ∷ ts) e h ds = refl
+
 pub run-level : (n : ℕ) (ts : List Token) (l : Level) (d : ℕ) (K : List Frame) → run n ts (Want (Grouped l) d K) ≡ run n ts (Want (operand l) d (Left l d ∷ K))
 unfolding run
 run-level n [] l d K = refl
@@ -141,6 +140,20 @@ run-plain n (t ∷ ts) d K q = rw q refl
 abbrev pub First : (TokenKind → Type 0) → List Token → Type 0
 First P [] = Unit {0}
 First P (t ∷ ts) = P t.kind
+
+-- where the word is not, it is left out
+pub run-left_out : (n : ℕ) (ts : List Token) (w : Word) (r : Rest) (e : Tree) (h d c : ℕ) (K : List Frame) → First (λ k. is_word w k ≡ false) ts →
+    run n ts (Next (optional w r e) h d c K) ≡ run n ts (Have e (h + c) K)
+unfolding run
+run-left_out n [] w r e h d c K q = refl
+run-left_out n (t ∷ ts) w r e h d c K q = rw q refl
+
+-- without the closing bracket an argument is wanted
+pub run-arguments : (n : ℕ) (ts : List Token) (d : ℕ) (K : List Frame) → Unopened Arguments ts →
+    run n ts (Want Arguments d K) ≡ run n ts (Next arguments_of 0 (d + 0) 0 K)
+unfolding run
+run-arguments n [] d K q = refl
+run-arguments n (t ∷ ts) d K q = rw q refl
 
 -- a level ends where no operator of it stands
 pub run-left : (n : ℕ) (ts : List Token) (l : Level) (e : Tree) (h d : ℕ) (K : List Frame) → First (λ k. operator_of l k ≡ None) ts → run n ts (Have e h (Left l d ∷ K)) ≡ run n ts (Have e h K)

@@ -6,11 +6,12 @@ use Rattle.id_text.specs.declared.token.TokenKind.TheVariants.{Name, End}
 use Rattle.id_tree.specs.declared.parser.Level.{Level}
 use Rattle.id_tree.specs.declared.parser.Level.TheVariants as level
 use Rattle.id_tree.specs.Tree.{Tree, binary, none, more}
-use Rattle.id_tree.specs.Grammar.{Phrase, Definition, Parameters, MoreParameters, Expression, Grouped, Negation, Unary, Tail, Rest, done, word, name, of_kind, part, kind_named, operand, left_operand, operator_of, own_height, Derives, opened, unconditional, single, grouped, plain, ended, taken, named, kinded, given, Program, empty, single_def}
-use Rattle.id_tree.specs.Machine.{opening, Move, pick, is_word, name_in, ends, enters, sums, negates, wants, operates, repeats, nexts, closes, takes, Frame, Left, State}
-use Rattle.id_tree.specs.Standing.{Begins, Roomy, Around, outermost, unconditionally, left, right, plainly, inside, Stands, begun, wanting, having, within, finished}
+use Rattle.id_tree.specs.Grammar.{Phrase, Definition, Parameters, MoreParameters, Expression, Grouped, Negation, Unary, Arguments, MoreArguments, Tail, argument_of, Rest, done, word, optional, name, of_kind, part, kind_named, operand, left_operand, operator_of, own_height, Derives, opened, unconditional, single, grouped, plain, some_arguments, ended, taken, chosen, left_out, named, kinded, given, Program, empty, defined}
+use Rattle.id_tree.specs.Machine.{opening, Move, pick, is_word, name_in, ahead, ends, defines, enters, sums, negates, expresses, wants, operates, repeats, nexts, closes, takes, Frame, Left, Inside, Outer, State}
+use Rattle.id_tree.specs.Standing.{Begins, Defined, Roomy, Around, outermost, unconditionally, left, right, plainly, inside, Stands, begun, wanting, having, within, finished}
 use Rattle.id_tree.proofs.RowLemmas.{valid, least-most, left_operand-least, Derives-height}
-use Rattle.id_tree.proofs.RunLemmas.{same-is_word}
+use Rattle.id_tree.proofs.RowLemmas.{same-is_word}
+use Rattle.id_tree.proofs.CompleteLemmas.{ahead-append}
 
 -- a move within n leads on
 abbrev pub Moves : ℕ → List Token → Option Move → Type 0
@@ -24,6 +25,10 @@ Moves-pick n us (Some a) f d p q = p a refl
 Moves-cond : (n : ℕ) (us : List Token) (b : Bool) (x : Option Move) → (b ≡ true → Moves n us x) → Moves n us (cond b x None)
 Moves-cond n us true x p = p refl
 Moves-cond n us false x p = tt
+
+Moves-if : (n : ℕ) (us : List Token) (b : Bool) (x y : Option Move) → (b ≡ true → Moves n us x) → Moves n us y → Moves n us (cond b x y)
+Moves-if n us true x y p q = p refl
+Moves-if n us false x y p q = q
 
 Moves-at : (n : ℕ) {us vs : List Token} (o : Option Move) → us ≡ vs → Moves n us o → Moves n vs o
 Moves-at n o e h = subst (λ xs. Moves n xs o) e h
@@ -53,6 +58,36 @@ first_operand level.Comparison x = x
 first_operand level.Sum x = single x
 first_operand level.Product x = single x
 
+-- what stands round a part has room for the expressions round it
+Around-fits : {n : ℕ} {s : Phrase} {d : ℕ} {K : List Frame} {us : List Token} → Around n s d K us → d ≤ n
+Around-fits (outermost p v) = zero-le
+Around-fits (unconditionally a) = Around-fits a
+Around-fits (left a) = Around-fits a
+Around-fits (right a x t q fit) = omega arith
+Around-fits (plainly a) = Around-fits a
+Around-fits (inside a b fit roomy) = omega arith
+
+Around-at : {n : ℕ} {s : Phrase} {d : ℕ} {K : List Frame} {us vs : List Token} → us ≡ vs → Around n s d K us → Around n s d K vs
+Around-at {n = n} {s = s} {d = d} {K = K} q a = subst (λ xs. Around n s d K xs) q a
+
+-- round the first argument stand those behind it
+Around-argument : {n d : ℕ} {K : List Frame} {us : List Token} → Around n Arguments d K us → Around n Expression (d + 0) (Inside argument_of 0 (d + 0) 0 ∷ K) us
+Around-argument {us = us} a = Around-at (append-nil us)
+    (inside a (record { completes = λ ts e m f. Derives-of (omega arith) (some_arguments f) }) (omega (arith, Around-fits a)) (λ e. (omega (arith, Around-fits a), λ b. tt)))
+
+Program-of : {us vs : List Token} {e f : Tree} {h k : ℕ} → us ≡ vs → e ≡ f → h ≡ k → Program us e h → Program vs f k
+Program-of p q r x = rw (← p, ← q, ← r) x
+
+-- one definition more
+Defined-add : {ds : List Tree} {us vs : List Token} {e : Tree} {h k : ℕ} → Defined ds us h → Derives Definition vs e k → Defined (ds ++ e ∷ []) (us ++ vs) (max h k)
+Defined-add {ds = ds} {us = us} {vs = vs} {e = e} {h = h} {k = k} p x = record {
+  completes = λ ts f m q. Program-of (sym (append_assoc us vs ts)) (sym (ahead-append ds e f)) (omega arith) (p.completes (vs ++ ts) (more e f) (max k m) (defined x q));
+}
+
+-- no definition yet
+pub Defined-none : Defined [] [] 0
+Defined-none = record { completes = λ ts e m q. Program-of refl refl (omega arith) q }
+
 module _ (n : ℕ) (t : Token) where
   -- a token begins a production, or else moves
   Moves-enters : {s : Phrase} {d : ℕ} {K : List Frame} {us : List Token} (other : Option Move) → Around n s d K us → Moves n (us ++ t ∷ []) other → Moves n (us ++ t ∷ []) (enters t s d K other)
@@ -65,14 +100,20 @@ module _ (n : ℕ) (t : Token) where
   Moves-negates : {d : ℕ} {K : List Frame} {us : List Token} → Around n Negation d K us → Moves n (us ++ t ∷ []) (negates t d K)
   Moves-negates {d = d} {K = K} a = Moves-enters (sums t d (Left level.Comparison d ∷ K)) a (Moves-sums (left (plainly a)))
 
+  Moves-expresses : {d : ℕ} {K : List Frame} {us : List Token} → Around n Expression d K us → Moves n (us ++ t ∷ []) (expresses t d K)
+  Moves-expresses {d = d} {K = K} a =
+      Moves-enters (negates t d (Left level.And d ∷ Left level.Or d ∷ K)) a (Moves-negates (left (left (unconditionally a))))
+
   Moves-wants : {s : Phrase} {d : ℕ} {K : List Frame} {us : List Token} → Around n s d K us → Moves n (us ++ t ∷ []) (wants t s d K)
   Moves-wants {s = Definition} a = Moves-enters None a tt
   Moves-wants {s = Parameters} a = Moves-enters None a tt
   Moves-wants {s = MoreParameters} a = Moves-enters None a tt
   Moves-wants {s = Unary} a = Moves-enters None a tt
   Moves-wants {s = Tail} a = Moves-enters None a tt
-  Moves-wants {s = Expression} {d = d} {K = K} a =
-      Moves-enters (negates t d (Left level.And d ∷ Left level.Or d ∷ K)) a (Moves-negates (left (left (unconditionally a))))
+  Moves-wants {s = Expression} a = Moves-expresses a
+  Moves-wants {s = Arguments} {d = d} {K = K} a =
+      Moves-enters (expresses t (d + 0) (Inside argument_of 0 (d + 0) 0 ∷ K)) a (Moves-expresses (Around-argument a))
+  Moves-wants {s = MoreArguments} a = Moves-enters None a tt
   Moves-wants {s = Negation} a = Moves-negates a
   Moves-wants {s = Grouped level.Product} a = Moves-enters None (left a) tt
   Moves-wants {s = Grouped level.Comparison} a = Moves-sums (left a)
@@ -116,12 +157,24 @@ module _ (n : ℕ) (t : Token) where
   Moves-nexts {s = s} {us = us} {vs = vs} (of_kind g) h close a b w roomy closing = Moves-pick n _ (kind_named t.kind) _ None (λ k q fits.
       Stands-at (sym (append_assoc us vs (t ∷ [])))
       (within a (record { completes = λ ts e m f. Derives-at (sym (snoc-at vs ts t)) (b.completes (t ∷ ts) e m (kinded q f)) }) w (roomy k))) tt
+  Moves-nexts {s = s} {us = us} {vs = vs} (optional v r e) h close a b w roomy closing =
+      Moves-if n _ (is_word v t.kind) _ (close e (h + own_height s))
+      (λ q fits.
+      Stands-at (sym (append_assoc us vs (t ∷ [])))
+      (within a (record { completes = λ ts f m g. Derives-at (sym (snoc-at vs ts t)) (b.completes (t ∷ ts) f m (chosen (same-is_word v t.kind q) g)) }) w roomy))
+      (closing vs e (h + own_height s) (Derives-at (append-nil vs) (Derives-of (omega arith) (b.completes [] e 0 left_out))) (omega arith))
   Moves-nexts (part i g) h close a b w roomy closing = Moves-wants (inside a b w roomy.1)
+
+  -- a token behind definitions
+  Moves-defines : {ds : List Tree} {us : List Token} {h : ℕ} → Defined ds us h → h ≤ n → Moves n (us ++ t ∷ []) (defines t ds)
+  Moves-defines {ds = ds} {us = us} {h = h} p w = Moves-pick n (us ++ t ∷ []) (wants t Definition 0 (Outer ds ∷ [])) (λ m. Some m) (ends t.kind (ahead ds none))
+      (λ m q. subst (λ o. Moves n (us ++ t ∷ []) o) q (Moves-wants (outermost p w)))
+      (Moves-ends (us ++ t ∷ []) (ahead ds none) (max h 0) t.kind (λ q. p.completes (t ∷ []) none 0 (empty q)) (omega arith))
 
   -- a token behind a part
   Moves-closes : {s : Phrase} {d : ℕ} {K : List Frame} {us : List Token} → Around n s d K us →
       (vs : List Token) (e : Tree) (h : ℕ) → Derives s vs e h → d + h ≤ n → Moves n ((us ++ vs) ++ t ∷ []) (closes t e h K)
-  Moves-closes outermost vs e h x w = Moves-ends (vs ++ t ∷ []) (more e none) h t.kind (λ q. single_def t x q) (omega arith)
+  Moves-closes (outermost p v) vs e h x w = Moves-defines (Defined-add p x) (omega arith)
   Moves-closes (left {l = l} {d = d} {K = K} a) vs e h x w = Moves-operates (closes t e h K) a (first_operand l x) (Moves-closes a vs e h (single x) w)
   Moves-closes (right {l = l} {d = d} {m = m} {K = K} {us = us} {vs = vs} {o = o} {a = b} a y i q fit) ws e k x w =
       let whole = grouped y i q x in
@@ -140,8 +193,7 @@ module _ (n : ℕ) (t : Token) where
 
   -- what a token leads to stands behind the token
   pub Moves-takes : {S : State} {us : List Token} → Stands n S us → Moves n (us ++ t ∷ []) (takes t S)
-  Moves-takes begun = Moves-pick n (t ∷ []) (wants t Definition 0 []) (λ m. Some m) (ends t.kind none)
-      (λ m q. subst (λ o. Moves n (t ∷ []) o) q (Moves-wants outermost)) (Moves-ends (t ∷ []) none 0 t.kind (λ q. empty q) zero-le)
+  Moves-takes (begun p w) = Moves-defines p w
   Moves-takes (wanting a w) = Moves-wants a
   Moves-takes (having {h = h} {e = e} {vs = vs} a x w) = Moves-closes a vs e h x w
   Moves-takes (within {r = r} {h = h} {K = K} a b w roomy) = Moves-nexts r h (λ u j. closes t u j K) a b w roomy (λ zs u j y v. Moves-closes a zs u j y v)

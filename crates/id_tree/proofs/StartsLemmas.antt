@@ -6,7 +6,7 @@ use Rattle.id_text.specs.declared.token.Token.{Token}
 use Rattle.id_text.specs.declared.token.TokenKind.{TokenKind}
 use Rattle.id_value.specs.declared.Kind.{Kind}
 use Rattle.id_tree.specs.Tree.{Tree, conditional, binding, param, none, more}
-use Rattle.id_tree.specs.Grammar.{Phrase, Rest, done, word, name, of_kind, part, with_statement, block_of, Opens, definition, no_parameters, first_parameter, last_parameter, next_parameter, by_conditional, denied, negated, number, by_true, by_false, parens, by_name, by_block, by_binding, by_body, Derives, opened, unconditional, single, grouped, plain, Follows, ended, taken, named, kinded, given, Program, empty, single_def}
+use Rattle.id_tree.specs.Grammar.{Phrase, Rest, done, word, optional, name, of_kind, part, with_statement, block_of, Opens, definition, no_parameters, first_parameter, last_parameter, next_parameter, by_conditional, denied, negated, number, by_true, by_false, parens, by_name, by_block, no_arguments, last_argument, next_argument, by_binding, by_body, Derives, opened, unconditional, single, grouped, plain, some_arguments, Follows, ended, taken, chosen, left_out, named, kinded, given, Program, empty, defined}
 use Rattle.id_tree.specs.Distinct.{HasPlace}
 use Rattle.id_tree.specs.Starts.{StartsAt, PlacesAreStarts}
 
@@ -23,6 +23,7 @@ AllPlaced P e = (q : ℕ) → HasPlace e q → P q
 abbrev Fills : (ℕ → Type 0) → Rest → Type 0
 Fills P (done e) = AllPlaced P e
 Fills P (word w r) = Fills P r
+Fills P (optional w r e) = AllPlaced P e × Fills P r
 Fills P (name f) = (x : List ℕ) (p : ℕ) → P p → Fills P (f x p)
 Fills P (of_kind f) = (k : Kind) → Fills P (f k)
 Fills P (part s f) = (a : Tree) → AllPlaced P a → Fills P (f a)
@@ -75,7 +76,10 @@ module _ (P : ℕ → Type 0) where
   Opens-fills by_true g = λ q i. at_own i g
   Opens-fills by_false g = λ q i. at_own i g
   Opens-fills parens g = λ e h. h
-  Opens-fills by_name g = λ q i. at_own i g
+  Opens-fills by_name g = (λ q i. at_own i g, λ a h. of_part a g h)
+  Opens-fills no_arguments g = λ q h. absurd h
+  Opens-fills last_argument g = λ q h. absurd h
+  Opens-fills next_argument g = λ e h a i. of_both e a h i
   Opens-fills by_block g = λ a h. of_block a g h
   Opens-fills (by_binding {x = x} {p = p}) g = λ e i a h. of_statement (binding x e p) a (of_part e g i) h
   Opens-fills by_body g = λ e h. of_both none e (λ q i. absurd i) h
@@ -96,17 +100,21 @@ module _ (P : ℕ → Type 0) where
     Derives-placed (grouped {us = us} {vs = vs} {a = a} {b = b} x t i y) g = of_parts a b
         (AllStart-back us (t ∷ vs) g).0 (Derives-placed x (AllStart-front us (t ∷ vs) g)) (Derives-placed y (AllStart-back us (t ∷ vs) g).1)
     Derives-placed (plain d) g = Derives-placed d g
+    Derives-placed (some_arguments f) g = Follows-placed f (λ e h a i. of_both e a h i) g
 
     Follows-placed : {r : Rest} {ts : List Token} {e : Tree} {h : ℕ} → Follows r ts e h → Fills P r → AllStart P ts → AllPlaced P e
     Follows-placed ended k g = k
     Follows-placed (taken i f) k g = Follows-placed f k g.1
+    Follows-placed (chosen i f) k g = Follows-placed f k.1 g.1
+    Follows-placed left_out k g = k.0
     Follows-placed (named {t = t} {x = x} i f) k g = Follows-placed f (k x t.start g.0) g.1
     Follows-placed (kinded {k = j} i f) k g = Follows-placed f (k j) g.1
     Follows-placed (given {us = us} {ts = ts} {a = a} d f) k g = Follows-placed f (k a (Derives-placed d (AllStart-front us ts g))) (AllStart-back us ts g)
 
   Program-placed : {ts : List Token} {e : Tree} {h : ℕ} → Program ts e h → AllStart P ts → AllPlaced P e
   Program-placed (empty i) g = λ q h. absurd h
-  Program-placed (single_def {ts = ts} {e = e} t d i) g = of_both e none (Derives-placed d (AllStart-front ts (t ∷ []) g)) (λ q h. absurd h)
+  Program-placed (defined {us = us} {ts = ts} {a = a} {e = e} d p) g =
+      of_both a e (Derives-placed d (AllStart-front us ts g)) (Program-placed p (AllStart-back us ts g))
 
 AllStart-weaker : (P Q : ℕ → Type 0) → ((q : ℕ) → P q → Q q) → (ts : List Token) → AllStart P ts → AllStart Q ts
 AllStart-weaker P Q f [] h = tt

@@ -20,11 +20,12 @@ use Rattle.id_tree.specs.declared.parser.Level.TheVariants as level
 use Rattle.id_tree.specs.declared.tokens.Word.{Word}
 use Rattle.id_tree.specs.declared.tokens.Word.TheVariants as the
 use Rattle.id_tree.specs.Tree as tree
-use Rattle.id_tree.specs.Tree.{Tree, literal, unary, conditional, block, binding, param, define, binary, none, more}
+use Rattle.id_tree.specs.Tree.{Tree, literal, unary, conditional, call, block, binding, param, define, binary, none, more}
 
 -- What a rule is for: a definition; its parameters behind the bracket, and more of them behind one; an expression of
--- any form; a level of operators; what stands behind `not` or without it; an operand of the tightest level; or the
--- tail of a block, which stands behind its brace and behind each of its statements.
+-- any form; a level of operators; what stands behind `not` or without it; an operand of the tightest level; the
+-- arguments of a call behind its bracket, and more of them behind one; or the tail of a block, which stands behind its
+-- brace and behind each of its statements.
 pub data Phrase : Type 0 where
   Definition : Phrase
   Parameters : Phrase
@@ -33,6 +34,8 @@ pub data Phrase : Type 0 where
   Grouped : Level → Phrase
   Negation : Phrase
   Unary : Phrase
+  Arguments : Phrase
+  MoreArguments : Phrase
   Tail : Phrase
 
 -- the kind of the word's token
@@ -41,11 +44,12 @@ kind_of (the.Key k) = Key k
 kind_of (the.Sign s) = Sign s
 
 -- What is left of a production, and the tree that it makes: nothing, and the tree; a reserved word or a sign, and
--- then more; a name, and then more for its spelling and its place; a kind's word, and then more for the kind; a part,
--- and then more for its tree.
+-- then more; the same, or else nothing, and the tree; a name, and then more for its spelling and its place; a kind's
+-- word, and then more for the kind; a part, and then more for its tree.
 pub data Rest : Type 0 where
   done : Tree → Rest
   word : Word → Rest → Rest
+  optional : Word → Rest → Tree → Rest
   name : (List ℕ → ℕ → Rest) → Rest
   of_kind : (Kind → Rest) → Rest
   part : Phrase → (Tree → Rest) → Rest
@@ -82,6 +86,18 @@ abbrev pub conditional_of : ℕ → Rest
 conditional_of p =
     enclosed (the.Key Then) (λ t. enclosed (the.Key Else) (λ x. part Expression (λ y. done (conditional t x y p))))
 
+-- behind a name: "(" and the arguments of a call, or nothing
+abbrev pub named_of : List ℕ → ℕ → Rest
+named_of x p = optional (the.Sign LeftParen) (part Arguments (λ a. done (call x a p))) (tree.name x p)
+
+-- behind an argument: those behind it
+abbrev pub argument_of : Tree → Rest
+argument_of e = part MoreArguments (λ a. done (more e a))
+
+-- an argument, and those behind it
+abbrev pub arguments_of : Rest
+arguments_of = part Expression argument_of
+
 -- a statement before the others of a tail, whose tree has its statements and its body
 abbrev pub with_statement : Tree → Tree → Tree
 with_statement s (more a e) = more (more s a) e
@@ -112,8 +128,11 @@ pub data Opens : Phrase → TokenKind → ℕ → Rest → Type 0 where
   by_true : {p : ℕ} → Opens Unary (Key True) p (done (literal (constant.Bool true) p))
   by_false : {p : ℕ} → Opens Unary (Key False) p (done (literal (constant.Bool false) p))
   parens : {p : ℕ} → Opens Unary (Sign LeftParen) p (enclosed (the.Sign RightParen) (λ e. done e))
-  by_name : {x : List ℕ} {p : ℕ} → Opens Unary (Name x) p (done (tree.name x p))
+  by_name : {x : List ℕ} {p : ℕ} → Opens Unary (Name x) p (named_of x p)
   by_block : {p : ℕ} → Opens Unary (Sign LeftBrace) p (part Tail (λ a. done (block_of a p)))
+  no_arguments : {p : ℕ} → Opens Arguments (Sign RightParen) p (done none)
+  last_argument : {p : ℕ} → Opens MoreArguments (Sign RightParen) p (done none)
+  next_argument : {p : ℕ} → Opens MoreArguments (Sign Comma) p arguments_of
   by_binding : {x : List ℕ} {p : ℕ} → Opens Tail (Name x) p (sign Becomes (binding_of x p))
   by_body : {p : ℕ} → Opens Tail (Key In) p (enclosed (the.Sign RightBrace) (λ e. done (more none e)))
 
@@ -159,11 +178,13 @@ own_height Expression = 1
 own_height (Grouped l) = 1
 own_height Negation = 1
 own_height Unary = 1
+own_height Arguments = 0
+own_height MoreArguments = 0
 own_height Tail = 0
 
 mutual
   -- the tokens are a phrase, with this tree of this height: a production, an expression without `if`, one operand of a
-  -- level or more of them from the left, or a comparison without `not` before it
+  -- level or more of them from the left, a comparison without `not` before it, or arguments from the first one on
   pub data Derives : Phrase → List Token → Tree → ℕ → Type 0 where
     opened : {s : Phrase} {t : Token} {r : Rest} {ts : List Token} {e : Tree} {h : ℕ} →
         Opens s t.kind t.start r → Follows r ts e h → Derives s (t ∷ ts) e (h + own_height s)
@@ -173,12 +194,16 @@ mutual
         Derives (left_operand l) us a m → (t : Token) → operator_of l t.kind ≡ Some o → Derives (operand l) vs b n →
         Derives (Grouped l) (us ++ t ∷ vs) (binary o a b t.start) (max m n + 1)
     plain : {ts : List Token} {e : Tree} {h : ℕ} → Derives (Grouped level.Comparison) ts e h → Derives Negation ts e h
+    some_arguments : {ts : List Token} {e : Tree} {h : ℕ} → Follows arguments_of ts e h → Derives Arguments ts e h
 
   -- the tokens are what is left of a production, with the tree that it makes, and its parts have this greatest height
   pub data Follows : Rest → List Token → Tree → ℕ → Type 0 where
     ended : {e : Tree} → Follows (done e) [] e 0
     taken : {w : Word} {t : Token} {r : Rest} {ts : List Token} {e : Tree} {h : ℕ} →
         t.kind ≡ kind_of w → Follows r ts e h → Follows (word w r) (t ∷ ts) e h
+    chosen : {w : Word} {t : Token} {r : Rest} {ts : List Token} {a e : Tree} {h : ℕ} →
+        t.kind ≡ kind_of w → Follows r ts e h → Follows (optional w r a) (t ∷ ts) e h
+    left_out : {w : Word} {r : Rest} {e : Tree} → Follows (optional w r e) [] e 0
     named : {t : Token} {x : List ℕ} {f : List ℕ → ℕ → Rest} {ts : List Token} {e : Tree} {h : ℕ} →
         t.kind ≡ Name x → Follows (f x t.start) ts e h → Follows (name f) (t ∷ ts) e h
     kinded : {t : Token} {k : Kind} {f : Kind → Rest} {ts : List Token} {e : Tree} {h : ℕ} →
@@ -186,8 +211,8 @@ mutual
     given : {s : Phrase} {f : Tree → Rest} {us ts : List Token} {a e : Tree} {m n : ℕ} →
         Derives s us a m → Follows (f a) ts e n → Follows (part s f) (us ++ ts) e (max m n)
 
--- the tokens are a program of this height: nothing, or one definition, and then the end
+-- the tokens are a program of this height: the end, or a definition and then a program
 pub data Program : List Token → Tree → ℕ → Type 0 where
   empty : {t : Token} → t.kind ≡ End → Program (t ∷ []) none 0
-  single_def : {ts : List Token} {e : Tree} {h : ℕ} (t : Token) →
-      Derives Definition ts e h → t.kind ≡ End → Program (ts ++ t ∷ []) (more e none) h
+  defined : {us ts : List Token} {a e : Tree} {m n : ℕ} →
+      Derives Definition us a m → Program ts e n → Program (us ++ ts) (more a e) (max m n)

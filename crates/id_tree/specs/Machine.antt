@@ -1,5 +1,5 @@
 -- A machine that takes one token at a time, for the proof of `parse` alone: no public clause cites it.
-use Rattle.std.specs.Prelude.{◌+◌, ℕ, Bool, true, false, cond, nat_le, Option, Some, None, List, [], ◌∷◌, max}
+use Rattle.std.specs.Prelude.{◌+◌, ℕ, Bool, true, false, cond, nat_le, Option, Some, None, List, [], ◌∷◌, ◌++◌, max}
 use denote.Enum.Bare.{sameb}
 use Rattle.id_text.specs.declared.token.Token.{Token}
 use Rattle.id_text.specs.declared.token.TokenKind.{TokenKind}
@@ -15,7 +15,7 @@ use Rattle.id_tree.specs.declared.tokens.Word.{Word}
 use Rattle.id_tree.specs.declared.tokens.Word.TheVariants as the
 use Rattle.id_value.specs.declared.Kind.TheVariants as kind
 use Rattle.id_tree.specs.Tree.{Tree, binary, none, more}
-use Rattle.id_tree.specs.Grammar.{Phrase, Definition, Parameters, MoreParameters, Expression, Grouped, Negation, Unary, Tail, Rest, done, word, name, of_kind, part, kind_named, Opens, definition, no_parameters, first_parameter, last_parameter, next_parameter, by_conditional, denied, negated, number, by_true, by_false, parens, by_name, by_block, by_binding, by_body, operand, operator_of, own_height}
+use Rattle.id_tree.specs.Grammar.{Phrase, Definition, Parameters, MoreParameters, Expression, Grouped, Negation, Unary, Arguments, MoreArguments, Tail, Rest, done, word, optional, name, of_kind, part, kind_named, Opens, definition, no_parameters, first_parameter, last_parameter, next_parameter, by_conditional, denied, negated, number, by_true, by_false, parens, by_name, by_block, no_arguments, last_argument, next_argument, argument_of, by_binding, by_body, operand, operator_of, own_height}
 
 -- a production that begins with this token
 pub record Row (s : Phrase) (k : TokenKind) (p : ℕ) : Type 0 where
@@ -38,11 +38,14 @@ opening Unary (Key False) p = Some (record { rest = _; opens = by_false })
 opening Unary (Sign LeftParen) p = Some (record { rest = _; opens = parens })
 opening Unary (Name x) p = Some (record { rest = _; opens = by_name })
 opening Unary (Sign LeftBrace) p = Some (record { rest = _; opens = by_block })
+opening Arguments (Sign RightParen) p = Some (record { rest = _; opens = no_arguments })
+opening MoreArguments (Sign RightParen) p = Some (record { rest = _; opens = last_argument })
+opening MoreArguments (Sign Comma) p = Some (record { rest = _; opens = next_argument })
 opening Tail (Name x) p = Some (record { rest = _; opens = by_binding })
 opening Tail (Key In) p = Some (record { rest = _; opens = by_body })
 opening _ _ _ = None
 
--- the least height of a phrase: parameters have none
+-- the least height of a phrase: parameters have none, and there may be no arguments
 abbrev pub least_height : Phrase → ℕ
 least_height Definition = 1
 least_height Parameters = 0
@@ -51,22 +54,27 @@ least_height Expression = 1
 least_height (Grouped l) = 1
 least_height Negation = 1
 least_height Unary = 1
+least_height Arguments = 0
+least_height MoreArguments = 0
 least_height Tail = 1
 
 -- the least height of the parts of what is left
 abbrev pub room : Rest → ℕ
 room (done e) = 0
 room (word w r) = room r
+room (optional w r e) = 0
 room (name f) = room (f [] 0)
 room (of_kind f) = room (f kind.Int)
 room (part s f) = max (least_height s) (room (f none))
 
--- What stands round a part, from the inside: a level whose first operand it is, one whose next operand it is, or a
--- production; the last numbers are the expressions round the level or the production's parts.
+-- What stands round a part, from the inside: a level whose first operand it is, one whose next operand it is, a
+-- production, or the program, with the definitions before it; the last numbers are the expressions round the level or
+-- the production's parts.
 pub data Frame : Type 0 where
   Left : Level → ℕ → Frame
   Right : Level → BinaryOp → Tree → ℕ → ℕ → ℕ → Frame
   Inside : (Tree → Rest) → ℕ → ℕ → ℕ → Frame
+  Outer : List Tree → Frame
 
 -- what stands round a level behind one of its operators: more of the level, but in a comparison nothing of it
 abbrev pub again : Level → ℕ → List Frame → List Frame
@@ -76,10 +84,10 @@ again level.Comparison d K = K
 again level.Sum d K = Left level.Sum d ∷ K
 again level.Product d K = Left level.Product d ∷ K
 
--- before all tokens; a phrase is to come; a part has come, with its height; in a production, with the height so far;
--- at the end
+-- definitions have come, and more may; a phrase is to come; a part has come, with its height; in a production, with the
+-- height so far; at the end
 pub data State : Type 0 where
-  Begin : State
+  Begin : List Tree → State
   Want : Phrase → ℕ → List Frame → State
   Have : Tree → ℕ → List Frame → State
   Next : Rest → ℕ → ℕ → ℕ → List Frame → State
@@ -128,12 +136,20 @@ sums t d K = enters t Unary d (Left level.Product d ∷ Left level.Sum d ∷ K) 
 abbrev pub negates : Token → ℕ → List Frame → Option Move
 negates t d K = enters t Negation d K (sums t d (Left level.Comparison d ∷ K))
 
+-- a token where an expression is to come
+abbrev pub expresses : Token → ℕ → List Frame → Option Move
+expresses t d K = enters t Expression d K (negates t d (Left level.And d ∷ Left level.Or d ∷ K))
+
+-- a token where the arguments of a call are to come
+abbrev pub passes : Token → ℕ → List Frame → Option Move
+passes t d K = enters t Arguments d K (expresses t (d + 0) (Inside argument_of 0 (d + 0) 0 ∷ K))
+
 -- a token where a phrase is to come
 abbrev pub wants : Token → Phrase → ℕ → List Frame → Option Move
 wants t Definition d K = enters t Definition d K None
 wants t Parameters d K = enters t Parameters d K None
 wants t MoreParameters d K = enters t MoreParameters d K None
-wants t Expression d K = enters t Expression d K (negates t d (Left level.And d ∷ Left level.Or d ∷ K))
+wants t Expression d K = expresses t d K
 wants t (Grouped level.Or) d K = negates t d (Left level.And d ∷ Left level.Or d ∷ K)
 wants t (Grouped level.And) d K = negates t d (Left level.And d ∷ K)
 wants t (Grouped level.Comparison) d K = sums t d (Left level.Comparison d ∷ K)
@@ -141,6 +157,8 @@ wants t (Grouped level.Sum) d K = sums t d K
 wants t (Grouped level.Product) d K = enters t Unary d (Left level.Product d ∷ K) None
 wants t Negation d K = negates t d K
 wants t Unary d K = enters t Unary d K None
+wants t Arguments d K = passes t d K
+wants t MoreArguments d K = enters t MoreArguments d K None
 wants t Tail d K = enters t Tail d K None
 
 -- a token behind an operand of a level: an operator of the level, or else what the level's end makes of it
@@ -161,18 +179,29 @@ repeats t e h level.Product d K other = operates t e h level.Product d K other
 abbrev pub nexts : Token → Rest → ℕ → ℕ → ℕ → List Frame → (Tree → ℕ → Option Move) → Option Move
 nexts t (done e) h d c K close = close e (h + c)
 nexts t (word w r) h d c K close = cond (is_word w t.kind) (free (Next r h d c K)) None
+nexts t (optional w r e) h d c K close = cond (is_word w t.kind) (free (Next r h d c K)) (close e (h + c))
 nexts t (name f) h d c K close = pick (name_in t.kind) (λ x. free (Next (f x t.start) h d c K)) None
 nexts t (of_kind f) h d c K close = pick (kind_named t.kind) (λ k. free (Next (f k) h d c K)) None
 nexts t (part s f) h d c K close = wants t s d (Inside f h d c ∷ K)
+
+-- trees, in order, put before a list of trees
+abbrev pub ahead : List Tree → Tree → Tree
+ahead [] e = e
+ahead (d ∷ ds) e = more d (ahead ds e)
 
 -- the end of the text, behind a program
 abbrev pub ends : TokenKind → Tree → Option Move
 ends End e = free (Finished e)
 ends _ e = None
 
+-- a token behind definitions
+abbrev pub defines : Token → List Tree → Option Move
+defines t ds = pick (wants t Definition 0 (Outer ds ∷ [])) (λ m. Some m) (ends t.kind (ahead ds none))
+
 -- a token behind a part
 abbrev pub closes : Token → Tree → ℕ → List Frame → Option Move
-closes t e h [] = ends t.kind (more e none)
+closes t e h [] = None
+closes t e h (Outer ds ∷ K) = defines t (ds ++ e ∷ [])
 closes t e h (Left l d ∷ K) = operates t e h l d K (closes t e h K)
 closes t b n (Right l o a m p d ∷ K) =
     repeats t (binary o a b p) (max m n + 1) l d K (closes t (binary o a b p) (max m n + 1) K)
@@ -180,7 +209,7 @@ closes t e h (Inside f m d c ∷ K) = nexts t (f e) (max m h) d c K (λ a n. clo
 
 -- what a token does
 abbrev pub takes : Token → State → Option Move
-takes t Begin = pick (wants t Definition 0 []) (λ m. Some m) (ends t.kind none)
+takes t (Begin ds) = defines t ds
 takes t (Want s d K) = wants t s d K
 takes t (Have e h K) = closes t e h K
 takes t (Next r h d c K) = nexts t r h d c K (λ a n. closes t a n K)

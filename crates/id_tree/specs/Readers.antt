@@ -3,20 +3,22 @@ use Rattle.std.specs.Prelude.{◌≡◌, ◌+◌, ◌<◌, ◌≤◌, ◌⊎◌,
 use Rattle.id_text.specs.Tokens.{EndsOnce}
 use Rattle.id_text.specs.declared.token.Token.{Token}
 use Rattle.id_text.specs.declared.token.TokenKind.{TokenKind}
-use Rattle.id_text.specs.declared.token.TokenKind.TheVariants.{Name, Key, End}
-use Rattle.id_text.specs.declared.token.Keyword.TheVariants.{True, False}
-use Rattle.id_text.specs.declared.token.Symbol.TheVariants.{LeftParen, Colon, Becomes}
+use Rattle.id_text.specs.declared.token.TokenKind.TheVariants.{Name, Number, Key, Sign, End}
+use Rattle.id_text.specs.declared.token.Keyword.TheVariants.{If, Not, True, False}
+use Rattle.id_text.specs.declared.token.Symbol.TheVariants.{LeftParen, LeftBrace, Colon, Becomes, Minus}
 use Rattle.id_tree.specs.declared.parser.Level.{Level}
 use Rattle.id_tree.specs.declared.tokens.Word.{Word}
 use Rattle.id_value.specs.declared.Kind.{Kind}
 use Rattle.id_value.specs.declared.UnaryOp.{UnaryOp}
+use Rattle.id_tree.specs.declared.tree.Expr.{Expr}
 use Rattle.id_tree.specs.declared.tree.Stmt.{Stmt}
 use Rattle.id_tree.specs.declared.tree.Param.{Param}
+use Rattle.id_tree.specs.declared.tree.Def.{Def}
 use Rattle.id_tree.specs.declared.tree.TreeError.{TreeError}
 use Rattle.id_tree.specs.declared.tree.TreeError.TheVariants.{Unexpected, TooDeep, Memory}
-use Rattle.id_tree.specs.Tree.{Tree, stmt_tree, unary, param, more}
-use Rattle.id_tree.specs.Grammar.{Phrase, Definition, Parameters, MoreParameters, Tail, Rest, done, of_kind, part, sign, enclosed, with_statement, Opens, operand}
-use Rattle.id_tree.specs.Machine.{Frame, Left, Inside, again, Want, Have, Next, Outcome, Refused, name_in, run}
+use Rattle.id_tree.specs.Tree.{Tree, tree_of, stmt_tree, def_tree, unary, param, more}
+use Rattle.id_tree.specs.Grammar.{Phrase, Definition, Parameters, MoreParameters, Arguments, MoreArguments, Tail, Rest, named_of, done, of_kind, part, sign, enclosed, with_statement, Opens, operand}
+use Rattle.id_tree.specs.Machine.{Frame, Left, Inside, again, Begin, Want, Have, Next, Outcome, Refused, name_in, run}
 
 -- what the first token is
 abbrev pub first_kind : List Token → TokenKind
@@ -191,6 +193,58 @@ pub record IsGathered (tokens rest : List Token) (depth height : ℕ) : Type 0 w
   pub shorter : length rest ≤ length tokens
   pub fits : depth + height ≤ 200
 
+-- the token begins an expression
+abbrev pub begins_expression : TokenKind → Bool
+begins_expression (Key If) = true
+begins_expression (Key Not) = true
+begins_expression (Key True) = true
+begins_expression (Key False) = true
+begins_expression (Number v) = true
+begins_expression (Name x) = true
+begins_expression (Sign Minus) = true
+begins_expression (Sign LeftParen) = true
+begins_expression (Sign LeftBrace) = true
+begins_expression _ = false
+
+-- the refusal of a token where an expression is to come and there is no room for one
+abbrev pub no_room_at : Bool → ℕ → TreeError
+no_room_at true at = TooDeep at
+no_room_at false at = Unexpected at
+
+-- from behind a name the run comes to where the name, or the call, is there
+pub record Applies (ts : List Token) (d : ℕ) (x : List ℕ) (p : ℕ) (us : List Token) (e : Tree) (h : ℕ) : Type 0 where
+  pub comes : (K : List Frame) → run 200 ts (Next (named_of x p) 0 (d + 1) 1 K) ≡ run 200 us (Have e h K)
+
+-- from behind a name the run ends so
+pub record Misapplies (ts : List Token) (d : ℕ) (x : List ℕ) (p : ℕ) (y : TreeError) : Type 0 where
+  pub fails : (K : List Frame) → EndsBy (run 200 ts (Next (named_of x p) 0 (d + 1) 1 K)) y
+
+-- the arguments' trees, in order, put before a list of trees
+abbrev pub passed : List Expr → Tree → Tree
+passed [] a = a
+passed (e ∷ es) a = more (tree_of e) (passed es a)
+
+-- the run takes arguments, and puts them before those that come behind
+pub record Passes (ts : List Token) (d : ℕ) (us : List Token) (es : List Expr) (h : ℕ) (K : List Frame) : Type 0 where
+  pub stack : List Frame
+  pub comes : run 200 ts (Want Arguments d K) ≡ run 200 us (Want MoreArguments d stack)
+  pub folds : (vs : List Token) (a : Tree) (m : ℕ) →
+      run 200 vs (Have a m stack) ≡ run 200 vs (Have (passed es a) (max h m) K)
+
+-- the same, whatever stands round the arguments
+pub record Hands (ts : List Token) (d : ℕ) (us : List Token) (es : List Expr) (h : ℕ) : Type 0 where
+  pub passes : (K : List Frame) → Passes ts d us es h K
+
 -- the run takes a definition, of some height
 abbrev pub Defines : List Token → List Token → Tree → Type 0
 Defines ts us e = (h : ℕ) × Leads ts Definition 0 us e h
+
+-- the definitions' trees, as a list
+abbrev pub def_trees : List Def → List Tree
+def_trees [] = []
+def_trees (d ∷ ds) = def_tree d ∷ def_trees ds
+
+-- the run takes definitions
+pub record Amasses (ts us : List Token) (ds : List Def) : Type 0 where
+  pub ends : EndsOnce us
+  pub comes : run 200 ts (Begin []) ≡ run 200 us (Begin (def_trees ds))

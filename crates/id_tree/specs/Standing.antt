@@ -6,25 +6,31 @@ use Rattle.id_tree.specs.declared.parser.Level.TheVariants as level
 use Rattle.id_value.specs.declared.BinaryOp.{BinaryOp}
 use Rattle.id_value.specs.declared.Kind.{Kind}
 use Rattle.id_tree.specs.Tree.{Tree}
-use Rattle.id_tree.specs.Grammar.{Phrase, Definition, Expression, Grouped, Negation, Rest, done, word, name, of_kind, part, operand, left_operand, operator_of, own_height, Derives, Follows, Program}
-use Rattle.id_tree.specs.Machine.{least_height, Frame, Left, Right, Inside, State, Begin, Want, Have, Next, Finished}
+use Rattle.id_tree.specs.Grammar.{Phrase, Definition, Expression, Grouped, Negation, Rest, done, word, optional, name, of_kind, part, operand, left_operand, operator_of, own_height, Derives, Follows, Program}
+use Rattle.id_tree.specs.Machine.{least_height, Frame, Left, Right, Inside, Outer, ahead, State, Begin, Want, Have, Next, Finished}
 
 -- the tokens begin a phrase, of which this is left, and its parts so far have this greatest height
 pub record Begins (s : Phrase) (vs : List Token) (r : Rest) (h : ℕ) : Type 0 where
   pub completes : (ts : List Token) (e : Tree) (m : ℕ) →
       Follows r ts e m → Derives s (vs ++ ts) e (max h m + own_height s)
 
+-- the tokens are definitions, with these trees and this greatest height
+pub record Defined (ds : List Tree) (us : List Token) (h : ℕ) : Type 0 where
+  pub completes : (ts : List Token) (e : Tree) (m : ℕ) → Program ts e m → Program (us ++ ts) (ahead ds e) (max h m)
+
 -- there is room for each part within n, where the parts stand in d expressions
 abbrev pub Roomy : ℕ → ℕ → Rest → Type 0
 Roomy n d (done e) = Unit {0}
 Roomy n d (word w r) = Roomy n d r
+Roomy n d (optional w r e) = Roomy n d r
 Roomy n d (name f) = (x : List ℕ) (p : ℕ) → Roomy n d (f x p)
 Roomy n d (of_kind f) = (k : Kind) → Roomy n d (f k)
 Roomy n d (part s f) = (d + least_height s ≤ n) × ((a : Tree) → Roomy n d (f a))
 
 -- inside d expressions, behind these tokens, a phrase is to come, and what stands round it fits n
 pub data Around (n : ℕ) : Phrase → ℕ → List Frame → List Token → Type 0 where
-  outermost : Around n Definition 0 [] []
+  outermost : {ds : List Tree} {us : List Token} {h : ℕ} →
+      Defined ds us h → h ≤ n → Around n Definition 0 (Outer ds ∷ []) us
   unconditionally : {d : ℕ} {K : List Frame} {us : List Token} →
       Around n Expression d K us → Around n (Grouped level.Or) d K us
   left : {l : Level} {d : ℕ} {K : List Frame} {us : List Token} →
@@ -41,7 +47,7 @@ pub data Around (n : ℕ) : Phrase → ℕ → List Frame → List Token → Typ
 
 -- the tokens lead to the state, within n
 pub data Stands (n : ℕ) : State → List Token → Type 0 where
-  begun : Stands n Begin []
+  begun : {ds : List Tree} {us : List Token} {h : ℕ} → Defined ds us h → h ≤ n → Stands n (Begin ds) us
   wanting : {s : Phrase} {d : ℕ} {K : List Frame} {us : List Token} →
       Around n s d K us → d + least_height s ≤ n → Stands n (Want s d K) us
   having : {s : Phrase} {d h : ℕ} {e : Tree} {K : List Frame} {us vs : List Token} →

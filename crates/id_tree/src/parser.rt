@@ -5,11 +5,10 @@
 
 ghost use Rattle.std.specs.Prelude.{◌≡◌, ◌≢◌, [], ◌∷◌, ◌++◌, ◌+◌, ◌<◌, ◌≤◌, ◌↔◌, ℕ, IsTrue, IfOk, IfErr, MatchResult, Some};
 ghost use Rattle.id_text.specs.Tokens.{EndsOnce, Rises};
-ghost use Rattle.id_tree.specs.Tree.{Tree, tree_of, stmt_tree, params_tree, def_tree, program_tree};
+ghost use Rattle.id_tree.specs.Tree.{Tree, tree_of, stmt_tree, none, params_tree, def_tree, program_tree};
 ghost use Rattle.id_tree.specs.declared.tree.Param.{Param};
 ghost use Rattle.id_tree.specs.Accepted.{Accepts, RefusedBy, IsMemory};
 ghost use Rattle.id_tree.specs.Distinct.{Distinct};
-ghost use Rattle.id_tree.specs.Uncalled.{Uncalled};
 ghost use Rattle.id_tree.specs.Starts.{PlacesAreStarts};
 ghost use Rattle.id_tree.specs.Grammar.{
   Definition,
@@ -18,6 +17,7 @@ ghost use Rattle.id_tree.specs.Grammar.{
   Grouped,
   Negation,
   Unary,
+  Arguments,
   Tail,
   operand,
   operator_of,
@@ -43,15 +43,19 @@ ghost use Rattle.id_tree.specs.Readers.{
   Adds,
   Gathers,
   IsGathered,
+  Applies,
+  Misapplies,
+  Hands,
+  passed,
 };
 
-use crate::part::{Part, binary, binding, block, conditional, name, number, truth, unary};
+use crate::part::{Part, binary, binding, block, call, conditional, name, number, truth, unary};
 use crate::tokens::{
     Word, begins_with, begins_with_sign, comparison_of, enter, expect_end, expect_kind,
-    expect_name, expect_word, is_key, is_sign, split, truth_of, unexpected,
+    expect_name, expect_word, is_sign, no_room, split, truth_of, unexpected,
 };
-use crate::tree::{Def, MAX_NESTING, Param, Program, Stmt, TreeError};
-use id_text::{Keyword, Sequence, Symbol, Token, TokenKind};
+use crate::tree::{Def, Expr, MAX_NESTING, Param, Program, Stmt, TreeError};
+use id_text::{Identifier, Keyword, Sequence, Symbol, Token, TokenKind};
 use id_value::{Arithmetic, BinaryOp, Kind, Logic, UnaryOp};
 use std::alloc::Global;
 
@@ -78,8 +82,6 @@ pub fn parse(alloc: Global, tokens: &[Token]) -> Result<Program, TreeError>
     ensures only { (e : Tree) → Accepts tokens.now e →
         MatchResult result (λ p. program_tree p ≡ e) IsMemory }
     ensures distinct { IfOk result (λ p. Distinct (program_tree p)) }
-    // The grammar has no calls yet.
-    ensures uncalled { IfOk result (λ p. Uncalled (program_tree p)) }
     ensures within { IfOk result (λ p. PlacesAreStarts tokens.now (program_tree p)) }
 
     ensures refused { IfErr result (RefusedBy tokens.now) }
@@ -87,23 +89,20 @@ pub fn parse(alloc: Global, tokens: &[Token]) -> Result<Program, TreeError>
     parse_program(alloc, tokens)
 }
 
-/// `program = [ def ]`, and then the end
+/// `program = { def }`, and then the end
 fn parse_program(alloc: Global, tokens: &[Token]) -> Result<Program, TreeError>
     requires { EndsOnce tokens.now }
-    ensures ok { IfOk result (λ p. run 200 tokens.now Begin ≡ Accepted (program_tree p)) }
-    ensures err { IfErr result (EndsBy (run 200 tokens.now Begin)) }
+    ensures ok { IfOk result (λ p. run 200 tokens.now (Begin []) ≡ Accepted (program_tree p)) }
+    ensures err { IfErr result (EndsBy (run 200 tokens.now (Begin []))) }
 {
     let mut defs = Vec::new(alloc);
-    let (first, _) = split(tokens);
-    if is_key(first, Keyword::Def) {
-        let (def, rest) = parse_def(alloc, tokens)?;
+    let mut rest = tokens;
+    'defs: while begins_with(rest, Keyword::Def) {
+        let (def, behind) = parse_def(alloc, rest)?;
         defs.push(def)?;
-        expect_end(rest)?;
-        return Ok(Program {
-            defs: Sequence::new(defs),
-        });
+        rest = behind;
     }
-    expect_end(tokens)?;
+    expect_end(rest)?;
     Ok(Program {
         defs: Sequence::new(defs),
     })
@@ -370,7 +369,7 @@ fn parse_prefixed(
     Ok((whole, rest))
 }
 
-/// `unary = "-" unary | NUMBER | "true" | "false" | NAME | "(" expr ")" | block`
+/// `unary = "-" unary | NUMBER | "true" | "false" | NAME | call | "(" expr ")" | block`
 #[cycle(expr)]
 fn parse_unary(alloc: Global, tokens: &[Token], depth: usize) -> Result<(Part, &[Token]), TreeError>
     requires ends { EndsOnce tokens.now }
@@ -502,7 +501,8 @@ fn parse_binding(
     Ok((statement, height, rest))
 }
 
-/// `NUMBER | "true" | "false" | NAME`
+/// `NUMBER | "true" | "false" | NAME | call`
+#[cycle(expr)]
 fn parse_leaf(alloc: Global, tokens: &[Token], depth: usize) -> Result<(Part, &[Token]), TreeError>
     requires ends { EndsOnce tokens.now }
     requires no_minus { first_kind tokens.now ≢ TokenKind.Sign Symbol.Minus }
@@ -517,7 +517,7 @@ fn parse_leaf(alloc: Global, tokens: &[Token], depth: usize) -> Result<(Part, &[
     let (first, rest) = split(tokens);
     match &first.kind {
         TokenKind::Number(value) => Ok((number(value, first.start), rest)),
-        TokenKind::Name(x) => Ok((name(x.copy(alloc)?, first.start), rest)),
+        TokenKind::Name(x) => parse_named(alloc, x.copy(alloc)?, first.start, rest, depth),
         TokenKind::Key(_) => match truth_of(first) {
             Some(value) => Ok((truth(value, first.start), rest)),
             None => Err(unexpected(tokens)),
@@ -525,6 +525,92 @@ fn parse_leaf(alloc: Global, tokens: &[Token], depth: usize) -> Result<(Part, &[
         TokenKind::Sign(_) => Err(unexpected(tokens)),
         TokenKind::End => Err(unexpected(tokens)),
     }
+}
+
+/// A name or a call, from behind its name: `call = NAME "(" [ expr { "," expr } ] ")"`
+#[cycle(expr)]
+fn parse_named(
+    alloc: Global,
+    x: Identifier,
+    place: usize,
+    tokens: &[Token],
+    depth: usize,
+) -> Result<(Part, &[Token]), TreeError>
+    requires ends { EndsOnce tokens.now }
+    requires room { depth < MAX_NESTING }
+    ensures read { IfOk result (λ y.
+        (0 < y.0.height) × IsGathered tokens.now y.1.now depth y.0.height) }
+    ensures ok { IfOk result (λ y.
+        Applies tokens.now depth x place y.1.now (tree_of y.0.expr) y.0.height) }
+    ensures err { IfErr result (Misapplies tokens.now depth x place) }
+{
+    if begins_with_sign(tokens, Symbol::LeftParen) {
+        let (_, opened) = split(tokens);
+        let (args, height, rest) = parse_arguments(alloc, opened, depth + 1)?;
+        Ok((call(x, args, height, place), rest))
+    } else {
+        Ok((name(x, place), tokens))
+    }
+}
+
+/// `[ expr { "," expr } ] ")"`, with the greatest height of an argument.
+#[cycle(expr)]
+fn parse_arguments(
+    alloc: Global,
+    tokens: &[Token],
+    depth: usize,
+) -> Result<(Vec<Expr>, usize, &[Token]), TreeError>
+    requires ends { EndsOnce tokens.now }
+    requires room { depth ≤ MAX_NESTING }
+    ensures read { IfOk result (λ x. IsGathered tokens.now x.2.now depth x.1) }
+    ensures ok { IfOk result (λ x.
+        Leads tokens.now Arguments depth x.2.now (passed x.0.items none) x.1) }
+    ensures err { IfErr result (Fails tokens.now Arguments depth) }
+{
+    let (first, closed) = split(tokens);
+    if is_sign(first, Symbol::RightParen) {
+        return Ok((Vec::new(alloc), 0, closed));
+    }
+    if depth >= MAX_NESTING {
+        return Err(no_room(tokens));
+    }
+    let (args, height, rest) = parse_some_arguments(alloc, tokens, depth)?;
+    let (last, closed) = split(rest);
+    if is_sign(last, Symbol::RightParen) {
+        Ok((args, height, closed))
+    } else {
+        Err(unexpected(rest))
+    }
+}
+
+/// `expr { "," expr }`, with the greatest height of an argument.
+#[cycle(expr)]
+fn parse_some_arguments(
+    alloc: Global,
+    tokens: &[Token],
+    depth: usize,
+) -> Result<(Vec<Expr>, usize, &[Token]), TreeError>
+    requires ends { EndsOnce tokens.now }
+    requires not_closed { first_kind tokens.now ≢ TokenKind.Sign Symbol.RightParen }
+    requires room { depth < MAX_NESTING }
+    ensures read { IfOk result (λ x. IsRead tokens.now x.2.now depth x.1) }
+    ensures last { IfOk result (λ x. first_kind x.2.now ≢ TokenKind.Sign Symbol.Comma) }
+    ensures ok { IfOk result (λ x. Hands tokens.now depth x.2.now x.0.items x.1) }
+    ensures err { IfErr result (Fails tokens.now Arguments depth) }
+{
+    let mut args = Vec::new(alloc);
+    let (first, begun) = parse_expression(alloc, tokens, depth)?;
+    let mut height = first.height;
+    args.push(first.into_expr())?;
+    let mut rest = begun;
+    'arguments: while begins_with_sign(rest, Symbol::Comma) {
+        let (_, next) = split(rest);
+        let (arg, behind) = parse_expression(alloc, next, depth)?;
+        height = height.max(arg.height);
+        args.push(arg.into_expr())?;
+        rest = behind;
+    }
+    Ok((args, height, rest))
 }
 
 /// Whether an expression of this level has one operator at most.

@@ -5,7 +5,7 @@ ghost use Rattle.id_tree.specs.declared.tree.TreeError.TheVariants.{Memory};
 ghost use Rattle.id_value.specs.declared.Constant.TheVariants as constant;
 ghost use Rattle.id_tree.specs.Tree.{tree_of, stmt_tree, none};
 ghost use Rattle.id_tree.specs.Tree as tree;
-ghost use Rattle.id_tree.specs.Readers.{onto};
+ghost use Rattle.id_tree.specs.Readers.{onto, passed};
 
 use crate::tree::{Expr, Stmt, TreeError};
 use id_text::Identifier;
@@ -67,6 +67,18 @@ pub fn name(name: Identifier, place: usize) -> Part
     Part {
         expr: Expr::Name { name, place },
         height: 1,
+    }
+}
+
+/// The procedure's name with the arguments, which have at most this height.
+pub fn call(name: Identifier, args: Vec<Expr>, height: usize, place: usize) -> Part
+    requires { height < 2 ^ 63 }
+    ensures height { result.height ≡ height + 1 }
+    ensures tree { tree_of result.expr ≡ tree.call name (passed args.items none) place }
+{
+    Part {
+        expr: Expr::Call { name, args, place },
+        height: height + 1,
     }
 }
 

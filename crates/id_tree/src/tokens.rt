@@ -13,6 +13,8 @@ ghost use Rattle.id_tree.specs.Readers.{
   Types,
   Untypes,
   truth_in,
+  begins_expression,
+  no_room_at,
 };
 ghost use Rattle.id_tree.specs.declared.parser.Level.TheVariants as level;
 ghost use Rattle.id_tree.specs.Grammar.{word, kind_of, kind_named, operator_of};
@@ -136,6 +138,37 @@ pub fn unexpected(tokens: &[Token]) -> TreeError
 {
     TreeError::Unexpected {
         at: tokens[0].start,
+    }
+}
+
+/// Whether an expression begins with the token.
+pub fn begins_expression(token: &Token) -> bool
+    ensures { result ≡ begins_expression token.now.kind }
+{
+    match &token.kind {
+        TokenKind::Key(Keyword::If) => true,
+        TokenKind::Key(Keyword::Not) => true,
+        TokenKind::Key(Keyword::True) => true,
+        TokenKind::Key(Keyword::False) => true,
+        TokenKind::Number(_) => true,
+        TokenKind::Name(_) => true,
+        TokenKind::Sign(Symbol::Minus) => true,
+        TokenKind::Sign(Symbol::LeftParen) => true,
+        TokenKind::Sign(Symbol::LeftBrace) => true,
+        _ => false,
+    }
+}
+
+/// The refusal of the first token where an expression is wanted, but has no room.
+pub fn no_room(tokens: &[Token]) -> TreeError
+    requires { EndsOnce tokens.now }
+    ensures { result ≡ no_room_at (begins_expression (first_kind tokens.now)) (first_start tokens.now) }
+{
+    let at = tokens[0].start;
+    if begins_expression(&tokens[0]) {
+        TreeError::TooDeep { at }
+    } else {
+        TreeError::Unexpected { at }
     }
 }
 

@@ -1,15 +1,16 @@
 -- Each reader's run, from its first token to its way out (proofs/ReaderLemmas.antt).
-use Rattle.std.proofs.Common.{◌≡◌, ◌∙◌, ap, sym, refl, arith, rules}
+use Rattle.std.proofs.Common.{◌≡◌, ◌∙◌, ◌<◌, ◌≤◌, ap, sym, refl, arith, rules}
 use Rattle.std.proofs.lemmas.Grind.{common_steps}
 use Rattle.std.proofs.lemmas.Result.{err_from_is_err_and, IfOk-weaker, IfErr-weaker}
-use Rattle.id_text.specs.declared.token.TokenKind.TheVariants.{Key, Sign}
-use Rattle.id_text.specs.declared.token.Symbol.TheVariants.{Minus}
+use Rattle.id_text.specs.declared.token.TokenKind.TheVariants.{Name, Key, Sign}
+use Rattle.id_text.specs.declared.token.Symbol.TheVariants.{Minus, LeftParen, RightParen, Comma}
 use Rattle.id_text.specs.declared.token.Keyword.TheVariants.{If, Not}
 use Rattle.id_tree.specs.declared.parser.Level.TheVariants as level
-use Rattle.id_tree.specs.Grammar.{Expression, Grouped, Negation}
-use Rattle.id_tree.specs.Readers.{first_kind, Leads, Fails}
+use Rattle.id_tree.specs.Grammar.{Expression, Grouped, Negation, Unary}
+use Rattle.id_tree.specs.Readers.{first_kind, truth_in, IsRead, IsGathered, Leads, Fails, Applies, Misapplies}
 use Rattle.id_tree.specs.Tree.{tree_of}
-use Rattle.id_tree.proofs.ReaderLemmas.{IsRead-then, Level-begins, Level-grows, Level-grown, Level-fails, Level-stunts, Level-ends, Right-deep, Right-fails, Right-grows, At-conditional, At-parens, At-part, At-word, At-enclosed, Leads-done, Leads-at, Fails-deep, Fails-part, Fails-word, Fails-enclosed, IsPrefix-begins, Prefix-deep, Prefix-fails, Prefix-leads, Encloses-done, Exposes-word, Exposes-part, opens_negated, opens_denied, opens_conditional, opens_parens, Expression-leads, Expression-fails, Negation-leads, Negation-fails}
+use Rattle.id_tree.proofs.ReaderLemmas.{IsRead-then, Level-begins, Level-grows, Level-grown, Level-fails, Level-stunts, Level-ends, Right-deep, Right-fails, Right-grows, At-conditional, At-parens, At-part, At-word, At-enclosed, Leads-done, Leads-at, Fails-deep, Fails-part, Fails-word, Fails-enclosed, IsPrefix-begins, Prefix-deep, Prefix-fails, Prefix-leads, Encloses-done, Exposes-word, Exposes-part, opens_negated, opens_denied, opens_conditional, opens_parens, Expression-leads, Expression-fails, Negation-leads, Negation-fails, At-opens, opens_number, opens_truth, Unary-fails, unopened, untrue}
+use Rattle.id_tree.proofs.CallLemmas.{IsRead-named, Leads-named, Fails-named, Applies-name, Applies-call, Misapplies-call, Leads-unpassed, Hands-first, Fails-argument, Hands-add, Fails-added, Leads-passed, Fails-passed, IsRead-add, Fails-full}
 use Rattle.id_tree.proofs.BlockLemmas.{opens_block, At-block, Encloses-tail, Exposes-tail, At-binding, Fails-tail, Adds-done, IsGathered-add, Gathers-none, Gathers-add, Fails-gathered, Leads-gathered, Leads-body, Fails-body}
 use Rattle.id_tree.proofs.parser.+expr.Goals as goal
 
@@ -341,3 +342,112 @@ parse_prefixed-overflow_add-inner-2 t c = grind (arith, common_steps)
 
 pub parse_prefixed-returns-clause-read : goal.parse_prefixed-returns-clause-read
 parse_prefixed-returns-clause-read t c = grind (arith, common_steps)
+
+pub parse_leaf-returns-in-Number-clause-ok : goal.parse_leaf-returns-in-Number-clause-ok
+parse_leaf-returns-in-Number-clause-ok t c =
+    Leads-at c.number.ensures.tree (omega (arith, c.number.ensures.height))
+    (Leads-done (At-opens c.split.ensures.whole
+    (opens_number c.in-Number.value (ap first_kind c.split.ensures.whole ∙ c.in-Number.is)) c.args.depth (omega (arith, c.requires.room))))
+
+pub parse_leaf-returns-in-Some-clause-ok : goal.parse_leaf-returns-in-Some-clause-ok
+parse_leaf-returns-in-Some-clause-ok t c =
+    Leads-at c.truth.ensures.tree (omega (arith, c.truth.ensures.height))
+    (Leads-done (At-opens c.split.ensures.whole
+    (opens_truth c.in-Some.value
+    (ap (λ xs. truth_in (first_kind xs)) c.split.ensures.whole ∙ sym c.truth_of.ensures ∙ c.in-Some.is)) c.args.depth (omega (arith, c.requires.room))))
+
+pub parse_leaf-returns-in-None-clause-err : goal.parse_leaf-returns-in-None-clause-err
+parse_leaf-returns-in-None-clause-err t c = Unary-fails c.split.ensures.whole c.args.depth c.unexpected.result c.unexpected.ensures
+    (rw c.in-Key.is (untrue c.in-Key.field-0 c.split.result.0.now.start (ap truth_in (sym c.in-Key.is) ∙ sym c.truth_of.ensures ∙ c.in-None.is)))
+
+pub parse_leaf-returns-in-Sign-clause-err : goal.parse_leaf-returns-in-Sign-clause-err
+parse_leaf-returns-in-Sign-clause-err t c = Unary-fails c.split.ensures.whole c.args.depth c.unexpected-in-Sign.result c.unexpected-in-Sign.ensures (rw c.in-Sign.is (unopened c.in-Sign.field-0 c.split.result.0.now.start (λ q. c.requires.no_minus (ap first_kind c.split.ensures.whole ∙ c.in-Sign.is ∙ q)) (λ q. c.requires.no_paren (ap first_kind c.split.ensures.whole ∙ c.in-Sign.is ∙ q)) (λ q. c.requires.no_brace (ap first_kind c.split.ensures.whole ∙ c.in-Sign.is ∙ q))))
+
+pub parse_leaf-returns-in-End-clause-err : goal.parse_leaf-returns-in-End-clause-err
+parse_leaf-returns-in-End-clause-err t c = Unary-fails c.split.ensures.whole c.args.depth c.unexpected-in-End.result c.unexpected-in-End.ensures (rw c.in-End.is refl)
+
+pub parse_leaf-returns-in_ok-copy-in-Name-clause-read : goal.parse_leaf-returns-in_ok-copy-in-Name-clause-read
+parse_leaf-returns-in_ok-copy-in-Name-clause-read t c =
+    IfOk-weaker c.parse_named.result (λ y. (0 < y.0.height) × IsGathered c.split.result.1.now y.1.now c.args.depth y.0.height)
+    (λ y. IsRead c.args.tokens.now y.1.now c.args.depth y.0.height) (λ y q. IsRead-named c.split.ensures.whole q) c.parse_named.ensures.read
+
+pub parse_leaf-returns-in_ok-copy-in-Name-clause-ok : goal.parse_leaf-returns-in_ok-copy-in-Name-clause-ok
+parse_leaf-returns-in_ok-copy-in-Name-clause-ok t c =
+    let is : c.split.result.0.now.kind ≡ Name c.in_ok-copy-in-Name.field-0 = c.in-Name.is ∙ ap Name (sym c.in_ok-copy-in-Name.ensures) in
+    IfOk-weaker c.parse_named.result
+    (λ y. Applies c.split.result.1.now c.args.depth c.in_ok-copy-in-Name.field-0 c.split.result.0.now.start y.1.now (tree_of y.0.expr) y.0.height)
+    (λ y. Leads c.args.tokens.now Unary c.args.depth y.1.now (tree_of y.0.expr) y.0.height)
+    (λ y q. Leads-named c.split.ensures.whole c.args.depth (omega (arith, c.requires.room)) c.in_ok-copy-in-Name.field-0 (ap first_kind c.split.ensures.whole ∙ is) q) c.parse_named.ensures.ok
+
+pub parse_leaf-returns-in_ok-copy-in-Name-clause-err : goal.parse_leaf-returns-in_ok-copy-in-Name-clause-err
+parse_leaf-returns-in_ok-copy-in-Name-clause-err t c =
+    let is : c.split.result.0.now.kind ≡ Name c.in_ok-copy-in-Name.field-0 = c.in-Name.is ∙ ap Name (sym c.in_ok-copy-in-Name.ensures) in
+    IfErr-weaker c.parse_named.result (Misapplies c.split.result.1.now c.args.depth c.in_ok-copy-in-Name.field-0 c.split.result.0.now.start) (Fails c.args.tokens.now Unary c.args.depth)
+    (λ y q. Fails-named c.split.ensures.whole c.args.depth (omega (arith, c.requires.room)) c.in_ok-copy-in-Name.field-0 (ap first_kind c.split.ensures.whole ∙ is) q) c.parse_named.ensures.err
+
+pub parse_named-returns-else-begins_with_sign-clause-ok : goal.parse_named-returns-else-begins_with_sign-clause-ok
+parse_named-returns-else-begins_with_sign-clause-ok t c =
+    let is_not : first_kind c.args.tokens.now ≡ Sign LeftParen → ⊥ = search rules in
+    Applies-name c.args.depth is_not c.name.ensures.tree c.name.ensures.height
+
+pub parse_named-returns-in_err-args-clause-err : goal.parse_named-returns-in_err-args-clause-err
+parse_named-returns-in_err-args-clause-err t c =
+    let is : first_kind c.args.tokens.now ≡ Sign LeftParen = search rules in
+    let p = err_from_is_err_and c.from_residual.result c.from_residual.ensures.1 in
+    rw (p.1, p.2) (Misapplies-call c.split.ensures.whole is c.args.depth c.args.x c.args.place c.in_err-args.ensures.err)
+
+pub parse_named-returns-in_ok-args-clause-ok : goal.parse_named-returns-in_ok-args-clause-ok
+parse_named-returns-in_ok-args-clause-ok t c =
+    let is : first_kind c.args.tokens.now ≡ Sign LeftParen = search rules in
+    Applies-call c.split.ensures.whole is c.args.depth c.args.x c.args.place c.in_ok-args.ensures.ok c.call.ensures.tree c.call.ensures.height
+
+pub parse_arguments-returns-then-is_sign-clause-ok : goal.parse_arguments-returns-then-is_sign-clause-ok
+parse_arguments-returns-then-is_sign-clause-ok t c =
+    let is : c.split.result.0.now.kind ≡ Sign RightParen = search rules in
+    rw c.new.ensures.items (Leads-unpassed c.args.depth c.requires.room c.split.ensures.whole is)
+
+pub parse_arguments-returns-then-depth-ge-MAX_NESTING-clause-err : goal.parse_arguments-returns-then-depth-ge-MAX_NESTING-clause-err
+parse_arguments-returns-then-depth-ge-MAX_NESTING-clause-err t c =
+    let is_not : c.split.result.0.now.kind ≡ Sign RightParen → ⊥ = search rules in
+    let full : 200 ≤ c.args.depth = grind (arith, common_steps) in
+    Fails-full c.args.depth c.no_room.result c.requires.ends full (λ q. is_not (ap first_kind (sym c.split.ensures.whole) ∙ q)) c.no_room.ensures
+
+pub parse_arguments-returns-then-is_sign-2-clause-ok : goal.parse_arguments-returns-then-is_sign-2-clause-ok
+parse_arguments-returns-then-is_sign-2-clause-ok t c =
+    let is : c.split-2.result.0.now.kind ≡ Sign RightParen = search rules in
+    Leads-passed c.in_ok-args.ensures.ok c.split-2.ensures.whole c.requires.room is
+
+pub parse_arguments-returns-in_err-args-clause-err : goal.parse_arguments-returns-in_err-args-clause-err
+parse_arguments-returns-in_err-args-clause-err t c =
+    let p = err_from_is_err_and c.from_residual.result c.from_residual.ensures.1 in
+    rw (p.1, p.2) c.in_err-args.ensures.err
+
+pub parse_arguments-returns-else-is_sign-2-clause-err : goal.parse_arguments-returns-else-is_sign-2-clause-err
+parse_arguments-returns-else-is_sign-2-clause-err t c =
+    let is_not : c.split-2.result.0.now.kind ≡ Sign RightParen → ⊥ = search rules in
+    Fails-passed c.in_ok-args.ensures.ok c.split-2.ensures.whole c.unexpected.result c.unexpected.ensures c.in_ok-args.ensures.last is_not
+
+pub parse_some_arguments-arguments-init : goal.parse_some_arguments-arguments-init
+parse_some_arguments-arguments-init t c = (
+  c.in_ok-first.ensures.read,
+  rw (c.in_ok-push.ensures.items, c.new-args.ensures.items) (Hands-first c.args.depth c.requires.not_closed c.in_ok-first.first.expr _ c.into_expr.ensures c.in_ok-first.ensures.ok),
+)
+
+pub parse_some_arguments-arguments-preserved : goal.parse_some_arguments-arguments-preserved
+parse_some_arguments-arguments-preserved t c =
+    let comma : first_kind c.arguments.rest.now ≡ Sign Comma = search rules in (
+      rw c.max-height.ensures (IsRead-add c.arguments.invariant.0 c.split.ensures.whole c.in_ok-arg.ensures.read),
+      rw (c.max-height.ensures, c.in_ok-push-2.ensures.items)
+          (Hands-add c.arguments.invariant.1 c.split.ensures.whole c.in_ok-arg.arg.expr _ c.into_expr-in-arguments.ensures comma (omega (arith, c.requires.room)) c.in_ok-arg.ensures.ok),
+    )
+
+pub parse_some_arguments-returns-in_err-first-clause-err : goal.parse_some_arguments-returns-in_err-first-clause-err
+parse_some_arguments-returns-in_err-first-clause-err t c =
+    let p = err_from_is_err_and c.from_residual.result c.from_residual.ensures.1 in
+    rw (p.1, p.2) (Fails-argument c.args.depth c.requires.not_closed c.in_err-first.ensures.err)
+
+pub parse_some_arguments-returns-in_err-arg-clause-err : goal.parse_some_arguments-returns-in_err-arg-clause-err
+parse_some_arguments-returns-in_err-arg-clause-err t c =
+    let comma : first_kind c.arguments.rest.now ≡ Sign Comma = search rules in
+    let p = err_from_is_err_and c.from_residual-in_err-arg.result c.from_residual-in_err-arg.ensures.1 in
+    rw (p.1, p.2) (Fails-added c.arguments.invariant.1 c.split.ensures.whole comma (omega (arith, c.requires.room)) c.in_err-arg.ensures.err)

@@ -2,7 +2,7 @@
 use Rattle.std.proofs.Common.{◌+◌, ◌-◌, ◌*◌, ℕ, length}
 use Rattle.id_tree.specs.declared.parser.Level.{Level}
 use Rattle.id_tree.specs.declared.parser.Level.TheVariants as level
-use Rattle.id_tree.specs.Readers.{IsRead, Gathers, IsGathered}
+use Rattle.id_tree.specs.Readers.{IsRead, Gathers, IsGathered, Hands}
 use Rattle.id_tree.specs.Tree.{tree_of}
 use Rattle.id_tree.proofs.ReaderLemmas.{Begun}
 use Rattle.id_tree.proofs.parser.+expr.Given as goal
@@ -31,28 +31,47 @@ abbrev pub decreases-parse_conditional : goal.decreases-parse_conditional
 decreases-parse_conditional l = (200 - l.depth) * 32
 
 abbrev pub decreases-parse_unary : goal.decreases-parse_unary
-decreases-parse_unary l = (200 - l.depth) * 32 + 1
+decreases-parse_unary l = (200 - l.depth) * 32 + 2
 
 abbrev pub decreases-parse_operand : goal.decreases-parse_operand
-decreases-parse_operand l = (200 - l.depth) * 32 + (2 + 2 * rank l.level)
+decreases-parse_operand l = (200 - l.depth) * 32 + (3 + 2 * rank l.level)
 
 abbrev pub decreases-parse_grouped : goal.decreases-parse_grouped
-decreases-parse_grouped l = (200 - l.depth) * 32 + (3 + 2 * rank l.level)
+decreases-parse_grouped l = (200 - l.depth) * 32 + (4 + 2 * rank l.level)
 
 abbrev pub decreases-parse_negation : goal.decreases-parse_negation
-decreases-parse_negation l = (200 - l.depth) * 32 + 8
+decreases-parse_negation l = (200 - l.depth) * 32 + 9
 
 abbrev pub decreases-parse_expression : goal.decreases-parse_expression
-decreases-parse_expression l = (200 - l.depth) * 32 + 14
+decreases-parse_expression l = (200 - l.depth) * 32 + 15
 
 abbrev pub decreases-parse_enclosed : goal.decreases-parse_enclosed
-decreases-parse_enclosed l = (200 - l.depth) * 32 + 15
+decreases-parse_enclosed l = (200 - l.depth) * 32 + 16
 
 abbrev pub decreases-parse_binding : goal.decreases-parse_binding
-decreases-parse_binding l = (200 - l.depth) * 32 + 16
+decreases-parse_binding l = (200 - l.depth) * 32 + 17
 
 abbrev pub decreases-parse_statements : goal.decreases-parse_statements
-decreases-parse_statements l = (200 - l.depth) * 32 + 17
+decreases-parse_statements l = (200 - l.depth) * 32 + 18
+
+abbrev pub decreases-parse_leaf : goal.decreases-parse_leaf
+decreases-parse_leaf l = (200 - l.depth) * 32 + 1
+
+abbrev pub decreases-parse_named : goal.decreases-parse_named
+decreases-parse_named l = (200 - l.depth) * 32
+
+abbrev pub decreases-parse_some_arguments : goal.decreases-parse_some_arguments
+decreases-parse_some_arguments l = (200 - l.depth) * 32 + 17
+
+abbrev pub decreases-parse_arguments : goal.decreases-parse_arguments
+decreases-parse_arguments l = (200 - l.depth) * 32 + 18
+
+-- arguments have come, and the call is open
+abbrev pub invariant-parse_some_arguments-arguments : goal.invariant-parse_some_arguments-arguments
+invariant-parse_some_arguments-arguments l = IsRead l.fn.tokens l.rest l.depth l.height × Hands l.fn.tokens l.depth l.rest l.args.items l.height
+
+abbrev pub decreases-parse_some_arguments-arguments : goal.decreases-parse_some_arguments-arguments
+decreases-parse_some_arguments-arguments l = length l.rest
 
 -- the first operand has come, and the level is open
 abbrev pub invariant-parse_grouped-loop-op : goal.invariant-parse_grouped-loop-op
