@@ -61,6 +61,10 @@ AreSomeNames-sound S g number w ns s sorted rise = record {
   rise = rise;
 }
 
+-- where no names are asked for, none are said
+pub AreSomeNames-none : (S : Source) → AreSomeNames S []
+AreSomeNames-none S = record { only = λ n h. absurd h; rise = tt }
+
 -- and all, where the run is complete
 pub AreNames-complete : (S : Source) (g : Parts) (w : World) (ns : List NameValue) → AreSomeNames S ns → IsComplete S g w
     → IsSortedOf ns (shown.names g w) → AreNames S ns

@@ -1,14 +1,16 @@
 -- The facts and the instructions of a source stand at places of its program, and those lie in its text.
-use Rattle.std.proofs.Common.{◌≡◌, ℕ, zero, suc, ◌<◌, ◌≤◌, true, List, [], ◌∷◌, All, length, Some, refl, sym, ap, subst, ◌∙◌, arith}
+use Rattle.std.proofs.Common.{◌≡◌, ℕ, Bool, zero, suc, ◌<◌, ◌≤◌, true, false, List, [], ◌∷◌, All, length, Some, refl, sym, ap, subst, ◌∙◌}
 use Rattle.std.specs.Prelude.{get_or, slice_get}
 use Rattle.std.proofs.lemmas.Option.{slice_get-get_or}
 use Rattle.id_list.proofs.AmongLemmas.{Among-from_at}
 use Rattle.id_parts.specs.declared.row.Node.{Node}
-use Rattle.id_parts.specs.declared.row.Node.TheVariants.{Head, Param, Literal, Name, Unary, Binary, Split, If, Block, Binding, Def, Program}
+use Rattle.id_parts.specs.declared.row.Node.TheVariants.{Head, Param, Literal, Name, Unary, Binary, Split, If, Enter, Arg, Call, Block, Binding, Def, Program}
 use Rattle.id_parts.specs.Tables.{is_thing}
+use Rattle.id_parts.specs.Calls.{IsArgIn, IsCallOf}
 use Rattle.id_parts.specs.Regions.{IsIfOf}
 use Rattle.id_parts.specs.Turns.{IsDefOf}
 use Rattle.id_check.specs.declared.checked.Checked.{Checked}
+use Rattle.id_check.specs.Causes.{defines_main}
 use Rattle.id_check.specs.Programs.{place, rows}
 use Rattle.id_graph.specs.Graph.{Parts}
 use Rattle.id_graph.specs.declared.instr.Instr.{Instr}
@@ -29,7 +31,6 @@ use Rattle.id_desugar.specs.Regions.{imports_of}
 use Rattle.id_build.specs.Rows.{made_of, node, piece, switches}
 use Rattle.id_build.specs.Schemas.{Makes, Schemas}
 use Rattle.id_check.proofs.ProgramsLemmas.{table_of}
-use Rattle.id_laws.proofs.Known.{known}
 use Rattle.id_print.specs.declared.report.Ending.{Ending}
 use Rattle.id_print.specs.declared.report.Ending.TheVariants.{Quiet, Stopped, Fault}
 use Rattle.id_print.specs.declared.report.Report.{Report}
@@ -54,6 +55,14 @@ switch_place : (P : Checked) (q : ℕ) (bs : List ℕ) (k : ℕ) (f : Form) (e :
 switch_place P q [] k f e h = absurd cc
 switch_place P q (b ∷ bs) zero f e h = sym (ap (λ (p : Piece). p.place) (the_piece _ _ h))
 switch_place P q (b ∷ bs) (suc k) f e h = switch_place P q bs k f e h
+
+-- main is a thing
+main_thing : (x : Node) → defines_main x ≡ true → is_thing x ≡ true
+main_thing (Def x h k b) e = refl
+main_thing _ e = absurd (no e)
+  where
+    no : false ≡ true → ⊥
+    no e = cc
 
 module _ {size : ℕ} {P : Checked} (h : IsPlacedWithin size P) where
   point_within : (p : Path) (e : ℕ) → IsPoint P p e → PointWithin size p e
@@ -82,6 +91,20 @@ module _ {size : ℕ} {P : Checked} (h : IsPlacedWithin size P) where
       let d : IsIfOf (rows P) c.0 n = c.1 in
       subst (λ (q : ℕ). q ≤ size) (sym ((table_of P).split_of c.0 n d).place) (thing_within c.0 d.within (ap is_thing d.node))
 
+  -- a call's `Enter` and its arguments have its place
+  call_within : (n e : ℕ) → IsCallOf (rows P) n e → place P n ≤ size
+  call_within n e c = thing_within n c.within (ap is_thing c.node)
+
+  enter_within : (n x : ℕ) → n < length (rows P) → node P n ≡ Enter x → place P n ≤ size
+  enter_within n x l is =
+      let c = (table_of P).has_call n x l is in
+      subst (λ (q : ℕ). q ≤ size) (sym ((table_of P).enter_of c.0 n c.1).place) (call_within c.0 n c.1)
+
+  arg_within : (n e k v : ℕ) → n < length (rows P) → node P n ≡ Arg e k v → place P n ≤ size
+  arg_within n e k v l is =
+      let a : IsArgIn (rows P) n e k v = (table_of P).arg_of n e k (record { value = v; within = l; node = is }) in
+      subst (λ (q : ℕ). q ≤ size) (sym (a.stands).place) (call_within a.row e a.call)
+
   -- the places of what a row makes
   made_within : (n k : ℕ) (f : Form) (e : ℕ) → Makes P n k f e → e ≤ size
   made_within n k f e m = go (node P n) refl m.at
@@ -102,10 +125,14 @@ module _ {size : ℕ} {P : Checked} (h : IsPlacedWithin size P) where
           first_or zero g = sym (ap (λ (p : Piece). p.place) (the_piece _ _ g))
           first_or (suc j) g = switch_place P (place P n) (imports_of P n) j f e g
       go (If s x y) is at = own (one_place _ k f e at) (ap is_thing is)
+      go (Enter y) is at = subst (λ (q : ℕ). q ≤ size) (sym (one_place _ k f e at)) (enter_within n y m.within is)
+      go (Arg s i v) is at = subst (λ (q : ℕ). q ≤ size) (sym (one_place _ k f e at)) (arg_within n s i v m.within is)
+      go (Call s c) is at = own (one_place _ k f e at) (ap is_thing is)
       go (Block b) is at = absurd cc
       go (Binding y a) is at = own (one_place _ k f e at) (ap is_thing is)
       go (Def y x j b) is at = absurd cc
-      go Program is at = subst (λ (q : ℕ). q ≤ size) (sym (one_place _ k f e at)) (def_within P.main _ (known P).main)
+      go Program is at =
+          subst (λ (q : ℕ). q ≤ size) (sym (one_place _ k f e at)) (thing_within P.main (P.is_main).within (main_thing (node P P.main) (P.is_main).node))
 
   one_there : (is : List Instr) (k : ℕ) (i j : Instr) → slice_get is k ≡ Some i → slice_get is k ≡ Some j → i ≡ j
   one_there is k i j a b = let e : Some i ≡ Some j = sym a ∙ b in cc
@@ -135,11 +162,11 @@ module _ {size : ℕ} (S : Source) (h : IsPlacedWithin size S.checked) where
   pub facts_within : (n : ℕ) (fs : List Fact) → AreFacts S n fs → FactsWithin size fs
   facts_within n fs s = λ k d within. fact_within h _ (round_placed S n _ (s.only _ (Among-from_at _ fs k (slice_get-get_or fs k d within))))
 
-  ending_within : (r : Report) (e : Ending) → SaysTruly S r e → EndingWithin size e
-  ending_within r Quiet t = tt
-  ending_within r Stopped t = tt
-  ending_within r (Fault f) t = fault_within f t
+  ending_within : (b : Bool) (r : Report) (e : Ending) → SaysTruly S b r e → EndingWithin size e
+  ending_within b r Quiet t = tt
+  ending_within b r Stopped t = tt
+  ending_within b r (Fault f) t = fault_within f t
 
   -- what a true report says lies in the text
-  pub report_within : (r : Report) → IsTrueOf S r → ReportWithin size r
-  report_within r t = record { ending = ending_within r r.ending t.says; names = names_within r.names t.names }
+  pub report_within : (b : Bool) (r : Report) → IsTrueOf S b r → ReportWithin size r
+  report_within b r t = record { ending = ending_within b r r.ending t.says; names = names_within r.names t.names }

@@ -1,5 +1,5 @@
 -- Lemmas on runs of machines, and on what their reports say (specs/Reports.antt).
-use Rattle.std.proofs.Common.{◌≡◌, ℕ, List, [], ◌∷◌, ◌++◌, Option, Some, None, refl, sym, subst, ◌∙◌}
+use Rattle.std.proofs.Common.{◌≡◌, ℕ, Bool, true, false, IsTrue, IsFalse, List, [], ◌∷◌, ◌++◌, Option, Some, None, refl, sym, subst, ◌∙◌}
 use Rattle.std.specs.Prelude.{◌≤◌, All, length, IfSome, slice_get}
 use Rattle.id_graph.specs.Graph.{Parts}
 use Rattle.id_meaning.specs.declared.SourceValue.{SourceValue}
@@ -7,7 +7,7 @@ use Rattle.id_meaning.specs.declared.SourceFault.{SourceFault}
 use Rattle.id_meaning.specs.Sources.{Source, AreInputs}
 use Rattle.id_meaning.specs.Names.{AreSomeNames}
 use Rattle.id_meaning.specs.Orders.{NamesRise}
-use Rattle.id_meaning.specs.Rounds.{Answers, IsAnswer, Faulty}
+use Rattle.id_meaning.specs.Rounds.{Answers, IsAnswer, IsCoherent, Faulty}
 use Rattle.id_build.specs.Schemas.{Schemas}
 use Rattle.id_core.specs.Machines.{World, MachineView, IsQuiet, start, delivered, run}
 use Rattle.id_core.specs.Observed.{answer, faults, names}
@@ -20,7 +20,7 @@ use Rattle.id_observe.proofs.FirstsLemmas.{first_is_shown}
 use Rattle.id_print.specs.Endings.{EndsSo}
 use Rattle.id_print.specs.Names.{IsSortedOf, AreApart}
 use Rattle.id_engine.specs.Reports.{HasRun, IsReportOfRun, IsTrueOf, SaysTruly}
-use Rattle.id_engine.proofs.NamesLemmas.{AreApart-sound, AreSomeNames-sound, AreNames-complete}
+use Rattle.id_engine.proofs.NamesLemmas.{AreApart-sound, AreSomeNames-sound, AreSomeNames-none, AreNames-complete}
 
 -- deliveries and then more of them
 pub run-append : (g : Parts) (count : ℕ) (ks ls : List ℕ) (s : World) → run g count (ks ++ ls) s ≡ run g count ls (run g count ks s)
@@ -33,31 +33,34 @@ if_some S None h = tt
 if_some S (Some v) h = h v refl
 
 -- what a report says is so where the state is sound, and complete if it is quiet
-true_in : (S : Source) (g : Parts) (w : World) (r : Report) (e : Ending) → ((v : SourceValue) → answer w ≡ Some v → Answers S v)
+true_in : (S : Source) (g : Parts) (w : World) (b : Bool) (r : Report) (e : Ending) → ((v : SourceValue) → answer w ≡ Some v → Answers S v)
     → ((i : ℕ) (f : SourceFault) → slice_get (faults g w) i ≡ Some f → Faulty S f) → (IsQuiet w → IsComplete S g w) → AreSomeNames S r.names
-    → r.answer ≡ answer w → IsSortedOf r.names (names g w) → EndsSo (record { graph = g; count = 1; world = w }) e → SaysTruly S r e
-true_in S g w r Quiet says fails completes some same sorted ends =
+    → r.answer ≡ answer w → (IsTrue b → IsSortedOf r.names (names g w)) → EndsSo (record { graph = g; count = 1; world = w }) e → SaysTruly S b r e
+true_in S g w b r Quiet says fails completes some same sorted ends =
     let done : IsComplete S g w = completes ends in
     let Q : Option SourceValue → Type 0 = IsAnswer S in
-    (subst Q (sym same) done.answer, AreNames-complete S g w r.names some done sorted, done.no_fault)
-true_in S g w r Stopped says fails completes some same sorted ends = (if_some S r.answer (λ v h. says v (sym same ∙ h)), some)
-true_in S g w r (Fault f) says fails completes some same sorted ends = let shown = first_is_shown g w.elements f ends in fails shown.0 f shown.1
+    (subst Q (sym same) done.answer, λ asked. AreNames-complete S g w r.names some done (sorted asked), done.no_fault)
+true_in S g w b r Stopped says fails completes some same sorted ends = (if_some S r.answer (λ v h. says v (sym same ∙ h)), some)
+true_in S g w b r (Fault f) says fails completes some same sorted ends = let shown = first_is_shown g w.elements f ends in fails shown.0 f shown.1
 
--- what is known of a report of a machine
-pub record IsReportFrom (m : MachineView) (r : Report) : Type 0 where
+-- what is known of a report of a machine, with names where they are asked for
+pub record IsReportFrom (m : MachineView) (b : Bool) (r : Report) : Type 0 where
   pub answer_is : r.answer ≡ answer m.world
-  pub sorted : IsSortedOf r.names (names m.graph m.world)
-  pub rise : AreApart (names m.graph m.world) → NamesRise r.names
+  pub sorted : IsTrue b → IsSortedOf r.names (names m.graph m.world)
+  pub rise : IsTrue b → AreApart (names m.graph m.world) → NamesRise r.names
+  pub none : IsFalse b → r.names ≡ []
   pub ends : EndsSo m r.ending
 
 -- the same of a machine that is equal but for its count
-from_world : (m : MachineView) (g : Parts) (n : ℕ) (w : World) (r : Report) → m.graph ≡ g → m.world ≡ w → IsReportFrom m r → IsReportFrom (record { graph = g; count = n; world = w }) r
-from_world m g n w r same is h =
-    let Q : Parts → World → Type 0 = λ x y. IsReportFrom (record { graph = x; count = n; world = y }) r in
+from_world : (m : MachineView) (g : Parts) (n : ℕ) (w : World) (b : Bool) (r : Report) → m.graph ≡ g → m.world ≡ w → IsReportFrom m b r
+    → IsReportFrom (record { graph = g; count = n; world = w }) b r
+from_world m g n w b r same is h =
+    let Q : Parts → World → Type 0 = λ x y. IsReportFrom (record { graph = x; count = n; world = y }) b r in
     subst (λ (x : Parts). Q x w) same (subst (λ (y : World). Q m.graph y) is (record {
       answer_is = h.answer_is;
       sorted = h.sorted;
       rise = h.rise;
+      none = h.none;
       ends = ends_at r.ending h.ends;
     }))
   where
@@ -66,29 +69,34 @@ from_world m g n w r same is h =
     ends_at Stopped h = h
     ends_at (Fault f) h = h
 
+-- its names are some of the source's where the state is sound
+some_names : (S : Source) (g : Parts) (number : ℕ → ℕ → ℕ) (w : World) (b : Bool) (r : Report) → IsCoherent S → IsSound S g number w
+    → IsReportFrom (record { graph = g; count = 1; world = w }) b r → AreSomeNames S r.names
+some_names S g number w true r coherent ok h = AreSomeNames-sound S g number w r.names ok (h.sorted refl) (h.rise refl (AreApart-sound S g number w coherent ok))
+some_names S g number w false r coherent ok h = subst (AreSomeNames S) (sym (h.none refl)) (AreSomeNames-none S)
+
 -- what a report of a run of a schemas' graph says is so
-pub IsTrueOf-laws : (S : Source) (g : Parts) (count : ℕ) (ks : List ℕ) (m : MachineView) (r : Report) → Soundness → QuietIsComplete → Coherence → AreInputs S.checked S.inputs
-    → Schemas S.checked g → m.graph ≡ g → m.world ≡ run g count ks (start g S.inputs count) → IsReportFrom m r → IsTrueOf S r
-IsTrueOf-laws S g count ks m r sound complete coherent inputs schemas same_graph world from =
+pub IsTrueOf-laws : (S : Source) (g : Parts) (count : ℕ) (ks : List ℕ) (m : MachineView) (b : Bool) (r : Report) → Soundness → QuietIsComplete → Coherence → AreInputs S.checked S.inputs
+    → Schemas S.checked g → m.graph ≡ g → m.world ≡ run g count ks (start g S.inputs count) → IsReportFrom m b r → IsTrueOf S b r
+IsTrueOf-laws S g count ks m b r sound complete coherent inputs schemas same_graph world from =
     let w : World = run g count ks (start g S.inputs count) in
     let ok : IsSound S g schemas.number w = sound S g count ks inputs schemas in
-    let here : IsReportFrom (record { graph = g; count = 1; world = w }) r = from_world m g 1 w r same_graph world from in
-    let some : AreSomeNames S r.names =
-    AreSomeNames-sound S g schemas.number w r.names ok here.sorted (here.rise (AreApart-sound S g schemas.number w (coherent S) ok)) in
+    let here : IsReportFrom (record { graph = g; count = 1; world = w }) b r = from_world m g 1 w b r same_graph world from in
+    let some : AreSomeNames S r.names = some_names S g schemas.number w b r (coherent S) ok here in
     record {
-      says = true_in S g w r r.ending ok.answer (λ i f k. ok.faults f (Among-from_at f (faults g w) i k)) (complete S g count ks inputs schemas)
+      says = true_in S g w b r r.ending ok.answer (λ i f k. ok.faults f (Among-from_at f (faults g w) i k)) (complete S g count ks inputs schemas)
           some here.answer_is here.sorted here.ends;
       names = some;
     }
 
 -- a report of a machine that has run is one of the run
-pub IsReportOfRun-from : (g : Parts) (vs : List SourceValue) (steps : ℕ) (a m : MachineView) (r : Report) → a ≡ record { graph = g; count = 1; world = start g vs 1 }
-    → HasRun a m steps → IsReportFrom m r → ((w : World) → m.world ≡ w → r.ending ≡ Stopped → w.flight ≡ [] → ⊥) → IsReportOfRun g vs steps r
-IsReportOfRun-from g vs steps a m r e h from left =
+pub IsReportOfRun-from : (g : Parts) (vs : List SourceValue) (steps : ℕ) (a m : MachineView) (b : Bool) (r : Report) → a ≡ record { graph = g; count = 1; world = start g vs 1 }
+    → HasRun a m steps → IsReportFrom m b r → ((w : World) → m.world ≡ w → r.ending ≡ Stopped → w.flight ≡ [] → ⊥) → IsReportOfRun g vs steps b r
+IsReportOfRun-from g vs steps a m b r e h from left =
     let R : MachineView → Type 0 = λ x. HasRun x m steps in
     let k : R (record { graph = g; count = 1; world = start g vs 1 }) = subst R e h in
     let w : World = run g 1 k.positions (start g vs 1) in
-    let here : IsReportFrom (record { graph = g; count = 1; world = w }) r = from_world m g 1 w r k.same_graph k.world from in
+    let here : IsReportFrom (record { graph = g; count = 1; world = w }) b r = from_world m g 1 w b r k.same_graph k.world from in
     record {
       positions = k.positions;
       few = subst (λ (x : World). All (λ s. length s.events ≤ steps) x.elements) k.world k.few;

@@ -1,5 +1,5 @@
 -- Lemmas on specs/Commands.antt: from a report that is so to what is printed.
-use Rattle.std.proofs.Common.{◌≡◌, ℕ, zero, suc, Bool, List, [], ◌∷◌, Option, Some, Result, Ok, slice_get, codes, refl, sym, ap, ◌∙◌, subst}
+use Rattle.std.proofs.Common.{◌≡◌, ℕ, zero, suc, Bool, IsTrue, List, [], ◌∷◌, Option, Some, Result, Ok, slice_get, codes, refl, sym, ap, ◌∙◌, subst}
 use Rattle.id_observe.proofs.FirstsLemmas.{first_is_shown}
 use Rattle.id_check.specs.declared.checked.Checked.{Checked}
 use Rattle.id_print.specs.declared.sink.PrintError.{PrintError}
@@ -29,14 +29,14 @@ use Rattle.id_engine.specs.Runs.Ends.{quiet as ends_quiet, fault as ends_fault, 
 
 -- the text of a report that is so is what a run shows
 Shows-from_report : (P : Checked) (ws : List (List ℕ)) (vs : List SourceValue) (text : List ℕ) (b : Bool) (r : Report) (e : Ending) → AreInputsOf P ws vs
-    → SaysTruly (source P vs) r e → Shows P text (Run b ws) (status_of e) (ending_text text r (asked b r.names) e)
+    → SaysTruly (source P vs) b r e → Shows P text (Run b ws) (status_of e) (ending_text text r (asked b r.names) e)
 Shows-from_report P ws vs text b r Quiet i h = quiet r.answer r.names i h.0 h.1 h.2
 Shows-from_report P ws vs text b r Stopped i h = stopped r.answer r.names i h.0 h.1
 Shows-from_report P ws vs text b r (Fault f) i h = fault f i h
 
 -- a printed report of a run of the text's program is shown
 pub HasShown-report : (text : List ℕ) (ws : List (List ℕ)) (b : Bool) (old new : Option Told) (r : Report) (status : ℕ) (result : Result (Unit {0}) PrintError)
-    (steps : ℕ) → IsReportOf text ws steps r → status ≡ status_of r.ending → Prints old new (report_text text b r) result → HasShown (Run b ws) text old new status result
+    (steps : ℕ) → IsReportOf text ws steps b r → status ≡ status_of r.ending → Prints old new (report_text text b r) result → HasShown (Run b ws) text old new status result
 HasShown-report text ws b old new r status result steps h same printed =
     let S : ℕ → Type 0 = λ n. Shows h.program text (Run b ws) n (report_text text b r) in
     record {
@@ -75,7 +75,7 @@ no_one f i h = cc
 
 -- a printed report of a run is the run, printed
 ends_text : (g : Parts) (vs : List SourceValue) (steps : ℕ) (ks : List ℕ) (text : List ℕ) (b : Bool) (r : Report) (e : Ending) → HasEnded g steps (start g vs 1) ks
-    → IsSortedOf r.names (names g (after g vs 1 ks)) → EndsSo (record { graph = g; count = 1; world = after g vs 1 ks }) e
+    → (IsTrue b → IsSortedOf r.names (names g (after g vs 1 ks))) → EndsSo (record { graph = g; count = 1; world = after g vs 1 ks }) e
     → (e ≡ Stopped → (after g vs 1 ks).flight ≡ [] → ⊥) → r.answer ≡ answer (after g vs 1 ks)
     → Ends g vs 1 steps ks text b (status_of e) (ending_text text r (asked b r.names) e)
 ends_text g vs steps ks text b r Quiet ended sorted ends left same =
@@ -92,7 +92,7 @@ ends_text g vs steps ks text b r (Fault f) (at_rest none held) sorted ends left 
     absurd (no_one f shown.0 (sym (ap (λ fs. slice_get fs shown.0) none) ∙ shown.1))
 
 pub Ran-report : (text : List ℕ) (ws : List (List ℕ)) (steps : ℕ) (b : Bool) (old new : Option Told) (r : Report) (status : ℕ)
-    → IsReportOf text ws steps r → status ≡ status_of r.ending → Prints old new (report_text text b r) (Ok tt) → Ran text ws steps b old new status
+    → IsReportOf text ws steps b r → status ≡ status_of r.ending → Prints old new (report_text text b r) (Ok tt) → Ran text ws steps b old new status
 Ran-report text ws steps b old new r status h same printed =
     let x = h.of_run in
     let E : ℕ → Type 0 = λ n. Ends h.graph h.inputs 1 steps x.positions text b n (report_text text b r) in

@@ -1,14 +1,16 @@
 -- Deliveries to a machine of one element (specs/Reports.antt).
 use Rattle.std.proofs.Common.{◌≡◌, ◌≢◌, ℕ, ◌+◌, ◌<◌, ◌≤◌, Bool, true, false, cond, inl, inr, List, [], ◌∷◌, ◌++◌, All, length, Option, Some, None, slice_get, slice_index_or, slice_set, IsTrue, refl, sym, ap, subst, ◌∙◌, arith, append-nil, length-append}
 use Rattle.std.proofs.Math.Nat.{mod-one}
-use Rattle.std.specs.List.{filter_map, cons_option}
+use Rattle.std.specs.List.{cons_option}
 use Rattle.std.proofs.lemmas.List.Elements.{filter_map-append, All-from_recursion}
 use Rattle.std.proofs.lemmas.Option.{slice_get-get_or}
 use Rattle.id_graph.specs.Graph.{Parts}
 use Rattle.id_tag.specs.declared.Payload.{Payload}
 use Rattle.id_tag.specs.declared.Payload.TheVariants.{Token}
 use Rattle.id_tag.specs.declared.Message.{Message}
+use Rattle.id_tag.specs.declared.Tag.{Tag}
 use Rattle.id_tag.specs.Routes.{route_of}
+use Rattle.id_meaning.specs.declared.Path.{Path}
 use Rattle.id_meaning.specs.declared.SourceFault.{SourceFault}
 use Rattle.id_record.specs.declared.step.Step.{Step}
 use Rattle.id_record.specs.declared.step.Step.TheVariants.{Went, Fault, Stuck}
@@ -16,7 +18,7 @@ use Rattle.id_record.specs.declared.step.Fault.TheVariants.{Operator}
 use Rattle.id_core.specs.Events.{EventView}
 use Rattle.id_core.specs.Steps.{State, event_of, is_ended, state_after}
 use Rattle.id_core.specs.Machines.{World, MachineView, delivered, event_at, event_of_given, event_of_routed, given_to, routed_to, run, taken_from}
-use Rattle.id_core.specs.Observed.{fault_of, faults, faults_in}
+use Rattle.id_core.specs.Observed.{events_of, fault_of, faults, faults_of, path_in}
 use Rattle.id_engine.specs.Runs.{IsHeldBack}
 use Rattle.id_engine.specs.Reports.{GoesOn, at_fault, at_rest, HasRun, IsAtRest, IsDelivery, IsFreshMachine, IsSingle}
 use Rattle.id_engine.proofs.RunLemmas.{run-append}
@@ -61,26 +63,43 @@ taken g w k s v (Some m) is h =
     let t = routed g w k m s (route_of m.payload 1) v (sym (one_route m.payload)) is h in
     record { message = m; elements = ap (λ x. x.elements) t.0 ∙ ap (λ es. slice_set es 0 (state_after g 0 s m)) is; event = t.1 }
 
-abbrev told : Parts → EventView → Option SourceFault
-told g v = fault_of g v.step
+-- events that show no fault with these paths show none with any
+pathless : (g : Parts) (p q : Tag → Path) (x : Step) → fault_of g p x ≡ None → fault_of g q x ≡ None
+pathless g p q Went h = refl
+pathless g p q (Fault (Operator f t)) h = absurd cc
+pathless g p q Stuck h = refl
+
+faults_pathless : (g : Parts) (p q : Tag → Path) (vs : List EventView) → faults_of g p vs ≡ [] → faults_of g q vs ≡ []
+faults_pathless g p q [] h = refl
+faults_pathless g p q (v ∷ vs) h = go (fault_of g p v.step) refl (faults_pathless g p q vs) h
+  where
+    go : (o : Option SourceFault) → fault_of g p v.step ≡ o → (faults_of g p vs ≡ [] → faults_of g q vs ≡ []) → cons_option o (faults_of g p vs) ≡ []
+        → cons_option (fault_of g q v.step) (faults_of g q vs) ≡ []
+    go None is rest h = ap (λ o. cons_option o (faults_of g q vs)) (pathless g p q v.step is) ∙ rest h
+    go (Some f) is rest h = absurd cc
 
 -- the faults of a machine of one element are those of its record
-faults_of_one : (g : Parts) (w : World) (s : State) → w.elements ≡ s ∷ [] → faults g w ≡ filter_map (told g) s.events
-faults_of_one g w s is = ap (faults_in g) is ∙ ap (filter_map (told g)) (append-nil s.events)
+faults_of_one : (g : Parts) (w : World) (s : State) → w.elements ≡ s ∷ [] → faults g w ≡ faults_of g (path_in g w.elements) s.events
+faults_of_one g w s is =
+    let p = path_in g w.elements in
+    ap (λ (es : List State). faults_of g p (events_of es)) is ∙ ap (faults_of g p) (append-nil s.events)
 
-faults_push : (g : Parts) (s : State) (v : EventView) → filter_map (told g) s.events ≡ [] → filter_map (told g) (s.events ++ v ∷ []) ≡ cons_option (fault_of g v.step) []
-faults_push g s v none = filter_map-append (told g) s.events (v ∷ []) ∙ ap (λ fs. fs ++ cons_option (fault_of g v.step) []) none
+faults_push : (g : Parts) (p : Tag → Path) (s : State) (v : EventView) → faults_of g p s.events ≡ []
+    → faults_of g p (s.events ++ v ∷ []) ≡ cons_option (fault_of g p v.step) []
+faults_push g p s v none = filter_map-append (λ (u : EventView). fault_of g p u.step) s.events (v ∷ []) ∙ ap (λ fs. fs ++ cons_option (fault_of g p v.step) []) none
 
 -- what a delivery that makes an event does to a machine of one element that has shown no fault
 record IsNext (g : Parts) (to : World) (n : ℕ) (v : EventView) : Type 0 where
   single : IsSingle to (n + 1)
-  faults_are : faults g to ≡ cons_option (fault_of g v.step) []
+  faults_are : faults g to ≡ cons_option (fault_of g (path_in g to.elements) v.step) []
 
 next : (g : Parts) (w : World) (k n : ℕ) (v : EventView) → IsSingle w n → faults g w ≡ [] → event_at g 1 w k ≡ Some v → IsNext g (delivered g 1 w k) n v
 next g w k n v one none made =
     let s = one.state in
     let t = taken g w k s v (slice_get w.flight k) one.elements made in
-    let old = sym (faults_of_one g w s one.elements) ∙ none in
+    let to = delivered g 1 w k in
+    let p = path_in g to.elements in
+    let old = faults_pathless g (path_in g w.elements) p s.events (sym (faults_of_one g w s one.elements) ∙ none) in
     let event = event_of g 0 s t.message in
     record {
       single = record {
@@ -88,8 +107,8 @@ next g w k n v one none made =
         elements = t.elements;
         handled = length-append s.events (event ∷ []) ∙ ap (λ i. i + 1) one.handled;
       };
-      faults_are = faults_of_one g (delivered g 1 w k) (state_after g 0 s t.message) t.elements ∙ faults_push g s event old
-          ∙ ap (λ (x : EventView). cons_option (fault_of g x.step) []) (sym t.event);
+      faults_are = faults_of_one g to (state_after g 0 s t.message) t.elements ∙ faults_push g p s event old
+          ∙ ap (λ (x : EventView). cons_option (fault_of g p x.step) []) (sym t.event);
     }
 
 -- ---- what is left
@@ -183,6 +202,10 @@ module _ (a b c : MachineView) (n : ℕ) (step : Step) (one : a.count ≡ 1) (h 
   count_is : c.count ≡ a.count
   count_is = ap (λ m. m.count) d.new_is ∙ h.same_count
 
+  -- the path of each tag after it
+  abbrev path : Tag → Path
+  path = path_in a.graph c.world.elements
+
   pub Reaches-went : step ≡ Went → Reaches a c (n + 1)
   Reaches-went went = record {
     same_graph = graph_is;
@@ -191,12 +214,12 @@ module _ (a b c : MachineView) (n : ℕ) (step : Step) (one : a.count ≡ 1) (h 
       positions = (h.goes).positions ++ d.position ∷ [];
       world = run_is;
       single = after_it.single;
-      none = after_it.faults_are ∙ ap (λ (x : Step). cons_option (fault_of a.graph x) []) (d.step_is ∙ went);
+      none = after_it.faults_are ∙ ap (λ (x : Step). cons_option (fault_of a.graph path x) []) (d.step_is ∙ went);
     };
   }
 
   -- at a fault
-  failed : (x : Step) → x ≢ Went → x ≢ Stuck → (f : SourceFault) × (fault_of a.graph x ≡ Some f)
+  failed : (x : Step) → x ≢ Went → x ≢ Stuck → (f : SourceFault) × (fault_of a.graph path x ≡ Some f)
   failed Went w s = absurd (w refl)
   failed (Fault (Operator f t)) w s = (_, refl)
   failed Stuck w s = absurd (s refl)
@@ -205,7 +228,8 @@ module _ (a b c : MachineView) (n : ℕ) (step : Step) (one : a.count ≡ 1) (h 
   HasRun-fault steps went stuck less =
       let f = failed step went stuck in
       let ks = (h.goes).positions in
-      let shown : faults a.graph c.world ≡ f.0 ∷ [] = after_it.faults_are ∙ ap (λ (x : Step). cons_option (fault_of a.graph x) []) d.step_is ∙ ap (λ o. cons_option o []) f.1 in
+      let shown : faults a.graph c.world ≡ f.0 ∷ [] = after_it.faults_are ∙ ap (λ (x : Step). cons_option (fault_of a.graph path x) []) d.step_is
+      ∙ ap (λ o. cons_option o []) f.1 in
       record {
         positions = ks ++ d.position ∷ [];
         same_graph = graph_is;

@@ -1,5 +1,5 @@
 -- What a command prints of a program (docs/PROMISES.md, "The engine").
-use Rattle.std.specs.Prelude.{◌≡◌, ℕ, Bool, List, codes, Option, Result, Ok, Err, IfSome}
+use Rattle.std.specs.Prelude.{◌≡◌, ℕ, Bool, IsTrue, List, codes, Option, Result, Ok, Err, IfSome}
 use Rattle.id_check.specs.declared.checked.Checked.{Checked}
 use Rattle.id_meaning.specs.declared.SourceValue.{SourceValue}
 use Rattle.id_meaning.specs.declared.SourceFault.{SourceFault}
@@ -36,9 +36,10 @@ pub data Shows (P : Checked) (text : List ℕ) : Command → ℕ → List ℕ �
   -- the facts are exactly those of the round, on the inputs that the words give
   facts : {n : ℕ} {ws : List (List ℕ)} {vs : List SourceValue} {fs : List Fact} → AreInputsOf P ws vs → AreFacts (source P vs) n fs →
       Shows P text (Facts n ws) 0 (facts_text text fs)
-  -- a quiet run shows the answer that the source's equations give, exactly what its names have, and the source has no fault
+  -- a quiet run shows the answer that the source's equations give, exactly what its names have, where they are asked for, and
+  -- the source has no fault
   quiet : {b : Bool} {ws : List (List ℕ)} {vs : List SourceValue} (v : Option SourceValue) (ns : List NameValue) → AreInputsOf P ws vs →
-      IsAnswer (source P vs) v → AreNames (source P vs) ns → FaultFree (source P vs) →
+      IsAnswer (source P vs) v → (IsTrue b → AreNames (source P vs) ns) → FaultFree (source P vs) →
       Shows P text (Run b ws) 0 (shown_text text v (asked b ns))
   -- a run that stops at a fault shows a fault of the source
   fault : {b : Bool} {ws : List (List ℕ)} {vs : List SourceValue} (f : SourceFault) → AreInputsOf P ws vs → Faulty (source P vs) f →

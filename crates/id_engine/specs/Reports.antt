@@ -1,5 +1,5 @@
 -- The report of a run of a text's program, and deliveries to a machine of one element.
-use Rattle.std.specs.Prelude.{◌≡◌, ◌≤◌, ◌<◌, ◌⊎◌, ℕ, List, [], ◌∷◌, All, length, Option, None, Some, IfSome}
+use Rattle.std.specs.Prelude.{◌≡◌, ◌≤◌, ◌<◌, ◌⊎◌, ℕ, Bool, IsTrue, List, [], ◌∷◌, All, length, Option, None, Some, IfSome}
 use Rattle.id_check.specs.declared.checked.Checked.{Checked}
 use Rattle.id_meaning.specs.declared.SourceValue.{SourceValue}
 use Rattle.id_meaning.specs.declared.SourceFault.{SourceFault}
@@ -34,15 +34,15 @@ status_of Quiet = 0
 status_of Stopped = 3
 status_of (Fault f) = 1
 
--- what a report with this ending says of the source is so
-abbrev pub SaysTruly : Source → Report → Ending → Type 0
-SaysTruly S r Quiet = IsAnswer S r.answer × AreNames S r.names × FaultFree S
-SaysTruly S r Stopped = IfSome r.answer (Answers S) × AreSomeNames S r.names
-SaysTruly S r (Fault f) = Faulty S f
+-- what a report with this ending says of the source is so; it says all of its names where they are asked for
+abbrev pub SaysTruly : Source → Bool → Report → Ending → Type 0
+SaysTruly S b r Quiet = IsAnswer S r.answer × (IsTrue b → AreNames S r.names) × FaultFree S
+SaysTruly S b r Stopped = IfSome r.answer (Answers S) × AreSomeNames S r.names
+SaysTruly S b r (Fault f) = Faulty S f
 
 -- what a report says of the source is so; whatever the ending, its names have what it says
-pub record IsTrueOf (S : Source) (r : Report) : Type 0 where
-  pub says : SaysTruly S r r.ending
+pub record IsTrueOf (S : Source) (b : Bool) (r : Report) : Type 0 where
+  pub says : SaysTruly S b r r.ending
   pub names : AreSomeNames S r.names
 
 -- deliveries at these positions, from this state, have come to an end: at a fault, or where all messages left are held back
@@ -50,26 +50,27 @@ pub data HasEnded (g : Parts) (steps : ℕ) (w : World) (ks : List ℕ) : Type 0
   at_fault : (f : SourceFault) → EndsAt g 1 w ks f → HasEnded g steps w ks
   at_rest : faults g (run g 1 ks w) ≡ [] → All (IsHeldBack 1 steps (run g 1 ks w)) (run g 1 ks w).flight → HasEnded g steps w ks
 
--- the report is that of a run that has ended, on one element that has handled at most so many messages
-pub record IsReportOfRun (g : Parts) (vs : List SourceValue) (steps : ℕ) (r : Report) : Type 0 where
+-- the report, with names where they are asked for, is that of a run that has ended, on one element that has handled at most so
+-- many messages
+pub record IsReportOfRun (g : Parts) (vs : List SourceValue) (steps : ℕ) (b : Bool) (r : Report) : Type 0 where
   pub positions : List ℕ
   pub few : All (λ s. length s.events ≤ steps) (after g vs 1 positions).elements
   pub ended : HasEnded g steps (start g vs 1) positions
   pub answer_is : r.answer ≡ answer (after g vs 1 positions)
-  pub sorted : IsSortedOf r.names (names g (after g vs 1 positions))
+  pub sorted : IsTrue b → IsSortedOf r.names (names g (after g vs 1 positions))
   pub ends : EndsSo (record { graph = g; count = 1; world = after g vs 1 positions }) r.ending
   pub left : r.ending ≡ Stopped → (after g vs 1 positions).flight ≡ [] → ⊥
 
 -- the report is one of a run of the text's program on the inputs that the words give, and what it says is so
-pub record IsReportOf (text : List ℕ) (words : List (List ℕ)) (steps : ℕ) (r : Report) : Type 0 where
+pub record IsReportOf (text : List ℕ) (words : List (List ℕ)) (steps : ℕ) (b : Bool) (r : Report) : Type 0 where
   pub program : Checked
   pub is_program : IsProgramOf text program
   pub inputs : List SourceValue
   pub are_inputs : AreInputsOf program words inputs
-  pub is_true : IsTrueOf (source program inputs) r
+  pub is_true : IsTrueOf (source program inputs) b r
   pub graph : Parts
   pub schemas : Schemas program graph
-  pub of_run : IsReportOfRun graph inputs steps r
+  pub of_run : IsReportOfRun graph inputs steps b r
 
 -- the one element of a machine has handled so many messages
 pub record IsSingle (w : World) (n : ℕ) : Type 0 where

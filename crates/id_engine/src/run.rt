@@ -95,12 +95,17 @@ fn run_machine(machine: &mut Machine<'_>, steps: u64) -> Result<(), EngineError>
     Ok(())
 }
 
-/// The report of a run of a compiled program with its inputs.
-fn run_prepared(alloc: Global, prepared: &Prepared, steps: u64) -> Result<Report, EngineError>
+/// The report of a run of a compiled program with its inputs, with what names have where that is asked for.
+fn run_prepared(
+    alloc: Global,
+    prepared: &Prepared,
+    steps: u64,
+    named: bool,
+) -> Result<Report, EngineError>
     requires { AreInputs prepared.now.compiled.checked prepared.now.inputs.values }
-    ensures is_true { IfOk result (IsTrueOf (source prepared.now.compiled.checked prepared.now.inputs.values)) }
+    ensures is_true { IfOk result (IsTrueOf (source prepared.now.compiled.checked prepared.now.inputs.values) named) }
     ensures schemas { OnOk result (Schemas prepared.now.compiled.checked prepared.now.compiled.graph) }
-    ensures run { IfOk result (IsReportOfRun prepared.now.compiled.graph prepared.now.inputs.values steps) }
+    ensures run { IfOk result (IsReportOfRun prepared.now.compiled.graph prepared.now.inputs.values steps named) }
     ensures memory { IfErr result (λ e. e ≡ EngineError.Memory) }
 {
     id_laws::sound();
@@ -110,13 +115,19 @@ fn run_prepared(alloc: Global, prepared: &Prepared, steps: u64) -> Result<Report
     id_laws::never_stuck();
     let mut machine = machine_of(alloc, prepared.compiled.valid(), &prepared.inputs)?;
     run_machine(&mut machine, steps)?;
-    let report = run_report(alloc, &machine)?;
+    let report = run_report(alloc, &machine, named)?;
     Ok(report)
 }
 
-/// The report of a run of a text on these input words.
-fn run_text(alloc: Global, text: &str, inputs: &[&str], steps: u64) -> Result<Report, EngineError>
-    ensures report { IfOk result (IsReportOf text.now (map (λ w. w.now) inputs.now) steps) }
+/// The report of a run of a text on these input words, with what names have where that is asked for.
+fn run_text(
+    alloc: Global,
+    text: &str,
+    inputs: &[&str],
+    steps: u64,
+    named: bool,
+) -> Result<Report, EngineError>
+    ensures report { IfOk result (IsReportOf text.now (map (λ w. w.now) inputs.now) steps named) }
     ensures within { IfOk result (ReportWithin (length text.now)) }
     ensures short { OnOk result (length text.now ≤ 1048576) }
     ensures taken { OnOk result (IsTakenRun text.now (map (λ w. w.now) inputs.now) steps) }
@@ -125,17 +136,22 @@ fn run_text(alloc: Global, text: &str, inputs: &[&str], steps: u64) -> Result<Re
     ensures not_write { IfErr result (λ e. e ≢ EngineError.Write) }
 {
     match prepare(alloc, text, inputs) {
-        Ok(prepared) => run_limited(alloc, &prepared, steps),
+        Ok(prepared) => run_limited(alloc, &prepared, steps, named),
         Err(error) => Err(error),
     }
 }
 
 /// The report of a run of a compiled program with its inputs, where so many steps are allowed.
-fn run_limited(alloc: Global, prepared: &Prepared, steps: u64) -> Result<Report, EngineError>
+fn run_limited(
+    alloc: Global,
+    prepared: &Prepared,
+    steps: u64,
+    named: bool,
+) -> Result<Report, EngineError>
     requires { AreInputs prepared.now.compiled.checked prepared.now.inputs.values }
-    ensures is_true { IfOk result (IsTrueOf (source prepared.now.compiled.checked prepared.now.inputs.values)) }
+    ensures is_true { IfOk result (IsTrueOf (source prepared.now.compiled.checked prepared.now.inputs.values) named) }
     ensures schemas { OnOk result (Schemas prepared.now.compiled.checked prepared.now.compiled.graph) }
-    ensures run { IfOk result (IsReportOfRun prepared.now.compiled.graph prepared.now.inputs.values steps) }
+    ensures run { IfOk result (IsReportOfRun prepared.now.compiled.graph prepared.now.inputs.values steps named) }
     ensures few { OnOk result ((0 < steps) × (steps ≤ 100000000)) }
     ensures refused { IfErr result (AreRefusedSteps steps) }
 {
@@ -145,7 +161,7 @@ fn run_limited(alloc: Global, prepared: &Prepared, steps: u64) -> Result<Report,
     if steps > MAX_STEPS {
         return Err(EngineError::BadSteps);
     }
-    run_prepared(alloc, prepared, steps)
+    run_prepared(alloc, prepared, steps, named)
 }
 
 /// The status of a run that ended so.
@@ -185,7 +201,7 @@ pub fn engine<W: Sink>(
     ensures refused { IfErr result (IsRefusedRun text.now (map (λ w. w.now) inputs.now) steps) }
     ensures inside { IfErr result (IsInsideOf text.now) }
 {
-    let report = run_text(alloc, text, inputs, steps)?;
+    let report = run_text(alloc, text, inputs, steps, names)?;
     match write_report(&report, text, names, out) {
         Ok(()) => Ok(status_of(&report.ending)),
         Err(_) => Err(EngineError::Write),

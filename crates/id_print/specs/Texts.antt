@@ -22,7 +22,7 @@ line_column_text line column = decimal line ++ (codes ":" ++ decimal column)
 abbrev pub place_text : List ℕ → ℕ → List ℕ
 place_text text at = line_column_text (line_of text at) (column_of text at)
 
--- a step of a path, so far always a call's
+-- a step of a path, which is a call's
 abbrev pub step_text : List ℕ → PathStep → List ℕ
 step_text text s = codes "/" ++ place_text text s.place
 

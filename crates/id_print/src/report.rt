@@ -1,6 +1,6 @@
 //! Reports of runs, and how they are printed.
 
-ghost use Rattle.std.specs.Prelude.{◌≡◌, ◌≤◌, ◌↔◌, [], length, IsTrue, IfOk};
+ghost use Rattle.std.specs.Prelude.{◌≡◌, ◌≤◌, ◌↔◌, [], length, IsTrue, IsFalse, IfOk};
 ghost use Rattle.id_core.specs.Observed.{answer, faults, names};
 ghost use Rattle.id_meaning.specs.Orders.{NamesRise};
 ghost use Rattle.id_print.specs.Endings.{EndsSo};
@@ -32,7 +32,7 @@ pub enum Ending {
     Fault(SourceFault),
 }
 
-/// What a run has shown: how it ended, the answer, and what binders have, by path and place.
+/// What a run has shown: how it ended, the answer, and what binders have, by path and place, where that was asked for.
 #[derive(Drop)]
 pub struct Report {
     pub ending: Ending,
@@ -41,19 +41,23 @@ pub struct Report {
 }
 
 /// The report of a run: it ended at its first fault, by stamp and then by element, where there is one, else it is quiet
-/// or it was stopped.
-pub fn run_report(alloc: Global, machine: &Machine<'_>) -> Result<Report, AllocError>
+/// or it was stopped. What binders have is looked up only where `named` asks for it: else the report has no names.
+pub fn run_report(alloc: Global, machine: &Machine<'_>, named: bool) -> Result<Report, AllocError>
     ensures answer { IfOk result (λ r. r.answer ≡ answer machine.now.world) }
     ensures ending { IfOk result (λ r. EndsSo machine.now r.ending) }
 
     // What binders have is all there, in order; where the run shows no name twice, each comes before the next.
-    ensures names { IfOk result (λ r. IsSortedOf r.names (names machine.now.graph machine.now.world)) }
-    ensures rise { IfOk result (λ r. AreApart (names machine.now.graph machine.now.world) → NamesRise r.names) }
+    ensures names { IfOk result (λ r. IsTrue named → IsSortedOf r.names (names machine.now.graph machine.now.world)) }
+    ensures rise { IfOk result (λ r. IsTrue named → AreApart (names machine.now.graph machine.now.world) → NamesRise r.names) }
+    ensures none { IfOk result (λ r. IsFalse named → r.names ≡ []) }
 {
-    let shown = machine.observe(alloc)?;
-    let answer = shown.answer;
-    let ending = ending_of(alloc, machine, &shown.faults)?;
-    let names = sorted_names(shown.names);
+    let ending = ending_of(alloc, machine)?;
+    let answer = machine.answer();
+    let names = if named {
+        machine_names(alloc, machine)?
+    } else {
+        Sequence::new(Vec::new(alloc))
+    };
     Ok(Report {
         ending,
         answer,
@@ -61,18 +65,19 @@ pub fn run_report(alloc: Global, machine: &Machine<'_>) -> Result<Report, AllocE
     })
 }
 
-/// How a run ended that shows these faults. The records are merged only where there is a fault.
-fn ending_of(
-    alloc: Global,
-    machine: &Machine<'_>,
-    shown: &Sequence<SourceFault>,
-) -> Result<Ending, AllocError>
-    requires { shown.now ≡ faults machine.now.graph machine.now.world }
+/// What binders have in a run, by path and place.
+fn machine_names(alloc: Global, machine: &Machine<'_>) -> Result<Sequence<NameValue>, AllocError>
+    ensures sorted { IfOk result (λ ns. IsSortedOf ns (names machine.now.graph machine.now.world)) }
+    ensures rise { IfOk result (λ ns. AreApart (names machine.now.graph machine.now.world) → NamesRise ns) }
+{
+    let shown = machine.observe(alloc)?;
+    Ok(sorted_names(shown.names))
+}
+
+/// How a run ended. The records are looked at only where there is a fault.
+fn ending_of(alloc: Global, machine: &Machine<'_>) -> Result<Ending, AllocError>
     ensures { IfOk result (EndsSo machine.now) }
 {
-    if shown.is_empty() {
-        return Ok(ending_without_fault(machine));
-    }
     match machine.first_fault(alloc)? {
         Some(fault) => Ok(Ending::Fault(fault)),
         None => Ok(ending_without_fault(machine)),

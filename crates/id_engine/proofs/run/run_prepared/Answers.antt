@@ -26,9 +26,9 @@ returns-clause-is_true c =
     let g = p.compiled.graph in
     let h = c.in_ok-run_machine.ensures.run in
     let begins = c.in_ok-machine.ensures.start ∙ ap (λ (x : Parts). record { graph = x; count = 1; world = start x p.inputs.values 1 }) c.valid.ensures.value in
-    IsTrueOf-laws S g 1 h.positions c.run_machine.new.machine c.in_ok-report.report c.sound.ensures c.complete.ensures c.coherent.ensures c.requires c.valid.ensures.kept
+    IsTrueOf-laws S g 1 h.positions c.run_machine.new.machine c.args.named c.in_ok-report.report c.sound.ensures c.complete.ensures c.coherent.ensures c.requires c.valid.ensures.kept
     (h.same_graph ∙ ap (λ x. x.graph) begins) (h.world ∙ ap (λ (x : MachineView). run x.graph 1 h.positions x.world) begins)
-    (record { answer_is = e.answer; sorted = e.names; rise = e.rise; ends = e.ending })
+    (record { answer_is = e.answer; sorted = e.names; rise = e.rise; none = e.none; ends = e.ending })
 
 pub returns-clause-run : goal.returns-clause-run
 returns-clause-run c =
@@ -41,5 +41,6 @@ returns-clause-run c =
     let begins = c.in_ok-machine.ensures.start ∙ ap (λ (x : Parts). record { graph = x; count = 1; world = start x p.inputs.values 1 }) c.valid.ensures.value in
     let same = h.same_graph ∙ ap (λ x. x.graph) begins in
     let world = h.world ∙ ap (λ (x : MachineView). run x.graph 1 h.positions x.world) begins in
-    IsReportOfRun-from g p.inputs.values c.args.steps _ m c.in_ok-report.report begins h (record { answer_is = e.answer; sorted = e.names; rise = e.rise; ends = e.ending })
+    IsReportOfRun-from g p.inputs.values c.args.steps _ m c.args.named c.in_ok-report.report begins h
+    (record { answer_is = e.answer; sorted = e.names; rise = e.rise; none = e.none; ends = e.ending })
     (λ w is stopped empty. left_over c.never_stuck.ensures S g h.positions m c.in_ok-report.report.ending c.requires c.valid.ensures.kept same world e.ending stopped (ap (λ x. x.flight) is ∙ empty))

@@ -20,7 +20,8 @@ returns-in-Ok-clause-report c =
     let S : Source = source p.compiled.checked p.inputs.values in
     let ws = map (λ w. w.now) c.args.inputs.now in
     let n = c.args.steps in
-    if_ok_all c.run_limited.result (IsTrueOf S) (IsReportOfRun p.compiled.graph p.inputs.values n) (IsReportOf c.args.text.now ws n) (Schemas p.compiled.checked p.compiled.graph)
+    let b = c.args.named in
+    if_ok_all c.run_limited.result (IsTrueOf S b) (IsReportOfRun p.compiled.graph p.inputs.values n b) (IsReportOf c.args.text.now ws n b) (Schemas p.compiled.checked p.compiled.graph)
     (λ r h s k. record {
       program = p.compiled.checked;
       is_program = c.in-Ok.ensures.program;
@@ -37,7 +38,8 @@ pub returns-in-Ok-clause-within : goal.returns-in-Ok-clause-within
 returns-in-Ok-clause-within c =
     let p = c.in-Ok.prepared in
     let S : Source = source p.compiled.checked p.inputs.values in
-    if_ok c.run_limited.result (IsTrueOf S) (ReportWithin (length c.args.text.now)) (λ r h. report_within S c.in-Ok.ensures.within r h) c.run_limited.ensures.is_true
+    if_ok c.run_limited.result (IsTrueOf S c.args.named) (ReportWithin (length c.args.text.now)) (λ r h. report_within S c.in-Ok.ensures.within c.args.named r h)
+    c.run_limited.ensures.is_true
 
 pub returns-in-Ok-clause-short : goal.returns-in-Ok-clause-short
 returns-in-Ok-clause-short c = on_ok c.run_limited.result (length c.args.text.now ≤ 1048576) c.in-Ok.ensures.short
