@@ -3,7 +3,7 @@ use Rattle.std.proofs.Common.{◌≡◌, ◌⊎◌, inl, inr, length, arith, ℕ
 use Rattle.std.specs.Prelude.{option_map}
 use Rattle.id_list.specs.List.{Among}
 use Rattle.id_list.proofs.AmongLemmas.{Among-from_at}
-use Rattle.id_parts.specs.declared.row.Node.TheVariants.{Head, Param, Enter, Call, Program}
+use Rattle.id_parts.specs.declared.row.Node.TheVariants.{Head, Enter, Call, Program}
 use Rattle.id_parts.specs.Rows.{at, top}
 use Rattle.id_parts.specs.Tables.{HasPart, is_expression}
 use Rattle.id_parts.specs.Turns.{IsDefOf, params_at}
@@ -13,7 +13,6 @@ use Rattle.id_graph.specs.declared.dests.Dest.{Dest}
 use Rattle.id_graph.specs.declared.dests.Port.{Port}
 use Rattle.id_graph.specs.declared.dests.Port.TheVariants.{Zero, One}
 use Rattle.id_graph.specs.declared.instr.Instr.{Instr}
-use Rattle.id_graph.specs.declared.instr.Op.{Op}
 use Rattle.id_graph.specs.declared.instr.Op.TheVariants as op
 use Rattle.id_graph.specs.Graph.{Parts}
 use Rattle.id_tag.specs.declared.Context.{Context}
@@ -50,7 +49,7 @@ use Rattle.id_runs.proofs.Messages.{sent_from}
 use Rattle.id_runs.proofs.Waiting.{HasFired, has_fired, OperandsHandled, one_handled, two_handled}
 use Rattle.id_runs.proofs.EveryMessage.{Passes, every_message}
 use Rattle.id_laws.specs.Activations.{Opens, PathOf, Speaks, Live, entered, ReturnsTo, to_answer, to_row}
-use Rattle.id_laws.specs.Topics.{IsPart, Shown, ShownContext, Tells, Told, AllTell, AllSpeak, ContextOf, speaks_of, topic_of, topic_at, wants, result_of}
+use Rattle.id_laws.specs.Topics.{IsPart, Shown, ShownContext, Tells, Told, AllTell, AllSpeak, speaks_of, topic_of, topic_at, wants, result_of}
 use Rattle.id_laws.proofs.Assumed.{IsKnown}
 use Rattle.id_laws.proofs.Arcs.{Does, answers, enters, gets, opens, returns, starts, doing, makes, part_of, target_part}
 use Rattle.id_laws.proofs.Blocks.{a_param}

@@ -1,10 +1,9 @@
 -- What stands where in a call.
-use Rattle.std.proofs.Common.{◌≡◌, ℕ, inl, inr, ◌+◌, ◌<◌, true, Some, length, slice_get, refl, sym, ◌∙◌, ap, subst, arith}
+use Rattle.std.proofs.Common.{◌≡◌, ℕ, inl, inr, ◌<◌, true, Some, length, refl, sym, ◌∙◌, ap, subst, arith}
 use Rattle.id_parts.specs.declared.row.Node.TheVariants.{Enter, Arg, Call, Def, Head}
-use Rattle.id_parts.specs.declared.row.Region.{Region}
 use Rattle.id_parts.specs.Tables.{HasNear, HasOperand, is_expression, is_thing, HasPart}
-use Rattle.id_parts.specs.Calls.{IsArgOf, IsCallOf}
-use Rattle.id_parts.specs.Turns.{IsDefOf, params_at}
+use Rattle.id_parts.specs.Calls.{IsCallOf}
+use Rattle.id_parts.specs.Turns.{IsDefOf}
 use Rattle.id_check.specs.declared.checked.Checked.{Checked}
 use Rattle.id_check.specs.Programs.{Stands, binder, place, region, rows}
 use Rattle.id_desugar.specs.Ends.{end_of}

@@ -29,7 +29,7 @@ use Rattle.id_ops.specs.declared.Operands.TheVariants as operands
 use Rattle.id_ops.specs.declared.Fresh.{Fresh}
 use Rattle.id_ops.specs.declared.Fired.{Fired}
 use Rattle.id_ops.specs.declared.Fired.TheVariants.{Out, Side, Entered, Sent, Failed, Nothing}
-use Rattle.id_ops.specs.Operators.{constant_value, fired_by, fired_unary, fired_binary, fired_switch, fired_send, fired}
+use Rattle.id_ops.specs.Operators.{constant_value, fired_by, fired_unary, fired_binary, fired_switch, fired}
 use Rattle.id_meaning.specs.declared.Path.{Path}
 use Rattle.id_meaning.specs.declared.SourceValue.{SourceValue}
 use Rattle.id_meaning.specs.declared.SourceValue.TheVariants as source
@@ -43,7 +43,7 @@ use Rattle.id_build.specs.Rows.{node, port_at, binary_op, op_by, param_of, port_
 use Rattle.id_runs.specs.Activations.{Activation, at_iteration, tag_in}
 use Rattle.id_runs.specs.Events.{Event}
 use Rattle.id_laws.specs.Activations.{Opens, PathOf, by_test, Live, on_side, ReturnsTo}
-use Rattle.id_laws.specs.Topics.{Topic, Turned, ValueOf, TestOf, StandsFor, number_stands, truth_stands, Shown, ShownTest, ShownResult, ShownContext, Tells, split_of}
+use Rattle.id_laws.specs.Topics.{Topic, Turned, ValueOf, TestOf, StandsFor, number_stands, truth_stands, Shown, ShownTest, ShownResult, Tells, split_of}
 use Rattle.id_laws.specs.Topics.{speaks_of, topic_of, wants, topic_at}
 use Rattle.id_laws.proofs.Assumed.{IsKnown}
 use Rattle.id_laws.proofs.Arcs.{Does, starts, returns, enters, constant, unary, binary, turns_on, hands, joins, opens, passes, gets, names, answers}

@@ -1,5 +1,5 @@
 -- What a thing Has is of its kind.
-use Rattle.std.proofs.Common.{◌≡◌, inl, inr, ℕ, zero, suc, ◌<◌, ℤ, Bool as Truth, true, false, cond, Some, None, List, [], ◌∷◌, length, slice_get}
+use Rattle.std.proofs.Common.{◌≡◌, inl, inr, ℕ, zero, suc, ◌<◌, Bool as Truth, true, false, Some, None, List, [], ◌∷◌, length, slice_get}
 use Rattle.std.proofs.Common.{unwrap_or, arith, refl, sym, ◌∙◌, ap, subst}
 use Rattle.std.specs.Prelude.{neg_ℤ}
 use Rattle.id_value.specs.declared.Kind.{Kind}
@@ -33,7 +33,7 @@ use Rattle.id_meaning.specs.Sources.{Source, AreFor, AreInputs, IsInput, SuitsPa
 use Rattle.id_meaning.specs.Facts.{Rule, Chooses, then_arm, else_arm, param_has, literal_has, unary_has, binary_has, name_has, conditional_has, block_has}
 use Rattle.id_meaning.specs.Facts.{binding_has, argument_has, call_has}
 use Rattle.id_meaning.specs.Rounds.{Every, Rounds, Holds}
-use Rattle.id_build.specs.Rows.{node, port_at, port_of, called, param_of}
+use Rattle.id_build.specs.Rows.{node, port_at, port_of, param_of}
 use Rattle.id_laws.specs.Activations.{main_head}
 use Rattle.id_laws.proofs.Assumed.{IsKnown}
 use Rattle.id_laws.proofs.Blocks.{IsParam, a_param}

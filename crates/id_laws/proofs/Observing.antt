@@ -3,7 +3,6 @@ use Rattle.std.proofs.Common.{◌≡◌, ℕ, Option, Some, List, refl, sym, ◌
 use Rattle.std.specs.Option.{option_map_or}
 use Rattle.id_list.specs.List.{Among}
 use Rattle.id_list.proofs.AmongLemmas.{Among-map}
-use Rattle.id_parts.specs.declared.row.Region.{Region}
 use Rattle.id_check.specs.declared.checked.Checked.{Checked}
 use Rattle.id_check.specs.Programs.{place}
 use Rattle.id_graph.specs.declared.instr.Instr.{Instr}
@@ -19,12 +18,11 @@ use Rattle.id_meaning.specs.Sources.{Source}
 use Rattle.id_meaning.specs.Rounds.{Holds}
 use Rattle.id_build.specs.Rows.{node}
 use Rattle.id_build.specs.Schemas.{Numbered}
-use Rattle.id_runs.specs.Activations.{Activation, main_activation}
+use Rattle.id_runs.specs.Activations.{Activation}
 use Rattle.id_runs.specs.Events.{Event, payload_of}
 use Rattle.id_runs.specs.Runs.{Reach, handled}
 use Rattle.id_runs.proofs.RecordsOfRuns.{Shows, from_record, recorded}
 use Rattle.id_laws.specs.Laws.{events}
-use Rattle.id_laws.specs.Activations.{Live, at_start, on_side}
 use Rattle.id_laws.specs.Topics.{IsPart, StandsFor, number_stands, truth_stands, Shown}
 use Rattle.id_laws.proofs.Arcs.{doing, place_shown}
 use Rattle.id_laws.proofs.TurnedOn.{without_none}

@@ -1,10 +1,10 @@
 -- No two events of a run send to one port under one tag, and none sends to what the start sends to.
-use Rattle.std.proofs.Common.{◌≡◌, ◌⊎◌, inl, inr, ℕ, Bool as Truth, ◌≤◌, true, false, Option, Some, None, List, [], ◌∷◌, length, map, slice_get, refl, sym}
-use Rattle.std.proofs.Common.{◌∙◌, ap, subst, arith, zero, suc, ◌<◌}
+use Rattle.std.proofs.Common.{◌≡◌, ◌⊎◌, inl, inr, ℕ, Bool as Truth, true, false, Option, Some, None, List, [], length, slice_get, refl, sym}
+use Rattle.std.proofs.Common.{◌∙◌, ap, subst, zero, suc, ◌<◌}
 use Rattle.std.specs.Option.{option_map_or}
 use Rattle.id_value.specs.declared.Kind.{Kind}
 use Rattle.id_list.specs.List.{Among, AllDiffer}
-use Rattle.id_list.proofs.AmongLemmas.{Among-from_map, Among-from_at}
+use Rattle.id_list.proofs.AmongLemmas.{Among-from_at}
 use Rattle.id_parts.specs.declared.row.Region.{Region}
 use Rattle.id_parts.specs.declared.row.Node.TheVariants.{Head, Param, If, Program, Enter, Arg, Call}
 use Rattle.id_parts.specs.Rows.{arm_at}
@@ -13,9 +13,7 @@ use Rattle.id_check.specs.declared.checked.Checked.{Checked}
 use Rattle.id_check.specs.Programs.{region, rows, place}
 use Rattle.id_graph.specs.declared.dests.Port.{Port}
 use Rattle.id_graph.specs.declared.dests.Port.TheVariants.{Zero, One}
-use Rattle.id_graph.specs.declared.dests.Dest.{Dest}
 use Rattle.id_graph.specs.declared.instr.Instr.{Instr}
-use Rattle.id_graph.specs.declared.instr.Op.{Op}
 use Rattle.id_graph.specs.Ports.{two_ports}
 use Rattle.id_graph.specs.Graph.{Parts, arcs_on}
 use Rattle.id_tag.specs.declared.Context.{Context}
@@ -23,10 +21,7 @@ use Rattle.id_tag.specs.declared.Tag.{Tag}
 use Rattle.id_tag.specs.declared.Value.{Value}
 use Rattle.id_tag.specs.declared.Payload.{Payload}
 use Rattle.id_tag.specs.declared.Payload.TheVariants.{Token}
-use Rattle.id_ops.specs.declared.Fired.{Fired}
-use Rattle.id_ops.specs.declared.Fired.TheVariants.{Out, Side, Sent, Failed, Nothing, Entered}
-use Rattle.id_ops.specs.Operators.{side_of}
-use Rattle.id_core.specs.Steps.{sent, token_to}
+use Rattle.id_ops.specs.declared.Fired.TheVariants.{Entered}
 use Rattle.id_record.specs.Records.{dests_at}
 use Rattle.id_core.specs.Events.{tag_of}
 use Rattle.id_core.specs.Machines.{World}
@@ -39,8 +34,7 @@ use Rattle.id_runs.specs.Activations.{Activation, at_iteration, main_context, ma
 use Rattle.id_runs.specs.Events.{Event, Took, Waits, Blocked, Fires, FiresOnce, sends_of, FiresAs, Enters, payload_of, fired_event}
 use Rattle.id_runs.specs.Keys.{Key, AtPort, key_of}
 use Rattle.id_runs.specs.Runs.{Reach, handled, starting}
-use Rattle.id_runs.specs.OneMessage.{count_for, Exclusive}
-use Rattle.id_runs.proofs.Keys.{count_none, count_one, count_first}
+use Rattle.id_runs.specs.OneMessage.{Exclusive}
 use Rattle.id_runs.proofs.Messages.{one_firing}
 use Rattle.id_laws.specs.Activations.{main_head, Speaks, Live, ReturnsTo, to_answer, to_row, SeatOf, made_seat, Below, path_at}
 use Rattle.id_laws.specs.Topics.{AllTell, AllSpeak, Tells, topic_at, wants}
@@ -54,7 +48,6 @@ use Rattle.id_laws.proofs.Origins.{origin_shows}
 use Rattle.id_laws.proofs.Senders.{came_by}
 use Rattle.id_laws.proofs.Start.{started, starts_once}
 use Rattle.id_laws.proofs.Tokens.{one_part, port_of}
-use Rattle.id_valid.specs.Roles.{op_at}
 use Rattle.id_build.specs.declared.arc.Form.{Form}
 use Rattle.id_laws.proofs.Calls.{call_at, called_head, arg_at}
 use Rattle.id_laws.proofs.Seats.{OneSeat, one_opening, not_main, event_context, seat_other, live_path}

@@ -1,8 +1,8 @@
 -- Where contexts stand: each has one seat, so an activation has one path, and each path is that of one activation.
 use Rattle.std.proofs.Common.{◌≡◌, ℕ, suc, ◌<◌, List, [], ◌∷◌, ◌++◌, length, refl, sym, ◌∙◌, ap, subst, arith}
 use Rattle.id_parts.specs.declared.row.Region.{Region}
-use Rattle.id_parts.specs.declared.row.Node.TheVariants.{Enter, Call}
-use Rattle.id_check.specs.Programs.{place, region, rows}
+use Rattle.id_parts.specs.declared.row.Node.TheVariants.{Enter}
+use Rattle.id_check.specs.Programs.{place, rows}
 use Rattle.id_graph.specs.Graph.{Parts}
 use Rattle.id_tag.specs.declared.Context.{Context}
 use Rattle.id_tag.specs.declared.Tag.{Tag}
@@ -15,11 +15,11 @@ use Rattle.id_meaning.specs.Facts.{outermost, below}
 use Rattle.id_build.specs.Rows.{node}
 use Rattle.id_build.specs.Schemas.{Numbered}
 use Rattle.id_runs.specs.Activations.{Activation, at_iteration, main_context, main_activation, tag_in}
-use Rattle.id_runs.specs.Events.{Event, Took, FiresAs, FiresOnce, fired_event}
+use Rattle.id_runs.specs.Events.{Event, FiresAs, FiresOnce, fired_event}
 use Rattle.id_laws.specs.Activations.{Seat, Outermost, Below, path_at, Opens, SeatOf, main_seat, made_seat, PathOf, Live, at_start, on_side, entered}
 use Rattle.id_laws.proofs.Assumed.{IsKnown}
 use Rattle.id_laws.proofs.Arcs.{opens, part_of}
-use Rattle.id_laws.proofs.Calls.{call_at, one_enter_at}
+use Rattle.id_laws.proofs.Calls.{one_enter_at}
 use Rattle.id_laws.proofs.Tokens.{one_part, same_activation, same_number}
 use Rattle.id_runs.specs.Serials.{ContextsApart}
 use Rattle.id_runs.proofs.Serials.{entered_once}

@@ -1,5 +1,5 @@
 -- The records say under which tag a context was entered.
-use Rattle.std.proofs.Common.{◌≡◌, ◌⊎◌, inl, inr, ℕ, zero, suc, ◌+◌, ◌-◌, ◌≤◌, Bool, true, false, ◌&&◌, cond, Option, Some, None, List, [], ◌∷◌, ◌++◌}
+use Rattle.std.proofs.Common.{◌≡◌, ◌⊎◌, inl, inr, ℕ, zero, suc, ◌-◌, ◌≤◌, Bool, true, false, ◌&&◌, cond, Option, Some, None, List, [], ◌∷◌, ◌++◌}
 use Rattle.std.proofs.Common.{length, length-append, map, slice_get, refl, sym, ◌∙◌, ap, subst, arith}
 use Rattle.std.specs.Option.{option_map}
 use Rattle.std.proofs.lemmas.List.{append_assoc, length-map}
@@ -17,12 +17,12 @@ use Rattle.id_tag.specs.declared.Message.{Message}
 use Rattle.id_tag.specs.Tags.{same_context}
 use Rattle.id_tag.proofs.TagsLemmas.{one_from_same_tag, same_tag_laws}
 use Rattle.id_ops.specs.declared.Operands.{Operands}
-use Rattle.id_ops.specs.declared.Operands.TheVariants.{One, Two}
+use Rattle.id_ops.specs.declared.Operands.TheVariants.{One}
 use Rattle.id_ops.specs.declared.Fresh.{Fresh}
 use Rattle.id_ops.specs.declared.Fired.{Fired}
 use Rattle.id_ops.specs.declared.Fired.TheVariants as fires
 use Rattle.id_ops.specs.Operators.{fired, fired_enter}
-use Rattle.id_record.specs.Sends.{started, token_to}
+use Rattle.id_record.specs.Sends.{token_to}
 use Rattle.id_record.specs.Records.{dests_at}
 use Rattle.id_core.specs.Events.{EventView, tag_of}
 use Rattle.id_core.specs.Steps.{sent}
@@ -36,12 +36,12 @@ use Rattle.id_list.proofs.AmongLemmas.{Among-map}
 use Rattle.id_list.proofs.DifferLemmas.{AllDiffer-few}
 use Rattle.id_list.proofs.PlacesLemmas.{slice_get-last}
 use Rattle.id_runs.specs.Activations.{main_context}
-use Rattle.id_runs.specs.Events.{Waits, Blocked, Fires, Event, Took, FiresAs, fired_event, payload_of, sends_of, sent_on, Enters}
+use Rattle.id_runs.specs.Events.{Waits, Blocked, Fires, Event, Took, FiresAs, fired_event, sent_on, Enters}
 use Rattle.id_runs.specs.Runs.{Reach}
 use Rattle.id_runs.specs.Serials.{ContextsApart}
 use Rattle.id_runs.proofs.Enters as firing
 use Rattle.id_runs.proofs.RecordsOfRuns.{Shows, from_record, to_record, recorded, among_events}
-use Rattle.id_runs.proofs.Serials.{contexts_apart, entered_once}
+use Rattle.id_runs.proofs.Serials.{contexts_apart}
 use Rattle.id_runs.proofs.Waiting.{has_fired}
 
 -- ---- tests of contexts

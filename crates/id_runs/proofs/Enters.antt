@@ -1,5 +1,5 @@
 -- An `enter` alone makes a context.
-use Rattle.std.proofs.Common.{◌≡◌, ◌⊎◌, inl, inr, ℕ, ◌<◌, Bool as Truth, true, false, cond, List, length, refl, sym, ◌∙◌}
+use Rattle.std.proofs.Common.{◌≡◌, ℕ, Bool as Truth, true, false, cond, refl}
 use Rattle.id_value.specs.declared.Outcome.{Outcome}
 use Rattle.id_value.specs.declared.Outcome.TheVariants.{Gives, Fails, Lacks}
 use Rattle.id_value.specs.declared.Constant.TheVariants as constants
@@ -15,7 +15,6 @@ use Rattle.id_tag.specs.declared.Value.TheVariants.{Signal, Int, Bool, Context a
 use Rattle.id_ops.specs.declared.Operands.{Operands}
 use Rattle.id_ops.specs.declared.Operands.TheVariants.{One as Alone, Two}
 use Rattle.id_ops.specs.declared.Fresh.{Fresh}
-use Rattle.id_ops.specs.declared.Fired.{Fired}
 use Rattle.id_ops.specs.declared.Fired.TheVariants.{Out, Side, Entered, Sent, Nothing}
 use Rattle.id_ops.specs.Operators.{fired, fired_by, tag_within}
 
