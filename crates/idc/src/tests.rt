@@ -108,7 +108,7 @@ run|text.id / refused 3 NumberTooLarge at 1:19 / def main(): int = 9223372036854
 run|text.id / refused 12 WrongKind at 1:23 wanted int found bool / def main(): int = 1 + true;
 run|text.id|m=1|n=x / refused 16 UnknownInput m=1 / def main(n: int): int = n;
 run|text.id / refused 15 MissingInput n / def main(n: int): int = n;
-run|text.id|n=21 / fault overflow at /1:82@1:46 / def f(n: int): int = if n <= 1 then 1 else n * f(n - 1); def main(n: int): int = f(n);
+run|text.id|n=0 / fault division by zero at /1:55@1:24 / def f(n: int): int = 1 div n; def main(n: int): int = f(n);
 run|text.id / answer 7 / def k(x: int, y: int): int = x; def main(): int = { r = k(7, r); in r };
 run|text.id / refused 11 WrongCount at 1:19 / def main(): int = main(1);
 run|other.id / refused 4 File / def main(): int = 1;
