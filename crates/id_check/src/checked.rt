@@ -4,7 +4,6 @@ ghost use Rattle.std.specs.Prelude.{◌≡◌, ℕ, [], get_or, None};
 ghost use Rattle.std.proofs.Props.{props};
 ghost use Rattle.id_tree.specs.Tree.{program_tree};
 ghost use Rattle.id_tree.specs.Distinct.{Distinct};
-ghost use Rattle.id_tree.specs.Uncalled.{Uncalled, Uncalled-prop};
 ghost use Rattle.id_check.specs.Kept.{Distinct-prop};
 ghost use Rattle.id_parts.specs.Rows.{parts_of, rows_of};
 ghost use Rattle.id_check.specs.Causes.{IsMain, causes};
@@ -28,8 +27,6 @@ pub struct Checked {
     pub ghost tabled: { table.rows.items ≡ rows_of (program_tree program) } by { Prim.hlevel props },
     pub ghost named: { table.names.items ≡ (parts_of (program_tree program)).names } by { Prim.hlevel props },
     pub ghost distinct: { Distinct (program_tree program) } by { Distinct-prop (program_tree program) },
-    // The grammar has no calls yet.
-    pub ghost uncalled: { Uncalled (program_tree program) } by { Uncalled-prop (program_tree program) },
     pub ghost is_main: { IsMain table.rows.items main } by { Prim.hlevel props },
     pub ghost bound: { AreBinders table.rows.items (λ i. get_or binders.items i None) } by { Prim.hlevel props },
     pub ghost kinded: { AreKinds table.rows.items (λ i. get_or binders.items i None) (λ i. get_or kinds.items i None) } by { Prim.hlevel props },

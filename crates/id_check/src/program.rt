@@ -3,7 +3,6 @@
 ghost use Rattle.std.specs.Prelude.{◌≡◌, get_or, length, IfOk, IfErr, IfNone, IfSome, None};
 ghost use Rattle.id_tree.specs.Tree.{program_tree};
 ghost use Rattle.id_tree.specs.Distinct.{Distinct};
-ghost use Rattle.id_tree.specs.Uncalled.{Uncalled};
 ghost use Rattle.id_parts.specs.Rows.{at, parts_of, rows_of};
 ghost use Rattle.id_parts.specs.Tables.{IsFormed};
 ghost use Rattle.id_check.specs.Causes.{HasNoMain, IsInside, IsMain, IsRefusedFor, causes};
@@ -36,8 +35,6 @@ struct Columns {
 /// place the one with the smaller number, and where there is none, that it has no `main`.
 pub fn check(alloc: Global, program: Program) -> Result<Checked, CheckError>
     requires distinct { Distinct (program_tree program) }
-    // The grammar has no calls yet.
-    requires uncalled { Uncalled (program_tree program) }
     ensures ok { IfOk result (λ c. c.program ≡ program) }
     ensures back { IfErr result (λ e. e.program ≡ program) }
     ensures refused { IfErr result (λ e. IsRefusedFor (rows_of (program_tree program)) e.cause) }
@@ -95,7 +92,6 @@ fn find_columns(alloc: Global, rows: &[Row], count: usize) -> Result<Columns, Al
 /// The program, checked, or why it is refused, where this is its table, and this was found in it. Takes no memory.
 fn settle(program: Program, table: Table, columns: Columns) -> Result<Checked, CheckError>
     requires distinct { Distinct (program_tree program) }
-    requires uncalled { Uncalled (program_tree program) }
     requires tabled { table.rows.items ≡ rows_of (program_tree program) }
     requires named { table.names.items ≡ (parts_of (program_tree program)).names }
     requires bound { AreBinders table.rows.items (λ i. get_or columns.binders.items i None) }

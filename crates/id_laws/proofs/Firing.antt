@@ -103,6 +103,7 @@ module _ (S : Source) (number : ℕ → ℕ → ℕ) (run : List Event) where
 
   -- the fault at the row is one of the source
   pub record FaultAt (a : Activation) (n : ℕ) (k : FaultKind) : Type 0 where
+    pub live : Live S number run a (region S.checked n)
     pub path : Path
     pub path_of : PathOf S number run a path
     pub faulty : Faulty S (record { kind = k; path = path; place = place S.checked n })
@@ -172,7 +173,8 @@ module _ (S : Source) (known : IsKnown S.checked) (number : ℕ → ℕ → ℕ)
       → Live S number run a (region P n) → {p : Path} → PathOf S number run a p
       → ((x : Constant) → y ≡ Gives x → Holds S (Has p (place P n) (value_of x))) → ((k : FaultKind) → y ≡ Fails k → Faulty S (record { kind = k; path = p; place = place P n })) → M 0 (fired_by y)
   outcome_means m (Gives x) is topic here live {p} path gives fails = spoken m 0 (constant_value x) is (subst (λ z. T z (constant_value x)) (sym topic) (live, shown_at p path x (gives x refl)))
-  outcome_means m (Fails k) is topic here live {p} path gives fails = record { path = p; path_of = path; faulty = fails k refl; shows = ap (place_shown P (place P n)) is ∙ here }
+  outcome_means m (Fails k) is topic here live {p} path gives fails =
+      record { live = live; path = p; path_of = path; faulty = fails k refl; shows = ap (place_shown P (place P n)) is ∙ here }
   outcome_means m Lacks is topic here live path gives fails = tt
 
   -- an operand that is shown, as a constant at a path

@@ -1,21 +1,25 @@
 -- The rows of a checked program are known: the table, the binders and the kinds that the check has found.
-use Rattle.std.proofs.Common.{◌≡◌, ℕ, ◌<◌, true, Some, length, refl, sym, ◌∙◌, ap, subst}
+use Rattle.std.proofs.Common.{◌≡◌, ℕ, ◌<◌, ◌+◌, true, Some, length, refl, sym, ◌∙◌, ap, subst, if◌then◌else◌}
+use Rattle.std.specs.Prelude.{slice_get, unwrap_or}
 use Rattle.id_tree.specs.Tree.{program_tree}
 use Rattle.id_parts.specs.declared.row.Node.{Node}
-use Rattle.id_parts.specs.declared.row.Node.TheVariants.{Param, Literal, Name, Unary, Binary, Def, Block, Binding}
+use Rattle.id_parts.specs.declared.row.Node.TheVariants.{Param, Literal, Name, Unary, Binary, Arg, Call, Def, Block, Binding}
 use Rattle.id_parts.specs.Tables.{AreApart, is_binder, is_top}
-use Rattle.id_parts.specs.Turns.{IsDefOf}
+use Rattle.id_parts.specs.Turns.{IsDefOf, params_at}
+use Rattle.id_parts.proofs.BlocksLemmas.{Among-from_params_at}
 use Rattle.id_parts.proofs.PlacesLemmas.{AreApart-rows_of}
 use Rattle.id_check.specs.declared.checked.Checked.{Checked}
 use Rattle.id_check.specs.Causes.{defines_main}
 use Rattle.id_check.specs.Kinds.{link_of}
-use Rattle.id_check.specs.Programs.{binder, region, rows}
-use Rattle.id_check.proofs.ProgramsLemmas.{table_of, bound_name_row, kind_along, kind_fixed, split_row, if_row, def_row}
+use Rattle.id_check.specs.Programs.{Calls, Stands, binder, kind, region, rows}
+use Rattle.id_check.proofs.ProgramsLemmas.{table_of, bound_name_row, kind_along, kind_fixed, split_row, if_row, def_row, enter_row, callee_row, call_row, argument_row, argument_call}
 use Rattle.id_meaning.specs.Sources.{head_of}
-use Rattle.id_build.specs.Rows.{node}
+use Rattle.id_meaning.proofs.ArgumentsLemmas.{argument-get}
+use Rattle.id_build.specs.Rows.{called, node, param_at, param_of}
+use Rattle.id_build.specs.Rows as build
 use Rattle.id_laws.specs.Activations.{main_head}
 use Rattle.id_laws.proofs.Assumed.{IsKnown}
-use Rattle.id_laws.proofs.Uncalled.{no_enter, no_arg, no_call}
+use Rattle.id_build.proofs.EndsLemmas.{call_is}
 use Rattle.id_build.proofs.ImportsLemmas.{name_sees, import_sees}
 use Rattle.id_build.proofs.NamesSeen.{Sees}
 
@@ -36,7 +40,54 @@ bound_is : (P : Checked) (n x : ℕ) → n < length (rows P) → node P n ≡ Na
 bound_is P n x within is =
     let z = bound_name_row P n x (record { within = within; node = is }) in
     let b = z.1 in
-    (z.0, b.binder, b.within, b.is_binder, name_sees P n z.0 within b.binder)
+    (z.0, b.binder, b.within, b.is_binder, name_sees P n x z.0 within is b.binder)
+
+-- what an `Enter` enters is the procedure that it calls
+called_is : (P : Checked) (e d h : ℕ) → Calls P e d h → called P e ≡ h
+called_is P e d h w = ap (λ o. build.head_of (node P (unwrap_or o 0))) w.binder ∙ ap build.head_of w.definition.node
+
+-- the definition of that procedure
+def_of : (P : Checked) (e d h : ℕ) → Calls P e d h → IsDefOf (rows P) d h
+def_of P e d h w = record { name = w.name; result = w.result; body = w.body; within = w.definition.within; node = w.definition.node }
+
+-- an argument is that of a call, and goes to the parameter of its index
+passed_is : (P : Checked) (m e k v : ℕ) → m < length (rows P) → node P m ≡ Arg e k v
+    → (slice_get (params_at (rows P) (called P e)) k ≡ Some (param_of P e k)) × (kind P v ≡ kind P (param_of P e k))
+passed_is P m e k v within is = go c.0 c.1 c.2
+  where
+    s : Stands P m (Arg e k v)
+    s = record { within = within; node = is }
+
+    c : (d : ℕ) × (h : ℕ) × Calls P e d h
+    c = let a = argument_call P m e k v s in callee_row P a.call e a.count a.stands
+
+    go : (d h : ℕ) → Calls P e d h → (slice_get (params_at (rows P) (called P e)) k ≡ Some (param_of P e k)) × (kind P v ≡ kind P (param_of P e k))
+    go d h w =
+        let a = argument_row P m e k v d h s w in
+        let b = Among-from_params_at (rows P) h (h + 1 + k) a.0 in
+        let head = called_is P e d h w in
+        let param : param_of P e k ≡ h + 1 + k = ap (λ z. param_at P (z + 1 + k)) head ∙ ap (λ t. if t then h + 1 + k else 0) b.1 in (
+          ap (λ z. slice_get (params_at (rows P) z) k) head ∙ argument-get P m e d h k v w s ∙ ap (λ z. Some z) (sym param),
+          a.1 ∙ ap (kind P) (sym param),
+        )
+
+-- a call is of the kind of the result of the procedure that it calls
+call_is_kind : (P : Checked) (n e c d : ℕ) (h : IsDefOf (rows P) d (called P e)) → n < length (rows P) → node P n ≡ Call e c → kind P n ≡ Some h.result
+call_is_kind P n e c d h within is = go w.0 w.1 w.2
+  where
+    s : Stands P n (Call e c)
+    s = record { within = within; node = is }
+
+    w : (b : ℕ) × (g : ℕ) × Calls P e b g
+    w = callee_row P n e c s
+
+    go : (b g : ℕ) → Calls P e b g → kind P n ≡ Some h.result
+    go b g w =
+        let head = called_is P e b g w in
+        let same : d ≡ b = (table_of P).one_def d b g (subst (IsDefOf (rows P) d) head h) (def_of P e b g w) in
+        let one : Def h.name (called P e) h.result h.body ≡ Def w.name g w.result w.body = sym h.node ∙ ap (node P) same ∙ w.definition.node in
+        let result : h.result ≡ w.result = cc in
+        (call_row P n e c b g s w).1 ∙ ap (λ z. Some z) (sym result)
 
 -- the rows of each checked program are known
 pub known : (P : Checked) → IsKnown P
@@ -59,8 +110,11 @@ known P = record {
   block_kind = λ n b within is. kind_along P n b (Block b) (record { within = within; node = is }) refl;
   binding_kind = λ n x a within is. kind_along P n a (Binding x a) (record { within = within; node = is }) refl;
   result_kind = λ n h d. def_row P n d.name h d.body d.result (record { within = d.within; node = d.node });
-  call_end = λ e x within is. absurd (no_enter P e x within is);
-  callee = λ e x within is. absurd (no_enter P e x within is);
-  passed = λ m e k v within is. absurd (no_arg P m e k v within is);
-  call_kind = λ n e c x d h within is. absurd (no_call P n e c within is);
+  call_end = λ e x within is. call_is P (table_of P) e x within is;
+  callee = λ e x within is. (
+      let w = enter_row P e x (record { within = within; node = is }) in
+      (w.0, w.2.binder, subst (IsDefOf (rows P) w.0) (sym (called_is P e w.0 w.1 w.2)) (def_of P e w.0 w.1 w.2))
+      );
+  passed = passed_is P;
+  call_kind = λ n e c x d h within is. call_is_kind P n e c d h within is;
 }

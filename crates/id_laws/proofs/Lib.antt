@@ -1,7 +1,5 @@
 pub mod Arcs
 pub mod Assumed
-pub mod Uncalled
-pub mod MainAlone
 pub mod Calls
 pub mod Conditionals
 pub mod Seats
@@ -19,7 +17,6 @@ pub mod NeverStuck
 pub mod Firing
 pub mod Sources
 pub mod AllTell
-pub mod Enters
 pub mod WantedKinds
 pub mod HasKinds
 pub mod Firings
@@ -31,6 +28,7 @@ pub mod StartTells
 pub mod ValidCounts
 pub mod OneSender
 pub mod Observing
+pub mod TagPaths
 pub mod SoundAnswer
 pub mod SoundFaults
 pub mod SoundValues

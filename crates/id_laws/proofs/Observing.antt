@@ -16,7 +16,6 @@ use Rattle.id_meaning.specs.declared.Path.{Path}
 use Rattle.id_meaning.specs.declared.SourceValue.{SourceValue}
 use Rattle.id_meaning.specs.declared.Fact.TheVariants.{Has}
 use Rattle.id_meaning.specs.Sources.{Source}
-use Rattle.id_meaning.specs.Facts.{outermost}
 use Rattle.id_meaning.specs.Rounds.{Holds}
 use Rattle.id_build.specs.Rows.{node}
 use Rattle.id_build.specs.Schemas.{Numbered}
@@ -29,7 +28,6 @@ use Rattle.id_laws.specs.Activations.{Live, at_start, on_side}
 use Rattle.id_laws.specs.Topics.{IsPart, StandsFor, number_stands, truth_stands, Shown}
 use Rattle.id_laws.proofs.Arcs.{doing, place_shown}
 use Rattle.id_laws.proofs.TurnedOn.{without_none}
-use Rattle.id_laws.proofs.MainAlone.{path_is}
 
 -- the value of a token that stands for one of the source, as the source's
 pub stands_shown : {S : Source} {number : ℕ → ℕ → ℕ} {run : List Event} {v : Value} {w : SourceValue} → StandsFor S number run v w
@@ -40,12 +38,12 @@ stands_shown (truth_stands b) = refl
 some_value : {v w : SourceValue} → Some v ≡ Some w → v ≡ w
 some_value e = cc
 
--- what is shown at the place, it Has at the empty path
-pub shown_holds : {S : Source} {number : ℕ → ℕ → ℕ} {run : List Event} {a : Activation} {e : ℕ} {v : Value} {w : SourceValue} → Shown S number run a 0 e v
-    → shown.source_value v ≡ Some w → Holds S (Has outermost e w)
+-- what is shown at the place, it Has there at that path
+pub shown_holds : {S : Source} {number : ℕ → ℕ → ℕ} {run : List Event} {a : Activation} {e : ℕ} {v : Value} {w : SourceValue}
+    (x : Shown S number run a 0 e v) → shown.source_value v ≡ Some w → Holds S (Has x.path e w)
 shown_holds {S} {number} {run} {a} {e} {v} {w} x is =
     let value_is : x.value ≡ w = some_value (sym (stands_shown x.stands) ∙ is) in
-    subst (λ (z : Path × SourceValue). Holds S (Has z.0 e z.1)) (λ i. ((without_none x.path ∙ path_is x.path_of) i, value_is i)) x.holds
+    subst (λ (z : Path × SourceValue). Holds S (Has z.0 e z.1)) (λ i. (without_none x.path i, value_is i)) x.holds
 
 -- the place that a part's instruction shows
 pub part_place : {P : Checked} {g : Parts} {number : ℕ → ℕ → ℕ} {n part : ℕ} → Numbered P g number → IsPart P n part

@@ -60,7 +60,7 @@ use Rattle.id_laws.proofs.Calls.{call_at, called_head, arg_at}
 use Rattle.id_laws.proofs.Seats.{OneSeat, one_opening, not_main, event_context, seat_other, live_path}
 use Rattle.id_laws.proofs.StartTells.{seats, opening_live}
 use Rattle.id_graph.specs.declared.instr.Op.TheVariants.{Enter as EnterOp}
-use Rattle.id_laws.proofs.Enters.{entered_by}
+use Rattle.id_runs.proofs.Enters.{entered_by}
 use Rattle.id_laws.proofs.AllTell.{fired_part}
 use Rattle.id_laws.proofs.ValidCounts.{differ_at as place_once}
 use Rattle.id_runs.specs.Serials.{ContextsApart}

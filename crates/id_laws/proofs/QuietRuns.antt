@@ -22,6 +22,7 @@ use Rattle.id_graph.specs.Ports.{two_ports}
 use Rattle.id_graph.specs.Graph.{Parts}
 use Rattle.id_tag.specs.Kinds.{kind_of, same_kind}
 use Rattle.id_tag.specs.declared.Tag.{Tag}
+use Rattle.id_meaning.specs.declared.Path.{Path}
 use Rattle.id_tag.specs.declared.Value.{Value}
 use Rattle.id_tag.specs.declared.Value.TheVariants as value
 use Rattle.id_tag.specs.declared.Payload.{Payload}
@@ -76,9 +77,9 @@ use Rattle.id_laws.proofs.Observing.{message_handled}
 use Rattle.id_laws.proofs.SoundAnswer.{answer_tells, brought_is, main_result, sound_answer}
 use Rattle.id_laws.proofs.LabelsShow.{label_is, label_made, label_place}
 use Rattle.id_laws.proofs.Triggers.{one_activation, main_is, main_within}
-use Rattle.id_laws.proofs.Seats.{main_path}
-use Rattle.id_laws.proofs.MainAlone.{path_is}
-use Rattle.id_laws.proofs.Enters.{entered_by}
+use Rattle.id_laws.proofs.Seats.{live_first, main_path}
+use Rattle.id_laws.proofs.TagPaths.{path_shown}
+use Rattle.id_runs.proofs.Enters.{entered_by}
 
 -- a value goes to where a procedure returns values of its kind
 returned : (k : Kind) (v : SourceValue) (t : Tag) → value_kind v ≡ k
@@ -290,13 +291,17 @@ module _ (S : Source) (g : Parts) (number : ℕ → ℕ → ℕ) (numbered : Num
       by (Failed k) y gives = absurd gives
       by Nothing y gives = absurd gives
 
+  abbrev tag_path : Tag → Path
+  tag_path = shown.path_in g s.elements
+
   -- a token that brings a binder's value to its label shows the name
   label_shows : (n : NameValue) (b : ℕ) (a : Activation) (p : Port) → b < length (rows P) → is_binder (node P b) ≡ true → place P b ≡ n.place
-      → n.path ≡ outermost → is_value (port_at P b) ≡ true
-      → shown.name_in g (Token (tag_in a (number b 0)) p (token_value n.value)) ≡ Some n
+      → tag_path (tag_in a (number b 0)) ≡ n.path → is_value (port_at P b) ≡ true
+      → shown.name_in g tag_path (Token (tag_in a (number b 0)) p (token_value n.value)) ≡ Some n
   label_shows n b a p within binds here path merges =
-      (λ i. cond (label_is P known g number numbered b within binds merges i) (shown.name_at g (number b 0) (value_back n.value i)) None)
-      ∙ (λ i. Some (record { path = sym path i; place = (label_place P known g number numbered b within binds ∙ here) i; value = n.value }))
+      let at = tag_in a (number b 0) in
+      (λ i. cond (label_is P known g number numbered b within binds merges i) (shown.name_at g (number b 0) (tag_path at) (value_back n.value i)) None)
+      ∙ (λ i. Some (record { path = path i; place = (label_place P known g number numbered b within binds ∙ here) i; value = n.value }))
 
   -- what a binder Has came to its label, and is shown
   names_shown : (n : NameValue) → IsNameValue S n → Among n (shown.names g s)
@@ -316,8 +321,9 @@ module _ (S : Source) (g : Parts) (number : ℕ → ℕ → ℕ) (numbered : Num
       let record_it = to_record g S.inputs count s run r h.0 h.1 in
       let payload_is : (record_it.0).message.payload ≡ Token (tag_in a (number b 0)) brought.0 (token_value n.value) = (record_it.2).payload ∙ sym h.2 in
       let merges = ap is_value (port_taking S known inputs b n.path n.value x.within thing holds) ∙ value_passes n.value in
-      filter_map_has (λ (u : EventView). shown.name_in g u.message.payload) (events s) record_it.0 n (among_events s record_it.0 record_it.1)
-      (ap (shown.name_in g) payload_is ∙ label_shows n b a brought.0 x.within x.binds x.here (path_is (c.here).path_of) merges)
+      let path_is = path_shown S known g number numbered count s run r (tag_in a (number b 0)) n.path (live_first (c.here).live) (c.here).path_of in
+      filter_map_has (λ (u : EventView). shown.name_in g tag_path u.message.payload) (events s) record_it.0 n (among_events s record_it.0 record_it.1)
+      (ap (shown.name_in g tag_path) payload_is ∙ label_shows n b a brought.0 x.within x.binds x.here path_is merges)
 
   -- a quiet run has shown everything
   pub complete_at : IsComplete S g s

@@ -81,7 +81,7 @@ below_is p p' q q' k k' e =
     let t = snoc_is p.steps p'.steps _ _ (ap (λ (x : Path). x.steps) e) in
     ((λ i. record { steps = t.0 i }), ap (λ (x : PathStep). x.place) t.1, ap (λ (x : PathStep). x.number) t.1)
 
-length_snoc : {A : Type 0} (xs : List A) (y : A) → length (xs ++ y ∷ []) ≡ suc (length xs)
+pub length_snoc : {A : Type 0} (xs : List A) (y : A) → length (xs ++ y ∷ []) ≡ suc (length xs)
 length_snoc [] y = refl
 length_snoc (x ∷ xs) y = ap suc (length_snoc xs y)
 

@@ -18,6 +18,7 @@ use Rattle.id_core.specs.Events.{EventView}
 use Rattle.id_core.specs.Machines.{World, main_tag}
 use Rattle.id_core.specs.Observed as shown
 use Rattle.id_meaning.specs.declared.SourceValue.{SourceValue}
+use Rattle.id_meaning.specs.declared.Path.{Path}
 use Rattle.id_meaning.specs.declared.Fact.TheVariants.{Has}
 use Rattle.id_meaning.specs.Sources.{Source, main_body, body_of}
 use Rattle.id_meaning.specs.Facts.{outermost}
@@ -26,12 +27,12 @@ use Rattle.id_desugar.specs.Ends.{end_of}
 use Rattle.id_build.specs.Rows.{node, answer_row}
 use Rattle.id_build.specs.Rows as build
 use Rattle.id_build.specs.Schemas.{Numbered}
-use Rattle.id_runs.specs.Activations.{main_activation, tag_in}
+use Rattle.id_runs.specs.Activations.{main_activation, main_context, at_iteration, tag_in}
 use Rattle.id_runs.specs.Events.{Event}
 use Rattle.id_runs.specs.Runs.{Reach, handled}
 use Rattle.id_runs.proofs.RecordsOfRuns.{among_filter_map}
 use Rattle.id_laws.specs.Laws.{events}
-use Rattle.id_laws.specs.Activations.{main_head}
+use Rattle.id_laws.specs.Activations.{main_head, PathOf}
 use Rattle.id_laws.specs.Topics.{ShownResult, Tells, Told, wants, result_of}
 use Rattle.id_laws.proofs.Assumed.{IsKnown}
 use Rattle.id_laws.proofs.Arcs.{answers, part_of}
@@ -39,7 +40,8 @@ use Rattle.id_laws.proofs.Tokens.{told_at}
 use Rattle.id_laws.proofs.Senders.{last_row}
 use Rattle.id_build.proofs.EndsLemmas.{end_is}
 use Rattle.id_laws.proofs.Start.{main_is_head, main_within}
-use Rattle.id_laws.proofs.StartTells.{all_tell}
+use Rattle.id_laws.proofs.Seats.{live_first, main_path_is}
+use Rattle.id_laws.proofs.StartTells.{all_tell, seats}
 use Rattle.id_laws.proofs.Observing.{shown_holds, message_handled}
 
 -- a token for main's answer
@@ -89,4 +91,7 @@ module _ (S : Source) (known : IsKnown S.checked) (g : Parts) (number : ℕ → 
       let came = brought_is (event.0).message.payload first.0 event.2 in
       let h = message_handled g S.inputs count s run r event.0 event.1 in
       let shows = (answer_tells came.0 first.0 (subst (λ x. Among x (handled run)) came.1 h)).1 in
-      subst (λ n. Holds S (Has outermost (place P n) v)) main_result (shown_holds shows.shown first.2)
+      let shown_path = subst (λ k. PathOf S number run (at_iteration main_context k) (shows.shown).path) (live_first shows.live) (shows.shown).path_of in
+      let path_is = main_path_is (seats S known g number numbered run count s r) shown_path in
+      subst (λ (z : Path × ℕ). Holds S (Has z.0 (place P z.1) v)) {x = ((shows.shown).path, result_of P (main_head P))} {y = (outermost, main_body P)}
+      (λ i. (path_is i, main_result i)) (shown_holds shows.shown first.2)

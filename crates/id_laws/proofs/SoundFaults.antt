@@ -15,6 +15,7 @@ use Rattle.id_core.specs.Events.{EventView}
 use Rattle.id_core.specs.Steps.{fired_step}
 use Rattle.id_core.specs.Machines.{World}
 use Rattle.id_core.specs.Observed as shown
+use Rattle.id_meaning.specs.declared.Path.{Path}
 use Rattle.id_meaning.specs.declared.SourceFault.{SourceFault}
 use Rattle.id_meaning.specs.Sources.{Source}
 use Rattle.id_meaning.specs.Rounds.{Faulty}
@@ -25,23 +26,24 @@ use Rattle.id_runs.specs.Runs.{Reach}
 use Rattle.id_runs.proofs.RecordsOfRuns.{among_filter_map}
 use Rattle.id_laws.specs.Laws.{events}
 use Rattle.id_laws.proofs.Assumed.{IsKnown}
-use Rattle.id_laws.proofs.MainAlone.{path_is}
 use Rattle.id_laws.proofs.Firing.{FaultAt}
 use Rattle.id_laws.proofs.AllTell.{firing_tells}
 use Rattle.id_laws.proofs.StartTells.{all_tell, seats}
 use Rattle.id_laws.proofs.Observing.{handled_event, part_place}
+use Rattle.id_laws.proofs.Seats.{live_first}
+use Rattle.id_laws.proofs.TagPaths.{path_shown}
 
--- a fault that is shown
-record FaultShown (g : Parts) (x : Step) (f : SourceFault) : Type 0 where
+-- a fault that is shown, where each tag has this path
+record FaultShown (g : Parts) (path : Tag → Path) (x : Step) (f : SourceFault) : Type 0 where
   kind : FaultKind
   tag : Tag
   step : x ≡ Fault (Operator kind tag)
-  is : f ≡ record { kind = kind; path = shown.main_path; place = shown.place_of g tag.instr }
+  is : f ≡ record { kind = kind; path = path tag; place = shown.place_of g tag.instr }
 
-fault_is : (g : Parts) (x : Step) (f : SourceFault) → shown.fault_of g x ≡ Some f → FaultShown g x f
-fault_is g Went f e = cc
-fault_is g (Fault (Operator k t)) f e = record { kind = k; tag = t; step = refl; is = cc }
-fault_is g Stuck f e = cc
+fault_is : (g : Parts) (path : Tag → Path) (x : Step) (f : SourceFault) → shown.fault_of g path x ≡ Some f → FaultShown g path x f
+fault_is g path Went f e = cc
+fault_is g path (Fault (Operator k t)) f e = record { kind = k; tag = t; step = refl; is = cc }
+fault_is g path Stuck f e = cc
 
 same_fault : {k k' : FaultKind} {t t' : Tag} → Fault (Operator k t) ≡ Fault (Operator k' t') → (k ≡ k') × (t ≡ t')
 same_fault e = (cc, cc)
@@ -50,8 +52,11 @@ module _ (S : Source) (known : IsKnown S.checked) (g : Parts) (number : ℕ → 
   abbrev P : Checked
   P = S.checked
 
+  abbrev tag_path : Tag → Path
+  tag_path = shown.path_in g s.elements
+
   abbrev FaultyAt : FaultKind → Tag → Type 0
-  FaultyAt k t = Faulty S (record { kind = k; path = shown.main_path; place = shown.place_of g t.instr })
+  FaultyAt k t = Faulty S (record { kind = k; path = tag_path t; place = shown.place_of g t.instr })
 
   -- a firing that is a fault is one of the source
   failed_as : (t : Tag) (f : Fired) → FiresAs run t f → (k : FaultKind) (u : Tag) → fired_step t f ≡ Fault (Operator k u) → FaultyAt k u
@@ -67,7 +72,9 @@ module _ (S : Source) (known : IsKnown S.checked) (g : Parts) (number : ℕ → 
       let fault : FaultAt S number run (activation_of t) y.row j = m.1 in
       let here : shown.place_of g u.instr ≡ place P y.row =
       ap (λ (w : Tag). shown.place_of g w.instr) (sym same.1) ∙ ap (λ (w : Tag). shown.place_of g w.instr) (sym y.at) ∙ part_place numbered y.is_part ∙ fault.shows in
-      subst (Faulty S) (λ i. record { kind = same.0 i; path = path_is fault.path_of i; place = sym here i }) fault.faulty
+      let path_is : tag_path u ≡ fault.path = ap tag_path (sym same.1)
+      ∙ path_shown S known g number numbered count s run r t fault.path (live_first fault.live) fault.path_of in
+      subst (Faulty S) (λ i. record { kind = same.0 i; path = sym path_is i; place = sym here i }) fault.faulty
 
   -- an event that comes to a fault has failed
   failed : (e : Event) (k : FaultKind) (t : Tag) → Among e run → came_to e ≡ Fault (Operator k t) → FaultyAt k t
@@ -77,7 +84,7 @@ module _ (S : Source) (known : IsKnown S.checked) (g : Parts) (number : ℕ → 
 
   pub sound_faults : (f : SourceFault) → Among f (shown.faults g s) → Faulty S f
   sound_faults f among =
-      let event = among_filter_map (λ (u : EventView). shown.fault_of g u.step) (events s) f among in
-      let fault = fault_is g (event.0).step f event.2 in
+      let event = among_filter_map (λ (u : EventView). shown.fault_of g tag_path u.step) (events s) f among in
+      let fault = fault_is g tag_path (event.0).step f event.2 in
       let known_event = handled_event g S.inputs count s run r event.0 event.1 in
       subst (Faulty S) (sym fault.is) (failed known_event.0 fault.kind fault.tag known_event.1 (sym (known_event.2).step ∙ fault.step))

@@ -24,19 +24,23 @@ use Rattle.id_meaning.specs.declared.SourceValue.{SourceValue}
 use Rattle.id_meaning.specs.declared.NameValue.{NameValue}
 use Rattle.id_meaning.specs.declared.Fact.TheVariants.{Has}
 use Rattle.id_meaning.specs.Sources.{Source}
-use Rattle.id_meaning.specs.Facts.{outermost, binding_has}
+use Rattle.id_meaning.specs.Facts.{binding_has}
 use Rattle.id_meaning.specs.Rounds.{Holds}
 use Rattle.id_meaning.specs.Names.{IsNameValue}
 use Rattle.id_build.specs.Rows.{node}
 use Rattle.id_build.specs.Schemas.{Numbered}
-use Rattle.id_runs.specs.Activations.{Activation, main_activation, tag_in}
+use Rattle.id_runs.specs.Activations.{Activation, tag_in}
 use Rattle.id_runs.specs.Events.{Event}
 use Rattle.id_runs.specs.Keys.{Key, AtPort, key_of}
 use Rattle.id_runs.specs.Runs.{Reach, handled}
 use Rattle.id_runs.specs.OneMessage.{count_for}
 use Rattle.id_runs.proofs.Keys.{hit, hit_itself, counts, count_cons}
+use Rattle.id_runs.proofs.OneMessage.{fired_once}
 use Rattle.id_runs.proofs.RecordsOfRuns.{among_filter_map, told, told_once}
+use Rattle.id_runs.proofs.Serials.{contexts_apart}
+use Rattle.id_runs.specs.OneMessage.{Exclusive}
 use Rattle.id_laws.specs.Laws.{events}
+use Rattle.id_laws.specs.Activations.{PathOf}
 use Rattle.id_laws.specs.Topics.{Tells, topic_at, wants}
 use Rattle.id_laws.proofs.Assumed.{IsKnown}
 use Rattle.id_laws.proofs.Arcs.{place_shown}
@@ -47,10 +51,11 @@ use Rattle.id_laws.proofs.LabelsBind.{label_binds}
 use Rattle.id_laws.proofs.OneSender.{exclusive}
 use Rattle.id_laws.proofs.StartTells.{all_tell, all_speak}
 use Rattle.id_laws.proofs.Observing.{shown_holds, part_place, message_handled}
-use Rattle.id_laws.proofs.MainAlone.{live_main}
+use Rattle.id_laws.proofs.Seats.{live_first, paths_apart}
+use Rattle.id_laws.proofs.TagPaths.{opening_first, path_shown}
 
--- a message that shows what a binder Has: a token for a label
-pub record Names (g : Parts) (x : Payload) (n : NameValue) : Type 0 where
+-- a message that shows what a binder Has, where each tag has this path: a token for a label
+pub record Names (g : Parts) (path : Tag → Path) (x : Payload) (n : NameValue) : Type 0 where
   pub tag : Tag
   pub port : Port
   pub token : Value
@@ -58,13 +63,13 @@ pub record Names (g : Parts) (x : Payload) (n : NameValue) : Type 0 where
   pub is : x ≡ Token tag port token
   pub label : shown.is_label g tag.instr ≡ true
   pub brings : shown.source_value token ≡ Some value
-  pub shows : n ≡ record { path = shown.main_path; place = shown.place_of g tag.instr; value = value }
+  pub shows : n ≡ record { path = path tag; place = shown.place_of g tag.instr; value = value }
 
-names_is : (g : Parts) (x : Payload) (n : NameValue) → shown.name_in g x ≡ Some n → Names g x n
-names_is g (Token t p v) n e = go (shown.is_label g t.instr) (shown.source_value v) refl refl e
+names_is : (g : Parts) (path : Tag → Path) (x : Payload) (n : NameValue) → shown.name_in g path x ≡ Some n → Names g path x n
+names_is g path (Token t p v) n e = go (shown.is_label g t.instr) (shown.source_value v) refl refl e
   where
-    go : (b : Truth) (o : Option SourceValue) → shown.is_label g t.instr ≡ b → shown.source_value v ≡ o → cond b (shown.name_at g t.instr o) None ≡ Some n
-        → Names g (Token t p v) n
+    go : (b : Truth) (o : Option SourceValue) → shown.is_label g t.instr ≡ b → shown.source_value v ≡ o
+        → cond b (shown.name_at g t.instr (path t) o) None ≡ Some n → Names g path (Token t p v) n
     go false o f h e = cc
     go true None f h e = cc
     go true (Some u) f h e = record { tag = t; port = p; token = v; value = u; is = refl; label = f; brings = h; shows = cc }
@@ -130,18 +135,30 @@ module _ (S : Source) (known : IsKnown S.checked) (g : Parts) (number : ℕ → 
   abbrev T : Activation → ℕ → Node → Port → Value → Type 0
   T a b m p v = Tells S number run a (wants P b (region P b) m 0 p) v
 
-  -- a token for a binder's label: main's, at port 0, with what the binder Has
+  abbrev tag_path : Tag → Path
+  tag_path = shown.path_in g s.elements
+
+  -- a token for a binder's label, at port 0, with what the binder Has at the activation's path
   record Label (b : ℕ) (a : Activation) (p : Port) (v : Value) : Type 0 where
-    main : a ≡ main_activation
+    first : a.iteration ≡ 0
     port : p ≡ Zero
-    has : (w : SourceValue) → shown.source_value v ≡ Some w → Holds S (Has outermost (place P b) w)
+    path : Path
+    path_of : PathOf S number run a path
+    has : (w : SourceValue) → shown.source_value v ≡ Some w → Holds S (Has path (place P b) w)
 
   at_label : (b : ℕ) → b < length (rows P) → (a : Activation) (p : Port) (v : Value) (m : Node) → node P b ≡ m → is_binder m ≡ true → T a b m p v
       → Label b a p v
-  at_label b within a Zero v (Param x k) is h w = record { main = live_main w.0; port = refl; has = λ u e. shown_holds w.1 e }
+  at_label b within a Zero v (Param x k) is h w =
+      record { first = live_first w.0; port = refl; path = (w.1).path; path_of = (w.1).path_of; has = λ u e. shown_holds w.1 e }
   at_label b within a One v (Param x k) is h w = absurd w
   at_label b within a Zero v (Binding x e) is h w =
-      record { main = live_main w.0; port = refl; has = λ u f. holds_by S _ _ (binding_has (record { within = within; node = is })) (shown_holds w.1 f, tt) }
+      record {
+        first = live_first w.0;
+        port = refl;
+        path = (w.1).path;
+        path_of = (w.1).path_of;
+        has = λ u f. holds_by S _ _ (binding_has (record { within = within; node = is })) (shown_holds w.1 f, tt);
+      }
   at_label b within a One v (Binding x e) is h w = absurd w
   at_label b within a p v Head is h w = cc
   at_label b within a p v (Literal c) is h w = cc
@@ -157,19 +174,21 @@ module _ (S : Source) (known : IsKnown S.checked) (g : Parts) (number : ℕ → 
   at_label b within a p v (Def x f k e) is h w = cc
   at_label b within a p v Program is h w = cc
 
-  -- what shows a name came to its binder's label
+  -- what shows a name came to its binder's label, under an activation of its path
   record Came (n : NameValue) (x : Payload) : Type 0 where
     row : ℕ
     within : row < length (rows P)
     binds : is_binder (node P row) ≡ true
     place_is : n.place ≡ place P row
-    path : n.path ≡ outermost
-    key : key_of x ≡ AtPort (tag_in main_activation (number row 0)) Zero
-    has : Holds S (Has outermost (place P row) n.value)
+    activation : Activation
+    first : activation.iteration ≡ 0
+    path_of : PathOf S number run activation n.path
+    key : key_of x ≡ AtPort (tag_in activation (number row 0)) Zero
+    has : Holds S (Has n.path (place P row) n.value)
 
-  came_to : (n : NameValue) (x : Payload) → Among x (handled run) → shown.name_in g x ≡ Some n → Came n x
+  came_to : (n : NameValue) (x : Payload) → Among x (handled run) → shown.name_in g tag_path x ≡ Some n → Came n x
   came_to n x among e =
-      let y = names_is g x n e in
+      let y = names_is g tag_path x n e in
       let z = all_tell S known g number numbered run count s r x (inr among) in
       let tag_is : tag_in z.activation (number z.row z.part) ≡ y.tag = ap tag_of (sym z.is ∙ y.is) in
       let port_is : z.port ≡ y.port = ap port_of (sym z.is ∙ y.is) in
@@ -181,34 +200,49 @@ module _ (S : Source) (known : IsKnown S.checked) (g : Parts) (number : ℕ → 
       let at = at_label z.row within z.activation z.port z.value (node P z.row) refl label.binds tells in
       let shown_there : shown.place_of g (y.tag).instr ≡ place P z.row = ap (shown.place_of g) (sym instr_is) ∙ part_place numbered z.is_part ∙ binder_shows P (place P z.row) (node P z.row) label.binds in
       let value_is : n.value ≡ y.value = ap (λ (w : NameValue). w.value) y.shows in
+      let path_is : n.path ≡ at.path =
+      ap (λ (w : NameValue). w.path) y.shows
+      ∙ ap tag_path (sym tag_is)
+      ∙ path_shown S known g number numbered count s run r (tag_in z.activation (number z.row z.part)) at.path at.first at.path_of in
       record {
         row = z.row;
         within = within;
         binds = label.binds;
         place_is = ap (λ (w : NameValue). w.place) y.shows ∙ shown_there;
-        path = ap (λ (w : NameValue). w.path) y.shows;
-        key = ap key_of z.is ∙ (λ i. AtPort (tag_in (at.main i) (number z.row (label.first i))) (at.port i));
-        has = subst (λ w. Holds S (Has outermost (place P z.row) w)) (sym value_is) (at.has y.value (ap shown.source_value token_is ∙ y.brings));
+        activation = z.activation;
+        first = at.first;
+        path_of = subst (PathOf S number run z.activation) (sym path_is) at.path_of;
+        key = ap key_of z.is ∙ (λ i. AtPort (tag_in z.activation (number z.row (label.first i))) (at.port i));
+        has = subst (λ (w : Path × SourceValue). Holds S (Has w.0 (place P z.row) w.1)) (λ i. (sym path_is i, sym value_is i))
+            (at.has y.value (ap shown.source_value token_is ∙ y.brings));
       }
 
-  event_came : (n : NameValue) (v : EventView) → Among v (events s) → shown.name_in g v.message.payload ≡ Some n → Came n v.message.payload
+  event_came : (n : NameValue) (v : EventView) → Among v (events s) → shown.name_in g tag_path v.message.payload ≡ Some n → Came n v.message.payload
   event_came n v among e = came_to n v.message.payload (message_handled g S.inputs count s run r v among) e
 
   pub sound_names : (n : NameValue) → Among n (shown.names g s) → IsNameValue S n
   sound_names n among =
-      let event = among_filter_map (λ (u : EventView). shown.name_in g u.message.payload) (events s) n among in
+      let event = among_filter_map (λ (u : EventView). shown.name_in g tag_path u.message.payload) (events s) n among in
       let x = event_came n event.0 event.1 event.2 in
       record {
         binder = record { row = x.row; within = x.within; binds = x.binds; here = sym x.place_is };
-        holds = subst (λ (z : Path × ℕ). Holds S (Has z.0 z.1 n.value)) (λ i. (sym x.path i, sym x.place_is i)) x.has;
+        holds = subst (λ e. Holds S (Has n.path e n.value)) (sym x.place_is) x.has;
       }
+
+  abbrev only : Exclusive g S.inputs count
+  only =
+      exclusive S g number numbered known count (λ t hs q. all_tell S known g number numbered hs count t q)
+      (λ t hs q. all_speak S known g number numbered hs count t q)
 
   pub names_differ : AllDiffer (shown.names g s)
   names_differ =
-      shown_differ (λ (u : EventView). shown.name_in g u.message.payload) (events s)
+      shown_differ (λ (u : EventView). shown.name_in g tag_path u.message.payload) (events s)
       (λ v w n h k e f.
       let x = event_came n v h e in
       let y = event_came n w k f in
       let same : x.row ≡ y.row = (known.apart).apart x.row y.row x.within y.within (binder_thing (node P x.row) x.binds) (binder_thing (node P y.row) y.binds) (sym x.place_is ∙ y.place_is) in
-      x.key ∙ ap (λ b. AtPort (tag_in main_activation (number b 0)) Zero) same ∙ sym y.key)
-      (told_once g S.inputs count (exclusive S g number numbered known count (λ t hs q. all_tell S known g number numbered hs count t q) (λ t hs q. all_speak S known g number numbered hs count t q)) s run r)
+      let under : x.activation ≡ y.activation =
+      paths_apart S known g number numbered run (contexts_apart g S.inputs count s run r) (fired_once g S.inputs count only s run r)
+      (opening_first S known g number numbered count s run r) x.first y.first x.path_of y.path_of in
+      x.key ∙ (λ i. AtPort (tag_in (under i) (number (same i) 0)) Zero) ∙ sym y.key)
+      (told_once g S.inputs count only s run r)

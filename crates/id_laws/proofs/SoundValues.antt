@@ -19,9 +19,10 @@ use Rattle.id_core.specs.Events.{EventView, tag_of}
 use Rattle.id_record.specs.Records.{dests_at, sent_by}
 use Rattle.id_core.specs.Steps.{token_to}
 use Rattle.id_core.specs.Machines.{World}
+use Rattle.id_core.specs.Observed as shown
+use Rattle.id_meaning.specs.declared.Path.{Path}
 use Rattle.id_meaning.specs.declared.Fact.TheVariants.{Has}
 use Rattle.id_meaning.specs.Sources.{Source}
-use Rattle.id_meaning.specs.Facts.{outermost}
 use Rattle.id_meaning.specs.Rounds.{Holds}
 use Rattle.id_build.specs.declared.arc.Form.{Form}
 use Rattle.id_build.specs.Rows.{node, op_by}
@@ -40,6 +41,8 @@ use Rattle.id_laws.proofs.Firing.{Means}
 use Rattle.id_laws.proofs.AllTell.{FiredPart, firing_tells}
 use Rattle.id_laws.proofs.StartTells.{all_tell, seats}
 use Rattle.id_laws.proofs.Observing.{stands_shown, shown_holds, handled_event}
+use Rattle.id_laws.proofs.Seats.{live_first}
+use Rattle.id_laws.proofs.TagPaths.{path_shown}
 
 -- an expression that makes an instruction speaks of its value, and shows its place
 pub record Expresses (P : Checked) (n : ℕ) : Type 0 where
@@ -115,24 +118,29 @@ module _ (S : Source) (known : IsKnown S.checked) (g : Parts) (number : ℕ → 
   abbrev P : Checked
   P = S.checked
 
+  abbrev tag_path : Tag → Path
+  tag_path = shown.path_in g s.elements
+
   -- a token that brings what an instruction of the expression has spoken
   brought_by : (n e : ℕ) (t : Tag) (b : Truth) (v : Value) (row part : ℕ) → row ≡ n → Expresses P n → e ≡ place P n
       → Tells S number run (activation_of t) (topic_of P (record { row = row; part = part; side = b })) v → part ≡ 0
-      → (m : Message) (d : Dest) → m.payload ≡ token_to t v d → Carries S e m
+      → (m : Message) (d : Dest) → m.payload ≡ token_to t v d → Carries S (tag_path t) e m
   brought_by n e t b v row part at x place_is told first m d says =
       let here : Tells S number run (activation_of t) (ValueOf n) v =
       subst (λ z. Tells S number run (activation_of t) z v) ((λ i. topic_of P (record { row = at i; part = first i; side = b })) ∙ x.topic b) told in
       let w = here.1 in
+      let path_is = path_shown S known g number numbered count s run r t w.path (live_first here.0) w.path_of in
       record {
         value = w.value;
         brings = ap value_in says ∙ stands_shown w.stands;
-        holds = subst (λ z. Holds S (Has outermost z w.value)) (sym place_is) (shown_holds w (stands_shown w.stands));
+        holds = subst (λ (z : Path × ℕ). Holds S (Has z.0 z.1 w.value)) (λ i. (sym path_is i, sym place_is i)) (shown_holds w (stands_shown w.stands));
       }
 
   -- what an instruction of the expression sends
   carried_by : (n e : ℕ) (t : Tag) (f : Fired) (ops : _) (y : FiredPart P g number t f ops) → y.row ≡ n → Expresses P n → is_expression (node P n) ≡ true
       → e ≡ place P n
-      → Means S number run (activation_of t) y.row y.part f → y.part ≡ 0 → (m : Message) → Among m.payload (sent_by g t f) → Carries S e m
+      → Means S number run (activation_of t) y.row y.part f → y.part ≡ 0 → (m : Message) → Among m.payload (sent_by g t f)
+      → Carries S (tag_path t) e m
   carried_by n e t (Out v) ops y row x expression place_is means part m out =
       let to = Among-from_map (token_to t v) m.payload (dests_at g t.instr true) out in
       brought_by n e t true v y.row y.part row x place_is (means (λ z. x.not_answer (ap (node P) (sym row) ∙ z))) part m to.0 to.2
@@ -151,7 +159,7 @@ module _ (S : Source) (known : IsKnown S.checked) (g : Parts) (number : ℕ → 
   carried_by n e t Nothing ops y row x expression place_is means part m out = absurd out
 
   pub sound_values : (n : ℕ) (f : Form) (e : ℕ) (v : EventView) (m : Message) → Makes P n 0 f e → is_expression (node P n) ≡ true → Among v (events s)
-      → (tag_of v.message.payload).instr ≡ number n 0 → Among m v.outputs → Carries S e m
+      → (tag_of v.message.payload).instr ≡ number n 0 → Among m v.outputs → Carries S (tag_path (tag_of v.message.payload)) e m
   sound_values n f e v m makes expression among at out =
       let known_event = handled_event g S.inputs count s run r v among in
       let sends = subst (Among m.payload) (known_event.2).outputs (Among-map (λ (y : Message). y.payload) m v.outputs out) in
@@ -163,4 +171,5 @@ module _ (S : Source) (known : IsKnown S.checked) (g : Parts) (number : ℕ → 
       let one = one_part numbered y.is_part here (ap (λ (t : Tag). t.instr) (y.at ∙ tag_is) ∙ at) in
       let d = doing makes in
       let x = expresses P n 0 f d.does expression in
-      carried_by n e z.tag z.fired (z.fires).operands y one.0 x expression (d.place_is ∙ x.shows) told.1 one.1 m z.sends
+      subst (λ (t : Tag). Carries S (tag_path t) e m) tag_is
+      (carried_by n e z.tag z.fired (z.fires).operands y one.0 x expression (d.place_is ∙ x.shows) told.1 one.1 m z.sends)

@@ -1,5 +1,5 @@
 -- The laws that join what a program means to what its graph does (docs/MEANING.md, "Laws").
-use Rattle.std.specs.Prelude.{◌≡◌, ◌≢◌, ◌≤◌, ◌<◌, ◌++◌, ℕ, List, length, map, Option, Some, count_by, Bool, true, ◌&&◌}
+use Rattle.std.specs.Prelude.{◌≡◌, ◌≢◌, ◌≤◌, ◌<◌, ◌++◌, ◌&&◌, ℕ, Bool, true, Option, Some, List, length, map, count_by}
 use Rattle.id_check.specs.declared.checked.Checked.{Checked}
 use Rattle.id_graph.specs.declared.dests.Port.{Port}
 use Rattle.id_graph.specs.Graph.{Parts}
@@ -23,7 +23,6 @@ use Rattle.id_parts.specs.Rows.{at}
 use Rattle.id_parts.specs.Tables.{is_binder, is_expression, is_thing}
 use Rattle.id_check.specs.Programs.{kind, place, rows}
 use Rattle.id_meaning.specs.Sources.{Source, AreInputs, value_kind}
-use Rattle.id_meaning.specs.Facts.{outermost}
 use Rattle.id_meaning.specs.Rounds.{Holds, Faulty, FaultFree, Answers, IsAnswer, IsCoherent}
 use Rattle.id_meaning.specs.Names.{IsNameValue}
 use Rattle.id_build.specs.declared.arc.Form.{Form}
@@ -49,11 +48,11 @@ value_in (Token t p v) = shown.source_value v
 abbrev pub is_for : Tag → Port → Payload → Bool
 is_for t p (Token u q v) = same_tag u t && same_port q p
 
--- the message brings a value that the expression at the place Has
-pub record Carries (S : Source) (e : ℕ) (m : Message) : Type 0 where
+-- the message brings a value that the expression at the place Has at the path
+pub record Carries (S : Source) (p : Path) (e : ℕ) (m : Message) : Type 0 where
   pub value : SourceValue
   pub brings : value_in m.payload ≡ Some value
-  pub holds : Holds S (Has outermost e value)
+  pub holds : Holds S (Has p e value)
 
 -- a machine in this state has shown facts and faults of the source alone, where the instructions are numbered so
 pub record IsSound (S : Source) (g : Parts) (number : ℕ → ℕ → ℕ) (s : World) : Type 0 where
@@ -64,9 +63,11 @@ pub record IsSound (S : Source) (g : Parts) (number : ℕ → ℕ → ℕ) (s : 
   pub names_once : AllDiffer (shown.names g s)
   -- each of its faults is one of the source
   pub faults : (f : SourceFault) → Among f (shown.faults g s) → Faulty S f
-  -- what the instruction of an expression has sent brings a value that the expression Has
-  pub values : (n : ℕ) (f : Form) (e : ℕ) (v : EventView) (m : Message) → Makes S.checked n 0 f e → is_expression (at (rows S.checked) n).node ≡ true → Among v (events s)
-      → (tag_of v.message.payload).instr ≡ number n 0 → Among m v.outputs → Carries S e m
+  -- what the instruction of an expression has sent under a tag brings a value that the expression Has at the tag's path
+  pub values : (n : ℕ) (f : Form) (e : ℕ) (v : EventView) (m : Message) → Makes S.checked n 0 f e
+      → is_expression (at (rows S.checked) n).node ≡ true → Among v (events s)
+      → (tag_of v.message.payload).instr ≡ number n 0 → Among m v.outputs
+      → Carries S (shown.path_in g s.elements (tag_of v.message.payload)) e m
 
 -- in this state no event was `Stuck`, and each port has got at most one token under each tag
 pub record IsNeverStuck (s : World) : Type 0 where
@@ -79,17 +80,21 @@ pub record IsComplete (S : Source) (g : Parts) (s : World) : Type 0 where
   pub names : (n : NameValue) → IsNameValue S n → Among n (shown.names g s)
   pub no_fault : FaultFree S
 
--- *Sound*: of each graph that the schemas give a program, with the program's inputs and any number of elements, every list of deliveries shows facts and faults of the source alone
+-- *Sound*: of each graph that the schemas give a program, with the program's inputs and any number of elements, every list
+-- of deliveries shows facts and faults of the source alone
 abbrev pub Soundness : Type 0
-Soundness = (S : Source) (g : Parts) (count : ℕ) (ks : List ℕ) → AreInputs S.checked S.inputs → (schemas : Schemas S.checked g) → IsSound S g schemas.number (run g count ks (start g S.inputs count))
+Soundness = (S : Source) (g : Parts) (count : ℕ) (ks : List ℕ) → AreInputs S.checked S.inputs
+    → (schemas : Schemas S.checked g) → IsSound S g schemas.number (run g count ks (start g S.inputs count))
 
 -- *Never stuck*: of each such graph, every list of deliveries leaves no element stuck
 abbrev pub NeverStuck : Type 0
-NeverStuck = (S : Source) (g : Parts) (count : ℕ) (ks : List ℕ) → AreInputs S.checked S.inputs → Schemas S.checked g → IsNeverStuck (run g count ks (start g S.inputs count))
+NeverStuck = (S : Source) (g : Parts) (count : ℕ) (ks : List ℕ) → AreInputs S.checked S.inputs → Schemas S.checked g
+    → IsNeverStuck (run g count ks (start g S.inputs count))
 
 -- *Quiet is complete*: of each such graph, a list of deliveries after which the machine is quiet has shown everything
 abbrev pub QuietIsComplete : Type 0
-QuietIsComplete = (S : Source) (g : Parts) (count : ℕ) (ks : List ℕ) → AreInputs S.checked S.inputs → Schemas S.checked g → IsQuiet (run g count ks (start g S.inputs count)) → IsComplete S g (run g count ks (start g S.inputs count))
+QuietIsComplete = (S : Source) (g : Parts) (count : ℕ) (ks : List ℕ) → AreInputs S.checked S.inputs → Schemas S.checked g
+    → IsQuiet (run g count ks (start g S.inputs count)) → IsComplete S g (run g count ks (start g S.inputs count))
 
 -- *Coherence*: each source gives each path and place at most one value
 abbrev pub Coherence : Type 0
@@ -123,5 +128,6 @@ Labels = (P : Checked) (g : Parts) → (schemas : Schemas P g) → AreLabels P g
 
 -- *Kinded*: what a thing of a source Has is of the thing's kind
 abbrev pub Kinded : Type 0
-Kinded = (S : Source) (n : ℕ) (p : Path) (v : SourceValue) → AreInputs S.checked S.inputs → n < length (rows S.checked)
-    → is_thing (at (rows S.checked) n).node ≡ true → Holds S (Has p (place S.checked n) v) → kind S.checked n ≡ Some (value_kind v)
+Kinded = (S : Source) (n : ℕ) (p : Path) (v : SourceValue) → AreInputs S.checked S.inputs
+    → n < length (rows S.checked) → is_thing (at (rows S.checked) n).node ≡ true
+    → Holds S (Has p (place S.checked n) v) → kind S.checked n ≡ Some (value_kind v)

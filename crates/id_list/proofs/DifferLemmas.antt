@@ -1,8 +1,12 @@
 -- Lemmas on lists in which nothing stands twice.
-use Rattle.std.proofs.Common.{◌≡◌, inl, inr, List, [], ◌∷◌, ◌++◌, refl, ap, sym, subst, ◌∙◌}
+use Rattle.std.proofs.Common.{◌≡◌, inl, inr, ◌≤◌, List, [], ◌∷◌, ◌++◌, length, refl, ap, sym, subst, ◌∙◌, arith}
+use Rattle.std.specs.List.{remove}
 use Rattle.std.specs.Prelude.{map}
+use Rattle.std.proofs.lemmas.List.Edits.{length-remove}
+use Rattle.std.proofs.lemmas.Option.{slice_get_within}
 use Rattle.id_list.specs.List.{AllDiffer, Among}
-use Rattle.id_list.proofs.AmongLemmas.{Among-either, Among-left, Among-map, Among-right}
+use Rattle.id_list.proofs.AmongLemmas.{Among-either, Among-left, Among-map, Among-right, at-from_Among}
+use Rattle.id_list.proofs.PlacesLemmas.{taken-or-left}
 
 -- two lists where all differ and that have nothing in common
 pub AllDiffer-append : {A : Type 0} (xs ys : List A) → AllDiffer xs → AllDiffer ys → ((x : A) → Among x xs → Among x ys → ⊥) → AllDiffer (xs ++ ys)
@@ -48,3 +52,13 @@ same-from_map {B = B} f (z ∷ xs) x y d (inr h) (inl k) e =
     let P : B → Type 0 = λ w. Among w (map f xs) in
     absurd (d.0 (subst P (e ∙ ap f k) (Among-map f x xs h)))
 same-from_map f (z ∷ xs) x y d (inr h) (inr k) e = same-from_map f xs x y d.1 h k e
+
+-- where all differ, there are no more than in a list that has each of them
+pub AllDiffer-few : {A : Type 0} (xs ys : List A) → AllDiffer xs → ((x : A) → Among x xs → Among x ys) → length xs ≤ length ys
+AllDiffer-few [] ys d each = omega arith
+AllDiffer-few {A = A} (x ∷ xs) ys d each =
+    let P : A → Type 0 = λ z. Among z xs in
+    let at = at-from_Among x ys (each x (inl refl)) in
+    let rest = AllDiffer-few xs (remove ys at.0) d.1
+    (λ y h. elim (taken-or-left y x ys at.0 at.1 (each y (inr h))) [ inl e ↦ absurd (d.0 (subst P e h)) | inr k ↦ k ]) in
+    omega (arith, rest, length-remove ys at.0 (slice_get_within ys at.0 x at.1))

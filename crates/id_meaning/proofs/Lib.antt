@@ -4,7 +4,7 @@ pub mod RoundsLemmas
 pub mod Coherence
 pub mod LinksLemmas
 mod CallsLemmas
-mod ArgumentsLemmas
+pub mod ArgumentsLemmas
 pub mod CellsLemmas
 pub mod ChainsLemmas
 pub mod PathsLemmas

@@ -78,7 +78,14 @@ pub fn add_call(
             row: call.body,
         })?;
         add_value(found, path, row, cells.read(call.path, call.body).has)?;
-        add_all_passed(found, checked, cells, path, call, links.reads.of(call.enter))?;
+        add_all_passed(
+            found,
+            checked,
+            cells,
+            path,
+            call,
+            links.reads.of(call.enter),
+        )?;
     }
     Ok(())
 }

@@ -5,7 +5,6 @@ pub mod PlacesLemmas
 pub mod BlocksLemmas
 pub mod NumbersLemmas
 pub mod RegionLemmas
-pub mod UncalledLemmas
 -- For the proofs of this crate alone.
 mod BlockLemmas
 mod CallLemmas

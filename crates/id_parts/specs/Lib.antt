@@ -6,6 +6,5 @@ pub mod Regions
 pub mod Calls
 pub mod Trees
 pub mod Turns
-pub mod Uncalled
 -- For the proof of `table_of` alone.
 pub mod Making

@@ -11,3 +11,5 @@ pub mod EveryMessage
 pub mod RecordsOfRuns
 pub mod Suited
 pub mod Serials
+pub mod Enters
+pub mod Entered

@@ -1,5 +1,5 @@
 -- How the readers' runs are put together behind a name, argument by argument.
-use Rattle.std.proofs.Common.{◌≡◌, ℕ, ◌+◌, ◌≤◌, ◌<◌, max, Bool, true, false, Some, None, List, [], ◌∷◌, ◌++◌, length, refl, sym, ap, ◌∙◌, add-zero, arith}
+use Rattle.std.proofs.Common.{◌≡◌, ℕ, ◌+◌, ◌≤◌, ◌<◌, max, Bool, true, false, Option, Some, None, List, [], ◌∷◌, ◌++◌, length, refl, sym, ap, ◌∙◌, add-zero, arith}
 use Rattle.id_text.specs.Tokens.{EndsOnce}
 use Rattle.id_text.specs.declared.token.Token.{Token}
 use Rattle.id_text.specs.declared.token.TokenKind.{TokenKind}
@@ -12,9 +12,9 @@ use Rattle.id_tree.specs.declared.tree.TreeError.{TreeError}
 use Rattle.id_tree.specs.declared.tree.TreeError.TheVariants.{Unexpected}
 use Rattle.id_tree.specs.Tree as tree
 use Rattle.id_tree.specs.Tree.{Tree, tree_of, call, none, more}
-use Rattle.id_tree.specs.Grammar.{Phrase, Expression, Unary, Arguments, MoreArguments, Rest, done, part, named_of, argument_of, arguments_of, Opens, no_arguments, last_argument, next_argument}
-use Rattle.id_tree.specs.Machine.{opening, is_word, Frame, Inside, Move, Want, Have, Next, expresses, run}
-use Rattle.id_tree.specs.Readers.{first_kind, first_start, IsRead, IsGathered, EndsBy, Leads, Fails, begins_expression, no_room_at, Applies, Misapplies, passed, Passes, Hands}
+use Rattle.id_tree.specs.Grammar.{Expression, Unary, Arguments, MoreArguments, Rest, done, part, named_of, argument_of, arguments_of, Opens, no_arguments, last_argument, next_argument}
+use Rattle.id_tree.specs.Machine.{opening, is_word, Frame, Inside, State, Move, Want, Have, Next, expresses, takes, Refused, run}
+use Rattle.id_tree.specs.Readers.{first_kind, first_start, IsRead, IsGathered, EndsBy, Leads, Fails, begins_expression, no_room_at, Applies, Misapplies, passed, Hands}
 use Rattle.id_tree.proofs.RowLemmas.{same-is_word}
 use Rattle.id_tree.proofs.RunLemmas.{First, Unopened, run-deep, run-none, run-done, run-part, run-inside, run-chosen, run-left_out, run-arguments}
 use Rattle.id_tree.proofs.ReaderLemmas.{EndsBy-at, At, At-opens, Leads-done, first_of, opens_name}
@@ -199,20 +199,35 @@ IsRead-add p e q = let l = ap length e in record {
   fits = omega (arith, p.fits, q.fits);
 }
 
+-- a move that takes too much nesting
+abbrev TakesTooMuch : Option Move → Type 0
+TakesTooMuch None = ⊥
+TakesTooMuch (Some m) = 200 < m.need
+
+run-too_much : (t : Token) (ts : List Token) (S : State) → TakesTooMuch (takes t S) → run 200 (t ∷ ts) S ≡ Refused true t.start
+run-too_much t ts S q = by_move (takes t S) refl q
+  where
+    by_move : (o : Option Move) → takes t S ≡ o → TakesTooMuch o → run 200 (t ∷ ts) S ≡ Refused true t.start
+    by_move None e q = absurd q
+    by_move (Some m) e q = run-deep 200 t ts S m e q
+
 -- Without room each token with which an expression begins takes too much nesting.
-wants_room : (t : Token) (d : ℕ) (K : List Frame) → begins_expression t.kind ≡ true → 200 ≤ d → (m : Move) × (expresses t d K ≡ Some m) × (200 < m.need)
+wants_room : (t : Token) (d : ℕ) (K : List Frame) → begins_expression t.kind ≡ true → 200 ≤ d → TakesTooMuch (expresses t d K)
 wants_room t d K b w = by_kind t.kind refl b
   where
-    by_kind : (k : TokenKind) → t.kind ≡ k → begins_expression k ≡ true → (m : Move) × (expresses t d K ≡ Some m) × (200 < m.need)
-    by_kind (Key If) e b = (_, rw e refl, omega arith)
-    by_kind (Key Not) e b = (_, rw e refl, omega arith)
-    by_kind (Key True) e b = (_, rw e refl, omega arith)
-    by_kind (Key False) e b = (_, rw e refl, omega arith)
-    by_kind (Number v) e b = (_, rw e refl, omega arith)
-    by_kind (Name x) e b = (_, rw e refl, omega arith)
-    by_kind (Sign Minus) e b = (_, rw e refl, omega arith)
-    by_kind (Sign LeftParen) e b = (_, rw e refl, omega arith)
-    by_kind (Sign LeftBrace) e b = (_, rw e refl, omega arith)
+    more : (x : ℕ) → 200 < d + 1 + x
+    more x = omega arith
+
+    by_kind : (k : TokenKind) → t.kind ≡ k → begins_expression k ≡ true → TakesTooMuch (expresses t d K)
+    by_kind (Key If) e b = rw e (more _)
+    by_kind (Key Not) e b = rw e (more _)
+    by_kind (Key True) e b = rw e (more _)
+    by_kind (Key False) e b = rw e (more _)
+    by_kind (Number v) e b = rw e (more _)
+    by_kind (Name x) e b = rw e (more _)
+    by_kind (Sign Minus) e b = rw e (more _)
+    by_kind (Sign LeftParen) e b = rw e (more _)
+    by_kind (Sign LeftBrace) e b = rw e (more _)
     by_kind _ e b = cc
 
 wants_none : (t : Token) (d : ℕ) (K : List Frame) → begins_expression t.kind ≡ false → expresses t d K ≡ None
@@ -236,7 +251,5 @@ Fails-full {ts = []} d x w h f j = absurd w
 Fails-full {ts = t ∷ ts} d x w h f j = Fails-argument d f (record { fails = λ K. by_test (begins_expression t.kind) refl K })
   where
     by_test : (b : Bool) → begins_expression t.kind ≡ b → (K : List Frame) → EndsBy (run 200 (t ∷ ts) (Want Expression d K)) x
-    by_test true b K =
-        let r = wants_room t d K b h in
-        rw (j, b) (run-deep 200 t ts (Want Expression d K) r.0 r.1 r.2)
+    by_test true b K = rw (j, b) (run-too_much t ts (Want Expression d K) (wants_room t d K b h))
     by_test false b K = rw (j, b) (run-none 200 t ts (Want Expression d K) (wants_none t d K b))

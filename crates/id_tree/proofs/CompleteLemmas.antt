@@ -124,9 +124,9 @@ Derives-more : {ts : List Token} {e : Tree} {h : ℕ} → Derives MoreArguments 
 Derives-more (opened o f) P g h us = Opens-more o P g h
 
 -- a part that follows another ends it
-Part-stops : (i : Phrase) {f : Tree → Rest} {ts : List Token} {e : Tree} {h : ℕ} → Derives i ts e h → (s0 s : Phrase) (us : List Token) → Ends s0 s (part i f) → Stops s (ts ++ us)
-Part-stops MoreArguments x s0 s us b = Derives-more x (Quiet s) b.0 b.1 us
-Part-stops _ x s0 s us b = absurd b
+Part-stops : (i : Phrase) (f : Tree → Rest) {ts : List Token} {e : Tree} {h : ℕ} → Derives i ts e h → (s0 s : Phrase) (us : List Token) → Ends s0 s (part i f) → Stops s (ts ++ us)
+Part-stops MoreArguments f x s0 s us b = Derives-more x (Quiet s) b.0 b.1 us
+Part-stops _ f x s0 s us b = absurd b
 
 -- what is left of a production ends its last part
 Follows-stops : {r : Rest} {ts : List Token} {e : Tree} {h : ℕ} → Follows r ts e h → (s0 s : Phrase) (us : List Token) → Ends s0 s r → Stops s0 us → Stops s (ts ++ us)
@@ -136,7 +136,7 @@ Follows-stops (named q f) s0 s us b p = absurd b
 Follows-stops (kinded q f) s0 s us b p = absurd b
 Follows-stops (chosen q f) s0 s us b p = absurd b
 Follows-stops left_out s0 s us b p = absurd b
-Follows-stops (given {s = i} {us = xs} {ts = ts} x f) s0 s us b p = rw (append_assoc xs ts us) (Part-stops i x s0 s (ts ++ us) b)
+Follows-stops (given {s = i} {f = g} {us = xs} {ts = ts} x f) s0 s us b p = rw (append_assoc xs ts us) (Part-stops i g x s0 s (ts ++ us) b)
 
 -- what a production begins has no level
 Stops-opens : (s : Phrase) {k : TokenKind} {p : ℕ} {r : Rest} → Opens s k p r → (us : List Token) → StopsInside s us → Stops s us

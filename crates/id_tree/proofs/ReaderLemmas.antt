@@ -19,7 +19,6 @@ use Rattle.id_value.specs.declared.Constant.TheVariants as constant
 use Rattle.id_tree.specs.declared.tree.Def.{Def as Definition_}
 use Rattle.id_tree.specs.declared.tree.TreeError.{TreeError}
 use Rattle.id_tree.specs.declared.tree.TreeError.TheVariants.{Unexpected, TooDeep}
-use Rattle.id_tree.specs.Tree as tree
 use Rattle.id_tree.specs.Tree.{Tree, def_tree, defs_tree, literal, unary, binary, none, more}
 use Rattle.id_tree.specs.Grammar.{Phrase, Definition, Expression, Grouped, Negation, Unary, kind_of, Rest, done, word, name, part, enclosed, definition_of, named_of, conditional_of, Opens, definition, by_conditional, denied, negated, number, by_true, by_false, parens, by_name, operand, operator_of, own_height}
 use Rattle.id_tree.specs.Machine.{opening, room, Frame, Left, Right, Inside, Outer, again, Move, State, Begin, Want, Have, Next, Finished, is_word, name_in, takes, ahead, ends, wants, Outcome, Accepted, Refused, run}

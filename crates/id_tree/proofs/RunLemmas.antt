@@ -1,13 +1,12 @@
 -- Runs of the machine, step by step.
-use Rattle.std.proofs.Common.{◌≡◌, ℕ, ◌+◌, ◌≤◌, ◌<◌, max, true, false, Some, None, List, [], ◌∷◌, ◌++◌, refl, ap, zero-le, le-leb}
+use Rattle.std.proofs.Common.{◌≡◌, ℕ, ◌+◌, ◌≤◌, ◌<◌, max, true, false, Some, None, List, [], ◌∷◌, ◌++◌, refl, zero-le, le-leb}
 use Rattle.std.proofs.lemmas.Bool.{lt-leb}
 use Rattle.id_text.specs.declared.token.Token.{Token}
 use Rattle.id_text.specs.declared.token.TokenKind.{TokenKind}
-use Rattle.id_text.specs.declared.token.TokenKind.TheVariants.{Name, Key, Sign}
+use Rattle.id_text.specs.declared.token.TokenKind.TheVariants.{Name}
 use Rattle.id_tree.specs.declared.parser.Level.{Level}
 use Rattle.id_tree.specs.declared.parser.Level.TheVariants as level
 use Rattle.id_tree.specs.declared.tokens.Word.{Word}
-use Rattle.id_tree.specs.declared.tokens.Word.TheVariants as the
 use Rattle.id_value.specs.declared.Kind.{Kind}
 use Rattle.id_value.specs.declared.BinaryOp.{BinaryOp}
 use Rattle.id_tree.specs.Tree.{Tree, binary}

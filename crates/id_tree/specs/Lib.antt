@@ -2,7 +2,6 @@ pub mod Tree
 pub mod Grammar
 pub mod Accepted
 pub mod Distinct
-pub mod Uncalled
 pub mod Starts
 -- For the proof of `parse` alone.
 pub mod Machine

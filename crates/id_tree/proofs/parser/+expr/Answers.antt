@@ -1,5 +1,5 @@
 -- Each reader's run, from its first token to its way out (proofs/ReaderLemmas.antt).
-use Rattle.std.proofs.Common.{◌≡◌, ◌∙◌, ◌<◌, ap, sym, refl, arith, rules}
+use Rattle.std.proofs.Common.{◌≡◌, ◌∙◌, ◌<◌, ◌≤◌, ap, sym, refl, arith, rules}
 use Rattle.std.proofs.lemmas.Grind.{common_steps}
 use Rattle.std.proofs.lemmas.Result.{err_from_is_err_and, IfOk-weaker, IfErr-weaker}
 use Rattle.id_text.specs.declared.token.TokenKind.TheVariants.{Name, Key, Sign}
@@ -10,7 +10,7 @@ use Rattle.id_tree.specs.Grammar.{Expression, Grouped, Negation, Unary}
 use Rattle.id_tree.specs.Readers.{first_kind, truth_in, IsRead, IsGathered, Leads, Fails, Applies, Misapplies}
 use Rattle.id_tree.specs.Tree.{tree_of}
 use Rattle.id_tree.proofs.ReaderLemmas.{IsRead-then, Level-begins, Level-grows, Level-grown, Level-fails, Level-stunts, Level-ends, Right-deep, Right-fails, Right-grows, At-conditional, At-parens, At-part, At-word, At-enclosed, Leads-done, Leads-at, Fails-deep, Fails-part, Fails-word, Fails-enclosed, IsPrefix-begins, Prefix-deep, Prefix-fails, Prefix-leads, Encloses-done, Exposes-word, Exposes-part, opens_negated, opens_denied, opens_conditional, opens_parens, Expression-leads, Expression-fails, Negation-leads, Negation-fails, At-opens, opens_number, opens_truth, Unary-fails, unopened, untrue}
-use Rattle.id_tree.proofs.CallLemmas.{IsRead-named, Leads-named, Fails-named, Applies-name, Applies-call, Misapplies-call, Leads-unpassed, Hands-first, Fails-argument, Hands-add, Fails-added, Leads-passed, Fails-passed, IsGathered-passed, IsGathered-unpassed, IsRead-add, Fails-full}
+use Rattle.id_tree.proofs.CallLemmas.{IsRead-named, Leads-named, Fails-named, Applies-name, Applies-call, Misapplies-call, Leads-unpassed, Hands-first, Fails-argument, Hands-add, Fails-added, Leads-passed, Fails-passed, IsRead-add, Fails-full}
 use Rattle.id_tree.proofs.BlockLemmas.{opens_block, At-block, Encloses-tail, Exposes-tail, At-binding, Fails-tail, Adds-done, IsGathered-add, Gathers-none, Gathers-add, Fails-gathered, Leads-gathered, Leads-body, Fails-body}
 use Rattle.id_tree.proofs.parser.+expr.Goals as goal
 
@@ -396,8 +396,8 @@ parse_named-returns-in_err-args-clause-err t c =
     let p = err_from_is_err_and c.from_residual.result c.from_residual.ensures.1 in
     rw (p.1, p.2) (Misapplies-call c.split.ensures.whole is c.args.depth c.args.x c.args.place c.in_err-args.ensures.err)
 
-pub parse_named-returns-then-begins_with_sign-clause-ok : goal.parse_named-returns-then-begins_with_sign-clause-ok
-parse_named-returns-then-begins_with_sign-clause-ok t c =
+pub parse_named-returns-in_ok-args-clause-ok : goal.parse_named-returns-in_ok-args-clause-ok
+parse_named-returns-in_ok-args-clause-ok t c =
     let is : first_kind c.args.tokens.now ≡ Sign LeftParen = search rules in
     Applies-call c.split.ensures.whole is c.args.depth c.args.x c.args.place c.in_ok-args.ensures.ok c.call.ensures.tree c.call.ensures.height
 
@@ -405,6 +405,12 @@ pub parse_arguments-returns-then-is_sign-clause-ok : goal.parse_arguments-return
 parse_arguments-returns-then-is_sign-clause-ok t c =
     let is : c.split.result.0.now.kind ≡ Sign RightParen = search rules in
     rw c.new.ensures.items (Leads-unpassed c.args.depth c.requires.room c.split.ensures.whole is)
+
+pub parse_arguments-returns-then-depth-ge-MAX_NESTING-clause-err : goal.parse_arguments-returns-then-depth-ge-MAX_NESTING-clause-err
+parse_arguments-returns-then-depth-ge-MAX_NESTING-clause-err t c =
+    let is_not : c.split.result.0.now.kind ≡ Sign RightParen → ⊥ = search rules in
+    let full : 200 ≤ c.args.depth = grind (arith, common_steps) in
+    Fails-full c.args.depth c.no_room.result c.requires.ends full (λ q. is_not (ap first_kind (sym c.split.ensures.whole) ∙ q)) c.no_room.ensures
 
 pub parse_arguments-returns-then-is_sign-2-clause-ok : goal.parse_arguments-returns-then-is_sign-2-clause-ok
 parse_arguments-returns-then-is_sign-2-clause-ok t c =
@@ -430,9 +436,9 @@ parse_some_arguments-arguments-init t c = (
 pub parse_some_arguments-arguments-preserved : goal.parse_some_arguments-arguments-preserved
 parse_some_arguments-arguments-preserved t c =
     let comma : first_kind c.arguments.rest.now ≡ Sign Comma = search rules in (
-      rw c.max-height.ensures (IsRead-add c.arguments.invariant.0 c.split-in-arguments.ensures.whole c.in_ok-arg.ensures.read),
+      rw c.max-height.ensures (IsRead-add c.arguments.invariant.0 c.split.ensures.whole c.in_ok-arg.ensures.read),
       rw (c.max-height.ensures, c.in_ok-push-2.ensures.items)
-          (Hands-add c.arguments.invariant.1 c.split-in-arguments.ensures.whole c.in_ok-arg.arg.expr _ c.into_expr-in-arguments.ensures comma (omega (arith, c.requires.room)) c.in_ok-arg.ensures.ok),
+          (Hands-add c.arguments.invariant.1 c.split.ensures.whole c.in_ok-arg.arg.expr _ c.into_expr-in-arguments.ensures comma (omega (arith, c.requires.room)) c.in_ok-arg.ensures.ok),
     )
 
 pub parse_some_arguments-returns-in_err-first-clause-err : goal.parse_some_arguments-returns-in_err-first-clause-err
@@ -444,4 +450,4 @@ pub parse_some_arguments-returns-in_err-arg-clause-err : goal.parse_some_argumen
 parse_some_arguments-returns-in_err-arg-clause-err t c =
     let comma : first_kind c.arguments.rest.now ≡ Sign Comma = search rules in
     let p = err_from_is_err_and c.from_residual-in_err-arg.result c.from_residual-in_err-arg.ensures.1 in
-    rw (p.1, p.2) (Fails-added c.arguments.invariant.1 c.split-in-arguments.ensures.whole comma (omega (arith, c.requires.room)) c.in_err-arg.ensures.err)
+    rw (p.1, p.2) (Fails-added c.arguments.invariant.1 c.split.ensures.whole comma (omega (arith, c.requires.room)) c.in_err-arg.ensures.err)

@@ -1,0 +1,130 @@
+-- The path of a tag, by the events of a run, is that of its activation.
+use Rattle.std.proofs.Common.{◌≡◌, inl, inr, ℕ, suc, ◌≤◌, ◌<◌, Bool as Truth, true, false, cond, Option, Some, List, [], ◌∷◌, ◌++◌, length}
+use Rattle.std.proofs.Common.{refl, sym, ◌∙◌, ap, subst, arith}
+use Rattle.id_list.specs.List.{Among, AllDiffer}
+use Rattle.id_parts.specs.declared.row.Node.TheVariants.{Enter}
+use Rattle.id_check.specs.declared.checked.Checked.{Checked}
+use Rattle.id_check.specs.Programs.{place, rows}
+use Rattle.id_graph.specs.Graph.{Parts}
+use Rattle.id_valid.specs.Roles.{op_at}
+use Rattle.id_tag.specs.declared.Context.{Context}
+use Rattle.id_tag.specs.declared.Tag.{Tag}
+use Rattle.id_core.specs.Machines.{World}
+use Rattle.id_core.specs.Observed as shown
+use Rattle.id_observe.specs.Paths.{enter_in, enters_loop, step_of}
+use Rattle.id_observe.proofs.PathsLemmas.{Leads, under_main, under_enter, path_of-leads}
+use Rattle.id_meaning.specs.declared.Path.{Path}
+use Rattle.id_meaning.specs.declared.PathStep.{PathStep}
+use Rattle.id_meaning.specs.Sources.{Source}
+use Rattle.id_build.specs.Rows.{node}
+use Rattle.id_build.specs.Schemas.{Numbered}
+use Rattle.id_runs.specs.Activations.{Activation, activation_of, tag_in}
+use Rattle.id_runs.specs.Events.{Event}
+use Rattle.id_runs.specs.Runs.{Reach}
+use Rattle.id_runs.proofs.Entered.{WasEntered, entered_under, few_entered, main_unentered}
+use Rattle.id_laws.specs.Laws.{events}
+use Rattle.id_laws.specs.Activations.{Seat, Outermost, Below, path_at, Opens, SeatOf, main_seat, made_seat, PathOf}
+use Rattle.id_laws.proofs.Assumed.{IsKnown}
+use Rattle.id_laws.proofs.Arcs.{opens, part_of, place_shown}
+use Rattle.id_laws.proofs.Observing.{part_place}
+use Rattle.id_laws.proofs.Seats.{length_snoc, live_first}
+use Rattle.id_laws.proofs.StartTells.{opening_live, seats}
+
+-- how many steps lead to a seat
+abbrev depth : Seat → ℕ
+depth Outermost = 0
+depth (Below p e) = suc (length p.steps)
+
+depth_is : (q : Seat) (k : ℕ) → length (path_at q k).steps ≡ depth q
+depth_is Outermost k = refl
+depth_is (Below p e) k = length_snoc p.steps (record { place = e; number = k })
+
+-- a step at the first iteration
+first_number : (b : Truth) (k : ℕ) → k ≡ 0 → cond b k 0 ≡ k
+first_number true k z = refl
+first_number false k z = sym z
+
+module _ (S : Source) (known : IsKnown S.checked) (g : Parts) (number : ℕ → ℕ → ℕ) (numbered : Numbered S.checked g number) (count : ℕ)
+    (s : World) (run : List Event) (r : Reach g S.inputs count s run) where
+  abbrev P : Checked
+  P = S.checked
+
+  abbrev entries : Context → Option Tag
+  entries = enter_in g (events s)
+
+  -- an `Enter` has made its contexts at iteration 0
+  pub opening_first : (a : Activation) (n x : ℕ) (c : Context) → n < length (rows P) → node P n ≡ Enter x → Opens S number run a n c
+      → a.iteration ≡ 0
+  opening_first a n x c within is o = live_first (opening_live S known g number numbered run count s r a n x c within is o)
+
+  -- the step of an `Enter` is at its place
+  step_is : {n x : ℕ} (k : ℕ) → n < length (rows P) → node P n ≡ Enter x → k ≡ 0
+      → step_of g (number n 0) k ≡ record { place = place P n; number = k }
+  step_is {n} k within is first =
+      let m = number n 0 in
+      let here : shown.place_of g m ≡ place P n = part_place numbered (part_of within (opens is)) ∙ ap (place_shown P (place P n)) is in
+      (λ i. record { place = here i; number = first_number (enters_loop g (shown.place_of g m) (op_at g m)) k first i })
+
+  -- the steps of a seat lead to the tags of its context
+  leads : {c : Context} {q : Seat} → SeatOf S number run c q → (t : Tag) → t.context ≡ c → t.iteration ≡ 0
+      → Leads g entries t (depth q) (path_at q t.iteration).steps
+  leads main_seat t is first = under_main t (ap entries is ∙ main_unentered g S.inputs count s run r)
+  leads {c} (made_seat {a = a} {n = n} {s = u} within enter o seat) t is first =
+      let up = tag_in a (number n 0) in
+      let first_up = opening_first a n _ c within enter o in
+      let p = (path_at u a.iteration).steps in
+      let longer = under_enter t up (depth u) p (ap entries is ∙ entered_under g S.inputs count s run r o) (leads seat up refl first_up) in
+      subst (λ (z : ℕ × List PathStep). Leads g entries t z.0 z.1)
+      (λ i. (suc (sym (depth_is u a.iteration) i), p ++ step_is t.iteration within enter first i ∷ [])) longer
+
+  -- a context that was entered, at a seat with no more steps
+  record Passed (most : ℕ) (o : Option Context) : Type 0 where
+    entered : WasEntered run o
+    seat : Seat
+    of_context : SeatOf S number run entered.context seat
+    low : depth seat ≤ most
+
+  -- the contexts from main's to one with this seat, which all differ
+  record Chain (q : Seat) : Type 0 where
+    contexts : List (Option Context)
+    long : length contexts ≡ depth q
+    differ : AllDiffer contexts
+    each : (o : Option Context) → Among o contexts → Passed (depth q) o
+
+  some_is : {A : Type 0} {x y : A} → Some x ≡ Some y → x ≡ y
+  some_is h = cc
+
+  chain : {c : Context} {q : Seat} → SeatOf S number run c q → Chain q
+  chain main_seat = record { contexts = []; long = refl; differ = tt; each = λ o h. absurd h }
+  chain {c} {q} (made_seat {a = a} {n = n} {s = u} within enter o seat) =
+      let below = chain seat in
+      let here : SeatOf S number run c q = made_seat within enter o seat in
+      let deep = depth_is u a.iteration in
+      record {
+        contexts = Some c ∷ below.contexts;
+        long = omega (arith, below.long, deep);
+        differ = (
+          λ h.
+              let x = below.each (Some c) h in
+              let e = x.entered in
+              let one =
+              seats S known g number numbered run count s r c x.seat q (subst (λ z. SeatOf S number run z x.seat) (sym (some_is e.is)) x.of_context) here in
+              omega (arith, x.low, ap depth one, deep),
+          below.differ,
+        );
+        each = λ d h. elim h [
+          | inl is ↦ record { entered = record { context = c; is = is; tag = _; fires = o }; seat = q; of_context = here; low = omega arith }
+          | inr old ↦ let x = below.each d old in record { entered = x.entered; seat = x.seat; of_context = x.of_context; low = omega (arith, x.low, deep) }
+        ];
+      }
+
+  -- a seat has no more steps than there are events
+  few : {c : Context} {q : Seat} → SeatOf S number run c q → depth q ≤ length (events s)
+  few x =
+      let y = chain x in
+      subst (λ n. n ≤ length (events s)) y.long (few_entered g S.inputs count s run r y.contexts y.differ (λ o h. (y.each o h).entered))
+
+  -- the path of a tag is that of its activation
+  pub path_shown : (t : Tag) (p : Path) → t.iteration ≡ 0 → PathOf S number run (activation_of t) p → shown.path_in g s.elements t ≡ p
+  path_shown t p first h =
+      path_of-leads g (events s) t (depth h.seat) (path_at h.seat t.iteration).steps (leads h.of_context t refl first) (few h.of_context) ∙ sym h.is
