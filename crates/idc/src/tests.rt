@@ -108,6 +108,9 @@ run|text.id / refused 3 NumberTooLarge at 1:19 / def main(): int = 9223372036854
 run|text.id / refused 12 WrongKind at 1:23 wanted int found bool / def main(): int = 1 + true;
 run|text.id|m=1|n=x / refused 16 UnknownInput m=1 / def main(n: int): int = n;
 run|text.id / refused 15 MissingInput n / def main(n: int): int = n;
+run|text.id|n=0 / fault division by zero at /1:55@1:24 / def f(n: int): int = 1 div n; def main(n: int): int = f(n);
+run|text.id / answer 7 / def k(x: int, y: int): int = x; def main(): int = { r = k(7, r); in r };
+run|text.id / refused 11 WrongCount at 1:19 / def main(): int = main(1);
 run|other.id / refused 4 File / def main(): int = 1;
 ";
 
@@ -134,7 +137,7 @@ fn does_what_the_rows_say(rt: HostRuntime) -> Result<(), Fail> {
             rows = rows.saturating_add(1);
         }
     }
-    assert_eq!(&rt; rows, 12);
+    assert_eq!(&rt; rows, 15);
     Ok(())
 }
 
