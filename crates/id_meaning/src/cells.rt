@@ -43,7 +43,7 @@ pub struct Spot {
 }
 
 /// How many chains the spots hang in.
-const CHAINS: usize = 262_144;
+pub const CHAINS: usize = 262_144;
 
 /// What rows have at paths. Contracts see a list of spots, no two of one path and row.
 ///
@@ -190,7 +190,7 @@ fn is_at(spot: Spot, path: usize, row: usize) -> bool
 }
 
 /// The chain that the spot with this path and row hangs in.
-fn bucket_of(path: usize, row: usize) -> usize
+pub fn bucket_of(path: usize, row: usize) -> usize
     ensures chain { result ≡ bucket_of path row }
     ensures within { result < 262144 }
 {
@@ -210,6 +210,16 @@ pub fn learn_all(
         if learn(cells, *fact)? {
             news.push(*fact)?;
         }
+    }
+    Ok(())
+}
+
+/// Puts facts into the cells.
+pub fn learn_again(cells: &mut Cells, facts: &[RowFact]) -> Result<(), AllocError>
+    ensures { OnOk result (cells.new ≡ all_learnt cells.old facts.now) }
+{
+    for fact in facts {
+        learn(cells, *fact)?;
     }
     Ok(())
 }
