@@ -167,7 +167,8 @@ module _ (P : Checked) (es : List Spot) (p n : ℕ) where
   pub call-only : (l : Links) (g : RowFact) → Among g (call_at P l es p n) → Comes P es p n g
   call-only l g h = by-only l g (entered P es p n) refl h
 
-  by-passed : (m : ℕ) (z : Node) (g : RowFact) (o : Option OnCall) → entered P es p n ≡ o → (at (rows P) m).node ≡ z → Among g (passed_by P es p o z) → Comes P es p n g
+  by-passed : (m : ℕ) (z : Node) (g : RowFact) (o : Option OnCall) → entered P es p n ≡ o → (at (rows P) m).node ≡ z → Among g (passed_by P es p o z)
+      → Comes P es p n g
   by-passed m z g None e is h = absurd h
   by-passed m z g (Some c) e is h =
       let i = entered-on c e in
@@ -206,7 +207,8 @@ module _ (P : Checked) (es : List Spot) (p n : ℕ) where
       let E : Option OnCall → Type 0 = λ o. Among g (passed_by P es p o (Arg c.enter k a)) in
       subst E (sym (on-entered c)) (subst T (sym (eq-eqb c.enter c.enter refl)) (inr (subst O (sym e) (fact-among (c.spot + 1) b x v h))))
 
-  pub return-among : (c : IsOn P es p n) (v : SourceValue) → (cell_at es (c.spot + 1) c.body).has ≡ Some v → Among (Has p n v) (value_fact p n (returned es (entered P es p n) c.body))
+  pub return-among : (c : IsOn P es p n) (v : SourceValue) → (cell_at es (c.spot + 1) c.body).has ≡ Some v
+      → Among (Has p n v) (value_fact p n (returned es (entered P es p n) c.body))
   return-among c v h =
       let x = (cell_at es (c.spot + 1) c.body).has in
       fact-among p n (returned es (entered P es p n) c.body) v (ap (λ o. returned es o c.body) (on-entered c) ∙ ap (λ t. if t then x else None) (eq-eqb c.body c.body refl) ∙ h)

@@ -20,7 +20,7 @@ use Rattle.id_meaning.specs.declared.cells.RowFact.TheVariants.{On, Has}
 use Rattle.id_meaning.specs.declared.links.Links.{Links}
 use Rattle.id_meaning.specs.declared.edges.Edges.{Edges}
 use Rattle.id_meaning.specs.Links.{Leads, beyond, some_row, targets}
-use Rattle.id_meaning.specs.Cells.{all_effects, all_learnt, all_news, all_passes, blank, bucket_of, call_at, cell_at, cell_count, chosen, count_of, effects, entered, exit_at, exit_of, gain_at, gained, gains, given_at, given_of, is_at, is_fresh, is_taken, learnt, news_of, ons, param_row, passed_by, passes_of, path_of, put, returned, row_of, seen, spot_at, value_fact, with_fact}
+use Rattle.id_meaning.specs.Cells.{all_effects, all_learnt, all_news, all_passes, blank, call_at, cell_at, cell_count, chosen, count_of, effects, entered, exit_at, exit_of, gain_at, gained, gains, given_at, given_of, is_at, is_fresh, is_taken, learnt, news_of, ons, param_row, passed_by, passes_of, path_of, put, queue_of, returned, row_of, seen, spot_at, value_fact, with_fact}
 use Rattle.id_meaning.specs.Listed.{Known}
 use Rattle.id_meaning.proofs.CallsLemmas.{ArgsLead, Comes, IsOn, call-among, call-only, fact-among, fact-only, pass-among, pass-only, return-among, return-only}
 use Rattle.id_meaning.proofs.LinksLemmas.{some-among}
@@ -412,9 +412,10 @@ pub data Effect (P : Checked) (l : Links) (W : Edges) (es : List Spot) : RowFact
   turns : {p n a : ℕ} → Leads l.turns n a → Effect P l W es (On p n) (On p a)
   itself : {p n : ℕ} {g : RowFact} → Given P es p n g → Effect P l W es (On p n) g
   reads : {p n : ℕ} (m : ℕ) {w : SourceValue} {g : RowFact} → Leads l.reads n m → Given P es p m g → Effect P l W es (Has p n w) g
-  waits : {p n : ℕ} (m : ℕ) {w : SourceValue} {g : RowFact} → Leads W (bucket_of p n) m → Given P es p m g → Effect P l W es (Has p n w) g
+  waits : {p n : ℕ} (m : ℕ) {w : SourceValue} {g : RowFact} → Leads W (queue_of p n) m → Given P es p m g → Effect P l W es (Has p n w) g
   call : {p n : ℕ} {g : RowFact} → Comes P es p n g → Effect P l W es (On p n) g
-  argument : {p n a : ℕ} (c : IsOn P es p n) (m : ℕ) {k b : ℕ} {u w : SourceValue} → Leads l.reads a m → (at (rows P) m).node ≡ Arg c.enter k a → Leads l.reads c.enter n
+  argument : {p n a : ℕ} (c : IsOn P es p n) (m : ℕ) {k b : ℕ} {u w : SourceValue} → Leads l.reads a m → (at (rows P) m).node ≡ Arg c.enter k a
+      → Leads l.reads c.enter n
       → param_row (length (rows P)) c.head k ≡ Some b → (cell_at es p a).has ≡ Some u → Effect P l W es (Has p a w) (Has (c.spot + 1) b u)
   exit : {p n : ℕ} (c : IsOn P es p n) {u w : SourceValue} → (spot_at es c.spot).path ≡ p → (spot_at es c.spot).row ≡ n
       → (cell_at es (c.spot + 1) c.body).has ≡ Some u → Effect P l W es (Has (c.spot + 1) c.body w) (Has p n u)
@@ -444,7 +445,8 @@ gains-among P l es p (m ∷ ns) n g (inl q) e =
     Among-left g (gain_at P l es p m) (gains P l es p ns) (subst F q e)
 gains-among P l es p (m ∷ ns) n g (inr h) e = Among-right g (gain_at P l es p m) (gains P l es p ns) (gains-among P l es p ns n g h e)
 
-all_passes-among : (P : Checked) (es : List Spot) (p : ℕ) (z : Node) (ns : List ℕ) (n : ℕ) (g : RowFact) → Among n ns → Among g (passed_by P es p (entered P es p n) z) → Among g (all_passes P es p z ns)
+all_passes-among : (P : Checked) (es : List Spot) (p : ℕ) (z : Node) (ns : List ℕ) (n : ℕ) (g : RowFact) → Among n ns
+    → Among g (passed_by P es p (entered P es p n) z) → Among g (all_passes P es p z ns)
 all_passes-among P es p z [] n g h e = absurd h
 all_passes-among P es p z (m ∷ ns) n g (inl q) e =
     let F : ℕ → Type 0 = λ k. Among g (passed_by P es p (entered P es p k) z) in
@@ -475,23 +477,24 @@ effect-among P l W lead es (On p n) g (itself h) =
 effect-among P l W lead es (On p n) g (call h) =
     Among-right g (ons p (targets l.turns.rows.items n)) (given_at P es p n ++ call_at P l es p n) (Among-right g (given_at P es p n) (call_at P l es p n) (call-among P es p n l lead g h))
 effect-among P l W lead es (Has p n w) g (reads m i h) =
-    Among-left g (gains P l es p (targets l.reads.rows.items n)) (gains P l es p (targets W.rows.items (bucket_of p n)) ++ exit_at P es p n)
+    Among-left g (gains P l es p (targets l.reads.rows.items n)) (gains P l es p (targets W.rows.items (queue_of p n)) ++ exit_at P es p n)
     (gains-among P l es p _ m g i (Among-left g (given_at P es p m) (passes_of P l es p (at (rows P) m).node) (at-among P es p m g h)))
 effect-among P l W lead es (Has p n w) g (waits m i h) =
-    Among-right g (gains P l es p (targets l.reads.rows.items n)) (gains P l es p (targets W.rows.items (bucket_of p n)) ++ exit_at P es p n)
-    (Among-left g (gains P l es p (targets W.rows.items (bucket_of p n))) (exit_at P es p n)
+    Among-right g (gains P l es p (targets l.reads.rows.items n)) (gains P l es p (targets W.rows.items (queue_of p n)) ++ exit_at P es p n)
+    (Among-left g (gains P l es p (targets W.rows.items (queue_of p n))) (exit_at P es p n)
     (gains-among P l es p _ m g i (Among-left g (given_at P es p m) (passes_of P l es p (at (rows P) m).node) (at-among P es p m g h))))
 effect-among P l W lead es (Has p a w) g (argument {n = n} c m {k = k} {b = b} {u = u} i is j e h) =
     let F : Node → Type 0 = λ z. Among g (passes_of P l es p z) in
     let one = subst F (sym is) (all_passes-among P es p (Arg c.enter k a) (targets l.reads.rows.items c.enter) n g j (pass-among P es p n c k a b u e h)) in
-    Among-left g (gains P l es p (targets l.reads.rows.items a)) (gains P l es p (targets W.rows.items (bucket_of p a)) ++ exit_at P es p a)
+    Among-left g (gains P l es p (targets l.reads.rows.items a)) (gains P l es p (targets W.rows.items (queue_of p a)) ++ exit_at P es p a)
     (gains-among P l es p _ m g i (Among-right g (given_at P es p m) (passes_of P l es p (at (rows P) m).node) one))
 effect-among P l W lead es f g (exit {p = p} {n = n} c {u = u} e d h) =
-    Among-right g (gains P l es (c.spot + 1) (targets l.reads.rows.items c.body)) (gains P l es (c.spot + 1) (targets W.rows.items (bucket_of (c.spot + 1) c.body)) ++ exit_at P es (c.spot + 1) c.body)
-    (Among-right g (gains P l es (c.spot + 1) (targets W.rows.items (bucket_of (c.spot + 1) c.body))) (exit_at P es (c.spot + 1) c.body)
+    Among-right g (gains P l es (c.spot + 1) (targets l.reads.rows.items c.body)) (gains P l es (c.spot + 1) (targets W.rows.items (queue_of (c.spot + 1) c.body)) ++ exit_at P es (c.spot + 1) c.body)
+    (Among-right g (gains P l es (c.spot + 1) (targets W.rows.items (queue_of (c.spot + 1) c.body))) (exit_at P es (c.spot + 1) c.body)
     (exit-among P es p n g c e d (return-among P es p n c u h)))
 
-pub effects-all : (P : Checked) (l : Links) (W : Edges) → ArgsLead P l → (es : List Spot) (fs : List RowFact) (f g : RowFact) → Among f fs → Effect P l W es f g → Among g (all_effects P l W es fs)
+pub effects-all : (P : Checked) (l : Links) (W : Edges) → ArgsLead P l → (es : List Spot) (fs : List RowFact) (f g : RowFact) → Among f fs
+    → Effect P l W es f g → Among g (all_effects P l W es fs)
 effects-all P l W lead es [] f g h e = absurd h
 effects-all P l W lead es (x ∷ fs) f g (inl q) e =
     let F : RowFact → Type 0 = λ y. Among g (effects P l W es y) in
@@ -527,14 +530,16 @@ pub data Follows (P : Checked) (l : Links) (es : List Spot) (f : RowFact) : RowF
   given : (p m : ℕ) {g : RowFact} → Given P es p m g → Follows P l es f g
   comes : (p m : ℕ) {g : RowFact} → Comes P es p m g → Follows P l es f g
 
-all_passes-only : (P : Checked) (l : Links) (es : List Spot) (f : RowFact) (p m : ℕ) (z : Node) (ns : List ℕ) (g : RowFact) → (at (rows P) m).node ≡ z → Among g (all_passes P es p z ns) → Follows P l es f g
+all_passes-only : (P : Checked) (l : Links) (es : List Spot) (f : RowFact) (p m : ℕ) (z : Node) (ns : List ℕ) (g : RowFact) → (at (rows P) m).node ≡ z
+    → Among g (all_passes P es p z ns) → Follows P l es f g
 all_passes-only P l es f p m z [] g is h = absurd h
 all_passes-only P l es f p m z (n ∷ ns) g is h = elim (Among-either g (passed_by P es p (entered P es p n) z) (all_passes P es p z ns) h) [
   | inl i ↦ comes p n (pass-only P es p n m z g is i)
   | inr i ↦ all_passes-only P l es f p m z ns g is i
 ]
 
-passes-only : (P : Checked) (l : Links) (es : List Spot) (f : RowFact) (p m : ℕ) (z : Node) (g : RowFact) → (at (rows P) m).node ≡ z → Among g (passes_of P l es p z) → Follows P l es f g
+passes-only : (P : Checked) (l : Links) (es : List Spot) (f : RowFact) (p m : ℕ) (z : Node) (g : RowFact) → (at (rows P) m).node ≡ z
+    → Among g (passes_of P l es p z) → Follows P l es f g
 passes-only P l es f p m (Arg e k v) g is h = all_passes-only P l es f p m (Arg e k v) (targets l.reads.rows.items e) g is h
 passes-only P l es f p m _ g is h = absurd h
 
@@ -548,7 +553,8 @@ gains-only P l es f p (m ∷ ns) g h = elim (Among-either g (gain_at P l es p m)
   | inr i ↦ gains-only P l es f p ns g i
 ]
 
-exits-only : (P : Checked) (l : Links) (es : List Spot) (f : RowFact) (a : ℕ) (s : Spot) (g : RowFact) (t : Bool) → Among g (if t then exit_of P es a s else []) → Follows P l es f g
+exits-only : (P : Checked) (l : Links) (es : List Spot) (f : RowFact) (a : ℕ) (s : Spot) (g : RowFact) (t : Bool)
+    → Among g (if t then exit_of P es a s else []) → Follows P l es f g
 exits-only P l es f a s g true h = comes s.path s.row (return-only P es s.path s.row a g h)
 exits-only P l es f a s g false h = absurd h
 
@@ -563,16 +569,17 @@ effect-only P l W es (On p n) g h =
       ]
     ]
 effect-only P l W es (Has p n w) g h =
-    let names = gains P l es p (targets W.rows.items (bucket_of p n)) in
+    let names = gains P l es p (targets W.rows.items (queue_of p n)) in
     elim (Among-either g (gains P l es p (targets l.reads.rows.items n)) (names ++ exit_at P es p n) h) [
       | inl i ↦ gains-only P l es (Has p n w) p (targets l.reads.rows.items n) g i
       | inr i ↦ elim (Among-either g names (exit_at P es p n) i) [
-        | inl j ↦ gains-only P l es (Has p n w) p (targets W.rows.items (bucket_of p n)) g j
+        | inl j ↦ gains-only P l es (Has p n w) p (targets W.rows.items (queue_of p n)) g j
         | inr j ↦ exits-only P l es (Has p n w) n (spot_at es (p - 1)) g (nat_lt 0 p) j
       ]
     ]
 
-pub effects-only : (P : Checked) (l : Links) (W : Edges) (es : List Spot) (fs : List RowFact) (g : RowFact) → Among g (all_effects P l W es fs) → (f : RowFact) × Among f fs × Follows P l es f g
+pub effects-only : (P : Checked) (l : Links) (W : Edges) (es : List Spot) (fs : List RowFact) (g : RowFact) → Among g (all_effects P l W es fs)
+    → (f : RowFact) × Among f fs × Follows P l es f g
 effects-only P l W es [] g h = absurd h
 effects-only P l W es (f ∷ fs) g h = elim (Among-either g (effects P l W es f) (all_effects P l W es fs) h) [
   | inl i ↦ (f, inl refl, effect-only P l W es f g i)
@@ -581,7 +588,8 @@ effects-only P l W es (f ∷ fs) g h = elim (Among-either g (effects P l W es f)
 
 -- ---- one list after another
 
-pub all_effects-append : (P : Checked) (l : Links) (W : Edges) (es : List Spot) (fs gs : List RowFact) → all_effects P l W es (fs ++ gs) ≡ all_effects P l W es fs ++ all_effects P l W es gs
+pub all_effects-append : (P : Checked) (l : Links) (W : Edges) (es : List Spot) (fs gs : List RowFact)
+    → all_effects P l W es (fs ++ gs) ≡ all_effects P l W es fs ++ all_effects P l W es gs
 all_effects-append P l W es [] gs = refl
 all_effects-append P l W es (f ∷ fs) gs =
     ap (λ x. effects P l W es f ++ x) (all_effects-append P l W es fs gs) ∙ sym (append_assoc (effects P l W es f) (all_effects P l W es fs) (all_effects P l W es gs))
@@ -596,7 +604,8 @@ all_news-append es (f ∷ fs) gs =
     ap (λ x. news_of es f ++ x) (all_news-append (learnt es f) fs gs) ∙ sym (append_assoc (news_of es f) (all_news (learnt es f) fs) (all_news (all_learnt (learnt es f) fs) gs))
 
 -- the news alone leave the same spots
-again-by : (es : List Spot) (f : RowFact) (fs : List RowFact) (b : Bool) → is_fresh es f ≡ b → ((ds : List Spot) → all_learnt ds (all_news ds fs) ≡ all_learnt ds fs)
+again-by : (es : List Spot) (f : RowFact) (fs : List RowFact) (b : Bool) → is_fresh es f ≡ b
+    → ((ds : List Spot) → all_learnt ds (all_news ds fs) ≡ all_learnt ds fs)
     → all_learnt es (news_by b f ++ all_news (learnt_by b es f) fs) ≡ all_learnt (learnt_by b es f) fs
 again-by es f fs true e h = ap (λ t. all_learnt (learnt_by t es f) (all_news (With es f) fs)) e ∙ h (With es f)
 again-by es f fs false e h = h es

@@ -474,7 +474,8 @@ args-step P n m E F q t g = record {
 }
 
 -- where the row is read of another list
-pub args-by : (P : Checked) (n m : ℕ) (E F : Edges) (R : List Row) (b : Option ℕ) → m ≡ suc n → R ≡ rows P → b ≡ enter_of (at R n).node → AreArgsTo P n E → GainsTo E F (some_row b) n → AreArgsTo P m F
+pub args-by : (P : Checked) (n m : ℕ) (E F : Edges) (R : List Row) (b : Option ℕ) → m ≡ suc n → R ≡ rows P → b ≡ enter_of (at R n).node → AreArgsTo P n E
+    → GainsTo E F (some_row b) n → AreArgsTo P m F
 args-by P n m E F R b q r e t g =
     let A : List Row → Type 0 = λ xs. GainsTo E F (some_row (enter_of (at xs n).node)) n in
     let B : Option ℕ → Type 0 = λ o. GainsTo E F (some_row o) n in
@@ -493,7 +494,8 @@ turns-end R n E l t = record {
 }
 
 -- where the row is read of another list, and the row beyond its parts is given
-pub reads-by : (P : Checked) (n m : ℕ) (E F : Edges) (R : List Row) (b : Option ℕ) → m ≡ suc n → R ≡ rows P → b ≡ beyond P n (at R n).node → AreReadsTo P n E → GainsTo E F (linked_of b (at R n).node) n → AreReadsTo P m F
+pub reads-by : (P : Checked) (n m : ℕ) (E F : Edges) (R : List Row) (b : Option ℕ) → m ≡ suc n → R ≡ rows P → b ≡ beyond P n (at R n).node
+    → AreReadsTo P n E → GainsTo E F (linked_of b (at R n).node) n → AreReadsTo P m F
 reads-by P n m E F R b q r e t g =
     let A : List Row → Type 0 = λ xs. GainsTo E F (linked_of (beyond P n (at xs n).node) (at xs n).node) n in
     let B : Option ℕ → Type 0 = λ o. GainsTo E F (linked_of o (at R n).node) n in

@@ -357,12 +357,14 @@ module _ (S : Source) (k : ℕ) (es : List Spot) (s : IsRound S k es) where
   sound f (given p n g) = given-sound p n f (record { within = given-within S.checked es p n f g; node = refl }) g
 
 -- a row reads what is linked to it, or it is a name that waits for it
-linked-or-awaited : (P : Checked) (n a : ℕ) (z : Node) → Among a (reads_of (beyond P n z) z) → Among a (linked_of (beyond P n z) z) ⊎ (awaited_of (binder P n) z ≡ Some a)
+linked-or-awaited : (P : Checked) (n a : ℕ) (z : Node) → Among a (reads_of (beyond P n z) z)
+    → Among a (linked_of (beyond P n z) z) ⊎ (awaited_of (binder P n) z ≡ Some a)
 linked-or-awaited P n a (Name x) h = inr (some-only (binder P n) a h)
 linked-or-awaited P n a _ h = inl h
 
 -- what comes at a name comes where it is On
-awaited-on : (es : List Spot) (p n a : ℕ) (o : Option ℕ) (on : Bool) (v : Option SourceValue) (z : Node) (g : RowFact) → awaited_of o z ≡ Some a → Given_of es p n on v z g → on ≡ true
+awaited-on : (es : List Spot) (p n a : ℕ) (o : Option ℕ) (on : Bool) (v : Option SourceValue) (z : Node) (g : RowFact) → awaited_of o z ≡ Some a
+    → Given_of es p n on v z g → on ≡ true
 awaited-on es p n a o on v (Name x) (On q b) e h = absurd (none-some _ h.1)
 awaited-on es p n a o on v (Name x) (Has q m u) e h = (when-some on v u h.2).0
 awaited-on es p n a o on v _ g e h = absurd (none-some _ e)
@@ -461,7 +463,8 @@ module _ (S : Source) (k : ℕ) (es ds : List Spot) (found news : List RowFact) 
   all-among F (g ∷ fs) f h (inr i) = all-among F fs f h.1 i
 
   module _ (x : Links) (turns : AreTurns (rows S.checked) x.turns) (reads : AreReads S.checked x.reads) (args : AreArgs S.checked x.args) (W : Edges) (waits : AreWaits S.checked ds W) where
-    link-effect : (p n : ℕ) (f g : RowFact) → n < length (rows S.checked) → Given S.checked ds p n g → Known ds f → Linked p n (reads_at S.checked n) f → Effect S.checked x W ds f g
+    link-effect : (p n : ℕ) (f g : RowFact) → n < length (rows S.checked) → Given S.checked ds p n g → Known ds f → Linked p n (reads_at S.checked n) f
+        → Effect S.checked x W ds f g
     link-effect p n (On q m) g w h k self = itself h
     link-effect p n (Has q a u) g w h k (read i) = elim (linked-or-awaited S.checked n a (at (rows S.checked) n).node i) [
       | inl j ↦ reads-to n (reads.all n a w (known-sound (Has q a u) k).0.within j) h
@@ -700,7 +703,7 @@ module _ (S : Source) (olds es : List Spot) (given found os ns : List RowFact) (
       let c = ap (λ y. length y) first-news in
       omega (arith, q, b, c)
 
-  pub first-front : (cs : List Spot) (W : Edges) (count : ℕ) → cs ≡ [] → AreNone W 262144 → count ≡ length ns → count ≤ 1000000 → Front S 1 cs es W ns count
+  pub first-front : (cs : List Spot) (W : Edges) (count : ℕ) → cs ≡ [] → AreNone W 65536 → count ≡ length ns → count ≤ 1000000 → Front S 1 cs es W ns count
   first-front cs W count c w k l =
       let F : List Spot → Type 0 = λ bs. Front S 1 bs es W ns count in
       subst F (sym c) (record {
@@ -751,7 +754,8 @@ module _ (S : Source) (x : Links) (turns : AreTurns (rows S.checked) x.turns) (r
       again : (bs : List Spot) → bs ≡ all_learnt cs ns → bs ≡ es
       again bs e = e ∙ ap (λ y. all_learnt cs y) f.news ∙ learnt-again cs f.found ∙ sym f.spots
 
-      front-of : (m : ℕ) (ds : List Spot) (os : List RowFact) (more room : ℕ) → m ≡ suc r → Goes S.checked x W es ns es ds [] os room → length os ≤ room → count + room ≤ 1000000 → more ≡ count + length os → Front S m es ds W os more
+      front-of : (m : ℕ) (ds : List Spot) (os : List RowFact) (more room : ℕ) → m ≡ suc r → Goes S.checked x W es ns es ds [] os room → length os ≤ room
+          → count + room ≤ 1000000 → more ≡ count + length os → Front S m es ds W os more
       front-of m ds os more room q g l k e = elim g.done [
         | inl z ↦
             let whole : ns ≡ g.front = g.parts ∙ ap (λ y. g.front ++ y) z ∙ append-nil g.front in
@@ -777,13 +781,15 @@ module _ (S : Source) (x : Links) (turns : AreTurns (rows S.checked) x.turns) (r
         | inr z ↦ absurd (omega arith)
       ]
 
-      pub front-next : (m : ℕ) (bs ds : List Spot) (os : List RowFact) (more room : ℕ) → m ≡ suc r → bs ≡ all_learnt cs ns → Goes S.checked x W bs ns es ds [] os room → length os ≤ room → count + room ≤ 1000000 → more ≡ count + length os → Front S m bs ds W os more
+      pub front-next : (m : ℕ) (bs ds : List Spot) (os : List RowFact) (more room : ℕ) → m ≡ suc r → bs ≡ all_learnt cs ns
+          → Goes S.checked x W bs ns es ds [] os room → length os ≤ room → count + room ≤ 1000000 → more ≡ count + length os → Front S m bs ds W os more
       front-next m bs ds os more room q e g l k h =
           let G : List Spot → Type 0 = λ y. Goes S.checked x W y ns es ds [] os room in
           let F : List Spot → Type 0 = λ y. Front S m y ds W os more in
           subst F (sym (again bs e)) (front-of m ds os more room q (subst G (again bs e) g) l k h)
 
-      more-of : (n room : ℕ) (ds : List Spot) (os : List RowFact) → r < n → Goes S.checked x W es ns es ds [] os room → room < length os → count + room ≡ 1000000 → HasMoreFacts S n 1000000
+      more-of : (n room : ℕ) (ds : List Spot) (os : List RowFact) → r < n → Goes S.checked x W es ns es ds [] os room → room < length os
+          → count + room ≡ 1000000 → HasMoreFacts S n 1000000
       more-of n room ds os l g k e =
           let fs = all_effects S.checked x W es g.front in
           let all = all_effects-append S.checked x W es g.front g.rest in
@@ -799,7 +805,8 @@ module _ (S : Source) (x : Links) (turns : AreTurns (rows S.checked) x.turns) (r
           let j = f.next in
           more-facts S (suc (suc f.before)) n 1000000 ds (next-part S (suc f.before) es ds fs os t.round rises (learns-so es ds fs os g.spots g.news)) (omega (arith, j)) (omega (arith, a, b, c, h))
 
-      pub front-more : (n room : ℕ) (bs ds : List Spot) (os : List RowFact) → r < n → bs ≡ all_learnt cs ns → Goes S.checked x W bs ns es ds [] os room → room < length os → count + room ≡ 1000000 → HasMoreFacts S n 1000000
+      pub front-more : (n room : ℕ) (bs ds : List Spot) (os : List RowFact) → r < n → bs ≡ all_learnt cs ns → Goes S.checked x W bs ns es ds [] os room
+          → room < length os → count + room ≡ 1000000 → HasMoreFacts S n 1000000
       front-more n room bs ds os l e g k h =
           let G : List Spot → Type 0 = λ y. Goes S.checked x W y ns es ds [] os room in
           more-of n room ds os l (subst G (again bs e) g) k h

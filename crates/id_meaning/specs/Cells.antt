@@ -56,6 +56,10 @@ blank = record { on = false; has = None }
 abbrev pub bucket_of : ℕ → ℕ → ℕ
 bucket_of p n = (n % 262144 + p % 262144 * 40503) % 262144
 
+-- the queue in which names wait for the binder with this path and row
+abbrev pub queue_of : ℕ → ℕ → ℕ
+queue_of p n = bucket_of p n % 65536
+
 -- whether the spot has this path and row
 abbrev pub is_at : Spot → ℕ → ℕ → Truth
 is_at s p n = nat_eq s.path p && nat_eq s.row n
@@ -199,7 +203,8 @@ all_passed P es p c (m ∷ ms) = passed_of P es p c (at (rows P) m).node ++ all_
 -- the facts that come by the call at the row at the path, if it is On
 abbrev pub call_by : Checked → Links → List Spot → ℕ → ℕ → Option OnCall → List RowFact
 call_by P l es p n None = []
-call_by P l es p n (Some c) = On c.path c.body ∷ (value_fact p n (cell_at es c.path c.body).has ++ all_passed P es p c (targets l.args.rows.items c.enter))
+call_by P l es p n (Some c) =
+    On c.path c.body ∷ (value_fact p n (cell_at es c.path c.body).has ++ all_passed P es p c (targets l.args.rows.items c.enter))
 
 abbrev pub call_at : Checked → Links → List Spot → ℕ → ℕ → List RowFact
 call_at P l es p n = call_by P l es p n (entered P es p n)
@@ -242,7 +247,8 @@ gains P l es p (n ∷ ns) = gain_at P l es p n ++ gains P l es p ns
 -- the facts that follow from this one, with others of the spots, by one rule, where these names wait
 abbrev pub effects : Checked → Links → Edges → List Spot → RowFact → List RowFact
 effects P l w es (On p n) = ons p (targets l.turns.rows.items n) ++ (given_at P es p n ++ call_at P l es p n)
-effects P l w es (Has p n v) = gains P l es p (targets l.reads.rows.items n) ++ (gains P l es p (targets w.rows.items (bucket_of p n)) ++ exit_at P es p n)
+effects P l w es (Has p n v) =
+    gains P l es p (targets l.reads.rows.items n) ++ (gains P l es p (targets w.rows.items (queue_of p n)) ++ exit_at P es p n)
 
 -- the facts that follow from one of these
 abbrev pub all_effects : Checked → Links → Edges → List Spot → List RowFact → List RowFact

@@ -7,7 +7,7 @@ ghost use Rattle.id_meaning.specs.Sources.{main_body, value_of};
 
 use crate::SourceValue;
 use crate::calls::{add_call, add_exit, add_passes};
-use crate::cells::{Cells, RowFact, bucket_of};
+use crate::cells::{Cells, RowFact, queue_of};
 use crate::edges::Edges;
 use crate::links::{Links, beyond};
 use crate::params::{main_body, main_params, node_of};
@@ -84,7 +84,7 @@ pub fn add_effects(
                 links,
                 cells,
                 path,
-                waits.of(bucket_of(path, row)),
+                waits.of(queue_of(path, row)),
             )?;
             add_exit(found, checked, cells, path, row)
         }

@@ -8,7 +8,7 @@ ghost use Rattle.id_meaning.specs.Listed.{IsRound};
 ghost use Rattle.id_meaning.specs.Waits.{Goes};
 
 use crate::SourceValue;
-use crate::cells::{CHAINS, Cells, RowFact, learn_again, learn_all};
+use crate::cells::{Cells, QUEUES, RowFact, learn_again, learn_all};
 use crate::edges::Edges;
 use crate::effects::{add_effects, first_facts};
 use crate::links::{Links, link};
@@ -28,14 +28,15 @@ pub fn run(
     ensures facts { IfOk result (λ v. IsRound (source checked.now inputs.now) n v) }
     ensures few { IfOk result (λ v. count_of v ≤ 1000000) }
     ensures asked { IfErr result (λ e. e ≡ RoundsError.BadRounds → ⊥) }
-    ensures too_many { IfErr result (λ e. e ≡ RoundsError.TooManyFacts → HasMoreFacts (source checked.now inputs.now) n 1000000) }
+    ensures too_many { IfErr result
+        (λ e. e ≡ RoundsError.TooManyFacts → HasMoreFacts (source checked.now inputs.now) n 1000000) }
 {
     let mut cells = Cells::new(alloc)?;
     if n == 0 {
         return Ok(cells);
     }
     let links = link(alloc, checked)?;
-    let mut waits = Edges::new(alloc, CHAINS)?;
+    let mut waits = Edges::new(alloc, QUEUES)?;
     let mut ahead = Cells::new(alloc)?;
     let mut news = Vec::new(alloc);
     let first = first_facts(alloc, checked, inputs)?;
@@ -85,7 +86,8 @@ fn learn_effects(
     cells: &Cells,
     facts: &[RowFact],
 ) -> Result<(), AllocError>
-    ensures { OnOk result (Goes checked.now links.now waits.now cells.now facts.now ahead.old ahead.new news.old.items news.new.items room) }
+    ensures { OnOk result (Goes checked.now links.now waits.now cells.now facts.now
+        ahead.old ahead.new news.old.items news.new.items room) }
 {
     let mut found = Vec::new(alloc);
     for fact in facts {

@@ -1,11 +1,11 @@
 //! Names that wait for their binders (docs/MEANING.md, "Rules").
 //!
-//! A name that is On waits in the chain of its binder's spot, so that a value leads to the names alone that are On.
+//! A name that is On waits in a queue for its binder, so that a value leads to the names alone that are On.
 
 ghost use Rattle.std.specs.Prelude.{[], ◌∷◌, OnOk};
 ghost use Rattle.id_meaning.specs.Waits.{Waits, WaitsFor};
 
-use crate::cells::{RowFact, bucket_of};
+use crate::cells::{RowFact, queue_of};
 use crate::edges::Edges;
 use crate::links::awaited;
 use id_check::Checked;
@@ -41,7 +41,7 @@ fn wait_for(
     ensures { OnOk result (WaitsFor waits.old waits.new path row binder) }
 {
     match binder {
-        Some(binder) => waits.add(bucket_of(path, binder), row),
+        Some(binder) => waits.add(queue_of(path, binder), row),
         None => Ok(()),
     }
 }
