@@ -1,5 +1,5 @@
 -- Lemmas on specs/Cells.antt: what comes by a call.
-use Rattle.std.proofs.Common.{◌≡◌, inl, inr, ℕ, ◌+◌, ◌<◌, Bool, true, false, nat_eq, Some, None, Option, List, [], ◌∷◌, ◌++◌, length, if◌then◌else◌, refl, ap, sym, ◌∙◌, subst}
+use Rattle.std.proofs.Common.{◌≡◌, inl, inr, ℕ, ◌+◌, ◌<◌, Bool, true, false, nat_eq, Some, None, Option, List, [], ◌∷◌, length, if◌then◌else◌, refl, ap, sym, ◌∙◌, subst}
 use Rattle.std.specs.Prelude.{nat_lt}
 use Rattle.std.proofs.lemmas.Bool.{eqb-true, eq-eqb, lt-ltb, ltb-true}
 use Rattle.std.proofs.lemmas.Option.{none-some}
@@ -18,7 +18,7 @@ use Rattle.id_meaning.specs.declared.cells.RowFact.{RowFact}
 use Rattle.id_meaning.specs.declared.cells.RowFact.TheVariants.{On, Has}
 use Rattle.id_meaning.specs.declared.links.Links.{Links}
 use Rattle.id_meaning.specs.Links.{Leads, targets}
-use Rattle.id_meaning.specs.Cells.{all_passed, begun_at, call_at, call_by, callee_by, callee_of, cell_at, entered, entered_by, entered_of, find, param_fact, param_row, passed_of, value_fact, when}
+use Rattle.id_meaning.specs.Cells.{all_passed, begun_at, call_at, call_by, callee_by, callee_of, cell_at, entered, entered_by, entered_of, find, param_fact, param_row, passed_by, passed_of, returned, value_fact, when}
 
 pub fact-among : (p n : ℕ) (x : Option SourceValue) (v : SourceValue) → x ≡ Some v → Among (Has p n v) (value_fact p n x)
 fact-among p n None v h = cc
@@ -67,7 +67,7 @@ comes-on (passes c m is e h) = c
 
 -- each argument is linked to its `Enter`
 abbrev pub ArgsLead : Checked → Links → Type 0
-ArgsLead P l = (m e k a : ℕ) → (at (rows P) m).node ≡ Arg e k a → Leads l.reads e m
+ArgsLead P l = (m e k a : ℕ) → (at (rows P) m).node ≡ Arg e k a → Leads l.args e m
 
 when-both : {A : Type 0} (b : Bool) (x : Option A) (v : A) → when b x ≡ Some v → (b ≡ true) × (x ≡ Some v)
 when-both true x v h = (refl, h)
@@ -149,12 +149,12 @@ module _ (P : Checked) (es : List Spot) (p n : ℕ) where
 
   on-only : (l : Links) (i : IsOn P es p n) (g : RowFact) → Among g (call_by P l es p n (Some (call_of P es p n i))) → Comes P es p n g
   on-only l i g (inl q) = let F : RowFact → Type 0 = λ f. Comes P es p n f in subst F (sym q) (begins i)
-  on-only l i g (inr h) = elim (Among-either g (value_fact p n (cell_at es (i.spot + 1) i.body).has) (all_passed P es p (call_of P es p n i) (targets l.reads.rows.items i.enter)) h) [
+  on-only l i g (inr h) = elim (Among-either g (value_fact p n (cell_at es (i.spot + 1) i.body).has) (all_passed P es p (call_of P es p n i) (targets l.args.rows.items i.enter)) h) [
     | inl k ↦
         let r = fact-only p n (cell_at es (i.spot + 1) i.body).has g k in
         let F : RowFact → Type 0 = λ f. Comes P es p n f in
         subst F (sym r.2) (ends i r.1)
-    | inr k ↦ all-only i (targets l.reads.rows.items i.enter) g k
+    | inr k ↦ all-only i (targets l.args.rows.items i.enter) g k
   ]
 
   by-only : (l : Links) (g : RowFact) (o : Option OnCall) → entered P es p n ≡ o → Among g (call_by P l es p n o) → Comes P es p n g
@@ -167,7 +167,51 @@ module _ (P : Checked) (es : List Spot) (p n : ℕ) where
   pub call-only : (l : Links) (g : RowFact) → Among g (call_at P l es p n) → Comes P es p n g
   call-only l g h = by-only l g (entered P es p n) refl h
 
+  by-passed : (m : ℕ) (z : Node) (g : RowFact) (o : Option OnCall) → entered P es p n ≡ o → (at (rows P) m).node ≡ z → Among g (passed_by P es p o z)
+      → Comes P es p n g
+  by-passed m z g None e is h = absurd h
+  by-passed m z g (Some c) e is h =
+      let i = entered-on c e in
+      let F : OnCall → Type 0 = λ d. Among g (passed_of P es p d z) in
+      passed-only i.0 m g z is (subst F (sym i.1) h)
+
+  pub pass-only : (m : ℕ) (z : Node) (g : RowFact) → (at (rows P) m).node ≡ z → Among g (passed_by P es p (entered P es p n) z) → Comes P es p n g
+  pass-only m z g is h = by-passed m z g (entered P es p n) refl is h
+
+  if-returned : (x : Option SourceValue) (v : SourceValue) (t : Bool) → (if t then x else None) ≡ Some v → x ≡ Some v
+  if-returned x v true h = h
+  if-returned x v false h = cc
+
+  by-returned : (a : ℕ) (v : SourceValue) (o : Option OnCall) → entered P es p n ≡ o → returned es o a ≡ Some v → Comes P es p n (Has p n v)
+  by-returned a v None e h = cc
+  by-returned a v (Some c) e h =
+      let i = entered-on c e in
+      let F : OnCall → Type 0 = λ d. (cell_at es d.path d.body).has ≡ Some v in
+      ends i.0 (subst F (sym i.1) (if-returned (cell_at es c.path c.body).has v (nat_eq c.body a) h))
+
+  pub return-only : (a : ℕ) (g : RowFact) → Among g (value_fact p n (returned es (entered P es p n) a)) → Comes P es p n g
+  return-only a g h =
+      let r = fact-only p n (returned es (entered P es p n) a) g h in
+      let F : RowFact → Type 0 = λ f. Comes P es p n f in
+      subst F (sym r.2) (by-returned a r.0 (entered P es p n) refl r.1)
+
   -- ---- what comes is listed
+
+  pub pass-among : (c : IsOn P es p n) (k a b : ℕ) (v : SourceValue) → param_row (length (rows P)) c.head k ≡ Some b → (cell_at es p a).has ≡ Some v
+      → Among (Has (c.spot + 1) b v) (passed_by P es p (entered P es p n) (Arg c.enter k a))
+  pass-among c k a b v e h =
+      let x = (cell_at es p a).has in
+      let g = Has (c.spot + 1) b v in
+      let O : Option ℕ → Type 0 = λ o. Among g (param_fact (c.spot + 1) o x) in
+      let T : Bool → Type 0 = λ t. Among g (if t then On p a ∷ param_fact (c.spot + 1) (param_row (length (rows P)) c.head k) x else []) in
+      let E : Option OnCall → Type 0 = λ o. Among g (passed_by P es p o (Arg c.enter k a)) in
+      subst E (sym (on-entered c)) (subst T (sym (eq-eqb c.enter c.enter refl)) (inr (subst O (sym e) (fact-among (c.spot + 1) b x v h))))
+
+  pub return-among : (c : IsOn P es p n) (v : SourceValue) → (cell_at es (c.spot + 1) c.body).has ≡ Some v
+      → Among (Has p n v) (value_fact p n (returned es (entered P es p n) c.body))
+  return-among c v h =
+      let x = (cell_at es (c.spot + 1) c.body).has in
+      fact-among p n (returned es (entered P es p n) c.body) v (ap (λ o. returned es o c.body) (on-entered c) ∙ ap (λ t. if t then x else None) (eq-eqb c.body c.body refl) ∙ h)
 
   all-among : (c : OnCall) (ms : List ℕ) (m : ℕ) (g : RowFact) → Among m ms → Among g (passed_of P es p c (at (rows P) m).node) → Among g (all_passed P es p c ms)
   all-among c [] m g h k = absurd h
@@ -181,7 +225,7 @@ module _ (P : Checked) (es : List Spot) (p n : ℕ) where
       → Among g (On p a ∷ param_fact (i.spot + 1) (param_row (length (rows P)) i.head k) (cell_at es p a).has) → Among g (call_by P l es p n (Some (call_of P es p n i)))
   arg-among l lead i m k a g is h =
       let c = call_of P es p n i in
-      let ms = targets l.reads.rows.items i.enter in
+      let ms = targets l.args.rows.items i.enter in
       let F : Bool → Type 0 = λ t. Among g (if t then On p a ∷ param_fact (i.spot + 1) (param_row (length (rows P)) i.head k) (cell_at es p a).has else []) in
       let G : Node → Type 0 = λ z. Among g (passed_of P es p c z) in
       let one : Among g (passed_of P es p c (at (rows P) m).node) = subst G (sym is) (subst F (sym (eq-eqb i.enter i.enter refl)) h) in
@@ -193,7 +237,7 @@ module _ (P : Checked) (es : List Spot) (p n : ℕ) where
   pub call-among : (l : Links) → ArgsLead P l → (g : RowFact) → Comes P es p n g → Among g (call_at P l es p n)
   call-among l lead g (begins c) = on-among l c (On (c.spot + 1) c.body) (inl refl)
   call-among l lead g (ends c {v = v} h) =
-      let ms = targets l.reads.rows.items c.enter in
+      let ms = targets l.args.rows.items c.enter in
       on-among l c (Has p n v) (inr (Among-left (Has p n v) (value_fact p n (cell_at es (c.spot + 1) c.body).has) (all_passed P es p (call_of P es p n c) ms) (fact-among p n (cell_at es (c.spot + 1) c.body).has v h)))
   call-among l lead g (asks c m {k = k} {a = a} is) = on-among l c (On p a) (arg-among l lead c m k a (On p a) is (inl refl))
   call-among l lead g (passes c m {k = k} {a = a} {b = b} {v = v} is e h) =

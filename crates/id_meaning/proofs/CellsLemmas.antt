@@ -2,8 +2,9 @@
 use Rattle.std.proofs.Common.{◌≡◌, ◌⊎◌, inl, inr, ℕ, zero, suc, ◌+◌, ◌-◌, ◌≤◌, ◌<◌, Bool, true, false, ◌&&◌, not, nat_eq, nat_le, Some, None, Option, List, [], ◌∷◌, ◌++◌, length, if◌then◌else◌, refl, ap, sym, ◌∙◌, subst, arith}
 use Rattle.std.specs.Option.{is_some}
 use Rattle.std.specs.Prelude.{nat_lt}
-use Rattle.std.proofs.lemmas.Bool.{eq-eqb, eqb-true, eqb-false, leb-true, le-leb, lt-ltb, false≢true}
+use Rattle.std.proofs.lemmas.Bool.{eqb-true, eqb-false, leb-true, le-leb, lt-ltb, false≢true}
 use Rattle.std.proofs.lemmas.Bool.Decides.{eqb_tells}
+use Rattle.std.proofs.lemmas.List.{append_assoc, length-append}
 use Rattle.id_list.specs.List.{Among}
 use Rattle.id_list.proofs.AmongLemmas.{Among-either, Among-left, Among-right}
 use Rattle.id_parts.specs.declared.row.Node.{Node}
@@ -17,11 +18,12 @@ use Rattle.id_meaning.specs.declared.cells.Spot.{Spot}
 use Rattle.id_meaning.specs.declared.cells.RowFact.{RowFact}
 use Rattle.id_meaning.specs.declared.cells.RowFact.TheVariants.{On, Has}
 use Rattle.id_meaning.specs.declared.links.Links.{Links}
-use Rattle.id_meaning.specs.declared.calls.OnCall.{OnCall}
+use Rattle.id_meaning.specs.declared.edges.Edges.{Edges}
 use Rattle.id_meaning.specs.Links.{Leads, beyond, some_row, targets}
-use Rattle.id_meaning.specs.Cells.{all_effects, all_learnt, all_news, blank, cell_at, call_at, calls, chosen, effects, entered, exit_at, exit_of, gain_at, gained, gains, passes_of, returns, given_at, given_of, is_at, is_fresh, is_taken, learnt, news_of, ons, path_of, put, row_of, seen, spot_at, value_fact, with_fact}
+use Rattle.id_meaning.specs.Cells.{all_effects, all_learnt, all_news, all_passes, blank, call_at, cell_at, cell_count, chosen, count_of, effects, entered, exit_at, exit_of, gain_at, gained, gains, given_at, given_of, is_at, is_fresh, is_taken, learnt, news_of, ons, param_row, passed_by, passes_of, path_of, put, queue_of, returned, row_of, seen, spot_at, value_fact, with_fact}
 use Rattle.id_meaning.specs.Listed.{Known}
-use Rattle.id_meaning.proofs.CallsLemmas.{ArgsLead, Comes, IsOn, call-among, call-only, fact-among, fact-only, on-entered}
+use Rattle.id_meaning.proofs.CallsLemmas.{ArgsLead, Comes, IsOn, call-among, call-only, fact-among, fact-only, pass-among, pass-only, return-among, return-only}
+use Rattle.id_meaning.proofs.LinksLemmas.{some-among}
 
 -- ---- spots
 
@@ -406,24 +408,22 @@ abbrev pub Given : Checked → List Spot → ℕ → ℕ → RowFact → Type 0
 Given P es p n f = let z = (at (rows P) n).node in Given_of es p n (cell_at es p n).on (seen es p (beyond P n z)) z f
 
 -- from the first fact the second follows by a link, with others of the spots
-pub data Effect (P : Checked) (l : Links) (es : List Spot) : RowFact → RowFact → Type 0 where
-  turns : {p n a : ℕ} → Leads l.turns n a → Effect P l es (On p n) (On p a)
-  itself : {p n : ℕ} {g : RowFact} → Given P es p n g → Effect P l es (On p n) g
-  reads : {p n : ℕ} (m : ℕ) {w : SourceValue} {g : RowFact} → Leads l.reads n m → Given P es p m g → Effect P l es (Has p n w) g
-  call : {p n : ℕ} {g : RowFact} → Comes P es p n g → Effect P l es (On p n) g
-  argument : {p a : ℕ} (m n : ℕ) {e k v : ℕ} {w : SourceValue} {g : RowFact} → Leads l.reads a m → (at (rows P) m).node ≡ Arg e k v → Leads l.reads e n
-      → Comes P es p n g → Effect P l es (Has p a w) g
-  exit : {p n : ℕ} (c : IsOn P es p n) {w : SourceValue} {g : RowFact} → (spot_at es c.spot).path ≡ p → (spot_at es c.spot).row ≡ n
-      → Comes P es p n g → Effect P l es (Has (c.spot + 1) c.body w) g
+pub data Effect (P : Checked) (l : Links) (W : Edges) (es : List Spot) : RowFact → RowFact → Type 0 where
+  turns : {p n a : ℕ} → Leads l.turns n a → Effect P l W es (On p n) (On p a)
+  itself : {p n : ℕ} {g : RowFact} → Given P es p n g → Effect P l W es (On p n) g
+  reads : {p n : ℕ} (m : ℕ) {w : SourceValue} {g : RowFact} → Leads l.reads n m → Given P es p m g → Effect P l W es (Has p n w) g
+  waits : {p n : ℕ} (m : ℕ) {w : SourceValue} {g : RowFact} → Leads W (queue_of p n) m → Given P es p m g → Effect P l W es (Has p n w) g
+  call : {p n : ℕ} {g : RowFact} → Comes P es p n g → Effect P l W es (On p n) g
+  argument : {p n a : ℕ} (c : IsOn P es p n) (m : ℕ) {k b : ℕ} {u w : SourceValue} → Leads l.reads a m → (at (rows P) m).node ≡ Arg c.enter k a
+      → Leads l.reads c.enter n
+      → param_row (length (rows P)) c.head k ≡ Some b → (cell_at es p a).has ≡ Some u → Effect P l W es (Has p a w) (Has (c.spot + 1) b u)
+  exit : {p n : ℕ} (c : IsOn P es p n) {u w : SourceValue} → (spot_at es c.spot).path ≡ p → (spot_at es c.spot).row ≡ n
+      → (cell_at es (c.spot + 1) c.body).has ≡ Some u → Effect P l W es (Has (c.spot + 1) c.body w) (Has p n u)
 
 ons-among : (p : ℕ) (ns : List ℕ) (n : ℕ) → Among n ns → Among (On p n) (ons p ns)
 ons-among p [] n h = absurd h
 ons-among p (m ∷ ns) n (inl q) = inl (ap (λ k. On p k) q)
 ons-among p (m ∷ ns) n (inr h) = inr (ons-among p ns n h)
-
-some-among : (o : Option ℕ) (a : ℕ) → o ≡ Some a → Among a (some_row o)
-some-among None a h = cc
-some-among (Some b) a h = let e : a ≡ b = cc in inl e
 
 given-among : (es : List Spot) (p n : ℕ) (on : Bool) (x : Option SourceValue) (z : Node) (g : RowFact) → Given_of es p n on x z g → Among g (given_of es p n on x z)
 given-among es p n on x z (On q a) h =
@@ -445,57 +445,61 @@ gains-among P l es p (m ∷ ns) n g (inl q) e =
     Among-left g (gain_at P l es p m) (gains P l es p ns) (subst F q e)
 gains-among P l es p (m ∷ ns) n g (inr h) e = Among-right g (gain_at P l es p m) (gains P l es p ns) (gains-among P l es p ns n g h e)
 
-calls-among : (P : Checked) (l : Links) (es : List Spot) (p : ℕ) (ns : List ℕ) (n : ℕ) (g : RowFact) → Among n ns → Among g (call_at P l es p n) → Among g (calls P l es p ns)
-calls-among P l es p [] n g h e = absurd h
-calls-among P l es p (m ∷ ns) n g (inl q) e =
-    let F : ℕ → Type 0 = λ k. Among g (call_at P l es p k) in
-    Among-left g (call_at P l es p m) (calls P l es p ns) (subst F q e)
-calls-among P l es p (m ∷ ns) n g (inr h) e = Among-right g (call_at P l es p m) (calls P l es p ns) (calls-among P l es p ns n g h e)
+all_passes-among : (P : Checked) (es : List Spot) (p : ℕ) (z : Node) (ns : List ℕ) (n : ℕ) (g : RowFact) → Among n ns
+    → Among g (passed_by P es p (entered P es p n) z) → Among g (all_passes P es p z ns)
+all_passes-among P es p z [] n g h e = absurd h
+all_passes-among P es p z (m ∷ ns) n g (inl q) e =
+    let F : ℕ → Type 0 = λ k. Among g (passed_by P es p (entered P es p k) z) in
+    Among-left g (passed_by P es p (entered P es p m) z) (all_passes P es p z ns) (subst F q e)
+all_passes-among P es p z (m ∷ ns) n g (inr h) e = Among-right g (passed_by P es p (entered P es p m) z) (all_passes P es p z ns) (all_passes-among P es p z ns n g h e)
 
--- where the row is the body of the call that the path begins with
-abbrev exit_by : Checked → Links → List Spot → ℕ → ℕ → ℕ → List RowFact
-exit_by P l es a p n = if returns (entered P es p n) a then call_at P l es p n else []
+-- what a row gives back to the call at a spot
+abbrev exit_by : Checked → List Spot → ℕ → ℕ → ℕ → List RowFact
+exit_by P es a p n = value_fact p n (returned es (entered P es p n) a)
 
-exit-among : (P : Checked) (l : Links) (es : List Spot) (p n : ℕ) (g : RowFact) (c : IsOn P es p n) → (spot_at es c.spot).path ≡ p → (spot_at es c.spot).row ≡ n
-    → Among g (call_at P l es p n) → Among g (exit_at P l es (c.spot + 1) c.body)
-exit-among P l es p n g c e f h =
+exit-among : (P : Checked) (es : List Spot) (p n : ℕ) (g : RowFact) (c : IsOn P es p n) → (spot_at es c.spot).path ≡ p → (spot_at es c.spot).row ≡ n
+    → Among g (exit_by P es c.body p n) → Among g (exit_at P es (c.spot + 1) c.body)
+exit-among P es p n g c e f h =
     let s = spot_at es c.spot in
     let above : 0 < c.spot + 1 = omega arith in
     let last : c.spot + 1 - 1 ≡ c.spot = omega arith in
-    let T : Bool → Type 0 = λ t. Among g (if t then call_at P l es p n else []) in
-    let O : Option OnCall → Type 0 = λ o. Among g (if returns o c.body then call_at P l es p n else []) in
-    let A : ℕ → Type 0 = λ q. Among g (exit_by P l es c.body q n) in
-    let B : ℕ → Type 0 = λ m. Among g (exit_by P l es c.body s.path m) in
-    let I : ℕ → Type 0 = λ i. Among g (exit_of P l es c.body (spot_at es i)) in
-    let Z : Bool → Type 0 = λ t. Among g (if t then exit_of P l es c.body (spot_at es (c.spot + 1 - 1)) else []) in
-    let one = subst O (sym (on-entered P es p n c)) (subst T (sym (eq-eqb c.body c.body refl)) h) in
-    subst Z (sym (lt-ltb 0 (c.spot + 1) above)) (subst I (sym last) (subst B (sym f) (subst A (sym e) one)))
+    let A : ℕ → Type 0 = λ q. Among g (exit_by P es c.body q n) in
+    let B : ℕ → Type 0 = λ m. Among g (exit_by P es c.body s.path m) in
+    let I : ℕ → Type 0 = λ i. Among g (exit_of P es c.body (spot_at es i)) in
+    let Z : Bool → Type 0 = λ t. Among g (if t then exit_of P es c.body (spot_at es (c.spot + 1 - 1)) else []) in
+    subst Z (sym (lt-ltb 0 (c.spot + 1) above)) (subst I (sym last) (subst B (sym f) (subst A (sym e) h)))
 
-effect-among : (P : Checked) (l : Links) → ArgsLead P l → (es : List Spot) (f g : RowFact) → Effect P l es f g → Among g (effects P l es f)
-effect-among P l lead es (On p n) (On q a) (turns h) =
+effect-among : (P : Checked) (l : Links) (W : Edges) → ArgsLead P l → (es : List Spot) (f g : RowFact) → Effect P l W es f g → Among g (effects P l W es f)
+effect-among P l W lead es (On p n) (On q a) (turns h) =
     Among-left (On p a) (ons p (targets l.turns.rows.items n)) (given_at P es p n ++ call_at P l es p n) (ons-among p _ a h)
-effect-among P l lead es (On p n) g (itself h) =
+effect-among P l W lead es (On p n) g (itself h) =
     Among-right g (ons p (targets l.turns.rows.items n)) (given_at P es p n ++ call_at P l es p n) (Among-left g (given_at P es p n) (call_at P l es p n) (at-among P es p n g h))
-effect-among P l lead es (On p n) g (call h) =
+effect-among P l W lead es (On p n) g (call h) =
     Among-right g (ons p (targets l.turns.rows.items n)) (given_at P es p n ++ call_at P l es p n) (Among-right g (given_at P es p n) (call_at P l es p n) (call-among P es p n l lead g h))
-effect-among P l lead es (Has p n w) g (reads m i h) =
-    Among-left g (gains P l es p (targets l.reads.rows.items n)) (exit_at P l es p n)
+effect-among P l W lead es (Has p n w) g (reads m i h) =
+    Among-left g (gains P l es p (targets l.reads.rows.items n)) (gains P l es p (targets W.rows.items (queue_of p n)) ++ exit_at P es p n)
     (gains-among P l es p _ m g i (Among-left g (given_at P es p m) (passes_of P l es p (at (rows P) m).node) (at-among P es p m g h)))
-effect-among P l lead es (Has p a w) g (argument m n {e = e} i is j h) =
+effect-among P l W lead es (Has p n w) g (waits m i h) =
+    Among-right g (gains P l es p (targets l.reads.rows.items n)) (gains P l es p (targets W.rows.items (queue_of p n)) ++ exit_at P es p n)
+    (Among-left g (gains P l es p (targets W.rows.items (queue_of p n))) (exit_at P es p n)
+    (gains-among P l es p _ m g i (Among-left g (given_at P es p m) (passes_of P l es p (at (rows P) m).node) (at-among P es p m g h))))
+effect-among P l W lead es (Has p a w) g (argument {n = n} c m {k = k} {b = b} {u = u} i is j e h) =
     let F : Node → Type 0 = λ z. Among g (passes_of P l es p z) in
-    let one = subst F (sym is) (calls-among P l es p (targets l.reads.rows.items e) n g j (call-among P es p n l lead g h)) in
-    Among-left g (gains P l es p (targets l.reads.rows.items a)) (exit_at P l es p a)
+    let one = subst F (sym is) (all_passes-among P es p (Arg c.enter k a) (targets l.reads.rows.items c.enter) n g j (pass-among P es p n c k a b u e h)) in
+    Among-left g (gains P l es p (targets l.reads.rows.items a)) (gains P l es p (targets W.rows.items (queue_of p a)) ++ exit_at P es p a)
     (gains-among P l es p _ m g i (Among-right g (given_at P es p m) (passes_of P l es p (at (rows P) m).node) one))
-effect-among P l lead es f g (exit {p = p} {n = n} c e d h) =
-    Among-right g (gains P l es (c.spot + 1) (targets l.reads.rows.items c.body)) (exit_at P l es (c.spot + 1) c.body)
-    (exit-among P l es p n g c e d (call-among P es p n l lead g h))
+effect-among P l W lead es f g (exit {p = p} {n = n} c {u = u} e d h) =
+    Among-right g (gains P l es (c.spot + 1) (targets l.reads.rows.items c.body)) (gains P l es (c.spot + 1) (targets W.rows.items (queue_of (c.spot + 1) c.body)) ++ exit_at P es (c.spot + 1) c.body)
+    (Among-right g (gains P l es (c.spot + 1) (targets W.rows.items (queue_of (c.spot + 1) c.body))) (exit_at P es (c.spot + 1) c.body)
+    (exit-among P es p n g c e d (return-among P es p n c u h)))
 
-pub effects-all : (P : Checked) (l : Links) → ArgsLead P l → (es : List Spot) (fs : List RowFact) (f g : RowFact) → Among f fs → Effect P l es f g → Among g (all_effects P l es fs)
-effects-all P l lead es [] f g h e = absurd h
-effects-all P l lead es (x ∷ fs) f g (inl q) e =
-    let F : RowFact → Type 0 = λ y. Among g (effects P l es y) in
-    Among-left g (effects P l es x) (all_effects P l es fs) (subst F q (effect-among P l lead es f g e))
-effects-all P l lead es (x ∷ fs) f g (inr h) e = Among-right g (effects P l es x) (all_effects P l es fs) (effects-all P l lead es fs f g h e)
+pub effects-all : (P : Checked) (l : Links) (W : Edges) → ArgsLead P l → (es : List Spot) (fs : List RowFact) (f g : RowFact) → Among f fs
+    → Effect P l W es f g → Among g (all_effects P l W es fs)
+effects-all P l W lead es [] f g h e = absurd h
+effects-all P l W lead es (x ∷ fs) f g (inl q) e =
+    let F : RowFact → Type 0 = λ y. Among g (effects P l W es y) in
+    Among-left g (effects P l W es x) (all_effects P l W es fs) (subst F q (effect-among P l W lead es f g e))
+effects-all P l W lead es (x ∷ fs) f g (inr h) e = Among-right g (effects P l W es x) (all_effects P l W es fs) (effects-all P l W lead es fs f g h e)
 
 -- and nothing else is among the effects
 
@@ -504,7 +508,7 @@ ons-only p [] g h = absurd h
 ons-only p (m ∷ ns) g (inl q) = (m, inl refl, q)
 ons-only p (m ∷ ns) g (inr h) = let r = ons-only p ns g h in (r.0, inr r.1, r.2)
 
-some-only : (o : Option ℕ) (a : ℕ) → Among a (some_row o) → o ≡ Some a
+pub some-only : (o : Option ℕ) (a : ℕ) → Among a (some_row o) → o ≡ Some a
 some-only None a h = absurd h
 some-only (Some b) a (inl q) = ap (λ k. Some k) (sym q)
 some-only (Some b) a (inr h) = absurd h
@@ -526,37 +530,36 @@ pub data Follows (P : Checked) (l : Links) (es : List Spot) (f : RowFact) : RowF
   given : (p m : ℕ) {g : RowFact} → Given P es p m g → Follows P l es f g
   comes : (p m : ℕ) {g : RowFact} → Comes P es p m g → Follows P l es f g
 
-calls-only : (P : Checked) (l : Links) (es : List Spot) (f : RowFact) (p : ℕ) (ns : List ℕ) (g : RowFact) → Among g (calls P l es p ns) → Follows P l es f g
-calls-only P l es f p [] g h = absurd h
-calls-only P l es f p (m ∷ ns) g h = elim (Among-either g (call_at P l es p m) (calls P l es p ns) h) [
-  | inl i ↦ comes p m (call-only P es p m l g i)
-  | inr i ↦ calls-only P l es f p ns g i
+all_passes-only : (P : Checked) (l : Links) (es : List Spot) (f : RowFact) (p m : ℕ) (z : Node) (ns : List ℕ) (g : RowFact) → (at (rows P) m).node ≡ z
+    → Among g (all_passes P es p z ns) → Follows P l es f g
+all_passes-only P l es f p m z [] g is h = absurd h
+all_passes-only P l es f p m z (n ∷ ns) g is h = elim (Among-either g (passed_by P es p (entered P es p n) z) (all_passes P es p z ns) h) [
+  | inl i ↦ comes p n (pass-only P es p n m z g is i)
+  | inr i ↦ all_passes-only P l es f p m z ns g is i
 ]
 
-passes-only : (P : Checked) (l : Links) (es : List Spot) (f : RowFact) (p : ℕ) (z : Node) (g : RowFact) → Among g (passes_of P l es p z) → Follows P l es f g
-passes-only P l es f p (Arg e k v) g h = calls-only P l es f p (targets l.reads.rows.items e) g h
-passes-only P l es f p _ g h = absurd h
+passes-only : (P : Checked) (l : Links) (es : List Spot) (f : RowFact) (p m : ℕ) (z : Node) (g : RowFact) → (at (rows P) m).node ≡ z
+    → Among g (passes_of P l es p z) → Follows P l es f g
+passes-only P l es f p m (Arg e k v) g is h = all_passes-only P l es f p m (Arg e k v) (targets l.reads.rows.items e) g is h
+passes-only P l es f p m _ g is h = absurd h
 
 gains-only : (P : Checked) (l : Links) (es : List Spot) (f : RowFact) (p : ℕ) (ns : List ℕ) (g : RowFact) → Among g (gains P l es p ns) → Follows P l es f g
 gains-only P l es f p [] g h = absurd h
 gains-only P l es f p (m ∷ ns) g h = elim (Among-either g (gain_at P l es p m) (gains P l es p ns) h) [
   | inl i ↦ elim (Among-either g (given_at P es p m) (passes_of P l es p (at (rows P) m).node) i) [
     | inl j ↦ given p m (at-only P es p m g j)
-    | inr j ↦ passes-only P l es f p (at (rows P) m).node g j
+    | inr j ↦ passes-only P l es f p m (at (rows P) m).node g refl j
   ]
   | inr i ↦ gains-only P l es f p ns g i
 ]
 
-exit-only : (P : Checked) (l : Links) (es : List Spot) (f : RowFact) (a p n : ℕ) (g : RowFact) (t : Bool) → Among g (if t then call_at P l es p n else []) → Follows P l es f g
-exit-only P l es f a p n g true h = comes p n (call-only P es p n l g h)
-exit-only P l es f a p n g false h = absurd h
-
-exits-only : (P : Checked) (l : Links) (es : List Spot) (f : RowFact) (a : ℕ) (s : Spot) (g : RowFact) (t : Bool) → Among g (if t then exit_of P l es a s else []) → Follows P l es f g
-exits-only P l es f a s g true h = exit-only P l es f a s.path s.row g (returns (entered P es s.path s.row) a) h
+exits-only : (P : Checked) (l : Links) (es : List Spot) (f : RowFact) (a : ℕ) (s : Spot) (g : RowFact) (t : Bool)
+    → Among g (if t then exit_of P es a s else []) → Follows P l es f g
+exits-only P l es f a s g true h = comes s.path s.row (return-only P es s.path s.row a g h)
 exits-only P l es f a s g false h = absurd h
 
-effect-only : (P : Checked) (l : Links) (es : List Spot) (f g : RowFact) → Among g (effects P l es f) → Follows P l es f g
-effect-only P l es (On p n) g h =
+effect-only : (P : Checked) (l : Links) (W : Edges) (es : List Spot) (f g : RowFact) → Among g (effects P l W es f) → Follows P l es f g
+effect-only P l W es (On p n) g h =
     let F : RowFact → Type 0 = λ x. Follows P l es (On p n) x in
     elim (Among-either g (ons p _) (given_at P es p n ++ call_at P l es p n) h) [
       | inl i ↦ let r = ons-only p _ g i in subst F (sym r.2) (turned refl r.1)
@@ -565,14 +568,83 @@ effect-only P l es (On p n) g h =
         | inr j ↦ comes p n (call-only P es p n l g j)
       ]
     ]
-effect-only P l es (Has p n w) g h = elim (Among-either g (gains P l es p (targets l.reads.rows.items n)) (exit_at P l es p n) h) [
-  | inl i ↦ gains-only P l es (Has p n w) p (targets l.reads.rows.items n) g i
-  | inr i ↦ exits-only P l es (Has p n w) n (spot_at es (p - 1)) g (nat_lt 0 p) i
+effect-only P l W es (Has p n w) g h =
+    let names = gains P l es p (targets W.rows.items (queue_of p n)) in
+    elim (Among-either g (gains P l es p (targets l.reads.rows.items n)) (names ++ exit_at P es p n) h) [
+      | inl i ↦ gains-only P l es (Has p n w) p (targets l.reads.rows.items n) g i
+      | inr i ↦ elim (Among-either g names (exit_at P es p n) i) [
+        | inl j ↦ gains-only P l es (Has p n w) p (targets W.rows.items (queue_of p n)) g j
+        | inr j ↦ exits-only P l es (Has p n w) n (spot_at es (p - 1)) g (nat_lt 0 p) j
+      ]
+    ]
+
+pub effects-only : (P : Checked) (l : Links) (W : Edges) (es : List Spot) (fs : List RowFact) (g : RowFact) → Among g (all_effects P l W es fs)
+    → (f : RowFact) × Among f fs × Follows P l es f g
+effects-only P l W es [] g h = absurd h
+effects-only P l W es (f ∷ fs) g h = elim (Among-either g (effects P l W es f) (all_effects P l W es fs) h) [
+  | inl i ↦ (f, inl refl, effect-only P l W es f g i)
+  | inr i ↦ let r = effects-only P l W es fs g i in (r.0, inr r.1, r.2)
 ]
 
-pub effects-only : (P : Checked) (l : Links) (es : List Spot) (fs : List RowFact) (g : RowFact) → Among g (all_effects P l es fs) → (f : RowFact) × Among f fs × Follows P l es f g
-effects-only P l es [] g h = absurd h
-effects-only P l es (f ∷ fs) g h = elim (Among-either g (effects P l es f) (all_effects P l es fs) h) [
-  | inl i ↦ (f, inl refl, effect-only P l es f g i)
-  | inr i ↦ let r = effects-only P l es fs g i in (r.0, inr r.1, r.2)
-]
+-- ---- one list after another
+
+pub all_effects-append : (P : Checked) (l : Links) (W : Edges) (es : List Spot) (fs gs : List RowFact)
+    → all_effects P l W es (fs ++ gs) ≡ all_effects P l W es fs ++ all_effects P l W es gs
+all_effects-append P l W es [] gs = refl
+all_effects-append P l W es (f ∷ fs) gs =
+    ap (λ x. effects P l W es f ++ x) (all_effects-append P l W es fs gs) ∙ sym (append_assoc (effects P l W es f) (all_effects P l W es fs) (all_effects P l W es gs))
+
+pub all_learnt-append : (es : List Spot) (fs gs : List RowFact) → all_learnt es (fs ++ gs) ≡ all_learnt (all_learnt es fs) gs
+all_learnt-append es [] gs = refl
+all_learnt-append es (f ∷ fs) gs = all_learnt-append (learnt es f) fs gs
+
+pub all_news-append : (es : List Spot) (fs gs : List RowFact) → all_news es (fs ++ gs) ≡ all_news es fs ++ all_news (all_learnt es fs) gs
+all_news-append es [] gs = refl
+all_news-append es (f ∷ fs) gs =
+    ap (λ x. news_of es f ++ x) (all_news-append (learnt es f) fs gs) ∙ sym (append_assoc (news_of es f) (all_news (learnt es f) fs) (all_news (all_learnt (learnt es f) fs) gs))
+
+-- the news alone leave the same spots
+again-by : (es : List Spot) (f : RowFact) (fs : List RowFact) (b : Bool) → is_fresh es f ≡ b
+    → ((ds : List Spot) → all_learnt ds (all_news ds fs) ≡ all_learnt ds fs)
+    → all_learnt es (news_by b f ++ all_news (learnt_by b es f) fs) ≡ all_learnt (learnt_by b es f) fs
+again-by es f fs true e h = ap (λ t. all_learnt (learnt_by t es f) (all_news (With es f) fs)) e ∙ h (With es f)
+again-by es f fs false e h = h es
+
+pub learnt-again : (es : List Spot) (fs : List RowFact) → all_learnt es (all_news es fs) ≡ all_learnt es fs
+learnt-again es [] = refl
+learnt-again es (f ∷ fs) = again-by es f fs (is_fresh es f) refl (λ ds. learnt-again ds fs)
+
+-- ---- how many facts there are
+
+count-by : (s : Spot) (es : List Spot) (p n : ℕ) (c : Cell) (b : Bool) → count_of (put es p n c) + cell_count (cell_at es p n) ≡ count_of es + cell_count c
+    → count_of (at_put b s es p n c) + cell_count (if b then s.cell else cell_at es p n) ≡ count_of (s ∷ es) + cell_count c
+count-by s es p n c true h = omega arith
+count-by s es p n c false h = omega (arith, h)
+
+count-put : (es : List Spot) (p n : ℕ) (c : Cell) → count_of (put es p n c) + cell_count (cell_at es p n) ≡ count_of es + cell_count c
+count-put [] p n c = omega arith
+count-put (s ∷ es) p n c = count-by s es p n c (is_at s p n) (count-put es p n c)
+
+abbrev number : Bool → ℕ
+number b = if b then 1 else 0
+
+with-count : (c : Cell) (f : RowFact) → is_taken c f ≡ false → cell_count (with_fact c f) ≡ suc (cell_count c)
+with-count c (On p n) t = let e = ap number t in omega (arith, e)
+with-count c (Has p n v) t = let e = ap number t in omega (arith, e)
+
+learnt-count : (es : List Spot) (f : RowFact) (b : Bool) → is_fresh es f ≡ b → count_of (learnt_by b es f) ≡ count_of es + length (news_by b f)
+learnt-count es f true e =
+    let c = cell_at es (path_of f) (row_of f) in
+    let t = fresh-true (nat_le (path_of f) (length es)) (is_taken c f) e in
+    let a = count-put es (path_of f) (row_of f) (with_fact c f) in
+    let b = with-count c f t.1 in
+    omega (arith, a, b)
+learnt-count es f false e = omega arith
+
+pub count-learnt : (es : List Spot) (fs : List RowFact) → count_of (all_learnt es fs) ≡ count_of es + length (all_news es fs)
+count-learnt es [] = omega arith
+count-learnt es (f ∷ fs) =
+    let a = count-learnt (learnt es f) fs in
+    let b = learnt-count es f (is_fresh es f) refl in
+    let c = length-append (news_of es f) (all_news (learnt es f) fs) in
+    omega (arith, a, b, c)

@@ -6,6 +6,7 @@ pub mod LinksLemmas
 mod CallsLemmas
 pub mod ArgumentsLemmas
 pub mod CellsLemmas
+pub mod WaitsLemmas
 pub mod ChainsLemmas
 pub mod PathsLemmas
 pub mod StepLemmas

@@ -1,5 +1,5 @@
 -- Lemmas on specs/Links.antt.
-use Rattle.std.proofs.Common.{◌≡◌, ◌⊎◌, inl, inr, ℕ, zero, suc, ◌≤◌, ◌<◌, Bool, true, false, ◌||◌, ◌&&◌, nat_lt, nat_le, Some, Option, List, [], ◌∷◌, ◌++◌, length, get_or, set, Vec, Global, refl, ap, sym, ◌∙◌, subst, arith}
+use Rattle.std.proofs.Common.{◌≡◌, ◌⊎◌, inl, inr, ℕ, zero, suc, ◌≤◌, ◌<◌, Bool, true, false, ◌||◌, ◌&&◌, nat_lt, nat_le, Some, None, Option, List, [], ◌∷◌, ◌++◌, length, get_or, set, Vec, Global, refl, ap, sym, ◌∙◌, subst, arith}
 use Rattle.std.specs.Prelude.{slice_get}
 use Rattle.std.proofs.lemmas.Bool.{leb-true, ltb-true, lt-leb, le-leb, le-ltb, lt-ltb}
 use Rattle.std.proofs.lemmas.Bool.Decides.{eqb_tells}
@@ -18,7 +18,7 @@ use Rattle.id_parts.specs.Rows.{at}
 use Rattle.id_parts.specs.Tables.{around, is_block, is_binding, is_call}
 use Rattle.id_parts.specs.Turns.{IsStatement, Turns, operand, left, right, test, argument, body, statement, in_block}
 use Rattle.id_meaning.specs.declared.links.Statement.{Statement}
-use Rattle.id_meaning.specs.Links.{AreNone, AreOpen, AreReadsTo, AreTurnsTo, Gains, GainsTo, Leads, Statements, Statements_at, StatementsRise, Takes, TakesAll, TurnsOn, beyond, parts_turned, reads_at, reads_of, some_row, targets, test_of, width}
+use Rattle.id_meaning.specs.Links.{AreArgsTo, AreNone, AreOpen, AreReadsTo, AreTurnsTo, Gains, GainsTo, Leads, Statements, Statements_at, StatementsRise, Takes, TakesAll, TurnsOn, beyond, enter_of, linked_at, linked_of, parts_turned, some_row, targets, test_of, width}
 
 -- ---- edges
 
@@ -43,6 +43,10 @@ targets-other (v ∷ vs) zero zero w h = absurd (h refl)
 targets-other (v ∷ vs) zero (suc m) w h = refl
 targets-other (v ∷ vs) (suc n) zero w h = refl
 targets-other (v ∷ vs) (suc n) (suc m) w h = targets-other vs n m w (λ e. h (ap (λ k. suc k) e))
+
+pub some-among : (o : Option ℕ) (a : ℕ) → o ≡ Some a → Among a (some_row o)
+some-among None a h = cc
+some-among (Some b) a h = let e : a ≡ b = cc in inl e
 
 -- one edge more
 pub gains-one : (E F : Edges) (a b : ℕ) (w : Vec ℕ Global) → F.rows.items ≡ set E.rows.items a w → a < length E.rows.items → w.items ≡ targets E.rows.items a ++ b ∷ [] → Gains E F a (b ∷ [])
@@ -442,18 +446,40 @@ none-push (w ∷ vs) v e h zero b k = h 0 b k
 none-push (w ∷ vs) v e h (suc a) b k = none-push vs v e (λ c. h (suc c)) a b k
 
 -- what one row more reads
-pub reads-step : (P : Checked) (n m : ℕ) (E F : Edges) → m ≡ suc n → AreReadsTo P n E → GainsTo E F (reads_at P n) n → AreReadsTo P m F
+pub reads-step : (P : Checked) (n m : ℕ) (E F : Edges) → m ≡ suc n → AreReadsTo P n E → GainsTo E F (linked_at P n) n → AreReadsTo P m F
 reads-step P n m E F q t g = record {
   wide = g.wide ∙ t.wide;
   all = λ k a l w h. elim (eqb_tells k n) [
     | inl e ↦
-        let A : ℕ → Type 0 = λ j. Among a (reads_at P j) in
+        let A : ℕ → Type 0 = λ j. Among a (linked_at P j) in
         let B : ℕ → Type 0 = λ j. Leads F a j in
         let c = t.wide in
         subst B (sym e.1) (g.added a (omega arith) (subst A e.1 h))
     | inr e ↦ (let s : k < n = let d = e.1 in omega arith in g.kept a k (t.all k a s w h))
   ];
 }
+
+-- which arguments one row more is
+pub args-step : (P : Checked) (n m : ℕ) (E F : Edges) → m ≡ suc n → AreArgsTo P n E → GainsTo E F (some_row (enter_of (at (rows P) n).node)) n → AreArgsTo P m F
+args-step P n m E F q t g = record {
+  wide = g.wide ∙ t.wide;
+  all = λ k e i a w l is. elim (eqb_tells k n) [
+    | inl x ↦
+        let B : ℕ → Type 0 = λ j. Leads F e j in
+        let c = t.wide in
+        let z : enter_of (at (rows P) n).node ≡ Some e = ap (λ j. enter_of (at (rows P) j).node) (sym x.1) ∙ ap enter_of is in
+        subst B (sym x.1) (g.added e (omega arith) (some-among (enter_of (at (rows P) n).node) e z))
+    | inr x ↦ (let s : k < n = let d = x.1 in omega arith in g.kept e k (t.all k e i a s l is))
+  ];
+}
+
+-- where the row is read of another list
+pub args-by : (P : Checked) (n m : ℕ) (E F : Edges) (R : List Row) (b : Option ℕ) → m ≡ suc n → R ≡ rows P → b ≡ enter_of (at R n).node → AreArgsTo P n E
+    → GainsTo E F (some_row b) n → AreArgsTo P m F
+args-by P n m E F R b q r e t g =
+    let A : List Row → Type 0 = λ xs. GainsTo E F (some_row (enter_of (at xs n).node)) n in
+    let B : Option ℕ → Type 0 = λ o. GainsTo E F (some_row o) n in
+    args-step P n m E F q t (subst A r (subst B e g))
 
 targets-within : (vs : List (Vec ℕ Global)) (n a : ℕ) → Among a (targets vs n) → n < length vs
 targets-within [] n a h = absurd h
@@ -468,8 +494,9 @@ turns-end R n E l t = record {
 }
 
 -- where the row is read of another list, and the row beyond its parts is given
-pub reads-by : (P : Checked) (n m : ℕ) (E F : Edges) (R : List Row) (b : Option ℕ) → m ≡ suc n → R ≡ rows P → b ≡ beyond P n (at R n).node → AreReadsTo P n E → GainsTo E F (reads_of b (at R n).node) n → AreReadsTo P m F
+pub reads-by : (P : Checked) (n m : ℕ) (E F : Edges) (R : List Row) (b : Option ℕ) → m ≡ suc n → R ≡ rows P → b ≡ beyond P n (at R n).node
+    → AreReadsTo P n E → GainsTo E F (linked_of b (at R n).node) n → AreReadsTo P m F
 reads-by P n m E F R b q r e t g =
-    let A : List Row → Type 0 = λ xs. GainsTo E F (reads_of (beyond P n (at xs n).node) (at xs n).node) n in
-    let B : Option ℕ → Type 0 = λ o. GainsTo E F (reads_of o (at R n).node) n in
+    let A : List Row → Type 0 = λ xs. GainsTo E F (linked_of (beyond P n (at xs n).node) (at xs n).node) n in
+    let B : Option ℕ → Type 0 = λ o. GainsTo E F (linked_of o (at R n).node) n in
     reads-step P n m E F q t (subst A r (subst B e g))

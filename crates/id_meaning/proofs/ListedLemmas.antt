@@ -1,10 +1,15 @@
 -- Lemmas on specs/Listed.antt: the list of what the spots show is that of the facts.
-use Rattle.std.proofs.Common.{◌≡◌, ◌⊎◌, inl, inr, ℕ, zero, suc, ◌+◌, ◌<◌, Bool, true, false, Option, None, Some, List, [], ◌∷◌, ◌++◌, length, get_or, if◌then◌else◌, Ordering, Less, Equal, Greater, refl, ap, sym, ◌∙◌, subst, arith}
-use Rattle.std.specs.Prelude.{IsPermutation, Contains}
-use Rattle.std.specs.List.{IsDistinct, AllByRecursion}
-use Rattle.std.specs.Ordering.{is_eq}
-use Rattle.std.proofs.lemmas.List.Sorted.{Contains-permutation, IsPermutation-sym}
-use Rattle.std.proofs.lemmas.Map.Keys.{IsDistinct-IsPermutation}
+use Rattle.std.proofs.Common.{◌≡◌, ◌⊎◌, inl, inr, ℕ, zero, suc, ◌+◌, ◌≤◌, ◌<◌, Bool, true, false, Option, None, Some, List, [], ◌∷◌, ◌++◌, length, get_or, if◌then◌else◌, Ordering, Less, Equal, Greater, refl, ap, sym, ◌∙◌, subst, arith}
+use Rattle.std.specs.Prelude.{◌≢◌, AllPairs, IsPermutation, Contains}
+use Rattle.std.specs.List.{All, IsDistinct, AllByRecursion}
+use Rattle.std.specs.Option.{is_some}
+use Rattle.std.specs.Ordering.{is_eq, ordering_reverse}
+use Rattle.std.proofs.lemmas.List.Sorted.{Contains-permutation, IsPermutation-sym, length_permutation}
+use Rattle.std.proofs.lemmas.Map.Keys.{IsDistinct-IsPermutation, IsDistinct-head, IsDistinct-tail}
+use Rattle.std.proofs.lemmas.Bool.{false≢true}
+use Rattle.std.proofs.lemmas.List.{length-append}
+use Rattle.std.proofs.lemmas.List.Elements.{All-cons, All-nil}
+use Rattle.std.proofs.lemmas.List.Kept.{AllPairs-cons}
 use Rattle.id_list.specs.List.{Among}
 use Rattle.id_list.proofs.AmongLemmas.{Among-either, Among-left, Among-right}
 use Rattle.id_check.specs.declared.checked.Checked.{Checked}
@@ -18,12 +23,12 @@ use Rattle.id_meaning.specs.declared.cells.RowFact.{RowFact}
 use Rattle.id_meaning.specs.declared.cells.RowFact.TheVariants.{On, Has}
 use Rattle.id_meaning.specs.Sources.{Source}
 use Rattle.id_meaning.specs.Rounds.{Rounds}
-use Rattle.id_meaning.specs.Computed.{AreFacts}
-use Rattle.id_meaning.specs.Cells.{blank, cell_at, is_at, spot_at}
-use Rattle.id_meaning.specs.Listed.{AreShown, IsRound, Known, fact_cmp, fact_of, facts_in, on_fact, path_at, place_in, spot_facts, steps_in, steps_of, value_fact}
+use Rattle.id_meaning.specs.Computed.{AreFacts, HasMoreFacts}
+use Rattle.id_meaning.specs.Cells.{blank, cell_at, count_of, is_at, spot_at}
+use Rattle.id_meaning.specs.Listed.{AreShown, IsPart, IsRound, Known, fact_cmp, fact_of, facts_in, on_fact, path_at, place_in, spot_facts, steps_in, steps_of, value_fact}
 use Rattle.id_meaning.proofs.CellsLemmas.{at-true, true-at}
 use Rattle.id_meaning.proofs.CheckedLemmas.{apart_of}
-use Rattle.id_meaning.proofs.OrdersLemmas.{FactsRise-up, point_same, same_point, same_point-flips}
+use Rattle.id_meaning.proofs.OrdersLemmas.{FactsRise-up, fact_total, point_same, same_point, same_point-flips}
 use Rattle.id_meaning.proofs.PathsLemmas.{path-once}
 
 -- ---- lists in another order
@@ -162,7 +167,7 @@ at-steps : (P : Checked) (es : List Spot) (s : Spot) (f : Fact) → IsOf P es s 
 at-steps P es s f (inl h) = (ap (λ g. steps_in g) h.1, ap (λ g. place_in g) h.1)
 at-steps P es s f (inr h) = (ap (λ g. steps_in g) h.2, ap (λ g. place_in g) h.2)
 
-module _ (S : Source) (n : ℕ) (es : List Spot) (s : IsRound S n es) where
+module _ (S : Source) (n : ℕ) (es : List Spot) (s : IsPart S n es) where
   -- the spots from the number k on
   abbrev From : ℕ → List Spot → Type 0
   From k ds = (j : ℕ) → j < length ds → (k + j < length es) × (spot_at es (k + j) ≡ spot_at ds j)
@@ -241,12 +246,6 @@ module _ (S : Source) (n : ℕ) (es : List Spot) (s : IsRound S n es) where
   differ k [] h = tt
   differ k (d ∷ ds) h = differ-one k d ds h (differ (suc k) ds (from-next k d ds h))
 
-  facts-all : (f : Fact) → Rounds S n f → Among f (facts_in S.checked es es)
-  facts-all f h =
-      let r = s.all f h in
-      let F : Fact → Type 0 = λ g. Among g (facts_in S.checked es es) in
-      subst F (sym r.is) (shown r.fact r.known)
-
   facts-only : (f : Fact) → Among f (facts_in S.checked es es) → Rounds S n f
   facts-only f h =
       let r = in-only S.checked es es f h in
@@ -258,13 +257,81 @@ module _ (S : Source) (n : ℕ) (es : List Spot) (s : IsRound S n es) where
         | inr k ↦ subst F (sym k.2) (s.only (Has e.path e.row k.0) (ap (λ x. x.has) c ∙ k.1))
       ]
 
+module _ (S : Source) (n : ℕ) (es : List Spot) (s : IsRound S n es) where
+  pub part : IsPart S n es
+  part = record { only = s.only; spots = s.spots }
+
+  facts-all : (f : Fact) → Rounds S n f → Among f (facts_in S.checked es es)
+  facts-all f h =
+      let r = s.all f h in
+      let F : Fact → Type 0 = λ g. Among g (facts_in S.checked es es) in
+      subst F (sym r.is) (shown S n es part r.fact r.known)
+
+from-first : (S : Source) (n : ℕ) (es : List Spot) (s : IsPart S n es) → From S n es s 0 es
+from-first S n es s = λ j l. (let q : 0 + j ≡ j = omega arith in (omega arith, ap (λ m. spot_at es m) q))
+
 -- where the spots show the facts of a round, their list is that of its facts
 pub AreFacts-from_spots : (S : Source) (n : ℕ) (es : List Spot) (fs : List Fact) → IsRound S n es → AreShown S.checked es fs → AreFacts S n fs
 AreFacts-from_spots S n es fs s h =
     let all = facts_in S.checked es es in
-    let first : From S n es s 0 es = λ j l. (let q : 0 + j ≡ j = omega arith in (omega arith, ap (λ m. spot_at es m) q)) in
+    let p = part S n es s in
     record {
       all = λ f k. moved all fs h.same f (facts-all S n es s f k);
-      only = λ f k. facts-only S n es s f (moved fs all (IsPermutation-sym all fs h.same) f k);
-      rise = FactsRise-up fs h.up (IsDistinct-IsPermutation same_point same_point-flips all fs h.same (differ S n es s 0 es first));
+      only = λ f k. facts-only S n es p f (moved fs all (IsPermutation-sym all fs h.same) f k);
+      rise = FactsRise-up fs h.up (IsDistinct-IsPermutation same_point same_point-flips all fs h.same (differ S n es p 0 es (from-first S n es p)));
+    }
+
+-- ---- more facts than so many
+
+itself : (f : Fact) → same_point f f ≡ true
+itself f = at (fact_cmp f f) (fact_total.antisymm f f) where
+  at : (o : Ordering) → o ≡ ordering_reverse o → is_eq o ≡ true
+  at Less e = cc
+  at Equal e = refl
+  at Greater e = cc
+
+others : (f : Fact) (fs : List Fact) → AllByRecursion (λ g. same_point f g ≡ false) fs → All (λ g. f ≢ g) fs
+others f [] h = All-nil (λ g. f ≢ g)
+others f (g ∷ fs) h =
+    let F : Fact → Type 0 = λ y. same_point f y ≡ true in
+    All-cons (λ y. f ≢ y) g fs (λ e. false≢true (sym h.0 ∙ subst F e (itself f))) (others f fs h.1)
+
+each-once : (fs : List Fact) → IsDistinct same_point fs → AllPairs (λ f g. f ≢ g) fs
+each-once [] d = λ i j x below within. absurd (omega arith)
+each-once (f ∷ fs) d = AllPairs-cons (λ x y. x ≢ y) f fs (others f fs (IsDistinct-head same_point f fs d)) (each-once fs (IsDistinct-tail same_point f fs d))
+
+on-count : (p : Path) (e : ℕ) (b : Bool) → length (on_fact p e b) ≡ (if b then 1 else 0)
+on-count p e true = refl
+on-count p e false = refl
+
+has-count : (p : Path) (e : ℕ) (o : Option SourceValue) → length (value_fact p e o) ≡ (if is_some o then 1 else 0)
+has-count p e None = refl
+has-count p e (Some v) = refl
+
+pub facts-count : (P : Checked) (all es : List Spot) → length (facts_in P all es) ≡ count_of es
+facts-count P all [] = refl
+facts-count P all (s ∷ es) =
+    let p = path_at P all s.path in
+    let e = place P s.row in
+    let a = length-append (spot_facts P all s) (facts_in P all es) in
+    let b = length-append (on_fact p e s.cell.on) (value_fact p e s.cell.has) in
+    let c = on-count p e s.cell.on in
+    let d = has-count p e s.cell.has in
+    let r = facts-count P all es in
+    omega (arith, a, b, c, d, r)
+
+pub shown-count : (P : Checked) (es : List Spot) (fs : List Fact) → AreShown P es fs → length fs ≡ count_of es
+shown-count P es fs h = length_permutation (facts_in P es es) fs h.same ∙ facts-count P es es
+
+-- where the spots have more facts of a round, the round has more
+pub more-facts : (S : Source) (k n most : ℕ) (es : List Spot) → IsPart S k es → k ≤ n → most < count_of es → HasMoreFacts S n most
+more-facts S k n most es s l m =
+    let c = facts-count S.checked es es in
+    record {
+      round = k;
+      up_to = l;
+      facts = facts_in S.checked es es;
+      only = facts-only S k es s;
+      once = each-once (facts_in S.checked es es) (differ S k es s 0 es (from-first S k es s));
+      more = omega arith;
     }

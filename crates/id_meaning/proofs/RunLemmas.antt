@@ -1,5 +1,5 @@
 -- The cells after one round more, and what is found for the round after it.
-use Rattle.std.proofs.Common.{◌≡◌, ◌⊎◌, inl, inr, ℕ, zero, suc, ◌+◌, ◌-◌, ◌≤◌, ◌<◌, Bool, true, false, Option, None, Some, List, [], ◌∷◌, length, refl, ap, sym, ◌∙◌, subst, arith}
+use Rattle.std.proofs.Common.{◌≡◌, ◌⊎◌, inl, inr, ℕ, zero, suc, ◌+◌, ◌-◌, ◌≤◌, ◌<◌, Bool, true, false, Option, None, Some, List, [], ◌∷◌, ◌++◌, length, refl, ap, sym, ◌∙◌, subst, arith}
 use Rattle.std.specs.Prelude.{slice_get}
 use Rattle.std.proofs.lemmas.Bool.{cases_lt, false≢true}
 use Rattle.std.proofs.lemmas.Option.{none-some}
@@ -26,18 +26,24 @@ use Rattle.id_meaning.specs.declared.Fact.TheVariants as fact
 use Rattle.id_meaning.specs.declared.cells.Spot.{Spot}
 use Rattle.id_meaning.specs.declared.cells.RowFact.{RowFact}
 use Rattle.id_meaning.specs.declared.cells.RowFact.TheVariants.{On, Has}
+use Rattle.id_meaning.specs.declared.edges.Edges.{Edges}
 use Rattle.id_meaning.specs.declared.links.Links.{Links}
 use Rattle.id_meaning.specs.Sources.{Source, IsInput, main_params, value_of}
 use Rattle.id_meaning.specs.Facts.{without, between, Chooses, then_arm, else_arm, main_on, param_has, literal_has, operand_on, left_on, right_on, unary_has, binary_has, name_has, test_on, arm_on, conditional_has, argument_on, callee_on, argument_has, call_has, below, statement_on, body_on, block_has, binding_has}
 use Rattle.id_meaning.specs.Rounds.{Rounds}
-use Rattle.id_meaning.specs.Links.{AreReads, AreTurns, Leads, beyond, reads_at, reads_of, test_of}
-use Rattle.id_meaning.specs.Cells.{all_effects, all_learnt, all_news, arm_of, binary_of, cell_at, chosen, constant_of, first_facts, gained, given as given_by, input_facts, path_of, row_of, seen, spot_at, unary_of, value_fact, blank, find}
-use Rattle.id_meaning.specs.Listed.{IsRound, IsThing, Known, Shows, fact_of, path_at}
+use Rattle.id_meaning.specs.Links.{AreArgs, AreNone, AreReads, AreTurns, Leads, awaited_of, beyond, linked_of, reads_at, reads_of, test_of}
+use Rattle.id_meaning.specs.Cells.{all_effects, all_learnt, all_news, arm_of, binary_of, cell_at, chosen, constant_of, count_of, first_facts, gained, given as given_by, input_facts, path_of, row_of, seen, spot_at, unary_of, value_fact, blank, find}
+use Rattle.id_meaning.specs.Listed.{IsPart, IsRound, IsThing, Known, Shows, fact_of, path_at}
 use Rattle.id_meaning.proofs.ArgumentsLemmas.{argument-get, param_row-some, past, row-within}
 use Rattle.id_meaning.proofs.CallsLemmas.{ArgsLead, Comes, IsOn, asks, begins, comes-on, ends, passes}
 use Rattle.id_meaning.proofs.ChainsLemmas.{found as spot-found, missing}
-use Rattle.id_meaning.proofs.CellsLemmas.{at-true, Effect, Follows, Given, Given_of, Learns, Learns-all, Taken, argument as effect_argument, call as effect_call, effects-all, effects-only, exit as effect_exit, comes as follows_comes, given as follows_given, itself, reads as reads-to, some-known, turned as follows_turned, turns as turns-to}
+use Rattle.id_meaning.proofs.CellsLemmas.{at-true, Effect, Follows, Given, Given_of, Learns, Learns-all, Taken, argument as effect_argument, call as effect_call, effects-all, effects-only, exit as effect_exit, comes as follows_comes, given as follows_given, itself, reads as reads-to, some-known, turned as follows_turned, turns as turns-to, waits as waits-to, all_effects-append, count-learnt, learnt-again, some-only}
 use Rattle.id_meaning.proofs.Coherence.{coherence}
+use Rattle.id_meaning.proofs.ListedLemmas.{more-facts}
+use Rattle.id_meaning.proofs.WaitsLemmas.{AreWaits-learnt}
+use Rattle.id_meaning.specs.Computed.{HasMoreFacts}
+use Rattle.id_meaning.specs.Waits.{AreWaits, Goes, Waits}
+use Rattle.std.proofs.lemmas.List.{append-nil}
 use Rattle.id_meaning.proofs.LinksLemmas.{around-within}
 use Rattle.id_meaning.proofs.ParamsLemmas.{input_param, params-among}
 use Rattle.id_meaning.proofs.PathsLemmas.{path-grown, without-none}
@@ -350,6 +356,19 @@ module _ (S : Source) (k : ℕ) (es : List Spot) (s : IsRound S k es) where
   sound f (comes p n c) = comes-sound p n f c
   sound f (given p n g) = given-sound p n f (record { within = given-within S.checked es p n f g; node = refl }) g
 
+-- a row reads what is linked to it, or it is a name that waits for it
+linked-or-awaited : (P : Checked) (n a : ℕ) (z : Node) → Among a (reads_of (beyond P n z) z)
+    → Among a (linked_of (beyond P n z) z) ⊎ (awaited_of (binder P n) z ≡ Some a)
+linked-or-awaited P n a (Name x) h = inr (some-only (binder P n) a h)
+linked-or-awaited P n a _ h = inl h
+
+-- what comes at a name comes where it is On
+awaited-on : (es : List Spot) (p n a : ℕ) (o : Option ℕ) (on : Bool) (v : Option SourceValue) (z : Node) (g : RowFact) → awaited_of o z ≡ Some a
+    → Given_of es p n on v z g → on ≡ true
+awaited-on es p n a o on v (Name x) (On q b) e h = absurd (none-some _ h.1)
+awaited-on es p n a o on v (Name x) (Has q m u) e h = (when-some on v u h.2).0
+awaited-on es p n a o on v _ g e h = absurd (none-some _ e)
+
 -- ---- one round more
 
 -- the spots are those of a round, and these facts are all that arise from them and are not known, perhaps with some that are
@@ -358,18 +377,47 @@ pub record State (S : Source) (k : ℕ) (es : List Spot) (found : List RowFact) 
   pub all : (f : RowFact) → Arises S es f → Known es f ⊎ Among f found
   pub only : (f : RowFact) → Among f found → Arises S es f
 
-module _ (S : Source) (k : ℕ) (es ds : List Spot) (found news : List RowFact) (t : State S k es found) (l : Learns es ds found news) where
+-- where facts that arise have been learnt, all that is known then is of the next round
+module _ (S : Source) (k : ℕ) (es ds : List Spot) (found news : List RowFact) (r : IsRound S k es) (rises : (f : RowFact) → Among f found → Arises S es f) (l : Learns es ds found news) where
   -- a fact at a path that was there is the same
   same-fact : (f : RowFact) → path_of f ≤ length es → fact_of S ds f ≡ fact_of S es f
-  same-fact (On p n) w = ap (λ q. fact.On q (place S.checked n)) (path-grown S.checked es ds l.grows t.round.spots.before p w)
-  same-fact (Has p n v) w = ap (λ q. fact.Has q (place S.checked n) v) (path-grown S.checked es ds l.grows t.round.spots.before p w)
+  same-fact (On p n) w = ap (λ q. fact.On q (place S.checked n)) (path-grown S.checked es ds l.grows r.spots.before p w)
+  same-fact (Has p n v) w = ap (λ q. fact.Has q (place S.checked n) v) (path-grown S.checked es ds l.grows r.spots.before p w)
 
   -- what is known then is a fact of the next round
-  known-sound : (f : RowFact) → Known ds f → Sound S k es t.round f
-  known-sound f h = elim (l.only f h) [
-    | inl i ↦ (known_thing S k es t.round f i, t.round.inside f i, inl (t.round.only f i))
-    | inr i ↦ sound S k es t.round f (t.only f (l.news f i))
+  part-sound : (f : RowFact) → Known ds f → Sound S k es r f
+  part-sound f h = elim (l.only f h) [
+    | inl i ↦ (known_thing S k es r f i, r.inside f i, inl (r.only f i))
+    | inr i ↦ sound S k es r f (rises f (l.news f i))
   ]
+
+  next-only : (f : RowFact) → Known ds f → Rounds S (suc k) (fact_of S ds f)
+  next-only f h =
+      let x = part-sound f h in
+      let F : Fact → Type 0 = λ g. Rounds S (suc k) g in
+      subst F (sym (same-fact f x.1)) x.2
+
+  next-thing : (i : ℕ) → i < length ds → IsThing S (spot_at ds i).row
+  next-thing i w =
+      let F : ℕ → Type 0 = λ n. IsThing S n in
+      elim (l.spots i w) [
+        | inl x ↦ subst F (sym (l.grows.row i x)) (r.spots.things i x)
+        | inr x ↦ subst F (sym x.row) (sound S k es r x.fact (rises x.fact (l.news x.fact x.among))).0
+      ]
+
+  next-before : (i : ℕ) → i < length ds → (spot_at ds i).path ≤ i
+  next-before i w = elim (l.spots i w) [
+    | inl x ↦ (let e = l.grows.path i x in let b = r.spots.before i x in omega arith)
+    | inr x ↦ x.path
+  ]
+
+  pub next-part : IsPart S (suc k) ds
+  next-part = record { only = next-only; spots = record { things = next-thing; before = next-before; apart = l.apart r.spots.apart } }
+
+module _ (S : Source) (k : ℕ) (es ds : List Spot) (found news : List RowFact) (t : State S k es found) (l : Learns es ds found news) where
+  -- what is known then is a fact of the next round
+  known-sound : (f : RowFact) → Known ds f → Sound S k es t.round f
+  known-sound f h = part-sound S k es ds found news t.round t.only l f h
 
   -- where a row has some value and this one arises, it is that
   has-arisen : (p n : ℕ) (v : SourceValue) → Arises S es (Has p n v) → (w : SourceValue) → Known ds (Has p n w) → Known ds (Has p n v)
@@ -394,35 +442,12 @@ module _ (S : Source) (k : ℕ) (es ds : List Spot) (found news : List RowFact) 
   next-all f h =
       let r = Rounds-follow S k f h in
       let x = complete S k es t.round r.1 r.2 in
-      record { fact = x.0; known = arisen x.0 x.2; is = x.1 ∙ sym (same-fact x.0 (sound S k es t.round x.0 x.2).1) }
-
-  next-only : (f : RowFact) → Known ds f → Rounds S (suc k) (fact_of S ds f)
-  next-only f h =
-      let x = known-sound f h in
-      let F : Fact → Type 0 = λ g. Rounds S (suc k) g in
-      subst F (sym (same-fact f x.1)) x.2
-
-  next-thing : (i : ℕ) → i < length ds → IsThing S (spot_at ds i).row
-  next-thing i w =
-      let F : ℕ → Type 0 = λ n. IsThing S n in
-      elim (l.spots i w) [
-        | inl x ↦ subst F (sym (l.grows.row i x)) (t.round.spots.things i x)
-        | inr x ↦ subst F (sym x.row) (sound S k es t.round x.fact (t.only x.fact (l.news x.fact x.among))).0
-      ]
-
-  next-before : (i : ℕ) → i < length ds → (spot_at ds i).path ≤ i
-  next-before i w = elim (l.spots i w) [
-    | inl x ↦ (let e = l.grows.path i x in let b = t.round.spots.before i x in omega arith)
-    | inr x ↦ x.path
-  ]
+      record { fact = x.0; known = arisen x.0 x.2; is = x.1 ∙ sym (same-fact S k es ds found news t.round t.only l x.0 (sound S k es t.round x.0 x.2).1) }
 
   pub next-round : IsRound S (suc k) ds
-  next-round = record {
-    all = next-all;
-    only = next-only;
-    inside = λ f h. (let w = l.grows.wide in let x = (known-sound f h).1 in omega arith);
-    spots = record { things = next-thing; before = next-before; apart = l.apart t.round.spots.apart };
-  }
+  next-round =
+      let p = next-part S k es ds found news t.round t.only l in
+      record { all = next-all; only = p.only; inside = λ f h. (let w = l.grows.wide in let x = (known-sound f h).1 in omega arith); spots = p.spots }
 
   -- each of these facts is an old one, or one of them is news
   old-or-new : (fs : List RowFact) → All (Known ds) fs → All (Known es) fs ⊎ ((f : RowFact) × Among f fs × Among f news)
@@ -437,26 +462,30 @@ module _ (S : Source) (k : ℕ) (es ds : List Spot) (found news : List RowFact) 
   all-among F (g ∷ fs) f h (inl q) = subst F (sym q) h.0
   all-among F (g ∷ fs) f h (inr i) = all-among F fs f h.1 i
 
-  module _ (x : Links) (turns : AreTurns (rows S.checked) x.turns) (reads : AreReads S.checked x.reads) where
-    link-effect : (p n : ℕ) (f g : RowFact) → n < length (rows S.checked) → Given S.checked ds p n g → Known ds f → Linked p n (reads_at S.checked n) f → Effect S.checked x ds f g
+  module _ (x : Links) (turns : AreTurns (rows S.checked) x.turns) (reads : AreReads S.checked x.reads) (args : AreArgs S.checked x.args) (W : Edges) (waits : AreWaits S.checked ds W) where
+    link-effect : (p n : ℕ) (f g : RowFact) → n < length (rows S.checked) → Given S.checked ds p n g → Known ds f → Linked p n (reads_at S.checked n) f
+        → Effect S.checked x W ds f g
     link-effect p n (On q m) g w h k self = itself h
-    link-effect p n (Has q a u) g w h k (read i) = reads-to n (reads.all n a w (known-sound (Has q a u) k).0.within i) h
+    link-effect p n (Has q a u) g w h k (read i) = elim (linked-or-awaited S.checked n a (at (rows S.checked) n).node i) [
+      | inl j ↦ reads-to n (reads.all n a w (known-sound (Has q a u) k).0.within j) h
+      | inr j ↦ waits-to n (waits.all p n a (awaited-on ds p n a (binder S.checked n) (cell_at ds p n).on (seen ds p (beyond S.checked n (at (rows S.checked) n).node)) (at (rows S.checked) n).node g j h) j) h
+    ]
 
-    -- from what a row reads there is a link to it
-    reads-lead : (m e i a b : ℕ) → (at (rows S.checked) m).node ≡ Arg e i a → b < length (rows S.checked) → Among b (e ∷ a ∷ []) → Leads x.reads b m
-    reads-lead m e i a b is w h =
+    -- from an argument there is a link to it, and one from its `Enter`
+    arg-lead : (m e i a : ℕ) → (at (rows S.checked) m).node ≡ Arg e i a → a < length (rows S.checked) → Leads x.reads a m
+    arg-lead m e i a is w =
         let l = row-within (rows S.checked) m is_arg refl (ap is_arg is) in
-        let F : Node → Type 0 = λ z. Among b (reads_of (beyond S.checked m z) z) in
-        reads.all m b l w (subst F (sym is) h)
+        let F : Node → Type 0 = λ z. Among a (linked_of (beyond S.checked m z) z) in
+        reads.all m a l w (subst F (sym is) (inl refl))
 
     args-lead : ArgsLead S.checked x
     args-lead m e i a is =
         let l = row-within (rows S.checked) m is_arg refl (ap is_arg is) in
         let P : Node → Type 0 = λ z. HasPart z e in
         let w = ((table_of S.checked).formed.each m l).parts e (subst P (sym is) (inl refl)) in
-        reads-lead m e i a e is (omega (arith, w.1)) (inl refl)
+        args.all m e i a l (omega (arith, w.1)) is
 
-    follow-given : (p n : ℕ) (f : RowFact) → Given S.checked ds p n f → Known ds f ⊎ Among f (all_effects S.checked x ds news)
+    follow-given : (p n : ℕ) (f : RowFact) → Given S.checked ds p n f → Known ds f ⊎ Among f (all_effects S.checked x W ds news)
     follow-given p n f g =
         let z = (at (rows S.checked) n).node in
         let y = given-used ds p n (beyond S.checked n z) z f g in
@@ -465,7 +494,7 @@ module _ (S : Source) (k : ℕ) (es ds : List Spot) (found news : List RowFact) 
           | inl i ↦ inl (arisen f (given p n (y.enough es i)))
           | inr i ↦
               let e = link-effect p n i.0 f w g (l.told i.0 i.2) (all-among (Linked p n (reads_at S.checked n)) (y.first ∷ y.rest) i.0 y.linked i.1) in
-              inr (effects-all S.checked x args-lead ds news i.0 f i.2 e)
+              inr (effects-all S.checked x W args-lead ds news i.0 f i.2 e)
         ]
 
     call-lead : (n e c : ℕ) → (at (rows S.checked) n).node ≡ Call e c → Leads x.reads e n
@@ -473,7 +502,7 @@ module _ (S : Source) (k : ℕ) (es ds : List Spot) (found news : List RowFact) 
         let l = row-within (rows S.checked) n is_call refl (ap is_call is) in
         let P : Node → Type 0 = λ z. HasPart z e in
         let w = ((table_of S.checked).formed.each n l).parts e (subst P (sym is) refl) in
-        let F : Node → Type 0 = λ z. Among e (reads_of (beyond S.checked n z) z) in
+        let F : Node → Type 0 = λ z. Among e (linked_of (beyond S.checked n z) z) in
         reads.all n e l (omega (arith, w.1)) (subst F (sym is) (inl refl))
 
     -- a call that was On before had the same spot
@@ -512,10 +541,10 @@ module _ (S : Source) (k : ℕ) (es ds : List Spot) (found news : List RowFact) 
           within = (spot-found es p n c.spot blank f).0;
         }
 
-    call-effect : (f g : RowFact) → Among f news → Effect S.checked x ds f g → Known ds g ⊎ Among g (all_effects S.checked x ds news)
-    call-effect f g i e = inr (effects-all S.checked x args-lead ds news f g i e)
+    call-effect : (f g : RowFact) → Among f news → Effect S.checked x W ds f g → Known ds g ⊎ Among g (all_effects S.checked x W ds news)
+    call-effect f g i e = inr (effects-all S.checked x W args-lead ds news f g i e)
 
-    follow-call : (p n : ℕ) (f : RowFact) → Comes S.checked ds p n f → Known es (On p n) → Known ds f ⊎ Among f (all_effects S.checked x ds news)
+    follow-call : (p n : ℕ) (f : RowFact) → Comes S.checked ds p n f → Known es (On p n) → Known ds f ⊎ Among f (all_effects S.checked x W ds news)
     follow-call p n f (begins c) on = inl (arisen (On (c.spot + 1) c.body) (comes p n (begins (was-on p n c on))))
     follow-call p n f (asks c m {a = a} is) on = inl (arisen (On p a) (comes p n (asks (was-on p n c on) m is)))
     follow-call p n f (ends c {v = v} h) on = elim (l.only (Has (c.spot + 1) c.body v) h) [
@@ -523,34 +552,34 @@ module _ (S : Source) (k : ℕ) (es ds : List Spot) (found news : List RowFact) 
       | inr i ↦
           let z = spot-found ds p n c.spot blank c.found in
           let b = at-true (spot_at ds c.spot) p n z.1 in
-          call-effect (Has (c.spot + 1) c.body v) (Has p n v) i (effect_exit c b.0 b.1 (ends c h))
+          call-effect (Has (c.spot + 1) c.body v) (Has p n v) i (effect_exit c b.0 b.1 h)
     ]
     follow-call p n f (passes c m {k = j} {a = a} {b = b} {v = v} is e h) on = elim (l.only (Has p a v) h) [
       | inl i ↦ inl (arisen (Has (c.spot + 1) b v) (comes p n (passes (was-on p n c on) m is e i)))
       | inr i ↦
           let t = (known-sound (Has p a v) h).0 in
           call-effect (Has p a v) (Has (c.spot + 1) b v) i
-          (effect_argument m n (reads-lead m c.enter j a a is t.within (inr (inl refl))) is (call-lead n c.enter c.count c.node) (passes c m is e h))
+          (effect_argument c m (arg-lead m c.enter j a is t.within) is (call-lead n c.enter c.count c.node) e h)
     ]
 
-    follow-comes : (p n : ℕ) (f : RowFact) → Comes S.checked ds p n f → Known ds f ⊎ Among f (all_effects S.checked x ds news)
+    follow-comes : (p n : ℕ) (f : RowFact) → Comes S.checked ds p n f → Known ds f ⊎ Among f (all_effects S.checked x W ds news)
     follow-comes p n f h = elim (l.only (On p n) (comes-on h).on) [
       | inl i ↦ follow-call p n f h i
       | inr i ↦ call-effect (On p n) f i (effect_call h)
     ]
 
-    follow-all : (f : RowFact) → Arises S ds f → Known ds f ⊎ Among f (all_effects S.checked x ds news)
+    follow-all : (f : RowFact) → Arises S ds f → Known ds f ⊎ Among f (all_effects S.checked x W ds news)
     follow-all (On p n) (main q) = inl (arisen (On 0 n) (main q))
     follow-all (On p a) (turned {n = n} w u h) = elim (l.only (On p n) h) [
       | inl i ↦ inl (arisen (On p a) (turned w u i))
-      | inr i ↦ inr (effects-all S.checked x args-lead ds news (On p n) (On p a) i (turns-to (turns.all n a w w u)))
+      | inr i ↦ inr (effects-all S.checked x W args-lead ds news (On p n) (On p a) i (turns-to (turns.all n a w w u)))
     ]
     follow-all (Has p n v) (input i) = inl (arisen (Has 0 n v) (input i))
     follow-all f (given p n g) = follow-given p n f g
     follow-all f (comes p n h) = follow-comes p n f h
 
-    follow-only : (f : RowFact) → Among f (all_effects S.checked x ds news) → Arises S ds f
-    follow-only f h = let r = effects-only S.checked x ds news f h in go r.0 f (l.told r.0 r.1) r.2 where
+    follow-only : (f : RowFact) → Among f (all_effects S.checked x W ds news) → Arises S ds f
+    follow-only f h = let r = effects-only S.checked x W ds news f h in go r.0 f (l.told r.0 r.1) r.2 where
       go : (g f : RowFact) → Known ds g → Follows S.checked x ds g f → Arises S ds f
       go g (On q a) known (follows_turned {n = n} e u) =
           let P : RowFact → Type 0 = λ y. Known ds y in
@@ -559,38 +588,8 @@ module _ (S : Source) (k : ℕ) (es ds : List Spot) (found news : List RowFact) 
       go g f known (follows_given p m e) = given p m e
       go g f known (follows_comes p m e) = comes p m e
 
-    pub next-state : State S (suc k) ds (all_effects S.checked x ds news)
+    pub next-state : State S (suc k) ds (all_effects S.checked x W ds news)
     next-state = record { round = next-round; all = follow-all; only = follow-only }
-
--- where nothing is news, the facts of all later rounds are those of this one
-module _ (S : Source) (x : Links) (turns : AreTurns (rows S.checked) x.turns) (reads : AreReads S.checked x.reads) where
-  pub still : (d k : ℕ) (es : List Spot) → State S k es [] → IsRound S (d + k) es
-  still zero k es t =
-      let e : 0 + k ≡ k = omega arith in
-      let P : ℕ → Type 0 = λ n. IsRound S n es in
-      subst P (sym e) t.round
-  still (suc d) k es t =
-      let e : d + suc k ≡ suc d + k = omega arith in
-      let P : ℕ → Type 0 = λ n. IsRound S n es in
-      subst P e (still d (suc k) es (next-state S k es es [] [] t (Learns-all es []) x turns reads))
-
-  -- so the cells are those of round n
-  pub at-rest : (k n : ℕ) (es ds : List Spot) (found news : List RowFact) → k < n → State S k es found → ds ≡ all_learnt es found → news ≡ all_news es found → news ≡ [] → IsRound S n ds
-  at-rest k n es ds found news l t e f none =
-      let L : List Spot → List RowFact → Type 0 = λ ys ns. Learns es ys found ns in
-      let learns : Learns es ds found news = subst (λ ys. L ys news) (sym e) (subst (L (all_learnt es found)) (sym f) (Learns-all es found)) in
-      let N : List RowFact → Type 0 = λ ns. State S (suc k) ds (all_effects S.checked x ds ns) in
-      let q : n - suc k + suc k ≡ n = omega arith in
-      let P : ℕ → Type 0 = λ m. IsRound S m ds in
-      subst P q (still (n - suc k) (suc k) ds (subst N none (next-state S k es ds found news t learns x turns reads)))
-
-  pub onward : (k m : ℕ) (es ds : List Spot) (found news next : List RowFact) → m ≡ suc k → State S k es found → ds ≡ all_learnt es found → news ≡ all_news es found → next ≡ all_effects S.checked x ds news → State S m ds next
-  onward k m es ds found news next q t e f g =
-      let L : List Spot → List RowFact → Type 0 = λ ys ns. Learns es ys found ns in
-      let learns : Learns es ds found news = subst (λ ys. L ys news) (sym e) (subst (L (all_learnt es found)) (sym f) (Learns-all es found)) in
-      let N : List RowFact → Type 0 = λ ns. State S (suc k) ds ns in
-      let P : ℕ → Type 0 = λ j. State S j ds next in
-      subst P (sym q) (subst N (sym g) (next-state S k es ds found news t learns x turns reads))
 
 -- ---- before the first round
 
@@ -665,3 +664,160 @@ module _ (S : Source) where
       let Q : List Spot → Type 0 = λ ds. State S 0 ds found in
       let t : State S 0 [] (first_facts S.checked S.inputs) = record { round = first-round; all = λ h a. inr (first-all h a); only = first-only } in
       subst Q (sym f) (subst P (sym g) t)
+
+-- ---- round after round
+
+-- these are the spots of round r and of the one before, the names that wait, the news, and how many facts there are
+pub record Front (S : Source) (r : ℕ) (cs es : List Spot) (W : Edges) (ns : List RowFact) (count : ℕ) : Type 0 where
+  pub before : ℕ
+  pub next : suc before ≡ r
+  pub found : List RowFact
+  pub state : State S before cs found
+  pub spots : es ≡ all_learnt cs found
+  pub news : ns ≡ all_news cs found
+  pub waits : AreWaits S.checked cs W
+  pub counted : count ≡ count_of es
+  pub few : count ≤ 1000000
+
+learns-so : (es ds : List Spot) (fs ns : List RowFact) → ds ≡ all_learnt es fs → ns ≡ all_news es fs → Learns es ds fs ns
+learns-so es ds fs ns e f =
+    let L : List Spot → List RowFact → Type 0 = λ ys ms. Learns es ys fs ms in
+    subst (λ ys. L ys ns) (sym e) (subst (L (all_learnt es fs)) (sym f) (Learns-all es fs))
+
+-- after the first round
+module _ (S : Source) (olds es : List Spot) (given found os ns : List RowFact) (a : olds ≡ []) (g : given ≡ found) (f : found ≡ first_facts S.checked S.inputs)
+    (e : es ≡ all_learnt olds given) (o : os ≡ []) (n : ns ≡ os ++ all_news olds given) where
+  abbrev First : List RowFact
+  First = first_facts S.checked S.inputs
+
+  first-spots : es ≡ all_learnt [] First
+  first-spots = e ∙ ap (λ y. all_learnt olds y) (g ∙ f) ∙ ap (λ y. all_learnt y First) a
+
+  first-news : ns ≡ all_news [] First
+  first-news = n ∙ ap (λ y. os ++ all_news olds y) (g ∙ f) ∙ ap (λ y. os ++ all_news y First) a ∙ ap (λ y. y ++ all_news [] First) o
+
+  first-count : count_of es ≡ length ns
+  first-count =
+      let q = count-learnt [] First in
+      let b = ap count_of first-spots in
+      let c = ap (λ y. length y) first-news in
+      omega (arith, q, b, c)
+
+  pub first-front : (cs : List Spot) (W : Edges) (count : ℕ) → cs ≡ [] → AreNone W 65536 → count ≡ length ns → count ≤ 1000000 → Front S 1 cs es W ns count
+  first-front cs W count c w k l =
+      let F : List Spot → Type 0 = λ bs. Front S 1 bs es W ns count in
+      subst F (sym c) (record {
+        before = 0;
+        next = refl;
+        found = First;
+        state = first-state S [] First refl refl;
+        spots = first-spots;
+        news = first-news;
+        waits = record { wide = w.wide; all = λ p m i h. (let b : false ≡ true = h in cc) };
+        counted = k ∙ sym first-count;
+        few = l;
+      })
+
+  pub first-more : (m count : ℕ) → 0 < m → count ≡ length ns → 1000000 < count → HasMoreFacts S m 1000000
+  first-more m count l k b =
+      let t = first-state S [] First refl refl in
+      let q = first-count in
+      more-facts S 1 m 1000000 es (next-part S 0 [] es First ns t.round t.only (learns-so [] es First ns first-spots first-news)) (omega arith) (omega arith)
+
+module _ (S : Source) (x : Links) (turns : AreTurns (rows S.checked) x.turns) (reads : AreReads S.checked x.reads) (args : AreArgs S.checked x.args) where
+  -- where nothing is news, the facts of all later rounds are those of this one
+  still : (d k : ℕ) (es : List Spot) (W : Edges) → AreWaits S.checked es W → State S k es [] → IsRound S (d + k) es
+  still zero k es W w t =
+      let e : 0 + k ≡ k = omega arith in
+      let P : ℕ → Type 0 = λ n. IsRound S n es in
+      subst P (sym e) t.round
+  still (suc d) k es W w t =
+      let e : d + suc k ≡ suc d + k = omega arith in
+      let P : ℕ → Type 0 = λ n. IsRound S n es in
+      subst P e (still d (suc k) es W w (next-state S k es es [] [] t (Learns-all es []) x turns reads args W w))
+
+  module _ (r : ℕ) (cs es : List Spot) (V W : Edges) (ns : List RowFact) (count : ℕ) (f : Front S r cs es V ns count) where
+    learns : Learns cs es f.found ns
+    learns = learns-so cs es f.found ns f.spots f.news
+
+    pub front-round : IsRound S r es
+    front-round = let P : ℕ → Type 0 = λ n. IsRound S n es in subst P f.next (next-round S f.before cs es f.found ns f.state learns)
+
+    module _ (w : Waits S.checked V W ns) where
+      waiting : AreWaits S.checked es W
+      waiting = AreWaits-learnt S.checked cs es V W f.found ns learns f.waits w
+
+      state : State S (suc f.before) es (all_effects S.checked x W es ns)
+      state = next-state S f.before cs es f.found ns f.state learns x turns reads args W waiting
+
+      -- the spots of the round before, with the news, are those of the round
+      again : (bs : List Spot) → bs ≡ all_learnt cs ns → bs ≡ es
+      again bs e = e ∙ ap (λ y. all_learnt cs y) f.news ∙ learnt-again cs f.found ∙ sym f.spots
+
+      front-of : (m : ℕ) (ds : List Spot) (os : List RowFact) (more room : ℕ) → m ≡ suc r → Goes S.checked x W es ns es ds [] os room → length os ≤ room
+          → count + room ≤ 1000000 → more ≡ count + length os → Front S m es ds W os more
+      front-of m ds os more room q g l k e = elim g.done [
+        | inl z ↦
+            let whole : ns ≡ g.front = g.parts ∙ ap (λ y. g.front ++ y) z ∙ append-nil g.front in
+            let same : all_effects S.checked x W es g.front ≡ all_effects S.checked x W es ns = ap (λ y. all_effects S.checked x W es y) (sym whole) in
+            let spots = g.spots ∙ ap (λ y. all_learnt es y) same in
+            let news = g.news ∙ ap (λ y. all_news es y) same in
+            let c = count-learnt es (all_effects S.checked x W es ns) in
+            let a = ap count_of spots in
+            let b = ap (λ y. length y) news in
+            let h = f.counted in
+            let j = f.next in
+            record {
+              before = suc f.before;
+              next = omega (arith, j, q);
+              found = all_effects S.checked x W es ns;
+              state = state;
+              spots = spots;
+              news = news;
+              waits = waiting;
+              counted = omega (arith, a, b, c, e, h);
+              few = omega arith;
+            }
+        | inr z ↦ absurd (omega arith)
+      ]
+
+      pub front-next : (m : ℕ) (bs ds : List Spot) (os : List RowFact) (more room : ℕ) → m ≡ suc r → bs ≡ all_learnt cs ns
+          → Goes S.checked x W bs ns es ds [] os room → length os ≤ room → count + room ≤ 1000000 → more ≡ count + length os → Front S m bs ds W os more
+      front-next m bs ds os more room q e g l k h =
+          let G : List Spot → Type 0 = λ y. Goes S.checked x W y ns es ds [] os room in
+          let F : List Spot → Type 0 = λ y. Front S m y ds W os more in
+          subst F (sym (again bs e)) (front-of m ds os more room q (subst G (again bs e) g) l k h)
+
+      more-of : (n room : ℕ) (ds : List Spot) (os : List RowFact) → r < n → Goes S.checked x W es ns es ds [] os room → room < length os
+          → count + room ≡ 1000000 → HasMoreFacts S n 1000000
+      more-of n room ds os l g k e =
+          let fs = all_effects S.checked x W es g.front in
+          let all = all_effects-append S.checked x W es g.front g.rest in
+          let t = state in
+          let F : List RowFact → Type 0 = λ ys. (y : RowFact) → Among y (all_effects S.checked x W es ys) → Arises S es y in
+          let whole : F (g.front ++ g.rest) = subst F g.parts t.only in
+          let rises : (y : RowFact) → Among y fs → Arises S es y = λ y i. whole y
+          (let A : List RowFact → Type 0 = λ ys. Among y ys in subst A (sym all) (Among-left y fs (all_effects S.checked x W es g.rest) i)) in
+          let c = count-learnt es fs in
+          let a = ap count_of g.spots in
+          let b = ap (λ y. length y) g.news in
+          let h = f.counted in
+          let j = f.next in
+          more-facts S (suc (suc f.before)) n 1000000 ds (next-part S (suc f.before) es ds fs os t.round rises (learns-so es ds fs os g.spots g.news)) (omega (arith, j)) (omega (arith, a, b, c, h))
+
+      pub front-more : (n room : ℕ) (bs ds : List Spot) (os : List RowFact) → r < n → bs ≡ all_learnt cs ns → Goes S.checked x W bs ns es ds [] os room
+          → room < length os → count + room ≡ 1000000 → HasMoreFacts S n 1000000
+      front-more n room bs ds os l e g k h =
+          let G : List Spot → Type 0 = λ y. Goes S.checked x W y ns es ds [] os room in
+          more-of n room ds os l (subst G (again bs e) g) k h
+
+    -- where nothing is news, the spots are those of each later round
+    pub front-rest : (n : ℕ) → r ≤ n → ns ≡ [] → IsRound S n es
+    front-rest n l e =
+        let L : List RowFact → Type 0 = λ y. Learns cs es f.found y in
+        let none = subst L e learns in
+        let w : AreWaits S.checked es V = record { wide = f.waits.wide; all = λ p m b h a. elim (none.only (On p m) h) [ inl i ↦ f.waits.all p m b i a | inr i ↦ absurd i ] } in
+        let j = f.next in
+        let q : n - suc f.before + suc f.before ≡ n = omega (arith, j) in
+        let P : ℕ → Type 0 = λ m. IsRound S m es in
+        subst P q (still (n - suc f.before) (suc f.before) es V w (next-state S f.before cs es f.found [] f.state none x turns reads args V w))

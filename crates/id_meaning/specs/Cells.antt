@@ -20,6 +20,7 @@ use Rattle.id_meaning.specs.declared.cells.Cell.{Cell}
 use Rattle.id_meaning.specs.declared.cells.Spot.{Spot}
 use Rattle.id_meaning.specs.declared.cells.RowFact.{RowFact}
 use Rattle.id_meaning.specs.declared.cells.RowFact.TheVariants.{On, Has}
+use Rattle.id_meaning.specs.declared.edges.Edges.{Edges}
 use Rattle.id_meaning.specs.declared.links.Links.{Links}
 use Rattle.id_meaning.specs.Links.{beyond, some_row, targets}
 use Rattle.id_meaning.specs.Sources.{value_of, main_body, main_params}
@@ -54,6 +55,10 @@ blank = record { on = false; has = None }
 -- the chain that the spot with this path and row hangs in
 abbrev pub bucket_of : ℕ → ℕ → ℕ
 bucket_of p n = (n % 262144 + p % 262144 * 40503) % 262144
+
+-- the queue in which names wait for the binder with this path and row
+abbrev pub queue_of : ℕ → ℕ → ℕ
+queue_of p n = bucket_of p n % 65536
 
 -- whether the spot has this path and row
 abbrev pub is_at : Spot → ℕ → ℕ → Truth
@@ -92,6 +97,15 @@ AreBefore es = (i : ℕ) → i < length es → (spot_at es i).path ≤ i
 abbrev pub put : List Spot → ℕ → ℕ → Cell → List Spot
 put [] p n c = record { path = p; row = n; cell = c } ∷ []
 put (s ∷ es) p n c = if is_at s p n then record { path = p; row = n; cell = c } ∷ es else s ∷ put es p n c
+
+-- how many facts the cell has
+abbrev pub cell_count : Cell → ℕ
+cell_count c = (if c.on then 1 else 0) + (if is_some c.has then 1 else 0)
+
+-- how many the spots have
+abbrev pub count_of : List Spot → ℕ
+count_of [] = 0
+count_of (s ∷ es) = cell_count s.cell + count_of es
 
 -- ---- what follows
 
@@ -189,32 +203,38 @@ all_passed P es p c (m ∷ ms) = passed_of P es p c (at (rows P) m).node ++ all_
 -- the facts that come by the call at the row at the path, if it is On
 abbrev pub call_by : Checked → Links → List Spot → ℕ → ℕ → Option OnCall → List RowFact
 call_by P l es p n None = []
-call_by P l es p n (Some c) = On c.path c.body ∷ (value_fact p n (cell_at es c.path c.body).has ++ all_passed P es p c (targets l.reads.rows.items c.enter))
+call_by P l es p n (Some c) =
+    On c.path c.body ∷ (value_fact p n (cell_at es c.path c.body).has ++ all_passed P es p c (targets l.args.rows.items c.enter))
 
 abbrev pub call_at : Checked → Links → List Spot → ℕ → ℕ → List RowFact
 call_at P l es p n = call_by P l es p n (entered P es p n)
 
--- those that come by the calls at these rows
-abbrev pub calls : Checked → Links → List Spot → ℕ → List ℕ → List RowFact
-calls P l es p [] = []
-calls P l es p (n ∷ ns) = call_at P l es p n ++ calls P l es p ns
+-- the facts that come by a row of this node, if it is an argument of this call
+abbrev pub passed_by : Checked → List Spot → ℕ → Option OnCall → Node → List RowFact
+passed_by P es p None z = []
+passed_by P es p (Some c) z = passed_of P es p c z
 
--- those that come by the call of a row of this node, if it is an argument
+-- and if it is one of the calls at these rows
+abbrev pub all_passes : Checked → List Spot → ℕ → Node → List ℕ → List RowFact
+all_passes P es p z [] = []
+all_passes P es p z (n ∷ ns) = passed_by P es p (entered P es p n) z ++ all_passes P es p z ns
+
+-- those that come by a row of this node, if it is an argument of a call that is On
 abbrev pub passes_of : Checked → Links → List Spot → ℕ → Node → List RowFact
-passes_of P l es p (Arg e k v) = calls P l es p (targets l.reads.rows.items e)
+passes_of P l es p (Arg e k v) = all_passes P es p (Arg e k v) (targets l.reads.rows.items e)
 passes_of P l es p _ = []
 
--- whether the row is the body of the call's procedure, if there is a call
-abbrev pub returns : Option OnCall → ℕ → Truth
-returns None n = false
-returns (Some c) n = nat_eq c.body n
+-- what the row gives back to this call, if it is the body of its procedure
+abbrev pub returned : List Spot → Option OnCall → ℕ → Option SourceValue
+returned es None n = None
+returned es (Some c) n = if nat_eq c.body n then (cell_at es c.path c.body).has else None
 
 -- the facts that come by the call that the path begins with, where the row is its callee's body
-abbrev pub exit_of : Checked → Links → List Spot → ℕ → Spot → List RowFact
-exit_of P l es n s = if returns (entered P es s.path s.row) n then call_at P l es s.path s.row else []
+abbrev pub exit_of : Checked → List Spot → ℕ → Spot → List RowFact
+exit_of P es n s = value_fact s.path s.row (returned es (entered P es s.path s.row) n)
 
-abbrev pub exit_at : Checked → Links → List Spot → ℕ → ℕ → List RowFact
-exit_at P l es p n = if nat_lt 0 p then exit_of P l es n (spot_at es (p - 1)) else []
+abbrev pub exit_at : Checked → List Spot → ℕ → ℕ → List RowFact
+exit_at P es p n = if nat_lt 0 p then exit_of P es n (spot_at es (p - 1)) else []
 
 -- those that come at the row, or by the call whose argument it is
 abbrev pub gain_at : Checked → Links → List Spot → ℕ → ℕ → List RowFact
@@ -224,15 +244,16 @@ abbrev pub gains : Checked → Links → List Spot → ℕ → List ℕ → List
 gains P l es p [] = []
 gains P l es p (n ∷ ns) = gain_at P l es p n ++ gains P l es p ns
 
--- the facts that follow from this one, with others of the spots, by one rule
-abbrev pub effects : Checked → Links → List Spot → RowFact → List RowFact
-effects P l es (On p n) = ons p (targets l.turns.rows.items n) ++ (given_at P es p n ++ call_at P l es p n)
-effects P l es (Has p n v) = gains P l es p (targets l.reads.rows.items n) ++ exit_at P l es p n
+-- the facts that follow from this one, with others of the spots, by one rule, where these names wait
+abbrev pub effects : Checked → Links → Edges → List Spot → RowFact → List RowFact
+effects P l w es (On p n) = ons p (targets l.turns.rows.items n) ++ (given_at P es p n ++ call_at P l es p n)
+effects P l w es (Has p n v) =
+    gains P l es p (targets l.reads.rows.items n) ++ (gains P l es p (targets w.rows.items (queue_of p n)) ++ exit_at P es p n)
 
 -- the facts that follow from one of these
-abbrev pub all_effects : Checked → Links → List Spot → List RowFact → List RowFact
-all_effects P l es [] = []
-all_effects P l es (f ∷ fs) = effects P l es f ++ all_effects P l es fs
+abbrev pub all_effects : Checked → Links → Edges → List Spot → List RowFact → List RowFact
+all_effects P l w es [] = []
+all_effects P l w es (f ∷ fs) = effects P l w es f ++ all_effects P l w es fs
 
 -- the facts that parameters at these rows have their inputs, the first of which has the number n
 abbrev pub input_facts : ℕ → List ℕ → List SourceValue → List RowFact

@@ -1,5 +1,5 @@
 -- Rounds as lists (docs/MEANING.md, "Rounds").
-use Rattle.std.specs.Prelude.{◌≤◌, ◌<◌, ℕ, List, length}
+use Rattle.std.specs.Prelude.{◌≢◌, ◌≤◌, ◌<◌, ℕ, List, length, AllPairs}
 use Rattle.id_list.specs.List.{Among}
 use Rattle.id_meaning.specs.declared.Fact.{Fact}
 use Rattle.id_meaning.specs.Sources.{Source}
@@ -12,10 +12,11 @@ pub record AreFacts (S : Source) (n : ℕ) (fs : List Fact) : Type 0 where
   pub only : (f : Fact) → Among f fs → Rounds S n f
   pub rise : FactsRise fs
 
--- some round up to n has more facts than this
+-- some round up to n has more facts than this: these, each once
 pub record HasMoreFacts (S : Source) (n most : ℕ) : Type 0 where
   pub round : ℕ
   pub up_to : round ≤ n
   pub facts : List Fact
-  pub are : AreFacts S round facts
+  pub only : (f : Fact) → Among f facts → Rounds S round f
+  pub once : AllPairs (λ f g. f ≢ g) facts
   pub more : most < length facts

@@ -11,4 +11,5 @@ pub mod Links
 pub mod Cells
 pub mod Chains
 pub mod Listed
+pub mod Waits
 pub mod Reading

@@ -69,17 +69,33 @@ parts_turned R (If s x y) = some_row (test_of (at R s).node)
 parts_turned R (Block b) = b ∷ []
 parts_turned R _ = []
 
--- the rows whose values a row of this node reads, which may look at this row beyond its parts, and the `Enter` that it names
+-- the rows that a row of this node reads, which may look at this row beyond its parts: values, and the `Enter` of a call
 abbrev pub reads_of : Option ℕ → Node → List ℕ
 reads_of o (Name x) = some_row o
 reads_of o (Unary p a) = a ∷ []
 reads_of o (Binary p a b) = a ∷ b ∷ []
 reads_of o (If s x y) = some_row o ++ x ∷ y ∷ []
-reads_of o (Arg e k v) = e ∷ v ∷ []
+reads_of o (Arg e k v) = v ∷ []
 reads_of o (Call e c) = e ∷ []
 reads_of o (Block b) = b ∷ []
 reads_of o (Binding x a) = a ∷ []
 reads_of o _ = []
+
+-- those of them from which edges lead to it: a name has none, and waits for its binder
+abbrev pub linked_of : Option ℕ → Node → List ℕ
+linked_of o (Name x) = []
+linked_of o z = reads_of o z
+
+abbrev pub linked_at : Checked → ℕ → List ℕ
+linked_at P n = let z = (at (rows P) n).node in linked_of (beyond P n z) z
+
+-- the binder that a row of this node waits for, which may have this binder: a name for its own
+abbrev pub awaited_of : Option ℕ → Node → Option ℕ
+awaited_of o (Name x) = o
+awaited_of o _ = None
+
+abbrev pub awaited : Checked → ℕ → Option ℕ
+awaited P n = awaited_of (binder P n) (at (rows P) n).node
 
 -- the rows whose values the row reads
 abbrev pub reads_at : Checked → ℕ → List ℕ
@@ -99,14 +115,28 @@ pub record AreTurnsTo (R : List Row) (i : ℕ) (E : Edges) : Type 0 where
 abbrev pub AreTurns : List Row → Edges → Type 0
 AreTurns R E = AreTurnsTo R (length R) E
 
--- of the first i rows the edges go to each from the rows that it reads
+-- of the first i rows the edges go to each that is no name from the rows that it reads
 pub record AreReadsTo (P : Checked) (i : ℕ) (E : Edges) : Type 0 where
   pub wide : width E ≡ length (rows P)
-  pub all : (n a : ℕ) → n < i → a < length (rows P) → Among a (reads_at P n) → Leads E a n
+  pub all : (n a : ℕ) → n < i → a < length (rows P) → Among a (linked_at P n) → Leads E a n
 
--- the edges go to each row from the rows that it reads
+-- the edges go to each row that is no name from the rows that it reads
 abbrev pub AreReads : Checked → Edges → Type 0
 AreReads P E = AreReadsTo P (length (rows P)) E
+
+-- the `Enter` of a row of this node, if it is an argument
+abbrev pub enter_of : Node → Option ℕ
+enter_of (Arg e k v) = Some e
+enter_of _ = None
+
+-- of the first i rows the edges go to each argument from its `Enter`
+pub record AreArgsTo (P : Checked) (i : ℕ) (E : Edges) : Type 0 where
+  pub wide : width E ≡ length (rows P)
+  pub all : (m e k a : ℕ) → m < i → e < length (rows P) → (at (rows P) m).node ≡ Arg e k a → Leads E e m
+
+-- the edges go to each argument from its `Enter`
+abbrev pub AreArgs : Checked → Edges → Type 0
+AreArgs P E = AreArgsTo P (length (rows P)) E
 
 -- the row of each statement comes before that of the next
 abbrev pub StatementsRise : List Statement → Type 0

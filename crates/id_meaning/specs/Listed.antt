@@ -67,6 +67,11 @@ pub record IsRound (S : Source) (n : ℕ) (es : List Spot) : Type 0 where
   pub inside : (f : RowFact) → Known es f → path_of f ≤ length es
   pub spots : AreSpots S es
 
+-- all facts that the spots have are of round n
+pub record IsPart (S : Source) (n : ℕ) (es : List Spot) : Type 0 where
+  pub only : (f : RowFact) → Known es f → Rounds S n (fact_of S es f)
+  pub spots : AreSpots S es
+
 -- ---- as a list
 
 -- the fact that the row is On, where it is

@@ -1,7 +1,7 @@
 //! What follows by the rules of calls (docs/MEANING.md, "Rules").
 
 ghost use Rattle.std.specs.Prelude.{◌≡◌, ◌++◌, OnOk};
-ghost use Rattle.id_meaning.specs.Cells.{all_passed, call_at, callee_of, calls, entered, entered_by, exit_at, param_fact, param_row, passed_of, passes_of, returns};
+ghost use Rattle.id_meaning.specs.Cells.{all_passed, all_passes, call_at, callee_of, entered, entered_by, exit_at, param_fact, param_row, passed_by, passed_of, passes_of, returned};
 
 use crate::SourceValue;
 use crate::cells::{Cells, RowFact};
@@ -78,14 +78,7 @@ pub fn add_call(
             row: call.body,
         })?;
         add_value(found, path, row, cells.read(call.path, call.body).has)?;
-        add_all_passed(
-            found,
-            checked,
-            cells,
-            path,
-            call,
-            links.reads.of(call.enter),
-        )?;
+        add_all_passed(found, checked, cells, path, call, links.args.of(call.enter))?;
     }
     Ok(())
 }
@@ -160,25 +153,50 @@ fn add_param(
     }
 }
 
-/// Adds the facts that come by the calls at these rows at the path.
-fn add_calls(
+/// Adds the facts that come by a row of this node, if it is an argument of the call.
+fn add_pass(
     found: &mut Vec<RowFact>,
     checked: &Checked,
-    links: &Links,
     cells: &Cells,
     path: usize,
+    call: Option<OnCall>,
+    node: Node,
+) -> Result<(), AllocError>
+    ensures { OnOk result
+        (found.new.items ≡ found.old.items ++ passed_by checked.now cells.now path call node) }
+{
+    match call {
+        Some(call) => add_passed(found, checked, cells, path, call, node),
+        None => Ok(()),
+    }
+}
+
+/// Adds the facts that come by a row of this node, if it is an argument of one of the calls at these rows.
+fn add_all_passes(
+    found: &mut Vec<RowFact>,
+    checked: &Checked,
+    cells: &Cells,
+    path: usize,
+    node: Node,
     rows: &[usize],
 ) -> Result<(), AllocError>
     ensures { OnOk result
-        (found.new.items ≡ found.old.items ++ calls checked.now links.now cells.now path rows.now) }
+        (found.new.items ≡ found.old.items ++ all_passes checked.now cells.now path node rows.now) }
 {
     for row in rows {
-        add_call(found, checked, links, cells, path, *row)?;
+        add_pass(
+            found,
+            checked,
+            cells,
+            path,
+            entered(checked, cells, path, *row),
+            node,
+        )?;
     }
     Ok(())
 }
 
-/// Adds the facts that come by the call of a row of this node, if it is an argument.
+/// Adds the facts that come by a row of this node, if it is an argument of a call that is On.
 pub fn add_passes(
     found: &mut Vec<RowFact>,
     checked: &Checked,
@@ -192,7 +210,7 @@ pub fn add_passes(
 {
     match node {
         Node::Arg { enter, .. } => {
-            add_calls(found, checked, links, cells, path, links.reads.of(enter))
+            add_all_passes(found, checked, cells, path, node, links.reads.of(enter))
         }
         _ => Ok(()),
     }
@@ -202,29 +220,26 @@ pub fn add_passes(
 pub fn add_exit(
     found: &mut Vec<RowFact>,
     checked: &Checked,
-    links: &Links,
     cells: &Cells,
     path: usize,
     row: usize,
 ) -> Result<(), AllocError>
-    ensures { OnOk result
-        (found.new.items ≡ found.old.items ++ exit_at checked.now links.now cells.now path row) }
+    ensures { OnOk result (found.new.items ≡ found.old.items ++ exit_at checked.now cells.now path row) }
 {
     if path > 0 {
         let spot = cells.spot(path - 1);
-        if returns(entered(checked, cells, spot.path, spot.row), row) {
-            add_call(found, checked, links, cells, spot.path, spot.row)?;
-        }
+        let call = entered(checked, cells, spot.path, spot.row);
+        add_value(found, spot.path, spot.row, returned(cells, call, row))?;
     }
     Ok(())
 }
 
-/// Whether the row is the body of the call's procedure, if there is a call.
-fn returns(call: Option<OnCall>, row: usize) -> bool
-    ensures { result ≡ returns call row }
+/// What the row gives back to the call, if it is the body of its procedure.
+fn returned(cells: &Cells, call: Option<OnCall>, row: usize) -> Option<SourceValue>
+    ensures { result ≡ returned cells.now call row }
 {
     match call {
-        Some(call) => call.body == row,
-        None => false,
+        Some(call) if call.body == row => cells.read(call.path, call.body).has,
+        _ => None,
     }
 }

@@ -1,7 +1,7 @@
 //! What rows have at paths after some rounds (docs/MEANING.md, "Rounds").
 
 ghost use Rattle.std.specs.Prelude.{◌≡◌, ◌<◌, ◌≤◌, ◌++◌, length, replicate, OnOk, IfOk};
-ghost use Rattle.id_meaning.specs.Cells.{all_learnt, all_news, bucket_of, is_at, is_fresh, is_taken, learnt, path_of, row_of, with_fact};
+ghost use Rattle.id_meaning.specs.Cells.{all_learnt, all_news, bucket_of, is_at, is_fresh, is_taken, learnt, path_of, queue_of, row_of, with_fact};
 
 use crate::SourceValue;
 use std::alloc::{AllocError, Global};
@@ -44,6 +44,9 @@ pub struct Spot {
 
 /// How many chains the spots hang in.
 const CHAINS: usize = 262_144;
+
+/// In how many queues names wait.
+pub const QUEUES: usize = 65_536;
 
 /// What rows have at paths. Contracts see a list of spots, no two of one path and row.
 ///
@@ -197,6 +200,14 @@ fn bucket_of(path: usize, row: usize) -> usize
     (row % CHAINS + path % CHAINS * 40_503) % CHAINS
 }
 
+/// The queue in which names wait for the binder with this path and row.
+pub fn queue_of(path: usize, row: usize) -> usize
+    ensures queue { result ≡ queue_of path row }
+    ensures within { result < 65536 }
+{
+    bucket_of(path, row) % QUEUES
+}
+
 /// Puts facts into the cells, and those among the news that were not there.
 pub fn learn_all(
     cells: &mut Cells,
@@ -210,6 +221,16 @@ pub fn learn_all(
         if learn(cells, *fact)? {
             news.push(*fact)?;
         }
+    }
+    Ok(())
+}
+
+/// Puts facts into the cells.
+pub fn learn_again(cells: &mut Cells, facts: &[RowFact]) -> Result<(), AllocError>
+    ensures { OnOk result (cells.new ≡ all_learnt cells.old facts.now) }
+{
+    for fact in facts {
+        learn(cells, *fact)?;
     }
     Ok(())
 }

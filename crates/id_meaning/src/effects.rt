@@ -1,13 +1,14 @@
 //! What follows by one rule, row by row (docs/MEANING.md, "Rules").
 
 ghost use Rattle.std.specs.Prelude.{◌≡◌, ◌++◌, slice_get, IfOk, OnOk};
-ghost use Rattle.id_meaning.specs.Cells.{all_effects, arm_of, binary_of, chosen, constant_of, effects, first_facts, gain_at, gained, gains, given, given_at, given_of, input_facts, ons, seen, unary_of, value_fact, when};
+ghost use Rattle.id_meaning.specs.Cells.{arm_of, binary_of, chosen, constant_of, effects, first_facts, gain_at, gained, gains, given, given_at, given_of, input_facts, ons, seen, unary_of, value_fact, when};
 ghost use Rattle.id_meaning.specs.Links.{some_row};
 ghost use Rattle.id_meaning.specs.Sources.{main_body, value_of};
 
 use crate::SourceValue;
 use crate::calls::{add_call, add_exit, add_passes};
-use crate::cells::{Cells, RowFact};
+use crate::cells::{Cells, RowFact, queue_of};
+use crate::edges::Edges;
 use crate::links::{Links, beyond};
 use crate::params::{main_body, main_params, node_of};
 use id_check::Checked;
@@ -57,33 +58,17 @@ fn input(inputs: &[SourceValue], number: usize) -> Option<SourceValue>
     }
 }
 
-/// Adds the facts that follow from one of these, with others that the cells have.
-pub fn add_all_effects(
+/// Adds the facts that follow from this one, with others that the cells have, where these names wait.
+pub fn add_effects(
     found: &mut Vec<RowFact>,
     checked: &Checked,
     links: &Links,
-    cells: &Cells,
-    news: &[RowFact],
-) -> Result<(), AllocError>
-    ensures { OnOk result
-        (found.new.items ≡ found.old.items ++ all_effects checked.now links.now cells.now news.now) }
-{
-    for fact in news {
-        add_effects(found, checked, links, cells, *fact)?;
-    }
-    Ok(())
-}
-
-/// Adds the facts that follow from this one, with others that the cells have.
-fn add_effects(
-    found: &mut Vec<RowFact>,
-    checked: &Checked,
-    links: &Links,
+    waits: &Edges,
     cells: &Cells,
     fact: RowFact,
 ) -> Result<(), AllocError>
     ensures { OnOk result
-        (found.new.items ≡ found.old.items ++ effects checked.now links.now cells.now fact) }
+        (found.new.items ≡ found.old.items ++ effects checked.now links.now waits.now cells.now fact) }
 {
     match fact {
         RowFact::On { path, row } => {
@@ -93,7 +78,15 @@ fn add_effects(
         }
         RowFact::Has { path, row, .. } => {
             add_gains(found, checked, links, cells, path, links.reads.of(row))?;
-            add_exit(found, checked, links, cells, path, row)
+            add_gains(
+                found,
+                checked,
+                links,
+                cells,
+                path,
+                waits.of(queue_of(path, row)),
+            )?;
+            add_exit(found, checked, cells, path, row)
         }
     }
 }

@@ -16,6 +16,7 @@ mod listing;
 mod params;
 mod round;
 mod run;
+mod waits;
 
 use id_list::Sequence;
 use id_value::FaultKind;

@@ -3,9 +3,10 @@
 ghost use Rattle.std.specs.Prelude.{◌≡◌, ◌<◌, [], ◌∷◌, length, IfOk, OnOk};
 ghost use Rattle.id_parts.specs.Rows.{at};
 ghost use Rattle.id_check.specs.Programs.{binder, rows};
-ghost use Rattle.id_meaning.specs.Links.{AreOpen, AreReads, AreTurns, Gains, GainsTo, Statements, StatementsRise, TakesAll, beyond, parts_turned, reads_of, some_row, test_of};
+ghost use Rattle.id_meaning.specs.Links.{AreArgs, AreOpen, AreReads, AreTurns, Gains, GainsTo, Statements, StatementsRise, TakesAll, awaited, beyond, enter_of, linked_of, parts_turned, some_row, test_of};
 
 use crate::edges::Edges;
+use crate::params::node_of;
 use id_check::Checked;
 use id_parts::{Node, Row};
 use std::alloc::{AllocError, Global};
@@ -15,8 +16,10 @@ use std::alloc::{AllocError, Global};
 pub struct Links {
     /// From each expression to those that it turns On.
     pub turns: Edges,
-    /// From each row to those that read its value, and from an `Enter` to its call and its arguments.
+    /// From each row to those but names that read its value, and from an `Enter` to its call.
     pub reads: Edges,
+    /// From each `Enter` to its arguments.
+    pub args: Edges,
 }
 
 /// A binding, and the row of its expression.
@@ -30,10 +33,12 @@ pub struct Statement {
 pub fn link(alloc: Global, checked: &Checked) -> Result<Links, AllocError>
     ensures turns { IfOk result (λ l. AreTurns (rows checked.now) l.turns) }
     ensures reads { IfOk result (λ l. AreReads checked.now l.reads) }
+    ensures args { IfOk result (λ l. AreArgs checked.now l.args) }
 {
     Ok(Links {
         turns: turns(alloc, checked.table.rows.as_slice())?,
         reads: reads(alloc, checked)?,
+        args: args(alloc, checked)?,
     })
 }
 
@@ -129,7 +134,7 @@ fn take_statements(
     Ok(())
 }
 
-/// Which rows read each row.
+/// Which rows but names read each row.
 fn reads(alloc: Global, checked: &Checked) -> Result<Edges, AllocError>
     ensures { IfOk result (λ e. AreReads checked.now e) }
 {
@@ -147,10 +152,9 @@ fn add_reads(
     beyond: Option<usize>,
     node: Node,
 ) -> Result<(), AllocError>
-    ensures { OnOk result (GainsTo reads.old reads.new (reads_of beyond node) n) }
+    ensures { OnOk result (GainsTo reads.old reads.new (linked_of beyond node) n) }
 {
     match node {
-        Node::Name { .. } => add_read(reads, n, beyond),
         Node::Unary { operand, .. } => add_read(reads, n, Some(operand)),
         Node::Binary { left, right, .. } => add_both(reads, n, left, right),
         Node::If {
@@ -161,7 +165,7 @@ fn add_reads(
             add_read(reads, n, beyond)?;
             add_both(reads, n, then, otherwise)
         }
-        Node::Arg { enter, value, .. } => add_both(reads, n, enter, value),
+        Node::Arg { value, .. } => add_read(reads, n, Some(value)),
         Node::Call { enter, .. } => add_read(reads, n, Some(enter)),
         Node::Block { body } => add_read(reads, n, Some(body)),
         Node::Binding { value, .. } => add_read(reads, n, Some(value)),
@@ -185,6 +189,37 @@ fn add_read(reads: &mut Edges, n: usize, row: Option<usize>) -> Result<(), Alloc
             Ok(())
         }
         None => Ok(()),
+    }
+}
+
+/// Which rows are arguments of each `Enter`.
+fn args(alloc: Global, checked: &Checked) -> Result<Edges, AllocError>
+    ensures { IfOk result (λ e. AreArgs checked.now e) }
+{
+    let mut args = Edges::new(alloc, checked.table.rows.len())?;
+    for (n, row) in checked.table.rows.as_slice().iter().enumerate() {
+        add_read(&mut args, n, enter_of(row.node))?;
+    }
+    Ok(args)
+}
+
+/// The `Enter` of a row of this node, if it is an argument.
+fn enter_of(node: Node) -> Option<usize>
+    ensures { result ≡ enter_of node }
+{
+    match node {
+        Node::Arg { enter, .. } => Some(enter),
+        _ => None,
+    }
+}
+
+/// The binder that the row waits for, if it is a name.
+pub fn awaited(checked: &Checked, n: usize) -> Option<usize>
+    ensures { result ≡ awaited checked.now n }
+{
+    match node_of(checked, n) {
+        Node::Name { .. } => binder_of(checked, n),
+        _ => None,
     }
 }
 

@@ -32,7 +32,8 @@ pub enum RoundsError {
 ///
 /// `BadRounds` where n is above `MAX_ROUNDS`, which takes no memory; `TooManyFacts` where some round up to n has
 /// more than `MAX_FACTS` facts; `Memory` where a growth was refused. Takes memory for each row of the program and
-/// for each fact; a round takes time for the rows alone that the news of the round before lead to.
+/// for each fact and step of its path; a round takes time for the rows alone that the news of the round before lead
+/// to, and none goes on where there are more than `MAX_FACTS` facts.
 pub fn rounds(
     alloc: Global,
     checked: &Checked,
@@ -49,23 +50,6 @@ pub fn rounds(
     if n > MAX_ROUNDS {
         return Err(RoundsError::BadRounds);
     }
-    let facts = facts_of_round(alloc, checked, inputs, n)?;
-    let count = facts.len();
-    if count > MAX_FACTS {
-        return Err(RoundsError::TooManyFacts);
-    }
-    Ok(facts)
-}
-
-/// The facts of round n, in order.
-fn facts_of_round(
-    alloc: Global,
-    checked: &Checked,
-    inputs: &Inputs,
-    n: u32,
-) -> Result<Vec<Fact>, AllocError>
-    ensures { IfOk result (λ v. AreFacts (source checked.now inputs.now.values) n v.items) }
-{
     let cells = run(alloc, checked, inputs.values.as_slice(), n)?;
     let facts = list(alloc, checked, &cells)?;
     Ok(facts)

@@ -1,49 +1,85 @@
--- Each round learns what was found in the one before; where nothing is news, no later round has more.
-use Rattle.std.proofs.Common.{◌≡◌, ◌+◌, ◌++◌, suc, [], arith, ap, sym, ◌∙◌, subst, vec_len}
+-- Each round learns what follows from the news of the one before; where nothing is news, no later round has more.
+use Rattle.std.proofs.Common.{◌≡◌, ◌+◌, ◌-◌, ◌≤◌, List, [], arith, ap, sym, ◌∙◌, subst, vec_len}
 use Rattle.std.proofs.lemmas.Bool.{eqb-true}
 use Rattle.std.proofs.lemmas.List.{nil_from_length}
+use Rattle.id_meaning.specs.declared.cells.RowFact.{RowFact}
 use Rattle.id_meaning.specs.Sources.{source}
-use Rattle.id_meaning.specs.Cells.{all_effects, all_learnt, all_news}
+use Rattle.id_meaning.specs.Cells.{all_learnt}
 use Rattle.id_meaning.specs.Listed.{IsRound}
-use Rattle.id_meaning.proofs.RunLemmas.{at-rest, first-state, onward}
+use Rattle.id_meaning.specs.Waits.{Goes, Waits}
+use Rattle.id_meaning.proofs.RunLemmas.{first-front, first-more, front-more, front-next, front-rest, front-round}
 use Rattle.id_meaning.proofs.run.run.Goals as goal
 
-pub loop-round-init : goal.loop-round-init
-loop-round-init c = first-state (source c.args.checked.now c.args.inputs.now) c.in_ok-cells.cells c.in_ok-found.found.items c.in_ok-cells.ensures c.in_ok-found.ensures
+pub returns-then-count-gt-MAX_FACTS-clause-too_many : goal.returns-then-count-gt-MAX_FACTS-clause-too_many
+returns-then-count-gt-MAX_FACTS-clause-too_many c = λ e. first-more (source c.args.checked.now c.args.inputs.now) c.in_ok-ahead.ahead c.learn_all.new.cells c.as_slice.result.now
+    c.in_ok-first.first.items c.new-news.result.items c.learn_all.new.news.items c.in_ok-ahead.ensures c.as_slice.ensures.value c.in_ok-first.ensures
+    c.in_ok-learn_all.ensures.cells c.new-news.ensures.items c.in_ok-learn_all.ensures.news c.args.n c.len-count.result (omega arith) (omega arith) (omega arith)
 
-pub returns-then-is_empty : goal.returns-then-is_empty
-returns-then-is_empty c =
-    let cs = c.loop-round.cells in
-    let found = c.loop-round.found.items in
-    let z : vec_len c.learn_all.new.news ≡ 0 = eqb-true _ _ (sym c.is_empty.ensures ∙ c.if-is_empty.true) in
-    let none : c.learn_all.new.news.items ≡ [] = nil_from_length _ (omega arith) in
-    let these : c.as_slice.result.now ≡ found = c.as_slice.ensures.value in
-    let old : c.clear.new.self.items ≡ [] = c.clear.ensures.items in
-    let cells = c.in_ok-learn_all.ensures.cells ∙ ap (λ fs. all_learnt cs fs) these in
-    let news = c.in_ok-learn_all.ensures.news ∙ ap (λ fs. c.clear.new.self.items ++ all_news cs fs) these ∙ ap (λ ns. ns ++ all_news cs found) old in
-    at-rest (source c.args.checked.now c.args.inputs.now) c.in_ok-links.links c.in_ok-links.ensures.turns c.in_ok-links.ensures.reads c.loop-round._round c.args.n cs c.learn_all.new.cells found
-    c.learn_all.new.news.items c.loop-round-test.true c.loop-round.invariant cells news none
+pub loop-round-init : goal.loop-round-init
+loop-round-init c = first-front (source c.args.checked.now c.args.inputs.now) c.in_ok-ahead.ahead c.learn_all.new.cells c.as_slice.result.now
+    c.in_ok-first.first.items c.new-news.result.items c.learn_all.new.news.items c.in_ok-ahead.ensures c.as_slice.ensures.value c.in_ok-first.ensures
+    c.in_ok-learn_all.ensures.cells c.new-news.ensures.items c.in_ok-learn_all.ensures.news c.in_ok-cells.cells c.in_ok-waits.waits c.len-count.result c.in_ok-cells.ensures c.in_ok-waits.ensures
+    (omega arith) (omega arith)
+
+pub returns-then-is_empty-clause-facts : goal.returns-then-is_empty-clause-facts
+returns-then-is_empty-clause-facts c =
+    let l = c.in_ok-links.links in
+    let links = c.in_ok-links.ensures in
+    let z : vec_len c.loop-round.news ≡ 0 = eqb-true _ _ (sym c.is_empty.ensures ∙ c.if-is_empty.true) in
+    let none : c.loop-round.news.items ≡ [] = nil_from_length _ (omega arith) in
+    front-rest (source c.args.checked.now c.args.inputs.now) l links.turns links.reads links.args c.loop-round._round c.loop-round.cells c.loop-round.ahead c.loop-round.waits c.loop-round.waits
+    c.loop-round.news.items c.loop-round.count c.loop-round.invariant c.args.n (let w = c.loop-round-test.true in omega arith) none
+
+pub returns-then-len-room-clause-too_many : goal.returns-then-len-room-clause-too_many
+returns-then-len-room-clause-too_many c = λ e.
+    let P = c.args.checked.now in
+    let l = c.in_ok-links.links in
+    let links = c.in_ok-links.ensures in
+    let r = c.loop-round in
+    let ns = r.news.items in
+    let W = c.wait_all.new.waits in
+    let bs = c.learn_again.new.cells in
+    let ds = c.learn_effects.new.ahead in
+    let os = c.learn_effects.new.news.items in
+    let room = 1000000 - r.count in
+    let few : r.count ≤ 1000000 = r.invariant.few in
+    let H : List RowFact → Type 0 = λ y. Waits P r.waits W y in
+    let wait = subst H c.as_slice-in-loop-round.ensures.value c.in_ok-wait_all.ensures in
+    let again = c.in_ok-learn_again.ensures ∙ ap (λ y. all_learnt r.cells y) c.as_slice-in-loop-round-2.ensures.value in
+    let F : List RowFact → Type 0 = λ y. Goes P l W bs y r.ahead ds c.new-next.result.items os room in
+    let G : List RowFact → Type 0 = λ y. Goes P l W bs ns r.ahead ds y os room in
+    let goes = subst G c.new-next.ensures.items (subst F c.as_slice-in-loop-round-3.ensures.value c.in_ok-learn_effects.ensures) in
+    front-more (source P c.args.inputs.now) l links.turns links.reads links.args r._round r.cells r.ahead r.waits W ns r.count r.invariant wait c.args.n room bs ds os
+    c.loop-round-test.true again goes (omega arith) (omega (arith, few))
 
 pub loop-round-preserved : goal.loop-round-preserved
 loop-round-preserved c =
-    let S = source c.args.checked.now c.args.inputs.now in
+    let P = c.args.checked.now in
     let l = c.in_ok-links.links in
-    let cs = c.loop-round.cells in
-    let found = c.loop-round.found.items in
-    let these : c.as_slice.result.now ≡ found = c.as_slice.ensures.value in
-    let old : c.clear.new.self.items ≡ [] = c.clear.ensures.items in
-    let cells = c.in_ok-learn_all.ensures.cells ∙ ap (λ fs. all_learnt cs fs) these in
-    let news = c.in_ok-learn_all.ensures.news ∙ ap (λ fs. c.clear.new.self.items ++ all_news cs fs) these ∙ ap (λ ns. ns ++ all_news cs found) old in
-    let more : c.loop-round._round + 1 ≡ suc c.loop-round._round = omega arith in
-    let none : c.clear-in-loop-round.new.self.items ≡ [] = c.clear-in-loop-round.ensures.items in
-    let new : c.as_slice-in-loop-round.result.now ≡ c.learn_all.new.news.items = c.as_slice-in-loop-round.ensures.value in
-    let next = c.in_ok-add_all_effects.ensures ∙ ap (λ fs. fs ++ all_effects S.checked l c.learn_all.new.cells c.as_slice-in-loop-round.result.now) none
-    ∙ ap (λ ns. all_effects S.checked l c.learn_all.new.cells ns) new in
-    onward S l c.in_ok-links.ensures.turns c.in_ok-links.ensures.reads c.loop-round._round (c.loop-round._round + 1) cs c.learn_all.new.cells found c.learn_all.new.news.items
-    c.add_all_effects.new.found.items more c.loop-round.invariant cells news next
+    let links = c.in_ok-links.ensures in
+    let r = c.loop-round in
+    let ns = r.news.items in
+    let W = c.wait_all.new.waits in
+    let bs = c.learn_again.new.cells in
+    let ds = c.learn_effects.new.ahead in
+    let os = c.learn_effects.new.news.items in
+    let room = 1000000 - r.count in
+    let few : r.count ≤ 1000000 = r.invariant.few in
+    let H : List RowFact → Type 0 = λ y. Waits P r.waits W y in
+    let wait = subst H c.as_slice-in-loop-round.ensures.value c.in_ok-wait_all.ensures in
+    let again = c.in_ok-learn_again.ensures ∙ ap (λ y. all_learnt r.cells y) c.as_slice-in-loop-round-2.ensures.value in
+    let F : List RowFact → Type 0 = λ y. Goes P l W bs y r.ahead ds c.new-next.result.items os room in
+    let G : List RowFact → Type 0 = λ y. Goes P l W bs ns r.ahead ds y os room in
+    let goes = subst G c.new-next.ensures.items (subst F c.as_slice-in-loop-round-3.ensures.value c.in_ok-learn_effects.ensures) in
+    front-next (source P c.args.inputs.now) l links.turns links.reads links.args r._round r.cells r.ahead r.waits W ns r.count r.invariant wait (r._round + 1) bs ds os (r.count + c.len-count-in-loop-round.result) room
+    (omega arith) again goes (omega arith) (omega (arith, few)) (omega arith)
 
-pub returns : goal.returns
-returns c =
+pub returns-clause-facts : goal.returns-clause-facts
+returns-clause-facts c =
+    let l = c.in_ok-links.links in
+    let links = c.in_ok-links.ensures in
     let r = c.loop-round._round in
     let e : r ≡ c.args.n = (let a = c.loop-round-test.false in let b = c.loop-round.auto._round-end in omega arith) in
-    subst (λ m. IsRound (source c.args.checked.now c.args.inputs.now) m c.loop-round.cells) e c.loop-round.invariant.round
+    subst (λ m. IsRound (source c.args.checked.now c.args.inputs.now) m c.loop-round.ahead) e
+    (front-round (source c.args.checked.now c.args.inputs.now) l links.turns links.reads links.args r c.loop-round.cells c.loop-round.ahead c.loop-round.waits c.loop-round.waits
+    c.loop-round.news.items c.loop-round.count c.loop-round.invariant)

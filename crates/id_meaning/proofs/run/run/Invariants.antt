@@ -1,7 +1,7 @@
--- The cells are those of the rounds so far, and what is found is all that arises from them.
+-- The cells are those of the round so far and of the one before it, with its news.
 use Rattle.id_meaning.specs.Sources.{source}
-use Rattle.id_meaning.proofs.RunLemmas.{State}
+use Rattle.id_meaning.proofs.RunLemmas.{Front}
 use Rattle.id_meaning.proofs.run.run.Given as goal
 
 abbrev pub invariant-loop-round : goal.invariant-loop-round
-invariant-loop-round l = State (source l.checked l.inputs) l._round l.cells l.found.items
+invariant-loop-round l = Front (source l.checked l.inputs) l._round l.cells l.ahead l.waits l.news.items l.count
