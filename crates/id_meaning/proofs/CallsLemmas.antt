@@ -149,13 +149,14 @@ module _ (P : Checked) (es : List Spot) (p n : ℕ) where
 
   on-only : (l : Links) (i : IsOn P es p n) (g : RowFact) → Among g (call_by P l es p n (Some (call_of P es p n i))) → Comes P es p n g
   on-only l i g (inl q) = let F : RowFact → Type 0 = λ f. Comes P es p n f in subst F (sym q) (begins i)
-  on-only l i g (inr h) = elim (Among-either g (value_fact p n (cell_at es (i.spot + 1) i.body).has) (all_passed P es p (call_of P es p n i) (targets l.args.rows.items i.enter)) h) [
-    | inl k ↦
-        let r = fact-only p n (cell_at es (i.spot + 1) i.body).has g k in
-        let F : RowFact → Type 0 = λ f. Comes P es p n f in
-        subst F (sym r.2) (ends i r.1)
-    | inr k ↦ all-only i (targets l.args.rows.items i.enter) g k
-  ]
+  on-only l i g (inr h) =
+      elim (Among-either g (value_fact p n (cell_at es (i.spot + 1) i.body).has) (all_passed P es p (call_of P es p n i) (targets l.args.rows.items i.enter)) h) [
+        | inl k ↦
+            let r = fact-only p n (cell_at es (i.spot + 1) i.body).has g k in
+            let F : RowFact → Type 0 = λ f. Comes P es p n f in
+            subst F (sym r.2) (ends i r.1)
+        | inr k ↦ all-only i (targets l.args.rows.items i.enter) g k
+      ]
 
   by-only : (l : Links) (g : RowFact) (o : Option OnCall) → entered P es p n ≡ o → Among g (call_by P l es p n o) → Comes P es p n g
   by-only l g None e h = absurd h
@@ -211,7 +212,8 @@ module _ (P : Checked) (es : List Spot) (p n : ℕ) where
       → Among (Has p n v) (value_fact p n (returned es (entered P es p n) c.body))
   return-among c v h =
       let x = (cell_at es (c.spot + 1) c.body).has in
-      fact-among p n (returned es (entered P es p n) c.body) v (ap (λ o. returned es o c.body) (on-entered c) ∙ ap (λ t. if t then x else None) (eq-eqb c.body c.body refl) ∙ h)
+      fact-among p n (returned es (entered P es p n) c.body) v
+      (ap (λ o. returned es o c.body) (on-entered c) ∙ ap (λ t. if t then x else None) (eq-eqb c.body c.body refl) ∙ h)
 
   all-among : (c : OnCall) (ms : List ℕ) (m : ℕ) (g : RowFact) → Among m ms → Among g (passed_of P es p c (at (rows P) m).node) → Among g (all_passed P es p c ms)
   all-among c [] m g h k = absurd h

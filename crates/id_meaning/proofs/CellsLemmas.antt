@@ -451,7 +451,8 @@ all_passes-among P es p z [] n g h e = absurd h
 all_passes-among P es p z (m ∷ ns) n g (inl q) e =
     let F : ℕ → Type 0 = λ k. Among g (passed_by P es p (entered P es p k) z) in
     Among-left g (passed_by P es p (entered P es p m) z) (all_passes P es p z ns) (subst F q e)
-all_passes-among P es p z (m ∷ ns) n g (inr h) e = Among-right g (passed_by P es p (entered P es p m) z) (all_passes P es p z ns) (all_passes-among P es p z ns n g h e)
+all_passes-among P es p z (m ∷ ns) n g (inr h) e =
+    Among-right g (passed_by P es p (entered P es p m) z) (all_passes P es p z ns) (all_passes-among P es p z ns n g h e)
 
 -- what a row gives back to the call at a spot
 abbrev exit_by : Checked → List Spot → ℕ → ℕ → ℕ → List RowFact
@@ -489,7 +490,8 @@ effect-among P l W lead es (Has p a w) g (argument {n = n} c m {k = k} {b = b} {
     Among-left g (gains P l es p (targets l.reads.rows.items a)) (gains P l es p (targets W.rows.items (queue_of p a)) ++ exit_at P es p a)
     (gains-among P l es p _ m g i (Among-right g (given_at P es p m) (passes_of P l es p (at (rows P) m).node) one))
 effect-among P l W lead es f g (exit {p = p} {n = n} c {u = u} e d h) =
-    Among-right g (gains P l es (c.spot + 1) (targets l.reads.rows.items c.body)) (gains P l es (c.spot + 1) (targets W.rows.items (queue_of (c.spot + 1) c.body)) ++ exit_at P es (c.spot + 1) c.body)
+    Among-right g (gains P l es (c.spot + 1) (targets l.reads.rows.items c.body))
+    (gains P l es (c.spot + 1) (targets W.rows.items (queue_of (c.spot + 1) c.body)) ++ exit_at P es (c.spot + 1) c.body)
     (Among-right g (gains P l es (c.spot + 1) (targets W.rows.items (queue_of (c.spot + 1) c.body))) (exit_at P es (c.spot + 1) c.body)
     (exit-among P es p n g c e d (return-among P es p n c u h)))
 
@@ -592,7 +594,8 @@ pub all_effects-append : (P : Checked) (l : Links) (W : Edges) (es : List Spot) 
     → all_effects P l W es (fs ++ gs) ≡ all_effects P l W es fs ++ all_effects P l W es gs
 all_effects-append P l W es [] gs = refl
 all_effects-append P l W es (f ∷ fs) gs =
-    ap (λ x. effects P l W es f ++ x) (all_effects-append P l W es fs gs) ∙ sym (append_assoc (effects P l W es f) (all_effects P l W es fs) (all_effects P l W es gs))
+    ap (λ x. effects P l W es f ++ x) (all_effects-append P l W es fs gs) ∙ sym
+    (append_assoc (effects P l W es f) (all_effects P l W es fs) (all_effects P l W es gs))
 
 pub all_learnt-append : (es : List Spot) (fs gs : List RowFact) → all_learnt es (fs ++ gs) ≡ all_learnt (all_learnt es fs) gs
 all_learnt-append es [] gs = refl
@@ -601,7 +604,8 @@ all_learnt-append es (f ∷ fs) gs = all_learnt-append (learnt es f) fs gs
 pub all_news-append : (es : List Spot) (fs gs : List RowFact) → all_news es (fs ++ gs) ≡ all_news es fs ++ all_news (all_learnt es fs) gs
 all_news-append es [] gs = refl
 all_news-append es (f ∷ fs) gs =
-    ap (λ x. news_of es f ++ x) (all_news-append (learnt es f) fs gs) ∙ sym (append_assoc (news_of es f) (all_news (learnt es f) fs) (all_news (all_learnt (learnt es f) fs) gs))
+    ap (λ x. news_of es f ++ x) (all_news-append (learnt es f) fs gs) ∙ sym
+    (append_assoc (news_of es f) (all_news (learnt es f) fs) (all_news (all_learnt (learnt es f) fs) gs))
 
 -- the news alone leave the same spots
 again-by : (es : List Spot) (f : RowFact) (fs : List RowFact) (b : Bool) → is_fresh es f ≡ b

@@ -803,7 +803,8 @@ module _ (S : Source) (x : Links) (turns : AreTurns (rows S.checked) x.turns) (r
           let b = ap (λ y. length y) g.news in
           let h = f.counted in
           let j = f.next in
-          more-facts S (suc (suc f.before)) n 1000000 ds (next-part S (suc f.before) es ds fs os t.round rises (learns-so es ds fs os g.spots g.news)) (omega (arith, j)) (omega (arith, a, b, c, h))
+          more-facts S (suc (suc f.before)) n 1000000 ds (next-part S (suc f.before) es ds fs os t.round rises (learns-so es ds fs os g.spots g.news))
+          (omega (arith, j)) (omega (arith, a, b, c, h))
 
       pub front-more : (n room : ℕ) (bs ds : List Spot) (os : List RowFact) → r < n → bs ≡ all_learnt cs ns → Goes S.checked x W bs ns es ds [] os room
           → room < length os → count + room ≡ 1000000 → HasMoreFacts S n 1000000

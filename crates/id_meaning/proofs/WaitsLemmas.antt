@@ -122,7 +122,8 @@ module _ (P : Checked) (l : Links) (W : Edges) (cs es : List Spot) (facts ms : L
       subst J (sym q) (record {
         spots = b ∙ ap (λ x. all_learnt ds x) h ∙ ap (λ x. all_learnt x gs) g.spots ∙ sym (all_learnt-append es fs gs) ∙ ap (λ x. all_learnt es x) (sym m);
         news = o ∙ ap (λ x. ns ++ all_news ds x) h ∙ ap (λ x. x ++ all_news ds gs) g.news ∙ ap (λ x. (ms ++ all_news es fs) ++ all_news x gs) g.spots
-            ∙ append_assoc ms (all_news es fs) (all_news (all_learnt es fs) gs) ∙ ap (λ x. ms ++ x) (sym (all_news-append es fs gs) ∙ ap (λ x. all_news es x) (sym m));
+            ∙ append_assoc ms (all_news es fs) (all_news (all_learnt es fs) gs) ∙ ap (λ x. ms ++ x)
+            (sym (all_news-append es fs gs) ∙ ap (λ x. all_news es x) (sym m));
       })
 
   pub gone-full : (i room : ℕ) (ds : List Spot) (ns : List RowFact) → Gone i ds ns → room < length ns → Goes P l W cs facts es ds ms ns room

@@ -204,7 +204,8 @@ all_passed P es p c (m ∷ ms) = passed_of P es p c (at (rows P) m).node ++ all_
 abbrev pub call_by : Checked → Links → List Spot → ℕ → ℕ → Option OnCall → List RowFact
 call_by P l es p n None = []
 call_by P l es p n (Some c) =
-    On c.path c.body ∷ (value_fact p n (cell_at es c.path c.body).has ++ all_passed P es p c (targets l.args.rows.items c.enter))
+    let args = targets l.args.rows.items c.enter in
+    On c.path c.body ∷ (value_fact p n (cell_at es c.path c.body).has ++ all_passed P es p c args)
 
 abbrev pub call_at : Checked → Links → List Spot → ℕ → ℕ → List RowFact
 call_at P l es p n = call_by P l es p n (entered P es p n)
@@ -248,7 +249,8 @@ gains P l es p (n ∷ ns) = gain_at P l es p n ++ gains P l es p ns
 abbrev pub effects : Checked → Links → Edges → List Spot → RowFact → List RowFact
 effects P l w es (On p n) = ons p (targets l.turns.rows.items n) ++ (given_at P es p n ++ call_at P l es p n)
 effects P l w es (Has p n v) =
-    gains P l es p (targets l.reads.rows.items n) ++ (gains P l es p (targets w.rows.items (queue_of p n)) ++ exit_at P es p n)
+    let names = gains P l es p (targets w.rows.items (queue_of p n)) in
+    gains P l es p (targets l.reads.rows.items n) ++ (names ++ exit_at P es p n)
 
 -- the facts that follow from one of these
 abbrev pub all_effects : Checked → Links → Edges → List Spot → List RowFact → List RowFact

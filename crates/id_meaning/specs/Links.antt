@@ -69,7 +69,7 @@ parts_turned R (If s x y) = some_row (test_of (at R s).node)
 parts_turned R (Block b) = b ∷ []
 parts_turned R _ = []
 
--- the rows that a row of this node reads, which may look at this row beyond its parts: values, and the `Enter` of a call
+-- the rows that a row of this node reads, which may look at this row beyond its parts, and the `Enter` of a call
 abbrev pub reads_of : Option ℕ → Node → List ℕ
 reads_of o (Name x) = some_row o
 reads_of o (Unary p a) = a ∷ []

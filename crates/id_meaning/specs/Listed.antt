@@ -109,9 +109,13 @@ place_in (fact.Has p e v) = e
 abbrev pub step_cmp : PathStep → PathStep → Ordering
 step_cmp s t = ordering_then (nat_cmp s.place t.place) (nat_cmp s.number t.number)
 
+-- how two facts compare by path, then by place
+abbrev pub point_cmp : Fact → Fact → Ordering
+point_cmp f g = ordering_then (slice_cmp step_cmp (steps_in f) (steps_in g)) (nat_cmp (place_in f) (place_in g))
+
 -- how two facts compare: On before Has, then by path, then by place
 abbrev pub fact_cmp : Fact → Fact → Ordering
-fact_cmp f g = ordering_then (nat_cmp (kind_of f) (kind_of g)) (ordering_then (slice_cmp step_cmp (steps_in f) (steps_in g)) (nat_cmp (place_in f) (place_in g)))
+fact_cmp f g = ordering_then (nat_cmp (kind_of f) (kind_of g)) (point_cmp f g)
 
 -- the facts are those that the spots show, and none stands behind one that it compares less than
 pub record AreShown (P : Checked) (es : List Spot) (fs : List Fact) : Type 0 where

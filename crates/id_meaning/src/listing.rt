@@ -3,7 +3,7 @@
 ghost use Rattle.std.specs.Prelude.{◌≡◌, ◌++◌, IfOk, OnOk};
 ghost use Rattle.std.specs.Cmp.Lexicographic.{slice_cmp};
 ghost use Rattle.id_check.specs.Programs.{place};
-ghost use Rattle.id_meaning.specs.Listed.{AreShown, fact_cmp, facts_in, kind_of, on_fact, path_at, place_in, spot_facts, step_at, step_cmp, steps_in, value_fact};
+ghost use Rattle.id_meaning.specs.Listed.{AreShown, fact_cmp, facts_in, kind_of, on_fact, path_at, place_in, point_cmp, spot_facts, step_at, step_cmp, steps_in, value_fact};
 
 use crate::cells::{Cells, Spot};
 use crate::{Fact, Path, PathStep, SourceValue};
@@ -116,9 +116,20 @@ fn place_of(checked: &Checked, row: usize) -> usize
 fn compare(a: &Fact, b: &Fact) -> Ordering
     ensures { result ≡ fact_cmp a.now b.now }
 {
-    let kinds = kind_of(a).cmp(&kind_of(b));
-    let points = compare_steps(steps_in(a), steps_in(b)).then(place_in(a).cmp(&place_in(b)));
-    kinds.then(points)
+    match kind_of(a).cmp(&kind_of(b)) {
+        Ordering::Equal => compare_points(a, b),
+        kinds => kinds,
+    }
+}
+
+/// How two facts compare by path and then by place.
+fn compare_points(a: &Fact, b: &Fact) -> Ordering
+    ensures { result ≡ point_cmp a.now b.now }
+{
+    match compare_steps(steps_in(a), steps_in(b)) {
+        Ordering::Equal => place_in(a).cmp(&place_in(b)),
+        paths => paths,
+    }
 }
 
 /// How two paths compare by their steps: of two that have none it is told at once.

@@ -4,4 +4,6 @@ use Rattle.id_meaning.specs.Cells.{all_passes}
 use Rattle.id_meaning.proofs.calls.add_all_passes.Given as goal
 
 abbrev pub invariant-loop-row : goal.invariant-loop-row
-invariant-loop-row l = l.found.items ++ all_passes l.checked l.cells l.path l.node (drop l.row-index l.rows) ≡ l.initial.found.items ++ all_passes l.checked l.cells l.path l.node l.rows
+invariant-loop-row l =
+    l.found.items ++ all_passes l.checked l.cells l.path l.node (drop l.row-index l.rows) ≡ l.initial.found.items ++ all_passes l.checked l.cells l.path
+    l.node l.rows

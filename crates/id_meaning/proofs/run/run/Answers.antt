@@ -13,12 +13,14 @@ use Rattle.id_meaning.proofs.run.run.Goals as goal
 pub returns-then-count-gt-MAX_FACTS-clause-too_many : goal.returns-then-count-gt-MAX_FACTS-clause-too_many
 returns-then-count-gt-MAX_FACTS-clause-too_many c = λ e. first-more (source c.args.checked.now c.args.inputs.now) c.in_ok-ahead.ahead c.learn_all.new.cells c.as_slice.result.now
     c.in_ok-first.first.items c.new-news.result.items c.learn_all.new.news.items c.in_ok-ahead.ensures c.as_slice.ensures.value c.in_ok-first.ensures
-    c.in_ok-learn_all.ensures.cells c.new-news.ensures.items c.in_ok-learn_all.ensures.news c.args.n c.len-count.result (omega arith) (omega arith) (omega arith)
+    c.in_ok-learn_all.ensures.cells c.new-news.ensures.items c.in_ok-learn_all.ensures.news c.args.n c.len-count.result (omega arith) (omega arith)
+    (omega arith)
 
 pub loop-round-init : goal.loop-round-init
 loop-round-init c = first-front (source c.args.checked.now c.args.inputs.now) c.in_ok-ahead.ahead c.learn_all.new.cells c.as_slice.result.now
     c.in_ok-first.first.items c.new-news.result.items c.learn_all.new.news.items c.in_ok-ahead.ensures c.as_slice.ensures.value c.in_ok-first.ensures
-    c.in_ok-learn_all.ensures.cells c.new-news.ensures.items c.in_ok-learn_all.ensures.news c.in_ok-cells.cells c.in_ok-waits.waits c.len-count.result c.in_ok-cells.ensures c.in_ok-waits.ensures
+    c.in_ok-learn_all.ensures.cells c.new-news.ensures.items c.in_ok-learn_all.ensures.news c.in_ok-cells.cells c.in_ok-waits.waits c.len-count.result
+    c.in_ok-cells.ensures c.in_ok-waits.ensures
     (omega arith) (omega arith)
 
 pub returns-then-is_empty-clause-facts : goal.returns-then-is_empty-clause-facts
@@ -27,7 +29,8 @@ returns-then-is_empty-clause-facts c =
     let links = c.in_ok-links.ensures in
     let z : vec_len c.loop-round.news ≡ 0 = eqb-true _ _ (sym c.is_empty.ensures ∙ c.if-is_empty.true) in
     let none : c.loop-round.news.items ≡ [] = nil_from_length _ (omega arith) in
-    front-rest (source c.args.checked.now c.args.inputs.now) l links.turns links.reads links.args c.loop-round._round c.loop-round.cells c.loop-round.ahead c.loop-round.waits c.loop-round.waits
+    front-rest (source c.args.checked.now c.args.inputs.now) l links.turns links.reads links.args c.loop-round._round c.loop-round.cells c.loop-round.ahead
+    c.loop-round.waits c.loop-round.waits
     c.loop-round.news.items c.loop-round.count c.loop-round.invariant c.args.n (let w = c.loop-round-test.true in omega arith) none
 
 pub returns-then-len-room-clause-too_many : goal.returns-then-len-room-clause-too_many
@@ -49,7 +52,8 @@ returns-then-len-room-clause-too_many c = λ e.
     let F : List RowFact → Type 0 = λ y. Goes P l W bs y r.ahead ds c.new-next.result.items os room in
     let G : List RowFact → Type 0 = λ y. Goes P l W bs ns r.ahead ds y os room in
     let goes = subst G c.new-next.ensures.items (subst F c.as_slice-in-loop-round-3.ensures.value c.in_ok-learn_effects.ensures) in
-    front-more (source P c.args.inputs.now) l links.turns links.reads links.args r._round r.cells r.ahead r.waits W ns r.count r.invariant wait c.args.n room bs ds os
+    front-more (source P c.args.inputs.now) l links.turns links.reads links.args r._round r.cells r.ahead r.waits W ns r.count r.invariant wait c.args.n room
+    bs ds os
     c.loop-round-test.true again goes (omega arith) (omega (arith, few))
 
 pub loop-round-preserved : goal.loop-round-preserved
@@ -71,7 +75,8 @@ loop-round-preserved c =
     let F : List RowFact → Type 0 = λ y. Goes P l W bs y r.ahead ds c.new-next.result.items os room in
     let G : List RowFact → Type 0 = λ y. Goes P l W bs ns r.ahead ds y os room in
     let goes = subst G c.new-next.ensures.items (subst F c.as_slice-in-loop-round-3.ensures.value c.in_ok-learn_effects.ensures) in
-    front-next (source P c.args.inputs.now) l links.turns links.reads links.args r._round r.cells r.ahead r.waits W ns r.count r.invariant wait (r._round + 1) bs ds os (r.count + c.len-count-in-loop-round.result) room
+    front-next (source P c.args.inputs.now) l links.turns links.reads links.args r._round r.cells r.ahead r.waits W ns r.count r.invariant wait (r._round + 1)
+    bs ds os (r.count + c.len-count-in-loop-round.result) room
     (omega arith) again goes (omega arith) (omega (arith, few)) (omega arith)
 
 pub returns-clause-facts : goal.returns-clause-facts
