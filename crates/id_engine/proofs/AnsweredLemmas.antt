@@ -8,7 +8,7 @@ use Rattle.id_engine.specs.declared.compiled.CompileError.TheVariants as compile
 use Rattle.id_engine.specs.declared.error.EngineError.{EngineError}
 use Rattle.id_engine.specs.declared.error.EngineError.TheVariants.{Compile, MissingInput, UnknownInput, RepeatedInput, BadInput, BadSteps, BadRounds, TooManyFacts, Memory, Write}
 use Rattle.id_engine.specs.Programs.{HasInputs, IsProgramOf, IsRefusedBy, by_memory, too_large}
-use Rattle.id_engine.specs.Refusals.{AreRefusedFacts, IsRefusedRun, IsInsideOf}
+use Rattle.id_engine.specs.Refusals.{AreRefusedFacts, AreRefusedFor, IsRefusedRun, IsInsideOf}
 use Rattle.id_engine.specs.Refusals.IsRefusedRun.{by_source as by_run_source, no_steps, too_many_steps}
 use Rattle.id_engine.specs.Refusals.IsRefusedSource.{by_memory as no_memory}
 use Rattle.id_engine.specs.Refusals.AreRefusedFacts.{by_source, bad_rounds, too_many_facts}
@@ -34,6 +34,10 @@ module _ {A E : Type 0} where
   pub if_ok_all : (r : Result A E) (P Q R : A → Type 0) (X : Type 0) → ((a : A) → P a → X → Q a → R a) → IfOk r P → OnOk r X → IfOk r Q → IfOk r R
   if_ok_all (Ok a) P Q R X t h x k = t a h x k
   if_ok_all (Err e) P Q R X t h x k = tt
+
+  pub if_ok_with : (r : Result A E) (X : Type 0) (P Q : A → Type 0) → ((a : A) → X → P a → Q a) → OnOk r X → IfOk r P → IfOk r Q
+  if_ok_with (Ok a) X P Q t x h = t a x h
+  if_ok_with (Err e) X P Q t x h = tt
 
   pub if_err : (r : Result A E) (P Q : E → Type 0) → ((e : E) → P e → Q e) → IfErr r P → IfErr r Q
   if_err (Ok a) P Q t h = tt
@@ -64,6 +68,19 @@ late_memory text BadRounds h = absurd cc
 late_memory text TooManyFacts h = absurd cc
 late_memory text Memory h = let n : Memory ≢ Write = λ k. absurd cc in (tt, n)
 late_memory text Write h = absurd cc
+
+-- nor is a refused word
+pub late_words : (text : List ℕ) (P : Checked) (ws : List (List ℕ)) (e : EngineError) → AreRefusedFor P ws e → IsLate text e
+late_words text P ws (Compile x) h = absurd h
+late_words text P ws (MissingInput x) h = let n : MissingInput x ≢ Write = λ k. absurd cc in (tt, n)
+late_words text P ws (UnknownInput j) h = let n : UnknownInput j ≢ Write = λ k. absurd cc in (tt, n)
+late_words text P ws (RepeatedInput j) h = let n : RepeatedInput j ≢ Write = λ k. absurd cc in (tt, n)
+late_words text P ws (BadInput j) h = let n : BadInput j ≢ Write = λ k. absurd cc in (tt, n)
+late_words text P ws BadSteps h = absurd h
+late_words text P ws BadRounds h = absurd h
+late_words text P ws TooManyFacts h = absurd h
+late_words text P ws Memory h = let n : Memory ≢ Write = λ k. absurd cc in (tt, n)
+late_words text P ws Write h = absurd h
 
 pub late_steps : (text : List ℕ) (steps : ℕ) (e : EngineError) → AreRefusedSteps steps e → IsLate text e
 late_steps text steps (Compile x) h = absurd cc

@@ -1,12 +1,11 @@
 -- Lemmas on runs of machines, and on what their reports say (specs/Reports.antt).
-use Rattle.std.proofs.Common.{◌≡◌, ℕ, Bool, true, false, IsTrue, IsFalse, List, [], ◌∷◌, ◌++◌, Option, Some, None, refl, sym, subst, ◌∙◌}
+use Rattle.std.proofs.Common.{◌≡◌, ℕ, Bool, true, false, IsTrue, List, [], ◌∷◌, ◌++◌, Option, Some, None, refl, sym, subst, ◌∙◌}
 use Rattle.std.specs.Prelude.{◌≤◌, All, length, IfSome, slice_get}
 use Rattle.id_graph.specs.Graph.{Parts}
 use Rattle.id_meaning.specs.declared.SourceValue.{SourceValue}
 use Rattle.id_meaning.specs.declared.SourceFault.{SourceFault}
 use Rattle.id_meaning.specs.Sources.{Source, AreInputs}
 use Rattle.id_meaning.specs.Names.{AreSomeNames}
-use Rattle.id_meaning.specs.Orders.{NamesRise}
 use Rattle.id_meaning.specs.Rounds.{Answers, IsAnswer, IsCoherent, Faulty}
 use Rattle.id_build.specs.Schemas.{Schemas}
 use Rattle.id_core.specs.Machines.{World, MachineView, IsQuiet, start, delivered, run}
@@ -18,8 +17,8 @@ use Rattle.id_print.specs.declared.report.Ending.TheVariants.{Quiet, Stopped, Fa
 use Rattle.id_print.specs.declared.report.Report.{Report}
 use Rattle.id_observe.proofs.FirstsLemmas.{first_is_shown}
 use Rattle.id_print.specs.Endings.{EndsSo}
-use Rattle.id_print.specs.Names.{IsSortedOf, AreApart}
-use Rattle.id_engine.specs.Reports.{HasRun, IsReportOfRun, IsTrueOf, SaysTruly}
+use Rattle.id_print.specs.Names.{IsSortedOf}
+use Rattle.id_engine.specs.Reports.{HasRun, IsReportFrom, IsReportOfRun, IsTrueOf, SaysTruly}
 use Rattle.id_engine.proofs.NamesLemmas.{AreApart-sound, AreSomeNames-sound, AreSomeNames-none, AreNames-complete}
 
 -- deliveries and then more of them
@@ -42,14 +41,6 @@ true_in S g w b r Quiet says fails completes some same sorted ends =
     (subst Q (sym same) done.answer, λ asked. AreNames-complete S g w r.names some done (sorted asked), done.no_fault)
 true_in S g w b r Stopped says fails completes some same sorted ends = (if_some S r.answer (λ v h. says v (sym same ∙ h)), some)
 true_in S g w b r (Fault f) says fails completes some same sorted ends = let shown = first_is_shown g w.elements f ends in fails shown.0 f shown.1
-
--- what is known of a report of a machine, with names where they are asked for
-pub record IsReportFrom (m : MachineView) (b : Bool) (r : Report) : Type 0 where
-  pub answer_is : r.answer ≡ answer m.world
-  pub sorted : IsTrue b → IsSortedOf r.names (names m.graph m.world)
-  pub rise : IsTrue b → AreApart (names m.graph m.world) → NamesRise r.names
-  pub none : IsFalse b → r.names ≡ []
-  pub ends : EndsSo m r.ending
 
 -- the same of a machine that is equal but for its count
 from_world : (m : MachineView) (g : Parts) (n : ℕ) (w : World) (b : Bool) (r : Report) → m.graph ≡ g → m.world ≡ w → IsReportFrom m b r

@@ -22,6 +22,16 @@ use Rattle.id_build.specs.Rows.{size}
 use Rattle.id_engine.specs.declared.compiled.CompileError.{CompileError}
 use Rattle.id_engine.specs.declared.compiled.CompileError.TheVariants.{Text, Tree, Check, TooLarge, Memory}
 
+-- the tree is that of the text's tokens
+pub record IsTreeOf (text : List ℕ) (p : Program) : Type 0 where
+  pub tokens : List Token
+  pub lexes : Lexes 0 text tokens Whole
+  pub accepts : Accepts tokens (program_tree p)
+
+-- the places of the tree's things are at most so many bytes in
+pub record ArePlacedWithin (size : ℕ) (p : Program) : Type 0 where
+  pub within : (q : ℕ) → HasPlace (program_tree p) q → q ≤ size
+
 -- the program is the text's: its tokens are those of the text, its tree is theirs, and its `main` is there
 pub record IsProgramOf (text : List ℕ) (P : Checked) : Type 0 where
   pub tokens : List Token

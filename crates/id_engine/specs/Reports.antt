@@ -1,5 +1,5 @@
 -- The report of a run of a text's program, and deliveries to a machine of one element.
-use Rattle.std.specs.Prelude.{◌≡◌, ◌≤◌, ◌<◌, ◌⊎◌, ℕ, Bool, IsTrue, List, [], ◌∷◌, All, length, Option, None, Some, IfSome}
+use Rattle.std.specs.Prelude.{◌≡◌, ◌≤◌, ◌<◌, ◌⊎◌, ℕ, Bool, IsTrue, IsFalse, List, [], ◌∷◌, All, length, Option, None, Some, IfSome}
 use Rattle.id_check.specs.declared.checked.Checked.{Checked}
 use Rattle.id_meaning.specs.declared.SourceValue.{SourceValue}
 use Rattle.id_meaning.specs.declared.SourceFault.{SourceFault}
@@ -7,6 +7,7 @@ use Rattle.id_meaning.specs.Sources.{Source, AreInputs, source}
 use Rattle.id_meaning.specs.Inputs.{AreInputsOf}
 use Rattle.id_meaning.specs.Rounds.{Answers, IsAnswer, Faulty, FaultFree}
 use Rattle.id_meaning.specs.Names.{AreNames, AreSomeNames}
+use Rattle.id_meaning.specs.Orders.{NamesRise}
 use Rattle.id_build.specs.Schemas.{Schemas}
 use Rattle.id_build.specs.Rows.{size}
 use Rattle.id_graph.specs.Graph.{Parts}
@@ -19,7 +20,7 @@ use Rattle.id_print.specs.declared.report.Ending.{Ending}
 use Rattle.id_print.specs.declared.report.Ending.TheVariants.{Quiet, Stopped, Fault}
 use Rattle.id_print.specs.declared.report.Report.{Report}
 use Rattle.id_print.specs.Endings.{EndsSo}
-use Rattle.id_print.specs.Names.{IsSortedOf}
+use Rattle.id_print.specs.Names.{IsSortedOf, AreApart}
 use Rattle.id_meaning.specs.Computed.{HasMoreFacts}
 use Rattle.id_engine.specs.declared.compiled.CompileError.{CompileError}
 use Rattle.id_engine.specs.declared.compiled.CompileError.TheVariants as compiler
@@ -44,6 +45,14 @@ SaysTruly S b r (Fault f) = Faulty S f
 pub record IsTrueOf (S : Source) (b : Bool) (r : Report) : Type 0 where
   pub says : SaysTruly S b r r.ending
   pub names : AreSomeNames S r.names
+
+-- the report is what the machine shows, with names where they are asked for
+pub record IsReportFrom (m : MachineView) (b : Bool) (r : Report) : Type 0 where
+  pub answer_is : r.answer ≡ answer m.world
+  pub sorted : IsTrue b → IsSortedOf r.names (names m.graph m.world)
+  pub rise : IsTrue b → AreApart (names m.graph m.world) → NamesRise r.names
+  pub none : IsFalse b → r.names ≡ []
+  pub ends : EndsSo m r.ending
 
 -- deliveries at these positions, from this state, have come to an end: at a fault, or where all messages left are held back
 pub data HasEnded (g : Parts) (steps : ℕ) (w : World) (ks : List ℕ) : Type 0 where

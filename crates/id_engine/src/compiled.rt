@@ -3,8 +3,10 @@
 ghost use Rattle.std.specs.Prelude.{◌≡◌, ◌<◌, ◌≤◌, length, IfErr, IfOk, OnOk};
 ghost use Rattle.id_build.specs.Rows.{size};
 ghost use Rattle.id_build.specs.Schemas.{Schemas};
+ghost use Rattle.id_tree.specs.Distinct.{Distinct};
+ghost use Rattle.id_tree.specs.Tree.{program_tree};
 ghost use Rattle.id_valid.specs.Validator.{TellsFault};
-ghost use Rattle.id_engine.specs.Programs.{HasProgram, IsProgramOf, IsPlacedWithin, IsRefusedBy};
+ghost use Rattle.id_engine.specs.Programs.{ArePlacedWithin, HasProgram, IsProgramOf, IsPlacedWithin, IsRefusedBy, IsTreeOf};
 ghost use Rattle.id_engine.specs.Reports.{IsRefusedGraph};
 ghost use Rattle.id_engine.specs.Refusals.{IsCauseInside};
 
@@ -13,7 +15,7 @@ use id_check::{CheckCause, Checked, check};
 use id_desugar::regions;
 use id_graph::Graph;
 use id_text::{TextError, lex};
-use id_tree::{TreeError, parse};
+use id_tree::{Program, TreeError, parse};
 use id_valid::{Invalid, InvalidCause, Valid, validate};
 use std::alloc::Global;
 use std::marker::Model;
@@ -87,10 +89,11 @@ fn invalid_error(checked: &Checked, invalid: &Invalid) -> CompileError
     }
 }
 
-/// The checked program of a text.
-fn checked_program(alloc: Global, text: &str) -> Result<Checked, CompileError>
-    ensures program { IfOk result (IsProgramOf text.now) }
-    ensures within { IfOk result (IsPlacedWithin (length text.now)) }
+/// The tree of a text.
+fn tree_of(alloc: Global, text: &str) -> Result<Program, CompileError>
+    ensures tree { IfOk result (IsTreeOf text.now) }
+    ensures distinct { IfOk result (λ p. Distinct (program_tree p)) }
+    ensures within { IfOk result (ArePlacedWithin (length text.now)) }
     ensures short { OnOk result (length text.now ≤ 1048576) }
     ensures refused { IfErr result (IsRefusedBy text.now) }
     ensures inside { IfErr result (IsCauseInside text.now) }
@@ -99,11 +102,21 @@ fn checked_program(alloc: Global, text: &str) -> Result<Checked, CompileError>
         Ok(tokens) => tokens,
         Err(error) => return Err(CompileError::Text(error)),
     };
-    let program = match parse(alloc, tokens.as_slice()) {
-        Ok(program) => program,
-        Err(error) => return Err(CompileError::Tree(error)),
-    };
-    drop(tokens);
+    match parse(alloc, tokens.as_slice()) {
+        Ok(program) => Ok(program),
+        Err(error) => Err(CompileError::Tree(error)),
+    }
+}
+
+/// The checked program of a text.
+fn checked_program(alloc: Global, text: &str) -> Result<Checked, CompileError>
+    ensures program { IfOk result (IsProgramOf text.now) }
+    ensures within { IfOk result (IsPlacedWithin (length text.now)) }
+    ensures short { OnOk result (length text.now ≤ 1048576) }
+    ensures refused { IfErr result (IsRefusedBy text.now) }
+    ensures inside { IfErr result (IsCauseInside text.now) }
+{
+    let program = tree_of(alloc, text)?;
     match check(alloc, program) {
         Ok(checked) => Ok(checked),
         Err(error) => Err(CompileError::Check(error.cause)),

@@ -1,6 +1,6 @@
 //! A text with its inputs.
 
-ghost use Rattle.std.specs.Prelude.{◌≢◌, ◌≤◌, length, map, IfOk, IfErr, OnOk};
+ghost use Rattle.std.specs.Prelude.{◌≡◌, ◌≢◌, ◌≤◌, length, map, IfOk, IfErr, OnOk};
 ghost use Rattle.id_meaning.specs.Sources.{AreInputs};
 ghost use Rattle.id_meaning.specs.Inputs.{AreInputsOf};
 ghost use Rattle.id_build.specs.Rows.{size};
@@ -39,6 +39,19 @@ fn inputs_of(alloc: Global, checked: &Checked, words: &[&str]) -> Result<Inputs,
     }
 }
 
+/// A program with its graph and the inputs that these words give it.
+fn with_inputs(alloc: Global, compiled: Compiled, words: &[&str]) -> Result<Prepared, EngineError>
+    ensures same { IfOk result (λ p. p.compiled ≡ compiled) }
+    ensures inputs { IfOk result (λ p. AreInputsOf p.compiled.checked (map (λ w. w.now) words.now) p.inputs.values) }
+    ensures own { IfOk result (λ p. AreInputs p.compiled.checked p.inputs.values) }
+    ensures refused { IfErr result (AreRefusedFor compiled.checked (map (λ w. w.now) words.now)) }
+{
+    match inputs_of(alloc, compiled.checked(), words) {
+        Ok(inputs) => Ok(Prepared { compiled, inputs }),
+        Err(error) => Err(error),
+    }
+}
+
 /// The program of a text, its graph, and the inputs that the words give it; or why there are none.
 pub fn prepare(alloc: Global, text: &str, words: &[&str]) -> Result<Prepared, EngineError>
     ensures program { IfOk result (λ p. IsProgramOf text.now p.compiled.checked) }
@@ -54,12 +67,8 @@ pub fn prepare(alloc: Global, text: &str, words: &[&str]) -> Result<Prepared, En
     ensures inside { IfErr result (IsInsideOf text.now) }
     ensures not_write { IfErr result (λ e. e ≢ EngineError.Write) }
 {
-    let compiled = match compile(alloc, text) {
-        Ok(compiled) => compiled,
-        Err(error) => return Err(EngineError::Compile(error)),
-    };
-    match inputs_of(alloc, compiled.checked(), words) {
-        Ok(inputs) => Ok(Prepared { compiled, inputs }),
-        Err(error) => Err(error),
+    match compile(alloc, text) {
+        Ok(compiled) => with_inputs(alloc, compiled, words),
+        Err(error) => Err(EngineError::Compile(error)),
     }
 }

@@ -39,7 +39,7 @@ pub enum Cause {
     Duplicate,
     /// A name without binder: `x`
     Unknown,
-    /// A call with another number of arguments than its procedure has parameters: no text brings it yet.
+    /// A call with another number of arguments than its procedure has parameters: `main(1)`, where `main` has none.
     WrongCount,
     /// An expression of another kind than is wanted: `true`, where `main` is an int.
     WrongKind,

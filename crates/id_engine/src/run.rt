@@ -7,7 +7,7 @@ ghost use Rattle.id_meaning.specs.Sources.{AreInputs, source};
 ghost use Rattle.id_print.specs.Within.{ReportWithin};
 ghost use Rattle.id_engine.specs.Commands.{Run, ShowsAll, ShowsFront};
 ghost use Rattle.id_engine.specs.Refusals.{IsInsideOf, IsRefusedRun, IsTakenRun};
-ghost use Rattle.id_engine.specs.Reports.{AreRefusedSteps, Delivers, IsAtRest, HasRun, IsFreshMachine, IsReportOf, IsReportOfRun, IsTrueOf, status_of};
+ghost use Rattle.id_engine.specs.Reports.{AreRefusedSteps, Delivers, IsAtRest, HasRun, IsFreshMachine, IsReportFrom, IsReportOf, IsReportOfRun, IsTrueOf, status_of};
 ghost use Rattle.id_engine.specs.Runs.{Ran};
 
 use crate::error::EngineError;
@@ -95,6 +95,23 @@ fn run_machine(machine: &mut Machine<'_>, steps: u64) -> Result<(), EngineError>
     Ok(())
 }
 
+/// The report of a fresh machine's run, with what names have where that is asked for.
+fn machine_report(
+    alloc: Global,
+    machine: &mut Machine<'_>,
+    steps: u64,
+    named: bool,
+) -> Result<Report, EngineError>
+    requires { IsFreshMachine machine.old }
+    ensures run { OnOk result (HasRun machine.old machine.new steps) }
+    ensures report { IfOk result (IsReportFrom machine.new named) }
+    ensures memory { IfErr result (λ e. e ≡ EngineError.Memory) }
+{
+    run_machine(machine, steps)?;
+    let report = run_report(alloc, machine, named)?;
+    Ok(report)
+}
+
 /// The report of a run of a compiled program with its inputs, with what names have where that is asked for.
 fn run_prepared(
     alloc: Global,
@@ -114,9 +131,7 @@ fn run_prepared(
     id_laws::inputs_fit();
     id_laws::never_stuck();
     let mut machine = machine_of(alloc, prepared.compiled.valid(), &prepared.inputs)?;
-    run_machine(&mut machine, steps)?;
-    let report = run_report(alloc, &machine, named)?;
-    Ok(report)
+    machine_report(alloc, &mut machine, steps, named)
 }
 
 /// The report of a run of a text on these input words, with what names have where that is asked for.
