@@ -2,7 +2,7 @@
 use Rattle.std.proofs.Common.{◌≡◌, ◌∙◌, ◌<◌, ◌≤◌, ap, sym, refl, arith, rules}
 use Rattle.std.proofs.lemmas.Grind.{common_steps}
 use Rattle.std.proofs.lemmas.Result.{err_from_is_err_and, IfOk-weaker, IfErr-weaker}
-use Rattle.id_text.specs.declared.token.TokenKind.TheVariants.{Name, Key, Sign}
+use Rattle.id_text.specs.declared.token.TokenKind.TheVariants.{Name, Key, Sign, End}
 use Rattle.id_text.specs.declared.token.Symbol.TheVariants.{Minus, LeftParen, RightParen, Comma}
 use Rattle.id_text.specs.declared.token.Keyword.TheVariants.{If, Not}
 use Rattle.id_tree.specs.declared.parser.Level.TheVariants as level
@@ -10,9 +10,13 @@ use Rattle.id_tree.specs.Grammar.{Expression, Grouped, Negation, Unary}
 use Rattle.id_tree.specs.Readers.{first_kind, truth_in, IsRead, IsGathered, Leads, Fails, Applies, Misapplies}
 use Rattle.id_tree.specs.Tree.{tree_of}
 use Rattle.id_tree.proofs.ReaderLemmas.{IsRead-then, Level-begins, Level-grows, Level-grown, Level-fails, Level-stunts, Level-ends, Right-deep, Right-fails, Right-grows, At-conditional, At-parens, At-part, At-word, At-enclosed, Leads-done, Leads-at, Fails-deep, Fails-part, Fails-word, Fails-enclosed, IsPrefix-begins, Prefix-deep, Prefix-fails, Prefix-leads, Encloses-done, Exposes-word, Exposes-part, opens_negated, opens_denied, opens_conditional, opens_parens, Expression-leads, Expression-fails, Negation-leads, Negation-fails, At-opens, opens_number, opens_truth, Unary-fails, unopened, untrue}
-use Rattle.id_tree.proofs.CallLemmas.{IsRead-named, Leads-named, Fails-named, Applies-name, Applies-call, Misapplies-call, Leads-unpassed, Hands-first, Fails-argument, Hands-add, Fails-added, Leads-passed, Fails-passed, IsRead-add, Fails-full}
+use Rattle.id_tree.proofs.CallLemmas.{IsRead-named, Leads-named, Fails-named, Applies-name, Applies-call, Misapplies-call, Leads-unpassed, Hands-first, Fails-argument, Hands-add, Fails-added, Leads-passed, Fails-passed, IsGathered-passed, IsGathered-unpassed, IsRead-add, Fails-full}
 use Rattle.id_tree.proofs.BlockLemmas.{opens_block, At-block, Encloses-tail, Exposes-tail, At-binding, Fails-tail, Adds-done, IsGathered-add, Gathers-none, Gathers-add, Fails-gathered, Leads-gathered, Leads-body, Fails-body}
 use Rattle.id_tree.proofs.parser.+expr.Goals as goal
+
+-- behind the closing bracket the list goes on
+no_end : Sign RightParen ≡ End → ⊥
+no_end e = cc
 
 pub parse_expression-returns-else-begins_with-clause-ok : goal.parse_expression-returns-else-begins_with-clause-ok
 parse_expression-returns-else-begins_with-clause-ok t c =
@@ -400,6 +404,19 @@ pub parse_named-returns-in_ok-args-clause-ok : goal.parse_named-returns-in_ok-ar
 parse_named-returns-in_ok-args-clause-ok t c =
     let is : first_kind c.args.tokens.now ≡ Sign LeftParen = search rules in
     Applies-call c.split.ensures.whole is c.args.depth c.args.x c.args.place c.in_ok-args.ensures.ok c.call.ensures.tree c.call.ensures.height
+
+pub parse_arguments-returns-then-is_sign-clause-read : goal.parse_arguments-returns-then-is_sign-clause-read
+parse_arguments-returns-then-is_sign-clause-read t c =
+    let is : c.split.result.0.now.kind ≡ Sign RightParen = search rules in
+    IsGathered-unpassed c.args.depth c.requires.room c.split.ensures.whole (c.split.ensures.ends (λ q. no_end (sym is ∙ q)))
+
+pub parse_arguments-returns-then-is_sign-2-clause-read : goal.parse_arguments-returns-then-is_sign-2-clause-read
+parse_arguments-returns-then-is_sign-2-clause-read t c =
+    let is : c.split-2.result.0.now.kind ≡ Sign RightParen = search rules in
+    IsGathered-passed c.in_ok-args.ensures.read c.split-2.ensures.whole (c.split-2.ensures.ends (λ q. no_end (sym is ∙ q)))
+
+pub parse_some_arguments-arguments-smaller : goal.parse_some_arguments-arguments-smaller
+parse_some_arguments-arguments-smaller t c = grind (arith, common_steps)
 
 pub parse_arguments-returns-then-is_sign-clause-ok : goal.parse_arguments-returns-then-is_sign-clause-ok
 parse_arguments-returns-then-is_sign-clause-ok t c =
