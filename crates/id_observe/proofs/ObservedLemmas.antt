@@ -122,3 +122,26 @@ pub marks-next : (g : Parts) (is : List Instr) (k : ℕ) (i : Instr) (m : Bool) 
 marks-next g is k i m at mark =
     ap (map (λ j. is_label_of g (Some j))) (take-next is k i at) ∙ map-append (λ j. is_label_of g (Some j)) (take k is) (i ∷ [])
     ∙ ap (λ b. map (λ j. is_label_of g (Some j)) (take k is) ++ b ∷ []) (sym mark)
+
+-- where what stands in an element is known, there is such an element
+pub element-from_part : {A B : Type 0} (f : A → B) (o : Option A) (y : B) → option_map f o ≡ Some y → (x : A) × (o ≡ Some x) × (f x ≡ y)
+element-from_part f None y is = cc
+element-from_part f (Some x) y is = let same : f x ≡ y = cc in (x, refl, same)
+
+-- what is found in a part of an element is found in the element
+pub filter_map-found_part : {A B C : Type 0} (f : A → C) (h : C → Option B) (xs : List A) (i : ℕ) (y : C) (o : Option B) → option_map f (slice_get xs i) ≡ Some y → filter_map (λ x. h (f x)) (take i xs) ≡ [] → h y ≡ o → is_some o ≡ true → o ≡ slice_get (filter_map (λ x. h (f x)) xs) 0
+filter_map-found_part f h xs i y o at before gives found =
+    let there = element-from_part f (slice_get xs i) y at in
+    filter_map-found (λ x. h (f x)) xs i there.0 o there.1 before (ap h there.2 ∙ gives) found
+
+-- nothing yet, and nothing in a part of one more
+pub filter_map-nothing_part : {A B C : Type 0} (f : A → C) (h : C → Option B) (xs : List A) (i : ℕ) (y : C) (o : Option B) → option_map f (slice_get xs i) ≡ Some y → filter_map (λ x. h (f x)) (take i xs) ≡ [] → h y ≡ o → is_some o ≡ false → filter_map (λ x. h (f x)) (take (i + 1) xs) ≡ []
+filter_map-nothing_part f h xs i y o at before gives missed =
+    let there = element-from_part f (slice_get xs i) y at in
+    filter_map-nothing (λ x. h (f x)) xs i there.0 o there.1 before (ap h there.2 ∙ gives) missed
+
+-- a walk goes on by what a part of one element gives
+pub filter_map-next_part : {A B C : Type 0} (f : A → C) (h : C → Option B) (xs : List A) (i : ℕ) (y : C) → option_map f (slice_get xs i) ≡ Some y → filter_map (λ x. h (f x)) (take (i + 1) xs) ≡ filter_map (λ x. h (f x)) (take i xs) ++ cons_option (h y) []
+filter_map-next_part f h xs i y at =
+    let there = element-from_part f (slice_get xs i) y at in
+    filter_map-next (λ x. h (f x)) xs i there.0 there.1 ∙ ap (λ z. filter_map (λ x. h (f x)) (take i xs) ++ cons_option (h z) []) there.2

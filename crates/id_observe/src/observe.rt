@@ -134,8 +134,8 @@ fn add_names(
     ensures { OnOk result (names.new.items ≡ names.old.items ++ names_of paths.now.graph.now (path_by paths.now) events.now) }
 {
     for position in 0..events.len() {
-        let event = events.event(position);
-        add_name(name_in(alloc, paths, marks, &event.message.payload)?, names)?;
+        let payload = events.payload(position);
+        add_name(name_in(alloc, paths, marks, &payload)?, names)?;
     }
     Ok(())
 }
@@ -235,8 +235,8 @@ fn first_answer(events: &Events<'_>) -> Option<Value>
     ensures { result ≡ slice_get (answers events.now) 0 }
 {
     for position in 0..events.len() {
-        let event = events.event(position);
-        let value = brought(&event.message.payload);
+        let payload = events.payload(position);
+        let value = brought(&payload);
         if value.is_some() {
             return value;
         }

@@ -7,7 +7,7 @@ ghost use Rattle.id_record.specs.Records.{dests_at};
 ghost use Rattle.id_valid.specs.Roles.{op_at};
 ghost use Rattle.id_graph.specs.Graph.{IsGraph};
 
-use crate::line::{Handled, Line, line_aside, packed, unpack};
+use crate::line::{Handled, Line, line_aside, packed, payload_in, unpack};
 use crate::outputs::{Envelope, Outputs, chosen};
 use crate::step::{Fault, Step, Verdict};
 use id_graph::{Dest, Graph, Op};
@@ -71,7 +71,7 @@ impl<'a> Model for Events<'a> {
 }
 
 impl<'a> Record<'a> {
-    ghost use Rattle.std.specs.Prelude.{◌≡◌, ◌<◌, ◌≤◌, ◌++◌, ◌∷◌, [], length, slice_get, Some, OnOk};
+    ghost use Rattle.std.specs.Prelude.{◌≡◌, ◌<◌, ◌≤◌, ◌++◌, ◌∷◌, [], length, option_map, slice_get, Some, OnOk};
     ghost use Rattle.id_record.specs.Records.{event_of_handled};
 
     /// The empty record of the element of this number. Takes no memory.
@@ -147,6 +147,14 @@ impl<'a> Record<'a> {
         self.lines.len()
     }
 
+    fn payload(&self, position: usize) -> Payload
+        requires { position < length self.now.events }
+        ensures { option_map (λ e. e.message.payload) (slice_get self.now.events position) ≡ Some result }
+    {
+        let line = &self.lines[position];
+        payload_in(self.asides.as_slice(), line)
+    }
+
     fn event(&self, position: usize) -> Event<'a>
         requires { position < length self.now.events }
         ensures { slice_get self.now.events position ≡ Some (record {
@@ -183,13 +191,21 @@ impl<'a> Record<'a> {
 }
 
 impl<'a> Events<'a> {
-    ghost use Rattle.std.specs.Prelude.{◌≡◌, ◌<◌, length, slice_get, Some};
+    ghost use Rattle.std.specs.Prelude.{◌≡◌, ◌<◌, length, option_map, slice_get, Some};
 
     /// How many events there are. Takes no memory.
     pub fn len(&self) -> usize
         ensures { result ≡ length self.now }
     {
         self.record.len()
+    }
+
+    /// What the message of the event at a position says, without the rest of the event. Takes no memory.
+    pub fn payload(&self, position: usize) -> Payload
+        requires { position < length self.now }
+        ensures { option_map (λ e. e.message.payload) (slice_get self.now position) ≡ Some result }
+    {
+        self.record.payload(position)
     }
 
     /// The event at a position, from 0. Takes no memory.

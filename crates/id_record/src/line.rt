@@ -129,6 +129,19 @@ pub(crate) fn unpack(asides: &[Handled], line: &Line) -> Handled
     }
 }
 
+/// What the message of a line says.
+pub(crate) fn payload_in(asides: &[Handled], line: &Line) -> Payload
+    requires { IsWithin asides.now line.now }
+    ensures { result ≡ (unpacked asides.now line.now).message.payload }
+{
+    match line.carried {
+        Carried::Signal => own_payload(line, Value::Signal),
+        Carried::Int(number) => own_payload(line, Value::Int(number)),
+        Carried::Bool(truth) => own_payload(line, Value::Bool(truth)),
+        Carried::Aside(index) => asides[index].message.payload,
+    }
+}
+
 /// A value that a line has room for.
 fn carry(value: Value) -> Option<Carried>
     ensures { result ≡ carried_of value }
@@ -257,18 +270,7 @@ fn own(line: &Line, value: Value) -> Handled
 {
     Handled {
         message: Message {
-            payload: Payload::Token {
-                tag: Tag {
-                    context: Context {
-                        element: line.element,
-                        serial: u64::from(line.serial),
-                    },
-                    iteration: u64::from(line.iteration),
-                    instr: line.instr,
-                },
-                port: line.port,
-                value,
-            },
+            payload: own_payload(line, value),
             sender: sender(line),
             position: line.position as usize,
             output: usize::from(line.output),
@@ -276,6 +278,24 @@ fn own(line: &Line, value: Value) -> Handled
         },
         stamp: u64::from(line.stamp),
         reaction: reaction_in(line),
+    }
+}
+
+/// What the message says of a line that carries this value.
+fn own_payload(line: &Line, value: Value) -> Payload
+    ensures { result ≡ (own line.now value).message.payload }
+{
+    Payload::Token {
+        tag: Tag {
+            context: Context {
+                element: line.element,
+                serial: u64::from(line.serial),
+            },
+            iteration: u64::from(line.iteration),
+            instr: line.instr,
+        },
+        port: line.port,
+        value,
     }
 }
 

@@ -99,12 +99,20 @@ pub fn route(message: &Message, count: u32) -> u32
     }
 }
 
-// 128 bits hold the sum of any three such numbers.
+// 128 bits hold the sum of any three such numbers, and mostly 64 bits do.
 fn route_tag(tag: Tag, count: u32) -> u32
     requires { 0 < count }
     ensures exact { result ≡ tag_route tag count }
     ensures below { result < count }
 {
+    if count == 1 {
+        return 0;
+    }
     let made = u128::from(tag.context.element) + u128::from(tag.context.serial);
-    ((made + u128::from(tag.iteration)) % u128::from(count)) as u32
+    let sum = made + u128::from(tag.iteration);
+    if sum <= u128::from(u64::MAX) {
+        (sum as u64 % u64::from(count)) as u32
+    } else {
+        (sum % u128::from(count)) as u32
+    }
 }
