@@ -1,5 +1,5 @@
 -- Lemmas on specs/Lines.antt and specs/Records.antt: a record goes on by one event.
-use Rattle.std.proofs.Common.{◌≡◌, ℕ, zero, suc, ◌+◌, ◌<◌, List, [], ◌∷◌, ◌++◌, Some, length, refl, sym, ap, subst, ◌∙◌, length-append, get_or, arith}
+use Rattle.std.proofs.Common.{◌≡◌, ℕ, zero, suc, pos, ◌+◌, ◌<◌, List, [], ◌∷◌, ◌++◌, Option, None, Some, IfSome, length, refl, sym, ap, subst, ◌∙◌, length-append, get_or, arith}
 use Rattle.std.specs.Prelude.{All, slice_get, option_map}
 use Rattle.std.specs.List.{AllByRecursion}
 use Rattle.std.proofs.lemmas.List.{get_or_append_left}
@@ -8,17 +8,21 @@ use Rattle.std.proofs.lemmas.Option.{get_or_from_slice_get, slice_get_read}
 use Rattle.std.specs.Option.{option_map_or}
 use Rattle.id_graph.specs.declared.instr.Instr.{Instr}
 use Rattle.id_graph.specs.Graph.{Parts, arcs_on}
+use Rattle.id_ops.specs.declared.Fired.{Fired}
+use Rattle.id_ops.specs.declared.Fired.TheVariants as fired
 use Rattle.id_ops.specs.Operators.{side_of}
 use Rattle.id_tag.specs.declared.Message.{Message}
 use Rattle.id_tag.specs.declared.Tag.{Tag}
+use Rattle.id_tag.specs.declared.Value.{Value}
 use Rattle.id_tag.specs.declared.Value.TheVariants as value
 use Rattle.id_record.specs.declared.line.Handled.{Handled}
 use Rattle.id_record.specs.declared.line.Line.{Line}
 use Rattle.id_record.specs.declared.line.Carried.{Carried}
-use Rattle.id_record.specs.declared.line.Carried.TheVariants.{Signal, Int, Bool as Truth, Aside}
+use Rattle.id_record.specs.declared.line.Effect.{Effect}
+use Rattle.id_record.specs.declared.line.Carried.TheVariants.{Signal, Int, Bool as Truth, Context as InContext, Continuation as Continues, Aside}
 use Rattle.id_record.specs.Events.{EventView, full_step, tag_of}
 use Rattle.id_record.specs.Sends.{numbered, sent}
-use Rattle.id_record.specs.Lines.{IsPacked, IsThere, IsWithin, own, read, unpacked}
+use Rattle.id_record.specs.Lines.{IsPacked, IsThere, IsWithin, Names, carried_value, exit_of, number_of, own, reaction_of, read, target_in, unpacked, value_of}
 use Rattle.id_record.specs.Records.{event_of_handled, events_from}
 use Rattle.id_record.proofs.EachLemmas.{each-append, each-weaker, each-get}
 
@@ -50,12 +54,16 @@ read-append : (asides more : List Handled) (l : Line) (c : Carried) → IsThere 
 read-append asides more l Signal there = refl
 read-append asides more l (Int n) there = refl
 read-append asides more l (Truth b) there = refl
+read-append asides more l (InContext e n) there = refl
+read-append asides more l Continues there = refl
 read-append asides more l (Aside i) there = grind (arith, get_or_append_left)
 
 there-append : (asides more : List Handled) (c : Carried) → IsThere asides c → IsThere (asides ++ more) c
 there-append asides more Signal there = tt
 there-append asides more (Int n) there = tt
 there-append asides more (Truth b) there = tt
+there-append asides more (InContext e n) there = tt
+there-append asides more Continues there = tt
 there-append asides more (Aside i) there = omega (arith, length-append asides more)
 
 events_from-append : (g : Parts) (n k : ℕ) (asides more : List Handled) (ls : List Line) → AllByRecursion (IsWithin asides) ls → events_from g n k (asides ++ more) ls ≡ events_from g n k asides ls
@@ -123,3 +131,88 @@ event_at_instr g n k h i t there tag =
     let b = side_of h.reaction.fired in
     ap (λ o. event (numbered n k h.stamp 0 (sent (option_map (λ j. j.op) o) (option_map_or (arcs_on b) o []) (tag_of h.message.payload) h.reaction.fired))) there
     ∙ ap (λ u. event (numbered n k h.stamp 0 (sent (Some i.op) (arcs_on b i) u h.reaction.fired))) (sym tag)
+
+-- the line names the tag
+target-line : (t : Tag) (l : Line) → l.to_element ≡ t.context.element → l.to_iteration ≡ t.iteration → l.to_instr ≡ t.instr → l.result ≡ pos t.context.serial → target_in l ≡ t
+target-line t l element iteration instr result = rw (element, iteration, instr, result) refl
+
+-- what an event names is named by its line
+pub names-line : (f : Fired) (v : Value) (t : Tag) (l : Line) → Names f v t → l.to_element ≡ t.context.element → l.to_iteration ≡ t.iteration → l.to_instr ≡ t.instr → l.result ≡ number_of f t.context.serial → Names f v (target_in l)
+names-line (fired.Out w) v t l names element iteration instr result = tt
+names-line (fired.Side b w) v t l names element iteration instr result = tt
+names-line (fired.Entered c) v t l names element iteration instr result = ap (λ u. u.context) (target-line t l element iteration instr result) ∙ names
+names-line (fired.Sent u w) v t l names element iteration instr result = target-line t l element iteration instr result ∙ names
+names-line (fired.Failed f) v t l names element iteration instr result = tt
+names-line fired.Nothing value.Signal t l names element iteration instr result = tt
+names-line fired.Nothing (value.Int n) t l names element iteration instr result = tt
+names-line fired.Nothing (value.Bool b) t l names element iteration instr result = tt
+names-line fired.Nothing (value.Context c) t l names element iteration instr result = tt
+names-line fired.Nothing (value.Continuation u) t l names element iteration instr result = target-line t l element iteration instr result ∙ names
+
+-- the number is the same, where the serial number is that of the line
+number-line : (f : Fired) (t : Tag) (l : Line) → l.result ≡ number_of f t.context.serial → l.result ≡ number_of f (target_in l).context.serial
+number-line (fired.Out w) t l result = result
+number-line (fired.Side b w) t l result = result
+number-line (fired.Entered c) t l result = rw result refl
+number-line (fired.Sent u w) t l result = rw result refl
+number-line (fired.Failed f) t l result = rw result refl
+number-line fired.Nothing t l result = rw result refl
+
+-- a line that carries a value is read as one that does
+read-carried : (asides : List Handled) (l : Line) (c : Carried) (v : Value) → carried_value (target_in l) c ≡ Some v → read asides l c ≡ own l v
+read-carried asides l Signal v is = let same : value.Signal ≡ v = cc in ap (own l) same
+read-carried asides l (Int n) v is = let same : value.Int n ≡ v = cc in ap (own l) same
+read-carried asides l (Truth b) v is = let same : value.Bool b ≡ v = cc in ap (own l) same
+read-carried asides l (InContext e n) v is = let same : value.Context (record { element = e; serial = n }) ≡ v = cc in ap (own l) same
+read-carried asides l Continues v is = let same : value.Continuation (target_in l) ≡ v = cc in ap (own l) same
+read-carried asides l (Aside i) v is = cc
+
+there-carried : (asides : List Handled) (t : Tag) (c : Carried) (v : Value) → carried_value t c ≡ Some v → IsThere asides c
+there-carried asides t Signal v is = tt
+there-carried asides t (Int n) v is = tt
+there-carried asides t (Truth b) v is = tt
+there-carried asides t (InContext e n) v is = tt
+there-carried asides t Continues v is = tt
+there-carried asides t (Aside i) v is = cc
+
+-- an event stands in a line of its value, its numbers and its reaction
+pub packed-line : (e : Handled) (l : Line) (t : Tag) → Names e.reaction.fired (value_of e.message.payload) t
+    → ((u : Tag) → Names e.reaction.fired (value_of e.message.payload) u → carried_value u l.carried ≡ Some (value_of e.message.payload))
+    → ((u : Tag) → Names e.reaction.fired (value_of e.message.payload) u → reaction_of l.effect (exit_of e.reaction.fired) (number_of e.reaction.fired u.context.serial) u (value_of e.message.payload) ≡ e.reaction)
+    → l.exit ≡ exit_of e.reaction.fired → l.result ≡ number_of e.reaction.fired t.context.serial
+    → l.to_element ≡ t.context.element → l.to_iteration ≡ t.iteration → l.to_instr ≡ t.instr
+    → (own l (value_of e.message.payload)).message ≡ e.message → l.stamp ≡ e.stamp → IsPacked e l
+packed-line e l t names carried effect exit result element iteration instr message stamp =
+    let v = value_of e.message.payload in
+    let f = e.reaction.fired in
+    let u = target_in l in
+    let named : Names f v u = names-line f v t l names element iteration instr result in
+    let reaction : reaction_of l.effect l.exit l.result u v ≡ e.reaction =
+    ap (λ x. reaction_of l.effect x l.result u v) exit
+    ∙ ap (λ n. reaction_of l.effect (exit_of f) n u v) (number-line f t l result)
+    ∙ effect u named in
+    let whole : own l v ≡ e =
+    ap (λ m. record { message = m; stamp = l.stamp; reaction = reaction_of l.effect l.exit l.result u v }) message
+    ∙ ap (λ s. record { message = e.message; stamp = s; reaction = reaction_of l.effect l.exit l.result u v }) stamp
+    ∙ ap (λ r. record { message = e.message; stamp = e.stamp; reaction = r }) reaction in
+    record {
+      is = λ asides. read-carried asides l l.carried v (carried u named) ∙ whole;
+      within = λ asides. there-carried asides u l.carried v (carried u named);
+    }
+
+pub packed-narrowed : (e : Handled) (v : Value) (c : Carried) (x : Effect) (t : Tag) (o : Option Line) → v ≡ value_of e.message.payload → Names e.reaction.fired v t
+    → ((u : Tag) → Names e.reaction.fired v u → carried_value u c ≡ Some v)
+    → ((u : Tag) → Names e.reaction.fired v u → reaction_of x (exit_of e.reaction.fired) (number_of e.reaction.fired u.context.serial) u v ≡ e.reaction)
+    → IfSome o (λ l. l.carried ≡ c) → IfSome o (λ l. l.effect ≡ x) → IfSome o (λ l. l.exit ≡ exit_of e.reaction.fired) → IfSome o (λ l. l.result ≡ number_of e.reaction.fired t.context.serial)
+    → IfSome o (λ l. l.to_element ≡ t.context.element) → IfSome o (λ l. l.to_iteration ≡ t.iteration) → IfSome o (λ l. l.to_instr ≡ t.instr)
+    → IfSome o (λ l. (own l (value_of e.message.payload)).message ≡ e.message) → IfSome o (λ l. l.stamp ≡ e.stamp) → IfSome o (λ l. IsPacked e l)
+packed-narrowed e v c x t None same names carried effect is_carried is_effect exit result element iteration instr message stamp = tt
+packed-narrowed e v c x t (Some l) same names carried effect is_carried is_effect exit result element iteration instr message stamp =
+    let f = e.reaction.fired in
+    let holds : (u : Tag) → Names f v u → carried_value u l.carried ≡ Some v = λ u n. ap (carried_value u) is_carried ∙ carried u n in
+    let does : (u : Tag) → Names f v u → reaction_of l.effect (exit_of f) (number_of f u.context.serial) u v ≡ e.reaction =
+    λ u n. ap (λ y. reaction_of y (exit_of f) (number_of f u.context.serial) u v) is_effect ∙ effect u n in
+    packed-line e l t (subst (λ w. Names f w t) same names)
+    (subst (λ w. (u : Tag) → Names f w u → carried_value u l.carried ≡ Some w) same holds)
+    (subst (λ w. (u : Tag) → Names f w u → reaction_of l.effect (exit_of f) (number_of f u.context.serial) u w ≡ e.reaction) same does)
+    exit result element iteration instr message stamp

@@ -1,16 +1,19 @@
 //! How the record keeps an event: in one line of 64 bytes, or aside where it does not fit in one.
 
 ghost use Rattle.std.specs.Prelude.{◌≡◌, Some, IfSome};
+ghost use Rattle.id_tag.specs.declared.Tag.{Tag};
+ghost use Rattle.id_tag.specs.declared.Value.{Value};
 ghost use Rattle.id_ops.specs.declared.Fired.TheVariants as firings;
+ghost use Rattle.id_tag.specs.declared.Value.TheVariants as value;
 ghost use Rattle.id_record.specs.declared.step.Verdict.TheVariants.{Went, Failed};
 ghost use Rattle.id_record.specs.declared.line.Carried.TheVariants.{Aside};
 ghost use Rattle.id_record.specs.declared.line.Exit.{Exit};
-ghost use Rattle.id_record.specs.Lines.{IsPacked, IsWithin, carried_of, exit_of, fired_at, number_in, number_of, own};
-ghost use Rattle.id_record.specs.Lines.{reaction_of, sender_of, unpacked, value_of};
+ghost use Rattle.id_record.specs.Lines.{IsPacked, IsWithin, Names, carried_value, exit_of, fired_at, number_in};
+ghost use Rattle.id_record.specs.Lines.{number_of, own, reaction_of, sender_of, target_in, unpacked, value_of};
 
 use crate::step::Verdict;
 use id_graph::Port;
-use id_ops::Fired;
+use id_ops::{Fired, tag_within};
 use id_tag::{Context, Message, Payload, Sender, Tag, Value};
 use id_value::FaultKind;
 
@@ -29,7 +32,8 @@ pub struct Handled {
     pub reaction: Reaction,
 }
 
-/// A handled message in 64 bytes: most numbers of a run need no more than 32 bits.
+/// A handled message in 64 bytes: most numbers of a run need no more than 32 bits. The tag that the event names beside
+/// that of its message stands in `to_element`, `result`, `to_iteration` and `to_instr`.
 #[derive(Clone, Copy)]
 pub(crate) struct Line {
     carried: Carried,
@@ -39,10 +43,13 @@ pub(crate) struct Line {
     position: u32,
     sent: u32,
     stamp: u32,
-    element: u32,
     instr: u32,
-    sender: u32,
-    output: u16,
+    to_iteration: u32,
+    to_instr: u32,
+    element: u8,
+    to_element: u8,
+    sender: u8,
+    output: u8,
     port: Port,
     started: bool,
     effect: Effect,
@@ -51,12 +58,15 @@ pub(crate) struct Line {
 
 const _: () = prove!(size_of::<Line>() == 64);
 
-/// The value that the message carries, or where the whole event stands aside.
+/// The value that the message carries, or where the whole event stands aside. `Continuation` stands for the tag that
+/// the event names.
 #[derive(Clone, Copy)]
 enum Carried {
     Signal,
     Int(i64),
     Bool(bool),
+    Context(u32, u32),
+    Continuation,
     Aside(usize),
 }
 
@@ -64,10 +74,12 @@ enum Carried {
 #[derive(Clone, Copy)]
 enum Exit {
     Only,
-    On(bool),
+    True,
+    False,
 }
 
-/// What the instruction made of the message; `Int` stands for the result of the line.
+/// What the instruction made of the message; `Int` stands for the result of the line, `Entered` for the context of
+/// the tag that the event names, and `Sent` for sending the message's own value to that tag.
 #[derive(Clone, Copy)]
 enum Effect {
     Stuck,
@@ -78,19 +90,31 @@ enum Effect {
     Int,
     True,
     False,
+    Entered,
+    Sent,
 }
 
 /// The event in a line, where it fits in one.
 pub(crate) fn packed(event: &Handled) -> Option<Line>
     ensures { IfSome result (λ l. IsPacked event.now l) }
 {
-    let carried = match event.message.payload {
-        Payload::Token { value, .. } => carry(value),
-    };
-    match (carried, effect_of(event.reaction)) {
-        (Some(carried), Some(effect)) => narrowed(event, carried, effect),
+    let value = value_of(&event.message.payload);
+    let to = target(value, event.reaction.fired);
+    match (
+        carry(value, event.reaction.fired),
+        effect_of(value, event.reaction),
+    ) {
+        (Some(carried), Some(effect)) => narrowed(event, carried, effect, to),
         _ => None,
     }
+}
+
+/// The value that a payload carries.
+fn value_of(payload: &Payload) -> Value
+    ensures { result ≡ value_of payload.now }
+{
+    let Payload::Token { value, .. } = *payload;
+    value
 }
 
 /// The line of an event that stands aside at this index.
@@ -105,8 +129,11 @@ pub(crate) fn line_aside(index: usize) -> Line
         position: 0,
         sent: 0,
         stamp: 0,
-        element: 0,
         instr: 0,
+        to_iteration: 0,
+        to_instr: 0,
+        element: 0,
+        to_element: 0,
         sender: 0,
         output: 0,
         port: Port::Zero,
@@ -125,6 +152,8 @@ pub(crate) fn unpack(asides: &[Handled], line: &Line) -> Handled
         Carried::Signal => own(line, Value::Signal),
         Carried::Int(number) => own(line, Value::Int(number)),
         Carried::Bool(truth) => own(line, Value::Bool(truth)),
+        Carried::Context(element, serial) => own(line, context_value(element, serial)),
+        Carried::Continuation => own(line, Value::Continuation(target_in(line))),
         Carried::Aside(index) => asides[index],
     }
 }
@@ -138,25 +167,84 @@ pub(crate) fn payload_in(asides: &[Handled], line: &Line) -> Payload
         Carried::Signal => own_payload(line, Value::Signal),
         Carried::Int(number) => own_payload(line, Value::Int(number)),
         Carried::Bool(truth) => own_payload(line, Value::Bool(truth)),
+        Carried::Context(element, serial) => own_payload(line, context_value(element, serial)),
+        Carried::Continuation => own_payload(line, Value::Continuation(target_in(line))),
         Carried::Aside(index) => asides[index].message.payload,
     }
 }
 
-/// A value that a line has room for.
-fn carry(value: Value) -> Option<Carried>
-    ensures { result ≡ carried_of value }
+/// The context of these numbers, as a value.
+fn context_value(element: u32, serial: u32) -> Value
+    ensures { result ≡ value.Context (record { element = element; serial = serial }) }
 {
-    match value {
-        Value::Signal => Some(Carried::Signal),
-        Value::Int(number) => Some(Carried::Int(number)),
-        Value::Bool(truth) => Some(Carried::Bool(truth)),
-        Value::Context(_) | Value::Continuation(_) => None,
+    Value::Context(Context {
+        element,
+        serial: u64::from(serial),
+    })
+}
+
+/// The tag that the event of a line names beside that of its message.
+fn target_in(line: &Line) -> Tag
+    ensures { result ≡ target_in line.now }
+{
+    Tag {
+        context: Context {
+            element: u32::from(line.to_element),
+            serial: line.result.unsigned_abs(),
+        },
+        iteration: u64::from(line.to_iteration),
+        instr: line.to_instr,
     }
 }
 
-/// What the instruction made of the message, where a line has room for it.
-fn effect_of(reaction: Reaction) -> Option<Effect>
-    ensures { IfSome result (λ e. reaction_of e (exit_of reaction.fired) (number_of reaction.fired) ≡ reaction) }
+/// A value that a line has room for, where the instruction fired this.
+fn carry(value: Value, fired: Fired) -> Option<Carried>
+    ensures { IfSome result (λ c. (t : Tag) → Names fired value t → carried_value t c ≡ Some value) }
+{
+    match (value, fired) {
+        (Value::Signal, _) => Some(Carried::Signal),
+        (Value::Int(number), _) => Some(Carried::Int(number)),
+        (Value::Bool(truth), _) => Some(Carried::Bool(truth)),
+        (Value::Context(context), _) => carry_context(context),
+        (Value::Continuation(_), Fired::Nothing) => Some(Carried::Continuation),
+        (Value::Continuation(_), _) => None,
+    }
+}
+
+/// A context that a line has room for.
+fn carry_context(context: Context) -> Option<Carried>
+    ensures { IfSome result (λ c. (t : Tag) → carried_value t c ≡ Some (value.Context context)) }
+{
+    if context.serial <= LARGEST {
+        Some(Carried::Context(context.element, context.serial as u32))
+    } else {
+        None
+    }
+}
+
+/// The tag that an event names beside that of its message.
+fn target(value: Value, fired: Fired) -> Tag
+    ensures { Names fired value result }
+{
+    match (fired, value) {
+        (Fired::Entered(context), _) => tag_within(context, 0),
+        (Fired::Sent(tag, _), _) => tag,
+        (Fired::Nothing, Value::Continuation(tag)) => tag,
+        _ => Tag {
+            context: Context {
+                element: 0,
+                serial: 0,
+            },
+            iteration: 0,
+            instr: 0,
+        },
+    }
+}
+
+/// What the instruction made of the value, where a line has room for it.
+fn effect_of(value: Value, reaction: Reaction) -> Option<Effect>
+    ensures { IfSome result (λ e. (t : Tag) → Names reaction.fired value t →
+        reaction_of e (exit_of reaction.fired) (number_of reaction.fired t.context.serial) t value ≡ reaction) }
 {
     match (reaction.fired, reaction.verdict) {
         (Fired::Nothing, Verdict::Stuck) => Some(Effect::Stuck),
@@ -166,16 +254,18 @@ fn effect_of(reaction: Reaction) -> Option<Effect>
         }
         (Fired::Failed(FaultKind::DivisionByZero), Verdict::Failed(FaultKind::DivisionByZero)) =>
             Some(Effect::DivisionByZero),
-        (Fired::Out(value), Verdict::Went) => sent(value),
-        (Fired::Side(_, value), Verdict::Went) => sent(value),
+        (Fired::Out(value), Verdict::Went) => going_out(value),
+        (Fired::Side(_, value), Verdict::Went) => going_out(value),
+        (Fired::Entered(_), Verdict::Went) => Some(Effect::Entered),
+        (Fired::Sent(_, sent), Verdict::Went) if sent == value => Some(Effect::Sent),
         _ => None,
     }
 }
 
-/// The effect of sending a value, where a line has room for it.
-fn sent(value: Value) -> Option<Effect>
-    ensures { IfSome result (λ e. (x : Exit) →
-        reaction_of e x (number_in value) ≡ record { fired = fired_at x value; verdict = Went }) }
+/// The effect of a value's going out, where a line has room for it.
+fn going_out(value: Value) -> Option<Effect>
+    ensures { IfSome result (λ e. (x : Exit) (t : Tag) (v : Value) →
+        reaction_of e x (number_in value) t v ≡ record { fired = fired_at x value; verdict = Went }) }
 {
     match value {
         Value::Signal => Some(Effect::Signal),
@@ -186,14 +276,14 @@ fn sent(value: Value) -> Option<Effect>
     }
 }
 
-/// The number that was sent, or 0.
-fn number(fired: Fired) -> i64
-    ensures { result ≡ number_of fired }
+/// The number that went out, or else the serial number of the context that the event names.
+fn number(fired: Fired, serial: u32) -> i64
+    ensures { result ≡ number_of fired serial }
 {
     match fired {
         Fired::Out(value) => number_in(value),
         Fired::Side(_, value) => number_in(value),
-        _ => 0,
+        _ => i64::from(serial),
     }
 }
 
@@ -212,41 +302,56 @@ fn exit_of(fired: Fired) -> Exit
     ensures { result ≡ exit_of fired }
 {
     match fired {
-        Fired::Side(side, _) => Exit::On(side),
+        Fired::Side(true, _) => Exit::True,
+        Fired::Side(false, _) => Exit::False,
         _ => Exit::Only,
     }
 }
 
 const LARGEST: u64 = 0xffff_ffff;
 
-/// The event in a line with this value and effect, where its numbers fit.
-fn narrowed(event: &Handled, carried: Carried, effect: Effect) -> Option<Line>
-    requires carried { carried_of (value_of event.now.message.payload) ≡ Some carried }
-    requires effect { let r = event.now.reaction in
-        reaction_of effect (exit_of r.fired) (number_of r.fired) ≡ r }
-    ensures { IfSome result (λ l. IsPacked event.now l) }
+/// The event in a line with this value, this effect and this tag beside that of its message, where its numbers fit.
+fn narrowed(event: &Handled, carried: Carried, effect: Effect, to: Tag) -> Option<Line>
+    ensures carried { IfSome result (λ l. l.carried ≡ carried) }
+    ensures effect { IfSome result (λ l. l.effect ≡ effect) }
+    ensures exit { IfSome result (λ l. l.exit ≡ exit_of event.now.reaction.fired) }
+    ensures number { IfSome result (λ l. l.result ≡ number_of event.now.reaction.fired to.context.serial) }
+    ensures to_element { IfSome result (λ l. l.to_element ≡ to.context.element) }
+    ensures to_iteration { IfSome result (λ l. l.to_iteration ≡ to.iteration) }
+    ensures to_instr { IfSome result (λ l. l.to_instr ≡ to.instr) }
+    ensures message { IfSome result (λ l. (own l (value_of event.now.message.payload)).message ≡ event.now.message) }
+    ensures stamp { IfSome result (λ l. l.stamp ≡ event.now.stamp) }
 {
     let Payload::Token { tag, port, .. } = event.message.payload;
+    let (started, sender) = origin(event.message.sender);
     let position = event.message.position as u64;
     if tag.context.serial > LARGEST || tag.iteration > LARGEST || position > LARGEST {
         return None;
     }
-    if event.message.stamp > LARGEST || event.stamp > LARGEST || event.message.output > 0xffff {
+    if event.message.stamp > LARGEST || event.stamp > LARGEST || to.iteration > LARGEST {
         return None;
     }
-    let (started, sender) = origin(event.message.sender);
+    if tag.context.element > 0xff || to.context.element > 0xff || sender > 0xff {
+        return None;
+    }
+    if to.context.serial > LARGEST || event.message.output > 0xff {
+        return None;
+    }
     Some(Line {
         carried,
-        result: number(event.reaction.fired),
+        result: number(event.reaction.fired, to.context.serial as u32),
         serial: tag.context.serial as u32,
         iteration: tag.iteration as u32,
         position: position as u32,
         sent: event.message.stamp as u32,
         stamp: event.stamp as u32,
-        element: tag.context.element,
         instr: tag.instr,
-        sender,
-        output: event.message.output as u16,
+        to_iteration: to.iteration as u32,
+        to_instr: to.instr,
+        element: tag.context.element as u8,
+        to_element: to.context.element as u8,
+        sender: sender as u8,
+        output: event.message.output as u8,
         port,
         started,
         effect,
@@ -277,7 +382,7 @@ fn own(line: &Line, value: Value) -> Handled
             stamp: u64::from(line.sent),
         },
         stamp: u64::from(line.stamp),
-        reaction: reaction_in(line),
+        reaction: reaction_in(line, value),
     }
 }
 
@@ -288,7 +393,7 @@ fn own_payload(line: &Line, value: Value) -> Payload
     Payload::Token {
         tag: Tag {
             context: Context {
-                element: line.element,
+                element: u32::from(line.element),
                 serial: u64::from(line.serial),
             },
             iteration: u64::from(line.iteration),
@@ -305,12 +410,12 @@ fn sender(line: &Line) -> Sender
     if line.started {
         Sender::Start
     } else {
-        Sender::Element(line.sender)
+        Sender::Element(u32::from(line.sender))
     }
 }
 
-fn reaction_in(line: &Line) -> Reaction
-    ensures { result ≡ reaction_of line.now.effect line.now.exit line.now.result }
+fn reaction_in(line: &Line, value: Value) -> Reaction
+    ensures { result ≡ reaction_of line.now.effect line.now.exit line.now.result (target_in line.now) value }
 {
     match line.effect {
         Effect::Stuck => Reaction {
@@ -324,6 +429,8 @@ fn reaction_in(line: &Line) -> Reaction
         Effect::Int => went(fired_at(line.exit, Value::Int(line.result))),
         Effect::True => went(fired_at(line.exit, Value::Bool(true))),
         Effect::False => went(fired_at(line.exit, Value::Bool(false))),
+        Effect::Entered => went(Fired::Entered(target_in(line).context)),
+        Effect::Sent => went(Fired::Sent(target_in(line), value)),
     }
 }
 
@@ -333,7 +440,8 @@ fn fired_at(exit: Exit, value: Value) -> Fired
 {
     match exit {
         Exit::Only => Fired::Out(value),
-        Exit::On(side) => Fired::Side(side, value),
+        Exit::True => Fired::Side(true, value),
+        Exit::False => Fired::Side(false, value),
     }
 }
 
