@@ -10,8 +10,10 @@ pub mod WaitsLemmas
 pub mod ChainsLemmas
 pub mod PathsLemmas
 pub mod StepLemmas
+pub mod ArisesLemmas
 pub mod RunLemmas
 pub mod InputsLemmas
+pub mod PathOrderLemmas
 pub mod OrdersLemmas
 pub mod ListedLemmas
 pub mod PlacedLemmas

@@ -15,6 +15,7 @@ use Rattle.id_meaning.specs.declared.Fact.TheVariants as fact
 use Rattle.id_meaning.specs.declared.cells.Spot.{Spot}
 use Rattle.id_meaning.specs.declared.cells.RowFact.{RowFact}
 use Rattle.id_meaning.specs.declared.cells.RowFact.TheVariants.{On, Has}
+use Rattle.id_meaning.specs.Orders.{step_cmp}
 use Rattle.id_meaning.specs.Sources.{Source}
 use Rattle.id_meaning.specs.Rounds.{Rounds}
 use Rattle.id_meaning.specs.Cells.{cell_at, path_of, spot_at}
@@ -104,10 +105,6 @@ steps_in (fact.Has p e v) = p.steps
 abbrev pub place_in : Fact → ℕ
 place_in (fact.On p e) = e
 place_in (fact.Has p e v) = e
-
--- how two steps compare: by place, then by number
-abbrev pub step_cmp : PathStep → PathStep → Ordering
-step_cmp s t = ordering_then (nat_cmp s.place t.place) (nat_cmp s.number t.number)
 
 -- how two facts compare by path, then by place
 abbrev pub point_cmp : Fact → Fact → Ordering

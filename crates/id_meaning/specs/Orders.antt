@@ -1,6 +1,8 @@
 -- The order of paths, of facts and of names' values (docs/MEANING.md, "Order").
 use Rattle.std.specs.Prelude.{◌≡◌, ◌⊎◌, ◌<◌, ℕ, true, false, List, [], ◌∷◌}
 use Rattle.std.specs.Prelude.{◌<ℤ◌}
+use Rattle.std.specs.declared.cmp.Ordering.{Ordering}
+use Rattle.std.specs.Ordering.{nat_cmp, ordering_then}
 use Rattle.id_meaning.specs.declared.PathStep.{PathStep}
 use Rattle.id_meaning.specs.declared.Path.{Path}
 use Rattle.id_meaning.specs.declared.SourceValue.{SourceValue}
@@ -48,3 +50,9 @@ abbrev pub NamesRise : List NameValue → Type 0
 NamesRise [] = Unit {0}
 NamesRise (n ∷ []) = Unit {0}
 NamesRise (n ∷ m ∷ ns) = PointBefore n.path n.place m.path m.place × NamesRise (m ∷ ns)
+
+-- For use inside.
+
+-- how two steps compare: by place, then by number
+abbrev pub step_cmp : PathStep → PathStep → Ordering
+step_cmp s t = ordering_then (nat_cmp s.place t.place) (nat_cmp s.number t.number)

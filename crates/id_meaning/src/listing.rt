@@ -3,7 +3,8 @@
 ghost use Rattle.std.specs.Prelude.{◌≡◌, ◌++◌, IfOk, OnOk};
 ghost use Rattle.std.specs.Cmp.Lexicographic.{slice_cmp};
 ghost use Rattle.id_check.specs.Programs.{place};
-ghost use Rattle.id_meaning.specs.Listed.{AreShown, fact_cmp, facts_in, kind_of, on_fact, path_at, place_in, point_cmp, spot_facts, step_at, step_cmp, steps_in, value_fact};
+ghost use Rattle.id_meaning.specs.Listed.{AreShown, fact_cmp, facts_in, kind_of, on_fact, path_at, place_in, point_cmp, spot_facts, step_at, steps_in, value_fact};
+ghost use Rattle.id_meaning.specs.Orders.{step_cmp};
 
 use crate::cells::{Cells, Spot};
 use crate::{Fact, Path, PathStep, SourceValue};

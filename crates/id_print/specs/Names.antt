@@ -3,10 +3,9 @@ use Rattle.std.specs.Prelude.{◌≡◌, List, AllPairs, IsPermutation}
 use Rattle.std.specs.declared.cmp.Ordering.{Ordering}
 use Rattle.std.specs.Ordering.{nat_cmp, ordering_then}
 use Rattle.std.specs.Cmp.Lexicographic.{slice_cmp}
-use Rattle.id_meaning.specs.declared.PathStep.{PathStep}
 use Rattle.id_meaning.specs.declared.NameValue.{NameValue}
 use Rattle.id_list.specs.List.{Among, AllDiffer}
-use Rattle.id_meaning.specs.Orders.{PointBefore}
+use Rattle.id_meaning.specs.Orders.{PointBefore, step_cmp}
 
 -- the first name's path and place come before those of the second
 abbrev pub NameBefore : NameValue → NameValue → Type 0
@@ -23,10 +22,6 @@ pub record AreApart (ns : List NameValue) : Type 0 where
   pub one : (n m : NameValue) → Among n ns → Among m ns → n.path ≡ m.path → n.place ≡ m.place → n ≡ m
 
 -- For use inside.
-
--- how two steps compare: by place, then by number
-abbrev pub step_cmp : PathStep → PathStep → Ordering
-step_cmp s t = ordering_then (nat_cmp s.place t.place) (nat_cmp s.number t.number)
 
 -- how two names compare: by path, then by place
 abbrev pub name_cmp : NameValue → NameValue → Ordering
