@@ -1,5 +1,6 @@
 -- The graph that the builder makes of a program.
-use Rattle.std.specs.Prelude.{◌≡◌, ℕ, zero, suc, ◌+◌, ◌<◌, ◌==◌, Bool, true, false, if◌then◌else◌, ◌&&◌, List, [], ◌∷◌, ◌++◌, map, length, slice_get, unwrap_or}
+use Rattle.std.specs.Prelude.{◌≡◌, ℕ, zero, suc, ◌+◌, ◌<◌, ◌==◌, Bool, true, false, if◌then◌else◌, ◌&&◌, List, [], ◌∷◌}
+use Rattle.std.specs.Prelude.{◌++◌, map, length, slice_get, unwrap_or}
 use Rattle.std.specs.Bool.{beq}
 use Rattle.id_parts.specs.Turns.{heads_of}
 use Rattle.id_check.specs.declared.checked.Checked.{Checked}
@@ -13,8 +14,8 @@ use Rattle.id_build.specs.declared.arc.Piece.{Piece}
 use Rattle.id_build.specs.Rows.{feeds, made, op_by}
 use Rattle.id_build.specs.Schemas.{block_of}
 
--- the number of the first instruction of the row n, where those of these rows are made in this order, and the first has the
--- number m
+-- the number of the first instruction of the row n, where those of these rows are made in this order, and the first has
+-- the number m
 abbrev pub first_in : Checked → ℕ → List ℕ → ℕ → ℕ
 first_in P m [] n = 0
 first_in P m (x ∷ xs) n = if x == n then m else first_in P (m + length (made P x)) xs n
@@ -36,7 +37,12 @@ pub record AreFirsts (P : Checked) (order F : List ℕ) : Type 0 where
 -- an arc to an instruction of the row n
 abbrev pub arc_of : List ℕ → ℕ → Feed → Arc
 arc_of firsts n f =
-    record { from = number_by firsts f.origin.row f.origin.part; side = f.origin.side; to = number_by firsts n f.part; port = f.port }
+    record {
+      from = number_by firsts f.origin.row f.origin.part;
+      side = f.origin.side;
+      to = number_by firsts n f.part;
+      port = f.port;
+    }
 
 -- the arcs to the instructions of these rows
 abbrev pub arcs_in : Checked → List ℕ → List ℕ → List Arc
@@ -52,7 +58,8 @@ dests_from m s [] = []
 dests_from m s (a ∷ vs) = if (a.from == m) && beq a.side s then dest_of a ∷ dests_from m s vs else dests_from m s vs
 
 abbrev pub joined : List ℕ → ℕ → Piece → List Arc → Instr
-joined F m p vs = record { op = op_by (number_by F) p.form; dests = dests_from m true vs; others = dests_from m false vs; place = p.place }
+joined F m p vs = record
+    { op = op_by (number_by F) p.form; dests = dests_from m true vs; others = dests_from m false vs; place = p.place }
 
 -- the instructions of these pieces with their arcs, where the first has the number m
 abbrev pub instrs_from : List ℕ → ℕ → List Piece → List Arc → List Instr
@@ -62,7 +69,11 @@ instrs_from F m (p ∷ ps) vs = joined F m p vs ∷ instrs_from F (m + 1) ps vs
 -- the graph whose rows are made in this order, where the numbers of first instructions are F
 abbrev pub graph_by : Checked → List ℕ → List ℕ → Parts
 graph_by P order F =
-    record { blocks = map (block_of P (number_by F)) (heads_of (rows P)); instrs = instrs_from F 0 (pieces_in P order) (arcs_in P F order) }
+    record {
+      blocks = map (block_of P (number_by F)) (heads_of (rows P));
+      instrs = instrs_from F 0 (pieces_in P order)
+          (arcs_in P F order);
+    }
 
 -- the arc goes between two of these instructions
 abbrev pub IsFrom : List Piece → Arc → Type 0

@@ -1,5 +1,6 @@
 -- What each row makes: its instructions, and what feeds them, by cases on the row (docs/GRAPH.md, "Schemas").
-use Rattle.std.specs.Prelude.{ℕ, zero, suc, ◌+◌, ◌-◌, ◌==◌, Bool as Truth, true, if◌then◌else◌, ◌&&◌, List, [], ◌∷◌, length, Option, None, Some, unwrap_or}
+use Rattle.std.specs.Prelude.{◌≡◌, ◌<◌, ℕ, zero, suc, ◌+◌, ◌-◌, ◌==◌, Bool as Truth, true, false, if◌then◌else◌}
+use Rattle.std.specs.Prelude.{◌&&◌, List, [], ◌∷◌, length, Option, None, Some, unwrap_or}
 use Rattle.std.specs.Bool.{beq}
 use Rattle.id_value.specs.declared.Kind.{Kind}
 use Rattle.id_value.specs.declared.Kind.TheVariants as kind
@@ -10,9 +11,11 @@ use Rattle.id_value.specs.declared.Logic.TheVariants as logic
 use Rattle.id_value.specs.declared.Truth.TheVariants.{Eqb, Neb, And, Or}
 use Rattle.id_parts.specs.declared.row.Region.{Region}
 use Rattle.id_parts.specs.declared.row.Node.{Node}
-use Rattle.id_parts.specs.declared.row.Node.TheVariants.{Head, Param, Literal, Name, Unary as UnaryNode, Binary as BinaryNode, Split, If, Enter, Arg, Call, Block, Binding, Def, Program}
+use Rattle.id_parts.specs.declared.row.Node.TheVariants.{Head, Param, Literal, Name, Unary as UnaryNode}
+use Rattle.id_parts.specs.declared.row.Node.TheVariants.{Binary as BinaryNode, Split, If, Enter, Arg, Call, Block}
+use Rattle.id_parts.specs.declared.row.Node.TheVariants.{Binding, Def, Program}
 use Rattle.id_parts.specs.Rows.{at}
-use Rattle.id_parts.specs.Tables.{is_param}
+use Rattle.id_parts.specs.Tables.{is_param, is_split}
 use Rattle.id_check.specs.declared.checked.Checked.{Checked}
 use Rattle.id_check.specs.Programs as checked
 use Rattle.id_check.specs.Programs.{binder, rows, place, region}
@@ -47,8 +50,8 @@ port_of kind.Array = Structure
 abbrev pub port_at : Checked → ℕ → PortKind
 port_at P n = port_of (unwrap_or (checked.kind P n) kind.Int)
 
--- the instruction of a binary operator, where ports of this kind take the value of its left operand: there are two instructions
--- for each of `==` and `<>`
+-- the instruction of a binary operator, where ports of this kind take the value of its left operand: there are two
+-- instructions for each of `==` and `<>`
 abbrev pub binary_op : BinaryOp → PortKind → Dyadic
 binary_op (class.Arithmetic o) k = dyadic.Arithmetic o
 binary_op (class.Comparison Eq) Bool = dyadic.Truth Eqb
@@ -100,7 +103,8 @@ switches P e (b ∷ bs) = piece (Plain (Switch (port_at P b))) e ∷ switches P 
 
 -- the instructions of the row n at this place with this node, in order
 abbrev pub made_of : Checked → ℕ → ℕ → Node → List Piece
-made_of P n e Head = piece (Plain (Merge Signal)) e ∷ piece (Plain (Back (port_of (result_of (node P (end_of P n)))))) e ∷ []
+made_of P n e Head =
+    piece (Plain (Merge Signal)) e ∷ piece (Plain (Back (port_of (result_of (node P (end_of P n)))))) e ∷ []
 made_of P n e (Param x k) = piece (Plain (Merge (port_at P n))) e ∷ []
 made_of P n e (Literal v) = piece (Plain (Const v)) e ∷ []
 made_of P n e (Name x) = []
@@ -136,7 +140,8 @@ abbrev pub slot_of : List ℕ → ℕ → ℕ
 slot_of [] b = 0
 slot_of (x ∷ xs) b = if x == b then 0 else slot_of xs b + 1
 
--- where the value of a binder comes from in a region: from its label in the binder's own, else from what the head hands in
+-- where the value of a binder comes from in a region: from its label in the binder's own, else from what the head hands
+-- in
 abbrev pub name_in : Checked → Region → ℕ → Origin
 name_in P r b =
     if same_region (region P b) r
@@ -148,7 +153,8 @@ abbrev pub named_in : Checked → Region → ℕ → Option ℕ → Origin
 named_in P r v None = output v
 named_in P r v (Some b) = name_in P r b
 
--- where the value of the expression at the row v comes from, which gives its own and stands in this region with this node
+-- where the value of the expression at the row v comes from, which gives its own and stands in this region with this
+-- node
 abbrev pub origin_of : Checked → ℕ → Region → Node → Origin
 origin_of P v r (Name x) = named_in P r v (checked.binder P v)
 origin_of P v r _ = output v
@@ -160,8 +166,8 @@ origin P e = let v = (at (rows P) e).value in origin_of P v (region P v) (node P
 abbrev pub feed : Origin → ℕ → Port → Feed
 feed s k p = record { origin = s; part = k; port = p }
 
--- what feeds the switches of imports, the first of which is the part k: the predicate's value, and each name as the region r
--- has it
+-- what feeds the switches of imports, the first of which is the part k: the predicate's value, and each name as the
+-- region r has it
 abbrev pub import_feeds : Checked → Origin → Region → ℕ → List ℕ → List Feed
 import_feeds P s r k [] = []
 import_feeds P s r k (b ∷ bs) = feed s k Zero ∷ feed (name_in P r b) k One ∷ import_feeds P s r (k + 1) bs
@@ -197,6 +203,10 @@ size_below P (suc n) = size_below P n + length (made P n)
 -- the number of instructions that the schemas give the program
 abbrev pub size : Checked → ℕ
 size P = size_below P (length (rows P))
+
+-- the program has no conditional
+abbrev pub HasNoSplit : Checked → Type 0
+HasNoSplit P = (n : ℕ) → n < length (rows P) → is_split (node P n) ≡ false
 
 -- the last row, which makes the answer's instruction
 abbrev pub answer_row : Checked → ℕ

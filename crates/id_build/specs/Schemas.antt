@@ -73,13 +73,16 @@ pub record Numbered (P : Checked) (G : Parts) (number : ℕ → ℕ → ℕ) : T
   -- each instruction of the schemas is there, and no other; two of them have two numbers
   pub made : (n k : ℕ) (f : Form) (e : ℕ) → Makes P n k f e → Made G number (number n k) f e
   pub only : (m : ℕ) (i : Instr) → slice_get G.instrs m ≡ Some i → IsNumber P number m
-  pub apart : (n k n' k' : ℕ) (f f' : Form) (e e' : ℕ) → Makes P n k f e → Makes P n' k' f' e' → number n k ≡ number n' k' → (n ≡ n') × (k ≡ k')
+  pub apart : (n k n' k' : ℕ) (f f' : Form) (e e' : ℕ) → Makes P n k f e → Makes P n' k' f' e'
+      → number n k ≡ number n' k' → (n ≡ n') × (k ≡ k')
   -- each arc of the schemas is there, and no other; none is there twice
-  pub sends : (s : Origin) (n k : ℕ) (p : Port) → Feeds P s n k p → Sends G (number s.row s.part) s.side (record { instr = number n k; port = p })
+  pub sends : (s : Origin) (n k : ℕ) (p : Port) → Feeds P s n k p
+      → Sends G (number s.row s.part) s.side (record { instr = number n k; port = p })
   pub no_more : (m : ℕ) (side : Truth) (to : Dest) → Sends G m side to → IsArc P number m side to
   pub once : (m : ℕ) (i : Instr) (side : Truth) → slice_get G.instrs m ≡ Some i → AllDiffer (arcs_on side i)
   -- each goes from a side that there is, to a port that there is
-  pub sides : (m : ℕ) (i : Instr) (side : Truth) (to : Dest) → slice_get G.instrs m ≡ Some i → Among to (arcs_on side i) → HasSide i.op side
+  pub sides : (m : ℕ) (i : Instr) (side : Truth) (to : Dest) → slice_get G.instrs m ≡ Some i → Among to (arcs_on side i)
+      → HasSide i.op side
   pub ports : (m : ℕ) (side : Truth) (to : Dest) → Sends G m side to → IsPort G.instrs to
   -- the answer's instruction is the first; the parts of a row stand one behind another
   pub answer_first : number (answer_row P) 0 ≡ 0

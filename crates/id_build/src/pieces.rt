@@ -87,7 +87,11 @@ fn push_row(
 
 /// Adds the trigger and the way back of a definition whose result is of this kind.
 fn push_head(kind: Kind, place: usize, pieces: &mut Vec<Piece>) -> Result<(), BuildError>
-    ensures pieces { OnOk result (pieces.new.items ≡ pieces.old.items ++ record { form = Plain (Merge Signal); place = place } ∷ record { form = Plain (Back (rows.port_of kind)); place = place } ∷ []) }
+    ensures pieces { OnOk result
+        (pieces.new.items
+        ≡ pieces.old.items
+        ++ record { form = Plain (Merge Signal); place = place } ∷ record
+        { form = Plain (Back (rows.port_of kind)); place = place } ∷ []) }
     ensures memory { IfErr result (λ e. e ≡ BuildError.Memory) }
 {
     push(pieces, Op::Merge(PortKind::Signal), place)?;
@@ -153,7 +157,10 @@ fn push_send(
 /// Adds the answer's instruction.
 fn push_answer(checked: &Checked, pieces: &mut Vec<Piece>) -> Result<(), BuildError>
     ensures pieces { OnOk result (pieces.new.items ≡ pieces.old.items
-        ++ record { form = Plain (Merge (rows.port_of (result_of (rows.node checked.now checked.now.main)))); place = programs.place checked.now checked.now.main } ∷ []) }
+        ++ record {
+          form = Plain (Merge (rows.port_of (result_of (rows.node checked.now checked.now.main))));
+          place = programs.place checked.now checked.now.main;
+        } ∷ []) }
     ensures memory { IfErr result (λ e. e ≡ BuildError.Memory) }
 {
     let main = row_at(checked, checked.main);
@@ -171,7 +178,8 @@ fn result_of(node: Node) -> Kind
 }
 
 fn push(pieces: &mut Vec<Piece>, op: Op, place: usize) -> Result<(), BuildError>
-    ensures pieces { OnOk result (pieces.new.items ≡ pieces.old.items ++ record { form = Plain op; place = place } ∷ []) }
+    ensures pieces { OnOk result
+        (pieces.new.items ≡ pieces.old.items ++ record { form = Plain op; place = place } ∷ []) }
     ensures memory { IfErr result (λ e. e ≡ BuildError.Memory) }
 {
     push_form(pieces, Form::Plain(op), place)

@@ -1,6 +1,7 @@
 //! The graph of a program (docs/GRAPH.md, "Schemas").
 
-ghost use Rattle.std.specs.Prelude.{◌≡◌, ◌++◌, ◌∷◌, ◌&&◌, [], true, ℕ, ◌<◌, ◌≤◌, length, map, nat_eq, if◌then◌else◌, IfOk, IfErr, OnOk};
+ghost use Rattle.std.specs.Prelude.{◌≡◌, ◌++◌, ◌∷◌, ◌&&◌, [], true, ℕ, ◌<◌, ◌≤◌, length, map, nat_eq, if◌then◌else◌};
+ghost use Rattle.std.specs.Prelude.{IfOk, IfErr, OnOk};
 ghost use Rattle.id_list.specs.List.{AllDiffer, Among};
 ghost use Rattle.id_check.specs.Programs as programs;
 ghost use Rattle.id_desugar.specs.Regions as regions;
@@ -168,7 +169,8 @@ fn blocks(
     firsts: &[u32],
 ) -> Result<Vec<Block>, BuildError>
     requires ends { AreEnds checked.now ends.now }
-    ensures blocks { IfOk result (λ v. v.items ≡ map (block_of checked.now (number_by firsts.now)) (heads_of (programs.rows checked.now))) }
+    ensures blocks { IfOk result
+        (λ v. v.items ≡ map (block_of checked.now (number_by firsts.now)) (heads_of (programs.rows checked.now))) }
     ensures memory { IfErr result (λ e. e ≡ BuildError.Memory) }
 {
     let mut blocks = Vec::new(alloc);
@@ -190,7 +192,8 @@ fn add_block(
     requires ends { AreEnds checked.now ends.now }
     requires within { head < length (programs.rows checked.now) }
     ensures blocks { OnOk result (blocks.new.items ≡ blocks.old.items
-        ++ (if tables.is_head (rows.node checked.now head) then block_of checked.now (number_by firsts.now) head ∷ [] else [])) }
+        ++ (if tables.is_head (rows.node checked.now head)
+        then block_of checked.now (number_by firsts.now) head ∷ [] else [])) }
     ensures memory { IfErr result (λ e. e ≡ BuildError.Memory) }
 {
     if is_head(row_at(checked, head).node) {

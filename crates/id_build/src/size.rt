@@ -1,10 +1,11 @@
 //! How many instructions the schemas give a program, found without making them (docs/GRAPH.md, "Schemas").
 
-ghost use Rattle.std.specs.Prelude.{ℕ, ◌≡◌, ◌<◌, ◌≤◌, ◌^◌, ◌↔◌, IsTrue, IfSome, None, length};
+ghost use Rattle.std.specs.Prelude.{ℕ, ◌≡◌, ◌<◌, ◌≤◌, ◌^◌, ◌↔◌, false, IsTrue, IfSome, None, length};
 ghost use Rattle.id_check.specs.declared.checked.Checked.{Checked};
 ghost use Rattle.id_desugar.specs.Regions as regions;
+ghost use Rattle.id_parts.specs.Tables.{is_split};
 ghost use Rattle.id_parts.specs.declared.row.Node.TheVariants.{Split};
-ghost use Rattle.id_build.specs.Rows.{made, made_of, size};
+ghost use Rattle.id_build.specs.Rows.{HasNoSplit, made, made_of, size};
 
 use crate::origins::imports_at;
 use id_check::Checked;
@@ -31,7 +32,7 @@ pub fn is_small(kernel: &Kernel<'_>) -> bool
 /// Whether the program has no conditional, and the schemas give it at most 1,000,000 instructions: that is told without
 /// its regions. Takes no memory.
 pub fn is_small_and_plain(checked: &Checked) -> bool
-    ensures { IsTrue result → size checked.now ≤ 1000000 }
+    ensures { IsTrue result ↔ (HasNoSplit checked.now × (size checked.now ≤ 1000000)) }
 {
     let mut size = 0usize;
     for n in 0..checked.table.rows.len() {
@@ -62,6 +63,7 @@ fn made_count(checked: &Checked, imports: &[Sequence<usize>], n: usize) -> usize
 fn plain_count(node: Node) -> Option<usize>
     ensures some { IfSome result (λ k. (P : Checked) (n e : ℕ) → length (made_of P n e node) ≡ k) }
     ensures few { IfSome result (λ k. k ≤ 2) }
+    ensures plain { IfSome result (λ k. is_split node ≡ false) }
     ensures none { result ≡ None → (t : ℕ) × (node ≡ Split t) }
 {
     match node {

@@ -122,7 +122,8 @@ abbrev pub newly : List Row → ℕ → ℕ → List (Option Bound) → Option �
 newly R s b bs None i = None
 newly R s b bs (Some x) i =
     if is_free (in_scope s (get_or bs x None))
-    && ((looks (at R s).node (at R i).node && around R s i) && is_name x (used_name (at R i).node)) then Some b else None
+    && ((looks (at R s).node (at R i).node && around R s i)
+    && is_name x (used_name (at R i).node)) then Some b else None
 
 -- the use, if it is not before the row f
 abbrev pub not_before : ℕ → Option ℕ → Option ℕ

@@ -29,6 +29,8 @@ pub struct Checked {
     pub ghost distinct: { Distinct (program_tree program) } by { Distinct-prop (program_tree program) },
     pub ghost is_main: { IsMain table.rows.items main } by { Prim.hlevel props },
     pub ghost bound: { AreBinders table.rows.items (λ i. get_or binders.items i None) } by { Prim.hlevel props },
-    pub ghost kinded: { AreKinds table.rows.items (λ i. get_or binders.items i None) (λ i. get_or kinds.items i None) } by { Prim.hlevel props },
-    pub ghost accepted: { causes table.rows.items (λ i. get_or binders.items i None) (λ i. get_or kinds.items i None) ≡ [] } by { Prim.hlevel props },
+    pub ghost kinded: { AreKinds table.rows.items (λ i. get_or binders.items i None)
+        (λ i. get_or kinds.items i None) } by { Prim.hlevel props },
+    pub ghost accepted: { causes table.rows.items (λ i. get_or binders.items i None) (λ i. get_or kinds.items i None)
+        ≡ [] } by { Prim.hlevel props },
 }

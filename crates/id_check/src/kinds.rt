@@ -51,7 +51,9 @@ fn find_links(
     requires formed { IsFormed rows.now }
     requires binders { length binders.now ≡ length rows.now }
     ensures long { IfOk result (λ v. length v.items ≡ length rows.now) }
-    ensures each { IfOk result (λ v. (i : ℕ) → i < length rows.now → get_or v.items i Nowhere ≡ kinds.link_at rows.now (λ k. get_or binders.now k None) i) }
+    ensures each { IfOk result
+        (λ v. (i : ℕ) → i < length rows.now
+        → get_or v.items i Nowhere ≡ kinds.link_at rows.now (λ k. get_or binders.now k None) i) }
 {
     let mut links = Vec::new(alloc);
     for i in 0..rows.len() {
@@ -82,7 +84,8 @@ pub fn binder_at(binders: &[Option<usize>], i: usize) -> Option<usize>
 /// The kinds that the links give.
 fn kinds_of(alloc: Global, links: &[Link]) -> Result<Vec<Option<Kind>>, AllocError>
     ensures long { IfOk result (λ v. length v.items ≡ length links.now) }
-    ensures each { IfOk result (λ v. (i : ℕ) → i < length links.now → get_or v.items i None ≡ chains.kind_of (get_or links.now i Nowhere)) }
+    ensures each { IfOk result
+        (λ v. (i : ℕ) → i < length links.now → get_or v.items i None ≡ chains.kind_of (get_or links.now i Nowhere)) }
 {
     let mut kinds = Vec::new(alloc);
     for i in 0..links.len() {
@@ -96,11 +99,16 @@ fn kinds_of(alloc: Global, links: &[Link]) -> Result<Vec<Option<Kind>>, AllocErr
 fn settle(links: &mut Vec<Link>, passed: &mut Vec<usize>, start: usize) -> Result<(), AllocError>
     requires start { start < length links.old.items }
     requires passed { passed.old.items ≡ [] }
-    requires targets { (i j : ℕ) → i < length links.old.items → get_or links.old.items i Nowhere ≡ To j → j < length links.old.items }
+    requires targets { (i j : ℕ) → i < length links.old.items → get_or links.old.items i Nowhere ≡ To j
+        → j < length links.old.items }
     ensures passed { OnOk result (passed.new.items ≡ []) }
     ensures long { OnOk result (length links.new.items ≡ length links.old.items) }
-    ensures targets { OnOk result ((i j : ℕ) → i < length links.new.items → get_or links.new.items i Nowhere ≡ To j → j < length links.new.items) }
-    ensures going { OnOk result ((l : ℕ → Link) → IsGoing l (length links.old.items) start links.old.items → IsGoing l (length links.old.items) (start + 1) links.new.items) }
+    ensures targets { OnOk result
+        ((i j : ℕ) → i < length links.new.items → get_or links.new.items i Nowhere ≡ To j
+        → j < length links.new.items) }
+    ensures going { OnOk result
+        ((l : ℕ → Link) → IsGoing l (length links.old.items) start links.old.items
+        → IsGoing l (length links.old.items) (start + 1) links.new.items) }
 {
     let mut at = start;
     while let Link::To(next) = links[at] {
@@ -118,8 +126,11 @@ fn fill(links: &mut Vec<Link>, passed: &mut Vec<usize>, end: Link)
     requires { (p : ℕ) → Among p passed.old.items → p < length links.old.items }
     ensures passed { passed.new.items ≡ [] }
     ensures long { length links.new.items ≡ length links.old.items }
-    ensures same { (i : ℕ) → (get_or links.new.items i Nowhere ≡ end) ⊎ (get_or links.new.items i Nowhere ≡ get_or links.old.items i Nowhere) }
-    ensures filling { (l : ℕ → Link) (n m : ℕ) → IsFilling l n m passed.old.items end links.old.items → IsFilling l n m [] end links.new.items }
+    ensures same { (i : ℕ)
+        → (get_or links.new.items i Nowhere ≡ end)
+        ⊎ (get_or links.new.items i Nowhere ≡ get_or links.old.items i Nowhere) }
+    ensures filling { (l : ℕ → Link) (n m : ℕ) → IsFilling l n m passed.old.items end links.old.items
+        → IsFilling l n m [] end links.new.items }
 {
     while let Some(p) = passed.pop() {
         links[p] = end;

@@ -54,8 +54,11 @@ fn find(alloc: Global, program: &Program) -> Result<(Table, Columns), AllocError
     ensures tabled { IfOk result (λ f. f.0.rows.items ≡ rows_of (program_tree program.now)) }
     ensures named { IfOk result (λ f. f.0.names.items ≡ (parts_of (program_tree program.now)).names) }
     ensures bound { IfOk result (λ f. AreBinders f.0.rows.items (λ i. get_or f.1.binders.items i None)) }
-    ensures kinded { IfOk result (λ f. AreKinds f.0.rows.items (λ i. get_or f.1.binders.items i None) (λ i. get_or f.1.kinds.items i None)) }
-    ensures first { IfOk result (λ f. IsFirstOf f.1.first (causes f.0.rows.items (λ i. get_or f.1.binders.items i None) (λ i. get_or f.1.kinds.items i None))) }
+    ensures kinded { IfOk result
+        (λ f. AreKinds f.0.rows.items (λ i. get_or f.1.binders.items i None) (λ i. get_or f.1.kinds.items i None)) }
+    ensures first { IfOk result
+        (λ f. IsFirstOf f.1.first
+        (causes f.0.rows.items (λ i. get_or f.1.binders.items i None) (λ i. get_or f.1.kinds.items i None))) }
 {
     let table = table_of(alloc, program)?;
     let columns = find_columns(alloc, table.rows.as_slice(), table.names.as_slice().len())?;
@@ -67,8 +70,11 @@ fn find_columns(alloc: Global, rows: &[Row], count: usize) -> Result<Columns, Al
     requires formed { IsFormed rows.now }
     requires names { AreNames rows.now count }
     ensures bound { IfOk result (λ c. AreBinders rows.now (λ i. get_or c.binders.items i None)) }
-    ensures kinded { IfOk result (λ c. AreKinds rows.now (λ i. get_or c.binders.items i None) (λ i. get_or c.kinds.items i None)) }
-    ensures first { IfOk result (λ c. IsFirstOf c.first (causes rows.now (λ i. get_or c.binders.items i None) (λ i. get_or c.kinds.items i None))) }
+    ensures kinded { IfOk result
+        (λ c. AreKinds rows.now (λ i. get_or c.binders.items i None) (λ i. get_or c.kinds.items i None)) }
+    ensures first { IfOk result
+        (λ c. IsFirstOf c.first
+        (causes rows.now (λ i. get_or c.binders.items i None) (λ i. get_or c.kinds.items i None))) }
 {
     let Found { binders, mut first } = find_binders(alloc, rows, count)?;
     let kinds = find_kinds(alloc, rows, binders.as_slice())?;
@@ -95,8 +101,10 @@ fn settle(program: Program, table: Table, columns: Columns) -> Result<Checked, C
     requires tabled { table.rows.items ≡ rows_of (program_tree program) }
     requires named { table.names.items ≡ (parts_of (program_tree program)).names }
     requires bound { AreBinders table.rows.items (λ i. get_or columns.binders.items i None) }
-    requires kinded { AreKinds table.rows.items (λ i. get_or columns.binders.items i None) (λ i. get_or columns.kinds.items i None) }
-    requires first { IsFirstOf columns.first (causes table.rows.items (λ i. get_or columns.binders.items i None) (λ i. get_or columns.kinds.items i None)) }
+    requires kinded { AreKinds table.rows.items (λ i. get_or columns.binders.items i None)
+        (λ i. get_or columns.kinds.items i None) }
+    requires first { IsFirstOf columns.first
+        (causes table.rows.items (λ i. get_or columns.binders.items i None) (λ i. get_or columns.kinds.items i None)) }
     ensures ok { IfOk result (λ c. c.program ≡ program) }
     ensures back { IfErr result (λ e. e.program ≡ program) }
     ensures refused { IfErr result (λ e. IsRefusedFor (rows_of (program_tree program)) e.cause) }

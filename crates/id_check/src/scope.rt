@@ -11,7 +11,8 @@ ghost use Rattle.id_check.specs.Scopes.{AreBinders, is_name};
 ghost use Rattle.id_check.specs.Causes.{duplicates, repeated, second, seconds};
 ghost use Rattle.id_check.specs.Firsts.{IsFirstOf, Notes};
 ghost use Rattle.id_check.specs.Names as names;
-ghost use Rattle.id_check.specs.Names.{AreBound, AreHeld, AreNames, AreWaiting, IsFresh, IsOpen, IsTaking, again, given, keys, newly};
+ghost use Rattle.id_check.specs.Names.{AreBound, AreHeld, AreNames, AreWaiting, IsFresh, IsOpen, IsTaking, again};
+ghost use Rattle.id_check.specs.Names.{given, keys, newly};
 
 use crate::cause::{CheckCause, note};
 use crate::rows::{bound_name, is_scope, takes};
@@ -48,7 +49,8 @@ pub fn find_binders(alloc: Global, rows: &[Row], count: usize) -> Result<Found, 
     requires { AreNames rows.now count }
     ensures long { IfOk result (λ f. length f.binders.items ≡ length rows.now) }
     ensures binders { IfOk result (λ f. AreBinders rows.now (λ i. get_or f.binders.items i None)) }
-    ensures within { IfOk result (λ f. (i b : ℕ) → i < length rows.now → get_or f.binders.items i None ≡ Some b → b < length rows.now) }
+    ensures within { IfOk result
+        (λ f. (i b : ℕ) → i < length rows.now → get_or f.binders.items i None ≡ Some b → b < length rows.now) }
     ensures first { IfOk result (λ f. IsFirstOf f.first (duplicates rows.now (length rows.now))) }
 {
     let mut held = vec![in alloc; false; rows.len()]?;
@@ -64,7 +66,8 @@ pub fn find_binders(alloc: Global, rows: &[Row], count: usize) -> Result<Found, 
 fn no_uses(alloc: Global, rows: &[Row], count: usize) -> Result<Uses, AllocError>
     requires { keys count < 2 ^ 64 }
     ensures binders { IfOk result (λ u. AreBound rows.now 0 u.binders.items) }
-    ensures waiting { IfOk result (λ u. AreWaiting rows.now 0 (keys count) u.binders.items u.last.items u.earlier.items) }
+    ensures waiting { IfOk result
+        (λ u. AreWaiting rows.now 0 (keys count) u.binders.items u.last.items u.earlier.items) }
 {
     Ok(Uses {
         binders: nothing(alloc, rows.len())?,
@@ -93,7 +96,8 @@ fn pass_rows(
     requires held { AreHeld rows.now 0 held.old.items }
     requires fresh { IsFresh 0 bound.old.items }
     requires binders { AreBound rows.now 0 uses.old.binders.items }
-    requires waiting { AreWaiting rows.now 0 (keys (length bound.old.items)) uses.old.binders.items uses.old.last.items uses.old.earlier.items }
+    requires waiting { AreWaiting rows.now 0
+        (keys (length bound.old.items)) uses.old.binders.items uses.old.last.items uses.old.earlier.items }
     requires first { first.old ≡ None }
     ensures binders { OnOk result (AreBound rows.now (length rows.now) uses.new.binders.items) }
     ensures first { OnOk result (IsFirstOf first.new (duplicates rows.now (length rows.now))) }
@@ -122,13 +126,16 @@ fn pass(
     requires held { AreHeld rows.now s held.old.items }
     requires fresh { IsFresh s bound.old.items }
     requires binders { AreBound rows.now s uses.old.binders.items }
-    requires waiting { AreWaiting rows.now s (keys (length bound.old.items)) uses.old.binders.items uses.old.last.items uses.old.earlier.items }
+    requires waiting { AreWaiting rows.now s
+        (keys (length bound.old.items)) uses.old.binders.items uses.old.last.items uses.old.earlier.items }
     ensures untaken { OnOk result (IsOpen rows.now (s + 1) (s + 1) untaken.new.items) }
     ensures held { OnOk result (AreHeld rows.now (s + 1) held.new.items) }
     ensures long { OnOk result (length bound.new.items ≡ length bound.old.items) }
     ensures fresh { OnOk result (IsFresh (s + 1) bound.new.items) }
     ensures binders { OnOk result (AreBound rows.now (s + 1) uses.new.binders.items) }
-    ensures waiting { OnOk result (AreWaiting rows.now (s + 1) (keys (length bound.old.items)) uses.new.binders.items uses.new.last.items uses.new.earlier.items) }
+    ensures waiting { OnOk result
+        (AreWaiting rows.now (s + 1)
+        (keys (length bound.old.items)) uses.new.binders.items uses.new.last.items uses.new.earlier.items) }
     ensures first { OnOk result (Notes first.old (seconds rows.now s s) first.new) }
 {
     take(rows, untaken, held, bound, uses, first, s);
@@ -155,13 +162,15 @@ fn take(
     requires held { AreHeld rows.now s held.old.items }
     requires fresh { IsFresh s bound.old.items }
     requires binders { AreBound rows.now s uses.old.binders.items }
-    requires waiting { AreWaiting rows.now s (keys (length bound.old.items)) uses.old.binders.items uses.old.last.items uses.old.earlier.items }
+    requires waiting { AreWaiting rows.now s
+        (keys (length bound.old.items)) uses.old.binders.items uses.old.last.items uses.old.earlier.items }
     ensures untaken { IsOpen rows.now s (s + 1) untaken.new.items }
     ensures held { AreHeld rows.now (s + 1) held.new.items }
     ensures long { length bound.new.items ≡ length bound.old.items }
     ensures fresh { IsFresh (s + 1) bound.new.items }
     ensures binders { AreBound rows.now (s + 1) uses.new.binders.items }
-    ensures waiting { AreWaiting rows.now s (keys (length bound.old.items)) uses.new.binders.items uses.new.last.items uses.new.earlier.items }
+    ensures waiting { AreWaiting rows.now s
+        (keys (length bound.old.items)) uses.new.binders.items uses.new.last.items uses.new.earlier.items }
     ensures first { Notes first.old (seconds rows.now s s) first.new }
 {
     if is_scope(rows[s].node) {
@@ -187,12 +196,14 @@ fn enter(
     requires held { AreHeld rows.now s held.old.items }
     requires fresh { IsFresh s bound.old.items }
     requires binders { AreBound rows.now s uses.old.binders.items }
-    requires waiting { AreWaiting rows.now s (keys (length bound.old.items)) uses.old.binders.items uses.old.last.items uses.old.earlier.items }
+    requires waiting { AreWaiting rows.now s
+        (keys (length bound.old.items)) uses.old.binders.items uses.old.last.items uses.old.earlier.items }
     ensures held { AreHeld rows.now (s + 1) held.new.items }
     ensures long { length bound.new.items ≡ length bound.old.items }
     ensures fresh { IsFresh (s + 1) bound.new.items }
     ensures binders { AreBound rows.now (s + 1) uses.new.binders.items }
-    ensures waiting { AreWaiting rows.now s (keys (length bound.old.items)) uses.new.binders.items uses.new.last.items uses.new.earlier.items }
+    ensures waiting { AreWaiting rows.now s
+        (keys (length bound.old.items)) uses.new.binders.items uses.new.last.items uses.new.earlier.items }
     ensures first { Notes first.old (seconds rows.now s s) first.new }
 {
     let start = start_of(untaken, rows[s].first);
@@ -219,7 +230,8 @@ fn start_of(untaken: &[usize], first: usize) -> usize
 fn kept(untaken: &[usize], held: &[bool]) -> usize
     requires { (j : ℕ) → j < length untaken.now → get_or untaken.now j 0 < length held.now }
     ensures long { result ≤ length untaken.now }
-    ensures behind { (j : ℕ) → result ≤ j → j < length untaken.now → get_or held.now (get_or untaken.now j 0) false ≡ true }
+    ensures behind { (j : ℕ) → result ≤ j → j < length untaken.now
+        → get_or held.now (get_or untaken.now j 0) false ≡ true }
 {
     let mut kept = untaken.len();
     while kept > 0 && held[untaken[kept - 1]] {
@@ -243,10 +255,12 @@ fn enter_row(
     requires behind { (at rows.now s).first ≤ b }
     requires names { AreNames rows.now (length bound.old.items) }
     requires taking { IsTaking rows.now s b held.old.items bound.old.items uses.old.binders.items }
-    requires waiting { AreWaiting rows.now s (keys (length bound.old.items)) uses.old.binders.items uses.old.last.items uses.old.earlier.items }
+    requires waiting { AreWaiting rows.now s
+        (keys (length bound.old.items)) uses.old.binders.items uses.old.last.items uses.old.earlier.items }
     ensures long { length bound.new.items ≡ length bound.old.items }
     ensures taking { IsTaking rows.now s (b + 1) held.new.items bound.new.items uses.new.binders.items }
-    ensures waiting { AreWaiting rows.now s (keys (length bound.old.items)) uses.new.binders.items uses.new.last.items uses.new.earlier.items }
+    ensures waiting { AreWaiting rows.now s
+        (keys (length bound.old.items)) uses.new.binders.items uses.new.last.items uses.new.earlier.items }
     ensures first { Notes first.old (second rows.now s b (scopes.bound_name (at rows.now b).node)) first.new }
 {
     if !held[b] && takes(rows[s].node, rows[b].node) {
@@ -267,16 +281,23 @@ fn bind(
     requires row { s < length rows.now }
     requires inside { b < s }
     requires names { AreNames rows.now (length bound.old.items) }
-    requires earlier { (x a : ℕ) → x < length bound.old.items → names.in_scope s (get_or bound.old.items x None) ≡ Some a → a < length rows.now }
-    requires waiting { AreWaiting rows.now s (keys (length bound.old.items)) uses.old.binders.items uses.old.last.items uses.old.earlier.items }
+    requires earlier { (x a : ℕ) → x < length bound.old.items
+        → names.in_scope s (get_or bound.old.items x None) ≡ Some a → a < length rows.now }
+    requires waiting { AreWaiting rows.now s
+        (keys (length bound.old.items)) uses.old.binders.items uses.old.last.items uses.old.earlier.items }
     ensures long { length bound.new.items ≡ length bound.old.items }
     ensures bound { (x : ℕ) → x < length bound.old.items → names.in_scope s (get_or bound.new.items x None)
-        ≡ option_or (names.in_scope s (get_or bound.old.items x None)) (if is_name x (scopes.bound_name (at rows.now b).node) then Some b else None) }
-    ensures later { (x t : ℕ) → s < t → names.in_scope t (get_or bound.old.items x None) ≡ None → names.in_scope t (get_or bound.new.items x None) ≡ None }
-    ensures waiting { AreWaiting rows.now s (keys (length bound.old.items)) uses.new.binders.items uses.new.last.items uses.new.earlier.items }
+        ≡ option_or (names.in_scope s (get_or bound.old.items x None))
+        (if is_name x (scopes.bound_name (at rows.now b).node) then Some b else None) }
+    ensures later { (x t : ℕ) → s < t → names.in_scope t (get_or bound.old.items x None) ≡ None
+        → names.in_scope t (get_or bound.new.items x None) ≡ None }
+    ensures waiting { AreWaiting rows.now s
+        (keys (length bound.old.items)) uses.new.binders.items uses.new.last.items uses.new.earlier.items }
     ensures binders { (i : ℕ) → i < length rows.now → get_or uses.new.binders.items i None
-        ≡ option_or (get_or uses.old.binders.items i None) (newly rows.now s b bound.old.items (scopes.bound_name (at rows.now b).node) i) }
-    ensures first { Notes first.old (again rows.now s b bound.old.items (scopes.bound_name (at rows.now b).node)) first.new }
+        ≡ option_or (get_or uses.old.binders.items i None)
+        (newly rows.now s b bound.old.items (scopes.bound_name (at rows.now b).node) i) }
+    ensures first { Notes first.old
+        (again rows.now s b bound.old.items (scopes.bound_name (at rows.now b).node)) first.new }
 {
     if let Some(name) = bound_name(rows[b].node) {
         if let Some(earlier) = in_scope(s, bound[name]) {
@@ -307,9 +328,13 @@ fn note_second(first: &mut Option<CheckCause>, rows: &[Row], b: usize, earlier: 
 fn resolve(rows: &[Row], uses: &mut Uses, s: usize, key: usize, b: usize)
     requires row { s < length rows.now }
     requires key { key < length uses.old.last.items }
-    requires waiting { AreWaiting rows.now s (length uses.old.last.items) uses.old.binders.items uses.old.last.items uses.old.earlier.items }
-    ensures waiting { AreWaiting rows.now s (length uses.old.last.items) uses.new.binders.items uses.new.last.items uses.new.earlier.items }
-    ensures binders { (i : ℕ) → i < length rows.now → get_or uses.new.binders.items i None ≡ option_or (get_or uses.old.binders.items i None) (given rows.now s key b i) }
+    requires waiting { AreWaiting rows.now s
+        (length uses.old.last.items) uses.old.binders.items uses.old.last.items uses.old.earlier.items }
+    ensures waiting { AreWaiting rows.now s
+        (length uses.old.last.items) uses.new.binders.items uses.new.last.items uses.new.earlier.items }
+    ensures binders { (i : ℕ) → i < length rows.now
+        → get_or uses.new.binders.items i None
+        ≡ option_or (get_or uses.old.binders.items i None) (given rows.now s key b i) }
 {
     let first = rows[s].first;
     while let Some(u) = not_before(first, uses.last[key]) {
@@ -343,9 +368,11 @@ fn wait(rows: &[Row], uses: &mut Uses, s: usize)
     requires row { s < length rows.now }
     requires key { (x : ℕ) → names.key_of (at rows.now s).node ≡ Some x → x < length uses.old.last.items }
     requires none { get_or uses.old.binders.items s None ≡ None }
-    requires waiting { AreWaiting rows.now s (length uses.old.last.items) uses.old.binders.items uses.old.last.items uses.old.earlier.items }
+    requires waiting { AreWaiting rows.now s
+        (length uses.old.last.items) uses.old.binders.items uses.old.last.items uses.old.earlier.items }
     ensures binders { uses.new.binders.items ≡ uses.old.binders.items }
-    ensures waiting { AreWaiting rows.now (s + 1) (length uses.old.last.items) uses.new.binders.items uses.new.last.items uses.new.earlier.items }
+    ensures waiting { AreWaiting rows.now (s + 1)
+        (length uses.old.last.items) uses.new.binders.items uses.new.last.items uses.new.earlier.items }
 {
     if let Some(key) = key_of(rows[s].node) {
         uses.earlier[s] = uses.last[key];

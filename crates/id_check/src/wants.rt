@@ -65,7 +65,8 @@ fn note_row(
     requires counts { AreCounts rows.now (length rows.now) counts.now }
     requires row { i < length rows.now }
     ensures { let row = at rows.now i in Notes first.old
-        (causes_in rows.now (λ i. get_or kinds.now i None) (get_or binders.now (user_of i row.node) None) row.place row.node)
+        (causes_in rows.now (λ i. get_or kinds.now i None)
+        (get_or binders.now (user_of i row.node) None) row.place row.node)
         first.new }
 {
     let row = rows[i];

@@ -10,7 +10,8 @@ use Rattle.id_core.specs.Machines.{World, MachineView}
 -- a machine's world as the pair of its fields
 abbrev pub coded_world : Coded World
 coded_world =
-    code_by (List State × List Message) (coded× (coded_list coded_state) (coded_list coded_message)) (λ w. (w.elements, w.flight)) (λ p. record { elements = p.0; flight = p.1 }) (λ _. refl)
+    code_by (List State × List Message) (coded× (coded_list coded_state) (coded_list coded_message))
+    (λ w. (w.elements, w.flight)) (λ p. record { elements = p.0; flight = p.1 }) (λ _. refl)
 
 -- a machine as the tuple of its fields
 abbrev pub coded_machine : Coded MachineView

@@ -1,5 +1,6 @@
 -- The machine: its elements and the messages in flight (docs/MACHINE.md, "Runs").
-use Rattle.std.specs.Prelude.{◌≡◌, ℕ, suc, ◌+◌, ◌<◌, ◌≤◌, Option, None, Some, List, [], ◌∷◌, ◌++◌, All, filter, map, length, slice_index_or, slice_get, slice_set, replicate, if◌then◌else◌}
+use Rattle.std.specs.Prelude.{◌≡◌, ℕ, suc, ◌+◌, ◌<◌, ◌≤◌, Option, None, Some, List, [], ◌∷◌, ◌++◌, All, filter, map}
+use Rattle.std.specs.Prelude.{length, slice_index_or, slice_get, slice_set, replicate, if◌then◌else◌}
 use Rattle.std.specs.List.{remove}
 use Rattle.id_graph.specs.declared.instr.Block.{Block}
 use Rattle.id_graph.specs.declared.dests.Port.TheVariants.{Zero}
@@ -41,15 +42,17 @@ token_value (source.Bool b) = value.Bool b
 abbrev pub input_messages : ℕ → List ℕ → List SourceValue → List Message
 input_messages k [] vs = []
 input_messages k (n ∷ ns) [] = []
-input_messages k (n ∷ ns) (v ∷ vs) = start_message k (Token (main_tag n) Zero (token_value v)) ∷ input_messages (suc k) ns vs
+input_messages k (n ∷ ns) (v ∷ vs) =
+    start_message k (Token (main_tag n) Zero (token_value v)) ∷ input_messages (suc k) ns vs
 
--- a signal to the first instruction of main's block, the continuation to instruction 0 to port 0 of its second, and the inputs to
--- its entries
+-- a signal to the first instruction of main's block, the continuation to instruction 0 to port 0 of its second, and the
+-- inputs to its entries
 abbrev pub block_messages : List Block → List SourceValue → List Message
 block_messages [] vs = []
 block_messages (b ∷ bs) vs =
     start_message 0 (Token (main_tag b.first) Zero value.Signal) ∷
-    start_message 1 (Token (main_tag (b.first + 1)) Zero (value.Continuation (main_tag 0))) ∷ input_messages 2 b.entries vs
+    start_message 1 (Token (main_tag (b.first + 1)) Zero
+    (value.Continuation (main_tag 0))) ∷ input_messages 2 b.entries vs
 
 -- the start messages of a graph with these inputs
 abbrev pub start_messages : Parts → List SourceValue → List Message
@@ -70,22 +73,26 @@ pub record TakesInputs (g : Parts) (vs : List SourceValue) : Type 0 where
 abbrev pub start : Parts → List SourceValue → ℕ → World
 start g vs count = record { elements = replicate count fresh; flight = start_messages g vs }
 
--- the message at position k leaves, the list closes up, the element n takes it from the state e to the next, and the outputs go last
+-- the message at position k leaves, the list closes up, the element n takes it from the state e to the next, and the
+-- outputs go last
 abbrev pub taken_from : Parts → ℕ → World → Message → ℕ → State → World
 taken_from g k s m n e = record {
   elements = slice_set s.elements n (state_after g n e m);
   flight = remove s.flight k ++ outputs_of g n e m;
 }
 
--- the message at position k is given to the element n in its state: where there is none, or no stamp is left, nothing changes
+-- the message at position k is given to the element n in its state: where there is none, or no stamp is left, nothing
+-- changes
 abbrev pub given_to : Parts → ℕ → World → Message → ℕ → Option State → World
 given_to g k s m n None = s
 given_to g k s m n (Some e) = if is_ended e m then s else taken_from g k s m n e
 
--- the message at position k is given to the element that it is for, of so many: where there is no message, nothing changes
+-- the message at position k is given to the element that it is for, of so many: where there is no message, nothing
+-- changes
 abbrev pub routed_to : Parts → ℕ → ℕ → World → Option Message → World
 routed_to g count k s None = s
-routed_to g count k s (Some m) = given_to g k s m (route_of m.payload count) (slice_get s.elements (route_of m.payload count))
+routed_to g count k s (Some m) =
+    given_to g k s m (route_of m.payload count) (slice_get s.elements (route_of m.payload count))
 
 -- the machine of so many elements after the message at position k was delivered
 abbrev pub delivered : Parts → ℕ → World → ℕ → World
@@ -99,7 +106,8 @@ event_of_given g n m (Some e) = if is_ended e m then None else Some (event_of g 
 -- the event of the element that the message is for
 abbrev pub event_of_routed : Parts → ℕ → World → Option Message → Option EventView
 event_of_routed g count s None = None
-event_of_routed g count s (Some m) = event_of_given g (route_of m.payload count) m (slice_get s.elements (route_of m.payload count))
+event_of_routed g count s (Some m) =
+    event_of_given g (route_of m.payload count) m (slice_get s.elements (route_of m.payload count))
 
 -- the event that delivering the message at position k makes, if that is possible
 abbrev pub event_at : Parts → ℕ → World → ℕ → Option EventView
@@ -135,7 +143,8 @@ pub record MachineView : Type 0 where
   pub count : ℕ
   pub world : World
 
--- what every machine keeps: 1 to 64 elements in order of their numbers, in flight what fits the graph, and its list of outputs empty
+-- what every machine keeps: 1 to 64 elements in order of their numbers, in flight what fits the graph, and its list of
+-- outputs empty
 pub record IsMachine (g : Parts) (es : List ElementView) (flight outputs : List Message) : Type 0 where
   pub at_least_one : 0 < length es
   pub at_most_64 : length es ≤ 64

@@ -1,3 +1,6 @@
--- The element step (docs/MACHINE.md, "Element step"): the definitions of `id_element`, and of `id_record` for what is sent.
-pub use Rattle.id_element.specs.Steps.{State, fresh, fresh_numbers, next_numbers, made_by, arrival_of, arrival, waiting_after, fired_step, fired_verdict, Outcome, firing, arriving, at_instr, outcome, next_stamp, is_ended, step_of, outputs_of, event_of, state_after}
+-- The element step (docs/MACHINE.md, "Element step"): the definitions of `id_element`, and of `id_record` for what is
+-- sent.
+pub use Rattle.id_element.specs.Steps.{State, fresh, fresh_numbers, next_numbers, made_by, arrival_of, arrival}
+pub use Rattle.id_element.specs.Steps.{waiting_after, fired_step, fired_verdict, Outcome, firing, arriving, at_instr}
+pub use Rattle.id_element.specs.Steps.{outcome, next_stamp, is_ended, step_of, outputs_of, event_of, state_after}
 pub use Rattle.id_record.specs.Sends.{token_to, sent, numbered}

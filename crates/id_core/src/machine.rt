@@ -1,6 +1,7 @@
 //! The machine: its elements and the messages in flight, in a list (docs/MACHINE.md, "Runs").
 
-ghost use Rattle.std.specs.Prelude.{◌≡◌, ◌<◌, ◌≤◌, ◌+◌, ◌++◌, ◌↔◌, [], ℕ, All, length, map, replicate, IfOk, OnOk, IsTrue, vec_len};
+ghost use Rattle.std.specs.Prelude.{◌≡◌, ◌<◌, ◌≤◌, ◌+◌, ◌++◌, ◌↔◌, [], ℕ, All, length, map, replicate, IfOk, OnOk};
+ghost use Rattle.std.specs.Prelude.{IsTrue, vec_len};
 ghost use Rattle.std.specs.List.{remove};
 ghost use Rattle.std.specs.VecDeque.{deque_len, deque_capacity};
 ghost use Rattle.id_graph.specs.declared.dests.Port.TheVariants.{Zero};
@@ -8,7 +9,8 @@ ghost use Rattle.id_tag.specs.declared.Payload.TheVariants.{Token};
 ghost use Rattle.id_record.specs.Events.{AllWent};
 ghost use Rattle.id_element.specs.Fits.{Fits};
 ghost use Rattle.id_element.specs.Steps.{fresh};
-ghost use Rattle.id_core.specs.Machines.{AreElements, TakesInputs, input_messages, start_message, start_messages, token_value};
+ghost use Rattle.id_core.specs.Machines.{AreElements, TakesInputs, input_messages, start_message, start_messages};
+ghost use Rattle.id_core.specs.Machines.{token_value};
 ghost use Rattle.id_observe.specs.Observed.{main_tag};
 
 use crate::flight::Flight;
@@ -85,7 +87,8 @@ impl<'a> Model for Machine<'a> {
 }
 
 impl<'a> Machine<'a> {
-    ghost use Rattle.std.specs.Prelude.{◌≡◌, ◌<◌, ◌↔◌, ◌⊎◌, [], All, length, map, Some, None, option_map, IfOk, OnOk, OnErr, IsTrue, MatchOption};
+    ghost use Rattle.std.specs.Prelude.{◌≡◌, ◌<◌, ◌↔◌, ◌⊎◌, [], All, length, map, Some, None, option_map, IfOk, OnOk};
+    ghost use Rattle.std.specs.Prelude.{OnErr, IsTrue, MatchOption};
     ghost use Rattle.std.specs.List.Sorted.{IsStrictlyIncreasing};
     ghost use Rattle.id_core.specs.Firsts.{IsFirstFault};
     ghost use Rattle.id_core.specs.declared.machine.MachineError.TheVariants.{BadElements};
@@ -104,7 +107,8 @@ impl<'a> Machine<'a> {
         count: u32,
     ) -> Result<Machine<'a>, MachineError>
         requires { TakesInputs graph.now inputs.now.values }
-        ensures ok { IfOk result (λ m. m ≡ record { graph = graph.now; count = count; world = start graph.now inputs.now.values count }) }
+        ensures ok { IfOk result
+            (λ m. m ≡ record { graph = graph.now; count = count; world = start graph.now inputs.now.values count }) }
         ensures refused { (result ≡ Err BadElements) ↔ ((count ≡ 0) ⊎ (64 < count)) }
     {
         if count == 0 || count > MAX_ELEMENTS {
@@ -126,10 +130,14 @@ impl<'a> Machine<'a> {
     pub fn deliver(&mut self, position: usize) -> Result<Step, TakeError>
         requires { position < length self.old.world.flight }
 
-        ensures world { OnOk result (self.new ≡ record self.old { world = delivered self.old.graph self.old.count self.old.world position }) }
-        ensures step { IfOk result (λ step. option_map (λ e. e.step) (event_at self.old.graph self.old.count self.old.world position) ≡ Some step) }
+        ensures world { OnOk result
+            (self.new ≡ record self.old { world = delivered self.old.graph self.old.count self.old.world position }) }
+        ensures step { IfOk result
+            (λ step. option_map (λ e. e.step) (event_at self.old.graph self.old.count self.old.world position)
+            ≡ Some step) }
 
-        ensures end { (result ≡ Err StampEnd) ↔ (event_at self.old.graph self.old.count self.old.world position ≡ None) }
+        ensures end { (result ≡ Err StampEnd) ↔
+            (event_at self.old.graph self.old.count self.old.world position ≡ None) }
         ensures err { OnErr result (self.new ≡ self.old) }
     {
         let message = self.flight[position];

@@ -1,5 +1,6 @@
 -- For each row the row where what begins there ends (docs/GRAPH.md, "Imports").
-use Rattle.std.specs.Prelude.{◌≡◌, ◌<◌, ℕ, Bool, false, if◌then◌else◌, nat_eq, unwrap_or, List, length, get_or, Option, None, Some}
+use Rattle.std.specs.Prelude.{◌≡◌, ◌<◌, ℕ, Bool, false, if◌then◌else◌, nat_eq, unwrap_or, List, length, get_or, Option}
+use Rattle.std.specs.Prelude.{None, Some}
 use Rattle.std.specs.Option.{option_or}
 use Rattle.id_parts.specs.declared.row.Node.{Node}
 use Rattle.id_parts.specs.declared.row.Node.TheVariants.{If, Call, Def}
@@ -8,8 +9,8 @@ use Rattle.id_check.specs.declared.checked.Checked.{Checked}
 use Rattle.id_check.specs.Programs.{rows}
 use Rattle.id_check.specs.Scopes.{first_of}
 
--- where what ends at a row of this node begins, if something does: a procedure at its head, a conditional's arms at its split,
--- a call at its `Enter`
+-- where what ends at a row of this node begins, if something does: a procedure at its head, a conditional's arms at its
+-- split, a call at its `Enter`
 abbrev pub begun_at : Node → Option ℕ
 begun_at (Def x h k b) = Some h
 begun_at (If s x y) = Some s

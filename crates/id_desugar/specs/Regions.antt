@@ -1,5 +1,6 @@
 -- The order in which rows are made into instructions, and the names that regions import (docs/GRAPH.md, "Imports").
-use Rattle.std.specs.Prelude.{ℕ, zero, suc, ◌+◌, ◌-◌, ◌==◌, Bool, true, false, if◌then◌else◌, ◌||◌, nat_lt, nat_le, List, [], ◌∷◌, ◌++◌, length, Option, None, Some}
+use Rattle.std.specs.Prelude.{ℕ, zero, suc, ◌+◌, ◌-◌, ◌==◌, Bool, true, false, if◌then◌else◌, ◌||◌, nat_lt, nat_le}
+use Rattle.std.specs.Prelude.{List, [], ◌∷◌, ◌++◌, length, Option, None, Some}
 use Rattle.id_parts.specs.declared.row.Node.{Node}
 use Rattle.id_parts.specs.declared.row.Node.TheVariants.{Name, Split}
 use Rattle.id_parts.specs.Rows.{at}
@@ -12,7 +13,8 @@ abbrev pub below : ℕ → List ℕ
 below zero = []
 below (suc n) = below n ++ n ∷ []
 
--- the rows in the order in which they are made: the last, which makes the answer's instruction, then those of the procedures
+-- the rows in the order in which they are made: the last, which makes the answer's instruction, then those of the
+-- procedures
 abbrev pub order_by : ℕ → List ℕ
 order_by zero = []
 order_by (suc n) = n ∷ below n
@@ -20,7 +22,8 @@ order_by (suc n) = n ∷ below n
 abbrev pub order_of : Checked → List ℕ
 order_of P = order_by (length (rows P))
 
--- the binder of the value that a row of this node uses, where o is the binder of its name: a procedure's name is none of a value
+-- the binder of the value that a row of this node uses, where o is the binder of its name: a procedure's name is none
+-- of a value
 abbrev pub used_by : Option ℕ → Node → Option ℕ
 used_by o (Name x) = o
 used_by o _ = None

@@ -36,7 +36,8 @@ pub fn begun_at(node: Node) -> Option<usize>
 /// Notes the row n as the end of what begins at this row, if nothing is noted yet. Takes no memory.
 fn note_end(ends: &mut Vec<Option<usize>>, n: usize, begun: Option<usize>)
     ensures long { length ends.new.items ≡ length ends.old.items }
-    ensures each { (h : ℕ) → h < length ends.old.items → IsEnd n begun h (get_or ends.old.items h None) (get_or ends.new.items h None) }
+    ensures each { (h : ℕ) → h < length ends.old.items
+        → IsEnd n begun h (get_or ends.old.items h None) (get_or ends.new.items h None) }
 {
     if let Some(begin) = begun {
         if begin < ends.len() && ends[begin].is_none() {

@@ -1,7 +1,8 @@
-//! The names that regions import (docs/GRAPH.md, "Imports"): those of an inner conditional are found before those of the one
-//! round it, which takes them over from it.
+//! The names that regions import (docs/GRAPH.md, "Imports"): those of an inner conditional are found before those of
+//! the one round it, which takes them over from it.
 
-ghost use Rattle.std.specs.Prelude.{◌≡◌, ◌↔◌, IsTrue, ◌≤◌, ◌<◌, ◌+◌, ◌-◌, ◌⊎◌, ◌^◌, true, false, [], length, get_or, IfOk, IfSome, OnOk, Some, None};
+ghost use Rattle.std.specs.Prelude.{◌≡◌, ◌↔◌, IsTrue, ◌≤◌, ◌<◌, ◌+◌, ◌-◌, ◌⊎◌, ◌^◌, true, false, [], length, get_or};
+ghost use Rattle.std.specs.Prelude.{IfOk, IfSome, OnOk, Some, None};
 ghost use Rattle.id_check.specs.Programs as programs;
 ghost use Rattle.id_desugar.specs.Ends.{AreEnds, end_row};
 ghost use Rattle.id_desugar.specs.Regions.{all_imports, imports, imports_by, with_use};
@@ -174,7 +175,8 @@ fn note_row(
 fn inner_end(checked: &Checked, ends: &[Option<usize>], row: usize) -> usize
     requires ends { AreEnds checked.now ends.now }
     requires within { row < length (programs.rows checked.now) }
-    ensures { result ≡ 0 ⊎ ((end_row checked.now row ≡ Some result) × (is_split (at (programs.rows checked.now) row).node ≡ true)) }
+    ensures { result ≡ 0
+        ⊎ ((end_row checked.now row ≡ Some result) × (is_split (at (programs.rows checked.now) row).node ≡ true)) }
 {
     if !is_split(row_at(checked, row).node) {
         return 0;

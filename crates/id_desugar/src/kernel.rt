@@ -12,8 +12,8 @@ use id_check::Checked;
 use id_list::Sequence;
 use std::alloc::{AllocError, Global};
 
-/// A checked program, lent, with the order in which its rows are made, by row where what begins there ends, and the binders
-/// that it imports.
+/// A checked program, lent, with the order in which its rows are made, by row where what begins there ends, and the
+/// binders that it imports.
 #[derive(Drop)]
 pub struct Kernel<'a> {
     pub checked: &'a Checked,

@@ -35,7 +35,8 @@ coded_event =
 -- a state as the tuple of its fields
 abbrev pub coded_state : Coded State
 coded_state =
-    code_by (Store × (ℕ × (ℕ × List EventView))) (coded× coded_store (coded× coded_ℕ (coded× coded_ℕ (coded_list coded_event))))
+    code_by (Store × (ℕ × (ℕ × List EventView)))
+    (coded× coded_store (coded× coded_ℕ (coded× coded_ℕ (coded_list coded_event))))
     (λ s. (s.waiting, (s.stamp, (s.contexts, s.events))))
     (λ p. record { waiting = p.0; stamp = p.1.0; contexts = p.1.1.0; events = p.1.1.1 })
     (λ _. refl)

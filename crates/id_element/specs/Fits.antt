@@ -21,15 +21,18 @@ pub record TakesReturn (g : Parts) (n r : ℕ) (k : PortKind) : Type 0 where
   pub back : op_at g n ≡ Some (Back k)
   pub merge : op_at g r ≡ Some (Merge k)
 
--- a continuation comes to port 0 of a block's `back`, names a merge of that block's result kind, and has no iteration above the stamp
+-- a continuation comes to port 0 of a block's `back`, names a merge of that block's result kind, and has no iteration
+-- above the stamp
 abbrev pub ContinuationFits : Parts → ℕ → Tag → Port → Value → Type 0
-ContinuationFits g stamp t p (value.Continuation u) = (p ≡ Zero) × ((k : PortKind) × TakesReturn g t.instr u.instr k) × (u.iteration ≤ stamp)
+ContinuationFits g stamp t p (value.Continuation u) = (p ≡ Zero) × ((k : PortKind) × TakesReturn g t.instr u.instr k)
+    × (u.iteration ≤ stamp)
 ContinuationFits g stamp t p value.Signal = Unit {0}
 ContinuationFits g stamp t p (value.Int n) = Unit {0}
 ContinuationFits g stamp t p (value.Bool b) = Unit {0}
 ContinuationFits g stamp t p (value.Context c) = Unit {0}
 
--- a token fits: its port exists and takes its kind, and neither its tag nor a continuation in it has an iteration above the stamp
+-- a token fits: its port exists and takes its kind, and neither its tag nor a continuation in it has an iteration above
+-- the stamp
 pub record TokenFits (g : Parts) (stamp : ℕ) (t : Tag) (p : Port) (v : Value) : Type 0 where
   pub kind : kind_at g.instrs (record { instr = t.instr; port = p }) ≡ Some (kind_of v)
   pub in_time : t.iteration ≤ stamp

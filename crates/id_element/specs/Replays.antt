@@ -23,7 +23,8 @@ messages es = map (λ e. e.message) es
 abbrev pub IsReplayed : Parts → ℕ → State → Type 0
 IsReplayed g n s = s ≡ after_all g n fresh (messages s.events)
 
--- the event's message was for the element n of so many, and a stamp was left above the message's and the element's last: the event's own is below 2^64
+-- the event's message was for the element n of so many, and a stamp was left above the message's and the element's
+-- last: the event's own is below 2^64
 pub record IsLegal (g : Parts) (count n : ℕ) (e : EventView) : Type 0 where
   pub for_it : IsFor g count n e.message
   pub stamp_left : e.message.stamp < 2 ^ 64 - 1

@@ -1,5 +1,6 @@
 -- The element step (docs/MACHINE.md, "Element step"), what is sent aside (`id_record/specs/Sends.antt`).
-use Rattle.std.specs.Prelude.{ℕ, ◌+◌, ◌-◌, ◌^◌, Bool, Option, None, Some, List, [], ◌∷◌, ◌++◌, length, max, slice_get, ◌==◌, ◌||◌, if◌then◌else◌}
+use Rattle.std.specs.Prelude.{ℕ, ◌+◌, ◌-◌, ◌^◌, Bool, Option, None, Some, List, [], ◌∷◌, ◌++◌, length, max, slice_get}
+use Rattle.std.specs.Prelude.{◌==◌, ◌||◌, if◌then◌else◌}
 use Rattle.std.specs.FinMap.{empty}
 use Rattle.id_graph.specs.declared.dests.Port.{Port}
 use Rattle.id_graph.specs.declared.instr.Op.{Op}
@@ -99,7 +100,13 @@ pub record Outcome : Type 0 where
 -- the outcome of a firing: what it sends goes to the destinations on its side
 abbrev pub firing : Instr → Tag → Store → Fired → Outcome
 firing i t w f =
-    record { sends = sent (Some i.op) (arcs_on (side_of f) i) t f; step = fired_step t f; waiting = w; made = made_by f }
+    record {
+      sends = sent (Some i.op)
+          (arcs_on (side_of f) i) t f;
+      step = fired_step t f;
+      waiting = w;
+      made = made_by f;
+    }
 
 -- the outcome of what becomes of a token, with the element's next numbers
 abbrev pub arriving : Fresh → Instr → Tag → Store → Arrival → Outcome
@@ -130,7 +137,8 @@ step_of g n s m = (outcome g (next_numbers n s) s.waiting m.payload).step
 
 -- what the element n sends on the message
 abbrev pub outputs_of : Parts → ℕ → State → Message → List Message
-outputs_of g n s m = numbered n (length s.events) (next_stamp s m) 0 (outcome g (next_numbers n s) s.waiting m.payload).sends
+outputs_of g n s m =
+    numbered n (length s.events) (next_stamp s m) 0 (outcome g (next_numbers n s) s.waiting m.payload).sends
 
 -- the event of the element n on the message
 abbrev pub event_of : Parts → ℕ → State → Message → EventView

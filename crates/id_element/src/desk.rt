@@ -20,7 +20,8 @@ pub(crate) struct Desk<'a> {
 }
 
 impl<'a> Desk<'a> {
-    ghost use Rattle.std.specs.Prelude.{◌≡◌, ◌+◌, ◌-◌, ◌^◌, ◌<◌, ◌≤◌, ◌++◌, ◌∷◌, [], ◌↔◌, Some, slice_get, length, max, vec_len, vec_capacity, IfOk, OnOk, OnErr, IsTrue};
+    ghost use Rattle.std.specs.Prelude.{◌≡◌, ◌+◌, ◌-◌, ◌^◌, ◌<◌, ◌≤◌, ◌++◌, ◌∷◌, [], ◌↔◌, Some, slice_get, length, max};
+    ghost use Rattle.std.specs.Prelude.{vec_len, vec_capacity, IfOk, OnOk, OnErr, IsTrue};
     ghost use Rattle.id_element.specs.declared.step.TakeError.TheVariants.{StampEnd};
     ghost use Rattle.id_record.specs.Events.{full_step, tag_of};
     ghost use Rattle.id_element.specs.Fits.{Fits};
@@ -59,8 +60,11 @@ impl<'a> Desk<'a> {
         requires fits { Fits graph.now message }
 
         ensures step { IfOk result (λ step. step ≡ step_of graph.now self.old.log.element (state_of self.old) message) }
-        ensures state { OnOk result (state_of self.new ≡ state_after graph.now self.old.log.element (state_of self.old) message) }
-        ensures outputs { OnOk result (outputs.new.items ≡ outputs.old.items ++ outputs_of graph.now self.old.log.element (state_of self.old) message) }
+        ensures state { OnOk result
+            (state_of self.new ≡ state_after graph.now self.old.log.element (state_of self.old) message) }
+        ensures outputs { OnOk result
+            (outputs.new.items
+            ≡ outputs.old.items ++ outputs_of graph.now self.old.log.element (state_of self.old) message) }
         ensures number { self.new.log.element ≡ self.old.log.element }
         ensures graph { self.new.log.graph ≡ self.old.log.graph }
         ensures left { OnOk result (message.stamp < 2 ^ 64 - 1) }

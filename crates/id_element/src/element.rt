@@ -72,10 +72,14 @@ impl<'a> Element<'a> {
         requires { IsFor self.old.graph self.old.count self.old.number message }
 
         ensures step { IfOk result (λ step. step ≡ step_of self.old.graph self.old.number self.old.state message) }
-        ensures state { OnOk result (self.new ≡ record self.old { state = state_after self.old.graph self.old.number self.old.state message }) }
-        ensures outputs { OnOk result (outputs.new.items ≡ outputs.old.items ++ outputs_of self.old.graph self.old.number self.old.state message) }
+        ensures state { OnOk result
+            (self.new ≡ record self.old { state = state_after self.old.graph self.old.number self.old.state message }) }
+        ensures outputs { OnOk result
+            (outputs.new.items
+            ≡ outputs.old.items ++ outputs_of self.old.graph self.old.number self.old.state message) }
         // What is sent fits, so that the element it is routed to can take it.
-        ensures fits { OnOk result (All (Fits self.old.graph) (outputs_of self.old.graph self.old.number self.old.state message)) }
+        ensures fits { OnOk result
+            (All (Fits self.old.graph) (outputs_of self.old.graph self.old.number self.old.state message)) }
 
         ensures end { (result ≡ Err StampEnd) ↔ IsTrue (is_ended self.old.state message) }
         ensures err { OnErr result (self.new ≡ self.old) }

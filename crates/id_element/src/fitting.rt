@@ -37,7 +37,8 @@ fn token_fits(graph: &Graph, stamp: u64, tag: Tag, port: Port, value: Value) -> 
 
 /// Whether the port exists and takes a value of this kind.
 fn has_kind(graph: &Graph, tag: Tag, port: Port, value: Value) -> bool
-    ensures { IsTrue result ↔ (kind_at graph.now.instrs (record { instr = tag.instr; port = port }) ≡ Some (kind_of value)) }
+    ensures { IsTrue result ↔
+        (kind_at graph.now.instrs (record { instr = tag.instr; port = port }) ≡ Some (kind_of value)) }
 {
     let dest = Dest {
         instr: tag.instr,

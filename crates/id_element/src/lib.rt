@@ -3,7 +3,8 @@
 //! Keeps: an element's state is what its record leads to.
 //! Errors: `TakeError`; after each of them nothing has changed.
 //! Read first: `specs/Steps.antt`, then `Element::take`.
-//! Not here: what an operator does (`id_ops`), matching (`id_match`), how events are kept (`id_record`), runs (`id_core`).
+//! Not here: what an operator does (`id_ops`), matching (`id_match`), how events are kept (`id_record`), runs
+//! (`id_core`).
 #![tactic(auto)]
 
 mod desk;

@@ -1,6 +1,7 @@
 //! What a token does at its instruction, and what is sent for it (docs/MACHINE.md, "Element step").
 
-ghost use Rattle.std.specs.Prelude.{ℕ, Some, ◌≡◌, ◌+◌, ◌-◌, ◌^◌, ◌<◌, ◌≤◌, ◌++◌, ◌||◌, ◌==◌, length, max, vec_len, vec_capacity, IfOk, OnOk, OnErr, IfErr, IsTrue, false, map};
+ghost use Rattle.std.specs.Prelude.{ℕ, Some, ◌≡◌, ◌+◌, ◌-◌, ◌^◌, ◌<◌, ◌≤◌, ◌++◌, ◌||◌, ◌==◌, length, max, vec_len};
+ghost use Rattle.std.specs.Prelude.{vec_capacity, IfOk, OnOk, OnErr, IfErr, IsTrue, false, map};
 ghost use Rattle.id_element.specs.Fits.{Fits};
 ghost use Rattle.id_element.specs.Steps.{State, outputs_of, at_instr, arrival, made_by, waiting_after, fresh_numbers};
 ghost use Rattle.id_record.specs.Sends.{HasSecond, count_started, sent, started, numbered, token_to};
@@ -27,7 +28,8 @@ pub(crate) fn next_stamp(last: u64, message: u64) -> Result<u64, TakeError>
     ensures below { OnOk result (message < 2 ^ 64 - 1) }
     ensures last_below { OnOk result (last < 2 ^ 64 - 1) }
     ensures left { OnOk result ((last == 2 ^ 64 - 1) || (message == 2 ^ 64 - 1) ≡ false) }
-    ensures end { IfErr result (λ e. (e ≡ TakeError.StampEnd) × IsTrue ((last == 2 ^ 64 - 1) || (message == 2 ^ 64 - 1))) }
+    ensures end { IfErr result
+        (λ e. (e ≡ TakeError.StampEnd) × IsTrue ((last == 2 ^ 64 - 1) || (message == 2 ^ 64 - 1))) }
 {
     if last == u64::MAX || message == u64::MAX {
         return Err(TakeError::StampEnd);
@@ -209,7 +211,9 @@ fn send_start(
 /// Appends one token for each destination, in order.
 fn send_all(dests: &[Dest], tag: Tag, value: Value, envelope: Envelope, outputs: &mut Vec<Message>)
     requires { vec_len outputs.old + length dests.now ≤ vec_capacity outputs.old }
-    ensures items { outputs.new.items ≡ outputs.old.items ++ numbered envelope.number envelope.position envelope.stamp 0 (map (token_to tag value) dests.now) }
+    ensures items { outputs.new.items
+        ≡ outputs.old.items
+        ++ numbered envelope.number envelope.position envelope.stamp 0 (map (token_to tag value) dests.now) }
     ensures len { vec_len outputs.new ≡ vec_len outputs.old + length dests.now }
     ensures capacity { vec_capacity outputs.new ≡ vec_capacity outputs.old }
 {

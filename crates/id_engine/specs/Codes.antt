@@ -9,4 +9,5 @@ use Rattle.id_engine.specs.Programs.{CompiledView}
 
 -- a program with its graph, as the pair of them
 abbrev pub coded_compiled : Coded CompiledView
-coded_compiled = code_by (Checked × Parts) (coded× checked.the_row.coded valid.the_row.coded) (λ c. (c.checked, c.graph)) (λ p. record { checked = p.0; graph = p.1 }) (λ _. refl)
+coded_compiled = code_by (Checked × Parts) (coded× checked.the_row.coded valid.the_row.coded)
+    (λ c. (c.checked, c.graph)) (λ p. record { checked = p.0; graph = p.1 }) (λ _. refl)

@@ -19,8 +19,8 @@ use Rattle.id_print.specs.Texts.{shown_text, stopped_text, fault_text, facts_tex
 use Rattle.id_print.specs.Reports.{asked}
 use Rattle.id_engine.specs.Programs.{IsProgramOf}
 
--- a command: say that the text is accepted, print its graph, print the facts of a round, or run it, with what names have or
--- without; the last two with the words of its inputs
+-- a command: say that the text is accepted, print its graph, print the facts of a round, or run it, with what names
+-- have or without; the last two with the words of its inputs
 pub data Command : Type 0 where
   Check : Command
   List_graph : Command
@@ -34,23 +34,28 @@ pub data Shows (P : Checked) (text : List ℕ) : Command → ℕ → List ℕ �
   -- the graph is one that the schemas give
   listed : {g : Parts} → Schemas P g → Shows P text List_graph 0 (listing text g)
   -- the facts are exactly those of the round, on the inputs that the words give
-  facts : {n : ℕ} {ws : List (List ℕ)} {vs : List SourceValue} {fs : List Fact} → AreInputsOf P ws vs → AreFacts (source P vs) n fs →
+  facts : {n : ℕ} {ws : List (List ℕ)} {vs : List SourceValue} {fs : List Fact} → AreInputsOf P ws vs
+      → AreFacts (source P vs) n fs →
       Shows P text (Facts n ws) 0 (facts_text text fs)
-  -- a quiet run shows the answer that the source's equations give, exactly what its names have, where they are asked for, and
-  -- the source has no fault
-  quiet : {b : Bool} {ws : List (List ℕ)} {vs : List SourceValue} (v : Option SourceValue) (ns : List NameValue) → AreInputsOf P ws vs →
+  -- a quiet run shows the answer that the source's equations give, exactly what its names have, where they are asked
+  -- for, and the source has no fault
+  quiet : {b : Bool} {ws : List (List ℕ)} {vs : List SourceValue} (v : Option SourceValue) (ns : List NameValue)
+      → AreInputsOf P ws vs →
       IsAnswer (source P vs) v → (IsTrue b → AreNames (source P vs) ns) → FaultFree (source P vs) →
       Shows P text (Run b ws) 0 (shown_text text v (asked b ns))
   -- a run that stops at a fault shows a fault of the source
-  fault : {b : Bool} {ws : List (List ℕ)} {vs : List SourceValue} (f : SourceFault) → AreInputsOf P ws vs → Faulty (source P vs) f →
+  fault : {b : Bool} {ws : List (List ℕ)} {vs : List SourceValue} (f : SourceFault) → AreInputsOf P ws vs
+      → Faulty (source P vs) f →
       Shows P text (Run b ws) 1 (fault_text text f)
   -- a run that stops at its limit shows no answer but the source's, and of names only what they have
-  stopped : {b : Bool} {ws : List (List ℕ)} {vs : List SourceValue} (v : Option SourceValue) (ns : List NameValue) → AreInputsOf P ws vs →
+  stopped : {b : Bool} {ws : List (List ℕ)} {vs : List SourceValue} (v : Option SourceValue) (ns : List NameValue)
+      → AreInputsOf P ws vs →
       IfSome v (Answers (source P vs)) → AreSomeNames (source P vs) ns →
       Shows P text (Run b ws) 3 (stopped_text text v (asked b ns))
 
 -- what a command shows of the text's program, with this status, is printed with this result
-pub record HasShown (c : Command) (text : List ℕ) (old new : Option Told) (status : ℕ) (result : Result (Unit {0}) PrintError) : Type 0 where
+pub record HasShown (c : Command) (text : List ℕ) (old new : Option Told) (status : ℕ)
+    (result : Result (Unit {0}) PrintError) : Type 0 where
   pub program : Checked
   pub is_program : IsProgramOf text program
   pub output : List ℕ

@@ -71,6 +71,7 @@ pub data IsRefusedBy (text : List ℕ) : CompileError → Type 0 where
   by_lexer : (e : TextError) → IsRefusal text e → IsRefusedBy text (Text e)
   by_parser : (ts : List Token) (e : TreeError) → Lexes 0 text ts Whole → RefusedBy ts e → IsRefusedBy text (Tree e)
   by_check : (ts : List Token) (p : Program) (c : CheckCause) →
-      Lexes 0 text ts Whole → Accepts ts (program_tree p) → IsRefusedFor (rows_of (program_tree p)) c → IsRefusedBy text (Check c)
+      Lexes 0 text ts Whole → Accepts ts (program_tree p) → IsRefusedFor (rows_of (program_tree p)) c
+      → IsRefusedBy text (Check c)
   too_large : (P : Checked) → IsProgramOf text P → 1000000 < size P → IsRefusedBy text TooLarge
   by_memory : IsRefusedBy text Memory

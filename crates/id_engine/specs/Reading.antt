@@ -1,5 +1,6 @@
 -- What a source tells of a read, and what is read of bytes (docs/PROMISES.md, "The edge").
-use Rattle.std.specs.Prelude.{◌≡◌, ◌<◌, ◌≤◌, ◌⊎◌, ℕ, List, length, Option, None, Some, Result, Ok, Err, String, string_bytes}
+use Rattle.std.specs.Prelude.{◌≡◌, ◌<◌, ◌≤◌, ◌⊎◌, ℕ, List, length, Option, None, Some, Result, Ok, Err, String}
+use Rattle.std.specs.Prelude.{string_bytes}
 use Rattle.std.specs.Str.{IsUtf8}
 use Rattle.id_engine.specs.declared.source.SourceFault.{SourceFault}
 use Rattle.id_engine.specs.declared.source.SourceFault.TheVariants.{TooLong, File, Memory}

@@ -1,5 +1,6 @@
 -- How refusals are printed, and why a command refuses (docs/PROMISES.md, "Refusals").
-use Rattle.std.specs.Prelude.{◌≡◌, ◌<◌, ◌≤◌, ℕ, List, [], ◌++◌, codes, decimal, length, slice_get, Option, None, Some, Result}
+use Rattle.std.specs.Prelude.{◌≡◌, ◌<◌, ◌≤◌, ℕ, List, [], ◌++◌, codes, decimal, length, slice_get, Option, None, Some}
+use Rattle.std.specs.Prelude.{Result}
 use Rattle.id_text.specs.declared.token.TextError.{TextError}
 use Rattle.id_text.specs.declared.token.TextError.TheVariants as lexer
 use Rattle.id_value.specs.declared.Kind.{Kind}
@@ -28,7 +29,11 @@ use Rattle.id_engine.specs.declared.refusal.Detail.{Detail}
 use Rattle.id_engine.specs.declared.refusal.Detail.TheVariants.{Nothing, Place, Kinds, Word}
 use Rattle.id_engine.specs.declared.refusal.Refusal.{Refusal}
 use Rattle.id_engine.specs.declared.refusal.Cause.{Cause}
-use Rattle.id_engine.specs.declared.refusal.Cause.TheVariants.{TooLong, BadByte, NumberTooLarge, File, Unexpected, TooDeep, NoMain, MainKind, Duplicate, Unknown, WrongCount, WrongKind, TooManyParams, TooLarge, MissingInput, UnknownInput, RepeatedInput, BadInput, BadSteps, BadRounds, TooManyFacts, Memory, Write}
+use Rattle.id_engine.specs.declared.refusal.Cause.TheVariants.{TooLong, BadByte, NumberTooLarge, File, Unexpected}
+use Rattle.id_engine.specs.declared.refusal.Cause.TheVariants.{TooDeep, NoMain, MainKind, Duplicate, Unknown}
+use Rattle.id_engine.specs.declared.refusal.Cause.TheVariants.{WrongCount, WrongKind, TooManyParams, TooLarge}
+use Rattle.id_engine.specs.declared.refusal.Cause.TheVariants.{MissingInput, UnknownInput, RepeatedInput, BadInput}
+use Rattle.id_engine.specs.declared.refusal.Cause.TheVariants.{BadSteps, BadRounds, TooManyFacts, Memory, Write}
 use Rattle.id_engine.specs.Programs.{IsProgramOf, HasInputs, IsNameOfParam, IsRefusedBy}
 
 -- the number of a cause, where it has one, its name, and the status of the program after it
@@ -180,7 +185,8 @@ pub record IsMissing (P : Checked) (words : List (List ℕ)) (name : List ℕ) :
   pub refused : AreRefusedInputs P words (input.MissingInput number)
   pub is_name : IsNameOfParam P number name
 
--- the words are refused as inputs of the program: one of them, or then for a parameter without one, or for want of memory
+-- the words are refused as inputs of the program: one of them, or then for a parameter without one, or for want of
+-- memory
 abbrev pub AreRefusedFor : Checked → List (List ℕ) → EngineError → Type 0
 AreRefusedFor P ws (engine.UnknownInput j) = AreRefusedInputs P ws (input.UnknownInput j)
 AreRefusedFor P ws (engine.RepeatedInput j) = AreRefusedInputs P ws (input.RepeatedInput j)
@@ -243,7 +249,8 @@ pub record IsPrintedLine (text : List ℕ) (r : Refusal) (old new : Option Told)
   pub printed : Prints old new (refusal_text text r) written
 
 -- the line of a refusal for the error is printed, and this is the status after it
-pub record IsToldRefusal (text : List ℕ) (words : List (List ℕ)) (e : EngineError) (old new : Option Told) (status : ℕ) : Type 0 where
+pub record IsToldRefusal (text : List ℕ) (words : List (List ℕ)) (e : EngineError) (old new : Option Told) (status : ℕ)
+    : Type 0 where
   pub refusal : Refusal
   pub tells : Tells words e refusal
   pub printed : IsPrintedLine text refusal old new

@@ -1,5 +1,6 @@
 -- The report of a run of a text's program, and deliveries to a machine of one element.
-use Rattle.std.specs.Prelude.{◌≡◌, ◌≤◌, ◌<◌, ◌⊎◌, ℕ, Bool, IsTrue, IsFalse, List, [], ◌∷◌, All, length, Option, None, Some, IfSome}
+use Rattle.std.specs.Prelude.{◌≡◌, ◌≤◌, ◌<◌, ◌⊎◌, ℕ, Bool, IsTrue, IsFalse, List, [], ◌∷◌, All, length, Option, None}
+use Rattle.std.specs.Prelude.{Some, IfSome}
 use Rattle.id_check.specs.declared.checked.Checked.{Checked}
 use Rattle.id_meaning.specs.declared.SourceValue.{SourceValue}
 use Rattle.id_meaning.specs.declared.SourceFault.{SourceFault}
@@ -54,13 +55,15 @@ pub record IsReportFrom (m : MachineView) (b : Bool) (r : Report) : Type 0 where
   pub none : IsFalse b → r.names ≡ []
   pub ends : EndsSo m r.ending
 
--- deliveries at these positions, from this state, have come to an end: at a fault, or where all messages left are held back
+-- deliveries at these positions, from this state, have come to an end: at a fault, or where all messages left are held
+-- back
 pub data HasEnded (g : Parts) (steps : ℕ) (w : World) (ks : List ℕ) : Type 0 where
   at_fault : (f : SourceFault) → EndsAt g 1 w ks f → HasEnded g steps w ks
-  at_rest : faults g (run g 1 ks w) ≡ [] → All (IsHeldBack 1 steps (run g 1 ks w)) (run g 1 ks w).flight → HasEnded g steps w ks
+  at_rest : faults g (run g 1 ks w) ≡ [] → All (IsHeldBack 1 steps (run g 1 ks w)) (run g 1 ks w).flight
+      → HasEnded g steps w ks
 
--- the report, with names where they are asked for, is that of a run that has ended, on one element that has handled at most so
--- many messages
+-- the report, with names where they are asked for, is that of a run that has ended, on one element that has handled at
+-- most so many messages
 pub record IsReportOfRun (g : Parts) (vs : List SourceValue) (steps : ℕ) (b : Bool) (r : Report) : Type 0 where
   pub positions : List ℕ
   pub few : All (λ s. length s.events ≤ steps) (after g vs 1 positions).elements
@@ -94,7 +97,8 @@ pub record GoesOn (g : Parts) (from to : World) (n : ℕ) : Type 0 where
   pub single : IsSingle to n
   pub none : faults g to ≡ []
 
--- the machine is one of one element, at the start of a graph that the schemas give a program, with inputs of the program
+-- the machine is one of one element, at the start of a graph that the schemas give a program, with inputs of the
+-- program
 pub record IsFreshMachine (m : MachineView) : Type 0 where
   pub origin : Source
   pub inputs : AreInputs origin.checked origin.inputs

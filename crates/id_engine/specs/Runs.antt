@@ -1,5 +1,6 @@
 -- Runs of the engine: which messages are delivered, and what is printed of them (docs/PROMISES.md, "The run").
-use Rattle.std.specs.Prelude.{◌≡◌, ◌≢◌, ◌≤◌, ◌⊎◌, ℕ, Bool, IsTrue, List, [], ◌∷◌, ◌++◌, All, length, slice_get, Option, Some, Ok}
+use Rattle.std.specs.Prelude.{◌≡◌, ◌≢◌, ◌≤◌, ◌⊎◌, ℕ, Bool, IsTrue, List, [], ◌∷◌, ◌++◌, All, length, slice_get, Option}
+use Rattle.std.specs.Prelude.{Some, Ok}
 use Rattle.id_check.specs.declared.checked.Checked.{Checked}
 use Rattle.id_graph.specs.Graph.{Parts}
 use Rattle.id_tag.specs.declared.Message.{Message}
@@ -37,20 +38,25 @@ pub record EndsAt (g : Parts) (count : ℕ) (w : World) (ks : List ℕ) (f : Sou
   pub one : faults g (run g count ks w) ≡ f ∷ []
 
 -- how a run ends, and what is printed of it, its names where they are asked for
-pub data Ends (g : Parts) (vs : List SourceValue) (count steps : ℕ) (ks : List ℕ) (text : List ℕ) (b : Bool) : ℕ → List ℕ → Type 0 where
+pub data Ends (g : Parts) (vs : List SourceValue) (count steps : ℕ) (ks : List ℕ) (text : List ℕ) (b : Bool) : ℕ
+    → List ℕ → Type 0 where
   -- with status 0 the machine is quiet
-  quiet : (ns : List NameValue) → IsQuiet (after g vs count ks) → (IsTrue b → IsSortedOf ns (names g (after g vs count ks))) →
+  quiet : (ns : List NameValue) → IsQuiet (after g vs count ks)
+      → (IsTrue b → IsSortedOf ns (names g (after g vs count ks))) →
       Ends g vs count steps ks text b 0 (shown_text text (answer (after g vs count ks)) (asked b ns))
   -- with status 1 it has shown one fault, by its last delivery
-  fault : (f : SourceFault) → EndsAt g count (start g vs count) ks f → Ends g vs count steps ks text b 1 (fault_text text f)
+  fault : (f : SourceFault) → EndsAt g count (start g vs count) ks f
+      → Ends g vs count steps ks text b 1 (fault_text text f)
   -- with status 3 it has shown no fault, and messages are left, all of them held back
   stopped : (ns : List NameValue) → faults g (after g vs count ks) ≡ [] → (after g vs count ks).flight ≢ [] →
       All (IsHeldBack count steps (after g vs count ks)) (after g vs count ks).flight →
       (IsTrue b → IsSortedOf ns (names g (after g vs count ks))) →
       Ends g vs count steps ks text b 3 (stopped_text text (answer (after g vs count ks)) (asked b ns))
 
--- a run of the text's program on the inputs that the words give, on one element, which handles at most so many messages, is printed with this status
-pub record Ran (text : List ℕ) (words : List (List ℕ)) (steps : ℕ) (b : Bool) (old new : Option Told) (status : ℕ) : Type 0 where
+-- a run of the text's program on the inputs that the words give, on one element, which handles at most so many
+-- messages, is printed with this status
+pub record Ran (text : List ℕ) (words : List (List ℕ)) (steps : ℕ) (b : Bool) (old new : Option Told) (status : ℕ)
+    : Type 0 where
   pub program : Checked
   pub is_program : IsProgramOf text program
   pub graph : Parts

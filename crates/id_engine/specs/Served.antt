@@ -14,7 +14,8 @@ use Rattle.id_engine.specs.Reading.{IsToldText, IsUnread}
 use Rattle.id_engine.specs.Programs.{HasProgram}
 use Rattle.id_engine.specs.Commands.{Command, Check, List_graph, Facts, Run, ShowsAll, ShowsFront}
 use Rattle.id_engine.specs.Runs.{Ran}
-use Rattle.id_engine.specs.Refusals.{IsRefusedText, IsRefusedRun, IsTakenRun, AreRefusedFacts, AreTakenFacts, IsToldRefusal, IsPrintedLine, plain, row_of, source_cause}
+use Rattle.id_engine.specs.Refusals.{IsRefusedText, IsRefusedRun, IsTakenRun, AreRefusedFacts, AreTakenFacts}
+use Rattle.id_engine.specs.Refusals.{IsToldRefusal, IsPrintedLine, plain, row_of, source_cause}
 
 -- the file of a request
 abbrev pub file_of : Request → List ℕ
@@ -48,7 +49,8 @@ IsTaken text (asks.Facts file rounds inputs) = AreTakenFacts text (map (λ w. w.
 abbrev pub IsRun : List ℕ → Request → Option Told → Option Told → ℕ → Type 0
 IsRun text (asks.Check file) out out' status = Unit {0}
 IsRun text (asks.Graph file) out out' status = Unit {0}
-IsRun text (asks.Run file inputs steps names) out out' status = Ran text (map (λ w. w.now) inputs.items) steps names out out' status
+IsRun text (asks.Run file inputs steps names) out out' status =
+    Ran text (map (λ w. w.now) inputs.items) steps names out out' status
 IsRun text (asks.Facts file rounds inputs) out out' status = Unit {0}
 
 -- why a request on a text is refused
@@ -60,25 +62,31 @@ IsRefusedRequest text (asks.Facts file rounds inputs) e = AreRefusedFacts text (
 
 -- the request is served: what it asks for is printed whole, or one line says why not
 pub data Serves (text : List ℕ) (r : Request) (out out' err err' : Option Told) : ℕ → Type 0 where
-  done : {status : ℕ} → ShowsAll (command_of r) text out out' status → IsTaken text r → IsRun text r out out' status → err' ≡ err →
+  done : {status : ℕ} → ShowsAll (command_of r) text out out' status → IsTaken text r → IsRun text r out out' status
+      → err' ≡ err →
       Serves text r out out' err err' status
   -- nothing is printed but the line of the refusal
-  refused : {status : ℕ} (e : EngineError) → e ≢ Write → IsRefusedRequest text r e → out' ≡ out → IsToldRefusal text (words_of r) e err err' status →
+  refused : {status : ℕ} (e : EngineError) → e ≢ Write → IsRefusedRequest text r e → out' ≡ out
+      → IsToldRefusal text (words_of r) e err err' status →
       Serves text r out out' err err' status
   -- a write failed, and a front is out
   cut : {status : ℕ} → ShowsFront (command_of r) text out out' → IsToldRefusal text (words_of r) Write err err' status →
       Serves text r out out' err err' status
 
 -- a request is done with what the source tells of its file: the text is served, or its fault is refused
-pub data Drives (told : Option (Result (List ℕ) SourceFault)) (r : Request) (out out' err err' : Option Told) : ℕ → Type 0 where
-  served : {status : ℕ} (text : List ℕ) → IsToldText told text → Serves text r out out' err err' status → Drives told r out out' err err' status
-  unread : (fault : SourceFault) → IsUnread told fault → out' ≡ out → IsPrintedLine [] (plain (source_cause fault)) err err' →
+pub data Drives (told : Option (Result (List ℕ) SourceFault)) (r : Request) (out out' err err' : Option Told) : ℕ
+    → Type 0 where
+  served : {status : ℕ} (text : List ℕ) → IsToldText told text → Serves text r out out' err err' status
+      → Drives told r out out' err err' status
+  unread : (fault : SourceFault) → IsUnread told fault → out' ≡ out
+      → IsPrintedLine [] (plain (source_cause fault)) err err' →
       Drives told r out out' err err' (row_of (source_cause fault)).2
 
 -- help is printed whole, or a write of it failed
 pub data HasHelped (text : List ℕ) (out out' err err' : Option Told) : ℕ → Type 0 where
   whole : Prints out out' text (Ok tt) → err' ≡ err → HasHelped text out out' err err' 0
-  cut : (e : PrintError) → Prints out out' text (Err e) → IsPrintedLine [] (plain cause.Write) err err' → HasHelped text out out' err err' 5
+  cut : (e : PrintError) → Prints out out' text (Err e) → IsPrintedLine [] (plain cause.Write) err err'
+      → HasHelped text out out' err err' 5
 
 -- the text is printed to standard error, whole or up to a failed write
 pub record IsSaid (text : List ℕ) (err err' : Option Told) : Type 0 where

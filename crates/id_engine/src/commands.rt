@@ -98,8 +98,10 @@ pub fn facts_text<W: Sink>(
     round: u32,
     out: &mut W,
 ) -> Result<u8, EngineError>
-    ensures shown { IfOk result (ShowsAll (Facts round (map (λ w. w.now) inputs.now)) text.now (W.told out.old) (W.told out.new)) }
-    ensures cut { result ≡ Err EngineError.Write → ShowsFront (Facts round (map (λ w. w.now) inputs.now)) text.now (W.told out.old) (W.told out.new) }
+    ensures shown { IfOk result
+        (ShowsAll (Facts round (map (λ w. w.now) inputs.now)) text.now (W.told out.old) (W.told out.new)) }
+    ensures cut { result ≡ Err EngineError.Write
+        → ShowsFront (Facts round (map (λ w. w.now) inputs.now)) text.now (W.told out.old) (W.told out.new) }
     ensures silent { IfErr result (λ e. e ≢ EngineError.Write → W.told out.new ≡ W.told out.old) }
     ensures taken { OnOk result (AreTakenFacts text.now (map (λ w. w.now) inputs.now) round) }
     ensures refused { IfErr result (AreRefusedFacts text.now (map (λ w. w.now) inputs.now) round) }
@@ -140,9 +142,11 @@ fn facts_of_prepared(
     round: u32,
 ) -> Result<Vec<Fact>, EngineError>
     requires { AreInputs prepared.now.compiled.checked prepared.now.inputs.values }
-    ensures facts { IfOk result (λ v. AreFacts (source prepared.now.compiled.checked prepared.now.inputs.values) round v.items) }
+    ensures facts { IfOk result
+        (λ v. AreFacts (source prepared.now.compiled.checked prepared.now.inputs.values) round v.items) }
     ensures few { IfOk result (λ v. (round ≤ 10000) × (length v.items ≤ 1000000)) }
-    ensures refused { IfErr result (AreRefusedRounds (source prepared.now.compiled.checked prepared.now.inputs.values) round) }
+    ensures refused { IfErr result
+        (AreRefusedRounds (source prepared.now.compiled.checked prepared.now.inputs.values) round) }
 {
     match rounds(alloc, prepared.compiled.checked(), &prepared.inputs, round) {
         Ok(facts) => Ok(facts),

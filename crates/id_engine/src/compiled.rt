@@ -6,7 +6,8 @@ ghost use Rattle.id_build.specs.Schemas.{Schemas};
 ghost use Rattle.id_tree.specs.Distinct.{Distinct};
 ghost use Rattle.id_tree.specs.Tree.{program_tree};
 ghost use Rattle.id_valid.specs.Validator.{TellsFault};
-ghost use Rattle.id_engine.specs.Programs.{ArePlacedWithin, HasProgram, IsProgramOf, IsPlacedWithin, IsRefusedBy, IsTreeOf};
+ghost use Rattle.id_engine.specs.Programs.{ArePlacedWithin, HasProgram, IsProgramOf, IsPlacedWithin, IsRefusedBy};
+ghost use Rattle.id_engine.specs.Programs.{IsTreeOf};
 ghost use Rattle.id_engine.specs.Reports.{IsRefusedGraph};
 ghost use Rattle.id_engine.specs.Refusals.{IsCauseInside};
 

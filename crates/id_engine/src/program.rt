@@ -3,7 +3,8 @@
 ghost use Rattle.std.specs.Prelude.{◌≡◌, ◌≢◌, [], map, IfErr, IfOk};
 ghost use Rattle.id_engine.specs.Commands.{ShowsAll, ShowsFront};
 ghost use Rattle.id_engine.specs.Refusals.{IsInsideOf, IsPrintedLine, IsToldRefusal, plain, row_of};
-ghost use Rattle.id_engine.specs.Served.{Answers, Drives, HasHelped, IsRefusedRequest, IsRun, IsTaken, Serves, command_of, file_of, words_of};
+ghost use Rattle.id_engine.specs.Served.{Answers, Drives, HasHelped, IsRefusedRequest, IsRun, IsTaken, Serves};
+ghost use Rattle.id_engine.specs.Served.{command_of, file_of, words_of};
 
 use crate::commands::{check_text, facts_text, graph_text};
 use crate::error::EngineError;
@@ -59,7 +60,8 @@ fn print_asked<O: Sink>(
     ensures shown { IfOk result (ShowsAll (command_of request.now) text.now (O.told out.old) (O.told out.new)) }
     ensures taken { IfOk result (λ _. IsTaken text.now request.now) }
     ensures ran { IfOk result (IsRun text.now request.now (O.told out.old) (O.told out.new)) }
-    ensures cut { result ≡ Err EngineError.Write → ShowsFront (command_of request.now) text.now (O.told out.old) (O.told out.new) }
+    ensures cut { result ≡ Err EngineError.Write
+        → ShowsFront (command_of request.now) text.now (O.told out.old) (O.told out.new) }
     ensures silent { IfErr result (λ e. e ≢ EngineError.Write → O.told out.new ≡ O.told out.old) }
     ensures refused { IfErr result (IsRefusedRequest text.now request.now) }
     ensures inside { IfErr result (IsInsideOf text.now) }
@@ -137,7 +139,8 @@ fn serve_file<S: Source, O: Sink, E: Sink>(
     out: &mut O,
     err: &mut E,
 ) -> u8
-    ensures { Drives (S.told source.old (file_of request.now)) request.now (O.told out.old) (O.told out.new) (E.told err.old) (E.told err.new) result }
+    ensures { Drives (S.told source.old (file_of request.now)) request.now (O.told out.old) (O.told out.new)
+        (E.told err.old) (E.told err.new) result }
 {
     match source.read(alloc, file_of(request)) {
         Ok(text) => serve(alloc, request, text.as_str(), out, err),
@@ -154,8 +157,11 @@ pub fn drive<S: Source, O: Sink, E: Sink>(
     out: &mut O,
     err: &mut E,
 ) -> u8
-    ensures asked { IfOk asked.now (λ r. Drives (S.told source.old (file_of r)) r (O.told out.old) (O.told out.new) (E.told err.old) (E.told err.new) result) }
-    ensures unasked { IfErr asked.now (λ u. Answers (O.told out.old) (O.told out.new) (E.told err.old) (E.told err.new) u result) }
+    ensures asked { IfOk asked.now
+        (λ r. Drives (S.told source.old (file_of r)) r (O.told out.old) (O.told out.new) (E.told err.old)
+        (E.told err.new) result) }
+    ensures unasked { IfErr asked.now
+        (λ u. Answers (O.told out.old) (O.told out.new) (E.told err.old) (E.told err.new) u result) }
 {
     match asked {
         Ok(request) => serve_file(alloc, request, source, out, err),

@@ -4,7 +4,10 @@ ghost use Rattle.std.specs.Prelude.{◌≡◌, ◌++◌, codes, decimal, map};
 ghost use Rattle.std.specs.Option.{option_copied};
 ghost use Rattle.id_print.specs.Texts.{place_text};
 ghost use Rattle.id_print.specs.Told.{Prints};
-ghost use Rattle.id_engine.specs.Refusals.{at_text, cause_text, checker_refusal, compiler_refusal, detail_text, IsDetailInside, IsInside, IsPrintedLine, IsWord, kind_text, kinds_text, lexer_refusal, number_text, parser_refusal, plain, refusal_text, row_of, source_cause, Tells};
+ghost use Rattle.id_engine.specs.Refusals.{at_text, cause_text, checker_refusal, compiler_refusal, detail_text};
+ghost use Rattle.id_engine.specs.Refusals.{IsDetailInside, IsInside, IsPrintedLine, IsWord, kind_text, kinds_text};
+ghost use Rattle.id_engine.specs.Refusals.{lexer_refusal, number_text, parser_refusal, plain, refusal_text, row_of};
+ghost use Rattle.id_engine.specs.Refusals.{source_cause, Tells};
 
 use crate::compiled::CompileError;
 use crate::error::EngineError;
@@ -307,7 +310,8 @@ fn put_cause_number<W: Sink>(number: Option<u32>, sink: &mut W) -> Result<(), Pr
 }
 
 fn put_row<W: Sink>(row: &Row, sink: &mut W) -> Result<(), PrintError>
-    ensures { Prints (W.told sink.old) (W.told sink.new) (number_text row.now.number ++ (codes " " ++ row.now.name.now)) result }
+    ensures { Prints (W.told sink.old) (W.told sink.new)
+        (number_text row.now.number ++ (codes " " ++ row.now.name.now)) result }
 {
     put_cause_number(row.number, sink)?;
     put(sink, b" ")?;

@@ -7,7 +7,8 @@ ghost use Rattle.id_meaning.specs.Sources.{AreInputs, source};
 ghost use Rattle.id_print.specs.Within.{ReportWithin};
 ghost use Rattle.id_engine.specs.Commands.{Run, ShowsAll, ShowsFront};
 ghost use Rattle.id_engine.specs.Refusals.{IsInsideOf, IsRefusedRun, IsTakenRun};
-ghost use Rattle.id_engine.specs.Reports.{AreRefusedSteps, Delivers, IsAtRest, HasRun, IsFreshMachine, IsReportFrom, IsReportOf, IsReportOfRun, IsTrueOf, status_of};
+ghost use Rattle.id_engine.specs.Reports.{AreRefusedSteps, Delivers, IsAtRest, HasRun, IsFreshMachine, IsReportFrom};
+ghost use Rattle.id_engine.specs.Reports.{IsReportOf, IsReportOfRun, IsTrueOf, status_of};
 ghost use Rattle.id_engine.specs.Runs.{Ran};
 
 use crate::error::EngineError;
@@ -31,7 +32,8 @@ fn machine_of<'a>(
     inputs: &Inputs,
 ) -> Result<Machine<'a>, EngineError>
     requires { TakesInputs valid.now inputs.now.values }
-    ensures start { IfOk result (λ m. m ≡ record { graph = valid.now; count = 1; world = start valid.now inputs.now.values 1 }) }
+    ensures start { IfOk result
+        (λ m. m ≡ record { graph = valid.now; count = 1; world = start valid.now inputs.now.values 1 }) }
     ensures memory { IfErr result (λ e. e ≡ EngineError.Memory) }
 {
     match Machine::new(alloc, valid, inputs, ELEMENTS) {
@@ -202,13 +204,16 @@ pub fn engine<W: Sink>(
     out: &mut W,
 ) -> Result<u8, EngineError>
     // What is printed is what a run of the text's program on its inputs shows, and the source's equations give it.
-    ensures shown { IfOk result (ShowsAll (Run names (map (λ w. w.now) inputs.now)) text.now (W.told out.old) (W.told out.new)) }
+    ensures shown { IfOk result
+        (ShowsAll (Run names (map (λ w. w.now) inputs.now)) text.now (W.told out.old) (W.told out.new)) }
 
     // It is a run: messages are delivered until there is none, at a fault, or until all those left are held back.
-    ensures ran { IfOk result (Ran text.now (map (λ w. w.now) inputs.now) steps names (W.told out.old) (W.told out.new)) }
+    ensures ran { IfOk result
+        (Ran text.now (map (λ w. w.now) inputs.now) steps names (W.told out.old) (W.told out.new)) }
 
     // After a failed write a front of such a text is out, and after any other error nothing.
-    ensures cut { result ≡ Err EngineError.Write → ShowsFront (Run names (map (λ w. w.now) inputs.now)) text.now (W.told out.old) (W.told out.new) }
+    ensures cut { result ≡ Err EngineError.Write
+        → ShowsFront (Run names (map (λ w. w.now) inputs.now)) text.now (W.told out.old) (W.told out.new) }
     ensures silent { IfErr result (λ e. e ≢ EngineError.Write → W.told out.new ≡ W.told out.old) }
 
     // A refusal comes for its cause alone, at a place of the text.

@@ -1,5 +1,6 @@
 -- Graphs (docs/GRAPH.md, "Operators").
-use Rattle.std.specs.Prelude.{take, ℕ, ◌<◌, ◌^◌, Bool, true, false, if◌then◌else◌, Option, List, [], ◌++◌, length, IsSome, IsSomeAnd, All, slice_get, option_and_then}
+use Rattle.std.specs.Prelude.{take, ℕ, ◌<◌, ◌^◌, Bool, true, false, if◌then◌else◌, Option, List, [], ◌++◌, length}
+use Rattle.std.specs.Prelude.{IsSome, IsSomeAnd, All, slice_get, option_and_then}
 use Rattle.id_graph.specs.declared.instr.Block.{Block}
 use Rattle.id_graph.specs.declared.instr.Instr.{Instr}
 use Rattle.id_graph.specs.declared.instr.PortKind.{PortKind}

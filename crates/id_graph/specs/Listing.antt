@@ -9,7 +9,8 @@ use Rattle.id_graph.specs.declared.instr.Op.TheVariants.{Const, Unary, Binary, M
 use Rattle.id_graph.specs.declared.instr.Dyadic.{Dyadic}
 use Rattle.id_graph.specs.declared.instr.Dyadic.TheVariants as class
 use Rattle.id_graph.specs.declared.instr.PortKind.{PortKind}
-use Rattle.id_graph.specs.declared.instr.PortKind.TheVariants.{Signal, Int, Bool as BoolKind, Structure, Address, Context, Continuation}
+use Rattle.id_graph.specs.declared.instr.PortKind.TheVariants.{Signal, Int, Bool as BoolKind, Structure, Address}
+use Rattle.id_graph.specs.declared.instr.PortKind.TheVariants.{Context, Continuation}
 use Rattle.id_graph.specs.declared.dests.Dest.{Dest}
 use Rattle.id_graph.specs.declared.dests.Port.{Port}
 use Rattle.id_graph.specs.declared.dests.Port.TheVariants.{Zero, One}

@@ -1,7 +1,8 @@
 //! Instructions and blocks (docs/GRAPH.md, "Operators").
 
 ghost use Rattle.std.specs.Prelude.{◌≡◌};
-ghost use Rattle.id_graph.specs.Ports.{constant_kind, operand_kind, outcome_kind, port_kind, sends, two_ports, two_sides, unary_kind};
+ghost use Rattle.id_graph.specs.Ports.{constant_kind, operand_kind, outcome_kind, port_kind, sends, two_ports};
+ghost use Rattle.id_graph.specs.Ports.{two_sides, unary_kind};
 ghost use Rattle.id_graph.specs.Graph.{false_arcs};
 
 use crate::dests::{Dest, Dests, Port};

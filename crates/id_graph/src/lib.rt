@@ -3,7 +3,8 @@
 //! Keeps: every destination is a port that exists, and there are fewer than 2^32 instructions.
 //! Errors: `GraphError`, the refusal 27, with both lists handed back.
 //! Read first: `specs/Ports.antt`, `specs/Graph.antt`, then `Graph`.
-//! Not here: what operators give (`id_value`), how a program becomes a graph (`id_build`), which graphs are sound (`id_valid`).
+//! Not here: what operators give (`id_value`), how a program becomes a graph (`id_build`), which graphs are sound
+//! (`id_valid`).
 #![tactic(auto)]
 
 mod dests;

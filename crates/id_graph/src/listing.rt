@@ -2,7 +2,9 @@
 
 ghost use Rattle.std.specs.Prelude.{◌≡◌, ◌≤◌, ◌++◌, length, All, IfOk, OnOk, codes, string_bytes};
 ghost use Rattle.std.specs.List.{flat_map};
-ghost use Rattle.id_graph.specs.Listing.{arithmetic_name, comparison_name, constant_text, dest_text, dests_text, dyadic_name, false_text, head_text, in_order, kind_name, line_text, listing, op_text, place_text, port_number, truth_name, unary_name};
+ghost use Rattle.id_graph.specs.Listing.{arithmetic_name, comparison_name, constant_text, dest_text, dests_text};
+ghost use Rattle.id_graph.specs.Listing.{dyadic_name, false_text, head_text, in_order, kind_name, line_text, listing};
+ghost use Rattle.id_graph.specs.Listing.{op_text, place_text, port_number, truth_name, unary_name};
 
 use crate::dests::{Dest, Port};
 use crate::graph::Graph;

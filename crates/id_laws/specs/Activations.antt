@@ -26,8 +26,8 @@ use Rattle.id_runs.specs.Events.{Event, FiresAs, GivesOn}
 abbrev pub main_head : Checked → ℕ
 main_head P = head_of (at (rows P) P.main).node
 
--- where a context stands: it is main's, or its path goes on below one by a step at a place, whose number is the iteration
--- (a call's is 0)
+-- where a context stands: it is main's, or its path goes on below one by a step at a place, whose number is the
+-- iteration (a call's is 0)
 pub data Seat : Type 0 where
   Outermost : Seat
   Below : Path → ℕ → Seat
@@ -53,7 +53,8 @@ module _ (S : Source) (number : ℕ → ℕ → ℕ) (run : List Event) where
   -- the context stands there
   pub data SeatOf : Context → Seat → Type 0 where
     main_seat : SeatOf main_context Outermost
-    made_seat : {a : Activation} {n x : ℕ} {c : Context} {s : Seat} → n < length (rows S.checked) → node S.checked n ≡ Enter x → Opens a n c
+    made_seat : {a : Activation} {n x : ℕ} {c : Context} {s : Seat} → n < length (rows S.checked)
+        → node S.checked n ≡ Enter x → Opens a n c
         → SeatOf a.context s → SeatOf c (Below (path_at s a.iteration) (place S.checked n))
 
   -- the activation has the path
@@ -74,12 +75,13 @@ module _ (S : Source) (number : ℕ → ℕ → ℕ) (run : List Event) where
     pub path_of : PathOf a path
     pub goes : Goes S path n b
 
-  -- the region is live under the activation: main's body is from the start, an arm is where the predicate has chosen it,
-  -- and a procedure's body in each context that an `Enter` of a live region has made for it
+  -- the region is live under the activation: main's body is from the start, an arm is where the predicate has chosen
+  -- it, and a procedure's body in each context that an `Enter` of a live region has made for it
   pub data Live : Activation → Region → Type 0 where
     at_start : Live main_activation (top (main_head S.checked))
     on_side : {a : Activation} {n e : ℕ} {b : Bool} → n < length (rows S.checked) → Tests S.checked n e
-        → Live a (region S.checked n) → Speaks a (origin S.checked e) (value.Bool b) → GoesAt a n b → Live a (arm_at n b)
+        → Live a (region S.checked n) → Speaks a (origin S.checked e) (value.Bool b) → GoesAt a n b
+        → Live a (arm_at n b)
     entered : {a : Activation} {n x : ℕ} {c : Context} → n < length (rows S.checked) → node S.checked n ≡ Enter x
         → Live a (region S.checked n) → Opens a n c → Live (at_iteration c 0) (top (called S.checked n))
 

@@ -80,8 +80,8 @@ pub record IsComplete (S : Source) (g : Parts) (s : World) : Type 0 where
   pub names : (n : NameValue) → IsNameValue S n → Among n (shown.names g s)
   pub no_fault : FaultFree S
 
--- *Sound*: of each graph that the schemas give a program, with the program's inputs and any number of elements, every list
--- of deliveries shows facts and faults of the source alone
+-- *Sound*: of each graph that the schemas give a program, with the program's inputs and any number of elements, every
+-- list of deliveries shows facts and faults of the source alone
 abbrev pub Soundness : Type 0
 Soundness = (S : Source) (g : Parts) (count : ℕ) (ks : List ℕ) → AreInputs S.checked S.inputs
     → (schemas : Schemas S.checked g) → IsSound S g schemas.number (run g count ks (start g S.inputs count))
@@ -93,7 +93,8 @@ NeverStuck = (S : Source) (g : Parts) (count : ℕ) (ks : List ℕ) → AreInput
 
 -- *Quiet is complete*: of each such graph, a list of deliveries after which the machine is quiet has shown everything
 abbrev pub QuietIsComplete : Type 0
-QuietIsComplete = (S : Source) (g : Parts) (count : ℕ) (ks : List ℕ) → AreInputs S.checked S.inputs → Schemas S.checked g
+QuietIsComplete = (S : Source) (g : Parts) (count : ℕ) (ks : List ℕ) → AreInputs S.checked S.inputs
+    → Schemas S.checked g
     → IsQuiet (run g count ks (start g S.inputs count)) → IsComplete S g (run g count ks (start g S.inputs count))
 
 -- *Coherence*: each source gives each path and place at most one value

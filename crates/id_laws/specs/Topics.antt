@@ -3,7 +3,8 @@
 use Rattle.std.specs.Prelude.{◌≡◌, ℕ, zero, suc, ℤ, Bool as Truth, List, get_or}
 use Rattle.id_parts.specs.declared.row.Region.{Region}
 use Rattle.id_parts.specs.declared.row.Node.{Node}
-use Rattle.id_parts.specs.declared.row.Node.TheVariants.{Head, Param, Literal, Unary, Binary, Split, If, Enter, Arg, Call}
+use Rattle.id_parts.specs.declared.row.Node.TheVariants.{Head, Param, Literal, Unary, Binary, Split, If, Enter, Arg}
+use Rattle.id_parts.specs.declared.row.Node.TheVariants.{Call}
 use Rattle.id_parts.specs.declared.row.Node.TheVariants.{Binding, Program}
 use Rattle.id_parts.specs.Rows.{arm_at, top}
 use Rattle.id_check.specs.declared.checked.Checked.{Checked}
@@ -182,5 +183,6 @@ module _ (S : Source) (number : ℕ → ℕ → ℕ) (run : List Event) where
 
   -- what comes from what feeds a part tells what it speaks of
   abbrev pub AllSpeak : Type 0
-  AllSpeak = (a : Activation) (s : Origin) (n part : ℕ) (p : Port) (v : Value) → Feeds S.checked s n part p → activations.Speaks S number run a s v
+  AllSpeak = (a : Activation) (s : Origin) (n part : ℕ) (p : Port) (v : Value) → Feeds S.checked s n part p
+      → activations.Speaks S number run a s v
       → Tells a (topic_of S.checked s) v

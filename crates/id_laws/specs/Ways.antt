@@ -20,12 +20,14 @@ use Rattle.id_runs.specs.Activations.{Activation, at_iteration, main_activation,
 use Rattle.id_runs.specs.Events.{Event, FiresAs, fired_event}
 use Rattle.id_laws.specs.Activations.{main_head, Opens, Speaks, ReturnsTo}
 
--- the argument at the row m goes to the entry of the parameter at a row, in the context that the `Enter` at the row e makes
+-- the argument at the row m goes to the entry of the parameter at a row, in the context that the `Enter` at the row e
+-- makes
 pub data SendsTo (P : Checked) (m : ℕ) : ℕ → ℕ → Type 0 where
   of_argument : {e k v : ℕ} → m < length (rows P) → node P m ≡ Arg e k v → SendsTo P m e (param_of P e k)
 
 -- the event has sent the value to the port of the part of the row under the activation
-pub data Way (S : Source) (number : ℕ → ℕ → ℕ) (run : List Event) (e : Event) : Activation → ℕ → ℕ → Port → Value → Type 0 where
+pub data Way (S : Source) (number : ℕ → ℕ → ℕ) (run : List Event) (e : Event) : Activation → ℕ → ℕ → Port → Value
+    → Type 0 where
   -- along an arc
   by_arc : (a : Activation) (s : Origin) (n part : ℕ) (p : Port) (v : Value) → Feeds S.checked s n part p
       → (x : Speaks S number run a s v) → fired_event x.fires ≡ e → Way S number run e a n part p v
@@ -35,10 +37,12 @@ pub data Way (S : Source) (number : ℕ → ℕ → ℕ) (run : List Event) (e :
       → fired_event x ≡ e → Way S number run e (at_iteration c 0) n 0 Zero v
   -- the signal of an `Enter`, and its way back
   by_enter : (a : Activation) (i y : ℕ) (c : Context) → i < length (rows S.checked) → node S.checked i ≡ Enter y
-      → (x : Opens S number run a i c) → fired_event x ≡ e → Way S number run e (at_iteration c 0) (called S.checked i) 0 Zero Signal
+      → (x : Opens S number run a i c) → fired_event x ≡ e
+      → Way S number run e (at_iteration c 0) (called S.checked i) 0 Zero Signal
   by_continuation : (a : Activation) (i y : ℕ) (c : Context) → i < length (rows S.checked) → node S.checked i ≡ Enter y
       → (x : Opens S number run a i c) → fired_event x ≡ e
-      → Way S number run e (at_iteration c 0) (called S.checked i) 1 Zero (Continuation (tag_in a (number (end_of S.checked i) 0)))
+      → Way S number run e (at_iteration c 0) (called S.checked i) 1 Zero
+      (Continuation (tag_in a (number (end_of S.checked i) 0)))
   -- what a block gives
   by_back : (c : Context) (h : ℕ) (a : Activation) (n : ℕ) (v : Value) → ReturnsTo S number run c h a n
       → (x : FiresAs run (tag_in (at_iteration c 0) (number h 1)) (Sent (tag_in a (number n 0)) v))
@@ -48,5 +52,6 @@ pub data Way (S : Source) (number : ℕ → ℕ → ℕ) (run : List Event) (e :
 -- and the inputs
 pub data StartsAt (S : Source) (number : ℕ → ℕ → ℕ) : ℕ → ℕ → Port → Value → Type 0 where
   signal : StartsAt S number (main_head S.checked) 0 Zero Signal
-  way_back : StartsAt S number (main_head S.checked) 1 Zero (Continuation (tag_in main_activation (number (answer_row S.checked) 0)))
+  way_back : StartsAt S number (main_head S.checked) 1 Zero
+      (Continuation (tag_in main_activation (number (answer_row S.checked) 0)))
   input : (b : ℕ) (v : SourceValue) → IsInput S b v → StartsAt S number b 0 Zero (token_value v)

@@ -1,5 +1,7 @@
 -- What rows have at paths after some rounds, and what follows from that by one rule, worked out row by row.
-use Rattle.std.specs.Prelude.{ℕ, suc, ◌+◌, ◌-◌, ◌*◌, ◌%◌, ◌<◌, ◌≤◌, Bool as Truth, true, false, ◌&&◌, not, nat_eq, nat_le, nat_lt, List, [], ◌∷◌, ◌++◌, length, get_or, slice_get, Option, None, Some, if◌then◌else◌}
+use Rattle.std.specs.Prelude.{ℕ, suc, ◌+◌, ◌-◌, ◌*◌, ◌%◌, ◌<◌, ◌≤◌, Bool as Truth, true, false, ◌&&◌, not, nat_eq}
+use Rattle.std.specs.Prelude.{nat_le, nat_lt, List, [], ◌∷◌, ◌++◌, length, get_or, slice_get, Option, None, Some}
+use Rattle.std.specs.Prelude.{if◌then◌else◌}
 use Rattle.std.specs.Option.{is_some}
 use Rattle.id_value.specs.declared.Constant.{Constant}
 use Rattle.id_value.specs.declared.Constant.TheVariants as constant
@@ -9,7 +11,8 @@ use Rattle.id_value.specs.declared.Outcome.{Outcome}
 use Rattle.id_value.specs.declared.Outcome.TheVariants.{Gives, Fails, Lacks}
 use Rattle.id_value.specs.Results.{result_of_unary, result_of_binary}
 use Rattle.id_parts.specs.declared.row.Node.{Node}
-use Rattle.id_parts.specs.declared.row.Node.TheVariants.{Head, Literal, Name, Unary, Binary, If, Arg, Call, Block, Binding, Def}
+use Rattle.id_parts.specs.declared.row.Node.TheVariants.{Head, Literal, Name, Unary, Binary, If, Arg, Call, Block}
+use Rattle.id_parts.specs.declared.row.Node.TheVariants.{Binding, Def}
 use Rattle.id_parts.specs.Rows.{at}
 use Rattle.id_check.specs.declared.checked.Checked.{Checked}
 use Rattle.id_check.specs.Programs.{binder, rows}
@@ -193,7 +196,9 @@ param_fact q (Some a) v = value_fact q a v
 
 -- the facts that come by a row of this node, if it is an argument of the call at the path
 abbrev pub passed_of : Checked → List Spot → ℕ → OnCall → Node → List RowFact
-passed_of P es p c (Arg e k v) = if nat_eq e c.enter then On p v ∷ param_fact c.path (param_row (length (rows P)) c.head k) (cell_at es p v).has else []
+passed_of P es p c (Arg e k v) =
+    if nat_eq e c.enter then On p v ∷ param_fact c.path (param_row (length (rows P)) c.head k)
+    (cell_at es p v).has else []
 passed_of P es p c _ = []
 
 abbrev pub all_passed : Checked → List Spot → ℕ → OnCall → List ℕ → List RowFact
@@ -293,7 +298,8 @@ is_fresh es f = nat_le (path_of f) (length es) && not (is_taken (cell_at es (pat
 
 -- the spots with the fact, where it is fresh
 abbrev pub learnt : List Spot → RowFact → List Spot
-learnt es f = if is_fresh es f then put es (path_of f) (row_of f) (with_fact (cell_at es (path_of f) (row_of f)) f) else es
+learnt es f = if is_fresh es f then put es (path_of f) (row_of f)
+    (with_fact (cell_at es (path_of f) (row_of f)) f) else es
 
 abbrev pub all_learnt : List Spot → List RowFact → List Spot
 all_learnt es [] = es

@@ -1,5 +1,6 @@
 -- The facts of a source, and the rules that give them (docs/MEANING.md, "Facts", "Rules").
-use Rattle.std.specs.Prelude.{◌≡◌, ℕ, ◌-◌, ◌++◌, Bool as Truth, true, false, List, [], ◌∷◌, length, take, Some, slice_get}
+use Rattle.std.specs.Prelude.{◌≡◌, ℕ, ◌-◌, ◌++◌, Bool as Truth, true, false, List, [], ◌∷◌, length, take, Some}
+use Rattle.std.specs.Prelude.{slice_get}
 use Rattle.id_value.specs.declared.Constant.{Constant}
 use Rattle.id_value.specs.declared.Constant.TheVariants as constant
 use Rattle.id_value.specs.declared.UnaryOp.{UnaryOp}
@@ -8,7 +9,8 @@ use Rattle.id_value.specs.declared.FaultKind.{FaultKind}
 use Rattle.id_value.specs.declared.Kind.{Kind}
 use Rattle.id_value.specs.declared.Outcome.TheVariants.{Gives, Fails}
 use Rattle.id_value.specs.Results.{result_of_unary, result_of_binary}
-use Rattle.id_parts.specs.declared.row.Node.TheVariants.{Literal, Name, Unary, Binary, Split, If, Arg, Call, Block, Binding, Def}
+use Rattle.id_parts.specs.declared.row.Node.TheVariants.{Literal, Name, Unary, Binary, Split, If, Arg, Call, Block}
+use Rattle.id_parts.specs.declared.row.Node.TheVariants.{Binding, Def}
 use Rattle.id_parts.specs.Turns.{IsStatement, params_at}
 use Rattle.id_check.specs.Scopes.{loops_between}
 use Rattle.id_check.specs.Programs.{Stands, binder, place, rows}
@@ -35,7 +37,8 @@ below p e k = record { steps = p.steps ++ record { place = e; number = k } ∷ [
 abbrev pub between : Source → ℕ → ℕ → ℕ
 between S i b = loops_between (rows S.checked) i b
 
--- a conditional stands at the row n with its predicate at the row t: where that Has this truth value, it turns on the arm at a row
+-- a conditional stands at the row n with its predicate at the row t: where that Has this truth value, it turns on the
+-- arm at a row
 pub data Chooses (S : Source) (n t : ℕ) : Truth → ℕ → Type 0 where
   then_arm : {s a b : ℕ} → Stands S.checked n (If s a b) → Stands S.checked s (Split t) → Chooses S n t true a
   else_arm : {s a b : ℕ} → Stands S.checked n (If s a b) → Stands S.checked s (Split t) → Chooses S n t false b
@@ -57,31 +60,46 @@ pub data Rule (S : Source) : List Fact → Fact → Type 0 where
   right_on : {n a b : ℕ} {o : BinaryOp} {p : Path} → Stands S.checked n (Binary o a b)
       → Rule S (On p (place S.checked n) ∷ []) (On p (place S.checked b))
   -- operands that Have values give an On operator's result, where it has one
-  unary_has : {n a : ℕ} {o : UnaryOp} {p : Path} {x : Constant} (c : Constant) → Stands S.checked n (Unary o a) → result_of_unary o c ≡ Gives x
-      → Rule S (On p (place S.checked n) ∷ Has p (place S.checked a) (value_of c) ∷ []) (Has p (place S.checked n) (value_of x))
-  binary_has : {n a b : ℕ} {o : BinaryOp} {p : Path} {x : Constant} (c d : Constant) → Stands S.checked n (Binary o a b) → result_of_binary o c d ≡ Gives x
-      → Rule S (On p (place S.checked n) ∷ Has p (place S.checked a) (value_of c) ∷ Has p (place S.checked b) (value_of d) ∷ []) (Has p (place S.checked n) (value_of x))
+  unary_has : {n a : ℕ} {o : UnaryOp} {p : Path} {x : Constant} (c : Constant) → Stands S.checked n (Unary o a)
+      → result_of_unary o c ≡ Gives x
+      → Rule S (On p (place S.checked n) ∷ Has p (place S.checked a) (value_of c) ∷ [])
+      (Has p (place S.checked n) (value_of x))
+  binary_has : {n a b : ℕ} {o : BinaryOp} {p : Path} {x : Constant} (c d : Constant) → Stands S.checked n (Binary o a b)
+      → result_of_binary o c d ≡ Gives x
+      → Rule S (On p (place S.checked n) ∷ Has p (place S.checked a) (value_of c) ∷ Has p (place S.checked b)
+      (value_of d) ∷ []) (Has p (place S.checked n) (value_of x))
   -- an On name Has what its binder Has, where the path leaves out the loops between
   name_has : {n x b : ℕ} {p : Path} {v : SourceValue} → Stands S.checked n (Name x) → binder S.checked n ≡ Some b
-      → Rule S (On p (place S.checked n) ∷ Has (without (between S n b) p) (place S.checked b) v ∷ []) (Has p (place S.checked n) v)
-  -- an On conditional turns its predicate On; a predicate that Has a value turns that arm On, whose value the conditional Has
+      → Rule S (On p (place S.checked n) ∷ Has (without (between S n b) p) (place S.checked b) v ∷ [])
+      (Has p (place S.checked n) v)
+  -- an On conditional turns its predicate On; a predicate that Has a value turns that arm On, whose value the
+  -- conditional Has
   test_on : {n t a : ℕ} {b : Truth} {p : Path} → Chooses S n t b a
       → Rule S (On p (place S.checked n) ∷ []) (On p (place S.checked t))
   arm_on : {n t a : ℕ} {b : Truth} {p : Path} → Chooses S n t b a
-      → Rule S (On p (place S.checked n) ∷ Has p (place S.checked t) (value_of (constant.Bool b)) ∷ []) (On p (place S.checked a))
+      → Rule S (On p (place S.checked n) ∷ Has p (place S.checked t) (value_of (constant.Bool b)) ∷ [])
+      (On p (place S.checked a))
   conditional_has : {n t a : ℕ} {b : Truth} {p : Path} {v : SourceValue} → Chooses S n t b a
-      → Rule S (On p (place S.checked n) ∷ Has p (place S.checked t) (value_of (constant.Bool b)) ∷ Has p (place S.checked a) v ∷ []) (Has p (place S.checked n) v)
+      → Rule S (On p (place S.checked n) ∷ Has p (place S.checked t) (value_of (constant.Bool b)) ∷ Has p
+      (place S.checked a) v ∷ []) (Has p (place S.checked n) v)
   argument_on : {n e c m k v : ℕ} {p : Path} → Stands S.checked n (Call e c) → Stands S.checked m (Arg e k v)
       → Rule S (On p (place S.checked n) ∷ []) (On p (place S.checked v))
-  callee_on : {n e c d x h b : ℕ} {k : Kind} {p : Path} → Stands S.checked n (Call e c) → binder S.checked e ≡ Some d → Stands S.checked d (Def x h k b)
+  callee_on : {n e c d x h b : ℕ} {k : Kind} {p : Path} → Stands S.checked n (Call e c) → binder S.checked e ≡ Some d
+      → Stands S.checked d (Def x h k b)
       → Rule S (On p (place S.checked n) ∷ []) (On (below p (place S.checked n) 0) (place S.checked b))
-  argument_has : {n e c d x h b m i v q : ℕ} {k : Kind} {p : Path} {u : SourceValue} → Stands S.checked n (Call e c) → Stands S.checked m (Arg e i v)
-      → binder S.checked e ≡ Some d → Stands S.checked d (Def x h k b) → slice_get (params_at (rows S.checked) h) i ≡ Some q
-      → Rule S (On p (place S.checked n) ∷ Has p (place S.checked v) u ∷ []) (Has (below p (place S.checked n) 0) (place S.checked q) u)
-  call_has : {n e c d x h b : ℕ} {k : Kind} {p : Path} {u : SourceValue} → Stands S.checked n (Call e c) → binder S.checked e ≡ Some d → Stands S.checked d (Def x h k b)
-      → Rule S (On p (place S.checked n) ∷ Has (below p (place S.checked n) 0) (place S.checked b) u ∷ []) (Has p (place S.checked n) u)
+  argument_has : {n e c d x h b m i v q : ℕ} {k : Kind} {p : Path} {u : SourceValue} → Stands S.checked n (Call e c)
+      → Stands S.checked m (Arg e i v)
+      → binder S.checked e ≡ Some d → Stands S.checked d (Def x h k b)
+      → slice_get (params_at (rows S.checked) h) i ≡ Some q
+      → Rule S (On p (place S.checked n) ∷ Has p (place S.checked v) u ∷ [])
+      (Has (below p (place S.checked n) 0) (place S.checked q) u)
+  call_has : {n e c d x h b : ℕ} {k : Kind} {p : Path} {u : SourceValue} → Stands S.checked n (Call e c)
+      → binder S.checked e ≡ Some d → Stands S.checked d (Def x h k b)
+      → Rule S (On p (place S.checked n) ∷ Has (below p (place S.checked n) 0) (place S.checked b) u ∷ [])
+      (Has p (place S.checked n) u)
   -- an On block turns the expressions of its bindings and its body On, and Has its body's value
-  statement_on : {n m x a b : ℕ} {p : Path} → Stands S.checked n (Block b) → IsStatement (rows S.checked) n m → Stands S.checked m (Binding x a)
+  statement_on : {n m x a b : ℕ} {p : Path} → Stands S.checked n (Block b) → IsStatement (rows S.checked) n m
+      → Stands S.checked m (Binding x a)
       → Rule S (On p (place S.checked n) ∷ []) (On p (place S.checked a))
   body_on : {n b : ℕ} {p : Path} → Stands S.checked n (Block b)
       → Rule S (On p (place S.checked n) ∷ []) (On p (place S.checked b))
@@ -94,7 +112,12 @@ pub data Rule (S : Source) : List Fact → Fact → Type 0 where
 -- from these facts of a source this fault of it follows
 pub data FaultRule (S : Source) : List Fact → SourceFault → Type 0 where
   -- an On operator fails where its operands Have values on which it has no result
-  unary_fails : {n a : ℕ} {o : UnaryOp} {p : Path} {k : FaultKind} (c : Constant) → Stands S.checked n (Unary o a) → result_of_unary o c ≡ Fails k
-      → FaultRule S (On p (place S.checked n) ∷ Has p (place S.checked a) (value_of c) ∷ []) (record { kind = k; path = p; place = place S.checked n })
-  binary_fails : {n a b : ℕ} {o : BinaryOp} {p : Path} {k : FaultKind} (c d : Constant) → Stands S.checked n (Binary o a b) → result_of_binary o c d ≡ Fails k
-      → FaultRule S (On p (place S.checked n) ∷ Has p (place S.checked a) (value_of c) ∷ Has p (place S.checked b) (value_of d) ∷ []) (record { kind = k; path = p; place = place S.checked n })
+  unary_fails : {n a : ℕ} {o : UnaryOp} {p : Path} {k : FaultKind} (c : Constant) → Stands S.checked n (Unary o a)
+      → result_of_unary o c ≡ Fails k
+      → FaultRule S (On p (place S.checked n) ∷ Has p (place S.checked a) (value_of c) ∷ [])
+      (record { kind = k; path = p; place = place S.checked n })
+  binary_fails : {n a b : ℕ} {o : BinaryOp} {p : Path} {k : FaultKind} (c d : Constant)
+      → Stands S.checked n (Binary o a b) → result_of_binary o c d ≡ Fails k
+      → FaultRule S
+      (On p (place S.checked n) ∷ Has p (place S.checked a) (value_of c) ∷ Has p (place S.checked b) (value_of d) ∷ [])
+      (record { kind = k; path = p; place = place S.checked n })

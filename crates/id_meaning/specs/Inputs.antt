@@ -1,5 +1,7 @@
 -- Which inputs words give, and which words are refused (docs/LANGUAGE.md, "Inputs").
-use Rattle.std.specs.Prelude.{◌≡◌, ◌<◌, ℕ, suc, ◌&&◌, ◌||◌, ◌==◌, ℤ, pos, neg_ℤ, Bool as Truth, true, false, List, [], ◌∷◌, ◌++◌, length, map, get_or, slice_get, codes, Option, None, Some, IsSome, option_map, option_and_then, if◌then◌else◌}
+use Rattle.std.specs.Prelude.{◌≡◌, ◌<◌, ℕ, suc, ◌&&◌, ◌||◌, ◌==◌, ℤ, pos, neg_ℤ, Bool as Truth, true, false, List, []}
+use Rattle.std.specs.Prelude.{◌∷◌, ◌++◌, length, map, get_or, slice_get, codes, Option, None, Some, IsSome, option_map}
+use Rattle.std.specs.Prelude.{option_and_then, if◌then◌else◌}
 use Rattle.std.specs.Option.{option_or}
 use Rattle.std.specs.Char.{is_ascii_digit}
 use Rattle.id_text.specs.Bytes.{number_of as spelled_by}
@@ -15,7 +17,8 @@ use Rattle.id_check.specs.Programs.{rows}
 use Rattle.id_meaning.specs.declared.SourceValue.{SourceValue}
 use Rattle.id_meaning.specs.declared.SourceValue.TheVariants.{Int, Bool}
 use Rattle.id_meaning.specs.declared.inputs.InputError.{InputError}
-use Rattle.id_meaning.specs.declared.inputs.InputError.TheVariants.{MissingInput, UnknownInput, RepeatedInput, BadInput, Memory}
+use Rattle.id_meaning.specs.declared.inputs.InputError.TheVariants.{MissingInput, UnknownInput, RepeatedInput, BadInput}
+use Rattle.id_meaning.specs.declared.inputs.InputError.TheVariants.{Memory}
 use Rattle.id_meaning.specs.declared.inputs.Wanted.{Wanted}
 use Rattle.id_meaning.specs.Sources.{main_params}
 
@@ -61,7 +64,8 @@ digits_number cs = if are_digits cs then Some (spelled_by cs) else None
 abbrev pub number_spelled : List ℕ → Option ℤ
 number_spelled [] = None
 number_spelled (c ∷ cs) =
-    if c == 45 then option_map (λ n. neg_ℤ (pos n)) (digits_number cs) else option_map (λ n. pos n) (digits_number (c ∷ cs))
+    if c == 45 then option_map (λ n. neg_ℤ (pos n)) (digits_number cs) else option_map (λ n. pos n)
+    (digits_number (c ∷ cs))
 
 -- a number as a value, if it is one of the language
 abbrev pub whole_value : ℤ → Option SourceValue
@@ -69,7 +73,8 @@ whole_value n = if is_whole n then Some (Int n) else None
 
 -- the truth value that a word spells
 abbrev pub truth_spelled : List ℕ → Option SourceValue
-truth_spelled cs = if bytes_eq cs (codes "true") then Some (Bool true) else (if bytes_eq cs (codes "false") then Some (Bool false) else None)
+truth_spelled cs = if bytes_eq cs (codes "true") then Some (Bool true) else
+    (if bytes_eq cs (codes "false") then Some (Bool false) else None)
 
 -- the value of a kind that a word spells
 abbrev pub value_spelled : Kind → List ℕ → Option SourceValue
@@ -77,7 +82,8 @@ value_spelled kind.Int cs = option_and_then whole_value (number_spelled cs)
 value_spelled kind.Bool cs = truth_spelled cs
 value_spelled kind.Array cs = None
 
--- what a word says: it names no parameter; or it names the parameter of this number, with a value of its kind or without
+-- what a word says: it names no parameter; or it names the parameter of this number, with a value of its kind or
+-- without
 pub data Said : Type 0 where
   Nothing : Said
   Says : ℕ → Option SourceValue → Said
@@ -119,7 +125,8 @@ word_cause seen j (Says n v) = if has n seen then Some (RepeatedInput j) else op
 -- the first cause to refuse a word, from the one of number j on, where these parameters were named before
 abbrev pub first_cause : List Wanted → List ℕ → ℕ → List (List ℕ) → Option InputError
 first_cause ps seen j [] = None
-first_cause ps seen j (w ∷ ws) = option_or (word_cause seen j (said ps w)) (first_cause ps (named_by (said ps w) ++ seen) (suc j) ws)
+first_cause ps seen j (w ∷ ws) =
+    option_or (word_cause seen j (said ps w)) (first_cause ps (named_by (said ps w) ++ seen) (suc j) ws)
 
 -- the value that is said of the parameter of this number
 abbrev pub value_in : ℕ → Said → Option SourceValue
@@ -143,8 +150,8 @@ pub record IsFirstMissing (ps : List Wanted) (ws : List (List ℕ)) (n : ℕ) : 
   pub missing : value_for ps ws n ≡ None
   pub before : (m : ℕ) → m < n → IsSome (value_for ps ws m)
 
--- the cause is the first to refuse the words as inputs for these parameters: from left to right, and then the first parameter
--- without an input
+-- the cause is the first to refuse the words as inputs for these parameters: from left to right, and then the first
+-- parameter without an input
 abbrev pub IsCauseOf : List Wanted → List (List ℕ) → InputError → Type 0
 IsCauseOf ps ws (MissingInput n) = (first_cause ps [] 0 ws ≡ None) × IsFirstMissing ps ws n
 IsCauseOf ps ws (UnknownInput j) = first_cause ps [] 0 ws ≡ Some (UnknownInput j)

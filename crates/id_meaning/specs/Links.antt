@@ -1,5 +1,6 @@
 -- Which rows' facts lead to facts of which rows.
-use Rattle.std.specs.Prelude.{◌≡◌, ◌⊎◌, ◌<◌, ◌≤◌, ℕ, zero, suc, List, [], ◌∷◌, ◌++◌, length, slice_get, false, Option, None, Some}
+use Rattle.std.specs.Prelude.{◌≡◌, ◌⊎◌, ◌<◌, ◌≤◌, ℕ, zero, suc, List, [], ◌∷◌, ◌++◌, length, slice_get, false, Option}
+use Rattle.std.specs.Prelude.{None, Some}
 use Rattle.std.proofs.Common.{Vec, Global}
 use Rattle.id_list.specs.List.{Among}
 use Rattle.id_parts.specs.declared.row.Row.{Row}
@@ -140,19 +141,23 @@ AreArgs P E = AreArgsTo P (length (rows P)) E
 
 -- the row of each statement comes before that of the next
 abbrev pub StatementsRise : List Statement → Type 0
-StatementsRise ss = (i j : ℕ) (s t : Statement) → slice_get ss i ≡ Some s → slice_get ss j ≡ Some t → i < j → s.row < t.row
+StatementsRise ss = (i j : ℕ) (s t : Statement) → slice_get ss i ≡ Some s → slice_get ss j ≡ Some t → i < j
+    → s.row < t.row
 
 -- these are the bindings among the first i rows that stand in no block before row i
 pub record AreOpen (R : List Row) (i : ℕ) (ss : List Statement) : Type 0 where
-  pub all : (m x a : ℕ) → m < i → m < length R → (at R m).node ≡ Binding x a → in_block R m i ≡ false → (s : Statement) × Among s ss × (s.row ≡ m) × (s.value ≡ a)
-  pub only : (s : Statement) → Among s ss → (s.row < i) × (in_block R s.row i ≡ false) × ((x : ℕ) × ((at R s.row).node ≡ Binding x s.value))
+  pub all : (m x a : ℕ) → m < i → m < length R → (at R m).node ≡ Binding x a → in_block R m i ≡ false
+      → (s : Statement) × Among s ss × (s.row ≡ m) × (s.value ≡ a)
+  pub only : (s : Statement) → Among s ss
+      → (s.row < i) × (in_block R s.row i ≡ false) × ((x : ℕ) × ((at R s.row).node ≡ Binding x s.value))
   pub rise : StatementsRise ss
 
 -- the statements from the row on have gone, each with an edge to its value from a
 pub record Takes (E F : Edges) (ss ts : List Statement) (first a : ℕ) : Type 0 where
   pub wide : width F ≡ width E
   pub kept : (n b : ℕ) → Leads E n b → Leads F n b
-  pub only : (n b : ℕ) → Leads F n b → Leads E n b ⊎ ((n ≡ a) × ((s : Statement) × Among s ss × (first ≤ s.row) × (b ≡ s.value)))
+  pub only : (n b : ℕ) → Leads F n b
+      → Leads E n b ⊎ ((n ≡ a) × ((s : Statement) × Among s ss × (first ≤ s.row) × (b ≡ s.value)))
   pub some : (s : Statement) → Among s ts → Among s ss
   pub gone : (s : Statement) → Among s ss → Among s ts ⊎ ((first ≤ s.row) × (a < width E → Leads F a s.value))
   pub rise : StatementsRise ts

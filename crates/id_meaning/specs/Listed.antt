@@ -1,5 +1,6 @@
 -- The facts of a round, worked out of what rows have at paths.
-use Rattle.std.specs.Prelude.{◌≡◌, ◌<◌, ◌≤◌, ℕ, zero, suc, true, false, Bool as Truth, List, [], ◌∷◌, ◌++◌, length, Option, None, Some, if◌then◌else◌, AllPairs, IsPermutation}
+use Rattle.std.specs.Prelude.{◌≡◌, ◌<◌, ◌≤◌, ℕ, zero, suc, true, false, Bool as Truth, List, [], ◌∷◌, ◌++◌, length}
+use Rattle.std.specs.Prelude.{Option, None, Some, if◌then◌else◌, AllPairs, IsPermutation}
 use Rattle.std.specs.declared.cmp.Ordering.{Ordering}
 use Rattle.std.specs.Ordering.{is_lt, nat_cmp, ordering_then}
 use Rattle.std.specs.Cmp.Lexicographic.{slice_cmp}
@@ -59,7 +60,8 @@ pub record Shows (S : Source) (es : List Spot) (f : Fact) : Type 0 where
 pub record AreSpots (S : Source) (es : List Spot) : Type 0 where
   pub things : (i : ℕ) → i < length es → IsThing S (spot_at es i).row
   pub before : (i : ℕ) → i < length es → (spot_at es i).path ≤ i
-  pub apart : (i j : ℕ) → i < length es → j < length es → (spot_at es i).path ≡ (spot_at es j).path → (spot_at es i).row ≡ (spot_at es j).row → i ≡ j
+  pub apart : (i j : ℕ) → i < length es → j < length es → (spot_at es i).path ≡ (spot_at es j).path
+      → (spot_at es i).row ≡ (spot_at es j).row → i ≡ j
 
 -- the spots have exactly the facts of round n
 pub record IsRound (S : Source) (n : ℕ) (es : List Spot) : Type 0 where
@@ -86,7 +88,8 @@ value_fact p e (Some v) = fact.Has p e v ∷ []
 
 -- those of the spot, which is one of these
 abbrev pub spot_facts : Checked → List Spot → Spot → List Fact
-spot_facts P es s = let p = path_at P es s.path in on_fact p (place P s.row) s.cell.on ++ value_fact p (place P s.row) s.cell.has
+spot_facts P es s = let p = path_at P es s.path in on_fact p (place P s.row) s.cell.on
+    ++ value_fact p (place P s.row) s.cell.has
 
 -- those of all of the spots, which are some of these
 abbrev pub facts_in : Checked → List Spot → List Spot → List Fact

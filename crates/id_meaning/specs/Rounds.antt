@@ -1,4 +1,5 @@
--- The rounds of a source, what it has, its faults and its answer (docs/MEANING.md, "Rounds", "Faults", "Answer", "Coherence").
+-- The rounds of a source, what it has, its faults and its answer (docs/MEANING.md, "Rounds", "Faults", "Answer",
+-- "Coherence").
 use Rattle.std.specs.Prelude.{◌≡◌, ◌⊎◌, ℕ, zero, suc, List, [], ◌∷◌, Option, Some, None}
 use Rattle.id_meaning.specs.declared.Path.{Path}
 use Rattle.id_meaning.specs.declared.SourceValue.{SourceValue}

@@ -1,7 +1,8 @@
 //! What follows by the rules of calls (docs/MEANING.md, "Rules").
 
 ghost use Rattle.std.specs.Prelude.{◌≡◌, ◌++◌, OnOk};
-ghost use Rattle.id_meaning.specs.Cells.{all_passed, all_passes, call_at, callee_of, entered, entered_by, exit_at, param_fact, param_row, passed_by, passed_of, passes_of, returned};
+ghost use Rattle.id_meaning.specs.Cells.{all_passed, all_passes, call_at, callee_of, entered, entered_by, exit_at};
+ghost use Rattle.id_meaning.specs.Cells.{param_fact, param_row, passed_by, passed_of, passes_of, returned};
 
 use crate::SourceValue;
 use crate::cells::{Cells, RowFact};

@@ -1,7 +1,8 @@
 //! What rows have at paths after some rounds (docs/MEANING.md, "Rounds").
 
 ghost use Rattle.std.specs.Prelude.{◌≡◌, ◌<◌, ◌≤◌, ◌++◌, length, replicate, OnOk, IfOk};
-ghost use Rattle.id_meaning.specs.Cells.{all_learnt, all_news, bucket_of, is_at, is_fresh, is_taken, learnt, path_of, queue_of, row_of, with_fact};
+ghost use Rattle.id_meaning.specs.Cells.{all_learnt, all_news, bucket_of, is_at, is_fresh, is_taken, learnt, path_of};
+ghost use Rattle.id_meaning.specs.Cells.{queue_of, row_of, with_fact};
 
 use crate::SourceValue;
 use std::alloc::{AllocError, Global};

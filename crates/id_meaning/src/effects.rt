@@ -1,7 +1,9 @@
 //! What follows by one rule, row by row (docs/MEANING.md, "Rules").
 
 ghost use Rattle.std.specs.Prelude.{◌≡◌, ◌++◌, slice_get, IfOk, OnOk};
-ghost use Rattle.id_meaning.specs.Cells.{arm_of, binary_of, chosen, constant_of, effects, first_facts, gain_at, gained, gains, given, given_at, given_of, input_facts, ons, seen, unary_of, value_fact, when};
+ghost use Rattle.id_meaning.specs.Cells.{arm_of, binary_of, chosen, constant_of, effects, first_facts, gain_at, gained};
+ghost use Rattle.id_meaning.specs.Cells.{gains, given, given_at, given_of, input_facts, ons, seen, unary_of};
+ghost use Rattle.id_meaning.specs.Cells.{value_fact, when};
 ghost use Rattle.id_meaning.specs.Links.{some_row};
 ghost use Rattle.id_meaning.specs.Sources.{main_body, value_of};
 

@@ -1,13 +1,16 @@
 //! The inputs of `main`, read from words (docs/LANGUAGE.md, "Inputs").
 
-ghost use Rattle.std.specs.Prelude.{◌≡◌, ℕ, get_or, ◌<◌, ◌-◌, ◌^◌, [], min, map, pos, neg_ℤ, length, slice_get, slice_index_or, None, Some, IfOk, IfErr, IfSome, OnOk, option_map, option_and_then};
+ghost use Rattle.std.specs.Prelude.{◌≡◌, ℕ, get_or, ◌<◌, ◌-◌, ◌^◌, [], min, map, pos, neg_ℤ, length, slice_get};
+ghost use Rattle.std.specs.Prelude.{slice_index_or, None, Some, IfOk, IfErr, IfSome, OnOk, option_map, option_and_then};
 ghost use Rattle.std.specs.List.{AllPass};
 ghost use Rattle.std.specs.Char.{is_ascii_digit};
 ghost use Rattle.id_text.specs.Bytes.{number_of as spelled_by};
 ghost use Rattle.id_parts.specs.Rows.{at};
 ghost use Rattle.id_check.specs.Programs.{rows};
 ghost use Rattle.id_meaning.specs.Sources.{AreInputs};
-ghost use Rattle.id_meaning.specs.Inputs.{AreInputsOf, AreRefusedInputs, IsCauseOf, are_digits, cut, digits_number, first_cause, number_of, number_spelled, said, truth_spelled, value_for, value_spelled, wanted, wanted_of, whole_value};
+ghost use Rattle.id_meaning.specs.Inputs.{AreInputsOf, AreRefusedInputs, IsCauseOf, are_digits, cut, digits_number};
+ghost use Rattle.id_meaning.specs.Inputs.{first_cause, number_of, number_spelled, said, truth_spelled, value_for};
+ghost use Rattle.id_meaning.specs.Inputs.{value_spelled, wanted, wanted_of, whole_value};
 ghost use Rattle.id_meaning.specs.Reading.{IsFirstLack, cause_so, cut_so, said_so, values_so};
 
 use crate::SourceValue;
@@ -131,7 +134,9 @@ fn inputs_for(
 ) -> Result<Vec<SourceValue>, InputError>
     ensures taken { IfOk result (λ v. first_cause params.now [] 0 (map (λ w. w.now) words.now) ≡ None) }
     ensures enough { IfOk result (λ v. length v.items ≡ length params.now) }
-    ensures values { IfOk result (λ v. (n : ℕ) → n < length v.items → slice_get v.items n ≡ value_for params.now (map (λ w. w.now) words.now) n) }
+    ensures values { IfOk result
+        (λ v. (n : ℕ) → n < length v.items
+        → slice_get v.items n ≡ value_for params.now (map (λ w. w.now) words.now) n) }
     ensures refused { IfErr result (IsCauseOf params.now (map (λ w. w.now) words.now)) }
 {
     let values = values_said(alloc, params, words)?;
@@ -146,7 +151,9 @@ fn values_said(
 ) -> Result<Vec<Option<SourceValue>>, InputError>
     ensures taken { IfOk result (λ v. first_cause params.now [] 0 (map (λ w. w.now) words.now) ≡ None) }
     ensures enough { IfOk result (λ v. length v.items ≡ length params.now) }
-    ensures values { IfOk result (λ v. (n : ℕ) → n < length v.items → slice_index_or v.items n None ≡ value_for params.now (map (λ w. w.now) words.now) n) }
+    ensures values { IfOk result
+        (λ v. (n : ℕ) → n < length v.items
+        → slice_index_or v.items n None ≡ value_for params.now (map (λ w. w.now) words.now) n) }
     ensures refused { IfErr result (IsCauseOf params.now (map (λ w. w.now) words.now)) }
 {
     let mut values = vec![in alloc; None; params.len()]?;

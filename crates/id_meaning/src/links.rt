@@ -3,7 +3,9 @@
 ghost use Rattle.std.specs.Prelude.{◌≡◌, ◌<◌, [], ◌∷◌, length, IfOk, OnOk};
 ghost use Rattle.id_parts.specs.Rows.{at};
 ghost use Rattle.id_check.specs.Programs.{binder, rows};
-ghost use Rattle.id_meaning.specs.Links.{AreArgs, AreOpen, AreReads, AreTurns, Gains, GainsTo, Statements, StatementsRise, TakesAll, awaited, beyond, enter_of, linked_of, parts_turned, some_row, test_of};
+ghost use Rattle.id_meaning.specs.Links.{AreArgs, AreOpen, AreReads, AreTurns, Gains, GainsTo, Statements};
+ghost use Rattle.id_meaning.specs.Links.{StatementsRise, TakesAll, awaited, beyond, enter_of, linked_of, parts_turned};
+ghost use Rattle.id_meaning.specs.Links.{some_row, test_of};
 
 use crate::edges::Edges;
 use crate::params::node_of;

@@ -3,7 +3,8 @@
 ghost use Rattle.std.specs.Prelude.{◌≡◌, ◌++◌, IfOk, OnOk};
 ghost use Rattle.std.specs.Cmp.Lexicographic.{slice_cmp};
 ghost use Rattle.id_check.specs.Programs.{place};
-ghost use Rattle.id_meaning.specs.Listed.{AreShown, fact_cmp, facts_in, kind_of, on_fact, path_at, place_in, point_cmp, spot_facts, step_at, steps_in, value_fact};
+ghost use Rattle.id_meaning.specs.Listed.{AreShown, fact_cmp, facts_in, kind_of, on_fact, path_at, place_in, point_cmp};
+ghost use Rattle.id_meaning.specs.Listed.{spot_facts, step_at, steps_in, value_fact};
 ghost use Rattle.id_meaning.specs.Orders.{step_cmp};
 
 use crate::cells::{Cells, Spot};
@@ -42,7 +43,10 @@ fn add_on_fact(
     cells: &Cells,
     spot: Spot,
 ) -> Result<(), AllocError>
-    ensures { OnOk result (facts.new.items ≡ facts.old.items ++ on_fact (path_at checked.now cells.now spot.path) (place checked.now spot.row) spot.cell.on) }
+    ensures { OnOk result
+        (facts.new.items
+        ≡ facts.old.items
+        ++ on_fact (path_at checked.now cells.now spot.path) (place checked.now spot.row) spot.cell.on) }
 {
     if spot.cell.on {
         let path = path_at(alloc, checked, cells, spot.path)?;
@@ -60,7 +64,10 @@ fn add_has_fact(
     cells: &Cells,
     spot: Spot,
 ) -> Result<(), AllocError>
-    ensures { OnOk result (facts.new.items ≡ facts.old.items ++ value_fact (path_at checked.now cells.now spot.path) (place checked.now spot.row) spot.cell.has) }
+    ensures { OnOk result
+        (facts.new.items
+        ≡ facts.old.items
+        ++ value_fact (path_at checked.now cells.now spot.path) (place checked.now spot.row) spot.cell.has) }
 {
     if let Some(value) = spot.cell.has {
         let path = path_at(alloc, checked, cells, spot.path)?;

@@ -1,5 +1,6 @@
 -- What a run shows (docs/MACHINE.md, "Observed").
-use Rattle.std.specs.Prelude.{ℕ, Bool, false, ◌&&◌, ◌==◌, count_by, List, map, Option, Some, None, slice_get, option_and_then, if◌then◌else◌}
+use Rattle.std.specs.Prelude.{ℕ, Bool, false, ◌&&◌, ◌==◌, count_by, List, map, Option, Some, None, slice_get}
+use Rattle.std.specs.Prelude.{option_and_then, if◌then◌else◌}
 use Rattle.std.specs.List.{filter_map, flat_map}
 use Rattle.id_graph.specs.declared.instr.Op.{Op}
 use Rattle.id_graph.specs.declared.instr.Op.TheVariants as op
@@ -48,7 +49,8 @@ source_value (value.Continuation t) = None
 abbrev pub answers : List EventView → List Value
 answers es = filter_map (λ e. brought e.message.payload) es
 
--- the answer that the records of these elements show: the first of those values. One element handles that tag, so its record has them all
+-- the answer that the records of these elements show: the first of those values. One element handles that tag, so its
+-- record has them all
 abbrev pub answer_in : List State → Option SourceValue
 answer_in elements = option_and_then source_value (slice_get (answers (events_of elements)) 0)
 

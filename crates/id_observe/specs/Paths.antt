@@ -1,5 +1,6 @@
 -- Paths of tags (docs/MACHINE.md, "Paths of tags").
-use Rattle.std.specs.Prelude.{ℕ, zero, suc, ◌-◌, ◌==◌, Bool, false, List, [], ◌∷◌, ◌++◌, length, Option, Some, None, slice_get, option_map, if◌then◌else◌}
+use Rattle.std.specs.Prelude.{ℕ, zero, suc, ◌-◌, ◌==◌, Bool, false, List, [], ◌∷◌, ◌++◌, length, Option, Some, None}
+use Rattle.std.specs.Prelude.{slice_get, option_map, if◌then◌else◌}
 use Rattle.std.specs.HashMap.{get}
 use Rattle.std.specs.Option.{option_map_or, option_or}
 use Rattle.id_graph.specs.declared.instr.Op.{Op}
@@ -47,7 +48,8 @@ unfoldable pub enter_in : Parts → List EventView → Context → Option Tag
 enter_in g [] c = None
 enter_in g (e ∷ es) c = option_or (enter_in g es c) (enter_of g e c)
 
--- whether the operator is the `enter` of a loop, where the place is its own: its block's first instruction has that place too
+-- whether the operator is the `enter` of a loop, where the place is its own: its block's first instruction has that
+-- place too
 abbrev pub enters_loop : Parts → ℕ → Option Op → Bool
 enters_loop g p (Some (Enter b r)) = place_of g b == p
 enters_loop g p _ = false
@@ -56,11 +58,12 @@ enters_loop g p _ = false
 abbrev pub step_of : Parts → ℕ → ℕ → PathStep
 step_of g n k = record { place = place_of g n; number = if enters_loop g (place_of g n) (op_at g n) then k else 0 }
 
--- the steps to a tag, at most n of them, where `enter` tells the tag under which each context was entered: those to that
--- tag, and the step of its `enter`. A context that nothing entered is main's, which has none
+-- the steps to a tag, at most n of them, where `enter` tells the tag under which each context was entered: those to
+-- that tag, and the step of its `enter`. A context that nothing entered is main's, which has none
 unfoldable pub steps_to : Parts → (Context → Option Tag) → ℕ → Tag → List PathStep
 steps_to g enter zero t = []
-steps_to g enter (suc n) t = option_map_or (λ u. steps_to g enter n u ++ step_of g u.instr t.iteration ∷ []) (enter t.context) []
+steps_to g enter (suc n) t =
+    option_map_or (λ u. steps_to g enter n u ++ step_of g u.instr t.iteration ∷ []) (enter t.context) []
 
 -- the path of a tag, by these events. In a run a context is entered by an event that comes after those that entered the
 -- contexts round it, so that a path has no more steps than there are events
@@ -69,6 +72,7 @@ path_of g es t = record { steps = steps_to g (enter_in g es) (length es) t }
 
 -- For use inside.
 
--- the path of a tag, where these tables tell under which tag each context was entered, and how many steps it has at most
+-- the path of a tag, where these tables tell under which tag each context was entered, and how many steps it has at
+-- most
 abbrev pub path_by : Paths → Tag → Path
 path_by p t = record { steps = steps_to p.graph.now (get same_context p.enters) p.most t }

@@ -1,6 +1,7 @@
 //! The records of some elements as one list of events, by stamp, then by element (docs/MACHINE.md, "The record").
 
-ghost use Rattle.std.specs.Prelude.{◌≡◌, ◌+◌, ◌-◌, ◌^◌, ◌<◌, ℕ, List, map, length, min, IsPermutation, IfOk, MatchOption};
+ghost use Rattle.std.specs.Prelude.{◌≡◌, ◌+◌, ◌-◌, ◌^◌, ◌<◌, ℕ, List, map, length, min, IsPermutation, IfOk};
+ghost use Rattle.std.specs.Prelude.{MatchOption};
 ghost use Rattle.std.specs.List.{flat_map};
 ghost use Rattle.std.specs.List.Sorted.{IsStrictlyIncreasing, IsStrictlySortedBy};
 ghost use Rattle.id_record.specs.Events.{EventView};
@@ -81,7 +82,9 @@ pub fn merge_records<'a>(
     ensures sorted { IfOk result (λ m. IsStrictlySortedBy by_moment m) }
     ensures all { IfOk result (λ m. IsPermutation (flat_map (λ e. e.state.events) elements.now) m) }
     // There is one such list.
-    ensures only { IfOk result (λ m. (es : List EventView) → IsStrictlySortedBy by_moment es → IsPermutation (flat_map (λ e. e.state.events) elements.now) es → es ≡ m) }
+    ensures only { IfOk result
+        (λ m. (es : List EventView) → IsStrictlySortedBy by_moment es
+        → IsPermutation (flat_map (λ e. e.state.events) elements.now) es → es ≡ m) }
 {
     let records = records_of(alloc, elements)?;
     let merged = merge(alloc, records)?;

@@ -1,10 +1,13 @@
 //! What a run shows: the answer, what binders have, and the faults (docs/MACHINE.md, "Observed").
 
-ghost use Rattle.std.specs.Prelude.{◌≡◌, ◌==◌, ◌&&◌, ◌++◌, [], ℕ, false, count_by, map, nat_eq, slice_get, unwrap_or, IfOk, OnOk, None, if◌then◌else◌};
+ghost use Rattle.std.specs.Prelude.{◌≡◌, ◌==◌, ◌&&◌, ◌++◌, [], ℕ, false, count_by, map, nat_eq, slice_get, unwrap_or};
+ghost use Rattle.std.specs.Prelude.{IfOk, OnOk, None, if◌then◌else◌};
 ghost use Rattle.std.specs.HashMap.{get};
 ghost use Rattle.std.specs.List.{cons_option, filter_map};
 ghost use Rattle.id_valid.specs.Validator.{is_value};
-ghost use Rattle.id_observe.specs.Observed.{answer_in, answers, brought, events_of, fault_of, faults_in, faults_of, is_label, is_value_merge, label_marks, main_tag, name_at, name_in, names_in, names_of, source_value};
+ghost use Rattle.id_observe.specs.Observed.{answer_in, answers, brought, events_of, fault_of, faults_in, faults_of};
+ghost use Rattle.id_observe.specs.Observed.{is_label, is_value_merge, label_marks, main_tag, name_at, name_in};
+ghost use Rattle.id_observe.specs.Observed.{names_in, names_of, source_value};
 ghost use Rattle.id_observe.specs.Paths.{path_by, place_of};
 
 use crate::paths::Paths;
@@ -56,7 +59,9 @@ fn all_names(
     paths: &Paths<'_>,
     elements: &[Element<'_>],
 ) -> Result<Vec<NameValue>, AllocError>
-    ensures { IfOk result (λ v. v.items ≡ names_of paths.now.graph.now (path_by paths.now) (events_of (map (λ e. e.state) elements.now))) }
+    ensures { IfOk result
+        (λ v. v.items
+        ≡ names_of paths.now.graph.now (path_by paths.now) (events_of (map (λ e. e.state) elements.now))) }
 {
     let marks = label_marks(alloc, paths.graph())?;
     let mut names = Vec::new(alloc);
@@ -93,7 +98,8 @@ fn is_counted_label(counts: &HashMap<usize, u32>, instr: &Instr) -> bool
 
 /// How many instructions have each place.
 fn counts_by_place(alloc: Global, graph: &Graph) -> Result<HashMap<usize, u32>, AllocError>
-    ensures { IfOk result (λ m. (p : ℕ) → unwrap_or (get nat_eq m p) 0 ≡ count_by (λ i. i.place == p) graph.now.instrs) }
+    ensures { IfOk result
+        (λ m. (p : ℕ) → unwrap_or (get nat_eq m p) 0 ≡ count_by (λ i. i.place == p) graph.now.instrs) }
 {
     let mut counts = HashMap::new(alloc);
     for instr in graph.instrs() {
@@ -131,7 +137,8 @@ fn add_names(
     names: &mut Vec<NameValue>,
 ) -> Result<(), AllocError>
     requires { marks.now ≡ label_marks paths.now.graph.now }
-    ensures { OnOk result (names.new.items ≡ names.old.items ++ names_of paths.now.graph.now (path_by paths.now) events.now) }
+    ensures { OnOk result
+        (names.new.items ≡ names.old.items ++ names_of paths.now.graph.now (path_by paths.now) events.now) }
 {
     for position in 0..events.len() {
         let payload = events.payload(position);
@@ -181,7 +188,8 @@ fn name_if_label(
 ) -> Result<Option<NameValue>, AllocError>
     requires { marks.now ≡ label_marks paths.now.graph.now }
     ensures { IfOk result (λ o. o ≡
-        (if is_label paths.now.graph.now tag.instr then name_at paths.now.graph.now tag.instr (path_by paths.now tag) value else None)) }
+        (if is_label paths.now.graph.now tag.instr
+        then name_at paths.now.graph.now tag.instr (path_by paths.now tag) value else None)) }
 {
     if mark_at(marks, tag.instr) {
         let name = name_at(alloc, paths, tag, value)?;
@@ -290,7 +298,9 @@ fn all_faults(
     paths: &Paths<'_>,
     elements: &[Element<'_>],
 ) -> Result<Vec<SourceFault>, AllocError>
-    ensures { IfOk result (λ v. v.items ≡ faults_of paths.now.graph.now (path_by paths.now) (events_of (map (λ e. e.state) elements.now))) }
+    ensures { IfOk result
+        (λ v. v.items
+        ≡ faults_of paths.now.graph.now (path_by paths.now) (events_of (map (λ e. e.state) elements.now))) }
 {
     let mut faults = Vec::new(alloc);
     for element in elements {
@@ -306,7 +316,8 @@ fn add_faults(
     events: &Events<'_>,
     faults: &mut Vec<SourceFault>,
 ) -> Result<(), AllocError>
-    ensures { OnOk result (faults.new.items ≡ faults.old.items ++ faults_of paths.now.graph.now (path_by paths.now) events.now) }
+    ensures { OnOk result
+        (faults.new.items ≡ faults.old.items ++ faults_of paths.now.graph.now (path_by paths.now) events.now) }
 {
     for position in 0..events.len() {
         let event = events.event(position);

@@ -26,7 +26,9 @@ fn add_enters(
     events: &Events<'_>,
     enters: &mut HashMap<Context, Tag>,
 ) -> Result<(), AllocError>
-    ensures { OnOk result ((c : Context) → get same_context enters.new c ≡ option_or (enter_in graph.now events.now c) (get same_context enters.old c)) }
+    ensures { OnOk result
+        ((c : Context)
+        → get same_context enters.new c ≡ option_or (enter_in graph.now events.now c) (get same_context enters.old c)) }
 {
     for position in 0..events.len() {
         let event = events.event(position);
@@ -44,7 +46,8 @@ fn add_enter(
     enters: &mut HashMap<Context, Tag>,
 ) -> Result<(), AllocError>
     ensures { OnOk result ((c : Context) → get same_context enters.new c ≡
-        option_or (if_same (tag_of payload.now) c (entered graph.now payload.now outputs.now)) (get same_context enters.old c)) }
+        option_or (if_same (tag_of payload.now) c (entered graph.now payload.now outputs.now))
+        (get same_context enters.old c)) }
 {
     match entered(graph, payload, outputs) {
         Some(context) => {
@@ -160,7 +163,9 @@ fn all_enters(
     graph: &Graph,
     elements: &[Element<'_>],
 ) -> Result<HashMap<Context, Tag>, AllocError>
-    ensures { IfOk result (λ m. (c : Context) → get same_context m c ≡ enter_in graph.now (events_of (map (λ e. e.state) elements.now)) c) }
+    ensures { IfOk result
+        (λ m. (c : Context)
+        → get same_context m c ≡ enter_in graph.now (events_of (map (λ e. e.state) elements.now)) c) }
 {
     let mut enters = HashMap::new(alloc);
     for element in elements {

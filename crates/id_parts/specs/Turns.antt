@@ -5,7 +5,8 @@ use Rattle.id_list.specs.List.{Among}
 use Rattle.id_value.specs.declared.Kind.{Kind}
 use Rattle.id_parts.specs.declared.row.Region.{Region}
 use Rattle.id_parts.specs.declared.row.Row.{Row}
-use Rattle.id_parts.specs.declared.row.Node.TheVariants.{Head, Unary, Binary, Split, If, Enter, Arg, Call, Block, Binding}
+use Rattle.id_parts.specs.declared.row.Node.TheVariants.{Head, Unary, Binary, Split, If, Enter, Arg, Call, Block}
+use Rattle.id_parts.specs.declared.row.Node.TheVariants.{Binding}
 use Rattle.id_parts.specs.declared.row.Node.TheVariants.{Def, Program}
 use Rattle.id_parts.specs.Rows.{arm_at, at, top}
 use Rattle.id_parts.specs.Tables.{HasOperand, HasNear, IsFormed, IsNested, around}

@@ -6,7 +6,8 @@ use Rattle.id_core.specs.Firsts.{IsFirstFault}
 use Rattle.id_print.specs.declared.report.Ending.{Ending}
 use Rattle.id_print.specs.declared.report.Ending.TheVariants.{Quiet, Stopped, Fault}
 
--- the machine ended so: at the first fault of all its events, by stamp and then by element, and where it shows none, quiet or not
+-- the machine ended so: at the first fault of all its events, by stamp and then by element, and where it shows none,
+-- quiet or not
 abbrev pub EndsSo : MachineView → Ending → Type 0
 EndsSo m Quiet = IsQuiet m.world
 EndsSo m Stopped = (faults m.graph m.world ≡ []) × ¬ IsQuiet m.world

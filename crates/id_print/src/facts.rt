@@ -34,7 +34,8 @@ fn put_on<W: Sink>(
     place: usize,
 ) -> Result<(), PrintError>
     requires { PointWithin (length cursor.old) path.now place }
-    ensures prints { Prints (W.told sink.old) (W.told sink.new) (codes "on " ++ (point_text cursor.old path.now place ++ codes "\n")) result }
+    ensures prints { Prints (W.told sink.old) (W.told sink.new)
+        (codes "on " ++ (point_text cursor.old path.now place ++ codes "\n")) result }
     ensures same { cursor.new ≡ cursor.old }
 {
     put(sink, b"on ")?;
@@ -50,7 +51,8 @@ fn put_has<W: Sink>(
     value: SourceValue,
 ) -> Result<(), PrintError>
     requires { PointWithin (length cursor.old) path.now place }
-    ensures prints { Prints (W.told sink.old) (W.told sink.new) (codes "has " ++ point_value_text cursor.old path.now place value) result }
+    ensures prints { Prints (W.told sink.old) (W.told sink.new)
+        (codes "has " ++ point_value_text cursor.old path.now place value) result }
     ensures same { cursor.new ≡ cursor.old }
 {
     put(sink, b"has ")?;

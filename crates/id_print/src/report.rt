@@ -6,9 +6,11 @@ ghost use Rattle.id_meaning.specs.Orders.{NamesRise};
 ghost use Rattle.id_print.specs.Endings.{EndsSo};
 ghost use Rattle.id_print.specs.Names.{IsSortedOf, AreApart};
 ghost use Rattle.id_print.specs.Told.{Prints};
-ghost use Rattle.id_print.specs.Texts.{kind_text, fault_head_text, fault_text, answer_text, answer_value_text, name_text, names_text, shown_text, stopped_text};
+ghost use Rattle.id_print.specs.Texts.{kind_text, fault_head_text, fault_text, answer_text, answer_value_text};
+ghost use Rattle.id_print.specs.Texts.{name_text, names_text, shown_text, stopped_text};
 ghost use Rattle.id_print.specs.Reports.{asked, report_text};
-ghost use Rattle.id_print.specs.Within.{StepsWithin, PointWithin, FaultWithin, EndingWithin, NameWithin, NamesWithin, ReportWithin};
+ghost use Rattle.id_print.specs.Within.{StepsWithin, PointWithin, FaultWithin, EndingWithin, NameWithin, NamesWithin};
+ghost use Rattle.id_print.specs.Within.{ReportWithin};
 
 use crate::cursor::Cursor;
 use crate::names::sorted_names;
@@ -48,7 +50,8 @@ pub fn run_report(alloc: Global, machine: &Machine<'_>, named: bool) -> Result<R
 
     // What binders have is all there, in order; where the run shows no name twice, each comes before the next.
     ensures names { IfOk result (λ r. IsTrue named → IsSortedOf r.names (names machine.now.graph machine.now.world)) }
-    ensures rise { IfOk result (λ r. IsTrue named → AreApart (names machine.now.graph machine.now.world) → NamesRise r.names) }
+    ensures rise { IfOk result
+        (λ r. IsTrue named → AreApart (names machine.now.graph machine.now.world) → NamesRise r.names) }
     ensures none { IfOk result (λ r. IsFalse named → r.names ≡ []) }
 {
     let ending = ending_of(alloc, machine)?;

@@ -3,7 +3,8 @@
 ghost use Rattle.std.specs.Prelude.{◌≡◌, ◌≤◌, ◌++◌, length, decimal, codes};
 ghost use Rattle.std.specs.Fmt.{signed_decimal};
 ghost use Rattle.id_print.specs.Told.{Prints};
-ghost use Rattle.id_print.specs.Texts.{line_column_text, place_text, step_text, steps_text, point_text, point_value_text, truth_text, value_text};
+ghost use Rattle.id_print.specs.Texts.{line_column_text, place_text, step_text, steps_text, point_text};
+ghost use Rattle.id_print.specs.Texts.{point_value_text, truth_text, value_text};
 ghost use Rattle.id_print.specs.Within.{StepsWithin, PointWithin};
 
 use crate::cursor::Cursor;
@@ -122,7 +123,8 @@ pub(crate) fn put_point_value<W: Sink>(
     value: SourceValue,
 ) -> Result<(), PrintError>
     requires { PointWithin (length cursor.old) path.now place }
-    ensures prints { Prints (W.told sink.old) (W.told sink.new) (point_value_text cursor.old path.now place value) result }
+    ensures prints { Prints (W.told sink.old) (W.told sink.new)
+        (point_value_text cursor.old path.now place value) result }
     ensures same { cursor.new ≡ cursor.old }
 {
     put_point(sink, cursor, path, place)?;

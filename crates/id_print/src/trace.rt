@@ -2,7 +2,9 @@
 
 ghost use Rattle.std.specs.Prelude.{◌≡◌, ◌++◌};
 ghost use Rattle.id_print.specs.Told.{Prints};
-ghost use Rattle.id_print.specs.Traces.{carried_text, context_text, continuation_text, delivery_text, end_text, entry_text, goal_text, handled_text, moment_text, opened_text, payload_text, port_text, tag_text, token_text, trace_text, turn_text};
+ghost use Rattle.id_print.specs.Traces.{carried_text, context_text, continuation_text, delivery_text, end_text};
+ghost use Rattle.id_print.specs.Traces.{entry_text, goal_text, handled_text, moment_text, opened_text, payload_text};
+ghost use Rattle.id_print.specs.Traces.{port_text, tag_text, token_text, trace_text, turn_text};
 
 use crate::sink::{PrintError, Sink, put};
 use crate::texts::{put_int, put_long, put_number, put_numbers, truth_bytes};
@@ -22,7 +24,8 @@ pub fn write_trace<W: Sink>(events: &Events<'_>, sink: &mut W) -> Result<(), Pri
 }
 
 fn put_line<W: Sink>(sink: &mut W, event: &Event<'_>) -> Result<(), PrintError>
-    ensures { Prints (W.told sink.old) (W.told sink.new) (handled_text event.now.stamp event.now.element event.now.message.payload ++ end_text event.now.step) result }
+    ensures { Prints (W.told sink.old) (W.told sink.new)
+        (handled_text event.now.stamp event.now.element event.now.message.payload ++ end_text event.now.step) result }
 {
     put_handled(sink, event.stamp, event.element, &event.message.payload)?;
     put(sink, end_bytes(event.step))

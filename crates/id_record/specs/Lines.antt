@@ -1,5 +1,6 @@
 -- How the record keeps an event in a line.
-use Rattle.std.specs.Prelude.{◌≡◌, ℕ, ◌<◌, ℤ, pos, Bool, true, false, List, Option, None, Some, length, slice_index_or, unsigned_abs}
+use Rattle.std.specs.Prelude.{◌≡◌, ℕ, ◌<◌, ℤ, pos, Bool, true, false, List, Option, None, Some, length, slice_index_or}
+use Rattle.std.specs.Prelude.{unsigned_abs}
 use Rattle.id_tag.specs.declared.Tag.{Tag}
 use Rattle.id_tag.specs.declared.Value.{Value}
 use Rattle.id_tag.specs.declared.Value.TheVariants as value
@@ -15,7 +16,8 @@ use Rattle.id_record.specs.declared.line.Reaction.{Reaction}
 use Rattle.id_record.specs.declared.line.Handled.{Handled}
 use Rattle.id_record.specs.declared.line.Line.{Line}
 use Rattle.id_record.specs.declared.line.Carried.{Carried}
-use Rattle.id_record.specs.declared.line.Carried.TheVariants.{Signal, Int, Bool as Truth, Context as InContext, Continuation as Continues, Aside}
+use Rattle.id_record.specs.declared.line.Carried.TheVariants.{Signal, Int, Bool as Truth, Context as InContext}
+use Rattle.id_record.specs.declared.line.Carried.TheVariants.{Continuation as Continues, Aside}
 use Rattle.id_record.specs.declared.line.Exit.{Exit}
 use Rattle.id_record.specs.declared.line.Exit.TheVariants as exits
 use Rattle.id_record.specs.declared.line.Effect.{Effect}
@@ -118,7 +120,12 @@ sender_of false n = Element n
 abbrev pub own : Line → Value → Handled
 own l v = record {
   message = record {
-    payload = Token (record { context = record { element = l.element; serial = l.serial }; iteration = l.iteration; instr = l.instr }) l.port v;
+    payload = Token (record {
+      context = record
+          { element = l.element; serial = l.serial };
+      iteration = l.iteration;
+      instr = l.instr;
+    }) l.port v;
     sender = sender_of l.started l.sender;
     position = l.position;
     output = l.output;

@@ -40,7 +40,8 @@ event_of_handled g n position h = record {
 -- the events of these lines, from this position on
 abbrev pub events_from : Parts → ℕ → ℕ → List Handled → List Line → List EventView
 events_from g n position asides [] = []
-events_from g n position asides (l ∷ ls) = event_of_handled g n position (unpacked asides l) ∷ events_from g n (position + 1) asides ls
+events_from g n position asides (l ∷ ls) =
+    event_of_handled g n position (unpacked asides l) ∷ events_from g n (position + 1) asides ls
 
 -- what contracts see of a record: its events, and how many more lines and events aside find room
 pub record RecordView : Type 0 where

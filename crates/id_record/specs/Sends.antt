@@ -55,4 +55,5 @@ sent o ds t Nothing = []
 abbrev pub numbered : ℕ → ℕ → ℕ → ℕ → List Payload → List Message
 numbered n position stamp k [] = []
 numbered n position stamp k (x ∷ xs) =
-    record { payload = x; sender = sender.Element n; position = position; output = k; stamp = stamp } ∷ numbered n position stamp (k + 1) xs
+    record { payload = x; sender = sender.Element n; position = position; output = k; stamp = stamp }
+    ∷ numbered n position stamp (k + 1) xs

@@ -107,7 +107,8 @@ impl<'a> Record<'a> {
         requires room_aside { 0 < self.old.room_aside }
         ensures element { self.new.element ≡ self.old.element }
         ensures graph { self.new.graph ≡ self.old.graph }
-        ensures events { self.new.events ≡ self.old.events ++ event_of_handled self.old.graph self.old.element (length self.old.events) event ∷ [] }
+        ensures events { self.new.events
+            ≡ self.old.events ++ event_of_handled self.old.graph self.old.element (length self.old.events) event ∷ [] }
     {
         match packed(&event) {
             Some(line) => add_line(&mut self.lines, line),

@@ -40,7 +40,8 @@ impl<'a> Model for Outputs<'a> {
 
     ghost Value = { List Message };
 
-    ghost view = { λ o. numbered o.envelope.number o.envelope.position o.envelope.stamp 0 (sent o.op o.dests.now o.tag o.fired) };
+    ghost view = { λ o. numbered o.envelope.number o.envelope.position o.envelope.stamp 0
+        (sent o.op o.dests.now o.tag o.fired) };
 
     ghost invariant = { λ o. HasSecond o.op };
 }
@@ -208,7 +209,13 @@ pub fn token_to(tag: Tag, value: Value, dest: Dest) -> Payload
 
 /// The message of this number of those that the envelope is for.
 pub fn message(envelope: Envelope, number: usize, payload: Payload) -> Message
-    ensures { result ≡ record { payload = payload; sender = Element envelope.number; position = envelope.position; output = number; stamp = envelope.stamp } }
+    ensures { result ≡ record {
+      payload = payload;
+      sender = Element envelope.number;
+      position = envelope.position;
+      output = number;
+      stamp = envelope.stamp;
+    } }
 {
     Message {
         payload,

@@ -68,8 +68,8 @@ pub(crate) fn sum_and_product(alloc: Global, four: Op, sum: u32) -> Result<Vec<I
     )
 }
 
-/// The instructions of `def main(): int = if true then 1 else 2;`, with this number in the false list of the switch. The
-/// second list of 5 is no port of the graph, and is ignored.
+/// The instructions of `def main(): int = if true then 1 else 2;`, with this number in the false list of the switch.
+/// The second list of 5 is no port of the graph, and is ignored.
 pub(crate) fn either(alloc: Global, second: u32) -> Result<Vec<Instr>, AllocError> {
     let merge = Op::Merge(PortKind::Int);
     let truth = Op::Const(Constant::Bool(true));

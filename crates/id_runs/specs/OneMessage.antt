@@ -28,18 +28,23 @@ Few run = (k : Key) → count_for k (handled run) ≤ 1
 abbrev pub AtMostOne : World → List Event → Type 0
 AtMostOne s run = (k : Key) → count_for k (flying s) + count_for k (handled run) ≤ 1
 
--- in any run one event alone, or the start alone, sends for a key: each may be shown where a key was handled at most once, and a tag fired once
+-- in any run one event alone, or the start alone, sends for a key: each may be shown where a key was handled at most
+-- once, and a tag fired once
 pub record Exclusive (g : Parts) (vs : List SourceValue) (count : ℕ) : Type 0 where
   -- a token for an operator of one port is for its port 0
-  pub first_port : (s : World) (run : List Event) → Reach g vs count s run → (t : Tag) (p : Port) (v : Value) (i : Instr)
+  pub first_port : (s : World) (run : List Event) → Reach g vs count s run
+      → (t : Tag) (p : Port) (v : Value) (i : Instr)
       → Among (Token t p v) (handled run) → slice_get g.instrs t.instr ≡ Some i → two_ports i.op ≡ false → p ≡ Zero
   -- an event sends at most one message for a key, and so does the start
-  pub sends_once : (s : World) (run : List Event) → Reach g vs count s run → Few run → FiresOnce run → (e : Event) → Among e run → (k : Key)
+  pub sends_once : (s : World) (run : List Event) → Reach g vs count s run → Few run → FiresOnce run → (e : Event)
+      → Among e run → (k : Key)
       → count_for k (sends_of g e) ≤ 1
   pub starts_once : (k : Key) → count_for k (starting g vs) ≤ 1
   -- no event sends for a key of the start
-  pub not_at_start : (s : World) (run : List Event) → Reach g vs count s run → Few run → FiresOnce run → (e : Event) → Among e run → (x y : Payload)
+  pub not_at_start : (s : World) (run : List Event) → Reach g vs count s run → Few run → FiresOnce run → (e : Event)
+      → Among e run → (x y : Payload)
       → Among x (sends_of g e) → Among y (starting g vs) → key_of x ≡ key_of y → ⊥
   -- two events that send for one key are one event
-  pub one_sender : (s : World) (run : List Event) → Reach g vs count s run → Few run → FiresOnce run → (e e' : Event) → Among e run → Among e' run
+  pub one_sender : (s : World) (run : List Event) → Reach g vs count s run → Few run → FiresOnce run → (e e' : Event)
+      → Among e run → Among e' run
       → (x y : Payload) → Among x (sends_of g e) → Among y (sends_of g e') → key_of x ≡ key_of y → e ≡ e'

@@ -36,7 +36,8 @@ offered_to fresh i t Taken = Blocked
 -- what comes of a token for an instruction, if there is one
 abbrev pub arrival_at : Fresh → Option Instr → Store → Tag → Port → Value → Arrival
 arrival_at fresh None w t p v = Waits
-arrival_at fresh (Some i) w t p v = if two_ports i.op then offered_to fresh i t (offer_answer w t p v) else fires_on fresh i t (One v)
+arrival_at fresh (Some i) w t p v =
+    if two_ports i.op then offered_to fresh i t (offer_answer w t p v) else fires_on fresh i t (One v)
 
 -- the event of the element n in a state, on a message
 abbrev pub happens : Parts → ℕ → State → Payload → Event
@@ -47,7 +48,8 @@ pub data Reach (g : Parts) (vs : List SourceValue) (count : ℕ) : World → Lis
   begin : Reach g vs count (start g vs count) []
   deliver : {s : World} {run : List Event} (k : ℕ) (m : Message) (e : State) → Reach g vs count s run
       → slice_get s.flight k ≡ Some m → slice_get s.elements (route_of m.payload count) ≡ Some e
-      → Reach g vs count (taken_from g k s m (route_of m.payload count) e) (happens g (route_of m.payload count) e m.payload ∷ run)
+      → Reach g vs count (taken_from g k s m (route_of m.payload count) e)
+      (happens g (route_of m.payload count) e m.payload ∷ run)
 
 -- some events lead there
 pub record Reached (g : Parts) (vs : List SourceValue) (count : ℕ) (s : World) : Type 0 where

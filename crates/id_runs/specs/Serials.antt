@@ -16,4 +16,5 @@ pub record ContextsApart (run : List Event) : Type 0 where
 
 -- *Serials*: in every run of every graph, on any number of elements
 abbrev pub Serials : Type 0
-Serials = (g : Parts) (vs : List SourceValue) (count : ℕ) (s : World) (run : List Event) → Reach g vs count s run → ContextsApart run
+Serials = (g : Parts) (vs : List SourceValue) (count : ℕ) (s : World) (run : List Event) → Reach g vs count s run
+    → ContextsApart run

@@ -12,7 +12,8 @@ use Rattle.id_tag.specs.declared.Value.TheVariants as value
 -- a context as a pair of numbers
 abbrev pub coded_context : Coded Context
 coded_context =
-    code_by (ℕ × ℕ) (coded× coded_ℕ coded_ℕ) (λ c. (c.element, c.serial)) (λ p. record { element = p.0; serial = p.1 }) (λ _. refl)
+    code_by (ℕ × ℕ) (coded× coded_ℕ coded_ℕ) (λ c. (c.element, c.serial)) (λ p. record { element = p.0; serial = p.1 })
+    (λ _. refl)
 
 -- a tag as its context with a pair of numbers
 abbrev pub coded_tag : Coded Tag
@@ -70,4 +71,5 @@ from_parts-parts_of (value.Continuation _) = refl
 -- a value as what it holds
 abbrev pub coded_value : Coded Value
 coded_value =
-    code_by Parts (coded⊎ coded_bool (coded⊎ coded_ℤ (coded⊎ coded_bool (coded⊎ coded_context coded_tag)))) parts_of from_parts from_parts-parts_of
+    code_by Parts (coded⊎ coded_bool
+    (coded⊎ coded_ℤ (coded⊎ coded_bool (coded⊎ coded_context coded_tag)))) parts_of from_parts from_parts-parts_of

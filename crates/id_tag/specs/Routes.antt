@@ -4,7 +4,8 @@ use Rattle.id_tag.specs.declared.Tag.{Tag}
 use Rattle.id_tag.specs.declared.Payload.{Payload}
 use Rattle.id_tag.specs.declared.Payload.TheVariants.{Token}
 
--- the element that handles a tag, of so many: the sum of its context's two numbers and its iteration, modulo their count
+-- the element that handles a tag, of so many: the sum of its context's two numbers and its iteration, modulo their
+-- count
 abbrev pub tag_route : Tag → ℕ → ℕ
 tag_route t count = (t.context.element + t.context.serial + t.iteration) % count
 

@@ -1,6 +1,7 @@
 //! The tokens of a text, piece by piece.
 
-ghost use Rattle.std.specs.Prelude.{◌≡◌, ◌+◌, ◌<◌, ◌≤◌, ◌↔◌, ◌⊎◌, ℕ, List, length, drop, All, IfOk, IfErr, IsErrOf, MatchResult, IsTrue, slice_index};
+ghost use Rattle.std.specs.Prelude.{◌≡◌, ◌+◌, ◌<◌, ◌≤◌, ◌↔◌, ◌⊎◌, ℕ, List, length, drop, All, IfOk, IfErr, IsErrOf};
+ghost use Rattle.std.specs.Prelude.{MatchResult, IsTrue, slice_index};
 ghost use Rattle.std.specs.Char.{is_ascii_digit};
 ghost use Rattle.id_text.specs.Bytes.{is_letter, is_other};
 ghost use Rattle.id_text.specs.Tokens.{EndsOnce, Rises, IsWithin, IsPlaceWithin};

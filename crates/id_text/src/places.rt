@@ -67,7 +67,8 @@ impl<'a> Lines<'a> {
         Ok(Lines { text, starts })
     }
 
-    /// What `line_col` gives for the text. Takes no memory, and time that grows with the logarithm of the number of lines.
+    /// What `line_col` gives for the text. Takes no memory, and time that grows with the logarithm of the number of
+    /// lines.
     pub fn line_col(&self, at: usize) -> (u32, u32)
         requires { at ≤ length self.now }
         ensures line { result.0 ≡ line_of self.now at }

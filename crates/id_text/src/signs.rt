@@ -43,7 +43,8 @@ fn single_at(bytes: &[u8]) -> Option<Symbol>
 
 /// The sign of these two bytes, if they are one.
 fn pair_of(first: u8, second: u8) -> Option<Symbol>
-    ensures { MatchOption result ((s : Symbol) → sign_of s ≢ (first ∷ second ∷ [])) (λ s. sign_of s ≡ first ∷ second ∷ []) }
+    ensures { MatchOption result ((s : Symbol) → sign_of s ≢ (first ∷ second ∷ []))
+        (λ s. sign_of s ≡ first ∷ second ∷ []) }
 {
     match (first, second) {
         (b'=', b'=') => Some(Symbol::Equal),

@@ -3,9 +3,12 @@ use Rattle.std.specs.Prelude.{◌≡◌, ◌+◌, ℕ, ℤ, true, false, Option,
 use Rattle.id_text.specs.declared.token.Token.{Token}
 use Rattle.id_text.specs.declared.token.TokenKind.{TokenKind}
 use Rattle.id_text.specs.declared.token.TokenKind.TheVariants.{Name, Number, Key, Sign, End}
-use Rattle.id_text.specs.declared.token.Keyword.TheVariants.{Def, If, Then, Else, In, True, False, Int, Bool, Array, Div, Rem, And, Or, Not}
+use Rattle.id_text.specs.declared.token.Keyword.TheVariants.{Def, If, Then, Else, In, True, False, Int, Bool, Array}
+use Rattle.id_text.specs.declared.token.Keyword.TheVariants.{Div, Rem, And, Or, Not}
 use Rattle.id_text.specs.declared.token.Symbol.{Symbol}
-use Rattle.id_text.specs.declared.token.Symbol.TheVariants.{LeftParen, RightParen, LeftBrace, RightBrace, Comma, Semicolon, Colon, Becomes, Equal, NotEqual, Less, LessEqual, Greater, GreaterEqual, Plus, Minus, Star}
+use Rattle.id_text.specs.declared.token.Symbol.TheVariants.{LeftParen, RightParen, LeftBrace, RightBrace, Comma}
+use Rattle.id_text.specs.declared.token.Symbol.TheVariants.{Semicolon, Colon, Becomes, Equal, NotEqual, Less, LessEqual}
+use Rattle.id_text.specs.declared.token.Symbol.TheVariants.{Greater, GreaterEqual, Plus, Minus, Star}
 use Rattle.id_value.specs.declared.Kind.{Kind}
 use Rattle.id_value.specs.declared.Kind.TheVariants as kind
 use Rattle.id_value.specs.declared.Constant.TheVariants as constant
@@ -20,7 +23,8 @@ use Rattle.id_tree.specs.declared.parser.Level.TheVariants as level
 use Rattle.id_tree.specs.declared.tokens.Word.{Word}
 use Rattle.id_tree.specs.declared.tokens.Word.TheVariants as the
 use Rattle.id_tree.specs.Tree as tree
-use Rattle.id_tree.specs.Tree.{Tree, literal, unary, conditional, call, block, binding, param, define, binary, none, more}
+use Rattle.id_tree.specs.Tree.{Tree, literal, unary, conditional, call, block, binding, param, define, binary, none}
+use Rattle.id_tree.specs.Tree.{more}
 
 -- What a rule is for: a definition; its parameters behind the bracket, and more of them behind one; an expression of
 -- any form; a level of operators; what stands behind `not` or without it; an operand of the tightest level; the

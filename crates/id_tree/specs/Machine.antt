@@ -15,7 +15,12 @@ use Rattle.id_tree.specs.declared.tokens.Word.{Word}
 use Rattle.id_tree.specs.declared.tokens.Word.TheVariants as the
 use Rattle.id_value.specs.declared.Kind.TheVariants as kind
 use Rattle.id_tree.specs.Tree.{Tree, binary, none, more}
-use Rattle.id_tree.specs.Grammar.{Phrase, Definition, Parameters, MoreParameters, Expression, Grouped, Negation, Unary, Arguments, MoreArguments, Tail, Rest, done, word, optional, name, of_kind, part, kind_named, Opens, definition, no_parameters, first_parameter, last_parameter, next_parameter, by_conditional, denied, negated, number, by_true, by_false, parens, by_name, by_block, no_arguments, last_argument, next_argument, argument_of, by_binding, by_body, operand, operator_of, own_height}
+use Rattle.id_tree.specs.Grammar.{Phrase, Definition, Parameters, MoreParameters, Expression, Grouped, Negation, Unary}
+use Rattle.id_tree.specs.Grammar.{Arguments, MoreArguments, Tail, Rest, done, word, optional, name, of_kind, part}
+use Rattle.id_tree.specs.Grammar.{kind_named, Opens, definition, no_parameters, first_parameter, last_parameter}
+use Rattle.id_tree.specs.Grammar.{next_parameter, by_conditional, denied, negated, number, by_true, by_false, parens}
+use Rattle.id_tree.specs.Grammar.{by_name, by_block, no_arguments, last_argument, next_argument, argument_of}
+use Rattle.id_tree.specs.Grammar.{by_binding, by_body, operand, operator_of, own_height}
 
 -- a production that begins with this token
 pub record Row (s : Phrase) (k : TokenKind) (p : ℕ) : Type 0 where

@@ -6,8 +6,11 @@ use Rattle.id_tree.specs.declared.parser.Level.TheVariants as level
 use Rattle.id_value.specs.declared.BinaryOp.{BinaryOp}
 use Rattle.id_value.specs.declared.Kind.{Kind}
 use Rattle.id_tree.specs.Tree.{Tree}
-use Rattle.id_tree.specs.Grammar.{Phrase, Definition, Expression, Grouped, Negation, Rest, done, word, optional, name, of_kind, part, operand, left_operand, operator_of, own_height, Derives, Follows, Program}
-use Rattle.id_tree.specs.Machine.{least_height, Frame, Left, Right, Inside, Outer, ahead, State, Begin, Want, Have, Next, Finished}
+use Rattle.id_tree.specs.Grammar.{Phrase, Definition, Expression, Grouped, Negation, Rest, done, word, optional, name}
+use Rattle.id_tree.specs.Grammar.{of_kind, part, operand, left_operand, operator_of, own_height, Derives, Follows}
+use Rattle.id_tree.specs.Grammar.{Program}
+use Rattle.id_tree.specs.Machine.{least_height, Frame, Left, Right, Inside, Outer, ahead, State, Begin, Want, Have}
+use Rattle.id_tree.specs.Machine.{Next, Finished}
 
 -- the tokens begin a phrase, of which this is left, and its parts so far have this greatest height
 pub record Begins (s : Phrase) (vs : List Token) (r : Rest) (h : ℕ) : Type 0 where

@@ -5,14 +5,15 @@ use Rattle.id_value.specs.declared.Constant.{Constant}
 use Rattle.id_value.specs.declared.UnaryOp.{UnaryOp}
 use Rattle.id_value.specs.declared.BinaryOp.{BinaryOp}
 use Rattle.id_tree.specs.declared.tree.Expr.{Expr, Literal, Unary', Binary', Name, If', Call', Block'}
-use Rattle.id_tree.specs.declared.tree.Expr.{Row_of-Expr, end_of-Expr, more_of-Expr, Row_of-Stmt, end_of-Stmt, more_of-Stmt}
+use Rattle.id_tree.specs.declared.tree.Expr.{Row_of-Expr, end_of-Expr, more_of-Expr, Row_of-Stmt, end_of-Stmt}
+use Rattle.id_tree.specs.declared.tree.Expr.{more_of-Stmt}
 use Rattle.id_tree.specs.declared.tree.Stmt.{Stmt, Binding}
 use Rattle.id_tree.specs.declared.tree.Param.{Param}
 use Rattle.id_tree.specs.declared.tree.Def.{Def}
 use Rattle.id_tree.specs.declared.tree.Program.{Program}
 
--- An expression, a statement, a parameter, a definition with its parameters and its body, or a list of trees; a call has
--- the list of its arguments. The last number of a thing is its place.
+-- An expression, a statement, a parameter, a definition with its parameters and its body, or a list of trees; a call
+-- has the list of its arguments. The last number of a thing is its place.
 pub data Tree : Type 0 where
   literal : Constant → ℕ → Tree
   unary : UnaryOp → Tree → ℕ → Tree

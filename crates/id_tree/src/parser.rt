@@ -3,7 +3,8 @@
 //! A reader takes the tokens from its part on, and how many expressions stand round the part.
 //! It gives the part back with the tokens behind it.
 
-ghost use Rattle.std.specs.Prelude.{◌≡◌, ◌≢◌, [], ◌∷◌, ◌++◌, ◌+◌, ◌<◌, ◌≤◌, ◌↔◌, ℕ, IsTrue, IfOk, IfErr, MatchResult, Some};
+ghost use Rattle.std.specs.Prelude.{◌≡◌, ◌≢◌, [], ◌∷◌, ◌++◌, ◌+◌, ◌<◌, ◌≤◌, ◌↔◌, ℕ, IsTrue, IfOk, IfErr, MatchResult};
+ghost use Rattle.std.specs.Prelude.{Some};
 ghost use Rattle.id_text.specs.Tokens.{EndsOnce, Rises};
 ghost use Rattle.id_tree.specs.Tree.{Tree, tree_of, stmt_tree, none, params_tree, def_tree, program_tree};
 ghost use Rattle.id_tree.specs.declared.tree.Param.{Param};

@@ -1,5 +1,6 @@
 -- Which instructions are faulty, and which graphs are valid (docs/GRAPH.md, "Validator").
-use Rattle.std.specs.Prelude.{MatchOption, ◌+◌, ◌≡◌, ℕ, ◌<◌, Bool, true, false, IsTrue, Option, Some, List, IsSome, IsSomeAnd, All, slice_get, option_and_then}
+use Rattle.std.specs.Prelude.{MatchOption, ◌+◌, ◌≡◌, ℕ, ◌<◌, Bool, true, false, IsTrue, Option, Some, List, IsSome}
+use Rattle.std.specs.Prelude.{IsSomeAnd, All, slice_get, option_and_then}
 use Rattle.std.specs.Bool.{IsFalse}
 use Rattle.std.specs.Option.{ForSome}
 use Rattle.id_graph.specs.declared.instr.Block.{Block}
@@ -7,14 +8,16 @@ use Rattle.id_graph.specs.declared.instr.Instr.{Instr}
 use Rattle.id_graph.specs.declared.instr.Op.{Op}
 use Rattle.id_graph.specs.declared.instr.Op.TheVariants.{Const, Unary, Binary, Merge, Switch, Back, Enter, Send}
 use Rattle.id_graph.specs.declared.instr.PortKind.{PortKind}
-use Rattle.id_graph.specs.declared.instr.PortKind.TheVariants.{Signal, Int, Bool as BoolKind, Structure, Address, Context, Continuation}
+use Rattle.id_graph.specs.declared.instr.PortKind.TheVariants.{Signal, Int, Bool as BoolKind, Structure, Address}
+use Rattle.id_graph.specs.declared.instr.PortKind.TheVariants.{Context, Continuation}
 use Rattle.id_graph.specs.declared.dests.Dest.{Dest}
 use Rattle.id_graph.specs.declared.dests.Port.{Port}
 use Rattle.id_valid.specs.declared.valid.InvalidCause.{InvalidCause}
 use Rattle.id_valid.specs.declared.valid.InvalidCause.TheVariants.{Faulty, Memory}
 use Rattle.id_graph.specs.Ports.{port_kind, sends}
 use Rattle.id_graph.specs.Graph.{Parts, arcs, kind_at}
-use Rattle.id_valid.specs.Roles.{op_at, merge_kind, back_kind, result_kind, is_first, is_second, is_entry, IsMain, arcs_into, needs_no_arc}
+use Rattle.id_valid.specs.Roles.{op_at, merge_kind, back_kind, result_kind, is_first, is_second, is_entry, IsMain}
+use Rattle.id_valid.specs.Roles.{arcs_into, needs_no_arc}
 
 -- whether the kind is one of values of the language
 abbrev pub is_value : PortKind → Bool

@@ -4,7 +4,8 @@ ghost use Rattle.std.specs.Prelude.{◌≡◌, ◌<◌, ◌↔◌, length, Some,
 ghost use Rattle.id_graph.specs.Graph.{arcs};
 ghost use Rattle.id_graph.specs.Ports.{port_kind};
 ghost use Rattle.id_valid.specs.Roles.{needs_no_arc, op_at};
-ghost use Rattle.id_valid.specs.Validator.{is_value, AreFed, AreNamed, FillsRoles, IsAnswer, IsEntered, IsFed, IsSentTo, IsSound, IsTaken};
+ghost use Rattle.id_valid.specs.Validator.{is_value, AreFed, AreNamed, FillsRoles, IsAnswer, IsEntered, IsFed};
+ghost use Rattle.id_valid.specs.Validator.{IsSentTo, IsSound, IsTaken};
 
 use crate::roles::{back_kind, main_block, merge_kind, op_at, result_kind};
 use crate::survey::Survey;

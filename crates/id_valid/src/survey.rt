@@ -32,7 +32,8 @@ impl<'a> Model for Survey<'a> {
 
     ghost use Rattle.id_valid.specs.Survey.{IsSurvey};
 
-    ghost invariant = { λ s. IsSurvey s.graph.now s.firsts.items s.entries.items s.replies.items s.zero.items s.one.items };
+    ghost invariant = { λ s. IsSurvey s.graph.now s.firsts.items s.entries.items s.replies.items s.zero.items
+        s.one.items };
 }
 
 impl<'a> Survey<'a> {
