@@ -17,11 +17,15 @@ ghost use Rattle.id_match.specs.declared.Offered.TheVariants.{Kept};
 ghost use Rattle.id_match.specs.Waiting.{pair_of, entry_at};
 ghost use Rattle.id_match.specs.Halves.{answer_at, half_after};
 
+mod near;
+
+use crate::near::NearHasher;
 use id_graph::Port;
 use id_tag::{Tag, Value};
 use std::alloc::{AllocError, Global};
 use std::collections::HashMap;
 use std::collections::hash_map::Entry as Place;
+use std::hash::FoldHasher;
 use std::marker::Model;
 
 /// A value that waits, with its port.
@@ -53,7 +57,7 @@ pub struct Entry {
 /// The values that wait for their partner, by tag and port.
 #[derive(Drop)]
 pub struct Waiting {
-    halves: HashMap<Tag, Half>,
+    halves: HashMap<Tag, Half, NearHasher<FoldHasher>>,
 }
 
 impl Model for Waiting {
@@ -82,7 +86,7 @@ impl Waiting {
         ensures keyed { (t : Tag) (p : Port) → waits result t p ≡ None }
     {
         Waiting {
-            halves: HashMap::new(alloc),
+            halves: HashMap::with_hasher(alloc, NearHasher::new(FoldHasher::default())),
         }
     }
 
@@ -120,7 +124,10 @@ impl Waiting {
 }
 
 // What waits, in the order of the map.
-fn listed(alloc: Global, halves: &HashMap<Tag, Half>) -> Result<Vec<Entry>, AllocError>
+fn listed(
+    alloc: Global,
+    halves: &HashMap<Tag, Half, NearHasher<FoldHasher>>,
+) -> Result<Vec<Entry>, AllocError>
     ensures items { IfOk result (λ es. es.items ≡ map_list entry_at halves.now.entries) }
     ensures unique { hash.IsUnique same_tag halves.now }
 {
@@ -143,7 +150,7 @@ fn sort_by_tag(entries: &mut Vec<Entry>)
 
 // An offer in one look-up: room is made where the tag is new, and only there.
 fn offer_to(
-    halves: &mut HashMap<Tag, Half>,
+    halves: &mut HashMap<Tag, Half, NearHasher<FoldHasher>>,
     tag: Tag,
     port: Port,
     value: Value,
