@@ -96,7 +96,8 @@ impl Waiting {
         ensures answer { IfOk result (λ answer. answer ≡ offer_answer self.old tag port value) }
         ensures after { OnOk result (self.new ≡ offer_after self.old tag port value) }
         // The store is a map keyed by tag and port.
-        ensures keyed { OnOk result ((t : Tag) (p : Port) → waits self.new t p ≡ keyed_after (waits self.old) tag port value t p) }
+        ensures keyed { OnOk result ((t : Tag) (p : Port) →
+            waits self.new t p ≡ keyed_after (waits self.old) tag port value t p) }
 
         ensures grows { OnErr result (offer_answer self.old tag port value ≡ Kept) }
         ensures err { OnErr result (self.new ≡ self.old) }
@@ -115,7 +116,8 @@ impl Waiting {
     /// The values that wait, in the order of their tags.
     pub fn entries(&self, alloc: Global) -> Result<Vec<Entry>, AllocError>
         ensures items { IfOk result (λ es. es.items ≡ entries_of self.now) }
-        ensures keyed { IfOk result (λ es. (e : Entry) → Contains es.items e ↔ (waits self.now e.tag e.port ≡ Some e.value)) }
+        ensures keyed { IfOk result (λ es. (e : Entry) →
+            Contains es.items e ↔ (waits self.now e.tag e.port ≡ Some e.value)) }
     {
         let mut entries = listed(alloc, &self.halves)?;
         sort_by_tag(&mut entries);
@@ -156,8 +158,10 @@ fn offer_to(
     value: Value,
 ) -> Result<Offered, AllocError>
     ensures answer { IfOk result (λ answer. answer ≡ answer_at (hash.get same_tag halves.old tag) port value) }
-    ensures at { OnOk result (hash.get same_tag halves.new tag ≡ half_after (hash.get same_tag halves.old tag) port value) }
-    ensures others { OnOk result ((t : Tag) → same_tag tag t ≡ false → hash.get same_tag halves.new t ≡ hash.get same_tag halves.old t) }
+    ensures at { OnOk result (
+        hash.get same_tag halves.new tag ≡ half_after (hash.get same_tag halves.old tag) port value) }
+    ensures others { OnOk result ((t : Tag) → same_tag tag t ≡ false →
+        hash.get same_tag halves.new t ≡ hash.get same_tag halves.old t) }
     ensures grows { OnErr result (hash.get same_tag halves.old tag ≡ None) }
     ensures err { OnErr result (hash.IsUnchanged halves.old halves.new) }
 {
