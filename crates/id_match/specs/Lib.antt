@@ -5,3 +5,4 @@ pub mod Keyed
 pub mod Codes
 -- for use inside
 pub mod Halves
+pub mod Near

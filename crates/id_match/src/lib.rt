@@ -17,11 +17,15 @@ ghost use Rattle.id_match.specs.declared.Offered.TheVariants.{Kept};
 ghost use Rattle.id_match.specs.Waiting.{pair_of, entry_at};
 ghost use Rattle.id_match.specs.Halves.{answer_at, half_after};
 
+mod near;
+
+use crate::near::NearHasher;
 use id_graph::Port;
 use id_tag::{Tag, Value};
 use std::alloc::{AllocError, Global};
 use std::collections::HashMap;
 use std::collections::hash_map::Entry as Place;
+use std::hash::FoldHasher;
 use std::marker::Model;
 
 /// A value that waits, with its port.
@@ -53,7 +57,7 @@ pub struct Entry {
 /// The values that wait for their partner, by tag and port.
 #[derive(Drop)]
 pub struct Waiting {
-    halves: HashMap<Tag, Half>,
+    halves: HashMap<Tag, Half, NearHasher<FoldHasher>>,
 }
 
 impl Model for Waiting {
@@ -82,7 +86,7 @@ impl Waiting {
         ensures keyed { (t : Tag) (p : Port) → waits result t p ≡ None }
     {
         Waiting {
-            halves: HashMap::new(alloc),
+            halves: HashMap::with_hasher(alloc, NearHasher::new(FoldHasher::default())),
         }
     }
 
@@ -92,8 +96,8 @@ impl Waiting {
         ensures answer { IfOk result (λ answer. answer ≡ offer_answer self.old tag port value) }
         ensures after { OnOk result (self.new ≡ offer_after self.old tag port value) }
         // The store is a map keyed by tag and port.
-        ensures keyed { OnOk result
-            ((t : Tag) (p : Port) → waits self.new t p ≡ keyed_after (waits self.old) tag port value t p) }
+        ensures keyed { OnOk result ((t : Tag) (p : Port) →
+            waits self.new t p ≡ keyed_after (waits self.old) tag port value t p) }
 
         ensures grows { OnErr result (offer_answer self.old tag port value ≡ Kept) }
         ensures err { OnErr result (self.new ≡ self.old) }
@@ -112,8 +116,8 @@ impl Waiting {
     /// The values that wait, in the order of their tags.
     pub fn entries(&self, alloc: Global) -> Result<Vec<Entry>, AllocError>
         ensures items { IfOk result (λ es. es.items ≡ entries_of self.now) }
-        ensures keyed { IfOk result
-            (λ es. (e : Entry) → Contains es.items e ↔ (waits self.now e.tag e.port ≡ Some e.value)) }
+        ensures keyed { IfOk result (λ es. (e : Entry) →
+            Contains es.items e ↔ (waits self.now e.tag e.port ≡ Some e.value)) }
     {
         let mut entries = listed(alloc, &self.halves)?;
         sort_by_tag(&mut entries);
@@ -122,7 +126,10 @@ impl Waiting {
 }
 
 // What waits, in the order of the map.
-fn listed(alloc: Global, halves: &HashMap<Tag, Half>) -> Result<Vec<Entry>, AllocError>
+fn listed(
+    alloc: Global,
+    halves: &HashMap<Tag, Half, NearHasher<FoldHasher>>,
+) -> Result<Vec<Entry>, AllocError>
     ensures items { IfOk result (λ es. es.items ≡ map_list entry_at halves.now.entries) }
     ensures unique { hash.IsUnique same_tag halves.now }
 {
@@ -145,16 +152,16 @@ fn sort_by_tag(entries: &mut Vec<Entry>)
 
 // An offer in one look-up: room is made where the tag is new, and only there.
 fn offer_to(
-    halves: &mut HashMap<Tag, Half>,
+    halves: &mut HashMap<Tag, Half, NearHasher<FoldHasher>>,
     tag: Tag,
     port: Port,
     value: Value,
 ) -> Result<Offered, AllocError>
     ensures answer { IfOk result (λ answer. answer ≡ answer_at (hash.get same_tag halves.old tag) port value) }
-    ensures at { OnOk result
-        (hash.get same_tag halves.new tag ≡ half_after (hash.get same_tag halves.old tag) port value) }
-    ensures others { OnOk result
-        ((t : Tag) → same_tag tag t ≡ false → hash.get same_tag halves.new t ≡ hash.get same_tag halves.old t) }
+    ensures at { OnOk result (
+        hash.get same_tag halves.new tag ≡ half_after (hash.get same_tag halves.old tag) port value) }
+    ensures others { OnOk result ((t : Tag) → same_tag tag t ≡ false →
+        hash.get same_tag halves.new t ≡ hash.get same_tag halves.old t) }
     ensures grows { OnErr result (hash.get same_tag halves.old tag ≡ None) }
     ensures err { OnErr result (hash.IsUnchanged halves.old halves.new) }
 {

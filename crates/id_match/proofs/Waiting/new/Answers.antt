@@ -6,4 +6,4 @@ use Rattle.id_match.proofs.KeyedLemmas.{waits-empty}
 use Rattle.id_match.proofs.Waiting.new.Goals as goal
 
 pub returns-clause-keyed : goal.returns-clause-keyed
-returns-clause-keyed c = λ t p. ap (λ es. waits (from_entries es) t p) c.new.ensures.empty ∙ waits-empty t p
+returns-clause-keyed c = λ t p. ap (λ es. waits (from_entries es) t p) c.with_hasher.ensures.empty ∙ waits-empty t p

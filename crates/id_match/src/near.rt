@@ -1,0 +1,54 @@
+//! The hash of a tag, by which the tags of neighbouring contexts stand in a row in a table.
+
+use std::hash::{BuildHasher, Hasher};
+
+/// Hashes tags. The lowest byte of the first number of 64 bits, which is a context's serial number, shifts the hash by
+/// itself, and everything else is mixed. So 256 neighbouring contexts have their tags for one instruction and iteration
+/// in a row, in the order in which the machine comes to them, and each such row begins where chance has it.
+#[derive(Clone, Copy)]
+pub(crate) struct NearHasher<H> {
+    mixed: H,
+    // The shift and 1, once there is one.
+    shift: u64,
+}
+
+impl<H> NearHasher<H> {
+    /// The hasher that has read nothing, where this one mixes.
+    pub(crate) fn new(mixed: H) -> NearHasher<H> {
+        NearHasher { mixed, shift: 0 }
+    }
+}
+
+impl<H: Hasher> Hasher for NearHasher<H> {
+    ghost use Rattle.id_match.specs.Near.{written, shifted};
+
+    ghost write = { written H.write };
+
+    ghost finish = { λ h. shifted (H.finish h.mixed) h };
+
+    #[inline(always)]
+    fn finish(&self) -> u64 {
+        self.mixed.finish().wrapping_add(self.shift)
+    }
+
+    #[inline(always)]
+    fn write(&mut self, bytes: &[u8]) {
+        if self.shift == 0 && bytes.len() == 8 {
+            self.shift = 1 + u64::from(bytes[0]);
+            self.mixed.write(&bytes[1..]);
+        } else {
+            self.mixed.write(bytes);
+        }
+    }
+}
+
+impl<H: Hasher + Copy> BuildHasher for NearHasher<H> {
+    type Hasher = NearHasher<H>;
+
+    ghost build_hasher = { λ h. h };
+
+    #[inline(always)]
+    fn build_hasher(&self) -> NearHasher<H> {
+        *self
+    }
+}
