@@ -1,13 +1,17 @@
 -- What a hash of a tag computes: nothing that a store shows depends on it.
-use Rattle.std.specs.Prelude.{◌+◌, ◌%◌, ◌^◌, ◌==◌, ◌&&◌, if◌then◌else◌, ℕ, List, drop, length, slice_index}
+use Rattle.std.specs.Prelude.{◌+◌, ◌*◌, ◌/◌, ◌%◌, ◌^◌, ◌==◌, ◌&&◌, if◌then◌else◌, ℕ, List, drop, length, slice_index}
 use Rattle.id_match.specs.declared.near.NearHasher.{NearHasher}
 
+-- the shift of a serial number's lowest byte: rows of 64, apart from one another
+abbrev pub shift_of : ℕ → ℕ
+shift_of lowest = lowest % 64 + lowest / 64 * 0x9e37_79b1
+
 module _ {H : Type 0} where
-  -- the first eight bytes shift by the lowest, and the others are mixed
+  -- of the first eight bytes the lowest shifts, and the others are mixed
   abbrev pub written : (H → List ℕ → H) → NearHasher H → List ℕ → NearHasher H
   written write h bytes =
       if (h.shift == 0) && (length bytes == 8)
-      then record { mixed = write h.mixed (drop 1 bytes); shift = 1 + slice_index bytes 0 }
+      then record { mixed = write h.mixed (drop 1 bytes); shift = 1 + shift_of (slice_index bytes 0) }
       else record { mixed = write h.mixed bytes; shift = h.shift }
 
   -- the mixture, shifted

@@ -1,10 +1,14 @@
 //! The hash of a tag, by which the tags of neighbouring contexts stand in a row in a table.
 
+ghost use Rattle.std.specs.Prelude.{◌≡◌};
+ghost use Rattle.id_match.specs.Near.{shift_of};
+
 use std::hash::{BuildHasher, Hasher};
 
 /// Hashes tags. The lowest byte of the first number of 64 bits, which is a context's serial number, shifts the hash by
-/// itself, and everything else is mixed. So 256 neighbouring contexts have their tags for one instruction and iteration
-/// in a row, in the order in which the machine comes to them, and each such row begins where chance has it.
+/// itself, and everything else is mixed. So 64 neighbouring contexts have their tags for one instruction and iteration
+/// in a row, in the order in which the machine comes to them, and each such row begins where chance has it. Longer rows
+/// would fill stretches of the table.
 #[derive(Clone, Copy)]
 pub(crate) struct NearHasher<H> {
     mixed: H,
@@ -34,7 +38,7 @@ impl<H: Hasher> Hasher for NearHasher<H> {
     #[inline(always)]
     fn write(&mut self, bytes: &[u8]) {
         if self.shift == 0 && bytes.len() == 8 {
-            self.shift = 1 + u64::from(bytes[0]);
+            self.shift = 1 + shift_of(bytes[0]);
             self.mixed.write(&bytes[1..]);
         } else {
             self.mixed.write(bytes);
@@ -51,4 +55,12 @@ impl<H: Hasher + Copy> BuildHasher for NearHasher<H> {
     fn build_hasher(&self) -> NearHasher<H> {
         *self
     }
+}
+
+/// By how much the lowest byte of a serial number shifts: by a step for each number of a row, and far for each row.
+#[inline(always)]
+fn shift_of(lowest: u8) -> u64
+    ensures { result ≡ shift_of lowest }
+{
+    u64::from(lowest % 64) + u64::from(lowest / 64) * 0x9e37_79b1
 }
