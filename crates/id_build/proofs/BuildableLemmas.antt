@@ -1,24 +1,35 @@
 -- A checked program is one that a graph can be built of.
-use Rattle.std.proofs.Common.{◌≡◌, inl, inr, ℕ, ◌<◌, true, false, List, length, refl, ap, sym, subst, ◌∙◌, arith}
+use Rattle.std.proofs.Common.{◌≡◌, ◌⊎◌, inl, inr, ℕ, zero, suc, ◌+◌, ◌-◌, ◌<◌, true, false, List, [], ◌∷◌, ◌++◌, length, map, refl, ap, sym, subst, ◌∙◌, arith}
+use Rattle.std.specs.Prelude.{slice_get}
+use Rattle.std.proofs.lemmas.Bool.{false≢true}
+use Rattle.id_list.specs.List.{Among}
+use Rattle.id_list.proofs.AmongLemmas.{Among-either, Among-from_map}
 use Rattle.id_parts.specs.declared.row.Region.{Region}
 use Rattle.id_parts.specs.declared.row.Node.{Node}
-use Rattle.id_parts.specs.declared.row.Node.TheVariants.{Head, Param, Literal, Name, Unary as UnaryNode, Binary as BinaryNode, Split, If, Enter, Arg, Call, Block, Binding, Def, Program}
+use Rattle.id_parts.specs.declared.row.Node.TheVariants.{Head, Literal, Name, Unary as UnaryNode, Binary as BinaryNode}
+use Rattle.id_parts.specs.declared.row.Node.TheVariants.{Split, If, Enter, Arg, Call, Block, Binding, Program}
+use Rattle.id_parts.specs.declared.row.Node.TheVariants.{Start, LoopHead, Variable, Entries, Switches, Turn, Next, Reset, Loop}
 use Rattle.id_parts.specs.Rows.{arm_at, at, top}
-use Rattle.id_parts.specs.Tables.{HasNear, HasOperand, HasPart, is_block, is_enter, is_expression}
+use Rattle.id_parts.specs.Tables.{HasNear, HasOperand, HasPart, begins_block, is_block, is_enter, is_expression}
+use Rattle.id_parts.specs.Loops.{IsLoopOf}
 use Rattle.id_parts.specs.Regions.{IsIfOf}
 use Rattle.id_parts.specs.Turns.{IsDefOf}
 use Rattle.id_parts.proofs.RegionLemmas.{HasPart-operand}
 use Rattle.id_check.specs.declared.checked.Checked.{Checked}
-use Rattle.id_check.specs.Programs.{rows, region}
-use Rattle.id_check.proofs.ProgramsLemmas.{bound_name_row, table_of}
-use Rattle.id_desugar.specs.Ends.{end_of}
-use Rattle.id_desugar.specs.Regions.{order_of}
-use Rattle.id_build.specs.Rows.{body_of, node}
+use Rattle.id_check.specs.Programs.{place, rows, region}
+use Rattle.id_check.proofs.ProgramsLemmas.{table_of}
+use Rattle.id_desugar.specs.Ends.{end_of, next_of}
+use Rattle.id_desugar.specs.Regions.{imports_of, nexts_of, order_of}
+use Rattle.id_graph.specs.declared.instr.Op.TheVariants.{Next as NextOp}
+use Rattle.id_build.specs.declared.arc.Origin.{Origin}
+use Rattle.id_build.specs.Rows.{block, body_of, entering, entries_row, first_binder, made_of, node, output, turn_row}
 use Rattle.id_build.proofs.CallsLemmas.{enter_of_arg}
-use Rattle.id_build.proofs.EndsLemmas.{HeadOf, body_region, end_is, of_arm, of_procedure, region_of}
-use Rattle.id_build.proofs.ImportsLemmas.{import_sees, name_sees}
+use Rattle.id_build.proofs.EndsLemmas.{HeadOf, body_region, end_is, of_arm, of_loop, of_procedure, of_side, region_of}
+use Rattle.id_build.proofs.LoopsLemmas.{entries_node, entries_stand, entries_within, next_is, reset_is, start_head, turn_block, turn_is}
+use Rattle.id_build.proofs.ImportsLemmas.{first_seen, loop_seen, name_seen, split_seen, switches_seen, turn_seen}
 use Rattle.id_build.proofs.OrderLemmas.{IsOrder, IsOrder-order_of}
-use Rattle.id_build.proofs.RowLemmas.{Heads, IsBuildable, IsEntered, IsNamed, IsPart, IsTurned, IsValue, Suits}
+use Rattle.id_build.proofs.RowLemmas.{AllSeen, Gives, Heads, HasEntries, IsBuildable, IsEntered, IsOrigin, IsPart}
+use Rattle.id_build.proofs.RowLemmas.{IsSeen, IsTurned, IsValue, Suits, for_each-at}
 
 value_is : (n : Node) → is_expression n ≡ true → is_block n ≡ false → IsValue n
 value_is (Literal v) e b = tt
@@ -27,15 +38,9 @@ value_is (UnaryNode o a) e b = tt
 value_is (BinaryNode o a b) e f = tt
 value_is (If s x y) e f = tt
 value_is (Call s c) e f = tt
-value_is (Enter x) e b = cc
-value_is (Arg s k v) e b = cc
-value_is Head e b = cc
-value_is (Param x k) e b = cc
-value_is (Split t) e b = cc
+value_is (Loop h w l) e f = tt
 value_is (Block b) e f = cc
-value_is (Binding x a) e b = cc
-value_is (Def x g k b) e f = cc
-value_is Program e b = cc
+value_is _ e f = absurd (false≢true e)
 
 -- an expression that stands in a region is a part there
 part : (P : Checked) (r : Region) (a : ℕ) → a < length (rows P) → is_expression (node P a) ≡ true → region P a ≡ r → IsPart P r a
@@ -70,7 +75,9 @@ turned P n l other =
   where
     by : (r : Region) → HeadOf P (table_of P) r → Heads (node P r.head) r.side
     by r (of_procedure head is) = subst (λ x. Heads x r.side) (sym head) (ap (λ (z : Region). z.side) is)
+    by r (of_loop head is) = subst (λ x. Heads x r.side) (sym head) (ap (λ (z : Region). z.side) is)
     by r (of_arm split) = subst (λ x. Heads x r.side) (sym split) tt
+    by r (of_side switches) = subst (λ x. Heads x r.side) (sym switches) tt
 
 -- what an argument names as its `Enter` is one
 enter_part : (P : Checked) (n s k v : ℕ) → n < length (rows P) → node P n ≡ Arg s k v → IsEntered P s
@@ -79,17 +86,65 @@ enter_part P n s k v l e =
     let z = enter_of_arg P n s k v l e in
     record { within = omega (arith, low.1, l); is_enter = ap is_enter z.1 }
 
+-- the first instruction of a row of such a node sends
+abbrev FirstSends : Node → Type 0
+FirstSends Start = Unit {0}
+FirstSends Turn = Unit {0}
+FirstSends (Next x k o v) = Unit {0}
+FirstSends (Reset v) = Unit {0}
+FirstSends _ = ⊥
+
+first_gives : (P : Checked) (m e : ℕ) (n : Node) → FirstSends n → Gives (made_of P m e n) 0 true
+first_gives P m e Start h = record { piece = _; at = refl; gives = λ _. refl }
+first_gives P m e Turn h = record { piece = _; at = refl; gives = λ _. refl }
+first_gives P m e (Next x k o v) h = record { piece = _; at = refl; gives = λ _. refl }
+first_gives P m e (Reset v) h = record { piece = _; at = refl; gives = λ _. refl }
+first_gives P m e _ h = absurd h
+
+first_origin : (P : Checked) (m : ℕ) (n : Node) → m < length (rows P) → node P m ≡ n → FirstSends n → IsOrigin P (output m)
+first_origin P m n l e h =
+    record { within = l; gives = subst (λ x. Gives (made_of P m (place P m) x) 0 true) (sym e) (first_gives P m (place P m) n h) }
+
+-- the loop whose entries stand at a row
+pub entries_head : (P : Checked) (n : ℕ) → n < length (rows P) → node P n ≡ Entries → (block P n < length (rows P)) × (node P (block P n) ≡ LoopHead (block P n - 1))
+entries_head P n l e =
+    let c = (table_of P).entries_of n l e in
+    let x = (table_of P).loop_is c.0 (block P n) c.1 in
+    (omega (arith, x.before_test.low, x.test.low, x.test.behind, x.body_is.low, x.last_is.low, x.last_is.ends, (c.1).within), x.before_test.head)
+
+-- each part of what hands on is an origin
+turn_origin : (P : Checked) (h s k : ℕ) → h < length (rows P) → node P h ≡ LoopHead s → k < length (imports_of P h)
+    → IsOrigin P (record { row = turn_row P h; part = k + 1; side = true })
+turn_origin P h s k l e less =
+    let m = turn_row P h in
+    let b = turn_block P h s l e in
+    let here = subst (λ g. k < length (imports_of P g)) (sym b.1) less in
+    let z = for_each-at P NextOp (place P m) (imports_of P (block P m)) k here in
+    let up : suc k ≡ k + 1 = omega arith in
+    let G : ℕ → Type 0 = λ j. Gives (made_of P m (place P m) Turn) j true in
+    let gives : Gives (made_of P m (place P m) Turn) (suc k) true = record { piece = _; at = z.1; gives = λ _. refl } in
+    record { within = b.0; gives = subst (λ x. Gives (made_of P m (place P m) x) (k + 1) true) (sym (turn_is P h s l e)) (subst G up gives) }
+
+-- the region of a loop's `Start` sees what enters the loop
+entering_seen : (P : Checked) (n : ℕ) → n < length (rows P) → node P n ≡ Start → AllSeen P (region P n) (entering P (n + 1))
+entering_seen P n l e b h =
+    let z = start_head P n l e in
+    elim (Among-either b (map (first_binder P) (nexts_of P (n + 1))) (imports_of P (n + 1)) h) [
+      | inl i ↦
+          let m = Among-from_map (first_binder P) b (nexts_of P (n + 1)) i in
+          subst (IsSeen P (region P n)) (sym m.2) (first_seen P n m.0 l e m.1)
+      | inr i ↦ loop_seen P (n + 1) n b z.0 z.1 i
+    ]
+
 suits : (P : Checked) (n : ℕ) (x : Node) → n < length (rows P) → node P n ≡ x → Suits P n (region P n) x
 suits P n Head l e = def_part P (end_of P n) n (end_is P (table_of P) n l e)
-suits P n (Param x k) l e = tt
 suits P n (Literal v) l e = turned P n l (λ f. (let bad : Literal v ≡ Program = sym e ∙ f in cc))
-suits P n (Name x) l e = tt
 suits P n (UnaryNode o a) l e = operand P n a (UnaryNode o a) l e refl refl
 suits P n (BinaryNode o a b) l e = (operand P n a (BinaryNode o a b) l e (inl refl) (inl refl), operand P n b (BinaryNode o a b) l e (inr refl) (inr refl))
 suits P n (Split t) l e = (
   operand P n t (Split t) l e refl refl,
   turned P n l (λ f. (let bad : Split t ≡ Program = sym e ∙ f in cc)),
-  λ b h. (let z = import_sees P n t b l e h in record { within = z.0; is_binder = z.1; sees = z.2 }),
+  λ b h. split_seen P n t b l e h,
 )
 suits P n (If s x y) l e =
     let c : IsIfOf (rows P) n s = record { then = x; otherwise = y; within = l; node = e } in
@@ -103,21 +158,42 @@ suits P n (Arg s k v) l e = (
   enter_part P n s k v l e,
   operand P n v (Arg s k v) l e refl (inr refl),
 )
-suits P n (Call s c) l e = tt
-suits P n (Block b) l e = tt
 suits P n (Binding x a) l e = operand P n a (Binding x a) l e refl refl
-suits P n (Def x h k b) l e = tt
-suits P n Program l e = tt
+suits P n Start l e = (
+  turned P n l (λ f. (let bad : Start ≡ Program = sym e ∙ f in cc)),
+  first_origin P n Start l e tt,
+  entering_seen P n l e,
+)
+suits P n (LoopHead s) l e =
+    let r = reset_is P n s l e in (
+      first_origin P (turn_row P n) Turn (turn_block P n s l e).0 (turn_is P n s l e) tt,
+      first_origin P (end_of P n - 1) (Reset _) r.0 r.1 tt,
+    )
+suits P n Variable l e = let z = next_is P n l e in first_origin P (next_of P n) (Next _ _ _ _) z.within z.node tt
+suits P n Entries l e = λ k less. (let z = entries_head P n l e in turn_origin P (block P n) (block P n - 1) k z.0 z.1 less)
+suits P n (Switches t) l e = (
+  operand P n t (Switches t) l e refl refl,
+  turned P n l (λ f. (let bad : Switches t ≡ Program = sym e ∙ f in cc)),
+  λ b h. switches_seen P n t b l e h,
+)
+suits P n Turn l e = (
+  turned P n l (λ f. (let bad : Turn ≡ Program = sym e ∙ f in cc)),
+  λ b h. turn_seen P n b l e h,
+)
+suits P n (Next x k o v) l e = operand P n v (Next x k o v) l e refl (inr refl)
+suits P n (Reset v) l e = operand P n v (Reset v) l e refl refl
+suits P n _ l e = tt
 
--- a name's binder is one that its region sees
-pub is_named : (P : Checked) (v x : ℕ) → v < length (rows P) → node P v ≡ Name x → IsNamed P v
-is_named P v x l e =
-    let z = bound_name_row P v x (record { within = l; node = e }) in
-    record { row = z.0; binds = (z.1).binder; seen = record { within = (z.1).within; is_binder = (z.1).is_binder; sees = name_sees P v x z.0 l e (z.1).binder } }
+-- each loop has its entries
+entered : (P : Checked) (h s : ℕ) → h < length (rows P) → node P h ≡ LoopHead s → HasEntries P h
+entered P h s l e =
+    let low : h < h + 1 = omega arith in
+    let stands = entries_stand P h s l e (entries_row P h) (omega arith) (omega arith) in
+    record { within = entries_within P h s l e; node = entries_node P h s l e; block = stands.0; region = stands.1 }
 
 -- a checked program is one that a graph can be built of
 pub IsBuildable-checked : (P : Checked) → IsBuildable P
-IsBuildable-checked P = record { suits = λ n l. suits P n (node P n) l refl; named = λ v x l e. is_named P v x l e }
+IsBuildable-checked P = record { suits = λ n l. suits P n (node P n) l refl; named = λ v x l e. name_seen P v x l e; entered = entered P }
 
 -- the order of its rows, however it is written
 pub is_order : (P : Checked) (order : List ℕ) → order ≡ order_of P → IsOrder P order

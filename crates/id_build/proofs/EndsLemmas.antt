@@ -3,14 +3,15 @@ use Rattle.std.proofs.Common.{◌≡◌, inl, inr, ℕ, zero, suc, ◌+◌, ◌-
 use Rattle.std.proofs.Common.{sym, ◌∙◌, ap, subst, arith}
 use Rattle.std.specs.Option.{option_or}
 use Rattle.std.specs.Prelude.{unwrap_or}
-use Rattle.std.proofs.lemmas.Bool.{cases_eq, eqb-true}
+use Rattle.std.proofs.lemmas.Bool.{cases_eq, eqb-true, false≢true}
 use Rattle.std.proofs.lemmas.Bool.Decides.{nat_tests}
 use Rattle.id_parts.specs.declared.row.Region.{Region}
 use Rattle.id_parts.specs.declared.row.Node.{Node}
-use Rattle.id_parts.specs.declared.row.Node.TheVariants.{Head, Param, Literal, Name, Unary, Binary, Split, If, Enter, Arg, Call, Block, Binding, Def, Program}
+use Rattle.id_parts.specs.declared.row.Node.TheVariants.{Head, Split, If, Enter, Call, Def, Program, LoopHead, Switches, Loop}
 use Rattle.id_parts.specs.Rows.{at, top}
-use Rattle.id_parts.specs.Tables.{HasPart}
+use Rattle.id_parts.specs.Tables.{HasPart, begins_block}
 use Rattle.id_parts.specs.Calls.{IsCallOf}
+use Rattle.id_parts.specs.Loops.{IsLoopOf, InSide, StandsInSide}
 use Rattle.id_parts.specs.Regions.{IsIfOf, StandsInArm}
 use Rattle.id_parts.specs.Turns as roots
 use Rattle.id_parts.specs.Turns.{IsTable, IsDefOf}
@@ -37,7 +38,7 @@ smaller : (m n : ℕ) → m < suc n → (m ≡ n → ⊥) → m < n
 smaller m n less other = omega (arith, less, other)
 
 -- where something below n answers, there is a first answer
-some_answer : (f : ℕ → Option ℕ) (n m k : ℕ) → m < n → f m ≡ Some k → (x : ℕ) × (first_of f n ≡ Some x)
+pub some_answer : (f : ℕ → Option ℕ) (n m k : ℕ) → m < n → f m ≡ Some k → (x : ℕ) × (first_of f n ≡ Some x)
 some_answer f zero m k less e = absurd (omega (arith, less))
 some_answer f (suc n) m k less e = go (first_of f n) refl (some_answer f n m k)
   where
@@ -49,11 +50,11 @@ some_answer f (suc n) m k less e = go (first_of f n) refl (some_answer f n m k)
           | inr other ↦ let t = rest (smaller m n less other) e in let bad : None ≡ Some t.0 = sym is ∙ t.1 in cc
         ]
 
-tested : (b : Truth) (n k : ℕ) → cond b (Some n) None ≡ Some k → (b ≡ true) × (n ≡ k)
+pub tested : (b : Truth) (n k : ℕ) → cond b (Some n) None ≡ Some k → (b ≡ true) × (n ≡ k)
 tested true n k e = (refl, cc)
 tested false n k e = cc
 
-itself_eq : (n : ℕ) → nat_eq n n ≡ true
+pub itself_eq : (n : ℕ) → nat_eq n n ≡ true
 itself_eq n = grind (arith, nat_tests)
 
 module _ (P : Checked) (table : IsTable (rows P)) where
@@ -75,6 +76,10 @@ module _ (P : Checked) (table : IsTable (rows P)) where
       let bad : Head ≡ Split z.test = sym head ∙ z.node in
       cc
 
+  -- nor is the head of a loop
+  loop_head : (n h w l : ℕ) → n < length (rows P) → node P n ≡ Loop h w l → node P h ≡ LoopHead (h - 1)
+  loop_head n h w l within is = (table.loop_is n h (record { switches = w; last = l; within = within; node = is })).before_test.head
+
   -- the row where a head's definition ends is the definition
   pub end_is : (h : ℕ) → h < length (rows P) → node P h ≡ Head → IsDefOf (rows P) (end_of P h) h
   end_is h within is =
@@ -89,18 +94,10 @@ module _ (P : Checked) (table : IsTable (rows P)) where
           let z = table.enter_of n g (record { count = c; within = less; node = m }) in
           let bad : Head ≡ Enter z.name = sym is ∙ ap (node P) (sym (eqb-true g h e)) ∙ z.node in
           cc
-      by_node n less (Enter x) m e = cc
-      by_node n less (Arg g k v) m e = cc
-      by_node n less Head m e = cc
-      by_node n less (Param x k) m e = cc
-      by_node n less (Literal c) m e = cc
-      by_node n less (Name x) m e = cc
-      by_node n less (Unary o a) m e = cc
-      by_node n less (Binary o a b) m e = cc
-      by_node n less (Split t) m e = cc
-      by_node n less (Block b) m e = cc
-      by_node n less (Binding x a) m e = cc
-      by_node n less Program m e = cc
+      by_node n less (Loop g w l) m e =
+          let bad : Head ≡ LoopHead (g - 1) = sym is ∙ ap (node P) (sym (eqb-true g h e)) ∙ loop_head n g w l less m in
+          cc
+      by_node n less _ m e = absurd (false≢true e)
 
   -- the row where the arms end that begin at the switches of a conditional is the conditional
   pub if_is : (s t : ℕ) → s < length (rows P) → node P s ≡ Split t → IsIfOf (rows P) (end_of P s) s
@@ -119,18 +116,10 @@ module _ (P : Checked) (table : IsTable (rows P)) where
           let z = table.enter_of n g (record { count = c; within = less; node = m }) in
           let bad : Split t ≡ Enter z.name = sym is ∙ ap (node P) (sym (eqb-true g s e)) ∙ z.node in
           cc
-      by_node n less (Enter x) m e = cc
-      by_node n less (Arg g k v) m e = cc
-      by_node n less Head m e = cc
-      by_node n less (Param x k) m e = cc
-      by_node n less (Literal c) m e = cc
-      by_node n less (Name x) m e = cc
-      by_node n less (Unary o a) m e = cc
-      by_node n less (Binary o a b) m e = cc
-      by_node n less (Split t) m e = cc
-      by_node n less (Block b) m e = cc
-      by_node n less (Binding x a) m e = cc
-      by_node n less Program m e = cc
+      by_node n less (Loop g w l) m e =
+          let bad : Split t ≡ LoopHead (g - 1) = sym is ∙ ap (node P) (sym (eqb-true g s e)) ∙ loop_head n g w l less m in
+          cc
+      by_node n less _ m e = absurd (false≢true e)
 
   -- the row where a call ends that begins at an `Enter` is the call
   pub call_is : (s x : ℕ) → s < length (rows P) → node P s ≡ Enter x → IsCallOf (rows P) (end_of P s) s
@@ -149,18 +138,41 @@ module _ (P : Checked) (table : IsTable (rows P)) where
           let split = table.split_of n g (record { then = y; otherwise = z; within = less; node = m }) in
           let bad : Enter x ≡ Split split.test = sym is ∙ ap (node P) (sym (eqb-true g s e)) ∙ split.node in
           cc
-      by_node n less Head m e = cc
-      by_node n less (Param y k) m e = cc
-      by_node n less (Literal c) m e = cc
-      by_node n less (Name y) m e = cc
-      by_node n less (Unary o a) m e = cc
-      by_node n less (Binary o a b) m e = cc
-      by_node n less (Split t) m e = cc
-      by_node n less (Enter y) m e = cc
-      by_node n less (Arg g k v) m e = cc
-      by_node n less (Block b) m e = cc
-      by_node n less (Binding y a) m e = cc
-      by_node n less Program m e = cc
+      by_node n less (Loop g w l) m e =
+          let bad : Enter x ≡ LoopHead (g - 1) = sym is ∙ ap (node P) (sym (eqb-true g s e)) ∙ loop_head n g w l less m in
+          cc
+      by_node n less _ m e = absurd (false≢true e)
+
+  -- the row where a loop's head ends is the loop
+  pub loop_is : (h s : ℕ) → h < length (rows P) → node P h ≡ LoopHead s → IsLoopOf (rows P) (end_of P h) h
+  loop_is h s within is =
+      let c = table.has_loop h s within is in
+      let end = end_there h c.0 (c.1).within (ap (ends_what h) (c.1).node ∙ itself_eq h) in
+      by_node (end_of P h) end.0 (node P (end_of P h)) refl end.1
+    where
+      by_node : (n : ℕ) → n < length (rows P) → (m : Node) → node P n ≡ m → ends_what h m ≡ true → IsLoopOf (rows P) n h
+      by_node n less (Loop g w l) m e =
+          record { switches = w; last = l; within = less; node = m ∙ ap (λ z. Loop z w l) (eqb-true g h e) }
+      by_node n less (Def y g k b) m e =
+          let heads = table.head_is n y g b k less m in
+          let bad : Head ≡ LoopHead s = sym heads.0 ∙ ap (node P) (eqb-true g h e) ∙ is in
+          cc
+      by_node n less (If g y z) m e =
+          let split = table.split_of n g (record { then = y; otherwise = z; within = less; node = m }) in
+          let bad : LoopHead s ≡ Split split.test = sym is ∙ ap (node P) (sym (eqb-true g h e)) ∙ split.node in
+          cc
+      by_node n less (Call g c) m e =
+          let z = table.enter_of n g (record { count = c; within = less; node = m }) in
+          let bad : LoopHead s ≡ Enter z.name = sym is ∙ ap (node P) (sym (eqb-true g h e)) ∙ z.node in
+          cc
+      by_node n less _ m e = absurd (false≢true e)
+
+  -- wherever the loop of a head is said to be, it is there
+  pub loop_same : (n h : ℕ) → IsLoopOf (rows P) n h → end_of P h ≡ n
+  loop_same n h c =
+      let low = ((table.formed).each n c.within).parts h (subst (λ m. HasPart m h) (sym c.node) (inl refl)) in
+      let is = loop_head n h c.switches c.last c.within c.node in
+      table.one_loop (end_of P h) n h (loop_is h (h - 1) (omega (arith, low.1, c.within)) is) c
 
   -- a row of another node is not the last
   pub not_last : (n : ℕ) → n < length (rows P) → (node P n ≡ Program → ⊥) → n + 1 < length (rows P)
@@ -175,15 +187,28 @@ module _ (P : Checked) (table : IsTable (rows P)) where
 
   -- ---- the heads of regions
 
-  -- the head of a region is that of a procedure, or the switches of a conditional
+  -- the head of a region is that of a procedure or of a loop, or the switches of a conditional or of a loop
   pub data HeadOf (r : Region) : Type 0 where
     of_procedure : node P r.head ≡ Head → r ≡ top r.head → HeadOf r
+    of_loop : {s : ℕ} → node P r.head ≡ LoopHead s → r ≡ top r.head → HeadOf r
     of_arm : {t : ℕ} → node P r.head ≡ Split t → HeadOf r
+    of_side : {t : ℕ} → node P r.head ≡ Switches t → HeadOf r
 
   -- and is a row
   pub record RegionOf (n : ℕ) : Type 0 where
     pub below : (region P n).head < length (rows P)
     pub head : HeadOf (region P n)
+
+  -- what begins a block is the head of a procedure or of a loop
+  block_head : (r : Region) (m : Node) → node P r.head ≡ m → begins_block m ≡ true → r ≡ top r.head → HeadOf r
+  block_head r Head is b t = of_procedure is t
+  block_head r (LoopHead s) is b t = of_loop is t
+  block_head r _ is b t = absurd (false≢true b)
+
+  -- a row in a side of switches stands behind them
+  side_low : (w b n i : ℕ) (c : Truth) → w + 1 < b → InSide w b n c i → w < i
+  side_low w b n i true low h = h.0
+  side_low w b n i false low h = omega (arith, low, h.0)
 
   pub region_of : (n : ℕ) → n < length (rows P) → (node P n ≡ Program → ⊥) → RegionOf n
   region_of n within other =
@@ -193,9 +218,11 @@ module _ (P : Checked) (table : IsTable (rows P)) where
             let head : (region P n).head ≡ (at (rows P) n).block = ap (λ (r : Region). r.head) is in
             record {
               below = omega (arith, within, stands.0, head);
-              head = of_procedure (ap (node P) head ∙ stands.1) (is ∙ ap top (sym head));
+              head = block_head (region P n) (node P (region P n).head) refl (ap (λ k. begins_block (node P k)) head ∙ stands.1)
+                  (is ∙ ap top (sym head));
             }
-        | inr arm ↦ in_arm arm
+        | inr (inl arm) ↦ in_arm arm
+        | inr (inr side) ↦ in_side side
       ]
     where
       in_arm : StandsInArm (rows P) n → RegionOf n
@@ -205,6 +232,14 @@ module _ (P : Checked) (table : IsTable (rows P)) where
           let head : (region P n).head ≡ x.split = ap (λ (r : Region). r.head) x.region in
           let inside = InArm-within (rows P) table x.row x.split n x.side c x.among in
           record { below = omega (arith, within, inside.0, head); head = of_arm (ap (node P) head ∙ z.node) }
+
+      in_side : StandsInSide (rows P) n → RegionOf n
+      in_side x =
+          let c = x.loop in
+          let z = (table.loop_is x.row (at (rows P) n).block c).test in
+          let head : (region P n).head ≡ c.switches = ap (λ (r : Region). r.head) x.region in
+          let low = side_low c.switches x.body x.row n x.side x.body_is.low x.among in
+          record { below = omega (arith, within, low, head); head = of_side (ap (node P) head ∙ z.node) }
 
   -- the body of a definition stands right in the region that its head turns on
   pub body_region : (n h : ℕ) (d : IsDefOf (rows P) n h) → (d.body < length (rows P)) × (region P d.body ≡ top h)

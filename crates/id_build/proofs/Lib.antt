@@ -1,10 +1,14 @@
 pub mod CallsLemmas
+pub mod RegionsLemmas
 pub mod ImportsLemmas
 pub mod NamesSeen
 pub mod EndsLemmas
+pub mod LoopsLemmas
 pub mod FeedsLemmas
+pub mod SendsLemmas
 pub mod NumberLemmas
 pub mod SizeLemmas
+pub mod FitsLemmas
 pub mod JoinedLemmas
 pub mod FillLemmas
 pub mod ArcsLemmas

@@ -6,19 +6,28 @@ use Rattle.std.proofs.lemmas.Bool.{eqb-true}
 use Rattle.std.proofs.lemmas.Bool.Decides.{nat_tests}
 use Rattle.id_list.specs.List.{Among}
 use Rattle.id_parts.specs.declared.row.Region.{Region}
-use Rattle.id_parts.specs.declared.row.Node.TheVariants.{Split}
-use Rattle.id_parts.specs.Rows.{arm_at}
+use Rattle.id_parts.specs.declared.row.Node.{Node}
+use Rattle.id_parts.specs.declared.row.Node.TheVariants.{LoopHead, Split, Switches}
+use Rattle.id_parts.specs.Rows.{arm_at, top}
 use Rattle.id_check.specs.declared.checked.Checked.{Checked}
 use Rattle.id_check.specs.Programs.{region, rows}
 use Rattle.id_desugar.specs.Regions.{imports_of}
 use Rattle.id_build.specs.declared.arc.Origin.{Origin}
-use Rattle.id_build.specs.Rows.{node, output, same_region, slot_of, name_in}
+use Rattle.id_build.specs.Rows.{entries_row, handed_by, label, name_in, node, output, same_region, slot_of}
 
--- the region sees what is bound at the row b: it is right in the region, or a conditional hands it into the region, and sees
--- it where it stands itself
+-- switches for the predicate t stand at the row n: those of a conditional, or of a loop
+pub data HasSwitches (P : Checked) (n t : ℕ) : Type 0 where
+  of_arms : node P n ≡ Split t → HasSwitches P n t
+  of_turns : node P n ≡ Switches t → HasSwitches P n t
+
+-- the region sees what is bound at the row b: its label is right in the region, or switches hand it into the region, and
+-- see it where they stand themselves, or a loop takes it in, and its `Start` sees it
 pub data Sees (P : Checked) (b : ℕ) : Region → Type 0 where
-  own : {r : Region} → region P b ≡ r → Sees P b r
-  handed : {n t : ℕ} {c : Truth} → n < length (rows P) → node P n ≡ Split t → Among b (imports_of P n) → Sees P b (region P n) → Sees P b (arm_at n c)
+  own : {r : Region} → region P (label P b) ≡ r → Sees P b r
+  handed : {n t : ℕ} {c : Truth} → n < length (rows P) → HasSwitches P n t → Among b (imports_of P n) → Sees P b (region P n)
+      → Sees P b (arm_at n c)
+  entered : {h s : ℕ} → h < length (rows P) → node P h ≡ LoopHead s → Among b (imports_of P h) → Sees P b (region P s)
+      → Sees P b (top h)
 
 -- a region is itself
 pub region_itself : (r : Region) → same_region r r ≡ true
@@ -46,15 +55,12 @@ region_is r q e =
     let side = one_side r.side q.side both.1 in
     (λ i. record { head = head i; side = side i })
 
--- where a region hands a binder in
-abbrev pub handed_at : Checked → Region → ℕ → Origin
-handed_at P r b = record { row = r.head; part = slot_of (imports_of P r.head) b + 1; side = r.side }
+name_by : (P : Checked) (r : Region) (b : ℕ) (t : Truth) → same_region (region P (label P b)) r ≡ t
+    → name_in P r b ≡ cond t (output (label P b)) (handed_by P r b (node P r.head))
+name_by P r b t e = ap (λ z. cond z (output (label P b)) (handed_by P r b (node P r.head))) e
 
-name_by : (P : Checked) (r : Region) (b : ℕ) (t : Truth) → same_region (region P b) r ≡ t → name_in P r b ≡ cond t (output b) (handed_at P r b)
-name_by P r b t e = ap (λ z. cond z (output b) (handed_at P r b)) e
-
--- a name's value comes in its binder's region from the binder's label
-pub named : (P : Checked) (r : Region) (b : ℕ) → region P b ≡ r → name_in P r b ≡ output b
+-- a name's value comes in its label's region from the label
+pub named : (P : Checked) (r : Region) (b : ℕ) → region P (label P b) ≡ r → name_in P r b ≡ output (label P b)
 named P r b is = name_by P r b true (ap (λ z. same_region z r) is ∙ region_itself r)
 
 -- where the binder stands among those of the list
@@ -97,18 +103,39 @@ listed (x ∷ xs) (suc k) h = inr (listed xs k (omega (arith, h)))
 
 -- where a name's value comes from in a region that sees its binder
 pub data Comes (P : Checked) (r : Region) (b : ℕ) : Type 0 where
-  from_label : region P b ≡ r → name_in P r b ≡ output b → Comes P r b
-  from_switch : (n t k : ℕ) (c : Truth) → n < length (rows P) → node P n ≡ Split t → k < length (imports_of P n) → get_or (imports_of P n) k 0 ≡ b
-      → Sees P b (region P n) → r ≡ arm_at n c → name_in P r b ≡ record { row = n; part = suc k; side = c } → Comes P r b
+  from_label : region P (label P b) ≡ r → name_in P r b ≡ output (label P b) → Comes P r b
+  from_switch : (n t k : ℕ) (c : Truth) → n < length (rows P) → HasSwitches P n t → k < length (imports_of P n)
+      → get_or (imports_of P n) k 0 ≡ b → Sees P b (region P n) → r ≡ arm_at n c
+      → name_in P r b ≡ record { row = n; part = suc k; side = c } → Comes P r b
+  from_entry : (h s k : ℕ) → h < length (rows P) → node P h ≡ LoopHead s → k < length (imports_of P h)
+      → get_or (imports_of P h) k 0 ≡ b → Sees P b (region P s) → r ≡ top h
+      → name_in P r b ≡ record { row = entries_row P h; part = k; side = true } → Comes P r b
+
+-- switches hand in behind that of the trigger
+switched : (P : Checked) (n t b : ℕ) (c : Truth) → HasSwitches P n t
+    → handed_by P (arm_at n c) b (node P n) ≡ record { row = n; part = suc (slot_of (imports_of P n) b); side = c }
+switched P n t b c (of_arms is) =
+    let up : slot_of (imports_of P n) b + 1 ≡ suc (slot_of (imports_of P n) b) = omega arith in
+    ap (handed_by P (arm_at n c) b) is ∙ ap (λ z. record { row = n; part = z; side = c }) up
+switched P n t b c (of_turns is) =
+    let up : slot_of (imports_of P n) b + 1 ≡ suc (slot_of (imports_of P n) b) = omega arith in
+    ap (handed_by P (arm_at n c) b) is ∙ ap (λ z. record { row = n; part = z; side = c }) up
 
 pub comes : (P : Checked) (r : Region) (b : ℕ) → Sees P b r → Comes P r b
 comes P r b (own is) = from_label is (named P r b is)
-comes P r b (handed {n = n} {t = t} {c = c} within is among rest) = go (same_region (region P b) (arm_at n c)) refl
+comes P r b (handed {n = n} {t = t} {c = c} within is among rest) = go (same_region (region P (label P b)) (arm_at n c)) refl
   where
-    go : (u : Truth) → same_region (region P b) (arm_at n c) ≡ u → Comes P (arm_at n c) b
-    go true e = let here = region_is (region P b) (arm_at n c) e in from_label here (named P (arm_at n c) b here)
+    go : (u : Truth) → same_region (region P (label P b)) (arm_at n c) ≡ u → Comes P (arm_at n c) b
+    go true e = let here = region_is (region P (label P b)) (arm_at n c) e in from_label here (named P (arm_at n c) b here)
     go false e =
         let slot = slot_found (imports_of P n) b among in
-        let up : slot_of (imports_of P n) b + 1 ≡ suc (slot_of (imports_of P n) b) = omega arith in
         from_switch n t (slot_of (imports_of P n) b) c within is slot.less slot.there rest refl
-        (name_by P (arm_at n c) b false e ∙ ap (λ z. record { row = n; part = z; side = c }) up)
+        (name_by P (arm_at n c) b false e ∙ switched P n t b c is)
+comes P r b (entered {h = h} {s = s} within is among rest) = go (same_region (region P (label P b)) (top h)) refl
+  where
+    go : (u : Truth) → same_region (region P (label P b)) (top h) ≡ u → Comes P (top h) b
+    go true e = let here = region_is (region P (label P b)) (top h) e in from_label here (named P (top h) b here)
+    go false e =
+        let slot = slot_found (imports_of P h) b among in
+        from_entry h s (slot_of (imports_of P h) b) within is slot.less slot.there rest refl
+        (name_by P (top h) b false e ∙ ap (handed_by P (top h) b) is)

@@ -6,9 +6,7 @@ use Rattle.std.proofs.lemmas.Bool.Decides.{eqb_tells}
 use Rattle.id_check.specs.declared.checked.Checked.{Checked}
 use Rattle.id_build.specs.declared.arc.Piece.{Piece}
 use Rattle.id_build.specs.Made.{first_in, pieces_in}
-use Rattle.id_build.specs.Rows.{made, size, size_below}
-use Rattle.id_desugar.specs.Regions.{below, order_by, order_of}
-use Rattle.id_check.specs.Programs.{rows}
+use Rattle.id_build.specs.Rows.{made}
 use Rattle.id_list.proofs.PlacesLemmas.{slice_get-left, slice_get-right}
 use Rattle.id_list.specs.List.{AllDiffer, Among}
 
@@ -106,19 +104,3 @@ first_in-push P (x ∷ xs) m y n d =
 pub pieces_in-push : (P : Checked) (xs : List ℕ) (y : ℕ) → pieces_in P (xs ++ y ∷ []) ≡ pieces_in P xs ++ made P y
 pieces_in-push P [] y = append-nil (made P y)
 pieces_in-push P (x ∷ xs) y = ap (λ l. made P x ++ l) (pieces_in-push P xs y) ∙ sym (append_assoc (made P x) (pieces_in P xs) (made P y))
-
-length-pieces_in-below : (P : Checked) (n : ℕ) → length (pieces_in P (below n)) ≡ size_below P n
-length-pieces_in-below P zero = refl
-length-pieces_in-below P (suc n) =
-    let rest = length-pieces_in-below P n in
-    omega (arith, ap length (pieces_in-push P (below n) n), length-append (pieces_in P (below n)) (made P n))
-
-length-pieces_in-order_by : (P : Checked) (n : ℕ) → length (pieces_in P (order_by n)) ≡ size_below P n
-length-pieces_in-order_by P zero = refl
-length-pieces_in-order_by P (suc n) =
-    let rest = length-pieces_in-below P n in
-    omega (arith, length-append (made P n) (pieces_in P (below n)))
-
--- the size is the number of instructions
-pub length-pieces_in : (P : Checked) → length (pieces_in P (order_of P)) ≡ size P
-length-pieces_in P = length-pieces_in-order_by P (length (rows P))

@@ -1,19 +1,38 @@
 -- How many instructions rows make.
 use Rattle.std.proofs.Common.{◌≡◌, ℕ, zero, suc, ◌+◌, ◌-◌, ◌≤◌, ◌<◌, List, [], ◌∷◌, length, refl, ap, arith, subst}
-use Rattle.id_parts.specs.declared.row.Node.TheVariants.{Split}
+use Rattle.std.proofs.lemmas.List.{length-map}
+use Rattle.id_parts.specs.declared.row.Node.TheVariants.{Entries, Split, Start, Switches, Turn}
 use Rattle.id_check.specs.declared.checked.Checked.{Checked}
 use Rattle.id_check.specs.Programs.{rows}
-use Rattle.id_desugar.specs.Regions.{imports_of}
-use Rattle.id_build.specs.Rows.{made, made_of, size, size_below, switches}
+use Rattle.id_desugar.specs.Regions.{imports_of, nexts_of}
+use Rattle.id_graph.specs.declared.instr.Op.{Op}
+use Rattle.id_graph.specs.declared.instr.Op.TheVariants.{Merge, Switch, Next as NextOp}
+use Rattle.id_graph.specs.declared.instr.PortKind.{PortKind}
+use Rattle.id_build.specs.Rows.{block, for_each, loop_entries, made, made_of, send_to, size, size_below}
+use Rattle.id_build.proofs.RowLemmas.{length-loop_entries}
 
--- each import has one switch
-length-switches : (P : Checked) (e : ℕ) (bs : List ℕ) → length (switches P e bs) ≡ length bs
-length-switches P e [] = refl
-length-switches P e (b ∷ bs) = ap suc (length-switches P e bs)
+-- each of these binders has one instruction
+pub length-for_each : (P : Checked) (op : PortKind → Op) (e : ℕ) (bs : List ℕ) → length (for_each P op e bs) ≡ length bs
+length-for_each P op e [] = refl
+length-for_each P op e (b ∷ bs) = ap suc (length-for_each P op e bs)
 
--- and the trigger has one
+-- the trigger has one switch, too
 pub length-split : (P : Checked) (n e t : ℕ) → length (made_of P n e (Split t)) ≡ length (imports_of P n) + 1
-length-split P n e t = omega (arith, length-switches P e (imports_of P n))
+length-split P n e t = omega (arith, length-for_each P Switch e (imports_of P n))
+
+pub length-switches : (P : Checked) (n e t : ℕ) → length (made_of P n e (Switches t)) ≡ length (imports_of P n) + 1
+length-switches P n e t = omega (arith, length-for_each P Switch e (imports_of P n))
+
+pub length-turn : (P : Checked) (n e : ℕ) → length (made_of P n e Turn) ≡ length (imports_of P (block P n)) + 1
+length-turn P n e = omega (arith, length-for_each P NextOp e (imports_of P (block P n)))
+
+pub length-entries : (P : Checked) (n e : ℕ) → length (made_of P n e Entries) ≡ length (imports_of P (block P n))
+length-entries P n e = length-for_each P Merge e (imports_of P (block P n))
+
+-- a loop's `Start` has one for the loop, and one for each entry
+pub length-start : (P : Checked) (n e : ℕ) → length (made_of P n e Start) ≡ length (nexts_of P (n + 1)) + length (imports_of P (n + 1)) + 1
+length-start P n e =
+    omega (arith, length-map (loop_entries P (n + 1)) (send_to P e), length-loop_entries P (n + 1))
 
 -- what one more row makes
 pub size_below-next : (P : Checked) (n : ℕ) → size_below P (n + 1) ≡ size_below P n + length (made P n)

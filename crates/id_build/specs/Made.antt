@@ -1,18 +1,23 @@
 -- The graph that the builder makes of a program.
-use Rattle.std.specs.Prelude.{◌≡◌, ℕ, zero, suc, ◌+◌, ◌<◌, ◌==◌, Bool, true, false, if◌then◌else◌, ◌&&◌, List, [], ◌∷◌}
-use Rattle.std.specs.Prelude.{◌++◌, map, length, slice_get, unwrap_or}
+use Rattle.std.specs.Prelude.{◌≡◌, ℕ, zero, suc, ◌+◌, ◌^◌, ◌<◌, ◌≤◌, ◌==◌, Bool, true, false, if◌then◌else◌, ◌&&◌}
+use Rattle.std.specs.Prelude.{List, [], ◌∷◌, ◌++◌, map, length, slice_get, unwrap_or}
 use Rattle.std.specs.Bool.{beq}
-use Rattle.id_parts.specs.Turns.{heads_of}
+use Rattle.id_parts.specs.declared.row.Node.TheVariants.{LoopHead}
 use Rattle.id_check.specs.declared.checked.Checked.{Checked}
 use Rattle.id_check.specs.Programs.{rows}
+use Rattle.id_desugar.specs.Regions.{imports_of}
 use Rattle.id_graph.specs.declared.instr.Instr.{Instr}
 use Rattle.id_graph.specs.declared.dests.Dest.{Dest}
 use Rattle.id_graph.specs.Graph.{Parts}
+use Rattle.id_graph.specs.declared.dests.Port.{Port}
+use Rattle.id_build.specs.declared.arc.Origin.{Origin}
 use Rattle.id_build.specs.declared.arc.Feed.{Feed}
 use Rattle.id_build.specs.declared.arc.Arc.{Arc}
 use Rattle.id_build.specs.declared.arc.Piece.{Piece}
-use Rattle.id_build.specs.Rows.{feeds, made, op_by}
-use Rattle.id_build.specs.Schemas.{block_of}
+use Rattle.id_build.specs.declared.arc.Form.{Form}
+use Rattle.id_build.specs.declared.arc.Form.TheVariants.{SendTo}
+use Rattle.id_build.specs.Rows.{entries_row, feeds, made, node, op_by}
+use Rattle.id_build.specs.Schemas.{all_heads, block_of}
 
 -- the number of the first instruction of the row n, where those of these rows are made in this order, and the first has
 -- the number m
@@ -34,15 +39,13 @@ pub record AreFirsts (P : Checked) (order F : List ℕ) : Type 0 where
   pub many : length F ≡ length (rows P)
   pub at : (n : ℕ) → n < length (rows P) → number_by F n 0 ≡ first_in P 0 order n
 
+-- the arc from an origin to a port of the instruction of this number
+abbrev pub arc_to : List ℕ → Origin → ℕ → Port → Arc
+arc_to firsts o m p = record { from = number_by firsts o.row o.part; side = o.side; to = m; port = p }
+
 -- an arc to an instruction of the row n
 abbrev pub arc_of : List ℕ → ℕ → Feed → Arc
-arc_of firsts n f =
-    record {
-      from = number_by firsts f.origin.row f.origin.part;
-      side = f.origin.side;
-      to = number_by firsts n f.part;
-      port = f.port;
-    }
+arc_of firsts n f = arc_to firsts f.origin (number_by firsts n f.part) f.port
 
 -- the arcs to the instructions of these rows
 abbrev pub arcs_in : Checked → List ℕ → List ℕ → List Arc
@@ -55,11 +58,17 @@ dest_of a = record { instr = a.to; port = a.port }
 -- where the arcs from the side of the instruction m go, in order
 abbrev pub dests_from : ℕ → Bool → List Arc → List Dest
 dests_from m s [] = []
-dests_from m s (a ∷ vs) = if (a.from == m) && beq a.side s then dest_of a ∷ dests_from m s vs else dests_from m s vs
+dests_from m s (a ∷ vs) =
+    if (a.from == m) && beq a.side s then dest_of a ∷ dests_from m s vs else dests_from m s vs
 
 abbrev pub joined : List ℕ → ℕ → Piece → List Arc → Instr
-joined F m p vs = record
-    { op = op_by (number_by F) p.form; dests = dests_from m true vs; others = dests_from m false vs; place = p.place }
+joined F m p vs =
+    record {
+      op = op_by (number_by F) p.form;
+      dests = dests_from m true vs;
+      others = dests_from m false vs;
+      place = p.place;
+    }
 
 -- the instructions of these pieces with their arcs, where the first has the number m
 abbrev pub instrs_from : List ℕ → ℕ → List Piece → List Arc → List Instr
@@ -70,10 +79,20 @@ instrs_from F m (p ∷ ps) vs = joined F m p vs ∷ instrs_from F (m + 1) ps vs
 abbrev pub graph_by : Checked → List ℕ → List ℕ → Parts
 graph_by P order F =
     record {
-      blocks = map (block_of P (number_by F)) (heads_of (rows P));
-      instrs = instrs_from F 0 (pieces_in P order)
-          (arcs_in P F order);
+      blocks = map (block_of P (number_by F)) (all_heads P);
+      instrs = instrs_from F 0 (pieces_in P order) (arcs_in P F order);
     }
+
+-- where the form is a `send`, its entry has a number that an instruction can have
+abbrev pub Fits : List ℕ → Form → Type 0
+Fits F (SendTo k n j) = number_by F n j < 2 ^ 32
+Fits F _ = Unit {0}
+
+-- and so have the entries of each loop's imports
+abbrev pub EntriesFit : Checked → List ℕ → Type 0
+EntriesFit P F =
+    (h s : ℕ) → h < length (rows P) → node P h ≡ LoopHead s →
+      number_by F (entries_row P h) (length (imports_of P h)) ≤ 2 ^ 32
 
 -- the arc goes between two of these instructions
 abbrev pub IsFrom : List Piece → Arc → Type 0

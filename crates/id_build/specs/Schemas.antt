@@ -1,7 +1,7 @@
 -- The graphs that the schemas give a program: the numbering is free (docs/GRAPH.md, "Schemas").
-use Rattle.std.specs.Prelude.{◌≡◌, ◌<◌, ℕ, ◌+◌, Bool as Truth, true, length, map, Some, slice_get}
+use Rattle.std.specs.Prelude.{◌≡◌, ◌<◌, ℕ, ◌+◌, Bool as Truth, true, List, ◌++◌, length, map, Some, slice_get}
 use Rattle.id_list.specs.List.{Among, AllDiffer}
-use Rattle.id_parts.specs.Turns.{heads_of, params_at}
+use Rattle.id_parts.specs.Turns.{heads_of}
 use Rattle.id_check.specs.declared.checked.Checked.{Checked}
 use Rattle.id_check.specs.Programs.{rows}
 use Rattle.id_graph.specs.declared.dests.Port.{Port}
@@ -13,7 +13,8 @@ use Rattle.id_graph.specs.declared.instr.Block.{Block}
 use Rattle.id_graph.specs.Graph.{Parts, IsPort, arcs_on}
 use Rattle.id_build.specs.declared.arc.Origin.{Origin}
 use Rattle.id_build.specs.declared.arc.Form.{Form}
-use Rattle.id_build.specs.Rows.{answer_row, feed, feeds, made, op_by, piece}
+use Rattle.id_desugar.specs.Regions.{is_loop_head, those}
+use Rattle.id_build.specs.Rows.{answer_row, entries, feed, feeds, made, node, op_by, piece}
 
 -- the part k of the row n is an instruction with this form of operator and this place
 pub record Makes (P : Checked) (n k : ℕ) (f : Form) (e : ℕ) : Type 0 where
@@ -64,9 +65,19 @@ pub record IsArc (P : Checked) (number : ℕ → ℕ → ℕ) (m : ℕ) (side : 
   pub from : number origin.row origin.part ≡ m
   pub goes : number row part ≡ to.instr
 
--- the block with this head: its entries are the labels of the parameters, in order
+-- the heads of the loops among the first n rows
+abbrev pub loop_heads_below : Checked → ℕ → List ℕ
+loop_heads_below P n = those (λ i. is_loop_head (node P i)) n
+
+-- the heads of all blocks: those of the procedures, in order of definition, and then those of the loops, in order of
+-- place
+abbrev pub all_heads : Checked → List ℕ
+all_heads P = heads_of (rows P) ++ loop_heads_below P (length (rows P))
+
+-- the block with this head, and its entries in order: the labels of a procedure's parameters, or of a loop's variables,
+-- and then the entries of its imports
 abbrev pub block_of : Checked → (ℕ → ℕ → ℕ) → ℕ → Block
-block_of P number h = record { first = number h 0; entries = map (λ x. number x 0) (params_at (rows P) h) }
+block_of P number h = record { first = number h 0; entries = map (λ q. number q.row q.part) (entries P h) }
 
 -- the graph has the instructions, arcs, places and blocks of the schemas and no others, numbered so
 pub record Numbered (P : Checked) (G : Parts) (number : ℕ → ℕ → ℕ) : Type 0 where
@@ -81,14 +92,14 @@ pub record Numbered (P : Checked) (G : Parts) (number : ℕ → ℕ → ℕ) : T
   pub no_more : (m : ℕ) (side : Truth) (to : Dest) → Sends G m side to → IsArc P number m side to
   pub once : (m : ℕ) (i : Instr) (side : Truth) → slice_get G.instrs m ≡ Some i → AllDiffer (arcs_on side i)
   -- each goes from a side that there is, to a port that there is
-  pub sides : (m : ℕ) (i : Instr) (side : Truth) (to : Dest) → slice_get G.instrs m ≡ Some i → Among to (arcs_on side i)
-      → HasSide i.op side
+  pub sides : (m : ℕ) (i : Instr) (side : Truth) (to : Dest) → slice_get G.instrs m ≡ Some i
+      → Among to (arcs_on side i) → HasSide i.op side
   pub ports : (m : ℕ) (side : Truth) (to : Dest) → Sends G m side to → IsPort G.instrs to
   -- the answer's instruction is the first; the parts of a row stand one behind another
   pub answer_first : number (answer_row P) 0 ≡ 0
   pub parts_behind : (n k : ℕ) → number n k ≡ number n 0 + k
-  -- there is one block for each procedure, in order of definition
-  pub blocks : G.blocks ≡ map (block_of P number) (heads_of (rows P))
+  -- there is one block for each procedure, in order of definition, and then one for each loop, in order of place
+  pub blocks : G.blocks ≡ map (block_of P number) (all_heads P)
 
 -- the graph is one that the schemas give the program
 pub record Schemas (P : Checked) (G : Parts) : Type 0 where

@@ -1,9 +1,11 @@
--- Where each import stands among those of its head, as the builder notes it.
+-- The columns that the builder reads, and where each import stands among those of its head, as it notes that.
 use Rattle.std.specs.Prelude.{◌≡◌, ℕ, suc, ◌==◌, ◌&&◌, Bool, if◌then◌else◌, List, [], ◌∷◌, length}
 use Rattle.std.specs.Prelude.{Option, None, Some, unwrap_or}
 use Rattle.std.specs.HashMap.{get}
 use Rattle.id_check.specs.declared.checked.Checked.{Checked}
+use Rattle.id_desugar.specs.Ends.{AreEnds, AreNexts}
 use Rattle.id_desugar.specs.Regions.{all_imports, imports_of}
+use Rattle.id_build.specs.declared.columns.Columns.{Columns}
 use Rattle.id_build.specs.declared.slots.Import.{Import}
 use Rattle.id_build.specs.declared.slots.Slots.{Slots}
 use Rattle.id_build.specs.Rows.{slot_of}
@@ -29,8 +31,14 @@ noted j k i = if same_import j i then Some k else None
 abbrev pub noted_all : ℕ → List ℕ → Import → Option ℕ
 noted_all h bs i = if h == i.head then found bs i.binder else None
 
--- the slots of all imports
+-- the columns are those of the program
+pub record AreColumns (P : Checked) (c : Columns) : Type 0 where
+  pub imports : c.imports.now ≡ all_imports P
+  pub ends : AreEnds P c.ends.now
+  pub nexts : AreNexts P c.nexts.now
+
+-- the slots of all imports, with the columns
 pub record AreSlots (P : Checked) (s : Slots) : Type 0 where
-  pub imports : s.imports.now ≡ all_imports P
+  pub columns : AreColumns P s.columns
   pub numbers : (h b : ℕ) → let i : Import = record { head = h; binder = b } in
       unwrap_or (get same_import s.numbers i) (length (imports_of P h)) ≡ slot_of (imports_of P h) b

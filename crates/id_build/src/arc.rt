@@ -32,10 +32,17 @@ pub struct Arc {
 #[derive(Clone, Copy)]
 pub enum Form {
     Plain(Op),
-    /// An `enter` of the block with this head, to whose call, at the row `call`, the result comes.
-    EnterAt { head: usize, call: usize },
-    /// A `send` of values of a kind to the entry of the parameter at a row.
-    SendTo { kind: PortKind, param: usize },
+    /// An `enter` of the block with this head, whose result comes to the call or the loop at the row `call`.
+    EnterAt {
+        head: usize,
+        call: usize,
+    },
+    /// A `send` of values of a kind to an entry: a part of a row.
+    SendTo {
+        kind: PortKind,
+        row: usize,
+        part: usize,
+    },
 }
 
 /// An instruction without its arcs.

@@ -1,22 +1,24 @@
 //! The arcs to the instructions of a row (docs/GRAPH.md, "Schemas").
 
-ghost use Rattle.std.specs.Prelude.{◌≡◌, ◌≢◌, ◌++◌, ◌<◌, ◌+◌, ◌^◌, ◌∷◌, [], length, map, IfErr, OnOk};
+ghost use Rattle.std.specs.Prelude.{◌≡◌, ◌++◌, ◌<◌, ◌+◌, ◌-◌, ◌^◌, ◌∷◌, [], length, map, IfErr, OnOk};
 ghost use Rattle.id_check.specs.Programs as programs;
 ghost use Rattle.id_desugar.specs.Regions as regions;
-ghost use Rattle.id_build.specs.Rows.{body_of, feeds, feeds_of, import_feeds};
+ghost use Rattle.id_build.specs.Rows.{body_of, entry_feeds, feeds, feeds_of, first_binder, import_feeds};
+ghost use Rattle.id_build.specs.Rows.{turn_feeds};
 ghost use Rattle.id_build.specs.Rows as rows;
-ghost use Rattle.id_parts.specs.declared.row.Node.{Node};
+ghost use Rattle.id_parts.specs.declared.row.Node.TheVariants.{Start};
 ghost use Rattle.id_graph.specs.declared.dests.Port.TheVariants.{Zero, One};
-ghost use Rattle.id_build.specs.Made.{arc_of, number_by};
+ghost use Rattle.id_desugar.specs.Ends.{end_of};
+ghost use Rattle.id_build.specs.Made.{arc_of, arc_to, number_by};
 ghost use Rattle.id_build.specs.Slots.{AreSlots};
-ghost use Rattle.id_desugar.specs.Ends.{AreEnds};
 
 use crate::arc::{Arc, Origin};
 use crate::error::BuildError;
-use crate::origins::{imports_at, name_in, origin, output, trigger_of};
+use crate::loops::{first_binder, nexts_at, turn_row};
+use crate::origins::{name_in, origin, output, trigger_of};
 use crate::slots::Slots;
 use id_check::Checked;
-use id_desugar::{end_of, row_at};
+use id_desugar::row_at;
 use id_graph::Port;
 use id_parts::{Node, Region};
 
@@ -31,12 +33,10 @@ pub struct Arcs {
 pub fn push_feeds(
     checked: &Checked,
     slots: &Slots<'_>,
-    ends: &[Option<usize>],
     n: usize,
     arcs: &mut Arcs,
 ) -> Result<(), BuildError>
     requires slots { AreSlots checked.now slots.now }
-    requires ends { AreEnds checked.now ends.now }
     requires within { n < length (programs.rows checked.now) }
     ensures list { OnOk result (arcs.new.list.items
         ≡ arcs.old.list.items ++ map (arc_of arcs.old.firsts.items n) (feeds checked.now n)) }
@@ -44,79 +44,32 @@ pub fn push_feeds(
     ensures memory { IfErr result (λ e. e ≡ BuildError.Memory) }
 {
     let row = row_at(checked, n);
-    let node = row.node;
-    if let Node::Head = node {
-        let body = body_of(row_at(checked, end_of(checked, ends, n)).node);
-        push_back(checked, slots, n, body, arcs)?;
-        return Ok(());
-    }
-    push_row(checked, slots, n, row.region, node, arcs)?;
-    Ok(())
-}
-
-/// Adds the arc of a body to the way back of the head n.
-fn push_back(
-    checked: &Checked,
-    slots: &Slots<'_>,
-    n: usize,
-    body: usize,
-    arcs: &mut Arcs,
-) -> Result<(), BuildError>
-    requires slots { AreSlots checked.now slots.now }
-    ensures list { OnOk result (arcs.new.list.items
-        ≡ arcs.old.list.items ++ arc_of arcs.old.firsts.items n (rows.feed (rows.origin checked.now body) 1 One) ∷ []) }
-    ensures firsts { arcs.new.firsts.items ≡ arcs.old.firsts.items }
-    ensures memory { IfErr result (λ e. e ≡ BuildError.Memory) }
-{
     let first = number_by(arcs.firsts.as_slice(), n);
-    arcs.push(origin(checked, slots, body), first + 1, Port::One)?;
-    Ok(())
-}
-
-/// Adds the arcs to the instructions of the row n in this region with this node, which is no head.
-fn push_row(
-    checked: &Checked,
-    slots: &Slots<'_>,
-    n: usize,
-    region: Region,
-    node: Node,
-    arcs: &mut Arcs,
-) -> Result<(), BuildError>
-    requires slots { AreSlots checked.now slots.now }
-    requires no_head { node ≢ Node.Head }
-    ensures list { OnOk result (arcs.new.list.items
-        ≡ arcs.old.list.items ++ map (arc_of arcs.old.firsts.items n) (feeds_of checked.now n region node)) }
-    ensures firsts { arcs.new.firsts.items ≡ arcs.old.firsts.items }
-    ensures memory { IfErr result (λ e. e ≡ BuildError.Memory) }
-{
-    let first = number_by(arcs.firsts.as_slice(), n);
-    match node {
-        Node::Head => unreachable!(),
+    match row.node {
+        Node::Head => {
+            let body = body_of(row_at(checked, slots.columns.end(checked, n)).node);
+            arcs.push(origin(checked, slots, body), first + 1, Port::One)
+        }
         Node::Param { .. } | Node::Name { .. } | Node::Block { .. } => Ok(()),
         Node::Call { .. } | Node::Def { .. } | Node::Program => Ok(()),
+        Node::NextUse { .. } | Node::Body | Node::Loop { .. } => Ok(()),
         Node::Literal { .. } | Node::Enter { .. } => {
-            arcs.push(trigger_of(region), first, Port::Zero)
+            arcs.push(trigger_of(row.region), first, Port::Zero)
         }
         Node::Unary { operand, .. } | Node::Binding { value: operand, .. } => {
             arcs.push(origin(checked, slots, operand), first, Port::Zero)
         }
-        Node::Binary { left, right, .. } => {
-            arcs.push(origin(checked, slots, left), first, Port::Zero)?;
-            arcs.push(origin(checked, slots, right), first, Port::One)
+        Node::Next { value, .. } | Node::Reset { value } => {
+            arcs.push(origin(checked, slots, value), first, Port::Zero)
         }
-        Node::Split { test } => {
-            push_split(
-                checked,
-                slots,
-                n,
-                region,
-                origin(checked, slots, test),
-                arcs,
-            )
+        Node::Binary { left, right, .. } => {
+            let left = origin(checked, slots, left);
+            let right = origin(checked, slots, right);
+            arcs.push_two(left, right, first)
         }
         Node::Arg { enter, value, .. } => {
-            arcs.push(output(enter), first, Port::Zero)?;
-            arcs.push(origin(checked, slots, value), first, Port::One)
+            let value = origin(checked, slots, value);
+            arcs.push_two(output(enter), value, first)
         }
         Node::If {
             then,
@@ -126,11 +79,23 @@ fn push_row(
             arcs.push(origin(checked, slots, then), first, Port::Zero)?;
             arcs.push(origin(checked, slots, otherwise), first, Port::Zero)
         }
+        Node::Split { test } | Node::Switches { test } => {
+            let test = origin(checked, slots, test);
+            push_split(checked, slots, n, row.region, test, arcs)
+        }
+        Node::Start => push_start(checked, slots, n, row.region, arcs),
+        Node::LoopHead { .. } => push_loop_head(checked, slots, n, arcs),
+        Node::Variable => {
+            let next = slots.columns.next(checked, n);
+            arcs.push(output(next), first, Port::Zero)
+        }
+        Node::Entries => push_entries(checked, slots, n, row.block, arcs),
+        Node::Turn => push_turn(checked, slots, n, row.region, row.block, arcs),
     }
 }
 
-/// Adds the arcs to the switches of the conditional whose split is at n in this region, where the predicate's value has
-/// this origin: to the trigger's, and to that of each import.
+/// Adds the arcs to the switches of the conditional or loop that are at n in this region, where the predicate's value
+/// has this origin: to the trigger's, and to that of each import.
 fn push_split(
     checked: &Checked,
     slots: &Slots<'_>,
@@ -148,13 +113,171 @@ fn push_split(
     ensures memory { IfErr result (λ e. e ≡ BuildError.Memory) }
 {
     let first = number_by(arcs.firsts.as_slice(), n);
-    arcs.push(test, first, Port::Zero)?;
-    arcs.push(trigger_of(region), first, Port::One)?;
-    let mut next = first;
-    for import in imports_at(checked, slots.imports, n) {
-        next += 1;
-        arcs.push(test, next, Port::Zero)?;
-        arcs.push(name_in(checked, slots, region, *import), next, Port::One)?;
+    arcs.push_two(test, trigger_of(region), first)?;
+    push_imports(
+        checked,
+        slots,
+        n,
+        test,
+        region,
+        1,
+        slots.columns.imports(checked, n),
+        arcs,
+    )
+}
+
+/// Adds the arcs to the parts of the row n from this one on, one part for each of these binders: from the source, and
+/// from where the region has the binder.
+fn push_imports(
+    checked: &Checked,
+    slots: &Slots<'_>,
+    n: usize,
+    source: Origin,
+    region: Region,
+    part: usize,
+    binders: &[usize],
+    arcs: &mut Arcs,
+) -> Result<(), BuildError>
+    requires slots { AreSlots checked.now slots.now }
+    requires source { source.part < 2 ^ 62 }
+    requires few { part < 2 ^ 62 }
+    ensures list { OnOk result (arcs.new.list.items ≡ arcs.old.list.items
+        ++ map (arc_of arcs.old.firsts.items n) (import_feeds checked.now source region part binders.now)) }
+    ensures firsts { arcs.new.firsts.items ≡ arcs.old.firsts.items }
+    ensures memory { IfErr result (λ e. e ≡ BuildError.Memory) }
+{
+    let mut to = number_by(arcs.firsts.as_slice(), n) + part;
+    for binder in binders {
+        arcs.push_two(source, name_in(checked, slots, region, *binder), to)?;
+        to += 1;
+    }
+    Ok(())
+}
+
+/// Adds the arcs to the `enter` and the `send`s of the loop that begins at the row n in this region.
+fn push_start(
+    checked: &Checked,
+    slots: &Slots<'_>,
+    n: usize,
+    region: Region,
+    arcs: &mut Arcs,
+) -> Result<(), BuildError>
+    requires slots { AreSlots checked.now slots.now }
+    requires within { n < length (programs.rows checked.now) }
+    requires start { rows.node checked.now n ≡ Start }
+    ensures list { OnOk result (arcs.new.list.items
+        ≡ arcs.old.list.items ++ map (arc_of arcs.old.firsts.items n) (feeds_of checked.now n region Start)) }
+    ensures firsts { arcs.new.firsts.items ≡ arcs.old.firsts.items }
+    ensures memory { IfErr result (λ e. e ≡ BuildError.Memory) }
+{
+    let head = n + 1;
+    let first = number_by(arcs.firsts.as_slice(), n);
+    arcs.push(trigger_of(region), first, Port::Zero)?;
+    let nexts = nexts_at(checked, slots.columns, head);
+    push_firsts(checked, slots, n, region, nexts, arcs)?;
+    let imports = slots.columns.imports(checked, head);
+    let from = 1 + nexts.len();
+    push_imports(checked, slots, n, output(n), region, from, imports, arcs)?;
+    Ok(())
+}
+
+/// Adds the arcs to the `send`s of the first values of the variables with these `next` statements, in the loop that
+/// begins at the row n in this region.
+fn push_firsts(
+    checked: &Checked,
+    slots: &Slots<'_>,
+    n: usize,
+    region: Region,
+    nexts: &[usize],
+    arcs: &mut Arcs,
+) -> Result<(), BuildError>
+    requires slots { AreSlots checked.now slots.now }
+    ensures list { OnOk result (arcs.new.list.items ≡ arcs.old.list.items ++ map (arc_of arcs.old.firsts.items n)
+        (import_feeds checked.now (rows.output n) region 1 (map (first_binder checked.now) nexts.now))) }
+    ensures firsts { arcs.new.firsts.items ≡ arcs.old.firsts.items }
+    ensures memory { IfErr result (λ e. e ≡ BuildError.Memory) }
+{
+    let mut to = number_by(arcs.firsts.as_slice(), n) + 1;
+    for next in nexts {
+        let binder = first_binder(checked, *next);
+        arcs.push_two(output(n), name_in(checked, slots, region, binder), to)?;
+        to += 1;
+    }
+    Ok(())
+}
+
+/// Adds the arcs to the trigger and to the way back of the loop with the head n.
+fn push_loop_head(
+    checked: &Checked,
+    slots: &Slots<'_>,
+    n: usize,
+    arcs: &mut Arcs,
+) -> Result<(), BuildError>
+    requires slots { AreSlots checked.now slots.now }
+    requires within { n < length (programs.rows checked.now) }
+    ensures list { OnOk result (arcs.new.list.items
+        ≡ arcs.old.list.items
+            ++ arc_of arcs.old.firsts.items n (rows.feed (rows.output (rows.turn_row checked.now n)) 0 Zero)
+        ∷ arc_of arcs.old.firsts.items n (rows.feed (rows.output (end_of checked.now n - 1)) 1 One) ∷ []) }
+    ensures firsts { arcs.new.firsts.items ≡ arcs.old.firsts.items }
+    ensures memory { IfErr result (λ e. e ≡ BuildError.Memory) }
+{
+    let first = number_by(arcs.firsts.as_slice(), n);
+    let turn = turn_row(checked, slots.columns, n);
+    arcs.push(output(turn), first, Port::Zero)?;
+    let reset = slots.columns.end(checked, n).saturating_sub(1);
+    arcs.push(output(reset), first + 1, Port::One)
+}
+
+/// Adds the arcs to the entries of the imports of the loop with this head, which are at the row n.
+fn push_entries(
+    checked: &Checked,
+    slots: &Slots<'_>,
+    n: usize,
+    head: usize,
+    arcs: &mut Arcs,
+) -> Result<(), BuildError>
+    requires slots { AreSlots checked.now slots.now }
+    requires within { head < length (programs.rows checked.now) }
+    ensures list { OnOk result (arcs.new.list.items ≡ arcs.old.list.items ++ map (arc_of arcs.old.firsts.items n)
+        (entry_feeds (rows.turn_row checked.now head) 0 (regions.imports_of checked.now head))) }
+    ensures firsts { arcs.new.firsts.items ≡ arcs.old.firsts.items }
+    ensures memory { IfErr result (λ e. e ≡ BuildError.Memory) }
+{
+    let first = number_by(arcs.firsts.as_slice(), n);
+    let turn = turn_row(checked, slots.columns, head);
+    for part in 0..slots.columns.imports(checked, head).len() {
+        let from = Origin {
+            row: turn,
+            part: part + 1,
+            side: true,
+        };
+        arcs.push(from, first + part, Port::Zero)?;
+    }
+    Ok(())
+}
+
+/// Adds the arcs to what hands on the trigger and the imports of the loop with this head, at the row n in this region.
+fn push_turn(
+    checked: &Checked,
+    slots: &Slots<'_>,
+    n: usize,
+    region: Region,
+    head: usize,
+    arcs: &mut Arcs,
+) -> Result<(), BuildError>
+    requires slots { AreSlots checked.now slots.now }
+    ensures list { OnOk result (arcs.new.list.items ≡ arcs.old.list.items ++ map (arc_of arcs.old.firsts.items n)
+        (rows.feed (rows.trigger_of region) 0 Zero
+            ∷ turn_feeds checked.now region 1 (regions.imports_of checked.now head))) }
+    ensures firsts { arcs.new.firsts.items ≡ arcs.old.firsts.items }
+    ensures memory { IfErr result (λ e. e ≡ BuildError.Memory) }
+{
+    let mut to = number_by(arcs.firsts.as_slice(), n);
+    arcs.push(trigger_of(region), to, Port::Zero)?;
+    for binder in slots.columns.imports(checked, head) {
+        to += 1;
+        arcs.push(name_in(checked, slots, region, *binder), to, Port::Zero)?;
     }
     Ok(())
 }
@@ -173,12 +296,8 @@ impl Arcs {
     /// Adds an arc.
     fn push(&mut self, origin: Origin, to: usize, port: Port) -> Result<(), BuildError>
         requires { origin.part < 2 ^ 62 }
-        ensures list { OnOk result (self.new.list.items ≡ self.old.list.items ++ record {
-          from = number_by self.old.firsts.items origin.row origin.part;
-          side = origin.side;
-          to = to;
-          port = port;
-        } ∷ []) }
+        ensures list { OnOk result (self.new.list.items
+            ≡ self.old.list.items ++ arc_to self.old.firsts.items origin to port ∷ []) }
         ensures firsts { self.new.firsts.items ≡ self.old.firsts.items }
         ensures memory { IfErr result (λ e. e ≡ BuildError.Memory) }
     {
@@ -190,6 +309,19 @@ impl Arcs {
             port,
         })?;
         Ok(())
+    }
+
+    /// Adds an arc to each of the two ports of an instruction.
+    fn push_two(&mut self, zero: Origin, one: Origin, to: usize) -> Result<(), BuildError>
+        requires zero { zero.part < 2 ^ 62 }
+        requires one { one.part < 2 ^ 62 }
+        ensures list { OnOk result (self.new.list.items ≡ self.old.list.items
+            ++ arc_to self.old.firsts.items zero to Zero ∷ arc_to self.old.firsts.items one to One ∷ []) }
+        ensures firsts { self.new.firsts.items ≡ self.old.firsts.items }
+        ensures memory { IfErr result (λ e. e ≡ BuildError.Memory) }
+    {
+        self.push(zero, to, Port::Zero)?;
+        self.push(one, to, Port::One)
     }
 }
 

@@ -2,7 +2,7 @@
 
 ghost use Rattle.std.specs.Prelude.{◌≡◌, ◌<◌, ◌^◌, [], length, vec_len, IfOk, OnOk, All};
 ghost use Rattle.id_build.specs.Rows.{op_by};
-ghost use Rattle.id_build.specs.Made.{instrs_from, IsFrom, connected, number_by};
+ghost use Rattle.id_build.specs.Made.{Fits, instrs_from, IsFrom, connected, number_by};
 
 use crate::arc::{Arc, Form, Piece};
 use crate::feeds::number_by;
@@ -16,6 +16,7 @@ pub fn join(
     pieces: &[Piece],
     arcs: &[Arc],
 ) -> Result<Vec<Instr>, AllocError>
+    requires fits { All (λ p. Fits firsts.now p.form) pieces.now }
     requires from { All (IsFrom pieces.now) arcs.now }
     requires few { length pieces.now < 2 ^ 32 }
     ensures { IfOk result (λ v. v.items ≡ instrs_from firsts.now 0 pieces.now arcs.now) }
@@ -29,6 +30,7 @@ pub fn join(
 
 /// The instructions of these pieces, without arcs.
 fn bare_instrs(alloc: Global, firsts: &[u32], pieces: &[Piece]) -> Result<Vec<Instr>, AllocError>
+    requires { All (λ p. Fits firsts.now p.form) pieces.now }
     ensures { IfOk result (λ v. v.items ≡ instrs_from firsts.now 0 pieces.now []) }
 {
     let mut instrs = Vec::with_capacity(alloc, pieces.len())?;
@@ -45,6 +47,7 @@ fn bare_instrs(alloc: Global, firsts: &[u32], pieces: &[Piece]) -> Result<Vec<In
 
 /// The operator of this form.
 fn op_by(firsts: &[u32], form: Form) -> Op
+    requires { Fits firsts.now form }
     ensures { result ≡ op_by (number_by firsts.now) form }
 {
     match form {
@@ -53,9 +56,9 @@ fn op_by(firsts: &[u32], form: Form) -> Op
             block: number_by(firsts, head) as u32,
             reply: number_by(firsts, call) as u32,
         },
-        Form::SendTo { kind, param } => Op::Send {
+        Form::SendTo { kind, row, part } => Op::Send {
             kind,
-            target: number_by(firsts, param) as u32,
+            target: (number_by(firsts, row) + part) as u32,
         },
     }
 }

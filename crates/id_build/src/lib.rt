@@ -8,9 +8,11 @@
 
 mod arc;
 mod calls;
+mod columns;
 mod error;
 mod feeds;
 mod joined;
+mod loops;
 mod operators;
 mod origins;
 mod pieces;

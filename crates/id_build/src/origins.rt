@@ -1,15 +1,15 @@
 //! Where values come from (docs/GRAPH.md, "Sources").
 
-ghost use Rattle.std.specs.Prelude.{◌≡◌, ◌<◌, ◌+◌, ◌^◌, [], slice_get, unwrap_or, length};
-ghost use Rattle.id_desugar.specs.Regions as regions;
-ghost use Rattle.id_build.specs.Rows.{name_in, named_in, origin, origin_of, output, same_region, trigger_of};
+ghost use Rattle.std.specs.Prelude.{◌≡◌, ◌<◌, ◌^◌};
+ghost use Rattle.id_build.specs.Rows.{handed_by, name_in, named_in, node, origin, origin_of, output};
+ghost use Rattle.id_build.specs.Rows.{same_region, trigger_of};
 ghost use Rattle.id_build.specs.Slots.{AreSlots};
 
 use crate::arc::Origin;
+use crate::loops::{entries_row, label};
 use crate::slots::{Slots, slot_of};
 use id_check::Checked;
 use id_desugar::{binder_at, row_at};
-use id_list::Sequence;
 use id_parts::{Node, Region};
 
 /// What the first instruction of a row gives.
@@ -72,27 +72,32 @@ pub fn name_in(checked: &Checked, slots: &Slots<'_>, region: Region, binder: usi
     ensures origin { result ≡ name_in checked.now region binder }
     ensures few { result.part < 2 ^ 62 }
 {
-    if same_region(row_at(checked, binder).region, region) {
-        output(binder)
+    let label = label(checked, binder);
+    if same_region(row_at(checked, label).region, region) {
+        output(label)
     } else {
-        Origin {
-            row: region.head,
-            part: slot_of(checked, slots, region.head, binder) + 1,
-            side: region.side,
-        }
+        handed(checked, slots, region, binder)
     }
 }
 
-/// The binders that the head at a row imports.
-pub fn imports_at<'a>(checked: &Checked, imports: &'a [Sequence<usize>], row: usize) -> &'a [usize]
-    requires { imports.now ≡ regions.all_imports checked.now }
-    ensures { result.now ≡ regions.imports_of checked.now row }
+/// Where the head of a region hands in the value of a binder.
+fn handed(checked: &Checked, slots: &Slots<'_>, region: Region, binder: usize) -> Origin
+    requires slots { AreSlots checked.now slots.now }
+    ensures origin { result ≡ handed_by checked.now region binder (node checked.now region.head) }
+    ensures few { result.part < 2 ^ 62 }
 {
-    let _ = checked;
-    if row < imports.len() {
-        imports[row].as_slice()
-    } else {
-        &[]
+    let slot = slot_of(checked, slots, region.head, binder);
+    match row_at(checked, region.head).node {
+        Node::LoopHead { .. } => Origin {
+            row: entries_row(checked, slots.columns, region.head),
+            part: slot,
+            side: true,
+        },
+        _ => Origin {
+            row: region.head,
+            part: slot + 1,
+            side: region.side,
+        },
     }
 }
 

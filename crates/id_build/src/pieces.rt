@@ -1,68 +1,65 @@
 //! The instructions of a row (docs/GRAPH.md, "Schemas").
 
-ghost use Rattle.std.specs.Prelude.{[], ◌∷◌, ◌≡◌, ◌++◌, ◌<◌, length, IfErr, OnOk};
+ghost use Rattle.std.specs.Prelude.{[], ◌∷◌, ◌≡◌, ◌++◌, ◌<◌, ◌^◌, length, map, IfErr, OnOk};
 ghost use Rattle.id_check.specs.Programs as programs;
-ghost use Rattle.id_desugar.specs.Ends.{AreEnds};
-ghost use Rattle.id_desugar.specs.Regions as regions;
-ghost use Rattle.id_build.specs.Rows.{made, made_of, result_of, switches};
+ghost use Rattle.id_parts.specs.declared.row.Node.TheVariants.{Start};
+ghost use Rattle.id_build.specs.Rows.{for_each, import_entries, made, made_of, result_of, send_to, switches};
+ghost use Rattle.id_build.specs.Rows.{variable_entries};
 ghost use Rattle.id_build.specs.Rows as rows;
-ghost use Rattle.id_build.specs.declared.arc.Form.TheVariants.{Plain, EnterAt, SendTo};
-ghost use Rattle.id_graph.specs.declared.instr.Op.TheVariants.{Merge, Back, Switch};
+ghost use Rattle.id_build.specs.Slots.{AreColumns};
+ghost use Rattle.id_build.specs.declared.arc.Form.TheVariants.{Plain, EnterAt};
+ghost use Rattle.id_graph.specs.declared.instr.Op.TheVariants.{Merge, Back, Next, Switch};
 ghost use Rattle.id_graph.specs.declared.instr.PortKind.TheVariants.{Signal};
 
 use crate::arc::{Form, Piece};
 use crate::calls::{called, param_of};
+use crate::columns::Columns;
 use crate::error::BuildError;
+use crate::loops::{entries_row, nexts_at};
 use crate::operators::{binary_op, port_at, port_of};
-use crate::origins::imports_at;
 use id_check::Checked;
-use id_desugar::{end_of, row_at};
+use id_desugar::row_at;
 use id_graph::{Op, PortKind};
-use id_list::Sequence;
 use id_parts::Node;
 use id_value::Kind;
 
 /// Adds the instructions of the row n.
 pub fn push_pieces(
     checked: &Checked,
-    imports: &[Sequence<usize>],
-    ends: &[Option<usize>],
+    columns: Columns<'_>,
     n: usize,
     pieces: &mut Vec<Piece>,
 ) -> Result<(), BuildError>
-    requires imports { imports.now ≡ regions.all_imports checked.now }
-    requires ends { AreEnds checked.now ends.now }
+    requires columns { AreColumns checked.now columns }
     requires within { n < length (programs.rows checked.now) }
     ensures pieces { OnOk result (pieces.new.items ≡ pieces.old.items ++ made checked.now n) }
     ensures memory { IfErr result (λ e. e ≡ BuildError.Memory) }
 {
     let row = row_at(checked, n);
-    push_row(checked, imports, ends, n, row.place, row.node, pieces)?;
+    push_row(checked, columns, n, row.place, row.node, pieces)?;
     Ok(())
 }
 
 /// Adds the instructions of the row n of this place and node.
 fn push_row(
     checked: &Checked,
-    imports: &[Sequence<usize>],
-    ends: &[Option<usize>],
+    columns: Columns<'_>,
     n: usize,
     place: usize,
     node: Node,
     pieces: &mut Vec<Piece>,
 ) -> Result<(), BuildError>
-    requires imports { imports.now ≡ regions.all_imports checked.now }
-    requires ends { AreEnds checked.now ends.now }
+    requires columns { AreColumns checked.now columns }
     requires within { n < length (programs.rows checked.now) }
+    requires node { node ≡ rows.node checked.now n }
     ensures pieces { OnOk result (pieces.new.items ≡ pieces.old.items ++ made_of checked.now n place node) }
     ensures memory { IfErr result (λ e. e ≡ BuildError.Memory) }
 {
     match node {
-        Node::Head => push_head(
-            result_of(row_at(checked, end_of(checked, ends, n)).node),
-            place,
-            pieces,
-        ),
+        Node::Head => {
+            let result = result_of(row_at(checked, columns.end(checked, n)).node);
+            push_head(port_of(result), place, pieces)
+        }
         Node::Param { .. } | Node::Binding { .. } | Node::If { .. } | Node::Call { .. } => {
             push(pieces, Op::Merge(port_at(checked, n)), place)
         }
@@ -73,41 +70,62 @@ fn push_row(
             Op::Binary(binary_op(op, port_at(checked, left))),
             place,
         ),
-        Node::Split { .. } => {
-            push_split(checked, imports_at(checked, imports, n), place, pieces)
+        Node::Split { .. } | Node::Switches { .. } => {
+            push_switches(checked, columns.imports(checked, n), place, pieces)
         }
-        Node::Enter { .. } => push_enter(checked, n, end_of(checked, ends, n), place, pieces),
+        Node::Enter { .. } => {
+            let call = columns.end(checked, n);
+            push_enter(called(checked, n), call, place, pieces)
+        }
         Node::Arg { enter, index, .. } => {
-            push_send(checked, param_of(checked, enter, index), place, pieces)
+            let param = param_of(checked, enter, index);
+            push_send(checked, param, param, 0, place, pieces)
         }
         Node::Name { .. } | Node::Block { .. } | Node::Def { .. } => Ok(()),
+        Node::NextUse { .. } | Node::Body => Ok(()),
+        Node::Start => push_start(checked, columns, n, place, pieces),
+        Node::LoopHead { .. } => {
+            push_head(port_at(checked, columns.end(checked, n)), place, pieces)
+        }
+        Node::Variable => {
+            let next = columns.next(checked, n);
+            push(pieces, Op::Merge(port_at(checked, next)), place)
+        }
+        Node::Entries => {
+            let head = row_at(checked, n).block;
+            push_entries(checked, columns.imports(checked, head), place, pieces)
+        }
+        Node::Turn => {
+            let head = row_at(checked, n).block;
+            push_turn(checked, columns.imports(checked, head), place, pieces)
+        }
+        Node::Next { .. } => push(pieces, Op::Next(port_at(checked, n)), place),
+        Node::Reset { value } => push(pieces, Op::Reset(port_at(checked, value)), place),
+        Node::Loop { .. } => push(pieces, Op::Merge(port_at(checked, n)), place),
         Node::Program => push_answer(checked, pieces),
     }
 }
 
-/// Adds the trigger and the way back of a definition whose result is of this kind.
-fn push_head(kind: Kind, place: usize, pieces: &mut Vec<Piece>) -> Result<(), BuildError>
-    ensures pieces { OnOk result
-        (pieces.new.items
-        ≡ pieces.old.items
-        ++ record { form = Plain (Merge Signal); place = place } ∷ record
-        { form = Plain (Back (rows.port_of kind)); place = place } ∷ []) }
+/// Adds the trigger and the way back of a block whose result goes to ports of this kind.
+fn push_head(kind: PortKind, place: usize, pieces: &mut Vec<Piece>) -> Result<(), BuildError>
+    ensures pieces { OnOk result (pieces.new.items ≡ pieces.old.items
+        ++ rows.piece (Plain (Merge Signal)) place ∷ rows.piece (Plain (Back kind)) place ∷ []) }
     ensures memory { IfErr result (λ e. e ≡ BuildError.Memory) }
 {
     push(pieces, Op::Merge(PortKind::Signal), place)?;
-    push(pieces, Op::Back(port_of(kind)), place)?;
+    push(pieces, Op::Back(kind), place)?;
     Ok(())
 }
 
-/// Adds the switches of a conditional with these imports: the trigger's, and one for each import.
-fn push_split(
+/// Adds the switches of a conditional or a loop with these imports: the trigger's, and one for each import.
+fn push_switches(
     checked: &Checked,
     imports: &[usize],
     place: usize,
     pieces: &mut Vec<Piece>,
 ) -> Result<(), BuildError>
     ensures pieces { OnOk result (pieces.new.items ≡ pieces.old.items
-        ++ record { form = Plain (Switch Signal); place = place } ∷ switches checked.now place imports.now) }
+        ++ rows.piece (Plain (Switch Signal)) place ∷ switches checked.now place imports.now) }
     ensures memory { IfErr result (λ e. e ≡ BuildError.Memory) }
 {
     push(pieces, Op::Switch(PortKind::Signal), place)?;
@@ -117,50 +135,141 @@ fn push_split(
     Ok(())
 }
 
-/// Adds the `enter` of the call that begins at the row n and ends at the row `call`.
-fn push_enter(
+/// Adds the entries of a loop's imports.
+fn push_entries(
     checked: &Checked,
-    n: usize,
-    call: usize,
+    imports: &[usize],
     place: usize,
     pieces: &mut Vec<Piece>,
 ) -> Result<(), BuildError>
     ensures pieces { OnOk result (pieces.new.items
-        ≡ pieces.old.items ++ record { form = EnterAt (rows.called checked.now n) call; place = place } ∷ []) }
+        ≡ pieces.old.items ++ for_each checked.now Merge place imports.now) }
     ensures memory { IfErr result (λ e. e ≡ BuildError.Memory) }
 {
-    let form = Form::EnterAt {
-        head: called(checked, n),
-        call,
-    };
-    push_form(pieces, form, place)
+    for import in imports {
+        push(pieces, Op::Merge(port_at(checked, *import)), place)?;
+    }
+    Ok(())
 }
 
-/// Adds the `send` to the entry of the parameter at a row.
-fn push_send(
+/// Adds what hands the trigger and these imports of a loop on to the next iteration.
+fn push_turn(
     checked: &Checked,
-    param: usize,
+    imports: &[usize],
+    place: usize,
+    pieces: &mut Vec<Piece>,
+) -> Result<(), BuildError>
+    ensures pieces { OnOk result (pieces.new.items ≡ pieces.old.items
+        ++ rows.piece (Plain (Next Signal)) place ∷ for_each checked.now Next place imports.now) }
+    ensures memory { IfErr result (λ e. e ≡ BuildError.Memory) }
+{
+    push(pieces, Op::Next(PortKind::Signal), place)?;
+    for import in imports {
+        push(pieces, Op::Next(port_at(checked, *import)), place)?;
+    }
+    Ok(())
+}
+
+/// Adds the `enter` of the loop that begins at the row n, and the `send`s to its entries.
+fn push_start(
+    checked: &Checked,
+    columns: Columns<'_>,
+    n: usize,
+    place: usize,
+    pieces: &mut Vec<Piece>,
+) -> Result<(), BuildError>
+    requires columns { AreColumns checked.now columns }
+    requires within { n < length (programs.rows checked.now) }
+    requires start { rows.node checked.now n ≡ Start }
+    ensures pieces { OnOk result (pieces.new.items ≡ pieces.old.items ++ made_of checked.now n place Start) }
+    ensures memory { IfErr result (λ e. e ≡ BuildError.Memory) }
+{
+    let head = n + 1;
+    push_enter(head, columns.end(checked, head), place, pieces)?;
+    let nexts = nexts_at(checked, columns, head);
+    push_variable_sends(checked, nexts, head + 1, place, pieces)?;
+    let entries = entries_row(checked, columns, head);
+    push_import_sends(
+        checked,
+        columns.imports(checked, head),
+        entries,
+        place,
+        pieces,
+    )
+}
+
+/// Adds the `send`s to the entries of the variables with these `next` statements, which are the rows from this one on.
+fn push_variable_sends(
+    checked: &Checked,
+    nexts: &[usize],
+    first: usize,
+    place: usize,
+    pieces: &mut Vec<Piece>,
+) -> Result<(), BuildError>
+    requires few { first < 2 ^ 62 }
+    ensures pieces { OnOk result (pieces.new.items
+        ≡ pieces.old.items ++ map (send_to checked.now place) (variable_entries first nexts.now)) }
+    ensures memory { IfErr result (λ e. e ≡ BuildError.Memory) }
+{
+    for (index, next) in nexts.iter().enumerate() {
+        push_send(checked, *next, first + index, 0, place, pieces)?;
+    }
+    Ok(())
+}
+
+/// Adds the `send`s to the entries of these imports, the parts of a row.
+fn push_import_sends(
+    checked: &Checked,
+    imports: &[usize],
+    entries: usize,
     place: usize,
     pieces: &mut Vec<Piece>,
 ) -> Result<(), BuildError>
     ensures pieces { OnOk result (pieces.new.items
-        ≡ pieces.old.items ++ record { form = SendTo (rows.port_at checked.now param) param; place = place } ∷ []) }
+        ≡ pieces.old.items ++ map (send_to checked.now place) (import_entries entries 0 imports.now)) }
     ensures memory { IfErr result (λ e. e ≡ BuildError.Memory) }
 {
-    let form = Form::SendTo {
-        kind: port_at(checked, param),
-        param,
-    };
-    push_form(pieces, form, place)
+    for (part, import) in imports.iter().enumerate() {
+        push_send(checked, *import, entries, part, place, pieces)?;
+    }
+    Ok(())
+}
+
+/// Adds the `enter` of the block with this head, whose result comes to the row `reply`.
+fn push_enter(
+    head: usize,
+    reply: usize,
+    place: usize,
+    pieces: &mut Vec<Piece>,
+) -> Result<(), BuildError>
+    ensures pieces { OnOk result (pieces.new.items ≡ pieces.old.items ++ rows.piece (EnterAt head reply) place ∷ []) }
+    ensures memory { IfErr result (λ e. e ≡ BuildError.Memory) }
+{
+    push_form(pieces, Form::EnterAt { head, call: reply }, place)
+}
+
+/// Adds the `send` of a binder's value to an entry, the part of a row.
+fn push_send(
+    checked: &Checked,
+    binder: usize,
+    row: usize,
+    part: usize,
+    place: usize,
+    pieces: &mut Vec<Piece>,
+) -> Result<(), BuildError>
+    ensures pieces { OnOk result (pieces.new.items ≡ pieces.old.items
+        ++ send_to checked.now place (record { binder = binder; row = row; part = part }) ∷ []) }
+    ensures memory { IfErr result (λ e. e ≡ BuildError.Memory) }
+{
+    let kind = port_at(checked, binder);
+    push_form(pieces, Form::SendTo { kind, row, part }, place)
 }
 
 /// Adds the answer's instruction.
 fn push_answer(checked: &Checked, pieces: &mut Vec<Piece>) -> Result<(), BuildError>
     ensures pieces { OnOk result (pieces.new.items ≡ pieces.old.items
-        ++ record {
-          form = Plain (Merge (rows.port_of (result_of (rows.node checked.now checked.now.main))));
-          place = programs.place checked.now checked.now.main;
-        } ∷ []) }
+        ++ rows.piece (Plain (Merge (rows.port_of (result_of (rows.node checked.now checked.now.main)))))
+        (programs.place checked.now checked.now.main) ∷ []) }
     ensures memory { IfErr result (λ e. e ≡ BuildError.Memory) }
 {
     let main = row_at(checked, checked.main);
@@ -178,16 +287,14 @@ fn result_of(node: Node) -> Kind
 }
 
 fn push(pieces: &mut Vec<Piece>, op: Op, place: usize) -> Result<(), BuildError>
-    ensures pieces { OnOk result
-        (pieces.new.items ≡ pieces.old.items ++ record { form = Plain op; place = place } ∷ []) }
+    ensures pieces { OnOk result (pieces.new.items ≡ pieces.old.items ++ rows.piece (Plain op) place ∷ []) }
     ensures memory { IfErr result (λ e. e ≡ BuildError.Memory) }
 {
     push_form(pieces, Form::Plain(op), place)
 }
 
 fn push_form(pieces: &mut Vec<Piece>, form: Form, place: usize) -> Result<(), BuildError>
-    ensures pieces { OnOk result (pieces.new.items
-        ≡ pieces.old.items ++ record { form = form; place = place } ∷ []) }
+    ensures pieces { OnOk result (pieces.new.items ≡ pieces.old.items ++ rows.piece form place ∷ []) }
     ensures memory { IfErr result (λ e. e ≡ BuildError.Memory) }
 {
     pieces.push(Piece { form, place })?;

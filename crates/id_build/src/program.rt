@@ -1,29 +1,29 @@
 //! The graph of a program (docs/GRAPH.md, "Schemas").
 
-ghost use Rattle.std.specs.Prelude.{◌≡◌, ◌++◌, ◌∷◌, ◌&&◌, [], true, ℕ, ◌<◌, ◌≤◌, length, map, nat_eq, if◌then◌else◌};
-ghost use Rattle.std.specs.Prelude.{IfOk, IfErr, OnOk};
+ghost use Rattle.std.specs.Prelude.{◌≡◌, ◌++◌, ◌∷◌, ◌&&◌, [], true, ℕ, ◌<◌, ◌≤◌, length, map, nat_eq};
+ghost use Rattle.std.specs.Prelude.{if◌then◌else◌, IfOk, IfErr, OnOk};
 ghost use Rattle.id_list.specs.List.{AllDiffer, Among};
 ghost use Rattle.id_check.specs.Programs as programs;
 ghost use Rattle.id_desugar.specs.Regions as regions;
 ghost use Rattle.id_graph.specs.Graph.{PortsExist, parts};
 ghost use Rattle.id_parts.specs.Tables as tables;
-ghost use Rattle.id_parts.specs.Turns.{heads_of};
 ghost use Rattle.id_build.specs.Rows as rows;
 ghost use Rattle.id_build.specs.Rows.{size};
-ghost use Rattle.id_build.specs.Schemas.{Schemas, block_of};
-ghost use Rattle.id_desugar.specs.Ends.{AreEnds};
-ghost use Rattle.id_build.specs.Made.{AreFirsts, arcs_in, graph_by, number_by, pieces_in};
-ghost use Rattle.id_build.specs.Slots.{AreSlots};
+ghost use Rattle.id_build.specs.Schemas.{Schemas, all_heads, block_of};
+ghost use Rattle.id_build.specs.Made.{AreFirsts, EntriesFit, arcs_in, graph_by, number_by, pieces_in};
+ghost use Rattle.id_build.specs.Slots.{AreColumns, AreSlots};
 
 use crate::arc::Piece;
 use crate::calls::is_param;
+use crate::columns::Columns;
 use crate::error::BuildError;
 use crate::feeds::{Arcs, number_by, push_feeds};
 use crate::joined::join;
+use crate::loops::entries_row;
 use crate::pieces::push_pieces;
 use crate::slots::{Slots, find_slots};
 use id_check::Checked;
-use id_desugar::{Kernel, end_of, row_at};
+use id_desugar::{Kernel, row_at};
 use id_graph::{Block, Graph, Instr};
 use id_list::Sequence;
 use id_parts::{Node, Row};
@@ -39,9 +39,12 @@ pub fn build(alloc: Global, kernel: &Kernel<'_>) -> Result<Graph, BuildError>
     ensures large { IfErr result (λ e. e ≡ BuildError.TooLarge → 1000000 < size kernel.now.checked.now) }
 {
     let order = kernel.order.as_slice();
-    let imports = kernel.imports.as_slice();
-    let ends = kernel.ends.as_slice();
-    let (blocks, instrs) = build_parts(alloc, kernel.checked, imports, ends, order)?;
+    let columns = Columns {
+        imports: kernel.imports.as_slice(),
+        ends: kernel.ends.as_slice(),
+        nexts: kernel.nexts.as_slice(),
+    };
+    let (blocks, instrs) = build_parts(alloc, kernel.checked, columns, order)?;
     Ok(Graph::new(blocks, instrs).unwrap())
 }
 
@@ -49,12 +52,10 @@ pub fn build(alloc: Global, kernel: &Kernel<'_>) -> Result<Graph, BuildError>
 fn build_parts(
     alloc: Global,
     checked: &Checked,
-    imports: &[Sequence<usize>],
-    ends: &[Option<usize>],
+    columns: Columns<'_>,
     order: &[usize],
 ) -> Result<(Vec<Block>, Vec<Instr>), BuildError>
-    requires imports { imports.now ≡ regions.all_imports checked.now }
-    requires ends { AreEnds checked.now ends.now }
+    requires columns { AreColumns checked.now columns }
     requires order { order.now ≡ regions.order_of checked.now }
     ensures schemas { IfOk result (λ g. Schemas checked.now (parts g.0.items g.1.items)) }
     ensures exist { IfOk result (λ g. PortsExist (parts g.0.items g.1.items)) }
@@ -62,9 +63,9 @@ fn build_parts(
     ensures small { OnOk result (size checked.now ≤ 1000000) }
     ensures large { IfErr result (λ e. e ≡ BuildError.TooLarge → 1000000 < size checked.now) }
 {
-    let draft = number(alloc, checked, imports, ends, order)?;
-    let blocks = blocks(alloc, checked, ends, draft.firsts.as_slice())?;
-    let instrs = connected(alloc, checked, imports, ends, order, draft)?;
+    let draft = number(alloc, checked, columns, order)?;
+    let blocks = blocks(alloc, checked, columns, draft.firsts.as_slice())?;
+    let instrs = connected(alloc, checked, columns, order, draft)?;
     Ok((blocks, instrs))
 }
 
@@ -79,12 +80,10 @@ struct Draft {
 fn number(
     alloc: Global,
     checked: &Checked,
-    imports: &[Sequence<usize>],
-    ends: &[Option<usize>],
+    columns: Columns<'_>,
     order: &[usize],
 ) -> Result<Draft, BuildError>
-    requires imports { imports.now ≡ regions.all_imports checked.now }
-    requires ends { AreEnds checked.now ends.now }
+    requires columns { AreColumns checked.now columns }
     requires within { (n : ℕ) → Among n order.now → n < length (programs.rows checked.now) }
     requires differ { AllDiffer order.now }
     ensures pieces { IfOk result (λ d. d.pieces.items ≡ pieces_in checked.now order.now) }
@@ -97,7 +96,7 @@ fn number(
     let mut firsts = vec![in alloc; 0u32; checked.table.rows.len()]?;
     for n in order {
         firsts[*n] = pieces.len() as u32;
-        push_pieces(checked, imports, ends, *n, &mut pieces)?;
+        push_pieces(checked, columns, *n, &mut pieces)?;
         if pieces.len() > 1_000_000 {
             return Err(BuildError::TooLarge);
         }
@@ -109,13 +108,11 @@ fn number(
 fn connected(
     alloc: Global,
     checked: &Checked,
-    imports: &[Sequence<usize>],
-    ends: &[Option<usize>],
+    columns: Columns<'_>,
     order: &[usize],
     draft: Draft,
 ) -> Result<Vec<Instr>, BuildError>
-    requires imports { imports.now ≡ regions.all_imports checked.now }
-    requires ends { AreEnds checked.now ends.now }
+    requires columns { AreColumns checked.now columns }
     requires order { order.now ≡ regions.order_of checked.now }
     requires pieces { draft.pieces.items ≡ pieces_in checked.now order.now }
     requires firsts { AreFirsts checked.now order.now draft.firsts.items }
@@ -124,8 +121,8 @@ fn connected(
     ensures memory { IfErr result (λ e. e ≡ BuildError.Memory) }
 {
     let Draft { pieces, firsts } = draft;
-    let slots = find_slots(alloc, checked, imports)?;
-    let arcs = arcs(alloc, checked, &slots, ends, order, firsts)?;
+    let slots = find_slots(alloc, checked, columns)?;
+    let arcs = arcs(alloc, checked, &slots, order, firsts)?;
     let instrs = join(
         alloc,
         arcs.firsts.as_slice(),
@@ -140,12 +137,10 @@ fn arcs(
     alloc: Global,
     checked: &Checked,
     slots: &Slots<'_>,
-    ends: &[Option<usize>],
     order: &[usize],
     firsts: Vec<u32>,
 ) -> Result<Arcs, BuildError>
     requires slots { AreSlots checked.now slots.now }
-    requires ends { AreEnds checked.now ends.now }
     requires within { (n : ℕ) → Among n order.now → n < length (programs.rows checked.now) }
     ensures list { IfOk result (λ a. a.list.items ≡ arcs_in checked.now firsts.items order.now) }
     ensures firsts { IfOk result (λ a. a.firsts.items ≡ firsts.items) }
@@ -156,79 +151,83 @@ fn arcs(
         list: Vec::new(alloc),
     };
     for n in order {
-        push_feeds(checked, slots, ends, *n, &mut arcs)?;
+        push_feeds(checked, slots, *n, &mut arcs)?;
     }
     Ok(arcs)
 }
 
-/// The blocks of the program, where the rows' first instructions have these numbers.
+/// The blocks of the program, where the rows' first instructions have these numbers: those of the procedures, and then
+/// those of the loops.
 fn blocks(
     alloc: Global,
     checked: &Checked,
-    ends: &[Option<usize>],
+    columns: Columns<'_>,
     firsts: &[u32],
 ) -> Result<Vec<Block>, BuildError>
-    requires ends { AreEnds checked.now ends.now }
-    ensures blocks { IfOk result
-        (λ v. v.items ≡ map (block_of checked.now (number_by firsts.now)) (heads_of (programs.rows checked.now))) }
+    requires columns { AreColumns checked.now columns }
+    requires fit { EntriesFit checked.now firsts.now }
+    ensures blocks {
+        IfOk result (λ v. v.items ≡ map (block_of checked.now (number_by firsts.now)) (all_heads checked.now)) }
     ensures memory { IfErr result (λ e. e ≡ BuildError.Memory) }
 {
     let mut blocks = Vec::new(alloc);
     for head in 0..checked.table.rows.len() {
-        add_block(alloc, checked, ends, firsts, head, &mut blocks)?;
+        if is_head(row_at(checked, head).node) {
+            let entries = params(alloc, checked, columns, firsts, head)?;
+            add_block(firsts, head, entries, &mut blocks)?;
+        }
+    }
+    for head in 0..checked.table.rows.len() {
+        if is_loop_head(row_at(checked, head).node) {
+            let entries = loop_entries(alloc, checked, columns, firsts, head)?;
+            add_block(firsts, head, entries, &mut blocks)?;
+        }
     }
     Ok(blocks)
 }
 
-/// Adds the block with this head, if the row is one.
+/// Adds the block with this head and these entries.
 fn add_block(
-    alloc: Global,
-    checked: &Checked,
-    ends: &[Option<usize>],
     firsts: &[u32],
     head: usize,
+    entries: Vec<u32>,
     blocks: &mut Vec<Block>,
 ) -> Result<(), BuildError>
-    requires ends { AreEnds checked.now ends.now }
-    requires within { head < length (programs.rows checked.now) }
-    ensures blocks { OnOk result (blocks.new.items ≡ blocks.old.items
-        ++ (if tables.is_head (rows.node checked.now head)
-        then block_of checked.now (number_by firsts.now) head ∷ [] else [])) }
+    ensures blocks { OnOk result (blocks.new.items
+        ≡ blocks.old.items ++ record { first = number_by firsts.now head 0; entries = entries.items } ∷ []) }
     ensures memory { IfErr result (λ e. e ≡ BuildError.Memory) }
 {
-    if is_head(row_at(checked, head).node) {
-        let block = block_at(alloc, checked, ends, firsts, head)?;
-        blocks.push(block)?;
-    }
+    blocks.push(Block {
+        first: number_by(firsts, head) as u32,
+        entries: Sequence::new(entries),
+    })?;
     Ok(())
 }
 
-/// The block with this head.
-fn block_at(
+/// The numbers of the entries of the procedure with this head.
+fn params(
     alloc: Global,
     checked: &Checked,
-    ends: &[Option<usize>],
+    columns: Columns<'_>,
     firsts: &[u32],
     head: usize,
-) -> Result<Block, BuildError>
-    requires ends { AreEnds checked.now ends.now }
+) -> Result<Vec<u32>, BuildError>
+    requires columns { AreColumns checked.now columns }
     requires within { head < length (programs.rows checked.now) }
     requires head { tables.is_head (rows.node checked.now head) ≡ true }
-    ensures block { IfOk result (λ b. b ≡ block_of checked.now (number_by firsts.now) head) }
+    ensures entries { IfOk result
+        (λ v. v.items ≡ map (λ q. number_by firsts.now q.row q.part) (rows.entries checked.now head)) }
     ensures memory { IfErr result (λ e. e ≡ BuildError.Memory) }
 {
     let mut entries = Vec::new(alloc);
-    for n in head..end_of(checked, ends, head) {
-        push_entry(&mut entries, row_at(checked, n), firsts, head, n)?;
+    for n in head..columns.end(checked, head) {
+        push_param(&mut entries, row_at(checked, n), firsts, head, n)?;
     }
-    Ok(Block {
-        first: number_by(firsts, head) as u32,
-        entries: Sequence::new(entries),
-    })
+    Ok(entries)
 }
 
 /// Adds the row n as an entry, if it is a parameter of the procedure with this head.
-fn push_entry(
+fn push_param(
     entries: &mut Vec<u32>,
     row: Row,
     firsts: &[u32],
@@ -245,8 +244,42 @@ fn push_entry(
     Ok(())
 }
 
+/// The numbers of the entries of the loop with this head: its variables, and then its imports.
+fn loop_entries(
+    alloc: Global,
+    checked: &Checked,
+    columns: Columns<'_>,
+    firsts: &[u32],
+    head: usize,
+) -> Result<Vec<u32>, BuildError>
+    requires columns { AreColumns checked.now columns }
+    requires fit { EntriesFit checked.now firsts.now }
+    requires within { head < length (programs.rows checked.now) }
+    requires head { regions.is_loop_head (rows.node checked.now head) ≡ true }
+    ensures entries { IfOk result
+        (λ v. v.items ≡ map (λ q. number_by firsts.now q.row q.part) (rows.entries checked.now head)) }
+    ensures memory { IfErr result (λ e. e ≡ BuildError.Memory) }
+{
+    let mut entries = Vec::new(alloc);
+    let imported = entries_row(checked, columns, head);
+    for variable in head + 1..imported {
+        entries.push(number_by(firsts, variable) as u32)?;
+    }
+    let first = number_by(firsts, imported);
+    for part in 0..columns.imports(checked, head).len() {
+        entries.push((first + part) as u32)?;
+    }
+    Ok(entries)
+}
+
 fn is_head(node: Node) -> bool
     ensures { result ≡ tables.is_head node }
 {
     matches!(node, Node::Head)
+}
+
+fn is_loop_head(node: Node) -> bool
+    ensures { result ≡ regions.is_loop_head node }
+{
+    matches!(node, Node::LoopHead { .. })
 }

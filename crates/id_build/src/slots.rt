@@ -5,12 +5,11 @@ ghost use Rattle.std.specs.HashMap.{get};
 ghost use Rattle.std.specs.Option.{option_or};
 ghost use Rattle.id_desugar.specs.Regions as regions;
 ghost use Rattle.id_build.specs.Rows.{slot_of};
-ghost use Rattle.id_build.specs.Slots.{AreSlots, found, noted, noted_all, same_import};
+ghost use Rattle.id_build.specs.Slots.{AreColumns, AreSlots, found, noted, noted_all, same_import};
 
+use crate::columns::Columns;
 use crate::error::BuildError;
-use crate::origins::imports_at;
 use id_check::Checked;
-use id_list::Sequence;
 use std::alloc::Global;
 use std::collections::HashMap;
 
@@ -21,10 +20,10 @@ pub struct Import {
     pub binder: usize,
 }
 
-/// The binders that each row imports, and how many stand before one among those of its row.
+/// The columns of a program, and how many binders stand before one among those that its row imports.
 #[derive(Drop)]
 pub struct Slots<'a> {
-    pub imports: &'a [Sequence<usize>],
+    pub columns: Columns<'a>,
     pub numbers: HashMap<Import, usize>,
 }
 
@@ -32,17 +31,17 @@ pub struct Slots<'a> {
 pub fn find_slots<'a>(
     alloc: Global,
     checked: &Checked,
-    imports: &'a [Sequence<usize>],
+    columns: Columns<'a>,
 ) -> Result<Slots<'a>, BuildError>
-    requires imports { imports.now ≡ regions.all_imports checked.now }
+    requires columns { AreColumns checked.now columns }
     ensures slots { IfOk result (AreSlots checked.now) }
     ensures memory { IfErr result (λ e. e ≡ BuildError.Memory) }
 {
     let mut numbers = HashMap::new(alloc);
-    for head in 0..imports.len() {
-        note_all(&mut numbers, head, imports_at(checked, imports, head))?;
+    for head in 0..columns.imports.len() {
+        note_all(&mut numbers, head, columns.imports(checked, head))?;
     }
-    Ok(Slots { imports, numbers })
+    Ok(Slots { columns, numbers })
 }
 
 /// Notes where the binders stand that a head imports, where nothing was noted yet.
@@ -83,7 +82,7 @@ pub fn slot_of(checked: &Checked, slots: &Slots<'_>, head: usize, binder: usize)
     ensures slot { result ≡ slot_of (regions.imports_of checked.now head) binder }
     ensures within { result < 2 ^ 61 }
 {
-    let count = imports_at(checked, slots.imports, head).len();
+    let count = slots.columns.imports(checked, head).len();
     match slots.numbers.get(&Import { head, binder }) {
         Some(slot) => *slot,
         None => count,

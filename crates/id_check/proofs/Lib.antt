@@ -1,8 +1,10 @@
 pub mod BindLemmas
 pub mod ChainsLemmas
 mod CountsLemmas
+pub mod DepthsLemmas
 pub mod FillsLemmas
 pub mod FirstsLemmas
+pub mod HomesLemmas
 pub mod LinksLemmas
 pub mod NoneLemmas
 pub mod OpenLemmas

@@ -3,6 +3,7 @@ use Rattle.std.proofs.Common.{◌≡◌, ◌<◌, inl, inr, ℕ, List, Option, S
 use Rattle.id_parts.specs.declared.row.Row.{Row}
 use Rattle.id_parts.specs.declared.row.Node.{Node}
 use Rattle.id_parts.specs.declared.row.Node.TheVariants.{Head, Param, Literal, Name, Unary, Binary, Split, If, Enter, Arg, Call, Block, Binding, Def, Program}
+use Rattle.id_parts.specs.declared.row.Node.TheVariants.{Start, LoopHead, Variable, Entries, Switches, Turn, NextUse, Next, Body, Reset, Loop}
 use Rattle.id_parts.specs.Rows.{at}
 use Rattle.id_parts.specs.Tables.{HasPart, IsFormed}
 use Rattle.id_check.specs.Causes.{callee, head_in}
@@ -29,6 +30,7 @@ user_below R i t less = of (at R i).node refl
     of : (n : Node) → (at R i).node ≡ n → user_of i n < length R
     of (Arg e k v) s = part_of e t less s (inl refl)
     of (Call e c) s = part_of e t less s refl
+    of (Next x k o v) s = part_of o t less s (inl refl)
     of _ s = less
 
 pub link_below : (R : List Row) (β : ℕ → Option ℕ) → IsFormed R → ((i b : ℕ) → i < length R → β i ≡ Some b → b < length R)
@@ -54,6 +56,17 @@ link_below R β t within i j less e = of (at R i).node refl e
     of (Binding x a) s f = part (Binding x a) a s refl f
     of (Def x h k b) s f = let d : Fixed k ≡ To j = f in cc
     of Program s f = let d : Nowhere ≡ To j = f in cc
+    of Start s f = let d : Nowhere ≡ To j = f in cc
+    of (LoopHead k) s f = let d : Nowhere ≡ To j = f in cc
+    of Variable s f = let d : Nowhere ≡ To j = f in cc
+    of Entries s f = let d : Nowhere ≡ To j = f in cc
+    of (Switches k) s f = let d : Nowhere ≡ To j = f in cc
+    of Turn s f = let d : Nowhere ≡ To j = f in cc
+    of (NextUse x) s f = named (length R) j (β i) (λ b. within i b less) f
+    of (Next x k o v) s f = part (Next x k o v) o s (inl refl) f
+    of Body s f = let d : Nowhere ≡ To j = f in cc
+    of (Reset v) s f = let d : Nowhere ≡ To j = f in cc
+    of (Loop h w l) s f = part (Loop h w l) l s (inr (inr refl)) f
 
 -- the head of a definition that a row has as its binder is a row
 pub head_below : (R : List Row) → IsFormed R → (o : Option ℕ) → ((b : ℕ) → o ≡ Some b → b < length R) → (h : ℕ) → callee R o ≡ Some h → h < length R

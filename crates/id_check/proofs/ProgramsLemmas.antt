@@ -1,5 +1,6 @@
 -- What holds of a checked program, row by row.
-use Rattle.std.proofs.Common.{◌≡◌, ◌⊎◌, inl, inr, ◌+◌, ◌<◌, ◌≤◌, ℕ, zero, suc, Bool as Truth, true, false, List, [], ◌∷◌, ◌++◌, Option, Some, None, length, refl, ap, sym, ◌∙◌, subst, arith}
+use Rattle.std.proofs.Common.{◌≡◌, ◌⊎◌, inl, inr, ◌+◌, ◌<◌, ◌≤◌, ℕ, zero, suc, Bool as Truth, true, false, List, []}
+use Rattle.std.proofs.Common.{◌∷◌, ◌++◌, Option, Some, None, length, refl, ap, sym, ◌∙◌, subst, arith}
 use Rattle.std.specs.Prelude.{◌&&◌, ◌||◌, not, nat_eq, nat_le, nat_lt, if◌then◌else◌}
 use Rattle.std.specs.Option.{option_or}
 use Rattle.std.proofs.lemmas.Bool.{cases_lt, eqb-true, false≢true, ltb-true}
@@ -19,21 +20,28 @@ use Rattle.id_tree.specs.Tree.{program_tree}
 use Rattle.id_parts.specs.declared.row.Row.{Row}
 use Rattle.id_parts.specs.declared.row.Node.{Node}
 use Rattle.id_parts.specs.declared.row.Node.TheVariants.{Head, Param, Literal, Name, Unary, Binary, Split, If, Enter, Arg, Call, Block, Binding, Def, Program}
-use Rattle.id_parts.specs.Rows.{at, no_row, top}
-use Rattle.id_parts.specs.Tables.{HasOperand, around, is_binder, is_binding, is_block, is_def, is_expression, is_param, is_top}
-use Rattle.id_parts.specs.Regions.{Lies, StandsInside, StandsWith}
-use Rattle.id_parts.specs.Turns.{IsTable, in_block, params_at}
+use Rattle.id_parts.specs.declared.row.Node.TheVariants.{Start, LoopHead, Variable, Entries, Switches, Turn, NextUse, Next, Body, Reset, Loop}
+use Rattle.id_parts.specs.Loops.{IsLoopOf}
+use Rattle.id_parts.specs.Rows.{at, no_row}
+use Rattle.id_parts.specs.Tables.{HasOperand, around, is_binder, is_def, is_expression, is_in_loop, is_param}
+use Rattle.id_parts.specs.Regions.{Lies}
+use Rattle.id_parts.specs.Turns.{IsTable, params_at}
 use Rattle.id_parts.proofs.RegionLemmas.{HasPart-operand}
 use Rattle.id_parts.proofs.TableLemmas.{IsTable-rows_of}
 use Rattle.id_parts.proofs.TreeLemmas.{IsProgramTree-program_tree}
 use Rattle.id_check.specs.declared.cause.CheckCause.TheVariants.{MainKind, TooManyParams, Unknown, WrongCount, WrongKind}
 use Rattle.id_check.specs.declared.checked.Checked.{Checked}
 use Rattle.id_check.specs.declared.cause.CheckCause.{CheckCause}
-use Rattle.id_check.specs.Causes.{array_param, callee, causes_below, causes_in, count_at, count_in, duplicates, head_in, is_count, is_array_param, same_kind, unknown, unless_found, wrong, wrong_argument, wrong_both, wrong_count, wrong_equals, wrong_like, wrong_params}
-use Rattle.id_check.specs.Kinds.{AreKinds, EndsIn, Link, binary_kind, constant_kind, Fixed, To, Nowhere, in_kind, in_nothing, further, link_at, link_of, link_of_name, unary_kind}
-use Rattle.id_check.specs.Programs.{Calls, Stands, binder, kind, rows}
-use Rattle.id_check.specs.Scopes.{binder_by, binder_in, binder_of, binds, bound_name, first_of, held, is_free, is_name, keeps, looks, sees, takes, used_name, user_of}
+use Rattle.id_check.specs.Causes.{array_param, callee, causes_below, causes_in, count_at, count_in, duplicates}
+use Rattle.id_check.specs.Causes.{head_in, is_count, is_array_param, same_kind, unknown, unless_found, wrong}
+use Rattle.id_check.specs.Causes.{wrong_argument, wrong_both, wrong_count, wrong_equals, wrong_like, wrong_params}
+use Rattle.id_check.specs.Kinds.{AreKinds, EndsIn, Link, binary_kind, constant_kind, Fixed, To, Nowhere, in_kind}
+use Rattle.id_check.specs.Kinds.{in_nothing, further, link_at, link_of, link_of_name, unary_kind}
+use Rattle.id_check.specs.Programs.{Calls, Stands, binder, kind, region, rows}
+use Rattle.id_check.specs.Scopes.{binder_by, binder_in, binder_of, binds, bound_name, first_of, held, is_name}
+use Rattle.id_check.specs.Scopes.{is_next_use, keeps, looks, sees, sees_own, takes, used_name, user_of, uses_procedure, uses_value}
 use Rattle.id_check.proofs.ChainsLemmas.{after}
+use Rattle.id_check.proofs.HomesLemmas.{bound_home, home, seen_outside}
 use Rattle.id_check.proofs.LinksLemmas.{link_below, part_of}
 use Rattle.id_check.proofs.ScopesLemmas.{binder_at-below, first_of-some}
 use Rattle.id_parts.proofs.BlocksLemmas.{Among-from_params_at, not_last, param_at}
@@ -118,14 +126,6 @@ none_in P i n h =
 
 -- ---- names
 
--- the name x at the row i has its binder at the row b, and stands where that does, or further in
-pub record IsBoundAt (P : Checked) (i x b : ℕ) : Type 0 where
-  pub binder : binder P i ≡ Some b
-  pub within : b < length (rows P)
-  pub is_binder : is_binder (at (rows P) b).node ≡ true
-  pub name : bound_name (at (rows P) b).node ≡ Some x
-  pub stands : StandsInside (rows P) b i
-
 and_first : (a b : Truth) → (a && b) ≡ true → a ≡ true
 and_first true b e = refl
 and_first false b e = e
@@ -145,105 +145,149 @@ named : (x : ℕ) (o : Option ℕ) → is_name x o ≡ true → o ≡ Some x
 named x None e = let d : false ≡ true = e in cc
 named x (Some y) e = let f : y ≡ x = grind (arith, nat_tests) in ap (λ z. Some z) f
 
--- what a scope that looks for names takes is a binder
-taken_binder : (m n : Node) (x : ℕ) → looks m (Name x) ≡ true → takes m n ≡ true → is_binder n ≡ true
-taken_binder (Block b) (Binding y a) x e f = refl
-taken_binder (Def z h k b) (Param y j) x e f = refl
-taken_binder (Block b) n x e f = other n f
-  where
-    other : (n : Node) → is_binding n ≡ true → is_binder n ≡ true
-    other (Binding y a) g = refl
-    other _ g = absurd (false≢true g)
-taken_binder (Def z h k b) n x e f = other n f
-  where
-    other : (n : Node) → is_param n ≡ true → is_binder n ≡ true
-    other (Param y j) g = refl
-    other _ g = absurd (false≢true g)
-taken_binder _ n x e f = absurd (false≢true e)
-
-looks_any : (m : Node) (x : ℕ) → looks m (Name x) ≡ true → looks m (Name 0) ≡ true
-looks_any (Block b) x e = refl
-looks_any (Def z h k b) x e = refl
-looks_any _ x e = absurd (false≢true e)
-
--- ---- what a scope binds stands right in it
-
-takes_block : (m : Node) (y a : ℕ) → takes m (Binding y a) ≡ is_block m
-takes_block (Block b) y a = refl
-takes_block (Def x h k b) y a = refl
-takes_block Program y a = refl
-takes_block _ y a = refl
-
--- of a binding, scopes are blocks
-held_block : (R : List Row) (b n y a : ℕ) → (at R b).node ≡ Binding y a → held R b n ≡ in_block R b n
-held_block R b zero y a e = refl
-held_block R b (suc s) y a e =
-    ap (λ z. z || keeps R s b) (held_block R b s y a e)
-    ∙ ap (λ z. in_block R b s || (z && around R s b)) (ap (takes (at R s).node) e ∙ takes_block (at R s).node y a)
-
 not_true : (t : Truth) → not t ≡ true → t ≡ false
 not_true true e = cc
 not_true false e = refl
 
-bound_stands : (R : List Row) → IsTable R → (s x b : ℕ) → s + 1 < length R → looks (at R s).node (Name x) ≡ true → takes (at R s).node (at R b).node ≡ true
-    → around R s b ≡ true → held R b s ≡ false → StandsWith R s b
-bound_stands R t s x b inner look take inside free = by (at R s).node (at R b).node refl refl look take
+-- the row i sees the row b, which binds x, in the scope s
+pub record IsSeenIn (R : List Row) (i x b s : ℕ) : Type 0 where
+  pub within : s < length R
+  pub look : looks (at R s).node (at R i).node ≡ true
+  pub round : around R s i ≡ true
+  pub out : (sees_own (at R i).node || held R i s) ≡ true
+  pub taken : takes (at R s).node (at R b).node ≡ true
+  pub inside : around R s b ≡ true
+  pub bare : held R b s ≡ false
+  pub name : bound_name (at R b).node ≡ Some x
+
+-- a binder is seen in a scope
+pub seen_in : (P : Checked) (i x b : ℕ) (n : Node) → Stands P i n → used_name n ≡ Some x → binder P i ≡ Some b → (s : ℕ) × IsSeenIn (rows P) i x b s
+seen_in P i x b n h u e = (
+  s,
+  record {
+    within = v.1;
+    look = and_first (looks (at R s).node (at R i).node) (around R s i) sight;
+    round = and_second (looks (at R s).node (at R i).node) (around R s i) sight;
+    out = and_second (looks (at R s).node (at R i).node && around R s i) (sees_own (at R i).node || held R i s) w.0;
+    taken = and_first (takes (at R s).node (at R b).node) (around R s b) kept;
+    inside = and_second (takes (at R s).node (at R b).node) (around R s b) kept;
+    bare = not_true (held R b s) (and_second (keeps R s b) (not (held R b s)) free);
+    name = named x (bound_name (at R b).node) (and_second (keeps R s b && not (held R b s)) (is_name x (bound_name (at R b).node)) it);
+  },
+)
   where
-    less : s < length R
-    less = omega arith
+    R : List Row
+    R = rows P
 
-    within : b < length R
-    within = let w = ltb-true b s (and_second (nat_le (at R s).first b) (nat_lt b s) inside) in omega arith
+    means : binder_of R x i (length R) ≡ Some b
+    means = sym (ap (λ m. binder_by R i (used_name m) (length R)) h.node ∙ ap (λ o. binder_by R i o (length R)) u) ∙ (sym (P.bound.each i h.within) ∙ e)
 
-    by : (m n : Node) → (at R s).node ≡ m → (at R b).node ≡ n → looks m (Name x) ≡ true → takes m n ≡ true → StandsWith R s b
-    by (Block c) (Binding y a) f g l k =
-        t.statement_stands s b less (record { block = ap is_block f; binding = ap is_binding g; inside = inside; right = sym (held_block R b s y a g) ∙ free })
-    by (Def y h j c) (Param z k) f g l e =
-        let near = t.inside s b inner inside in
-        (near.0, t.at_top b within (ap is_top g) ∙ ap top near.0 ∙ sym (t.at_top s less (ap is_top f)))
-    by (Block c) n f g l k = absurd (false≢true k)
-    by (Def y h j c) n f g l k = absurd (false≢true k)
-    by _ n f g l k = absurd (false≢true l)
+    v : (s : ℕ) × (s < length R) × ((if sees R s i then binder_in R s x s else None) ≡ Some b)
+    v = first_of-some (λ s. if sees R s i then binder_in R s x s else None) (length R) b means
+
+    s : ℕ
+    s = v.0
+
+    w : (sees R s i ≡ true) × (binder_in R s x s ≡ Some b)
+    w = if_some (sees R s i) (binder_in R s x s) b v.2
+
+    it : binds R s x b ≡ true
+    it =
+        let k = first_of-some (λ k. if binds R s x k then Some k else None) s b w.1 in
+        let t = if_some (binds R s x k.0) (Some k.0) b k.2 in
+        subst (λ z. binds R s x z ≡ true) (same_some k.0 b t.1) t.0
+
+    free : (keeps R s b && not (held R b s)) ≡ true
+    free = and_first (keeps R s b && not (held R b s)) (is_name x (bound_name (at R b).node)) it
+
+    kept : keeps R s b ≡ true
+    kept = and_first (keeps R s b) (not (held R b s)) free
+
+    sight : (looks (at R s).node (at R i).node && around R s i) ≡ true
+    sight = and_first (looks (at R s).node (at R i).node && around R s i) (sees_own (at R i).node || held R i s) w.0
+
+-- what a scope that looks for names of values takes and binds a name is a binder
+taken_binder : (m n : Node) (x : ℕ) → looks m (Name 0) ≡ true → takes m n ≡ true → bound_name n ≡ Some x → is_binder n ≡ true
+taken_binder (Block b) (Binding y a) x e f g = refl
+taken_binder Body (Binding y a) x e f g = refl
+taken_binder Body (Next y k o v) x e f g = refl
+taken_binder (Loop h w l) (Next y k o v) x e f g = refl
+taken_binder (Loop h w l) (NextUse y) x e f g = let d : None ≡ Some x = g in cc
+taken_binder (Def z h k b) (Param y j) x e f g = refl
+taken_binder (Block b) n x e f g = absurd (false≢true f)
+taken_binder Body n x e f g = absurd (false≢true f)
+taken_binder (Loop h w l) n x e f g = absurd (false≢true f)
+taken_binder (Def z h k b) n x e f g = absurd (false≢true f)
+taken_binder _ n x e f g = absurd (false≢true e)
+
+looks_any : (m n : Node) → uses_value n ≡ true → looks m n ≡ true → looks m (Name 0) ≡ true
+looks_any (Block b) n u e = refl
+looks_any Body n u e = refl
+looks_any (Loop h w l) n u e = refl
+looks_any (Def z h k b) n u e = refl
+looks_any Program n u e = absurd (false≢true (sym (no_procedure n u) ∙ e))
+  where
+    no_procedure : (n : Node) → uses_value n ≡ true → uses_procedure n ≡ false
+    no_procedure (Name x) e = refl
+    no_procedure (NextUse x) e = refl
+    no_procedure _ e = absurd (false≢true e)
+looks_any _ n u e = absurd (false≢true e)
+
+-- the name x that the row i uses has its binder at the row b, whose value is at home where the row j stands, or further
+-- out
+pub record IsBoundAt (P : Checked) (i x b j : ℕ) : Type 0 where
+  pub binder : binder P i ≡ Some b
+  pub within : b < length (rows P)
+  pub is_binder : is_binder (at (rows P) b).node ≡ true
+  pub name : bound_name (at (rows P) b).node ≡ Some x
+  pub stands : Lies (rows P) (home (rows P) b) (region P j)
+
+-- the binder is so where its scope is round j
+bound_at : (P : Checked) (i x b j s : ℕ) (n : Node) → Stands P i n → uses_value n ≡ true → binder P i ≡ Some b → IsSeenIn (rows P) i x b s
+    → around (rows P) s j ≡ true
+    → ((at (rows P) j).node ≡ Start → ⊥) → IsBoundAt P i x b j
+bound_at P i x b j s n h u e w round other =
+    let look = looks_any (at (rows P) s).node (at (rows P) i).node (ap uses_value h.node ∙ u) w.look in
+    record {
+      binder = e;
+      within = binder_below P i b h.within e;
+      is_binder = taken_binder (at (rows P) s).node (at (rows P) b).node x look w.taken w.name;
+      name = w.name;
+      stands = bound_home (rows P) (table_of P) s b j x (not_last (rows P) (table_of P) (λ m. looks m (Name 0)) refl s w.within look) look w.taken w.name w.inside w.bare round other;
+    }
+
+has_binder : (P : Checked) (i : ℕ) (n : Node) → Stands P i n
+    → causes_in (rows P) (kind P) (binder P (user_of i n)) (at (rows P) i).place n ≡ unknown (binder P i) (at (rows P) i).place
+    → (b : ℕ) × (binder P i ≡ Some b)
+has_binder P i n h e = by (binder P i) refl (sym e ∙ none_in P i n h)
+  where
+    by : (o : Option ℕ) → binder P i ≡ o → unknown o (at (rows P) i).place ≡ [] → (b : ℕ) × (binder P i ≡ Some b)
+    by None e f = let d : Unknown (at (rows P) i).place ∷ [] ≡ [] = f in cc
+    by (Some b) e f = (b, e)
 
 -- a name of a checked program has a binder
-pub bound_name_row : (P : Checked) (i x : ℕ) → Stands P i (Name x) → (b : ℕ) × IsBoundAt P i x b
-bound_name_row P i x h = by (binder P i) refl (none_in P i (Name x) h)
-  where
-    found : (b : ℕ) → binder P i ≡ Some b → IsBoundAt P i x b
-    found b e =
-        let means : binder_of (rows P) x i (length (rows P)) ≡ Some b = sym (ap (λ n. binder_by (rows P) i (used_name n) (length (rows P))) h.node) ∙ (sym (P.bound.each i h.within) ∙ e) in
-        let v = first_of-some (λ s. if sees (rows P) s i then binder_in (rows P) s x s else None) (length (rows P)) b means in
-        let s = v.0 in
-        let w = if_some (sees (rows P) s i) (binder_in (rows P) s x s) b v.2 in
-        let u = first_of-some (λ k. if binds (rows P) s x k then Some k else None) s b w.1 in
-        let t = if_some (binds (rows P) s x u.0) (Some u.0) b u.2 in
-        let it : binds (rows P) s x b ≡ true = subst (λ k. binds (rows P) s x k ≡ true) (same_some u.0 b t.1) t.0 in
-        let free = and_first (keeps (rows P) s b && not (held (rows P) b s)) (is_name x (bound_name (at (rows P) b).node)) it in
-        let kept = and_first (keeps (rows P) s b) (not (held (rows P) b s)) free in
-        let sight = and_first (looks (at (rows P) s).node (at (rows P) i).node && around (rows P) s i) (is_free (bound_name (at (rows P) i).node) || held (rows P) i s) w.0 in
-        let look : looks (at (rows P) s).node (Name x) ≡ true = sym (ap (looks (at (rows P) s).node) h.node) ∙ and_first (looks (at (rows P) s).node (at (rows P) i).node) (around (rows P) s i) sight in
-        let inner : s + 1 < length (rows P) = not_last (rows P) (table_of P) (λ n. looks n (Name 0)) refl s v.1 (looks_any (at (rows P) s).node x look) in
-        let near = (table_of P).inside s i inner (and_second (looks (at (rows P) s).node (at (rows P) i).node) (around (rows P) s i) sight) in
-        let taken = and_first (takes (at (rows P) s).node (at (rows P) b).node) (around (rows P) s b) kept in
-        let inside = and_second (takes (at (rows P) s).node (at (rows P) b).node) (around (rows P) s b) kept in
-        let bare = not_true (held (rows P) b s) (and_second (keeps (rows P) s b) (not (held (rows P) b s)) free) in
-        let bind = bound_stands (rows P) (table_of P) s x b inner look taken inside bare in
-        record {
-          binder = e;
-          within = binder_below P i b h.within e;
-          is_binder = taken_binder (at (rows P) s).node (at (rows P) b).node x look taken;
-          name = named x (bound_name (at (rows P) b).node) (and_second (keeps (rows P) s b && not (held (rows P) b s)) (is_name x (bound_name (at (rows P) b).node)) it);
-          stands = (near.0 ∙ sym bind.0, subst (λ r. Lies (rows P) r (at (rows P) i).region) (sym bind.1) near.1);
-        }
+pub bound_name_row : (P : Checked) (i x : ℕ) → Stands P i (Name x) → (b : ℕ) × IsBoundAt P i x b i
+bound_name_row P i x h =
+    let e = has_binder P i (Name x) h refl in
+    let w = seen_in P i x e.0 (Name x) h refl e.1 in
+    (e.0, bound_at P i x e.0 i w.0 (Name x) h refl e.1 w.1 (w.1).round (λ f. absurd (false≢true (sym (ap is_expression f) ∙ ap is_expression h.node))))
 
-    by : (o : Option ℕ) → binder P i ≡ o → unknown o (at (rows P) i).place ≡ [] → (b : ℕ) × IsBoundAt P i x b
-    by None e f = let d : Unknown (at (rows P) i).place ∷ [] ≡ [] = f in cc
-    by (Some b) e f = (b, found b e)
+-- and so has a loop's variable outside of the loop
+pub bound_use_row : (P : Checked) (o x : ℕ) → Stands P o (NextUse x) → (b : ℕ) × (n : ℕ) × IsLoopOf (rows P) n (at (rows P) o).block × IsBoundAt P o x b n
+bound_use_row P o x h =
+    let e = has_binder P o (NextUse x) h refl in
+    let w = seen_in P o x e.0 (NextUse x) h refl e.1 in
+    let l = (table_of P).loop_of o h.within (ap is_in_loop h.node) in
+    let s = seen_outside (rows P) (table_of P) o x l.0 w.0 h.node (not_last (rows P) (table_of P) is_in_loop refl o h.within (ap is_in_loop h.node)) l.1 l.2 (w.1).within (w.1).round
+    (subst (λ m. (sees_own m || held (rows P) o w.0) ≡ true) h.node (w.1).out) in
+    (e.0, l.0, l.1, bound_at P o x e.0 l.0 w.0 (NextUse x) h refl e.1 w.1 s (λ f. absurd (false≢true (sym (ap is_expression f) ∙ ap is_expression (l.1).node))))
 
 -- what takes the names of procedures takes definitions
 taken_def : (m n : Node) (x : ℕ) → looks m (Enter x) ≡ true → takes m n ≡ true → is_def n ≡ true
 taken_def Program n x e f = f
 taken_def (Block b) n x e f = absurd (false≢true e)
+taken_def Body n x e f = absurd (false≢true e)
+taken_def (Loop h w l) n x e f = absurd (false≢true e)
 taken_def (Def z h k b) n x e f = absurd (false≢true e)
 taken_def _ n x e f = absurd (false≢true e)
 
@@ -253,39 +297,24 @@ def_named _ x e f = absurd (false≢true e)
 
 -- the `Enter` of a call in a checked program has the definition of its procedure as binder
 pub enter_row : (P : Checked) (e x : ℕ) → Stands P e (Enter x) → (d : ℕ) × (h : ℕ) × Calls P e d h
-enter_row P i x h = by (binder P i) refl (none_in P i (Enter x) h)
-  where
-    found : (b : ℕ) → binder P i ≡ Some b → (d : ℕ) × (g : ℕ) × Calls P i d g
-    found b e =
-        let means : binder_of (rows P) x i (length (rows P)) ≡ Some b = sym (ap (λ n. binder_by (rows P) i (used_name n) (length (rows P))) h.node) ∙ (sym (P.bound.each i h.within) ∙ e) in
-        let v = first_of-some (λ s. if sees (rows P) s i then binder_in (rows P) s x s else None) (length (rows P)) b means in
-        let s = v.0 in
-        let w = if_some (sees (rows P) s i) (binder_in (rows P) s x s) b v.2 in
-        let u = first_of-some (λ k. if binds (rows P) s x k then Some k else None) s b w.1 in
-        let t = if_some (binds (rows P) s x u.0) (Some u.0) b u.2 in
-        let it : binds (rows P) s x b ≡ true = subst (λ k. binds (rows P) s x k ≡ true) (same_some u.0 b t.1) t.0 in
-        let free = and_first (keeps (rows P) s b && not (held (rows P) b s)) (is_name x (bound_name (at (rows P) b).node)) it in
-        let kept = and_first (keeps (rows P) s b) (not (held (rows P) b s)) free in
-        let sight = and_first (looks (at (rows P) s).node (at (rows P) i).node && around (rows P) s i) (is_free (bound_name (at (rows P) i).node) || held (rows P) i s) w.0 in
-        let look : looks (at (rows P) s).node (Enter x) ≡ true = sym (ap (looks (at (rows P) s).node) h.node) ∙ and_first (looks (at (rows P) s).node (at (rows P) i).node) (around (rows P) s i) sight in
-        let taken = and_first (takes (at (rows P) s).node (at (rows P) b).node) (around (rows P) s b) kept in
-        let name = named x (bound_name (at (rows P) b).node) (and_second (keeps (rows P) s b && not (held (rows P) b s)) (is_name x (bound_name (at (rows P) b).node)) it) in
-        let d = def_named (at (rows P) b).node x (taken_def (at (rows P) s).node (at (rows P) b).node x look taken) name in (
-          b,
-          d.0,
-          record {
-            name = x;
-            result = d.1;
-            body = d.2;
-            enter = h;
-            binder = e;
-            definition = record { within = binder_below P i b h.within e; node = d.3 };
-          },
-        )
-
-    by : (o : Option ℕ) → binder P i ≡ o → unknown o (at (rows P) i).place ≡ [] → (d : ℕ) × (g : ℕ) × Calls P i d g
-    by None e f = let d : Unknown (at (rows P) i).place ∷ [] ≡ [] = f in cc
-    by (Some b) e f = found b e
+enter_row P i x h =
+    let e = has_binder P i (Enter x) h refl in
+    let b = e.0 in
+    let v = seen_in P i x b (Enter x) h refl e.1 in
+    let w = v.1 in
+    let look : looks (at (rows P) v.0).node (Enter x) ≡ true = sym (ap (looks (at (rows P) v.0).node) h.node) ∙ w.look in
+    let d = def_named (at (rows P) b).node x (taken_def (at (rows P) v.0).node (at (rows P) b).node x look w.taken) w.name in (
+      b,
+      d.0,
+      record {
+        name = x;
+        result = d.1;
+        body = d.2;
+        enter = h;
+        binder = e.1;
+        definition = record { within = binder_below P i b h.within e.1; node = d.3 };
+      },
+    )
 
 -- and so has that of each call
 pub callee_row : (P : Checked) (i e c : ℕ) → Stands P i (Call e c) → (d : ℕ) × (h : ℕ) × Calls P e d h
@@ -302,7 +331,7 @@ part_row P i a n h e =
 
 -- a kind is given to a row of this node
 abbrev IsValued : Node → Type 0
-IsValued n = (is_expression n || (is_binder n || is_def n)) ≡ true
+IsValued n = (is_expression n || (is_binder n || (is_def n || is_next_use n))) ≡ true
 
 or_left : (a b : Truth) → a ≡ true → (a || b) ≡ true
 or_left true b e = refl
@@ -313,13 +342,18 @@ or_right true b e = refl
 or_right false b e = e
 
 valued_expression : (n : Node) → is_expression n ≡ true → IsValued n
-valued_expression n e = or_left (is_expression n) (is_binder n || is_def n) e
+valued_expression n e = or_left (is_expression n) (is_binder n || (is_def n || is_next_use n)) e
 
 valued_binder : (n : Node) → is_binder n ≡ true → IsValued n
-valued_binder n e = or_right (is_expression n) (is_binder n || is_def n) (or_left (is_binder n) (is_def n) e)
+valued_binder n e = or_right (is_expression n) (is_binder n || (is_def n || is_next_use n)) (or_left (is_binder n) (is_def n || is_next_use n) e)
 
 valued_def : (n : Node) → is_def n ≡ true → IsValued n
-valued_def n e = or_right (is_expression n) (is_binder n || is_def n) (or_right (is_binder n) (is_def n) e)
+valued_def n e =
+    or_right (is_expression n) (is_binder n || (is_def n || is_next_use n)) (or_right (is_binder n) (is_def n || is_next_use n) (or_left (is_def n) (is_next_use n) e))
+
+valued_use : (n : Node) → is_next_use n ≡ true → IsValued n
+valued_use n e =
+    or_right (is_expression n) (is_binder n || (is_def n || is_next_use n)) (or_right (is_binder n) (is_def n || is_next_use n) (or_right (is_def n) (is_next_use n) e))
 
 to_same : (a b : ℕ) → To a ≡ To b → a ≡ b
 to_same a b e = cc
@@ -344,6 +378,25 @@ nowhere P i (Call s c) h v e =
     let d : To w.0 ≡ Nowhere = sym (ap link_of_name w.2.binder) ∙ e in cc
 nowhere P i (Block b) h v e = let d : To b ≡ Nowhere = e in cc
 nowhere P i (Binding x a) h v e = let d : To a ≡ Nowhere = e in cc
+nowhere P i (NextUse x) h v e =
+    let w = bound_use_row P i x h in
+    let d : To w.0 ≡ Nowhere = sym (ap link_of_name (w.3).binder) ∙ e in cc
+nowhere P i (Next x k o a) h v e = let d : To o ≡ Nowhere = e in cc
+nowhere P i (Loop g w l) h v e = let d : To l ≡ Nowhere = e in cc
+nowhere P i Start h v e = false≢true v
+nowhere P i (LoopHead s) h v e = false≢true v
+nowhere P i Variable h v e = false≢true v
+nowhere P i Entries h v e = false≢true v
+nowhere P i (Switches t) h v e = false≢true v
+nowhere P i Turn h v e = false≢true v
+nowhere P i Body h v e = false≢true v
+nowhere P i (Reset a) h v e = false≢true v
+
+-- the use of a first value stands before its `next`
+pub next_use_row : (P : Checked) (m x k o v : ℕ) → Stands P m (Next x k o v) → Stands P o (NextUse x)
+next_use_row P m x k o v h =
+    let q = (table_of P).next_in m (at (rows P) m).block k x (record { outer = o; value = v; within = h.within; block = refl; node = h.node }) in
+    record { within = part_of o P.table.formed h.within h.node (inl refl); node = (q.2).outer }
 
 -- a chain goes on to a row that gives a value
 goes : (P : Checked) (i j : ℕ) (n : Node) → Stands P i n → link_in P i n ≡ To j → (j < length (rows P)) × IsValued (at (rows P) j).node
@@ -375,9 +428,28 @@ goes P i j (Block b) h e =
 goes P i j (Binding x b) h e =
     let w = part_row P i b (Binding x b) h refl in
     subst (λ a. (a < length (rows P)) × IsValued (at (rows P) a).node) (to_same b j e) (w.0, valued_expression (at (rows P) b).node w.1)
+goes P i j (NextUse x) h e =
+    let w = bound_use_row P i x h in
+    let same : w.0 ≡ j = to_same w.0 j (sym (ap link_of_name (w.3).binder) ∙ e) in
+    subst (λ b. (b < length (rows P)) × IsValued (at (rows P) b).node) same ((w.3).within, valued_binder (at (rows P) w.0).node (w.3).is_binder)
+goes P i j (Next x k o v) h e =
+    let w = next_use_row P i x k o v h in
+    subst (λ b. (b < length (rows P)) × IsValued (at (rows P) b).node) (to_same o j e) (w.within, valued_use (at (rows P) o).node (ap is_next_use w.node))
+goes P i j (Loop g w l) h e =
+    let z = part_row P i l (Loop g w l) h refl in
+    subst (λ a. (a < length (rows P)) × IsValued (at (rows P) a).node) (to_same l j e) (z.0, valued_expression (at (rows P) l).node z.1)
+goes P i j Start h e = let d : Nowhere ≡ To j = e in cc
+goes P i j (LoopHead s) h e = let d : Nowhere ≡ To j = e in cc
+goes P i j Variable h e = let d : Nowhere ≡ To j = e in cc
+goes P i j Entries h e = let d : Nowhere ≡ To j = e in cc
+goes P i j (Switches t) h e = let d : Nowhere ≡ To j = e in cc
+goes P i j Turn h e = let d : Nowhere ≡ To j = e in cc
+goes P i j Body h e = let d : Nowhere ≡ To j = e in cc
+goes P i j (Reset a) h e = let d : Nowhere ≡ To j = e in cc
 
 -- its chain ends in a kind, if it ends
-no_nothing : (P : Checked) (i : ℕ) (o : Option Kind) → EndsIn (link_at (rows P) (binder P)) i o → o ≡ None → i < length (rows P) → IsValued (at (rows P) i).node → ⊥
+no_nothing : (P : Checked) (i : ℕ) (o : Option Kind) → EndsIn (link_at (rows P) (binder P)) i o → o ≡ None → i < length (rows P)
+    → IsValued (at (rows P) i).node → ⊥
 no_nothing P i _ (in_kind k e) f less v = let d : Some k ≡ None = f in cc
 no_nothing P i _ (in_nothing e) f less v = nowhere P i (at (rows P) i).node (record { within = less; node = refl }) v e
 no_nothing P i o (further j e g) f less v =
@@ -411,7 +483,8 @@ same_is Array Int e = absurd (false≢true e)
 same_is Array Bool e = absurd (false≢true e)
 
 -- an expression of which a kind is wanted has it, where there is no cause
-wanted_kind : (P : Checked) (k : Kind) (a : ℕ) → a < length (rows P) → is_expression (at (rows P) a).node ≡ true → wrong (rows P) (kind P) k a ≡ [] → kind P a ≡ Some k
+wanted_kind : (P : Checked) (k : Kind) (a : ℕ) → a < length (rows P) → is_expression (at (rows P) a).node ≡ true → wrong (rows P) (kind P) k a ≡ []
+    → kind P a ≡ Some k
 wanted_kind P k a less e f =
     let w = has_kind P a less e in
     w.1 ∙ ap (λ z. Some z) (same_is w.0 k (by (same_kind w.0 k) (sym (ap (λ o. unless_found k o (at (rows P) a).place) w.1) ∙ f)))
@@ -424,7 +497,8 @@ wanted_kind P k a less e f =
 pub unary_row : (P : Checked) (i a : ℕ) (p : UnaryOp) → Stands P i (Unary p a) → kind P a ≡ Some (unary_kind p)
 unary_row P i a p h = let w = part_row P i a (Unary p a) h refl in wanted_kind P (unary_kind p) a w.0 w.1 (none_in P i (Unary p a) h)
 
-both_wanted : (P : Checked) (i a b : ℕ) (p : BinaryOp) (k : Kind) → Stands P i (Binary p a b) → wrong_both (rows P) (kind P) k a b ≡ [] → (kind P a ≡ Some k) × (kind P b ≡ Some k)
+both_wanted : (P : Checked) (i a b : ℕ) (p : BinaryOp) (k : Kind) → Stands P i (Binary p a b) → wrong_both (rows P) (kind P) k a b ≡ []
+    → (kind P a ≡ Some k) × (kind P b ≡ Some k)
 both_wanted P i a b p k h e =
     let v = part_row P i a (Binary p a b) h (inl refl) in
     let w = part_row P i b (Binary p a b) h (inr refl) in
@@ -446,7 +520,8 @@ is_equality Ne = true
 is_equality _ = false
 
 -- those of the other comparisons are numbers
-pub order_row : (P : Checked) (i a b : ℕ) (o : Comparison) → is_equality o ≡ false → Stands P i (Binary (class.Comparison o) a b) → (kind P a ≡ Some Int) × (kind P b ≡ Some Int)
+pub order_row : (P : Checked) (i a b : ℕ) (o : Comparison) → is_equality o ≡ false → Stands P i (Binary (class.Comparison o) a b)
+    → (kind P a ≡ Some Int) × (kind P b ≡ Some Int)
 order_row P i a b Lt e h = both_wanted P i a b (class.Comparison Lt) Int h (none_in P i (Binary (class.Comparison Lt) a b) h)
 order_row P i a b Le e h = both_wanted P i a b (class.Comparison Le) Int h (none_in P i (Binary (class.Comparison Le) a b) h)
 order_row P i a b Gt e h = both_wanted P i a b (class.Comparison Gt) Int h (none_in P i (Binary (class.Comparison Gt) a b) h)
@@ -499,6 +574,33 @@ if_row P i s x y h = (sym along, other ∙ sym along)
     other =
         let w = part_row P i y (If s x y) h (inr refl) in
         wanted_kind P first.0 y w.0 w.1 (sym (ap (λ o. wrong_like (rows P) (kind P) o y) first.1) ∙ none_in P i (If s x y) h) ∙ sym first.1
+
+-- ---- loops
+
+-- the predicate of a loop is a truth value
+pub switches_row : (P : Checked) (w t : ℕ) → Stands P w (Switches t) → kind P t ≡ Some Bool
+switches_row P w t h = let z = part_row P w t (Switches t) h refl in wanted_kind P Bool t z.0 z.1 (none_in P w (Switches t) h)
+
+-- a loop has the kind of its last expression
+pub loop_row : (P : Checked) (n h w l : ℕ) → Stands P n (Loop h w l) → kind P n ≡ kind P l
+loop_row P n h w l s = kind_along P n l (Loop h w l) s refl
+
+-- a loop's variable has the kind of what its name means outside, and so has what it is next
+pub next_row : (P : Checked) (m x k o v : ℕ) → Stands P m (Next x k o v)
+    → (b : ℕ) × (n : ℕ) × IsLoopOf (rows P) n (at (rows P) o).block × IsBoundAt P o x b n × (kind P m ≡ kind P b) × (kind P v ≡ kind P m)
+next_row P m x k o v h =
+    let u = next_use_row P m x k o v h in
+    let w = bound_use_row P o x u in
+    let along = kind_along P m o (Next x k o v) h refl in
+    let first = binder_has_kind P m h.within (ap is_binder h.node) in
+    let z = part_row P m v (Next x k o v) h refl in (
+      w.0,
+      w.1,
+      w.2,
+      w.3,
+      along ∙ kind_along P o w.0 (NextUse x) u (ap link_of_name (w.3).binder),
+      wanted_kind P first.0 v z.0 z.1 (sym (ap (λ q. wrong_like (rows P) (kind P) q v) (sym along ∙ first.1)) ∙ none_in P m (Next x k o v) h) ∙ sym first.1,
+    )
 
 -- ---- calls
 
@@ -608,7 +710,8 @@ argument_row P m e k v d h s w = (param, same)
 
 -- ---- definitions
 
-def_none : (P : Checked) (i x d b : ℕ) (k : Kind) → Stands P i (Def x d k b) → (wrong (rows P) (kind P) k b ≡ []) × (wrong_params (rows P) x (at (rows P) i).place (params_at (rows P) d) ≡ [])
+def_none : (P : Checked) (i x d b : ℕ) (k : Kind) → Stands P i (Def x d k b)
+    → (wrong (rows P) (kind P) k b ≡ []) × (wrong_params (rows P) x (at (rows P) i).place (params_at (rows P) d) ≡ [])
 def_none P i x d b k h = both_nil (wrong (rows P) (kind P) k b) (wrong_params (rows P) x (at (rows P) i).place (params_at (rows P) d)) (none_in P i (Def x d k b) h)
 
 -- the body of a definition has the kind of its result
@@ -638,6 +741,7 @@ few_params P i x d b k h =
     by (nat_lt 16 (length (params_at (rows P) d))) refl
     (both_nil (if nat_eq x 0 then array_param (rows P) (params_at (rows P) d) else []) (if nat_lt 16 (length (params_at (rows P) d)) then (TooManyParams (at (rows P) i).place ∷ []) else []) (def_none P i x d b k h).1).1
   where
-    by : (t : Truth) → nat_lt 16 (length (params_at (rows P) d)) ≡ t → (if t then (TooManyParams (at (rows P) i).place ∷ []) else []) ≡ [] → length (params_at (rows P) d) ≤ 16
+    by : (t : Truth) → nat_lt 16 (length (params_at (rows P) d)) ≡ t → (if t then (TooManyParams (at (rows P) i).place ∷ []) else []) ≡ []
+        → length (params_at (rows P) d) ≤ 16
     by true e f = cc
     by false e f = grind (arith, nat_tests)

@@ -1,16 +1,19 @@
 -- Which rows a scope holds, and what one more scope changes.
-use Rattle.std.proofs.Common.{◌≡◌, ◌<◌, ◌≤◌, ℕ, zero, suc, Bool, true, false, not, nat_le, nat_lt, List, [], ◌++◌, Option, Some, None, refl, ap, sym, ◌∙◌, subst, append-nil, arith}
+use Rattle.std.proofs.Common.{◌≡◌, ◌<◌, ◌≤◌, ℕ, zero, suc, Bool, true, false, not, nat_le, nat_lt, List, [], ◌++◌}
+use Rattle.std.proofs.Common.{Option, Some, None, refl, ap, sym, ◌∙◌, subst, append-nil, arith}
 use Rattle.std.specs.Prelude.{◌&&◌, ◌||◌, if◌then◌else◌}
 use Rattle.std.specs.Option.{option_or}
+use Rattle.std.proofs.lemmas.Bool.{false≢true}
 use Rattle.std.proofs.lemmas.Bool.Decides.{nat_tests}
 use Rattle.id_parts.specs.declared.row.Row.{Row}
 use Rattle.id_parts.specs.Rows.{at}
-use Rattle.id_parts.specs.Tables.{around, is_binding, is_def, is_param}
+use Rattle.id_parts.specs.Tables.{around, is_binding, is_def, is_next, is_param}
 use Rattle.id_check.specs.declared.cause.CheckCause.{CheckCause}
 use Rattle.id_parts.specs.declared.row.Node.{Node}
-use Rattle.id_parts.specs.declared.row.Node.TheVariants.{Param, Block, Binding, Def, Program}
+use Rattle.id_parts.specs.declared.row.Node.TheVariants.{Param, Block, Binding, Def, Program, NextUse, Next, Body, Loop}
 use Rattle.id_check.specs.Names.{seen}
-use Rattle.id_check.specs.Scopes.{is_free, keeps, looks, sees, takes, binder_at, binder_by, binder_in, binder_of, binds, bound_name, first_of, held, is_name, is_scope, used_name}
+use Rattle.id_check.specs.Scopes.{closes, confines, is_free, is_next_use, keeps, looks, sees, sees_own, takes}
+use Rattle.id_check.specs.Scopes.{binder_at, binder_by, binder_in, binder_of, binds, bound_name, first_of, held, is_name, is_scope, used_name}
 use Rattle.id_check.specs.Causes.{repeated, second, seconds}
 
 -- ---- tests
@@ -82,35 +85,65 @@ keeps_not R s b e = no_scope (takes (at R s).node (at R b).node) (at R s).first 
 
 takes-none : (m n : Node) → is_scope m ≡ false → takes m n ≡ false
 takes-none (Block b) n e = cc
+takes-none Body n e = cc
+takes-none (Loop h w l) n e = cc
 takes-none (Def x h k b) n e = cc
 takes-none Program n e = cc
 takes-none _ n e = refl
 
-takes-neither : (m n : Node) → is_binding n ≡ false → is_param n ≡ false → is_def n ≡ false → takes m n ≡ false
-takes-neither (Block b) n e f g = e
-takes-neither (Def x h k b) n e f g = f
-takes-neither Program n e f g = g
-takes-neither _ n e f g = refl
+takes-neither : (m n : Node) → is_binding n ≡ false → is_param n ≡ false → is_def n ≡ false → is_next n ≡ false → is_next_use n ≡ false → takes m n ≡ false
+takes-neither (Block b) n e f g i j = e
+takes-neither Body n e f g i j = ap (λ t. t || is_next n) e ∙ i
+takes-neither (Loop h w l) n e f g i j = ap (λ t. t || is_next_use n) i ∙ j
+takes-neither (Def x h k b) n e f g i j = f
+takes-neither Program n e f g i j = g
+takes-neither _ n e f g i j = refl
 
--- what binds no name is in no scope
-takes-unbound : (m n : Node) → bound_name n ≡ None → takes m n ≡ false
-takes-unbound m (Param x k) e = let d : Some x ≡ None = e in cc
-takes-unbound m (Binding x a) e = let d : Some x ≡ None = e in cc
-takes-unbound m (Def x h k b) e = let d : Some x ≡ None = e in cc
-takes-unbound m n e = takes-neither m n refl refl refl
+-- what sees its own scope is in none
+takes-own : (m n : Node) → sees_own n ≡ true → takes m n ≡ false
+takes-own m (Param x k) e = absurd (false≢true e)
+takes-own m (Binding x a) e = absurd (false≢true e)
+takes-own m (Next x k o v) e = absurd (false≢true e)
+takes-own m (NextUse x) e = absurd (false≢true e)
+takes-own m (Def x h k b) e = absurd (false≢true e)
+takes-own m n e = takes-neither m n refl refl refl refl refl
+
+or_left : (a b : Bool) → (a || b) ≡ false → a ≡ false
+or_left true b e = e
+or_left false b e = refl
+
+-- what a part closes it takes
+closes-none : (m n : Node) → takes m n ≡ false → closes m n ≡ false
+closes-none Body n e = or_left (is_binding n) (is_next n) e
+closes-none _ n e = e
 
 looks-none : (m n : Node) → is_scope m ≡ false → looks m n ≡ false
 looks-none (Block b) n e = cc
+looks-none Body n e = cc
+looks-none (Loop h w l) n e = cc
 looks-none (Def x h k b) n e = cc
 looks-none Program n e = cc
 looks-none _ n e = refl
 
--- a row that binds no name is kept by none
-pub keeps_unbound : (R : List Row) (s b : ℕ) → bound_name (at R b).node ≡ None → keeps R s b ≡ false
-keeps_unbound R s b e = keeps_not R s b (takes-unbound (at R s).node (at R b).node e)
+-- a row that sees its own scope is kept by none
+pub keeps_own : (R : List Row) (s b : ℕ) → sees_own (at R b).node ≡ true → keeps R s b ≡ false
+keeps_own R s b e = keeps_not R s b (takes-own (at R s).node (at R b).node e)
 
 pub keeps_no_scope : (R : List Row) (s b : ℕ) → is_scope (at R s).node ≡ false → keeps R s b ≡ false
 keeps_no_scope R s b e = keeps_not R s b (takes-none (at R s).node (at R b).node e)
+
+-- ---- what a scope closes
+
+implied : (a c r : Bool) → (a ≡ false → c ≡ false) → (a && r) ≡ false → (c && r) ≡ false
+implied false c r h e = ap (λ t. t && r) (h refl)
+implied true true r h e = e
+implied true false r h e = refl
+
+pub confines_none : (R : List Row) (s b : ℕ) → keeps R s b ≡ false → confines R s b ≡ false
+confines_none R s b e = implied (takes (at R s).node (at R b).node) (closes (at R s).node (at R b).node) (around R s b) (closes-none (at R s).node (at R b).node) e
+
+pub confines_is : (R : List Row) (s b : ℕ) → (at R s).first ≤ b → b < s → confines R s b ≡ closes (at R s).node (at R b).node
+confines_is R s b g h = around_is (closes (at R s).node (at R b).node) (at R s).first b s g h
 
 -- ---- what a scope binds
 
@@ -186,7 +219,7 @@ binder_at-no_scope R s i e =
     by None = refl
     by (Some x) =
         ap (λ t. if t then binder_in R s x s else None)
-        (shut (looks (at R s).node (at R i).node) (around R s i) (is_free (bound_name (at R i).node) || held R i s) (looks-none (at R s).node (at R i).node e))
+        (shut (looks (at R s).node (at R i).node) (around R s i) (sees_own (at R i).node || held R i s) (looks-none (at R s).node (at R i).node e))
 
 -- no scope before a row is round it
 pub binder_at-none : (R : List Row) (n i : ℕ) → n ≤ suc i → binder_at R n i ≡ None
@@ -195,7 +228,7 @@ binder_at-none R n i h = by (used_name (at R i).node)
     none : (x m : ℕ) → m ≤ suc i → binder_of R x i m ≡ None
     none x zero k = refl
     none x (suc m) k =
-        let out : sees R m i ≡ false = unseen (looks (at R m).node (at R i).node) (is_free (bound_name (at R i).node) || held R i m) (at R m).first i m (omega arith) in
+        let out : sees R m i ≡ false = unseen (looks (at R m).node (at R i).node) (sees_own (at R i).node || held R i m) (at R m).first i m (omega arith) in
         or_none (binder_of R x i m) (if sees R m i then binder_in R m x m else None) (ap (λ t. if t then binder_in R m x m else None) out) ∙ none x m (omega arith)
 
     by : (o : Option ℕ) → binder_by R i o n ≡ None
@@ -212,7 +245,8 @@ pub first_of-some : (f : ℕ → Option ℕ) (n y : ℕ) → first_of f n ≡ So
 first_of-some f zero y e = cc
 first_of-some f (suc n) y e = by (first_of f n) refl e (λ g. first_of-some f n y g)
   where
-    by : (o : Option ℕ) → first_of f n ≡ o → option_or o (f n) ≡ Some y → (first_of f n ≡ Some y → (k : ℕ) × (k < n) × (f k ≡ Some y)) → (k : ℕ) × (k < suc n) × (f k ≡ Some y)
+    by : (o : Option ℕ) → first_of f n ≡ o → option_or o (f n) ≡ Some y → (first_of f n ≡ Some y → (k : ℕ) × (k < n) × (f k ≡ Some y))
+        → (k : ℕ) × (k < suc n) × (f k ≡ Some y)
     by None g h r = (n, omega arith, h)
     by (Some z) g h r = let w = r (g ∙ h) in let less = w.1 in (w.0, omega arith, w.2)
 

@@ -1,5 +1,6 @@
 -- Each cause is at the place of a thing of the program.
-use Rattle.std.proofs.Common.{◌≡◌, inl, inr, ◌+◌, ◌<◌, ◌≤◌, ℕ, zero, suc, Bool as Truth, true, false, List, [], ◌∷◌, ◌++◌, Option, Some, None, length, refl, ap, sym, ◌∙◌, subst, arith}
+use Rattle.std.proofs.Common.{◌≡◌, inl, inr, ◌+◌, ◌<◌, ◌≤◌, ℕ, zero, suc, Bool as Truth, true, false, List, [], ◌∷◌}
+use Rattle.std.proofs.Common.{◌++◌, Option, Some, None, length, refl, ap, sym, ◌∙◌, subst, arith}
 use Rattle.std.specs.Prelude.{◌&&◌, not, nat_eq, nat_lt, if◌then◌else◌}
 use Rattle.id_list.specs.List.{Among}
 use Rattle.id_list.proofs.AmongLemmas.{Among-either, Among-one}
@@ -10,18 +11,23 @@ use Rattle.id_value.specs.declared.BinaryOp.TheVariants as class
 use Rattle.id_value.specs.declared.Comparison.TheVariants.{Lt, Le, Gt, Ge, Eq, Ne}
 use Rattle.id_parts.specs.declared.row.Row.{Row}
 use Rattle.id_parts.specs.declared.row.Node.{Node}
-use Rattle.id_parts.specs.declared.row.Node.TheVariants.{Head, Param, Name, Unary, Binary, Split, If, Enter, Arg, Call, Binding, Def, Program}
+use Rattle.id_parts.specs.declared.row.Node.TheVariants.{Head, Param, Literal, Name, Unary, Binary, Split, If, Enter}
+use Rattle.id_parts.specs.declared.row.Node.TheVariants.{Arg, Call, Block, Binding, Def, Program, Switches, NextUse, Next, Loop}
 use Rattle.id_tree.specs.Tree.{Tree}
 use Rattle.id_tree.specs.Distinct.{HasPlace}
 use Rattle.id_parts.specs.Rows.{at, rows_of}
-use Rattle.id_parts.specs.Tables.{IsFormed, is_param, is_thing}
+use Rattle.id_parts.specs.Tables.{HasOperand, is_expression, is_param, is_thing}
 use Rattle.id_parts.specs.Turns.{IsTable, params_at, params_below}
 use Rattle.id_parts.proofs.PlacesLemmas.{HasPlace-rows_of}
+use Rattle.id_parts.proofs.RegionLemmas.{HasPart-operand}
 use Rattle.id_check.specs.declared.cause.CheckCause.{CheckCause}
 use Rattle.id_check.specs.declared.cause.CheckCause.TheVariants.{NoMain, MainKind, Duplicate, Unknown, WrongCount, WrongKind, TooManyParams, Memory}
 use Rattle.id_check.specs.Scopes.{binder_in, binds, bound_name, is_name, keeps, held, user_of}
-use Rattle.id_check.specs.Kinds.{AreKinds, Link, Nowhere, in_nothing, link_at, link_of, unary_kind}
-use Rattle.id_check.specs.Causes.{HasFirst, IsInside, IsRefusedFor, array_param, callee, causes, causes_below, causes_in, count_at, duplicates, is_count, is_array_param, repeated, same_kind, second, seconds, unknown, unless_found, wrong, wrong_argument, wrong_both, wrong_count, wrong_equals, wrong_like, wrong_operands, wrong_params}
+use Rattle.id_check.specs.Kinds.{unary_kind}
+use Rattle.id_check.specs.Causes.{HasFirst, IsInside, IsRefusedFor, array_param, callee, causes, causes_below}
+use Rattle.id_check.specs.Causes.{causes_in, count_at, duplicates, is_count, is_array_param, repeated, same_kind}
+use Rattle.id_check.specs.Causes.{second, seconds, unknown, unless_found, wrong, wrong_argument, wrong_both}
+use Rattle.id_check.specs.Causes.{wrong_count, wrong_equals, wrong_like, wrong_operands, wrong_params}
 use Rattle.id_check.proofs.LinksLemmas.{part_of}
 use Rattle.id_check.proofs.ScopesLemmas.{binder_in-below, first_of-some}
 
@@ -48,6 +54,7 @@ one R c d h a = subst (IsStanding R) (sym (Among-one c d a)) h
 bound_thing : (n : Node) (x : ℕ) → bound_name n ≡ Some x → is_thing n ≡ true
 bound_thing (Param y k) x e = refl
 bound_thing (Binding y a) x e = refl
+bound_thing (Next y k o v) x e = refl
 bound_thing (Def y h k b) x e = refl
 bound_thing _ x e = let d : None ≡ Some x = e in cc
 
@@ -75,7 +82,8 @@ binder_thing R s x n a e =
     let y = named x (bound_name (at R a).node) (and_second (keeps R s a && not (held R a s)) (is_name x (bound_name (at R a).node)) it) in
     bound_thing (at R a).node y.0 y.1
 
-second_standing : (R : List Row) (s b : ℕ) (o : Option ℕ) (c : CheckCause) → b < length R → bound_name (at R b).node ≡ o → Among c (second R s b o) → IsStanding R c
+second_standing : (R : List Row) (s b : ℕ) (o : Option ℕ) (c : CheckCause) → b < length R → bound_name (at R b).node ≡ o → Among c (second R s b o)
+    → IsStanding R c
 second_standing R s b None c less e a = absurd a
 second_standing R s b (Some x) c less e a = by (binds R s x b) a
   where
@@ -105,64 +113,66 @@ duplicates_standing R (suc n) c less a = elim (Among-either c (duplicates R n) (
 
 -- ---- parts of another kind
 
--- what has a kind is a thing
-kinded_thing : (R : List Row) (β : ℕ → Option ℕ) (κ : ℕ → Option Kind) (a : ℕ) (k : Kind) → AreKinds R β κ → a < length R → κ a ≡ Some k → is_thing (at R a).node ≡ true
-kinded_thing R β κ a k h less e = by (at R a).node refl
+-- an expression is a thing
+expression_thing : (n : Node) → is_expression n ≡ true → is_thing n ≡ true
+expression_thing (Literal v) e = refl
+expression_thing (Name x) e = refl
+expression_thing (Unary o a) e = refl
+expression_thing (Binary o a b) e = refl
+expression_thing (If s x y) e = refl
+expression_thing (Call s c) e = refl
+expression_thing (Loop h w l) e = refl
+expression_thing (Block b) e = refl
+expression_thing _ e = let d : false ≡ true = e in cc
+
+-- a thing stands at the row
+abbrev IsThing : List Row → ℕ → Type 0
+IsThing R a = (a < length R) × (is_thing (at R a).node ≡ true)
+
+-- so does one at each operand
+operand_thing : (R : List Row) (i a : ℕ) (n : Node) → IsTable R → i < length R → (at R i).node ≡ n → HasOperand n a → IsThing R a
+operand_thing R i a n t less e h =
+    (part_of a t.formed less e (HasPart-operand n a h), expression_thing (at R a).node (t.operand_is i a less (subst (λ z. HasOperand z a) (sym e) h)))
+
+wrong_standing : (R : List Row) (κ : ℕ → Option Kind) (wanted : Kind) (a : ℕ) (c : CheckCause) → IsThing R a → Among c (wrong R κ wanted a) → IsStanding R c
+wrong_standing R κ wanted a c h g = by (κ a) g
   where
-    never : link_at R β a ≡ Nowhere → ⊥
-    never f = let d : None ≡ Some k = sym (h.ends a None less (in_nothing f)) ∙ e in cc
+    at_kind : (found : Kind) (t : Truth) → Among c (if t then [] else (WrongKind (at R a).place wanted found ∷ [])) → IsStanding R c
+    at_kind found true f = absurd f
+    at_kind found false f = one R c (WrongKind (at R a).place wanted found) (a, h.0, h.1, refl) f
 
-    gone : ℕ → Node → Link
-    gone i n = link_of (β (user_of i n)) n
+    by : (o : Option Kind) → Among c (unless_found wanted o (at R a).place) → IsStanding R c
+    by None f = absurd f
+    by (Some found) f = at_kind found (same_kind found wanted) f
 
-    by : (n : Node) → (at R a).node ≡ n → is_thing n ≡ true
-    by Head f = absurd (never (ap (gone a) f))
-    by (Split t) f = absurd (never (ap (gone a) f))
-    by (Enter x) f = absurd (never (ap (gone a) f))
-    by (Arg s j v) f = absurd (never (ap (gone a) f))
-    by Program f = absurd (never (ap (gone a) f))
-    by _ f = refl
-
-wrong_standing : (R : List Row) (β : ℕ → Option ℕ) (κ : ℕ → Option Kind) (wanted : Kind) (a : ℕ) (c : CheckCause) → AreKinds R β κ → a < length R → Among c (wrong R κ wanted a) → IsStanding R c
-wrong_standing R β κ wanted a c h less g = by (κ a) refl g
-  where
-    at_kind : (found : Kind) → κ a ≡ Some found → (t : Truth) → Among c (if t then [] else (WrongKind (at R a).place wanted found ∷ [])) → IsStanding R c
-    at_kind found e true f = absurd f
-    at_kind found e false f = one R c (WrongKind (at R a).place wanted found) (a, less, kinded_thing R β κ a found h less e, refl) f
-
-    by : (o : Option Kind) → κ a ≡ o → Among c (unless_found wanted o (at R a).place) → IsStanding R c
-    by None e f = absurd f
-    by (Some found) e f = at_kind found e (same_kind found wanted) f
-
-both_standing : (R : List Row) (β : ℕ → Option ℕ) (κ : ℕ → Option Kind) (wanted : Kind) (a b : ℕ) (c : CheckCause) → AreKinds R β κ → a < length R → b < length R
+both_standing : (R : List Row) (κ : ℕ → Option Kind) (wanted : Kind) (a b : ℕ) (c : CheckCause) → IsThing R a → IsThing R b
     → Among c (wrong_both R κ wanted a b) → IsStanding R c
-both_standing R β κ wanted a b c h low less g = elim (Among-either c (wrong R κ wanted a) (wrong R κ wanted b) g) [
-  | inl f ↦ wrong_standing R β κ wanted a c h low f
-  | inr f ↦ wrong_standing R β κ wanted b c h less f
+both_standing R κ wanted a b c h k g = elim (Among-either c (wrong R κ wanted a) (wrong R κ wanted b) g) [
+  | inl f ↦ wrong_standing R κ wanted a c h f
+  | inr f ↦ wrong_standing R κ wanted b c k f
 ]
 
-equals_standing : (R : List Row) (β : ℕ → Option ℕ) (κ : ℕ → Option Kind) (a b : ℕ) (c : CheckCause) → AreKinds R β κ → a < length R → b < length R
-    → (o : Option Kind) → κ a ≡ o → Among c (wrong_equals R κ o a b) → IsStanding R c
-equals_standing R β κ a b c h low less None e g = absurd g
-equals_standing R β κ a b c h low less (Some Int) e g = wrong_standing R β κ Int b c h less g
-equals_standing R β κ a b c h low less (Some Bool) e g = wrong_standing R β κ Bool b c h less g
-equals_standing R β κ a b c h low less (Some Array) e g = one R c (WrongKind (at R a).place Int Array) (a, low, kinded_thing R β κ a Array h low e, refl) g
+equals_standing : (R : List Row) (κ : ℕ → Option Kind) (a b : ℕ) (c : CheckCause) → IsThing R a → IsThing R b
+    → (o : Option Kind) → Among c (wrong_equals R κ o a b) → IsStanding R c
+equals_standing R κ a b c h k None g = absurd g
+equals_standing R κ a b c h k (Some Int) g = wrong_standing R κ Int b c k g
+equals_standing R κ a b c h k (Some Bool) g = wrong_standing R κ Bool b c k g
+equals_standing R κ a b c h k (Some Array) g = one R c (WrongKind (at R a).place Int Array) (a, h.0, h.1, refl) g
 
-like_standing : (R : List Row) (β : ℕ → Option ℕ) (κ : ℕ → Option Kind) (b : ℕ) (c : CheckCause) → AreKinds R β κ → b < length R
-    → (o : Option Kind) → Among c (wrong_like R κ o b) → IsStanding R c
-like_standing R β κ b c h less None g = absurd g
-like_standing R β κ b c h less (Some k) g = wrong_standing R β κ k b c h less g
+like_standing : (R : List Row) (κ : ℕ → Option Kind) (b : ℕ) (c : CheckCause) → IsThing R b → (o : Option Kind) → Among c (wrong_like R κ o b) → IsStanding R c
+like_standing R κ b c h None g = absurd g
+like_standing R κ b c h (Some k) g = wrong_standing R κ k b c h g
 
-operands_standing : (R : List Row) (β : ℕ → Option ℕ) (κ : ℕ → Option Kind) (p : BinaryOp) (a b : ℕ) (c : CheckCause) → AreKinds R β κ → a < length R → b < length R
+operands_standing : (R : List Row) (κ : ℕ → Option Kind) (p : BinaryOp) (a b : ℕ) (c : CheckCause) → IsThing R a → IsThing R b
     → Among c (wrong_operands R κ p a b) → IsStanding R c
-operands_standing R β κ (class.Arithmetic o) a b c h low less g = both_standing R β κ Int a b c h low less g
-operands_standing R β κ (class.Logic o) a b c h low less g = both_standing R β κ Bool a b c h low less g
-operands_standing R β κ (class.Comparison Eq) a b c h low less g = equals_standing R β κ a b c h low less (κ a) refl g
-operands_standing R β κ (class.Comparison Ne) a b c h low less g = equals_standing R β κ a b c h low less (κ a) refl g
-operands_standing R β κ (class.Comparison Lt) a b c h low less g = both_standing R β κ Int a b c h low less g
-operands_standing R β κ (class.Comparison Le) a b c h low less g = both_standing R β κ Int a b c h low less g
-operands_standing R β κ (class.Comparison Gt) a b c h low less g = both_standing R β κ Int a b c h low less g
-operands_standing R β κ (class.Comparison Ge) a b c h low less g = both_standing R β κ Int a b c h low less g
+operands_standing R κ (class.Arithmetic o) a b c h k g = both_standing R κ Int a b c h k g
+operands_standing R κ (class.Logic o) a b c h k g = both_standing R κ Bool a b c h k g
+operands_standing R κ (class.Comparison Eq) a b c h k g = equals_standing R κ a b c h k (κ a) g
+operands_standing R κ (class.Comparison Ne) a b c h k g = equals_standing R κ a b c h k (κ a) g
+operands_standing R κ (class.Comparison Lt) a b c h k g = both_standing R κ Int a b c h k g
+operands_standing R κ (class.Comparison Le) a b c h k g = both_standing R κ Int a b c h k g
+operands_standing R κ (class.Comparison Gt) a b c h k g = both_standing R κ Int a b c h k g
+operands_standing R κ (class.Comparison Ge) a b c h k g = both_standing R κ Int a b c h k g
 
 -- ---- parameters
 
@@ -189,7 +199,8 @@ param_thing : (n : Node) → is_param n ≡ true → is_thing n ≡ true
 param_thing (Param y k) e = refl
 param_thing _ e = let d : false ≡ true = e in cc
 
-array_standing : (R : List Row) (ps : List ℕ) (c : CheckCause) → ((p : ℕ) → Among p ps → (p < length R) × (is_param (at R p).node ≡ true)) → Among c (array_param R ps) → IsStanding R c
+array_standing : (R : List Row) (ps : List ℕ) (c : CheckCause) → ((p : ℕ) → Among p ps → (p < length R) × (is_param (at R p).node ≡ true))
+    → Among c (array_param R ps) → IsStanding R c
 array_standing R [] c h a = absurd a
 array_standing R (x ∷ xs) c h a = by (is_array_param (at R x).node) a (array_standing R xs c (λ p b. h p (inr b)))
   where
@@ -207,21 +218,21 @@ count_standing R (Some h) n e c t b = by (nat_eq n (length (params_at R h))) b
     by true b = absurd b
     by false b = one R c (WrongCount e) t b
 
-argument_standing : (R : List Row) (β : ℕ → Option ℕ) (κ : ℕ → Option Kind) (o n : Option ℕ) (k v : ℕ) (c : CheckCause) → AreKinds R β κ → v < length R
+argument_standing : (R : List Row) (κ : ℕ → Option Kind) (o n : Option ℕ) (k v : ℕ) (c : CheckCause) → IsThing R v
     → Among c (wrong_argument R κ o n k v) → IsStanding R c
-argument_standing R β κ None n k v c t less b = absurd b
-argument_standing R β κ (Some h) n k v c t less b = by (is_count R h n) b
+argument_standing R κ None n k v c t b = absurd b
+argument_standing R κ (Some h) n k v c t b = by (is_count R h n) b
   where
     by : (q : Truth) → Among c (if q then wrong_like R κ (κ (h + 1 + k)) v else []) → IsStanding R c
-    by true b = like_standing R β κ v c t less (κ (h + 1 + k)) b
+    by true b = like_standing R κ v c t (κ (h + 1 + k)) b
     by false b = absurd b
 
-causes_in_standing : (R : List Row) (β : ℕ → Option ℕ) (κ : ℕ → Option Kind) (i : ℕ) (c : CheckCause) → IsTable R → AreKinds R β κ → i < length R
+causes_in_standing : (R : List Row) (β : ℕ → Option ℕ) (κ : ℕ → Option Kind) (i : ℕ) (c : CheckCause) → IsTable R → i < length R
     → Among c (causes_in R κ (β (user_of i (at R i).node)) (at R i).place (at R i).node) → IsStanding R c
-causes_in_standing R β κ i c t h less a = by (at R i).node refl a
+causes_in_standing R β κ i c t less a = by (at R i).node refl a
   where
-    f : IsFormed R
-    f = t.formed
+    thing : (a : ℕ) (n : Node) → (at R i).node ≡ n → HasOperand n a → IsThing R a
+    thing a n e h = operand_thing R i a n t less e h
 
     here : is_thing (at R i).node ≡ true → IsThingAt R (at R i).place
     here t = (i, less, t, refl)
@@ -231,6 +242,14 @@ causes_in_standing R β κ i c t h less a = by (at R i).node refl a
     call_here x e =
         let w = t.has_call i x less e in
         (w.0, w.1.within, ap is_thing w.1.node, sym (t.enter_of w.0 i w.1).place)
+
+    -- the use of a first value stands where its `next` does
+    next_here : (x : ℕ) → (at R i).node ≡ NextUse x → IsThingAt R (at R i).place
+    next_here x e =
+        let w = t.use_of i x less e in
+        let s = w.2 in
+        let n = t.next_in w.0 (at R i).block w.1 x s in
+        (w.0, s.within, ap is_thing s.node, sym ((n.2).outer_place) ∙ ap (λ z. (at R z).place) w.3)
 
     no_binder : (o : Option ℕ) → IsThingAt R (at R i).place → Among c (unknown o (at R i).place) → IsStanding R c
     no_binder None t b = one R c (Unknown (at R i).place) t b
@@ -247,14 +266,17 @@ causes_in_standing R β κ i c t h less a = by (at R i).node refl a
     by : (n : Node) → (at R i).node ≡ n → Among c (causes_in R κ (β (user_of i n)) (at R i).place n) → IsStanding R c
     by (Name x) e b = no_binder (β i) (here (ap is_thing e)) b
     by (Enter x) e b = no_binder (β i) (call_here x e) b
-    by (Arg s k v) e b = argument_standing R β κ (callee R (β s)) (count_at R (length R) s) k v c h (part_of v f less e (inr refl)) b
+    by (Arg s k v) e b = argument_standing R κ (callee R (β s)) (count_at R (length R) s) k v c (thing v (Arg s k v) e refl) b
     by (Call s n) e b = count_standing R (callee R (β s)) n (at R i).place c (here (ap is_thing e)) b
-    by (Unary p a) e b = wrong_standing R β κ (unary_kind p) a c h (part_of a f less e refl) b
-    by (Binary p x y) e b = operands_standing R β κ p x y c h (part_of x f less e (inl refl)) (part_of y f less e (inr refl)) b
-    by (Split t) e b = wrong_standing R β κ Bool t c h (part_of t f less e refl) b
-    by (If s x y) e b = like_standing R β κ y c h (part_of y f less e (inr (inr refl))) (κ x) b
+    by (Unary p a) e b = wrong_standing R κ (unary_kind p) a c (thing a (Unary p a) e refl) b
+    by (Binary p x y) e b = operands_standing R κ p x y c (thing x (Binary p x y) e (inl refl)) (thing y (Binary p x y) e (inr refl)) b
+    by (Split t) e b = wrong_standing R κ Bool t c (thing t (Split t) e refl) b
+    by (If s x y) e b = like_standing R κ y c (thing y (If s x y) e (inr refl)) (κ x) b
+    by (Switches t) e b = wrong_standing R κ Bool t c (thing t (Switches t) e refl) b
+    by (NextUse x) e b = no_binder (β i) (next_here x e) b
+    by (Next x k u v) e b = like_standing R κ v c (thing v (Next x k u v) e refl) (κ u) b
     by (Def x d k y) e b = elim (Among-either c (wrong R κ k y) (wrong_params R x (at R i).place (params_at R d)) b) [
-      | inl g ↦ wrong_standing R β κ k y c h (part_of y f less e (inr refl)) g
+      | inl g ↦ wrong_standing R κ k y c (thing y (Def x d k y) e refl) g
       | inr g ↦ elim (Among-either c (if nat_eq x 0 then array_param R (params_at R d) else []) (if nat_lt 16 (length (params_at R d)) then (TooManyParams (at R i).place ∷ []) else []) g) [
         | inl j ↦ main (nat_eq x 0) d j
         | inr j ↦ many (nat_lt 16 (length (params_at R d))) (ap is_thing e) j
@@ -262,24 +284,25 @@ causes_in_standing R β κ i c t h less a = by (at R i).node refl a
     ]
     by _ e b = absurd b
 
-below_standing : (R : List Row) (β : ℕ → Option ℕ) (κ : ℕ → Option Kind) (n : ℕ) (c : CheckCause) → IsTable R → AreKinds R β κ → n ≤ length R → Among c (causes_below R β κ n) → IsStanding R c
-below_standing R β κ zero c f h less a = absurd a
-below_standing R β κ (suc n) c f h less a = elim (Among-either c (causes_below R β κ n) (causes_in R κ (β (user_of n (at R n).node)) (at R n).place (at R n).node) a) [
-  | inl b ↦ below_standing R β κ n c f h (omega arith) b
-  | inr b ↦ causes_in_standing R β κ n c f h (omega arith) b
+below_standing : (R : List Row) (β : ℕ → Option ℕ) (κ : ℕ → Option Kind) (n : ℕ) (c : CheckCause) → IsTable R → n ≤ length R
+    → Among c (causes_below R β κ n) → IsStanding R c
+below_standing R β κ zero c f less a = absurd a
+below_standing R β κ (suc n) c f less a = elim (Among-either c (causes_below R β κ n) (causes_in R κ (β (user_of n (at R n).node)) (at R n).place (at R n).node) a) [
+  | inl b ↦ below_standing R β κ n c f (omega arith) b
+  | inr b ↦ causes_in_standing R β κ n c f (omega arith) b
 ]
 
 -- a cause in a program is at the places of things
-pub causes_standing : (R : List Row) (β : ℕ → Option ℕ) (κ : ℕ → Option Kind) (c : CheckCause) → IsTable R → AreKinds R β κ → Among c (causes R β κ) → IsStanding R c
-causes_standing R β κ c f h a = elim (Among-either c (duplicates R (length R)) (causes_below R β κ (length R)) a) [
+pub causes_standing : (R : List Row) (β : ℕ → Option ℕ) (κ : ℕ → Option Kind) (c : CheckCause) → IsTable R → Among c (causes R β κ) → IsStanding R c
+causes_standing R β κ c f a = elim (Among-either c (duplicates R (length R)) (causes_below R β κ (length R)) a) [
   | inl b ↦ duplicates_standing R (length R) c (omega arith) b
-  | inr b ↦ below_standing R β κ (length R) c f h (omega arith) b
+  | inr b ↦ below_standing R β κ (length R) c f (omega arith) b
 ]
 
 -- ---- the first cause
 
 pub IsRefusedFor-first : (R : List Row) (c : CheckCause) → IsTable R → HasFirst R c → IsRefusedFor R c
-IsRefusedFor-first R NoMain f h = absurd (causes_standing R h.binders h.kinds NoMain f h.are_kinds h.first.among)
+IsRefusedFor-first R NoMain f h = absurd (causes_standing R h.binders h.kinds NoMain f h.first.among)
 IsRefusedFor-first R (MainKind e) f h = h
 IsRefusedFor-first R (Duplicate e d) f h = h
 IsRefusedFor-first R (Unknown e) f h = h
@@ -292,7 +315,7 @@ has_place : (t : Tree) (e : ℕ) → IsThingAt (rows_of t) e → HasPlace t e
 has_place t e w = subst (HasPlace t) w.3 (HasPlace-rows_of t w.0 w.1 w.2)
 
 standing : (R : List Row) (c : CheckCause) → IsTable R → HasFirst R c → IsStanding R c
-standing R c f h = causes_standing R h.binders h.kinds c f h.are_kinds h.first.among
+standing R c f h = causes_standing R h.binders h.kinds c f h.first.among
 
 -- a program is refused for a cause at places of its tree
 pub IsInside-refused : (t : Tree) (c : CheckCause) → IsTable (rows_of t) → IsRefusedFor (rows_of t) c → IsInside t c

@@ -1,7 +1,6 @@
 -- Why a program is refused (docs/LANGUAGE.md, "Refusals").
-use Rattle.std.specs.Prelude.{◌≡◌, ◌⊎◌, ◌<◌, ◌≤◌, ◌+◌, ℕ, zero, suc, Bool as Truth, true, false, List, [], ◌∷◌, ◌++◌}
-use Rattle.std.specs.Prelude.{length}
-use Rattle.std.specs.Prelude.{nat_eq, nat_lt, Option, None, Some, if◌then◌else◌}
+use Rattle.std.specs.Prelude.{◌≡◌, ◌⊎◌, ◌<◌, ◌≤◌, ◌+◌, ℕ, zero, suc, Bool as Truth, true, false}
+use Rattle.std.specs.Prelude.{List, [], ◌∷◌, ◌++◌, length, nat_eq, nat_lt, Option, None, Some, if◌then◌else◌}
 use Rattle.id_value.specs.declared.Kind.{Kind}
 use Rattle.id_value.specs.declared.Kind.TheVariants.{Int, Bool, Array}
 use Rattle.id_value.specs.declared.BinaryOp.{BinaryOp}
@@ -10,6 +9,7 @@ use Rattle.id_value.specs.declared.Comparison.TheVariants.{Eq, Ne}
 use Rattle.id_parts.specs.declared.row.Row.{Row}
 use Rattle.id_parts.specs.declared.row.Node.{Node}
 use Rattle.id_parts.specs.declared.row.Node.TheVariants.{Param, Name, Unary, Binary, Split, If, Enter, Arg, Call, Def}
+use Rattle.id_parts.specs.declared.row.Node.TheVariants.{Switches, NextUse, Next}
 use Rattle.id_list.specs.List.{Among}
 use Rattle.id_tree.specs.Tree.{Tree}
 use Rattle.id_tree.specs.Distinct.{HasPlace}
@@ -139,8 +139,8 @@ wrong_params R x e ps =
     (if nat_eq x 0 then array_param R ps else []) ++ (if nat_lt 16 (length ps) then (TooManyParams e ∷ []) else [])
 
 -- the causes in a row at a place, with this binder if it is about a name: of a predicate the kind `bool` is wanted, of
--- an `else` arm that of the `then` arm; a definition's are those in its parameters, and of its body the kind of the
--- result is wanted
+-- an `else` arm that of the `then` arm, of the expression of a `next` that of its variable; a definition's are those in
+-- its parameters, and of its body the kind of the result is wanted
 abbrev pub causes_in : List Row → (ℕ → Option Kind) → Option ℕ → ℕ → Node → List CheckCause
 causes_in R κ o e (Name x) = unknown o e
 causes_in R κ o e (Unary p a) = wrong R κ (unary_kind p) a
@@ -150,6 +150,9 @@ causes_in R κ o e (If s x y) = wrong_like R κ (κ x) y
 causes_in R κ o e (Enter x) = unknown o e
 causes_in R κ o e (Arg s k v) = wrong_argument R κ (callee R o) (count_at R (length R) s) k v
 causes_in R κ o e (Call s c) = wrong_count R (callee R o) c e
+causes_in R κ o e (Switches t) = wrong R κ Bool t
+causes_in R κ o e (NextUse x) = unknown o e
+causes_in R κ o e (Next x k u v) = wrong_like R κ (κ u) v
 causes_in R κ o e (Def x h k b) = wrong R κ k b ++ wrong_params R x e (params_at R h)
 causes_in R κ o e _ = []
 

@@ -2,7 +2,7 @@
 use Rattle.std.specs.Prelude.{ℕ}
 use Rattle.std.specs.Coded.{×_prop, Π_prop, →_prop, Unit-prop}
 use Rattle.id_tree.specs.Tree.{Tree, literal, unary, binary, name, conditional, call, block, binding, param, define}
-use Rattle.id_tree.specs.Tree.{none, more}
+use Rattle.id_tree.specs.Tree.{none, more, loop, next}
 use Rattle.id_tree.specs.Distinct.{Apart, Distinct, HasPlace}
 
 -- there is at most one proof that nothing stands in a type
@@ -37,6 +37,18 @@ Distinct-prop (conditional t x y p) = λ d e i. (
 )
 Distinct-prop (call x a p) = ×_prop not-prop (Distinct-prop a)
 Distinct-prop (block a b p) = two-prop a b p (Distinct-prop a) (Distinct-prop b)
+Distinct-prop (loop t a b p) = λ d e i. (
+  not-prop d.0 e.0 i,
+  not-prop d.1 e.1 i,
+  not-prop d.2 e.2 i,
+  Apart-prop t a d.3 e.3 i,
+  Apart-prop t b d.4 e.4 i,
+  Apart-prop a b d.5 e.5 i,
+  Distinct-prop t d.6 e.6 i,
+  Distinct-prop a d.7 e.7 i,
+  Distinct-prop b d.8 e.8 i,
+)
+Distinct-prop (next x a p) = ×_prop not-prop (Distinct-prop a)
 Distinct-prop (binding x a p) = ×_prop not-prop (Distinct-prop a)
 Distinct-prop (param x k p) = Unit-prop
 Distinct-prop (define n a k b p) = two-prop a b p (Distinct-prop a) (Distinct-prop b)

@@ -12,6 +12,8 @@ use Rattle.id_parts.specs.declared.row.Row.{Row}
 use Rattle.id_parts.specs.declared.row.Node.{Node}
 use Rattle.id_parts.specs.declared.row.Node.TheVariants.{Head, Param, Literal, Name, Unary, Binary}
 use Rattle.id_parts.specs.declared.row.Node.TheVariants.{Split, If, Enter, Arg, Call, Block, Binding, Def, Program}
+use Rattle.id_parts.specs.declared.row.Node.TheVariants.{Start, LoopHead, Variable, Entries, Switches, Turn, NextUse}
+use Rattle.id_parts.specs.declared.row.Node.TheVariants.{Next, Body, Reset, Loop}
 use Rattle.id_parts.specs.Rows.{at}
 use Rattle.id_check.specs.Scopes.{user_of}
 pub use Rattle.id_check.specs.declared.kinds.Link.{Link}
@@ -39,7 +41,7 @@ link_of_name None = Nowhere
 link_of_name (Some b) = To b
 
 -- where the chain of a row goes on, which has this binder if it is about a name: that of a call to its procedure's
--- definition
+-- definition, that of a loop's variable to the use of the same name outside, and that of a loop to its last expression
 abbrev pub link_of : Option ℕ → Node → Link
 link_of o Head = Nowhere
 link_of o (Param x k) = Fixed k
@@ -52,6 +54,17 @@ link_of o (If s x y) = To x
 link_of o (Enter x) = Nowhere
 link_of o (Arg e i v) = Nowhere
 link_of o (Call e c) = link_of_name o
+link_of o Start = Nowhere
+link_of o (LoopHead s) = Nowhere
+link_of o Variable = Nowhere
+link_of o Entries = Nowhere
+link_of o (Switches t) = Nowhere
+link_of o Turn = Nowhere
+link_of o (NextUse x) = link_of_name o
+link_of o (Next x k u v) = To u
+link_of o Body = Nowhere
+link_of o (Reset v) = Nowhere
+link_of o (Loop h w l) = To l
 link_of o (Block b) = To b
 link_of o (Binding x a) = To a
 link_of o (Def x h k b) = Fixed k

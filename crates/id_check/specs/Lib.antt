@@ -7,6 +7,7 @@ pub mod Kept
 -- For use inside.
 pub mod Chains
 pub mod Counts
+pub mod Depths
 pub mod Firsts
 pub mod Names
 pub mod Tallies

@@ -4,12 +4,12 @@ use Rattle.std.specs.Prelude.{length, get_or, nat_le, Option, None, Some, if◌t
 use Rattle.std.specs.Option.{option_or}
 use Rattle.id_parts.specs.declared.row.Row.{Row}
 use Rattle.id_parts.specs.declared.row.Node.{Node}
-use Rattle.id_parts.specs.declared.row.Node.TheVariants.{Name, Enter, Block, Def, Program}
+use Rattle.id_parts.specs.declared.row.Node.TheVariants.{Name, Enter, Block, Def, Program, NextUse, Body, Loop}
 use Rattle.id_parts.specs.Rows.{at}
 use Rattle.id_parts.specs.Tables.{around}
 use Rattle.id_check.specs.declared.cause.CheckCause.{CheckCause}
 use Rattle.id_check.specs.declared.scope.Bound.{Bound}
-use Rattle.id_check.specs.Scopes.{binder_at, binder_in, bound_name, held, is_free, is_name, keeps, looks, sees}
+use Rattle.id_check.specs.Scopes.{binder_at, binder_in, bound_name, confines, held, is_free, is_name, sees, sees_own}
 use Rattle.id_check.specs.Scopes.{used_name}
 use Rattle.id_check.specs.Causes.{repeated}
 
@@ -23,11 +23,12 @@ pub record AreHeld (R : List Row) (s : ℕ) (hs : List Bool) : Type 0 where
   pub long : length hs ≡ length R
   pub each : (i : ℕ) → i < length R → get_or hs i false ≡ held R i s
 
--- the list has the binders among the first n rows that none of the first t rows holds, and is in order
+-- the list has the rows among the first n that don't see their own scope, and that none of the first t rows holds; it
+-- is in order
 pub record IsOpen (R : List Row) (n t : ℕ) (ps : List ℕ) : Type 0 where
   pub below : (j : ℕ) → j < length ps → get_or ps j 0 < n
   pub order : (j k : ℕ) → j < k → k < length ps → get_or ps j 0 < get_or ps k 0
-  pub all : (b x : ℕ) → b < n → bound_name (at R b).node ≡ Some x → held R b t ≡ false
+  pub all : (b : ℕ) → b < n → sees_own (at R b).node ≡ false → held R b t ≡ false
       → (j : ℕ) × (j < length ps) × (get_or ps j 0 ≡ b)
 
 -- the binder that was noted, if it is of the scope s
@@ -59,16 +60,14 @@ pub record AreSeen (R : List Row) (s n : ℕ) (os : List (Option ℕ)) : Type 0 
   pub each : (i : ℕ) → i < length R → get_or os i None
       ≡ option_or (binder_at R s i) (seen R s n i (used_name (at R i).node))
 
--- which rows are held by one of the first s rows and, of the first n, by s
+-- which rows are held by one of the first s rows and, of the first n, by the row s
 pub record AreTaken (R : List Row) (s n : ℕ) (hs : List Bool) : Type 0 where
   pub long : length hs ≡ length R
-  pub done : (i : ℕ) → i < n → i < length R → get_or hs i false ≡ (held R i s || keeps R s i)
+  pub done : (i : ℕ) → i < n → i < length R → get_or hs i false ≡ (held R i s || confines R s i)
   pub rest : (i : ℕ) → n ≤ i → i < length R → get_or hs i false ≡ held R i s
 
 -- the scope s takes its binders, and has come to the row n
-pub record IsTaking (R : List Row) (s n : ℕ) (hs : List Bool) (bs : List (Option Bound)) (os : List (Option ℕ))
-    : Type 0 where
-  pub held : AreTaken R s n hs
+pub record IsTaking (R : List Row) (s n : ℕ) (bs : List (Option Bound)) (os : List (Option ℕ)) : Type 0 where
   pub bound : IsBinding R s n bs
   pub later : (x t : ℕ) → s < t → in_scope t (get_or bs x None) ≡ None
   pub binders : AreSeen R s n os
@@ -80,12 +79,15 @@ keys m = m + m
 -- the key by which the use of a name waits: those of values are even, those of procedures odd
 abbrev pub key_of : Node → Option ℕ
 key_of (Name x) = Some (x + x)
+key_of (NextUse x) = Some (x + x)
 key_of (Enter x) = Some (x + x + 1)
 key_of _ = None
 
 -- the key of the uses of the name x that look for their binder in a part of this node
 abbrev pub sought : Node → ℕ → Option ℕ
 sought (Block b) x = Some (x + x)
+sought Body x = Some (x + x)
+sought (Loop h w l) x = Some (x + x)
 sought (Def y h k b) x = Some (x + x)
 sought Program x = Some (x + x + 1)
 sought _ x = None
@@ -113,22 +115,44 @@ abbrev pub again : List Row → ℕ → ℕ → List (Option Bound) → Option �
 again R s b bs None = []
 again R s b bs (Some x) = repeated R b (in_scope s (get_or bs x None))
 
--- the binder b, if the row i uses the name of this key and stands in s
+-- whether the row i sees its own scope, or that is before s
+abbrev pub is_outside : List Row → ℕ → ℕ → Bool
+is_outside R s i = sees_own (at R i).node || held R i s
+
+-- whether the row i stands in s, and sees that
+abbrev pub is_in_sight : List Row → ℕ → ℕ → Bool
+is_in_sight R s i = around R s i && is_outside R s i
+
+-- the binder b, if the row i uses the name of this key and is in sight of s
 abbrev pub given : List Row → ℕ → ℕ → ℕ → ℕ → Option ℕ
-given R s x b i = if is_name x (key_of (at R i).node) && around R s i then Some b else None
+given R s x b i = if is_name x (key_of (at R i).node) && is_in_sight R s i then Some b else None
 
 -- what the row i gets where the row b binds this name in s, if these are noted
 abbrev pub newly : List Row → ℕ → ℕ → List (Option Bound) → Option ℕ → ℕ → Option ℕ
 newly R s b bs None i = None
 newly R s b bs (Some x) i =
-    if is_free (in_scope s (get_or bs x None))
-    && ((looks (at R s).node (at R i).node && around R s i)
-    && is_name x (used_name (at R i).node)) then Some b else None
+    if is_free (in_scope s (get_or bs x None)) && (sees R s i && is_name x (used_name (at R i).node))
+    then Some b else None
 
 -- the use, if it is not before the row f
 abbrev pub not_before : ℕ → Option ℕ → Option ℕ
 not_before f None = None
 not_before f (Some u) = if nat_le f u then Some u else None
+
+-- the row before which uses are looked for, where this one is behind them: in the scope s the last one may be
+abbrev pub limit : ℕ → Option ℕ → ℕ
+limit s None = s
+limit s (Some l) = l
+
+-- the last use of the key x that waits before this one, by the last of each key and the one before each row
+abbrev pub use_before : List (Option ℕ) → List (Option ℕ) → ℕ → Option ℕ → Option ℕ
+use_before ls es x None = get_or ls x None
+use_before ls es x (Some l) = get_or es l None
+
+-- the row before s, if there is one, waits by the key x
+abbrev pub IsBehind : List Row → List (Option ℕ) → ℕ → ℕ → Option ℕ → Type 0
+IsBehind R os s x None = Unit {0}
+IsBehind R os s x (Some l) = (l < s) × (is_waiting R os x l ≡ true)
 
 -- the number of rows up to the use
 abbrev pub reach : Option ℕ → ℕ

@@ -20,6 +20,10 @@ binder P i = get_or P.binders.items i None
 abbrev pub kind : Checked → ℕ → Option Kind
 kind P i = get_or P.kinds.items i None
 
+-- how many loops of its procedure the row is in
+abbrev pub depth : Checked → ℕ → ℕ
+depth P i = get_or P.depths.items i 0
+
 -- where the row stands in the text
 abbrev pub place : Checked → ℕ → ℕ
 place P i = (at (rows P) i).place

@@ -36,4 +36,15 @@ impl Checked {
             None
         }
     }
+
+    /// How many loops of its procedure the row is in. Takes no memory.
+    pub fn depth(&self, i: usize) -> usize
+        ensures { result ≡ programs.depth self.now i }
+    {
+        if i < self.depths.len() {
+            self.depths[i]
+        } else {
+            0
+        }
+    }
 }

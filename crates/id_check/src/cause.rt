@@ -15,13 +15,14 @@ pub enum CheckCause {
     MainKind {
         at: usize,
     },
-    /// A second procedure, parameter of a definition, or binder of a block, with one name, at the later; `first`
-    /// is the place of the first: `{ x = 1; x = 2; in x }`
+    /// A second procedure, parameter of a definition, or binder of a block or right in a loop's body, with one name,
+    /// at the later; `first` is the place of the first: `{ x = 1; x = 2; in x }`
     Duplicate {
         at: usize,
         first: usize,
     },
-    /// A name, of a value or of a procedure, without binder: `def main(): int = x;`
+    /// A name, of a value or of a procedure, without binder, or that of a `next` without one outside of its loop, at the
+    /// `next`: `def main(): int = x;`
     Unknown {
         at: usize,
     },

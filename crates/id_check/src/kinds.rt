@@ -31,7 +31,8 @@ pub fn find_kinds(
     requires binders { length binders.now ≡ length rows.now }
     requires within { (i b : ℕ) → i < length rows.now → get_or binders.now i None ≡ Some b → b < length rows.now }
     ensures long { IfOk result (λ v. length v.items ≡ length rows.now) }
-    ensures kinds { IfOk result (λ v. AreKinds rows.now (λ i. get_or binders.now i None) (λ i. get_or v.items i None)) }
+    ensures kinds { IfOk result (λ v.
+        AreKinds rows.now (λ i. get_or binders.now i None) (λ i. get_or v.items i None)) }
 {
     let mut links = find_links(alloc, rows, binders)?;
     let mut passed = Vec::new(alloc);
@@ -51,8 +52,7 @@ fn find_links(
     requires formed { IsFormed rows.now }
     requires binders { length binders.now ≡ length rows.now }
     ensures long { IfOk result (λ v. length v.items ≡ length rows.now) }
-    ensures each { IfOk result
-        (λ v. (i : ℕ) → i < length rows.now
+    ensures each { IfOk result (λ v. (i : ℕ) → i < length rows.now
         → get_or v.items i Nowhere ≡ kinds.link_at rows.now (λ k. get_or binders.now k None) i) }
 {
     let mut links = Vec::new(alloc);
@@ -84,8 +84,8 @@ pub fn binder_at(binders: &[Option<usize>], i: usize) -> Option<usize>
 /// The kinds that the links give.
 fn kinds_of(alloc: Global, links: &[Link]) -> Result<Vec<Option<Kind>>, AllocError>
     ensures long { IfOk result (λ v. length v.items ≡ length links.now) }
-    ensures each { IfOk result
-        (λ v. (i : ℕ) → i < length links.now → get_or v.items i None ≡ chains.kind_of (get_or links.now i Nowhere)) }
+    ensures each { IfOk result (λ v. (i : ℕ) → i < length links.now
+        → get_or v.items i None ≡ chains.kind_of (get_or links.now i Nowhere)) }
 {
     let mut kinds = Vec::new(alloc);
     for i in 0..links.len() {
@@ -99,15 +99,13 @@ fn kinds_of(alloc: Global, links: &[Link]) -> Result<Vec<Option<Kind>>, AllocErr
 fn settle(links: &mut Vec<Link>, passed: &mut Vec<usize>, start: usize) -> Result<(), AllocError>
     requires start { start < length links.old.items }
     requires passed { passed.old.items ≡ [] }
-    requires targets { (i j : ℕ) → i < length links.old.items → get_or links.old.items i Nowhere ≡ To j
-        → j < length links.old.items }
+    requires targets { (i j : ℕ) → i < length links.old.items
+        → get_or links.old.items i Nowhere ≡ To j → j < length links.old.items }
     ensures passed { OnOk result (passed.new.items ≡ []) }
     ensures long { OnOk result (length links.new.items ≡ length links.old.items) }
-    ensures targets { OnOk result
-        ((i j : ℕ) → i < length links.new.items → get_or links.new.items i Nowhere ≡ To j
-        → j < length links.new.items) }
-    ensures going { OnOk result
-        ((l : ℕ → Link) → IsGoing l (length links.old.items) start links.old.items
+    ensures targets { OnOk result ((i j : ℕ) → i < length links.new.items
+        → get_or links.new.items i Nowhere ≡ To j → j < length links.new.items) }
+    ensures going { OnOk result ((l : ℕ → Link) → IsGoing l (length links.old.items) start links.old.items
         → IsGoing l (length links.old.items) (start + 1) links.new.items) }
 {
     let mut at = start;
@@ -126,8 +124,7 @@ fn fill(links: &mut Vec<Link>, passed: &mut Vec<usize>, end: Link)
     requires { (p : ℕ) → Among p passed.old.items → p < length links.old.items }
     ensures passed { passed.new.items ≡ [] }
     ensures long { length links.new.items ≡ length links.old.items }
-    ensures same { (i : ℕ)
-        → (get_or links.new.items i Nowhere ≡ end)
+    ensures same { (i : ℕ) → (get_or links.new.items i Nowhere ≡ end)
         ⊎ (get_or links.new.items i Nowhere ≡ get_or links.old.items i Nowhere) }
     ensures filling { (l : ℕ → Link) (n m : ℕ) → IsFilling l n m passed.old.items end links.old.items
         → IsFilling l n m [] end links.new.items }
@@ -154,15 +151,19 @@ fn link_of(binder: Option<usize>, node: Node) -> Link
     match node {
         Node::Param { kind, .. } => Link::Fixed(kind),
         Node::Literal { value } => Link::Fixed(constant_kind(value)),
-        Node::Name { .. } | Node::Call { .. } => link_of_name(binder),
+        Node::Name { .. } | Node::NextUse { .. } | Node::Call { .. } => link_of_name(binder),
         Node::Unary { op, .. } => Link::Fixed(unary_kind(op)),
         Node::Binary { op, .. } => Link::Fixed(binary_kind(op)),
         Node::If { then, .. } => Link::To(then),
         Node::Block { body } => Link::To(body),
         Node::Binding { value, .. } => Link::To(value),
+        Node::Next { outer, .. } => Link::To(outer),
+        Node::Loop { last, .. } => Link::To(last),
         Node::Def { result, .. } => Link::Fixed(result),
         Node::Head | Node::Split { .. } | Node::Program => Link::Nowhere,
         Node::Enter { .. } | Node::Arg { .. } => Link::Nowhere,
+        Node::Start | Node::LoopHead { .. } | Node::Variable | Node::Entries => Link::Nowhere,
+        Node::Switches { .. } | Node::Turn | Node::Body | Node::Reset { .. } => Link::Nowhere,
     }
 }
 

@@ -1,7 +1,8 @@
 //! The checked program: each name has its binder, and each row its kind.
 //!
 //! Keeps: the rows are those of the program's tree; which definition is `main`; which binder each use of a name
-//! has, and which kind each row; that no cause to refuse the program holds; that no two things have one place.
+//! has, which kind each row, and how many loops are round it; that no cause to refuse the program holds; that no two
+//! things have one place.
 //! Errors: `CheckError`, the refusals 7 to 13 or want of memory, with the program handed back.
 //! Read first: `Checked`, `specs/Scopes.antt`, `specs/Kinds.antt`, `specs/Causes.antt`, docs/LANGUAGE.md
 //! ("Names", "Kinds").
@@ -12,6 +13,7 @@ mod access;
 mod calls;
 mod cause;
 mod checked;
+mod depths;
 mod kinds;
 mod params;
 mod program;

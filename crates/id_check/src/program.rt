@@ -1,12 +1,13 @@
 //! The check of a program: its table, the binders and kinds of its rows, and the first cause to refuse it.
 
-ghost use Rattle.std.specs.Prelude.{◌≡◌, get_or, length, IfOk, IfErr, IfNone, IfSome, None};
+ghost use Rattle.std.specs.Prelude.{◌≡◌, ◌<◌, ℕ, get_or, length, IfOk, IfErr, IfNone, IfSome, None};
 ghost use Rattle.id_tree.specs.Tree.{program_tree};
 ghost use Rattle.id_tree.specs.Distinct.{Distinct};
 ghost use Rattle.id_parts.specs.Rows.{at, parts_of, rows_of};
 ghost use Rattle.id_parts.specs.Tables.{IsFormed};
 ghost use Rattle.id_check.specs.Causes.{HasNoMain, IsInside, IsMain, IsRefusedFor, causes};
 ghost use Rattle.id_check.specs.Causes as cause;
+ghost use Rattle.id_check.specs.Depths.{AreDepths, AreInBlocks};
 ghost use Rattle.id_check.specs.Firsts.{IsFirstOf};
 ghost use Rattle.id_check.specs.Kinds.{AreKinds};
 ghost use Rattle.id_check.specs.Names.{AreNames};
@@ -15,6 +16,7 @@ ghost use Rattle.id_check.specs.Scopes.{AreBinders};
 use crate::calls::find_counts;
 use crate::cause::{CheckCause, CheckError};
 use crate::checked::Checked;
+use crate::depths::find_depths;
 use crate::kinds::find_kinds;
 use crate::params::find_params;
 use crate::scope::{Found, find_binders};
@@ -23,11 +25,12 @@ use id_parts::{Node, Row, Table, table_of};
 use id_tree::{Kind, Program};
 use std::alloc::{AllocError, Global};
 
-/// What is found in the rows of a program: their binders and kinds, and the first cause in them.
+/// What is found in the rows of a program: their binders, kinds and depths, and the first cause in them.
 #[derive(Drop)]
 struct Columns {
     binders: Vec<Option<usize>>,
     kinds: Vec<Option<Kind>>,
+    depths: Vec<usize>,
     first: Option<CheckCause>,
 }
 
@@ -54,10 +57,10 @@ fn find(alloc: Global, program: &Program) -> Result<(Table, Columns), AllocError
     ensures tabled { IfOk result (λ f. f.0.rows.items ≡ rows_of (program_tree program.now)) }
     ensures named { IfOk result (λ f. f.0.names.items ≡ (parts_of (program_tree program.now)).names) }
     ensures bound { IfOk result (λ f. AreBinders f.0.rows.items (λ i. get_or f.1.binders.items i None)) }
-    ensures kinded { IfOk result
-        (λ f. AreKinds f.0.rows.items (λ i. get_or f.1.binders.items i None) (λ i. get_or f.1.kinds.items i None)) }
-    ensures first { IfOk result
-        (λ f. IsFirstOf f.1.first
+    ensures kinded { IfOk result (λ f.
+        AreKinds f.0.rows.items (λ i. get_or f.1.binders.items i None) (λ i. get_or f.1.kinds.items i None)) }
+    ensures deep { IfOk result (λ f. AreDepths f.0.rows.items (length f.0.rows.items) f.1.depths.items) }
+    ensures first { IfOk result (λ f. IsFirstOf f.1.first
         (causes f.0.rows.items (λ i. get_or f.1.binders.items i None) (λ i. get_or f.1.kinds.items i None))) }
 {
     let table = table_of(alloc, program)?;
@@ -69,15 +72,17 @@ fn find(alloc: Global, program: &Program) -> Result<(Table, Columns), AllocError
 fn find_columns(alloc: Global, rows: &[Row], count: usize) -> Result<Columns, AllocError>
     requires formed { IsFormed rows.now }
     requires names { AreNames rows.now count }
+    requires blocks { AreInBlocks rows.now }
     ensures bound { IfOk result (λ c. AreBinders rows.now (λ i. get_or c.binders.items i None)) }
-    ensures kinded { IfOk result
-        (λ c. AreKinds rows.now (λ i. get_or c.binders.items i None) (λ i. get_or c.kinds.items i None)) }
-    ensures first { IfOk result
-        (λ c. IsFirstOf c.first
+    ensures kinded { IfOk result (λ c.
+        AreKinds rows.now (λ i. get_or c.binders.items i None) (λ i. get_or c.kinds.items i None)) }
+    ensures deep { IfOk result (λ c. AreDepths rows.now (length rows.now) c.depths.items) }
+    ensures first { IfOk result (λ c. IsFirstOf c.first
         (causes rows.now (λ i. get_or c.binders.items i None) (λ i. get_or c.kinds.items i None))) }
 {
     let Found { binders, mut first } = find_binders(alloc, rows, count)?;
     let kinds = find_kinds(alloc, rows, binders.as_slice())?;
+    let depths = find_depths(alloc, rows)?;
     let tallies = find_params(alloc, rows)?;
     let counts = find_counts(alloc, rows)?;
     note_rows(
@@ -91,6 +96,7 @@ fn find_columns(alloc: Global, rows: &[Row], count: usize) -> Result<Columns, Al
     Ok(Columns {
         binders,
         kinds,
+        depths,
         first,
     })
 }
@@ -101,10 +107,11 @@ fn settle(program: Program, table: Table, columns: Columns) -> Result<Checked, C
     requires tabled { table.rows.items ≡ rows_of (program_tree program) }
     requires named { table.names.items ≡ (parts_of (program_tree program)).names }
     requires bound { AreBinders table.rows.items (λ i. get_or columns.binders.items i None) }
-    requires kinded { AreKinds table.rows.items (λ i. get_or columns.binders.items i None)
-        (λ i. get_or columns.kinds.items i None) }
-    requires first { IsFirstOf columns.first
-        (causes table.rows.items (λ i. get_or columns.binders.items i None) (λ i. get_or columns.kinds.items i None)) }
+    requires kinded { AreKinds table.rows.items
+        (λ i. get_or columns.binders.items i None) (λ i. get_or columns.kinds.items i None) }
+    requires deep { AreDepths table.rows.items (length table.rows.items) columns.depths.items }
+    requires first { IsFirstOf columns.first (causes table.rows.items
+        (λ i. get_or columns.binders.items i None) (λ i. get_or columns.kinds.items i None)) }
     ensures ok { IfOk result (λ c. c.program ≡ program) }
     ensures back { IfErr result (λ e. e.program ≡ program) }
     ensures refused { IfErr result (λ e. IsRefusedFor (rows_of (program_tree program)) e.cause) }
@@ -112,6 +119,7 @@ fn settle(program: Program, table: Table, columns: Columns) -> Result<Checked, C
     let Columns {
         binders,
         kinds,
+        depths,
         first,
     } = columns;
     if let Some(cause) = first {
@@ -124,6 +132,7 @@ fn settle(program: Program, table: Table, columns: Columns) -> Result<Checked, C
             main,
             binders,
             kinds,
+            depths,
         }),
         None => Err(CheckError {
             program,

@@ -9,18 +9,34 @@ use id_parts::Node;
 pub fn is_scope(node: Node) -> bool
     ensures { result ≡ scopes.is_scope node }
 {
-    matches!(node, Node::Block { .. } | Node::Def { .. } | Node::Program)
+    matches!(
+        node,
+        Node::Block { .. } | Node::Body | Node::Loop { .. } | Node::Def { .. } | Node::Program
+    )
 }
 
-/// Whether the first part is one in which a binder like the second is seen.
+/// Whether the first part is one in which a binder like the second is seen; a loop has the uses of its first values
+/// too.
 pub fn takes(scope: Node, binder: Node) -> bool
     ensures { result ≡ scopes.takes scope binder }
 {
     match scope {
         Node::Block { .. } => matches!(binder, Node::Binding { .. }),
+        Node::Body => matches!(binder, Node::Binding { .. } | Node::Next { .. }),
+        Node::Loop { .. } => matches!(binder, Node::Next { .. } | Node::NextUse { .. }),
         Node::Def { .. } => matches!(binder, Node::Param { .. }),
         Node::Program => matches!(binder, Node::Def { .. }),
         _ => false,
+    }
+}
+
+/// Whether the first part is the outermost one in which a binder like the second is seen.
+pub fn closes(scope: Node, binder: Node) -> bool
+    ensures { result ≡ scopes.closes scope binder }
+{
+    match scope {
+        Node::Body => matches!(binder, Node::Binding { .. }),
+        _ => takes(scope, binder),
     }
 }
 
@@ -29,11 +45,26 @@ pub fn bound_name(node: Node) -> Option<usize>
     ensures { result ≡ scopes.bound_name node }
 {
     match node {
-        Node::Param { name, .. } | Node::Binding { name, .. } | Node::Def { name, .. } => {
-            Some(name)
-        }
+        Node::Param { name, .. }
+        | Node::Binding { name, .. }
+        | Node::Next { name, .. }
+        | Node::Def { name, .. } => Some(name),
         _ => None,
     }
+}
+
+/// Whether a row of this node sees what is bound in its own scope: it is neither a binder nor the use of a first value.
+pub fn sees_own(node: Node) -> bool
+    ensures { result ≡ scopes.sees_own node }
+{
+    !matches!(
+        node,
+        Node::Param { .. }
+            | Node::Binding { .. }
+            | Node::Next { .. }
+            | Node::NextUse { .. }
+            | Node::Def { .. }
+    )
 }
 
 /// The row that uses the name which the row i of this node is about.
@@ -42,6 +73,7 @@ pub fn user_of(i: usize, node: Node) -> usize
 {
     match node {
         Node::Arg { enter, .. } | Node::Call { enter, .. } => enter,
+        Node::Next { outer, .. } => outer,
         _ => i,
     }
 }

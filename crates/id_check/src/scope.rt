@@ -1,9 +1,10 @@
-//! The binder of each name: the scopes are passed innermost first. Each takes the binders within it that none has taken
-//! yet, and gives the uses within it that wait for a name that it binds their binder. So a binder is looked at by one
-//! scope, and a use once.
+//! The binder of each name: the scopes are passed innermost first. Each takes the binders within it that none has
+//! closed yet, and gives the uses within it that wait for a name that it binds their binder. So a binder is looked at
+//! by one scope, and a use once; a loop's variable and the use of its first value are met by the loop's body and by the
+//! loop.
 
 ghost use Rattle.std.specs.Prelude.{◌≡◌, ◌<◌, ◌≤◌, ◌+◌, ◌^◌, ℕ, true, false, get_or, length, replicate, if◌then◌else◌};
-ghost use Rattle.std.specs.Prelude.{IfOk, OnOk, None, Some};
+ghost use Rattle.std.specs.Prelude.{IfOk, OnOk, None, Some, set};
 ghost use Rattle.std.specs.Option.{option_or};
 ghost use Rattle.id_parts.specs.Rows.{at};
 ghost use Rattle.id_check.specs.Scopes as scopes;
@@ -11,11 +12,11 @@ ghost use Rattle.id_check.specs.Scopes.{AreBinders, is_name};
 ghost use Rattle.id_check.specs.Causes.{duplicates, repeated, second, seconds};
 ghost use Rattle.id_check.specs.Firsts.{IsFirstOf, Notes};
 ghost use Rattle.id_check.specs.Names as names;
-ghost use Rattle.id_check.specs.Names.{AreBound, AreHeld, AreNames, AreWaiting, IsFresh, IsOpen, IsTaking, again};
-ghost use Rattle.id_check.specs.Names.{given, keys, newly};
+ghost use Rattle.id_check.specs.Names.{AreBound, AreHeld, AreNames, AreTaken, AreWaiting, IsBehind, IsFresh, IsOpen};
+ghost use Rattle.id_check.specs.Names.{IsTaking, again, given, keys, newly};
 
 use crate::cause::{CheckCause, note};
-use crate::rows::{bound_name, is_scope, takes};
+use crate::rows::{bound_name, closes, is_scope, sees_own, takes};
 use id_parts::{Node, Row};
 use std::alloc::{AllocError, Global};
 
@@ -49,8 +50,8 @@ pub fn find_binders(alloc: Global, rows: &[Row], count: usize) -> Result<Found, 
     requires { AreNames rows.now count }
     ensures long { IfOk result (λ f. length f.binders.items ≡ length rows.now) }
     ensures binders { IfOk result (λ f. AreBinders rows.now (λ i. get_or f.binders.items i None)) }
-    ensures within { IfOk result
-        (λ f. (i b : ℕ) → i < length rows.now → get_or f.binders.items i None ≡ Some b → b < length rows.now) }
+    ensures within { IfOk result (λ f.
+        (i b : ℕ) → i < length rows.now → get_or f.binders.items i None ≡ Some b → b < length rows.now) }
     ensures first { IfOk result (λ f. IsFirstOf f.first (duplicates rows.now (length rows.now))) }
 {
     let mut held = vec![in alloc; false; rows.len()]?;
@@ -66,8 +67,8 @@ pub fn find_binders(alloc: Global, rows: &[Row], count: usize) -> Result<Found, 
 fn no_uses(alloc: Global, rows: &[Row], count: usize) -> Result<Uses, AllocError>
     requires { keys count < 2 ^ 64 }
     ensures binders { IfOk result (λ u. AreBound rows.now 0 u.binders.items) }
-    ensures waiting { IfOk result
-        (λ u. AreWaiting rows.now 0 (keys count) u.binders.items u.last.items u.earlier.items) }
+    ensures waiting { IfOk result (λ u.
+        AreWaiting rows.now 0 (keys count) u.binders.items u.last.items u.earlier.items) }
 {
     Ok(Uses {
         binders: nothing(alloc, rows.len())?,
@@ -96,8 +97,8 @@ fn pass_rows(
     requires held { AreHeld rows.now 0 held.old.items }
     requires fresh { IsFresh 0 bound.old.items }
     requires binders { AreBound rows.now 0 uses.old.binders.items }
-    requires waiting { AreWaiting rows.now 0
-        (keys (length bound.old.items)) uses.old.binders.items uses.old.last.items uses.old.earlier.items }
+    requires waiting { AreWaiting rows.now 0 (keys (length bound.old.items))
+        uses.old.binders.items uses.old.last.items uses.old.earlier.items }
     requires first { first.old ≡ None }
     ensures binders { OnOk result (AreBound rows.now (length rows.now) uses.new.binders.items) }
     ensures first { OnOk result (IsFirstOf first.new (duplicates rows.now (length rows.now))) }
@@ -109,8 +110,8 @@ fn pass_rows(
     Ok(())
 }
 
-/// Passes a row: where it is a scope, it takes the binders within it; where it binds a name, it is yet to be taken;
-/// where it uses one, it waits for its binder.
+/// Passes a row: where it is a scope, it takes the binders within it; where it binds a name, or is the use of a first
+/// value, it is yet to be taken; where it uses a name, it waits for its binder.
 fn pass(
     rows: &[Row],
     untaken: &mut Vec<usize>,
@@ -126,27 +127,26 @@ fn pass(
     requires held { AreHeld rows.now s held.old.items }
     requires fresh { IsFresh s bound.old.items }
     requires binders { AreBound rows.now s uses.old.binders.items }
-    requires waiting { AreWaiting rows.now s
-        (keys (length bound.old.items)) uses.old.binders.items uses.old.last.items uses.old.earlier.items }
+    requires waiting { AreWaiting rows.now s (keys (length bound.old.items))
+        uses.old.binders.items uses.old.last.items uses.old.earlier.items }
     ensures untaken { OnOk result (IsOpen rows.now (s + 1) (s + 1) untaken.new.items) }
     ensures held { OnOk result (AreHeld rows.now (s + 1) held.new.items) }
     ensures long { OnOk result (length bound.new.items ≡ length bound.old.items) }
     ensures fresh { OnOk result (IsFresh (s + 1) bound.new.items) }
     ensures binders { OnOk result (AreBound rows.now (s + 1) uses.new.binders.items) }
-    ensures waiting { OnOk result
-        (AreWaiting rows.now (s + 1)
-        (keys (length bound.old.items)) uses.new.binders.items uses.new.last.items uses.new.earlier.items) }
+    ensures waiting { OnOk result (AreWaiting rows.now (s + 1) (keys (length bound.old.items))
+        uses.new.binders.items uses.new.last.items uses.new.earlier.items) }
     ensures first { OnOk result (Notes first.old (seconds rows.now s s) first.new) }
 {
     take(rows, untaken, held, bound, uses, first, s);
     wait(rows, uses, s);
-    if bound_name(rows[s].node).is_some() {
+    if !sees_own(rows[s].node) {
         untaken.push(s)?;
     }
     Ok(())
 }
 
-/// Where the row is a scope, it takes the binders within it. Takes no memory.
+/// Where the row is a scope, it takes the binders within it, and closes them. Takes no memory.
 fn take(
     rows: &[Row],
     untaken: &mut Vec<usize>,
@@ -162,19 +162,28 @@ fn take(
     requires held { AreHeld rows.now s held.old.items }
     requires fresh { IsFresh s bound.old.items }
     requires binders { AreBound rows.now s uses.old.binders.items }
-    requires waiting { AreWaiting rows.now s
-        (keys (length bound.old.items)) uses.old.binders.items uses.old.last.items uses.old.earlier.items }
+    requires waiting { AreWaiting rows.now s (keys (length bound.old.items))
+        uses.old.binders.items uses.old.last.items uses.old.earlier.items }
     ensures untaken { IsOpen rows.now s (s + 1) untaken.new.items }
     ensures held { AreHeld rows.now (s + 1) held.new.items }
     ensures long { length bound.new.items ≡ length bound.old.items }
     ensures fresh { IsFresh (s + 1) bound.new.items }
     ensures binders { AreBound rows.now (s + 1) uses.new.binders.items }
-    ensures waiting { AreWaiting rows.now s
-        (keys (length bound.old.items)) uses.new.binders.items uses.new.last.items uses.new.earlier.items }
+    ensures waiting { AreWaiting rows.now s (keys (length bound.old.items))
+        uses.new.binders.items uses.new.last.items uses.new.earlier.items }
     ensures first { Notes first.old (seconds rows.now s s) first.new }
 {
     if is_scope(rows[s].node) {
-        enter(rows, untaken.as_slice(), held, bound, uses, first, s);
+        enter(
+            rows,
+            untaken.as_slice(),
+            held.as_slice(),
+            bound,
+            uses,
+            first,
+            s,
+        );
+        close(rows, untaken.as_slice(), held, s);
         let kept = kept(untaken.as_slice(), held.as_slice());
         untaken.truncate(kept);
     }
@@ -184,7 +193,7 @@ fn take(
 fn enter(
     rows: &[Row],
     untaken: &[usize],
-    held: &mut Vec<bool>,
+    held: &[bool],
     bound: &mut Vec<Option<Bound>>,
     uses: &mut Uses,
     first: &mut Option<CheckCause>,
@@ -193,22 +202,47 @@ fn enter(
     requires row { s < length rows.now }
     requires names { AreNames rows.now (length bound.old.items) }
     requires untaken { IsOpen rows.now s s untaken.now }
-    requires held { AreHeld rows.now s held.old.items }
+    requires held { AreHeld rows.now s held.now }
     requires fresh { IsFresh s bound.old.items }
     requires binders { AreBound rows.now s uses.old.binders.items }
-    requires waiting { AreWaiting rows.now s
-        (keys (length bound.old.items)) uses.old.binders.items uses.old.last.items uses.old.earlier.items }
-    ensures held { AreHeld rows.now (s + 1) held.new.items }
+    requires waiting { AreWaiting rows.now s (keys (length bound.old.items))
+        uses.old.binders.items uses.old.last.items uses.old.earlier.items }
     ensures long { length bound.new.items ≡ length bound.old.items }
     ensures fresh { IsFresh (s + 1) bound.new.items }
     ensures binders { AreBound rows.now (s + 1) uses.new.binders.items }
-    ensures waiting { AreWaiting rows.now s
-        (keys (length bound.old.items)) uses.new.binders.items uses.new.last.items uses.new.earlier.items }
+    ensures waiting { AreWaiting rows.now s (keys (length bound.old.items))
+        uses.new.binders.items uses.new.last.items uses.new.earlier.items }
     ensures first { Notes first.old (seconds rows.now s s) first.new }
 {
     let start = start_of(untaken, rows[s].first);
     for k in start..untaken.len() {
         enter_row(rows, held, bound, uses, first, s, untaken[k]);
+    }
+}
+
+/// Closes the rows that are seen no further out than in the scope. Takes no memory.
+fn close(rows: &[Row], untaken: &[usize], held: &mut Vec<bool>, s: usize)
+    requires row { s < length rows.now }
+    requires untaken { IsOpen rows.now s s untaken.now }
+    requires held { AreHeld rows.now s held.old.items }
+    ensures { AreHeld rows.now (s + 1) held.new.items }
+{
+    let start = start_of(untaken, rows[s].first);
+    for k in start..untaken.len() {
+        close_row(rows, held, s, untaken[k]);
+    }
+}
+
+/// Closes the row if it is seen no further out than in the scope. Takes no memory.
+fn close_row(rows: &[Row], held: &mut Vec<bool>, s: usize, b: usize)
+    requires row { s < length rows.now }
+    requires inside { b < s }
+    requires behind { (at rows.now s).first ≤ b }
+    requires taken { AreTaken rows.now s b held.old.items }
+    ensures { AreTaken rows.now s (b + 1) held.new.items }
+{
+    if closes(rows[s].node, rows[b].node) {
+        held[b] = true;
     }
 }
 
@@ -240,10 +274,10 @@ fn kept(untaken: &[usize], held: &[bool]) -> usize
     kept
 }
 
-/// Takes the row if it is a binder of the scope, and no scope within has taken it. Takes no memory.
+/// Takes the row if it is a binder of the scope, and no scope within has closed it. Takes no memory.
 fn enter_row(
     rows: &[Row],
-    held: &mut Vec<bool>,
+    held: &[bool],
     bound: &mut Vec<Option<Bound>>,
     uses: &mut Uses,
     first: &mut Option<CheckCause>,
@@ -254,24 +288,26 @@ fn enter_row(
     requires inside { b < s }
     requires behind { (at rows.now s).first ≤ b }
     requires names { AreNames rows.now (length bound.old.items) }
-    requires taking { IsTaking rows.now s b held.old.items bound.old.items uses.old.binders.items }
-    requires waiting { AreWaiting rows.now s
-        (keys (length bound.old.items)) uses.old.binders.items uses.old.last.items uses.old.earlier.items }
+    requires held { AreHeld rows.now s held.now }
+    requires taking { IsTaking rows.now s b bound.old.items uses.old.binders.items }
+    requires waiting { AreWaiting rows.now s (keys (length bound.old.items))
+        uses.old.binders.items uses.old.last.items uses.old.earlier.items }
     ensures long { length bound.new.items ≡ length bound.old.items }
-    ensures taking { IsTaking rows.now s (b + 1) held.new.items bound.new.items uses.new.binders.items }
-    ensures waiting { AreWaiting rows.now s
-        (keys (length bound.old.items)) uses.new.binders.items uses.new.last.items uses.new.earlier.items }
+    ensures taking { IsTaking rows.now s (b + 1) bound.new.items uses.new.binders.items }
+    ensures waiting { AreWaiting rows.now s (keys (length bound.old.items))
+        uses.new.binders.items uses.new.last.items uses.new.earlier.items }
     ensures first { Notes first.old (second rows.now s b (scopes.bound_name (at rows.now b).node)) first.new }
 {
     if !held[b] && takes(rows[s].node, rows[b].node) {
-        held[b] = true;
-        bind(rows, bound, uses, first, s, b);
+        bind(rows, held, bound, uses, first, s, b);
     }
 }
 
-/// Binds the name of the row in the scope: its uses get their binder, or it is a second one. Takes no memory.
+/// Binds the name of the row in the scope, if it binds one: its uses get their binder, or it is a second one. Takes no
+/// memory.
 fn bind(
     rows: &[Row],
+    held: &[bool],
     bound: &mut Vec<Option<Bound>>,
     uses: &mut Uses,
     first: &mut Option<CheckCause>,
@@ -280,19 +316,20 @@ fn bind(
 )
     requires row { s < length rows.now }
     requires inside { b < s }
+    requires held { AreHeld rows.now s held.now }
     requires names { AreNames rows.now (length bound.old.items) }
     requires earlier { (x a : ℕ) → x < length bound.old.items
         → names.in_scope s (get_or bound.old.items x None) ≡ Some a → a < length rows.now }
-    requires waiting { AreWaiting rows.now s
-        (keys (length bound.old.items)) uses.old.binders.items uses.old.last.items uses.old.earlier.items }
+    requires waiting { AreWaiting rows.now s (keys (length bound.old.items))
+        uses.old.binders.items uses.old.last.items uses.old.earlier.items }
     ensures long { length bound.new.items ≡ length bound.old.items }
     ensures bound { (x : ℕ) → x < length bound.old.items → names.in_scope s (get_or bound.new.items x None)
         ≡ option_or (names.in_scope s (get_or bound.old.items x None))
         (if is_name x (scopes.bound_name (at rows.now b).node) then Some b else None) }
     ensures later { (x t : ℕ) → s < t → names.in_scope t (get_or bound.old.items x None) ≡ None
         → names.in_scope t (get_or bound.new.items x None) ≡ None }
-    ensures waiting { AreWaiting rows.now s
-        (keys (length bound.old.items)) uses.new.binders.items uses.new.last.items uses.new.earlier.items }
+    ensures waiting { AreWaiting rows.now s (keys (length bound.old.items))
+        uses.new.binders.items uses.new.last.items uses.new.earlier.items }
     ensures binders { (i : ℕ) → i < length rows.now → get_or uses.new.binders.items i None
         ≡ option_or (get_or uses.old.binders.items i None)
         (newly rows.now s b bound.old.items (scopes.bound_name (at rows.now b).node) i) }
@@ -308,7 +345,7 @@ fn bind(
                 binder: b,
             });
             if let Some(key) = sought(rows[s].node, name) {
-                resolve(rows, uses, s, key, b);
+                resolve(rows, held, uses, s, key, b);
             }
         }
     }
@@ -324,22 +361,77 @@ fn note_second(first: &mut Option<CheckCause>, rows: &[Row], b: usize, earlier: 
     note(first, CheckCause::Duplicate { at, first: earlier });
 }
 
-/// Gives the uses of this key within the scope that wait for a binder this one. Takes no memory.
-fn resolve(rows: &[Row], uses: &mut Uses, s: usize, key: usize, b: usize)
+/// Gives the uses of this key within the scope that wait for a binder this one. What is yet in its own scope and does
+/// not see that goes on waiting. Takes no memory.
+fn resolve(rows: &[Row], held: &[bool], uses: &mut Uses, s: usize, key: usize, b: usize)
     requires row { s < length rows.now }
+    requires held { AreHeld rows.now s held.now }
     requires key { key < length uses.old.last.items }
-    requires waiting { AreWaiting rows.now s
-        (length uses.old.last.items) uses.old.binders.items uses.old.last.items uses.old.earlier.items }
-    ensures waiting { AreWaiting rows.now s
-        (length uses.old.last.items) uses.new.binders.items uses.new.last.items uses.new.earlier.items }
-    ensures binders { (i : ℕ) → i < length rows.now
-        → get_or uses.new.binders.items i None
+    requires waiting { AreWaiting rows.now s (length uses.old.last.items)
+        uses.old.binders.items uses.old.last.items uses.old.earlier.items }
+    ensures waiting { AreWaiting rows.now s (length uses.old.last.items)
+        uses.new.binders.items uses.new.last.items uses.new.earlier.items }
+    ensures binders { (i : ℕ) → i < length rows.now → get_or uses.new.binders.items i None
         ≡ option_or (get_or uses.old.binders.items i None) (given rows.now s key b i) }
 {
     let first = rows[s].first;
-    while let Some(u) = not_before(first, uses.last[key]) {
-        uses.binders[u] = Some(b);
-        uses.last[key] = uses.earlier[u];
+    let mut behind = None;
+    while let Some(u) = not_before(first, use_before(uses, key, behind)) {
+        if is_outside(rows, held, s, u) {
+            give(rows, uses, s, key, behind, u, b);
+        } else {
+            behind = Some(u);
+        }
+    }
+}
+
+/// Whether the row sees its own scope, or is out of it. Takes no memory.
+fn is_outside(rows: &[Row], held: &[bool], s: usize, u: usize) -> bool
+    requires row { u < length rows.now }
+    requires held { AreHeld rows.now s held.now }
+    ensures { result ≡ names.is_outside rows.now s u }
+{
+    sees_own(rows[u].node) || held[u]
+}
+
+/// The last use of this key that waits, before this one if there is one. Takes no memory.
+fn use_before(uses: &Uses, key: usize, behind: Option<usize>) -> Option<usize>
+    requires key { key < length uses.now.last.items }
+    requires behind { (l : ℕ) → behind ≡ Some l → l < length uses.now.earlier.items }
+    ensures { result ≡ names.use_before uses.now.last.items uses.now.earlier.items key behind }
+{
+    match behind {
+        Some(later) => uses.earlier[later],
+        None => uses.last[key],
+    }
+}
+
+/// Gives the use this binder: it waits no more, and the one behind it, if there is one, comes after those before it.
+/// Takes no memory.
+fn give(
+    rows: &[Row],
+    uses: &mut Uses,
+    s: usize,
+    key: usize,
+    behind: Option<usize>,
+    u: usize,
+    b: usize,
+)
+    requires row { s < length rows.now }
+    requires key { key < length uses.old.last.items }
+    requires waiting { AreWaiting rows.now s (length uses.old.last.items)
+        uses.old.binders.items uses.old.last.items uses.old.earlier.items }
+    requires behind { IsBehind rows.now uses.old.binders.items s key behind }
+    requires next { names.use_before uses.old.last.items uses.old.earlier.items key behind ≡ Some u }
+    ensures binders { uses.new.binders.items ≡ set uses.old.binders.items u (Some b) }
+    ensures waiting { AreWaiting rows.now s (length uses.old.last.items)
+        uses.new.binders.items uses.new.last.items uses.new.earlier.items }
+{
+    let earlier = uses.earlier[u];
+    uses.binders[u] = Some(b);
+    match behind {
+        Some(later) => uses.earlier[later] = earlier,
+        None => uses.last[key] = earlier,
     }
 }
 
@@ -368,11 +460,11 @@ fn wait(rows: &[Row], uses: &mut Uses, s: usize)
     requires row { s < length rows.now }
     requires key { (x : ℕ) → names.key_of (at rows.now s).node ≡ Some x → x < length uses.old.last.items }
     requires none { get_or uses.old.binders.items s None ≡ None }
-    requires waiting { AreWaiting rows.now s
-        (length uses.old.last.items) uses.old.binders.items uses.old.last.items uses.old.earlier.items }
+    requires waiting { AreWaiting rows.now s (length uses.old.last.items)
+        uses.old.binders.items uses.old.last.items uses.old.earlier.items }
     ensures binders { uses.new.binders.items ≡ uses.old.binders.items }
-    ensures waiting { AreWaiting rows.now (s + 1)
-        (length uses.old.last.items) uses.new.binders.items uses.new.last.items uses.new.earlier.items }
+    ensures waiting { AreWaiting rows.now (s + 1) (length uses.old.last.items)
+        uses.new.binders.items uses.new.last.items uses.new.earlier.items }
 {
     if let Some(key) = key_of(rows[s].node) {
         uses.earlier[s] = uses.last[key];
@@ -386,7 +478,7 @@ fn key_of(node: Node) -> Option<usize>
     ensures { result ≡ names.key_of node }
 {
     match node {
-        Node::Name { name } => Some(name + name),
+        Node::Name { name } | Node::NextUse { name } => Some(name + name),
         Node::Enter { name } => Some(name + name + 1),
         _ => None,
     }
@@ -398,7 +490,7 @@ fn sought(scope: Node, name: usize) -> Option<usize>
     ensures { result ≡ names.sought scope name }
 {
     match scope {
-        Node::Block { .. } | Node::Def { .. } => Some(name + name),
+        Node::Block { .. } | Node::Body | Node::Loop { .. } | Node::Def { .. } => Some(name + name),
         Node::Program => Some(name + name + 1),
         _ => None,
     }

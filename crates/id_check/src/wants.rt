@@ -73,6 +73,7 @@ fn note_row(
     match row.node {
         Node::Name { .. } => note_unknown(first, binders[i], row.place),
         Node::Enter { .. } => note_unknown(first, binders[i], row.place),
+        Node::NextUse { .. } => note_unknown(first, binders[i], row.place),
         Node::Arg {
             enter,
             index,
@@ -97,6 +98,8 @@ fn note_row(
         Node::Unary { op, operand } => note_wrong(first, rows, kinds, unary_kind(op), operand),
         Node::Binary { op, left, right } => note_operands(first, rows, kinds, op, left, right),
         Node::Split { test } => note_wrong(first, rows, kinds, Kind::Bool, test),
+        Node::Switches { test } => note_wrong(first, rows, kinds, Kind::Bool, test),
+        Node::Next { outer, value, .. } => note_next(first, rows, kinds, outer, value),
         Node::If {
             then,
             otherwise,
@@ -333,6 +336,23 @@ fn note_arm(
         (wrong_like rows.now (λ i. get_or kinds.now i None) (get_or kinds.now then None) otherwise) first.new }
 {
     note_like(first, rows, kinds, kinds[then], otherwise);
+}
+
+/// Notes the expression of a `next`, if it is of another kind than the use of the name outside. Takes no memory.
+fn note_next(
+    first: &mut Option<CheckCause>,
+    rows: &[Row],
+    kinds: &[Option<Kind>],
+    outer: usize,
+    value: usize,
+)
+    requires kinds { length kinds.now ≡ length rows.now }
+    requires outer { outer < length rows.now }
+    requires value { value < length rows.now }
+    ensures { Notes first.old
+        (wrong_like rows.now (λ i. get_or kinds.now i None) (get_or kinds.now outer None) value) first.new }
+{
+    note_like(first, rows, kinds, kinds[outer], value);
 }
 
 /// Notes the operands that are wrong, where one kind is wanted of both. Takes no memory.

@@ -5,8 +5,8 @@ use Rattle.id_meaning.specs.declared.SourceValue.{SourceValue}
 use Rattle.id_meaning.specs.declared.SourceFault.{SourceFault}
 use Rattle.id_meaning.specs.declared.NameValue.{NameValue}
 pub use Rattle.id_observe.specs.Observed.{events_of, brought, source_value, answers, answer_in, place_of, path_of}
-pub use Rattle.id_observe.specs.Observed.{path_in, fault_of, faults_of, faults_in, is_value_merge, is_label_of}
-pub use Rattle.id_observe.specs.Observed.{is_label, name_at, name_in, names_of, names_in}
+pub use Rattle.id_observe.specs.Observed.{path_in, fault_of, faults_of, faults_in, is_value_merge, is_next, claims}
+pub use Rattle.id_observe.specs.Observed.{is_label_of, is_label, name_at, name_in, names_of, names_in}
 use Rattle.id_core.specs.Machines.{World}
 
 -- the answer that a machine shows

@@ -3,4 +3,4 @@
 pub use Rattle.id_element.specs.Steps.{State, fresh, fresh_numbers, next_numbers, made_by, arrival_of, arrival}
 pub use Rattle.id_element.specs.Steps.{waiting_after, fired_step, fired_verdict, Outcome, firing, arriving, at_instr}
 pub use Rattle.id_element.specs.Steps.{outcome, next_stamp, is_ended, step_of, outputs_of, event_of, state_after}
-pub use Rattle.id_record.specs.Sends.{token_to, sent, numbered}
+pub use Rattle.id_record.specs.Sends.{token_to, moved_to, sent, numbered}

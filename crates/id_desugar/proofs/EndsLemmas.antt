@@ -1,29 +1,48 @@
 -- The ends of what begins at rows, as they are noted.
-use Rattle.std.proofs.Common.{◌≡◌, inl, ℕ, suc, ◌+◌, ◌<◌, Bool, true, false, List, length, get_or, Option, None, refl, ap, sym, ◌∙◌, subst, arith, if◌then◌else◌}
-use Rattle.std.specs.Prelude.{Some, nat_eq}
-use Rattle.std.proofs.lemmas.Bool.{eqb-true}
+use Rattle.std.proofs.Common.{◌≡◌, inl, inr, ℕ, zero, suc, ◌+◌, ◌-◌, ◌<◌, ◌≤◌, Bool, true, false, List, [], ◌∷◌, length, get_or, replicate, Option, None}
+use Rattle.std.proofs.Common.{refl, ap, sym, ◌∙◌, subst, arith, if◌then◌else◌}
+use Rattle.std.specs.Prelude.{Some, nat_eq, unwrap_or}
+use Rattle.std.proofs.lemmas.Bool.{cases_lt, eqb-true, false≢true}
+use Rattle.std.proofs.lemmas.List.{get_or_past, get_or-replicate, length-replicate}
 use Rattle.std.specs.Option.{option_or}
 use Rattle.id_check.specs.declared.checked.Checked.{Checked}
 use Rattle.id_check.specs.Programs.{rows}
 use Rattle.id_check.specs.Scopes.{first_of}
+use Rattle.id_check.proofs.ProgramsLemmas.{table_of}
 use Rattle.id_check.proofs.ScopesLemmas.{first_of-some}
+use Rattle.id_parts.specs.declared.row.Row.{Row}
 use Rattle.id_parts.specs.declared.row.Node.{Node}
-use Rattle.id_parts.specs.declared.row.Node.TheVariants.{Head, Param, Literal, Name, Unary, Binary, Split, If, Enter, Arg, Call, Block, Binding, Def, Program}
-use Rattle.id_parts.specs.Rows.{at}
-use Rattle.id_parts.specs.Tables.{HasPart}
-use Rattle.id_desugar.specs.Gathering.{EndsNoSplit, is_split}
-use Rattle.id_desugar.specs.Ends.{AreEndsBelow, IsEnd, begun_at, end_at, end_row, is_row}
+use Rattle.id_parts.specs.declared.row.Node.TheVariants.{Head, If, Call, Variable, Next, Loop, Def}
+use Rattle.id_parts.specs.Rows.{at, no_row}
+use Rattle.id_parts.specs.Tables.{HasPart, is_variable}
+use Rattle.id_desugar.specs.Gathering.{EndsNothing, is_opening}
+use Rattle.id_desugar.specs.Regions.{nexts_from}
+use Rattle.id_desugar.specs.Ends.{AreFirst, IsNoted, begun_at, end_at, end_of, end_row, is_row, next_of}
+
+-- at first nothing is noted
+pub nothing-at : (n h : ℕ) → get_or {A = Option ℕ} (replicate n None) h None ≡ None
+nothing-at n h = elim (cases_lt h n) [
+  | inl l ↦ get_or-replicate n h None None l
+  | inr l ↦ get_or_past (replicate n None) h None (let long = length-replicate {A = Option ℕ} n None in omega (arith, long, l))
+]
+
+pub long-nothing : (n : ℕ) (es : List (Option ℕ)) → es ≡ replicate n None → length es ≡ n
+long-nothing n es is = ap length is ∙ length-replicate n None
+
+pub AreFirst-none : (P : Checked) (f : ℕ → ℕ → Option ℕ) (n : ℕ) (es : List (Option ℕ)) → n ≡ length (rows P) → es ≡ replicate n None → AreFirst P f 0 es
+AreFirst-none P f n es long is = record { many = long-nothing n es is ∙ long; each = λ h l. ap (λ z. get_or z h None) is ∙ nothing-at n h }
 
 -- one more row is noted
-pub AreEndsBelow-next : (P : Checked) (n : ℕ) (b : Option ℕ) (es fs : List (Option ℕ)) → b ≡ begun_at (at (rows P) n).node → length fs ≡ length es → AreEndsBelow P n es
-    → ((h : ℕ) → h < length es → IsEnd n b h (get_or es h None) (get_or fs h None)) → AreEndsBelow P (n + 1) fs
-AreEndsBelow-next P n b es fs is long so each = record {
+pub AreFirst-next : (P : Checked) (f : ℕ → ℕ → Option ℕ) (n : ℕ) (b : Option ℕ) (es fs : List (Option ℕ))
+    → ((h : ℕ) → f h n ≡ (if is_row h b then Some n else None))
+    → length fs ≡ length es → AreFirst P f n es → ((h : ℕ) → h < length es → IsNoted n b h (get_or es h None) (get_or fs h None)) → AreFirst P f (n + 1) fs
+AreFirst-next P f n b es fs is long so each = record {
   many = long ∙ so.many;
   each = λ h l. (
       let low : h < length es = omega (arith, so.many, l) in
       let next : suc n ≡ n + 1 = omega arith in
       each h low ∙ ap (λ o. option_or o (if is_row h b then Some n else None)) (so.each h l)
-      ∙ ap (λ y. option_or (first_of (end_at P h) n) (if is_row h y then Some n else None)) is ∙ ap (first_of (end_at P h)) next
+      ∙ ap (option_or (first_of (f h) n)) (sym (is h)) ∙ ap (first_of (f h)) next
       );
 }
 
@@ -51,19 +70,12 @@ end_begins P h e is =
 begun_part : (n : Node) (s : ℕ) → begun_at n ≡ Some s → HasPart n s
 begun_part (Def x h k b) s e = let is : h ≡ s = cc in inl (sym is)
 begun_part (If h x y) s e = let is : h ≡ s = cc in inl (sym is)
-begun_part Head s e = cc
-begun_part (Param x k) s e = cc
-begun_part (Literal v) s e = cc
-begun_part (Name x) s e = cc
-begun_part (Unary o a) s e = cc
-begun_part (Binary o a b) s e = cc
-begun_part (Split t) s e = cc
-begun_part (Enter x) s e = cc
-begun_part (Arg h k v) s e = cc
 begun_part (Call h c) s e = let is : h ≡ s = cc in sym is
-begun_part (Block b) s e = cc
-begun_part (Binding x a) s e = cc
-begun_part Program s e = cc
+begun_part (Loop h w l) s e = let is : h ≡ s = cc in inl (sym is)
+begun_part _ s e = absurd (none_some e)
+  where
+    none_some : None ≡ Some s → ⊥
+    none_some i = cc
 
 -- it begins before
 pub end_behind : (P : Checked) (h e : ℕ) → end_row P h ≡ Some e → h < e
@@ -71,27 +83,66 @@ end_behind P h e is =
     let w = end_begins P h e is in
     ((P.table.formed.each e w.0).parts h (begun_part (at (rows P) e).node h w.1)).1
 
--- no conditional ends where nothing ends
-pub ends_nothing : (P : Checked) (e : ℕ) (o : Option ℕ) → o ≡ begun_at (at (rows P) e).node → o ≡ None → EndsNoSplit P e
+-- no construct ends where nothing ends
+pub ends_nothing : (P : Checked) (e : ℕ) (o : Option ℕ) → o ≡ begun_at (at (rows P) e).node → o ≡ None → EndsNothing P e
 ends_nothing P e o b none s is =
     let w = end_begins P s e is in
     let bad : None ≡ Some s = sym none ∙ b ∙ w.1 in cc
 
 -- or where what ends is none
-pub ends_no_split : (P : Checked) (e h : ℕ) → begun_at (at (rows P) e).node ≡ Some h
-    → ((h < length (rows P)) × (end_row P h ≡ Some e) × (is_split (at (rows P) h).node ≡ true) → ⊥) → EndsNoSplit P e
-ends_no_split P e h b never s is =
+pub ends_no_opening : (P : Checked) (e h : ℕ) → begun_at (at (rows P) e).node ≡ Some h
+    → ((h < length (rows P)) × (end_row P h ≡ Some e) × (is_opening (at (rows P) h).node ≡ true) → ⊥) → EndsNothing P e
+ends_no_opening P e h b never s is =
     let w = end_begins P s e is in
     let same : s ≡ h = one s h (sym w.1 ∙ b) in
-    by (is_split (at (rows P) s).node) refl (λ t. never (
+    by (is_opening (at (rows P) s).node) refl (λ t. never (
       subst (λ z. z < length (rows P)) same (omega (arith, end_behind P s e is, w.0)),
       subst (λ z. end_row P z ≡ Some e) same is,
-      subst (λ z. is_split (at (rows P) z).node ≡ true) same t,
+      subst (λ z. is_opening (at (rows P) z).node ≡ true) same t,
     ))
   where
     one : (s h : ℕ) → Some s ≡ Some h → s ≡ h
     one s h e = cc
 
-    by : (t : Bool) → is_split (at (rows P) s).node ≡ t → (is_split (at (rows P) s).node ≡ true → ⊥) → is_split (at (rows P) s).node ≡ false
+    by : (t : Bool) → is_opening (at (rows P) s).node ≡ t → (is_opening (at (rows P) s).node ≡ true → ⊥) → is_opening (at (rows P) s).node ≡ false
     by true e f = absurd (f e)
     by false e f = e
+
+-- what begins at a row ends at a row
+pub end_within : (P : Checked) (h : ℕ) → h < length (rows P) → end_of P h < length (rows P)
+end_within P h l = by (end_row P h) refl
+  where
+    by : (o : Option ℕ) → end_row P h ≡ o → unwrap_or o 0 < length (rows P)
+    by None e = omega (arith, l)
+    by (Some e) is = (end_begins P h e is).0
+
+-- the variable of a `next` is a row
+pub variable_within : (P : Checked) (n x k o v : ℕ) → n < length (rows P) → (at (rows P) n).node ≡ Next x k o v
+    → (at (rows P) n).block + 1 + k < length (rows P)
+variable_within P n x k o v l e = elim (cases_lt ((at (rows P) n).block + 1 + k) (length (rows P))) [
+  | inl m ↦ m
+  | inr m ↦
+      let w = (table_of P).next_in n (at (rows P) n).block k x (record { outer = o; value = v; within = l; block = refl; node = e }) in
+      let past : Head ≡ Variable = sym (ap (λ (r : Row). r.node) (get_or_past (rows P) ((at (rows P) n).block + 1 + k) no_row m)) ∙ w.2.variable in
+      absurd (false≢true (ap is_variable past))
+]
+
+-- ---- the `next`s of a loop
+
+-- one more variable stands behind the head
+pub nexts-next : (P : Checked) (v n : ℕ) → 0 < n → is_variable (at (rows P) v).node ≡ true → nexts_from P v n ≡ next_of P v ∷ nexts_from P (v + 1) (n - 1)
+nexts-next P v zero l e = absurd (omega (arith, l))
+nexts-next P v (suc n) l e =
+    let next : suc v ≡ v + 1 = omega arith in
+    let one : n ≡ suc n - 1 = omega arith in
+    ap (λ t. if t then next_of P v ∷ nexts_from P (suc v) n else []) e ∙ ap (λ z. next_of P v ∷ nexts_from P z n) next
+    ∙ ap (λ z. next_of P v ∷ nexts_from P (v + 1) z) one
+
+-- or none
+pub nexts-none : (P : Checked) (v n : ℕ) → is_variable (at (rows P) v).node ≡ false → nexts_from P v n ≡ []
+nexts-none P v zero e = refl
+nexts-none P v (suc n) e = ap (λ t. if t then next_of P v ∷ nexts_from P (suc v) n else []) e
+
+-- past the end there is none
+pub no_variable : (P : Checked) (v : ℕ) → length (rows P) ≤ v → is_variable (at (rows P) v).node ≡ false
+no_variable P v l = ap (λ (r : Row). is_variable r.node) (get_or_past (rows P) v no_row l)

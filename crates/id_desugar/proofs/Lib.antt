@@ -1,4 +1,6 @@
 pub mod EndsLemmas
 pub mod FilledLemmas
 pub mod NotesLemmas
+pub mod OrderLemmas
+pub mod OwnLemmas
 pub mod UsesLemmas

@@ -1,22 +1,23 @@
 -- Marks: which binders were noted.
-use Rattle.std.proofs.Common.{◌≡◌, ◌≢◌, ◌⊎◌, inl, inr, ℕ, zero, suc, ◌+◌, ◌-◌, ◌≤◌, ◌<◌, Bool, true, false, List, [], ◌∷◌, ◌++◌, Option, Some, None, refl, ap, sym, ◌∙◌, arith, length, get_or, slice_set}
-use Rattle.std.specs.Prelude.{◌==◌, if◌then◌else◌, IfSome, nat_lt, take, unwrap_or}
-use Rattle.std.proofs.lemmas.Bool.{eqb-true, false≢true}
+use Rattle.std.proofs.Common.{◌≡◌, ◌≢◌, ◌⊎◌, inl, inr, ℕ, zero, suc, ◌+◌, ◌-◌, ◌≤◌, ◌<◌, Bool, true, false, List, [], ◌∷◌, ◌++◌, Option, Some, None, refl, ap}
+use Rattle.std.proofs.Common.{sym, ◌∙◌, arith, length, get_or, slice_set}
+use Rattle.std.specs.Prelude.{◌==◌, if◌then◌else◌, IfSome, take, unwrap_or}
+use Rattle.std.proofs.lemmas.Bool.{eqb-true}
 use Rattle.std.proofs.lemmas.Bool.Decides.{nat_tests}
 use Rattle.std.proofs.lemmas.Grind.{common_steps}
 use Rattle.std.proofs.lemmas.List.{get_or-set_same, get_or-set_other}
 use Rattle.id_list.specs.List.{Among}
 use Rattle.id_list.proofs.AmongLemmas.{Among-either}
 use Rattle.id_parts.specs.declared.row.Node.{Node}
-use Rattle.id_parts.specs.declared.row.Node.TheVariants.{Name, Split}
+use Rattle.id_parts.specs.declared.row.Node.TheVariants.{Name, NextUse}
 use Rattle.id_parts.specs.Rows.{at}
 use Rattle.id_check.specs.declared.checked.Checked.{Checked}
 use Rattle.id_check.specs.Programs.{binder, rows}
 use Rattle.id_check.proofs.ProgramsLemmas.{binder_below}
-use Rattle.id_desugar.specs.Ends.{end_row}
-use Rattle.id_desugar.specs.Regions.{handed, has, imports, imports_by, imports_of, is_outside, used, used_by, with_use}
-use Rattle.id_desugar.specs.Gathering.{AreFilled, AreMarked, AreUpTo, is_before, is_split, with_uses}
-use Rattle.id_desugar.proofs.UsesLemmas.{has_last, inner_span}
+use Rattle.id_desugar.specs.Ends.{end_of, end_row}
+use Rattle.id_desugar.specs.Regions.{has, imports, imports_by, is_outside, used_by, with_use}
+use Rattle.id_desugar.specs.Gathering.{AllCount, AreBelow, AreGathered, AreMarked, IsInner, is_opening, is_own, used_in, uses_of, with_uses}
+use Rattle.id_desugar.proofs.UsesLemmas.{has_last, imports-same, inner_span}
 
 -- a list with one more behind it has no other besides what it had
 has_other : (bs : List ℕ) (c b : ℕ) → b ≢ c → has (bs ++ c ∷ []) b ≡ has bs b
@@ -29,7 +30,7 @@ has_other (x ∷ xs) c b n = ap (λ z. if x == b then true else z) (has_other xs
 
 -- a binder is noted with its mark
 pub AreMarked-noted : (s b : ℕ) (M bs : List ℕ) → AreMarked s M bs → b < length M → AreMarked s (slice_set M b s) (bs ++ b ∷ [])
-AreMarked-noted s b M bs m less = record { up_to = λ k. up k (k == b) refl; marked = λ k l. mark k (k == b) refl l }
+AreMarked-noted s b M bs m less = record { below = λ k. up k (k == b) refl; marked = λ k l. mark k (k == b) refl l }
   where
     long : length (slice_set M b s) ≡ length M
     long = grind (arith, common_steps)
@@ -37,13 +38,13 @@ AreMarked-noted s b M bs m less = record { up_to = λ k. up k (k == b) refl; mar
     apart : (k : ℕ) → (k == b) ≡ false → k ≢ b
     apart k e same = grind (arith, nat_tests)
 
-    up : (k : ℕ) (t : Bool) → (k == b) ≡ t → get_or (slice_set M b s) k 0 ≤ s
+    up : (k : ℕ) (t : Bool) → (k == b) ≡ t → get_or (slice_set M b s) k 0 < s + 1
     up k true e =
         let there : get_or (slice_set M b s) k 0 ≡ s = ap (λ z. get_or (slice_set M b s) z 0) (eqb-true k b e) ∙ get_or-set_same M b s 0 less in
         omega (arith, there)
     up k false e =
         let there : get_or (slice_set M b s) k 0 ≡ get_or M k 0 = get_or-set_other M b k s 0 (apart k e) in
-        omega (arith, there, m.up_to k)
+        omega (arith, there, m.below k)
 
     mark : (k : ℕ) (t : Bool) → (k == b) ≡ t → k < length (slice_set M b s) → (get_or (slice_set M b s) k 0 == s) ≡ has (bs ++ b ∷ []) k
     mark k true e l =
@@ -56,30 +57,35 @@ AreMarked-noted s b M bs m less = record { up_to = λ k. up k (k == b) refl; mar
         ap (λ z. z == s) there ∙ m.marked k (omega (arith, long, l)) ∙ sym (has_other bs b k (apart k e))
 
 -- no binder is noted at first
-pub AreMarked-none : (s : ℕ) (M : List ℕ) → AreUpTo s M → AreMarked (s + 1) M []
-AreMarked-none s M up = record { up_to = λ b. omega (arith, up b); marked = λ b l. none b (up b) }
+pub AreMarked-none : (s : ℕ) (M : List ℕ) → AreBelow s M → AreMarked s M []
+AreMarked-none s M low = record { below = λ b. omega (arith, low b); marked = λ b l. none b (low b) }
   where
-    none : (b : ℕ) → get_or M b 0 ≤ s → (get_or M b 0 == (s + 1)) ≡ false
+    none : (b : ℕ) → get_or M b 0 < s → (get_or M b 0 == s) ≡ false
     none b u = grind (arith, nat_tests)
 
 -- one more of a list is noted
-pub with_uses-next : (lo hi : ℕ) (bs cs : List ℕ) (i : ℕ) → i < length cs → with_uses lo hi bs (take (suc i) cs) ≡ with_use lo hi (with_uses lo hi bs (take i cs)) (Some (get_or cs i 0))
+pub with_uses-next : (lo hi : ℕ) (bs cs : List ℕ) (i : ℕ) → i < length cs
+    → with_uses lo hi bs (take (suc i) cs) ≡ with_use lo hi (with_uses lo hi bs (take i cs)) (Some (get_or cs i 0))
 with_uses-next lo hi bs [] i l = absurd (omega arith)
 with_uses-next lo hi bs (c ∷ cs) zero l = refl
 with_uses-next lo hi bs (c ∷ cs) (suc i) l = with_uses-next lo hi (with_use lo hi bs (Some c)) cs i (omega (arith, l))
 
--- what a row uses is what its name is bound to, and the row of a name
-pub used_node : (o : Option ℕ) (n : Node) (b : ℕ) → used_by o n ≡ Some b → (o ≡ Some b) × ((x : ℕ) × (n ≡ Name x))
-used_node o (Name x) b e = (e, (x, refl))
-used_node o _ b e = cc
-
-used_below : (P : Checked) (i b : ℕ) → i < length (rows P) → used P i ≡ Some b → b < length (rows P)
-used_below P i b l e = binder_below P i b l (used_node (binder P i) (at (rows P) i).node b e).0
+-- what a row uses is what its name is bound to, and the row of a name or of a first value that counts
+pub used_node : (own : Bool) (o : Option ℕ) (n : Node) (b : ℕ) → used_by own o n ≡ Some b
+    → (o ≡ Some b) × (((x : ℕ) × (n ≡ Name x)) ⊎ ((x : ℕ) × (n ≡ NextUse x) × (own ≡ false)))
+used_node own o (Name x) b e = (e, inl (x, refl))
+used_node true o (NextUse x) b e = cc
+used_node false o (NextUse x) b e = (e, inr (x, refl, refl))
+used_node own o _ b e = cc
 
 -- the binder of what a row uses is a row
-pub used_within : (P : Checked) (i n : ℕ) (o : Option ℕ) → i < length (rows P) → o ≡ used P i → n ≡ length (rows P) → IfSome o (λ b. b < n)
-used_within P i n None l e f = tt
-used_within P i n (Some b) l e f = let low = used_below P i b l (sym e) in omega (arith, low, f)
+pub used_below : (P : Checked) (own : Option ℕ) (i b : ℕ) → i < length (rows P) → used_in P own i ≡ Some b → b < length (rows P)
+used_below P own i b l e = binder_below P i b l (used_node (is_own P own i) (binder P i) (at (rows P) i).node b e).0
+
+pub used_within : (P : Checked) (own : Option ℕ) (i n : ℕ) (o : Option ℕ) → i < length (rows P) → o ≡ used_in P own i → n ≡ length (rows P)
+    → IfSome o (λ b. b < n)
+used_within P own i n None l e f = tt
+used_within P own i n (Some b) l e f = let low = used_below P own i b l (sym e) in omega (arith, low, f)
 
 with_use-among : (lo hi : ℕ) (bs : List ℕ) (o : Option ℕ) (b : ℕ) → Among b (with_use lo hi bs o) → Among b bs ⊎ (o ≡ Some b)
 with_use-among lo hi bs None b h = inl h
@@ -91,42 +97,46 @@ with_use-among lo hi bs (Some c) b h = by (is_outside lo hi c) (has bs c) h
     by false u i = inl i
 
 -- and so is an import
-pub imports_within : (P : Checked) (lo hi k b : ℕ) → lo + k ≤ length (rows P) → Among b (imports_by P lo hi k) → b < length (rows P)
-imports_within P lo hi zero b l h = absurd h
-imports_within P lo hi (suc k) b l h = elim (with_use-among lo hi (imports_by P lo hi k) (used P (lo + k)) b h) [
-  | inl i ↦ imports_within P lo hi k b (omega arith) i
-  | inr e ↦ used_below P (lo + k) b (omega arith) e
+pub imports_within : (P : Checked) (own : Option ℕ) (lo hi k b : ℕ) → lo + k ≤ length (rows P) → Among b (imports_by (used_in P own) lo hi k)
+    → b < length (rows P)
+imports_within P own lo hi zero b l h = absurd h
+imports_within P own lo hi (suc k) b l h = elim (with_use-among lo hi (imports_by (used_in P own) lo hi k) (used_in P own (lo + k)) b h) [
+  | inl i ↦ imports_within P own lo hi k b (omega arith) i
+  | inr e ↦ used_below P own (lo + k) b (omega arith) e
 ]
 
-pub split_node : (n : Node) → is_split n ≡ true → (t : ℕ) × (n ≡ Split t)
-split_node (Split t) e = (t, refl)
-split_node _ e = absurd (false≢true e)
+-- what a construct uses, which ends at the row e
+pub uses-are : (P : Checked) (s e : ℕ) → end_row P s ≡ Some e → is_opening (at (rows P) s).node ≡ true → uses_of P s ≡ imports (used_in P None) (s + 1) e
+uses-are P s e is opening =
+    ap (λ t. if t then imports (used_in P None) (s + 1) (end_of P s) else []) opening ∙ ap (imports (used_in P None) (s + 1)) (ap (λ o. unwrap_or o 0) is)
 
--- what the list of a conditional holds that ends before
-pub filled_at : (P : Checked) (n s e : ℕ) (L : List (List ℕ)) → AreFilled P n L → s < length (rows P) → end_row P s ≡ Some e → e < n → is_split (at (rows P) s).node ≡ true
-    → get_or L s [] ≡ imports P (s + 1) e
-filled_at P n s e L f l is low split =
-    let z = split_node (at (rows P) s).node split in
-    let before : is_before n (end_row P s) ≡ true = ap (is_before n) is ∙ less in
-    f.each s l ∙ ap (λ t. if t then imports_of P s else []) before ∙ ap (handed P s) z.1 ∙ ap (imports P (s + 1)) (ap (λ o. unwrap_or o 0) is)
+-- what the list of an inner construct holds
+pub gathered_at : (P : Checked) (own : Option ℕ) (lo hi s e : ℕ) (L : List (List ℕ)) → AreGathered P lo hi L → AllCount P own lo hi → IsInner P lo hi s e
+    → get_or L s [] ≡ imports (used_in P own) (s + 1) e
+gathered_at P own lo hi s e L f count inner =
+    f.each s e inner ∙ uses-are P s e inner.ends inner.opening
+    ∙ sym (imports-same (used_in P own) (used_in P None) (s + 1) e (e - (s + 1)) (λ i l m. count.each s e i inner (omega (arith, l)) (high i l m)))
   where
-    less : nat_lt e n ≡ true
-    less = grind (arith, nat_tests)
+    high : (i : ℕ) → s + 1 ≤ i → i < (s + 1) + (e - (s + 1)) → i < e
+    high i l m = omega (arith, l, m)
 
 -- noting what a row uses is one step
-pub imports_by-next : (P : Checked) (lo hi n : ℕ) (bs new : List ℕ) (o : Option ℕ) → lo ≤ n → bs ≡ imports_by P lo hi (n - lo) → o ≡ used P n → new ≡ with_use lo hi bs o → new ≡ imports_by P lo hi (n + 1 - lo)
-imports_by-next P lo hi n bs new o l e b h =
+pub imports_by-next : (f : ℕ → Option ℕ) (lo hi n : ℕ) (bs new : List ℕ) (o : Option ℕ) → lo ≤ n → bs ≡ imports_by f lo hi (n - lo) → o ≡ f n
+    → new ≡ with_use lo hi bs o
+    → new ≡ imports_by f lo hi (n + 1 - lo)
+imports_by-next f lo hi n bs new o l e b h =
     let next : suc (n - lo) ≡ n + 1 - lo = omega (arith, l) in
     let here : lo + (n - lo) ≡ n = omega (arith, l) in
-    h ∙ ap (λ z. with_use lo hi z o) e ∙ ap (with_use lo hi (imports_by P lo hi (n - lo))) (b ∙ ap (used P) (sym here)) ∙ ap (imports_by P lo hi) next
+    h ∙ ap (λ z. with_use lo hi z o) e ∙ ap (with_use lo hi (imports_by f lo hi (n - lo))) (b ∙ ap f (sym here)) ∙ ap (imports_by f lo hi) next
 
--- and noting the imports of an inner conditional goes on to its end
-pub imports_by-over : (P : Checked) (lo hi n e : ℕ) (bs cs new : List ℕ) → lo ≤ n → n < e → e ≤ hi → bs ≡ imports_by P lo hi (n + 1 - lo) → cs ≡ imports P (n + 1) e
-    → new ≡ with_uses lo hi bs cs → new ≡ imports_by P lo hi (e - lo)
-imports_by-over P lo hi n e bs cs new l m h b c is =
+-- and noting what an inner construct uses goes on to its end
+pub imports_by-over : (f : ℕ → Option ℕ) (lo hi n e : ℕ) (bs cs new : List ℕ) → lo ≤ n → n < e → e ≤ hi → bs ≡ imports_by f lo hi (n + 1 - lo)
+    → cs ≡ imports f (n + 1) e
+    → new ≡ with_uses lo hi bs cs → new ≡ imports_by f lo hi (e - lo)
+imports_by-over f lo hi n e bs cs new l m h b c is =
     let over : (n + 1 - lo) + (e - (n + 1)) ≡ e - lo = omega (arith, l, m) in
-    is ∙ ap (λ z. with_uses lo hi z cs) b ∙ ap (with_uses lo hi (imports_by P lo hi (n + 1 - lo))) c
-    ∙ sym (inner_span P lo hi (n + 1) e (e - (n + 1)) (omega (arith, l)) h) ∙ ap (imports_by P lo hi) over
+    is ∙ ap (λ z. with_uses lo hi z cs) b ∙ ap (with_uses lo hi (imports_by f lo hi (n + 1 - lo))) c
+    ∙ sym (inner_span f lo hi (n + 1) e (e - (n + 1)) (omega (arith, l)) h) ∙ ap (imports_by f lo hi) over
 
 -- what stands at a number of a list is among it
 pub among_at : (xs : List ℕ) (i : ℕ) → i < length xs → Among (get_or xs i 0) xs

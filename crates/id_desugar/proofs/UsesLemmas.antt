@@ -1,10 +1,9 @@
 -- The binders that names mean, gathered one after another, or an inner span at a time.
-use Rattle.std.proofs.Common.{◌≡◌, ℕ, zero, suc, ◌+◌, ◌≤◌, Bool, true, false, List, [], ◌∷◌, ◌++◌, Option, Some, None, refl, ap, sym, ◌∙◌, subst, arith}
+use Rattle.std.proofs.Common.{◌≡◌, ℕ, zero, suc, ◌+◌, ◌≤◌, ◌<◌, Bool, true, false, List, [], ◌∷◌, ◌++◌, Option, Some, None, refl, ap, sym, ◌∙◌, subst, arith}
 use Rattle.std.specs.Prelude.{◌==◌, ◌-◌, if◌then◌else◌}
 use Rattle.std.proofs.lemmas.Bool.{false≢true}
 use Rattle.std.proofs.lemmas.Bool.Decides.{nat_tests}
-use Rattle.id_check.specs.declared.checked.Checked.{Checked}
-use Rattle.id_desugar.specs.Regions.{has, imports_by, is_outside, used, with_use}
+use Rattle.id_desugar.specs.Regions.{has, imports_by, is_outside, with_use}
 use Rattle.id_desugar.specs.Gathering.{with_uses}
 
 keep : (t u v : Bool) → (u ≡ true → v ≡ true) → (if t then true else u) ≡ true → (if t then true else v) ≡ true
@@ -52,7 +51,8 @@ all_noted : (lo hi : ℕ) (bs cs : List ℕ) (b : ℕ) → has cs b ≡ true →
 all_noted lo hi bs [] b h out = cc
 all_noted lo hi bs (c ∷ cs) b h out = either (c == b) refl h (λ g. all_noted lo hi (with_use lo hi bs (Some c)) cs b g out)
   where
-    either : (t : Bool) → (c == b) ≡ t → (if t then true else has cs b) ≡ true → (has cs b ≡ true → has (with_uses lo hi (with_use lo hi bs (Some c)) cs) b ≡ true)
+    either : (t : Bool) → (c == b) ≡ t → (if t then true else has cs b) ≡ true
+        → (has cs b ≡ true → has (with_uses lo hi (with_use lo hi bs (Some c)) cs) b ≡ true)
         → has (with_uses lo hi (with_use lo hi bs (Some c)) cs) b ≡ true
     either true e g f =
         let same : c ≡ b = grind (arith, nat_tests) in
@@ -88,12 +88,19 @@ one_more lo hi a e bs cs (Some b) l h = at (is_outside a e b) refl (has cs b) re
         sym (absorbed lo hi (with_uses lo hi bs cs) b (λ out. absurd (false≢true (sym inside ∙ out))))
 
 -- so the rows from a on, of which k are in the inner span up to e, are noted at once
-pub inner_span : (P : Checked) (lo hi a e k : ℕ) → lo ≤ a → e ≤ hi
-    → imports_by P lo hi ((a - lo) + k) ≡ with_uses lo hi (imports_by P lo hi (a - lo)) (imports_by P a e k)
-inner_span P lo hi a e zero l h = ap (imports_by P lo hi) (omega arith)
-inner_span P lo hi a e (suc k) l h =
+pub inner_span : (f : ℕ → Option ℕ) (lo hi a e k : ℕ) → lo ≤ a → e ≤ hi
+    → imports_by f lo hi ((a - lo) + k) ≡ with_uses lo hi (imports_by f lo hi (a - lo)) (imports_by f a e k)
+inner_span f lo hi a e zero l h = ap (imports_by f lo hi) (omega arith)
+inner_span f lo hi a e (suc k) l h =
     let there : (a - lo) + suc k ≡ suc ((a - lo) + k) = omega arith in
     let row : lo + ((a - lo) + k) ≡ a + k = omega (arith, l) in
-    ap (imports_by P lo hi) there ∙ ap (λ z. with_use lo hi (imports_by P lo hi ((a - lo) + k)) (used P z)) row
-    ∙ ap (λ z. with_use lo hi z (used P (a + k))) (inner_span P lo hi a e k l h)
-    ∙ sym (one_more lo hi a e (imports_by P lo hi (a - lo)) (imports_by P a e k) (used P (a + k)) l h)
+    ap (imports_by f lo hi) there ∙ ap (λ z. with_use lo hi (imports_by f lo hi ((a - lo) + k)) (f z)) row
+    ∙ ap (λ z. with_use lo hi z (f (a + k))) (inner_span f lo hi a e k l h)
+    ∙ sym (one_more lo hi a e (imports_by f lo hi (a - lo)) (imports_by f a e k) (f (a + k)) l h)
+
+-- what is used alike is imported alike
+pub imports-same : (f g : ℕ → Option ℕ) (lo hi k : ℕ) → ((i : ℕ) → lo ≤ i → i < lo + k → f i ≡ g i) → imports_by f lo hi k ≡ imports_by g lo hi k
+imports-same f g lo hi zero h = refl
+imports-same f g lo hi (suc k) h =
+    ap (λ z. with_use lo hi z (f (lo + k))) (imports-same f g lo hi k (λ i l m. h i l (omega arith)))
+    ∙ ap (with_use lo hi (imports_by g lo hi k)) (h (lo + k) (omega arith) (omega arith))

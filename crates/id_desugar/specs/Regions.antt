@@ -1,36 +1,67 @@
 -- The order in which rows are made into instructions, and the names that regions import (docs/GRAPH.md, "Imports").
-use Rattle.std.specs.Prelude.{ℕ, zero, suc, ◌+◌, ◌-◌, ◌==◌, Bool, true, false, if◌then◌else◌, ◌||◌, nat_lt, nat_le}
-use Rattle.std.specs.Prelude.{List, [], ◌∷◌, ◌++◌, length, Option, None, Some}
+use Rattle.std.specs.Prelude.{ℕ, zero, suc, ◌+◌, ◌-◌, ◌==◌, Bool, true, false, if◌then◌else◌, ◌||◌, ◌&&◌, not, nat_eq}
+use Rattle.std.specs.Prelude.{nat_lt, nat_le, List, [], ◌∷◌, ◌++◌, length, Option, None, Some}
 use Rattle.id_parts.specs.declared.row.Node.{Node}
-use Rattle.id_parts.specs.declared.row.Node.TheVariants.{Name, Split}
+use Rattle.id_parts.specs.declared.row.Node.TheVariants.{Name, Split, LoopHead, Switches, NextUse}
 use Rattle.id_parts.specs.Rows.{at}
+use Rattle.id_parts.specs.Tables.{is_switches, is_variable}
 use Rattle.id_check.specs.declared.checked.Checked.{Checked}
 use Rattle.id_check.specs.Programs.{rows, binder}
-use Rattle.id_desugar.specs.Ends.{end_of}
+use Rattle.id_desugar.specs.Ends.{end_of, next_of}
 
--- the numbers below n
-abbrev pub below : ℕ → List ℕ
-below zero = []
-below (suc n) = below n ++ n ∷ []
+-- ---- the order
 
--- the rows in the order in which they are made: the last, which makes the answer's instruction, then those of the
--- procedures
-abbrev pub order_by : ℕ → List ℕ
-order_by zero = []
-order_by (suc n) = n ∷ below n
+-- the numbers below n of which f is true
+abbrev pub those : (ℕ → Bool) → ℕ → List ℕ
+those f zero = []
+those f (suc n) = if f n then those f n ++ n ∷ [] else those f n
+
+-- whether a loop's block begins at a row of this node
+abbrev pub is_loop_head : Node → Bool
+is_loop_head (LoopHead s) = true
+is_loop_head _ = false
+
+-- whether the row stands in the block with the head h
+abbrev pub in_block : Checked → ℕ → ℕ → Bool
+in_block P h i = nat_eq (at (rows P) i).block h
+
+-- whether it stands in the block of a procedure
+abbrev pub in_procedure : Checked → ℕ → Bool
+in_procedure P i = not (is_loop_head (at (rows P) (at (rows P) i).block).node)
+
+-- of the first n rows those in the blocks of loops, block by block, as far as the first k rows are their heads
+abbrev pub loops_by : Checked → ℕ → ℕ → List ℕ
+loops_by P n zero = []
+loops_by P n (suc k) =
+    if is_loop_head (at (rows P) k).node then loops_by P n k ++ those (in_block P k) n else loops_by P n k
+
+-- the first n rows in the order in which they are made: the last, which makes the answer's instruction, then those of
+-- the procedures, then those of the loops, in order of place
+abbrev pub order_by : Checked → ℕ → List ℕ
+order_by P zero = []
+order_by P (suc n) = n ∷ (those (in_procedure P) n ++ loops_by P n n)
 
 abbrev pub order_of : Checked → List ℕ
-order_of P = order_by (length (rows P))
+order_of P = order_by P (length (rows P))
 
--- the binder of the value that a row of this node uses, where o is the binder of its name: a procedure's name is none
--- of a value
-abbrev pub used_by : Option ℕ → Node → Option ℕ
-used_by o (Name x) = o
-used_by o _ = None
+-- ---- uses
 
--- the binder of the value that the row uses, if it uses one
-abbrev pub used : Checked → ℕ → Option ℕ
-used P i = used_by (binder P i) (at (rows P) i).node
+-- whether the row stands right in a side of the switches of the loop with the head g
+abbrev pub is_right_in : Checked → ℕ → ℕ → Bool
+is_right_in P g i =
+    let s = at (rows P) (at (rows P) i).region.head in
+    is_switches s.node && nat_eq s.block g
+
+-- the binder of the value that a row of this node uses, where o is the binder of its name: a loop's own first value is
+-- used outside of it alone, and a procedure's name is none of a value
+abbrev pub used_by : Bool → Option ℕ → Node → Option ℕ
+used_by own o (Name x) = o
+used_by own o (NextUse x) = if own then None else o
+used_by own o _ = None
+
+-- the binder of the value that the row uses for what begins at the row g, if it uses one
+abbrev pub used : Checked → ℕ → ℕ → Option ℕ
+used P g i = used_by (is_right_in P g i) (binder P i) (at (rows P) i).node
 
 -- whether the row is none of those from lo up to hi
 abbrev pub is_outside : ℕ → ℕ → ℕ → Bool
@@ -45,19 +76,36 @@ abbrev pub with_use : ℕ → ℕ → List ℕ → Option ℕ → List ℕ
 with_use lo hi bs None = bs
 with_use lo hi bs (Some b) = if is_outside lo hi b then (if has bs b then bs else bs ++ b ∷ []) else bs
 
--- the imports of the rows from lo on, as far as the first k of them use them
-abbrev pub imports_by : Checked → ℕ → ℕ → ℕ → List ℕ
-imports_by P lo hi zero = []
-imports_by P lo hi (suc k) = with_use lo hi (imports_by P lo hi k) (used P (lo + k))
+-- the imports of the rows from lo up to hi, as far as the first k of them use them, where f gives what a row uses
+abbrev pub imports_by : (ℕ → Option ℕ) → ℕ → ℕ → ℕ → List ℕ
+imports_by f lo hi zero = []
+imports_by f lo hi (suc k) = with_use lo hi (imports_by f lo hi k) (f (lo + k))
 
 -- the binders outside that uses in the rows from lo up to hi mean, each once, in order of first use
-abbrev pub imports : Checked → ℕ → ℕ → List ℕ
-imports P lo hi = imports_by P lo hi (hi - lo)
+abbrev pub imports : (ℕ → Option ℕ) → ℕ → ℕ → List ℕ
+imports f lo hi = imports_by f lo hi (hi - lo)
+
+-- ---- what is handed on
+
+-- the binders that what begins at the row h uses from outside
+abbrev pub taken : Checked → ℕ → List ℕ
+taken P h = imports (used P h) (h + 1) (end_of P h)
+
+-- the rows of the `next`s whose variables stand at the rows from v on, at most so many
+abbrev pub nexts_from : Checked → ℕ → ℕ → List ℕ
+nexts_from P v zero = []
+nexts_from P v (suc n) = if is_variable (at (rows P) v).node then next_of P v ∷ nexts_from P (suc v) n else []
+
+-- the rows of the `next`s of the loop with the head h, by index
+abbrev pub nexts_of : Checked → ℕ → List ℕ
+nexts_of P h = nexts_from P (h + 1) (length (rows P))
 
 -- the binders that the row h of this node imports for what it turns on: a procedure's body imports none, the arms of a
--- conditional those that they use from outside
+-- conditional and a loop those that they use from outside; a loop's switches have its variables before them
 abbrev pub handed : Checked → ℕ → Node → List ℕ
-handed P h (Split t) = imports P (h + 1) (end_of P h)
+handed P h (Split t) = taken P h
+handed P h (LoopHead s) = taken P h
+handed P h (Switches t) = let g = (at (rows P) h).block in nexts_of P g ++ taken P g
 handed P h _ = []
 
 -- the binders that the row h imports

@@ -3,8 +3,10 @@
 ghost use Rattle.std.specs.Prelude.{◌≡◌, ◌<◌, length};
 ghost use Rattle.id_check.specs.Programs as programs;
 ghost use Rattle.id_parts.specs.Rows as table;
-ghost use Rattle.id_desugar.specs.Ends.{AreEnds, end_of};
-ghost use Rattle.id_desugar.specs.Regions.{used};
+ghost use Rattle.id_parts.specs.Tables.{is_variable};
+ghost use Rattle.id_desugar.specs.Ends.{AreEnds, AreNexts, end_of, next_of};
+ghost use Rattle.id_desugar.specs.Gathering.{is_own, is_opening, used_in};
+ghost use Rattle.id_desugar.specs.Regions.{is_loop_head, is_right_in};
 
 use id_check::Checked;
 use id_parts::{Node, Region, Row};
@@ -42,14 +44,55 @@ pub fn binder_at(checked: &Checked, n: usize) -> Option<usize>
     }
 }
 
-/// The binder of the value that a row uses, if it uses one: a procedure's name is none of a value.
-pub fn used_at(checked: &Checked, n: usize) -> Option<usize>
-    ensures { result ≡ used checked.now n }
+/// The binder of the value that a row uses, if it uses one: a procedure's name is none of a value. First values of the
+/// loop with the head `own`, if one is given, do not count.
+pub fn used_at(checked: &Checked, own: Option<usize>, n: usize) -> Option<usize>
+    ensures { result ≡ used_in checked.now own n }
 {
     match row_at(checked, n).node {
         Node::Name { .. } => binder_at(checked, n),
+        Node::NextUse { .. } if !is_own(checked, own, n) => binder_at(checked, n),
         _ => None,
     }
+}
+
+/// Whether a row stands right in a side of the switches of the loop with the head `own`, if one is given.
+fn is_own(checked: &Checked, own: Option<usize>, n: usize) -> bool
+    ensures { result ≡ is_own checked.now own n }
+{
+    match own {
+        Some(head) => is_right_in(checked, head, n),
+        None => false,
+    }
+}
+
+/// Whether a row stands right in a side of the switches of the loop with this head.
+fn is_right_in(checked: &Checked, head: usize, n: usize) -> bool
+    ensures { result ≡ is_right_in checked.now head n }
+{
+    let switches = row_at(checked, row_at(checked, n).region.head);
+    matches!(switches.node, Node::Switches { .. }) && switches.block == head
+}
+
+/// Whether a loop's block begins at a row of this node.
+pub fn is_loop_head(node: Node) -> bool
+    ensures { result ≡ is_loop_head node }
+{
+    matches!(node, Node::LoopHead { .. })
+}
+
+/// Whether the entry of a loop's variable is made at a row of this node.
+pub fn is_variable(node: Node) -> bool
+    ensures { result ≡ is_variable node }
+{
+    matches!(node, Node::Variable)
+}
+
+/// Whether a construct that uses names from outside begins at a row of this node: a conditional's arms or a loop.
+pub fn is_opening(node: Node) -> bool
+    ensures { result ≡ is_opening node }
+{
+    matches!(node, Node::Split { .. } | Node::LoopHead { .. })
 }
 
 /// The row where what begins at a row ends. Takes no memory.
@@ -61,6 +104,19 @@ pub fn end_of(checked: &Checked, ends: &[Option<usize>], head: usize) -> usize
     let _ = checked;
     match ends.get(head) {
         Some(end) => end.unwrap_or(0),
+        None => 0,
+    }
+}
+
+/// The row of the `next` of the variable at a row. Takes no memory.
+pub fn next_of(checked: &Checked, nexts: &[Option<usize>], variable: usize) -> usize
+    requires nexts { AreNexts checked.now nexts.now }
+    requires within { variable < length (programs.rows checked.now) }
+    ensures { result ≡ next_of checked.now variable }
+{
+    let _ = checked;
+    match nexts.get(variable) {
+        Some(next) => next.unwrap_or(0),
         None => 0,
     }
 }

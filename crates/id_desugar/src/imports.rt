@@ -1,37 +1,63 @@
-//! The names that regions import (docs/GRAPH.md, "Imports"): those of an inner conditional are found before those of
-//! the one round it, which takes them over from it.
+//! The names that regions import (docs/GRAPH.md, "Imports"). First what each construct uses from outside: that of an
+//! inner one is found before that of the one round it, which takes it over. A loop's own first values are among it,
+//! since what is round the loop uses them; they are no imports of the loop, which are gathered after that.
 
-ghost use Rattle.std.specs.Prelude.{◌≡◌, ◌↔◌, IsTrue, ◌≤◌, ◌<◌, ◌+◌, ◌-◌, ◌⊎◌, ◌^◌, true, false, [], length, get_or};
+ghost use Rattle.std.specs.Prelude.{◌≡◌, ◌↔◌, IsTrue, ◌≤◌, ◌<◌, ◌+◌, ◌-◌, ◌⊎◌, ◌++◌, true, [], length, get_or};
 ghost use Rattle.std.specs.Prelude.{IfOk, IfSome, OnOk, Some, None};
 ghost use Rattle.id_check.specs.Programs as programs;
-ghost use Rattle.id_desugar.specs.Ends.{AreEnds, end_row};
-ghost use Rattle.id_desugar.specs.Regions.{all_imports, imports, imports_by, with_use};
-ghost use Rattle.id_desugar.specs.Gathering.{AreFilled, AreMarked, AreUpTo, EndsNoSplit, is_split, with_uses};
+ghost use Rattle.id_desugar.specs.Ends.{AreEnds, AreNexts, end_row};
+ghost use Rattle.id_desugar.specs.Regions.{all_imports, imports, imports_by, imports_of, nexts_of, taken, with_use};
+ghost use Rattle.id_desugar.specs.Gathering.{AllCount, AreBelow, AreFilled, AreGathered, AreMarked, AreTurned};
+ghost use Rattle.id_desugar.specs.Gathering.{EndsNothing, is_opening, used_in, with_uses};
 ghost use Rattle.id_list.specs.List.{Among};
 ghost use Rattle.id_parts.specs.Rows.{at};
+ghost use Rattle.id_parts.specs.Tables as table;
 
-use crate::access::{row_at, used_at};
+use crate::access::{end_of, is_opening, is_variable, next_of, row_at, used_at};
 use crate::ends::begun_at;
 use id_check::Checked;
 use id_list::Sequence;
 use id_parts::Node;
 use std::alloc::{AllocError, Global};
 
-/// The rows from `lo` up to `hi`.
+/// The rows from `lo` up to `hi`, of which uses are gathered: first values of the loop with the head `own`, if one is
+/// given, do not count. What is noted gets the mark.
 #[derive(Clone, Copy)]
 struct Span {
     lo: usize,
     hi: usize,
+    own: Option<usize>,
+    mark: usize,
 }
 
-/// The imports of each row: none but those of conditionals.
+/// The imports of each row: none but those of conditionals, loops and their switches.
 pub fn all_imports(
+    alloc: Global,
+    checked: &Checked,
+    ends: &[Option<usize>],
+    nexts: &[Option<usize>],
+) -> Result<Vec<Sequence<usize>>, AllocError>
+    requires ends { AreEnds checked.now ends.now }
+    requires nexts { AreNexts checked.now nexts.now }
+    ensures { IfOk result (λ v. v.items ≡ all_imports checked.now) }
+{
+    let mut lists = all_uses(alloc, checked, ends)?;
+    let count = checked.table.rows.len();
+    let mut marks = vec![in alloc; 0usize; count]?;
+    for row in 0..count {
+        turn(alloc, checked, ends, nexts, &mut lists, &mut marks, row)?;
+    }
+    Ok(lists)
+}
+
+/// What each construct uses from outside, by the row where it begins.
+fn all_uses(
     alloc: Global,
     checked: &Checked,
     ends: &[Option<usize>],
 ) -> Result<Vec<Sequence<usize>>, AllocError>
     requires ends { AreEnds checked.now ends.now }
-    ensures { IfOk result (λ v. v.items ≡ all_imports checked.now) }
+    ensures { IfOk result (λ v. AreFilled checked.now (length (programs.rows checked.now)) v.items) }
 {
     let count = checked.table.rows.len();
     let mut lists = none_yet(alloc, count)?;
@@ -53,7 +79,7 @@ fn none_yet(alloc: Global, count: usize) -> Result<Vec<Sequence<usize>>, AllocEr
     Ok(lists)
 }
 
-/// Gives the conditional that ends at a row its imports.
+/// Gives the construct that ends at a row what it uses.
 fn fill(
     alloc: Global,
     checked: &Checked,
@@ -66,53 +92,154 @@ fn fill(
     requires within { end < length (programs.rows checked.now) }
     requires lists { AreFilled checked.now end lists.old.items }
     requires long { length marks.old.items ≡ length (programs.rows checked.now) }
-    requires marks { AreUpTo end marks.old.items }
+    requires marks { AreBelow (end + 1) marks.old.items }
     ensures lists { OnOk result (AreFilled checked.now (end + 1) lists.new.items) }
     ensures long { length marks.new.items ≡ length marks.old.items }
-    ensures marks { OnOk result (AreUpTo (end + 1) marks.new.items) }
+    ensures marks { OnOk result (AreBelow (end + 2) marks.new.items) }
 {
-    if let Some(split) = split_ended(checked, ends, end) {
+    if let Some(opening) = opening_ended(checked, ends, end) {
         let span = Span {
-            lo: split + 1,
+            lo: opening + 1,
             hi: end,
+            own: None,
+            mark: end + 1,
         };
         let list = gather(alloc, checked, ends, lists.as_slice(), marks, span)?;
-        lists[split] = Sequence::new(list);
+        lists[opening] = Sequence::new(list);
     }
     Ok(())
 }
 
-/// The row of the switches of the conditional that ends at a row, if one does. Takes no memory.
-fn split_ended(checked: &Checked, ends: &[Option<usize>], end: usize) -> Option<usize>
+/// The row where the construct begins that ends at a row, if one does. Takes no memory.
+fn opening_ended(checked: &Checked, ends: &[Option<usize>], end: usize) -> Option<usize>
     requires ends { AreEnds checked.now ends.now }
     ensures some { IfSome result (λ s. (s < length (programs.rows checked.now)) × (end_row checked.now s ≡ Some end)
-        × is_split (at (programs.rows checked.now) s).node ≡ true) }
-    ensures none { result ≡ None → EndsNoSplit checked.now end }
+        × is_opening (at (programs.rows checked.now) s).node ≡ true) }
+    ensures none { result ≡ None → EndsNothing checked.now end }
 {
     let begun = begun_at(row_at(checked, end).node);
     match begun {
-        Some(split) if is_ended(checked, ends, split, end) => Some(split),
+        Some(opening) if is_ended(checked, ends, opening, end) => Some(opening),
         _ => None,
     }
 }
 
-/// Whether the arms of the conditional whose switches stand at a row end at the row `end`. Takes no memory.
-fn is_ended(checked: &Checked, ends: &[Option<usize>], split: usize, end: usize) -> bool
+/// Whether a construct begins at a row and ends at the row `end`. Takes no memory.
+fn is_ended(checked: &Checked, ends: &[Option<usize>], opening: usize, end: usize) -> bool
     requires ends { AreEnds checked.now ends.now }
-    ensures { IsTrue result ↔ (split < length (programs.rows checked.now)) × (end_row checked.now split ≡ Some end)
-        × is_split (at (programs.rows checked.now) split).node ≡ true }
+    ensures { IsTrue result ↔ (opening < length (programs.rows checked.now)) × (end_row checked.now opening ≡ Some end)
+        × is_opening (at (programs.rows checked.now) opening).node ≡ true }
 {
-    split < ends.len() && ends[split] == Some(end) && is_split(row_at(checked, split).node)
+    opening < ends.len() && ends[opening] == Some(end) && is_opening(row_at(checked, opening).node)
 }
 
-/// Whether the switches of a conditional stand at a row of this node.
-fn is_split(node: Node) -> bool
-    ensures { result ≡ is_split node }
+/// Puts a row's imports in the place of what it uses: a loop's, without its own first values, and those of its
+/// switches.
+fn turn(
+    alloc: Global,
+    checked: &Checked,
+    ends: &[Option<usize>],
+    nexts: &[Option<usize>],
+    lists: &mut Vec<Sequence<usize>>,
+    marks: &mut Vec<usize>,
+    row: usize,
+) -> Result<(), AllocError>
+    requires ends { AreEnds checked.now ends.now }
+    requires nexts { AreNexts checked.now nexts.now }
+    requires within { row < length (programs.rows checked.now) }
+    requires lists { AreTurned checked.now row lists.old.items }
+    requires long { length marks.old.items ≡ length (programs.rows checked.now) }
+    requires marks { AreBelow (row + 1) marks.old.items }
+    ensures lists { OnOk result (AreTurned checked.now (row + 1) lists.new.items) }
+    ensures long { length marks.new.items ≡ length marks.old.items }
+    ensures marks { OnOk result (AreBelow (row + 2) marks.new.items) }
 {
-    matches!(node, Node::Split { .. })
+    let this = row_at(checked, row);
+    match this.node {
+        Node::LoopHead { .. } => {
+            let list = imports_of_loop(alloc, checked, ends, lists.as_slice(), marks, row)?;
+            lists[row] = Sequence::new(list);
+        }
+        Node::Switches { .. } => {
+            let list = handed_on(alloc, checked, nexts, lists.as_slice(), row, this.block)?;
+            lists[row] = Sequence::new(list);
+        }
+        _ => {}
+    }
+    Ok(())
 }
 
-/// The binders outside the span that names in it mean, each once, in order of first use.
+/// The imports of the loop with this head.
+fn imports_of_loop(
+    alloc: Global,
+    checked: &Checked,
+    ends: &[Option<usize>],
+    lists: &[Sequence<usize>],
+    marks: &mut Vec<usize>,
+    head: usize,
+) -> Result<Vec<usize>, AllocError>
+    requires ends { AreEnds checked.now ends.now }
+    requires within { head < length (programs.rows checked.now) }
+    requires lists { AreTurned checked.now head lists.now }
+    requires long { length marks.old.items ≡ length (programs.rows checked.now) }
+    requires marks { AreBelow (head + 1) marks.old.items }
+    ensures list { IfOk result (λ v. v.items ≡ taken checked.now head) }
+    ensures long { length marks.new.items ≡ length marks.old.items }
+    ensures marks { AreBelow (head + 2) marks.new.items }
+{
+    let span = Span {
+        lo: head + 1,
+        hi: end_of(checked, ends, head),
+        own: Some(head),
+        mark: head + 1,
+    };
+    gather(alloc, checked, ends, lists, marks, span)
+}
+
+/// What the switches of a loop hand on: its variables, and what its head imports.
+fn handed_on(
+    alloc: Global,
+    checked: &Checked,
+    nexts: &[Option<usize>],
+    lists: &[Sequence<usize>],
+    switches: usize,
+    head: usize,
+) -> Result<Vec<usize>, AllocError>
+    requires nexts { AreNexts checked.now nexts.now }
+    requires within { switches < length (programs.rows checked.now) }
+    requires lists { AreTurned checked.now switches lists.now }
+    requires node { table.is_switches (at (programs.rows checked.now) switches).node ≡ true }
+    requires head { head ≡ (at (programs.rows checked.now) switches).block }
+    requires low { head < switches }
+    ensures { IfOk result (λ v. v.items ≡ imports_of checked.now switches) }
+{
+    let mut list = next_rows(alloc, checked, nexts, head)?;
+    list.extend_from_slice(lists[head].as_slice())?;
+    Ok(list)
+}
+
+/// The rows of the `next`s of the loop with this head, by index.
+fn next_rows(
+    alloc: Global,
+    checked: &Checked,
+    nexts: &[Option<usize>],
+    head: usize,
+) -> Result<Vec<usize>, AllocError>
+    requires nexts { AreNexts checked.now nexts.now }
+    requires within { head < length (programs.rows checked.now) }
+    ensures { IfOk result (λ v. v.items ≡ nexts_of checked.now head) }
+{
+    let mut list = Vec::new(alloc);
+    for row in head + 1..checked.table.rows.len() {
+        if !is_variable(row_at(checked, row).node) {
+            break;
+        }
+        list.push(next_of(checked, nexts, row))?;
+    }
+    Ok(list)
+}
+
+/// The binders outside the span that uses in it mean, each once, in order of first use.
 fn gather(
     alloc: Global,
     checked: &Checked,
@@ -123,12 +250,13 @@ fn gather(
 ) -> Result<Vec<usize>, AllocError>
     requires ends { AreEnds checked.now ends.now }
     requires within { span.hi < length (programs.rows checked.now) }
-    requires lists { AreFilled checked.now span.hi lists.now }
+    requires lists { AreGathered checked.now span.lo span.hi lists.now }
+    requires count { AllCount checked.now span.own span.lo span.hi }
     requires long { length marks.old.items ≡ length (programs.rows checked.now) }
-    requires marks { AreUpTo span.hi marks.old.items }
-    ensures list { IfOk result (λ v. v.items ≡ imports checked.now span.lo span.hi) }
+    requires marks { AreBelow span.mark marks.old.items }
+    ensures list { IfOk result (λ v. v.items ≡ imports (used_in checked.now span.own) span.lo span.hi) }
     ensures long { length marks.new.items ≡ length marks.old.items }
-    ensures marks { AreUpTo (span.hi + 1) marks.new.items }
+    ensures marks { AreBelow (span.mark + 1) marks.new.items }
 {
     let mut list = Vec::new(alloc);
     let mut row = span.lo;
@@ -138,8 +266,7 @@ fn gather(
     Ok(list)
 }
 
-/// Notes what a row of the span uses, and where an inner conditional begins, what that imports. Gives the row to go on
-/// with.
+/// Notes what a row of the span uses, and where an inner construct begins, what that uses. Gives the row to go on with.
 fn note_row(
     checked: &Checked,
     ends: &[Option<usize>],
@@ -152,17 +279,19 @@ fn note_row(
     requires ends { AreEnds checked.now ends.now }
     requires within { span.hi < length (programs.rows checked.now) }
     requires row { (span.lo ≤ row) × (row < span.hi) }
-    requires lists { AreFilled checked.now span.hi lists.now }
+    requires lists { AreGathered checked.now span.lo span.hi lists.now }
+    requires count { AllCount checked.now span.own span.lo span.hi }
     requires long { length marks.old.items ≡ length (programs.rows checked.now) }
-    requires marks { AreMarked (span.hi + 1) marks.old.items list.old.items }
-    requires list { list.old.items ≡ imports_by checked.now span.lo span.hi (row - span.lo) }
+    requires marks { AreMarked span.mark marks.old.items list.old.items }
+    requires list { list.old.items ≡ imports_by (used_in checked.now span.own) span.lo span.hi (row - span.lo) }
     ensures row { IfOk result (λ r. (row < r) × (r ≤ span.hi)) }
-    ensures list { IfOk result (λ r. list.new.items ≡ imports_by checked.now span.lo span.hi (r - span.lo)) }
+    ensures list { IfOk result
+        (λ r. list.new.items ≡ imports_by (used_in checked.now span.own) span.lo span.hi (r - span.lo)) }
     ensures long { length marks.new.items ≡ length marks.old.items }
-    ensures up_to { AreUpTo (span.hi + 1) marks.new.items }
-    ensures marks { OnOk result (AreMarked (span.hi + 1) marks.new.items list.new.items) }
+    ensures below { AreBelow (span.mark + 1) marks.new.items }
+    ensures marks { OnOk result (AreMarked span.mark marks.new.items list.new.items) }
 {
-    note_used(marks, list, span, used_at(checked, row))?;
+    note_used(marks, list, span, used_at(checked, span.own, row))?;
     let next = inner_end(checked, ends, row);
     if row < next && next < span.hi {
         note_all(marks, list, span, lists[row].as_slice())?;
@@ -171,14 +300,14 @@ fn note_row(
     Ok(row + 1)
 }
 
-/// The row where the arms of the conditional end whose switches stand at a row, or 0. Takes no memory.
+/// The row where the construct ends that begins at a row, or 0. Takes no memory.
 fn inner_end(checked: &Checked, ends: &[Option<usize>], row: usize) -> usize
     requires ends { AreEnds checked.now ends.now }
     requires within { row < length (programs.rows checked.now) }
-    ensures { result ≡ 0
-        ⊎ ((end_row checked.now row ≡ Some result) × (is_split (at (programs.rows checked.now) row).node ≡ true)) }
+    ensures { result ≡ 0 ⊎ ((end_row checked.now row ≡ Some result)
+        × (is_opening (at (programs.rows checked.now) row).node ≡ true)) }
 {
-    if !is_split(row_at(checked, row).node) {
+    if !is_opening(row_at(checked, row).node) {
         return 0;
     }
     match ends[row] {
@@ -194,13 +323,12 @@ fn note_used(
     span: Span,
     binder: Option<usize>,
 ) -> Result<(), AllocError>
-    requires marks { AreMarked (span.hi + 1) marks.old.items list.old.items }
+    requires marks { AreMarked span.mark marks.old.items list.old.items }
     requires binder { IfSome binder (λ b. b < length marks.old.items) }
-    requires fits { span.hi < 2 ^ 63 }
     ensures list { OnOk result (list.new.items ≡ with_use span.lo span.hi list.old.items binder) }
     ensures long { length marks.new.items ≡ length marks.old.items }
-    ensures up_to { AreUpTo (span.hi + 1) marks.new.items }
-    ensures marks { OnOk result (AreMarked (span.hi + 1) marks.new.items list.new.items) }
+    ensures below { AreBelow (span.mark + 1) marks.new.items }
+    ensures marks { OnOk result (AreMarked span.mark marks.new.items list.new.items) }
 {
     match binder {
         Some(binder) => note(marks, list, span, binder),
@@ -215,13 +343,12 @@ fn note_all(
     span: Span,
     binders: &[usize],
 ) -> Result<(), AllocError>
-    requires marks { AreMarked (span.hi + 1) marks.old.items list.old.items }
+    requires marks { AreMarked span.mark marks.old.items list.old.items }
     requires binders { (b : _) → Among b binders.now → b < length marks.old.items }
-    requires fits { span.hi < 2 ^ 63 }
     ensures list { OnOk result (list.new.items ≡ with_uses span.lo span.hi list.old.items binders.now) }
     ensures long { length marks.new.items ≡ length marks.old.items }
-    ensures up_to { AreUpTo (span.hi + 1) marks.new.items }
-    ensures marks { OnOk result (AreMarked (span.hi + 1) marks.new.items list.new.items) }
+    ensures below { AreBelow (span.mark + 1) marks.new.items }
+    ensures marks { OnOk result (AreMarked span.mark marks.new.items list.new.items) }
 {
     for binder in binders {
         note(marks, list, span, *binder)?;
@@ -229,25 +356,24 @@ fn note_all(
     Ok(())
 }
 
-/// Notes a binder that a name means, if it is outside the span and not noted yet.
+/// Notes a binder that a use means, if it is outside the span and not noted yet.
 fn note(
     marks: &mut Vec<usize>,
     list: &mut Vec<usize>,
     span: Span,
     binder: usize,
 ) -> Result<(), AllocError>
-    requires marks { AreMarked (span.hi + 1) marks.old.items list.old.items }
+    requires marks { AreMarked span.mark marks.old.items list.old.items }
     requires binder { binder < length marks.old.items }
-    requires fits { span.hi < 2 ^ 63 }
     ensures list { OnOk result (list.new.items ≡ with_use span.lo span.hi list.old.items (Some binder)) }
     ensures long { length marks.new.items ≡ length marks.old.items }
-    ensures up_to { AreUpTo (span.hi + 1) marks.new.items }
-    ensures marks { OnOk result (AreMarked (span.hi + 1) marks.new.items list.new.items) }
+    ensures below { AreBelow (span.mark + 1) marks.new.items }
+    ensures marks { OnOk result (AreMarked span.mark marks.new.items list.new.items) }
 {
     let is_outside = binder < span.lo || span.hi <= binder;
-    if is_outside && marks[binder] != span.hi + 1 {
+    if is_outside && marks[binder] != span.mark {
         list.push(binder)?;
-        marks[binder] = span.hi + 1;
+        marks[binder] = span.mark;
     }
     Ok(())
 }

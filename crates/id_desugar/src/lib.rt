@@ -1,7 +1,8 @@
 //! The regions of a checked program: in which order its rows are made into instructions, and which names each
 //! region imports.
 //!
-//! Keeps: the order is that of the graph's blocks; each head has exactly its imports, in order of first use.
+//! Keeps: the order is that of the graph's blocks; each head has exactly its imports, in order of first use, and the
+//! switches of a loop its variables before them.
 //! Errors: want of memory alone.
 //! Read first: `specs/Regions.antt`, docs/GRAPH.md ("Imports").
 //! Not here: instructions and arcs (`id_build`).
@@ -11,6 +12,7 @@ mod access;
 mod ends;
 mod imports;
 mod kernel;
+mod order;
 
-pub use access::{binder_at, end_of, row_at};
+pub use access::{binder_at, end_of, next_of, row_at};
 pub use kernel::{Kernel, regions};

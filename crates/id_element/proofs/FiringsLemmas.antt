@@ -10,7 +10,7 @@ use Rattle.id_tag.specs.declared.Payload.TheVariants.{Token}
 use Rattle.id_match.specs.Waiting.{Store}
 use Rattle.id_ops.specs.declared.Fresh.{Fresh}
 use Rattle.id_ops.specs.declared.Fired.{Fired}
-use Rattle.id_ops.specs.declared.Fired.TheVariants.{Out, Side, Entered, Sent, Failed, Nothing}
+use Rattle.id_ops.specs.declared.Fired.TheVariants.{Out, Side, Moved, Entered, Sent, Failed, Nothing}
 use Rattle.id_ops.specs.Operators.{fired, side_of}
 use Rattle.id_element.specs.declared.step.Arrival.{Arrival}
 use Rattle.id_element.specs.declared.step.Arrival.TheVariants.{Fires, Waits, Blocked}
@@ -31,6 +31,7 @@ computed n i t p v w a = record {
 fired_step-computed : (t : Tag) (p : Port) (v : Value) (f : Fired) → fired_step t f ≡ full_step (Token t p v) (fired_verdict f)
 fired_step-computed t p v (Out x) = refl
 fired_step-computed t p v (Side b x) = refl
+fired_step-computed t p v (Moved k x) = refl
 fired_step-computed t p v (Entered c) = refl
 fired_step-computed t p v (Sent u x) = refl
 fired_step-computed t p v (Failed f) = refl

@@ -1,5 +1,5 @@
 -- The outcome of a message that fits: what is sent and what waits afterwards fit too.
-use Rattle.std.proofs.Common.{◌≡◌, ℕ, ◌+◌, ◌≤◌, Bool, true, false, cond, Option, Some, None, List, [], ◌∷◌, length, refl, sym, ap, subst, ◌∙◌, ⊎_elim, arith}
+use Rattle.std.proofs.Common.{◌≡◌, ℕ, ◌+◌, ◌≤◌, ◌<◌, Bool, true, false, cond, Option, Some, None, List, [], ◌∷◌, length, refl, sym, ap, subst, ◌∙◌, ⊎_elim, arith}
 use Rattle.std.specs.Prelude.{All, slice_get, option_map, option_and_then, is_some}
 use Rattle.std.proofs.lemmas.List.Elements.{All-nil, All-cons, All-head, All-tail}
 use Rattle.id_graph.specs.declared.dests.Port.{Port}
@@ -20,12 +20,13 @@ use Rattle.id_match.specs.Waiting.{Store, waits, answer_of, offer_answer, offer_
 use Rattle.id_ops.specs.declared.Operands.TheVariants as operands
 use Rattle.id_ops.specs.declared.Fresh.{Fresh}
 use Rattle.id_ops.specs.declared.Fired.{Fired}
-use Rattle.id_ops.specs.declared.Fired.TheVariants.{Out, Side, Entered, Sent, Failed, Nothing}
+use Rattle.id_ops.specs.declared.Fired.TheVariants.{Out, Side, Moved, Entered, Sent, Failed, Nothing}
 use Rattle.id_ops.specs.Operators.{fired}
 use Rattle.id_element.specs.declared.step.Arrival.{Arrival}
 use Rattle.id_element.specs.declared.step.Arrival.TheVariants.{Fires, Waits, Blocked}
 use Rattle.id_element.specs.Fits.{TokenFits, PayloadFits, Fits}
 use Rattle.id_element.specs.Steps.{State, arrival, arrival_of, waiting_after, next_numbers, made_by, arriving, at_instr, outcome, next_stamp, outputs_of, state_after}
+use Rattle.id_record.specs.Events.{tag_of}
 use Rattle.id_record.specs.Sends.{numbered}
 use Rattle.id_element.specs.Replays.{WaitingFits}
 use Rattle.id_element.proofs.FitsLemmas.{TokenFits-later, offer_came}
@@ -72,19 +73,20 @@ arrival_fits g stamp w t p v i is waiting fits = by_ports (two_ports i.op) refl
     by_ports false e = one_port g stamp t p v i is e fits
 
 -- what is sent on an arrival fits
-arriving_fits : (g : Parts) (stamp : ℕ) (n : Fresh) (w : Store) (t : Tag) (i : Instr) (a : Arrival) → IsValid g → slice_get g.instrs t.instr ≡ Some i → t.iteration ≤ stamp → ArrivalFits g stamp t a → All (PayloadFits g stamp) (arriving n i t w a).sends
+arriving_fits : (g : Parts) (stamp : ℕ) (n : Fresh) (w : Store) (t : Tag) (i : Instr) (a : Arrival) → IsValid g → slice_get g.instrs t.instr ≡ Some i → t.iteration < stamp → ArrivalFits g stamp t a → All (PayloadFits g stamp) (arriving n i t w a).sends
 arriving_fits g stamp n w t i (Fires o) valid is in_time fits =
-    sent_fits g stamp t i (fired i.op t o n) valid is in_time (fired_fits g stamp t i.op o n valid (ap (option_map (λ i. i.op)) is) fits)
+    sent_fits g stamp t i (fired i.op t o n) valid is (omega (arith, in_time)) (fired_fits g stamp t i.op o n valid (ap (option_map (λ i. i.op)) is) in_time fits)
 arriving_fits g stamp n w t i Waits valid is in_time fits = All-nil (PayloadFits g stamp)
 arriving_fits g stamp n w t i Blocked valid is in_time fits = All-nil (PayloadFits g stamp)
 
--- what a token sends fits
-sends_fit : (g : Parts) (stamp : ℕ) (n : Fresh) (w : Store) (x : Payload) → IsValid g → AllFit g stamp w → PayloadFits g stamp x → All (PayloadFits g stamp) (outcome g n w x).sends
-sends_fit g stamp n w (Token t p v) valid waiting fits = at (slice_get g.instrs t.instr) refl
+-- what a token sends fits, where its iteration is below the stamp
+sends_fit : (g : Parts) (stamp : ℕ) (n : Fresh) (w : Store) (x : Payload) → IsValid g → AllFit g stamp w → (tag_of x).iteration < stamp → PayloadFits g stamp x
+    → All (PayloadFits g stamp) (outcome g n w x).sends
+sends_fit g stamp n w (Token t p v) valid waiting in_time fits = at (slice_get g.instrs t.instr) refl
   where
     at : (o : Option Instr) → slice_get g.instrs t.instr ≡ o → All (PayloadFits g stamp) (at_instr n w t p v o).sends
     at None is = All-nil (PayloadFits g stamp)
-    at (Some i) is = arriving_fits g stamp n (waiting_after i.op w t p v) t i (arrival i.op w t p v) valid is fits.in_time (arrival_fits g stamp w t p v i is waiting fits)
+    at (Some i) is = arriving_fits g stamp n (waiting_after i.op w t p v) t i (arrival i.op w t p v) valid is in_time (arrival_fits g stamp w t p v i is waiting fits)
 
 -- the messages fit where their payloads do
 numbered_fit : (g : Parts) (n position stamp k : ℕ) (xs : List Payload) → All (PayloadFits g stamp) xs → All (Fits g) (numbered n position stamp k xs)
@@ -99,12 +101,17 @@ PayloadFits-later g a b (Token t p v) later fits = TokenFits-later g a b t p v l
 AllFit-later : (g : Parts) (a b : ℕ) (w : Store) → a ≤ b → AllFit g a w → AllFit g b w
 AllFit-later g a b w later fit t p v is = TokenFits-later g a b t p v later (fit t p v is)
 
+-- an iteration that is in time at a stamp is below each later one
+pub before_later : (g : Parts) (a b : ℕ) (x : Payload) → a < b → PayloadFits g a x → (tag_of x).iteration < b
+before_later g a b (Token t p v) later fits = omega (arith, later, fits.in_time)
+
 -- each output of a message that fits does fit
 pub outputs_fit : (g : Parts) (n : ℕ) (s : State) (m : Message) → IsValid g → WaitingFits g s → Fits g m → All (Fits g) (outputs_of g n s m)
 outputs_fit g n s m valid waiting fits =
     numbered_fit g n (length s.events) (next_stamp s m) 0 _
     (sends_fit g (next_stamp s m) (next_numbers n s) s.waiting m.payload valid
     (AllFit-later g s.stamp (next_stamp s m) s.waiting (omega arith) waiting)
+    (before_later g m.stamp (next_stamp s m) m.payload (omega arith) fits)
     (PayloadFits-later g m.stamp (next_stamp s m) m.payload (omega arith) fits))
 
 -- what waits after an offer fits
@@ -147,6 +154,7 @@ WaitingFits-take g n s m waiting fits =
 at_most_one : (f : Fired) → made_by f ≤ 1
 at_most_one (Out v) = omega arith
 at_most_one (Side b v) = omega arith
+at_most_one (Moved i v) = omega arith
 at_most_one (Entered c) = omega arith
 at_most_one (Sent u v) = omega arith
 at_most_one (Failed k) = omega arith

@@ -1,5 +1,5 @@
 -- What a firing sends fits the graph, where its operands do.
-use Rattle.std.proofs.Common.{◌≡◌, ◌==◌, ◌||◌, ℕ, ◌+◌, ◌≤◌, Bool, true, false, cond, Option, Some, None, List, [], ◌∷◌, map, refl, sym, ap, subst, ◌∙◌, arith}
+use Rattle.std.proofs.Common.{◌≡◌, ◌==◌, ◌||◌, ℕ, ◌+◌, ◌≤◌, ◌<◌, Bool, true, false, cond, Option, Some, None, List, [], ◌∷◌, map, refl, sym, ap, subst, ◌∙◌, arith}
 use Rattle.std.specs.Prelude.{All, IsSomeAnd, slice_get, option_map, option_and_then, neg_ℤ}
 use Rattle.std.proofs.lemmas.List.Elements.{All-nil, All-cons, All-append, All-map, All-weaker}
 use Rattle.id_graph.specs.declared.dests.Dest.{Dest}
@@ -17,7 +17,7 @@ use Rattle.id_value.proofs.ResultsLemmas.{IsNumberOrFault, calculated-number, wh
 use Rattle.id_graph.specs.declared.instr.Dyadic.{Dyadic}
 use Rattle.id_graph.specs.declared.instr.Dyadic.TheVariants as class
 use Rattle.id_graph.specs.declared.instr.Op.{Op}
-use Rattle.id_graph.specs.declared.instr.Op.TheVariants.{Const, Unary, Binary, Merge, Switch, Back, Enter, Send}
+use Rattle.id_graph.specs.declared.instr.Op.TheVariants.{Const, Unary, Binary, Merge, Switch, Back, Enter, Send, Next, Reset}
 use Rattle.id_graph.specs.declared.instr.PortKind.{PortKind}
 use Rattle.id_graph.specs.declared.instr.PortKind.TheVariants as kind
 use Rattle.id_graph.specs.Ports.{outcome_kind, port_kind, sends, two_sides, unary_kind}
@@ -40,10 +40,10 @@ use Rattle.id_ops.specs.declared.Operands.{Operands}
 use Rattle.id_ops.specs.declared.Operands.TheVariants as operands
 use Rattle.id_ops.specs.declared.Fresh.{Fresh}
 use Rattle.id_ops.specs.declared.Fired.{Fired}
-use Rattle.id_ops.specs.declared.Fired.TheVariants.{Out, Side, Entered, Sent, Failed, Nothing}
-use Rattle.id_ops.specs.Operators.{fired, fired_by, fired_const, fired_unary, fired_binary, fired_merge, fired_switch, fired_back, fired_enter, tag_within, fired_send, side_of}
+use Rattle.id_ops.specs.declared.Fired.TheVariants.{Out, Side, Moved, Entered, Sent, Failed, Nothing}
+use Rattle.id_ops.specs.Operators.{fired, fired_by, fired_const, fired_unary, fired_binary, fired_merge, fired_switch, fired_back, fired_enter, tag_within, fired_send, fired_next, fired_reset, side_of}
 use Rattle.id_element.specs.Fits.{TokenFits, PayloadFits, ContinuationFits}
-use Rattle.id_record.specs.Sends.{beside, sent, started, token_to}
+use Rattle.id_record.specs.Sends.{beside, moved_to, sent, started, token_to}
 
 -- the value is no continuation
 abbrev pub IsPlain : Value → Type 0
@@ -53,10 +53,12 @@ IsPlain (value.Bool b) = Unit {0}
 IsPlain (value.Context c) = Unit {0}
 IsPlain (value.Continuation u) = ⊥
 
--- what fires is of the kind that the operator sends, and no continuation, and goes to a side where there are two; or fits where it goes
+-- what fires is of the kind that the operator sends, and no continuation, and goes to a side where there are two, or to an iteration in time; or fits
+-- where it goes
 abbrev pub FiredFits : Parts → ℕ → Option PortKind → Bool → Fired → Type 0
 FiredFits g stamp k two (Out v) = (k ≡ Some (kind_of v)) × IsPlain v
 FiredFits g stamp k two (Side b v) = (k ≡ Some (kind_of v)) × IsPlain v × (two ≡ true)
+FiredFits g stamp k two (Moved i v) = (k ≡ Some (kind_of v)) × IsPlain v × (i ≤ stamp)
 FiredFits g stamp k two (Entered c) = k ≡ Some kind.Context
 FiredFits g stamp k two (Sent u v) = TokenFits g stamp u port.Zero v
 FiredFits g stamp k two (Failed f) = Unit {0}
@@ -94,14 +96,15 @@ binary_fits g stamp (class.Comparison o) (operands.Two (value.Int m) (value.Int 
 binary_fits g stamp (class.Truth o) (operands.Two (value.Bool b) (value.Bool c)) = (refl, tt)
 binary_fits g stamp a _ = tt
 
--- what comes to a merge is no continuation: that comes to a `back` alone
-plain_at_merge : (g : Parts) (stamp : ℕ) (t : Tag) (k : PortKind) (v : Value) → op_at g t.instr ≡ Some (Merge k) → TokenFits g stamp t port.Zero v → IsPlain v
-plain_at_merge g stamp t k value.Signal is fits = tt
-plain_at_merge g stamp t k (value.Int n) is fits = tt
-plain_at_merge g stamp t k (value.Bool b) is fits = tt
-plain_at_merge g stamp t k (value.Context c) is fits = tt
-plain_at_merge g stamp t k (value.Continuation u) is fits =
-    let back = fits.continuation.1.1.back in cc
+-- what comes to an operator other than `back` is no continuation
+plain_elsewhere : (g : Parts) (stamp : ℕ) (t : Tag) (op : Op) (v : Value) → op_at g t.instr ≡ Some op → ((k : PortKind) → op ≡ Back k → ⊥)
+    → TokenFits g stamp t port.Zero v → IsPlain v
+plain_elsewhere g stamp t op value.Signal is other fits = tt
+plain_elsewhere g stamp t op (value.Int n) is other fits = tt
+plain_elsewhere g stamp t op (value.Bool b) is other fits = tt
+plain_elsewhere g stamp t op (value.Context c) is other fits = tt
+plain_elsewhere g stamp t op (value.Continuation u) is other fits =
+    let back = fits.continuation.1.1.back in absurd (other fits.continuation.1.0 cc)
 
 -- what comes to port 1 is no continuation
 plain_at_one : (g : Parts) (stamp : ℕ) (t : Tag) (v : Value) → TokenFits g stamp t port.One v → IsPlain v
@@ -135,9 +138,31 @@ merge_fits g stamp t k (operands.One v) is fits =
     kinds = sym (kind_at_op g t.instr port.Zero (Merge k) is) ∙ fits.kind
 
     zero : (b : Bool) → FiredFits g stamp (Some k) false (cond b (Out v) Nothing)
-    zero true = (kinds, plain_at_merge g stamp t k v is fits)
+    zero true = (kinds, plain_elsewhere g stamp t (Merge k) v is (λ j e. cc) fits)
     zero false = tt
 merge_fits g stamp t k (operands.Two v w) is fits = tt
+
+-- what moves to an iteration in time fits
+moved_fits : (g : Parts) (stamp : ℕ) (t : Tag) (op : Op) (k : PortKind) (i : ℕ) (v : Value) → op_at g t.instr ≡ Some op → ((j : PortKind) → op ≡ Back j → ⊥)
+    → port_kind op port.Zero ≡ Some k → i ≤ stamp → TokenFits g stamp t port.Zero v → FiredFits g stamp (Some k) false (cond (same_kind (kind_of v) k) (Moved i v) Nothing)
+moved_fits g stamp t op k i v is other takes in_time fits = zero (same_kind (kind_of v) k)
+  where
+    kinds : Some k ≡ Some (kind_of v)
+    kinds = sym takes ∙ sym (kind_at_op g t.instr port.Zero op is) ∙ fits.kind
+
+    zero : (b : Bool) → FiredFits g stamp (Some k) false (cond b (Moved i v) Nothing)
+    zero true = (kinds, plain_elsewhere g stamp t op v is other fits, in_time)
+    zero false = tt
+
+next_fits : (g : Parts) (stamp : ℕ) (t : Tag) (k : PortKind) (o : Operands) → op_at g t.instr ≡ Some (Next k) → t.iteration < stamp → OperandsFit g stamp t o
+    → FiredFits g stamp (Some k) false (fired_next k t.iteration o)
+next_fits g stamp t k (operands.One v) is in_time fits = moved_fits g stamp t (Next k) k (t.iteration + 1) v is (λ j e. cc) refl (omega (arith, in_time)) fits
+next_fits g stamp t k (operands.Two v w) is in_time fits = tt
+
+reset_fits : (g : Parts) (stamp : ℕ) (t : Tag) (k : PortKind) (o : Operands) → op_at g t.instr ≡ Some (Reset k) → OperandsFit g stamp t o
+    → FiredFits g stamp (Some k) false (fired_reset k o)
+reset_fits g stamp t k (operands.One v) is fits = moved_fits g stamp t (Reset k) k 0 v is (λ j e. cc) refl (omega arith) fits
+reset_fits g stamp t k (operands.Two v w) is fits = tt
 
 switch_fits : (g : Parts) (stamp : ℕ) (t : Tag) (k : PortKind) (o : Operands) → op_at g t.instr ≡ Some (Switch k) → OperandsFit g stamp t o
     → FiredFits g stamp (Some k) true (fired_switch k o)
@@ -208,17 +233,19 @@ send_fits g stamp t k n (operands.Two (value.Bool b) w) valid is fits = tt
 send_fits g stamp t k n (operands.Two (value.Continuation u) w) valid is fits = tt
 send_fits g stamp t k n (operands.One v) valid is fits = tt
 
--- what fires fits, where the operands do
-pub fired_fits : (g : Parts) (stamp : ℕ) (t : Tag) (op : Op) (o : Operands) (fresh : Fresh) → IsValid g → op_at g t.instr ≡ Some op → OperandsFit g stamp t o
+-- what fires fits, where the operands do and the iteration is below the stamp
+pub fired_fits : (g : Parts) (stamp : ℕ) (t : Tag) (op : Op) (o : Operands) (fresh : Fresh) → IsValid g → op_at g t.instr ≡ Some op → t.iteration < stamp → OperandsFit g stamp t o
     → FiredFits g stamp (sends op) (two_sides op) (fired op t o fresh)
-fired_fits g stamp t (Const c) o fresh valid is fits = const_fits g stamp c o
-fired_fits g stamp t (Unary a) o fresh valid is fits = unary_fits g stamp a o
-fired_fits g stamp t (Binary a) o fresh valid is fits = binary_fits g stamp a o
-fired_fits g stamp t (Merge k) o fresh valid is fits = merge_fits g stamp t k o is fits
-fired_fits g stamp t (Switch k) o fresh valid is fits = switch_fits g stamp t k o is fits
-fired_fits g stamp t (Back k) o fresh valid is fits = back_fits g stamp t k o is fits
-fired_fits g stamp t (Enter b r) o fresh valid is fits = enter_fits g stamp fresh.context o
-fired_fits g stamp t (Send k n) o fresh valid is fits = send_fits g stamp t k n o valid is fits
+fired_fits g stamp t (Const c) o fresh valid is in_time fits = const_fits g stamp c o
+fired_fits g stamp t (Unary a) o fresh valid is in_time fits = unary_fits g stamp a o
+fired_fits g stamp t (Binary a) o fresh valid is in_time fits = binary_fits g stamp a o
+fired_fits g stamp t (Merge k) o fresh valid is in_time fits = merge_fits g stamp t k o is fits
+fired_fits g stamp t (Switch k) o fresh valid is in_time fits = switch_fits g stamp t k o is fits
+fired_fits g stamp t (Back k) o fresh valid is in_time fits = back_fits g stamp t k o is fits
+fired_fits g stamp t (Enter b r) o fresh valid is in_time fits = enter_fits g stamp fresh.context o
+fired_fits g stamp t (Send k n) o fresh valid is in_time fits = send_fits g stamp t k n o valid is fits
+fired_fits g stamp t (Next k) o fresh valid is in_time fits = next_fits g stamp t k o is in_time fits
+fired_fits g stamp t (Reset k) o fresh valid is in_time fits = reset_fits g stamp t k o is fits
 
 -- ---- what starts a block
 
@@ -268,6 +295,8 @@ starts_fit g stamp t c (Merge k) valid is in_time = All-nil (PayloadFits g stamp
 starts_fit g stamp t c (Switch k) valid is in_time = All-nil (PayloadFits g stamp)
 starts_fit g stamp t c (Back k) valid is in_time = All-nil (PayloadFits g stamp)
 starts_fit g stamp t c (Send k n) valid is in_time = All-nil (PayloadFits g stamp)
+starts_fit g stamp t c (Next k) valid is in_time = All-nil (PayloadFits g stamp)
+starts_fit g stamp t c (Reset k) valid is in_time = All-nil (PayloadFits g stamp)
 
 -- a token of the kind that the instruction sends fits at each of its destinations
 token_fits : (g : Parts) (stamp : ℕ) (t : Tag) (i : Instr) (v : Value) → t.iteration ≤ stamp → sends i.op ≡ Some (kind_of v) → IsPlain v → (d : Dest) → IsTaken g.instrs i.op d → PayloadFits g stamp (token_to t v d)
@@ -295,6 +324,7 @@ sent_fits g stamp t i f valid is in_time = at f
     at : (f : Fired) → FiredFits g stamp (sends i.op) (two_sides i.op) f → All (PayloadFits g stamp) (sent (Some i.op) (arcs_on (side_of f) i) t f)
     at (Out v) fits = tokens_fit g stamp t i v true in_time fits.0 fits.1 (All-true_arcs (IsTaken g.instrs i.op) i taken)
     at (Side b v) fits = tokens_fit g stamp t i v b in_time fits.0 fits.1 (All-arcs_on (IsTaken g.instrs i.op) i b fits.2 taken)
+    at (Moved j v) fits = tokens_fit g stamp (moved_to t j) i v true fits.2 fits.0 fits.1 (All-true_arcs (IsTaken g.instrs i.op) i taken)
     at (Entered c) fits =
         All-append (PayloadFits g stamp) (map (token_to t (value.Context c)) (arcs_on true i)) (started (Some i.op) t c)
         (tokens_fit g stamp t i (value.Context c) true in_time fits tt (All-true_arcs (IsTaken g.instrs i.op) i taken))

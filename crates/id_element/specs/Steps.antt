@@ -18,7 +18,7 @@ use Rattle.id_match.specs.Waiting.{Store, offer_answer, offer_after}
 use Rattle.id_ops.specs.declared.Operands.TheVariants.{One, Two}
 use Rattle.id_ops.specs.declared.Fresh.{Fresh}
 use Rattle.id_ops.specs.declared.Fired.{Fired}
-use Rattle.id_ops.specs.declared.Fired.TheVariants.{Out, Side, Entered, Sent, Failed, Nothing}
+use Rattle.id_ops.specs.declared.Fired.TheVariants.{Out, Side, Moved, Entered, Sent, Failed, Nothing}
 use Rattle.id_ops.specs.Operators.{fired, side_of}
 use Rattle.id_record.specs.declared.step.Step.{Step}
 use Rattle.id_record.specs.declared.step.Step.TheVariants.{Went, Stuck, Fault}
@@ -67,6 +67,7 @@ waiting_after op w t p v = if two_ports op then offer_after w t p v else w
 abbrev pub fired_step : Tag → Fired → Step
 fired_step t (Out v) = Went
 fired_step t (Side b v) = Went
+fired_step t (Moved i v) = Went
 fired_step t (Entered c) = Went
 fired_step t (Sent u v) = Went
 fired_step t (Failed f) = Fault (Operator f t)
@@ -76,6 +77,7 @@ fired_step t Nothing = Went
 abbrev pub fired_verdict : Fired → Verdict
 fired_verdict (Out v) = verdict.Went
 fired_verdict (Side b v) = verdict.Went
+fired_verdict (Moved i v) = verdict.Went
 fired_verdict (Entered c) = verdict.Went
 fired_verdict (Sent u v) = verdict.Went
 fired_verdict (Failed f) = verdict.Failed f
@@ -85,6 +87,7 @@ fired_verdict Nothing = verdict.Went
 abbrev pub made_by : Fired → ℕ
 made_by (Out v) = 0
 made_by (Side b v) = 0
+made_by (Moved i v) = 0
 made_by (Entered c) = 1
 made_by (Sent u v) = 0
 made_by (Failed f) = 0

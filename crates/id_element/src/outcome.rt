@@ -17,7 +17,7 @@ use id_graph::{Dest, Graph, Instr, Op, Port};
 use id_match::{Offered, Waiting};
 use id_ops::{Fired, Fresh, Operands, fire};
 use id_record::{
-    Envelope, Reaction, Verdict, chosen, count_started, message, start, tag_of, token_to,
+    Envelope, Reaction, Verdict, chosen, count_started, message, moved_to, start, tag_of, token_to,
 };
 use id_tag::{Context, Message, Payload, Tag, Value};
 use std::alloc::AllocError;
@@ -65,7 +65,8 @@ pub(crate) fn react(
     port: Port,
     value: Value,
 ) -> Result<Reaction, AllocError>
-    requires { made + 1 < 2 ^ 64 }
+    requires made { made + 1 < 2 ^ 64 }
+    requires iteration { tag.iteration < 2 ^ 64 - 1 }
     ensures outcome { IfOk result (λ r. at_instr (fresh_numbers number made) waiting.old tag port value (Some instr.now)
         ≡ record {
           sends = sent (Some instr.now.op) (arcs_on (side_of r.fired) instr.now) tag r.fired;
@@ -105,7 +106,8 @@ fn arrive(
 
 /// What the instruction does with what arrived: nothing where the token waits or is blocked.
 fn firing(instr: &Instr, tag: Tag, number: u32, made: u64, arrival: Arrival) -> Fired
-    requires { made + 1 < 2 ^ 64 }
+    requires made { made + 1 < 2 ^ 64 }
+    requires iteration { tag.iteration < 2 ^ 64 - 1 }
     ensures { result ≡ firing_of instr.now tag (fresh_numbers number made) arrival }
 {
     match arrival {
@@ -166,6 +168,9 @@ pub(crate) fn send(
     let dests = chosen(instr, fired);
     match fired {
         Fired::Out(value) | Fired::Side(_, value) => send_all(dests, tag, value, envelope, outputs),
+        Fired::Moved(iteration, value) => {
+            send_all(dests, moved_to(tag, iteration), value, envelope, outputs)
+        }
         Fired::Entered(context) => {
             send_all(dests, tag, Value::Context(context), envelope, outputs);
             send_start(instr.op, tag, context, dests.len(), envelope, outputs);

@@ -1,12 +1,14 @@
 -- The facts and the instructions of a source stand at places of its program, and those lie in its text.
-use Rattle.std.proofs.Common.{◌≡◌, ℕ, Bool, zero, suc, ◌<◌, ◌≤◌, true, false, List, [], ◌∷◌, All, length, Some, refl, sym, ap, subst, ◌∙◌}
+use Rattle.std.proofs.Common.{◌≡◌, ℕ, Bool, zero, suc, ◌+◌, ◌<◌, ◌≤◌, true, false, List, [], ◌∷◌, All, length, map, Some, refl, sym, ap, subst, ◌∙◌, arith}
 use Rattle.std.specs.Prelude.{get_or, slice_get}
 use Rattle.std.proofs.lemmas.Option.{slice_get-get_or}
 use Rattle.id_list.proofs.AmongLemmas.{Among-from_at}
 use Rattle.id_parts.specs.declared.row.Node.{Node}
 use Rattle.id_parts.specs.declared.row.Node.TheVariants.{Head, Param, Literal, Name, Unary, Binary, Split, If, Enter, Arg, Call, Block, Binding, Def, Program}
-use Rattle.id_parts.specs.Tables.{is_thing}
+use Rattle.id_parts.specs.declared.row.Node.TheVariants.{Start, LoopHead, Variable, Entries, Switches, Turn, NextUse, Next, Body, Reset, Loop}
+use Rattle.id_parts.specs.Tables.{is_thing, is_variable}
 use Rattle.id_parts.specs.Calls.{IsArgIn, IsCallOf}
+use Rattle.id_parts.specs.Loops.{IsLoopOf}
 use Rattle.id_parts.specs.Regions.{IsIfOf}
 use Rattle.id_parts.specs.Turns.{IsDefOf}
 use Rattle.id_check.specs.declared.checked.Checked.{Checked}
@@ -14,6 +16,9 @@ use Rattle.id_check.specs.Causes.{defines_main}
 use Rattle.id_check.specs.Programs.{place, rows}
 use Rattle.id_graph.specs.Graph.{Parts}
 use Rattle.id_graph.specs.declared.instr.Instr.{Instr}
+use Rattle.id_graph.specs.declared.instr.Op.{Op}
+use Rattle.id_graph.specs.declared.instr.Op.TheVariants.{Merge, Next as NextOp, Switch}
+use Rattle.id_graph.specs.declared.instr.PortKind.{PortKind}
 use Rattle.id_meaning.specs.declared.Path.{Path}
 use Rattle.id_meaning.specs.declared.Fact.{Fact}
 use Rattle.id_meaning.specs.declared.Fact.TheVariants.{On, Has}
@@ -28,7 +33,7 @@ use Rattle.id_meaning.proofs.PlacedLemmas.{IsPoint, Placed, round_placed, holds_
 use Rattle.id_build.specs.declared.arc.Form.{Form}
 use Rattle.id_build.specs.declared.arc.Piece.{Piece}
 use Rattle.id_desugar.specs.Regions.{imports_of}
-use Rattle.id_build.specs.Rows.{made_of, node, piece, switches}
+use Rattle.id_build.specs.Rows.{Entry, block, for_each, loop_entries, made_of, node, piece, send_to}
 use Rattle.id_build.specs.Schemas.{Makes, Schemas}
 use Rattle.id_check.proofs.ProgramsLemmas.{table_of}
 use Rattle.id_print.specs.declared.report.Ending.{Ending}
@@ -50,11 +55,22 @@ two_place a b (suc k) f e same h = one_place b k f e h ∙ same
 the_piece : (a c : Piece) → Some a ≡ Some c → a ≡ c
 the_piece a c h = cc
 
--- a switch of an import has the place of all
-switch_place : (P : Checked) (q : ℕ) (bs : List ℕ) (k : ℕ) (f : Form) (e : ℕ) → slice_get (switches P q bs) k ≡ Some (piece f e) → e ≡ q
-switch_place P q [] k f e h = absurd cc
-switch_place P q (b ∷ bs) zero f e h = sym (ap (λ (p : Piece). p.place) (the_piece _ _ h))
-switch_place P q (b ∷ bs) (suc k) f e h = switch_place P q bs k f e h
+-- a piece for one of some binders has the place of all, and so has a `send` to one of some entries
+for_each_place : (P : Checked) (o : PortKind → Op) (q : ℕ) (bs : List ℕ) (k : ℕ) (f : Form) (e : ℕ) → slice_get (for_each P o q bs) k ≡ Some (piece f e) → e ≡ q
+for_each_place P o q [] k f e h = absurd cc
+for_each_place P o q (b ∷ bs) zero f e h = sym (ap (λ (p : Piece). p.place) (the_piece _ _ h))
+for_each_place P o q (b ∷ bs) (suc k) f e h = for_each_place P o q bs k f e h
+
+sends_place : (P : Checked) (q : ℕ) (es : List Entry) (k : ℕ) (f : Form) (e : ℕ) → slice_get (map (send_to P q) es) k ≡ Some (piece f e) → e ≡ q
+sends_place P q [] k f e h = absurd cc
+sends_place P q (y ∷ ys) zero f e h = sym (ap (λ (p : Piece). p.place) (the_piece _ _ h))
+sends_place P q (y ∷ ys) (suc k) f e h = sends_place P q ys k f e h
+
+-- a piece of a list has a place that its first has, where the others have it
+all_place : (a : Piece) (ps : List Piece) → ((k : ℕ) (f : Form) (e : ℕ) → slice_get ps k ≡ Some (piece f e) → e ≡ a.place)
+    → (k : ℕ) (f : Form) (e : ℕ) → slice_get (a ∷ ps) k ≡ Some (piece f e) → e ≡ a.place
+all_place a ps rest zero f e h = sym (ap (λ (p : Piece). p.place) (the_piece _ _ h))
+all_place a ps rest (suc k) f e h = rest k f e h
 
 -- main is a thing
 main_thing : (x : Node) → defines_main x ≡ true → is_thing x ≡ true
@@ -105,6 +121,57 @@ module _ {size : ℕ} {P : Checked} (h : IsPlacedWithin size P) where
       let a : IsArgIn (rows P) n e k v = (table_of P).arg_of n e k (record { value = v; within = l; node = is }) in
       subst (λ (q : ℕ). q ≤ size) (sym (a.stands).place) (call_within a.row e a.call)
 
+  -- the markers of a loop have its place
+  loop_within : (n g : ℕ) → IsLoopOf (rows P) n g → place P n ≤ size
+  loop_within n g c = thing_within n c.within (ap is_thing c.node)
+
+  marker_within : (n m j : ℕ) → place P m ≤ size → j ≡ n → place P j ≡ place P m → place P n ≤ size
+  marker_within n m j le is same = subst (λ (i : ℕ). place P i ≤ size) is (subst (λ (q : ℕ). q ≤ size) (sym same) le)
+
+  start_within : (n : ℕ) → n < length (rows P) → node P n ≡ Start → place P n ≤ size
+  start_within n l is =
+      let c = (table_of P).start_of_loop n l is in
+      let d = (table_of P).loop_is c.0 (n + 1) c.1 in
+      marker_within n c.0 d.start (loop_within c.0 (n + 1) c.1) (omega (arith, d.begins)) (d.start_of).place
+
+  loop_head_within : (n s : ℕ) → n < length (rows P) → node P n ≡ LoopHead s → place P n ≤ size
+  loop_head_within n s l is =
+      let c = (table_of P).has_loop n s l is in
+      let d = (table_of P).loop_is c.0 n c.1 in
+      marker_within n c.0 n (loop_within c.0 n c.1) refl (d.place).head
+
+  entries_within : (n : ℕ) → n < length (rows P) → node P n ≡ Entries → place P n ≤ size
+  entries_within n l is =
+      let c = (table_of P).entries_of n l is in
+      let d = (table_of P).loop_is c.0 (block P n) c.1 in
+      marker_within n c.0 d.entries (loop_within c.0 (block P n) c.1) c.2 (d.place).entries
+
+  switches_within : (n t : ℕ) → n < length (rows P) → node P n ≡ Switches t → place P n ≤ size
+  switches_within n t l is =
+      let c = (table_of P).switches_of n t l is in
+      let d = (table_of P).loop_is c.0 (block P n) c.1 in
+      marker_within n c.0 (c.1).switches (loop_within c.0 (block P n) c.1) c.2 (d.place).switches
+
+  turn_within : (n : ℕ) → n < length (rows P) → node P n ≡ Turn → place P n ≤ size
+  turn_within n l is =
+      let c = (table_of P).turn_of n l is in
+      let d = (table_of P).loop_is c.0 (block P n) c.1 in
+      marker_within n c.0 ((c.1).switches + 1) (loop_within c.0 (block P n) c.1) c.2 (d.place).turn
+
+  reset_within : (n v : ℕ) → n < length (rows P) → node P n ≡ Reset v → place P n ≤ size
+  reset_within n v l is =
+      let c = (table_of P).reset_of n v l is in
+      let d = (table_of P).loop_is c.0 (block P n) c.1 in
+      marker_within n c.0 n (loop_within c.0 (block P n) c.1) refl ((d.place).reset n c.3)
+
+  -- a variable of a loop has the place of its `next` statement
+  variable_within : (n : ℕ) → n < length (rows P) → node P n ≡ Variable → place P n ≤ size
+  variable_within n l is =
+      let c = (table_of P).has_next n l (ap is_variable is) in
+      let s = c.3 in
+      let x = (table_of P).next_in c.0 (block P n) c.1 c.2 s in
+      marker_within n c.0 (block P n + 1 + c.1) (thing_within c.0 s.within (ap is_thing s.node)) c.4 (x.2).place
+
   -- the places of what a row makes
   made_within : (n k : ℕ) (f : Form) (e : ℕ) → Makes P n k f e → e ≤ size
   made_within n k f e m = go (node P n) refl m.at
@@ -112,22 +179,32 @@ module _ {size : ℕ} {P : Checked} (h : IsPlacedWithin size P) where
       own : e ≡ place P n → is_thing (node P n) ≡ true → e ≤ size
       own same t = subst (λ (q : ℕ). q ≤ size) (sym same) (thing_within n m.within t)
 
+      its : e ≡ place P n → place P n ≤ size → e ≤ size
+      its same le = subst (λ (q : ℕ). q ≤ size) (sym same) le
+
       go : (x : Node) → node P n ≡ x → slice_get (made_of P n (place P n) x) k ≡ Some (piece f e) → e ≤ size
-      go Head is at = subst (λ (q : ℕ). q ≤ size) (sym (two_place _ _ k f e refl at)) (head_within n m.within is)
+      go Head is at = its (two_place _ _ k f e refl at) (head_within n m.within is)
       go (Param y j) is at = own (one_place _ k f e at) (ap is_thing is)
       go (Literal c) is at = own (one_place _ k f e at) (ap is_thing is)
       go (Name y) is at = absurd cc
       go (Unary o a) is at = own (one_place _ k f e at) (ap is_thing is)
       go (Binary o a b) is at = own (one_place _ k f e at) (ap is_thing is)
-      go (Split t) is at = subst (λ (q : ℕ). q ≤ size) (sym (first_or k at)) (split_within n t m.within is)
-        where
-          first_or : (k : ℕ) → slice_get (made_of P n (place P n) (Split t)) k ≡ Some (piece f e) → e ≡ place P n
-          first_or zero g = sym (ap (λ (p : Piece). p.place) (the_piece _ _ g))
-          first_or (suc j) g = switch_place P (place P n) (imports_of P n) j f e g
+      go (Split t) is at = its (all_place _ _ (for_each_place P Switch (place P n) (imports_of P n)) k f e at) (split_within n t m.within is)
       go (If s x y) is at = own (one_place _ k f e at) (ap is_thing is)
-      go (Enter y) is at = subst (λ (q : ℕ). q ≤ size) (sym (one_place _ k f e at)) (enter_within n y m.within is)
-      go (Arg s i v) is at = subst (λ (q : ℕ). q ≤ size) (sym (one_place _ k f e at)) (arg_within n s i v m.within is)
+      go (Enter y) is at = its (one_place _ k f e at) (enter_within n y m.within is)
+      go (Arg s i v) is at = its (one_place _ k f e at) (arg_within n s i v m.within is)
       go (Call s c) is at = own (one_place _ k f e at) (ap is_thing is)
+      go Start is at = its (all_place _ _ (sends_place P (place P n) (loop_entries P (n + 1))) k f e at) (start_within n m.within is)
+      go (LoopHead s) is at = its (two_place _ _ k f e refl at) (loop_head_within n s m.within is)
+      go Variable is at = its (one_place _ k f e at) (variable_within n m.within is)
+      go Entries is at = its (for_each_place P Merge (place P n) (imports_of P (block P n)) k f e at) (entries_within n m.within is)
+      go (Switches t) is at = its (all_place _ _ (for_each_place P Switch (place P n) (imports_of P n)) k f e at) (switches_within n t m.within is)
+      go Turn is at = its (all_place _ _ (for_each_place P NextOp (place P n) (imports_of P (block P n))) k f e at) (turn_within n m.within is)
+      go (NextUse y) is at = absurd cc
+      go (Next y j o v) is at = own (one_place _ k f e at) (ap is_thing is)
+      go Body is at = absurd cc
+      go (Reset v) is at = its (one_place _ k f e at) (reset_within n v m.within is)
+      go (Loop g w l) is at = own (one_place _ k f e at) (ap is_thing is)
       go (Block b) is at = absurd cc
       go (Binding y a) is at = own (one_place _ k f e at) (ap is_thing is)
       go (Def y x j b) is at = absurd cc

@@ -25,4 +25,4 @@ pub use program::{drive, serve};
 pub use refusal::{Cause, Detail, Refusal, put_refusal};
 pub use run::{MAX_STEPS, engine};
 pub use source::{Disk, Source, SourceFault, read_text};
-pub use stream::{Stream, write_some};
+pub use stream::{Stream, settle, write_some};

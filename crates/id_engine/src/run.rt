@@ -32,8 +32,11 @@ fn machine_of<'a>(
     inputs: &Inputs,
 ) -> Result<Machine<'a>, EngineError>
     requires { TakesInputs valid.now inputs.now.values }
-    ensures start { IfOk result
-        (λ m. m ≡ record { graph = valid.now; count = 1; world = start valid.now inputs.now.values 1 }) }
+    ensures start { IfOk result (λ m. m ≡ record {
+      graph = valid.now;
+      count = 1;
+      world = start valid.now inputs.now.values 1;
+    }) }
     ensures memory { IfErr result (λ e. e ≡ EngineError.Memory) }
 {
     match Machine::new(alloc, valid, inputs, ELEMENTS) {

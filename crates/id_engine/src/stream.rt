@@ -1,8 +1,11 @@
 //! The standard streams as sinks.
 
-ghost use Rattle.std.specs.Prelude.{◌≤◌, length, IfOk};
-ghost use Rattle.std.specs.Io.KnownBytes.{WriteAppends};
+ghost use Rattle.std.specs.Prelude.{◌≡◌, ◌≤◌, ◌⊎◌, [], length, IfOk};
+ghost use Rattle.std.specs.Io.KnownBytes.{Keeps, WriteAppends};
+ghost use Rattle.id_engine.specs.declared.refusal.Cause.TheVariants as cause;
+ghost use Rattle.id_engine.specs.Refusals.{IsPrintedLine, plain, row_of};
 
+use crate::refusal::{Cause, plain, refuse};
 use id_print::{Sink, SinkFault};
 use std::io::{ErrorKind, Write};
 
@@ -19,6 +22,22 @@ impl<W: Write + Drop> Sink for Stream<W> {
 
     fn write(&mut self, bytes: &[u8]) -> Result<usize, SinkFault> {
         write_some(&mut self.writer, bytes)
+    }
+}
+
+/// Sends on what the writer of a stream still holds back, and answers the status of the whole: this one, or, where that
+/// fails, the one of a failed write, whose line it prints. After a failed write nothing more is sent on.
+pub fn settle<W: Write + Drop, E: Sink>(out: &mut Stream<W>, err: &mut E, status: u8) -> u8
+    ensures bytes { Keeps (W.contents out.old.writer) (W.contents out.new.writer) }
+    ensures answer { ((result ≡ status) × (E.told err.new ≡ E.told err.old))
+        ⊎ ((result ≡ (row_of cause.Write).2) × IsPrintedLine [] (plain cause.Write) (E.told err.old) (E.told err.new)) }
+{
+    if status == Cause::Write.status() {
+        return status;
+    }
+    match out.writer.flush() {
+        Ok(()) => status,
+        Err(_) => refuse(&plain(Cause::Write), "", err),
     }
 }
 

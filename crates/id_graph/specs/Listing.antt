@@ -5,7 +5,8 @@ use Rattle.std.specs.Fmt.{decimal, signed_decimal}
 use Rattle.id_text.specs.Places.{line_of, column_of}
 use Rattle.id_graph.specs.declared.instr.Instr.{Instr}
 use Rattle.id_graph.specs.declared.instr.Op.{Op}
-use Rattle.id_graph.specs.declared.instr.Op.TheVariants.{Const, Unary, Binary, Merge, Switch, Back, Enter, Send}
+use Rattle.id_graph.specs.declared.instr.Op.TheVariants.{Const, Unary, Binary, Merge, Switch, Back, Enter, Send, Next}
+use Rattle.id_graph.specs.declared.instr.Op.TheVariants.{Reset}
 use Rattle.id_graph.specs.declared.instr.Dyadic.{Dyadic}
 use Rattle.id_graph.specs.declared.instr.Dyadic.TheVariants as class
 use Rattle.id_graph.specs.declared.instr.PortKind.{PortKind}
@@ -88,6 +89,8 @@ op_text (Switch k) = codes "switch " ++ kind_name k
 op_text (Back k) = codes "back " ++ kind_name k
 op_text (Enter b r) = codes "enter " ++ decimal b ++ codes " " ++ decimal r
 op_text (Send k t) = codes "send " ++ kind_name k ++ codes " " ++ decimal t
+op_text (Next k) = codes "next " ++ kind_name k
+op_text (Reset k) = codes "reset " ++ kind_name k
 
 -- the number of a port
 abbrev pub port_number : Port → ℕ

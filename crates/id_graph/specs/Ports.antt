@@ -1,7 +1,8 @@
 -- The ports of operators, and what they take and send (docs/GRAPH.md, "Operators").
 use Rattle.std.specs.Prelude.{Bool, true, false, Option, Some, None, is_some}
 use Rattle.id_graph.specs.declared.instr.Op.{Op}
-use Rattle.id_graph.specs.declared.instr.Op.TheVariants.{Const, Unary, Binary, Merge, Switch, Back, Enter, Send}
+use Rattle.id_graph.specs.declared.instr.Op.TheVariants.{Const, Unary, Binary, Merge, Switch, Back, Enter, Send, Next}
+use Rattle.id_graph.specs.declared.instr.Op.TheVariants.{Reset}
 use Rattle.id_graph.specs.declared.instr.Dyadic.{Dyadic}
 use Rattle.id_graph.specs.declared.instr.Dyadic.TheVariants.{Arithmetic, Comparison, Truth}
 use Rattle.id_value.specs.declared.UnaryOp.{UnaryOp}
@@ -47,6 +48,10 @@ port_kind (Enter b r) Zero = Some Signal
 port_kind (Enter b r) One = None
 port_kind (Send k t) Zero = Some Context
 port_kind (Send k t) One = Some k
+port_kind (Next k) Zero = Some k
+port_kind (Next k) One = None
+port_kind (Reset k) Zero = Some k
+port_kind (Reset k) One = None
 
 -- whether the operator has a second port
 abbrev pub two_ports : Op → Bool
@@ -67,6 +72,8 @@ sends (Switch k) = Some k
 sends (Back k) = None
 sends (Enter b r) = Some Context
 sends (Send k t) = None
+sends (Next k) = Some k
+sends (Reset k) = Some k
 
 -- whether the operator has two sides, each with its destinations: a switch alone has
 abbrev pub two_sides : Op → Bool
@@ -78,3 +85,5 @@ two_sides (Switch k) = true
 two_sides (Back k) = false
 two_sides (Enter b r) = false
 two_sides (Send k t) = false
+two_sides (Next k) = false
+two_sides (Reset k) = false

@@ -76,6 +76,10 @@ pub enum Op {
     /// Sends a value of one kind to an entry, the instruction `target`, in the context that came
     /// with it.
     Send { kind: PortKind, target: u32 },
+    /// Sends on whatever comes, of one kind, at the next iteration.
+    Next(PortKind),
+    /// Sends on whatever comes, of one kind, at iteration 0.
+    Reset(PortKind),
 }
 
 impl Op {
@@ -94,12 +98,13 @@ impl Op {
             (Op::Const(_) | Op::Enter { .. }, Port::Zero) => Some(PortKind::Signal),
             (Op::Unary(operator), Port::Zero) => Some(unary_kind(operator)),
             (Op::Binary(operator), _) => Some(operator.operand_kind()),
-            (Op::Merge(kind), Port::Zero) => Some(kind),
+            (Op::Merge(kind) | Op::Next(kind) | Op::Reset(kind), Port::Zero) => Some(kind),
             (Op::Switch(_), Port::Zero) => Some(PortKind::Bool),
             (Op::Switch(kind) | Op::Back(kind) | Op::Send { kind, .. }, Port::One) => Some(kind),
             (Op::Back(_), Port::Zero) => Some(PortKind::Continuation),
             (Op::Send { .. }, Port::Zero) => Some(PortKind::Context),
             (Op::Const(_) | Op::Unary(_) | Op::Merge(_) | Op::Enter { .. }, Port::One) => None,
+            (Op::Next(_) | Op::Reset(_), Port::One) => None,
         }
     }
 
@@ -112,7 +117,7 @@ impl Op {
             Op::Const(constant) => Some(constant_kind(constant)),
             Op::Unary(operator) => Some(unary_kind(operator)),
             Op::Binary(operator) => Some(operator.outcome_kind()),
-            Op::Merge(kind) | Op::Switch(kind) => Some(kind),
+            Op::Merge(kind) | Op::Switch(kind) | Op::Next(kind) | Op::Reset(kind) => Some(kind),
             Op::Enter { .. } => Some(PortKind::Context),
             Op::Back(_) | Op::Send { .. } => None,
         }

@@ -100,6 +100,8 @@ fn write_op(out: &mut String, op: Op) -> Result<(), AllocError>
         Op::Back(kind) => write!(out, "back {}", kind_name(kind)),
         Op::Enter { block, reply } => write!(out, "enter {block} {reply}"),
         Op::Send { kind, target } => write!(out, "send {} {target}", kind_name(kind)),
+        Op::Next(kind) => write!(out, "next {}", kind_name(kind)),
+        Op::Reset(kind) => write!(out, "reset {}", kind_name(kind)),
     }
 }
 

@@ -1,5 +1,5 @@
 -- Which parts a row has and what feeds them, by cases on its node.
-use Rattle.std.proofs.Common.{◌≡◌, ◌⊎◌, inl, inr, ℕ, zero, suc, ◌+◌, ◌<◌, Option, Some, None, List, [], ◌∷◌, length, slice_get, get_or, refl, sym, ◌∙◌, ap}
+use Rattle.std.proofs.Common.{◌≡◌, ◌⊎◌, inl, inr, ℕ, zero, suc, ◌+◌, ◌-◌, ◌<◌, true, Option, Some, None, List, [], ◌∷◌, ◌++◌, map, length, slice_get, get_or, refl, sym, ◌∙◌, ap}
 use Rattle.std.proofs.Common.{subst, arith}
 use Rattle.id_value.specs.declared.Kind.{Kind}
 use Rattle.id_value.specs.declared.Constant.{Constant}
@@ -10,6 +10,8 @@ use Rattle.id_parts.specs.declared.row.Region.{Region}
 use Rattle.id_parts.specs.declared.row.Node.{Node}
 use Rattle.id_parts.specs.declared.row.Node.TheVariants.{Head, Param, Literal, Name, Unary, Binary, Split, If, Enter, Arg, Call, Block}
 use Rattle.id_parts.specs.declared.row.Node.TheVariants.{Binding, Def, Program}
+use Rattle.id_parts.specs.declared.row.Node.TheVariants.{Start, LoopHead, Variable, Entries, Switches, Turn, NextUse, Next, Body, Reset, Loop}
+use Rattle.id_parts.specs.Tables.{begins_block}
 use Rattle.id_check.specs.declared.checked.Checked.{Checked}
 use Rattle.id_check.specs.Programs.{place, region, rows}
 use Rattle.id_graph.specs.declared.dests.Port.{Port}
@@ -17,38 +19,59 @@ use Rattle.id_graph.specs.declared.dests.Port.TheVariants.{Zero, One}
 use Rattle.id_graph.specs.declared.instr.Op.TheVariants as op
 use Rattle.id_graph.specs.declared.instr.PortKind.TheVariants.{Signal}
 use Rattle.id_desugar.specs.Ends.{end_of}
-use Rattle.id_desugar.specs.Regions.{imports_of}
+use Rattle.id_desugar.specs.Regions.{imports_of, nexts_of}
 use Rattle.id_build.specs.declared.arc.Origin.{Origin}
 use Rattle.id_build.specs.declared.arc.Form.{Form}
 use Rattle.id_build.specs.declared.arc.Form.TheVariants.{Plain, EnterAt, SendTo}
 use Rattle.id_build.specs.Rows.{node, body_of, result_of, port_of, port_at, binary_op, made_of, switches, feed, feeds_of, import_feeds, name_in, origin}
-use Rattle.id_build.specs.Rows.{called, output, param_of, trigger_of, piece}
+use Rattle.id_build.specs.Rows.{called, output, param_of, trigger_of, piece, block, Entry, loop_entries, entering, turn_row, next_of}
+use Rattle.id_build.specs.Rows.{entry_feeds, turn_feeds, send_to, for_each, import_entries, variable_entries, entries_row, first_binder}
+use Rattle.id_graph.specs.declared.instr.Op.{Op}
+use Rattle.id_graph.specs.declared.instr.PortKind.{PortKind}
+use Rattle.id_build.specs.declared.arc.Piece.{Piece}
 use Rattle.id_build.specs.Schemas.{Makes, Feeds}
+use Rattle.id_laws.specs.Activations.{Begins, of_call, of_loop, Tests, of_arms, of_turns}
 use Rattle.id_laws.specs.Topics.{IsPart}
 
 -- ---- parts
 
 -- the part of the row n has this form of operator
 pub data Does (P : Checked) (n : ℕ) : ℕ → Form → Type 0 where
-  starts : node P n ≡ Head → Does P n 0 (Plain (op.Merge Signal))
+  starts : begins_block (node P n) ≡ true → Does P n 0 (Plain (op.Merge Signal))
   returns : node P n ≡ Head → Does P n 1 (Plain (op.Back (port_of (result_of (node P (end_of P n))))))
   enters : {x : ℕ} {k : Kind} → node P n ≡ Param x k → Does P n 0 (Plain (op.Merge (port_at P n)))
   constant : {c : Constant} → node P n ≡ Literal c → Does P n 0 (Plain (op.Const c))
   unary : {o : UnaryOp} {a : ℕ} → node P n ≡ Unary o a → Does P n 0 (Plain (op.Unary o))
   binary : {o : BinaryOp} {a b : ℕ} → node P n ≡ Binary o a b → Does P n 0 (Plain (op.Binary (binary_op o (port_at P a))))
-  turns_on : {t : ℕ} → node P n ≡ Split t → Does P n 0 (Plain (op.Switch Signal))
-  hands : {t : ℕ} (k : ℕ) → node P n ≡ Split t → k < length (imports_of P n) → Does P n (suc k) (Plain (op.Switch (port_at P (get_or (imports_of P n) k 0))))
+  turns_on : {t : ℕ} → Tests P n t → Does P n 0 (Plain (op.Switch Signal))
+  hands : {t : ℕ} (k : ℕ) → Tests P n t → k < length (imports_of P n) → Does P n (suc k) (Plain (op.Switch (port_at P (get_or (imports_of P n) k 0))))
   joins : {s x y : ℕ} → node P n ≡ If s x y → Does P n 0 (Plain (op.Merge (port_at P n)))
-  opens : {x : ℕ} → node P n ≡ Enter x → Does P n 0 (EnterAt (called P n) (end_of P n))
-  passes : {e k v : ℕ} → node P n ≡ Arg e k v → Does P n 0 (SendTo (port_at P (param_of P e k)) (param_of P e k))
+  opens : {h q : ℕ} → Begins P n h q → Does P n 0 (EnterAt h q)
+  passes : {e k v : ℕ} → node P n ≡ Arg e k v → Does P n 0 (SendTo (port_at P (param_of P e k)) (param_of P e k) 0)
   gets : {e c : ℕ} → node P n ≡ Call e c → Does P n 0 (Plain (op.Merge (port_at P n)))
   names : {x a : ℕ} → node P n ≡ Binding x a → Does P n 0 (Plain (op.Merge (port_at P n)))
+  sends_in : (k : ℕ) (q : Entry) → node P n ≡ Start → slice_get (loop_entries P (n + 1)) k ≡ Some q → Does P n (suc k) (SendTo (port_at P q.binder) q.row q.part)
+  gives_back : {s : ℕ} → node P n ≡ LoopHead s → Does P n 1 (Plain (op.Back (port_at P (end_of P n))))
+  varies : node P n ≡ Variable → Does P n 0 (Plain (op.Merge (port_at P (next_of P n))))
+  takes_in : (k : ℕ) → node P n ≡ Entries → k < length (imports_of P (block P n)) → Does P n k (Plain (op.Merge (port_at P (get_or (imports_of P (block P n)) k 0))))
+  moves_on : node P n ≡ Turn → Does P n 0 (Plain (op.Next Signal))
+  moves_name : (k : ℕ) → node P n ≡ Turn → k < length (imports_of P (block P n))
+      → Does P n (suc k) (Plain (op.Next (port_at P (get_or (imports_of P (block P n)) k 0))))
+  advances : {x k o v : ℕ} → node P n ≡ Next x k o v → Does P n 0 (Plain (op.Next (port_at P n)))
+  resets : {v : ℕ} → node P n ≡ Reset v → Does P n 0 (Plain (op.Reset (port_at P v)))
+  gets_last : {h w l : ℕ} → node P n ≡ Loop h w l → Does P n 0 (Plain (op.Merge (port_at P n)))
   answers : node P n ≡ Program → Does P n 0 (Plain (op.Merge (port_of (result_of (node P P.main)))))
 
 -- the place that the part of a row with this node shows: the answer's is main's, any other's its row's
 abbrev pub place_shown : Checked → ℕ → Node → ℕ
 place_shown P e Program = place P P.main
 place_shown P e _ = e
+
+true_false : true ≡ Rattle.std.proofs.Common.false → ⊥
+true_false h = cc
+
+some_is : {A : Type 0} {x y : A} → Some x ≡ Some y → x ≡ y
+some_is h = cc
 
 same_form : (o f : Form) (e e' : ℕ) → Some (piece o e) ≡ Some (piece f e') → (o ≡ f) × (e' ≡ e)
 same_form o f e e' h =
@@ -60,26 +83,45 @@ pub record Doing (P : Checked) (n part : ℕ) (f : Form) (e : ℕ) : Type 0 wher
   pub does : Does P n part f
   pub place_is : e ≡ place_shown P (place P n) (node P n)
 
--- the part k of the switches of imports
-record SwitchAt (P : Checked) (e : ℕ) (bs : List ℕ) (k : ℕ) (f : Form) (e' : ℕ) : Type 0 where
+-- the part k of those that are made for each binder
+record PieceAt (P : Checked) (u : PortKind → Op) (e : ℕ) (bs : List ℕ) (k : ℕ) (f : Form) (e' : ℕ) : Type 0 where
   within : k < length bs
-  form : f ≡ Plain (op.Switch (port_at P (get_or bs k 0)))
+  form : f ≡ Plain (u (port_at P (get_or bs k 0)))
   place : e' ≡ e
 
-switch_at : (P : Checked) (e : ℕ) (bs : List ℕ) (k : ℕ) (f : Form) (e' : ℕ) → slice_get (switches P e bs) k ≡ Some (piece f e') → SwitchAt P e bs k f e'
-switch_at P e [] k f e' h = cc
-switch_at P e (b ∷ bs) zero f e' h = let z = same_form _ f _ e' h in record { within = omega arith; form = sym z.0; place = z.1 }
-switch_at P e (b ∷ bs) (suc k) f e' h = let z = switch_at P e bs k f e' h in record { within = omega (arith, z.within); form = z.form; place = z.place }
+piece_at : (P : Checked) (u : PortKind → Op) (e : ℕ) (bs : List ℕ) (k : ℕ) (f : Form) (e' : ℕ) → slice_get (for_each P u e bs) k ≡ Some (piece f e')
+    → PieceAt P u e bs k f e'
+piece_at P u e [] k f e' h = cc
+piece_at P u e (b ∷ bs) zero f e' h = let z = same_form _ f _ e' h in record { within = omega arith; form = sym z.0; place = z.1 }
+piece_at P u e (b ∷ bs) (suc k) f e' h = let z = piece_at P u e bs k f e' h in record { within = omega (arith, z.within); form = z.form; place = z.place }
 
-switch_made : (P : Checked) (e : ℕ) (bs : List ℕ) (k : ℕ) → k < length bs
-    → slice_get (switches P e bs) k ≡ Some (piece (Plain (op.Switch (port_at P (get_or bs k 0)))) e)
-switch_made P e [] k h = absurd (omega (arith, h))
-switch_made P e (b ∷ bs) zero h = refl
-switch_made P e (b ∷ bs) (suc k) h = switch_made P e bs k (omega (arith, h))
+piece_made : (P : Checked) (u : PortKind → Op) (e : ℕ) (bs : List ℕ) (k : ℕ) → k < length bs
+    → slice_get (for_each P u e bs) k ≡ Some (piece (Plain (u (port_at P (get_or bs k 0)))) e)
+piece_made P u e [] k h = absurd (omega (arith, h))
+piece_made P u e (b ∷ bs) zero h = refl
+piece_made P u e (b ∷ bs) (suc k) h = piece_made P u e bs k (omega (arith, h))
+
+-- the part k of the sends to entries
+record SendAt (P : Checked) (e : ℕ) (qs : List Entry) (k : ℕ) (f : Form) (e' : ℕ) : Type 0 where
+  entry : Entry
+  at : slice_get qs k ≡ Some entry
+  form : f ≡ SendTo (port_at P entry.binder) entry.row entry.part
+  place : e' ≡ e
+
+send_at : (P : Checked) (e : ℕ) (qs : List Entry) (k : ℕ) (f : Form) (e' : ℕ) → slice_get (map (send_to P e) qs) k ≡ Some (piece f e') → SendAt P e qs k f e'
+send_at P e [] k f e' h = cc
+send_at P e (q ∷ qs) zero f e' h = let z = same_form _ f _ e' h in record { entry = q; at = refl; form = sym z.0; place = z.1 }
+send_at P e (q ∷ qs) (suc k) f e' h = let z = send_at P e qs k f e' h in record { entry = z.entry; at = z.at; form = z.form; place = z.place }
+
+send_made : (P : Checked) (e : ℕ) (qs : List Entry) (k : ℕ) (q : Entry) → slice_get qs k ≡ Some q
+    → slice_get (map (send_to P e) qs) k ≡ Some (piece (SendTo (port_at P q.binder) q.row q.part) e)
+send_made P e [] k q h = cc
+send_made P e (r ∷ qs) zero q h = let is : r ≡ q = some_is h in ap (λ z. Some (send_to P e z)) is
+send_made P e (r ∷ qs) (suc k) q h = send_made P e qs k q h
 
 made_by : (P : Checked) (n part : ℕ) (f : Form) (e : ℕ) (m : Node) → node P n ≡ m → slice_get (made_of P n (place P n) m) part ≡ Some (piece f e)
     → Doing P n part f e
-made_by P n zero f e Head is h = let b = same_form _ f _ e h in record { does = subst (Does P n _) b.0 (starts is); place_is = b.1 ∙ ap (place_shown P (place P n)) (sym is) }
+made_by P n zero f e Head is h = let b = same_form _ f _ e h in record { does = subst (Does P n _) b.0 (starts (ap begins_block is)); place_is = b.1 ∙ ap (place_shown P (place P n)) (sym is) }
 made_by P n (suc zero) f e Head is h = let b = same_form _ f _ e h in record { does = subst (Does P n _) b.0 (returns is); place_is = b.1 ∙ ap (place_shown P (place P n)) (sym is) }
 made_by P n (suc (suc k)) f e Head is h = cc
 made_by P n zero f e (Param x k) is h = let b = same_form _ f _ e h in record { does = subst (Does P n _) b.0 (enters is); place_is = b.1 ∙ ap (place_shown P (place P n)) (sym is) }
@@ -91,13 +133,13 @@ made_by P n zero f e (Unary o a) is h = let b = same_form _ f _ e h in record { 
 made_by P n (suc j) f e (Unary o a) is h = cc
 made_by P n zero f e (Binary o a c) is h = let b = same_form _ f _ e h in record { does = subst (Does P n _) b.0 (binary is); place_is = b.1 ∙ ap (place_shown P (place P n)) (sym is) }
 made_by P n (suc j) f e (Binary o a b) is h = cc
-made_by P n zero f e (Split t) is h = let b = same_form _ f _ e h in record { does = subst (Does P n _) b.0 (turns_on is); place_is = b.1 ∙ ap (place_shown P (place P n)) (sym is) }
+made_by P n zero f e (Split t) is h = let b = same_form _ f _ e h in record { does = subst (Does P n _) b.0 (turns_on (of_arms is)); place_is = b.1 ∙ ap (place_shown P (place P n)) (sym is) }
 made_by P n (suc k) f e (Split t) is h =
-    let z = switch_at P (place P n) (imports_of P n) k f e h in
-    record { does = subst (Does P n _) (sym z.form) (hands k is z.within); place_is = z.place ∙ ap (place_shown P (place P n)) (sym is) }
+    let z = piece_at P op.Switch (place P n) (imports_of P n) k f e h in
+    record { does = subst (Does P n _) (sym z.form) (hands k (of_arms is) z.within); place_is = z.place ∙ ap (place_shown P (place P n)) (sym is) }
 made_by P n zero f e (If s x y) is h = let b = same_form _ f _ e h in record { does = subst (Does P n _) b.0 (joins is); place_is = b.1 ∙ ap (place_shown P (place P n)) (sym is) }
 made_by P n (suc j) f e (If s x y) is h = cc
-made_by P n zero f e (Enter x) is h = let b = same_form _ f _ e h in record { does = subst (Does P n _) b.0 (opens is); place_is = b.1 ∙ ap (place_shown P (place P n)) (sym is) }
+made_by P n zero f e (Enter x) is h = let b = same_form _ f _ e h in record { does = subst (Does P n _) b.0 (opens (of_call is)); place_is = b.1 ∙ ap (place_shown P (place P n)) (sym is) }
 made_by P n (suc j) f e (Enter x) is h = cc
 made_by P n zero f e (Arg s k v) is h = let b = same_form _ f _ e h in record { does = subst (Does P n _) b.0 (passes is); place_is = b.1 ∙ ap (place_shown P (place P n)) (sym is) }
 made_by P n (suc j) f e (Arg s k v) is h = cc
@@ -107,6 +149,34 @@ made_by P n j f e (Block b) is h = cc
 made_by P n zero f e (Binding x a) is h = let b = same_form _ f _ e h in record { does = subst (Does P n _) b.0 (names is); place_is = b.1 ∙ ap (place_shown P (place P n)) (sym is) }
 made_by P n (suc j) f e (Binding x a) is h = cc
 made_by P n j f e (Def x g k b) is h = cc
+made_by P n zero f e Start is h = let b = same_form _ f _ e h in record { does = subst (Does P n _) b.0 (opens (of_loop is)); place_is = b.1 ∙ ap (place_shown P (place P n)) (sym is) }
+made_by P n (suc k) f e Start is h =
+    let z = send_at P (place P n) (loop_entries P (n + 1)) k f e h in
+    record { does = subst (Does P n _) (sym z.form) (sends_in k z.entry is z.at); place_is = z.place ∙ ap (place_shown P (place P n)) (sym is) }
+made_by P n zero f e (LoopHead s) is h = let b = same_form _ f _ e h in record { does = subst (Does P n _) b.0 (starts (ap begins_block is)); place_is = b.1 ∙ ap (place_shown P (place P n)) (sym is) }
+made_by P n (suc zero) f e (LoopHead s) is h = let b = same_form _ f _ e h in record { does = subst (Does P n _) b.0 (gives_back is); place_is = b.1 ∙ ap (place_shown P (place P n)) (sym is) }
+made_by P n (suc (suc k)) f e (LoopHead s) is h = cc
+made_by P n zero f e Variable is h = let b = same_form _ f _ e h in record { does = subst (Does P n _) b.0 (varies is); place_is = b.1 ∙ ap (place_shown P (place P n)) (sym is) }
+made_by P n (suc j) f e Variable is h = cc
+made_by P n k f e Entries is h =
+    let z = piece_at P op.Merge (place P n) (imports_of P (block P n)) k f e h in
+    record { does = subst (Does P n _) (sym z.form) (takes_in k is z.within); place_is = z.place ∙ ap (place_shown P (place P n)) (sym is) }
+made_by P n zero f e (Switches t) is h = let b = same_form _ f _ e h in record { does = subst (Does P n _) b.0 (turns_on (of_turns is)); place_is = b.1 ∙ ap (place_shown P (place P n)) (sym is) }
+made_by P n (suc k) f e (Switches t) is h =
+    let z = piece_at P op.Switch (place P n) (imports_of P n) k f e h in
+    record { does = subst (Does P n _) (sym z.form) (hands k (of_turns is) z.within); place_is = z.place ∙ ap (place_shown P (place P n)) (sym is) }
+made_by P n zero f e Turn is h = let b = same_form _ f _ e h in record { does = subst (Does P n _) b.0 (moves_on is); place_is = b.1 ∙ ap (place_shown P (place P n)) (sym is) }
+made_by P n (suc k) f e Turn is h =
+    let z = piece_at P op.Next (place P n) (imports_of P (block P n)) k f e h in
+    record { does = subst (Does P n _) (sym z.form) (moves_name k is z.within); place_is = z.place ∙ ap (place_shown P (place P n)) (sym is) }
+made_by P n j f e (NextUse x) is h = cc
+made_by P n zero f e (Next x k o v) is h = let b = same_form _ f _ e h in record { does = subst (Does P n _) b.0 (advances is); place_is = b.1 ∙ ap (place_shown P (place P n)) (sym is) }
+made_by P n (suc j) f e (Next x k o v) is h = cc
+made_by P n j f e Body is h = cc
+made_by P n zero f e (Reset v) is h = let b = same_form _ f _ e h in record { does = subst (Does P n _) b.0 (resets is); place_is = b.1 ∙ ap (place_shown P (place P n)) (sym is) }
+made_by P n (suc j) f e (Reset v) is h = cc
+made_by P n zero f e (Loop g w l) is h = let b = same_form _ f _ e h in record { does = subst (Does P n _) b.0 (gets_last is); place_is = b.1 ∙ ap (place_shown P (place P n)) (sym is) }
+made_by P n (suc j) f e (Loop g w l) is h = cc
 made_by P n zero f e Program is h = let b = same_form _ f _ e h in record { does = subst (Does P n _) b.0 (answers is); place_is = b.1 ∙ ap (place_shown P (place P n)) (sym is) }
 made_by P n (suc j) f e Program is h = cc
 
@@ -120,19 +190,36 @@ made_at P n part m f within is h = record { within = within; at = subst (λ z. s
 
 -- what the node says is made
 pub makes : {P : Checked} {n part : ℕ} {f : Form} → n < length (rows P) → Does P n part f → Makes P n part f (place_shown P (place P n) (node P n))
-makes {P} {n} within (starts is) = made_at P n 0 Head _ within is refl
+makes {P} {n} within (starts is) = by_head (node P n) refl is
+  where
+    by_head : (m : Node) → node P n ≡ m → begins_block (node P n) ≡ true → Makes P n 0 (Plain (op.Merge Signal)) (place_shown P (place P n) (node P n))
+    by_head Head is b = made_at P n 0 Head _ within is refl
+    by_head (LoopHead s) is b = made_at P n 0 (LoopHead s) _ within is refl
+    by_head _ is b = absurd (true_false (sym b ∙ ap begins_block is))
 makes {P} {n} within (returns is) = made_at P n 1 Head _ within is refl
 makes {P} {n} within (enters {x = x} {k = k} is) = made_at P n 0 (Param x k) _ within is refl
 makes {P} {n} within (constant {c = c} is) = made_at P n 0 (Literal c) _ within is refl
 makes {P} {n} within (unary {o = o} {a = a} is) = made_at P n 0 (Unary o a) _ within is refl
 makes {P} {n} within (binary {o = o} {a = a} {b = b} is) = made_at P n 0 (Binary o a b) _ within is refl
-makes {P} {n} within (turns_on {t = t} is) = made_at P n 0 (Split t) _ within is refl
-makes {P} {n} within (hands {t = t} k is less) = made_at P n (suc k) (Split t) _ within is (switch_made P (place P n) (imports_of P n) k less)
+makes {P} {n} within (turns_on {t = t} (of_arms is)) = made_at P n 0 (Split t) _ within is refl
+makes {P} {n} within (turns_on {t = t} (of_turns is)) = made_at P n 0 (Switches t) _ within is refl
+makes {P} {n} within (hands {t = t} k (of_arms is) less) = made_at P n (suc k) (Split t) _ within is (piece_made P op.Switch (place P n) (imports_of P n) k less)
+makes {P} {n} within (hands {t = t} k (of_turns is) less) = made_at P n (suc k) (Switches t) _ within is (piece_made P op.Switch (place P n) (imports_of P n) k less)
 makes {P} {n} within (joins {s = s} {x = x} {y = y} is) = made_at P n 0 (If s x y) _ within is refl
-makes {P} {n} within (opens {x = x} is) = made_at P n 0 (Enter x) _ within is refl
+makes {P} {n} within (opens (of_call {x = x} is)) = made_at P n 0 (Enter x) _ within is refl
+makes {P} {n} within (opens (of_loop is)) = made_at P n 0 Start _ within is refl
 makes {P} {n} within (passes {e = e} {k = k} {v = v} is) = made_at P n 0 (Arg e k v) _ within is refl
 makes {P} {n} within (gets {e = e} {c = c} is) = made_at P n 0 (Call e c) _ within is refl
 makes {P} {n} within (names {x = x} {a = a} is) = made_at P n 0 (Binding x a) _ within is refl
+makes {P} {n} within (sends_in k q is at) = made_at P n (suc k) Start _ within is (send_made P (place P n) (loop_entries P (n + 1)) k q at)
+makes {P} {n} within (gives_back {s = s} is) = made_at P n 1 (LoopHead s) _ within is refl
+makes {P} {n} within (varies is) = made_at P n 0 Variable _ within is refl
+makes {P} {n} within (takes_in k is less) = made_at P n k Entries _ within is (piece_made P op.Merge (place P n) (imports_of P (block P n)) k less)
+makes {P} {n} within (moves_on is) = made_at P n 0 Turn _ within is refl
+makes {P} {n} within (moves_name k is less) = made_at P n (suc k) Turn _ within is (piece_made P op.Next (place P n) (imports_of P (block P n)) k less)
+makes {P} {n} within (advances {x = x} {k = k} {o = o} {v = v} is) = made_at P n 0 (Next x k o v) _ within is refl
+makes {P} {n} within (resets {v = v} is) = made_at P n 0 (Reset v) _ within is refl
+makes {P} {n} within (gets_last {h = h} {w = w} {l = l} is) = made_at P n 0 (Loop h w l) _ within is refl
 makes {P} {n} within (answers is) = made_at P n 0 Program _ within is refl
 
 pub part_of : {P : Checked} {n part : ℕ} {f : Form} → n < length (rows P) → Does P n part f → IsPart P n part
@@ -147,16 +234,26 @@ pub data Arc (P : Checked) (n : ℕ) : ℕ → Port → Origin → Type 0 where
   to_unary : {o : UnaryOp} {a : ℕ} → node P n ≡ Unary o a → Arc P n 0 Zero (origin P a)
   to_left : {o : BinaryOp} {a b : ℕ} → node P n ≡ Binary o a b → Arc P n 0 Zero (origin P a)
   to_right : {o : BinaryOp} {a b : ℕ} → node P n ≡ Binary o a b → Arc P n 0 One (origin P b)
-  to_test : {t : ℕ} → node P n ≡ Split t → Arc P n 0 Zero (origin P t)
-  to_trigger : {t : ℕ} → node P n ≡ Split t → Arc P n 0 One (trigger_of (region P n))
-  to_import_test : {t : ℕ} (k : ℕ) → node P n ≡ Split t → k < length (imports_of P n) → Arc P n (suc k) Zero (origin P t)
-  to_import : {t : ℕ} (k : ℕ) → node P n ≡ Split t → k < length (imports_of P n) → Arc P n (suc k) One (name_in P (region P n) (get_or (imports_of P n) k 0))
+  to_test : {t : ℕ} → Tests P n t → Arc P n 0 Zero (origin P t)
+  to_trigger : {t : ℕ} → Tests P n t → Arc P n 0 One (trigger_of (region P n))
+  to_import_test : {t : ℕ} (k : ℕ) → Tests P n t → k < length (imports_of P n) → Arc P n (suc k) Zero (origin P t)
+  to_import : {t : ℕ} (k : ℕ) → Tests P n t → k < length (imports_of P n) → Arc P n (suc k) One (name_in P (region P n) (get_or (imports_of P n) k 0))
   to_then : {s x y : ℕ} → node P n ≡ If s x y → Arc P n 0 Zero (origin P x)
   to_else : {s x y : ℕ} → node P n ≡ If s x y → Arc P n 0 Zero (origin P y)
-  to_enter : {x : ℕ} → node P n ≡ Enter x → Arc P n 0 Zero (trigger_of (region P n))
+  to_enter : {h q : ℕ} → Begins P n h q → Arc P n 0 Zero (trigger_of (region P n))
   to_context : {e k v : ℕ} → node P n ≡ Arg e k v → Arc P n 0 Zero (output e)
   to_argument : {e k v : ℕ} → node P n ≡ Arg e k v → Arc P n 0 One (origin P v)
   to_label : {x a : ℕ} → node P n ≡ Binding x a → Arc P n 0 Zero (origin P a)
+  to_loop_context : (k : ℕ) → node P n ≡ Start → k < length (entering P (n + 1)) → Arc P n (suc k) Zero (output n)
+  to_entering : (k : ℕ) → node P n ≡ Start → k < length (entering P (n + 1)) → Arc P n (suc k) One (name_in P (region P n) (get_or (entering P (n + 1)) k 0))
+  to_head : {s : ℕ} → node P n ≡ LoopHead s → Arc P n 0 Zero (output (turn_row P n))
+  to_loop_back : {s : ℕ} → node P n ≡ LoopHead s → Arc P n 1 One (output (end_of P n - 1))
+  to_variable : node P n ≡ Variable → Arc P n 0 Zero (output (next_of P n))
+  to_entry : (k : ℕ) → node P n ≡ Entries → k < length (imports_of P (block P n)) → Arc P n k Zero (record { row = turn_row P (block P n); part = suc k; side = true })
+  to_turn : node P n ≡ Turn → Arc P n 0 Zero (trigger_of (region P n))
+  to_turn_name : (k : ℕ) → node P n ≡ Turn → k < length (imports_of P (block P n)) → Arc P n (suc k) Zero (name_in P (region P n) (get_or (imports_of P (block P n)) k 0))
+  to_next : {x k o v : ℕ} → node P n ≡ Next x k o v → Arc P n 0 Zero (origin P v)
+  to_reset : {v : ℕ} → node P n ≡ Reset v → Arc P n 0 Zero (origin P v)
 
 moved : {P : Checked} {n : ℕ} (s t : Origin) (part k : ℕ) (p q : Port) → feed s part p ≡ feed t k q → Arc P n k q t → Arc P n part p s
 moved {P} {n} s t part k p q is a =
@@ -185,7 +282,7 @@ import_fed P t r j (b ∷ bs) s part p (inr (inr h)) = behind (import_fed P t r 
     behind (by_test k less at q is) = by_test (suc k) (omega (arith, less)) (omega (arith, at)) q is
     behind (by_name k less at q is) = by_name (suc k) (omega (arith, less)) (omega (arith, at)) q is
 
-as_arc : {P : Checked} {n : ℕ} {t : ℕ} {s : Origin} {part : ℕ} {p : Port} → node P n ≡ Split t
+as_arc : {P : Checked} {n : ℕ} {t : ℕ} {s : Origin} {part : ℕ} {p : Port} → Tests P n t
     → ImportFed P (origin P t) (region P n) 1 (imports_of P n) s part p → Arc P n part p s
 as_arc {P} {n} {t} {s} {part} {p} is (by_test k less at q from) =
     let part_is : part ≡ suc k = omega (arith, at) in
@@ -194,6 +291,82 @@ as_arc {P} {n} {t} {s} {part} {p} is (by_name k less at q from) =
     let part_is : part ≡ suc k = omega (arith, at) in
     subst (λ (z : ℕ × (Port × Origin)). Arc P n z.0 z.1.0 z.1.1) {x = (suc k, (One, name_in P (region P n) (get_or (imports_of P n) k 0)))} {y = (part, (p, s))} (λ i. (sym part_is i, (sym q i, sym from i)))
     (to_import k is less)
+
+-- the sends to the entries of a loop
+as_send : {P : Checked} {n : ℕ} {s : Origin} {part : ℕ} {p : Port} → node P n ≡ Start
+    → ImportFed P (output n) (region P n) 1 (entering P (n + 1)) s part p → Arc P n part p s
+as_send {P} {n} {s} {part} {p} is (by_test k less at q from) =
+    let part_is : part ≡ suc k = omega (arith, at) in
+    subst (λ (z : ℕ × (Port × Origin)). Arc P n z.0 z.1.0 z.1.1) {x = (suc k, (Zero, output n))} {y = (part, (p, s))} (λ i. (sym part_is i, (sym q i, sym from i))) (to_loop_context k is less)
+as_send {P} {n} {s} {part} {p} is (by_name k less at q from) =
+    let part_is : part ≡ suc k = omega (arith, at) in
+    subst (λ (z : ℕ × (Port × Origin)). Arc P n z.0 z.1.0 z.1.1) {x = (suc k, (One, name_in P (region P n) (get_or (entering P (n + 1)) k 0)))} {y = (part, (p, s))}
+    (λ i. (sym part_is i, (sym q i, sym from i))) (to_entering k is less)
+
+-- what feeds the entries of a loop's imports
+record EntryFed (w j : ℕ) (bs : List ℕ) (s : Origin) (part : ℕ) (p : Port) : Type 0 where
+  slot : ℕ
+  less : slot < length bs
+  at : part ≡ j + slot
+  port : p ≡ Zero
+  from : s ≡ record { row = w; part = j + slot + 1; side = true }
+
+entry_fed : (w j : ℕ) (bs : List ℕ) (s : Origin) (part : ℕ) (p : Port) → Among (feed s part p) (entry_feeds w j bs) → EntryFed w j bs s part p
+entry_fed w j [] s part p h = absurd h
+entry_fed w j (b ∷ bs) s part p (inl is) =
+    let first : j ≡ j + 0 = omega arith in
+    record {
+      slot = 0;
+      less = omega arith;
+      at = ap (λ (y : Rattle.id_build.specs.declared.arc.Feed.Feed). y.part) is ∙ first;
+      port = ap (λ (y : Rattle.id_build.specs.declared.arc.Feed.Feed). y.port) is;
+      from = ap (λ (y : Rattle.id_build.specs.declared.arc.Feed.Feed). y.origin) is ∙ ap (λ z. record { row = w; part = z + 1; side = true }) first;
+    }
+entry_fed w j (b ∷ bs) s part p (inr h) =
+    let z = entry_fed w (j + 1) bs s part p h in
+    let up : j + 1 + z.slot ≡ j + suc z.slot = omega arith in
+    record { slot = suc z.slot; less = omega (arith, z.less); at = z.at ∙ up; port = z.port; from = z.from ∙ ap (λ y. record { row = w; part = y + 1; side = true }) up }
+
+as_entry : {P : Checked} {n : ℕ} {s : Origin} {part : ℕ} {p : Port} → node P n ≡ Entries
+    → EntryFed (turn_row P (block P n)) 0 (imports_of P (block P n)) s part p → Arc P n part p s
+as_entry {P} {n} {s} {part} {p} is x =
+    let part_is : part ≡ x.slot = omega (arith, x.at) in
+    let next : 0 + x.slot + 1 ≡ suc x.slot = omega arith in
+    let from : s ≡ record { row = turn_row P (block P n); part = suc x.slot; side = true } = x.from ∙ ap (λ z. record { row = turn_row P (block P n); part = z; side = true }) next in
+    subst (λ (z : ℕ × (Port × Origin)). Arc P n z.0 z.1.0 z.1.1) {x = (x.slot, (Zero, record { row = turn_row P (block P n); part = suc x.slot; side = true }))} {y = (part, (p, s))}
+    (λ i. (sym part_is i, (sym x.port i, sym from i))) (to_entry x.slot is x.less)
+
+-- what feeds the parts that hand imports on
+record TurnFed (P : Checked) (r : Region) (j : ℕ) (bs : List ℕ) (s : Origin) (part : ℕ) (p : Port) : Type 0 where
+  slot : ℕ
+  less : slot < length bs
+  at : part ≡ j + slot
+  port : p ≡ Zero
+  from : s ≡ name_in P r (get_or bs slot 0)
+
+turn_fed : (P : Checked) (r : Region) (j : ℕ) (bs : List ℕ) (s : Origin) (part : ℕ) (p : Port) → Among (feed s part p) (turn_feeds P r j bs)
+    → TurnFed P r j bs s part p
+turn_fed P r j [] s part p h = absurd h
+turn_fed P r j (b ∷ bs) s part p (inl is) =
+    let first : j ≡ j + 0 = omega arith in
+    record {
+      slot = 0;
+      less = omega arith;
+      at = ap (λ (y : Rattle.id_build.specs.declared.arc.Feed.Feed). y.part) is ∙ first;
+      port = ap (λ (y : Rattle.id_build.specs.declared.arc.Feed.Feed). y.port) is;
+      from = ap (λ (y : Rattle.id_build.specs.declared.arc.Feed.Feed). y.origin) is;
+    }
+turn_fed P r j (b ∷ bs) s part p (inr h) =
+    let z = turn_fed P r (j + 1) bs s part p h in
+    let up : j + 1 + z.slot ≡ j + suc z.slot = omega arith in
+    record { slot = suc z.slot; less = omega (arith, z.less); at = z.at ∙ up; port = z.port; from = z.from }
+
+as_turn : {P : Checked} {n : ℕ} {s : Origin} {part : ℕ} {p : Port} → node P n ≡ Turn
+    → TurnFed P (region P n) 1 (imports_of P (block P n)) s part p → Arc P n part p s
+as_turn {P} {n} {s} {part} {p} is x =
+    let part_is : part ≡ suc x.slot = omega (arith, x.at) in
+    subst (λ (z : ℕ × (Port × Origin)). Arc P n z.0 z.1.0 z.1.1) {x = (suc x.slot, (Zero, name_in P (region P n) (get_or (imports_of P (block P n)) x.slot 0)))} {y = (part, (p, s))}
+    (λ i. (sym part_is i, (sym x.port i, sym x.from i))) (to_turn_name x.slot is x.less)
 
 arc_by : (P : Checked) (s : Origin) (n part : ℕ) (p : Port) (m : Node) → node P n ≡ m → Among (feed s part p) (feeds_of P n (region P n) m) → Arc P n part p s
 arc_by P s n part p Head is (inl h) = moved s _ part 1 p One h (to_back is)
@@ -207,13 +380,13 @@ arc_by P s n part p (Unary o a) is (inr h) = absurd h
 arc_by P s n part p (Binary o a b) is (inl h) = moved s _ part 0 p Zero h (to_left is)
 arc_by P s n part p (Binary o a b) is (inr (inl h)) = moved s _ part 0 p One h (to_right is)
 arc_by P s n part p (Binary o a b) is (inr (inr h)) = absurd h
-arc_by P s n part p (Split t) is (inl h) = moved s _ part 0 p Zero h (to_test is)
-arc_by P s n part p (Split t) is (inr (inl h)) = moved s _ part 0 p One h (to_trigger is)
-arc_by P s n part p (Split t) is (inr (inr h)) = as_arc is (import_fed P (origin P t) (region P n) 1 (imports_of P n) s part p h)
+arc_by P s n part p (Split t) is (inl h) = moved s _ part 0 p Zero h (to_test (of_arms is))
+arc_by P s n part p (Split t) is (inr (inl h)) = moved s _ part 0 p One h (to_trigger (of_arms is))
+arc_by P s n part p (Split t) is (inr (inr h)) = as_arc (of_arms is) (import_fed P (origin P t) (region P n) 1 (imports_of P n) s part p h)
 arc_by P s n part p (If t x y) is (inl h) = moved s _ part 0 p Zero h (to_then is)
 arc_by P s n part p (If t x y) is (inr (inl h)) = moved s _ part 0 p Zero h (to_else is)
 arc_by P s n part p (If t x y) is (inr (inr h)) = absurd h
-arc_by P s n part p (Enter x) is (inl h) = moved s _ part 0 p Zero h (to_enter is)
+arc_by P s n part p (Enter x) is (inl h) = moved s _ part 0 p Zero h (to_enter (of_call is))
 arc_by P s n part p (Enter x) is (inr h) = absurd h
 arc_by P s n part p (Arg e k v) is (inl h) = moved s _ part 0 p Zero h (to_context is)
 arc_by P s n part p (Arg e k v) is (inr (inl h)) = moved s _ part 0 p One h (to_argument is)
@@ -223,11 +396,46 @@ arc_by P s n part p (Block b) is h = absurd h
 arc_by P s n part p (Binding x a) is (inl h) = moved s _ part 0 p Zero h (to_label is)
 arc_by P s n part p (Binding x a) is (inr h) = absurd h
 arc_by P s n part p (Def x g k b) is h = absurd h
+arc_by P s n part p Start is (inl h) = moved s _ part 0 p Zero h (to_enter (of_loop is))
+arc_by P s n part p Start is (inr h) = as_send is (import_fed P (output n) (region P n) 1 (entering P (n + 1)) s part p h)
+arc_by P s n part p (LoopHead t) is (inl h) = moved s _ part 0 p Zero h (to_head is)
+arc_by P s n part p (LoopHead t) is (inr (inl h)) = moved s _ part 1 p One h (to_loop_back is)
+arc_by P s n part p (LoopHead t) is (inr (inr h)) = absurd h
+arc_by P s n part p Variable is (inl h) = moved s _ part 0 p Zero h (to_variable is)
+arc_by P s n part p Variable is (inr h) = absurd h
+arc_by P s n part p Entries is h = as_entry is (entry_fed (turn_row P (block P n)) 0 (imports_of P (block P n)) s part p h)
+arc_by P s n part p (Switches t) is (inl h) = moved s _ part 0 p Zero h (to_test (of_turns is))
+arc_by P s n part p (Switches t) is (inr (inl h)) = moved s _ part 0 p One h (to_trigger (of_turns is))
+arc_by P s n part p (Switches t) is (inr (inr h)) = as_arc (of_turns is) (import_fed P (origin P t) (region P n) 1 (imports_of P n) s part p h)
+arc_by P s n part p Turn is (inl h) = moved s _ part 0 p Zero h (to_turn is)
+arc_by P s n part p Turn is (inr h) = as_turn is (turn_fed P (region P n) 1 (imports_of P (block P n)) s part p h)
+arc_by P s n part p (NextUse x) is h = absurd h
+arc_by P s n part p (Next x k o v) is (inl h) = moved s _ part 0 p Zero h (to_next is)
+arc_by P s n part p (Next x k o v) is (inr h) = absurd h
+arc_by P s n part p Body is h = absurd h
+arc_by P s n part p (Reset v) is (inl h) = moved s _ part 0 p Zero h (to_reset is)
+arc_by P s n part p (Reset v) is (inr h) = absurd h
+arc_by P s n part p (Loop g w l) is h = absurd h
 arc_by P s n part p Program is h = absurd h
 
 -- each arc is one that its row's node says
 pub fed : {P : Checked} {s : Origin} {n part : ℕ} {p : Port} → Feeds P s n part p → Arc P n part p s
 fed {P} {s} {n} {part} {p} h = arc_by P s n part p (node P n) refl h.among
+
+-- each binder whose value goes into a loop has its entry there
+import_entry : (e j : ℕ) (bs : List ℕ) (k : ℕ) → k < length bs → (q : Entry) × (slice_get (import_entries e j bs) k ≡ Some q)
+import_entry e j [] k less = absurd (omega (arith, less))
+import_entry e j (b ∷ bs) zero less = (_, refl)
+import_entry e j (b ∷ bs) (suc k) less = import_entry e (j + 1) bs k (omega (arith, less))
+
+entries_at : (P : Checked) (v e : ℕ) (ms bs : List ℕ) (k : ℕ) → k < length (map (first_binder P) ms ++ bs)
+    → (q : Entry) × (slice_get (variable_entries v ms ++ import_entries e 0 bs) k ≡ Some q)
+entries_at P v e [] bs k less = import_entry e 0 bs k less
+entries_at P v e (m ∷ ms) bs zero less = (_, refl)
+entries_at P v e (m ∷ ms) bs (suc k) less = entries_at P (v + 1) e ms bs k (omega (arith, less))
+
+pub entered_at : (P : Checked) (h k : ℕ) → k < length (entering P h) → (q : Entry) × (slice_get (loop_entries P h) k ≡ Some q)
+entered_at P h k less = entries_at P (h + 1) (entries_row P h) (nexts_of P h) (imports_of P h) k less
 
 -- what is fed is a part
 fed_part : {P : Checked} {n part : ℕ} {p : Port} {s : Origin} → n < length (rows P) → Arc P n part p s → IsPart P n part
@@ -246,91 +454,19 @@ fed_part within (to_enter is) = part_of within (opens is)
 fed_part within (to_context is) = part_of within (passes is)
 fed_part within (to_argument is) = part_of within (passes is)
 fed_part within (to_label is) = part_of within (names is)
+fed_part {P} {n} within (to_loop_context k is less) = let z = entered_at P (n + 1) k less in part_of within (sends_in k z.0 is z.1)
+fed_part {P} {n} within (to_entering k is less) = let z = entered_at P (n + 1) k less in part_of within (sends_in k z.0 is z.1)
+fed_part within (to_head is) = part_of within (starts (ap begins_block is))
+fed_part within (to_loop_back is) = part_of within (gives_back is)
+fed_part within (to_variable is) = part_of within (varies is)
+fed_part within (to_entry k is less) = part_of within (takes_in k is less)
+fed_part within (to_turn is) = part_of within (moves_on is)
+fed_part within (to_turn_name k is less) = part_of within (moves_name k is less)
+fed_part within (to_next is) = part_of within (advances is)
+fed_part within (to_reset is) = part_of within (resets is)
 
 pub target_part : {P : Checked} {s : Origin} {n part : ℕ} {p : Port} → Feeds P s n part p → IsPart P n part
 target_part h = fed_part h.within (fed h)
-
--- no arc goes to the label of a parameter, to the answer, or to what the start sends to at a head
-no_param : {P : Checked} {n part : ℕ} {p : Port} {s : Origin} {x : ℕ} {k : Kind} → node P n ≡ Param x k → Arc P n part p s → ⊥
-no_param at (to_back is) = cc
-no_param at (to_literal is) = cc
-no_param at (to_unary is) = cc
-no_param at (to_left is) = cc
-no_param at (to_right is) = cc
-no_param at (to_test is) = cc
-no_param at (to_trigger is) = cc
-no_param at (to_import_test k is less) = cc
-no_param at (to_import k is less) = cc
-no_param at (to_then is) = cc
-no_param at (to_else is) = cc
-no_param at (to_enter is) = cc
-no_param at (to_context is) = cc
-no_param at (to_argument is) = cc
-no_param at (to_label is) = cc
-
-pub param_unfed : {P : Checked} {n part : ℕ} {p : Port} {s : Origin} {x : ℕ} {k : Kind} → node P n ≡ Param x k → Feeds P s n part p → ⊥
-param_unfed at h = no_param at (fed h)
-
-no_answer : {P : Checked} {n part : ℕ} {p : Port} {s : Origin} → node P n ≡ Program → Arc P n part p s → ⊥
-no_answer at (to_back is) = cc
-no_answer at (to_literal is) = cc
-no_answer at (to_unary is) = cc
-no_answer at (to_left is) = cc
-no_answer at (to_right is) = cc
-no_answer at (to_test is) = cc
-no_answer at (to_trigger is) = cc
-no_answer at (to_import_test k is less) = cc
-no_answer at (to_import k is less) = cc
-no_answer at (to_then is) = cc
-no_answer at (to_else is) = cc
-no_answer at (to_enter is) = cc
-no_answer at (to_context is) = cc
-no_answer at (to_argument is) = cc
-no_answer at (to_label is) = cc
-
--- nor to a call's merge
-no_call : {P : Checked} {n part : ℕ} {p : Port} {s : Origin} {e c : ℕ} → node P n ≡ Call e c → Arc P n part p s → ⊥
-no_call at (to_back is) = cc
-no_call at (to_literal is) = cc
-no_call at (to_unary is) = cc
-no_call at (to_left is) = cc
-no_call at (to_right is) = cc
-no_call at (to_test is) = cc
-no_call at (to_trigger is) = cc
-no_call at (to_import_test k is less) = cc
-no_call at (to_import k is less) = cc
-no_call at (to_then is) = cc
-no_call at (to_else is) = cc
-no_call at (to_enter is) = cc
-no_call at (to_context is) = cc
-no_call at (to_argument is) = cc
-no_call at (to_label is) = cc
-
-pub call_unfed : {P : Checked} {n part : ℕ} {p : Port} {s : Origin} {e c : ℕ} → node P n ≡ Call e c → Feeds P s n part p → ⊥
-call_unfed at h = no_call at (fed h)
-
-pub answer_unfed : {P : Checked} {n part : ℕ} {p : Port} {s : Origin} → node P n ≡ Program → Feeds P s n part p → ⊥
-answer_unfed at h = no_answer at (fed h)
-
-no_head : {P : Checked} {n part : ℕ} {p : Port} {s : Origin} → node P n ≡ Head → Arc P n part p s → p ≡ Zero → ⊥
-no_head at (to_back is) z = cc
-no_head at (to_literal is) z = cc
-no_head at (to_unary is) z = cc
-no_head at (to_left is) z = cc
-no_head at (to_right is) z = cc
-no_head at (to_test is) z = cc
-no_head at (to_trigger is) z = cc
-no_head at (to_import_test k is less) z = cc
-no_head at (to_import k is less) z = cc
-no_head at (to_then is) z = cc
-no_head at (to_else is) z = cc
-no_head at (to_enter is) z = cc
-no_head at (to_context is) z = cc
-no_head at (to_argument is) z = cc
-no_head at (to_label is) z = cc
-
-pub head_unfed : {P : Checked} {n part : ℕ} {s : Origin} → node P n ≡ Head → Feeds P s n part Zero → ⊥
-head_unfed at h = no_head at (fed h) refl
 
 -- ---- what feeds a port
 
@@ -348,6 +484,20 @@ feeder P n r (Enter x) zero Zero = Some (trigger_of r)
 feeder P n r (Arg e k v) zero Zero = Some (output e)
 feeder P n r (Arg e k v) zero One = Some (origin P v)
 feeder P n r (Binding x a) zero Zero = Some (origin P a)
+feeder P n r Start zero Zero = Some (trigger_of r)
+feeder P n r Start (suc k) Zero = Some (output n)
+feeder P n r Start (suc k) One = Some (name_in P r (get_or (entering P (n + 1)) k 0))
+feeder P n r (LoopHead s) zero Zero = Some (output (turn_row P n))
+feeder P n r (LoopHead s) (suc zero) One = Some (output (end_of P n - 1))
+feeder P n r Variable zero Zero = Some (output (next_of P n))
+feeder P n r Entries k Zero = Some (record { row = turn_row P (block P n); part = suc k; side = true })
+feeder P n r (Switches t) part Zero = Some (origin P t)
+feeder P n r (Switches t) zero One = Some (trigger_of r)
+feeder P n r (Switches t) (suc k) One = Some (name_in P r (get_or (imports_of P n) k 0))
+feeder P n r Turn zero Zero = Some (trigger_of r)
+feeder P n r Turn (suc k) Zero = Some (name_in P r (get_or (imports_of P (block P n)) k 0))
+feeder P n r (Next x k o v) zero Zero = Some (origin P v)
+feeder P n r (Reset v) zero Zero = Some (origin P v)
 feeder P n r _ part p = None
 
 -- an arc from an arm goes to a conditional
@@ -364,16 +514,68 @@ feeder_is {P} {n} (to_literal is) = inl (ap (λ m. feeder P n (region P n) m 0 Z
 feeder_is {P} {n} (to_unary is) = inl (ap (λ m. feeder P n (region P n) m 0 Zero) is)
 feeder_is {P} {n} (to_left is) = inl (ap (λ m. feeder P n (region P n) m 0 Zero) is)
 feeder_is {P} {n} (to_right is) = inl (ap (λ m. feeder P n (region P n) m 0 One) is)
-feeder_is {P} {n} (to_test is) = inl (ap (λ m. feeder P n (region P n) m 0 Zero) is)
-feeder_is {P} {n} (to_trigger is) = inl (ap (λ m. feeder P n (region P n) m 0 One) is)
-feeder_is {P} {n} (to_import_test k is less) = inl (ap (λ m. feeder P n (region P n) m (suc k) Zero) is)
-feeder_is {P} {n} (to_import k is less) = inl (ap (λ m. feeder P n (region P n) m (suc k) One) is)
+feeder_is {P} {n} (to_test (of_arms is)) = inl (ap (λ m. feeder P n (region P n) m 0 Zero) is)
+feeder_is {P} {n} (to_test (of_turns is)) = inl (ap (λ m. feeder P n (region P n) m 0 Zero) is)
+feeder_is {P} {n} (to_trigger (of_arms is)) = inl (ap (λ m. feeder P n (region P n) m 0 One) is)
+feeder_is {P} {n} (to_trigger (of_turns is)) = inl (ap (λ m. feeder P n (region P n) m 0 One) is)
+feeder_is {P} {n} (to_import_test k (of_arms is) less) = inl (ap (λ m. feeder P n (region P n) m (suc k) Zero) is)
+feeder_is {P} {n} (to_import_test k (of_turns is) less) = inl (ap (λ m. feeder P n (region P n) m (suc k) Zero) is)
+feeder_is {P} {n} (to_import k (of_arms is) less) = inl (ap (λ m. feeder P n (region P n) m (suc k) One) is)
+feeder_is {P} {n} (to_import k (of_turns is) less) = inl (ap (λ m. feeder P n (region P n) m (suc k) One) is)
 feeder_is {P} {n} (to_then {s = s} {x = x} {y = y} is) = inr (record { split = s; then = x; otherwise = y; node = is; from = inl refl })
 feeder_is {P} {n} (to_else {s = s} {x = x} {y = y} is) = inr (record { split = s; then = x; otherwise = y; node = is; from = inr refl })
-feeder_is {P} {n} (to_enter is) = inl (ap (λ m. feeder P n (region P n) m 0 Zero) is)
+feeder_is {P} {n} (to_enter (of_call is)) = inl (ap (λ m. feeder P n (region P n) m 0 Zero) is)
+feeder_is {P} {n} (to_enter (of_loop is)) = inl (ap (λ m. feeder P n (region P n) m 0 Zero) is)
 feeder_is {P} {n} (to_context is) = inl (ap (λ m. feeder P n (region P n) m 0 Zero) is)
 feeder_is {P} {n} (to_argument is) = inl (ap (λ m. feeder P n (region P n) m 0 One) is)
 feeder_is {P} {n} (to_label is) = inl (ap (λ m. feeder P n (region P n) m 0 Zero) is)
+feeder_is {P} {n} (to_loop_context k is less) = inl (ap (λ m. feeder P n (region P n) m (suc k) Zero) is)
+feeder_is {P} {n} (to_entering k is less) = inl (ap (λ m. feeder P n (region P n) m (suc k) One) is)
+feeder_is {P} {n} (to_head is) = inl (ap (λ m. feeder P n (region P n) m 0 Zero) is)
+feeder_is {P} {n} (to_loop_back is) = inl (ap (λ m. feeder P n (region P n) m 1 One) is)
+feeder_is {P} {n} (to_variable is) = inl (ap (λ m. feeder P n (region P n) m 0 Zero) is)
+feeder_is {P} {n} (to_entry k is less) = inl (ap (λ m. feeder P n (region P n) m k Zero) is)
+feeder_is {P} {n} (to_turn is) = inl (ap (λ m. feeder P n (region P n) m 0 Zero) is)
+feeder_is {P} {n} (to_turn_name k is less) = inl (ap (λ m. feeder P n (region P n) m (suc k) Zero) is)
+feeder_is {P} {n} (to_next is) = inl (ap (λ m. feeder P n (region P n) m 0 Zero) is)
+feeder_is {P} {n} (to_reset is) = inl (ap (λ m. feeder P n (region P n) m 0 Zero) is)
+
+none_some : {A : Type 0} {x : A} → None ≡ Some x → ⊥
+none_some h = cc
+
+-- no arc goes to a port of a part for which there is no feeder, save to a conditional's
+not_fed : {P : Checked} {s : Origin} {n part : ℕ} {p : Port} (m : Node) → node P n ≡ m → ((r : Region) → feeder P n r m part p ≡ None)
+    → ((t x y : ℕ) → If t x y ≡ m → ⊥) → Feeds P s n part p → ⊥
+not_fed {P} {s} {n} {part} {p} m is none other h =
+    elim (feeder_is (fed h)) [
+      | inl x ↦ none_some (sym (none (region P n)) ∙ ap (λ z. feeder P n (region P n) z part p) (sym is) ∙ x)
+      | inr x ↦ other x.split x.then x.otherwise (sym x.node ∙ is)
+    ]
+
+-- no arc goes to the label of a parameter, to the answer, to a call's merge or a loop's, or to what starts a procedure
+pub param_unfed : {P : Checked} {n part : ℕ} {p : Port} {s : Origin} {x : ℕ} {k : Kind} → node P n ≡ Param x k → Feeds P s n part p → ⊥
+param_unfed {x = x} {k = k} at h = not_fed (Param x k) at (λ r. refl) (λ t y z e. cc) h
+
+pub answer_unfed : {P : Checked} {n part : ℕ} {p : Port} {s : Origin} → node P n ≡ Program → Feeds P s n part p → ⊥
+answer_unfed at h = not_fed Program at (λ r. refl) (λ t y z e. cc) h
+
+pub call_unfed : {P : Checked} {n part : ℕ} {p : Port} {s : Origin} {e c : ℕ} → node P n ≡ Call e c → Feeds P s n part p → ⊥
+call_unfed {e = e} {c = c} at h = not_fed (Call e c) at (λ r. refl) (λ t y z i. cc) h
+
+pub loop_unfed : {P : Checked} {n part : ℕ} {p : Port} {s : Origin} {g w l : ℕ} → node P n ≡ Loop g w l → Feeds P s n part p → ⊥
+loop_unfed {g = g} {w = w} {l = l} at h = not_fed (Loop g w l) at (λ r. refl) (λ t y z i. cc) h
+
+head_none : (P : Checked) (n part : ℕ) (r : Region) → feeder P n r Head part Zero ≡ None
+head_none P n zero r = refl
+head_none P n (suc zero) r = refl
+head_none P n (suc (suc k)) r = refl
+
+pub head_unfed : {P : Checked} {n part : ℕ} {s : Origin} → node P n ≡ Head → Feeds P s n part Zero → ⊥
+head_unfed {P} {n} {part} at h = not_fed Head at (λ r. head_none P n part r) (λ t y z i. cc) h
+
+-- nor to what takes the way back of a loop
+pub loop_head_unfed : {P : Checked} {n : ℕ} {s : Origin} {t : ℕ} → node P n ≡ LoopHead t → Feeds P s n 1 Zero → ⊥
+loop_head_unfed {t = t} at h = not_fed (LoopHead t) at (λ r. refl) (λ u y z i. cc) h
 
 none_there : {P : Checked} {n : ℕ} (part : ℕ) (p : Port) {s t : Origin} → FromArm P n s → feeder P n (region P n) (node P n) part p ≡ Some t → ⊥
 none_there {P} {n} part p {s} {t} x e = let bad : None ≡ Some t = sym (ap (λ m. feeder P n (region P n) m part p) x.node) ∙ e in cc
@@ -394,7 +596,7 @@ one_feed {P} {s} {t} {n} {part} {p} h k =
 
 -- ---- what feeds the switches of an import
 
-import_listed : (P : Checked) (t : Origin) (r : Region) (j : ℕ) (bs : List ℕ) (k : ℕ) → k < length bs
+pub import_listed : (P : Checked) (t : Origin) (r : Region) (j : ℕ) (bs : List ℕ) (k : ℕ) → k < length bs
     → Among (feed t (j + k) Zero) (import_feeds P t r j bs) × Among (feed (name_in P r (get_or bs k 0)) (j + k) One) (import_feeds P t r j bs)
 import_listed P t r j [] k h = absurd (omega (arith, h))
 import_listed P t r j (b ∷ bs) zero h =
@@ -404,14 +606,35 @@ import_listed P t r j (b ∷ bs) (suc k) h =
     let at : (j + 1) + k ≡ j + suc k = omega arith in
     subst (λ m. Among (feed t m Zero) (import_feeds P t r j (b ∷ bs)) × Among (feed (name_in P r (get_or bs k 0)) m One) (import_feeds P t r j (b ∷ bs))) at (inr (inr rest.0), inr (inr rest.1))
 
-pub imports_fed : (P : Checked) (n t k : ℕ) → n < length (rows P) → node P n ≡ Split t → k < length (imports_of P n)
+pub imports_fed : (P : Checked) (n t k : ℕ) → n < length (rows P) → Tests P n t → k < length (imports_of P n)
     → Feeds P (origin P t) n (suc k) Zero × Feeds P (name_in P (region P n) (get_or (imports_of P n) k 0)) n (suc k) One
-imports_fed P n t k within is less =
-    let listed = import_listed P (origin P t) (region P n) 1 (imports_of P n) k less in
-    let at : 1 + k ≡ suc k = omega arith in (
-      record { within = within; among = subst (λ (z : ℕ × Node). Among (feed (origin P t) z.0 Zero) (feeds_of P n (region P n) z.1)) {x = (1 + k, Split t)} {y = (suc k, node P n)} (λ i. (at i, sym is i)) (inr (inr listed.0)) },
-      record {
-        within = within;
-        among = subst (λ (z : ℕ × Node). Among (feed (name_in P (region P n) (get_or (imports_of P n) k 0)) z.0 One) (feeds_of P n (region P n) z.1)) {x = (1 + k, Split t)} {y = (suc k, node P n)} (λ i. (at i, sym is i)) (inr (inr listed.1));
-      },
+imports_fed P n t k within tests less = (by tests).0
+  where
+    listed : Among (feed (origin P t) (1 + k) Zero) (import_feeds P (origin P t) (region P n) 1 (imports_of P n))
+        × Among (feed (name_in P (region P n) (get_or (imports_of P n) k 0)) (1 + k) One) (import_feeds P (origin P t) (region P n) 1 (imports_of P n))
+    listed = import_listed P (origin P t) (region P n) 1 (imports_of P n) k less
+
+    at : 1 + k ≡ suc k
+    at = omega arith
+
+    by : Tests P n t → (Feeds P (origin P t) n (suc k) Zero × Feeds P (name_in P (region P n) (get_or (imports_of P n) k 0)) n (suc k) One) × Unit {0}
+    by (of_arms is) = (
+      (
+        record { within = within; among = subst (λ (z : ℕ × Node). Among (feed (origin P t) z.0 Zero) (feeds_of P n (region P n) z.1)) {x = (1 + k, Split t)} {y = (suc k, node P n)} (λ i. (at i, sym is i)) (inr (inr listed.0)) },
+        record {
+          within = within;
+          among = subst (λ (z : ℕ × Node). Among (feed (name_in P (region P n) (get_or (imports_of P n) k 0)) z.0 One) (feeds_of P n (region P n) z.1)) {x = (1 + k, Split t)} {y = (suc k, node P n)} (λ i. (at i, sym is i)) (inr (inr listed.1));
+        },
+      ),
+      tt,
+    )
+    by (of_turns is) = (
+      (
+        record { within = within; among = subst (λ (z : ℕ × Node). Among (feed (origin P t) z.0 Zero) (feeds_of P n (region P n) z.1)) {x = (1 + k, Switches t)} {y = (suc k, node P n)} (λ i. (at i, sym is i)) (inr (inr listed.0)) },
+        record {
+          within = within;
+          among = subst (λ (z : ℕ × Node). Among (feed (name_in P (region P n) (get_or (imports_of P n) k 0)) z.0 One) (feeds_of P n (region P n) z.1)) {x = (1 + k, Switches t)} {y = (suc k, node P n)} (λ i. (at i, sym is i)) (inr (inr listed.1));
+        },
+      ),
+      tt,
     )

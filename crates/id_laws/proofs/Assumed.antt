@@ -1,12 +1,12 @@
 -- What is known of the rows of a checked program.
-use Rattle.std.proofs.Common.{◌≡◌, ℕ, ◌<◌, true, length, slice_get, Some}
+use Rattle.std.proofs.Common.{◌≡◌, ℕ, suc, ◌+◌, ◌<◌, true, length, slice_get, Some}
 use Rattle.id_list.specs.List.{Among}
 use Rattle.id_value.specs.declared.Kind.{Kind}
 use Rattle.id_value.specs.declared.Kind.TheVariants as kinds
 use Rattle.id_value.specs.declared.Constant.{Constant}
 use Rattle.id_value.specs.declared.UnaryOp.{UnaryOp}
 use Rattle.id_value.specs.declared.BinaryOp.{BinaryOp}
-use Rattle.id_parts.specs.declared.row.Node.TheVariants.{Param, Literal, Name, Unary, Binary, Split, If, Enter, Arg, Call}
+use Rattle.id_parts.specs.declared.row.Node.TheVariants.{Param, Literal, Name, Unary, Binary, If, Enter, Arg, Call, Start, LoopHead, Turn, Next, Loop}
 use Rattle.id_parts.specs.declared.row.Node.TheVariants.{Block, Binding}
 use Rattle.id_parts.specs.Rows.{at, top}
 use Rattle.id_parts.specs.Tables.{AreApart, HasOperand, is_binder, is_expression}
@@ -17,8 +17,9 @@ use Rattle.id_check.specs.Kinds.{constant_kind, unary_kind, binary_kind}
 use Rattle.id_check.specs.Programs.{binder, kind, place, region, rows}
 use Rattle.id_desugar.specs.Ends.{end_of}
 use Rattle.id_desugar.specs.Regions.{imports_of}
-use Rattle.id_build.specs.Rows.{called, node, param_of}
-use Rattle.id_laws.specs.Activations.{main_head}
+use Rattle.id_parts.specs.Loops.{depth}
+use Rattle.id_build.specs.Rows.{block, called, entering, first_binder, node, param_of}
+use Rattle.id_laws.specs.Activations.{main_head, Tests}
 use Rattle.id_build.proofs.NamesSeen.{Sees}
 
 -- the rows are those of a checked program
@@ -34,8 +35,19 @@ pub record IsKnown (P : Checked) : Type 0 where
   -- each name has a binder, which its region sees, and so do those that a conditional imports
   pub bound : (n x : ℕ) → n < length (rows P) → node P n ≡ Name x
       → (b : ℕ) × (binder P n ≡ Some b) × (b < length (rows P)) × (is_binder (node P b) ≡ true) × Sees P b (region P n)
-  pub imported : (n t b : ℕ) → n < length (rows P) → node P n ≡ Split t → Among b (imports_of P n)
+  pub imported : (n t b : ℕ) → n < length (rows P) → Tests P n t → Among b (imports_of P n)
       → (b < length (rows P)) × (is_binder (node P b) ≡ true) × Sees P b (region P n)
+  -- and so do those whose values go into a loop, and those that its switches hand on
+  pub loop_names : (s : ℕ) → s < length (rows P) → node P s ≡ Start → (b : ℕ) → Among b (entering P (s + 1))
+      → (b < length (rows P)) × (is_binder (node P b) ≡ true) × Sees P b (region P s)
+  pub loop_imports : (h s : ℕ) → h < length (rows P) → node P h ≡ LoopHead s → (b : ℕ) → Among b (imports_of P h)
+      → (b < length (rows P)) × (is_binder (node P b) ≡ true) × Sees P b (region P s)
+  pub turn_names : (i : ℕ) → i < length (rows P) → node P i ≡ Turn → (b : ℕ) → Among b (imports_of P (block P i))
+      → (b < length (rows P)) × (is_binder (node P b) ≡ true) × Sees P b (region P i)
+  -- the head of a loop has one loop more round it than its `Start`
+  pub loop_depth : (h s : ℕ) → h < length (rows P) → node P h ≡ LoopHead s → depth (rows P) h ≡ suc (depth (rows P) s)
+  -- the outer name of a `next` has the binder of the variable's first value
+  pub first_bound : (m x k o v : ℕ) → m < length (rows P) → node P m ≡ Next x k o v → binder P o ≡ Some (first_binder P m)
   -- the operands of a row are expressions
   pub operands : (n a : ℕ) → n < length (rows P) → HasOperand (node P n) a → is_expression (node P a) ≡ true
   -- the kinds of rows: a name's is its binder's, a block's its body's, a binding's its expression's, a conditional's that of both
@@ -45,7 +57,7 @@ pub record IsKnown (P : Checked) : Type 0 where
   pub name_kind : (n x b : ℕ) → n < length (rows P) → node P n ≡ Name x → binder P n ≡ Some b → kind P n ≡ kind P b
   pub unary_kinds : (n a : ℕ) (o : UnaryOp) → n < length (rows P) → node P n ≡ Unary o a → kind P n ≡ Some (unary_kind o)
   pub binary_kinds : (n a b : ℕ) (o : BinaryOp) → n < length (rows P) → node P n ≡ Binary o a b → kind P n ≡ Some (binary_kind o)
-  pub test_kind : (n t : ℕ) → n < length (rows P) → node P n ≡ Split t → kind P t ≡ Some kinds.Bool
+  pub test_kind : (n t : ℕ) → n < length (rows P) → Tests P n t → kind P t ≡ Some kinds.Bool
   pub arm_kinds : (n s x y : ℕ) → n < length (rows P) → node P n ≡ If s x y → (kind P n ≡ kind P x) × (kind P n ≡ kind P y)
   pub block_kind : (n b : ℕ) → n < length (rows P) → node P n ≡ Block b → kind P n ≡ kind P b
   pub binding_kind : (n x a : ℕ) → n < length (rows P) → node P n ≡ Binding x a → kind P n ≡ kind P a

@@ -1,9 +1,9 @@
 -- What stands where in a conditional, and what a live arm says: that the predicate has spoken its truth value.
 use Rattle.std.proofs.Common.{◌≡◌, inl, inr, ℕ, ◌<◌, Bool as Truth, true, false, List, length, refl, sym, ◌∙◌, ap, subst, arith}
 use Rattle.id_parts.specs.declared.row.Region.{Region}
-use Rattle.id_parts.specs.declared.row.Node.TheVariants.{Head, Split, If}
+use Rattle.id_parts.specs.declared.row.Node.TheVariants.{Head, Split, If, Switches, LoopHead, Start}
 use Rattle.id_parts.specs.Rows.{arm_at}
-use Rattle.id_parts.specs.Tables.{HasPart, HasNear, HasOperand, is_expression}
+use Rattle.id_parts.specs.Tables.{HasPart, HasNear, HasOperand, begins_block, is_expression, is_top}
 use Rattle.id_parts.specs.Regions.{IsIfOf}
 use Rattle.id_check.specs.declared.checked.Checked.{Checked}
 use Rattle.id_check.specs.Programs.{Stands, place, region, rows}
@@ -14,9 +14,13 @@ use Rattle.id_build.specs.Rows.{called, node, origin}
 use Rattle.id_runs.specs.Activations.{Activation}
 use Rattle.id_runs.specs.Events.{Event, FiresOnce}
 use Rattle.id_runs.proofs.Givings.{gives_once}
-use Rattle.id_laws.specs.Activations.{main_head, Tests, of_arms, GoesAt, Speaks, Live, at_start, on_side, entered}
+use Rattle.id_laws.specs.Activations.{main_head, Tests, of_arms, of_turns, GoesAt, Speaks, Live, at_start, on_side, entered, again}
 use Rattle.id_laws.proofs.Assumed.{IsKnown}
-use Rattle.id_laws.proofs.Calls.{call_at}
+use Rattle.id_laws.proofs.Begun.{begun_at}
+use Rattle.id_laws.proofs.Loops.{loop_of_row}
+
+true_false : true ≡ false → ⊥
+true_false h = cc
 
 -- the predicate of the switches at the row n
 pub record TestAt (P : Checked) (n t : ℕ) : Type 0 where
@@ -24,8 +28,8 @@ pub record TestAt (P : Checked) (n t : ℕ) : Type 0 where
   pub expression : is_expression (node P t) ≡ true
   pub region : region P t ≡ region P n
 
-pub test_at : {P : Checked} (known : IsKnown P) {n t : ℕ} → n < length (rows P) → node P n ≡ Split t → TestAt P n t
-test_at {P} known {n} {t} within is =
+pub test_at : {P : Checked} (known : IsKnown P) {n t : ℕ} → n < length (rows P) → Tests P n t → TestAt P n t
+test_at {P} known {n} {t} within (of_arms is) =
     let part : HasPart (node P n) t = subst (λ m. HasPart m t) (sym is) refl in
     let less = (((known.table).formed).each n within).parts t part in
     record {
@@ -33,6 +37,26 @@ test_at {P} known {n} {t} within is =
       expression = known.operands n t within (subst (λ m. HasOperand m t) (sym is) refl);
       region = ((known.table).part_stands n t within (subst (λ m. HasNear m t) (sym is) refl)).1;
     }
+test_at {P} known {n} {t} within (of_turns is) =
+    let part : HasPart (node P n) t = subst (λ m. HasPart m t) (sym is) refl in
+    let less = (((known.table).formed).each n within).parts t part in
+    record {
+      within = omega (arith, within, less.1);
+      expression = known.operands n t within (subst (λ m. HasOperand m t) (sym is) refl);
+      region = ((known.table).part_stands n t within (subst (λ m. HasNear m t) (sym is) refl)).1;
+    }
+
+-- the switches at a row go by one predicate
+pub one_test : {P : Checked} {n e e' : ℕ} → Tests P n e → Tests P n e' → e ≡ e'
+one_test {e = e} {e' = e'} (of_arms h) (of_arms k) = let both : Split e ≡ Split e' = sym h ∙ k in cc
+one_test {e = e} {e' = e'} (of_arms h) (of_turns k) = let bad : Split e ≡ Switches e' = sym h ∙ k in cc
+one_test {e = e} {e' = e'} (of_turns h) (of_arms k) = let bad : Switches e ≡ Split e' = sym h ∙ k in cc
+one_test {e = e} {e' = e'} (of_turns h) (of_turns k) = let both : Switches e ≡ Switches e' = sym h ∙ k in cc
+
+-- where switches stand no block begins
+pub tests_no_block : {P : Checked} {n t : ℕ} → Tests P n t → begins_block (node P n) ≡ true → ⊥
+tests_no_block (of_arms h) b = true_false (sym b ∙ ap begins_block h)
+tests_no_block (of_turns h) b = true_false (sym b ∙ ap begins_block h)
 
 -- the arm of a conditional at this row
 abbrev pub arm_of : Truth → ℕ → ℕ → ℕ
@@ -69,7 +93,7 @@ conditional {P} known {n} {s} {x} {y} within is =
       test = z.test;
       node = z.node;
       within = s_within;
-      test_at = test_at known s_within z.node;
+      test_at = test_at known s_within (of_arms z.node);
       place = z.place;
       region = z.region;
       arm_within = by_side (λ b. arm_of b x y < length (rows P)) x_within y_within;
@@ -94,36 +118,33 @@ pub record ArmLive (S : Source) (number : ℕ → ℕ → ℕ) (run : List Event
   pub spoken : Speaks S number run a (origin S.checked test) (value.Bool b)
   pub goes : GoesAt S number run a n b
 
-head_no_split : {t : ℕ} → Head ≡ Split t → ⊥
-head_no_split h = cc
-
 pub main_head_is : {P : Checked} (known : IsKnown P) → node P (main_head P) ≡ Head
 main_head_is {P} known = let d = known.main in ((known.table).head_is P.main d.name (main_head P) d.body d.result d.within d.node).0
 
+-- the head of a region whose head stands in no loop's table is that of a live region
 pub arm_live : {S : Source} (known : IsKnown S.checked) {number : ℕ → ℕ → ℕ} {run : List Event} {a : Activation} {r : Region} {n t : ℕ} {b : Truth}
-    → Live S number run a r → r ≡ arm_at n b → node S.checked n ≡ Split t → ArmLive S number run a n b
-arm_live {S} known at_start is at = absurd (head_no_split (sym (main_head_is known) ∙ ap (λ (z : Region). node S.checked z.head) is ∙ at))
+    → Live S number run a r → r ≡ arm_at n b → Tests S.checked n t → ArmLive S number run a n b
+arm_live {S} known at_start is at =
+    absurd (tests_no_block at (ap (λ (z : Region). begins_block (node S.checked z.head)) (sym is) ∙ ap begins_block (main_head_is known)))
 arm_live {S} known {number} {run} {a} {n = n} {b = b} (on_side {n = m} {e = e} {b = c} within tests live says goes) is at =
     subst (λ (z : Region). ArmLive S number run a z.head z.side) is (record { test = e; tests = tests; live = live; spoken = says; goes = goes })
-arm_live {S} known (entered {n = m} within enter live opened) is at =
-    let d = (call_at known within enter).def in
-    let head = ((known.table).head_is _ d.name (called S.checked m) d.body d.result d.within d.node).0 in
-    absurd (head_no_split (sym head ∙ ap (λ (z : Region). node S.checked z.head) is ∙ at))
+arm_live {S} known (entered {n = m} within begins live opened) is at =
+    absurd (tests_no_block at (ap (λ (z : Region). begins_block (node S.checked z.head)) (sym is) ∙ (begun_at known within begins).head))
+arm_live {S} known (again {n = m} {e = e} within is' live says goes) is at =
+    let l = loop_of_row known (Switches e) within is' refl in
+    absurd (tests_no_block at (ap (λ (z : Region). begins_block (node S.checked z.head)) (sym is ∙ (known.table).at_top m within (ap is_top is')) ∙ ap begins_block l.head))
 
--- two arms of one conditional are not both live: the predicate has spoken once
+-- two sides of one row's switches are not both live: the predicate has spoken once
 pub sides_apart : {S : Source} (known : IsKnown S.checked) {number : ℕ → ℕ → ℕ} {run : List Event} {a : Activation} {n t : ℕ} → FiresOnce run
-    → node S.checked n ≡ Split t
+    → Tests S.checked n t
     → Live S number run a (arm_at n true) → Live S number run a (arm_at n false) → ⊥
 sides_apart {S} known {number} {run} {a} {n} {t} once is x y =
     let l = arm_live known x refl is in
     let r = arm_live known y refl is in
-    let test = same_test l.tests r.tests in
+    let test = one_test l.tests r.tests in
     let say = subst (λ e. Speaks S number run a (origin S.checked e) (value.Bool true)) test l.spoken in
     let other = r.spoken in
     bools (gives_once once say.fires other.fires _ _ (value.Bool true) (value.Bool false) say.gives other.gives).1
   where
-    same_test : {e e' : ℕ} → Tests S.checked n e → Tests S.checked n e' → e ≡ e'
-    same_test {e} {e'} (of_arms h) (of_arms k) = let both : Split e ≡ Split e' = sym h ∙ k in cc
-
     bools : value.Bool true ≡ value.Bool false → ⊥
     bools h = cc

@@ -17,23 +17,23 @@ use Rattle.id_ops.specs.declared.Operands.{Operands}
 use Rattle.id_ops.specs.declared.Operands.TheVariants.{One as Alone, Two}
 use Rattle.id_ops.specs.declared.Fresh.{Fresh}
 use Rattle.id_ops.specs.declared.Fired.{Fired}
-use Rattle.id_ops.specs.declared.Fired.TheVariants.{Out, Side}
+use Rattle.id_ops.specs.declared.Fired.TheVariants.{Out, Side, Moved}
 use Rattle.id_ops.specs.Operators.{fired}
-use Rattle.id_record.specs.Records.{sent_by}
+use Rattle.id_record.specs.Records.{dests_at, sent_by}
 use Rattle.id_core.specs.Machines.{World}
 use Rattle.id_meaning.specs.Sources.{Source}
 use Rattle.id_build.specs.declared.arc.Origin.{Origin}
 use Rattle.id_build.specs.declared.arc.Form.TheVariants.{Plain}
 use Rattle.id_build.specs.Schemas.{Feeds, Numbered}
-use Rattle.id_runs.specs.Activations.{Activation, main_activation, tag_in}
+use Rattle.id_runs.specs.Activations.{Activation, at_iteration, main_activation, tag_in}
 use Rattle.id_runs.specs.Events.{Event, FiresAs, fired_event}
 use Rattle.id_runs.specs.Runs.{Origin as ComesFrom, Reach, handled}
 use Rattle.id_runs.specs.OneMessage.{Exclusive}
 use Rattle.id_runs.proofs.Meeting.{alone, met}
-use Rattle.id_runs.proofs.Givings.{gives_sent}
+use Rattle.id_runs.proofs.Givings.{gives_sent, moved_sent}
 use Rattle.id_runs.proofs.Messages.{arrived}
 use Rattle.id_runs.proofs.Waiting.{FiredOn}
-use Rattle.id_laws.specs.Activations.{Speaks}
+use Rattle.id_laws.specs.Activations.{Moves, Speaks}
 use Rattle.id_laws.specs.Ways.{StartsAt}
 use Rattle.id_laws.proofs.Arcs.{Does, makes}
 use Rattle.id_laws.proofs.Assumed.{IsKnown}
@@ -114,3 +114,19 @@ module _ (S : Source) (g : Parts) (number : ℕ → ℕ → ℕ) (numbered : Num
       let u = tag_in a (number t.row t.part) in
       let here = subst (λ ds. Among d ds) (sym (dests_are t.side _ to.instr to.at)) to.lists in
       sent_handled x.fires (Token (tag_in a (number n part)) p v) (gives_sent g u x.fired t.side v d x.gives here)
+
+  -- a part that has fired so moves the value to an iteration
+  pub moved_on : (a : Activation) (n part : ℕ) (o : Op) (ops : Operands) (k : ℕ) (v : Value) → PartFired a n part o ops
+      → ((f : Fresh) → fired o (tag_in a (number n part)) ops f ≡ Moved k v)
+      → Moves S number run a (record { row = n; part = part; side = true }) k v
+  moved_on a n part o ops k v x out = record { on = refl; fires = subst (λ z. FiresAs run (tag_in a (number n part)) z) (out x.fresh) x.fires }
+
+  -- what goes to an iteration came there to all that it feeds
+  pub went : (a : Activation) (t : Origin) (k n part : ℕ) (p : Port) (v : Value) → Moves S number run a t k v → Feeds S.checked t n part p
+      → Among (Token (tag_in (at_iteration a.context k) (number n part)) p v) (handled run)
+  went a t k n part p v x feeds =
+      let d : Dest = record { instr = number n part; port = p } in
+      let to = numbered.sends t n part p feeds in
+      let u = tag_in a (number t.row t.part) in
+      let here = subst (λ ds. Among d ds) (sym (dests_are t.side _ to.instr to.at)) to.lists in
+      sent_handled x.fires (Token (tag_in (at_iteration a.context k) (number n part)) p v) (moved_sent g u k v d (subst (λ b. Among d (dests_at g u.instr b)) x.on here))

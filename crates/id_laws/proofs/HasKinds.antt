@@ -19,6 +19,7 @@ use Rattle.id_value.proofs.ResultsLemmas.{IsNumberOrFault, whole-number, calcula
 use Rattle.id_list.proofs.AmongLemmas.{Among-from_at}
 use Rattle.id_parts.specs.declared.row.Node.{Node}
 use Rattle.id_parts.specs.declared.row.Node.TheVariants.{Head, Param, Split, If, Binding, Program, Enter, Arg, Def}
+use Rattle.id_parts.specs.declared.row.Node.TheVariants.{Start, LoopHead, Variable, Entries, Switches, Turn, NextUse, Next, Body, Reset, Loop}
 use Rattle.id_parts.specs.Rows.{at}
 use Rattle.id_parts.specs.Tables.{HasOperand, is_thing, is_binder, is_expression}
 use Rattle.id_parts.proofs.RegionLemmas.{HasPart-operand}
@@ -31,11 +32,12 @@ use Rattle.id_meaning.specs.declared.Fact.{Fact}
 use Rattle.id_meaning.specs.declared.Fact.TheVariants.{On, Has}
 use Rattle.id_meaning.specs.Sources.{Source, AreFor, AreInputs, IsInput, SuitsParam, main_params, value_kind, value_of}
 use Rattle.id_meaning.specs.Facts.{Rule, Chooses, then_arm, else_arm, param_has, literal_has, unary_has, binary_has, name_has, conditional_has, block_has}
-use Rattle.id_meaning.specs.Facts.{binding_has, argument_has, call_has}
+use Rattle.id_meaning.specs.Facts.{binding_has, argument_has, call_has, first_has, next_has, loop_has}
 use Rattle.id_meaning.specs.Rounds.{Every, Rounds, Holds}
 use Rattle.id_build.specs.Rows.{node, port_at, port_of, param_of}
 use Rattle.id_laws.specs.Activations.{main_head}
 use Rattle.id_laws.proofs.Assumed.{IsKnown}
+use Rattle.id_check.proofs.ProgramsLemmas.{loop_row, next_row}
 use Rattle.id_laws.proofs.Blocks.{IsParam, a_param}
 use Rattle.id_parts.specs.Turns.{IsDefOf, params_at}
 use Rattle.id_laws.proofs.Calls.{enter_at, called_is}
@@ -116,6 +118,7 @@ no_on h = cc
 pub binder_thing : (m : Node) → is_binder m ≡ true → is_thing m ≡ true
 binder_thing (Param x k) h = refl
 binder_thing (Binding x a) h = refl
+binder_thing (Next x k o v) h = refl
 binder_thing _ h = absurd (no h)
   where
     no : false ≡ true → ⊥
@@ -127,6 +130,15 @@ expression_thing (Split t) h = h
 expression_thing (Enter x) h = h
 expression_thing (Arg e k v) h = h
 expression_thing Program h = h
+expression_thing Start h = h
+expression_thing (LoopHead s) h = h
+expression_thing Variable h = h
+expression_thing Entries h = h
+expression_thing (Switches t) h = h
+expression_thing Turn h = h
+expression_thing (NextUse x) h = h
+expression_thing Body h = h
+expression_thing (Reset v) h = h
 expression_thing _ h = refl
 
 param_thing : {m : Node} → IsParam m → is_thing m ≡ true
@@ -224,6 +236,22 @@ module _ (S : Source) (known : IsKnown S.checked) (inputs : AreInputs S.checked 
       subst (OfKind n) parts.1 (one_row n r _ w x refl within thing parts.0
       (known.call_kind r e count c.name f (record { name = y; result = k; body = body; within = def.within; node = def.node ∙ ap (λ z. Def y z k body) (sym head) }) x.within x.node
       ∙ sym result ∙ early body _ w inner.0 inner.1 h.1.0))
+  kind_by m early (first_has {m = i} {o = o} {v = a} {c = c} {u = w} x y bound) h n p v within thing is =
+      let parts = same_fact is in
+      let z = next_row P i y.name y.index o a y.next in
+      let same : z.0 ≡ c = some_is (sym (z.3).binder ∙ bound) in
+      let c_within = subst (λ k. k < length (rows P)) same (z.3).within in
+      let c_thing = subst (λ k. is_thing (node P k) ≡ true) same (binder_thing (node P z.0) (z.3).is_binder) in
+      subst (OfKind n) parts.1 (one_row n i _ w y.next refl within thing parts.0 (z.4 ∙ ap (kind P) same ∙ early c _ w c_within c_thing h.1.0))
+  kind_by m early (next_has {m = i} {o = o} {v = a} {u = w} q k x y) h n p v within thing is =
+      let parts = same_fact is in
+      let inner = operand_of i a (y.next).within (subst (λ z. HasOperand z a) (sym (y.next).node) refl) in
+      let z = next_row P i y.name y.index o a y.next in
+      subst (OfKind n) parts.1 (one_row n i _ w y.next refl within thing parts.0 (sym z.5 ∙ early a _ w inner.0 inner.1 h.0))
+  kind_by m early (loop_has {n = r} {h = g} {w = u} {l = a} {u = w} q k x) h n p v within thing is =
+      let parts = same_fact is in
+      let inner = operand_of r a (x.loop).within (subst (λ z. HasOperand z a) (sym (x.loop).node) refl) in
+      subst (OfKind n) parts.1 (one_row n r _ w x.loop refl within thing parts.0 (loop_row P r g u a x.loop ∙ early a _ w inner.0 inner.1 h.0))
   kind_by m early (block_has {n = r} {b = b} {v = w} x) h n p v within thing is =
       let parts = same_fact is in
       let inner = operand_of r b x.within (subst (λ z. HasOperand z b) (sym x.node) refl) in

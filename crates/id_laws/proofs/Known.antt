@@ -1,27 +1,37 @@
 -- The rows of a checked program are known: the table, the binders and the kinds that the check has found.
-use Rattle.std.proofs.Common.{◌≡◌, ℕ, ◌<◌, ◌+◌, true, Some, length, refl, sym, ◌∙◌, ap, subst, if◌then◌else◌}
+use Rattle.std.proofs.Common.{◌≡◌, inl, inr, ℕ, suc, ◌<◌, ◌+◌, true, Some, map, length, refl, sym, ◌∙◌, ap, subst, if◌then◌else◌}
 use Rattle.std.specs.Prelude.{slice_get, unwrap_or}
 use Rattle.id_tree.specs.Tree.{program_tree}
 use Rattle.id_parts.specs.declared.row.Node.{Node}
-use Rattle.id_parts.specs.declared.row.Node.TheVariants.{Param, Literal, Name, Unary, Binary, Arg, Call, Def, Block, Binding}
-use Rattle.id_parts.specs.Tables.{AreApart, is_binder, is_top}
-use Rattle.id_parts.specs.Turns.{IsDefOf, params_at}
+use Rattle.id_parts.specs.declared.row.Node.TheVariants.{Param, Literal, Name, Unary, Binary, Arg, Call, Def, Block, Binding, Start, LoopHead, Next}
+use Rattle.id_parts.specs.Tables.{AreApart, begins_block, is_binder, is_top}
+use Rattle.id_parts.specs.Turns.{IsDefOf, IsTable, params_at}
 use Rattle.id_parts.proofs.BlocksLemmas.{Among-from_params_at}
 use Rattle.id_parts.proofs.PlacesLemmas.{AreApart-rows_of}
 use Rattle.id_check.specs.declared.checked.Checked.{Checked}
 use Rattle.id_check.specs.Causes.{defines_main}
 use Rattle.id_check.specs.Kinds.{link_of}
 use Rattle.id_check.specs.Programs.{Calls, Stands, binder, kind, region, rows}
-use Rattle.id_check.proofs.ProgramsLemmas.{table_of, bound_name_row, kind_along, kind_fixed, split_row, if_row, def_row, enter_row, callee_row, call_row, argument_row, argument_call}
+use Rattle.id_check.proofs.ProgramsLemmas.{table_of, bound_name_row, kind_along, kind_fixed, split_row, if_row, def_row, enter_row, callee_row, call_row, next_row, argument_row, argument_call, switches_row}
 use Rattle.id_meaning.specs.Sources.{head_of}
 use Rattle.id_meaning.proofs.ArgumentsLemmas.{argument-get}
-use Rattle.id_build.specs.Rows.{called, node, param_at, param_of}
+use Rattle.id_build.specs.Rows.{block, called, entering, first_binder, node, outer_at, param_at, param_of}
 use Rattle.id_build.specs.Rows as build
-use Rattle.id_laws.specs.Activations.{main_head}
+use Rattle.id_value.specs.declared.Kind.TheVariants as kinds
+use Rattle.id_list.specs.List.{Among}
+use Rattle.id_desugar.specs.Regions.{imports_of, nexts_of}
+use Rattle.id_laws.specs.Activations.{main_head, Tests, of_arms, of_turns}
 use Rattle.id_laws.proofs.Assumed.{IsKnown}
 use Rattle.id_build.proofs.EndsLemmas.{call_is}
-use Rattle.id_build.proofs.ImportsLemmas.{name_sees, import_sees}
+use Rattle.id_build.proofs.ImportsLemmas.{name_seen, split_seen, switches_seen, first_seen, loop_seen, turn_seen}
+use Rattle.id_build.proofs.LoopsLemmas.{start_head}
+use Rattle.id_laws.proofs.LoopRows.{entering_binds, import_binds}
+use Rattle.id_list.proofs.AmongLemmas.{Among-either, Among-from_map}
+use Rattle.id_parts.proofs.DepthLemmas.{depth-head}
 use Rattle.id_build.proofs.NamesSeen.{Sees}
+
+some_is : {A : Type 0} {x y : A} → Some x ≡ Some y → x ≡ y
+some_is h = cc
 
 -- main is a definition
 main_is : (P : Checked) → IsDefOf (rows P) P.main (main_head P)
@@ -40,7 +50,8 @@ bound_is : (P : Checked) (n x : ℕ) → n < length (rows P) → node P n ≡ Na
 bound_is P n x within is =
     let z = bound_name_row P n x (record { within = within; node = is }) in
     let b = z.1 in
-    (z.0, b.binder, b.within, b.is_binder, name_sees P n x z.0 within is b.binder)
+    let y = name_seen P n x within is in
+    (z.0, b.binder, b.within, b.is_binder, subst (λ c. Sees P c (region P n)) (some_is (sym y.binds ∙ b.binder)) (y.seen).sees)
 
 -- what an `Enter` enters is the procedure that it calls
 called_is : (P : Checked) (e d h : ℕ) → Calls P e d h → called P e ≡ h
@@ -89,6 +100,34 @@ call_is_kind P n e c d h within is = go w.0 w.1 w.2
         let result : h.result ≡ w.result = cc in
         (call_row P n e c b g s w).1 ∙ ap (λ z. Some z) (sym result)
 
+-- what switches import has a binder, which their region sees
+imported_by : (P : Checked) (n t b : ℕ) → n < length (rows P) → Tests P n t → Among b (imports_of P n)
+    → (b < length (rows P)) × (is_binder (node P b) ≡ true) × Sees P b (region P n)
+imported_by P n t b within (of_arms is) among = let z = import_binds P n b among in (z.within, z.binds, (split_seen P n t b within is among).sees)
+imported_by P n t b within (of_turns is) among = let z = import_binds P n b among in (z.within, z.binds, (switches_seen P n t b within is among).sees)
+
+-- what goes into a loop is seen where its `Start` stands
+entering_sees : (P : Checked) (s b : ℕ) → s < length (rows P) → node P s ≡ Start → Among b (entering P (s + 1)) → Sees P b (region P s)
+entering_sees P s b within is among =
+    elim (Among-either b (map (first_binder P) (nexts_of P (s + 1))) (imports_of P (s + 1)) among) [
+      | inl k ↦
+          let t = Among-from_map (first_binder P) b (nexts_of P (s + 1)) k in
+          subst (λ c. Sees P c (region P s)) (sym t.2) (first_seen P s t.0 within is t.1).sees
+      | inr k ↦ let h = start_head P s within is in (loop_seen P (s + 1) s b h.0 h.1 k).sees
+    ]
+
+-- the outer name of a `next` has the binder of the variable's first value
+first_bound_is : (P : Checked) (m x k o v : ℕ) → m < length (rows P) → node P m ≡ Next x k o v → binder P o ≡ Some (first_binder P m)
+first_bound_is P m x k o v within is =
+    let z = next_row P m x k o v (record { within = within; node = is }) in
+    let same : first_binder P m ≡ z.0 = ap (λ n. unwrap_or (binder P (outer_at n)) 0) is ∙ ap (λ o. unwrap_or o 0) (z.3).binder in
+    (z.3).binder ∙ ap (λ c. Some c) (sym same)
+
+-- a predicate is a truth value
+test_by : (P : Checked) (n t : ℕ) → n < length (rows P) → Tests P n t → kind P t ≡ Some kinds.Bool
+test_by P n t within (of_arms is) = split_row P n t (record { within = within; node = is })
+test_by P n t within (of_turns is) = switches_row P n t (record { within = within; node = is })
+
 -- the rows of each checked program are known
 pub known : (P : Checked) → IsKnown P
 known P = record {
@@ -98,14 +137,19 @@ known P = record {
   main = main_is P;
   params = λ b x k within is. (table_of P).at_top b within (ap is_top is);
   bound = bound_is P;
-  imported = λ n t b within is among. import_sees P n t b within is among;
+  imported = imported_by P;
+  loop_names = λ s within is b among. (let z = entering_binds P (s + 1) b among in (z.within, z.binds, entering_sees P s b within is among));
+  loop_imports = λ h s within is b among. (let z = import_binds P h b among in (z.within, z.binds, (loop_seen P h s b within is among).sees));
+  turn_names = λ i within is b among. (let z = import_binds P (block P i) b among in (z.within, z.binds, (turn_seen P i b within is among).sees));
+  loop_depth = λ h s within is. depth-head (rows P) (table_of P) h s within is;
+  first_bound = first_bound_is P;
   operands = λ n a within operand. (table_of P).operand_is n a within operand;
   param_kind = λ n x k within is. kind_fixed P n (Param x k) k (record { within = within; node = is }) refl;
   literal_kind = λ n c within is. kind_fixed P n (Literal c) _ (record { within = within; node = is }) refl;
   name_kind = λ n x b within is e. kind_along P n b (Name x) (record { within = within; node = is }) (ap (λ o. link_of o (Name x)) e);
   unary_kinds = λ n a o within is. kind_fixed P n (Unary o a) _ (record { within = within; node = is }) refl;
   binary_kinds = λ n a b o within is. kind_fixed P n (Binary o a b) _ (record { within = within; node = is }) refl;
-  test_kind = λ n t within is. split_row P n t (record { within = within; node = is });
+  test_kind = test_by P;
   arm_kinds = λ n s x y within is. (let z = if_row P n s x y (record { within = within; node = is }) in (sym z.0, sym z.1));
   block_kind = λ n b within is. kind_along P n b (Block b) (record { within = within; node = is }) refl;
   binding_kind = λ n x a within is. kind_along P n a (Binding x a) (record { within = within; node = is }) refl;

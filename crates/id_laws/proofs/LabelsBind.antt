@@ -1,23 +1,30 @@
 -- The labels of a schemas' graph are the instructions of binders.
-use Rattle.std.proofs.Common.{◌≡◌, ℕ, zero, suc, ◌≤◌, ◌<◌, length, ◌==◌, ◌&&◌, Bool as Truth, true, false, cond, Some, List, [], ◌∷◌, slice_get, refl, sym}
+use Rattle.std.proofs.Common.{◌≡◌, ℕ, zero, suc, ◌-◌, ◌≤◌, ◌<◌, length, ◌==◌, ◌&&◌, not, Bool as Truth, true, false, cond, Some, List, [], ◌∷◌, slice_get, refl, sym}
 use Rattle.std.proofs.Common.{◌∙◌, ap, arith}
 use Rattle.std.specs.List.{count_by}
 use Rattle.std.proofs.lemmas.Bool.Decides.{nat_tests}
 use Rattle.std.proofs.lemmas.List.Sums.{sum_by-cons}
-use Rattle.id_parts.specs.declared.row.Node.TheVariants.{Head, Split, If, Program, Enter, Call}
-use Rattle.id_parts.specs.Tables.{is_binder}
+use Rattle.id_parts.specs.declared.row.Node.{Node}
+use Rattle.id_parts.specs.declared.row.Node.TheVariants.{Head, Param, Split, If, Program, Enter, Call, Binding, Start, LoopHead, Entries, Loop}
+use Rattle.id_parts.specs.Tables.{begins_block, is_binder}
+use Rattle.id_parts.specs.Loops.{IsLoopOf}
 use Rattle.id_check.specs.declared.checked.Checked.{Checked}
 use Rattle.id_check.specs.Programs.{place, rows}
 use Rattle.id_graph.specs.declared.instr.Instr.{Instr}
+use Rattle.id_graph.specs.declared.instr.Op.{Op}
+use Rattle.id_graph.specs.declared.instr.Op.TheVariants as op
 use Rattle.id_graph.specs.Graph.{Parts}
 use Rattle.id_core.specs.Observed as shown
-use Rattle.id_build.specs.Rows.{node, op_by}
+use Rattle.id_build.specs.Rows.{block, label, label_by, node, op_by}
 use Rattle.id_build.specs.Schemas.{Numbered, Made}
-use Rattle.id_laws.specs.Activations.{main_head}
+use Rattle.id_desugar.specs.Ends.{next_of}
+use Rattle.id_laws.specs.Activations.{main_head, of_arms, of_call, of_loop}
 use Rattle.id_laws.specs.Topics.{IsPart}
 use Rattle.id_laws.proofs.Assumed.{IsKnown}
 use Rattle.id_laws.proofs.Arcs.{Does, starts, returns, enters, constant, unary, binary, turns_on, hands, joins, names, answers, doing, makes, part_of}
 use Rattle.id_laws.proofs.Arcs.{place_shown, opens, passes, gets}
+use Rattle.id_laws.proofs.Arcs.{sends_in, gives_back, varies, takes_in, moves_on, moves_name, advances, resets, gets_last}
+use Rattle.id_laws.proofs.LoopRows.{entries_place, loop_marks, variable_at}
 use Rattle.id_laws.proofs.Conditionals.{conditional}
 use Rattle.id_laws.proofs.Tokens.{one_part}
 use Rattle.id_build.specs.declared.arc.Form.{Form}
@@ -64,63 +71,87 @@ both_true false b e = cc
 
 -- ---- labels
 
--- a label is the one instruction of its place, and a merge
+-- a label is the one instruction of its place, save a `next`, and a merge
 label_of : (g : Parts) (n : ℕ) (i : Instr) → slice_get g.instrs n ≡ Some i → shown.is_label g n ≡ true
-    → (shown.is_value_merge i.op ≡ true) × (count_by (λ j. j.place == i.place) g.instrs ≡ 1)
+    → (shown.is_value_merge i.op ≡ true) × (count_by (shown.claims i.place) g.instrs ≡ 1)
 label_of g n i at e =
-    let both = both_true (shown.is_value_merge i.op) (count_by (λ j. j.place == i.place) g.instrs == 1) (sym (ap (shown.is_label_of g) at) ∙ e) in
+    let both = both_true (shown.is_value_merge i.op) (count_by (shown.claims i.place) g.instrs == 1) (sym (ap (shown.is_label_of g) at) ∙ e) in
     (both.0, number_is _ 1 both.1)
 
-module _ (P : Checked) (known : IsKnown P) (g : Parts) (number : ℕ → ℕ → ℕ) (numbered : Numbered P g number) (main_head_is : node P (main_head P) ≡ Head) (within : main_head P < length (rows P)) where
+-- a merge is no `next`
+merge_no_next : (o : Op) → shown.is_value_merge o ≡ true → shown.is_next o ≡ false
+merge_no_next (op.Merge k) e = refl
+merge_no_next _ e = cc
+
+-- what has the place, and is no `next`, claims it
+pub claims_place : (p : ℕ) (i : Instr) → i.place ≡ p → shown.is_next i.op ≡ false → shown.claims p i ≡ true
+claims_place p i at other = (λ t. same_number i.place p at t && not (other t))
+
+module _ (P : Checked) (known : IsKnown P) (g : Parts) (number : ℕ → ℕ → ℕ) (numbered : Numbered P g number) (main_head_is : node P (main_head P) ≡ Head) (main_within : main_head P < length (rows P)) where
+  -- no other part has the place of a label, save a `next`
+  clash : {n j r k : ℕ} {f : Form} → (x : IsPart P n j) → shown.is_label g (number n j) ≡ true → r < length (rows P) → Does P r k f
+      → shown.is_next (op_by number f) ≡ false → place_shown P (place P r) (node P r) ≡ place_shown P (place P n) (node P n) → (node P n ≡ node P r → ⊥) → ⊥
+  clash {n} {j} {r} {k} {f} x e low does other same differ =
+      let part = makes low does in
+      let m = numbered.made n j x.form x.place x.makes in
+      let h = numbered.made r k f _ part in
+      let l = label_of g (number n j) m.instr m.at e in
+      let m_place : (m.instr).place ≡ place_shown P (place P n) (node P n) = m.place ∙ (doing x.makes).place_is in
+      let two = two_at (shown.claims (m.instr).place) g.instrs (number n j) (number r k) m.instr h.instr m.at h.at
+      (λ z. differ (ap (node P) (one_part numbered x (part_of low does) z).0))
+      (claims_place _ m.instr refl (merge_no_next _ l.0))
+      (claims_place _ h.instr (h.place ∙ same ∙ sym m_place) (ap shown.is_next h.op ∙ other)) in
+      absurd (omega (arith, two, l.1))
+
   -- the answer's instruction shares its place with main's head
   answer_no_label : (n : ℕ) → node P n ≡ Program → (x : IsPart P n 0) → shown.is_label g (number n 0) ≡ true → ⊥
   answer_no_label n is x e =
-      let head = makes within (starts main_head_is) in
-      let part = part_of within (starts main_head_is) in
-      let m = numbered.made n 0 x.form x.place x.makes in
-      let h = numbered.made (main_head P) 0 _ _ head in
-      let label = label_of g (number n 0) m.instr m.at e in
-      let m_place : (m.instr).place ≡ place P P.main = m.place ∙ (doing x.makes).place_is ∙ ap (place_shown P (place P n)) is in
-      let h_place : (h.instr).place ≡ place P P.main = h.place ∙ ap (place_shown P (place P (main_head P))) main_head_is ∙ known.head_place P.main (main_head P) known.main in
-      let two = two_at (λ (j : Instr). j.place == (m.instr).place) g.instrs (number n 0) (number (main_head P) 0) m.instr h.instr m.at h.at
-      (λ k. let rows_are = (one_part numbered x part k).0 in let bad : Program ≡ Head = sym is ∙ ap (node P) rows_are ∙ main_head_is in cc)
-      (same_number _ _ refl) (same_number _ _ (h_place ∙ sym m_place)) in
-      absurd (omega (arith, two, label.1))
+      clash x e main_within (starts (ap begins_block main_head_is)) refl
+      (ap (place_shown P (place P (main_head P))) main_head_is ∙ known.head_place P.main (main_head P) known.main ∙ sym (ap (place_shown P (place P n)) is))
+      (λ z. let bad : Program ≡ Head = sym is ∙ z ∙ main_head_is in cc)
 
   -- a conditional's merge shares its place with the switch of its trigger
   merge_no_label : (n : ℕ) {s x y : ℕ} → node P n ≡ If s x y → (part : IsPart P n 0) → shown.is_label g (number n 0) ≡ true → ⊥
   merge_no_label n {s} {x} {y} is part e =
       let c = conditional known (part.makes).within is in
-      let switch = makes c.within (turns_on c.node) in
-      let m = numbered.made n 0 part.form part.place part.makes in
-      let h = numbered.made s 0 _ _ switch in
-      let label = label_of g (number n 0) m.instr m.at e in
-      let m_place : (m.instr).place ≡ place P n = m.place ∙ (doing part.makes).place_is ∙ ap (place_shown P (place P n)) is in
-      let h_place : (h.instr).place ≡ place P n = h.place ∙ ap (place_shown P (place P s)) c.node ∙ c.place in
-      let two = two_at (λ (j : Instr). j.place == (m.instr).place) g.instrs (number n 0) (number s 0) m.instr h.instr m.at h.at
-      (λ k. let rows_are = (one_part numbered part (part_of c.within (turns_on c.node)) k).0 in let bad : If s x y ≡ Split c.test = sym is ∙ ap (node P) rows_are ∙ c.node in cc)
-      (same_number _ _ refl) (same_number _ _ (h_place ∙ sym m_place)) in
-      absurd (omega (arith, two, label.1))
+      clash part e c.within (turns_on (of_arms c.node)) refl
+      (ap (place_shown P (place P s)) c.node ∙ c.place ∙ sym (ap (place_shown P (place P n)) is))
+      (λ z. let bad : If s x y ≡ Split c.test = sym is ∙ z ∙ c.node in cc)
 
   -- a call's merge shares its place with its `enter`
   call_no_label : (n : ℕ) {e c : ℕ} → node P n ≡ Call e c → (part : IsPart P n 0) → shown.is_label g (number n 0) ≡ true → ⊥
   call_no_label n {e} {c} is part l =
       let z = enter_at known (part.makes).within is in
       let begins = call_at known z.within z.node in
-      let enter = makes z.within (opens z.node) in
-      let m = numbered.made n 0 part.form part.place part.makes in
-      let h = numbered.made e 0 _ _ enter in
-      let label = label_of g (number n 0) m.instr m.at l in
-      let m_place : (m.instr).place ≡ place P n = m.place ∙ (doing part.makes).place_is ∙ ap (place_shown P (place P n)) is in
-      let h_place : (h.instr).place ≡ place P n = h.place ∙ ap (place_shown P (place P e)) z.node ∙ begins.place ∙ ap (place P) z.ends in
-      let two = two_at (λ (j : Instr). j.place == (m.instr).place) g.instrs (number n 0) (number e 0) m.instr h.instr m.at h.at
-      (λ k. let rows_are = (one_part numbered part (part_of z.within (opens z.node)) k).0 in let bad : Call e c ≡ Enter z.name = sym is ∙ ap (node P) rows_are ∙ z.node in cc)
-      (same_number _ _ refl) (same_number _ _ (h_place ∙ sym m_place)) in
-      absurd (omega (arith, two, label.1))
+      clash part l z.within (opens (of_call z.node)) refl
+      (ap (place_shown P (place P e)) z.node ∙ begins.place ∙ ap (place P) z.ends ∙ sym (ap (place_shown P (place P n)) is))
+      (λ y. let bad : Call e c ≡ Enter z.name = sym is ∙ y ∙ z.node in cc)
 
-  -- a label is the first instruction of a binder
+  -- and so does a loop's
+  loop_no_label : (n : ℕ) {h w l : ℕ} → node P n ≡ Loop h w l → (part : IsPart P n 0) → shown.is_label g (number n 0) ≡ true → ⊥
+  loop_no_label n {h} {w} {l} is part e =
+      let c : IsLoopOf (rows P) n h = record { switches = w; last = l; within = (part.makes).within; node = is } in
+      let z = loop_marks P n h c in
+      clash part e z.start_within (opens (of_loop z.start_node)) refl
+      (ap (place_shown P (place P z.start)) z.start_node ∙ z.start_place ∙ sym (ap (place_shown P (place P n)) is))
+      (λ y. let bad : Loop h w l ≡ Start = sym is ∙ y ∙ z.start_node in cc)
+
+  -- the entry of an import shares its place with the loop's trigger
+  entry_no_label : (n k : ℕ) → node P n ≡ Entries → (part : IsPart P n k) → shown.is_label g (number n k) ≡ true → ⊥
+  entry_no_label n k is part e =
+      let x = entries_place P n (part.makes).within is in
+      let h = x.head in
+      let z = loop_marks P x.row h x.loop in
+      clash part e z.head_within (starts (ap begins_block z.head_node)) refl
+      (ap (place_shown P (place P h)) z.head_node ∙ z.head_place ∙ sym x.place ∙ sym (ap (place_shown P (place P n)) is))
+      (λ y. let bad : Entries ≡ LoopHead (h - 1) = sym is ∙ y ∙ z.head_node in cc)
+
+  -- a label is the first instruction of the row that labels a binder
   pub record LabelOf (n part : ℕ) : Type 0 where
-    pub binds : is_binder (node P n) ≡ true
+    pub binder : ℕ
+    pub within : binder < length (rows P)
+    pub binds : is_binder (node P binder) ≡ true
+    pub is : label P binder ≡ n
     pub first : part ≡ 0
 
   pub label_binds : (n part : ℕ) → IsPart P n part → shown.is_label g (number n part) ≡ true → LabelOf n part
@@ -132,10 +163,14 @@ module _ (P : Checked) (known : IsKnown P) (g : Parts) (number : ℕ → ℕ →
       merge : shown.is_value_merge (op_by number x.form) ≡ true
       merge = ap shown.is_value_merge (sym m.op) ∙ (label_of g (number n part) m.instr m.at e).0
 
+      own : (j : ℕ) (b : Node) → node P n ≡ b → is_binder b ≡ true → label_by (block P n) n b ≡ n → j ≡ 0 → LabelOf n j
+      own j b is binds same first =
+          record { binder = n; within = (x.makes).within; binds = ap is_binder is ∙ binds; is = ap (label_by (block P n) n) is ∙ same; first = first }
+
       go : {j : ℕ} {o : Form} → Does P n j o → shown.is_value_merge (op_by number o) ≡ true → shown.is_label g (number n j) ≡ true → IsPart P n j → LabelOf n j
       go (starts is) k l y = cc
       go (returns is) k l y = cc
-      go (enters is) k l y = record { binds = ap is_binder is; first = refl }
+      go (enters {x = z} {k = i} is) k l y = own 0 (Param z i) is refl refl refl
       go (constant is) k l y = cc
       go (unary is) k l y = cc
       go (binary is) k l y = cc
@@ -145,5 +180,16 @@ module _ (P : Checked) (known : IsKnown P) (g : Parts) (number : ℕ → ℕ →
       go (opens is) k l y = cc
       go (passes is) k l y = cc
       go (gets is) k l y = absurd (call_no_label n is y l)
-      go (names is) k l y = record { binds = ap is_binder is; first = refl }
+      go (names {x = z} {a = a} is) k l y = own 0 (Binding z a) is refl refl refl
+      go (sends_in j q is at) k l y = cc
+      go (gives_back is) k l y = cc
+      go (varies is) k l y =
+          let z = variable_at P n (x.makes).within is in
+          record { binder = next_of P n; within = z.within; binds = z.binds; is = z.is; first = refl }
+      go (takes_in j is less) k l y = absurd (entry_no_label n j is y l)
+      go (moves_on is) k l y = cc
+      go (moves_name j is less) k l y = cc
+      go (advances is) k l y = cc
+      go (resets is) k l y = cc
+      go (gets_last is) k l y = absurd (loop_no_label n is y l)
       go (answers is) k l y = absurd (answer_no_label n is y l)

@@ -1,10 +1,10 @@
 -- What comes from where an expression has its value tells the expression's value.
-use Rattle.std.proofs.Common.{◌≡◌, ℕ, zero, suc, ◌<◌, true, false, Some, List, length, get_or, refl, sym, ◌∙◌, ap, subst, arith}
+use Rattle.std.proofs.Common.{◌≡◌, Bool as Truth, ℕ, zero, suc, ◌<◌, ◌+◌, true, false, Some, List, length, get_or, refl, sym, ◌∙◌, ap, subst, arith}
 use Rattle.id_parts.specs.declared.row.Region.{Region}
 use Rattle.id_parts.specs.declared.row.Node.{Node}
 use Rattle.id_parts.specs.declared.row.Node.TheVariants.{Head, Param, Literal, Name, Unary, Binary, Split, If, Enter, Arg, Call, Block}
-use Rattle.id_parts.specs.declared.row.Node.TheVariants.{Binding, Def, Program}
-use Rattle.id_parts.specs.Rows.{arm_at, at}
+use Rattle.id_parts.specs.declared.row.Node.TheVariants.{Binding, Def, Program, Switches, LoopHead, Next, Loop}
+use Rattle.id_parts.specs.Rows.{arm_at, at, top}
 use Rattle.id_parts.specs.Tables.{HasPart, HasNear, HasOperand, is_binder, is_block, is_expression}
 use Rattle.id_check.specs.declared.checked.Checked.{Checked}
 use Rattle.id_check.specs.Programs as checked
@@ -12,39 +12,51 @@ use Rattle.id_check.specs.Programs.{Stands, place, region, rows}
 use Rattle.id_tag.specs.declared.Value.{Value}
 use Rattle.id_meaning.specs.declared.Fact.TheVariants.{Has}
 use Rattle.id_meaning.specs.Sources.{Source}
-use Rattle.id_meaning.specs.Facts.{name_has, block_has}
+use Rattle.id_meaning.specs.Facts.{name_has, block_has, without}
 use Rattle.id_meaning.specs.Rounds.{Holds}
 use Rattle.id_desugar.specs.Regions.{imports_of}
-use Rattle.id_build.specs.Rows.{node, output, name_in, named_in, origin_of, origin}
+use Rattle.id_build.specs.Rows.{block, entries_row, label, label_by, node, output, name_in, named_in, origin_of, origin}
 use Rattle.id_runs.specs.Activations.{Activation}
 use Rattle.id_runs.specs.Events.{Event}
-use Rattle.id_laws.specs.Activations.{Live}
-use Rattle.id_laws.specs.Topics.{ValueOf, NameIn, Tells, speaks_of, topic_of}
+use Rattle.id_laws.specs.Activations.{Live, Tests, of_arms, of_turns}
+use Rattle.id_laws.specs.Topics.{ValueOf, NameIn, Tells, speaks_of, split_of, topic_of}
 use Rattle.id_laws.proofs.Assumed.{IsKnown}
-use Rattle.id_build.proofs.NamesSeen.{Sees, Comes, from_label, from_switch, comes}
+use Rattle.id_laws.proofs.LoopRows.{variable_of_next}
+use Rattle.id_build.proofs.LoopsLemmas.{entries_node, entries_stand}
+use Rattle.id_laws.proofs.Regions.{as_tests, region_of, same_depth}
+use Rattle.id_build.proofs.NamesSeen.{Sees, Comes, from_label, from_switch, from_entry, comes}
 use Rattle.id_laws.proofs.Seats.{OneSeat}
 use Rattle.id_laws.proofs.TurnedOn.{holds_by, without_none, turned_on}
 
+true_false : true ≡ false → ⊥
+true_false h = cc
+
 -- what the label of a binder speaks of
-pub label_topic : (P : Checked) (b : ℕ) → is_binder (node P b) ≡ true → topic_of P (output b) ≡ NameIn (checked.region P b) b
-label_topic P b e = go (node P b) refl e
+pub label_topic : (P : Checked) → IsKnown P → (b : ℕ) → b < length (rows P) → is_binder (node P b) ≡ true
+    → topic_of P (output (label P b)) ≡ NameIn (checked.region P (label P b)) b
+label_topic P known b within e = go (node P b) refl e
   where
-    go : (m : Node) → node P b ≡ m → is_binder m ≡ true → speaks_of P b (checked.region P b) (node P b) 0 true ≡ NameIn (checked.region P b) b
-    go (Param x k) is h = ap (λ z. speaks_of P b (checked.region P b) z 0 true) is
-    go (Binding x a) is h = ap (λ z. speaks_of P b (checked.region P b) z 0 true) is
-    go Head is h = cc
-    go (Split t) is h = cc
-    go (If s x y) is h = cc
-    go (Enter x) is h = cc
-    go (Arg s k v) is h = cc
-    go (Call s c) is h = cc
-    go (Literal v) is h = cc
-    go (Name x) is h = cc
-    go (Unary o a) is h = cc
-    go (Binary o a c) is h = cc
-    go (Block c) is h = cc
-    go (Def x h' k c) is h = cc
-    go Program is h = cc
+    own : label P b ≡ b → speaks_of P b (checked.region P b) (node P b) 0 true ≡ NameIn (checked.region P b) b
+        → topic_of P (output (label P b)) ≡ NameIn (checked.region P (label P b)) b
+    own same topic = subst (λ z. topic_of P (output z) ≡ NameIn (checked.region P z) b) (sym same) topic
+
+    go : (m : Node) → node P b ≡ m → is_binder m ≡ true → topic_of P (output (label P b)) ≡ NameIn (checked.region P (label P b)) b
+    go (Param x k) is h = own (ap (label_by (block P b) b) is) (ap (λ z. speaks_of P b (checked.region P b) z 0 true) is)
+    go (Binding x a) is h = own (ap (label_by (block P b) b) is) (ap (λ z. speaks_of P b (checked.region P b) z 0 true) is)
+    go (Next x k o v) is h =
+        let z = variable_of_next P b x k o v within is in
+        let i = block P b + 1 + k in
+        let here : label P b ≡ i = ap (label_by (block P b) b) is in
+        let topic : topic_of P (output i) ≡ NameIn (checked.region P i) b =
+        ap (λ m. speaks_of P i (checked.region P i) m 0 true) z.node ∙ ap (NameIn (checked.region P i)) z.next in
+        subst (λ j. topic_of P (output j) ≡ NameIn (checked.region P j) b) (sym here) topic
+    go _ is h = absurd (true_false (sym h))
+
+-- what the parts of switches speak of
+pub switch_topic : (P : Checked) {n t : ℕ} → Tests P n t → (part : ℕ) (c : Truth)
+    → speaks_of P n (checked.region P n) (node P n) part c ≡ split_of (arm_at n c) (imports_of P n) part
+switch_topic P {n} (of_arms is) part c = ap (λ z. speaks_of P n (checked.region P n) z part c) is
+switch_topic P {n} (of_turns is) part c = ap (λ z. speaks_of P n (checked.region P n) z part c) is
 
 module _ (S : Source) (known : IsKnown S.checked) (number : ℕ → ℕ → ℕ) (run : List Event) (seats : OneSeat S number run) where
   abbrev P : Checked
@@ -89,20 +101,7 @@ module _ (S : Source) (known : IsKnown S.checked) (number : ℕ → ℕ → ℕ)
           let less = (((known.table).formed).each e within).parts b has_part in
           let expression = known.operands e b within (subst (λ z. HasOperand z b) (sym m) refl) in
           block_shows a e b v within m (rest b v (omega (arith, less.1)) (omega (arith, less.1)) expression (subst (λ z. ShowsRow a z v) ((known.table).value_block e b within m) w))
-      go Head m rest = itself (ap is_block m)
-      go (Param x k) m rest = itself (ap is_block m)
-      go (Literal c) m rest = itself (ap is_block m)
-      go (Name x) m rest = itself (ap is_block m)
-      go (Unary o x) m rest = itself (ap is_block m)
-      go (Binary o x y) m rest = itself (ap is_block m)
-      go (Split t) m rest = itself (ap is_block m)
-      go (If s x y) m rest = itself (ap is_block m)
-      go (Enter x) m rest = itself (ap is_block m)
-      go (Arg s k x) m rest = itself (ap is_block m)
-      go (Call s c) m rest = itself (ap is_block m)
-      go (Binding x y) m rest = itself (ap is_block m)
-      go (Def x h k b) m rest = itself (ap is_block m)
-      go Program m rest = itself (ap is_block m)
+      go _ m rest = itself (ap is_block m)
 
   -- what a name's binder Has as the name's region sees it, the name Has
   name_shows : (a : Activation) (n x b : ℕ) (v : Value) → n < length (rows P) → node P n ≡ Name x → checked.binder P n ≡ Some b
@@ -110,29 +109,38 @@ module _ (S : Source) (known : IsKnown S.checked) (number : ℕ → ℕ → ℕ)
   name_shows a n x b v within is binds w =
       let live = w.0 in
       let shown = w.1 in
-      let on = turned_on S known seats live shown.path_of ((known.table).turned n within (ap is_expression is)) in (
+      let on = turned_on S known seats live shown.path_of ((known.table).turned n within (ap is_expression is)) in
+      let deep = same_depth P (region P n).head n b (region_of known within (λ e. let bad : Name x ≡ Program = sym is ∙ e in cc)).block in
+      let has = subst (λ d. Holds S (Has (without d shown.path) (place P b) shown.value)) deep shown.holds in (
         live,
         record {
           path = shown.path;
           path_of = shown.path_of;
           value = shown.value;
           stands = shown.stands;
-          holds = subst (λ z. Holds S (Has z (place P n) shown.value)) (sym (without_none shown.path)) (holds_by S _ _ (name_has (record { within = within; node = is }) binds) (on, (shown.holds, tt)));
+          holds = subst (λ z. Holds S (Has z (place P n) shown.value)) (sym (without_none shown.path)) (holds_by S _ _ (name_has (record { within = within; node = is }) binds) (on, (has, tt)));
         },
       )
 
   -- what comes from where a region has a name tells what the binder Has
-  pub named_tells : (a : Activation) (r : Region) (b : ℕ) (v : Value) → is_binder (node P b) ≡ true → Sees P b r
+  pub named_tells : (a : Activation) (r : Region) (b : ℕ) (v : Value) → b < length (rows P) → is_binder (node P b) ≡ true → Sees P b r
       → Tells S number run a (topic_of P (name_in P r b)) v → Tells S number run a (NameIn r b) v
-  named_tells a r b v binds sees tells = by (comes P r b sees)
+  named_tells a r b v inside binds sees tells = by (comes P r b sees)
     where
       by : Comes P r b → Tells S number run a (NameIn r b) v
       by (from_label is from) =
           subst (λ z. Tells S number run a (NameIn z b) v) is
-          (subst (λ z. Tells S number run a z v) (ap (topic_of P) from ∙ label_topic P b binds) tells)
+          (subst (λ z. Tells S number run a z v) (ap (topic_of P) from ∙ label_topic P known b inside binds) tells)
       by (from_switch n t k c within is less there rest at from) =
           let topic : topic_of P (name_in P r b) ≡ NameIn (arm_at n c) (get_or (imports_of P n) k 0) =
-          ap (topic_of P) from ∙ ap (λ m. speaks_of P n (region P n) m (suc k) c) is in
+          ap (topic_of P) from ∙ switch_topic P (as_tests is) (suc k) c in
+          subst (λ z. Tells S number run a z v) (topic ∙ (λ i. NameIn (sym at i) (there i))) tells
+      by (from_entry h t k within is less there rest at from) =
+          let e = entries_row P h in
+          let stand = entries_stand P h t within is e (omega arith) (omega arith) in
+          let topic : topic_of P (name_in P r b) ≡ NameIn (top h) (get_or (imports_of P h) k 0) =
+          ap (topic_of P) from ∙ ap (λ m. speaks_of P e (region P e) m k true) (entries_node P h t within is)
+          ∙ (λ i. NameIn (stand.1 i) (get_or (imports_of P (stand.0 i)) k 0)) in
           subst (λ z. Tells S number run a z v) (topic ∙ (λ i. NameIn (sym at i) (there i))) tells
 
   -- what the row that gives a value speaks of
@@ -152,21 +160,15 @@ module _ (S : Source) (known : IsKnown S.checked) (number : ℕ → ℕ → ℕ)
           let from : origin_of P w (region P w) (node P w) ≡ name_in P (region P w) b =
           ap (origin_of P w (region P w)) is ∙ ap (named_in P (region P w) w) known_binder.1 in
           name_shows a w x b v within is known_binder.1
-          (named_tells a (region P w) b v known_binder.3 known_binder.4 (subst (λ z. Tells S number run a z v) (ap (topic_of P) from) tells))
+          (named_tells a (region P w) b v known_binder.2 known_binder.3 known_binder.4 (subst (λ z. Tells S number run a z v) (ap (topic_of P) from) tells))
       go (Literal c) is = own (Literal c) is refl refl
       go (Unary o x) is = own (Unary o x) is refl refl
       go (Binary o x y) is = own (Binary o x y) is refl refl
       go (If s x y) is = own (If s x y) is refl refl
       go (Call s c) is = own (Call s c) is refl refl
-      go (Enter x) is = let bad : false ≡ true = sym (ap is_expression is) ∙ expression in cc
-      go (Arg s k x) is = let bad : false ≡ true = sym (ap is_expression is) ∙ expression in cc
-      go (Split t) is = let bad : false ≡ true = sym (ap is_expression is) ∙ expression in cc
+      go (Loop g u l) is = own (Loop g u l) is refl refl
       go (Block b) is = let bad : true ≡ false = sym (ap is_block is) ∙ no_block in cc
-      go Head is = let bad : false ≡ true = sym (ap is_expression is) ∙ expression in cc
-      go (Param x k) is = let bad : false ≡ true = sym (ap is_expression is) ∙ expression in cc
-      go (Binding x y) is = let bad : false ≡ true = sym (ap is_expression is) ∙ expression in cc
-      go (Def x h k b) is = let bad : false ≡ true = sym (ap is_expression is) ∙ expression in cc
-      go Program is = let bad : false ≡ true = sym (ap is_expression is) ∙ expression in cc
+      go _ is = absurd (true_false (sym expression ∙ ap is_expression is))
 
   -- what comes from where an expression has its value, the expression Has
   pub origin_shows : (a : Activation) (e : ℕ) (v : Value) → e < length (rows P) → is_expression (node P e) ≡ true

@@ -31,7 +31,7 @@ use Rattle.id_ops.specs.declared.Operands.{Operands}
 use Rattle.id_ops.specs.declared.Operands.TheVariants.{One as Alone, Two}
 use Rattle.id_ops.specs.declared.Fresh.{Fresh}
 use Rattle.id_ops.specs.declared.Fired.{Fired}
-use Rattle.id_ops.specs.declared.Fired.TheVariants.{Out, Side, Sent, Failed, Nothing, Entered}
+use Rattle.id_ops.specs.declared.Fired.TheVariants.{Out, Side, Sent, Moved, Failed, Nothing, Entered}
 use Rattle.id_ops.specs.Operators.{fired, fired_by, fired_merge}
 use Rattle.id_valid.specs.Validator.{is_value}
 use Rattle.id_record.specs.declared.step.Step.TheVariants.{Went, Fault}
@@ -51,7 +51,7 @@ use Rattle.id_meaning.specs.Facts.{outermost, FaultRule, unary_fails, binary_fai
 use Rattle.id_meaning.specs.Rounds.{Every, Holds, FaultFree, Answers, IsAnswer}
 use Rattle.id_build.specs.declared.arc.Origin.{Origin}
 use Rattle.id_desugar.specs.Ends.{end_of}
-use Rattle.id_build.specs.Rows.{node, answer_row, binary_op, feed, feeds_of, origin, output, port_at, port_of, result_of}
+use Rattle.id_build.specs.Rows.{label, node, answer_row, binary_op, feed, feeds_of, origin, output, port_at, port_of, result_of}
 use Rattle.id_build.specs.Rows as built
 use Rattle.id_build.specs.Schemas.{Numbered}
 use Rattle.id_runs.specs.Activations.{Activation, main_activation, tag_in}
@@ -68,7 +68,8 @@ use Rattle.id_laws.specs.Ways.{way_back}
 use Rattle.id_laws.proofs.Agreement.{agree_unary, agree_at}
 use Rattle.id_laws.proofs.Arcs.{returns, unary, binary}
 use Rattle.id_laws.proofs.Assumed.{IsKnown}
-use Rattle.id_laws.proofs.CarriedFacts.{carried, here_is, operand_spoken, stands_is, body_region}
+use Rattle.id_laws.proofs.CarriedFacts.{carried, here_is, operand_spoken, body_region}
+use Rattle.id_laws.proofs.CarriedValues.{stands_is}
 use Rattle.id_build.proofs.EndsLemmas.{end_is}
 use Rattle.id_laws.proofs.Firings.{PartFired, alone_fired, both_fired, came, sent_handled, start_handled}
 use Rattle.id_laws.proofs.HasKinds.{Has_kind, port_taking, operand_of, binder_thing, expression_thing}
@@ -77,7 +78,7 @@ use Rattle.id_laws.proofs.Observing.{message_handled}
 use Rattle.id_laws.proofs.SoundAnswer.{answer_tells, brought_is, main_result, sound_answer}
 use Rattle.id_laws.proofs.LabelsShow.{label_is, label_made, label_place}
 use Rattle.id_laws.proofs.Triggers.{one_activation, main_is, main_within}
-use Rattle.id_laws.proofs.Seats.{live_first, main_path}
+use Rattle.id_laws.proofs.Seats.{main_path}
 use Rattle.id_laws.proofs.TagPaths.{path_shown}
 use Rattle.id_runs.proofs.Enters.{entered_by}
 
@@ -162,6 +163,9 @@ module _ (S : Source) (g : Parts) (number : ℕ → ℕ → ℕ) (numbered : Num
   main_kind : result_of (node P (end_of P main)) ≡ (known.main).result
   main_kind = ap (λ n. result_of (node P n)) main_end ∙ ap result_of (known.main).node
 
+  main_body_is : built.body_of (node P (end_of P main)) ≡ main_body P
+  main_body_is = ap (λ n. built.body_of (node P n)) main_end ∙ ap built.body_of (known.main).node ∙ sym (ap body_of (known.main).node)
+
   -- the value that main's body Has came to the answer
   answer_sent : (v : SourceValue) → Answers S v → Among (Token (main_tag 0) Zero (token_value v)) (handled run)
   answer_sent v has =
@@ -177,7 +181,7 @@ module _ (S : Source) (g : Parts) (number : ℕ → ℕ → ℕ) (numbered : Num
       let from : speaker P (c.here).row ≡ origin P (main_body P) = ap (speaker P) row_is ∙ expression_speaks P known (main_body P) (node P (main_body P)) refl b.1 in
       let said : Speaks S number run main_activation (origin P (built.body_of (node P (end_of P main)))) (token_value v) =
       subst (λ (z : Activation × (Origin × Value)). Speaks S number run z.0 z.1.0 z.1.1) {x = ((c.here).activation, (speaker P (c.here).row, c.value))} {y = (main_activation, (origin P (built.body_of (node P (end_of P main))), token_value v))}
-      (λ i. (one i, ((from ∙ ap (origin P) (sym (main_result S known g number numbered count s run r))) i, stands_is c.stands i))) c.spoken in
+      (λ i. (one i, ((from ∙ ap (origin P) (sym main_body_is)) i, stands_is c.stands i))) c.spoken in
       let is = main_is S g number numbered known count only s run r quiet.empty in
       let within = main_within S g number numbered known count only s run r quiet.empty in
       let result = came S g number numbered known count only s run r quiet.empty main_activation (origin P (built.body_of (node P (end_of P main)))) main 1 One (token_value v) said
@@ -250,12 +254,12 @@ module _ (S : Source) (g : Parts) (number : ℕ → ℕ → ℕ) (numbered : Num
   -- ---- names
 
   -- what the label of a binder has spoken was brought to it
-  label_brought : (a : Activation) (b : ℕ) (w : Value) → b < length (rows P) → is_binder (node P b) ≡ true → Speaks S number run a (output b) w
-      → (p : Port) × Among (Token (tag_in a (number b 0)) p w) (handled run)
+  label_brought : (a : Activation) (b : ℕ) (w : Value) → b < length (rows P) → is_binder (node P b) ≡ true → Speaks S number run a (output (label P b)) w
+      → (p : Port) × Among (Token (tag_in a (number (label P b) 0)) p w) (handled run)
   label_brought a b w within binds x = by x.fired x.fires x.gives
     where
       t : Tag
-      t = tag_in a (number b 0)
+      t = tag_in a (number (label P b) 0)
 
       merge_out : (k : PortKind) (ops : Operands) (two : Truth) (u : Value) → two ≡ false → OperandsHandled run t two ops → Out u ≡ fired_merge k ops
           → (p : Port) × Among (Token t p u) (handled run)
@@ -288,6 +292,7 @@ module _ (S : Source) (g : Parts) (number : ℕ → ℕ → ℕ) (numbered : Num
           let enters = entered_by (z.instr).op t y.operands z.fresh c (sym z.is) in
           absurd (no_merge (sym op_is ∙ enters.is))
       by (Sent u v) y gives = absurd gives
+      by (Moved k v) y gives = absurd gives
       by (Failed k) y gives = absurd gives
       by Nothing y gives = absurd gives
 
@@ -296,11 +301,11 @@ module _ (S : Source) (g : Parts) (number : ℕ → ℕ → ℕ) (numbered : Num
 
   -- a token that brings a binder's value to its label shows the name
   label_shows : (n : NameValue) (b : ℕ) (a : Activation) (p : Port) → b < length (rows P) → is_binder (node P b) ≡ true → place P b ≡ n.place
-      → tag_path (tag_in a (number b 0)) ≡ n.path → is_value (port_at P b) ≡ true
-      → shown.name_in g tag_path (Token (tag_in a (number b 0)) p (token_value n.value)) ≡ Some n
+      → tag_path (tag_in a (number (label P b) 0)) ≡ n.path → is_value (port_at P b) ≡ true
+      → shown.name_in g tag_path (Token (tag_in a (number (label P b) 0)) p (token_value n.value)) ≡ Some n
   label_shows n b a p within binds here path merges =
-      let at = tag_in a (number b 0) in
-      (λ i. cond (label_is P known g number numbered b within binds merges i) (shown.name_at g (number b 0) (tag_path at) (value_back n.value i)) None)
+      let at = tag_in a (number (label P b) 0) in
+      (λ i. cond (label_is P known g number numbered b within binds merges i) (shown.name_at g (number (label P b) 0) (tag_path at) (value_back n.value i)) None)
       ∙ (λ i. Some (record { path = path i; place = (label_place P known g number numbered b within binds ∙ here) i; value = n.value }))
 
   -- what a binder Has came to its label, and is shown
@@ -313,15 +318,15 @@ module _ (S : Source) (g : Parts) (number : ℕ → ℕ → ℕ) (numbered : Num
       let c : CarriedHas S number run n.path (place P b) n.value = carried S g number numbered known inputs count only s run r quiet.empty _ holds in
       let row_is = here_is S g number numbered known inputs count only s run r quiet.empty c.here (record { within = x.within; node = refl }) thing in
       let a = (c.here).activation in
-      let said : Speaks S number run a (output b) (token_value n.value) =
-      subst (λ (z : Origin × Value). Speaks S number run a z.0 z.1) {x = (speaker P (c.here).row, c.value)} {y = (output b, token_value n.value)}
+      let said : Speaks S number run a (output (label P b)) (token_value n.value) =
+      subst (λ (z : Origin × Value). Speaks S number run a z.0 z.1) {x = (speaker P (c.here).row, c.value)} {y = (output (label P b), token_value n.value)}
       (λ i. ((ap (speaker P) row_is ∙ binder_speaks P known b (node P b) refl x.binds) i, stands_is c.stands i)) c.spoken in
       let brought = label_brought a b (token_value n.value) x.within x.binds said in
       let h = handled_by run _ brought.1 in
       let record_it = to_record g S.inputs count s run r h.0 h.1 in
-      let payload_is : (record_it.0).message.payload ≡ Token (tag_in a (number b 0)) brought.0 (token_value n.value) = (record_it.2).payload ∙ sym h.2 in
+      let payload_is : (record_it.0).message.payload ≡ Token (tag_in a (number (label P b) 0)) brought.0 (token_value n.value) = (record_it.2).payload ∙ sym h.2 in
       let merges = ap is_value (port_taking S known inputs b n.path n.value x.within thing holds) ∙ value_passes n.value in
-      let path_is = path_shown S known g number numbered count s run r (tag_in a (number b 0)) n.path (live_first (c.here).live) (c.here).path_of in
+      let path_is = path_shown S known g number numbered count s run r (tag_in a (number (label P b) 0)) n.path (c.here).live (c.here).path_of in
       filter_map_has (λ (u : EventView). shown.name_in g tag_path u.message.payload) (events s) record_it.0 n (among_events s record_it.0 record_it.1)
       (ap (shown.name_in g tag_path) payload_is ∙ label_shows n b a brought.0 x.within x.binds x.here path_is merges)
 

@@ -5,7 +5,7 @@ use Rattle.id_list.specs.List.{Among}
 use Rattle.id_list.proofs.AmongLemmas.{Among-from_at}
 use Rattle.id_parts.specs.declared.row.Node.TheVariants.{Program}
 use Rattle.id_check.specs.declared.checked.Checked.{Checked}
-use Rattle.id_check.specs.Programs.{place, region}
+use Rattle.id_check.specs.Programs.{place, region, rows}
 use Rattle.id_graph.specs.declared.dests.Port.{Port}
 use Rattle.id_graph.specs.declared.dests.Port.TheVariants.{Zero, One}
 use Rattle.id_graph.specs.Graph.{Parts}
@@ -32,15 +32,15 @@ use Rattle.id_runs.specs.Events.{Event}
 use Rattle.id_runs.specs.Runs.{Reach, handled}
 use Rattle.id_runs.proofs.RecordsOfRuns.{among_filter_map}
 use Rattle.id_laws.specs.Laws.{events}
-use Rattle.id_laws.specs.Activations.{main_head, PathOf}
-use Rattle.id_laws.specs.Topics.{ShownResult, Tells, Told, wants, result_of}
+use Rattle.id_laws.specs.Activations.{main_head, Live, PathOf}
+use Rattle.id_laws.specs.Topics.{ShownResult, Tells, Told, wants, result_at, result_of}
 use Rattle.id_laws.proofs.Assumed.{IsKnown}
 use Rattle.id_laws.proofs.Arcs.{answers, part_of}
 use Rattle.id_laws.proofs.Tokens.{told_at}
 use Rattle.id_laws.proofs.Senders.{last_row}
 use Rattle.id_build.proofs.EndsLemmas.{end_is}
 use Rattle.id_laws.proofs.Start.{main_is_head, main_within}
-use Rattle.id_laws.proofs.Seats.{live_first, main_path_is}
+use Rattle.id_laws.proofs.Seats.{main_path_is}
 use Rattle.id_laws.proofs.StartTells.{all_tell, seats}
 use Rattle.id_laws.proofs.Observing.{shown_holds, message_handled}
 
@@ -66,7 +66,7 @@ module _ (S : Source) (known : IsKnown S.checked) (g : Parts) (number : ℕ → 
   main_result =
       let def = end_is P (known.table) (main_head P) (main_within S g number numbered known) (main_is_head S g number numbered known) in
       let one = (known.table).one_def (end_of P (main_head P)) P.main (main_head P) def known.main in
-      ap (λ n. build.body_of (node P n)) one ∙ ap build.body_of (known.main).node ∙ sym (ap body_of (known.main).node)
+      ap (λ n. result_at (node P n)) one ∙ ap result_at (known.main).node ∙ sym (ap body_of (known.main).node)
 
   -- a token for main's answer comes to its port 0 with the result
   pub answer_tells : (p : Port) (w : Value) → Among (Token (main_tag 0) p w) (handled run)
@@ -91,7 +91,10 @@ module _ (S : Source) (known : IsKnown S.checked) (g : Parts) (number : ℕ → 
       let came = brought_is (event.0).message.payload first.0 event.2 in
       let h = message_handled g S.inputs count s run r event.0 event.1 in
       let shows = (answer_tells came.0 first.0 (subst (λ x. Among x (handled run)) came.1 h)).1 in
-      let shown_path = subst (λ k. PathOf S number run (at_iteration main_context k) (shows.shown).path) (live_first shows.live) (shows.shown).path_of in
+      let first_iteration : shows.iteration ≡ 0 =
+      (seats S known g number numbered run count s r).first known.main
+      (subst (λ b. Live S number run (at_iteration main_context shows.iteration) (region P b)) (main_result ∙ ap body_of (known.main).node) shows.live) in
+      let shown_path = subst (λ k. PathOf S number run (at_iteration main_context k) (shows.shown).path) first_iteration (shows.shown).path_of in
       let path_is = main_path_is (seats S known g number numbered run count s r) shown_path in
       subst (λ (z : Path × ℕ). Holds S (Has z.0 (place P z.1) v)) {x = ((shows.shown).path, result_of P (main_head P))} {y = (outermost, main_body P)}
       (λ i. (path_is i, main_result i)) (shown_holds shows.shown first.2)

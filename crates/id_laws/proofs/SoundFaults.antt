@@ -7,7 +7,7 @@ use Rattle.id_check.specs.Programs.{place}
 use Rattle.id_graph.specs.Graph.{Parts}
 use Rattle.id_tag.specs.declared.Tag.{Tag}
 use Rattle.id_ops.specs.declared.Fired.{Fired}
-use Rattle.id_ops.specs.declared.Fired.TheVariants.{Out, Side, Sent, Failed, Nothing, Entered}
+use Rattle.id_ops.specs.declared.Fired.TheVariants.{Out, Side, Sent, Moved, Failed, Nothing, Entered}
 use Rattle.id_record.specs.declared.step.Step.{Step}
 use Rattle.id_record.specs.declared.step.Step.TheVariants.{Went, Stuck, Fault}
 use Rattle.id_record.specs.declared.step.Fault.TheVariants.{Operator}
@@ -30,7 +30,6 @@ use Rattle.id_laws.proofs.Firing.{FaultAt}
 use Rattle.id_laws.proofs.AllTell.{firing_tells}
 use Rattle.id_laws.proofs.StartTells.{all_tell, seats}
 use Rattle.id_laws.proofs.Observing.{handled_event, part_place}
-use Rattle.id_laws.proofs.Seats.{live_first}
 use Rattle.id_laws.proofs.TagPaths.{path_shown}
 
 -- a fault that is shown, where each tag has this path
@@ -64,6 +63,7 @@ module _ (S : Source) (known : IsKnown S.checked) (g : Parts) (number : ℕ → 
   failed_as t (Side b v) x k u e = cc
   failed_as t (Entered c) x k u e = cc
   failed_as t (Sent w v) x k u e = cc
+  failed_as t (Moved j v) x k u e = cc
   failed_as t Nothing x k u e = cc
   failed_as t (Failed j) x k u e =
       let same = same_fault e in
@@ -73,7 +73,7 @@ module _ (S : Source) (known : IsKnown S.checked) (g : Parts) (number : ℕ → 
       let here : shown.place_of g u.instr ≡ place P y.row =
       ap (λ (w : Tag). shown.place_of g w.instr) (sym same.1) ∙ ap (λ (w : Tag). shown.place_of g w.instr) (sym y.at) ∙ part_place numbered y.is_part ∙ fault.shows in
       let path_is : tag_path u ≡ fault.path = ap tag_path (sym same.1)
-      ∙ path_shown S known g number numbered count s run r t fault.path (live_first fault.live) fault.path_of in
+      ∙ path_shown S known g number numbered count s run r t fault.path fault.live fault.path_of in
       subst (Faulty S) (λ i. record { kind = same.0 i; path = sym path_is i; place = sym here i }) fault.faulty
 
   -- an event that comes to a fault has failed

@@ -1,12 +1,12 @@
 -- What a run of a schemas' graph shows that binders Have, they Have, and it shows nothing twice.
 use Rattle.std.proofs.Common.{◌≡◌, inl, inr, ℕ, ◌≤◌, ◌<◌, Bool as Truth, true, false, cond, Option, Some, None, List, [], ◌∷◌, length, refl, sym, ◌∙◌, ap}
-use Rattle.std.proofs.Common.{subst, arith}
+use Rattle.std.proofs.Common.{◌+◌, subst, arith}
 use Rattle.std.specs.List.{filter_map, cons_option}
 use Rattle.id_list.specs.List.{Among, AllDiffer}
 use Rattle.id_list.proofs.AmongLemmas.{Among-map}
 use Rattle.id_parts.specs.declared.row.Node.{Node}
-use Rattle.id_parts.specs.declared.row.Node.TheVariants.{Head, Param, Literal, Name, Unary, Binary, Split, If, Block, Binding, Def, Program, Enter, Arg, Call}
-use Rattle.id_parts.specs.Tables.{is_binder, is_thing}
+use Rattle.id_parts.specs.declared.row.Node.TheVariants.{Param, Binding, Next, Variable}
+use Rattle.id_parts.specs.Tables.{HasNear, is_binder, is_next}
 use Rattle.id_check.specs.declared.checked.Checked.{Checked}
 use Rattle.id_check.specs.Programs.{place, region, rows}
 use Rattle.id_graph.specs.declared.dests.Port.{Port}
@@ -27,7 +27,7 @@ use Rattle.id_meaning.specs.Sources.{Source}
 use Rattle.id_meaning.specs.Facts.{binding_has}
 use Rattle.id_meaning.specs.Rounds.{Holds}
 use Rattle.id_meaning.specs.Names.{IsNameValue}
-use Rattle.id_build.specs.Rows.{node}
+use Rattle.id_build.specs.Rows.{block, label, label_by, node}
 use Rattle.id_build.specs.Schemas.{Numbered}
 use Rattle.id_runs.specs.Activations.{Activation, tag_in}
 use Rattle.id_runs.specs.Events.{Event}
@@ -40,19 +40,26 @@ use Rattle.id_runs.proofs.RecordsOfRuns.{among_filter_map, told, told_once}
 use Rattle.id_runs.proofs.Serials.{contexts_apart}
 use Rattle.id_runs.specs.OneMessage.{Exclusive}
 use Rattle.id_laws.specs.Laws.{events}
-use Rattle.id_laws.specs.Activations.{PathOf}
-use Rattle.id_laws.specs.Topics.{Tells, topic_at, wants}
+use Rattle.id_laws.specs.Activations.{Live, PathOf}
+use Rattle.id_laws.specs.Topics.{NameIn, Shown, Tells, topic_at, wants}
 use Rattle.id_laws.proofs.Assumed.{IsKnown}
-use Rattle.id_laws.proofs.Arcs.{place_shown}
+use Rattle.id_laws.proofs.LoopRows.{variable_of_next}
+use Rattle.id_desugar.specs.Ends.{next_of}
+use Rattle.id_laws.proofs.CarriedValues.{label_plain}
+use Rattle.id_laws.proofs.HasKinds.{binder_thing}
+use Rattle.id_laws.proofs.LabelsShow.{label_place}
+use Rattle.id_laws.proofs.Regions.{label_depth}
+use Rattle.id_laws.proofs.StartTells.{opening_live}
 use Rattle.id_laws.proofs.Tokens.{port_of, value_of}
 use Rattle.id_laws.proofs.TurnedOn.{holds_by}
 use Rattle.id_laws.proofs.Start.{main_is_head, main_within}
 use Rattle.id_laws.proofs.LabelsBind.{label_binds}
 use Rattle.id_laws.proofs.OneSender.{exclusive}
 use Rattle.id_laws.proofs.StartTells.{all_tell, all_speak}
-use Rattle.id_laws.proofs.Observing.{shown_holds, part_place, message_handled}
-use Rattle.id_laws.proofs.Seats.{live_first, paths_apart}
-use Rattle.id_laws.proofs.TagPaths.{opening_first, path_shown}
+use Rattle.id_laws.proofs.Observing.{shown_holds, message_handled}
+use Rattle.id_laws.proofs.Opened.{main_first}
+use Rattle.id_laws.proofs.Seats.{paths_apart}
+use Rattle.id_laws.proofs.TagPaths.{path_shown}
 
 -- a message that shows what a binder Has, where each tag has this path: a token for a label
 pub record Names (g : Parts) (path : Tag → Path) (x : Payload) (n : NameValue) : Type 0 where
@@ -93,40 +100,8 @@ shown_differ {B} f (v ∷ vs) same few =
       rest,
     )
 
--- a binder is a thing, whose first instruction shows its place
-binder_thing : (m : Node) → is_binder m ≡ true → is_thing m ≡ true
-binder_thing (Param x k) e = refl
-binder_thing (Binding x a) e = refl
-binder_thing Head e = cc
-binder_thing (Literal c) e = cc
-binder_thing (Name x) e = cc
-binder_thing (Unary o a) e = cc
-binder_thing (Binary o a b) e = cc
-binder_thing (Split t) e = cc
-binder_thing (If s x y) e = cc
-binder_thing (Enter x) e = cc
-binder_thing (Arg h k v) e = cc
-binder_thing (Call h c) e = cc
-binder_thing (Block b) e = cc
-binder_thing (Def x h k b) e = cc
-binder_thing Program e = cc
-
-binder_shows : (P : Checked) (e : ℕ) (m : Node) → is_binder m ≡ true → place_shown P e m ≡ e
-binder_shows P e (Param x k) h = refl
-binder_shows P e (Binding x a) h = refl
-binder_shows P e Head h = refl
-binder_shows P e (Literal c) h = refl
-binder_shows P e (Name x) h = refl
-binder_shows P e (Unary o a) h = refl
-binder_shows P e (Binary o a b) h = refl
-binder_shows P e (Split t) h = refl
-binder_shows P e (If s x y) h = refl
-binder_shows P e (Enter x) h = refl
-binder_shows P e (Arg s k v) h = refl
-binder_shows P e (Call s c) h = refl
-binder_shows P e (Block b) h = refl
-binder_shows P e (Def x h' k b) h = refl
-binder_shows P e Program h = cc
+true_false : true ≡ false → ⊥
+true_false h = cc
 
 module _ (S : Source) (known : IsKnown S.checked) (g : Parts) (number : ℕ → ℕ → ℕ) (numbered : Numbered S.checked g number) (count : ℕ) (s : World) (run : List Event) (r : Reach g S.inputs count s run) where
   abbrev P : Checked
@@ -140,39 +115,55 @@ module _ (S : Source) (known : IsKnown S.checked) (g : Parts) (number : ℕ → 
 
   -- a token for a binder's label, at port 0, with what the binder Has at the activation's path
   record Label (b : ℕ) (a : Activation) (p : Port) (v : Value) : Type 0 where
-    first : a.iteration ≡ 0
     port : p ≡ Zero
+    live : Live S number run a (region P (label P b))
     path : Path
     path_of : PathOf S number run a path
     has : (w : SourceValue) → shown.source_value v ≡ Some w → Holds S (Has path (place P b) w)
 
-  at_label : (b : ℕ) → b < length (rows P) → (a : Activation) (p : Port) (v : Value) (m : Node) → node P b ≡ m → is_binder m ≡ true → T a b m p v
-      → Label b a p v
-  at_label b within a Zero v (Param x k) is h w =
-      record { first = live_first w.0; port = refl; path = (w.1).path; path_of = (w.1).path_of; has = λ u e. shown_holds w.1 e }
-  at_label b within a One v (Param x k) is h w = absurd w
-  at_label b within a Zero v (Binding x e) is h w =
-      record {
-        first = live_first w.0;
-        port = refl;
-        path = (w.1).path;
-        path_of = (w.1).path_of;
-        has = λ u f. holds_by S _ _ (binding_has (record { within = within; node = is })) (shown_holds w.1 f, tt);
-      }
-  at_label b within a One v (Binding x e) is h w = absurd w
-  at_label b within a p v Head is h w = cc
-  at_label b within a p v (Literal c) is h w = cc
-  at_label b within a p v (Name x) is h w = cc
-  at_label b within a p v (Unary o e) is h w = cc
-  at_label b within a p v (Binary o e f) is h w = cc
-  at_label b within a p v (Split t) is h w = cc
-  at_label b within a p v (If s x y) is h w = cc
-  at_label b within a p v (Enter x) is h w = cc
-  at_label b within a p v (Arg s k x) is h w = cc
-  at_label b within a p v (Call s c) is h w = cc
-  at_label b within a p v (Block e) is h w = cc
-  at_label b within a p v (Def x f k e) is h w = cc
-  at_label b within a p v Program is h w = cc
+  -- what is told of a name in the region of its label
+  named_label : (b : ℕ) (a : Activation) (v : Value) → b < length (rows P) → is_binder (node P b) ≡ true → Tells S number run a (NameIn (region P (label P b)) b) v
+      → Label b a Zero v
+  named_label b a v within binds w =
+      let shown_at = subst (λ d. Shown S number run a d (place P b) v) (label_depth known within binds) w.1 in
+      record { port = refl; live = w.0; path = shown_at.path; path_of = shown_at.path_of; has = λ u e. shown_holds shown_at e }
+
+  at_label : (b : ℕ) → b < length (rows P) → is_binder (node P b) ≡ true → (a : Activation) (p : Port) (v : Value)
+      → T a (label P b) (node P (label P b)) p v → Label b a p v
+  at_label b within binds a p v = by (node P b) refl p
+    where
+      own : (m : Node) → node P b ≡ m → is_next m ≡ false → (q : Port) → T a (label P b) (node P (label P b)) q v → T a b m q v
+      own m is plain q w =
+          let same = label_plain P b m is plain in
+          subst (λ z. Tells S number run a (wants P b (region P b) z 0 q) v) is (subst (λ z. T a z (node P z) q v) same w)
+
+      here : (m : Node) → node P b ≡ m → is_next m ≡ false → Live S number run a (region P b) → Live S number run a (region P (label P b))
+      here m is plain live = subst (λ z. Live S number run a (region P z)) (sym (label_plain P b m is plain)) live
+
+      at_variable : (q : Port) → T a (label P b) Variable q v → next_of P (label P b) ≡ b → Label b a q v
+      at_variable Zero w same = named_label b a v within binds (subst (λ j. Tells S number run a (NameIn (region P (label P b)) j) v) same w)
+      at_variable One w same = absurd w
+
+      by : (m : Node) → node P b ≡ m → (q : Port) → T a (label P b) (node P (label P b)) q v → Label b a q v
+      by (Param x k) is Zero w =
+          named_label b a v within binds (subst (λ z. Tells S number run a (NameIn (region P z) b) v) (sym (label_plain P b (Param x k) is refl)) (own (Param x k) is refl Zero w))
+      by (Param x k) is One w = absurd (own (Param x k) is refl One w)
+      by (Binding x e) is Zero w =
+          let u = own (Binding x e) is refl Zero w in
+          let live = subst (Live S number run a) ((known.table).part_stands b e within (subst (λ z. HasNear z e) (sym is) refl)).1 u.0 in
+          record {
+            port = refl;
+            live = here (Binding x e) is refl live;
+            path = (u.1).path;
+            path_of = (u.1).path_of;
+            has = λ z f. holds_by S _ _ (binding_has (record { within = within; node = is })) (shown_holds u.1 f, tt);
+          }
+      by (Binding x e) is One w = absurd (own (Binding x e) is refl One w)
+      by (Next x k o e) is q w =
+          let z = variable_of_next P b x k o e within is in
+          let here : label P b ≡ block P b + 1 + k = ap (label_by (block P b) b) is in
+          at_variable q (subst (λ y. T a (label P b) y q v) (ap (node P) here ∙ z.node) w) (ap (next_of P) here ∙ z.next)
+      by _ is q w = absurd (true_false (sym binds ∙ ap is_binder is))
 
   -- what shows a name came to its binder's label, under an activation of its path
   record Came (n : NameValue) (x : Payload) : Type 0 where
@@ -181,9 +172,9 @@ module _ (S : Source) (known : IsKnown S.checked) (g : Parts) (number : ℕ → 
     binds : is_binder (node P row) ≡ true
     place_is : n.place ≡ place P row
     activation : Activation
-    first : activation.iteration ≡ 0
+    live : Live S number run activation (region P (label P row))
     path_of : PathOf S number run activation n.path
-    key : key_of x ≡ AtPort (tag_in activation (number row 0)) Zero
+    key : key_of x ≡ AtPort (tag_in activation (number (label P row) 0)) Zero
     has : Holds S (Has n.path (place P row) n.value)
 
   came_to : (n : NameValue) (x : Payload) → Among x (handled run) → shown.name_in g tag_path x ≡ Some n → Came n x
@@ -194,26 +185,27 @@ module _ (S : Source) (known : IsKnown S.checked) (g : Parts) (number : ℕ → 
       let port_is : z.port ≡ y.port = ap port_of (sym z.is ∙ y.is) in
       let token_is : z.value ≡ y.token = ap value_of (sym z.is ∙ y.is) in
       let instr_is : number z.row z.part ≡ (y.tag).instr = ap (λ (t : Tag). t.instr) tag_is in
-      let label = label_binds P known g number numbered (main_is_head S g number numbered known) (main_within S g number numbered known) z.row z.part z.is_part (ap (shown.is_label g) instr_is ∙ y.label) in
-      let within = ((z.is_part).makes).within in
-      let tells = subst (λ k. Tells S number run z.activation (topic_at P z.row k z.port) z.value) label.first z.tells in
-      let at = at_label z.row within z.activation z.port z.value (node P z.row) refl label.binds tells in
-      let shown_there : shown.place_of g (y.tag).instr ≡ place P z.row = ap (shown.place_of g) (sym instr_is) ∙ part_place numbered z.is_part ∙ binder_shows P (place P z.row) (node P z.row) label.binds in
+      let found = label_binds P known g number numbered (main_is_head S g number numbered known) (main_within S g number numbered known) z.row z.part z.is_part (ap (shown.is_label g) instr_is ∙ y.label) in
+      let b = found.binder in
+      let tells = subst (λ (k : ℕ × ℕ). Tells S number run z.activation (topic_at P k.0 k.1 z.port) z.value) {x = (z.row, z.part)} {y = (label P b, 0)} (λ i. (sym found.is i, found.first i)) z.tells in
+      let at = at_label b found.within found.binds z.activation z.port z.value tells in
+      let shown_there : shown.place_of g (y.tag).instr ≡ place P b =
+      ap (shown.place_of g) (sym instr_is ∙ (λ i. number (sym found.is i) (found.first i))) ∙ label_place P known g number numbered b found.within found.binds in
       let value_is : n.value ≡ y.value = ap (λ (w : NameValue). w.value) y.shows in
       let path_is : n.path ≡ at.path =
       ap (λ (w : NameValue). w.path) y.shows
       ∙ ap tag_path (sym tag_is)
-      ∙ path_shown S known g number numbered count s run r (tag_in z.activation (number z.row z.part)) at.path at.first at.path_of in
+      ∙ path_shown S known g number numbered count s run r (tag_in z.activation (number z.row z.part)) at.path at.live at.path_of in
       record {
-        row = z.row;
-        within = within;
-        binds = label.binds;
+        row = b;
+        within = found.within;
+        binds = found.binds;
         place_is = ap (λ (w : NameValue). w.place) y.shows ∙ shown_there;
         activation = z.activation;
-        first = at.first;
+        live = at.live;
         path_of = subst (PathOf S number run z.activation) (sym path_is) at.path_of;
-        key = ap key_of z.is ∙ (λ i. AtPort (tag_in z.activation (number z.row (label.first i))) (at.port i));
-        has = subst (λ (w : Path × SourceValue). Holds S (Has w.0 (place P z.row) w.1)) (λ i. (sym path_is i, sym value_is i))
+        key = ap key_of z.is ∙ (λ i. AtPort (tag_in z.activation (number (sym found.is i) (found.first i))) (at.port i));
+        has = subst (λ (w : Path × SourceValue). Holds S (Has w.0 (place P b) w.1)) (λ i. (sym path_is i, sym value_is i))
             (at.has y.value (ap shown.source_value token_is ∙ y.brings));
       }
 
@@ -243,6 +235,7 @@ module _ (S : Source) (known : IsKnown S.checked) (g : Parts) (number : ℕ → 
       let same : x.row ≡ y.row = (known.apart).apart x.row y.row x.within y.within (binder_thing (node P x.row) x.binds) (binder_thing (node P y.row) y.binds) (sym x.place_is ∙ y.place_is) in
       let under : x.activation ≡ y.activation =
       paths_apart S known g number numbered run (contexts_apart g S.inputs count s run r) (fired_once g S.inputs count only s run r)
-      (opening_first S known g number numbered count s run r) x.first y.first x.path_of y.path_of in
-      x.key ∙ (λ i. AtPort (tag_in (under i) (number (same i) 0)) Zero) ∙ sym y.key)
+      (λ a m i q c within is o. main_first S known number run g numbered (contexts_apart g S.inputs count s run r) (opening_live S known g number numbered run count s r a m i q c within is o))
+      x.path_of y.path_of (main_first S known number run g numbered (contexts_apart g S.inputs count s run r) x.live) (main_first S known number run g numbered (contexts_apart g S.inputs count s run r) y.live) in
+      x.key ∙ (λ i. AtPort (tag_in (under i) (number (label P (same i)) 0)) Zero) ∙ sym y.key)
       (told_once g S.inputs count only s run r)

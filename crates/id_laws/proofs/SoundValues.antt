@@ -3,8 +3,8 @@ use Rattle.std.proofs.Common.{◌≡◌, inr, ℕ, Bool as Truth, true, false, L
 use Rattle.id_list.specs.List.{Among}
 use Rattle.id_list.proofs.AmongLemmas.{Among-map, Among-from_map}
 use Rattle.id_parts.specs.declared.row.Node.{Node}
-use Rattle.id_parts.specs.declared.row.Node.TheVariants.{Literal, Unary, Binary, If, Program, Call}
-use Rattle.id_parts.specs.Tables.{is_expression}
+use Rattle.id_parts.specs.declared.row.Node.TheVariants.{Literal, Unary, Binary, If, Program, Call, Head, LoopHead, Turn, Next, Reset, Loop}
+use Rattle.id_parts.specs.Tables.{begins_block, is_expression}
 use Rattle.id_check.specs.declared.checked.Checked.{Checked}
 use Rattle.id_check.specs.Programs.{place, region}
 use Rattle.id_graph.specs.declared.dests.Dest.{Dest}
@@ -14,7 +14,7 @@ use Rattle.id_tag.specs.declared.Tag.{Tag}
 use Rattle.id_tag.specs.declared.Value.{Value}
 use Rattle.id_tag.specs.declared.Message.{Message}
 use Rattle.id_ops.specs.declared.Fired.{Fired}
-use Rattle.id_ops.specs.declared.Fired.TheVariants.{Out, Side, Sent, Failed, Nothing, Entered}
+use Rattle.id_ops.specs.declared.Fired.TheVariants.{Out, Side, Sent, Moved, Failed, Nothing, Entered}
 use Rattle.id_core.specs.Events.{EventView, tag_of}
 use Rattle.id_record.specs.Records.{dests_at, sent_by}
 use Rattle.id_core.specs.Steps.{token_to}
@@ -33,7 +33,11 @@ use Rattle.id_runs.specs.Runs.{Reach}
 use Rattle.id_runs.proofs.Messages.{sent_from}
 use Rattle.id_laws.specs.Laws.{Carries, events, value_in}
 use Rattle.id_laws.specs.Topics.{IsPart, ValueOf, Tells, speaks_of, topic_of}
+use Rattle.id_laws.specs.Activations.{Begins, Tests, of_call, of_loop, of_arms, of_turns}
 use Rattle.id_laws.proofs.Assumed.{IsKnown}
+use Rattle.id_laws.proofs.Movers.{moved_by}
+use Rattle.id_laws.proofs.Sources.{is_mover}
+use Rattle.id_laws.proofs.Arcs.{sends_in, gives_back, varies, takes_in, moves_on, moves_name, advances, resets, gets_last}
 use Rattle.id_laws.proofs.Arcs.{Does, starts, returns, enters, constant, unary, binary, turns_on, hands, joins, names, answers, doing, place_shown, opens, passes, gets}
 use Rattle.id_laws.proofs.Tokens.{one_part}
 use Rattle.id_laws.proofs.Senders.{sent_back}
@@ -41,8 +45,10 @@ use Rattle.id_laws.proofs.Firing.{Means}
 use Rattle.id_laws.proofs.AllTell.{FiredPart, firing_tells}
 use Rattle.id_laws.proofs.StartTells.{all_tell, seats}
 use Rattle.id_laws.proofs.Observing.{stands_shown, shown_holds, handled_event}
-use Rattle.id_laws.proofs.Seats.{live_first}
 use Rattle.id_laws.proofs.TagPaths.{path_shown}
+
+true_false : true ≡ false → ⊥
+true_false h = cc
 
 -- an expression that makes an instruction speaks of its value, and shows its place
 pub record Expresses (P : Checked) (n : ℕ) : Type 0 where
@@ -65,20 +71,37 @@ expresses P n part o d e = go d
     no : {m : Node} {A : Type 0} → node P n ≡ m → is_expression m ≡ false → A
     no is f = let bad : true ≡ false = sym e ∙ ap is_expression is ∙ f in cc
 
+    no_head : (m : Node) → begins_block m ≡ true → is_expression m ≡ true → ⊥
+    no_head Head b x = true_false (sym x)
+    no_head (LoopHead t) b x = true_false (sym x)
+    no_head _ b x = true_false (sym b)
+
     go : {j : ℕ} {q : Form} → Does P n j q → Expresses P n
+    go (starts is) = absurd (no_head (node P n) is e)
+    go (returns is) = no is refl
+    go (enters is) = no is refl
     go (constant {c = c} is) = by (Literal c) is (λ b. refl) refl refl
     go (unary {o = u} {a = a} is) = by (Unary u a) is (λ b. refl) refl refl
     go (binary {o = u} {a = a} {b = b} is) = by (Binary u a b) is (λ b. refl) refl refl
+    go (turns_on (of_arms is)) = no is refl
+    go (turns_on (of_turns is)) = no is refl
+    go (hands j (of_arms is) less) = no is refl
+    go (hands j (of_turns is) less) = no is refl
     go (joins {s = s} {x = x} {y = y} is) = by (If s x y) is (λ b. refl) refl refl
-    go (turns_on is) = no is refl
-    go (hands k is less) = no is refl
-    go (starts is) = no is refl
-    go (returns is) = no is refl
-    go (enters is) = no is refl
-    go (opens is) = no is refl
+    go (opens (of_call is)) = no is refl
+    go (opens (of_loop is)) = no is refl
     go (passes is) = no is refl
     go (gets {e = s} {c = c} is) = by (Call s c) is (λ b. refl) refl refl
     go (names is) = no is refl
+    go (sends_in j q is at) = no is refl
+    go (gives_back is) = no is refl
+    go (varies is) = no is refl
+    go (takes_in j is less) = no is refl
+    go (moves_on is) = no is refl
+    go (moves_name j is less) = no is refl
+    go (advances is) = no is refl
+    go (resets is) = no is refl
+    go (gets_last {h = h} {w = w} {l = l} is) = by (Loop h w l) is (λ b. refl) refl refl
     go (answers is) = no is refl
 
 -- an expression is no `back`, no `send` and no `enter`
@@ -90,12 +113,21 @@ no_back P number (constant is) e b = cc
 no_back P number (unary is) e b = cc
 no_back P number (binary is) e b = cc
 no_back P number (turns_on is) e b = cc
-no_back P number (hands k is less) e b = cc
+no_back P number (hands j is less) e b = cc
 no_back P number (joins is) e b = cc
 no_back P number (opens is) e b = cc
 no_back P number (passes is) e b = cc
 no_back P number (gets is) e b = cc
 no_back P number (names is) e b = cc
+no_back P number (sends_in j q is at) e b = cc
+no_back P number (gives_back is) e b = let bad : true ≡ false = sym e ∙ ap is_expression is in cc
+no_back P number (varies is) e b = cc
+no_back P number (takes_in j is less) e b = cc
+no_back P number (moves_on is) e b = cc
+no_back P number (moves_name j is less) e b = cc
+no_back P number (advances is) e b = cc
+no_back P number (resets is) e b = cc
+no_back P number (gets_last is) e b = cc
 no_back P number (answers is) e b = cc
 
 no_send : (P : Checked) (number : ℕ → ℕ → ℕ) {n part : ℕ} {o : Form} {k : _} {m : ℕ} → Does P n part o → is_expression (node P n) ≡ true → op_by number o ≡ op.Send k m → ⊥
@@ -106,13 +138,33 @@ no_send P number (constant is) e b = cc
 no_send P number (unary is) e b = cc
 no_send P number (binary is) e b = cc
 no_send P number (turns_on is) e b = cc
-no_send P number (hands k is less) e b = cc
+no_send P number (hands j is less) e b = cc
 no_send P number (joins is) e b = cc
 no_send P number (opens is) e b = cc
 no_send P number (passes is) e b = let bad : true ≡ false = sym e ∙ ap is_expression is in cc
 no_send P number (gets is) e b = cc
 no_send P number (names is) e b = cc
+no_send P number (sends_in j q is at) e b = let bad : true ≡ false = sym e ∙ ap is_expression is in cc
+no_send P number (gives_back is) e b = cc
+no_send P number (varies is) e b = cc
+no_send P number (takes_in j is less) e b = cc
+no_send P number (moves_on is) e b = cc
+no_send P number (moves_name j is less) e b = cc
+no_send P number (advances is) e b = cc
+no_send P number (resets is) e b = cc
+no_send P number (gets_last is) e b = cc
 no_send P number (answers is) e b = cc
+
+-- what begins a context, and what goes to another iteration, is none
+begins_no_expression : {P : Checked} {n h q : ℕ} → Begins P n h q → is_expression (node P n) ≡ false
+begins_no_expression (of_call is) = ap is_expression is
+begins_no_expression (of_loop is) = ap is_expression is
+
+mover_no_expression : (m : Node) → is_mover m ≡ true → is_expression m ≡ false
+mover_no_expression Turn h = refl
+mover_no_expression (Next x k o v) h = refl
+mover_no_expression (Reset v) h = refl
+mover_no_expression _ h = absurd (true_false (sym h))
 
 module _ (S : Source) (known : IsKnown S.checked) (g : Parts) (number : ℕ → ℕ → ℕ) (numbered : Numbered S.checked g number) (count : ℕ) (s : World) (run : List Event) (r : Reach g S.inputs count s run) where
   abbrev P : Checked
@@ -129,7 +181,7 @@ module _ (S : Source) (known : IsKnown S.checked) (g : Parts) (number : ℕ → 
       let here : Tells S number run (activation_of t) (ValueOf n) v =
       subst (λ z. Tells S number run (activation_of t) z v) ((λ i. topic_of P (record { row = at i; part = first i; side = b })) ∙ x.topic b) told in
       let w = here.1 in
-      let path_is = path_shown S known g number numbered count s run r t w.path (live_first here.0) w.path_of in
+      let path_is = path_shown S known g number numbered count s run r t w.path here.0 w.path_of in
       record {
         value = w.value;
         brings = ap value_in says ∙ stands_shown w.stands;
@@ -148,8 +200,9 @@ module _ (S : Source) (known : IsKnown S.checked) (g : Parts) (number : ℕ → 
       let to = Among-from_map (token_to t v) m.payload (dests_at g t.instr b) out in
       brought_by n e t b v y.row y.part row x place_is means part m to.0 to.2
   carried_by n e t (Entered c) ops y row x expression place_is means part m out =
-      let bad : true ≡ false = sym expression ∙ ap (λ z. is_expression (node P z)) (sym row) ∙ ap is_expression means.node in
-      cc
+      absurd (true_false (sym expression ∙ ap (λ z. is_expression (node P z)) (sym row) ∙ begins_no_expression means.begins))
+  carried_by n e t (Moved k v) ops y row x expression place_is means part m out =
+      absurd (true_false (sym expression ∙ ap (λ z. is_expression (node P z)) (sym row) ∙ mover_no_expression (node P y.row) (moved_by P number y.does t ops y.fresh (sym y.is))))
   carried_by n e t (Sent u v) ops y row x expression place_is means part m out =
       elim (sent_back (op_by number y.form) t ops y.fresh u v (sym y.is)) [
         | inl b ↦ absurd (no_back P number y.does (ap (λ z. is_expression (node P z)) row ∙ expression) b.back)

@@ -3,14 +3,14 @@ use Rattle.std.proofs.Common.{◌≡◌, ℕ, ◌<◌, true, false, Some, length
 use Rattle.id_list.specs.List.{Among}
 use Rattle.id_parts.specs.declared.row.Region.{Region}
 use Rattle.id_parts.specs.declared.row.Node.{Node}
-use Rattle.id_parts.specs.declared.row.Node.TheVariants.{Param, Literal, Name, Unary, Binary, If, Block, Binding, Call}
+use Rattle.id_parts.specs.declared.row.Node.TheVariants.{Param, Literal, Name, Unary, Binary, If, Block, Binding, Call, Next, Loop}
 use Rattle.id_parts.specs.Tables.{is_binder, is_block, is_expression}
 use Rattle.id_check.specs.declared.checked.Checked.{Checked}
 use Rattle.id_check.specs.Programs as checked
 use Rattle.id_check.specs.Programs.{Stands, place, region, rows}
 use Rattle.id_graph.specs.declared.dests.Port.{Port}
 use Rattle.id_build.specs.declared.arc.Origin.{Origin}
-use Rattle.id_build.specs.Rows.{node, name_in, named_in, origin, origin_of, output, feed, feeds_of}
+use Rattle.id_build.specs.Rows.{block, label, label_by, node, name_in, named_in, origin, origin_of, output, feed, feeds_of}
 use Rattle.id_build.specs.Schemas.{Feeds}
 use Rattle.id_laws.specs.Carried.{speaker, speaker_of}
 use Rattle.id_laws.proofs.Assumed.{IsKnown}
@@ -40,6 +40,7 @@ module _ (P : Checked) (known : IsKnown P) where
   pub expression_speaks : (n : ℕ) (m : Node) → node P n ≡ m → is_expression m ≡ true → speaker P n ≡ origin P n
   expression_speaks n (Param x k) is h = absurd (true_false (sym h))
   expression_speaks n (Binding x a) is h = absurd (true_false (sym h))
+  expression_speaks n (Next x k o v) is h = absurd (true_false (sym h))
   expression_speaks n m is h = by m is h
     where
       by : (m : Node) → node P n ≡ m → is_expression m ≡ true → speaker P n ≡ origin P n
@@ -50,11 +51,13 @@ module _ (P : Checked) (known : IsKnown P) where
       by (If s x y) is h = ap (speaker_of P n) is
       by (Call s c) is h = ap (speaker_of P n) is
       by (Block b) is h = ap (speaker_of P n) is
+      by (Loop g w l) is h = ap (speaker_of P n) is
       by _ is h = absurd (true_false (sym h))
 
-  pub binder_speaks : (n : ℕ) (m : Node) → node P n ≡ m → is_binder m ≡ true → speaker P n ≡ output n
-  binder_speaks n (Param x k) is h = ap (speaker_of P n) is
-  binder_speaks n (Binding x a) is h = ap (speaker_of P n) is
+  pub binder_speaks : (n : ℕ) (m : Node) → node P n ≡ m → is_binder m ≡ true → speaker P n ≡ output (label P n)
+  binder_speaks n (Param x k) is h = ap (speaker_of P n) is ∙ ap output (sym (ap (label_by (block P n) n) is))
+  binder_speaks n (Binding x a) is h = ap (speaker_of P n) is ∙ ap output (sym (ap (label_by (block P n) n) is))
+  binder_speaks n (Next x k o v) is h = ap (speaker_of P n) is
   binder_speaks n _ is h = absurd (true_false (sym h))
 
   pub fed_as : (t : Origin) (n part : ℕ) (p : Port) (m : Node) → n < length (rows P) → node P n ≡ m

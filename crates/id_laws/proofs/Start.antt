@@ -1,5 +1,5 @@
 -- What is there at the start: a signal and the way back for main's block, and an input for each of its parameters.
-use Rattle.std.proofs.Common.{◌≡◌, inl, inr, ℕ, zero, suc, ◌≤◌, ◌<◌, ◌==◌, true, Option, Some, List, [], ◌∷◌, length, map, slice_get, refl, sym, ◌∙◌, ap}
+use Rattle.std.proofs.Common.{◌≡◌, inl, inr, ℕ, zero, suc, ◌≤◌, ◌<◌, ◌==◌, true, false, Option, Some, List, [], ◌∷◌, length, map, slice_get, refl, sym, ◌∙◌, ap}
 use Rattle.std.proofs.Common.{subst, arith}
 use Rattle.std.specs.Prelude.{filter}
 use Rattle.std.proofs.lemmas.Bool.{eqb-true, eq-eqb}
@@ -7,9 +7,9 @@ use Rattle.id_value.specs.declared.Kind.{Kind}
 use Rattle.id_list.specs.List.{Among, AllDiffer}
 use Rattle.id_list.proofs.AmongLemmas.{Among-from_at}
 use Rattle.id_parts.specs.declared.row.Node.{Node}
-use Rattle.id_parts.specs.declared.row.Node.TheVariants.{Head, Param, Def}
-use Rattle.id_parts.specs.Tables.{is_thing}
-use Rattle.id_parts.specs.Turns.{heads_of, params_at}
+use Rattle.id_parts.specs.declared.row.Node.TheVariants.{Head, Param, Def, LoopHead, Loop}
+use Rattle.id_parts.specs.Tables.{begins_block, is_thing}
+use Rattle.id_parts.specs.Turns.{IsTable, IsDefOf, params_at}
 use Rattle.id_check.specs.declared.checked.Checked.{Checked}
 use Rattle.id_check.specs.Programs.{place, rows}
 use Rattle.id_graph.specs.declared.dests.Port.{Port}
@@ -25,8 +25,9 @@ use Rattle.id_valid.specs.Roles.{has_main_place, same_place}
 use Rattle.id_core.specs.Machines.{token_value, input_messages, block_messages}
 use Rattle.id_meaning.specs.declared.SourceValue.{SourceValue}
 use Rattle.id_meaning.specs.Sources.{Source}
-use Rattle.id_build.specs.Rows.{node, answer_row}
-use Rattle.id_build.specs.Schemas.{Numbered, block_of}
+use Rattle.id_build.specs.Rows.{Entry, node, answer_row, entries, entries_by, param_entry}
+use Rattle.id_graph.specs.declared.instr.Block.{Block}
+use Rattle.id_build.specs.Schemas.{Numbered, all_heads, block_of}
 use Rattle.id_runs.specs.Activations.{main_activation, tag_in}
 use Rattle.id_runs.specs.Keys.{Key, AtPort, key_of}
 use Rattle.id_runs.specs.Runs.{starting}
@@ -37,7 +38,8 @@ use Rattle.id_laws.specs.Topics.{IsPart}
 use Rattle.id_laws.specs.Ways.{StartsAt, signal, way_back, input}
 use Rattle.id_laws.proofs.Arcs.{starts, returns, enters, answers, makes, part_of, place_shown}
 use Rattle.id_laws.proofs.Assumed.{IsKnown}
-use Rattle.id_laws.proofs.Blocks.{a_head, head_listed, heads_differ, params_differ, a_param, one_passes}
+use Rattle.id_laws.proofs.Blocks.{all_differ, all_listed, any_head, params_differ, a_param, one_passes}
+use Rattle.id_laws.proofs.LoopRows.{head_place as loop_place}
 use Rattle.id_laws.proofs.Tokens.{one_part}
 
 -- a definition is a thing
@@ -52,6 +54,12 @@ same_places o o' i j e e' = (λ n. same_place (e n) (e' n))
 
 some_is : {A : Type 0} {x y : A} → Some x ≡ Some y → x ≡ y
 some_is h = cc
+
+loop_no_def : {h w l x i b : ℕ} {k : Kind} → Loop h w l ≡ Def x i k b → ⊥
+loop_no_def h = cc
+
+true_false : true ≡ false → ⊥
+true_false h = cc
 
 head_no_param : {x : ℕ} {k : Kind} → Head ≡ Param x k → ⊥
 head_no_param h = cc
@@ -78,31 +86,64 @@ module _ (S : Source) (g : Parts) (number : ℕ → ℕ → ℕ) (numbered : Num
   answer_within : answer_row P < length (rows P)
   answer_within = let t = known.table in omega (arith, t.some)
 
-  -- two heads with the place of one definition are one
-  head_at : (h : ℕ) → h < length (rows P) → node P h ≡ Head → place P h ≡ place P P.main → h ≡ main
-  head_at h within is same =
-      let t = known.table in
-      let d = t.has_def h within is in
-      let e = d.1 in
-      let m = known.main in
-      let one : d.0 ≡ P.main = (known.apart).apart d.0 P.main e.within m.within (def_thing e.node) (def_thing m.node) (sym (known.head_place d.0 h e) ∙ same) in
-      one_head (sym e.node ∙ ap (node P) one ∙ m.node)
+  -- the head of a block that has the place of main's definition is main's: a loop's has that of its loop
+  head_at : (h : ℕ) → h < length (rows P) → begins_block (node P h) ≡ true → place P h ≡ place P P.main → h ≡ main
+  head_at h within begins same = by (node P h) refl begins
+    where
+      t : IsTable (rows P)
+      t = known.table
+
+      m : IsDefOf (rows P) P.main main
+      m = known.main
+
+      by : (n : Node) → node P h ≡ n → begins_block n ≡ true → h ≡ main
+      by Head is b =
+          let d = t.has_def h within is in
+          let e = d.1 in
+          let one : d.0 ≡ P.main = (known.apart).apart d.0 P.main e.within m.within (def_thing e.node) (def_thing m.node) (sym (known.head_place d.0 h e) ∙ same) in
+          one_head (sym e.node ∙ ap (node P) one ∙ m.node)
+      by (LoopHead s) is b =
+          let l = loop_place P h s within is in
+          let c = l.loop in
+          let one : l.row ≡ P.main = (known.apart).apart l.row P.main c.within m.within (ap is_thing c.node) (def_thing m.node) (sym l.place ∙ same) in
+          absurd (loop_no_def (sym c.node ∙ ap (node P) one ∙ m.node))
+      by _ is b = absurd (true_false (sym b))
+
+  head_shows : (e : ℕ) (n : Node) → begins_block n ≡ true → place_shown P e n ≡ e
+  head_shows e Head b = refl
+  head_shows e (LoopHead s) b = refl
+  head_shows e _ b = absurd (true_false (sym b))
 
   -- a head's place and the answer's
-  main_test : (h : ℕ) → h < length (rows P) → node P h ≡ Head → has_main_place g (block_of P number h) ≡ (place P h == place P P.main)
-  main_test h within is =
-      let m = numbered.made h 0 _ _ (makes within (starts is)) in
+  main_test : (h : ℕ) → h < length (rows P) → begins_block (node P h) ≡ true → has_main_place g (block_of P number h) ≡ (place P h == place P P.main)
+  main_test h within begins =
+      let m = numbered.made h 0 _ _ (makes within (starts begins)) in
       let z = numbered.made (answer_row P) 0 _ _ (makes answer_within (answers (known.table).ends)) in
       same_places _ _ m.instr z.instr m.at (ap (slice_get g.instrs) (sym numbered.answer_first) ∙ z.at)
       ∙ (λ i. m.place i == z.place i)
-      ∙ (λ i. place_shown P (place P h) (is i) == place_shown P (place P (answer_row P)) ((known.table).ends i))
+      ∙ (λ i. head_shows (place P h) (node P h) begins i == place_shown P (place P (answer_row P)) ((known.table).ends i))
 
-  pub main_block : filter (has_main_place g) g.blocks ≡ block_of P number main ∷ []
+  -- the first instructions of its entries are the labels of main's parameters
+  param_entries : (bs : List ℕ) → map (λ (q : Entry). number q.row q.part) (map param_entry bs) ≡ map (λ b. number b 0) bs
+  param_entries [] = refl
+  param_entries (b ∷ bs) = ap (λ ns. number b 0 ∷ ns) (param_entries bs)
+
+  pub main_entries : map (λ (q : Entry). number q.row q.part) (entries P main) ≡ map (λ b. number b 0) (params_at (rows P) main)
+  main_entries = ap (λ m. map (λ (q : Entry). number q.row q.part) (entries_by P main m)) main_is_head ∙ param_entries (params_at (rows P) main)
+
+  abbrev pub the_block : Block
+  the_block = record { first = number main 0; entries = map (λ b. number b 0) (params_at (rows P) main) }
+
+  main_begins : begins_block (node P main) ≡ true
+  main_begins = ap begins_block main_is_head
+
+  pub main_block : filter (has_main_place g) g.blocks ≡ the_block ∷ []
   main_block =
       ap (filter (has_main_place g)) numbered.blocks
-      ∙ one_passes (has_main_place g) (block_of P number) (heads_of (rows P)) main (heads_differ (rows P) (length (rows P))) (head_listed (rows P) (length (rows P)) main main_within main_is_head)
-      (main_test main main_within main_is_head ∙ eq-eqb (place P main) (place P P.main) (known.head_place P.main main known.main))
-      (λ h among e. let z = a_head (rows P) (length (rows P)) h among in head_at h z.0 z.1 (eqb-true (place P h) (place P P.main) (sym (main_test h z.0 z.1) ∙ e)))
+      ∙ one_passes (has_main_place g) (block_of P number) (all_heads P) main (all_differ P) (all_listed P main main_within main_begins)
+      (main_test main main_within main_begins ∙ eq-eqb (place P main) (place P P.main) (known.head_place P.main main known.main))
+      (λ h among e. let z = any_head P h among in head_at h z.0 z.1 (eqb-true (place P h) (place P P.main) (sym (main_test h z.0 z.1) ∙ e)))
+      ∙ ap (λ es. record { first = number main 0; entries = es } ∷ []) main_entries
 
   -- the tokens that bring inputs to the labels of parameters, in order
   abbrev pub inputs_to : List ℕ → List SourceValue → List Payload
@@ -161,7 +202,7 @@ module _ (S : Source) (g : Parts) (number : ℕ → ℕ → ℕ) (numbered : Num
   pub started : (x : Payload) → Among x (starting g S.inputs) → Started x
   started x h =
       elim (subst (Among x) starting_is h) [
-        | inl is ↦ record { row = main; part = 0; port = Zero; value = Signal; starts_at = signal; is_part = part_of main_within (starts main_is_head); is = is }
+        | inl is ↦ record { row = main; part = 0; port = Zero; value = Signal; starts_at = signal; is_part = part_of main_within (starts (ap begins_block main_is_head)); is = is }
         | inr more ↦ elim more [
           | inl is ↦ record { row = main; part = 1; port = Zero; value = _; starts_at = way_back; is_part = part_of main_within (returns main_is_head); is = is }
           | inr rest ↦
@@ -232,6 +273,6 @@ module _ (S : Source) (g : Parts) (number : ℕ → ℕ → ℕ) (numbered : Num
       (λ y h same. no_input 1 (part_of main_within (returns main_is_head)) way_back_to y _ refl h same))
       (λ y h same.
       elim h [
-        | inl is ↦ zero_one (one_part numbered (part_of main_within (starts main_is_head)) (part_of main_within (returns main_is_head)) (number_of_key refl (ap key_of is) same)).1
-        | inr more ↦ no_input 0 (part_of main_within (starts main_is_head)) signal_to y _ refl more same
+        | inl is ↦ zero_one (one_part numbered (part_of main_within (starts (ap begins_block main_is_head))) (part_of main_within (returns main_is_head)) (number_of_key refl (ap key_of is) same)).1
+        | inr more ↦ no_input 0 (part_of main_within (starts (ap begins_block main_is_head))) signal_to y _ refl more same
       ]))

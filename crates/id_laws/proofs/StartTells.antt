@@ -26,13 +26,14 @@ use Rattle.id_build.specs.Schemas.{Numbered}
 use Rattle.id_runs.specs.Activations.{main_activation, tag_in, Activation}
 use Rattle.id_runs.specs.Events.{Event}
 use Rattle.id_runs.specs.Runs.{Reach, starting}
-use Rattle.id_laws.specs.Activations.{main_head, Live, at_start, to_answer, Opens}
+use Rattle.id_laws.specs.Activations.{Begins, main_head, Live, at_start, to_answer, Opens}
 use Rattle.id_laws.specs.Topics.{StandsFor, number_stands, truth_stands, Tells, Told, AllTell, AllSpeak, topic_at, wants}
 use Rattle.id_laws.specs.Ways.{StartsAt, signal, way_back, input}
 use Rattle.id_laws.proofs.Assumed.{IsKnown}
 use Rattle.id_laws.proofs.Blocks.{a_param}
 use Rattle.id_laws.proofs.Start.{main_is_head, started}
-use Rattle.id_laws.proofs.Seats.{OneSeat, main_path, one_seat}
+use Rattle.id_laws.proofs.Opened.{one_seats}
+use Rattle.id_laws.proofs.Seats.{OneSeat, main_path}
 use Rattle.id_runs.proofs.Serials.{contexts_apart}
 use Rattle.id_laws.proofs.TurnedOn.{holds_by}
 use Rattle.id_laws.proofs.AllTell as tell
@@ -95,16 +96,16 @@ module _ (S : Source) (known : IsKnown S.checked) (g : Parts) (number : ℕ → 
   module _ (count : ℕ) (s : World) (r : Reach g S.inputs count s run) where
     -- each context has one seat
     pub seats : OneSeat S number run
-    seats = one_seat S known g number numbered run (contexts_apart g S.inputs count s run r)
+    seats = one_seats S known number run g numbered (contexts_apart g S.inputs count s run r)
 
     -- every message of a run tells what its port wants
     pub all_tell : AllTell S number run s
     all_tell = tell.all_tell S known g number numbered run seats start_tells count s r
 
-    -- an `Enter` that has made a context stands in a live region
-    pub opening_live : (a : Activation) (n x : ℕ) (c : Context) → n < length (rows P) → node P n ≡ Enter x → Opens S number run a n c
+    -- a row that has made a context stands in a live region
+    pub opening_live : (a : Activation) (n h q : ℕ) (c : Context) → n < length (rows P) → Begins P n h q → Opens S number run a n c
         → Live S number run a (region P n)
-    opening_live a n x c within is o =
+    opening_live a n h q c within is o =
         let m = tell.firing_tells S known g number numbered run seats run r (λ z h. all_tell z (inr h)) o in
         let one = one_part numbered (m.0).is_part (part_of within (opens is)) (ap (λ (t : Tag). t.instr) (m.0).at) in
         subst (λ k. Live S number run a (region P k)) one.0 (m.1).live

@@ -1,8 +1,13 @@
 -- The path of a tag, by the events of a run, is that of its activation.
 use Rattle.std.proofs.Common.{◌≡◌, inl, inr, ℕ, suc, ◌≤◌, ◌<◌, Bool as Truth, true, false, cond, Option, Some, List, [], ◌∷◌, ◌++◌, length}
-use Rattle.std.proofs.Common.{refl, sym, ◌∙◌, ap, subst, arith}
+use Rattle.std.proofs.Common.{◌+◌, ◌-◌, refl, sym, ◌∙◌, ap, subst, arith}
+use Rattle.std.proofs.lemmas.Bool.{eq-eqb}
 use Rattle.id_list.specs.List.{Among, AllDiffer}
-use Rattle.id_parts.specs.declared.row.Node.TheVariants.{Enter}
+use Rattle.id_parts.specs.declared.row.Region.{Region}
+use Rattle.id_parts.specs.declared.row.Node.TheVariants.{Enter, Start}
+use Rattle.std.specs.Prelude.{option_map}
+use Rattle.id_graph.specs.declared.instr.Instr.{Instr}
+use Rattle.id_graph.specs.declared.instr.Op.TheVariants.{Enter as EnterOp}
 use Rattle.id_check.specs.declared.checked.Checked.{Checked}
 use Rattle.id_check.specs.Programs.{place, rows}
 use Rattle.id_graph.specs.Graph.{Parts}
@@ -23,11 +28,15 @@ use Rattle.id_runs.specs.Events.{Event}
 use Rattle.id_runs.specs.Runs.{Reach}
 use Rattle.id_runs.proofs.Entered.{WasEntered, entered_under, few_entered, main_unentered}
 use Rattle.id_laws.specs.Laws.{events}
-use Rattle.id_laws.specs.Activations.{Seat, Outermost, Below, path_at, Opens, SeatOf, main_seat, made_seat, PathOf}
+use Rattle.id_laws.specs.Activations.{Seat, Outermost, Below, path_at, Begins, of_call, of_loop, Opens, SeatOf, main_seat, made_seat, Live, PathOf}
 use Rattle.id_laws.proofs.Assumed.{IsKnown}
-use Rattle.id_laws.proofs.Arcs.{opens, part_of, place_shown}
+use Rattle.id_laws.proofs.Loops.{loop_of_start, start_place}
+use Rattle.id_parts.specs.Tables.{begins_block}
+use Rattle.id_laws.proofs.Arcs.{opens, makes, part_of, place_shown, starts}
 use Rattle.id_laws.proofs.Observing.{part_place}
-use Rattle.id_laws.proofs.Seats.{length_snoc, live_first}
+use Rattle.id_laws.proofs.Seats.{length_snoc}
+use Rattle.id_laws.proofs.Opened.{call_first}
+use Rattle.id_runs.proofs.Serials.{contexts_apart}
 use Rattle.id_laws.proofs.StartTells.{opening_live, seats}
 
 -- how many steps lead to a seat
@@ -44,6 +53,11 @@ first_number : (b : Truth) (k : ℕ) → k ≡ 0 → cond b k 0 ≡ k
 first_number true k z = refl
 first_number false k z = sym z
 
+-- what begins a context shows its place
+begins_shows : (P : Checked) (e : ℕ) {n h q : ℕ} → Begins P n h q → place_shown P e (node P n) ≡ e
+begins_shows P e (of_call is) = ap (place_shown P e) is
+begins_shows P e (of_loop is) = ap (place_shown P e) is
+
 module _ (S : Source) (known : IsKnown S.checked) (g : Parts) (number : ℕ → ℕ → ℕ) (numbered : Numbered S.checked g number) (count : ℕ)
     (s : World) (run : List Event) (r : Reach g S.inputs count s run) where
   abbrev P : Checked
@@ -52,30 +66,51 @@ module _ (S : Source) (known : IsKnown S.checked) (g : Parts) (number : ℕ → 
   abbrev entries : Context → Option Tag
   entries = enter_in g (events s)
 
-  -- an `Enter` has made its contexts at iteration 0
-  pub opening_first : (a : Activation) (n x : ℕ) (c : Context) → n < length (rows P) → node P n ≡ Enter x → Opens S number run a n c
-      → a.iteration ≡ 0
-  opening_first a n x c within is o = live_first (opening_live S known g number numbered run count s r a n x c within is o)
+  -- the context is live at iteration 0 alone, if a call has made it
+  abbrev CallFirst : Context → ℕ → Type 0
+  CallFirst c k = (b : Activation) (n x : ℕ) → n < length (rows P) → node P n ≡ Enter x → Opens S number run b n c → k ≡ 0
 
-  -- the step of an `Enter` is at its place
-  step_is : {n x : ℕ} (k : ℕ) → n < length (rows P) → node P n ≡ Enter x → k ≡ 0
+  pub first_of : {a : Activation} {q : Region} → Live S number run a q → CallFirst a.context a.iteration
+  first_of live b n x within is o = call_first S known number run g numbered (contexts_apart g S.inputs count s run r) live within is o
+
+  -- the place of what begins a context, and of its block's head
+  begun_place : {n h q : ℕ} → n < length (rows P) → Begins P n h q → shown.place_of g (number n 0) ≡ place P n
+  begun_place within is = part_place numbered (part_of within (opens is)) ∙ begins_shows P (place P _) is
+
+  op_is : {n h q : ℕ} → n < length (rows P) → Begins P n h q → op_at g (number n 0) ≡ Some (EnterOp (number h 0) (number q 0))
+  op_is {n} within is = let m = numbered.made n 0 _ _ (makes within (opens is)) in ap (option_map (λ (i : Instr). i.op)) m.at ∙ ap (λ z. Some z) m.op
+
+  -- the step of what begins a context is at its place
+  step_is : {a : Activation} {n h q : ℕ} {c : Context} (k : ℕ) → n < length (rows P) → Begins P n h q → Opens S number run a n c → CallFirst c k
       → step_of g (number n 0) k ≡ record { place = place P n; number = k }
-  step_is {n} k within is first =
+  step_is {a} {n} k within (of_call {x = x} is) o first =
       let m = number n 0 in
-      let here : shown.place_of g m ≡ place P n = part_place numbered (part_of within (opens is)) ∙ ap (place_shown P (place P n)) is in
-      (λ i. record { place = here i; number = first_number (enters_loop g (shown.place_of g m) (op_at g m)) k first i })
+      let here = begun_place within (of_call is) in
+      (λ i. record { place = here i; number = first_number (enters_loop g (shown.place_of g m) (op_at g m)) k (first a n x within is o) i })
+  step_is {a} {n} k within (of_loop is) o first =
+      let m = number n 0 in
+      let h = n + 1 in
+      let l = loop_of_start known within is in
+      let here = begun_place within (of_loop is) in
+      let back : h - 1 ≡ n = omega arith in
+      let stands : place P h ≡ place P n = ((l.all).place).head ∙ sym (start_place P known h l) ∙ ap (place P) back in
+      let head : shown.place_of g (number h 0) ≡ place P n =
+      part_place numbered (part_of l.within (starts (ap begins_block l.head))) ∙ ap (place_shown P (place P h)) l.head ∙ stands in
+      let loop : enters_loop g (shown.place_of g m) (op_at g m) ≡ true =
+      (λ i. enters_loop g (shown.place_of g m) (op_is within (of_loop is) i)) ∙ eq-eqb (shown.place_of g (number h 0)) (shown.place_of g m) (head ∙ sym here) in
+      (λ i. record { place = here i; number = cond (loop i) k 0 })
 
   -- the steps of a seat lead to the tags of its context
-  leads : {c : Context} {q : Seat} → SeatOf S number run c q → (t : Tag) → t.context ≡ c → t.iteration ≡ 0
+  leads : {c : Context} {q : Seat} → SeatOf S number run c q → (t : Tag) → t.context ≡ c → CallFirst c t.iteration
       → Leads g entries t (depth q) (path_at q t.iteration).steps
   leads main_seat t is first = under_main t (ap entries is ∙ main_unentered g S.inputs count s run r)
   leads {c} (made_seat {a = a} {n = n} {s = u} within enter o seat) t is first =
       let up = tag_in a (number n 0) in
-      let first_up = opening_first a n _ c within enter o in
+      let live = opening_live S known g number numbered run count s r a n _ _ c within enter o in
       let p = (path_at u a.iteration).steps in
-      let longer = under_enter t up (depth u) p (ap entries is ∙ entered_under g S.inputs count s run r o) (leads seat up refl first_up) in
+      let longer = under_enter t up (depth u) p (ap entries is ∙ entered_under g S.inputs count s run r o) (leads seat up refl (first_of live)) in
       subst (λ (z : ℕ × List PathStep). Leads g entries t z.0 z.1)
-      (λ i. (suc (sym (depth_is u a.iteration) i), p ++ step_is t.iteration within enter first i ∷ [])) longer
+      (λ i. (suc (sym (depth_is u a.iteration) i), p ++ step_is t.iteration within enter o first i ∷ [])) longer
 
   -- a context that was entered, at a seat with no more steps
   record Passed (most : ℕ) (o : Option Context) : Type 0 where
@@ -108,7 +143,7 @@ module _ (S : Source) (known : IsKnown S.checked) (g : Parts) (number : ℕ → 
               let x = below.each (Some c) h in
               let e = x.entered in
               let one =
-              seats S known g number numbered run count s r c x.seat q (subst (λ z. SeatOf S number run z x.seat) (sym (some_is e.is)) x.of_context) here in
+              (seats S known g number numbered run count s r).one c x.seat q (subst (λ z. SeatOf S number run z x.seat) (sym (some_is e.is)) x.of_context) here in
               omega (arith, x.low, ap depth one, deep),
           below.differ,
         );
@@ -125,6 +160,6 @@ module _ (S : Source) (known : IsKnown S.checked) (g : Parts) (number : ℕ → 
       subst (λ n. n ≤ length (events s)) y.long (few_entered g S.inputs count s run r y.contexts y.differ (λ o h. (y.each o h).entered))
 
   -- the path of a tag is that of its activation
-  pub path_shown : (t : Tag) (p : Path) → t.iteration ≡ 0 → PathOf S number run (activation_of t) p → shown.path_in g s.elements t ≡ p
-  path_shown t p first h =
-      path_of-leads g (events s) t (depth h.seat) (path_at h.seat t.iteration).steps (leads h.of_context t refl first) (few h.of_context) ∙ sym h.is
+  pub path_shown : (t : Tag) (p : Path) {q : Region} → Live S number run (activation_of t) q → PathOf S number run (activation_of t) p → shown.path_in g s.elements t ≡ p
+  path_shown t p live h =
+      path_of-leads g (events s) t (depth h.seat) (path_at h.seat t.iteration).steps (leads h.of_context t refl (first_of live)) (few h.of_context) ∙ sym h.is

@@ -7,10 +7,11 @@ use Rattle.std.proofs.lemmas.Bool.Decides.{nat_tests}
 use Rattle.id_parts.specs.declared.row.Region.{Region}
 use Rattle.id_parts.specs.declared.row.Node.{Node}
 use Rattle.id_parts.specs.declared.row.Node.TheVariants.{Head, Param, Literal, Name, Unary, Binary, Split, If, Enter, Arg, Call, Block}
-use Rattle.id_parts.specs.declared.row.Node.TheVariants.{Binding, Def, Program}
+use Rattle.id_parts.specs.declared.row.Node.TheVariants.{Binding, Def, Program, Switches, Body, Next, Loop, LoopHead}
 use Rattle.id_parts.specs.Rows.{arm_at, at, top}
-use Rattle.id_parts.specs.Tables.{is_block, is_expression}
+use Rattle.id_parts.specs.Tables.{is_expression, is_top}
 use Rattle.id_parts.specs.Turns.{IsDefOf, operand, left, right, test, argument, body, statement, Root, of_procedure, of_then, of_otherwise, TurnedIn, root, part}
+use Rattle.id_parts.specs.Turns.{of_test, of_statement, of_next, of_last}
 use Rattle.id_check.specs.declared.checked.Checked.{Checked}
 use Rattle.id_check.specs.Programs.{Stands, place, region, rows}
 use Rattle.id_desugar.specs.Ends.{end_of}
@@ -25,10 +26,17 @@ use Rattle.id_meaning.specs.Rounds.{Every, Rounds, Holds}
 use Rattle.id_build.specs.Rows.{node}
 use Rattle.id_runs.specs.Activations.{Activation}
 use Rattle.id_runs.specs.Events.{Event}
-use Rattle.id_laws.specs.Activations.{PathOf, Goes, by_test, of_arms, Live, at_start, on_side, entered}
+use Rattle.id_laws.specs.Activations.{Tests, PathOf, Goes, by_test, of_arms, of_turns, of_call, of_loop, Live, at_start, on_side, entered, again}
 use Rattle.id_laws.proofs.Assumed.{IsKnown}
+use Rattle.id_laws.proofs.Loops.{LoopOf, body_at, loop_by, loop_of_row, loop_of_start, loop_stands, next_at, same_loop, start_place, start_region, switches_node, test_row}
+use Rattle.id_laws.proofs.Opened.{InLoop, live_loop, loop_path, next_path}
+use Rattle.id_laws.proofs.Regions.{region_of}
+use Rattle.id_build.specs.Rows.{block}
+use Rattle.id_parts.specs.Loops.{IsLoopOf}
+use Rattle.id_parts.specs.Turns.{IsStatement}
+use Rattle.id_meaning.specs.Facts.{BodyBinds, NextStands, loop_test_on, turn_on, loop_statement_on, next_on, last_on}
 use Rattle.id_laws.proofs.Calls.{call_at, callee_stands}
-use Rattle.id_laws.proofs.Conditionals.{arm_of, chosen, conditional}
+use Rattle.id_laws.proofs.Conditionals.{arm_of, chosen, conditional, one_test}
 use Rattle.id_laws.proofs.Seats.{OneSeat, one_path, main_path_is, live_path, entered_path}
 
 -- ---- rules
@@ -77,23 +85,6 @@ without_none p = ap (λ ss. record { steps = ss }) (take_all (length p.steps - 0
 before : (m n i : ℕ) → (nat_le m i && nat_lt i n) ≡ true → i < n
 before m n i e = grind (arith, nat_tests)
 
-is_a_block : (n : Node) → is_block n ≡ true → (b : ℕ) × (n ≡ Block b)
-is_a_block (Block b) e = (b, refl)
-is_a_block Head e = cc
-is_a_block (Param x k) e = cc
-is_a_block (Literal v) e = cc
-is_a_block (Name x) e = cc
-is_a_block (Unary o a) e = cc
-is_a_block (Binary o a b) e = cc
-is_a_block (Split t) e = cc
-is_a_block (If s x y) e = cc
-is_a_block (Enter x) e = cc
-is_a_block (Arg h k v) e = cc
-is_a_block (Call h c) e = cc
-is_a_block (Binding x a) e = cc
-is_a_block (Def x h k b) e = cc
-is_a_block Program e = cc
-
 module _ (S : Source) (known : IsKnown S.checked) where
   abbrev P : Checked
   P = S.checked
@@ -111,10 +102,9 @@ module _ (S : Source) (known : IsKnown S.checked) where
   turned_by roots (part {n = n} t within (argument o less arg)) =
       holds_by S _ _ (argument_on (record { within = within; node = o }) (record { within = less; node = arg })) (turned_by roots t, tt)
   turned_by roots (part {n = n} t within (body o)) = holds_by S _ _ (body_on (record { within = within; node = o })) (turned_by roots t, tt)
-  turned_by roots (part {n = n} t within (statement {m = m} st o)) =
-      let block = is_a_block (node P n) st.block in
+  turned_by roots (part {n = n} t within (statement {m = m} is st o)) =
       let inside = before (at (rows P) n).first n m st.inside in
-      holds_by S _ _ (statement_on (record { within = within; node = block.1 }) st (record { within = omega arith; node = o })) (turned_by roots t, tt)
+      holds_by S _ _ (statement_on (record { within = within; node = is }) st (record { within = omega arith; node = o })) (turned_by roots t, tt)
 
   head_of_def : {d h : ℕ} → IsDefOf (rows P) d h → node P h ≡ Head
   head_of_def {d} {h} x = ((known.table).head_is d x.name h x.body x.result x.within x.node).0
@@ -122,6 +112,9 @@ module _ (S : Source) (known : IsKnown S.checked) where
   -- the switches of a conditional are no head
   no_arm : {n s x y h : ℕ} → n < length (rows P) → node P n ≡ If s x y → node P h ≡ Head → s ≡ h → ⊥
   no_arm within def head e = let c = conditional known within def in let bad : Split c.test ≡ Head = sym c.node ∙ ap (node P) e ∙ head in cc
+
+  no_switches : {m : Node} {t : ℕ} → m ≡ Head → m ≡ Switches t → ⊥
+  no_switches {t = t} h k = let bad : Head ≡ Switches t = sym h ∙ k in cc
 
   -- the region of a procedure's body has the body alone as its root
   procedure_roots : {d h : ℕ} (x : IsDefOf (rows P) d h) {p : Path} → Holds S (On p (place P x.body)) → {r : Region} {e : ℕ} → r ≡ top h
@@ -134,6 +127,21 @@ module _ (S : Source) (known : IsKnown S.checked) where
       subst (λ z. Holds S (On p (place P z))) (sym body_is) on
   procedure_roots {d} {h} x on is (of_then {s = s} within def) = absurd (no_arm within def (head_of_def x) (ap (λ (r : Region). r.head) is))
   procedure_roots {d} {h} x on is (of_otherwise {s = s} within def) = absurd (no_arm within def (head_of_def x) (ap (λ (r : Region). r.head) is))
+  procedure_roots {d} {h} x on is (of_test {w = w} {t = t} within def) =
+      let l = loop_of_row known (Switches t) within def refl in
+      let at = ap (λ (r : Region). node P r.head) (sym is ∙ (known.table).at_top w within (ap is_top def)) in
+      let bad : Head ≡ LoopHead (block P w - 1) = sym (head_of_def x) ∙ at ∙ l.head in
+      cc
+  procedure_roots {d} {h} x on is (of_statement {n = n} within def st o) =
+      let l = loop_of_row known Body within def refl in
+      absurd (no_switches (head_of_def x) (ap (λ (r : Region). node P r.head) (sym is ∙ body_at known within def l) ∙ switches_node P known (block P n) l))
+  procedure_roots {d} {h} x on is (of_next {m = m} {x = y} {k = k} {o = o} {a = a} within def) =
+      let l = loop_of_row known (Next y k o a) within def refl in
+      absurd (no_switches (head_of_def x) (ap (λ (r : Region). node P r.head) (sym is ∙ (next_at known within def l).region) ∙ switches_node P known (block P m) l))
+  procedure_roots {d} {h} x on is (of_last {n = n} {h = g} {w = w} {l = e} within def) =
+      let c = loop_by known (record { switches = w; last = e; within = within; node = def }) in
+      let w_is = (same_loop known (record { switches = w; last = e; within = within; node = def }) c).switches in
+      absurd (no_switches (head_of_def x) (ap (λ (r : Region). node P r.head) (sym is) ∙ ap (node P) w_is ∙ switches_node P known g c))
 
   by_arm : {p : Path} {m t : ℕ} {b : Truth} → node P m ≡ Split t → Holds S (Has p (place P t) (source.Bool b))
       → ((n : ℕ) → n < length (rows P) → is_expression (node P n) ≡ true → region P n ≡ region P m → Holds S (On p (place P n)))
@@ -148,6 +156,109 @@ module _ (S : Source) (known : IsKnown S.checked) where
       holds_by S _ _ (arm_on (chosen c (record { within = within; node = def }) (record { within = z.within; node = z.node })))
       (on n within (ap is_expression def) (sym z.region ∙ ap (region P) head), (has', tt))
 
+  no_turns : {m : Node} {t e : ℕ} → m ≡ Split t → m ≡ Switches e → ⊥
+  no_turns {t = t} {e = e} h k = let bad : Split t ≡ Switches e = sym h ∙ k in cc
+
+  no_loop_head : {m : Node} {t s : ℕ} → m ≡ LoopHead s → m ≡ Switches t → ⊥
+  no_loop_head {t = t} {s = s} h k = let bad : LoopHead s ≡ Switches t = sym h ∙ k in cc
+
+  loop_no_split : {m : Node} {t s : ℕ} → m ≡ LoopHead s → m ≡ Split t → ⊥
+  loop_no_split {t = t} {s = s} h k = let bad : LoopHead s ≡ Split t = sym h ∙ k in cc
+
+  loop_no_head : {m : Node} {s : ℕ} → m ≡ LoopHead s → m ≡ Head → ⊥
+  loop_no_head {s = s} h k = let bad : LoopHead s ≡ Head = sym h ∙ k in cc
+
+  -- loops with one pair of switches are one
+  one_loop_of : {g h : ℕ} (m : LoopOf P g) (l : LoopOf P h) → (m.the).switches ≡ (l.the).switches → g ≡ h
+  one_loop_of m l same = sym ((m.all).test).block ∙ ap (block P) same ∙ ((l.all).test).block
+
+  -- the region of a loop's head has the predicate alone as its root
+  loop_roots : {h : ℕ} (l : LoopOf P h) {p : Path} → Holds S (On p (place P (test_row P known h l))) → {r : Region} {e : ℕ}
+      → r ≡ top h → Root (rows P) r e → Holds S (On p (place P e))
+  loop_roots l on at (of_procedure {n = n} {x = y} {h = g} {b = b} {k = k} inside def) =
+      absurd (loop_no_head (ap (λ (r : Region). node P r.head) at ∙ l.head) ((known.table).head_is n y g b k inside def).0)
+  loop_roots l on at (of_then {s = s} inside def) =
+      let c = conditional known inside def in absurd (loop_no_split (ap (λ (r : Region). node P r.head) at ∙ l.head) c.node)
+  loop_roots l on at (of_otherwise {s = s} inside def) =
+      let c = conditional known inside def in absurd (loop_no_split (ap (λ (r : Region). node P r.head) at ∙ l.head) c.node)
+  loop_roots {h} l {p} on at (of_test {w = u} {t = t} inside def) =
+      let m = loop_of_row known (Switches t) inside def refl in
+      let z = (known.table).switches_of u t inside def in
+      let u_is : u ≡ (m.the).switches = sym z.2 ∙ (same_loop known z.1 m).switches in
+      let block_is : block P u ≡ h = ap (λ (r : Region). r.head) (sym ((known.table).at_top u inside (ap is_top def)) ∙ at) in
+      let z' : IsLoopOf (rows P) z.0 h = subst (IsLoopOf (rows P) z.0) block_is z.1 in
+      let same = turned_loop z.1 block_is l in
+      let w_is : u ≡ (l.the).switches = sym z.2 ∙ same in
+      let both : Switches t ≡ Switches (test_row P known h l) = sym def ∙ ap (node P) w_is ∙ switches_node P known h l in
+      let test : test_row P known h l ≡ t = cc in
+      subst (λ i. Holds S (On p (place P i))) test on
+    where
+      turned_loop : {n g : ℕ} (c : IsLoopOf (rows P) n g) → g ≡ h → (l : LoopOf P h) → c.switches ≡ (l.the).switches
+      turned_loop {n} {g} c e l =
+          let c' : IsLoopOf (rows P) n h = record { switches = c.switches; last = c.last; within = c.within; node = c.node ∙ ap (λ y. Loop y c.switches c.last) e } in
+          (same_loop known c' l).switches
+  loop_roots {h} l on at (of_statement {n = n} inside def st o) =
+      let m = loop_of_row known Body inside def refl in
+      absurd (no_loop_head (ap (λ (r : Region). node P r.head) (sym (body_at known inside def m) ∙ at) ∙ l.head) (switches_node P known (block P n) m))
+  loop_roots {h} l on at (of_next {m = i} {x = y} {k = k} {o = o} {a = a} inside def) =
+      let m = loop_of_row known (Next y k o a) inside def refl in
+      absurd (no_loop_head (ap (λ (r : Region). node P r.head) (sym (next_at known inside def m).region ∙ at) ∙ l.head) (switches_node P known (block P i) m))
+  loop_roots {h} l on at (of_last {n = n} {h = g} {w = u} {l = e} inside def) =
+      let c : IsLoopOf (rows P) n g = record { switches = u; last = e; within = inside; node = def } in
+      let m = loop_by known c in
+      absurd (no_loop_head (ap (λ (r : Region). node P r.head) at ∙ l.head) (ap (node P) (same_loop known c m).switches ∙ switches_node P known g m))
+
+  -- what is a root of a side of a loop's switches is On at an iteration's path, where the predicate chooses the side
+  side_roots : {h : ℕ} (l : LoopOf P h) (q : Path) (k : ℕ) {b : Truth} → Holds S (Has (below q (place P (end_of P h)) k) (place P (test_row P known h l)) (source.Bool b))
+      → {r : Region} {e : ℕ} → r ≡ arm_at (l.the).switches b → Root (rows P) r e → Holds S (On (below q (place P (end_of P h)) k) (place P e))
+  side_roots {h} l q i has at (of_procedure {n = n} {x = y} {h = g} {b = b} {k = k} inside def) =
+      absurd (no_switches ((known.table).head_is n y g b k inside def).0 (ap (λ (r : Region). node P r.head) at ∙ switches_node P known h l))
+  side_roots {h} l q i has at (of_then {s = s} inside def) =
+      let c = conditional known inside def in absurd (no_turns c.node (ap (λ (r : Region). node P r.head) at ∙ switches_node P known h l))
+  side_roots {h} l q i has at (of_otherwise {s = s} inside def) =
+      let c = conditional known inside def in absurd (no_turns c.node (ap (λ (r : Region). node P r.head) at ∙ switches_node P known h l))
+  side_roots {h} l q i has at (of_test {w = u} {t = t} inside def) =
+      let m = loop_of_row known (Switches t) inside def refl in
+      absurd (no_loop_head m.head (ap (λ (r : Region). node P r.head) (sym ((known.table).at_top u inside (ap is_top def)) ∙ at) ∙ switches_node P known h l))
+  side_roots {h} l q k {b} has here (of_statement {n = n} {m = m} {x = x} {a = a} inside def st o) =
+      let c = loop_of_row known Body inside def refl in
+      let there = sym (body_at known inside def c) ∙ here in
+      let side : b ≡ true = ap (λ (r : Region). r.side) (sym there) in
+      let bind : BodyBinds P (l.the).switches m a = record {
+        body = n;
+        name = x;
+        ends = record { within = inside; node = def };
+        side = here ∙ ap (arm_at (l.the).switches) side;
+        statement = st;
+        binding = record { within = statement_within n m inside st; node = o };
+      } in
+      holds_by S _ _ (loop_statement_on q k (loop_stands P known h l) bind) (subst (λ c. Holds S (Has (below q (place P (end_of P h)) k) (place P (test_row P known h l)) (source.Bool c))) side has, tt)
+    where
+      statement_within : (n m : ℕ) → n < length (rows P) → IsStatement (rows P) n m → m < length (rows P)
+      statement_within n m less st = let inside = before (at (rows P) n).first n m st.inside in omega (arith, less, inside)
+  side_roots {h} l q k {b} has at (of_next {m = i} {x = y} {k = j} {o = o} {a = a} inside def) =
+      let c = loop_of_row known (Next y j o a) inside def refl in
+      let z = next_at known inside def c in
+      let there = sym z.region ∙ at in
+      let side : b ≡ true = ap (λ (r : Region). r.side) (sym there) in
+      let block_is = one_loop_of c l (ap (λ (r : Region). r.head) there) in
+      let stands : NextStands P i h o a = record { name = y; index = j; next = record { within = inside; node = def }; block = block_is } in
+      holds_by S _ _ (next_on q k (loop_stands P known h l) stands) (subst (λ c. Holds S (Has (below q (place P (end_of P h)) k) (place P (test_row P known h l)) (source.Bool c))) side has, tt)
+  side_roots {h} l q k {b} has at (of_last {n = n} {h = g} {w = u} {l = e} inside def) =
+      let c : IsLoopOf (rows P) n g = record { switches = u; last = e; within = inside; node = def } in
+      let m = loop_by known c in
+      let same = same_loop known c m in
+      let side : b ≡ false = ap (λ (r : Region). r.side) (sym at) in
+      let block_is = one_loop_of m l (sym same.switches ∙ ap (λ (r : Region). r.head) at) in
+      let last_is : e ≡ (l.the).last = last_of c block_is l in
+      subst (λ i. Holds S (On (below q (place P (end_of P h)) k) (place P i))) (sym last_is)
+      (holds_by S _ _ (last_on q k (loop_stands P known h l)) (subst (λ c. Holds S (Has (below q (place P (end_of P h)) k) (place P (test_row P known h l)) (source.Bool c))) side has, tt))
+    where
+      last_of : {n g : ℕ} (c : IsLoopOf (rows P) n g) → g ≡ h → (l : LoopOf P h) → c.last ≡ (l.the).last
+      last_of {n} {g} c e l =
+          let c' : IsLoopOf (rows P) n h = record { switches = c.switches; last = c.last; within = c.within; node = c.node ∙ ap (λ y. Loop y c.switches c.last) e } in
+          (same_loop known c' l).last
+
   -- an arm has the conditional's arm alone as its root, which its predicate turns On
   arm_roots : {p : Path} {m t : ℕ} {b : Truth} → node P m ≡ Split t → Holds S (Has p (place P t) (source.Bool b))
       → ((n : ℕ) → n < length (rows P) → is_expression (node P n) ≡ true → region P n ≡ region P m → Holds S (On p (place P n)))
@@ -158,17 +269,53 @@ module _ (S : Source) (known : IsKnown S.checked) where
       cc
   arm_roots {p} {m} {t} {b} split has on is (of_then {n = n} {s = s} {x = x} {y = y} within def) = by_arm split has on true within def is
   arm_roots {p} {m} {t} {b} split has on is (of_otherwise {n = n} {s = s} {x = x} {y = y} within def) = by_arm split has on false within def is
+  arm_roots {p} {m} {t} {b} split has on is (of_test {w = w} {t = t'} within def) =
+      let l = loop_of_row known (Switches t') within def refl in
+      let at = ap (λ (r : Region). node P r.head) (sym is ∙ (known.table).at_top w within (ap is_top def)) in
+      let bad : Split t ≡ LoopHead (block P w - 1) = sym split ∙ at ∙ l.head in
+      cc
+  arm_roots {p} {m} {t} {b} split has on is (of_statement {n = n} within def st o) =
+      let l = loop_of_row known Body within def refl in
+      absurd (no_turns split (ap (λ (r : Region). node P r.head) (sym is ∙ body_at known within def l) ∙ switches_node P known (block P n) l))
+  arm_roots {p} {m} {t} {b} split has on is (of_next {m = i} {x = y} {k = k} {o = o} {a = a} within def) =
+      let l = loop_of_row known (Next y k o a) within def refl in
+      absurd (no_turns split (ap (λ (r : Region). node P r.head) (sym is ∙ (next_at known within def l).region) ∙ switches_node P known (block P i) l))
+  arm_roots {p} {m} {t} {b} split has on is (of_last {n = n} {h = g} {w = w} {l = e} within def) =
+      let c = loop_by known (record { switches = w; last = e; within = within; node = def }) in
+      let w_is = (same_loop known (record { switches = w; last = e; within = within; node = def }) c).switches in
+      absurd (no_turns split (ap (λ (r : Region). node P r.head) (sym is) ∙ ap (node P) w_is ∙ switches_node P known g c))
 
   -- by the facts of the source the predicate Has that
-  pub test_has : {p : Path} {m t : ℕ} {b : Truth} → node P m ≡ Split t → Goes S p m b → Holds S (Has p (place P t) (source.Bool b))
-  test_has {p} {m} {t} {b} split (by_test {e = e} (of_arms is) has) =
-      let both : Split e ≡ Split t = sym is ∙ split in
-      let test : e ≡ t = cc in
+  pub test_has : {p : Path} {m t : ℕ} {b : Truth} → Tests P m t → Goes S p m b → Holds S (Has p (place P t) (source.Bool b))
+  test_has {p} {m} {t} {b} tests (by_test {e = e} tests' has) =
+      let test : e ≡ t = one_test tests' tests in
       subst (λ z. Holds S (Has p (place P z) (source.Bool b))) test has
 
   -- main's body is On at the empty path
   main_body_on : Holds S (On outermost (place P (known.main).body))
   main_body_on = subst (λ z. Holds S (On outermost (place P z))) (ap body_of (known.main).node) (holds_by S _ _ main_on tt)
+
+  -- the loop of its switches
+  record SwitchLoop (w t : ℕ) : Type 0 where
+    loop : LoopOf P (block P w)
+    switches : w ≡ (loop.the).switches
+    test : t ≡ test_row P known (block P w) loop
+    region : region P w ≡ top (block P w)
+
+  switch_loop : {w t : ℕ} → w < length (rows P) → node P w ≡ Switches t → SwitchLoop w t
+  switch_loop {w} {t} within is =
+      let l = loop_of_row known (Switches t) within is refl in
+      let z = (known.table).switches_of w t within is in
+      let w_is : w ≡ (l.the).switches = sym z.2 ∙ (same_loop known z.1 l).switches in
+      let both : Switches t ≡ Switches (test_row P known (block P w) l) = sym is ∙ ap (node P) w_is ∙ switches_node P known (block P w) l in
+      record { loop = l; switches = w_is; test = cc; region = (known.table).at_top w within (ap is_top is) }
+
+  live_loop_at : {number : ℕ → ℕ → ℕ} {run : List Event} {a : Activation} {w t : ℕ} → Live S number run a (region P w) → w < length (rows P) → node P w ≡ Switches t
+      → InLoop S known number run a (block P w)
+  live_loop_at {number} {run} {a} {w} {t} live within is =
+      let same = (region_of known within (λ e. let bad : Switches t ≡ Program = sym is ∙ e in cc)).block in
+      let l = loop_of_row known (Switches t) within is refl in
+      subst (InLoop S known number run a) same (live_loop S known number run live (ap (node P) same ∙ l.head))
 
   -- the roots of a live region are On, at the activation's path
   roots_on : {number : ℕ → ℕ → ℕ} {run : List Event} → OneSeat S number run → {a : Activation} {r : Region} {p : Path} → Live S number run a r
@@ -177,17 +324,48 @@ module _ (S : Source) (known : IsKnown S.checked) where
       subst (λ z. Holds S (On z (place P e))) (sym (main_path_is seats path)) (procedure_roots known.main main_body_on refl x)
   roots_on seats {p = p} (on_side {n = m} {b = b} within (of_arms is) live says goes) path e x =
       let has = subst (λ z. Goes S z m b) (one_path seats goes.path_of path) goes.goes in
-      arm_roots is (test_has is has)
+      arm_roots is (test_has (of_arms is) has)
       (λ n less expression same. turned_by (roots_on seats live path) (subst (λ q. TurnedIn (rows P) q n) same ((known.table).turned n less expression)))
       refl x
-  roots_on seats {p = p} (entered {n = m} within is live opened) path e x =
+  roots_on {number} {run} seats {a} {p = p} (on_side {n = m} {e = t} {b = b} within (of_turns is) live says goes) path e x =
+      let s = switch_loop within is in
+      let l = s.loop in
+      let up = loop_path S known number run seats l (live_loop_at live within is) path in
+      let goes_on = subst (λ z. Goes S z m b) (one_path seats goes.path_of path) goes.goes in
+      let has = test_has (of_turns is) goes_on in
+      let has' = subst (λ (z : Path × ℕ). Holds S (Has z.0 (place P z.1) (source.Bool b))) {x = (p, t)} {y = (below up.path (place P (end_of P (block P m))) a.iteration, test_row P known (block P m) l)} (λ i. (up.is i, s.test i)) has in
+      subst (λ z. Holds S (On z (place P e))) (sym up.is) (side_roots l up.path a.iteration has' (ap (λ w. arm_at w b) s.switches) x)
+  roots_on {number} {run} seats {p = p} (again {c = c} {k = k} {n = m} {e = t} within is live says goes) path e x =
+      let s = switch_loop within is in
+      let l = s.loop in
+      let inner = live_loop_at live within is in
+      let now = loop_path S known number run seats l inner goes.path_of in
+      let then = loop_path S known number run seats l (live_loop_at (again within is live says goes) within is) path in
+      let has = test_has (of_turns is) goes.goes in
+      let has' = subst (λ (z : Path × ℕ). Holds S (Has z.0 (place P z.1) (source.Bool true))) {x = (goes.path, t)} {y = (below now.path (place P (end_of P (block P m))) k, test_row P known (block P m) l)} (λ i. (now.is i, s.test i)) has in
+      let on = holds_by S _ _ (turn_on now.path k (loop_stands P known (block P m) l)) (has', tt) in
+      let same : below now.path (place P (end_of P (block P m))) (suc k) ≡ p =
+      one_path seats (next_path S known number run l inner now (suc k)) path in
+      loop_roots l (subst (λ z. Holds S (On z (place P (test_row P known (block P m) l)))) same on) s.region x
+  roots_on seats {p = p} (entered {n = m} within (of_loop is) live opened) path e x =
+      let l = loop_of_start known within is in
+      let up = live_path live in
+      let back : (m + 1) - 1 ≡ m = omega arith in
+      let q = end_of P (m + 1) in
+      let stands = start_region P known (m + 1) l in
+      let turned = subst (λ r. TurnedIn (rows P) r q) (sym stands ∙ ap (region P) back) ((known.table).turned q (l.the).within (ap is_expression (l.the).node)) in
+      let on = turned_by (roots_on seats live up.1) turned in
+      let test = holds_by S _ _ (loop_test_on (loop_stands P known (m + 1) l)) (on, tt) in
+      let same : below up.0 (place P q) 0 ≡ p = ap (λ z. below up.0 z 0) (sym (start_place P known (m + 1) l) ∙ ap (place P) back) ∙ one_path seats (entered_path 0 within (of_loop is) opened up.1) path in
+      loop_roots l (subst (λ z. Holds S (On z (place P (test_row P known (m + 1) l)))) same test) refl x
+  roots_on seats {p = p} (entered {n = m} within (of_call is) live opened) path e x =
       let c = call_at known within is in
       let up = live_path live in
       let call_stands : Stands P (end_of P m) (Call m c.count) = record { within = c.within; node = c.node } in
       let turned = subst (λ q. TurnedIn (rows P) q (end_of P m)) (sym c.region) ((known.table).turned (end_of P m) c.within (ap is_expression c.node)) in
       let on = turned_by (roots_on seats live up.1) turned in
       let body = holds_by S _ _ (callee_on call_stands c.bound (callee_stands c.def)) (on, tt) in
-      let same : below up.0 (place P (end_of P m)) 0 ≡ p = ap (λ z. below up.0 z 0) (sym c.place) ∙ one_path seats (entered_path within is opened up.1) path in
+      let same : below up.0 (place P (end_of P m)) 0 ≡ p = ap (λ z. below up.0 z 0) (sym c.place) ∙ one_path seats (entered_path 0 within (of_call is) opened up.1) path in
       procedure_roots c.def (subst (λ z. Holds S (On z (place P (c.def).body))) same body) refl x
 
   -- each expression of a live region is On, at the activation's path

@@ -1,5 +1,7 @@
 -- What an arc brings is of the kind that its port takes.
-use Rattle.std.proofs.Common.{◌≡◌, inl, inr, ℕ, zero, suc, ◌<◌, true, false, Some, List, length, unwrap_or, get_or, refl, sym, ◌∙◌, ap, subst, arith}
+use Rattle.std.proofs.Common.{◌≡◌, inl, inr, ℕ, zero, suc, ◌<◌, ◌+◌, Bool as Truth, true, false, Some, List, map, length, unwrap_or, get_or, refl, sym, ◌∙◌, ap, subst, arith}
+use Rattle.id_list.specs.List.{Among}
+use Rattle.id_list.proofs.AmongLemmas.{Among-either, Among-from_map}
 use Rattle.id_value.specs.declared.Kind.{Kind}
 use Rattle.id_value.specs.declared.Kind.TheVariants as kinds
 use Rattle.id_value.specs.declared.Constant.{Constant}
@@ -10,33 +12,48 @@ use Rattle.id_parts.specs.declared.row.Row.{Row}
 use Rattle.id_parts.specs.declared.row.Region.{Region}
 use Rattle.id_parts.specs.declared.row.Node.{Node}
 use Rattle.id_parts.specs.declared.row.Node.TheVariants.{Head, Param, Literal, Name, Unary, Binary, Split, If, Block, Binding, Def, Program, Enter, Arg, Call}
+use Rattle.id_parts.specs.declared.row.Node.TheVariants.{Start, LoopHead, Variable, Entries, Switches, Turn, NextUse, Next, Body, Reset, Loop}
 use Rattle.id_parts.specs.Rows.{at}
-use Rattle.id_parts.specs.Tables.{HasPart, HasOperand, is_binder, is_block, is_expression}
+use Rattle.id_parts.specs.Tables.{HasPart, HasOperand, begins_block, is_binder, is_block, is_expression}
 use Rattle.id_parts.proofs.RegionLemmas.{HasPart-operand}
 use Rattle.id_check.specs.declared.checked.Checked.{Checked}
 use Rattle.id_check.specs.Kinds.{constant_kind, unary_kind, binary_kind}
 use Rattle.id_check.specs.Programs.{kind, region, rows}
-use Rattle.id_check.proofs.ProgramsLemmas.{unary_row}
+use Rattle.id_check.proofs.ProgramsLemmas.{unary_row, bound_name_row, loop_row, next_row, split_row, switches_row}
 use Rattle.id_graph.specs.declared.dests.Port.{Port}
-use Rattle.id_graph.specs.declared.dests.Port.TheVariants.{One}
+use Rattle.id_graph.specs.declared.dests.Port.TheVariants.{Zero, One}
 use Rattle.id_graph.specs.declared.instr.PortKind.{PortKind}
 use Rattle.id_graph.specs.declared.instr.PortKind.TheVariants.{Signal, Bool as TruthPort, Context}
 use Rattle.id_graph.specs.Ports as ports
 use Rattle.id_graph.specs.Ports.{operand_kind, outcome_kind, port_kind, sends}
+use Rattle.id_desugar.specs.Regions.{nexts_of}
 use Rattle.id_build.specs.declared.arc.Origin.{Origin}
-use Rattle.id_desugar.specs.Ends.{end_of}
+use Rattle.id_desugar.specs.Ends.{end_of, next_of}
 use Rattle.id_desugar.specs.Regions.{imports_of}
 use Rattle.id_build.specs.Rows.{node, port_of, port_at, binary_op, result_of, body_of, output, trigger_of, name_in, named_in, origin_of, origin, op_by, param_of}
+use Rattle.id_build.specs.Rows.{block, entering, entries_row, label, first_binder, turn_row}
 use Rattle.id_build.specs.Schemas.{Feeds}
+use Rattle.id_laws.specs.Activations.{Begins, of_call, of_loop, Tests, of_arms, of_turns}
 use Rattle.id_laws.proofs.Arcs.{Does, starts, returns, enters, constant, unary, binary, turns_on, hands, joins, names, fed}
+use Rattle.id_laws.proofs.Arcs.{sends_in, gives_back, varies, takes_in, moves_on, moves_name, advances, resets, gets_last, entered_at}
 use Rattle.id_laws.proofs.Arcs.{Arc, to_back, to_literal, to_unary, to_left, to_right, to_test, to_trigger, to_import_test, to_import, to_then, to_else}
-use Rattle.id_laws.proofs.Arcs.{to_label, opens, passes, gets, to_enter, to_context, to_argument}
+use Rattle.id_laws.proofs.Arcs.{to_label, opens, passes, gets, to_enter, to_context, to_argument, to_loop_context, to_entering, to_head}
+use Rattle.id_laws.proofs.Arcs.{to_loop_back, to_variable, to_entry, to_turn, to_turn_name, to_next, to_reset}
 use Rattle.id_build.proofs.EndsLemmas.{end_is, HeadOf, of_procedure, of_arm, region_of}
-use Rattle.id_laws.proofs.Known.{known}
-use Rattle.id_build.proofs.NamesSeen.{Sees, Comes, from_label, from_switch, comes, listed}
+use Rattle.id_build.proofs.EndsLemmas as ends
+use Rattle.id_build.proofs.LoopsLemmas.{the_loop, entries_node, entries_stand, entries_within, next_is, reset_is, start_head, turn_block, turn_is}
+use Rattle.id_build.proofs.ImportsLemmas.{name_seen, split_seen, switches_seen, first_seen, loop_seen, turn_seen}
+use Rattle.id_build.proofs.RowLemmas.{IsSeen}
+use Rattle.id_laws.proofs.Assumed.{IsKnown}
+use Rattle.id_build.proofs.NamesSeen.{Comes, HasSwitches, from_entry, from_label, from_switch, comes, listed}
+use Rattle.id_build.proofs.NamesSeen as seen
+use Rattle.id_laws.proofs.LoopRows.{BinderAt, entered_as, entering_binds, import_binds, label_at}
 use Rattle.id_laws.proofs.WantedKinds.{operands_of}
 use Rattle.id_build.specs.declared.arc.Form.{Form}
 use Rattle.id_laws.proofs.Calls.{arg_at}
+
+some_is : {A : Type 0} {x y : A} → Some x ≡ Some y → x ≡ y
+some_is h = cc
 
 -- the ports for a thing of some kind
 pub port_is : (P : Checked) (e : ℕ) (k : Kind) → kind P e ≡ Some k → port_at P e ≡ port_of k
@@ -74,7 +91,7 @@ pub record Typed (P : Checked) (s : Origin) (n part : ℕ) (p : Port) : Type 0 w
   pub source : Sender P s.row s.part kind
   pub target : Taker P n part p kind
 
-module _ (P : Checked) where
+module _ (P : Checked) (known : IsKnown P) where
   abbrev R : List Row
   R = rows P
 
@@ -85,8 +102,8 @@ module _ (P : Checked) where
   pub operand : (n a : ℕ) (m : Node) → n < length R → node P n ≡ m → HasOperand m a → Operand a
   operand n a m within is part =
       let here = subst (λ z. HasOperand z a) (sym is) part in
-      let less = ((((known P).table).formed).each n within).parts a (HasPart-operand (node P n) a here) in
-      (omega (arith, within, less.1), (known P).operands n a within here)
+      let less = (((known.table).formed).each n within).parts a (HasPart-operand (node P n) a here) in
+      (omega (arith, within, less.1), known.operands n a within here)
 
   -- ---- what sends
 
@@ -96,15 +113,15 @@ module _ (P : Checked) where
   value_kind (suc bound) e small x = go (node P e) refl (value_kind bound)
     where
       itself : is_block (node P e) ≡ false → kind P (at R e).value ≡ kind P e
-      itself plain = ap (kind P) (((known P).table).value_self e x.0 plain)
+      itself plain = ap (kind P) ((known.table).value_self e x.0 plain)
 
       go : (m : Node) → node P e ≡ m → ((i : ℕ) → i < bound → Operand i → kind P (at R i).value ≡ kind P i) → kind P (at R e).value ≡ kind P e
       go (Block b) m rest =
           let has_part : HasPart (node P e) b = subst (λ z. HasPart z b) (sym m) refl in
-          let less = ((((known P).table).formed).each e x.0).parts b has_part in
-          ap (kind P) (((known P).table).value_block e b x.0 m)
+          let less = (((known.table).formed).each e x.0).parts b has_part in
+          ap (kind P) ((known.table).value_block e b x.0 m)
           ∙ rest b (omega (arith, less.1, small)) (operand e b (Block b) x.0 m refl)
-          ∙ sym ((known P).block_kind e b x.0 m)
+          ∙ sym (known.block_kind e b x.0 m)
       go Head m rest = itself (ap is_block m)
       go (Param y k) m rest = itself (ap is_block m)
       go (Literal c) m rest = itself (ap is_block m)
@@ -119,39 +136,49 @@ module _ (P : Checked) where
       go (Binding y z) m rest = itself (ap is_block m)
       go (Def y h k b) m rest = itself (ap is_block m)
       go Program m rest = itself (ap is_block m)
+      go Start m rest = itself (ap is_block m)
+      go (LoopHead y) m rest = itself (ap is_block m)
+      go Variable m rest = itself (ap is_block m)
+      go Entries m rest = itself (ap is_block m)
+      go (Switches y) m rest = itself (ap is_block m)
+      go Turn m rest = itself (ap is_block m)
+      go (NextUse y) m rest = itself (ap is_block m)
+      go (Next y k o z) m rest = itself (ap is_block m)
+      go Body m rest = itself (ap is_block m)
+      go (Reset y) m rest = itself (ap is_block m)
+      go (Loop y w l) m rest = itself (ap is_block m)
 
   -- the label of a binder sends its kind
-  label_sender : (b : ℕ) → b < length R → is_binder (node P b) ≡ true → Sender P b 0 (port_at P b)
-  label_sender b within e = go (node P b) refl e
-    where
-      go : (m : Node) → node P b ≡ m → is_binder m ≡ true → Sender P b 0 (port_at P b)
-      go (Param x k) is h = record { within = within; form = _; does = enters is; out = λ f. refl }
-      go (Binding x a) is h = record { within = within; form = _; does = names is; out = λ f. refl }
-      go (Split t) is h = cc
-      go (If s x y) is h = cc
-      go (Enter x) is h = cc
-      go (Arg s k x) is h = cc
-      go (Call s c) is h = cc
-      go Head is h = cc
-      go (Literal c) is h = cc
-      go (Name x) is h = cc
-      go (Unary o a) is h = cc
-      go (Binary o a c) is h = cc
-      go (Block c) is h = cc
-      go (Def x g k c) is h = cc
-      go Program is h = cc
+  label_sender : (b : ℕ) → b < length R → is_binder (node P b) ≡ true → Sender P (label P b) 0 (port_at P b)
+  label_sender b within e = let z = label_at P b within e in record { within = z.within; form = _; does = z.does; out = λ f. refl }
 
   abbrev SentBy : PortKind → Origin → Type 0
   SentBy k s = Sender P s.row s.part k
 
+  tests_of : {n t : ℕ} → HasSwitches P n t → Tests P n t
+  tests_of (seen.of_arms is) = of_arms is
+  tests_of (seen.of_turns is) = of_turns is
+
   -- where a region has a name, its kind is sent
-  named_sender : (r : Region) (b : ℕ) → b < length R → is_binder (node P b) ≡ true → Sees P b r → SentBy (port_at P b) (name_in P r b)
-  named_sender r b within binds sees = by (comes P r b sees)
+  named_sender : (r : Region) (b : ℕ) → BinderAt P b → IsSeen P r b → SentBy (port_at P b) (name_in P r b)
+  named_sender r b binder there = by (comes P r b there.sees)
     where
       by : Comes P r b → SentBy (port_at P b) (name_in P r b)
-      by (from_label is from) = subst (SentBy (port_at P b)) (sym from) (label_sender b within binds)
-      by (from_switch n t k c less is few there rest at from) =
-          subst (SentBy (port_at P b)) (sym from) (record { within = less; form = _; does = hands k is few; out = λ f. ap (λ z. Some (port_at P z)) there })
+      by (from_label is from) = subst (SentBy (port_at P b)) (sym from) (label_sender b binder.within binder.binds)
+      by (from_switch n t k c less is few at_slot rest at from) =
+          subst (SentBy (port_at P b)) (sym from)
+          (record { within = less; form = _; does = hands k (tests_of is) few; out = λ f. ap (λ z. Some (port_at P z)) at_slot })
+      by (from_entry h s k less is few at_slot rest at from) =
+          let e = entries_row P h in
+          let of_block : block P e ≡ h = (entries_stand P h s less is e (omega arith) (omega arith)).0 in
+          let few_here : k < length (imports_of P (block P e)) = subst (λ g. k < length (imports_of P g)) (sym of_block) few in
+          subst (SentBy (port_at P b)) (sym from)
+          (record {
+            within = entries_within P h s less is;
+            form = _;
+            does = takes_in k (entries_node P h s less is) few_here;
+            out = λ f. ap (λ g. Some (port_at P (get_or (imports_of P g) k 0))) of_block ∙ ap (λ z. Some (port_at P z)) at_slot;
+          })
 
   abbrev Gives : ℕ → Type 0
   Gives v = SentBy (port_at P v) (origin_of P v (region P v) (node P v))
@@ -165,20 +192,23 @@ module _ (P : Checked) where
 
       go : (m : Node) → node P v ≡ m → Gives v
       go (Name y) is =
-          let b = (known P).bound v y x.0 is in
-          let from : origin_of P v (region P v) (node P v) ≡ name_in P (region P v) b.0 =
-          ap (origin_of P v (region P v)) is ∙ ap (named_in P (region P v) v) b.1 in
-          let same = same_ports P b.0 v (sym ((known P).name_kind v y b.0 x.0 is b.1)) in
-          subst (SentBy (port_at P v)) (sym from) (subst (λ k. SentBy k (name_in P (region P v) b.0)) same (named_sender (region P v) b.0 b.2 b.3 b.4))
+          let z = name_seen P v y x.0 is in
+          let b = z.row in
+          let bound = bound_name_row P v y (record { within = x.0; node = is }) in
+          let binder : BinderAt P b = subst (BinderAt P) (some_is (sym (bound.1).binder ∙ z.binds)) (record { within = (bound.1).within; binds = (bound.1).is_binder }) in
+          let from : origin_of P v (region P v) (node P v) ≡ name_in P (region P v) b =
+          ap (origin_of P v (region P v)) is ∙ ap (named_in P (region P v) v) z.binds in
+          let same = same_ports P b v (sym (known.name_kind v y b x.0 is z.binds)) in
+          subst (SentBy (port_at P v)) (sym from) (subst (λ k. SentBy k (name_in P (region P v) b)) same (named_sender (region P v) b binder z.seen))
       go (Literal c) is =
-          let here = port_is P v (constant_kind c) ((known P).literal_kind v c x.0 is) in
+          let here = port_is P v (constant_kind c) (known.literal_kind v c x.0 is) in
           own (Literal c) is refl (record { within = x.0; form = _; does = constant is; out = λ f. ap (λ k. Some k) (literal_port c ∙ sym here) })
       go (Unary o a) is =
-          let here = port_is P v (unary_kind o) ((known P).unary_kinds v a o x.0 is) in
+          let here = port_is P v (unary_kind o) (known.unary_kinds v a o x.0 is) in
           own (Unary o a) is refl (record { within = x.0; form = _; does = unary is; out = λ f. ap (λ k. Some k) (unary_port o ∙ sym here) })
       go (Binary o a b) is =
           let s = operands_of P v a b o (record { within = x.0; node = is }) in
-          let here = port_is P v (binary_kind o) ((known P).binary_kinds v a b o x.0 is) in
+          let here = port_is P v (binary_kind o) (known.binary_kinds v a b o x.0 is) in
           own (Binary o a b) is refl
           (record {
             within = x.0;
@@ -188,21 +218,15 @@ module _ (P : Checked) where
           })
       go (If s y z) is = own (If s y z) is refl (record { within = x.0; form = _; does = joins is; out = λ f. refl })
       go (Call s c) is = own (Call s c) is refl (record { within = x.0; form = _; does = gets is; out = λ f. refl })
-      go (Enter y) is = let bad : false ≡ true = sym (ap is_expression is) ∙ x.1 in cc
-      go (Arg s k y) is = let bad : false ≡ true = sym (ap is_expression is) ∙ x.1 in cc
-      go (Split t) is = let bad : false ≡ true = sym (ap is_expression is) ∙ x.1 in cc
+      go (Loop h w l) is = own (Loop h w l) is refl (record { within = x.0; form = _; does = gets_last is; out = λ f. refl })
       go (Block b) is = let bad : true ≡ false = sym (ap is_block is) ∙ plain in cc
-      go Head is = let bad : false ≡ true = sym (ap is_expression is) ∙ x.1 in cc
-      go (Param y k) is = let bad : false ≡ true = sym (ap is_expression is) ∙ x.1 in cc
-      go (Binding y z) is = let bad : false ≡ true = sym (ap is_expression is) ∙ x.1 in cc
-      go (Def y h k b) is = let bad : false ≡ true = sym (ap is_expression is) ∙ x.1 in cc
-      go Program is = let bad : false ≡ true = sym (ap is_expression is) ∙ x.1 in cc
+      go _ is = let bad : false ≡ true = sym (ap is_expression is) ∙ x.1 in cc
 
   -- what gives the value of an expression sends its kind
   pub sender : (e : ℕ) → Operand e → SentBy (port_at P e) (origin P e)
   sender e x =
       let w = (at R e).value in
-      let stands = ((known P).table).value_stands e x.0 x.1 in
+      let stands = (known.table).value_stands e x.0 x.1 in
       subst (λ k. SentBy k (origin P e)) (same_ports P w e (value_kind (suc e) e (omega arith) x))
       (giver w (omega (arith, stands.0, x.0), stands.1) stands.2)
 
@@ -210,21 +234,23 @@ module _ (P : Checked) where
 
   -- the trigger of a row's region sends signals
   trigger_sender : (n : ℕ) → n < length R → (node P n ≡ Program → ⊥) → SentBy Signal (trigger_of (region P n))
-  trigger_sender n within other = let r = region_of P ((known P).table) n within other in by (region P n) r.below r.head
+  trigger_sender n within other = let r = region_of P (known.table) n within other in by (region P n) r.below r.head
     where
-      by : (r : Region) → r.head < length R → HeadOf P ((known P).table) r → SentBy Signal (trigger_of r)
-      by r below (of_procedure is top_is) = record { within = below; form = _; does = starts is; out = λ f. refl }
-      by r below (of_arm is) = record { within = below; form = _; does = turns_on is; out = λ f. refl }
+      by : (r : Region) → r.head < length R → HeadOf P (known.table) r → SentBy Signal (trigger_of r)
+      by r below (of_procedure is top_is) = record { within = below; form = _; does = starts (ap begins_block is); out = λ f. refl }
+      by r below (ends.of_loop is top_is) = record { within = below; form = _; does = starts (ap begins_block is); out = λ f. refl }
+      by r below (of_arm is) = record { within = below; form = _; does = turns_on (of_arms is); out = λ f. refl }
+      by r below (ends.of_side is) = record { within = below; form = _; does = turns_on (of_turns is); out = λ f. refl }
 
   returned : (n : ℕ) → n < length R → node P n ≡ Head → Typed P (origin P (body_of (node P (end_of P n)))) n 1 One
   returned n within is =
-      let def = end_is P ((known P).table) n within is in
+      let def = end_is P (known.table) n within is in
       let b = body_of (node P (end_of P n)) in
       let body_is : b ≡ def.body = ap body_of def.node in
-      let parts = ((((known P).table).formed).each (end_of P n) def.within).parts def.body (subst (λ z. HasPart z def.body) (sym def.node) (inr refl)) in
-      let expression = (((known P).table).head_is (end_of P n) def.name n def.body def.result def.within def.node).2 in
+      let parts = (((known.table).formed).each (end_of P n) def.within).parts def.body (subst (λ z. HasPart z def.body) (sym def.node) (inr refl)) in
+      let expression = ((known.table).head_is (end_of P n) def.name n def.body def.result def.within def.node).2 in
       let x : Operand b = subst Operand (sym body_is) (omega (arith, def.within, parts.1), expression) in
-      let of_kind : kind P b ≡ Some def.result = ap (kind P) body_is ∙ (known P).result_kind (end_of P n) n def in
+      let of_kind : kind P b ≡ Some def.result = ap (kind P) body_is ∙ known.result_kind (end_of P n) n def in
       record {
         kind = port_at P b;
         source = sender b x;
@@ -236,8 +262,79 @@ module _ (P : Checked) where
         };
       }
 
-  test_port : (n t : ℕ) → n < length R → node P n ≡ Split t → Some TruthPort ≡ Some (port_at P t)
-  test_port n t within is = ap (λ k. Some k) (sym (port_is P t kinds.Bool ((known P).test_kind n t within is)))
+  test_operand : (n t : ℕ) → n < length R → Tests P n t → Operand t
+  test_operand n t within (of_arms is) = operand n t (Split t) within is refl
+  test_operand n t within (of_turns is) = operand n t (Switches t) within is refl
+
+  test_kind : (n t : ℕ) → n < length R → Tests P n t → kind P t ≡ Some kinds.Bool
+  test_kind n t within (of_arms is) = split_row P n t (record { within = within; node = is })
+  test_kind n t within (of_turns is) = switches_row P n t (record { within = within; node = is })
+
+  test_port : (n t : ℕ) → n < length R → Tests P n t → Some TruthPort ≡ Some (port_at P t)
+  test_port n t within is = ap (λ k. Some k) (sym (port_is P t kinds.Bool (test_kind n t within is)))
+
+  -- what switches hand on is seen where they stand
+  import_at_switches : (n t b : ℕ) → n < length R → Tests P n t → Among b (imports_of P n) → IsSeen P (region P n) b
+  import_at_switches n t b within (of_arms is) among = split_seen P n t b within is among
+  import_at_switches n t b within (of_turns is) among = switches_seen P n t b within is among
+
+  tests_no_end : {n t : ℕ} → Tests P n t → node P n ≡ Program → ⊥
+  tests_no_end {n} {t} (of_arms is) e = let bad : Program ≡ Split t = sym e ∙ is in cc
+  tests_no_end {n} {t} (of_turns is) e = let bad : Program ≡ Switches t = sym e ∙ is in cc
+
+  begins_no_end : {n h q : ℕ} → Begins P n h q → node P n ≡ Program → ⊥
+  begins_no_end {n} (of_call {x = x} is) e = let bad : Program ≡ Enter x = sym e ∙ is in cc
+  begins_no_end {n} (of_loop is) e = let bad : Program ≡ Start = sym e ∙ is in cc
+
+  -- what goes into a loop is seen where its `Start` stands
+  seen_at_start : (n b : ℕ) → n < length R → node P n ≡ Start → Among b (entering P (n + 1)) → IsSeen P (region P n) b
+  seen_at_start n b within is among =
+      elim (Among-either b (map (first_binder P) (nexts_of P (n + 1))) (imports_of P (n + 1)) among) [
+        | inl k ↦
+            let t = Among-from_map (first_binder P) b (nexts_of P (n + 1)) k in
+            subst (IsSeen P (region P n)) (sym t.2) (first_seen P n t.0 within is t.1)
+        | inr k ↦ let h = start_head P n within is in loop_seen P (n + 1) n b h.0 h.1 k
+      ]
+
+  -- what goes to the entry of a variable or an import of a loop
+  entering_typed : (n k : ℕ) → n < length R → node P n ≡ Start → k < length (entering P (n + 1))
+      → Typed P (name_in P (region P n) (get_or (entering P (n + 1)) k 0)) n (suc k) One
+  entering_typed n k within is less =
+      let q = entered_at P (n + 1) k less in
+      let b = get_or (entering P (n + 1)) k 0 in
+      let among = listed (entering P (n + 1)) k less in
+      record {
+        kind = port_at P b;
+        source = named_sender (region P n) b (entering_binds P (n + 1) b among) (seen_at_start n b within is among);
+        target = record {
+          within = within;
+          form = _;
+          does = sends_in k q.0 is q.1;
+          into = λ f. ap (λ z. Some z) (same_ports P (q.0).binder b (sym (entered_as P (n + 1) k q.0 q.1).kind));
+        };
+      }
+
+  -- what hands imports on goes to their entries
+  entry_typed : (n k : ℕ) → n < length R → node P n ≡ Entries → k < length (imports_of P (block P n))
+      → Typed P (record { row = turn_row P (block P n); part = suc k; side = true }) n k Zero
+  entry_typed n k within is less =
+      let h = block P n in
+      let c = ((known.table).entries_of n within is).1 in
+      let rows_are = (known.table).loop_is _ h c in
+      let low : h < length R = omega (arith, rows_are.before_test.low, rows_are.test.low, rows_are.test.behind, rows_are.body_is.low, rows_are.last_is.low, rows_are.last_is.ends, c.within) in
+      let head = rows_are.before_test.head in
+      let t = turn_block P h _ low head in
+      let few : k < length (imports_of P (block P (turn_row P h))) = subst (λ g. k < length (imports_of P g)) (sym t.1) less in
+      record {
+        kind = port_at P (get_or (imports_of P h) k 0);
+        source = record {
+          within = t.0;
+          form = _;
+          does = moves_name k (turn_is P h _ low head) few;
+          out = λ f. ap (λ g. Some (port_at P (get_or (imports_of P g) k 0))) t.1;
+        };
+        target = record { within = within; form = _; does = takes_in k is less; into = λ f. refl };
+      }
 
   by_arc : {n part : ℕ} {p : Port} {s : Origin} → n < length R → Arc P n part p s → Typed P s n part p
   by_arc {n} within (to_back is) = returned n within is
@@ -283,47 +380,47 @@ module _ (P : Checked) where
       }
   by_arc {n} within (to_test {t = t} is) = record {
     kind = port_at P t;
-    source = sender t (operand n t (Split t) within is refl);
+    source = sender t (test_operand n t within is);
     target = record { within = within; form = _; does = turns_on is; into = λ f. test_port n t within is };
   }
   by_arc {n} within (to_trigger {t = t} is) = record {
     kind = Signal;
-    source = trigger_sender n within (λ e. let bad : Program ≡ Split t = sym e ∙ is in cc);
+    source = trigger_sender n within (tests_no_end is);
     target = record { within = within; form = _; does = turns_on is; into = λ f. refl };
   }
   by_arc {n} within (to_import_test {t = t} k is less) = record {
     kind = port_at P t;
-    source = sender t (operand n t (Split t) within is refl);
+    source = sender t (test_operand n t within is);
     target = record { within = within; form = _; does = hands k is less; into = λ f. test_port n t within is };
   }
   by_arc {n} within (to_import {t = t} k is less) =
       let b = get_or (imports_of P n) k 0 in
-      let z = (known P).imported n t b within is (listed (imports_of P n) k less) in
+      let among = listed (imports_of P n) k less in
       record {
         kind = port_at P b;
-        source = named_sender (region P n) b z.0 z.1 z.2;
+        source = named_sender (region P n) b (import_binds P n b among) (import_at_switches n t b within is among);
         target = record { within = within; form = _; does = hands k is less; into = λ f. refl };
       }
   by_arc {n} within (to_then {s = s} {x = x} {y = y} is) = record {
     kind = port_at P x;
     source = sender x (operand n x (If s x y) within is (inl refl));
-    target = record { within = within; form = _; does = joins is; into = λ f. ap (λ k. Some k) (same_ports P n x ((known P).arm_kinds n s x y within is).0) };
+    target = record { within = within; form = _; does = joins is; into = λ f. ap (λ k. Some k) (same_ports P n x (known.arm_kinds n s x y within is).0) };
   }
   by_arc {n} within (to_else {s = s} {x = x} {y = y} is) = record {
     kind = port_at P y;
     source = sender y (operand n y (If s x y) within is (inr refl));
-    target = record { within = within; form = _; does = joins is; into = λ f. ap (λ k. Some k) (same_ports P n y ((known P).arm_kinds n s x y within is).1) };
+    target = record { within = within; form = _; does = joins is; into = λ f. ap (λ k. Some k) (same_ports P n y (known.arm_kinds n s x y within is).1) };
   }
-  by_arc {n} within (to_enter {x = x} is) = record {
+  by_arc {n} within (to_enter is) = record {
     kind = Signal;
-    source = trigger_sender n within (λ e. let bad : Program ≡ Enter x = sym e ∙ is in cc);
+    source = trigger_sender n within (begins_no_end is);
     target = record { within = within; form = _; does = opens is; into = λ f. refl };
   }
   by_arc {n} within (to_context is) =
-      let z = arg_at (known P) within is in
+      let z = arg_at known within is in
       record {
         kind = Context;
-        source = record { within = z.enter_within; form = _; does = opens z.enter; out = λ f. refl };
+        source = record { within = z.enter_within; form = _; does = opens (of_call z.enter); out = λ f. refl };
         target = record { within = within; form = _; does = passes is; into = λ f. refl };
       }
   by_arc {n} within (to_argument {e = e} {k = k} {v = v} is) = record {
@@ -333,13 +430,73 @@ module _ (P : Checked) where
       within = within;
       form = _;
       does = passes is;
-      into = λ f. ap (λ q. Some q) (same_ports P (param_of P e k) v (sym ((known P).passed n e k v within is).1));
+      into = λ f. ap (λ q. Some q) (same_ports P (param_of P e k) v (sym (known.passed n e k v within is).1));
     };
   }
   by_arc {n} within (to_label {x = x} {a = a} is) = record {
     kind = port_at P a;
     source = sender a (operand n a (Binding x a) within is refl);
-    target = record { within = within; form = _; does = names is; into = λ f. ap (λ k. Some k) (same_ports P n a ((known P).binding_kind n x a within is)) };
+    target = record { within = within; form = _; does = names is; into = λ f. ap (λ k. Some k) (same_ports P n a (known.binding_kind n x a within is)) };
+  }
+  by_arc {n} within (to_loop_context k is less) =
+      let z = entered_at P (n + 1) k less in
+      record {
+        kind = Context;
+        source = record { within = within; form = _; does = opens (of_loop is); out = λ f. refl };
+        target = record { within = within; form = _; does = sends_in k z.0 is z.1; into = λ f. refl };
+      }
+  by_arc {n} within (to_entering k is less) = entering_typed n k within is less
+  by_arc {n} within (to_head {s = s} is) =
+      let t = turn_block P n s within is in
+      record {
+        kind = Signal;
+        source = record { within = t.0; form = _; does = moves_on (turn_is P n s within is); out = λ f. refl };
+        target = record { within = within; form = _; does = starts (ap begins_block is); into = λ f. refl };
+      }
+  by_arc {n} within (to_loop_back {s = s} is) =
+      let c = the_loop P n s within is in
+      let r = reset_is P n s within is in
+      let same = same_ports P (end_of P n) c.last (loop_row P (end_of P n) n c.switches c.last (record { within = c.within; node = c.node })) in
+      record {
+        kind = port_at P c.last;
+        source = record { within = r.0; form = _; does = resets r.1; out = λ f. refl };
+        target = record { within = within; form = _; does = gives_back is; into = λ f. ap (λ k. Some k) same };
+      }
+  by_arc {n} within (to_variable is) =
+      let z = next_is P n within is in
+      record {
+        kind = port_at P (next_of P n);
+        source = record { within = z.within; form = _; does = advances z.node; out = λ f. refl };
+        target = record { within = within; form = _; does = varies is; into = λ f. refl };
+      }
+  by_arc {n} within (to_entry k is less) = entry_typed n k within is less
+  by_arc {n} within (to_turn is) = record {
+    kind = Signal;
+    source = trigger_sender n within (λ e. let bad : Program ≡ Turn = sym e ∙ is in cc);
+    target = record { within = within; form = _; does = moves_on is; into = λ f. refl };
+  }
+  by_arc {n} within (to_turn_name k is less) =
+      let b = get_or (imports_of P (block P n)) k 0 in
+      let among = listed (imports_of P (block P n)) k less in
+      record {
+        kind = port_at P b;
+        source = named_sender (region P n) b (import_binds P (block P n) b among) (turn_seen P n b within is among);
+        target = record { within = within; form = _; does = moves_name k is less; into = λ f. refl };
+      }
+  by_arc {n} within (to_next {x = x} {k = k} {o = o} {v = v} is) = record {
+    kind = port_at P v;
+    source = sender v (operand n v (Next x k o v) within is refl);
+    target = record {
+      within = within;
+      form = _;
+      does = advances is;
+      into = λ f. ap (λ q. Some q) (same_ports P n v (sym (next_row P n x k o v (record { within = within; node = is })).5));
+    };
+  }
+  by_arc {n} within (to_reset {v = v} is) = record {
+    kind = port_at P v;
+    source = sender v (operand n v (Reset v) within is refl);
+    target = record { within = within; form = _; does = resets is; into = λ f. refl };
   }
 
   pub typed : (s : Origin) (n part : ℕ) (p : Port) → Feeds P s n part p → Typed P s n part p

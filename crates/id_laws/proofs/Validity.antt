@@ -1,10 +1,11 @@
 -- Every graph that the schemas give a program is valid.
-use Rattle.std.proofs.Common.{◌≡◌, ◌⊎◌, inl, inr, ℕ, zero, suc, ◌+◌, ◌<◌, ◌≤◌, ◌==◌, ◌&&◌, ◌||◌, Bool, true, false, cond, Option, Some, None, List, []}
+use Rattle.std.proofs.Common.{◌≡◌, ◌⊎◌, inl, inr, ℕ, zero, suc, ◌+◌, ◌-◌, ◌<◌, ◌≤◌, ◌==◌, ◌&&◌, ◌||◌, Bool, true, false, cond, Option, Some, None, List, [], ◌∷◌}
 use Rattle.std.proofs.Common.{get_or, length, map, slice_get, option_map, refl, sym, ◌∙◌, ap, subst, arith}
 use Rattle.std.specs.Bool.{IsTrue}
 use Rattle.std.specs.Option.{IsSome, option_and_then}
 use Rattle.std.specs.List.{list_any, count_by}
 use Rattle.std.proofs.lemmas.List.Sums.{sum_by-append}
+use Rattle.std.proofs.lemmas.Bool.{cases_lt}
 use Rattle.std.proofs.lemmas.Bool.Decides.{nat_tests}
 use Rattle.id_value.specs.declared.Kind.{Kind}
 use Rattle.id_value.specs.declared.Kind.TheVariants as kinds
@@ -13,8 +14,12 @@ use Rattle.id_list.proofs.AmongLemmas.{Among-map, Among-from_map, Among-left, Am
 use Rattle.id_parts.specs.declared.row.Row.{Row}
 use Rattle.id_parts.specs.declared.row.Node.{Node}
 use Rattle.id_parts.specs.declared.row.Node.TheVariants.{Head, Param, Literal, Unary as UnaryNode, Binary as BinaryNode, Split, If, Binding, Program, Enter as EnterNode, Arg, Call}
+use Rattle.id_parts.specs.declared.row.Node.TheVariants.{Start, LoopHead, Variable, Entries, Switches, Turn, Next as NextNode, Reset as ResetNode, Loop, Def}
 use Rattle.id_parts.specs.Rows.{at}
-use Rattle.id_parts.specs.Turns.{heads_of, params_at}
+use Rattle.id_parts.specs.Tables.{begins_block, is_param}
+use Rattle.id_parts.specs.Turns.{params_at}
+use Rattle.id_parts.specs.Loops.{IsLoopOf}
+use Rattle.id_parts.specs.declared.row.Region.{Region}
 use Rattle.id_check.specs.declared.checked.Checked.{Checked}
 use Rattle.id_check.specs.Programs.{region, rows}
 use Rattle.id_graph.specs.declared.dests.Port.{Port}
@@ -22,27 +27,31 @@ use Rattle.id_graph.specs.declared.dests.Port.TheVariants.{Zero, One}
 use Rattle.id_graph.specs.declared.dests.Dest.{Dest}
 use Rattle.id_graph.specs.declared.instr.PortKind.TheVariants.{Signal}
 use Rattle.id_graph.specs.declared.instr.Op.{Op}
-use Rattle.id_graph.specs.declared.instr.Op.TheVariants.{Const, Unary, Binary, Merge, Switch, Back, Enter, Send}
+use Rattle.id_graph.specs.declared.instr.Op.TheVariants.{Const, Unary, Binary, Merge, Switch, Back, Enter, Send, Next, Reset}
 use Rattle.id_graph.specs.declared.instr.Instr.{Instr}
 use Rattle.id_graph.specs.declared.instr.Block.{Block}
 use Rattle.id_graph.specs.Ports.{port_kind, sends, two_sides}
 use Rattle.id_graph.specs.Graph.{Parts, arcs, arcs_on, false_arcs, kind_at}
 use Rattle.id_meaning.specs.Sources.{source}
 use Rattle.id_build.specs.declared.arc.Origin.{Origin}
-use Rattle.id_desugar.specs.Ends.{end_of}
+use Rattle.id_desugar.specs.Ends.{end_of, next_of}
 use Rattle.id_desugar.specs.Regions.{imports_of}
 use Rattle.id_build.specs.Rows.{node, answer_row, body_of, name_in, feed, feeds_of, origin, port_at, port_of, result_of, trigger_of, called, op_by, output, param_of}
-use Rattle.id_build.specs.Schemas.{Feeds, HasSide, Numbered, Schemas, Sends, block_of}
+use Rattle.id_build.specs.Rows.{Entry, block, entering, entries, entry_feeds, import_feeds, loop_entries, param_entry, turn_feeds, turn_row, entries_by}
+use Rattle.id_build.specs.Schemas.{Feeds, HasSide, Numbered, Schemas, Sends, all_heads, block_of}
 use Rattle.id_valid.specs.Roles.{op_at, merge_kind, back_kind, is_first, is_second, is_entry, is_reply, replies_to, same_port, is_dest, arcs_into, needs_no_arc}
 use Rattle.id_valid.specs.Validator.{is_value, IsAnswer, FillsRoles, IsTaken, IsFed, IsEntered, IsSentTo, AreNamed, IsSound, IsValid}
-use Rattle.id_laws.specs.Activations.{main_head}
+use Rattle.id_laws.specs.Activations.{main_head, Tests, of_arms, of_turns, Begins, of_call, of_loop}
 use Rattle.id_laws.specs.Topics.{IsPart}
 use Rattle.id_laws.proofs.Arcs.{Does, starts, returns, enters, constant, unary, binary, turns_on, hands, joins, names, answers, doing, makes, imports_fed}
+use Rattle.id_laws.proofs.Arcs.{sends_in, gives_back, varies, takes_in, moves_on, moves_name, advances, resets, gets_last, import_listed}
 use Rattle.id_laws.proofs.Arcs.{FromArm, one_feed, target_part, opens, passes, gets}
-use Rattle.id_laws.proofs.Blocks.{a_head, a_param, head_listed, param_listed}
-use Rattle.id_build.proofs.EndsLemmas.{end_is, not_last}
-use Rattle.id_laws.proofs.Known.{known}
-use Rattle.id_laws.proofs.Start.{main_block, main_is_head, main_within}
+use Rattle.id_laws.proofs.Blocks.{a_param, all_listed, any_head, param_listed}
+use Rattle.id_laws.proofs.LoopRows.{entered_as, entry_merge, loop_merge}
+use Rattle.id_build.proofs.EndsLemmas.{end_is, loop_same, not_last}
+use Rattle.id_build.proofs.LoopsLemmas.{the_loop, start_head}
+use Rattle.id_laws.proofs.Assumed.{IsKnown}
+use Rattle.id_laws.proofs.Start.{main_block, main_is_head, main_within, the_block}
 use Rattle.id_laws.proofs.Tokens.{one_part}
 use Rattle.id_laws.proofs.ValidCounts.{any_among, among_any, all_among, sum_at, sum_once, count_among, count_some, count_once}
 use Rattle.id_laws.proofs.ValidKinds.{typed, port_is}
@@ -125,6 +134,8 @@ false_side (Binary f) h = absurd (true_false (sym h))
 false_side (Enter b r) h = absurd (true_false (sym h))
 false_side (Send k t) h = absurd h
 false_side (Merge k) h = absurd (true_false (sym h))
+false_side (Next k) h = absurd (true_false (sym h))
+false_side (Reset k) h = absurd (true_false (sym h))
 
 -- what is on a side that an operator has counts
 side_counts : (i : Instr) (d : Dest) (b : Bool) → HasSide i.op b → Among d (arcs_on b i) → Among d (arcs i)
@@ -162,30 +173,30 @@ feeds_at P s n part p m within is h =
     let among = subst (λ z. Among (feed s part p) (feeds_of P n (region P n) z)) (sym is) h in
     record { from = s; feeds = record { within = within; among = among } }
 
-module _ (P : Checked) (g : Parts) (number : ℕ → ℕ → ℕ) (numbered : Numbered P g number) where
+module _ (P : Checked) (known : IsKnown P) (g : Parts) (number : ℕ → ℕ → ℕ) (numbered : Numbered P g number) where
   abbrev R : List Row
   R = rows P
 
   pub op_made : {n part : ℕ} {o : Form} → n < length R → Does P n part o → op_at g (number n part) ≡ Some (op_by number o)
   op_made {n} {part} within d = let i = numbered.made n part _ _ (makes within d) in ap (option_map (λ (x : Instr). x.op)) i.at ∙ ap (λ x. Some x) i.op
 
-  block_among : (h : ℕ) → h < length R → node P h ≡ Head → Among (block_of P number h) g.blocks
-  block_among h within is =
+  block_among : (h : ℕ) → h < length R → begins_block (node P h) ≡ true → Among (block_of P number h) g.blocks
+  block_among h within begins =
       subst (λ (bs : List Block). Among (block_of P number h) bs) (sym numbered.blocks)
-      (Among-map (block_of P number) h (heads_of R) (head_listed R (length R) h within is))
+      (Among-map (block_of P number) h (all_heads P) (all_listed P h within begins))
 
   -- a block is that of a head
   record BlockOf (b : Block) : Type 0 where
     head : ℕ
     within : head < length R
-    is_head : node P head ≡ Head
+    begins : begins_block (node P head) ≡ true
     is : b ≡ block_of P number head
 
   block_from : (b : Block) → Among b g.blocks → BlockOf b
   block_from b h =
-      let t = Among-from_map (block_of P number) b (heads_of R) (subst (λ (bs : List Block). Among b bs) numbered.blocks h) in
-      let z = a_head R (length R) t.0 t.1 in
-      record { head = t.0; within = z.0; is_head = z.1; is = t.2 }
+      let t = Among-from_map (block_of P number) b (all_heads P) (subst (λ (bs : List Block). Among b bs) numbered.blocks h) in
+      let z = any_head P t.0 t.1 in
+      record { head = t.0; within = z.0; begins = z.1; is = t.2 }
 
   -- ---- roles of blocks
 
@@ -194,28 +205,44 @@ module _ (P : Checked) (g : Parts) (number : ℕ → ℕ → ℕ) (numbered : Nu
       let t = among_any (λ (b : Block). b.first == n) g.blocks h in
       let d = block_from t.0 t.1 in
       let at : number d.head 0 ≡ n = sym (ap (λ (b : Block). b.first) d.is) ∙ number_is (t.0).first n t.2 in
-      ap (op_at g) (sym at) ∙ op_made d.within (starts d.is_head)
+      ap (op_at g) (sym at) ∙ op_made d.within (starts d.begins)
+
+  -- behind the first instruction of a block stands its `back`
+  second_does : (h : ℕ) → h < length R → begins_block (node P h) ≡ true → IsSome (option_and_then back_kind (op_at g (number h 1)))
+  second_does h within begins = go (node P h) refl begins
+    where
+      go : (m : Node) → node P h ≡ m → begins_block m ≡ true → IsSome (option_and_then back_kind (op_at g (number h 1)))
+      go Head is b = let does = op_made within (returns is) in rw does refl
+      go (LoopHead s) is b = let does = op_made within (gives_back is) in rw does refl
+      go _ is b = absurd (true_false (sym b))
 
   second_is : (n : ℕ) → IsTrue (is_second g n) → IsSome (option_and_then back_kind (op_at g n))
   second_is n h =
       let t = among_any (λ (b : Block). b.first + 1 == n) g.blocks h in
       let d = block_from t.0 t.1 in
       let at : number d.head 1 ≡ n = numbered.parts_behind d.head 1 ∙ sym (ap (λ (b : Block). b.first + 1) d.is) ∙ number_is ((t.0).first + 1) n t.2 in
-      let does : op_at g n ≡ Some (Back (port_of (result_of (node P (end_of P d.head))))) = ap (op_at g) (sym at) ∙ op_made d.within (returns d.is_head) in
-      rw does refl
+      subst (λ k. IsSome (option_and_then back_kind (op_at g k))) at (second_does d.head d.within d.begins)
 
   entry_is : (n : ℕ) → IsTrue (is_entry g n) → IsSome (option_and_then merge_kind (op_at g n))
   entry_is n h =
       let t = among_any (λ (b : Block). list_any (λ e. e == n) b.entries) g.blocks h in
       let d = block_from t.0 t.1 in
-      let ps = params_at R d.head in
-      let listed : list_any (λ e. e == n) (map (λ x. number x 0) ps) ≡ true = ap (λ (b : Block). list_any (λ e. e == n) b.entries) (sym d.is) ∙ t.2 in
-      let e = among_any (λ e. e == n) (map (λ x. number x 0) ps) listed in
-      let x = Among-from_map (λ x. number x 0) e.0 ps e.1 in
-      let z = a_param R d.head (length R) x.0 x.1 in
-      let at : number x.0 0 ≡ n = sym x.2 ∙ number_is e.0 n e.2 in
-      let does : op_at g n ≡ Some (Merge (port_at P x.0)) = ap (op_at g) (sym at) ∙ op_made z.within (enters (z.param).is) in
+      let numbers = map (λ (q : Entry). number q.row q.part) (entries P d.head) in
+      let listed : list_any (λ e. e == n) numbers ≡ true = ap (λ (b : Block). list_any (λ e. e == n) b.entries) (sym d.is) ∙ t.2 in
+      let e = among_any (λ e. e == n) numbers listed in
+      let x = Among-from_map (λ (q : Entry). number q.row q.part) e.0 (entries P d.head) e.1 in
+      let z = entry_merge P d.head x.0 d.within d.begins x.1 in
+      let at : number (x.0).row (x.0).part ≡ n = sym x.2 ∙ number_is e.0 n e.2 in
+      let does : op_at g n ≡ Some (Merge (port_at P (x.0).binder)) = ap (op_at g) (sym at) ∙ op_made z.within z.does in
       rw does refl
+
+  -- what is the number of an entry of a block is an entry
+  entry_there : (h : ℕ) (q : Entry) → h < length R → begins_block (node P h) ≡ true → Among q (entries P h) → is_entry g (number q.row q.part) ≡ true
+  entry_there h q within begins among =
+      let n = number q.row q.part in
+      let numbers = map (λ (z : Entry). number z.row z.part) (entries P h) in
+      any_among (λ (c : Block). list_any (λ e. e == n) c.entries) (block_of P number h) g.blocks (block_among h within begins)
+      (any_among (λ e. e == n) n numbers (Among-map (λ (z : Entry). number z.row z.part) q (entries P h) among) (same_number n n refl))
 
   fills : (n : ℕ) → FillsRoles g n
   fills n = record { first = first_is n; second = second_is n; entry = entry_is n }
@@ -234,7 +261,7 @@ module _ (P : Checked) (g : Parts) (number : ℕ → ℕ → ℕ) (numbered : Nu
   taken n i to at h =
       let side = counts_side i to h in
       let a = numbered.no_more n side.0 to (record { instr = i; at = at; lists = side.1 }) in
-      let t = typed P a.origin a.row a.part to.port a.feeds in
+      let t = typed P known a.origin a.row a.part to.port a.feeds in
       let s = t.source in
       let q = t.target in
       let out : sends i.op ≡ Some t.kind = ap sends (does_at n i s.within s.does a.from at) ∙ s.out number in
@@ -252,19 +279,19 @@ module _ (P : Checked) (g : Parts) (number : ℕ → ℕ → ℕ) (numbered : Nu
 
   answer_served : (n : ℕ) (p : Port) → n < length R → node P n ≡ Program → needs_no_arc g (number n 0) p ≡ true
   answer_served n p within is =
-      let last = ((known P).table).ends_once n within is in
+      let last = (known.table).ends_once n within is in
       let row : n ≡ answer_row P = omega (arith, last) in
       let free : (number n 0 == 0) ≡ true = same_number (number n 0) 0 (ap (λ z. number z 0) row ∙ numbered.answer_first) in
       rw free refl
 
-  first_served : (n : ℕ) (p : Port) → n < length R → node P n ≡ Head → needs_no_arc g (number n 0) p ≡ true
+  first_served : (n : ℕ) (p : Port) → n < length R → begins_block (node P n) ≡ true → needs_no_arc g (number n 0) p ≡ true
   first_served n p within is =
       let k = number n 0 in
       still (is_reply g k)
       (second_of (k == 0) (is_first g k) (is_entry g k) (is_second g k && same_port p Zero)
       (any_among (λ (b : Block). b.first == k) (block_of P number n) g.blocks (block_among n within is) (same_number k k refl)))
 
-  second_served : (n : ℕ) → n < length R → node P n ≡ Head → needs_no_arc g (number n 1) Zero ≡ true
+  second_served : (n : ℕ) → n < length R → begins_block (node P n) ≡ true → needs_no_arc g (number n 1) Zero ≡ true
   second_served n within is =
       let k = number n 1 in
       let second : is_second g k ≡ true =
@@ -272,34 +299,130 @@ module _ (P : Checked) (g : Parts) (number : ℕ → ℕ → ℕ) (numbered : Nu
       (same_number (number n 0 + 1) k (sym (numbered.parts_behind n 1))) in
       still (is_reply g k) (fourth_of (k == 0) (is_first g k) (is_entry g k) (is_second g k && same_port Zero Zero) (rw second refl))
 
+  -- a parameter stands in the block of a procedure
+  param_block : (b x : ℕ) (k : Kind) → b < length R → node P b ≡ Param x k → (block P b < length R) × (node P (block P b) ≡ Head)
+  param_block b x k within is =
+      let t = known.table in
+      let d = t.def_of b (not_last P t b within (λ e. no_program (sym is ∙ e))) in
+      let ps = t.params d.row d.head d.def in
+      let head = (t.head_is d.row (d.def).name d.head (d.def).body (d.def).result (d.def).within (d.def).node).0 in
+      let above : d.head < b = (by_cases d.head b d.low (λ e. no_head (sym (ap (node P) e ∙ is) ∙ head))) in
+      let below : b < d.row = (by_cases b d.row d.high (λ e. no_def (sym is ∙ ap (node P) e ∙ (d.def).node))) in
+      let few : b ≤ d.head + ps.count = elim (cases_lt (d.head + ps.count) b) [
+        | inl k ↦ absurd (true_false (sym (ap is_param is) ∙ ps.rest b k below))
+        | inr k ↦ k
+      ] in
+      let here : block P b ≡ d.head = ps.block b above few in
+      let low : d.head < length R = omega (arith, above, within) in
+      (omega (arith, here, low), ap (node P) here ∙ head)
+    where
+      no_head : Param x k ≡ Head → ⊥
+      no_head e = cc
+
+      no_def : {y h c : ℕ} {j : Kind} → Param x k ≡ Def y h j c → ⊥
+      no_def e = cc
+
+      by_cases : (i j : ℕ) → i ≤ j → (i ≡ j → ⊥) → i < j
+      by_cases i j l other = omega (arith, l, other)
+
   entry_served : (b x : ℕ) (k : Kind) → b < length R → node P b ≡ Param x k → needs_no_arc g (number b 0) Zero ≡ true
   entry_served b x k within is =
       let n = number b 0 in
-      let block = ((known P).table).block b (not_last P ((known P).table) b within (λ e. no_program (sym is ∙ e))) in
-      let h = (at R b).block in
-      let less : h < length R = omega (arith, block.0, within) in
-      let labels = map (λ y. number y 0) (params_at R h) in
-      let listed : Among n labels = Among-map (λ y. number y 0) b (params_at R h) (param_listed R h (length R) b x k within is refl) in
-      let entry : is_entry g n ≡ true =
-      any_among (λ (c : Block). list_any (λ e. e == n) c.entries) (block_of P number h) g.blocks (block_among h less block.1)
-      (any_among (λ e. e == n) n labels listed (same_number n n refl)) in
+      let h = block P b in
+      let z = param_block b x k within is in
+      let listed : Among (param_entry b) (map param_entry (params_at R h)) = Among-map param_entry b (params_at R h) (param_listed R h (length R) b x k within is refl) in
+      let among : Among (param_entry b) (entries P h) = subst (λ m. Among (param_entry b) (entries_by P h m)) (sym z.1) listed in
+      let entry : is_entry g n ≡ true = entry_there h (param_entry b) z.0 (ap begins_block z.1) among in
       still (is_reply g n) (third_of (n == 0) (is_first g n) (is_entry g n) (is_second g n && same_port Zero Zero) entry)
 
   call_served : (n e c : ℕ) (p : Port) → n < length R → node P n ≡ Call e c → needs_no_arc g (number n 0) p ≡ true
   call_served n e c p within is =
       let k = number n 0 in
-      let z = enter_at (known P) within is in
-      let m = numbered.made e 0 _ _ (makes z.within (opens z.node)) in
+      let z = enter_at known within is in
+      let m = numbered.made e 0 _ _ (makes z.within (opens (of_call z.node))) in
       let op_is : (m.instr).op ≡ Enter (number (called P e) 0) k = m.op ∙ ap (λ q. Enter (number (called P e) 0) (number q 0)) z.ends in
       let reply : is_reply g k ≡ true =
       any_among (λ (i : Instr). replies_to i.op k) m.instr g.instrs (Among-from_at m.instr g.instrs (number e 0) m.at) (ap (λ o. replies_to o k) op_is ∙ same_number k k refl) in
       or_last ((k == 0) || is_first g k || is_entry g k || (is_second g k && same_port p Zero)) reply
 
+  -- what a loop gives comes as a reply, since its `Start` names it
+  loop_served : (n h w l : ℕ) (p : Port) → n < length R → node P n ≡ Loop h w l → needs_no_arc g (number n 0) p ≡ true
+  loop_served n h w l p within is =
+      let k = number n 0 in
+      let t = known.table in
+      let c : IsLoopOf R n h = record { switches = w; last = l; within = within; node = is } in
+      let x = t.loop_is n h c in
+      let s = x.start in
+      let less : s < length R = omega (arith, x.begins, x.before_test.low, x.test.low, x.test.behind, x.body_is.low, x.last_is.low, x.last_is.ends, within) in
+      let ends : end_of P (s + 1) ≡ n = ap (end_of P) x.begins ∙ loop_same P t n h c in
+      let m = numbered.made s 0 _ _ (makes less (opens (of_loop (x.start_of).node))) in
+      let op_is : (m.instr).op ≡ Enter (number (s + 1) 0) k = m.op ∙ ap (λ q. Enter (number (s + 1) 0) (number q 0)) ends in
+      let reply : is_reply g k ≡ true =
+      any_among (λ (i : Instr). replies_to i.op k) m.instr g.instrs (Among-from_at m.instr g.instrs (number s 0) m.at) (ap (λ o. replies_to o k) op_is ∙ same_number k k refl) in
+      or_last ((k == 0) || is_first g k || is_entry g k || (is_second g k && same_port p Zero)) reply
+
+  -- the feeds of a loop's entries, of the sends to these, and of what hands imports on
+  entry_listed : (w j : ℕ) (bs : List ℕ) (k : ℕ) → k < length bs → Among (feed (record { row = w; part = j + k + 1; side = true }) (j + k) Zero) (entry_feeds w j bs)
+  entry_listed w j [] k h = absurd (omega (arith, h))
+  entry_listed w j (b ∷ bs) zero h =
+      let at : j + 0 ≡ j = omega arith in inl (λ i. feed (record { row = w; part = at i + 1; side = true }) (at i) Zero)
+  entry_listed w j (b ∷ bs) (suc k) h =
+      let at : (j + 1) + k ≡ j + suc k = omega arith in
+      inr (subst (λ m. Among (feed (record { row = w; part = m + 1; side = true }) m Zero) (entry_feeds w (j + 1) bs)) at (entry_listed w (j + 1) bs k (omega (arith, h))))
+
+  entry_fed : (n k : ℕ) → n < length R → node P n ≡ Entries → k < length (imports_of P (block P n)) → HasFeed P n k Zero
+  entry_fed n k within is less =
+      let w = turn_row P (block P n) in
+      let at : 0 + k ≡ k = omega arith in
+      feeds_at P (record { row = w; part = k + 1; side = true }) n k Zero Entries within is
+      (subst (λ m. Among (feed (record { row = w; part = m + 1; side = true }) m Zero) (entry_feeds w 0 (imports_of P (block P n)))) at (entry_listed w 0 (imports_of P (block P n)) k less))
+
+  turn_listed : (r : Region) (j : ℕ) (bs : List ℕ) (k : ℕ) → k < length bs → Among (feed (name_in P r (get_or bs k 0)) (j + k) Zero) (turn_feeds P r j bs)
+  turn_listed r j [] k h = absurd (omega (arith, h))
+  turn_listed r j (b ∷ bs) zero h = let at : j + 0 ≡ j = omega arith in inl (λ i. feed (name_in P r b) (at i) Zero)
+  turn_listed r j (b ∷ bs) (suc k) h =
+      let at : (j + 1) + k ≡ j + suc k = omega arith in
+      inr (subst (λ m. Among (feed (name_in P r (get_or bs k 0)) m Zero) (turn_feeds P r (j + 1) bs)) at (turn_listed r (j + 1) bs k (omega (arith, h))))
+
+  turn_fed : (n k : ℕ) → n < length R → node P n ≡ Turn → k < length (imports_of P (block P n)) → HasFeed P n (suc k) Zero
+  turn_fed n k within is less =
+      let bs = imports_of P (block P n) in
+      let at : 1 + k ≡ suc k = omega arith in
+      feeds_at P (name_in P (region P n) (get_or bs k 0)) n (suc k) Zero Turn within is
+      (inr (subst (λ m. Among (feed (name_in P (region P n) (get_or bs k 0)) m Zero) (turn_feeds P (region P n) 1 bs)) at (turn_listed (region P n) 1 bs k less)))
+
+  send_fed : (n k : ℕ) (q : Entry) → n < length R → node P n ≡ Start → slice_get (loop_entries P (n + 1)) k ≡ Some q
+      → HasFeed P n (suc k) Zero × HasFeed P n (suc k) One
+  send_fed n k q within is there =
+      let bs = entering P (n + 1) in
+      let at : 1 + k ≡ suc k = omega arith in
+      let listed = import_listed P (output n) (region P n) 1 bs k (entered_as P (n + 1) k q there).less in (
+        feeds_at P (output n) n (suc k) Zero Start within is
+            (inr (subst (λ m. Among (feed (output n) m Zero) (import_feeds P (output n) (region P n) 1 bs)) at listed.0)),
+        feeds_at P (name_in P (region P n) (get_or bs k 0)) n (suc k) One Start within is
+            (inr (subst (λ m. Among (feed (name_in P (region P n) (get_or bs k 0)) m One) (import_feeds P (output n) (region P n) 1 bs)) at listed.1)),
+      )
+
+  -- what feeds the switches of a trigger, and what makes a context
+  test_fed : (n t : ℕ) → n < length R → Tests P n t → HasFeed P n 0 Zero × HasFeed P n 0 One
+  test_fed n t within (of_arms is) = (
+    feeds_at P (origin P t) n 0 Zero (Split t) within is (inl refl),
+    feeds_at P (trigger_of (region P n)) n 0 One (Split t) within is (inr (inl refl)),
+  )
+  test_fed n t within (of_turns is) = (
+    feeds_at P (origin P t) n 0 Zero (Switches t) within is (inl refl),
+    feeds_at P (trigger_of (region P n)) n 0 One (Switches t) within is (inr (inl refl)),
+  )
+
+  begin_fed : (n h q : ℕ) → n < length R → Begins P n h q → HasFeed P n 0 Zero
+  begin_fed n h q within (of_call {x = x} is) = feeds_at P (trigger_of (region P n)) n 0 Zero (EnterNode x) within is (inl refl)
+  begin_fed n h q within (of_loop is) = feeds_at P (trigger_of (region P n)) n 0 Zero Start within is (inl refl)
+
   served : {n part : ℕ} {o : Form} → n < length R → Does P n part o → (p : Port) → IsSome (port_kind (op_by number o) p) → Served n part p
   unfolding Served
   served {n} within (answers is) p h = inl (answer_served n p within is)
   served {n} within (starts is) p h = inl (first_served n p within is)
-  served {n} within (returns is) Zero h = inl (second_served n within is)
+  served {n} within (returns is) Zero h = inl (second_served n within (ap begins_block is))
   served {n} within (returns is) One h = inr (feeds_at P (origin P (body_of (node P (end_of P n)))) n 1 One Head within is (inl refl))
   served {n} within (enters {x = x} {k = k} is) Zero h = inl (entry_served n x k within is)
   served within (enters is) One h = cc
@@ -309,19 +432,36 @@ module _ (P : Checked) (g : Parts) (number : ℕ → ℕ → ℕ) (numbered : Nu
   served within (unary is) One h = cc
   served {n} within (binary {o = o} {a = a} {b = b} is) Zero h = inr (feeds_at P (origin P a) n 0 Zero (BinaryNode o a b) within is (inl refl))
   served {n} within (binary {o = o} {a = a} {b = b} is) One h = inr (feeds_at P (origin P b) n 0 One (BinaryNode o a b) within is (inr (inl refl)))
-  served {n} within (turns_on {t = t} is) Zero h = inr (feeds_at P (origin P t) n 0 Zero (Split t) within is (inl refl))
-  served {n} within (turns_on {t = t} is) One h = inr (feeds_at P (trigger_of (region P n)) n 0 One (Split t) within is (inr (inl refl)))
+  served {n} within (turns_on {t = t} is) Zero h = inr (test_fed n t within is).0
+  served {n} within (turns_on {t = t} is) One h = inr (test_fed n t within is).1
   served {n} within (hands {t = t} k is less) Zero h = inr (record { from = origin P t; feeds = (imports_fed P n t k within is less).0 })
   served {n} within (hands {t = t} k is less) One h = inr (record { from = name_in P (region P n) (get_or (imports_of P n) k 0); feeds = (imports_fed P n t k within is less).1 })
   served {n} within (joins {s = s} {x = x} {y = y} is) Zero h = inr (feeds_at P (origin P x) n 0 Zero (If s x y) within is (inl refl))
   served within (joins is) One h = cc
-  served {n} within (opens {x = x} is) Zero h = inr (feeds_at P (trigger_of (region P n)) n 0 Zero (EnterNode x) within is (inl refl))
+  served {n} within (opens {h = b} {q = q} is) Zero h = inr (begin_fed n b q within is)
   served within (opens is) One h = cc
   served {n} within (passes {e = e} {k = k} {v = v} is) Zero h = inr (feeds_at P (output e) n 0 Zero (Arg e k v) within is (inl refl))
   served {n} within (passes {e = e} {k = k} {v = v} is) One h = inr (feeds_at P (origin P v) n 0 One (Arg e k v) within is (inr (inl refl)))
   served {n} within (gets {e = e} {c = c} is) p h = inl (call_served n e c p within is)
   served {n} within (names {x = x} {a = a} is) Zero h = inr (feeds_at P (origin P a) n 0 Zero (Binding x a) within is (inl refl))
   served within (names is) One h = cc
+  served {n} within (sends_in k q is at) Zero h = inr (send_fed n k q within is at).0
+  served {n} within (sends_in k q is at) One h = inr (send_fed n k q within is at).1
+  served {n} within (gives_back is) Zero h = inl (second_served n within (ap begins_block is))
+  served {n} within (gives_back {s = s} is) One h = inr (feeds_at P (output (end_of P n - 1)) n 1 One (LoopHead s) within is (inr (inl refl)))
+  served {n} within (varies is) Zero h = inr (feeds_at P (output (next_of P n)) n 0 Zero Variable within is (inl refl))
+  served within (varies is) One h = cc
+  served {n} within (takes_in k is less) Zero h = inr (entry_fed n k within is less)
+  served within (takes_in k is less) One h = cc
+  served {n} within (moves_on is) Zero h = inr (feeds_at P (trigger_of (region P n)) n 0 Zero Turn within is (inl refl))
+  served within (moves_on is) One h = cc
+  served {n} within (moves_name k is less) Zero h = inr (turn_fed n k within is less)
+  served within (moves_name k is less) One h = cc
+  served {n} within (advances {x = x} {k = k} {o = o} {v = v} is) Zero h = inr (feeds_at P (origin P v) n 0 Zero (NextNode x k o v) within is (inl refl))
+  served within (advances is) One h = cc
+  served {n} within (resets {v = v} is) Zero h = inr (feeds_at P (origin P v) n 0 Zero (ResetNode v) within is (inl refl))
+  served within (resets is) One h = cc
+  served {n} within (gets_last {h = b} {w = w} {l = l} is) p h = inl (loop_served n b w l p within is)
 
   -- an arc into a port counts
   fed_counts : (n part : ℕ) (p : Port) → HasFeed P n part p → 1 ≤ arcs_into g (number n part) p
@@ -337,6 +477,14 @@ module _ (P : Checked) (g : Parts) (number : ℕ → ℕ → ℕ) (numbered : Nu
   alone never (inl e) = e
   alone never (inr arms) = absurd (never arms)
 
+  test_no_if : {n t s x y : ℕ} → Tests P n t → node P n ≡ If s x y → ⊥
+  test_no_if {t = t} {s = s} {x = x} {y = y} (of_arms is) e = let bad : If s x y ≡ Split t = sym e ∙ is in cc
+  test_no_if {t = t} {s = s} {x = x} {y = y} (of_turns is) e = let bad : If s x y ≡ Switches t = sym e ∙ is in cc
+
+  begin_no_if : {n h q s x y : ℕ} → Begins P n h q → node P n ≡ If s x y → ⊥
+  begin_no_if {s = s} {x = x} {y = y} (of_call {x = z} is) e = let bad : If s x y ≡ EnterNode z = sym e ∙ is in cc
+  begin_no_if {s = s} {x = x} {y = y} (of_loop is) e = let bad : If s x y ≡ Start = sym e ∙ is in cc
+
   -- a part is fed from one origin at each port, or is a merge
   one_or_merge : {n part : ℕ} {o : Form} → Does P n part o → IsSome (merge_kind (op_by number o)) ⊎ ((x y : Origin) (p : Port) → Feeds P x n part p → Feeds P y n part p → x ≡ y)
   one_or_merge (starts is) = inl refl
@@ -345,14 +493,23 @@ module _ (P : Checked) (g : Parts) (number : ℕ → ℕ → ℕ) (numbered : Nu
   one_or_merge (constant {c = c} is) = inr (λ x y p h k. alone (λ a. let bad : If (a.0).split (a.0).then (a.0).otherwise ≡ Literal c = sym (a.0).node ∙ is in cc) (one_feed h k))
   one_or_merge (unary {o = o} {a = e} is) = inr (λ x y p h k. alone (λ a. let bad : If (a.0).split (a.0).then (a.0).otherwise ≡ UnaryNode o e = sym (a.0).node ∙ is in cc) (one_feed h k))
   one_or_merge (binary {o = o} {a = e} {b = f} is) = inr (λ x y p h k. alone (λ a. let bad : If (a.0).split (a.0).then (a.0).otherwise ≡ BinaryNode o e f = sym (a.0).node ∙ is in cc) (one_feed h k))
-  one_or_merge (turns_on {t = t} is) = inr (λ x y p h k. alone (λ a. let bad : If (a.0).split (a.0).then (a.0).otherwise ≡ Split t = sym (a.0).node ∙ is in cc) (one_feed h k))
-  one_or_merge (hands {t = t} j is less) = inr (λ x y p h k. alone (λ a. let bad : If (a.0).split (a.0).then (a.0).otherwise ≡ Split t = sym (a.0).node ∙ is in cc) (one_feed h k))
+  one_or_merge (turns_on is) = inr (λ x y p h k. alone (λ a. test_no_if is (a.0).node) (one_feed h k))
+  one_or_merge (hands j is less) = inr (λ x y p h k. alone (λ a. test_no_if is (a.0).node) (one_feed h k))
   one_or_merge (joins is) = inl refl
-  one_or_merge (opens {x = x} is) = inr (λ y z p h k. alone (λ a. let bad : If (a.0).split (a.0).then (a.0).otherwise ≡ EnterNode x = sym (a.0).node ∙ is in cc) (one_feed h k))
+  one_or_merge (opens is) = inr (λ y z p h k. alone (λ a. begin_no_if is (a.0).node) (one_feed h k))
   one_or_merge (passes {e = e} {k = i} {v = v} is) = inr (λ y z p h k. alone (λ a. let bad : If (a.0).split (a.0).then (a.0).otherwise ≡ Arg e i v = sym (a.0).node ∙ is in cc) (one_feed h k))
   one_or_merge (gets is) = inl refl
   one_or_merge (names is) = inl refl
   one_or_merge (answers is) = inl refl
+  one_or_merge (sends_in j q is at) = inr (λ y z p h k. alone (λ a. let bad : If (a.0).split (a.0).then (a.0).otherwise ≡ Start = sym (a.0).node ∙ is in cc) (one_feed h k))
+  one_or_merge (gives_back {s = s} is) = inr (λ y z p h k. alone (λ a. let bad : If (a.0).split (a.0).then (a.0).otherwise ≡ LoopHead s = sym (a.0).node ∙ is in cc) (one_feed h k))
+  one_or_merge (varies is) = inl refl
+  one_or_merge (takes_in j is less) = inl refl
+  one_or_merge (moves_on is) = inr (λ y z p h k. alone (λ a. let bad : If (a.0).split (a.0).then (a.0).otherwise ≡ Turn = sym (a.0).node ∙ is in cc) (one_feed h k))
+  one_or_merge (moves_name j is less) = inr (λ y z p h k. alone (λ a. let bad : If (a.0).split (a.0).then (a.0).otherwise ≡ Turn = sym (a.0).node ∙ is in cc) (one_feed h k))
+  one_or_merge (advances {x = x} {k = i} {o = o} {v = v} is) = inr (λ y z p h k. alone (λ a. let bad : If (a.0).split (a.0).then (a.0).otherwise ≡ NextNode x i o v = sym (a.0).node ∙ is in cc) (one_feed h k))
+  one_or_merge (resets {v = v} is) = inr (λ y z p h k. alone (λ a. let bad : If (a.0).split (a.0).then (a.0).otherwise ≡ ResetNode v = sym (a.0).node ∙ is in cc) (one_feed h k))
+  one_or_merge (gets_last is) = inl refl
 
   module _ (n : ℕ) (p : Port) (row part : ℕ) (here : IsPart P row part) (is : number row part ≡ n) (one : (x y : Origin) → Feeds P x row part p → Feeds P y row part p → x ≡ y) where
     -- instructions that send to the port are one, on one side
@@ -447,7 +604,7 @@ module _ (P : Checked) (g : Parts) (number : ℕ → ℕ → ℕ) (numbered : Nu
   -- an `enter` names the first instruction of a block, whose `back` is of the kind of the call's merge
   enter_named : (n x : ℕ) → n < length R → node P n ≡ EnterNode x → IsEntered g (number (called P n) 0) (number (end_of P n) 0)
   enter_named n x within is =
-      let k = known P in
+      let k = known in
       let c = call_at k within is in
       let h = called P n in
       let head = called_head k within is in
@@ -457,7 +614,7 @@ module _ (P : Checked) (g : Parts) (number : ℕ → ℕ → ℕ) (numbered : Nu
       ∙ sym (port_is P (end_of P n) (c.def).result (k.call_kind (end_of P n) n c.count x c.callee c.def c.within c.node)) in
       record {
         kind = port_at P (end_of P n);
-        first = any_among (λ (b : Block). b.first == number h 0) (block_of P number h) g.blocks (block_among h head.0 head.1) (same_number (number h 0) (number h 0) refl);
+        first = any_among (λ (b : Block). b.first == number h 0) (block_of P number h) g.blocks (block_among h head.0 (ap begins_block head.1)) (same_number (number h 0) (number h 0) refl);
         back = ap (op_at g) (sym (numbered.parts_behind h 1)) ∙ op_made head.0 (returns head.1) ∙ ap (λ z. Some (Back z)) result_is;
         reply = op_made c.within (gets c.node);
       }
@@ -466,18 +623,45 @@ module _ (P : Checked) (g : Parts) (number : ℕ → ℕ → ℕ) (numbered : Nu
   send_named : (n e k v : ℕ) → n < length R → node P n ≡ Arg e k v → IsSentTo g (port_at P (param_of P e k)) (number (param_of P e k) 0)
   send_named n e k v within is =
       let b = param_of P e k in
-      let z = arg_at (known P) within is in
+      let z = arg_at known within is in
       let h = called P e in
-      let head = called_head (known P) z.enter_within z.enter in
-      let to = (known P).passed n e k v within is in
+      let head = called_head known z.enter_within z.enter in
+      let to = known.passed n e k v within is in
       let among = Among-from_at b (params_at R h) k to.0 in
       let x = a_param R h (length R) b among in
-      let labels = map (λ y. number y 0) (params_at R h) in
-      let listed : Among (number b 0) labels = Among-map (λ y. number y 0) b (params_at R h) among in
+      let listed : Among (param_entry b) (entries P h) =
+      subst (λ m. Among (param_entry b) (entries_by P h m)) (sym head.1) (Among-map param_entry b (params_at R h) among) in
       record {
-        entry = any_among (λ (c : Block). list_any (λ q. q == number b 0) c.entries) (block_of P number h) g.blocks (block_among h head.0 head.1)
-            (any_among (λ q. q == number b 0) (number b 0) labels listed (same_number (number b 0) (number b 0) refl));
+        entry = entry_there h (param_entry b) head.0 (ap begins_block head.1) listed;
         merge = op_made x.within (enters (x.param).is);
+      }
+
+  -- a `Start` names the first instruction of its loop, and each of its `send`s an entry of that
+  start_named : (n : ℕ) → n < length R → node P n ≡ Start → IsEntered g (number (n + 1) 0) (number (end_of P (n + 1)) 0)
+  start_named n within is =
+      let h = n + 1 in
+      let head = start_head P n within is in
+      let c = the_loop P h n head.0 head.1 in
+      record {
+        kind = port_at P (end_of P h);
+        first = any_among (λ (b : Block). b.first == number h 0) (block_of P number h) g.blocks (block_among h head.0 (ap begins_block head.1)) (same_number (number h 0) (number h 0) refl);
+        back = ap (op_at g) (sym (numbered.parts_behind h 1)) ∙ op_made head.0 (gives_back head.1);
+        reply = op_made c.within (gets_last c.node);
+      }
+
+  begin_named : (n h q : ℕ) → n < length R → Begins P n h q → IsEntered g (number h 0) (number q 0)
+  begin_named n h q within (of_call {x = x} is) = enter_named n x within is
+  begin_named n h q within (of_loop is) = start_named n within is
+
+  entry_named : (n k : ℕ) (q : Entry) → n < length R → node P n ≡ Start → slice_get (loop_entries P (n + 1)) k ≡ Some q
+      → IsSentTo g (port_at P q.binder) (number q.row q.part)
+  entry_named n k q within is at =
+      let head = start_head P n within is in
+      let among = Among-from_at q (loop_entries P (n + 1)) k at in
+      let z = loop_merge P (n + 1) n q head.0 head.1 among in
+      record {
+        entry = entry_there (n + 1) q head.0 (ap begins_block head.1) (subst (λ m. Among q (entries_by P (n + 1) m)) (sym head.1) among);
+        merge = op_made z.within z.does;
       }
 
   named : {n part : ℕ} {o : Form} → n < length R → Does P n part o → AreNamed g (op_by number o)
@@ -490,17 +674,26 @@ module _ (P : Checked) (g : Parts) (number : ℕ → ℕ → ℕ) (numbered : Nu
   named within (turns_on is) = tt
   named within (hands k is less) = tt
   named within (joins is) = tt
-  named {n} within (opens {x = x} is) = enter_named n x within is
+  named {n} within (opens {h = h} {q = q} is) = begin_named n h q within is
   named {n} within (passes {e = e} {k = k} {v = v} is) = send_named n e k v within is
   named within (gets is) = tt
   named within (names is) = tt
   named within (answers is) = tt
+  named {n} within (sends_in k q is at) = entry_named n k q within is at
+  named within (gives_back is) = tt
+  named within (varies is) = tt
+  named within (takes_in k is less) = tt
+  named within (moves_on is) = tt
+  named within (moves_name k is less) = tt
+  named within (advances is) = tt
+  named within (resets is) = tt
+  named within (gets_last is) = tt
 
   -- ---- the answer
 
   answer : IsAnswer g
   answer =
-      let k = known P in
+      let k = known in
       let main = main_head P in
       let S = source P [] in
       let within = main_within S g number numbered k in
@@ -512,7 +705,7 @@ module _ (P : Checked) (g : Parts) (number : ℕ → ℕ → ℕ) (numbered : Nu
       ap (op_at g) (sym (numbered.parts_behind main 1)) ∙ op_made within (returns is) ∙ ap (λ e. Some (Back (port_of (result_of (node P e))))) end in
       record {
         kind = result;
-        block = block_of P number main;
+        block = the_block S g number numbered k;
         merge = ap (op_at g) (sym numbered.answer_first) ∙ op_made last (answers (k.table).ends);
         value = is_value_port (result_of (node P P.main));
         main = main_block S g number numbered k;
@@ -529,5 +722,5 @@ module _ (P : Checked) (g : Parts) (number : ℕ → ℕ → ℕ) (numbered : Nu
   }
 
 -- every graph that the schemas give a program is valid
-pub validity : (P : Checked) (g : Parts) → Schemas P g → IsValid g
-validity P g schemas = record { sound = sound P g schemas.number schemas.numbered }
+pub validity : (P : Checked) → IsKnown P → (g : Parts) → Schemas P g → IsValid g
+validity P known g schemas = record { sound = sound P known g schemas.number schemas.numbered }

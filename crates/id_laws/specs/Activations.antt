@@ -1,7 +1,7 @@
 -- Where a context stands, which regions are live and where procedures return to, in a run (docs/MEANING.md, "Laws").
-use Rattle.std.specs.Prelude.{◌≡◌, ◌<◌, ℕ, Bool, List, length}
+use Rattle.std.specs.Prelude.{◌≡◌, ◌<◌, ◌+◌, ℕ, suc, Bool, true, List, length}
 use Rattle.id_parts.specs.declared.row.Region.{Region}
-use Rattle.id_parts.specs.declared.row.Node.TheVariants.{Split, Enter}
+use Rattle.id_parts.specs.declared.row.Node.TheVariants.{Split, Enter, Start, Switches}
 use Rattle.id_parts.specs.Rows.{arm_at, at, top}
 use Rattle.id_check.specs.declared.checked.Checked.{Checked}
 use Rattle.id_check.specs.Programs.{place, region, rows}
@@ -9,7 +9,7 @@ use Rattle.id_tag.specs.declared.Context.{Context}
 use Rattle.id_tag.specs.declared.Value.{Value}
 use Rattle.id_tag.specs.declared.Value.TheVariants as value
 use Rattle.id_ops.specs.declared.Fired.{Fired}
-use Rattle.id_ops.specs.declared.Fired.TheVariants.{Entered}
+use Rattle.id_ops.specs.declared.Fired.TheVariants.{Entered, Moved}
 use Rattle.id_meaning.specs.declared.Path.{Path}
 use Rattle.id_meaning.specs.declared.SourceValue.TheVariants as source
 use Rattle.id_meaning.specs.declared.Fact.TheVariants.{Has}
@@ -26,6 +26,13 @@ use Rattle.id_runs.specs.Events.{Event, FiresAs, GivesOn}
 abbrev pub main_head : Checked → ℕ
 main_head P = head_of (at (rows P) P.main).node
 
+-- the row n makes a context for the block with this head, and what that gives goes to this row: a call's `Enter` for
+-- the procedure that it calls, and back to the call, a loop's `Start` for the loop, whose head stands behind it, and to
+-- the loop
+pub data Begins (P : Checked) (n : ℕ) : ℕ → ℕ → Type 0 where
+  of_call : {x : ℕ} → node P n ≡ Enter x → Begins P n (called P n) (end_of P n)
+  of_loop : node P n ≡ Start → Begins P n (n + 1) (end_of P (n + 1))
+
 -- where a context stands: it is main's, or its path goes on below one by a step at a place, whose number is the
 -- iteration (a call's is 0)
 pub data Seat : Type 0 where
@@ -40,21 +47,22 @@ path_at (Below p e) k = below p e k
 -- the switches at the row n go by the predicate at the row e
 pub data Tests (P : Checked) (n : ℕ) : ℕ → Type 0 where
   of_arms : {e : ℕ} → node P n ≡ Split e → Tests P n e
+  of_turns : {e : ℕ} → node P n ≡ Switches e → Tests P n e
 
 -- by the facts of the source the switches at the row n go to this side at the path
 pub data Goes (S : Source) (p : Path) (n : ℕ) (b : Bool) : Type 0 where
   by_test : {e : ℕ} → Tests S.checked n e → Holds S (Has p (place S.checked e) (source.Bool b)) → Goes S p n b
 
 module _ (S : Source) (number : ℕ → ℕ → ℕ) (run : List Event) where
-  -- the `Enter` at the row n has made the context under the activation
+  -- the `Enter` or `Start` at the row n has made the context under the activation
   abbrev pub Opens : Activation → ℕ → Context → Type 0
   Opens a n c = FiresAs run (tag_in a (number n 0)) (Entered c)
 
   -- the context stands there
   pub data SeatOf : Context → Seat → Type 0 where
     main_seat : SeatOf main_context Outermost
-    made_seat : {a : Activation} {n x : ℕ} {c : Context} {s : Seat} → n < length (rows S.checked)
-        → node S.checked n ≡ Enter x → Opens a n c
+    made_seat : {a : Activation} {n h q : ℕ} {c : Context} {s : Seat} → n < length (rows S.checked)
+        → Begins S.checked n h q → Opens a n c
         → SeatOf a.context s → SeatOf c (Below (path_at s a.iteration) (place S.checked n))
 
   -- the activation has the path
@@ -69,25 +77,35 @@ module _ (S : Source) (number : ℕ → ℕ → ℕ) (run : List Event) where
     pub fires : FiresAs run (tag_in a (number s.row s.part)) fired
     pub gives : GivesOn fired s.side v
 
+  -- from there the value goes on to this iteration of the activation's context
+  pub record Moves (a : Activation) (s : Origin) (k : ℕ) (v : Value) : Type 0 where
+    pub on : s.side ≡ true
+    pub fires : FiresAs run (tag_in a (number s.row s.part)) (Moved k v)
+
   -- the switches at the row n go to this side under the activation
   pub record GoesAt (a : Activation) (n : ℕ) (b : Bool) : Type 0 where
     pub path : Path
     pub path_of : PathOf a path
     pub goes : Goes S path n b
 
-  -- the region is live under the activation: main's body is from the start, an arm is where the predicate has chosen
-  -- it, and a procedure's body in each context that an `Enter` of a live region has made for it
+  -- the region is live under the activation: main's body is from the start, an arm or a side of a loop is where the
+  -- predicate has chosen it, a procedure's body and a loop are in each context that an `Enter` or `Start` of a live
+  -- region has made for them, and a loop is again in the iteration behind one where its predicate is true
   pub data Live : Activation → Region → Type 0 where
     at_start : Live main_activation (top (main_head S.checked))
     on_side : {a : Activation} {n e : ℕ} {b : Bool} → n < length (rows S.checked) → Tests S.checked n e
         → Live a (region S.checked n) → Speaks a (origin S.checked e) (value.Bool b) → GoesAt a n b
         → Live a (arm_at n b)
-    entered : {a : Activation} {n x : ℕ} {c : Context} → n < length (rows S.checked) → node S.checked n ≡ Enter x
-        → Live a (region S.checked n) → Opens a n c → Live (at_iteration c 0) (top (called S.checked n))
+    entered : {a : Activation} {n h q : ℕ} {c : Context} → n < length (rows S.checked) → Begins S.checked n h q
+        → Live a (region S.checked n) → Opens a n c → Live (at_iteration c 0) (top h)
+    again : {c : Context} {k n e : ℕ} → n < length (rows S.checked) → node S.checked n ≡ Switches e
+        → Live (at_iteration c k) (region S.checked n)
+        → Speaks (at_iteration c k) (origin S.checked e) (value.Bool true)
+        → GoesAt (at_iteration c k) n true → Live (at_iteration c (suc k)) (region S.checked n)
 
   -- what the block with this head gives under the context goes to the first instruction of the row, under the
-  -- activation: main's to the answer, another's to the call where what its `Enter` has begun ends
+  -- activation: main's to the answer, another's to the call or loop where what its `Enter` or `Start` has begun ends
   pub data ReturnsTo : Context → ℕ → Activation → ℕ → Type 0 where
     to_answer : ReturnsTo main_context (main_head S.checked) main_activation (answer_row S.checked)
-    to_row : {a : Activation} {n x : ℕ} {c : Context} → n < length (rows S.checked) → node S.checked n ≡ Enter x
-        → Live a (region S.checked n) → Opens a n c → ReturnsTo c (called S.checked n) a (end_of S.checked n)
+    to_row : {a : Activation} {n h q : ℕ} {c : Context} → n < length (rows S.checked) → Begins S.checked n h q
+        → Live a (region S.checked n) → Opens a n c → ReturnsTo c h a q

@@ -1,7 +1,7 @@
 -- When a fact of the source is carried by a quiet run (docs/MEANING.md, "Laws").
 use Rattle.std.specs.Prelude.{◌≡◌, ◌<◌, ℕ, true, List, length}
 use Rattle.id_parts.specs.declared.row.Node.{Node}
-use Rattle.id_parts.specs.declared.row.Node.TheVariants.{Param, Binding}
+use Rattle.id_parts.specs.declared.row.Node.TheVariants.{Param, Binding, Next}
 use Rattle.id_parts.specs.Tables.{is_thing}
 use Rattle.id_check.specs.declared.checked.Checked.{Checked}
 use Rattle.id_check.specs.Programs.{place, region, rows}
@@ -12,7 +12,7 @@ use Rattle.id_meaning.specs.declared.Fact.{Fact}
 use Rattle.id_meaning.specs.declared.Fact.TheVariants.{On, Has}
 use Rattle.id_meaning.specs.Sources.{Source}
 use Rattle.id_build.specs.declared.arc.Origin.{Origin}
-use Rattle.id_build.specs.Rows.{node, origin, output}
+use Rattle.id_build.specs.Rows.{label, node, origin, output}
 use Rattle.id_runs.specs.Activations.{Activation}
 use Rattle.id_runs.specs.Events.{Event}
 use Rattle.id_laws.specs.Activations.{PathOf, Speaks, Live}
@@ -22,13 +22,15 @@ use Rattle.id_laws.specs.Topics.{StandsFor}
 abbrev pub speaker_of : Checked → ℕ → Node → Origin
 speaker_of P n (Param x k) = output n
 speaker_of P n (Binding x a) = output n
+speaker_of P n (Next x k o v) = output (label P n)
 speaker_of P n _ = origin P n
 
 abbrev pub speaker : Checked → ℕ → Origin
 speaker P n = speaker_of P n (node P n)
 
 module _ (S : Source) (number : ℕ → ℕ → ℕ) (run : List Event) where
-  -- the thing at the place, under an activation of the path, in a live region
+  -- the thing at the place, under an activation of the path, in a live region: a loop's variable stands where its label
+  -- does
   pub record Here (p : Path) (e : ℕ) : Type 0 where
     pub activation : Activation
     pub path_of : PathOf S number run activation p
@@ -36,7 +38,7 @@ module _ (S : Source) (number : ℕ → ℕ → ℕ) (run : List Event) where
     pub within : row < length (rows S.checked)
     pub thing : is_thing (node S.checked row) ≡ true
     pub place : e ≡ place S.checked row
-    pub live : Live S number run activation (region S.checked row)
+    pub live : Live S number run activation (region S.checked (label S.checked row))
 
   -- what stands there has spoken the value
   pub record CarriedHas (p : Path) (e : ℕ) (v : SourceValue) : Type 0 where

@@ -26,6 +26,7 @@ use Rattle.id_meaning.specs.Sources.{Source, AreInputs, value_kind}
 use Rattle.id_meaning.specs.Rounds.{Holds, Faulty, FaultFree, Answers, IsAnswer, IsCoherent}
 use Rattle.id_meaning.specs.Names.{IsNameValue}
 use Rattle.id_build.specs.declared.arc.Form.{Form}
+use Rattle.id_build.specs.Rows.{label}
 use Rattle.id_build.specs.Schemas.{Makes, Schemas}
 use Rattle.id_valid.specs.Validator.{IsValid}
 -- *Suited* speaks of the runs of every valid graph, *Serials* of those of every graph
@@ -114,14 +115,15 @@ pub record IsBinder (P : Checked) (b : ℕ) : Type 0 where
   pub within : b < length (rows P)
   pub binds : is_binder (at (rows P) b).node ≡ true
 
--- the labels of the graph are the first instructions of the program's binders, where the instructions are numbered so
+-- the labels of the graph are the first instructions of the rows that label the program's binders, where the
+-- instructions are numbered so
 pub record AreLabels (P : Checked) (g : Parts) (number : ℕ → ℕ → ℕ) : Type 0 where
   -- each binder has a label, and it has the binder's place
-  pub each : (b : ℕ) → IsBinder P b → shown.is_label g (number b 0) ≡ true
-  pub places : (b : ℕ) → IsBinder P b → shown.place_of g (number b 0) ≡ place P b
+  pub each : (b : ℕ) → IsBinder P b → shown.is_label g (number (label P b) 0) ≡ true
+  pub places : (b : ℕ) → IsBinder P b → shown.place_of g (number (label P b) 0) ≡ place P b
   -- there is no other label, and no two binders have one
-  pub only : (n : ℕ) → shown.is_label g n ≡ true → (b : ℕ) × IsBinder P b × (number b 0 ≡ n)
-  pub apart : (b c : ℕ) → IsBinder P b → IsBinder P c → number b 0 ≡ number c 0 → b ≡ c
+  pub only : (n : ℕ) → shown.is_label g n ≡ true → (b : ℕ) × IsBinder P b × (number (label P b) 0 ≡ n)
+  pub apart : (b c : ℕ) → IsBinder P b → IsBinder P c → number (label P b) 0 ≡ number (label P c) 0 → b ≡ c
 
 -- *Labels*: the labels of each such graph are those of the program's binders, one each
 abbrev pub Labels : Type 0

@@ -1,11 +1,13 @@
 -- What each instruction speaks of and what each port wants, and when a value tells it under an activation
 -- (docs/MEANING.md, "Laws").
-use Rattle.std.specs.Prelude.{◌≡◌, ℕ, zero, suc, ℤ, Bool as Truth, List, get_or}
+use Rattle.std.specs.Prelude.{◌≡◌, ◌+◌, ℕ, zero, suc, ℤ, Bool as Truth, List, get_or}
 use Rattle.id_parts.specs.declared.row.Region.{Region}
 use Rattle.id_parts.specs.declared.row.Node.{Node}
 use Rattle.id_parts.specs.declared.row.Node.TheVariants.{Head, Param, Literal, Unary, Binary, Split, If, Enter, Arg}
 use Rattle.id_parts.specs.declared.row.Node.TheVariants.{Call}
-use Rattle.id_parts.specs.declared.row.Node.TheVariants.{Binding, Program}
+use Rattle.id_parts.specs.declared.row.Node.TheVariants.{Binding, Def, Program}
+use Rattle.id_parts.specs.declared.row.Node.TheVariants.{Start, LoopHead, Variable, Entries, Switches, Turn, Next}
+use Rattle.id_parts.specs.declared.row.Node.TheVariants.{Reset, Loop}
 use Rattle.id_parts.specs.Rows.{arm_at, top}
 use Rattle.id_check.specs.declared.checked.Checked.{Checked}
 use Rattle.id_check.specs.Scopes.{loops_between}
@@ -29,7 +31,7 @@ use Rattle.id_desugar.specs.Ends.{end_of}
 use Rattle.id_desugar.specs.Regions.{imports_of}
 use Rattle.id_build.specs.declared.arc.Origin.{Origin}
 use Rattle.id_build.specs.declared.arc.Form.{Form}
-use Rattle.id_build.specs.Rows.{node, body_of, origin}
+use Rattle.id_build.specs.Rows.{block, entering, next_of, node, origin}
 use Rattle.id_build.specs.Schemas.{Makes, Feeds}
 use Rattle.id_runs.specs.Activations.{Activation, at_iteration, tag_in}
 use Rattle.id_runs.specs.Events.{Event}
@@ -39,7 +41,7 @@ use Rattle.id_laws.specs.Activations as activations
 
 -- what is spoken of: that a region is live, what a row's expression Has, what a binder Has as a region sees it, what
 -- the predicate Has by which the switches of a row go, what the block with this head gives, where that goes, and which
--- context the `Enter` at a row has made
+-- context the `Enter` or `Start` at a row has made
 pub data Topic : Type 0 where
   Turned : Region → Topic
   ValueOf : ℕ → Topic
@@ -55,7 +57,8 @@ abbrev pub split_of : Region → List ℕ → ℕ → Topic
 split_of r bs zero = Turned r
 split_of r bs (suc k) = NameIn r (get_or bs k 0)
 
--- what a part of the row n, in this region with this node, speaks of on a side
+-- what a part of the row n, in this region with this node, speaks of on a side; a `next`, what hands a trigger and
+-- imports on and a `reset` speak of it in the iteration that it goes to
 abbrev pub speaks_of : Checked → ℕ → Region → Node → ℕ → Truth → Topic
 speaks_of P n r Head zero side = Turned (top n)
 speaks_of P n r (Param x k) part side = NameIn r n
@@ -67,6 +70,15 @@ speaks_of P n r (If s x y) part side = ValueOf n
 speaks_of P n r (Enter x) part side = ContextOf n
 speaks_of P n r (Call e c) part side = ValueOf n
 speaks_of P n r (Binding x a) part side = NameIn r n
+speaks_of P n r Start zero side = ContextOf n
+speaks_of P n r (LoopHead s) zero side = Turned (top n)
+speaks_of P n r Variable part side = NameIn r (next_of P n)
+speaks_of P n r Entries part side = NameIn r (get_or (imports_of P (block P n)) part 0)
+speaks_of P n r (Switches t) part side = split_of (arm_at n side) (imports_of P n) part
+speaks_of P n r Turn part side = let h = block P n in split_of (top h) (imports_of P h) part
+speaks_of P n r (Next x k o v) part side = NameIn (top (block P n)) n
+speaks_of P n r (Reset v) part side = ResultOf (block P n)
+speaks_of P n r (Loop h w l) part side = ValueOf n
 speaks_of P n r _ part side = Nothing
 
 -- what comes from there speaks of
@@ -91,6 +103,20 @@ wants P n r (Arg e k v) part Zero = ContextOf e
 wants P n r (Arg e k v) part One = ValueOf v
 wants P n r (Call e c) part Zero = ValueOf n
 wants P n r (Binding x a) part Zero = ValueOf a
+wants P n r Start zero Zero = Turned r
+wants P n r Start (suc k) Zero = ContextOf n
+wants P n r Start (suc k) One = NameIn r (get_or (entering P (n + 1)) k 0)
+wants P n r (LoopHead s) zero Zero = Turned (top n)
+wants P n r (LoopHead s) (suc part) Zero = WayBack n
+wants P n r (LoopHead s) (suc part) One = ResultOf n
+wants P n r Variable part Zero = NameIn r (next_of P n)
+wants P n r Entries part Zero = NameIn r (get_or (imports_of P (block P n)) part 0)
+wants P n r (Switches t) part Zero = TestOf n
+wants P n r (Switches t) part One = split_of r (imports_of P n) part
+wants P n r Turn part Zero = split_of r (imports_of P (block P n)) part
+wants P n r (Next x k o v) part Zero = ValueOf v
+wants P n r (Reset v) part Zero = ValueOf v
+wants P n r (Loop h w l) part Zero = ValueOf n
 wants P n r Program part Zero = ResultOf (main_head P)
 wants P n r _ part p = Nothing
 
@@ -98,9 +124,16 @@ wants P n r _ part p = Nothing
 abbrev pub topic_at : Checked → ℕ → ℕ → Port → Topic
 topic_at P n part p = wants P n (region P n) (node P n) part p
 
+-- the row that gives the value of a block that ends at a row of this node: a procedure's body, the last expression of a
+-- loop
+abbrev pub result_at : Node → ℕ
+result_at (Def x h k b) = b
+result_at (Loop h w l) = l
+result_at _ = 0
+
 -- the row that gives the value of the block with this head
 abbrev pub result_of : Checked → ℕ → ℕ
-result_of P h = body_of (node P (end_of P h))
+result_of P h = result_at (node P (end_of P h))
 
 -- the row has the part
 pub record IsPart (P : Checked) (n part : ℕ) : Type 0 where
@@ -148,7 +181,7 @@ module _ (S : Source) (number : ℕ → ℕ → ℕ) (run : List Event) where
     pub returns : activations.ReturnsTo S number run a.context h caller row
     pub at_first : a.iteration ≡ 0
 
-  -- the value is a context that the `Enter` at the row n has made
+  -- the value is a context that the `Enter` or `Start` at the row n has made
   pub record ShownContext (a : Activation) (n : ℕ) (v : Value) : Type 0 where
     pub context : Context
     pub is : v ≡ value.Context context
@@ -181,8 +214,9 @@ module _ (S : Source) (number : ℕ → ℕ → ℕ) (run : List Event) where
   abbrev pub AllTell : World → Type 0
   AllTell s = (x : Payload) → Moving s run x → Told x
 
-  -- what comes from what feeds a part tells what it speaks of
-  abbrev pub AllSpeak : Type 0
-  AllSpeak = (a : Activation) (s : Origin) (n part : ℕ) (p : Port) (v : Value) → Feeds S.checked s n part p
-      → activations.Speaks S number run a s v
-      → Tells a (topic_of S.checked s) v
+  -- what comes from what feeds a part tells what it speaks of, in the iteration that it goes to
+  pub record AllSpeak : Type 0 where
+    pub stays : (a : Activation) (s : Origin) (n part : ℕ) (p : Port) (v : Value) → Feeds S.checked s n part p
+        → activations.Speaks S number run a s v → Tells a (topic_of S.checked s) v
+    pub moves : (a : Activation) (s : Origin) (k n part : ℕ) (p : Port) (v : Value) → Feeds S.checked s n part p
+        → activations.Moves S number run a s k v → Tells (at_iteration a.context k) (topic_of S.checked s) v

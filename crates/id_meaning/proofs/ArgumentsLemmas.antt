@@ -1,5 +1,6 @@
 -- The arguments of calls, and the parameters that get their values.
-use Rattle.std.proofs.Common.{◌≡◌, inl, inr, ℕ, zero, suc, ◌+◌, ◌-◌, ◌≤◌, ◌<◌, Bool, true, false, Some, None, List, [], ◌∷◌, ◌++◌, length, if◌then◌else◌, refl, ap, sym, ◌∙◌, arith}
+use Rattle.std.proofs.Common.{◌≡◌, inl, inr, ℕ, zero, suc, ◌+◌, ◌-◌, ◌≤◌, ◌<◌, Bool, true, false, Some, None, List, [], ◌∷◌, ◌++◌, length, if◌then◌else◌, refl}
+use Rattle.std.proofs.Common.{ap, sym, ◌∙◌, arith}
 use Rattle.std.specs.Prelude.{slice_get, nat_lt, ◌&&◌}
 use Rattle.std.proofs.lemmas.Bool.{cases_lt, false≢true, lt-ltb}
 use Rattle.std.proofs.lemmas.Option.{slice_get_within}
@@ -70,7 +71,8 @@ get-param_row P d h k q def e =
     let w = (params-among R h c q (Among-from_at q (params_at R h) k e)).0 in
     let low : h < c = omega arith in
     let high : k < c - h - 1 = omega arith in
-    ap (λ t. if t && nat_lt k (c - h - 1) then Some (h + 1 + k) else None) (lt-ltb h c low) ∙ ap (λ t. if t then Some (h + 1 + k) else None) (lt-ltb k (c - h - 1) high) ∙ is
+    ap (λ t. if t && nat_lt k (c - h - 1) then Some (h + 1 + k) else None) (lt-ltb h c low) ∙ ap (λ t. if t then Some (h + 1 + k) else None)
+    (lt-ltb k (c - h - 1) high) ∙ is
 
 row-some : (t : Bool) (n b : ℕ) → (if t then Some n else None) ≡ Some b → n ≡ b
 row-some true n b e = cc

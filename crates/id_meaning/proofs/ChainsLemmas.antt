@@ -1,39 +1,44 @@
 -- Lemmas on specs/Chains.antt: how spots are found, and that they stay found.
-use Rattle.std.proofs.Common.{◌≡◌, ◌⊎◌, inl, inr, ℕ, zero, suc, ◌+◌, ◌≤◌, ◌<◌, Bool, true, false, ◌&&◌, not, nat_le, Option, None, Some, List, [], ◌∷◌, ◌++◌, length, get_or, set, take, replicate, if◌then◌else◌, refl, ap, sym, ◌∙◌, subst, arith}
-use Rattle.std.proofs.lemmas.Bool.{cases_lt, false≢true, le-leb}
+use Rattle.std.proofs.Common.{◌≡◌, ◌⊎◌, inl, inr, ℕ, zero, suc, ◌+◌, ◌≤◌, ◌<◌, Bool, true, false, ◌&&◌, not, Option, None, Some, List, [], ◌∷◌, ◌++◌, length}
+use Rattle.std.proofs.Common.{get_or, set, take, replicate, if◌then◌else◌, refl, ap, sym, ◌∙◌, subst, arith}
+use Rattle.std.proofs.lemmas.Bool.{cases_lt, false≢true}
 use Rattle.std.proofs.lemmas.Bool.Decides.{eqb_tells}
 use Rattle.std.proofs.lemmas.List.{get_or-set_same, get_or-set_other, length-set}
 use Rattle.id_meaning.specs.declared.cells.Cell.{Cell}
 use Rattle.id_meaning.specs.declared.cells.Spot.{Spot}
+use Rattle.id_meaning.specs.declared.cells.Trail.{Trail}
+use Rattle.id_meaning.specs.declared.cells.Trail.TheVariants.{Outermost}
 use Rattle.id_meaning.specs.declared.cells.RowFact.{RowFact}
 use Rattle.id_meaning.specs.declared.cells.RowFact.TheVariants.{On, Has}
-use Rattle.id_meaning.specs.Cells.{blank, bucket_of, cell_at, find, find_from, is_at, is_fresh, is_taken, learnt, path_of, put, row_of, spot_at, with_fact}
+use Rattle.id_meaning.specs.Cells.{Inside, is_inside, blank, bucket_of, cell_at, find, find_from, is_at, is_fresh, is_taken, learnt, path_of, put, row_of}
+use Rattle.id_meaning.specs.Cells.{spot_at, with_fact}
 use Rattle.id_meaning.specs.Chains.{IsChained, chain_at}
-use Rattle.id_meaning.proofs.CellsLemmas.{at-true, true-at}
+use Rattle.id_meaning.proofs.SpotsLemmas.{at-true, true-at, true-inside}
 
 -- ---- what is found
 
 -- the spot of this path and row
-abbrev found_by : Bool → ℕ → List Spot → ℕ → ℕ → Option ℕ
+abbrev found_by : Bool → ℕ → List Spot → Trail → ℕ → Option ℕ
 found_by b k es p n = if b then Some k else find_from (suc k) es p n
 
-none-by : (b : Bool) (k : ℕ) (es : List Spot) (p n : ℕ) → b ≡ false → find_from (suc k) es p n ≡ None → found_by b k es p n ≡ None
+none-by : (b : Bool) (k : ℕ) (es : List Spot) (p : Trail) (n : ℕ) → b ≡ false → find_from (suc k) es p n ≡ None → found_by b k es p n ≡ None
 none-by b k es p n e h = ap (λ t. found_by t k es p n) e ∙ h
 
 is-false : (b : Bool) → (b ≡ true → ⊥) → b ≡ false
 is-false true h = absurd (h refl)
 is-false false h = refl
 
-find-none_from : (k : ℕ) (es : List Spot) (p n : ℕ) → ((j : ℕ) → j < length es → is_at (spot_at es j) p n ≡ true → ⊥) → find_from k es p n ≡ None
+find-none_from : (k : ℕ) (es : List Spot) (p : Trail) (n : ℕ) → ((j : ℕ) → j < length es → is_at (spot_at es j) p n ≡ true → ⊥) → find_from k es p n ≡ None
 find-none_from k [] p n h = refl
 find-none_from k (s ∷ es) p n h =
     none-by (is_at s p n) k es p n (is-false (is_at s p n) (h 0 (omega arith))) (find-none_from (suc k) es p n (λ j l. h (suc j) (omega arith)))
 
-pub find-none : (es : List Spot) (p n : ℕ) → ((j : ℕ) → j < length es → is_at (spot_at es j) p n ≡ true → ⊥) → find es p n ≡ None
+pub find-none : (es : List Spot) (p : Trail) (n : ℕ) → ((j : ℕ) → j < length es → is_at (spot_at es j) p n ≡ true → ⊥) → find es p n ≡ None
 find-none es p n h = find-none_from 0 es p n h
 
 -- where only the spot of number i has them, it is found
-find-some_from : (k : ℕ) (es : List Spot) (p n i : ℕ) → i < length es → is_at (spot_at es i) p n ≡ true → ((j : ℕ) → j < i → is_at (spot_at es j) p n ≡ true → ⊥) → find_from k es p n ≡ Some (k + i)
+find-some_from : (k : ℕ) (es : List Spot) (p : Trail) (n i : ℕ) → i < length es → is_at (spot_at es i) p n ≡ true
+    → ((j : ℕ) → j < i → is_at (spot_at es j) p n ≡ true → ⊥) → find_from k es p n ≡ Some (k + i)
 find-some_from k [] p n i l e h = absurd (omega arith)
 find-some_from k (s ∷ es) p n zero l e h = let q : k ≡ k + 0 = omega arith in ap (λ t. found_by t k es p n) e ∙ ap (λ m. Some m) q
 find-some_from k (s ∷ es) p n (suc i) l e h =
@@ -41,11 +46,12 @@ find-some_from k (s ∷ es) p n (suc i) l e h =
     ap (λ t. found_by t k es p n) (is-false (is_at s p n) (h 0 (omega arith)))
     ∙ find-some_from (suc k) es p n i (omega arith) e (λ j m. h (suc j) (omega arith)) ∙ ap (λ m. Some m) q
 
-pub find-some : (es : List Spot) (p n i : ℕ) → i < length es → is_at (spot_at es i) p n ≡ true → ((j : ℕ) → j < i → is_at (spot_at es j) p n ≡ true → ⊥) → find es p n ≡ Some i
+pub find-some : (es : List Spot) (p : Trail) (n i : ℕ) → i < length es → is_at (spot_at es i) p n ≡ true
+    → ((j : ℕ) → j < i → is_at (spot_at es j) p n ≡ true → ⊥) → find es p n ≡ Some i
 find-some es p n i l e h = let q : 0 + i ≡ i = omega arith in find-some_from 0 es p n i l e h ∙ ap (λ m. Some m) q
 
 -- what is found has them, and where nothing is found none has
-pub record IsFound (k : ℕ) (es : List Spot) (p n m : ℕ) (c : Cell) : Type 0 where
+pub record IsFound (k : ℕ) (es : List Spot) (p : Trail) (n m : ℕ) (c : Cell) : Type 0 where
   pub number : ℕ
   pub is : m ≡ k + number
   pub within : number < length es
@@ -53,13 +59,14 @@ pub record IsFound (k : ℕ) (es : List Spot) (p n m : ℕ) (c : Cell) : Type 0 
   pub cell : cell_at es p n ≡ (spot_at es number).cell
   pub puts : put es p n c ≡ set es number (record { path = p; row = n; cell = c })
 
-abbrev cell_by : Bool → Spot → List Spot → ℕ → ℕ → Cell
+abbrev cell_by : Bool → Spot → List Spot → Trail → ℕ → Cell
 cell_by b s es p n = if b then s.cell else cell_at es p n
 
-abbrev put_by : Bool → Spot → List Spot → ℕ → ℕ → Cell → List Spot
+abbrev put_by : Bool → Spot → List Spot → Trail → ℕ → Cell → List Spot
 put_by b s es p n c = if b then record { path = p; row = n; cell = c } ∷ es else s ∷ put es p n c
 
-found-step : (b : Bool) (k : ℕ) (s : Spot) (es : List Spot) (p n m : ℕ) (c : Cell) → is_at s p n ≡ b → (find_from (suc k) es p n ≡ Some m → IsFound (suc k) es p n m c)
+found-step : (b : Bool) (k : ℕ) (s : Spot) (es : List Spot) (p : Trail) (n m : ℕ) (c : Cell) → is_at s p n ≡ b
+    → (find_from (suc k) es p n ≡ Some m → IsFound (suc k) es p n m c)
     → found_by b k es p n ≡ Some m → IsFound k (s ∷ es) p n m c
 found-step true k s es p n m c e rest h = record {
   number = 0;
@@ -80,35 +87,38 @@ found-step false k s es p n m c e rest h =
       puts = ap (λ t. put_by t s es p n c) e ∙ ap (λ xs. s ∷ xs) r.puts;
     }
 
-found-from : (k : ℕ) (es : List Spot) (p n m : ℕ) (c : Cell) → find_from k es p n ≡ Some m → IsFound k es p n m c
+found-from : (k : ℕ) (es : List Spot) (p : Trail) (n m : ℕ) (c : Cell) → find_from k es p n ≡ Some m → IsFound k es p n m c
 found-from k [] p n m c h = cc
 found-from k (s ∷ es) p n m c h = found-step (is_at s p n) k s es p n m c refl (found-from (suc k) es p n m c) h
 
-pub found : (es : List Spot) (p n m : ℕ) (c : Cell) → find es p n ≡ Some m → (m < length es) × (is_at (spot_at es m) p n ≡ true) × (cell_at es p n ≡ (spot_at es m).cell) × (put es p n c ≡ set es m (record { path = p; row = n; cell = c }))
+pub found : (es : List Spot) (p : Trail) (n m : ℕ) (c : Cell) → find es p n ≡ Some m → (m < length es) × (is_at (spot_at es m) p n ≡ true) × (cell_at es p n ≡ (spot_at es m).cell) × (put es p n c ≡ set es m (record { path = p; row = n; cell = c }))
 found es p n m c h =
     let r = found-from 0 es p n m c h in
     let q : r.number ≡ m = (let e = r.is in omega arith) in
     let F : ℕ → Type 0 = λ i. (i < length es) × (is_at (spot_at es i) p n ≡ true) × (cell_at es p n ≡ (spot_at es i).cell) × (put es p n c ≡ set es i (record { path = p; row = n; cell = c })) in
     subst F q (r.within, r.has, r.cell, r.puts)
 
-none-step : (b : Bool) (k : ℕ) (s : Spot) (es : List Spot) (p n : ℕ) → found_by b k es p n ≡ None → (b ≡ false) × (find_from (suc k) es p n ≡ None)
+none-step : (b : Bool) (k : ℕ) (s : Spot) (es : List Spot) (p : Trail) (n : ℕ) → found_by b k es p n ≡ None → (b ≡ false) × (find_from (suc k) es p n ≡ None)
 none-step true k s es p n h = cc
 none-step false k s es p n h = (refl, h)
 
-missing-from : (k : ℕ) (es : List Spot) (p n : ℕ) (c : Cell) → find_from k es p n ≡ None
-    → (cell_at es p n ≡ blank) × (put es p n c ≡ es ++ record { path = p; row = n; cell = c } ∷ []) × ((j : ℕ) → j < length es → is_at (spot_at es j) p n ≡ true → ⊥)
+missing-from : (k : ℕ) (es : List Spot) (p : Trail) (n : ℕ) (c : Cell) → find_from k es p n ≡ None
+    → (cell_at es p n ≡ blank) × (put es p n c ≡ es ++ record { path = p; row = n; cell = c } ∷ []) ×
+    ((j : ℕ) → j < length es → is_at (spot_at es j) p n ≡ true → ⊥)
 missing-from k [] p n c h = (refl, refl, λ j l. absurd (omega arith))
 missing-from k (s ∷ es) p n c h =
     let t = none-step (is_at s p n) k s es p n h in
     let r = missing-from (suc k) es p n c t.1 in
     (ap (λ b. cell_by b s es p n) t.0 ∙ r.0, ap (λ b. put_by b s es p n c) t.0 ∙ ap (λ xs. s ∷ xs) r.1, none t.0 r.2)
   where
-    none : is_at s p n ≡ false → ((j : ℕ) → j < length es → is_at (spot_at es j) p n ≡ true → ⊥) → (j : ℕ) → j < length (s ∷ es) → is_at (spot_at (s ∷ es) j) p n ≡ true → ⊥
+    none : is_at s p n ≡ false → ((j : ℕ) → j < length es → is_at (spot_at es j) p n ≡ true → ⊥) → (j : ℕ) → j < length (s ∷ es)
+        → is_at (spot_at (s ∷ es) j) p n ≡ true → ⊥
     none f rest zero l e = false≢true (sym f ∙ e)
     none f rest (suc j) l e = rest j (omega arith) e
 
-pub missing : (es : List Spot) (p n : ℕ) (c : Cell) → find es p n ≡ None
-    → (cell_at es p n ≡ blank) × (put es p n c ≡ es ++ record { path = p; row = n; cell = c } ∷ []) × ((j : ℕ) → j < length es → is_at (spot_at es j) p n ≡ true → ⊥)
+pub missing : (es : List Spot) (p : Trail) (n : ℕ) (c : Cell) → find es p n ≡ None
+    → (cell_at es p n ≡ blank) × (put es p n c ≡ es ++ record { path = p; row = n; cell = c } ∷ []) ×
+    ((j : ℕ) → j < length es → is_at (spot_at es j) p n ≡ true → ⊥)
 missing es p n c h = missing-from 0 es p n c h
 
 -- where nothing is found, a fact is fresh
@@ -121,24 +131,29 @@ both-so true false e h = refl
 both-so true true e h = cc
 both-so false b e h = cc
 
-pub fresh-missing : (es : List Spot) (f : RowFact) (p n : ℕ) → p ≡ path_of f → n ≡ row_of f → p ≤ length es → find es p n ≡ None → is_fresh es f ≡ true
+pub fresh-missing : (es : List Spot) (f : RowFact) (p : Trail) (n : ℕ) → p ≡ path_of f → n ≡ row_of f → Inside (length es) p → find es p n ≡ None
+    → is_fresh es f ≡ true
 fresh-missing es f p n e g l h =
     let c = (missing es p n blank h).0 in
     let q : cell_at es (path_of f) (row_of f) ≡ blank = ap (λ a. cell_at es a (row_of f)) (sym e) ∙ ap (λ b. cell_at es p b) (sym g) ∙ c in
-    let w : path_of f ≤ length es = omega arith in
-    both-so (nat_le (path_of f) (length es)) (is_taken (cell_at es (path_of f) (row_of f)) f) (le-leb (path_of f) (length es) w) (ap (λ c. is_taken c f) q ∙ blank-taken f)
+    let I : Trail → Type 0 = λ r. Inside (length es) r in
+    let w : Inside (length es) (path_of f) = subst I e l in
+    both-so (is_inside (length es) (path_of f)) (is_taken (cell_at es (path_of f) (row_of f)) f) (true-inside (length es) (path_of f) w)
+    (ap (λ c. is_taken c f) q ∙ blank-taken f)
 
-pub learnt-missing : (es : List Spot) (f : RowFact) (p n : ℕ) → p ≡ path_of f → n ≡ row_of f → p ≤ length es → find es p n ≡ None → learnt es f ≡ put es p n (with_fact blank f)
+pub learnt-missing : (es : List Spot) (f : RowFact) (p : Trail) (n : ℕ) → p ≡ path_of f → n ≡ row_of f → Inside (length es) p → find es p n ≡ None
+    → learnt es f ≡ put es p n (with_fact blank f)
 learnt-missing es f p n e g l h =
     let c = (missing es p n blank h).0 in
     let q : cell_at es (path_of f) (row_of f) ≡ blank = ap (λ a. cell_at es a (row_of f)) (sym e) ∙ ap (λ b. cell_at es p b) (sym g) ∙ c in
     ap (λ t. if t then put es (path_of f) (row_of f) (with_fact (cell_at es (path_of f) (row_of f)) f) else es) (fresh-missing es f p n e g l h)
-    ∙ ap (λ c. put es (path_of f) (row_of f) (with_fact c f)) q ∙ ap (λ a. put es a (row_of f) (with_fact blank f)) (sym e) ∙ ap (λ b. put es p b (with_fact blank f)) (sym g)
+    ∙ ap (λ c. put es (path_of f) (row_of f) (with_fact c f)) q ∙ ap (λ a. put es a (row_of f) (with_fact blank f)) (sym e) ∙ ap
+    (λ b. put es p b (with_fact blank f)) (sym g)
 
 -- ---- along a chain
 
 -- where the spots with a path and row stand before one that has others, they stand before the next of its chain
-pub earlier-next : (hs ns : List ℕ) (es : List Spot) (p n i : ℕ) → IsChained hs ns es → i < length es → is_at (spot_at es i) p n ≡ false
+pub earlier-next : (hs ns : List ℕ) (es : List Spot) (p : Trail) (n i : ℕ) → IsChained hs ns es → i < length es → is_at (spot_at es i) p n ≡ false
     → ((j : ℕ) → j < length es → is_at (spot_at es j) p n ≡ true → j < suc i)
     → chain_at es i ≡ bucket_of p n → (j : ℕ) → j < length es → is_at (spot_at es j) p n ≡ true → j < get_or ns i 0
 earlier-next hs ns es p n i c l e h q j m f = elim (eqb_tells j i) [
@@ -151,7 +166,7 @@ earlier-next hs ns es p n i c l e h q j m f = elim (eqb_tells j i) [
 ]
 
 -- a spot with this path and row hangs in their chain
-pub same-chain : (es : List Spot) (p n j : ℕ) → is_at (spot_at es j) p n ≡ true → chain_at es j ≡ bucket_of p n
+pub same-chain : (es : List Spot) (p : Trail) (n j : ℕ) → is_at (spot_at es j) p n ≡ true → chain_at es j ≡ bucket_of p n
 same-chain es p n j e =
     let t = at-true (spot_at es j) p n e in
     ap (λ a. bucket_of a (spot_at es j).row) t.0 ∙ ap (λ b. bucket_of p b) t.1
@@ -163,12 +178,13 @@ any-default (z ∷ xs) zero x y l = refl
 any-default (z ∷ xs) (suc i) x y l = any-default xs i x y (omega arith)
 
 pub at-spot : (es : List Spot) (i : ℕ) (s : Spot) → s ≡ get_or es i s → i < length es → s ≡ spot_at es i
-at-spot es i s e l = e ∙ any-default es i s (record { path = 0; row = 0; cell = blank }) l
+at-spot es i s e l = e ∙ any-default es i s (record { path = Outermost; row = 0; cell = blank }) l
 
 -- ---- that spots stay found
 
 -- where a spot gets another cell
-pub IsChained-set : (hs ns : List ℕ) (es : List Spot) (p n m : ℕ) (c : Cell) → IsChained hs ns es → find es p n ≡ Some m → IsChained hs ns (set es m (record { path = p; row = n; cell = c }))
+pub IsChained-set : (hs ns : List ℕ) (es : List Spot) (p : Trail) (n m : ℕ) (c : Cell) → IsChained hs ns es → find es p n ≡ Some m
+    → IsChained hs ns (set es m (record { path = p; row = n; cell = c }))
 IsChained-set hs ns es p n m c k e =
     let s : Spot = record { path = p; row = n; cell = c } in
     let f = found es p n m c e in
@@ -177,14 +193,14 @@ IsChained-set hs ns es p n m c k e =
     let t = at-true (spot_at es m) p n f.1 in
     let same : (i : ℕ) → i < length es → ((spot_at ds i).path ≡ (spot_at es i).path) × ((spot_at ds i).row ≡ (spot_at es i).row) = λ i l. elim (eqb_tells i m) [
       | inl q ↦
-          let here = get_or-set_same es m s (record { path = 0; row = 0; cell = blank }) f.0 in
+          let here = get_or-set_same es m s (record { path = Outermost; row = 0; cell = blank }) f.0 in
           let A : ℕ → Type 0 = λ j. ((spot_at ds j).path ≡ (spot_at es j).path) × ((spot_at ds j).row ≡ (spot_at es j).row) in
           subst A (sym q.1) (ap (λ x. x.path) here ∙ sym t.0, ap (λ x. x.row) here ∙ sym t.1)
       | inr q ↦
-          let other = get_or-set_other es m i s (record { path = 0; row = 0; cell = blank }) q.1 in
+          let other = get_or-set_other es m i s (record { path = Outermost; row = 0; cell = blank }) q.1 in
           (ap (λ x. x.path) other, ap (λ x. x.row) other)
     ] in
-    let past : (i : ℕ) → (i ≡ m → ⊥) → spot_at ds i ≡ spot_at es i = λ i d. get_or-set_other es m i s (record { path = 0; row = 0; cell = blank }) d in
+    let past : (i : ℕ) → (i ≡ m → ⊥) → spot_at ds i ≡ spot_at es i = λ i d. get_or-set_other es m i s (record { path = Outermost; row = 0; cell = blank }) d in
     let chain : (i : ℕ) → chain_at ds i ≡ chain_at es i = λ i. elim (eqb_tells i m) [
       | inl q ↦
           let l : i < length es = (let z = f.0 in let y = q.1 in omega arith) in
@@ -205,7 +221,7 @@ IsChained-set hs ns es p n m c k e =
           let x = same i (omega arith) in
           let y = same j (omega arith) in
           k.apart i j (omega arith) (omega arith) (sym x.0 ∙ a ∙ y.0) (sym x.1 ∙ b ∙ y.1);
-      before = λ i l. (let x = same i (omega arith) in let y = x.0 in let z = k.before i (omega arith) in omega arith);
+      before = λ i l. (let x = same i (omega arith) in let I : Trail → Type 0 = λ r. Inside i r in subst I (sym x.0) (k.before i (omega arith)));
     }
 
 -- the spots with one more
@@ -289,7 +305,8 @@ IsChained-take hs ns es k =
     taken-wide (x ∷ xs) (suc m) v = ap (λ i. suc i) (taken-wide xs m (omega arith))
 
 -- where one more spot hangs in its chain, before that which was its last
-pub IsChained-push : (hs ns : List ℕ) (es : List Spot) (s : Spot) → IsChained hs ns es → s.path ≤ length es → ((j : ℕ) → j < length es → is_at (spot_at es j) s.path s.row ≡ true → ⊥) → bucket_of s.path s.row < 262144
+pub IsChained-push : (hs ns : List ℕ) (es : List Spot) (s : Spot) → IsChained hs ns es → Inside (length es) s.path
+    → ((j : ℕ) → j < length es → is_at (spot_at es j) s.path s.row ≡ true → ⊥) → bucket_of s.path s.row < 262144
     → IsChained (set hs (bucket_of s.path s.row) (suc (length es))) (take (length es) ns ++ get_or hs (bucket_of s.path s.row) 0 ∷ []) (es ++ s ∷ [])
 IsChained-push hs ns es s k inside none low =
     let b = bucket_of s.path s.row in
@@ -382,8 +399,15 @@ IsChained-push hs ns es s k inside none low =
         ]
       ];
       before = λ i l. elim (either i l) [
-        | inl x ↦ (let e : (spot_at ds i).path ≡ (spot_at es i).path = ap (λ z. z.path) (spot-front es s i x) in let w = k.before i x in omega arith)
-        | inr x ↦ (let e : (spot_at ds i).path ≡ s.path = ap (λ z. z.path) (ap (λ a. spot_at ds a) x ∙ spot-last es s) in omega arith)
+        | inl x ↦
+            let I : Trail → Type 0 = λ r. Inside i r in
+            let e : (spot_at ds i).path ≡ (spot_at es i).path = ap (λ z. z.path) (spot-front es s i x) in
+            subst I (sym e) (k.before i x)
+        | inr x ↦
+            let I : Trail → Type 0 = λ r. Inside i r in
+            let J : ℕ → Type 0 = λ j. Inside j s.path in
+            let e : (spot_at ds i).path ≡ s.path = ap (λ z. z.path) (ap (λ a. spot_at ds a) x ∙ spot-last es s) in
+            subst I (sym e) (subst J (sym x) inside)
       ];
     }
 

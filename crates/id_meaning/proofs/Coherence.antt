@@ -1,7 +1,7 @@
 -- Each path and place has at most one value.
-use Rattle.std.proofs.Common.{◌≡◌, ◌⊎◌, inl, inr, ℕ, zero, suc, Bool as Truth, true, Some, List, [], ◌∷◌, length, refl, ap, sym, ◌∙◌, subst}
+use Rattle.std.proofs.Common.{◌≡◌, ◌⊎◌, inl, inr, ℕ, zero, suc, Bool as Truth, true, false, Some, arith, List, [], ◌∷◌, length, refl, ap, sym, ◌∙◌, subst}
 use Rattle.std.specs.Prelude.{slice_get}
-use Rattle.std.proofs.lemmas.Bool.{false≢true}
+use Rattle.std.proofs.lemmas.Bool.{cases_lt, false≢true}
 use Rattle.id_value.specs.declared.Kind.{Kind}
 use Rattle.id_value.specs.declared.Constant.{Constant}
 use Rattle.id_value.specs.declared.Constant.TheVariants as constant
@@ -9,7 +9,7 @@ use Rattle.id_value.specs.declared.Outcome.{Outcome}
 use Rattle.id_value.specs.declared.Outcome.TheVariants.{Gives}
 use Rattle.id_value.specs.Results.{result_of_unary, result_of_binary}
 use Rattle.id_parts.specs.declared.row.Node.{Node}
-use Rattle.id_parts.specs.declared.row.Node.TheVariants.{Param, Literal, Name, Unary, Binary, Split, If, Arg, Call, Block, Binding, Def}
+use Rattle.id_parts.specs.declared.row.Node.TheVariants.{Param, Literal, Name, Unary, Binary, Split, If, Arg, Call, Switches, Next, Loop, Block, Binding, Def}
 use Rattle.id_parts.specs.Rows.{at}
 use Rattle.id_parts.specs.Tables.{is_param, is_thing}
 use Rattle.id_parts.specs.Turns.{params_at}
@@ -22,10 +22,12 @@ use Rattle.id_meaning.specs.declared.SourceValue.TheVariants.{Bool}
 use Rattle.id_meaning.specs.declared.Fact.{Fact}
 use Rattle.id_meaning.specs.declared.Fact.TheVariants.{Has}
 use Rattle.id_meaning.specs.Sources.{Source, IsInput, value_of}
-use Rattle.id_meaning.specs.Facts.{outermost, below, without, between, Chooses, then_arm, else_arm, Rule, param_has, literal_has, unary_has, binary_has, name_has, conditional_has, argument_has, call_has, block_has, binding_has}
+use Rattle.id_meaning.specs.Facts.{LoopStands, NextStands, first_has, next_has, loop_has, outermost, below, without, between, Chooses, then_arm, else_arm, Rule}
+use Rattle.id_meaning.specs.Facts.{param_has, literal_has, unary_has, binary_has, name_has, conditional_has, argument_has, call_has, block_has, binding_has}
 use Rattle.id_meaning.specs.Rounds.{Every, Rounds, Holds, IsCoherent}
 use Rattle.id_meaning.specs.Cells.{arm_of, constant_of}
-use Rattle.id_meaning.proofs.CheckedLemmas.{apart_of}
+use Rattle.id_meaning.proofs.CheckedLemmas.{apart_of, loop-of}
+use Rattle.id_meaning.proofs.LiveLemmas.{all-fine, false-there, true-below}
 use Rattle.id_meaning.proofs.ParamsLemmas.{input_param, once, one_input, params-among, params-differ}
 use Rattle.id_meaning.proofs.PathsLemmas.{below-once, none-below}
 
@@ -82,7 +84,8 @@ one_arm {a = a} {d = d} {b = b} {c = c} f g e =
     let x : f.then ≡ g.then = cc in
     let y : f.otherwise ≡ g.otherwise = cc in
     let r : Some a ≡ Some d =
-    sym f.arm ∙ ap (λ i. arm_of i f.otherwise (Some (Bool b))) x ∙ ap (λ i. arm_of g.then i (Some (Bool b))) y ∙ ap (λ i. arm_of g.then g.otherwise (Some (Bool i))) e ∙ g.arm in
+    sym f.arm ∙ ap (λ i. arm_of i f.otherwise (Some (Bool b))) x ∙ ap (λ i. arm_of g.then i (Some (Bool b))) y ∙ ap
+    (λ i. arm_of g.then g.otherwise (Some (Bool i))) e ∙ g.arm in
     cc
 
 -- the call at the row n is of the procedure that is defined at a row
@@ -141,17 +144,59 @@ pub record IsPassed (S : Source) (F : Fact → Type 0) (b : ℕ) (p : Path) (v :
 abbrev pub FollowsParam : Source → (Fact → Type 0) → ℕ → Path → SourceValue → Type 0
 FollowsParam S F b p v = ((p ≡ outermost) × IsInput S b v) ⊎ IsPassed S F b p v
 
+-- the loop of a `next` at the row m
+pub record IsNext (S : Source) (m o a : ℕ) : Type 0 where
+  pub row : ℕ
+  pub head : ℕ
+  pub switches : ℕ
+  pub test : ℕ
+  pub last : ℕ
+  pub loop : LoopStands S.checked row head switches test last
+  pub next : NextStands S.checked m head o a
+
+-- in iteration 0 a variable Has what its name means outside
+pub record IsFirst (S : Source) (F : Fact → Type 0) (m o a : ℕ) (p : Path) (v : SourceValue) : Type 0 where
+  pub of : IsNext S m o a
+  pub outer : Path
+  pub outside : ℕ
+  pub binder : binder S.checked o ≡ Some outside
+  pub path : p ≡ below outer (place S.checked of.row) 0
+  pub has : F (Has (without (between S of.row outside) outer) (place S.checked outside) v)
+
+-- in a later one, what its `next` expression Has in the one before
+pub record IsLater (S : Source) (F : Fact → Type 0) (m o a : ℕ) (p : Path) (v : SourceValue) : Type 0 where
+  pub of : IsNext S m o a
+  pub outer : Path
+  pub number : ℕ
+  pub path : p ≡ below outer (place S.checked of.row) (suc number)
+  pub has : F (Has (below outer (place S.checked of.row) number) (place S.checked a) v)
+
+-- the loop at the row n Has what its last expression Has in an iteration
+pub record IsLeft (S : Source) (F : Fact → Type 0) (n l : ℕ) (p : Path) (v : SourceValue) : Type 0 where
+  pub head : ℕ
+  pub switches : ℕ
+  pub test : ℕ
+  pub loop : LoopStands S.checked n head switches test l
+  pub number : ℕ
+  pub has : F (Has (below p (place S.checked n) number) (place S.checked l) v)
+
 -- what follows at a row of this node from facts: a literal's value, an operator's result on what its operands Have, what a name's
--- binder, the chosen arm of a conditional, a callee's body at the path of the call, a block's body and a binding's expression Has, and
--- what follows at a parameter
+-- binder, the chosen arm of a conditional, a callee's body at the path of the call, a block's body, a loop's last expression and a
+-- binding's expression Has, and what follows at a parameter and at a loop's variable
 abbrev pub Follows : Source → (Fact → Type 0) → ℕ → Node → Path → SourceValue → Type 0
 Follows S F n (Literal c) p v = v ≡ value_of c
-Follows S F n (Unary o a) p v = (c : Constant) × (x : Constant) × F (Has p (place S.checked a) (value_of c)) × (result_of_unary o c ≡ Gives x) × (v ≡ value_of x)
-Follows S F n (Binary o a b) p v = (c : Constant) × (d : Constant) × (x : Constant) × F (Has p (place S.checked a) (value_of c)) × F (Has p (place S.checked b) (value_of d)) × (result_of_binary o c d ≡ Gives x) × (v ≡ value_of x)
+Follows S F n (Unary o a) p v =
+    (c : Constant) × (x : Constant) × F (Has p (place S.checked a) (value_of c)) × (result_of_unary o c ≡ Gives x) × (v ≡ value_of x)
+Follows S F n (Binary o a b) p v =
+    (c : Constant) × (d : Constant) × (x : Constant) × F (Has p (place S.checked a) (value_of c)) × F (Has p (place S.checked b) (value_of d)) ×
+    (result_of_binary o c d ≡ Gives x) × (v ≡ value_of x)
 Follows S F n (Name y) p v = (b : ℕ) × (binder S.checked n ≡ Some b) × F (Has (without (between S n b) p) (place S.checked b) v)
-Follows S F n (If s x y) p v = (t : ℕ) × (b : Truth) × (a : ℕ) × IsChoice S n t b a × F (Has p (place S.checked t) (value_of (constant.Bool b))) × F (Has p (place S.checked a) v)
+Follows S F n (If s x y) p v =
+    (t : ℕ) × (b : Truth) × (a : ℕ) × IsChoice S n t b a × F (Has p (place S.checked t) (value_of (constant.Bool b))) × F (Has p (place S.checked a) v)
 Follows S F n (Call e c) p v = (d : IsCall S n) × F (Has (below p (place S.checked n) 0) (place S.checked d.body) v)
 Follows S F n (Block b) p v = F (Has p (place S.checked b) v)
+Follows S F n (Loop h w l) p v = IsLeft S F n l p v
+Follows S F n (Next y i o a) p v = IsFirst S F n o a p v ⊎ IsLater S F n o a p v
 Follows S F n (Binding y a) p v = F (Has p (place S.checked a) v)
 Follows S F n (Param y k) p v = FollowsParam S F n p v
 Follows S F n _ p v = ⊥
@@ -165,15 +210,18 @@ pub record FollowsAt (S : Source) (F : Fact → Type 0) (p : Path) (e : ℕ) (v 
   pub here : place S.checked row ≡ e
   pub follows : Follows S F row node p v
 
-param_follows : {S : Source} (F : Fact → Type 0) {b : ℕ} {p : Path} {v : SourceValue} (n : Node) → Stands S.checked b n → is_param n ≡ true → FollowsParam S F b p v → FollowsAt S F p (place S.checked b) v
+param_follows : {S : Source} (F : Fact → Type 0) {b : ℕ} {p : Path} {v : SourceValue} (n : Node) → Stands S.checked b n → is_param n ≡ true
+    → FollowsParam S F b p v → FollowsAt S F p (place S.checked b) v
 param_follows F (Param x k) s t i = record { row = _; node = _; stands = s; thing = refl; here = refl; follows = i }
 param_follows F _ s t i = absurd (false≢true t)
 
-pub follows_by : {S : Source} (F : Fact → Type 0) {p : Path} {e : ℕ} {v : SourceValue} {fs : List Fact} → Rule S fs (Has p e v) → Every F fs → FollowsAt S F p e v
+pub follows_by : {S : Source} (F : Fact → Type 0) {p : Path} {e : ℕ} {v : SourceValue} {fs : List Fact} → Rule S fs (Has p e v) → Every F fs
+    → FollowsAt S F p e v
 follows_by F (param_has i) h = let q = input_param i in param_follows F _ (record { within = q.0; node = refl }) q.1 (inl (refl, i))
 follows_by F (literal_has s) h = record { row = _; node = _; stands = s; thing = refl; here = refl; follows = refl }
 follows_by F (unary_has {x = x} c s is) h = record { row = _; node = _; stands = s; thing = refl; here = refl; follows = (c, x, h.1.0, is, refl) }
-follows_by F (binary_has {x = x} c d s is) h = record { row = _; node = _; stands = s; thing = refl; here = refl; follows = (c, d, x, h.1.0, h.1.1.0, is, refl) }
+follows_by F (binary_has {x = x} c d s is) h =
+    record { row = _; node = _; stands = s; thing = refl; here = refl; follows = (c, d, x, h.1.0, h.1.1.0, is, refl) }
 follows_by F (name_has {b = b} s is) h = record { row = _; node = _; stands = s; thing = refl; here = refl; follows = (b, is, h.1.0) }
 follows_by F (conditional_has {t = t} {a = a} {b = b} c) h =
     let d = choice c in
@@ -187,15 +235,39 @@ follows_by {S} F (argument_has {n = n} {h = g} {m = m} {i = i} {v = a} {q = q} {
 follows_by {S} F (call_has {n = n} s is def) h =
     let call : IsCall S n = record { enter = _; count = _; def = _; name = _; head = _; kind = _; body = _; stands = s; binder = is; definition = def } in
     record { row = n; node = _; stands = s; thing = refl; here = refl; follows = (call, h.1.0) }
+follows_by {S} F (first_has {n = n} {h = g} {w = w} {t = t} {l = l} {m = m} {o = o} {v = a} {c = c} {p = q} s x e) h =
+    let of : IsNext S m o a = record { row = n; head = g; switches = w; test = t; last = l; loop = s; next = x } in
+    record {
+      row = m;
+      node = Next x.name x.index o a;
+      stands = x.next;
+      thing = refl;
+      here = refl;
+      follows = inl (record { of = of; outer = q; outside = c; binder = e; path = refl; has = h.1.0 });
+    }
+follows_by {S} F (next_has {n = n} {h = g} {w = w} {t = t} {l = l} {m = m} {o = o} {v = a} q k s x) h =
+    let of : IsNext S m o a = record { row = n; head = g; switches = w; test = t; last = l; loop = s; next = x } in
+    record {
+      row = m;
+      node = Next x.name x.index o a;
+      stands = x.next;
+      thing = refl;
+      here = refl;
+      follows = inr (record { of = of; outer = q; number = k; path = refl; has = h.0 });
+    }
+follows_by F (loop_has {n = n} {h = g} {w = w} {t = t} {l = l} q k s) h =
+    record { row = n; node = Loop g w l; stands = s.loop; thing = refl; here = refl; follows = record { head = g; switches = w; test = t; loop = s; number = k; has = h.0 } }
 follows_by F (block_has s) h = record { row = _; node = _; stands = s; thing = refl; here = refl; follows = h.1.0 }
 follows_by F (binding_has s) h = record { row = _; node = _; stands = s; thing = refl; here = refl; follows = h.0 }
 
 -- what follows at a place follows at the thing that stands there
-pub follows_at : {S : Source} (F : Fact → Type 0) {p : Path} {e : ℕ} {v : SourceValue} (n : ℕ) (m : Node) → Stands S.checked n m → is_thing m ≡ true → place S.checked n ≡ e → FollowsAt S F p e v → Follows S F n m p v
+pub follows_at : {S : Source} (F : Fact → Type 0) {p : Path} {e : ℕ} {v : SourceValue} (n : ℕ) (m : Node) → Stands S.checked n m → is_thing m ≡ true
+    → place S.checked n ≡ e → FollowsAt S F p e v → Follows S F n m p v
 follows_at {S} F {p} {e} {v} n m s t here f =
     let R = rows S.checked in
     let T : Node → Type 0 = λ z. is_thing z ≡ true in
-    let q : f.row ≡ n = (apart_of S.checked).apart f.row n f.stands.within s.within (subst T (sym f.stands.node) f.thing) (subst T (sym s.node) t) (f.here ∙ sym here) in
+    let q : f.row ≡ n =
+    (apart_of S.checked).apart f.row n f.stands.within s.within (subst T (sym f.stands.node) f.thing) (subst T (sym s.node) t) (f.here ∙ sym here) in
     let k : f.node ≡ m = sym f.stands.node ∙ ap (λ i. (at R i).node) q ∙ s.node in
     let A : ℕ → Type 0 = λ i. Follows S F i f.node p v in
     let B : Node → Type 0 = λ z. Follows S F n z p v in
@@ -213,7 +285,7 @@ one_passed : (S : Source) (m : ℕ) → Earlier S m → (b : ℕ) (p : Path) (v 
 one_passed S m early b p v w h k =
     let P = S.checked in
     let R = rows P in
-    let z = below-once h.outer k.outer (place P h.call) (place P k.call) 0 (sym h.path ∙ k.path) in
+    let z = below-once h.outer k.outer (place P h.call) (place P k.call) 0 0 (sym h.path ∙ k.path) in
     let x = h.is_call.stands in
     let y = k.is_call.stands in
     let n : h.call ≡ k.call = (apart_of P).apart h.call k.call x.within y.within (ap is_thing x.node) (ap is_thing y.node) z.1 in
@@ -226,14 +298,103 @@ one_passed S m early b p v w h k =
     let B : ℕ → Type 0 = λ j. Holds S (Has h.outer (place P j) w) in
     early h.outer (place P h.value) v w h.has (subst B (sym a) (subst A (sym z.0) k.has))
 
-one_param : (S : Source) (m : ℕ) → Earlier S m → (b : ℕ) (p : Path) (v w : SourceValue) → FollowsParam S (Rounds S m) b p v → FollowsParam S (Holds S) b p w → v ≡ w
+one_param : (S : Source) (m : ℕ) → Earlier S m → (b : ℕ) (p : Path) (v w : SourceValue) → FollowsParam S (Rounds S m) b p v → FollowsParam S (Holds S) b p w
+    → v ≡ w
 one_param S m early b p v w (inl h) (inl k) = one_input h.1 k.1
 one_param S m early b p v w (inl h) (inr k) = absurd (none-below k.outer (place S.checked k.call) 0 (sym h.0 ∙ k.path))
 one_param S m early b p v w (inr h) (inl k) = absurd (none-below h.outer (place S.checked h.call) 0 (sym k.0 ∙ h.path))
 one_param S m early b p v w (inr h) (inr k) = one_passed S m early b p v w h k
 
+-- a `next` is of one loop
+one_loop : (S : Source) (m o a : ℕ) (x y : IsNext S m o a) → x.row ≡ y.row
+one_loop S m o a x y =
+    let P = S.checked in
+    let q : x.head ≡ y.head = sym x.next.block ∙ y.next.block in
+    let L : ℕ → Type 0 = λ h. LoopStands P y.row h y.switches y.test y.last in
+    let s = subst L (sym q) y.loop in
+    (table_of P).one_loop x.row y.row x.head (loop-of P x.row x.head x.switches x.test x.last x.loop) (loop-of P y.row x.head y.switches y.test y.last s)
+
+one_first : (S : Source) (n : ℕ) → Earlier S n → (m o a : ℕ) (p : Path) (v w : SourceValue) → IsFirst S (Rounds S n) m o a p v → IsFirst S (Holds S) m o a p w
+    → v ≡ w
+one_first S n early m o a p v w h k =
+    let P = S.checked in
+    let r = one_loop S m o a h.of k.of in
+    let z = below-once h.outer k.outer (place P h.of.row) (place P k.of.row) 0 0 (sym h.path ∙ k.path) in
+    let s : Some k.outside ≡ Some h.outside = sym k.binder ∙ h.binder in
+    let c : k.outside ≡ h.outside = cc in
+    let A : ℕ → Type 0 = λ i. Holds S (Has (without (between S i k.outside) k.outer) (place P k.outside) w) in
+    let B : Path → Type 0 = λ q. Holds S (Has (without (between S h.of.row k.outside) q) (place P k.outside) w) in
+    let C : ℕ → Type 0 = λ i. Holds S (Has (without (between S h.of.row i) h.outer) (place P i) w) in
+    early (without (between S h.of.row h.outside) h.outer) (place P h.outside) v w h.has (subst C c (subst B (sym z.0) (subst A (sym r) k.has)))
+
+one_later : (S : Source) (n : ℕ) → Earlier S n → (m o a : ℕ) (p : Path) (v w : SourceValue) → IsLater S (Rounds S n) m o a p v → IsLater S (Holds S) m o a p w
+    → v ≡ w
+one_later S n early m o a p v w h k =
+    let P = S.checked in
+    let L = place P h.of.row in
+    let z = below-once h.outer k.outer L (place P k.of.row) (suc h.number) (suc k.number) (sym h.path ∙ k.path) in
+    let i : h.number ≡ k.number = (let e = z.2 in omega arith) in
+    let A : ℕ → Type 0 = λ e. Holds S (Has (below k.outer e k.number) (place P a) w) in
+    let B : Path → Type 0 = λ q. Holds S (Has (below q L k.number) (place P a) w) in
+    let C : ℕ → Type 0 = λ j. Holds S (Has (below h.outer L j) (place P a) w) in
+    early (below h.outer L h.number) (place P a) v w h.has (subst C (sym i) (subst B (sym z.0) (subst A (sym z.1) k.has)))
+
+-- no variable Has a first value and a later one at one path
+first_or_later : (S : Source) (F G : Fact → Type 0) (m o a : ℕ) (p : Path) (v w : SourceValue) → IsFirst S F m o a p v → IsLater S G m o a p w → ⊥
+first_or_later S F G m o a p v w h k =
+    let z = below-once h.outer k.outer (place S.checked h.of.row) (place S.checked k.of.row) 0 (suc k.number) (sym h.path ∙ k.path) in
+    let e = z.2 in
+    omega arith
+
+one_variable : (S : Source) (n : ℕ) → Earlier S n → (m o a : ℕ) (p : Path) (v w : SourceValue)
+    → IsFirst S (Rounds S n) m o a p v ⊎ IsLater S (Rounds S n) m o a p v
+    → IsFirst S (Holds S) m o a p w ⊎ IsLater S (Holds S) m o a p w → v ≡ w
+one_variable S n early m o a p v w (inl h) (inl k) = one_first S n early m o a p v w h k
+one_variable S n early m o a p v w (inl h) (inr k) = absurd (first_or_later S (Rounds S n) (Holds S) m o a p v w h k)
+one_variable S n early m o a p v w (inr h) (inl k) = absurd (first_or_later S (Holds S) (Rounds S n) m o a p w v k h)
+one_variable S n early m o a p v w (inr h) (inr k) = one_later S n early m o a p v w h k
+
+-- a loop has one predicate
+one_predicate : (S : Source) (n h g w x t u l : ℕ) → LoopStands S.checked n h w t l → LoopStands S.checked n g x u l → t ≡ u
+one_predicate S n h g w x t u l s r =
+    let e : Loop h w l ≡ Loop g x l = sym s.loop.node ∙ r.loop.node in
+    let q : w ≡ x = cc in
+    let k : Switches t ≡ Switches u = sym s.switches.node ∙ ap (λ i. (at (rows S.checked) i).node) q ∙ r.switches.node in
+    cc
+
+truth-differs : Bool true ≡ Bool false → ⊥
+truth-differs e = cc
+
+-- a loop is left in one iteration: in those before it the predicate Has true, and there false
+one_left : (S : Source) (m : ℕ) → Earlier S m → (n l : ℕ) (p : Path) (v w : SourceValue) → IsLeft S (Rounds S m) n l p v → IsLeft S (Holds S) n l p w → v ≡ w
+one_left S m early n l p v w h k =
+    let P = S.checked in
+    let L = place P n in
+    let r = k.has.round in
+    let t = one_predicate S n h.head k.head h.switches k.switches h.test k.test l h.loop k.loop in
+    let mine = false-there S m (all-fine S m) n h.head h.switches h.test l h.number p v h.loop h.has in
+    let other = false-there S r (all-fine S r) n k.head k.switches k.test l k.number p w k.loop k.has.there in
+    let T : ℕ → Truth → ℕ → Type 0 = λ i b u. Holds S (Has (below p L i) (place P u) (Bool b)) in
+    elim (cases_lt h.number k.number) [
+      | inl c ↦
+          let x = true-below S r (all-fine S r) n k.head k.switches k.test l h.number p (Bool false) k.loop k.number c other in
+          let y : T h.number true h.test = subst (λ u. T h.number true u) (sym t) (record { round = r; there = x }) in
+          absurd (truth-differs (sym (early (below p L h.number) (place P h.test) (Bool false) (Bool true) mine y)))
+      | inr c ↦ elim (cases_lt k.number h.number) [
+        | inl d ↦
+            let x = true-below S m (all-fine S m) n h.head h.switches h.test l k.number p (Bool false) h.loop h.number d mine in
+            let y : T k.number false h.test = subst (λ u. T k.number false u) (sym t) (record { round = r; there = other }) in
+            absurd (truth-differs (early (below p L k.number) (place P h.test) (Bool true) (Bool false) x y))
+        | inr d ↦
+            let e : k.number ≡ h.number = omega arith in
+            let A : ℕ → Type 0 = λ i. Holds S (Has (below p L i) (place P l) w) in
+            early (below p L h.number) (place P l) v w h.has (subst A e k.has)
+      ]
+    ]
+
 -- what follows at a node is one value
-one_at_node : (S : Source) (m : ℕ) → Earlier S m → (n : ℕ) (z : Node) (p : Path) (v w : SourceValue) → Follows S (Rounds S m) n z p v → Follows S (Holds S) n z p w → v ≡ w
+one_at_node : (S : Source) (m : ℕ) → Earlier S m → (n : ℕ) (z : Node) (p : Path) (v w : SourceValue) → Follows S (Rounds S m) n z p v
+    → Follows S (Holds S) n z p w → v ≡ w
 one_at_node S m early n (Literal c) p v w h k = h ∙ sym k
 one_at_node S m early n (Unary o a) p v w h k =
     let c = same-constant h.0 k.0 (early p _ _ _ h.2 k.2) in
@@ -251,7 +412,8 @@ one_at_node S m early n (Name y) p v w h k =
     early (without (between S n h.0) p) (place S.checked h.0) v w h.2 (subst P q k.2)
 one_at_node S m early n (If s x y) p v w h k =
     let t = one_test k.3 h.3 in
-    let there : Holds S (Has p (place S.checked h.0) (value_of (constant.Bool k.1))) = subst (λ i. Holds S (Has p (place S.checked i) (value_of (constant.Bool k.1)))) t k.4 in
+    let there : Holds S (Has p (place S.checked h.0) (value_of (constant.Bool k.1))) =
+    subst (λ i. Holds S (Has p (place S.checked i) (value_of (constant.Bool k.1)))) t k.4 in
     let c = same-constant (constant.Bool h.1) (constant.Bool k.1) (early p _ _ _ h.4 there) in
     let b : h.1 ≡ k.1 = cc in
     let a = one_arm k.3 h.3 (sym b) in
@@ -261,6 +423,8 @@ one_at_node S m early n (Call e c) p v w h k =
     let F : ℕ → Type 0 = λ b. Holds S (Has (below p (place S.checked n) 0) (place S.checked b) w) in
     early (below p (place S.checked n) 0) (place S.checked h.0.body) v w h.1 (subst F (sym q.body) k.1)
 one_at_node S m early n (Block b) p v w h k = early p _ v w h k
+one_at_node S m early n (Loop g x l) p v w h k = one_left S m early n l p v w h k
+one_at_node S m early n (Next y i o a) p v w h k = one_variable S m early n o a p v w h k
 one_at_node S m early n (Binding y a) p v w h k = early p _ v w h k
 one_at_node S m early n (Param y k) p v w h l = one_param S m early n p v w h l
 one_at_node S m early n _ p v w h k = absurd h

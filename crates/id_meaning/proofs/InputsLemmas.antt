@@ -1,5 +1,7 @@
 -- Words that are read from left to right give the parameters their values.
-use Rattle.std.proofs.Common.{◌≡◌, inl, inr, ℕ, zero, suc, ◌+◌, ◌<◌, ◌==◌, eqb, Bool, true, false, not, cond, ◌&&◌, ◌||◌, if◌then◌else◌, ℤ, List, [], ◌∷◌, ◌++◌, map, take, drop, set, length, get_or, Bor, Option, None, Some, IsSome, IfSome, refl, ap, sym, ◌∙◌, subst, one-add, add-one, length-set, arith}
+use Rattle.std.proofs.Common.{◌≡◌, inl, inr, ℕ, zero, suc, ◌+◌, ◌<◌, ◌==◌, eqb, Bool, true, false, not, cond, ◌&&◌, ◌||◌, if◌then◌else◌, ℤ, List, [], ◌∷◌, ◌++◌}
+use Rattle.std.proofs.Common.{map, take, drop, set, length, get_or, Bor, Option, None, Some, IsSome, IfSome, refl, ap, sym, ◌∙◌, subst, one-add, add-one}
+use Rattle.std.proofs.Common.{length-set, arith}
 use Rattle.std.specs.Prelude.{slice_get, option_map, option_and_then}
 use Rattle.std.specs.Option.{option_or, is_some}
 use Rattle.std.specs.List.{AllPass, position_or_len, before_first, after_first}
@@ -25,7 +27,8 @@ use Rattle.id_meaning.specs.declared.inputs.InputError.{InputError}
 use Rattle.id_meaning.specs.declared.inputs.InputError.TheVariants.{UnknownInput, RepeatedInput, BadInput}
 use Rattle.id_meaning.specs.Sources.{AreFor, AreInputs, SuitsParam, head_of, main_params, value_kind}
 use Rattle.id_meaning.proofs.ParamsLemmas.{params-among}
-use Rattle.id_meaning.specs.Inputs.{AreInputsOf, Cut, begun, cut, wanted, wanted_of, number_of, are_digits, number_spelled, whole_value, value_spelled, Said, Nothing, Says, said_of, said_by, said, named_by, has, option_bad, word_cause, first_cause, value_in, value_for, IsCauseOf}
+use Rattle.id_meaning.specs.Inputs.{AreInputsOf, Cut, begun, cut, wanted, wanted_of, number_of, are_digits, number_spelled, whole_value, value_spelled, Said}
+use Rattle.id_meaning.specs.Inputs.{Nothing, Says, said_of, said_by, said, named_by, has, option_bad, word_cause, first_cause, value_in, value_for, IsCauseOf}
 use Rattle.id_meaning.specs.Reading.{cut_so, said_so, cause_so, values_so}
 
 -- ---- words that are cut
@@ -34,7 +37,8 @@ use Rattle.id_meaning.specs.Reading.{cut_so, said_so, cause_so, values_so}
 abbrev is_equal : ℕ → Bool
 is_equal b = eqb b 61
 
-uncut_step : (v : Bool) (b k : ℕ) (bs : List ℕ) → cond (not v) (1 + k) 0 ≡ suc (length bs) → (k ≡ length bs → cut bs ≡ None) → (if v then Some (record { name = []; value = bs }) else option_map (begun b) (cut bs)) ≡ None
+uncut_step : (v : Bool) (b k : ℕ) (bs : List ℕ) → cond (not v) (1 + k) 0 ≡ suc (length bs) → (k ≡ length bs → cut bs ≡ None)
+    → (if v then Some (record { name = []; value = bs }) else option_map (begun b) (cut bs)) ≡ None
 uncut_step true b k bs e rest = absurd (omega arith)
 uncut_step false b k bs e rest = rw (rest (omega arith)) refl
 
@@ -42,15 +46,18 @@ uncut : (bs : List ℕ) → position_or_len is_equal bs ≡ length bs → cut bs
 uncut [] e = refl
 uncut (b ∷ bs) e = uncut_step (is_equal b) b (position_or_len is_equal bs) bs e (uncut bs)
 
-cut_step : (v : Bool) (b k : ℕ) (bs : List ℕ) → cond (not v) (1 + k) 0 < suc (length bs) → (k < length bs → cut bs ≡ Some (record { name = take k bs; value = drop (k + 1) bs }))
-    → (if v then Some (record { name = []; value = bs }) else option_map (begun b) (cut bs)) ≡ Some (record { name = take (cond (not v) (1 + k) 0) (b ∷ bs); value = drop (cond (not v) (1 + k) 0 + 1) (b ∷ bs) })
+cut_step : (v : Bool) (b k : ℕ) (bs : List ℕ) → cond (not v) (1 + k) 0 < suc (length bs)
+    → (k < length bs → cut bs ≡ Some (record { name = take k bs; value = drop (k + 1) bs }))
+    → (if v then Some (record { name = []; value = bs }) else option_map (begun b) (cut bs)) ≡ Some
+    (record { name = take (cond (not v) (1 + k) 0) (b ∷ bs); value = drop (cond (not v) (1 + k) 0 + 1) (b ∷ bs) })
 cut_step true b k bs l rest = refl
 cut_step false b k bs l rest =
     let one : 1 + k ≡ suc k = one-add k in
     let two : 1 + k + 1 ≡ suc (k + 1) = omega arith in
     rw (rest (omega arith)) (λ i. Some (record { name = take (sym one i) (b ∷ bs); value = drop (sym two i) (b ∷ bs) }))
 
-cut_first : (bs : List ℕ) → position_or_len is_equal bs < length bs → cut bs ≡ Some (record { name = before_first is_equal bs; value = after_first is_equal bs })
+cut_first : (bs : List ℕ) → position_or_len is_equal bs < length bs
+    → cut bs ≡ Some (record { name = before_first is_equal bs; value = after_first is_equal bs })
 cut_first [] l = absurd (omega arith)
 cut_first (b ∷ bs) l = cut_step (is_equal b) b (position_or_len is_equal bs) bs l (cut_first bs)
 
@@ -104,20 +111,25 @@ pub record Progress (ps : List Wanted) (ws : List (List ℕ)) (j : ℕ) (vs : Li
 abbrev cause_from : List Wanted → List ℕ → ℕ → Said → List (List ℕ) → Option InputError
 cause_from ps seen j s rest = option_or (word_cause seen j s) (first_cause ps (named_by s ++ seen) (suc j) rest)
 
-has_more : (v : Bool) (n m : ℕ) (seen : List ℕ) (vs : List (Option SourceValue)) (o : SourceValue) → eqb n m ≡ v → n < length vs → has m seen ≡ is_some (get_or vs m None) → (v || has m seen) ≡ is_some (get_or (set vs n (Some o)) m None)
-has_more true n m seen vs o e l h = ap is_some (sym (subst (λ k. get_or (set vs n (Some o)) k None ≡ Some o) (eqb-true n m e) (get_or-set_same vs n (Some o) None l)))
+has_more : (v : Bool) (n m : ℕ) (seen : List ℕ) (vs : List (Option SourceValue)) (o : SourceValue) → eqb n m ≡ v → n < length vs
+    → has m seen ≡ is_some (get_or vs m None) → (v || has m seen) ≡ is_some (get_or (set vs n (Some o)) m None)
+has_more true n m seen vs o e l h =
+    ap is_some (sym (subst (λ k. get_or (set vs n (Some o)) k None ≡ Some o) (eqb-true n m e) (get_or-set_same vs n (Some o) None l)))
 has_more false n m seen vs o e l h = h ∙ ap is_some (sym (get_or-set_other vs n m (Some o) None (λ same. false≢true (sym e ∙ eq-eqb n m (sym same)))))
 
-given_more : (v : Bool) (n m : ℕ) (vs : List (Option SourceValue)) (o : SourceValue) (all left : Option SourceValue) → eqb n m ≡ v → n < length vs → get_or vs n None ≡ None
+given_more : (v : Bool) (n m : ℕ) (vs : List (Option SourceValue)) (o : SourceValue) (all left : Option SourceValue) → eqb n m ≡ v → n < length vs
+    → get_or vs n None ≡ None
     → all ≡ option_or (get_or vs m None) (option_or (if v then Some o else None) left) → all ≡ option_or (get_or (set vs n (Some o)) m None) left
 given_more true n m vs o all left e l none h =
     h ∙ ap (λ g. option_or g (Some o)) (subst (λ k. get_or vs k None ≡ None) (eqb-true n m e) none)
     ∙ ap (λ g. option_or g left) (sym (subst (λ k. get_or (set vs n (Some o)) k None ≡ Some o) (eqb-true n m e) (get_or-set_same vs n (Some o) None l)))
-given_more false n m vs o all left e l none h = h ∙ ap (λ g. option_or g left) (sym (get_or-set_other vs n m (Some o) None (λ same. false≢true (sym e ∙ eq-eqb n m (sym same)))))
+given_more false n m vs o all left e l none h =
+    h ∙ ap (λ g. option_or g left) (sym (get_or-set_other vs n m (Some o) None (λ same. false≢true (sym e ∙ eq-eqb n m (sym same)))))
 
 -- the cause of a word that names a parameter
 refused : (ps : List Wanted) (ws : List (List ℕ)) (j : ℕ) (rest : Option InputError) (known : Bool) (v : Option SourceValue) (e : InputError)
-    → first_cause ps [] 0 ws ≡ option_or (if known then Some (RepeatedInput j) else option_bad j v) rest → (if known then Some (RepeatedInput j) else option_bad j v) ≡ Some e → IsCauseOf ps ws e
+    → first_cause ps [] 0 ws ≡ option_or (if known then Some (RepeatedInput j) else option_bad j v) rest →
+    (if known then Some (RepeatedInput j) else option_bad j v) ≡ Some e → IsCauseOf ps ws e
 refused ps ws j rest true v e first cause = subst (IsCauseOf ps ws) (let same : RepeatedInput j ≡ e = cc in same) first
 refused ps ws j rest false None e first cause = subst (IsCauseOf ps ws) (let same : BadInput j ≡ e = cc in same) first
 refused ps ws j rest false (Some v) e first cause = cc
@@ -139,17 +151,20 @@ module _ (ps : List Wanted) (ws : List (List ℕ)) (j : ℕ) (vs : List (Option 
   progress-unknown : said ps (get_or ws j []) ≡ Nothing → first_cause ps [] 0 ws ≡ Some (UnknownInput j)
   progress-unknown e = cause_at Nothing e
 
-  refused_at : (n : ℕ) (v : Option SourceValue) (known : Bool) (e : InputError) → said ps (get_or ws j []) ≡ Says n v → n < length vs → is_some (get_or vs n None) ≡ known
+  refused_at : (n : ℕ) (v : Option SourceValue) (known : Bool) (e : InputError) → said ps (get_or ws j []) ≡ Says n v → n < length vs
+      → is_some (get_or vs n None) ≡ known
       → (if known then Some (RepeatedInput j) else option_bad j v) ≡ Some e → IsCauseOf ps ws e
   refused_at n v known e says l is cause =
       let rest = first_cause ps (n ∷ P.seen) (suc j) (drop (suc j) ws) in
-      refused ps ws j rest known v e (cause_at (Says n v) says ∙ ap (λ b. option_or (if b then Some (RepeatedInput j) else option_bad j v) rest) (P.known n l ∙ is)) cause
+      refused ps ws j rest known v e
+      (cause_at (Says n v) says ∙ ap (λ b. option_or (if b then Some (RepeatedInput j) else option_bad j v) rest) (P.known n l ∙ is)) cause
 
   -- a parameter without a value was not seen
   unseen : (n : ℕ) (s : Option InputError) → n < length vs → get_or vs n None ≡ None → (if has n P.seen then Some (RepeatedInput j) else s) ≡ s
   unseen n s l none = ap (λ b. if b then Some (RepeatedInput j) else s) (P.known n l ∙ ap is_some none)
 
-  next_at : (n : ℕ) (v : SourceValue) → said ps (get_or ws j []) ≡ Says n (Some v) → n < length vs → get_or vs n None ≡ None → Progress ps ws (j + 1) (set vs n (Some v))
+  next_at : (n : ℕ) (v : SourceValue) → said ps (get_or ws j []) ≡ Says n (Some v) → n < length vs → get_or vs n None ≡ None
+      → Progress ps ws (j + 1) (set vs n (Some v))
   next_at n v e l none = record {
     seen = n ∷ P.seen;
     cause =
@@ -165,17 +180,20 @@ module _ (ps : List Wanted) (ws : List (List ℕ)) (j : ℕ) (vs : List (Option 
         ∙ ap (λ i. option_or (get_or vs m None) (option_or (if eqb n m then Some v else None) (value_for ps (drop i ws) m))) (sym (add-one j)));
   }
 
-  pub progress-refused : (r : Option (ℕ × Option SourceValue)) (e : InputError) → said_so r ≡ said ps (get_or ws j []) → IfSome r (λ x. x.0 < length vs) → cause_so vs j r ≡ Some e → IsCauseOf ps ws e
+  pub progress-refused : (r : Option (ℕ × Option SourceValue)) (e : InputError) → said_so r ≡ said ps (get_or ws j []) → IfSome r (λ x. x.0 < length vs)
+      → cause_so vs j r ≡ Some e → IsCauseOf ps ws e
   progress-refused None e says within cause = subst (IsCauseOf ps ws) (let same : UnknownInput j ≡ e = cc in same) (progress-unknown (sym says))
   progress-refused (Some x) e says within cause = refused_at x.0 x.1 (is_some (get_or vs x.0 None)) e (sym says) within refl cause
 
-  pub progress-next : (r : Option (ℕ × Option SourceValue)) → said_so r ≡ said ps (get_or ws j []) → IfSome r (λ x. x.0 < length vs) → cause_so vs j r ≡ None → Progress ps ws (j + 1) (values_so vs r)
+  pub progress-next : (r : Option (ℕ × Option SourceValue)) → said_so r ≡ said ps (get_or ws j []) → IfSome r (λ x. x.0 < length vs) → cause_so vs j r ≡ None
+      → Progress ps ws (j + 1) (values_so vs r)
   progress-next None says within cause = cc
   progress-next (Some (n, None)) says within cause = absurd (false≢true (free j (get_or vs n None) None cause).1)
   progress-next (Some (n, Some v)) says within cause = next_at n v (sym says) within (free j (get_or vs n None) (Some v) cause).0
 
 -- the word of a number, as its text
-pub word_at : (ps : List Wanted) (ws : List (Bor (List ℕ))) (j : ℕ) (d : Bor (List ℕ)) → j < length ws → said ps (get_or (map (λ w. w.now) ws) j []) ≡ said ps (get_or ws j d).now
+pub word_at : (ps : List Wanted) (ws : List (Bor (List ℕ))) (j : ℕ) (d : Bor (List ℕ)) → j < length ws
+    → said ps (get_or (map (λ w. w.now) ws) j []) ≡ said ps (get_or ws j d).now
 word_at ps ws j d inside = ap (said ps) (get_or-map (λ (w : Bor (List ℕ)). w.now) ws j d [] inside)
 
 -- ---- kinds
@@ -188,7 +206,8 @@ number-kind : (r : Option ℤ) (o : SourceValue) → option_and_then whole_value
 number-kind None o e = cc
 number-kind (Some n) o e = whole-kind _ n o e
 
-truth-kind : (v w : Bool) (o : SourceValue) → (if v then Some (value.Bool true) else (if w then Some (value.Bool false) else None)) ≡ Some o → value_kind o ≡ kind.Bool
+truth-kind : (v w : Bool) (o : SourceValue) → (if v then Some (value.Bool true) else (if w then Some (value.Bool false) else None)) ≡ Some o
+    → value_kind o ≡ kind.Bool
 truth-kind true w o e = ap value_kind (sym (let same : value.Bool true ≡ o = cc in same))
 truth-kind false true o e = ap value_kind (sym (let same : value.Bool false ≡ o = cc in same))
 truth-kind false false o e = cc
@@ -198,7 +217,8 @@ spelled-kind kind.Int cs o e = number-kind (number_spelled cs) o e
 spelled-kind kind.Bool cs o e = truth-kind _ _ o e
 spelled-kind kind.Array cs o e = cc
 
-param-kind : (q : Option Wanted) (p : Wanted) (cs : List ℕ) (o : SourceValue) → q ≡ Some p → option_and_then (λ r. value_spelled r.kind cs) q ≡ Some o → value_kind o ≡ p.kind
+param-kind : (q : Option Wanted) (p : Wanted) (cs : List ℕ) (o : SourceValue) → q ≡ Some p → option_and_then (λ r. value_spelled r.kind cs) q ≡ Some o
+    → value_kind o ≡ p.kind
 param-kind q p cs o is e = spelled-kind p.kind cs o (rw is at e)
 
 -- what a word says of a parameter has its kind
@@ -207,19 +227,23 @@ in-kind : (v : Bool) (ps : List Wanted) (cs : List ℕ) (n m : ℕ) (p : Wanted)
 in-kind true ps cs n m p o e is h = param-kind (slice_get ps m) p cs o (ap (slice_get ps) (eqb-true m n e) ∙ is) h
 in-kind false ps cs n m p o e is h = cc
 
-said-kind : (ps : List Wanted) (cs : List ℕ) (a : Option ℕ) (n : ℕ) (p : Wanted) (o : SourceValue) → slice_get ps n ≡ Some p → value_in n (said_of ps cs a) ≡ Some o → value_kind o ≡ p.kind
+said-kind : (ps : List Wanted) (cs : List ℕ) (a : Option ℕ) (n : ℕ) (p : Wanted) (o : SourceValue) → slice_get ps n ≡ Some p
+    → value_in n (said_of ps cs a) ≡ Some o → value_kind o ≡ p.kind
 said-kind ps cs None n p o is e = cc
 said-kind ps cs (Some m) n p o is e = in-kind (eqb m n) ps cs n m p o refl is e
 
-word-kind : (ps : List Wanted) (w : Option Cut) (n : ℕ) (p : Wanted) (o : SourceValue) → slice_get ps n ≡ Some p → value_in n (said_by ps w) ≡ Some o → value_kind o ≡ p.kind
+word-kind : (ps : List Wanted) (w : Option Cut) (n : ℕ) (p : Wanted) (o : SourceValue) → slice_get ps n ≡ Some p → value_in n (said_by ps w) ≡ Some o
+    → value_kind o ≡ p.kind
 word-kind ps None n p o is e = cc
 word-kind ps (Some w) n p o is e = said-kind ps w.value (number_of ps w.name) n p o is e
 
-or-kind : (a b : Option SourceValue) (k : Kind) (o : SourceValue) → option_or a b ≡ Some o → (a ≡ Some o → value_kind o ≡ k) → (b ≡ Some o → value_kind o ≡ k) → value_kind o ≡ k
+or-kind : (a b : Option SourceValue) (k : Kind) (o : SourceValue) → option_or a b ≡ Some o → (a ≡ Some o → value_kind o ≡ k) → (b ≡ Some o → value_kind o ≡ k)
+    → value_kind o ≡ k
 or-kind None b k o e first second = second e
 or-kind (Some v) b k o e first second = first e
 
-for-kind : (ps : List Wanted) (ws : List (List ℕ)) (n : ℕ) (p : Wanted) (o : SourceValue) → slice_get ps n ≡ Some p → value_for ps ws n ≡ Some o → value_kind o ≡ p.kind
+for-kind : (ps : List Wanted) (ws : List (List ℕ)) (n : ℕ) (p : Wanted) (o : SourceValue) → slice_get ps n ≡ Some p → value_for ps ws n ≡ Some o
+    → value_kind o ≡ p.kind
 for-kind ps [] n p o is e = cc
 for-kind ps (w ∷ ws) n p o is e = or-kind (value_in n (said ps w)) (value_for ps ws n) p.kind o e (word-kind ps (cut w) n p o is) (for-kind ps ws n p o is)
 
@@ -234,7 +258,8 @@ are-for : (P : Checked) (bs : List ℕ) (vs : List SourceValue) → ((b : ℕ) �
 are-for P [] [] are e h = tt
 are-for P [] (v ∷ vs) are e h = absurd (omega arith)
 are-for P (b ∷ bs) [] are e h = absurd (omega arith)
-are-for P (b ∷ bs) (v ∷ vs) are e h = (suits P (at (rows P) b).node v (are b (inl refl)) (h 0 _ v refl refl), are-for P bs vs (λ c i. are c (inr i)) (omega arith) (λ n. h (suc n)))
+are-for P (b ∷ bs) (v ∷ vs) are e h =
+    (suits P (at (rows P) b).node v (are b (inl refl)) (h 0 _ v refl refl), are-for P bs vs (λ c i. are c (inr i)) (omega arith) (λ n. h (suc n)))
 
 wide-map : {A B : Type 0} (f : A → B) (xs : List A) → length (map f xs) ≡ length xs
 wide-map f [] = refl

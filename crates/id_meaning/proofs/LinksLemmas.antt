@@ -1,5 +1,6 @@
 -- Lemmas on specs/Links.antt.
-use Rattle.std.proofs.Common.{◌≡◌, ◌⊎◌, inl, inr, ℕ, zero, suc, ◌≤◌, ◌<◌, Bool, true, false, ◌||◌, ◌&&◌, nat_lt, nat_le, Some, None, Option, List, [], ◌∷◌, ◌++◌, length, get_or, set, Vec, Global, refl, ap, sym, ◌∙◌, subst, arith}
+use Rattle.std.proofs.Common.{◌≡◌, ◌⊎◌, inl, inr, ℕ, zero, suc, ◌≤◌, ◌<◌, Bool, true, false, ◌||◌, ◌&&◌, nat_lt, nat_le, if◌then◌else◌, Some, None, Option}
+use Rattle.std.proofs.Common.{List, [], ◌∷◌, ◌++◌, length, get_or, set, Vec, Global, refl, ap, sym, ◌∙◌, subst, arith}
 use Rattle.std.specs.Prelude.{slice_get}
 use Rattle.std.proofs.lemmas.Bool.{leb-true, ltb-true, lt-leb, le-leb, le-ltb, lt-ltb}
 use Rattle.std.proofs.lemmas.Bool.Decides.{eqb_tells}
@@ -13,12 +14,15 @@ use Rattle.id_meaning.specs.declared.edges.Edges.{Edges}
 use Rattle.id_list.proofs.PlacesLemmas.{slice_get-left, slice_get-last}
 use Rattle.id_parts.specs.declared.row.Row.{Row}
 use Rattle.id_parts.specs.declared.row.Node.{Node}
-use Rattle.id_parts.specs.declared.row.Node.TheVariants.{Unary, Binary, Split, If, Call, Block, Binding}
-use Rattle.id_parts.specs.Rows.{at}
-use Rattle.id_parts.specs.Tables.{around, is_block, is_binding, is_call}
+use Rattle.id_parts.specs.declared.row.Node.TheVariants.{Unary, Binary, Split, If, Call, Next, Body, Block, Binding}
+use Rattle.id_parts.specs.declared.row.Region.{Region}
+use Rattle.id_parts.specs.Rows.{arm_at, at}
+use Rattle.id_parts.specs.Tables.{around, has_statements, is_binding, is_call, is_switches}
 use Rattle.id_parts.specs.Turns.{IsStatement, Turns, operand, left, right, test, argument, body, statement, in_block}
 use Rattle.id_meaning.specs.declared.links.Statement.{Statement}
-use Rattle.id_meaning.specs.Links.{AreArgsTo, AreNone, AreOpen, AreReadsTo, AreTurnsTo, Gains, GainsTo, Leads, Statements, Statements_at, StatementsRise, Takes, TakesAll, TurnsOn, beyond, enter_of, linked_at, linked_of, parts_turned, some_row, targets, test_of, width}
+use Rattle.id_meaning.specs.Links.{AreArgsTo, AreNone, AreOpen, AreReadsTo, AreTurnsTo, From, Gains, GainsFrom, GainsTo, Leads, PartTurns, Statements}
+use Rattle.id_meaning.specs.Links.{Statements_at, StatementsRise, Takes, TakesAll, TurnsOn, asker_at, beyond, linked_at, linked_of, nexts_turned, of_binding}
+use Rattle.id_meaning.specs.Links.{of_next, parts_turned, some_row, switches_of, targets, test_of, width}
 
 -- ---- edges
 
@@ -49,7 +53,8 @@ some-among None a h = cc
 some-among (Some b) a h = let e : a ≡ b = cc in inl e
 
 -- one edge more
-pub gains-one : (E F : Edges) (a b : ℕ) (w : Vec ℕ Global) → F.rows.items ≡ set E.rows.items a w → a < length E.rows.items → w.items ≡ targets E.rows.items a ++ b ∷ [] → Gains E F a (b ∷ [])
+pub gains-one : (E F : Edges) (a b : ℕ) (w : Vec ℕ Global) → F.rows.items ≡ set E.rows.items a w → a < length E.rows.items
+    → w.items ≡ targets E.rows.items a ++ b ∷ [] → Gains E F a (b ∷ [])
 gains-one E F a b w e inside added =
     let vs = E.rows.items in
     let here : targets F.rows.items a ≡ targets vs a ++ b ∷ [] = ap (λ xs. targets xs a) e ∙ targets-same vs a w inside ∙ added in
@@ -110,7 +115,8 @@ gains_to-both E F G ds bs c g h = record {
 -- ---- statements that wait
 
 -- what stands in a list with one more stands in the list, or it is that one
-slice_get-either : (ss : List Statement) (x : Statement) (i : ℕ) (s : Statement) → slice_get (ss ++ x ∷ []) i ≡ Some s → (slice_get ss i ≡ Some s) ⊎ ((i ≡ length ss) × (s ≡ x))
+slice_get-either : (ss : List Statement) (x : Statement) (i : ℕ) (s : Statement) → slice_get (ss ++ x ∷ []) i ≡ Some s
+    → (slice_get ss i ≡ Some s) ⊎ ((i ≡ length ss) × (s ≡ x))
 slice_get-either [] x zero s h = inr (refl, let e : x ≡ s = cc in sym e)
 slice_get-either [] x (suc i) s h = cc
 slice_get-either (y ∷ ss) x zero s h = inl h
@@ -119,11 +125,32 @@ slice_get-either (y ∷ ss) x (suc i) s h = elim (slice_get-either ss x i s h) [
 rise-front : (us vs : List Statement) → StatementsRise (us ++ vs) → StatementsRise us
 rise-front us vs r i j s t h k l = r i j s t (slice_get-left s us vs i h) (slice_get-left t us vs j k) l
 
-pub takes-init : (E : Edges) (ss : List Statement) (first a : ℕ) → StatementsRise ss → Takes E E ss ss first a
-takes-init E ss first a r = record { wide = refl; kept = λ n b h. h; only = λ n b h. inl h; some = λ s h. h; gone = λ s h. inl h; rise = r }
+-- edges from a row, if there is one
+pub record GainsBy (E F : Edges) (o : Option ℕ) (bs : List ℕ) : Type 0 where
+  pub wide : width F ≡ width E
+  pub kept : (n b : ℕ) → Leads E n b → Leads F n b
+  pub added : (a b : ℕ) → o ≡ Some a → a < width E → Among b bs → Leads F a b
+  pub only : (n b : ℕ) → Leads F n b → Leads E n b ⊎ (From o n × Among b bs)
 
-pub takes-step : (E F G : Edges) (ss ts us : List Statement) (s : Statement) (first a : ℕ) → Takes E F ss ts first a → ts ≡ us ++ s ∷ [] → first ≤ s.row → Gains F G a (s.value ∷ []) → Takes E G ss us first a
-takes-step E F G ss ts us s first a t e l g =
+gains-by : (E F : Edges) (o : Option ℕ) (bs : List ℕ) → GainsFrom E F o bs → GainsBy E F o bs
+gains-by E F None bs e =
+    let L : (n b : ℕ) → Edges → Type 0 = λ n b G. Leads G n b in
+    record { wide = ap width e; kept = λ n b h. subst (L n b) (sym e) h; added = λ a b k. (let q : None ≡ Some a = k in cc); only = λ n b h. inl (subst (L n b) e h) }
+gains-by E F (Some a) bs g = record {
+  wide = g.wide;
+  kept = g.kept;
+  added = λ c b k l h. (let q : a ≡ c = cc in let P : ℕ → Type 0 = λ d. d < width E → Leads F d b in subst P q (λ m. g.added b m h) l);
+  only = g.only;
+}
+
+pub takes-init : (E : Edges) (ss : List Statement) (first : ℕ) (o : Option ℕ) → StatementsRise ss → Takes E E ss ss first o
+takes-init E ss first o r = record { wide = refl; kept = λ n b h. h; only = λ n b h. inl h; some = λ s h. h; gone = λ s h. inl h; rise = r }
+
+pub takes-step : (E F G : Edges) (ss ts us : List Statement) (s : Statement) (first : ℕ) (o : Option ℕ) → Takes E F ss ts first o → ts ≡ us ++ s ∷ []
+    → first ≤ s.row
+    → GainsFrom F G o (s.value ∷ []) → Takes E G ss us first o
+takes-step E F G ss ts us s first o t e l h =
+    let g = gains-by F G o (s.value ∷ []) h in
     let A : Statement → List Statement → Type 0 = λ x xs. Among x xs in
     let was : (x : Statement) → Among x us → Among x ts = λ x h. subst (A x) (sym e) (Among-left x us (s ∷ []) h) in
     let last : Among s ss = t.some s (subst (A s) (sym e) (Among-right s us (s ∷ []) (inl refl))) in
@@ -140,20 +167,22 @@ takes-step E F G ss ts us s first a t e l g =
           | inl j ↦ inl j
           | inr j ↦ elim j [
             | inl q ↦
-                let P : Statement → Type 0 = λ y. (first ≤ y.row) × (a < width E → Leads G a y.value) in
-                inr (subst P (sym q) (l, λ k. let w = t.wide in g.added s.value (omega arith) (inl refl)))
+                let P : Statement → Type 0 = λ y. (first ≤ y.row) × ((a : ℕ) → o ≡ Some a → a < width E → Leads G a y.value) in
+                inr (subst P (sym q) (l, λ a c k. let w = t.wide in g.added a s.value c (omega arith) (inl refl)))
             | inr f ↦ absurd f
           ]
         ]
-        | inr i ↦ inr (i.0, λ k. g.kept a x.value (i.1 k))
+        | inr i ↦ inr (i.0, λ a c k. g.kept a x.value (i.1 a c k))
       ];
       rise = (let P : List Statement → Type 0 = λ xs. StatementsRise xs in rise-front us (s ∷ []) (subst P e t.rise));
     }
 
-pub takes-some : (E F : Edges) (ss ts us vs : List Statement) (s : Statement) (first a : ℕ) → Takes E F ss ts first a → ts ≡ us ++ s ∷ [] → vs ≡ us ++ s ∷ [] → s.row < first → TakesAll E F ss vs first a
-takes-some E F ss ts us vs s first a t e f l =
+pub takes-some : (E F : Edges) (ss ts us vs : List Statement) (s : Statement) (first : ℕ) (o : Option ℕ) → Takes E F ss ts first o → ts ≡ us ++ s ∷ []
+    → vs ≡ us ++ s ∷ []
+    → s.row < first → TakesAll E F ss vs first o
+takes-some E F ss ts us vs s first o t e f l =
     let P : List Statement → Type 0 = λ xs. StatementsRise xs in
-    let T : List Statement → Type 0 = λ xs. Takes E F ss xs first a in
+    let T : List Statement → Type 0 = λ xs. Takes E F ss xs first o in
     let A : Statement → List Statement → Type 0 = λ x xs. Among x xs in
     let r : StatementsRise (us ++ s ∷ []) = subst P e t.rise in
     record {
@@ -168,9 +197,9 @@ takes-some E F ss ts us vs s first a t e f l =
       ];
     }
 
-pub takes-none : (E F : Edges) (ss ts us : List Statement) (first a : ℕ) → Takes E F ss ts first a → ts ≡ [] → us ≡ [] → TakesAll E F ss us first a
-takes-none E F ss ts us first a t e f =
-    let T : List Statement → Type 0 = λ xs. Takes E F ss xs first a in
+pub takes-none : (E F : Edges) (ss ts us : List Statement) (first : ℕ) (o : Option ℕ) → Takes E F ss ts first o → ts ≡ [] → us ≡ [] → TakesAll E F ss us first o
+takes-none E F ss ts us first o t e f =
+    let T : List Statement → Type 0 = λ xs. Takes E F ss xs first o in
     let A : Statement → List Statement → Type 0 = λ x xs. Among x xs in
     record { takes = subst T (e ∙ sym f) t; before = λ x h. absurd (subst (A x) f h) }
 
@@ -221,10 +250,12 @@ in_block-before R i zero l = refl
 in_block-before R i (suc s) l =
     let b : nat_lt i s ≡ false = le-ltb i s (omega arith) in
     let k : around R s i ≡ false = and-late (nat_le (at R s).first i) (nat_lt i s) b in
-    both-false (in_block R i s) (is_block (at R s).node && around R s i) (in_block-before R i s (omega arith)) (and-late (is_block (at R s).node) (around R s i) k)
+    both-false (in_block R i s) (has_statements (at R s).node && around R s i) (in_block-before R i s (omega arith))
+    (and-late (has_statements (at R s).node) (around R s i) k)
 
 -- what an expression turns On is a part, or a statement's expression
-turned-part : (R : List Row) (n a : ℕ) → is_call (at R n).node ≡ false → Turns R n a → Among a (parts_turned R (at R n).node) ⊎ ((m : ℕ) × (x : ℕ) × IsStatement R n m × ((at R m).node ≡ Binding x a))
+turned-part : (R : List Row) (n a : ℕ) → is_call (at R n).node ≡ false → Turns R n a
+    → Among a (parts_turned R (at R n).node) ⊎ ((m : ℕ) × (x : ℕ) × IsStatement R n m × ((at R m).node ≡ Binding x a))
 turned-part R n a k (operand {o = o} e) = let P : Node → Type 0 = λ z. Among a (parts_turned R z) in inl (subst P (sym e) (inl refl))
 turned-part R n a k (left {b = b} {o = o} e) = let P : Node → Type 0 = λ z. Among a (parts_turned R z) in inl (subst P (sym e) (inl refl))
 turned-part R n a k (right {b = b} {o = o} e) = let P : Node → Type 0 = λ z. Among a (parts_turned R z) in inl (subst P (sym e) (inr (inl refl)))
@@ -234,7 +265,7 @@ turned-part R n a k (test e f) =
     inl (subst P (sym e) (subst Q (sym f) (inl refl)))
 turned-part R n a k (argument e l f) = let c : true ≡ false = sym (ap is_call e) ∙ k in absurd (true≢false c)
 turned-part R n a k (body e) = let P : Node → Type 0 = λ z. Among a (parts_turned R z) in inl (subst P (sym e) (inl refl))
-turned-part R n a k (statement {m = m} {x = x} s e) = inr (m, x, s, e)
+turned-part R n a k (statement {m = m} {x = x} b s e) = inr (m, x, s, e)
 
 part-turned : (R : List Row) (n a : ℕ) (z : Node) → (at R n).node ≡ z → Among a (parts_turned R z) → Turns R n a
 part-turned R n a (Unary o b) e (inl q) = let P : ℕ → Type 0 = λ c. Turns R n c in subst P (sym q) (operand e)
@@ -257,49 +288,124 @@ part-plain : (R : List Row) (a : ℕ) (z : Node) → Among a (parts_turned R z) 
 part-plain R a (Call e c) h = absurd h
 part-plain R a _ h = refl
 
--- at a row that is no block only its parts are added
-module _ (R : List Row) (n : ℕ) (E F : Edges) (ss : List Statement) (t : AreTurnsTo R n E) (o : AreOpen R n ss) (g : Gains E F n (parts_turned R (at R n).node)) where
-  -- the edges of earlier rows, and of the parts of this one, are kept
-  earlier : (G : Edges) → ((m b : ℕ) → Leads F m b → Leads G m b) → (m a : ℕ) → m < n → m < length R → TurnsOn R m a → Leads G m a
-  earlier G more m a l w h = more m a (g.kept m a (t.all m a l w h))
+-- the switches whose true side a row is right in
+switches-by : (w h : ℕ) (side is : Bool) → (if side && is then Some h else None) ≡ Some w → (side ≡ true) × (is ≡ true) × (h ≡ w)
+switches-by w h true true e = (refl, refl, let q : h ≡ w = cc in q)
+switches-by w h true false e = cc
+switches-by w h false is e = cc
 
-  part : (G : Edges) → ((m b : ℕ) → Leads F m b → Leads G m b) → (a : ℕ) → n < length R → Among a (parts_turned R (at R n).node) → Leads G n a
-  part G more a w h = let q = t.wide in more n a (g.added a (omega arith) h)
+region-of : ℕ → Bool → Region
+region-of h b = record { head = h; side = b }
 
-  from : (m a : ℕ) → Leads F m a → (m < suc n) × TurnsOn R m a
-  from m a h = elim (g.only m a h) [
-    | inl i ↦ let k = t.only m a i in (omega (arith, k.0), k.1)
+switches-some : (R : List Row) (r : Row) (w : ℕ) → switches_of R r ≡ Some w → (is_switches (at R w).node ≡ true) × (r.region ≡ arm_at w true)
+unfolding region-of
+switches-some R r w e =
+    let t = switches-by w r.region.head r.region.side (is_switches (at R r.region.head).node) e in
+    let P : ℕ → Type 0 = λ i. is_switches (at R i).node ≡ true in
+    (subst P t.2 t.1, ap (λ b. region-of r.region.head b) t.0 ∙ ap (λ i. region-of i true) t.2)
+
+some-switches : (R : List Row) (r : Row) (w : ℕ) → is_switches (at R w).node ≡ true → r.region ≡ arm_at w true → switches_of R r ≡ Some w
+some-switches R r w s e =
+    ap (λ g. if g.side && is_switches (at R g.head).node then Some g.head else None) e ∙ ap (λ b. if b then Some w else None) s
+
+from-some : (o : Option ℕ) (n : ℕ) → From o n → o ≡ Some n
+from-some None n h = absurd h
+from-some (Some a) n h = ap (λ i. Some i) (sym h)
+
+-- what a `next` turns On is its expression
+next-node : (z : Node) (a : ℕ) → Among a (nexts_turned z) → (x : ℕ) × (k : ℕ) × (o : ℕ) × (z ≡ Next x k o a)
+next-node (Next x k o v) a (inl q) = (x, k, o, ap (λ i. Next x k o i) (sym q))
+next-node (Next x k o v) a (inr f) = absurd f
+next-node _ a h = absurd h
+
+-- at a row its parts are added, and the expression that it is the `next` of
+module _ (R : List Row) (n : ℕ) (E D F : Edges) (ss : List Statement) (w : n < length R) (t : AreTurnsTo R n E) (o : AreOpen R n ss)
+    (g : Gains E D n (parts_turned R (at R n).node)) (f : GainsFrom D F (switches_of R (at R n)) (nexts_turned (at R n).node)) where
+  more : GainsBy D F (switches_of R (at R n)) (nexts_turned (at R n).node)
+  more = gains-by D F (switches_of R (at R n)) (nexts_turned (at R n).node) f
+
+  old : (m b : ℕ) → Leads E m b → Leads F m b
+  old m b h = more.kept m b (g.kept m b h)
+
+  wide-of : width F ≡ width E
+  wide-of = more.wide ∙ g.wide
+
+  part : (a : ℕ) → Among a (parts_turned R (at R n).node) → Leads F n a
+  part a h = let q = t.wide in more.kept n a (g.added a (omega arith) h)
+
+  from : (m a : ℕ) → Leads F m a → TurnsOn R m a
+  from m a h = elim (more.only m a h) [
+    | inl i ↦ elim (g.only m a i) [
+      | inl j ↦ t.only m a j
+      | inr j ↦
+          let P : ℕ → Type 0 = λ k. TurnsOn R k a in
+          subst P (sym j.0) (inl (part-turned R n a (at R n).node refl j.1, part-plain R a (at R n).node j.1))
+    ]
     | inr i ↦
-        let P : ℕ → Type 0 = λ j. (j < suc n) × TurnsOn R j a in
-        let l : n < suc n = omega arith in
-        subst P (sym i.0) (l, (part-turned R n a (at R n).node refl i.1, part-plain R a (at R n).node i.1))
+        let z = next-node (at R n).node a i.1 in
+        let s = switches-some R (at R n) m (from-some (switches_of R (at R n)) m i.0) in
+        inr (s.0, of_next w z.3 s.1)
   ]
 
-  plain-turns : is_block (at R n).node ≡ false → AreTurnsTo R (suc n) F
+  -- with all that was there, and what this row's statements give
+  parts-next : (G : Edges) → ((m b : ℕ) → Leads F m b → Leads G m b)
+      → ((a m x : ℕ) → IsStatement R n m → (at R m).node ≡ Binding x a → is_call (at R n).node ≡ false → Turns R n a → Leads G n a)
+      → (m a : ℕ) → m < suc n → m < length R → PartTurns R m a → Leads G m a
+  parts-next G up stated m a l v h = elim (eqb_tells m n) [
+    | inl q ↦
+        let P : ℕ → Type 0 = λ j. PartTurns R j a in
+        let Q : ℕ → Type 0 = λ j. Leads G j a in
+        let p = subst P q.1 h in
+        subst Q (sym q.1) (elim (turned-part R n a p.1 p.0) [
+          | inl i ↦ up n a (part a i)
+          | inr i ↦ stated a i.0 i.1 i.2 i.3 p.1 p.0
+        ])
+    | inr q ↦ (let s : m < n = let d = q.1 in omega arith in up m a (old m a (t.parts m a s v h)))
+  ]
+
+  nexts-next : (G : Edges) → ((m b : ℕ) → Leads F m b → Leads G m b) → (u m x k e a : ℕ) → m < suc n → m < length R → u < length R
+      → is_switches (at R u).node ≡ true
+      → (at R m).node ≡ Next x k e a → (at R m).region ≡ arm_at u true → Leads G u a
+  nexts-next G up u m x k e a l v c is z r = elim (eqb_tells m n) [
+    | inl q ↦
+        let b = some-switches R (at R n) u is (ap (λ j. (at R j).region) (sym q.1) ∙ r) in
+        let y : (at R n).node ≡ Next x k e a = ap (λ j. (at R j).node) (sym q.1) ∙ z in
+        let A : Node → Type 0 = λ j. Among a (nexts_turned j) in
+        let d = t.wide in
+        let j = g.wide in
+        up u a (more.added u a b (omega arith) (subst A (sym y) (inl refl)))
+    | inr q ↦ (let s : m < n = let d = q.1 in omega arith in up u a (old u a (t.nexts u m x k e a s v c is z r)))
+  ]
+
+  bodies-next : (G : Edges) → ((m b : ℕ) → Leads F m b → Leads G m b)
+      → ((u m x a : ℕ) → u < length R → is_switches (at R u).node ≡ true → (at R n).node ≡ Body → (at R n).region ≡ arm_at u true → IsStatement R n m → (at R m).node ≡ Binding x a → Leads G u a)
+      → (u b m x a : ℕ) → b < suc n → b < length R → u < length R → is_switches (at R u).node ≡ true → (at R b).node ≡ Body → (at R b).region ≡ arm_at u true
+      → IsStatement R b m → (at R m).node ≡ Binding x a → Leads G u a
+  bodies-next G up stated u b m x a l v c is z r i e = elim (eqb_tells b n) [
+    | inl q ↦
+        let P : ℕ → Type 0 = λ j. ((at R j).node ≡ Body) × ((at R j).region ≡ arm_at u true) × IsStatement R j m in
+        let p = subst P q.1 (z, r, i) in
+        stated u m x a c is p.0 p.1 p.2 e
+    | inr q ↦ (let s : b < n = let d = q.1 in omega arith in up u a (old u a (t.bodies u b m x a s v c is z r i e)))
+  ]
+
+  plain-turns : has_statements (at R n).node ≡ false → AreTurnsTo R (suc n) F
   plain-turns b = record {
-    wide = g.wide ∙ t.wide;
-    all = λ m a l w h. elim (eqb_tells m n) [
-      | inl q ↦
-          let P : ℕ → Type 0 = λ j. TurnsOn R j a in
-          let Q : ℕ → Type 0 = λ j. Leads F j a in
-          let W : ℕ → Type 0 = λ j. j < length R in
-          subst Q (sym q.1) (elim (turned-part R n a (subst P q.1 h).1 (subst P q.1 h).0) [
-            | inl i ↦ part F (λ x y k. k) a (subst W q.1 w) i
-            | inr i ↦ (let s = i.2 in let e : true ≡ false = sym s.block ∙ b in absurd (true≢false e))
-          ])
-      | inr q ↦ (let s : m < n = let d = q.1 in omega arith in earlier F (λ x y k. k) m a s w h)
-    ];
+    wide = wide-of ∙ t.wide;
+    parts = parts-next F (λ m b h. h) (λ a m x s e c u. (let d : true ≡ false = sym s.block ∙ b in absurd (true≢false d)));
+    bodies = bodies-next F (λ m b h. h) (λ u m x a c is z r i e. (let d : true ≡ false = sym i.block ∙ b in absurd (true≢false d)));
+    nexts = nexts-next F (λ m b h. h);
     only = from;
   }
 
   -- a binding stands in no block before this row where it does in none before the next
   right-before : (b : ℕ) → in_block R b (suc n) ≡ false → in_block R b n ≡ false
-  right-before b h = (or-false (in_block R b n) (is_block (at R n).node && around R n b) h).0
+  right-before b h = (or-false (in_block R b n) (has_statements (at R n).node && around R n b) h).0
 
-  right-after : (b : ℕ) → is_block (at R n).node ≡ false → in_block R b n ≡ false → in_block R b (suc n) ≡ false
-  right-after b k h = both-false (in_block R b n) (is_block (at R n).node && around R n b) h (and-first (is_block (at R n).node) (around R n b) k)
+  right-after : (b : ℕ) → has_statements (at R n).node ≡ false → in_block R b n ≡ false → in_block R b (suc n) ≡ false
+  right-after b k h = both-false (in_block R b n) (has_statements (at R n).node && around R n b) h (and-first (has_statements (at R n).node) (around R n b) k)
 
-  plain-open : is_block (at R n).node ≡ false → is_binding (at R n).node ≡ false → AreOpen R (suc n) ss
+  plain-open : has_statements (at R n).node ≡ false → is_binding (at R n).node ≡ false → AreOpen R (suc n) ss
   plain-open k j = record {
     all = λ m x a l w e h. elim (eqb_tells m n) [
       | inl q ↦ (let f : true ≡ false = ap is_binding (sym e) ∙ ap (λ i. is_binding (at R i).node) q.1 ∙ j in absurd (true≢false f))
@@ -312,7 +418,7 @@ module _ (R : List Row) (n : ℕ) (E F : Edges) (ss : List Statement) (t : AreTu
   binding-open : (x a : ℕ) → (at R n).node ≡ Binding x a → AreOpen R (suc n) (ss ++ record { row = n; value = a } ∷ [])
   binding-open x a e =
       let new : Statement = record { row = n; value = a } in
-      let plain : is_block (at R n).node ≡ false = ap is_block e in
+      let plain : has_statements (at R n).node ≡ false = ap has_statements e in
       record {
         all = λ m y b l w f h. elim (eqb_tells m n) [
           | inl q ↦
@@ -344,58 +450,83 @@ module _ (R : List Row) (n : ℕ) (E F : Edges) (ss : List Statement) (t : AreTu
       }
 
   -- at a block its statements are added, and wait no longer
-  block-turns : (G : Edges) (ts : List Statement) (b : ℕ) → (at R n).node ≡ Block b → n < length R → TakesAll F G ss ts (at R n).first n → AreTurnsTo R (suc n) G
-  block-turns G ts b e w k = record {
-    wide = k.takes.wide ∙ g.wide ∙ t.wide;
-    all = λ m a l v h. elim (eqb_tells m n) [
-      | inl q ↦
-          let P : ℕ → Type 0 = λ j. TurnsOn R j a in
-          let Q : ℕ → Type 0 = λ j. Leads G j a in
-          subst Q (sym q.1) (elim (turned-part R n a (subst P q.1 h).1 (subst P q.1 h).0) [
-            | inl i ↦ part G k.takes.kept a w i
-            | inr i ↦
-                let s = i.2 in
-                let r = around-within R n i.0 s.inside in
-                let x = o.all i.0 i.1 a r.1 (omega arith) i.3 s.right in
-                elim (k.takes.gone x.0 x.1) [
-                  | inl j ↦ (let c = k.before x.0 j in let f = x.2 in let d = r.0 in absurd (omega arith))
-                  | inr j ↦
-                      let A : ℕ → Type 0 = λ c. Leads G n c in
-                      let p = t.wide in
-                      let q = g.wide in
-                      subst A x.3 (j.1 (omega arith))
-                ]
-          ])
-      | inr q ↦ (let s : m < n = let d = q.1 in omega arith in earlier G k.takes.kept m a s v h)
-    ];
+  gone-by : (G : Edges) (ts : List Statement) (p : Option ℕ) (u m x a : ℕ) → p ≡ Some u → u < length R → IsStatement R n m → (at R m).node ≡ Binding x a
+      → TakesAll F G ss ts (at R n).first p → Leads G u a
+  gone-by G ts p u m x a e l s b k =
+      let r = around-within R n m s.inside in
+      let y = o.all m x a r.1 (omega arith) b s.right in
+      elim (k.takes.gone y.0 y.1) [
+        | inl j ↦ (let c = k.before y.0 j in let f = y.2 in let d = r.0 in absurd (omega arith))
+        | inr j ↦
+            let A : ℕ → Type 0 = λ c. Leads G u c in
+            let q = t.wide in
+            let z = wide-of in
+            subst A y.3 (j.1 u e (omega arith))
+      ]
+
+  statement-of : (s : Statement) → Among s ss → (at R n).first ≤ s.row → has_statements (at R n).node ≡ true → IsStatement R n s.row
+  statement-of s i l b =
+      let z = o.only s i in
+      record { block = b; binding = ap is_binding z.2.1; inside = around-true R n s.row l z.0; right = z.1 }
+
+  block-turns : (G : Edges) (ts : List Statement) (b : ℕ) → (at R n).node ≡ Block b → TakesAll F G ss ts (at R n).first (Some n) → AreTurnsTo R (suc n) G
+  block-turns G ts b e k = record {
+    wide = k.takes.wide ∙ wide-of ∙ t.wide;
+    parts = parts-next G k.takes.kept (λ a m x s d c u. gone-by G ts (Some n) n m x a refl w s d k);
+    bodies = bodies-next G k.takes.kept (λ u m x a c is z r i d. (let q : Body ≡ Block b = sym z ∙ e in cc));
+    nexts = nexts-next G k.takes.kept;
     only = λ m a h. elim (k.takes.only m a h) [
       | inl i ↦ from m a i
       | inr i ↦
           let s = i.1.0 in
-          let z = o.only s i.1.1 in
-          let P : ℕ → Type 0 = λ j. (j < suc n) × TurnsOn R j a in
+          let P : ℕ → Type 0 = λ j. TurnsOn R j a in
           let A : ℕ → Type 0 = λ c. TurnsOn R n c in
-          let l : n < suc n = omega arith in
-          let block : is_block (at R n).node ≡ true = ap is_block e in
-          let binding : is_binding (at R s.row).node ≡ true = ap is_binding z.2.1 in
-          let is : IsStatement R n s.row = record { block = block; binding = binding; inside = around-true R n s.row i.1.2 z.0; right = z.1 } in
-          subst P (sym i.0) (l, subst A (sym i.1.3) (statement is z.2.1, ap is_call e))
+          let is = statement-of s i.1.1 i.1.2 (ap has_statements e) in
+          subst P (sym i.0) (subst A (sym i.1.3) (inl (statement e is (o.only s i.1.1).2.1, ap is_call e)))
     ];
   }
 
-  block-open : (G : Edges) (ts : List Statement) (b : ℕ) → (at R n).node ≡ Block b → TakesAll F G ss ts (at R n).first n → AreOpen R (suc n) ts
-  block-open G ts b e k = record {
+  -- and at the end of a loop's body
+  body-turns : (G : Edges) (ts : List Statement) → (at R n).node ≡ Body → TakesAll F G ss ts (at R n).first (switches_of R (at R n)) → AreTurnsTo R (suc n) G
+  body-turns G ts e k = record {
+    wide = k.takes.wide ∙ wide-of ∙ t.wide;
+    parts = parts-next G k.takes.kept (λ a m x s d c u. absurd (none-turned (at R n).node e u));
+    bodies = bodies-next G k.takes.kept (λ u m x a c is z r i d. gone-by G ts (switches_of R (at R n)) u m x a (some-switches R (at R n) u is r) c i d k);
+    nexts = nexts-next G k.takes.kept;
+    only = λ m a h. elim (k.takes.only m a h) [
+      | inl i ↦ from m a i
+      | inr i ↦
+          let s = i.1.0 in
+          let A : ℕ → Type 0 = λ c. TurnsOn R m c in
+          let is = statement-of s i.1.1 i.1.2 (ap has_statements e) in
+          let z = switches-some R (at R n) m (from-some (switches_of R (at R n)) m i.0) in
+          subst A (sym i.1.3) (inr (z.0, of_binding w e z.1 is (o.only s i.1.1).2.1))
+    ];
+  }
+    where
+      none-turned : {a : ℕ} (z : Node) → (at R n).node ≡ Body → Turns R n a → ⊥
+      none-turned z e (operand h) = cc
+      none-turned z e (left h) = cc
+      none-turned z e (right h) = cc
+      none-turned z e (test h i) = cc
+      none-turned z e (argument h i j) = cc
+      none-turned z e (body h) = cc
+      none-turned z e (statement h i j) = cc
+
+  block-open : (G : Edges) (ts : List Statement) (p : Option ℕ) → has_statements (at R n).node ≡ true → TakesAll F G ss ts (at R n).first p
+      → AreOpen R (suc n) ts
+  block-open G ts p e k = record {
     all = λ m x a l w f h. elim (eqb_tells m n) [
-      | inl q ↦ (let c : Binding x a ≡ Block b = sym f ∙ ap (λ i. (at R i).node) q.1 ∙ e in cc)
+      | inl q ↦ (let c : false ≡ true = ap has_statements (sym f) ∙ ap (λ i. has_statements (at R i).node) q.1 ∙ e in absurd (true≢false (sym c)))
       | inr q ↦
           let s : m < n = let d = q.1 in omega arith in
-          let r = or-false (in_block R m n) (is_block (at R n).node && around R n m) h in
+          let r = or-false (in_block R m n) (has_statements (at R n).node && around R n m) h in
           let y = o.all m x a s w f r.0 in
           elim (k.takes.gone y.0 y.1) [
             | inl j ↦ (y.0, j, y.2, y.3)
             | inr j ↦
                 let c : (at R n).first ≤ m = let d = j.0 in let z = y.2 in omega arith in
-                let u : around R n m ≡ false = and-second (is_block (at R n).node) (around R n m) (ap is_block e) r.1 in
+                let u : around R n m ≡ false = and-second (has_statements (at R n).node) (around R n m) e r.1 in
                 absurd (true≢false (sym (around-true R n m c s) ∙ u))
           ]
     ];
@@ -403,7 +534,7 @@ module _ (R : List Row) (n : ℕ) (E F : Edges) (ss : List Statement) (t : AreTu
         let z = o.only s (k.takes.some s h) in
         let c = k.before s h in
         let u : around R n s.row ≡ false = and-first (nat_le (at R n).first s.row) (nat_lt s.row n) (lt-leb (at R n).first s.row c) in
-        (omega (arith, z.0), both-false (in_block R s.row n) (is_block (at R n).node && around R n s.row) z.1 (and-late (is_block (at R n).node) (around R n s.row) u), z.2);
+        (omega (arith, z.0), both-false (in_block R s.row n) (has_statements (at R n).node && around R n s.row) z.1 (and-late (has_statements (at R n).node) (around R n s.row) u), z.2);
     rise = k.takes.rise;
   }
 
@@ -411,35 +542,49 @@ module _ (R : List Row) (n : ℕ) (E F : Edges) (ss : List Statement) (t : AreTu
   abbrev After : Edges → List Statement → Type 0
   After G ts = AreTurnsTo R (suc n) G × AreOpen R (suc n) ts
 
-  plain : (G : Edges) (ts : List Statement) → is_block (at R n).node ≡ false → is_binding (at R n).node ≡ false → (G ≡ F) × (ts ≡ ss) → After G ts
+  plain : (G : Edges) (ts : List Statement) → has_statements (at R n).node ≡ false → is_binding (at R n).node ≡ false → (G ≡ F) × (ts ≡ ss) → After G ts
   plain G ts b c h =
       let P : Edges → Type 0 = λ H. AreTurnsTo R (suc n) H in
       let Q : List Statement → Type 0 = λ us. AreOpen R (suc n) us in
       (subst P (sym h.0) (plain-turns b), subst Q (sym h.1) (plain-open b c))
 
-  after : (G : Edges) (ts : List Statement) (z : Node) → (at R n).node ≡ z → n < length R → Statements_at F G ss ts n (at R n).first z → After G ts
-  after G ts (Block b) e w h = (block-turns G ts b e w h, block-open G ts b e h)
-  after G ts (Binding x a) e w h =
+  after : (G : Edges) (ts : List Statement) (z : Node) → (at R n).node ≡ z → Statements_at F G ss ts n (at R n).first (switches_of R (at R n)) z → After G ts
+  after G ts (Block b) e h = (block-turns G ts b e h, block-open G ts (Some n) (ap has_statements e) h)
+  after G ts Body e h = (body-turns G ts e h, block-open G ts (switches_of R (at R n)) (ap has_statements e) h)
+  after G ts (Binding x a) e h =
       let P : Edges → Type 0 = λ H. AreTurnsTo R (suc n) H in
       let Q : List Statement → Type 0 = λ us. AreOpen R (suc n) us in
-      (subst P (sym h.0) (plain-turns (ap is_block e)), subst Q (sym h.1) (binding-open x a e))
-  after G ts _ e w h = plain G ts (ap is_block e) (ap is_binding e) h
+      (subst P (sym h.0) (plain-turns (ap has_statements e)), subst Q (sym h.1) (binding-open x a e))
+  after G ts _ e h = plain G ts (ap has_statements e) (ap is_binding e) h
 
 -- what one row more turns On, and the statements that wait then
-pub turns-step : (R : List Row) (n m : ℕ) (E F G : Edges) (ss ts : List Statement) → m ≡ suc n → n < length R → AreTurnsTo R n E → AreOpen R n ss → Gains E F n (parts_turned R (at R n).node) → Statements F G ss ts n (at R n) → AreTurnsTo R m G × AreOpen R m ts
-turns-step R n m E F G ss ts q w t o g h =
+pub turns-step : (R : List Row) (n m : ℕ) (E D F G : Edges) (ss ts : List Statement) (r : Row) → m ≡ suc n → n < length R → r ≡ at R n → AreTurnsTo R n E
+    → AreOpen R n ss
+    → Gains E D n (parts_turned R r.node) → GainsFrom D F (switches_of R r)
+    (nexts_turned r.node) → Statements R F G ss ts n r → AreTurnsTo R m G × AreOpen R m ts
+turns-step R n m E D F G ss ts r q w e t o g f h =
     let P : ℕ → Type 0 = λ k. AreTurnsTo R k G × AreOpen R k ts in
-    subst P (sym q) (after R n E F ss t o g G ts (at R n).node refl w h)
+    let A : Row → Type 0 = λ x. Gains E D n (parts_turned R x.node) in
+    let B : Row → Type 0 = λ x. GainsFrom D F (switches_of R x) (nexts_turned x.node) in
+    let C : Row → Type 0 = λ x. Statements R F G ss ts n x in
+    subst P (sym q) (after R n E D F ss w t o (subst A e g) (subst B e f) G ts (at R n).node refl (subst C e h))
 
 pub turns-init : (R : List Row) (E : Edges) (ss : List Statement) → AreNone E (length R) → ss ≡ [] → AreTurnsTo R 0 E × AreOpen R 0 ss
 turns-init R E ss k e =
     let P : List Statement → Type 0 = λ xs. AreOpen R 0 xs in (
-      record { wide = k.wide; all = λ n a l w h. absurd (omega arith); only = λ n a h. absurd (k.none n a h) },
+      record {
+        wide = k.wide;
+        parts = λ n a l w h. absurd (omega arith);
+        bodies = λ u b m x a l v c is z r i j. absurd (omega arith);
+        nexts = λ u m x i e a l v c is z r. absurd (omega arith);
+        only = λ n a h. absurd (k.none n a h);
+      },
       subst P (sym e) (record { all = λ m x a l w f h. absurd (omega arith); only = λ s h. absurd h; rise = λ i j s u h v l. cc }),
     )
 
 -- one row more without edges
-pub none-push : (vs : List (Vec ℕ Global)) (v : Vec ℕ Global) → v.items ≡ [] → ((a b : ℕ) → Among b (targets vs a) → ⊥) → (a b : ℕ) → Among b (targets (vs ++ v ∷ []) a) → ⊥
+pub none-push : (vs : List (Vec ℕ Global)) (v : Vec ℕ Global) → v.items ≡ [] → ((a b : ℕ) → Among b (targets vs a) → ⊥) → (a b : ℕ)
+    → Among b (targets (vs ++ v ∷ []) a) → ⊥
 none-push [] v e h zero b k = let A : List ℕ → Type 0 = λ xs. Among b xs in subst A e k
 none-push [] v e h (suc a) b k = k
 none-push (w ∷ vs) v e h zero b k = h 0 b k
@@ -459,38 +604,35 @@ reads-step P n m E F q t g = record {
   ];
 }
 
--- which arguments one row more is
-pub args-step : (P : Checked) (n m : ℕ) (E F : Edges) → m ≡ suc n → AreArgsTo P n E → GainsTo E F (some_row (enter_of (at (rows P) n).node)) n → AreArgsTo P m F
+-- what asks for one row more
+pub args-step : (P : Checked) (n m : ℕ) (E F : Edges) → m ≡ suc n → AreArgsTo P n E → GainsTo E F (some_row (asker_at (rows P) n)) n → AreArgsTo P m F
 args-step P n m E F q t g = record {
   wide = g.wide ∙ t.wide;
-  all = λ k e i a w l is. elim (eqb_tells k n) [
+  all = λ k e w l is. elim (eqb_tells k n) [
     | inl x ↦
         let B : ℕ → Type 0 = λ j. Leads F e j in
         let c = t.wide in
-        let z : enter_of (at (rows P) n).node ≡ Some e = ap (λ j. enter_of (at (rows P) j).node) (sym x.1) ∙ ap enter_of is in
-        subst B (sym x.1) (g.added e (omega arith) (some-among (enter_of (at (rows P) n).node) e z))
-    | inr x ↦ (let s : k < n = let d = x.1 in omega arith in g.kept e k (t.all k e i a s l is))
+        let z : asker_at (rows P) n ≡ Some e = ap (λ j. asker_at (rows P) j) (sym x.1) ∙ is in
+        subst B (sym x.1) (g.added e (omega arith) (some-among (asker_at (rows P) n) e z))
+    | inr x ↦ (let s : k < n = let d = x.1 in omega arith in g.kept e k (t.all k e s l is))
   ];
 }
 
 -- where the row is read of another list
-pub args-by : (P : Checked) (n m : ℕ) (E F : Edges) (R : List Row) (b : Option ℕ) → m ≡ suc n → R ≡ rows P → b ≡ enter_of (at R n).node → AreArgsTo P n E
+pub args-by : (P : Checked) (n m : ℕ) (E F : Edges) (R : List Row) (b : Option ℕ) → m ≡ suc n → R ≡ rows P → b ≡ asker_at R n → AreArgsTo P n E
     → GainsTo E F (some_row b) n → AreArgsTo P m F
 args-by P n m E F R b q r e t g =
-    let A : List Row → Type 0 = λ xs. GainsTo E F (some_row (enter_of (at xs n).node)) n in
+    let A : List Row → Type 0 = λ xs. GainsTo E F (some_row (asker_at xs n)) n in
     let B : Option ℕ → Type 0 = λ o. GainsTo E F (some_row o) n in
     args-step P n m E F q t (subst A r (subst B e g))
-
-targets-within : (vs : List (Vec ℕ Global)) (n a : ℕ) → Among a (targets vs n) → n < length vs
-targets-within [] n a h = absurd h
-targets-within (v ∷ vs) zero a h = omega arith
-targets-within (v ∷ vs) (suc n) a h = let l = targets-within vs n a h in omega arith
 
 pub turns-end : (R : List Row) (n : ℕ) (E : Edges) → length R ≤ n → AreTurnsTo R n E → AreTurnsTo R (length R) E
 turns-end R n E l t = record {
   wide = t.wide;
-  all = λ m a k w h. t.all m a (omega arith) w h;
-  only = λ m a h. (let x = t.only m a h in let w = t.wide in let b = targets-within E.rows.items m a h in (omega arith, x.1));
+  parts = λ m a k w h. t.parts m a (omega arith) w h;
+  bodies = λ u b m x a k v c is z r i j. t.bodies u b m x a (omega arith) v c is z r i j;
+  nexts = λ u m x i e a k v c is z r. t.nexts u m x i e a (omega arith) v c is z r;
+  only = t.only;
 }
 
 -- where the row is read of another list, and the row beyond its parts is given

@@ -1,5 +1,6 @@
 -- Lemmas on specs/Listed.antt: the list of what the spots show is that of the facts.
-use Rattle.std.proofs.Common.{◌≡◌, ◌⊎◌, inl, inr, ℕ, zero, suc, ◌+◌, ◌≤◌, ◌<◌, Bool, true, false, Option, None, Some, List, [], ◌∷◌, ◌++◌, length, get_or, if◌then◌else◌, Ordering, Less, Equal, Greater, refl, ap, sym, ◌∙◌, subst, arith}
+use Rattle.std.proofs.Common.{◌≡◌, ◌⊎◌, inl, inr, ℕ, zero, suc, ◌+◌, ◌≤◌, ◌<◌, Bool, true, false, Option, None, Some, List, [], ◌∷◌, ◌++◌, length, get_or}
+use Rattle.std.proofs.Common.{if◌then◌else◌, Ordering, Less, Equal, Greater, refl, ap, sym, ◌∙◌, subst, arith}
 use Rattle.std.specs.Prelude.{◌≢◌, AllPairs, IsPermutation, Contains}
 use Rattle.std.specs.List.{All, IsDistinct, AllByRecursion}
 use Rattle.std.specs.Option.{is_some}
@@ -19,17 +20,18 @@ use Rattle.id_meaning.specs.declared.Path.{Path}
 use Rattle.id_meaning.specs.declared.Fact.{Fact}
 use Rattle.id_meaning.specs.declared.Fact.TheVariants as fact
 use Rattle.id_meaning.specs.declared.cells.Spot.{Spot}
+use Rattle.id_meaning.specs.declared.cells.Trail.{Trail}
 use Rattle.id_meaning.specs.declared.cells.RowFact.{RowFact}
 use Rattle.id_meaning.specs.declared.cells.RowFact.TheVariants.{On, Has}
 use Rattle.id_meaning.specs.Sources.{Source}
 use Rattle.id_meaning.specs.Rounds.{Rounds}
 use Rattle.id_meaning.specs.Computed.{AreFacts, HasMoreFacts}
 use Rattle.id_meaning.specs.Cells.{blank, cell_at, count_of, is_at, spot_at}
-use Rattle.id_meaning.specs.Listed.{AreShown, IsPart, IsRound, Known, fact_cmp, fact_of, facts_in, on_fact, path_at, place_in, spot_facts, steps_in, steps_of, value_fact}
-use Rattle.id_meaning.proofs.CellsLemmas.{at-true, true-at}
+use Rattle.id_meaning.specs.Listed.{AreShown, IsPart, IsRound, Known, fact_cmp, fact_of, facts_in, on_fact, path_at, place_in, spot_facts, steps_in, value_fact}
+use Rattle.id_meaning.proofs.SpotsLemmas.{at-true, inside-more, true-at}
 use Rattle.id_meaning.proofs.CheckedLemmas.{apart_of}
 use Rattle.id_meaning.proofs.OrdersLemmas.{FactsRise-up, fact_total, point_same, same_point, same_point-flips}
-use Rattle.id_meaning.proofs.PathsLemmas.{path-once}
+use Rattle.id_meaning.proofs.PathsLemmas.{all_steps, path-once}
 
 -- ---- lists in another order
 
@@ -60,13 +62,16 @@ has-here p e (Some v) f (inr k) = absurd k
 
 -- the fact is one of the spot
 abbrev IsOf : Checked → List Spot → Spot → Fact → Type 0
-IsOf P es s f = ((s.cell.on ≡ true) × (f ≡ fact.On (path_at P es s.path) (place P s.row))) ⊎ ((v : SourceValue) × (s.cell.has ≡ Some v) × (f ≡ fact.Has (path_at P es s.path) (place P s.row) v))
+IsOf P es s f =
+    ((s.cell.on ≡ true) × (f ≡ fact.On (path_at P es s.path) (place P s.row))) ⊎
+    ((v : SourceValue) × (s.cell.has ≡ Some v) × (f ≡ fact.Has (path_at P es s.path) (place P s.row) v))
 
 spot-only : (P : Checked) (es : List Spot) (s : Spot) (f : Fact) → Among f (spot_facts P es s) → IsOf P es s f
-spot-only P es s f h = elim (Among-either f (on_fact (path_at P es s.path) (place P s.row) s.cell.on) (value_fact (path_at P es s.path) (place P s.row) s.cell.has) h) [
-  | inl i ↦ inl (on-here (path_at P es s.path) (place P s.row) s.cell.on f i)
-  | inr i ↦ inr (has-here (path_at P es s.path) (place P s.row) s.cell.has f i)
-]
+spot-only P es s f h =
+    elim (Among-either f (on_fact (path_at P es s.path) (place P s.row) s.cell.on) (value_fact (path_at P es s.path) (place P s.row) s.cell.has) h) [
+      | inl i ↦ inl (on-here (path_at P es s.path) (place P s.row) s.cell.on f i)
+      | inr i ↦ inr (has-here (path_at P es s.path) (place P s.row) s.cell.has f i)
+    ]
 
 on-there : (p : Path) (e : ℕ) (b : Bool) → b ≡ true → Among (fact.On p e) (on_fact p e b)
 on-there p e true h = inl refl
@@ -92,14 +97,14 @@ in-all P all (s ∷ es) (suc i) f l h = Among-right f (spot_facts P all s) (fact
 -- ---- where a fact is known, it is one of a spot
 
 -- where the row has something at the path, some spot has it
-record Stood (es : List Spot) (p n : ℕ) : Type 0 where
+record Stood (es : List Spot) (p : Trail) (n : ℕ) : Type 0 where
   number : ℕ
   within : number < length es
   path : (spot_at es number).path ≡ p
   row : (spot_at es number).row ≡ n
   cell : (spot_at es number).cell ≡ cell_at es p n
 
-stood : (es : List Spot) (p n : ℕ) → (cell_at es p n ≡ blank → ⊥) → Stood es p n
+stood : (es : List Spot) (p : Trail) (n : ℕ) → (cell_at es p n ≡ blank → ⊥) → Stood es p n
 stood [] p n h = absurd (h refl)
 stood (s ∷ es) p n h = by (is_at s p n) refl (stood es p n) where
   by : (t : Bool) → is_at s p n ≡ t → ((cell_at es p n ≡ blank → ⊥) → Stood es p n) → Stood (s ∷ es) p n
@@ -120,7 +125,8 @@ cell-of [] a i l = absurd (omega arith)
 cell-of (s ∷ es) a zero l = ap (λ t. if t then s.cell else cell_at es s.path s.row) (true-at s s.path s.row refl refl)
 cell-of (s ∷ es) a (suc i) l =
     let e = spot_at es i in
-    by (is_at s e.path e.row) refl (cell-of es (λ j k l m p r. let q : suc j ≡ suc k = a (suc j) (suc k) (omega arith) (omega arith) p r in omega arith) i (omega arith))
+    by (is_at s e.path e.row) refl
+    (cell-of es (λ j k l m p r. let q : suc j ≡ suc k = a (suc j) (suc k) (omega arith) (omega arith) p r in omega arith) i (omega arith))
   where
     by : (t : Bool) → is_at s (spot_at es i).path (spot_at es i).row ≡ t → cell_at es (spot_at es i).path (spot_at es i).row ≡ (spot_at es i).cell
         → cell_at (s ∷ es) (spot_at es i).path (spot_at es i).row ≡ (spot_at es i).cell
@@ -146,11 +152,14 @@ differ-cons f fs h d = (each_among (λ g. same_point f g ≡ false) fs (λ g i. 
     at g i Greater e = refl
 
 -- the facts of one spot, before others
-on-differ : (p : Path) (e : ℕ) (b : Bool) (fs : List Fact) → (b ≡ true → (g : Fact) → Among g fs → fact_cmp (fact.On p e) g ≡ Equal → ⊥) → IsDistinct same_point fs → IsDistinct same_point (on_fact p e b ++ fs)
+on-differ : (p : Path) (e : ℕ) (b : Bool) (fs : List Fact) → (b ≡ true → (g : Fact) → Among g fs → fact_cmp (fact.On p e) g ≡ Equal → ⊥)
+    → IsDistinct same_point fs → IsDistinct same_point (on_fact p e b ++ fs)
 on-differ p e true fs h d = differ-cons (fact.On p e) fs (h refl) d
 on-differ p e false fs h d = d
 
-has-differ : (p : Path) (e : ℕ) (o : Option SourceValue) (fs : List Fact) → ((v : SourceValue) → o ≡ Some v → (g : Fact) → Among g fs → fact_cmp (fact.Has p e v) g ≡ Equal → ⊥) → IsDistinct same_point fs → IsDistinct same_point (value_fact p e o ++ fs)
+has-differ : (p : Path) (e : ℕ) (o : Option SourceValue) (fs : List Fact)
+    → ((v : SourceValue) → o ≡ Some v → (g : Fact) → Among g fs → fact_cmp (fact.Has p e v) g ≡ Equal → ⊥) → IsDistinct same_point fs
+    → IsDistinct same_point (value_fact p e o ++ fs)
 has-differ p e None fs h d = d
 has-differ p e (Some v) fs h d = differ-cons (fact.Has p e v) fs (h v refl) d
 
@@ -163,7 +172,7 @@ append-same [] ys zs = refl
 append-same (x ∷ xs) ys zs = ap (λ l. x ∷ l) (append-same xs ys zs)
 
 -- where a fact of a spot stands
-at-steps : (P : Checked) (es : List Spot) (s : Spot) (f : Fact) → IsOf P es s f → (steps_in f ≡ steps_of P es s.path s.path) × (place_in f ≡ place P s.row)
+at-steps : (P : Checked) (es : List Spot) (s : Spot) (f : Fact) → IsOf P es s f → (steps_in f ≡ all_steps P es s.path) × (place_in f ≡ place P s.row)
 at-steps P es s f (inl h) = (ap (λ g. steps_in g) h.1, ap (λ g. place_in g) h.1)
 at-steps P es s f (inr h) = (ap (λ g. steps_in g) h.2, ap (λ g. place_in g) h.2)
 
@@ -179,18 +188,22 @@ module _ (S : Source) (n : ℕ) (es : List Spot) (s : IsPart S n es) where
       (omega (arith, r.0), ap (λ m. spot_at es m) q ∙ r.1)
 
   -- at one point there is one spot
-  one-spot : (i j : ℕ) → i < length es → j < length es → steps_of S.checked es (spot_at es i).path (spot_at es i).path ≡ steps_of S.checked es (spot_at es j).path (spot_at es j).path
+  one-spot : (i j : ℕ) → i < length es → j < length es → all_steps S.checked es (spot_at es i).path ≡ all_steps S.checked es (spot_at es j).path
       → place S.checked (spot_at es i).row ≡ place S.checked (spot_at es j).row → i ≡ j
   one-spot i j l m e f =
       let a = s.spots.before i l in
       let b = s.spots.before j m in
       let x = s.spots.things i l in
       let y = s.spots.things j m in
-      let path = path-once S es s.spots (spot_at es i).path (spot_at es j).path (omega arith) (omega arith) (λ k. record { steps = e k }) in
+      let p = (spot_at es i).path in
+      let q = (spot_at es j).path in
+      let path =
+      path-once S es s.spots p q (inside-more i (length es) p (omega arith) a) (inside-more j (length es) q (omega arith) b) (λ k. record { steps = e k }) in
       s.spots.apart i j l m path ((apart_of S.checked).apart (spot_at es i).row (spot_at es j).row x.within y.within x.thing y.thing f)
 
   -- facts of a spot and of a later one are at two points
-  later-differ : (k : ℕ) (d : Spot) (ds : List Spot) → From k (d ∷ ds) → (f g : Fact) → IsOf S.checked es d f → Among g (facts_in S.checked es ds) → fact_cmp f g ≡ Equal → ⊥
+  later-differ : (k : ℕ) (d : Spot) (ds : List Spot) → From k (d ∷ ds) → (f g : Fact) → IsOf S.checked es d f → Among g (facts_in S.checked es ds)
+      → fact_cmp f g ≡ Equal → ⊥
   later-differ k d ds h f g o i e =
       let r = in-only S.checked es ds g i in
       let t = point_same f g e in
@@ -198,12 +211,15 @@ module _ (S : Source) (n : ℕ) (es : List Spot) (s : IsPart S n es) where
       let b = at-steps S.checked es (spot_at ds r.0) g r.2 in
       let u = h 0 (omega arith) in
       let v = h (suc r.0) (let l = r.1 in omega arith) in
-      let steps = λ (x : Spot). steps_of S.checked es x.path x.path in
+      let steps = λ (x : Spot). all_steps S.checked es x.path in
       let spots = λ (x : Spot). place S.checked x.row in
-      let w = one-spot (k + 0) (k + suc r.0) u.0 v.0 (ap steps u.1 ∙ sym a.0 ∙ t.1 ∙ b.0 ∙ sym (ap steps v.1)) (ap spots u.1 ∙ sym a.1 ∙ t.2 ∙ b.1 ∙ sym (ap spots v.1)) in
+      let w =
+      one-spot (k + 0) (k + suc r.0) u.0 v.0 (ap steps u.1 ∙ sym a.0 ∙ t.1 ∙ b.0 ∙ sym (ap steps v.1))
+      (ap spots u.1 ∙ sym a.1 ∙ t.2 ∙ b.1 ∙ sym (ap spots v.1)) in
       omega arith
 
-  differ-one : (k : ℕ) (d : Spot) (ds : List Spot) → From k (d ∷ ds) → IsDistinct same_point (facts_in S.checked es ds) → IsDistinct same_point (facts_in S.checked es (d ∷ ds))
+  differ-one : (k : ℕ) (d : Spot) (ds : List Spot) → From k (d ∷ ds) → IsDistinct same_point (facts_in S.checked es ds)
+      → IsDistinct same_point (facts_in S.checked es (d ∷ ds))
   differ-one k d ds h rest =
       let P = S.checked in
       let p = path_at P es d.path in
@@ -229,7 +245,7 @@ module _ (S : Source) (n : ℕ) (es : List Spot) (s : IsPart S n es) where
       let i = in-all S.checked es es t.number (fact.On q (place S.checked e.row)) t.within
       (Among-left (fact.On q (place S.checked e.row)) (on_fact q (place S.checked e.row) e.cell.on) (value_fact q (place S.checked e.row) e.cell.has)
       (on-there q (place S.checked e.row) e.cell.on (ap (λ c. c.on) t.cell ∙ h))) in
-      let F : ℕ → ℕ → Type 0 = λ a b. Among (fact.On (path_at S.checked es a) (place S.checked b)) (facts_in S.checked es es) in
+      let F : Trail → ℕ → Type 0 = λ a b. Among (fact.On (path_at S.checked es a) (place S.checked b)) (facts_in S.checked es es) in
       subst (λ b. F p b) t.row (subst (λ a. F a e.row) t.path i)
   shown (Has p m v) h =
       let t = stood es p m (λ b. let k : Some v ≡ None = sym h ∙ ap (λ c. c.has) b in cc) in
@@ -238,7 +254,7 @@ module _ (S : Source) (n : ℕ) (es : List Spot) (s : IsPart S n es) where
       let i = in-all S.checked es es t.number (fact.Has q (place S.checked e.row) v) t.within
       (Among-right (fact.Has q (place S.checked e.row) v) (on_fact q (place S.checked e.row) e.cell.on) (value_fact q (place S.checked e.row) e.cell.has)
       (has-there q (place S.checked e.row) e.cell.has v (ap (λ c. c.has) t.cell ∙ h))) in
-      let F : ℕ → ℕ → Type 0 = λ a b. Among (fact.Has (path_at S.checked es a) (place S.checked b) v) (facts_in S.checked es es) in
+      let F : Trail → ℕ → Type 0 = λ a b. Among (fact.Has (path_at S.checked es a) (place S.checked b) v) (facts_in S.checked es es) in
       subst (λ b. F p b) t.row (subst (λ a. F a e.row) t.path i)
 
   differ : (k : ℕ) (ds : List Spot) → From k ds → IsDistinct same_point (facts_in S.checked es ds)

@@ -1,5 +1,5 @@
 -- Facts in order, and that what a sort of them leaves rises.
-use Rattle.std.proofs.Common.{◌≡◌, ℕ, suc, ◌<◌, Bool, true, false, List, [], ◌∷◌, Ordering, Less, Equal, Greater, ◌⊎◌, inl, inr, refl, sym, ap, ◌∙◌, arith}
+use Rattle.std.proofs.Common.{◌≡◌, ℕ, suc, Bool, true, false, List, [], ◌∷◌, Ordering, Less, Equal, Greater, ◌⊎◌, inl, inr, refl, sym, ap, ◌∙◌, arith}
 use Rattle.std.specs.Prelude.{AllPairs}
 use Rattle.std.specs.List.{IsDistinct}
 use Rattle.std.specs.List.Sorted.{IsSortedBy}
@@ -7,7 +7,7 @@ use Rattle.std.specs.Ordering.{nat_cmp, ordering_then, ordering_reverse, is_lt, 
 use Rattle.std.specs.Cmp.{IsTotalOrder}
 use Rattle.std.specs.Cmp.Lexicographic.{slice_cmp, lists_total}
 use Rattle.std.proofs.lemmas.Bool.{false≢true}
-use Rattle.std.proofs.lemmas.Cmp.{ranked, nat_cmp_total, on_total, then_total, tied_itself}
+use Rattle.std.proofs.lemmas.Cmp.{nat_cmp_total, on_total, then_total, tied_itself}
 use Rattle.std.proofs.lemmas.List.Sorted.{ranks_by, sorted_far}
 use Rattle.id_meaning.specs.declared.PathStep.{PathStep}
 use Rattle.id_meaning.specs.declared.Path.{Path}
@@ -31,7 +31,8 @@ same_path p q e = ap path_from e
 point_less : (p q : Path) (d e : ℕ) → PointBefore p d q e → point_cmp p.steps d q.steps e ≡ Less
 point_less p q d e (inl h) = ap (λ o. ordering_then o (nat_cmp d e)) (steps_less p.steps q.steps h)
 point_less p q d e (inr h) =
-    ap (λ o. ordering_then o (nat_cmp d e)) (ap (λ r. slice_cmp step_cmp p.steps r.steps) (sym h.0) ∙ tied_itself (lists_total step_total) p.steps) ∙ number_less d e h.1
+    ap (λ o. ordering_then o (nat_cmp d e)) (ap (λ r. slice_cmp step_cmp p.steps r.steps) (sym h.0) ∙ tied_itself (lists_total step_total) p.steps)
+    ∙ number_less d e h.1
 
 less_point : (p q : Path) (d e : ℕ) → point_cmp p.steps d q.steps e ≡ Less → PointBefore p d q e
 less_point p q d e h = at (then_less (slice_cmp step_cmp p.steps q.steps) (nat_cmp d e) h)
@@ -42,7 +43,9 @@ less_point p q d e h = at (then_less (slice_cmp step_cmp p.steps q.steps) (nat_c
 
 -- facts compare as their kinds and points do
 pub fact_total : IsTotalOrder fact_cmp
-fact_total = then_total (on_total (λ f. kind_of f) nat_cmp_total) (then_total (on_total (λ f. steps_in f) (lists_total step_total)) (on_total (λ f. place_in f) nat_cmp_total))
+fact_total =
+    then_total (on_total (λ f. kind_of f) nat_cmp_total)
+    (then_total (on_total (λ f. steps_in f) (lists_total step_total)) (on_total (λ f. place_in f) nat_cmp_total))
 
 -- two facts of one kind at one point
 abbrev pub same_point : Fact → Fact → Bool
@@ -83,7 +86,8 @@ pub FactsRise-up : (fs : List Fact) → AllPairs (λ f g. fact_lt g f ≡ false)
 unfolding IsDistinct
 FactsRise-up [] up apart = tt
 FactsRise-up (f ∷ []) up apart = tt
-FactsRise-up (f ∷ g ∷ fs) up apart = (at (fact_cmp f g) refl, FactsRise-up (g ∷ fs) (λ i j d below within. up (suc i) (suc j) d (omega arith) (omega arith)) apart.1)
+FactsRise-up (f ∷ g ∷ fs) up apart =
+    (at (fact_cmp f g) refl, FactsRise-up (g ∷ fs) (λ i j d below within. up (suc i) (suc j) d (omega arith) (omega arith)) apart.1)
   where
     at : (o : Ordering) → fact_cmp f g ≡ o → FactBefore f g
     at Less e = less_fact f g e

@@ -1,5 +1,6 @@
 -- The rows of a procedure's parameters, and their inputs.
-use Rattle.std.proofs.Common.{◌≡◌, inl, inr, ℕ, zero, suc, ◌<◌, Bool, true, false, Some, List, [], ◌∷◌, ◌++◌, nat_eq, length, if◌then◌else◌, refl, ap, sym, ◌∙◌, subst, arith}
+use Rattle.std.proofs.Common.{◌≡◌, inl, inr, ℕ, zero, suc, ◌<◌, Bool, true, false, Some, List, [], ◌∷◌, ◌++◌, nat_eq, length, if◌then◌else◌, refl, ap, sym, ◌∙◌}
+use Rattle.std.proofs.Common.{subst, arith}
 use Rattle.std.specs.Prelude.{slice_get, ◌&&◌}
 use Rattle.id_list.specs.List.{AllDiffer, Among}
 use Rattle.id_list.proofs.AmongLemmas.{Among-either, Among-from_at}
@@ -22,7 +23,9 @@ IsParamBelow R n b = (b < n) × (is_param (at R b).node ≡ true)
 below-more : (R : List Row) (n b : ℕ) → IsParamBelow R n b → IsParamBelow R (suc n) b
 below-more R n b (l, t) = (omega arith, t)
 
-params-step : (R : List Row) (h n b : ℕ) (t : Bool) → ((i : Among b (params_below R h n)) → IsParamBelow R n b) → is_param (at R n).node && nat_eq (at R n).block h ≡ t → Among b (if t then params_below R h n ++ n ∷ [] else params_below R h n) → IsParamBelow R (suc n) b
+params-step : (R : List Row) (h n b : ℕ) (t : Bool) → ((i : Among b (params_below R h n)) → IsParamBelow R n b)
+    → is_param (at R n).node && nat_eq (at R n).block h ≡ t → Among b (if t then params_below R h n ++ n ∷ [] else params_below R h n)
+    → IsParamBelow R (suc n) b
 params-step R h n b true before e m = elim (Among-either b (params_below R h n) (n ∷ []) m) [
   | inl i ↦ below-more R n b (before i)
   | inr i ↦ elim i [

@@ -1,18 +1,10 @@
 -- How paths compare: by their steps, a prefix first.
-use Rattle.std.proofs.Common.{◌≡◌, ℕ, suc, ◌<◌, Bool, true, false, List, [], ◌∷◌, Ordering, Less, Equal, Greater, ◌⊎◌, inl, inr, refl, sym, ap, ◌∙◌, arith}
-use Rattle.std.specs.Prelude.{AllPairs}
-use Rattle.std.specs.List.{IsDistinct}
-use Rattle.std.specs.List.Sorted.{IsSortedBy}
-use Rattle.std.specs.Ordering.{nat_cmp, ordering_then, ordering_reverse, is_lt, is_eq}
+use Rattle.std.proofs.Common.{◌≡◌, ℕ, ◌<◌, List, [], ◌∷◌, Ordering, Less, Equal, Greater, ◌⊎◌, inl, inr, refl, sym, ap, ◌∙◌, arith}
+use Rattle.std.specs.Ordering.{nat_cmp, ordering_then}
 use Rattle.std.specs.Cmp.{IsTotalOrder}
-use Rattle.std.specs.Cmp.Lexicographic.{slice_cmp, lists_total}
-use Rattle.std.proofs.lemmas.Bool.{false≢true}
+use Rattle.std.specs.Cmp.Lexicographic.{slice_cmp}
 use Rattle.std.proofs.lemmas.Cmp.{ranked, nat_cmp_total, on_total, then_total, tied_itself}
-use Rattle.std.proofs.lemmas.List.Sorted.{ranks_by, sorted_far}
 use Rattle.id_meaning.specs.declared.PathStep.{PathStep}
-use Rattle.id_meaning.specs.declared.Path.{Path}
-use Rattle.id_meaning.specs.declared.Fact.{Fact}
-use Rattle.id_meaning.specs.declared.Fact.TheVariants as fact
 use Rattle.id_meaning.specs.Orders.{StepBefore, StepsBefore, step_cmp}
 
 -- a comparison by two in turn is less by the first, or by the second at a tie
@@ -83,7 +75,8 @@ less_steps [] (t ∷ ts) e = tt
 less_steps (s ∷ ss) [] e = cc
 less_steps (s ∷ ss) (t ∷ ts) e = at (less_steps ss ts) (then_less (step_cmp s t) (slice_cmp step_cmp ss ts) e)
   where
-    at : (slice_cmp step_cmp ss ts ≡ Less → StepsBefore ss ts) → (step_cmp s t ≡ Less) ⊎ ((step_cmp s t ≡ Equal) × (slice_cmp step_cmp ss ts ≡ Less)) → StepsBefore (s ∷ ss) (t ∷ ts)
+    at : (slice_cmp step_cmp ss ts ≡ Less → StepsBefore ss ts) → (step_cmp s t ≡ Less) ⊎ ((step_cmp s t ≡ Equal) × (slice_cmp step_cmp ss ts ≡ Less))
+        → StepsBefore (s ∷ ss) (t ∷ ts)
     at rest (inl h) = inl (less_step s t h)
     at rest (inr h) = inr (same_step s t h.0, rest h.1)
 

@@ -1,13 +1,13 @@
 -- Facts of a source stand at paths and places of its program.
-use Rattle.std.proofs.Common.{inl, inr, ℕ, zero, suc, List, [], ◌∷◌, length, refl}
+use Rattle.std.proofs.Common.{inl, inr, ℕ, zero, suc, List, [], ◌∷◌, ◌++◌, length, refl}
 use Rattle.std.specs.Prelude.{All}
-use Rattle.std.proofs.lemmas.List.Elements.{All-append, All-cons, All-nil}
+use Rattle.std.proofs.lemmas.List.Elements.{All-append, All-cons, All-head, All-nil, All-tail}
 use Rattle.id_list.proofs.AmongLemmas.{Among-from_at}
 use Rattle.id_tree.specs.Tree.{program_tree}
 use Rattle.id_tree.specs.Distinct.{HasPlace}
 use Rattle.id_parts.specs.Rows.{at}
 use Rattle.id_parts.specs.Turns.{params_at}
-use Rattle.id_parts.specs.declared.row.Node.TheVariants.{Unary, Binary, Split, If, Arg, Block, Binding, Def}
+use Rattle.id_parts.specs.declared.row.Node.TheVariants.{Unary, Binary, Split, If, Arg, Block, Binding, Def, Switches, Next, Loop}
 use Rattle.id_check.specs.declared.checked.Checked.{Checked}
 use Rattle.id_check.specs.Programs.{place, rows}
 use Rattle.id_meaning.specs.declared.Path.{Path}
@@ -16,13 +16,16 @@ use Rattle.id_meaning.specs.declared.Fact.{Fact}
 use Rattle.id_meaning.specs.declared.Fact.TheVariants.{On, Has}
 use Rattle.id_meaning.specs.declared.SourceFault.{SourceFault}
 use Rattle.id_meaning.specs.Sources.{Source}
-use Rattle.id_meaning.specs.Facts.{below, outermost, Rule, main_on, literal_has, operand_on, left_on, right_on, unary_has, binary_has, name_has, test_on, arm_on, conditional_has, argument_on, callee_on, argument_has, call_has, statement_on, body_on, block_has, binding_has, param_has, FaultRule, unary_fails, binary_fails}
+use Rattle.id_meaning.specs.Facts.{loop_test_on, first_has, turn_on, loop_statement_on, next_on, next_has, last_on, loop_has, below, outermost, Rule, main_on}
+use Rattle.id_meaning.specs.Facts.{literal_has, operand_on, left_on, right_on, unary_has, binary_has, name_has, test_on, arm_on, conditional_has, argument_on}
+use Rattle.id_meaning.specs.Facts.{callee_on, argument_has, call_has, statement_on, body_on, block_has, binding_has, param_has, FaultRule, unary_fails}
+use Rattle.id_meaning.specs.Facts.{binary_fails}
 use Rattle.id_meaning.specs.Rounds.{Rounds, Every, Holds, Faulty}
 use Rattle.id_meaning.specs.Listed.{IsThing}
-use Rattle.id_meaning.proofs.CheckedLemmas.{placed_of}
+use Rattle.id_meaning.proofs.CheckedLemmas.{placed_of, thing-param}
 use Rattle.id_meaning.proofs.Coherence.{choice}
 use Rattle.id_meaning.proofs.ParamsLemmas.{input_param, params-among}
-use Rattle.id_meaning.proofs.StepLemmas.{arm-among, main-thing, node-thing, part-thing, thing-param}
+use Rattle.id_meaning.proofs.StepLemmas.{arm-among, main-thing, node-thing, part-thing}
 
 -- the places of the path's steps are those of the program, and so is the place
 pub record IsPoint (P : Checked) (p : Path) (e : ℕ) : Type 0 where
@@ -47,6 +50,24 @@ below_steps : (S : Source) (p : Path) (e k : ℕ) → IsPoint S.checked p e → 
 below_steps S p e k h =
     let s : PathStep = record { place = e; number = k } in
     All-append (InTree S.checked) p.steps (s ∷ []) h.path (All-cons (InTree S.checked) s [] h.place (All-nil (InTree S.checked)))
+
+-- the path with a step is placed where its front is and the step is
+front_placed : (S : Source) (p : Path) (e k f : ℕ) → IsPoint S.checked (below p e k) f → All (λ s. HasPlace (program_tree S.checked.program) s.place) p.steps
+front_placed S p e k f h = go p.steps h.path
+  where
+    go : (ss : List PathStep) → All (λ s. HasPlace (program_tree S.checked.program) s.place) (ss ++ record { place = e; number = k } ∷ [])
+        → All (λ s. HasPlace (program_tree S.checked.program) s.place) ss
+    go [] h = All-nil (InTree S.checked)
+    go (s ∷ ss) h =
+        let more = ss ++ record { place = e; number = k } ∷ [] in
+        All-cons (InTree S.checked) s ss (All-head (InTree S.checked) s more h) (go ss (All-tail (InTree S.checked) s more h))
+
+-- and so is that of another iteration
+iteration_placed : (S : Source) (p : Path) (n f a k j : ℕ) → IsThing S n → IsThing S a → IsPoint S.checked (below p (place S.checked n) k) f
+    → IsPoint S.checked (below p (place S.checked n) j) (place S.checked a)
+iteration_placed S p n f a k j t u h =
+    let q = front_placed S p (place S.checked n) k f h in
+    record { path = below_steps S p (place S.checked n) j (record { path = q; place = thing-place S n t }); place = thing-place S a u }
 
 -- what follows from placed facts is placed
 rule_placed : {S : Source} {fs : List Fact} {f : Fact} → Rule S fs f → Every (Placed S.checked) fs → Placed S.checked f
@@ -78,6 +99,19 @@ rule_placed {S} (argument_has {n = n} {h = g} {i = i} {q = q} {p = p} s t is def
     let w = params-among R g (length R) q (Among-from_at q (params_at R g) i there) in
     record { path = below_steps S p (place S.checked n) 0 h.0; place = thing-place S q (record { within = w.0; thing = thing-param (at R q).node w.1 }) }
 rule_placed {S} (call_has s is def) h = h.0
+rule_placed {S} (loop_test_on {n = n} {w = w} {t = t} {p = p} s) h =
+    record { path = below_steps S p (place S.checked n) 0 h.0; place = thing-place S t (part-thing S w t (Switches t) s.switches refl) }
+rule_placed {S} (first_has {n = n} {m = m} {o = o} {v = v} {p = p} s x e) h =
+    record { path = below_steps S p (place S.checked n) 0 h.0; place = thing-place S m (node-thing S m (Next x.name x.index o v) x.next refl) }
+rule_placed {S} (turn_on {n = n} {h = g} {w = w} {t = t} {l = l} p k s) h =
+    iteration_placed S p n (place S.checked t) t k (suc k) (node-thing S n (Loop g w l) s.loop refl) (part-thing S w t (Switches t) s.switches refl) h.0
+rule_placed {S} (loop_statement_on {m = m} {a = a} p k s b) h = let q = h.0 in record { path = q.path; place = thing-place S a (part-thing S m a (Binding b.name a) b.binding refl) }
+rule_placed {S} (next_on {m = m} {o = o} {v = v} p k s x) h = let q = h.0 in record { path = q.path; place = thing-place S v (part-thing S m v (Next x.name x.index o v) x.next refl) }
+rule_placed {S} (next_has {n = n} {h = g} {w = w} {l = l} {m = m} {o = o} {v = v} p k s x) h =
+    iteration_placed S p n (place S.checked v) m k (suc k) (node-thing S n (Loop g w l) s.loop refl) (node-thing S m (Next x.name x.index o v) x.next refl) h.0
+rule_placed {S} (last_on {n = n} {h = g} {w = w} {l = l} p k s) h = let q = h.0 in record { path = q.path; place = thing-place S l (part-thing S n l (Loop g w l) s.loop refl) }
+rule_placed {S} (loop_has {n = n} {h = g} {w = w} {l = l} p k s) h =
+    record { path = front_placed S p (place S.checked n) k (place S.checked l) h.0; place = thing-place S n (node-thing S n (Loop g w l) s.loop refl) }
 rule_placed {S} (statement_on {m = m} {x = x} {a = a} s i t) h = let p = h.0 in record { path = p.path; place = thing-place S a (part-thing S m a (Binding x a) t refl) }
 rule_placed {S} (body_on {n = n} {b = b} s) h = let p = h.0 in record { path = p.path; place = thing-place S b (part-thing S n b (Block b) s refl) }
 rule_placed (block_has s) h = h.0

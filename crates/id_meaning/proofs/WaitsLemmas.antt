@@ -1,5 +1,9 @@
 -- Lemmas on specs/Waits.antt: names that wait, and what has been learnt of a round so far.
-use Rattle.std.proofs.Common.{◌≡◌, ◌⊎◌, inl, inr, ℕ, zero, suc, ◌<◌, ◌≤◌, Option, Some, List, [], ◌∷◌, ◌++◌, length, take, drop, get_or, refl, ap, sym, ◌∙◌, subst, arith}
+use Rattle.std.proofs.Common.{◌≡◌, ◌⊎◌, inl, inr, ℕ, zero, suc, ◌<◌, ◌≤◌, None, Some, true, set, Vec, Global, List, [], ◌∷◌, ◌++◌, length, take, drop, get_or}
+use Rattle.std.proofs.Common.{refl, ap, sym, ◌∙◌, subst, arith}
+use Rattle.std.proofs.lemmas.Bool.Decides.{eqb_tells}
+use Rattle.std.proofs.lemmas.List.{get_or-set_same, length-set}
+use Rattle.id_list.proofs.AmongLemmas.{Among-either, Among-left, Among-right}
 use Rattle.std.proofs.Math.Seq.{drop-cons, take-suc}
 use Rattle.std.proofs.lemmas.List.{append-nil, append_assoc, take-append-drop}
 use Rattle.id_list.specs.List.{Among}
@@ -8,70 +12,171 @@ use Rattle.id_meaning.specs.declared.SourceValue.{SourceValue}
 use Rattle.id_meaning.specs.declared.cells.Spot.{Spot}
 use Rattle.id_meaning.specs.declared.cells.RowFact.{RowFact}
 use Rattle.id_meaning.specs.declared.cells.RowFact.TheVariants.{On, Has}
-use Rattle.id_meaning.specs.declared.edges.Edges.{Edges}
+use Rattle.id_meaning.specs.declared.cells.Trail.{Trail}
+use Rattle.id_meaning.specs.declared.queues.Queues.{Queues}
+use Rattle.id_meaning.specs.declared.queues.Wait.{Wait}
 use Rattle.id_meaning.specs.declared.links.Links.{Links}
-use Rattle.id_meaning.specs.Links.{Gains, Leads, awaited, width}
-use Rattle.id_meaning.specs.Cells.{all_effects, all_learnt, all_news, queue_of, effects}
-use Rattle.id_meaning.specs.Waits.{AreWaits, Goes, Waits, WaitsFor}
-use Rattle.id_meaning.proofs.CellsLemmas.{Learns, all_effects-append, all_learnt-append, all_news-append}
+use Rattle.id_meaning.specs.Links.{awaited, users}
+use Rattle.id_meaning.specs.Cells.{AreBefore, Inside, all_effects, all_learnt, all_news, cell_at, effects, far_from, queue, queue_of}
+use Rattle.id_meaning.specs.Waits.{Adds, AreWaits, Goes, IsIn, Waits, WaitsFor, WaitsIn, queue_for, width}
+use Rattle.id_meaning.proofs.CellsLemmas.{all_effects-append}
+use Rattle.id_meaning.proofs.SpotsLemmas.{Learns, out-grown, all_learnt-append, all_news-append}
 
--- ---- names that wait
+-- ---- queues
 
-pub waits-for : (V W : Edges) (p n b c : ℕ) → c ≡ queue_of p b → c < 65536 → Gains V W c (n ∷ []) → WaitsFor V W p n (Some b)
-waits-for V W p n b c e l g = record {
+pub queue-at : (vs : List (Vec Wait Global)) (n : ℕ) (d : Vec Wait Global) → n < length vs → queue vs n ≡ (get_or vs n d).items
+queue-at [] n d h = absurd (omega arith)
+queue-at (v ∷ vs) zero d h = refl
+queue-at (v ∷ vs) (suc n) d h = queue-at vs n d (omega arith)
+
+pub queue-past : (vs : List (Vec Wait Global)) (n : ℕ) → length vs ≤ n → queue vs n ≡ []
+queue-past [] n h = refl
+queue-past (v ∷ vs) zero h = absurd (omega arith)
+queue-past (v ∷ vs) (suc n) h = queue-past vs n (omega arith)
+
+queue-same : (vs : List (Vec Wait Global)) (n : ℕ) (w : Vec Wait Global) → n < length vs → queue (set vs n w) n ≡ w.items
+queue-same vs n w h =
+    let l = length-set vs n w in
+    queue-at (set vs n w) n w (omega arith) ∙ ap (λ v. v.items) (get_or-set_same vs n w w h)
+
+queue-other : (vs : List (Vec Wait Global)) (n m : ℕ) (w : Vec Wait Global) → (m ≡ n → ⊥) → queue (set vs n w) m ≡ queue vs m
+queue-other [] n m w h = refl
+queue-other (v ∷ vs) zero zero w h = absurd (h refl)
+queue-other (v ∷ vs) zero (suc m) w h = refl
+queue-other (v ∷ vs) (suc n) zero w h = refl
+queue-other (v ∷ vs) (suc n) (suc m) w h = queue-other vs n m w (λ e. h (ap (λ k. suc k) e))
+
+-- one more
+pub adds-one : (V W : Queues) (c : ℕ) (x : Wait) (w : Vec Wait Global) → W.queues.items ≡ set V.queues.items c w → c < length V.queues.items
+    → w.items ≡ queue V.queues.items c ++ x ∷ [] → Adds V W c x
+adds-one V W c x w e inside added =
+    let vs = V.queues.items in
+    let A : Wait → List Wait → Type 0 = λ y xs. Among y xs in
+    let here : queue W.queues.items c ≡ queue vs c ++ x ∷ [] = ap (λ xs. queue xs c) e ∙ queue-same vs c w inside ∙ added in
+    record {
+      wide = ap length e ∙ length-set vs c w;
+      kept = λ a y h. elim (eqb_tells a c) [
+        | inl q ↦
+            let P : ℕ → Type 0 = λ m. Among y (queue W.queues.items m) in
+            let Q : ℕ → Type 0 = λ m. Among y (queue vs m) in
+            subst P (sym q.1) (subst (A y) (sym here) (Among-left y (queue vs c) (x ∷ []) (subst Q q.1 h)))
+        | inr q ↦ subst (A y) (sym (ap (λ xs. queue xs a) e ∙ queue-other vs c a w q.1)) h
+      ];
+      added = λ l. subst (A x) (sym here) (Among-right x (queue vs c) (x ∷ []) (inl refl));
+    }
+
+pub adds-past : (V : Queues) (c : ℕ) (x : Wait) → width V ≤ c → Adds V V c x
+adds-past V c x l = record { wide = refl; kept = λ a y h. h; added = λ h. absurd (omega arith) }
+
+-- ---- what waits
+
+pub waits-for : (P : Checked) (es : List Spot) (V W : Queues) (p : Trail) (n u b c : ℕ) → awaited P u ≡ Some b → c ≡ queue_for P es p n b → c < 65536
+    → Adds V W c (record { path = p; row = n; user = u }) → WaitsFor P es V W p n (u ∷ [])
+waits-for P es V W p n u b c a e l g = record {
   wide = g.wide;
   kept = g.kept;
-  added = λ d w h. (
-      let q : b ≡ d = cc in
-      let F : ℕ → Type 0 = λ x. Leads W x n in
-      let G : ℕ → Type 0 = λ x. Leads W (queue_of p x) n in
-      subst G q (subst F e (g.added n (omega arith) (inl refl)))
-      );
+  added = λ v w h. elim h [
+    | inl q ↦ (let F : ℕ → Type 0 = λ x. WaitsIn P es W p n x in subst F (sym q) (one w))
+    | inr x ↦ absurd x
+  ];
 }
-
-pub waits-on : (P : Checked) (V W : Edges) (p r : ℕ) (o : Option ℕ) → o ≡ awaited P r → WaitsFor V W p r o → Waits P V W (On p r ∷ [])
-waits-on P V W p r o e g = record { wide = g.wide; kept = g.kept; added = λ q n b w h a. elim h [ inl x ↦ one q n b w x a | inr x ↦ absurd x ] }
   where
-    one : (q n b : ℕ) → width V ≡ 65536 → On q n ≡ On p r → awaited P n ≡ Some b → Leads W (queue_of q b) n
-    one q n b w x a =
+    one : width V ≡ 65536 → WaitsIn P es W p n u
+    one w d k =
+        let f : Some b ≡ Some d = sym a ∙ k in
+        let q : b ≡ d = cc in
+        let x : Wait = record { path = p; row = n; user = u } in
+        let F : ℕ → Type 0 = λ i. IsIn W i x in
+        subst F (e ∙ ap (λ i. queue_for P es p n i) q) (g.added (omega arith))
+
+pub waits-nobody : (P : Checked) (es : List Spot) (V : Queues) (p : Trail) (n u : ℕ) → awaited P u ≡ None → WaitsFor P es V V p n (u ∷ [])
+waits-nobody P es V p n u a = record {
+  wide = refl;
+  kept = λ c x h. h;
+  added = λ v w h. elim h [
+    | inl q ↦ (let F : ℕ → Type 0 = λ x. WaitsIn P es V p n x in subst F (sym q) none)
+    | inr x ↦ absurd x
+  ];
+}
+  where
+    none : WaitsIn P es V p n u
+    none b k = let e : None ≡ Some b = sym a ∙ k in cc
+
+pub each-none : (P : Checked) (es : List Spot) (V : Queues) (p : Trail) (n : ℕ) → WaitsFor P es V V p n []
+each-none P es V p n = record { wide = refl; kept = λ c x h. h; added = λ u w h. absurd h }
+
+pub each-step : (P : Checked) (es : List Spot) (V W X : Queues) (p : Trail) (n : ℕ) (us : List ℕ) (i j u d : ℕ) → i < length us → j ≡ suc i → u ≡ get_or us i d
+    → WaitsFor P es V W p n (take i us) → WaitsFor P es W X p n (u ∷ []) → WaitsFor P es V X p n (take j us)
+each-step P es V W X p n us i j u d l q e s t =
+    let F : List ℕ → Type 0 = λ xs. WaitsFor P es V X p n xs in
+    let whole : take j us ≡ take i us ++ u ∷ [] = ap (λ k. take k us) q ∙ take-suc us i d l ∙ ap (λ x. take i us ++ x ∷ []) (sym e) in
+    subst F (sym whole) (record {
+      wide = t.wide ∙ s.wide;
+      kept = λ c x h. t.kept c x (s.kept c x h);
+      added = λ v w h. elim (Among-either v (take i us) (u ∷ []) h) [
+        | inl k ↦ λ b a. t.kept (queue_for P es p n b) (record { path = p; row = n; user = v }) (s.added v w k b a)
+        | inr k ↦ t.added v (s.wide ∙ w) k
+      ];
+    })
+
+take-all : {A : Type 0} (xs : List A) (i : ℕ) → length xs ≤ i → take i xs ≡ xs
+take-all [] zero l = refl
+take-all [] (suc i) l = refl
+take-all (x ∷ xs) zero l = absurd (omega arith)
+take-all (x ∷ xs) (suc i) l = ap (λ ys. x ∷ ys) (take-all xs i (omega arith))
+
+pub each-end : (P : Checked) (es : List Spot) (V W : Queues) (p : Trail) (n : ℕ) (us : List ℕ) (i : ℕ) → length us ≤ i → WaitsFor P es V W p n (take i us)
+    → WaitsFor P es V W p n us
+each-end P es V W p n us i l s = let F : List ℕ → Type 0 = λ xs. WaitsFor P es V W p n xs in subst F (take-all us i l) s
+
+pub waits-on : (P : Checked) (l : Links) (es : List Spot) (V W : Queues) (p : Trail) (r : ℕ) (us : List ℕ) → users P l r ≡ us → WaitsFor P es V W p r us
+    → Waits P l es V W (On p r ∷ [])
+waits-on P l es V W p r us e g = record { wide = g.wide; kept = g.kept; added = λ q n u w h a. elim h [ inl x ↦ one q n u w x a | inr x ↦ absurd x ] }
+  where
+    one : (q : Trail) (n u : ℕ) → width V ≡ 65536 → On q n ≡ On p r → Among u (users P l n) → WaitsIn P es W q n u
+    one q n u w x a =
         let i : q ≡ p = cc in
         let j : n ≡ r = cc in
-        let F : ℕ → Type 0 = λ y. Leads W (queue_of y b) r in
-        let G : ℕ → Type 0 = λ y. Leads W (queue_of q b) y in
-        subst G (sym j) (subst F (sym i) (g.added b w (e ∙ ap (λ y. awaited P y) (sym j) ∙ a)))
+        let A : List ℕ → Type 0 = λ xs. Among u xs in
+        let F : Trail → Type 0 = λ y. WaitsIn P es W y r u in
+        let G : ℕ → Type 0 = λ y. WaitsIn P es W q y u in
+        subst G (sym j) (subst F (sym i) (g.added u w (subst A (ap (λ y. users P l y) j ∙ e) a)))
 
-pub waits-none : (P : Checked) (V : Edges) (p r : ℕ) (v : SourceValue) → Waits P V V (Has p r v ∷ [])
-waits-none P V p r v = record { wide = refl; kept = λ a n h. h; added = λ q n b w h a. elim h [ inl x ↦ absurd (other q n x) | inr x ↦ absurd x ] }
+pub waits-none : (P : Checked) (l : Links) (es : List Spot) (V : Queues) (p : Trail) (r : ℕ) (v : SourceValue) → Waits P l es V V (Has p r v ∷ [])
+waits-none P l es V p r v = record { wide = refl; kept = λ a x h. h; added = λ q n u w h a. elim h [ inl x ↦ absurd (other q n x) | inr x ↦ absurd x ] }
   where
-    other : (q n : ℕ) → On q n ≡ Has p r v → ⊥
+    other : (q : Trail) (n : ℕ) → On q n ≡ Has p r v → ⊥
     other q n x = cc
 
--- the names that these facts turn On wait, but for those of the rest
-pub record WaitsSo (P : Checked) (V W : Edges) (fs gs : List RowFact) : Type 0 where
+-- all waits where these facts turn rows On, but for the rest of them
+pub record WaitsSo (P : Checked) (l : Links) (es : List Spot) (V W : Queues) (fs gs : List RowFact) : Type 0 where
   pub wide : width W ≡ width V
-  pub kept : (a n : ℕ) → Leads V a n → Leads W a n
-  pub added : (p n b : ℕ) → width V ≡ 65536 → Among (On p n) fs → awaited P n ≡ Some b → Leads W (queue_of p b) n ⊎ Among (On p n) gs
+  pub kept : (a : ℕ) (x : Wait) → IsIn V a x → IsIn W a x
+  pub added : (p : Trail) (n u : ℕ) → width V ≡ 65536 → Among (On p n) fs → Among u (users P l n) → WaitsIn P es W p n u ⊎ Among (On p n) gs
 
-pub so-none : (P : Checked) (V : Edges) (fs : List RowFact) → WaitsSo P V V fs fs
-so-none P V fs = record { wide = refl; kept = λ a n h. h; added = λ p n b w h a. inr h }
+pub so-none : (P : Checked) (l : Links) (es : List Spot) (V : Queues) (fs : List RowFact) → WaitsSo P l es V V fs fs
+so-none P l es V fs = record { wide = refl; kept = λ a x h. h; added = λ p n u w h a. inr h }
 
-pub so-next : (P : Checked) (V W X : Edges) (fs gs : List RowFact) (f : RowFact) → WaitsSo P V W fs (f ∷ gs) → Waits P W X (f ∷ []) → WaitsSo P V X fs gs
-so-next P V W X fs gs f s t = record {
+pub so-next : (P : Checked) (l : Links) (es : List Spot) (V W X : Queues) (fs gs : List RowFact) (f : RowFact) → WaitsSo P l es V W fs (f ∷ gs)
+    → Waits P l es W X (f ∷ [])
+    → WaitsSo P l es V X fs gs
+so-next P l es V W X fs gs f s t = record {
   wide = t.wide ∙ s.wide;
-  kept = λ a n h. t.kept a n (s.kept a n h);
-  added = λ p n b w h a. elim (s.added p n b w h a) [
-    | inl i ↦ inl (t.kept (queue_of p b) n i)
-    | inr i ↦ elim i [ inl q ↦ inl (t.added p n b (s.wide ∙ w) (inl q) a) | inr j ↦ inr j ]
+  kept = λ a x h. t.kept a x (s.kept a x h);
+  added = λ p n u w h a. elim (s.added p n u w h a) [
+    | inl i ↦ inl (λ b k. t.kept (queue_for P es p n b) (record { path = p; row = n; user = u }) (i b k))
+    | inr i ↦ elim i [ inl q ↦ inl (t.added p n u (s.wide ∙ w) (inl q) a) | inr j ↦ inr j ]
   ];
 }
 
-pub so-step : (P : Checked) (V W X : Edges) (fs : List RowFact) (i j : ℕ) (f d : RowFact) → i < length fs → j ≡ suc i → f ≡ get_or fs i d
-    → WaitsSo P V W fs (drop i fs) → Waits P W X (f ∷ []) → WaitsSo P V X fs (drop j fs)
-so-step P V W X fs i j f d l q e s t =
-    let F : List RowFact → Type 0 = λ gs. WaitsSo P V W fs gs in
-    let G : RowFact → Type 0 = λ g. Waits P W X (g ∷ []) in
-    let J : ℕ → Type 0 = λ k. WaitsSo P V X fs (drop k fs) in
-    subst J (sym q) (so-next P V W X fs (drop (suc i) fs) (get_or fs i d) (subst F (drop-cons fs i d l) s) (subst G e t))
+pub so-step : (P : Checked) (l : Links) (es : List Spot) (V W X : Queues) (fs : List RowFact) (i j : ℕ) (f d : RowFact) → i < length fs → j ≡ suc i
+    → f ≡ get_or fs i d
+    → WaitsSo P l es V W fs (drop i fs) → Waits P l es W X (f ∷ []) → WaitsSo P l es V X fs (drop j fs)
+so-step P l es V W X fs i j f d k q e s t =
+    let F : List RowFact → Type 0 = λ gs. WaitsSo P l es V W fs gs in
+    let G : RowFact → Type 0 = λ g. Waits P l es W X (g ∷ []) in
+    let J : ℕ → Type 0 = λ k. WaitsSo P l es V X fs (drop k fs) in
+    subst J (sym q) (so-next P l es V W X fs (drop (suc i) fs) (get_or fs i d) (subst F (drop-cons fs i d k) s) (subst G e t))
 
 drop-all : (fs : List RowFact) (i : ℕ) → length fs ≤ i → drop i fs ≡ []
 drop-all [] zero l = refl
@@ -79,26 +184,35 @@ drop-all [] (suc i) l = refl
 drop-all (f ∷ fs) zero l = absurd (omega arith)
 drop-all (f ∷ fs) (suc i) l = drop-all fs i (omega arith)
 
-pub so-end : (P : Checked) (V W : Edges) (fs : List RowFact) (i : ℕ) → length fs ≤ i → WaitsSo P V W fs (drop i fs) → Waits P V W fs
-so-end P V W fs i l s = record { wide = s.wide; kept = s.kept; added = λ p n b w h a. elim (s.added p n b w h a) [ inl x ↦ x | inr x ↦ absurd (none p n x) ] }
+pub so-end : (P : Checked) (l : Links) (es : List Spot) (V W : Queues) (fs : List RowFact) (i : ℕ) → length fs ≤ i → WaitsSo P l es V W fs (drop i fs)
+    → Waits P l es V W fs
+so-end P l es V W fs i k s = record {
+  wide = s.wide;
+  kept = s.kept;
+  added = λ p n u w h a. elim (s.added p n u w h a) [ inl x ↦ x | inr x ↦ absurd (none p n x) ];
+}
   where
-    none : (p n : ℕ) → Among (On p n) (drop i fs) → ⊥
-    none p n x = let F : List RowFact → Type 0 = λ gs. Among (On p n) gs in subst F (drop-all fs i l) x
+    none : (p : Trail) (n : ℕ) → Among (On p n) (drop i fs) → ⊥
+    none p n x = let F : List RowFact → Type 0 = λ gs. Among (On p n) gs in subst F (drop-all fs i k) x
 
--- all names wait that are On after facts have been learnt
-pub AreWaits-learnt : (P : Checked) (es ds : List Spot) (V W : Edges) (fs ns : List RowFact) → Learns es ds fs ns → AreWaits P es V → Waits P V W ns
-    → AreWaits P ds W
-AreWaits-learnt P es ds V W fs ns l v w = record {
+-- all waits where rows are On after facts have been learnt
+pub AreWaits-learnt : (P : Checked) (x : Links) (es ds : List Spot) (V W : Queues) (fs ns : List RowFact) → AreBefore es
+    → ((p : Trail) (n : ℕ) → (cell_at es p n).on ≡ true → Inside (length es) p) → Learns es ds fs ns → AreWaits P x es V → Waits P x ds V W ns → AreWaits P x ds W
+AreWaits-learnt P x es ds V W fs ns before inside l v w = record {
   wide = w.wide ∙ v.wide;
-  all = λ p n b on a. elim (l.only (On p n) on) [
-    | inl i ↦ w.kept (queue_of p b) n (v.all p n b i a)
-    | inr i ↦ w.added p n b v.wide i a
+  all = λ p n u on a. elim (l.only (On p n) on) [
+    | inl i ↦ λ b k.
+        let y : Wait = record { path = p; row = n; user = u } in
+        let F : ℕ → Type 0 = λ c. IsIn W c y in
+        let q = out-grown es ds l.grows before (far_from P n (Some b)) p (inside p n i) in
+        subst F (ap (λ t. queue_of t b) (sym q)) (w.kept (queue_for P es p n b) y (v.all p n u i a b k))
+    | inr i ↦ w.added p n u v.wide i a
   ];
 }
 
 -- ---- what has been learnt of a round
 
-module _ (P : Checked) (l : Links) (W : Edges) (cs es : List Spot) (facts ms : List RowFact) where
+module _ (P : Checked) (l : Links) (W : Queues) (cs es : List Spot) (facts ms : List RowFact) where
   -- what follows from the first i of the facts has been learnt
   pub record Gone (i : ℕ) (ds : List Spot) (ns : List RowFact) : Type 0 where
     pub spots : ds ≡ all_learnt es (all_effects P l W cs (take i facts))
@@ -127,7 +241,8 @@ module _ (P : Checked) (l : Links) (W : Edges) (cs es : List Spot) (facts ms : L
       })
 
   pub gone-full : (i room : ℕ) (ds : List Spot) (ns : List RowFact) → Gone i ds ns → room < length ns → Goes P l W cs facts es ds ms ns room
-  gone-full i room ds ns g k = record { front = take i facts; rest = drop i facts; parts = sym (take-append-drop i facts); spots = g.spots; news = g.news; done = inr k }
+  gone-full i room ds ns g k =
+      record { front = take i facts; rest = drop i facts; parts = sym (take-append-drop i facts); spots = g.spots; news = g.news; done = inr k }
 
   pub gone-all : (i room : ℕ) (ds : List Spot) (ns : List RowFact) → Gone i ds ns → length facts ≤ i → Goes P l W cs facts es ds ms ns room
   gone-all i room ds ns g k = record { front = take i facts; rest = drop i facts; parts = sym (take-append-drop i facts); spots = g.spots; news = g.news; done = inl (drop-all facts i k) }

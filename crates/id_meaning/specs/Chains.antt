@@ -1,7 +1,7 @@
 -- How spots are found by their chains.
 use Rattle.std.specs.Prelude.{◌≡◌, ◌<◌, ◌≤◌, ℕ, suc, List, length, get_or}
 use Rattle.id_meaning.specs.declared.cells.Spot.{Spot}
-use Rattle.id_meaning.specs.Cells.{bucket_of, spot_at}
+use Rattle.id_meaning.specs.Cells.{Inside, bucket_of, spot_at}
 
 -- the chain that the spot of this number hangs in
 abbrev pub chain_at : List Spot → ℕ → ℕ
@@ -20,4 +20,4 @@ pub record IsChained (heads nexts : List ℕ) (es : List Spot) : Type 0 where
   pub linked : (i j : ℕ) → i < length es → j < i → chain_at es i ≡ chain_at es j → j < get_or nexts i 0
   pub apart : (i j : ℕ) → i < length es → j < length es → (spot_at es i).path ≡ (spot_at es j).path
       → (spot_at es i).row ≡ (spot_at es j).row → i ≡ j
-  pub before : (i : ℕ) → i < length es → (spot_at es i).path ≤ i
+  pub before : (i : ℕ) → i < length es → Inside i (spot_at es i).path

@@ -1,7 +1,7 @@
 -- Which inputs words give, and which words are refused (docs/LANGUAGE.md, "Inputs").
-use Rattle.std.specs.Prelude.{◌≡◌, ◌<◌, ℕ, suc, ◌&&◌, ◌||◌, ◌==◌, ℤ, pos, neg_ℤ, Bool as Truth, true, false, List, []}
-use Rattle.std.specs.Prelude.{◌∷◌, ◌++◌, length, map, get_or, slice_get, codes, Option, None, Some, IsSome, option_map}
-use Rattle.std.specs.Prelude.{option_and_then, if◌then◌else◌}
+use Rattle.std.specs.Prelude.{◌≡◌, ◌<◌, ℕ, suc, ◌&&◌, ◌||◌, ◌==◌, ℤ, pos, neg_ℤ, Bool as Truth, true, false}
+use Rattle.std.specs.Prelude.{List, [], ◌∷◌, ◌++◌, length, map, get_or, slice_get, codes}
+use Rattle.std.specs.Prelude.{Option, None, Some, IsSome, option_map, option_and_then, if◌then◌else◌}
 use Rattle.std.specs.Option.{option_or}
 use Rattle.std.specs.Char.{is_ascii_digit}
 use Rattle.id_text.specs.Bytes.{number_of as spelled_by}
@@ -17,8 +17,8 @@ use Rattle.id_check.specs.Programs.{rows}
 use Rattle.id_meaning.specs.declared.SourceValue.{SourceValue}
 use Rattle.id_meaning.specs.declared.SourceValue.TheVariants.{Int, Bool}
 use Rattle.id_meaning.specs.declared.inputs.InputError.{InputError}
-use Rattle.id_meaning.specs.declared.inputs.InputError.TheVariants.{MissingInput, UnknownInput, RepeatedInput, BadInput}
-use Rattle.id_meaning.specs.declared.inputs.InputError.TheVariants.{Memory}
+use Rattle.id_meaning.specs.declared.inputs.InputError.TheVariants.{MissingInput, UnknownInput, RepeatedInput}
+use Rattle.id_meaning.specs.declared.inputs.InputError.TheVariants.{BadInput, Memory}
 use Rattle.id_meaning.specs.declared.inputs.Wanted.{Wanted}
 use Rattle.id_meaning.specs.Sources.{main_params}
 
@@ -64,8 +64,8 @@ digits_number cs = if are_digits cs then Some (spelled_by cs) else None
 abbrev pub number_spelled : List ℕ → Option ℤ
 number_spelled [] = None
 number_spelled (c ∷ cs) =
-    if c == 45 then option_map (λ n. neg_ℤ (pos n)) (digits_number cs) else option_map (λ n. pos n)
-    (digits_number (c ∷ cs))
+    if c == 45 then option_map (λ n. neg_ℤ (pos n)) (digits_number cs)
+    else option_map (λ n. pos n) (digits_number (c ∷ cs))
 
 -- a number as a value, if it is one of the language
 abbrev pub whole_value : ℤ → Option SourceValue
@@ -73,8 +73,9 @@ whole_value n = if is_whole n then Some (Int n) else None
 
 -- the truth value that a word spells
 abbrev pub truth_spelled : List ℕ → Option SourceValue
-truth_spelled cs = if bytes_eq cs (codes "true") then Some (Bool true) else
-    (if bytes_eq cs (codes "false") then Some (Bool false) else None)
+truth_spelled cs =
+    if bytes_eq cs (codes "true") then Some (Bool true)
+    else (if bytes_eq cs (codes "false") then Some (Bool false) else None)
 
 -- the value of a kind that a word spells
 abbrev pub value_spelled : Kind → List ℕ → Option SourceValue

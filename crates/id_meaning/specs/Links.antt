@@ -1,17 +1,19 @@
 -- Which rows' facts lead to facts of which rows.
-use Rattle.std.specs.Prelude.{◌≡◌, ◌⊎◌, ◌<◌, ◌≤◌, ℕ, zero, suc, List, [], ◌∷◌, ◌++◌, length, slice_get, false, Option}
-use Rattle.std.specs.Prelude.{None, Some}
+use Rattle.std.specs.Prelude.{◌≡◌, ◌⊎◌, ◌<◌, ◌≤◌, ℕ, zero, suc, List, [], ◌∷◌, ◌++◌, length, slice_get}
+use Rattle.std.specs.Prelude.{true, false, ◌&&◌, Option, None, Some, if◌then◌else◌}
 use Rattle.std.proofs.Common.{Vec, Global}
 use Rattle.id_list.specs.List.{Among}
 use Rattle.id_parts.specs.declared.row.Row.{Row}
 use Rattle.id_parts.specs.declared.row.Node.{Node}
-use Rattle.id_parts.specs.declared.row.Node.TheVariants.{Name, Unary, Binary, Split, If, Arg, Call, Block, Binding}
-use Rattle.id_parts.specs.Rows.{at}
-use Rattle.id_parts.specs.Tables.{is_call}
-use Rattle.id_parts.specs.Turns.{Turns, in_block}
+use Rattle.id_parts.specs.declared.row.Node.TheVariants.{Name, Unary, Binary, Split, If, Arg, Call}
+use Rattle.id_parts.specs.declared.row.Node.TheVariants.{Switches, Next, Body, Loop, Block, Binding}
+use Rattle.id_parts.specs.Rows.{arm_at, at}
+use Rattle.id_parts.specs.Tables.{is_call, is_switches}
+use Rattle.id_parts.specs.Turns.{IsStatement, Turns, in_block}
 use Rattle.id_check.specs.declared.checked.Checked.{Checked}
 use Rattle.id_check.specs.Programs.{binder, rows}
 use Rattle.id_meaning.specs.declared.edges.Edges.{Edges}
+use Rattle.id_meaning.specs.declared.links.Links.{Links}
 use Rattle.id_meaning.specs.declared.links.Statement.{Statement}
 
 -- the list of this number, or else none
@@ -35,6 +37,11 @@ pub record Gains (E F : Edges) (a : ℕ) (bs : List ℕ) : Type 0 where
   pub added : (b : ℕ) → a < width E → Among b bs → Leads F a b
   pub only : (n b : ℕ) → Leads F n b → Leads E n b ⊎ ((n ≡ a) × Among b bs)
 
+-- the edges are the old ones with those from the row to each of these, if there is one
+abbrev pub GainsFrom : Edges → Edges → Option ℕ → List ℕ → Type 0
+GainsFrom E F None bs = F ≡ E
+GainsFrom E F (Some a) bs = Gains E F a bs
+
 -- the edges are the old ones with those to c from each of these
 pub record GainsTo (E F : Edges) (bs : List ℕ) (c : ℕ) : Type 0 where
   pub wide : width F ≡ width E
@@ -56,6 +63,11 @@ abbrev pub test_of : Node → Option ℕ
 test_of (Split t) = Some t
 test_of _ = None
 
+-- the predicate that a row of this node follows, if it is the switches of a loop
+abbrev pub test_of_loop : Node → Option ℕ
+test_of_loop (Switches t) = Some t
+test_of_loop _ = None
+
 -- the row beyond its own parts that a row of this node looks at: a name at its binder, a conditional at its predicate
 abbrev pub beyond : Checked → ℕ → Node → Option ℕ
 beyond P n (Name x) = binder P n
@@ -70,6 +82,11 @@ parts_turned R (If s x y) = some_row (test_of (at R s).node)
 parts_turned R (Block b) = b ∷ []
 parts_turned R _ = []
 
+-- the expression that a `next` at a row of this node has
+abbrev pub nexts_turned : Node → List ℕ
+nexts_turned (Next x k o v) = v ∷ []
+nexts_turned _ = []
+
 -- the rows that a row of this node reads, which may look at this row beyond its parts, and the `Enter` of a call
 abbrev pub reads_of : Option ℕ → Node → List ℕ
 reads_of o (Name x) = some_row o
@@ -78,6 +95,8 @@ reads_of o (Binary p a b) = a ∷ b ∷ []
 reads_of o (If s x y) = some_row o ++ x ∷ y ∷ []
 reads_of o (Arg e k v) = v ∷ []
 reads_of o (Call e c) = e ∷ []
+reads_of o (Switches t) = t ∷ []
+reads_of o (Next x k u v) = v ∷ []
 reads_of o (Block b) = b ∷ []
 reads_of o (Binding x a) = a ∷ []
 reads_of o _ = []
@@ -90,29 +109,61 @@ linked_of o z = reads_of o z
 abbrev pub linked_at : Checked → ℕ → List ℕ
 linked_at P n = let z = (at (rows P) n).node in linked_of (beyond P n z) z
 
--- the binder that a row of this node waits for, which may have this binder: a name for its own
-abbrev pub awaited_of : Option ℕ → Node → Option ℕ
-awaited_of o (Name x) = o
-awaited_of o _ = None
+-- the binder that the row u of this node waits for: a name for its own, a `next` for that of its name outside
+abbrev pub awaited_of : Checked → ℕ → Node → Option ℕ
+awaited_of P u (Name x) = binder P u
+awaited_of P u (Next x k o v) = binder P o
+awaited_of P u _ = None
 
 abbrev pub awaited : Checked → ℕ → Option ℕ
-awaited P n = awaited_of (binder P n) (at (rows P) n).node
+awaited P u = awaited_of P u (at (rows P) u).node
+
+-- the rows that wait where the row n of this node is On: a name, and each `next` of a loop
+abbrev pub users_of : Links → ℕ → Node → List ℕ
+users_of l n (Name x) = n ∷ []
+users_of l n (Loop h w t) = targets l.args.rows.items h
+users_of l n _ = []
+
+abbrev pub users : Checked → Links → ℕ → List ℕ
+users P l n = users_of l n (at (rows P) n).node
 
 -- the rows whose values the row reads
 abbrev pub reads_at : Checked → ℕ → List ℕ
 reads_at P n = let z = (at (rows P) n).node in reads_of (beyond P n z) z
 
 -- an expression that is no call turns this one On
-abbrev pub TurnsOn : List Row → ℕ → ℕ → Type 0
-TurnsOn R n a = Turns R n a × (is_call (at R n).node ≡ false)
+abbrev pub PartTurns : List Row → ℕ → ℕ → Type 0
+PartTurns R n a = Turns R n a × (is_call (at R n).node ≡ false)
 
--- of the first i rows the edges are what each expression but a call turns On
+-- the switches of a loop at the row w turn this expression On: that of a binding right in the body, or of a `next`
+pub data BodyTurns (R : List Row) (w : ℕ) : ℕ → Type 0 where
+  of_binding : {b m x a : ℕ} → b < length R → (at R b).node ≡ Body → (at R b).region ≡ arm_at w true
+      → IsStatement R b m → (at R m).node ≡ Binding x a → BodyTurns R w a
+  of_next : {m x k o a : ℕ} → m < length R → (at R m).node ≡ Next x k o a → (at R m).region ≡ arm_at w true
+      → BodyTurns R w a
+
+-- an expression that is no call, or the switches of a loop, turns this one On
+abbrev pub TurnsOn : List Row → ℕ → ℕ → Type 0
+TurnsOn R n a = PartTurns R n a ⊎ ((is_switches (at R n).node ≡ true) × BodyTurns R n a)
+
+-- the switches whose true side the row is right in, if it is in one
+abbrev pub switches_of : List Row → Row → Option ℕ
+switches_of R r =
+    if r.region.side && is_switches (at R r.region.head).node then Some r.region.head else None
+
+-- the first i rows make these edges: each expression's but a call's parts, and those of the bodies that end, and the
+-- `next`s that stand, among them
 pub record AreTurnsTo (R : List Row) (i : ℕ) (E : Edges) : Type 0 where
   pub wide : width E ≡ length R
-  pub all : (n a : ℕ) → n < i → n < length R → TurnsOn R n a → Leads E n a
-  pub only : (n a : ℕ) → Leads E n a → (n < i) × TurnsOn R n a
+  pub parts : (n a : ℕ) → n < i → n < length R → PartTurns R n a → Leads E n a
+  pub bodies : (w b m x a : ℕ) → b < i → b < length R → w < length R → is_switches (at R w).node ≡ true
+      → (at R b).node ≡ Body → (at R b).region ≡ arm_at w true → IsStatement R b m → (at R m).node ≡ Binding x a
+      → Leads E w a
+  pub nexts : (w m x k o a : ℕ) → m < i → m < length R → w < length R → is_switches (at R w).node ≡ true
+      → (at R m).node ≡ Next x k o a → (at R m).region ≡ arm_at w true → Leads E w a
+  pub only : (n a : ℕ) → Leads E n a → TurnsOn R n a
 
--- the edges are what each expression but a call turns On
+-- the edges are what each expression but a call, and the switches of each loop, turn On
 abbrev pub AreTurns : List Row → Edges → Type 0
 AreTurns R E = AreTurnsTo R (length R) E
 
@@ -125,26 +176,30 @@ pub record AreReadsTo (P : Checked) (i : ℕ) (E : Edges) : Type 0 where
 abbrev pub AreReads : Checked → Edges → Type 0
 AreReads P E = AreReadsTo P (length (rows P)) E
 
--- the `Enter` of a row of this node, if it is an argument
-abbrev pub enter_of : Node → Option ℕ
-enter_of (Arg e k v) = Some e
-enter_of _ = None
+-- the row that asks for a row of this node in this block: the `Enter` of an argument, the loop's head of a `next`
+abbrev pub asker_of : ℕ → Node → Option ℕ
+asker_of b (Arg e k v) = Some e
+asker_of b (Next x k o v) = Some b
+asker_of b _ = None
 
--- of the first i rows the edges go to each argument from its `Enter`
+abbrev pub asker_at : List Row → ℕ → Option ℕ
+asker_at R m = asker_of (at R m).block (at R m).node
+
+-- of the first i rows the edges go to each from the row that asks for it
 pub record AreArgsTo (P : Checked) (i : ℕ) (E : Edges) : Type 0 where
   pub wide : width E ≡ length (rows P)
-  pub all : (m e k a : ℕ) → m < i → e < length (rows P) → (at (rows P) m).node ≡ Arg e k a → Leads E e m
+  pub all : (m e : ℕ) → m < i → e < length (rows P) → asker_at (rows P) m ≡ Some e → Leads E e m
 
--- the edges go to each argument from its `Enter`
+-- the edges go to each argument from its `Enter`, and to each `next` from its loop's head
 abbrev pub AreArgs : Checked → Edges → Type 0
 AreArgs P E = AreArgsTo P (length (rows P)) E
 
 -- the row of each statement comes before that of the next
 abbrev pub StatementsRise : List Statement → Type 0
-StatementsRise ss = (i j : ℕ) (s t : Statement) → slice_get ss i ≡ Some s → slice_get ss j ≡ Some t → i < j
-    → s.row < t.row
+StatementsRise ss =
+    (i j : ℕ) (s t : Statement) → slice_get ss i ≡ Some s → slice_get ss j ≡ Some t → i < j → s.row < t.row
 
--- these are the bindings among the first i rows that stand in no block before row i
+-- these are the bindings among the first i rows that stand in no block, or body of a loop, before row i
 pub record AreOpen (R : List Row) (i : ℕ) (ss : List Statement) : Type 0 where
   pub all : (m x a : ℕ) → m < i → m < length R → (at R m).node ≡ Binding x a → in_block R m i ≡ false
       → (s : Statement) × Among s ss × (s.row ≡ m) × (s.value ≡ a)
@@ -152,26 +207,34 @@ pub record AreOpen (R : List Row) (i : ℕ) (ss : List Statement) : Type 0 where
       → (s.row < i) × (in_block R s.row i ≡ false) × ((x : ℕ) × ((at R s.row).node ≡ Binding x s.value))
   pub rise : StatementsRise ss
 
--- the statements from the row on have gone, each with an edge to its value from a
-pub record Takes (E F : Edges) (ss ts : List Statement) (first a : ℕ) : Type 0 where
+-- the edges have one more from the row a, if there is one, for each of those that have gone
+abbrev pub From : Option ℕ → ℕ → Type 0
+From None n = ⊥
+From (Some a) n = n ≡ a
+
+-- the statements from the row on have gone, each with an edge to its value from the row, if there is one
+pub record Takes (E F : Edges) (ss ts : List Statement) (first : ℕ) (o : Option ℕ) : Type 0 where
   pub wide : width F ≡ width E
   pub kept : (n b : ℕ) → Leads E n b → Leads F n b
   pub only : (n b : ℕ) → Leads F n b
-      → Leads E n b ⊎ ((n ≡ a) × ((s : Statement) × Among s ss × (first ≤ s.row) × (b ≡ s.value)))
+      → Leads E n b ⊎ (From o n × ((s : Statement) × Among s ss × (first ≤ s.row) × (b ≡ s.value)))
   pub some : (s : Statement) → Among s ts → Among s ss
-  pub gone : (s : Statement) → Among s ss → Among s ts ⊎ ((first ≤ s.row) × (a < width E → Leads F a s.value))
+  pub gone : (s : Statement) → Among s ss
+      → Among s ts ⊎ ((first ≤ s.row) × ((a : ℕ) → o ≡ Some a → a < width E → Leads F a s.value))
   pub rise : StatementsRise ts
 
 -- and those that are left stand before the row
-pub record TakesAll (E F : Edges) (ss ts : List Statement) (first a : ℕ) : Type 0 where
-  pub takes : Takes E F ss ts first a
+pub record TakesAll (E F : Edges) (ss ts : List Statement) (first : ℕ) (o : Option ℕ) : Type 0 where
+  pub takes : Takes E F ss ts first o
   pub before : (s : Statement) → Among s ts → s.row < first
 
--- what becomes of the edges and the statements that wait, at a row
-abbrev pub Statements_at : Edges → Edges → List Statement → List Statement → ℕ → ℕ → Node → Type 0
-Statements_at E F ss ts n first (Block b) = TakesAll E F ss ts first n
-Statements_at E F ss ts n first (Binding x a) = (F ≡ E) × (ts ≡ ss ++ record { row = n; value = a } ∷ [])
-Statements_at E F ss ts n first _ = (F ≡ E) × (ts ≡ ss)
+-- what becomes of the edges and the statements that wait, at the row n of this node, which may stand in the body behind
+-- switches
+abbrev pub Statements_at : Edges → Edges → List Statement → List Statement → ℕ → ℕ → Option ℕ → Node → Type 0
+Statements_at E F ss ts n first o (Block b) = TakesAll E F ss ts first (Some n)
+Statements_at E F ss ts n first o Body = TakesAll E F ss ts first o
+Statements_at E F ss ts n first o (Binding x a) = (F ≡ E) × (ts ≡ ss ++ record { row = n; value = a } ∷ [])
+Statements_at E F ss ts n first o _ = (F ≡ E) × (ts ≡ ss)
 
-abbrev pub Statements : Edges → Edges → List Statement → List Statement → ℕ → Row → Type 0
-Statements E F ss ts n r = Statements_at E F ss ts n r.first r.node
+abbrev pub Statements : List Row → Edges → Edges → List Statement → List Statement → ℕ → Row → Type 0
+Statements R E F ss ts n r = Statements_at E F ss ts n r.first (switches_of R r) r.node

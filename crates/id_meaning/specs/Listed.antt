@@ -1,5 +1,5 @@
 -- The facts of a round, worked out of what rows have at paths.
-use Rattle.std.specs.Prelude.{◌≡◌, ◌<◌, ◌≤◌, ℕ, zero, suc, true, false, Bool as Truth, List, [], ◌∷◌, ◌++◌, length}
+use Rattle.std.specs.Prelude.{◌≡◌, ◌<◌, ℕ, zero, suc, true, false, Bool as Truth, List, [], ◌∷◌, ◌++◌, length}
 use Rattle.std.specs.Prelude.{Option, None, Some, if◌then◌else◌, AllPairs, IsPermutation}
 use Rattle.std.specs.declared.cmp.Ordering.{Ordering}
 use Rattle.std.specs.Ordering.{is_lt, nat_cmp, ordering_then}
@@ -14,26 +14,33 @@ use Rattle.id_meaning.specs.declared.SourceValue.{SourceValue}
 use Rattle.id_meaning.specs.declared.Fact.{Fact}
 use Rattle.id_meaning.specs.declared.Fact.TheVariants as fact
 use Rattle.id_meaning.specs.declared.cells.Spot.{Spot}
+use Rattle.id_meaning.specs.declared.cells.Trail.{Trail}
+use Rattle.id_meaning.specs.declared.cells.Trail.TheVariants.{Outermost, Below}
 use Rattle.id_meaning.specs.declared.cells.RowFact.{RowFact}
 use Rattle.id_meaning.specs.declared.cells.RowFact.TheVariants.{On, Has}
 use Rattle.id_meaning.specs.Orders.{step_cmp}
 use Rattle.id_meaning.specs.Sources.{Source}
 use Rattle.id_meaning.specs.Rounds.{Rounds}
-use Rattle.id_meaning.specs.Cells.{cell_at, path_of, spot_at}
+use Rattle.id_meaning.specs.Cells.{Inside, cell_at, path_of, spot_at}
 
--- the step to the call at the row
-abbrev pub step_at : Checked → ℕ → PathStep
-step_at P n = record { place = place P n; number = 0 }
+-- the step to the call or the iteration of this number at the row
+abbrev pub step_at : Checked → ℕ → ℕ → PathStep
+step_at P n k = record { place = place P n; number = k }
 
--- the steps of the path of this number, the last k of them: those of the path of the call's spot, and then the call
-abbrev pub steps_of : Checked → List Spot → ℕ → ℕ → List PathStep
+-- the steps of the path, the last j of them: those of the path of its spot, and then the call or the iteration
+abbrev pub steps_of : Checked → List Spot → ℕ → Trail → List PathStep
 steps_of P es zero q = []
-steps_of P es (suc k) zero = []
-steps_of P es (suc k) (suc q) = steps_of P es k (spot_at es q).path ++ step_at P (spot_at es q).row ∷ []
+steps_of P es (suc j) Outermost = []
+steps_of P es (suc j) (Below i k) = steps_of P es j (spot_at es i).path ++ step_at P (spot_at es i).row k ∷ []
 
--- the path of this number: 0 is that of the outermost, and a call's that of its spot, counted from 1
-abbrev pub path_at : Checked → List Spot → ℕ → Path
-path_at P es q = record { steps = steps_of P es q q }
+-- the most steps that the path has
+abbrev pub steps_in_all : Trail → ℕ
+steps_in_all Outermost = 0
+steps_in_all (Below i k) = suc i
+
+-- the path of the source that it is
+abbrev pub path_at : Checked → List Spot → Trail → Path
+path_at P es q = record { steps = steps_of P es (steps_in_all q) q }
 
 -- the fact of the source that a row's fact is
 abbrev pub fact_of : Source → List Spot → RowFact → Fact
@@ -59,7 +66,7 @@ pub record Shows (S : Source) (es : List Spot) (f : Fact) : Type 0 where
 -- the spots are of things, each at a path that was there before it, and no two are of one path and row
 pub record AreSpots (S : Source) (es : List Spot) : Type 0 where
   pub things : (i : ℕ) → i < length es → IsThing S (spot_at es i).row
-  pub before : (i : ℕ) → i < length es → (spot_at es i).path ≤ i
+  pub before : (i : ℕ) → i < length es → Inside i (spot_at es i).path
   pub apart : (i j : ℕ) → i < length es → j < length es → (spot_at es i).path ≡ (spot_at es j).path
       → (spot_at es i).row ≡ (spot_at es j).row → i ≡ j
 
@@ -67,7 +74,7 @@ pub record AreSpots (S : Source) (es : List Spot) : Type 0 where
 pub record IsRound (S : Source) (n : ℕ) (es : List Spot) : Type 0 where
   pub all : (f : Fact) → Rounds S n f → Shows S es f
   pub only : (f : RowFact) → Known es f → Rounds S n (fact_of S es f)
-  pub inside : (f : RowFact) → Known es f → path_of f ≤ length es
+  pub inside : (f : RowFact) → Known es f → Inside (length es) (path_of f)
   pub spots : AreSpots S es
 
 -- all facts that the spots have are of round n
@@ -88,8 +95,8 @@ value_fact p e (Some v) = fact.Has p e v ∷ []
 
 -- those of the spot, which is one of these
 abbrev pub spot_facts : Checked → List Spot → Spot → List Fact
-spot_facts P es s = let p = path_at P es s.path in on_fact p (place P s.row) s.cell.on
-    ++ value_fact p (place P s.row) s.cell.has
+spot_facts P es s =
+    let p = path_at P es s.path in on_fact p (place P s.row) s.cell.on ++ value_fact p (place P s.row) s.cell.has
 
 -- those of all of the spots, which are some of these
 abbrev pub facts_in : Checked → List Spot → List Spot → List Fact

@@ -1,12 +1,12 @@
 -- What private functions say of words and of values so far, in the forms that they have.
-use Rattle.std.specs.Prelude.{◌≡◌, ◌<◌, ℕ, List, slice_get, slice_index_or, slice_set, Option, None, Some, IsSome}
-use Rattle.std.specs.Prelude.{if◌then◌else◌}
+use Rattle.std.specs.Prelude.{◌≡◌, ◌<◌, ℕ, List, slice_get, slice_index_or, slice_set}
+use Rattle.std.specs.Prelude.{Option, None, Some, IsSome, if◌then◌else◌}
 use Rattle.std.specs.Option.{is_some}
 use Rattle.std.specs.Borrow.{Bor}
 use Rattle.id_meaning.specs.declared.SourceValue.{SourceValue}
 use Rattle.id_meaning.specs.declared.inputs.InputError.{InputError}
-use Rattle.id_meaning.specs.declared.inputs.InputError.TheVariants.{MissingInput, UnknownInput, RepeatedInput, BadInput}
-use Rattle.id_meaning.specs.declared.inputs.InputError.TheVariants.{Memory}
+use Rattle.id_meaning.specs.declared.inputs.InputError.TheVariants.{MissingInput, UnknownInput, RepeatedInput}
+use Rattle.id_meaning.specs.declared.inputs.InputError.TheVariants.{BadInput, Memory}
 use Rattle.id_meaning.specs.Inputs.{Cut, Said, Nothing, Says, option_bad}
 
 -- the cut, where it is given as two texts or as nothing

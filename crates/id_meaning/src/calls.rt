@@ -1,11 +1,11 @@
 //! What follows by the rules of calls (docs/MEANING.md, "Rules").
 
 ghost use Rattle.std.specs.Prelude.{◌≡◌, ◌++◌, OnOk};
-ghost use Rattle.id_meaning.specs.Cells.{all_passed, all_passes, call_at, callee_of, entered, entered_by, exit_at};
+ghost use Rattle.id_meaning.specs.Cells.{all_passed, all_passes, call_at, callee_of, entered, entered_by};
 ghost use Rattle.id_meaning.specs.Cells.{param_fact, param_row, passed_by, passed_of, passes_of, returned};
 
 use crate::SourceValue;
-use crate::cells::{Cells, RowFact};
+use crate::cells::{Cells, RowFact, Trail};
 use crate::effects::add_value;
 use crate::links::{Links, binder_of};
 use crate::params::node_of;
@@ -18,15 +18,15 @@ use std::alloc::AllocError;
 pub struct OnCall {
     /// The row of its `Enter`.
     pub enter: usize,
-    /// The number of the path on which its callee is.
-    pub path: usize,
+    /// The path on which its callee is.
+    pub path: Trail,
     /// The rows of the callee's head and body.
     pub head: usize,
     pub body: usize,
 }
 
 /// The call at the row at the path, if it is On.
-fn entered(checked: &Checked, cells: &Cells, path: usize, row: usize) -> Option<OnCall>
+pub fn entered(checked: &Checked, cells: &Cells, path: Trail, row: usize) -> Option<OnCall>
     ensures { result ≡ entered checked.now cells.now path row }
 {
     match node_of(checked, row) {
@@ -38,7 +38,7 @@ fn entered(checked: &Checked, cells: &Cells, path: usize, row: usize) -> Option<
 }
 
 /// The call of this `Enter` with the path that it begins, where its procedure has this node.
-fn entered_by(enter: usize, path: Option<usize>, callee: Node) -> Option<OnCall>
+fn entered_by(enter: usize, path: Option<Trail>, callee: Node) -> Option<OnCall>
     ensures { result ≡ entered_by enter path callee }
 {
     match (path, callee) {
@@ -68,10 +68,11 @@ pub fn add_call(
     checked: &Checked,
     links: &Links,
     cells: &Cells,
-    path: usize,
+    path: Trail,
     row: usize,
 ) -> Result<(), AllocError>
-    ensures { OnOk result (found.new.items ≡ found.old.items ++ call_at checked.now links.now cells.now path row) }
+    ensures { OnOk result
+        (found.new.items ≡ found.old.items ++ call_at checked.now links.now cells.now path row) }
 {
     if let Some(call) = entered(checked, cells, path, row) {
         found.push(RowFact::On {
@@ -89,7 +90,7 @@ fn add_all_passed(
     found: &mut Vec<RowFact>,
     checked: &Checked,
     cells: &Cells,
-    path: usize,
+    path: Trail,
     call: OnCall,
     rows: &[usize],
 ) -> Result<(), AllocError>
@@ -107,7 +108,7 @@ fn add_passed(
     found: &mut Vec<RowFact>,
     checked: &Checked,
     cells: &Cells,
-    path: usize,
+    path: Trail,
     call: OnCall,
     node: Node,
 ) -> Result<(), AllocError>
@@ -142,7 +143,7 @@ fn param_row(count: usize, head: usize, index: usize) -> Option<usize>
 /// Adds that the row has the value at the path, if there are both.
 fn add_param(
     found: &mut Vec<RowFact>,
-    path: usize,
+    path: Trail,
     row: Option<usize>,
     value: Option<SourceValue>,
 ) -> Result<(), AllocError>
@@ -159,7 +160,7 @@ fn add_pass(
     found: &mut Vec<RowFact>,
     checked: &Checked,
     cells: &Cells,
-    path: usize,
+    path: Trail,
     call: Option<OnCall>,
     node: Node,
 ) -> Result<(), AllocError>
@@ -177,7 +178,7 @@ fn add_all_passes(
     found: &mut Vec<RowFact>,
     checked: &Checked,
     cells: &Cells,
-    path: usize,
+    path: Trail,
     node: Node,
     rows: &[usize],
 ) -> Result<(), AllocError>
@@ -203,7 +204,7 @@ pub fn add_passes(
     checked: &Checked,
     links: &Links,
     cells: &Cells,
-    path: usize,
+    path: Trail,
     node: Node,
 ) -> Result<(), AllocError>
     ensures { OnOk result
@@ -217,26 +218,8 @@ pub fn add_passes(
     }
 }
 
-/// Adds the facts that come by the call that the path begins with, where the row is its callee's body.
-pub fn add_exit(
-    found: &mut Vec<RowFact>,
-    checked: &Checked,
-    cells: &Cells,
-    path: usize,
-    row: usize,
-) -> Result<(), AllocError>
-    ensures { OnOk result (found.new.items ≡ found.old.items ++ exit_at checked.now cells.now path row) }
-{
-    if path > 0 {
-        let spot = cells.spot(path - 1);
-        let call = entered(checked, cells, spot.path, spot.row);
-        add_value(found, spot.path, spot.row, returned(cells, call, row))?;
-    }
-    Ok(())
-}
-
 /// What the row gives back to the call, if it is the body of its procedure.
-fn returned(cells: &Cells, call: Option<OnCall>, row: usize) -> Option<SourceValue>
+pub fn returned(cells: &Cells, call: Option<OnCall>, row: usize) -> Option<SourceValue>
     ensures { result ≡ returned cells.now call row }
 {
     match call {

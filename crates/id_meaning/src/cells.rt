@@ -1,8 +1,8 @@
 //! What rows have at paths after some rounds (docs/MEANING.md, "Rounds").
 
-ghost use Rattle.std.specs.Prelude.{◌≡◌, ◌<◌, ◌≤◌, ◌++◌, length, replicate, OnOk, IfOk};
-ghost use Rattle.id_meaning.specs.Cells.{all_learnt, all_news, bucket_of, is_at, is_fresh, is_taken, learnt, path_of};
-ghost use Rattle.id_meaning.specs.Cells.{queue_of, row_of, with_fact};
+ghost use Rattle.std.specs.Prelude.{◌≡◌, ◌<◌, ◌++◌, length, replicate, OnOk, IfOk};
+ghost use Rattle.id_meaning.specs.Cells.{Inside, all_learnt, all_news, bucket_of, is_at, is_fresh, is_inside, is_taken};
+ghost use Rattle.id_meaning.specs.Cells.{learnt, mark_of, next_of, path_of, queue_of, row_of, same_trail, with_fact};
 
 use crate::SourceValue;
 use std::alloc::{AllocError, Global};
@@ -21,15 +21,24 @@ pub const BLANK: Cell = Cell {
     has: None,
 };
 
-/// A fact by path and row. The outermost path has the number 0.
+/// A path.
+#[derive(Clone, Copy)]
+pub enum Trail {
+    /// The empty one.
+    Outermost,
+    /// One whose last step is to the call or the loop at the spot of this number: the call, or this iteration, from 0.
+    Below { spot: usize, number: u64 },
+}
+
+/// A fact by path and row.
 #[derive(Clone, Copy)]
 pub enum RowFact {
     On {
-        path: usize,
+        path: Trail,
         row: usize,
     },
     Has {
-        path: usize,
+        path: Trail,
         row: usize,
         value: SourceValue,
     },
@@ -38,7 +47,7 @@ pub enum RowFact {
 /// What a row has at a path.
 #[derive(Clone, Copy)]
 pub struct Spot {
-    pub path: usize,
+    pub path: Trail,
     pub row: usize,
     pub cell: Cell,
 }
@@ -46,7 +55,7 @@ pub struct Spot {
 /// How many chains the spots hang in.
 const CHAINS: usize = 262_144;
 
-/// In how many queues names wait.
+/// In how many queues names and loops wait.
 pub const QUEUES: usize = 65_536;
 
 /// What rows have at paths. Contracts see a list of spots, no two of one path and row.
@@ -74,8 +83,8 @@ impl Model for Cells {
 }
 
 impl Cells {
-    ghost use Rattle.std.specs.Prelude.{◌≡◌, ◌≤◌, [], length, Some, None, OnOk, IfOk};
-    ghost use Rattle.id_meaning.specs.Cells.{AreBefore, begun, cell_at, find, put, spot_at};
+    ghost use Rattle.std.specs.Prelude.{◌≡◌, [], length, Some, None, OnOk, IfOk};
+    ghost use Rattle.id_meaning.specs.Cells.{AreBefore, Inside, begun, cell_at, find, out_of, outer, put, spot_at};
 
     /// No spots.
     pub fn new(alloc: Global) -> Result<Cells, AllocError>
@@ -97,7 +106,7 @@ impl Cells {
     }
 
     /// The number of the spot with this path and row, if there is one.
-    pub fn find(&self, path: usize, row: usize) -> Option<usize>
+    pub fn find(&self, path: Trail, row: usize) -> Option<usize>
         ensures { result ≡ find self.now path row }
     {
         let mut next = self.heads[bucket_of(path, row)];
@@ -111,13 +120,34 @@ impl Cells {
         None
     }
 
-    /// The number of the path that begins at the spot with this path and row, if there is one.
-    pub fn begun(&self, path: usize, row: usize) -> Option<usize>
+    /// The path of the call that begins at the spot with this path and row, if there is one.
+    pub fn begun(&self, path: Trail, row: usize) -> Option<Trail>
         ensures { result ≡ begun self.now path row }
     {
         match self.find(path, row) {
-            Some(number) if number < self.spots.len() => Some(number + 1),
-            _ => None,
+            Some(spot) => Some(Trail::Below { spot, number: 0 }),
+            None => None,
+        }
+    }
+
+    /// The path without its last d steps.
+    pub fn out_of(&self, path: Trail, d: usize) -> Trail
+        ensures { result ≡ out_of self.now d path }
+    {
+        let mut rest = path;
+        for _step in 0..d {
+            rest = self.outer(rest);
+        }
+        rest
+    }
+
+    /// The path without its last step.
+    fn outer(&self, path: Trail) -> Trail
+        ensures { result ≡ outer self.now path }
+    {
+        match path {
+            Trail::Below { spot, .. } => self.spot(spot).path,
+            Trail::Outermost => Trail::Outermost,
         }
     }
 
@@ -131,14 +161,14 @@ impl Cells {
     /// The spot of this number; past the last one, a blank one.
     pub fn spot(&self, number: usize) -> Spot
         ensures is { result ≡ spot_at self.now number }
-        ensures before { result.path ≤ number }
+        ensures before { Inside number result.path }
         ensures kept { AreBefore self.now }
     {
         if number < self.spots.len() {
             self.spots[number]
         } else {
             Spot {
-                path: 0,
+                path: Trail::Outermost,
                 row: 0,
                 cell: BLANK,
             }
@@ -146,7 +176,7 @@ impl Cells {
     }
 
     /// What the row has at the path.
-    pub fn read(&self, path: usize, row: usize) -> Cell
+    pub fn read(&self, path: Trail, row: usize) -> Cell
         ensures { result ≡ cell_at self.now path row }
     {
         match self.find(path, row) {
@@ -156,7 +186,7 @@ impl Cells {
     }
 
     /// Puts the cell into the spot of this number, which has this path and row.
-    fn set(&mut self, number: usize, path: usize, row: usize, cell: Cell)
+    fn set(&mut self, number: usize, path: Trail, row: usize, cell: Cell)
         requires { find self.old path row ≡ Some number }
         ensures { self.new ≡ put self.old path row cell }
     {
@@ -164,9 +194,9 @@ impl Cells {
     }
 
     /// Adds a spot.
-    fn push(&mut self, path: usize, row: usize, cell: Cell) -> Result<(), AllocError>
+    fn push(&mut self, path: Trail, row: usize, cell: Cell) -> Result<(), AllocError>
         requires new { find self.old path row ≡ None }
-        requires inside { path ≤ length self.old }
+        requires inside { Inside (length self.old) path }
         ensures { OnOk result (self.new ≡ put self.old path row cell) }
     {
         let chain = bucket_of(path, row);
@@ -187,22 +217,75 @@ fn zeros(alloc: Global, count: usize) -> Result<Vec<usize>, AllocError>
 }
 
 /// Whether the spot has this path and row.
-fn is_at(spot: Spot, path: usize, row: usize) -> bool
+fn is_at(spot: Spot, path: Trail, row: usize) -> bool
     ensures { result ≡ is_at spot path row }
 {
-    spot.path == path && spot.row == row
+    same_trail(spot.path, path) && spot.row == row
+}
+
+/// Whether the two paths are one.
+fn same_trail(a: Trail, b: Trail) -> bool
+    ensures { result ≡ same_trail a b }
+{
+    match (a, b) {
+        (Trail::Outermost, Trail::Outermost) => true,
+        (
+            Trail::Below { spot, number },
+            Trail::Below {
+                spot: other,
+                number: second,
+            },
+        ) => spot == other && number == second,
+        _ => false,
+    }
+}
+
+/// Whether the path is there, where there are so many spots.
+fn is_inside(count: usize, path: Trail) -> bool
+    ensures { result ≡ is_inside count path }
+{
+    match path {
+        Trail::Outermost => true,
+        Trail::Below { spot, .. } => spot < count,
+    }
+}
+
+/// The path of the next iteration, if there may be one.
+pub fn next_of(path: Trail) -> Option<Trail>
+    ensures { result ≡ next_of path }
+{
+    match path {
+        Trail::Below { spot, number } if number < u64::MAX => Some(Trail::Below {
+            spot,
+            number: number + 1,
+        }),
+        _ => None,
+    }
+}
+
+/// A number for the path, by which spots and queues are found.
+fn mark_of(path: Trail) -> usize
+    ensures mark { result ≡ mark_of path }
+    ensures within { result < 60000000000 }
+{
+    match path {
+        Trail::Outermost => 0,
+        Trail::Below { spot, number } => {
+            (spot % CHAINS + 1) * 40_503 + (number % CHAINS as u64) as usize * 162_013
+        }
+    }
 }
 
 /// The chain that the spot with this path and row hangs in.
-fn bucket_of(path: usize, row: usize) -> usize
+fn bucket_of(path: Trail, row: usize) -> usize
     ensures chain { result ≡ bucket_of path row }
     ensures within { result < 262144 }
 {
-    (row % CHAINS + path % CHAINS * 40_503) % CHAINS
+    (row % CHAINS + mark_of(path)) % CHAINS
 }
 
 /// The queue in which names wait for the binder with this path and row.
-pub fn queue_of(path: usize, row: usize) -> usize
+pub fn queue_of(path: Trail, row: usize) -> usize
     ensures queue { result ≡ queue_of path row }
     ensures within { result < 65536 }
 {
@@ -242,7 +325,7 @@ fn learn(cells: &mut Cells, fact: RowFact) -> Result<bool, AllocError>
     ensures fresh { IfOk result (λ b. b ≡ is_fresh cells.old fact) }
 {
     let path = path_of(fact);
-    if path > cells.len() {
+    if !is_inside(cells.len(), path) {
         return Ok(false);
     }
     learn_there(cells, path, row_of(fact), fact)
@@ -251,13 +334,13 @@ fn learn(cells: &mut Cells, fact: RowFact) -> Result<bool, AllocError>
 /// Puts a fact into the cells at its path and row, if there is none of its kind; tells whether it was not there.
 fn learn_there(
     cells: &mut Cells,
-    path: usize,
+    path: Trail,
     row: usize,
     fact: RowFact,
 ) -> Result<bool, AllocError>
     requires path { path ≡ path_of fact }
     requires row { row ≡ row_of fact }
-    requires inside { path ≤ length cells.old }
+    requires inside { Inside (length cells.old) path }
     ensures cells { OnOk result (cells.new ≡ learnt cells.old fact) }
     ensures fresh { IfOk result (λ b. b ≡ is_fresh cells.old fact) }
 {
@@ -277,7 +360,7 @@ fn learn_there(
     }
 }
 
-fn path_of(fact: RowFact) -> usize
+fn path_of(fact: RowFact) -> Trail
     ensures { result ≡ path_of fact }
 {
     match fact {

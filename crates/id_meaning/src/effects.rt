@@ -1,18 +1,19 @@
 //! What follows by one rule, row by row (docs/MEANING.md, "Rules").
 
 ghost use Rattle.std.specs.Prelude.{◌≡◌, ◌++◌, slice_get, IfOk, OnOk};
-ghost use Rattle.id_meaning.specs.Cells.{arm_of, binary_of, chosen, constant_of, effects, first_facts, gain_at, gained};
-ghost use Rattle.id_meaning.specs.Cells.{gains, given, given_at, given_of, input_facts, ons, seen, unary_of};
-ghost use Rattle.id_meaning.specs.Cells.{value_fact, when};
+ghost use Rattle.id_meaning.specs.Cells.{all_woken, arm_of, binary_of, chosen, constant_of, effects, exit_at};
+ghost use Rattle.id_meaning.specs.Cells.{first_facts, gain_at, gained, gains, given, given_at, given_of, input_facts};
+ghost use Rattle.id_meaning.specs.Cells.{ons, seen, seen_at, unary_of, value_fact, when};
 ghost use Rattle.id_meaning.specs.Links.{some_row};
 ghost use Rattle.id_meaning.specs.Sources.{main_body, value_of};
 
 use crate::SourceValue;
-use crate::calls::{add_call, add_exit, add_passes};
-use crate::cells::{Cells, RowFact, queue_of};
-use crate::edges::Edges;
-use crate::links::{Links, beyond};
+use crate::calls::{add_call, add_passes, entered, returned};
+use crate::cells::{Cells, RowFact, Trail, queue_of};
+use crate::links::{Links, beyond, far};
+use crate::loops::{add_loop, add_start, add_woken, iteration_of, left};
 use crate::params::{main_body, main_params, node_of};
+use crate::queues::{Queues, Wait};
 use id_check::Checked;
 use id_parts::Node;
 use id_value::{BinaryOp, Constant, Outcome, UnaryOp, binary_result, unary_result};
@@ -28,7 +29,7 @@ pub fn first_facts(
 {
     let mut facts = Vec::new(alloc);
     facts.push(RowFact::On {
-        path: 0,
+        path: Trail::Outermost,
         row: main_body(checked),
     })?;
     let params = main_params(alloc, checked)?;
@@ -45,7 +46,7 @@ fn add_inputs(
     ensures { OnOk result (facts.new.items ≡ facts.old.items ++ input_facts 0 params.now inputs.now) }
 {
     for (number, row) in params.iter().enumerate() {
-        add_value(facts, 0, *row, input(inputs, number))?;
+        add_value(facts, Trail::Outermost, *row, input(inputs, number))?;
     }
     Ok(())
 }
@@ -60,12 +61,12 @@ fn input(inputs: &[SourceValue], number: usize) -> Option<SourceValue>
     }
 }
 
-/// Adds the facts that follow from this one, with others that the cells have, where these names wait.
+/// Adds the facts that follow from this one, with others that the cells have, where this waits.
 pub fn add_effects(
     found: &mut Vec<RowFact>,
     checked: &Checked,
     links: &Links,
-    waits: &Edges,
+    waits: &Queues,
     cells: &Cells,
     fact: RowFact,
 ) -> Result<(), AllocError>
@@ -76,25 +77,19 @@ pub fn add_effects(
         RowFact::On { path, row } => {
             add_ons(found, path, links.turns.of(row))?;
             add_given(found, checked, cells, path, row)?;
-            add_call(found, checked, links, cells, path, row)
+            add_call(found, checked, links, cells, path, row)?;
+            add_start(found, checked, links, cells, path, row)
         }
         RowFact::Has { path, row, .. } => {
             add_gains(found, checked, links, cells, path, links.reads.of(row))?;
-            add_gains(
-                found,
-                checked,
-                links,
-                cells,
-                path,
-                waits.of(queue_of(path, row)),
-            )?;
+            add_all_woken(found, checked, cells, waits.of(queue_of(path, row)))?;
             add_exit(found, checked, cells, path, row)
         }
     }
 }
 
 /// Adds that these rows are On at the path.
-fn add_ons(found: &mut Vec<RowFact>, path: usize, rows: &[usize]) -> Result<(), AllocError>
+pub fn add_ons(found: &mut Vec<RowFact>, path: Trail, rows: &[usize]) -> Result<(), AllocError>
     ensures { OnOk result (found.new.items ≡ found.old.items ++ ons path rows.now) }
 {
     for row in rows {
@@ -109,7 +104,7 @@ fn add_gains(
     checked: &Checked,
     links: &Links,
     cells: &Cells,
-    path: usize,
+    path: Trail,
     rows: &[usize],
 ) -> Result<(), AllocError>
     ensures { OnOk result
@@ -121,41 +116,84 @@ fn add_gains(
     Ok(())
 }
 
-/// Adds the facts that come at the row at the path, or by the call whose argument it is.
+/// Adds the facts that come where the binder has a value that these wait for.
+fn add_all_woken(
+    found: &mut Vec<RowFact>,
+    checked: &Checked,
+    cells: &Cells,
+    waits: &[Wait],
+) -> Result<(), AllocError>
+    ensures { OnOk result (found.new.items ≡ found.old.items ++ all_woken checked.now cells.now waits.now) }
+{
+    for wait in waits {
+        add_woken(found, checked, cells, *wait)?;
+    }
+    Ok(())
+}
+
+/// Adds the facts that come by the call or the loop that the path begins with, where the row is its callee's body or
+/// its last expression.
+fn add_exit(
+    found: &mut Vec<RowFact>,
+    checked: &Checked,
+    cells: &Cells,
+    path: Trail,
+    row: usize,
+) -> Result<(), AllocError>
+    ensures { OnOk result (found.new.items ≡ found.old.items ++ exit_at checked.now cells.now path row) }
+{
+    if let Trail::Below { spot, .. } = path {
+        let spot = cells.spot(spot);
+        let call = entered(checked, cells, spot.path, spot.row);
+        add_value(found, spot.path, spot.row, returned(cells, call, row))?;
+        let iteration = iteration_of(checked, cells, path);
+        add_value(
+            found,
+            spot.path,
+            spot.row,
+            left(cells, path, iteration, row),
+        )?;
+    }
+    Ok(())
+}
+
+/// Adds the facts that come at the row at the path, by the call whose argument it is, or by the loop whose switches or
+/// `next` it is.
 fn add_gain(
     found: &mut Vec<RowFact>,
     checked: &Checked,
     links: &Links,
     cells: &Cells,
-    path: usize,
+    path: Trail,
     row: usize,
 ) -> Result<(), AllocError>
     ensures { OnOk result
         (found.new.items ≡ found.old.items ++ gain_at checked.now links.now cells.now path row) }
 {
     add_given(found, checked, cells, path, row)?;
-    add_passes(found, checked, links, cells, path, node_of(checked, row))
+    add_passes(found, checked, links, cells, path, node_of(checked, row))?;
+    add_loop(found, checked, links, cells, path, row)
 }
 
 /// Adds the facts that come at the row at the path.
-fn add_given(
+pub fn add_given(
     found: &mut Vec<RowFact>,
     checked: &Checked,
     cells: &Cells,
-    path: usize,
+    path: Trail,
     row: usize,
 ) -> Result<(), AllocError>
     ensures { OnOk result (found.new.items ≡ found.old.items ++ given_at checked.now cells.now path row) }
 {
     let node = node_of(checked, row);
     let on = cells.read(path, row).on;
-    let beyond = seen(cells, path, beyond(checked, row, node));
+    let beyond = seen_at(checked, cells, path, row, node);
     add_arm(found, path, chosen(on, beyond, node))?;
     add_value(found, path, row, gained(cells, path, on, beyond, node))
 }
 
 /// Adds that the row is On at the path, if there is one.
-fn add_arm(found: &mut Vec<RowFact>, path: usize, row: Option<usize>) -> Result<(), AllocError>
+pub fn add_arm(found: &mut Vec<RowFact>, path: Trail, row: Option<usize>) -> Result<(), AllocError>
     ensures { OnOk result (found.new.items ≡ found.old.items ++ ons path (some_row row)) }
 {
     if let Some(row) = row {
@@ -167,7 +205,7 @@ fn add_arm(found: &mut Vec<RowFact>, path: usize, row: Option<usize>) -> Result<
 /// Adds that the row has the value at the path, if there is one.
 pub fn add_value(
     found: &mut Vec<RowFact>,
-    path: usize,
+    path: Trail,
     row: usize,
     value: Option<SourceValue>,
 ) -> Result<(), AllocError>
@@ -207,7 +245,7 @@ fn arm_of(then: usize, otherwise: usize, test: Option<SourceValue>) -> Option<us
 /// What a row of this node gains at the path, which may be On and may see this value beyond its parts.
 fn gained(
     cells: &Cells,
-    path: usize,
+    path: Trail,
     on: bool,
     beyond: Option<SourceValue>,
     node: Node,
@@ -238,8 +276,22 @@ fn when(wanted: bool, value: Option<SourceValue>) -> Option<SourceValue>
     if wanted { value } else { None }
 }
 
+/// What the row of this node sees beyond its parts, from the path.
+fn seen_at(
+    checked: &Checked,
+    cells: &Cells,
+    path: Trail,
+    row: usize,
+    node: Node,
+) -> Option<SourceValue>
+    ensures { result ≡ seen_at checked.now cells.now path row node }
+{
+    let path = cells.out_of(path, far(checked, row, node));
+    seen(cells, path, beyond(checked, row, node))
+}
+
 /// What the row has at the path, if there is one.
-fn seen(cells: &Cells, path: usize, row: Option<usize>) -> Option<SourceValue>
+pub fn seen(cells: &Cells, path: Trail, row: Option<usize>) -> Option<SourceValue>
     ensures { result ≡ seen cells.now path row }
 {
     match row {

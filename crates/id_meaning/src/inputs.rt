@@ -1,7 +1,8 @@
 //! The inputs of `main`, read from words (docs/LANGUAGE.md, "Inputs").
 
 ghost use Rattle.std.specs.Prelude.{◌≡◌, ℕ, get_or, ◌<◌, ◌-◌, ◌^◌, [], min, map, pos, neg_ℤ, length, slice_get};
-ghost use Rattle.std.specs.Prelude.{slice_index_or, None, Some, IfOk, IfErr, IfSome, OnOk, option_map, option_and_then};
+ghost use Rattle.std.specs.Prelude.{slice_index_or, None, Some, IfOk, IfErr, IfSome, OnOk};
+ghost use Rattle.std.specs.Prelude.{option_map, option_and_then};
 ghost use Rattle.std.specs.List.{AllPass};
 ghost use Rattle.std.specs.Char.{is_ascii_digit};
 ghost use Rattle.id_text.specs.Bytes.{number_of as spelled_by};
@@ -134,8 +135,7 @@ fn inputs_for(
 ) -> Result<Vec<SourceValue>, InputError>
     ensures taken { IfOk result (λ v. first_cause params.now [] 0 (map (λ w. w.now) words.now) ≡ None) }
     ensures enough { IfOk result (λ v. length v.items ≡ length params.now) }
-    ensures values { IfOk result
-        (λ v. (n : ℕ) → n < length v.items
+    ensures values { IfOk result (λ v. (n : ℕ) → n < length v.items
         → slice_get v.items n ≡ value_for params.now (map (λ w. w.now) words.now) n) }
     ensures refused { IfErr result (IsCauseOf params.now (map (λ w. w.now) words.now)) }
 {
@@ -151,8 +151,7 @@ fn values_said(
 ) -> Result<Vec<Option<SourceValue>>, InputError>
     ensures taken { IfOk result (λ v. first_cause params.now [] 0 (map (λ w. w.now) words.now) ≡ None) }
     ensures enough { IfOk result (λ v. length v.items ≡ length params.now) }
-    ensures values { IfOk result
-        (λ v. (n : ℕ) → n < length v.items
+    ensures values { IfOk result (λ v. (n : ℕ) → n < length v.items
         → slice_index_or v.items n None ≡ value_for params.now (map (λ w. w.now) words.now) n) }
     ensures refused { IfErr result (IsCauseOf params.now (map (λ w. w.now) words.now)) }
 {

@@ -3,9 +3,10 @@
 ghost use Rattle.std.specs.Prelude.{◌≡◌, ◌<◌, [], ◌∷◌, length, IfOk, OnOk};
 ghost use Rattle.id_parts.specs.Rows.{at};
 ghost use Rattle.id_check.specs.Programs.{binder, rows};
-ghost use Rattle.id_meaning.specs.Links.{AreArgs, AreOpen, AreReads, AreTurns, Gains, GainsTo, Statements};
-ghost use Rattle.id_meaning.specs.Links.{StatementsRise, TakesAll, awaited, beyond, enter_of, linked_of, parts_turned};
-ghost use Rattle.id_meaning.specs.Links.{some_row, test_of};
+ghost use Rattle.id_meaning.specs.Cells.{far, far_from};
+ghost use Rattle.id_meaning.specs.Links.{AreArgs, AreOpen, AreReads, AreTurns, Gains, GainsFrom, GainsTo, Statements};
+ghost use Rattle.id_meaning.specs.Links.{StatementsRise, TakesAll, asker_of, awaited, beyond, linked_of, nexts_turned};
+ghost use Rattle.id_meaning.specs.Links.{parts_turned, some_row, switches_of, test_of};
 
 use crate::edges::Edges;
 use crate::params::node_of;
@@ -16,11 +17,11 @@ use std::alloc::{AllocError, Global};
 /// What each row leads to.
 #[derive(Drop)]
 pub struct Links {
-    /// From each expression to those that it turns On.
+    /// From each expression, and from the switches of each loop, to those that it turns On.
     pub turns: Edges,
     /// From each row to those but names that read its value, and from an `Enter` to its call.
     pub reads: Edges,
-    /// From each `Enter` to its arguments.
+    /// From each `Enter` to its arguments, and from each loop's head to its `next`s.
     pub args: Edges,
 }
 
@@ -52,28 +53,55 @@ fn turns(alloc: Global, rows: &[Row]) -> Result<Edges, AllocError>
     let mut waiting = Vec::new(alloc);
     for (n, row) in rows.iter().enumerate() {
         add_parts(&mut turns, rows, n, row.node)?;
-        add_statements(&mut turns, &mut waiting, n, row)?;
+        add_next(&mut turns, rows, row)?;
+        add_statements(&mut turns, rows, &mut waiting, n, row)?;
     }
     Ok(turns)
 }
 
-/// Lets a binding wait for its block, and adds that a block turns its statements On.
+/// Adds that the switches of a loop turn the expression of this row On, if it is a `next`.
+fn add_next(turns: &mut Edges, rows: &[Row], row: &Row) -> Result<(), AllocError>
+    ensures { OnOk result (GainsFrom turns.old turns.new (switches_of rows.now row.now) (nexts_turned row.now.node)) }
+{
+    match row.node {
+        Node::Next { value, .. } => add_from(turns, switches_of(rows, row), value),
+        _ => Ok(()),
+    }
+}
+
+/// Lets a binding wait for its block, and adds that a block, or the switches before the body of a loop, turn its
+/// statements On.
 fn add_statements(
     turns: &mut Edges,
+    rows: &[Row],
     waiting: &mut Vec<Statement>,
     n: usize,
     row: &Row,
 ) -> Result<(), AllocError>
     requires { StatementsRise waiting.old.items }
-    ensures { OnOk result (Statements turns.old turns.new waiting.old.items waiting.new.items n row.now) }
+    ensures { OnOk result
+        (Statements rows.now turns.old turns.new waiting.old.items waiting.new.items n row.now) }
 {
     match row.node {
-        Node::Block { .. } => take_statements(turns, waiting, row.first, n),
+        Node::Block { .. } => take_statements(turns, waiting, row.first, Some(n)),
+        Node::Body => take_statements(turns, waiting, row.first, switches_of(rows, row)),
         Node::Binding { value, .. } => {
             waiting.push(Statement { row: n, value })?;
             Ok(())
         }
         _ => Ok(()),
+    }
+}
+
+/// The switches whose true side the row is right in, if it is in one.
+fn switches_of(rows: &[Row], row: &Row) -> Option<usize>
+    ensures { result ≡ switches_of rows.now row.now }
+{
+    let head = row.region.head;
+    if row.region.side && head < rows.len() && matches!(rows[head].node, Node::Switches { .. }) {
+        Some(head)
+    } else {
+        None
     }
 }
 
@@ -116,24 +144,34 @@ fn test_at(rows: &[Row], split: usize) -> Option<usize>
     }
 }
 
-/// Takes the statements from the row `first` on, which stand in the block at row n, and adds that it turns them On.
+/// Takes the statements from the row `first` on, and adds that this row turns them On, if there is one.
 fn take_statements(
     turns: &mut Edges,
     waiting: &mut Vec<Statement>,
     first: usize,
-    n: usize,
+    from: Option<usize>,
 ) -> Result<(), AllocError>
     requires { StatementsRise waiting.old.items }
-    ensures { OnOk result (TakesAll turns.old turns.new waiting.old.items waiting.new.items first n) }
+    ensures { OnOk result (TakesAll turns.old turns.new waiting.old.items waiting.new.items first from) }
 {
     while let Some(statement) = waiting.pop() {
         if statement.row < first {
             waiting.push(statement)?;
             return Ok(());
         }
-        turns.add(n, statement.value)?;
+        add_from(turns, from, statement.value)?;
     }
     Ok(())
+}
+
+/// Adds an edge to the row, if there is one to come from.
+fn add_from(turns: &mut Edges, from: Option<usize>, to: usize) -> Result<(), AllocError>
+    ensures { OnOk result (GainsFrom turns.old turns.new from (to ∷ [])) }
+{
+    match from {
+        Some(from) => turns.add(from, to),
+        None => Ok(()),
+    }
 }
 
 /// Which rows but names read each row.
@@ -169,6 +207,8 @@ fn add_reads(
         }
         Node::Arg { value, .. } => add_read(reads, n, Some(value)),
         Node::Call { enter, .. } => add_read(reads, n, Some(enter)),
+        Node::Switches { test } => add_read(reads, n, Some(test)),
+        Node::Next { value, .. } => add_read(reads, n, Some(value)),
         Node::Block { body } => add_read(reads, n, Some(body)),
         Node::Binding { value, .. } => add_read(reads, n, Some(value)),
         _ => Ok(()),
@@ -194,34 +234,56 @@ fn add_read(reads: &mut Edges, n: usize, row: Option<usize>) -> Result<(), Alloc
     }
 }
 
-/// Which rows are arguments of each `Enter`.
+/// Which rows are arguments of each `Enter`, and which are `next`s of each loop's head.
 fn args(alloc: Global, checked: &Checked) -> Result<Edges, AllocError>
     ensures { IfOk result (λ e. AreArgs checked.now e) }
 {
     let mut args = Edges::new(alloc, checked.table.rows.len())?;
     for (n, row) in checked.table.rows.as_slice().iter().enumerate() {
-        add_read(&mut args, n, enter_of(row.node))?;
+        add_read(&mut args, n, asker_of(row.block, row.node))?;
     }
     Ok(args)
 }
 
-/// The `Enter` of a row of this node, if it is an argument.
-fn enter_of(node: Node) -> Option<usize>
-    ensures { result ≡ enter_of node }
+/// The row that asks for a row of this node in this block: the `Enter` of an argument, the loop's head of a `next`.
+fn asker_of(block: usize, node: Node) -> Option<usize>
+    ensures { result ≡ asker_of block node }
 {
     match node {
         Node::Arg { enter, .. } => Some(enter),
+        Node::Next { .. } => Some(block),
         _ => None,
     }
 }
 
-/// The binder that the row waits for, if it is a name.
-pub fn awaited(checked: &Checked, n: usize) -> Option<usize>
-    ensures { result ≡ awaited checked.now n }
+/// The binder that the row waits for: a name for its own, a `next` for that of its name outside.
+pub fn awaited(checked: &Checked, user: usize) -> Option<usize>
+    ensures { result ≡ awaited checked.now user }
 {
-    match node_of(checked, n) {
-        Node::Name { .. } => binder_of(checked, n),
+    match node_of(checked, user) {
+        Node::Name { .. } => binder_of(checked, user),
+        Node::Next { outer, .. } => binder_of(checked, outer),
         _ => None,
+    }
+}
+
+/// How many loops stand between the row of this node and the row beyond its parts that it looks at.
+pub fn far(checked: &Checked, n: usize, node: Node) -> usize
+    ensures { result ≡ far checked.now n node }
+{
+    match node {
+        Node::Name { .. } => distance(checked, n, binder_of(checked, n)),
+        _ => 0,
+    }
+}
+
+/// How many loops stand between the row and the binder, if there is one.
+pub fn distance(checked: &Checked, n: usize, binder: Option<usize>) -> usize
+    ensures { result ≡ far_from checked.now n binder }
+{
+    match binder {
+        Some(binder) => checked.depth(n).saturating_sub(checked.depth(binder)),
+        None => 0,
     }
 }
 

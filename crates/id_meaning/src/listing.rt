@@ -3,11 +3,11 @@
 ghost use Rattle.std.specs.Prelude.{◌≡◌, ◌++◌, IfOk, OnOk};
 ghost use Rattle.std.specs.Cmp.Lexicographic.{slice_cmp};
 ghost use Rattle.id_check.specs.Programs.{place};
-ghost use Rattle.id_meaning.specs.Listed.{AreShown, fact_cmp, facts_in, kind_of, on_fact, path_at, place_in, point_cmp};
-ghost use Rattle.id_meaning.specs.Listed.{spot_facts, step_at, steps_in, value_fact};
+ghost use Rattle.id_meaning.specs.Listed.{AreShown, fact_cmp, facts_in, kind_of, on_fact, path_at, place_in};
+ghost use Rattle.id_meaning.specs.Listed.{point_cmp, spot_facts, step_at, steps_in, value_fact};
 ghost use Rattle.id_meaning.specs.Orders.{step_cmp};
 
-use crate::cells::{Cells, Spot};
+use crate::cells::{Cells, Spot, Trail};
 use crate::{Fact, Path, PathStep, SourceValue};
 use id_check::Checked;
 use id_list::Sequence;
@@ -44,8 +44,7 @@ fn add_on_fact(
     spot: Spot,
 ) -> Result<(), AllocError>
     ensures { OnOk result
-        (facts.new.items
-        ≡ facts.old.items
+        (facts.new.items ≡ facts.old.items
         ++ on_fact (path_at checked.now cells.now spot.path) (place checked.now spot.row) spot.cell.on) }
 {
     if spot.cell.on {
@@ -65,8 +64,7 @@ fn add_has_fact(
     spot: Spot,
 ) -> Result<(), AllocError>
     ensures { OnOk result
-        (facts.new.items
-        ≡ facts.old.items
+        (facts.new.items ≡ facts.old.items
         ++ value_fact (path_at checked.now cells.now spot.path) (place checked.now spot.row) spot.cell.has) }
 {
     if let Some(value) = spot.cell.has {
@@ -77,21 +75,21 @@ fn add_has_fact(
     Ok(())
 }
 
-/// The path of this number. Takes memory for each step.
+/// The path of the source that it is. Takes memory for each step.
 fn path_at(
     alloc: Global,
     checked: &Checked,
     cells: &Cells,
-    number: usize,
+    trail: Trail,
 ) -> Result<Path, AllocError>
-    ensures { IfOk result (λ p. p ≡ path_at checked.now cells.now number) }
+    ensures { IfOk result (λ p. p ≡ path_at checked.now cells.now trail) }
 {
     let mut steps = Vec::new(alloc);
-    let mut inner = number;
-    while inner > 0 {
-        let spot = cells.spot(inner - 1);
-        steps.push(step_at(checked, spot.row))?;
-        inner = spot.path;
+    let mut rest = trail;
+    while let Trail::Below { spot, number } = rest {
+        let spot = cells.spot(spot);
+        steps.push(step_at(checked, spot.row, number))?;
+        rest = spot.path;
     }
     steps.reverse();
     Ok(Path {
@@ -99,13 +97,13 @@ fn path_at(
     })
 }
 
-/// The step to the call at the row.
-fn step_at(checked: &Checked, row: usize) -> PathStep
-    ensures { result ≡ step_at checked.now row }
+/// The step to the call or the iteration of this number at the row.
+fn step_at(checked: &Checked, row: usize, number: u64) -> PathStep
+    ensures { result ≡ step_at checked.now row number }
 {
     PathStep {
         place: place_of(checked, row),
-        number: 0,
+        number,
     }
 }
 

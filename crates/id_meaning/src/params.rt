@@ -66,6 +66,17 @@ fn body_of(node: Node) -> usize
     }
 }
 
+/// The row of the head of the block that the row stands in; past the last one, 0.
+pub fn block_of(checked: &Checked, row: usize) -> usize
+    ensures { result ≡ (at (rows checked.now) row).block }
+{
+    if row < checked.table.rows.len() {
+        checked.table.rows[row].block
+    } else {
+        0
+    }
+}
+
 /// What stands at the row; past the last one, a head.
 pub fn node_of(checked: &Checked, row: usize) -> Node
     ensures { result ≡ (at (rows checked.now) row).node }

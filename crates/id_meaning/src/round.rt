@@ -45,8 +45,8 @@ pub fn rounds(
     ensures few_facts { IfOk result (λ v. length v.items ≤ 1000000) }
     ensures bad_rounds { IfErr result (λ e. e ≡ RoundsError.BadRounds → 10000 < n) }
     ensures rounds_first { IfErr result (λ e. (e ≡ RoundsError.BadRounds → ⊥) → n ≤ 10000) }
-    ensures too_many_facts { IfErr result
-        (λ e. e ≡ RoundsError.TooManyFacts → HasMoreFacts (source checked.now inputs.now.values) n 1000000) }
+    ensures too_many_facts { IfErr result (λ e. e ≡ RoundsError.TooManyFacts
+        → HasMoreFacts (source checked.now inputs.now.values) n 1000000) }
 {
     if n > MAX_ROUNDS {
         return Err(RoundsError::BadRounds);

@@ -9,9 +9,9 @@ ghost use Rattle.id_meaning.specs.Waits.{Goes};
 
 use crate::SourceValue;
 use crate::cells::{Cells, QUEUES, RowFact, learn_again, learn_all};
-use crate::edges::Edges;
 use crate::effects::{add_effects, first_facts};
 use crate::links::{Links, link};
+use crate::queues::Queues;
 use crate::round::{MAX_FACTS, RoundsError};
 use crate::waits::wait_all;
 use id_check::Checked;
@@ -36,7 +36,7 @@ pub fn run(
         return Ok(cells);
     }
     let links = link(alloc, checked)?;
-    let mut waits = Edges::new(alloc, QUEUES)?;
+    let mut waits = Queues::new(alloc, QUEUES)?;
     let mut ahead = Cells::new(alloc)?;
     let mut news = Vec::new(alloc);
     let first = first_facts(alloc, checked, inputs)?;
@@ -49,8 +49,8 @@ pub fn run(
         if news.is_empty() {
             return Ok(ahead);
         }
-        wait_all(&mut waits, checked, news.as_slice())?;
         learn_again(&mut cells, news.as_slice())?;
+        wait_all(&mut waits, checked, &links, &cells, news.as_slice())?;
         let mut next = Vec::new(alloc);
         let room = MAX_FACTS - count;
         learn_effects(
@@ -82,7 +82,7 @@ fn learn_effects(
     room: usize,
     checked: &Checked,
     links: &Links,
-    waits: &Edges,
+    waits: &Queues,
     cells: &Cells,
     facts: &[RowFact],
 ) -> Result<(), AllocError>

@@ -1,47 +1,91 @@
-//! Names that wait for their binders (docs/MEANING.md, "Rules").
+//! Names and loops that wait for binders (docs/MEANING.md, "Rules").
 //!
-//! A name that is On waits in a queue for its binder, so that a value leads to the names alone that are On.
+//! A name that is On waits in a queue for its binder, and a loop for those of its variables' names outside, so that a
+//! value leads to those alone that are On.
 
 ghost use Rattle.std.specs.Prelude.{[], ◌∷◌, OnOk};
 ghost use Rattle.id_meaning.specs.Waits.{Waits, WaitsFor};
 
-use crate::cells::{RowFact, queue_of};
-use crate::edges::Edges;
-use crate::links::awaited;
+use crate::cells::{Cells, RowFact, Trail, queue_of};
+use crate::links::{Links, awaited, distance};
+use crate::params::node_of;
+use crate::queues::{Queues, Wait};
 use id_check::Checked;
+use id_parts::Node;
 use std::alloc::AllocError;
 
-/// Lets the names that these facts turn On wait for their binders.
-pub fn wait_all(waits: &mut Edges, checked: &Checked, facts: &[RowFact]) -> Result<(), AllocError>
-    ensures { OnOk result (Waits checked.now waits.old waits.new facts.now) }
+/// Lets all wait for their binders that wait where these facts turn rows On.
+pub fn wait_all(
+    waits: &mut Queues,
+    checked: &Checked,
+    links: &Links,
+    cells: &Cells,
+    facts: &[RowFact],
+) -> Result<(), AllocError>
+    ensures { OnOk result (Waits checked.now links.now cells.now waits.old waits.new facts.now) }
 {
     for fact in facts {
-        wait(waits, checked, *fact)?;
+        wait(waits, checked, links, cells, *fact)?;
     }
     Ok(())
 }
 
-/// Lets the row wait that this fact turns On, if it is a name.
-fn wait(waits: &mut Edges, checked: &Checked, fact: RowFact) -> Result<(), AllocError>
-    ensures { OnOk result (Waits checked.now waits.old waits.new (fact ∷ [])) }
+/// Lets all wait that wait where this fact turns a row On.
+fn wait(
+    waits: &mut Queues,
+    checked: &Checked,
+    links: &Links,
+    cells: &Cells,
+    fact: RowFact,
+) -> Result<(), AllocError>
+    ensures { OnOk result (Waits checked.now links.now cells.now waits.old waits.new (fact ∷ [])) }
 {
     match fact {
-        RowFact::On { path, row } => wait_for(waits, path, row, awaited(checked, row)),
+        RowFact::On { path, row } => match node_of(checked, row) {
+            Node::Name { .. } => wait_for(waits, checked, cells, path, row, row),
+            Node::Loop { head, .. } => {
+                wait_each(waits, checked, cells, path, row, links.args.of(head))
+            }
+            _ => Ok(()),
+        },
         RowFact::Has { .. } => Ok(()),
     }
 }
 
-/// Lets the row wait at the path for this binder, if there is one.
-fn wait_for(
-    waits: &mut Edges,
-    path: usize,
+/// Lets these wait where the row is On at the path.
+fn wait_each(
+    waits: &mut Queues,
+    checked: &Checked,
+    cells: &Cells,
+    path: Trail,
     row: usize,
-    binder: Option<usize>,
+    users: &[usize],
 ) -> Result<(), AllocError>
-    ensures { OnOk result (WaitsFor waits.old waits.new path row binder) }
+    ensures { OnOk result (WaitsFor checked.now cells.now waits.old waits.new path row users.now) }
 {
+    for user in users {
+        wait_for(waits, checked, cells, path, row, *user)?;
+    }
+    Ok(())
+}
+
+/// Lets this one wait for its binder, if there is one.
+fn wait_for(
+    waits: &mut Queues,
+    checked: &Checked,
+    cells: &Cells,
+    path: Trail,
+    row: usize,
+    user: usize,
+) -> Result<(), AllocError>
+    ensures { OnOk result (WaitsFor checked.now cells.now waits.old waits.new path row (user ∷ [])) }
+{
+    let binder = awaited(checked, user);
     match binder {
-        Some(binder) => waits.add(queue_of(path, binder), row),
+        Some(there) => {
+            let outside = cells.out_of(path, distance(checked, row, binder));
+            waits.add(queue_of(outside, there), Wait { path, row, user })
+        }
         None => Ok(()),
     }
 }

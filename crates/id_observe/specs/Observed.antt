@@ -1,5 +1,5 @@
 -- What a run shows (docs/MACHINE.md, "Observed").
-use Rattle.std.specs.Prelude.{ℕ, Bool, false, ◌&&◌, ◌==◌, count_by, List, map, Option, Some, None, slice_get}
+use Rattle.std.specs.Prelude.{ℕ, Bool, true, false, not, ◌&&◌, ◌==◌, count_by, List, map, Option, Some, None, slice_get}
 use Rattle.std.specs.Prelude.{option_and_then, if◌then◌else◌}
 use Rattle.std.specs.List.{filter_map, flat_map}
 use Rattle.id_graph.specs.declared.instr.Op.{Op}
@@ -77,10 +77,20 @@ abbrev pub is_value_merge : Op → Bool
 is_value_merge (op.Merge k) = is_value k
 is_value_merge _ = false
 
--- whether the instruction is a label: a merge for values of the source whose place no other instruction has
+-- whether the operator is a `next`
+abbrev pub is_next : Op → Bool
+is_next (op.Next k) = true
+is_next _ = false
+
+-- whether the instruction has the place, and is no `next`: that of a loop variable has the place of its entry
+abbrev pub claims : ℕ → Instr → Bool
+claims p i = (i.place == p) && not (is_next i.op)
+
+-- whether the instruction is a label: a merge for values of the source whose place no other instruction has, save a
+-- `next`
 abbrev pub is_label_of : Parts → Option Instr → Bool
 is_label_of g None = false
-is_label_of g (Some i) = is_value_merge i.op && (count_by (λ j. j.place == i.place) g.instrs == 1)
+is_label_of g (Some i) = is_value_merge i.op && (count_by (claims i.place) g.instrs == 1)
 
 -- whether the instruction of this number is a label
 abbrev pub is_label : Parts → ℕ → Bool

@@ -5,9 +5,9 @@ ghost use Rattle.std.specs.Prelude.{IfOk, OnOk, None, if◌then◌else◌};
 ghost use Rattle.std.specs.HashMap.{get};
 ghost use Rattle.std.specs.List.{cons_option, filter_map};
 ghost use Rattle.id_valid.specs.Validator.{is_value};
-ghost use Rattle.id_observe.specs.Observed.{answer_in, answers, brought, events_of, fault_of, faults_in, faults_of};
-ghost use Rattle.id_observe.specs.Observed.{is_label, is_value_merge, label_marks, main_tag, name_at, name_in};
-ghost use Rattle.id_observe.specs.Observed.{names_in, names_of, source_value};
+ghost use Rattle.id_observe.specs.Observed.{answer_in, answers, brought, claims, events_of, fault_of, faults_in};
+ghost use Rattle.id_observe.specs.Observed.{faults_of, is_label, is_next, is_value_merge, label_marks, main_tag};
+ghost use Rattle.id_observe.specs.Observed.{name_at, name_in, names_in, names_of, source_value};
 ghost use Rattle.id_observe.specs.Paths.{path_by, place_of};
 
 use crate::paths::Paths;
@@ -96,16 +96,24 @@ fn is_counted_label(counts: &HashMap<usize, u32>, instr: &Instr) -> bool
     is_value_merge(instr.op) && counts.get(&instr.place).copied().unwrap_or(0) == 1
 }
 
-/// How many instructions have each place.
+/// How many instructions have each place, `next` aside.
 fn counts_by_place(alloc: Global, graph: &Graph) -> Result<HashMap<usize, u32>, AllocError>
-    ensures { IfOk result
-        (λ m. (p : ℕ) → unwrap_or (get nat_eq m p) 0 ≡ count_by (λ i. i.place == p) graph.now.instrs) }
+    ensures { IfOk result (λ m. (p : ℕ) → unwrap_or (get nat_eq m p) 0 ≡ count_by (claims p) graph.now.instrs) }
 {
     let mut counts = HashMap::new(alloc);
     for instr in graph.instrs() {
-        *counts.entry(instr.place)?.or_insert(0) += 1;
+        if !is_next(instr.op) {
+            *counts.entry(instr.place)?.or_insert(0) += 1;
+        }
     }
     Ok(counts)
+}
+
+/// Whether the instruction is a `next`.
+fn is_next(op: Op) -> bool
+    ensures { result ≡ is_next op }
+{
+    matches!(op, Op::Next(_))
 }
 
 /// Whether the instruction is a merge for values of the source.

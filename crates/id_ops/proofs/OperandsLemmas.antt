@@ -1,5 +1,5 @@
 -- Lemmas on specs/Operands.antt, in the order of its definitions.
-use Rattle.std.proofs.Common.{ℕ, ◌≡◌, ◌≢◌, Bool, true, false, cond, Some, refl, sym, ap, subst}
+use Rattle.std.proofs.Common.{ℕ, ◌+◌, ◌≡◌, ◌≢◌, Bool, true, false, cond, Some, refl, sym, ap, subst}
 use Rattle.std.specs.Prelude.{neg_ℤ}
 use Rattle.id_value.specs.declared.Constant.{Constant}
 use Rattle.id_value.specs.declared.Constant.TheVariants as constant
@@ -14,7 +14,7 @@ use Rattle.id_graph.specs.declared.instr.PortKind.TheVariants as kind
 use Rattle.id_graph.specs.declared.instr.Dyadic.{Dyadic}
 use Rattle.id_graph.specs.declared.instr.Dyadic.TheVariants as class
 use Rattle.id_graph.specs.declared.instr.Op.{Op}
-use Rattle.id_graph.specs.declared.instr.Op.TheVariants.{Const, Unary, Binary, Merge, Switch, Back, Enter, Send}
+use Rattle.id_graph.specs.declared.instr.Op.TheVariants.{Const, Unary, Binary, Merge, Switch, Back, Enter, Send, Next, Reset}
 use Rattle.id_graph.specs.Ports.{sends}
 use Rattle.id_tag.specs.Kinds.{kind_of, same_kind}
 use Rattle.id_tag.specs.declared.Context.{Context}
@@ -25,8 +25,8 @@ use Rattle.id_ops.specs.declared.Fresh.{Fresh}
 use Rattle.id_ops.specs.declared.Operands.{Operands}
 use Rattle.id_ops.specs.declared.Operands.TheVariants.{One, Two}
 use Rattle.id_ops.specs.declared.Fired.{Fired}
-use Rattle.id_ops.specs.declared.Fired.TheVariants.{Out, Side, Sent, Nothing}
-use Rattle.id_ops.specs.Operators.{fired_by, fired_const, fired_unary, fired_binary, fired_merge, fired_switch, fired_back, fired_enter, tag_within, fired_send, fired}
+use Rattle.id_ops.specs.declared.Fired.TheVariants.{Out, Side, Moved, Sent, Nothing}
+use Rattle.id_ops.specs.Operators.{fired_by, fired_const, fired_unary, fired_binary, fired_merge, fired_switch, fired_back, fired_enter, tag_within, fired_send, fired_next, fired_reset, fired}
 use Rattle.id_ops.specs.Operands.{IsOfKind, Suits}
 
 -- ---- the test of a kind
@@ -151,6 +151,14 @@ fires_send k n (Two (Truth b) v) h e = let z = h.0 in cc
 fires_send k n (Two (Continuation u) v) h e = let z = h.0 in cc
 fires_send k n (One v) h e = let z = h.1 in cc
 
+fires_next : (k : PortKind) (i : ℕ) (o : Operands) → Suits (Next k) o → fired_next k i o ≢ Nothing
+fires_next k i (One v) h e = passes v k (Moved (i + 1) v) h.0 (λ x. cc) e
+fires_next k i (Two v w) h e = let z = h.1 in cc
+
+fires_reset : (k : PortKind) (o : Operands) → Suits (Reset k) o → fired_reset k o ≢ Nothing
+fires_reset k (One v) h e = passes v k (Moved 0 v) h.0 (λ x. cc) e
+fires_reset k (Two v w) h e = let z = h.1 in cc
+
 pub fires-from_Suits : (op : Op) (t : Tag) (o : Operands) (fresh : Fresh) → Suits op o → fired op t o fresh ≢ Nothing
 fires-from_Suits (Const c) t o fresh = fires_const c o
 fires-from_Suits (Unary a) t o fresh = fires_unary a o
@@ -160,6 +168,8 @@ fires-from_Suits (Switch k) t o fresh = fires_switch k o
 fires-from_Suits (Back k) t o fresh = fires_back k o
 fires-from_Suits (Enter b r) t o fresh = fires_enter b r fresh.context o
 fires-from_Suits (Send k n) t o fresh = fires_send k n o
+fires-from_Suits (Next k) t o fresh = fires_next k t.iteration o
+fires-from_Suits (Reset k) t o fresh = fires_reset k o
 
 -- ---- operands with which an operator does something suit it
 
@@ -198,6 +208,14 @@ suits_send : (k : PortKind) (n : ℕ) (o : Operands) → fired_send k n o ≢ No
 suits_send k n (Two (Opened c) v) h = (refl, passed v k (Sent (tag_within c n) v) h)
 suits_send k n _ h = absurd (h refl)
 
+suits_next : (k : PortKind) (i : ℕ) (o : Operands) → fired_next k i o ≢ Nothing → Suits (Next k) o
+suits_next k i (One v) h = (passed v k (Moved (i + 1) v) h, refl)
+suits_next k i (Two v w) h = absurd (h refl)
+
+suits_reset : (k : PortKind) (o : Operands) → fired_reset k o ≢ Nothing → Suits (Reset k) o
+suits_reset k (One v) h = (passed v k (Moved 0 v) h, refl)
+suits_reset k (Two v w) h = absurd (h refl)
+
 pub Suits-from_fires : (op : Op) (t : Tag) (o : Operands) (fresh : Fresh) → fired op t o fresh ≢ Nothing → Suits op o
 Suits-from_fires (Const c) t o fresh = suits_const c o
 Suits-from_fires (Unary a) t o fresh = suits_unary a o
@@ -207,6 +225,8 @@ Suits-from_fires (Switch k) t o fresh = suits_switch k o
 Suits-from_fires (Back k) t o fresh = suits_back k o
 Suits-from_fires (Enter b r) t o fresh = suits_enter b r fresh.context o
 Suits-from_fires (Send k n) t o fresh = suits_send k n o
+Suits-from_fires (Next k) t o fresh = suits_next k t.iteration o
+Suits-from_fires (Reset k) t o fresh = suits_reset k o
 
 -- ---- what an operator sends is of the kind that is said
 
@@ -252,6 +272,14 @@ kind_send : (k : PortKind) (n : ℕ) (o : Operands) → IsOfKind (Send k n) (fir
 kind_send k n (Two (Opened c) v) = of_kind (Send k n) v k (Sent (tag_within c n) v) (λ e. e)
 kind_send k n _ = tt
 
+kind_next : (k : PortKind) (i : ℕ) (o : Operands) → IsOfKind (Next k) (fired_next k i o)
+kind_next k i (One v) = of_kind (Next k) v k (Moved (i + 1) v) (λ e. e)
+kind_next k i (Two v w) = tt
+
+kind_reset : (k : PortKind) (o : Operands) → IsOfKind (Reset k) (fired_reset k o)
+kind_reset k (One v) = of_kind (Reset k) v k (Moved 0 v) (λ e. e)
+kind_reset k (Two v w) = tt
+
 pub IsOfKind-fired : (op : Op) (t : Tag) (o : Operands) (fresh : Fresh) → IsOfKind op (fired op t o fresh)
 IsOfKind-fired (Const c) t o fresh = kind_const c o
 IsOfKind-fired (Unary a) t o fresh = kind_unary a o
@@ -261,3 +289,5 @@ IsOfKind-fired (Switch k) t o fresh = kind_switch k o
 IsOfKind-fired (Back k) t o fresh = kind_back k o
 IsOfKind-fired (Enter b r) t o fresh = kind_enter b r fresh.context o
 IsOfKind-fired (Send k n) t o fresh = kind_send k n o
+IsOfKind-fired (Next k) t o fresh = kind_next k t.iteration o
+IsOfKind-fired (Reset k) t o fresh = kind_reset k o

@@ -8,7 +8,7 @@ use Rattle.id_tag.specs.Kinds.{kind_of}
 use Rattle.id_ops.specs.declared.Operands.{Operands}
 use Rattle.id_ops.specs.declared.Operands.TheVariants.{One, Two}
 use Rattle.id_ops.specs.declared.Fired.{Fired}
-use Rattle.id_ops.specs.declared.Fired.TheVariants.{Out, Side, Entered, Sent, Failed, Nothing}
+use Rattle.id_ops.specs.declared.Fired.TheVariants.{Out, Side, Moved, Entered, Sent, Failed, Nothing}
 
 -- there is one operand for each port of the operator, of the kind that the port takes
 abbrev pub Suits : Op → Operands → Type 0
@@ -20,6 +20,7 @@ Suits op (Two v w) = (port_kind op Zero ≡ Some (kind_of v)) × (port_kind op O
 abbrev pub IsOfKind : Op → Fired → Type 0
 IsOfKind op (Out v) = sends op ≡ Some (kind_of v)
 IsOfKind op (Side b v) = (sends op ≡ Some (kind_of v)) × IsTrue (two_sides op)
+IsOfKind op (Moved i v) = sends op ≡ Some (kind_of v)
 IsOfKind op (Entered c) = sends op ≡ Some Context
 IsOfKind op (Sent _ v) = port_kind op OnePort ≡ Some (kind_of v)
 IsOfKind op (Failed _) = Unit {0}

@@ -1,5 +1,5 @@
 -- What each operator does with its operands (docs/MACHINE.md, "Firing").
-use Rattle.std.specs.Prelude.{ℕ, Bool as Truth, true, if◌then◌else◌}
+use Rattle.std.specs.Prelude.{ℕ, ◌+◌, Bool as Truth, true, if◌then◌else◌}
 use Rattle.id_value.specs.declared.Constant.{Constant}
 use Rattle.id_value.specs.declared.Constant.TheVariants as constant
 use Rattle.id_value.specs.declared.UnaryOp.{UnaryOp}
@@ -10,7 +10,8 @@ use Rattle.id_graph.specs.declared.instr.PortKind.{PortKind}
 use Rattle.id_graph.specs.declared.instr.Dyadic.{Dyadic}
 use Rattle.id_graph.specs.declared.instr.Dyadic.TheVariants as class
 use Rattle.id_graph.specs.declared.instr.Op.{Op}
-use Rattle.id_graph.specs.declared.instr.Op.TheVariants.{Const, Unary, Binary, Merge, Switch, Back, Enter, Send}
+use Rattle.id_graph.specs.declared.instr.Op.TheVariants.{Const, Unary, Binary, Merge, Switch, Back, Enter, Send, Next}
+use Rattle.id_graph.specs.declared.instr.Op.TheVariants.{Reset}
 use Rattle.id_tag.specs.Kinds.{kind_of, same_kind}
 use Rattle.id_tag.specs.declared.Context.{Context}
 use Rattle.id_tag.specs.declared.Tag.{Tag}
@@ -20,7 +21,7 @@ use Rattle.id_ops.specs.declared.Operands.{Operands}
 use Rattle.id_ops.specs.declared.Operands.TheVariants.{One, Two}
 use Rattle.id_ops.specs.declared.Fresh.{Fresh}
 use Rattle.id_ops.specs.declared.Fired.{Fired}
-use Rattle.id_ops.specs.declared.Fired.TheVariants.{Out, Side, Entered, Sent, Failed, Nothing}
+use Rattle.id_ops.specs.declared.Fired.TheVariants.{Out, Side, Moved, Entered, Sent, Failed, Nothing}
 
 -- the constant as a value
 abbrev pub constant_value : Constant → Value
@@ -80,6 +81,16 @@ abbrev pub fired_send : PortKind → ℕ → Operands → Fired
 fired_send k n (Two (Opened c) v) = if same_kind (kind_of v) k then Sent (tag_within c n) v else Nothing
 fired_send k n _ = Nothing
 
+-- `next`: a value of its kind goes out at the next iteration
+abbrev pub fired_next : PortKind → ℕ → Operands → Fired
+fired_next k i (One v) = if same_kind (kind_of v) k then Moved (i + 1) v else Nothing
+fired_next k i (Two _ _) = Nothing
+
+-- `reset`: a value of its kind goes out at iteration 0
+abbrev pub fired_reset : PortKind → Operands → Fired
+fired_reset k (One v) = if same_kind (kind_of v) k then Moved 0 v else Nothing
+fired_reset k (Two _ _) = Nothing
+
 -- what the operator does under a tag, with its operands and the next numbers of the element
 abbrev pub fired : Op → Tag → Operands → Fresh → Fired
 fired (Const c) t operands fresh = fired_const c operands
@@ -90,11 +101,14 @@ fired (Switch k) t operands fresh = fired_switch k operands
 fired (Back k) t operands fresh = fired_back k operands
 fired (Enter b r) t operands fresh = fired_enter fresh.context operands
 fired (Send k n) t operands fresh = fired_send k n operands
+fired (Next k) t operands fresh = fired_next k t.iteration operands
+fired (Reset k) t operands fresh = fired_reset k operands
 
 -- the side to which a firing sends: the true side, unless a switch goes to the false side
 abbrev pub side_of : Fired → Truth
 side_of (Out v) = true
 side_of (Side b v) = b
+side_of (Moved i v) = true
 side_of (Entered c) = true
 side_of (Sent t v) = true
 side_of (Failed k) = true

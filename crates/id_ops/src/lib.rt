@@ -7,11 +7,14 @@
 //! `id_element`).
 #![tactic(auto)]
 
-ghost use Rattle.std.specs.Prelude.{◌≡◌, ◌≢◌};
+ghost use Rattle.std.specs.Prelude.{◌≡◌, ◌≢◌, ◌<◌, ◌-◌, ◌^◌};
+ghost use Rattle.id_graph.specs.declared.instr.Op.TheVariants.{Next};
+ghost use Rattle.id_graph.specs.declared.instr.PortKind.{PortKind};
 ghost use Rattle.id_ops.specs.declared.Fired.TheVariants.{Nothing};
 ghost use Rattle.id_ops.specs.Operands.{Suits, IsOfKind};
 ghost use Rattle.id_ops.specs.Operators.{constant_value, fired_by, fired_const, fired_unary, fired_binary, fired_merge};
-ghost use Rattle.id_ops.specs.Operators.{fired_switch, fired_back, fired_enter, tag_within, fired_send, fired};
+ghost use Rattle.id_ops.specs.Operators.{fired_switch, fired_back, fired_enter, tag_within, fired_send, fired_next};
+ghost use Rattle.id_ops.specs.Operators.{fired_reset, fired};
 
 use id_graph::{Dyadic, Instr, Op, PortKind};
 use id_tag::{Context, Tag, Value};
@@ -40,6 +43,8 @@ pub enum Fired {
     Out(Value),
     /// The value goes to each destination on this side, under the tag of the operands.
     Side(bool, Value),
+    /// The value goes to each destination at this iteration, in the context of the operands.
+    Moved(u64, Value),
     /// A block is entered in this fresh context, which goes to each destination under the tag of the
     /// operands.
     Entered(Context),
@@ -51,10 +56,11 @@ pub enum Fired {
     Nothing,
 }
 
-/// What the instruction does under this tag with its operands. No operator looks at the tag yet, and
-/// of the next numbers `enter` looks at the next context alone. Takes no memory (docs/MACHINE.md,
-/// "Firing").
+/// What the instruction does under this tag with its operands. `next` alone looks at the tag, for its
+/// iteration, which is to have a next one; of the next numbers `enter` looks at the next context alone.
+/// Takes no memory (docs/MACHINE.md, "Firing").
 pub fn fire(instr: &Instr, tag: Tag, operands: Operands, fresh: Fresh) -> Fired
+    requires { (k : PortKind) → instr.now.op ≡ Next k → tag.iteration < 2 ^ 64 - 1 }
     ensures table { result ≡ fired instr.now.op tag operands fresh }
 
     // Operands that the ports take fire, and no others; what is sent is of the kind that is said.
@@ -67,6 +73,7 @@ pub fn fire(instr: &Instr, tag: Tag, operands: Operands, fresh: Fresh) -> Fired
 
 // By the operator alone.
 fn fire_op(op: Op, tag: Tag, operands: Operands, fresh: Fresh) -> Fired
+    requires { (k : PortKind) → op ≡ Next k → tag.iteration < 2 ^ 64 - 1 }
     ensures { result ≡ fired op tag operands fresh }
 {
     match op {
@@ -78,6 +85,8 @@ fn fire_op(op: Op, tag: Tag, operands: Operands, fresh: Fresh) -> Fired
         Op::Back(kind) => fire_back(kind, operands),
         Op::Enter { .. } => fire_enter(fresh.context, operands),
         Op::Send { kind, target } => fire_send(kind, target, operands),
+        Op::Next(kind) => fire_next(kind, tag.iteration, operands),
+        Op::Reset(kind) => fire_reset(kind, operands),
     }
 }
 
@@ -188,6 +197,25 @@ fn fire_send(kind: PortKind, target: u32, operands: Operands) -> Fired
         Operands::Two(Value::Context(context), value) if value.has_kind(kind) => {
             Fired::Sent(tag_within(context, target), value)
         }
+        _ => Fired::Nothing,
+    }
+}
+
+fn fire_next(kind: PortKind, iteration: u64, operands: Operands) -> Fired
+    requires { iteration < 2 ^ 64 - 1 }
+    ensures { result ≡ fired_next kind iteration operands }
+{
+    match operands {
+        Operands::One(value) if value.has_kind(kind) => Fired::Moved(iteration + 1, value),
+        _ => Fired::Nothing,
+    }
+}
+
+fn fire_reset(kind: PortKind, operands: Operands) -> Fired
+    ensures { result ≡ fired_reset kind operands }
+{
+    match operands {
+        Operands::One(value) if value.has_kind(kind) => Fired::Moved(0, value),
         _ => Fired::Nothing,
     }
 }

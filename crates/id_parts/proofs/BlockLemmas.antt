@@ -5,7 +5,7 @@ use Rattle.std.proofs.lemmas.Bool.Decides.{nat_tests}
 use Rattle.std.specs.Prelude.{nat_lt, nat_le}
 use Rattle.id_parts.specs.declared.row.Row.{Row}
 use Rattle.id_parts.specs.Rows.{at}
-use Rattle.id_parts.specs.Tables.{around, is_block, is_binding}
+use Rattle.id_parts.specs.Tables.{around, has_statements, is_binding}
 use Rattle.id_parts.specs.Turns.{in_block, IsStatement}
 
 or_false : (a b : Bool) → a ≡ false → b ≡ false → a || b ≡ false
@@ -53,7 +53,7 @@ module _ (R : List Row) where
   pub in_block-before : (i v : ℕ) → v ≤ suc i → in_block R i v ≡ false
   in_block-before i zero h = refl
   in_block-before i (suc v) h = or_false (in_block R i v) _ (in_block-before i v (omega arith))
-      (and_false (is_block (at R v).node) (around R v i) (around-before v i (omega arith)))
+      (and_false (has_statements (at R v).node) (around R v i) (around-before v i (omega arith)))
 
   -- rows that begin behind it are not round it
   pub in_block-behind : (i u v : ℕ) → u ≤ v → in_block R i u ≡ false → ((k : ℕ) → u ≤ k → k < v → i < (at R k).first) → in_block R i v ≡ false
@@ -61,7 +61,7 @@ module _ (R : List Row) where
   in_block-behind i u (suc v) h e f = elim (cases_lt v u) [
     | inl l ↦ let same : suc v ≡ u = omega arith in ap (in_block R i) same ∙ e
     | inr l ↦ or_false (in_block R i v) _ (in_block-behind i u v l e (λ k a b. f k a (omega arith)))
-        (and_false (is_block (at R v).node) (around R v i) (around-behind v i (f v l (omega arith))))
+        (and_false (has_statements (at R v).node) (around R v i) (around-behind v i (f v l (omega arith))))
   ]
 
   pub in_block-more : (i u v : ℕ) → u ≤ v → in_block R i u ≡ true → in_block R i v ≡ true
@@ -71,13 +71,14 @@ module _ (R : List Row) where
     | inr l ↦ or_left (in_block R i v) _ (in_block-more i u v l e)
   ]
 
-  pub in_block-here : (i v : ℕ) → is_block (at R v).node ≡ true → (at R v).first ≤ i → i < v → in_block R i (suc v) ≡ true
-  in_block-here i v b f l = or_true (in_block R i v) _ (and_true (is_block (at R v).node) (around R v i) b (around-true v i f l))
+  pub in_block-here : (i v : ℕ) → has_statements (at R v).node ≡ true → (at R v).first ≤ i → i < v → in_block R i (suc v) ≡ true
+  in_block-here i v b f l = or_true (in_block R i v) _ (and_true (has_statements (at R v).node) (around R v i) b (around-true v i f l))
 
   -- a binding that has a block round it stands right in one
   pub statement_of : (b v : ℕ) → v ≤ length R → is_binding (at R b).node ≡ true → in_block R b v ≡ true → (s : ℕ) × (s < length R) × IsStatement R s b
   statement_of b zero h n e = absurd (false≢true e)
   statement_of b (suc v) h n e = elim (or_cases (in_block R b v) _ e) [
     | inl i ↦ statement_of b v (omega arith) n i
-    | inr p ↦ let a = and_both (is_block (at R v).node) (around R v b) p.1 in (v, omega arith, record { block = a.0; binding = n; inside = a.1; right = p.0 })
+    | inr p ↦ let a = and_both (has_statements (at R v).node) (around R v b) p.1 in
+        (v, omega arith, record { block = a.0; binding = n; inside = a.1; right = p.0 })
   ]

@@ -11,9 +11,9 @@ use Rattle.id_parts.specs.declared.row.Row.{Row}
 use Rattle.id_parts.specs.declared.row.Node.{Node}
 use Rattle.id_parts.specs.declared.row.Node.TheVariants.{Param, Program}
 use Rattle.id_parts.specs.Rows.{at}
-use Rattle.id_parts.specs.Tables.{HasNear, around, is_def, is_head, is_param}
+use Rattle.id_parts.specs.Tables.{is_def, is_head, is_param}
 use Rattle.id_parts.specs.Turns.{AreParamsOf, IsDefOf, IsTable, Rising, heads_below, heads_of, params_at, params_below}
-use Rattle.id_parts.proofs.BlockLemmas.{and_both, and_true, around-true}
+use Rattle.id_parts.proofs.BlockLemmas.{and_both, and_true}
 
 -- the numbers below n that pass a test, rising
 abbrev chosen : (ℕ → Bool) → ℕ → List ℕ
@@ -118,8 +118,9 @@ not_last R t f e i l p = elim (cases_lt (i + 1) (length R)) [
 pub block_within : (R : List Row) → IsTable R → (i n : ℕ) → i + 1 < length R → IsDefOf R n (at R i).block → ((at R i).block ≤ i) × (i ≤ n)
 block_within R t i n l d =
     let own = t.def_of i l in
-    let same = t.one_def own.0 n (at R i).block own.1 d in
-    ((t.block i l).0, omega (arith, own.2))
+    let head = (t.head_is n d.name (at R i).block d.body d.result d.within d.node).0 in
+    let same = t.one_def own.row n (at R i).block (subst (IsDefOf R own.row) (sym (own.block (ap is_head head))) own.def) d in
+    ((t.block i l).0, omega (arith, own.high))
 
 param_no_end : (n : Node) → is_param n ≡ true → (is_head n ≡ false) × (is_def n ≡ false)
 param_no_end (Param x k) e = (refl, refl)
@@ -173,19 +174,7 @@ module _ (R : List Row) (t : IsTable R) (h n : ℕ) (d : IsDefOf R n h) where
   param_own : (i : ℕ) → h < i → i ≤ h + ps.count → (is_param (at R i).node && nat_eq (at R i).block h) ≡ true
   param_own i l m =
       let is = ps.param i l m in
-      let end = ps.before in
-      let within : i < length R = omega (arith, d.within) in
-      let own = t.def_of i (not_last R t is_param refl i within is) in
-      let block = (t.block i (not_last R t is_param refl i within is)).0 in
-      and_true (is_param (at R i).node) (nat_eq (at R i).block h) is ((Decides-eqb (at R i).block h).1 (in_block i l m own.0 own.1 own.2 block))
-    where
-      in_block : (i : ℕ) → h < i → i ≤ h + ps.count → (m : ℕ) → IsDefOf R m (at R i).block → i ≤ m → (at R i).block ≤ i → (at R i).block ≡ h
-      in_block i l m k e low high =
-          let within : around R n i ≡ true = around-true R n i (omega (arith, (t.head_is n d.name h d.body d.result d.within d.node).1)) (omega (arith, ps.before)) in
-          let inner = t.inside n i (not_last R t is_def refl n d.within (ap is_def d.node)) within in
-          let own = (t.part_stands n h d.within (subst (λ z. HasNear z h) (sym d.node) (inl refl))).0 in
-          let head = t.head_block h (omega (arith, ps.before, d.within)) (t.head_is n d.name h d.body d.result d.within d.node).0 in
-          inner.0 ∙ sym own ∙ head
+      and_true (is_param (at R i).node) (nat_eq (at R i).block h) is ((Decides-eqb (at R i).block h).1 (ps.block i l m))
 
   below_head : (m : ℕ) → m ≤ suc h → m ≤ length R → params_below R h m ≡ []
   below_head zero l w = refl

@@ -58,6 +58,7 @@ module _ (F : List Row) (s : Stand) (p e n c : ℕ) where
     value = λ h. absurd (false≢true h);
     statements = λ h. absurd (false≢true h);
     at_top = λ h. absurd (false≢true h);
+    heads = λ h. absurd (false≢true h);
     belongs = (n, call);
   }
 
@@ -142,6 +143,7 @@ module _ (F : List Row) (s : Stand) (p e n c : ℕ) where
           value = λ h. absurd (false≢true h);
           statements = λ h. absurd (false≢true h);
           at_top = λ h. absurd (false≢true h);
+          heads = λ h. absurd (false≢true h);
           belongs = arg_in;
         }
 
@@ -276,6 +278,7 @@ module _ (F : List Row) (s : Stand) (p e n c : ℕ) where
       value = λ h. gives_own F s p e n (Call e c) t.call refl refl;
       statements = λ h. absurd (false≢true h);
       at_top = λ h. absurd (false≢true h);
+      heads = λ h. absurd (false≢true h);
       belongs = (enter_of, are_args);
     }
 

@@ -101,6 +101,7 @@ module _ (F : List Row) (s : Stand) (p lo t u x y n : ℕ) (b : Branches F s p l
         value = λ h. absurd (false≢true h);
         statements = λ h. absurd (false≢true h);
         at_top = λ h. absurd (false≢true h);
+        heads = λ h. absurd (false≢true h);
         belongs = (n, is_if_of);
       }
     where
@@ -113,15 +114,15 @@ module _ (F : List Row) (s : Stand) (p lo t u x y n : ℕ) (b : Branches F s p l
       let lies : Lies F s.region (arm_at u side) =
       Lies.in_arm (omega (arith, b.within, then_low, otherwise_low, last_low)) (ap is_split split_node)
       (subst (Lies F s.region) (sym split_stands.1) Lies.here) in
-      RowIs-within F s (arm s u side) lo mid i (at F i) l refl lies (λ e. inr (record {
+      RowIs-within F s (arm s u side) lo mid i (at F i) l (inl refl) lies (λ e. inr (inr (inl (record {
         split = u;
         side = side;
         row = n;
         conditional = is_if_of;
-        region = e;
+        region = e.0;
         among = among;
-        block = split_stands.0 ∙ sym h.block;
-      })) h
+        block = split_stands.0 ∙ sym e.1;
+      })))) h
 
   rows_before : RowsAre F s lo n
   rows_before i c d = elim (cases_lt i u) [
@@ -160,6 +161,7 @@ module _ (F : List Row) (s : Stand) (p lo t u x y n : ℕ) (b : Branches F s p l
         value = λ h. gives_own F s p lo n (If u x y) b.row refl refl;
         statements = λ h. absurd (false≢true h);
         at_top = λ h. absurd (false≢true h);
+        heads = λ h. absurd (false≢true h);
         belongs = (is_split_of, are_arms);
       }
     where

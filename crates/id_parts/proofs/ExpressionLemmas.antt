@@ -7,14 +7,14 @@ use Rattle.id_value.specs.declared.BinaryOp.{BinaryOp}
 use Rattle.id_parts.specs.declared.row.Row.{Row}
 use Rattle.id_parts.specs.declared.row.Stand.{Stand}
 use Rattle.id_parts.specs.declared.row.Node.{Node}
-use Rattle.id_parts.specs.declared.row.Node.TheVariants.{Head, Param, Unary, Binary, Block, Binding, Def}
+use Rattle.id_parts.specs.declared.row.Node.TheVariants.{Head, Param, Unary, Binary, Block, Binding, Def, LoopHead, Variable, Entries, Switches}
 use Rattle.id_parts.specs.Rows.{at, top}
-use Rattle.id_parts.specs.Tables.{HasPart, is_binding, is_block, is_expression, is_param, is_top}
+use Rattle.id_parts.specs.Tables.{HasPart, has_statements, is_binding, is_expression, is_param, is_top}
 use Rattle.id_parts.specs.Turns.{in_block, TurnedIn, Turns}
 use Rattle.id_parts.proofs.BlockLemmas.{around-true, in_block-before, in_block-behind, in_block-here, in_block-more}
 use Rattle.id_parts.proofs.HasLemmas.{row_in}
-use Rattle.id_parts.proofs.RowLemmas.{Fits, Fits-block, Fits-simple, PartIs, RowsAre, RowIs-fits, RowsAre-both, RowsAre-none, RowsAre-suc, is_inner}
-use Rattle.id_parts.proofs.RowLemmas.{is_simple, simple_inner}
+use Rattle.id_parts.proofs.RowLemmas.{Fits, Fits-block, Fits-simple, PartIs, RowsAre, RowIs-fits, RowsAre-both, RowsAre-none, RowsAre-suc, StandsHere, is_plain}
+use Rattle.id_parts.proofs.RowLemmas.{expression_plain, is_simple}
 
 -- an expression is no binding
 no_binding : (n : Node) → is_expression n ≡ true → is_binding n ≡ false
@@ -26,6 +26,10 @@ no_top : (n : Node) → is_expression n ≡ true → is_top n ≡ false
 no_top Head e = absurd (false≢true e)
 no_top (Param x k) e = absurd (false≢true e)
 no_top (Def x h k b) e = absurd (false≢true e)
+no_top (LoopHead t) e = absurd (false≢true e)
+no_top Variable e = absurd (false≢true e)
+no_top Entries e = absurd (false≢true e)
+no_top (Switches t) e = absurd (false≢true e)
 no_top _ e = refl
 
 -- the rows from lo up to hi are those of an expression, the last of which stands right in s
@@ -37,6 +41,7 @@ pub record AreExpression (F : List Row) (s : Stand) (lo hi : ℕ) : Type 0 where
   pub expression : is_expression (at F end).node ≡ true
   pub first : (at F end).first ≡ lo
   pub region : (at F end).region ≡ s.region
+  pub block : (at F end).block ≡ s.block
   pub turned : TurnedIn F s.region end → (i : ℕ) → lo ≤ i → i < hi → is_expression (at F i).node ≡ true → TurnedIn F (at F i).region i
   pub held : (i : ℕ) → lo ≤ i → i < hi → is_binding (at F i).node ≡ true → in_block F i hi ≡ true
 
@@ -56,13 +61,14 @@ pub record AreStatements (F : List Row) (s : Stand) (lo hi : ℕ) : Type 0 where
   pub low : lo ≤ hi
   pub rows : RowsAre F s lo hi
   pub turned : (i : ℕ) → lo ≤ i → i < hi → is_expression (at F i).node ≡ true → ByBinding F s lo hi i
-  pub held : (i : ℕ) → lo ≤ i → i < hi → is_binding (at F i).node ≡ true → ((at F i).region ≡ s.region) ⊎ (in_block F i hi ≡ true)
+  pub held : (i : ℕ) → lo ≤ i → i < hi → is_binding (at F i).node ≡ true → StandsHere F s i ⊎ (in_block F i hi ≡ true)
 
 -- the rows from lo up to hi are those of parameters
 pub record AreParams (F : List Row) (s : Stand) (lo hi : ℕ) : Type 0 where
   pub low : lo ≤ hi
   pub rows : RowsAre F s lo hi
   pub param : (i : ℕ) → lo ≤ i → i < hi → is_param (at F i).node ≡ true
+  pub block : (i : ℕ) → lo ≤ i → i < hi → (at F i).block ≡ s.block
 
 module _ (F : List Row) (s : Stand) where
   -- the last row of an expression is a part
@@ -73,7 +79,7 @@ module _ (F : List Row) (s : Stand) where
         low = h.low;
         before = omega (arith, h.ends);
         expression = h.expression;
-        stands = ((h.rows h.end h.low (omega (arith, h.ends))).block, h.region);
+        stands = (h.block, h.region);
       })
 
   pub PartIs-wider : (lo mid below above a : ℕ) → lo ≤ below → above ≤ mid → PartIs F s below above a → PartIs F s lo mid a
@@ -81,11 +87,11 @@ module _ (F : List Row) (s : Stand) where
       record { low = omega (arith, h.low); before = omega (arith, h.before); expression = h.expression; stands = h.stands }
 
   -- an expression that fits the rows before it
-  pub expression-fits : (p lo i v : ℕ) (n : Node) → at F i ≡ row_in s p lo v n → lo ≤ i → RowsAre F s lo i → is_inner n ≡ true → Fits F s lo i v n
+  pub expression-fits : (p lo i v : ℕ) (n : Node) → at F i ≡ row_in s p lo v n → lo ≤ i → RowsAre F s lo i → is_plain n ≡ true → Fits F s lo i v n
       → is_expression n ≡ true → is_binding n ≡ false
       → (TurnedIn F s.region i → (j : ℕ) → lo ≤ j → j < i → is_expression (at F j).node ≡ true → TurnedIn F (at F j).region j)
       → ((j : ℕ) → lo ≤ j → j < i → is_binding (at F j).node ≡ true → in_block F j (suc i) ≡ true) → AreExpression F s lo (suc i)
-  expression-fits p lo i v n e l rows inner fits expression plain turned held =
+  expression-fits p lo i v n e l rows inner fits expression unbound turned held =
       let region : (at F i).region ≡ s.region = ap (λ (r : Row). r.region) e in
       record {
         end = i;
@@ -95,6 +101,7 @@ module _ (F : List Row) (s : Stand) where
         expression = ap (λ (r : Row). is_expression r.node) e ∙ expression;
         first = ap (λ (r : Row). r.first) e;
         region = region;
+        block = ap (λ (r : Row). r.block) e;
         turned = λ t j b c g. elim (cases_lt j i) [
           | inl f ↦ turned t j b f g
           | inr f ↦ let q : i ≡ j = omega arith in subst (λ k. TurnedIn F (at F k).region k) q (subst (λ r. TurnedIn F r i) (sym region) t)
@@ -102,7 +109,7 @@ module _ (F : List Row) (s : Stand) where
         held = λ j b c g. elim (cases_lt j i) [
           | inl f ↦ held j b f g
           | inr f ↦ let q : j ≡ i = omega arith in
-              absurd (false≢true (sym plain ∙ sym (ap (λ (r : Row). is_binding r.node) e) ∙ sym (ap (λ k. is_binding (at F k).node) q) ∙ g))
+              absurd (false≢true (sym unbound ∙ sym (ap (λ (r : Row). is_binding r.node) e) ∙ sym (ap (λ k. is_binding (at F k).node) q) ∙ g))
         ];
       }
 
@@ -113,7 +120,7 @@ module _ (F : List Row) (s : Stand) where
       → ((j : ℕ) → lo ≤ j → j < i → is_binding (at F j).node ≡ true → in_block F j (suc i) ≡ true) → AreExpression F s lo (suc i)
   simple p lo i n e l rows plain expression parts turned held =
       let fits = Fits-simple F s p lo i n e plain (λ h. absurd (false≢true (sym (no_top n expression) ∙ h))) parts in
-      expression-fits p lo i i n e l rows (simple_inner n plain) fits expression (no_binding n expression) turned held
+      expression-fits p lo i i n e l rows (expression_plain n expression) fits expression (no_binding n expression) turned held
 
   -- an expression without parts
   pub are-leaf : (p lo : ℕ) (n : Node) → at F lo ≡ row_in s p lo lo n → is_simple n ≡ true → is_expression n ≡ true → ((a : ℕ) → HasPart n a → ⊥)
@@ -167,7 +174,7 @@ module _ (F : List Row) (s : Stand) where
       let l : lo ≤ mid = h.low in
       let also : b ≡ g.end = omega (arith, g.ends) in
       let node : (at F i).node ≡ Block b = ap (λ (r : Row). r.node) e in
-      let is : is_block (at F i).node ≡ true = ap is_block node in
+      let is : has_statements (at F i).node ≡ true = ap has_statements node in
       let first : (at F i).first ≡ lo = ap (λ (r : Row). r.first) e in
       let rows = RowsAre-both F s lo mid i l h.rows g.rows in
       expression-fits p lo i v (Block b) e (omega arith) rows refl
@@ -182,7 +189,7 @@ module _ (F : List Row) (s : Stand) where
       (λ t j c d k. elim (cases_lt j mid) [
         | inl f ↦ let by = h.turned j c f k in
             let right = in_block-behind F by.row mid i m by.free (λ q u z. let x = (g.rows q u z).low in omega (arith, by.before)) in
-            by.turned (TurnedIn.part t within (Turns.statement (record {
+            by.turned (TurnedIn.part t within (Turns.statement node (record {
               block = is;
               binding = ap is_binding by.node;
               inside = around-true F i by.row (omega (arith, by.low)) (omega (arith, by.before));
@@ -235,7 +242,8 @@ module _ (F : List Row) (s : Stand) where
         held = λ j c d w. elim (cases_lt j i) [
           | inl f ↦ inr (in_block-more F j i hi (omega arith) (h.held j c f w))
           | inr f ↦ elim (cases_lt j (suc i)) [
-            | inl u ↦ let z : j ≡ i = omega arith in inl (ap (λ k. (at F k).region) z ∙ ap (λ (r : Row). r.region) e)
+            | inl u ↦ let z : j ≡ i = omega arith in
+                inl (ap (λ k. (at F k).block) z ∙ ap (λ (r : Row). r.block) e, ap (λ k. (at F k).region) z ∙ ap (λ (r : Row). r.region) e)
             | inr u ↦ g.held j u d w
           ]
         ];
@@ -253,5 +261,9 @@ module _ (F : List Row) (s : Stand) where
         param = λ j c d. elim (cases_lt j (suc i)) [
           | inl f ↦ let z : j ≡ i = omega arith in ap (λ l. is_param (at F l).node) z ∙ ap (λ (r : Row). is_param r.node) e
           | inr f ↦ g.param j f d
+        ];
+        block = λ j c d. elim (cases_lt j (suc i)) [
+          | inl f ↦ let z : j ≡ i = omega arith in ap (λ l. (at F l).block) z ∙ ap (λ (r : Row). r.block) e
+          | inr f ↦ g.block j f d
         ];
       }

@@ -5,13 +5,17 @@ pub mod PlacesLemmas
 pub mod BlocksLemmas
 pub mod NumbersLemmas
 pub mod RegionLemmas
+pub mod DepthLemmas
 -- For the proofs of this crate alone.
 mod BlockLemmas
 mod CallLemmas
 mod ConditionalLemmas
 mod ExpressionLemmas
 mod HasLemmas
+mod LoopLemmas
 mod MakingLemmas
 mod NamesLemmas
+mod NextLemmas
 mod ParamsLemmas
+mod ProcedureLemmas
 mod RowLemmas

@@ -5,14 +5,16 @@ use Rattle.std.proofs.lemmas.Slice.Eq.{bytes_eq-Decides}
 use Rattle.std.specs.Prelude.{if◌then◌else◌}
 use Rattle.std.specs.Str.{bytes_eq}
 use Rattle.id_list.specs.List.{AllDiffer, Among}
-use Rattle.id_tree.specs.Tree.{Tree, literal, unary, binary, name, conditional, call, block, binding, param, define, none, more}
+use Rattle.id_tree.specs.Tree.{Tree, literal, unary, binary, name, conditional, call, block, loop, binding, next, param, define, none, more}
 use Rattle.id_parts.specs.declared.row.Row.{Row}
 use Rattle.id_parts.specs.declared.row.Stand.{Stand}
-use Rattle.id_parts.specs.declared.row.Node.TheVariants.{Head, Split}
+use Rattle.id_parts.specs.declared.row.Node.TheVariants.{Head, Split, Start, Variable}
 use Rattle.id_parts.specs.Names.{first_names, number_of, with_name}
-use Rattle.id_parts.specs.Rows.{Parts, add, add_arguments, arm, at, in_top, last, parts_of, rows_of, size, with_row}
+use Rattle.id_parts.specs.Rows.{Parts, add, add_arguments, add_nexts, add_variables, arm, at, begin_loop, in_top, last, parts_of, rows_of, size, with_row}
 use Rattle.id_parts.specs.Tables.{AreNamed, name_of}
-use Rattle.id_parts.proofs.HasLemmas.{Has, Has-add, Has-arguments, Has-itself, Has-push, argued, at-push, entered, push-size}
+use Rattle.id_parts.proofs.HasLemmas.{Has, Has-add, Has-arguments, Has-itself, Has-nexts}
+use Rattle.id_parts.proofs.HasLemmas.{Has-push, Has-variables, argued, at-push, entered, push-size}
+use Rattle.id_parts.proofs.HasLemmas.{closed, headed, in_loop, in_side, left_by, nexted, opened, reset, stated, switched, tested, used}
 
 Among-with_name : (xs : List (List ℕ)) (x y : List ℕ) → Among y (with_name xs x) → Among y xs ⊎ (y ≡ x)
 Among-with_name [] x y (inl e) = inr e
@@ -48,6 +50,11 @@ number_of-within (z ∷ xs) x =
       | false ↦ omega arith
     ]
 
+AllDiffer-variables : (t : Tree) (s : Stand) (T : Parts) → AllDiffer T.names → AllDiffer (add_variables s T t).names
+AllDiffer-variables (more (next x a p) b) s T d = AllDiffer-variables b s (with_row T s p (size T) Variable) d
+AllDiffer-variables (more a b) s T d = AllDiffer-variables b s T d
+AllDiffer-variables _ s T d = d
+
 mutual
   AllDiffer-add : (t : Tree) (s : Stand) (T : Parts) → AllDiffer T.names → AllDiffer (add s T t).names
   AllDiffer-add (literal v p) s T d = d
@@ -61,6 +68,10 @@ mutual
       AllDiffer-add y (arm s n false) (add (arm s n true) S x) (AllDiffer-add x (arm s n true) S (AllDiffer-add t s T d))
   AllDiffer-add (call x a p) s T d = AllDiffer-arguments a s p (size T) 0 (entered s T x p) (AllDiffer-with_name T.names x d)
   AllDiffer-add (block a b p) s T d = AllDiffer-add b s (add s T a) (AllDiffer-add a s T d)
+  AllDiffer-add (loop t a l p) s T d =
+      let u = AllDiffer-add t (in_loop T) (begin_loop s T a p) (AllDiffer-variables a (in_loop T) (headed s T p) d) in
+      AllDiffer-add l (in_side s T t a p false) (closed s T t a p) (AllDiffer-nexts a (in_side s T t a p true) 0 (opened s T t a p) u)
+  AllDiffer-add (next x a p) s T d = AllDiffer-with_name (add s T a).names x (AllDiffer-add a s T d)
   AllDiffer-add (binding x a p) s T d = AllDiffer-with_name (add s T a).names x (AllDiffer-add a s T d)
   AllDiffer-add (param x k p) s T d = AllDiffer-with_name T.names x d
   AllDiffer-add (define x a k b p) s T d =
@@ -74,6 +85,12 @@ mutual
   AllDiffer-arguments : (t : Tree) (s : Stand) (p e i : ℕ) (T : Parts) → AllDiffer T.names → AllDiffer (add_arguments s p e i T t).names
   AllDiffer-arguments (more a b) s p e i T d = AllDiffer-arguments b s p e (suc i) (argued s p e i (add s T a)) (AllDiffer-add a s T d)
   AllDiffer-arguments _ s p e i T d = d
+
+  AllDiffer-nexts : (t : Tree) (s : Stand) (i : ℕ) (T : Parts) → AllDiffer T.names → AllDiffer (add_nexts s i T t).names
+  AllDiffer-nexts (more (next x a p) b) s i T d =
+      AllDiffer-nexts b s (suc i) (nexted s i T x a p) (AllDiffer-add a s (used s T x p) (AllDiffer-with_name T.names x d))
+  AllDiffer-nexts (more a b) s i T d = AllDiffer-nexts b s i (add s T a) (AllDiffer-add a s T d)
+  AllDiffer-nexts _ s i T d = d
 
 -- no name stands twice among the names of a table
 pub AllDiffer-parts_of : (t : Tree) → AllDiffer (parts_of t).names
@@ -104,6 +121,11 @@ no_name n x e = cc
 one_name : (n y x : ℕ) → y < n → Some y ≡ Some x → x < n
 one_name n y x l e = let z : y ≡ x = cc in omega arith
 
+variables-longer : (t : Tree) (s : Stand) (T : Parts) → length T.names ≤ length (add_variables s T t).names
+variables-longer (more (next x a p) b) s T = variables-longer b s (with_row T s p (size T) Variable)
+variables-longer (more a b) s T = variables-longer b s T
+variables-longer _ s T = omega arith
+
 mutual
   names-longer : (t : Tree) (s : Stand) (T : Parts) → length T.names ≤ length (add s T t).names
   names-longer (literal v p) s T = omega arith
@@ -123,6 +145,13 @@ mutual
       let m = arguments-longer a s p (size T) 0 (entered s T x p) in
       omega arith
   names-longer (block a b p) s T = let l = names-longer a s T in let m = names-longer b s (add s T a) in omega arith
+  names-longer (loop t a l p) s T =
+      let k = variables-longer a (in_loop T) (headed s T p) in
+      let m = names-longer t (in_loop T) (begin_loop s T a p) in
+      let n = nexts-longer a (in_side s T t a p true) 0 (opened s T t a p) in
+      let o = names-longer l (in_side s T t a p false) (closed s T t a p) in
+      omega arith
+  names-longer (next x a p) s T = let l = names-longer a s T in let m = with_name-longer (add s T a).names x in omega arith
   names-longer (binding x a p) s T = let l = names-longer a s T in let m = with_name-longer (add s T a).names x in omega arith
   names-longer (param x k p) s T = with_name-longer T.names x
   names-longer (define x a k b p) s T =
@@ -144,7 +173,40 @@ mutual
       omega arith
   arguments-longer _ s p e i T = omega arith
 
+  nexts-longer : (t : Tree) (s : Stand) (i : ℕ) (T : Parts) → length T.names ≤ length (add_nexts s i T t).names
+  nexts-longer (more (next x a p) b) s i T =
+      let l = with_name-longer T.names x in
+      let m = names-longer a s (used s T x p) in
+      let n = nexts-longer b s (suc i) (nexted s i T x a p) in
+      omega arith
+  nexts-longer (more a b) s i T = let l = names-longer a s T in let m = nexts-longer b s i (add s T a) in omega arith
+  nexts-longer _ s i T = omega arith
+
 module _ (F : List Row) (n : ℕ) where
+  named_variables : (t : Tree) (s : Stand) (T : Parts) → Has F (add_variables s T t).rows → length (add_variables s T t).names ≤ n
+      → Below F n (size T) (size (add_variables s T t))
+  named_variables (more (next x a p) b) s T h l =
+      let V = with_row T s p (size T) Variable in
+      below-both F n (size T) (size V) (size (add_variables s V b))
+      (below-push F n (size T) T.rows _ (Has-variables F b s V h) (below-none F n (size T)) (no_name n))
+      (named_variables b s V h l)
+  named_variables (more a b) s T h l = named_variables b s T h l
+  named_variables _ s T h l = below-none F n (size T)
+
+  named_begin : (s : Stand) (T : Parts) (ss : Tree) (p : ℕ) → Has F (begin_loop s T ss p).rows → length (begin_loop s T ss p).names ≤ n
+      → Below F n (size T) (size (begin_loop s T ss p))
+  named_begin s T ss p h l =
+      let S = with_row T s p (size T) Start in
+      let H = headed s T p in
+      let V = add_variables (in_loop T) H ss in
+      let v = Has-push F V.rows _ h in
+      let k = Has-variables F ss (in_loop T) H v in
+      below-push F n (size T) V.rows _ h
+      (below-both F n (size T) (size H) (size V)
+      (below-push F n (size T) S.rows _ k (below-push F n (size T) T.rows _ (Has-push F S.rows _ k) (below-none F n (size T)) (no_name n)) (no_name n))
+      (named_variables ss (in_loop T) H v l))
+      (no_name n)
+
   mutual
     named : (t : Tree) (s : Stand) (T : Parts) → Has F (add s T t).rows → length (add s T t).names ≤ n → Below F n (size T) (size (add s T t))
     named (literal v p) s T h l = below-push F n (size T) T.rows _ h (below-none F n (size T)) (no_name n)
@@ -206,6 +268,38 @@ module _ (F : List Row) (n : ℕ) where
         let m = names-longer b s U in
         below-push F n (size T) V.rows _ h (below-both F n (size T) (size U) (size V) (named a s T (Has-add F b s U g) (omega arith)) (named b s U g l))
         (no_name n)
+    named (loop t ss l p) s T h z =
+        let E = begin_loop s T ss p in
+        let U = tested s T t ss p in
+        let W = switched s T t ss p in
+        let B = opened s T t ss p in
+        let N = stated s T t ss p in
+        let C = closed s T t ss p in
+        let L = left_by s T t ss l p in
+        let Z = reset s T t ss l p in
+        let y = Has-push F Z.rows _ h in
+        let m = Has-push F L.rows _ y in
+        let c = Has-add F l (in_side s T t ss p false) C m in
+        let v = Has-push F N.rows _ c in
+        let o = Has-nexts F ss (in_side s T t ss p true) 0 B v in
+        let w = Has-push F W.rows _ o in
+        let u = Has-push F U.rows _ w in
+        let a = names-longer t (in_loop T) E in
+        let b = nexts-longer ss (in_side s T t ss p true) 0 B in
+        let d = names-longer l (in_side s T t ss p false) C in
+        let front = below-both F n (size T) (size E) (size U) (named_begin s T ss p (Has-add F t (in_loop T) E u) (omega arith))
+        (named t (in_loop T) E u (omega arith)) in
+        let middle = below-both F n (size T) (size B) (size N)
+        (below-push F n (size T) W.rows _ o (below-push F n (size T) U.rows _ w front (no_name n)) (no_name n))
+        (named_nexts ss (in_side s T t ss p true) 0 B v (omega arith)) in
+        let all = below-both F n (size T) (size C) (size L) (below-push F n (size T) N.rows _ c middle (no_name n))
+        (named l (in_side s T t ss p false) C m z) in
+        below-push F n (size T) Z.rows _ h (below-push F n (size T) L.rows _ y all (no_name n)) (no_name n)
+    named (next x a p) s T h l =
+        let U = add s T a in
+        let w = number_of-within U.names x in
+        let m = with_name-longer U.names x in
+        below-push F n (size T) U.rows _ h (named a s T (Has-push F U.rows _ h) (omega arith)) (λ y. one_name n (number_of U.names x) y (omega arith))
     named (define x a k b p) s T h l =
         let w = in_top (size T) in
         let H = with_row T w p (size T) Head in
@@ -240,6 +334,30 @@ module _ (F : List Row) (n : ℕ) where
         (below-push F n (size T) U.rows _ g (named a s T (Has-push F U.rows _ g) (omega arith)) (no_name n))
         (named_arguments b s p e (suc i) A h l)
     named_arguments _ s p e i T h l = below-none F n (size T)
+
+    named_nexts : (t : Tree) (s : Stand) (i : ℕ) (T : Parts) → Has F (add_nexts s i T t).rows → length (add_nexts s i T t).names ≤ n
+        → Below F n (size T) (size (add_nexts s i T t))
+    named_nexts (more (next x a p) b) s i T h l =
+        let N = used s T x p in
+        let U = add s N a in
+        let V = nexted s i T x a p in
+        let g = Has-nexts F b s (suc i) V h in
+        let k = Has-push F U.rows _ g in
+        let w = number_of-within T.names x in
+        let q = names-longer a s N in
+        let m = nexts-longer b s (suc i) V in
+        let own : (y : ℕ) → Some (number_of T.names x) ≡ Some y → y < n = λ y. one_name n (number_of T.names x) y (omega arith) in
+        below-both F n (size T) (size V) (size (add_nexts s (suc i) V b))
+        (below-push F n (size T) U.rows _ g
+        (below-both F n (size T) (size N) (size U) (below-push F n (size T) T.rows _ (Has-add F a s N k) (below-none F n (size T)) own)
+        (named a s N k (omega arith)))
+        own)
+        (named_nexts b s (suc i) V h l)
+    named_nexts (more a b) s i T h l =
+        let U = add s T a in
+        let m = nexts-longer b s i U in
+        below-both F n (size T) (size U) (size (add_nexts s i U b)) (named a s T (Has-nexts F b s i U h) (omega arith)) (named_nexts b s i U h l)
+    named_nexts _ s i T h l = below-none F n (size T)
 
 -- each number of a name in a table is that of one of its names
 pub AreNamed-parts_of : (t : Tree) → AreNamed (rows_of t) (parts_of t).names

@@ -1,15 +1,16 @@
 -- No parameters stand in the rows of an expression.
 use Rattle.std.proofs.Common.{◌≡◌, inl, inr, ◌<◌, ◌≤◌, ℕ, suc, true, false, List, [], ◌∷◌, ◌++◌, length, refl, ap, ◌∙◌, arith}
 use Rattle.std.proofs.lemmas.Bool.{cases_lt}
-use Rattle.id_tree.specs.Tree.{Tree, binding}
+use Rattle.id_tree.specs.Tree.{Tree, more, binding, next}
 use Rattle.id_parts.specs.declared.row.Row.{Row}
 use Rattle.id_parts.specs.declared.row.Stand.{Stand}
-use Rattle.id_parts.specs.declared.row.Node.TheVariants.{Split}
-use Rattle.id_parts.specs.Rows.{Parts, add, add_arguments, arm, at, last, size, with_row}
+use Rattle.id_parts.specs.declared.row.Node.TheVariants.{Split, Start, Variable}
+use Rattle.id_parts.specs.Rows.{Parts, add, add_arguments, add_nexts, add_variables, arm, at, begin_loop, last, size, with_row}
 use Rattle.id_parts.specs.Tables.{is_param}
 use Rattle.id_parts.specs.Trees.{IsTree, Expression, Arguments, Statements, by_literal, by_unary, by_binary, by_name, by_conditional}
-use Rattle.id_parts.specs.Trees.{by_call, by_block, no_arguments, more_arguments, no_statements, more_statements}
-use Rattle.id_parts.proofs.HasLemmas.{Has, Has-add, Has-arguments, Has-push, argued, at-push, entered, push-size}
+use Rattle.id_parts.specs.Trees.{by_call, by_block, by_loop, next_statement, no_arguments, more_arguments, no_statements, more_statements}
+use Rattle.id_parts.proofs.HasLemmas.{Has, Has-add, Has-arguments, Has-nexts, Has-push, Has-variables, argued, at-push, entered, push-size}
+use Rattle.id_parts.proofs.HasLemmas.{closed, headed, in_loop, in_side, left_by, nexted, opened, reset, stated, switched, tested, used}
 
 module _ (F : List Row) where
   -- none of the rows from lo up to hi is a parameter
@@ -28,6 +29,27 @@ module _ (F : List Row) where
     | inr l ↦ let q = push-size R r in let z : i ≡ length R = omega arith in
         ap (λ k. is_param (at F k).node) z ∙ ap (λ (x : Row). is_param x.node) (at-push F R r h) ∙ e
   ]
+
+  NoParams-variables : (t : Tree) (s : Stand) (T : Parts) → Has F (add_variables s T t).rows → NoParams (size T) (size (add_variables s T t))
+  NoParams-variables (more (next x a p) b) s T h =
+      let V = with_row T s p (size T) Variable in
+      free-both (size T) (size V) (size (add_variables s V b)) (free-push (size T) T.rows _ (Has-variables F b s V h) refl (free-none (size T)))
+      (NoParams-variables b s V h)
+  NoParams-variables (more a b) s T h = NoParams-variables b s T h
+  NoParams-variables _ s T h = free-none (size T)
+
+  -- the rows before a loop's predicate
+  NoParams-begin : (s : Stand) (T : Parts) (ss : Tree) (p : ℕ) → Has F (begin_loop s T ss p).rows → NoParams (size T) (size (begin_loop s T ss p))
+  NoParams-begin s T ss p h =
+      let S = with_row T s p (size T) Start in
+      let H = headed s T p in
+      let V = add_variables (in_loop T) H ss in
+      let v = Has-push F V.rows _ h in
+      let k = Has-variables F ss (in_loop T) H v in
+      free-push (size T) V.rows _ h refl
+      (free-both (size T) (size H) (size V)
+      (free-push (size T) S.rows _ k refl (free-push (size T) T.rows _ (Has-push F S.rows _ k) refl (free-none (size T))))
+      (NoParams-variables ss (in_loop T) H v))
 
   mutual
     pub NoParams-expression : {t : Tree} (s : Stand) (T : Parts) → IsTree Expression t → Has F (add s T t).rows → NoParams (size T) (size (add s T t))
@@ -71,6 +93,27 @@ module _ (F : List Row) where
         let g = Has-push F V.rows _ h in
         free-push (size T) V.rows _ h refl
         (free-both (size T) (size U) (size V) (NoParams-statements s T d (Has-add F b s U g)) (NoParams-expression s U e g))
+    NoParams-expression s T (by_loop {t} {ss} {l} {p} d e f) h =
+        let E = begin_loop s T ss p in
+        let U = tested s T t ss p in
+        let W = switched s T t ss p in
+        let B = opened s T t ss p in
+        let N = stated s T t ss p in
+        let C = closed s T t ss p in
+        let L = left_by s T t ss l p in
+        let Z = reset s T t ss l p in
+        let z = Has-push F Z.rows _ h in
+        let m = Has-push F L.rows _ z in
+        let c = Has-add F l (in_side s T t ss p false) C m in
+        let n = Has-push F N.rows _ c in
+        let o = Has-nexts F ss (in_side s T t ss p true) 0 B n in
+        let w = Has-push F W.rows _ o in
+        let u = Has-push F U.rows _ w in
+        let front = free-both (size T) (size E) (size U) (NoParams-begin s T ss p (Has-add F t (in_loop T) E u)) (NoParams-expression (in_loop T) E d u) in
+        let middle = free-both (size T) (size B) (size N)
+        (free-push (size T) W.rows _ o refl (free-push (size T) U.rows _ w refl front)) (NoParams-nexts (in_side s T t ss p true) 0 B e n) in
+        let all = free-both (size T) (size C) (size L) (free-push (size T) N.rows _ c refl middle) (NoParams-expression (in_side s T t ss p false) C f m) in
+        free-push (size T) Z.rows _ h refl (free-push (size T) L.rows _ z refl all)
 
     NoParams-arguments : {t : Tree} (s : Stand) (p e i : ℕ) (T : Parts) → IsTree Arguments t → Has F (add_arguments s p e i T t).rows
         → NoParams (size T) (size (add_arguments s p e i T t))
@@ -92,3 +135,31 @@ module _ (F : List Row) where
         free-both (size T) (size V) (size (add s V ss))
         (free-push (size T) U.rows _ g refl (NoParams-expression s T d (Has-push F U.rows _ g)))
         (NoParams-statements s V e h)
+    NoParams-statements s T (next_statement {x} {a} {ss} {p} d e) h =
+        let U = add s T a in
+        let V = add s T (next x a p) in
+        let g = Has-add F ss s V h in
+        free-both (size T) (size V) (size (add s V ss))
+        (free-push (size T) U.rows _ g refl (NoParams-expression s T d (Has-push F U.rows _ g)))
+        (NoParams-statements s V e h)
+
+    NoParams-nexts : {t : Tree} (s : Stand) (i : ℕ) (T : Parts) → IsTree Statements t → Has F (add_nexts s i T t).rows
+        → NoParams (size T) (size (add_nexts s i T t))
+    NoParams-nexts s i T no_statements h = free-none (size T)
+    NoParams-nexts s i T (more_statements {x} {a} {ss} {p} d e) h =
+        let U = add s T a in
+        let V = add s T (binding x a p) in
+        let g = Has-nexts F ss s i V h in
+        free-both (size T) (size V) (size (add_nexts s i V ss))
+        (free-push (size T) U.rows _ g refl (NoParams-expression s T d (Has-push F U.rows _ g)))
+        (NoParams-nexts s i V e h)
+    NoParams-nexts s i T (next_statement {x} {a} {ss} {p} d e) h =
+        let N = used s T x p in
+        let U = add s N a in
+        let V = nexted s i T x a p in
+        let g = Has-nexts F ss s (suc i) V h in
+        let k = Has-push F U.rows _ g in
+        free-both (size T) (size V) (size (add_nexts s (suc i) V ss))
+        (free-push (size T) U.rows _ g refl
+        (free-both (size T) (size N) (size U) (free-push (size T) T.rows _ (Has-add F a s N k) refl (free-none (size T))) (NoParams-expression s N d k)))
+        (NoParams-nexts s (suc i) V e h)

@@ -1,15 +1,17 @@
 -- The places of the things of a table are those of its tree, and they differ.
 use Rattle.std.proofs.Common.{◌≡◌, ◌⊎◌, inl, inr, ◌<◌, ◌≤◌, ℕ, suc, true, false, List, [], ◌∷◌, ◌++◌, length, refl, sym, ap, ◌∙◌, subst, arith}
 use Rattle.std.proofs.lemmas.Bool.{cases_lt, false≢true}
-use Rattle.id_tree.specs.Tree.{Tree, literal, unary, binary, name, conditional, call, block, binding, param, define, none, more}
+use Rattle.id_tree.specs.Tree.{Tree, literal, unary, binary, name, conditional, call, block, loop, binding, next, param, define, none, more}
 use Rattle.id_tree.specs.Distinct.{Apart, Distinct, HasPlace}
 use Rattle.id_parts.specs.declared.row.Row.{Row}
 use Rattle.id_parts.specs.declared.row.Stand.{Stand}
-use Rattle.id_parts.specs.declared.row.Node.TheVariants.{Head, Split, Enter, Program}
+use Rattle.id_parts.specs.declared.row.Node.TheVariants.{Head, Split, Enter, NextUse, Program, Start, Variable}
 use Rattle.id_parts.specs.Names.{first_names, number_of}
-use Rattle.id_parts.specs.Rows.{Parts, add, add_arguments, arm, at, in_top, last, rows_of, size, with_row}
+use Rattle.id_parts.specs.Rows.{Parts, add, add_arguments, add_nexts, add_variables, arm, at, begin_loop, in_top, last, rows_of, size, with_row}
 use Rattle.id_parts.specs.Tables.{AreApart, is_thing}
-use Rattle.id_parts.proofs.HasLemmas.{Has, Has-add, Has-arguments, Has-itself, Has-push, argued, at-push, entered, push-size, row_for}
+use Rattle.id_parts.proofs.HasLemmas.{Has, Has-add, Has-arguments, Has-itself, Has-nexts}
+use Rattle.id_parts.proofs.HasLemmas.{Has-push, Has-variables, argued, at-push, entered, push-size, row_for}
+use Rattle.id_parts.proofs.HasLemmas.{closed, headed, in_loop, in_side, left_by, nexted, opened, reset, stated, switched, tested, used}
 
 pub add-longer : (t : Tree) (s : Stand) (T : Parts) → size T ≤ size (add s T t)
 add-longer t s T = (Has-add (add s T t).rows t s T (Has-itself (add s T t).rows)).within
@@ -59,6 +61,46 @@ module _ (F : List Row) where
     | inr l ↦ f i l c t
   ]
 
+  -- no thing stands in the rows from lo up to hi
+  abbrev Bare : ℕ → ℕ → Type 0
+  Bare lo hi = (i : ℕ) → lo ≤ i → i < hi → is_thing (at F i).node ≡ true → ⊥
+
+  bare-push : (lo : ℕ) (R : List Row) (r : Row) → Has F (R ++ r ∷ []) → is_thing r.node ≡ false → Bare lo (length R) → Bare lo (length (R ++ r ∷ []))
+  bare-push lo R r h e f i b c t = let q = push-size R r in elim (cases_lt i (length R)) [
+    | inl l ↦ f i b l t
+    | inr l ↦ no_thing R r i h e l (omega arith) t
+  ]
+
+  bare-both : (lo mid hi : ℕ) → Bare lo mid → Bare mid hi → Bare lo hi
+  bare-both lo mid hi f g i b c t = elim (cases_lt i mid) [ inl l ↦ f i b l t | inr l ↦ g i l c t ]
+
+  bare-none : (lo : ℕ) → Bare lo lo
+  bare-none lo i b c t = omega arith
+
+  bare-variables : (t : Tree) (s : Stand) (T : Parts) → Has F (add_variables s T t).rows → Bare (size T) (size (add_variables s T t))
+  bare-variables (more (next x a p) b) s T h =
+      let V = with_row T s p (size T) Variable in
+      bare-both (size T) (size V) (size (add_variables s V b)) (bare-push (size T) T.rows _ (Has-variables F b s V h) refl (bare-none (size T)))
+      (bare-variables b s V h)
+  bare-variables (more a b) s T h = bare-variables b s T h
+  bare-variables _ s T h = bare-none (size T)
+
+  bare-begin : (s : Stand) (T : Parts) (ss : Tree) (p : ℕ) → Has F (begin_loop s T ss p).rows → Bare (size T) (size (begin_loop s T ss p))
+  bare-begin s T ss p h =
+      let S = with_row T s p (size T) Start in
+      let H = headed s T p in
+      let V = add_variables (in_loop T) H ss in
+      let v = Has-push F V.rows _ h in
+      let k = Has-variables F ss (in_loop T) H v in
+      bare-push (size T) V.rows _ h refl
+      (bare-both (size T) (size H) (size V)
+      (bare-push (size T) S.rows _ k refl (bare-push (size T) T.rows _ (Has-push F S.rows _ k) refl (bare-none (size T))))
+      (bare-variables ss (in_loop T) H v))
+
+  -- behind rows where none stands
+  placed-bare : (lo mid hi : ℕ) (P : ℕ → Type 0) → Bare lo mid → Placed mid hi P → Placed lo hi P
+  placed-bare lo mid hi P f g i b c t = elim (cases_lt i mid) [ inl l ↦ absurd (f i b l t) | inr l ↦ g i l c t ]
+
   mutual
     placed : (t : Tree) (s : Stand) (T : Parts) → Has F (add s T t).rows → Placed (size T) (size (add s T t)) (HasPlace t)
     placed (literal v p) s T h = placed-leaf T.rows _ h
@@ -99,6 +141,30 @@ module _ (F : List Row) where
         let g = Has-push F V.rows _ h in
         placed-push (size T) (λ q. HasPlace a q ⊎ HasPlace b q) V.rows _ h
         (placed-both (size T) (size U) (size V) (HasPlace a) (HasPlace b) (placed a s T (Has-add F b s U g)) (placed b s U g))
+    placed (loop t a l p) s T h =
+        let E = begin_loop s T a p in
+        let U = tested s T t a p in
+        let W = switched s T t a p in
+        let B = opened s T t a p in
+        let N = stated s T t a p in
+        let C = closed s T t a p in
+        let L = left_by s T t a l p in
+        let Z = reset s T t a l p in
+        let z = Has-push F Z.rows _ h in
+        let m = Has-push F L.rows _ z in
+        let c = Has-add F l (in_side s T t a p false) C m in
+        let n = Has-push F N.rows _ c in
+        let o = Has-nexts F a (in_side s T t a p true) 0 B n in
+        let w = Has-push F W.rows _ o in
+        let u = Has-push F U.rows _ w in
+        let test = placed-bare (size T) (size E) (size U) (HasPlace t) (bare-begin s T a p (Has-add F t (in_loop T) E u)) (placed t (in_loop T) E u) in
+        let front = placed-mark (size T) (HasPlace t) W.rows _ o refl (placed-mark (size T) (HasPlace t) U.rows _ w refl test) in
+        let middle = placed-mark (size B) (HasPlace a) N.rows _ c refl (placed_nexts a (in_side s T t a p true) 0 B n) in
+        let end = placed-mark (size C) (HasPlace l) L.rows _ z refl (placed l (in_side s T t a p false) C m) in
+        placed-push (size T) (λ q. HasPlace t q ⊎ (HasPlace a q ⊎ HasPlace l q)) Z.rows _ h
+        (placed-both (size T) (size B) (size Z) (HasPlace t) (λ q. HasPlace a q ⊎ HasPlace l q) front
+        (placed-both (size B) (size C) (size Z) (HasPlace a) (HasPlace l) middle end))
+    placed (next x a p) s T h = let U = add s T a in placed-push (size T) (HasPlace a) U.rows _ h (placed a s T (Has-push F U.rows _ h))
     placed (define x a k b p) s T h =
         let n = size T in
         let w = in_top n in
@@ -128,6 +194,32 @@ module _ (F : List Row) where
         placed-both (size T) (size A) (size (add_arguments s p e (suc i) A b)) (HasPlace a) (HasPlace b)
         (placed-mark (size T) (HasPlace a) U.rows _ g refl (placed a s T (Has-push F U.rows _ g))) (placed_arguments b s p e (suc i) A h)
     placed_arguments _ s p e i T h = λ j b c t. absurd (omega arith)
+
+    placed_nexts : (t : Tree) (s : Stand) (i : ℕ) (T : Parts) → Has F (add_nexts s i T t).rows
+        → Placed (size T) (size (add_nexts s i T t)) (HasPlace t)
+    placed_nexts (more (next x a p) b) s i T h =
+        let N = used s T x p in
+        let U = add s N a in
+        let V = nexted s i T x a p in
+        let g = Has-nexts F b s (suc i) V h in
+        let k = Has-push F U.rows _ g in
+        let r = row_for T.rows s p (size T) (NextUse (number_of T.names x)) in
+        placed-both (size T) (size V) (size (add_nexts s (suc i) V b)) (HasPlace (next x a p)) (HasPlace b)
+        (placed-push (size T) (HasPlace a) U.rows _ g (placed-behind (HasPlace a) T.rows r (size U) (Has-add F a s N k) refl (placed a s N k)))
+        (placed_nexts b s (suc i) V h)
+    placed_nexts (more a b) s i T h =
+        let U = add s T a in
+        placed-both (size T) (size U) (size (add_nexts s i U b)) (HasPlace a) (HasPlace b) (placed a s T (Has-nexts F b s i U h)) (placed_nexts b s i U h)
+    placed_nexts _ s i T h = λ j b c t. absurd (omega arith)
+
+  placed_next : (s : Stand) (i : ℕ) (T : Parts) (x : List ℕ) (a : Tree) (p : ℕ) → Has F (nexted s i T x a p).rows
+      → Placed (size T) (size (nexted s i T x a p)) (HasPlace (next x a p))
+  placed_next s i T x a p h =
+      let N = used s T x p in
+      let U = add s N a in
+      let r = row_for T.rows s p (size T) (NextUse (number_of T.names x)) in
+      let k = Has-push F U.rows _ h in
+      placed-push (size T) (HasPlace a) U.rows _ h (placed-behind (HasPlace a) T.rows r (size U) (Has-add F a s N k) refl (placed a s N k))
 
   differ-none : (lo hi : ℕ) → hi ≤ lo → Differ lo hi
   differ-none lo hi h i j b c d e t u w = absurd (omega arith)
@@ -173,6 +265,12 @@ module _ (F : List Row) where
   differ-behind R r hi h e f i j b c b' c' t t' z = let q = push-size R r in elim (cases_lt i (length (R ++ r ∷ []))) [
     | inl l ↦ absurd (no_thing R r i h e b (omega arith) t)
     | inr l ↦ elim (cases_lt j (length (R ++ r ∷ []))) [ inl l' ↦ absurd (no_thing R r j h e b' (omega arith) t') | inr l' ↦ f i j l c l' c' t t' z ]
+  ]
+
+  differ-bare : (lo mid hi : ℕ) → Bare lo mid → Differ mid hi → Differ lo hi
+  differ-bare lo mid hi f g i j b c d e t u w = elim (cases_lt i mid) [
+    | inl l ↦ absurd (f i b l t)
+    | inr l ↦ elim (cases_lt j mid) [ inl m ↦ absurd (f j d m u) | inr m ↦ g i j l c m e t u w ]
   ]
 
   mutual
@@ -229,6 +327,42 @@ module _ (F : List Row) where
         let V = add s U b in
         let k = Has-push F V.rows _ h in
         differ-two a b s T _ h d.0 d.1 d.2 (differ a s T (Has-add F b s U k) d.3) (differ b s U k d.4)
+    differ (loop t a l p) s T h d =
+        let E = begin_loop s T a p in
+        let U = tested s T t a p in
+        let W = switched s T t a p in
+        let B = opened s T t a p in
+        let N = stated s T t a p in
+        let C = closed s T t a p in
+        let L = left_by s T t a l p in
+        let Z = reset s T t a l p in
+        let z = Has-push F Z.rows _ h in
+        let m = Has-push F L.rows _ z in
+        let c = Has-add F l (in_side s T t a p false) C m in
+        let n = Has-push F N.rows _ c in
+        let o = Has-nexts F a (in_side s T t a p true) 0 B n in
+        let w = Has-push F W.rows _ o in
+        let u = Has-push F U.rows _ w in
+        let bare = bare-begin s T a p (Has-add F t (in_loop T) E u) in
+        let test = placed-bare (size T) (size E) (size U) (HasPlace t) bare (placed t (in_loop T) E u) in
+        let front = placed-mark (size T) (HasPlace t) W.rows _ o refl (placed-mark (size T) (HasPlace t) U.rows _ w refl test) in
+        let middle = placed-mark (size B) (HasPlace a) N.rows _ c refl (placed_nexts a (in_side s T t a p true) 0 B n) in
+        let end = placed-mark (size C) (HasPlace l) L.rows _ z refl (placed l (in_side s T t a p false) C m) in
+        let both = placed-both (size B) (size C) (size Z) (HasPlace a) (HasPlace l) middle end in
+        let one = differ-mark (size T) W.rows _ o refl
+        (differ-mark (size T) U.rows _ w refl (differ-bare (size T) (size E) (size U) bare (differ t (in_loop T) E u d.6))) in
+        let two = differ-mark (size B) N.rows _ c refl (differ_nexts a (in_side s T t a p true) 0 B n d.7) in
+        let three = differ-mark (size C) L.rows _ z refl (differ l (in_side s T t a p false) C m d.8) in
+        differ-push (size T) (λ q. HasPlace t q ⊎ (HasPlace a q ⊎ HasPlace l q)) Z.rows _ h
+        (placed-both (size T) (size B) (size Z) (HasPlace t) (λ q. HasPlace a q ⊎ HasPlace l q) front both)
+        (λ y. elim y [ inl i ↦ d.0 i | inr y' ↦ elim y' [ inl i ↦ d.1 i | inr i ↦ d.2 i ] ])
+        (differ-both (size T) (size B) (size Z) (HasPlace t) (λ q. HasPlace a q ⊎ HasPlace l q) front both
+        (λ q i y. elim y [ inl j ↦ d.3 q i j | inr j ↦ d.4 q i j ]) one
+        (differ-both (size B) (size C) (size Z) (HasPlace a) (HasPlace l) middle end d.5 two three))
+    differ (next x a p) s T h d =
+        let U = add s T a in
+        let g = Has-push F U.rows _ h in
+        differ-push (size T) (HasPlace a) U.rows _ h (placed a s T g) d.0 (differ a s T g d.1)
     differ (define x a k b p) s T h d =
         let n = size T in
         let w = in_top n in
@@ -266,6 +400,26 @@ module _ (F : List Row) where
         (placed-mark (size T) (HasPlace a) U.rows _ g refl (placed a s T k)) (placed_arguments b s p e (suc i) A h) d.0
         (differ-mark (size T) U.rows _ g refl (differ a s T k d.1)) (differ_arguments b s p e (suc i) A h d.2)
     differ_arguments _ s p e i T h d = λ j k b c f g t u w. absurd (omega arith)
+
+    differ_nexts : (t : Tree) (s : Stand) (i : ℕ) (T : Parts) → Has F (add_nexts s i T t).rows → Distinct t → Differ (size T) (size (add_nexts s i T t))
+    differ_nexts (more (next x a p) b) s i T h d =
+        let N = used s T x p in
+        let U = add s N a in
+        let V = nexted s i T x a p in
+        let g = Has-nexts F b s (suc i) V h in
+        let k = Has-push F U.rows _ g in
+        let r = row_for T.rows s p (size T) (NextUse (number_of T.names x)) in
+        let n = Has-add F a s N k in
+        let own = differ-push (size T) (HasPlace a) U.rows _ g (placed-behind (HasPlace a) T.rows r (size U) n refl (placed a s N k)) d.1.0
+        (differ-behind T.rows r (size U) n refl (differ a s N k d.1.1)) in
+        differ-both (size T) (size V) (size (add_nexts s (suc i) V b)) (HasPlace (next x a p)) (HasPlace b) (placed_next s i T x a p g)
+        (placed_nexts b s (suc i) V h) d.0 own (differ_nexts b s (suc i) V h d.2)
+    differ_nexts (more a b) s i T h d =
+        let U = add s T a in
+        let g = Has-nexts F b s i U h in
+        differ-both (size T) (size U) (size (add_nexts s i U b)) (HasPlace a) (HasPlace b) (placed a s T g) (placed_nexts b s i U h) d.0 (differ a s T g d.1)
+        (differ_nexts b s i U h d.2)
+    differ_nexts _ s i T h d = λ j k b c f g t u w. absurd (omega arith)
 
 abbrev empty : Parts
 empty = record { rows = []; names = first_names }

@@ -1,237 +1,44 @@
 -- The rows of a program's tree are a table.
-use Rattle.std.proofs.Common.{◌≡◌, ◌⊎◌, inl, inr, ◌+◌, ◌-◌, ◌<◌, ◌≤◌, ℕ, suc, Bool, true, false, List, [], ◌∷◌, ◌++◌, length, refl, sym, ap, ◌∙◌, subst}
+use Rattle.std.proofs.Common.{◌≡◌, inl, inr, ◌+◌, ◌-◌, ◌<◌, ◌≤◌, ℕ, suc, Bool, true, false, List, [], ◌∷◌, ◌++◌, length, refl, sym, ap, ◌∙◌, subst}
 use Rattle.std.proofs.Common.{arith}
 use Rattle.std.proofs.lemmas.Bool.{cases_lt, false≢true}
 use Rattle.id_value.specs.declared.Kind.{Kind}
-use Rattle.id_tree.specs.Tree.{Tree, binding, param, define}
+use Rattle.id_tree.specs.Tree.{Tree, binding, next, param, define}
 use Rattle.id_parts.specs.declared.row.Row.{Row}
 use Rattle.id_parts.specs.declared.row.Stand.{Stand}
 use Rattle.id_parts.specs.declared.row.Region.{Region}
 use Rattle.id_parts.specs.declared.row.Node.{Node}
-use Rattle.id_parts.specs.declared.row.Node.TheVariants.{Head, Param, Literal, Name, Split, If, Enter, Arg, Call, Def, Program}
+use Rattle.id_parts.specs.declared.row.Node.TheVariants.{Head, Literal, Name, Split, If, Enter, Arg}
+use Rattle.id_parts.specs.declared.row.Node.TheVariants.{Call, Def, Program, Start, LoopHead, Variable, Entries, Switches, Turn, NextUse, Next, Body, Reset}
+use Rattle.id_parts.specs.declared.row.Node.TheVariants.{Loop}
 use Rattle.id_parts.specs.Names.{number_of, first_names}
-use Rattle.id_parts.specs.Rows.{Parts, add, add_arguments, arm, arm_at, count_of, at, in_top, last, rows_of, size, top, with_row}
+use Rattle.id_parts.specs.Rows.{Parts, add, add_arguments, add_nexts, add_variables, arm, arm_at, begin_loop, count_of, at, in_top}
+use Rattle.id_parts.specs.Rows.{last, rows_of, size, top, with_row}
 use Rattle.id_parts.specs.Tables.{Formed, HasNear, HasOperand, HasPart, IsFormed, IsNested}
-use Rattle.id_parts.specs.Tables.{is_arg, is_binding, is_block, is_call, is_def, is_enter, is_expression, is_head, is_if, is_param, is_split, is_top}
+use Rattle.id_parts.specs.Tables.{begins_block, has_statements, is_in_loop, is_loop, is_next, is_switches, is_variable}
+use Rattle.id_parts.specs.Loops.{InSide, IsLoop, IsLoopOf, IsNextIn, IsNextOf, StandsAt}
+use Rattle.id_parts.specs.Tables.{is_arg, is_binding, is_block, is_call, is_def, is_enter, is_expression, is_head, is_if, is_split, is_top}
 use Rattle.id_parts.specs.Calls.{AreArgs, IsArgIn, IsArgOf, IsCallOf, IsEnterOf}
-use Rattle.id_parts.specs.Regions.{AreArms, InArm, IsIfOf, IsSplitOf, Lies, StandsInArm, here, in_arm}
-use Rattle.id_parts.specs.Trees.{IsTree, IsProgramTree, Sort, Expression, Arguments, Statements, Params, Defs, by_literal, by_unary, by_binary, by_name, by_conditional}
-use Rattle.id_parts.specs.Trees.{by_call, no_arguments, more_arguments, by_block, no_statements, more_statements, no_params, more_params, no_defs, more_defs}
-use Rattle.id_parts.specs.Turns.{AreParamsOf, IsDefOf, IsStatement, IsTable, Root, TurnedIn}
-use Rattle.id_parts.proofs.BlockLemmas.{around-within, statement_of}
-use Rattle.id_parts.proofs.HasLemmas.{Has, Has-add, Has-arguments, Has-itself, Has-push, argued, at-push, entered, push-size, push-within, row_for}
-use Rattle.id_parts.proofs.RowLemmas.{Belongs, Fits, RowsAre, RowsAre-both, RowsAre-none, StandsWithin, differs, is_inner, stand_of}
+use Rattle.id_parts.specs.Regions.{AreArms, InArm, IsIfOf, IsSplitOf, Lies, here, in_arm, in_loop, in_side}
+use Rattle.id_parts.specs.Trees.{IsTree, IsProgramTree, Sort, Expression, Arguments, Statements}
+use Rattle.id_parts.specs.Trees.{Params, Defs, by_literal, by_unary, by_binary, by_name, by_conditional}
+use Rattle.id_parts.specs.Trees.{by_call, by_loop, next_statement, no_arguments, more_arguments, by_block}
+use Rattle.id_parts.specs.Trees.{no_statements, more_statements, no_params, more_params, no_defs, more_defs}
+use Rattle.id_parts.specs.Turns.{AreParamsOf, IsDefOf, IsTable}
+use Rattle.id_parts.proofs.BlockLemmas.{around-within}
+use Rattle.id_parts.proofs.HasLemmas.{Has, Has-add, Has-arguments, Has-itself, Has-push, argued, at-push, entered, push-size, push-within, row_for, row_in}
+use Rattle.id_parts.proofs.HasLemmas.{Has-nexts, Has-variables, closed, headed, left_by, nexted, opened, reset, stated, switched, tested, used}
+use Rattle.id_parts.proofs.RowLemmas.{Belongs, RowsAre-none}
 use Rattle.id_parts.proofs.ExpressionLemmas.{AreExpression, AreStatements, AreParams, are-binary, are-binding, are-block, are-leaf, are-param, are-unary}
 use Rattle.id_parts.proofs.CallLemmas.{Called, are-call, called-argument, called-enter}
 use Rattle.id_parts.proofs.ConditionalLemmas.{are-conditional}
-use Rattle.id_parts.proofs.ParamsLemmas.{NoParams, NoParams-expression}
-
--- the row r of the number i stands in a procedure
-pub record StandsIn (F : List Row) (i : ℕ) (r : Row) : Type 0 where
-  pub first : r.first ≤ i
-  pub nested : (j : ℕ) → r.first ≤ j → j < i → r.first ≤ (at F j).first
-  pub no_program : r.node ≡ Program → ⊥
-  pub block : (r.block ≤ i) × ((at F r.block).node ≡ Head)
-  pub region : (r.region ≡ top r.block) ⊎ StandsInArm F i
-  pub head_block : r.node ≡ Head → r.block ≡ i
-  pub inside : (j : ℕ) → r.first ≤ j → j < i → StandsWithin F (stand_of r) j
-  pub fits : Fits F (stand_of r) r.first i r.value r.node
-  pub head_place : (x h b : ℕ) (k : Kind) → r.node ≡ Def x h k b → (at F h).place ≡ r.place
-  pub head_is : (x h b : ℕ) (k : Kind) → r.node ≡ Def x h k b → ((at F h).node ≡ Head) × (r.first ≡ h) × (is_expression (at F b).node ≡ true)
-  pub def_of : (n : ℕ) × IsDefOf F n r.block × (i ≤ n)
-  pub params : is_def r.node ≡ true → AreParamsOf F r.first i
-  pub alone : is_def r.node ≡ true → (j : ℕ) → r.first ≤ j → j < i → is_def (at F j).node ≡ false
-  pub turned : is_expression r.node ≡ true → TurnedIn F r.region i
-  pub in_a_block : is_binding r.node ≡ true → (s : ℕ) × (s < length F) × IsStatement F s i
-
--- the rows from the head h up to the definition at the row n
-pub record IsProcedure (F : List Row) (h n : ℕ) : Type 0 where
-  pub head : (at F h).node ≡ Head
-  pub def : IsDefOf F n h
-  pub low : h < n
-  pub rows : RowsAre F (in_top h) (suc h) n
-  pub turned : (i : ℕ) → suc h ≤ i → i < n → is_expression (at F i).node ≡ true → TurnedIn F (at F i).region i
-  pub held : (i : ℕ) → suc h ≤ i → i < n → is_binding (at F i).node ≡ true → (s : ℕ) × (s < length F) × IsStatement F s i
-
-inner_no_def : (n : Node) → is_inner n ≡ true → is_def n ≡ false
-inner_no_def (Def x h k b) e = absurd (false≢true e)
-inner_no_def _ e = refl
-
-param_no_expression : (n : Node) → is_param n ≡ true → is_expression n ≡ true → ⊥
-param_no_expression (Param x k) e f = false≢true f
-param_no_expression _ e f = false≢true e
-
-param_no_binding : (n : Node) → is_param n ≡ true → is_binding n ≡ true → ⊥
-param_no_binding (Param x k) e f = false≢true f
-param_no_binding _ e f = false≢true e
-
-abbrev def_head : ℕ → Node → ℕ
-def_head d (Def x h k b) = h
-def_head d _ = d
-
-abbrev def_body : ℕ → Node → ℕ
-def_body d (Def x h k b) = b
-def_body d _ = d
+use Rattle.id_parts.proofs.LoopLemmas.{are-loop}
+use Rattle.id_parts.proofs.NextLemmas.{AreNexts, IsRound, Variables, nexts-both, nexts-none, nexts_in, one-binding, one-next, size-variables}
+use Rattle.id_parts.proofs.NextLemmas.{variables-added, variables-each}
+use Rattle.id_parts.proofs.ParamsLemmas.{NoParams-expression}
+use Rattle.id_parts.proofs.ProcedureLemmas.{StandsIn, are-define}
 
 module _ (F : List Row) where
-  stands-inner : (h n i : ℕ) → IsProcedure F h n → suc h ≤ i → i < n → StandsIn F i (at F i)
-  stands-inner h n i p l m =
-      let r = p.rows i l m in
-      record {
-        first = r.first;
-        nested = r.nested;
-        no_program = differs is_inner (at F i).node Program r.inner refl;
-        block = (omega (arith, r.block), ap (λ k. (at F k).node) r.block ∙ p.head);
-        region = elim r.region [ inl e ↦ inl (e ∙ ap top (sym r.block)) | inr k ↦ inr k ];
-        head_block = λ e. absurd (differs is_inner (at F i).node Head r.inner refl e);
-        inside = r.inside;
-        fits = r.fits;
-        head_place = λ x g b k e. absurd (differs is_inner (at F i).node (Def x g k b) r.inner refl e);
-        head_is = λ x g b k e. absurd (differs is_inner (at F i).node (Def x g k b) r.inner refl e);
-        def_of = (n, subst (IsDefOf F n) (sym r.block) p.def, omega arith);
-        params = λ e. absurd (false≢true (sym (inner_no_def (at F i).node r.inner) ∙ e));
-        alone = λ e. absurd (false≢true (sym (inner_no_def (at F i).node r.inner) ∙ e));
-        turned = λ e. p.turned i l m e;
-        in_a_block = p.held i l m;
-      }
-
-  -- a head fits anywhere
-  head_fits : (i : ℕ) → Fits F (in_top i) i i i Head
-  head_fits i = record {
-    formed = λ a e. absurd e;
-    part_stands = λ a e. absurd e;
-    operand_is = λ a e. absurd e;
-    value_block = λ b e. absurd (false≢true (ap is_block e));
-    value_self = λ e. refl;
-    value = λ e. absurd (false≢true e);
-    statements = λ e. absurd (false≢true e);
-    at_top = λ _. refl;
-    belongs = tt;
-  }
-
-  stands-head : (R : List Row) (p n : ℕ) → Has F (R ++ row_for R (in_top (length R)) p (length R) Head ∷ []) → IsProcedure F (length R) n
-      → StandsIn F (length R) (at F (length R))
-  stands-head R p n has q = subst (StandsIn F (length R)) (sym (at-push F R _ has)) (record {
-    first = omega arith;
-    nested = λ j b c. absurd (omega arith);
-    no_program = λ e. false≢true (sym (ap is_head e));
-    block = (omega arith, q.head);
-    region = inl refl;
-    head_block = λ e. refl;
-    inside = λ j b c. absurd (omega arith);
-    fits = head_fits (length R);
-    head_place = λ x g b k e. absurd (false≢true (ap is_def e));
-    head_is = λ x g b k e. absurd (false≢true (ap is_def e));
-    def_of = (n, q.def, omega (arith, q.low));
-    params = λ e. absurd (false≢true e);
-    alone = λ e. absurd (false≢true e);
-    turned = λ e. absurd (false≢true e);
-    in_a_block = λ e. absurd (false≢true e);
-  })
-
-  -- a definition fits behind its head and its body
-  def_fits : (h i x b : ℕ) (k : Kind) → (at F h).block ≡ h → (at F h).region ≡ top h → h < i → is_expression (at F b).node ≡ true → suc h ≤ b → b < i
-      → (at F b).block ≡ h → (at F b).region ≡ top h → Fits F (in_top h) h i i (Def x h k b)
-  def_fits h i x b k stands region less body low before inner within = record {
-    formed = λ a e. elim e [ inl w ↦ (omega arith, omega arith) | inr w ↦ (omega arith, omega arith) ];
-    part_stands = λ a e. elim e [
-      | inl w ↦ (ap (λ j. (at F j).block) w ∙ stands, ap (λ j. (at F j).region) w ∙ region)
-      | inr w ↦ (ap (λ j. (at F j).block) w ∙ inner, ap (λ j. (at F j).region) w ∙ within)
-    ];
-    operand_is = λ a w. ap (λ j. is_expression (at F j).node) w ∙ body;
-    value_block = λ c e. absurd (false≢true (ap is_block e));
-    value_self = λ e. refl;
-    value = λ e. absurd (false≢true e);
-    statements = λ e. absurd (false≢true e);
-    at_top = λ _. refl;
-    belongs = tt;
-  }
-
-  stands-def : (R : List Row) (p h x b : ℕ) (k : Kind) → Has F (R ++ row_for R (in_top h) p h (Def x h k b) ∷ []) → (at F h).first ≡ h → (at F h).block ≡ h
-      → (at F h).region ≡ top h → (at F h).place ≡ p
-      → is_expression (at F b).node ≡ true → suc h ≤ b → b < length R → (at F b).region ≡ top h → IsProcedure F h (length R) → AreParamsOf F h (length R)
-      → StandsIn F (length R) (at F (length R))
-  stands-def R p h x b k has first stands region spot body low before within q ps = subst (StandsIn F (length R)) (sym (at-push F R _ has)) (record {
-    first = omega (arith, q.low);
-    nested = λ j c d. elim (cases_lt h j) [
-      | inl l ↦ let r = q.rows j l d in omega (arith, r.low)
-      | inr l ↦ let e : j ≡ h = omega arith in
-          let f = ap (λ i. (at F i).first) e in omega arith
-    ];
-    no_program = λ e. false≢true (sym (ap is_def e));
-    block = (omega (arith, q.low), q.head);
-    region = inl refl;
-    head_block = λ e. absurd (false≢true (ap is_head e));
-    inside = λ j c d. elim (cases_lt h j) [
-      | inl l ↦ let r = q.rows j l d in (r.block, r.lies)
-      | inr l ↦ let e : j ≡ h = omega arith in
-          (ap (λ i. (at F i).block) e ∙ stands, subst (Lies F (top h)) (sym (ap (λ i. (at F i).region) e ∙ region)) Lies.here)
-    ];
-    fits = def_fits h (length R) x b k stands region q.low body low before (q.rows b low before).block within;
-    head_place = λ y g c m e. ap (λ i. (at F i).place) (sym (ap (def_head h) e)) ∙ spot;
-    head_is = λ y g c m e.
-        let s = ap (def_head h) e in
-        let w = ap (def_body b) e in
-        (ap (λ i. (at F i).node) (sym s) ∙ q.head, s, ap (λ i. is_expression (at F i).node) (sym w) ∙ body);
-    def_of = (length R, q.def, omega arith);
-    params = λ _. ps;
-    alone = λ _ j c d. elim (cases_lt h j) [
-      | inl l ↦ inner_no_def (at F j).node (q.rows j l d).inner
-      | inr l ↦ let e : j ≡ h = omega arith in ap (λ i. is_def (at F i).node) e ∙ ap is_def q.head
-    ];
-    turned = λ e. absurd (false≢true e);
-    in_a_block = λ e. absurd (false≢true e);
-  })
-
-  -- a definition behind its parameters and its body
-  are-define : (T : List Row) (R : List Row) (p mid x b : ℕ) (k : Kind) → let h = length T in
-      Has F (T ++ row_for T (in_top h) p h Head ∷ []) → Has F (R ++ row_for R (in_top h) p h (Def x h k b) ∷ [])
-      → AreParams F (in_top h) (length (T ++ row_for T (in_top h) p h Head ∷ [])) mid → AreExpression F (in_top h) mid (length R) → NoParams F mid (length R) → b ≡ length R - 1
-      → (i : ℕ) → h ≤ i → i < length (R ++ row_for R (in_top h) p h (Def x h k b) ∷ []) → StandsIn F i (at F i)
-  are-define T R p mid x b k start has ps e plain q i l m =
-      let h = length T in
-      let head = at-push F T _ start in
-      let long = push-size T (row_for T (in_top h) p h Head) in
-      let longer = push-size R (row_for R (in_top h) p h (Def x h k b)) in
-      let within = push-within F R _ has in
-      let node : (at F (length R)).node ≡ Def x h k b = ap (λ (r : Row). r.node) (at-push F R _ has) in
-      let same : e.end ≡ b = omega (arith, e.ends) in
-      let enough : suc h ≤ mid = omega (arith, ps.low) in
-      let more : mid ≤ length R = omega (arith, e.low, e.ends) in
-      let params : RowsAre F (in_top h) (suc h) mid = subst (λ n. RowsAre F (in_top h) n mid) long ps.rows in
-      let procedure : IsProcedure F h (length R) = record {
-        head = ap (λ (r : Row). r.node) head;
-        def = record { name = x; result = k; body = b; within = within; node = node };
-        low = omega arith;
-        rows = RowsAre-both F (in_top h) (suc h) mid (length R) enough params e.rows;
-        turned = λ j u v w. elim (cases_lt j mid) [
-          | inl d ↦ absurd (param_no_expression (at F j).node (ps.param j (omega arith) d) w)
-          | inr d ↦ e.turned (subst (TurnedIn F (top h)) (sym same) (TurnedIn.root (Root.of_procedure within node))) j d v w
-        ];
-        held = λ j u v w. elim (cases_lt j mid) [
-          | inl d ↦ absurd (param_no_binding (at F j).node (ps.param j (omega arith) d) w)
-          | inr d ↦ statement_of F j (length R) (omega (arith, within)) w (e.held j d v w)
-        ];
-      } in
-      let params_of : AreParamsOf F h (length R) = record {
-        count = mid - suc h;
-        before = omega (arith, enough, e.low, e.ends);
-        param = λ j u v. ps.param j (omega (arith, u)) (omega (arith, u, v, enough));
-        rest = λ j u v. plain j (omega (arith, u, enough)) v;
-      } in
-      elim (cases_lt h i) [
-        | inr d ↦ let z : h ≡ i = omega arith in subst (λ j. StandsIn F j (at F j)) z (stands-head T p (length R) start procedure)
-        | inl d ↦ elim (cases_lt i (length R)) [
-          | inl f ↦ stands-inner h (length R) i procedure d f
-          | inr f ↦ let z : length R ≡ i = omega arith in
-              subst (λ j. StandsIn F j (at F j)) z
-              (stands-def R p h x b k has (ap (λ (r : Row). r.first) head) (ap (λ (r : Row). r.block) head) (ap (λ (r : Row). r.region) head)
-              (ap (λ (r : Row). r.place) head)
-              (subst (λ n. is_expression (at F n).node ≡ true) same e.expression) (omega (arith, e.low)) (omega (arith, e.ends))
-              (subst (λ n. (at F n).region ≡ top h) same e.region) procedure params_of)
-        ]
-      ]
-
   -- the rows from lo up to hi stand in procedures
   abbrev pub AreDefs : ℕ → ℕ → Type 0
   AreDefs lo hi = (i : ℕ) → lo ≤ i → i < hi → StandsIn F i (at F i)
@@ -253,6 +60,9 @@ module _ (F : List Row) where
 
   arguments-within : (t : Tree) (s : Stand) (p e i : ℕ) (T : Parts) → size T ≤ size (add_arguments s p e i T t)
   arguments-within t s p e i T = (Has-arguments (add_arguments s p e i T t).rows t s p e i T (Has-itself (add_arguments s p e i T t).rows)).within
+
+  nexts-within : (t : Tree) (s : Stand) (i : ℕ) (T : Parts) → size T ≤ size (add_nexts s i T t)
+  nexts-within t s i T = (Has-nexts (add_nexts s i T t).rows t s i T (Has-itself (add_nexts s i T t).rows)).within
 
   mutual
     pub Are-add : {k : Sort} {t : Tree} (s : Stand) (T : Parts) → IsTree k t → Has F (add s T t).rows → Are k s (size T) (size (add s T t))
@@ -303,7 +113,8 @@ module _ (F : List Row) where
         let U = add_arguments s p e 0 E a in
         let has = Has-push F U.rows _ h in
         let own = Has-arguments F a s p e 0 E has in
-        let start = called-enter F s p e (size U) (count_of a) (number_of T.names x) (at-push F T.rows _ own) (at-push F U.rows _ h) (push-within F U.rows _ h) in
+        let start = called-enter F s p e (size U) (count_of a) (number_of T.names x) (at-push F T.rows _ own) (at-push F U.rows _ h)
+        (push-within F U.rows _ h) in
         let all = Are-arguments s p e (size U) (count_of a) 0 E d has (omega arith) (omega arith)
         (subst (Called F s p e (size U) (count_of a) 0) (sym (push-size T.rows _)) start) in
         grown s e U.rows _ (are-call F s p e (size U) (count_of a) all)
@@ -331,7 +142,91 @@ module _ (F : List Row) where
         let e = Are-add s T t (Has-push F U.rows _ after) in
         are-binding F s p (size T) (size (add s V ss)) (number_of U.names x) (last U) (size U) (at-push F U.rows _ after) (last_of s (size T) (size U) e) e
         (subst (λ n. AreStatements F s n (size (add s V ss))) (push-size U.rows _) (Are-add s V u h))
-    Are-add s T no_params h = λ high. record { low = omega arith; rows = RowsAre-none F s (size T); param = λ i b c. absurd (omega arith) }
+    Are-add s T (next_statement {x} {a} {ss} {p} t u) h =
+        let U = add s T a in
+        let V = add s T (next x a p) in
+        let after = Has-add F ss s V h in
+        let e = Are-add s T t (Has-push F U.rows _ after) in
+        are-binding F s p (size T) (size (add s V ss)) (number_of U.names x) (last U) (size U) (at-push F U.rows _ after) (last_of s (size T) (size U) e) e
+        (subst (λ n. AreStatements F s n (size (add s V ss))) (push-size U.rows _) (Are-add s V u h))
+    Are-add s T (by_loop {t} {ss} {l} {p} d e f) h =
+        let lo = size T in
+        let head = suc lo in
+        let S = with_row T s p lo Start in
+        let H = headed s T p in
+        let V = add_variables (in_top head) H ss in
+        let E = begin_loop s T ss p in
+        let U = tested s T t ss p in
+        let W = switched s T t ss p in
+        let B = opened s T t ss p in
+        let N = stated s T t ss p in
+        let C = closed s T t ss p in
+        let L = left_by s T t ss l p in
+        let Z = reset s T t ss l p in
+        let w = size U in
+        let n = size Z in
+        let body = arm (in_top head) w true in
+        let behind = arm (in_top head) w false in
+        let has_reset = Has-push F Z.rows _ h in
+        let has_last = Has-push F L.rows _ has_reset in
+        let has_body = Has-add F l behind C has_last in
+        let has_statements = Has-push F N.rows _ has_body in
+        let has_turn = Has-nexts F ss body 0 B has_statements in
+        let has_switches = Has-push F W.rows _ has_turn in
+        let has_test = Has-push F U.rows _ has_switches in
+        let has_entries = Has-add F t (in_top head) E has_test in
+        let has_variables = Has-push F V.rows _ has_entries in
+        let has_head = Has-variables F ss (in_top head) H has_variables in
+        let has_start = Has-push F S.rows _ has_head in
+        let to_head : size S ≡ head = push-size T.rows _ in
+        let to_variables : size H ≡ suc (size S) = push-size S.rows _ in
+        let to_test : size E ≡ suc (size V) = push-size V.rows _ in
+        let to_turn : size W ≡ suc w = push-size U.rows _ in
+        let to_body : size B ≡ suc (size W) = push-size W.rows _ in
+        let to_last : size C ≡ suc (size N) = push-size N.rows _ in
+        let to_loop : n ≡ suc (size L) = push-size L.rows _ in
+        let many = size-variables (in_top head) ss H in
+        let variables = variables-added F head 0 ss H (omega arith) has_variables in
+        let test = Are-add (in_top head) E d has_test in
+        let last_rows = Are-add behind C f has_last in
+        let test_last : suc (last U) ≡ w = last_of (in_top head) (size E) w test in
+        let last_last : suc (last L) ≡ size L = last_of behind (size C) (size L) last_rows in
+        let head_row = subst (λ k. at F k ≡ row_in (in_top head) p head k (LoopHead lo)) to_head (at-push F S.rows _ has_head) in
+        let loop_row : at F n ≡ row_in s p lo n (Loop head w (last L)) = at-push F Z.rows _ h in
+        let round : IsRound F lo head w (last L) n = record {
+          within = push-within F Z.rows _ h;
+          low = omega (arith, test.low, test.ends);
+          head = ap (λ (r : Row). r.node) head_row;
+          node = ap (λ (r : Row). r.node) loop_row;
+        } in
+        let statements = Are-nexts lo head w (last L) n 0 B e round has_statements variables (omega arith) (omega (arith, last_rows.low, last_rows.ends)) in
+        let begun : size B ≡ suc (suc w) = omega arith in
+        grown s lo Z.rows _ (are-loop F s p lo (size V) (last U) w (size N) (last L) n (record {
+          within = push-within F Z.rows _ h;
+          ends = omega arith;
+          start = at-push F T.rows _ has_start;
+          head = head_row;
+          count = 0 + nexts_in ss;
+          many = omega arith;
+          variable = λ k g. variables-each F head 0 ss variables k (omega arith) (omega arith);
+          entries = at-push F V.rows _ has_entries;
+          test = subst (λ k. AreExpression F (in_top head) k w) to_test test;
+          test_ends = test_last;
+          switches = subst (λ k. at F w ≡ row_in (in_top head) p k w (Switches (last U))) to_test (at-push F U.rows _ has_switches);
+          turn = subst (λ k. at F k ≡ row_in body p k k Turn) to_turn (at-push F W.rows _ has_turn);
+          body = subst (λ k. AreNexts F body 0 (0 + nexts_in ss) k (size N)) begun statements;
+          body_end = subst (λ k. at F (size N) ≡ row_in body p k (size N) Body) begun (at-push F N.rows _ has_body);
+          last = subst (λ k. AreExpression F behind k (suc (last L))) to_last (subst (AreExpression F behind (size C)) (sym last_last) last_rows);
+          reset = subst (λ k. at F k ≡ row_in behind p (suc (size N)) k (Reset (last L))) (sym last_last)
+              (subst (λ k. at F (size L) ≡ row_in behind p k (size L) (Reset (last L))) to_last (at-push F L.rows _ has_reset));
+          row = loop_row;
+        }))
+    Are-add s T no_params h = λ high. record {
+      low = omega arith;
+      rows = RowsAre-none F s (size T);
+      param = λ i b c. absurd (omega arith);
+      block = λ i b c. absurd (omega arith);
+    }
     Are-add s T (more_params {x} {k} {ps} {p} t) h =
         let U = add s T (param x k p) in
         λ high. are-param F s p (size (add s U ps)) (number_of T.names x) (size T) k high (at-push F T.rows _ (Has-add F ps s U h))
@@ -346,7 +241,7 @@ module _ (F : List Row) where
         let V = add w U b in
         let has = Has-add F ds s D h in
         let after = Has-push F V.rows _ has in
-        let own = are-define T.rows V.rows p (size U) (number_of V.names x) (last V) k (Has-add F ps w H (Has-add F b w U after)) has
+        let own = are-define F T.rows V.rows p (size U) (number_of V.names x) (last V) k (Has-add F ps w H (Has-add F b w U after)) has
         (Are-add w H t (Has-add F b w U after) refl) (Are-add w U u after) (NoParams-expression F w U u after) refl in
         let rest = Are-add s D v h in
         λ i c d. elim (cases_lt i (size D)) [ inl f ↦ own i c f | inr f ↦ rest i f d ]
@@ -366,15 +261,91 @@ module _ (F : List Row) where
         (omega arith) (omega arith) in
         Are-arguments s p e n c (suc i) A f h (omega arith) within (subst (Called F s p e n c (suc i)) (sym long) one)
 
+    -- the rows of the statements of a loop
+    Are-nexts : {t : Tree} (u g w l n i : ℕ) (T : Parts) → IsTree Statements t → IsRound F u g w l n → Has F (add_nexts (arm (in_top g) w true) i T t).rows
+        → Variables F g i t → w < size T → size (add_nexts (arm (in_top g) w true) i T t) ≤ n
+        → AreNexts F (arm (in_top g) w true) i (i + nexts_in t) (size T) (size (add_nexts (arm (in_top g) w true) i T t))
+    Are-nexts u g w l n i T no_statements r h v after within =
+        let s = arm (in_top g) w true in
+        let z : i ≡ i + 0 = omega arith in
+        subst (λ c. AreNexts F s i c (size T) (size T)) z (nexts-none F s i (size T))
+    Are-nexts u g w l n i T (more_statements {x} {a} {ss} {p} d e) r h v after within =
+        let s = arm (in_top g) w true in
+        let U = add s T a in
+        let V = add s T (binding x a p) in
+        let c = i + nexts_in ss in
+        let has = Has-nexts F ss s i V h in
+        let value = Are-add s T d (Has-push F U.rows _ has) in
+        let long : size V ≡ suc (size U) = push-size U.rows _ in
+        let one = one-binding F s p (size T) (number_of U.names x) (last U) i (size U) (at-push F U.rows _ has) (last_of s (size T) (size U) value)
+        (omega (arith, r.low)) value in
+        let rest = Are-nexts u g w l n i V e r h v (omega (arith, value.low, value.ends)) within in
+        nexts-both F s i i c (size T) (size V) (size (add_nexts s i V ss)) (subst (AreNexts F s i i (size T)) (sym long) one) rest
+    Are-nexts u g w l n i T (next_statement {x} {a} {ss} {p} d e) r h v after within =
+        let s = arm (in_top g) w true in
+        let N = used s T x p in
+        let U = add s N a in
+        let V = nexted s i T x a p in
+        let name = number_of T.names x in
+        let c = suc i + nexts_in ss in
+        let has = Has-nexts F ss s (suc i) V h in
+        let has_value = Has-push F U.rows _ has in
+        let has_use = Has-add F a s N has_value in
+        let value = Are-add s N d has_value in
+        let short : size N ≡ suc (size T) = push-size T.rows _ in
+        let long : size V ≡ suc (size U) = push-size U.rows _ in
+        let longer : size V ≤ size (add_nexts s (suc i) V ss) = nexts-within ss s (suc i) V in
+        let one = one-next F u g w l n r p (size T) name i (last U) (size U) (at-push F T.rows _ has_use)
+        (subst (λ k. AreExpression F s k (size U)) short value) (last_of s (size N) (size U) value) (at-push F U.rows _ has) v.0 after (omega arith) in
+        let rest = Are-nexts u g w l n (suc i) V e r h v.1 (omega (arith, value.low, value.ends)) within in
+        let z : c ≡ i + suc (nexts_in ss) = omega arith in
+        subst (λ k. AreNexts F s i k (size T) (size (add_nexts s (suc i) V ss))) z
+        (nexts-both F s i (suc i) c (size T) (size V) (size (add_nexts s (suc i) V ss)) (subst (AreNexts F s i (suc i) (size T)) (sym long) one) rest)
+
+abbrev is_start : Node → Bool
+is_start Start = true
+is_start _ = false
+
+abbrev start_or : ℕ → Node → ℕ
+start_or d (LoopHead t) = t
+start_or d _ = d
+
+abbrev reset_or : ℕ → Node → ℕ
+reset_or d (Reset v) = v
+reset_or d _ = d
+
+variable_node : (n : Node) → is_variable n ≡ true → n ≡ Variable
+variable_node Variable e = refl
+variable_node _ e = absurd (false≢true e)
+
+-- a side of the switches of a loop begins behind them
+InSide-low : (w b n i : ℕ) (side : Bool) → w + 1 < b → InSide w b n side i → w < i
+InSide-low w b n i true l h = h.0
+InSide-low w b n i false l h = omega (arith, h.0)
+
+-- a node of which something is true that is false of heads is no head
+no_head : (f : Node → Bool) → f Head ≡ false → ((t : ℕ) → f (LoopHead t) ≡ false) → (n : Node) → f n ≡ true → begins_block n ≡ false
+no_head f a b Head e = absurd (false≢true (sym a ∙ e))
+no_head f a b (LoopHead t) e = absurd (false≢true (sym (b t) ∙ e))
+no_head f a b _ e = refl
+
 -- an arm begins behind its split
 InArm-low : (s x n i : ℕ) (b : Bool) → s < x → InArm s x n b i → s < i
 InArm-low s x n i true l h = h.0
 InArm-low s x n i false l h = omega (arith, h.0)
 
--- where each split's region begins before it, what lies in a region begins no earlier
-Lies-head : (F : List Row) (q r : Region) → ((u : ℕ) → u < length F → is_split (at F u).node ≡ true → (at F u).region.head < u) → Lies F q r → q.head ≤ r.head
+-- each split, each loop and each pair of switches stands in a region that begins before it
+record Begun (F : List Row) : Type 0 where
+  split : (u : ℕ) → u < length F → is_split (at F u).node ≡ true → (at F u).region.head < u
+  loop : (u s : ℕ) → u < length F → (at F u).node ≡ LoopHead s → (at F s).region.head < u
+  switches : (u : ℕ) → u < length F → is_switches (at F u).node ≡ true → (at F u).region.head < u
+
+-- what lies in a region begins no earlier
+Lies-head : (F : List Row) (q r : Region) → Begun F → Lies F q r → q.head ≤ r.head
 Lies-head F q r before here = omega arith
-Lies-head F q r before (in_arm {s} w e l) = let z = before s w e in let y = Lies-head F q (at F s).region before l in omega arith
+Lies-head F q r before (in_arm {s} w e l) = let z = before.split s w e in let y = Lies-head F q (at F s).region before l in omega arith
+Lies-head F q r before (in_loop {h} {s} w e l) = let z = before.loop h s w e in let y = Lies-head F q (at F s).region before l in omega arith
+Lies-head F q r before (in_side {w = u} w e l) = let z = before.switches u w e in let y = Lies-head F q (at F u).region before l in omega arith
 
 -- a table whose rows but the last stand in procedures, and whose last row is `Program`
 record Ends (F : List Row) (n : ℕ) : Type 0 where
@@ -440,21 +411,98 @@ module _ (F : List Row) (n : ℕ) (h : Ends F n) where
   branches : (i u : ℕ) (c : IsIfOf F i u) → IsSplitOf F u i × AreArms F u c.then c.otherwise i
   branches i u c = belongs i (If u c.then c.otherwise) c.within c.node (λ p. false≢true (sym (ap is_if p)))
 
-  -- the region of a split begins before it
-  region_before : (u : ℕ) → u < length F → is_split (at F u).node ≡ true → (at F u).region.head < u
-  region_before u l e =
-      let q = in_procedure u l (not_end is_split refl u e) in
+  -- the region of a row that is no head begins before it
+  region_before : (u : ℕ) → u < length F → ((at F u).node ≡ Program → ⊥) → begins_block (at F u).node ≡ false → (at F u).region.head < u
+  region_before u l other e =
+      let q = in_procedure u l other in
       elim q.region [
         | inl r ↦ elim (cases_lt (at F u).block u) [
           | inl f ↦ omega (arith, f, ap (λ (z : Region). z.head) r)
           | inr f ↦ let z : u ≡ (at F u).block = omega (arith, f, q.block.0) in
-              absurd (differs is_split (at F u).node Head e refl (ap (λ k. (at F k).node) z ∙ q.block.1))
+              absurd (false≢true (sym e ∙ ap (λ k. begins_block (at F k).node) z ∙ q.block.1))
         ]
-        | inr k ↦
+        | inr (inl k) ↦
             let a = (branches k.row k.split k.conditional).1 in
             let b = InArm-low k.split k.conditional.then k.row u k.side a.low k.among in
             omega (arith, b, ap (λ (z : Region). z.head) k.region)
+        | inr (inr k) ↦
+            let b = InSide-low k.loop.switches k.body k.row u k.side k.body_is.low k.among in
+            omega (arith, b, ap (λ (z : Region). z.head) k.region)
       ]
+
+  loop_rows : (i u : ℕ) (c : IsLoopOf F i u) → IsLoop F i u c.switches c.last
+  loop_rows i u c = belongs i (Loop u c.switches c.last) c.within c.node (λ p. false≢true (sym (ap is_loop p)))
+
+  loop_low : (i u : ℕ) → IsLoopOf F i u → u < i
+  loop_low i u c = let z = loop_rows i u c in omega (arith, z.before_test.low, z.test.low, z.test.behind, z.body_is.low, z.last_is.low, z.last_is.ends)
+
+  -- a part of a loop stands where it ought to
+  part_of_loop : (i : ℕ) (m : Node) → i < length F → (at F i).node ≡ m → is_in_loop m ≡ true
+      → (n : ℕ) × (c : IsLoopOf F n (at F i).block) × (let z = loop_rows n (at F i).block c in StandsAt (at F i).block z.entries c.switches z.body n m i)
+  part_of_loop i m l e is =
+      let q = in_procedure i l (not_end is_in_loop refl i (ap is_in_loop e ∙ is)) in
+      let w = q.loop_of (ap is_in_loop e ∙ is) in
+      let z = loop_rows w.0 (at F i).block w.1 in
+      (w.0, w.1, subst (λ k. StandsAt (at F i).block z.entries w.1.switches z.body w.0 k i) e (z.stands i q.block.0 w.2 refl))
+
+  -- a `Reset` right before a loop names its last expression
+  reset_last : (i v m u : ℕ) (c : IsLoopOf F m u) → (at F i).node ≡ Reset v → i + 1 ≡ m → c.last ≡ v
+  reset_last i v m u c e q =
+      let z = (loop_rows m u c).last_is in
+      let same : c.last + 1 ≡ i = omega (arith, z.ends, q) in
+      ap (reset_or 0) (sym z.node ∙ ap (λ k. (at F k).node) same ∙ e)
+
+  loop_at : (u t : ℕ) → u < length F → (at F u).node ≡ LoopHead t → (n : ℕ) × IsLoopOf F n u
+  loop_at u t l e = belongs u (LoopHead t) l e (λ p. false≢true (sym (ap begins_block p)))
+
+  -- the region of a loop begins before its head
+  loop_before : (u s : ℕ) → u < length F → (at F u).node ≡ LoopHead s → (at F s).region.head < u
+  loop_before u s l e =
+      let c = loop_at u s l e in
+      let z = loop_rows c.0 u c.1 in
+      let node = z.start_of.node in
+      let low : z.start < length F = omega (arith, z.begins, l) in
+      let y = region_before z.start low (λ p. false≢true (sym (ap is_start (sym node ∙ p)))) (ap begins_block node) in
+      let same : s ≡ z.start = omega (arith, z.begins, ap (start_or 0) (sym e ∙ z.before_test.head)) in
+      let q = ap (λ k. (at F k).region.head) same in
+      omega (arith, y, q, z.begins)
+
+  loop_once : (m k u : ℕ) → IsLoopOf F m u → IsLoopOf F k u → m ≡ k
+  loop_once m k u d e = elim (cases_lt m k) [
+    | inl l ↦ absurd ((loop_rows k u e).alone m d.switches d.last (loop_low m u d) l d.node)
+    | inr l ↦ elim (cases_lt k m) [
+      | inl f ↦ absurd ((loop_rows m u d).alone k e.switches e.last (loop_low k u e) f e.node)
+      | inr f ↦ omega arith
+    ]
+  ]
+
+  -- a `next` statement stands in the body of its loop
+  next_inside : (m u k x : ℕ) (s : IsNextOf F m u k x) → (n : ℕ) × (c : IsLoopOf F n u) × IsNextIn F n m u c.switches k x s.outer
+  next_inside m u k x s =
+      let q = belongs m (Next x k s.outer s.value) s.within s.node (λ p. false≢true (sym (ap is_next p))) in
+      subst (λ g. (n : ℕ) × (c : IsLoopOf F n g) × IsNextIn F n m g c.switches k x s.outer) s.block (q.loop, q.of, q.inside)
+
+  next_low : (m u k x : ℕ) (s : IsNextOf F m u k x) → u < m
+  next_low m u k x s =
+      let q = next_inside m u k x s in
+      let z = loop_rows q.0 u q.1 in
+      let f = ((in_procedure m s.within (not_end is_next refl m (ap is_next s.node))).fits.formed s.outer
+      (subst (λ y. HasPart y s.outer) (sym s.node) (inl refl))).1 in
+      omega (arith, f, q.2.before, z.before_test.low, z.test.low, z.test.behind)
+
+  next_once : (m l u k x y : ℕ) → IsNextOf F m u k x → IsNextOf F l u k y → m ≡ l
+  next_once m l u k x y a b =
+      let v = next_inside m u k x a in
+      let w = next_inside l u k y b in
+      let same = loop_once w.0 v.0 u w.1 v.1 in
+      (loop_rows v.0 u v.1).once m l k x y (next_low m u k x a) v.2.behind (next_low l u k y b) (omega (arith, w.2.behind, same)) a b
+
+  begun : Begun F
+  begun = record {
+    split = λ u l e. region_before u l (not_end is_split refl u e) (no_head is_split refl (λ t. refl) (at F u).node e);
+    loop = loop_before;
+    switches = λ u l e. region_before u l (not_end is_switches refl u e) (no_head is_switches refl (λ t. refl) (at F u).node e);
+  }
 
   -- of two conditionals of one split none is behind the other
   no_later_if : (m k u : ℕ) → IsIfOf F m u → IsIfOf F k u → m < k → ⊥
@@ -463,8 +511,8 @@ module _ (F : List Row) (n : ℕ) (h : Ends F n) where
       let b = branches k u e in
       let low : u < m = omega (arith, a.1.low, a.1.next, a.1.ends) in
       let in_one : (side : Bool) → InArm u e.then k side m → ⊥ = λ side among.
-      let z = Lies-head F (arm_at u side) (at F u).region region_before (subst (Lies F (arm_at u side)) (sym a.0.region) (b.1.each side m among)) in
-      let y = region_before u (omega (arith, low, d.within)) (ap is_split a.0.node) in
+      let z = Lies-head F (arm_at u side) (at F u).region begun (subst (Lies F (arm_at u side)) (sym a.0.region) (b.1.each side m among)) in
+      let y = begun.split u (omega (arith, low, d.within)) (ap is_split a.0.node) in
       omega arith in
       elim (cases_lt e.then m) [ inl f ↦ in_one false (f, l) | inr f ↦ in_one true (low, f) ]
 
@@ -507,19 +555,20 @@ module _ (F : List Row) (n : ℕ) (h : Ends F n) where
     block = λ i b. (def_here i b).block;
     region = λ i b. (def_here i b).region;
     at_top = λ i b e. (in_procedure i b (not_end is_top refl i e)).fits.at_top e;
-    head_block = λ i b e. (in_procedure i b (not_end is_head refl i (ap is_head e))).head_block e;
+    head_block = λ i b e. (in_procedure i b (not_end begins_block refl i e)).fits.heads e;
     inside = λ j i b a. let w = around-within F j i a in (def_here j b).inside i w.0 w.1;
     part_stands = λ i a l e. (in_procedure i l (λ p. subst (λ m. HasNear m a) p e)).fits.part_stands a e;
     statement_stands = λ s b l e.
         let w = around-within F s b e.inside in
-        let q = in_procedure s l (not_end is_block refl s e.block) in
-        ((q.inside b w.0 w.1).0, q.fits.statements e.block b w.0 w.1 e.binding e.right);
+        let q = in_procedure s l (not_end has_statements refl s e.block) in
+        q.fits.statements e.block b w.0 w.1 e.binding e.right;
     operand_is = λ i a l e. (in_procedure i l (λ p. subst (λ m. HasOperand m a) p e)).fits.operand_is a e;
     head_place = λ i g d. (in_procedure i d.within (not_end is_def refl i (ap is_def d.node))).head_place d.name g d.body d.result d.node;
     head_is = λ i x g b k l e. head_at i x g b k l e;
     params = λ i g d. params_at_def i g d;
     has_def = λ g l e. let s = in_procedure g l (not_end is_head refl g (ap is_head e)) in
-        (s.def_of.0, subst (IsDefOf F s.def_of.0) (s.head_block e) s.def_of.1);
+        let own = s.fits.heads (ap begins_block e) in
+        (s.def_of.row, subst (IsDefOf F s.def_of.row) (sym (s.def_of.block (ap (λ k. is_head (at F k).node) own ∙ ap is_head e)) ∙ own) s.def_of.def);
     def_of = λ i b. (def_here i b).def_of;
     one_def = λ m k g d e. elim (cases_lt m k) [
       | inl l ↦ absurd (no_later m k g d e l)
@@ -538,6 +587,23 @@ module _ (F : List Row) (n : ℕ) (h : Ends F n) where
     arg_of = λ i u k a. arg_belongs i u k a;
     args_of = λ i u c. (in_call i u c).1;
     one_arg = λ m l u k a b. arg_once m l u k a b;
+    in_loop = λ i t b e. (def_here i b).in_loop t e;
+    has_loop = λ u t l e. loop_at u t l e;
+    switches_of = λ u t l e. let c = belongs u (Switches t) l e (λ p. false≢true (sym (ap is_switches p))) in (c.loop, c.of, c.own);
+    entries_of = λ i l e. let w = part_of_loop i Entries l e refl in (w.0, w.1, sym w.2);
+    turn_of = λ i l e. let w = part_of_loop i Turn l e refl in (w.0, w.1, sym w.2);
+    body_of = λ i l e. let w = part_of_loop i Body l e refl in (w.0, w.1, sym w.2);
+    reset_of = λ i v l e. let w = part_of_loop i (Reset v) l e refl in (w.0, w.1, reset_last i v w.0 (at F i).block w.1 e w.2, w.2);
+    one_loop = λ m k u d e. loop_once m k u d e;
+    loop_is = λ i u c. loop_rows i u c;
+    start_of_loop = λ u l e. belongs u Start l e (λ p. false≢true (sym (ap is_start p)));
+    loop_of = λ i l e. (in_procedure i l (not_end is_in_loop refl i e)).loop_of e;
+    use_of = λ o x l e. let v = belongs o (NextUse x) l e (λ p. false≢true (sym (ap is_in_loop p))) in (v.row, v.index, v.next, v.own);
+    next_in = λ m u k x s. next_inside m u k x s;
+    has_next = λ i l e.
+        let v = belongs i Variable l (variable_node (at F i).node e) (λ p. false≢true (sym (ap is_variable p))) in
+        (v.row, v.index, v.name, v.next, v.own);
+    one_next = λ m l u k x y a b. next_once m l u k x y a b;
     value_block = λ i b l e. (in_procedure i l (not_end is_block refl i (ap is_block e))).fits.value_block b e;
     value_self = by_row (λ i r. is_block r.node ≡ false → r.value ≡ i) (λ i s. s.fits.value_self) (λ _. ap (λ (r : Row). r.value) h.last);
     value_stands = λ i l e.

@@ -4,6 +4,7 @@ pub mod Rows
 pub mod Tables
 pub mod Regions
 pub mod Calls
+pub mod Loops
 pub mod Trees
 pub mod Turns
 -- For the proof of `table_of` alone.

@@ -5,10 +5,10 @@ use Rattle.id_tree.specs.declared.tree.Stmt.{Stmt}
 use Rattle.id_tree.specs.declared.tree.Expr.{Expr}
 use Rattle.id_tree.specs.Tree.{Tree, none, more, stmt_tree, tree_of}
 use Rattle.id_parts.specs.declared.maker.Maker.{Maker}
-use Rattle.id_parts.specs.Names.{first_names}
+use Rattle.id_parts.specs.Names.{first_names, number_of}
 use Rattle.id_parts.specs.declared.row.Stand.{Stand}
-use Rattle.id_parts.specs.declared.row.Node.TheVariants.{Arg}
-use Rattle.id_parts.specs.Rows.{Parts, add, last, with_row}
+use Rattle.id_parts.specs.declared.row.Node.TheVariants.{Arg, Body, Next, NextUse, Turn}
+use Rattle.id_parts.specs.Rows.{Parts, add, add_nexts, last, naming, size, with_row}
 
 -- the texts that the references point to
 abbrev pub texts : List (Bor (List ℕ)) → List (List ℕ)
@@ -37,3 +37,16 @@ add_argument s p e i T a = let U = add s T a in with_row U s p e (Arg e i (last 
 abbrev pub stmts_tree : List Stmt → Tree
 stmts_tree [] = none
 stmts_tree (s ∷ ss) = more (stmt_tree s) (stmts_tree ss)
+
+-- the parts with the rows of the `next` statement of the index i
+abbrev pub add_next : Stand → ℕ → Parts → List ℕ → Tree → ℕ → Parts
+add_next s i T x a p =
+    let n = number_of T.names x in
+    let U = add s (with_row (naming T x) s p (size T) (NextUse n)) a in
+    with_row U s p (size T) (Next n i (size T) (last U))
+
+-- the parts with the rows of the body of a loop at this place
+abbrev pub add_body : Stand → Parts → Tree → ℕ → Parts
+add_body s T ss p =
+    let B = with_row T s p (size T) Turn in
+    with_row (add_nexts s 0 B ss) s p (size B) Body

@@ -2,23 +2,27 @@
 use Rattle.std.specs.Prelude.{◌≡◌, ◌<◌, ◌≤◌, ◌+◌, ℕ, Bool, true, false, List, length}
 use Rattle.id_parts.specs.declared.row.Region.{Region}
 use Rattle.id_parts.specs.declared.row.Row.{Row}
-use Rattle.id_parts.specs.declared.row.Node.TheVariants.{Split, If}
-use Rattle.id_parts.specs.Rows.{arm_at, at}
-use Rattle.id_parts.specs.Tables.{is_split}
+use Rattle.id_parts.specs.declared.row.Node.TheVariants.{Split, If, LoopHead}
+use Rattle.id_parts.specs.Rows.{arm_at, at, top}
+use Rattle.id_parts.specs.Tables.{is_split, is_switches}
 
--- the one region lies in the other: it is that one, or an arm whose split stands in a region that lies there
+-- the one region lies in the other: it is that one, or an arm whose split stands in a region that lies there, the
+-- beginning of a loop whose `Start` does, or a side of a loop's switches that do
 pub data Lies (R : List Row) (q : Region) : Region → Type 0 where
   here : Lies R q q
   in_arm : {s : ℕ} {b : Bool} → s < length R → is_split (at R s).node ≡ true → Lies R q (at R s).region
       → Lies R q (arm_at s b)
+  in_loop : {h s : ℕ} → h < length R → (at R h).node ≡ LoopHead s → Lies R q (at R s).region → Lies R q (top h)
+  in_side : {w : ℕ} {b : Bool} → w < length R → is_switches (at R w).node ≡ true → Lies R q (at R w).region
+      → Lies R q (arm_at w b)
 
 -- the row a stands where the row n does: in the same block and region
 abbrev pub StandsWith : List Row → ℕ → ℕ → Type 0
 StandsWith R n a = ((at R a).block ≡ (at R n).block) × ((at R a).region ≡ (at R n).region)
 
--- the row a stands where the row n does, or further in: in the same block, and in a region that lies in that of n
+-- the row a stands where the row n does, or further in: in a region that lies in that of n
 abbrev pub StandsInside : List Row → ℕ → ℕ → Type 0
-StandsInside R n a = ((at R a).block ≡ (at R n).block) × Lies R (at R n).region (at R a).region
+StandsInside R n a = Lies R (at R n).region (at R a).region
 
 -- the row n is the conditional of the split at the row s
 pub record IsIfOf (R : List Row) (n s : ℕ) : Type 0 where

@@ -6,8 +6,10 @@ use Rattle.id_parts.specs.declared.row.Row.{Row}
 use Rattle.id_parts.specs.declared.row.Node.{Node}
 use Rattle.id_parts.specs.declared.row.Node.TheVariants.{Head, Param, Literal, Name, Unary, Binary}
 use Rattle.id_parts.specs.declared.row.Node.TheVariants.{Split, If, Enter, Arg, Call, Block, Binding, Def, Program}
+use Rattle.id_parts.specs.declared.row.Node.TheVariants.{Start, LoopHead, Variable, Entries, Switches, Turn, NextUse}
+use Rattle.id_parts.specs.declared.row.Node.TheVariants.{Next, Body, Reset, Loop}
 use Rattle.id_tree.specs.Tree.{Tree, literal, unary, binary, name, conditional, call, block, binding, param, define}
-use Rattle.id_tree.specs.Tree.{none, more}
+use Rattle.id_tree.specs.Tree.{none, more, loop, next}
 use Rattle.id_parts.specs.Names.{number_of, with_name, first_names}
 
 -- rows, and the names in them by their numbers
@@ -27,7 +29,7 @@ no_row = record { place = 0; first = 0; block = 0; region = record { head = 0; s
 abbrev pub at : List Row → ℕ → Row
 at R i = get_or R i no_row
 
--- in the body of the procedure with this head
+-- in the body of the procedure with this head, or in the loop with this head, outside of its body
 abbrev pub in_top : ℕ → Stand
 in_top h = record { block = h; region = top h }
 
@@ -68,8 +70,23 @@ abbrev pub count_of : Tree → ℕ
 count_of (more a b) = suc (count_of b)
 count_of t = 0
 
+-- the table with the entry of a variable for each `next` of a list of statements, in order
+abbrev pub add_variables : Stand → Parts → Tree → Parts
+add_variables s T (more (next x a p) b) = add_variables s (with_row T s p (size T) Variable) b
+add_variables s T (more a b) = add_variables s T b
+add_variables s T t = T
+
+-- with the rows of a loop of these statements that stand before its predicate; its head is behind its `Start`
+abbrev pub begin_loop : Stand → Parts → Tree → ℕ → Parts
+begin_loop s T ss p =
+    let h = suc (size T) in
+    let H = with_row (with_row T s p (size T) Start) (in_top h) p h (LoopHead (size T)) in
+    let V = add_variables (in_top h) H ss in
+    with_row V (in_top h) p (size V) Entries
+
 abbrev mutual
-  -- the table with the rows of a tree, each behind those of its parts
+  -- the table with the rows of a tree, each behind those of its parts; a `next` in a block, which no text has, counts
+  -- as a binding
   pub add : Stand → Parts → Tree → Parts
   add s T (literal v p) = with_row T s p (size T) (Literal v)
   add s T (unary o a p) = let U = add s T a in with_row U s p (size T) (Unary o (last U))
@@ -89,6 +106,21 @@ abbrev mutual
       let U = add_arguments s p e 0 (with_row (naming T x) s p e (Enter (number_of T.names x))) a in
       with_row U s p e (Call e (count_of a))
   add s T (block ss b p) = let V = add s (add s T ss) b in with_row V s p (size T) (Block (last V))
+  add s T (loop t ss l p) =
+      let h = suc (size T) in
+      let E = begin_loop s T ss p in
+      let U = add (in_top h) E t in
+      let w = size U in
+      let b = arm (in_top h) w true in
+      let o = arm (in_top h) w false in
+      let W = with_row U (in_top h) p (size E) (Switches (last U)) in
+      let B = with_row W b p (size W) Turn in
+      let D = with_row (add_nexts b 0 B ss) b p (size B) Body in
+      let L = add o D l in
+      with_row (with_row L o p (size D) (Reset (last L))) s p (size T) (Loop h w (last L))
+  add s T (next x a p) =
+      let U = add s T a in
+      with_row (naming U x) s p (size T) (Binding (number_of U.names x) (last U))
   add s T (binding x a p) =
       let U = add s T a in
       with_row (naming U x) s p (size T) (Binding (number_of U.names x) (last U))
@@ -108,6 +140,15 @@ abbrev mutual
       let U = add s T a in
       add_arguments s p e (suc i) (with_row U s p e (Arg e i (last U))) b
   add_arguments s p e i T t = T
+
+  -- with those of the statements of a loop, from the `next` of index i on: each begins with its use of the outer name
+  pub add_nexts : Stand → ℕ → Parts → Tree → Parts
+  add_nexts s i T (more (next x a p) b) =
+      let n = number_of T.names x in
+      let U = add s (with_row (naming T x) s p (size T) (NextUse n)) a in
+      add_nexts s (suc i) (with_row U s p (size T) (Next n i (size T) (last U))) b
+  add_nexts s i T (more a b) = add_nexts s i (add s T a) b
+  add_nexts s i T t = T
 
 -- the table of a program's tree
 abbrev pub parts_of : Tree → Parts

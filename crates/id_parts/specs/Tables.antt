@@ -5,6 +5,8 @@ use Rattle.id_parts.specs.declared.row.Row.{Row}
 use Rattle.id_parts.specs.declared.row.Node.{Node}
 use Rattle.id_parts.specs.declared.row.Node.TheVariants.{Head, Param, Literal, Name, Unary, Binary}
 use Rattle.id_parts.specs.declared.row.Node.TheVariants.{Split, If, Enter, Arg, Call, Block, Binding, Def, Program}
+use Rattle.id_parts.specs.declared.row.Node.TheVariants.{Start, LoopHead, Variable, Entries, Switches, Turn, NextUse}
+use Rattle.id_parts.specs.declared.row.Node.TheVariants.{Next, Body, Reset, Loop}
 use Rattle.id_parts.specs.Rows.{at}
 
 -- the node names the row a as its part
@@ -15,23 +17,30 @@ HasPart (Split t) a = a ≡ t
 HasPart (If s x y) a = (a ≡ s) ⊎ ((a ≡ x) ⊎ (a ≡ y))
 HasPart (Arg e i v) a = (a ≡ e) ⊎ (a ≡ v)
 HasPart (Call e c) a = a ≡ e
+HasPart (Switches t) a = a ≡ t
+HasPart (Next x k o v) a = (a ≡ o) ⊎ (a ≡ v)
+HasPart (Reset v) a = a ≡ v
+HasPart (Loop h w l) a = (a ≡ h) ⊎ ((a ≡ w) ⊎ (a ≡ l))
 HasPart (Block b) a = a ≡ b
 HasPart (Binding x b) a = a ≡ b
 HasPart (Def x h k b) a = (a ≡ h) ⊎ (a ≡ b)
 HasPart _ a = ⊥
 
--- such a part that is an expression: any but the head of a definition, the split of a conditional and the `Enter` of a
--- call
+-- such a part that is an expression: any but the head of a definition, the split of a conditional, the `Enter` of a
+-- call, the use of a `next`, and the head and the switches of a loop
 abbrev pub HasOperand : Node → ℕ → Type 0
 HasOperand (Def x h k b) a = a ≡ b
 HasOperand (If s x y) a = (a ≡ x) ⊎ (a ≡ y)
 HasOperand (Arg e i v) a = a ≡ v
 HasOperand (Call e c) a = ⊥
+HasOperand (Next x k o v) a = a ≡ v
+HasOperand (Loop h w l) a = a ≡ l
 HasOperand n a = HasPart n a
 
--- such a part that stands where the node does: any but the arms of a conditional
+-- such a part that stands where the node does: any but the arms of a conditional and the parts of a loop
 abbrev pub HasNear : Node → ℕ → Type 0
 HasNear (If s x y) a = a ≡ s
+HasNear (Loop h w l) a = ⊥
 HasNear n a = HasPart n a
 
 -- the row may stand at the number i: its parts stand before it, from its first row on
@@ -54,6 +63,15 @@ is_thing (Split t) = false
 is_thing (Enter x) = false
 is_thing (Arg e i v) = false
 is_thing Program = false
+is_thing Start = false
+is_thing (LoopHead t) = false
+is_thing Variable = false
+is_thing Entries = false
+is_thing (Switches t) = false
+is_thing Turn = false
+is_thing (NextUse x) = false
+is_thing Body = false
+is_thing (Reset v) = false
 is_thing _ = true
 
 -- no two things have one place
@@ -68,6 +86,8 @@ name_of (Enter x) = Some x
 name_of (Param x k) = Some x
 name_of (Binding x a) = Some x
 name_of (Def x h k b) = Some x
+name_of (NextUse x) = Some x
+name_of (Next x k o v) = Some x
 name_of _ = None
 
 -- the number of each row's name is that of one of the names
@@ -82,13 +102,15 @@ is_expression (Unary o a) = true
 is_expression (Binary o a b) = true
 is_expression (If s x y) = true
 is_expression (Call e c) = true
+is_expression (Loop h w l) = true
 is_expression (Block b) = true
 is_expression _ = false
 
--- whether a value gets its name at a row of this node
+-- whether a value gets its name at a row of this node: a loop's variable gets its own at its `next` statement
 abbrev pub is_binder : Node → Bool
 is_binder (Param x k) = true
 is_binder (Binding x a) = true
+is_binder (Next x k o v) = true
 is_binder _ = false
 
 abbrev pub is_binding : Node → Bool
@@ -129,11 +151,57 @@ abbrev pub is_head : Node → Bool
 is_head Head = true
 is_head _ = false
 
+-- whether a block of the graph begins at a row of this node
+abbrev pub begins_block : Node → Bool
+begins_block Head = true
+begins_block (LoopHead t) = true
+begins_block _ = false
+
+-- whether statements stand right in a row of this node
+abbrev pub has_statements : Node → Bool
+has_statements (Block b) = true
+has_statements Body = true
+has_statements _ = false
+
+abbrev pub is_next : Node → Bool
+is_next (Next x k o v) = true
+is_next _ = false
+
+abbrev pub is_variable : Node → Bool
+is_variable Variable = true
+is_variable _ = false
+
+abbrev pub is_loop : Node → Bool
+is_loop (Loop h w l) = true
+is_loop _ = false
+
+-- whether a loop's body begins behind a row of this node
+abbrev pub is_switches : Node → Bool
+is_switches (Switches t) = true
+is_switches _ = false
+
+-- whether a row of this node is a part of a loop that stands in the loop's block
+abbrev pub is_in_loop : Node → Bool
+is_in_loop (LoopHead t) = true
+is_in_loop Variable = true
+is_in_loop Entries = true
+is_in_loop (Switches t) = true
+is_in_loop Turn = true
+is_in_loop (NextUse x) = true
+is_in_loop (Next x k o v) = true
+is_in_loop Body = true
+is_in_loop (Reset v) = true
+is_in_loop _ = false
+
 -- whether a row of this node always stands right in the region of its block
 abbrev pub is_top : Node → Bool
 is_top Head = true
 is_top (Param x k) = true
 is_top (Def x h k b) = true
+is_top (LoopHead t) = true
+is_top Variable = true
+is_top Entries = true
+is_top (Switches t) = true
 is_top _ = false
 
 abbrev pub is_def : Node → Bool

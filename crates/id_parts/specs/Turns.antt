@@ -5,23 +5,27 @@ use Rattle.id_list.specs.List.{Among}
 use Rattle.id_value.specs.declared.Kind.{Kind}
 use Rattle.id_parts.specs.declared.row.Region.{Region}
 use Rattle.id_parts.specs.declared.row.Row.{Row}
-use Rattle.id_parts.specs.declared.row.Node.TheVariants.{Head, Unary, Binary, Split, If, Enter, Arg, Call, Block}
-use Rattle.id_parts.specs.declared.row.Node.TheVariants.{Binding}
-use Rattle.id_parts.specs.declared.row.Node.TheVariants.{Def, Program}
+use Rattle.id_parts.specs.declared.row.Node.TheVariants.{Head, Unary, Binary, Split, If}
+use Rattle.id_parts.specs.declared.row.Node.TheVariants.{Enter, Arg, Call, Block, Binding}
+use Rattle.id_parts.specs.declared.row.Node.TheVariants.{Def, Program, Start, LoopHead, Entries, Switches, Turn}
+use Rattle.id_parts.specs.declared.row.Node.TheVariants.{NextUse, Next, Body, Reset, Loop}
 use Rattle.id_parts.specs.Rows.{arm_at, at, top}
 use Rattle.id_parts.specs.Tables.{HasOperand, HasNear, IsFormed, IsNested, around}
-use Rattle.id_parts.specs.Tables.{is_binding, is_block, is_expression, is_head, is_param, is_top}
+use Rattle.id_parts.specs.Tables.{begins_block, has_statements, is_binding, is_block, is_expression, is_head}
+use Rattle.id_parts.specs.Tables.{is_in_loop}
+use Rattle.id_parts.specs.Tables.{is_param, is_top, is_variable}
 use Rattle.id_parts.specs.Calls.{AreArgs, IsArgIn, IsArgOf, IsCallOf, IsEnterOf}
+use Rattle.id_parts.specs.Loops.{IsLoop, IsLoopOf, IsNextIn, IsNextOf, StandsInSide}
 use Rattle.id_parts.specs.Regions.{AreArms, IsIfOf, IsSplitOf, StandsInArm, StandsInside, StandsWith}
 
--- whether one of the rows before s is a block round the row i
+-- whether one of the rows before s is a block or the body of a loop round the row i
 abbrev pub in_block : List Row → ℕ → ℕ → Bool
 in_block R i zero = false
-in_block R i (suc s) = in_block R i s || (is_block (at R s).node && around R s i)
+in_block R i (suc s) = in_block R i s || (has_statements (at R s).node && around R s i)
 
--- the row b is a binding right in the block at the row s: no smaller block is round it
+-- the row b is a binding right in the block, or the body of a loop, at the row s: no smaller one is round it
 pub record IsStatement (R : List Row) (s b : ℕ) : Type 0 where
-  pub block : is_block (at R s).node ≡ true
+  pub block : has_statements (at R s).node ≡ true
   pub binding : is_binding (at R b).node ≡ true
   pub inside : around R s b ≡ true
   pub right : in_block R b s ≡ false
@@ -34,13 +38,18 @@ pub data Turns (R : List Row) (n : ℕ) : ℕ → Type 0 where
   test : {s x y t : ℕ} → (at R n).node ≡ If s x y → (at R s).node ≡ Split t → Turns R n t
   argument : {e c m k v : ℕ} → (at R n).node ≡ Call e c → m < length R → (at R m).node ≡ Arg e k v → Turns R n v
   body : {b : ℕ} → (at R n).node ≡ Block b → Turns R n b
-  statement : {m x a : ℕ} → IsStatement R n m → (at R m).node ≡ Binding x a → Turns R n a
+  statement : {m b x a : ℕ} → (at R n).node ≡ Block b → IsStatement R n m → (at R m).node ≡ Binding x a → Turns R n a
 
 -- the expression at the row is a root of the region: it is turned on with the region itself
 pub data Root (R : List Row) : Region → ℕ → Type 0 where
   of_procedure : {n x h b : ℕ} {k : Kind} → n < length R → (at R n).node ≡ Def x h k b → Root R (top h) b
   of_then : {n s x y : ℕ} → n < length R → (at R n).node ≡ If s x y → Root R (arm_at s true) x
   of_otherwise : {n s x y : ℕ} → n < length R → (at R n).node ≡ If s x y → Root R (arm_at s false) y
+  of_test : {w t : ℕ} → w < length R → (at R w).node ≡ Switches t → Root R (at R w).region t
+  of_statement : {n m x a : ℕ} → n < length R → (at R n).node ≡ Body → IsStatement R n m → (at R m).node ≡ Binding x a
+      → Root R (at R n).region a
+  of_next : {m x k o a : ℕ} → m < length R → (at R m).node ≡ Next x k o a → Root R (at R m).region a
+  of_last : {n h w l : ℕ} → n < length R → (at R n).node ≡ Loop h w l → Root R (arm_at w false) l
 
 -- the expression at the row is turned on wherever the region is live
 pub data TurnedIn (R : List Row) (r : Region) : ℕ → Type 0 where
@@ -84,7 +93,17 @@ pub record AreParamsOf (R : List Row) (h n : ℕ) : Type 0 where
   pub count : ℕ
   pub before : h + count < n
   pub param : (i : ℕ) → h < i → i ≤ h + count → is_param (at R i).node ≡ true
+  pub block : (i : ℕ) → h < i → i ≤ h + count → (at R i).block ≡ h
   pub rest : (i : ℕ) → h + count < i → i < n → is_param (at R i).node ≡ false
+
+-- the row i of the block b stands between the head and the end of a definition, whose block it is where it is no loop's
+pub record InDefinition (R : List Row) (i b : ℕ) : Type 0 where
+  pub head : ℕ
+  pub row : ℕ
+  pub def : IsDefOf R row head
+  pub low : head ≤ i
+  pub high : i ≤ row
+  pub block : is_head (at R b).node ≡ true → b ≡ head
 
 -- a table of a program's tree
 pub record IsTable (R : List Row) : Type 0 where
@@ -94,12 +113,16 @@ pub record IsTable (R : List Row) : Type 0 where
   pub ends : (at R (length R - 1)).node ≡ Program
   pub ends_once : (i : ℕ) → i < length R → (at R i).node ≡ Program → i + 1 ≡ length R
   pub some : zero < length R
-  -- each row but the last stands in the block of a head, and there right in the block's region or in an arm
-  pub block : (i : ℕ) → i + 1 < length R → ((at R i).block ≤ i) × ((at R (at R i).block).node ≡ Head)
-  pub region : (i : ℕ) → i + 1 < length R → ((at R i).region ≡ top (at R i).block) ⊎ StandsInArm R i
+  -- each row but the last stands in the block of a head, and there right in the block's region, in an arm or in a side
+  -- of the loop's switches
+  pub block : (i : ℕ) → i + 1 < length R
+      → ((at R i).block ≤ i) × (begins_block (at R (at R i).block).node ≡ true)
+  pub region : (i : ℕ) → i + 1 < length R
+      → ((at R i).region ≡ top (at R i).block) ⊎ (StandsInArm R i ⊎ StandsInSide R i)
   pub at_top : (i : ℕ) → i < length R → is_top (at R i).node ≡ true → (at R i).region ≡ top (at R i).block
-  pub head_block : (h : ℕ) → h < length R → (at R h).node ≡ Head → (at R h).block ≡ h
-  -- a row's parts stand where it does, save the arms of a conditional, and so do the bindings of a block
+  pub head_block : (h : ℕ) → h < length R → begins_block (at R h).node ≡ true → (at R h).block ≡ h
+  -- a row's parts stand where it does, save the arms of a conditional and the parts of a loop, and so do the bindings
+  -- of a block or of a loop's body
   pub part_stands : (n a : ℕ) → n < length R → HasNear (at R n).node a → StandsWith R n a
   pub statement_stands : (s b : ℕ) → s < length R → IsStatement R s b → StandsWith R s b
   -- what stands in a row that is not the last stands where it does, or further in
@@ -111,8 +134,8 @@ pub record IsTable (R : List Row) : Type 0 where
   -- each head has one definition, whose place it has
   pub has_def : (h : ℕ) → h < length R → (at R h).node ≡ Head → (n : ℕ) × IsDefOf R n h
   pub head_place : (n h : ℕ) → IsDefOf R n h → (at R h).place ≡ (at R n).place
-  -- a row that is not the last stands before the definition of its block, or is it
-  pub def_of : (i : ℕ) → i + 1 < length R → (n : ℕ) × IsDefOf R n (at R i).block × (i ≤ n)
+  -- a row that is not the last stands in a definition
+  pub def_of : (i : ℕ) → i + 1 < length R → InDefinition R i (at R i).block
   pub one_def : (n m h : ℕ) → IsDefOf R n h → IsDefOf R m h → n ≡ m
   -- its parameters stand right behind its head
   pub params : (n h : ℕ) → IsDefOf R n h → AreParamsOf R h n
@@ -129,6 +152,36 @@ pub record IsTable (R : List Row) : Type 0 where
   pub arg_of : (m e k : ℕ) (a : IsArgOf R m e k) → IsArgIn R m e k a.value
   pub args_of : (n e : ℕ) (c : IsCallOf R n e) → AreArgs R e n c.count
   pub one_arg : (m l e k : ℕ) → IsArgOf R m e k → IsArgOf R l e k → m ≡ l
+  -- a row of a loop's block stands before the loop
+  pub in_loop : (i s : ℕ) → i + 1 < length R → (at R (at R i).block).node ≡ LoopHead s
+      → (n : ℕ) × IsLoopOf R n (at R i).block × (i < n)
+  -- each `Start`, each head, each pair of switches and each other part of a loop has one loop, whose rows stand as they
+  -- ought to
+  pub start_of_loop : (s : ℕ) → s < length R → (at R s).node ≡ Start → (n : ℕ) × IsLoopOf R n (s + 1)
+  pub loop_of : (i : ℕ) → i < length R → is_in_loop (at R i).node ≡ true
+      → (n : ℕ) × IsLoopOf R n (at R i).block × (i < n)
+  pub has_loop : (h s : ℕ) → h < length R → (at R h).node ≡ LoopHead s → (n : ℕ) × IsLoopOf R n h
+  pub switches_of : (w t : ℕ) → w < length R → (at R w).node ≡ Switches t
+      → (n : ℕ) × (c : IsLoopOf R n (at R w).block) × (c.switches ≡ w)
+  pub one_loop : (n m h : ℕ) → IsLoopOf R n h → IsLoopOf R m h → n ≡ m
+  pub loop_is : (n h : ℕ) (c : IsLoopOf R n h) → IsLoop R n h c.switches c.last
+  pub entries_of : (e : ℕ) → e < length R → (at R e).node ≡ Entries
+      → (n : ℕ) × (c : IsLoopOf R n (at R e).block) × ((loop_is n (at R e).block c).entries ≡ e)
+  pub turn_of : (i : ℕ) → i < length R → (at R i).node ≡ Turn
+      → (n : ℕ) × (c : IsLoopOf R n (at R i).block) × (c.switches + 1 ≡ i)
+  pub body_of : (b : ℕ) → b < length R → (at R b).node ≡ Body
+      → (n : ℕ) × (c : IsLoopOf R n (at R b).block) × ((loop_is n (at R b).block c).body ≡ b)
+  pub reset_of : (i v : ℕ) → i < length R → (at R i).node ≡ Reset v
+      → (n : ℕ) × (c : IsLoopOf R n (at R i).block) × (c.last ≡ v) × (i + 1 ≡ n)
+  -- each `next` statement stands right in the body of a loop, and each variable has exactly one; each use of an outer
+  -- name has its own
+  pub next_in : (m h k x : ℕ) (s : IsNextOf R m h k x)
+      → (n : ℕ) × (c : IsLoopOf R n h) × IsNextIn R n m h c.switches k x s.outer
+  pub has_next : (i : ℕ) → i < length R → is_variable (at R i).node ≡ true
+      → (m : ℕ) × (k : ℕ) × (x : ℕ) × IsNextOf R m (at R i).block k x × ((at R i).block + 1 + k ≡ i)
+  pub use_of : (o x : ℕ) → o < length R → (at R o).node ≡ NextUse x
+      → (m : ℕ) × (k : ℕ) × (s : IsNextOf R m (at R o).block k x) × (s.outer ≡ o)
+  pub one_next : (m l h k x y : ℕ) → IsNextOf R m h k x → IsNextOf R l h k y → m ≡ l
   -- a block's value is its body's, any other row's is itself; what gives a value is an expression that is no block,
   -- and stands where the row does
   pub value_block : (n b : ℕ) → n < length R → (at R n).node ≡ Block b → (at R n).value ≡ (at R b).value

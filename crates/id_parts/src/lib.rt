@@ -20,8 +20,9 @@
 //! | array | lo, hi, `Array` |
 //! | fetch | target, index, `Fetch` |
 //! | store | target, index, `Address`, value, `Store` |
-//! | loop | `Start`, `LoopHead`, a `Variable` each, `Entries`, predicate, `Switches`, `Turn`, the body's rows with a
-//! `NextUse`, an expression and a `Next` for each `next`, `finally`, `Reset`, `Loop` |
+//! | loop, to its body | `Start`, `LoopHead`, a `Variable` each, `Entries`, the predicate's rows, `Switches`, `Turn` |
+//! | loop, from there on | each statement's rows, `Body`, the last expression's rows, `Reset`, `Loop` |
+//! | `next` | `NextUse`, its expression's rows, `Next` |
 //! | program | the definitions' rows, then `Program` |
 #![tactic(auto)]
 

@@ -1,11 +1,14 @@
 //! The maker of the table: one walk over the tree, in which a name gets its number where it first stands.
 
 ghost use Rattle.std.specs.Prelude.{ℕ, ◌≡◌, ◌+◌, ◌++◌, ◌∷◌, [], length, map, IfOk, OnOk};
-ghost use Rattle.id_tree.specs.Tree.{unary, binary, name as name_tree, conditional, call, block, binding};
+ghost use Rattle.id_tree.specs.Tree.{unary, binary, name as name_tree, conditional};
+ghost use Rattle.id_tree.specs.Tree.{call, block, binding, loop as loop_tree};
 ghost use Rattle.id_tree.specs.Tree.{tree_of, params_tree, def_tree, defs_tree, program_tree};
 ghost use Rattle.id_parts.specs.Names.{number_of, with_name};
-ghost use Rattle.id_parts.specs.Rows.{arm, in_top, value_of, with_row, add, add_arguments, parts_of, rows_of};
-ghost use Rattle.id_parts.specs.Making.{add_argument, parts, texts, exprs_tree, stmts_tree, IsStart};
+ghost use Rattle.id_parts.specs.Rows.{arm, in_top, value_of, with_row, add, add_arguments, add_nexts};
+ghost use Rattle.id_parts.specs.Rows.{add_variables, begin_loop, parts_of, rows_of, size};
+ghost use Rattle.id_parts.specs.declared.row.Node.TheVariants.{Variable};
+ghost use Rattle.id_parts.specs.Making.{add_argument, add_next, parts, texts, exprs_tree, stmts_tree, IsStart};
 
 use crate::row::{Node, Region, Row, Stand, Table};
 use id_text::Identifier;
@@ -222,6 +225,12 @@ impl<'a> Maker<'a> {
                 body,
                 place,
             } => self.add_block(stand, statements, body, *place),
+            Expr::Loop {
+                test,
+                statements,
+                last,
+                place,
+            } => self.add_loop(stand, statements, test, last, *place),
         }
     }
 
@@ -399,8 +408,145 @@ impl<'a> Maker<'a> {
                 Stmt::Binding { name, value, place } => self.add_binding(
                     stand, name, value, *place,
                 )?,
+                Stmt::Next { name, value, place } => self.add_binding(stand, name, value, *place)?,
             }
         }
+        Ok(())
+    }
+
+    #[cycle(add)]
+    fn add_loop(
+        &mut self,
+        stand: Stand,
+        statements: &'a [Stmt],
+        test: &'a Expr,
+        last: &'a Expr,
+        place: usize,
+    ) -> Result<usize, AllocError>
+        ensures added { OnOk result (parts self.new ≡ add stand (parts self.old)
+            (loop_tree (tree_of test.now) (stmts_tree statements.now) (tree_of last.now) place)) }
+        ensures number { IfOk result (λ i. i + 1 ≡ length self.new.rows.items) }
+    {
+        let start = self.rows.len();
+        let head = self.begin_loop(stand, statements, place)?;
+        let inside = stand_in(head);
+        let entered = self.rows.len();
+        let test = self.add_expr(inside, test)?;
+        let switches = self.push(inside, place, entered, Node::Switches { test })?;
+        let body = in_arm(inside, switches, true);
+        let turned = self.rows.len();
+        self.push(body, place, turned, Node::Turn)?;
+        let begun = self.rows.len();
+        self.add_nexts(body, statements)?;
+        self.push(body, place, begun, Node::Body)?;
+        let behind = in_arm(inside, switches, false);
+        let closed = self.rows.len();
+        let last = self.add_expr(behind, last)?;
+        self.push(behind, place, closed, Node::Reset { value: last })?;
+        self.push(
+            stand,
+            place,
+            start,
+            Node::Loop {
+                head,
+                switches,
+                last,
+            },
+        )
+    }
+
+    /// Adds the rows of a loop before its predicate, and gives the number of its head.
+    fn begin_loop(
+        &mut self,
+        stand: Stand,
+        statements: &'a [Stmt],
+        place: usize,
+    ) -> Result<usize, AllocError>
+        ensures added { OnOk result (parts self.new
+            ≡ begin_loop stand (parts self.old) (stmts_tree statements.now) place) }
+        ensures number { IfOk result (λ h. h ≡ length self.old.rows.items + 1) }
+    {
+        let start = self.rows.len();
+        self.push(stand, place, start, Node::Start)?;
+        let head = self.rows.len();
+        let inside = stand_in(head);
+        self.push(inside, place, head, Node::LoopHead { start })?;
+        self.add_variables(inside, statements)?;
+        let first = self.rows.len();
+        self.push(inside, place, first, Node::Entries)?;
+        Ok(head)
+    }
+
+    /// Adds the row of a variable for each `next` among the statements.
+    fn add_variables(&mut self, stand: Stand, statements: &'a [Stmt]) -> Result<(), AllocError>
+        ensures { OnOk result (parts self.new ≡ add_variables stand (parts self.old) (stmts_tree statements.now)) }
+    {
+        for statement in statements {
+            match statement {
+                Stmt::Binding { .. } => {}
+                Stmt::Next { place, .. } => self.add_variable(stand, *place)?,
+            }
+        }
+        Ok(())
+    }
+
+    fn add_variable(&mut self, stand: Stand, place: usize) -> Result<(), AllocError>
+        ensures { OnOk result (parts self.new
+            ≡ with_row (parts self.old) stand place (size (parts self.old)) Variable) }
+    {
+        let first = self.rows.len();
+        self.push(stand, place, first, Node::Variable)?;
+        Ok(())
+    }
+
+    /// Adds the rows of the statements of a loop.
+    #[cycle(add)]
+    fn add_nexts(&mut self, stand: Stand, statements: &'a [Stmt]) -> Result<(), AllocError>
+        ensures { OnOk result (parts self.new ≡ add_nexts stand 0 (parts self.old) (stmts_tree statements.now)) }
+    {
+        let mut index = 0;
+        for statement in statements {
+            match statement {
+                Stmt::Binding { name, value, place } => self.add_binding(
+                    stand, name, value, *place,
+                )?,
+                Stmt::Next { name, value, place } => {
+                    self.add_next(stand, index, name, value, *place)?;
+                    index += 1;
+                }
+            }
+        }
+        Ok(())
+    }
+
+    /// Adds the rows of the `next` statement of this index.
+    #[cycle(add)]
+    fn add_next(
+        &mut self,
+        stand: Stand,
+        index: usize,
+        name: &'a Identifier,
+        expr: &'a Expr,
+        place: usize,
+    ) -> Result<(), AllocError>
+        ensures { OnOk result (parts self.new
+            ≡ add_next stand index (parts self.old) name.now (tree_of expr.now) place) }
+    {
+        let outer = self.rows.len();
+        let name = self.number(name)?;
+        self.push(stand, place, outer, Node::NextUse { name })?;
+        let value = self.add_expr(stand, expr)?;
+        self.push(
+            stand,
+            place,
+            outer,
+            Node::Next {
+                name,
+                index,
+                outer,
+                value,
+            },
+        )?;
         Ok(())
     }
 

@@ -7,7 +7,8 @@ use id_text::Identifier;
 use id_value::{BinaryOp, Constant, Kind, UnaryOp};
 
 /// A stretch of rows that is turned on as a whole, by one side of what its head makes: the body of a
-/// procedure by its `Head`, an arm of a conditional by its `Split`.
+/// procedure by its `Head`, an arm of a conditional by its `Split`; a loop's beginning by its `LoopHead`, its body
+/// by the true side of its `Switches`, and what is behind its body by the false side.
 #[derive(Clone, Copy, PartialEq, Eq)]
 pub struct Region {
     pub head: usize,
@@ -85,6 +86,48 @@ pub enum Node {
     Call {
         enter: usize,
         count: usize,
+    },
+    /// The beginning of a loop, outside of it: the context that it makes for the loop, and what is sent into it.
+    Start,
+    /// The head of a loop's block: its trigger and its way back. The row before it is the `Start`.
+    LoopHead {
+        start: usize,
+    },
+    /// The entry of a variable of the loop, at the word of its `Next`, which has its name; they stand right behind the
+    /// `LoopHead`, in the order of their `Next`s.
+    Variable,
+    /// The entries of the names that the loop imports.
+    Entries,
+    /// The switches of a loop, behind the predicate and before the body.
+    Switches {
+        test: usize,
+    },
+    /// What hands the trigger and the imported names on to the next iteration, at the beginning of the body.
+    Turn,
+    /// The use that a `next` statement makes of the name outside of the loop, for the first value; it makes nothing.
+    NextUse {
+        name: usize,
+    },
+    /// A `next` statement behind its expression: the index of its variable, from 0, the row of its `NextUse`, and
+    /// what gives the value.
+    Next {
+        name: usize,
+        index: usize,
+        outer: usize,
+        value: usize,
+    },
+    /// The end of a loop's body, in which its bindings are seen; it makes nothing.
+    Body,
+    /// What sends the value of the last expression out of the loop, right behind that.
+    Reset {
+        value: usize,
+    },
+    /// A loop behind its last expression, outside of it: the rows of its `LoopHead` and its `Switches`, and what
+    /// gives the value where the predicate is not true.
+    Loop {
+        head: usize,
+        switches: usize,
+        last: usize,
     },
     /// Statements in whatever order, and the body that gives the value.
     Block {

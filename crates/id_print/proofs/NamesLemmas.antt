@@ -7,14 +7,13 @@ use Rattle.std.specs.Ordering.{nat_cmp, ordering_then, ordering_reverse, is_lt, 
 use Rattle.std.specs.Cmp.{IsTotalOrder}
 use Rattle.std.specs.Cmp.Lexicographic.{slice_cmp, lists_total}
 use Rattle.std.proofs.lemmas.Bool.{false≢true}
-use Rattle.std.proofs.lemmas.Cmp.{ranked, nat_cmp_total, on_total, then_total, tied_itself}
+use Rattle.std.proofs.lemmas.Cmp.{nat_cmp_total, on_total, then_total, tied_itself}
 use Rattle.std.proofs.lemmas.List.Sorted.{ranks_by, sorted_far, Contains-permutation}
 use Rattle.std.proofs.lemmas.Map.Keys.{IsDistinct-IsPermutation}
-use Rattle.id_meaning.specs.declared.PathStep.{PathStep}
 use Rattle.id_meaning.specs.declared.Path.{Path}
 use Rattle.id_meaning.specs.declared.NameValue.{NameValue}
 use Rattle.id_list.specs.List.{Among, AllDiffer}
-use Rattle.id_meaning.specs.Orders.{NamesRise, StepsBefore, step_cmp}
+use Rattle.id_meaning.specs.Orders.{NamesRise, step_cmp}
 use Rattle.id_print.specs.Names.{NameBefore, IsSortedOf, AreApart, name_cmp}
 use Rattle.id_meaning.proofs.PathOrderLemmas.{less_number, less_steps, number_less, same_number, same_steps, step_total, steps_less, then_equal, then_less}
 

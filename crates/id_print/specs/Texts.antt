@@ -1,5 +1,7 @@
 -- The texts that are printed (docs/LANGUAGE.md, "Output"). Bytes are those of ASCII text.
-use Rattle.std.specs.Prelude.{ℕ, Bool as Truth, true, false, List, ◌++◌, Option, None, Some, codes, decimal}
+use Rattle.std.specs.Prelude.{ℕ, ◌==◌, Bool as Truth, true, false, List, [], ◌++◌, Option, None, Some, codes, decimal}
+use Rattle.std.specs.Prelude.{slice_get}
+use Rattle.std.specs.Option.{option_map_or}
 use Rattle.std.specs.List.{flat_map}
 use Rattle.std.specs.Fmt.{signed_decimal}
 use Rattle.id_text.specs.Places.{line_of, column_of}
@@ -22,9 +24,18 @@ line_column_text line column = decimal line ++ (codes ":" ++ decimal column)
 abbrev pub place_text : List ℕ → ℕ → List ℕ
 place_text text at = line_column_text (line_of text at) (column_of text at)
 
--- a step of a path, which is a call's
+-- whether a `{` stands at the place
+abbrev pub has_brace : List ℕ → ℕ → Truth
+has_brace text at = option_map_or (λ b. b == 123) (slice_get text at) false
+
+-- the iteration that a loop's step tells; a call's tells none
+abbrev pub iteration_text : Truth → ℕ → List ℕ
+iteration_text true k = codes "#" ++ decimal k
+iteration_text false k = []
+
+-- a step of a path: a loop's where the text has `{` at its place, and else a call's
 abbrev pub step_text : List ℕ → PathStep → List ℕ
-step_text text s = codes "/" ++ place_text text s.place
+step_text text s = codes "/" ++ (place_text text s.place ++ iteration_text (has_brace text s.place) s.number)
 
 -- the steps one after another
 abbrev pub steps_text : List ℕ → List PathStep → List ℕ

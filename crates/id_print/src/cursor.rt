@@ -3,6 +3,7 @@
 ghost use Rattle.std.specs.Prelude.{◌≡◌, ◌≤◌, length};
 ghost use Rattle.id_text.specs.Places.{line_of, column_of};
 ghost use Rattle.id_print.specs.Cursors.{IsSpot};
+ghost use Rattle.id_print.specs.Texts.{has_brace};
 
 use id_text::MAX_BYTES;
 use std::marker::Model;
@@ -70,6 +71,16 @@ impl<'a> Cursor<'a> {
     {
         self.step = spot_at(self.text.as_bytes(), self.step, at);
         (self.step.line, self.step.column)
+    }
+
+    /// Whether a `{` stands at a place.
+    pub(crate) fn has_brace(&self, at: usize) -> bool
+        ensures { result ≡ has_brace self.now at }
+    {
+        match self.text.as_bytes().get(at) {
+            Some(byte) => *byte == b'{',
+            None => false,
+        }
     }
 }
 

@@ -3,8 +3,8 @@
 ghost use Rattle.std.specs.Prelude.{◌≡◌, ◌≤◌, ◌++◌, length, decimal, codes};
 ghost use Rattle.std.specs.Fmt.{signed_decimal};
 ghost use Rattle.id_print.specs.Told.{Prints};
-ghost use Rattle.id_print.specs.Texts.{line_column_text, place_text, step_text, steps_text, point_text};
-ghost use Rattle.id_print.specs.Texts.{point_value_text, truth_text, value_text};
+ghost use Rattle.id_print.specs.Texts.{iteration_text, line_column_text, place_text, step_text, steps_text};
+ghost use Rattle.id_print.specs.Texts.{point_text, point_value_text, truth_text, value_text};
 ghost use Rattle.id_print.specs.Within.{StepsWithin, PointWithin};
 
 use crate::cursor::Cursor;
@@ -70,7 +70,20 @@ fn put_step<W: Sink>(
 {
     let (line, column) = cursor.step_line_col(step.place);
     put(sink, b"/")?;
-    put_line_column(sink, line, column)
+    put_line_column(sink, line, column)?;
+    put_iteration(sink, cursor.has_brace(step.place), step.number)
+}
+
+/// The iteration of a step of a loop, and nothing of one of a call.
+fn put_iteration<W: Sink>(sink: &mut W, in_loop: bool, number: u64) -> Result<(), PrintError>
+    ensures { Prints (W.told sink.old) (W.told sink.new) (iteration_text in_loop number) result }
+{
+    if in_loop {
+        put(sink, b"#")?;
+        put_long(sink, number)
+    } else {
+        Ok(())
+    }
 }
 
 fn put_steps<W: Sink>(

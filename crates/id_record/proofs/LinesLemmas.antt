@@ -140,6 +140,8 @@ target-line t l element iteration instr result = rw (element, iteration, instr, 
 pub names-line : (f : Fired) (v : Value) (t : Tag) (l : Line) → Names f v t → l.to_element ≡ t.context.element → l.to_iteration ≡ t.iteration → l.to_instr ≡ t.instr → l.result ≡ number_of f t.context.serial → Names f v (target_in l)
 names-line (fired.Out w) v t l names element iteration instr result = tt
 names-line (fired.Side b w) v t l names element iteration instr result = tt
+names-line (fired.Moved i w) v t l names element iteration instr result =
+    ap (λ u. u.iteration) (target-line t l element iteration instr result) ∙ names
 names-line (fired.Entered c) v t l names element iteration instr result = ap (λ u. u.context) (target-line t l element iteration instr result) ∙ names
 names-line (fired.Sent u w) v t l names element iteration instr result = target-line t l element iteration instr result ∙ names
 names-line (fired.Failed f) v t l names element iteration instr result = tt
@@ -153,6 +155,7 @@ names-line fired.Nothing (value.Continuation u) t l names element iteration inst
 number-line : (f : Fired) (t : Tag) (l : Line) → l.result ≡ number_of f t.context.serial → l.result ≡ number_of f (target_in l).context.serial
 number-line (fired.Out w) t l result = result
 number-line (fired.Side b w) t l result = result
+number-line (fired.Moved i w) t l result = rw result refl
 number-line (fired.Entered c) t l result = rw result refl
 number-line (fired.Sent u w) t l result = rw result refl
 number-line (fired.Failed f) t l result = rw result refl

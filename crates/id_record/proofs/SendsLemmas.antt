@@ -11,7 +11,7 @@ use Rattle.std.proofs.Common.{List, [], ◌∷◌, ◌++◌, length, length-appe
 use Rattle.std.proofs.lemmas.List.{length-map, length-take, map_more}
 use Rattle.std.specs.Prelude.{Option, None}
 use Rattle.id_graph.specs.declared.instr.Op.{Op}
-use Rattle.id_graph.specs.declared.instr.Op.TheVariants.{Const, Unary, Binary, Merge, Switch, Back, Enter, Send}
+use Rattle.id_graph.specs.declared.instr.Op.TheVariants.{Const, Unary, Binary, Merge, Switch, Back, Enter, Send, Next, Reset}
 use Rattle.id_graph.specs.declared.dests.Dest.{Dest}
 use Rattle.id_tag.specs.declared.Context.{Context}
 use Rattle.id_tag.specs.declared.Tag.{Tag}
@@ -21,18 +21,16 @@ use Rattle.id_tag.specs.declared.Payload.{Payload}
 use Rattle.id_tag.specs.declared.Message.{Message}
 use Rattle.id_tag.specs.declared.Sender.TheVariants.{Element}
 use Rattle.id_ops.specs.declared.Fired.{Fired}
-use Rattle.id_ops.specs.declared.Fired.TheVariants.{Out, Side, Entered, Sent, Failed, Nothing}
-use Rattle.id_record.specs.Sends.{HasSecond, count_started, sent, started, token_to, numbered}
+use Rattle.id_ops.specs.declared.Fired.TheVariants.{Out, Side, Moved, Entered, Sent, Failed, Nothing}
+use Rattle.id_record.specs.Sends.{HasSecond, count_started, moved_to, sent, started, token_to, numbered}
 
 -- a value that goes out goes to each destination
-pub sent-out : (o : Option Op) (ds : List Dest) (t : Tag) (f : Fired) (v : Value) → (f ≡ Out v) ⊎ ((b : Bool) × (f ≡ Side b v)) → sent o ds t f ≡ map (token_to t v) ds
-sent-out o ds t f v (inl is) = ap (sent o ds t) is
-sent-out o ds t f v (inr is) = ap (sent o ds t) is.1
-
-pub length-out : (o : Option Op) (ds : List Dest) (t : Tag) (f : Fired) → ((v : Value) × (f ≡ Out v)) ⊎ ((b : Bool) × (v : Value) × (f ≡ Side b v))
+pub length-out : (o : Option Op) (ds : List Dest) (t : Tag) (f : Fired)
+    → ((v : Value) × (f ≡ Out v)) ⊎ (((b : Bool) × (v : Value) × (f ≡ Side b v)) ⊎ ((i : ℕ) × (v : Value) × (f ≡ Moved i v)))
     → length (sent o ds t f) ≡ length ds
 length-out o ds t f (inl is) = ap (λ g. length (sent o ds t g)) is.1 ∙ length-map ds (token_to t is.0)
-length-out o ds t f (inr is) = ap (λ g. length (sent o ds t g)) is.2 ∙ length-map ds (token_to t is.1)
+length-out o ds t f (inr (inl is)) = ap (λ g. length (sent o ds t g)) is.2 ∙ length-map ds (token_to t is.1)
+length-out o ds t f (inr (inr is)) = ap (λ g. length (sent o ds t g)) is.2 ∙ length-map ds (token_to (moved_to t is.0) is.1)
 
 -- an instruction that does something is there
 within_op : (g : Parts) (n : ℕ) (op : Op) → op_at g n ≡ Some op → n < length g.instrs
@@ -55,6 +53,8 @@ HasSecond-valid g n (Some (Merge k)) graph valid is = tt
 HasSecond-valid g n (Some (Switch k)) graph valid is = tt
 HasSecond-valid g n (Some (Back k)) graph valid is = tt
 HasSecond-valid g n (Some (Send k t)) graph valid is = tt
+HasSecond-valid g n (Some (Next k)) graph valid is = tt
+HasSecond-valid g n (Some (Reset k)) graph valid is = tt
 
 -- so many payloads start a block
 pub length-started : (o : Option Op) (t : Tag) (c : Context) → length (started o t c) ≡ count_started o
@@ -67,6 +67,8 @@ length-started (Some (Merge k)) t c = refl
 length-started (Some (Switch k)) t c = refl
 length-started (Some (Back k)) t c = refl
 length-started (Some (Send k n)) t c = refl
+length-started (Some (Next k)) t c = refl
+length-started (Some (Reset k)) t c = refl
 
 -- a context that is entered goes to each destination, and then the block is started
 pub length-entered : (o : Option Op) (ds : List Dest) (t : Tag) (c : Context) → length (sent o ds t (Entered c)) ≡ length ds + count_started o
@@ -77,6 +79,7 @@ length-entered o ds t c =
 pub length-sent : (o : Option Op) (ds : List Dest) (t : Tag) (f : Fired) → length (sent o ds t f) ≤ max (length ds) 1 + count_started o
 length-sent o ds t (Out v) = omega (arith, length-map ds (token_to t v))
 length-sent o ds t (Side b v) = omega (arith, length-map ds (token_to t v))
+length-sent o ds t (Moved i v) = omega (arith, length-map ds (token_to (moved_to t i) v))
 length-sent o ds t (Entered c) = omega (arith, length-entered o ds t c)
 length-sent o ds t (Sent u v) = omega arith
 length-sent o ds t (Failed f) = omega arith

@@ -45,10 +45,11 @@ NamedBy (value.Context c) t = Unit {0}
 NamedBy (value.Continuation u) t = t ≡ u
 
 -- the tag is the one that an event names beside that of its message, if it names one: where a value was sent, which
--- context was entered, or what a value that waits names
+-- context was entered, which iteration a value moved to, or what a value that waits names
 abbrev pub Names : Fired → Value → Tag → Type 0
 Names (fired.Out w) v t = Unit {0}
 Names (fired.Side b w) v t = Unit {0}
+Names (fired.Moved i w) v t = t.iteration ≡ i
 Names (fired.Entered c) v t = t.context ≡ c
 Names (fired.Sent u w) v t = t ≡ u
 Names (fired.Failed f) v t = Unit {0}
@@ -66,6 +67,7 @@ number_in (value.Continuation t) = pos 0
 abbrev pub number_of : Fired → ℕ → ℤ
 number_of (fired.Out v) s = number_in v
 number_of (fired.Side b v) s = number_in v
+number_of (fired.Moved i v) s = pos s
 number_of (fired.Entered c) s = pos s
 number_of (fired.Sent u v) s = pos s
 number_of (fired.Failed f) s = pos s
@@ -76,6 +78,7 @@ abbrev pub exit_of : Fired → Exit
 exit_of (fired.Out v) = exits.Only
 exit_of (fired.Side true v) = exits.True
 exit_of (fired.Side false v) = exits.False
+exit_of (fired.Moved i v) = exits.Only
 exit_of (fired.Entered c) = exits.Only
 exit_of (fired.Sent u v) = exits.Only
 exit_of (fired.Failed f) = exits.Only
@@ -100,6 +103,7 @@ reaction_of effect.Signal x n t v = record { fired = fired_at x value.Signal; ve
 reaction_of effect.Int x n t v = record { fired = fired_at x (value.Int n); verdict = verdict.Went }
 reaction_of effect.True x n t v = record { fired = fired_at x (value.Bool true); verdict = verdict.Went }
 reaction_of effect.False x n t v = record { fired = fired_at x (value.Bool false); verdict = verdict.Went }
+reaction_of effect.Moved x n t v = record { fired = fired.Moved t.iteration v; verdict = verdict.Went }
 reaction_of effect.Entered x n t v = record { fired = fired.Entered t.context; verdict = verdict.Went }
 reaction_of effect.Sent x n t v = record { fired = fired.Sent t v; verdict = verdict.Went }
 

@@ -13,7 +13,7 @@ use Rattle.id_tag.specs.declared.Payload.{Payload}
 use Rattle.id_tag.specs.declared.Payload.TheVariants.{Token}
 use Rattle.id_tag.specs.declared.Message.{Message}
 use Rattle.id_ops.specs.declared.Fired.{Fired}
-use Rattle.id_ops.specs.declared.Fired.TheVariants.{Out, Side, Entered, Sent, Failed, Nothing}
+use Rattle.id_ops.specs.declared.Fired.TheVariants.{Out, Side, Moved, Entered, Sent, Failed, Nothing}
 use Rattle.id_ops.specs.Operators.{tag_within}
 
 -- a token to this destination, under the context and iteration of the tag
@@ -23,6 +23,10 @@ token_to t v d = Token (record { context = t.context; iteration = t.iteration; i
 -- the tag of another instruction, under the same context and iteration
 abbrev pub beside : Tag → ℕ → Tag
 beside t n = record { context = t.context; iteration = t.iteration; instr = n }
+
+-- the tag of the same instruction in the same context, at this iteration
+abbrev pub moved_to : Tag → ℕ → Tag
+moved_to t i = record { context = t.context; iteration = i; instr = t.instr }
 
 -- what an `enter` under the tag starts in a context: a signal goes to the block's first instruction, and the tag of the
 -- reply to port 0 of the second
@@ -41,11 +45,12 @@ abbrev pub HasSecond : Option Op → Type 0
 HasSecond (Some (Enter b r)) = b + 1 < 2 ^ 32
 HasSecond _ = Unit {0}
 
--- what a firing of the operator sends, with the destinations on its side: one token to each in order, of an entered
--- block also what starts it, or one token to port 0 of a tag
+-- what a firing of the operator sends, with the destinations on its side: one token to each in order, at the tag's
+-- iteration or at the one that it moved to, of an entered block also what starts it, or one token to port 0 of a tag
 abbrev pub sent : Option Op → List Dest → Tag → Fired → List Payload
 sent o ds t (Out v) = map (token_to t v) ds
 sent o ds t (Side b v) = map (token_to t v) ds
+sent o ds t (Moved i v) = map (token_to (moved_to t i) v) ds
 sent o ds t (Entered c) = map (token_to t (value.Context c)) ds ++ started o t c
 sent o ds t (Sent u v) = Token u Zero v ∷ []
 sent o ds t (Failed f) = []

@@ -13,5 +13,5 @@ mod step;
 
 pub use history::{Event, Events, Record, full_step, tag_of};
 pub use line::{Handled, Reaction};
-pub use outputs::{Envelope, Outputs, chosen, count_started, message, start, token_to};
+pub use outputs::{Envelope, Outputs, chosen, count_started, message, moved_to, start, token_to};
 pub use step::{Fault, Step, Verdict};

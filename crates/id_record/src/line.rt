@@ -79,7 +79,8 @@ enum Exit {
 }
 
 /// What the instruction made of the message; `Int` stands for the result of the line, `Entered` for the context of
-/// the tag that the event names, and `Sent` for sending the message's own value to that tag.
+/// the tag that the event names, `Sent` for sending the message's own value to that tag, and `Moved` for sending it on
+/// at that tag's iteration.
 #[derive(Clone, Copy)]
 enum Effect {
     Stuck,
@@ -90,6 +91,7 @@ enum Effect {
     Int,
     True,
     False,
+    Moved,
     Entered,
     Sent,
 }
@@ -227,6 +229,14 @@ fn target(value: Value, fired: Fired) -> Tag
     ensures { Names fired value result }
 {
     match (fired, value) {
+        (Fired::Moved(iteration, _), _) => Tag {
+            context: Context {
+                element: 0,
+                serial: 0,
+            },
+            iteration,
+            instr: 0,
+        },
         (Fired::Entered(context), _) => tag_within(context, 0),
         (Fired::Sent(tag, _), _) => tag,
         (Fired::Nothing, Value::Continuation(tag)) => tag,
@@ -256,6 +266,7 @@ fn effect_of(value: Value, reaction: Reaction) -> Option<Effect>
             Some(Effect::DivisionByZero),
         (Fired::Out(value), Verdict::Went) => going_out(value),
         (Fired::Side(_, value), Verdict::Went) => going_out(value),
+        (Fired::Moved(_, moved), Verdict::Went) if moved == value => Some(Effect::Moved),
         (Fired::Entered(_), Verdict::Went) => Some(Effect::Entered),
         (Fired::Sent(_, sent), Verdict::Went) if sent == value => Some(Effect::Sent),
         _ => None,
@@ -429,6 +440,7 @@ fn reaction_in(line: &Line, value: Value) -> Reaction
         Effect::Int => went(fired_at(line.exit, Value::Int(line.result))),
         Effect::True => went(fired_at(line.exit, Value::Bool(true))),
         Effect::False => went(fired_at(line.exit, Value::Bool(false))),
+        Effect::Moved => went(Fired::Moved(u64::from(line.to_iteration), value)),
         Effect::Entered => went(Fired::Entered(target_in(line).context)),
         Effect::Sent => went(Fired::Sent(target_in(line), value)),
     }

@@ -1,13 +1,13 @@
 //! What an event sent, which contracts see as a list of messages.
 
-ghost use Rattle.std.specs.Prelude.{◌≡◌, ◌<◌, length, slice_get, Some};
+ghost use Rattle.std.specs.Prelude.{◌≡◌, ◌<◌, length, map, slice_get, Some};
 ghost use Rattle.id_graph.specs.declared.dests.Port.TheVariants.{Zero};
 ghost use Rattle.id_tag.specs.declared.Payload.TheVariants.{Token};
 ghost use Rattle.id_tag.specs.declared.Sender.TheVariants.{Element};
 ghost use Rattle.id_ops.specs.declared.Fired.TheVariants.{Entered};
 ghost use Rattle.id_graph.specs.Graph.{arcs_on};
 ghost use Rattle.id_ops.specs.Operators.{side_of};
-ghost use Rattle.id_record.specs.Sends.{HasSecond, beside, count_started, sent, started, token_to};
+ghost use Rattle.id_record.specs.Sends.{HasSecond, beside, count_started, moved_to, sent, started, token_to};
 
 use id_graph::{Dest, Instr, Op, Port};
 use id_ops::{Fired, tag_within};
@@ -76,7 +76,7 @@ impl<'a> Outputs<'a> {
         ensures { result ≡ length self.now }
     {
         match self.fired {
-            Fired::Out(_) | Fired::Side(..) => self.dests.len(),
+            Fired::Out(_) | Fired::Side(..) | Fired::Moved(..) => self.dests.len(),
             Fired::Entered(_) => self.dests.len() + count_started(self.op),
             Fired::Sent(..) => 1,
             Fired::Failed(_) | Fired::Nothing => 0,
@@ -120,14 +120,22 @@ fn payload(op: Option<Op>, dests: &[Dest], tag: Tag, fired: Fired, number: usize
     ensures { slice_get (sent op dests.now tag fired) number ≡ Some result }
 {
     match fired {
-        Fired::Out(value) | Fired::Side(_, value) => {
-            let dest = dests[number];
-            token_to(tag, value, dest)
-        }
+        Fired::Out(value) | Fired::Side(_, value) => going_out(dests, tag, value, number),
+        Fired::Moved(iteration, value) => going_out(dests, moved_to(tag, iteration), value, number),
         Fired::Entered(context) => entering(op, dests, tag, context, number),
         Fired::Sent(target, value) => token_at(target, value),
         Fired::Failed(_) | Fired::Nothing => unreachable!(),
     }
+}
+
+/// What the message of this number says where a value goes to each destination, under the context and
+/// iteration of the tag.
+fn going_out(dests: &[Dest], tag: Tag, value: Value, number: usize) -> Payload
+    requires { number < length dests.now }
+    ensures { slice_get (map (token_to tag value) dests.now) number ≡ Some result }
+{
+    let dest = dests[number];
+    token_to(tag, value, dest)
 }
 
 /// What the message of this number says where a block is entered in this context: the context, for
@@ -179,6 +187,13 @@ fn beside(tag: Tag, instr: u32) -> Tag
     ensures { result ≡ beside tag instr }
 {
     Tag { instr, ..tag }
+}
+
+/// The tag of the same instruction in the same context, at this iteration.
+pub fn moved_to(tag: Tag, iteration: u64) -> Tag
+    ensures { result ≡ moved_to tag iteration }
+{
+    Tag { iteration, ..tag }
 }
 
 /// A token with this value for port 0 of a tag.

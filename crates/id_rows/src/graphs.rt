@@ -1,7 +1,7 @@
 //! The graphs of the rows, made by hand.
 
 use id_graph::{
-    Arithmetic, Block, Constant, Dest, Dests, Dyadic, Graph, Instr, Op, Port, PortKind,
+    Arithmetic, Block, Comparison, Constant, Dest, Dests, Dyadic, Graph, Instr, Op, Port, PortKind,
 };
 use id_list::Sequence;
 use id_valid::{Valid, validate};
@@ -111,6 +111,78 @@ pub(crate) fn call(alloc: Global, enter: Op, send: Op) -> Result<Vec<Instr>, All
             (merge, &[(5, Port::One)], &[], 42),
         ],
     )
+}
+
+/// The instructions of `def main(n: int): int = { while n > 0 do next n = n - 1; finally n };`, as docs/GRAPH.md has
+/// them. The block of main is 1 to 6, that of the loop 7 to 18, where 9 is its variable.
+fn count_down(alloc: Global) -> Result<Vec<Instr>, AllocError> {
+    let merge = Op::Merge(PortKind::Int);
+    let trigger = Op::Merge(PortKind::Signal);
+    let back = Op::Back(PortKind::Int);
+    let enter = Op::Enter { block: 7, reply: 6 };
+    let send = Op::Send {
+        kind: PortKind::Int,
+        target: 9,
+    };
+    let greater = Op::Binary(Dyadic::Comparison(Comparison::Gt));
+    let less_one = Op::Binary(Dyadic::Arithmetic(Arithmetic::Sub));
+    instrs(
+        alloc,
+        &[
+            (merge, &[], &[], 4),
+            (trigger, &[(4, Port::Zero)], &[], 4),
+            (back, &[], &[], 4),
+            (merge, &[(5, Port::One)], &[], 9),
+            (enter, &[(5, Port::Zero)], &[], 24),
+            (send, &[], &[], 24),
+            (merge, &[(2, Port::One)], &[], 24),
+            (trigger, &[(10, Port::Zero), (12, Port::One)], &[], 24),
+            (back, &[], &[], 24),
+            (merge, &[(11, Port::Zero), (13, Port::One)], &[], 41),
+            (number(0), &[(11, Port::One)], &[], 36),
+            (greater, &[(12, Port::Zero), (13, Port::Zero)], &[], 34),
+            (
+                Op::Switch(PortKind::Signal),
+                &[(14, Port::Zero), (15, Port::Zero)],
+                &[],
+                24,
+            ),
+            (
+                Op::Switch(PortKind::Int),
+                &[(16, Port::Zero)],
+                &[(18, Port::Zero)],
+                24,
+            ),
+            (Op::Next(PortKind::Signal), &[(7, Port::Zero)], &[], 24),
+            (number(1), &[(16, Port::One)], &[], 54),
+            (less_one, &[(17, Port::Zero)], &[], 52),
+            (Op::Next(PortKind::Int), &[(9, Port::Zero)], &[], 41),
+            (Op::Reset(PortKind::Int), &[(8, Port::One)], &[], 24),
+        ],
+    )
+}
+
+/// The blocks that begin at these numbers, each with its one entry.
+fn blocks_of_one(alloc: Global, firsts: &[(u32, u32)]) -> Result<Vec<Block>, AllocError> {
+    let mut list = Vec::new(alloc);
+    for (first, entry) in firsts {
+        let mut entries = Vec::new(alloc);
+        entries.push(*entry)?;
+        list.push(Block {
+            first: *first,
+            entries: Sequence::new(entries),
+        })?;
+    }
+    Ok(list)
+}
+
+/// The graph of `count_down`.
+pub(crate) fn countdown(rt: &impl Abort, alloc: Global) -> Result<Valid, Fail> {
+    let blocks = blocks_of_one(alloc, &[(1, 3), (7, 9)])?;
+    let list = count_down(alloc)?;
+    assert!(rt; list.len() == 19);
+    let graph = Graph::new(blocks, list)?;
+    Ok(validate(alloc, graph)?)
 }
 
 /// The instructions of `def main(): int = 7;`.

@@ -6,6 +6,8 @@
 #![tactic(auto)]
 
 #[cfg(test)]
+mod countdown;
+#[cfg(test)]
 mod graphs;
 #[cfg(test)]
 mod rows;

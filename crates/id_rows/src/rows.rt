@@ -201,9 +201,9 @@ fn started<'a>(
     }
 }
 
-/// Delivers the first message five times, and says whether the machine is quiet then.
-fn deliver_five(machine: &mut Machine<'_>) -> Result<bool, TakeError> {
-    for _ in 0..5 {
+/// Delivers the first message so many times, and says whether the machine is quiet then.
+pub(crate) fn deliver(machine: &mut Machine<'_>, count: u32) -> Result<bool, TakeError> {
+    for _ in 0..count {
         if machine.in_flight().is_empty() {
             return Ok(false);
         }
@@ -226,7 +226,7 @@ fn a_machine_has_1_to_64_elements(rt: HostRuntime) -> Result<(), Fail> {
     assert!(rt; is_refused(&rt, rt.alloc(), &graph, 0));
     assert!(rt; is_refused(&rt, rt.alloc(), &graph, 65));
     let mut machine = started(&rt, rt.alloc(), &graph, 64)?;
-    let quiet = deliver_five(&mut machine)?;
+    let quiet = deliver(&mut machine, 5)?;
     assert!(rt; quiet);
     Ok(())
 }
@@ -240,8 +240,8 @@ const TRACE: &str = "1 0 token c0.0#0 1.0 signal
 
 /// A sink that takes these bytes and no others.
 #[derive(Drop)]
-struct Expected<'a> {
-    rest: &'a [u8],
+pub(crate) struct Expected<'a> {
+    pub(crate) rest: &'a [u8],
 }
 
 impl Sink for Expected<'_> {
@@ -260,10 +260,10 @@ impl Sink for Expected<'_> {
     }
 }
 
-/// Whether the trace of the element is the wanted one.
-fn is_traced(element: &Element<'_>) -> bool {
+/// Whether the trace of the element is this one.
+pub(crate) fn is_traced(element: &Element<'_>, trace: &str) -> bool {
     let mut sink = Expected {
-        rest: TRACE.as_bytes(),
+        rest: trace.as_bytes(),
     };
     write_trace(&element.events(), &mut sink).is_ok() && sink.rest.is_empty()
 }
@@ -272,7 +272,7 @@ fn is_traced(element: &Element<'_>) -> bool {
 fn are_recorded(alloc: Global, machine: &Machine<'_>) -> Result<bool, AllocError> {
     let merged = merge_records(alloc, machine.elements())?;
     match machine.elements() {
-        [element] => Ok(is_traced(element) && merged.len() == 5),
+        [element] => Ok(is_traced(element, TRACE) && merged.len() == 5),
         _ => Ok(false),
     }
 }
@@ -287,7 +287,7 @@ fn is_seven(alloc: Global, machine: &Machine<'_>) -> Result<bool, AllocError> {
 fn five_deliveries_bring_7(rt: HostRuntime) -> Result<(), Fail> {
     let graph = seven(&rt, rt.alloc())?;
     let mut machine = started(&rt, rt.alloc(), &graph, 1)?;
-    let quiet = deliver_five(&mut machine)?;
+    let quiet = deliver(&mut machine, 5)?;
     let recorded = are_recorded(rt.alloc(), &machine)?;
     let seven = is_seven(rt.alloc(), &machine)?;
     assert!(rt; quiet && recorded && seven);

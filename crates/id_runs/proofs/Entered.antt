@@ -104,6 +104,8 @@ nothing_sent (Some (op.Switch k)) ms e = refl
 nothing_sent (Some (op.Back k)) ms e = refl
 nothing_sent (Some (op.Enter b r)) ms e = e
 nothing_sent (Some (op.Send k n)) ms e = refl
+nothing_sent (Some (op.Next k)) ms e = refl
+nothing_sent (Some (op.Reset k)) ms e = refl
 
 -- an `enter` makes a context or comes to nothing
 enter_fires : (f : Fired) (next : Context) (ops : Operands) → f ≡ fired_enter next ops → (f ≡ fires.Nothing) ⊎ (f ≡ fires.Entered next)
@@ -121,6 +123,8 @@ op_fires f (op.Switch k) t ops fresh ms e = inl refl
 op_fires f (op.Back k) t ops fresh ms e = inl refl
 op_fires f (op.Enter b r) t ops fresh ms e = inr (enter_fires f fresh.context ops e)
 op_fires f (op.Send k n) t ops fresh ms e = inl refl
+op_fires f (op.Next k) t ops fresh ms e = inl refl
+op_fires f (op.Reset k) t ops fresh ms e = inl refl
 
 -- an event of the run has entered the context
 pub record WasEntered (run : List Event) (o : Option Context) : Type 0 where

@@ -1,5 +1,5 @@
 -- An `enter` alone makes a context.
-use Rattle.std.proofs.Common.{◌≡◌, ℕ, Bool as Truth, true, false, cond, refl}
+use Rattle.std.proofs.Common.{◌≡◌, ℕ, ◌+◌, Bool as Truth, true, false, cond, refl}
 use Rattle.id_value.specs.declared.Outcome.{Outcome}
 use Rattle.id_value.specs.declared.Outcome.TheVariants.{Gives, Fails, Lacks}
 use Rattle.id_value.specs.declared.Constant.TheVariants as constants
@@ -15,7 +15,7 @@ use Rattle.id_tag.specs.declared.Value.TheVariants.{Signal, Int, Bool, Context a
 use Rattle.id_ops.specs.declared.Operands.{Operands}
 use Rattle.id_ops.specs.declared.Operands.TheVariants.{One as Alone, Two}
 use Rattle.id_ops.specs.declared.Fresh.{Fresh}
-use Rattle.id_ops.specs.declared.Fired.TheVariants.{Out, Side, Entered, Sent, Nothing}
+use Rattle.id_ops.specs.declared.Fired.TheVariants.{Out, Side, Moved, Entered, Sent, Nothing}
 use Rattle.id_ops.specs.Operators.{fired, fired_by, tag_within}
 
 merge_enters : (v : Value) (b : Truth) (c : Context) → cond b (Out v) Nothing ≡ Entered c → ⊥
@@ -25,6 +25,10 @@ merge_enters v false c h = cc
 switch_enters : (d : Truth) (v : Value) (b : Truth) (c : Context) → cond b (Side d v) Nothing ≡ Entered c → ⊥
 switch_enters d v true c h = cc
 switch_enters d v false c h = cc
+
+moved_enters : (i : ℕ) (v : Value) (b : Truth) (c : Context) → cond b (Moved i v) Nothing ≡ Entered c → ⊥
+moved_enters i v true c h = cc
+moved_enters i v false c h = cc
 
 sent_enters : (u : Tag) (v : Value) (b : Truth) (c : Context) → cond b (Sent u v) Nothing ≡ Entered c → ⊥
 sent_enters u v true c h = cc
@@ -60,3 +64,7 @@ entered_by (op.Back k) t _ f c h = cc
 entered_by (op.Enter b r) t ops f c h = record { block = b; reply = r; is = refl }
 entered_by (op.Send k n) t (Two (Opened d) v) f c h = absurd (sent_enters (tag_within d n) v (same_kind (kind_of v) k) c h)
 entered_by (op.Send k n) t _ f c h = cc
+entered_by (op.Next k) t (Alone v) f c h = absurd (moved_enters (t.iteration + 1) v (same_kind (kind_of v) k) c h)
+entered_by (op.Next k) t (Two v x) f c h = cc
+entered_by (op.Reset k) t (Alone v) f c h = absurd (moved_enters 0 v (same_kind (kind_of v) k) c h)
+entered_by (op.Reset k) t (Two v x) f c h = cc

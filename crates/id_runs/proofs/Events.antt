@@ -218,6 +218,7 @@ taking g n e (Token t p v) =
 stuck_fired : (t : Tag) (f : Fired) → fired_step t f ≡ Stuck → ⊥
 stuck_fired t (fires.Out v) e = cc
 stuck_fired t (fires.Side b v) e = cc
+stuck_fired t (fires.Moved i v) e = cc
 stuck_fired t (fires.Entered c) e = cc
 stuck_fired t (fires.Sent u v) e = cc
 stuck_fired t (fires.Failed k) e = cc

@@ -1,5 +1,5 @@
 -- What a firing sends: each value that it gives on a side goes to the destinations on that side, or one goes to a tag.
-use Rattle.std.proofs.Common.{◌≡◌, inl, inr, Bool, true, List, map, refl, sym, subst, ◌∙◌}
+use Rattle.std.proofs.Common.{◌≡◌, inl, inr, ℕ, Bool, true, List, map, refl, sym, subst, ◌∙◌}
 use Rattle.id_graph.specs.declared.dests.Dest.{Dest}
 use Rattle.id_graph.specs.declared.dests.Port.TheVariants.{Zero}
 use Rattle.id_graph.specs.Graph.{Parts}
@@ -14,15 +14,16 @@ use Rattle.id_tag.specs.declared.Payload.TheVariants.{Token}
 use Rattle.id_ops.specs.declared.Fired.{Fired}
 use Rattle.id_ops.specs.declared.Fired.TheVariants as fires
 use Rattle.id_record.specs.Records.{dests_at, sent_by}
-use Rattle.id_core.specs.Steps.{token_to}
+use Rattle.id_core.specs.Steps.{moved_to, token_to}
 use Rattle.id_list.specs.List.{Among}
 use Rattle.id_list.proofs.AmongLemmas.{Among-either, Among-left, Among-map, Among-from_map, Among-one}
 use Rattle.id_runs.specs.Events.{Event, FiresAs, fired_event, FiresOnce, GivesOn}
 
--- how a firing under the tag sends the message: along an arc from the side on which it gives the value, or to a tag, or
--- to start the block that it enters
+-- how a firing under the tag sends the message: along an arc from the side on which it gives the value, along an arc at
+-- the iteration to which it moves the value, to a tag, or to start the block that it enters
 pub data SentAs (g : Parts) (t : Tag) (f : Fired) (x : Payload) : Type 0 where
   along : (b : Bool) (v : Value) (d : Dest) → GivesOn f b v → Among d (dests_at g t.instr b) → x ≡ token_to t v d → SentAs g t f x
+  moving : (i : ℕ) (v : Value) (d : Dest) → f ≡ fires.Moved i v → Among d (dests_at g t.instr true) → x ≡ token_to (moved_to t i) v d → SentAs g t f x
   to_tag : (u : Tag) (v : Value) → f ≡ fires.Sent u v → x ≡ Token u Zero v → SentAs g t f x
   to_start : (c : Context) → f ≡ fires.Entered c → Among x (started (op_at g t.instr) t c) → SentAs g t f x
 
@@ -36,6 +37,9 @@ along_side g t f x b v gives h =
 pub sent_as : (g : Parts) (t : Tag) (f : Fired) (x : Payload) → Among x (sent_by g t f) → SentAs g t f x
 sent_as g t (fires.Out v) x h = along_side g t (fires.Out v) x true v (refl, refl) h
 sent_as g t (fires.Side b v) x h = along_side g t (fires.Side b v) x b v (refl, refl) h
+sent_as g t (fires.Moved i v) x h =
+    let d = Among-from_map (token_to (moved_to t i) v) x (dests_at g t.instr true) h in
+    moving i v d.0 refl d.1 d.2
 sent_as g t (fires.Entered c) x h =
     elim (Among-either x (map (token_to t (value.Context c)) (dests_at g t.instr true)) (started (op_at g t.instr) t c) h) [
       | inl a ↦ along_side g t (fires.Entered c) x true (value.Context c) (refl, refl) a
@@ -56,16 +60,23 @@ pub gives_sent : (g : Parts) (t : Tag) (f : Fired) (b : Bool) (v : Value) (d : D
     → Among (token_to t v d) (sent_by g t f)
 gives_sent g t (fires.Out w) b v d gives h = to_each g t b true v w d gives.0 gives.1 h
 gives_sent g t (fires.Side c w) b v d gives h = to_each g t b c v w d gives.0 gives.1 h
+gives_sent g t (fires.Moved i w) b v d gives h = absurd gives
 gives_sent g t (fires.Entered c) b v d gives h =
     Among-left (token_to t v d) (map (token_to t (value.Context c)) (dests_at g t.instr true)) (started (op_at g t.instr) t c) (to_each g t b true v (value.Context c) d gives.0 gives.1 h)
 gives_sent g t (fires.Sent u w) b v d gives h = absurd gives
 gives_sent g t (fires.Failed k) b v d gives h = absurd gives
 gives_sent g t fires.Nothing b v d gives h = absurd gives
 
+-- a value that moves to an iteration goes to each destination there
+pub moved_sent : (g : Parts) (t : Tag) (i : ℕ) (v : Value) (d : Dest) → Among d (dests_at g t.instr true)
+    → Among (token_to (moved_to t i) v d) (sent_by g t (fires.Moved i v))
+moved_sent g t i v d h = Among-map (token_to (moved_to t i) v) d (dests_at g t.instr true) h
+
 -- a firing gives one value, on one side
 pub gives_one : (f : Fired) (b c : Bool) (v w : Value) → GivesOn f b v → GivesOn f c w → (b ≡ c) × (v ≡ w)
 gives_one (fires.Out u) b c v w x y = (x.0 ∙ sym y.0, x.1 ∙ sym y.1)
 gives_one (fires.Side a u) b c v w x y = (x.0 ∙ sym y.0, x.1 ∙ sym y.1)
+gives_one (fires.Moved i u) b c v w x y = absurd x
 gives_one (fires.Entered k) b c v w x y = (x.0 ∙ sym y.0, x.1 ∙ sym y.1)
 gives_one (fires.Sent t u) b c v w x y = absurd x
 gives_one (fires.Failed k) b c v w x y = absurd x

@@ -10,7 +10,7 @@ use Rattle.id_tag.specs.declared.Value.{Value}
 use Rattle.id_tag.specs.declared.Value.TheVariants as value
 use Rattle.id_tag.specs.declared.Payload.{Payload}
 use Rattle.id_graph.specs.declared.instr.Op.{Op}
-use Rattle.id_graph.specs.declared.instr.Op.TheVariants.{Const, Unary, Binary, Merge, Switch, Back, Enter, Send}
+use Rattle.id_graph.specs.declared.instr.Op.TheVariants.{Const, Unary, Binary, Merge, Switch, Back, Enter, Send, Next, Reset}
 use Rattle.id_valid.specs.Roles.{op_at}
 use Rattle.id_tag.specs.declared.Payload.TheVariants.{Token}
 use Rattle.id_ops.specs.declared.Fired.{Fired}
@@ -19,7 +19,7 @@ use Rattle.id_ops.specs.Operators.{side_of, tag_within}
 use Rattle.id_record.specs.Events.{tag_of}
 use Rattle.id_record.specs.Sends.{beside, started}
 use Rattle.id_record.specs.Records.{dests_at}
-use Rattle.id_core.specs.Steps.{sent, token_to}
+use Rattle.id_core.specs.Steps.{sent, moved_to, token_to}
 use Rattle.id_list.specs.List.{Among, AllDiffer}
 use Rattle.id_list.proofs.AmongLemmas.{Among-from_map, Among-one}
 use Rattle.id_runs.specs.Events.{Waits, Blocked, Fires, Event, Took, payload_of, sends_of, Enters}
@@ -59,6 +59,8 @@ started_apart k (Some (Merge j)) t c = omega (arith, count_none k)
 started_apart k (Some (Switch j)) t c = omega (arith, count_none k)
 started_apart k (Some (Back j)) t c = omega (arith, count_none k)
 started_apart k (Some (Send j n)) t c = omega (arith, count_none k)
+started_apart k (Some (Next j)) t c = omega (arith, count_none k)
+started_apart k (Some (Reset j)) t c = omega (arith, count_none k)
 
 -- and they are in the context
 started_within : (o : Option Op) (t : Tag) (c : Context) (x : Payload) → Among x (started o t c) → (tag_of x).context ≡ c
@@ -72,6 +74,8 @@ started_within (Some (Merge j)) t c x h = absurd h
 started_within (Some (Switch j)) t c x h = absurd h
 started_within (Some (Back j)) t c x h = absurd h
 started_within (Some (Send j n)) t c x h = absurd h
+started_within (Some (Next j)) t c x h = absurd h
+started_within (Some (Reset j)) t c x h = absurd h
 
 -- the key of a message tells its tag
 tag_of_key : (x y : Payload) → key_of x ≡ key_of y → tag_of x ≡ tag_of y
@@ -102,6 +106,7 @@ sent_apart : (k : Key) (o : Option Op) (u : Tag) (ds : List Dest) (f : Fired) �
     → count_for k (sent o ds u f) ≤ 1
 sent_apart k o u ds (fires.Out v) differ elsewhere = dests_apart k u v ds differ
 sent_apart k o u ds (fires.Side b v) differ elsewhere = dests_apart k u v ds differ
+sent_apart k o u ds (fires.Moved i v) differ elsewhere = dests_apart k (moved_to u i) v ds differ
 sent_apart k o u ds (fires.Entered c) differ elsewhere = entered_apart k o u ds c differ (elsewhere c refl)
 sent_apart k o u ds (fires.Sent to v) differ elsewhere = count_one k (Token to Zero v)
 sent_apart k o u ds (fires.Failed f) differ elsewhere = omega (arith, count_none k)

@@ -6,7 +6,7 @@ use Rattle.id_value.specs.declared.UnaryOp.TheVariants.{Neg, Not}
 use Rattle.id_graph.specs.declared.dests.Port.{Port}
 use Rattle.id_graph.specs.declared.instr.Dyadic.TheVariants as class
 use Rattle.id_graph.specs.declared.instr.Op.{Op}
-use Rattle.id_graph.specs.declared.instr.Op.TheVariants.{Const, Unary, Binary, Merge, Switch, Back, Enter, Send}
+use Rattle.id_graph.specs.declared.instr.Op.TheVariants.{Const, Unary, Binary, Merge, Switch, Back, Enter, Send, Next, Reset}
 use Rattle.id_graph.specs.declared.instr.Instr.{Instr}
 use Rattle.id_graph.specs.Graph.{Parts}
 use Rattle.id_tag.specs.Kinds.{kind_of, same_kind}
@@ -62,6 +62,10 @@ entered_next (Switch k) t _ next c e = cc
 entered_next (Back k) t o next c e = let j = subst (IsOfKind (Back k)) e (IsOfKind-fired (Back k) t o next) in cc
 entered_next (Enter b r) t (operands.One value.Signal) next c e = cc
 entered_next (Enter b r) t _ next c e = cc
+entered_next (Next k) t (operands.One v) next c e = absurd (tested_no (same_kind (kind_of v) k) (fires.Moved (t.iteration + 1) v) c (λ h. cc) e)
+entered_next (Next k) t (operands.Two v w) next c e = cc
+entered_next (Reset k) t (operands.One v) next c e = absurd (tested_no (same_kind (kind_of v) k) (fires.Moved 0 v) c (λ h. cc) e)
+entered_next (Reset k) t (operands.Two v w) next c e = cc
 entered_next (Send k n) t o next c e = let j = subst (IsOfKind (Send k n)) e (IsOfKind-fired (Send k n) t o next) in cc
 
 -- an arrival that enters a block does so in the next context

@@ -1,5 +1,5 @@
 -- Each message of a run of a valid graph fits it, so what fires does so on operands that suit its operator.
-use Rattle.std.proofs.Common.{◌≡◌, inr, ℕ, false, max, Option, Some, None, List, ◌∷◌, [], slice_get, refl, sym, ◌∙◌, ap, subst, arith}
+use Rattle.std.proofs.Common.{◌≡◌, inr, ℕ, ◌+◌, ◌<◌, false, max, Option, Some, None, List, ◌∷◌, [], slice_get, refl, sym, ◌∙◌, ap, subst, arith}
 use Rattle.std.specs.Prelude.{All, ◌≤◌, is_some, option_map}
 use Rattle.std.specs.Option.{option_map_or}
 use Rattle.id_graph.specs.declared.instr.Instr.{Instr}
@@ -43,10 +43,10 @@ record FitsOnce (g : Parts) (x : Payload) : Type 0 where
   pub stamp : ℕ
   pub fits : PayloadFits g stamp x
 
--- the operands fit the graph at a stamp, and suit the operator of the instruction
+-- the operands fit the graph at a stamp above their iteration, and suit the operator of the instruction
 record Suitable (g : Parts) (t : Tag) (i : Instr) (ops : Operands) : Type 0 where
   pub stamp : ℕ
-  pub in_time : t.iteration ≤ stamp
+  pub in_time : t.iteration < stamp
   pub fit : OperandsFit g stamp t ops
   pub suits : Suits i.op ops
 
@@ -67,20 +67,20 @@ suitable g t i ops events at fit have = by_ports have
         let x = fit (Token t p v) h in
         let zero = one_port g x.stamp t p v i at one x.fits in
         subst (Suitable g t i) (sym is) (record {
-          stamp = x.stamp;
-          in_time = zero.in_time;
-          fit = zero;
+          stamp = x.stamp + 1;
+          in_time = omega (arith, zero.in_time);
+          fit = TokenFits-later g x.stamp (x.stamp + 1) t Zero v (omega arith) zero;
           suits = (kind x.stamp Zero v zero, no_port (port_kind i.op One) one);
         })
     by_ports (two_handled v w is two h k) =
         let x = fit (Token t Zero v) h in
         let y = fit (Token t One w) k in
-        let last = max x.stamp y.stamp in
+        let last = max x.stamp y.stamp + 1 in
         let first = TokenFits-later g x.stamp last t Zero v (omega arith) x.fits in
         let second = TokenFits-later g y.stamp last t One w (omega arith) y.fits in
         subst (Suitable g t i) (sym is) (record {
           stamp = last;
-          in_time = first.in_time;
+          in_time = omega (arith, (x.fits).in_time);
           fit = (first, second);
           suits = (kind last Zero v first, kind last One w second);
         })
@@ -106,8 +106,8 @@ module _ (g : Parts) (vs : List SourceValue) (count : ℕ) (valid : IsValid g) (
       let y = has_fired g vs count s events r (record { element = n; port = p; value = v; operands = ops; among = among }) in
       let i = y.instr in
       let z = suitable g t i ops events y.at fit y.handled_are in
-      let all = sent_fits g z.stamp t i (fired i.op t ops y.fresh) valid y.at z.in_time
-      (fired_fits g z.stamp t i.op ops y.fresh valid (ap (option_map (λ j. j.op)) y.at) z.fit) in
+      let all = sent_fits g z.stamp t i (fired i.op t ops y.fresh) valid y.at (omega (arith, z.in_time))
+      (fired_fits g z.stamp t i.op ops y.fresh valid (ap (option_map (λ j. j.op)) y.at) z.in_time z.fit) in
       let same = ap (λ o. sent (option_map (λ j. j.op) o) (option_map_or (arcs_on (side_of f)) o []) t f) y.at ∙ ap (λ u. sent (Some i.op) (arcs_on (side_of u) i) t u) y.is in
       record { stamp = z.stamp; fits = of_all (PayloadFits g z.stamp) _ x all (subst (Among x) same h) }
 

@@ -13,7 +13,7 @@ use Rattle.id_tag.specs.declared.Payload.{Payload}
 use Rattle.id_tag.specs.declared.Payload.TheVariants.{Token}
 use Rattle.id_ops.specs.declared.Operands.{Operands}
 use Rattle.id_ops.specs.declared.Fired.{Fired}
-use Rattle.id_ops.specs.declared.Fired.TheVariants.{Out, Side, Entered, Sent, Failed, Nothing}
+use Rattle.id_ops.specs.declared.Fired.TheVariants.{Out, Side, Moved, Entered, Sent, Failed, Nothing}
 use Rattle.id_ops.specs.Operators.{side_of}
 use Rattle.id_record.specs.declared.step.Step.{Step}
 use Rattle.id_record.specs.declared.step.Step.TheVariants as steps
@@ -64,10 +64,11 @@ pub record FiresAs (run : List Event) (t : Tag) (f : Fired) : Type 0 where
   pub among : Among (Took element t port value (Fires operands f)) run
 
 -- a firing gives the value on a side, under its own tag: a switch on the side that it chose, another on the true side;
--- one that enters a block gives the context
+-- one that enters a block gives the context; one that moves to another iteration gives nothing under its own tag
 abbrev pub GivesOn : Fired → Bool → Value → Type 0
 GivesOn (Out w) b v = (b ≡ true) × (v ≡ w)
 GivesOn (Side c w) b v = (b ≡ c) × (v ≡ w)
+GivesOn (Moved i w) b v = ⊥
 GivesOn (Entered c) b v = (b ≡ true) × (v ≡ value.Context c)
 GivesOn (Sent u w) b v = ⊥
 GivesOn (Failed k) b v = ⊥

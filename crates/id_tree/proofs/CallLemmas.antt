@@ -13,11 +13,10 @@ use Rattle.id_tree.specs.declared.tree.TreeError.TheVariants.{Unexpected}
 use Rattle.id_tree.specs.Tree as tree
 use Rattle.id_tree.specs.Tree.{Tree, tree_of, call, none, more}
 use Rattle.id_tree.specs.Grammar.{Expression, Unary, Arguments, MoreArguments, Rest, done, part, named_of, argument_of, arguments_of, Opens, no_arguments, last_argument, next_argument}
-use Rattle.id_tree.specs.Machine.{opening, is_word, Frame, Inside, State, Move, Want, Have, Next, expresses, takes, Refused, run}
+use Rattle.id_tree.specs.Machine.{opening, Frame, Inside, State, Move, Want, Have, Next, expresses, takes, Refused, run}
 use Rattle.id_tree.specs.Readers.{first_kind, first_start, IsRead, IsGathered, EndsBy, Leads, Fails, begins_expression, no_room_at, Applies, Misapplies, passed, Hands}
-use Rattle.id_tree.proofs.RowLemmas.{same-is_word}
-use Rattle.id_tree.proofs.RunLemmas.{First, Unopened, run-deep, run-none, run-done, run-part, run-inside, run-chosen, run-left_out, run-arguments}
-use Rattle.id_tree.proofs.ReaderLemmas.{EndsBy-at, At, At-opens, Leads-done, first_of, opens_name}
+use Rattle.id_tree.proofs.RunLemmas.{Unopened, run-deep, run-none, run-done, run-part, run-inside, run-chosen, run-left_out, run-arguments}
+use Rattle.id_tree.proofs.ReaderLemmas.{EndsBy-at, At, At-opens, Leads-done, first_of, no_word, opens_name}
 
 -- A name, and what stands behind it.
 module _ {ts us : List Token} {t : Token} (e : ts ≡ t ∷ us) (d : ℕ) (w : d + 1 ≤ 200) (x : List ℕ) (q : first_kind ts ≡ Name x) where
@@ -38,18 +37,13 @@ IsRead-named e q = let l = ap length e in record {
   fits = q.1.fits;
 }
 
-no_bracket : (ts : List Token) → (first_kind ts ≡ Sign LeftParen → ⊥) → First (λ k. is_word (the.Sign LeftParen) k ≡ false) ts
-no_bracket [] f = tt
-no_bracket (t ∷ ts) f = tested (is_word (the.Sign LeftParen) t.kind) refl
-  where
-    tested : (b : Bool) → is_word (the.Sign LeftParen) t.kind ≡ b → is_word (the.Sign LeftParen) t.kind ≡ false
-    tested true i = absurd (f (same-is_word (the.Sign LeftParen) t.kind i))
-    tested false i = i
-
 -- no bracket comes behind the name
 pub Applies-name : {ts : List Token} {x : List ℕ} {p : ℕ} (d : ℕ) {a : Tree} {h : ℕ} → (first_kind ts ≡ Sign LeftParen → ⊥) → a ≡ tree.name x p → h ≡ 1 → Applies ts d x p ts a h
 Applies-name {ts = ts} {x = x} {p = p} d f i j = rw (i, j) (record {
-  comes = λ K. run-left_out 200 ts (the.Sign LeftParen) (part Arguments (λ a. done (call x a p))) (tree.name x p) 0 (d + 1) 1 K (no_bracket ts f);
+  comes = λ K.
+      let n = tree.name x p in
+      run-left_out 200 ts (the.Sign LeftParen) (part Arguments (λ a. done (call x a p))) (done n) 0 (d + 1) 1 K (no_word (the.Sign LeftParen) ts f)
+      ∙ run-done 200 ts n 0 (d + 1) 1 K;
 })
 
 -- a bracket comes, and arguments
@@ -57,7 +51,7 @@ module _ {ts us : List Token} {t : Token} (e : ts ≡ t ∷ us) (q : first_kind 
   bracket_comes : (K : List Frame) → run 200 ts (Next (named_of x p) 0 (d + 1) 1 K) ≡ run 200 us (Want Arguments (d + 1) (Inside (λ a. done (call x a p)) 0 (d + 1) 1 ∷ K))
   bracket_comes K =
       let f : Tree → Rest = λ a. done (call x a p) in
-      rw e (run-chosen 200 t us (the.Sign LeftParen) (part Arguments f) (tree.name x p) 0 (d + 1) 1 K (first_of e q) ∙ run-part 200 us Arguments f 0 (d + 1) 1 K)
+      rw e (run-chosen 200 t us (the.Sign LeftParen) (part Arguments f) (done (tree.name x p)) 0 (d + 1) 1 K (first_of e q) ∙ run-part 200 us Arguments f 0 (d + 1) 1 K)
 
   pub Applies-call : {vs : List Token} {a b : Tree} {m h : ℕ} → Leads us Arguments (d + 1) vs a m → b ≡ call x a p → h ≡ m + 1 → Applies ts d x p vs b h
   Applies-call {vs = vs} {a = a} {m = m} r i j = rw (i, j) (record {

@@ -7,11 +7,13 @@ use Rattle.id_text.specs.declared.token.TokenKind.TheVariants.{Sign}
 use Rattle.id_text.specs.declared.token.Symbol.TheVariants.{RightParen, Comma}
 use Rattle.id_tree.specs.declared.parser.Level.{Level}
 use Rattle.id_tree.specs.declared.parser.Level.TheVariants as level
+use Rattle.id_tree.specs.declared.parser.Scope.{Scope}
+use Rattle.id_tree.specs.declared.tokens.Word.{Word}
 use Rattle.id_value.specs.declared.BinaryOp.{BinaryOp}
 use Rattle.id_tree.specs.Tree.{Tree, none, more}
-use Rattle.id_tree.specs.Grammar.{Phrase, Definition, Parameters, MoreParameters, Expression, Grouped, Negation, Unary, Arguments, MoreArguments, Tail, arguments_of, Rest, part, Opens, by_conditional, denied, negated, number, by_true, by_false, parens, by_name, by_block, last_argument, next_argument, operand, left_operand, operator_of, own_height, Derives, opened, unconditional, single, grouped, plain, some_arguments, Follows, ended, taken, chosen, left_out, named, kinded, given, Program, empty, defined}
+use Rattle.id_tree.specs.Grammar.{Phrase, Definition, Parameters, MoreParameters, Expression, Grouped, Negation, Unary, Arguments, MoreArguments, Tail, arguments_of, Rest, part, Opens, by_conditional, denied, negated, number, by_true, by_false, parens, by_name, by_braces, last_argument, next_argument, operand, left_operand, operator_of, own_height, Derives, opened, unconditional, single, grouped, plain, some_arguments, Follows, ended, taken, chosen, left_out, named, kinded, given, Program, empty, defined}
 use Rattle.id_tree.specs.Machine.{opening, is_word, room, Move, pick, ahead, ends, wants, Frame, Left, Right, Inside, Outer, again, State, Begin, Want, Have, Next, Accepted, Refused, run}
-use Rattle.id_tree.proofs.RowLemmas.{Quiet, Ends, Parts, valid, Quiet-operator, Follows-height, arguments_parts}
+use Rattle.id_tree.proofs.RowLemmas.{Quiet, Ends, Bars, Parts, valid, Quiet-operator, Follows-height, arguments_parts}
 use Rattle.id_tree.proofs.RunLemmas.{First, Unopened, run-done, run-part, run-inside, run-outer, run-right, run-level, run-left, run-unconditional, run-plain, run-word, run-chosen, run-left_out, run-arguments, run-name, run-kind, run-opens, run-operator}
 
 -- no operator of a level within the phrase begins the tokens
@@ -33,7 +35,7 @@ StopsInside MoreParameters ts = Unit {0}
 StopsInside Unary ts = Stops Unary ts
 StopsInside Arguments ts = Unit {0}
 StopsInside MoreArguments ts = Unit {0}
-StopsInside Tail ts = Unit {0}
+StopsInside (Tail o) ts = Unit {0}
 
 -- the state behind a phrase, whose own level is still open where it may go on
 abbrev After : Phrase → Tree → ℕ → ℕ → List Frame → State
@@ -46,7 +48,7 @@ After Negation e h d K = Have e h K
 After Unary e h d K = Have e h K
 After Arguments e h d K = Have e h K
 After MoreArguments e h d K = Have e h K
-After Tail e h d K = Have e h K
+After (Tail o) e h d K = Have e h K
 
 -- where the phrase is not gone on, no tighter level is
 Stops-inside : (s : Phrase) (ts : List Token) → Stops s ts → StopsInside s ts
@@ -68,7 +70,7 @@ Stops-inside MoreParameters ts q = tt
 Stops-inside Unary ts q = q
 Stops-inside Arguments ts q = tt
 Stops-inside MoreArguments ts q = tt
-Stops-inside Tail ts q = tt
+Stops-inside (Tail o) ts q = tt
 
 -- where a level is not gone on, no operator of it stands
 Stops-own : (l : Level) (ts : List Token) → Stops (Grouped l) ts → First (λ k. operator_of l k ≡ None) ts
@@ -112,7 +114,7 @@ run-after n us Negation e h d K q = refl
 run-after n us Unary e h d K q = refl
 run-after n us Arguments e h d K q = refl
 run-after n us MoreArguments e h d K q = refl
-run-after n us Tail e h d K q = refl
+run-after n us (Tail o) e h d K q = refl
 
 -- more arguments begin with a comma or the closing bracket
 Opens-more : {k : TokenKind} {p : ℕ} {r : Rest} → Opens MoreArguments k p r → (P : TokenKind → Type 0) → P (Sign RightParen) → P (Sign Comma) → P k
@@ -135,8 +137,29 @@ Follows-stops (taken {w = w} q f) s0 s us b p = rw q b
 Follows-stops (named q f) s0 s us b p = absurd b
 Follows-stops (kinded q f) s0 s us b p = absurd b
 Follows-stops (chosen q f) s0 s us b p = absurd b
-Follows-stops left_out s0 s us b p = absurd b
+Follows-stops (left_out f) s0 s us b p = absurd b
 Follows-stops (given {s = i} {f = g} {us = xs} {ts = ts} x f) s0 s us b p = rw (append_assoc xs ts us) (Part-stops i g x s0 s (ts ++ us) b)
+
+-- a tail begins with the first token of one of its productions
+Derives-tail : {o : Scope} {ts : List Token} {e : Tree} {h : ℕ} → Derives (Tail o) ts e h → (P : TokenKind → Type 0) →
+    ((k : TokenKind) (p : ℕ) (r : Rest) → Opens (Tail o) k p r → P k) → (us : List Token) → First P (ts ++ us)
+Derives-tail (opened {t = t} {r = r} o f) P g us = g t.kind t.start r o
+
+Part-bars : (i : Phrase) (f : Tree → Rest) {ts : List Token} {e : Tree} {h : ℕ} → Derives i ts e h → (s0 : Phrase) (w : Word) (us : List Token) →
+    Bars s0 w (part i f) → First (λ k. is_word w k ≡ false) (ts ++ us)
+Part-bars (Tail o) f x s0 w us b = Derives-tail x (λ k. is_word w k ≡ false) b us
+Part-bars _ f x s0 w us b = absurd b
+
+-- where a word is barred, it is not there
+Follows-bars : {r : Rest} {ts : List Token} {e : Tree} {h : ℕ} → Follows r ts e h → (s0 : Phrase) (w : Word) (us : List Token) →
+    Bars s0 w r → Stops s0 us → First (λ k. is_word w k ≡ false) (ts ++ us)
+Follows-bars ended s0 w us b q = First-weaker (Quiet s0) (λ k. is_word w k ≡ false) b us q
+Follows-bars (given {s = i} {f = g} {us = xs} {ts = ts} x f) s0 w us b q = rw (append_assoc xs ts us) (Part-bars i g x s0 w (ts ++ us) b)
+Follows-bars (taken i f) s0 w us b q = absurd b
+Follows-bars (named i f) s0 w us b q = absurd b
+Follows-bars (kinded i f) s0 w us b q = absurd b
+Follows-bars (chosen i f) s0 w us b q = absurd b
+Follows-bars (left_out f) s0 w us b q = absurd b
 
 -- what a production begins has no level
 Stops-opens : (s : Phrase) {k : TokenKind} {p : ℕ} {r : Rest} → Opens s k p r → (us : List Token) → StopsInside s us → Stops s us
@@ -150,7 +173,7 @@ Stops-opens Parameters o (t ∷ us) q = tt
 Stops-opens MoreParameters o (t ∷ us) q = tt
 Stops-opens Arguments o (t ∷ us) q = tt
 Stops-opens MoreArguments o (t ∷ us) q = tt
-Stops-opens Tail o (t ∷ us) q = tt
+Stops-opens (Tail j) o (t ∷ us) q = tt
 
 -- nothing of a production is still open behind it
 After-opens : (s : Phrase) {k : TokenKind} {p : ℕ} {r : Rest} → Opens s k p r → (e : Tree) (h d : ℕ) (K : List Frame) → After s e h d K ≡ Have e h K
@@ -163,7 +186,7 @@ After-opens Negation o e h d K = refl
 After-opens Unary o e h d K = refl
 After-opens Arguments o e h d K = refl
 After-opens MoreArguments o e h d K = refl
-After-opens Tail o e h d K = refl
+After-opens (Tail j) o e h d K = refl
 
 -- the phrase is one that the tokens of the other can be without a production of its own, or stands first in one
 abbrev IsFirst : Phrase → Phrase → Type 0
@@ -232,8 +255,8 @@ Unopened-opens parens Expression q = refl
 Unopened-opens parens Negation q = refl
 Unopened-opens by_name Expression q = refl
 Unopened-opens by_name Negation q = refl
-Unopened-opens by_block Expression q = refl
-Unopened-opens by_block Negation q = refl
+Unopened-opens by_braces Expression q = refl
+Unopened-opens by_braces Negation q = refl
 Unopened-opens by_conditional Arguments q = refl
 Unopened-opens denied Arguments q = refl
 Unopened-opens negated Arguments q = refl
@@ -242,7 +265,7 @@ Unopened-opens by_true Arguments q = refl
 Unopened-opens by_false Arguments q = refl
 Unopened-opens parens Arguments q = refl
 Unopened-opens by_name Arguments q = refl
-Unopened-opens by_block Arguments q = refl
+Unopened-opens by_braces Arguments q = refl
 Unopened-opens _ Expression q = absurd q
 Unopened-opens _ Negation q = absurd q
 Unopened-opens _ _ q = absurd q
@@ -335,10 +358,10 @@ mutual
   run-follows (ended {e = e}) n m d c K us s0 w p q = run-done n us e m d c K ∙ ap (λ x. run n us (Have e (x + c) K)) (omega arith)
   run-follows (taken {w = v} {t = t} {r = r} {ts = ts} i f) n m d c K us s0 w p q =
       run-word n t (ts ++ us) v r m d c K i ∙ run-follows f n m d c K us s0 w p q
-  run-follows (chosen {w = v} {t = t} {r = r} {ts = ts} {a = a} i f) n m d c K us s0 w p q =
-      run-chosen n t (ts ++ us) v r a m d c K i ∙ run-follows f n m d c K us s0 w p.1 q
-  run-follows (left_out {w = v} {r = r} {e = e}) n m d c K us s0 w p q =
-      run-left_out n us v r e m d c K (First-weaker (Quiet s0) (λ k. is_word v k ≡ false) p.0 us q) ∙ ap (λ x. run n us (Have e (x + c) K)) (omega arith)
+  run-follows (chosen {w = v} {t = t} {r = r} {q = o} {ts = ts} i f) n m d c K us s0 w p q =
+      run-chosen n t (ts ++ us) v r o m d c K i ∙ run-follows f n m d c K us s0 w p.1 q
+  run-follows (left_out {w = v} {r = r} {q = o} {ts = ts} f) n m d c K us s0 w p q =
+      run-left_out n (ts ++ us) v r o m d c K (Follows-bars f s0 v us p.0 q) ∙ run-follows f n m d c K us s0 w p.2 q
   run-follows (named {t = t} {x = x} {f = g} {ts = ts} i f) n m d c K us s0 w p q =
       run-name n t (ts ++ us) x g m d c K i ∙ run-follows f n m d c K us s0 w (p x t.start) q
   run-follows (kinded {t = t} {k = k} {f = g} {ts = ts} i f) n m d c K us s0 w p q =

@@ -4,8 +4,8 @@ use Rattle.id_text.specs.declared.token.Token.{Token}
 use Rattle.id_text.specs.declared.token.TokenKind.{TokenKind}
 use Rattle.id_value.specs.declared.Kind.{Kind}
 use Rattle.id_tree.specs.Tree as tree
-use Rattle.id_tree.specs.Tree.{Tree, literal, unary, binary, conditional, call, block, binding, param, define, none, more}
-use Rattle.id_tree.specs.Grammar.{Phrase, Rest, done, word, optional, name, of_kind, part, with_statement, block_of, Opens, definition, no_parameters, first_parameter, last_parameter, next_parameter, by_conditional, denied, negated, number, by_true, by_false, parens, by_name, by_block, no_arguments, last_argument, next_argument, by_binding, by_body, Derives, opened, unconditional, single, grouped, plain, some_arguments, Follows, ended, taken, chosen, left_out, named, kinded, given, Program, empty, defined}
+use Rattle.id_tree.specs.Tree.{Tree, literal, unary, binary, conditional, call, block, loop, binding, param, define, none, more}
+use Rattle.id_tree.specs.Grammar.{Phrase, Rest, done, word, either, name, of_kind, part, with_statement, with_tail, loop_with_tail, Opens, definition, no_parameters, first_parameter, last_parameter, next_parameter, by_conditional, denied, negated, number, by_true, by_false, parens, by_name, by_braces, no_arguments, last_argument, next_argument, by_binding, by_next, by_body, by_last, Derives, opened, unconditional, single, grouped, plain, some_arguments, Follows, ended, taken, chosen, left_out, named, kinded, given, Program, empty, defined}
 use Rattle.id_tree.specs.Distinct.{HasPlace, Apart, Distinct}
 use Rattle.id_tree.proofs.FinishLemmas.{Laid}
 
@@ -18,7 +18,9 @@ Spans low (tree.name x p) high = (low ≤ p) × (p < high)
 Spans low (conditional t x y p) high = (low ≤ p) × ((mid : ℕ) × (next : ℕ) × Spans (p + 1) t mid × Spans mid x next × Spans next y high)
 Spans low (call x a p) high = (low ≤ p) × Spans (p + 1) a high
 Spans low (block a b p) high = (low ≤ p) × ((mid : ℕ) × Spans (p + 1) a mid × Spans mid b high)
+Spans low (loop t x y p) high = (low ≤ p) × ((mid : ℕ) × (next : ℕ) × Spans (p + 1) t mid × Spans mid x next × Spans next y high)
 Spans low (binding x a p) high = (low ≤ p) × Spans (p + 1) a high
+Spans low (tree.next x a p) high = (low ≤ p) × Spans (p + 1) a high
 Spans low (param x k p) high = (low ≤ p) × (p < high)
 Spans low (define x a k b p) high = (low ≤ p) × ((mid : ℕ) × Spans (p + 1) a mid × Spans mid b high)
 Spans low none high = low ≤ high
@@ -34,7 +36,10 @@ Spans-order (conditional t x y p) low high (u, (mid, next, v, w, z)) =
     omega (arith, u, Spans-order t (p + 1) mid v, Spans-order x mid next w, Spans-order y next high z)
 Spans-order (call x a p) low high q = omega (arith, q.0, Spans-order a (p + 1) high q.1)
 Spans-order (block a b p) low high (u, (mid, v, w)) = omega (arith, u, Spans-order a (p + 1) mid v, Spans-order b mid high w)
+Spans-order (loop t x y p) low high (u, (mid, next, v, w, z)) =
+    omega (arith, u, Spans-order t (p + 1) mid v, Spans-order x mid next w, Spans-order y next high z)
 Spans-order (binding x a p) low high q = omega (arith, q.0, Spans-order a (p + 1) high q.1)
+Spans-order (tree.next x a p) low high q = omega (arith, q.0, Spans-order a (p + 1) high q.1)
 Spans-order (param x k p) low high q = omega (arith, q.0, q.1)
 Spans-order (define x a k b p) low high (u, (mid, v, w)) = omega (arith, u, Spans-order a (p + 1) mid v, Spans-order b mid high w)
 Spans-order none low high q = q
@@ -50,7 +55,10 @@ Spans-wider (conditional t x y p) low high below above u v (o, (mid, next, w, s,
     (omega (arith, o), (mid, next, w, s, Spans-wider y next high next above (omega arith) v z))
 Spans-wider (call x a p) low high below above u v q = (omega (arith, q.0), Spans-wider a (p + 1) high (p + 1) above (omega arith) v q.1)
 Spans-wider (block a b p) low high below above u v (o, (mid, s, t)) = (omega (arith, o), (mid, s, Spans-wider b mid high mid above (omega arith) v t))
+Spans-wider (loop t x y p) low high below above u v (o, (mid, next, w, s, z)) =
+    (omega (arith, o), (mid, next, w, s, Spans-wider y next high next above (omega arith) v z))
 Spans-wider (binding x a p) low high below above u v q = (omega (arith, q.0), Spans-wider a (p + 1) high (p + 1) above (omega arith) v q.1)
+Spans-wider (tree.next x a p) low high below above u v q = (omega (arith, q.0), Spans-wider a (p + 1) high (p + 1) above (omega arith) v q.1)
 Spans-wider (param x k p) low high below above u v' q = (omega (arith, q.0), omega (arith, q.1))
 Spans-wider (define x a k b p) low high below above u v (o, (mid, s, t)) = (omega (arith, o), (mid, s, Spans-wider b mid high mid above (omega arith) v t))
 Spans-wider none low high below above u v q = omega arith
@@ -78,8 +86,18 @@ Spans-place (call x a p) low high q s (inr h) = let r = Spans-place a (p + 1) hi
 Spans-place (block a b p) low high q (o, (mid, s, t)) (inl h) = (omega (arith, o, h), omega (arith, Spans-order a (p + 1) mid s, Spans-order b mid high t, h))
 Spans-place (block a b p) low high q (o, (mid, s, t)) (inr (inl h)) = let r = Spans-place a (p + 1) mid q s h in (omega (arith, o, r.0), omega (arith, r.1, Spans-order b mid high t))
 Spans-place (block a b p) low high q (o, (mid, s, t)) (inr (inr h)) = let r = Spans-place b mid high q t h in (omega (arith, o, r.0, Spans-order a (p + 1) mid s), r.1)
+Spans-place (loop t x y p) low high q (o, (mid, next, u, v, w)) (inl h) =
+    (omega (arith, o, h), omega (arith, Spans-order t (p + 1) mid u, Spans-order x mid next v, Spans-order y next high w, h))
+Spans-place (loop t x y p) low high q (o, (mid, next, u, v, w)) (inr (inl h)) =
+    let r = Spans-place t (p + 1) mid q u h in (omega (arith, o, r.0), omega (arith, r.1, Spans-order x mid next v, Spans-order y next high w))
+Spans-place (loop t x y p) low high q (o, (mid, next, u, v, w)) (inr (inr (inl h))) =
+    let r = Spans-place x mid next q v h in (omega (arith, o, r.0, Spans-order t (p + 1) mid u), omega (arith, r.1, Spans-order y next high w))
+Spans-place (loop t x y p) low high q (o, (mid, next, u, v, w)) (inr (inr (inr h))) =
+    let r = Spans-place y next high q w h in (omega (arith, o, r.0, Spans-order t (p + 1) mid u, Spans-order x mid next v), r.1)
 Spans-place (binding x a p) low high q s (inl h) = (omega (arith, s.0, h), omega (arith, Spans-order a (p + 1) high s.1, h))
 Spans-place (binding x a p) low high q s (inr h) = let r = Spans-place a (p + 1) high q s.1 h in (omega (arith, s.0, r.0), r.1)
+Spans-place (tree.next x a p) low high q s (inl h) = (omega (arith, s.0, h), omega (arith, Spans-order a (p + 1) high s.1, h))
+Spans-place (tree.next x a p) low high q s (inr h) = let r = Spans-place a (p + 1) high q s.1 h in (omega (arith, s.0, r.0), r.1)
 Spans-place (param x k p) low high q s h = (omega (arith, s.0, h), omega (arith, s.1, h))
 Spans-place (define x a k b p) low high q (o, (mid, s, t)) (inl h) = (omega (arith, o, h), omega (arith, Spans-order a (p + 1) mid s, Spans-order b mid high t, h))
 Spans-place (define x a k b p) low high q (o, (mid, s, t)) (inr (inl h)) = let r = Spans-place a (p + 1) mid q s h in (omega (arith, o, r.0), omega (arith, r.1, Spans-order b mid high t))
@@ -123,7 +141,19 @@ Distinct-spans (block a b p) low high (o, (mid, s, t)) = (
   Distinct-spans a (p + 1) mid s,
   Distinct-spans b mid high t,
 )
+Distinct-spans (loop t x y p) low high (o, (mid, next, u, v, w)) = (
+  λ h. omega (arith, (Spans-place t (p + 1) mid p u h).0),
+  λ h. omega (arith, (Spans-place x mid next p v h).0, Spans-order t (p + 1) mid u),
+  λ h. omega (arith, (Spans-place y next high p w h).0, Spans-order t (p + 1) mid u, Spans-order x mid next v),
+  Spans-apart t x (p + 1) mid mid next (omega arith) u v,
+  Spans-apart t y (p + 1) mid next high (Spans-order x mid next v) u w,
+  Spans-apart x y mid next next high (omega arith) v w,
+  Distinct-spans t (p + 1) mid u,
+  Distinct-spans x mid next v,
+  Distinct-spans y next high w,
+)
 Distinct-spans (binding x a p) low high s = (λ h. omega (arith, (Spans-place a (p + 1) high p s.1 h).0), Distinct-spans a (p + 1) high s.1)
+Distinct-spans (tree.next x a p) low high s = (λ h. omega (arith, (Spans-place a (p + 1) high p s.1 h).0), Distinct-spans a (p + 1) high s.1)
 Distinct-spans (param x k p) low high s = tt
 Distinct-spans (define x a k b p) low high (o, (mid, s, t)) = (
   λ h. omega (arith, (Spans-place a (p + 1) mid p s h).0),
@@ -139,15 +169,20 @@ Distinct-spans (more a b) low high s = (Spans-apart a b low s.0 s.0 high (omega 
 abbrev Keeps : ℕ → ℕ → Rest → Type 0
 Keeps from low (done e) = (high : ℕ) → low ≤ high → Spans from e high
 Keeps from low (word w r) = (mid : ℕ) → low ≤ mid → Keeps from mid r
-Keeps from low (optional w r e) = ((high : ℕ) → low ≤ high → Spans from e high) × ((mid : ℕ) → low ≤ mid → Keeps from mid r)
+Keeps from low (either w r q) = Keeps from low q × ((mid : ℕ) → low ≤ mid → Keeps from mid r)
 Keeps from low (name f) = (x : List ℕ) (p : ℕ) → low ≤ p → Keeps from (p + 1) (f x p)
 Keeps from low (of_kind f) = (k : Kind) (mid : ℕ) → low ≤ mid → Keeps from mid (f k)
 Keeps from low (part s f) = (a : Tree) (mid : ℕ) → Spans low a mid → Keeps from mid (f a)
 
 -- a block spans what its brace and its tail do
-Spans-block_of : (a : Tree) (p mid high : ℕ) → mid ≤ high → Spans (p + 1) a mid → Spans p (block_of a p) high
-Spans-block_of (more a e) p mid high w (i, s, t) = (omega arith, (i, s, Spans-wider e i mid i high (omega arith) w t))
-Spans-block_of a p mid high w s = omega (arith, Spans-order a (p + 1) mid s)
+Spans-with_tail : (a : Tree) (p mid high : ℕ) → mid ≤ high → Spans (p + 1) a mid → Spans p (with_tail a p) high
+Spans-with_tail (more a e) p mid high w (i, s, t) = (omega arith, (i, s, Spans-wider e i mid i high (omega arith) w t))
+Spans-with_tail a p mid high w s = omega (arith, Spans-order a (p + 1) mid s)
+
+-- a loop spans what its brace, its predicate and its tail do
+Spans-loop_with_tail : (t a : Tree) (p low mid high : ℕ) → mid ≤ high → Spans (p + 1) t low → Spans low a mid → Spans p (loop_with_tail t a p) high
+Spans-loop_with_tail t (more a e) p low mid high w u (i, s, v) = (omega arith, (low, i, u, s, Spans-wider e i mid i high (omega arith) w v))
+Spans-loop_with_tail t a p low mid high w u s = omega (arith, Spans-order t (p + 1) low u, Spans-order a low mid s)
 
 -- a tail spans what its first statement and the tail behind it do
 Spans-with_statement : (b a : Tree) (from low mid high : ℕ) → mid ≤ high → Spans from b low → Spans low a mid → Spans from (with_statement b a) high
@@ -189,10 +224,16 @@ Opens-keeps (by_name {p = p}) = (
 Opens-keeps (no_arguments {p = p}) = λ high w. omega arith
 Opens-keeps (last_argument {p = p}) = λ high w. omega arith
 Opens-keeps (next_argument {p = p}) = λ e mid s a next t high w. (mid, Spans-wider e (p + 1) mid p mid (omega arith) (omega arith) s, Spans-wider a mid next mid high (omega arith) w t)
-Opens-keeps (by_block {p = p}) = λ a mid s high w. Spans-block_of a p mid high w s
+Opens-keeps (by_braces {p = p}) = (
+  λ a mid s high w. Spans-with_tail a p mid high w s,
+  λ q1 u1 e q2 v q3 u2 a mid s high w. Spans-loop_with_tail e a p q3 mid high w (Spans-wider e q1 q2 (p + 1) q3 u1 u2 v) s,
+)
 Opens-keeps (by_binding {x = x} {p = p}) = λ q1 u1 e mid s q2 u2 a next t high w.
     Spans-with_statement (binding x e p) a p q2 next high w (omega arith, Spans-wider e q1 mid (p + 1) q2 u1 u2 s) t
+Opens-keeps (by_next {p = p}) = λ x q u q1 u1 e mid s q2 u2 a after t high w.
+    Spans-with_statement (tree.next x e p) a p q2 after high w (omega arith, Spans-wider e q1 mid (p + 1) q2 (omega arith) u2 s) t
 Opens-keeps (by_body {p = p}) = λ e mid s z v high w. (p + 1, omega arith, Spans-wider e (p + 1) mid (p + 1) high (omega arith) (omega arith) s)
+Opens-keeps (by_last {p = p}) = λ e mid s z v high w. (p + 1, omega arith, Spans-wider e (p + 1) mid (p + 1) high (omega arith) (omega arith) s)
 
 -- what is laid is laid in both halves
 Laid-split : (us vs : List Token) (low high : ℕ) → Laid low (us ++ vs) high → (mid : ℕ) × Laid low us mid × Laid mid vs high
@@ -214,7 +255,7 @@ mutual
   Follows-spans ended from low high k p = k high p
   Follows-spans (taken {t = t} q f) from low high k p = Follows-spans f from (t.start + 1) high (k (t.start + 1) (omega (arith, p.0))) p.1
   Follows-spans (chosen {t = t} q f) from low high k p = Follows-spans f from (t.start + 1) high (k.1 (t.start + 1) (omega (arith, p.0))) p.1
-  Follows-spans left_out from low high k p = k.0 high p
+  Follows-spans (left_out f) from low high k p = Follows-spans f from low high k.0 p
   Follows-spans (named {t = t} {x = x} q f) from low high k p = Follows-spans f from (t.start + 1) high (k x t.start p.0) p.1
   Follows-spans (kinded {t = t} {k = j} q f) from low high k p = Follows-spans f from (t.start + 1) high (k j (t.start + 1) (omega (arith, p.0))) p.1
   Follows-spans (given {us = us} {ts = ts} {a = a} d f) from low high k p =

@@ -4,12 +4,15 @@ use Rattle.id_text.specs.Tokens.{Rises}
 use Rattle.id_text.specs.declared.token.Token.{Token}
 use Rattle.id_text.specs.declared.token.TokenKind.{TokenKind}
 use Rattle.id_text.specs.declared.token.TokenKind.TheVariants.{Name, Number, Key, Sign, End}
-use Rattle.id_text.specs.declared.token.Keyword.TheVariants.{Def, In, Int}
+use Rattle.id_text.specs.declared.token.Keyword.{Keyword}
+use Rattle.id_text.specs.declared.token.Keyword.TheVariants.{Def, Finally, In, Int}
 use Rattle.id_text.specs.declared.token.Symbol.TheVariants.{LeftParen, RightParen, RightBrace, Colon, Becomes, Semicolon}
 use Rattle.id_tree.specs.declared.parser.Level.TheVariants as level
+use Rattle.id_tree.specs.declared.parser.Scope.{Scope}
+use Rattle.id_tree.specs.declared.parser.Scope.TheVariants as scope
 use Rattle.id_value.specs.declared.Kind.TheVariants as kind
 use Rattle.id_tree.specs.Tree.{Tree, none, more}
-use Rattle.id_tree.specs.Grammar.{Phrase, Definition, Parameters, MoreParameters, Expression, Grouped, Negation, Unary, Arguments, MoreArguments, Tail, kind_of, Rest, done, word, optional, name, of_kind, part, definition, no_parameters, last_parameter, number, no_arguments, last_argument, by_body, own_height, Derives, opened, unconditional, single, grouped, plain, Follows, ended, taken, left_out, named, kinded, given, Program, empty, defined}
+use Rattle.id_tree.specs.Grammar.{Phrase, Definition, Parameters, MoreParameters, Expression, Grouped, Negation, Unary, Arguments, MoreArguments, Tail, kind_of, Rest, done, word, either, name, of_kind, part, last_of, Opens, definition, no_parameters, last_parameter, number, no_arguments, last_argument, by_body, by_last, own_height, Derives, opened, unconditional, single, grouped, plain, Follows, ended, taken, left_out, named, kinded, given, Program, empty, defined}
 use Rattle.id_tree.specs.Machine.{least_height, Frame, State}
 use Rattle.id_tree.specs.Standing.{Roomy, Around, outermost, unconditionally, left, right, plainly, inside, Stands, begun, wanting, having, within, finished}
 
@@ -113,13 +116,13 @@ least_definition from body = record {
   derives = opened definition (named refl (taken refl (given (opened no_parameters ended) (taken refl (kinded refl (taken refl (given body.derives (taken refl ended))))))));
 }
 
-least_tail : (from : ℕ) → Least Expression (from + 1) → Least Tail from
-least_tail from body = record {
-  tokens = token (Key In) from ∷ (body.tokens ++ token (Sign RightBrace) body.to ∷ []);
+least_tail : (o : Scope) (k : Keyword) (from : ℕ) → Opens (Tail o) (Key k) from last_of → Least Expression (from + 1) → Least (Tail o) from
+least_tail o k from opens body = record {
+  tokens = token (Key k) from ∷ (body.tokens ++ token (Sign RightBrace) body.to ∷ []);
   tree = _;
   to = body.to + 1;
   laid = (omega arith, Laid-append body.tokens (token (Sign RightBrace) body.to ∷ []) (from + 1) body.to (body.to + 1) body.laid (omega arith, omega arith));
-  derives = opened by_body (given body.derives (taken refl ended));
+  derives = opened opens (given body.derives (taken refl ended));
 }
 
 least : (s : Phrase) (from : ℕ) → Least s from
@@ -137,7 +140,8 @@ least MoreParameters from = record { tokens = token (Sign RightParen) from ∷ [
 least Definition from = least_definition from (least_expression (from + 7))
 least Arguments from = record { tokens = token (Sign RightParen) from ∷ []; tree = _; to = from + 1; laid = (omega arith, omega arith); derives = opened no_arguments ended }
 least MoreArguments from = record { tokens = token (Sign RightParen) from ∷ []; tree = _; to = from + 1; laid = (omega arith, omega arith); derives = opened last_argument ended }
-least Tail from = least_tail from (least_expression (from + 1))
+least (Tail scope.Block) from = least_tail scope.Block In from by_body (least_expression (from + 1))
+least (Tail scope.Loop) from = least_tail scope.Loop Finally from by_last (least_expression (from + 1))
 
 -- what is left of a production, with tokens from a place on
 record Finish (n d from : ℕ) (r : Rest) : Type 0 where
@@ -155,7 +159,9 @@ finish (done e) n d from w roomy = record { tokens = []; tree = e; height = 0; t
 finish (word v r) n d from w roomy =
     let f = finish r n d (from + 1) w roomy in
     record { tokens = token (kind_of v) from ∷ f.tokens; tree = f.tree; height = f.height; to = f.to; laid = (omega arith, f.laid); follows = taken refl f.follows; fits = f.fits }
-finish (optional v r e) n d from w roomy = record { tokens = []; tree = e; height = 0; to = from; laid = omega arith; follows = left_out; fits = omega arith }
+finish (either v r o) n d from w roomy =
+    let f = finish o n d from w roomy.1 in
+    record { tokens = f.tokens; tree = f.tree; height = f.height; to = f.to; laid = f.laid; follows = left_out f.follows; fits = f.fits }
 finish (name g) n d from w roomy =
     let f = finish (g [] from) n d (from + 1) w (roomy [] from) in
     record { tokens = token (Name []) from ∷ f.tokens; tree = f.tree; height = f.height; to = f.to; laid = (omega arith, f.laid); follows = named refl f.follows; fits = f.fits }

@@ -20,11 +20,11 @@ use Rattle.id_tree.specs.declared.tree.Def.{Def as Definition_}
 use Rattle.id_tree.specs.declared.tree.TreeError.{TreeError}
 use Rattle.id_tree.specs.declared.tree.TreeError.TheVariants.{Unexpected, TooDeep}
 use Rattle.id_tree.specs.Tree.{Tree, def_tree, defs_tree, literal, unary, binary, none, more}
-use Rattle.id_tree.specs.Grammar.{Phrase, Definition, Expression, Grouped, Negation, Unary, kind_of, Rest, done, word, name, part, enclosed, definition_of, named_of, conditional_of, Opens, definition, by_conditional, denied, negated, number, by_true, by_false, parens, by_name, operand, operator_of, own_height}
+use Rattle.id_tree.specs.Grammar.{Phrase, Definition, Expression, Grouped, Negation, Unary, kind_of, Rest, done, word, name, part, enclosed, definition_of, named_of, conditional_of, either, Opens, definition, by_conditional, denied, negated, number, by_true, by_false, parens, by_name, operand, operator_of, own_height}
 use Rattle.id_tree.specs.Machine.{opening, room, Frame, Left, Right, Inside, Outer, again, Move, State, Begin, Want, Have, Next, Finished, is_word, name_in, takes, ahead, ends, wants, Outcome, Accepted, Refused, run}
 use Rattle.id_tree.specs.Readers.{first_kind, first_start, truth_in, IsRead, EndsBy, IsPrefix, Leads, Fails, Defines, Grows, Stunts, Takes, Misses, BeginsWithName, NoName, LacksName, Encloses, Exposes, def_trees, Amasses}
 use Rattle.id_tree.proofs.RowLemmas.{opening-from_opens, same-is_word}
-use Rattle.id_tree.proofs.RunLemmas.{First, Unopened, run-step, run-deep, run-none, run-word, run-name, run-opens, run-opens-deep, run-operator, run-done, run-part, run-inside, run-outer, run-right, run-level, run-left, run-unconditional, run-plain}
+use Rattle.id_tree.proofs.RunLemmas.{First, Unopened, run-step, run-deep, run-none, run-word, run-name, run-chosen, run-left_out, run-opens, run-opens-deep, run-operator, run-done, run-part, run-inside, run-outer, run-right, run-level, run-left, run-unconditional, run-plain}
 
 pub EndsBy-at : {o p : Outcome} (x : TreeError) → o ≡ p → EndsBy p x → EndsBy o x
 EndsBy-at x e q = subst (λ r. EndsBy r x) (sym e) q
@@ -51,6 +51,15 @@ module _ {ts us : List Token} {t : Token} (e : ts ≡ t ∷ us) where
   pub NoName-one : (x : TreeError) → x ≡ Unexpected (first_start ts) → name_in t.kind ≡ None → NoName ts x
   NoName-one x j q = record { token = t; behind = us; whole = e; kind = q; error = j ∙ ap (λ xs. Unexpected (first_start xs)) e }
 
+-- the tokens do not begin with a word that is not there
+pub no_word : (w : Word) (ts : List Token) → (first_kind ts ≡ kind_of w → ⊥) → First (λ k. is_word w k ≡ false) ts
+no_word w [] f = tt
+no_word w (t ∷ ts) f = tested (is_word w t.kind) refl
+  where
+    tested : (b : Bool) → is_word w t.kind ≡ b → is_word w t.kind ≡ false
+    tested true i = absurd (f (same-is_word w t.kind i))
+    tested false i = i
+
 -- Productions: from where the phrase is wanted the run has come to what is left of a production of it.
 pub record At (ts : List Token) (s : Phrase) (d : ℕ) (us : List Token) (r : Rest) (h : ℕ) : Type 0 where
   pub comes : (K : List Frame) → run 200 ts (Want s d K) ≡ run 200 us (Next r h (d + own_height s) (own_height s) K)
@@ -74,6 +83,17 @@ module _ {ts us : List Token} {s : Phrase} {d h : ℕ} where
 
   pub Fails-word : {w : Word} {r : Rest} {x : TreeError} → At ts s d us (word w r) h → Misses (word w) us x → Fails ts s d x
   Fails-word {r = r} {x = x} p q = record { fails = λ K. EndsBy-at x (p.comes K) (q.fails r h (d + own_height s) (own_height s) K) }
+
+  -- a word that may be left out, which comes or does not
+  pub At-chosen : {w : Word} {r o : Rest} {t : Token} {vs : List Token} → At ts s d us (either w r o) h → us ≡ t ∷ vs → first_kind us ≡ kind_of w → At ts s d vs r h
+  At-chosen {w = w} {r = r} {o = o} {t = t} {vs = vs} p e q = record {
+    comes = λ K. p.comes K ∙ rw e (run-chosen 200 t vs w r o h (d + own_height s) (own_height s) K (first_of e q));
+  }
+
+  pub At-left_out : {w : Word} {r o : Rest} → At ts s d us (either w r o) h → (first_kind us ≡ kind_of w → ⊥) → At ts s d us o h
+  At-left_out {w = w} {r = r} {o = o} p f = record {
+    comes = λ K. p.comes K ∙ run-left_out 200 us w r o h (d + own_height s) (own_height s) K (no_word w us f);
+  }
 
   pub At-name : {f : List ℕ → ℕ → Rest} {x : List ℕ} {p : ℕ} {vs : List Token} → At ts s d us (name f) h → BeginsWithName us x p vs → At ts s d vs (f x p) h
   At-name {f = f} {x = x} {vs = vs} p q = record { comes = λ K. p.comes K ∙ rw (q.whole, ← q.place) (run-name 200 q.token vs x f h (d + own_height s) (own_height s) K q.kind) }

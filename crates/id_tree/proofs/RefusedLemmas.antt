@@ -6,7 +6,7 @@ use Rattle.id_tree.specs.Tree.{Tree}
 use Rattle.id_tree.specs.declared.tree.TreeError.{TreeError}
 use Rattle.id_tree.specs.declared.tree.TreeError.TheVariants.{Unexpected, TooDeep, Memory}
 use Rattle.id_tree.specs.Readers.{EndsBy}
-use Rattle.id_tree.specs.Grammar.{Phrase, Rest, done, word, optional, name, of_kind, part, own_height, Program}
+use Rattle.id_tree.specs.Grammar.{Phrase, Rest, done, word, either, name, of_kind, part, own_height, Program}
 use Rattle.id_tree.specs.Accepted.{Accepts, GoesOn, GoesOnDeeper, StopsAt, RefusedBy, IsMemory}
 use Rattle.id_tree.specs.Machine.{Move, pick, takes, Frame, State, Begin, Want, Have, Next, Finished, Accepted, Refused, run}
 use Rattle.id_tree.specs.Standing.{Around, outermost, unconditionally, left, right, plainly, inside, Stands, begun, wanting, having, within, finished, Roomy}
@@ -93,7 +93,7 @@ stopped n S us (t ∷ ts) deep at st q = Stopped-move n S us t ts deep at st (λ
 Roomy-wider : (n m d : ℕ) (r : Rest) → n ≤ m → Roomy n d r → Roomy m d r
 Roomy-wider n m d (done e) w q = tt
 Roomy-wider n m d (word v r) w q = Roomy-wider n m d r w q
-Roomy-wider n m d (optional v r e) w q = Roomy-wider n m d r w q
+Roomy-wider n m d (either v r o) w q = (Roomy-wider n m d r w q.0, Roomy-wider n m d o w q.1)
 Roomy-wider n m d (name f) w q = λ x p. Roomy-wider n m d (f x p) w (q x p)
 Roomy-wider n m d (of_kind f) w q = λ k. Roomy-wider n m d (f k) w (q k)
 Roomy-wider n m d (part s f) w q = (omega (arith, q.0), λ a. Roomy-wider n m d (f a) w (q.1 a))

@@ -6,16 +6,18 @@ use Rattle.id_text.specs.contracts.token.Symbol as symbol
 use Rattle.id_text.specs.declared.token.Token.{Token}
 use Rattle.id_text.specs.declared.token.TokenKind.{TokenKind}
 use Rattle.id_text.specs.declared.token.TokenKind.TheVariants.{Key, Sign}
-use Rattle.id_text.specs.declared.token.Keyword.TheVariants.{And, Or}
+use Rattle.id_text.specs.declared.token.Keyword.TheVariants.{While, And, Or}
 use Rattle.id_text.specs.declared.token.Symbol.TheVariants.{LeftParen, RightParen, Comma, Equal, NotEqual, Less, LessEqual, Greater, GreaterEqual, Plus, Minus}
 use Rattle.id_tree.specs.declared.tokens.Word.{Word}
 use Rattle.id_tree.specs.declared.tokens.Word.TheVariants as the
 use Rattle.id_value.specs.declared.BinaryOp.{BinaryOp}
 use Rattle.id_value.specs.declared.Kind.{Kind}
 use Rattle.id_tree.specs.declared.parser.Level.{Level}
+use Rattle.id_tree.specs.declared.parser.Scope.{Scope}
 use Rattle.id_tree.specs.declared.parser.Level.TheVariants as level
+use Rattle.id_tree.specs.declared.parser.Scope.TheVariants as scope
 use Rattle.id_tree.specs.Tree.{Tree}
-use Rattle.id_tree.specs.Grammar.{Phrase, Definition, Parameters, MoreParameters, Expression, Grouped, Negation, Unary, Arguments, MoreArguments, Tail, kind_of, arguments_of, Rest, done, word, optional, name, of_kind, part, Opens, definition, no_parameters, first_parameter, last_parameter, next_parameter, by_conditional, denied, negated, number, by_true, by_false, parens, by_name, by_block, no_arguments, last_argument, next_argument, by_binding, by_body, operand, left_operand, operator_of, own_height, Derives, opened, unconditional, single, grouped, plain, some_arguments, Follows, ended, taken, chosen, left_out, named, kinded, given}
+use Rattle.id_tree.specs.Grammar.{Phrase, Definition, Parameters, MoreParameters, Expression, Grouped, Negation, Unary, Arguments, MoreArguments, Tail, kind_of, arguments_of, last_of, Rest, done, word, either, name, of_kind, part, Opens, definition, no_parameters, first_parameter, last_parameter, next_parameter, by_conditional, denied, negated, number, by_true, by_false, parens, by_name, by_braces, no_arguments, last_argument, next_argument, by_binding, by_next, by_body, by_last, operand, left_operand, operator_of, own_height, Derives, opened, unconditional, single, grouped, plain, some_arguments, Follows, ended, taken, chosen, left_out, named, kinded, given}
 use Rattle.id_tree.specs.Machine.{opening, least_height, room, is_word}
 use Rattle.id_tree.specs.Standing.{Roomy}
 
@@ -63,27 +65,29 @@ Quiet Negation k = QuietComparison k
 Quiet Unary k = QuietUnary k
 Quiet Arguments k = Unit {0}
 Quiet MoreArguments k = Unit {0}
-Quiet Tail k = Unit {0}
+Quiet (Tail o) k = Unit {0}
 
 -- what is left of a production of the phrase s0 does not go on a part of the phrase s
 abbrev pub Ends : Phrase → Phrase → Rest → Type 0
 Ends s0 s (done e) = (k : TokenKind) → Quiet s0 k → Quiet s k
 Ends s0 s (word w r) = Quiet s (kind_of w)
-Ends s0 s (optional w r e) = ⊥
+Ends s0 s (either w r q) = ⊥
 Ends s0 s (name f) = ⊥
 Ends s0 s (of_kind f) = ⊥
 Ends s0 s (part MoreArguments f) = Quiet s (Sign RightParen) × Quiet s (Sign Comma)
 Ends s0 s (part s' f) = ⊥
 
--- a word is none with which anything within the phrase goes on
-abbrev Bars : Phrase → Word → Type 0
-Bars s0 w = (k : TokenKind) → Quiet s0 k → is_word w k ≡ false
+-- a word is none with which what is left of a production of the phrase begins, or what stands behind it where that is nothing
+abbrev pub Bars : Phrase → Word → Rest → Type 0
+Bars s0 w (done e) = (k : TokenKind) → Quiet s0 k → is_word w k ≡ false
+Bars s0 w (part (Tail o) f) = (k : TokenKind) (p : ℕ) (r : Rest) → Opens (Tail o) k p r → is_word w k ≡ false
+Bars s0 w _ = ⊥
 
 -- no part is gone on by what stands behind it, nor a production that could go on
 abbrev pub Parts : Phrase → Rest → Type 0
 Parts s0 (done e) = Unit {0}
 Parts s0 (word w r) = Parts s0 r
-Parts s0 (optional w r e) = Bars s0 w × Parts s0 r
+Parts s0 (either w r q) = Bars s0 w q × Parts s0 r × Parts s0 q
 Parts s0 (name f) = (x : List ℕ) (p : ℕ) → Parts s0 (f x p)
 Parts s0 (of_kind f) = (k : Kind) → Parts s0 (f k)
 Parts s0 (part s f) = (a : Tree) → Ends s0 s (f a) × Parts s0 (f a)
@@ -92,7 +96,7 @@ Parts s0 (part s f) = (a : Tree) → Ends s0 s (f a) × Parts s0 (f a)
 abbrev pub Needs : ℕ → Rest → Type 0
 Needs m (done e) = m ≤ 0
 Needs m (word w r) = Needs m r
-Needs m (optional w r e) = m ≤ 0
+Needs m (either w r q) = Needs m r × Needs m q
 Needs m (name f) = (x : List ℕ) (p : ℕ) → Needs m (f x p)
 Needs m (of_kind f) = (k : Kind) → Needs m (f k)
 Needs m (part s f) = (k : ℕ) × (m ≤ max (least_height s) k) × ((a : Tree) → Needs k (f a))
@@ -127,9 +131,23 @@ not_bracket k q = tested (is_word (the.Sign LeftParen) k) refl
         no_truth e = cc
     tested false i = i
 
+-- no tail of a block begins with the word `while`
+not_while : (k : TokenKind) (p : ℕ) (r : Rest) → Opens (Tail scope.Block) k p r → is_word (the.Key While) k ≡ false
+not_while k p r by_binding = refl
+not_while k p r by_body = refl
+
 -- behind an argument comes a comma or the closing bracket
 pub arguments_parts : (s0 : Phrase) → Parts s0 arguments_of
 arguments_parts s0 = λ e. (((refl, (refl, (refl, (refl, (refl, refl))))), (refl, (refl, (refl, (refl, (refl, refl)))))), λ a. (λ k q. tt, tt))
+
+-- the body of a block, and the last expression of a loop
+last_valid : {o : Scope} → Valid (Tail o) last_of
+last_valid = record {
+  parts = λ e. ((refl, (refl, (refl, (refl, (refl, refl))))), tt);
+  high = omega arith;
+  needs = (0, omega arith, λ e. omega arith);
+  roomy = λ n d h. (h, λ e. tt);
+}
 
 pub valid : {s : Phrase} {k : TokenKind} {p : ℕ} {r : Rest} → Opens s k p r → Valid s r
 valid definition = record {
@@ -190,16 +208,16 @@ valid parens = record {
   roomy = λ n d h. (h, λ e. tt);
 }
 valid by_name = record {
-  parts = (not_bracket, λ a. (λ k q. tt, tt));
+  parts = (not_bracket, λ a. (λ k q. tt, tt), tt);
   high = omega arith;
-  needs = omega arith;
-  roomy = λ n d h. (h, λ a. tt);
+  needs = ((0, omega arith, λ a. omega arith), omega arith);
+  roomy = λ n d h. ((h, λ a. tt), tt);
 }
-valid by_block = record {
-  parts = λ a. (λ k q. tt, tt);
+valid by_braces = record {
+  parts = (not_while, λ t. ((refl, (refl, (refl, (refl, (refl, refl))))), λ a. (λ k q. tt, tt)), λ a. (λ k q. tt, tt));
   high = omega arith;
-  needs = (0, omega arith, λ a. omega arith);
-  roomy = λ n d h. (h, λ a. tt);
+  needs = ((0, omega arith, λ t. (0, omega arith, λ a. omega arith)), (0, omega arith, λ a. omega arith));
+  roomy = λ n d h. ((h, λ t. (h, λ a. tt)), (h, λ a. tt));
 }
 valid no_arguments = record { parts = tt; high = omega arith; needs = omega arith; roomy = λ n d h. tt }
 valid last_argument = record { parts = tt; high = omega arith; needs = omega arith; roomy = λ n d h. tt }
@@ -215,12 +233,14 @@ valid by_binding = record {
   needs = (1, omega arith, λ e. (0, omega arith, λ a. omega arith));
   roomy = λ n d h. (h, λ e. (h, λ a. tt));
 }
-valid by_body = record {
-  parts = λ e. ((refl, (refl, (refl, (refl, (refl, refl))))), tt);
+valid by_next = record {
+  parts = λ x q e. ((refl, (refl, (refl, (refl, (refl, refl))))), λ a. (λ k q. tt, tt));
   high = omega arith;
-  needs = (0, omega arith, λ e. omega arith);
-  roomy = λ n d h. (h, λ e. tt);
+  needs = λ x q. (1, omega arith, λ e. (0, omega arith, λ a. omega arith));
+  roomy = λ n d h x q. (h, λ e. (h, λ a. tt));
 }
+valid by_body = last_valid
+valid by_last = last_valid
 
 -- the machine finds each production
 pub opening-from_opens : {s : Phrase} {k : TokenKind} {p : ℕ} {r : Rest} (o : Opens s k p r) → opening s k p ≡ Some (record { rest = r; opens = o })
@@ -237,12 +257,15 @@ opening-from_opens by_true = refl
 opening-from_opens by_false = refl
 opening-from_opens parens = refl
 opening-from_opens by_name = refl
-opening-from_opens by_block = refl
+opening-from_opens by_braces = refl
 opening-from_opens no_arguments = refl
 opening-from_opens last_argument = refl
 opening-from_opens next_argument = refl
-opening-from_opens by_binding = refl
+opening-from_opens (by_binding {s = scope.Block}) = refl
+opening-from_opens (by_binding {s = scope.Loop}) = refl
+opening-from_opens by_next = refl
 opening-from_opens by_body = refl
+opening-from_opens by_last = refl
 
 -- an operator of a level is none of a tighter one
 pub Quiet-operator : (l : Level) (k : TokenKind) (o : BinaryOp) → operator_of l k ≡ Some o → Quiet (operand l) k
@@ -276,7 +299,7 @@ least-most Negation = omega arith
 least-most Unary = omega arith
 least-most Arguments = omega arith
 least-most MoreArguments = omega arith
-least-most Tail = omega arith
+least-most (Tail o) = omega arith
 
 -- what stands before an operator of a level has a height, and so have its operands
 pub left_operand-least : (l : Level) → 1 ≤ least_height (left_operand l)
@@ -307,8 +330,8 @@ mutual
   pub Follows-height : {r : Rest} {ts : List Token} {e : Tree} {h : ℕ} → Follows r ts e h → (m : ℕ) → Needs m r → m ≤ h
   Follows-height ended m n = n
   Follows-height (taken q f) m n = Follows-height f m n
-  Follows-height (chosen q f) m n = omega (arith, n)
-  Follows-height left_out m n = n
+  Follows-height (chosen q f) m n = Follows-height f m n.0
+  Follows-height (left_out f) m n = Follows-height f m n.1
   Follows-height (named q f) m n = Follows-height f m (n _ _)
   Follows-height (kinded {k = k} q f) m n = Follows-height f m (n k)
   Follows-height (given {a = a} {m = i} {n = j} d f) m n = omega (arith, n.1, Derives-height d, Follows-height f n.0 (n.2 a))

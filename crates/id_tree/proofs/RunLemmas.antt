@@ -10,7 +10,7 @@ use Rattle.id_tree.specs.declared.tokens.Word.{Word}
 use Rattle.id_value.specs.declared.Kind.{Kind}
 use Rattle.id_value.specs.declared.BinaryOp.{BinaryOp}
 use Rattle.id_tree.specs.Tree.{Tree, binary}
-use Rattle.id_tree.specs.Grammar.{Phrase, Definition, Parameters, MoreParameters, Expression, Grouped, Negation, Unary, Arguments, MoreArguments, Tail, kind_of, arguments_of, Rest, done, word, optional, name, of_kind, part, kind_named, Opens, operand, operator_of, own_height}
+use Rattle.id_tree.specs.Grammar.{Phrase, Definition, Parameters, MoreParameters, Expression, Grouped, Negation, Unary, Arguments, MoreArguments, Tail, kind_of, arguments_of, Rest, done, word, either, name, of_kind, part, kind_named, Opens, operand, operator_of, own_height}
 use Rattle.id_tree.specs.Machine.{opening, room, Frame, Left, Right, Inside, Outer, again, State, Begin, Want, Have, Next, Move, is_word, takes, Refused, run}
 use Rattle.id_tree.proofs.RowLemmas.{opening-from_opens, is_word-same}
 
@@ -35,8 +35,8 @@ module _ (n : ℕ) (t : Token) (ts : List Token) where
   run-word w r h d c K q = let b = is_word-same w t.kind q in run-step (Next (word w r) h d c K) (record { need = 0; next = Next r h d c K }) (rw b refl) zero-le
 
   -- a word that may be left out
-  pub run-chosen : (w : Word) (r : Rest) (a : Tree) (h d c : ℕ) (K : List Frame) → t.kind ≡ kind_of w → run n (t ∷ ts) (Next (optional w r a) h d c K) ≡ run n ts (Next r h d c K)
-  run-chosen w r a h d c K q = let b = is_word-same w t.kind q in run-step (Next (optional w r a) h d c K) (record { need = 0; next = Next r h d c K }) (rw b refl) zero-le
+  pub run-chosen : (w : Word) (r o : Rest) (h d c : ℕ) (K : List Frame) → t.kind ≡ kind_of w → run n (t ∷ ts) (Next (either w r o) h d c K) ≡ run n ts (Next r h d c K)
+  run-chosen w r o h d c K q = let b = is_word-same w t.kind q in run-step (Next (either w r o) h d c K) (record { need = 0; next = Next r h d c K }) (rw b refl) zero-le
 
   -- a name
   pub run-name : (x : List ℕ) (f : List ℕ → ℕ → Rest) (h d c : ℕ) (K : List Frame) → t.kind ≡ Name x → run n (t ∷ ts) (Next (name f) h d c K) ≡ run n ts (Next (f x t.start) h d c K)
@@ -56,7 +56,7 @@ module _ (n : ℕ) (t : Token) (ts : List Token) where
   run-opens Unary r d K o h = run-step (Want Unary d K) _ (rw (opening-from_opens o) refl) h
   run-opens Arguments r d K o h = run-step (Want Arguments d K) _ (rw (opening-from_opens o) refl) h
   run-opens MoreArguments r d K o h = run-step (Want MoreArguments d K) _ (rw (opening-from_opens o) refl) h
-  run-opens Tail r d K o h = run-step (Want Tail d K) _ (rw (opening-from_opens o) refl) h
+  run-opens (Tail j) r d K o h = run-step (Want (Tail j) d K) _ (rw (opening-from_opens o) refl) h
   run-opens (Grouped l) r d K o h = elim o [ ]
 
   pub run-opens-deep : (s : Phrase) (r : Rest) (d : ℕ) (K : List Frame) → Opens s t.kind t.start r → n < d + own_height s + room r → run n (t ∷ ts) (Want s d K) ≡ Refused true t.start
@@ -69,7 +69,7 @@ module _ (n : ℕ) (t : Token) (ts : List Token) where
   run-opens-deep Unary r d K o h = run-deep (Want Unary d K) (record { need = d + 1 + room r; next = Next r 0 (d + 1) 1 K }) (rw (opening-from_opens o) refl) h
   run-opens-deep Arguments r d K o h = run-deep (Want Arguments d K) (record { need = d + 0 + room r; next = Next r 0 (d + 0) 0 K }) (rw (opening-from_opens o) refl) h
   run-opens-deep MoreArguments r d K o h = run-deep (Want MoreArguments d K) (record { need = d + 0 + room r; next = Next r 0 (d + 0) 0 K }) (rw (opening-from_opens o) refl) h
-  run-opens-deep Tail r d K o h = run-deep (Want Tail d K) (record { need = d + 0 + room r; next = Next r 0 (d + 0) 0 K }) (rw (opening-from_opens o) refl) h
+  run-opens-deep (Tail j) r d K o h = run-deep (Want (Tail j) d K) (record { need = d + 0 + room r; next = Next r 0 (d + 0) 0 K }) (rw (opening-from_opens o) refl) h
   run-opens-deep (Grouped l) r d K o h = elim o [ ]
 
   -- an operator of a level
@@ -142,11 +142,11 @@ First P [] = Unit {0}
 First P (t ∷ ts) = P t.kind
 
 -- where the word is not, it is left out
-pub run-left_out : (n : ℕ) (ts : List Token) (w : Word) (r : Rest) (e : Tree) (h d c : ℕ) (K : List Frame) → First (λ k. is_word w k ≡ false) ts →
-    run n ts (Next (optional w r e) h d c K) ≡ run n ts (Have e (h + c) K)
+pub run-left_out : (n : ℕ) (ts : List Token) (w : Word) (r o : Rest) (h d c : ℕ) (K : List Frame) → First (λ k. is_word w k ≡ false) ts →
+    run n ts (Next (either w r o) h d c K) ≡ run n ts (Next o h d c K)
 unfolding run
-run-left_out n [] w r e h d c K q = refl
-run-left_out n (t ∷ ts) w r e h d c K q = rw q refl
+run-left_out n [] w r o h d c K q = refl
+run-left_out n (t ∷ ts) w r o h d c K q = rw q refl
 
 -- without the closing bracket an argument is wanted
 pub run-arguments : (n : ℕ) (ts : List Token) (d : ℕ) (K : List Frame) → Unopened Arguments ts →

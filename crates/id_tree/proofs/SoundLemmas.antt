@@ -6,7 +6,7 @@ use Rattle.id_text.specs.declared.token.TokenKind.TheVariants.{Name, End}
 use Rattle.id_tree.specs.declared.parser.Level.{Level}
 use Rattle.id_tree.specs.declared.parser.Level.TheVariants as level
 use Rattle.id_tree.specs.Tree.{Tree, binary, none, more}
-use Rattle.id_tree.specs.Grammar.{Phrase, Definition, Parameters, MoreParameters, Expression, Grouped, Negation, Unary, Arguments, MoreArguments, Tail, argument_of, Rest, done, word, optional, name, of_kind, part, kind_named, operand, left_operand, operator_of, own_height, Derives, opened, unconditional, single, grouped, plain, some_arguments, ended, taken, chosen, left_out, named, kinded, given, Program, empty, defined}
+use Rattle.id_tree.specs.Grammar.{Phrase, Definition, Parameters, MoreParameters, Expression, Grouped, Negation, Unary, Arguments, MoreArguments, Tail, argument_of, Rest, done, word, either, name, of_kind, part, kind_named, operand, left_operand, operator_of, own_height, Derives, opened, unconditional, single, grouped, plain, some_arguments, ended, taken, chosen, left_out, named, kinded, given, Program, empty, defined}
 use Rattle.id_tree.specs.Machine.{opening, Move, pick, is_word, name_in, ahead, ends, defines, enters, sums, negates, expresses, wants, operates, repeats, nexts, closes, takes, Frame, Left, Inside, Outer, State}
 use Rattle.id_tree.specs.Standing.{Begins, Defined, Roomy, Around, outermost, unconditionally, left, right, plainly, inside, Stands, begun, wanting, having, within, finished}
 use Rattle.id_tree.proofs.RowLemmas.{valid, least-most, left_operand-least, Derives-height}
@@ -109,7 +109,7 @@ module _ (n : ℕ) (t : Token) where
   Moves-wants {s = Parameters} a = Moves-enters None a tt
   Moves-wants {s = MoreParameters} a = Moves-enters None a tt
   Moves-wants {s = Unary} a = Moves-enters None a tt
-  Moves-wants {s = Tail} a = Moves-enters None a tt
+  Moves-wants {s = Tail o} a = Moves-enters None a tt
   Moves-wants {s = Expression} a = Moves-expresses a
   Moves-wants {s = Arguments} {d = d} {K = K} a =
       Moves-enters (expresses t (d + 0) (Inside argument_of 0 (d + 0) 0 ∷ K)) a (Moves-expresses (Around-argument a))
@@ -157,12 +157,12 @@ module _ (n : ℕ) (t : Token) where
   Moves-nexts {s = s} {us = us} {vs = vs} (of_kind g) h close a b w roomy closing = Moves-pick n _ (kind_named t.kind) _ None (λ k q fits.
       Stands-at (sym (append_assoc us vs (t ∷ [])))
       (within a (record { completes = λ ts e m f. Derives-at (sym (snoc-at vs ts t)) (b.completes (t ∷ ts) e m (kinded q f)) }) w (roomy k))) tt
-  Moves-nexts {s = s} {us = us} {vs = vs} (optional v r e) h close a b w roomy closing =
-      Moves-if n _ (is_word v t.kind) _ (close e (h + own_height s))
+  Moves-nexts {s = s} {d = d} {K = K} {us = us} {vs = vs} (either v r o) h close a b w roomy closing =
+      Moves-if n _ (is_word v t.kind) _ (nexts t o h (d + own_height s) (own_height s) K close)
       (λ q fits.
       Stands-at (sym (append_assoc us vs (t ∷ [])))
-      (within a (record { completes = λ ts f m g. Derives-at (sym (snoc-at vs ts t)) (b.completes (t ∷ ts) f m (chosen (same-is_word v t.kind q) g)) }) w roomy))
-      (closing vs e (h + own_height s) (Derives-at (append-nil vs) (Derives-of (omega arith) (b.completes [] e 0 left_out))) (omega arith))
+      (within a (record { completes = λ ts f m g. Derives-at (sym (snoc-at vs ts t)) (b.completes (t ∷ ts) f m (chosen (same-is_word v t.kind q) g)) }) w roomy.0))
+      (Moves-nexts o h close a (record { completes = λ ts f m g. b.completes ts f m (left_out g) }) w roomy.1 closing)
   Moves-nexts (part i g) h close a b w roomy closing = Moves-wants (inside a b w roomy.1)
 
   -- a token behind definitions

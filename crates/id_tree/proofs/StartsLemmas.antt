@@ -5,8 +5,8 @@ use Rattle.id_text.specs.Tokens.{IsWithin}
 use Rattle.id_text.specs.declared.token.Token.{Token}
 use Rattle.id_text.specs.declared.token.TokenKind.{TokenKind}
 use Rattle.id_value.specs.declared.Kind.{Kind}
-use Rattle.id_tree.specs.Tree.{Tree, conditional, binding, param, none, more}
-use Rattle.id_tree.specs.Grammar.{Phrase, Rest, done, word, optional, name, of_kind, part, with_statement, block_of, Opens, definition, no_parameters, first_parameter, last_parameter, next_parameter, by_conditional, denied, negated, number, by_true, by_false, parens, by_name, by_block, no_arguments, last_argument, next_argument, by_binding, by_body, Derives, opened, unconditional, single, grouped, plain, some_arguments, Follows, ended, taken, chosen, left_out, named, kinded, given, Program, empty, defined}
+use Rattle.id_tree.specs.Tree.{Tree, binding, next, param, none, more}
+use Rattle.id_tree.specs.Grammar.{Phrase, Rest, done, word, either, name, of_kind, part, with_statement, with_tail, loop_with_tail, Opens, definition, no_parameters, first_parameter, last_parameter, next_parameter, by_conditional, denied, negated, number, by_true, by_false, parens, by_name, by_braces, no_arguments, last_argument, next_argument, by_binding, by_next, by_body, by_last, Derives, opened, unconditional, single, grouped, plain, some_arguments, Follows, ended, taken, chosen, left_out, named, kinded, given, Program, empty, defined}
 use Rattle.id_tree.specs.Distinct.{HasPlace}
 use Rattle.id_tree.specs.Starts.{StartsAt, PlacesAreStarts}
 
@@ -23,7 +23,7 @@ AllPlaced P e = (q : ℕ) → HasPlace e q → P q
 abbrev Fills : (ℕ → Type 0) → Rest → Type 0
 Fills P (done e) = AllPlaced P e
 Fills P (word w r) = Fills P r
-Fills P (optional w r e) = AllPlaced P e × Fills P r
+Fills P (either w r q) = Fills P q × Fills P r
 Fills P (name f) = (x : List ℕ) (p : ℕ) → P p → Fills P (f x p)
 Fills P (of_kind f) = (k : Kind) → Fills P (f k)
 Fills P (part s f) = (a : Tree) → AllPlaced P a → Fills P (f a)
@@ -46,13 +46,18 @@ module _ (P : ℕ → Type 0) where
   of_parts a b u v w q (inr (inl i)) = v q i
   of_parts a b u v w q (inr (inr i)) = w q i
 
-  of_conditional : {p : ℕ} (t x y : Tree) → P p → AllPlaced P t → AllPlaced P x → AllPlaced P y → AllPlaced P (conditional t x y p)
-  of_conditional t x y u v w z q (inl i) = at_own i u
-  of_conditional t x y u v w z q (inr (inl i)) = v q i
-  of_conditional t x y u v w z q (inr (inr (inl i))) = w q i
-  of_conditional t x y u v w z q (inr (inr (inr i))) = z q i
+  of_three : {p : ℕ} (t x y : Tree) → P p → AllPlaced P t → AllPlaced P x → AllPlaced P y →
+      (q : ℕ) → (p ≡ q) ⊎ (HasPlace t q ⊎ (HasPlace x q ⊎ HasPlace y q)) → P q
+  of_three t x y u v w z q (inl i) = at_own i u
+  of_three t x y u v w z q (inr (inl i)) = v q i
+  of_three t x y u v w z q (inr (inr (inl i))) = w q i
+  of_three t x y u v w z q (inr (inr (inr i))) = z q i
 
-  of_block : {p : ℕ} (a : Tree) → P p → AllPlaced P a → AllPlaced P (block_of a p)
+  of_loop : {p : ℕ} (t a : Tree) → P p → AllPlaced P t → AllPlaced P a → AllPlaced P (loop_with_tail t a p)
+  of_loop t (more a e) g h i q j = of_three t a e g h (λ r k. i r (inl k)) (λ r k. i r (inr k)) q j
+  of_loop t a g h i q j = absurd j
+
+  of_block : {p : ℕ} (a : Tree) → P p → AllPlaced P a → AllPlaced P (with_tail a p)
   of_block (more a e) g h q (inl i) = at_own i g
   of_block (more a e) g h q (inr i) = h q i
   of_block a g h q i = absurd i
@@ -69,7 +74,7 @@ module _ (P : ℕ → Type 0) where
   Opens-fills (first_parameter {x = x} {p = p}) g = λ k a h. of_both (param x k p) a (λ q i. at_own i g) h
   Opens-fills last_parameter g = λ q h. absurd h
   Opens-fills next_parameter g = λ x p i k a h. of_both (param x k p) a (λ q j. at_own j i) h
-  Opens-fills by_conditional g = λ t h x i y j. of_conditional t x y g h i j
+  Opens-fills by_conditional g = λ t h x i y j. of_three t x y g h i j
   Opens-fills denied g = λ e h. of_part e g h
   Opens-fills negated g = λ e h. of_part e g h
   Opens-fills number g = λ q i. at_own i g
@@ -80,9 +85,11 @@ module _ (P : ℕ → Type 0) where
   Opens-fills no_arguments g = λ q h. absurd h
   Opens-fills last_argument g = λ q h. absurd h
   Opens-fills next_argument g = λ e h a i. of_both e a h i
-  Opens-fills by_block g = λ a h. of_block a g h
+  Opens-fills by_braces g = (λ a h. of_block a g h, λ t h a i. of_loop t a g h i)
   Opens-fills (by_binding {x = x} {p = p}) g = λ e i a h. of_statement (binding x e p) a (of_part e g i) h
+  Opens-fills (by_next {p = p}) g = λ x q i e h a j. of_statement (next x e p) a (of_part e g h) j
   Opens-fills by_body g = λ e h. of_both none e (λ q i. absurd i) h
+  Opens-fills by_last g = λ e h. of_both none e (λ q i. absurd i) h
 
   AllStart-front : (us vs : List Token) → AllStart P (us ++ vs) → AllStart P us
   AllStart-front [] vs h = tt
@@ -106,7 +113,7 @@ module _ (P : ℕ → Type 0) where
     Follows-placed ended k g = k
     Follows-placed (taken i f) k g = Follows-placed f k g.1
     Follows-placed (chosen i f) k g = Follows-placed f k.1 g.1
-    Follows-placed left_out k g = k.0
+    Follows-placed (left_out f) k g = Follows-placed f k.0 g
     Follows-placed (named {t = t} {x = x} i f) k g = Follows-placed f (k x t.start g.0) g.1
     Follows-placed (kinded {k = j} i f) k g = Follows-placed f (k j) g.1
     Follows-placed (given {us = us} {ts = ts} {a = a} d f) k g = Follows-placed f (k a (Derives-placed d (AllStart-front us ts g))) (AllStart-back us ts g)

@@ -3,8 +3,8 @@ use Rattle.std.specs.Prelude.{◌≡◌, ◌+◌, ℕ, ℤ, true, false, Option,
 use Rattle.id_text.specs.declared.token.Token.{Token}
 use Rattle.id_text.specs.declared.token.TokenKind.{TokenKind}
 use Rattle.id_text.specs.declared.token.TokenKind.TheVariants.{Name, Number, Key, Sign, End}
-use Rattle.id_text.specs.declared.token.Keyword.TheVariants.{Def, If, Then, Else, In, True, False, Int, Bool, Array}
-use Rattle.id_text.specs.declared.token.Keyword.TheVariants.{Div, Rem, And, Or, Not}
+use Rattle.id_text.specs.declared.token.Keyword.TheVariants.{Def, If, Then, Else, While, Do, Next, Finally, In, True}
+use Rattle.id_text.specs.declared.token.Keyword.TheVariants.{False, Int, Bool, Array, Div, Rem, And, Or, Not}
 use Rattle.id_text.specs.declared.token.Symbol.{Symbol}
 use Rattle.id_text.specs.declared.token.Symbol.TheVariants.{LeftParen, RightParen, LeftBrace, RightBrace, Comma}
 use Rattle.id_text.specs.declared.token.Symbol.TheVariants.{Semicolon, Colon, Becomes, Equal, NotEqual, Less, LessEqual}
@@ -20,16 +20,18 @@ use Rattle.id_value.specs.declared.Comparison.TheVariants as comparison
 use Rattle.id_value.specs.declared.Logic.TheVariants as logic
 use Rattle.id_tree.specs.declared.parser.Level.{Level}
 use Rattle.id_tree.specs.declared.parser.Level.TheVariants as level
+use Rattle.id_tree.specs.declared.parser.Scope.{Scope}
+use Rattle.id_tree.specs.declared.parser.Scope.TheVariants as scope
 use Rattle.id_tree.specs.declared.tokens.Word.{Word}
 use Rattle.id_tree.specs.declared.tokens.Word.TheVariants as the
 use Rattle.id_tree.specs.Tree as tree
-use Rattle.id_tree.specs.Tree.{Tree, literal, unary, conditional, call, block, binding, param, define, binary, none}
-use Rattle.id_tree.specs.Tree.{more}
+use Rattle.id_tree.specs.Tree.{Tree, literal, unary, conditional, call, block, loop, binding, next, param, define}
+use Rattle.id_tree.specs.Tree.{binary, none, more}
 
 -- What a rule is for: a definition; its parameters behind the bracket, and more of them behind one; an expression of
 -- any form; a level of operators; what stands behind `not` or without it; an operand of the tightest level; the
--- arguments of a call behind its bracket, and more of them behind one; or the tail of a block, which stands behind its
--- brace and behind each of its statements.
+-- arguments of a call behind its bracket, and more of them behind one; or the tail of a block or a loop, from where its
+-- statements may come on, and behind each of them.
 pub data Phrase : Type 0 where
   Definition : Phrase
   Parameters : Phrase
@@ -40,7 +42,7 @@ pub data Phrase : Type 0 where
   Unary : Phrase
   Arguments : Phrase
   MoreArguments : Phrase
-  Tail : Phrase
+  Tail : Scope → Phrase
 
 -- the kind of the word's token
 abbrev pub kind_of : Word → TokenKind
@@ -48,12 +50,12 @@ kind_of (the.Key k) = Key k
 kind_of (the.Sign s) = Sign s
 
 -- What is left of a production, and the tree that it makes: nothing, and the tree; a reserved word or a sign, and
--- then more; the same, or else nothing, and the tree; a name, and then more for its spelling and its place; a kind's
+-- then more; the same, or else something without it; a name, and then more for its spelling and its place; a kind's
 -- word, and then more for the kind; a part, and then more for its tree.
 pub data Rest : Type 0 where
   done : Tree → Rest
   word : Word → Rest → Rest
-  optional : Word → Rest → Tree → Rest
+  either : Word → Rest → Rest → Rest
   name : (List ℕ → ℕ → Rest) → Rest
   of_kind : (Kind → Rest) → Rest
   part : Phrase → (Tree → Rest) → Rest
@@ -92,7 +94,7 @@ conditional_of p =
 
 -- behind a name: "(" and the arguments of a call, or nothing
 abbrev pub named_of : List ℕ → ℕ → Rest
-named_of x p = optional (the.Sign LeftParen) (part Arguments (λ a. done (call x a p))) (tree.name x p)
+named_of x p = either (the.Sign LeftParen) (part Arguments (λ a. done (call x a p))) (done (tree.name x p))
 
 -- behind an argument: those behind it
 abbrev pub argument_of : Tree → Rest
@@ -107,15 +109,32 @@ abbrev pub with_statement : Tree → Tree → Tree
 with_statement s (more a e) = more (more s a) e
 with_statement s _ = none
 
--- behind the "=" of a binding: its value, ";", the tail behind it
-abbrev pub binding_of : List ℕ → ℕ → Rest
-binding_of x p =
-    enclosed (the.Sign Semicolon) (λ e. part Tail (λ a. done (with_statement (binding x e p) a)))
+-- behind the name of a statement: "=", its value, ";", the tail behind it
+abbrev pub statement_of : Scope → (Tree → Tree) → Rest
+statement_of s f =
+    sign Becomes (enclosed (the.Sign Semicolon) (λ e. part (Tail s) (λ a. done (with_statement (f e) a))))
+
+-- behind the last word of the statements: the expression that gives the value, "}"
+abbrev pub last_of : Rest
+last_of = enclosed (the.Sign RightBrace) (λ e. done (more none e))
 
 -- the block with this tail
-abbrev pub block_of : Tree → ℕ → Tree
-block_of (more a e) p = block a e p
-block_of _ p = none
+abbrev pub with_tail : Tree → ℕ → Tree
+with_tail (more a e) p = block a e p
+with_tail _ p = none
+
+-- the loop with this predicate and this tail
+abbrev pub loop_with_tail : Tree → Tree → ℕ → Tree
+loop_with_tail t (more a e) p = loop t a e p
+loop_with_tail t _ p = none
+
+-- behind the brace of a block: its tail
+abbrev pub block_of : ℕ → Rest
+block_of p = part (Tail scope.Block) (λ a. done (with_tail a p))
+
+-- behind the word `while`: the predicate, "do", the tail
+abbrev pub loop_of : ℕ → Rest
+loop_of p = enclosed (the.Key Do) (λ t. part (Tail scope.Loop) (λ a. done (loop_with_tail t a p)))
 
 -- The productions that begin with a token of their own: a phrase, the token's kind and place, and what is left behind
 -- it.
@@ -133,12 +152,15 @@ pub data Opens : Phrase → TokenKind → ℕ → Rest → Type 0 where
   by_false : {p : ℕ} → Opens Unary (Key False) p (done (literal (constant.Bool false) p))
   parens : {p : ℕ} → Opens Unary (Sign LeftParen) p (enclosed (the.Sign RightParen) (λ e. done e))
   by_name : {x : List ℕ} {p : ℕ} → Opens Unary (Name x) p (named_of x p)
-  by_block : {p : ℕ} → Opens Unary (Sign LeftBrace) p (part Tail (λ a. done (block_of a p)))
+  by_braces : {p : ℕ} → Opens Unary (Sign LeftBrace) p (either (the.Key While) (loop_of p) (block_of p))
   no_arguments : {p : ℕ} → Opens Arguments (Sign RightParen) p (done none)
   last_argument : {p : ℕ} → Opens MoreArguments (Sign RightParen) p (done none)
   next_argument : {p : ℕ} → Opens MoreArguments (Sign Comma) p arguments_of
-  by_binding : {x : List ℕ} {p : ℕ} → Opens Tail (Name x) p (sign Becomes (binding_of x p))
-  by_body : {p : ℕ} → Opens Tail (Key In) p (enclosed (the.Sign RightBrace) (λ e. done (more none e)))
+  by_binding : {s : Scope} {x : List ℕ} {p : ℕ} → Opens (Tail s) (Name x) p (statement_of s (λ e. binding x e p))
+  by_next : {p : ℕ} →
+      Opens (Tail scope.Loop) (Key Next) p (name (λ x q. statement_of scope.Loop (λ e. next x e p)))
+  by_body : {p : ℕ} → Opens (Tail scope.Block) (Key In) p last_of
+  by_last : {p : ℕ} → Opens (Tail scope.Loop) (Key Finally) p last_of
 
 -- the operands of a level
 abbrev pub operand : Level → Phrase
@@ -184,7 +206,7 @@ own_height Negation = 1
 own_height Unary = 1
 own_height Arguments = 0
 own_height MoreArguments = 0
-own_height Tail = 0
+own_height (Tail s) = 0
 
 mutual
   -- the tokens are a phrase, with this tree of this height: a production, an expression without `if`, one operand of a
@@ -205,9 +227,10 @@ mutual
     ended : {e : Tree} → Follows (done e) [] e 0
     taken : {w : Word} {t : Token} {r : Rest} {ts : List Token} {e : Tree} {h : ℕ} →
         t.kind ≡ kind_of w → Follows r ts e h → Follows (word w r) (t ∷ ts) e h
-    chosen : {w : Word} {t : Token} {r : Rest} {ts : List Token} {a e : Tree} {h : ℕ} →
-        t.kind ≡ kind_of w → Follows r ts e h → Follows (optional w r a) (t ∷ ts) e h
-    left_out : {w : Word} {r : Rest} {e : Tree} → Follows (optional w r e) [] e 0
+    chosen : {w : Word} {t : Token} {r q : Rest} {ts : List Token} {e : Tree} {h : ℕ} →
+        t.kind ≡ kind_of w → Follows r ts e h → Follows (either w r q) (t ∷ ts) e h
+    left_out : {w : Word} {r q : Rest} {ts : List Token} {e : Tree} {h : ℕ} →
+        Follows q ts e h → Follows (either w r q) ts e h
     named : {t : Token} {x : List ℕ} {f : List ℕ → ℕ → Rest} {ts : List Token} {e : Tree} {h : ℕ} →
         t.kind ≡ Name x → Follows (f x t.start) ts e h → Follows (name f) (t ∷ ts) e h
     kinded : {t : Token} {k : Kind} {f : Kind → Rest} {ts : List Token} {e : Tree} {h : ℕ} →

@@ -4,23 +4,25 @@ use denote.Enum.Bare.{sameb}
 use Rattle.id_text.specs.declared.token.Token.{Token}
 use Rattle.id_text.specs.declared.token.TokenKind.{TokenKind}
 use Rattle.id_text.specs.declared.token.TokenKind.TheVariants.{Name, Number, Key, Sign, End}
-use Rattle.id_text.specs.declared.token.Keyword.TheVariants.{Def, If, In, True, False, Not}
+use Rattle.id_text.specs.declared.token.Keyword.TheVariants.{Def, If, Finally, In, True, False, Not}
+use Rattle.id_text.specs.declared.token.Keyword.TheVariants as keyword_of
 use Rattle.id_text.specs.declared.token.Symbol.TheVariants.{LeftParen, RightParen, LeftBrace, Comma, Minus}
 use Rattle.id_text.specs.contracts.token.Keyword as keyword
 use Rattle.id_text.specs.contracts.token.Symbol as symbol
 use Rattle.id_value.specs.declared.BinaryOp.{BinaryOp}
 use Rattle.id_tree.specs.declared.parser.Level.{Level}
 use Rattle.id_tree.specs.declared.parser.Level.TheVariants as level
+use Rattle.id_tree.specs.declared.parser.Scope.TheVariants as scope
 use Rattle.id_tree.specs.declared.tokens.Word.{Word}
 use Rattle.id_tree.specs.declared.tokens.Word.TheVariants as the
 use Rattle.id_value.specs.declared.Kind.TheVariants as kind
 use Rattle.id_tree.specs.Tree.{Tree, binary, none, more}
 use Rattle.id_tree.specs.Grammar.{Phrase, Definition, Parameters, MoreParameters, Expression, Grouped, Negation, Unary}
-use Rattle.id_tree.specs.Grammar.{Arguments, MoreArguments, Tail, Rest, done, word, optional, name, of_kind, part}
+use Rattle.id_tree.specs.Grammar.{Arguments, MoreArguments, Tail, Rest, done, word, either, name, of_kind, part}
 use Rattle.id_tree.specs.Grammar.{kind_named, Opens, definition, no_parameters, first_parameter, last_parameter}
 use Rattle.id_tree.specs.Grammar.{next_parameter, by_conditional, denied, negated, number, by_true, by_false, parens}
-use Rattle.id_tree.specs.Grammar.{by_name, by_block, no_arguments, last_argument, next_argument, argument_of}
-use Rattle.id_tree.specs.Grammar.{by_binding, by_body, operand, operator_of, own_height}
+use Rattle.id_tree.specs.Grammar.{by_name, by_braces, no_arguments, last_argument, next_argument, argument_of}
+use Rattle.id_tree.specs.Grammar.{by_binding, by_next, by_body, by_last, operand, operator_of, own_height}
 
 -- a production that begins with this token
 pub record Row (s : Phrase) (k : TokenKind) (p : ℕ) : Type 0 where
@@ -42,12 +44,14 @@ opening Unary (Key True) p = Some (record { rest = _; opens = by_true })
 opening Unary (Key False) p = Some (record { rest = _; opens = by_false })
 opening Unary (Sign LeftParen) p = Some (record { rest = _; opens = parens })
 opening Unary (Name x) p = Some (record { rest = _; opens = by_name })
-opening Unary (Sign LeftBrace) p = Some (record { rest = _; opens = by_block })
+opening Unary (Sign LeftBrace) p = Some (record { rest = _; opens = by_braces })
 opening Arguments (Sign RightParen) p = Some (record { rest = _; opens = no_arguments })
 opening MoreArguments (Sign RightParen) p = Some (record { rest = _; opens = last_argument })
 opening MoreArguments (Sign Comma) p = Some (record { rest = _; opens = next_argument })
-opening Tail (Name x) p = Some (record { rest = _; opens = by_binding })
-opening Tail (Key In) p = Some (record { rest = _; opens = by_body })
+opening (Tail s) (Name x) p = Some (record { rest = _; opens = by_binding })
+opening (Tail scope.Loop) (Key keyword_of.Next) p = Some (record { rest = _; opens = by_next })
+opening (Tail scope.Block) (Key In) p = Some (record { rest = _; opens = by_body })
+opening (Tail scope.Loop) (Key Finally) p = Some (record { rest = _; opens = by_last })
 opening _ _ _ = None
 
 -- the least height of a phrase: parameters have none, and there may be no arguments
@@ -61,13 +65,13 @@ least_height Negation = 1
 least_height Unary = 1
 least_height Arguments = 0
 least_height MoreArguments = 0
-least_height Tail = 1
+least_height (Tail s) = 1
 
 -- the least height of the parts of what is left
 abbrev pub room : Rest → ℕ
 room (done e) = 0
 room (word w r) = room r
-room (optional w r e) = 0
+room (either w r q) = room q
 room (name f) = room (f [] 0)
 room (of_kind f) = room (f kind.Int)
 room (part s f) = max (least_height s) (room (f none))
@@ -164,7 +168,7 @@ wants t Negation d K = negates t d K
 wants t Unary d K = enters t Unary d K None
 wants t Arguments d K = passes t d K
 wants t MoreArguments d K = enters t MoreArguments d K None
-wants t Tail d K = enters t Tail d K None
+wants t (Tail s) d K = enters t (Tail s) d K None
 
 -- a token behind an operand of a level: an operator of the level, or else what the level's end makes of it
 abbrev pub operates : Token → Tree → ℕ → Level → ℕ → List Frame → Option Move → Option Move
@@ -184,7 +188,7 @@ repeats t e h level.Product d K other = operates t e h level.Product d K other
 abbrev pub nexts : Token → Rest → ℕ → ℕ → ℕ → List Frame → (Tree → ℕ → Option Move) → Option Move
 nexts t (done e) h d c K close = close e (h + c)
 nexts t (word w r) h d c K close = cond (is_word w t.kind) (free (Next r h d c K)) None
-nexts t (optional w r e) h d c K close = cond (is_word w t.kind) (free (Next r h d c K)) (close e (h + c))
+nexts t (either w r q) h d c K close = cond (is_word w t.kind) (free (Next r h d c K)) (nexts t q h d c K close)
 nexts t (name f) h d c K close = pick (name_in t.kind) (λ x. free (Next (f x t.start) h d c K)) None
 nexts t (of_kind f) h d c K close = pick (kind_named t.kind) (λ k. free (Next (f k) h d c K)) None
 nexts t (part s f) h d c K close = wants t s d (Inside f h d c ∷ K)

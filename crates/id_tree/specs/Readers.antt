@@ -5,9 +5,12 @@ use Rattle.id_text.specs.Tokens.{EndsOnce}
 use Rattle.id_text.specs.declared.token.Token.{Token}
 use Rattle.id_text.specs.declared.token.TokenKind.{TokenKind}
 use Rattle.id_text.specs.declared.token.TokenKind.TheVariants.{Name, Number, Key, Sign, End}
-use Rattle.id_text.specs.declared.token.Keyword.TheVariants.{If, Not, True, False}
+use Rattle.id_text.specs.declared.token.Keyword.{Keyword}
+use Rattle.id_text.specs.declared.token.Keyword.TheVariants.{If, Finally, In, Not, True, False}
 use Rattle.id_text.specs.declared.token.Symbol.TheVariants.{LeftParen, LeftBrace, Colon, Becomes, Minus}
 use Rattle.id_tree.specs.declared.parser.Level.{Level}
+use Rattle.id_tree.specs.declared.parser.Scope.{Scope}
+use Rattle.id_tree.specs.declared.parser.Scope.TheVariants as scope
 use Rattle.id_tree.specs.declared.tokens.Word.{Word}
 use Rattle.id_value.specs.declared.Kind.{Kind}
 use Rattle.id_value.specs.declared.UnaryOp.{UnaryOp}
@@ -26,6 +29,11 @@ use Rattle.id_tree.specs.Machine.{Frame, Left, Inside, again, Begin, Want, Have,
 abbrev pub first_kind : List Token → TokenKind
 first_kind [] = End
 first_kind (t ∷ ts) = t.kind
+
+-- what the token behind the first one is
+abbrev pub second_kind : List Token → TokenKind
+second_kind [] = End
+second_kind (t ∷ ts) = first_kind ts
 
 -- where the first token starts
 abbrev pub first_start : List Token → ℕ
@@ -173,21 +181,27 @@ abbrev pub onto : List Stmt → Tree → Tree
 onto [] a = a
 onto (s ∷ ss) a = more (stmt_tree s) (onto ss a)
 
--- the run takes a statement of a block's tail
-pub record Adds (ts : List Token) (d : ℕ) (us : List Token) (s : Tree) (h : ℕ) : Type 0 where
-  pub comes : (K : List Frame) →
-      run 200 ts (Want Tail d K) ≡ run 200 us (Want Tail d (Inside (λ a. done (with_statement s a)) h d 0 ∷ K))
+-- the word behind the statements of a block or a loop
+abbrev pub last_word : Scope → Keyword
+last_word scope.Block = In
+last_word scope.Loop = Finally
 
--- the run takes statements of a block's tail, and puts them before those that come behind
-pub record Stacks (ts : List Token) (d : ℕ) (us : List Token) (ss : List Stmt) (h : ℕ) (K : List Frame) : Type 0 where
+-- the run takes a statement of a tail
+pub record Adds (ts : List Token) (o : Scope) (d : ℕ) (us : List Token) (s : Tree) (h : ℕ) : Type 0 where
+  pub comes : (K : List Frame) →
+      run 200 ts (Want (Tail o) d K) ≡ run 200 us (Want (Tail o) d (Inside (λ a. done (with_statement s a)) h d 0 ∷ K))
+
+-- the run takes statements of a tail, and puts them before those that come behind
+pub record Stacks (ts : List Token) (o : Scope) (d : ℕ) (us : List Token) (ss : List Stmt) (h : ℕ) (K : List Frame)
+    : Type 0 where
   pub stack : List Frame
-  pub comes : run 200 ts (Want Tail d K) ≡ run 200 us (Want Tail d stack)
+  pub comes : run 200 ts (Want (Tail o) d K) ≡ run 200 us (Want (Tail o) d stack)
   pub folds : (vs : List Token) (a e : Tree) (m : ℕ) →
       run 200 vs (Have (more a e) m stack) ≡ run 200 vs (Have (more (onto ss a) e) (max h m) K)
 
--- the same, whatever stands round the block
-pub record Gathers (ts : List Token) (d : ℕ) (us : List Token) (ss : List Stmt) (h : ℕ) : Type 0 where
-  pub stacks : (K : List Frame) → Stacks ts d us ss h K
+-- the same, whatever stands round the block or the loop
+pub record Gathers (ts : List Token) (o : Scope) (d : ℕ) (us : List Token) (ss : List Stmt) (h : ℕ) : Type 0 where
+  pub stacks : (K : List Frame) → Stacks ts o d us ss h K
 
 -- statements with values of at most this height fit into that many expressions, and these tokens are left
 pub record IsGathered (tokens rest : List Token) (depth height : ℕ) : Type 0 where

@@ -6,7 +6,7 @@ use Rattle.id_tree.specs.declared.parser.Level.TheVariants as level
 use Rattle.id_value.specs.declared.BinaryOp.{BinaryOp}
 use Rattle.id_value.specs.declared.Kind.{Kind}
 use Rattle.id_tree.specs.Tree.{Tree}
-use Rattle.id_tree.specs.Grammar.{Phrase, Definition, Expression, Grouped, Negation, Rest, done, word, optional, name}
+use Rattle.id_tree.specs.Grammar.{Phrase, Definition, Expression, Grouped, Negation, Rest, done, word, either, name}
 use Rattle.id_tree.specs.Grammar.{of_kind, part, operand, left_operand, operator_of, own_height, Derives, Follows}
 use Rattle.id_tree.specs.Grammar.{Program}
 use Rattle.id_tree.specs.Machine.{least_height, Frame, Left, Right, Inside, Outer, ahead, State, Begin, Want, Have}
@@ -25,7 +25,7 @@ pub record Defined (ds : List Tree) (us : List Token) (h : ℕ) : Type 0 where
 abbrev pub Roomy : ℕ → ℕ → Rest → Type 0
 Roomy n d (done e) = Unit {0}
 Roomy n d (word w r) = Roomy n d r
-Roomy n d (optional w r e) = Roomy n d r
+Roomy n d (either w r q) = Roomy n d r × Roomy n d q
 Roomy n d (name f) = (x : List ℕ) (p : ℕ) → Roomy n d (f x p)
 Roomy n d (of_kind f) = (k : Kind) → Roomy n d (f k)
 Roomy n d (part s f) = (d + least_height s ≤ n) × ((a : Tree) → Roomy n d (f a))

@@ -4,16 +4,17 @@ use Rattle.id_value.specs.declared.Kind.{Kind}
 use Rattle.id_value.specs.declared.Constant.{Constant}
 use Rattle.id_value.specs.declared.UnaryOp.{UnaryOp}
 use Rattle.id_value.specs.declared.BinaryOp.{BinaryOp}
-use Rattle.id_tree.specs.declared.tree.Expr.{Expr, Literal, Unary', Binary', Name, If', Call', Block'}
+use Rattle.id_tree.specs.declared.tree.Expr.{Expr, Literal, Unary', Binary', Name, If', Call', Block', Loop'}
 use Rattle.id_tree.specs.declared.tree.Expr.{Row_of-Expr, end_of-Expr, more_of-Expr, Row_of-Stmt, end_of-Stmt}
 use Rattle.id_tree.specs.declared.tree.Expr.{more_of-Stmt}
-use Rattle.id_tree.specs.declared.tree.Stmt.{Stmt, Binding}
+use Rattle.id_tree.specs.declared.tree.Stmt.{Stmt, Binding, Next}
 use Rattle.id_tree.specs.declared.tree.Param.{Param}
 use Rattle.id_tree.specs.declared.tree.Def.{Def}
 use Rattle.id_tree.specs.declared.tree.Program.{Program}
 
 -- An expression, a statement, a parameter, a definition with its parameters and its body, or a list of trees; a call
--- has the list of its arguments. The last number of a thing is its place.
+-- has the list of its arguments, a block its statements and its body, a loop its predicate, its statements and its last
+-- expression. The last number of a thing is its place.
 pub data Tree : Type 0 where
   literal : Constant → ℕ → Tree
   unary : UnaryOp → Tree → ℕ → Tree
@@ -22,7 +23,9 @@ pub data Tree : Type 0 where
   conditional : Tree → Tree → Tree → ℕ → Tree
   call : List ℕ → Tree → ℕ → Tree
   block : Tree → Tree → ℕ → Tree
+  loop : Tree → Tree → Tree → ℕ → Tree
   binding : List ℕ → Tree → ℕ → Tree
+  next : List ℕ → Tree → ℕ → Tree
   param : List ℕ → Kind → ℕ → Tree
   define : List ℕ → Tree → Kind → Tree → ℕ → Tree
   none : Tree
@@ -38,6 +41,7 @@ abbrev mutual
   tree_of (If' p test q then r otherwise place) = conditional (tree_of test) (tree_of then) (tree_of otherwise) place
   tree_of (Call' x n args place) = call x (args_tree args) place
   tree_of (Block' n statements p body place) = block (row_tree statements) (tree_of body) place
+  tree_of (Loop' p test n statements q last place) = loop (tree_of test) (row_tree statements) (tree_of last) place
 
   -- the trees of the arguments, in order
   pub args_tree : {n : _} → Row_of-Expr n → Tree
@@ -47,6 +51,7 @@ abbrev mutual
   -- the statement's tree
   pub stmt_tree : Stmt → Tree
   stmt_tree (Binding x value place) = binding x (tree_of value) place
+  stmt_tree (Next x value place) = next x (tree_of value) place
 
   -- the trees of the statements, in order
   pub row_tree : {n : _} → Row_of-Stmt n → Tree

@@ -26,6 +26,8 @@ ghost use Rattle.id_tree.specs.Grammar.{
 ghost use Rattle.id_tree.specs.Machine.{run, Begin, Accepted};
 ghost use Rattle.id_tree.specs.Readers.{
   first_kind,
+  second_kind,
+  last_word,
   EndsBy,
   IsBehind,
   IsRead,
@@ -50,7 +52,9 @@ ghost use Rattle.id_tree.specs.Readers.{
   passed,
 };
 
-use crate::part::{Part, binary, binding, block, call, conditional, name, number, truth, unary};
+use crate::part::{
+    Part, binary, binding, block, call, conditional, name, next, number, truth, unary, whole_loop,
+};
 use crate::tokens::{
     Word, begins_with, begins_with_sign, comparison_of, enter, expect_end, expect_kind,
     expect_name, expect_word, is_sign, no_room, split, truth_of, unexpected,
@@ -68,6 +72,13 @@ pub enum Level {
     Comparison,
     Sum,
     Product,
+}
+
+/// What statements stand in.
+#[derive(Clone, Copy)]
+pub enum Scope {
+    Block,
+    Loop,
 }
 
 /// The program of these tokens.
@@ -370,7 +381,7 @@ fn parse_prefixed(
     Ok((whole, rest))
 }
 
-/// `unary = "-" unary | NUMBER | "true" | "false" | NAME | call | "(" expr ")" | block`
+/// `unary = "-" unary | NUMBER | "true" | "false" | NAME | call | "(" expr ")" | block | loop`
 #[cycle(expr)]
 fn parse_unary(alloc: Global, tokens: &[Token], depth: usize) -> Result<(Part, &[Token]), TreeError>
     requires ends { EndsOnce tokens.now }
@@ -386,7 +397,7 @@ fn parse_unary(alloc: Global, tokens: &[Token], depth: usize) -> Result<(Part, &
     } else if is_sign(first, Symbol::LeftParen) {
         parse_parens(alloc, tokens, depth)
     } else if is_sign(first, Symbol::LeftBrace) {
-        parse_block(alloc, tokens, depth)
+        parse_braces(alloc, tokens, depth)
     } else {
         parse_leaf(alloc, tokens, depth)
     }
@@ -434,9 +445,13 @@ fn parse_enclosed(
     Ok((inside, rest))
 }
 
-/// `block = "{" { stmt } "in" expr "}"`
+/// `block | loop`
 #[cycle(expr)]
-fn parse_block(alloc: Global, tokens: &[Token], depth: usize) -> Result<(Part, &[Token]), TreeError>
+fn parse_braces(
+    alloc: Global,
+    tokens: &[Token],
+    depth: usize,
+) -> Result<(Part, &[Token]), TreeError>
     requires ends { EndsOnce tokens.now }
     requires begins { first_kind tokens.now ≡ TokenKind.Sign Symbol.LeftBrace }
     requires room { depth < MAX_NESTING }
@@ -445,34 +460,78 @@ fn parse_block(alloc: Global, tokens: &[Token], depth: usize) -> Result<(Part, &
         Leads tokens.now Unary depth x.1.now (tree_of x.0.expr) x.0.height) }
     ensures err { IfErr result (Fails tokens.now Unary depth) }
 {
+    let (_, opened) = split(tokens);
+    if begins_with(opened, Keyword::While) {
+        parse_loop(alloc, tokens, depth)
+    } else {
+        parse_block(alloc, tokens, depth)
+    }
+}
+
+/// `block = "{" { stmt } "in" expr "}"`
+#[cycle(expr)]
+fn parse_block(alloc: Global, tokens: &[Token], depth: usize) -> Result<(Part, &[Token]), TreeError>
+    requires ends { EndsOnce tokens.now }
+    requires begins { first_kind tokens.now ≡ TokenKind.Sign Symbol.LeftBrace }
+    requires no_while { second_kind tokens.now ≢ TokenKind.Key Keyword.While }
+    requires room { depth < MAX_NESTING }
+    ensures read { IfOk result (λ x. IsRead tokens.now x.1.now depth x.0.height) }
+    ensures ok { IfOk result (λ x.
+        Leads tokens.now Unary depth x.1.now (tree_of x.0.expr) x.0.height) }
+    ensures err { IfErr result (Fails tokens.now Unary depth) }
+{
     let inner = depth + 1;
     let (first, opened) = enter(tokens, inner + 1)?;
-    let (statements, height, last) = parse_statements(alloc, opened, inner)?;
+    let (statements, height, last) = parse_statements(alloc, opened, Scope::Block, inner)?;
     let (_, begun) = split(last);
     let (body, rest) = parse_enclosed(alloc, begun, Word::Sign(Symbol::RightBrace), inner)?;
     let whole = block(alloc, statements, height, body, first.start)?;
     Ok((whole, rest))
 }
 
-/// `{ stmt }`, with the greatest height of a value, and the tokens from the `in` on.
+/// `loop = "{" "while" expr "do" { stmt | next } "finally" expr "}"`
+#[cycle(expr)]
+fn parse_loop(alloc: Global, tokens: &[Token], depth: usize) -> Result<(Part, &[Token]), TreeError>
+    requires ends { EndsOnce tokens.now }
+    requires begins { first_kind tokens.now ≡ TokenKind.Sign Symbol.LeftBrace }
+    requires loops { second_kind tokens.now ≡ TokenKind.Key Keyword.While }
+    requires room { depth < MAX_NESTING }
+    ensures read { IfOk result (λ x. IsRead tokens.now x.1.now depth x.0.height) }
+    ensures ok { IfOk result (λ x.
+        Leads tokens.now Unary depth x.1.now (tree_of x.0.expr) x.0.height) }
+    ensures err { IfErr result (Fails tokens.now Unary depth) }
+{
+    let inner = depth + 1;
+    let (first, opened) = enter(tokens, inner + 1)?;
+    let (_, tested) = split(opened);
+    let (test, begun) = parse_enclosed(alloc, tested, Word::Key(Keyword::Do), inner)?;
+    let (statements, height, ending) = parse_statements(alloc, begun, Scope::Loop, inner)?;
+    let (_, left) = split(ending);
+    let (last, rest) = parse_enclosed(alloc, left, Word::Sign(Symbol::RightBrace), inner)?;
+    let whole = whole_loop(alloc, test, statements, height, last, first.start)?;
+    Ok((whole, rest))
+}
+
+/// `{ stmt }` or `{ stmt | next }`, with the greatest height of a value, and the tokens from the last word on.
 #[cycle(expr)]
 fn parse_statements(
     alloc: Global,
     tokens: &[Token],
+    scope: Scope,
     depth: usize,
 ) -> Result<(Vec<Stmt>, usize, &[Token]), TreeError>
     requires ends { EndsOnce tokens.now }
     requires room { depth < MAX_NESTING }
     ensures read { IfOk result (λ x. IsGathered tokens.now x.2.now depth x.1) }
-    ensures last { IfOk result (λ x. first_kind x.2.now ≡ TokenKind.Key Keyword.In) }
-    ensures ok { IfOk result (λ x. Gathers tokens.now depth x.2.now x.0.items x.1) }
-    ensures err { IfErr result (Fails tokens.now Tail depth) }
+    ensures last { IfOk result (λ x. first_kind x.2.now ≡ TokenKind.Key (last_word scope)) }
+    ensures ok { IfOk result (λ x. Gathers tokens.now scope depth x.2.now x.0.items x.1) }
+    ensures err { IfErr result (Fails tokens.now (Tail scope) depth) }
 {
     let mut statements = Vec::new(alloc);
     let mut height = 0usize;
     let mut rest = tokens;
-    'stmts: while !begins_with(rest, Keyword::In) {
-        let (statement, own, behind) = parse_binding(alloc, rest, depth)?;
+    'stmts: while !begins_with(rest, last_word(scope)) {
+        let (statement, own, behind) = parse_statement(alloc, rest, scope, depth)?;
         statements.push(statement)?;
         height = height.max(own);
         rest = behind;
@@ -480,26 +539,53 @@ fn parse_statements(
     Ok((statements, height, rest))
 }
 
-/// `stmt = NAME "=" expr ";"`, with the value's height.
+/// `stmt = NAME "=" expr ";"`, or `next` in a loop, with the value's height.
 #[cycle(expr)]
-fn parse_binding(
+fn parse_statement(
     alloc: Global,
     tokens: &[Token],
+    scope: Scope,
     depth: usize,
 ) -> Result<(Stmt, usize, &[Token]), TreeError>
     requires ends { EndsOnce tokens.now }
-    requires no_body { first_kind tokens.now ≢ TokenKind.Key Keyword.In }
+    requires not_last { first_kind tokens.now ≢ TokenKind.Key (last_word scope) }
     requires room { depth < MAX_NESTING }
     ensures read { IfOk result (λ x. IsRead tokens.now x.2.now depth x.1) }
-    ensures ok { IfOk result (λ x. Adds tokens.now depth x.2.now (stmt_tree x.0) x.1) }
-    ensures err { IfErr result (Fails tokens.now Tail depth) }
+    ensures ok { IfOk result (λ x. Adds tokens.now scope depth x.2.now (stmt_tree x.0) x.1) }
+    ensures err { IfErr result (Fails tokens.now (Tail scope) depth) }
 {
+    if begins_next(tokens, scope) {
+        return parse_next(alloc, tokens, depth);
+    }
     let (name, place, named) = expect_name(alloc, tokens)?;
     let begun = expect_word(named, Word::Sign(Symbol::Becomes))?;
     let (value, rest) = parse_enclosed(alloc, begun, Word::Sign(Symbol::Semicolon), depth)?;
     let height = value.height;
     let statement = binding(name, value, place);
     Ok((statement, height, rest))
+}
+
+/// `next = "next" NAME "=" expr ";"`, with the value's height.
+#[cycle(expr)]
+fn parse_next(
+    alloc: Global,
+    tokens: &[Token],
+    depth: usize,
+) -> Result<(Stmt, usize, &[Token]), TreeError>
+    requires ends { EndsOnce tokens.now }
+    requires begins { first_kind tokens.now ≡ TokenKind.Key Keyword.Next }
+    requires room { depth < MAX_NESTING }
+    ensures read { IfOk result (λ x. IsRead tokens.now x.2.now depth x.1) }
+    ensures ok { IfOk result (λ x. Adds tokens.now Scope.Loop depth x.2.now (stmt_tree x.0) x.1) }
+    ensures err { IfErr result (Fails tokens.now (Tail Scope.Loop) depth) }
+{
+    let (first, rest) = split(tokens);
+    let (name, _, named) = expect_name(alloc, rest)?;
+    let begun = expect_word(named, Word::Sign(Symbol::Becomes))?;
+    let (value, behind) = parse_enclosed(alloc, begun, Word::Sign(Symbol::Semicolon), depth)?;
+    let height = value.height;
+    let statement = next(name, value, first.start);
+    Ok((statement, height, behind))
 }
 
 /// `NUMBER | "true" | "false" | NAME | call`
@@ -612,6 +698,28 @@ fn parse_some_arguments(
         rest = behind;
     }
     Ok((args, height, rest))
+}
+
+/// The word behind the statements.
+fn last_word(scope: Scope) -> Keyword
+    ensures { result ≡ last_word scope }
+{
+    match scope {
+        Scope::Block => Keyword::In,
+        Scope::Loop => Keyword::Finally,
+    }
+}
+
+/// Whether the tokens begin with `next`, where such a statement may stand.
+fn begins_next(tokens: &[Token], scope: Scope) -> bool
+    requires { EndsOnce tokens.now }
+    ensures { IsTrue result ↔
+        ((scope ≡ Scope.Loop) × (first_kind tokens.now ≡ TokenKind.Key Keyword.Next)) }
+{
+    match scope {
+        Scope::Block => false,
+        Scope::Loop => begins_with(tokens, Keyword::Next),
+    }
 }
 
 /// Whether an expression of this level has one operator at most.

@@ -169,6 +169,17 @@ pub fn binding(name: Identifier, value: Part, place: usize) -> Stmt
     }
 }
 
+/// The next value of a loop's variable.
+pub fn next(name: Identifier, value: Part, place: usize) -> Stmt
+    ensures { stmt_tree result ≡ tree.next name (tree_of value.expr) place }
+{
+    Stmt::Next {
+        name,
+        value: value.into_expr(),
+        place,
+    }
+}
+
 /// The statements, whose values have at most this height, round the body.
 pub fn block(
     alloc: Global,
@@ -190,6 +201,38 @@ pub fn block(
         expr: Expr::Block {
             statements,
             body,
+            place,
+        },
+        height,
+    })
+}
+
+/// The predicate, the statements, whose values have at most this height, and the last expression of a loop.
+pub fn whole_loop(
+    alloc: Global,
+    test: Part,
+    statements: Vec<Stmt>,
+    height: usize,
+    last: Part,
+    place: usize,
+) -> Result<Part, TreeError>
+    requires low { test.height < 2 ^ 63 }
+    requires middle { height < 2 ^ 63 }
+    requires high { last.height < 2 ^ 63 }
+    ensures height { IfOk result (λ p.
+        p.height ≡ max (max test.height height) last.height + 1) }
+    ensures tree { IfOk result (λ p. tree_of p.expr
+        ≡ tree.loop (tree_of test.expr) (onto statements.items none) (tree_of last.expr) place) }
+    ensures err { IfErr result (λ e. e ≡ Memory) }
+{
+    let height = test.height.max(height).max(last.height) + 1;
+    let test = Box::new(alloc, test.into_expr())?;
+    let last = Box::new(alloc, last.into_expr())?;
+    Ok(Part {
+        expr: Expr::Loop {
+            test,
+            statements,
+            last,
             place,
         },
         height,

@@ -53,14 +53,27 @@ pub enum Expr {
         body: Box<Expr>,
         place: usize,
     },
+    /// A predicate, statements in whatever order, and the last expression, which gives the value, at the brace.
+    Loop {
+        test: Box<Expr>,
+        statements: Vec<Stmt>,
+        last: Box<Expr>,
+        place: usize,
+    },
 }
 
-/// A statement of a block.
+/// A statement of a block or of a loop.
 #[derive(Drop)]
 #[cycle(tree)]
 pub enum Stmt {
     /// A name for the value of an expression, at the name.
     Binding {
+        name: Identifier,
+        value: Expr,
+        place: usize,
+    },
+    /// A loop's variable and the expression of its next value, at the word `next`.
+    Next {
         name: Identifier,
         value: Expr,
         place: usize,

@@ -7,7 +7,7 @@ use Rattle.std.proofs.lemmas.Bool.Decides.{nat_tests}
 use Rattle.id_graph.specs.declared.instr.Block.{Block}
 use Rattle.id_graph.specs.declared.instr.PortKind.{PortKind}
 use Rattle.id_graph.specs.declared.instr.Op.{Op}
-use Rattle.id_graph.specs.declared.instr.Op.TheVariants.{Const, Unary, Binary, Merge, Switch, Back, Enter, Send}
+use Rattle.id_graph.specs.declared.instr.Op.TheVariants.{Const, Unary, Binary, Merge, Switch, Back, Enter, Send, Next, Reset}
 use Rattle.id_graph.specs.Graph.{Parts}
 use Rattle.id_valid.specs.Roles.{op_at, back_kind, IsMain}
 use Rattle.id_valid.specs.Validator.{IsAnswer, IsEntered, IsSentTo, IsSound, IsValid, FirstFaulty, IsMainBlock}
@@ -24,6 +24,8 @@ back_kind-some (Some (Merge j)) k e = cc
 back_kind-some (Some (Switch j)) k e = cc
 back_kind-some (Some (Enter b r)) k e = cc
 back_kind-some (Some (Send j t)) k e = cc
+back_kind-some (Some (Next j)) k e = cc
+back_kind-some (Some (Reset j)) k e = cc
 
 -- a number equals itself
 same_number : (n : ℕ) → (n == n) ≡ true

@@ -5,7 +5,8 @@ use Rattle.std.specs.List.{list_any}
 use Rattle.id_graph.specs.declared.instr.Block.{Block}
 use Rattle.id_graph.specs.declared.instr.Instr.{Instr}
 use Rattle.id_graph.specs.declared.instr.Op.{Op}
-use Rattle.id_graph.specs.declared.instr.Op.TheVariants.{Const, Unary, Binary, Merge, Switch, Back, Enter, Send}
+use Rattle.id_graph.specs.declared.instr.Op.TheVariants.{Const, Unary, Binary, Merge, Switch, Back, Enter, Send, Next}
+use Rattle.id_graph.specs.declared.instr.Op.TheVariants.{Reset}
 use Rattle.id_graph.specs.declared.instr.PortKind.{PortKind}
 use Rattle.id_graph.specs.declared.dests.Dest.{Dest}
 use Rattle.id_graph.specs.declared.dests.Port.{Port}
@@ -26,6 +27,8 @@ merge_kind (Switch k) = None
 merge_kind (Back k) = None
 merge_kind (Enter b r) = None
 merge_kind (Send k t) = None
+merge_kind (Next k) = None
+merge_kind (Reset k) = None
 
 -- the kind of a `back`
 abbrev pub back_kind : Op → Option PortKind
@@ -37,6 +40,8 @@ back_kind (Merge k) = None
 back_kind (Switch k) = None
 back_kind (Enter b r) = None
 back_kind (Send k t) = None
+back_kind (Next k) = None
+back_kind (Reset k) = None
 
 -- the kind of a block's result: that of the `back` at its `first + 1`, if it is one
 abbrev pub result_kind : Parts → Block → Option PortKind
@@ -64,6 +69,8 @@ replies_to (Merge k) n = false
 replies_to (Switch k) n = false
 replies_to (Back k) n = false
 replies_to (Send k t) n = false
+replies_to (Next k) n = false
+replies_to (Reset k) n = false
 
 -- whether replies come to the instruction
 abbrev pub is_reply : Parts → ℕ → Bool

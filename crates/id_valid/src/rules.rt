@@ -93,8 +93,8 @@ fn are_named(survey: &Survey<'_>, op: Op) -> bool
     match op {
         Op::Enter { block, reply } => is_entered(survey, block, reply),
         Op::Send { kind, target } => is_sent_to(survey, kind, target),
-        Op::Const(_) | Op::Unary(_) | Op::Binary(_) | Op::Merge(_) | Op::Switch(_) | Op::Back(_) =>
-            true,
+        Op::Const(_) | Op::Unary(_) | Op::Binary(_) | Op::Merge(_) | Op::Switch(_) => true,
+        Op::Back(_) | Op::Next(_) | Op::Reset(_) => true,
     }
 }
 

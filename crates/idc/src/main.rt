@@ -10,10 +10,11 @@
 mod tests;
 
 use id_args::{arguments, read_words};
-use id_engine::{Disk, Source, Stream, drive};
+use id_engine::{Disk, Source, Stream, Unasked, drive, settle};
 use id_print::Sink;
 use std::alloc::Global;
 use std::convert::AsStr;
+use std::io::BufWriter;
 use std::process::ExitCode;
 
 /// Does what the words ask for, the program's own name left out, and answers the status.
@@ -27,18 +28,38 @@ fn run<N: AsStr, S: Source, O: Sink, E: Sink>(
     drive(alloc, &read_words(alloc, words), source, out, err)
 }
 
-fn main(rt: HostRuntime) -> ExitCode {
+/// Does what the words of the process ask for, and answers the status. The parts of a line gather in a buffer on their
+/// way to standard output.
+fn serve_process(rt: &HostRuntime) -> u8 {
     let alloc = rt.alloc();
-    let mut source = Disk { rt: &rt };
-    let mut out = Stream {
-        writer: rt.stdout(),
-    };
+    let mut source = Disk { rt };
     let mut err = Stream {
         writer: rt.stderr(),
     };
-    let status = match arguments(&rt) {
-        Ok(words) => run(alloc, words.as_slice(), &mut source, &mut out, &mut err),
-        Err(unasked) => drive(alloc, &Err(unasked), &mut source, &mut out, &mut err),
-    };
-    ExitCode::from(status)
+    match BufWriter::new(alloc, rt.stdout()) {
+        Ok(writer) => {
+            let mut out = Stream { writer };
+            let status = match arguments(rt) {
+                Ok(words) => run(alloc, words.as_slice(), &mut source, &mut out, &mut err),
+                Err(unasked) => drive(alloc, &Err(unasked), &mut source, &mut out, &mut err),
+            };
+            settle(&mut out, &mut err, status)
+        }
+        Err(_) => {
+            let mut out = Stream {
+                writer: rt.stdout(),
+            };
+            drive(
+                alloc,
+                &Err(Unasked::Memory),
+                &mut source,
+                &mut out,
+                &mut err,
+            )
+        }
+    }
+}
+
+fn main(rt: HostRuntime) -> ExitCode {
+    ExitCode::from(serve_process(&rt))
 }

@@ -1,10 +1,10 @@
 use crate::run;
 use id_args::read_words;
-use id_engine::{Request, Source, SourceFault, Stream, drive};
+use id_engine::{Request, Source, SourceFault, Stream, drive, settle};
 use id_print::{Sink, SinkFault, put};
 use std::alloc::{AllocError, Global};
 use std::io;
-use std::io::{ErrorKind, Write};
+use std::io::{BufWriter, ErrorKind, Write};
 use std::process::Abort;
 use std::test::Fail;
 
@@ -190,6 +190,27 @@ fn says_what_the_system_says(rt: HostRuntime) {
     };
     let whole = put(&mut again, "abc".as_bytes());
     assert!(&rt; whole.is_err(), "a write that takes nothing fails");
+}
+
+#[test]
+fn refuses_once_what_a_buffer_cannot_send_on(rt: HostRuntime) -> Result<(), Fail> {
+    let mut out = Stream {
+        writer: BufWriter::new(rt.alloc(), Halting { turn: 3 })?,
+    };
+    let mut err = Telling {
+        rt: &rt,
+        room: 100,
+        bytes: Vec::new(rt.alloc()),
+        failures: 0,
+    };
+    let gathered = put(&mut out, "answer 1\n".as_bytes());
+    assert!(&rt; gathered.is_ok());
+    for status in [0, 5] {
+        let settled = settle(&mut out, &mut err, status);
+        assert_eq!(&rt; settled, 5);
+        assert_eq!(&rt; err.bytes.as_slice(), "refused Write\n".as_bytes());
+    }
+    Ok(())
 }
 
 #[test]

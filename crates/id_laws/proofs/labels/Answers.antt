@@ -1,5 +1,6 @@
+use Rattle.id_laws.proofs.Known.{known}
 use Rattle.id_laws.proofs.LabelsOnce.{are_labels}
 use Rattle.id_laws.proofs.labels.Goals as goal
 
 pub returns : goal.returns
-returns c = λ P g schemas. are_labels P g schemas.number schemas.numbered
+returns c = λ P g schemas. are_labels P (known P) g schemas.number schemas.numbered

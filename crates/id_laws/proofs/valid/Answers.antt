@@ -1,6 +1,7 @@
 -- Every graph that the schemas give a program is valid.
+use Rattle.id_laws.proofs.Known.{known}
 use Rattle.id_laws.proofs.Validity.{validity}
 use Rattle.id_laws.proofs.valid.Goals as goal
 
 pub returns : goal.returns
-returns c = λ P g schemas. validity P g schemas
+returns c = λ P g schemas. validity P (known P) g schemas

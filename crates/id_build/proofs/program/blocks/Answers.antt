@@ -1,7 +1,62 @@
 -- One more row may be one more head.
-use Rattle.id_build.proofs.BlocksLemmas.{blocks_next}
+use Rattle.std.proofs.Common.{◌≡◌, ◌∙◌, ◌++◌, ◌∷◌, [], ℕ, List, Bool as Truth, true, false, ap, map, sym}
+use Rattle.std.proofs.lemmas.List.{append_assoc}
+use Rattle.id_parts.specs.declared.row.Row.{Row}
+use Rattle.id_parts.specs.Tables.{is_head}
+use Rattle.id_check.specs.Programs.{rows}
+use Rattle.id_desugar.specs.Regions.{is_loop_head}
+use Rattle.id_parts.specs.Turns.{heads_below, heads_of}
+use Rattle.id_build.specs.Made.{number_by}
+use Rattle.id_build.specs.Rows.{node}
+use Rattle.id_build.specs.Schemas.{block_of, loop_heads_below}
+use Rattle.id_build.proofs.BlocksLemmas.{blocks_push, heads_next, heads_same, loop_heads_next, loop_heads_same}
 use Rattle.id_build.proofs.program.blocks.Goals as goal
+use Rattle.id_build.proofs.program.blocks.Goals.{then-is_head+in_ok-entries+in_ok-add_block, else-is_head}
+use Rattle.id_build.proofs.program.blocks.Goals.{then-is_loop_head+in_ok-entries-2+in_ok-add_block-2, else-is_loop_head}
 
 pub loop-head-preserved : goal.loop-head-preserved
-loop-head-preserved c =
-    blocks_next c.args.checked.now c.args.firsts.now c.loop-head.blocks.items c.add_block.new.blocks.items c.loop-head.head c.loop-head.invariant c.in_ok-add_block.ensures.blocks
+loop-head-preserved c = elim c.if-is_head.branch [
+  | then-is_head+in_ok-entries+in_ok-add_block w ↦
+      let P = c.args.checked.now in
+      let F = c.args.firsts.now in
+      let h = c.loop-head.head in
+      let row = ap (λ (r : Row). is_head r.node) c.row_at.ensures in
+      let test : is_head (node P h) ≡ true = sym row ∙ sym c.is_head.ensures ∙ w.if-is_head.true in
+      let new = w.in_ok-add_block.ensures.blocks
+      ∙ ap (λ z. c.loop-head.blocks.items ++ record { first = number_by F h 0; entries = z } ∷ []) w.in_ok-entries.ensures.entries in
+      ap (λ b. b.items) w.blocks-is
+      ∙ blocks_push P F (heads_below (rows P) h) c.loop-head.blocks.items w.add_block.new.blocks.items h c.loop-head.invariant new
+      ∙ ap (map (block_of P (number_by F))) (sym (heads_next P h test))
+  | else-is_head w ↦
+      let P = c.args.checked.now in
+      let F = c.args.firsts.now in
+      let h = c.loop-head.head in
+      let row = ap (λ (r : Row). is_head r.node) c.row_at.ensures in
+      let test : is_head (node P h) ≡ false = sym row ∙ sym c.is_head.ensures ∙ w.if-is_head.false in
+      ap (λ b. b.items) w.blocks-is ∙ c.loop-head.invariant ∙ ap (map (block_of P (number_by F))) (sym (heads_same P h test))
+]
+
+pub loop-head-2-preserved : goal.loop-head-2-preserved
+loop-head-2-preserved c = elim c.if-is_loop_head.branch [
+  | then-is_loop_head+in_ok-entries-2+in_ok-add_block-2 w ↦
+      let P = c.args.checked.now in
+      let F = c.args.firsts.now in
+      let h = c.loop-head-2.head in
+      let xs = heads_of (rows P) in
+      let row = ap (λ (r : Row). is_loop_head r.node) c.row_at-in-loop-head-2.ensures in
+      let test : is_loop_head (node P h) ≡ true = sym row ∙ sym c.is_loop_head.ensures ∙ w.if-is_loop_head.true in
+      let new = w.in_ok-add_block-2.ensures.blocks
+      ∙ ap (λ z. c.loop-head-2.blocks.items ++ record { first = number_by F h 0; entries = z } ∷ []) w.in_ok-entries-2.ensures.entries in
+      ap (λ b. b.items) w.blocks-is
+      ∙ blocks_push P F (xs ++ loop_heads_below P h) c.loop-head-2.blocks.items w.add_block-then-is_loop_head.new.blocks.items h c.loop-head-2.invariant new
+      ∙ ap (map (block_of P (number_by F))) (append_assoc xs (loop_heads_below P h) (h ∷ []))
+      ∙ ap (λ z. map (block_of P (number_by F)) (xs ++ z)) (sym (loop_heads_next P h test))
+  | else-is_loop_head w ↦
+      let P = c.args.checked.now in
+      let F = c.args.firsts.now in
+      let h = c.loop-head-2.head in
+      let xs = heads_of (rows P) in
+      let row = ap (λ (r : Row). is_loop_head r.node) c.row_at-in-loop-head-2.ensures in
+      let test : is_loop_head (node P h) ≡ false = sym row ∙ sym c.is_loop_head.ensures ∙ w.if-is_loop_head.false in
+      ap (λ b. b.items) w.blocks-is ∙ c.loop-head-2.invariant ∙ ap (λ z. map (block_of P (number_by F)) (xs ++ z)) (sym (loop_heads_same P h test))
+]

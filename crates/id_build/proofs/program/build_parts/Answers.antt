@@ -1,16 +1,16 @@
 -- The graph made is one that the schemas give the program.
-use Rattle.std.proofs.Common.{◌≡◌, ◌∙◌, List, ap, arith, length, map, sym, subst}
+use Rattle.std.proofs.Common.{◌≡◌, ◌≤◌, ◌∙◌, List, ap, arith, length, map, sym, subst}
 use Rattle.std.proofs.lemmas.Grind.{common_steps}
 use Rattle.id_check.specs.Programs.{rows}
-use Rattle.id_parts.specs.Turns.{heads_of}
 use Rattle.id_graph.specs.declared.instr.Block.{Block}
 use Rattle.id_graph.specs.declared.instr.Instr.{Instr}
 use Rattle.id_graph.specs.Graph.{parts}
-use Rattle.id_build.specs.Made.{graph_by, number_by, pieces_in}
+use Rattle.id_build.specs.Made.{EntriesFit, graph_by, number_by, pieces_in}
 use Rattle.id_build.specs.Rows.{size}
-use Rattle.id_build.specs.Schemas.{Schemas, block_of}
+use Rattle.id_build.specs.Schemas.{Schemas, all_heads, block_of}
 use Rattle.id_build.proofs.BuildableLemmas.{IsBuildable-checked, is_order}
-use Rattle.id_build.proofs.NumberLemmas.{length-pieces_in}
+use Rattle.id_build.proofs.FitsLemmas.{entries_fit}
+use Rattle.id_build.proofs.OrderLemmas.{length-pieces_in}
 use Rattle.id_build.proofs.SchemasLemmas.{PortsExist-schemas, Schemas-graph_by, length-graph_by}
 use Rattle.id_build.proofs.program.build_parts.Goals as goal
 
@@ -39,7 +39,7 @@ returns-clause-schemas c =
     let F = c.in_ok-draft.draft.firsts.items in
     let G = graph_by P order F in
     let whole = Schemas-graph_by P order F (IsBuildable-checked P) (is_order P order c.requires.order) c.in_ok-draft.ensures.firsts in
-    let bs : c.in_ok-blocks.blocks.items ≡ G.blocks = c.in_ok-blocks.ensures.blocks ∙ ap (λ f. map (block_of P (number_by f)) (heads_of (rows P))) c.as_slice.ensures.value in
+    let bs : c.in_ok-blocks.blocks.items ≡ G.blocks = c.in_ok-blocks.ensures.blocks ∙ ap (λ f. map (block_of P (number_by f)) (all_heads P)) c.as_slice.ensures.value in
     let is = c.in_ok-instrs.ensures.instrs in
     let A : List Block → Type 0 = λ x. Schemas P (parts x c.in_ok-instrs.instrs.items) in
     let B : List Instr → Type 0 = λ x. Schemas P (parts G.blocks x) in
@@ -52,3 +52,10 @@ pub returns-clause-few : goal.returns-clause-few
 returns-clause-few c =
     let long = length-graph_by c.args.checked.now c.args.order.now c.in_ok-draft.draft.firsts.items in
     omega (arith, ap length c.in_ok-instrs.ensures.instrs, long, c.in_ok-draft.ensures.small)
+
+pub blocks-requires-clause-fit : goal.blocks-requires-clause-fit
+blocks-requires-clause-fit c =
+    let P = c.args.checked.now in
+    let order = c.args.order.now in
+    let few : length (pieces_in P order) ≤ 1000000 = omega (arith, c.in_ok-draft.ensures.small) in
+    subst (EntriesFit P) (sym c.as_slice.ensures.value) (entries_fit P order c.in_ok-draft.draft.firsts.items (is_order P order c.requires.order) c.in_ok-draft.ensures.firsts few)

@@ -1,21 +1,51 @@
--- A conditional has its trigger's switch, and one for each import.
-use Rattle.std.proofs.Common.{◌≡◌, ◌+◌, ap, sym, ◌∙◌, length}
+-- Switches, entries and what leads to them are as many as what is imported.
+use Rattle.std.proofs.Common.{◌≡◌, ◌+◌, ◌∙◌, ap, sym, arith, length}
 use Rattle.id_check.specs.Programs.{place}
-use Rattle.id_parts.specs.declared.row.Node.TheVariants.{Split}
-use Rattle.id_build.specs.Rows.{made_of, node}
-use Rattle.id_build.proofs.SizeLemmas.{length-split}
+use Rattle.id_parts.specs.declared.row.Row.{Row}
+use Rattle.id_parts.specs.declared.row.Node.TheVariants.{Entries, Split, Start, Switches, Turn}
+use Rattle.id_desugar.specs.Regions.{imports_of, is_loop_head}
+use Rattle.id_build.specs.Rows.{block, made_of, node}
+use Rattle.id_build.proofs.LoopsLemmas.{start_head}
+use Rattle.id_build.proofs.SizeLemmas.{length-entries, length-split, length-start, length-switches, length-turn}
 use Rattle.id_build.proofs.size.made_count.Goals as goal
 
-pub returns-in-Some-clause-count : goal.returns-in-Some-clause-count
-returns-in-Some-clause-count c =
+pub nexts_at-nexts-requires-clause-head : goal.nexts_at-nexts-requires-clause-head
+nexts_at-nexts-requires-clause-head c =
     let P = c.args.checked.now in
-    let e = place P c.args.n in
-    sym (c.in-Some.ensures.some P c.args.n e) ∙ ap (λ r. length (made_of P c.args.n e r.node)) c.row_at.ensures
+    let is : node P c.args.n ≡ Start = ap (λ r. r.node) (sym c.row_at-row.ensures) ∙ c.in-Start.is in
+    ap is_loop_head (start_head P c.args.n c.requires.within is).1
 
-pub returns-in-None-clause-count : goal.returns-in-None-clause-count
-returns-in-None-clause-count c =
+pub returns-in-Split-clause-count : goal.returns-in-Split-clause-count
+returns-in-Split-clause-count c =
     let P = c.args.checked.now in
-    let e = place P c.args.n in
-    let split = c.plain_count.ensures.none c.in-None.is in
-    let is : node P c.args.n ≡ Split split.0 = ap (λ r. r.node) (sym c.row_at.ensures) ∙ split.1 in
-    ap (λ bs. length bs + 1) c.imports_at.ensures ∙ sym (length-split P c.args.n e split.0) ∙ ap (λ k. length (made_of P c.args.n e k)) (sym is)
+    let n = c.args.n in
+    let is : node P n ≡ Split c.in-Split.test = ap (λ r. r.node) (sym c.row_at-row.ensures) ∙ c.in-Split.is in
+    omega (arith, ap length c.imports.ensures, length-split P n (place P n) c.in-Split.test, ap (λ m. length (made_of P n (place P n) m)) is)
+
+pub returns-in-Switches-clause-count : goal.returns-in-Switches-clause-count
+returns-in-Switches-clause-count c =
+    let P = c.args.checked.now in
+    let n = c.args.n in
+    let is : node P n ≡ Switches c.in-Switches.test = ap (λ r. r.node) (sym c.row_at-row.ensures) ∙ c.in-Switches.is in
+    omega (arith, ap length c.imports-in-Switches.ensures, length-switches P n (place P n) c.in-Switches.test, ap (λ m. length (made_of P n (place P n) m)) is)
+
+pub returns-in-Start-clause-count : goal.returns-in-Start-clause-count
+returns-in-Start-clause-count c =
+    let P = c.args.checked.now in
+    let n = c.args.n in
+    let is : node P n ≡ Start = ap (λ r. r.node) (sym c.row_at-row.ensures) ∙ c.in-Start.is in
+    omega (arith, ap length c.imports-in-Start.ensures, length-start P n (place P n), ap (λ m. length (made_of P n (place P n) m)) is, ap length c.nexts_at-nexts.ensures.nexts)
+
+pub returns-in-Entries-clause-count : goal.returns-in-Entries-clause-count
+returns-in-Entries-clause-count c =
+    let P = c.args.checked.now in
+    let n = c.args.n in
+    let is : node P n ≡ Entries = ap (λ r. r.node) (sym c.row_at-row.ensures) ∙ c.in-Entries.is in
+    omega (arith, ap length c.imports-in-Entries.ensures, length-entries P n (place P n), ap (λ m. length (made_of P n (place P n) m)) is, ap (λ (r : Row). length (imports_of P r.block)) c.row_at-row.ensures)
+
+pub returns-in-Turn-clause-count : goal.returns-in-Turn-clause-count
+returns-in-Turn-clause-count c =
+    let P = c.args.checked.now in
+    let n = c.args.n in
+    let is : node P n ≡ Turn = ap (λ r. r.node) (sym c.row_at-row.ensures) ∙ c.in-Turn.is in
+    omega (arith, ap length c.imports-in-Turn.ensures, length-turn P n (place P n), ap (λ m. length (made_of P n (place P n) m)) is, ap (λ (r : Row). length (imports_of P r.block)) c.row_at-row.ensures)

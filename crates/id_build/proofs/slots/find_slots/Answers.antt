@@ -8,10 +8,10 @@ use Rattle.id_build.proofs.slots.find_slots.Goals as goal
 
 pub returns-clause-slots : goal.returns-clause-slots
 returns-clause-slots c = record {
-  imports = c.requires.imports;
+  columns = c.requires.columns;
   numbers = λ h b. (
       let P = c.args.checked.now in
       ap (λ o. unwrap_or o (length (imports_of P h))) (c.loop-head.invariant (record { head = h; binder = b }))
-      ∙ slots_are P c.loop-head.head h b (omega (arith, c.loop-head-test.false, ap length c.requires.imports, length-all_imports P))
+      ∙ slots_are P c.loop-head.head h b (omega (arith, c.loop-head-test.false, ap length c.requires.columns.imports, length-all_imports P))
       );
 }

@@ -11,5 +11,5 @@ returns-in-Some-clause-within c =
     let bs = imports_of c.args.checked.now c.args.head in
     let is : c.in-Some.slot.now ≡ slot_of bs c.args.binder =
     ap (λ o. unwrap_or o (length bs)) c.in-Some.ensures.value ∙ c.requires.slots.numbers c.args.head c.args.binder in
-    let long : length c.imports_at-count.result.now < 2 ^ 61 = search rules in
-    omega (arith, is, slot_within bs c.args.binder, ap length c.imports_at-count.ensures, long)
+    let long : length c.imports-count.result.now < 2 ^ 61 = search rules in
+    omega (arith, is, slot_within bs c.args.binder, ap length c.imports-count.ensures, long)

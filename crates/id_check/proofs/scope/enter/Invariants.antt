@@ -7,7 +7,7 @@ use Rattle.id_check.proofs.scope.enter.Given as goal
 abbrev pub invariant-loop-k : goal.invariant-loop-k
 invariant-loop-k l = record {
   long : length l.bound.items ≡ length l.initial.bound.items;
-  taking : IsTaking l.rows l.s (get_or l.untaken l.k l.s) l.held.items l.bound.items l.uses.binders.items;
+  taking : IsTaking l.rows l.s (get_or l.untaken l.k l.s) l.bound.items l.uses.binders.items;
   waiting : AreWaiting l.rows l.s (keys (length l.initial.bound.items)) l.uses.binders.items l.uses.last.items l.uses.earlier.items;
   first : Notes l.initial.first (seconds l.rows l.s (get_or l.untaken l.k l.s)) l.first;
 }

@@ -1,6 +1,6 @@
 use Rattle.std.proofs.Common.{◌+◌, ◌∙◌, sym, subst, arith}
 use Rattle.id_check.specs.Names.{AreBound, AreWaiting, IsOpen}
-use Rattle.id_check.proofs.OpenLemmas.{open_more, open_same, unbound}
+use Rattle.id_check.proofs.OpenLemmas.{open_more, open_same}
 use Rattle.id_check.proofs.ScopesLemmas.{binder_at-none}
 use Rattle.id_check.proofs.scope.pass.Goals as goal
 
@@ -23,8 +23,7 @@ returns-in_ok-push c =
       first = c.take.ensures.first;
     }
 
--- the row binds no name
-pub returns-else-is_some-clause-untaken : goal.returns-else-is_some-clause-untaken
-returns-else-is_some-clause-untaken c =
-    open_same c.args.rows.now c.args.s (c.args.s + 1) c.take.new.untaken.items (sym c.bound_name.ensures ∙ unbound c.bound_name.result (sym c.is_some.ensures ∙ c.if-is_some.false))
-    c.take.ensures.untaken
+-- the row sees its own scope
+pub returns-else-not-sees_own-clause-untaken : goal.returns-else-not-sees_own-clause-untaken
+returns-else-not-sees_own-clause-untaken c =
+    open_same c.args.rows.now c.args.s (c.args.s + 1) c.take.new.untaken.items (sym c.sees_own.ensures ∙ c.if-not-sees_own.false) c.take.ensures.untaken

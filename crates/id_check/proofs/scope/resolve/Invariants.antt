@@ -1,14 +1,15 @@
-use Rattle.std.proofs.Common.{◌≡◌, ◌⊎◌, ◌<◌, ℕ, length, get_or}
-use Rattle.std.specs.Prelude.{None, Some}
-use Rattle.id_check.specs.Names.{AreWaiting, given, reach}
+use Rattle.std.proofs.Common.{◌<◌, ℕ, length}
+use Rattle.id_check.specs.Names.{AreWaiting, IsBehind, reach, use_before}
+use Rattle.id_check.proofs.WaitingLemmas.{ArePassed, IsGiven}
 use Rattle.id_check.proofs.scope.resolve.Given as goal
 
 abbrev pub invariant-loop-u : goal.invariant-loop-u
 invariant-loop-u l = record {
   waiting : AreWaiting l.rows l.s (length l.initial.uses.last.items) l.uses.binders.items l.uses.last.items l.uses.earlier.items;
-  binders : (i : ℕ) → i < length l.rows → (get_or l.uses.binders.items i None ≡ get_or l.initial.uses.binders.items i None)
-      ⊎ ((get_or l.initial.uses.binders.items i None ≡ None) × (given l.rows l.s l.key l.b i ≡ Some l.b) × (get_or l.uses.binders.items i None ≡ Some l.b));
+  behind : IsBehind l.rows l.uses.binders.items l.s l.key l.behind;
+  passed : ArePassed l.rows l.s l.key l.behind l.uses.binders.items;
+  binders : (i : ℕ) → i < length l.rows → IsGiven l.rows l.s l.key l.b l.initial.uses.binders.items l.uses.binders.items i;
 }
 
 abbrev pub decreases-loop-u : goal.decreases-loop-u
-decreases-loop-u l = reach (get_or l.uses.last.items l.key None)
+decreases-loop-u l = reach (use_before l.uses.last.items l.uses.earlier.items l.key l.behind)

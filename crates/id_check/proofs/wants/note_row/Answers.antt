@@ -25,6 +25,15 @@ note_operands-requires-clause-right c = part_of c.in-Binary.right c.requires.for
 pub note_wrong-requires-in-Split-clause-row : goal.note_wrong-requires-in-Split-clause-row
 note_wrong-requires-in-Split-clause-row c = part_of c.in-Split.test c.requires.formed c.requires.row c.in-Split.is refl
 
+pub note_wrong-requires-in-Switches-clause-row : goal.note_wrong-requires-in-Switches-clause-row
+note_wrong-requires-in-Switches-clause-row c = part_of c.in-Switches.test c.requires.formed c.requires.row c.in-Switches.is refl
+
+pub note_next-requires-clause-outer : goal.note_next-requires-clause-outer
+note_next-requires-clause-outer c = part_of c.in-Next.outer c.requires.formed c.requires.row c.in-Next.is (inl refl)
+
+pub note_next-requires-clause-value : goal.note_next-requires-clause-value
+note_next-requires-clause-value c = part_of c.in-Next.value c.requires.formed c.requires.row c.in-Next.is (inr refl)
+
 pub note_arm-requires-clause-then : goal.note_arm-requires-clause-then
 note_arm-requires-clause-then c = part_of c.in-If.then c.requires.formed c.requires.row c.in-If.is (inr (inl refl))
 
@@ -132,3 +141,18 @@ returns-in-Call c =
     let head = c.callee-callee-in-Call.ensures ∙ ap (callee R) c.binder_at-in-Call.ensures in
     subst (Noted R c.args.kinds.now c.args.binders.now c.args.i c.args.first.now c.note_count_of.new.first) (sym c.in-Call.is)
     (subst (λ o. Notes c.args.first.now (wrong_count R o c.in-Call.count (at R c.args.i).place) c.note_count_of.new.first) head c.note_count_of.ensures)
+
+pub returns-in-NextUse : goal.returns-in-NextUse
+returns-in-NextUse c =
+    subst (Noted c.args.rows.now c.args.kinds.now c.args.binders.now c.args.i c.args.first.now c.note_unknown-in-NextUse.new.first) (sym c.in-NextUse.is)
+    c.note_unknown-in-NextUse.ensures
+
+pub returns-in-Switches : goal.returns-in-Switches
+returns-in-Switches c =
+    subst (Noted c.args.rows.now c.args.kinds.now c.args.binders.now c.args.i c.args.first.now c.note_wrong-in-Switches.new.first) (sym c.in-Switches.is)
+    c.note_wrong-in-Switches.ensures
+
+pub returns-in-Next : goal.returns-in-Next
+returns-in-Next c =
+    subst (Noted c.args.rows.now c.args.kinds.now c.args.binders.now c.args.i c.args.first.now c.note_next.new.first) (sym c.in-Next.is)
+    c.note_next.ensures

@@ -1,10 +1,18 @@
 -- Each row is noted as an end.
-use Rattle.std.proofs.Common.{ap, ◌∙◌}
-use Rattle.id_desugar.specs.Ends.{begun_at}
-use Rattle.id_desugar.proofs.EndsLemmas.{AreEndsBelow-next}
+use Rattle.std.proofs.Common.{ap, arith, sym, ◌∙◌, if◌then◌else◌}
+use Rattle.std.specs.Prelude.{Some, None}
+use Rattle.id_desugar.specs.Ends.{begun_at, end_at, is_row}
+use Rattle.id_desugar.proofs.EndsLemmas.{AreFirst-next, AreFirst-none}
 use Rattle.id_desugar.proofs.ends.find_ends.Goals as goal
+
+pub loop-n-init : goal.loop-n-init
+loop-n-init c =
+    AreFirst-none c.args.checked.now (end_at c.args.checked.now) c.len-count.result c.in_ok-ends.ends.items
+    (omega (arith, c.len-count.ensures)) c.in_ok-ends.ensures
 
 pub loop-n-preserved : goal.loop-n-preserved
 loop-n-preserved c =
-    AreEndsBelow-next c.args.checked.now c.loop-n.n c.begun_at.result c.loop-n.ends.items c.note_end.new.ends.items (c.begun_at.ensures ∙ ap (λ r. begun_at r.node) c.row_at.ensures)
-    c.note_end.ensures.long c.loop-n.invariant c.note_end.ensures.each
+    let n = c.loop-n.n in
+    let begun = c.begun_at.ensures ∙ ap (λ r. begun_at r.node) c.row_at.ensures in
+    AreFirst-next c.args.checked.now (end_at c.args.checked.now) n c.begun_at.result c.loop-n.ends.items c.note.new.noted.items
+    (λ h. ap (λ b. if is_row h b then Some n else None) (sym begun)) c.note.ensures.long c.loop-n.invariant c.note.ensures.each

@@ -1,15 +1,18 @@
--- At first no list is filled, and at last all are.
-use Rattle.std.proofs.Common.{arith}
+-- At first the lists are those of uses, and at last those of imports.
+use Rattle.std.proofs.Common.{refl, arith, length}
 use Rattle.std.proofs.lemmas.Grind.{common_steps}
-use Rattle.id_desugar.proofs.FilledLemmas.{AreFilled-none, filled_all}
+use Rattle.id_check.specs.Programs.{rows}
+use Rattle.id_desugar.proofs.FilledLemmas.{AreTurned-none, turned_all}
 use Rattle.id_desugar.proofs.imports.all_imports.Goals as goal
 
-pub loop-end-init : goal.loop-end-init
-loop-end-init c = (
-  AreFilled-none c.args.checked.now c.in_ok-lists.lists.items (omega (arith, c.in_ok-lists.ensures.0, c.len-count.ensures)) c.in_ok-lists.ensures.1,
+pub loop-row-init : goal.loop-row-init
+loop-row-init c = (
+  AreTurned-none c.args.checked.now (length (rows c.args.checked.now)) c.in_ok-lists.lists.items refl c.in_ok-lists.ensures,
   omega (arith, c.in_ok-marks.ensures.len, c.len-count.ensures),
   λ b. grind (arith, common_steps),
 )
 
 pub returns : goal.returns
-returns c = filled_all c.args.checked.now c.loop-end.end c.loop-end.lists.items (omega (arith, c.loop-end-test.false, c.loop-end.auto.end-end, c.len-count.ensures)) c.loop-end.invariant.0
+returns c =
+    turned_all c.args.checked.now c.loop-row.row c.loop-row.lists.items
+    (omega (arith, c.loop-row-test.false, c.loop-row.auto.row-end, c.len-count.ensures)) c.loop-row.invariant.0

@@ -1,5 +1,5 @@
--- What a row uses is noted, and what the conditional uses that begins there.
-use Rattle.std.proofs.Common.{◌≡◌, ◌⊎◌, inl, inr, ℕ, ◌+◌, ◌-◌, ◌<◌, ◌≤◌, true, List, [], ◌∙◌, subst, arith, length, get_or}
+-- What a row uses is noted, and what the construct uses that begins there.
+use Rattle.std.proofs.Common.{◌≡◌, ◌⊎◌, inl, inr, ℕ, ◌+◌, ◌-◌, ◌<◌, ◌≤◌, true, List, [], Option, ◌∙◌, subst, arith, length, get_or}
 use Rattle.std.specs.Prelude.{Some}
 use Rattle.std.proofs.lemmas.List.{get_or_default}
 use Rattle.id_check.specs.declared.checked.Checked.{Checked}
@@ -8,52 +8,60 @@ use Rattle.id_list.specs.List.{Among}
 use Rattle.id_parts.specs.Rows.{at}
 use Rattle.id_desugar.specs.Ends.{end_row}
 use Rattle.id_desugar.specs.Regions.{imports}
-use Rattle.id_desugar.specs.Gathering.{AreFilled, is_split}
-use Rattle.id_desugar.proofs.NotesLemmas.{used_within, filled_at, imports_by-next, imports_by-over, imports_within}
+use Rattle.id_desugar.specs.Gathering.{AllCount, AreGathered, is_opening, used_in}
+use Rattle.id_desugar.proofs.NotesLemmas.{used_within, gathered_at, imports_by-next, imports_by-over, imports_within}
 use Rattle.id_desugar.proofs.imports.note_row.Goals as goal
 
 pub note_used-requires-clause-binder : goal.note_used-requires-clause-binder
 note_used-requires-clause-binder c =
-    used_within c.args.checked.now c.args.row (length c.args.marks.now.items) c.used_at.result (omega (arith, c.requires.row.1, c.requires.within)) c.used_at.ensures c.requires.long
+    used_within c.args.checked.now c.args.span.own c.args.row (length c.args.marks.now.items) c.used_at.result
+    (omega (arith, c.requires.row.1, c.requires.within)) c.used_at.ensures c.requires.long
 
 inner : {A : Type 0} (n row : ℕ) → row < n → n ≡ 0 ⊎ A → A
 inner n row l (inl z) = absurd (omega arith)
 inner n row l (inr a) = a
 
 -- what the inner list holds
-listed : (P : Checked) (n s e : ℕ) (L : List (List ℕ)) (xs : List ℕ) → AreFilled P n L → n < length (rows P) → s < e → e < n → xs ≡ get_or L s xs
-    → e ≡ 0 ⊎ ((end_row P s ≡ Some e) × (is_split (at (rows P) s).node ≡ true)) → xs ≡ imports P (s + 1) e
-listed P n s e L xs f w l m is h =
+listed : (P : Checked) (own : Option ℕ) (lo hi s e : ℕ) (L : List (List ℕ)) (xs : List ℕ) → AreGathered P lo hi L → AllCount P own lo hi → hi < length (rows P)
+    → lo ≤ s
+    → s < e → e < hi → xs ≡ get_or L s xs → e ≡ 0 ⊎ ((end_row P s ≡ Some e) × (is_opening (at (rows P) s).node ≡ true)) → xs ≡ imports (used_in P own) (s + 1) e
+listed P own lo hi s e L xs f count w low l m is h =
     let d = inner e s l h in
-    is ∙ get_or_default L s xs [] (omega (arith, f.many, w, l, m)) ∙ filled_at P n s e L f (omega arith) d.0 m d.1
+    is ∙ get_or_default L s xs [] (omega (arith, f.many, w, l, m))
+    ∙ gathered_at P own lo hi s e L f count (record { low = low; high = m; ends = d.0; opening = d.1 })
 
 pub note_all-requires-clause-binders : goal.note_all-requires-clause-binders
 note_all-requires-clause-binders c b h =
     let P = c.args.checked.now in
+    let own = c.args.span.own in
     let e = c.inner_end-next.result in
     let s = c.args.row in
     let xs = c.index-lists-row.result in
-    let list : c.as_slice.result.now ≡ imports P (s + 1) e =
-    c.as_slice.ensures ∙ listed P c.args.span.hi s e c.args.lists.now xs c.requires.lists c.requires.within c.if-row-next.true c.if-next-span.true c.index-lists-row.is c.inner_end-next.ensures in
+    let list : c.as_slice.result.now ≡ imports (used_in P own) (s + 1) e =
+    c.as_slice.ensures ∙ listed P own c.args.span.lo c.args.span.hi s e c.args.lists.now xs c.requires.lists c.requires.count c.requires.within c.requires.row.0
+    c.if-row-next.true c.if-next-span.true c.index-lists-row.is c.inner_end-next.ensures in
     let within : (s + 1) + (e - (s + 1)) ≤ length (rows P) = omega (arith, c.if-row-next.true, c.if-next-span.true, c.requires.within) in
-    let low = imports_within P (s + 1) e (e - (s + 1)) b within (subst (Among b) list h) in
+    let low = imports_within P own (s + 1) e (e - (s + 1)) b within (subst (Among b) list h) in
     omega (arith, low, c.in_ok-note_used.ensures.long, c.requires.long)
 
 pub returns-then-next-span-clause-list : goal.returns-then-next-span-clause-list
 returns-then-next-span-clause-list c =
     let P = c.args.checked.now in
+    let own = c.args.span.own in
     let lo = c.args.span.lo in
     let hi = c.args.span.hi in
     let s = c.args.row in
     let e = c.inner_end-next.result in
     let xs = c.index-lists-row.result in
-    let one = imports_by-next P lo hi s c.args.list.now.items c.note_used.new.list.items c.used_at.result c.requires.row.0 c.requires.list c.used_at.ensures c.in_ok-note_used.ensures.list in
-    let list : c.as_slice.result.now ≡ imports P (s + 1) e =
-    c.as_slice.ensures ∙ listed P hi s e c.args.lists.now xs c.requires.lists c.requires.within c.if-row-next.true c.if-next-span.true c.index-lists-row.is c.inner_end-next.ensures in
-    imports_by-over P lo hi s e c.note_used.new.list.items c.as_slice.result.now c.note_all.new.list.items c.requires.row.0 c.if-row-next.true (omega (arith, c.if-next-span.true)) one list
-    c.in_ok-note_all.ensures.list
+    let one = imports_by-next (used_in P own) lo hi s c.args.list.now.items c.note_used.new.list.items c.used_at.result
+    c.requires.row.0 c.requires.list c.used_at.ensures c.in_ok-note_used.ensures.list in
+    let list : c.as_slice.result.now ≡ imports (used_in P own) (s + 1) e =
+    c.as_slice.ensures ∙ listed P own lo hi s e c.args.lists.now xs c.requires.lists c.requires.count c.requires.within c.requires.row.0
+    c.if-row-next.true c.if-next-span.true c.index-lists-row.is c.inner_end-next.ensures in
+    imports_by-over (used_in P own) lo hi s e c.note_used.new.list.items c.as_slice.result.now c.note_all.new.list.items c.requires.row.0 c.if-row-next.true
+    (omega (arith, c.if-next-span.true)) one list c.in_ok-note_all.ensures.list
 
 pub returns-clause-list : goal.returns-clause-list
 returns-clause-list c =
-    imports_by-next c.args.checked.now c.args.span.lo c.args.span.hi c.args.row c.args.list.now.items c.note_used.new.list.items c.used_at.result c.requires.row.0 c.requires.list c.used_at.ensures
-    c.in_ok-note_used.ensures.list
+    imports_by-next (used_in c.args.checked.now c.args.span.own) c.args.span.lo c.args.span.hi c.args.row c.args.list.now.items c.note_used.new.list.items
+    c.used_at.result c.requires.row.0 c.requires.list c.used_at.ensures c.in_ok-note_used.ensures.list

@@ -19,5 +19,6 @@ returns-clause-said c =
     let inside : c.in-Some-number_of.n < length c.args.params.now = rw c.in-Some-number_of.is at c.number_of.ensures.inside in
     sym (ap (said_by c.args.params.now) (sym c.cut.ensures ∙ ap cut_so c.in-Some.is)
     ∙ ap (said_of c.args.params.now c.in-Some.value.now) (sym c.number_of.ensures.number ∙ c.in-Some-number_of.is)
-    ∙ ap (λ q. Says c.in-Some-number_of.n (option_and_then (λ p. value_spelled p.kind c.in-Some.value.now) q)) (slice_get-get_or c.args.params.now c.in-Some-number_of.n c.index-params-n.result inside)
+    ∙ ap (λ q. Says c.in-Some-number_of.n (option_and_then (λ p. value_spelled p.kind c.in-Some.value.now) q))
+    (slice_get-get_or c.args.params.now c.in-Some-number_of.n c.index-params-n.result inside)
     ∙ ap (Says c.in-Some-number_of.n) (sym c.value_spelled.ensures))

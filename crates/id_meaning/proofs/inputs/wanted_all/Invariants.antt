@@ -7,4 +7,5 @@ use Rattle.id_meaning.proofs.inputs.wanted_all.Given as goal
 
 abbrev pub invariant-loop-row : goal.invariant-loop-row
 invariant-loop-row l =
-    l.wanted.items ++ map (λ b. wanted_of l.checked (at (rows l.checked) b).node) (drop l.row-index l.params) ≡ map (λ b. wanted_of l.checked (at (rows l.checked) b).node) l.params
+    l.wanted.items ++ map (λ b. wanted_of l.checked (at (rows l.checked) b).node) (drop l.row-index l.params) ≡ map
+    (λ b. wanted_of l.checked (at (rows l.checked) b).node) l.params

@@ -4,7 +4,7 @@ use Rattle.id_meaning.specs.Links.{Takes}
 use Rattle.id_meaning.proofs.links.take_statements.Given as goal
 
 abbrev pub invariant-loop-statement : goal.invariant-loop-statement
-invariant-loop-statement l = Takes l.initial.turns l.turns l.initial.waiting.items l.waiting.items l.first l.n
+invariant-loop-statement l = Takes l.initial.turns l.turns l.initial.waiting.items l.waiting.items l.first l.from
 
 abbrev pub decreases-loop-statement : goal.decreases-loop-statement
 decreases-loop-statement l = vec_len l.waiting

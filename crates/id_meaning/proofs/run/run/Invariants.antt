@@ -4,4 +4,4 @@ use Rattle.id_meaning.proofs.RunLemmas.{Front}
 use Rattle.id_meaning.proofs.run.run.Given as goal
 
 abbrev pub invariant-loop-round : goal.invariant-loop-round
-invariant-loop-round l = Front (source l.checked l.inputs) l._round l.cells l.ahead l.waits l.news.items l.count
+invariant-loop-round l = Front (source l.checked l.inputs) l.links l._round l.cells l.ahead l.waits l.news.items l.count

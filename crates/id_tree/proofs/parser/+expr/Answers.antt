@@ -2,21 +2,18 @@
 use Rattle.std.proofs.Common.{◌≡◌, ◌∙◌, ◌<◌, ◌≤◌, ap, sym, refl, arith, rules}
 use Rattle.std.proofs.lemmas.Grind.{common_steps}
 use Rattle.std.proofs.lemmas.Result.{err_from_is_err_and, IfOk-weaker, IfErr-weaker}
-use Rattle.id_text.specs.declared.token.TokenKind.TheVariants.{Name, Key, Sign, End}
+use Rattle.id_text.specs.declared.token.TokenKind.TheVariants.{Name, Key, Sign}
 use Rattle.id_text.specs.declared.token.Symbol.TheVariants.{Minus, LeftParen, RightParen, Comma}
-use Rattle.id_text.specs.declared.token.Keyword.TheVariants.{If, Not}
+use Rattle.id_text.specs.declared.token.Keyword.TheVariants.{If, While, Next, Not}
 use Rattle.id_tree.specs.declared.parser.Level.TheVariants as level
+use Rattle.id_tree.specs.declared.parser.Scope.TheVariants as scope
 use Rattle.id_tree.specs.Grammar.{Expression, Grouped, Negation, Unary}
-use Rattle.id_tree.specs.Readers.{first_kind, truth_in, IsRead, IsGathered, Leads, Fails, Applies, Misapplies}
+use Rattle.id_tree.specs.Readers.{first_kind, second_kind, truth_in, IsRead, IsGathered, Leads, Fails, Applies, Misapplies}
 use Rattle.id_tree.specs.Tree.{tree_of}
-use Rattle.id_tree.proofs.ReaderLemmas.{IsRead-then, Level-begins, Level-grows, Level-grown, Level-fails, Level-stunts, Level-ends, Right-deep, Right-fails, Right-grows, At-conditional, At-parens, At-part, At-word, At-enclosed, Leads-done, Leads-at, Fails-deep, Fails-part, Fails-word, Fails-enclosed, IsPrefix-begins, Prefix-deep, Prefix-fails, Prefix-leads, Encloses-done, Exposes-word, Exposes-part, opens_negated, opens_denied, opens_conditional, opens_parens, Expression-leads, Expression-fails, Negation-leads, Negation-fails, At-opens, opens_number, opens_truth, Unary-fails, unopened, untrue}
-use Rattle.id_tree.proofs.CallLemmas.{IsRead-named, Leads-named, Fails-named, Applies-name, Applies-call, Misapplies-call, Leads-unpassed, Hands-first, Fails-argument, Hands-add, Fails-added, Leads-passed, Fails-passed, IsGathered-passed, IsGathered-unpassed, IsRead-add, Fails-full}
-use Rattle.id_tree.proofs.BlockLemmas.{opens_block, At-block, Encloses-tail, Exposes-tail, At-binding, Fails-tail, Adds-done, IsGathered-add, Gathers-none, Gathers-add, Fails-gathered, Leads-gathered, Leads-body, Fails-body}
+use Rattle.id_tree.proofs.ReaderLemmas.{IsRead-then, Level-begins, Level-grows, Level-grown, Level-fails, Level-stunts, Level-ends, Right-deep, Right-fails, Right-grows, At-conditional, At-parens, At-part, At-word, At-name, At-enclosed, Leads-done, Leads-at, Fails-deep, Fails-part, Fails-word, Fails-name, Fails-enclosed, IsPrefix-begins, Prefix-deep, Prefix-fails, Prefix-leads, Encloses-done, Exposes-word, Exposes-part, opens_negated, opens_denied, opens_conditional, opens_parens, Expression-leads, Expression-fails, Negation-leads, Negation-fails, At-opens, opens_number, opens_truth, Unary-fails, unopened, untrue}
+use Rattle.id_tree.proofs.CallLemmas.{IsRead-named, Leads-named, Fails-named, Applies-name, Applies-call, Misapplies-call, Leads-unpassed, Hands-first, Fails-argument, Hands-add, Fails-added, Leads-passed, Fails-passed, IsRead-add, Fails-full}
+use Rattle.id_tree.proofs.BlockLemmas.{opens_braces, At-block, At-loop, Encloses-tail, Exposes-tail, At-binding, At-next, Fails-tail, Adds-done, IsGathered-add, Gathers-none, Gathers-add, Fails-gathered, Leads-gathered, Leads-last, Fails-last}
 use Rattle.id_tree.proofs.parser.+expr.Goals as goal
-
--- behind the closing bracket the list goes on
-no_end : Sign RightParen ≡ End → ⊥
-no_end e = cc
 
 pub parse_expression-returns-else-begins_with-clause-ok : goal.parse_expression-returns-else-begins_with-clause-ok
 parse_expression-returns-else-begins_with-clause-ok t c =
@@ -119,29 +116,71 @@ parse_enclosed-returns-clause-ok t c = Encloses-done c.in_ok-inside.ensures.ok c
 pub parse_block-returns-in_err-first-clause-err : goal.parse_block-returns-in_err-first-clause-err
 parse_block-returns-in_err-first-clause-err t c =
     let p = err_from_is_err_and c.from_residual.result c.from_residual.ensures.1 in
-    rw (p.1, p.2) (Fails-deep c.requires.ends (opens_block c.requires.begins) _ _ c.in_err-first.ensures.err c.in_err-first.ensures.deep)
+    rw (p.1, p.2) (Fails-deep c.requires.ends (opens_braces c.requires.begins) _ _ c.in_err-first.ensures.err c.in_err-first.ensures.deep)
 
 pub parse_block-returns-in_err-statements-clause-err : goal.parse_block-returns-in_err-statements-clause-err
 parse_block-returns-in_err-statements-clause-err t c =
     let p = err_from_is_err_and c.from_residual-in_err-statements.result c.from_residual-in_err-statements.ensures.1 in
-    rw (p.1, p.2) (Fails-part (At-block c.in_ok-first.ensures.whole c.requires.begins c.in_ok-first.ensures.fits) c.in_err-statements.ensures.err)
+    rw (p.1, p.2) (Fails-part (At-block c.in_ok-first.ensures.whole c.requires.begins c.in_ok-first.ensures.fits c.requires.no_while) c.in_err-statements.ensures.err)
 
 pub parse_block-returns-in_err-body-clause-err : goal.parse_block-returns-in_err-body-clause-err
 parse_block-returns-in_err-body-clause-err t c =
     let p = err_from_is_err_and c.from_residual-in_err-body.result c.from_residual-in_err-body.ensures.1 in
-    rw (p.1, p.2) (Fails-part (At-block c.in_ok-first.ensures.whole c.requires.begins c.in_ok-first.ensures.fits)
+    rw (p.1, p.2) (Fails-part (At-block c.in_ok-first.ensures.whole c.requires.begins c.in_ok-first.ensures.fits c.requires.no_while)
     (Fails-gathered c.in_ok-statements.ensures.ok
-    (Fails-body c.split.ensures.whole c.in_ok-statements.ensures.last c.in_ok-first.ensures.fits c.in_err-body.ensures.err)))
+    (Fails-last scope.Block c.split.ensures.whole c.in_ok-statements.ensures.last c.in_ok-first.ensures.fits c.in_err-body.ensures.err)))
 
 pub parse_block-returns-clause-ok : goal.parse_block-returns-clause-ok
 parse_block-returns-clause-ok t c =
     Leads-at c.in_ok-whole.ensures.tree (omega (arith, c.in_ok-whole.ensures.height))
-    (Leads-done (At-part (At-block c.in_ok-first.ensures.whole c.requires.begins c.in_ok-first.ensures.fits)
+    (Leads-done (At-part (At-block c.in_ok-first.ensures.whole c.requires.begins c.in_ok-first.ensures.fits c.requires.no_while)
     (Leads-gathered c.in_ok-statements.ensures.ok
-    (Leads-body c.split.ensures.whole c.in_ok-statements.ensures.last c.in_ok-first.ensures.fits c.in_ok-body.ensures.ok))))
+    (Leads-last scope.Block c.split.ensures.whole c.in_ok-statements.ensures.last c.in_ok-first.ensures.fits c.in_ok-body.ensures.ok))))
+
+pub parse_braces-parse_loop-requires : goal.parse_braces-parse_loop-requires
+parse_braces-parse_loop-requires t c =
+    let is : first_kind c.split.result.1.now ≡ Key While = search rules in
+    (grind (arith, common_steps), (c.requires.ends, (c.requires.begins, (ap second_kind c.split.ensures.whole ∙ is, c.requires.room))))
+
+pub parse_braces-parse_block-requires : goal.parse_braces-parse_block-requires
+parse_braces-parse_block-requires t c =
+    let is_not : first_kind c.split.result.1.now ≡ Key While → ⊥ = search rules in
+    (grind (arith, common_steps), (c.requires.ends, (c.requires.begins, (λ q. is_not (ap second_kind (sym c.split.ensures.whole) ∙ q), c.requires.room))))
+
+pub parse_loop-returns-in_err-first-clause-err : goal.parse_loop-returns-in_err-first-clause-err
+parse_loop-returns-in_err-first-clause-err t c =
+    let p = err_from_is_err_and c.from_residual.result c.from_residual.ensures.1 in
+    rw (p.1, p.2) (Fails-deep c.requires.ends (opens_braces c.requires.begins) _ _ c.in_err-first.ensures.err c.in_err-first.ensures.deep)
+
+pub parse_loop-returns-in_err-test-clause-err : goal.parse_loop-returns-in_err-test-clause-err
+parse_loop-returns-in_err-test-clause-err t c =
+    let p = err_from_is_err_and c.from_residual-in_err-test.result c.from_residual-in_err-test.ensures.1 in
+    rw (p.1, p.2) (Fails-enclosed (At-loop c.in_ok-first.ensures.whole c.requires.begins c.in_ok-first.ensures.fits c.split.ensures.whole c.requires.loops) c.in_err-test.ensures.err)
+
+pub parse_loop-returns-in_err-statements-clause-err : goal.parse_loop-returns-in_err-statements-clause-err
+parse_loop-returns-in_err-statements-clause-err t c =
+    let p = err_from_is_err_and c.from_residual-in_err-statements.result c.from_residual-in_err-statements.ensures.1 in
+    rw (p.1, p.2) (Fails-part (At-enclosed (At-loop c.in_ok-first.ensures.whole c.requires.begins c.in_ok-first.ensures.fits c.split.ensures.whole c.requires.loops)
+    c.in_ok-test.ensures.ok) c.in_err-statements.ensures.err)
+
+pub parse_loop-returns-in_err-last-clause-err : goal.parse_loop-returns-in_err-last-clause-err
+parse_loop-returns-in_err-last-clause-err t c =
+    let p = err_from_is_err_and c.from_residual-in_err-last.result c.from_residual-in_err-last.ensures.1 in
+    rw (p.1, p.2) (Fails-part (At-enclosed (At-loop c.in_ok-first.ensures.whole c.requires.begins c.in_ok-first.ensures.fits c.split.ensures.whole c.requires.loops)
+    c.in_ok-test.ensures.ok)
+    (Fails-gathered c.in_ok-statements.ensures.ok
+    (Fails-last scope.Loop c.split-2.ensures.whole c.in_ok-statements.ensures.last c.in_ok-first.ensures.fits c.in_err-last.ensures.err)))
+
+pub parse_loop-returns-clause-ok : goal.parse_loop-returns-clause-ok
+parse_loop-returns-clause-ok t c =
+    Leads-at c.in_ok-whole.ensures.tree (omega (arith, c.in_ok-whole.ensures.height))
+    (Leads-done (At-part (At-enclosed (At-loop c.in_ok-first.ensures.whole c.requires.begins c.in_ok-first.ensures.fits c.split.ensures.whole c.requires.loops)
+    c.in_ok-test.ensures.ok)
+    (Leads-gathered c.in_ok-statements.ensures.ok
+    (Leads-last scope.Loop c.split-2.ensures.whole c.in_ok-statements.ensures.last c.in_ok-first.ensures.fits c.in_ok-last.ensures.ok))))
 
 pub parse_statements-stmts-init : goal.parse_statements-stmts-init
-parse_statements-stmts-init t c = (record { ends = c.requires.ends; shorter = omega arith; fits = omega arith }, rw c.new-statements.ensures.items (Gathers-none c.args.tokens.now c.args.depth))
+parse_statements-stmts-init t c = (record { ends = c.requires.ends; shorter = omega arith; fits = omega arith }, rw c.new-statements.ensures.items (Gathers-none c.args.tokens.now c.args.scope c.args.depth))
 
 pub parse_statements-stmts-preserved : goal.parse_statements-stmts-preserved
 parse_statements-stmts-preserved t c = (
@@ -154,25 +193,58 @@ parse_statements-returns-in_err-statement-clause-err t c =
     let p = err_from_is_err_and c.from_residual.result c.from_residual.ensures.1 in
     rw (p.1, p.2) (Fails-gathered c.stmts.invariant.1 c.in_err-statement.ensures.err)
 
-pub parse_binding-returns-in_err-name-clause-err : goal.parse_binding-returns-in_err-name-clause-err
-parse_binding-returns-in_err-name-clause-err t c =
+pub parse_statement-returns-in_err-name-clause-err : goal.parse_statement-returns-in_err-name-clause-err
+parse_statement-returns-in_err-name-clause-err t c =
     let p = err_from_is_err_and c.from_residual.result c.from_residual.ensures.1 in
-    rw (p.1, p.2) (Fails-tail c.args.depth c.requires.no_body c.in_err-name.ensures.err)
+    let is_not : (c.args.scope ≡ scope.Loop) × (first_kind c.args.tokens.now ≡ Key Next) → ⊥ = search rules in
+    rw (p.1, p.2) (Fails-tail c.args.scope c.args.depth c.requires.not_last is_not c.in_err-name.ensures.err)
 
-pub parse_binding-returns-in_err-begun-clause-err : goal.parse_binding-returns-in_err-begun-clause-err
-parse_binding-returns-in_err-begun-clause-err t c =
+pub parse_statement-returns-in_err-begun-clause-err : goal.parse_statement-returns-in_err-begun-clause-err
+parse_statement-returns-in_err-begun-clause-err t c =
     let p = err_from_is_err_and c.from_residual-in_err-begun.result c.from_residual-in_err-begun.ensures.1 in
-    rw (p.1, p.2) (Fails-word (At-binding c.args.depth (omega arith) c.in_ok-name.ensures.ok) c.in_err-begun.ensures.err)
+    rw (p.1, p.2) (Fails-word (At-binding c.args.scope c.args.depth (omega arith) c.in_ok-name.ensures.ok) c.in_err-begun.ensures.err)
 
-pub parse_binding-returns-in_err-value-clause-err : goal.parse_binding-returns-in_err-value-clause-err
-parse_binding-returns-in_err-value-clause-err t c =
+pub parse_statement-returns-in_err-value-clause-err : goal.parse_statement-returns-in_err-value-clause-err
+parse_statement-returns-in_err-value-clause-err t c =
     let p = err_from_is_err_and c.from_residual-in_err-value.result c.from_residual-in_err-value.ensures.1 in
-    rw (p.1, p.2) (Fails-enclosed (At-word (At-binding c.args.depth (omega arith) c.in_ok-name.ensures.ok) c.in_ok-begun.ensures.ok) (Exposes-tail c.in_err-value.ensures.err))
+    rw (p.1, p.2) (Fails-enclosed (At-word (At-binding c.args.scope c.args.depth (omega arith) c.in_ok-name.ensures.ok) c.in_ok-begun.ensures.ok) (Exposes-tail c.in_err-value.ensures.err))
 
-pub parse_binding-returns-clause-ok : goal.parse_binding-returns-clause-ok
-parse_binding-returns-clause-ok t c =
+pub parse_statement-returns-clause-ok : goal.parse_statement-returns-clause-ok
+parse_statement-returns-clause-ok t c =
     Adds-done c.binding-statement.ensures (omega arith)
-    (At-enclosed (At-word (At-binding c.args.depth (omega arith) c.in_ok-name.ensures.ok) c.in_ok-begun.ensures.ok) (Encloses-tail c.in_ok-value.ensures.ok))
+    (At-enclosed (At-word (At-binding c.args.scope c.args.depth (omega arith) c.in_ok-name.ensures.ok) c.in_ok-begun.ensures.ok) (Encloses-tail c.in_ok-value.ensures.ok))
+
+pub parse_statement-returns-then-begins_next-clause-ok : goal.parse_statement-returns-then-begins_next-clause-ok
+parse_statement-returns-then-begins_next-clause-ok t c =
+    let is : (c.args.scope ≡ scope.Loop) × (first_kind c.args.tokens.now ≡ Key Next) = search rules in
+    rw is.0 c.parse_next.ensures.ok
+
+pub parse_statement-returns-then-begins_next-clause-err : goal.parse_statement-returns-then-begins_next-clause-err
+parse_statement-returns-then-begins_next-clause-err t c =
+    let is : (c.args.scope ≡ scope.Loop) × (first_kind c.args.tokens.now ≡ Key Next) = search rules in
+    rw is.0 c.parse_next.ensures.err
+
+pub parse_next-returns-in_err-name-clause-err : goal.parse_next-returns-in_err-name-clause-err
+parse_next-returns-in_err-name-clause-err t c =
+    let p = err_from_is_err_and c.from_residual.result c.from_residual.ensures.1 in
+    rw (p.1, p.2) (Fails-name (At-next c.args.depth (omega arith) c.split.ensures.whole c.requires.begins) c.in_err-name.ensures.err)
+
+pub parse_next-returns-in_err-begun-clause-err : goal.parse_next-returns-in_err-begun-clause-err
+parse_next-returns-in_err-begun-clause-err t c =
+    let p = err_from_is_err_and c.from_residual-in_err-begun.result c.from_residual-in_err-begun.ensures.1 in
+    rw (p.1, p.2) (Fails-word (At-name (At-next c.args.depth (omega arith) c.split.ensures.whole c.requires.begins) c.in_ok-name.ensures.ok) c.in_err-begun.ensures.err)
+
+pub parse_next-returns-in_err-value-clause-err : goal.parse_next-returns-in_err-value-clause-err
+parse_next-returns-in_err-value-clause-err t c =
+    let p = err_from_is_err_and c.from_residual-in_err-value.result c.from_residual-in_err-value.ensures.1 in
+    rw (p.1, p.2) (Fails-enclosed (At-word (At-name (At-next c.args.depth (omega arith) c.split.ensures.whole c.requires.begins) c.in_ok-name.ensures.ok)
+    c.in_ok-begun.ensures.ok) (Exposes-tail c.in_err-value.ensures.err))
+
+pub parse_next-returns-clause-ok : goal.parse_next-returns-clause-ok
+parse_next-returns-clause-ok t c =
+    Adds-done c.next-statement.ensures (omega arith)
+    (At-enclosed (At-word (At-name (At-next c.args.depth (omega arith) c.split.ensures.whole c.requires.begins) c.in_ok-name.ensures.ok)
+    c.in_ok-begun.ensures.ok) (Encloses-tail c.in_ok-value.ensures.ok))
 
 pub parse_right-returns-in_err-first-clause-err : goal.parse_right-returns-in_err-first-clause-err
 parse_right-returns-in_err-first-clause-err t c =
@@ -190,8 +262,8 @@ parse_right-returns-clause-ok t c =
     Right-grows c.in_ok-first.ensures.whole c.args.level c.args.op c.requires.operator _ _ _
     c.in_ok-first.ensures.fits c.in_ok-right.ensures.ok c.in_ok-whole.ensures.tree c.in_ok-whole.ensures.height
 
-pub parse_binding-returns-clause-read : goal.parse_binding-returns-clause-read
-parse_binding-returns-clause-read t c = grind (arith, common_steps)
+pub parse_statement-returns-clause-read : goal.parse_statement-returns-clause-read
+parse_statement-returns-clause-read t c = grind (arith, common_steps)
 
 pub parse_block-overflow_add-inner : goal.parse_block-overflow_add-inner
 parse_block-overflow_add-inner t c = grind (arith, common_steps)
@@ -207,6 +279,27 @@ parse_block-block-requires-clause-high t c = grind (arith, common_steps)
 
 pub parse_block-returns-clause-read : goal.parse_block-returns-clause-read
 parse_block-returns-clause-read t c = grind (arith, common_steps)
+
+pub parse_loop-overflow_add-inner : goal.parse_loop-overflow_add-inner
+parse_loop-overflow_add-inner t c = grind (arith, common_steps)
+
+pub parse_loop-overflow_add-inner-2 : goal.parse_loop-overflow_add-inner-2
+parse_loop-overflow_add-inner-2 t c = grind (arith, common_steps)
+
+pub parse_loop-whole_loop-requires-clause-low : goal.parse_loop-whole_loop-requires-clause-low
+parse_loop-whole_loop-requires-clause-low t c = grind (arith, common_steps)
+
+pub parse_loop-whole_loop-requires-clause-middle : goal.parse_loop-whole_loop-requires-clause-middle
+parse_loop-whole_loop-requires-clause-middle t c = grind (arith, common_steps)
+
+pub parse_loop-whole_loop-requires-clause-high : goal.parse_loop-whole_loop-requires-clause-high
+parse_loop-whole_loop-requires-clause-high t c = grind (arith, common_steps)
+
+pub parse_loop-returns-clause-read : goal.parse_loop-returns-clause-read
+parse_loop-returns-clause-read t c = grind (arith, common_steps)
+
+pub parse_next-returns-clause-read : goal.parse_next-returns-clause-read
+parse_next-returns-clause-read t c = grind (arith, common_steps)
 
 pub parse_enclosed-returns-clause-read : goal.parse_enclosed-returns-clause-read
 parse_enclosed-returns-clause-read t c = grind (arith, common_steps)
@@ -404,19 +497,6 @@ pub parse_named-returns-in_ok-args-clause-ok : goal.parse_named-returns-in_ok-ar
 parse_named-returns-in_ok-args-clause-ok t c =
     let is : first_kind c.args.tokens.now ≡ Sign LeftParen = search rules in
     Applies-call c.split.ensures.whole is c.args.depth c.args.x c.args.place c.in_ok-args.ensures.ok c.call.ensures.tree c.call.ensures.height
-
-pub parse_arguments-returns-then-is_sign-clause-read : goal.parse_arguments-returns-then-is_sign-clause-read
-parse_arguments-returns-then-is_sign-clause-read t c =
-    let is : c.split.result.0.now.kind ≡ Sign RightParen = search rules in
-    IsGathered-unpassed c.args.depth c.requires.room c.split.ensures.whole (c.split.ensures.ends (λ q. no_end (sym is ∙ q)))
-
-pub parse_arguments-returns-then-is_sign-2-clause-read : goal.parse_arguments-returns-then-is_sign-2-clause-read
-parse_arguments-returns-then-is_sign-2-clause-read t c =
-    let is : c.split-2.result.0.now.kind ≡ Sign RightParen = search rules in
-    IsGathered-passed c.in_ok-args.ensures.read c.split-2.ensures.whole (c.split-2.ensures.ends (λ q. no_end (sym is ∙ q)))
-
-pub parse_some_arguments-arguments-smaller : goal.parse_some_arguments-arguments-smaller
-parse_some_arguments-arguments-smaller t c = grind (arith, common_steps)
 
 pub parse_arguments-returns-then-is_sign-clause-ok : goal.parse_arguments-returns-then-is_sign-clause-ok
 parse_arguments-returns-then-is_sign-clause-ok t c =

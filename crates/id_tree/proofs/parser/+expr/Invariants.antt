@@ -27,6 +27,12 @@ decreases-parse_right l = (200 - l.depth) * 32
 abbrev pub decreases-parse_block : goal.decreases-parse_block
 decreases-parse_block l = (200 - l.depth) * 32
 
+abbrev pub decreases-parse_loop : goal.decreases-parse_loop
+decreases-parse_loop l = (200 - l.depth) * 32
+
+abbrev pub decreases-parse_braces : goal.decreases-parse_braces
+decreases-parse_braces l = (200 - l.depth) * 32 + 1
+
 abbrev pub decreases-parse_conditional : goal.decreases-parse_conditional
 decreases-parse_conditional l = (200 - l.depth) * 32
 
@@ -48,11 +54,14 @@ decreases-parse_expression l = (200 - l.depth) * 32 + 15
 abbrev pub decreases-parse_enclosed : goal.decreases-parse_enclosed
 decreases-parse_enclosed l = (200 - l.depth) * 32 + 16
 
-abbrev pub decreases-parse_binding : goal.decreases-parse_binding
-decreases-parse_binding l = (200 - l.depth) * 32 + 17
+abbrev pub decreases-parse_next : goal.decreases-parse_next
+decreases-parse_next l = (200 - l.depth) * 32 + 17
+
+abbrev pub decreases-parse_statement : goal.decreases-parse_statement
+decreases-parse_statement l = (200 - l.depth) * 32 + 18
 
 abbrev pub decreases-parse_statements : goal.decreases-parse_statements
-decreases-parse_statements l = (200 - l.depth) * 32 + 18
+decreases-parse_statements l = (200 - l.depth) * 32 + 19
 
 abbrev pub decreases-parse_leaf : goal.decreases-parse_leaf
 decreases-parse_leaf l = (200 - l.depth) * 32 + 1
@@ -80,9 +89,9 @@ invariant-parse_grouped-loop-op l = IsRead l.fn.tokens l.rest l.depth l.left.hei
 abbrev pub decreases-parse_grouped-loop-op : goal.decreases-parse_grouped-loop-op
 decreases-parse_grouped-loop-op l = length l.rest
 
--- statements have come, and the block is open
+-- statements have come, and the block or the loop is open
 abbrev pub invariant-parse_statements-stmts : goal.invariant-parse_statements-stmts
-invariant-parse_statements-stmts l = IsGathered l.fn.tokens l.rest l.depth l.height × Gathers l.fn.tokens l.depth l.rest l.statements.items l.height
+invariant-parse_statements-stmts l = IsGathered l.fn.tokens l.rest l.depth l.height × Gathers l.fn.tokens l.scope l.depth l.rest l.statements.items l.height
 
 abbrev pub decreases-parse_statements-stmts : goal.decreases-parse_statements-stmts
 decreases-parse_statements-stmts l = length l.rest

@@ -2,7 +2,7 @@
 use Rattle.std.proofs.Common.{◌≡◌, ◌-◌, ◌<◌, suc, true, false, length, get_or, ap, sym, ◌∙◌, arith}
 use Rattle.id_meaning.specs.Cells.{find, is_at, spot_at}
 use Rattle.id_meaning.specs.Chains.{chain_at}
-use Rattle.id_meaning.proofs.CellsLemmas.{at-true}
+use Rattle.id_meaning.proofs.SpotsLemmas.{at-true}
 use Rattle.id_meaning.proofs.ChainsLemmas.{any-default, at-spot, earlier-next, find-none, find-some, same-chain}
 use Rattle.id_meaning.proofs.cells.Cells.find.Goals as goal
 
@@ -12,7 +12,8 @@ loop-next-init c =
     let hs = c.self.inside.heads.items in
     let es = c.self.inside.spots.items in
     let b = c.bucket_of.result in
-    let h : c.index-next.result.now ≡ get_or hs b 0 = c.index-next.ensures ∙ any-default hs b c.index-next.result.now 0 (let w = k.wide in let l = c.bucket_of.ensures.within in omega arith) in
+    let h : c.index-next.result.now ≡ get_or hs b 0 =
+    c.index-next.ensures ∙ any-default hs b c.index-next.result.now 0 (let w = k.wide in let l = c.bucket_of.ensures.within in omega arith) in
     let q = c.bucket_of.ensures.chain in
     record {
       within = (let w = k.within b in omega arith);
@@ -32,7 +33,8 @@ returns-then-is_at c =
     let w = c.loop-next.invariant.within in
     let l = c.loop-next-test.true in
     let h = at-spot es (n - 1) c.index-spot.result.now c.index-spot.ensures (omega arith) in
-    let e : is_at (spot_at es (n - 1)) c.args.path c.args.row ≡ true = ap (λ s. is_at s c.args.path c.args.row) (sym h) ∙ sym c.is_at.ensures ∙ c.if-is_at.true in
+    let e : is_at (spot_at es (n - 1)) c.args.path c.args.row ≡ true =
+    ap (λ s. is_at s c.args.path c.args.row) (sym h) ∙ sym c.is_at.ensures ∙ c.if-is_at.true in
     let t = at-true (spot_at es (n - 1)) c.args.path c.args.row e in
     let f = find-some es c.args.path c.args.row (n - 1) (omega arith) e (λ j m g.
     let u = at-true (spot_at es j) c.args.path c.args.row g in
@@ -51,7 +53,8 @@ loop-next-preserved c =
     let l = c.loop-next-test.true in
     let long = k.long in
     let h = at-spot es (n - 1) c.index-spot.result.now c.index-spot.ensures (omega arith) in
-    let e : is_at (spot_at es (n - 1)) c.args.path c.args.row ≡ false = ap (λ s. is_at s c.args.path c.args.row) (sym h) ∙ sym c.is_at.ensures ∙ c.if-is_at.false in
+    let e : is_at (spot_at es (n - 1)) c.args.path c.args.row ≡ false =
+    ap (λ s. is_at s c.args.path c.args.row) (sym h) ∙ sym c.is_at.ensures ∙ c.if-is_at.false in
     let q : n ≡ suc (n - 1) = omega arith in
     let chain = c.loop-next.invariant.chain (n - 1) q in
     let x = c.index-next-in-loop-next.result.now in
@@ -61,7 +64,9 @@ loop-next-preserved c =
       within = (let b = k.back (n - 1) i in omega arith);
       chain = λ j f. k.nexts_in (n - 1) j i (sym g ∙ f) ∙ chain;
       earlier = λ j m f.
-          let z = earlier-next c.self.inside.heads.items ns es c.args.path c.args.row (n - 1) k i e (λ a b d. let y = c.loop-next.invariant.earlier a b d in omega arith) chain j m f in
+          let z =
+          earlier-next c.self.inside.heads.items ns es c.args.path c.args.row (n - 1) k i e
+          (λ a b d. let y = c.loop-next.invariant.earlier a b d in omega arith) chain j m f in
           omega arith;
     }
 

@@ -7,7 +7,9 @@ use Rattle.id_meaning.proofs.cells.Cells.read.Goals as goal
 pub index-requires : goal.index-requires
 index-requires c =
     let v = c.self.view_is in
-    let f = found c.self.inside.spots.items c.args.path c.args.row c.in-Some.number blank (ap (λ es. find es c.args.path c.args.row) v ∙ sym c.find.ensures ∙ c.in-Some.is) in
+    let f =
+    found c.self.inside.spots.items c.args.path c.args.row c.in-Some.number blank
+    (ap (λ es. find es c.args.path c.args.row) v ∙ sym c.find.ensures ∙ c.in-Some.is) in
     let w : c.in-Some.number < length c.self.inside.spots.items = f.0 in
     omega arith
 

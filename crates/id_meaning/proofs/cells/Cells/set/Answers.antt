@@ -6,7 +6,8 @@ use Rattle.id_meaning.proofs.cells.Cells.set.Goals as goal
 
 pub index_mut-requires : goal.index_mut-requires
 index_mut-requires c =
-    let f = found c.self.inside.spots.items c.args.path c.args.row c.args.number c.args.cell (ap (λ es. find es c.args.path c.args.row) c.self.view_is ∙ c.requires) in
+    let f =
+    found c.self.inside.spots.items c.args.path c.args.row c.args.number c.args.cell (ap (λ es. find es c.args.path c.args.row) c.self.view_is ∙ c.requires) in
     let w : c.args.number < length c.self.inside.spots.items = f.0 in
     omega arith
 
@@ -17,5 +18,6 @@ invariant_of-self c =
 
 pub returns : goal.returns
 returns c =
-    let f = found c.self.inside.spots.items c.args.path c.args.row c.args.number c.args.cell (ap (λ es. find es c.args.path c.args.row) c.self.view_is ∙ c.requires) in
+    let f =
+    found c.self.inside.spots.items c.args.path c.args.row c.args.number c.args.cell (ap (λ es. find es c.args.path c.args.row) c.self.view_is ∙ c.requires) in
     sym f.3 ∙ ap (λ es. put es c.args.path c.args.row c.args.cell) c.self.view_is

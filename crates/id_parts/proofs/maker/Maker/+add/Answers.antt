@@ -1,32 +1,61 @@
-use Rattle.std.proofs.Common.{refl, ap, sym, ◌∙◌, arith}
+use Rattle.std.proofs.Common.{◌+◌, refl, sym, ap, ◌∙◌, drop, arith}
 use Rattle.std.proofs.lemmas.Result.{on_ok_weaker}
-use Rattle.id_tree.specs.Tree.{call, block, tree_of}
-use Rattle.id_parts.specs.Rows.{add}
-use Rattle.id_parts.specs.Making.{exprs_tree, parts, stmts_tree}
-use Rattle.id_parts.proofs.MakingLemmas.{binding_parts, call_parts, named, tree_of-block, tree_of-call}
+use Rattle.id_tree.specs.Tree.{tree_of}
+use Rattle.id_parts.specs.Rows.{add_nexts}
+use Rattle.id_parts.specs.Making.{parts, stmts_tree}
+use Rattle.id_parts.proofs.MakingLemmas.{binding_parts, binding_step, body_parts, call_parts, loop_parts}
+use Rattle.id_parts.proofs.MakingLemmas.{named, next_parts, next_step, of_block, of_call, of_loop}
+use Rattle.id_parts.proofs.maker.Maker.+add.Goals.{add_nexts-in-Binding+in_ok-add_binding-in-Binding, add_nexts-in-Next+in_ok-add_next-in-Next}
 use Rattle.id_parts.proofs.maker.Maker.+add.Goals as goal
 
 pub add_expr-returns-in-Block-clause-added : goal.add_expr-returns-in-Block-clause-added
 add_expr-returns-in-Block-clause-added t c =
-    let T = parts c.args.self.now in
-    let s = c.args.stand in
     let a = c.in-Block in
-    let b = c.deref-in-Block-2.result.now in
     on_ok_weaker c.add_block.result
-    (λ w. w ∙ ap (λ ss. add s T (block (stmts_tree ss) (tree_of b) a.place)) c.deref-in-Block.ensures.value
-    ∙ ap (λ e. add s T (block (stmts_tree a.statements.items) (tree_of e) a.place)) c.deref-in-Block-2.ensures
-    ∙ ap (add s T) (sym (tree_of-block a.statements a.body a.place)) ∙ ap (λ e. add s T (tree_of e)) (sym a.is))
+    (of_block c.args.stand (parts c.args.self.now) (parts c.add_block.new.self) c.args.expr.now a.statements a.body a.place c.deref-in-Block.result.now
+    c.deref-in-Block-2.result.now c.deref-in-Block.ensures.value c.deref-in-Block-2.ensures a.is)
     c.add_block.ensures.added
 
 pub add_expr-returns-in-Call-clause-added : goal.add_expr-returns-in-Call-clause-added
 add_expr-returns-in-Call-clause-added t c =
-    let T = parts c.args.self.now in
-    let s = c.args.stand in
     let a = c.in-Call in
     on_ok_weaker c.add_call.result
-    (λ w. w ∙ ap (λ es. add s T (call a.name (exprs_tree es) a.place)) c.deref-in-Call.ensures.value
-    ∙ ap (add s T) (sym (tree_of-call a.name a.args a.place)) ∙ ap (λ e. add s T (tree_of e)) (sym a.is))
+    (of_call c.args.stand (parts c.args.self.now) (parts c.add_call.new.self) c.args.expr.now a.name a.args a.place c.deref-in-Call.result.now
+    c.deref-in-Call.ensures.value a.is)
     c.add_call.ensures.added
+
+pub add_expr-returns-in-Loop-clause-added : goal.add_expr-returns-in-Loop-clause-added
+add_expr-returns-in-Loop-clause-added t c =
+    let a = c.in-Loop in
+    on_ok_weaker c.add_loop.result
+    (of_loop c.args.stand (parts c.args.self.now) (parts c.add_loop.new.self) c.args.expr.now a.test a.statements a.last a.place
+    c.deref-in-Loop-2.result.now c.deref-in-Loop.result.now c.deref-in-Loop-3.result.now c.deref-in-Loop-2.ensures c.deref-in-Loop.ensures.value
+    c.deref-in-Loop-3.ensures a.is)
+    c.add_loop.ensures.added
+
+pub add_nexts-loop-statement-preserved : goal.add_nexts-loop-statement-preserved
+add_nexts-loop-statement-preserved t c =
+    let s = c.args.stand in
+    let T = parts c.loop-statement.self in
+    let V = add_nexts s 0 (parts c.args.self.now) (stmts_tree c.args.statements.now) in
+    let xs = c.args.statements.now in
+    let k = c.loop-statement.index in
+    let i = c.loop-statement.statement-index in
+    let d = c.statement-item.result in
+    elim c.match-statement.branch [
+      | add_nexts-in-Binding+in_ok-add_binding-in-Binding w ↦ record {
+        counted = omega (arith, c.loop-statement.invariant.counted, w.index-is);
+        rest = ap (λ n. add_nexts s n (parts c.match-statement.self) (stmts_tree (drop (i + 1) xs))) w.index-is
+            ∙ binding_step s k i T (parts c.match-statement.self) V xs w.in-Binding.name w.in-Binding.value w.in-Binding.place d c.loop-statement-test.true
+            (sym c.statement-item.is ∙ w.in-Binding.is) (ap parts w.self-is ∙ w.in_ok-add_binding-in-Binding.ensures) c.loop-statement.invariant.rest;
+      }
+      | add_nexts-in-Next+in_ok-add_next-in-Next w ↦ record {
+        counted = omega (arith, c.loop-statement.invariant.counted, w.index-is);
+        rest = ap (λ n. add_nexts s n (parts c.match-statement.self) (stmts_tree (drop (i + 1) xs))) w.index-is
+            ∙ next_step s k i T (parts c.match-statement.self) V xs w.in-Next.name w.in-Next.value w.in-Next.place d c.loop-statement-test.true
+            (sym c.statement-item.is ∙ w.in-Next.is) (ap parts w.self-is ∙ w.in_ok-add_next-in-Next.ensures) c.loop-statement.invariant.rest;
+      }
+    ]
 
 pub add_call-returns-clause-added : goal.add_call-returns-clause-added
 add_call-returns-clause-added t c =
@@ -47,3 +76,36 @@ add_binding-returns t c =
     c.args.place c.len-first.result c.in_ok-name.name c.in_ok-value.value (omega arith) c.in_ok-value.ensures.added c.in_ok-value.ensures.number
     c.in_ok-name.ensures.number (named U (parts c.number.new.self) c.args.name.now
     (ap (λ v. v.items) c.in_ok-name.ensures.rows) c.in_ok-name.ensures.names) c.in_ok-push.ensures.added
+
+pub add_loop-returns-clause-added : goal.add_loop-returns-clause-added
+add_loop-returns-clause-added t c =
+    let T = parts c.args.self.now in
+    let E = parts c.begin_loop.new.self in
+    let U = parts c.add_expr.new.self in
+    let W = parts c.push.new.self in
+    let B = parts c.push-2.new.self in
+    let N = parts c.add_nexts.new.self in
+    let D = parts c.push-3.new.self in
+    let L = parts c.add_expr-2.new.self in
+    let Z = parts c.push-4.new.self in
+    let body = body_parts c.in_arm-body.result W B N D (stmts_tree c.args.statements.now) c.args.place c.len-turned.result c.len-begun.result
+    (omega arith) c.in_ok-push.ensures.added (omega arith) c.in_ok-add_nexts.ensures c.in_ok-push-2.ensures.added in
+    on_ok_weaker c.push-5.result
+    (λ w. loop_parts c.args.stand c.stand_in-inside.result c.in_arm-body.result c.in_arm-behind.result T E U W D L Z (parts c.push-5.new.self)
+    (tree_of c.args.test.now) (stmts_tree c.args.statements.now) (tree_of c.args.last.now) c.args.place c.len-start.result c.in_ok-head.head
+    c.len-entered.result c.in_ok-test.test c.in_ok-switches.switches c.len-closed.result c.in_ok-last.last
+    (omega arith) c.in_ok-head.ensures.added (omega (arith, c.in_ok-head.ensures.number)) c.stand_in-inside.ensures (omega arith)
+    c.in_ok-test.ensures.added c.in_ok-test.ensures.number c.in_ok-switches.ensures.added c.in_ok-switches.ensures.number c.in_arm-body.ensures
+    body c.in_arm-behind.ensures (omega arith) c.in_ok-last.ensures.added c.in_ok-last.ensures.number c.in_ok-push-3.ensures.added w)
+    c.push-5.ensures.added
+
+pub add_next-returns : goal.add_next-returns
+add_next-returns t c =
+    let T = parts c.args.self.now in
+    let N = parts c.number.new.self in
+    let E = parts c.push.new.self in
+    let U = parts c.add_expr.new.self in
+    next_parts c.args.stand T N E U (parts c.push-2.new.self) c.args.name.now (tree_of c.args.expr.now)
+    c.args.place c.len-outer.result c.in_ok-name.name c.args.index c.in_ok-value.value (omega arith) c.in_ok-name.ensures.number
+    (named T N c.args.name.now (ap (λ v. v.items) c.in_ok-name.ensures.rows) c.in_ok-name.ensures.names) c.in_ok-push.ensures.added
+    c.in_ok-value.ensures.added c.in_ok-value.ensures.number c.in_ok-push-2.ensures.added

@@ -1,6 +1,6 @@
-use Rattle.std.proofs.Common.{◌≡◌, ◌+◌, ◌*◌, drop, max}
+use Rattle.std.proofs.Common.{◌≡◌, ◌≤◌, ◌+◌, ◌*◌, drop, max}
 use Rattle.id_tree.proofs.tree.Expr.TheLaws.{the_size}
-use Rattle.id_parts.specs.Rows.{add, add_arguments}
+use Rattle.id_parts.specs.Rows.{add, add_arguments, add_nexts}
 use Rattle.id_parts.specs.Making.{exprs_tree, parts, stmts_tree}
 use Rattle.id_parts.proofs.maker.Maker.+add.Given as goal
 
@@ -44,3 +44,19 @@ decreases-add_binding l = 4 * goal.size-add_binding l + 1
 
 abbrev pub decreases-add_statements : goal.decreases-add_statements
 decreases-add_statements l = 4 * goal.size-add_statements l
+
+abbrev pub decreases-add_loop : goal.decreases-add_loop
+decreases-add_loop l = 4 * max (goal.size-add_loop l) (max (the_size l.test.now) (the_size l.last.now)) + 1
+
+abbrev pub decreases-add_nexts : goal.decreases-add_nexts
+decreases-add_nexts l = 4 * goal.size-add_nexts l
+
+abbrev pub decreases-add_next : goal.decreases-add_next
+decreases-add_next l = 4 * goal.size-add_next l + 1
+
+abbrev pub invariant-add_nexts-loop-statement : goal.invariant-add_nexts-loop-statement
+invariant-add_nexts-loop-statement l = record {
+  counted : l.index ≤ l.statement-index;
+  rest : add_nexts l.stand l.index (parts l.self) (stmts_tree (drop l.statement-index l.statements))
+      ≡ add_nexts l.stand 0 (parts l.initial.self) (stmts_tree l.statements);
+}

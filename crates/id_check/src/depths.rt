@@ -1,0 +1,35 @@
+//! How many loops are round each row.
+
+ghost use Rattle.std.specs.Prelude.{◌≡◌, ◌<◌, length, IfOk};
+ghost use Rattle.id_parts.specs.Loops.{depth};
+ghost use Rattle.id_check.specs.Depths.{AreDepths, AreInBlocks};
+
+use id_parts::{Node, Row};
+use std::alloc::{AllocError, Global};
+
+/// How many loops of its procedure each row is in.
+pub fn find_depths(alloc: Global, rows: &[Row]) -> Result<Vec<usize>, AllocError>
+    requires { AreInBlocks rows.now }
+    ensures { IfOk result (λ v. AreDepths rows.now (length rows.now) v.items) }
+{
+    let mut depths = Vec::new(alloc);
+    for i in 0..rows.len() {
+        let depth = depth_of(rows, depths.as_slice(), i);
+        depths.push(depth)?;
+    }
+    Ok(depths)
+}
+
+/// How many loops the row is in, where the depths of the rows before it are known: one more than the `Start` of the
+/// innermost one is, if there is one. Takes no memory.
+fn depth_of(rows: &[Row], depths: &[usize], i: usize) -> usize
+    requires blocks { AreInBlocks rows.now }
+    requires row { i < length rows.now }
+    requires depths { AreDepths rows.now i depths.now }
+    ensures { result ≡ depth rows.now i }
+{
+    match rows[rows[i].block].node {
+        Node::LoopHead { start } => depths[start] + 1,
+        _ => 0,
+    }
+}

@@ -1,0 +1,49 @@
+-- A row gets its imports.
+use Rattle.std.proofs.Common.{◌≡◌, ℕ, false, refl, ap, sym, ◌∙◌, arith}
+use Rattle.id_parts.specs.declared.row.Row.{Row}
+use Rattle.id_parts.specs.declared.row.Node.{Node}
+use Rattle.id_parts.specs.declared.row.Node.TheVariants.{LoopHead, Switches}
+use Rattle.id_parts.specs.Tables.{is_switches}
+use Rattle.id_desugar.specs.Regions.{is_loop_head}
+use Rattle.id_desugar.proofs.FilledLemmas.{AreTurned-same, AreTurned-set, loop_imports}
+use Rattle.id_desugar.proofs.OwnLemmas.{switches_head}
+use Rattle.id_desugar.proofs.imports.turn.Goals as goal
+
+pub returns-in_ok-list-in-LoopHead-clause-lists : goal.returns-in_ok-list-in-LoopHead-clause-lists
+returns-in_ok-list-in-LoopHead-clause-lists c =
+    let P = c.args.checked.now in
+    let node = ap (λ (r : Row). r.node) (sym c.row_at-this.ensures) ∙ c.in-LoopHead.is in
+    AreTurned-set P c.args.row c.args.lists.now.items c.new.result c.requires.lists c.requires.within
+    (c.new.ensures ∙ c.in_ok-list-in-LoopHead.ensures.list ∙ loop_imports P c.args.row c.in-LoopHead.start node)
+
+pub returns-in_ok-list-in-Switches-clause-lists : goal.returns-in_ok-list-in-Switches-clause-lists
+returns-in_ok-list-in-Switches-clause-lists c =
+    AreTurned-set c.args.checked.now c.args.row c.args.lists.now.items c.new-in-Switches.result c.requires.lists c.requires.within
+    (c.new-in-Switches.ensures ∙ c.in_ok-list-in-Switches.ensures)
+
+pub handed_on-requires-clause-low : goal.handed_on-requires-clause-low
+handed_on-requires-clause-low c =
+    let node = ap (λ (r : Row). r.node) (sym c.row_at-this.ensures) ∙ c.in-Switches.is in
+    let w = switches_head c.args.checked.now c.args.row c.requires.within (ap is_switches node) in
+    let block = ap (λ (r : Row). r.block) c.row_at-this.ensures in
+    omega (arith, w.0, block)
+
+no_head : (n : Node) → ((s : ℕ) → n ≡ LoopHead s → ⊥) → is_loop_head n ≡ false
+no_head (LoopHead s) f = absurd (f s refl)
+no_head _ f = refl
+
+no_switches : (n : Node) → ((t : ℕ) → n ≡ Switches t → ⊥) → is_switches n ≡ false
+no_switches (Switches t) f = absurd (f t refl)
+no_switches _ f = refl
+
+pub returns-in_default : goal.returns-in_default
+returns-in_default c =
+    let P = c.args.checked.now in
+    let node = ap (λ (r : Row). r.node) c.row_at-this.ensures in
+    record {
+      lists = AreTurned-same P c.args.row c.args.lists.now.items c.requires.lists (sym (ap is_loop_head node)
+          ∙ no_head c.row_at-this.result.node c.in_default.not-LoopHead)
+          (sym (ap is_switches node) ∙ no_switches c.row_at-this.result.node c.in_default.not-Switches);
+      long = refl;
+      marks = λ b. let low = c.requires.marks b in omega (arith, low);
+    }

@@ -1,0 +1,126 @@
+//! The order in which rows are made into instructions (docs/GRAPH.md, "Schemas").
+
+ghost use Rattle.std.specs.Prelude.{◌≡◌, ◌<◌, ◌≤◌, ◌+◌, ◌++◌, length, IfOk, OnOk};
+ghost use Rattle.id_check.specs.Programs.{rows};
+ghost use Rattle.id_desugar.specs.Gathering.{AreChains};
+ghost use Rattle.id_desugar.specs.Regions.{in_block, in_procedure, loops_by, order_of, those};
+
+use crate::access::{is_loop_head, row_at};
+use crate::ends::nothing;
+use id_check::Checked;
+use std::alloc::{AllocError, Global};
+
+/// The rows of each block, as chains.
+#[derive(Drop)]
+struct Chains {
+    /// By head, the first row of its block.
+    firsts: Vec<Option<usize>>,
+    /// For each row the next of its block.
+    nexts: Vec<Option<usize>>,
+}
+
+/// The order in which the rows are made: the last, then those of procedures, then those of each loop's block.
+pub fn order_of(alloc: Global, checked: &Checked) -> Result<Vec<usize>, AllocError>
+    ensures { IfOk result (λ v. v.items ≡ order_of checked.now) }
+{
+    let mut order = Vec::new(alloc);
+    let count = checked.table.rows.len();
+    if count > 0 {
+        order.push(count - 1)?;
+        push_procedures(checked, &mut order, count - 1)?;
+        push_loops(alloc, checked, &mut order, count - 1)?;
+    }
+    Ok(order)
+}
+
+/// Those of the first `last` rows that stand in blocks of procedures.
+fn push_procedures(checked: &Checked, order: &mut Vec<usize>, last: usize) -> Result<(), AllocError>
+    ensures { OnOk result (order.new.items ≡ order.old.items ++ those (in_procedure checked.now) last) }
+{
+    for row in 0..last {
+        if is_in_procedure(checked, row) {
+            order.push(row)?;
+        }
+    }
+    Ok(())
+}
+
+/// Whether a row stands in the block of a procedure.
+fn is_in_procedure(checked: &Checked, row: usize) -> bool
+    ensures { result ≡ in_procedure checked.now row }
+{
+    !is_loop_head(row_at(checked, row_at(checked, row).block).node)
+}
+
+/// Those of the first `last` rows that stand in blocks of loops, block by block.
+fn push_loops(
+    alloc: Global,
+    checked: &Checked,
+    order: &mut Vec<usize>,
+    last: usize,
+) -> Result<(), AllocError>
+    requires last { last + 1 ≡ length (rows checked.now) }
+    ensures { OnOk result (order.new.items ≡ order.old.items ++ loops_by checked.now last last) }
+{
+    let chains = find_chains(alloc, checked, last)?;
+    for head in 0..last {
+        if is_loop_head(row_at(checked, head).node) {
+            push_block(checked, &chains, order, last, head)?;
+        }
+    }
+    Ok(())
+}
+
+/// Those that stand in the block with this head.
+fn push_block(
+    checked: &Checked,
+    chains: &Chains,
+    order: &mut Vec<usize>,
+    last: usize,
+    head: usize,
+) -> Result<(), AllocError>
+    requires last { last + 1 ≡ length (rows checked.now) }
+    requires head { head < last }
+    requires chains { AreChains checked.now 0 last chains.now.firsts.items chains.now.nexts.items }
+    ensures { OnOk result (order.new.items ≡ order.old.items ++ those (in_block checked.now head) last) }
+{
+    let _ = checked;
+    let _ = last;
+    let mut at = chains.firsts[head];
+    while let Some(row) = at {
+        order.push(row)?;
+        at = chains.nexts[row];
+    }
+    Ok(())
+}
+
+/// The chains of the first `last` rows.
+fn find_chains(alloc: Global, checked: &Checked, last: usize) -> Result<Chains, AllocError>
+    requires last { last + 1 ≡ length (rows checked.now) }
+    ensures { IfOk result (λ c. AreChains checked.now 0 last c.firsts.items c.nexts.items) }
+{
+    let count = checked.table.rows.len();
+    let mut chains = Chains {
+        firsts: nothing(alloc, count)?,
+        nexts: nothing(alloc, count)?,
+    };
+    let mut row = last;
+    while row > 0 {
+        row -= 1;
+        link(checked, &mut chains, last, row);
+    }
+    Ok(chains)
+}
+
+/// Puts a row at the beginning of the chain of its block. Takes no memory.
+fn link(checked: &Checked, chains: &mut Chains, last: usize, row: usize)
+    requires last { last + 1 ≡ length (rows checked.now) }
+    requires row { row < last }
+    requires chains { AreChains checked.now (row + 1) last chains.old.firsts.items chains.old.nexts.items }
+    ensures { AreChains checked.now row last chains.new.firsts.items chains.new.nexts.items }
+{
+    let _ = last;
+    let block = row_at(checked, row).block;
+    chains.nexts[row] = chains.firsts[block];
+    chains.firsts[block] = Some(row);
+}
