@@ -92,7 +92,7 @@ Fits F _ = Unit {0}
 abbrev pub EntriesFit : Checked → List ℕ → Type 0
 EntriesFit P F =
     (h s : ℕ) → h < length (rows P) → node P h ≡ LoopHead s →
-      number_by F (entries_row P h) (length (imports_of P h)) ≤ 2 ^ 32
+    number_by F (entries_row P h) (length (imports_of P h)) ≤ 2 ^ 32
 
 -- the arc goes between two of these instructions
 abbrev pub IsFrom : List Piece → Arc → Type 0

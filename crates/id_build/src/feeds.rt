@@ -217,7 +217,7 @@ fn push_loop_head(
     requires within { n < length (programs.rows checked.now) }
     ensures list { OnOk result (arcs.new.list.items
         ≡ arcs.old.list.items
-            ++ arc_of arcs.old.firsts.items n (rows.feed (rows.output (rows.turn_row checked.now n)) 0 Zero)
+        ++ arc_of arcs.old.firsts.items n (rows.feed (rows.output (rows.turn_row checked.now n)) 0 Zero)
         ∷ arc_of arcs.old.firsts.items n (rows.feed (rows.output (end_of checked.now n - 1)) 1 One) ∷ []) }
     ensures firsts { arcs.new.firsts.items ≡ arcs.old.firsts.items }
     ensures memory { IfErr result (λ e. e ≡ BuildError.Memory) }
@@ -269,7 +269,7 @@ fn push_turn(
     requires slots { AreSlots checked.now slots.now }
     ensures list { OnOk result (arcs.new.list.items ≡ arcs.old.list.items ++ map (arc_of arcs.old.firsts.items n)
         (rows.feed (rows.trigger_of region) 0 Zero
-            ∷ turn_feeds checked.now region 1 (regions.imports_of checked.now head))) }
+        ∷ turn_feeds checked.now region 1 (regions.imports_of checked.now head))) }
     ensures firsts { arcs.new.firsts.items ≡ arcs.old.firsts.items }
     ensures memory { IfErr result (λ e. e ≡ BuildError.Memory) }
 {

@@ -81,7 +81,6 @@ given_as P h k q at = by (slot_at P (h + 1) (length (rows P)) (entries_row P h) 
         as_first w (variable_within P w variable) (variable_is (node P w) variable) (omega (arith, here)) (omega (arith, here, less)) here entry first
     by (past_nexts j less here entry there) = as_import j less here entry there
 
-
 -- no two entries of a loop are one part of one row
 pub one_entry : (P : Checked) (h h' k k' : ℕ) (q q' : Entry) → slice_get (loop_entries P h) k ≡ Some q → slice_get (loop_entries P h') k' ≡ Some q' → h ≡ h'
     → q.row ≡ q'.row → q.part ≡ q'.part → k ≡ k'

@@ -11,7 +11,7 @@ use Rattle.id_match.specs.declared.Half.{Half}
 -- what waits as the pair of its port and its value
 abbrev pub coded_half : Coded Half
 coded_half = code_by (Port × Value) (coded× coded_port coded_value) (λ h. (h.port, h.value))
-  (λ p. record { port = p.0; value = p.1 }) (λ _. refl)
+    (λ p. record { port = p.0; value = p.1 }) (λ _. refl)
 
 -- a store as its entries
 abbrev pub coded_store : Coded (map.FinMap tag_cmp Half)
