@@ -166,7 +166,8 @@ fn blocks(
 ) -> Result<Vec<Block>, BuildError>
     requires columns { AreColumns checked.now columns }
     requires fit { EntriesFit checked.now firsts.now }
-    ensures blocks { IfOk result (λ v. v.items ≡ map (block_of checked.now (number_by firsts.now)) (all_heads checked.now)) }
+    ensures blocks { IfOk result (λ v. v.items
+        ≡ map (block_of checked.now (number_by firsts.now)) (all_heads checked.now)) }
     ensures memory { IfErr result (λ e. e ≡ BuildError.Memory) }
 {
     let mut blocks = Vec::new(alloc);

@@ -21,8 +21,8 @@ pub enum CheckCause {
         at: usize,
         first: usize,
     },
-    /// A name, of a value or of a procedure, without binder, or that of a `next` without one outside of its loop, at the
-    /// `next`: `def main(): int = x;`
+    /// A name, of a value or of a procedure, without binder, or that of a `next` without one outside of its loop,
+    /// at the `next`: `def main(): int = x;`
     Unknown {
         at: usize,
     },

@@ -31,7 +31,9 @@ pub struct Checked {
     pub ghost distinct: { Distinct (program_tree program) } by { Distinct-prop (program_tree program) },
     pub ghost is_main: { IsMain table.rows.items main } by { Prim.hlevel props },
     pub ghost bound: { AreBinders table.rows.items (column binders.items) } by { Prim.hlevel props },
-    pub ghost kinded: { AreKinds table.rows.items (column binders.items) (column kinds.items) } by { Prim.hlevel props },
+    pub ghost kinded: { AreKinds table.rows.items (column binders.items)
+        (column kinds.items) } by { Prim.hlevel props },
     pub ghost deep: { HasDepths table.rows.items depths.items } by { Prim.hlevel props },
-    pub ghost accepted: { causes table.rows.items (column binders.items) (column kinds.items) ≡ [] } by { Prim.hlevel props },
+    pub ghost accepted: { causes table.rows.items (column binders.items)
+        (column kinds.items) ≡ [] } by { Prim.hlevel props },
 }
