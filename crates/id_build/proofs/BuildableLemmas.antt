@@ -1,17 +1,15 @@
 -- A checked program is one that a graph can be built of.
-use Rattle.std.proofs.Common.{◌≡◌, ◌⊎◌, inl, inr, ℕ, zero, suc, ◌+◌, ◌-◌, ◌<◌, true, false, List, [], ◌∷◌, ◌++◌, length, map, refl, ap, sym, subst, ◌∙◌, arith}
-use Rattle.std.specs.Prelude.{slice_get}
+use Rattle.std.proofs.Common.{◌≡◌, inl, inr, ℕ, suc, ◌+◌, ◌-◌, ◌<◌, true, false, List, length, map, refl, ap, sym, subst, ◌∙◌, arith}
 use Rattle.std.proofs.lemmas.Bool.{false≢true}
-use Rattle.id_list.specs.List.{Among}
 use Rattle.id_list.proofs.AmongLemmas.{Among-either, Among-from_map}
 use Rattle.id_parts.specs.declared.row.Region.{Region}
 use Rattle.id_parts.specs.declared.row.Node.{Node}
 use Rattle.id_parts.specs.declared.row.Node.TheVariants.{Head, Literal, Name, Unary as UnaryNode, Binary as BinaryNode}
 use Rattle.id_parts.specs.declared.row.Node.TheVariants.{Split, If, Enter, Arg, Call, Block, Binding, Program}
 use Rattle.id_parts.specs.declared.row.Node.TheVariants.{Start, LoopHead, Variable, Entries, Switches, Turn, Next, Reset, Loop}
+use Rattle.id_parts.specs.declared.row.Node.TheVariants.{Array, Fetch, Address, Store}
 use Rattle.id_parts.specs.Rows.{arm_at, at, top}
-use Rattle.id_parts.specs.Tables.{HasNear, HasOperand, HasPart, begins_block, is_block, is_enter, is_expression}
-use Rattle.id_parts.specs.Loops.{IsLoopOf}
+use Rattle.id_parts.specs.Tables.{HasNear, HasOperand, HasPart, is_block, is_enter, is_expression}
 use Rattle.id_parts.specs.Regions.{IsIfOf}
 use Rattle.id_parts.specs.Turns.{IsDefOf}
 use Rattle.id_parts.proofs.RegionLemmas.{HasPart-operand}
@@ -21,7 +19,6 @@ use Rattle.id_check.proofs.ProgramsLemmas.{table_of}
 use Rattle.id_desugar.specs.Ends.{end_of, next_of}
 use Rattle.id_desugar.specs.Regions.{imports_of, nexts_of, order_of}
 use Rattle.id_graph.specs.declared.instr.Op.TheVariants.{Next as NextOp}
-use Rattle.id_build.specs.declared.arc.Origin.{Origin}
 use Rattle.id_build.specs.Rows.{block, body_of, entering, entries_row, first_binder, made_of, node, output, turn_row}
 use Rattle.id_build.proofs.CallsLemmas.{enter_of_arg}
 use Rattle.id_build.proofs.EndsLemmas.{HeadOf, body_region, end_is, of_arm, of_loop, of_procedure, of_side, region_of}
@@ -39,6 +36,8 @@ value_is (BinaryNode o a b) e f = tt
 value_is (If s x y) e f = tt
 value_is (Call s c) e f = tt
 value_is (Loop h w l) e f = tt
+value_is (Array a b) e f = tt
+value_is (Fetch a b) e f = tt
 value_is (Block b) e f = cc
 value_is _ e f = absurd (false≢true e)
 
@@ -92,6 +91,8 @@ FirstSends Start = Unit {0}
 FirstSends Turn = Unit {0}
 FirstSends (Next x k o v) = Unit {0}
 FirstSends (Reset v) = Unit {0}
+FirstSends (Fetch a b) = Unit {0}
+FirstSends (Address a b) = Unit {0}
 FirstSends _ = ⊥
 
 first_gives : (P : Checked) (m e : ℕ) (n : Node) → FirstSends n → Gives (made_of P m e n) 0 true
@@ -99,6 +100,8 @@ first_gives P m e Start h = record { piece = _; at = refl; gives = λ _. refl }
 first_gives P m e Turn h = record { piece = _; at = refl; gives = λ _. refl }
 first_gives P m e (Next x k o v) h = record { piece = _; at = refl; gives = λ _. refl }
 first_gives P m e (Reset v) h = record { piece = _; at = refl; gives = λ _. refl }
+first_gives P m e (Fetch a b) h = record { piece = _; at = refl; gives = λ _. refl }
+first_gives P m e (Address a b) h = record { piece = _; at = refl; gives = λ _. refl }
 first_gives P m e _ h = absurd h
 
 first_origin : (P : Checked) (m : ℕ) (n : Node) → m < length (rows P) → node P m ≡ n → FirstSends n → IsOrigin P (output m)
@@ -135,6 +138,13 @@ entering_seen P n l e b h =
           subst (IsSeen P (region P n)) (sym m.2) (first_seen P n m.0 l e m.1)
       | inr i ↦ loop_seen P (n + 1) n b z.0 z.1 i
     ]
+
+-- what a store names as its `Address` is one, and sends
+address_origin : (P : Checked) (n a v : ℕ) → n < length (rows P) → node P n ≡ Store a v → IsOrigin P (output a)
+address_origin P n a v l e =
+    let low = ((table_of P).formed.each n l).parts a (subst (λ z. HasPart z a) (sym e) (inl refl)) in
+    let z = (table_of P).address_of n a (record { value = v; within = l; node = e }) in
+    first_origin P a (Address z.target z.index) (omega (arith, low.1, l)) z.node tt
 
 suits : (P : Checked) (n : ℕ) (x : Node) → n < length (rows P) → node P n ≡ x → Suits P n (region P n) x
 suits P n Head l e = def_part P (end_of P n) n (end_is P (table_of P) n l e)
@@ -182,6 +192,14 @@ suits P n Turn l e = (
 )
 suits P n (Next x k o v) l e = operand P n v (Next x k o v) l e refl (inr refl)
 suits P n (Reset v) l e = operand P n v (Reset v) l e refl refl
+suits P n (Array a b) l e = (operand P n a (Array a b) l e (inl refl) (inl refl), operand P n b (Array a b) l e (inr refl) (inr refl))
+suits P n (Fetch a b) l e = (
+  operand P n a (Fetch a b) l e (inl refl) (inl refl),
+  operand P n b (Fetch a b) l e (inr refl) (inr refl),
+  first_origin P n (Fetch a b) l e tt,
+)
+suits P n (Address a b) l e = (operand P n a (Address a b) l e (inl refl) (inl refl), operand P n b (Address a b) l e (inr refl) (inr refl))
+suits P n (Store a v) l e = (address_origin P n a v l e, operand P n v (Store a v) l e refl (inr refl))
 suits P n _ l e = tt
 
 -- each loop has its entries

@@ -1,6 +1,6 @@
--- The entries that `send`s name have numbers that an instruction can have.
-use Rattle.std.proofs.Common.{◌≡◌, ◌^◌, inl, inr, ℕ, zero, suc, ◌+◌, ◌<◌, ◌≤◌, Bool, true, false, cond, eqb, List, [], ◌∷◌, ◌++◌, length, map, get_or}
-use Rattle.std.proofs.Common.{refl, ap, sym, subst, ◌∙◌, arith, Some, None, eq-eqb, length-append}
+-- The entries that `send`s name, and the replies of `fetch`es, have numbers that an instruction can have.
+use Rattle.std.proofs.Common.{◌≡◌, inl, inr, ℕ, zero, suc, ◌+◌, ◌<◌, ◌≤◌, Bool, true, false, cond, eqb, List, [], ◌∷◌, ◌++◌, length, map, get_or}
+use Rattle.std.proofs.Common.{refl, ap, sym, subst, ◌∙◌, arith, Some, eq-eqb, length-append}
 use Rattle.std.specs.Prelude.{All, slice_get}
 use Rattle.std.proofs.Math.ListN.{get_or-eq_default}
 use Rattle.std.proofs.lemmas.Bool.{cases_lt, eqb-true, false≢true}
@@ -11,29 +11,29 @@ use Rattle.id_parts.specs.declared.row.Row.{Row}
 use Rattle.id_parts.specs.declared.row.Node.{Node}
 use Rattle.id_parts.specs.declared.row.Node.TheVariants.{Head, Param, Literal, Name, Unary, Binary, Split, If, Enter, Arg, Call}
 use Rattle.id_parts.specs.declared.row.Node.TheVariants.{Block, Binding, Def, Program, Start, LoopHead, Variable, Entries, Switches}
-use Rattle.id_parts.specs.declared.row.Node.TheVariants.{Turn, NextUse, Next, Body, Reset, Loop}
-use Rattle.id_parts.specs.Rows.{at, no_row}
+use Rattle.id_parts.specs.declared.row.Node.TheVariants.{Turn, NextUse, Next, Body, Reset, Loop, Array, Fetch, Address, Store}
+use Rattle.id_parts.specs.Rows.{no_row}
 use Rattle.id_parts.specs.Tables.{is_param}
 use Rattle.id_check.specs.declared.checked.Checked.{Checked}
 use Rattle.id_check.specs.Programs.{place, rows}
-use Rattle.id_check.proofs.ProgramsLemmas.{table_of}
 use Rattle.id_desugar.specs.Regions.{imports_of, nexts_of}
 use Rattle.id_graph.specs.declared.instr.Op.{Op}
 use Rattle.id_graph.specs.declared.instr.PortKind.{PortKind}
 use Rattle.id_graph.specs.declared.instr.Op.TheVariants.{Merge, Switch, Next as NextOp}
 use Rattle.id_build.specs.declared.arc.Form.{Form}
-use Rattle.id_build.specs.declared.arc.Form.TheVariants.{Plain, EnterAt, SendTo}
+use Rattle.id_build.specs.declared.arc.Form.TheVariants.{Plain, EnterAt, SendTo, FetchAt}
 use Rattle.id_build.specs.declared.arc.Piece.{Piece}
 use Rattle.id_build.specs.Made.{AreFirsts, EntriesFit, Fits, first_in, number_by, pieces_in}
-use Rattle.id_build.specs.Rows.{block, called, entries_row, for_each, import_entries, made, made_of, node, param_at, param_of, send_to, variable_entries}
+use Rattle.id_build.specs.Rows.{block, called, entries_row, for_each, import_entries, made, made_of, node, param_at, send_to, variable_entries}
 use Rattle.id_build.proofs.LoopsLemmas.{entries_node, entries_stand, entries_within, start_head}
 use Rattle.id_build.proofs.NumberLemmas.{pieces_in-from}
 use Rattle.id_build.proofs.OrderLemmas.{IsOrder}
 use Rattle.id_build.proofs.SizeLemmas.{length-entries}
 
--- where the form is a `send`, its entry is a part of a row, or just behind
+-- where the form is a `send`, its entry is a part of a row, or just behind, and so is the reply of a `fetch`
 abbrev Sent : Checked → Form → Type 0
 Sent P (SendTo k n j) = (n < length (rows P)) × (j ≤ length (made P n))
+Sent P (FetchAt n) = (n < length (rows P)) × (2 ≤ length (made P n))
 Sent P _ = Unit {0}
 
 -- each of the pieces is so
@@ -114,6 +114,10 @@ each_made P n e (Next x k o v) l is = (tt, tt)
 each_made P n e Body l is = tt
 each_made P n e (Reset v) l is = (tt, tt)
 each_made P n e (Loop h w v) l is = (tt, tt)
+each_made P n e (Array a b) l is = (tt, tt)
+each_made P n e (Fetch a b) l is = (tt, ((l, omega (arith, ap (λ x. length (made_of P n (place P n) x)) is)), (tt, tt)))
+each_made P n e (Address a b) l is = (tt, tt)
+each_made P n e (Store a v) l is = (tt, tt)
 
 -- what stands just behind the instructions of a row has no greater number than there are
 first_in-most : (P : Checked) (order : List ℕ) (m n : ℕ) → Among n order → first_in P m order n + length (made P n) ≤ m + length (pieces_in P order)
@@ -138,10 +142,11 @@ module _ (P : Checked) (order F : List ℕ) (o : IsOrder P order) (fs : AreFirst
 
   sent_fits : (f : Form) → Sent P f → Fits F f
   sent_fits (SendTo k n j) s = let z = number_fits n j s.0 s.1 in omega (arith, z)
+  sent_fits (FetchAt n) s = let z = number_fits n 2 s.0 s.1 in omega (arith, z)
   sent_fits (Plain p) s = tt
   sent_fits (EnterAt h c) s = tt
 
-  -- each `send` names an entry so
+  -- each `send` names an entry so, and each `fetch` its reply
   pub pieces_fit : All (λ (p : Piece). Fits F p.form) (pieces_in P order)
   pieces_fit k d l =
       let p = get_or (pieces_in P order) k d in

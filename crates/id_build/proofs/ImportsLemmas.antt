@@ -1,6 +1,6 @@
 -- Which regions see what names mean: what conditionals and loops import.
-use Rattle.std.proofs.Common.{◌≡◌, ◌⊎◌, inl, inr, ℕ, zero, suc, ◌+◌, ◌-◌, ◌≤◌, ◌<◌, ◌==◌, ◌&&◌, ◌||◌, Bool as Truth, true, false, cond}
-use Rattle.std.proofs.Common.{nat_eq, nat_lt, nat_le, Option}
+use Rattle.std.proofs.Common.{◌≡◌, ◌⊎◌, inl, inr, ℕ, zero, suc, ◌+◌, ◌-◌, ◌≤◌, ◌<◌, ◌==◌, ◌&&◌, Bool as Truth, true, false, cond}
+use Rattle.std.proofs.Common.{nat_eq, Option}
 use Rattle.std.proofs.Common.{Some, None, List, [], ◌∷◌, ◌++◌, length, refl, sym, ◌∙◌, ap, subst, arith}
 use Rattle.std.specs.Prelude.{unwrap_or}
 use Rattle.std.proofs.lemmas.Bool.{cases_eq, cases_lt, eqb-true, false≢true}
@@ -11,14 +11,13 @@ use Rattle.id_list.proofs.AmongLemmas.{Among-left, Among-right, Among-either}
 use Rattle.id_parts.specs.declared.row.Region.{Region}
 use Rattle.id_parts.specs.declared.row.Row.{Row}
 use Rattle.id_parts.specs.declared.row.Node.{Node}
-use Rattle.id_parts.specs.declared.row.Node.TheVariants.{Head, Param, Name, Split, Block, Binding, Def, Program}
+use Rattle.id_parts.specs.declared.row.Node.TheVariants.{Param, Name, Split, Block, Binding, Def}
 use Rattle.id_parts.specs.declared.row.Node.TheVariants.{Start, LoopHead, Variable, Switches, Turn, NextUse, Next, Body, Loop}
 use Rattle.id_parts.specs.Rows.{arm_at, at, top}
-use Rattle.id_parts.specs.Tables.{HasNear, around, begins_block, has_statements, is_binder, is_binding, is_head, is_in_loop, is_param, is_split, is_switches}
-use Rattle.id_parts.specs.Tables.{is_top, is_variable}
+use Rattle.id_parts.specs.Tables.{HasNear, begins_block, has_statements, is_binder, is_binding, is_head, is_in_loop, is_param}
+use Rattle.id_parts.specs.Tables.{is_split, is_statement, is_switches, is_top, is_variable}
 use Rattle.id_parts.specs.Loops.{IsLoop, IsLoopOf, IsNextOf, StandsAt}
 use Rattle.id_parts.specs.Regions.{Lies, here, in_arm, in_loop, in_side, IsIfOf}
-use Rattle.id_parts.specs.Turns.{IsDefOf, IsStatement}
 use Rattle.id_parts.proofs.RegionLemmas.{InArm-either, InArm-lies, InArm-within, Lies-chain, Lies-split, Lies-trans}
 use Rattle.id_check.specs.declared.checked.Checked.{Checked}
 use Rattle.id_check.specs.Programs.{Stands, binder, region, rows}
@@ -28,10 +27,10 @@ use Rattle.id_check.proofs.ProgramsLemmas.{bound_name_row, bound_use_row, next_u
 use Rattle.id_desugar.specs.Ends.{end_of, next_of}
 use Rattle.id_desugar.specs.Regions.{is_outside, has, used, used_by, with_use, imports_by, imports_of, handed, is_right_in, nexts_from, nexts_of, taken}
 use Rattle.id_build.specs.Rows.{block, first_binder, label, label_by, node, outer_at}
-use Rattle.id_build.proofs.EndsLemmas.{if_is, loop_same, not_last}
+use Rattle.id_build.proofs.EndsLemmas.{if_is}
 use Rattle.id_build.proofs.LoopsLemmas.{loop_rows, next_is, start_head, the_loop}
 use Rattle.id_build.proofs.NamesSeen.{Sees, own, handed as sees_handed, entered as sees_entered, of_arms, of_turns}
-use Rattle.id_build.proofs.RegionsLemmas.{T, head_before, head_low, heads_rise, in_rows, inner, split_is, start_is, start_region, step_arm}
+use Rattle.id_build.proofs.RegionsLemmas.{T, head_before, head_low, heads_rise, in_rows, inner, split_is, start_is, step_arm}
 use Rattle.id_build.proofs.RegionsLemmas.{step_side, step_top, switches_head, switches_is, switches_of, switches_top, top_rows}
 use Rattle.id_build.proofs.RowLemmas.{IsNamed, IsSeen, is_label}
 
@@ -352,7 +351,8 @@ module _ (P : Checked) where
           let s = v.0 in
           let y = v.1 in
           let has = takes_statements (node P s) z a (sym (ap (takes (node P s)) at_b) ∙ y.taken) in
-          let st = (T P).statement_stands s b y.within (record { block = has; binding = ap is_binding at_b; inside = y.inside; right = sym (held_binding (rows P) b s z a at_b) ∙ y.bare }) in
+          let bare = sym (held_binding (rows P) b s z a at_b) ∙ y.bare in
+          let st = (T P).statement_stands s b y.within (record { block = has; statement = ap is_statement at_b; inside = y.inside; right = bare }) in
           let top_s : region P s ≡ top (block P w) = sym st.1 ∙ same ∙ switches_top P w t within is in
           let c = switches_of P w t within is in
           let rows_are = (T P).loop_is c.0 (block P w) c.1 in

@@ -1,5 +1,5 @@
 -- The rows of a loop as the builder names them: its entries, its switches and what hands on.
-use Rattle.std.proofs.Common.{◌≡◌, ◌⊎◌, inl, inr, ℕ, zero, suc, ◌+◌, ◌-◌, ◌^◌, ◌<◌, ◌≤◌, Bool as Truth, true, false, cond, List, [], ◌∷◌, ◌++◌, Option, Some, None, length, take, refl}
+use Rattle.std.proofs.Common.{◌≡◌, inl, inr, ℕ, zero, suc, ◌+◌, ◌-◌, ◌^◌, ◌<◌, ◌≤◌, Bool as Truth, true, false, cond, List, [], ◌∷◌, ◌++◌, Option, Some, None, length, take, refl}
 use Rattle.std.proofs.Common.{sym, ◌∙◌, ap, subst, arith}
 use Rattle.std.specs.Prelude.{unwrap_or}
 use Rattle.std.proofs.Math.ListN.{get_or-eq_default}
@@ -7,7 +7,7 @@ use Rattle.std.proofs.lemmas.Bool.{cases_lt, eqb-true, false≢true}
 use Rattle.id_parts.specs.declared.row.Node.{Node}
 use Rattle.id_parts.specs.declared.row.Node.TheVariants.{Head, LoopHead, Variable, Entries, Next, Reset, Start, Switches, Turn, Loop}
 use Rattle.id_parts.specs.declared.row.Row.{Row}
-use Rattle.id_parts.specs.Rows.{at, no_row, top}
+use Rattle.id_parts.specs.Rows.{no_row, top}
 use Rattle.id_parts.specs.Tables.{HasPart, is_variable}
 use Rattle.id_parts.specs.Loops.{IsLoop, IsLoopOf}
 use Rattle.id_check.specs.declared.checked.Checked.{Checked}
@@ -16,7 +16,7 @@ use Rattle.id_check.proofs.ProgramsLemmas.{table_of}
 use Rattle.id_desugar.specs.Ends.{end_of, is_row, next_of, variable_of}
 use Rattle.id_desugar.specs.Regions.{imports_of, is_loop_head, nexts_from, nexts_of, taken, handed}
 use Rattle.id_build.specs.Rows.{block, entries_row, node, switches_at, turn_row}
-use Rattle.id_build.proofs.EndsLemmas.{first_answers, itself_eq, loop_is, loop_same, some_answer, tested}
+use Rattle.id_build.proofs.EndsLemmas.{first_answers, itself_eq, loop_is, some_answer, tested}
 
 -- what passes for the head of a loop is one
 pub loop_head_is : (m : Node) → is_loop_head m ≡ true → (s : ℕ) × (m ≡ LoopHead s)

@@ -6,13 +6,11 @@ use Rattle.std.proofs.lemmas.Bool.{eqb-true}
 use Rattle.std.proofs.lemmas.Bool.Decides.{nat_tests}
 use Rattle.id_list.specs.List.{Among}
 use Rattle.id_parts.specs.declared.row.Region.{Region}
-use Rattle.id_parts.specs.declared.row.Node.{Node}
 use Rattle.id_parts.specs.declared.row.Node.TheVariants.{LoopHead, Split, Switches}
 use Rattle.id_parts.specs.Rows.{arm_at, top}
 use Rattle.id_check.specs.declared.checked.Checked.{Checked}
 use Rattle.id_check.specs.Programs.{region, rows}
 use Rattle.id_desugar.specs.Regions.{imports_of}
-use Rattle.id_build.specs.declared.arc.Origin.{Origin}
 use Rattle.id_build.specs.Rows.{entries_row, handed_by, label, name_in, node, output, same_region, slot_of}
 
 -- switches for the predicate t stand at the row n: those of a conditional, or of a loop

@@ -1,5 +1,5 @@
 -- What each row makes and is fed by: by cases on the row.
-use Rattle.std.proofs.Common.{◌≡◌, inl, inr, ℕ, zero, suc, ◌+◌, ◌-◌, ◌≤◌, ◌<◌, Bool, true, false, List, [], ◌∷◌, ◌++◌, length, map, get_or}
+use Rattle.std.proofs.Common.{◌≡◌, inl, inr, ℕ, zero, suc, ◌+◌, ◌-◌, ◌≤◌, ◌<◌, Bool, true, false, List, [], ◌∷◌, length, map}
 use Rattle.std.proofs.Common.{refl, ap, sym, subst, ◌∙◌, arith, Some, length-append}
 use Rattle.std.specs.Prelude.{slice_get, IsSome}
 use Rattle.std.proofs.lemmas.Bool.{false≢true}
@@ -10,7 +10,7 @@ use Rattle.id_parts.specs.declared.row.Node.{Node}
 use Rattle.id_parts.specs.declared.row.Node.TheVariants.{Head, Param, Literal, Name, Unary as UnaryNode, Binary as BinaryNode}
 use Rattle.id_parts.specs.declared.row.Node.TheVariants.{Split, If, Enter, Arg, Call, Block, Binding, Def, Program}
 use Rattle.id_parts.specs.declared.row.Node.TheVariants.{Start, LoopHead, Variable, Entries, Switches, Turn, NextUse}
-use Rattle.id_parts.specs.declared.row.Node.TheVariants.{Next, Body, Reset, Loop}
+use Rattle.id_parts.specs.declared.row.Node.TheVariants.{Next, Body, Reset, Loop, Array, Fetch, Address, Store}
 use Rattle.id_parts.specs.Rows.{arm_at, at, top}
 use Rattle.id_parts.specs.Tables.{is_enter}
 use Rattle.id_check.specs.declared.checked.Checked.{Checked}
@@ -24,14 +24,13 @@ use Rattle.id_graph.specs.declared.instr.Op.TheVariants.{Merge, Switch, Next as 
 use Rattle.id_graph.specs.declared.instr.PortKind.{PortKind}
 use Rattle.id_graph.specs.declared.dests.Port.{Port}
 use Rattle.id_graph.specs.declared.dests.Port.TheVariants.{Zero, One}
-use Rattle.id_build.specs.declared.arc.Form.{Form}
 use Rattle.id_build.specs.declared.arc.Form.TheVariants.{Plain}
 use Rattle.id_build.specs.declared.arc.Origin.{Origin}
 use Rattle.id_build.specs.declared.arc.Feed.{Feed}
 use Rattle.id_build.specs.declared.arc.Piece.{Piece}
 use Rattle.id_build.specs.Rows.{Entry, block, body_of, entering, entries_row, entry_feeds, feed, feeds_of, first_binder, for_each}
 use Rattle.id_build.specs.Rows.{import_entries, import_feeds, label, loop_entries, made, made_of, name_in, named_in, node, op_by}
-use Rattle.id_build.specs.Rows.{origin, origin_of, output, piece, send_to, switches, trigger_of, turn_feeds, turn_row, variable_entries}
+use Rattle.id_build.specs.Rows.{origin, origin_of, output, piece, reply, send_to, switches, trigger_of, turn_feeds, turn_row, variable_entries}
 use Rattle.id_build.specs.Schemas.{HasSide}
 use Rattle.id_build.proofs.NamesSeen.{Comes, HasSwitches, Sees, comes, from_entry, from_label, from_switch, of_arms, of_turns}
 
@@ -251,6 +250,37 @@ feeds_take P m e r (Reset v) f (inl i) =
     subst Z (sym i) (record { piece = _; at = refl; takes = λ _. refl })
 feeds_take P m e r (Reset v) f (inr h) = absurd h
 feeds_take P m e r (Loop g w l) f h = absurd h
+feeds_take P m e r (Array a b) f (inl i) =
+    let Z : Feed → Type 0 = λ g. Takes (made_of P m e (Array a b)) g.part g.port in
+    subst Z (sym i) (record { piece = _; at = refl; takes = λ _. refl })
+feeds_take P m e r (Array a b) f (inr (inl i)) =
+    let Z : Feed → Type 0 = λ g. Takes (made_of P m e (Array a b)) g.part g.port in
+    subst Z (sym i) (record { piece = _; at = refl; takes = λ _. refl })
+feeds_take P m e r (Array a b) f (inr (inr h)) = absurd h
+feeds_take P m e r (Fetch a b) f (inl i) =
+    let Z : Feed → Type 0 = λ g. Takes (made_of P m e (Fetch a b)) g.part g.port in
+    subst Z (sym i) (record { piece = _; at = refl; takes = λ _. refl })
+feeds_take P m e r (Fetch a b) f (inr (inl i)) =
+    let Z : Feed → Type 0 = λ g. Takes (made_of P m e (Fetch a b)) g.part g.port in
+    subst Z (sym i) (record { piece = _; at = refl; takes = λ _. refl })
+feeds_take P m e r (Fetch a b) f (inr (inr (inl i))) =
+    let Z : Feed → Type 0 = λ g. Takes (made_of P m e (Fetch a b)) g.part g.port in
+    subst Z (sym i) (record { piece = _; at = refl; takes = λ _. refl })
+feeds_take P m e r (Fetch a b) f (inr (inr (inr h))) = absurd h
+feeds_take P m e r (Address a b) f (inl i) =
+    let Z : Feed → Type 0 = λ g. Takes (made_of P m e (Address a b)) g.part g.port in
+    subst Z (sym i) (record { piece = _; at = refl; takes = λ _. refl })
+feeds_take P m e r (Address a b) f (inr (inl i)) =
+    let Z : Feed → Type 0 = λ g. Takes (made_of P m e (Address a b)) g.part g.port in
+    subst Z (sym i) (record { piece = _; at = refl; takes = λ _. refl })
+feeds_take P m e r (Address a b) f (inr (inr h)) = absurd h
+feeds_take P m e r (Store a v) f (inl i) =
+    let Z : Feed → Type 0 = λ g. Takes (made_of P m e (Store a v)) g.part g.port in
+    subst Z (sym i) (record { piece = _; at = refl; takes = λ _. refl })
+feeds_take P m e r (Store a v) f (inr (inl i)) =
+    let Z : Feed → Type 0 = λ g. Takes (made_of P m e (Store a v)) g.part g.port in
+    subst Z (sym i) (record { piece = _; at = refl; takes = λ _. refl })
+feeds_take P m e r (Store a v) f (inr (inr h)) = absurd h
 
 -- a side of an instruction of a row
 pub record IsOrigin (P : Checked) (s : Origin) : Type 0 where
@@ -281,6 +311,8 @@ IsValue (BinaryNode o a b) = Unit {0}
 IsValue (If s x y) = Unit {0}
 IsValue (Call s c) = Unit {0}
 IsValue (Loop h w l) = Unit {0}
+IsValue (Array a b) = Unit {0}
+IsValue (Fetch a b) = Unit {0}
 IsValue _ = ⊥
 
 -- the expression at the row stands in the region, and what gives its value gives its own
@@ -351,6 +383,10 @@ Suits P n r (Switches t) = IsPart P r t × IsTurned P r × AllSeen P r (imports_
 Suits P n r Turn = IsTurned P r × AllSeen P r (imports_of P (block P n))
 Suits P n r (Next x k o v) = IsPart P r v
 Suits P n r (Reset v) = IsPart P r v
+Suits P n r (Array a b) = IsPart P r a × IsPart P r b
+Suits P n r (Fetch a b) = IsPart P r a × IsPart P r b × IsOrigin P (output n)
+Suits P n r (Address a b) = IsPart P r a × IsPart P r b
+Suits P n r (Store a v) = IsOrigin P (output a) × IsPart P r v
 Suits P n r _ = Unit {0}
 
 -- the entries of the imports of the loop with the head h stand right in its region
@@ -446,6 +482,13 @@ value_origin P v (BinaryNode o a b) t l e h = own P v (BinaryNode o a b) l e ref
 value_origin P v (If s x y) t l e h = own P v (If s x y) l e refl (record { piece = _; at = refl; gives = λ _. refl })
 value_origin P v (Call s c) t l e h = own P v (Call s c) l e refl (record { piece = _; at = refl; gives = λ _. refl })
 value_origin P v (Loop g w x) t l e h = own P v (Loop g w x) l e refl (record { piece = _; at = refl; gives = λ _. refl })
+value_origin P v (Array a b) t l e h = own P v (Array a b) l e refl (record { piece = _; at = refl; gives = λ _. refl })
+value_origin P v (Fetch a b) t l e h =
+    let G : Node → Type 0 = λ x. Gives (made_of P v (place P v) x) 2 true in
+    record {
+      is_origin = record { within = l; gives = subst G (sym e) (record { piece = _; at = refl; gives = λ _. refl }) };
+      home = ap (λ x. home_of x (region P v) (reply v)) e;
+    }
 value_origin P v _ t l e h = absurd h
 
 -- the value of a part comes from an origin of its region
@@ -556,6 +599,19 @@ feeds_come P m r Body f t s h = absurd h
 feeds_come P m r (Reset v) f t s (inl i) = from_only P _ _ _ f (part_origin P r v t s).is_origin i
 feeds_come P m r (Reset v) f t s (inr h) = absurd h
 feeds_come P m r (Loop g w l) f t s h = absurd h
+feeds_come P m r (Array a b) f t s (inl i) = from_only P _ _ _ f (part_origin P r a t s.0).is_origin i
+feeds_come P m r (Array a b) f t s (inr (inl i)) = from_only P _ _ _ f (part_origin P r b t s.1).is_origin i
+feeds_come P m r (Array a b) f t s (inr (inr h)) = absurd h
+feeds_come P m r (Fetch a b) f t s (inl i) = from_only P _ _ _ f (part_origin P r a t s.0).is_origin i
+feeds_come P m r (Fetch a b) f t s (inr (inl i)) = from_only P _ _ _ f (part_origin P r b t s.1).is_origin i
+feeds_come P m r (Fetch a b) f t s (inr (inr (inl i))) = from_only P _ _ _ f s.2 i
+feeds_come P m r (Fetch a b) f t s (inr (inr (inr h))) = absurd h
+feeds_come P m r (Address a b) f t s (inl i) = from_only P _ _ _ f (part_origin P r a t s.0).is_origin i
+feeds_come P m r (Address a b) f t s (inr (inl i)) = from_only P _ _ _ f (part_origin P r b t s.1).is_origin i
+feeds_come P m r (Address a b) f t s (inr (inr h)) = absurd h
+feeds_come P m r (Store a v) f t s (inl i) = from_only P _ _ _ f s.0 i
+feeds_come P m r (Store a v) f t s (inr (inl i)) = from_only P _ _ _ f (part_origin P r v t s.1).is_origin i
+feeds_come P m r (Store a v) f t s (inr (inr h)) = absurd h
 
 -- the feeds of imports go to the parts from k on
 imports_later : (P : Checked) (s : Origin) (r : Region) (k : ℕ) (bs : List ℕ) (f : Feed) → Among f (import_feeds P s r k bs) → k ≤ f.part
@@ -658,3 +714,13 @@ feeds_differ P m r (Next x k o v) t s = (λ h. h, tt)
 feeds_differ P m r Body t s = tt
 feeds_differ P m r (Reset v) t s = (λ h. h, tt)
 feeds_differ P m r (Loop g w l) t s = tt
+feeds_differ P m r (Array a b) t s = (λ h. elim h [ inl i ↦ (let e = ap (λ f. f.port) i in cc) | inr i ↦ i ], (λ h. h, tt))
+feeds_differ P m r (Fetch a b) t s = (
+  λ h. elim h [
+    | inl i ↦ (let e = ap (λ f. f.port) i in cc)
+    | inr j ↦ elim j [ inl i ↦ absurd (omega (arith, ap (λ (f : Feed). f.part) i)) | inr i ↦ i ]
+  ],
+  (λ h. elim h [ inl i ↦ absurd (omega (arith, ap (λ (f : Feed). f.part) i)) | inr i ↦ i ], (λ h. h, tt)),
+)
+feeds_differ P m r (Address a b) t s = (λ h. elim h [ inl i ↦ (let e = ap (λ f. f.port) i in cc) | inr i ↦ i ], (λ h. h, tt))
+feeds_differ P m r (Store a v) t s = (λ h. elim h [ inl i ↦ (let e = ap (λ f. f.port) i in cc) | inr i ↦ i ], (λ h. h, tt))

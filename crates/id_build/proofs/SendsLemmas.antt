@@ -1,10 +1,7 @@
 -- The sends to the entries of a loop, and the numbers of these, one after another.
-use Rattle.std.proofs.Common.{◌≡◌, ℕ, zero, suc, ◌+◌, ◌<◌, ◌≤◌, ◌-◌, List, [], ◌∷◌, ◌++◌, length, get_or, drop, map, refl, ap, sym, ◌∙◌, arith}
+use Rattle.std.proofs.Common.{◌≡◌, ℕ, suc, ◌+◌, ◌<◌, List, [], ◌∷◌, ◌++◌, length, get_or, drop, map, ap, sym, ◌∙◌, arith}
 use Rattle.std.proofs.lemmas.List.{append_assoc}
-use Rattle.id_check.specs.declared.checked.Checked.{Checked}
-use Rattle.id_build.specs.declared.arc.Piece.{Piece}
-use Rattle.id_build.specs.Made.{number_by}
-use Rattle.id_build.specs.Rows.{Entry, import_entries, send_to, variable_entries}
+use Rattle.id_build.specs.Rows.{Entry, import_entries, variable_entries}
 use Rattle.id_build.proofs.FeedsLemmas.{drop_at}
 
 -- what is made of the entry of one more variable

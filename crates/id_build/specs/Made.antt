@@ -15,7 +15,7 @@ use Rattle.id_build.specs.declared.arc.Feed.{Feed}
 use Rattle.id_build.specs.declared.arc.Arc.{Arc}
 use Rattle.id_build.specs.declared.arc.Piece.{Piece}
 use Rattle.id_build.specs.declared.arc.Form.{Form}
-use Rattle.id_build.specs.declared.arc.Form.TheVariants.{SendTo}
+use Rattle.id_build.specs.declared.arc.Form.TheVariants.{SendTo, FetchAt}
 use Rattle.id_build.specs.Rows.{entries_row, feeds, made, node, op_by}
 use Rattle.id_build.specs.Schemas.{all_heads, block_of}
 
@@ -83,9 +83,10 @@ graph_by P order F =
       instrs = instrs_from F 0 (pieces_in P order) (arcs_in P F order);
     }
 
--- where the form is a `send`, its entry has a number that an instruction can have
+-- where the form is a `send`, its entry has a number that an instruction can have, and so has the reply of a `fetch`
 abbrev pub Fits : List ℕ → Form → Type 0
 Fits F (SendTo k n j) = number_by F n j < 2 ^ 32
+Fits F (FetchAt n) = number_by F n 2 < 2 ^ 32
 Fits F _ = Unit {0}
 
 -- and so have the entries of each loop's imports

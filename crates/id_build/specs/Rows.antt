@@ -15,7 +15,7 @@ use Rattle.id_parts.specs.declared.row.Node.TheVariants.{Head, Param, Literal, N
 use Rattle.id_parts.specs.declared.row.Node.TheVariants.{Unary as UnaryNode, Binary as BinaryNode}
 use Rattle.id_parts.specs.declared.row.Node.TheVariants.{Split, If, Enter, Arg, Call, Block, Binding, Def, Program}
 use Rattle.id_parts.specs.declared.row.Node.TheVariants.{Start, LoopHead, Variable, Entries, Switches, Turn, NextUse}
-use Rattle.id_parts.specs.declared.row.Node.TheVariants.{Next, Body, Reset, Loop}
+use Rattle.id_parts.specs.declared.row.Node.TheVariants.{Next, Body, Reset, Loop, Array, Fetch, Address, Store}
 use Rattle.id_parts.specs.Rows.{at}
 use Rattle.id_parts.specs.Tables.{is_param}
 use Rattle.id_parts.specs.Turns.{params_at}
@@ -28,6 +28,8 @@ use Rattle.id_desugar.specs.Regions.{imports_of, nexts_of}
 use Rattle.id_graph.specs.declared.instr.Op.{Op}
 use Rattle.id_graph.specs.declared.instr.Op.TheVariants.{Const, Unary, Binary, Merge, Switch, Back}
 use Rattle.id_graph.specs.declared.instr.Op.TheVariants.{Enter as EnterOp, Send, Next as NextOp, Reset as ResetOp}
+use Rattle.id_graph.specs.declared.instr.Op.TheVariants.{Alloc, Address as AddressOp, Fetch as FetchOp}
+use Rattle.id_graph.specs.declared.instr.Op.TheVariants.{Store as StoreOp}
 use Rattle.id_graph.specs.declared.instr.Dyadic.{Dyadic}
 use Rattle.id_graph.specs.declared.instr.Dyadic.TheVariants as dyadic
 use Rattle.id_graph.specs.declared.instr.PortKind.{PortKind}
@@ -37,7 +39,7 @@ use Rattle.id_graph.specs.declared.dests.Port.TheVariants.{Zero, One}
 use Rattle.id_build.specs.declared.arc.Origin.{Origin}
 use Rattle.id_build.specs.declared.arc.Feed.{Feed}
 use Rattle.id_build.specs.declared.arc.Form.{Form}
-use Rattle.id_build.specs.declared.arc.Form.TheVariants.{Plain, EnterAt, SendTo}
+use Rattle.id_build.specs.declared.arc.Form.TheVariants.{Plain, EnterAt, SendTo, FetchAt}
 use Rattle.id_build.specs.declared.arc.Piece.{Piece}
 
 -- the node of a row
@@ -160,6 +162,7 @@ abbrev pub op_by : (ℕ → ℕ → ℕ) → Form → Op
 op_by number (Plain o) = o
 op_by number (EnterAt h c) = EnterOp (number h 0) (number c 0)
 op_by number (SendTo k n j) = Send k (number n j)
+op_by number (FetchAt n) = FetchOp (number n 2)
 
 -- an instruction of this operator at a place for each of these binders, for values of its kind
 abbrev pub for_each : Checked → (PortKind → Op) → ℕ → List ℕ → List Piece
@@ -200,6 +203,10 @@ made_of P n e (Next x k o v) = piece (Plain (NextOp (port_at P n))) e ∷ []
 made_of P n e Body = []
 made_of P n e (Reset v) = piece (Plain (ResetOp (port_at P v))) e ∷ []
 made_of P n e (Loop h w l) = piece (Plain (Merge (port_at P n))) e ∷ []
+made_of P n e (Array a b) = piece (Plain Alloc) e ∷ []
+made_of P n e (Fetch t i) = piece (Plain AddressOp) e ∷ piece (FetchAt n) e ∷ piece (Plain (Merge Int)) e ∷ []
+made_of P n e (Address t i) = piece (Plain AddressOp) e ∷ []
+made_of P n e (Store a v) = piece (Plain StoreOp) e ∷ []
 made_of P n e (Block b) = []
 made_of P n e (Binding x a) = piece (Plain (Merge (port_at P n))) e ∷ []
 made_of P n e (Def x h k b) = []
@@ -212,6 +219,10 @@ made P n = made_of P n (place P n) (node P n)
 -- what the first instruction of a row gives
 abbrev pub output : ℕ → Origin
 output n = record { row = n; part = 0; side = true }
+
+-- what a fetch at the row n gives: its last instruction, to which the reply comes
+abbrev pub reply : ℕ → Origin
+reply n = record { row = n; part = 2; side = true }
 
 -- what turns a region on: the first instruction of its head gives it, on the region's side
 abbrev pub trigger_of : Region → Origin
@@ -258,6 +269,7 @@ named_in P r v (Some b) = name_in P r b
 -- node
 abbrev pub origin_of : Checked → ℕ → Region → Node → Origin
 origin_of P v r (Name x) = named_in P r v (checked.binder P v)
+origin_of P v r (Fetch t i) = reply v
 origin_of P v r _ = output v
 
 -- where the value of the expression at a row comes from
@@ -310,6 +322,10 @@ feeds_of P n r (Next x k o v) = feed (origin P v) 0 Zero ∷ []
 feeds_of P n r Body = []
 feeds_of P n r (Reset v) = feed (origin P v) 0 Zero ∷ []
 feeds_of P n r (Loop h w l) = []
+feeds_of P n r (Array a b) = feed (origin P a) 0 Zero ∷ feed (origin P b) 0 One ∷ []
+feeds_of P n r (Fetch t i) = feed (origin P t) 0 Zero ∷ feed (origin P i) 0 One ∷ feed (output n) 1 Zero ∷ []
+feeds_of P n r (Address t i) = feed (origin P t) 0 Zero ∷ feed (origin P i) 0 One ∷ []
+feeds_of P n r (Store a v) = feed (output a) 0 Zero ∷ feed (origin P v) 0 One ∷ []
 feeds_of P n r (Block b) = []
 feeds_of P n r (Binding x a) = feed (origin P a) 0 Zero ∷ []
 feeds_of P n r (Def x h k b) = []

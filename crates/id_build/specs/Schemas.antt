@@ -7,7 +7,7 @@ use Rattle.id_check.specs.Programs.{rows}
 use Rattle.id_graph.specs.declared.dests.Port.{Port}
 use Rattle.id_graph.specs.declared.dests.Dest.{Dest}
 use Rattle.id_graph.specs.declared.instr.Op.{Op}
-use Rattle.id_graph.specs.declared.instr.Op.TheVariants.{Switch, Back, Send}
+use Rattle.id_graph.specs.declared.instr.Op.TheVariants.{Switch, Back, Send, Fetch, Store}
 use Rattle.id_graph.specs.declared.instr.Instr.{Instr}
 use Rattle.id_graph.specs.declared.instr.Block.{Block}
 use Rattle.id_graph.specs.Graph.{Parts, IsPort, arcs_on}
@@ -26,11 +26,13 @@ pub record Feeds (P : Checked) (s : Origin) (n k : ℕ) (p : Port) : Type 0 wher
   pub within : n < length (rows P)
   pub among : Among (feed s k p) (feeds P n)
 
--- the operator sends on this side: a switch on both, what sends to a tag of its own on none, any other on the true one
+-- the operator sends on this side: a switch on both, what has no destinations on none, any other on the true one
 abbrev pub HasSide : Op → Truth → Type 0
 HasSide (Switch k) b = Unit {0}
 HasSide (Back k) b = ⊥
 HasSide (Send k t) b = ⊥
+HasSide (Fetch r) b = ⊥
+HasSide Store b = ⊥
 HasSide _ b = b ≡ true
 
 -- the instruction of this number has this form of operator and this place

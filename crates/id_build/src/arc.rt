@@ -43,6 +43,10 @@ pub enum Form {
         row: usize,
         part: usize,
     },
+    /// The `fetch` of the fetch at the row `row`, whose reply comes to the last part of it.
+    FetchAt {
+        row: usize,
+    },
 }
 
 /// An instruction without its arcs.

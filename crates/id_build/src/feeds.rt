@@ -62,7 +62,11 @@ pub fn push_feeds(
         Node::Next { value, .. } | Node::Reset { value } => {
             arcs.push(origin(checked, slots, value), first, Port::Zero)
         }
-        Node::Binary { left, right, .. } => {
+        Node::Binary { left, right, .. }
+        | Node::Array {
+            low: left,
+            high: right,
+        } => {
             let left = origin(checked, slots, left);
             let right = origin(checked, slots, right);
             arcs.push_two(left, right, first)
@@ -91,6 +95,21 @@ pub fn push_feeds(
         }
         Node::Entries => push_entries(checked, slots, n, row.block, arcs),
         Node::Turn => push_turn(checked, slots, n, row.region, row.block, arcs),
+        Node::Address { target, index } => {
+            let target = origin(checked, slots, target);
+            let index = origin(checked, slots, index);
+            arcs.push_two(target, index, first)
+        }
+        Node::Fetch { target, index } => {
+            let target = origin(checked, slots, target);
+            let index = origin(checked, slots, index);
+            arcs.push_two(target, index, first)?;
+            arcs.push(output(n), first + 1, Port::Zero)
+        }
+        Node::Store { address, value } => {
+            let value = origin(checked, slots, value);
+            arcs.push_two(output(address), value, first)
+        }
     }
 }
 

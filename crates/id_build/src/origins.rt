@@ -1,7 +1,7 @@
 //! Where values come from (docs/GRAPH.md, "Sources").
 
 ghost use Rattle.std.specs.Prelude.{◌≡◌, ◌<◌, ◌^◌};
-ghost use Rattle.id_build.specs.Rows.{handed_by, name_in, named_in, node, origin, origin_of, output};
+ghost use Rattle.id_build.specs.Rows.{handed_by, name_in, named_in, node, origin, origin_of, output, reply};
 ghost use Rattle.id_build.specs.Rows.{same_region, trigger_of};
 ghost use Rattle.id_build.specs.Slots.{AreSlots};
 
@@ -19,6 +19,17 @@ pub fn output(row: usize) -> Origin
     Origin {
         row,
         part: 0,
+        side: true,
+    }
+}
+
+/// What a fetch at a row gives.
+fn reply(row: usize) -> Origin
+    ensures { result ≡ reply row }
+{
+    Origin {
+        row,
+        part: 2,
         side: true,
     }
 }
@@ -44,6 +55,7 @@ pub fn origin(checked: &Checked, slots: &Slots<'_>, expr: usize) -> Origin
     let row = row_at(checked, value);
     match row.node {
         Node::Name { .. } => named_in(checked, slots, row.region, value, binder_at(checked, value)),
+        Node::Fetch { .. } => reply(value),
         _ => output(value),
     }
 }

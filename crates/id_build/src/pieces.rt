@@ -7,9 +7,9 @@ ghost use Rattle.id_build.specs.Rows.{for_each, import_entries, made, made_of, r
 ghost use Rattle.id_build.specs.Rows.{variable_entries};
 ghost use Rattle.id_build.specs.Rows as rows;
 ghost use Rattle.id_build.specs.Slots.{AreColumns};
-ghost use Rattle.id_build.specs.declared.arc.Form.TheVariants.{Plain, EnterAt};
-ghost use Rattle.id_graph.specs.declared.instr.Op.TheVariants.{Merge, Back, Next, Switch};
-ghost use Rattle.id_graph.specs.declared.instr.PortKind.TheVariants.{Signal};
+ghost use Rattle.id_build.specs.declared.arc.Form.TheVariants.{Plain, EnterAt, FetchAt};
+ghost use Rattle.id_graph.specs.declared.instr.Op.TheVariants.{Merge, Back, Next, Switch, Address};
+ghost use Rattle.id_graph.specs.declared.instr.PortKind.TheVariants.{Signal, Int};
 
 use crate::arc::{Form, Piece};
 use crate::calls::{called, param_of};
@@ -102,6 +102,10 @@ fn push_row(
         Node::Next { .. } => push(pieces, Op::Next(port_at(checked, n)), place),
         Node::Reset { value } => push(pieces, Op::Reset(port_at(checked, value)), place),
         Node::Loop { .. } => push(pieces, Op::Merge(port_at(checked, n)), place),
+        Node::Array { .. } => push(pieces, Op::Alloc, place),
+        Node::Fetch { .. } => push_fetch(n, place, pieces),
+        Node::Address { .. } => push(pieces, Op::Address, place),
+        Node::Store { .. } => push(pieces, Op::Store, place),
         Node::Program => push_answer(checked, pieces),
     }
 }
@@ -263,6 +267,18 @@ fn push_send(
 {
     let kind = port_at(checked, binder);
     push_form(pieces, Form::SendTo { kind, row, part }, place)
+}
+
+/// Adds the address, the `fetch` and the merge for the reply of the fetch at the row n.
+fn push_fetch(n: usize, place: usize, pieces: &mut Vec<Piece>) -> Result<(), BuildError>
+    ensures pieces { OnOk result (pieces.new.items ≡ pieces.old.items ++ rows.piece (Plain Address) place
+        ∷ rows.piece (FetchAt n) place ∷ rows.piece (Plain (Merge Int)) place ∷ []) }
+    ensures memory { IfErr result (λ e. e ≡ BuildError.Memory) }
+{
+    push(pieces, Op::Address, place)?;
+    push_form(pieces, Form::FetchAt { row: n }, place)?;
+    push(pieces, Op::Merge(PortKind::Int), place)?;
+    Ok(())
 }
 
 /// Adds the answer's instruction.

@@ -74,7 +74,7 @@ fn made_count(checked: &Checked, columns: Columns<'_>, n: usize) -> usize
 /// How many instructions a row of this node makes, unless that depends on what is imported. Takes no memory.
 fn plain_count(node: Node) -> Option<usize>
     ensures some { IfSome result (λ k. (P : Checked) (n e : ℕ) → length (made_of P n e node) ≡ k) }
-    ensures few { IfSome result (λ k. k ≤ 2) }
+    ensures few { IfSome result (λ k. k ≤ 3) }
     ensures exact { IsSome result ↔ (is_plain node ≡ true) }
 {
     match node {
@@ -85,6 +85,8 @@ fn plain_count(node: Node) -> Option<usize>
         Node::Variable | Node::Next { .. } | Node::Reset { .. } | Node::Loop { .. } => Some(1),
         Node::Name { .. } | Node::Block { .. } | Node::Def { .. } => Some(0),
         Node::NextUse { .. } | Node::Body => Some(0),
+        Node::Array { .. } | Node::Address { .. } | Node::Store { .. } => Some(1),
+        Node::Fetch { .. } => Some(3),
         Node::Split { .. } | Node::Switches { .. } => None,
         Node::Start | Node::Entries | Node::Turn => None,
         Node::Program => Some(1),

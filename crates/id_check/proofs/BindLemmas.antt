@@ -14,7 +14,7 @@ use Rattle.id_parts.specs.Tables.{around}
 use Rattle.id_check.specs.declared.scope.Bound.{Bound}
 use Rattle.id_check.specs.Scopes.{held, is_free, is_name, looks, sees, sees_own, used_name}
 use Rattle.id_check.specs.Causes.{repeated}
-use Rattle.id_check.specs.Names.{again, given, in_scope, is_in_sight, key_of, newly, sought}
+use Rattle.id_check.specs.Names.{again, given, in_scope, key_of, newly, sought}
 use Rattle.id_check.proofs.ScopesLemmas.{or_none}
 
 -- what stands in the list may be read with another default

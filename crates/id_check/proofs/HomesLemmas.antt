@@ -1,7 +1,7 @@
 -- Where the binder that a name has stands: round the name, or round the loop that has its first value by the name.
 use Rattle.std.proofs.Common.{◌≡◌, ◌⊎◌, inl, inr, ◌+◌, ◌<◌, ◌≤◌, ℕ, zero, suc, Bool as Truth, true, false, List}
-use Rattle.std.proofs.Common.{Option, Some, None, length, refl, ap, sym, ◌∙◌, subst, arith}
-use Rattle.std.specs.Prelude.{◌&&◌, ◌||◌, nat_le, nat_lt}
+use Rattle.std.proofs.Common.{Some, None, length, refl, ap, sym, ◌∙◌, subst, arith}
+use Rattle.std.specs.Prelude.{◌&&◌, ◌||◌}
 use Rattle.std.proofs.lemmas.Bool.{cases_lt, false≢true}
 use Rattle.std.proofs.lemmas.Bool.Decides.{nat_tests}
 use Rattle.id_value.specs.declared.Kind.{Kind}
@@ -10,7 +10,7 @@ use Rattle.id_parts.specs.declared.row.Row.{Row}
 use Rattle.id_parts.specs.declared.row.Node.{Node}
 use Rattle.id_parts.specs.declared.row.Node.TheVariants.{Head, Param, Name, Block, Binding, Def, Start, LoopHead, NextUse, Next, Body, Loop}
 use Rattle.id_parts.specs.Rows.{arm_at, at, top}
-use Rattle.id_parts.specs.Tables.{around, has_statements, is_binding, is_head, is_param, is_split, is_switches, is_top}
+use Rattle.id_parts.specs.Tables.{around, has_statements, is_head, is_param, is_split, is_statement, is_switches, is_top}
 use Rattle.id_parts.specs.Loops.{IsLoop, IsLoopOf}
 use Rattle.id_parts.specs.Regions.{Lies, here, in_arm, in_loop, in_side}
 use Rattle.id_parts.specs.Turns.{AreParamsOf, IsTable, in_block}
@@ -267,7 +267,7 @@ module _ (R : List Row) (t : IsTable R) where
   statement_home : (s b i y a : ℕ) → s < length R → has_statements (at R s).node ≡ true → (at R b).node ≡ Binding y a → around R s b ≡ true → held R b s ≡ false
       → s + 1 < length R → around R s i ≡ true → Lies R (home R b) (at R i).region
   statement_home s b i y a less e f inside bare inner round =
-      let w = t.statement_stands s b less (record { block = e; binding = ap is_binding f; inside = inside; right = sym (held_binding R b s y a f) ∙ bare }) in
+      let w = t.statement_stands s b less (record { block = e; statement = ap is_statement f; inside = inside; right = sym (held_binding R b s y a f) ∙ bare }) in
       subst (λ r. Lies R r (at R i).region) (sym (w.1) ∙ sym (ap (home_in (at R b).block (at R b).region) f)) (t.inside s i inner round)
 
   pub bound_home : (s b i x : ℕ) → s + 1 < length R → looks (at R s).node (Name 0) ≡ true → takes (at R s).node (at R b).node ≡ true

@@ -4,6 +4,9 @@ use Rattle.id_parts.specs.declared.row.Row.{Row}
 use Rattle.id_parts.specs.declared.row.Node.{Node}
 use Rattle.id_parts.specs.declared.row.Node.TheVariants.{Head, Param, Literal, Name, Unary, Binary, Split, If, Enter, Arg, Call, Block, Binding, Def, Program}
 use Rattle.id_parts.specs.declared.row.Node.TheVariants.{Start, LoopHead, Variable, Entries, Switches, Turn, NextUse, Next, Body, Reset, Loop}
+use Rattle.id_parts.specs.declared.row.Node.TheVariants.{Fetch, Address, Store}
+use Rattle.id_parts.specs.declared.row.Node.TheVariants as node
+use Rattle.id_value.specs.declared.Kind.TheVariants.{Int, Array}
 use Rattle.id_parts.specs.Rows.{at}
 use Rattle.id_parts.specs.Tables.{HasPart, IsFormed}
 use Rattle.id_check.specs.Causes.{callee, head_in}
@@ -67,6 +70,10 @@ link_below R β t within i j less e = of (at R i).node refl e
     of Body s f = let d : Nowhere ≡ To j = f in cc
     of (Reset v) s f = let d : Nowhere ≡ To j = f in cc
     of (Loop h w l) s f = part (Loop h w l) l s (inr (inr refl)) f
+    of (node.Array a b) s f = let d : Fixed Array ≡ To j = f in cc
+    of (Fetch t i) s f = let d : Fixed Int ≡ To j = f in cc
+    of (Address t i) s f = let d : Nowhere ≡ To j = f in cc
+    of (Store a v) s f = let d : Nowhere ≡ To j = f in cc
 
 -- the head of a definition that a row has as its binder is a row
 pub head_below : (R : List Row) → IsFormed R → (o : Option ℕ) → ((b : ℕ) → o ≡ Some b → b < length R) → (h : ℕ) → callee R o ≡ Some h → h < length R

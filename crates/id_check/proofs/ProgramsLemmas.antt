@@ -1,9 +1,9 @@
 -- What holds of a checked program, row by row.
 use Rattle.std.proofs.Common.{◌≡◌, ◌⊎◌, inl, inr, ◌+◌, ◌<◌, ◌≤◌, ℕ, zero, suc, Bool as Truth, true, false, List, []}
 use Rattle.std.proofs.Common.{◌∷◌, ◌++◌, Option, Some, None, length, refl, ap, sym, ◌∙◌, subst, arith}
-use Rattle.std.specs.Prelude.{◌&&◌, ◌||◌, not, nat_eq, nat_le, nat_lt, if◌then◌else◌}
+use Rattle.std.specs.Prelude.{◌&&◌, ◌||◌, not, nat_eq, nat_lt, if◌then◌else◌}
 use Rattle.std.specs.Option.{option_or}
-use Rattle.std.proofs.lemmas.Bool.{cases_lt, eqb-true, false≢true, ltb-true}
+use Rattle.std.proofs.lemmas.Bool.{cases_lt, eqb-true, false≢true}
 use Rattle.std.proofs.lemmas.Bool.Decides.{Decides-eqb, nat_tests}
 use Rattle.std.proofs.lemmas.List.{get_or_past}
 use Rattle.id_list.specs.List.{Among}
@@ -21,6 +21,8 @@ use Rattle.id_parts.specs.declared.row.Row.{Row}
 use Rattle.id_parts.specs.declared.row.Node.{Node}
 use Rattle.id_parts.specs.declared.row.Node.TheVariants.{Head, Param, Literal, Name, Unary, Binary, Split, If, Enter, Arg, Call, Block, Binding, Def, Program}
 use Rattle.id_parts.specs.declared.row.Node.TheVariants.{Start, LoopHead, Variable, Entries, Switches, Turn, NextUse, Next, Body, Reset, Loop}
+use Rattle.id_parts.specs.declared.row.Node.TheVariants.{Fetch, Address, Store}
+use Rattle.id_parts.specs.declared.row.Node.TheVariants as node
 use Rattle.id_parts.specs.Loops.{IsLoopOf}
 use Rattle.id_parts.specs.Rows.{at, no_row}
 use Rattle.id_parts.specs.Tables.{HasOperand, around, is_binder, is_def, is_expression, is_in_loop, is_param}
@@ -391,6 +393,10 @@ nowhere P i (Switches t) h v e = false≢true v
 nowhere P i Turn h v e = false≢true v
 nowhere P i Body h v e = false≢true v
 nowhere P i (Reset a) h v e = false≢true v
+nowhere P i (node.Array a b) h v e = let d : Fixed Array ≡ Nowhere = e in cc
+nowhere P i (Fetch t j) h v e = let d : Fixed Int ≡ Nowhere = e in cc
+nowhere P i (Address t j) h v e = false≢true v
+nowhere P i (Store a x) h v e = false≢true v
 
 -- the use of a first value stands before its `next`
 pub next_use_row : (P : Checked) (m x k o v : ℕ) → Stands P m (Next x k o v) → Stands P o (NextUse x)
@@ -446,6 +452,10 @@ goes P i j (Switches t) h e = let d : Nowhere ≡ To j = e in cc
 goes P i j Turn h e = let d : Nowhere ≡ To j = e in cc
 goes P i j Body h e = let d : Nowhere ≡ To j = e in cc
 goes P i j (Reset a) h e = let d : Nowhere ≡ To j = e in cc
+goes P i j (node.Array a b) h e = let d : Fixed Array ≡ To j = e in cc
+goes P i j (Fetch t k) h e = let d : Fixed Int ≡ To j = e in cc
+goes P i j (Address t k) h e = let d : Nowhere ≡ To j = e in cc
+goes P i j (Store a x) h e = let d : Nowhere ≡ To j = e in cc
 
 -- its chain ends in a kind, if it ends
 no_nothing : (P : Checked) (i : ℕ) (o : Option Kind) → EndsIn (link_at (rows P) (binder P)) i o → o ≡ None → i < length (rows P)
@@ -553,6 +563,40 @@ equality_row P i a b Lt e h = absurd (false≢true e)
 equality_row P i a b Le e h = absurd (false≢true e)
 equality_row P i a b Gt e h = absurd (false≢true e)
 equality_row P i a b Ge e h = absurd (false≢true e)
+
+-- ---- arrays
+
+-- such kinds are wanted of two operands of a row
+two_wanted : (P : Checked) (i a b : ℕ) (n : Node) (j k : Kind) → Stands P i n → HasOperand n a → HasOperand n b
+    → wrong (rows P) (kind P) j a ++ wrong (rows P) (kind P) k b ≡ [] → (kind P a ≡ Some j) × (kind P b ≡ Some k)
+two_wanted P i a b n j k h f g e =
+    let v = part_row P i a n h f in
+    let w = part_row P i b n h g in
+    let z = both_nil (wrong (rows P) (kind P) j a) (wrong (rows P) (kind P) k b) e in
+    (wanted_kind P j a v.0 v.1 z.0, wanted_kind P k b w.0 w.1 z.1)
+
+-- the bounds of an array are numbers
+pub array_row : (P : Checked) (i a b : ℕ) → Stands P i (node.Array a b) → (kind P a ≡ Some Int) × (kind P b ≡ Some Int)
+array_row P i a b h = two_wanted P i a b (node.Array a b) Int Int h (inl refl) (inr refl) (none_in P i (node.Array a b) h)
+
+-- the target of a fetch is an array, and its index a number
+pub fetch_row : (P : Checked) (i t j : ℕ) → Stands P i (Fetch t j) → (kind P t ≡ Some Array) × (kind P j ≡ Some Int)
+fetch_row P i t j h = two_wanted P i t j (Fetch t j) Array Int h (inl refl) (inr refl) (none_in P i (Fetch t j) h)
+
+-- and so are those of a store
+pub address_row : (P : Checked) (i t j : ℕ) → Stands P i (Address t j) → (kind P t ≡ Some Array) × (kind P j ≡ Some Int)
+address_row P i t j h = two_wanted P i t j (Address t j) Array Int h (inl refl) (inr refl) (none_in P i (Address t j) h)
+
+-- the value of a store is a number
+pub store_row : (P : Checked) (i a v : ℕ) → Stands P i (Store a v) → kind P v ≡ Some Int
+store_row P i a v h = let w = part_row P i v (Store a v) h refl in wanted_kind P Int v w.0 w.1 (none_in P i (Store a v) h)
+
+-- an array is one, and a fetch gives a number
+pub array_kind : (P : Checked) (i a b : ℕ) → Stands P i (node.Array a b) → kind P i ≡ Some Array
+array_kind P i a b h = kind_fixed P i (node.Array a b) Array h refl
+
+pub fetch_kind : (P : Checked) (i t j : ℕ) → Stands P i (Fetch t j) → kind P i ≡ Some Int
+fetch_kind P i t j h = kind_fixed P i (Fetch t j) Int h refl
 
 -- ---- conditionals
 

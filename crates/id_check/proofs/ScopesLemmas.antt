@@ -12,7 +12,7 @@ use Rattle.id_check.specs.declared.cause.CheckCause.{CheckCause}
 use Rattle.id_parts.specs.declared.row.Node.{Node}
 use Rattle.id_parts.specs.declared.row.Node.TheVariants.{Param, Block, Binding, Def, Program, NextUse, Next, Body, Loop}
 use Rattle.id_check.specs.Names.{seen}
-use Rattle.id_check.specs.Scopes.{closes, confines, is_free, is_next_use, keeps, looks, sees, sees_own, takes}
+use Rattle.id_check.specs.Scopes.{closes, confines, is_next_use, keeps, looks, sees, sees_own, takes}
 use Rattle.id_check.specs.Scopes.{binder_at, binder_by, binder_in, binder_of, binds, bound_name, first_of, held, is_name, is_scope, used_name}
 use Rattle.id_check.specs.Causes.{repeated, second, seconds}
 

@@ -11,8 +11,10 @@ use Rattle.id_value.specs.declared.BinaryOp.TheVariants as class
 use Rattle.id_value.specs.declared.Comparison.TheVariants.{Lt, Le, Gt, Ge, Eq, Ne}
 use Rattle.id_parts.specs.declared.row.Row.{Row}
 use Rattle.id_parts.specs.declared.row.Node.{Node}
-use Rattle.id_parts.specs.declared.row.Node.TheVariants.{Head, Param, Literal, Name, Unary, Binary, Split, If, Enter}
-use Rattle.id_parts.specs.declared.row.Node.TheVariants.{Arg, Call, Block, Binding, Def, Program, Switches, NextUse, Next, Loop}
+use Rattle.id_parts.specs.declared.row.Node.TheVariants.{Param, Literal, Name, Unary, Binary, Split, If, Enter}
+use Rattle.id_parts.specs.declared.row.Node.TheVariants.{Arg, Call, Block, Binding, Def, Switches, NextUse, Next, Loop}
+use Rattle.id_parts.specs.declared.row.Node.TheVariants.{Fetch, Address, Store}
+use Rattle.id_parts.specs.declared.row.Node.TheVariants as node
 use Rattle.id_tree.specs.Tree.{Tree}
 use Rattle.id_tree.specs.Distinct.{HasPlace}
 use Rattle.id_parts.specs.Rows.{at, rows_of}
@@ -27,7 +29,7 @@ use Rattle.id_check.specs.Kinds.{unary_kind}
 use Rattle.id_check.specs.Causes.{HasFirst, IsInside, IsRefusedFor, array_param, callee, causes, causes_below}
 use Rattle.id_check.specs.Causes.{causes_in, count_at, duplicates, is_count, is_array_param, repeated, same_kind}
 use Rattle.id_check.specs.Causes.{second, seconds, unknown, unless_found, wrong, wrong_argument, wrong_both}
-use Rattle.id_check.specs.Causes.{wrong_count, wrong_equals, wrong_like, wrong_operands, wrong_params}
+use Rattle.id_check.specs.Causes.{wrong_cell, wrong_count, wrong_equals, wrong_like, wrong_operands, wrong_params}
 use Rattle.id_check.proofs.LinksLemmas.{part_of}
 use Rattle.id_check.proofs.ScopesLemmas.{binder_in-below, first_of-some}
 
@@ -122,6 +124,8 @@ expression_thing (Binary o a b) e = refl
 expression_thing (If s x y) e = refl
 expression_thing (Call s c) e = refl
 expression_thing (Loop h w l) e = refl
+expression_thing (node.Array a b) e = refl
+expression_thing (Fetch t i) e = refl
 expression_thing (Block b) e = refl
 expression_thing _ e = let d : false ≡ true = e in cc
 
@@ -150,6 +154,13 @@ both_standing : (R : List Row) (κ : ℕ → Option Kind) (wanted : Kind) (a b :
 both_standing R κ wanted a b c h k g = elim (Among-either c (wrong R κ wanted a) (wrong R κ wanted b) g) [
   | inl f ↦ wrong_standing R κ wanted a c h f
   | inr f ↦ wrong_standing R κ wanted b c k f
+]
+
+cell_standing : (R : List Row) (κ : ℕ → Option Kind) (a b : ℕ) (c : CheckCause) → IsThing R a → IsThing R b
+    → Among c (wrong_cell R κ a b) → IsStanding R c
+cell_standing R κ a b c h k g = elim (Among-either c (wrong R κ Array a) (wrong R κ Int b) g) [
+  | inl f ↦ wrong_standing R κ Array a c h f
+  | inr f ↦ wrong_standing R κ Int b c k f
 ]
 
 equals_standing : (R : List Row) (κ : ℕ → Option Kind) (a b : ℕ) (c : CheckCause) → IsThing R a → IsThing R b
@@ -275,6 +286,10 @@ causes_in_standing R β κ i c t less a = by (at R i).node refl a
     by (Switches t) e b = wrong_standing R κ Bool t c (thing t (Switches t) e refl) b
     by (NextUse x) e b = no_binder (β i) (next_here x e) b
     by (Next x k u v) e b = like_standing R κ v c (thing v (Next x k u v) e refl) (κ u) b
+    by (node.Array x y) e b = both_standing R κ Int x y c (thing x (node.Array x y) e (inl refl)) (thing y (node.Array x y) e (inr refl)) b
+    by (Fetch x y) e b = cell_standing R κ x y c (thing x (Fetch x y) e (inl refl)) (thing y (Fetch x y) e (inr refl)) b
+    by (Address x y) e b = cell_standing R κ x y c (thing x (Address x y) e (inl refl)) (thing y (Address x y) e (inr refl)) b
+    by (Store x y) e b = wrong_standing R κ Int y c (thing y (Store x y) e refl) b
     by (Def x d k y) e b = elim (Among-either c (wrong R κ k y) (wrong_params R x (at R i).place (params_at R d)) b) [
       | inl g ↦ wrong_standing R κ k y c (thing y (Def x d k y) e refl) g
       | inr g ↦ elim (Among-either c (if nat_eq x 0 then array_param R (params_at R d) else []) (if nat_lt 16 (length (params_at R d)) then (TooManyParams (at R i).place ∷ []) else []) g) [

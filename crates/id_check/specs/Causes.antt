@@ -9,7 +9,8 @@ use Rattle.id_value.specs.declared.Comparison.TheVariants.{Eq, Ne}
 use Rattle.id_parts.specs.declared.row.Row.{Row}
 use Rattle.id_parts.specs.declared.row.Node.{Node}
 use Rattle.id_parts.specs.declared.row.Node.TheVariants.{Param, Name, Unary, Binary, Split, If, Enter, Arg, Call, Def}
-use Rattle.id_parts.specs.declared.row.Node.TheVariants.{Switches, NextUse, Next}
+use Rattle.id_parts.specs.declared.row.Node.TheVariants.{Switches, NextUse, Next, Fetch, Address, Store}
+use Rattle.id_parts.specs.declared.row.Node.TheVariants as node
 use Rattle.id_list.specs.List.{Among}
 use Rattle.id_tree.specs.Tree.{Tree}
 use Rattle.id_tree.specs.Distinct.{HasPlace}
@@ -87,6 +88,10 @@ abbrev pub wrong_like : List Row → (ℕ → Option Kind) → Option Kind → �
 wrong_like R κ None y = []
 wrong_like R κ (Some k) y = wrong R κ k y
 
+-- the causes in the target and the index of a fetch or a store
+abbrev pub wrong_cell : List Row → (ℕ → Option Kind) → ℕ → ℕ → List CheckCause
+wrong_cell R κ t i = wrong R κ Array t ++ wrong R κ Int i
+
 -- the head of the definition at a row of this node
 abbrev pub head_in : Node → Option ℕ
 head_in (Def x h k b) = Some h
@@ -139,8 +144,8 @@ wrong_params R x e ps =
     (if nat_eq x 0 then array_param R ps else []) ++ (if nat_lt 16 (length ps) then (TooManyParams e ∷ []) else [])
 
 -- the causes in a row at a place, with this binder if it is about a name: of a predicate the kind `bool` is wanted, of
--- an `else` arm that of the `then` arm, of the expression of a `next` that of its variable; a definition's are those in
--- its parameters, and of its body the kind of the result is wanted
+-- an `else` arm that of the `then` arm, of the expression of a `next` that of its variable, of bounds and of the value
+-- of a store `int`; a definition's are those in its parameters, and of its body the kind of the result is wanted
 abbrev pub causes_in : List Row → (ℕ → Option Kind) → Option ℕ → ℕ → Node → List CheckCause
 causes_in R κ o e (Name x) = unknown o e
 causes_in R κ o e (Unary p a) = wrong R κ (unary_kind p) a
@@ -153,6 +158,10 @@ causes_in R κ o e (Call s c) = wrong_count R (callee R o) c e
 causes_in R κ o e (Switches t) = wrong R κ Bool t
 causes_in R κ o e (NextUse x) = unknown o e
 causes_in R κ o e (Next x k u v) = wrong_like R κ (κ u) v
+causes_in R κ o e (node.Array a b) = wrong_both R κ Int a b
+causes_in R κ o e (Fetch t i) = wrong_cell R κ t i
+causes_in R κ o e (Address t i) = wrong_cell R κ t i
+causes_in R κ o e (Store a v) = wrong R κ Int v
 causes_in R κ o e (Def x h k b) = wrong R κ k b ++ wrong_params R x e (params_at R h)
 causes_in R κ o e _ = []
 

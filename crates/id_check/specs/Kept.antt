@@ -2,7 +2,7 @@
 use Rattle.std.specs.Prelude.{ℕ}
 use Rattle.std.specs.Coded.{×_prop, Π_prop, →_prop, Unit-prop}
 use Rattle.id_tree.specs.Tree.{Tree, literal, unary, binary, name, conditional, call, block, binding, param, define}
-use Rattle.id_tree.specs.Tree.{none, more, loop, next}
+use Rattle.id_tree.specs.Tree.{none, more, loop, next, array, fetch, store}
 use Rattle.id_tree.specs.Distinct.{Apart, Distinct, HasPlace}
 
 -- there is at most one proof that nothing stands in a type
@@ -19,35 +19,34 @@ two-prop : (a b : Tree) (p : ℕ) → IsProp (Distinct a) → IsProp (Distinct b
 two-prop a b p f g = λ x y i.
     (not-prop x.0 y.0 i, not-prop x.1 y.1 i, Apart-prop a b x.2 y.2 i, f x.3 y.3 i, g x.4 y.4 i)
 
-pub Distinct-prop : (e : Tree) → IsProp (Distinct e)
-Distinct-prop (literal v p) = Unit-prop
-Distinct-prop (unary o a p) = ×_prop not-prop (Distinct-prop a)
-Distinct-prop (binary o a b p) = two-prop a b p (Distinct-prop a) (Distinct-prop b)
-Distinct-prop (name x p) = Unit-prop
-Distinct-prop (conditional t x y p) = λ d e i. (
+-- there is at most one proof that the places of three trees and another one are distinct
+three-prop : (t x y : Tree) (p : ℕ) → IsProp (Distinct t) → IsProp (Distinct x) → IsProp (Distinct y)
+    → IsProp ((¬ HasPlace t p) × (¬ HasPlace x p) × (¬ HasPlace y p) × Apart t x × Apart t y × Apart x y
+    × Distinct t × Distinct x × Distinct y)
+three-prop t x y p f g h = λ d e i. (
   not-prop d.0 e.0 i,
   not-prop d.1 e.1 i,
   not-prop d.2 e.2 i,
   Apart-prop t x d.3 e.3 i,
   Apart-prop t y d.4 e.4 i,
   Apart-prop x y d.5 e.5 i,
-  Distinct-prop t d.6 e.6 i,
-  Distinct-prop x d.7 e.7 i,
-  Distinct-prop y d.8 e.8 i,
+  f d.6 e.6 i,
+  g d.7 e.7 i,
+  h d.8 e.8 i,
 )
+
+pub Distinct-prop : (e : Tree) → IsProp (Distinct e)
+Distinct-prop (literal v p) = Unit-prop
+Distinct-prop (unary o a p) = ×_prop not-prop (Distinct-prop a)
+Distinct-prop (binary o a b p) = two-prop a b p (Distinct-prop a) (Distinct-prop b)
+Distinct-prop (name x p) = Unit-prop
+Distinct-prop (conditional t x y p) = three-prop t x y p (Distinct-prop t) (Distinct-prop x) (Distinct-prop y)
 Distinct-prop (call x a p) = ×_prop not-prop (Distinct-prop a)
 Distinct-prop (block a b p) = two-prop a b p (Distinct-prop a) (Distinct-prop b)
-Distinct-prop (loop t a b p) = λ d e i. (
-  not-prop d.0 e.0 i,
-  not-prop d.1 e.1 i,
-  not-prop d.2 e.2 i,
-  Apart-prop t a d.3 e.3 i,
-  Apart-prop t b d.4 e.4 i,
-  Apart-prop a b d.5 e.5 i,
-  Distinct-prop t d.6 e.6 i,
-  Distinct-prop a d.7 e.7 i,
-  Distinct-prop b d.8 e.8 i,
-)
+Distinct-prop (loop t a b p) = three-prop t a b p (Distinct-prop t) (Distinct-prop a) (Distinct-prop b)
+Distinct-prop (array a b p) = two-prop a b p (Distinct-prop a) (Distinct-prop b)
+Distinct-prop (fetch t i p) = two-prop t i p (Distinct-prop t) (Distinct-prop i)
+Distinct-prop (store t i a p) = three-prop t i a p (Distinct-prop t) (Distinct-prop i) (Distinct-prop a)
 Distinct-prop (next x a p) = ×_prop not-prop (Distinct-prop a)
 Distinct-prop (binding x a p) = ×_prop not-prop (Distinct-prop a)
 Distinct-prop (param x k p) = Unit-prop

@@ -1,7 +1,7 @@
 -- The kinds of rows: each is found by one chain (docs/LANGUAGE.md, "Kinds").
 use Rattle.std.specs.Prelude.{◌≡◌, ℕ, ◌<◌, List, length, Option, None, Some}
 use Rattle.id_value.specs.declared.Kind.{Kind}
-use Rattle.id_value.specs.declared.Kind.TheVariants.{Int, Bool}
+use Rattle.id_value.specs.declared.Kind.TheVariants.{Int, Bool, Array}
 use Rattle.id_value.specs.declared.Constant.{Constant}
 use Rattle.id_value.specs.declared.Constant.TheVariants as constant
 use Rattle.id_value.specs.declared.UnaryOp.{UnaryOp}
@@ -13,7 +13,8 @@ use Rattle.id_parts.specs.declared.row.Node.{Node}
 use Rattle.id_parts.specs.declared.row.Node.TheVariants.{Head, Param, Literal, Name, Unary, Binary}
 use Rattle.id_parts.specs.declared.row.Node.TheVariants.{Split, If, Enter, Arg, Call, Block, Binding, Def, Program}
 use Rattle.id_parts.specs.declared.row.Node.TheVariants.{Start, LoopHead, Variable, Entries, Switches, Turn, NextUse}
-use Rattle.id_parts.specs.declared.row.Node.TheVariants.{Next, Body, Reset, Loop}
+use Rattle.id_parts.specs.declared.row.Node.TheVariants.{Next, Body, Reset, Loop, Fetch, Address, Store}
+use Rattle.id_parts.specs.declared.row.Node.TheVariants as node
 use Rattle.id_parts.specs.Rows.{at}
 use Rattle.id_check.specs.Scopes.{user_of}
 pub use Rattle.id_check.specs.declared.kinds.Link.{Link}
@@ -65,6 +66,10 @@ link_of o (Next x k u v) = To u
 link_of o Body = Nowhere
 link_of o (Reset v) = Nowhere
 link_of o (Loop h w l) = To l
+link_of o (node.Array a b) = Fixed Array
+link_of o (Fetch t i) = Fixed Int
+link_of o (Address t i) = Nowhere
+link_of o (Store a v) = Nowhere
 link_of o (Block b) = To b
 link_of o (Binding x a) = To a
 link_of o (Def x h k b) = Fixed k

@@ -159,9 +159,12 @@ fn link_of(binder: Option<usize>, node: Node) -> Link
         Node::Binding { value, .. } => Link::To(value),
         Node::Next { outer, .. } => Link::To(outer),
         Node::Loop { last, .. } => Link::To(last),
+        Node::Array { .. } => Link::Fixed(Kind::Array),
+        Node::Fetch { .. } => Link::Fixed(Kind::Int),
         Node::Def { result, .. } => Link::Fixed(result),
         Node::Head | Node::Split { .. } | Node::Program => Link::Nowhere,
         Node::Enter { .. } | Node::Arg { .. } => Link::Nowhere,
+        Node::Address { .. } | Node::Store { .. } => Link::Nowhere,
         Node::Start | Node::LoopHead { .. } | Node::Variable | Node::Entries => Link::Nowhere,
         Node::Switches { .. } | Node::Turn | Node::Body | Node::Reset { .. } => Link::Nowhere,
     }

@@ -7,7 +7,7 @@ ghost use Rattle.id_parts.specs.Tables.{IsFormed};
 ghost use Rattle.id_parts.specs.Turns.{params_at};
 ghost use Rattle.id_check.specs.Causes as causes;
 ghost use Rattle.id_check.specs.Causes.{causes_below, causes_in, unknown, wrong, wrong_argument, wrong_both};
-ghost use Rattle.id_check.specs.Causes.{wrong_count, wrong_like};
+ghost use Rattle.id_check.specs.Causes.{wrong_cell, wrong_count, wrong_like};
 ghost use Rattle.id_check.specs.Causes.{wrong_equals, wrong_operands, wrong_params};
 ghost use Rattle.id_value.specs.declared.BinaryOp.TheVariants as class;
 ghost use Rattle.id_check.specs.Counts.{AreCounts};
@@ -100,6 +100,10 @@ fn note_row(
         Node::Split { test } => note_wrong(first, rows, kinds, Kind::Bool, test),
         Node::Switches { test } => note_wrong(first, rows, kinds, Kind::Bool, test),
         Node::Next { outer, value, .. } => note_next(first, rows, kinds, outer, value),
+        Node::Array { low, high } => note_both(first, rows, kinds, Kind::Int, low, high),
+        Node::Fetch { target, index } => note_cell(first, rows, kinds, target, index),
+        Node::Address { target, index } => note_cell(first, rows, kinds, target, index),
+        Node::Store { value, .. } => note_wrong(first, rows, kinds, Kind::Int, value),
         Node::If {
             then,
             otherwise,
@@ -353,6 +357,23 @@ fn note_next(
         (wrong_like rows.now (λ i. get_or kinds.now i None) (get_or kinds.now outer None) value) first.new }
 {
     note_like(first, rows, kinds, kinds[outer], value);
+}
+
+/// Notes the target and the index of a fetch or a store that are wrong. Takes no memory.
+fn note_cell(
+    first: &mut Option<CheckCause>,
+    rows: &[Row],
+    kinds: &[Option<Kind>],
+    target: usize,
+    index: usize,
+)
+    requires kinds { length kinds.now ≡ length rows.now }
+    requires target { target < length rows.now }
+    requires index { index < length rows.now }
+    ensures { Notes first.old (wrong_cell rows.now (λ i. get_or kinds.now i None) target index) first.new }
+{
+    note_wrong(first, rows, kinds, Kind::Array, target);
+    note_wrong(first, rows, kinds, Kind::Int, index);
 }
 
 /// Notes the operands that are wrong, where one kind is wanted of both. Takes no memory.

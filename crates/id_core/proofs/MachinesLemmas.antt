@@ -1,6 +1,6 @@
 -- Lemmas on specs/Machines.antt.
-use Rattle.std.proofs.Common.{◌≡◌, ℕ, suc, ◌+◌, ◌<◌, ◌≤◌, Bool, true, false, cond, eqb, eq-eqb, ◌||◌, Option, Some, None, List, [], ◌∷◌, ◌++◌, map, filter, max, length, get_or, set, take, drop, refl, sym, ap, subst, ◌∙◌, ⊎_elim, arith}
-use Rattle.std.specs.Prelude.{All, slice_index, slice_get, option_map, option_and_then}
+use Rattle.std.proofs.Common.{◌≡◌, ℕ, suc, ◌+◌, ◌<◌, Bool, true, false, cond, eqb, eq-eqb, ◌||◌, Some, None, List, [], ◌∷◌, ◌++◌, map, filter, length, get_or, set, take, drop, refl, sym, ap, subst, ◌∙◌, ⊎_elim, arith}
+use Rattle.std.specs.Prelude.{All, slice_index, slice_get, option_map}
 use Rattle.std.specs.List.{list_any, remove}
 use Rattle.std.specs.List.Sorted.{IsStrictlyIncreasing}
 use Rattle.std.proofs.lemmas.List.{length-map, length-append, length-set, get_or-map, get_or-set_same, get_or-set_other, map-set}
@@ -10,31 +10,22 @@ use Rattle.std.proofs.Math.Seq.{get_or-append_seam}
 use Rattle.std.proofs.lemmas.List.Elements.{All-cons, All-append, All-take, All-drop}
 use Rattle.id_graph.specs.declared.dests.Port.TheVariants as port
 use Rattle.id_graph.specs.declared.instr.Block.{Block}
-use Rattle.id_graph.specs.declared.instr.Instr.{Instr}
 use Rattle.id_graph.specs.declared.instr.Op.TheVariants.{Merge, Back}
 use Rattle.id_graph.specs.declared.instr.PortKind.TheVariants as kind
 use Rattle.id_graph.specs.Graph.{Parts}
-use Rattle.id_graph.specs.Ports.{port_kind}
-use Rattle.id_meaning.specs.declared.SourceValue.{SourceValue}
-use Rattle.id_tag.specs.Kinds.{kind_of}
+use Rattle.id_value.specs.declared.Constant.{Constant}
 use Rattle.id_tag.specs.Routes.{route_of}
 use Rattle.std.proofs.lemmas.Option.{slice_get_within, slice_get-map}
-use Rattle.id_tag.specs.declared.Tag.{Tag}
-use Rattle.id_tag.specs.declared.Payload.{Payload}
 use Rattle.id_tag.specs.declared.Payload.TheVariants.{Token}
 use Rattle.id_tag.specs.declared.Value.TheVariants as value
 use Rattle.id_tag.specs.declared.Message.{Message}
 use Rattle.id_valid.specs.Roles.{has_main_place, IsMain}
 use Rattle.id_valid.specs.Validator.{IsMainBlock}
-use Rattle.id_match.specs.Waiting.{Store}
-use Rattle.id_ops.specs.Operators.{fired}
-use Rattle.id_record.specs.Events.{tag_of}
-use Rattle.id_element.specs.Fits.{Fits, TokenFits, PayloadFits}
-use Rattle.id_element.specs.Steps.{State, fresh, arrival, waiting_after, arriving, at_instr, outcome, fresh_numbers, next_stamp, outputs_of, event_of, state_after, is_ended}
+use Rattle.id_element.specs.Fits.{Fits, TokenFits}
+use Rattle.id_element.specs.Steps.{fresh, outputs_of, event_of, state_after, is_ended}
 use Rattle.id_element.specs.Replays.{ElementView}
 use Rattle.id_core.specs.Machines.{world_of, taken_from, given_to, routed_to, delivered, event_of_given, event_of_routed, event_at, start_message, input_messages, block_messages, AreTaken, IsElement, AreElements, IsMachine}
 use Rattle.id_observe.specs.Observed.{main_tag}
-use Rattle.id_record.proofs.SendsLemmas.{length-sent, length-numbered}
 use Rattle.id_element.proofs.SentLemmas.{kind_at_op}
 use Rattle.id_core.proofs.InputsLemmas.{inputs_fit}
 
@@ -65,10 +56,10 @@ second_of_main p q (x ∷ xs) b is here = at (λ e. second_of_main p q xs b e he
     at rest false e = let found = rest e in rw found (any_or_true (q x))
 
 -- the start messages fit the graph, where its entries take the inputs
-pub start_fits : (g : Parts) (b : Block) (vs : List SourceValue) → IsMain g b → IsMainBlock g b → AreTaken g b.entries vs → All (Fits g) (block_messages (b ∷ []) vs)
+pub start_fits : (g : Parts) (b : Block) (vs : List Constant) → IsMain g b → IsMainBlock g b → AreTaken g b.entries vs → All (Fits g) (block_messages (b ∷ []) vs)
 start_fits g b vs main kept inputs =
     let first : TokenFits g 0 (main_tag b.first) port.Zero value.Signal =
-    record { kind = kind_at_op g b.first port.Zero (Merge kind.Signal) kept.trigger; in_time = omega arith; continuation = tt } in
+    record { kind = kind_at_op g b.first port.Zero (Merge kind.Signal) kept.trigger; in_time = omega arith; continuation = tt; address = tt } in
     let second : TokenFits g 0 (main_tag (b.first + 1)) port.Zero (value.Continuation (main_tag 0)) = record {
       kind = kind_at_op g (b.first + 1) port.Zero (Back kept.kind) kept.back;
       in_time = omega arith;
@@ -84,6 +75,7 @@ start_fits g b vs main kept inputs =
         ),
         omega arith,
       );
+      address = tt;
     } in
     let trigger : Message = start_message 0 (Token (main_tag b.first) port.Zero value.Signal) in
     let back : Message = start_message 1 (Token (main_tag (b.first + 1)) port.Zero (value.Continuation (main_tag 0))) in

@@ -7,10 +7,8 @@ use Rattle.id_graph.specs.declared.dests.Port.TheVariants.{Zero}
 use Rattle.id_graph.specs.declared.instr.Op.TheVariants.{Merge}
 use Rattle.id_graph.specs.Graph.{Parts}
 pub use Rattle.id_observe.specs.Observed.{main_tag}
-use Rattle.id_meaning.specs.declared.SourceValue.{SourceValue}
-use Rattle.id_meaning.specs.declared.SourceValue.TheVariants as source
-use Rattle.id_tag.specs.declared.Tag.{Tag}
-use Rattle.id_tag.specs.declared.Value.{Value}
+use Rattle.id_value.specs.declared.Constant.{Constant}
+use Rattle.id_ops.specs.Operators.{constant_value}
 use Rattle.id_tag.specs.declared.Value.TheVariants as value
 use Rattle.id_tag.specs.declared.Sender.TheVariants as sender
 use Rattle.id_tag.specs.declared.Payload.{Payload}
@@ -33,21 +31,16 @@ pub record World : Type 0 where
 abbrev pub start_message : ℕ → Payload → Message
 start_message k x = record { payload = x; sender = sender.Start; position = 0; output = k; stamp = 0 }
 
--- an input as the value of a token
-abbrev pub token_value : SourceValue → Value
-token_value (source.Int n) = value.Int n
-token_value (source.Bool b) = value.Bool b
-
 -- the messages that bring inputs to entries, one each in their order, with numbers from k on
-abbrev pub input_messages : ℕ → List ℕ → List SourceValue → List Message
+abbrev pub input_messages : ℕ → List ℕ → List Constant → List Message
 input_messages k [] vs = []
 input_messages k (n ∷ ns) [] = []
 input_messages k (n ∷ ns) (v ∷ vs) =
-    start_message k (Token (main_tag n) Zero (token_value v)) ∷ input_messages (suc k) ns vs
+    start_message k (Token (main_tag n) Zero (constant_value v)) ∷ input_messages (suc k) ns vs
 
 -- a signal to the first instruction of main's block, the continuation to instruction 0 to port 0 of its second, and the
 -- inputs to its entries
-abbrev pub block_messages : List Block → List SourceValue → List Message
+abbrev pub block_messages : List Block → List Constant → List Message
 block_messages [] vs = []
 block_messages (b ∷ bs) vs =
     start_message 0 (Token (main_tag b.first) Zero value.Signal) ∷
@@ -55,22 +48,22 @@ block_messages (b ∷ bs) vs =
     (value.Continuation (main_tag 0))) ∷ input_messages 2 b.entries vs
 
 -- the start messages of a graph with these inputs
-abbrev pub start_messages : Parts → List SourceValue → List Message
+abbrev pub start_messages : Parts → List Constant → List Message
 start_messages g vs = block_messages (filter (has_main_place g) g.blocks) vs
 
 -- there is one input for each of these instructions, and each is a merge of its input's kind
-abbrev pub AreTaken : Parts → List ℕ → List SourceValue → Type 0
+abbrev pub AreTaken : Parts → List ℕ → List Constant → Type 0
 AreTaken g [] [] = Unit {0}
 AreTaken g [] (v ∷ vs) = ⊥
 AreTaken g (n ∷ ns) [] = ⊥
-AreTaken g (n ∷ ns) (v ∷ vs) = (op_at g n ≡ Some (Merge (kind_of (token_value v)))) × AreTaken g ns vs
+AreTaken g (n ∷ ns) (v ∷ vs) = (op_at g n ≡ Some (Merge (kind_of (constant_value v)))) × AreTaken g ns vs
 
 -- these are inputs for the graph: one for each entry of main's block, of its kind
-pub record TakesInputs (g : Parts) (vs : List SourceValue) : Type 0 where
+pub record TakesInputs (g : Parts) (vs : List Constant) : Type 0 where
   pub taken : (b : Block) → IsMain g b → AreTaken g b.entries vs
 
 -- the machine of so many elements at its start with these inputs
-abbrev pub start : Parts → List SourceValue → ℕ → World
+abbrev pub start : Parts → List Constant → ℕ → World
 start g vs count = record { elements = replicate count fresh; flight = start_messages g vs }
 
 -- the message at position k leaves, the list closes up, the element n takes it from the state e to the next, and the

@@ -4,11 +4,12 @@ ghost use Rattle.std.specs.Prelude.{◌≡◌, ◌↔◌, IsTrue, length};
 ghost use Rattle.id_graph.specs.declared.instr.Op.TheVariants.{Merge};
 ghost use Rattle.id_core.specs.Machines.{AreTaken, TakesInputs};
 
-use crate::machine::token_value;
 use id_element::op_at;
 use id_graph::{Graph, Op, PortKind};
-use id_meaning::{Inputs, SourceValue};
+use id_meaning::Inputs;
+use id_ops::value_of;
 use id_valid::Valid;
+use id_value::Constant;
 
 /// Whether these are inputs for the graph: one for each entry of main's block, of its kind. It tests the condition of
 /// `Machine::new`. Takes no memory.
@@ -21,12 +22,12 @@ pub fn takes_inputs(graph: &Valid, inputs: &Inputs) -> bool
 }
 
 /// Whether each of these instructions is a merge of its input's kind, where there are as many inputs.
-fn are_taken(graph: &Graph, entries: &[u32], inputs: &[SourceValue]) -> bool
+fn are_taken(graph: &Graph, entries: &[u32], inputs: &[Constant]) -> bool
     requires { length entries.now ≡ length inputs.now }
     ensures { IsTrue result ↔ AreTaken graph.now entries.now inputs.now }
 {
     for (index, entry) in entries.iter().enumerate() {
-        let value = token_value(inputs[index]);
+        let value = value_of(inputs[index]);
         if !is_merge(op_at(graph, *entry), value.kind()) {
             return false;
         }

@@ -10,17 +10,20 @@ ghost use Rattle.id_record.specs.Events.{AllWent};
 ghost use Rattle.id_element.specs.Fits.{Fits};
 ghost use Rattle.id_element.specs.Steps.{fresh};
 ghost use Rattle.id_core.specs.Machines.{AreElements, TakesInputs, input_messages, start_message, start_messages};
-ghost use Rattle.id_core.specs.Machines.{token_value};
 ghost use Rattle.id_observe.specs.Observed.{main_tag};
 
 use crate::flight::Flight;
-use id_element::{Element, TakeError, most_outputs};
+use id_element::{Element, TakeError};
 use id_graph::Port;
 use id_meaning::{Inputs, SourceFault, SourceValue};
-use id_observe::{Observed, answer, first_fault, main_tag, observe_records};
+use id_observe::{
+    Holdings, Observed, answer, first_fault, main_tag, observe_holdings, observe_records,
+};
+use id_ops::value_of;
 use id_record::Step;
 use id_tag::{Message, Payload, Sender, Value, route};
 use id_valid::Valid;
+use id_value::Constant;
 use std::alloc::{AllocError, AllocFailed, Global};
 use std::collections::VecDeque;
 use std::marker::Model;
@@ -94,7 +97,7 @@ impl<'a> Machine<'a> {
     ghost use Rattle.id_core.specs.declared.machine.MachineError.TheVariants.{BadElements};
     ghost use Rattle.id_element.specs.declared.step.TakeError.TheVariants.{StampEnd};
     ghost use Rattle.id_element.specs.Fits.{Fits};
-    ghost use Rattle.id_core.specs.Observed.{answer, faults, names};
+    ghost use Rattle.id_core.specs.Observed.{answer, cells, faults, names, structures, waiting};
     ghost use Rattle.id_core.specs.Machines.{AreElements, IsQuiet, TakesInputs, delivered, event_at, start, world_of};
 
     /// The machine of so many elements at its start, with the start messages in flight: a signal to
@@ -145,8 +148,8 @@ impl<'a> Machine<'a> {
         if self.elements[number].is_ended(&message) {
             return Err(TakeError::StampEnd);
         }
-        self.flight
-            .reserve(most_outputs(self.graph.graph(), &message))?;
+        let most = self.elements[number].most_outputs(&message);
+        self.flight.reserve(most)?;
         let step = self.elements[number].take(message, &mut self.outputs)?;
         take_out(&mut self.flight, position);
         move_all(&mut self.outputs, &mut self.flight);
@@ -168,21 +171,35 @@ impl<'a> Machine<'a> {
         Flight::new(&self.flight)
     }
 
-    /// What the run so far shows: the answer, what binders have, and the faults.
+    /// What the run so far shows: the answer, what binders have, structures and their cells, fetches that wait, and the
+    /// faults.
     pub fn observe(&self, alloc: Global) -> Result<Observed, AllocError>
-        ensures answer { IfOk result (λ o. o.answer ≡ answer self.now.world) }
+        ensures answer { IfOk result (λ o. o.answer ≡ answer self.now.graph self.now.world) }
         ensures names { IfOk result (λ o. o.names ≡ names self.now.graph self.now.world) }
+        ensures structures { IfOk result (λ o. o.structures ≡ structures self.now.graph self.now.world) }
+        ensures cells { IfOk result (λ o. o.cells ≡ cells self.now.graph self.now.world) }
+        ensures waiting { IfOk result (λ o. o.waiting ≡ waiting self.now.graph self.now.world) }
         ensures faults { IfOk result (λ o. o.faults ≡ faults self.now.graph self.now.world) }
     {
         let shown = observe_records(alloc, self.graph, self.elements.as_slice())?;
         Ok(shown)
     }
 
-    /// The answer that the run so far shows, for who asks for nothing else. Takes no memory.
-    pub fn answer(&self) -> Option<SourceValue>
-        ensures { result ≡ answer self.now.world }
+    /// The answer that the run so far shows, for who asks for nothing else. Memory is wanted only where it is a
+    /// structure.
+    pub fn answer(&self, alloc: Global) -> Result<Option<SourceValue>, AllocError>
+        ensures { IfOk result (λ o. o ≡ answer self.now.graph self.now.world) }
     {
-        answer(self.elements.as_slice())
+        answer(alloc, self.graph, self.elements.as_slice())
+    }
+
+    /// What the run so far shows of structures, for who asks for nothing else.
+    pub fn holdings(&self, alloc: Global) -> Result<Holdings, AllocError>
+        ensures structures { IfOk result (λ o. o.structures ≡ structures self.now.graph self.now.world) }
+        ensures cells { IfOk result (λ o. o.cells ≡ cells self.now.graph self.now.world) }
+        ensures waiting { IfOk result (λ o. o.waiting ≡ waiting self.now.graph self.now.world) }
+    {
+        observe_holdings(alloc, self.graph, self.elements.as_slice())
     }
 
     /// The first fault of the run so far, by stamp and then by element, if there is one.
@@ -256,27 +273,17 @@ fn start_flight(
 /// Adds the messages that bring inputs to as many entries, one each in their order.
 fn add_inputs(
     entries: &[u32],
-    inputs: &[SourceValue],
+    inputs: &[Constant],
     flight: &mut VecDeque<Message>,
 ) -> Result<(), AllocError>
     requires { length entries.now ≡ length inputs.now }
     ensures { OnOk result (flight.new.items ≡ flight.old.items ++ input_messages 2 entries.now inputs.now) }
 {
     for (index, entry) in entries.iter().enumerate() {
-        let value = token_value(inputs[index]);
+        let value = value_of(inputs[index]);
         flight.push_back(start_message(index + 2, *entry, value))?;
     }
     Ok(())
-}
-
-/// An input as the value of a token.
-pub(crate) fn token_value(input: SourceValue) -> Value
-    ensures { result ≡ token_value input }
-{
-    match input {
-        SourceValue::Int(number) => Value::Int(number),
-        SourceValue::Bool(truth) => Value::Bool(truth),
-    }
 }
 
 /// A start message to port 0 of an instruction, with its number.

@@ -4,6 +4,7 @@ use Rattle.id_graph.specs.declared.dests.Port.{Port}
 use Rattle.id_graph.specs.declared.dests.Port.TheVariants as port
 use Rattle.id_graph.specs.Graph.{Parts}
 use Rattle.id_tag.specs.declared.Tag.{Tag}
+use Rattle.id_tag.specs.declared.Cell.{Cell}
 use Rattle.id_tag.specs.declared.Value.{Value}
 use Rattle.id_tag.specs.declared.Value.TheVariants as value
 use Rattle.id_tag.specs.Tags.{same_tag}
@@ -14,7 +15,7 @@ use Rattle.id_match.specs.Ports.{other_port, same_port}
 use Rattle.id_match.specs.Keyed.{Keyed, keyed_by_answer}
 use Rattle.id_match.specs.Waiting.{Store, waits, answer_of, offer_after}
 use Rattle.id_match.proofs.KeyedLemmas.{waits-offer_after}
-use Rattle.id_element.specs.Fits.{TokenFits, ContinuationFits}
+use Rattle.id_element.specs.Fits.{TokenFits, ContinuationFits, ReplyFits, WriteFits}
 
 -- what fits at a stamp fits at a later one
 pub TokenFits-later : (g : Parts) (a b : ℕ) (t : Tag) (p : Port) (v : Value) → a ≤ b → TokenFits g a t p v → TokenFits g b t p v
@@ -22,13 +23,22 @@ TokenFits-later g a b t p v later fits = record {
   kind = fits.kind;
   in_time = omega arith;
   continuation = continuation_later v fits.continuation;
+  address = fits.address;
 } where
   continuation_later : (v : Value) → ContinuationFits g a t p v → ContinuationFits g b t p v
   continuation_later (value.Continuation u) c = (c.0, c.1, omega (arith, c.2))
   continuation_later value.Signal c = tt
   continuation_later (value.Int n) c = tt
   continuation_later (value.Bool x) c = tt
+  continuation_later (value.Structure x) c = tt
+  continuation_later (value.Address x) c = tt
   continuation_later (value.Context x) c = tt
+
+pub ReplyFits-later : (g : Parts) (a b : ℕ) (t : Tag) → a ≤ b → ReplyFits g a t → ReplyFits g b t
+ReplyFits-later g a b t later fits = record { merge = fits.merge; in_time = omega (arith, later, fits.in_time) }
+
+pub WriteFits-later : (g : Parts) (a b : ℕ) (c : Cell) (v : Value) (t : Tag) → a ≤ b → WriteFits g a c v t → WriteFits g b c v t
+WriteFits-later g a b c v t later fits = record { cell = fits.cell; kind = fits.kind; store = fits.store; in_time = omega (arith, later, fits.in_time) }
 
 same_port-true : (p q : Port) → same_port p q ≡ true → p ≡ q
 same_port-true port.Zero port.Zero e = refl

@@ -14,10 +14,10 @@ use Rattle.id_record.specs.declared.step.Step.TheVariants.{Went}
 use Rattle.id_record.specs.Events.{AllWent}
 use Rattle.id_element.specs.Fits.{IsFor}
 use Rattle.id_element.proofs.EventsLemmas.{AllWent-push}
-use Rattle.id_element.proofs.OutcomeLemmas.{WaitingFits-take, counted-take}
+use Rattle.id_element.proofs.OutcomeLemmas.{CellsFit-empty, CellsFit-take, WaitingFits-take, counted-take, numbered-take}
 use Rattle.id_graph.specs.Graph.{Parts}
 use Rattle.id_element.specs.Steps.{State, fresh, state_after, step_of, event_of}
-use Rattle.id_element.specs.Replays.{after_all, messages, IsReplayed, IsLegal, WaitingFits, ElementView, Replays, IsKept}
+use Rattle.id_element.specs.Replays.{after_all, messages, IsReplayed, IsLegal, CellsFit, WaitingFits, ElementView, Replays, IsKept}
 
 -- one more message is one more step
 after_all-push : (g : Parts) (n : ℕ) (s : State) (ms : List Message) (m : Message) → after_all g n s (ms ++ m ∷ []) ≡ state_after g n (after_all g n s ms) m
@@ -37,7 +37,9 @@ Replays-fresh e is = record {
   state = let P : State → Type 0 = λ s. IsReplayed e.graph e.number s in subst P (sym is) refl;
   legal = let P : State → Type 0 = λ s. All (IsLegal e.graph e.count e.number) s.events in subst P (sym is) (All-nil (IsLegal e.graph e.count e.number));
   waiting = let P : State → Type 0 = λ s. WaitingFits e.graph s in subst P (sym is) (λ t p v waits. absurd (none t p v waits));
+  cells = let P : State → Type 0 = λ s. CellsFit e.graph s in subst P (sym is) (CellsFit-empty e.graph 0);
   counted = let P : State → Type 0 = λ s. s.contexts ≤ s.stamp in subst P (sym is) (omega arith);
+  numbered = let P : State → Type 0 = λ s. s.structures ≤ s.stamp in subst P (sym is) (omega arith);
 } where
   none : (t : Tag) (p : Port) (v : Value) → waits empty t p ≡ Some v → ⊥
   none t p v waits = let nothing = waits-empty t p in cc
@@ -48,7 +50,9 @@ Replays-take e m is_for left last replays = record {
   state = IsReplayed-take e.graph e.number e.state m replays.state;
   legal = All-push (IsLegal e.graph e.count e.number) e.state.events (event_of e.graph e.number e.state m) replays.legal (record { for_it = is_for; stamp_left = left; stamp = omega (arith, left, last) });
   waiting = WaitingFits-take e.graph e.number e.state m replays.waiting is_for.fits;
+  cells = CellsFit-take e.graph e.number e.state m replays.cells is_for.fits;
   counted = counted-take e.graph e.number e.state m replays.counted;
+  numbered = numbered-take e.graph e.number e.state m replays.numbered;
 }
 
 -- an element that has handled nothing keeps what it should

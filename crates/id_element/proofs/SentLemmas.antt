@@ -17,7 +17,7 @@ use Rattle.id_value.proofs.ResultsLemmas.{IsNumberOrFault, calculated-number, wh
 use Rattle.id_graph.specs.declared.instr.Dyadic.{Dyadic}
 use Rattle.id_graph.specs.declared.instr.Dyadic.TheVariants as class
 use Rattle.id_graph.specs.declared.instr.Op.{Op}
-use Rattle.id_graph.specs.declared.instr.Op.TheVariants.{Const, Unary, Binary, Merge, Switch, Back, Enter, Send, Next, Reset}
+use Rattle.id_graph.specs.declared.instr.Op.TheVariants.{Const, Unary, Binary, Merge, Switch, Back, Enter, Send, Next, Reset, Alloc, Address, Fetch, Store}
 use Rattle.id_graph.specs.declared.instr.PortKind.{PortKind}
 use Rattle.id_graph.specs.declared.instr.PortKind.TheVariants as kind
 use Rattle.id_graph.specs.Ports.{outcome_kind, port_kind, sends, two_sides, unary_kind}
@@ -35,21 +35,26 @@ use Rattle.std.specs.List.{list_any}
 use Rattle.std.proofs.lemmas.Bool.Decides.{nat_tests}
 use Rattle.id_valid.specs.Roles.{op_at, is_first, is_second}
 use Rattle.id_valid.specs.Validator.{IsTaken, IsValid}
-use Rattle.id_valid.proofs.ValidatorLemmas.{IsEntered-valid, IsSentTo-valid}
+use Rattle.id_valid.proofs.ValidatorLemmas.{IsEntered-valid, IsSentTo-valid, IsReply-valid}
 use Rattle.id_ops.specs.declared.Operands.{Operands}
 use Rattle.id_ops.specs.declared.Operands.TheVariants as operands
 use Rattle.id_ops.specs.declared.Fresh.{Fresh}
 use Rattle.id_ops.specs.declared.Fired.{Fired}
-use Rattle.id_ops.specs.declared.Fired.TheVariants.{Out, Side, Moved, Entered, Sent, Failed, Nothing}
-use Rattle.id_ops.specs.Operators.{fired, fired_by, fired_const, fired_unary, fired_binary, fired_merge, fired_switch, fired_back, fired_enter, tag_within, fired_send, fired_next, fired_reset, side_of}
-use Rattle.id_element.specs.Fits.{TokenFits, PayloadFits, ContinuationFits}
-use Rattle.id_record.specs.Sends.{beside, moved_to, sent, started, token_to}
+use Rattle.id_ops.specs.declared.Fired.TheVariants.{Out, Side, Moved, Entered, Sent, Asked, Stored, Failed, Nothing}
+use Rattle.id_ops.specs.Operators.{fired, fired_by, fired_const, fired_unary, fired_binary, fired_merge, fired_switch, fired_back, fired_enter, tag_within, fired_send, fired_next, fired_reset, fired_alloc, fired_address, fired_fetch, fired_store, side_of}
+use Rattle.id_value.specs.Bounds.{are_good, is_inside}
+use Rattle.id_value.specs.declared.FaultKind.TheVariants.{BadBounds, OutOfBounds}
+use Rattle.id_tag.specs.declared.Structure.{Structure}
+use Rattle.id_element.specs.Fits.{AddressFits, IsCell, TokenFits, ReplyFits, ReadFits, WriteFits, PayloadFits, ContinuationFits}
+use Rattle.id_record.specs.Sends.{beside, moved_to, replies, sent, started, token_to}
 
--- the value is no continuation
+-- the value is no continuation, and an address in it is that of a cell
 abbrev pub IsPlain : Value → Type 0
 IsPlain value.Signal = Unit {0}
 IsPlain (value.Int n) = Unit {0}
 IsPlain (value.Bool b) = Unit {0}
+IsPlain (value.Structure s) = Unit {0}
+IsPlain (value.Address c) = IsCell c
 IsPlain (value.Context c) = Unit {0}
 IsPlain (value.Continuation u) = ⊥
 
@@ -61,6 +66,8 @@ FiredFits g stamp k two (Side b v) = (k ≡ Some (kind_of v)) × IsPlain v × (t
 FiredFits g stamp k two (Moved i v) = (k ≡ Some (kind_of v)) × IsPlain v × (i ≤ stamp)
 FiredFits g stamp k two (Entered c) = k ≡ Some kind.Context
 FiredFits g stamp k two (Sent u v) = TokenFits g stamp u port.Zero v
+FiredFits g stamp k two (Asked c r) = ReadFits g stamp c r
+FiredFits g stamp k two (Stored c v w) = WriteFits g stamp c v w
 FiredFits g stamp k two (Failed f) = Unit {0}
 FiredFits g stamp k two Nothing = Unit {0}
 
@@ -74,6 +81,8 @@ const_fits g stamp (constant.Int n) (operands.One value.Signal) = (refl, tt)
 const_fits g stamp (constant.Bool b) (operands.One value.Signal) = (refl, tt)
 const_fits g stamp c (operands.One (value.Int n)) = tt
 const_fits g stamp c (operands.One (value.Bool b)) = tt
+const_fits g stamp c (operands.One (value.Structure s)) = tt
+const_fits g stamp c (operands.One (value.Address x)) = tt
 const_fits g stamp c (operands.One (value.Context x)) = tt
 const_fits g stamp c (operands.One (value.Continuation u)) = tt
 const_fits g stamp c (operands.Two v w) = tt
@@ -102,6 +111,8 @@ plain_elsewhere : (g : Parts) (stamp : ℕ) (t : Tag) (op : Op) (v : Value) → 
 plain_elsewhere g stamp t op value.Signal is other fits = tt
 plain_elsewhere g stamp t op (value.Int n) is other fits = tt
 plain_elsewhere g stamp t op (value.Bool b) is other fits = tt
+plain_elsewhere g stamp t op (value.Structure s) is other fits = tt
+plain_elsewhere g stamp t op (value.Address c) is other fits = fits.address
 plain_elsewhere g stamp t op (value.Context c) is other fits = tt
 plain_elsewhere g stamp t op (value.Continuation u) is other fits =
     let back = fits.continuation.1.1.back in absurd (other fits.continuation.1.0 cc)
@@ -111,6 +122,8 @@ plain_at_one : (g : Parts) (stamp : ℕ) (t : Tag) (v : Value) → TokenFits g s
 plain_at_one g stamp t value.Signal fits = tt
 plain_at_one g stamp t (value.Int n) fits = tt
 plain_at_one g stamp t (value.Bool b) fits = tt
+plain_at_one g stamp t (value.Structure s) fits = tt
+plain_at_one g stamp t (value.Address c) fits = fits.address
 plain_at_one g stamp t (value.Context c) fits = tt
 plain_at_one g stamp t (value.Continuation u) fits = let zero = fits.continuation.0 in cc
 
@@ -119,8 +132,19 @@ plain_fits : (g : Parts) (stamp : ℕ) (t : Tag) (p : Port) (v : Value) → IsPl
 plain_fits g stamp t p value.Signal h = tt
 plain_fits g stamp t p (value.Int n) h = tt
 plain_fits g stamp t p (value.Bool b) h = tt
+plain_fits g stamp t p (value.Structure s) h = tt
+plain_fits g stamp t p (value.Address c) h = tt
 plain_fits g stamp t p (value.Context c) h = tt
 plain_fits g stamp t p (value.Continuation u) h = absurd h
+
+plain_address : (v : Value) → IsPlain v → AddressFits v
+plain_address value.Signal h = tt
+plain_address (value.Int n) h = tt
+plain_address (value.Bool b) h = tt
+plain_address (value.Structure s) h = tt
+plain_address (value.Address c) h = h
+plain_address (value.Context c) h = tt
+plain_address (value.Continuation u) h = tt
 
 -- the kind at a port of an instruction is that of its operator
 pub kind_at_op : (g : Parts) (n : ℕ) (p : Port) (op : Op) → op_at g n ≡ Some op → kind_at g.instrs (record { instr = n; port = p }) ≡ port_kind op p
@@ -176,6 +200,8 @@ switch_fits g stamp t k (operands.Two (value.Bool b) w) is fits = zero (same_kin
     zero false = tt
 switch_fits g stamp t k (operands.Two value.Signal w) is fits = tt
 switch_fits g stamp t k (operands.Two (value.Int n) w) is fits = tt
+switch_fits g stamp t k (operands.Two (value.Structure s) w) is fits = tt
+switch_fits g stamp t k (operands.Two (value.Address c) w) is fits = tt
 switch_fits g stamp t k (operands.Two (value.Context c) w) is fits = tt
 switch_fits g stamp t k (operands.Two (value.Continuation u) w) is fits = tt
 switch_fits g stamp t k (operands.One v) is fits = tt
@@ -194,6 +220,7 @@ back_fits g stamp t k (operands.Two (value.Continuation u) w) is fits = zero (sa
           kind = at ∙ ap (λ x. Some x) same ∙ kinds;
           in_time = here.2;
           continuation = plain_fits g stamp u port.Zero w (plain_at_one g stamp t w fits.1);
+          address = plain_address w (plain_at_one g stamp t w fits.1);
         }
 
     zero : (b : Bool) → FiredFits g stamp None false (cond b (Sent u w) Nothing)
@@ -202,6 +229,8 @@ back_fits g stamp t k (operands.Two (value.Continuation u) w) is fits = zero (sa
 back_fits g stamp t k (operands.Two value.Signal w) is fits = tt
 back_fits g stamp t k (operands.Two (value.Int n) w) is fits = tt
 back_fits g stamp t k (operands.Two (value.Bool b) w) is fits = tt
+back_fits g stamp t k (operands.Two (value.Structure s) w) is fits = tt
+back_fits g stamp t k (operands.Two (value.Address c) w) is fits = tt
 back_fits g stamp t k (operands.Two (value.Context c) w) is fits = tt
 back_fits g stamp t k (operands.One v) is fits = tt
 
@@ -222,6 +251,7 @@ send_fits g stamp t k n (operands.Two (value.Context c) w) valid is fits = zero 
           kind = kind_at_op g n port.Zero (Merge k) entry.merge ∙ kinds;
           in_time = omega arith;
           continuation = plain_fits g stamp (tag_within c n) port.Zero w (plain_at_one g stamp t w fits.1);
+          address = plain_address w (plain_at_one g stamp t w fits.1);
         }
 
     zero : (b : Bool) → FiredFits g stamp None false (cond b (Sent (tag_within c n) w) Nothing)
@@ -230,8 +260,63 @@ send_fits g stamp t k n (operands.Two (value.Context c) w) valid is fits = zero 
 send_fits g stamp t k n (operands.Two value.Signal w) valid is fits = tt
 send_fits g stamp t k n (operands.Two (value.Int i) w) valid is fits = tt
 send_fits g stamp t k n (operands.Two (value.Bool b) w) valid is fits = tt
+send_fits g stamp t k n (operands.Two (value.Structure s) w) valid is fits = tt
+send_fits g stamp t k n (operands.Two (value.Address c) w) valid is fits = tt
 send_fits g stamp t k n (operands.Two (value.Continuation u) w) valid is fits = tt
 send_fits g stamp t k n (operands.One v) valid is fits = tt
+
+alloc_fits : (g : Parts) (stamp : ℕ) (fresh : Fresh) (o : Operands) → FiredFits g stamp (Some kind.Structure) false (fired_alloc fresh o)
+alloc_fits g stamp fresh (operands.Two (value.Int lo) (value.Int hi)) = go (are_good lo hi)
+  where
+    made : Structure
+    made = record { element = fresh.element; serial = fresh.structure; low = lo; high = hi }
+
+    go : (b : Bool) → FiredFits g stamp (Some kind.Structure) false (cond b (Out (value.Structure made)) (Failed BadBounds))
+    go true = (refl, tt)
+    go false = tt
+alloc_fits g stamp fresh _ = tt
+
+-- an address that goes out is that of a cell
+address_fits : (g : Parts) (stamp : ℕ) (o : Operands) → FiredFits g stamp (Some kind.Address) false (fired_address o)
+address_fits g stamp (operands.Two (value.Structure s) (value.Int i)) = go (is_inside s.low s.high i) refl
+  where
+    go : (b : Bool) → is_inside s.low s.high i ≡ b
+        → FiredFits g stamp (Some kind.Address) false (cond b (Out (value.Address (record { structure = s; index = i }))) (Failed OutOfBounds))
+    go true e = (refl, e)
+    go false e = tt
+address_fits g stamp _ = tt
+
+-- the reply of a fetch is a merge for numbers
+fetch_fits : (g : Parts) (stamp : ℕ) (t : Tag) (r : ℕ) (o : Operands) → IsValid g → op_at g t.instr ≡ Some (Fetch r) → t.iteration ≤ stamp → OperandsFit g stamp t o
+    → FiredFits g stamp None false (fired_fetch r t o)
+fetch_fits g stamp t r (operands.One (value.Address c)) valid is in_time fits =
+    record { cell = fits.address; reply = record { merge = IsReply-valid g t.instr r valid is; in_time = in_time } }
+fetch_fits g stamp t r (operands.One value.Signal) valid is in_time fits = tt
+fetch_fits g stamp t r (operands.One (value.Int n)) valid is in_time fits = tt
+fetch_fits g stamp t r (operands.One (value.Bool b)) valid is in_time fits = tt
+fetch_fits g stamp t r (operands.One (value.Structure s)) valid is in_time fits = tt
+fetch_fits g stamp t r (operands.One (value.Context c)) valid is in_time fits = tt
+fetch_fits g stamp t r (operands.One (value.Continuation u)) valid is in_time fits = tt
+fetch_fits g stamp t r (operands.Two v w) valid is in_time fits = tt
+
+-- a store writes a number to a cell, from itself
+store_fits : (g : Parts) (stamp : ℕ) (t : Tag) (o : Operands) → op_at g t.instr ≡ Some Store → t.iteration ≤ stamp → OperandsFit g stamp t o
+    → FiredFits g stamp None false (fired_store t o)
+store_fits g stamp t (operands.Two (value.Address c) (value.Int n)) is in_time fits =
+    record { cell = fits.0.address; kind = refl; store = is; in_time = in_time }
+store_fits g stamp t (operands.Two (value.Address c) value.Signal) is in_time fits = tt
+store_fits g stamp t (operands.Two (value.Address c) (value.Bool b)) is in_time fits = tt
+store_fits g stamp t (operands.Two (value.Address c) (value.Structure s)) is in_time fits = tt
+store_fits g stamp t (operands.Two (value.Address c) (value.Address d)) is in_time fits = tt
+store_fits g stamp t (operands.Two (value.Address c) (value.Context d)) is in_time fits = tt
+store_fits g stamp t (operands.Two (value.Address c) (value.Continuation u)) is in_time fits = tt
+store_fits g stamp t (operands.Two value.Signal w) is in_time fits = tt
+store_fits g stamp t (operands.Two (value.Int n) w) is in_time fits = tt
+store_fits g stamp t (operands.Two (value.Bool b) w) is in_time fits = tt
+store_fits g stamp t (operands.Two (value.Structure s) w) is in_time fits = tt
+store_fits g stamp t (operands.Two (value.Context c) w) is in_time fits = tt
+store_fits g stamp t (operands.Two (value.Continuation u) w) is in_time fits = tt
+store_fits g stamp t (operands.One v) is in_time fits = tt
 
 -- what fires fits, where the operands do and the iteration is below the stamp
 pub fired_fits : (g : Parts) (stamp : ℕ) (t : Tag) (op : Op) (o : Operands) (fresh : Fresh) → IsValid g → op_at g t.instr ≡ Some op → t.iteration < stamp → OperandsFit g stamp t o
@@ -246,6 +331,10 @@ fired_fits g stamp t (Enter b r) o fresh valid is in_time fits = enter_fits g st
 fired_fits g stamp t (Send k n) o fresh valid is in_time fits = send_fits g stamp t k n o valid is fits
 fired_fits g stamp t (Next k) o fresh valid is in_time fits = next_fits g stamp t k o is in_time fits
 fired_fits g stamp t (Reset k) o fresh valid is in_time fits = reset_fits g stamp t k o is fits
+fired_fits g stamp t Alloc o fresh valid is in_time fits = alloc_fits g stamp fresh o
+fired_fits g stamp t Address o fresh valid is in_time fits = address_fits g stamp o
+fired_fits g stamp t (Fetch r) o fresh valid is in_time fits = fetch_fits g stamp t r o valid is (omega (arith, in_time)) fits
+fired_fits g stamp t Store o fresh valid is in_time fits = store_fits g stamp t o is (omega (arith, in_time)) fits
 
 -- ---- what starts a block
 
@@ -276,11 +365,13 @@ enter_starts g stamp t c b r valid is in_time =
       kind = kind_at_op g b port.Zero (Merge kind.Signal) trigger;
       in_time = omega arith;
       continuation = tt;
+      address = tt;
     } in
     let back : PayloadFits g stamp (Token (tag_within c (b + 1)) port.Zero (value.Continuation (beside t r))) = record {
       kind = kind_at_op g (b + 1) port.Zero (Back entered.kind) entered.back;
       in_time = omega arith;
       continuation = (refl, (entered.kind, record { second = second_behind g b entered.first; back = entered.back; merge = entered.reply }), in_time);
+      address = tt;
     } in
     let second : Payload = Token (tag_within c (b + 1)) port.Zero (value.Continuation (beside t r)) in
     All-cons (PayloadFits g stamp) _ (second ∷ []) signal (All-cons (PayloadFits g stamp) second [] back (All-nil (PayloadFits g stamp)))
@@ -297,6 +388,10 @@ starts_fit g stamp t c (Back k) valid is in_time = All-nil (PayloadFits g stamp)
 starts_fit g stamp t c (Send k n) valid is in_time = All-nil (PayloadFits g stamp)
 starts_fit g stamp t c (Next k) valid is in_time = All-nil (PayloadFits g stamp)
 starts_fit g stamp t c (Reset k) valid is in_time = All-nil (PayloadFits g stamp)
+starts_fit g stamp t c Alloc valid is in_time = All-nil (PayloadFits g stamp)
+starts_fit g stamp t c Address valid is in_time = All-nil (PayloadFits g stamp)
+starts_fit g stamp t c (Fetch r) valid is in_time = All-nil (PayloadFits g stamp)
+starts_fit g stamp t c Store valid is in_time = All-nil (PayloadFits g stamp)
 
 -- a token of the kind that the instruction sends fits at each of its destinations
 token_fits : (g : Parts) (stamp : ℕ) (t : Tag) (i : Instr) (v : Value) → t.iteration ≤ stamp → sends i.op ≡ Some (kind_of v) → IsPlain v → (d : Dest) → IsTaken g.instrs i.op d → PayloadFits g stamp (token_to t v d)
@@ -304,6 +399,7 @@ token_fits g stamp t i v in_time kinds plain d taken = record {
   kind = let P : Option PortKind → Type 0 = λ k. IsSomeAnd k (λ k. kind_at g.instrs d ≡ Some k) in subst P kinds taken;
   in_time = in_time;
   continuation = plain_fits g stamp (record { context = t.context; iteration = t.iteration; instr = d.instr }) d.port v plain;
+  address = plain_address v plain;
 }
 
 -- tokens of that kind fit at destinations that take it
@@ -330,5 +426,26 @@ sent_fits g stamp t i f valid is in_time = at f
         (tokens_fit g stamp t i (value.Context c) true in_time fits tt (All-true_arcs (IsTaken g.instrs i.op) i taken))
         (starts_fit g stamp t c i.op valid (ap (option_map (λ j. j.op)) is) in_time)
     at (Sent u v) fits = All-cons (PayloadFits g stamp) _ [] fits (All-nil (PayloadFits g stamp))
+    at (Asked c r) fits = All-cons (PayloadFits g stamp) _ [] fits (All-nil (PayloadFits g stamp))
+    at (Stored c v w) fits = All-cons (PayloadFits g stamp) _ [] fits (All-nil (PayloadFits g stamp))
     at (Failed k) fits = All-nil (PayloadFits g stamp)
     at Nothing fits = All-nil (PayloadFits g stamp)
+
+-- ---- replies
+
+-- a number fits at a reply that fits
+pub reply_fits : (g : Parts) (stamp : ℕ) (v : Value) (t : Tag) → kind_of v ≡ kind.Int → ReplyFits g stamp t → PayloadFits g stamp (Token t port.Zero v)
+reply_fits g stamp (value.Int n) t is fits =
+    record { kind = kind_at_op g t.instr port.Zero (Merge kind.Int) fits.merge; in_time = fits.in_time; continuation = tt; address = tt }
+reply_fits g stamp value.Signal t is fits = cc
+reply_fits g stamp (value.Bool b) t is fits = cc
+reply_fits g stamp (value.Structure s) t is fits = cc
+reply_fits g stamp (value.Address c) t is fits = cc
+reply_fits g stamp (value.Context c) t is fits = cc
+reply_fits g stamp (value.Continuation u) t is fits = cc
+
+-- and at all of them
+pub replies_fit : (g : Parts) (stamp : ℕ) (v : Value) (ts : List Tag) → kind_of v ≡ kind.Int → All (ReplyFits g stamp) ts → All (PayloadFits g stamp) (replies v ts)
+replies_fit g stamp v ts is fit =
+    All-map (PayloadFits g stamp) (λ t. Token t port.Zero v) ts
+    (All-weaker (ReplyFits g stamp) (λ t. PayloadFits g stamp (Token t port.Zero v)) (λ t. reply_fits g stamp v t is) ts fit)

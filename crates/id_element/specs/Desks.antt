@@ -2,6 +2,13 @@
 use Rattle.id_element.specs.declared.desk.Desk.{Desk}
 use Rattle.id_element.specs.Steps.{State}
 
--- what waits, the last stamp, how many contexts were made, and the record
+-- what waits, the cells, the last stamp, how many contexts and structures were made, and the record
 abbrev pub state_of : Desk → State
-state_of d = record { waiting = d.waiting; stamp = d.stamp; contexts = d.contexts; events = d.log.events }
+state_of d = record {
+  waiting = d.waiting;
+  cells = d.cells;
+  stamp = d.stamp;
+  contexts = d.contexts;
+  structures = d.structures;
+  events = d.log.events;
+}

@@ -1,13 +1,18 @@
 -- The record of an element leads to its state (docs/MACHINE.md, "The record").
 use Rattle.std.specs.Prelude.{◌≡◌, ◌↔◌, Bool, IsTrue, ◌<◌, ◌≤◌, ◌-◌, ◌^◌, ℕ, Some, List, [], ◌∷◌, map, All}
 use Rattle.id_graph.specs.declared.dests.Port.{Port}
+use Rattle.std.specs.FinMap.{get}
+use Rattle.id_graph.specs.declared.instr.PortKind.TheVariants.{Int}
 use Rattle.id_tag.specs.declared.Tag.{Tag}
+use Rattle.id_tag.specs.declared.Cell.{Cell}
+use Rattle.id_tag.specs.Kinds.{kind_of}
 use Rattle.id_tag.specs.declared.Value.{Value}
 use Rattle.id_tag.specs.declared.Message.{Message}
 use Rattle.id_match.specs.Waiting.{waits}
+use Rattle.id_bank.specs.Cells.{CellState, Present, Deferred}
 use Rattle.id_graph.specs.Graph.{Parts}
 use Rattle.id_record.specs.Events.{EventView, AllWent}
-use Rattle.id_element.specs.Fits.{TokenFits, IsFor}
+use Rattle.id_element.specs.Fits.{TokenFits, ReplyFits, IsFor}
 use Rattle.id_element.specs.Steps.{State, fresh, state_after}
 
 -- the state of the element n after these messages, one after another
@@ -41,13 +46,24 @@ pub record ElementView : Type 0 where
 abbrev pub WaitingFits : Parts → State → Type 0
 WaitingFits g s = (t : Tag) (p : Port) (v : Value) → waits s.waiting t p ≡ Some v → TokenFits g s.stamp t p v
 
--- what every element keeps: its record leads to its state, by legal events, what waits fits the graph, and as it makes
--- at most one context in an event, the stamp runs out before their numbers do
+-- what a cell holds fits at the stamp: its value is a number, and the replies that wait for one name merges for numbers
+abbrev pub CellFits : Parts → ℕ → CellState → Type 0
+CellFits g stamp (Present v w) = kind_of v ≡ Int
+CellFits g stamp (Deferred ts) = All (ReplyFits g stamp) ts
+
+-- whatever the cells hold fits the graph at the last stamp
+abbrev pub CellsFit : Parts → State → Type 0
+CellsFit g s = (c : Cell) (x : CellState) → get s.cells c ≡ Some x → CellFits g s.stamp x
+
+-- what every element keeps: its record leads to its state, by legal events, what waits and what the cells hold fits the
+-- graph, and as it makes at most one context or structure in an event, the stamp runs out before their numbers do
 pub record Replays (e : ElementView) : Type 0 where
   pub state : IsReplayed e.graph e.number e.state
   pub legal : All (IsLegal e.graph e.count e.number) e.state.events
   pub waiting : WaitingFits e.graph e.state
+  pub cells : CellsFit e.graph e.state
   pub counted : e.state.contexts ≤ e.state.stamp
+  pub numbered : e.state.structures ≤ e.state.stamp
 
 -- what an element keeps beside its state: its record replays, and a flag says whether every event went well
 pub record IsKept (e : ElementView) (went : Bool) : Type 0 where

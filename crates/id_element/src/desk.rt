@@ -1,21 +1,35 @@
-//! What an element works on: what waits, the last stamp, how many contexts it has made, and the record.
+//! What an element works on: what waits, its cells, the last stamp, how many contexts and structures it has made, and
+//! the record.
 
-use crate::outcome::{made_by, most_sent, next_stamp, react, send};
+ghost use Rattle.std.specs.Prelude.{◌≡◌};
+ghost use Rattle.id_element.specs.Steps.{readers_of};
+
+use crate::outcome::{
+    allocated_by, answer_fired, fill_verdict, fresh_numbers, made_by, most_sent, next_stamp, react,
+    send, send_replies,
+};
 use crate::step::TakeError;
+use id_bank::{Bank, ReadAnswer, WriteAnswer};
 use id_graph::{Graph, Instr};
 use id_match::Waiting;
-use id_record::{Envelope, Handled, Reaction, Record, Step, full_step};
+use id_ops::Fired;
+use id_record::{
+    Envelope, Handled, NO_REPLIES, Reaction, Record, Replies, Step, Verdict, full_step, message,
+    tag_of, token_at, value_of,
+};
 use id_tag::{Message, Payload, Tag};
 use id_valid::Valid;
 use std::alloc::{AllocError, Global};
 
-/// What waits at an element, its last stamp, how many contexts it has made, and its record, which
-/// knows its number.
+/// What waits at an element, its cells, its last stamp, how many contexts and structures it has made, and its record,
+/// which knows its number.
 #[derive(Drop)]
 pub(crate) struct Desk<'a> {
     pub(crate) waiting: Waiting,
+    pub(crate) cells: Bank,
     pub(crate) stamp: u64,
     pub(crate) contexts: u64,
+    pub(crate) structures: u64,
     pub(crate) log: Record<'a>,
 }
 
@@ -23,9 +37,12 @@ impl<'a> Desk<'a> {
     ghost use Rattle.std.specs.Prelude.{◌≡◌, ◌+◌, ◌-◌, ◌^◌, ◌<◌, ◌≤◌, ◌++◌, ◌∷◌, [], ◌↔◌, Some, slice_get, length, max};
     ghost use Rattle.std.specs.Prelude.{vec_len, vec_capacity, IfOk, OnOk, OnErr, IsTrue};
     ghost use Rattle.id_element.specs.declared.step.TakeError.TheVariants.{StampEnd};
-    ghost use Rattle.id_record.specs.Events.{full_step, tag_of};
+    ghost use Rattle.id_record.specs.Events.{full_step, tag_of, value_of};
     ghost use Rattle.id_element.specs.Fits.{Fits};
-    ghost use Rattle.id_element.specs.Steps.{fresh, is_ended, made_by, step_of, outputs_of, state_after};
+    ghost use Rattle.id_ops.specs.declared.Fired.TheVariants.{Nothing};
+    ghost use Rattle.id_record.specs.declared.step.Step.TheVariants.{Went};
+    ghost use Rattle.id_element.specs.Steps.{allocated_by, answer_fired, answer_sends, fill_sends, fill_verdict, fresh};
+    ghost use Rattle.id_element.specs.Steps.{is_ended, made_by, step_of, outputs_of, readers_of, state_after};
     ghost use Rattle.id_record.specs.Sends.{numbered, sent};
     ghost use Rattle.id_valid.specs.Validator.{IsValid};
     ghost use Rattle.id_element.specs.Desks.{state_of};
@@ -41,8 +58,10 @@ impl<'a> Desk<'a> {
     {
         Desk {
             waiting: Waiting::new(alloc),
+            cells: Bank::new(alloc),
             stamp: 0,
             contexts: 0,
+            structures: 0,
             log: Record::new(alloc, number, graph),
         }
     }
@@ -57,6 +76,7 @@ impl<'a> Desk<'a> {
         requires own { graph.now ≡ self.old.log.graph }
         requires valid { IsValid graph.now }
         requires counted { self.old.contexts ≤ self.old.stamp }
+        requires numbered { self.old.structures ≤ self.old.stamp }
         requires fits { Fits graph.now message }
 
         ensures step { IfOk result (λ step. step ≡ step_of graph.now self.old.log.element (state_of self.old) message) }
@@ -78,17 +98,36 @@ impl<'a> Desk<'a> {
         match message.payload {
             Payload::Token { tag, port, value } => {
                 let instr = &graph.instrs()[tag.instr as usize];
-                self.reserve(instr, outputs)?;
-                let number = self.log.element();
-                let made = self.contexts;
-                let reaction = react(&mut self.waiting, instr, number, made, tag, port, value)?;
+                self.reserve(most_sent(instr), 0, outputs)?;
+                let next = fresh_numbers(self.log.element(), self.contexts, self.structures);
+                let reaction = react(&mut self.waiting, instr, next, tag, port, value)?;
                 Ok(self.conclude(instr, tag, message, stamp, reaction, outputs))
+            }
+            Payload::Read { cell, reply } => {
+                self.reserve(1, 0, outputs)?;
+                let answer = self.cells.read(cell, reply)?;
+                Ok(self.answer(message, stamp, answer, outputs))
+            }
+            Payload::Write {
+                cell,
+                value,
+                origin,
+            } => {
+                let readers = self.cells.readers(cell);
+                self.reserve(readers, readers, outputs)?;
+                let answer = self.cells.write(cell, value, origin)?;
+                Ok(self.fill(message, stamp, &answer, outputs))
             }
         }
     }
 
-    /// Makes room for an event at this instruction.
-    fn reserve(&mut self, instr: &Instr, outputs: &mut Vec<Message>) -> Result<(), AllocError>
+    /// Makes room for an event that sends so many messages, to so many replies.
+    fn reserve(
+        &mut self,
+        sent: usize,
+        replies: usize,
+        outputs: &mut Vec<Message>,
+    ) -> Result<(), AllocError>
         ensures state { state_of self.new ≡ state_of self.old }
         ensures number { self.new.log.element ≡ self.old.log.element }
         ensures graph { self.new.log.graph ≡ self.old.log.graph }
@@ -96,11 +135,11 @@ impl<'a> Desk<'a> {
 
         ensures room { OnOk result (0 < self.new.log.room) }
         ensures room_aside { OnOk result (0 < self.new.log.room_aside) }
-        ensures room_in_outputs { OnOk result (vec_len outputs.new + most_sent instr.now ≤ vec_capacity outputs.new) }
+        ensures room_for_replies { OnOk result (replies ≤ self.new.log.room_for_replies) }
+        ensures room_in_outputs { OnOk result (vec_len outputs.new + sent ≤ vec_capacity outputs.new) }
     {
-        let room = most_sent(instr);
-        outputs.reserve(room)?;
-        self.log.reserve()?;
+        outputs.reserve(sent)?;
+        self.log.reserve(replies)?;
         Ok(())
     }
 
@@ -122,17 +161,21 @@ impl<'a> Desk<'a> {
         requires graph { IsGraph self.old.log.graph }
         requires valid { IsValid self.old.log.graph }
         requires counted { self.old.contexts + 1 < 2 ^ 64 }
+        requires numbered { self.old.structures + 1 < 2 ^ 64 }
 
         ensures step { result ≡ full_step message.payload reaction.verdict }
         ensures waiting { self.new.waiting ≡ self.old.waiting }
+        ensures cells { self.new.cells ≡ self.old.cells }
         ensures stamp { self.new.stamp ≡ stamp }
         ensures contexts { self.new.contexts ≡ self.old.contexts + made_by reaction.fired }
+        ensures structures { self.new.structures ≡ self.old.structures + allocated_by instr.now.op reaction.fired }
         ensures number { self.new.log.element ≡ self.old.log.element }
         ensures graph { self.new.log.graph ≡ self.old.log.graph }
         ensures events { self.new.log.events ≡ self.old.log.events ++ record {
           element = self.old.log.element;
           stamp = stamp;
           message = message;
+          fired = reaction.fired;
           outputs = numbered self.old.log.element (length self.old.log.events) stamp 0
               (sent (Some instr.now.op) (arcs_on (side_of reaction.fired) instr.now) tag reaction.fired);
           step = full_step message.payload reaction.verdict;
@@ -151,9 +194,139 @@ impl<'a> Desk<'a> {
             message,
             stamp,
             reaction,
+            replies: NO_REPLIES,
         });
         self.stamp = stamp;
         self.contexts += made_by(reaction.fired);
+        self.structures += allocated_by(instr.op, reaction.fired);
         full_step(&message.payload, reaction.verdict)
+    }
+
+    /// Sends the answer to a read, if it has one, and records the event. There is room for it. Takes no memory.
+    fn answer(
+        &mut self,
+        read: Message,
+        stamp: u64,
+        answer: ReadAnswer,
+        outputs: &mut Vec<Message>,
+    ) -> Step
+        requires room { 0 < self.old.log.room }
+        requires room_aside { 0 < self.old.log.room_aside }
+        requires room_in_outputs { vec_len outputs.old + 1 ≤ vec_capacity outputs.old }
+
+        ensures step { result ≡ Went }
+        ensures state { state_of self.new ≡ record (state_of self.old) {
+          stamp = stamp;
+          events = self.old.log.events ++ record {
+            element = self.old.log.element;
+            stamp = stamp;
+            message = read;
+            fired = answer_fired (tag_of read.payload) answer;
+            outputs = numbered self.old.log.element (length self.old.log.events) stamp 0
+                (answer_sends (tag_of read.payload) answer);
+            step = Went;
+          } ∷ [];
+        } }
+        ensures number { self.new.log.element ≡ self.old.log.element }
+        ensures graph { self.new.log.graph ≡ self.old.log.graph }
+        ensures outputs { outputs.new.items ≡ outputs.old.items
+            ++ numbered self.old.log.element (length self.old.log.events) stamp 0
+            (answer_sends (tag_of read.payload) answer) }
+    {
+        let envelope = Envelope {
+            number: self.log.element(),
+            position: self.log.len(),
+            stamp,
+        };
+        let reply = tag_of(&read.payload);
+        let fired = answer_fired(reply, answer);
+        if let ReadAnswer::Now(value) = answer {
+            outputs.push_reserved(message(envelope, 0, token_at(reply, value)));
+        }
+        self.log.push(Handled {
+            message: read,
+            stamp,
+            reaction: Reaction {
+                fired,
+                verdict: Verdict::Went,
+            },
+            replies: NO_REPLIES,
+        });
+        self.stamp = stamp;
+        Step::Went
+    }
+
+    /// Sends the value of a write to the replies that waited for it, and records the event. There is room for it. Takes
+    /// no memory.
+    fn fill(
+        &mut self,
+        write: Message,
+        stamp: u64,
+        answer: &WriteAnswer,
+        outputs: &mut Vec<Message>,
+    ) -> Step
+        requires room { 0 < self.old.log.room }
+        requires room_aside { 0 < self.old.log.room_aside }
+        requires room_for_replies { length (readers_of answer.now) ≤ self.old.log.room_for_replies }
+        requires room_in_outputs { vec_len outputs.old + length (readers_of answer.now) ≤ vec_capacity outputs.old }
+
+        ensures step { result ≡ full_step write.payload (fill_verdict (tag_of write.payload) answer.now) }
+        ensures state { state_of self.new ≡ record (state_of self.old) {
+          stamp = stamp;
+          events = self.old.log.events ++ record {
+            element = self.old.log.element;
+            stamp = stamp;
+            message = write;
+            fired = Nothing;
+            outputs = numbered self.old.log.element (length self.old.log.events) stamp 0
+                (fill_sends (value_of write.payload) answer.now);
+            step = full_step write.payload (fill_verdict (tag_of write.payload) answer.now);
+          } ∷ [];
+        } }
+        ensures number { self.new.log.element ≡ self.old.log.element }
+        ensures graph { self.new.log.graph ≡ self.old.log.graph }
+        ensures outputs { outputs.new.items ≡ outputs.old.items
+            ++ numbered self.old.log.element (length self.old.log.events) stamp 0
+            (fill_sends (value_of write.payload) answer.now) }
+    {
+        let envelope = Envelope {
+            number: self.log.element(),
+            position: self.log.len(),
+            stamp,
+        };
+        let from = self.log.count_replies();
+        let verdict = fill_verdict(tag_of(&write.payload), answer);
+        let readers = readers_of(answer);
+        send_replies(
+            readers,
+            value_of(&write.payload),
+            envelope,
+            &mut self.log,
+            outputs,
+        );
+        self.log.push(Handled {
+            message: write,
+            stamp,
+            reaction: Reaction {
+                fired: Fired::Nothing,
+                verdict,
+            },
+            replies: Replies {
+                from,
+                count: readers.len(),
+            },
+        });
+        self.stamp = stamp;
+        full_step(&write.payload, verdict)
+    }
+}
+
+/// The replies that a write releases.
+fn readers_of(answer: &WriteAnswer) -> &[Tag]
+    ensures { result.now ≡ readers_of answer.now }
+{
+    match answer {
+        WriteAnswer::Readers(readers) => readers.as_slice(),
+        WriteAnswer::Second(_) => &[],
     }
 }

@@ -1,14 +1,16 @@
-//! An element: what waits at it, its last stamp and its record (docs/MACHINE.md, "Element step").
+//! An element: what waits at it, its cells, its last stamp and its record (docs/MACHINE.md, "Element step").
 
 ghost use Rattle.std.specs.Prelude.{◌≡◌, ◌↔◌, IsTrue};
 ghost use Rattle.id_record.specs.declared.step.Step.TheVariants.{Went};
 
 use crate::desk::Desk;
+use crate::outcome::most_sent;
 use crate::step::TakeError;
+use id_bank::{Filled, Reader};
 use id_record::{Events, Step};
-use id_tag::Message;
+use id_tag::{Message, Payload};
 use id_valid::Valid;
-use std::alloc::Global;
+use std::alloc::{AllocError, Global};
 use std::marker::Model;
 
 /// An element of the machine: it handles the messages that are routed to it, one at a time.
@@ -44,11 +46,13 @@ impl<'a> Model for Element<'a> {
 }
 
 impl<'a> Element<'a> {
-    ghost use Rattle.std.specs.Prelude.{◌≡◌, ◌<◌, ◌≤◌, ◌++◌, ◌↔◌, All, IfOk, OnOk, OnErr, IsTrue};
+    ghost use Rattle.std.specs.Prelude.{◌≡◌, ◌<◌, ◌≤◌, ◌++◌, ◌↔◌, All, length, IfOk, OnOk, OnErr, IsTrue};
+    ghost use Rattle.std.specs.FinMap.{empty};
     ghost use Rattle.id_element.specs.declared.step.TakeError.TheVariants.{StampEnd};
     ghost use Rattle.id_record.specs.Events.{AllWent};
     ghost use Rattle.id_element.specs.Fits.{Fits, IsFor};
     ghost use Rattle.id_element.specs.Replays.{Replays};
+    ghost use Rattle.id_bank.specs.Cells.{cells_of, deferred_of};
     ghost use Rattle.id_element.specs.Steps.{fresh, is_ended, step_of, outputs_of, state_after};
 
     /// The element of this number, of so many, that has handled nothing. Takes no memory.
@@ -91,6 +95,20 @@ impl<'a> Element<'a> {
         Ok(step)
     }
 
+    /// An upper bound on what the element sends for a message that fits. Takes no memory.
+    pub fn most_outputs(&self, message: &Message) -> usize
+        requires { Fits self.now.graph message.now }
+        ensures { length (outputs_of self.now.graph self.now.number self.now.state message.now) ≤ result }
+    {
+        match message.payload {
+            Payload::Token { tag, .. } => {
+                most_sent(&self.desk.log.graph().graph().instrs()[tag.instr as usize])
+            }
+            Payload::Read { .. } => 1,
+            Payload::Write { cell, .. } => self.desk.cells.readers(cell),
+        }
+    }
+
     /// Whether no stamp is left for the message. Takes no memory.
     pub fn is_ended(&self, message: &Message) -> bool
         ensures { result ≡ is_ended self.now.state message.now }
@@ -103,6 +121,27 @@ impl<'a> Element<'a> {
         ensures { IsTrue result ↔ AllWent self.now.state.events }
     {
         self.went
+    }
+
+    /// Whether no cell was read or written here. Takes no memory.
+    pub fn has_no_cells(&self) -> bool
+        ensures { IsTrue result ↔ (self.now.state.cells ≡ empty) }
+    {
+        self.desk.cells.is_empty()
+    }
+
+    /// The cells that hold a value, in the order of cells.
+    pub fn cells(&self, alloc: Global) -> Result<Vec<Filled>, AllocError>
+        ensures { IfOk result (λ cs. cs.items ≡ cells_of self.now.state.cells) }
+    {
+        self.desk.cells.cells(alloc)
+    }
+
+    /// The replies that wait for the value of a cell, in the order of their cells, and of one cell in order of arrival.
+    pub fn deferred(&self, alloc: Global) -> Result<Vec<Reader>, AllocError>
+        ensures { IfOk result (λ rs. rs.items ≡ deferred_of self.now.state.cells) }
+    {
+        self.desk.cells.deferred(alloc)
     }
 
     /// The record: the events, in order. Takes no memory.

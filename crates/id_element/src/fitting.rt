@@ -2,19 +2,23 @@
 
 ghost use Rattle.std.specs.Prelude.{◌≡◌, ◌↔◌, IsTrue};
 ghost use Rattle.id_graph.specs.declared.instr.PortKind.{PortKind};
-ghost use Rattle.id_graph.specs.declared.instr.Op.TheVariants.{Back, Merge};
+ghost use Rattle.id_graph.specs.declared.instr.Op.TheVariants.{Back, Merge, Store};
+ghost use Rattle.id_graph.specs.declared.instr.PortKind.TheVariants.{Int};
 ghost use Rattle.id_graph.specs.Graph.{kind_at};
 ghost use Rattle.id_tag.specs.Kinds.{kind_of};
 ghost use Rattle.id_valid.specs.Roles.{is_second, op_at};
-ghost use Rattle.id_element.specs.Fits.{Fits, TokenFits, ContinuationFits, TakesReturn};
+ghost use Rattle.id_element.specs.Fits.{AddressFits, ContinuationFits, Fits, IsCell, ReadFits, ReplyFits};
+ghost use Rattle.id_element.specs.Fits.{TakesReturn, TokenFits, WriteFits};
 
-use id_graph::{Dest, Graph, Op, Port, kind_at};
-use id_tag::{Message, Payload, Tag, Value};
+use id_graph::{Dest, Graph, Op, Port, PortKind, kind_at};
+use id_tag::{Cell, Message, Payload, Tag, Value};
 use id_valid::Valid;
+use id_value::is_inside;
 
 /// Whether a message fits a graph: its port exists and takes a value of its kind, a continuation comes
-/// to port 0 of a block's `back` and names a merge of that block's result kind, and no iteration in it
-/// is above its stamp. Takes no memory. A continuation is looked for among the graph's blocks; every
+/// to port 0 of a block's `back` and names a merge of that block's result kind, a cell lies inside its
+/// structure's bounds, a reply names a merge for numbers, a write of a number a `store`, and no iteration
+/// in it is above its stamp. Takes no memory. A continuation is looked for among the graph's blocks; every
 /// other message takes constant time (docs/MACHINE.md, "Element step").
 pub fn fits(graph: &Valid, message: &Message) -> bool
     ensures { IsTrue result ↔ Fits graph.now message.now }
@@ -23,6 +27,12 @@ pub fn fits(graph: &Valid, message: &Message) -> bool
         Payload::Token { tag, port, value } => {
             token_fits(graph.graph(), message.stamp, tag, port, value)
         }
+        Payload::Read { cell, reply } => read_fits(graph.graph(), message.stamp, cell, reply),
+        Payload::Write {
+            cell,
+            value,
+            origin,
+        } => write_fits(graph.graph(), message.stamp, cell, value, origin),
     }
 }
 
@@ -33,6 +43,48 @@ fn token_fits(graph: &Graph, stamp: u64, tag: Tag, port: Port, value: Value) -> 
     has_kind(graph, tag, port, value)
         && tag.iteration <= stamp
         && continuation_fits(graph, stamp, tag, port, value)
+        && address_fits(value)
+}
+
+/// Whether a read fits at a stamp.
+fn read_fits(graph: &Graph, stamp: u64, cell: Cell, reply: Tag) -> bool
+    ensures { IsTrue result ↔ ReadFits graph.now stamp cell reply }
+{
+    is_cell(cell) && reply_fits(graph, stamp, reply)
+}
+
+/// Whether a reply fits at a stamp.
+fn reply_fits(graph: &Graph, stamp: u64, reply: Tag) -> bool
+    ensures { IsTrue result ↔ ReplyFits graph.now stamp reply }
+{
+    op_at(graph, reply.instr) == Some(Op::Merge(PortKind::Int)) && reply.iteration <= stamp
+}
+
+/// Whether a write fits at a stamp.
+fn write_fits(graph: &Graph, stamp: u64, cell: Cell, value: Value, origin: Tag) -> bool
+    ensures { IsTrue result ↔ WriteFits graph.now stamp cell value origin }
+{
+    is_cell(cell)
+        && value.kind() == PortKind::Int
+        && op_at(graph, origin.instr) == Some(Op::Store)
+        && origin.iteration <= stamp
+}
+
+/// Whether the cell's index is inside its structure's bounds.
+fn is_cell(cell: Cell) -> bool
+    ensures { IsTrue result ↔ IsCell cell }
+{
+    is_inside(cell.structure.low, cell.structure.high, cell.index)
+}
+
+/// Whether the value is no address, or that of a cell.
+fn address_fits(value: Value) -> bool
+    ensures { IsTrue result ↔ AddressFits value }
+{
+    match value {
+        Value::Address(cell) => is_cell(cell),
+        _ => true,
+    }
 }
 
 /// Whether the port exists and takes a value of this kind.

@@ -15,5 +15,4 @@ mod step;
 
 pub use element::Element;
 pub use fitting::{fits, op_at};
-pub use outcome::most_outputs;
 pub use step::TakeError;

@@ -1,23 +1,28 @@
 //! What a token does at its instruction, and what is sent for it (docs/MACHINE.md, "Element step").
 
-ghost use Rattle.std.specs.Prelude.{ℕ, Some, ◌≡◌, ◌+◌, ◌-◌, ◌^◌, ◌<◌, ◌≤◌, ◌++◌, ◌||◌, ◌==◌, length, max, vec_len};
-ghost use Rattle.std.specs.Prelude.{vec_capacity, IfOk, OnOk, OnErr, IfErr, IsTrue, false, map};
-ghost use Rattle.id_element.specs.Fits.{Fits};
-ghost use Rattle.id_element.specs.Steps.{State, outputs_of, at_instr, arrival, made_by, waiting_after, fresh_numbers};
-ghost use Rattle.id_record.specs.Sends.{HasSecond, count_started, sent, started, numbered, token_to};
+ghost use Rattle.std.specs.Prelude.{Some, ◌≡◌, ◌+◌, ◌-◌, ◌^◌, ◌<◌, ◌≤◌, ◌++◌, ◌||◌, ◌==◌, length, max, vec_len};
+ghost use Rattle.std.specs.Prelude.{vec_capacity, IfOk, OnOk, OnErr, IfErr, IsTrue, false, if◌then◌else◌, map};
+ghost use Rattle.id_bank.specs.Cells.{Cells};
+ghost use Rattle.id_element.specs.Steps.{allocated_by, answer_fired, arrival, at_instr, fill_verdict, fresh_numbers};
+ghost use Rattle.id_element.specs.Steps.{made_by, waiting_after};
+ghost use Rattle.id_record.specs.Sends.{HasSecond, count_started, sent, started, numbered, replies, token_to};
 ghost use Rattle.id_tag.specs.declared.Sender.TheVariants.{Element};
 ghost use Rattle.id_tag.specs.declared.Payload.TheVariants.{Token};
+ghost use Rattle.id_record.specs.declared.step.Verdict.TheVariants as verdict;
 ghost use Rattle.id_record.specs.Events.{full_step};
+ghost use Rattle.id_tag.specs.Tags.{same_tag};
 ghost use Rattle.id_element.specs.Firings.{firing_of, most_sent, verdict_of};
 ghost use Rattle.id_graph.specs.Graph.{arcs_on};
 ghost use Rattle.id_ops.specs.Operators.{side_of};
 
 use crate::step::{Arrival, TakeError};
-use id_graph::{Dest, Graph, Instr, Op, Port};
+use id_bank::{ReadAnswer, WriteAnswer};
+use id_graph::{Dest, Instr, Op, Port};
 use id_match::{Offered, Waiting};
 use id_ops::{Fired, Fresh, Operands, fire};
 use id_record::{
-    Envelope, Reaction, Verdict, chosen, count_started, message, moved_to, start, tag_of, token_to,
+    Envelope, Reaction, Record, Verdict, chosen, count_started, message, moved_to, start, token_at,
+    token_to,
 };
 use id_tag::{Context, Message, Payload, Tag, Value};
 use std::alloc::AllocError;
@@ -45,39 +50,30 @@ pub(crate) fn most_sent(instr: &Instr) -> usize
     dests.max(instr.others.as_slice().len()).max(1) + count_started(Some(instr.op))
 }
 
-/// An upper bound on what any element sends for a message that fits.
-pub fn most_outputs(graph: &Graph, message: &Message) -> usize
-    requires { Fits graph.now message.now }
-    ensures { (n : ℕ) (s : State) → length (outputs_of graph.now n s message.now) ≤ result }
-{
-    let tag = tag_of(&message.payload);
-    most_sent(&graph.instrs()[tag.instr as usize])
-}
-
-/// Lets a token come to its instruction, at the element of this number, which has made so many
-/// contexts. After an error nothing has changed.
+/// Lets a token come to its instruction, at an element with these next numbers. After an error nothing has changed.
 pub(crate) fn react(
     waiting: &mut Waiting,
     instr: &Instr,
-    number: u32,
-    made: u64,
+    next: Fresh,
     tag: Tag,
     port: Port,
     value: Value,
 ) -> Result<Reaction, AllocError>
-    requires made { made + 1 < 2 ^ 64 }
-    requires iteration { tag.iteration < 2 ^ 64 - 1 }
-    ensures outcome { IfOk result (λ r. at_instr (fresh_numbers number made) waiting.old tag port value (Some instr.now)
+    requires { tag.iteration < 2 ^ 64 - 1 }
+    ensures outcome { IfOk result (λ r. (b : Cells) → at_instr next waiting.old b tag port value (Some instr.now)
         ≡ record {
+          fired = r.fired;
           sends = sent (Some instr.now.op) (arcs_on (side_of r.fired) instr.now) tag r.fired;
           step = full_step (Token tag port value) r.verdict;
           waiting = waiting.new;
+          cells = b;
           made = made_by r.fired;
+          allocated = allocated_by instr.now.op r.fired;
         }) }
     ensures err { OnErr result (waiting.new ≡ waiting.old) }
 {
     let arrival = arrive(waiting, instr.op, tag, port, value)?;
-    let fired = firing(instr, tag, number, made, arrival);
+    let fired = firing(instr, tag, next, arrival);
     let verdict = verdict(arrival, fired);
     Ok(Reaction { fired, verdict })
 }
@@ -105,29 +101,29 @@ fn arrive(
 }
 
 /// What the instruction does with what arrived: nothing where the token waits or is blocked.
-fn firing(instr: &Instr, tag: Tag, number: u32, made: u64, arrival: Arrival) -> Fired
-    requires made { made + 1 < 2 ^ 64 }
-    requires iteration { tag.iteration < 2 ^ 64 - 1 }
-    ensures { result ≡ firing_of instr.now tag (fresh_numbers number made) arrival }
+fn firing(instr: &Instr, tag: Tag, next: Fresh, arrival: Arrival) -> Fired
+    requires { tag.iteration < 2 ^ 64 - 1 }
+    ensures { result ≡ firing_of instr.now tag next arrival }
 {
     match arrival {
-        Arrival::Fires(operands) => fire(instr, tag, operands, fresh_numbers(number, made)),
+        Arrival::Fires(operands) => fire(instr, tag, operands, next),
         Arrival::Waits | Arrival::Blocked => Fired::Nothing,
     }
 }
 
-/// The numbers that an element gives next, where it has made so many contexts. Takes no memory.
-fn fresh_numbers(number: u32, made: u64) -> Fresh
-    requires { made + 1 < 2 ^ 64 }
-    ensures { result ≡ fresh_numbers number made }
+/// The numbers that an element gives next, where it has made so many contexts and so many structures. Takes no memory.
+pub(crate) fn fresh_numbers(number: u32, contexts: u64, structures: u64) -> Fresh
+    requires contexts { contexts + 1 < 2 ^ 64 }
+    requires structures { structures + 1 < 2 ^ 64 }
+    ensures { result ≡ fresh_numbers number contexts structures }
 {
     Fresh {
         context: Context {
             element: number,
-            serial: made + 1,
+            serial: contexts + 1,
         },
         element: number,
-        structure: 1,
+        structure: structures + 1,
     }
 }
 
@@ -138,6 +134,47 @@ pub(crate) fn made_by(fired: Fired) -> u64
     match fired {
         Fired::Entered(_) => 1,
         _ => 0,
+    }
+}
+
+/// How many structures a firing of the operator takes. Takes no memory.
+pub(crate) fn allocated_by(op: Op, fired: Fired) -> u64
+    ensures { result ≡ allocated_by op fired }
+{
+    match (op, fired) {
+        (Op::Alloc, Fired::Out(_)) => 1,
+        _ => 0,
+    }
+}
+
+/// What the answer to a read fires. Takes no memory.
+pub(crate) fn answer_fired(reply: Tag, answer: ReadAnswer) -> Fired
+    ensures { result ≡ answer_fired reply answer }
+{
+    match answer {
+        ReadAnswer::Now(value) => Fired::Sent(reply, value),
+        ReadAnswer::Deferred => Fired::Nothing,
+    }
+}
+
+/// What a write of this origin comes to. Takes no memory.
+pub(crate) fn fill_verdict(origin: Tag, answer: &WriteAnswer) -> Verdict
+    ensures { result ≡ fill_verdict origin answer.now }
+{
+    match answer {
+        WriteAnswer::Readers(_) => Verdict::Went,
+        WriteAnswer::Second(first) => second_verdict(*first, origin),
+    }
+}
+
+/// What a write comes to that finds the value of a store of this tag: a write never comes twice.
+fn second_verdict(first: Tag, origin: Tag) -> Verdict
+    ensures { result ≡ (if same_tag first origin then verdict.Stuck else verdict.Second first) }
+{
+    if first == origin {
+        Verdict::Stuck
+    } else {
+        Verdict::Second(first)
     }
 }
 
@@ -176,15 +213,22 @@ pub(crate) fn send(
             send_start(instr.op, tag, context, dests.len(), envelope, outputs);
         }
         Fired::Sent(target, value) => {
-            outputs.push_reserved(message(
-                envelope,
-                0,
-                Payload::Token {
-                    tag: target,
-                    port: Port::Zero,
-                    value,
-                },
-            ));
+            outputs.push_reserved(message(envelope, 0, token_at(target, value)));
+        }
+        Fired::Asked { cell, reply } => {
+            outputs.push_reserved(message(envelope, 0, Payload::Read { cell, reply }));
+        }
+        Fired::Stored {
+            cell,
+            value,
+            origin,
+        } => {
+            let write = Payload::Write {
+                cell,
+                value,
+                origin,
+            };
+            outputs.push_reserved(message(envelope, 0, write));
         }
         Fired::Failed(_) | Fired::Nothing => {}
     }
@@ -224,5 +268,31 @@ fn send_all(dests: &[Dest], tag: Tag, value: Value, envelope: Envelope, outputs:
 {
     for (number, dest) in dests.iter().enumerate() {
         outputs.push_reserved(message(envelope, number, token_to(tag, value, *dest)));
+    }
+}
+
+/// Appends a token with this value for each reply, in order, and adds the replies to those of the next event of the
+/// record. There is room for both. Takes no memory.
+pub(crate) fn send_replies(
+    readers: &[Tag],
+    value: Value,
+    envelope: Envelope,
+    log: &mut Record<'_>,
+    outputs: &mut Vec<Message>,
+)
+    requires room { vec_len outputs.old + length readers.now ≤ vec_capacity outputs.old }
+    requires room_for_replies { length readers.now ≤ log.old.room_for_replies }
+    ensures items { outputs.new.items ≡ outputs.old.items
+        ++ numbered envelope.number envelope.position envelope.stamp 0 (replies value readers.now) }
+    ensures replies { log.new.replies ≡ log.old.replies ++ readers.now }
+    ensures events { log.new.events ≡ log.old.events }
+    ensures number { log.new.element ≡ log.old.element }
+    ensures graph { log.new.graph ≡ log.old.graph }
+    ensures room_in_log { log.new.room ≡ log.old.room }
+    ensures room_aside { log.new.room_aside ≡ log.old.room_aside }
+{
+    for (number, reader) in readers.iter().enumerate() {
+        outputs.push_reserved(message(envelope, number, token_at(*reader, value)));
+        log.add_reply(*reader);
     }
 }

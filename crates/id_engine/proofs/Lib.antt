@@ -1,4 +1,5 @@
 mod AnsweredLemmas
+mod HeldLemmas
 mod InsideLemmas
 mod NamesLemmas
 mod PlacedLemmas

@@ -1,18 +1,16 @@
 -- The names of a report of a sound run (specs/Reports.antt).
-use Rattle.std.proofs.Common.{◌≡◌, inl, inr, ℕ, suc, List, [], ◌∷◌, Some, All, sym, ap, subst, ◌∙◌}
+use Rattle.std.proofs.Common.{◌≡◌, inl, inr, ℕ, suc, List, [], ◌∷◌, Some, All, map, sym, ap, subst, ◌∙◌}
 use Rattle.std.specs.Prelude.{slice_get, IsPermutation}
 use Rattle.std.proofs.lemmas.List.Elements.{All-get_or}
 use Rattle.std.proofs.lemmas.List.Sorted.{All-permutation, IsPermutation-sym}
 use Rattle.std.proofs.lemmas.Option.{slice_get_within, get_or_from_slice_get}
 use Rattle.id_graph.specs.Graph.{Parts}
-use Rattle.id_meaning.specs.declared.Path.{Path}
 use Rattle.id_meaning.specs.declared.NameValue.{NameValue}
-use Rattle.id_meaning.specs.declared.Fact.TheVariants.{Has}
-use Rattle.id_list.specs.List.{Among}
+use Rattle.id_list.specs.List.{Among, AllDiffer}
 use Rattle.id_meaning.specs.Sources.{Source}
-use Rattle.id_meaning.specs.Names.{IsNameValue, AreNames, AreSomeNames}
+use Rattle.id_meaning.specs.Names.{AreNames, AreSomeNames}
 use Rattle.id_meaning.specs.Orders.{NamesRise}
-use Rattle.id_meaning.specs.Rounds.{Holds, IsCoherent}
+use Rattle.id_meaning.specs.Facts.{site}
 use Rattle.id_core.specs.Machines.{World}
 use Rattle.id_core.specs.Observed as shown
 use Rattle.id_laws.specs.Laws.{IsSound, IsComplete}
@@ -34,23 +32,33 @@ among_all P xs x all h =
 pub among_permuted : {X : Type 0} (xs ys : List X) (x : X) → IsPermutation xs ys → Among x xs → Among x ys
 among_permuted xs ys x s h = among_all (λ z. Among z ys) xs x (All-permutation (λ z. Among z ys) ys xs (IsPermutation-sym xs ys s) (all_among (λ z. Among z ys) ys (λ z k. k))) h
 
-among_sorted : {X : Type 0} (xs ys : List X) (x : X) → IsPermutation xs ys → Among x ys → Among x xs
+pub among_sorted : {X : Type 0} (xs ys : List X) (x : X) → IsPermutation xs ys → Among x ys → Among x xs
 among_sorted xs ys x s h = among_all (λ z. Among z xs) ys x (All-permutation (λ z. Among z xs) xs ys s (all_among (λ z. Among z xs) xs (λ z k. k))) h
 
--- names with one path, place and value are one
-same_name : (n m : NameValue) → n.path ≡ m.path → n.place ≡ m.place → n.value ≡ m.value → n ≡ m
-same_name n m p e v = ap (λ x. record n { path = x }) p ∙ ap (λ x. record n { path = m.path; place = x }) e ∙ ap (λ x. record n { path = m.path; place = m.place; value = x }) v
+-- what is among things comes, by a function, among what the function makes of them
+pub among_map : {A B : Type 0} (f : A → B) (xs : List A) (x : A) → Among x xs → Among (f x) (map f xs)
+among_map f [] x h = absurd h
+among_map f (y ∷ ys) x (inl e) = inl (ap f e)
+among_map f (y ∷ ys) x (inr h) = inr (among_map f ys x h)
+
+-- what differs after a function differs
+pub differ_by : {A B : Type 0} (f : A → B) (xs : List A) → AllDiffer (map f xs) → AllDiffer xs
+differ_by f [] h = tt
+differ_by f (x ∷ xs) h = (λ k. h.0 (among_map f xs x k), differ_by f xs h.1)
+
+-- of things that differ after a function two that it makes one are one
+pub one_by : {A B : Type 0} (f : A → B) (xs : List A) → AllDiffer (map f xs) → (x y : A) → Among x xs → Among y xs → f x ≡ f y → x ≡ y
+one_by f [] h x y a b e = absurd a
+one_by f (z ∷ zs) h x y (inl a) (inl b) e = a ∙ sym b
+one_by {B = B} f (z ∷ zs) h x y (inl a) (inr b) e = absurd (h.0 (subst (λ (w : B). Among w (map f zs)) (sym e ∙ ap f a) (among_map f zs y b)))
+one_by {B = B} f (z ∷ zs) h x y (inr a) (inl b) e = absurd (h.0 (subst (λ (w : B). Among w (map f zs)) (e ∙ ap f b) (among_map f zs x a)))
+one_by f (z ∷ zs) h x y (inr a) (inr b) e = one_by f zs h.1 x y a b e
 
 -- what a sound run shows of names is apart
-pub AreApart-sound : (S : Source) (g : Parts) (number : ℕ → ℕ → ℕ) (w : World) → IsCoherent S → IsSound S g number w → AreApart (shown.names g w)
-AreApart-sound S g number w coherent s = record {
-  differ = s.names_once;
-  one = λ n m h k p e. (
-      let a : IsNameValue S n = s.names n h in
-      let b : IsNameValue S m = s.names m k in
-      let there : Holds S (Has n.path n.place m.value) =
-      subst (λ (x : Path). Holds S (Has x n.place m.value)) (sym p) (subst (λ (x : ℕ). Holds S (Has m.path x m.value)) (sym e) b.holds) in
-      same_name n m p e (coherent n.path n.place n.value m.value a.holds there));
+pub AreApart-sound : (S : Source) (g : Parts) (number : ℕ → ℕ → ℕ) (w : World) → IsSound S g number w → AreApart (shown.names g w)
+AreApart-sound S g number w s = record {
+  differ = differ_by (λ n. site n.path n.place) (shown.names g w) s.names_once;
+  one = λ n m h k e. one_by (λ n. site n.path n.place) (shown.names g w) s.names_once n m h k (λ i. site (e.0 i) (e.1 i));
 }
 
 -- what a sound run's report says of names is so

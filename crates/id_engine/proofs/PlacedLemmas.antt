@@ -1,11 +1,13 @@
 -- The facts and the instructions of a source stand at places of its program, and those lie in its text.
-use Rattle.std.proofs.Common.{◌≡◌, ℕ, Bool, zero, suc, ◌+◌, ◌<◌, ◌≤◌, true, false, List, [], ◌∷◌, All, length, map, Some, refl, sym, ap, subst, ◌∙◌, arith}
-use Rattle.std.specs.Prelude.{get_or, slice_get}
+use Rattle.std.proofs.Common.{◌≡◌, ℕ, Bool, zero, suc, ◌+◌, ◌<◌, ◌≤◌, true, false, List, [], ◌∷◌, All, length, map, Option, Some, None, refl, sym, ap, subst, ◌∙◌, arith}
+use Rattle.std.specs.Prelude.{get_or, slice_get, IfSome}
 use Rattle.std.proofs.lemmas.Option.{slice_get-get_or}
 use Rattle.id_list.proofs.AmongLemmas.{Among-from_at}
 use Rattle.id_parts.specs.declared.row.Node.{Node}
 use Rattle.id_parts.specs.declared.row.Node.TheVariants.{Head, Param, Literal, Name, Unary, Binary, Split, If, Enter, Arg, Call, Block, Binding, Def, Program}
 use Rattle.id_parts.specs.declared.row.Node.TheVariants.{Start, LoopHead, Variable, Entries, Switches, Turn, NextUse, Next, Body, Reset, Loop}
+use Rattle.id_parts.specs.declared.row.Node.TheVariants.{Array as ArrayRow, Fetch, Address, Store}
+use Rattle.id_parts.specs.Stores.{IsStoreOf}
 use Rattle.id_parts.specs.Tables.{is_thing, is_variable}
 use Rattle.id_parts.specs.Calls.{IsArgIn, IsCallOf}
 use Rattle.id_parts.specs.Loops.{IsLoopOf}
@@ -22,14 +24,22 @@ use Rattle.id_graph.specs.declared.instr.PortKind.{PortKind}
 use Rattle.id_meaning.specs.declared.Path.{Path}
 use Rattle.id_meaning.specs.declared.Fact.{Fact}
 use Rattle.id_meaning.specs.declared.Fact.TheVariants.{On, Has}
+use Rattle.id_meaning.specs.declared.Fact.TheVariants as fact
+use Rattle.id_meaning.specs.declared.Ask.{Ask}
+use Rattle.id_meaning.specs.declared.Site.{Site}
+use Rattle.id_meaning.specs.declared.SourceValue.{SourceValue}
+use Rattle.id_meaning.specs.declared.SourceValue.TheVariants.{Int, Bool as SourceBool, Name as SiteName}
+use Rattle.id_meaning.specs.declared.SourceFault.TheVariants.{Operator, SecondStore}
+use Rattle.id_meaning.specs.Facts.{outermost}
+use Rattle.id_list.specs.List.{Among}
 use Rattle.id_meaning.specs.declared.NameValue.{NameValue}
 use Rattle.id_meaning.specs.declared.SourceFault.{SourceFault}
-use Rattle.id_meaning.specs.Sources.{Source}
-use Rattle.id_meaning.specs.Rounds.{Holds, Faulty}
+use Rattle.id_meaning.specs.Sources.{Source, main_body}
+use Rattle.id_meaning.specs.Rounds.{Answers, Holds, Faulty}
 use Rattle.id_meaning.specs.Names.{AreSomeNames}
 use Rattle.id_meaning.specs.Computed.{AreFacts}
 use Rattle.id_meaning.proofs.CheckedLemmas.{placed_of}
-use Rattle.id_meaning.proofs.PlacedLemmas.{IsPoint, Placed, round_placed, holds_placed, fault_placed}
+use Rattle.id_meaning.proofs.PlacedLemmas.{IsPoint, IsSite, Placed, PlacedFault, PlacedValue, round_placed, holds_placed, fault_placed}
 use Rattle.id_build.specs.declared.arc.Form.{Form}
 use Rattle.id_build.specs.declared.arc.Piece.{Piece}
 use Rattle.id_desugar.specs.Regions.{imports_of}
@@ -39,7 +49,11 @@ use Rattle.id_check.proofs.ProgramsLemmas.{table_of}
 use Rattle.id_print.specs.declared.report.Ending.{Ending}
 use Rattle.id_print.specs.declared.report.Ending.TheVariants.{Quiet, Stopped, Fault}
 use Rattle.id_print.specs.declared.report.Report.{Report}
-use Rattle.id_print.specs.Within.{PointWithin, FaultWithin, EndingWithin, NameWithin, NamesWithin, ReportWithin, FactWithin, FactsWithin}
+use Rattle.id_print.specs.declared.report.Held.{Held}
+use Rattle.id_print.specs.declared.report.Held.TheVariants.{Array, Cell}
+use Rattle.id_print.specs.Names.{AreSomeHeld}
+use Rattle.id_print.specs.Within.{PointWithin, SiteWithin, ValueWithin, AnswerWithin, AsksWithin, FaultWithin, EndingWithin, HeldWithin, HeldsWithin}
+use Rattle.id_print.specs.Within.{NameWithin, NamesWithin, ReportWithin, FactWithin, FactsWithin}
 use Rattle.id_engine.specs.Programs.{IsPlacedWithin}
 use Rattle.id_engine.specs.Reports.{SaysTruly, IsTrueOf}
 
@@ -51,6 +65,10 @@ one_place a (suc k) f e h = absurd cc
 two_place : (a b : Piece) (k : ℕ) (f : Form) (e : ℕ) → b.place ≡ a.place → slice_get (a ∷ b ∷ []) k ≡ Some (piece f e) → e ≡ a.place
 two_place a b zero f e same h = let is : a ≡ piece f e = cc in sym (ap (λ (p : Piece). p.place) is)
 two_place a b (suc k) f e same h = one_place b k f e h ∙ same
+
+three_place : (a b c : Piece) (k : ℕ) (f : Form) (e : ℕ) → b.place ≡ a.place → c.place ≡ a.place → slice_get (a ∷ b ∷ c ∷ []) k ≡ Some (piece f e) → e ≡ a.place
+three_place a b c zero f e same also h = let is : a ≡ piece f e = cc in sym (ap (λ (p : Piece). p.place) is)
+three_place a b c (suc k) f e same also h = two_place b c k f e (also ∙ sym same) h ∙ same
 
 the_piece : (a c : Piece) → Some a ≡ Some c → a ≡ c
 the_piece a c h = cc
@@ -84,9 +102,20 @@ module _ {size : ℕ} {P : Checked} (h : IsPlacedWithin size P) where
   point_within : (p : Path) (e : ℕ) → IsPoint P p e → PointWithin size p e
   point_within p e k = record { path = λ j d l. h.within (get_or p.steps j d).place (k.path j d l); place = h.within e k.place }
 
+  site_within : (s : Site) → IsSite P s → SiteWithin size s
+  site_within s k = point_within s.path s.place k
+
+  value_within : (v : SourceValue) → PlacedValue P v → ValueWithin size v
+  value_within (Int n) k = tt
+  value_within (SourceBool b) k = tt
+  value_within (SiteName s) k = site_within s k
+
   fact_within : (f : Fact) → Placed P f → FactWithin size f
   fact_within (On p e) k = point_within p e k
-  fact_within (Has p e v) k = point_within p e k
+  fact_within (Has p e v) k = record { point = point_within p e k.0; value = value_within v k.1 }
+  fact_within (fact.Shape s) k = site_within s.name k
+  fact_within (fact.Put p) k = record { name = site_within p.name k.0; value = value_within p.value k.1; store = site_within p.store k.2 }
+  fact_within (fact.Ask a) k = record { fetch = site_within a.fetch k.0; name = site_within a.name k.1 }
 
   thing_within : (n : ℕ) → n < length (rows P) → is_thing (node P n) ≡ true → place P n ≤ size
   thing_within n l t = h.within (place P n) (placed_of P n l t)
@@ -120,6 +149,13 @@ module _ {size : ℕ} {P : Checked} (h : IsPlacedWithin size P) where
   arg_within n e k v l is =
       let a : IsArgIn (rows P) n e k v = (table_of P).arg_of n e k (record { value = v; within = l; node = is }) in
       subst (λ (q : ℕ). q ≤ size) (sym (a.stands).place) (call_within a.row e a.call)
+
+  -- a store's `Address` has its place
+  address_within : (n t i : ℕ) → n < length (rows P) → node P n ≡ Address t i → place P n ≤ size
+  address_within n t i l is =
+      let c = (table_of P).has_store n t i l is in
+      let d : IsStoreOf (rows P) c.0 n = c.1 in
+      subst (λ (q : ℕ). q ≤ size) (sym ((table_of P).address_of c.0 n d).place) (thing_within c.0 d.within (ap is_thing d.node))
 
   -- the markers of a loop have its place
   loop_within : (n g : ℕ) → IsLoopOf (rows P) n g → place P n ≤ size
@@ -205,6 +241,10 @@ module _ {size : ℕ} {P : Checked} (h : IsPlacedWithin size P) where
       go Body is at = absurd cc
       go (Reset v) is at = its (one_place _ k f e at) (reset_within n v m.within is)
       go (Loop g w l) is at = own (one_place _ k f e at) (ap is_thing is)
+      go (ArrayRow a b) is at = own (one_place _ k f e at) (ap is_thing is)
+      go (Fetch t i) is at = own (three_place _ _ _ k f e refl refl at) (ap is_thing is)
+      go (Address t i) is at = its (one_place _ k f e at) (address_within n t i m.within is)
+      go (Store a v) is at = own (one_place _ k f e at) (ap is_thing is)
       go (Block b) is at = absurd cc
       go (Binding y a) is at = own (one_place _ k f e at) (ap is_thing is)
       go (Def y x j b) is at = absurd cc
@@ -226,10 +266,31 @@ module _ {size : ℕ} {P : Checked} (h : IsPlacedWithin size P) where
 
 module _ {size : ℕ} (S : Source) (h : IsPlacedWithin size S.checked) where
   fault_within : (f : SourceFault) → Faulty S f → FaultWithin size f
-  fault_within f k = point_within h f.path f.place (fault_placed S f k)
+  fault_within f k = go f (fault_placed S f k)
+    where
+      go : (f : SourceFault) → PlacedFault S.checked f → FaultWithin size f
+      go (Operator x s) k = site_within h s k
+      go (SecondStore s i a b) k = record { name = site_within h s k.0; first = site_within h a k.1; second = site_within h b k.2 }
 
   name_within : (n : NameValue) → Holds S (Has n.path n.place n.value) → NameWithin size n
-  name_within n k = point_within h n.path n.place (holds_placed S (Has n.path n.place n.value) k)
+  name_within n k =
+      let x = holds_placed S (Has n.path n.place n.value) k in
+      record { point = point_within h n.path n.place x.0; value = value_within h n.value x.1 }
+
+  -- a structure's line lies in the text, and so does that of a cell
+  held_within : (hs : List Held) → AreSomeHeld S hs → (x : Held) → Among x hs → HeldWithin size x
+  held_within hs s (Array x) k = fact_within h (fact.Shape x) (holds_placed S (fact.Shape x) (s.shapes x k))
+  held_within hs s (Cell x) k = fact_within h (fact.Put x) (holds_placed S (fact.Put x) (s.puts x k))
+
+  helds_within : (hs : List Held) → AreSomeHeld S hs → HeldsWithin size hs
+  helds_within hs s = λ k d within. held_within hs s _ (Among-from_at _ hs k (slice_get-get_or hs k d within))
+
+  answer_within : (o : Option SourceValue) → IfSome o (Answers S) → AnswerWithin size o
+  answer_within None k = tt
+  answer_within (Some v) k = value_within h v (holds_placed S (Has outermost (place S.checked (main_body S.checked)) v) k).1
+
+  asks_within : (ws : List Ask) → ((a : Ask) → Among a ws → Holds S (fact.Ask a)) → AsksWithin size ws
+  asks_within ws s = λ k d within. (let a = get_or ws k d in fact_within h (fact.Ask a) (holds_placed S (fact.Ask a) (s a (Among-from_at _ ws k (slice_get-get_or ws k d within)))))
 
   -- the names of a source lie in its text
   pub names_within : (ns : List NameValue) → AreSomeNames S ns → NamesWithin size ns
@@ -246,4 +307,10 @@ module _ {size : ℕ} (S : Source) (h : IsPlacedWithin size S.checked) where
 
   -- what a true report says lies in the text
   pub report_within : (b : Bool) (r : Report) → IsTrueOf S b r → ReportWithin size r
-  report_within b r t = record { ending = ending_within b r r.ending t.says; names = names_within r.names t.names }
+  report_within b r t = record {
+    ending = ending_within b r r.ending t.says;
+    answer = answer_within r.answer (t.some).answer;
+    names = names_within r.names (t.some).names;
+    structures = helds_within r.structures (t.some).structures;
+    waiting = asks_within r.waiting (t.some).asks;
+  }

@@ -12,6 +12,7 @@ use Rattle.id_engine.specs.Commands.{Check, List_graph, Facts, Run, Shows, accep
 use Rattle.id_engine.specs.Programs.{HasProgram}
 use Rattle.id_graph.specs.Listing.{listing}
 use Rattle.id_meaning.specs.declared.Fact.{Fact}
+use Rattle.id_value.specs.declared.Constant.{Constant}
 use Rattle.id_meaning.specs.declared.SourceValue.{SourceValue}
 use Rattle.id_meaning.specs.Sources.{source}
 use Rattle.id_meaning.specs.Inputs.{AreInputsOf}
@@ -19,19 +20,19 @@ use Rattle.id_print.specs.Texts.{facts_text}
 use Rattle.id_graph.specs.Graph.{Parts}
 use Rattle.id_meaning.specs.declared.SourceFault.{SourceFault}
 use Rattle.id_core.specs.Machines.{start}
-use Rattle.id_core.specs.Observed.{answer, names}
+use Rattle.id_core.specs.Observed.{answer, names, waiting}
 use Rattle.id_print.specs.Endings.{EndsSo}
-use Rattle.id_print.specs.Names.{IsSortedOf}
-use Rattle.id_print.specs.Texts.{fault_text, shown_text, stopped_text}
+use Rattle.id_print.specs.Names.{HeldBefore, IsOrderOf, IsSortedOf, WaitBefore}
+use Rattle.id_print.specs.Texts.{fault_text, quiet_text, stopped_text}
 use Rattle.id_engine.specs.Reports.{HasEnded, at_fault, at_rest, IsReportOf, SaysTruly, status_of}
-use Rattle.id_engine.specs.Runs.{Ends, Ran, after}
+use Rattle.id_engine.specs.Runs.{Ends, Ran, after, held_of}
 use Rattle.id_engine.specs.Runs.Ends.{quiet as ends_quiet, fault as ends_fault, stopped as ends_stopped}
 
 -- the text of a report that is so is what a run shows
-Shows-from_report : (P : Checked) (ws : List (List ℕ)) (vs : List SourceValue) (text : List ℕ) (b : Bool) (r : Report) (e : Ending) → AreInputsOf P ws vs
+Shows-from_report : (P : Checked) (ws : List (List ℕ)) (vs : List Constant) (text : List ℕ) (b : Bool) (r : Report) (e : Ending) → AreInputsOf P ws vs
     → SaysTruly (source P vs) b r e → Shows P text (Run b ws) (status_of e) (ending_text text r (asked b r.names) e)
-Shows-from_report P ws vs text b r Quiet i h = quiet r.answer r.names i h.0 h.1 h.2
-Shows-from_report P ws vs text b r Stopped i h = stopped r.answer r.names i h.0 h.1
+Shows-from_report P ws vs text b r Quiet i h = quiet r.answer r.names r.structures r.waiting i h.answer h.names h.structures h.waiting h.none
+Shows-from_report P ws vs text b r Stopped i h = stopped r.answer r.names r.structures i h.answer h.names h.structures
 Shows-from_report P ws vs text b r (Fault f) i h = fault f i h
 
 -- a printed report of a run of the text's program is shown
@@ -74,20 +75,23 @@ no_one : (f : SourceFault) (i : ℕ) → slice_get [] i ≡ Some f → ⊥
 no_one f i h = cc
 
 -- a printed report of a run is the run, printed
-ends_text : (g : Parts) (vs : List SourceValue) (steps : ℕ) (ks : List ℕ) (text : List ℕ) (b : Bool) (r : Report) (e : Ending) → HasEnded g steps (start g vs 1) ks
-    → (IsTrue b → IsSortedOf r.names (names g (after g vs 1 ks))) → EndsSo (record { graph = g; count = 1; world = after g vs 1 ks }) e
-    → (e ≡ Stopped → (after g vs 1 ks).flight ≡ [] → ⊥) → r.answer ≡ answer (after g vs 1 ks)
+ends_text : (g : Parts) (vs : List Constant) (steps : ℕ) (ks : List ℕ) (text : List ℕ) (b : Bool) (r : Report) (e : Ending) → HasEnded g steps (start g vs 1) ks
+    → (IsTrue b → IsSortedOf r.names (names g (after g vs 1 ks))) → IsOrderOf HeldBefore r.structures (held_of g 1 (after g vs 1 ks))
+    → IsOrderOf WaitBefore r.waiting (waiting g (after g vs 1 ks)) → EndsSo (record { graph = g; count = 1; world = after g vs 1 ks }) e
+    → (e ≡ Stopped → (after g vs 1 ks).flight ≡ [] → ⊥) → r.answer ≡ answer g (after g vs 1 ks)
     → Ends g vs 1 steps ks text b (status_of e) (ending_text text r (asked b r.names) e)
-ends_text g vs steps ks text b r Quiet ended sorted ends left same =
-    subst (λ (o : Option SourceValue). Ends g vs 1 steps ks text b 0 (shown_text text o (asked b r.names))) (sym same) (ends_quiet r.names ends sorted)
-ends_text g vs steps ks text b r Stopped (at_fault f h) sorted ends left same = let no : f ∷ [] ≡ [] = sym h.one ∙ ends.0 in absurd cc
-ends_text g vs steps ks text b r Stopped (at_rest none held) sorted ends left same =
-    subst (λ (o : Option SourceValue). Ends g vs 1 steps ks text b 3 (stopped_text text o (asked b r.names))) (sym same) (ends_stopped r.names none (λ e. left refl e) held sorted)
-ends_text g vs steps ks text b r (Fault f) (at_fault x h) sorted ends left same =
+ends_text g vs steps ks text b r Quiet ended sorted held waits ends left same =
+    subst (λ (o : Option SourceValue). Ends g vs 1 steps ks text b 0 (quiet_text text o (asked b r.names) r.structures r.waiting)) (sym same)
+    (ends_quiet r.names r.structures r.waiting ends sorted held waits)
+ends_text g vs steps ks text b r Stopped (at_fault f h) sorted held waits ends left same = let no : f ∷ [] ≡ [] = sym h.one ∙ ends.0 in absurd cc
+ends_text g vs steps ks text b r Stopped (at_rest none back) sorted held waits ends left same =
+    subst (λ (o : Option SourceValue). Ends g vs 1 steps ks text b 3 (stopped_text text o (asked b r.names) r.structures)) (sym same)
+    (ends_stopped r.names r.structures none (λ e. left refl e) back sorted held)
+ends_text g vs steps ks text b r (Fault f) (at_fault x h) sorted held waits ends left same =
     let shown = first_is_shown g (after g vs 1 ks).elements f ends in
     let is : x ≡ f = only_one x f shown.0 (sym (ap (λ fs. slice_get fs shown.0) h.one) ∙ shown.1) in
     subst (λ (y : SourceFault). Ends g vs 1 steps ks text b 1 (fault_text text y)) is (ends_fault x h)
-ends_text g vs steps ks text b r (Fault f) (at_rest none held) sorted ends left same =
+ends_text g vs steps ks text b r (Fault f) (at_rest none back) sorted held waits ends left same =
     let shown = first_is_shown g (after g vs 1 ks).elements f ends in
     absurd (no_one f shown.0 (sym (ap (λ fs. slice_get fs shown.0) none) ∙ shown.1))
 
@@ -106,6 +110,6 @@ Ran-report text ws steps b old new r status h same printed =
       positions = x.positions;
       few = x.few;
       output = report_text text b r;
-      ends = subst E (sym same) (ends_text h.graph h.inputs steps x.positions text b r r.ending x.ended x.sorted x.ends x.left x.answer_is);
+      ends = subst E (sym same) (ends_text h.graph h.inputs steps x.positions text b r r.ending x.ended x.sorted x.held x.waits x.ends x.left x.answer_is);
       printed = printed;
     }

@@ -6,19 +6,21 @@ use Rattle.std.proofs.lemmas.List.Elements.{filter_map-append, All-from_recursio
 use Rattle.std.proofs.lemmas.Option.{slice_get-get_or}
 use Rattle.id_graph.specs.Graph.{Parts}
 use Rattle.id_tag.specs.declared.Payload.{Payload}
-use Rattle.id_tag.specs.declared.Payload.TheVariants.{Token}
+use Rattle.id_tag.specs.declared.Payload.TheVariants.{Token, Read, Write}
 use Rattle.id_tag.specs.declared.Message.{Message}
 use Rattle.id_tag.specs.declared.Tag.{Tag}
-use Rattle.id_tag.specs.Routes.{route_of}
+use Rattle.id_tag.specs.declared.Structure.{Structure}
+use Rattle.id_tag.specs.Routes.{offset_of, route_of}
 use Rattle.id_meaning.specs.declared.Path.{Path}
+use Rattle.id_meaning.specs.declared.Site.{Site}
 use Rattle.id_meaning.specs.declared.SourceFault.{SourceFault}
 use Rattle.id_record.specs.declared.step.Step.{Step}
 use Rattle.id_record.specs.declared.step.Step.TheVariants.{Went, Fault, Stuck}
-use Rattle.id_record.specs.declared.step.Fault.TheVariants.{Operator}
+use Rattle.id_record.specs.declared.step.Fault.TheVariants.{Operator, SecondStore}
 use Rattle.id_core.specs.Events.{EventView}
 use Rattle.id_core.specs.Steps.{State, event_of, is_ended, state_after}
 use Rattle.id_core.specs.Machines.{World, MachineView, delivered, event_at, event_of_given, event_of_routed, given_to, routed_to, run, taken_from}
-use Rattle.id_core.specs.Observed.{events_of, fault_of, faults, faults_of, path_in}
+use Rattle.id_core.specs.Observed.{events_of, fault_of, faults, faults_of, path_in, structure_in}
 use Rattle.id_engine.specs.Runs.{IsHeldBack}
 use Rattle.id_engine.specs.Reports.{GoesOn, at_fault, at_rest, HasRun, IsAtRest, IsDelivery, IsFreshMachine, IsSingle}
 use Rattle.id_engine.proofs.RunLemmas.{run-append}
@@ -26,6 +28,8 @@ use Rattle.id_engine.proofs.RunLemmas.{run-append}
 -- everything is for the one element
 one_route : (x : Payload) → route_of x 1 ≡ 0
 one_route (Token t p v) = mod-one (t.context.element + t.context.serial + t.iteration)
+one_route (Read c t) = mod-one (c.structure.element + c.structure.serial + offset_of c)
+one_route (Write c v t) = mod-one (c.structure.element + c.structure.serial + offset_of c)
 
 -- ---- one delivery
 
@@ -63,35 +67,38 @@ taken g w k s v (Some m) is h =
     let t = routed g w k m s (route_of m.payload 1) v (sym (one_route m.payload)) is h in
     record { message = m; elements = ap (λ x. x.elements) t.0 ∙ ap (λ es. slice_set es 0 (state_after g 0 s m)) is; event = t.1 }
 
--- events that show no fault with these paths show none with any
-pathless : (g : Parts) (p q : Tag → Path) (x : Step) → fault_of g p x ≡ None → fault_of g q x ≡ None
-pathless g p q Went h = refl
-pathless g p q (Fault (Operator f t)) h = absurd cc
-pathless g p q Stuck h = refl
+-- events that show no fault with these paths and names show none with any
+pathless : (g : Parts) (p q : Tag → Path) (m n : Structure → Site) (x : Step) → fault_of g p m x ≡ None → fault_of g q n x ≡ None
+pathless g p q m n Went h = refl
+pathless g p q m n (Fault (Operator f t)) h = absurd cc
+pathless g p q m n (Fault (SecondStore c t u)) h = absurd cc
+pathless g p q m n Stuck h = refl
 
-faults_pathless : (g : Parts) (p q : Tag → Path) (vs : List EventView) → faults_of g p vs ≡ [] → faults_of g q vs ≡ []
-faults_pathless g p q [] h = refl
-faults_pathless g p q (v ∷ vs) h = go (fault_of g p v.step) refl (faults_pathless g p q vs) h
+faults_pathless : (g : Parts) (p q : Tag → Path) (m n : Structure → Site) (vs : List EventView) → faults_of g p m vs ≡ [] → faults_of g q n vs ≡ []
+faults_pathless g p q m n [] h = refl
+faults_pathless g p q m n (v ∷ vs) h = go (fault_of g p m v.step) refl (faults_pathless g p q m n vs) h
   where
-    go : (o : Option SourceFault) → fault_of g p v.step ≡ o → (faults_of g p vs ≡ [] → faults_of g q vs ≡ []) → cons_option o (faults_of g p vs) ≡ []
-        → cons_option (fault_of g q v.step) (faults_of g q vs) ≡ []
-    go None is rest h = ap (λ o. cons_option o (faults_of g q vs)) (pathless g p q v.step is) ∙ rest h
+    go : (o : Option SourceFault) → fault_of g p m v.step ≡ o → (faults_of g p m vs ≡ [] → faults_of g q n vs ≡ []) → cons_option o (faults_of g p m vs) ≡ []
+        → cons_option (fault_of g q n v.step) (faults_of g q n vs) ≡ []
+    go None is rest h = ap (λ o. cons_option o (faults_of g q n vs)) (pathless g p q m n v.step is) ∙ rest h
     go (Some f) is rest h = absurd cc
 
 -- the faults of a machine of one element are those of its record
-faults_of_one : (g : Parts) (w : World) (s : State) → w.elements ≡ s ∷ [] → faults g w ≡ faults_of g (path_in g w.elements) s.events
+faults_of_one : (g : Parts) (w : World) (s : State) → w.elements ≡ s ∷ [] → faults g w ≡ faults_of g (path_in g w.elements) (structure_in g w.elements) s.events
 faults_of_one g w s is =
     let p = path_in g w.elements in
-    ap (λ (es : List State). faults_of g p (events_of es)) is ∙ ap (faults_of g p) (append-nil s.events)
+    let m = structure_in g w.elements in
+    ap (λ (es : List State). faults_of g p m (events_of es)) is ∙ ap (faults_of g p m) (append-nil s.events)
 
-faults_push : (g : Parts) (p : Tag → Path) (s : State) (v : EventView) → faults_of g p s.events ≡ []
-    → faults_of g p (s.events ++ v ∷ []) ≡ cons_option (fault_of g p v.step) []
-faults_push g p s v none = filter_map-append (λ (u : EventView). fault_of g p u.step) s.events (v ∷ []) ∙ ap (λ fs. fs ++ cons_option (fault_of g p v.step) []) none
+faults_push : (g : Parts) (p : Tag → Path) (m : Structure → Site) (s : State) (v : EventView) → faults_of g p m s.events ≡ []
+    → faults_of g p m (s.events ++ v ∷ []) ≡ cons_option (fault_of g p m v.step) []
+faults_push g p m s v none =
+    filter_map-append (λ (u : EventView). fault_of g p m u.step) s.events (v ∷ []) ∙ ap (λ fs. fs ++ cons_option (fault_of g p m v.step) []) none
 
 -- what a delivery that makes an event does to a machine of one element that has shown no fault
 record IsNext (g : Parts) (to : World) (n : ℕ) (v : EventView) : Type 0 where
   single : IsSingle to (n + 1)
-  faults_are : faults g to ≡ cons_option (fault_of g (path_in g to.elements) v.step) []
+  faults_are : faults g to ≡ cons_option (fault_of g (path_in g to.elements) (structure_in g to.elements) v.step) []
 
 next : (g : Parts) (w : World) (k n : ℕ) (v : EventView) → IsSingle w n → faults g w ≡ [] → event_at g 1 w k ≡ Some v → IsNext g (delivered g 1 w k) n v
 next g w k n v one none made =
@@ -99,7 +106,8 @@ next g w k n v one none made =
     let t = taken g w k s v (slice_get w.flight k) one.elements made in
     let to = delivered g 1 w k in
     let p = path_in g to.elements in
-    let old = faults_pathless g (path_in g w.elements) p s.events (sym (faults_of_one g w s one.elements) ∙ none) in
+    let m = structure_in g to.elements in
+    let old = faults_pathless g (path_in g w.elements) p (structure_in g w.elements) m s.events (sym (faults_of_one g w s one.elements) ∙ none) in
     let event = event_of g 0 s t.message in
     record {
       single = record {
@@ -107,8 +115,8 @@ next g w k n v one none made =
         elements = t.elements;
         handled = length-append s.events (event ∷ []) ∙ ap (λ i. i + 1) one.handled;
       };
-      faults_are = faults_of_one g to (state_after g 0 s t.message) t.elements ∙ faults_push g p s event old
-          ∙ ap (λ (x : EventView). cons_option (fault_of g p x.step) []) (sym t.event);
+      faults_are = faults_of_one g to (state_after g 0 s t.message) t.elements ∙ faults_push g p m s event old
+          ∙ ap (λ (x : EventView). cons_option (fault_of g p m x.step) []) (sym t.event);
     }
 
 -- ---- what is left
@@ -206,6 +214,9 @@ module _ (a b c : MachineView) (n : ℕ) (step : Step) (one : a.count ≡ 1) (h 
   abbrev path : Tag → Path
   path = path_in a.graph c.world.elements
 
+  abbrev name : Structure → Site
+  name = structure_in a.graph c.world.elements
+
   pub Reaches-went : step ≡ Went → Reaches a c (n + 1)
   Reaches-went went = record {
     same_graph = graph_is;
@@ -214,21 +225,22 @@ module _ (a b c : MachineView) (n : ℕ) (step : Step) (one : a.count ≡ 1) (h 
       positions = (h.goes).positions ++ d.position ∷ [];
       world = run_is;
       single = after_it.single;
-      none = after_it.faults_are ∙ ap (λ (x : Step). cons_option (fault_of a.graph path x) []) (d.step_is ∙ went);
+      none = after_it.faults_are ∙ ap (λ (x : Step). cons_option (fault_of a.graph path name x) []) (d.step_is ∙ went);
     };
   }
 
   -- at a fault
-  failed : (x : Step) → x ≢ Went → x ≢ Stuck → (f : SourceFault) × (fault_of a.graph path x ≡ Some f)
+  failed : (x : Step) → x ≢ Went → x ≢ Stuck → (f : SourceFault) × (fault_of a.graph path name x ≡ Some f)
   failed Went w s = absurd (w refl)
   failed (Fault (Operator f t)) w s = (_, refl)
+  failed (Fault (SecondStore c t u)) w s = (_, refl)
   failed Stuck w s = absurd (s refl)
 
   pub HasRun-fault : (steps : ℕ) → step ≢ Went → step ≢ Stuck → n < steps → HasRun a c steps
   HasRun-fault steps went stuck less =
       let f = failed step went stuck in
       let ks = (h.goes).positions in
-      let shown : faults a.graph c.world ≡ f.0 ∷ [] = after_it.faults_are ∙ ap (λ (x : Step). cons_option (fault_of a.graph path x) []) d.step_is
+      let shown : faults a.graph c.world ≡ f.0 ∷ [] = after_it.faults_are ∙ ap (λ (x : Step). cons_option (fault_of a.graph path name x) []) d.step_is
       ∙ ap (λ o. cons_option o []) f.1 in
       record {
         positions = ks ++ d.position ∷ [];

@@ -3,19 +3,21 @@ use Rattle.std.proofs.Common.{◌≡◌, ◌≢◌, ℕ, List, [], ◌∷◌, �
 use Rattle.std.specs.Prelude.{slice_get}
 use Rattle.id_graph.specs.Graph.{Parts}
 use Rattle.id_tag.specs.declared.Message.{Message}
+use Rattle.id_tag.specs.declared.Structure.{Structure}
 use Rattle.id_tag.specs.declared.Tag.{Tag}
 use Rattle.id_tag.specs.Routes.{route_of}
 use Rattle.id_list.specs.List.{Among}
 use Rattle.id_meaning.specs.Sources.{Source, AreInputs}
 use Rattle.id_record.specs.declared.step.Step.{Step}
 use Rattle.id_record.specs.declared.step.Step.TheVariants.{Went, Fault, Stuck}
-use Rattle.id_record.specs.declared.step.Fault.TheVariants.{Operator}
+use Rattle.id_record.specs.declared.step.Fault.TheVariants.{Operator, SecondStore}
 use Rattle.id_meaning.specs.declared.Path.{Path}
+use Rattle.id_meaning.specs.declared.Site.{Site}
 use Rattle.id_meaning.specs.declared.SourceFault.{SourceFault}
 use Rattle.id_core.specs.Events.{EventView}
 use Rattle.id_core.specs.Steps.{State, event_of, is_ended, state_after}
 use Rattle.id_core.specs.Machines.{World, MachineView, IsQuiet, delivered, event_at, event_of_given, event_of_routed, given_to, routed_to, run, start, taken_from}
-use Rattle.id_core.specs.Observed.{events_of, fault_of, faults, faults_of, path_in}
+use Rattle.id_core.specs.Observed.{events_of, fault_of, faults, faults_of, path_in, structure_in}
 use Rattle.id_build.specs.Schemas.{Schemas}
 use Rattle.id_print.specs.declared.report.Ending.{Ending}
 use Rattle.id_print.specs.declared.report.Ending.TheVariants.{Stopped}
@@ -81,17 +83,19 @@ IsFreshMachine-start S g m is inputs schemas =
 
 -- ---- a run with nothing left
 
-went_of : (g : Parts) (p : Tag → Path) (x : Step) → fault_of g p x ≡ None → x ≢ Stuck → x ≡ Went
-went_of g p Went none stuck = refl
-went_of g p (Fault (Operator f t)) none stuck = absurd cc
-went_of g p Stuck none stuck = absurd (stuck refl)
+went_of : (g : Parts) (p : Tag → Path) (m : Structure → Site) (x : Step) → fault_of g p m x ≡ None → x ≢ Stuck → x ≡ Went
+went_of g p m Went none stuck = refl
+went_of g p m (Fault (Operator f t)) none stuck = absurd cc
+went_of g p m (Fault (SecondStore c t u)) none stuck = absurd cc
+went_of g p m Stuck none stuck = absurd (stuck refl)
 
-no_fault : (g : Parts) (p : Tag → Path) (vs : List EventView) (v : EventView) → faults_of g p vs ≡ [] → Among v vs → fault_of g p v.step ≡ None
-no_fault g p vs v none among = go (fault_of g p v.step) refl
+no_fault : (g : Parts) (p : Tag → Path) (m : Structure → Site) (vs : List EventView) (v : EventView) → faults_of g p m vs ≡ [] → Among v vs
+    → fault_of g p m v.step ≡ None
+no_fault g p m vs v none among = go (fault_of g p m v.step) refl
   where
-    go : (o : Option SourceFault) → fault_of g p v.step ≡ o → o ≡ None
+    go : (o : Option SourceFault) → fault_of g p m v.step ≡ o → o ≡ None
     go None e = refl
-    go (Some f) e = let here = filter_map_has (λ (u : EventView). fault_of g p u.step) vs v f among e in absurd (subst (Among f) none here)
+    go (Some f) e = let here = filter_map_has (λ (u : EventView). fault_of g p m u.step) vs v f among e in absurd (subst (Among f) none here)
 
 -- where nothing is in flight and no fault was shown, a run of a schemas' graph is quiet
 pub IsQuiet-from : NeverStuck → (S : Source) (g : Parts) (ks : List ℕ) → AreInputs S.checked S.inputs → Schemas S.checked g → (w : World)
@@ -104,7 +108,8 @@ IsQuiet-from never S g ks inputs schemas w is none empty =
       went = all_among _ w.elements (λ e a. all_among _ e.events (λ v b. (
           let here = among_events w v (recorded_in w e v a b) in
           let p = path_in g w.elements in
-          went_of g p v.step (no_fault g p (events_of w.elements) v none here) (no v here))));
+          let m = structure_in g w.elements in
+          went_of g p m v.step (no_fault g p m (events_of w.elements) v none here) (no v here))));
     }
   where
     recorded_in : (w : World) (e : State) (v : EventView) → Among e w.elements → Among v e.events → Recorded w v

@@ -1,6 +1,8 @@
 -- What a command prints of a program (docs/PROMISES.md, "The engine").
 use Rattle.std.specs.Prelude.{◌≡◌, ℕ, Bool, IsTrue, List, codes, Option, Result, Ok, Err, IfSome}
 use Rattle.id_check.specs.declared.checked.Checked.{Checked}
+use Rattle.id_value.specs.declared.Constant.{Constant}
+use Rattle.id_meaning.specs.declared.Ask.{Ask}
 use Rattle.id_meaning.specs.declared.SourceValue.{SourceValue}
 use Rattle.id_meaning.specs.declared.SourceFault.{SourceFault}
 use Rattle.id_meaning.specs.declared.NameValue.{NameValue}
@@ -8,14 +10,16 @@ use Rattle.id_meaning.specs.declared.Fact.{Fact}
 use Rattle.id_meaning.specs.Sources.{source}
 use Rattle.id_meaning.specs.Inputs.{AreInputsOf}
 use Rattle.id_meaning.specs.Rounds.{Answers, IsAnswer, Faulty, FaultFree}
-use Rattle.id_meaning.specs.Names.{AreNames, AreSomeNames}
+use Rattle.id_meaning.specs.Names.{AreNames, AreSomeNames, AreWaiting}
 use Rattle.id_meaning.specs.Computed.{AreFacts}
 use Rattle.id_graph.specs.Graph.{Parts}
 use Rattle.id_graph.specs.Listing.{listing}
 use Rattle.id_build.specs.Schemas.{Schemas}
 use Rattle.id_print.specs.declared.sink.PrintError.{PrintError}
 use Rattle.id_print.specs.Told.{Told, Prints}
-use Rattle.id_print.specs.Texts.{shown_text, stopped_text, fault_text, facts_text}
+use Rattle.id_print.specs.declared.report.Held.{Held}
+use Rattle.id_print.specs.Names.{AreHeld, AreSomeHeld}
+use Rattle.id_print.specs.Texts.{quiet_text, stopped_text, fault_text, facts_text}
 use Rattle.id_print.specs.Reports.{asked}
 use Rattle.id_engine.specs.Programs.{IsProgramOf}
 
@@ -34,24 +38,26 @@ pub data Shows (P : Checked) (text : List ℕ) : Command → ℕ → List ℕ �
   -- the graph is one that the schemas give
   listed : {g : Parts} → Schemas P g → Shows P text List_graph 0 (listing text g)
   -- the facts are exactly those of the round, on the inputs that the words give
-  facts : {n : ℕ} {ws : List (List ℕ)} {vs : List SourceValue} {fs : List Fact} → AreInputsOf P ws vs
+  facts : {n : ℕ} {ws : List (List ℕ)} {vs : List Constant} {fs : List Fact} → AreInputsOf P ws vs
       → AreFacts (source P vs) n fs →
       Shows P text (Facts n ws) 0 (facts_text text fs)
   -- a quiet run shows the answer that the source's equations give, exactly what its names have, where they are asked
-  -- for, and the source has no fault
-  quiet : {b : Bool} {ws : List (List ℕ)} {vs : List SourceValue} (v : Option SourceValue) (ns : List NameValue)
-      → AreInputsOf P ws vs →
-      IsAnswer (source P vs) v → (IsTrue b → AreNames (source P vs) ns) → FaultFree (source P vs) →
-      Shows P text (Run b ws) 0 (shown_text text v (asked b ns))
+  -- for, its structures and what is put into their cells, and its fetches that wait; and the source has no fault
+  quiet : {b : Bool} {ws : List (List ℕ)} {vs : List Constant} (v : Option SourceValue) (ns : List NameValue)
+      (hs : List Held) (waiting : List Ask) → AreInputsOf P ws vs →
+      IsAnswer (source P vs) v → (IsTrue b → AreNames (source P vs) ns) → AreHeld (source P vs) hs →
+      AreWaiting (source P vs) waiting → FaultFree (source P vs) →
+      Shows P text (Run b ws) 0 (quiet_text text v (asked b ns) hs waiting)
   -- a run that stops at a fault shows a fault of the source
-  fault : {b : Bool} {ws : List (List ℕ)} {vs : List SourceValue} (f : SourceFault) → AreInputsOf P ws vs
+  fault : {b : Bool} {ws : List (List ℕ)} {vs : List Constant} (f : SourceFault) → AreInputsOf P ws vs
       → Faulty (source P vs) f →
       Shows P text (Run b ws) 1 (fault_text text f)
-  -- a run that stops at its limit shows no answer but the source's, and of names only what they have
-  stopped : {b : Bool} {ws : List (List ℕ)} {vs : List SourceValue} (v : Option SourceValue) (ns : List NameValue)
-      → AreInputsOf P ws vs →
-      IfSome v (Answers (source P vs)) → AreSomeNames (source P vs) ns →
-      Shows P text (Run b ws) 3 (stopped_text text v (asked b ns))
+  -- a run that stops at its limit shows no answer but the source's, of names only what they have, and no structures and
+  -- cells but its own
+  stopped : {b : Bool} {ws : List (List ℕ)} {vs : List Constant} (v : Option SourceValue) (ns : List NameValue)
+      (hs : List Held) → AreInputsOf P ws vs →
+      IfSome v (Answers (source P vs)) → AreSomeNames (source P vs) ns → AreSomeHeld (source P vs) hs →
+      Shows P text (Run b ws) 3 (stopped_text text v (asked b ns) hs)
 
 -- what a command shows of the text's program, with this status, is printed with this result
 pub record HasShown (c : Command) (text : List ℕ) (old new : Option Told) (status : ℕ)
@@ -84,6 +90,6 @@ pub record IsListingOf (text bytes : List ℕ) : Type 0 where
 pub record AreFactsOf (text : List ℕ) (words : List (List ℕ)) (round : ℕ) (fs : List Fact) : Type 0 where
   pub program : Checked
   pub is_program : IsProgramOf text program
-  pub inputs : List SourceValue
+  pub inputs : List Constant
   pub are_inputs : AreInputsOf program words inputs
   pub are : AreFacts (source program inputs) round fs

@@ -14,7 +14,7 @@ use Rattle.id_check.specs.Causes.{IsMain, IsRefusedFor}
 use Rattle.id_check.specs.Programs.{rows}
 use Rattle.id_check.specs.declared.checked.Checked.{Checked}
 use Rattle.id_check.specs.declared.cause.CheckCause.{CheckCause}
-use Rattle.id_meaning.specs.declared.SourceValue.{SourceValue}
+use Rattle.id_value.specs.declared.Constant.{Constant}
 use Rattle.id_meaning.specs.declared.inputs.Wanted.{Wanted}
 use Rattle.id_meaning.specs.Inputs.{AreInputsOf, wanted}
 use Rattle.id_graph.specs.Graph.{Parts}
@@ -50,7 +50,7 @@ pub record HasInputs (text : List ℕ) (words : List (List ℕ)) : Type 0 where
   pub program : Checked
   pub is_program : IsProgramOf text program
   pub small : size program ≤ 1000000
-  pub inputs : List SourceValue
+  pub inputs : List Constant
   pub are_inputs : AreInputsOf program words inputs
 
 -- a program with its graph, as contracts see them

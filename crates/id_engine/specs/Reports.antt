@@ -2,13 +2,16 @@
 use Rattle.std.specs.Prelude.{◌≡◌, ◌≤◌, ◌<◌, ◌⊎◌, ℕ, Bool, IsTrue, IsFalse, List, [], ◌∷◌, All, length, Option, None}
 use Rattle.std.specs.Prelude.{Some, IfSome}
 use Rattle.id_check.specs.declared.checked.Checked.{Checked}
-use Rattle.id_meaning.specs.declared.SourceValue.{SourceValue}
+use Rattle.id_value.specs.declared.Constant.{Constant}
 use Rattle.id_meaning.specs.declared.SourceFault.{SourceFault}
 use Rattle.id_meaning.specs.Sources.{Source, AreInputs, source}
 use Rattle.id_meaning.specs.Inputs.{AreInputsOf}
-use Rattle.id_meaning.specs.Rounds.{Answers, IsAnswer, Faulty, FaultFree}
-use Rattle.id_meaning.specs.Names.{AreNames, AreSomeNames}
-use Rattle.id_meaning.specs.Orders.{NamesRise}
+use Rattle.id_list.specs.List.{Among}
+use Rattle.id_meaning.specs.declared.Ask.{Ask}
+use Rattle.id_meaning.specs.declared.Fact.TheVariants as fact
+use Rattle.id_meaning.specs.Rounds.{Answers, Holds, IsAnswer, Faulty, FaultFree}
+use Rattle.id_meaning.specs.Names.{AreNames, AreSomeNames, AreWaiting}
+use Rattle.id_meaning.specs.Orders.{NamesRise, Rises}
 use Rattle.id_build.specs.Schemas.{Schemas}
 use Rattle.id_build.specs.Rows.{size}
 use Rattle.id_graph.specs.Graph.{Parts}
@@ -16,19 +19,20 @@ use Rattle.id_record.specs.declared.step.Step.{Step}
 use Rattle.id_core.specs.Events.{EventView}
 use Rattle.id_core.specs.Steps.{State}
 use Rattle.id_core.specs.Machines.{World, MachineView, delivered, event_at, run, start}
-use Rattle.id_core.specs.Observed.{answer, faults, names}
+use Rattle.id_core.specs.Observed.{answer, faults, names, waiting}
 use Rattle.id_print.specs.declared.report.Ending.{Ending}
 use Rattle.id_print.specs.declared.report.Ending.TheVariants.{Quiet, Stopped, Fault}
 use Rattle.id_print.specs.declared.report.Report.{Report}
 use Rattle.id_print.specs.Endings.{EndsSo}
-use Rattle.id_print.specs.Names.{IsSortedOf, AreApart}
+use Rattle.id_print.specs.Names.{IsOrderOf, IsSortedOf, AreApart, AreApartBy, HeldBefore, WaitBefore}
+use Rattle.id_print.specs.Names.{OfOneThing, OfOneFetch, AreHeld, AreSomeHeld, held_lines}
 use Rattle.id_meaning.specs.Computed.{HasMoreFacts}
 use Rattle.id_engine.specs.declared.compiled.CompileError.{CompileError}
 use Rattle.id_engine.specs.declared.compiled.CompileError.TheVariants as compiler
 use Rattle.id_engine.specs.declared.error.EngineError.{EngineError}
 use Rattle.id_engine.specs.declared.error.EngineError.TheVariants.{BadSteps, BadRounds, TooManyFacts, Memory}
 use Rattle.id_engine.specs.Programs.{IsProgramOf}
-use Rattle.id_engine.specs.Runs.{EndsAt, IsHeldBack, after}
+use Rattle.id_engine.specs.Runs.{EndsAt, IsHeldBack, after, held_of}
 
 -- the status of an ending
 abbrev pub status_of : Ending → ℕ
@@ -36,23 +40,42 @@ status_of Quiet = 0
 status_of Stopped = 3
 status_of (Fault f) = 1
 
--- what a report with this ending says of the source is so; it says all of its names where they are asked for
+-- what the report of a quiet run says of the source: it says all of its names where they are asked for
+pub record SaysAll (S : Source) (b : Bool) (r : Report) : Type 0 where
+  pub answer : IsAnswer S r.answer
+  pub names : IsTrue b → AreNames S r.names
+  pub structures : AreHeld S r.structures
+  pub waiting : AreWaiting S r.waiting
+  pub none : FaultFree S
+
+-- what the report of a run says of the source, whatever its ending
+pub record SaysSome (S : Source) (r : Report) : Type 0 where
+  pub answer : IfSome r.answer (Answers S)
+  pub names : AreSomeNames S r.names
+  pub structures : AreSomeHeld S r.structures
+  pub asks : (a : Ask) → Among a r.waiting → Holds S (fact.Ask a)
+
+-- what a report with this ending says of the source is so
 abbrev pub SaysTruly : Source → Bool → Report → Ending → Type 0
-SaysTruly S b r Quiet = IsAnswer S r.answer × (IsTrue b → AreNames S r.names) × FaultFree S
-SaysTruly S b r Stopped = IfSome r.answer (Answers S) × AreSomeNames S r.names
+SaysTruly S b r Quiet = SaysAll S b r
+SaysTruly S b r Stopped = SaysSome S r
 SaysTruly S b r (Fault f) = Faulty S f
 
--- what a report says of the source is so; whatever the ending, its names have what it says
+-- what a report says of the source is so
 pub record IsTrueOf (S : Source) (b : Bool) (r : Report) : Type 0 where
   pub says : SaysTruly S b r r.ending
-  pub names : AreSomeNames S r.names
+  pub some : SaysSome S r
 
 -- the report is what the machine shows, with names where they are asked for
 pub record IsReportFrom (m : MachineView) (b : Bool) (r : Report) : Type 0 where
-  pub answer_is : r.answer ≡ answer m.world
+  pub answer_is : r.answer ≡ answer m.graph m.world
   pub sorted : IsTrue b → IsSortedOf r.names (names m.graph m.world)
   pub rise : IsTrue b → AreApart (names m.graph m.world) → NamesRise r.names
   pub none : IsFalse b → r.names ≡ []
+  pub held : IsOrderOf HeldBefore r.structures (held_lines m)
+  pub held_rise : AreApartBy OfOneThing (held_lines m) → Rises HeldBefore r.structures
+  pub waits : IsOrderOf WaitBefore r.waiting (waiting m.graph m.world)
+  pub waits_rise : AreApartBy OfOneFetch (waiting m.graph m.world) → Rises WaitBefore r.waiting
   pub ends : EndsSo m r.ending
 
 -- deliveries at these positions, from this state, have come to an end: at a fault, or where all messages left are held
@@ -64,12 +87,14 @@ pub data HasEnded (g : Parts) (steps : ℕ) (w : World) (ks : List ℕ) : Type 0
 
 -- the report, with names where they are asked for, is that of a run that has ended, on one element that has handled at
 -- most so many messages
-pub record IsReportOfRun (g : Parts) (vs : List SourceValue) (steps : ℕ) (b : Bool) (r : Report) : Type 0 where
+pub record IsReportOfRun (g : Parts) (vs : List Constant) (steps : ℕ) (b : Bool) (r : Report) : Type 0 where
   pub positions : List ℕ
   pub few : All (λ s. length s.events ≤ steps) (after g vs 1 positions).elements
   pub ended : HasEnded g steps (start g vs 1) positions
-  pub answer_is : r.answer ≡ answer (after g vs 1 positions)
+  pub answer_is : r.answer ≡ answer g (after g vs 1 positions)
   pub sorted : IsTrue b → IsSortedOf r.names (names g (after g vs 1 positions))
+  pub held : IsOrderOf HeldBefore r.structures (held_of g 1 (after g vs 1 positions))
+  pub waits : IsOrderOf WaitBefore r.waiting (waiting g (after g vs 1 positions))
   pub ends : EndsSo (record { graph = g; count = 1; world = after g vs 1 positions }) r.ending
   pub left : r.ending ≡ Stopped → (after g vs 1 positions).flight ≡ [] → ⊥
 
@@ -77,7 +102,7 @@ pub record IsReportOfRun (g : Parts) (vs : List SourceValue) (steps : ℕ) (b : 
 pub record IsReportOf (text : List ℕ) (words : List (List ℕ)) (steps : ℕ) (b : Bool) (r : Report) : Type 0 where
   pub program : Checked
   pub is_program : IsProgramOf text program
-  pub inputs : List SourceValue
+  pub inputs : List Constant
   pub are_inputs : AreInputsOf program words inputs
   pub is_true : IsTrueOf (source program inputs) b r
   pub graph : Parts

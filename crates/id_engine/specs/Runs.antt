@@ -5,23 +5,29 @@ use Rattle.id_check.specs.declared.checked.Checked.{Checked}
 use Rattle.id_graph.specs.Graph.{Parts}
 use Rattle.id_tag.specs.declared.Message.{Message}
 use Rattle.id_tag.specs.Routes.{route_of}
-use Rattle.id_meaning.specs.declared.SourceValue.{SourceValue}
+use Rattle.id_value.specs.declared.Constant.{Constant}
+use Rattle.id_meaning.specs.declared.Ask.{Ask}
 use Rattle.id_meaning.specs.declared.SourceFault.{SourceFault}
 use Rattle.id_meaning.specs.declared.NameValue.{NameValue}
 use Rattle.id_meaning.specs.Inputs.{AreInputsOf}
 use Rattle.id_build.specs.Schemas.{Schemas}
 use Rattle.id_core.specs.Steps.{State, is_ended}
 use Rattle.id_core.specs.Machines.{World, IsQuiet, run, start}
-use Rattle.id_core.specs.Observed.{answer, faults, names}
+use Rattle.id_core.specs.Observed.{answer, faults, names, waiting}
 use Rattle.id_print.specs.Told.{Told, Prints}
-use Rattle.id_print.specs.Names.{IsSortedOf}
-use Rattle.id_print.specs.Texts.{shown_text, stopped_text, fault_text}
+use Rattle.id_print.specs.declared.report.Held.{Held}
+use Rattle.id_print.specs.Names.{IsOrderOf, IsSortedOf, HeldBefore, WaitBefore, held_lines}
+use Rattle.id_print.specs.Texts.{quiet_text, stopped_text, fault_text}
 use Rattle.id_print.specs.Reports.{asked}
 use Rattle.id_engine.specs.Programs.{IsProgramOf}
 
 -- the machine of so many elements after deliveries at these positions from its start
-abbrev pub after : Parts → List SourceValue → ℕ → List ℕ → World
+abbrev pub after : Parts → List Constant → ℕ → List ℕ → World
 after g vs count ks = run g count ks (start g vs count)
+
+-- the lines about structures and cells that a machine of so many elements shows
+abbrev pub held_of : Parts → ℕ → World → List Held
+held_of g count w = held_lines (record { graph = g; count = count; world = w })
 
 -- the message is held back: the element that it is for has handled so many messages, or no stamp is left for it there
 pub record IsHeldBack (count steps : ℕ) (w : World) (m : Message) : Type 0 where
@@ -38,20 +44,24 @@ pub record EndsAt (g : Parts) (count : ℕ) (w : World) (ks : List ℕ) (f : Sou
   pub one : faults g (run g count ks w) ≡ f ∷ []
 
 -- how a run ends, and what is printed of it, its names where they are asked for
-pub data Ends (g : Parts) (vs : List SourceValue) (count steps : ℕ) (ks : List ℕ) (text : List ℕ) (b : Bool) : ℕ
+pub data Ends (g : Parts) (vs : List Constant) (count steps : ℕ) (ks : List ℕ) (text : List ℕ) (b : Bool) : ℕ
     → List ℕ → Type 0 where
   -- with status 0 the machine is quiet
-  quiet : (ns : List NameValue) → IsQuiet (after g vs count ks)
-      → (IsTrue b → IsSortedOf ns (names g (after g vs count ks))) →
-      Ends g vs count steps ks text b 0 (shown_text text (answer (after g vs count ks)) (asked b ns))
+  quiet : (ns : List NameValue) (hs : List Held) (waits : List Ask) → IsQuiet (after g vs count ks)
+      → (IsTrue b → IsSortedOf ns (names g (after g vs count ks)))
+      → IsOrderOf HeldBefore hs (held_of g count (after g vs count ks))
+      → IsOrderOf WaitBefore waits (waiting g (after g vs count ks)) →
+      Ends g vs count steps ks text b 0 (quiet_text text (answer g (after g vs count ks)) (asked b ns) hs waits)
   -- with status 1 it has shown one fault, by its last delivery
   fault : (f : SourceFault) → EndsAt g count (start g vs count) ks f
       → Ends g vs count steps ks text b 1 (fault_text text f)
   -- with status 3 it has shown no fault, and messages are left, all of them held back
-  stopped : (ns : List NameValue) → faults g (after g vs count ks) ≡ [] → (after g vs count ks).flight ≢ [] →
+  stopped : (ns : List NameValue) (hs : List Held) → faults g (after g vs count ks) ≡ []
+      → (after g vs count ks).flight ≢ [] →
       All (IsHeldBack count steps (after g vs count ks)) (after g vs count ks).flight →
       (IsTrue b → IsSortedOf ns (names g (after g vs count ks))) →
-      Ends g vs count steps ks text b 3 (stopped_text text (answer (after g vs count ks)) (asked b ns))
+      IsOrderOf HeldBefore hs (held_of g count (after g vs count ks)) →
+      Ends g vs count steps ks text b 3 (stopped_text text (answer g (after g vs count ks)) (asked b ns) hs)
 
 -- a run of the text's program on the inputs that the words give, on one element, which handles at most so many
 -- messages, is printed with this status
@@ -61,7 +71,7 @@ pub record Ran (text : List ℕ) (words : List (List ℕ)) (steps : ℕ) (b : Bo
   pub is_program : IsProgramOf text program
   pub graph : Parts
   pub schemas : Schemas program graph
-  pub inputs : List SourceValue
+  pub inputs : List Constant
   pub are_inputs : AreInputsOf program words inputs
   pub positions : List ℕ
   pub few : All (λ s. length s.events ≤ steps) (after graph inputs 1 positions).elements

@@ -132,7 +132,6 @@ fn run_prepared(
 {
     id_laws::sound();
     id_laws::complete();
-    id_laws::coherent();
     id_laws::inputs_fit();
     id_laws::never_stuck();
     let mut machine = machine_of(alloc, prepared.compiled.valid(), &prepared.inputs)?;

@@ -6,12 +6,12 @@ use Rattle.id_text.specs.Places.{line_of, column_of}
 use Rattle.id_graph.specs.declared.instr.Instr.{Instr}
 use Rattle.id_graph.specs.declared.instr.Op.{Op}
 use Rattle.id_graph.specs.declared.instr.Op.TheVariants.{Const, Unary, Binary, Merge, Switch, Back, Enter, Send, Next}
-use Rattle.id_graph.specs.declared.instr.Op.TheVariants.{Reset}
+use Rattle.id_graph.specs.declared.instr.Op.TheVariants.{Reset, Alloc, Address, Fetch, Store}
 use Rattle.id_graph.specs.declared.instr.Dyadic.{Dyadic}
 use Rattle.id_graph.specs.declared.instr.Dyadic.TheVariants as class
 use Rattle.id_graph.specs.declared.instr.PortKind.{PortKind}
-use Rattle.id_graph.specs.declared.instr.PortKind.TheVariants.{Signal, Int, Bool as BoolKind, Structure, Address}
-use Rattle.id_graph.specs.declared.instr.PortKind.TheVariants.{Context, Continuation}
+use Rattle.id_graph.specs.declared.instr.PortKind.TheVariants.{Signal, Int, Bool as BoolKind, Structure}
+use Rattle.id_graph.specs.declared.instr.PortKind.TheVariants.{Address as AddressKind, Context, Continuation}
 use Rattle.id_graph.specs.declared.dests.Dest.{Dest}
 use Rattle.id_graph.specs.declared.dests.Port.{Port}
 use Rattle.id_graph.specs.declared.dests.Port.TheVariants.{Zero, One}
@@ -34,7 +34,7 @@ kind_name Signal = codes "signal"
 kind_name Int = codes "int"
 kind_name BoolKind = codes "bool"
 kind_name Structure = codes "structure"
-kind_name Address = codes "address"
+kind_name AddressKind = codes "address"
 kind_name Context = codes "context"
 kind_name Continuation = codes "continuation"
 
@@ -91,6 +91,10 @@ op_text (Enter b r) = codes "enter " ++ decimal b ++ codes " " ++ decimal r
 op_text (Send k t) = codes "send " ++ kind_name k ++ codes " " ++ decimal t
 op_text (Next k) = codes "next " ++ kind_name k
 op_text (Reset k) = codes "reset " ++ kind_name k
+op_text Alloc = codes "alloc"
+op_text Address = codes "address"
+op_text (Fetch r) = codes "fetch " ++ decimal r
+op_text Store = codes "store"
 
 -- the number of a port
 abbrev pub port_number : Port → ℕ

@@ -2,7 +2,7 @@
 use Rattle.std.specs.Prelude.{Bool, true, false, Option, Some, None, is_some}
 use Rattle.id_graph.specs.declared.instr.Op.{Op}
 use Rattle.id_graph.specs.declared.instr.Op.TheVariants.{Const, Unary, Binary, Merge, Switch, Back, Enter, Send, Next}
-use Rattle.id_graph.specs.declared.instr.Op.TheVariants.{Reset}
+use Rattle.id_graph.specs.declared.instr.Op.TheVariants.{Reset, Alloc, Address, Fetch, Store}
 use Rattle.id_graph.specs.declared.instr.Dyadic.{Dyadic}
 use Rattle.id_graph.specs.declared.instr.Dyadic.TheVariants.{Arithmetic, Comparison, Truth}
 use Rattle.id_value.specs.declared.UnaryOp.{UnaryOp}
@@ -10,7 +10,8 @@ use Rattle.id_value.specs.declared.UnaryOp.TheVariants.{Neg, Not}
 use Rattle.id_value.specs.declared.Constant.{Constant}
 use Rattle.id_value.specs.declared.Constant.TheVariants.{Int as IntConstant, Bool as BoolConstant}
 use Rattle.id_graph.specs.declared.instr.PortKind.{PortKind}
-use Rattle.id_graph.specs.declared.instr.PortKind.TheVariants.{Signal, Int, Bool as BoolKind, Context, Continuation}
+use Rattle.id_graph.specs.declared.instr.PortKind.TheVariants.{Signal, Int, Bool as BoolKind, Structure}
+use Rattle.id_graph.specs.declared.instr.PortKind.TheVariants.{Address as AddressKind, Context, Continuation}
 use Rattle.id_graph.specs.declared.dests.Port.{Port}
 use Rattle.id_graph.specs.declared.dests.Port.TheVariants.{Zero, One}
 
@@ -52,6 +53,13 @@ port_kind (Next k) Zero = Some k
 port_kind (Next k) One = None
 port_kind (Reset k) Zero = Some k
 port_kind (Reset k) One = None
+port_kind Alloc p = Some Int
+port_kind Address Zero = Some Structure
+port_kind Address One = Some Int
+port_kind (Fetch r) Zero = Some AddressKind
+port_kind (Fetch r) One = None
+port_kind Store Zero = Some AddressKind
+port_kind Store One = Some Int
 
 -- whether the operator has a second port
 abbrev pub two_ports : Op → Bool
@@ -74,6 +82,10 @@ sends (Enter b r) = Some Context
 sends (Send k t) = None
 sends (Next k) = Some k
 sends (Reset k) = Some k
+sends Alloc = Some Structure
+sends Address = Some AddressKind
+sends (Fetch r) = None
+sends Store = None
 
 -- whether the operator has two sides, each with its destinations: a switch alone has
 abbrev pub two_sides : Op → Bool
@@ -87,3 +99,7 @@ two_sides (Enter b r) = false
 two_sides (Send k t) = false
 two_sides (Next k) = false
 two_sides (Reset k) = false
+two_sides Alloc = false
+two_sides Address = false
+two_sides (Fetch r) = false
+two_sides Store = false

@@ -9,7 +9,7 @@ use crate::dests::{Dest, Dests, Port};
 use id_list::Sequence;
 use id_value::{Arithmetic, Comparison, Constant, Truth, UnaryOp};
 
-/// The kind of what a port takes. Of some of them no value exists yet.
+/// The kind of what a port takes.
 #[derive(Clone, Copy, Debug, PartialEq, Eq)]
 pub enum PortKind {
     Signal,
@@ -80,6 +80,14 @@ pub enum Op {
     Next(PortKind),
     /// Sends on whatever comes, of one kind, at iteration 0.
     Reset(PortKind),
+    /// Makes a structure from its two bounds.
+    Alloc,
+    /// Makes an address from a structure and a number.
+    Address,
+    /// Asks for the value of the cell at an address; that value comes to the instruction `reply`.
+    Fetch { reply: u32 },
+    /// Stores a number in the cell at an address.
+    Store,
 }
 
 impl Op {
@@ -103,8 +111,11 @@ impl Op {
             (Op::Switch(kind) | Op::Back(kind) | Op::Send { kind, .. }, Port::One) => Some(kind),
             (Op::Back(_), Port::Zero) => Some(PortKind::Continuation),
             (Op::Send { .. }, Port::Zero) => Some(PortKind::Context),
+            (Op::Alloc, _) | (Op::Address | Op::Store, Port::One) => Some(PortKind::Int),
+            (Op::Address, Port::Zero) => Some(PortKind::Structure),
+            (Op::Fetch { .. } | Op::Store, Port::Zero) => Some(PortKind::Address),
             (Op::Const(_) | Op::Unary(_) | Op::Merge(_) | Op::Enter { .. }, Port::One) => None,
-            (Op::Next(_) | Op::Reset(_), Port::One) => None,
+            (Op::Next(_) | Op::Reset(_) | Op::Fetch { .. }, Port::One) => None,
         }
     }
 
@@ -119,7 +130,9 @@ impl Op {
             Op::Binary(operator) => Some(operator.outcome_kind()),
             Op::Merge(kind) | Op::Switch(kind) | Op::Next(kind) | Op::Reset(kind) => Some(kind),
             Op::Enter { .. } => Some(PortKind::Context),
-            Op::Back(_) | Op::Send { .. } => None,
+            Op::Alloc => Some(PortKind::Structure),
+            Op::Address => Some(PortKind::Address),
+            Op::Back(_) | Op::Send { .. } | Op::Fetch { .. } | Op::Store => None,
         }
     }
 

@@ -102,6 +102,10 @@ fn write_op(out: &mut String, op: Op) -> Result<(), AllocError>
         Op::Send { kind, target } => write!(out, "send {} {target}", kind_name(kind)),
         Op::Next(kind) => write!(out, "next {}", kind_name(kind)),
         Op::Reset(kind) => write!(out, "reset {}", kind_name(kind)),
+        Op::Alloc => write!(out, "alloc"),
+        Op::Address => write!(out, "address"),
+        Op::Fetch { reply } => write!(out, "fetch {reply}"),
+        Op::Store => write!(out, "store"),
     }
 }
 

@@ -14,21 +14,16 @@ use Rattle.id_tag.specs.declared.Tag.{Tag}
 use Rattle.id_ops.specs.declared.Operands.TheVariants.{One, Two}
 use Rattle.id_ops.specs.declared.Fresh.{Fresh}
 use Rattle.id_ops.specs.Operators.{fired, fired_by, constant_value}
-use Rattle.id_core.specs.Machines.{token_value}
 use Rattle.id_meaning.specs.Sources.{value_kind, value_of}
 use Rattle.id_build.specs.Rows.{binary_op, port_of}
 
-pub constant_is : (c : Constant) → constant_value c ≡ token_value (value_of c)
-constant_is (Int n) = refl
-constant_is (Bool b) = refl
-
 -- each operator of the language is made as one of the machine that comes to the same, on any values
-pub agree_unary : (o : UnaryOp) (c : Constant) (t : Tag) (f : Fresh) → fired (Unary o) t (One (token_value (value_of c))) f ≡ fired_by (result_of_unary o c)
+pub agree_unary : (o : UnaryOp) (c : Constant) (t : Tag) (f : Fresh) → fired (Unary o) t (One (constant_value c)) f ≡ fired_by (result_of_unary o c)
 agree_unary o (Int n) t f = refl
 agree_unary o (Bool b) t f = refl
 
 agree_binary : (o : BinaryOp) (c d : Constant) (t : Tag) (f : Fresh)
-    → fired (Binary (binary_op o (port_of (value_kind (value_of c))))) t (Two (token_value (value_of c)) (token_value (value_of d))) f ≡ fired_by (result_of_binary o c d)
+    → fired (Binary (binary_op o (port_of (value_kind (value_of c))))) t (Two (constant_value c) (constant_value d)) f ≡ fired_by (result_of_binary o c d)
 agree_binary (class.Arithmetic o) (Int a) (Int b) t f = refl
 agree_binary (class.Arithmetic o) (Int a) (Bool b) t f = refl
 agree_binary (class.Arithmetic o) (Bool a) (Int b) t f = refl
@@ -68,5 +63,5 @@ agree_binary (class.Logic Or) (Bool a) (Bool b) t f = refl
 
 -- `==` and `<>` are made by the kind of the ports that take the left operand's value
 pub agree_at : (o : BinaryOp) (c d : Constant) (t : Tag) (f : Fresh) (k : PortKind) → k ≡ port_of (value_kind (value_of c))
-    → fired (Binary (binary_op o k)) t (Two (token_value (value_of c)) (token_value (value_of d))) f ≡ fired_by (result_of_binary o c d)
-agree_at o c d t f k e = ap (λ z. fired (Binary (binary_op o z)) t (Two (token_value (value_of c)) (token_value (value_of d))) f) e ∙ agree_binary o c d t f
+    → fired (Binary (binary_op o k)) t (Two (constant_value c) (constant_value d)) f ≡ fired_by (result_of_binary o c d)
+agree_at o c d t f k e = ap (λ z. fired (Binary (binary_op o z)) t (Two (constant_value c) (constant_value d)) f) e ∙ agree_binary o c d t f

@@ -3,7 +3,7 @@ use Rattle.std.proofs.Common.{◌≡◌, ◌⊎◌, inl, inr, length, arith, ℕ
 use Rattle.std.specs.Prelude.{option_map}
 use Rattle.id_list.specs.List.{Among}
 use Rattle.id_list.proofs.AmongLemmas.{Among-from_at}
-use Rattle.id_parts.specs.declared.row.Node.TheVariants.{Head, Param, Enter, Call, Program, Start}
+use Rattle.id_parts.specs.declared.row.Node.TheVariants.{Head, Param, Enter, Call, Program}
 use Rattle.id_parts.specs.Rows.{at, top}
 use Rattle.id_parts.specs.Tables.{HasPart, is_expression}
 use Rattle.id_parts.specs.Turns.{IsDefOf, params_at}
@@ -24,7 +24,7 @@ use Rattle.id_tag.specs.declared.Payload.TheVariants.{Token}
 use Rattle.id_ops.specs.declared.Operands.{Operands}
 use Rattle.id_ops.specs.declared.Fresh.{Fresh}
 use Rattle.id_ops.specs.declared.Fired.{Fired}
-use Rattle.id_ops.specs.declared.Fired.TheVariants.{Out, Side, Entered, Sent, Moved, Failed, Nothing}
+use Rattle.id_ops.specs.declared.Fired.TheVariants.{Out, Side, Entered, Sent, Moved, Asked, Stored, Failed, Nothing}
 use Rattle.id_ops.specs.Operators.{fired, tag_within}
 use Rattle.id_valid.specs.Roles.{op_at}
 use Rattle.id_record.specs.Sends.{beside, moved_to}
@@ -34,7 +34,7 @@ use Rattle.id_core.specs.Machines.{World}
 use Rattle.id_meaning.specs.declared.Path.{Path}
 use Rattle.id_meaning.specs.declared.Fact.TheVariants.{Has}
 use Rattle.id_meaning.specs.Sources.{Source}
-use Rattle.id_meaning.specs.Facts.{below, without, argument_has, call_has}
+use Rattle.id_meaning.specs.Facts.{below, without, argument_has, call_has, fetch_has, put as put_fact, site}
 use Rattle.id_meaning.specs.Rounds.{Holds}
 use Rattle.id_desugar.specs.Ends.{end_of}
 use Rattle.id_build.specs.declared.arc.Form.{Form}
@@ -44,18 +44,22 @@ use Rattle.id_build.specs.Schemas.{Numbered}
 use Rattle.id_runs.specs.Activations.{Activation, main_activation, at_iteration, activation_of, tag_in}
 use Rattle.id_runs.specs.Events.{Event, FiresAs, GivesOn}
 use Rattle.id_runs.specs.Runs.{Reach, handled, starting}
-use Rattle.id_runs.proofs.Givings.{SentAs, along as along_arc, moving, to_tag, sent_as, to_start}
-use Rattle.id_runs.proofs.Messages.{sent_from}
+use Rattle.id_runs.proofs.Givings.{SentAs, along as along_arc, moving, to_tag, sent_as, to_start, reading, writing}
+use Rattle.id_runs.proofs.Messages.{SentFrom, by_firing, by_answer, sent_from}
+use Rattle.id_runs.specs.Serials.{StructuresApart}
+use Rattle.id_laws.proofs.Names.{one_name, replied}
+use Rattle.id_tag.specs.declared.Cell.{Cell}
 use Rattle.id_runs.proofs.Waiting.{HasFired, has_fired, OperandsHandled, one_handled, two_handled}
 use Rattle.id_runs.proofs.EveryMessage.{Passes, every_message}
-use Rattle.id_laws.specs.Activations.{Begins, of_call, of_loop, Opens, PathOf, Speaks, Moves, Live, entered, ReturnsTo, to_answer, to_row}
+use Rattle.id_laws.specs.Activations.{Begins, of_call, of_loop, Opens, PathOf, Speaks, Live, entered, ReturnsTo, to_answer, to_row}
+use Rattle.id_laws.specs.Topics.{ToldRead, ToldWrite}
 use Rattle.id_laws.specs.Topics.{IsPart, Shown, ShownContext, Tells, Told, AllTell, AllSpeak, ContextOf, speaks_of, topic_of, topic_at, wants, result_at, result_of}
 use Rattle.id_laws.proofs.Assumed.{IsKnown}
 use Rattle.id_laws.proofs.LoopTells.{given_tells, looped_tells}
 use Rattle.id_laws.proofs.Begun.{begun_at}
 use Rattle.id_laws.proofs.Sendings.{head_parts, wants_back, wants_signal}
 use Rattle.id_laws.proofs.Regions.{own_depth}
-use Rattle.id_laws.proofs.Arcs.{Does, answers, enters, gets, opens, returns, starts, doing, makes, part_of, target_part}
+use Rattle.id_laws.proofs.Arcs.{Does, answers, enters, gets, gets_reply, opens, doing, makes, part_of, target_part}
 use Rattle.id_laws.proofs.Blocks.{a_param}
 use Rattle.id_laws.proofs.Calls.{arg_at, call_at, callee_stands}
 use Rattle.id_laws.proofs.Sent.{sends_there}
@@ -104,7 +108,8 @@ fired_part {P} {g} {number} {run} {t} {f} {ops} numbered h =
       is = h.is ∙ ap (λ o. fired o t ops h.fresh) op_is;
     }
 
-module _ (S : Source) (known : IsKnown S.checked) (g : Parts) (number : ℕ → ℕ → ℕ) (numbered : Numbered S.checked g number) (run : List Event) (seats : OneSeat S number run) where
+module _ (S : Source) (known : IsKnown S.checked) (g : Parts) (number : ℕ → ℕ → ℕ) (numbered : Numbered S.checked g number) (run : List Event)
+    (seats : OneSeat S number run) (structures : StructuresApart g run) where
   abbrev P : Checked
   P = S.checked
 
@@ -129,8 +134,12 @@ module _ (S : Source) (known : IsKnown S.checked) (g : Parts) (number : ℕ → 
   firing_tells {count} {s} hs r all {t} {f} x =
       let h = has_fired g S.inputs count s hs r x in
       let y = fired_part numbered h in
-      let tell = operands_tell hs all t _ x.operands y.row y.part y.is_part y.at h.handled_are in
-      (y, subst (Means S number run (activation_of t) y.row y.part) (sym y.is) (firing_means S known number run seats (activation_of t) y.row ((y.is_part).makes).within t refl y.fresh y.part y.form x.operands y.does tell))
+      let tell = operands_tell hs all t _ x.operands y.row y.part y.is_part y.at h.handled_are in (
+        y,
+        subst (Means S number run (activation_of t) y.row y.part) (sym y.is)
+            (firing_means S known number run seats (activation_of t) y.row ((y.is_part).makes).within t refl y.fresh y.part y.form x.operands
+            (ap (λ (u : Tag). u.instr) (sym y.at)) y.does tell),
+      )
 
   -- the body of the procedure that an `Enter` calls is what its block gives
   callee_body : (n : ℕ) {d : ℕ} (def : IsDefOf (rows P) d (called P n)) → result_of P (called P n) ≡ def.body
@@ -202,7 +211,8 @@ module _ (S : Source) (known : IsKnown S.checked) (g : Parts) (number : ℕ → 
   origin_tells a s row part (Out w) v fires here other there same gives means =
       let at = one_part numbered here there same in
       let is : record { row = row; part = part; side = true } ≡ s = (λ i. record { row = sym at.0 i; part = sym at.1 i; side = sym gives.0 i }) in
-      subst (λ (z : Origin × Value). Tells S number run a (topic_of P z.0) z.1) {x = (record { row = row; part = part; side = true }, w)} {y = (s, v)} (λ i. (is i, sym gives.1 i)) (means (λ e. other (ap (node P) at.0 ∙ e)))
+      subst (λ (z : Origin × Value). Tells S number run a (topic_of P z.0) z.1) {x = (record { row = row; part = part; side = true }, w)} {y = (s, v)}
+      (λ i. (is i, sym gives.1 i)) (means (λ e. other (ap (node P) at.0 ∙ e)) fires)
   origin_tells a s row part (Side b w) v fires here other there same gives means =
       let at = one_part numbered here there same in
       let is : record { row = row; part = part; side = b } ≡ s = (λ i. record { row = sym at.0 i; part = sym at.1 i; side = sym gives.0 i }) in
@@ -217,6 +227,8 @@ module _ (S : Source) (known : IsKnown S.checked) (g : Parts) (number : ℕ → 
       subst (λ (z : Origin × Value). Tells S number run a (topic_of P z.0) z.1) {x = (record { row = row; part = part; side = true }, value.Context c)} {y = (s, v)} (λ i. (is i, sym gives.1 i)) tells
   origin_tells a s row part (Moved k w) v fires here other there same gives means = absurd gives
   origin_tells a s row part (Sent u w) v fires here other there same gives means = absurd gives
+  origin_tells a s row part (Asked c u) v fires here other there same gives means = absurd gives
+  origin_tells a s row part (Stored c w u) v fires here other there same gives means = absurd gives
   origin_tells a s row part (Failed k) v fires here other there same gives means = absurd gives
   origin_tells a s row part Nothing v fires here other there same gives means = absurd gives
 
@@ -407,17 +419,52 @@ module _ (S : Source) (known : IsKnown S.checked) (g : Parts) (number : ℕ → 
           subst T (sym says) (goes_on t row part k v (subst (FiresAs run t) is fires) is_part at (subst (Means S number run (activation_of t) row part) is means) (mover k v is) d among)
       by (to_tag u v is says) = subst T (sym says) (sends u v (subst (Means S number run (activation_of t) row part) is means))
       by (to_start c is h) = starting_tells c is (starts_as t c x (op_at g t.instr) h)
+      by (reading c u is says) = subst T (sym says) (subst (Means S number run (activation_of t) row part) is means)
+      by (writing c v u is says) = subst T (sym says) (subst (Means S number run (activation_of t) row part) is means)
+
+  -- a fetch that asks for a cell Has what is put there
+  reply_tells : (u : Tag) (v : Value) (c : Cell) (w : Tag) → ToldRead S number run c u → ToldWrite S number run c v w → T (Token u Zero v)
+  reply_tells u v c w asked put =
+      let n = asked.row in
+      let name_is : put.name ≡ asked.name = one_name S g number numbered run seats structures put.named asked.named in
+      let given = subst (λ z. Holds S (put_fact z (c.index) put.value (site put.path (place P put.row)))) name_is put.holds in
+      let has = holds_by S _ _ (fetch_has {f = site asked.path (place P n)}) (asked.holds, (given, tt)) in
+      record {
+        activation = asked.activation;
+        row = n;
+        part = 2;
+        port = Zero;
+        value = v;
+        is_part = part_of asked.within (gets_reply asked.node);
+        is = ap (λ t. Token t Zero v) asked.is;
+        tells = subst (λ m. Tells S number run asked.activation (wants P n (region P n) m 2 Zero) v) (sym asked.node) (
+          asked.live,
+          record {
+            path = asked.path;
+            path_of = asked.path_of;
+            value = put.value;
+            stands = put.stands;
+            holds = subst (λ z. Holds S (Has z (place P n) put.value)) (sym (without_none asked.path)) has;
+          },
+        );
+      }
 
   abbrev InRun : Event → Type 0
   InRun e = Among e run
 
   passes : (count : ℕ) → Passes g S.inputs count InRun T
   passes count s hs r e among in_run all x out =
-      let z = sent_from g hs e among x out in
-      let m = firing_tells hs r all z.fires in
-      let y = z.fires in
-      let fires : FiresAs run z.tag z.fired = record { element = y.element; port = y.port; value = y.value; operands = y.operands; among = subst InRun (sym z.is) (in_run e among) } in
-      sent_tells z.tag (m.0).row (m.0).part (m.0).is_part (m.0).at z.fired fires m.1 (λ k v e. moved_by P number (m.0).does z.tag (z.fires).operands (m.0).fresh (sym (m.0).is ∙ e)) x z.sends
+      by (sent_from g hs e among x out)
+    where
+      by : SentFrom g hs e x → T x
+      by (by_firing t f y is sends) =
+          let m = firing_tells hs r all y in
+          let fires : FiresAs run t f = record { element = y.element; port = y.port; value = y.value; operands = y.operands; among = in_run _ y.among } in
+          sent_tells t (m.0).row (m.0).part (m.0).is_part (m.0).at f fires m.1 (λ k v e. moved_by P number (m.0).does t y.operands (m.0).fresh
+          (sym (m.0).is ∙ e)) x sends
+      by (by_answer t v is replies) =
+          let z = replied g S.inputs count s hs r t v e replies in
+          subst T (sym is) (reply_tells t v z.cell z.origin (all _ z.asked) (all _ z.put))
 
   module _ (starts : (x : Payload) → Among x (starting g S.inputs) → T x) (count : ℕ) (s : World) (r : Reach g S.inputs count s run) where
     -- every message tells what its port wants

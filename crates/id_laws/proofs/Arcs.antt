@@ -11,27 +11,28 @@ use Rattle.id_parts.specs.declared.row.Node.{Node}
 use Rattle.id_parts.specs.declared.row.Node.TheVariants.{Head, Param, Literal, Name, Unary, Binary, Split, If, Enter, Arg, Call, Block}
 use Rattle.id_parts.specs.declared.row.Node.TheVariants.{Binding, Def, Program}
 use Rattle.id_parts.specs.declared.row.Node.TheVariants.{Start, LoopHead, Variable, Entries, Switches, Turn, NextUse, Next, Body, Reset, Loop}
+use Rattle.id_parts.specs.declared.row.Node.TheVariants.{Array, Fetch, Address, Store}
 use Rattle.id_parts.specs.Tables.{begins_block}
 use Rattle.id_check.specs.declared.checked.Checked.{Checked}
 use Rattle.id_check.specs.Programs.{place, region, rows}
 use Rattle.id_graph.specs.declared.dests.Port.{Port}
 use Rattle.id_graph.specs.declared.dests.Port.TheVariants.{Zero, One}
 use Rattle.id_graph.specs.declared.instr.Op.TheVariants as op
-use Rattle.id_graph.specs.declared.instr.PortKind.TheVariants.{Signal}
+use Rattle.id_graph.specs.declared.instr.PortKind.TheVariants.{Signal, Int}
 use Rattle.id_desugar.specs.Ends.{end_of}
 use Rattle.id_desugar.specs.Regions.{imports_of, nexts_of}
 use Rattle.id_build.specs.declared.arc.Origin.{Origin}
 use Rattle.id_build.specs.declared.arc.Form.{Form}
-use Rattle.id_build.specs.declared.arc.Form.TheVariants.{Plain, EnterAt, SendTo}
-use Rattle.id_build.specs.Rows.{node, body_of, result_of, port_of, port_at, binary_op, made_of, switches, feed, feeds_of, import_feeds, name_in, origin}
-use Rattle.id_build.specs.Rows.{called, output, param_of, trigger_of, piece, block, Entry, loop_entries, entering, turn_row, next_of}
+use Rattle.id_build.specs.declared.arc.Form.TheVariants.{Plain, EnterAt, SendTo, FetchAt}
+use Rattle.id_build.specs.Rows.{node, body_of, result_of, port_of, port_at, binary_op, made_of, feed, feeds_of, import_feeds, name_in, origin}
+use Rattle.id_build.specs.Rows.{output, param_of, trigger_of, piece, block, Entry, loop_entries, entering, turn_row, next_of}
 use Rattle.id_build.specs.Rows.{entry_feeds, turn_feeds, send_to, for_each, import_entries, variable_entries, entries_row, first_binder}
 use Rattle.id_graph.specs.declared.instr.Op.{Op}
 use Rattle.id_graph.specs.declared.instr.PortKind.{PortKind}
 use Rattle.id_build.specs.declared.arc.Piece.{Piece}
 use Rattle.id_build.specs.Schemas.{Makes, Feeds}
 use Rattle.id_laws.specs.Activations.{Begins, of_call, of_loop, Tests, of_arms, of_turns}
-use Rattle.id_laws.specs.Topics.{IsPart}
+use Rattle.id_laws.specs.Topics.{Addresses, of_fetch, of_store, IsPart}
 
 -- ---- parts
 
@@ -60,6 +61,11 @@ pub data Does (P : Checked) (n : ℕ) : ℕ → Form → Type 0 where
   advances : {x k o v : ℕ} → node P n ≡ Next x k o v → Does P n 0 (Plain (op.Next (port_at P n)))
   resets : {v : ℕ} → node P n ≡ Reset v → Does P n 0 (Plain (op.Reset (port_at P v)))
   gets_last : {h w l : ℕ} → node P n ≡ Loop h w l → Does P n 0 (Plain (op.Merge (port_at P n)))
+  allocates : {a b : ℕ} → node P n ≡ Array a b → Does P n 0 (Plain op.Alloc)
+  addresses : {t i : ℕ} → Addresses P n t i → Does P n 0 (Plain op.Address)
+  fetches : {t i : ℕ} → node P n ≡ Fetch t i → Does P n 1 (FetchAt n)
+  gets_reply : {t i : ℕ} → node P n ≡ Fetch t i → Does P n 2 (Plain (op.Merge Int))
+  stores : {a v : ℕ} → node P n ≡ Store a v → Does P n 0 (Plain op.Store)
   answers : node P n ≡ Program → Does P n 0 (Plain (op.Merge (port_of (result_of (node P P.main)))))
 
 -- the place that the part of a row with this node shows: the answer's is main's, any other's its row's
@@ -177,6 +183,22 @@ made_by P n zero f e (Reset v) is h = let b = same_form _ f _ e h in record { do
 made_by P n (suc j) f e (Reset v) is h = cc
 made_by P n zero f e (Loop g w l) is h = let b = same_form _ f _ e h in record { does = subst (Does P n _) b.0 (gets_last is); place_is = b.1 ∙ ap (place_shown P (place P n)) (sym is) }
 made_by P n (suc j) f e (Loop g w l) is h = cc
+made_by P n zero f e (Array u w) is h =
+    let b = same_form _ f _ e h in record { does = subst (Does P n _) b.0 (allocates is); place_is = b.1 ∙ ap (place_shown P (place P n)) (sym is) }
+made_by P n (suc j) f e (Array u w) is h = cc
+made_by P n zero f e (Fetch u i) is h =
+    let b = same_form _ f _ e h in record { does = subst (Does P n _) b.0 (addresses (of_fetch is)); place_is = b.1 ∙ ap (place_shown P (place P n)) (sym is) }
+made_by P n (suc zero) f e (Fetch u i) is h =
+    let b = same_form _ f _ e h in record { does = subst (Does P n _) b.0 (fetches is); place_is = b.1 ∙ ap (place_shown P (place P n)) (sym is) }
+made_by P n (suc (suc zero)) f e (Fetch u i) is h =
+    let b = same_form _ f _ e h in record { does = subst (Does P n _) b.0 (gets_reply is); place_is = b.1 ∙ ap (place_shown P (place P n)) (sym is) }
+made_by P n (suc (suc (suc j))) f e (Fetch u i) is h = cc
+made_by P n zero f e (Address u i) is h =
+    let b = same_form _ f _ e h in record { does = subst (Does P n _) b.0 (addresses (of_store is)); place_is = b.1 ∙ ap (place_shown P (place P n)) (sym is) }
+made_by P n (suc j) f e (Address u i) is h = cc
+made_by P n zero f e (Store u v) is h =
+    let b = same_form _ f _ e h in record { does = subst (Does P n _) b.0 (stores is); place_is = b.1 ∙ ap (place_shown P (place P n)) (sym is) }
+made_by P n (suc j) f e (Store u v) is h = cc
 made_by P n zero f e Program is h = let b = same_form _ f _ e h in record { does = subst (Does P n _) b.0 (answers is); place_is = b.1 ∙ ap (place_shown P (place P n)) (sym is) }
 made_by P n (suc j) f e Program is h = cc
 
@@ -220,6 +242,12 @@ makes {P} {n} within (moves_name k is less) = made_at P n (suc k) Turn _ within 
 makes {P} {n} within (advances {x = x} {k = k} {o = o} {v = v} is) = made_at P n 0 (Next x k o v) _ within is refl
 makes {P} {n} within (resets {v = v} is) = made_at P n 0 (Reset v) _ within is refl
 makes {P} {n} within (gets_last {h = h} {w = w} {l = l} is) = made_at P n 0 (Loop h w l) _ within is refl
+makes {P} {n} within (allocates {a = a} {b = b} is) = made_at P n 0 (Array a b) _ within is refl
+makes {P} {n} within (addresses {t = t} {i = i} (of_fetch is)) = made_at P n 0 (Fetch t i) _ within is refl
+makes {P} {n} within (addresses {t = t} {i = i} (of_store is)) = made_at P n 0 (Address t i) _ within is refl
+makes {P} {n} within (fetches {t = t} {i = i} is) = made_at P n 1 (Fetch t i) _ within is refl
+makes {P} {n} within (gets_reply {t = t} {i = i} is) = made_at P n 2 (Fetch t i) _ within is refl
+makes {P} {n} within (stores {a = a} {v = v} is) = made_at P n 0 (Store a v) _ within is refl
 makes {P} {n} within (answers is) = made_at P n 0 Program _ within is refl
 
 pub part_of : {P : Checked} {n part : ℕ} {f : Form} → n < length (rows P) → Does P n part f → IsPart P n part
@@ -254,6 +282,13 @@ pub data Arc (P : Checked) (n : ℕ) : ℕ → Port → Origin → Type 0 where
   to_turn_name : (k : ℕ) → node P n ≡ Turn → k < length (imports_of P (block P n)) → Arc P n (suc k) Zero (name_in P (region P n) (get_or (imports_of P (block P n)) k 0))
   to_next : {x k o v : ℕ} → node P n ≡ Next x k o v → Arc P n 0 Zero (origin P v)
   to_reset : {v : ℕ} → node P n ≡ Reset v → Arc P n 0 Zero (origin P v)
+  to_low : {a b : ℕ} → node P n ≡ Array a b → Arc P n 0 Zero (origin P a)
+  to_high : {a b : ℕ} → node P n ≡ Array a b → Arc P n 0 One (origin P b)
+  to_target : {t i : ℕ} → Addresses P n t i → Arc P n 0 Zero (origin P t)
+  to_index : {t i : ℕ} → Addresses P n t i → Arc P n 0 One (origin P i)
+  to_fetch : {t i : ℕ} → node P n ≡ Fetch t i → Arc P n 1 Zero (output n)
+  to_store : {a v : ℕ} → node P n ≡ Store a v → Arc P n 0 Zero (output a)
+  to_stored : {a v : ℕ} → node P n ≡ Store a v → Arc P n 0 One (origin P v)
 
 moved : {P : Checked} {n : ℕ} (s t : Origin) (part k : ℕ) (p q : Port) → feed s part p ≡ feed t k q → Arc P n k q t → Arc P n part p s
 moved {P} {n} s t part k p q is a =
@@ -416,6 +451,19 @@ arc_by P s n part p Body is h = absurd h
 arc_by P s n part p (Reset v) is (inl h) = moved s _ part 0 p Zero h (to_reset is)
 arc_by P s n part p (Reset v) is (inr h) = absurd h
 arc_by P s n part p (Loop g w l) is h = absurd h
+arc_by P s n part p (Array a b) is (inl h) = moved s _ part 0 p Zero h (to_low is)
+arc_by P s n part p (Array a b) is (inr (inl h)) = moved s _ part 0 p One h (to_high is)
+arc_by P s n part p (Array a b) is (inr (inr h)) = absurd h
+arc_by P s n part p (Fetch t i) is (inl h) = moved s _ part 0 p Zero h (to_target (of_fetch is))
+arc_by P s n part p (Fetch t i) is (inr (inl h)) = moved s _ part 0 p One h (to_index (of_fetch is))
+arc_by P s n part p (Fetch t i) is (inr (inr (inl h))) = moved s _ part 1 p Zero h (to_fetch is)
+arc_by P s n part p (Fetch t i) is (inr (inr (inr h))) = absurd h
+arc_by P s n part p (Address t i) is (inl h) = moved s _ part 0 p Zero h (to_target (of_store is))
+arc_by P s n part p (Address t i) is (inr (inl h)) = moved s _ part 0 p One h (to_index (of_store is))
+arc_by P s n part p (Address t i) is (inr (inr h)) = absurd h
+arc_by P s n part p (Store a v) is (inl h) = moved s _ part 0 p Zero h (to_store is)
+arc_by P s n part p (Store a v) is (inr (inl h)) = moved s _ part 0 p One h (to_stored is)
+arc_by P s n part p (Store a v) is (inr (inr h)) = absurd h
 arc_by P s n part p Program is h = absurd h
 
 -- each arc is one that its row's node says
@@ -464,6 +512,13 @@ fed_part within (to_turn is) = part_of within (moves_on is)
 fed_part within (to_turn_name k is less) = part_of within (moves_name k is less)
 fed_part within (to_next is) = part_of within (advances is)
 fed_part within (to_reset is) = part_of within (resets is)
+fed_part within (to_low is) = part_of within (allocates is)
+fed_part within (to_high is) = part_of within (allocates is)
+fed_part within (to_target is) = part_of within (addresses is)
+fed_part within (to_index is) = part_of within (addresses is)
+fed_part within (to_fetch is) = part_of within (fetches is)
+fed_part within (to_store is) = part_of within (stores is)
+fed_part within (to_stored is) = part_of within (stores is)
 
 pub target_part : {P : Checked} {s : Origin} {n part : ℕ} {p : Port} → Feeds P s n part p → IsPart P n part
 target_part h = fed_part h.within (fed h)
@@ -498,6 +553,15 @@ feeder P n r Turn zero Zero = Some (trigger_of r)
 feeder P n r Turn (suc k) Zero = Some (name_in P r (get_or (imports_of P (block P n)) k 0))
 feeder P n r (Next x k o v) zero Zero = Some (origin P v)
 feeder P n r (Reset v) zero Zero = Some (origin P v)
+feeder P n r (Array a b) zero Zero = Some (origin P a)
+feeder P n r (Array a b) zero One = Some (origin P b)
+feeder P n r (Fetch t i) zero Zero = Some (origin P t)
+feeder P n r (Fetch t i) zero One = Some (origin P i)
+feeder P n r (Fetch t i) (suc zero) Zero = Some (output n)
+feeder P n r (Address t i) zero Zero = Some (origin P t)
+feeder P n r (Address t i) zero One = Some (origin P i)
+feeder P n r (Store a v) zero Zero = Some (output a)
+feeder P n r (Store a v) zero One = Some (origin P v)
 feeder P n r _ part p = None
 
 -- an arc from an arm goes to a conditional
@@ -539,6 +603,15 @@ feeder_is {P} {n} (to_turn is) = inl (ap (λ m. feeder P n (region P n) m 0 Zero
 feeder_is {P} {n} (to_turn_name k is less) = inl (ap (λ m. feeder P n (region P n) m (suc k) Zero) is)
 feeder_is {P} {n} (to_next is) = inl (ap (λ m. feeder P n (region P n) m 0 Zero) is)
 feeder_is {P} {n} (to_reset is) = inl (ap (λ m. feeder P n (region P n) m 0 Zero) is)
+feeder_is {P} {n} (to_low is) = inl (ap (λ m. feeder P n (region P n) m 0 Zero) is)
+feeder_is {P} {n} (to_high is) = inl (ap (λ m. feeder P n (region P n) m 0 One) is)
+feeder_is {P} {n} (to_target (of_fetch is)) = inl (ap (λ m. feeder P n (region P n) m 0 Zero) is)
+feeder_is {P} {n} (to_target (of_store is)) = inl (ap (λ m. feeder P n (region P n) m 0 Zero) is)
+feeder_is {P} {n} (to_index (of_fetch is)) = inl (ap (λ m. feeder P n (region P n) m 0 One) is)
+feeder_is {P} {n} (to_index (of_store is)) = inl (ap (λ m. feeder P n (region P n) m 0 One) is)
+feeder_is {P} {n} (to_fetch is) = inl (ap (λ m. feeder P n (region P n) m 1 Zero) is)
+feeder_is {P} {n} (to_store is) = inl (ap (λ m. feeder P n (region P n) m 0 Zero) is)
+feeder_is {P} {n} (to_stored is) = inl (ap (λ m. feeder P n (region P n) m 0 One) is)
 
 none_some : {A : Type 0} {x : A} → None ≡ Some x → ⊥
 none_some h = cc
@@ -564,6 +637,10 @@ call_unfed {e = e} {c = c} at h = not_fed (Call e c) at (λ r. refl) (λ t y z i
 
 pub loop_unfed : {P : Checked} {n part : ℕ} {p : Port} {s : Origin} {g w l : ℕ} → node P n ≡ Loop g w l → Feeds P s n part p → ⊥
 loop_unfed {g = g} {w = w} {l = l} at h = not_fed (Loop g w l) at (λ r. refl) (λ t y z i. cc) h
+
+-- nor to that of a fetch
+pub reply_unfed : {P : Checked} {n : ℕ} {p : Port} {s : Origin} {t i : ℕ} → node P n ≡ Fetch t i → Feeds P s n 2 p → ⊥
+reply_unfed {t = t} {i = i} at h = not_fed (Fetch t i) at (λ r. refl) (λ u y z e. cc) h
 
 head_none : (P : Checked) (n part : ℕ) (r : Region) → feeder P n r Head part Zero ≡ None
 head_none P n zero r = refl

@@ -6,8 +6,8 @@ use Rattle.id_value.specs.declared.Kind.TheVariants as kinds
 use Rattle.id_value.specs.declared.Constant.{Constant}
 use Rattle.id_value.specs.declared.UnaryOp.{UnaryOp}
 use Rattle.id_value.specs.declared.BinaryOp.{BinaryOp}
-use Rattle.id_parts.specs.declared.row.Node.TheVariants.{Param, Literal, Name, Unary, Binary, If, Enter, Arg, Call, Start, LoopHead, Turn, Next, Loop}
-use Rattle.id_parts.specs.declared.row.Node.TheVariants.{Block, Binding}
+use Rattle.id_parts.specs.declared.row.Node.TheVariants.{Param, Literal, Name, Unary, Binary, If, Enter, Arg, Call, Start, LoopHead, Turn, Next}
+use Rattle.id_parts.specs.declared.row.Node.TheVariants.{Block, Binding, Array, Fetch, Store}
 use Rattle.id_parts.specs.Rows.{at, top}
 use Rattle.id_parts.specs.Tables.{AreApart, HasOperand, is_binder, is_expression}
 use Rattle.id_parts.specs.Calls.{IsCallOf}
@@ -20,6 +20,7 @@ use Rattle.id_desugar.specs.Regions.{imports_of}
 use Rattle.id_parts.specs.Loops.{depth}
 use Rattle.id_build.specs.Rows.{block, called, entering, first_binder, node, param_of}
 use Rattle.id_laws.specs.Activations.{main_head, Tests}
+use Rattle.id_laws.specs.Topics.{Addresses}
 use Rattle.id_build.proofs.NamesSeen.{Sees}
 
 -- the rows are those of a checked program
@@ -59,6 +60,12 @@ pub record IsKnown (P : Checked) : Type 0 where
   pub binary_kinds : (n a b : ℕ) (o : BinaryOp) → n < length (rows P) → node P n ≡ Binary o a b → kind P n ≡ Some (binary_kind o)
   pub test_kind : (n t : ℕ) → n < length (rows P) → Tests P n t → kind P t ≡ Some kinds.Bool
   pub arm_kinds : (n s x y : ℕ) → n < length (rows P) → node P n ≡ If s x y → (kind P n ≡ kind P x) × (kind P n ≡ kind P y)
+  pub array_kind : (n a b : ℕ) → n < length (rows P) → node P n ≡ Array a b → kind P n ≡ Some kinds.Array
+  pub fetch_kind : (n t i : ℕ) → n < length (rows P) → node P n ≡ Fetch t i → kind P n ≡ Some kinds.Int
+  -- what names a cell is a structure with a number, and so are bounds and what is stored
+  pub bound_kinds : (n a b : ℕ) → n < length (rows P) → node P n ≡ Array a b → (kind P a ≡ Some kinds.Int) × (kind P b ≡ Some kinds.Int)
+  pub cell_kinds : (n t i : ℕ) → n < length (rows P) → Addresses P n t i → (kind P t ≡ Some kinds.Array) × (kind P i ≡ Some kinds.Int)
+  pub stored_kind : (n a v : ℕ) → n < length (rows P) → node P n ≡ Store a v → kind P v ≡ Some kinds.Int
   pub block_kind : (n b : ℕ) → n < length (rows P) → node P n ≡ Block b → kind P n ≡ kind P b
   pub binding_kind : (n x a : ℕ) → n < length (rows P) → node P n ≡ Binding x a → kind P n ≡ kind P a
   -- the body of a definition is of its kind

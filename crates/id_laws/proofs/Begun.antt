@@ -1,13 +1,11 @@
 -- Where the contexts of calls and loops begin, and where these end.
-use Rattle.std.proofs.Common.{◌≡◌, ◌⊎◌, inl, inr, ℕ, ◌+◌, ◌-◌, ◌<◌, true, length, refl, sym, ◌∙◌, ap, subst, arith}
-use Rattle.id_parts.specs.declared.row.Region.{Region}
+use Rattle.std.proofs.Common.{◌≡◌, ℕ, ◌+◌, ◌-◌, ◌<◌, true, length, refl, sym, ◌∙◌, ap, subst, arith}
 use Rattle.id_parts.specs.declared.row.Node.{Node}
-use Rattle.id_parts.specs.declared.row.Node.TheVariants.{Head, Call, Loop, Start, LoopHead}
+use Rattle.id_parts.specs.declared.row.Node.TheVariants.{Call, Loop, Start}
 use Rattle.id_parts.specs.Tables.{begins_block, is_expression, is_thing}
 use Rattle.id_check.specs.declared.checked.Checked.{Checked}
 use Rattle.id_check.specs.Programs.{place, region, rows}
-use Rattle.id_desugar.specs.Ends.{end_of}
-use Rattle.id_build.specs.Rows.{block, called, node}
+use Rattle.id_build.specs.Rows.{node}
 use Rattle.id_laws.specs.Activations.{Begins, of_call, of_loop}
 use Rattle.id_laws.proofs.Assumed.{IsKnown}
 use Rattle.id_laws.proofs.Loops.{loop_of_start, start_place, start_region}

@@ -7,7 +7,7 @@ use Rattle.id_parts.specs.Turns.{IsDefOf}
 use Rattle.id_check.specs.declared.checked.Checked.{Checked}
 use Rattle.id_check.specs.Programs.{Stands, binder, place, region, rows}
 use Rattle.id_desugar.specs.Ends.{end_of}
-use Rattle.id_build.specs.Rows.{called, node, param_of}
+use Rattle.id_build.specs.Rows.{called, node}
 use Rattle.id_laws.proofs.Assumed.{IsKnown}
 use Rattle.id_value.specs.declared.Kind.{Kind}
 use Rattle.id_meaning.specs.Sources.{head_of}

@@ -1,5 +1,5 @@
 -- Values of the source that tokens stand for, and their kinds; rows that are their own labels.
-use Rattle.std.proofs.Common.{◌≡◌, ℕ, ◌∙◌, true, false, cond, List, refl, sym, ap}
+use Rattle.std.proofs.Common.{◌≡◌, ℕ, true, false, cond, List, refl, sym, ap}
 use Rattle.id_value.specs.declared.Constant.{Constant}
 use Rattle.id_value.specs.declared.Outcome.{Outcome}
 use Rattle.id_value.specs.declared.Outcome.TheVariants.{Gives}
@@ -12,40 +12,42 @@ use Rattle.id_graph.specs.declared.instr.PortKind.TheVariants as kinds
 use Rattle.id_tag.specs.Kinds.{kind_of, same_kind}
 use Rattle.id_tag.specs.declared.Value.{Value}
 use Rattle.id_tag.specs.declared.Value.TheVariants as value
-use Rattle.id_graph.specs.declared.instr.Op.TheVariants as op
 use Rattle.id_tag.specs.declared.Tag.{Tag}
-use Rattle.id_ops.specs.declared.Fresh.{Fresh}
-use Rattle.id_ops.specs.declared.Operands.TheVariants.{One as Alone}
 use Rattle.id_ops.specs.declared.Fired.TheVariants.{Out, Nothing, Sent}
-use Rattle.id_ops.specs.Operators.{fired, fired_by}
-use Rattle.id_core.specs.Machines.{token_value}
+use Rattle.id_ops.specs.Operators.{constant_value, fired_by}
+use Rattle.id_value.specs.declared.Constant.TheVariants as constants
 use Rattle.id_meaning.specs.declared.SourceValue.{SourceValue}
-use Rattle.id_meaning.specs.declared.SourceValue.TheVariants as source
 use Rattle.id_meaning.specs.Sources.{Source, value_kind, value_of}
 use Rattle.id_build.specs.Rows.{block, label, label_by, node, port_of}
 use Rattle.id_runs.specs.Events.{Event}
-use Rattle.id_laws.specs.Topics.{StandsFor, number_stands, truth_stands}
-use Rattle.id_laws.proofs.Agreement.{constant_is}
+use Rattle.id_laws.specs.Topics.{StandsFor, number_stands, truth_stands, name_stands}
 
--- a value of the source stands for itself, and alone
-pub stands_itself : {S : Source} {number : ℕ → ℕ → ℕ} {run : List Event} (v : SourceValue) → StandsFor S number run (token_value v) v
-stands_itself (source.Int n) = number_stands n
-stands_itself (source.Bool b) = truth_stands b
+stands_is : {S : Source} {number : ℕ → ℕ → ℕ} {run : List Event} {w : Value} {v : SourceValue} (c : Constant) → StandsFor S number run w v → v ≡ value_of c
+    → w ≡ constant_value c
+stands_is (constants.Int m) (number_stands n) e = let same : n ≡ m = cc in ap (λ z. value.Int z) same
+stands_is (constants.Int m) (truth_stands b) e = cc
+stands_is (constants.Int m) (name_stands s x named) e = cc
+stands_is (constants.Bool d) (number_stands n) e = cc
+stands_is (constants.Bool d) (truth_stands b) e = let same : b ≡ d = cc in ap (λ z. value.Bool z) same
+stands_is (constants.Bool d) (name_stands s x named) e = cc
 
-pub stands_is : {S : Source} {number : ℕ → ℕ → ℕ} {run : List Event} {w : Value} {v : SourceValue} → StandsFor S number run w v → w ≡ token_value v
-stands_is (number_stands n) = refl
-stands_is (truth_stands b) = refl
-
--- a value goes through a label for values of its kind
-pub merged : (v : SourceValue) (k : PortKind) → k ≡ port_of (value_kind v)
-    → cond (same_kind (kind_of (token_value v)) k) (Out (token_value v)) Nothing ≡ Out (token_value v)
-merged (source.Int n) k e = ap (λ z. cond (same_kind kinds.Int z) (Out (value.Int n)) Nothing) e
-merged (source.Bool b) k e = ap (λ z. cond (same_kind kinds.Bool z) (Out (value.Bool b)) Nothing) e
+-- what stands for a constant is its token's value
+pub stands_constant : {S : Source} {number : ℕ → ℕ → ℕ} {run : List Event} {w : Value} (c : Constant) → StandsFor S number run w (value_of c)
+    → w ≡ constant_value c
+stands_constant c h = stands_is c h refl
 
 -- a value is of the kind of the port that takes it
-pub value_fits : (v : SourceValue) (k : PortKind) → k ≡ port_of (value_kind v) → same_kind (kind_of (token_value v)) k ≡ true
-value_fits (source.Int n) k e = ap (λ z. same_kind kinds.Int z) e
-value_fits (source.Bool b) k e = ap (λ z. same_kind kinds.Bool z) e
+pub value_fits : {S : Source} {number : ℕ → ℕ → ℕ} {run : List Event} {w : Value} {v : SourceValue} → StandsFor S number run w v → (k : PortKind)
+    → k ≡ port_of (value_kind v) → same_kind (kind_of w) k ≡ true
+value_fits (number_stands n) k e = ap (λ z. same_kind kinds.Int z) e
+value_fits (truth_stands b) k e = ap (λ z. same_kind kinds.Bool z) e
+value_fits (name_stands s x named) k e = ap (λ z. same_kind kinds.Structure z) e
+
+-- a value goes through a label for values of its kind
+pub merged : {S : Source} {number : ℕ → ℕ → ℕ} {run : List Event} {w : Value} {v : SourceValue} → StandsFor S number run w v → (k : PortKind)
+    → k ≡ port_of (value_kind v)
+    → cond (same_kind (kind_of w) k) (Out w) Nothing ≡ Out w
+merged {w = w} h k e = ap (λ z. cond z (Out w) Nothing) (value_fits h k e)
 
 no_truth : true ≡ false → ⊥
 no_truth h = cc
@@ -59,15 +61,12 @@ pub expression_plain : (m : Node) → is_expression m ≡ true → is_next m ≡
 expression_plain (Next x k o v) h = absurd (no_truth (sym h))
 expression_plain _ h = refl
 
--- a literal lets its value out
-pub constant_out : (c : Constant) (t : Tag) (f : Fresh) → fired (op.Const c) t (Alone value.Signal) f ≡ Out (token_value (value_of c))
-constant_out c t f = ap Out (constant_is c)
-
--- so does an operator that gives one
-pub gives_out : {o : Outcome} {c : Constant} → o ≡ Gives c → fired_by o ≡ Out (token_value (value_of c))
-gives_out {c = c} e = ap fired_by e ∙ ap Out (constant_is c)
+-- an operator that gives a constant lets it out
+pub gives_out : {o : Outcome} {c : Constant} → o ≡ Gives c → fired_by o ≡ Out (constant_value c)
+gives_out e = ap fired_by e
 
 -- a value of its kind goes into the context
-pub sent_in : (v : SourceValue) (k : PortKind) (u : Tag) → k ≡ port_of (value_kind v)
-    → cond (same_kind (kind_of (token_value v)) k) (Sent u (token_value v)) Nothing ≡ Sent u (token_value v)
-sent_in v k u e = ap (λ z. cond z (Sent u (token_value v)) Nothing) (value_fits v k e)
+pub sent_in : {S : Source} {number : ℕ → ℕ → ℕ} {run : List Event} {w : Value} {v : SourceValue} → StandsFor S number run w v → (k : PortKind) (u : Tag)
+    → k ≡ port_of (value_kind v)
+    → cond (same_kind (kind_of w) k) (Sent u w) Nothing ≡ Sent u w
+sent_in {w = w} h k u e = ap (λ z. cond z (Sent u w) Nothing) (value_fits h k e)

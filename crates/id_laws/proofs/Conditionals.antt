@@ -1,7 +1,7 @@
 -- What stands where in a conditional, and what a live arm says: that the predicate has spoken its truth value.
 use Rattle.std.proofs.Common.{◌≡◌, inl, inr, ℕ, ◌<◌, Bool as Truth, true, false, List, length, refl, sym, ◌∙◌, ap, subst, arith}
 use Rattle.id_parts.specs.declared.row.Region.{Region}
-use Rattle.id_parts.specs.declared.row.Node.TheVariants.{Head, Split, If, Switches, LoopHead, Start}
+use Rattle.id_parts.specs.declared.row.Node.TheVariants.{Head, Split, If, Switches}
 use Rattle.id_parts.specs.Rows.{arm_at}
 use Rattle.id_parts.specs.Tables.{HasPart, HasNear, HasOperand, begins_block, is_expression, is_top}
 use Rattle.id_parts.specs.Regions.{IsIfOf}
@@ -10,7 +10,7 @@ use Rattle.id_check.specs.Programs.{Stands, place, region, rows}
 use Rattle.id_tag.specs.declared.Value.TheVariants as value
 use Rattle.id_meaning.specs.Sources.{Source}
 use Rattle.id_meaning.specs.Facts.{Chooses, then_arm, else_arm}
-use Rattle.id_build.specs.Rows.{called, node, origin}
+use Rattle.id_build.specs.Rows.{node, origin}
 use Rattle.id_runs.specs.Activations.{Activation}
 use Rattle.id_runs.specs.Events.{Event, FiresOnce}
 use Rattle.id_runs.proofs.Givings.{gives_once}

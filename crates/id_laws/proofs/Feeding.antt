@@ -3,8 +3,9 @@ use Rattle.std.proofs.Common.{◌≡◌, inl, inr, ℕ, suc, ◌+◌, ◌-◌, �
 use Rattle.id_parts.specs.declared.row.Region.{Region}
 use Rattle.id_parts.specs.declared.row.Node.{Node}
 use Rattle.id_parts.specs.declared.row.Node.TheVariants.{Head, Literal, Unary, Binary, Split, If, Enter, Arg, Binding, Program}
-use Rattle.id_parts.specs.declared.row.Node.TheVariants.{Start, LoopHead, Variable, Entries, Switches, Turn, Next, Reset}
-use Rattle.id_parts.specs.Rows.{arm_at, top}
+use Rattle.id_parts.specs.declared.row.Node.TheVariants.{Start, LoopHead, Entries, Switches, Turn, Next, Reset}
+use Rattle.id_parts.specs.declared.row.Node.TheVariants.{Array, Fetch, Address, Store}
+use Rattle.id_parts.specs.Rows.{top}
 use Rattle.id_parts.specs.Tables.{HasPart, HasOperand, begins_block, is_expression, is_top}
 use Rattle.id_check.specs.declared.checked.Checked.{Checked}
 use Rattle.id_check.specs.Programs.{place, region, rows}
@@ -23,7 +24,7 @@ use Rattle.id_desugar.specs.Ends.{next_of}
 use Rattle.id_build.specs.Schemas.{Feeds}
 use Rattle.id_runs.specs.Activations.{Activation, at_iteration}
 use Rattle.id_runs.specs.Events.{Event}
-use Rattle.id_laws.specs.Activations.{Begins, of_call, of_loop, Tests, of_arms, of_turns, Speaks, Moves, Live}
+use Rattle.id_laws.specs.Activations.{of_call, of_loop, Tests, of_arms, of_turns, Speaks, Moves, Live}
 use Rattle.id_laws.specs.Topics.{Turned, ValueOf, NameIn, ResultOf, TestOf, split_of, Tells, ShownResult, speaks_of, topic_of, wants, topic_at, result_at, result_of}
 use Rattle.id_laws.proofs.Assumed.{IsKnown}
 use Rattle.id_laws.proofs.Loops.{loop_of_head, loop_of_row, next_block, reset_in, reset_node, turn_in, turn_node}
@@ -32,7 +33,10 @@ use Rattle.id_build.proofs.NamesSeen.{listed}
 use Rattle.id_laws.proofs.Arcs.{Arc, to_back, to_literal, to_unary, to_left, to_right, to_test, to_trigger, to_import_test, to_import, to_then, to_else}
 use Rattle.id_laws.proofs.Arcs.{to_enter, to_context, to_argument, to_label, to_loop_context, to_entering, to_head, to_loop_back, fed}
 use Rattle.id_laws.proofs.Arcs.{to_variable, to_entry, to_turn, to_turn_name, to_next, to_reset}
+use Rattle.id_laws.proofs.Arcs.{to_low, to_high, to_target, to_index, to_fetch, to_store, to_stored}
+use Rattle.id_laws.specs.Topics.{of_fetch, of_store}
 use Rattle.id_laws.proofs.Calls.{arg_at}
+use Rattle.id_laws.proofs.Stores.{address_at}
 use Rattle.id_laws.proofs.Conditionals.{arm_of, chosen, conditional, test_at, arm_live}
 use Rattle.id_build.proofs.EndsLemmas.{end_is}
 use Rattle.id_laws.proofs.Regions.{HeadOf, of_block, of_tests, region_of}
@@ -200,6 +204,25 @@ module _ (S : Source) (known : IsKnown S.checked) (number : ℕ → ℕ → ℕ)
   by_arc {n} v within (to_next {x = x} {k = k} {o = o} {v = e} is) says tells =
       at_node n 0 Zero v (Next x k o e) is (operand_tells n e (Next x k o e) v within is (inr refl) refl tells)
   by_arc {n} v within (to_reset {v = e} is) says tells = at_node n 0 Zero v (Reset e) is (operand_tells n e (Reset e) v within is refl refl tells)
+  by_arc {n} v within (to_low {a = e} {b = f} is) says tells =
+      at_node n 0 Zero v (Array e f) is (operand_tells n e (Array e f) v within is (inl refl) (inl refl) tells)
+  by_arc {n} v within (to_high {a = e} {b = f} is) says tells =
+      at_node n 0 One v (Array e f) is (operand_tells n f (Array e f) v within is (inr refl) (inr refl) tells)
+  by_arc {n} v within (to_target {t = t} {i = i} (of_fetch is)) says tells =
+      at_node n 0 Zero v (Fetch t i) is (operand_tells n t (Fetch t i) v within is (inl refl) (inl refl) tells)
+  by_arc {n} v within (to_target {t = t} {i = i} (of_store is)) says tells =
+      at_node n 0 Zero v (Address t i) is (operand_tells n t (Address t i) v within is (inl refl) (inl refl) tells)
+  by_arc {n} v within (to_index {t = t} {i = i} (of_fetch is)) says tells =
+      at_node n 0 One v (Fetch t i) is (operand_tells n i (Fetch t i) v within is (inr refl) (inr refl) tells)
+  by_arc {n} v within (to_index {t = t} {i = i} (of_store is)) says tells =
+      at_node n 0 One v (Address t i) is (operand_tells n i (Address t i) v within is (inr refl) (inr refl) tells)
+  by_arc {n} v within (to_fetch {t = t} {i = i} is) says tells =
+      at_node n 1 Zero v (Fetch t i) is (subst (λ m. T (speaks_of P n (region P n) m 0 true) v) is tells)
+  by_arc {n} v within (to_store {a = e} {v = x} is) says tells =
+      let z = address_at known within is in
+      at_node n 0 Zero v (Store e x) is (subst (λ m. T (speaks_of P e (region P e) m 0 true) v) z.node tells)
+  by_arc {n} v within (to_stored {a = e} {v = x} is) says tells =
+      at_node n 0 One v (Store e x) is (operand_tells n x (Store e x) v within is (inr refl) refl tells)
 
   -- what tells what an origin speaks of, tells what it feeds wants
   pub feeds_tell : (s : Origin) (n part : ℕ) (p : Port) (v : Value) → Feeds P s n part p → Speaks S number run a s v → T (topic_of P s) v

@@ -18,8 +18,8 @@ use Rattle.id_value.specs.Results.{result_of_unary, result_of_binary}
 use Rattle.id_value.proofs.ResultsLemmas.{IsNumberOrFault, whole-number, calculated-number}
 use Rattle.id_list.proofs.AmongLemmas.{Among-from_at}
 use Rattle.id_parts.specs.declared.row.Node.{Node}
-use Rattle.id_parts.specs.declared.row.Node.TheVariants.{Head, Param, Split, If, Binding, Program, Enter, Arg, Def}
-use Rattle.id_parts.specs.declared.row.Node.TheVariants.{Start, LoopHead, Variable, Entries, Switches, Turn, NextUse, Next, Body, Reset, Loop}
+use Rattle.id_parts.specs.declared.row.Node.TheVariants.{Head, Param, Split, If, Binding, Program, Enter, Arg, Def, Fetch, Address}
+use Rattle.id_parts.specs.declared.row.Node.TheVariants.{Start, LoopHead, Variable, Entries, Switches, Turn, NextUse, Next, Body, Reset}
 use Rattle.id_parts.specs.Rows.{at}
 use Rattle.id_parts.specs.Tables.{HasOperand, is_thing, is_binder, is_expression}
 use Rattle.id_parts.proofs.RegionLemmas.{HasPart-operand}
@@ -29,10 +29,14 @@ use Rattle.id_check.specs.Programs.{Stands, kind, place, rows}
 use Rattle.id_meaning.specs.declared.Path.{Path}
 use Rattle.id_meaning.specs.declared.SourceValue.{SourceValue}
 use Rattle.id_meaning.specs.declared.Fact.{Fact}
-use Rattle.id_meaning.specs.declared.Fact.TheVariants.{On, Has}
-use Rattle.id_meaning.specs.Sources.{Source, AreFor, AreInputs, IsInput, SuitsParam, main_params, value_kind, value_of}
+use Rattle.id_meaning.specs.declared.Fact.TheVariants.{Has}
+use Rattle.id_meaning.specs.declared.Fact.TheVariants as facts
+use Rattle.id_meaning.specs.declared.Ask.{Ask}
+use Rattle.id_meaning.specs.declared.Put.{Put}
+use Rattle.id_meaning.specs.declared.SourceValue.TheVariants as source
+use Rattle.id_meaning.specs.Sources.{Source, AreFor, AreInputs, IsInput, SuitsParam, main_params, value_kind, value_of, constant_kind as input_kind_of}
 use Rattle.id_meaning.specs.Facts.{Rule, Chooses, then_arm, else_arm, param_has, literal_has, unary_has, binary_has, name_has, conditional_has, block_has}
-use Rattle.id_meaning.specs.Facts.{binding_has, argument_has, call_has, first_has, next_has, loop_has}
+use Rattle.id_meaning.specs.Facts.{binding_has, argument_has, call_has, first_has, next_has, loop_has, array_has, fetch_has, asks, puts, site}
 use Rattle.id_meaning.specs.Rounds.{Every, Rounds, Holds}
 use Rattle.id_build.specs.Rows.{node, port_at, port_of, param_of}
 use Rattle.id_laws.specs.Activations.{main_head}
@@ -84,7 +88,7 @@ binary_gives (class.Logic Or) (Bool m) (Bool n) c e = gives_truth _ c e
 binary_gives _ _ _ c e = lacks_gives c e
 
 -- an input is of its parameter's kind
-input_suits : (P : Checked) (bs : List ℕ) (vs : List SourceValue) (n b : ℕ) (v : SourceValue) → AreFor P bs vs → slice_get bs n ≡ Some b
+input_suits : (P : Checked) (bs : List ℕ) (vs : List Constant) (n b : ℕ) (v : Constant) → AreFor P bs vs → slice_get bs n ≡ Some b
     → slice_get vs n ≡ Some v → SuitsParam (at (rows P) b).node v
 input_suits P [] vs n b v h e f = absurd (none e)
   where
@@ -94,16 +98,20 @@ input_suits P (x ∷ bs) [] n b v h e f = absurd h
 input_suits P (x ∷ bs) (w ∷ vs) zero b v h e f =
     let row_is : x ≡ b = some_is e in
     let value_is : w ≡ v = some_is f in
-    subst (λ (z : ℕ × SourceValue). SuitsParam (at (rows P) z.0).node z.1) {x = (x, w)} {y = (b, v)} (λ i. (row_is i, value_is i)) h.0
+    subst (λ (z : ℕ × Constant). SuitsParam (at (rows P) z.0).node z.1) {x = (x, w)} {y = (b, v)} (λ i. (row_is i, value_is i)) h.0
   where
     some_is : {A : Type 0} {x y : A} → Some x ≡ Some y → x ≡ y
     some_is e = cc
 input_suits P (x ∷ bs) (w ∷ vs) (suc n) b v h e f = input_suits P bs vs n b v h.1 e f
 
+input_kind_is : (c : Constant) → input_kind_of c ≡ kind_of c
+input_kind_is (Int n) = refl
+input_kind_is (Bool b) = refl
+
 -- a parameter that suits the value has its kind
-param_suits : (P : Checked) → IsKnown P → (b : ℕ) (v : SourceValue) → b < length (rows P) → (m : Node) → node P b ≡ m → SuitsParam m v
-    → kind P b ≡ Some (value_kind v)
-param_suits P known b v within (Param x k) is h = known.param_kind b x k within is ∙ ap (λ z. Some z) (sym h)
+param_suits : (P : Checked) → IsKnown P → (b : ℕ) (v : Constant) → b < length (rows P) → (m : Node) → node P b ≡ m → SuitsParam m v
+    → kind P b ≡ Some (value_kind (value_of v))
+param_suits P known b v within (Param x k) is h = known.param_kind b x k within is ∙ ap (λ z. Some z) (sym h ∙ input_kind_is v)
 param_suits P known b v within _ is h = absurd h
 
 some_is : {A : Type 0} {x y : A} → Some x ≡ Some y → x ≡ y
@@ -112,8 +120,39 @@ some_is e = cc
 same_fact : {p q : Path} {e d : ℕ} {v w : SourceValue} → Has p e v ≡ Has q d w → (e ≡ d) × (v ≡ w)
 same_fact h = (cc, cc)
 
-no_on : {p q : Path} {e d : ℕ} {w : SourceValue} → On p e ≡ Has q d w → ⊥
-no_on h = cc
+-- what a fact is
+abbrev is_has : Fact → Truth
+is_has (Has p e v) = true
+is_has _ = false
+
+abbrev is_put : Fact → Truth
+is_put (facts.Put x) = true
+is_put _ = false
+
+abbrev is_ask : Fact → Truth
+is_ask (facts.Ask x) = true
+is_ask _ = false
+
+true_false : true ≡ false → ⊥
+true_false h = cc
+
+no_has : {f : Fact} {p : Path} {e : ℕ} {v : SourceValue} → is_has f ≡ false → f ≡ Has p e v → ⊥
+no_has h is = true_false (sym (ap is_has is) ∙ h)
+
+no_put : {f : Fact} {x : Put} → is_put f ≡ false → f ≡ facts.Put x → ⊥
+no_put h is = true_false (sym (ap is_put is) ∙ h)
+
+no_ask : {f : Fact} {x : Ask} → is_ask f ≡ false → f ≡ facts.Ask x → ⊥
+no_ask h is = true_false (sym (ap is_ask is) ∙ h)
+
+-- the value that a Put has, and the place that an Ask has
+abbrev put_value : Fact → SourceValue
+put_value (facts.Put x) = x.value
+put_value _ = source.Bool true
+
+abbrev ask_place : Fact → ℕ
+ask_place (facts.Ask x) = (x.fetch).place
+ask_place _ = 0
 
 pub binder_thing : (m : Node) → is_binder m ≡ true → is_thing m ≡ true
 binder_thing (Param x k) h = refl
@@ -138,6 +177,7 @@ expression_thing (Switches t) h = h
 expression_thing Turn h = h
 expression_thing (NextUse x) h = h
 expression_thing Body h = h
+expression_thing (Address t i) h = h
 expression_thing (Reset v) h = h
 expression_thing _ h = refl
 
@@ -167,7 +207,7 @@ module _ (S : Source) (known : IsKnown S.checked) (inputs : AreInputs S.checked 
       let less = (((known.table).formed).each n within).parts a (HasPart-operand (node P n) a operand) in
       (omega (arith, less.1, within), expression_thing (node P a) (known.operands n a within operand))
 
-  input_kind : (b : ℕ) (v : SourceValue) → IsInput S b v → OfKind b v
+  input_kind : (b : ℕ) (v : Constant) → IsInput S b v → OfKind b (value_of v)
   input_kind b v x =
       let z = a_param (rows P) (main_head P) (length (rows P)) b (Among-from_at b (main_params P) x.number x.param) in
       param_suits P known b v z.within (node P b) refl (input_suits P (main_params P) S.inputs x.number b v inputs x.param x.value)
@@ -190,33 +230,49 @@ module _ (S : Source) (known : IsKnown S.checked) (inputs : AreInputs S.checked 
       let inner = operand_of n y h.within (subst (λ z. HasOperand z y) (sym h.node) (inr refl)) in
       record { split = s; then = x; otherwise = y; stands = h; within = inner.0; thing = inner.1; kind_is = (known.arm_kinds n s x y h.within h.node).1 }
 
-  kind_by : {fs : List Fact} {f : Fact} (m : ℕ) → Kinded m → Rule S fs f → Every (Rounds S m) fs → (n : ℕ) (p : Path) (v : SourceValue)
+  -- a fetch stands where an Ask is
+  record AskAt (x : Ask) : Type 0 where
+    row : ℕ
+    target : ℕ
+    index : ℕ
+    stands : Stands P row (Fetch target index)
+    place : place P row ≡ (x.fetch).place
+
+  -- what is known of the facts of a round
+  record Early (m : ℕ) : Type 0 where
+    kinds_of : Kinded m
+    puts_of : (x : Put) → Rounds S m (facts.Put x) → value_kind x.value ≡ kinds.Int
+    asks_of : (x : Ask) → Rounds S m (facts.Ask x) → AskAt x
+
+  kind_by : {fs : List Fact} {f : Fact} (m : ℕ) → Early m → Rule S fs f → Every (Rounds S m) fs → (n : ℕ) (p : Path) (v : SourceValue)
       → n < length (rows P) → is_thing (node P n) ≡ true → f ≡ Has p (place P n) v → OfKind n v
-  kind_by m early (param_has {b = b} {v = w} x) h n p v within thing is =
+  kind_by m all (param_has {b = b} {c = w} x) h n p v within thing is =
       let z = a_param (rows P) (main_head P) (length (rows P)) b (Among-from_at b (main_params P) x.number x.param) in
       let parts = same_fact is in
-      subst (OfKind n) parts.1 (one_row n b _ w (record { within = z.within; node = refl }) (param_thing z.param) within thing parts.0 (input_kind b w x))
-  kind_by m early (literal_has {n = r} {c = c} x) h n p v within thing is =
+      subst (OfKind n) parts.1 (one_row n b _ (value_of w) (record { within = z.within; node = refl }) (param_thing z.param) within thing parts.0
+      (input_kind b w x))
+  kind_by m all (literal_has {n = r} {c = c} x) h n p v within thing is =
       let parts = same_fact is in
       subst (OfKind n) parts.1 (one_row n r _ (value_of c) x refl within thing parts.0 (known.literal_kind r c x.within x.node ∙ ap (λ z. Some z) (constant_kind_is c)))
-  kind_by m early (unary_has {n = r} {a = a} {o = o} {x = y} c x result) h n p v within thing is =
+  kind_by m all (unary_has {n = r} {a = a} {o = o} {x = y} c x result) h n p v within thing is =
       let parts = same_fact is in
       subst (OfKind n) parts.1 (one_row n r _ (value_of y) x refl within thing parts.0 (known.unary_kinds r a o x.within x.node ∙ ap (λ z. Some z) (sym (unary_gives o c y result))))
-  kind_by m early (binary_has {n = r} {a = a} {b = b} {o = o} {x = y} c d x result) h n p v within thing is =
+  kind_by m all (binary_has {n = r} {a = a} {b = b} {o = o} {x = y} c d x result) h n p v within thing is =
       let parts = same_fact is in
       subst (OfKind n) parts.1 (one_row n r _ (value_of y) x refl within thing parts.0 (known.binary_kinds r a b o x.within x.node ∙ ap (λ z. Some z) (sym (binary_gives o c d y result))))
-  kind_by m early (name_has {n = r} {x = y} {b = b} {v = w} x binds) h n p v within thing is =
+  kind_by m all (name_has {n = r} {x = y} {b = b} {v = w} x binds) h n p v within thing is =
       let parts = same_fact is in
       let known_binder = known.bound r y x.within x.node in
       let same : known_binder.0 ≡ b = some_is (sym known_binder.1 ∙ binds) in
       let b_within = subst (λ z. z < length (rows P)) same known_binder.2 in
       let b_thing = binder_thing (node P b) (subst (λ z. is_binder (node P z) ≡ true) same known_binder.3) in
-      subst (OfKind n) parts.1 (one_row n r _ w x refl within thing parts.0 (known.name_kind r y b x.within x.node binds ∙ early b _ w b_within b_thing h.1.0))
-  kind_by m early (conditional_has {n = r} {a = a} {v = w} chooses) h n p v within thing is =
+      subst (OfKind n) parts.1 (one_row n r _ w x refl within thing parts.0 (known.name_kind r y b x.within x.node binds
+      ∙ all.kinds_of b _ w b_within b_thing h.1.0))
+  kind_by m all (conditional_has {n = r} {a = a} {v = w} chooses) h n p v within thing is =
       let parts = same_fact is in
       let c = arm_chosen chooses in
-      subst (OfKind n) parts.1 (one_row n r _ w c.stands refl within thing parts.0 (c.kind_is ∙ early a _ w c.within c.thing h.1.1.0))
-  kind_by m early (argument_has {n = r} {e = e} {b = body} {m = l} {i = i} {v = a} {q = q} {u = w} x y bound def param) h n p v within thing is =
+      subst (OfKind n) parts.1 (one_row n r _ w c.stands refl within thing parts.0 (c.kind_is ∙ all.kinds_of a _ w c.within c.thing h.1.1.0))
+  kind_by m all (argument_has {n = r} {e = e} {b = body} {m = l} {i = i} {v = a} {q = q} {u = w} x y bound def param) h n p v within thing is =
       let parts = same_fact is in
       let c = enter_at known x.within x.node in
       let inner = operand_of l a y.within (subst (λ z. HasOperand z a) (sym y.node) refl) in
@@ -225,8 +281,8 @@ module _ (S : Source) (known : IsKnown S.checked) (inputs : AreInputs S.checked 
       let to : param_of P e i ≡ q = some_is (sym goes.0 ∙ ap (λ z. slice_get (params_at (rows P) z) i) head ∙ param) in
       let there = a_param (rows P) _ (length (rows P)) q (Among-from_at q (params_at (rows P) _) i param) in
       subst (OfKind n) parts.1 (one_row n q _ w (record { within = there.within; node = refl }) (param_thing there.param) within thing parts.0
-      (ap (kind P) (sym to) ∙ sym goes.1 ∙ early a _ w inner.0 inner.1 h.1.0))
-  kind_by m early (call_has {n = r} {e = e} {c = count} {d = f} {x = y} {h = g} {b = body} {k = k} {u = w} x bound def) h n p v within thing is =
+      (ap (kind P) (sym to) ∙ sym goes.1 ∙ all.kinds_of a _ w inner.0 inner.1 h.1.0))
+  kind_by m all (call_has {n = r} {e = e} {c = count} {d = f} {x = y} {h = g} {b = body} {k = k} {u = w} x bound def) h n p v within thing is =
       let parts = same_fact is in
       let c = enter_at known x.within x.node in
       let head = called_is known c.within c.node bound def in
@@ -235,42 +291,79 @@ module _ (S : Source) (known : IsKnown S.checked) (inputs : AreInputs S.checked 
       let result = known.result_kind f g here in
       subst (OfKind n) parts.1 (one_row n r _ w x refl within thing parts.0
       (known.call_kind r e count c.name f (record { name = y; result = k; body = body; within = def.within; node = def.node ∙ ap (λ z. Def y z k body) (sym head) }) x.within x.node
-      ∙ sym result ∙ early body _ w inner.0 inner.1 h.1.0))
-  kind_by m early (first_has {m = i} {o = o} {v = a} {c = c} {u = w} x y bound) h n p v within thing is =
+      ∙ sym result ∙ all.kinds_of body _ w inner.0 inner.1 h.1.0))
+  kind_by m all (first_has {m = i} {o = o} {v = a} {c = c} {u = w} x y bound) h n p v within thing is =
       let parts = same_fact is in
       let z = next_row P i y.name y.index o a y.next in
       let same : z.0 ≡ c = some_is (sym (z.3).binder ∙ bound) in
       let c_within = subst (λ k. k < length (rows P)) same (z.3).within in
       let c_thing = subst (λ k. is_thing (node P k) ≡ true) same (binder_thing (node P z.0) (z.3).is_binder) in
-      subst (OfKind n) parts.1 (one_row n i _ w y.next refl within thing parts.0 (z.4 ∙ ap (kind P) same ∙ early c _ w c_within c_thing h.1.0))
-  kind_by m early (next_has {m = i} {o = o} {v = a} {u = w} q k x y) h n p v within thing is =
+      subst (OfKind n) parts.1 (one_row n i _ w y.next refl within thing parts.0 (z.4 ∙ ap (kind P) same ∙ all.kinds_of c _ w c_within c_thing h.1.0))
+  kind_by m all (next_has {m = i} {o = o} {v = a} {u = w} q k x y) h n p v within thing is =
       let parts = same_fact is in
       let inner = operand_of i a (y.next).within (subst (λ z. HasOperand z a) (sym (y.next).node) refl) in
       let z = next_row P i y.name y.index o a y.next in
-      subst (OfKind n) parts.1 (one_row n i _ w y.next refl within thing parts.0 (sym z.5 ∙ early a _ w inner.0 inner.1 h.0))
-  kind_by m early (loop_has {n = r} {h = g} {w = u} {l = a} {u = w} q k x) h n p v within thing is =
+      subst (OfKind n) parts.1 (one_row n i _ w y.next refl within thing parts.0 (sym z.5 ∙ all.kinds_of a _ w inner.0 inner.1 h.0))
+  kind_by m all (loop_has {n = r} {h = g} {w = u} {l = a} {u = w} q k x) h n p v within thing is =
       let parts = same_fact is in
       let inner = operand_of r a (x.loop).within (subst (λ z. HasOperand z a) (sym (x.loop).node) refl) in
-      subst (OfKind n) parts.1 (one_row n r _ w x.loop refl within thing parts.0 (loop_row P r g u a x.loop ∙ early a _ w inner.0 inner.1 h.0))
-  kind_by m early (block_has {n = r} {b = b} {v = w} x) h n p v within thing is =
+      subst (OfKind n) parts.1 (one_row n r _ w x.loop refl within thing parts.0 (loop_row P r g u a x.loop ∙ all.kinds_of a _ w inner.0 inner.1 h.0))
+  kind_by m all (block_has {n = r} {b = b} {v = w} x) h n p v within thing is =
       let parts = same_fact is in
       let inner = operand_of r b x.within (subst (λ z. HasOperand z b) (sym x.node) refl) in
-      subst (OfKind n) parts.1 (one_row n r _ w x refl within thing parts.0 (known.block_kind r b x.within x.node ∙ early b _ w inner.0 inner.1 h.1.0))
-  kind_by m early (binding_has {n = r} {x = y} {a = a} {v = w} x) h n p v within thing is =
+      subst (OfKind n) parts.1 (one_row n r _ w x refl within thing parts.0 (known.block_kind r b x.within x.node ∙ all.kinds_of b _ w inner.0 inner.1 h.1.0))
+  kind_by m all (binding_has {n = r} {x = y} {a = a} {v = w} x) h n p v within thing is =
       let parts = same_fact is in
       let inner = operand_of r a x.within (subst (λ z. HasOperand z a) (sym x.node) refl) in
-      subst (OfKind n) parts.1 (one_row n r _ w x refl within thing parts.0 (known.binding_kind r y a x.within x.node ∙ early a _ w inner.0 inner.1 h.0))
-  kind_by m early _ h n p v within thing is = absurd (no_on is)
+      subst (OfKind n) parts.1 (one_row n r _ w x refl within thing parts.0 (known.binding_kind r y a x.within x.node ∙ all.kinds_of a _ w inner.0 inner.1 h.0))
+  kind_by m all (array_has {n = r} {a = a} {b = b} {p = q} x good) h n p v within thing is =
+      let parts = same_fact is in
+      subst (OfKind n) parts.1 (one_row n r _ (source.Name (site q (place P r))) x refl within thing parts.0 (known.array_kind r a b x.within x.node))
+  kind_by m all (fetch_has {v = w}) h n p v within thing is =
+      let parts = same_fact is in
+      let z = all.asks_of _ h.0 in
+      subst (OfKind n) parts.1 (one_row n z.row _ w z.stands refl within thing (z.place ∙ parts.0)
+      (known.fetch_kind z.row z.target z.index (z.stands).within (z.stands).node ∙ ap (λ k. Some k) (sym (all.puts_of _ h.1.0))))
+  kind_by m all _ h n p v within thing is = absurd (no_has refl is)
 
-  kinded : (m : ℕ) → Kinded m
-  kinded zero n p v within thing h = absurd h
-  kinded (suc m) n p v within thing (inl h) = kinded m n p v within thing h
-  kinded (suc m) n p v within thing (inr t) = kind_by m (kinded m) t.1 t.2 n p v within thing refl
+  -- what is put is a number
+  put_by : {fs : List Fact} {f : Fact} (m : ℕ) → Early m → Rule S fs f → Every (Rounds S m) fs → (x : Put) → f ≡ facts.Put x → value_kind x.value ≡ kinds.Int
+  put_by m all (puts {x = e} {v = v} y inside) h x is =
+      let value_is : v ≡ x.value = ap put_value is in
+      let inner = operand_of _ e (y.store).within (subst (λ z. HasOperand z e) (sym (y.store).node) refl) in
+      let of_kind = all.kinds_of e _ v inner.0 inner.1 h.1.1.1.0 in
+      sym (ap value_kind value_is) ∙ some_is (sym of_kind ∙ known.stored_kind _ y.address e (y.store).within (y.store).node)
+  put_by m all _ h x is = absurd (no_put refl is)
+
+  -- what asks is a fetch
+  ask_by : {fs : List Fact} {f : Fact} (m : ℕ) → Rule S fs f → (x : Ask) → f ≡ facts.Ask x → AskAt x
+  ask_by m (asks {n = r} {t = t} {i = i} y inside) x is = record { row = r; target = t; index = i; stands = y; place = ap ask_place is }
+  ask_by m _ x is = absurd (no_ask refl is)
+
+  early : (m : ℕ) → Early m
+  early zero = record { kinds_of = λ n p v within thing h. absurd h; puts_of = λ x h. absurd h; asks_of = λ x h. absurd h }
+  early (suc m) = (
+      let all = early m in
+      record {
+        kinds_of = λ n p v within thing h. elim h [
+          | inl old ↦ all.kinds_of n p v within thing old
+          | inr t ↦ kind_by m all t.1 t.2 n p v within thing refl
+        ];
+        puts_of = λ x h. elim h [
+          | inl old ↦ all.puts_of x old
+          | inr t ↦ put_by m all t.1 t.2 x refl
+        ];
+        asks_of = λ x h. elim h [
+          | inl old ↦ all.asks_of x old
+          | inr t ↦ ask_by m t.1 x refl
+        ];
+      }
+      )
 
   -- what a thing Has is of its kind
   pub Has_kind : (n : ℕ) (p : Path) (v : SourceValue) → n < length (rows P) → is_thing (node P n) ≡ true → Holds S (Has p (place P n) v)
       → kind P n ≡ Some (value_kind v)
-  Has_kind n p v within thing h = kinded h.round n p v within thing h.there
+  Has_kind n p v within thing h = (early h.round).kinds_of n p v within thing h.there
 
   -- so the ports that take it are of that kind
   pub port_taking : (n : ℕ) (p : Path) (v : SourceValue) → n < length (rows P) → is_thing (node P n) ≡ true → Holds S (Has p (place P n) v)

@@ -10,10 +10,11 @@ use Rattle.id_graph.specs.declared.instr.Block.{Block}
 use Rattle.id_graph.specs.declared.instr.Op.TheVariants.{Merge}
 use Rattle.id_graph.specs.Graph.{Parts}
 use Rattle.id_tag.specs.Kinds.{kind_of as token_kind}
-use Rattle.id_core.specs.Machines.{AreTaken, TakesInputs, token_value}
-use Rattle.id_meaning.specs.declared.SourceValue.{SourceValue}
-use Rattle.id_meaning.specs.declared.SourceValue.TheVariants as value
-use Rattle.id_meaning.specs.Sources.{AreFor, AreInputs, SuitsParam, source, value_kind}
+use Rattle.id_core.specs.Machines.{AreTaken, TakesInputs}
+use Rattle.id_value.specs.declared.Constant.{Constant}
+use Rattle.id_value.specs.declared.Constant.TheVariants as value
+use Rattle.id_ops.specs.Operators.{constant_value}
+use Rattle.id_meaning.specs.Sources.{AreFor, AreInputs, SuitsParam, source, constant_kind}
 use Rattle.id_build.specs.Rows.{node, port_at, port_of}
 use Rattle.id_build.specs.Schemas.{Numbered, Schemas}
 use Rattle.id_laws.specs.Activations.{main_head}
@@ -24,18 +25,19 @@ use Rattle.id_laws.proofs.Start.{main_block, the_block}
 use Rattle.id_laws.proofs.ValidKinds.{port_is}
 use Rattle.id_laws.proofs.Validity.{op_made}
 
-token_port : (v : SourceValue) → token_kind (token_value v) ≡ port_of (value_kind v)
+token_port : (v : Constant) → token_kind (constant_value v) ≡ port_of (constant_kind v)
 token_port (value.Int n) = refl
 token_port (value.Bool b) = refl
 
 -- a parameter that suits the value has its kind
-suits_kind : (P : Checked) (known : IsKnown P) (b : ℕ) (v : SourceValue) → b < length (rows P) → (m : Node) → node P b ≡ m → SuitsParam m v → kind P b ≡ Some (value_kind v)
+suits_kind : (P : Checked) (known : IsKnown P) (b : ℕ) (v : Constant) → b < length (rows P) → (m : Node) → node P b ≡ m → SuitsParam m v
+    → kind P b ≡ Some (constant_kind v)
 suits_kind P known b v within (Param x k) is h = known.param_kind b x k within is ∙ ap (λ z. Some z) (sym h)
 suits_kind P known b v within _ is h = absurd h
 
 module _ (P : Checked) (known : IsKnown P) (g : Parts) (number : ℕ → ℕ → ℕ) (numbered : Numbered P g number) where
   -- labels of parameters of one block take values of their kinds
-  entries_take : (h : ℕ) (bs : List ℕ) (vs : List SourceValue) → ((b : ℕ) → Among b bs → Among b (params_at (rows P) h)) → AreFor P bs vs
+  entries_take : (h : ℕ) (bs : List ℕ) (vs : List Constant) → ((b : ℕ) → Among b bs → Among b (params_at (rows P) h)) → AreFor P bs vs
       → AreTaken g (map (λ x. number x 0) bs) vs
   entries_take h [] [] inside own = tt
   entries_take h [] (v ∷ vs) inside own = own
@@ -43,10 +45,10 @@ module _ (P : Checked) (known : IsKnown P) (g : Parts) (number : ℕ → ℕ →
   entries_take h (b ∷ bs) (v ∷ vs) inside own =
       let z = a_param (rows P) h (length (rows P)) b (inside b (inl refl)) in
       let of_kind = suits_kind P known b v z.within (node P b) refl own.0 in
-      let kind_is : port_at P b ≡ token_kind (token_value v) = port_is P b (value_kind v) of_kind ∙ sym (token_port v) in
+      let kind_is : port_at P b ≡ token_kind (constant_value v) = port_is P b (constant_kind v) of_kind ∙ sym (token_port v) in
       (op_made P known g number numbered z.within (enters (z.param).is) ∙ ap (λ k. Some (Merge k)) kind_is, entries_take h bs vs (λ y k. inside y (inr k)) own.1)
 
-  takes_inputs : (vs : List SourceValue) → AreInputs P vs → TakesInputs g vs
+  takes_inputs : (vs : List Constant) → AreInputs P vs → TakesInputs g vs
   takes_inputs vs own = record {
     taken = λ b main. (
         let h = main_head P in
@@ -57,5 +59,5 @@ module _ (P : Checked) (known : IsKnown P) (g : Parts) (number : ℕ → ℕ →
   }
 
 -- each graph that the schemas give a program takes the inputs of the program
-pub inputs_taken : (P : Checked) → IsKnown P → (g : Parts) (vs : List SourceValue) → AreInputs P vs → Schemas P g → TakesInputs g vs
+pub inputs_taken : (P : Checked) → IsKnown P → (g : Parts) (vs : List Constant) → AreInputs P vs → Schemas P g → TakesInputs g vs
 inputs_taken P known g vs own schemas = takes_inputs P known g schemas.number schemas.numbered vs own

@@ -1,33 +1,28 @@
 -- From one iteration of a loop to the next: its head is live there, and what stands outside of the loop has the same path.
-use Rattle.std.proofs.Common.{◌≡◌, ◌⊎◌, inl, inr, ℕ, zero, suc, ◌+◌, ◌-◌, ◌<◌, ◌≤◌, ◌++◌, Bool as Truth, true, false, List, [], ◌∷◌, length}
+use Rattle.std.proofs.Common.{◌≡◌, ℕ, zero, suc, ◌+◌, ◌-◌, ◌<◌, ◌≤◌, ◌++◌, true, List, [], ◌∷◌, length}
 use Rattle.std.proofs.Common.{refl, sym, ◌∙◌, ap, subst, arith}
 use Rattle.std.specs.Prelude.{take}
-use Rattle.id_list.specs.List.{Among}
 use Rattle.id_parts.specs.declared.row.Region.{Region}
 use Rattle.id_parts.specs.declared.row.Row.{Row}
 use Rattle.id_parts.specs.declared.row.Node.TheVariants.{Program, Start, LoopHead, Switches}
 use Rattle.id_parts.specs.Loops.{depth, loops_from}
-use Rattle.id_parts.specs.Rows.{arm_at, at, top}
+use Rattle.id_parts.specs.Rows.{arm_at, at}
 use Rattle.id_parts.specs.Tables.{is_binder}
 use Rattle.id_check.specs.declared.checked.Checked.{Checked}
 use Rattle.id_check.specs.Scopes.{loops_between}
-use Rattle.id_check.specs.Programs.{place, region, rows}
-use Rattle.id_tag.specs.declared.Value.{Value}
+use Rattle.id_check.specs.Programs.{region, rows}
 use Rattle.id_tag.specs.declared.Value.TheVariants as value
 use Rattle.id_meaning.specs.declared.Path.{Path}
 use Rattle.id_meaning.specs.declared.PathStep.{PathStep}
-use Rattle.id_meaning.specs.declared.Fact.TheVariants.{Has}
 use Rattle.id_meaning.specs.Sources.{Source}
-use Rattle.id_meaning.specs.Facts.{outermost, below, without}
-use Rattle.id_meaning.specs.Rounds.{Holds}
+use Rattle.id_meaning.specs.Facts.{below, without}
 use Rattle.id_build.specs.Rows.{block, node, origin}
 use Rattle.id_build.proofs.NamesSeen.{Sees, own, handed, entered as entered_in}
 use Rattle.id_runs.specs.Activations.{Activation, at_iteration}
 use Rattle.id_runs.specs.Events.{Event}
-use Rattle.id_laws.specs.Activations.{of_turns, Seat, Outermost, Below, path_at, PathOf, Speaks, GoesAt, Live, again}
-use Rattle.id_laws.specs.Topics.{Shown}
+use Rattle.id_laws.specs.Activations.{of_turns, Seat, Outermost, Below, path_at, Speaks, Live, again}
 use Rattle.id_laws.proofs.Assumed.{IsKnown}
-use Rattle.id_laws.proofs.Conditionals.{ArmLive, arm_live, one_test}
+use Rattle.id_laws.proofs.Conditionals.{arm_live, one_test}
 use Rattle.id_laws.proofs.Loops.{loop_of_head, loop_of_start, start_node, start_within}
 use Rattle.id_laws.proofs.Regions.{as_tests, label_row, region_of}
 use Rattle.id_laws.proofs.Seats.{length_snoc}

@@ -1,11 +1,11 @@
 -- The rows of a checked program are known: the table, the binders and the kinds that the check has found.
-use Rattle.std.proofs.Common.{◌≡◌, inl, inr, ℕ, suc, ◌<◌, ◌+◌, true, Some, map, length, refl, sym, ◌∙◌, ap, subst, if◌then◌else◌}
+use Rattle.std.proofs.Common.{◌≡◌, inl, inr, ℕ, ◌<◌, ◌+◌, true, Some, map, length, refl, sym, ◌∙◌, ap, subst, if◌then◌else◌}
 use Rattle.std.specs.Prelude.{slice_get, unwrap_or}
 use Rattle.id_tree.specs.Tree.{program_tree}
 use Rattle.id_parts.specs.declared.row.Node.{Node}
-use Rattle.id_parts.specs.declared.row.Node.TheVariants.{Param, Literal, Name, Unary, Binary, Arg, Call, Def, Block, Binding, Start, LoopHead, Next}
-use Rattle.id_parts.specs.Tables.{AreApart, begins_block, is_binder, is_top}
-use Rattle.id_parts.specs.Turns.{IsDefOf, IsTable, params_at}
+use Rattle.id_parts.specs.declared.row.Node.TheVariants.{Param, Literal, Name, Unary, Binary, Arg, Call, Def, Block, Binding, Start, Next, Array, Fetch}
+use Rattle.id_parts.specs.Tables.{AreApart, is_binder, is_top}
+use Rattle.id_parts.specs.Turns.{IsDefOf, params_at}
 use Rattle.id_parts.proofs.BlocksLemmas.{Among-from_params_at}
 use Rattle.id_parts.proofs.PlacesLemmas.{AreApart-rows_of}
 use Rattle.id_check.specs.declared.checked.Checked.{Checked}
@@ -13,6 +13,7 @@ use Rattle.id_check.specs.Causes.{defines_main}
 use Rattle.id_check.specs.Kinds.{link_of}
 use Rattle.id_check.specs.Programs.{Calls, Stands, binder, kind, region, rows}
 use Rattle.id_check.proofs.ProgramsLemmas.{table_of, bound_name_row, kind_along, kind_fixed, split_row, if_row, def_row, enter_row, callee_row, call_row, next_row, argument_row, argument_call, switches_row}
+use Rattle.id_check.proofs.ProgramsLemmas.{array_row, fetch_row, address_row, store_row}
 use Rattle.id_meaning.specs.Sources.{head_of}
 use Rattle.id_meaning.proofs.ArgumentsLemmas.{argument-get}
 use Rattle.id_build.specs.Rows.{block, called, entering, first_binder, node, outer_at, param_at, param_of}
@@ -21,6 +22,7 @@ use Rattle.id_value.specs.declared.Kind.TheVariants as kinds
 use Rattle.id_list.specs.List.{Among}
 use Rattle.id_desugar.specs.Regions.{imports_of, nexts_of}
 use Rattle.id_laws.specs.Activations.{main_head, Tests, of_arms, of_turns}
+use Rattle.id_laws.specs.Topics.{Addresses, of_fetch, of_store}
 use Rattle.id_laws.proofs.Assumed.{IsKnown}
 use Rattle.id_build.proofs.EndsLemmas.{call_is}
 use Rattle.id_build.proofs.ImportsLemmas.{name_seen, split_seen, switches_seen, first_seen, loop_seen, turn_seen}
@@ -128,6 +130,11 @@ test_by : (P : Checked) (n t : ℕ) → n < length (rows P) → Tests P n t → 
 test_by P n t within (of_arms is) = split_row P n t (record { within = within; node = is })
 test_by P n t within (of_turns is) = switches_row P n t (record { within = within; node = is })
 
+-- what names a cell is a structure with a number
+cell_by : (P : Checked) (n t i : ℕ) → n < length (rows P) → Addresses P n t i → (kind P t ≡ Some kinds.Array) × (kind P i ≡ Some kinds.Int)
+cell_by P n t i within (of_fetch is) = fetch_row P n t i (record { within = within; node = is })
+cell_by P n t i within (of_store is) = address_row P n t i (record { within = within; node = is })
+
 -- the rows of each checked program are known
 pub known : (P : Checked) → IsKnown P
 known P = record {
@@ -151,6 +158,11 @@ known P = record {
   binary_kinds = λ n a b o within is. kind_fixed P n (Binary o a b) _ (record { within = within; node = is }) refl;
   test_kind = test_by P;
   arm_kinds = λ n s x y within is. (let z = if_row P n s x y (record { within = within; node = is }) in (sym z.0, sym z.1));
+  array_kind = λ n a b within is. kind_fixed P n (Array a b) _ (record { within = within; node = is }) refl;
+  fetch_kind = λ n t i within is. kind_fixed P n (Fetch t i) _ (record { within = within; node = is }) refl;
+  bound_kinds = λ n a b within is. array_row P n a b (record { within = within; node = is });
+  cell_kinds = cell_by P;
+  stored_kind = λ n a v within is. store_row P n a v (record { within = within; node = is });
   block_kind = λ n b within is. kind_along P n b (Block b) (record { within = within; node = is }) refl;
   binding_kind = λ n x a within is. kind_along P n a (Binding x a) (record { within = within; node = is }) refl;
   result_kind = λ n h d. def_row P n d.name h d.body d.result (record { within = d.within; node = d.node });

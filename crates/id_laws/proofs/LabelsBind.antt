@@ -5,7 +5,7 @@ use Rattle.std.specs.List.{count_by}
 use Rattle.std.proofs.lemmas.Bool.Decides.{nat_tests}
 use Rattle.std.proofs.lemmas.List.Sums.{sum_by-cons}
 use Rattle.id_parts.specs.declared.row.Node.{Node}
-use Rattle.id_parts.specs.declared.row.Node.TheVariants.{Head, Param, Split, If, Program, Enter, Call, Binding, Start, LoopHead, Entries, Loop}
+use Rattle.id_parts.specs.declared.row.Node.TheVariants.{Head, Param, Split, If, Program, Enter, Call, Binding, Start, LoopHead, Entries, Loop, Fetch}
 use Rattle.id_parts.specs.Tables.{begins_block, is_binder}
 use Rattle.id_parts.specs.Loops.{IsLoopOf}
 use Rattle.id_check.specs.declared.checked.Checked.{Checked}
@@ -19,11 +19,11 @@ use Rattle.id_build.specs.Rows.{block, label, label_by, node, op_by}
 use Rattle.id_build.specs.Schemas.{Numbered, Made}
 use Rattle.id_desugar.specs.Ends.{next_of}
 use Rattle.id_laws.specs.Activations.{main_head, of_arms, of_call, of_loop}
-use Rattle.id_laws.specs.Topics.{IsPart}
+use Rattle.id_laws.specs.Topics.{of_fetch, IsPart}
 use Rattle.id_laws.proofs.Assumed.{IsKnown}
 use Rattle.id_laws.proofs.Arcs.{Does, starts, returns, enters, constant, unary, binary, turns_on, hands, joins, names, answers, doing, makes, part_of}
 use Rattle.id_laws.proofs.Arcs.{place_shown, opens, passes, gets}
-use Rattle.id_laws.proofs.Arcs.{sends_in, gives_back, varies, takes_in, moves_on, moves_name, advances, resets, gets_last}
+use Rattle.id_laws.proofs.Arcs.{sends_in, gives_back, varies, takes_in, moves_on, moves_name, advances, resets, gets_last, allocates, addresses, fetches, gets_reply, stores}
 use Rattle.id_laws.proofs.LoopRows.{entries_place, loop_marks, variable_at}
 use Rattle.id_laws.proofs.Conditionals.{conditional}
 use Rattle.id_laws.proofs.Tokens.{one_part}
@@ -89,19 +89,30 @@ claims_place p i at other = (λ t. same_number i.place p at t && not (other t))
 
 module _ (P : Checked) (known : IsKnown P) (g : Parts) (number : ℕ → ℕ → ℕ) (numbered : Numbered P g number) (main_head_is : node P (main_head P) ≡ Head) (main_within : main_head P < length (rows P)) where
   -- no other part has the place of a label, save a `next`
-  clash : {n j r k : ℕ} {f : Form} → (x : IsPart P n j) → shown.is_label g (number n j) ≡ true → r < length (rows P) → Does P r k f
-      → shown.is_next (op_by number f) ≡ false → place_shown P (place P r) (node P r) ≡ place_shown P (place P n) (node P n) → (node P n ≡ node P r → ⊥) → ⊥
-  clash {n} {j} {r} {k} {f} x e low does other same differ =
+  clash_by : {n j r k : ℕ} {f : Form} → (x : IsPart P n j) → shown.is_label g (number n j) ≡ true → r < length (rows P) → Does P r k f
+      → shown.is_next (op_by number f) ≡ false → place_shown P (place P r) (node P r) ≡ place_shown P (place P n) (node P n) → (number n j ≡ number r k → ⊥) → ⊥
+  clash_by {n} {j} {r} {k} {f} x e low does other same differ =
       let part = makes low does in
       let m = numbered.made n j x.form x.place x.makes in
       let h = numbered.made r k f _ part in
       let l = label_of g (number n j) m.instr m.at e in
       let m_place : (m.instr).place ≡ place_shown P (place P n) (node P n) = m.place ∙ (doing x.makes).place_is in
       let two = two_at (shown.claims (m.instr).place) g.instrs (number n j) (number r k) m.instr h.instr m.at h.at
-      (λ z. differ (ap (node P) (one_part numbered x (part_of low does) z).0))
+      differ
       (claims_place _ m.instr refl (merge_no_next _ l.0))
       (claims_place _ h.instr (h.place ∙ same ∙ sym m_place) (ap shown.is_next h.op ∙ other)) in
       absurd (omega (arith, two, l.1))
+
+  clash : {n j r k : ℕ} {f : Form} → (x : IsPart P n j) → shown.is_label g (number n j) ≡ true → r < length (rows P) → Does P r k f
+      → shown.is_next (op_by number f) ≡ false → place_shown P (place P r) (node P r) ≡ place_shown P (place P n) (node P n) → (node P n ≡ node P r → ⊥) → ⊥
+  clash x e low does other same differ = clash_by x e low does other same (λ z. differ (ap (node P) (one_part numbered x (part_of low does) z).0))
+
+  -- the merge of a fetch shares its place with what makes the address
+  reply_no_label : (n : ℕ) {t i : ℕ} → node P n ≡ Fetch t i → (part : IsPart P n 2) → shown.is_label g (number n 2) ≡ true → ⊥
+  reply_no_label n is part e =
+      let within = (part.makes).within in
+      clash_by part e within (addresses (of_fetch is)) refl refl
+      (λ z. let same = (one_part numbered part (part_of within (addresses (of_fetch is))) z).1 in omega (arith, same))
 
   -- the answer's instruction shares its place with main's head
   answer_no_label : (n : ℕ) → node P n ≡ Program → (x : IsPart P n 0) → shown.is_label g (number n 0) ≡ true → ⊥
@@ -192,4 +203,9 @@ module _ (P : Checked) (known : IsKnown P) (g : Parts) (number : ℕ → ℕ →
       go (advances is) k l y = cc
       go (resets is) k l y = cc
       go (gets_last is) k l y = absurd (loop_no_label n is y l)
+      go (allocates is) k l y = cc
+      go (addresses is) k l y = cc
+      go (fetches is) k l y = cc
+      go (gets_reply is) k l y = absurd (reply_no_label n is y l)
+      go (stores is) k l y = cc
       go (answers is) k l y = absurd (answer_no_label n is y l)

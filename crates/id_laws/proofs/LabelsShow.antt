@@ -3,10 +3,10 @@ use Rattle.std.proofs.Common.{◌≡◌, ℕ, zero, suc, ◌<◌, length, ◌==�
 use Rattle.std.proofs.Common.{sym, ◌∙◌, ap, arith}
 use Rattle.std.specs.List.{count_by}
 use Rattle.std.specs.Option.{option_map_or}
-use Rattle.std.proofs.lemmas.Bool.{eqb-true, eq-eqb}
+use Rattle.std.proofs.lemmas.Bool.{eqb-true}
 use Rattle.std.proofs.lemmas.List.Sums.{sum_by-cons}
 use Rattle.id_parts.specs.declared.row.Node.{Node}
-use Rattle.id_parts.specs.declared.row.Node.TheVariants.{Head, Param, Split, Binding, Enter, LoopHead, Entries, Switches, Start, Reset, Next, Variable}
+use Rattle.id_parts.specs.declared.row.Node.TheVariants.{Head, Param, Binding, LoopHead, Entries, Switches, Start, Reset, Next, Variable}
 use Rattle.id_parts.specs.Tables.{begins_block, is_binder, is_thing}
 use Rattle.id_parts.specs.Turns.{IsDefOf}
 use Rattle.id_check.specs.declared.checked.Checked.{Checked}
@@ -20,11 +20,12 @@ use Rattle.id_build.specs.declared.arc.Form.TheVariants.{Plain}
 use Rattle.id_build.specs.Rows.{block, label, label_by, node, op_by, port_at}
 use Rattle.id_build.specs.Schemas.{Numbered, Made, IsNumber}
 use Rattle.id_laws.specs.Activations.{main_head, Begins, of_call, of_loop, Tests, of_arms, of_turns}
-use Rattle.id_laws.specs.Topics.{IsPart}
+use Rattle.id_laws.specs.Topics.{of_fetch, of_store, IsPart}
+use Rattle.id_laws.proofs.Stores.{address_at}
 use Rattle.id_laws.proofs.Assumed.{IsKnown}
 use Rattle.id_laws.proofs.Arcs.{Does, starts, returns, enters, constant, unary, binary, turns_on, hands, joins, names, answers, doing, makes, part_of}
 use Rattle.id_laws.proofs.Arcs.{place_shown, opens, passes, gets}
-use Rattle.id_laws.proofs.Arcs.{sends_in, gives_back, varies, takes_in, moves_on, moves_name, advances, resets, gets_last}
+use Rattle.id_laws.proofs.Arcs.{sends_in, gives_back, varies, takes_in, moves_on, moves_name, advances, resets, gets_last, allocates, addresses, fetches, gets_reply, stores}
 use Rattle.id_laws.proofs.LabelsBind.{claims_place}
 use Rattle.id_laws.proofs.LoopRows.{LoopPlace, LabelAt, label_at, variable_at, head_place, start_place, entries_place, switches_place, reset_place}
 use Rattle.id_build.specs.declared.arc.Form.{Form}
@@ -144,6 +145,12 @@ module _ (P : Checked) (known : IsKnown P) (g : Parts) (number : ℕ → ℕ →
       at_begin (of_call is) = at_enter (call_at known within is) (ap (place_shown P (place P n)) (sym is) ∙ same)
       at_begin (of_loop is) = at_loop Start is refl (start_place P n within is)
 
+      -- no other thing has it
+      at_thing : (k : ℕ) (m : Node) → k < length (rows P) → node P k ≡ m → is_thing m ≡ true → is_binder m ≡ false → place P k ≡ place P b → ⊥
+      at_thing k m low is thing plain at =
+          let one = (known.apart).apart k b low inside (ap is_thing is ∙ thing) (binds_thing (node P b) binds) at in
+          true_false (sym binds ∙ ap (λ j. is_binder (node P j)) (sym one) ∙ ap is_binder is ∙ plain)
+
       at_arg : {m e v : ℕ} → ArgAt P m e v → place P m ≡ place P e → place P m ≡ place P b → ⊥
       at_arg x with_enter at = at_enter (call_at known x.enter_within x.enter) (sym with_enter ∙ at)
 
@@ -170,6 +177,15 @@ module _ (P : Checked) (known : IsKnown P) (g : Parts) (number : ℕ → ℕ →
       by (advances is) other = absurd (true_false other)
       by (resets {v = v} is) other = absurd (at_loop (Reset v) is refl (reset_place P n v within is))
       by (gets_last is) other = (here _ is refl refl refl, refl)
+      by (allocates is) other = (here _ is refl refl refl, refl)
+      by (addresses (of_fetch is)) other = absurd (at_thing n _ within is refl refl (ap (place_shown P (place P n)) (sym is) ∙ same))
+      by (addresses {t = t} {i = i} (of_store is)) other =
+          let z = (known.table).has_store n t i within is in
+          let c = z.1 in
+          absurd (at_thing z.0 _ c.within c.node refl refl (sym (address_at known c.within c.node).place ∙ ap (place_shown P (place P n)) (sym is) ∙ same))
+      by (fetches is) other = absurd (at_thing n _ within is refl refl (ap (place_shown P (place P n)) (sym is) ∙ same))
+      by (gets_reply is) other = absurd (at_thing n _ within is refl refl (ap (place_shown P (place P n)) (sym is) ∙ same))
+      by (stores is) other = absurd (at_thing n _ within is refl refl (ap (place_shown P (place P n)) (sym is) ∙ same))
       by (answers is) other = absurd (def_elsewhere P.main (main_head P) b known.main inside binds (ap (place_shown P (place P n)) (sym is) ∙ same))
 
   module _ (b : ℕ) (within : b < length (rows P)) (binds : is_binder (node P b) ≡ true) where

@@ -1,6 +1,9 @@
 pub mod Arcs
 pub mod Assumed
 pub mod Calls
+pub mod Stores
+pub mod Names
+pub mod OnCells
 pub mod Conditionals
 pub mod Regions
 pub mod Loops
@@ -45,12 +48,16 @@ pub mod ValidCounts
 pub mod OneSender
 pub mod Observing
 pub mod TagPaths
+pub mod Naming
+pub mod Sites
 pub mod SoundAnswer
 pub mod SoundFaults
 pub mod SoundValues
 pub mod LabelsBind
 pub mod SoundNames
+pub mod SoundCells
 pub mod SoundRuns
+pub mod QuietCells
 pub mod Known
 pub mod LabelsShow
 pub mod QuietRuns

@@ -5,7 +5,7 @@ use Rattle.id_list.specs.List.{Among}
 use Rattle.id_list.proofs.AmongLemmas.{Among-right}
 use Rattle.id_parts.specs.declared.row.Region.{Region}
 use Rattle.id_parts.specs.declared.row.Node.TheVariants.{Start, LoopHead, Variable, Entries, Switches, Turn, Next}
-use Rattle.id_parts.specs.Rows.{arm_at, at, top}
+use Rattle.id_parts.specs.Rows.{arm_at, top}
 use Rattle.id_parts.specs.Tables.{is_top, is_variable, is_in_loop}
 use Rattle.id_parts.specs.Loops.{IsLoopOf, IsNextOf, StandsAt}
 use Rattle.id_check.specs.declared.checked.Checked.{Checked}

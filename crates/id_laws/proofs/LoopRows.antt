@@ -1,11 +1,10 @@
 -- What the rows of a loop make, and what they import.
-use Rattle.std.proofs.Common.{◌≡◌, ◌⊎◌, inl, inr, ℕ, zero, suc, ◌+◌, ◌-◌, ◌<◌, Bool as Truth, true, false, cond, Option, Some, None, List, [], ◌∷◌, ◌++◌, map, length}
+use Rattle.std.proofs.Common.{◌≡◌, inl, inr, ℕ, zero, suc, ◌+◌, ◌-◌, ◌<◌, Bool as Truth, true, false, cond, Option, Some, None, List, [], ◌∷◌, ◌++◌, map, length}
 use Rattle.std.proofs.Common.{slice_get, get_or, unwrap_or, refl, sym, ◌∙◌, ap, subst, arith}
-use Rattle.std.proofs.lemmas.Bool.{cases_lt}
 use Rattle.id_list.specs.List.{Among}
 use Rattle.id_list.proofs.AmongLemmas.{Among-either, Among-from_map}
 use Rattle.id_parts.specs.declared.row.Node.{Node}
-use Rattle.id_parts.specs.declared.row.Node.TheVariants.{Head, Param, Name, NextUse, Split, Binding, LoopHead, Variable, Entries, Switches, Next, Start, Reset, Loop}
+use Rattle.id_parts.specs.declared.row.Node.TheVariants.{Head, Param, Name, NextUse, Split, Binding, LoopHead, Variable, Entries, Switches, Next, Start, Reset}
 use Rattle.id_parts.specs.Rows.{at}
 use Rattle.id_parts.specs.Tables.{begins_block, is_binder, is_variable}
 use Rattle.id_parts.specs.Loops.{IsLoopOf, IsNextOf}

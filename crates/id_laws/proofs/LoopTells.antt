@@ -1,12 +1,11 @@
 -- What a loop gives, and what its entries are given, tells what is wanted there.
-use Rattle.std.proofs.Common.{◌≡◌, ◌⊎◌, inl, inr, ℕ, suc, ◌+◌, ◌-◌, ◌<◌, true, List, length, slice_get, get_or, refl, sym, ◌∙◌, ap, subst, arith}
+use Rattle.std.proofs.Common.{◌≡◌, ℕ, suc, ◌+◌, ◌-◌, ◌<◌, true, List, length, get_or, refl, sym, ◌∙◌, ap, subst, arith}
 use Rattle.id_parts.specs.declared.row.Region.{Region}
-use Rattle.id_parts.specs.declared.row.Node.TheVariants.{Program, Start, LoopHead, Variable, Entries, Next, Loop}
-use Rattle.id_parts.specs.Loops.{IsNextOf}
-use Rattle.id_parts.specs.Rows.{at, top}
-use Rattle.id_parts.specs.Tables.{begins_block, is_binder, is_top}
+use Rattle.id_parts.specs.declared.row.Node.TheVariants.{Program, Start, LoopHead, Variable}
+use Rattle.id_parts.specs.Rows.{top}
+use Rattle.id_parts.specs.Tables.{begins_block, is_binder}
 use Rattle.id_check.specs.declared.checked.Checked.{Checked}
-use Rattle.id_check.specs.Programs.{Stands, binder, place, region, rows}
+use Rattle.id_check.specs.Programs.{place, region, rows}
 use Rattle.id_check.specs.Scopes.{loops_between}
 use Rattle.id_graph.specs.declared.dests.Port.TheVariants.{Zero}
 use Rattle.id_tag.specs.declared.Context.{Context}
@@ -14,20 +13,19 @@ use Rattle.id_tag.specs.declared.Tag.{Tag}
 use Rattle.id_tag.specs.declared.Value.{Value}
 use Rattle.id_tag.specs.declared.Payload.TheVariants.{Token}
 use Rattle.id_meaning.specs.declared.Path.{Path}
-use Rattle.id_meaning.specs.declared.SourceValue.{SourceValue}
 use Rattle.id_meaning.specs.declared.Fact.TheVariants.{Has}
 use Rattle.id_meaning.specs.Sources.{Source}
 use Rattle.id_meaning.specs.Facts.{NextStands, below, without, first_has, loop_has}
 use Rattle.id_meaning.specs.Rounds.{Holds}
 use Rattle.id_desugar.specs.Ends.{end_of, next_of}
 use Rattle.id_desugar.specs.Regions.{imports_of}
-use Rattle.id_build.specs.Rows.{Entry, block, entering, entries_row, first_binder, loop_entries, node}
+use Rattle.id_build.specs.Rows.{Entry, block, entering, entries_row, first_binder, node}
 use Rattle.id_build.proofs.LoopsLemmas.{entries_node, entries_stand, entries_within, next_is}
 use Rattle.id_build.proofs.NamesSeen.{Sees, listed}
 use Rattle.id_runs.specs.Activations.{Activation, at_iteration, tag_in}
 use Rattle.id_runs.specs.Events.{Event}
-use Rattle.id_laws.specs.Activations.{of_loop, Opens, PathOf, Live, entered}
-use Rattle.id_laws.specs.Topics.{IsPart, Shown, Tells, Told, NameIn, ValueOf, topic_at, wants, result_of}
+use Rattle.id_laws.specs.Activations.{of_loop, Opens, Live, entered}
+use Rattle.id_laws.specs.Topics.{IsPart, Shown, Tells, Told, NameIn, topic_at, wants, result_of}
 use Rattle.id_laws.proofs.Assumed.{IsKnown}
 use Rattle.id_laws.proofs.Arcs.{gets_last, part_of, takes_in, varies}
 use Rattle.id_laws.proofs.Firing.{Given}

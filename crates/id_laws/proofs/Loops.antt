@@ -1,11 +1,10 @@
 -- What stands where in a loop.
-use Rattle.std.proofs.Common.{◌≡◌, ◌⊎◌, inl, inr, ℕ, ◌+◌, ◌-◌, ◌<◌, Bool as Truth, true, false, length, refl, sym, ◌∙◌, ap, subst, arith}
-use Rattle.id_parts.specs.declared.row.Region.{Region}
+use Rattle.std.proofs.Common.{◌≡◌, inl, inr, ℕ, ◌+◌, ◌-◌, ◌<◌, true, false, length, refl, sym, ◌∙◌, ap, subst, arith}
 use Rattle.id_parts.specs.declared.row.Node.{Node}
-use Rattle.id_parts.specs.declared.row.Node.TheVariants.{Start, LoopHead, Variable, Entries, Switches, Turn, NextUse, Next, Body, Reset, Loop}
-use Rattle.id_parts.specs.Rows.{arm_at, at, top}
-use Rattle.id_parts.specs.Tables.{HasPart, begins_block, is_expression, is_in_loop}
-use Rattle.id_parts.specs.Loops.{IsLoop, IsLoopOf, IsNextOf, IsNextIn}
+use Rattle.id_parts.specs.declared.row.Node.TheVariants.{Start, LoopHead, Variable, Switches, Turn, NextUse, Next, Body, Reset, Loop}
+use Rattle.id_parts.specs.Rows.{arm_at, top}
+use Rattle.id_parts.specs.Tables.{HasPart, is_in_loop}
+use Rattle.id_parts.specs.Loops.{IsLoop, IsLoopOf}
 use Rattle.id_check.specs.declared.checked.Checked.{Checked}
 use Rattle.id_check.specs.Programs.{place, region, rows}
 use Rattle.id_desugar.specs.Ends.{end_of, next_of}

@@ -1,5 +1,7 @@
 -- What goes to another iteration: a `next` and a `reset`, and these alone.
-use Rattle.std.proofs.Common.{◌≡◌, ℕ, ◌+◌, Bool as Truth, true, false, cond, refl, sym, ◌∙◌, ap, subst}
+use Rattle.std.proofs.Common.{◌≡◌, ℕ, ◌+◌, Bool as Truth, true, false, cond, if◌then◌else◌, refl, sym, ◌∙◌, ap, subst}
+use Rattle.id_value.specs.Bounds.{are_good, is_inside}
+use Rattle.id_value.specs.declared.FaultKind.{FaultKind}
 use Rattle.id_value.specs.declared.Outcome.{Outcome}
 use Rattle.id_value.specs.declared.Outcome.TheVariants.{Gives, Fails, Lacks}
 use Rattle.id_value.specs.declared.Constant.TheVariants as constants
@@ -12,18 +14,21 @@ use Rattle.id_tag.specs.Kinds.{kind_of, same_kind}
 use Rattle.id_tag.specs.declared.Context.{Context}
 use Rattle.id_tag.specs.declared.Tag.{Tag}
 use Rattle.id_tag.specs.declared.Value.{Value}
+use Rattle.id_tag.specs.declared.Value.TheVariants as value
 use Rattle.id_tag.specs.declared.Value.TheVariants.{Signal, Int, Bool, Context as Opened, Continuation}
 use Rattle.id_ops.specs.declared.Operands.{Operands}
 use Rattle.id_ops.specs.declared.Operands.TheVariants.{One as Alone, Two}
 use Rattle.id_ops.specs.declared.Fresh.{Fresh}
 use Rattle.id_ops.specs.declared.Fired.{Fired}
-use Rattle.id_ops.specs.declared.Fired.TheVariants.{Out, Side, Entered, Sent, Moved, Nothing}
+use Rattle.id_ops.specs.declared.Fired.TheVariants.{Out, Side, Sent, Moved, Failed, Nothing}
 use Rattle.id_ops.specs.Operators.{fired, fired_by, fired_enter, fired_next, fired_reset}
 use Rattle.id_check.specs.declared.checked.Checked.{Checked}
 use Rattle.id_build.specs.declared.arc.Form.{Form}
 use Rattle.id_build.specs.Rows.{node, op_by}
 use Rattle.id_laws.proofs.Arcs.{Does, starts, returns, enters, constant, unary, binary, turns_on, hands, joins, opens, passes, gets, names, answers}
 use Rattle.id_laws.proofs.Arcs.{sends_in, gives_back, varies, takes_in, moves_on, moves_name, advances, resets, gets_last}
+use Rattle.id_laws.proofs.Arcs.{allocates, addresses, fetches, gets_reply, stores}
+use Rattle.id_laws.specs.Topics.{of_fetch, of_store}
 use Rattle.id_laws.specs.Activations.{of_arms, of_turns, of_call, of_loop}
 use Rattle.id_runs.specs.Events.{GivesOn}
 use Rattle.id_laws.proofs.Sources.{is_mover}
@@ -50,6 +55,11 @@ moves (op.Next k) = true
 moves (op.Reset k) = true
 moves _ = false
 
+-- what makes a structure or an address moves nothing
+tested_or : (b : Truth) (u : Value) (j : FaultKind) (k : ℕ) (w : Value) → (if b then Out u else Failed j) ≡ Moved k w → ⊥
+tested_or true u j k w h = cc
+tested_or false u j k w h = cc
+
 pub moving : (o : Op) (t : Tag) (ops : Operands) (f : Fresh) (k : ℕ) (w : Value) → fired o t ops f ≡ Moved k w → moves o ≡ true
 moving (op.Const c) t (Alone Signal) f k w h = cc
 moving (op.Const c) t _ f k w h = cc
@@ -71,6 +81,14 @@ moving (op.Send j n) t (Two (Opened c) v) f k w h = absurd (tested (same_kind (k
 moving (op.Send j n) t _ f k w h = cc
 moving (op.Next j) t ops f k w h = refl
 moving (op.Reset j) t ops f k w h = refl
+moving op.Alloc t (Two (Int a) (Int b)) f k w h = absurd (tested_or (are_good a b) _ _ k w h)
+moving op.Alloc t _ f k w h = cc
+moving op.Address t (Two (value.Structure s) (Int i)) f k w h = absurd (tested_or (is_inside s.low s.high i) _ _ k w h)
+moving op.Address t _ f k w h = cc
+moving (op.Fetch r) t (Alone (value.Address c)) f k w h = cc
+moving (op.Fetch r) t _ f k w h = cc
+moving op.Store t (Two (value.Address c) (Int n)) f k w h = cc
+moving op.Store t _ f k w h = cc
 
 -- whether an operator does is decided by the row
 pub mover_is : (P : Checked) (number : ℕ → ℕ → ℕ) {n part : ℕ} {o : Form} → Does P n part o → moves (op_by number o) ≡ is_mover (node P n)
@@ -107,6 +125,12 @@ mover_is P number d = sym (by d)
     by (advances is) = ap is_mover is
     by (resets is) = ap is_mover is
     by (gets_last is) = ap is_mover is
+    by (allocates is) = ap is_mover is
+    by (addresses (of_fetch is)) = ap is_mover is
+    by (addresses (of_store is)) = ap is_mover is
+    by (fetches is) = ap is_mover is
+    by (gets_reply is) = ap is_mover is
+    by (stores is) = ap is_mover is
     by (answers is) = ap is_mover is
 
 pub moved_by : (P : Checked) (number : ℕ → ℕ → ℕ) {n part : ℕ} {o : Form} → Does P n part o → (t : Tag) (ops : Operands) (f : Fresh) {k : ℕ} {v : Value}
@@ -165,6 +189,11 @@ steps_by P number (moves_name j is less) t ops f k v e = subst (λ m. Steps m t.
 steps_by P number (advances is) t ops f k v e = subst (λ m. Steps m t.iteration k) (sym is) (next_step _ t.iteration ops k v e)
 steps_by P number (resets is) t ops f k v e = subst (λ m. Steps m t.iteration k) (sym is) (reset_step _ ops k v e)
 steps_by P number {o = o} (gets_last is) t ops f k v e = absurd (false_true (moving (op_by number o) t ops f k v e))
+steps_by P number {o = o} (allocates is) t ops f k v e = absurd (false_true (moving (op_by number o) t ops f k v e))
+steps_by P number {o = o} (addresses is) t ops f k v e = absurd (false_true (moving (op_by number o) t ops f k v e))
+steps_by P number {o = o} (fetches is) t ops f k v e = absurd (false_true (moving (op_by number o) t ops f k v e))
+steps_by P number {o = o} (gets_reply is) t ops f k v e = absurd (false_true (moving (op_by number o) t ops f k v e))
+steps_by P number {o = o} (stores is) t ops f k v e = absurd (false_true (moving (op_by number o) t ops f k v e))
 steps_by P number {o = o} (answers is) t ops f k v e = absurd (false_true (moving (op_by number o) t ops f k v e))
 
 -- what goes to another iteration gives nothing under its own tag

@@ -1,4 +1,4 @@
--- No two events of a run send to one port under one tag, and none sends to what the start sends to.
+-- No two events of a run send to one port under one tag, ask for one fetch or store for one store, and none sends to what the start sends to.
 use Rattle.std.proofs.Common.{◌≡◌, ◌⊎◌, inl, inr, ℕ, Bool as Truth, true, false, Option, Some, None, List, [], length, slice_get, refl, sym}
 use Rattle.std.proofs.Common.{◌∙◌, ap, subst, zero, suc, ◌+◌, ◌-◌, ◌<◌, arith}
 use Rattle.std.specs.Option.{option_map_or}
@@ -7,7 +7,7 @@ use Rattle.id_list.specs.List.{Among, AllDiffer}
 use Rattle.id_list.proofs.AmongLemmas.{Among-from_at}
 use Rattle.id_parts.specs.declared.row.Region.{Region}
 use Rattle.id_parts.specs.declared.row.Node.{Node}
-use Rattle.id_parts.specs.declared.row.Node.TheVariants.{Head, Param, If, Program, Enter, Arg, Call, Start, LoopHead, Variable, Entries, Turn, Next, Reset, Loop}
+use Rattle.id_parts.specs.declared.row.Node.TheVariants.{Head, Param, If, Program, Enter, Arg, Call, Start, LoopHead, Variable, Entries, Turn, Next, Reset, Loop, Fetch}
 use Rattle.id_parts.specs.Tables.{begins_block}
 use Rattle.id_parts.specs.Rows.{arm_at}
 use Rattle.id_parts.specs.Turns.{params_at}
@@ -27,23 +27,26 @@ use Rattle.id_ops.specs.declared.Fired.TheVariants.{Entered}
 use Rattle.id_record.specs.Records.{dests_at}
 use Rattle.id_core.specs.Events.{tag_of}
 use Rattle.id_core.specs.Machines.{World}
-use Rattle.id_meaning.specs.declared.SourceValue.{SourceValue}
+use Rattle.id_value.specs.declared.Constant.{Constant}
 use Rattle.id_meaning.specs.Sources.{Source, IsInput}
 use Rattle.id_build.specs.declared.arc.Origin.{Origin}
 use Rattle.id_build.specs.Rows.{Entry, answer_row, block, node, origin, op_by, called, param_of}
 use Rattle.id_build.specs.Schemas.{Feeds, Numbered}
-use Rattle.id_runs.specs.Activations.{Activation, at_iteration, main_context, main_activation, tag_in, activation_of}
-use Rattle.id_runs.specs.Events.{Event, Took, Waits, Blocked, Fires, FiresOnce, sends_of, FiresAs, Enters, payload_of, fired_event}
-use Rattle.id_runs.specs.Keys.{Key, AtPort, key_of}
+use Rattle.id_runs.specs.Activations.{Activation, at_iteration, main_activation, tag_in, activation_of}
+use Rattle.id_runs.specs.Events.{Event, Took, Looked, Wrote, Waits, Blocked, Fires, FiresOnce, sends_of, FiresAs, Enters, payload_of, fired_event}
+use Rattle.id_runs.specs.Keys.{Key, AtPort, ByFetch, ByStore, key_of}
+use Rattle.id_runs.specs.Cells.{Replies, cell_at}
+use Rattle.id_runs.proofs.Cells.{cells_exact}
+use Rattle.id_runs.proofs.CellLaws.{one_reply}
 use Rattle.id_runs.specs.Runs.{Reach, handled, starting}
-use Rattle.id_runs.specs.OneMessage.{Exclusive}
+use Rattle.id_runs.specs.OneMessage.{Exclusive, Few}
 use Rattle.id_runs.proofs.Messages.{one_firing}
 use Rattle.id_laws.specs.Activations.{Begins, of_call, of_loop, of_arms, main_head, Speaks, Moves, Live, ReturnsTo, to_answer, to_row, SeatOf, made_seat, Below, path_at}
 use Rattle.id_laws.specs.Topics.{AllTell, AllSpeak, Tells, topic_at, wants}
-use Rattle.id_laws.specs.Ways.{Way, by_arc, by_move, by_back, StartsAt, signal, way_back, input, by_send, by_enter, by_continuation, of_argument, of_entry, SendsTo}
+use Rattle.id_laws.specs.Ways.{Way, by_arc, by_move, by_back, StartsAt, signal, way_back, input, by_send, by_enter, by_continuation, by_reply, of_argument, of_entry, SendsTo}
 use Rattle.id_laws.proofs.Arcs.{Does, starts, returns, enters, constant, unary, binary, turns_on, hands, joins, names, answers, doing, FromArm, one_feed}
 use Rattle.id_laws.proofs.Arcs.{answer_unfed, head_unfed, loop_head_unfed, loop_unfed, opens, passes, gets, call_unfed}
-use Rattle.id_laws.proofs.Arcs.{sends_in, gives_back, varies, takes_in, moves_on, moves_name, advances, resets, gets_last}
+use Rattle.id_laws.proofs.Arcs.{sends_in, gives_back, varies, takes_in, moves_on, moves_name, advances, resets, gets_last, allocates, addresses, fetches, gets_reply, stores, reply_unfed, part_of}
 use Rattle.id_laws.proofs.Begun.{EndsAs, as_call, as_loop, begun_at, one_begun, one_head}
 use Rattle.id_laws.proofs.Movers.{Steps}
 use Rattle.id_laws.proofs.Sendings.{is_enter}
@@ -57,14 +60,13 @@ use Rattle.id_build.proofs.LoopsLemmas.{entries_node, next_is}
 use Rattle.id_laws.proofs.Blocks.{IsParam, a_param, params_differ}
 use Rattle.id_laws.proofs.Conditionals.{arm_of, conditional, sides_apart}
 use Rattle.id_laws.proofs.Origins.{origin_shows}
-use Rattle.id_laws.proofs.Senders.{came_by}
-use Rattle.id_laws.proofs.Start.{started, starts_once}
-use Rattle.id_laws.proofs.Tokens.{one_part, port_of}
+use Rattle.id_laws.proofs.Senders.{CameBy, AskedBy, StoredBy, SentSo, as_token, as_read, as_write, sent_so}
+use Rattle.id_laws.proofs.Start.{Started, started, starts_once}
+use Rattle.id_laws.proofs.Tokens.{one_part}
 use Rattle.id_build.specs.declared.arc.Form.{Form}
 use Rattle.id_laws.proofs.Calls.{arg_at}
 use Rattle.id_laws.proofs.Seats.{OneSeat, one_opening, not_main, event_context, seat_other, live_path}
 use Rattle.id_laws.proofs.StartTells.{seats, opening_live}
-use Rattle.id_graph.specs.declared.instr.Op.TheVariants.{Enter as EnterOp}
 use Rattle.id_runs.proofs.Enters.{entered_by}
 use Rattle.id_laws.proofs.AllTell.{fired_part}
 use Rattle.id_laws.proofs.ValidCounts.{differ_at as place_once}
@@ -73,6 +75,9 @@ use Rattle.id_runs.proofs.Serials.{contexts_apart}
 use Rattle.id_runs.proofs.SentOnce.{sent_once}
 use Rattle.id_runs.proofs.Waiting.{has_fired}
 use Rattle.id_record.specs.Events.{tag_of}
+
+same_port : {t u : Tag} {p q : Port} {v w : Value} → Token t p v ≡ Token u q w → p ≡ q
+same_port h = cc
 
 true_false : true ≡ false → ⊥
 true_false h = cc
@@ -90,9 +95,13 @@ param_no_program h = cc
 
 abbrev tag_of_key : Key → Tag
 tag_of_key (AtPort t p) = t
+tag_of_key (ByFetch t) = t
+tag_of_key (ByStore t) = t
 
 abbrev port_of_key : Key → Port
 port_of_key (AtPort t p) = p
+port_of_key (ByFetch t) = Zero
+port_of_key (ByStore t) = Zero
 
 module _ (P : Checked) (g : Parts) (number : ℕ → ℕ → ℕ) (numbered : Numbered P g number) where
   differ_at : (m : ℕ) (b : Truth) (o : Option Instr) → slice_get g.instrs m ≡ o → AllDiffer (option_map_or (arcs_on b) o [])
@@ -112,14 +121,14 @@ is_return _ = false
 -- ---- two ways to one port are of one event
 
 module _ (S : Source) (number : ℕ → ℕ → ℕ) (run : List Event) (known : IsKnown S.checked) (seats : OneSeat S number run) (once : FiresOnce run) (speak : AllSpeak S number run) (steps : Stepping S number run) (g : Parts) (numbered : Numbered S.checked g number)
-    (apart : ContextsApart run) where
+    (apart : ContextsApart run) (replies_once : (t : Tag) (v v' : Value) (e e' : Event) → Replies run t v e → Replies run t v' e' → e ≡ e') where
   abbrev main : ℕ
   main = main_head S.checked
 
   main_is : node S.checked main ≡ Head
   main_is = let d = known.main in ((known.table).head_is (S.checked).main d.name main d.body d.result d.within d.node).0
 
-  input_is : {b : ℕ} {v : SourceValue} → IsInput S b v → IsParam (node S.checked b)
+  input_is : {b : ℕ} {v : Constant} → IsInput S b v → IsParam (node S.checked b)
   input_is {b} x =
       let among = Among-from_at b (params_at (rows S.checked) main) x.number x.param in
       (a_param (rows S.checked) main (length (rows S.checked)) b among).param
@@ -391,6 +400,10 @@ module _ (S : Source) (number : ℕ → ℕ → ℕ) (run : List Event) (known :
           let one = iterations (node S.checked s.row) refl from steps_s (subst (λ (o : Origin). Steps (node S.checked o.row) b.iteration l) (sym from) steps_t) in
           one_firing once (λ i. tag_in (record { context = contexts i; iteration = one i }) (number (from i).row (from i).part)) x.fires y.fires
 
+  -- where a reply comes stands a fetch, and no other
+  not_there : (f : Node → Truth) {n n' t i : ℕ} → f (Fetch t i) ≡ false → node S.checked n ≡ Fetch t i → n ≡ n' → f (node S.checked n') ≡ true → ⊥
+  not_there f other is same there_so = true_false (sym there_so ∙ ap (λ z. f (node S.checked z)) (sym same) ∙ ap f is ∙ other)
+
   first_iteration : {b c : Context} {k : ℕ} → at_iteration b k ≡ at_iteration c 0 → k ≡ 0
   first_iteration e = ap (λ (z : Activation). z.iteration) e
 
@@ -446,6 +459,33 @@ module _ (S : Source) (number : ℕ → ℕ → ℕ) (run : List Event) (known :
       by e a n part p v (by_back c h _ _ _ back x is) e' a' n' part' p' v' (by_back c' h' _ _ _ back' x' is') sa sn sp sq =
           let one = returns_once back back' sa sn in
           sym is ∙ one_firing once (λ i. tag_in (at_iteration (one.0 i) 0) (number (one.1 i) 1)) x x' ∙ is'
+      by e a n part p v (by_arc _ s _ _ _ _ feeds x is) e' a' n' part' p' v' (by_reply _ _ t' i' _ within' at' answer') sa sn sp sq =
+          absurd (reply_unfed at' (moved_feed feeds sn sp sq))
+      by e a n part p v (by_move u s k _ _ _ _ feeds x is) e' a' n' part' p' v' (by_reply _ _ t' i' _ within' at' answer') sa sn sp sq =
+          absurd (reply_unfed at' (moved_feed feeds sn sp sq))
+      by e a n part p v (by_send _ c m j i _ _ _ sends o x is) e' a' n' part' p' v' (by_reply _ _ t' i' _ within' at' answer') sa sn sp sq =
+          absurd (not_there is_entry refl at' (sym sn) (sent_entry sends))
+      by e a n part p v (by_enter _ i h q c within enter x is) e' a' n' part' p' v' (by_reply _ _ t' i' _ within' at' answer') sa sn sp sq =
+          absurd (not_there begins_block refl at' (sym sn) (entered_head within enter))
+      by e a n part p v (by_continuation _ i h q c within enter x is) e' a' n' part' p' v' (by_reply _ _ t' i' _ within' at' answer') sa sn sp sq =
+          absurd (not_there begins_block refl at' (sym sn) (entered_head within enter))
+      by e a n part p v (by_back c h _ _ _ back x is) e' a' n' part' p' v' (by_reply _ _ t' i' _ within' at' answer') sa sn sp sq =
+          absurd (not_there is_return refl at' (sym sn) (returned back))
+      by e a n part p v (by_reply _ _ t i _ within at answer) e' a' n' part' p' v' (by_arc _ s' _ _ _ _ feeds' x' is') sa sn sp sq =
+          absurd (reply_unfed at (moved_feed feeds' (sym sn) (sym sp) (sym sq)))
+      by e a n part p v (by_reply _ _ t i _ within at answer) e' a' n' part' p' v' (by_move u' s' k' _ _ _ _ feeds' x' is') sa sn sp sq =
+          absurd (reply_unfed at (moved_feed feeds' (sym sn) (sym sp) (sym sq)))
+      by e a n part p v (by_reply _ _ t i _ within at answer) e' a' n' part' p' v' (by_send _ c' m' j' i' _ _ _ sends' o' x' is') sa sn sp sq =
+          absurd (not_there is_entry refl at sn (sent_entry sends'))
+      by e a n part p v (by_reply _ _ t i _ within at answer) e' a' n' part' p' v' (by_enter _ i' h' q' c' within' enter' x' is') sa sn sp sq =
+          absurd (not_there begins_block refl at sn (entered_head within' enter'))
+      by e a n part p v (by_reply _ _ t i _ within at answer) e' a' n' part' p' v' (by_continuation _ i' h' q' c' within' enter' x' is') sa sn sp sq =
+          absurd (not_there begins_block refl at sn (entered_head within' enter'))
+      by e a n part p v (by_reply _ _ t i _ within at answer) e' a' n' part' p' v' (by_back c' h' _ _ _ back' x' is') sa sn sp sq =
+          absurd (not_there is_return refl at sn (returned back'))
+      by e a n part p v (by_reply _ _ t i _ within at answer) e' a' n' part' p' v' (by_reply _ _ t' i' _ within' at' answer') sa sn sp sq =
+          replies_once (tag_in a' (number n' 2)) v v' e e' (subst (λ (z : Activation × ℕ). Replies run (tag_in z.0 (number z.1 2)) v e) {x = (a, n)}
+          {y = (a', n')} (λ j. (sa j, sn j)) answer) answer'
 
   -- no arc that stays goes to where the start sends, and no block returns there
   started_at : {n part : ℕ} {p : Port} {w : Value} → StartsAt S number n part p w
@@ -474,6 +514,8 @@ module _ (S : Source) (number : ℕ → ℕ → ℕ) (run : List Event) (known :
   not_started e a n part p v w (by_continuation _ i h q c within enter x is) start main_one =
       not_main S known g number numbered run apart x (ap (λ (z : Activation). z.context) main_one)
   not_started e a n part p v w (by_back c h _ _ _ back x is) start main_one = no_return start (returned back)
+  not_started e a n part p v w (by_reply _ _ t i _ within at answer) start main_one =
+      elim (started_at start).1 [ inl entry ↦ not_there is_entry refl at refl entry | inr head ↦ not_there begins_block refl at refl head ]
 
 -- ---- each port gets one token
 
@@ -510,6 +552,11 @@ second_port S number run a v n part r o (moves_name j is less) one h = subst (λ
 second_port S number run a v n part r o (advances is) one h = subst (λ z. Tells S number run a (wants S.checked n r z 0 One) v) is h
 second_port S number run a v n part r o (resets is) one h = subst (λ z. Tells S number run a (wants S.checked n r z 0 One) v) is h
 second_port S number run a v n part r o (gets_last is) one h = subst (λ z. Tells S number run a (wants S.checked n r z 0 One) v) is h
+second_port S number run a v n part r o (allocates is) one h = true_false one
+second_port S number run a v n part r o (addresses is) one h = true_false one
+second_port S number run a v n part r o (fetches is) one h = subst (λ z. Tells S number run a (wants S.checked n r z 1 One) v) is h
+second_port S number run a v n part r o (gets_reply is) one h = subst (λ z. Tells S number run a (wants S.checked n r z 2 One) v) is h
+second_port S number run a v n part r o (stores is) one h = true_false one
 second_port S number run a v n part r o (answers is) one h = subst (λ z. Tells S number run a (wants S.checked n r z 0 One) v) is h
 
 module _ (S : Source) (g : Parts) (number : ℕ → ℕ → ℕ) (numbered : Numbered S.checked g number) (known : IsKnown S.checked) (count : ℕ)
@@ -527,38 +574,102 @@ module _ (S : Source) (g : Parts) (number : ℕ → ℕ → ℕ) (numbered : Num
       let number_is : t.instr ≡ number x.row x.part = ap (λ (y : Payload). (tag_of y).instr) x.is in
       let both : Some m.instr ≡ Some i = sym m.at ∙ ap (slice_get g.instrs) (sym number_is) ∙ at in
       let op_is : i.op ≡ op_by number part.form = ap (λ (z : Instr). z.op) (sym (some_is both)) ∙ m.op in
-      let port_is : One ≡ x.port = ap port_of x.is in
+      let port_is : One ≡ x.port = same_port x.is in
       absurd (second_port S number run x.activation x.value x.row x.part (region S.checked x.row) part.form d.does (ap two_ports (sym op_is) ∙ one)
       (subst (λ q. Tells S number run x.activation (topic_at S.checked x.row x.part q) x.value) (sym port_is) x.tells))
 
-  -- two events that send for one key are one
-  one_sender : (s : World) (run : List Event) → Reach g S.inputs count s run → FiresOnce run → (e e' : Event) → Among e run → Among e' run → (x y : Payload)
-      → Among x (sends_of g e) → Among y (sends_of g e') → key_of x ≡ key_of y → e ≡ e'
-  one_sender s run r once e e' among among' x y h k same =
-      let a = came_by S g number numbered count s run r known (tell s run r) e among x h in
-      let b = came_by S g number numbered count s run r known (tell s run r) e' among' y k in
+  -- the answer to a read is sent once
+  replies_once : (s : World) (run : List Event) → Reach g S.inputs count s run → Few run → (t : Tag) (v v' : Value) (e e' : Event) → Replies run t v e
+      → Replies run t v' e' → e ≡ e'
+  replies_once s run r few = one_reply run (cell_at count s) (cells_exact g S.inputs count s run r) few
+
+  -- two events that send tokens to one port are one
+  one_token : (s : World) (run : List Event) → Reach g S.inputs count s run → Few run → FiresOnce run → (e e' : Event) (x y : Payload)
+      → CameBy S number run e x → CameBy S number run e' y → key_of x ≡ key_of y → e ≡ e'
+  one_token s run r few once e e' x y a b same =
       let keys : AtPort (tag_in a.activation (number a.row a.part)) a.port ≡ AtPort (tag_in b.activation (number b.row b.part)) b.port = sym (ap key_of a.is) ∙ same ∙ ap key_of b.is in
       let tags = ap tag_of_key keys in
       let parts = one_part numbered a.is_part b.is_part (ap (λ (t : Tag). t.instr) tags) in
       let acts : a.activation ≡ b.activation = ap activation_of tags in
       let ports : a.port ≡ b.port = ap port_of_key keys in
-      one_way S number run known (seats S known g number numbered run count s r) once (speak s run r) (stepping S g number numbered count s run r (tell s run r)) g numbered (contexts_apart g S.inputs count s run r) e e' a.activation a.row a.part a.port a.value b.value a.way
+      one_way S number run known (seats S known g number numbered run count s r) once (speak s run r)
+      (stepping S g number numbered count s run r (tell s run r)) g numbered (contexts_apart g S.inputs count s run r)
+      (replies_once s run r few) e e' a.activation a.row a.part a.port a.value b.value a.way
       (subst (λ (z : Activation × (ℕ × (ℕ × Port))). Way S number run e' z.0 z.1.0 z.1.1.0 z.1.1.1 b.value) {x = (b.activation, (b.row, (b.part, b.port)))} {y = (a.activation, (a.row, (a.part, a.port)))}
       (λ i. (sym acts i, (sym parts.0 i, (sym parts.1 i, sym ports i)))) b.way)
 
+  -- so are two that ask for one fetch, and two that store for one store
+  one_asker : (run : List Event) → FiresOnce run → (e e' : Event) (x y : Payload) → AskedBy S number run e x → AskedBy S number run e' y → key_of x ≡ key_of y
+      → e ≡ e'
+  one_asker run once e e' x y a b same =
+      let keys : ByFetch (tag_in a.activation (number a.row 2)) ≡ ByFetch (tag_in b.activation (number b.row 2)) = sym (ap key_of a.is) ∙ same
+      ∙ ap key_of b.is in
+      let tags = ap tag_of_key keys in
+      let parts = one_part numbered (part_of a.within (gets_reply a.node)) (part_of b.within (gets_reply b.node)) (ap (λ (t : Tag). t.instr) tags) in
+      let acts : a.activation ≡ b.activation = ap activation_of tags in
+      sym a.event_is ∙ one_firing once (λ i. tag_in (acts i) (number (parts.0 i) 1)) a.fires b.fires ∙ b.event_is
+
+  one_storer : (run : List Event) → FiresOnce run → (e e' : Event) (x y : Payload) → StoredBy S number run e x → StoredBy S number run e' y
+      → key_of x ≡ key_of y → e ≡ e'
+  one_storer run once e e' x y a b same =
+      let keys : ByStore (tag_in a.activation (number a.row 0)) ≡ ByStore (tag_in b.activation (number b.row 0)) = sym (ap key_of a.is) ∙ same
+      ∙ ap key_of b.is in
+      sym a.event_is ∙ one_firing once (ap tag_of_key keys) a.fires b.fires ∙ b.event_is
+
+  port_no_fetch : {t u : Tag} {p : Port} → AtPort t p ≡ ByFetch u → ⊥
+  port_no_fetch e = cc
+
+  port_no_store : {t u : Tag} {p : Port} → AtPort t p ≡ ByStore u → ⊥
+  port_no_store e = cc
+
+  fetch_no_store : {t u : Tag} → ByFetch t ≡ ByStore u → ⊥
+  fetch_no_store e = cc
+
+  -- two events that send for one key are one
+  one_sender : (s : World) (run : List Event) → Reach g S.inputs count s run → Few run → FiresOnce run → (e e' : Event) → Among e run → Among e' run
+      → (x y : Payload)
+      → Among x (sends_of g e) → Among y (sends_of g e') → key_of x ≡ key_of y → e ≡ e'
+  one_sender s run r few once e e' among among' x y h k same =
+      by (sent_so S g number numbered count s run r known (tell s run r) e among x h)
+      (sent_so S g number numbered count s run r known (tell s run r) e' among' y k)
+    where
+      by : SentSo S number run e x → SentSo S number run e' y → e ≡ e'
+      by (as_token a) (as_token b) = one_token s run r few once e e' x y a b same
+      by (as_read a) (as_read b) = one_asker run once e e' x y a b same
+      by (as_write a) (as_write b) = one_storer run once e e' x y a b same
+      by (as_token a) (as_read b) = absurd (port_no_fetch (sym (ap key_of a.is) ∙ same ∙ ap key_of b.is))
+      by (as_token a) (as_write b) = absurd (port_no_store (sym (ap key_of a.is) ∙ same ∙ ap key_of b.is))
+      by (as_read a) (as_token b) = absurd (port_no_fetch (sym (ap key_of b.is) ∙ sym same ∙ ap key_of a.is))
+      by (as_read a) (as_write b) = absurd (fetch_no_store (sym (ap key_of a.is) ∙ same ∙ ap key_of b.is))
+      by (as_write a) (as_token b) = absurd (port_no_store (sym (ap key_of b.is) ∙ sym same ∙ ap key_of a.is))
+      by (as_write a) (as_read b) = absurd (fetch_no_store (sym (ap key_of b.is) ∙ sym same ∙ ap key_of a.is))
+
   -- no event sends for a key of the start
-  not_at_start : (s : World) (run : List Event) → Reach g S.inputs count s run → FiresOnce run → (e : Event) → Among e run → (x y : Payload)
+  not_at_start : (s : World) (run : List Event) → Reach g S.inputs count s run → Few run → FiresOnce run → (e : Event) → Among e run → (x y : Payload)
       → Among x (sends_of g e) → Among y (starting g S.inputs) → key_of x ≡ key_of y → ⊥
-  not_at_start s run r once e among x y h start same =
-      let a = came_by S g number numbered count s run r known (tell s run r) e among x h in
-      let b = started S g number numbered known y start in
-      let keys : AtPort (tag_in a.activation (number a.row a.part)) a.port ≡ AtPort (tag_in main_activation (number b.row b.part)) b.port = sym (ap key_of a.is) ∙ same ∙ ap key_of b.is in
-      let parts = one_part numbered a.is_part b.is_part (ap (λ (j : Key). (tag_of_key j).instr) keys) in
-      let ports : a.port ≡ b.port = ap port_of_key keys in
-      not_started S number run known (seats S known g number numbered run count s r) once (speak s run r) (stepping S g number numbered count s run r (tell s run r)) g numbered (contexts_apart g S.inputs count s run r) e a.activation a.row a.part a.port a.value b.value a.way
-      (subst (λ (z : ℕ × (ℕ × Port)). StartsAt S number z.0 z.1.0 z.1.1 b.value) {x = (b.row, (b.part, b.port))} {y = (a.row, (a.part, a.port))}
-      (λ i. (sym parts.0 i, (sym parts.1 i, sym ports i))) b.starts_at)
-      (ap (λ (j : Key). activation_of (tag_of_key j)) keys)
+  not_at_start s run r few once e among x y h start same =
+      by (sent_so S g number numbered count s run r known (tell s run r) e among x h)
+    where
+      b : Started S g number numbered known y
+      b = started S g number numbered known y start
+
+      of_token : CameBy S number run e x → ⊥
+      of_token a =
+          let keys : AtPort (tag_in a.activation (number a.row a.part)) a.port ≡ AtPort (tag_in main_activation (number b.row b.part)) b.port = sym
+          (ap key_of a.is) ∙ same ∙ ap key_of b.is in
+          let parts = one_part numbered a.is_part b.is_part (ap (λ (j : Key). (tag_of_key j).instr) keys) in
+          let ports : a.port ≡ b.port = ap port_of_key keys in
+          not_started S number run known (seats S known g number numbered run count s r) once (speak s run r)
+          (stepping S g number numbered count s run r (tell s run r)) g numbered (contexts_apart g S.inputs count s run r)
+          (replies_once s run r few) e a.activation a.row a.part a.port a.value b.value a.way
+          (subst (λ (z : ℕ × (ℕ × Port)). StartsAt S number z.0 z.1.0 z.1.1 b.value) {x = (b.row, (b.part, b.port))} {y = (a.row, (a.part, a.port))}
+          (λ i. (sym parts.0 i, (sym parts.1 i, sym ports i))) b.starts_at)
+          (ap (λ (j : Key). activation_of (tag_of_key j)) keys)
+
+      by : SentSo S number run e x → ⊥
+      by (as_token a) = of_token a
+      by (as_read a) = port_no_fetch (sym (ap key_of b.is) ∙ sym same ∙ ap key_of a.is)
+      by (as_write a) = port_no_store (sym (ap key_of b.is) ∙ sym same ∙ ap key_of a.is)
 
   -- an `Enter` makes another context than its own
   elsewhere_by : (s : World) (run : List Event) → Reach g S.inputs count s run → (t : Tag) (c : Context) → FiresAs run t (Entered c) → c ≡ t.context → ⊥
@@ -582,6 +693,8 @@ module _ (S : Source) (g : Parts) (number : ℕ → ℕ → ℕ) (numbered : Num
       → c ≡ (tag_of (payload_of e)).context → ⊥
   elsewhere s run r (Took n t p v Waits) among c entering same = absurd entering
   elsewhere s run r (Took n t p v Blocked) among c entering same = absurd entering
+  elsewhere s run r (Looked n d t a) among c entering same = absurd entering
+  elsewhere s run r (Wrote n d v w a) among c entering same = absurd entering
   elsewhere s run r (Took n t p v (Fires ops f)) among c entering same =
       elsewhere_by s run r t c (subst (FiresAs run t) entering (record { element = n; port = p; value = v; operands = ops; among = among })) same
 
@@ -589,8 +702,9 @@ module _ (S : Source) (g : Parts) (number : ℕ → ℕ → ℕ) (numbered : Num
   pub exclusive : Exclusive g S.inputs count
   exclusive = record {
     first_port = first_port;
-    sends_once = λ s run r few once e among k. sent_once g (differ_each S.checked g number numbered) e k (elsewhere s run r e among);
+    sends_once = λ s run r few once e among k. sent_once g S.inputs count (differ_each S.checked g number numbered) s run r few e among k
+        (elsewhere s run r e among);
     starts_once = starts_once S g number numbered known;
-    not_at_start = λ s run r few once e among x y h k. not_at_start s run r once e among x y h k;
-    one_sender = λ s run r few once e e' among among' x y h k. one_sender s run r once e e' among among' x y h k;
+    not_at_start = λ s run r few once e among x y h k. not_at_start s run r few once e among x y h k;
+    one_sender = λ s run r few once e e' among among' x y h k. one_sender s run r few once e e' among among' x y h k;
   }

@@ -1,8 +1,7 @@
 -- What the context of a live region was opened for: main's body, or the block whose head the region's is, or stands in.
-use Rattle.std.proofs.Common.{◌≡◌, ◌⊎◌, inl, inr, ℕ, suc, ◌+◌, ◌-◌, ◌<◌, true, List, length, refl, sym, ◌∙◌, ap, subst, arith}
+use Rattle.std.proofs.Common.{◌≡◌, inl, ℕ, ◌+◌, ◌-◌, ◌<◌, List, length, refl, sym, ◌∙◌, ap, subst, arith}
 use Rattle.id_parts.specs.declared.row.Region.{Region}
 use Rattle.id_parts.specs.declared.row.Node.TheVariants.{Head, Enter, Program, Start, LoopHead, Switches}
-use Rattle.id_parts.specs.Rows.{arm_at, top}
 use Rattle.id_parts.specs.Tables.{HasPart, begins_block}
 use Rattle.id_check.specs.declared.checked.Checked.{Checked}
 use Rattle.id_check.specs.Programs.{place, region, rows}
@@ -11,7 +10,7 @@ use Rattle.id_tag.specs.declared.Context.{Context}
 use Rattle.id_meaning.specs.declared.Path.{Path}
 use Rattle.id_meaning.specs.Sources.{Source}
 use Rattle.id_meaning.specs.Facts.{below}
-use Rattle.id_build.specs.Rows.{block, called, node}
+use Rattle.id_build.specs.Rows.{block, node}
 use Rattle.id_build.specs.Schemas.{Numbered}
 use Rattle.id_runs.specs.Activations.{Activation, at_iteration, main_context}
 use Rattle.id_runs.specs.Events.{Event}

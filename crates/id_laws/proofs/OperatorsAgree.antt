@@ -15,7 +15,9 @@ use Rattle.id_graph.specs.declared.instr.Dyadic.{Dyadic}
 use Rattle.id_graph.specs.declared.instr.Dyadic.TheVariants as dyadic
 use Rattle.id_graph.specs.declared.instr.PortKind.{PortKind}
 use Rattle.id_graph.specs.declared.instr.PortKind.TheVariants as port
+use Rattle.id_tag.specs.declared.Structure.{Structure}
 use Rattle.id_tag.specs.declared.Value.{Value}
+use Rattle.id_tag.specs.declared.Value.TheVariants as value
 use Rattle.id_ops.specs.declared.Operands.TheVariants.{One, Two}
 use Rattle.id_ops.specs.declared.Fired.{Fired}
 use Rattle.id_ops.specs.declared.Fired.TheVariants.{Nothing}
@@ -35,6 +37,23 @@ pub alone_nothing : (o : Dyadic) (v : Value) → fired_binary o (One v) ≡ Noth
 alone_nothing (dyadic.Arithmetic o) v = refl
 alone_nothing (dyadic.Comparison o) v = refl
 alone_nothing (dyadic.Truth o) v = refl
+
+-- no operator does anything with a structure
+pub unary_nothing : (o : UnaryOp) (s : Structure) → fired_unary o (One (value.Structure s)) ≡ Nothing
+unary_nothing o s = refl
+
+pub left_nothing : (o : Dyadic) (s : Structure) (w : Value) → fired_binary o (Two (value.Structure s) w) ≡ Nothing
+left_nothing (dyadic.Arithmetic o) s w = refl
+left_nothing (dyadic.Comparison o) s w = refl
+left_nothing (dyadic.Truth o) s w = refl
+
+pub right_nothing : (o : Dyadic) (v : Value) (s : Structure) → fired_binary o (Two v (value.Structure s)) ≡ Nothing
+right_nothing (dyadic.Arithmetic o) (value.Int n) s = refl
+right_nothing (dyadic.Arithmetic o) _ s = refl
+right_nothing (dyadic.Comparison o) (value.Int n) s = refl
+right_nothing (dyadic.Comparison o) _ s = refl
+right_nothing (dyadic.Truth o) (value.Bool b) s = refl
+right_nothing (dyadic.Truth o) _ s = refl
 
 compared : (o : Comparison) (c d : Constant)
     → Agrees (fired_binary (dyadic.Comparison o) (Two (constant_value c) (constant_value d))) (result_of_binary (class.Comparison o) c d)

@@ -2,13 +2,13 @@
 use Rattle.std.proofs.Common.{◌≡◌, Bool as Truth, ℕ, zero, suc, ◌<◌, ◌+◌, true, false, Some, List, length, get_or, refl, sym, ◌∙◌, ap, subst, arith}
 use Rattle.id_parts.specs.declared.row.Region.{Region}
 use Rattle.id_parts.specs.declared.row.Node.{Node}
-use Rattle.id_parts.specs.declared.row.Node.TheVariants.{Head, Param, Literal, Name, Unary, Binary, Split, If, Enter, Arg, Call, Block}
-use Rattle.id_parts.specs.declared.row.Node.TheVariants.{Binding, Def, Program, Switches, LoopHead, Next, Loop}
+use Rattle.id_parts.specs.declared.row.Node.TheVariants.{Param, Literal, Name, Unary, Binary, If, Call, Block}
+use Rattle.id_parts.specs.declared.row.Node.TheVariants.{Binding, Program, Next, Loop, Array, Fetch}
 use Rattle.id_parts.specs.Rows.{arm_at, at, top}
 use Rattle.id_parts.specs.Tables.{HasPart, HasNear, HasOperand, is_binder, is_block, is_expression}
 use Rattle.id_check.specs.declared.checked.Checked.{Checked}
 use Rattle.id_check.specs.Programs as checked
-use Rattle.id_check.specs.Programs.{Stands, place, region, rows}
+use Rattle.id_check.specs.Programs.{place, region, rows}
 use Rattle.id_tag.specs.declared.Value.{Value}
 use Rattle.id_meaning.specs.declared.Fact.TheVariants.{Has}
 use Rattle.id_meaning.specs.Sources.{Source}
@@ -167,6 +167,10 @@ module _ (S : Source) (known : IsKnown S.checked) (number : ℕ → ℕ → ℕ)
       go (If s x y) is = own (If s x y) is refl refl
       go (Call s c) is = own (Call s c) is refl refl
       go (Loop g u l) is = own (Loop g u l) is refl refl
+      go (Array x y) is = own (Array x y) is refl refl
+      go (Fetch x y) is =
+          subst (λ z. Tells S number run a z v)
+          (ap (λ z. topic_of P (origin_of P w (region P w) z)) is ∙ ap (λ z. speaks_of P w (region P w) z 2 true) is) tells
       go (Block b) is = let bad : true ≡ false = sym (ap is_block is) ∙ no_block in cc
       go _ is = absurd (true_false (sym expression ∙ ap is_expression is))
 

@@ -1,12 +1,15 @@
 -- A quiet run of a schemas' graph has shown everything.
-use Rattle.std.proofs.Common.{◌≡◌, inl, inr, ℕ, ◌<◌, Bool as Truth, true, false, cond, Option, Some, None, List, [], ◌∷◌, length, slice_get, refl, sym}
+use Rattle.std.proofs.Common.{◌≡◌, inl, inr, ℕ, ◌<◌, Bool as Truth, true, false, cond, Option, Some, None, List, [], ◌∷◌, length, slice_get, ℤ, refl, sym}
 use Rattle.std.proofs.Common.{◌∙◌, ap, subst}
 use Rattle.std.specs.Option.{option_and_then}
 use Rattle.id_value.specs.declared.Kind.{Kind}
+use Rattle.id_value.specs.Bounds.{is_inside}
+use Rattle.id_value.specs.declared.Constant.TheVariants as constants
 use Rattle.id_value.specs.declared.FaultKind.{FaultKind}
+use Rattle.id_value.specs.declared.FaultKind.TheVariants.{BadBounds, OutOfBounds}
 use Rattle.id_list.specs.List.{Among}
 use Rattle.id_list.proofs.AmongLemmas.{Among-from_at}
-use Rattle.id_parts.specs.declared.row.Node.TheVariants.{Head, Unary, Binary}
+use Rattle.id_parts.specs.declared.row.Node.TheVariants.{Head, Unary, Binary, Array, Fetch, Address}
 use Rattle.id_parts.specs.Rows.{top}
 use Rattle.id_parts.specs.Tables.{HasOperand, is_binder}
 use Rattle.id_check.specs.declared.checked.Checked.{Checked}
@@ -16,11 +19,13 @@ use Rattle.id_graph.specs.declared.dests.Port.TheVariants.{Zero, One}
 use Rattle.id_graph.specs.declared.instr.Op.{Op}
 use Rattle.id_graph.specs.declared.instr.Op.TheVariants as op
 use Rattle.id_graph.specs.declared.instr.PortKind.{PortKind}
-use Rattle.id_graph.specs.declared.instr.PortKind.TheVariants as kinds
 use Rattle.id_graph.specs.declared.instr.Instr.{Instr}
 use Rattle.id_graph.specs.Ports.{two_ports}
 use Rattle.id_graph.specs.Graph.{Parts}
 use Rattle.id_tag.specs.Kinds.{kind_of, same_kind}
+use Rattle.id_bank.specs.declared.WriteAnswer.TheVariants.{Second}
+use Rattle.id_tag.specs.declared.Cell.{Cell}
+use Rattle.id_tag.specs.declared.Structure.{Structure}
 use Rattle.id_tag.specs.declared.Tag.{Tag}
 use Rattle.id_meaning.specs.declared.Path.{Path}
 use Rattle.id_tag.specs.declared.Value.{Value}
@@ -31,14 +36,15 @@ use Rattle.id_ops.specs.declared.Operands.{Operands}
 use Rattle.id_ops.specs.declared.Operands.TheVariants.{One as Alone, Two}
 use Rattle.id_ops.specs.declared.Fresh.{Fresh}
 use Rattle.id_ops.specs.declared.Fired.{Fired}
-use Rattle.id_ops.specs.declared.Fired.TheVariants.{Out, Side, Sent, Moved, Failed, Nothing, Entered}
-use Rattle.id_ops.specs.Operators.{fired, fired_by, fired_merge}
+use Rattle.id_ops.specs.declared.Fired.TheVariants.{Out, Side, Sent, Moved, Asked, Stored, Failed, Nothing, Entered}
+use Rattle.id_ops.specs.Operators.{constant_value, fired, fired_by, fired_merge}
 use Rattle.id_valid.specs.Validator.{is_value}
 use Rattle.id_record.specs.declared.step.Step.TheVariants.{Went, Fault}
 use Rattle.id_record.specs.declared.step.Fault.TheVariants.{Operator}
 use Rattle.id_core.specs.Events.{EventView}
-use Rattle.id_core.specs.Machines.{World, IsQuiet, main_tag, token_value}
+use Rattle.id_core.specs.Machines.{World, IsQuiet, main_tag}
 use Rattle.id_core.specs.Observed as shown
+use Rattle.id_meaning.specs.declared.Site.{Site}
 use Rattle.id_meaning.specs.declared.SourceValue.{SourceValue}
 use Rattle.id_meaning.specs.declared.SourceValue.TheVariants as source
 use Rattle.id_meaning.specs.declared.SourceFault.{SourceFault}
@@ -47,15 +53,16 @@ use Rattle.id_meaning.specs.declared.Fact.{Fact}
 use Rattle.id_meaning.specs.declared.Fact.TheVariants.{Has}
 use Rattle.id_meaning.specs.Names.{IsNameValue}
 use Rattle.id_meaning.specs.Sources.{Source, AreInputs, body_of, main_body, value_kind, value_of}
-use Rattle.id_meaning.specs.Facts.{outermost, FaultRule, unary_fails, binary_fails}
+use Rattle.id_meaning.specs.Facts.{outermost, FaultRule, unary_fails, binary_fails, bad_bounds, out_of_fetch, out_of_store, second_store}
 use Rattle.id_meaning.specs.Rounds.{Every, Holds, FaultFree, Answers, IsAnswer}
 use Rattle.id_build.specs.declared.arc.Origin.{Origin}
 use Rattle.id_desugar.specs.Ends.{end_of}
-use Rattle.id_build.specs.Rows.{label, node, answer_row, binary_op, feed, feeds_of, origin, output, port_at, port_of, result_of}
+use Rattle.id_build.specs.Rows.{label, node, answer_row, binary_op, origin, output, port_at, port_of, result_of}
 use Rattle.id_build.specs.Rows as built
-use Rattle.id_build.specs.Schemas.{Numbered}
+use Rattle.id_build.specs.Schemas.{Feeds, Numbered}
 use Rattle.id_runs.specs.Activations.{Activation, main_activation, tag_in}
 use Rattle.id_runs.specs.Events.{Event, FiresAs, GivesOn, fired_event, payload_of}
+use Rattle.id_runs.specs.Cells.{WrittenBy}
 use Rattle.id_runs.specs.Runs.{Reach, handled}
 use Rattle.id_runs.specs.OneMessage.{Exclusive}
 use Rattle.id_runs.proofs.Meeting.{one_value}
@@ -63,19 +70,22 @@ use Rattle.id_runs.proofs.Waiting.{has_fired, OperandsHandled, one_handled, two_
 use Rattle.id_runs.proofs.RecordsOfRuns.{to_record, among_events, among_filter_map, filter_map_has, quiet_went}
 use Rattle.id_laws.specs.Laws.{IsComplete, events}
 use Rattle.id_laws.specs.Activations.{Live, at_start, Speaks, main_head}
-use Rattle.id_laws.specs.Carried.{Here, CarriedHas, speaker}
+use Rattle.id_laws.specs.Carried.{Here, CarriedHas, CarriedShape, Carried, speaker}
+use Rattle.id_laws.specs.Topics.{Addresses, of_fetch, of_store, StandsFor}
+use Rattle.id_laws.proofs.Naming.{stands_shown}
 use Rattle.id_laws.specs.Ways.{way_back}
 use Rattle.id_laws.proofs.Agreement.{agree_unary, agree_at}
-use Rattle.id_laws.proofs.Arcs.{returns, unary, binary}
+use Rattle.id_laws.proofs.Arcs.{returns, unary, binary, allocates, addresses}
 use Rattle.id_laws.proofs.Assumed.{IsKnown}
-use Rattle.id_laws.proofs.CarriedFacts.{carried, here_is, operand_spoken, body_region}
-use Rattle.id_laws.proofs.CarriedValues.{stands_is}
+use Rattle.id_laws.proofs.CarriedFacts.{address_part, carried, constant_spoken, here_is, one_structure, operand_spoken, body_region, said_at, structure_of}
+use Rattle.id_laws.proofs.CarriedValues.{sent_in, stands_constant}
 use Rattle.id_build.proofs.EndsLemmas.{end_is}
 use Rattle.id_laws.proofs.Firings.{PartFired, alone_fired, both_fired, came, sent_handled, start_handled}
 use Rattle.id_laws.proofs.HasKinds.{Has_kind, port_taking, operand_of, binder_thing, expression_thing}
 use Rattle.id_laws.proofs.Speakers.{expression_speaks, binder_speaks, fed_as}
 use Rattle.id_laws.proofs.Observing.{message_handled}
-use Rattle.id_laws.proofs.SoundAnswer.{answer_tells, brought_is, main_result, sound_answer}
+use Rattle.id_laws.proofs.QuietCells.{asks_shown, cells_shown, no_second as two_stores, none_found, structures_shown, waiting_only, waiting_shown}
+use Rattle.id_laws.proofs.SoundAnswer.{answer_tells, brought_is, sound_answer}
 use Rattle.id_laws.proofs.LabelsShow.{label_is, label_made, label_place}
 use Rattle.id_laws.proofs.Triggers.{one_activation, main_is, main_within}
 use Rattle.id_laws.proofs.Seats.{main_path}
@@ -83,20 +93,16 @@ use Rattle.id_laws.proofs.TagPaths.{path_shown}
 use Rattle.id_runs.proofs.Enters.{entered_by}
 
 -- a value goes to where a procedure returns values of its kind
-returned : (k : Kind) (v : SourceValue) (t : Tag) → value_kind v ≡ k
-    → cond (same_kind (kind_of (token_value v)) (port_of k)) (Sent t (token_value v)) Nothing ≡ Sent t (token_value v)
-returned k (source.Int n) t e = (λ i. cond (same_kind kinds.Int (port_of (sym e i))) (Sent t (value.Int n)) Nothing)
-returned k (source.Bool b) t e = (λ i. cond (same_kind kinds.Bool (port_of (sym e i))) (Sent t (value.Bool b)) Nothing)
+returned : {S : Source} {number : ℕ → ℕ → ℕ} {run : List Event} {w : Value} {v : SourceValue} → StandsFor S number run w v → (k : Kind) (t : Tag)
+    → value_kind v ≡ k
+    → cond (same_kind (kind_of w) (port_of k)) (Sent t w) Nothing ≡ Sent t w
+returned h k t e = sent_in h (port_of k) t (ap port_of (sym e))
 
 some_is : {A : Type 0} {x y : A} → Some x ≡ Some y → x ≡ y
 some_is h = cc
 
 none_some : {A : Type 0} {x : A} → None ≡ Some x → ⊥
 none_some h = cc
-
-value_back : (v : SourceValue) → shown.source_value (token_value v) ≡ Some v
-value_back (source.Int n) = refl
-value_back (source.Bool b) = refl
 
 first_of_some : {A : Type 0} (xs : List A) (x : A) → Among x xs → (y : A) × (slice_get xs 0 ≡ Some y)
 first_of_some [] x h = absurd h
@@ -118,6 +124,7 @@ true_false h = cc
 value_passes : (v : SourceValue) → is_value (port_of (value_kind v)) ≡ true
 value_passes (source.Int n) = refl
 value_passes (source.Bool b) = refl
+value_passes (source.Name x) = refl
 
 out_is : {u v : Value} → Out u ≡ Out v → u ≡ v
 out_is h = cc
@@ -150,6 +157,17 @@ module _ (S : Source) (g : Parts) (number : ℕ → ℕ → ℕ) (numbered : Num
   abbrev back_tag : Tag
   back_tag = tag_in main_activation (number (answer_row P) 0)
 
+  -- no write found another
+  no_second : (c : Cell) (v : Value) (w x : Tag) → WrittenBy run c v w (Second x) → ⊥
+  no_second = none_found S g number numbered known inputs count only s run r quiet
+
+  abbrev name_of : Structure → Site
+  name_of = shown.structure_in g s.elements
+
+  -- a value that stands for one is shown as that one
+  value_shown : {w : Value} {v : SourceValue} → StandsFor S number run w v → shown.source_value name_of w ≡ Some v
+  value_shown h = stands_shown S known g number numbered count s run r h
+
   answer_tag : back_tag ≡ main_tag 0
   answer_tag = ap main_tag numbered.answer_first
 
@@ -167,49 +185,58 @@ module _ (S : Source) (g : Parts) (number : ℕ → ℕ → ℕ) (numbered : Num
   main_body_is = ap (λ n. built.body_of (node P n)) main_end ∙ ap built.body_of (known.main).node ∙ sym (ap body_of (known.main).node)
 
   -- the value that main's body Has came to the answer
-  answer_sent : (v : SourceValue) → Answers S v → Among (Token (main_tag 0) Zero (token_value v)) (handled run)
+  answer_sent : (v : SourceValue) → Answers S v → (w : Value) × StandsFor S number run w v × Among (Token (main_tag 0) Zero w) (handled run)
   answer_sent v has =
-      let b = body_region S g number numbered known inputs count only s run r quiet.empty in
+      let b = body_region S g number numbered known inputs count only s run r quiet.empty no_second in
       let thing = expression_thing (node P (main_body P)) b.1 in
       let d = known.main in
       let body_is : main_body P ≡ d.body = ap body_of d.node in
       let kind_is : value_kind v ≡ d.result = some_is (sym (Has_kind S known inputs (main_body P) outermost v b.0 thing has) ∙ ap (kind_at P) body_is ∙ known.result_kind P.main main d) in
-      let c : CarriedHas S number run outermost (place P (main_body P)) v = carried S g number numbered known inputs count only s run r quiet.empty _ has in
-      let row_is = here_is S g number numbered known inputs count only s run r quiet.empty (c.here) (record { within = b.0; node = refl }) thing in
+      let c : CarriedHas S number run outermost (place P (main_body P)) v = carried S g number numbered known inputs count only s run r quiet.empty no_second _
+      has in
+      let row_is = here_is S g number numbered known inputs count only s run r quiet.empty no_second (c.here) (record { within = b.0; node = refl }) thing in
       let start : Live S number run main_activation (top main) = at_start in
       let one = one_activation S g number numbered known count only s run r quiet.empty (c.here).live start (c.here).path_of main_path in
       let from : speaker P (c.here).row ≡ origin P (main_body P) = ap (speaker P) row_is ∙ expression_speaks P known (main_body P) (node P (main_body P)) refl b.1 in
-      let said : Speaks S number run main_activation (origin P (built.body_of (node P (end_of P main)))) (token_value v) =
-      subst (λ (z : Activation × (Origin × Value)). Speaks S number run z.0 z.1.0 z.1.1) {x = ((c.here).activation, (speaker P (c.here).row, c.value))} {y = (main_activation, (origin P (built.body_of (node P (end_of P main))), token_value v))}
-      (λ i. (one i, ((from ∙ ap (origin P) (sym main_body_is)) i, stands_is c.stands i))) c.spoken in
+      let said : Speaks S number run main_activation (origin P (built.body_of (node P (end_of P main)))) c.value =
+      subst (λ (z : Activation × Origin). Speaks S number run z.0 z.1 c.value) {x = ((c.here).activation, speaker P (c.here).row)}
+      {y = (main_activation, origin P (built.body_of (node P (end_of P main))))}
+      (λ i. (one i, (from ∙ ap (origin P) (sym main_body_is)) i)) c.spoken in
       let is = main_is S g number numbered known count only s run r quiet.empty in
       let within = main_within S g number numbered known count only s run r quiet.empty in
-      let result = came S g number numbered known count only s run r quiet.empty main_activation (origin P (built.body_of (node P (end_of P main)))) main 1 One (token_value v) said
+      let result = came S g number numbered known count only s run r quiet.empty main_activation
+      (origin P (built.body_of (node P (end_of P main)))) main 1 One c.value said
       (fed_as P known (origin P (built.body_of (node P (end_of P main)))) main 1 One Head within is (inl refl)) in
       let continuation = start_handled S g number numbered known count only s run r quiet.empty way_back in
       let k = result_of (node P (end_of P main)) in
-      let fired_so = both_fired S g number numbered known count only s run r quiet.empty main_activation main 1 (op.Back (port_of k)) (value.Continuation back_tag) (token_value v) within (returns is) refl continuation result in
-      let gone = returned k v back_tag (kind_is ∙ sym main_kind) in
-      let out = sent_handled S g number numbered known count only s run r quiet.empty (subst (λ f. FiresAs run (tag_in main_activation (number main 1)) f) gone fired_so.fires) (Token back_tag Zero (token_value v)) (inl refl) in
-      subst (λ t. Among (Token t Zero (token_value v)) (handled run)) answer_tag out
+      let fired_so = both_fired S g number numbered known count only s run r quiet.empty main_activation main 1 (op.Back (port_of k))
+      (value.Continuation back_tag) c.value within (returns is) refl continuation result in
+      let gone = returned c.stands k back_tag (kind_is ∙ sym main_kind) in
+      let out = sent_handled S g number numbered known count only s run r quiet.empty
+      (subst (λ f. FiresAs run (tag_in main_activation (number main 1)) f) gone fired_so.fires) (Token back_tag Zero c.value) (inl refl) in
+      (c.value, c.stands, subst (λ t. Among (Token t Zero c.value) (handled run)) answer_tag out)
 
   -- so it is the answer that is shown
-  answer_shown : (v : SourceValue) → Answers S v → shown.answer s ≡ Some v
+  answer_shown : (v : SourceValue) → Answers S v → shown.answer g s ≡ Some v
   answer_shown v has =
-      let came_in = answer_sent v has in
+      let sent = answer_sent v has in
+      let w = sent.0 in
+      let came_in = sent.2 in
       let h = handled_by run _ came_in in
       let record_it = to_record g S.inputs count s run r h.0 h.1 in
-      let payload_is : (record_it.0).message.payload ≡ Token (main_tag 0) Zero (token_value v) = (record_it.2).payload ∙ sym h.2 in
-      let listed = filter_map_has (λ (u : EventView). shown.brought u.message.payload) (events s) record_it.0 (token_value v) (among_events s record_it.0 record_it.1) (ap shown.brought payload_is) in
-      let first = first_of_some (shown.answers (events s)) (token_value v) listed in
+      let payload_is : (record_it.0).message.payload ≡ Token (main_tag 0) Zero w = (record_it.2).payload ∙ sym h.2 in
+      let listed = filter_map_has (λ (u : EventView). shown.brought u.message.payload) (events s) record_it.0 w (among_events s record_it.0 record_it.1)
+      (ap shown.brought payload_is) in
+      let first = first_of_some (shown.answers (events s)) w listed in
       let event = among_filter_map (λ (u : EventView). shown.brought u.message.payload) (events s) first.0 (Among-from_at first.0 (shown.answers (events s)) 0 first.1) in
       let brought = brought_is (event.0).message.payload first.0 event.2 in
       let also : Among (Token (main_tag 0) brought.0 first.0) (handled run) = subst (λ x. Among x (handled run)) brought.1 (message_handled g S.inputs count s run r event.0 event.1) in
       let port_is = (answer_tells S known g number numbered count s run r brought.0 first.0 also).0 in
-      let same : first.0 ≡ token_value v = one_value g S.inputs count only s run r (main_tag 0) Zero first.0 (token_value v) (subst (λ p. Among (Token (main_tag 0) p first.0) (handled run)) port_is also) came_in in
-      ap (option_and_then shown.source_value) first.1 ∙ ap shown.source_value same ∙ value_back v
+      let same : first.0 ≡ w = one_value g S.inputs count only s run r (main_tag 0) Zero first.0 w
+      (subst (λ p. Among (Token (main_tag 0) p first.0) (handled run)) port_is also) came_in in
+      ap (option_and_then (shown.source_value name_of)) first.1 ∙ ap (shown.source_value name_of) same ∙ value_shown sent.1
 
-  answer_exact : (o : Option SourceValue) → shown.answer s ≡ o → IsAnswer S o
+  answer_exact : (o : Option SourceValue) → shown.answer g s ≡ o → IsAnswer S o
   answer_exact (Some v) e = sound_answer S known g number numbered count s run r v e
   answer_exact None e = λ v has. none_some (sym e ∙ answer_shown v has)
 
@@ -224,29 +251,96 @@ module _ (S : Source) (g : Parts) (number : ℕ → ℕ → ℕ) (numbered : Num
       let y : FiresAs run t (Failed k) = subst (λ f. FiresAs run t f) (fails x.fresh) x.fires in
       went_failed (quiet_went g S.inputs count s run r quiet (fired_event y) y.among)
 
+  -- each fact of the source is carried
+  carry : (f : Fact) → Holds S f → Carried S number run f
+  carry f h = carried S g number numbered known inputs count only s run r quiet.empty no_second f h
+
+  -- no index is outside
+  never_outside : {w : Value} {y : Site} {j lo hi : ℤ} (a : Activation) (n t i : ℕ) → n < length (rows P) → Addresses P n t i → is_inside lo hi j ≡ false
+      → CarriedShape S number run y lo hi → Feeds P (origin P t) n 0 Zero → Feeds P (origin P i) n 0 One
+      → StandsFor S number run w (source.Name y) → Speaks S number run a (origin P t) w → Speaks S number run a (origin P i) (value.Int j) → ⊥
+  never_outside {w} {y} {j} {lo} {hi} a n t i within parts out shaped to_target to_index stands target index =
+      let c = structure_of S g number numbered known inputs count only s run r quiet.empty no_second stands refl in
+      let same : shaped.structure ≡ c.0 = one_structure S g number numbered known inputs count only s run r quiet.empty no_second shaped.named c.2 in
+      let low : lo ≡ (c.0).low = shaped.low ∙ ap (λ (y : Structure). y.low) same in
+      let high : hi ≡ (c.0).high = shaped.high ∙ ap (λ (y : Structure). y.high) same in
+      let bad : is_inside (c.0).low (c.0).high j ≡ false = (λ k. is_inside (sym low k) (sym high k) j) ∙ out in
+      let left = came S g number numbered known count only s run r quiet.empty a (origin P t) n 0 Zero (value.Structure c.0)
+      (subst (Speaks S number run a (origin P t)) c.1 target) to_target in
+      let right = came S g number numbered known count only s run r quiet.empty a (origin P i) n 0 One (value.Int j) index to_index in
+      no_failure a n 0 op.Address (Two (value.Structure c.0) (value.Int j)) OutOfBounds
+      (both_fired S g number numbered known count only s run r quiet.empty a n 0 op.Address (value.Structure c.0) (value.Int j) within
+      (addresses parts) refl left right)
+      (λ q. ap (λ b. cond b (Out (value.Address (record { structure = c.0; index = j }))) (Failed OutOfBounds)) bad)
+
   no_fault_by : {fs : List Fact} {f : SourceFault} → FaultRule S fs f → Every (Holds S) fs → ⊥
   no_fault_by (unary_fails {n = n} {a = m} {o = o} {p = p} {k = k} c x is) h =
-      let on : Here S number run p (place P n) = carried S g number numbered known inputs count only s run r quiet.empty _ h.0 in
-      let has : CarriedHas S number run p (place P m) (value_of c) = carried S g number numbered known inputs count only s run r quiet.empty _ h.1.0 in
+      let on : Here S number run p (place P n) = carried S g number numbered known inputs count only s run r quiet.empty no_second _ h.0 in
+      let has : CarriedHas S number run p (place P m) (value_of c) = carried S g number numbered known inputs count only s run r quiet.empty no_second _
+      h.1.0 in
       let a = on.activation in
-      let operand = came S g number numbered known count only s run r quiet.empty a (origin P m) n 0 Zero (token_value (value_of c)) (operand_spoken S g number numbered known inputs count only s run r quiet.empty on m x refl refl has)
+      let operand = came S g number numbered known count only s run r quiet.empty a (origin P m) n 0 Zero (constant_value c)
+      (constant_spoken S g number numbered known inputs count only s run r quiet.empty no_second c on m x refl refl has)
       (fed_as P known (origin P m) n 0 Zero (Unary o m) x.within x.node (inl refl)) in
-      no_failure a n 0 (op.Unary o) (Alone (token_value (value_of c))) k (alone_fired S g number numbered known count only s run r quiet.empty a n 0 (op.Unary o) Zero (token_value (value_of c)) x.within (unary x.node) refl operand)
+      no_failure a n 0 (op.Unary o) (Alone (constant_value c)) k (alone_fired S g number numbered known count only s run r quiet.empty a n 0 (op.Unary o) Zero
+      (constant_value c) x.within (unary x.node) refl operand)
       (λ f. agree_unary o c (tag_in a (number n 0)) f ∙ ap fired_by is)
   no_fault_by (binary_fails {n = n} {a = m} {b = l} {o = o} {p = p} {k = k} c d x is) h =
-      let on : Here S number run p (place P n) = carried S g number numbered known inputs count only s run r quiet.empty _ h.0 in
-      let has : CarriedHas S number run p (place P m) (value_of c) = carried S g number numbered known inputs count only s run r quiet.empty _ h.1.0 in
-      let has' : CarriedHas S number run p (place P l) (value_of d) = carried S g number numbered known inputs count only s run r quiet.empty _ h.1.1.0 in
+      let on : Here S number run p (place P n) = carried S g number numbered known inputs count only s run r quiet.empty no_second _ h.0 in
+      let has : CarriedHas S number run p (place P m) (value_of c) = carried S g number numbered known inputs count only s run r quiet.empty no_second _
+      h.1.0 in
+      let has' : CarriedHas S number run p (place P l) (value_of d) = carried S g number numbered known inputs count only s run r quiet.empty no_second _
+      h.1.1.0 in
       let a = on.activation in
-      let left = came S g number numbered known count only s run r quiet.empty a (origin P m) n 0 Zero (token_value (value_of c)) (operand_spoken S g number numbered known inputs count only s run r quiet.empty on m x refl (inl refl) has)
+      let left = came S g number numbered known count only s run r quiet.empty a (origin P m) n 0 Zero (constant_value c)
+      (constant_spoken S g number numbered known inputs count only s run r quiet.empty no_second c on m x refl (inl refl) has)
       (fed_as P known (origin P m) n 0 Zero (Binary o m l) x.within x.node (inl refl)) in
-      let right = came S g number numbered known count only s run r quiet.empty a (origin P l) n 0 One (token_value (value_of d)) (operand_spoken S g number numbered known inputs count only s run r quiet.empty on l x refl (inr refl) has')
+      let right = came S g number numbered known count only s run r quiet.empty a (origin P l) n 0 One (constant_value d)
+      (constant_spoken S g number numbered known inputs count only s run r quiet.empty no_second d on l x refl (inr refl) has')
       (fed_as P known (origin P l) n 0 One (Binary o m l) x.within x.node (inr (inl refl))) in
       let made = op.Binary (binary_op o (port_at P m)) in
       let inner = operand_of S known inputs n m x.within (subst (λ z. HasOperand z m) (sym x.node) (inl refl)) in
-      no_failure a n 0 made (Two (token_value (value_of c)) (token_value (value_of d))) k
-      (both_fired S g number numbered known count only s run r quiet.empty a n 0 made (token_value (value_of c)) (token_value (value_of d)) x.within (binary x.node) refl left right)
+      no_failure a n 0 made (Two (constant_value c) (constant_value d)) k
+      (both_fired S g number numbered known count only s run r quiet.empty a n 0 made (constant_value c) (constant_value d) x.within
+      (binary x.node) refl left right)
       (λ f. agree_at o c d (tag_in a (number n 0)) f (port_at P m) (port_taking S known inputs m p (value_of c) inner.0 inner.1 h.1.0) ∙ ap fired_by is)
+  no_fault_by (bad_bounds {n = n} {a = e} {b = f} {p = p} {lo = lo} {hi = hi} x bad) h =
+      let on : Here S number run p (place P n) = carry _ h.0 in
+      let low : CarriedHas S number run p (place P e) (source.Int lo) = carry _ h.1.0 in
+      let high : CarriedHas S number run p (place P f) (source.Int hi) = carry _ h.1.1.0 in
+      let a = on.activation in
+      let left = came S g number numbered known count only s run r quiet.empty a (origin P e) n 0 Zero (value.Int lo)
+      (constant_spoken S g number numbered known inputs count only s run r quiet.empty no_second (constants.Int lo) on e x refl (inl refl) low)
+      (fed_as P known (origin P e) n 0 Zero (Array e f) x.within x.node (inl refl)) in
+      let right = came S g number numbered known count only s run r quiet.empty a (origin P f) n 0 One (value.Int hi)
+      (constant_spoken S g number numbered known inputs count only s run r quiet.empty no_second (constants.Int hi) on f x refl (inr refl) high)
+      (fed_as P known (origin P f) n 0 One (Array e f) x.within x.node (inr (inl refl))) in
+      no_failure a n 0 op.Alloc (Two (value.Int lo) (value.Int hi)) BadBounds
+      (both_fired S g number numbered known count only s run r quiet.empty a n 0 op.Alloc (value.Int lo) (value.Int hi) x.within
+      (allocates x.node) refl left right)
+      (λ q. ap (λ b. cond b (Out (value.Structure (record { element = q.element; serial = q.structure; low = lo; high = hi }))) (Failed BadBounds)) bad)
+  no_fault_by (out_of_fetch {n = n} {t = t} {i = i} {p = p} {s = y} {j = j} {lo = lo} {hi = hi} x out) h =
+      let on : Here S number run p (place P n) = carry _ h.0 in
+      let target : CarriedHas S number run p (place P t) (source.Name y) = carry _ h.1.0 in
+      let index : CarriedHas S number run p (place P i) (source.Int j) = carry _ h.1.1.0 in
+      never_outside on.activation n t i x.within (of_fetch x.node) out (carry _ h.1.1.1.0)
+      (fed_as P known (origin P t) n 0 Zero (Fetch t i) x.within x.node (inl refl))
+      (fed_as P known (origin P i) n 0 One (Fetch t i) x.within x.node (inr (inl refl)))
+      target.stands (operand_spoken S g number numbered known inputs count only s run r quiet.empty no_second on t x refl (inl refl) target)
+      (constant_spoken S g number numbered known inputs count only s run r quiet.empty no_second (constants.Int j) on i x refl (inr refl) index)
+  no_fault_by (out_of_store {m = m} {t = t} {i = i} {x = e} {p = p} {s = y} {j = j} {lo = lo} {hi = hi} x out) h =
+      let on : Here S number run p (place P m) = carry _ h.0 in
+      let target : CarriedHas S number run p (place P t) (source.Name y) = carry _ h.1.0 in
+      let index : CarriedHas S number run p (place P i) (source.Int j) = carry _ h.1.1.0 in
+      let in_target = address_part S g number numbered known inputs count only s run r quiet.empty no_second on x t (inl refl) (inl refl) in
+      let in_index = address_part S g number numbered known inputs count only s run r quiet.empty no_second on x i (inr refl) (inr refl) in
+      never_outside on.activation x.address t i (x.parts).within (of_store (x.parts).node) out (carry _ h.1.1.1.0)
+      (fed_as P known (origin P t) x.address 0 Zero (Address t i) (x.parts).within (x.parts).node (inl refl))
+      (fed_as P known (origin P i) x.address 0 One (Address t i) (x.parts).within (x.parts).node (inr (inl refl)))
+      target.stands (said_at S g number numbered known inputs count only s run r quiet.empty no_second on t in_target.0 in_target.1 target)
+      (subst (Speaks S number run on.activation (origin P i)) (stands_constant (constants.Int j) index.stands)
+      (said_at S g number numbered known inputs count only s run r quiet.empty no_second on i in_index.0 in_index.1 index))
+  no_fault_by (second_store before) h = two_stores S g number numbered known inputs count only s run r quiet before h.0 h.1.0
 
   no_source_fault : FaultFree S
   no_source_fault f fault = no_fault_by fault.rule fault.hold
@@ -293,6 +387,8 @@ module _ (S : Source) (g : Parts) (number : ℕ → ℕ → ℕ) (numbered : Num
           absurd (no_merge (sym op_is ∙ enters.is))
       by (Sent u v) y gives = absurd gives
       by (Moved k v) y gives = absurd gives
+      by (Asked c u) y gives = absurd gives
+      by (Stored c v u) y gives = absurd gives
       by (Failed k) y gives = absurd gives
       by Nothing y gives = absurd gives
 
@@ -300,12 +396,14 @@ module _ (S : Source) (g : Parts) (number : ℕ → ℕ → ℕ) (numbered : Num
   tag_path = shown.path_in g s.elements
 
   -- a token that brings a binder's value to its label shows the name
-  label_shows : (n : NameValue) (b : ℕ) (a : Activation) (p : Port) → b < length (rows P) → is_binder (node P b) ≡ true → place P b ≡ n.place
+  label_shows : (n : NameValue) (b : ℕ) (a : Activation) (p : Port) (w : Value) → StandsFor S number run w n.value → b < length (rows P)
+      → is_binder (node P b) ≡ true → place P b ≡ n.place
       → tag_path (tag_in a (number (label P b) 0)) ≡ n.path → is_value (port_at P b) ≡ true
-      → shown.name_in g tag_path (Token (tag_in a (number (label P b) 0)) p (token_value n.value)) ≡ Some n
-  label_shows n b a p within binds here path merges =
+      → shown.name_in g tag_path name_of (Token (tag_in a (number (label P b) 0)) p w) ≡ Some n
+  label_shows n b a p w stands within binds here path merges =
       let at = tag_in a (number (label P b) 0) in
-      (λ i. cond (label_is P known g number numbered b within binds merges i) (shown.name_at g (number (label P b) 0) (tag_path at) (value_back n.value i)) None)
+      (λ i. cond (label_is P known g number numbered b within binds merges i)
+      (shown.name_at g (number (label P b) 0) (tag_path at) (value_shown stands i)) None)
       ∙ (λ i. Some (record { path = path i; place = (label_place P known g number numbered b within binds ∙ here) i; value = n.value }))
 
   -- what a binder Has came to its label, and is shown
@@ -315,21 +413,29 @@ module _ (S : Source) (g : Parts) (number : ℕ → ℕ → ℕ) (numbered : Num
       let b = x.row in
       let thing = binder_thing (node P b) x.binds in
       let holds = subst (λ e. Holds S (Has n.path e n.value)) (sym x.here) name.holds in
-      let c : CarriedHas S number run n.path (place P b) n.value = carried S g number numbered known inputs count only s run r quiet.empty _ holds in
-      let row_is = here_is S g number numbered known inputs count only s run r quiet.empty c.here (record { within = x.within; node = refl }) thing in
+      let c : CarriedHas S number run n.path (place P b) n.value = carried S g number numbered known inputs count only s run r quiet.empty no_second _ holds in
+      let row_is = here_is S g number numbered known inputs count only s run r quiet.empty no_second c.here (record { within = x.within; node = refl }) thing in
       let a = (c.here).activation in
-      let said : Speaks S number run a (output (label P b)) (token_value n.value) =
-      subst (λ (z : Origin × Value). Speaks S number run a z.0 z.1) {x = (speaker P (c.here).row, c.value)} {y = (output (label P b), token_value n.value)}
-      (λ i. ((ap (speaker P) row_is ∙ binder_speaks P known b (node P b) refl x.binds) i, stands_is c.stands i)) c.spoken in
-      let brought = label_brought a b (token_value n.value) x.within x.binds said in
+      let said : Speaks S number run a (output (label P b)) c.value =
+      subst (λ z. Speaks S number run a z c.value) (ap (speaker P) row_is ∙ binder_speaks P known b (node P b) refl x.binds) c.spoken in
+      let brought = label_brought a b c.value x.within x.binds said in
       let h = handled_by run _ brought.1 in
       let record_it = to_record g S.inputs count s run r h.0 h.1 in
-      let payload_is : (record_it.0).message.payload ≡ Token (tag_in a (number (label P b) 0)) brought.0 (token_value n.value) = (record_it.2).payload ∙ sym h.2 in
+      let payload_is : (record_it.0).message.payload ≡ Token (tag_in a (number (label P b) 0)) brought.0 c.value = (record_it.2).payload ∙ sym h.2 in
       let merges = ap is_value (port_taking S known inputs b n.path n.value x.within thing holds) ∙ value_passes n.value in
       let path_is = path_shown S known g number numbered count s run r (tag_in a (number (label P b) 0)) n.path (c.here).live (c.here).path_of in
-      filter_map_has (λ (u : EventView). shown.name_in g tag_path u.message.payload) (events s) record_it.0 n (among_events s record_it.0 record_it.1)
-      (ap (shown.name_in g tag_path) payload_is ∙ label_shows n b a brought.0 x.within x.binds x.here path_is merges)
+      filter_map_has (λ (u : EventView). shown.name_in g tag_path name_of u.message.payload) (events s) record_it.0 n (among_events s record_it.0 record_it.1)
+      (ap (shown.name_in g tag_path name_of) payload_is ∙ label_shows n b a brought.0 c.value c.stands x.within x.binds x.here path_is merges)
 
   -- a quiet run has shown everything
   pub complete_at : IsComplete S g s
-  complete_at = record { answer = answer_exact (shown.answer s) refl; names = names_shown; no_fault = no_source_fault }
+  complete_at = record {
+    answer = answer_exact (shown.answer g s) refl;
+    names = names_shown;
+    structures = structures_shown S g number numbered known inputs count only s run r quiet;
+    cells = cells_shown S g number numbered known inputs count only s run r quiet;
+    asks = asks_shown S g number numbered known inputs count only s run r quiet;
+    waiting = waiting_shown S g number numbered known inputs count only s run r quiet;
+    only_waiting = waiting_only S g number numbered known inputs count only s run r quiet;
+    no_fault = no_source_fault;
+  }

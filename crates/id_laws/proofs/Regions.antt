@@ -1,11 +1,11 @@
 -- The heads of regions, and how many loops are round what stands in them.
-use Rattle.std.proofs.Common.{◌≡◌, ◌⊎◌, inl, inr, ℕ, ◌+◌, ◌-◌, ◌<◌, ◌≤◌, true, false, length, refl, sym, ◌∙◌, ap, subst, arith}
+use Rattle.std.proofs.Common.{◌≡◌, inl, inr, ℕ, ◌+◌, ◌-◌, ◌<◌, true, false, length, refl, sym, ◌∙◌, ap, subst, arith}
 use Rattle.id_parts.specs.declared.row.Region.{Region}
 use Rattle.std.proofs.lemmas.Bool.{cases_lt}
 use Rattle.std.proofs.lemmas.List.{get_or_past}
 use Rattle.id_parts.specs.declared.row.Row.{Row}
 use Rattle.id_parts.specs.declared.row.Node.{Node}
-use Rattle.id_parts.specs.declared.row.Node.TheVariants.{Head, Param, Binding, Program, If, Variable, Next, Loop}
+use Rattle.id_parts.specs.declared.row.Node.TheVariants.{Head, Param, Binding, Program, Variable, Next}
 use Rattle.id_parts.specs.Rows.{at, no_row, top}
 use Rattle.id_parts.specs.Loops.{StandsInSide, loops_from}
 use Rattle.id_parts.specs.Regions.{StandsInArm}

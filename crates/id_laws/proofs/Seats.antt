@@ -11,13 +11,11 @@ use Rattle.id_meaning.specs.declared.Path.{Path}
 use Rattle.id_meaning.specs.declared.PathStep.{PathStep}
 use Rattle.id_meaning.specs.Sources.{Source}
 use Rattle.id_meaning.specs.Facts.{outermost, below}
-use Rattle.id_build.specs.Rows.{node}
 use Rattle.id_build.specs.Schemas.{Numbered}
 use Rattle.id_runs.specs.Activations.{Activation, at_iteration, main_context, main_activation, tag_in}
 use Rattle.id_runs.specs.Events.{Event, FiresAs, FiresOnce, fired_event}
 use Rattle.id_laws.specs.Activations.{Seat, Outermost, Below, path_at, Begins, Opens, SeatOf, main_seat, made_seat, PathOf}
 use Rattle.id_laws.specs.Activations.{Live, at_start, on_side, entered, again}
-use Rattle.id_parts.specs.declared.row.Node.TheVariants.{Switches}
 use Rattle.id_laws.proofs.Assumed.{IsKnown}
 use Rattle.id_parts.specs.Turns.{IsDefOf}
 use Rattle.id_laws.proofs.Arcs.{opens, part_of}

@@ -1,11 +1,15 @@
--- Each message that an event sends came one of the ways.
-use Rattle.std.proofs.Common.{◌≡◌, ◌⊎◌, inl, inr, ℕ, ◌+◌, ◌<◌, ◌-◌, length, arith, Bool as Truth, true, false, cond, Some, List, slice_get, refl, sym, ◌∙◌, ap, subst}
+-- Each token that an event sends came one of the ways, each read was asked by a fetch, and each write stored by a store.
+use Rattle.std.proofs.Common.{◌≡◌, ◌⊎◌, inl, inr, ℕ, ℤ, ◌+◌, ◌<◌, ◌-◌, length, arith, Bool as Truth, true, false, cond, Some, List, slice_get, refl, sym, ◌∙◌, ap, subst}
+use Rattle.id_value.specs.declared.FaultKind.TheVariants.{BadBounds, OutOfBounds}
+use Rattle.id_value.specs.Bounds.{are_good, is_inside}
 use Rattle.id_value.specs.declared.Outcome.{Outcome}
 use Rattle.id_value.specs.declared.Outcome.TheVariants.{Gives, Fails, Lacks}
 use Rattle.id_value.specs.declared.Constant.TheVariants as constants
 use Rattle.id_value.specs.Results.{result_of_unary, calculated}
 use Rattle.std.specs.Prelude.{option_map}
 use Rattle.id_list.specs.List.{Among}
+use Rattle.id_list.proofs.AmongLemmas.{Among-map}
+use Rattle.id_parts.specs.declared.row.Node.TheVariants.{Fetch, Store}
 use Rattle.id_parts.specs.Tables.{begins_block}
 use Rattle.id_check.specs.Programs.{region, rows}
 use Rattle.id_graph.specs.declared.dests.Port.{Port}
@@ -22,14 +26,16 @@ use Rattle.id_tag.specs.Kinds.{kind_of, same_kind}
 use Rattle.id_tag.specs.declared.Context.{Context}
 use Rattle.id_tag.specs.declared.Tag.{Tag}
 use Rattle.id_tag.specs.declared.Value.{Value}
-use Rattle.id_tag.specs.declared.Value.TheVariants.{Signal, Int, Bool, Context as Opened, Continuation}
+use Rattle.id_tag.specs.declared.Value.TheVariants.{Signal, Int, Bool, Structure as Made, Address as At, Context as Opened, Continuation}
 use Rattle.id_tag.specs.declared.Payload.{Payload}
-use Rattle.id_tag.specs.declared.Payload.TheVariants.{Token}
+use Rattle.id_tag.specs.declared.Payload.TheVariants.{Token, Read, Write}
+use Rattle.id_tag.specs.declared.Cell.{Cell}
+use Rattle.id_tag.specs.declared.Structure.{Structure}
 use Rattle.id_ops.specs.declared.Operands.{Operands}
 use Rattle.id_ops.specs.declared.Operands.TheVariants.{One as Alone, Two}
 use Rattle.id_ops.specs.declared.Fresh.{Fresh}
 use Rattle.id_ops.specs.declared.Fired.{Fired}
-use Rattle.id_ops.specs.declared.Fired.TheVariants.{Out, Side, Entered, Sent, Moved, Nothing}
+use Rattle.id_ops.specs.declared.Fired.TheVariants.{Out, Side, Entered, Sent, Moved, Asked, Stored, Failed, Nothing}
 use Rattle.id_ops.specs.Operators.{fired, fired_by, fired_enter, fired_next, fired_reset, tag_within}
 use Rattle.id_valid.specs.Roles.{op_at}
 use Rattle.id_record.specs.Sends.{beside, moved_to}
@@ -37,21 +43,24 @@ use Rattle.id_core.specs.Steps.{token_to}
 use Rattle.id_record.specs.Records.{dests_at, sent_by}
 use Rattle.id_core.specs.Machines.{World}
 use Rattle.id_meaning.specs.Sources.{Source}
-use Rattle.id_build.specs.declared.arc.Form.{Form}
 use Rattle.id_build.specs.Rows.{node, op_by}
 use Rattle.id_build.specs.Schemas.{Numbered, IsNumber}
 use Rattle.id_runs.specs.Activations.{Activation, at_iteration, tag_in, activation_of}
-use Rattle.id_runs.specs.Events.{Event, FiresAs, GivesOn, fired_event, sends_of}
+use Rattle.id_runs.specs.Events.{Event, Looked, FiresAs, GivesOn, fired_event, payload_of, sends_of}
+use Rattle.id_runs.specs.Cells.{Replies, cell_at}
 use Rattle.id_runs.specs.Runs.{Reach, handled}
-use Rattle.id_runs.proofs.Givings.{SentAs, along as along_arc, moving, to_tag, sent_as, to_start}
-use Rattle.id_runs.proofs.Messages.{sent_from}
+use Rattle.id_runs.proofs.Givings.{SentAs, along as along_arc, moving, to_tag, sent_as, to_start, reading, writing}
+use Rattle.id_runs.proofs.Messages.{SentFrom, by_firing, by_answer, sent_from}
+use Rattle.id_runs.proofs.Asks.{asked_by, stored_by}
+use Rattle.id_runs.proofs.Cells.{cells_exact}
+use Rattle.id_runs.proofs.CellLaws.{reply_sound}
 use Rattle.id_runs.proofs.Waiting.{has_fired, HasFired, OperandsHandled, one_handled, two_handled}
 use Rattle.id_laws.specs.Activations.{Begins, Opens, ReturnsTo, to_answer, to_row}
-use Rattle.id_laws.specs.Topics.{AllTell, IsPart, Tells, Told, ShownContext, ShownWayBack}
-use Rattle.id_laws.specs.Ways.{Way, by_arc, by_move, by_send, by_enter, by_continuation, by_back, SendsTo}
-use Rattle.id_laws.proofs.Arcs.{answers, doing, part_of, target_part}
+use Rattle.id_laws.specs.Topics.{AllTell, IsPart, Tells, Told, ToldRead, ShownContext, ShownWayBack}
+use Rattle.id_laws.specs.Ways.{Way, by_arc, by_move, by_send, by_enter, by_continuation, by_back, by_reply, SendsTo}
+use Rattle.id_laws.proofs.Arcs.{answers, doing, gets_reply, part_of, target_part}
 use Rattle.id_laws.proofs.Assumed.{IsKnown}
-use Rattle.id_laws.proofs.Sendings.{Passing, is_back, is_enter, is_send, head_parts, returns_at, sending_part, sent_part, wants_back, wants_context}
+use Rattle.id_laws.proofs.Sendings.{Passing, is_back, is_enter, is_fetch, is_send, is_store, head_parts, returns_at, sending_part, sent_part, wants_back, wants_context}
 use Rattle.id_laws.proofs.Tokens.{told_at}
 use Rattle.id_laws.proofs.Sent.{sends_there}
 use Rattle.id_laws.proofs.Started.{Starts, first, second, starts_as}
@@ -106,6 +115,16 @@ reset_sends : (k : PortKind) (ops : Operands) (u : Tag) (w : Value) → fired_re
 reset_sends k (Alone v) u w h = moves_sends 0 v (same_kind (kind_of v) k) u w h
 reset_sends k (Two v x) u w h = cc
 
+bounds_send : (f : Fresh) (lo hi : ℤ) (b : Truth) (u : Tag) (w : Value)
+    → cond b (Out (Made (record { element = f.element; serial = f.structure; low = lo; high = hi }))) (Failed BadBounds) ≡ Sent u w → ⊥
+bounds_send f lo hi true u w h = cc
+bounds_send f lo hi false u w h = cc
+
+index_sends : (s : Structure) (i : ℤ) (b : Truth) (u : Tag) (w : Value)
+    → cond b (Out (At (record { structure = s; index = i }))) (Failed OutOfBounds) ≡ Sent u w → ⊥
+index_sends s i true u w h = cc
+index_sends s i false u w h = cc
+
 pub sent_back : (o : Op) (t : Tag) (ops : Operands) (f : Fresh) (u : Tag) (w : Value) → fired o t ops f ≡ Sent u w
     → SentBack o ops u w ⊎ SentIn o ops u w
 sent_back (op.Const c) t (Alone Signal) f u w h = cc
@@ -132,6 +151,14 @@ sent_back (op.Send k n) t (Two (Opened c) v) f u w h =
 sent_back (op.Send k n) t _ f u w h = cc
 sent_back (op.Next k) t ops f u w h = absurd (next_sends k t.iteration ops u w h)
 sent_back (op.Reset k) t ops f u w h = absurd (reset_sends k ops u w h)
+sent_back op.Alloc t (Two (Int a) (Int b)) f u w h = absurd (bounds_send f a b (are_good a b) u w h)
+sent_back op.Alloc t _ f u w h = cc
+sent_back op.Address t (Two (Made s) (Int i)) f u w h = absurd (index_sends s i (is_inside s.low s.high i) u w h)
+sent_back op.Address t _ f u w h = cc
+sent_back (op.Fetch r) t (Alone (At d)) f u w h = cc
+sent_back (op.Fetch r) t _ f u w h = cc
+sent_back op.Store t (Two (At d) (Int n)) f u w h = cc
+sent_back op.Store t _ f u w h = cc
 
 -- ---- the ways
 
@@ -145,6 +172,39 @@ pub record CameBy (S : Source) (number : ℕ → ℕ → ℕ) (run : List Event)
   pub is : x ≡ Token (tag_in activation (number row part)) port value
   pub is_part : IsPart S.checked row part
   pub way : Way S number run e activation row part port value
+
+-- the event has asked for a cell, for the fetch of a row
+pub record AskedBy (S : Source) (number : ℕ → ℕ → ℕ) (run : List Event) (e : Event) (x : Payload) : Type 0 where
+  pub activation : Activation
+  pub row : ℕ
+  pub target : ℕ
+  pub index : ℕ
+  pub within : row < length (rows S.checked)
+  pub node : node S.checked row ≡ Fetch target index
+  pub cell : Cell
+  pub is : x ≡ Read cell (tag_in activation (number row 2))
+  pub fires : FiresAs run (tag_in activation (number row 1)) (Asked cell (tag_in activation (number row 2)))
+  pub event_is : fired_event fires ≡ e
+
+-- the event has stored a value into a cell, for the store of a row
+pub record StoredBy (S : Source) (number : ℕ → ℕ → ℕ) (run : List Event) (e : Event) (x : Payload) : Type 0 where
+  pub activation : Activation
+  pub row : ℕ
+  pub address : ℕ
+  pub stored : ℕ
+  pub within : row < length (rows S.checked)
+  pub node : node S.checked row ≡ Store address stored
+  pub cell : Cell
+  pub value : Value
+  pub is : x ≡ Write cell value (tag_in activation (number row 0))
+  pub fires : FiresAs run (tag_in activation (number row 0)) (Stored cell value (tag_in activation (number row 0)))
+  pub event_is : fired_event fires ≡ e
+
+-- how the event has sent the message
+pub data SentSo (S : Source) (number : ℕ → ℕ → ℕ) (run : List Event) (e : Event) (x : Payload) : Type 0 where
+  as_token : CameBy S number run e x → SentSo S number run e x
+  as_read : AskedBy S number run e x → SentSo S number run e x
+  as_write : StoredBy S number run e x → SentSo S number run e x
 
 -- a firing, with its event, under an equal tag
 pub moved_firing : {run : List Event} {t u : Tag} {f : Fired} {e : Event} (x : FiresAs run t f) → fired_event x ≡ e → t ≡ u
@@ -387,22 +447,99 @@ module _ (S : Source) (g : Parts) (number : ℕ → ℕ → ℕ) (numbered : Num
         way = by_continuation (activation_of t) o.row o.head o.end c o.within o.begins o.opened o.is;
       }
 
+  -- what a `fetch` has asked for
+  came_asking : (e : Event) (x : Payload) (t : Tag) (c : Cell) (u : Tag) (f : FiresAs run t (Asked c u)) → fired_event f ≡ e → x ≡ Read c u
+      → AskedBy S number run e x
+  came_asking e x t c u f is says =
+      let y = has_fired g S.inputs count s run r f in
+      let asks = asked_by (y.instr).op t f.operands y.fresh c u (sym y.is) in
+      let z = numbered.only t.instr y.instr y.at in
+      let row = is_fetch S.checked number z.part z.row z.form u.instr (doing z.makes).does (fired_form t y z ∙ asks.fetch) in
+      let a = activation_of t in
+      let own : t ≡ tag_in a (number z.row 1) = ap (tag_in a) (sym z.is ∙ ap (number z.row) row.second) in
+      let reply : u ≡ tag_in a (number z.row 2) = asks.reply ∙ ap (tag_in a) row.reply in
+      let moved = moved_firing f is own in
+      let sent = subst (λ k. (q : FiresAs run (tag_in a (number z.row 1)) (Asked c k)) × (fired_event q ≡ e)) reply moved in
+      record {
+        activation = a;
+        row = z.row;
+        target = row.target;
+        index = row.index;
+        within = (z.makes).within;
+        node = row.node;
+        cell = c;
+        is = says ∙ ap (Read c) reply;
+        fires = sent.0;
+        event_is = sent.1;
+      }
+
+  -- what a `store` has stored
+  came_storing : (e : Event) (x : Payload) (t : Tag) (c : Cell) (v : Value) (u : Tag) (f : FiresAs run t (Stored c v u)) → fired_event f ≡ e → x ≡ Write c v u
+      → StoredBy S number run e x
+  came_storing e x t c v u f is says =
+      let y = has_fired g S.inputs count s run r f in
+      let puts = stored_by (y.instr).op t f.operands y.fresh c v u (sym y.is) in
+      let z = numbered.only t.instr y.instr y.at in
+      let row = is_store S.checked number z.part z.row z.form (doing z.makes).does (fired_form t y z ∙ puts.store) in
+      let a = activation_of t in
+      let own : t ≡ tag_in a (number z.row 0) = ap (tag_in a) (sym z.is ∙ ap (number z.row) row.first) in
+      let origin : u ≡ tag_in a (number z.row 0) = puts.origin ∙ own in
+      let moved = moved_firing f is own in
+      let sent = subst (λ k. (q : FiresAs run (tag_in a (number z.row 0)) (Stored c v k)) × (fired_event q ≡ e)) origin moved in
+      record {
+        activation = a;
+        row = z.row;
+        address = row.address;
+        stored = row.stored;
+        within = (z.makes).within;
+        node = row.node;
+        cell = c;
+        value = v;
+        is = says ∙ ap (Write c v) origin;
+        fires = sent.0;
+        event_is = sent.1;
+      }
+
+  -- the answer to a read goes to the fetch that has asked
+  came_answering : (e : Event) (x : Payload) (t : Tag) (v : Value) → x ≡ Token t Zero v → Replies run t v e → CameBy S number run e x
+  came_answering e x t v says answer =
+      let z = reply_sound run (cell_at count s) (cells_exact g S.inputs count s run r) t v e answer in
+      let asks = (z.1).1 in
+      let told : ToldRead S number run z.0 t = tell (Read z.0 t) (inr (Among-map payload_of (Looked asks.element z.0 t (z.1).0) run asks.among)) in
+      record {
+        activation = told.activation;
+        row = told.row;
+        part = 2;
+        port = Zero;
+        value = v;
+        is = says ∙ ap (λ u. Token u Zero v) told.is;
+        is_part = part_of told.within (gets_reply told.node);
+        way = by_reply told.activation told.row told.target told.index v told.within told.node (subst (λ u. Replies run u v e) told.is answer);
+      }
+
   by_fired : (e : Event) (x : Payload) (t : Tag) (f : Fired) (y : FiresAs run t f) → fired_event y ≡ e → Among x (sent_by g t f)
-      → CameBy S number run e x
+      → SentSo S number run e x
   by_fired e x t f y is h = by (sent_as g t f x h)
     where
       starting : (c : Context) (z : FiresAs run t (Entered c)) → fired_event z ≡ e → Starts (op_at g t.instr) t c x → CameBy S number run e x
       starting c z same (first b back names_are says) = came_first e x t c b back (opening e t c z same b back names_are) says
       starting c z same (second b back names_are says) = came_second e x t c b back (opening e t c z same b back names_are) says
 
-      by : SentAs g t f x → CameBy S number run e x
-      by (along_arc b v d gives among says) = along e x t f b v y is gives d among says
-      by (moving k v d fired_so among says) = let z = subst (λ z. (w : FiresAs run t z) × (fired_event w ≡ e)) fired_so (y, is) in goes_on e x t k v z.0 z.1 d among says
-      by (to_tag u v fired_so says) = let z = subst (λ z. (w : FiresAs run t z) × (fired_event w ≡ e)) fired_so (y, is) in came_to_tag e x t u v z.0 z.1 says
-      by (to_start c fired_so h) =
-          let z = subst (λ z. (w : FiresAs run t z) × (fired_event w ≡ e)) fired_so (y, is) in
-          starting c z.0 z.1 (starts_as t c x (op_at g t.instr) h)
+      so : {k : Fired} → f ≡ k → (w : FiresAs run t k) × (fired_event w ≡ e)
+      so fired_so = subst (λ z. (w : FiresAs run t z) × (fired_event w ≡ e)) fired_so (y, is)
 
-  -- each message that an event sends came one of the ways
-  pub came_by : (e : Event) → Among e run → (x : Payload) → Among x (sends_of g e) → CameBy S number run e x
-  came_by e among x h = let f = sent_from g run e among x h in by_fired e x f.tag f.fired f.fires f.is f.sends
+      by : SentAs g t f x → SentSo S number run e x
+      by (along_arc b v d gives among says) = as_token (along e x t f b v y is gives d among says)
+      by (moving k v d fired_so among says) = let z = so fired_so in as_token (goes_on e x t k v z.0 z.1 d among says)
+      by (to_tag u v fired_so says) = let z = so fired_so in as_token (came_to_tag e x t u v z.0 z.1 says)
+      by (to_start c fired_so h) = let z = so fired_so in as_token (starting c z.0 z.1 (starts_as t c x (op_at g t.instr) h))
+      by (reading c u fired_so says) = let z = so fired_so in as_read (came_asking e x t c u z.0 z.1 says)
+      by (writing c v u fired_so says) = let z = so fired_so in as_write (came_storing e x t c v u z.0 z.1 says)
+
+  -- each message that an event sends it has sent so
+  pub sent_so : (e : Event) → Among e run → (x : Payload) → Among x (sends_of g e) → SentSo S number run e x
+  sent_so e among x h = by (sent_from g run e among x h)
+    where
+      by : SentFrom g run e x → SentSo S number run e x
+      by (by_firing t f y is out) = by_fired e x t f y is out
+      by (by_answer t v says answer) = as_token (came_answering e x t v says answer)

@@ -1,9 +1,9 @@
 -- What sends to a tag of its own, and into a context: the way back of a block, arguments, and the first values and imports of a loop.
-use Rattle.std.proofs.Common.{◌≡◌, inl, inr, ℕ, suc, ◌+◌, ◌<◌, true, Some, length, slice_get, refl, sym, ◌∙◌, ap, subst, arith}
+use Rattle.std.proofs.Common.{◌≡◌, ℕ, suc, ◌<◌, true, length, refl, sym, ap}
 use Rattle.id_list.proofs.AmongLemmas.{Among-from_at}
 use Rattle.id_parts.specs.declared.row.Region.{Region}
 use Rattle.id_parts.specs.declared.row.Node.{Node}
-use Rattle.id_parts.specs.declared.row.Node.TheVariants.{Head, Arg, Call, Enter, Start, LoopHead, Loop}
+use Rattle.id_parts.specs.declared.row.Node.TheVariants.{Head, LoopHead, Array, Fetch, Store}
 use Rattle.id_parts.specs.Rows.{top}
 use Rattle.id_parts.specs.Tables.{begins_block}
 use Rattle.id_parts.specs.Turns.{params_at}
@@ -14,11 +14,12 @@ use Rattle.id_graph.specs.declared.instr.Op.TheVariants as op
 use Rattle.id_graph.specs.declared.instr.PortKind.{PortKind}
 use Rattle.id_build.specs.declared.arc.Form.{Form}
 use Rattle.id_build.specs.Rows.{called, loop_entries, node, op_by, param_of}
-use Rattle.id_laws.specs.Activations.{Begins, of_call, of_loop}
+use Rattle.id_laws.specs.Activations.{Begins}
 use Rattle.id_laws.specs.Topics.{IsPart, Turned, WayBack, ContextOf, topic_at, wants}
 use Rattle.id_laws.specs.Ways.{SendsTo, of_argument, of_entry}
 use Rattle.id_laws.proofs.Arcs.{Does, starts, returns, enters, constant, unary, binary, turns_on, hands, joins, opens, passes, gets, names, answers}
 use Rattle.id_laws.proofs.Arcs.{sends_in, gives_back, varies, takes_in, moves_on, moves_name, advances, resets, gets_last, part_of}
+use Rattle.id_laws.proofs.Arcs.{allocates, addresses, fetches, gets_reply, stores}
 use Rattle.id_laws.proofs.Assumed.{IsKnown}
 use Rattle.id_laws.proofs.Loops.{loop_of_start}
 use Rattle.id_laws.proofs.LoopRows.{loop_merge}
@@ -53,6 +54,11 @@ is_back P number part n o (moves_name j is less) e = cc
 is_back P number part n o (advances is) e = cc
 is_back P number part n o (resets is) e = cc
 is_back P number part n o (gets_last is) e = cc
+is_back P number part n o (allocates is) e = cc
+is_back P number part n o (addresses is) e = cc
+is_back P number part n o (fetches is) e = cc
+is_back P number part n o (gets_reply is) e = cc
+is_back P number part n o (stores is) e = cc
 is_back P number part n o (answers is) e = cc
 
 -- it wants the way back of the block
@@ -103,6 +109,11 @@ is_send P number part n o k target within (moves_name j is less) e = cc
 is_send P number part n o k target within (advances is) e = cc
 is_send P number part n o k target within (resets is) e = cc
 is_send P number part n o k target within (gets_last is) e = cc
+is_send P number part n o k target within (allocates is) e = cc
+is_send P number part n o k target within (addresses is) e = cc
+is_send P number part n o k target within (fetches is) e = cc
+is_send P number part n o k target within (gets_reply is) e = cc
+is_send P number part n o k target within (stores is) e = cc
 is_send P number part n o k target within (answers is) e = cc
 
 -- an `enter` is the first part of a row where a context begins
@@ -141,7 +152,125 @@ is_enter P number part n o b back (moves_name j is less) e = cc
 is_enter P number part n o b back (advances is) e = cc
 is_enter P number part n o b back (resets is) e = cc
 is_enter P number part n o b back (gets_last is) e = cc
+is_enter P number part n o b back (allocates is) e = cc
+is_enter P number part n o b back (addresses is) e = cc
+is_enter P number part n o b back (fetches is) e = cc
+is_enter P number part n o b back (gets_reply is) e = cc
+is_enter P number part n o b back (stores is) e = cc
 is_enter P number part n o b back (answers is) e = cc
+
+-- a `fetch` is the second part of a fetch's row, and its reply goes to the third; a `store` is that of a store's
+pub record Fetches (P : Checked) (number : ℕ → ℕ → ℕ) (n part r : ℕ) : Type 0 where
+  pub target : ℕ
+  pub index : ℕ
+  pub node : node P n ≡ Fetch target index
+  pub second : part ≡ 1
+  pub reply : r ≡ number n 2
+
+pub is_fetch : (P : Checked) (number : ℕ → ℕ → ℕ) (part n : ℕ) (o : Form) (r : ℕ) → Does P n part o → op_by number o ≡ op.Fetch r → Fetches P number n part r
+is_fetch P number part n o r (fetches {t = t} {i = i} is) e =
+    let same : number n 2 ≡ r = cc in
+    record { target = t; index = i; node = is; second = refl; reply = sym same }
+is_fetch P number part n o r (starts is) e = cc
+is_fetch P number part n o r (returns is) e = cc
+is_fetch P number part n o r (enters is) e = cc
+is_fetch P number part n o r (constant is) e = cc
+is_fetch P number part n o r (unary is) e = cc
+is_fetch P number part n o r (binary is) e = cc
+is_fetch P number part n o r (turns_on is) e = cc
+is_fetch P number part n o r (hands j is less) e = cc
+is_fetch P number part n o r (joins is) e = cc
+is_fetch P number part n o r (opens is) e = cc
+is_fetch P number part n o r (passes is) e = cc
+is_fetch P number part n o r (gets is) e = cc
+is_fetch P number part n o r (names is) e = cc
+is_fetch P number part n o r (sends_in j q is at) e = cc
+is_fetch P number part n o r (gives_back is) e = cc
+is_fetch P number part n o r (varies is) e = cc
+is_fetch P number part n o r (takes_in j is less) e = cc
+is_fetch P number part n o r (moves_on is) e = cc
+is_fetch P number part n o r (moves_name j is less) e = cc
+is_fetch P number part n o r (advances is) e = cc
+is_fetch P number part n o r (resets is) e = cc
+is_fetch P number part n o r (gets_last is) e = cc
+is_fetch P number part n o r (allocates is) e = cc
+is_fetch P number part n o r (addresses is) e = cc
+is_fetch P number part n o r (gets_reply is) e = cc
+is_fetch P number part n o r (stores is) e = cc
+is_fetch P number part n o r (answers is) e = cc
+
+pub record Stores (P : Checked) (n part : ℕ) : Type 0 where
+  pub address : ℕ
+  pub stored : ℕ
+  pub node : node P n ≡ Store address stored
+  pub first : part ≡ 0
+
+pub is_store : (P : Checked) (number : ℕ → ℕ → ℕ) (part n : ℕ) (o : Form) → Does P n part o → op_by number o ≡ op.Store → Stores P n part
+is_store P number part n o (stores {a = a} {v = v} is) e = record { address = a; stored = v; node = is; first = refl }
+is_store P number part n o (starts is) e = cc
+is_store P number part n o (returns is) e = cc
+is_store P number part n o (enters is) e = cc
+is_store P number part n o (constant is) e = cc
+is_store P number part n o (unary is) e = cc
+is_store P number part n o (binary is) e = cc
+is_store P number part n o (turns_on is) e = cc
+is_store P number part n o (hands j is less) e = cc
+is_store P number part n o (joins is) e = cc
+is_store P number part n o (opens is) e = cc
+is_store P number part n o (passes is) e = cc
+is_store P number part n o (gets is) e = cc
+is_store P number part n o (names is) e = cc
+is_store P number part n o (sends_in j q is at) e = cc
+is_store P number part n o (gives_back is) e = cc
+is_store P number part n o (varies is) e = cc
+is_store P number part n o (takes_in j is less) e = cc
+is_store P number part n o (moves_on is) e = cc
+is_store P number part n o (moves_name j is less) e = cc
+is_store P number part n o (advances is) e = cc
+is_store P number part n o (resets is) e = cc
+is_store P number part n o (gets_last is) e = cc
+is_store P number part n o (allocates is) e = cc
+is_store P number part n o (addresses is) e = cc
+is_store P number part n o (fetches is) e = cc
+is_store P number part n o (gets_reply is) e = cc
+is_store P number part n o (answers is) e = cc
+
+-- an `alloc` is that of an array's row
+pub record Allocates (P : Checked) (n part : ℕ) : Type 0 where
+  pub low : ℕ
+  pub high : ℕ
+  pub node : node P n ≡ Array low high
+  pub first : part ≡ 0
+
+pub is_alloc : (P : Checked) (number : ℕ → ℕ → ℕ) (part n : ℕ) (o : Form) → Does P n part o → op_by number o ≡ op.Alloc → Allocates P n part
+is_alloc P number part n o (allocates {a = a} {b = b} is) e = record { low = a; high = b; node = is; first = refl }
+is_alloc P number part n o (starts is) e = cc
+is_alloc P number part n o (returns is) e = cc
+is_alloc P number part n o (enters is) e = cc
+is_alloc P number part n o (constant is) e = cc
+is_alloc P number part n o (unary is) e = cc
+is_alloc P number part n o (binary is) e = cc
+is_alloc P number part n o (turns_on is) e = cc
+is_alloc P number part n o (hands j is less) e = cc
+is_alloc P number part n o (joins is) e = cc
+is_alloc P number part n o (opens is) e = cc
+is_alloc P number part n o (passes is) e = cc
+is_alloc P number part n o (gets is) e = cc
+is_alloc P number part n o (names is) e = cc
+is_alloc P number part n o (sends_in j q is at) e = cc
+is_alloc P number part n o (gives_back is) e = cc
+is_alloc P number part n o (varies is) e = cc
+is_alloc P number part n o (takes_in j is less) e = cc
+is_alloc P number part n o (moves_on is) e = cc
+is_alloc P number part n o (moves_name j is less) e = cc
+is_alloc P number part n o (advances is) e = cc
+is_alloc P number part n o (resets is) e = cc
+is_alloc P number part n o (gets_last is) e = cc
+is_alloc P number part n o (addresses is) e = cc
+is_alloc P number part n o (fetches is) e = cc
+is_alloc P number part n o (gets_reply is) e = cc
+is_alloc P number part n o (stores is) e = cc
+is_alloc P number part n o (answers is) e = cc
 
 -- the row from which it is sent has the part
 pub sending_part : {P : Checked} (known : IsKnown P) {m j i n part : ℕ} → SendsTo P m j i n part → IsPart P m j

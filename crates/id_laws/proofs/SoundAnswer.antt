@@ -5,13 +5,14 @@ use Rattle.id_list.specs.List.{Among}
 use Rattle.id_list.proofs.AmongLemmas.{Among-from_at}
 use Rattle.id_parts.specs.declared.row.Node.TheVariants.{Program}
 use Rattle.id_check.specs.declared.checked.Checked.{Checked}
-use Rattle.id_check.specs.Programs.{place, region, rows}
+use Rattle.id_check.specs.Programs.{place, region}
 use Rattle.id_graph.specs.declared.dests.Port.{Port}
 use Rattle.id_graph.specs.declared.dests.Port.TheVariants.{Zero, One}
 use Rattle.id_graph.specs.Graph.{Parts}
 use Rattle.id_tag.specs.declared.Value.{Value}
 use Rattle.id_tag.specs.declared.Payload.{Payload}
-use Rattle.id_tag.specs.declared.Payload.TheVariants.{Token}
+use Rattle.id_tag.specs.declared.Payload.TheVariants.{Token, Read, Write}
+use Rattle.id_tag.specs.declared.Structure.{Structure}
 use Rattle.id_tag.specs.Tags.{same_tag}
 use Rattle.id_tag.proofs.TagsLemmas.{one_from_same_tag}
 use Rattle.id_core.specs.Events.{EventView}
@@ -19,13 +20,13 @@ use Rattle.id_core.specs.Machines.{World, main_tag}
 use Rattle.id_core.specs.Observed as shown
 use Rattle.id_meaning.specs.declared.SourceValue.{SourceValue}
 use Rattle.id_meaning.specs.declared.Path.{Path}
+use Rattle.id_meaning.specs.declared.Site.{Site}
 use Rattle.id_meaning.specs.declared.Fact.TheVariants.{Has}
 use Rattle.id_meaning.specs.Sources.{Source, main_body, body_of}
 use Rattle.id_meaning.specs.Facts.{outermost}
 use Rattle.id_meaning.specs.Rounds.{Holds, Answers}
 use Rattle.id_desugar.specs.Ends.{end_of}
 use Rattle.id_build.specs.Rows.{node, answer_row}
-use Rattle.id_build.specs.Rows as build
 use Rattle.id_build.specs.Schemas.{Numbered}
 use Rattle.id_runs.specs.Activations.{main_activation, main_context, at_iteration, tag_in}
 use Rattle.id_runs.specs.Events.{Event}
@@ -42,20 +43,23 @@ use Rattle.id_build.proofs.EndsLemmas.{end_is}
 use Rattle.id_laws.proofs.Start.{main_is_head, main_within}
 use Rattle.id_laws.proofs.Seats.{main_path_is}
 use Rattle.id_laws.proofs.StartTells.{all_tell, seats}
-use Rattle.id_laws.proofs.Observing.{shown_holds, message_handled}
+use Rattle.id_laws.proofs.Observing.{message_handled}
+use Rattle.id_laws.proofs.Naming.{shown_holds}
 
 -- a token for main's answer
 pub brought_is : (x : Payload) (w : Value) → shown.brought x ≡ Some w → (p : Port) × (x ≡ Token (main_tag 0) p w)
+brought_is (Read c t) w e = cc
+brought_is (Write c v t) w e = cc
 brought_is (Token t p v) w e = go (same_tag t (main_tag 0)) refl e
   where
     go : (b : Truth) → same_tag t (main_tag 0) ≡ b → cond b (Some v) None ≡ Some w → (q : Port) × (Token t p v ≡ Token (main_tag 0) q w)
     go true f e = (p, let tag_is = one_from_same_tag t (main_tag 0) f in let value_is : v ≡ w = cc in (λ i. Token (tag_is i) p (value_is i)))
     go false f e = cc
 
-pub first_is : (o : Option Value) (v : SourceValue) → option_and_then shown.source_value o ≡ Some v
-    → (w : Value) × (o ≡ Some w) × (shown.source_value w ≡ Some v)
-first_is None v e = cc
-first_is (Some w) v e = (w, refl, e)
+pub first_is : (name : Structure → Site) (o : Option Value) (v : SourceValue) → option_and_then (shown.source_value name) o ≡ Some v
+    → (w : Value) × (o ≡ Some w) × (shown.source_value name w ≡ Some v)
+first_is name None v e = cc
+first_is name (Some w) v e = (w, refl, e)
 
 module _ (S : Source) (known : IsKnown S.checked) (g : Parts) (number : ℕ → ℕ → ℕ) (numbered : Numbered S.checked g number) (count : ℕ) (s : World) (run : List Event) (r : Reach g S.inputs count s run) where
   abbrev P : Checked
@@ -84,9 +88,9 @@ module _ (S : Source) (known : IsKnown S.checked) (g : Parts) (number : ℕ → 
       by_port Zero x = (refl, x)
       by_port One x = absurd x
 
-  pub sound_answer : (v : SourceValue) → shown.answer s ≡ Some v → Answers S v
+  pub sound_answer : (v : SourceValue) → shown.answer g s ≡ Some v → Answers S v
   sound_answer v e =
-      let first = first_is (slice_get (shown.answers (events s)) 0) v e in
+      let first = first_is (shown.structure_in g s.elements) (slice_get (shown.answers (events s)) 0) v e in
       let event = among_filter_map (λ (u : EventView). shown.brought u.message.payload) (events s) first.0 (Among-from_at first.0 (shown.answers (events s)) 0 first.1) in
       let came = brought_is (event.0).message.payload first.0 event.2 in
       let h = message_handled g S.inputs count s run r event.0 event.1 in
@@ -97,4 +101,4 @@ module _ (S : Source) (known : IsKnown S.checked) (g : Parts) (number : ℕ → 
       let shown_path = subst (λ k. PathOf S number run (at_iteration main_context k) (shows.shown).path) first_iteration (shows.shown).path_of in
       let path_is = main_path_is (seats S known g number numbered run count s r) shown_path in
       subst (λ (z : Path × ℕ). Holds S (Has z.0 (place P z.1) v)) {x = ((shows.shown).path, result_of P (main_head P))} {y = (outermost, main_body P)}
-      (λ i. (path_is i, main_result i)) (shown_holds shows.shown first.2)
+      (λ i. (path_is i, main_result i)) (shown_holds S known g number numbered count s run r shows.shown first.2)

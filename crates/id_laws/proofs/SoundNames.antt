@@ -1,5 +1,5 @@
--- What a run of a schemas' graph shows that binders Have, they Have, and it shows nothing twice.
-use Rattle.std.proofs.Common.{◌≡◌, inl, inr, ℕ, ◌≤◌, ◌<◌, Bool as Truth, true, false, cond, Option, Some, None, List, [], ◌∷◌, length, refl, sym, ◌∙◌, ap}
+-- What a run of a schemas' graph shows that binders Have, they Have, and it shows one value at most for each path and place.
+use Rattle.std.proofs.Common.{◌≡◌, inl, inr, ℕ, ◌≤◌, ◌<◌, Bool as Truth, true, false, cond, Option, Some, None, List, [], ◌∷◌, length, map, option_map, refl, sym, ◌∙◌, ap}
 use Rattle.std.proofs.Common.{◌+◌, subst, arith}
 use Rattle.std.specs.List.{filter_map, cons_option}
 use Rattle.id_list.specs.List.{Among, AllDiffer}
@@ -15,16 +15,18 @@ use Rattle.id_graph.specs.Graph.{Parts}
 use Rattle.id_tag.specs.declared.Tag.{Tag}
 use Rattle.id_tag.specs.declared.Value.{Value}
 use Rattle.id_tag.specs.declared.Payload.{Payload}
-use Rattle.id_tag.specs.declared.Payload.TheVariants.{Token}
-use Rattle.id_core.specs.Events.{EventView, tag_of}
+use Rattle.id_tag.specs.declared.Payload.TheVariants.{Token, Read, Write}
+use Rattle.id_tag.specs.declared.Structure.{Structure}
+use Rattle.id_core.specs.Events.{EventView}
 use Rattle.id_core.specs.Machines.{World}
 use Rattle.id_core.specs.Observed as shown
 use Rattle.id_meaning.specs.declared.Path.{Path}
+use Rattle.id_meaning.specs.declared.Site.{Site}
 use Rattle.id_meaning.specs.declared.SourceValue.{SourceValue}
 use Rattle.id_meaning.specs.declared.NameValue.{NameValue}
 use Rattle.id_meaning.specs.declared.Fact.TheVariants.{Has}
 use Rattle.id_meaning.specs.Sources.{Source}
-use Rattle.id_meaning.specs.Facts.{binding_has}
+use Rattle.id_meaning.specs.Facts.{binding_has, site}
 use Rattle.id_meaning.specs.Rounds.{Holds}
 use Rattle.id_meaning.specs.Names.{IsNameValue}
 use Rattle.id_build.specs.Rows.{block, label, label_by, node}
@@ -41,7 +43,7 @@ use Rattle.id_runs.proofs.Serials.{contexts_apart}
 use Rattle.id_runs.specs.OneMessage.{Exclusive}
 use Rattle.id_laws.specs.Laws.{events}
 use Rattle.id_laws.specs.Activations.{Live, PathOf}
-use Rattle.id_laws.specs.Topics.{NameIn, Shown, Tells, topic_at, wants}
+use Rattle.id_laws.specs.Topics.{NameIn, Shown, Tells, Told, ToldToken, topic_at, wants}
 use Rattle.id_laws.proofs.Assumed.{IsKnown}
 use Rattle.id_laws.proofs.LoopRows.{variable_of_next}
 use Rattle.id_desugar.specs.Ends.{next_of}
@@ -50,39 +52,45 @@ use Rattle.id_laws.proofs.HasKinds.{binder_thing}
 use Rattle.id_laws.proofs.LabelsShow.{label_place}
 use Rattle.id_laws.proofs.Regions.{label_depth}
 use Rattle.id_laws.proofs.StartTells.{opening_live}
-use Rattle.id_laws.proofs.Tokens.{port_of, value_of}
 use Rattle.id_laws.proofs.TurnedOn.{holds_by}
 use Rattle.id_laws.proofs.Start.{main_is_head, main_within}
 use Rattle.id_laws.proofs.LabelsBind.{label_binds}
 use Rattle.id_laws.proofs.OneSender.{exclusive}
 use Rattle.id_laws.proofs.StartTells.{all_tell, all_speak}
-use Rattle.id_laws.proofs.Observing.{shown_holds, message_handled}
+use Rattle.id_laws.proofs.Observing.{message_handled}
+use Rattle.id_laws.proofs.Naming.{shown_holds}
 use Rattle.id_laws.proofs.Opened.{main_first}
 use Rattle.id_laws.proofs.Seats.{paths_apart}
 use Rattle.id_laws.proofs.TagPaths.{path_shown}
 
--- a message that shows what a binder Has, where each tag has this path: a token for a label
-pub record Names (g : Parts) (path : Tag → Path) (x : Payload) (n : NameValue) : Type 0 where
+-- a message that shows what a binder Has, where each tag has this path and each structure this name: a token for a label
+pub record Names (g : Parts) (path : Tag → Path) (name : Structure → Site) (x : Payload) (n : NameValue) : Type 0 where
   pub tag : Tag
   pub port : Port
   pub token : Value
   pub value : SourceValue
   pub is : x ≡ Token tag port token
   pub label : shown.is_label g tag.instr ≡ true
-  pub brings : shown.source_value token ≡ Some value
+  pub brings : shown.source_value name token ≡ Some value
   pub shows : n ≡ record { path = path tag; place = shown.place_of g tag.instr; value = value }
 
-names_is : (g : Parts) (path : Tag → Path) (x : Payload) (n : NameValue) → shown.name_in g path x ≡ Some n → Names g path x n
-names_is g path (Token t p v) n e = go (shown.is_label g t.instr) (shown.source_value v) refl refl e
+names_is : (g : Parts) (path : Tag → Path) (name : Structure → Site) (x : Payload) (n : NameValue) → shown.name_in g path name x ≡ Some n
+    → Names g path name x n
+names_is g path name (Read c t) n e = cc
+names_is g path name (Write c v t) n e = cc
+names_is g path name (Token t p v) n e = go (shown.is_label g t.instr) (shown.source_value name v) refl refl e
   where
-    go : (b : Truth) (o : Option SourceValue) → shown.is_label g t.instr ≡ b → shown.source_value v ≡ o
-        → cond b (shown.name_at g t.instr (path t) o) None ≡ Some n → Names g path (Token t p v) n
+    go : (b : Truth) (o : Option SourceValue) → shown.is_label g t.instr ≡ b → shown.source_value name v ≡ o
+        → cond b (shown.name_at g t.instr (path t) o) None ≡ Some n → Names g path name (Token t p v) n
     go false o f h e = cc
     go true None f h e = cc
     go true (Some u) f h e = record { tag = t; port = p; token = v; value = u; is = refl; label = f; brings = h; shows = cc }
 
+token_parts : {t u : Tag} {p q : Port} {v w : Value} → Token t p v ≡ Token u q w → (t ≡ u) × ((p ≡ q) × (v ≡ w))
+token_parts e = (cc, (cc, cc))
+
 -- what events show differs, where two that show one thing handled messages of one key, and no key has two
-shown_differ : {B : Type 0} (f : EventView → Option B) (vs : List EventView)
+pub shown_differ : {B : Type 0} (f : EventView → Option B) (vs : List EventView)
     → ((v w : EventView) (y : B) → Among v vs → Among w vs → f v ≡ Some y → f w ≡ Some y → key_of v.message.payload ≡ key_of w.message.payload)
     → ((k : Key) → count_for k (told vs) ≤ 1) → AllDiffer (filter_map f vs)
 shown_differ f [] same few = tt
@@ -100,6 +108,24 @@ shown_differ {B} f (v ∷ vs) same few =
       rest,
     )
 
+-- what is named of a filtered list, at once
+pub map_filter : {A B C : Type 0} (h : B → C) (f : A → Option B) (xs : List A) → map h (filter_map f xs) ≡ filter_map (λ x. option_map h (f x)) xs
+map_filter h f [] = refl
+map_filter {A} {B} {C} h f (x ∷ xs) = go (f x) (map_filter h f xs)
+  where
+    go : (o : Option B) → map h (filter_map f xs) ≡ filter_map (λ y. option_map h (f y)) xs
+        → map h (cons_option o (filter_map f xs)) ≡ cons_option (option_map h o) (filter_map (λ y. option_map h (f y)) xs)
+    go None e = e
+    go (Some y) e = ap (λ ys. h y ∷ ys) e
+
+pub some_is : {A : Type 0} {x y : A} → Some x ≡ Some y → x ≡ y
+some_is e = cc
+
+-- what a mapped option gives comes of what the option gives
+pub option_some : {A B : Type 0} (h : A → B) (o : Option A) (y : B) → option_map h o ≡ Some y → (x : A) × (o ≡ Some x) × (y ≡ h x)
+option_some h None y e = cc
+option_some h (Some x) y e = (x, refl, sym (some_is e))
+
 true_false : true ≡ false → ⊥
 true_false h = cc
 
@@ -113,20 +139,30 @@ module _ (S : Source) (known : IsKnown S.checked) (g : Parts) (number : ℕ → 
   abbrev tag_path : Tag → Path
   tag_path = shown.path_in g s.elements
 
+  abbrev name_of : Structure → Site
+  name_of = shown.structure_in g s.elements
+
   -- a token for a binder's label, at port 0, with what the binder Has at the activation's path
   record Label (b : ℕ) (a : Activation) (p : Port) (v : Value) : Type 0 where
     port : p ≡ Zero
     live : Live S number run a (region P (label P b))
     path : Path
     path_of : PathOf S number run a path
-    has : (w : SourceValue) → shown.source_value v ≡ Some w → Holds S (Has path (place P b) w)
+    has : (w : SourceValue) → shown.source_value name_of v ≡ Some w → Holds S (Has path (place P b) w)
 
   -- what is told of a name in the region of its label
   named_label : (b : ℕ) (a : Activation) (v : Value) → b < length (rows P) → is_binder (node P b) ≡ true → Tells S number run a (NameIn (region P (label P b)) b) v
       → Label b a Zero v
   named_label b a v within binds w =
       let shown_at = subst (λ d. Shown S number run a d (place P b) v) (label_depth known within binds) w.1 in
-      record { port = refl; live = w.0; path = shown_at.path; path_of = shown_at.path_of; has = λ u e. shown_holds shown_at e }
+      record {
+        port = refl;
+        live = w.0;
+        path = shown_at.path;
+        path_of = shown_at.path_of;
+        has = λ u e. shown_holds S known g number numbered count s run r
+            shown_at e;
+      }
 
   at_label : (b : ℕ) → b < length (rows P) → is_binder (node P b) ≡ true → (a : Activation) (p : Port) (v : Value)
       → T a (label P b) (node P (label P b)) p v → Label b a p v
@@ -156,7 +192,7 @@ module _ (S : Source) (known : IsKnown S.checked) (g : Parts) (number : ℕ → 
             live = here (Binding x e) is refl live;
             path = (u.1).path;
             path_of = (u.1).path_of;
-            has = λ z f. holds_by S _ _ (binding_has (record { within = within; node = is })) (shown_holds u.1 f, tt);
+            has = λ z f. holds_by S _ _ (binding_has (record { within = within; node = is })) (shown_holds S known g number numbered count s run r u.1 f, tt);
           }
       by (Binding x e) is One w = absurd (own (Binding x e) is refl One w)
       by (Next x k o e) is q w =
@@ -177,13 +213,15 @@ module _ (S : Source) (known : IsKnown S.checked) (g : Parts) (number : ℕ → 
     key : key_of x ≡ AtPort (tag_in activation (number (label P row) 0)) Zero
     has : Holds S (Has n.path (place P row) n.value)
 
-  came_to : (n : NameValue) (x : Payload) → Among x (handled run) → shown.name_in g tag_path x ≡ Some n → Came n x
+  came_to : (n : NameValue) (x : Payload) → Among x (handled run) → shown.name_in g tag_path name_of x ≡ Some n → Came n x
   came_to n x among e =
-      let y = names_is g tag_path x n e in
-      let z = all_tell S known g number numbered run count s r x (inr among) in
-      let tag_is : tag_in z.activation (number z.row z.part) ≡ y.tag = ap tag_of (sym z.is ∙ y.is) in
-      let port_is : z.port ≡ y.port = ap port_of (sym z.is ∙ y.is) in
-      let token_is : z.value ≡ y.token = ap value_of (sym z.is ∙ y.is) in
+      let y = names_is g tag_path name_of x n e in
+      let z : ToldToken S number run (Token y.tag y.port y.token) = subst (Told S number run) y.is
+      (all_tell S known g number numbered run count s r x (inr among)) in
+      let parts = token_parts (sym z.is) in
+      let tag_is : tag_in z.activation (number z.row z.part) ≡ y.tag = parts.0 in
+      let port_is : z.port ≡ y.port = parts.1.0 in
+      let token_is : z.value ≡ y.token = parts.1.1 in
       let instr_is : number z.row z.part ≡ (y.tag).instr = ap (λ (t : Tag). t.instr) tag_is in
       let found = label_binds P known g number numbered (main_is_head S g number numbered known) (main_within S g number numbered known) z.row z.part z.is_part (ap (shown.is_label g) instr_is ∙ y.label) in
       let b = found.binder in
@@ -204,17 +242,17 @@ module _ (S : Source) (known : IsKnown S.checked) (g : Parts) (number : ℕ → 
         activation = z.activation;
         live = at.live;
         path_of = subst (PathOf S number run z.activation) (sym path_is) at.path_of;
-        key = ap key_of z.is ∙ (λ i. AtPort (tag_in z.activation (number (sym found.is i) (found.first i))) (at.port i));
+        key = ap key_of (y.is ∙ z.is) ∙ (λ i. AtPort (tag_in z.activation (number (sym found.is i) (found.first i))) (at.port i));
         has = subst (λ (w : Path × SourceValue). Holds S (Has w.0 (place P b) w.1)) (λ i. (sym path_is i, sym value_is i))
-            (at.has y.value (ap shown.source_value token_is ∙ y.brings));
+            (at.has y.value (ap (shown.source_value name_of) token_is ∙ y.brings));
       }
 
-  event_came : (n : NameValue) (v : EventView) → Among v (events s) → shown.name_in g tag_path v.message.payload ≡ Some n → Came n v.message.payload
+  event_came : (n : NameValue) (v : EventView) → Among v (events s) → shown.name_in g tag_path name_of v.message.payload ≡ Some n → Came n v.message.payload
   event_came n v among e = came_to n v.message.payload (message_handled g S.inputs count s run r v among) e
 
   pub sound_names : (n : NameValue) → Among n (shown.names g s) → IsNameValue S n
   sound_names n among =
-      let event = among_filter_map (λ (u : EventView). shown.name_in g tag_path u.message.payload) (events s) n among in
+      let event = among_filter_map (λ (u : EventView). shown.name_in g tag_path name_of u.message.payload) (events s) n among in
       let x = event_came n event.0 event.1 event.2 in
       record {
         binder = record { row = x.row; within = x.within; binds = x.binds; here = sym x.place_is };
@@ -226,16 +264,32 @@ module _ (S : Source) (known : IsKnown S.checked) (g : Parts) (number : ℕ → 
       exclusive S g number numbered known count (λ t hs q. all_tell S known g number numbered hs count t q)
       (λ t hs q. all_speak S known g number numbered hs count t q)
 
-  pub names_differ : AllDiffer (shown.names g s)
+  -- where a name is shown
+  abbrev site_of : NameValue → Site
+  site_of n = site n.path n.place
+
+  pub names_differ : AllDiffer (map site_of (shown.names g s))
   names_differ =
-      shown_differ (λ (u : EventView). shown.name_in g tag_path u.message.payload) (events s)
-      (λ v w n h k e f.
-      let x = event_came n v h e in
-      let y = event_came n w k f in
-      let same : x.row ≡ y.row = (known.apart).apart x.row y.row x.within y.within (binder_thing (node P x.row) x.binds) (binder_thing (node P y.row) y.binds) (sym x.place_is ∙ y.place_is) in
-      let under : x.activation ≡ y.activation =
-      paths_apart S known g number numbered run (contexts_apart g S.inputs count s run r) (fired_once g S.inputs count only s run r)
-      (λ a m i q c within is o. main_first S known number run g numbered (contexts_apart g S.inputs count s run r) (opening_live S known g number numbered run count s r a m i q c within is o))
-      x.path_of y.path_of (main_first S known number run g numbered (contexts_apart g S.inputs count s run r) x.live) (main_first S known number run g numbered (contexts_apart g S.inputs count s run r) y.live) in
-      x.key ∙ (λ i. AtPort (tag_in (under i) (number (label P (same i)) 0)) Zero) ∙ sym y.key)
-      (told_once g S.inputs count only s run r)
+      subst AllDiffer (sym (map_filter site_of (λ (u : EventView). shown.name_in g tag_path name_of u.message.payload) (events s)))
+      (shown_differ (λ (u : EventView). option_map site_of (shown.name_in g tag_path name_of u.message.payload)) (events s) one
+      (told_once g S.inputs count only s run r))
+    where
+      one : (v w : EventView) (y : Site) → Among v (events s) → Among w (events s) → option_map site_of (shown.name_in g tag_path name_of v.message.payload) ≡ Some y
+          → option_map site_of (shown.name_in g tag_path name_of w.message.payload) ≡ Some y → key_of v.message.payload ≡ key_of w.message.payload
+      one v w y h k e f =
+          let a = option_some site_of (shown.name_in g tag_path name_of v.message.payload) y e in
+          let b = option_some site_of (shown.name_in g tag_path name_of w.message.payload) y f in
+          let x = event_came a.0 v h a.1 in
+          let z = event_came b.0 w k b.1 in
+          let paths : (a.0).path ≡ (b.0).path = ap (λ (q : Site). q.path) (sym a.2 ∙ b.2) in
+          let places : (a.0).place ≡ (b.0).place = ap (λ (q : Site). q.place) (sym a.2 ∙ b.2) in
+          let same : x.row ≡ z.row =
+          (known.apart).apart x.row z.row x.within z.within (binder_thing (node P x.row) x.binds) (binder_thing (node P z.row) z.binds)
+          (sym x.place_is ∙ places ∙ z.place_is) in
+          let apart = contexts_apart g S.inputs count s run r in
+          let under : x.activation ≡ z.activation =
+          paths_apart S known g number numbered run apart (fired_once g S.inputs count only s run r)
+          (λ a m i q c within is o. main_first S known number run g numbered apart (opening_live S known g number numbered run count s r a m i q c within is o))
+          x.path_of (subst (PathOf S number run z.activation) (sym paths) z.path_of)
+          (main_first S known number run g numbered apart x.live) (main_first S known number run g numbered apart z.live) in
+          x.key ∙ (λ i. AtPort (tag_in (under i) (number (label P (same i)) 0)) Zero) ∙ sym z.key

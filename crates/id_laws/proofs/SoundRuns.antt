@@ -16,6 +16,7 @@ use Rattle.id_laws.proofs.SoundAnswer.{sound_answer}
 use Rattle.id_laws.proofs.SoundNames.{sound_names, names_differ}
 use Rattle.id_laws.proofs.SoundFaults.{sound_faults}
 use Rattle.id_laws.proofs.SoundValues.{sound_values}
+use Rattle.id_laws.proofs.SoundCells.{sound_structures, structures_differ, sound_cells, cells_differ, sound_asks, asks_differ, sound_waiting, waiting_differ}
 
 -- in any run one event alone, or the start alone, sends for each key
 pub alone : (S : Source) → IsKnown S.checked → (g : Parts) (number : ℕ → ℕ → ℕ) → Numbered S.checked g number → (count : ℕ) → Exclusive g S.inputs count
@@ -29,10 +30,18 @@ module _ (S : Source) (known : IsKnown S.checked) (g : Parts) (number : ℕ → 
     answer = sound_answer S known g number numbered count s run r;
     names = sound_names S known g number numbered count s run r;
     names_once = names_differ S known g number numbered count s run r;
+    structures = sound_structures S known g number numbered count s run r;
+    structures_once = structures_differ S known g number numbered count s run r;
+    cells = sound_cells S known g number numbered count s run r;
+    cells_once = cells_differ S known g number numbered count s run r;
+    asks = sound_asks S known g number numbered count s run r;
+    asks_once = asks_differ S known g number numbered count s run r;
+    waiting = sound_waiting S known g number numbered count s run r;
+    waiting_once = waiting_differ S known g number numbered count s run r;
     faults = sound_faults S known g number numbered count s run r;
     values = sound_values S known g number numbered count s run r;
   }
 
-  -- no event is `Stuck`, and each port has got at most one token under each tag
+  -- no event is `Stuck`, and each key has at most one message
   pub free_at : IsNeverStuck s
   free_at = never_stuck_at S g count (alone S known g number numbered count) s run r

@@ -3,7 +3,8 @@ use Rattle.std.proofs.Common.{◌≡◌, ◌⊎◌, inl, inr, ℕ, suc, ◌+◌,
 use Rattle.id_parts.specs.declared.row.Region.{Region}
 use Rattle.id_parts.specs.declared.row.Node.{Node}
 use Rattle.id_parts.specs.declared.row.Node.TheVariants.{Head, Param, Literal, Name, Unary, Binary, Split, If, Enter, Arg, Call, Block}
-use Rattle.id_parts.specs.declared.row.Node.TheVariants.{Binding, Def, Program, Start, LoopHead, Variable, Entries, Switches, Turn, Next, Reset, Loop}
+use Rattle.id_parts.specs.declared.row.Node.TheVariants.{Binding, Program, Start, LoopHead, Variable, Entries, Switches, Turn, Next, Reset, Loop}
+use Rattle.id_parts.specs.declared.row.Node.TheVariants.{Array, Fetch, Address, Store}
 use Rattle.id_parts.specs.Rows.{at}
 use Rattle.id_parts.specs.Tables.{HasPart, HasOperand, begins_block, is_binder, is_block, is_expression}
 use Rattle.id_check.specs.declared.checked.Checked.{Checked}
@@ -15,15 +16,16 @@ use Rattle.id_desugar.specs.Ends.{end_of}
 use Rattle.id_desugar.specs.Regions.{imports_of}
 use Rattle.id_build.specs.Rows.{label, label_by, block, node, output, name_in, named_in, origin_of, origin, trigger_of, body_of, turn_row, next_of, entering, entries_row}
 use Rattle.id_build.specs.Schemas.{Feeds}
-use Rattle.id_laws.specs.Topics.{IsPart}
+use Rattle.id_laws.specs.Topics.{of_fetch, of_store, IsPart}
 use Rattle.id_laws.proofs.Assumed.{IsKnown}
 use Rattle.id_laws.proofs.Loops.{loop_of_head, loop_of_row, reset_node, reset_within, turn_node, turn_within, turn_in}
 use Rattle.id_build.proofs.LoopsLemmas.{entries_node, entries_stand, entries_within, next_is}
 use Rattle.id_laws.proofs.Arcs.{starts, enters, constant, unary, binary, turns_on, hands, joins, opens, gets, names, part_of, fed}
 use Rattle.id_laws.proofs.Arcs.{Arc, to_back, to_literal, to_unary, to_left, to_right, to_test, to_trigger, to_import_test, to_import, to_then, to_else}
 use Rattle.id_laws.proofs.Arcs.{to_enter, to_context, to_argument, to_label, to_loop_context, to_entering, to_head, to_loop_back}
-use Rattle.id_laws.proofs.Arcs.{to_variable, to_entry, to_turn, to_turn_name, to_next, to_reset, gets_last, takes_in, varies, moves_on, moves_name, advances, resets}
+use Rattle.id_laws.proofs.Arcs.{to_variable, to_entry, to_turn, to_turn_name, to_next, to_reset, to_low, to_high, to_target, to_index, to_fetch, to_store, to_stored, allocates, addresses, gets_reply, gets_last, takes_in, varies, moves_on, moves_name, advances, resets}
 use Rattle.id_laws.proofs.Calls.{arg_at}
+use Rattle.id_laws.proofs.Stores.{address_at}
 use Rattle.id_laws.proofs.Conditionals.{arm_of, conditional, test_at}
 use Rattle.id_build.proofs.EndsLemmas.{end_is}
 use Rattle.id_build.proofs.NamesSeen.{Sees, Comes, from_label, from_switch, from_entry, comes, listed}
@@ -135,6 +137,20 @@ module _ (P : Checked) (known : IsKnown P) where
       go (If s x y) is = at_node (If s x y) is (record { is_part = part_of within (joins is); not_answer = λ z. let bad : If s x y ≡ Program = sym is ∙ z in cc; stays = ap is_mover is })
       go (Call s c) is = at_node (Call s c) is (record { is_part = part_of within (gets is); not_answer = λ z. let bad : Call s c ≡ Program = sym is ∙ z in cc; stays = ap is_mover is })
       go (Loop g u l) is = at_node (Loop g u l) is (record { is_part = part_of within (gets_last is); not_answer = λ z. let bad : Loop g u l ≡ Program = sym is ∙ z in cc; stays = ap is_mover is })
+      go (Array x y) is =
+          at_node (Array x y) is (record {
+            is_part = part_of within (allocates is);
+            not_answer = λ z. let bad : Array x y ≡ Program = sym is
+                ∙ z in cc;
+            stays = ap is_mover is;
+          })
+      go (Fetch x y) is =
+          at_node (Fetch x y) is (record {
+            is_part = part_of within (gets_reply is);
+            not_answer = λ z. let bad : Fetch x y ≡ Program = sym is
+                ∙ z in cc;
+            stays = ap is_mover is;
+          })
       go (Block b) is = let bad : true ≡ false = sym (ap is_block is) ∙ no_block in cc
       go _ is = absurd (true_false (sym expression ∙ ap is_expression is))
 
@@ -227,6 +243,28 @@ module _ (P : Checked) (known : IsKnown P) where
       inl (steady Turn is refl refl (named_source (region P n) b z.0 z.1 z.2))
   by_arc {n} within (to_next {x = x} {k = k} {o = o} {v = v} is) = inl (steady _ is refl refl (operand_source n v (Next x k o v) within is (inr refl) refl))
   by_arc {n} within (to_reset {v = v} is) = inl (steady _ is refl refl (operand_source n v (Reset v) within is refl refl))
+  by_arc {n} within (to_low {a = e} {b = f} is) = inl (steady _ is refl refl (operand_source n e (Array e f) within is (inl refl) (inl refl)))
+  by_arc {n} within (to_high {a = e} {b = f} is) = inl (steady _ is refl refl (operand_source n f (Array e f) within is (inr refl) (inr refl)))
+  by_arc {n} within (to_target {t = t} {i = i} (of_fetch is)) = inl (steady _ is refl refl (operand_source n t (Fetch t i) within is (inl refl) (inl refl)))
+  by_arc {n} within (to_target {t = t} {i = i} (of_store is)) = inl (steady _ is refl refl (operand_source n t (Address t i) within is (inl refl) (inl refl)))
+  by_arc {n} within (to_index {t = t} {i = i} (of_fetch is)) = inl (steady _ is refl refl (operand_source n i (Fetch t i) within is (inr refl) (inr refl)))
+  by_arc {n} within (to_index {t = t} {i = i} (of_store is)) = inl (steady _ is refl refl (operand_source n i (Address t i) within is (inr refl) (inr refl)))
+  by_arc {n} within (to_fetch {t = t} {i = i} is) =
+      inl (steady _ is refl refl (record {
+        is_part = part_of within (addresses (of_fetch is));
+        not_answer = λ z. let bad : Fetch t i ≡ Program = sym is
+            ∙ z in cc;
+        stays = ap is_mover is;
+      }))
+  by_arc {n} within (to_store {a = e} {v = v} is) =
+      let z = address_at known within is in
+      inl (steady _ is refl refl (record {
+        is_part = part_of z.within (addresses (of_store z.node));
+        not_answer = λ q. let bad : Address z.target
+            z.index ≡ Program = sym z.node ∙ q in cc;
+        stays = ap is_mover z.node;
+      }))
+  by_arc {n} within (to_stored {a = e} {v = v} is) = inl (steady _ is refl refl (operand_source n v (Store e v) within is (inr refl) refl))
 
   -- what feeds a part gives under its own tag, save to a loop from its iterations
   pub fed_from : {s : Origin} {n part : ℕ} {p : Port} → Feeds P s n part p → Stays P n p s ⊎ Returns P n part p s

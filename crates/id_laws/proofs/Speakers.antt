@@ -3,14 +3,14 @@ use Rattle.std.proofs.Common.{◌≡◌, ℕ, ◌<◌, true, false, Some, length
 use Rattle.id_list.specs.List.{Among}
 use Rattle.id_parts.specs.declared.row.Region.{Region}
 use Rattle.id_parts.specs.declared.row.Node.{Node}
-use Rattle.id_parts.specs.declared.row.Node.TheVariants.{Param, Literal, Name, Unary, Binary, If, Block, Binding, Call, Next, Loop}
+use Rattle.id_parts.specs.declared.row.Node.TheVariants.{Param, Literal, Name, Unary, Binary, If, Block, Binding, Call, Next, Loop, Array, Fetch}
 use Rattle.id_parts.specs.Tables.{is_binder, is_block, is_expression}
 use Rattle.id_check.specs.declared.checked.Checked.{Checked}
 use Rattle.id_check.specs.Programs as checked
-use Rattle.id_check.specs.Programs.{Stands, place, region, rows}
+use Rattle.id_check.specs.Programs.{region, rows}
 use Rattle.id_graph.specs.declared.dests.Port.{Port}
 use Rattle.id_build.specs.declared.arc.Origin.{Origin}
-use Rattle.id_build.specs.Rows.{block, label, label_by, node, name_in, named_in, origin, origin_of, output, feed, feeds_of}
+use Rattle.id_build.specs.Rows.{block, label, label_by, node, name_in, named_in, origin, origin_of, output, feed, feeds_of, reply}
 use Rattle.id_build.specs.Schemas.{Feeds}
 use Rattle.id_laws.specs.Carried.{speaker, speaker_of}
 use Rattle.id_laws.proofs.Assumed.{IsKnown}
@@ -27,6 +27,12 @@ module _ (P : Checked) (known : IsKnown P) where
   own_origin n m within is plain own =
       let itself = (known.table).value_self n within (ap is_block is ∙ plain) in
       ap (λ v. origin_of P v (region P v) (node P v)) itself ∙ ap (origin_of P n (region P n)) is ∙ own (region P n)
+
+  -- a fetch gives what came to it as a reply
+  pub fetch_origin : (n t i : ℕ) → n < length (rows P) → node P n ≡ Fetch t i → origin P n ≡ reply n
+  fetch_origin n t i within is =
+      let itself = (known.table).value_self n within (ap is_block is) in
+      ap (λ v. origin_of P v (region P v) (node P v)) itself ∙ ap (origin_of P n (region P n)) is
 
   pub name_origin : (n x b : ℕ) → n < length (rows P) → node P n ≡ Name x → checked.binder P n ≡ Some b → origin P n ≡ name_in P (region P n) b
   name_origin n x b within is binds =
@@ -52,6 +58,8 @@ module _ (P : Checked) (known : IsKnown P) where
       by (Call s c) is h = ap (speaker_of P n) is
       by (Block b) is h = ap (speaker_of P n) is
       by (Loop g w l) is h = ap (speaker_of P n) is
+      by (Array a b) is h = ap (speaker_of P n) is
+      by (Fetch t i) is h = ap (speaker_of P n) is
       by _ is h = absurd (true_false (sym h))
 
   pub binder_speaks : (n : ℕ) (m : Node) → node P n ≡ m → is_binder m ≡ true → speaker P n ≡ output (label P n)

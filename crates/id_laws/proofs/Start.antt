@@ -22,14 +22,15 @@ use Rattle.id_tag.specs.declared.Payload.{Payload}
 use Rattle.id_tag.specs.declared.Payload.TheVariants.{Token}
 use Rattle.id_tag.specs.declared.Message.{Message}
 use Rattle.id_valid.specs.Roles.{has_main_place, same_place}
-use Rattle.id_core.specs.Machines.{token_value, input_messages, block_messages}
-use Rattle.id_meaning.specs.declared.SourceValue.{SourceValue}
+use Rattle.id_core.specs.Machines.{input_messages, block_messages}
+use Rattle.id_value.specs.declared.Constant.{Constant}
+use Rattle.id_ops.specs.Operators.{constant_value}
 use Rattle.id_meaning.specs.Sources.{Source}
 use Rattle.id_build.specs.Rows.{Entry, node, answer_row, entries, entries_by, param_entry}
 use Rattle.id_graph.specs.declared.instr.Block.{Block}
 use Rattle.id_build.specs.Schemas.{Numbered, all_heads, block_of}
 use Rattle.id_runs.specs.Activations.{main_activation, tag_in}
-use Rattle.id_runs.specs.Keys.{Key, AtPort, key_of}
+use Rattle.id_runs.specs.Keys.{Key, AtPort, ByFetch, ByStore, key_of}
 use Rattle.id_runs.specs.Runs.{starting}
 use Rattle.id_runs.specs.OneMessage.{count_for}
 use Rattle.id_runs.proofs.Keys.{count_none, count_first}
@@ -69,6 +70,8 @@ zero_one h = cc
 
 abbrev instr_of_key : Key → ℕ
 instr_of_key (AtPort t p) = t.instr
+instr_of_key (ByFetch t) = t.instr
+instr_of_key (ByStore t) = t.instr
 
 module _ (S : Source) (g : Parts) (number : ℕ → ℕ → ℕ) (numbered : Numbered S.checked g number) (known : IsKnown S.checked) where
   abbrev P : Checked
@@ -146,16 +149,16 @@ module _ (S : Source) (g : Parts) (number : ℕ → ℕ → ℕ) (numbered : Num
       ∙ ap (λ es. record { first = number main 0; entries = es } ∷ []) main_entries
 
   -- the tokens that bring inputs to the labels of parameters, in order
-  abbrev pub inputs_to : List ℕ → List SourceValue → List Payload
+  abbrev pub inputs_to : List ℕ → List Constant → List Payload
   inputs_to [] vs = []
   inputs_to (b ∷ bs) [] = []
-  inputs_to (b ∷ bs) (v ∷ vs) = Token (tag_in main_activation (number b 0)) Zero (token_value v) ∷ inputs_to bs vs
+  inputs_to (b ∷ bs) (v ∷ vs) = Token (tag_in main_activation (number b 0)) Zero (constant_value v) ∷ inputs_to bs vs
 
-  inputs_sent : (k : ℕ) (bs : List ℕ) (vs : List SourceValue)
+  inputs_sent : (k : ℕ) (bs : List ℕ) (vs : List Constant)
       → map (λ (m : Message). m.payload) (input_messages k (map (λ x. number x 0) bs) vs) ≡ inputs_to bs vs
   inputs_sent k [] vs = refl
   inputs_sent k (b ∷ bs) [] = refl
-  inputs_sent k (b ∷ bs) (v ∷ vs) = ap (λ ms. Token (tag_in main_activation (number b 0)) Zero (token_value v) ∷ ms) (inputs_sent (suc k) bs vs)
+  inputs_sent k (b ∷ bs) (v ∷ vs) = ap (λ ms. Token (tag_in main_activation (number b 0)) Zero (constant_value v) ∷ ms) (inputs_sent (suc k) bs vs)
 
   abbrev pub signal_to : Payload
   signal_to = Token (tag_in main_activation (number main 0)) Zero Signal
@@ -183,15 +186,15 @@ module _ (S : Source) (g : Parts) (number : ℕ → ℕ → ℕ) (numbered : Num
   param_part b among = let z = a_param (rows P) main (length (rows P)) b among in part_of z.within (enters (z.param).is)
 
   -- the input that a token brings
-  record Brings (bs : List ℕ) (vs : List SourceValue) (x : Payload) : Type 0 where
+  record Brings (bs : List ℕ) (vs : List Constant) (x : Payload) : Type 0 where
     number_of : ℕ
     row : ℕ
-    value : SourceValue
+    value : Constant
     param : slice_get bs number_of ≡ Some row
     given : slice_get vs number_of ≡ Some value
-    is : x ≡ Token (tag_in main_activation (number row 0)) Zero (token_value value)
+    is : x ≡ Token (tag_in main_activation (number row 0)) Zero (constant_value value)
 
-  brings : (bs : List ℕ) (vs : List SourceValue) (x : Payload) → Among x (inputs_to bs vs) → Brings bs vs x
+  brings : (bs : List ℕ) (vs : List Constant) (x : Payload) → Among x (inputs_to bs vs) → Brings bs vs x
   brings [] vs x h = absurd h
   brings (b ∷ bs) [] x h = absurd h
   brings (b ∷ bs) (v ∷ vs) x (inl is) = record { number_of = 0; row = b; value = v; param = refl; given = refl; is = is }
@@ -211,7 +214,7 @@ module _ (S : Source) (g : Parts) (number : ℕ → ℕ → ℕ) (numbered : Num
                 row = b.row;
                 part = 0;
                 port = Zero;
-                value = token_value b.value;
+                value = constant_value b.value;
                 starts_at = input b.row b.value (record { number = b.number_of; param = b.param; value = b.given });
                 is_part = param_part b.row (Among-from_at b.row (params_at (rows P) main) b.number_of b.param);
                 is = b.is;
@@ -219,14 +222,14 @@ module _ (S : Source) (g : Parts) (number : ℕ → ℕ → ℕ) (numbered : Num
         ]
       ]
 
-  input_listed : (bs : List ℕ) (vs : List SourceValue) (n b : ℕ) (v : SourceValue) → slice_get bs n ≡ Some b → slice_get vs n ≡ Some v
-      → Among (Token (tag_in main_activation (number b 0)) Zero (token_value v)) (inputs_to bs vs)
+  input_listed : (bs : List ℕ) (vs : List Constant) (n b : ℕ) (v : Constant) → slice_get bs n ≡ Some b → slice_get vs n ≡ Some v
+      → Among (Token (tag_in main_activation (number b 0)) Zero (constant_value v)) (inputs_to bs vs)
   input_listed [] vs n b v h k = cc
   input_listed (x ∷ bs) [] n b v h k = cc
   input_listed (x ∷ bs) (w ∷ vs) zero b v h k =
       let row_is : x ≡ b = some_is h in
       let value_is : w ≡ v = some_is k in
-      inl (λ i. Token (tag_in main_activation (number (sym row_is i) 0)) Zero (token_value (sym value_is i)))
+      inl (λ i. Token (tag_in main_activation (number (sym row_is i) 0)) Zero (constant_value (sym value_is i)))
   input_listed (x ∷ bs) (w ∷ vs) (suc n) b v h k = inr (input_listed bs vs n b v h k)
 
   -- what starts is there
@@ -234,18 +237,20 @@ module _ (S : Source) (g : Parts) (number : ℕ → ℕ → ℕ) (numbered : Num
       → Among (Token (tag_in main_activation (number n part)) p v) (starting g S.inputs)
   is_there signal = subst (Among signal_to) (sym starting_is) (inl refl)
   is_there way_back = subst (Among way_back_to) (sym starting_is) (inr (inl refl))
-  is_there (input b v x) = subst (Among (Token (tag_in main_activation (number b 0)) Zero (token_value v))) (sym starting_is) (inr (inr (input_listed (params_at (rows P) main) S.inputs x.number b v x.param x.value)))
+  is_there (input b v x) =
+      subst (Among (Token (tag_in main_activation (number b 0)) Zero (constant_value v))) (sym starting_is)
+      (inr (inr (input_listed (params_at (rows P) main) S.inputs x.number b v x.param x.value)))
 
   -- ---- none is there twice
 
   number_of_key : {j k : Key} {m n : ℕ} {p q : Port} → j ≡ AtPort (tag_in main_activation m) p → k ≡ AtPort (tag_in main_activation n) q → j ≡ k → m ≡ n
   number_of_key e e' same = ap instr_of_key (sym e ∙ same ∙ e')
 
-  inputs_apart : (k : Key) (bs : List ℕ) (vs : List SourceValue) → ((b : ℕ) → Among b bs → IsPart P b 0) → AllDiffer bs → count_for k (inputs_to bs vs) ≤ 1
+  inputs_apart : (k : Key) (bs : List ℕ) (vs : List Constant) → ((b : ℕ) → Among b bs → IsPart P b 0) → AllDiffer bs → count_for k (inputs_to bs vs) ≤ 1
   inputs_apart k [] vs part differ = omega (arith, count_none k)
   inputs_apart k (b ∷ bs) [] part differ = omega (arith, count_none k)
   inputs_apart k (b ∷ bs) (v ∷ vs) part differ =
-      count_first k (Token (tag_in main_activation (number b 0)) Zero (token_value v)) (inputs_to bs vs)
+      count_first k (Token (tag_in main_activation (number b 0)) Zero (constant_value v)) (inputs_to bs vs)
       (inputs_apart k bs vs (λ y h. part y (inr h)) differ.1)
       (λ y h same.
       let z = brings bs vs y h in

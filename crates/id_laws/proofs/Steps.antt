@@ -1,8 +1,6 @@
 -- What speaks in a run stays in its iteration, and what moves goes to the next one or to the first.
 use Rattle.std.proofs.Common.{◌≡◌, inr, ℕ, Bool as Truth, true, false, List, refl, sym, ◌∙◌, ap, subst}
-use Rattle.id_parts.specs.declared.row.Node.{Node}
 use Rattle.id_parts.specs.declared.row.Node.TheVariants.{Reset}
-use Rattle.id_check.specs.declared.checked.Checked.{Checked}
 use Rattle.id_check.specs.Programs.{region}
 use Rattle.id_graph.specs.declared.dests.Port.{Port}
 use Rattle.id_graph.specs.declared.dests.Port.TheVariants.{Zero, One}

@@ -4,7 +4,7 @@ use Rattle.std.proofs.Common.{◌+◌, ◌-◌, refl, sym, ◌∙◌, ap, subst,
 use Rattle.std.proofs.lemmas.Bool.{eq-eqb}
 use Rattle.id_list.specs.List.{Among, AllDiffer}
 use Rattle.id_parts.specs.declared.row.Region.{Region}
-use Rattle.id_parts.specs.declared.row.Node.TheVariants.{Enter, Start}
+use Rattle.id_parts.specs.declared.row.Node.TheVariants.{Enter}
 use Rattle.std.specs.Prelude.{option_map}
 use Rattle.id_graph.specs.declared.instr.Instr.{Instr}
 use Rattle.id_graph.specs.declared.instr.Op.TheVariants.{Enter as EnterOp}

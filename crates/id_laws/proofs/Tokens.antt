@@ -5,20 +5,16 @@ use Rattle.id_graph.specs.declared.dests.Port.{Port}
 use Rattle.id_graph.specs.Graph.{Parts}
 use Rattle.id_tag.specs.declared.Tag.{Tag}
 use Rattle.id_tag.specs.declared.Value.{Value}
-use Rattle.id_tag.specs.declared.Payload.{Payload}
 use Rattle.id_tag.specs.declared.Payload.TheVariants.{Token}
-use Rattle.id_core.specs.Events.{tag_of}
 use Rattle.id_meaning.specs.Sources.{Source}
 use Rattle.id_build.specs.Schemas.{Numbered}
 use Rattle.id_runs.specs.Activations.{Activation, tag_in, activation_of}
 use Rattle.id_runs.specs.Events.{Event}
 use Rattle.id_laws.specs.Topics.{IsPart, Tells, Told, topic_at}
 
-abbrev pub port_of : Payload → Port
-port_of (Token t p v) = p
-
-abbrev pub value_of : Payload → Value
-value_of (Token t p v) = v
+-- the tag, the port and the value of a token
+pub token_is : {t u : Tag} {p q : Port} {v w : Value} → Token t p v ≡ Token u q w → (t ≡ u) × ((p ≡ q) × (v ≡ w))
+token_is h = (cc, (cc, cc))
 
 -- parts with one number are one
 pub one_part : {P : Checked} {g : Parts} {number : ℕ → ℕ → ℕ} {n k n' k' : ℕ} → Numbered P g number → IsPart P n k → IsPart P n' k'
@@ -37,10 +33,11 @@ pub told_at : (S : Source) (g : Parts) (number : ℕ → ℕ → ℕ) (run : Lis
     → (a : Activation) (n k : ℕ) (p : Port) (v : Value) → IsPart S.checked n k
     → Told S number run (Token (tag_in a (number n k)) p v) → Tells S number run a (topic_at S.checked n k p) v
 told_at S g number run numbered a n k p v part x =
-    let tags = ap tag_of x.is in
+    let parts = token_is x.is in
+    let tags = parts.0 in
     let at = one_part numbered part x.is_part (same_number a x.activation (number n k) (number x.row x.part) tags) in
     let acts = same_activation a x.activation (number n k) (number x.row x.part) tags in
-    let ports : p ≡ x.port = ap port_of x.is in
-    let values : v ≡ x.value = ap value_of x.is in
+    let ports : p ≡ x.port = parts.1.0 in
+    let values : v ≡ x.value = parts.1.1 in
     subst (λ (z : Activation × (ℕ × (ℕ × (Port × Value)))). Tells S number run z.0 (topic_at S.checked z.1.0 z.1.1.0 z.1.1.1.0) z.1.1.1.1)
     {x = (x.activation, (x.row, (x.part, (x.port, x.value))))} {y = (a, (n, (k, (p, v))))} (λ i. (sym acts i, (sym at.0 i, (sym at.1 i, (sym ports i, sym values i))))) x.tells

@@ -6,12 +6,13 @@ use Rattle.std.proofs.lemmas.Bool.{cases_eq}
 use Rattle.std.proofs.lemmas.Bool.Decides.{nat_tests}
 use Rattle.id_parts.specs.declared.row.Region.{Region}
 use Rattle.id_parts.specs.declared.row.Node.{Node}
-use Rattle.id_parts.specs.declared.row.Node.TheVariants.{Head, Param, Literal, Name, Unary, Binary, Split, If, Enter, Arg, Call, Block}
-use Rattle.id_parts.specs.declared.row.Node.TheVariants.{Binding, Def, Program, Switches, Body, Next, Loop, LoopHead}
+use Rattle.id_parts.specs.declared.row.Node.TheVariants.{Head, Split, If, Call}
+use Rattle.id_parts.specs.declared.row.Node.TheVariants.{Def, Program, Switches, Body, Next, Loop, LoopHead, Address, Store}
 use Rattle.id_parts.specs.Rows.{arm_at, at, top}
 use Rattle.id_parts.specs.Tables.{is_expression, is_top}
 use Rattle.id_parts.specs.Turns.{IsDefOf, operand, left, right, test, argument, body, statement, Root, of_procedure, of_then, of_otherwise, TurnedIn, root, part}
-use Rattle.id_parts.specs.Turns.{of_test, of_statement, of_next, of_last}
+use Rattle.id_parts.specs.Turns.{low, high, fetched, fetch_index, address_target, address_index, stored_value, stored}
+use Rattle.id_parts.specs.Turns.{of_test, of_statement, of_store, of_next, of_last}
 use Rattle.id_check.specs.declared.checked.Checked.{Checked}
 use Rattle.id_check.specs.Programs.{Stands, place, region, rows}
 use Rattle.id_desugar.specs.Ends.{end_of}
@@ -21,7 +22,8 @@ use Rattle.id_meaning.specs.declared.SourceValue.TheVariants as source
 use Rattle.id_meaning.specs.declared.Fact.TheVariants.{On, Has}
 use Rattle.id_meaning.specs.Sources.{Source, body_of}
 use Rattle.id_meaning.specs.Facts.{outermost, below, without, Rule, main_on, operand_on, left_on, right_on, test_on, arm_on, argument_on, callee_on}
-use Rattle.id_meaning.specs.Facts.{statement_on, body_on}
+use Rattle.id_meaning.specs.Facts.{statement_on, store_on, body_on, bounds_low_on, bounds_high_on, fetch_target_on, fetch_index_on, store_target_on, store_index_on, store_value_on}
+use Rattle.id_meaning.specs.Facts.{BodyStores, StoreStands, loop_store_on}
 use Rattle.id_meaning.specs.Rounds.{Every, Rounds, Holds}
 use Rattle.id_build.specs.Rows.{node}
 use Rattle.id_runs.specs.Activations.{Activation}
@@ -36,6 +38,7 @@ use Rattle.id_parts.specs.Loops.{IsLoopOf}
 use Rattle.id_parts.specs.Turns.{IsStatement}
 use Rattle.id_meaning.specs.Facts.{BodyBinds, NextStands, loop_test_on, turn_on, loop_statement_on, next_on, last_on}
 use Rattle.id_laws.proofs.Calls.{call_at, callee_stands}
+use Rattle.id_laws.proofs.Stores.{address_at}
 use Rattle.id_laws.proofs.Conditionals.{arm_of, chosen, conditional, one_test}
 use Rattle.id_laws.proofs.Seats.{OneSeat, one_path, main_path_is, live_path, entered_path}
 
@@ -89,6 +92,11 @@ module _ (S : Source) (known : IsKnown S.checked) where
   abbrev P : Checked
   P = S.checked
 
+  -- a store stands with its parts
+  as_store : {n a v t i : ℕ} → n < length (rows P) → node P n ≡ Store a v → node P a ≡ Address t i → StoreStands P n t i v
+  as_store {a = a} within is ad =
+      record { address = a; store = record { within = within; node = is }; parts = record { within = (address_at known within is).within; node = ad } }
+
   -- what the roots of a region being On turn On
   turned_by : {r : Region} {p : Path} → ((e : ℕ) → Root (rows P) r e → Holds S (On p (place P e))) → {e : ℕ} → TurnedIn (rows P) r e
       → Holds S (On p (place P e))
@@ -105,6 +113,17 @@ module _ (S : Source) (known : IsKnown S.checked) where
   turned_by roots (part {n = n} t within (statement {m = m} is st o)) =
       let inside = before (at (rows P) n).first n m st.inside in
       holds_by S _ _ (statement_on (record { within = within; node = is }) st (record { within = omega arith; node = o })) (turned_by roots t, tt)
+  turned_by roots (part {n = n} t within (low o)) = holds_by S _ _ (bounds_low_on (record { within = within; node = o })) (turned_by roots t, tt)
+  turned_by roots (part {n = n} t within (high o)) = holds_by S _ _ (bounds_high_on (record { within = within; node = o })) (turned_by roots t, tt)
+  turned_by roots (part {n = n} t within (fetched o)) = holds_by S _ _ (fetch_target_on (record { within = within; node = o })) (turned_by roots t, tt)
+  turned_by roots (part {n = n} t within (fetch_index o)) = holds_by S _ _ (fetch_index_on (record { within = within; node = o })) (turned_by roots t, tt)
+  turned_by roots (part {n = n} t within (address_target o ad)) = holds_by S _ _ (store_target_on (as_store within o ad)) (turned_by roots t, tt)
+  turned_by roots (part {n = n} t within (address_index o ad)) = holds_by S _ _ (store_index_on (as_store within o ad)) (turned_by roots t, tt)
+  turned_by roots (part {n = n} t within (stored_value o)) =
+      holds_by S _ _ (store_value_on (as_store within o (address_at known within o).node)) (turned_by roots t, tt)
+  turned_by roots (part {n = n} t within (stored {m = m} is st o)) =
+      let inside = before (at (rows P) n).first n m st.inside in
+      holds_by S _ _ (store_on (record { within = within; node = is }) st (record { within = omega arith; node = o })) (turned_by roots t, tt)
 
   head_of_def : {d h : ℕ} → IsDefOf (rows P) d h → node P h ≡ Head
   head_of_def {d} {h} x = ((known.table).head_is d x.name h x.body x.result x.within x.node).0
@@ -133,6 +152,9 @@ module _ (S : Source) (known : IsKnown S.checked) where
       let bad : Head ≡ LoopHead (block P w - 1) = sym (head_of_def x) ∙ at ∙ l.head in
       cc
   procedure_roots {d} {h} x on is (of_statement {n = n} within def st o) =
+      let l = loop_of_row known Body within def refl in
+      absurd (no_switches (head_of_def x) (ap (λ (r : Region). node P r.head) (sym is ∙ body_at known within def l) ∙ switches_node P known (block P n) l))
+  procedure_roots {d} {h} x on is (of_store {n = n} within def st o) =
       let l = loop_of_row known Body within def refl in
       absurd (no_switches (head_of_def x) (ap (λ (r : Region). node P r.head) (sym is ∙ body_at known within def l) ∙ switches_node P known (block P n) l))
   procedure_roots {d} {h} x on is (of_next {m = m} {x = y} {k = k} {o = o} {a = a} within def) =
@@ -200,6 +222,9 @@ module _ (S : Source) (known : IsKnown S.checked) where
   loop_roots {h} l on at (of_statement {n = n} inside def st o) =
       let m = loop_of_row known Body inside def refl in
       absurd (no_loop_head (ap (λ (r : Region). node P r.head) (sym (body_at known inside def m) ∙ at) ∙ l.head) (switches_node P known (block P n) m))
+  loop_roots {h} l on at (of_store {n = n} inside def st o) =
+      let m = loop_of_row known Body inside def refl in
+      absurd (no_loop_head (ap (λ (r : Region). node P r.head) (sym (body_at known inside def m) ∙ at) ∙ l.head) (switches_node P known (block P n) m))
   loop_roots {h} l on at (of_next {m = i} {x = y} {k = k} {o = o} {a = a} inside def) =
       let m = loop_of_row known (Next y k o a) inside def refl in
       absurd (no_loop_head (ap (λ (r : Region). node P r.head) (sym (next_at known inside def m).region ∙ at) ∙ l.head) (switches_node P known (block P i) m))
@@ -207,6 +232,9 @@ module _ (S : Source) (known : IsKnown S.checked) where
       let c : IsLoopOf (rows P) n g = record { switches = u; last = e; within = inside; node = def } in
       let m = loop_by known c in
       absurd (no_loop_head (ap (λ (r : Region). node P r.head) at ∙ l.head) (ap (node P) (same_loop known c m).switches ∙ switches_node P known g m))
+
+  statement_within : (n m : ℕ) → n < length (rows P) → IsStatement (rows P) n m → m < length (rows P)
+  statement_within n m less st = let inside = before (at (rows P) n).first n m st.inside in omega (arith, less, inside)
 
   -- what is a root of a side of a loop's switches is On at an iteration's path, where the predicate chooses the side
   side_roots : {h : ℕ} (l : LoopOf P h) (q : Path) (k : ℕ) {b : Truth} → Holds S (Has (below q (place P (end_of P h)) k) (place P (test_row P known h l)) (source.Bool b))
@@ -233,9 +261,24 @@ module _ (S : Source) (known : IsKnown S.checked) where
         binding = record { within = statement_within n m inside st; node = o };
       } in
       holds_by S _ _ (loop_statement_on q k (loop_stands P known h l) bind) (subst (λ c. Holds S (Has (below q (place P (end_of P h)) k) (place P (test_row P known h l)) (source.Bool c))) side has, tt)
-    where
-      statement_within : (n m : ℕ) → n < length (rows P) → IsStatement (rows P) n m → m < length (rows P)
-      statement_within n m less st = let inside = before (at (rows P) n).first n m st.inside in omega (arith, less, inside)
+  side_roots {h} l q k {b} has here (of_store {n = n} {m = m} {a = a} {v = x} inside def st o) =
+      let c = loop_of_row known Body inside def refl in
+      let there = sym (body_at known inside def c) ∙ here in
+      let side : b ≡ true = ap (λ (r : Region). r.side) (sym there) in
+      let puts : BodyStores P (l.the).switches m = record {
+        body = n;
+        address = a;
+        value = x;
+        ends = record { within = inside; node = def };
+        side = here ∙ ap (arm_at (l.the).switches) side;
+        statement = st;
+        store = record { within = statement_within n m inside st; node = o };
+      } in
+      holds_by S _ _ (loop_store_on q k (loop_stands P known h l) puts) (
+        subst
+            (λ c. Holds S (Has (below q (place P (end_of P h)) k) (place P (test_row P known h l)) (source.Bool c))) side has,
+        tt,
+      )
   side_roots {h} l q k {b} has at (of_next {m = i} {x = y} {k = j} {o = o} {a = a} inside def) =
       let c = loop_of_row known (Next y j o a) inside def refl in
       let z = next_at known inside def c in
@@ -275,6 +318,9 @@ module _ (S : Source) (known : IsKnown S.checked) where
       let bad : Split t ≡ LoopHead (block P w - 1) = sym split ∙ at ∙ l.head in
       cc
   arm_roots {p} {m} {t} {b} split has on is (of_statement {n = n} within def st o) =
+      let l = loop_of_row known Body within def refl in
+      absurd (no_turns split (ap (λ (r : Region). node P r.head) (sym is ∙ body_at known within def l) ∙ switches_node P known (block P n) l))
+  arm_roots {p} {m} {t} {b} split has on is (of_store {n = n} within def st o) =
       let l = loop_of_row known Body within def refl in
       absurd (no_turns split (ap (λ (r : Region). node P r.head) (sym is ∙ body_at known within def l) ∙ switches_node P known (block P n) l))
   arm_roots {p} {m} {t} {b} split has on is (of_next {m = i} {x = y} {k = k} {o = o} {a = a} within def) =

@@ -1,5 +1,5 @@
 -- What an arc brings is of the kind that its port takes.
-use Rattle.std.proofs.Common.{◌≡◌, inl, inr, ℕ, zero, suc, ◌<◌, ◌+◌, Bool as Truth, true, false, Some, List, map, length, unwrap_or, get_or, refl, sym, ◌∙◌, ap, subst, arith}
+use Rattle.std.proofs.Common.{◌≡◌, inl, inr, ℕ, zero, suc, ◌<◌, ◌+◌, true, false, Some, List, map, length, unwrap_or, get_or, refl, sym, ◌∙◌, ap, subst, arith}
 use Rattle.id_list.specs.List.{Among}
 use Rattle.id_list.proofs.AmongLemmas.{Among-either, Among-from_map}
 use Rattle.id_value.specs.declared.Kind.{Kind}
@@ -11,7 +11,7 @@ use Rattle.id_value.specs.declared.UnaryOp.TheVariants as before
 use Rattle.id_parts.specs.declared.row.Row.{Row}
 use Rattle.id_parts.specs.declared.row.Region.{Region}
 use Rattle.id_parts.specs.declared.row.Node.{Node}
-use Rattle.id_parts.specs.declared.row.Node.TheVariants.{Head, Param, Literal, Name, Unary, Binary, Split, If, Block, Binding, Def, Program, Enter, Arg, Call}
+use Rattle.id_parts.specs.declared.row.Node.TheVariants.{Head, Param, Literal, Name, Unary, Binary, Split, If, Block, Binding, Def, Program, Enter, Arg, Call, Array, Fetch, Address, Store}
 use Rattle.id_parts.specs.declared.row.Node.TheVariants.{Start, LoopHead, Variable, Entries, Switches, Turn, NextUse, Next, Body, Reset, Loop}
 use Rattle.id_parts.specs.Rows.{at}
 use Rattle.id_parts.specs.Tables.{HasPart, HasOperand, begins_block, is_binder, is_block, is_expression}
@@ -23,7 +23,7 @@ use Rattle.id_check.proofs.ProgramsLemmas.{unary_row, bound_name_row, loop_row, 
 use Rattle.id_graph.specs.declared.dests.Port.{Port}
 use Rattle.id_graph.specs.declared.dests.Port.TheVariants.{Zero, One}
 use Rattle.id_graph.specs.declared.instr.PortKind.{PortKind}
-use Rattle.id_graph.specs.declared.instr.PortKind.TheVariants.{Signal, Bool as TruthPort, Context}
+use Rattle.id_graph.specs.declared.instr.PortKind.TheVariants.{Signal, Bool as TruthPort, Address as AddressPort, Context}
 use Rattle.id_graph.specs.Ports as ports
 use Rattle.id_graph.specs.Ports.{operand_kind, outcome_kind, port_kind, sends}
 use Rattle.id_desugar.specs.Regions.{nexts_of}
@@ -34,11 +34,13 @@ use Rattle.id_build.specs.Rows.{node, port_of, port_at, binary_op, result_of, bo
 use Rattle.id_build.specs.Rows.{block, entering, entries_row, label, first_binder, turn_row}
 use Rattle.id_build.specs.Schemas.{Feeds}
 use Rattle.id_laws.specs.Activations.{Begins, of_call, of_loop, Tests, of_arms, of_turns}
-use Rattle.id_laws.proofs.Arcs.{Does, starts, returns, enters, constant, unary, binary, turns_on, hands, joins, names, fed}
-use Rattle.id_laws.proofs.Arcs.{sends_in, gives_back, varies, takes_in, moves_on, moves_name, advances, resets, gets_last, entered_at}
+use Rattle.id_laws.specs.Topics.{Addresses, of_fetch, of_store}
+use Rattle.id_laws.proofs.Stores.{address_at}
+use Rattle.id_laws.proofs.Arcs.{Does, starts, returns, constant, unary, binary, turns_on, hands, joins, names, fed}
+use Rattle.id_laws.proofs.Arcs.{sends_in, gives_back, varies, takes_in, moves_on, moves_name, advances, resets, gets_last, allocates, addresses, fetches, gets_reply, stores, entered_at}
 use Rattle.id_laws.proofs.Arcs.{Arc, to_back, to_literal, to_unary, to_left, to_right, to_test, to_trigger, to_import_test, to_import, to_then, to_else}
 use Rattle.id_laws.proofs.Arcs.{to_label, opens, passes, gets, to_enter, to_context, to_argument, to_loop_context, to_entering, to_head}
-use Rattle.id_laws.proofs.Arcs.{to_loop_back, to_variable, to_entry, to_turn, to_turn_name, to_next, to_reset}
+use Rattle.id_laws.proofs.Arcs.{to_loop_back, to_variable, to_entry, to_turn, to_turn_name, to_next, to_reset, to_low, to_high, to_target, to_index, to_fetch, to_store, to_stored}
 use Rattle.id_build.proofs.EndsLemmas.{end_is, HeadOf, of_procedure, of_arm, region_of}
 use Rattle.id_build.proofs.EndsLemmas as ends
 use Rattle.id_build.proofs.LoopsLemmas.{the_loop, entries_node, entries_stand, entries_within, next_is, reset_is, start_head, turn_block, turn_is}
@@ -125,6 +127,10 @@ module _ (P : Checked) (known : IsKnown P) where
       go Head m rest = itself (ap is_block m)
       go (Param y k) m rest = itself (ap is_block m)
       go (Literal c) m rest = itself (ap is_block m)
+      go (Array y z) m rest = itself (ap is_block m)
+      go (Fetch y z) m rest = itself (ap is_block m)
+      go (Address y z) m rest = itself (ap is_block m)
+      go (Store y z) m rest = itself (ap is_block m)
       go (Name y) m rest = itself (ap is_block m)
       go (Unary o y) m rest = itself (ap is_block m)
       go (Binary o y z) m rest = itself (ap is_block m)
@@ -219,6 +225,13 @@ module _ (P : Checked) (known : IsKnown P) where
       go (If s y z) is = own (If s y z) is refl (record { within = x.0; form = _; does = joins is; out = λ f. refl })
       go (Call s c) is = own (Call s c) is refl (record { within = x.0; form = _; does = gets is; out = λ f. refl })
       go (Loop h w l) is = own (Loop h w l) is refl (record { within = x.0; form = _; does = gets_last is; out = λ f. refl })
+      go (Array y z) is =
+          let here = port_is P v kinds.Array (known.array_kind v y z x.0 is) in
+          own (Array y z) is refl (record { within = x.0; form = _; does = allocates is; out = λ f. ap (λ k. Some k) (sym here) })
+      go (Fetch y z) is =
+          let here = port_is P v kinds.Int (known.fetch_kind v y z x.0 is) in
+          subst (SentBy (port_at P v)) (sym (ap (origin_of P v (region P v)) is))
+          (record { within = x.0; form = _; does = gets_reply is; out = λ f. ap (λ k. Some k) (sym here) })
       go (Block b) is = let bad : true ≡ false = sym (ap is_block is) ∙ plain in cc
       go _ is = let bad : false ≡ true = sym (ap is_expression is) ∙ x.1 in cc
 
@@ -261,6 +274,11 @@ module _ (P : Checked) (known : IsKnown P) where
           into = λ f. ap (λ k. Some (port_of k)) (ap result_of def.node) ∙ ap (λ k. Some k) (sym (port_is P b def.result of_kind));
         };
       }
+
+  -- the parts that name a cell
+  cell_operands : (n t i : ℕ) → n < length R → Addresses P n t i → Operand t × Operand i
+  cell_operands n t i within (of_fetch is) = (operand n t (Fetch t i) within is (inl refl), operand n i (Fetch t i) within is (inr refl))
+  cell_operands n t i within (of_store is) = (operand n t (Address t i) within is (inl refl), operand n i (Address t i) within is (inr refl))
 
   test_operand : (n t : ℕ) → n < length R → Tests P n t → Operand t
   test_operand n t within (of_arms is) = operand n t (Split t) within is refl
@@ -497,6 +515,73 @@ module _ (P : Checked) (known : IsKnown P) where
     kind = port_at P v;
     source = sender v (operand n v (Reset v) within is refl);
     target = record { within = within; form = _; does = resets is; into = λ f. refl };
+  }
+  by_arc {n} within (to_low {a = a} {b = b} is) = record {
+    kind = port_at P a;
+    source = sender a (operand n a (Array a b) within is (inl refl));
+    target = record {
+      within = within;
+      form = _;
+      does = allocates is;
+      into = λ f. ap (λ k. Some k)
+          (sym (port_is P a kinds.Int (known.bound_kinds n a b within is).0));
+    };
+  }
+  by_arc {n} within (to_high {a = a} {b = b} is) = record {
+    kind = port_at P b;
+    source = sender b (operand n b (Array a b) within is (inr refl));
+    target = record {
+      within = within;
+      form = _;
+      does = allocates is;
+      into = λ f. ap (λ k. Some k)
+          (sym (port_is P b kinds.Int (known.bound_kinds n a b within is).1));
+    };
+  }
+  by_arc {n} within (to_target {t = t} {i = i} is) = record {
+    kind = port_at P t;
+    source = sender t (cell_operands n t i within is).0;
+    target = record {
+      within = within;
+      form = _;
+      does = addresses is;
+      into = λ f. ap (λ k. Some k)
+          (sym (port_is P t kinds.Array (known.cell_kinds n t i within is).0));
+    };
+  }
+  by_arc {n} within (to_index {t = t} {i = i} is) = record {
+    kind = port_at P i;
+    source = sender i (cell_operands n t i within is).1;
+    target = record {
+      within = within;
+      form = _;
+      does = addresses is;
+      into = λ f. ap (λ k. Some k)
+          (sym (port_is P i kinds.Int (known.cell_kinds n t i within is).1));
+    };
+  }
+  by_arc {n} within (to_fetch is) = record {
+    kind = AddressPort;
+    source = record { within = within; form = _; does = addresses (of_fetch is); out = λ f. refl };
+    target = record { within = within; form = _; does = fetches is; into = λ f. refl };
+  }
+  by_arc {n} within (to_store {a = a} is) =
+      let z = address_at known within is in
+      record {
+        kind = AddressPort;
+        source = record { within = z.within; form = _; does = addresses (of_store z.node); out = λ f. refl };
+        target = record { within = within; form = _; does = stores is; into = λ f. refl };
+      }
+  by_arc {n} within (to_stored {a = a} {v = v} is) = record {
+    kind = port_at P v;
+    source = sender v (operand n v (Store a v) within is refl);
+    target = record {
+      within = within;
+      form = _;
+      does = stores is;
+      into = λ f. ap (λ k. Some k)
+          (sym (port_is P v kinds.Int (known.stored_kind n a v within is)));
+    };
   }
 
   pub typed : (s : Origin) (n part : ℕ) (p : Port) → Feeds P s n part p → Typed P s n part p

@@ -14,7 +14,7 @@ use Rattle.id_list.proofs.AmongLemmas.{Among-map, Among-from_map, Among-left, Am
 use Rattle.id_parts.specs.declared.row.Row.{Row}
 use Rattle.id_parts.specs.declared.row.Node.{Node}
 use Rattle.id_parts.specs.declared.row.Node.TheVariants.{Head, Param, Literal, Unary as UnaryNode, Binary as BinaryNode, Split, If, Binding, Program, Enter as EnterNode, Arg, Call}
-use Rattle.id_parts.specs.declared.row.Node.TheVariants.{Start, LoopHead, Variable, Entries, Switches, Turn, Next as NextNode, Reset as ResetNode, Loop, Def}
+use Rattle.id_parts.specs.declared.row.Node.TheVariants.{Start, LoopHead, Variable, Entries, Switches, Turn, Next as NextNode, Reset as ResetNode, Loop, Def, Array, Fetch, Address, Store}
 use Rattle.id_parts.specs.Rows.{at}
 use Rattle.id_parts.specs.Tables.{begins_block, is_param}
 use Rattle.id_parts.specs.Turns.{params_at}
@@ -27,7 +27,7 @@ use Rattle.id_graph.specs.declared.dests.Port.TheVariants.{Zero, One}
 use Rattle.id_graph.specs.declared.dests.Dest.{Dest}
 use Rattle.id_graph.specs.declared.instr.PortKind.TheVariants.{Signal}
 use Rattle.id_graph.specs.declared.instr.Op.{Op}
-use Rattle.id_graph.specs.declared.instr.Op.TheVariants.{Const, Unary, Binary, Merge, Switch, Back, Enter, Send, Next, Reset}
+use Rattle.id_graph.specs.declared.instr.Op.TheVariants.{Const, Unary, Binary, Merge, Switch, Back, Enter, Send, Next, Reset, Alloc, Address as AddressOp, Fetch as FetchOp, Store as StoreOp}
 use Rattle.id_graph.specs.declared.instr.Instr.{Instr}
 use Rattle.id_graph.specs.declared.instr.Block.{Block}
 use Rattle.id_graph.specs.Ports.{port_kind, sends, two_sides}
@@ -42,9 +42,9 @@ use Rattle.id_build.specs.Schemas.{Feeds, HasSide, Numbered, Schemas, Sends, all
 use Rattle.id_valid.specs.Roles.{op_at, merge_kind, back_kind, is_first, is_second, is_entry, is_reply, replies_to, same_port, is_dest, arcs_into, needs_no_arc}
 use Rattle.id_valid.specs.Validator.{is_value, IsAnswer, FillsRoles, IsTaken, IsFed, IsEntered, IsSentTo, AreNamed, IsSound, IsValid}
 use Rattle.id_laws.specs.Activations.{main_head, Tests, of_arms, of_turns, Begins, of_call, of_loop}
-use Rattle.id_laws.specs.Topics.{IsPart}
+use Rattle.id_laws.specs.Topics.{Addresses, of_fetch, of_store, IsPart}
 use Rattle.id_laws.proofs.Arcs.{Does, starts, returns, enters, constant, unary, binary, turns_on, hands, joins, names, answers, doing, makes, imports_fed}
-use Rattle.id_laws.proofs.Arcs.{sends_in, gives_back, varies, takes_in, moves_on, moves_name, advances, resets, gets_last, import_listed}
+use Rattle.id_laws.proofs.Arcs.{sends_in, gives_back, varies, takes_in, moves_on, moves_name, advances, resets, gets_last, allocates, addresses, fetches, gets_reply, stores, import_listed}
 use Rattle.id_laws.proofs.Arcs.{FromArm, one_feed, target_part, opens, passes, gets}
 use Rattle.id_laws.proofs.Blocks.{a_param, all_listed, any_head, param_listed}
 use Rattle.id_laws.proofs.LoopRows.{entered_as, entry_merge, loop_merge}
@@ -136,6 +136,10 @@ false_side (Send k t) h = absurd h
 false_side (Merge k) h = absurd (true_false (sym h))
 false_side (Next k) h = absurd (true_false (sym h))
 false_side (Reset k) h = absurd (true_false (sym h))
+false_side Alloc h = absurd (true_false (sym h))
+false_side AddressOp h = absurd (true_false (sym h))
+false_side (FetchOp r) h = absurd h
+false_side StoreOp h = absurd h
 
 -- what is on a side that an operator has counts
 side_counts : (i : Instr) (d : Dest) (b : Bool) → HasSide i.op b → Among d (arcs_on b i) → Among d (arcs i)
@@ -335,6 +339,16 @@ module _ (P : Checked) (known : IsKnown P) (g : Parts) (number : ℕ → ℕ →
       let entry : is_entry g n ≡ true = entry_there h (param_entry b) z.0 (ap begins_block z.1) among in
       still (is_reply g n) (third_of (n == 0) (is_first g n) (is_entry g n) (is_second g n && same_port Zero Zero) entry)
 
+  -- what a fetch gives comes as a reply, since it names its merge
+  reply_served : (n t i : ℕ) (p : Port) → n < length R → node P n ≡ Fetch t i → needs_no_arc g (number n 2) p ≡ true
+  reply_served n t i p within is =
+      let k = number n 2 in
+      let m = numbered.made n 1 _ _ (makes within (fetches is)) in
+      let reply : is_reply g k ≡ true =
+      any_among (λ (i : Instr). replies_to i.op k) m.instr g.instrs (Among-from_at m.instr g.instrs (number n 1) m.at)
+      (ap (λ o. replies_to o k) m.op ∙ same_number k k refl) in
+      or_last ((k == 0) || is_first g k || is_entry g k || (is_second g k && same_port p Zero)) reply
+
   call_served : (n e c : ℕ) (p : Port) → n < length R → node P n ≡ Call e c → needs_no_arc g (number n 0) p ≡ true
   call_served n e c p within is =
       let k = number n 0 in
@@ -418,6 +432,12 @@ module _ (P : Checked) (known : IsKnown P) (g : Parts) (number : ℕ → ℕ →
   begin_fed n h q within (of_call {x = x} is) = feeds_at P (trigger_of (region P n)) n 0 Zero (EnterNode x) within is (inl refl)
   begin_fed n h q within (of_loop is) = feeds_at P (trigger_of (region P n)) n 0 Zero Start within is (inl refl)
 
+  cell_fed : (n t i : ℕ) → n < length R → Addresses P n t i → HasFeed P n 0 Zero × HasFeed P n 0 One
+  cell_fed n t i within (of_fetch is) =
+      (feeds_at P (origin P t) n 0 Zero (Fetch t i) within is (inl refl), feeds_at P (origin P i) n 0 One (Fetch t i) within is (inr (inl refl)))
+  cell_fed n t i within (of_store is) =
+      (feeds_at P (origin P t) n 0 Zero (Address t i) within is (inl refl), feeds_at P (origin P i) n 0 One (Address t i) within is (inr (inl refl)))
+
   served : {n part : ℕ} {o : Form} → n < length R → Does P n part o → (p : Port) → IsSome (port_kind (op_by number o) p) → Served n part p
   unfolding Served
   served {n} within (answers is) p h = inl (answer_served n p within is)
@@ -462,6 +482,15 @@ module _ (P : Checked) (known : IsKnown P) (g : Parts) (number : ℕ → ℕ →
   served {n} within (resets {v = v} is) Zero h = inr (feeds_at P (origin P v) n 0 Zero (ResetNode v) within is (inl refl))
   served within (resets is) One h = cc
   served {n} within (gets_last {h = b} {w = w} {l = l} is) p h = inl (loop_served n b w l p within is)
+  served {n} within (allocates {a = a} {b = b} is) Zero h = inr (feeds_at P (origin P a) n 0 Zero (Array a b) within is (inl refl))
+  served {n} within (allocates {a = a} {b = b} is) One h = inr (feeds_at P (origin P b) n 0 One (Array a b) within is (inr (inl refl)))
+  served {n} within (addresses {t = t} {i = i} is) Zero h = inr (cell_fed n t i within is).0
+  served {n} within (addresses {t = t} {i = i} is) One h = inr (cell_fed n t i within is).1
+  served {n} within (fetches {t = t} {i = i} is) Zero h = inr (feeds_at P (output n) n 1 Zero (Fetch t i) within is (inr (inr (inl refl))))
+  served within (fetches is) One h = cc
+  served {n} within (gets_reply {t = t} {i = i} is) p h = inl (reply_served n t i p within is)
+  served {n} within (stores {a = a} {v = v} is) Zero h = inr (feeds_at P (output a) n 0 Zero (Store a v) within is (inl refl))
+  served {n} within (stores {a = a} {v = v} is) One h = inr (feeds_at P (origin P v) n 0 One (Store a v) within is (inr (inl refl)))
 
   -- an arc into a port counts
   fed_counts : (n part : ℕ) (p : Port) → HasFeed P n part p → 1 ≤ arcs_into g (number n part) p
@@ -480,6 +509,10 @@ module _ (P : Checked) (known : IsKnown P) (g : Parts) (number : ℕ → ℕ →
   test_no_if : {n t s x y : ℕ} → Tests P n t → node P n ≡ If s x y → ⊥
   test_no_if {t = t} {s = s} {x = x} {y = y} (of_arms is) e = let bad : If s x y ≡ Split t = sym e ∙ is in cc
   test_no_if {t = t} {s = s} {x = x} {y = y} (of_turns is) e = let bad : If s x y ≡ Switches t = sym e ∙ is in cc
+
+  cell_no_if : {n t i s x y : ℕ} → Addresses P n t i → node P n ≡ If s x y → ⊥
+  cell_no_if {t = t} {i = i} {s = s} {x = x} {y = y} (of_fetch is) e = let bad : If s x y ≡ Fetch t i = sym e ∙ is in cc
+  cell_no_if {t = t} {i = i} {s = s} {x = x} {y = y} (of_store is) e = let bad : If s x y ≡ Address t i = sym e ∙ is in cc
 
   begin_no_if : {n h q s x y : ℕ} → Begins P n h q → node P n ≡ If s x y → ⊥
   begin_no_if {s = s} {x = x} {y = y} (of_call {x = z} is) e = let bad : If s x y ≡ EnterNode z = sym e ∙ is in cc
@@ -510,6 +543,14 @@ module _ (P : Checked) (known : IsKnown P) (g : Parts) (number : ℕ → ℕ →
   one_or_merge (advances {x = x} {k = i} {o = o} {v = v} is) = inr (λ y z p h k. alone (λ a. let bad : If (a.0).split (a.0).then (a.0).otherwise ≡ NextNode x i o v = sym (a.0).node ∙ is in cc) (one_feed h k))
   one_or_merge (resets {v = v} is) = inr (λ y z p h k. alone (λ a. let bad : If (a.0).split (a.0).then (a.0).otherwise ≡ ResetNode v = sym (a.0).node ∙ is in cc) (one_feed h k))
   one_or_merge (gets_last is) = inl refl
+  one_or_merge (allocates {a = e} {b = f} is) =
+      inr (λ y z p h k. alone (λ a. let bad : If (a.0).split (a.0).then (a.0).otherwise ≡ Array e f = sym (a.0).node ∙ is in cc) (one_feed h k))
+  one_or_merge (addresses is) = inr (λ y z p h k. alone (λ a. cell_no_if is (a.0).node) (one_feed h k))
+  one_or_merge (fetches {t = t} {i = i} is) =
+      inr (λ y z p h k. alone (λ a. let bad : If (a.0).split (a.0).then (a.0).otherwise ≡ Fetch t i = sym (a.0).node ∙ is in cc) (one_feed h k))
+  one_or_merge (gets_reply is) = inl refl
+  one_or_merge (stores {a = e} {v = f} is) =
+      inr (λ y z p h k. alone (λ a. let bad : If (a.0).split (a.0).then (a.0).otherwise ≡ Store e f = sym (a.0).node ∙ is in cc) (one_feed h k))
 
   module _ (n : ℕ) (p : Port) (row part : ℕ) (here : IsPart P row part) (is : number row part ≡ n) (one : (x y : Origin) → Feeds P x row part p → Feeds P y row part p → x ≡ y) where
     -- instructions that send to the port are one, on one side
@@ -688,6 +729,11 @@ module _ (P : Checked) (known : IsKnown P) (g : Parts) (number : ℕ → ℕ →
   named within (advances is) = tt
   named within (resets is) = tt
   named within (gets_last is) = tt
+  named within (allocates is) = tt
+  named within (addresses is) = tt
+  named within (fetches is) = op_made within (gets_reply is)
+  named within (gets_reply is) = tt
+  named within (stores is) = tt
 
   -- ---- the answer
 

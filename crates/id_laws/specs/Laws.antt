@@ -1,11 +1,13 @@
 -- The laws that join what a program means to what its graph does (docs/MEANING.md, "Laws").
-use Rattle.std.specs.Prelude.{◌≡◌, ◌≢◌, ◌≤◌, ◌<◌, ◌++◌, ◌&&◌, ℕ, Bool, true, Option, Some, List, length, map, count_by}
+use Rattle.std.specs.Prelude.{◌≡◌, ◌≢◌, ◌≤◌, ◌<◌, ◌++◌, ◌&&◌, ℕ, ℤ, Bool, true, false, Option, Some, None, List}
+use Rattle.std.specs.Prelude.{length, map, count_by}
 use Rattle.id_check.specs.declared.checked.Checked.{Checked}
 use Rattle.id_graph.specs.declared.dests.Port.{Port}
 use Rattle.id_graph.specs.Graph.{Parts}
 use Rattle.id_tag.specs.declared.Tag.{Tag}
 use Rattle.id_tag.specs.declared.Payload.{Payload}
-use Rattle.id_tag.specs.declared.Payload.TheVariants.{Token}
+use Rattle.id_tag.specs.declared.Payload.TheVariants.{Token, Read, Write}
+use Rattle.id_tag.specs.declared.Structure.{Structure}
 use Rattle.id_tag.specs.declared.Message.{Message}
 use Rattle.id_tag.specs.Tags.{same_tag}
 use Rattle.id_match.specs.Ports.{same_port}
@@ -13,17 +15,26 @@ use Rattle.id_record.specs.declared.step.Step.TheVariants.{Stuck}
 use Rattle.id_core.specs.Events.{EventView, tag_of}
 use Rattle.id_core.specs.Machines.{World, IsQuiet, TakesInputs, start, run}
 use Rattle.id_core.specs.Observed as shown
+use Rattle.id_value.specs.declared.Constant.{Constant}
+use Rattle.id_meaning.specs.declared.Ask.{Ask}
+use Rattle.id_meaning.specs.declared.Put.{Put}
+use Rattle.id_meaning.specs.declared.Shape.{Shape}
+use Rattle.id_meaning.specs.declared.Site.{Site}
 use Rattle.id_meaning.specs.declared.SourceValue.{SourceValue}
 use Rattle.id_meaning.specs.declared.SourceFault.{SourceFault}
 use Rattle.id_meaning.specs.declared.Fact.TheVariants.{Has}
+use Rattle.id_meaning.specs.declared.Fact.TheVariants as fact
 use Rattle.id_meaning.specs.declared.NameValue.{NameValue}
 use Rattle.id_meaning.specs.declared.Path.{Path}
 use Rattle.id_list.specs.List.{Among, AllDiffer}
+use Rattle.id_parts.specs.declared.row.Node.{Node}
+use Rattle.id_parts.specs.declared.row.Node.TheVariants.{Fetch}
 use Rattle.id_parts.specs.Rows.{at}
 use Rattle.id_parts.specs.Tables.{is_binder, is_expression, is_thing}
 use Rattle.id_check.specs.Programs.{kind, place, rows}
 use Rattle.id_meaning.specs.Sources.{Source, AreInputs, value_kind}
-use Rattle.id_meaning.specs.Rounds.{Holds, Faulty, FaultFree, Answers, IsAnswer, IsCoherent}
+use Rattle.id_meaning.specs.Facts.{site}
+use Rattle.id_meaning.specs.Rounds.{Holds, Faulty, FaultFree, Answers, IsAnswer, IsCoherent, IsWaiting}
 use Rattle.id_meaning.specs.Names.{IsNameValue}
 use Rattle.id_build.specs.declared.arc.Form.{Form}
 use Rattle.id_build.specs.Rows.{label}
@@ -41,44 +52,84 @@ events s = shown.events_of s.elements
 abbrev pub messages : World → List Payload
 messages s = map (λ v. v.message.payload) (events s) ++ map (λ m. m.payload) s.flight
 
--- the value of the source that a message brings, if it brings one
-abbrev pub value_in : Payload → Option SourceValue
-value_in (Token t p v) = shown.source_value v
+-- the value of the source that a message brings, if it brings one, where each structure has this name
+abbrev pub value_in : (Structure → Site) → Payload → Option SourceValue
+value_in name (Token t p v) = shown.source_value name v
+value_in name (Read c t) = None
+value_in name (Write c v t) = None
 
--- whether the message is a token for this port under this tag
+-- whether the message is a token for this port under this tag, a read for this reply, a write of this origin
 abbrev pub is_for : Tag → Port → Payload → Bool
 is_for t p (Token u q v) = same_tag u t && same_port q p
+is_for t p (Read c u) = false
+is_for t p (Write c v u) = false
 
--- the message brings a value that the expression at the place Has at the path
-pub record Carries (S : Source) (p : Path) (e : ℕ) (m : Message) : Type 0 where
+abbrev pub asks_for : Tag → Payload → Bool
+asks_for t (Token u q v) = false
+asks_for t (Read c u) = same_tag u t
+asks_for t (Write c v u) = false
+
+abbrev pub stores_from : Tag → Payload → Bool
+stores_from t (Token u q v) = false
+stores_from t (Read c u) = false
+stores_from t (Write c v u) = same_tag u t
+
+-- the part that gives the value of a row of this node: of a fetch the last one, to which the reply comes
+abbrev pub giving_part : Node → ℕ
+giving_part (Fetch t i) = 2
+giving_part _ = 0
+
+-- the message brings a value that the expression at the place Has at the path, where each structure has this name
+pub record Carries (S : Source) (name : Structure → Site) (p : Path) (e : ℕ) (m : Message) : Type 0 where
   pub value : SourceValue
-  pub brings : value_in m.payload ≡ Some value
+  pub brings : value_in name m.payload ≡ Some value
   pub holds : Holds S (Has p e value)
 
 -- a machine in this state has shown facts and faults of the source alone, where the instructions are numbered so
 pub record IsSound (S : Source) (g : Parts) (number : ℕ → ℕ → ℕ) (s : World) : Type 0 where
   -- its answer is the source's
-  pub answer : (v : SourceValue) → shown.answer s ≡ Some v → Answers S v
-  -- what it shows that binders Have, they Have, and it shows nothing twice
+  pub answer : (v : SourceValue) → shown.answer g s ≡ Some v → Answers S v
+  -- what it shows that binders Have, they Have, and no two of it have one path and place
   pub names : (n : NameValue) → Among n (shown.names g s) → IsNameValue S n
-  pub names_once : AllDiffer (shown.names g s)
+  pub names_once : AllDiffer {A = Site} (map (λ n. site n.path n.place) (shown.names g s))
+  -- so it is with its structures, of which no two have one name, with what its cells hold, of which no two have one
+  -- structure and index, and with what its fetches ask for, one for each
+  pub structures : (x : Shape) → Among x (shown.structures g s) → Holds S (fact.Shape x)
+  pub structures_once : AllDiffer (map (λ x. x.name) (shown.structures g s))
+  pub cells : (x : Put) → Among x (shown.cells g s) → Holds S (fact.Put x)
+  pub cells_once : AllDiffer {A = Site × ℤ} (map (λ x. (x.name, x.index)) (shown.cells g s))
+  pub asks : (x : Ask) → Among x (shown.asks g s) → Holds S (fact.Ask x)
+  pub asks_once : AllDiffer (map (λ x. x.fetch) (shown.asks g s))
+  -- what waits has asked
+  pub waiting : (x : Ask) → Among x (shown.waiting g s) → Holds S (fact.Ask x)
+  pub waiting_once : AllDiffer (map (λ x. x.fetch) (shown.waiting g s))
   -- each of its faults is one of the source
   pub faults : (f : SourceFault) → Among f (shown.faults g s) → Faulty S f
   -- what the instruction of an expression has sent under a tag brings a value that the expression Has at the tag's path
-  pub values : (n : ℕ) (f : Form) (e : ℕ) (v : EventView) (m : Message) → Makes S.checked n 0 f e
+  pub values : (n : ℕ) (f : Form) (e : ℕ) (v : EventView) (m : Message)
+      → Makes S.checked n (giving_part (at (rows S.checked) n).node) f e
       → is_expression (at (rows S.checked) n).node ≡ true → Among v (events s)
-      → (tag_of v.message.payload).instr ≡ number n 0 → Among m v.outputs
-      → Carries S (shown.path_in g s.elements (tag_of v.message.payload)) e m
+      → (tag_of v.message.payload).instr ≡ number n (giving_part (at (rows S.checked) n).node) → Among m v.outputs
+      → Carries S (shown.structure_in g s.elements) (shown.path_in g s.elements (tag_of v.message.payload)) e m
 
--- in this state no event was `Stuck`, and each port has got at most one token under each tag
+-- in this state no event was `Stuck`, each port has got at most one token under each tag, each fetch has asked at most
+-- once and each store has stored at most once
 pub record IsNeverStuck (s : World) : Type 0 where
   pub goes_on : (v : EventView) → Among v (events s) → v.step ≢ Stuck
   pub one_token : (t : Tag) (p : Port) → count_by (is_for t p) (messages s) ≤ 1
+  pub one_read : (t : Tag) → count_by (asks_for t) (messages s) ≤ 1
+  pub one_write : (t : Tag) → count_by (stores_from t) (messages s) ≤ 1
 
--- the answer shown in this state is exactly the source's, so is what binders Have, and the source has no fault
+-- the answer shown in this state is exactly the source's, so are what binders Have, structures, what is put into cells,
+-- what fetches ask for and which of them wait, and the source has no fault
 pub record IsComplete (S : Source) (g : Parts) (s : World) : Type 0 where
-  pub answer : IsAnswer S (shown.answer s)
+  pub answer : IsAnswer S (shown.answer g s)
   pub names : (n : NameValue) → IsNameValue S n → Among n (shown.names g s)
+  pub structures : (x : Shape) → Holds S (fact.Shape x) → Among x (shown.structures g s)
+  pub cells : (x : Put) → Holds S (fact.Put x) → Among x (shown.cells g s)
+  pub asks : (x : Ask) → Holds S (fact.Ask x) → Among x (shown.asks g s)
+  pub waiting : (x : Ask) → IsWaiting S x → Among x (shown.waiting g s)
+  pub only_waiting : (x : Ask) → Among x (shown.waiting g s) → IsWaiting S x
   pub no_fault : FaultFree S
 
 -- *Sound*: of each graph that the schemas give a program, with the program's inputs and any number of elements, every
@@ -98,9 +149,10 @@ QuietIsComplete = (S : Source) (g : Parts) (count : ℕ) (ks : List ℕ) → Are
     → Schemas S.checked g
     → IsQuiet (run g count ks (start g S.inputs count)) → IsComplete S g (run g count ks (start g S.inputs count))
 
--- *Coherence*: each source gives each path and place at most one value
+-- *Coherence*: each source without a fault gives each path and place at most one value, each structure one shape, and
+-- each cell one value
 abbrev pub Coherence : Type 0
-Coherence = (S : Source) → IsCoherent S
+Coherence = (S : Source) → FaultFree S → IsCoherent S
 
 -- *Validity*: each graph that the schemas give a program is valid
 abbrev pub Validity : Type 0
@@ -108,7 +160,7 @@ Validity = (P : Checked) (g : Parts) → Schemas P g → IsValid g
 
 -- *Inputs fit*: each such graph takes the inputs of the program
 abbrev pub InputsFit : Type 0
-InputsFit = (P : Checked) (g : Parts) (vs : List SourceValue) → AreInputs P vs → Schemas P g → TakesInputs g vs
+InputsFit = (P : Checked) (g : Parts) (vs : List Constant) → AreInputs P vs → Schemas P g → TakesInputs g vs
 
 -- a value gets its name at the row
 pub record IsBinder (P : Checked) (b : ℕ) : Type 0 where

@@ -1,13 +1,14 @@
 -- What each instruction speaks of and what each port wants, and when a value tells it under an activation
 -- (docs/MEANING.md, "Laws").
-use Rattle.std.specs.Prelude.{◌≡◌, ◌+◌, ℕ, zero, suc, ℤ, Bool as Truth, List, get_or}
+use Rattle.std.specs.Prelude.{◌≡◌, ◌<◌, ◌+◌, ℕ, zero, suc, ℤ, Bool as Truth, true, List, get_or, length}
+use Rattle.id_value.specs.Bounds.{is_inside}
 use Rattle.id_parts.specs.declared.row.Region.{Region}
 use Rattle.id_parts.specs.declared.row.Node.{Node}
 use Rattle.id_parts.specs.declared.row.Node.TheVariants.{Head, Param, Literal, Unary, Binary, Split, If, Enter, Arg}
 use Rattle.id_parts.specs.declared.row.Node.TheVariants.{Call}
 use Rattle.id_parts.specs.declared.row.Node.TheVariants.{Binding, Def, Program}
 use Rattle.id_parts.specs.declared.row.Node.TheVariants.{Start, LoopHead, Variable, Entries, Switches, Turn, Next}
-use Rattle.id_parts.specs.declared.row.Node.TheVariants.{Reset, Loop}
+use Rattle.id_parts.specs.declared.row.Node.TheVariants.{Reset, Loop, Array, Fetch, Address, Store}
 use Rattle.id_parts.specs.Rows.{arm_at, top}
 use Rattle.id_check.specs.declared.checked.Checked.{Checked}
 use Rattle.id_check.specs.Scopes.{loops_between}
@@ -15,17 +16,22 @@ use Rattle.id_check.specs.Programs.{place, region, rows}
 use Rattle.id_graph.specs.declared.dests.Port.{Port}
 use Rattle.id_graph.specs.declared.dests.Port.TheVariants.{Zero, One}
 use Rattle.id_tag.specs.declared.Context.{Context}
+use Rattle.id_tag.specs.declared.Structure.{Structure}
+use Rattle.id_tag.specs.declared.Cell.{Cell}
+use Rattle.id_tag.specs.declared.Tag.{Tag}
 use Rattle.id_tag.specs.declared.Value.{Value}
 use Rattle.id_tag.specs.declared.Value.TheVariants as value
 use Rattle.id_tag.specs.declared.Payload.{Payload}
-use Rattle.id_tag.specs.declared.Payload.TheVariants.{Token}
+use Rattle.id_tag.specs.declared.Payload.TheVariants.{Token, Read, Write}
+use Rattle.id_ops.specs.declared.Fired.TheVariants.{Out}
 use Rattle.id_core.specs.Machines.{World}
 use Rattle.id_meaning.specs.declared.Path.{Path}
+use Rattle.id_meaning.specs.declared.Site.{Site}
 use Rattle.id_meaning.specs.declared.SourceValue.{SourceValue}
 use Rattle.id_meaning.specs.declared.SourceValue.TheVariants as source
 use Rattle.id_meaning.specs.declared.Fact.TheVariants.{Has}
 use Rattle.id_meaning.specs.Sources.{Source}
-use Rattle.id_meaning.specs.Facts.{without}
+use Rattle.id_meaning.specs.Facts.{ask, put, shape, site, without}
 use Rattle.id_meaning.specs.Rounds.{Holds}
 use Rattle.id_desugar.specs.Ends.{end_of}
 use Rattle.id_desugar.specs.Regions.{imports_of}
@@ -34,14 +40,14 @@ use Rattle.id_build.specs.declared.arc.Form.{Form}
 use Rattle.id_build.specs.Rows.{block, entering, next_of, node, origin}
 use Rattle.id_build.specs.Schemas.{Makes, Feeds}
 use Rattle.id_runs.specs.Activations.{Activation, at_iteration, tag_in}
-use Rattle.id_runs.specs.Events.{Event}
+use Rattle.id_runs.specs.Events.{Event, FiresAs}
 use Rattle.id_runs.specs.Runs.{Moving}
 use Rattle.id_laws.specs.Activations.{main_head}
 use Rattle.id_laws.specs.Activations as activations
 
 -- what is spoken of: that a region is live, what a row's expression Has, what a binder Has as a region sees it, what
--- the predicate Has by which the switches of a row go, what the block with this head gives, where that goes, and which
--- context the `Enter` or `Start` at a row has made
+-- the predicate Has by which the switches of a row go, what the block with this head gives, where that goes, which
+-- context the `Enter` or `Start` at a row has made, and which cell the fetch or `Address` at a row names
 pub data Topic : Type 0 where
   Turned : Region → Topic
   ValueOf : ℕ → Topic
@@ -50,6 +56,7 @@ pub data Topic : Type 0 where
   ResultOf : ℕ → Topic
   WayBack : ℕ → Topic
   ContextOf : ℕ → Topic
+  CellOf : ℕ → Topic
   Nothing : Topic
 
 -- what is handed into a region by a part: the trigger, and each name
@@ -79,6 +86,10 @@ speaks_of P n r Turn part side = let h = block P n in split_of (top h) (imports_
 speaks_of P n r (Next x k o v) part side = NameIn (top (block P n)) n
 speaks_of P n r (Reset v) part side = ResultOf (block P n)
 speaks_of P n r (Loop h w l) part side = ValueOf n
+speaks_of P n r (Array a b) part side = ValueOf n
+speaks_of P n r (Fetch t i) zero side = CellOf n
+speaks_of P n r (Fetch t i) (suc (suc part)) side = ValueOf n
+speaks_of P n r (Address t i) part side = CellOf n
 speaks_of P n r _ part side = Nothing
 
 -- what comes from there speaks of
@@ -117,6 +128,16 @@ wants P n r Turn part Zero = split_of r (imports_of P (block P n)) part
 wants P n r (Next x k o v) part Zero = ValueOf v
 wants P n r (Reset v) part Zero = ValueOf v
 wants P n r (Loop h w l) part Zero = ValueOf n
+wants P n r (Array a b) part Zero = ValueOf a
+wants P n r (Array a b) part One = ValueOf b
+wants P n r (Fetch t i) zero Zero = ValueOf t
+wants P n r (Fetch t i) zero One = ValueOf i
+wants P n r (Fetch t i) (suc zero) Zero = CellOf n
+wants P n r (Fetch t i) (suc (suc part)) Zero = ValueOf n
+wants P n r (Address t i) part Zero = ValueOf t
+wants P n r (Address t i) part One = ValueOf i
+wants P n r (Store a x) part Zero = CellOf a
+wants P n r (Store a x) part One = ValueOf x
 wants P n r Program part Zero = ResultOf (main_head P)
 wants P n r _ part p = Nothing
 
@@ -141,10 +162,31 @@ pub record IsPart (P : Checked) (n part : ℕ) : Type 0 where
   pub place : ℕ
   pub makes : Makes P n part form place
 
+-- the row n names a cell of the structure at the row t, at the index at the row i: a fetch, or the `Address` of a store
+pub data Addresses (P : Checked) (n t i : ℕ) : Type 0 where
+  of_fetch : node P n ≡ Fetch t i → Addresses P n t i
+  of_store : node P n ≡ Address t i → Addresses P n t i
+
+-- the name of the structure: the `array` that has made it stands there, and the source has its bounds
+pub record Named (S : Source) (number : ℕ → ℕ → ℕ) (run : List Event) (s : Structure) (x : Site) : Type 0 where
+  pub activation : Activation
+  pub row : ℕ
+  pub low : ℕ
+  pub high : ℕ
+  pub within : row < length (rows S.checked)
+  pub node : node S.checked row ≡ Array low high
+  pub live : activations.Live S number run activation (region S.checked row)
+  pub made : FiresAs run (tag_in activation (number row 0)) (Out (value.Structure s))
+  pub path_of : activations.PathOf S number run activation x.path
+  pub place : x.place ≡ place S.checked row
+  pub holds : Holds S (shape x s.low s.high)
+
 -- the value of a token stands for the value of the source
 pub data StandsFor (S : Source) (number : ℕ → ℕ → ℕ) (run : List Event) : Value → SourceValue → Type 0 where
   number_stands : (n : ℤ) → StandsFor S number run (value.Int n) (source.Int n)
   truth_stands : (b : Truth) → StandsFor S number run (value.Bool b) (source.Bool b)
+  name_stands : (s : Structure) (x : Site) → Named S number run s x
+      → StandsFor S number run (value.Structure s) (source.Name x)
 
 module _ (S : Source) (number : ℕ → ℕ → ℕ) (run : List Event) where
   abbrev Live : Activation → Region → Type 0
@@ -188,6 +230,23 @@ module _ (S : Source) (number : ℕ → ℕ → ℕ) (run : List Event) where
     pub live : Live a (region S.checked n)
     pub opens : activations.Opens S number run a n context
 
+  -- the value is the address of a cell, of the structure and at the index that the parts of the row n Have, inside the
+  -- structure's bounds
+  pub record ShownCell (a : Activation) (n : ℕ) (v : Value) : Type 0 where
+    pub cell : Cell
+    pub is : v ≡ value.Address cell
+    pub target : ℕ
+    pub index : ℕ
+    pub parts : Addresses S.checked n target index
+    pub live : Live a (region S.checked n)
+    pub path : Path
+    pub path_of : activations.PathOf S number run a path
+    pub name : Site
+    pub named : Named S number run cell.structure name
+    pub has_target : Holds S (Has path (place S.checked target) (source.Name name))
+    pub has_index : Holds S (Has path (place S.checked index) (source.Int cell.index))
+    pub inside : is_inside cell.structure.low cell.structure.high cell.index ≡ true
+
   -- the value tells the topic under the activation
   abbrev pub Tells : Activation → Topic → Value → Type 0
   Tells a (Turned r) v = (v ≡ value.Signal) × Live a r
@@ -197,10 +256,11 @@ module _ (S : Source) (number : ℕ → ℕ → ℕ) (run : List Event) where
   Tells a (ResultOf h) v = ShownResult a h v
   Tells a (WayBack h) v = ShownWayBack a h v
   Tells a (ContextOf n) v = ShownContext a n v
+  Tells a (CellOf n) v = ShownCell a n v
   Tells a Nothing v = ⊥
 
   -- the message is a token for a part, and tells what its port wants
-  pub record Told (x : Payload) : Type 0 where
+  pub record ToldToken (x : Payload) : Type 0 where
     pub activation : Activation
     pub row : ℕ
     pub part : ℕ
@@ -209,6 +269,46 @@ module _ (S : Source) (number : ℕ → ℕ → ℕ) (run : List Event) where
     pub is_part : IsPart S.checked row part
     pub is : x ≡ Token (tag_in activation (number row part)) port value
     pub tells : Tells activation (topic_at S.checked row part port) value
+
+  -- the reply is for a fetch, which asks for the cell
+  pub record ToldRead (c : Cell) (t : Tag) : Type 0 where
+    pub activation : Activation
+    pub row : ℕ
+    pub target : ℕ
+    pub index : ℕ
+    pub within : row < length (rows S.checked)
+    pub node : node S.checked row ≡ Fetch target index
+    pub is : t ≡ tag_in activation (number row 2)
+    pub live : Live activation (region S.checked row)
+    pub path : Path
+    pub path_of : activations.PathOf S number run activation path
+    pub name : Site
+    pub named : Named S number run c.structure name
+    pub holds : Holds S (ask (site path (place S.checked row)) name c.index)
+
+  -- the origin is a store, which puts the value into the cell
+  pub record ToldWrite (c : Cell) (v : Value) (w : Tag) : Type 0 where
+    pub activation : Activation
+    pub row : ℕ
+    pub address : ℕ
+    pub stored : ℕ
+    pub within : row < length (rows S.checked)
+    pub node : node S.checked row ≡ Store address stored
+    pub is : w ≡ tag_in activation (number row 0)
+    pub live : Live activation (region S.checked row)
+    pub path : Path
+    pub path_of : activations.PathOf S number run activation path
+    pub name : Site
+    pub named : Named S number run c.structure name
+    pub value : SourceValue
+    pub stands : StandsFor S number run v value
+    pub holds : Holds S (put name c.index value (site path (place S.checked row)))
+
+  -- the message tells what its port wants, that a fetch asks or that a store puts
+  abbrev pub Told : Payload → Type 0
+  Told (Token t p v) = ToldToken (Token t p v)
+  Told (Read c t) = ToldRead c t
+  Told (Write c v w) = ToldWrite c v w
 
   -- each message in flight or handled tells what its port wants
   abbrev pub AllTell : World → Type 0

@@ -1,6 +1,6 @@
 -- How a message comes to a port: one way for each kind of sending, whatever the node (docs/MEANING.md, "Laws").
 use Rattle.std.specs.Prelude.{◌≡◌, ◌<◌, ◌+◌, ℕ, suc, List, length, slice_get, Some}
-use Rattle.id_parts.specs.declared.row.Node.TheVariants.{Arg, Start}
+use Rattle.id_parts.specs.declared.row.Node.TheVariants.{Arg, Fetch, Start}
 use Rattle.id_check.specs.declared.checked.Checked.{Checked}
 use Rattle.id_check.specs.Programs.{rows}
 use Rattle.id_graph.specs.declared.dests.Port.{Port}
@@ -9,13 +9,14 @@ use Rattle.id_tag.specs.declared.Context.{Context}
 use Rattle.id_tag.specs.declared.Value.{Value}
 use Rattle.id_tag.specs.declared.Value.TheVariants.{Signal, Continuation}
 use Rattle.id_ops.specs.declared.Fired.TheVariants.{Sent}
-use Rattle.id_core.specs.Machines.{token_value}
-use Rattle.id_meaning.specs.declared.SourceValue.{SourceValue}
+use Rattle.id_ops.specs.Operators.{constant_value}
+use Rattle.id_value.specs.declared.Constant.{Constant}
 use Rattle.id_meaning.specs.Sources.{Source, IsInput}
 use Rattle.id_build.specs.declared.arc.Origin.{Origin}
 use Rattle.id_build.specs.Rows.{Entry, answer_row, loop_entries, node, param_of}
 use Rattle.id_build.specs.Schemas.{Feeds}
 use Rattle.id_runs.specs.Activations.{Activation, at_iteration, main_activation, tag_in}
+use Rattle.id_runs.specs.Cells.{Replies}
 use Rattle.id_runs.specs.Events.{Event, FiresAs, fired_event}
 use Rattle.id_laws.specs.Activations.{Begins, main_head, Opens, Speaks, Moves, ReturnsTo}
 
@@ -51,6 +52,9 @@ pub data Way (S : Source) (number : ℕ → ℕ → ℕ) (run : List Event) (e :
   by_back : (c : Context) (h : ℕ) (a : Activation) (n : ℕ) (v : Value) → ReturnsTo S number run c h a n
       → (x : FiresAs run (tag_in (at_iteration c 0) (number h 1)) (Sent (tag_in a (number n 0)) v))
       → fired_event x ≡ e → Way S number run e a n 0 Zero v
+  -- the reply to a fetch, from a read that found the value or the write that filled the cell
+  by_reply : (a : Activation) (n t i : ℕ) (v : Value) → n < length (rows S.checked) → node S.checked n ≡ Fetch t i
+      → Replies run (tag_in a (number n 2)) v e → Way S number run e a n 2 Zero v
 
 -- at the start the value is there for the port of the part of the row, under main's activation: a signal, the way back
 -- and the inputs
@@ -58,4 +62,4 @@ pub data StartsAt (S : Source) (number : ℕ → ℕ → ℕ) : ℕ → ℕ → 
   signal : StartsAt S number (main_head S.checked) 0 Zero Signal
   way_back : StartsAt S number (main_head S.checked) 1 Zero
       (Continuation (tag_in main_activation (number (answer_row S.checked) 0)))
-  input : (b : ℕ) (v : SourceValue) → IsInput S b v → StartsAt S number b 0 Zero (token_value v)
+  input : (b : ℕ) (c : Constant) → IsInput S b c → StartsAt S number b 0 Zero (constant_value c)

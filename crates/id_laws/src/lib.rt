@@ -29,7 +29,8 @@ pub fn complete()
     ensures { QuietIsComplete }
 {}
 
-/// *Coherence*: each source gives each path and place at most one value (docs/MEANING.md, "Laws"). Takes
+/// *Coherence*: each source without a fault gives each path and place at most one value, each structure
+/// one shape and each cell one value (docs/MEANING.md, "Laws"). Takes
 /// no memory.
 pub fn coherent()
     ensures { Coherence }
@@ -47,8 +48,8 @@ pub fn suited()
     ensures { Suited }
 {}
 
-/// *Serials*: in any run of any graph no two events enter the same context, and none enters main's
-/// (docs/MEANING.md, "Laws"). Takes no memory.
+/// *Serials*: in any run of any graph no two events enter the same context or make the same structure, and
+/// none enters main's context (docs/MEANING.md, "Laws"). Takes no memory.
 pub fn serials()
     ensures { Serials }
 {}

@@ -5,4 +5,3 @@ pub mod Keyed
 pub mod Codes
 -- for use inside
 pub mod Halves
-pub mod Near

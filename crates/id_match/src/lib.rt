@@ -17,11 +17,8 @@ ghost use Rattle.id_match.specs.declared.Offered.TheVariants.{Kept};
 ghost use Rattle.id_match.specs.Waiting.{pair_of, entry_at};
 ghost use Rattle.id_match.specs.Halves.{answer_at, half_after};
 
-mod near;
-
-use crate::near::NearHasher;
 use id_graph::Port;
-use id_tag::{Tag, Value};
+use id_tag::{NearHasher, Tag, Value};
 use std::alloc::{AllocError, Global};
 use std::collections::HashMap;
 use std::collections::hash_map::Entry as Place;

@@ -15,7 +15,7 @@ use Rattle.id_parts.proofs.BlocksLemmas.{length-run, params_at-run, run}
 use Rattle.id_check.specs.declared.checked.Checked.{Checked}
 use Rattle.id_check.specs.Programs.{Calls, Stands, rows}
 use Rattle.id_check.proofs.ProgramsLemmas.{argument_call, call_row, table_of}
-use Rattle.id_meaning.specs.Cells.{param_row}
+use Rattle.id_meaning.specs.Effects.{param_row}
 use Rattle.id_meaning.proofs.ParamsLemmas.{params-among}
 
 -- at a row past the last nothing comes

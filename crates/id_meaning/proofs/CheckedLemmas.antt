@@ -3,10 +3,10 @@ use Rattle.std.proofs.Common.{◌≡◌, ◌<◌, ◌-◌, inl, ℕ, true, lengt
 use Rattle.std.proofs.lemmas.Bool.{false≢true}
 use Rattle.id_parts.specs.declared.row.Row.{Row}
 use Rattle.id_parts.specs.declared.row.Node.{Node}
-use Rattle.id_parts.specs.declared.row.Node.TheVariants.{Param, Literal, Name, Unary, Binary, If, Call, Next, NextUse, Loop, Block, Binding}
+use Rattle.id_parts.specs.declared.row.Node.TheVariants.{Param, Literal, Name, Unary, Binary, If, Call, Next, NextUse, Loop, Block, Binding, Array, Fetch, Store}
 use Rattle.id_parts.specs.Loops.{IsLoopOf, IsNextOf}
 use Rattle.id_parts.specs.Rows.{arm_at, at}
-use Rattle.id_parts.specs.Tables.{AreApart, HasPart, is_binder, is_expression, is_param, is_thing}
+use Rattle.id_parts.specs.Tables.{AreApart, HasPart, is_binder, is_expression, is_param, is_store, is_thing}
 use Rattle.id_parts.proofs.PlacesLemmas.{AreApart-rows_of, HasPlace-rows_of}
 use Rattle.id_tree.specs.Tree.{program_tree}
 use Rattle.id_tree.specs.Distinct.{HasPlace}
@@ -15,7 +15,7 @@ use Rattle.id_check.specs.Scopes.{depth_at}
 use Rattle.id_check.specs.Programs.{Stands, binder, depth, place, rows}
 use Rattle.id_meaning.specs.Sources.{Source}
 use Rattle.id_meaning.specs.Facts.{LoopStands, NextStands, between}
-use Rattle.id_meaning.specs.Cells.{far_from}
+use Rattle.id_meaning.specs.Links.{far_from}
 use Rattle.id_check.proofs.ProgramsLemmas.{binder_below, bound_name_row, bound_use_row, table_of}
 
 -- which nodes are things
@@ -28,7 +28,13 @@ thing-expression (If s x y) h = refl
 thing-expression (Call e c) h = refl
 thing-expression (Loop h w l) k = refl
 thing-expression (Block b) h = refl
+thing-expression (Array a b) h = refl
+thing-expression (Fetch t i) h = refl
 thing-expression _ h = absurd (false≢true h)
+
+pub thing-store : (z : Node) → is_store z ≡ true → is_thing z ≡ true
+thing-store (Store a v) h = refl
+thing-store _ h = absurd (false≢true h)
 
 pub thing-binder : (z : Node) → is_binder z ≡ true → is_thing z ≡ true
 thing-binder (Param x k) h = refl

@@ -1,5 +1,5 @@
--- Each path and place has at most one value.
-use Rattle.std.proofs.Common.{◌≡◌, ◌⊎◌, inl, inr, ℕ, zero, suc, Bool as Truth, true, false, Some, arith, List, [], ◌∷◌, length, refl, ap, sym, ◌∙◌, subst}
+-- A source without a fault is coherent.
+use Rattle.std.proofs.Common.{◌≡◌, ◌⊎◌, ℤ, inl, inr, ℕ, zero, suc, Bool as Truth, true, false, Some, arith, List, [], ◌∷◌, length, refl, ap, sym, ◌∙◌, subst}
 use Rattle.std.specs.Prelude.{slice_get}
 use Rattle.std.proofs.lemmas.Bool.{cases_lt, false≢true}
 use Rattle.id_value.specs.declared.Kind.{Kind}
@@ -10,6 +10,7 @@ use Rattle.id_value.specs.declared.Outcome.TheVariants.{Gives}
 use Rattle.id_value.specs.Results.{result_of_unary, result_of_binary}
 use Rattle.id_parts.specs.declared.row.Node.{Node}
 use Rattle.id_parts.specs.declared.row.Node.TheVariants.{Param, Literal, Name, Unary, Binary, Split, If, Arg, Call, Switches, Next, Loop, Block, Binding, Def}
+use Rattle.id_parts.specs.declared.row.Node.TheVariants.{Array, Fetch, Store}
 use Rattle.id_parts.specs.Rows.{at}
 use Rattle.id_parts.specs.Tables.{is_param, is_thing}
 use Rattle.id_parts.specs.Turns.{params_at}
@@ -18,26 +19,31 @@ use Rattle.id_check.proofs.ProgramsLemmas.{table_of}
 use Rattle.id_list.proofs.AmongLemmas.{Among-from_at}
 use Rattle.id_meaning.specs.declared.Path.{Path}
 use Rattle.id_meaning.specs.declared.SourceValue.{SourceValue}
-use Rattle.id_meaning.specs.declared.SourceValue.TheVariants.{Bool}
+use Rattle.id_meaning.specs.declared.SourceValue.TheVariants.{Int, Bool}
+use Rattle.id_meaning.specs.declared.SourceValue.TheVariants as value
+use Rattle.id_meaning.specs.declared.Site.{Site}
+use Rattle.id_meaning.specs.declared.SourceFault.TheVariants.{SecondStore}
 use Rattle.id_meaning.specs.declared.Fact.{Fact}
 use Rattle.id_meaning.specs.declared.Fact.TheVariants.{Has}
 use Rattle.id_meaning.specs.Sources.{Source, IsInput, value_of}
 use Rattle.id_meaning.specs.Facts.{LoopStands, NextStands, first_has, next_has, loop_has, outermost, below, without, between, Chooses, then_arm, else_arm, Rule}
+use Rattle.id_meaning.specs.Facts.{StoreStands, array_has, ask, asks, fetch_has, put, puts, second_store, shape, shape_made, site}
 use Rattle.id_meaning.specs.Facts.{param_has, literal_has, unary_has, binary_has, name_has, conditional_has, argument_has, call_has, block_has, binding_has}
-use Rattle.id_meaning.specs.Rounds.{Every, Rounds, Holds, IsCoherent}
-use Rattle.id_meaning.specs.Cells.{arm_of, constant_of}
+use Rattle.id_meaning.specs.Rounds.{Every, FaultFree, Rounds, Holds, IsCoherent}
+use Rattle.id_meaning.specs.Links.{arm_of}
 use Rattle.id_meaning.proofs.CheckedLemmas.{apart_of, loop-of}
 use Rattle.id_meaning.proofs.LiveLemmas.{all-fine, false-there, true-below}
 use Rattle.id_meaning.proofs.ParamsLemmas.{input_param, once, one_input, params-among, params-differ}
-use Rattle.id_meaning.proofs.PathsLemmas.{below-once, none-below}
+use Rattle.id_meaning.proofs.StepsLemmas.{below-once, none-below}
+use Rattle.id_meaning.proofs.RoundsLemmas.{again}
+use Rattle.id_meaning.proofs.SitesLemmas.{site-order}
 
--- a value is what its constant is, and the other way round
-pub constant-value : (c : Constant) → constant_of (value_of c) ≡ c
-constant-value (constant.Int n) = refl
-constant-value (constant.Bool b) = refl
-
+-- a value is that of one constant
 same-constant : (c d : Constant) → value_of c ≡ value_of d → c ≡ d
-same-constant c d e = sym (constant-value c) ∙ ap constant_of e ∙ constant-value d
+same-constant (constant.Int m) (constant.Int n) e = let q : m ≡ n = cc in ap (λ k. constant.Int k) q
+same-constant (constant.Bool b) (constant.Bool c) e = let q : b ≡ c = cc in ap (λ k. constant.Bool k) q
+same-constant (constant.Int m) (constant.Bool c) e = cc
+same-constant (constant.Bool b) (constant.Int n) e = cc
 
 every_holds : (S : Source) (n : ℕ) (fs : List Fact) → Every (Rounds S n) fs → Every (Holds S) fs
 every_holds S n [] h = tt
@@ -63,7 +69,7 @@ pub record IsChoice (S : Source) (n t : ℕ) (b : Truth) (a : ℕ) : Type 0 wher
   pub otherwise : ℕ
   pub stands : Stands S.checked n (If split then otherwise)
   pub splits : Stands S.checked split (Split t)
-  pub arm : arm_of then otherwise (Some (Bool b)) ≡ Some a
+  pub arm : arm_of b then otherwise ≡ a
 
 pub choice : {S : Source} {n t a : ℕ} {b : Truth} → Chooses S n t b a → IsChoice S n t b a
 choice (then_arm {s = s} {a = a} {b = b} u v) = record { split = s; then = a; otherwise = b; stands = u; splits = v; arm = refl }
@@ -83,10 +89,58 @@ one_arm {a = a} {d = d} {b = b} {c = c} f g e =
     let k : If f.split f.then f.otherwise ≡ If g.split g.then g.otherwise = sym f.stands.node ∙ g.stands.node in
     let x : f.then ≡ g.then = cc in
     let y : f.otherwise ≡ g.otherwise = cc in
-    let r : Some a ≡ Some d =
-    sym f.arm ∙ ap (λ i. arm_of i f.otherwise (Some (Bool b))) x ∙ ap (λ i. arm_of g.then i (Some (Bool b))) y ∙ ap
-    (λ i. arm_of g.then g.otherwise (Some (Bool i))) e ∙ g.arm in
-    cc
+    sym f.arm ∙ ap (λ i. arm_of b i f.otherwise) x ∙ ap (λ i. arm_of b g.then i) y ∙ ap (λ i. arm_of i g.then g.otherwise) e ∙ g.arm
+
+-- it is one of both
+pub arm-among : (x y : ℕ) (b : Truth) (a : ℕ) → arm_of b x y ≡ a → (a ≡ x) ⊎ (a ≡ y)
+arm-among x y true a h = inl (sym h)
+arm-among x y false a h = inr (sym h)
+
+-- a fetch stands at the place of the site
+pub record IsFetch (S : Source) (f : Site) : Type 0 where
+  pub row : ℕ
+  pub target : ℕ
+  pub index : ℕ
+  pub stands : Stands S.checked row (Fetch target index)
+  pub here : place S.checked row ≡ f.place
+
+-- it asks for cells of a structure that its target Has, by an index that its index Has
+pub record IsAsked (S : Source) (F : Fact → Type 0) (f s : Site) (j : ℤ) : Type 0 where
+  pub fetch : IsFetch S f
+  pub target : F (Has f.path (place S.checked fetch.target) (value.Name s))
+  pub index : F (Has f.path (place S.checked fetch.index) (value.Int j))
+
+pub asked_by : {S : Source} (F : Fact → Type 0) {f s : Site} {j : ℤ} {fs : List Fact} → Rule S fs (ask f s j) → Every F fs → IsAsked S F f s j
+asked_by F (asks {n = n} {t = t} {i = i} st e) h =
+    record { fetch = record { row = n; target = t; index = i; stands = st; here = refl }; target = h.1.0; index = h.1.1.0 }
+
+-- a store stands at the place of the site, and puts what its value Has
+pub record IsPut (S : Source) (F : Fact → Type 0) (a : Site) (v : SourceValue) : Type 0 where
+  pub row : ℕ
+  pub target : ℕ
+  pub index : ℕ
+  pub value : ℕ
+  pub stands : StoreStands S.checked row target index value
+  pub here : place S.checked row ≡ a.place
+  pub has : F (Has a.path (place S.checked value) v)
+
+pub put_by : {S : Source} (F : Fact → Type 0) {s a : Site} {j : ℤ} {v : SourceValue} {fs : List Fact} → Rule S fs (put s j v a) → Every F fs → IsPut S F a v
+put_by F (puts {m = m} {t = t} {i = i} {x = x} st e) h =
+    record { row = m; target = t; index = i; value = x; stands = st; here = refl; has = h.1.1.1.0 }
+
+-- an `array` stands at the place of the site, and gives its structure the bounds that its parts Have
+pub record IsMade (S : Source) (F : Fact → Type 0) (s : Site) (lo hi : ℤ) : Type 0 where
+  pub row : ℕ
+  pub low : ℕ
+  pub high : ℕ
+  pub stands : Stands S.checked row (Array low high)
+  pub here : place S.checked row ≡ s.place
+  pub lowest : F (Has s.path (place S.checked low) (value.Int lo))
+  pub highest : F (Has s.path (place S.checked high) (value.Int hi))
+
+pub made_by : {S : Source} (F : Fact → Type 0) {s : Site} {lo hi : ℤ} {fs : List Fact} → Rule S fs (shape s lo hi) → Every F fs → IsMade S F s lo hi
+made_by F (shape_made {n = n} {a = a} {b = b} st e) h =
+    record { row = n; low = a; high = b; stands = st; here = refl; lowest = h.1.0; highest = h.1.1.0 }
 
 -- the call at the row n is of the procedure that is defined at a row
 pub record IsCall (S : Source) (n : ℕ) : Type 0 where
@@ -142,7 +196,7 @@ pub record IsPassed (S : Source) (F : Fact → Type 0) (b : ℕ) (p : Path) (v :
 
 -- what follows at a parameter: its input at the empty path, or what a call passes on
 abbrev pub FollowsParam : Source → (Fact → Type 0) → ℕ → Path → SourceValue → Type 0
-FollowsParam S F b p v = ((p ≡ outermost) × IsInput S b v) ⊎ IsPassed S F b p v
+FollowsParam S F b p v = ((c : Constant) × (p ≡ outermost) × IsInput S b c × (v ≡ value_of c)) ⊎ IsPassed S F b p v
 
 -- the loop of a `next` at the row m
 pub record IsNext (S : Source) (m o a : ℕ) : Type 0 where
@@ -180,6 +234,14 @@ pub record IsLeft (S : Source) (F : Fact → Type 0) (n l : ℕ) (p : Path) (v :
   pub number : ℕ
   pub has : F (Has (below p (place S.checked n) number) (place S.checked l) v)
 
+-- a fetch Has what is put into a cell that it asks for
+pub record IsFetched (S : Source) (F : Fact → Type 0) (n : ℕ) (p : Path) (v : SourceValue) : Type 0 where
+  pub name : Site
+  pub cell : ℤ
+  pub store : Site
+  pub asks : F (ask (site p (place S.checked n)) name cell)
+  pub puts : F (put name cell v store)
+
 -- what follows at a row of this node from facts: a literal's value, an operator's result on what its operands Have, what a name's
 -- binder, the chosen arm of a conditional, a callee's body at the path of the call, a block's body, a loop's last expression and a
 -- binding's expression Has, and what follows at a parameter and at a loop's variable
@@ -198,6 +260,8 @@ Follows S F n (Block b) p v = F (Has p (place S.checked b) v)
 Follows S F n (Loop h w l) p v = IsLeft S F n l p v
 Follows S F n (Next y i o a) p v = IsFirst S F n o a p v ⊎ IsLater S F n o a p v
 Follows S F n (Binding y a) p v = F (Has p (place S.checked a) v)
+Follows S F n (Array a b) p v = v ≡ value.Name (site p (place S.checked n))
+Follows S F n (Fetch t i) p v = IsFetched S F n p v
 Follows S F n (Param y k) p v = FollowsParam S F n p v
 Follows S F n _ p v = ⊥
 
@@ -215,27 +279,44 @@ param_follows : {S : Source} (F : Fact → Type 0) {b : ℕ} {p : Path} {v : Sou
 param_follows F (Param x k) s t i = record { row = _; node = _; stands = s; thing = refl; here = refl; follows = i }
 param_follows F _ s t i = absurd (false≢true t)
 
-pub follows_by : {S : Source} (F : Fact → Type 0) {p : Path} {e : ℕ} {v : SourceValue} {fs : List Fact} → Rule S fs (Has p e v) → Every F fs
+-- a fetch that asks stands there
+abbrev pub Fetches : Source → (Fact → Type 0) → Type 0
+Fetches S F = (f s : Site) (j : ℤ) → F (ask f s j) → IsFetch S f
+
+fetched : {S : Source} (F : Fact → Type 0) {f s a : Site} {j : ℤ} {v : SourceValue} → IsFetch S f → F (ask f s j) → F (put s j v a)
+    → FollowsAt S F f.path f.place v
+fetched {S} F {f} {s} {a} {j} {v} x h k =
+    let G : ℕ → Type 0 = λ e. F (ask (site f.path e) s j) in
+    record {
+      row = x.row;
+      node = Fetch x.target x.index;
+      stands = x.stands;
+      thing = refl;
+      here = x.here;
+      follows = record { name = s; cell = j; store = a; asks = subst G (sym x.here) h; puts = k };
+    }
+
+pub follows_by : {S : Source} (F : Fact → Type 0) → Fetches S F → {p : Path} {e : ℕ} {v : SourceValue} {fs : List Fact} → Rule S fs (Has p e v) → Every F fs
     → FollowsAt S F p e v
-follows_by F (param_has i) h = let q = input_param i in param_follows F _ (record { within = q.0; node = refl }) q.1 (inl (refl, i))
-follows_by F (literal_has s) h = record { row = _; node = _; stands = s; thing = refl; here = refl; follows = refl }
-follows_by F (unary_has {x = x} c s is) h = record { row = _; node = _; stands = s; thing = refl; here = refl; follows = (c, x, h.1.0, is, refl) }
-follows_by F (binary_has {x = x} c d s is) h =
+follows_by F asked (param_has {c = c} i) h = let q = input_param i in param_follows F _ (record { within = q.0; node = refl }) q.1 (inl (c, refl, i, refl))
+follows_by F asked (literal_has s) h = record { row = _; node = _; stands = s; thing = refl; here = refl; follows = refl }
+follows_by F asked (unary_has {x = x} c s is) h = record { row = _; node = _; stands = s; thing = refl; here = refl; follows = (c, x, h.1.0, is, refl) }
+follows_by F asked (binary_has {x = x} c d s is) h =
     record { row = _; node = _; stands = s; thing = refl; here = refl; follows = (c, d, x, h.1.0, h.1.1.0, is, refl) }
-follows_by F (name_has {b = b} s is) h = record { row = _; node = _; stands = s; thing = refl; here = refl; follows = (b, is, h.1.0) }
-follows_by F (conditional_has {t = t} {a = a} {b = b} c) h =
+follows_by F asked (name_has {b = b} s is) h = record { row = _; node = _; stands = s; thing = refl; here = refl; follows = (b, is, h.1.0) }
+follows_by F asked (conditional_has {t = t} {a = a} {b = b} c) h =
     let d = choice c in
     record { row = _; node = If d.split d.then d.otherwise; stands = d.stands; thing = refl; here = refl; follows = (t, b, a, d, h.1.0, h.1.1.0) }
-follows_by {S} F (argument_has {n = n} {h = g} {m = m} {i = i} {v = a} {q = q} {p = p} s t is def there) h =
+follows_by {S} F asked (argument_has {n = n} {h = g} {m = m} {i = i} {v = a} {q = q} {p = p} s t is def there) h =
     let R = rows S.checked in
     let w = params-among R g (length R) q (Among-from_at q (params_at R g) i there) in
     let call : IsCall S n = record { enter = _; count = _; def = _; name = _; head = g; kind = _; body = _; stands = s; binder = is; definition = def } in
     param_follows F _ (record { within = w.0; node = refl }) w.1
     (inr (record { call = n; outer = p; is_call = call; row = m; index = i; value = a; argument = t; param = there; path = refl; has = h.1.0 }))
-follows_by {S} F (call_has {n = n} s is def) h =
+follows_by {S} F asked (call_has {n = n} s is def) h =
     let call : IsCall S n = record { enter = _; count = _; def = _; name = _; head = _; kind = _; body = _; stands = s; binder = is; definition = def } in
     record { row = n; node = _; stands = s; thing = refl; here = refl; follows = (call, h.1.0) }
-follows_by {S} F (first_has {n = n} {h = g} {w = w} {t = t} {l = l} {m = m} {o = o} {v = a} {c = c} {p = q} s x e) h =
+follows_by {S} F asked (first_has {n = n} {h = g} {w = w} {t = t} {l = l} {m = m} {o = o} {v = a} {c = c} {p = q} s x e) h =
     let of : IsNext S m o a = record { row = n; head = g; switches = w; test = t; last = l; loop = s; next = x } in
     record {
       row = m;
@@ -245,7 +326,7 @@ follows_by {S} F (first_has {n = n} {h = g} {w = w} {t = t} {l = l} {m = m} {o =
       here = refl;
       follows = inl (record { of = of; outer = q; outside = c; binder = e; path = refl; has = h.1.0 });
     }
-follows_by {S} F (next_has {n = n} {h = g} {w = w} {t = t} {l = l} {m = m} {o = o} {v = a} q k s x) h =
+follows_by {S} F asked (next_has {n = n} {h = g} {w = w} {t = t} {l = l} {m = m} {o = o} {v = a} q k s x) h =
     let of : IsNext S m o a = record { row = n; head = g; switches = w; test = t; last = l; loop = s; next = x } in
     record {
       row = m;
@@ -255,10 +336,12 @@ follows_by {S} F (next_has {n = n} {h = g} {w = w} {t = t} {l = l} {m = m} {o = 
       here = refl;
       follows = inr (record { of = of; outer = q; number = k; path = refl; has = h.0 });
     }
-follows_by F (loop_has {n = n} {h = g} {w = w} {t = t} {l = l} q k s) h =
+follows_by F asked (loop_has {n = n} {h = g} {w = w} {t = t} {l = l} q k s) h =
     record { row = n; node = Loop g w l; stands = s.loop; thing = refl; here = refl; follows = record { head = g; switches = w; test = t; loop = s; number = k; has = h.0 } }
-follows_by F (block_has s) h = record { row = _; node = _; stands = s; thing = refl; here = refl; follows = h.1.0 }
-follows_by F (binding_has s) h = record { row = _; node = _; stands = s; thing = refl; here = refl; follows = h.0 }
+follows_by F asked (block_has s) h = record { row = _; node = _; stands = s; thing = refl; here = refl; follows = h.1.0 }
+follows_by F asked (binding_has s) h = record { row = _; node = _; stands = s; thing = refl; here = refl; follows = h.0 }
+follows_by F asked (array_has s e) h = record { row = _; node = _; stands = s; thing = refl; here = refl; follows = refl }
+follows_by F asked (fetch_has {f = f} {s = s} {a = a} {j = j} {v = v}) h = fetched F (asked f s j h.0) h.0 h.1.0
 
 -- what follows at a place follows at the thing that stands there
 pub follows_at : {S : Source} (F : Fact → Type 0) {p : Path} {e : ℕ} {v : SourceValue} (n : ℕ) (m : Node) → Stands S.checked n m → is_thing m ≡ true
@@ -300,9 +383,9 @@ one_passed S m early b p v w h k =
 
 one_param : (S : Source) (m : ℕ) → Earlier S m → (b : ℕ) (p : Path) (v w : SourceValue) → FollowsParam S (Rounds S m) b p v → FollowsParam S (Holds S) b p w
     → v ≡ w
-one_param S m early b p v w (inl h) (inl k) = one_input h.1 k.1
-one_param S m early b p v w (inl h) (inr k) = absurd (none-below k.outer (place S.checked k.call) 0 (sym h.0 ∙ k.path))
-one_param S m early b p v w (inr h) (inl k) = absurd (none-below h.outer (place S.checked h.call) 0 (sym k.0 ∙ h.path))
+one_param S m early b p v w (inl h) (inl k) = h.3 ∙ ap value_of (one_input h.2 k.2) ∙ sym k.3
+one_param S m early b p v w (inl h) (inr k) = absurd (none-below k.outer (place S.checked k.call) 0 (sym h.1 ∙ k.path))
+one_param S m early b p v w (inr h) (inl k) = absurd (none-below h.outer (place S.checked h.call) 0 (sym k.1 ∙ h.path))
 one_param S m early b p v w (inr h) (inr k) = one_passed S m early b p v w h k
 
 -- a `next` is of one loop
@@ -392,25 +475,115 @@ one_left S m early n l p v w h k =
       ]
     ]
 
+-- ---- what is asked for and put
+
+asked-round : (S : Source) (n : ℕ) (f s : Site) (j : ℤ) → Rounds S n (ask f s j) → IsAsked S (Rounds S n) f s j
+asked-round S n f s j h = let r = again S n (ask f s j) h in asked_by (Rounds S n) r.1 r.2
+
+asked-held : (S : Source) (f s : Site) (j : ℤ) → Holds S (ask f s j) → IsAsked S (Holds S) f s j
+asked-held S f s j h = let b = because S h.round (ask f s j) h.there in asked_by (Holds S) b.rule b.hold
+
+fetches-round : (S : Source) (n : ℕ) → Fetches S (Rounds S n)
+fetches-round S n f s j h = (asked-round S n f s j h).fetch
+
+fetches-held : (S : Source) → Fetches S (Holds S)
+fetches-held S f s j h = (asked-held S f s j h).fetch
+
+put-round : (S : Source) (n : ℕ) (s a : Site) (j : ℤ) (v : SourceValue) → Rounds S n (put s j v a) → IsPut S (Rounds S n) a v
+put-round S n s a j v h = let r = again S n (put s j v a) h in put_by (Rounds S n) r.1 r.2
+
+put-held : (S : Source) (s a : Site) (j : ℤ) (v : SourceValue) → Holds S (put s j v a) → IsPut S (Holds S) a v
+put-held S s a j v h = let b = because S h.round (put s j v a) h.there in put_by (Holds S) b.rule b.hold
+
+made-round : (S : Source) (n : ℕ) (s : Site) (lo hi : ℤ) → Rounds S n (shape s lo hi) → IsMade S (Rounds S n) s lo hi
+made-round S n s lo hi h = let r = again S n (shape s lo hi) h in made_by (Rounds S n) r.1 r.2
+
+made-held : (S : Source) (s : Site) (lo hi : ℤ) → Holds S (shape s lo hi) → IsMade S (Holds S) s lo hi
+made-held S s lo hi h = let b = because S h.round (shape s lo hi) h.there in made_by (Holds S) b.rule b.hold
+
+-- one fetch asks for one cell
+record IsSameCell (s t : Site) (i j : ℤ) : Type 0 where
+  pub name : s ≡ t
+  pub index : i ≡ j
+
+one_fetch : (S : Source) (f : Site) (x y : IsFetch S f) → (x.target ≡ y.target) × (x.index ≡ y.index)
+one_fetch S f x y =
+    let R = rows S.checked in
+    let q : x.row ≡ y.row =
+    (apart_of S.checked).apart x.row y.row x.stands.within y.stands.within (ap is_thing x.stands.node) (ap is_thing y.stands.node) (x.here ∙ sym y.here) in
+    let k : Fetch x.target x.index ≡ Fetch y.target y.index = sym x.stands.node ∙ ap (λ i. (at R i).node) q ∙ y.stands.node in
+    let t : x.target ≡ y.target = cc in
+    let i : x.index ≡ y.index = cc in
+    (t, i)
+
+one_cell : (S : Source) (n : ℕ) → Earlier S n → (f s t : Site) (i j : ℤ) → IsAsked S (Rounds S n) f s i → IsAsked S (Holds S) f t j → IsSameCell s t i j
+one_cell S n early f s t i j x y =
+    let q = one_fetch S f x.fetch y.fetch in
+    let A : ℕ → Type 0 = λ e. Holds S (Has f.path (place S.checked e) (value.Name t)) in
+    let B : ℕ → Type 0 = λ e. Holds S (Has f.path (place S.checked e) (value.Int j)) in
+    let a = early f.path (place S.checked x.fetch.target) (value.Name s) (value.Name t) x.target (subst A (sym q.0) y.target) in
+    let b = early f.path (place S.checked x.fetch.index) (value.Int i) (value.Int j) x.index (subst B (sym q.1) y.index) in
+    let name : s ≡ t = cc in
+    let index : i ≡ j = cc in
+    record { name = name; index = index }
+
+-- without a fault one store puts something into a cell
+one_store : (S : Source) → FaultFree S → (s a b : Site) (j : ℤ) (v w : SourceValue) → Holds S (put s j v a) → Holds S (put s j w b) → a ≡ b
+one_store S free s a b j v w h k = elim (site-order a b) [
+  | inl x ↦
+      absurd (free (SecondStore s j a b) (record { premises = put s j v a ∷ put s j w b ∷ []; rule = second_store x; hold = (h, (k, tt)) }))
+  | inr (inl x) ↦ x
+  | inr (inr x) ↦
+      absurd (free (SecondStore s j b a) (record { premises = put s j w b ∷ put s j v a ∷ []; rule = second_store x; hold = (k, (h, tt)) }))
+]
+
+-- and one value
+one_value : (S : Source) (x y : ℕ) (m l t u i j : ℕ) → StoreStands S.checked m t i x → StoreStands S.checked l u j y → place S.checked m ≡ place S.checked l → x ≡ y
+one_value S x y m l t u i j g h e =
+    let R = rows S.checked in
+    let q : m ≡ l =
+    (apart_of S.checked).apart m l g.store.within h.store.within (ap is_thing g.store.node) (ap is_thing h.store.node) e in
+    let k : Store g.address x ≡ Store h.address y = sym g.store.node ∙ ap (λ c. (at R c).node) q ∙ h.store.node in
+    cc
+
+one_put : (S : Source) (n : ℕ) → Earlier S n → (a : Site) (v w : SourceValue) → IsPut S (Rounds S n) a v → IsPut S (Holds S) a w → v ≡ w
+one_put S n early a v w x y =
+    let q : x.value ≡ y.value = one_value S x.value y.value x.row y.row x.target y.target x.index y.index x.stands y.stands (x.here ∙ sym y.here) in
+    let A : ℕ → Type 0 = λ e. Holds S (Has a.path (place S.checked e) w) in
+    early a.path (place S.checked x.value) v w x.has (subst A (sym q) y.has)
+
+-- a fetch Has one value
+one_fetched : (S : Source) → FaultFree S → (m : ℕ) → Earlier S m → (n : ℕ) (p : Path) (v w : SourceValue) → IsFetched S (Rounds S m) n p v
+    → IsFetched S (Holds S) n p w → v ≡ w
+one_fetched S free m early n p v w x y =
+    let f = site p (place S.checked n) in
+    let c = one_cell S m early f x.name y.name x.cell y.cell (asked-round S m f x.name x.cell x.asks) (asked-held S f y.name y.cell y.asks) in
+    let A : Site → Type 0 = λ s. Holds S (put s y.cell w y.store) in
+    let B : ℤ → Type 0 = λ j. Holds S (put x.name j w y.store) in
+    let k = subst B (sym c.index) (subst A (sym c.name) y.puts) in
+    let q : x.store ≡ y.store = one_store S free x.name x.store y.store x.cell v w (record { round = m; there = x.puts }) k in
+    let C : Site → Type 0 = λ s. Holds S (put x.name x.cell w s) in
+    one_put S m early x.store v w (put-round S m x.name x.store x.cell v x.puts) (put-held S x.name x.store x.cell w (subst C (sym q) k))
+
 -- what follows at a node is one value
-one_at_node : (S : Source) (m : ℕ) → Earlier S m → (n : ℕ) (z : Node) (p : Path) (v w : SourceValue) → Follows S (Rounds S m) n z p v
+one_at_node : (S : Source) → FaultFree S → (m : ℕ) → Earlier S m → (n : ℕ) (z : Node) (p : Path) (v w : SourceValue) → Follows S (Rounds S m) n z p v
     → Follows S (Holds S) n z p w → v ≡ w
-one_at_node S m early n (Literal c) p v w h k = h ∙ sym k
-one_at_node S m early n (Unary o a) p v w h k =
+one_at_node S free m early n (Literal c) p v w h k = h ∙ sym k
+one_at_node S free m early n (Unary o a) p v w h k =
     let c = same-constant h.0 k.0 (early p _ _ _ h.2 k.2) in
     let x = one_outcome _ _ (ap (λ d. result_of_unary o d) c) h.3 k.3 in
     h.4 ∙ ap value_of x ∙ sym k.4
-one_at_node S m early n (Binary o a b) p v w h k =
+one_at_node S free m early n (Binary o a b) p v w h k =
     let c = same-constant h.0 k.0 (early p _ _ _ h.3 k.3) in
     let d = same-constant h.1 k.1 (early p _ _ _ h.4 k.4) in
     let x = one_outcome _ _ (λ i. result_of_binary o (c i) (d i)) h.5 k.5 in
     h.6 ∙ ap value_of x ∙ sym k.6
-one_at_node S m early n (Name y) p v w h k =
+one_at_node S free m early n (Name y) p v w h k =
     let s : Some k.0 ≡ Some h.0 = sym k.1 ∙ h.1 in
     let q : k.0 ≡ h.0 = cc in
     let P : ℕ → Type 0 = λ b. Holds S (Has (without (between S n b) p) (place S.checked b) w) in
     early (without (between S n h.0) p) (place S.checked h.0) v w h.2 (subst P q k.2)
-one_at_node S m early n (If s x y) p v w h k =
+one_at_node S free m early n (If s x y) p v w h k =
     let t = one_test k.3 h.3 in
     let there : Holds S (Has p (place S.checked h.0) (value_of (constant.Bool k.1))) =
     subst (λ i. Holds S (Has p (place S.checked i) (value_of (constant.Bool k.1)))) t k.4 in
@@ -418,26 +591,63 @@ one_at_node S m early n (If s x y) p v w h k =
     let b : h.1 ≡ k.1 = cc in
     let a = one_arm k.3 h.3 (sym b) in
     early p _ v w h.5 (subst (λ i. Holds S (Has p (place S.checked i) w)) a k.5)
-one_at_node S m early n (Call e c) p v w h k =
+one_at_node S free m early n (Call e c) p v w h k =
     let q = one_call h.0 k.0 refl in
     let F : ℕ → Type 0 = λ b. Holds S (Has (below p (place S.checked n) 0) (place S.checked b) w) in
     early (below p (place S.checked n) 0) (place S.checked h.0.body) v w h.1 (subst F (sym q.body) k.1)
-one_at_node S m early n (Block b) p v w h k = early p _ v w h k
-one_at_node S m early n (Loop g x l) p v w h k = one_left S m early n l p v w h k
-one_at_node S m early n (Next y i o a) p v w h k = one_variable S m early n o a p v w h k
-one_at_node S m early n (Binding y a) p v w h k = early p _ v w h k
-one_at_node S m early n (Param y k) p v w h l = one_param S m early n p v w h l
-one_at_node S m early n _ p v w h k = absurd h
+one_at_node S free m early n (Block b) p v w h k = early p _ v w h k
+one_at_node S free m early n (Loop g x l) p v w h k = one_left S m early n l p v w h k
+one_at_node S free m early n (Next y i o a) p v w h k = one_variable S m early n o a p v w h k
+one_at_node S free m early n (Binding y a) p v w h k = early p _ v w h k
+one_at_node S free m early n (Array a b) p v w h k = h ∙ sym k
+one_at_node S free m early n (Fetch t i) p v w h k = one_fetched S free m early n p v w h k
+one_at_node S free m early n (Param y k) p v w h l = one_param S m early n p v w h l
+one_at_node S free m early n _ p v w h k = absurd h
 
-one_by_round : (S : Source) (n : ℕ) → Earlier S n
-one_by_round S zero p e v w h k = absurd h
-one_by_round S (suc n) p e v w (inl h) k = one_by_round S n p e v w h k
-one_by_round S (suc n) p e v w (inr t) k =
-    let f = follows_by (Rounds S n) t.1 t.2 in
+one_by_round : (S : Source) → FaultFree S → (n : ℕ) → Earlier S n
+one_by_round S free zero p e v w h k = absurd h
+one_by_round S free (suc n) p e v w (inl h) k = one_by_round S free n p e v w h k
+one_by_round S free (suc n) p e v w (inr t) k =
+    let f = follows_by (Rounds S n) (fetches-round S n) t.1 t.2 in
     let b = because S k.round _ k.there in
-    let g = follows_by (Holds S) b.rule b.hold in
-    one_at_node S n (one_by_round S n) f.row f.node p v w f.follows (follows_at (Holds S) f.row f.node f.stands f.thing f.here g)
+    let g = follows_by (Holds S) (fetches-held S) b.rule b.hold in
+    one_at_node S free n (one_by_round S free n) f.row f.node p v w f.follows (follows_at (Holds S) f.row f.node f.stands f.thing f.here g)
 
 -- each path and place has at most one value
-pub coherence : (S : Source) → IsCoherent S
-coherence S p e v w h k = one_by_round S h.round p e v w h.there k
+pub one-value : (S : Source) → FaultFree S → (p : Path) (e : ℕ) (v w : SourceValue) → Holds S (Has p e v) → Holds S (Has p e w) → v ≡ w
+one-value S free p e v w h k = one_by_round S free h.round p e v w h.there k
+
+-- each structure has one shape
+one-shape : (S : Source) → FaultFree S → (s : Site) (lo hi low high : ℤ) → Holds S (shape s lo hi) → Holds S (shape s low high) → (lo ≡ low) × (hi ≡ high)
+one-shape S free s lo hi low high h k =
+    let R = rows S.checked in
+    let x = made-held S s lo hi h in
+    let y = made-held S s low high k in
+    let q : x.row ≡ y.row =
+    (apart_of S.checked).apart x.row y.row x.stands.within y.stands.within (ap is_thing x.stands.node) (ap is_thing y.stands.node) (x.here ∙ sym y.here) in
+    let e : Array x.low x.high ≡ Array y.low y.high = sym x.stands.node ∙ ap (λ i. (at R i).node) q ∙ y.stands.node in
+    let l : x.low ≡ y.low = cc in
+    let m : x.high ≡ y.high = cc in
+    let A : ℕ → Type 0 = λ i. Holds S (Has s.path (place S.checked i) (value.Int low)) in
+    let B : ℕ → Type 0 = λ i. Holds S (Has s.path (place S.checked i) (value.Int high)) in
+    let a = one-value S free s.path (place S.checked x.low) (value.Int lo) (value.Int low) x.lowest (subst A (sym l) y.lowest) in
+    let b = one-value S free s.path (place S.checked x.high) (value.Int hi) (value.Int high) x.highest (subst B (sym m) y.highest) in
+    let c : lo ≡ low = cc in
+    let d : hi ≡ high = cc in
+    (c, d)
+
+-- and into each cell one store puts one value
+one-cell : (S : Source) → FaultFree S → (s : Site) (j : ℤ) (v w : SourceValue) (a b : Site) → Holds S (put s j v a) → Holds S (put s j w b) → (v ≡ w) × (a ≡ b)
+one-cell S free s j v w a b h k =
+    let q = one_store S free s a b j v w h k in
+    let C : Site → Type 0 = λ c. Holds S (put s j w c) in
+    let x = put-held S s a j v h in
+    let n = x.has.round in
+    let y = put-held S s a j w (subst C (sym q) k) in
+    let r : x.value ≡ y.value = one_value S x.value y.value x.row y.row x.target y.target x.index y.index x.stands y.stands (x.here ∙ sym y.here) in
+    let A : ℕ → Type 0 = λ e. Holds S (Has a.path (place S.checked e) w) in
+    (one-value S free a.path (place S.checked x.value) v w x.has (subst A (sym r) y.has), q)
+
+-- a source without a fault is coherent
+pub coherence : (S : Source) → FaultFree S → IsCoherent S
+coherence S free = record { values = one-value S free; shapes = one-shape S free; puts = one-cell S free }

@@ -21,11 +21,11 @@ use Rattle.id_parts.specs.Tables.{is_param}
 use Rattle.id_check.specs.declared.checked.Checked.{Checked}
 use Rattle.id_check.specs.Programs.{rows}
 use Rattle.id_meaning.specs.declared.inputs.Wanted.{Wanted}
-use Rattle.id_meaning.specs.declared.SourceValue.{SourceValue}
-use Rattle.id_meaning.specs.declared.SourceValue.TheVariants as value
+use Rattle.id_value.specs.declared.Constant.{Constant}
+use Rattle.id_value.specs.declared.Constant.TheVariants as value
 use Rattle.id_meaning.specs.declared.inputs.InputError.{InputError}
 use Rattle.id_meaning.specs.declared.inputs.InputError.TheVariants.{UnknownInput, RepeatedInput, BadInput}
-use Rattle.id_meaning.specs.Sources.{AreFor, AreInputs, SuitsParam, head_of, main_params, value_kind}
+use Rattle.id_meaning.specs.Sources.{AreFor, AreInputs, SuitsParam, constant_kind, head_of, main_params}
 use Rattle.id_meaning.proofs.ParamsLemmas.{params-among}
 use Rattle.id_meaning.specs.Inputs.{AreInputsOf, Cut, begun, cut, wanted, wanted_of, number_of, are_digits, number_spelled, whole_value, value_spelled, Said}
 use Rattle.id_meaning.specs.Inputs.{Nothing, Says, said_of, said_by, said, named_by, has, option_bad, word_cause, first_cause, value_in, value_for, IsCauseOf}
@@ -100,7 +100,7 @@ are_digits-end (c ∷ cs) h = ap not (ne_eqb (length (c ∷ cs)) 0 (λ e. omega 
 -- ---- the values so far
 
 -- after j words these are the values: the words that are left decide the cause, and give what lacks
-pub record Progress (ps : List Wanted) (ws : List (List ℕ)) (j : ℕ) (vs : List (Option SourceValue)) : Type 0 where
+pub record Progress (ps : List Wanted) (ws : List (List ℕ)) (j : ℕ) (vs : List (Option Constant)) : Type 0 where
   pub seen : List ℕ
   pub cause : first_cause ps [] 0 ws ≡ first_cause ps seen j (drop j ws)
   pub size : length vs ≡ length ps
@@ -111,13 +111,13 @@ pub record Progress (ps : List Wanted) (ws : List (List ℕ)) (j : ℕ) (vs : Li
 abbrev cause_from : List Wanted → List ℕ → ℕ → Said → List (List ℕ) → Option InputError
 cause_from ps seen j s rest = option_or (word_cause seen j s) (first_cause ps (named_by s ++ seen) (suc j) rest)
 
-has_more : (v : Bool) (n m : ℕ) (seen : List ℕ) (vs : List (Option SourceValue)) (o : SourceValue) → eqb n m ≡ v → n < length vs
+has_more : (v : Bool) (n m : ℕ) (seen : List ℕ) (vs : List (Option Constant)) (o : Constant) → eqb n m ≡ v → n < length vs
     → has m seen ≡ is_some (get_or vs m None) → (v || has m seen) ≡ is_some (get_or (set vs n (Some o)) m None)
 has_more true n m seen vs o e l h =
     ap is_some (sym (subst (λ k. get_or (set vs n (Some o)) k None ≡ Some o) (eqb-true n m e) (get_or-set_same vs n (Some o) None l)))
 has_more false n m seen vs o e l h = h ∙ ap is_some (sym (get_or-set_other vs n m (Some o) None (λ same. false≢true (sym e ∙ eq-eqb n m (sym same)))))
 
-given_more : (v : Bool) (n m : ℕ) (vs : List (Option SourceValue)) (o : SourceValue) (all left : Option SourceValue) → eqb n m ≡ v → n < length vs
+given_more : (v : Bool) (n m : ℕ) (vs : List (Option Constant)) (o : Constant) (all left : Option Constant) → eqb n m ≡ v → n < length vs
     → get_or vs n None ≡ None
     → all ≡ option_or (get_or vs m None) (option_or (if v then Some o else None) left) → all ≡ option_or (get_or (set vs n (Some o)) m None) left
 given_more true n m vs o all left e l none h =
@@ -127,7 +127,7 @@ given_more false n m vs o all left e l none h =
     h ∙ ap (λ g. option_or g left) (sym (get_or-set_other vs n m (Some o) None (λ same. false≢true (sym e ∙ eq-eqb n m (sym same)))))
 
 -- the cause of a word that names a parameter
-refused : (ps : List Wanted) (ws : List (List ℕ)) (j : ℕ) (rest : Option InputError) (known : Bool) (v : Option SourceValue) (e : InputError)
+refused : (ps : List Wanted) (ws : List (List ℕ)) (j : ℕ) (rest : Option InputError) (known : Bool) (v : Option Constant) (e : InputError)
     → first_cause ps [] 0 ws ≡ option_or (if known then Some (RepeatedInput j) else option_bad j v) rest →
     (if known then Some (RepeatedInput j) else option_bad j v) ≡ Some e → IsCauseOf ps ws e
 refused ps ws j rest true v e first cause = subst (IsCauseOf ps ws) (let same : RepeatedInput j ≡ e = cc in same) first
@@ -135,12 +135,12 @@ refused ps ws j rest false None e first cause = subst (IsCauseOf ps ws) (let sam
 refused ps ws j rest false (Some v) e first cause = cc
 
 -- a word that is taken has a value, for a parameter that has none
-free : (j : ℕ) (o v : Option SourceValue) → (if is_some o then Some (RepeatedInput j) else option_bad j v) ≡ None → (o ≡ None) × IsSome v
+free : (j : ℕ) (o v : Option Constant) → (if is_some o then Some (RepeatedInput j) else option_bad j v) ≡ None → (o ≡ None) × IsSome v
 free j None None e = cc
 free j None (Some w) e = (refl, refl)
 free j (Some q) v e = cc
 
-module _ (ps : List Wanted) (ws : List (List ℕ)) (j : ℕ) (vs : List (Option SourceValue)) (P : Progress ps ws j vs) (inside : j < length ws) where
+module _ (ps : List Wanted) (ws : List (List ℕ)) (j : ℕ) (vs : List (Option Constant)) (P : Progress ps ws j vs) (inside : j < length ws) where
   next : drop j ws ≡ get_or ws j [] ∷ drop (suc j) ws
   next = drop-cons ws j [] inside
 
@@ -151,7 +151,7 @@ module _ (ps : List Wanted) (ws : List (List ℕ)) (j : ℕ) (vs : List (Option 
   progress-unknown : said ps (get_or ws j []) ≡ Nothing → first_cause ps [] 0 ws ≡ Some (UnknownInput j)
   progress-unknown e = cause_at Nothing e
 
-  refused_at : (n : ℕ) (v : Option SourceValue) (known : Bool) (e : InputError) → said ps (get_or ws j []) ≡ Says n v → n < length vs
+  refused_at : (n : ℕ) (v : Option Constant) (known : Bool) (e : InputError) → said ps (get_or ws j []) ≡ Says n v → n < length vs
       → is_some (get_or vs n None) ≡ known
       → (if known then Some (RepeatedInput j) else option_bad j v) ≡ Some e → IsCauseOf ps ws e
   refused_at n v known e says l is cause =
@@ -163,7 +163,7 @@ module _ (ps : List Wanted) (ws : List (List ℕ)) (j : ℕ) (vs : List (Option 
   unseen : (n : ℕ) (s : Option InputError) → n < length vs → get_or vs n None ≡ None → (if has n P.seen then Some (RepeatedInput j) else s) ≡ s
   unseen n s l none = ap (λ b. if b then Some (RepeatedInput j) else s) (P.known n l ∙ ap is_some none)
 
-  next_at : (n : ℕ) (v : SourceValue) → said ps (get_or ws j []) ≡ Says n (Some v) → n < length vs → get_or vs n None ≡ None
+  next_at : (n : ℕ) (v : Constant) → said ps (get_or ws j []) ≡ Says n (Some v) → n < length vs → get_or vs n None ≡ None
       → Progress ps ws (j + 1) (set vs n (Some v))
   next_at n v e l none = record {
     seen = n ∷ P.seen;
@@ -180,12 +180,12 @@ module _ (ps : List Wanted) (ws : List (List ℕ)) (j : ℕ) (vs : List (Option 
         ∙ ap (λ i. option_or (get_or vs m None) (option_or (if eqb n m then Some v else None) (value_for ps (drop i ws) m))) (sym (add-one j)));
   }
 
-  pub progress-refused : (r : Option (ℕ × Option SourceValue)) (e : InputError) → said_so r ≡ said ps (get_or ws j []) → IfSome r (λ x. x.0 < length vs)
+  pub progress-refused : (r : Option (ℕ × Option Constant)) (e : InputError) → said_so r ≡ said ps (get_or ws j []) → IfSome r (λ x. x.0 < length vs)
       → cause_so vs j r ≡ Some e → IsCauseOf ps ws e
   progress-refused None e says within cause = subst (IsCauseOf ps ws) (let same : UnknownInput j ≡ e = cc in same) (progress-unknown (sym says))
   progress-refused (Some x) e says within cause = refused_at x.0 x.1 (is_some (get_or vs x.0 None)) e (sym says) within refl cause
 
-  pub progress-next : (r : Option (ℕ × Option SourceValue)) → said_so r ≡ said ps (get_or ws j []) → IfSome r (λ x. x.0 < length vs) → cause_so vs j r ≡ None
+  pub progress-next : (r : Option (ℕ × Option Constant)) → said_so r ≡ said ps (get_or ws j []) → IfSome r (λ x. x.0 < length vs) → cause_so vs j r ≡ None
       → Progress ps ws (j + 1) (values_so vs r)
   progress-next None says within cause = cc
   progress-next (Some (n, None)) says within cause = absurd (false≢true (free j (get_or vs n None) None cause).1)
@@ -198,63 +198,63 @@ word_at ps ws j d inside = ap (said ps) (get_or-map (λ (w : Bor (List ℕ)). w.
 
 -- ---- kinds
 
-whole-kind : (v : Bool) (n : ℤ) (o : SourceValue) → (if v then Some (value.Int n) else None) ≡ Some o → value_kind o ≡ kind.Int
-whole-kind true n o e = ap value_kind (sym (let same : value.Int n ≡ o = cc in same))
+whole-kind : (v : Bool) (n : ℤ) (o : Constant) → (if v then Some (value.Int n) else None) ≡ Some o → constant_kind o ≡ kind.Int
+whole-kind true n o e = ap constant_kind (sym (let same : value.Int n ≡ o = cc in same))
 whole-kind false n o e = cc
 
-number-kind : (r : Option ℤ) (o : SourceValue) → option_and_then whole_value r ≡ Some o → value_kind o ≡ kind.Int
+number-kind : (r : Option ℤ) (o : Constant) → option_and_then whole_value r ≡ Some o → constant_kind o ≡ kind.Int
 number-kind None o e = cc
 number-kind (Some n) o e = whole-kind _ n o e
 
-truth-kind : (v w : Bool) (o : SourceValue) → (if v then Some (value.Bool true) else (if w then Some (value.Bool false) else None)) ≡ Some o
-    → value_kind o ≡ kind.Bool
-truth-kind true w o e = ap value_kind (sym (let same : value.Bool true ≡ o = cc in same))
-truth-kind false true o e = ap value_kind (sym (let same : value.Bool false ≡ o = cc in same))
+truth-kind : (v w : Bool) (o : Constant) → (if v then Some (value.Bool true) else (if w then Some (value.Bool false) else None)) ≡ Some o
+    → constant_kind o ≡ kind.Bool
+truth-kind true w o e = ap constant_kind (sym (let same : value.Bool true ≡ o = cc in same))
+truth-kind false true o e = ap constant_kind (sym (let same : value.Bool false ≡ o = cc in same))
 truth-kind false false o e = cc
 
-spelled-kind : (k : Kind) (cs : List ℕ) (o : SourceValue) → value_spelled k cs ≡ Some o → value_kind o ≡ k
+spelled-kind : (k : Kind) (cs : List ℕ) (o : Constant) → value_spelled k cs ≡ Some o → constant_kind o ≡ k
 spelled-kind kind.Int cs o e = number-kind (number_spelled cs) o e
 spelled-kind kind.Bool cs o e = truth-kind _ _ o e
 spelled-kind kind.Array cs o e = cc
 
-param-kind : (q : Option Wanted) (p : Wanted) (cs : List ℕ) (o : SourceValue) → q ≡ Some p → option_and_then (λ r. value_spelled r.kind cs) q ≡ Some o
-    → value_kind o ≡ p.kind
+param-kind : (q : Option Wanted) (p : Wanted) (cs : List ℕ) (o : Constant) → q ≡ Some p → option_and_then (λ r. value_spelled r.kind cs) q ≡ Some o
+    → constant_kind o ≡ p.kind
 param-kind q p cs o is e = spelled-kind p.kind cs o (rw is at e)
 
 -- what a word says of a parameter has its kind
-in-kind : (v : Bool) (ps : List Wanted) (cs : List ℕ) (n m : ℕ) (p : Wanted) (o : SourceValue) → eqb m n ≡ v → slice_get ps n ≡ Some p
-    → (if v then option_and_then (λ r. value_spelled r.kind cs) (slice_get ps m) else None) ≡ Some o → value_kind o ≡ p.kind
+in-kind : (v : Bool) (ps : List Wanted) (cs : List ℕ) (n m : ℕ) (p : Wanted) (o : Constant) → eqb m n ≡ v → slice_get ps n ≡ Some p
+    → (if v then option_and_then (λ r. value_spelled r.kind cs) (slice_get ps m) else None) ≡ Some o → constant_kind o ≡ p.kind
 in-kind true ps cs n m p o e is h = param-kind (slice_get ps m) p cs o (ap (slice_get ps) (eqb-true m n e) ∙ is) h
 in-kind false ps cs n m p o e is h = cc
 
-said-kind : (ps : List Wanted) (cs : List ℕ) (a : Option ℕ) (n : ℕ) (p : Wanted) (o : SourceValue) → slice_get ps n ≡ Some p
-    → value_in n (said_of ps cs a) ≡ Some o → value_kind o ≡ p.kind
+said-kind : (ps : List Wanted) (cs : List ℕ) (a : Option ℕ) (n : ℕ) (p : Wanted) (o : Constant) → slice_get ps n ≡ Some p
+    → value_in n (said_of ps cs a) ≡ Some o → constant_kind o ≡ p.kind
 said-kind ps cs None n p o is e = cc
 said-kind ps cs (Some m) n p o is e = in-kind (eqb m n) ps cs n m p o refl is e
 
-word-kind : (ps : List Wanted) (w : Option Cut) (n : ℕ) (p : Wanted) (o : SourceValue) → slice_get ps n ≡ Some p → value_in n (said_by ps w) ≡ Some o
-    → value_kind o ≡ p.kind
+word-kind : (ps : List Wanted) (w : Option Cut) (n : ℕ) (p : Wanted) (o : Constant) → slice_get ps n ≡ Some p → value_in n (said_by ps w) ≡ Some o
+    → constant_kind o ≡ p.kind
 word-kind ps None n p o is e = cc
 word-kind ps (Some w) n p o is e = said-kind ps w.value (number_of ps w.name) n p o is e
 
-or-kind : (a b : Option SourceValue) (k : Kind) (o : SourceValue) → option_or a b ≡ Some o → (a ≡ Some o → value_kind o ≡ k) → (b ≡ Some o → value_kind o ≡ k)
-    → value_kind o ≡ k
+or-kind : (a b : Option Constant) (k : Kind) (o : Constant) → option_or a b ≡ Some o → (a ≡ Some o → constant_kind o ≡ k) → (b ≡ Some o → constant_kind o ≡ k)
+    → constant_kind o ≡ k
 or-kind None b k o e first second = second e
 or-kind (Some v) b k o e first second = first e
 
-for-kind : (ps : List Wanted) (ws : List (List ℕ)) (n : ℕ) (p : Wanted) (o : SourceValue) → slice_get ps n ≡ Some p → value_for ps ws n ≡ Some o
-    → value_kind o ≡ p.kind
+for-kind : (ps : List Wanted) (ws : List (List ℕ)) (n : ℕ) (p : Wanted) (o : Constant) → slice_get ps n ≡ Some p → value_for ps ws n ≡ Some o
+    → constant_kind o ≡ p.kind
 for-kind ps [] n p o is e = cc
 for-kind ps (w ∷ ws) n p o is e = or-kind (value_in n (said ps w)) (value_for ps ws n) p.kind o e (word-kind ps (cut w) n p o is) (for-kind ps ws n p o is)
 
 -- the parameter at a row of this node has the kind that is wanted
-suits : (P : Checked) (z : Node) (v : SourceValue) → is_param z ≡ true → value_kind v ≡ (wanted_of P z).kind → SuitsParam z v
+suits : (P : Checked) (z : Node) (v : Constant) → is_param z ≡ true → constant_kind v ≡ (wanted_of P z).kind → SuitsParam z v
 suits P (Param x k) v h e = e
 suits P _ v h e = absurd (false≢true h)
 
 -- one value for each parameter, of its kind
-are-for : (P : Checked) (bs : List ℕ) (vs : List SourceValue) → ((b : ℕ) → Among b bs → is_param (at (rows P) b).node ≡ true) → length vs ≡ length bs
-    → ((n : ℕ) (p : Wanted) (v : SourceValue) → slice_get (map (λ b. wanted_of P (at (rows P) b).node) bs) n ≡ Some p → slice_get vs n ≡ Some v → value_kind v ≡ p.kind) → AreFor P bs vs
+are-for : (P : Checked) (bs : List ℕ) (vs : List Constant) → ((b : ℕ) → Among b bs → is_param (at (rows P) b).node ≡ true) → length vs ≡ length bs
+    → ((n : ℕ) (p : Wanted) (v : Constant) → slice_get (map (λ b. wanted_of P (at (rows P) b).node) bs) n ≡ Some p → slice_get vs n ≡ Some v → constant_kind v ≡ p.kind) → AreFor P bs vs
 are-for P [] [] are e h = tt
 are-for P [] (v ∷ vs) are e h = absurd (omega arith)
 are-for P (b ∷ bs) [] are e h = absurd (omega arith)
@@ -266,7 +266,7 @@ wide-map f [] = refl
 wide-map f (x ∷ xs) = ap (λ n. suc n) (wide-map f xs)
 
 -- one for each parameter of `main`, of its kind
-module _ (P : Checked) (ps : List Wanted) (ws : List (List ℕ)) (vs : List SourceValue) (same : ps ≡ wanted P) (enough : length vs ≡ length ps)
+module _ (P : Checked) (ps : List Wanted) (ws : List (List ℕ)) (vs : List Constant) (same : ps ≡ wanted P) (enough : length vs ≡ length ps)
     (values : (n : ℕ) → n < length vs → slice_get vs n ≡ value_for ps ws n) where
   pub are-inputs-of : first_cause ps [] 0 ws ≡ None → AreInputsOf P ws vs
   are-inputs-of taken = record {
@@ -279,7 +279,7 @@ module _ (P : Checked) (ps : List Wanted) (ws : List (List ℕ)) (vs : List Sour
   are-inputs =
       let R = rows P in
       let wide : length (wanted P) ≡ length (main_params P) = wide-map (λ b. wanted_of P (at R b).node) (main_params P) in
-      let kinds : (n : ℕ) (p : Wanted) (v : SourceValue) → slice_get ps n ≡ Some p → slice_get vs n ≡ Some v → value_kind v ≡ p.kind =
+      let kinds : (n : ℕ) (p : Wanted) (v : Constant) → slice_get ps n ≡ Some p → slice_get vs n ≡ Some v → constant_kind v ≡ p.kind =
       λ n p v is at. for-kind ps ws n p v is (sym (values n (slice_get_within vs n v at)) ∙ at) in
       are-for P (main_params P) vs (λ b i. (params-among R (head_of (at R P.main).node) (length R) b i).1) (enough ∙ ap length same ∙ wide)
-      (subst (λ (qs : List Wanted). (n : ℕ) (p : Wanted) (v : SourceValue) → slice_get qs n ≡ Some p → slice_get vs n ≡ Some v → value_kind v ≡ p.kind) same kinds)
+      (subst (λ (qs : List Wanted). (n : ℕ) (p : Wanted) (v : Constant) → slice_get qs n ≡ Some p → slice_get vs n ≡ Some v → constant_kind v ≡ p.kind) same kinds)

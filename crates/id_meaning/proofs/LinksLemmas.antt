@@ -2,7 +2,7 @@
 use Rattle.std.proofs.Common.{◌≡◌, ◌⊎◌, inl, inr, ℕ, zero, suc, ◌≤◌, ◌<◌, Bool, true, false, ◌||◌, ◌&&◌, nat_lt, nat_le, if◌then◌else◌, Some, None, Option}
 use Rattle.std.proofs.Common.{List, [], ◌∷◌, ◌++◌, length, get_or, set, Vec, Global, refl, ap, sym, ◌∙◌, subst, arith}
 use Rattle.std.specs.Prelude.{slice_get}
-use Rattle.std.proofs.lemmas.Bool.{leb-true, ltb-true, lt-leb, le-leb, le-ltb, lt-ltb}
+use Rattle.std.proofs.lemmas.Bool.{lt-leb, le-leb, le-ltb, lt-ltb}
 use Rattle.std.proofs.lemmas.Bool.Decides.{eqb_tells}
 use Rattle.std.proofs.lemmas.List.{get_or-set_same, length-set}
 use Rattle.std.proofs.lemmas.Option.{slice_get_within}
@@ -15,14 +15,18 @@ use Rattle.id_list.proofs.PlacesLemmas.{slice_get-left, slice_get-last}
 use Rattle.id_parts.specs.declared.row.Row.{Row}
 use Rattle.id_parts.specs.declared.row.Node.{Node}
 use Rattle.id_parts.specs.declared.row.Node.TheVariants.{Unary, Binary, Split, If, Call, Next, Body, Block, Binding}
+use Rattle.id_parts.specs.declared.row.Node.TheVariants.{Array, Fetch, Address, Store}
 use Rattle.id_parts.specs.declared.row.Region.{Region}
 use Rattle.id_parts.specs.Rows.{arm_at, at}
-use Rattle.id_parts.specs.Tables.{around, has_statements, is_binding, is_call, is_switches}
+use Rattle.id_parts.specs.Tables.{around, has_statements, is_call, is_statement, is_switches}
 use Rattle.id_parts.specs.Turns.{IsStatement, Turns, operand, left, right, test, argument, body, statement, in_block}
+use Rattle.id_parts.specs.Turns.{low, high, fetched, fetch_index, address_target, address_index, stored, stored_value}
 use Rattle.id_meaning.specs.declared.links.Statement.{Statement}
 use Rattle.id_meaning.specs.Links.{AreArgsTo, AreNone, AreOpen, AreReadsTo, AreTurnsTo, From, Gains, GainsFrom, GainsTo, Leads, PartTurns, Statements}
 use Rattle.id_meaning.specs.Links.{Statements_at, StatementsRise, Takes, TakesAll, TurnsOn, asker_at, beyond, linked_at, linked_of, nexts_turned, of_binding}
-use Rattle.id_meaning.specs.Links.{of_next, parts_turned, some_row, switches_of, targets, test_of, width}
+use Rattle.id_meaning.specs.Links.{index_of, of_next, of_store, parts_turned, some_row, switches_of, target_of, targets, test_of}
+use Rattle.id_meaning.specs.Links.{BodyTurns, turned_by, width}
+use Rattle.id_meaning.proofs.AroundLemmas.{around-within}
 
 -- ---- edges
 
@@ -82,6 +86,20 @@ gains-one E F a b w e inside added =
       ];
     }
 
+-- edges stay where those of one row stay
+pub kept-one : (E F : Edges) (a : ℕ) (w : Vec ℕ Global) → F.rows.items ≡ set E.rows.items a w → a < length E.rows.items
+    → w.items ≡ targets E.rows.items a → (n b : ℕ) → Leads E n b → Leads F n b
+kept-one E F a w e inside same n b h =
+    let vs = E.rows.items in
+    let A : List ℕ → Type 0 = λ xs. Among b xs in
+    elim (eqb_tells n a) [
+      | inl q ↦
+          let P : ℕ → Type 0 = λ m. Among b (targets F.rows.items m) in
+          let Q : ℕ → Type 0 = λ m. Among b (targets vs m) in
+          subst P (sym q.1) (subst A (sym (ap (λ xs. targets xs a) e ∙ targets-same vs a w inside ∙ same)) (subst Q q.1 h))
+      | inr q ↦ subst A (sym (ap (λ xs. targets xs n) e ∙ targets-other vs a n w q.1)) h
+    ]
+
 -- edges after edges
 pub gains-both : (E F G : Edges) (a : ℕ) (bs cs : List ℕ) → Gains E F a bs → Gains F G a cs → Gains E G a (bs ++ cs)
 gains-both E F G a bs cs g h = record {
@@ -111,6 +129,21 @@ gains_to-both E F G ds bs c g h = record {
   kept = λ n b k. h.kept n b (g.kept n b k);
   added = λ b l k. (let w = g.wide in elim (Among-either b ds bs k) [ inl i ↦ h.kept b c (g.added b l i) | inr i ↦ h.added b (omega arith) i ]);
 }
+
+-- the edges of a store's parts
+pub gains-store : (E F G H : Edges) (n x : ℕ) (t i u j : Option ℕ) → t ≡ u → i ≡ j → Gains E F n (some_row t) → Gains F G n (some_row i) → Gains G H n (x ∷ [])
+    → Gains E H n (some_row u ++ (some_row j ++ x ∷ []))
+gains-store E F G H n x t i u j p q f g h =
+    let A : Option ℕ → Type 0 = λ o. Gains E H n (some_row o ++ (some_row j ++ x ∷ [])) in
+    let B : Option ℕ → Type 0 = λ o. Gains F H n (some_row o ++ x ∷ []) in
+    subst A p (gains-both E F H n (some_row t) (some_row j ++ x ∷ []) f (subst B q (gains-both F G H n (some_row i) (x ∷ []) g h)))
+
+pub gains_to-store : (E F G H : Edges) (n x : ℕ) (t i u j : Option ℕ) → t ≡ u → i ≡ j → GainsTo E F (some_row t) n → GainsTo F G (some_row i) n
+    → GainsTo G H (some_row (Some x)) n → GainsTo E H (some_row u ++ (some_row j ++ x ∷ [])) n
+gains_to-store E F G H n x t i u j p q f g h =
+    let A : Option ℕ → Type 0 = λ o. GainsTo E H (some_row o ++ (some_row j ++ x ∷ [])) n in
+    let B : Option ℕ → Type 0 = λ o. GainsTo F H (some_row o ++ x ∷ []) n in
+    subst A p (gains_to-both E F H (some_row t) (some_row j ++ x ∷ []) n f (subst B q (gains_to-both F G H (some_row i) (x ∷ []) n g h)))
 
 -- ---- statements that wait
 
@@ -232,11 +265,6 @@ and-second false c e h = cc
 around-true : (R : List Row) (s i : ℕ) → (at R s).first ≤ i → i < s → around R s i ≡ true
 around-true R s i l b = and-true (nat_le (at R s).first i) (nat_lt i s) (le-leb (at R s).first i l) (lt-ltb i s b)
 
-pub around-within : (R : List Row) (s i : ℕ) → around R s i ≡ true → ((at R s).first ≤ i) × (i < s)
-around-within R s i h =
-    let t = and-both (nat_le (at R s).first i) (nat_lt i s) h in
-    (leb-true (at R s).first i t.0, ltb-true i s t.1)
-
 and-late : (b c : Bool) → c ≡ false → b && c ≡ false
 and-late true c h = h
 and-late false c h = refl
@@ -253,9 +281,24 @@ in_block-before R i (suc s) l =
     both-false (in_block R i s) (has_statements (at R s).node && around R s i) (in_block-before R i s (omega arith))
     (and-late (has_statements (at R s).node) (around R s i) k)
 
--- what an expression turns On is a part, or a statement's expression
-turned-part : (R : List Row) (n a : ℕ) → is_call (at R n).node ≡ false → Turns R n a
-    → Among a (parts_turned R (at R n).node) ⊎ ((m : ℕ) × (x : ℕ) × IsStatement R n m × ((at R m).node ≡ Binding x a))
+-- a statement of the block at the row n turns this one On
+abbrev Stated : List Row → ℕ → ℕ → Type 0
+Stated R n a = (m : ℕ) × IsStatement R n m × (turned_by m (at R m).node ≡ Some a)
+
+-- what turns another on with it is a statement
+turned-statement : (m a : ℕ) (z : Node) → turned_by m z ≡ Some a → is_statement z ≡ true
+turned-statement m a (Binding x b) e = refl
+turned-statement m a (Store b x) e = refl
+turned-statement m a _ e = cc
+
+-- and has no statements
+plain-statement : (m a : ℕ) (z : Node) → turned_by m z ≡ Some a → has_statements z ≡ false
+plain-statement m a (Binding x b) e = refl
+plain-statement m a (Store b x) e = refl
+plain-statement m a _ e = cc
+
+-- what an expression or store turns On is a part, or what is turned on with a statement
+turned-part : (R : List Row) (n a : ℕ) → is_call (at R n).node ≡ false → Turns R n a → Among a (parts_turned R (at R n).node) ⊎ Stated R n a
 turned-part R n a k (operand {o = o} e) = let P : Node → Type 0 = λ z. Among a (parts_turned R z) in inl (subst P (sym e) (inl refl))
 turned-part R n a k (left {b = b} {o = o} e) = let P : Node → Type 0 = λ z. Among a (parts_turned R z) in inl (subst P (sym e) (inl refl))
 turned-part R n a k (right {b = b} {o = o} e) = let P : Node → Type 0 = λ z. Among a (parts_turned R z) in inl (subst P (sym e) (inr (inl refl)))
@@ -265,7 +308,27 @@ turned-part R n a k (test e f) =
     inl (subst P (sym e) (subst Q (sym f) (inl refl)))
 turned-part R n a k (argument e l f) = let c : true ≡ false = sym (ap is_call e) ∙ k in absurd (true≢false c)
 turned-part R n a k (body e) = let P : Node → Type 0 = λ z. Among a (parts_turned R z) in inl (subst P (sym e) (inl refl))
-turned-part R n a k (statement {m = m} {x = x} b s e) = inr (m, x, s, e)
+turned-part R n a k (low {b = b} e) = let P : Node → Type 0 = λ z. Among a (parts_turned R z) in inl (subst P (sym e) (inl refl))
+turned-part R n a k (high {a = b} e) = let P : Node → Type 0 = λ z. Among a (parts_turned R z) in inl (subst P (sym e) (inr (inl refl)))
+turned-part R n a k (fetched {i = i} e) = let P : Node → Type 0 = λ z. Among a (parts_turned R z) in inl (subst P (sym e) (inl refl))
+turned-part R n a k (fetch_index {t = t} e) = let P : Node → Type 0 = λ z. Among a (parts_turned R z) in inl (subst P (sym e) (inr (inl refl)))
+turned-part R n a k (address_target {a = b} {v = x} e f) =
+    let P : Node → Type 0 = λ z. Among a (parts_turned R z) in
+    let t = target_of (at R b).node in
+    let i = index_of (at R b).node in
+    inl (subst P (sym e) (Among-left a (some_row t) (some_row i ++ x ∷ []) (some-among t a (ap target_of f))))
+turned-part R n a k (address_index {a = b} {v = x} e f) =
+    let P : Node → Type 0 = λ z. Among a (parts_turned R z) in
+    let t = target_of (at R b).node in
+    let i = index_of (at R b).node in
+    inl (subst P (sym e) (Among-right a (some_row t) (some_row i ++ x ∷ []) (Among-left a (some_row i) (x ∷ []) (some-among i a (ap index_of f)))))
+turned-part R n a k (stored_value {a = b} e) =
+    let P : Node → Type 0 = λ z. Among a (parts_turned R z) in
+    let t = target_of (at R b).node in
+    let i = index_of (at R b).node in
+    inl (subst P (sym e) (Among-right a (some_row t) (some_row i ++ a ∷ []) (Among-right a (some_row i) (a ∷ []) (inl refl))))
+turned-part R n a k (statement {m = m} {x = x} b s e) = inr (m, s, ap (λ z. turned_by m z) e)
+turned-part R n a k (stored {m = m} b s e) = inr (m, s, ap (λ z. turned_by m z) e)
 
 part-turned : (R : List Row) (n a : ℕ) (z : Node) → (at R n).node ≡ z → Among a (parts_turned R z) → Turns R n a
 part-turned R n a (Unary o b) e (inl q) = let P : ℕ → Type 0 = λ c. Turns R n c in subst P (sym q) (operand e)
@@ -281,7 +344,46 @@ part-turned R n a (If s x y) e h = go (at R s).node refl h
     go _ f k = absurd k
 part-turned R n a (Block b) e (inl q) = let P : ℕ → Type 0 = λ c. Turns R n c in subst P (sym q) (body e)
 part-turned R n a (Block b) e (inr f) = absurd f
+part-turned R n a (Array b c) e (inl q) = let P : ℕ → Type 0 = λ d. Turns R n d in subst P (sym q) (low e)
+part-turned R n a (Array b c) e (inr (inl q)) = let P : ℕ → Type 0 = λ d. Turns R n d in subst P (sym q) (high e)
+part-turned R n a (Array b c) e (inr (inr f)) = absurd f
+part-turned R n a (Fetch b c) e (inl q) = let P : ℕ → Type 0 = λ d. Turns R n d in subst P (sym q) (fetched e)
+part-turned R n a (Fetch b c) e (inr (inl q)) = let P : ℕ → Type 0 = λ d. Turns R n d in subst P (sym q) (fetch_index e)
+part-turned R n a (Fetch b c) e (inr (inr f)) = absurd f
+part-turned R n a (Store b x) e h =
+    let t = target_of (at R b).node in
+    let i = index_of (at R b).node in
+    elim (Among-either a (some_row t) (some_row i ++ x ∷ []) h) [
+      | inl k ↦ by_target (at R b).node refl k
+      | inr k ↦ elim (Among-either a (some_row i) (x ∷ []) k) [
+        | inl j ↦ by_index (at R b).node refl j
+        | inr j ↦ elim j [ inl q ↦ (let P : ℕ → Type 0 = λ d. Turns R n d in subst P (sym q) (stored_value e)) | inr f ↦ absurd f ]
+      ]
+    ]
+  where
+    by_target : (m : Node) → (at R b).node ≡ m → Among a (some_row (target_of m)) → Turns R n a
+    by_target (Address t i) f (inl q) = let P : ℕ → Type 0 = λ c. Turns R n c in subst P (sym q) (address_target e f)
+    by_target (Address t i) f (inr k) = absurd k
+    by_target _ f k = absurd k
+
+    by_index : (m : Node) → (at R b).node ≡ m → Among a (some_row (index_of m)) → Turns R n a
+    by_index (Address t i) f (inl q) = let P : ℕ → Type 0 = λ c. Turns R n c in subst P (sym q) (address_index e f)
+    by_index (Address t i) f (inr k) = absurd k
+    by_index _ f k = absurd k
 part-turned R n a _ e h = absurd h
+
+-- what is turned on with a statement of a block, that block turns On
+stated-turns : (R : List Row) (n b m a : ℕ) (z : Node) → (at R n).node ≡ Block b → IsStatement R n m → (at R m).node ≡ z → turned_by m z ≡ Some a → Turns R n a
+stated-turns R n b m a (Binding x c) e s f q = let k : c ≡ a = cc in let P : ℕ → Type 0 = λ d. Turns R n d in subst P k (statement e s f)
+stated-turns R n b m a (Store c x) e s f q = let k : m ≡ a = cc in let P : ℕ → Type 0 = λ d. Turns R n d in subst P k (stored e s f)
+stated-turns R n b m a _ e s f q = cc
+
+-- and with one of a loop's body, its switches do
+body-stated : (R : List Row) (w b m a : ℕ) (z : Node) → b < length R → (at R b).node ≡ Body → (at R b).region ≡ arm_at w true → IsStatement R b m
+    → (at R m).node ≡ z → turned_by m z ≡ Some a → BodyTurns R w a
+body-stated R w b m a (Binding x c) l e r s f q = let k : c ≡ a = cc in let P : ℕ → Type 0 = λ d. BodyTurns R w d in subst P k (of_binding l e r s f)
+body-stated R w b m a (Store c x) l e r s f q = let k : m ≡ a = cc in let P : ℕ → Type 0 = λ d. BodyTurns R w d in subst P k (of_store l e r s f)
+body-stated R w b m a _ l e r s f q = cc
 
 -- a call's arguments are none of these parts
 part-plain : (R : List Row) (a : ℕ) (z : Node) → Among a (parts_turned R z) → is_call z ≡ false
@@ -349,7 +451,7 @@ module _ (R : List Row) (n : ℕ) (E D F : Edges) (ss : List Statement) (w : n <
 
   -- with all that was there, and what this row's statements give
   parts-next : (G : Edges) → ((m b : ℕ) → Leads F m b → Leads G m b)
-      → ((a m x : ℕ) → IsStatement R n m → (at R m).node ≡ Binding x a → is_call (at R n).node ≡ false → Turns R n a → Leads G n a)
+      → ((a m : ℕ) → IsStatement R n m → turned_by m (at R m).node ≡ Some a → is_call (at R n).node ≡ false → Turns R n a → Leads G n a)
       → (m a : ℕ) → m < suc n → m < length R → PartTurns R m a → Leads G m a
   parts-next G up stated m a l v h = elim (eqb_tells m n) [
     | inl q ↦
@@ -358,7 +460,7 @@ module _ (R : List Row) (n : ℕ) (E D F : Edges) (ss : List Statement) (w : n <
         let p = subst P q.1 h in
         subst Q (sym q.1) (elim (turned-part R n a p.1 p.0) [
           | inl i ↦ up n a (part a i)
-          | inr i ↦ stated a i.0 i.1 i.2 i.3 p.1 p.0
+          | inr i ↦ stated a i.0 i.1 i.2 p.1 p.0
         ])
     | inr q ↦ (let s : m < n = let d = q.1 in omega arith in up m a (old m a (t.parts m a s v h)))
   ]
@@ -378,62 +480,64 @@ module _ (R : List Row) (n : ℕ) (E D F : Edges) (ss : List Statement) (w : n <
   ]
 
   bodies-next : (G : Edges) → ((m b : ℕ) → Leads F m b → Leads G m b)
-      → ((u m x a : ℕ) → u < length R → is_switches (at R u).node ≡ true → (at R n).node ≡ Body → (at R n).region ≡ arm_at u true → IsStatement R n m → (at R m).node ≡ Binding x a → Leads G u a)
-      → (u b m x a : ℕ) → b < suc n → b < length R → u < length R → is_switches (at R u).node ≡ true → (at R b).node ≡ Body → (at R b).region ≡ arm_at u true
-      → IsStatement R b m → (at R m).node ≡ Binding x a → Leads G u a
-  bodies-next G up stated u b m x a l v c is z r i e = elim (eqb_tells b n) [
+      → ((u m a : ℕ) → u < length R → is_switches (at R u).node ≡ true → (at R n).node ≡ Body → (at R n).region ≡ arm_at u true → IsStatement R n m
+      → turned_by m (at R m).node ≡ Some a → Leads G u a)
+      → (u b m a : ℕ) → b < suc n → b < length R → u < length R → is_switches (at R u).node ≡ true → (at R b).node ≡ Body → (at R b).region ≡ arm_at u true
+      → IsStatement R b m → turned_by m (at R m).node ≡ Some a → Leads G u a
+  bodies-next G up stated u b m a l v c is z r i e = elim (eqb_tells b n) [
     | inl q ↦
         let P : ℕ → Type 0 = λ j. ((at R j).node ≡ Body) × ((at R j).region ≡ arm_at u true) × IsStatement R j m in
         let p = subst P q.1 (z, r, i) in
-        stated u m x a c is p.0 p.1 p.2 e
-    | inr q ↦ (let s : b < n = let d = q.1 in omega arith in up u a (old u a (t.bodies u b m x a s v c is z r i e)))
+        stated u m a c is p.0 p.1 p.2 e
+    | inr q ↦ (let s : b < n = let d = q.1 in omega arith in up u a (old u a (t.bodies u b m a s v c is z r i e)))
   ]
 
   plain-turns : has_statements (at R n).node ≡ false → AreTurnsTo R (suc n) F
   plain-turns b = record {
     wide = wide-of ∙ t.wide;
-    parts = parts-next F (λ m b h. h) (λ a m x s e c u. (let d : true ≡ false = sym s.block ∙ b in absurd (true≢false d)));
-    bodies = bodies-next F (λ m b h. h) (λ u m x a c is z r i e. (let d : true ≡ false = sym i.block ∙ b in absurd (true≢false d)));
+    parts = parts-next F (λ m b h. h) (λ a m s e c u. (let d : true ≡ false = sym s.block ∙ b in absurd (true≢false d)));
+    bodies = bodies-next F (λ m b h. h) (λ u m a c is z r i e. (let d : true ≡ false = sym i.block ∙ b in absurd (true≢false d)));
     nexts = nexts-next F (λ m b h. h);
     only = from;
   }
 
-  -- a binding stands in no block before this row where it does in none before the next
+  -- a statement stands in no block before this row where it does in none before the next
   right-before : (b : ℕ) → in_block R b (suc n) ≡ false → in_block R b n ≡ false
   right-before b h = (or-false (in_block R b n) (has_statements (at R n).node && around R n b) h).0
 
   right-after : (b : ℕ) → has_statements (at R n).node ≡ false → in_block R b n ≡ false → in_block R b (suc n) ≡ false
   right-after b k h = both-false (in_block R b n) (has_statements (at R n).node && around R n b) h (and-first (has_statements (at R n).node) (around R n b) k)
 
-  plain-open : has_statements (at R n).node ≡ false → is_binding (at R n).node ≡ false → AreOpen R (suc n) ss
+  plain-open : has_statements (at R n).node ≡ false → is_statement (at R n).node ≡ false → AreOpen R (suc n) ss
   plain-open k j = record {
-    all = λ m x a l w e h. elim (eqb_tells m n) [
-      | inl q ↦ (let f : true ≡ false = ap is_binding (sym e) ∙ ap (λ i. is_binding (at R i).node) q.1 ∙ j in absurd (true≢false f))
-      | inr q ↦ (let s : m < n = let d = q.1 in omega arith in o.all m x a s w e (right-before m h))
+    all = λ m a l w e h. elim (eqb_tells m n) [
+      | inl q ↦
+          let f : true ≡ false = sym (turned-statement m a (at R m).node e) ∙ ap (λ i. is_statement (at R i).node) q.1 ∙ j in
+          absurd (true≢false f)
+      | inr q ↦ (let s : m < n = let d = q.1 in omega arith in o.all m a s w e (right-before m h))
     ];
     only = λ s h. (let x = o.only s h in (omega (arith, x.0), right-after s.row k x.1, x.2));
     rise = o.rise;
   }
 
-  binding-open : (x a : ℕ) → (at R n).node ≡ Binding x a → AreOpen R (suc n) (ss ++ record { row = n; value = a } ∷ [])
-  binding-open x a e =
+  binding-open : (a : ℕ) → turned_by n (at R n).node ≡ Some a → has_statements (at R n).node ≡ false → AreOpen R (suc n) (ss ++ record { row = n; value = a } ∷ [])
+  binding-open a e plain =
       let new : Statement = record { row = n; value = a } in
-      let plain : has_statements (at R n).node ≡ false = ap has_statements e in
       record {
-        all = λ m y b l w f h. elim (eqb_tells m n) [
+        all = λ m b l w f h. elim (eqb_tells m n) [
           | inl q ↦
-              let k : Binding y b ≡ Binding x a = sym f ∙ ap (λ i. (at R i).node) q.1 ∙ e in
+              let k : Some b ≡ Some a = sym f ∙ ap (λ i. turned_by i (at R i).node) q.1 ∙ e in
               let p : a ≡ b = cc in
               (new, Among-right new ss (new ∷ []) (inl refl), sym q.1, p)
-          | inr q ↦ (let s : m < n = let d = q.1 in omega arith in let r = o.all m y b s w f (right-before m h) in (r.0, Among-left r.0 ss (new ∷ []) r.1, r.2, r.3))
+          | inr q ↦ (let s : m < n = let d = q.1 in omega arith in let r = o.all m b s w f (right-before m h) in (r.0, Among-left r.0 ss (new ∷ []) r.1, r.2, r.3))
         ];
         only = λ s h. elim (Among-either s ss (new ∷ []) h) [
           | inl i ↦ (let z = o.only s i in (omega (arith, z.0), right-after s.row plain z.1, z.2))
           | inr i ↦ elim i [
             | inl q ↦
-                let P : Statement → Type 0 = λ z. (z.row < suc n) × (in_block R z.row (suc n) ≡ false) × ((y : ℕ) × ((at R z.row).node ≡ Binding y z.value)) in
+                let P : Statement → Type 0 = λ z. (z.row < suc n) × (in_block R z.row (suc n) ≡ false) × (turned_by z.row (at R z.row).node ≡ Some z.value) in
                 let l : n < suc n = omega arith in
-                subst P (sym q) (l, in_block-before R n (suc n) (omega arith), (x, e))
+                subst P (sym q) (l, in_block-before R n (suc n) (omega arith), e)
             | inr f ↦ absurd f
           ]
         ];
@@ -450,11 +554,11 @@ module _ (R : List Row) (n : ℕ) (E D F : Edges) (ss : List Statement) (w : n <
       }
 
   -- at a block its statements are added, and wait no longer
-  gone-by : (G : Edges) (ts : List Statement) (p : Option ℕ) (u m x a : ℕ) → p ≡ Some u → u < length R → IsStatement R n m → (at R m).node ≡ Binding x a
+  gone-by : (G : Edges) (ts : List Statement) (p : Option ℕ) (u m a : ℕ) → p ≡ Some u → u < length R → IsStatement R n m → turned_by m (at R m).node ≡ Some a
       → TakesAll F G ss ts (at R n).first p → Leads G u a
-  gone-by G ts p u m x a e l s b k =
+  gone-by G ts p u m a e l s b k =
       let r = around-within R n m s.inside in
-      let y = o.all m x a r.1 (omega arith) b s.right in
+      let y = o.all m a r.1 (omega arith) b s.right in
       elim (k.takes.gone y.0 y.1) [
         | inl j ↦ (let c = k.before y.0 j in let f = y.2 in let d = r.0 in absurd (omega arith))
         | inr j ↦
@@ -467,13 +571,13 @@ module _ (R : List Row) (n : ℕ) (E D F : Edges) (ss : List Statement) (w : n <
   statement-of : (s : Statement) → Among s ss → (at R n).first ≤ s.row → has_statements (at R n).node ≡ true → IsStatement R n s.row
   statement-of s i l b =
       let z = o.only s i in
-      record { block = b; binding = ap is_binding z.2.1; inside = around-true R n s.row l z.0; right = z.1 }
+      record { block = b; statement = turned-statement s.row s.value (at R s.row).node z.2; inside = around-true R n s.row l z.0; right = z.1 }
 
   block-turns : (G : Edges) (ts : List Statement) (b : ℕ) → (at R n).node ≡ Block b → TakesAll F G ss ts (at R n).first (Some n) → AreTurnsTo R (suc n) G
   block-turns G ts b e k = record {
     wide = k.takes.wide ∙ wide-of ∙ t.wide;
-    parts = parts-next G k.takes.kept (λ a m x s d c u. gone-by G ts (Some n) n m x a refl w s d k);
-    bodies = bodies-next G k.takes.kept (λ u m x a c is z r i d. (let q : Body ≡ Block b = sym z ∙ e in cc));
+    parts = parts-next G k.takes.kept (λ a m s d c u. gone-by G ts (Some n) n m a refl w s d k);
+    bodies = bodies-next G k.takes.kept (λ u m a c is z r i d. (let q : Body ≡ Block b = sym z ∙ e in cc));
     nexts = nexts-next G k.takes.kept;
     only = λ m a h. elim (k.takes.only m a h) [
       | inl i ↦ from m a i
@@ -482,7 +586,7 @@ module _ (R : List Row) (n : ℕ) (E D F : Edges) (ss : List Statement) (w : n <
           let P : ℕ → Type 0 = λ j. TurnsOn R j a in
           let A : ℕ → Type 0 = λ c. TurnsOn R n c in
           let is = statement-of s i.1.1 i.1.2 (ap has_statements e) in
-          subst P (sym i.0) (subst A (sym i.1.3) (inl (statement e is (o.only s i.1.1).2.1, ap is_call e)))
+          subst P (sym i.0) (subst A (sym i.1.3) (inl (stated-turns R n b s.row s.value (at R s.row).node e is refl (o.only s i.1.1).2, ap is_call e)))
     ];
   }
 
@@ -490,8 +594,8 @@ module _ (R : List Row) (n : ℕ) (E D F : Edges) (ss : List Statement) (w : n <
   body-turns : (G : Edges) (ts : List Statement) → (at R n).node ≡ Body → TakesAll F G ss ts (at R n).first (switches_of R (at R n)) → AreTurnsTo R (suc n) G
   body-turns G ts e k = record {
     wide = k.takes.wide ∙ wide-of ∙ t.wide;
-    parts = parts-next G k.takes.kept (λ a m x s d c u. absurd (none-turned (at R n).node e u));
-    bodies = bodies-next G k.takes.kept (λ u m x a c is z r i d. gone-by G ts (switches_of R (at R n)) u m x a (some-switches R (at R n) u is r) c i d k);
+    parts = parts-next G k.takes.kept (λ a m s d c u. absurd (none-turned (at R n).node e u));
+    bodies = bodies-next G k.takes.kept (λ u m a c is z r i d. gone-by G ts (switches_of R (at R n)) u m a (some-switches R (at R n) u is r) c i d k);
     nexts = nexts-next G k.takes.kept;
     only = λ m a h. elim (k.takes.only m a h) [
       | inl i ↦ from m a i
@@ -500,7 +604,7 @@ module _ (R : List Row) (n : ℕ) (E D F : Edges) (ss : List Statement) (w : n <
           let A : ℕ → Type 0 = λ c. TurnsOn R m c in
           let is = statement-of s i.1.1 i.1.2 (ap has_statements e) in
           let z = switches-some R (at R n) m (from-some (switches_of R (at R n)) m i.0) in
-          subst A (sym i.1.3) (inr (z.0, of_binding w e z.1 is (o.only s i.1.1).2.1))
+          subst A (sym i.1.3) (inr (z.0, body-stated R m n s.row s.value (at R s.row).node w e z.1 is refl (o.only s i.1.1).2))
     ];
   }
     where
@@ -512,16 +616,26 @@ module _ (R : List Row) (n : ℕ) (E D F : Edges) (ss : List Statement) (w : n <
       none-turned z e (argument h i j) = cc
       none-turned z e (body h) = cc
       none-turned z e (statement h i j) = cc
+      none-turned z e (low h) = cc
+      none-turned z e (high h) = cc
+      none-turned z e (fetched h) = cc
+      none-turned z e (fetch_index h) = cc
+      none-turned z e (address_target h i) = cc
+      none-turned z e (address_index h i) = cc
+      none-turned z e (stored_value h) = cc
+      none-turned z e (stored h i j) = cc
 
   block-open : (G : Edges) (ts : List Statement) (p : Option ℕ) → has_statements (at R n).node ≡ true → TakesAll F G ss ts (at R n).first p
       → AreOpen R (suc n) ts
   block-open G ts p e k = record {
-    all = λ m x a l w f h. elim (eqb_tells m n) [
-      | inl q ↦ (let c : false ≡ true = ap has_statements (sym f) ∙ ap (λ i. has_statements (at R i).node) q.1 ∙ e in absurd (true≢false (sym c)))
+    all = λ m a l w f h. elim (eqb_tells m n) [
+      | inl q ↦
+          let c : false ≡ true = sym (plain-statement m a (at R m).node f) ∙ ap (λ i. has_statements (at R i).node) q.1 ∙ e in
+          absurd (true≢false (sym c))
       | inr q ↦
           let s : m < n = let d = q.1 in omega arith in
           let r = or-false (in_block R m n) (has_statements (at R n).node && around R n m) h in
-          let y = o.all m x a s w f r.0 in
+          let y = o.all m a s w f r.0 in
           elim (k.takes.gone y.0 y.1) [
             | inl j ↦ (y.0, j, y.2, y.3)
             | inr j ↦
@@ -542,7 +656,7 @@ module _ (R : List Row) (n : ℕ) (E D F : Edges) (ss : List Statement) (w : n <
   abbrev After : Edges → List Statement → Type 0
   After G ts = AreTurnsTo R (suc n) G × AreOpen R (suc n) ts
 
-  plain : (G : Edges) (ts : List Statement) → has_statements (at R n).node ≡ false → is_binding (at R n).node ≡ false → (G ≡ F) × (ts ≡ ss) → After G ts
+  plain : (G : Edges) (ts : List Statement) → has_statements (at R n).node ≡ false → is_statement (at R n).node ≡ false → (G ≡ F) × (ts ≡ ss) → After G ts
   plain G ts b c h =
       let P : Edges → Type 0 = λ H. AreTurnsTo R (suc n) H in
       let Q : List Statement → Type 0 = λ us. AreOpen R (suc n) us in
@@ -554,8 +668,12 @@ module _ (R : List Row) (n : ℕ) (E D F : Edges) (ss : List Statement) (w : n <
   after G ts (Binding x a) e h =
       let P : Edges → Type 0 = λ H. AreTurnsTo R (suc n) H in
       let Q : List Statement → Type 0 = λ us. AreOpen R (suc n) us in
-      (subst P (sym h.0) (plain-turns (ap has_statements e)), subst Q (sym h.1) (binding-open x a e))
-  after G ts _ e h = plain G ts (ap has_statements e) (ap is_binding e) h
+      (subst P (sym h.0) (plain-turns (ap has_statements e)), subst Q (sym h.1) (binding-open a (ap (λ z. turned_by n z) e) (ap has_statements e)))
+  after G ts (Store a x) e h =
+      let P : Edges → Type 0 = λ H. AreTurnsTo R (suc n) H in
+      let Q : List Statement → Type 0 = λ us. AreOpen R (suc n) us in
+      (subst P (sym h.0) (plain-turns (ap has_statements e)), subst Q (sym h.1) (binding-open n (ap (λ z. turned_by n z) e) (ap has_statements e)))
+  after G ts _ e h = plain G ts (ap has_statements e) (ap is_statement e) h
 
 -- what one row more turns On, and the statements that wait then
 pub turns-step : (R : List Row) (n m : ℕ) (E D F G : Edges) (ss ts : List Statement) (r : Row) → m ≡ suc n → n < length R → r ≡ at R n → AreTurnsTo R n E
@@ -575,11 +693,11 @@ turns-init R E ss k e =
       record {
         wide = k.wide;
         parts = λ n a l w h. absurd (omega arith);
-        bodies = λ u b m x a l v c is z r i j. absurd (omega arith);
+        bodies = λ u b m a l v c is z r i j. absurd (omega arith);
         nexts = λ u m x i e a l v c is z r. absurd (omega arith);
         only = λ n a h. absurd (k.none n a h);
       },
-      subst P (sym e) (record { all = λ m x a l w f h. absurd (omega arith); only = λ s h. absurd h; rise = λ i j s u h v l. cc }),
+      subst P (sym e) (record { all = λ m a l w f h. absurd (omega arith); only = λ s h. absurd h; rise = λ i j s u h v l. cc }),
     )
 
 -- one row more without edges
@@ -630,15 +748,15 @@ pub turns-end : (R : List Row) (n : ℕ) (E : Edges) → length R ≤ n → AreT
 turns-end R n E l t = record {
   wide = t.wide;
   parts = λ m a k w h. t.parts m a (omega arith) w h;
-  bodies = λ u b m x a k v c is z r i j. t.bodies u b m x a (omega arith) v c is z r i j;
+  bodies = λ u b m a k v c is z r i j. t.bodies u b m a (omega arith) v c is z r i j;
   nexts = λ u m x i e a k v c is z r. t.nexts u m x i e a (omega arith) v c is z r;
   only = t.only;
 }
 
 -- where the row is read of another list, and the row beyond its parts is given
 pub reads-by : (P : Checked) (n m : ℕ) (E F : Edges) (R : List Row) (b : Option ℕ) → m ≡ suc n → R ≡ rows P → b ≡ beyond P n (at R n).node
-    → AreReadsTo P n E → GainsTo E F (linked_of b (at R n).node) n → AreReadsTo P m F
+    → AreReadsTo P n E → GainsTo E F (linked_of R b (at R n).node) n → AreReadsTo P m F
 reads-by P n m E F R b q r e t g =
-    let A : List Row → Type 0 = λ xs. GainsTo E F (linked_of (beyond P n (at xs n).node) (at xs n).node) n in
-    let B : Option ℕ → Type 0 = λ o. GainsTo E F (linked_of o (at R n).node) n in
+    let A : List Row → Type 0 = λ xs. GainsTo E F (linked_of xs (beyond P n (at xs n).node) (at xs n).node) n in
+    let B : Option ℕ → Type 0 = λ o. GainsTo E F (linked_of R o (at R n).node) n in
     reads-step P n m E F q t (subst A r (subst B e g))

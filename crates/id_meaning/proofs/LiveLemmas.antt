@@ -1,15 +1,16 @@
 -- What is On in an iteration of a loop is so since the predicate Has a value there.
-use Rattle.std.proofs.Common.{◌≡◌, inl, inr, ℕ, zero, suc, ◌-◌, ◌<◌, Bool as Truth, true, false, List, length, refl, ap, sym, ◌∙◌, subst, arith}
+use Rattle.std.proofs.Common.{◌≡◌, ◌||◌, inl, inr, ℕ, zero, suc, ◌-◌, ◌<◌, Bool as Truth, true, false, List, length, refl, ap, sym, ◌∙◌, subst, arith}
 use Rattle.std.proofs.lemmas.Bool.{cases_lt, false≢true}
 use Rattle.id_list.proofs.AmongLemmas.{Among-from_at}
 use Rattle.id_value.specs.declared.Kind.{Kind}
 use Rattle.id_parts.specs.declared.row.Region.{Region}
 use Rattle.id_parts.specs.declared.row.Node.{Node}
 use Rattle.id_parts.specs.declared.row.Node.TheVariants.{Head, Param, Unary, Binary, Split, If, Arg, Call, Switches, LoopHead, Next, Loop, Block, Binding, Def}
+use Rattle.id_parts.specs.declared.row.Node.TheVariants.{Array, Fetch, Address, Store}
 use Rattle.id_parts.specs.Loops.{IsLoop}
 use Rattle.id_parts.specs.Regions.{IsIfOf}
 use Rattle.id_parts.specs.Rows.{arm_at, at, top}
-use Rattle.id_parts.specs.Tables.{HasNear, HasOperand, HasPart, begins_block, is_top, is_expression, is_param, is_thing}
+use Rattle.id_parts.specs.Tables.{HasNear, HasOperand, HasPart, begins_block, is_top, is_expression, is_param, is_store, is_thing}
 use Rattle.id_parts.specs.Turns.{params_at}
 use Rattle.id_check.specs.Causes.{defines_main}
 use Rattle.id_check.specs.Programs.{Stands, place, region, rows}
@@ -18,16 +19,18 @@ use Rattle.id_meaning.specs.declared.Path.{Path}
 use Rattle.id_meaning.specs.declared.SourceValue.{SourceValue}
 use Rattle.id_meaning.specs.declared.SourceValue.TheVariants.{Bool}
 use Rattle.id_meaning.specs.declared.Fact.{Fact}
-use Rattle.id_meaning.specs.declared.Fact.TheVariants.{On, Has}
+use Rattle.id_meaning.specs.declared.Fact.TheVariants.{On, Has, Shape, Put, Ask}
 use Rattle.id_meaning.specs.Sources.{Source, body_of, main_body}
 use Rattle.id_meaning.specs.Facts.{LoopStands, below, Chooses, then_arm, else_arm, Rule, main_on, param_has, literal_has, operand_on, left_on, right_on}
 use Rattle.id_meaning.specs.Facts.{unary_has, binary_has, name_has, test_on, arm_on, conditional_has}
 use Rattle.id_meaning.specs.Facts.{argument_on, callee_on, argument_has, call_has, loop_test_on, first_has, turn_on, loop_statement_on, next_on, next_has}
 use Rattle.id_meaning.specs.Facts.{last_on, loop_has, statement_on, body_on, block_has, binding_has}
+use Rattle.id_meaning.specs.Facts.{StoreStands, ask, loop_store_on, store_on, bounds_low_on, bounds_high_on, shape_made, array_has, fetch_target_on}
+use Rattle.id_meaning.specs.Facts.{fetch_index_on, asks, fetch_has, store_target_on, store_index_on, store_value_on, puts}
 use Rattle.id_meaning.specs.Rounds.{Every, Rounds}
-use Rattle.id_meaning.proofs.CheckedLemmas.{apart_of, loop-of, next-region, thing-expression, thing-param}
+use Rattle.id_meaning.proofs.CheckedLemmas.{apart_of, loop-of, next-region, thing-expression, thing-param, thing-store}
 use Rattle.id_meaning.proofs.ParamsLemmas.{input_param, params-among}
-use Rattle.id_meaning.proofs.PathsLemmas.{below-once}
+use Rattle.id_meaning.proofs.StepsLemmas.{below-once}
 
 -- the path ends in an iteration of the loop with this head, which is On; in the one before it the predicate Has true
 pub record Iterates (S : Source) (F : Fact → Type 0) (p : Path) (h : ℕ) : Type 0 where
@@ -52,45 +55,61 @@ LiveAt S F p r _ = Unit {0}
 abbrev LiveIn : Source → (Fact → Type 0) → Path → Region → Type 0
 LiveIn S F p r = LiveAt S F p r (at (rows S.checked) r.head).node
 
--- an expression that is On stands in a live region, and one that Has a value is On
+-- whether an expression or a store stands at a row of this node
+abbrev is_evaluated : Node → Truth
+is_evaluated z = is_expression z || is_store z
+
+-- an expression or store that is On stands in a live region, one that Has a value is On, and so is a fetch that asks
 abbrev Fine : Source → (Fact → Type 0) → Fact → Type 0
 Fine S F (On p e) =
-    (a : ℕ) → a < length (rows S.checked) → is_expression (at (rows S.checked) a).node ≡ true → place S.checked a ≡ e → LiveIn S F p (region S.checked a)
-Fine S F (Has p e v) = (a : ℕ) → a < length (rows S.checked) → is_expression (at (rows S.checked) a).node ≡ true → place S.checked a ≡ e → F (On p e)
+    (a : ℕ) → a < length (rows S.checked) → is_evaluated (at (rows S.checked) a).node ≡ true → place S.checked a ≡ e → LiveIn S F p (region S.checked a)
+Fine S F (Has p e v) = (a : ℕ) → a < length (rows S.checked) → is_evaluated (at (rows S.checked) a).node ≡ true → place S.checked a ≡ e → F (On p e)
+Fine S F (Ask a) = F (On a.fetch.path a.fetch.place)
+Fine S F _ = Unit {0}
 
-param-none : (z : Node) → is_param z ≡ true → is_expression z ≡ false
+evaluated-thing : (z : Node) → is_evaluated z ≡ true → is_thing z ≡ true
+evaluated-thing z h = by (is_expression z) refl h
+  where
+    by : (b : Truth) → is_expression z ≡ b → (b || is_store z) ≡ true → is_thing z ≡ true
+    by true e k = thing-expression z e
+    by false e k = thing-store z k
+
+expression-evaluated : (z : Node) → is_expression z ≡ true → is_evaluated z ≡ true
+expression-evaluated z e = ap (λ b. b || is_store z) e
+
+param-none : (z : Node) → is_param z ≡ true → is_evaluated z ≡ false
 param-none (Param x k) h = refl
 param-none _ h = absurd (false≢true h)
 
 module _ (S : Source) where
-  -- an expression stands there
+  -- an expression or a store stands there
   record IsExpression (a : ℕ) : Type 0 where
     pub within : a < length (rows S.checked)
-    pub is : is_expression (at (rows S.checked) a).node ≡ true
+    pub is : is_evaluated (at (rows S.checked) a).node ≡ true
 
   part : (n a : ℕ) (z : Node) → Stands S.checked n z → HasOperand z a → IsExpression a
-  part n a z st h = let w = part_row S.checked n a z st h in record { within = w.0; is = w.1 }
+  part n a z st h = let w = part_row S.checked n a z st h in record { within = w.0; is = expression-evaluated (at (rows S.checked) a).node w.1 }
 
-  itself : (n : ℕ) (z : Node) → Stands S.checked n z → is_expression z ≡ true → IsExpression n
-  itself n z st e = record { within = st.within; is = ap is_expression st.node ∙ e }
+  itself : (n : ℕ) (z : Node) → Stands S.checked n z → is_evaluated z ≡ true → IsExpression n
+  itself n z st e = record { within = st.within; is = ap is_evaluated st.node ∙ e }
 
   -- at one place stands one
-  one-there : (a b : ℕ) → a < length (rows S.checked) → is_expression (at (rows S.checked) a).node ≡ true → b < length (rows S.checked)
+  one-there : (a b : ℕ) → a < length (rows S.checked) → is_evaluated (at (rows S.checked) a).node ≡ true → b < length (rows S.checked)
       → is_thing (at (rows S.checked) b).node ≡ true
       → place S.checked a ≡ place S.checked b → a ≡ b
-  one-there a b l e m t q = (apart_of S.checked).apart a b l m (thing-expression (at (rows S.checked) a).node e) t q
+  one-there a b l e m t q = (apart_of S.checked).apart a b l m (evaluated-thing (at (rows S.checked) a).node e) t q
 
   -- what is no expression has no expression's place
-  none-there : (m : ℕ) (z : Node) → Stands S.checked m z → is_thing z ≡ true → is_expression z ≡ false
-      → (a : ℕ) → a < length (rows S.checked) → is_expression (at (rows S.checked) a).node ≡ true → place S.checked a ≡ place S.checked m → ⊥
+  none-there : (m : ℕ) (z : Node) → Stands S.checked m z → is_thing z ≡ true → is_evaluated z ≡ false
+      → (a : ℕ) → a < length (rows S.checked) → is_evaluated (at (rows S.checked) a).node ≡ true → place S.checked a ≡ place S.checked m → ⊥
   none-there m z st t f a l e q =
       let k = one-there a m l e st.within (ap is_thing st.node ∙ t) q in
-      false≢true (sym (ap is_expression st.node ∙ f) ∙ ap (λ i. is_expression (at (rows S.checked) i).node) (sym k) ∙ e)
+      false≢true (sym (ap is_evaluated st.node ∙ f) ∙ ap (λ i. is_evaluated (at (rows S.checked) i).node) (sym k) ∙ e)
 
   -- at an expression's region
   live-there : (F : Fact → Type 0) (p : Path) (b : ℕ) → IsExpression b → LiveIn S F p (region S.checked b) → Fine S F (On p (place S.checked b))
   live-there F p b x h a l e q =
-      let k = one-there a b l e x.within (thing-expression (at (rows S.checked) b).node x.is) q in
+      let k = one-there a b l e x.within (evaluated-thing (at (rows S.checked) b).node x.is) q in
       let G : ℕ → Type 0 = λ i. LiveIn S F p (region S.checked i) in
       subst G (sym k) h
 
@@ -246,17 +265,20 @@ module _ (S : Source) where
     more-fine : (f : Fact) → Fine S F f → Fine S G f
     more-fine (On p e) h = λ a l x q. more-at p (region S.checked a) (at (rows S.checked) (region S.checked a).head).node (h a l x q)
     more-fine (Has p e v) h = λ a l x q. inl (h a l x q)
+    more-fine (Shape s) h = tt
+    more-fine (Put p) h = tt
+    more-fine (Ask a) h = inl h
 
     -- a fact of the round is fine in the next
     there : (f : Fact) → F f → Fine S G f
     there f h = more-fine f (fine f h)
 
     -- what Has a value where it is On
-    has-fine : (p : Path) (e : ℕ) → F (On p e) → (a : ℕ) → a < length (rows S.checked) → is_expression (at (rows S.checked) a).node ≡ true
+    has-fine : (p : Path) (e : ℕ) → F (On p e) → (a : ℕ) → a < length (rows S.checked) → is_evaluated (at (rows S.checked) a).node ≡ true
         → place S.checked a ≡ e → G (On p e)
     has-fine p e h a l x q = inl h
 
-    on-part : (m a : ℕ) (p : Path) (z : Node) → Stands S.checked m z → is_expression z ≡ true → HasOperand z a → HasNear z a → F (On p (place S.checked m))
+    on-part : (m a : ℕ) (p : Path) (z : Node) → Stands S.checked m z → is_evaluated z ≡ true → HasOperand z a → HasNear z a → F (On p (place S.checked m))
         → Fine S G (On p (place S.checked a))
     on-part m a p z st e o h g = live-with G p m a (itself m z st e) (part m a z st o) (near m a z st h) (there (On p (place S.checked m)) g)
 
@@ -317,11 +339,19 @@ module _ (S : Source) where
         → Fine S G (On q (place S.checked a))
     on-side w t a b q st x e g = live-by G q a (arm_at w b) (Switches t) x e st.node (inl g)
 
+    -- the parts of a store's address stand where the store does
+    on-address : (m t i x a : ℕ) (p : Path) (s : StoreStands S.checked m t i x) → HasPart (Address t i) a → F (On p (place S.checked m))
+        → Fine S G (On p (place S.checked a))
+    on-address m t i x a p s h g =
+        let c = (table_of S.checked).address_of m s.address (record { value = x; within = s.store.within; node = s.store.node }) in
+        live-with G p m a (itself m (Store s.address x) s.store refl) (part s.address a (Address t i) s.parts h)
+        (near s.address a (Address t i) s.parts h ∙ c.region) (there (On p (place S.checked m)) g)
+
     follows : {fs : List Fact} {f : Fact} → Rule S fs f → Every F fs → Fine S G f
     follows main_on h = main-fine (at (rows S.checked) S.checked.main).node refl S.checked.is_main.node _
     follows (param_has i) h = λ a l x q. (let b = input_param i in absurd (none-param a l x _ b.0 b.1 q))
       where
-        none-param : (a : ℕ) → a < length (rows S.checked) → is_expression (at (rows S.checked) a).node ≡ true → (b : ℕ) → b < length (rows S.checked)
+        none-param : (a : ℕ) → a < length (rows S.checked) → is_evaluated (at (rows S.checked) a).node ≡ true → (b : ℕ) → b < length (rows S.checked)
             → is_param (at (rows S.checked) b).node ≡ true → place S.checked a ≡ place S.checked b → ⊥
         none-param a l x b m y q = none-there b (at (rows S.checked) b).node (record { within = m; node = refl }) (thing-param (at (rows S.checked) b).node y)
             (param-none (at (rows S.checked) b).node y) a l x q
@@ -363,6 +393,24 @@ module _ (S : Source) where
     follows (statement_on {n = m} {m = c} {x = x} {a = a} {b = b} {p = p} st i t) h =
         live-with G p m a (itself m (Block b) st refl) (part c a (Binding x a) t refl)
         (near c a (Binding x a) t refl ∙ ((table_of S.checked).statement_stands m c st.within i).1) (there (On p (place S.checked m)) h.0)
+    follows (store_on {n = m} {m = c} {a = a} {x = x} {b = b} {p = p} st i t) h =
+        live-with G p m c (itself m (Block b) st refl) (itself c (Store a x) t refl) ((table_of S.checked).statement_stands m c st.within i).1
+        (there (On p (place S.checked m)) h.0)
+    follows (loop_store_on {w = w} {t = t} {m = c} p k s b) h =
+        let r : region S.checked c ≡ region S.checked b.body = ((table_of S.checked).statement_stands b.body c b.ends.within b.statement).1 in
+        on-side w t c true (below p _ k) s.switches (itself c (Store b.address b.value) b.store refl) (r ∙ b.side) h.0
+    follows (bounds_low_on {n = m} {a = a} {b = b} {p = p} st) h = on-part m a p (Array a b) st refl (inl refl) (inl refl) h.0
+    follows (bounds_high_on {n = m} {a = a} {b = b} {p = p} st) h = on-part m b p (Array a b) st refl (inr refl) (inr refl) h.0
+    follows (shape_made st e) h = tt
+    follows (array_has {n = m} {p = p} st e) h = has-fine p (place S.checked m) h.0
+    follows (fetch_target_on {n = m} {t = t} {i = i} {p = p} st) h = on-part m t p (Fetch t i) st refl (inl refl) (inl refl) h.0
+    follows (fetch_index_on {n = m} {t = t} {i = i} {p = p} st) h = on-part m i p (Fetch t i) st refl (inr refl) (inr refl) h.0
+    follows (asks st e) h = inl h.0
+    follows (fetch_has {f = f} {s = s} {j = j}) h = λ a l x q. inl (fine (ask f s j) h.0)
+    follows (store_target_on {m = m} {t = t} {i = i} {x = x} {p = p} s) h = on-address m t i x t p s (inl refl) h.0
+    follows (store_index_on {m = m} {t = t} {i = i} {x = x} {p = p} s) h = on-address m t i x i p s (inr refl) h.0
+    follows (store_value_on {m = m} {x = x} {p = p} s) h = on-part m x p (Store s.address x) s.store refl refl (inr refl) h.0
+    follows (puts s e) h = tt
     follows (body_on {n = m} {b = b} {p = p} st) h = on-part m b p (Block b) st refl refl refl h.0
     follows (block_has {n = m} {p = p} st) h = has-fine p (place S.checked m) h.0
     follows (binding_has {n = m} {x = x} {a = a} st) h = λ b l y q. absurd (none-there m (Binding x a) st refl refl b l y q)

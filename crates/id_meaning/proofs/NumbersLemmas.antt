@@ -4,14 +4,15 @@ use Rattle.id_meaning.specs.declared.Path.{Path}
 use Rattle.id_meaning.specs.declared.PathStep.{PathStep}
 use Rattle.id_meaning.specs.declared.SourceValue.{SourceValue}
 use Rattle.id_meaning.specs.declared.Fact.{Fact}
-use Rattle.id_meaning.specs.declared.Fact.TheVariants.{On, Has}
+use Rattle.id_meaning.specs.declared.Fact.TheVariants.{On, Has, Shape, Put, Ask}
 use Rattle.id_meaning.specs.Sources.{Source}
 use Rattle.id_meaning.specs.Facts.{below, Rule, main_on, param_has, literal_has, operand_on, left_on, right_on, unary_has, binary_has, name_has, test_on}
 use Rattle.id_meaning.specs.Facts.{arm_on, conditional_has}
 use Rattle.id_meaning.specs.Facts.{argument_on, callee_on, argument_has, call_has, loop_test_on, first_has, turn_on, loop_statement_on, next_on, next_has}
 use Rattle.id_meaning.specs.Facts.{last_on, loop_has, statement_on, body_on, block_has, binding_has}
+use Rattle.id_meaning.specs.Facts.{loop_store_on, store_on, bounds_low_on, bounds_high_on, shape_made, array_has, fetch_target_on, fetch_index_on, asks}
+use Rattle.id_meaning.specs.Facts.{fetch_has, store_target_on, store_index_on, store_value_on, puts}
 use Rattle.id_meaning.specs.Rounds.{Every, Rounds}
-use Rattle.id_meaning.specs.Listed.{steps_in}
 
 -- no step has a number above n
 abbrev Small : ℕ → List PathStep → Type 0
@@ -34,8 +35,16 @@ Small-last : (n : ℕ) (ss : List PathStep) (s : PathStep) → Small n (ss ++ s 
 Small-last n [] s h = h.0
 Small-last n (t ∷ ss) s h = Small-last n ss s h.1
 
+-- the path of the fact; of a Shape that of its structure
+abbrev path_in : Fact → Path
+path_in (On p e) = p
+path_in (Has p e v) = p
+path_in (Shape s) = s.name.path
+path_in (Put p) = p.store.path
+path_in (Ask a) = a.fetch.path
+
 abbrev SmallIn : ℕ → Fact → Type 0
-SmallIn n f = Small n (steps_in f)
+SmallIn n f = Small n (path_in f).steps
 
 step_of : ℕ → ℕ → PathStep
 step_of e k = record { place = e; number = k }
@@ -81,13 +90,26 @@ by-rule n (next_has p k st x) h = let l = last-in n p _ k h.0 in push-in n p _ (
 by-rule n (last_on p k st) h = more-in n (below p _ k) h.0
 by-rule n (loop_has p k st) h = more-in n p (front-in n p _ k h.0)
 by-rule n (statement_on {p = p} st i t) h = more-in n p h.0
+by-rule n (store_on {p = p} st i t) h = more-in n p h.0
+by-rule n (loop_store_on p k st b) h = more-in n (below p _ k) h.0
+by-rule n (bounds_low_on {p = p} st) h = more-in n p h.0
+by-rule n (bounds_high_on {p = p} st) h = more-in n p h.0
+by-rule n (shape_made {p = p} st e) h = more-in n p h.0
+by-rule n (array_has {p = p} st e) h = more-in n p h.0
+by-rule n (fetch_target_on {p = p} st) h = more-in n p h.0
+by-rule n (fetch_index_on {p = p} st) h = more-in n p h.0
+by-rule n (asks {p = p} st e) h = more-in n p h.0
+by-rule n (fetch_has {f = f}) h = more-in n f.path h.0
+by-rule n (store_target_on {p = p} st) h = more-in n p h.0
+by-rule n (store_index_on {p = p} st) h = more-in n p h.0
+by-rule n (store_value_on {p = p} st) h = more-in n p h.0
+by-rule n (puts {p = p} st e) h = more-in n p h.0
 by-rule n (body_on {p = p} st) h = more-in n p h.0
 by-rule n (block_has {p = p} st) h = more-in n p h.0
 by-rule n (binding_has {p = p} st) h = more-in n p h.0
 
 fact-more : (n : ℕ) (f : Fact) → SmallIn n f → SmallIn (suc n) f
-fact-more n (On p e) h = more-in n p h
-fact-more n (Has p e v) h = more-in n p h
+fact-more n f h = more-in n (path_in f) h
 
 round-small : (S : Source) (n : ℕ) (f : Fact) → Rounds S n f → SmallIn n f
 round-small S zero f h = absurd h

@@ -10,7 +10,7 @@ use Rattle.id_parts.specs.Rows.{at}
 use Rattle.id_parts.specs.Tables.{is_param}
 use Rattle.id_parts.specs.Turns.{params_below}
 use Rattle.id_check.specs.Programs.{rows}
-use Rattle.id_meaning.specs.declared.SourceValue.{SourceValue}
+use Rattle.id_value.specs.declared.Constant.{Constant}
 use Rattle.id_meaning.specs.Sources.{Source, IsInput, main_params, head_of}
 
 and-left : (b c : Bool) → b && c ≡ true → b ≡ true
@@ -68,7 +68,7 @@ once {A} (y ∷ xs) x (suc i) zero d h k =
 once (y ∷ xs) x (suc i) (suc j) d h k = ap (λ n. suc n) (once xs x i j d.1 h k)
 
 -- a parameter of `main` has one input
-pub one_input : {S : Source} {b : ℕ} {v w : SourceValue} → IsInput S b v → IsInput S b w → v ≡ w
+pub one_input : {S : Source} {b : ℕ} {v w : Constant} → IsInput S b v → IsInput S b w → v ≡ w
 one_input {S} {b} {v} {w} i j =
     let R = rows S.checked in
     let d = params-differ R (head_of (at R S.checked.main).node) (length R) in
@@ -77,7 +77,7 @@ one_input {S} {b} {v} {w} i j =
     cc
 
 -- and it is one
-pub input_param : {S : Source} {b : ℕ} {v : SourceValue} → IsInput S b v → (b < length (rows S.checked)) × (is_param (at (rows S.checked) b).node ≡ true)
+pub input_param : {S : Source} {b : ℕ} {v : Constant} → IsInput S b v → (b < length (rows S.checked)) × (is_param (at (rows S.checked) b).node ≡ true)
 input_param {S} {b} i =
     let R = rows S.checked in
     params-among R (head_of (at R S.checked.main).node) (length R) b (Among-from_at b (main_params S.checked) i.number i.param)

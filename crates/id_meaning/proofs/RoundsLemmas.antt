@@ -11,7 +11,7 @@ Every-more S n [] h = tt
 Every-more S n (f ∷ fs) h = (inl h.0, Every-more S n fs h.1)
 
 -- each fact of a round follows from facts of that round
-again : (S : Source) (n : ℕ) (f : Fact) → Rounds S n f → (fs : List Fact) × Rule S fs f × Every (Rounds S n) fs
+pub again : (S : Source) (n : ℕ) (f : Fact) → Rounds S n f → (fs : List Fact) × Rule S fs f × Every (Rounds S n) fs
 again S zero f h = absurd h
 again S (suc n) f (inl h) = let r = again S n f h in (r.0, r.1, Every-more S n r.0 r.2)
 again S (suc n) f (inr (fs, rule, hold)) = (fs, rule, Every-more S n fs hold)

@@ -1,26 +1,24 @@
 -- Lemmas on specs/Waits.antt: names that wait, and what has been learnt of a round so far.
-use Rattle.std.proofs.Common.{◌≡◌, ◌⊎◌, inl, inr, ℕ, zero, suc, ◌<◌, ◌≤◌, None, Some, true, set, Vec, Global, List, [], ◌∷◌, ◌++◌, length, take, drop, get_or}
+use Rattle.std.proofs.Common.{◌≡◌, ◌⊎◌, inl, inr, ℕ, zero, suc, ◌<◌, ◌≤◌, None, Some, set, Vec, Global, List, [], ◌∷◌, ◌++◌, length, take, drop, get_or}
 use Rattle.std.proofs.Common.{refl, ap, sym, ◌∙◌, subst, arith}
 use Rattle.std.proofs.lemmas.Bool.Decides.{eqb_tells}
 use Rattle.std.proofs.lemmas.List.{get_or-set_same, length-set}
 use Rattle.id_list.proofs.AmongLemmas.{Among-either, Among-left, Among-right}
 use Rattle.std.proofs.Math.Seq.{drop-cons, take-suc}
-use Rattle.std.proofs.lemmas.List.{append-nil, append_assoc, take-append-drop}
 use Rattle.id_list.specs.List.{Among}
 use Rattle.id_check.specs.declared.checked.Checked.{Checked}
-use Rattle.id_meaning.specs.declared.SourceValue.{SourceValue}
-use Rattle.id_meaning.specs.declared.cells.Spot.{Spot}
 use Rattle.id_meaning.specs.declared.cells.RowFact.{RowFact}
-use Rattle.id_meaning.specs.declared.cells.RowFact.TheVariants.{On, Has}
+use Rattle.id_meaning.specs.declared.cells.RowFact.TheVariants.{On}
 use Rattle.id_meaning.specs.declared.cells.Trail.{Trail}
+use Rattle.id_meaning.specs.declared.cells.Trail.TheVariants.{Outermost, Below}
 use Rattle.id_meaning.specs.declared.queues.Queues.{Queues}
 use Rattle.id_meaning.specs.declared.queues.Wait.{Wait}
 use Rattle.id_meaning.specs.declared.links.Links.{Links}
-use Rattle.id_meaning.specs.Links.{awaited, users}
-use Rattle.id_meaning.specs.Cells.{AreBefore, Inside, all_effects, all_learnt, all_news, cell_at, effects, far_from, queue, queue_of}
-use Rattle.id_meaning.specs.Waits.{Adds, AreWaits, Goes, IsIn, Waits, WaitsFor, WaitsIn, queue_for, width}
-use Rattle.id_meaning.proofs.CellsLemmas.{all_effects-append}
-use Rattle.id_meaning.proofs.SpotsLemmas.{Learns, out-grown, all_learnt-append, all_news-append}
+use Rattle.id_meaning.specs.Links.{awaited, far_from, users}
+use Rattle.id_meaning.specs.Cells.{AreBefore, fact_at, out_of, path_of, queue_of}
+use Rattle.id_meaning.specs.Effects.{queue}
+use Rattle.id_meaning.specs.Waits.{Adds, AreWaits, IsIn, Waits, WaitsFor, WaitsIn, queue_for, width}
+use Rattle.id_meaning.proofs.PathsLemmas.{Inside, at-front, fact-before, inside-more}
 
 -- ---- queues
 
@@ -70,7 +68,7 @@ adds-past V c x l = record { wide = refl; kept = λ a y h. h; added = λ h. absu
 
 -- ---- what waits
 
-pub waits-for : (P : Checked) (es : List Spot) (V W : Queues) (p : Trail) (n u b c : ℕ) → awaited P u ≡ Some b → c ≡ queue_for P es p n b → c < 65536
+pub waits-for : (P : Checked) (es : List RowFact) (V W : Queues) (p : Trail) (n u b c : ℕ) → awaited P u ≡ Some b → c ≡ queue_for P es p n b → c < 65536
     → Adds V W c (record { path = p; row = n; user = u }) → WaitsFor P es V W p n (u ∷ [])
 waits-for P es V W p n u b c a e l g = record {
   wide = g.wide;
@@ -89,7 +87,7 @@ waits-for P es V W p n u b c a e l g = record {
         let F : ℕ → Type 0 = λ i. IsIn W i x in
         subst F (e ∙ ap (λ i. queue_for P es p n i) q) (g.added (omega arith))
 
-pub waits-nobody : (P : Checked) (es : List Spot) (V : Queues) (p : Trail) (n u : ℕ) → awaited P u ≡ None → WaitsFor P es V V p n (u ∷ [])
+pub waits-nobody : (P : Checked) (es : List RowFact) (V : Queues) (p : Trail) (n u : ℕ) → awaited P u ≡ None → WaitsFor P es V V p n (u ∷ [])
 waits-nobody P es V p n u a = record {
   wide = refl;
   kept = λ c x h. h;
@@ -102,10 +100,10 @@ waits-nobody P es V p n u a = record {
     none : WaitsIn P es V p n u
     none b k = let e : None ≡ Some b = sym a ∙ k in cc
 
-pub each-none : (P : Checked) (es : List Spot) (V : Queues) (p : Trail) (n : ℕ) → WaitsFor P es V V p n []
+pub each-none : (P : Checked) (es : List RowFact) (V : Queues) (p : Trail) (n : ℕ) → WaitsFor P es V V p n []
 each-none P es V p n = record { wide = refl; kept = λ c x h. h; added = λ u w h. absurd h }
 
-pub each-step : (P : Checked) (es : List Spot) (V W X : Queues) (p : Trail) (n : ℕ) (us : List ℕ) (i j u d : ℕ) → i < length us → j ≡ suc i → u ≡ get_or us i d
+pub each-step : (P : Checked) (es : List RowFact) (V W X : Queues) (p : Trail) (n : ℕ) (us : List ℕ) (i j u d : ℕ) → i < length us → j ≡ suc i → u ≡ get_or us i d
     → WaitsFor P es V W p n (take i us) → WaitsFor P es W X p n (u ∷ []) → WaitsFor P es V X p n (take j us)
 each-step P es V W X p n us i j u d l q e s t =
     let F : List ℕ → Type 0 = λ xs. WaitsFor P es V X p n xs in
@@ -125,11 +123,11 @@ take-all [] (suc i) l = refl
 take-all (x ∷ xs) zero l = absurd (omega arith)
 take-all (x ∷ xs) (suc i) l = ap (λ ys. x ∷ ys) (take-all xs i (omega arith))
 
-pub each-end : (P : Checked) (es : List Spot) (V W : Queues) (p : Trail) (n : ℕ) (us : List ℕ) (i : ℕ) → length us ≤ i → WaitsFor P es V W p n (take i us)
+pub each-end : (P : Checked) (es : List RowFact) (V W : Queues) (p : Trail) (n : ℕ) (us : List ℕ) (i : ℕ) → length us ≤ i → WaitsFor P es V W p n (take i us)
     → WaitsFor P es V W p n us
 each-end P es V W p n us i l s = let F : List ℕ → Type 0 = λ xs. WaitsFor P es V W p n xs in subst F (take-all us i l) s
 
-pub waits-on : (P : Checked) (l : Links) (es : List Spot) (V W : Queues) (p : Trail) (r : ℕ) (us : List ℕ) → users P l r ≡ us → WaitsFor P es V W p r us
+pub waits-on : (P : Checked) (l : Links) (es : List RowFact) (V W : Queues) (p : Trail) (r : ℕ) (us : List ℕ) → users P l r ≡ us → WaitsFor P es V W p r us
     → Waits P l es V W (On p r ∷ [])
 waits-on P l es V W p r us e g = record { wide = g.wide; kept = g.kept; added = λ q n u w h a. elim h [ inl x ↦ one q n u w x a | inr x ↦ absurd x ] }
   where
@@ -142,22 +140,27 @@ waits-on P l es V W p r us e g = record { wide = g.wide; kept = g.kept; added = 
         let G : ℕ → Type 0 = λ y. WaitsIn P es W q y u in
         subst G (sym j) (subst F (sym i) (g.added u w (subst A (ap (λ y. users P l y) j ∙ e) a)))
 
-pub waits-none : (P : Checked) (l : Links) (es : List Spot) (V : Queues) (p : Trail) (r : ℕ) (v : SourceValue) → Waits P l es V V (Has p r v ∷ [])
-waits-none P l es V p r v = record { wide = refl; kept = λ a x h. h; added = λ q n u w h a. elim h [ inl x ↦ absurd (other q n x) | inr x ↦ absurd x ] }
-  where
-    other : (q : Trail) (n : ℕ) → On q n ≡ Has p r v → ⊥
-    other q n x = cc
+-- what is no On lets nothing wait
+abbrev IsNoOn : RowFact → Type 0
+IsNoOn f = (p : Trail) (n : ℕ) → On p n ≡ f → ⊥
+
+waits-but : (P : Checked) (l : Links) (es : List RowFact) (V : Queues) (f : RowFact) → IsNoOn f → Waits P l es V V (f ∷ [])
+waits-but P l es V f never =
+    record { wide = refl; kept = λ a x h. h; added = λ q n u w h a. elim h [ inl x ↦ absurd (never q n x) | inr x ↦ absurd x ] }
+
+pub waits-none : (P : Checked) (l : Links) (es : List RowFact) (V : Queues) (f : RowFact) → ((p : Trail) (n : ℕ) → f ≡ On p n → ⊥) → Waits P l es V V (f ∷ [])
+waits-none P l es V f never = waits-but P l es V f (λ p n e. never p n (sym e))
 
 -- all waits where these facts turn rows On, but for the rest of them
-pub record WaitsSo (P : Checked) (l : Links) (es : List Spot) (V W : Queues) (fs gs : List RowFact) : Type 0 where
+pub record WaitsSo (P : Checked) (l : Links) (es : List RowFact) (V W : Queues) (fs gs : List RowFact) : Type 0 where
   pub wide : width W ≡ width V
   pub kept : (a : ℕ) (x : Wait) → IsIn V a x → IsIn W a x
   pub added : (p : Trail) (n u : ℕ) → width V ≡ 65536 → Among (On p n) fs → Among u (users P l n) → WaitsIn P es W p n u ⊎ Among (On p n) gs
 
-pub so-none : (P : Checked) (l : Links) (es : List Spot) (V : Queues) (fs : List RowFact) → WaitsSo P l es V V fs fs
+pub so-none : (P : Checked) (l : Links) (es : List RowFact) (V : Queues) (fs : List RowFact) → WaitsSo P l es V V fs fs
 so-none P l es V fs = record { wide = refl; kept = λ a x h. h; added = λ p n u w h a. inr h }
 
-pub so-next : (P : Checked) (l : Links) (es : List Spot) (V W X : Queues) (fs gs : List RowFact) (f : RowFact) → WaitsSo P l es V W fs (f ∷ gs)
+pub so-next : (P : Checked) (l : Links) (es : List RowFact) (V W X : Queues) (fs gs : List RowFact) (f : RowFact) → WaitsSo P l es V W fs (f ∷ gs)
     → Waits P l es W X (f ∷ [])
     → WaitsSo P l es V X fs gs
 so-next P l es V W X fs gs f s t = record {
@@ -169,7 +172,7 @@ so-next P l es V W X fs gs f s t = record {
   ];
 }
 
-pub so-step : (P : Checked) (l : Links) (es : List Spot) (V W X : Queues) (fs : List RowFact) (i j : ℕ) (f d : RowFact) → i < length fs → j ≡ suc i
+pub so-step : (P : Checked) (l : Links) (es : List RowFact) (V W X : Queues) (fs : List RowFact) (i j : ℕ) (f d : RowFact) → i < length fs → j ≡ suc i
     → f ≡ get_or fs i d
     → WaitsSo P l es V W fs (drop i fs) → Waits P l es W X (f ∷ []) → WaitsSo P l es V X fs (drop j fs)
 so-step P l es V W X fs i j f d k q e s t =
@@ -184,7 +187,7 @@ drop-all [] (suc i) l = refl
 drop-all (f ∷ fs) zero l = absurd (omega arith)
 drop-all (f ∷ fs) (suc i) l = drop-all fs i (omega arith)
 
-pub so-end : (P : Checked) (l : Links) (es : List Spot) (V W : Queues) (fs : List RowFact) (i : ℕ) → length fs ≤ i → WaitsSo P l es V W fs (drop i fs)
+pub so-end : (P : Checked) (l : Links) (es : List RowFact) (V W : Queues) (fs : List RowFact) (i : ℕ) → length fs ≤ i → WaitsSo P l es V W fs (drop i fs)
     → Waits P l es V W fs
 so-end P l es V W fs i k s = record {
   wide = s.wide;
@@ -195,54 +198,26 @@ so-end P l es V W fs i k s = record {
     none : (p : Trail) (n : ℕ) → Among (On p n) (drop i fs) → ⊥
     none p n x = let F : List RowFact → Type 0 = λ gs. Among (On p n) gs in subst F (drop-all fs i k) x
 
--- all waits where rows are On after facts have been learnt
-pub AreWaits-learnt : (P : Checked) (x : Links) (es ds : List Spot) (V W : Queues) (fs ns : List RowFact) → AreBefore es
-    → ((p : Trail) (n : ℕ) → (cell_at es p n).on ≡ true → Inside (length es) p) → Learns es ds fs ns → AreWaits P x es V → Waits P x ds V W ns → AreWaits P x ds W
-AreWaits-learnt P x es ds V W fs ns before inside l v w = record {
+-- the path without its last steps stays as more facts come
+pub out-grown : (es xs : List RowFact) → AreBefore es → (d : ℕ) (q : Trail) → Inside (length es) q → out_of (es ++ xs) d q ≡ out_of es d q
+out-grown es xs b zero q i = refl
+out-grown es xs b (suc d) Outermost i = out-grown es xs b d Outermost tt
+out-grown es xs b (suc d) (Below j k) i =
+    let p = path_of (fact_at es j) in
+    ap (λ f. out_of (es ++ xs) d (path_of f)) (at-front es xs j i)
+    ∙ out-grown es xs b d p (inside-more j (length es) p (omega arith) (fact-before es b j))
+
+-- all waits where rows are On after facts have come
+pub AreWaits-more : (P : Checked) (l : Links) (es ns : List RowFact) (V W : Queues) → AreBefore es
+    → ((p : Trail) (n : ℕ) → Among (On p n) es → Inside (length es) p) → AreWaits P l es V → Waits P l (es ++ ns) V W ns → AreWaits P l (es ++ ns) W
+AreWaits-more P l es ns V W before inside v w = record {
   wide = w.wide ∙ v.wide;
-  all = λ p n u on a. elim (l.only (On p n) on) [
+  all = λ p n u on a. elim (Among-either (On p n) es ns on) [
     | inl i ↦ λ b k.
         let y : Wait = record { path = p; row = n; user = u } in
         let F : ℕ → Type 0 = λ c. IsIn W c y in
-        let q = out-grown es ds l.grows before (far_from P n (Some b)) p (inside p n i) in
+        let q = out-grown es ns before (far_from P n (Some b)) p (inside p n i) in
         subst F (ap (λ t. queue_of t b) (sym q)) (w.kept (queue_for P es p n b) y (v.all p n u i a b k))
     | inr i ↦ w.added p n u v.wide i a
   ];
 }
-
--- ---- what has been learnt of a round
-
-module _ (P : Checked) (l : Links) (W : Queues) (cs es : List Spot) (facts ms : List RowFact) where
-  -- what follows from the first i of the facts has been learnt
-  pub record Gone (i : ℕ) (ds : List Spot) (ns : List RowFact) : Type 0 where
-    pub spots : ds ≡ all_learnt es (all_effects P l W cs (take i facts))
-    pub news : ns ≡ ms ++ all_news es (all_effects P l W cs (take i facts))
-
-  one-more : (i : ℕ) (f d : RowFact) → i < length facts → f ≡ get_or facts i d
-      → all_effects P l W cs (take (suc i) facts) ≡ all_effects P l W cs (take i facts) ++ effects P l W cs f
-  one-more i f d k e =
-      ap (λ x. all_effects P l W cs x) (take-suc facts i d k) ∙ all_effects-append P l W cs (take i facts) (get_or facts i d ∷ [])
-      ∙ ap (λ x. all_effects P l W cs (take i facts) ++ x) (append-nil (effects P l W cs (get_or facts i d)) ∙ ap (λ g. effects P l W cs g) (sym e))
-
-  pub gone-next : (i j : ℕ) (f d : RowFact) (ds bs : List Spot) (ns os old new found : List RowFact) → i < length facts → j ≡ suc i → f ≡ get_or facts i d
-      → Gone i ds ns
-      → old ≡ [] → new ≡ old ++ effects P l W cs f → found ≡ new → bs ≡ all_learnt ds found → os ≡ ns ++ all_news ds found → Gone j bs os
-  gone-next i j f d ds bs ns os old new found k q e g none more these b o =
-      let fs = all_effects P l W cs (take i facts) in
-      let gs = effects P l W cs f in
-      let J : ℕ → Type 0 = λ n. Gone n bs os in
-      let m = one-more i f d k e in
-      let h : found ≡ gs = these ∙ more ∙ ap (λ x. x ++ gs) none in
-      subst J (sym q) (record {
-        spots = b ∙ ap (λ x. all_learnt ds x) h ∙ ap (λ x. all_learnt x gs) g.spots ∙ sym (all_learnt-append es fs gs) ∙ ap (λ x. all_learnt es x) (sym m);
-        news = o ∙ ap (λ x. ns ++ all_news ds x) h ∙ ap (λ x. x ++ all_news ds gs) g.news ∙ ap (λ x. (ms ++ all_news es fs) ++ all_news x gs) g.spots
-            ∙ append_assoc ms (all_news es fs) (all_news (all_learnt es fs) gs) ∙ ap (λ x. ms ++ x)
-            (sym (all_news-append es fs gs) ∙ ap (λ x. all_news es x) (sym m));
-      })
-
-  pub gone-full : (i room : ℕ) (ds : List Spot) (ns : List RowFact) → Gone i ds ns → room < length ns → Goes P l W cs facts es ds ms ns room
-  gone-full i room ds ns g k =
-      record { front = take i facts; rest = drop i facts; parts = sym (take-append-drop i facts); spots = g.spots; news = g.news; done = inr k }
-
-  pub gone-all : (i room : ℕ) (ds : List Spot) (ns : List RowFact) → Gone i ds ns → length facts ≤ i → Goes P l W cs facts es ds ms ns room
-  gone-all i room ds ns g k = record { front = take i facts; rest = drop i facts; parts = sym (take-append-drop i facts); spots = g.spots; news = g.news; done = inl (drop-all facts i k) }

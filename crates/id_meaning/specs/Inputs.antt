@@ -14,8 +14,8 @@ use Rattle.id_parts.specs.declared.row.Node.TheVariants.{Param}
 use Rattle.id_parts.specs.Rows.{at}
 use Rattle.id_check.specs.declared.checked.Checked.{Checked}
 use Rattle.id_check.specs.Programs.{rows}
-use Rattle.id_meaning.specs.declared.SourceValue.{SourceValue}
-use Rattle.id_meaning.specs.declared.SourceValue.TheVariants.{Int, Bool}
+use Rattle.id_value.specs.declared.Constant.{Constant}
+use Rattle.id_value.specs.declared.Constant.TheVariants.{Int, Bool}
 use Rattle.id_meaning.specs.declared.inputs.InputError.{InputError}
 use Rattle.id_meaning.specs.declared.inputs.InputError.TheVariants.{MissingInput, UnknownInput, RepeatedInput}
 use Rattle.id_meaning.specs.declared.inputs.InputError.TheVariants.{BadInput, Memory}
@@ -68,17 +68,17 @@ number_spelled (c ∷ cs) =
     else option_map (λ n. pos n) (digits_number (c ∷ cs))
 
 -- a number as a value, if it is one of the language
-abbrev pub whole_value : ℤ → Option SourceValue
+abbrev pub whole_value : ℤ → Option Constant
 whole_value n = if is_whole n then Some (Int n) else None
 
 -- the truth value that a word spells
-abbrev pub truth_spelled : List ℕ → Option SourceValue
+abbrev pub truth_spelled : List ℕ → Option Constant
 truth_spelled cs =
     if bytes_eq cs (codes "true") then Some (Bool true)
     else (if bytes_eq cs (codes "false") then Some (Bool false) else None)
 
 -- the value of a kind that a word spells
-abbrev pub value_spelled : Kind → List ℕ → Option SourceValue
+abbrev pub value_spelled : Kind → List ℕ → Option Constant
 value_spelled kind.Int cs = option_and_then whole_value (number_spelled cs)
 value_spelled kind.Bool cs = truth_spelled cs
 value_spelled kind.Array cs = None
@@ -87,7 +87,7 @@ value_spelled kind.Array cs = None
 -- without
 pub data Said : Type 0 where
   Nothing : Said
-  Says : ℕ → Option SourceValue → Said
+  Says : ℕ → Option Constant → Said
 
 -- what a word says of the parameter of this number, if it names one
 abbrev pub said_of : List Wanted → List ℕ → Option ℕ → Said
@@ -114,7 +114,7 @@ has n [] = false
 has n (m ∷ ms) = (m == n) || has n ms
 
 -- the cause of a word of number j without a value
-abbrev pub option_bad : ℕ → Option SourceValue → Option InputError
+abbrev pub option_bad : ℕ → Option Constant → Option InputError
 option_bad j None = Some (BadInput j)
 option_bad j (Some v) = None
 
@@ -130,17 +130,17 @@ first_cause ps seen j (w ∷ ws) =
     option_or (word_cause seen j (said ps w)) (first_cause ps (named_by (said ps w) ++ seen) (suc j) ws)
 
 -- the value that is said of the parameter of this number
-abbrev pub value_in : ℕ → Said → Option SourceValue
+abbrev pub value_in : ℕ → Said → Option Constant
 value_in n Nothing = None
 value_in n (Says m v) = if m == n then v else None
 
 -- the value that the words give the parameter of this number
-abbrev pub value_for : List Wanted → List (List ℕ) → ℕ → Option SourceValue
+abbrev pub value_for : List Wanted → List (List ℕ) → ℕ → Option Constant
 value_for ps [] n = None
 value_for ps (w ∷ ws) n = option_or (value_in n (said ps w)) (value_for ps ws n)
 
 -- the words give the parameters of `main` these values, and none is refused
-pub record AreInputsOf (P : Checked) (ws : List (List ℕ)) (vs : List SourceValue) : Type 0 where
+pub record AreInputsOf (P : Checked) (ws : List (List ℕ)) (vs : List Constant) : Type 0 where
   pub all_taken : first_cause (wanted P) [] 0 ws ≡ None
   pub enough : length vs ≡ length (wanted P)
   pub values : (n : ℕ) → n < length vs → slice_get vs n ≡ value_for (wanted P) ws n

@@ -9,7 +9,7 @@ pub mod Inputs
 -- For use inside.
 pub mod Links
 pub mod Cells
-pub mod Chains
+pub mod Effects
 pub mod Listed
 pub mod Waits
 pub mod Reading

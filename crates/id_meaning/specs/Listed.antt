@@ -1,37 +1,48 @@
--- The facts of a round, worked out of what rows have at paths.
-use Rattle.std.specs.Prelude.{◌≡◌, ◌<◌, ℕ, zero, suc, true, false, Bool as Truth, List, [], ◌∷◌, ◌++◌, length}
-use Rattle.std.specs.Prelude.{Option, None, Some, if◌then◌else◌, AllPairs, IsPermutation}
+-- The facts of a round, worked out by path and row.
+use Rattle.std.specs.Prelude.{◌≡◌, ◌<◌, ℕ, zero, suc, ℤ, true}
+use Rattle.std.specs.Prelude.{false, List, [], ◌∷◌, ◌++◌, length, AllPairs, IsPermutation}
 use Rattle.std.specs.declared.cmp.Ordering.{Ordering}
-use Rattle.std.specs.Ordering.{is_lt, nat_cmp, ordering_then}
+use Rattle.std.specs.Ordering.{bool_cmp, int_cmp, is_lt, nat_cmp, ordering_then}
 use Rattle.std.specs.Cmp.Lexicographic.{slice_cmp}
+use Rattle.id_list.specs.List.{Among}
 use Rattle.id_check.specs.declared.checked.Checked.{Checked}
 use Rattle.id_parts.specs.Rows.{at}
 use Rattle.id_parts.specs.Tables.{is_thing}
+use Rattle.id_parts.specs.declared.row.Node.TheVariants as node
 use Rattle.id_check.specs.Programs.{place, rows}
 use Rattle.id_meaning.specs.declared.PathStep.{PathStep}
 use Rattle.id_meaning.specs.declared.Path.{Path}
+use Rattle.id_meaning.specs.declared.Site.{Site}
+use Rattle.id_meaning.specs.declared.Shape.{Shape}
+use Rattle.id_meaning.specs.declared.Put.{Put}
+use Rattle.id_meaning.specs.declared.Ask.{Ask}
 use Rattle.id_meaning.specs.declared.SourceValue.{SourceValue}
+use Rattle.id_meaning.specs.declared.SourceValue.TheVariants as value
 use Rattle.id_meaning.specs.declared.Fact.{Fact}
 use Rattle.id_meaning.specs.declared.Fact.TheVariants as fact
-use Rattle.id_meaning.specs.declared.cells.Spot.{Spot}
+use Rattle.id_meaning.specs.declared.cells.RowFact.{RowFact}
+use Rattle.id_meaning.specs.declared.cells.RowFact.TheVariants as row
+use Rattle.id_meaning.specs.declared.cells.RowValue.{RowValue}
+use Rattle.id_meaning.specs.declared.cells.RowValue.TheVariants.{Int, Bool, Name}
 use Rattle.id_meaning.specs.declared.cells.Trail.{Trail}
 use Rattle.id_meaning.specs.declared.cells.Trail.TheVariants.{Outermost, Below}
-use Rattle.id_meaning.specs.declared.cells.RowFact.{RowFact}
-use Rattle.id_meaning.specs.declared.cells.RowFact.TheVariants.{On, Has}
-use Rattle.id_meaning.specs.Orders.{step_cmp}
+use Rattle.id_meaning.specs.Facts.{ask, put, shape, site}
+use Rattle.id_meaning.specs.Orders.{kind_of, step_cmp}
 use Rattle.id_meaning.specs.Sources.{Source}
 use Rattle.id_meaning.specs.Rounds.{Rounds}
-use Rattle.id_meaning.specs.Cells.{Inside, cell_at, path_of, spot_at}
+use Rattle.id_meaning.specs.Cells.{AreBefore, fact_at, path_of, row_of}
 
 -- the step to the call or the iteration of this number at the row
 abbrev pub step_at : Checked → ℕ → ℕ → PathStep
 step_at P n k = record { place = place P n; number = k }
 
--- the steps of the path, the last j of them: those of the path of its spot, and then the call or the iteration
-abbrev pub steps_of : Checked → List Spot → ℕ → Trail → List PathStep
-steps_of P es zero q = []
-steps_of P es (suc j) Outermost = []
-steps_of P es (suc j) (Below i k) = steps_of P es j (spot_at es i).path ++ step_at P (spot_at es i).row k ∷ []
+-- the steps of the path, the last j of them: those of the path of the fact where it begins, and then the call or the
+-- iteration
+abbrev pub steps_of : Checked → List RowFact → ℕ → Trail → List PathStep
+steps_of P fs zero q = []
+steps_of P fs (suc j) Outermost = []
+steps_of P fs (suc j) (Below i k) =
+    steps_of P fs j (path_of (fact_at fs i)) ++ step_at P (row_of (fact_at fs i)) k ∷ []
 
 -- the most steps that the path has
 abbrev pub steps_in_all : Trail → ℕ
@@ -39,92 +50,136 @@ steps_in_all Outermost = 0
 steps_in_all (Below i k) = suc i
 
 -- the path of the source that it is
-abbrev pub path_at : Checked → List Spot → Trail → Path
-path_at P es q = record { steps = steps_of P es (steps_in_all q) q }
+abbrev pub path_at : Checked → List RowFact → Trail → Path
+path_at P fs q = record { steps = steps_of P fs (steps_in_all q) q }
+
+-- the site of the source that a path and a row are, and a structure's name
+abbrev pub site_at : Checked → List RowFact → Trail → ℕ → Site
+site_at P fs q n = site (path_at P fs q) (place P n)
+
+abbrev pub name_at : Checked → List RowFact → ℕ → Site
+name_at P fs i = site_at P fs (path_of (fact_at fs i)) (row_of (fact_at fs i))
+
+-- the value of the source that a value is
+abbrev pub value_at : Checked → List RowFact → RowValue → SourceValue
+value_at P fs (Int n) = value.Int n
+value_at P fs (Bool b) = value.Bool b
+value_at P fs (Name i) = value.Name (name_at P fs i)
 
 -- the fact of the source that a row's fact is
-abbrev pub fact_of : Source → List Spot → RowFact → Fact
-fact_of S es (On p n) = fact.On (path_at S.checked es p) (place S.checked n)
-fact_of S es (Has p n v) = fact.Has (path_at S.checked es p) (place S.checked n) v
+abbrev pub fact_of : Checked → List RowFact → RowFact → Fact
+fact_of P fs (row.On p n) = fact.On (path_at P fs p) (place P n)
+fact_of P fs (row.Has p n v) = fact.Has (path_at P fs p) (place P n) (value_at P fs v)
+fact_of P fs (row.Shape s lo hi) = shape (name_at P fs s) lo hi
+fact_of P fs (row.Put p n s j v) = put (name_at P fs s) j (value_at P fs v) (site_at P fs p n)
+fact_of P fs (row.Ask p n s j) = ask (site_at P fs p n) (name_at P fs s) j
 
--- the spots have the fact
-abbrev pub Known : List Spot → RowFact → Type 0
-Known es (On p n) = (cell_at es p n).on ≡ true
-Known es (Has p n v) = (cell_at es p n).has ≡ Some v
+-- those of all of the facts, which are some of these
+abbrev pub facts_in : Checked → List RowFact → List RowFact → List Fact
+facts_in P fs [] = []
+facts_in P fs (g ∷ gs) = fact_of P fs g ∷ facts_in P fs gs
 
 -- a thing stands at the row
 pub record IsThing (S : Source) (n : ℕ) : Type 0 where
   pub within : n < length (rows S.checked)
   pub thing : is_thing (at (rows S.checked) n).node ≡ true
 
--- the fact is one of a row that the spots have
-pub record Shows (S : Source) (es : List Spot) (f : Fact) : Type 0 where
-  pub fact : RowFact
-  pub known : Known es fact
-  pub is : f ≡ fact_of S es fact
+-- the fact of this number is that an `array` is On
+pub record IsArrayOn (P : Checked) (fs : List RowFact) (i : ℕ) : Type 0 where
+  pub path : Trail
+  pub array : ℕ
+  pub low : ℕ
+  pub high : ℕ
+  pub within : i < length fs
+  pub on : fact_at fs i ≡ row.On path array
+  pub stands : (at (rows P) array).node ≡ node.Array low high
 
--- the spots are of things, each at a path that was there before it, and no two are of one path and row
-pub record AreSpots (S : Source) (es : List Spot) : Type 0 where
-  pub things : (i : ℕ) → i < length es → IsThing S (spot_at es i).row
-  pub before : (i : ℕ) → i < length es → Inside i (spot_at es i).path
-  pub apart : (i j : ℕ) → i < length es → j < length es → (spot_at es i).path ≡ (spot_at es j).path
-      → (spot_at es i).row ≡ (spot_at es j).row → i ≡ j
+-- the fact speaks of structures that an `array` made
+abbrev pub NamesArray : Checked → List RowFact → RowValue → Type 0
+NamesArray P fs (Name i) = IsArrayOn P fs i
+NamesArray P fs _ = Unit {0}
 
--- the spots have exactly the facts of round n
-pub record IsRound (S : Source) (n : ℕ) (es : List Spot) : Type 0 where
-  pub all : (f : Fact) → Rounds S n f → Shows S es f
-  pub only : (f : RowFact) → Known es f → Rounds S n (fact_of S es f)
-  pub inside : (f : RowFact) → Known es f → Inside (length es) (path_of f)
-  pub spots : AreSpots S es
+abbrev pub NamesArrays : Checked → List RowFact → RowFact → Type 0
+NamesArrays P fs (row.On p n) = Unit {0}
+NamesArrays P fs (row.Has p n v) = NamesArray P fs v
+NamesArrays P fs (row.Shape s lo hi) = IsArrayOn P fs s
+NamesArrays P fs (row.Put p n s j v) = IsArrayOn P fs s × NamesArray P fs v
+NamesArrays P fs (row.Ask p n s j) = IsArrayOn P fs s
 
--- all facts that the spots have are of round n
-pub record IsPart (S : Source) (n : ℕ) (es : List Spot) : Type 0 where
-  pub only : (f : RowFact) → Known es f → Rounds S n (fact_of S es f)
-  pub spots : AreSpots S es
+-- a thing stands at the row of the fact, if it has one
+abbrev pub IsOfThing : Source → RowFact → Type 0
+IsOfThing S (row.Shape s lo hi) = Unit {0}
+IsOfThing S f = IsThing S (row_of f)
+
+-- a path begins where something is On
+abbrev pub BeginsOn : List RowFact → Trail → Type 0
+BeginsOn fs Outermost = Unit {0}
+BeginsOn fs (Below i k) = (p : Trail) × ((n : ℕ) × (fact_at fs i ≡ row.On p n))
+
+-- the facts are of things, speak of what was there before them, and no two are one
+pub record AreFound (S : Source) (fs : List RowFact) : Type 0 where
+  pub things : (f : RowFact) → Among f fs → IsOfThing S f
+  pub arrays : (f : RowFact) → Among f fs → NamesArrays S.checked fs f
+  pub begin : (f : RowFact) → Among f fs → BeginsOn fs (path_of f)
+  pub before : AreBefore fs
+  pub apart : (i j : ℕ) → i < length fs → j < length fs → fact_at fs i ≡ fact_at fs j → i ≡ j
+
+-- the facts are exactly those of round n
+pub record IsRound (S : Source) (n : ℕ) (fs : List RowFact) : Type 0 where
+  pub all : (f : Fact) → Rounds S n f → (g : RowFact) × Among g fs × (f ≡ fact_of S.checked fs g)
+  pub only : (g : RowFact) → Among g fs → Rounds S n (fact_of S.checked fs g)
+  pub found : AreFound S fs
+
+-- all of the facts are of round n
+pub record IsPart (S : Source) (n : ℕ) (fs : List RowFact) : Type 0 where
+  pub only : (g : RowFact) → Among g fs → Rounds S n (fact_of S.checked fs g)
+  pub found : AreFound S fs
 
 -- ---- as a list
 
--- the fact that the row is On, where it is
-abbrev pub on_fact : Path → ℕ → Truth → List Fact
-on_fact p e on = if on then fact.On p e ∷ [] else []
+-- how two points compare, by path and then by place, two sites, and two values
+abbrev pub point_cmp : Path → ℕ → Path → ℕ → Ordering
+point_cmp p d q e = ordering_then (slice_cmp step_cmp p.steps q.steps) (nat_cmp d e)
 
--- the fact that the row Has its value, where it has one
-abbrev pub value_fact : Path → ℕ → Option SourceValue → List Fact
-value_fact p e None = []
-value_fact p e (Some v) = fact.Has p e v ∷ []
+abbrev pub site_cmp : Site → Site → Ordering
+site_cmp a b = point_cmp a.path a.place b.path b.place
 
--- those of the spot, which is one of these
-abbrev pub spot_facts : Checked → List Spot → Spot → List Fact
-spot_facts P es s =
-    let p = path_at P es s.path in on_fact p (place P s.row) s.cell.on ++ value_fact p (place P s.row) s.cell.has
+-- 0 for a number, 1 for a truth value, 2 for a structure
+abbrev pub sort_of : SourceValue → ℕ
+sort_of (value.Int n) = 0
+sort_of (value.Bool b) = 1
+sort_of (value.Name s) = 2
 
--- those of all of the spots, which are some of these
-abbrev pub facts_in : Checked → List Spot → List Spot → List Fact
-facts_in P all [] = []
-facts_in P all (s ∷ es) = spot_facts P all s ++ facts_in P all es
+abbrev pub value_cmp : SourceValue → SourceValue → Ordering
+value_cmp (value.Int m) (value.Int n) = int_cmp m n
+value_cmp (value.Bool b) (value.Bool c) = bool_cmp b c
+value_cmp (value.Name s) (value.Name t) = site_cmp s t
+value_cmp v w = nat_cmp (sort_of v) (sort_of w)
 
--- 0 for On, 1 for Has; and where a fact stands
-abbrev pub kind_of : Fact → ℕ
-kind_of (fact.On p e) = 0
-kind_of (fact.Has p e v) = 1
+abbrev pub shape_cmp : Shape → Shape → Ordering
+shape_cmp s t = ordering_then (site_cmp s.name t.name) (ordering_then (int_cmp s.low t.low) (int_cmp s.high t.high))
 
-abbrev pub steps_in : Fact → List PathStep
-steps_in (fact.On p e) = p.steps
-steps_in (fact.Has p e v) = p.steps
+abbrev pub cell_cmp : Site → ℤ → Site → ℤ → Ordering
+cell_cmp s i t j = ordering_then (site_cmp s t) (int_cmp i j)
 
-abbrev pub place_in : Fact → ℕ
-place_in (fact.On p e) = e
-place_in (fact.Has p e v) = e
+abbrev pub put_cmp : Put → Put → Ordering
+put_cmp p q =
+    ordering_then (cell_cmp p.name p.index q.name q.index)
+    (ordering_then (site_cmp p.store q.store) (value_cmp p.value q.value))
 
--- how two facts compare by path, then by place
-abbrev pub point_cmp : Fact → Fact → Ordering
-point_cmp f g = ordering_then (slice_cmp step_cmp (steps_in f) (steps_in g)) (nat_cmp (place_in f) (place_in g))
+abbrev pub ask_cmp : Ask → Ask → Ordering
+ask_cmp a b = ordering_then (site_cmp a.fetch b.fetch) (cell_cmp a.name a.index b.name b.index)
 
--- how two facts compare: On before Has, then by path, then by place
+-- how two facts compare: by their kinds, then as facts of one kind
 abbrev pub fact_cmp : Fact → Fact → Ordering
-fact_cmp f g = ordering_then (nat_cmp (kind_of f) (kind_of g)) (point_cmp f g)
+fact_cmp (fact.On p d) (fact.On q e) = point_cmp p d q e
+fact_cmp (fact.Has p d v) (fact.Has q e w) = ordering_then (point_cmp p d q e) (value_cmp v w)
+fact_cmp (fact.Shape s) (fact.Shape t) = shape_cmp s t
+fact_cmp (fact.Put p) (fact.Put q) = put_cmp p q
+fact_cmp (fact.Ask a) (fact.Ask b) = ask_cmp a b
+fact_cmp f g = nat_cmp (kind_of f) (kind_of g)
 
--- the facts are those that the spots show, and none stands behind one that it compares less than
-pub record AreShown (P : Checked) (es : List Spot) (fs : List Fact) : Type 0 where
-  pub same : IsPermutation (facts_in P es es) fs
-  pub up : AllPairs (λ f g. is_lt (fact_cmp g f) ≡ false) fs
+-- the list has the facts that these are, and none stands behind one that it compares less than
+pub record AreShown (P : Checked) (fs : List RowFact) (all : List Fact) : Type 0 where
+  pub same : IsPermutation (facts_in P fs fs) all
+  pub up : AllPairs (λ f g. is_lt (fact_cmp g f) ≡ false) all

@@ -1,14 +1,16 @@
 -- The rounds of a source, what it has, its faults and its answer (docs/MEANING.md, "Rounds", "Faults", "Answer",
 -- "Coherence").
-use Rattle.std.specs.Prelude.{◌≡◌, ◌⊎◌, ℕ, zero, suc, List, [], ◌∷◌, Option, Some, None}
+use Rattle.std.specs.Prelude.{◌≡◌, ◌⊎◌, ℕ, ℤ, zero, suc, List, [], ◌∷◌, Option, Some, None}
 use Rattle.id_meaning.specs.declared.Path.{Path}
 use Rattle.id_meaning.specs.declared.SourceValue.{SourceValue}
 use Rattle.id_meaning.specs.declared.Fact.{Fact}
 use Rattle.id_meaning.specs.declared.Fact.TheVariants.{Has}
+use Rattle.id_meaning.specs.declared.Ask.{Ask}
+use Rattle.id_meaning.specs.declared.Site.{Site}
 use Rattle.id_meaning.specs.declared.SourceFault.{SourceFault}
 use Rattle.id_check.specs.Programs.{place}
 use Rattle.id_meaning.specs.Sources.{Source, main_body}
-use Rattle.id_meaning.specs.Facts.{outermost, Rule, FaultRule}
+use Rattle.id_meaning.specs.Facts.{FaultRule, Rule, ask, outermost, put, shape}
 
 -- all of the facts hold
 abbrev pub Every : (Fact → Type 0) → List Fact → Type 0
@@ -44,6 +46,15 @@ abbrev pub IsAnswer : Source → Option SourceValue → Type 0
 IsAnswer S (Some v) = Answers S v
 IsAnswer S None = (v : SourceValue) → Answers S v → ⊥
 
--- each path and place has at most one value
-abbrev pub IsCoherent : Source → Type 0
-IsCoherent S = (p : Path) (e : ℕ) (v w : SourceValue) → Holds S (Has p e v) → Holds S (Has p e w) → v ≡ w
+-- the fetch asks for a cell into which nothing is put
+pub record IsWaiting (S : Source) (a : Ask) : Type 0 where
+  pub asks : Holds S (ask a.fetch a.name a.index)
+  pub unfilled : (v : SourceValue) (b : Site) → Holds S (put a.name a.index v b) → ⊥
+
+-- each path and place has at most one value, each structure one shape, and each cell one value and one store
+pub record IsCoherent (S : Source) : Type 0 where
+  pub values : (p : Path) (e : ℕ) (v w : SourceValue) → Holds S (Has p e v) → Holds S (Has p e w) → v ≡ w
+  pub shapes : (s : Site) (lo hi low high : ℤ) → Holds S (shape s lo hi) → Holds S (shape s low high)
+      → (lo ≡ low) × (hi ≡ high)
+  pub puts : (s : Site) (i : ℤ) (v w : SourceValue) (a b : Site) → Holds S (put s i v a) → Holds S (put s i w b)
+      → (v ≡ w) × (a ≡ b)

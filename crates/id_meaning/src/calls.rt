@@ -1,17 +1,16 @@
 //! What follows by the rules of calls (docs/MEANING.md, "Rules").
 
 ghost use Rattle.std.specs.Prelude.{◌≡◌, ◌++◌, OnOk};
-ghost use Rattle.id_meaning.specs.Cells.{all_passed, all_passes, call_at, callee_of, entered, entered_by};
-ghost use Rattle.id_meaning.specs.Cells.{param_fact, param_row, passed_by, passed_of, passes_of, returned};
+ghost use Rattle.id_meaning.specs.Effects.{all_passed, all_passes, body_in, call_at, callee_of, entered, entered_by};
+ghost use Rattle.id_meaning.specs.Effects.{param_haves, param_row, pass_by, pass_of, passed_of};
 
-use crate::SourceValue;
-use crate::cells::{Cells, RowFact, Trail};
-use crate::effects::add_value;
+use crate::cells::{Cells, RowFact, RowValue, Trail};
+use crate::effects::{add_has, add_values};
 use crate::links::{Links, binder_of};
 use crate::params::node_of;
 use id_check::Checked;
 use id_parts::Node;
-use std::alloc::AllocError;
+use std::alloc::{AllocError, Global};
 
 /// A call that is On.
 #[derive(Clone, Copy)]
@@ -26,25 +25,25 @@ pub struct OnCall {
 }
 
 /// The call at the row at the path, if it is On.
-pub fn entered(checked: &Checked, cells: &Cells, path: Trail, row: usize) -> Option<OnCall>
+fn entered(checked: &Checked, cells: &Cells, path: Trail, row: usize) -> Option<OnCall>
     ensures { result ≡ entered checked.now cells.now path row }
 {
     match node_of(checked, row) {
-        Node::Call { enter, .. } if cells.read(path, row).on => {
-            entered_by(enter, cells.begun(path, row), callee(checked, enter))
+        Node::Call { enter, .. } => {
+            entered_by(enter, cells.find(path, row), callee(checked, enter))
         }
         _ => None,
     }
 }
 
-/// The call of this `Enter` with the path that it begins, where its procedure has this node.
-fn entered_by(enter: usize, path: Option<Trail>, callee: Node) -> Option<OnCall>
-    ensures { result ≡ entered_by enter path callee }
+/// The call of this `Enter` that is On by the fact of this number, where its procedure has this node.
+fn entered_by(enter: usize, spot: Option<usize>, callee: Node) -> Option<OnCall>
+    ensures { result ≡ entered_by enter spot callee }
 {
-    match (path, callee) {
-        (Some(path), Node::Def { head, body, .. }) => Some(OnCall {
+    match (spot, callee) {
+        (Some(spot), Node::Def { head, body, .. }) => Some(OnCall {
             enter,
-            path,
+            path: Trail::Below { spot, number: 0 },
             head,
             body,
         }),
@@ -62,58 +61,93 @@ fn callee(checked: &Checked, enter: usize) -> Node
     }
 }
 
-/// Adds the facts that come by the call at the row at the path.
+/// The body of the procedure where the `Enter` at the row has its binder, if it is one.
+pub fn body_called(checked: &Checked, enter: usize) -> Option<usize>
+    ensures { result ≡ body_in (callee_of checked.now enter) }
+{
+    match callee(checked, enter) {
+        Node::Def { body, .. } => Some(body),
+        _ => None,
+    }
+}
+
+/// Adds the facts that come by the call at the row at the path, if it is On, where this fact is followed.
 pub fn add_call(
+    alloc: Global,
     found: &mut Vec<RowFact>,
     checked: &Checked,
     links: &Links,
     cells: &Cells,
+    followed: RowFact,
     path: Trail,
     row: usize,
 ) -> Result<(), AllocError>
-    ensures { OnOk result
-        (found.new.items ≡ found.old.items ++ call_at checked.now links.now cells.now path row) }
+    ensures { OnOk result (found.new.items ≡ found.old.items
+        ++ call_at checked.now links.now cells.now followed path row) }
 {
     if let Some(call) = entered(checked, cells, path, row) {
         found.push(RowFact::On {
             path: call.path,
             row: call.body,
         })?;
-        add_value(found, path, row, cells.read(call.path, call.body).has)?;
-        add_all_passed(found, checked, cells, path, call, links.args.of(call.enter))?;
+        let values = cells.values(alloc, followed, call.path, call.body)?;
+        add_values(found, path, row, values.as_slice())?;
+        add_all_passed(
+            alloc,
+            found,
+            checked,
+            cells,
+            followed,
+            path,
+            call,
+            links.args.of(call.enter),
+        )?;
     }
     Ok(())
 }
 
 /// Adds the facts that come by the arguments of the call at these rows.
 fn add_all_passed(
+    alloc: Global,
     found: &mut Vec<RowFact>,
     checked: &Checked,
     cells: &Cells,
+    followed: RowFact,
     path: Trail,
     call: OnCall,
     rows: &[usize],
 ) -> Result<(), AllocError>
-    ensures { OnOk result
-        (found.new.items ≡ found.old.items ++ all_passed checked.now cells.now path call rows.now) }
+    ensures { OnOk result (found.new.items ≡ found.old.items
+        ++ all_passed checked.now cells.now followed path call rows.now) }
 {
     for row in rows {
-        add_passed(found, checked, cells, path, call, node_of(checked, *row))?;
+        add_passed(
+            alloc,
+            found,
+            checked,
+            cells,
+            followed,
+            path,
+            call,
+            node_of(checked, *row),
+        )?;
     }
     Ok(())
 }
 
 /// Adds the facts that come by a row of this node, if it is an argument of the call.
 fn add_passed(
+    alloc: Global,
     found: &mut Vec<RowFact>,
     checked: &Checked,
     cells: &Cells,
+    followed: RowFact,
     path: Trail,
     call: OnCall,
     node: Node,
 ) -> Result<(), AllocError>
-    ensures { OnOk result
-        (found.new.items ≡ found.old.items ++ passed_of checked.now cells.now path call node) }
+    ensures { OnOk result (found.new.items ≡ found.old.items
+        ++ passed_of checked.now cells.now followed path call node) }
 {
     match node {
         Node::Arg {
@@ -122,10 +156,27 @@ fn add_passed(
             value,
         } if enter == call.enter => {
             found.push(RowFact::On { path, row: value })?;
+            let values = cells.values(alloc, followed, path, value)?;
             let param = param_row(checked.table.rows.len(), call.head, index);
-            add_param(found, call.path, param, cells.read(path, value).has)
+            add_param(found, call.path, param, values.as_slice())
         }
         _ => Ok(()),
+    }
+}
+
+/// Adds that the parameter at the row Has these values at the path, if there is one.
+fn add_param(
+    found: &mut Vec<RowFact>,
+    path: Trail,
+    row: Option<usize>,
+    values: &[RowValue],
+) -> Result<(), AllocError>
+    ensures { OnOk result (found.new.items ≡ found.old.items
+        ++ param_haves path row values.now) }
+{
+    match row {
+        Some(row) => add_values(found, path, row, values),
+        None => Ok(()),
     }
 }
 
@@ -140,90 +191,80 @@ fn param_row(count: usize, head: usize, index: usize) -> Option<usize>
     }
 }
 
-/// Adds that the row has the value at the path, if there are both.
-fn add_param(
-    found: &mut Vec<RowFact>,
-    path: Trail,
-    row: Option<usize>,
-    value: Option<SourceValue>,
-) -> Result<(), AllocError>
-    ensures { OnOk result (found.new.items ≡ found.old.items ++ param_fact path row value) }
-{
-    match row {
-        Some(row) => add_value(found, path, row, value),
-        None => Ok(()),
-    }
-}
-
-/// Adds the facts that come by a row of this node, if it is an argument of the call.
-fn add_pass(
-    found: &mut Vec<RowFact>,
-    checked: &Checked,
-    cells: &Cells,
-    path: Trail,
-    call: Option<OnCall>,
-    node: Node,
-) -> Result<(), AllocError>
-    ensures { OnOk result
-        (found.new.items ≡ found.old.items ++ passed_by checked.now cells.now path call node) }
-{
-    match call {
-        Some(call) => add_passed(found, checked, cells, path, call, node),
-        None => Ok(()),
-    }
-}
-
-/// Adds the facts that come by a row of this node, if it is an argument of one of the calls at these rows.
-fn add_all_passes(
-    found: &mut Vec<RowFact>,
-    checked: &Checked,
-    cells: &Cells,
-    path: Trail,
-    node: Node,
-    rows: &[usize],
-) -> Result<(), AllocError>
-    ensures { OnOk result
-        (found.new.items ≡ found.old.items ++ all_passes checked.now cells.now path node rows.now) }
-{
-    for row in rows {
-        add_pass(
-            found,
-            checked,
-            cells,
-            path,
-            entered(checked, cells, path, *row),
-            node,
-        )?;
-    }
-    Ok(())
-}
-
-/// Adds the facts that come by a row of this node, if it is an argument of a call that is On.
-pub fn add_passes(
+/// Adds the facts that come where the row Has the value, by a row of this node that reads it, if that is an argument of
+/// calls that are On.
+pub fn add_pass(
     found: &mut Vec<RowFact>,
     checked: &Checked,
     links: &Links,
     cells: &Cells,
     path: Trail,
+    row: usize,
+    value: RowValue,
     node: Node,
 ) -> Result<(), AllocError>
-    ensures { OnOk result
-        (found.new.items ≡ found.old.items ++ passes_of checked.now links.now cells.now path node) }
+    ensures { OnOk result (found.new.items ≡ found.old.items
+        ++ pass_of checked.now links.now cells.now path row value node) }
 {
     match node {
-        Node::Arg { enter, .. } => {
-            add_all_passes(found, checked, cells, path, node, links.reads.of(enter))
+        Node::Arg {
+            enter,
+            index,
+            value: read,
+        } if read == row => {
+            add_all_passes(
+                found,
+                checked,
+                cells,
+                path,
+                value,
+                enter,
+                index,
+                links.reads.of(enter),
+            )
         }
         _ => Ok(()),
     }
 }
 
-/// What the row gives back to the call, if it is the body of its procedure.
-pub fn returned(cells: &Cells, call: Option<OnCall>, row: usize) -> Option<SourceValue>
-    ensures { result ≡ returned cells.now call row }
+/// Adds that the parameter of this index Has the value, in each of the calls of the `Enter` at these rows that is On.
+fn add_all_passes(
+    found: &mut Vec<RowFact>,
+    checked: &Checked,
+    cells: &Cells,
+    path: Trail,
+    value: RowValue,
+    enter: usize,
+    index: usize,
+    rows: &[usize],
+) -> Result<(), AllocError>
+    ensures { OnOk result (found.new.items ≡ found.old.items
+        ++ all_passes checked.now cells.now path value enter index rows.now) }
+{
+    for row in rows {
+        let call = entered(checked, cells, path, *row);
+        add_pass_by(found, checked, enter, index, value, call)?;
+    }
+    Ok(())
+}
+
+/// Adds that the parameter of this index Has the value in the call, if it is On and of the `Enter`.
+fn add_pass_by(
+    found: &mut Vec<RowFact>,
+    checked: &Checked,
+    enter: usize,
+    index: usize,
+    value: RowValue,
+    call: Option<OnCall>,
+) -> Result<(), AllocError>
+    ensures { OnOk result (found.new.items ≡ found.old.items
+        ++ pass_by checked.now enter index value call) }
 {
     match call {
-        Some(call) if call.body == row => cells.read(call.path, call.body).has,
-        _ => None,
+        Some(call) if call.enter == enter => {
+            let param = param_row(checked.table.rows.len(), call.head, index);
+            add_param(found, call.path, param, &[value])
+        }
+        _ => Ok(()),
     }
 }

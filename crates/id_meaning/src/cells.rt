@@ -1,33 +1,35 @@
-//! What rows have at paths after some rounds (docs/MEANING.md, "Rounds").
+//! Facts by path and row, and what finds them (docs/MEANING.md, "Rounds").
 
-ghost use Rattle.std.specs.Prelude.{◌≡◌, ◌<◌, ◌++◌, length, replicate, OnOk, IfOk};
-ghost use Rattle.id_meaning.specs.Cells.{Inside, all_learnt, all_news, bucket_of, is_at, is_fresh, is_inside, is_taken};
-ghost use Rattle.id_meaning.specs.Cells.{learnt, mark_of, next_of, path_of, queue_of, row_of, same_trail, with_fact};
+ghost use Rattle.std.specs.Prelude.{◌≡◌, ◌<◌, [], ◌∷◌, IfOk, OnOk};
+ghost use Rattle.id_meaning.specs.Cells.{AddsFacts, AreChained, ask_by, asks, bounds_by};
+ghost use Rattle.id_meaning.specs.Cells.{chain_at, chain_by, chain_of, fact_at, find};
+ghost use Rattle.id_meaning.specs.Cells.{index_mark, is_inside, is_on, is_path_inside, is_value_inside, items, mark_of};
+ghost use Rattle.id_meaning.specs.Cells.{member_chain, name_of, named, named_by, next_of, out_of, outer, path_of};
+ghost use Rattle.id_meaning.specs.Cells.{put_by, puts};
+ghost use Rattle.id_meaning.specs.Cells.{queue_of, row_of, same_fact, same_trail, same_value, shapes, sort_mark};
+ghost use Rattle.id_meaning.specs.Cells.{value_by, value_mark, values};
 
-use crate::SourceValue;
+use crate::edges::Edges;
 use std::alloc::{AllocError, Global};
 use std::marker::Model;
-
-/// What a row has at a path so far: whether it is On, and its value.
-#[derive(Clone, Copy)]
-pub struct Cell {
-    pub on: bool,
-    pub has: Option<SourceValue>,
-}
-
-/// What a row has before the first round.
-pub const BLANK: Cell = Cell {
-    on: false,
-    has: None,
-};
 
 /// A path.
 #[derive(Clone, Copy)]
 pub enum Trail {
     /// The empty one.
     Outermost,
-    /// One whose last step is to the call or the loop at the spot of this number: the call, or this iteration, from 0.
+    /// One whose last step is to the call or the loop that is On by the fact of this number: the call, or this
+    /// iteration, from 0.
     Below { spot: usize, number: u64 },
+}
+
+/// A value of a row.
+#[derive(Clone, Copy)]
+pub enum RowValue {
+    Int(i64),
+    Bool(bool),
+    /// The structure of the `array` that is On by the fact of this number.
+    Name(usize),
 }
 
 /// A fact by path and row.
@@ -40,99 +42,134 @@ pub enum RowFact {
     Has {
         path: Trail,
         row: usize,
-        value: SourceValue,
+        value: RowValue,
+    },
+    /// The structure has these bounds.
+    Shape {
+        name: usize,
+        low: i64,
+        high: i64,
+    },
+    /// The store at the path and row puts the value into the cell.
+    Put {
+        path: Trail,
+        row: usize,
+        name: usize,
+        index: i64,
+        value: RowValue,
+    },
+    /// The fetch at the path and row asks for the cell.
+    Ask {
+        path: Trail,
+        row: usize,
+        name: usize,
+        index: i64,
     },
 }
 
-/// What a row has at a path.
+/// A path and a row.
 #[derive(Clone, Copy)]
-pub struct Spot {
+pub struct Point {
     pub path: Trail,
     pub row: usize,
-    pub cell: Cell,
 }
 
-/// How many chains the spots hang in.
+/// The bounds of a structure.
+#[derive(Clone, Copy)]
+pub struct Bounds {
+    pub low: i64,
+    pub high: i64,
+}
+
+/// In how many chains facts hang.
 const CHAINS: usize = 262_144;
 
 /// In how many queues names and loops wait.
 pub const QUEUES: usize = 65_536;
 
-/// What rows have at paths. Contracts see a list of spots, no two of one path and row.
-///
-/// A spot is found by its chain: from the last one that is in it to those before it.
-#[derive(Drop)]
-pub struct Cells {
-    /// For each chain the last of its spots, counted from 1, or 0.
-    heads: Vec<usize>,
-    /// For each spot the one before it in its chain, counted from 1, or 0; more may stand behind.
-    nexts: Vec<usize>,
-    spots: Vec<Spot>,
+/// What facts are looked up by.
+#[derive(Clone, Copy)]
+enum Sort {
+    Shapes,
+    Named,
+    Puts,
+    Asks,
 }
 
-impl Model for Cells {
-    ghost use Rattle.std.specs.Prelude.{List};
-    ghost use Rattle.id_meaning.specs.declared.cells.Spot.{Spot};
-    ghost use Rattle.id_meaning.specs.Chains.{IsChained};
-
-    ghost Value = { List Spot };
-
-    ghost view = { λ c. c.spots.items };
-
-    ghost invariant = { λ c. IsChained c.heads.items c.nexts.items c.spots.items };
+/// Facts in the order in which they came, to be looked up: On and Has by path and row, Has that give a structure by
+/// that, Shape by structure, Put and Ask by cell.
+#[derive(Drop)]
+pub struct Cells {
+    pub items: Vec<RowFact>,
+    /// For each chain the numbers of its facts.
+    pub chains: Edges,
 }
 
 impl Cells {
-    ghost use Rattle.std.specs.Prelude.{◌≡◌, [], length, Some, None, OnOk, IfOk};
-    ghost use Rattle.id_meaning.specs.Cells.{AreBefore, Inside, begun, cell_at, find, out_of, outer, put, spot_at};
-
-    /// No spots.
+    /// No facts.
     pub fn new(alloc: Global) -> Result<Cells, AllocError>
-        ensures { IfOk result (λ c. c ≡ []) }
+        ensures none { IfOk result (λ c. items c ≡ []) }
+        ensures chained { IfOk result AreChained }
     {
-        let heads = zeros(alloc, CHAINS)?;
         Ok(Cells {
-            heads,
-            nexts: Vec::new(alloc),
-            spots: Vec::new(alloc),
+            items: Vec::new(alloc),
+            chains: Edges::new(alloc, CHAINS)?,
         })
     }
 
-    /// How many spots there are.
-    pub fn len(&self) -> usize
-        ensures { result ≡ length self.now }
+    /// Adds these facts.
+    pub fn add_all(&mut self, facts: &[RowFact]) -> Result<(), AllocError>
+        ensures { OnOk result (AddsFacts self.old self.new facts.now) }
     {
-        self.spots.len()
+        for fact in facts {
+            self.add(*fact)?;
+        }
+        Ok(())
     }
 
-    /// The number of the spot with this path and row, if there is one.
+    /// Adds a fact.
+    fn add(&mut self, fact: RowFact) -> Result<(), AllocError>
+        ensures { OnOk result (AddsFacts self.old self.new (fact ∷ [])) }
+    {
+        let number = self.items.len();
+        self.items.push(fact)?;
+        self.chains.add(chain_of(fact), number)?;
+        match name_of(fact) {
+            Some(name) => self.chains.add(chain_by(Sort::Named, name, 0), number)?,
+            None => {}
+        }
+        Ok(())
+    }
+
+    /// The number of the fact that the row is On at the path, if it is.
     pub fn find(&self, path: Trail, row: usize) -> Option<usize>
         ensures { result ≡ find self.now path row }
     {
-        let mut next = self.heads[bucket_of(path, row)];
-        while next > 0 {
-            let spot = self.spots[next - 1];
-            if is_at(spot, path, row) {
-                return Some(next - 1);
+        for number in self.chains.of(chain_at(path, row)) {
+            if is_on(self.fact(*number), path, row) {
+                return Some(*number);
             }
-            next = self.nexts[next - 1];
         }
         None
     }
 
-    /// The path of the call that begins at the spot with this path and row, if there is one.
-    pub fn begun(&self, path: Trail, row: usize) -> Option<Trail>
-        ensures { result ≡ begun self.now path row }
+    /// The fact of this number; past the last one, that the first row is On at the empty path.
+    pub fn fact(&self, number: usize) -> RowFact
+        ensures { result ≡ fact_at (items self.now) number }
     {
-        match self.find(path, row) {
-            Some(spot) => Some(Trail::Below { spot, number: 0 }),
-            None => None,
+        if number < self.items.len() {
+            self.items[number]
+        } else {
+            RowFact::On {
+                path: Trail::Outermost,
+                row: 0,
+            }
         }
     }
 
     /// The path without its last d steps.
     pub fn out_of(&self, path: Trail, d: usize) -> Trail
-        ensures { result ≡ out_of self.now d path }
+        ensures { result ≡ out_of (items self.now) d path }
     {
         let mut rest = path;
         for _step in 0..d {
@@ -143,88 +180,190 @@ impl Cells {
 
     /// The path without its last step.
     fn outer(&self, path: Trail) -> Trail
-        ensures { result ≡ outer self.now path }
+        ensures { result ≡ outer (items self.now) path }
     {
         match path {
-            Trail::Below { spot, .. } => self.spot(spot).path,
+            Trail::Below { spot, .. } => path_of(self.fact(spot)),
             Trail::Outermost => Trail::Outermost,
         }
     }
 
-    /// The spots, in the order in which they came.
-    pub fn as_slice(&self) -> &[Spot]
-        ensures { result.now ≡ self.now }
+    /// What the row Has at the path; of the row that a fact is of that is followed, that value alone.
+    pub fn values(
+        &self,
+        alloc: Global,
+        followed: RowFact,
+        path: Trail,
+        row: usize,
+    ) -> Result<Vec<RowValue>, AllocError>
+        ensures { IfOk result (λ v. v.items ≡ values self.now followed path row) }
     {
-        self.spots.as_slice()
-    }
-
-    /// The spot of this number; past the last one, a blank one.
-    pub fn spot(&self, number: usize) -> Spot
-        ensures is { result ≡ spot_at self.now number }
-        ensures before { Inside number result.path }
-        ensures kept { AreBefore self.now }
-    {
-        if number < self.spots.len() {
-            self.spots[number]
-        } else {
-            Spot {
-                path: Trail::Outermost,
-                row: 0,
-                cell: BLANK,
+        let mut values = Vec::new(alloc);
+        if let Some(value) = value_at(followed, path, row) {
+            values.push(value)?;
+            return Ok(values);
+        }
+        for number in self.chains.of(chain_at(path, row)) {
+            if let Some(value) = value_at(self.fact(*number), path, row) {
+                values.push(value)?;
             }
         }
+        Ok(values)
     }
 
-    /// What the row has at the path.
-    pub fn read(&self, path: Trail, row: usize) -> Cell
-        ensures { result ≡ cell_at self.now path row }
+    /// The bounds of the structure.
+    pub fn shapes(&self, alloc: Global, name: usize) -> Result<Vec<Bounds>, AllocError>
+        ensures { IfOk result (λ v. v.items ≡ shapes self.now name) }
     {
-        match self.find(path, row) {
-            Some(number) => self.spots[number].cell,
-            None => BLANK,
+        let mut shapes = Vec::new(alloc);
+        for number in self.chains.of(chain_by(Sort::Shapes, name, 0)) {
+            if let Some(bounds) = bounds_at(self.fact(*number), name) {
+                shapes.push(bounds)?;
+            }
         }
+        Ok(shapes)
     }
 
-    /// Puts the cell into the spot of this number, which has this path and row.
-    fn set(&mut self, number: usize, path: Trail, row: usize, cell: Cell)
-        requires { find self.old path row ≡ Some number }
-        ensures { self.new ≡ put self.old path row cell }
+    /// Where the structure is a value.
+    pub fn named(&self, alloc: Global, name: usize) -> Result<Vec<Point>, AllocError>
+        ensures { IfOk result (λ v. v.items ≡ named self.now name) }
     {
-        self.spots[number] = Spot { path, row, cell };
+        let mut points = Vec::new(alloc);
+        for number in self.chains.of(chain_by(Sort::Named, name, 0)) {
+            if let Some(point) = named_at(self.fact(*number), name) {
+                points.push(point)?;
+            }
+        }
+        Ok(points)
     }
 
-    /// Adds a spot.
-    fn push(&mut self, path: Trail, row: usize, cell: Cell) -> Result<(), AllocError>
-        requires new { find self.old path row ≡ None }
-        requires inside { Inside (length self.old) path }
-        ensures { OnOk result (self.new ≡ put self.old path row cell) }
+    /// What is put into the cell.
+    pub fn puts(&self, alloc: Global, name: usize, index: i64) -> Result<Vec<RowValue>, AllocError>
+        ensures { IfOk result (λ v. v.items ≡ puts self.now name index) }
     {
-        let chain = bucket_of(path, row);
-        self.nexts.truncate(self.spots.len());
-        self.nexts.push(self.heads[chain])?;
-        self.spots.push(Spot { path, row, cell })?;
-        self.heads[chain] = self.spots.len();
-        Ok(())
+        let mut values = Vec::new(alloc);
+        for number in self.chains.of(chain_by(Sort::Puts, name, index)) {
+            if let Some(value) = put_at(self.fact(*number), name, index) {
+                values.push(value)?;
+            }
+        }
+        Ok(values)
+    }
+
+    /// The fetches that ask for the cell.
+    pub fn asks(&self, alloc: Global, name: usize, index: i64) -> Result<Vec<Point>, AllocError>
+        ensures { IfOk result (λ v. v.items ≡ asks self.now name index) }
+    {
+        let mut points = Vec::new(alloc);
+        for number in self.chains.of(chain_by(Sort::Asks, name, index)) {
+            if let Some(point) = ask_at(self.fact(*number), name, index) {
+                points.push(point)?;
+            }
+        }
+        Ok(points)
     }
 }
 
-/// So many zeros.
-fn zeros(alloc: Global, count: usize) -> Result<Vec<usize>, AllocError>
-    ensures { IfOk result (λ v. v.items ≡ replicate count 0) }
+/// Whether the fact is that the row is On at the path.
+fn is_on(fact: RowFact, path: Trail, row: usize) -> bool
+    ensures { result ≡ is_on path row fact }
 {
-    let zeros = vec![in alloc; 0; count]?;
-    Ok(zeros)
+    match fact {
+        RowFact::On {
+            path: there,
+            row: other,
+        } => same_trail(there, path) && other == row,
+        _ => false,
+    }
 }
 
-/// Whether the spot has this path and row.
-fn is_at(spot: Spot, path: Trail, row: usize) -> bool
-    ensures { result ≡ is_at spot path row }
+/// The value that the row Has at the path by the fact, if it is one of that.
+fn value_at(fact: RowFact, path: Trail, row: usize) -> Option<RowValue>
+    ensures { result ≡ value_by path row fact }
 {
-    same_trail(spot.path, path) && spot.row == row
+    match fact {
+        RowFact::Has {
+            path: there,
+            row: other,
+            value,
+        } if same_trail(there, path) && other == row => Some(value),
+        _ => None,
+    }
+}
+
+/// The bounds of the structure by the fact, if it is one of them.
+fn bounds_at(fact: RowFact, name: usize) -> Option<Bounds>
+    ensures { result ≡ bounds_by name fact }
+{
+    match fact {
+        RowFact::Shape {
+            name: other,
+            low,
+            high,
+        } if other == name => Some(Bounds { low, high }),
+        _ => None,
+    }
+}
+
+/// Where the structure is a value by the fact, if it is one of that.
+fn named_at(fact: RowFact, name: usize) -> Option<Point>
+    ensures { result ≡ named_by name fact }
+{
+    match fact {
+        RowFact::Has {
+            path,
+            row,
+            value: RowValue::Name(other),
+        } if other == name => Some(Point { path, row }),
+        _ => None,
+    }
+}
+
+/// The structure that the fact gives, if it gives one.
+fn name_of(fact: RowFact) -> Option<usize>
+    ensures { result ≡ name_of fact }
+{
+    match fact {
+        RowFact::Has {
+            value: RowValue::Name(name),
+            ..
+        } => Some(name),
+        _ => None,
+    }
+}
+
+/// What is put into the cell by the fact, if it is one of that.
+fn put_at(fact: RowFact, name: usize, index: i64) -> Option<RowValue>
+    ensures { result ≡ put_by name index fact }
+{
+    match fact {
+        RowFact::Put {
+            name: other,
+            index: there,
+            value,
+            ..
+        } if other == name && there == index => Some(value),
+        _ => None,
+    }
+}
+
+/// The fetch that asks for the cell by the fact, if it is one of that.
+fn ask_at(fact: RowFact, name: usize, index: i64) -> Option<Point>
+    ensures { result ≡ ask_by name index fact }
+{
+    match fact {
+        RowFact::Ask {
+            path,
+            row,
+            name: other,
+            index: there,
+        } if other == name && there == index => Some(Point { path, row }),
+        _ => None,
+    }
 }
 
 /// Whether the two paths are one.
-fn same_trail(a: Trail, b: Trail) -> bool
+pub fn same_trail(a: Trail, b: Trail) -> bool
     ensures { result ≡ same_trail a b }
 {
     match (a, b) {
@@ -240,13 +379,77 @@ fn same_trail(a: Trail, b: Trail) -> bool
     }
 }
 
-/// Whether the path is there, where there are so many spots.
-fn is_inside(count: usize, path: Trail) -> bool
-    ensures { result ≡ is_inside count path }
+/// Whether the two values are one.
+fn same_value(a: RowValue, b: RowValue) -> bool
+    ensures { result ≡ same_value a b }
 {
-    match path {
-        Trail::Outermost => true,
-        Trail::Below { spot, .. } => spot < count,
+    match (a, b) {
+        (RowValue::Int(m), RowValue::Int(n)) => m == n,
+        (RowValue::Bool(m), RowValue::Bool(n)) => m == n,
+        (RowValue::Name(m), RowValue::Name(n)) => m == n,
+        _ => false,
+    }
+}
+
+/// Whether the two facts are one.
+fn same_fact(a: RowFact, b: RowFact) -> bool
+    ensures { result ≡ same_fact a b }
+{
+    match (a, b) {
+        (RowFact::On { path, row }, _) => is_on(b, path, row),
+        (
+            RowFact::Has { path, row, value },
+            RowFact::Has {
+                path: there,
+                row: other,
+                value: last,
+            },
+        ) => same_trail(path, there) && row == other && same_value(value, last),
+        (
+            RowFact::Shape { name, low, high },
+            RowFact::Shape {
+                name: other,
+                low: first,
+                high: last,
+            },
+        ) => name == other && low == first && high == last,
+        (
+            RowFact::Put {
+                path,
+                row,
+                name,
+                index,
+                value,
+            },
+            RowFact::Put {
+                path: there,
+                row: other,
+                name: second,
+                index: next,
+                value: last,
+            },
+        ) => {
+            same_trail(path, there)
+                && row == other
+                && name == second
+                && index == next
+                && same_value(value, last)
+        }
+        (
+            RowFact::Ask {
+                path,
+                row,
+                name,
+                index,
+            },
+            RowFact::Ask {
+                path: there,
+                row: other,
+                name: second,
+                index: next,
+            },
+        ) => same_trail(path, there) && row == other && name == second && index == next,
+        _ => false,
     }
 }
 
@@ -263,7 +466,33 @@ pub fn next_of(path: Trail) -> Option<Trail>
     }
 }
 
-/// A number for the path, by which spots and queues are found.
+/// The path of the fact; of a Shape, the empty one.
+pub fn path_of(fact: RowFact) -> Trail
+    ensures { result ≡ path_of fact }
+{
+    match fact {
+        RowFact::On { path, .. }
+        | RowFact::Has { path, .. }
+        | RowFact::Put { path, .. }
+        | RowFact::Ask { path, .. } => path,
+        RowFact::Shape { .. } => Trail::Outermost,
+    }
+}
+
+/// The row of the fact; of a Shape, the first.
+pub fn row_of(fact: RowFact) -> usize
+    ensures { result ≡ row_of fact }
+{
+    match fact {
+        RowFact::On { row, .. }
+        | RowFact::Has { row, .. }
+        | RowFact::Put { row, .. }
+        | RowFact::Ask { row, .. } => row,
+        RowFact::Shape { .. } => 0,
+    }
+}
+
+/// A number for the path, by which facts and queues are found.
 fn mark_of(path: Trail) -> usize
     ensures mark { result ≡ mark_of path }
     ensures within { result < 60000000000 }
@@ -276,12 +505,55 @@ fn mark_of(path: Trail) -> usize
     }
 }
 
-/// The chain that the spot with this path and row hangs in.
-fn bucket_of(path: Trail, row: usize) -> usize
-    ensures chain { result ≡ bucket_of path row }
+/// The chain of facts by which a row is On, or Has values, at a path.
+fn chain_at(path: Trail, row: usize) -> usize
+    ensures chain { result ≡ chain_at path row }
     ensures within { result < 262144 }
 {
     (row % CHAINS + mark_of(path)) % CHAINS
+}
+
+/// The chain of facts of this sort about a structure, or a cell of it.
+fn chain_by(sort: Sort, name: usize, index: i64) -> usize
+    ensures chain { result ≡ chain_by sort name index }
+    ensures within { result < 262144 }
+{
+    (sort_mark(sort) + name % CHAINS * 40_503 + index_mark(index) * 162_013) % CHAINS
+}
+
+/// A number for the sort of facts.
+fn sort_mark(sort: Sort) -> usize
+    ensures mark { result ≡ sort_mark sort }
+    ensures within { result < 262144 }
+{
+    match sort {
+        Sort::Shapes => 65_537,
+        Sort::Named => 98_317,
+        Sort::Puts => 131_101,
+        Sort::Asks => 196_613,
+    }
+}
+
+/// A number for an index or a whole number.
+fn index_mark(index: i64) -> usize
+    ensures mark { result ≡ index_mark index }
+    ensures within { result < 262144 }
+{
+    (index.unsigned_abs() % CHAINS as u64) as usize
+}
+
+/// The chain in which the fact is looked up.
+fn chain_of(fact: RowFact) -> usize
+    ensures chain { result ≡ chain_of fact }
+    ensures within { result < 262144 }
+{
+    match fact {
+        RowFact::On { path, row } => chain_at(path, row),
+        RowFact::Has { path, row, .. } => chain_at(path, row),
+        RowFact::Shape { name, .. } => chain_by(Sort::Shapes, name, 0),
+        RowFact::Put { name, index, .. } => chain_by(Sort::Puts, name, index),
+        RowFact::Ask { name, index, .. } => chain_by(Sort::Asks, name, index),
+    }
 }
 
 /// The queue in which names wait for the binder with this path and row.
@@ -289,116 +561,177 @@ pub fn queue_of(path: Trail, row: usize) -> usize
     ensures queue { result ≡ queue_of path row }
     ensures within { result < 65536 }
 {
-    bucket_of(path, row) % QUEUES
+    chain_at(path, row) % QUEUES
 }
 
-/// Puts facts into the cells, and those among the news that were not there.
-pub fn learn_all(
-    cells: &mut Cells,
-    news: &mut Vec<RowFact>,
-    facts: &[RowFact],
-) -> Result<(), AllocError>
-    ensures cells { OnOk result (cells.new ≡ all_learnt cells.old facts.now) }
-    ensures news { OnOk result (news.new.items ≡ news.old.items ++ all_news cells.old facts.now) }
-{
-    for fact in facts {
-        if learn(cells, *fact)? {
-            news.push(*fact)?;
-        }
+/// All facts that are found, each once.
+#[derive(Drop)]
+pub struct Facts {
+    items: Vec<RowFact>,
+    /// For each chain the numbers of its facts.
+    chains: Edges,
+}
+
+impl Model for Facts {
+    ghost use Rattle.std.specs.Prelude.{List};
+    ghost use Rattle.id_meaning.specs.declared.cells.RowFact.{RowFact};
+    ghost use Rattle.id_meaning.specs.Cells.{AreHeld};
+
+    ghost Value = { List RowFact };
+
+    ghost view = { λ f. f.items.items };
+
+    ghost invariant = { λ f. AreHeld f.items.items f.chains };
+}
+
+impl Facts {
+    ghost use Rattle.std.specs.Prelude.{◌≡◌, [], length, true, OnOk, IfOk};
+    ghost use Rattle.id_meaning.specs.Cells.{AreBefore, all_learnt, is_among, learnt};
+
+    /// No facts.
+    pub fn new(alloc: Global) -> Result<Facts, AllocError>
+        ensures { IfOk result (λ f. f ≡ []) }
+    {
+        Ok(Facts {
+            items: Vec::new(alloc),
+            chains: Edges::new(alloc, CHAINS)?,
+        })
     }
-    Ok(())
-}
 
-/// Puts facts into the cells.
-pub fn learn_again(cells: &mut Cells, facts: &[RowFact]) -> Result<(), AllocError>
-    ensures { OnOk result (cells.new ≡ all_learnt cells.old facts.now) }
-{
-    for fact in facts {
-        learn(cells, *fact)?;
+    /// The facts, in the order in which they came.
+    pub fn as_slice(&self) -> &[RowFact]
+        ensures { result.now ≡ self.now }
+    {
+        self.items.as_slice()
     }
-    Ok(())
-}
 
-/// Puts a fact into the cells, if its path is there and the row has none of its kind; tells whether it was not there.
-fn learn(cells: &mut Cells, fact: RowFact) -> Result<bool, AllocError>
-    ensures cells { OnOk result (cells.new ≡ learnt cells.old fact) }
-    ensures fresh { IfOk result (λ b. b ≡ is_fresh cells.old fact) }
-{
-    let path = path_of(fact);
-    if !is_inside(cells.len(), path) {
-        return Ok(false);
+    /// How many facts there are.
+    pub fn len(&self) -> usize
+        ensures { result ≡ length self.now }
+    {
+        self.items.len()
     }
-    learn_there(cells, path, row_of(fact), fact)
-}
 
-/// Puts a fact into the cells at its path and row, if there is none of its kind; tells whether it was not there.
-fn learn_there(
-    cells: &mut Cells,
-    path: Trail,
-    row: usize,
-    fact: RowFact,
-) -> Result<bool, AllocError>
-    requires path { path ≡ path_of fact }
-    requires row { row ≡ row_of fact }
-    requires inside { Inside (length cells.old) path }
-    ensures cells { OnOk result (cells.new ≡ learnt cells.old fact) }
-    ensures fresh { IfOk result (λ b. b ≡ is_fresh cells.old fact) }
-{
-    match cells.find(path, row) {
-        Some(number) => {
-            let cell = cells.read(path, row);
-            if is_taken(cell, fact) {
-                return Ok(false);
+    /// The fact of this number; past the last one, that the first row is On at the empty path.
+    pub fn fact(&self, number: usize) -> RowFact
+        ensures is { result ≡ fact_at self.now number }
+        ensures before { is_path_inside number (path_of result) ≡ true }
+        ensures kept { AreBefore self.now }
+    {
+        if number < self.items.len() {
+            self.items[number]
+        } else {
+            RowFact::On {
+                path: Trail::Outermost,
+                row: 0,
             }
-            cells.set(number, path, row, with_fact(cell, fact));
-            Ok(true)
-        }
-        None => {
-            cells.push(path, row, with_fact(BLANK, fact))?;
-            Ok(true)
         }
     }
-}
 
-fn path_of(fact: RowFact) -> Trail
-    ensures { result ≡ path_of fact }
-{
-    match fact {
-        RowFact::On { path, .. } => path,
-        RowFact::Has { path, .. } => path,
+    /// Adds those of the facts that are not there.
+    pub fn learn_all(&mut self, facts: &[RowFact]) -> Result<(), AllocError>
+        ensures { OnOk result (self.new ≡ all_learnt self.old facts.now) }
+    {
+        for fact in facts {
+            self.learn(*fact)?;
+        }
+        Ok(())
+    }
+
+    /// Adds the fact, if it is not there, and all is there that it speaks of.
+    fn learn(&mut self, fact: RowFact) -> Result<(), AllocError>
+        ensures { OnOk result (self.new ≡ learnt self.old fact) }
+    {
+        if is_inside(self.items.len(), fact) && !self.has(fact) {
+            self.chains.add(member_chain(fact), self.items.len())?;
+            self.items.push(fact)?;
+        }
+        Ok(())
+    }
+
+    /// Whether the fact is there.
+    fn has(&self, fact: RowFact) -> bool
+        ensures { result ≡ is_among fact self.now }
+    {
+        for number in self.chains.of(member_chain(fact)) {
+            if *number < self.items.len() && same_fact(self.items[*number], fact) {
+                return true;
+            }
+        }
+        false
     }
 }
 
-fn row_of(fact: RowFact) -> usize
-    ensures { result ≡ row_of fact }
+/// Whether the path and the structures of the fact are there, where there are so many facts.
+fn is_inside(count: usize, fact: RowFact) -> bool
+    ensures { result ≡ is_inside count fact }
 {
     match fact {
-        RowFact::On { row, .. } => row,
-        RowFact::Has { row, .. } => row,
+        RowFact::On { path, .. } => is_path_inside(count, path),
+        RowFact::Has { path, value, .. } => {
+            is_path_inside(count, path) && is_value_inside(count, value)
+        }
+        RowFact::Shape { name, .. } => name < count,
+        RowFact::Put {
+            path,
+            name,
+            value,
+            ..
+        } => is_path_inside(count, path) && name < count && is_value_inside(count, value),
+        RowFact::Ask { path, name, .. } => is_path_inside(count, path) && name < count,
     }
 }
 
-/// Whether the cell has a fact of this kind.
-fn is_taken(cell: Cell, fact: RowFact) -> bool
-    ensures { result ≡ is_taken cell fact }
+/// Whether the path is there, where there are so many facts.
+fn is_path_inside(count: usize, path: Trail) -> bool
+    ensures { result ≡ is_path_inside count path }
 {
-    match fact {
-        RowFact::On { .. } => cell.on,
-        RowFact::Has { .. } => cell.has.is_some(),
+    match path {
+        Trail::Outermost => true,
+        Trail::Below { spot, .. } => spot < count,
     }
 }
 
-fn with_fact(cell: Cell, fact: RowFact) -> Cell
-    ensures { result ≡ with_fact cell fact }
+/// Whether the value is there, where there are so many facts.
+fn is_value_inside(count: usize, value: RowValue) -> bool
+    ensures { result ≡ is_value_inside count value }
+{
+    match value {
+        RowValue::Name(name) => name < count,
+        _ => true,
+    }
+}
+
+/// The chain in which the fact is among all.
+fn member_chain(fact: RowFact) -> usize
+    ensures chain { result ≡ member_chain fact }
+    ensures within { result < 262144 }
 {
     match fact {
-        RowFact::On { .. } => Cell {
-            on: true,
-            has: cell.has,
-        },
-        RowFact::Has { value, .. } => Cell {
-            on: cell.on,
-            has: Some(value),
-        },
+        RowFact::On { .. } => chain_of(fact),
+        RowFact::Has { value, .. } => (chain_of(fact) + value_mark(value) * 77_041) % CHAINS,
+        RowFact::Shape { low, high, .. } => {
+            (chain_of(fact) + index_mark(low) * 77_041 + index_mark(high) * 29_327) % CHAINS
+        }
+        RowFact::Put {
+            path,
+            row,
+            value,
+            ..
+        } => { (chain_of(fact) + chain_at(path, row) * 3 + value_mark(value) * 77_041) % CHAINS }
+        RowFact::Ask { path, row, .. } => (chain_of(fact) + chain_at(path, row) * 3) % CHAINS,
+    }
+}
+
+/// A number for a value.
+fn value_mark(value: RowValue) -> usize
+    ensures mark { result ≡ value_mark value }
+    ensures within { result < 262147 }
+{
+    match value {
+        RowValue::Int(number) => index_mark(number) + 2,
+        RowValue::Bool(true) => 1,
+        RowValue::Bool(false) => 0,
+        RowValue::Name(name) => name % CHAINS,
     }
 }

@@ -1,7 +1,7 @@
 //! Edges from row to row.
 
-ghost use Rattle.std.specs.Prelude.{◌≡◌, [], ◌∷◌, IfOk, OnOk};
-ghost use Rattle.id_meaning.specs.Links.{AreNone, Gains, targets, width};
+ghost use Rattle.std.specs.Prelude.{◌≡◌, ℕ, [], ◌∷◌, IfOk, OnOk};
+ghost use Rattle.id_meaning.specs.Links.{AreNone, Gains, Leads, targets, width};
 
 use std::alloc::{AllocError, Global};
 
@@ -23,9 +23,11 @@ impl Edges {
         Ok(Edges { rows })
     }
 
-    /// Adds an edge; past the rows, nothing.
+    /// Adds an edge; past the rows, nothing. Those that are there stay, also where a growth is refused.
     pub fn add(&mut self, from: usize, to: usize) -> Result<(), AllocError>
-        ensures { OnOk result (Gains self.old self.new from (to ∷ [])) }
+        ensures gains { OnOk result (Gains self.old self.new from (to ∷ [])) }
+        ensures wide { width self.new ≡ width self.old }
+        ensures kept { (row there : ℕ) → Leads self.old row there → Leads self.new row there }
     {
         if from < self.rows.len() {
             self.rows[from].push(to)?;

@@ -1,19 +1,21 @@
 //! What follows by one rule, row by row (docs/MEANING.md, "Rules").
 
-ghost use Rattle.std.specs.Prelude.{◌≡◌, ◌++◌, slice_get, IfOk, OnOk};
-ghost use Rattle.id_meaning.specs.Cells.{all_woken, arm_of, binary_of, chosen, constant_of, effects, exit_at};
-ghost use Rattle.id_meaning.specs.Cells.{first_facts, gain_at, gained, gains, given, given_at, given_of, input_facts};
-ghost use Rattle.id_meaning.specs.Cells.{ons, seen, seen_at, unary_of, value_fact, when};
-ghost use Rattle.id_meaning.specs.Links.{some_row};
-ghost use Rattle.id_meaning.specs.Sources.{main_body, value_of};
+ghost use Rattle.std.specs.Prelude.{◌≡◌, [], ◌∷◌, ◌++◌, slice_get, IfOk, OnOk};
+ghost use Rattle.id_meaning.specs.declared.cells.RowFact.TheVariants.{Has};
+ghost use Rattle.id_meaning.specs.Effects.{all_woken, arm_by, arms, binaries, binary_by, body_in, callee_of, chosen};
+ghost use Rattle.id_meaning.specs.Effects.{constant_of, effects, exit_at, exit_by, first_facts};
+ghost use Rattle.id_meaning.specs.Effects.{from_found, from_on, gain, gains};
+ghost use Rattle.id_meaning.specs.Effects.{given, gives, haves, input_fact, input_facts, is_end, is_row, ons, reached};
+ghost use Rattle.id_meaning.specs.Effects.{all_rights, rights_of, row_value, seen, unaries, unary_by};
+ghost use Rattle.id_meaning.specs.Links.{arm_of, some_row};
 
-use crate::SourceValue;
-use crate::calls::{add_call, add_passes, entered, returned};
-use crate::cells::{Cells, RowFact, Trail, queue_of};
+use crate::calls::{add_call, add_pass, body_called};
+use crate::cells::{Cells, Point, RowFact, RowValue, Trail, queue_of};
 use crate::links::{Links, beyond, far};
-use crate::loops::{add_loop, add_start, add_woken, iteration_of, left};
+use crate::loops::{add_loop, add_start, add_woken};
 use crate::params::{main_body, main_params, node_of};
 use crate::queues::{Queues, Wait};
+use crate::structures::{add_array, add_asked, add_fetch, add_put, add_store};
 use id_check::Checked;
 use id_parts::Node;
 use id_value::{BinaryOp, Constant, Outcome, UnaryOp, binary_result, unary_result};
@@ -23,7 +25,7 @@ use std::alloc::{AllocError, Global};
 pub fn first_facts(
     alloc: Global,
     checked: &Checked,
-    inputs: &[SourceValue],
+    inputs: &[Constant],
 ) -> Result<Vec<RowFact>, AllocError>
     ensures { IfOk result (λ v. v.items ≡ first_facts checked.now inputs.now) }
 {
@@ -41,28 +43,43 @@ pub fn first_facts(
 fn add_inputs(
     facts: &mut Vec<RowFact>,
     params: &[usize],
-    inputs: &[SourceValue],
+    inputs: &[Constant],
 ) -> Result<(), AllocError>
     ensures { OnOk result (facts.new.items ≡ facts.old.items ++ input_facts 0 params.now inputs.now) }
 {
     for (number, row) in params.iter().enumerate() {
-        add_value(facts, Trail::Outermost, *row, input(inputs, number))?;
+        add_input(facts, *row, input(inputs, number))?;
     }
     Ok(())
 }
 
+/// Adds the fact that the parameter at the row Has its input, if there is one.
+fn add_input(
+    found: &mut Vec<RowFact>,
+    row: usize,
+    input: Option<Constant>,
+) -> Result<(), AllocError>
+    ensures { OnOk result (found.new.items ≡ found.old.items ++ input_fact row input) }
+{
+    match input {
+        Some(constant) => add_has(found, Trail::Outermost, row, row_value(constant)),
+        None => Ok(()),
+    }
+}
+
 /// The input of this number.
-fn input(inputs: &[SourceValue], number: usize) -> Option<SourceValue>
+fn input(inputs: &[Constant], number: usize) -> Option<Constant>
     ensures { result ≡ slice_get inputs.now number }
 {
     match inputs.get(number) {
-        Some(value) => Some(*value),
+        Some(constant) => Some(*constant),
         None => None,
     }
 }
 
 /// Adds the facts that follow from this one, with others that the cells have, where this waits.
 pub fn add_effects(
+    alloc: Global,
     found: &mut Vec<RowFact>,
     checked: &Checked,
     links: &Links,
@@ -70,27 +87,62 @@ pub fn add_effects(
     cells: &Cells,
     fact: RowFact,
 ) -> Result<(), AllocError>
-    ensures { OnOk result
-        (found.new.items ≡ found.old.items ++ effects checked.now links.now waits.now cells.now fact) }
+    ensures { OnOk result (found.new.items ≡ found.old.items
+        ++ effects checked.now links.now waits.now cells.now fact) }
 {
     match fact {
         RowFact::On { path, row } => {
             add_ons(found, path, links.turns.of(row))?;
-            add_given(found, checked, cells, path, row)?;
-            add_call(found, checked, links, cells, path, row)?;
-            add_start(found, checked, links, cells, path, row)
+            add_given(alloc, found, checked, cells, fact, path, row)?;
+            add_call(alloc, found, checked, links, cells, fact, path, row)?;
+            add_start(alloc, found, checked, links, cells, fact, path, row)
         }
-        RowFact::Has { path, row, .. } => {
-            add_gains(found, checked, links, cells, path, links.reads.of(row))?;
-            add_all_woken(found, checked, cells, waits.of(queue_of(path, row)))?;
-            add_exit(found, checked, cells, path, row)
+        RowFact::Has { path, row, value } => {
+            add_gains(
+                alloc,
+                found,
+                checked,
+                links,
+                cells,
+                path,
+                row,
+                value,
+                links.reads.of(row),
+            )?;
+            add_all_woken(
+                found,
+                checked,
+                cells,
+                path,
+                row,
+                value,
+                waits.of(queue_of(path, row)),
+            )?;
+            add_exit(found, checked, cells, path, row, value)
         }
+        RowFact::Shape { name, .. } => {
+            let points = cells.named(alloc, name)?;
+            add_reached(alloc, found, checked, links, cells, name, points.as_slice())
+        }
+        RowFact::Put {
+            name,
+            index,
+            value,
+            ..
+        } => add_put(alloc, found, cells, name, index, value),
+        RowFact::Ask {
+            path,
+            row,
+            name,
+            index,
+        } => add_asked(alloc, found, cells, path, row, name, index),
     }
 }
 
 /// Adds that these rows are On at the path.
 pub fn add_ons(found: &mut Vec<RowFact>, path: Trail, rows: &[usize]) -> Result<(), AllocError>
-    ensures { OnOk result (found.new.items ≡ found.old.items ++ ons path rows.now) }
+    ensures { OnOk result (found.new.items ≡ found.old.items
+        ++ ons path rows.now) }
 {
     for row in rows {
         found.push(RowFact::On { path, row: *row })?;
@@ -98,103 +150,10 @@ pub fn add_ons(found: &mut Vec<RowFact>, path: Trail, rows: &[usize]) -> Result<
     Ok(())
 }
 
-/// Adds the facts that come at these rows at the path.
-fn add_gains(
-    found: &mut Vec<RowFact>,
-    checked: &Checked,
-    links: &Links,
-    cells: &Cells,
-    path: Trail,
-    rows: &[usize],
-) -> Result<(), AllocError>
-    ensures { OnOk result
-        (found.new.items ≡ found.old.items ++ gains checked.now links.now cells.now path rows.now) }
-{
-    for row in rows {
-        add_gain(found, checked, links, cells, path, *row)?;
-    }
-    Ok(())
-}
-
-/// Adds the facts that come where the binder has a value that these wait for.
-fn add_all_woken(
-    found: &mut Vec<RowFact>,
-    checked: &Checked,
-    cells: &Cells,
-    waits: &[Wait],
-) -> Result<(), AllocError>
-    ensures { OnOk result (found.new.items ≡ found.old.items ++ all_woken checked.now cells.now waits.now) }
-{
-    for wait in waits {
-        add_woken(found, checked, cells, *wait)?;
-    }
-    Ok(())
-}
-
-/// Adds the facts that come by the call or the loop that the path begins with, where the row is its callee's body or
-/// its last expression.
-fn add_exit(
-    found: &mut Vec<RowFact>,
-    checked: &Checked,
-    cells: &Cells,
-    path: Trail,
-    row: usize,
-) -> Result<(), AllocError>
-    ensures { OnOk result (found.new.items ≡ found.old.items ++ exit_at checked.now cells.now path row) }
-{
-    if let Trail::Below { spot, .. } = path {
-        let spot = cells.spot(spot);
-        let call = entered(checked, cells, spot.path, spot.row);
-        add_value(found, spot.path, spot.row, returned(cells, call, row))?;
-        let iteration = iteration_of(checked, cells, path);
-        add_value(
-            found,
-            spot.path,
-            spot.row,
-            left(cells, path, iteration, row),
-        )?;
-    }
-    Ok(())
-}
-
-/// Adds the facts that come at the row at the path, by the call whose argument it is, or by the loop whose switches or
-/// `next` it is.
-fn add_gain(
-    found: &mut Vec<RowFact>,
-    checked: &Checked,
-    links: &Links,
-    cells: &Cells,
-    path: Trail,
-    row: usize,
-) -> Result<(), AllocError>
-    ensures { OnOk result
-        (found.new.items ≡ found.old.items ++ gain_at checked.now links.now cells.now path row) }
-{
-    add_given(found, checked, cells, path, row)?;
-    add_passes(found, checked, links, cells, path, node_of(checked, row))?;
-    add_loop(found, checked, links, cells, path, row)
-}
-
-/// Adds the facts that come at the row at the path.
-pub fn add_given(
-    found: &mut Vec<RowFact>,
-    checked: &Checked,
-    cells: &Cells,
-    path: Trail,
-    row: usize,
-) -> Result<(), AllocError>
-    ensures { OnOk result (found.new.items ≡ found.old.items ++ given_at checked.now cells.now path row) }
-{
-    let node = node_of(checked, row);
-    let on = cells.read(path, row).on;
-    let beyond = seen_at(checked, cells, path, row, node);
-    add_arm(found, path, chosen(on, beyond, node))?;
-    add_value(found, path, row, gained(cells, path, on, beyond, node))
-}
-
 /// Adds that the row is On at the path, if there is one.
-pub fn add_arm(found: &mut Vec<RowFact>, path: Trail, row: Option<usize>) -> Result<(), AllocError>
-    ensures { OnOk result (found.new.items ≡ found.old.items ++ ons path (some_row row)) }
+pub fn add_on(found: &mut Vec<RowFact>, path: Trail, row: Option<usize>) -> Result<(), AllocError>
+    ensures { OnOk result (found.new.items ≡ found.old.items
+        ++ ons path (some_row row)) }
 {
     if let Some(row) = row {
         found.push(RowFact::On { path, row })?;
@@ -202,154 +161,567 @@ pub fn add_arm(found: &mut Vec<RowFact>, path: Trail, row: Option<usize>) -> Res
     Ok(())
 }
 
-/// Adds that the row has the value at the path, if there is one.
-pub fn add_value(
+/// Adds that the row Has the value at the path.
+pub fn add_has(
     found: &mut Vec<RowFact>,
     path: Trail,
     row: usize,
-    value: Option<SourceValue>,
+    value: RowValue,
 ) -> Result<(), AllocError>
-    ensures { OnOk result (found.new.items ≡ found.old.items ++ value_fact path row value) }
+    ensures { OnOk result (found.new.items ≡ found.old.items
+        ++ Has path row value ∷ []) }
 {
-    if let Some(value) = value {
-        found.push(RowFact::Has { path, row, value })?;
+    found.push(RowFact::Has { path, row, value })?;
+    Ok(())
+}
+
+/// Adds that the row Has these values at the path.
+pub fn add_values(
+    found: &mut Vec<RowFact>,
+    path: Trail,
+    row: usize,
+    values: &[RowValue],
+) -> Result<(), AllocError>
+    ensures { OnOk result (found.new.items ≡ found.old.items
+        ++ haves path row values.now) }
+{
+    for value in values {
+        add_has(found, path, row, *value)?;
     }
     Ok(())
 }
 
-/// The arm that a row of this node turns On, which may be On and may see this value beyond its parts.
-fn chosen(on: bool, beyond: Option<SourceValue>, node: Node) -> Option<usize>
-    ensures { result ≡ chosen on beyond node }
-{
-    match node {
-        Node::If {
-            then,
-            otherwise,
-            ..
-        } if on => arm_of(then, otherwise, beyond),
-        _ => None,
-    }
-}
-
-/// The arm that this value of the predicate turns On.
-fn arm_of(then: usize, otherwise: usize, test: Option<SourceValue>) -> Option<usize>
-    ensures { result ≡ arm_of then otherwise test }
-{
-    match test {
-        Some(SourceValue::Bool(true)) => Some(then),
-        Some(SourceValue::Bool(false)) => Some(otherwise),
-        _ => None,
-    }
-}
-
-/// What a row of this node gains at the path, which may be On and may see this value beyond its parts.
-fn gained(
+/// Adds the facts that come where the row Has the value, at these rows, which read it.
+fn add_gains(
+    alloc: Global,
+    found: &mut Vec<RowFact>,
+    checked: &Checked,
+    links: &Links,
     cells: &Cells,
     path: Trail,
-    on: bool,
-    beyond: Option<SourceValue>,
-    node: Node,
-) -> Option<SourceValue>
-    ensures { result ≡ gained cells.now path on beyond node }
+    row: usize,
+    value: RowValue,
+    rows: &[usize],
+) -> Result<(), AllocError>
+    ensures { OnOk result (found.new.items ≡ found.old.items
+        ++ gains checked.now links.now cells.now path row value rows.now) }
 {
-    match node {
-        Node::Literal { value } => when(on, Some(value_of(value))),
-        Node::Name { .. } => when(on, beyond),
-        Node::Unary { op, operand } => { when(on, gain_unary(op, cells.read(path, operand).has)) }
-        Node::Binary { op, left, right } => {
-            when(
-                on,
-                gain_binary(op, cells.read(path, left).has, cells.read(path, right).has),
-            )
-        }
-        Node::If { .. } => seen(cells, path, chosen(on, beyond, node)),
-        Node::Block { body } => when(on, cells.read(path, body).has),
-        Node::Binding { value, .. } => cells.read(path, value).has,
-        _ => None,
+    for reader in rows {
+        add_gain(
+            alloc, found, checked, links, cells, path, row, value, *reader,
+        )?;
     }
+    Ok(())
 }
 
-/// The value, where it is wanted.
-fn when(wanted: bool, value: Option<SourceValue>) -> Option<SourceValue>
-    ensures { result ≡ when wanted value }
+/// Adds the facts that come where the row Has the value, at a row that reads it, and at the calls whose argument and
+/// the loops whose predicate or `next` this is.
+fn add_gain(
+    alloc: Global,
+    found: &mut Vec<RowFact>,
+    checked: &Checked,
+    links: &Links,
+    cells: &Cells,
+    path: Trail,
+    row: usize,
+    value: RowValue,
+    reader: usize,
+) -> Result<(), AllocError>
+    ensures { OnOk result (found.new.items ≡ found.old.items
+        ++ gain checked.now links.now cells.now path row value reader) }
 {
-    if wanted { value } else { None }
+    let followed = RowFact::Has { path, row, value };
+    add_given(alloc, found, checked, cells, followed, path, reader)?;
+    let node = node_of(checked, reader);
+    add_pass(found, checked, links, cells, path, row, value, node)?;
+    add_loop(found, checked, links, cells, path, row, value, reader)
 }
 
-/// What the row of this node sees beyond its parts, from the path.
-fn seen_at(
+/// Adds the facts that come where the structure, which has new bounds, is a value.
+fn add_reached(
+    alloc: Global,
+    found: &mut Vec<RowFact>,
+    checked: &Checked,
+    links: &Links,
+    cells: &Cells,
+    name: usize,
+    points: &[Point],
+) -> Result<(), AllocError>
+    ensures { OnOk result (found.new.items ≡ found.old.items
+        ++ reached checked.now links.now cells.now name points.now) }
+{
+    for point in points {
+        add_gains(
+            alloc,
+            found,
+            checked,
+            links,
+            cells,
+            point.path,
+            point.row,
+            RowValue::Name(name),
+            links.reads.of(point.row),
+        )?;
+    }
+    Ok(())
+}
+
+/// Adds the facts that come where the binder has the value that these wait for.
+fn add_all_woken(
+    found: &mut Vec<RowFact>,
     checked: &Checked,
     cells: &Cells,
     path: Trail,
     row: usize,
-    node: Node,
-) -> Option<SourceValue>
-    ensures { result ≡ seen_at checked.now cells.now path row node }
+    value: RowValue,
+    waits: &[Wait],
+) -> Result<(), AllocError>
+    ensures { OnOk result (found.new.items ≡ found.old.items
+        ++ all_woken checked.now cells.now path row value waits.now) }
 {
-    let path = cells.out_of(path, far(checked, row, node));
-    seen(cells, path, beyond(checked, row, node))
+    for wait in waits {
+        add_woken(found, checked, cells, path, row, value, *wait)?;
+    }
+    Ok(())
 }
 
-/// What the row has at the path, if there is one.
-pub fn seen(cells: &Cells, path: Trail, row: Option<usize>) -> Option<SourceValue>
-    ensures { result ≡ seen cells.now path row }
+/// Adds the fact that comes by the call or the loop that the path begins with, where the row is its callee's body or
+/// its last expression.
+fn add_exit(
+    found: &mut Vec<RowFact>,
+    checked: &Checked,
+    cells: &Cells,
+    path: Trail,
+    row: usize,
+    value: RowValue,
+) -> Result<(), AllocError>
+    ensures { OnOk result (found.new.items ≡ found.old.items
+        ++ exit_at checked.now cells.now path row value) }
+{
+    match path {
+        Trail::Below { spot, number } => {
+            add_exit_by(found, checked, number, row, value, cells.fact(spot))
+        }
+        Trail::Outermost => Ok(()),
+    }
+}
+
+/// Adds the fact that comes by the call or the loop that is On by this one, where the row is its end at the path of
+/// this number.
+fn add_exit_by(
+    found: &mut Vec<RowFact>,
+    checked: &Checked,
+    number: u64,
+    row: usize,
+    value: RowValue,
+    began: RowFact,
+) -> Result<(), AllocError>
+    ensures { OnOk result (found.new.items ≡ found.old.items
+        ++ exit_by checked.now number row value began) }
+{
+    match began {
+        RowFact::On { path, row: head } if is_end(checked, node_of(checked, head), number, row) => {
+            add_has(found, path, head, value)
+        }
+        _ => Ok(()),
+    }
+}
+
+/// Whether the row is the body of the procedure, or the last expression, of the call or loop of this node, whose path
+/// has this number: 0 at a call.
+fn is_end(checked: &Checked, node: Node, number: u64, row: usize) -> bool
+    ensures { result ≡ is_end checked.now node number row }
+{
+    match node {
+        Node::Call { enter, .. } => number == 0 && is_row(body_called(checked, enter), row),
+        Node::Loop { last, .. } => last == row,
+        _ => false,
+    }
+}
+
+/// Whether it is this row.
+fn is_row(one: Option<usize>, row: usize) -> bool
+    ensures { result ≡ is_row one row }
+{
+    match one {
+        Some(one) => one == row,
+        None => false,
+    }
+}
+
+/// Adds the facts that come at the row at the path, where this fact is followed.
+pub fn add_given(
+    alloc: Global,
+    found: &mut Vec<RowFact>,
+    checked: &Checked,
+    cells: &Cells,
+    followed: RowFact,
+    path: Trail,
+    row: usize,
+) -> Result<(), AllocError>
+    ensures { OnOk result (found.new.items ≡ found.old.items
+        ++ given checked.now cells.now followed path row) }
+{
+    match node_of(checked, row) {
+        Node::Binding { value, .. } => {
+            let values = cells.values(alloc, followed, path, value)?;
+            add_values(found, path, row, values.as_slice())
+        }
+        node => {
+            add_found(
+                alloc,
+                found,
+                checked,
+                cells,
+                followed,
+                path,
+                row,
+                node,
+                cells.find(path, row),
+            )
+        }
+    }
+}
+
+/// Adds the facts that come at the row of this node at the path, if it is On, by the fact of this number.
+fn add_found(
+    alloc: Global,
+    found: &mut Vec<RowFact>,
+    checked: &Checked,
+    cells: &Cells,
+    followed: RowFact,
+    path: Trail,
+    row: usize,
+    node: Node,
+    spot: Option<usize>,
+) -> Result<(), AllocError>
+    ensures { OnOk result (found.new.items ≡ found.old.items
+        ++ from_found checked.now cells.now followed path row node spot) }
+{
+    match spot {
+        Some(spot) => {
+            add_from_on(
+                alloc, found, checked, cells, followed, path, row, spot, node,
+            )
+        }
+        None => Ok(()),
+    }
+}
+
+/// Adds the facts that come at the row of this node at the path, which is On by the fact of number `spot`.
+fn add_from_on(
+    alloc: Global,
+    found: &mut Vec<RowFact>,
+    checked: &Checked,
+    cells: &Cells,
+    followed: RowFact,
+    path: Trail,
+    row: usize,
+    spot: usize,
+    node: Node,
+) -> Result<(), AllocError>
+    ensures { OnOk result (found.new.items ≡ found.old.items
+        ++ from_on checked.now cells.now followed path row spot node) }
+{
+    match node {
+        Node::Literal { value } => add_has(found, path, row, row_value(value)),
+        Node::Name { .. } => {
+            let outer = cells.out_of(path, far(checked, row, node));
+            let values = seen(alloc, cells, followed, outer, beyond(checked, row, node))?;
+            add_values(found, path, row, values.as_slice())
+        }
+        Node::Unary { op, operand } => {
+            let operands = cells.values(alloc, followed, path, operand)?;
+            add_unary(found, path, row, op, operands.as_slice())
+        }
+        Node::Binary { op, left, right } => {
+            let lefts = cells.values(alloc, followed, path, left)?;
+            let rights = cells.values(alloc, followed, path, right)?;
+            add_binary(found, path, row, op, lefts.as_slice(), rights.as_slice())
+        }
+        Node::If {
+            then,
+            otherwise,
+            ..
+        } => {
+            let tests = seen(alloc, cells, followed, path, beyond(checked, row, node))?;
+            add_arms(
+                alloc,
+                found,
+                cells,
+                followed,
+                path,
+                row,
+                then,
+                otherwise,
+                tests.as_slice(),
+            )
+        }
+        Node::Block { body } => {
+            let values = cells.values(alloc, followed, path, body)?;
+            add_values(found, path, row, values.as_slice())
+        }
+        Node::Array { low, high } => {
+            let lows = cells.values(alloc, followed, path, low)?;
+            let highs = cells.values(alloc, followed, path, high)?;
+            add_array(found, path, row, spot, lows.as_slice(), highs.as_slice())
+        }
+        Node::Fetch { target, index } => {
+            let targets = cells.values(alloc, followed, path, target)?;
+            let indices = cells.values(alloc, followed, path, index)?;
+            add_fetch(
+                alloc,
+                found,
+                cells,
+                path,
+                row,
+                targets.as_slice(),
+                indices.as_slice(),
+            )
+        }
+        Node::Store { address, value } => {
+            add_store(
+                alloc,
+                found,
+                cells,
+                followed,
+                path,
+                row,
+                node_of(checked, address),
+                value,
+            )
+        }
+        _ => Ok(()),
+    }
+}
+
+/// What the row Has at the path, if there is one.
+pub fn seen(
+    alloc: Global,
+    cells: &Cells,
+    followed: RowFact,
+    path: Trail,
+    row: Option<usize>,
+) -> Result<Vec<RowValue>, AllocError>
+    ensures { IfOk result (λ v. v.items ≡ seen cells.now followed path row) }
 {
     match row {
-        Some(row) => cells.read(path, row).has,
-        None => None,
+        Some(row) => cells.values(alloc, followed, path, row),
+        None => Ok(Vec::new(alloc)),
     }
 }
 
-fn gain_unary(op: UnaryOp, operand: Option<SourceValue>) -> Option<SourceValue>
-    ensures { result ≡ unary_of op operand }
+/// Adds what the operator gives of these operands.
+fn add_unary(
+    found: &mut Vec<RowFact>,
+    path: Trail,
+    row: usize,
+    op: UnaryOp,
+    operands: &[RowValue],
+) -> Result<(), AllocError>
+    ensures { OnOk result (found.new.items ≡ found.old.items
+        ++ unaries path row op operands.now) }
+{
+    for operand in operands {
+        add_unary_by(found, path, row, op, constant_of(*operand))?;
+    }
+    Ok(())
+}
+
+/// Adds what the operator gives of this operand, if it is a constant.
+fn add_unary_by(
+    found: &mut Vec<RowFact>,
+    path: Trail,
+    row: usize,
+    op: UnaryOp,
+    operand: Option<Constant>,
+) -> Result<(), AllocError>
+    ensures { OnOk result (found.new.items ≡ found.old.items
+        ++ unary_by path row op operand) }
 {
     match operand {
-        Some(operand) => given(unary_result(op, constant_of(operand))),
-        None => None,
+        Some(operand) => add_given_value(found, path, row, unary_result(op, operand)),
+        None => Ok(()),
     }
 }
 
-fn gain_binary(
+/// Adds what the operator gives of these left operands with these right ones.
+fn add_binary(
+    found: &mut Vec<RowFact>,
+    path: Trail,
+    row: usize,
     op: BinaryOp,
-    left: Option<SourceValue>,
-    right: Option<SourceValue>,
-) -> Option<SourceValue>
-    ensures { result ≡ binary_of op left right }
+    lefts: &[RowValue],
+    rights: &[RowValue],
+) -> Result<(), AllocError>
+    ensures { OnOk result (found.new.items ≡ found.old.items
+        ++ binaries path row op lefts.now rights.now) }
 {
-    match (left, right) {
-        (Some(left), Some(right)) => {
-            given(binary_result(op, constant_of(left), constant_of(right)))
-        }
-        _ => None,
+    for left in lefts {
+        add_rights_of(found, path, row, op, constant_of(*left), rights)?;
+    }
+    Ok(())
+}
+
+/// Adds what the operator gives of this left operand, if it is a constant, with these right ones.
+fn add_rights_of(
+    found: &mut Vec<RowFact>,
+    path: Trail,
+    row: usize,
+    op: BinaryOp,
+    left: Option<Constant>,
+    rights: &[RowValue],
+) -> Result<(), AllocError>
+    ensures { OnOk result (found.new.items ≡ found.old.items
+        ++ rights_of path row op left rights.now) }
+{
+    match left {
+        Some(left) => add_rights(found, path, row, op, left, rights),
+        None => Ok(()),
     }
 }
 
-/// The value that an operator gives, if it gives one.
-fn given(outcome: Outcome) -> Option<SourceValue>
-    ensures { result ≡ given outcome }
+/// Adds what the operator gives of this left operand with these right ones.
+fn add_rights(
+    found: &mut Vec<RowFact>,
+    path: Trail,
+    row: usize,
+    op: BinaryOp,
+    left: Constant,
+    rights: &[RowValue],
+) -> Result<(), AllocError>
+    ensures { OnOk result (found.new.items ≡ found.old.items
+        ++ all_rights path row op left rights.now) }
+{
+    for right in rights {
+        add_binary_by(found, path, row, op, left, constant_of(*right))?;
+    }
+    Ok(())
+}
+
+/// Adds what the operator gives of this left operand with this right one, if that is a constant.
+fn add_binary_by(
+    found: &mut Vec<RowFact>,
+    path: Trail,
+    row: usize,
+    op: BinaryOp,
+    left: Constant,
+    right: Option<Constant>,
+) -> Result<(), AllocError>
+    ensures { OnOk result (found.new.items ≡ found.old.items
+        ++ binary_by path row op left right) }
+{
+    match right {
+        Some(right) => add_given_value(found, path, row, binary_result(op, left, right)),
+        None => Ok(()),
+    }
+}
+
+/// Adds the value that an operator gives, if it gives one.
+fn add_given_value(
+    found: &mut Vec<RowFact>,
+    path: Trail,
+    row: usize,
+    outcome: Outcome,
+) -> Result<(), AllocError>
+    ensures { OnOk result (found.new.items ≡ found.old.items
+        ++ gives path row outcome) }
 {
     match outcome {
-        Outcome::Gives(constant) => Some(value_of(constant)),
-        _ => None,
+        Outcome::Gives(constant) => add_has(found, path, row, row_value(constant)),
+        _ => Ok(()),
     }
 }
 
-/// The value that a constant is.
-fn value_of(constant: Constant) -> SourceValue
-    ensures { result ≡ value_of constant }
+/// Adds, for each of these values of the predicate, that its arm is On, and what that Has.
+fn add_arms(
+    alloc: Global,
+    found: &mut Vec<RowFact>,
+    cells: &Cells,
+    followed: RowFact,
+    path: Trail,
+    row: usize,
+    then: usize,
+    otherwise: usize,
+    tests: &[RowValue],
+) -> Result<(), AllocError>
+    ensures { OnOk result (found.new.items ≡ found.old.items
+        ++ arms cells.now followed path row then otherwise tests.now) }
+{
+    for test in tests {
+        add_arm(
+            alloc, found, cells, followed, path, row, then, otherwise, *test,
+        )?;
+    }
+    Ok(())
+}
+
+/// Adds that the arm of this value of the predicate is On, and what that Has.
+fn add_arm(
+    alloc: Global,
+    found: &mut Vec<RowFact>,
+    cells: &Cells,
+    followed: RowFact,
+    path: Trail,
+    row: usize,
+    then: usize,
+    otherwise: usize,
+    test: RowValue,
+) -> Result<(), AllocError>
+    ensures { OnOk result (found.new.items ≡ found.old.items
+        ++ arm_by cells.now followed path row then otherwise test) }
+{
+    match test {
+        RowValue::Bool(truth) => {
+            let arm = arm_of(truth, then, otherwise);
+            add_chosen(alloc, found, cells, followed, path, row, arm)
+        }
+        _ => Ok(()),
+    }
+}
+
+/// Adds that the arm at this row is On, and what that Has.
+fn add_chosen(
+    alloc: Global,
+    found: &mut Vec<RowFact>,
+    cells: &Cells,
+    followed: RowFact,
+    path: Trail,
+    row: usize,
+    arm: usize,
+) -> Result<(), AllocError>
+    ensures { OnOk result (found.new.items ≡ found.old.items
+        ++ chosen cells.now followed path row arm) }
+{
+    found.push(RowFact::On { path, row: arm })?;
+    let values = cells.values(alloc, followed, path, arm)?;
+    add_values(found, path, row, values.as_slice())
+}
+
+/// The arm that this truth value turns On.
+fn arm_of(truth: bool, then: usize, otherwise: usize) -> usize
+    ensures { result ≡ arm_of truth then otherwise }
+{
+    if truth { then } else { otherwise }
+}
+
+/// The value of a row that a constant is.
+pub fn row_value(constant: Constant) -> RowValue
+    ensures { result ≡ row_value constant }
 {
     match constant {
-        Constant::Int(number) => SourceValue::Int(number),
-        Constant::Bool(truth) => SourceValue::Bool(truth),
+        Constant::Int(number) => RowValue::Int(number),
+        Constant::Bool(truth) => RowValue::Bool(truth),
     }
 }
 
-/// The constant that a value is.
-fn constant_of(value: SourceValue) -> Constant
+/// The constant that a value of a row is, if it is one.
+fn constant_of(value: RowValue) -> Option<Constant>
     ensures { result ≡ constant_of value }
 {
     match value {
-        SourceValue::Int(number) => Constant::Int(number),
-        SourceValue::Bool(truth) => Constant::Bool(truth),
+        RowValue::Int(number) => Some(Constant::Int(number)),
+        RowValue::Bool(truth) => Some(Constant::Bool(truth)),
+        RowValue::Name(_) => None,
     }
 }

@@ -14,13 +14,12 @@ ghost use Rattle.id_meaning.specs.Inputs.{first_cause, number_of, number_spelled
 ghost use Rattle.id_meaning.specs.Inputs.{value_spelled, wanted, wanted_of, whole_value};
 ghost use Rattle.id_meaning.specs.Reading.{IsFirstLack, cause_so, cut_so, said_so, values_so};
 
-use crate::SourceValue;
 use crate::params::{main_params, node_of};
 use id_check::Checked;
 use id_list::Sequence;
 use id_parts::Node;
 use id_text::Identifier;
-use id_value::Kind;
+use id_value::{Constant, Kind};
 use std::alloc::{AllocError, AllocFailed, Global};
 
 /// How far below 0 the numbers go; those above 0 end one earlier.
@@ -29,7 +28,7 @@ const LIMIT: u64 = 0x8000_0000_0000_0000;
 /// The values of `main`'s parameters, in their order.
 #[derive(Drop)]
 pub struct Inputs {
-    pub values: Sequence<SourceValue>,
+    pub values: Sequence<Constant>,
 }
 
 /// The name and kind of a parameter of `main`.
@@ -128,11 +127,7 @@ fn name_of(alloc: Global, checked: &Checked, number: usize) -> Result<Identifier
 }
 
 /// The values that words give the parameters, in the parameters' order; refused as by `read_inputs`.
-fn inputs_for(
-    alloc: Global,
-    params: &[Wanted],
-    words: &[&str],
-) -> Result<Vec<SourceValue>, InputError>
+fn inputs_for(alloc: Global, params: &[Wanted], words: &[&str]) -> Result<Vec<Constant>, InputError>
     ensures taken { IfOk result (λ v. first_cause params.now [] 0 (map (λ w. w.now) words.now) ≡ None) }
     ensures enough { IfOk result (λ v. length v.items ≡ length params.now) }
     ensures values { IfOk result (λ v. (n : ℕ) → n < length v.items
@@ -148,7 +143,7 @@ fn values_said(
     alloc: Global,
     params: &[Wanted],
     words: &[&str],
-) -> Result<Vec<Option<SourceValue>>, InputError>
+) -> Result<Vec<Option<Constant>>, InputError>
     ensures taken { IfOk result (λ v. first_cause params.now [] 0 (map (λ w. w.now) words.now) ≡ None) }
     ensures enough { IfOk result (λ v. length v.items ≡ length params.now) }
     ensures values { IfOk result (λ v. (n : ℕ) → n < length v.items
@@ -166,9 +161,9 @@ fn values_said(
 
 /// Puts what word j says among the values, or tells why it is refused.
 fn take_word(
-    values: &mut Vec<Option<SourceValue>>,
+    values: &mut Vec<Option<Constant>>,
     j: usize,
-    said: Option<(usize, Option<SourceValue>)>,
+    said: Option<(usize, Option<Constant>)>,
 ) -> Result<(), InputError>
     requires { IfSome said (λ s. s.0 < length values.old.items) }
     ensures taken { OnOk result (cause_so values.old.items j said ≡ None) }
@@ -189,7 +184,7 @@ fn take_word(
 }
 
 /// The values, if none of them lacks; `MissingInput` for the first that does.
-fn all_of(alloc: Global, values: &[Option<SourceValue>]) -> Result<Vec<SourceValue>, InputError>
+fn all_of(alloc: Global, values: &[Option<Constant>]) -> Result<Vec<Constant>, InputError>
     ensures same { IfOk result (λ v. map Some v.items ≡ values.now) }
     ensures lack { IfErr result (IsFirstLack values.now) }
 {
@@ -204,7 +199,7 @@ fn all_of(alloc: Global, values: &[Option<SourceValue>]) -> Result<Vec<SourceVal
 }
 
 /// The number of the parameter that the word names, and the value of its kind, if the word has one.
-fn said(params: &[Wanted], word: &str) -> Option<(usize, Option<SourceValue>)>
+fn said(params: &[Wanted], word: &str) -> Option<(usize, Option<Constant>)>
     ensures said { said_so result ≡ said params.now word.now }
     ensures inside { IfSome result (λ s. s.0 < length params.now) }
 {
@@ -238,7 +233,7 @@ fn number_of(params: &[Wanted], name: &str) -> Option<usize>
 }
 
 /// The value of the kind that the text spells.
-fn value_spelled(kind: Kind, text: &str) -> Option<SourceValue>
+fn value_spelled(kind: Kind, text: &str) -> Option<Constant>
     ensures { result ≡ value_spelled kind text.now }
 {
     match kind {
@@ -249,20 +244,20 @@ fn value_spelled(kind: Kind, text: &str) -> Option<SourceValue>
 }
 
 /// The truth value that the text spells.
-fn truth_spelled(text: &str) -> Option<SourceValue>
+fn truth_spelled(text: &str) -> Option<Constant>
     ensures { result ≡ truth_spelled text.now }
 {
     if text == "true" {
-        Some(SourceValue::Bool(true))
+        Some(Constant::Bool(true))
     } else if text == "false" {
-        Some(SourceValue::Bool(false))
+        Some(Constant::Bool(false))
     } else {
         None
     }
 }
 
 /// The whole number that the bytes spell: digits, or `-` and digits.
-fn whole_spelled(bytes: &[u8]) -> Option<SourceValue>
+fn whole_spelled(bytes: &[u8]) -> Option<Constant>
     ensures { result ≡ option_and_then whole_value (number_spelled bytes.now) }
 {
     if !bytes.is_empty() && bytes[0] == b'-' {
@@ -279,26 +274,26 @@ fn whole_spelled(bytes: &[u8]) -> Option<SourceValue>
 }
 
 /// The whole number of this magnitude, if it is one of the language; the largest `u64` stands for all from there on.
-fn positive(magnitude: u64) -> Option<SourceValue>
+fn positive(magnitude: u64) -> Option<Constant>
     ensures { (n : ℕ) → magnitude ≡ min n (2 ^ 64 - 1) → result ≡ whole_value (pos n) }
 {
     if magnitude < LIMIT {
-        Some(SourceValue::Int(magnitude as i64))
+        Some(Constant::Int(magnitude as i64))
     } else {
         None
     }
 }
 
 /// The number with the other sign than `positive` gives, if it is one of the language.
-fn negative(magnitude: u64) -> Option<SourceValue>
+fn negative(magnitude: u64) -> Option<Constant>
     ensures { (n : ℕ) → magnitude ≡ min n (2 ^ 64 - 1) → result ≡ whole_value (neg_ℤ (pos n)) }
 {
     if magnitude > LIMIT {
         None
     } else if magnitude == LIMIT {
-        Some(SourceValue::Int(i64::MIN))
+        Some(Constant::Int(i64::MIN))
     } else {
-        Some(SourceValue::Int(-(magnitude as i64)))
+        Some(Constant::Int(-(magnitude as i64)))
     }
 }
 

@@ -18,6 +18,7 @@ mod params;
 mod queues;
 mod round;
 mod run;
+mod structures;
 mod waits;
 
 use id_list::Sequence;
@@ -38,19 +39,54 @@ pub struct Path {
     pub steps: Sequence<PathStep>,
 }
 
+/// A path and a place: where a structure was made, which is its name, where a fetch or a store is On, or where a fault
+/// came.
+#[derive(Drop)]
+pub struct Site {
+    pub path: Path,
+    pub place: usize,
+}
+
 /// A value of the source.
-#[derive(Clone, Copy)]
+#[derive(Drop)]
 pub enum SourceValue {
     /// A whole number.
     Int(i64),
     /// A truth value.
     Bool(bool),
+    /// A structure: the path and place of its `array`.
+    Name(Site),
+}
+
+/// A structure and its bounds.
+#[derive(Drop)]
+pub struct Shape {
+    pub name: Site,
+    pub low: i64,
+    pub high: i64,
+}
+
+/// What a store puts into a cell of a structure.
+#[derive(Drop)]
+pub struct Put {
+    pub name: Site,
+    pub index: i64,
+    pub value: SourceValue,
+    pub store: Site,
+}
+
+/// That a fetch asks for a cell of a structure.
+#[derive(Drop)]
+pub struct Ask {
+    pub fetch: Site,
+    pub name: Site,
+    pub index: i64,
 }
 
 /// A fact of the source.
 #[derive(Drop)]
 pub enum Fact {
-    /// The expression at the place is evaluated at the path.
+    /// The expression or store at the place is evaluated at the path.
     On {
         path: Path,
         place: usize,
@@ -61,14 +97,29 @@ pub enum Fact {
         place: usize,
         value: SourceValue,
     },
+    /// The structure is there, with these bounds.
+    Shape(Shape),
+    /// The store puts the value into the cell.
+    Put(Put),
+    /// The fetch asks for the cell.
+    Ask(Ask),
 }
 
-/// A fault of the source: what went wrong, at which path and place.
+/// A fault of the source.
 #[derive(Drop)]
-pub struct SourceFault {
-    pub kind: FaultKind,
-    pub path: Path,
-    pub place: usize,
+pub enum SourceFault {
+    /// What went wrong, and at which operator, `array`, fetch or store.
+    Operator {
+        kind: FaultKind,
+        site: Site,
+    },
+    /// Two stores put a value into one cell, the first of them first by path and place.
+    SecondStore {
+        name: Site,
+        index: i64,
+        first: Site,
+        second: Site,
+    },
 }
 
 /// What a binder Has at a path.

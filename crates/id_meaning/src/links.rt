@@ -3,10 +3,10 @@
 ghost use Rattle.std.specs.Prelude.{◌≡◌, ◌<◌, [], ◌∷◌, length, IfOk, OnOk};
 ghost use Rattle.id_parts.specs.Rows.{at};
 ghost use Rattle.id_check.specs.Programs.{binder, rows};
-ghost use Rattle.id_meaning.specs.Cells.{far, far_from};
 ghost use Rattle.id_meaning.specs.Links.{AreArgs, AreOpen, AreReads, AreTurns, Gains, GainsFrom, GainsTo, Statements};
-ghost use Rattle.id_meaning.specs.Links.{StatementsRise, TakesAll, asker_of, awaited, beyond, linked_of, nexts_turned};
-ghost use Rattle.id_meaning.specs.Links.{parts_turned, some_row, switches_of, test_of};
+ghost use Rattle.id_meaning.specs.Links.{StatementsRise, TakesAll, asker_of, awaited, beyond, far, far_from, index_of};
+ghost use Rattle.id_meaning.specs.Links.{linked_of, nexts_turned, parts_turned, some_row, switches_of, target_of};
+ghost use Rattle.id_meaning.specs.Links.{test_of};
 
 use crate::edges::Edges;
 use crate::params::node_of;
@@ -25,7 +25,7 @@ pub struct Links {
     pub args: Edges,
 }
 
-/// A binding, and the row of its expression.
+/// A binding with the row of its expression, or a store with its own.
 #[derive(Clone, Copy)]
 pub struct Statement {
     pub row: usize,
@@ -89,6 +89,10 @@ fn add_statements(
             waiting.push(Statement { row: n, value })?;
             Ok(())
         }
+        Node::Store { .. } => {
+            waiting.push(Statement { row: n, value: n })?;
+            Ok(())
+        }
         _ => Ok(()),
     }
 }
@@ -117,6 +121,19 @@ fn add_parts(turns: &mut Edges, rows: &[Row], n: usize, node: Node) -> Result<()
         }
         Node::If { split, .. } => add_some(turns, n, test_at(rows, split)),
         Node::Block { body } => turns.add(n, body),
+        Node::Array { low, high } => {
+            turns.add(n, low)?;
+            turns.add(n, high)
+        }
+        Node::Fetch { target, index } => {
+            turns.add(n, target)?;
+            turns.add(n, index)
+        }
+        Node::Store { address, value } => {
+            add_some(turns, n, target_at(rows, address))?;
+            add_some(turns, n, index_at(rows, address))?;
+            turns.add(n, value)
+        }
         _ => Ok(()),
     }
 }
@@ -140,6 +157,32 @@ fn test_at(rows: &[Row], split: usize) -> Option<usize>
     }
     match rows[split].node {
         Node::Split { test } => Some(test),
+        _ => None,
+    }
+}
+
+/// The target of the store whose address is at the row, if it is one.
+fn target_at(rows: &[Row], address: usize) -> Option<usize>
+    ensures { result ≡ target_of (at rows.now address).node }
+{
+    if address >= rows.len() {
+        return None;
+    }
+    match rows[address].node {
+        Node::Address { target, .. } => Some(target),
+        _ => None,
+    }
+}
+
+/// The index of the store whose address is at the row, if it is one.
+fn index_at(rows: &[Row], address: usize) -> Option<usize>
+    ensures { result ≡ index_of (at rows.now address).node }
+{
+    if address >= rows.len() {
+        return None;
+    }
+    match rows[address].node {
+        Node::Address { index, .. } => Some(index),
         _ => None,
     }
 }
@@ -180,7 +223,13 @@ fn reads(alloc: Global, checked: &Checked) -> Result<Edges, AllocError>
 {
     let mut reads = Edges::new(alloc, checked.table.rows.len())?;
     for (n, row) in checked.table.rows.as_slice().iter().enumerate() {
-        add_reads(&mut reads, n, beyond(checked, n, row.node), row.node)?;
+        add_reads(
+            &mut reads,
+            checked.table.rows.as_slice(),
+            n,
+            beyond(checked, n, row.node),
+            row.node,
+        )?;
     }
     Ok(reads)
 }
@@ -188,11 +237,12 @@ fn reads(alloc: Global, checked: &Checked) -> Result<Edges, AllocError>
 /// Adds the rows that a row reads which may look at this row beyond its parts.
 fn add_reads(
     reads: &mut Edges,
+    rows: &[Row],
     n: usize,
     beyond: Option<usize>,
     node: Node,
 ) -> Result<(), AllocError>
-    ensures { OnOk result (GainsTo reads.old reads.new (linked_of beyond node) n) }
+    ensures { OnOk result (GainsTo reads.old reads.new (linked_of rows.now beyond node) n) }
 {
     match node {
         Node::Unary { operand, .. } => add_read(reads, n, Some(operand)),
@@ -211,6 +261,13 @@ fn add_reads(
         Node::Next { value, .. } => add_read(reads, n, Some(value)),
         Node::Block { body } => add_read(reads, n, Some(body)),
         Node::Binding { value, .. } => add_read(reads, n, Some(value)),
+        Node::Array { low, high } => add_both(reads, n, low, high),
+        Node::Fetch { target, index } => add_both(reads, n, target, index),
+        Node::Store { address, value } => {
+            add_read(reads, n, target_at(rows, address))?;
+            add_read(reads, n, index_at(rows, address))?;
+            add_read(reads, n, Some(value))
+        }
         _ => Ok(()),
     }
 }

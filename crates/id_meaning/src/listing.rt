@@ -1,95 +1,145 @@
 //! The facts of a round as a list (docs/MEANING.md, "Order").
 
-ghost use Rattle.std.specs.Prelude.{◌≡◌, ◌++◌, IfOk, OnOk};
+ghost use Rattle.std.specs.Prelude.{◌≡◌, IfOk};
 ghost use Rattle.std.specs.Cmp.Lexicographic.{slice_cmp};
 ghost use Rattle.id_check.specs.Programs.{place};
-ghost use Rattle.id_meaning.specs.Listed.{AreShown, fact_cmp, facts_in, kind_of, on_fact, path_at, place_in};
-ghost use Rattle.id_meaning.specs.Listed.{point_cmp, spot_facts, step_at, steps_in, value_fact};
-ghost use Rattle.id_meaning.specs.Orders.{step_cmp};
+ghost use Rattle.id_meaning.specs.Listed.{AreShown, ask_cmp, cell_cmp, fact_cmp, fact_of, facts_in, name_at, path_at};
+ghost use Rattle.id_meaning.specs.Listed.{point_cmp, put_cmp, shape_cmp, site_at, site_cmp, sort_of, step_at, value_at};
+ghost use Rattle.id_meaning.specs.Listed.{value_cmp};
+ghost use Rattle.id_meaning.specs.Orders.{kind_of, step_cmp};
 
-use crate::cells::{Cells, Spot, Trail};
-use crate::{Fact, Path, PathStep, SourceValue};
+use crate::cells::{Facts, RowFact, RowValue, Trail, path_of, row_of};
+use crate::{Ask, Fact, Path, PathStep, Put, Shape, Site, SourceValue};
 use id_check::Checked;
 use id_list::Sequence;
 use std::alloc::{AllocError, Global};
 use std::cmp::Ordering;
 
-/// The facts that the cells show, in order.
-pub fn list(alloc: Global, checked: &Checked, cells: &Cells) -> Result<Vec<Fact>, AllocError>
-    ensures { IfOk result (λ v. AreShown checked.now cells.now v.items) }
+/// The facts of the source that these are, in order.
+pub fn list(alloc: Global, checked: &Checked, facts: &Facts) -> Result<Vec<Fact>, AllocError>
+    ensures { IfOk result (λ v. AreShown checked.now facts.now v.items) }
 {
-    let mut facts = all_facts(alloc, checked, cells)?;
-    facts.sort_unstable_by(|a, b| compare(a, b));
-    Ok(facts)
+    let mut all = all_facts(alloc, checked, facts)?;
+    all.sort_unstable_by(|a, b| compare(a, b));
+    Ok(all)
 }
 
-/// The facts that the cells show, spot by spot.
-fn all_facts(alloc: Global, checked: &Checked, cells: &Cells) -> Result<Vec<Fact>, AllocError>
-    ensures { IfOk result (λ v. v.items ≡ facts_in checked.now cells.now cells.now) }
+/// The facts of the source that these are.
+fn all_facts(alloc: Global, checked: &Checked, facts: &Facts) -> Result<Vec<Fact>, AllocError>
+    ensures { IfOk result (λ v. v.items ≡ facts_in checked.now facts.now facts.now) }
 {
-    let mut facts = Vec::new(alloc);
-    for spot in cells.as_slice() {
-        add_on_fact(alloc, &mut facts, checked, cells, *spot)?;
-        add_has_fact(alloc, &mut facts, checked, cells, *spot)?;
+    let mut all = Vec::new(alloc);
+    for fact in facts.as_slice() {
+        let one = fact_of(alloc, checked, facts, *fact)?;
+        all.push(one)?;
     }
-    Ok(facts)
+    Ok(all)
 }
 
-/// Adds the fact that the row of the spot is On, if it is.
-fn add_on_fact(
+/// The fact of the source that this one is.
+fn fact_of(
     alloc: Global,
-    facts: &mut Vec<Fact>,
     checked: &Checked,
-    cells: &Cells,
-    spot: Spot,
-) -> Result<(), AllocError>
-    ensures { OnOk result
-        (facts.new.items ≡ facts.old.items
-        ++ on_fact (path_at checked.now cells.now spot.path) (place checked.now spot.row) spot.cell.on) }
+    facts: &Facts,
+    fact: RowFact,
+) -> Result<Fact, AllocError>
+    ensures { IfOk result (λ v. v ≡ fact_of checked.now facts.now fact) }
 {
-    if spot.cell.on {
-        let path = path_at(alloc, checked, cells, spot.path)?;
-        let place = place_of(checked, spot.row);
-        facts.push(Fact::On { path, place })?;
+    match fact {
+        RowFact::On { path, row } => Ok(Fact::On {
+            path: path_at(alloc, checked, facts, path)?,
+            place: place_of(checked, row),
+        }),
+        RowFact::Has { path, row, value } => Ok(Fact::Has {
+            path: path_at(alloc, checked, facts, path)?,
+            place: place_of(checked, row),
+            value: source_value(alloc, checked, facts, value)?,
+        }),
+        RowFact::Shape { name, low, high } => Ok(Fact::Shape(Shape {
+            name: name_at(alloc, checked, facts, name)?,
+            low,
+            high,
+        })),
+        RowFact::Put {
+            path,
+            row,
+            name,
+            index,
+            value,
+        } => Ok(Fact::Put(Put {
+            name: name_at(alloc, checked, facts, name)?,
+            index,
+            value: source_value(alloc, checked, facts, value)?,
+            store: site_at(alloc, checked, facts, path, row)?,
+        })),
+        RowFact::Ask {
+            path,
+            row,
+            name,
+            index,
+        } => Ok(Fact::Ask(Ask {
+            fetch: site_at(alloc, checked, facts, path, row)?,
+            name: name_at(alloc, checked, facts, name)?,
+            index,
+        })),
     }
-    Ok(())
 }
 
-/// Adds the fact that the row of the spot Has its value, if it has one.
-fn add_has_fact(
+/// The value of the source that this one is.
+fn source_value(
     alloc: Global,
-    facts: &mut Vec<Fact>,
     checked: &Checked,
-    cells: &Cells,
-    spot: Spot,
-) -> Result<(), AllocError>
-    ensures { OnOk result
-        (facts.new.items ≡ facts.old.items
-        ++ value_fact (path_at checked.now cells.now spot.path) (place checked.now spot.row) spot.cell.has) }
+    facts: &Facts,
+    value: RowValue,
+) -> Result<SourceValue, AllocError>
+    ensures { IfOk result (λ v. v ≡ value_at checked.now facts.now value) }
 {
-    if let Some(value) = spot.cell.has {
-        let path = path_at(alloc, checked, cells, spot.path)?;
-        let place = place_of(checked, spot.row);
-        facts.push(Fact::Has { path, place, value })?;
+    match value {
+        RowValue::Int(number) => Ok(SourceValue::Int(number)),
+        RowValue::Bool(truth) => Ok(SourceValue::Bool(truth)),
+        RowValue::Name(name) => Ok(SourceValue::Name(name_at(alloc, checked, facts, name)?)),
     }
-    Ok(())
+}
+
+/// The path and place of the `array` that is On by the fact of this number.
+fn name_at(alloc: Global, checked: &Checked, facts: &Facts, name: usize) -> Result<Site, AllocError>
+    ensures { IfOk result (λ v. v ≡ name_at checked.now facts.now name) }
+{
+    let made = facts.fact(name);
+    site_at(alloc, checked, facts, path_of(made), row_of(made))
+}
+
+/// The path of the source that it is, with where the row stands.
+fn site_at(
+    alloc: Global,
+    checked: &Checked,
+    facts: &Facts,
+    path: Trail,
+    row: usize,
+) -> Result<Site, AllocError>
+    ensures { IfOk result (λ v. v ≡ site_at checked.now facts.now path row) }
+{
+    Ok(Site {
+        path: path_at(alloc, checked, facts, path)?,
+        place: place_of(checked, row),
+    })
 }
 
 /// The path of the source that it is. Takes memory for each step.
 fn path_at(
     alloc: Global,
     checked: &Checked,
-    cells: &Cells,
+    facts: &Facts,
     trail: Trail,
 ) -> Result<Path, AllocError>
-    ensures { IfOk result (λ p. p ≡ path_at checked.now cells.now trail) }
+    ensures { IfOk result (λ v. v ≡ path_at checked.now facts.now trail) }
 {
     let mut steps = Vec::new(alloc);
     let mut rest = trail;
     while let Trail::Below { spot, number } = rest {
-        let spot = cells.spot(spot);
-        steps.push(step_at(checked, spot.row, number))?;
-        rest = spot.path;
+        let began = facts.fact(spot);
+        steps.push(step_at(checked, row_of(began), number))?;
+        rest = path_of(began);
     }
     steps.reverse();
     Ok(Path {
@@ -118,22 +168,55 @@ fn place_of(checked: &Checked, row: usize) -> usize
     }
 }
 
-/// How two facts compare: On before Has, then by path, a front of a path first, then by place.
+/// How two facts compare: by their kinds, then as facts of one kind.
 fn compare(a: &Fact, b: &Fact) -> Ordering
     ensures { result ≡ fact_cmp a.now b.now }
 {
-    match kind_of(a).cmp(&kind_of(b)) {
-        Ordering::Equal => compare_points(a, b),
-        kinds => kinds,
+    match (a, b) {
+        (
+            Fact::On { path, place },
+            Fact::On {
+                path: other,
+                place: there,
+            },
+        ) => compare_points(path, *place, other, *there),
+        (
+            Fact::Has { path, place, value },
+            Fact::Has {
+                path: other,
+                place: there,
+                value: second,
+            },
+        ) => match compare_points(path, *place, other, *there) {
+            Ordering::Equal => compare_values(value, second),
+            points => points,
+        },
+        (Fact::Shape(first), Fact::Shape(second)) => compare_shapes(first, second),
+        (Fact::Put(first), Fact::Put(second)) => compare_puts(first, second),
+        (Fact::Ask(first), Fact::Ask(second)) => compare_asks(first, second),
+        _ => kind_of(a).cmp(&kind_of(b)),
+    }
+}
+
+/// 0 for On, 1 for Has, 2 for Shape, 3 for Put, 4 for Ask.
+fn kind_of(fact: &Fact) -> usize
+    ensures { result ≡ kind_of fact.now }
+{
+    match fact {
+        Fact::On { .. } => 0,
+        Fact::Has { .. } => 1,
+        Fact::Shape(_) => 2,
+        Fact::Put(_) => 3,
+        Fact::Ask(_) => 4,
     }
 }
 
 /// How two facts compare by path and then by place.
-fn compare_points(a: &Fact, b: &Fact) -> Ordering
-    ensures { result ≡ point_cmp a.now b.now }
+fn compare_points(path: &Path, place: usize, other: &Path, there: usize) -> Ordering
+    ensures { result ≡ point_cmp path.now place other.now there }
 {
-    match compare_steps(steps_in(a), steps_in(b)) {
-        Ordering::Equal => place_in(a).cmp(&place_in(b)),
+    match compare_steps(path.steps.as_slice(), other.steps.as_slice()) {
+        Ordering::Equal => place.cmp(&there),
         paths => paths,
     }
 }
@@ -148,30 +231,78 @@ fn compare_steps(a: &[PathStep], b: &[PathStep]) -> Ordering
     a.cmp(&b)
 }
 
-/// 0 for On, 1 for Has.
-fn kind_of(fact: &Fact) -> usize
-    ensures { result ≡ kind_of fact.now }
+/// How two sites compare, by path and then by place.
+fn compare_sites(a: &Site, b: &Site) -> Ordering
+    ensures { result ≡ site_cmp a.now b.now }
 {
-    match fact {
-        Fact::On { .. } => 0,
-        Fact::Has { .. } => 1,
+    compare_points(&a.path, a.place, &b.path, b.place)
+}
+
+/// How two values compare: numbers before truth values, and these before structures.
+fn compare_values(a: &SourceValue, b: &SourceValue) -> Ordering
+    ensures { result ≡ value_cmp a.now b.now }
+{
+    match (a, b) {
+        (SourceValue::Int(first), SourceValue::Int(second)) => first.cmp(second),
+        (SourceValue::Bool(first), SourceValue::Bool(second)) => first.cmp(second),
+        (SourceValue::Name(first), SourceValue::Name(second)) => compare_sites(first, second),
+        _ => sort_of(a).cmp(&sort_of(b)),
     }
 }
 
-fn steps_in(fact: &Fact) -> &[PathStep]
-    ensures { result.now ≡ steps_in fact.now }
+/// 0 for a number, 1 for a truth value, 2 for a structure.
+fn sort_of(value: &SourceValue) -> usize
+    ensures { result ≡ sort_of value.now }
 {
-    match fact {
-        Fact::On { path, .. } => path.steps.as_slice(),
-        Fact::Has { path, .. } => path.steps.as_slice(),
+    match value {
+        SourceValue::Int(_) => 0,
+        SourceValue::Bool(_) => 1,
+        SourceValue::Name(_) => 2,
     }
 }
 
-fn place_in(fact: &Fact) -> usize
-    ensures { result ≡ place_in fact.now }
+/// How two shapes compare: by name, then by the lower bound, then by the upper one.
+fn compare_shapes(a: &Shape, b: &Shape) -> Ordering
+    ensures { result ≡ shape_cmp a.now b.now }
 {
-    match fact {
-        Fact::On { place, .. } => *place,
-        Fact::Has { place, .. } => *place,
+    match compare_sites(&a.name, &b.name) {
+        Ordering::Equal => match a.low.cmp(&b.low) {
+            Ordering::Equal => a.high.cmp(&b.high),
+            lows => lows,
+        },
+        names => names,
+    }
+}
+
+/// How two cells compare, by structure and then by index.
+fn compare_cells(name: &Site, index: i64, other: &Site, there: i64) -> Ordering
+    ensures { result ≡ cell_cmp name.now index other.now there }
+{
+    match compare_sites(name, other) {
+        Ordering::Equal => index.cmp(&there),
+        names => names,
+    }
+}
+
+/// How two puts compare: by cell, then by the store's path and place, then by value.
+fn compare_puts(a: &Put, b: &Put) -> Ordering
+    ensures { result ≡ put_cmp a.now b.now }
+{
+    match compare_cells(&a.name, a.index, &b.name, b.index) {
+        Ordering::Equal => match compare_sites(&a.store, &b.store) {
+            Ordering::Equal => compare_values(&a.value, &b.value),
+            stores => stores,
+        },
+        cells => cells,
+    }
+}
+
+/// How two asks compare: by the fetch's path and place, then by cell.
+fn compare_asks(a: &Ask, b: &Ask) -> Ordering
+    ensures { result ≡ ask_cmp a.now b.now }
+{
+    match compare_sites(&a.fetch, &b.fetch) {
+        Ordering::Equal => compare_cells(&a.name, a.index, &b.name, b.index),
+        fetches => fetches,
     }
 }

@@ -3,67 +3,28 @@
 ghost use Rattle.std.specs.Prelude.{◌≡◌, ◌++◌, OnOk};
 ghost use Rattle.id_parts.specs.Rows.{at};
 ghost use Rattle.id_check.specs.Programs.{rows};
-ghost use Rattle.id_meaning.specs.Cells.{first_of, firsts, has_at, iteration_by, iteration_of, left, loop_at, next_by};
-ghost use Rattle.id_meaning.specs.Cells.{on_at, start_at, started, started_by, switches_by, turn_by, woken};
+ghost use Rattle.id_meaning.specs.Effects.{first_of, firsts, has_at, is_awaited, iteration_by, iteration_in};
+ghost use Rattle.id_meaning.specs.Effects.{iteration_of, loop_by, next_by, on_at};
+ghost use Rattle.id_meaning.specs.Effects.{start_at, switches_by, turn_by, woken};
+ghost use Rattle.id_meaning.specs.Effects.{woken_by};
 ghost use Rattle.id_meaning.specs.Links.{test_of_loop};
 
-use crate::SourceValue;
-use crate::cells::{Cells, RowFact, Trail, next_of};
-use crate::effects::{add_arm, add_given, add_ons, add_value, seen};
-use crate::links::{Links, binder_of, distance};
+use crate::cells::{Cells, RowFact, RowValue, Trail, next_of, same_trail};
+use crate::effects::{add_has, add_on, add_ons, add_values, seen};
+use crate::links::{Links, awaited, binder_of, distance};
 use crate::params::{block_of, node_of};
 use crate::queues::Wait;
 use id_check::Checked;
 use id_parts::Node;
-use std::alloc::AllocError;
-
-/// A loop that is On.
-#[derive(Clone, Copy)]
-pub struct OnLoop {
-    /// The number of its spot, at which the paths of its iterations begin.
-    pub spot: usize,
-    /// The row of its head.
-    pub head: usize,
-    /// The row of its predicate.
-    pub test: Option<usize>,
-}
+use std::alloc::{AllocError, Global};
 
 /// An iteration of a loop.
 #[derive(Clone, Copy)]
 pub struct Iteration {
-    /// The number of the loop's spot, and that of the iteration, from 0.
-    pub spot: usize,
-    pub number: u64,
     /// The rows of the loop's head, its switches and its last expression.
     pub head: usize,
     pub switches: usize,
     pub last: usize,
-}
-
-/// The loop at the row at the path, if it is On.
-fn started(checked: &Checked, cells: &Cells, path: Trail, row: usize) -> Option<OnLoop>
-    ensures { result ≡ started checked.now cells.now path row }
-{
-    match node_of(checked, row) {
-        Node::Loop { .. } if cells.read(path, row).on => {
-            started_by(checked, cells.find(path, row), node_of(checked, row))
-        }
-        _ => None,
-    }
-}
-
-/// The loop at a row of this node that has this spot.
-fn started_by(checked: &Checked, spot: Option<usize>, node: Node) -> Option<OnLoop>
-    ensures { result ≡ started_by checked.now spot node }
-{
-    match (spot, node) {
-        (Some(spot), Node::Loop { head, switches, .. }) => Some(OnLoop {
-            spot,
-            head,
-            test: test_of(node_of(checked, switches)),
-        }),
-        _ => None,
-    }
 }
 
 /// The predicate that a row of this node follows, if it is the switches of a loop.
@@ -76,118 +37,183 @@ fn test_of(node: Node) -> Option<usize>
     }
 }
 
-/// Adds the facts that come by the loop at the row at the path, where it is On.
+/// Adds the facts that come by the loop at the row at the path, where it is On and this fact is followed.
 pub fn add_start(
+    alloc: Global,
     found: &mut Vec<RowFact>,
     checked: &Checked,
     links: &Links,
     cells: &Cells,
+    followed: RowFact,
     path: Trail,
     row: usize,
 ) -> Result<(), AllocError>
-    ensures { OnOk result
-        (found.new.items ≡ found.old.items ++ start_at checked.now links.now cells.now path row) }
+    ensures { OnOk result (found.new.items ≡ found.old.items
+        ++ start_at checked.now links.now cells.now followed path row) }
 {
-    let start = started(checked, cells, path, row);
-    if let Some(begun) = start {
-        let first = Trail::Below {
-            spot: begun.spot,
-            number: 0,
-        };
-        add_arm(found, first, begun.test)?;
-        add_firsts(
-            found,
-            checked,
-            cells,
-            path,
-            row,
-            start,
-            links.args.of(begun.head),
-        )?;
-    }
-    Ok(())
-}
-
-/// Adds the facts that variables of the loop Have their first values, whose `next`s are at these rows.
-fn add_firsts(
-    found: &mut Vec<RowFact>,
-    checked: &Checked,
-    cells: &Cells,
-    path: Trail,
-    row: usize,
-    start: Option<OnLoop>,
-    nexts: &[usize],
-) -> Result<(), AllocError>
-    ensures { OnOk result
-        (found.new.items ≡ found.old.items ++ firsts checked.now cells.now path row start nexts.now) }
-{
-    for next in nexts {
-        add_first(found, checked, cells, path, row, start, *next)?;
-    }
-    Ok(())
-}
-
-/// Adds the fact that the variable of the loop Has its first value, whose `next` is at this row.
-fn add_first(
-    found: &mut Vec<RowFact>,
-    checked: &Checked,
-    cells: &Cells,
-    path: Trail,
-    row: usize,
-    start: Option<OnLoop>,
-    next: usize,
-) -> Result<(), AllocError>
-    ensures { OnOk result
-        (found.new.items ≡ found.old.items
-        ++ first_of checked.now cells.now path row start next (at (rows checked.now) next).node) }
-{
-    match (start, node_of(checked, next)) {
-        (Some(begun), Node::Next { outer, .. }) if block_of(checked, next) == begun.head => {
-            let binder = binder_of(checked, outer);
-            let value = seen(
+    match (cells.find(path, row), node_of(checked, row)) {
+        (Some(spot), Node::Loop { head, switches, .. }) => {
+            let first = Trail::Below { spot, number: 0 };
+            add_on(found, first, test_of(node_of(checked, switches)))?;
+            add_firsts(
+                alloc,
+                found,
+                checked,
                 cells,
-                cells.out_of(path, distance(checked, row, binder)),
-                binder,
-            );
-            let first = Trail::Below {
-                spot: begun.spot,
-                number: 0,
-            };
-            add_value(found, first, next, value)
+                followed,
+                path,
+                row,
+                first,
+                head,
+                links.args.of(head),
+            )
         }
         _ => Ok(()),
     }
 }
 
-/// Adds the facts that come where the binder has a value that this waits for.
+/// Adds the facts that variables of the loop with this head Have their first values, whose `next`s are at these rows.
+fn add_firsts(
+    alloc: Global,
+    found: &mut Vec<RowFact>,
+    checked: &Checked,
+    cells: &Cells,
+    followed: RowFact,
+    path: Trail,
+    row: usize,
+    first: Trail,
+    head: usize,
+    nexts: &[usize],
+) -> Result<(), AllocError>
+    ensures { OnOk result (found.new.items ≡ found.old.items
+        ++ firsts checked.now cells.now followed path row first head nexts.now) }
+{
+    for next in nexts {
+        add_first(
+            alloc, found, checked, cells, followed, path, row, first, head, *next,
+        )?;
+    }
+    Ok(())
+}
+
+/// Adds the facts that the variable of the loop with this head Has its first values, whose `next` is at this row.
+fn add_first(
+    alloc: Global,
+    found: &mut Vec<RowFact>,
+    checked: &Checked,
+    cells: &Cells,
+    followed: RowFact,
+    path: Trail,
+    row: usize,
+    first: Trail,
+    head: usize,
+    next: usize,
+) -> Result<(), AllocError>
+    ensures { OnOk result (found.new.items ≡ found.old.items
+        ++ first_of checked.now cells.now followed path row first head next (at (rows checked.now) next).node) }
+{
+    match node_of(checked, next) {
+        Node::Next { outer, .. } if block_of(checked, next) == head => {
+            let binder = binder_of(checked, outer);
+            let outside = cells.out_of(path, distance(checked, row, binder));
+            let values = seen(alloc, cells, followed, outside, binder)?;
+            add_values(found, first, next, values.as_slice())
+        }
+        _ => Ok(()),
+    }
+}
+
+/// Adds the fact that comes where the row Has the value at the path, if this waits for it.
 pub fn add_woken(
     found: &mut Vec<RowFact>,
     checked: &Checked,
     cells: &Cells,
+    path: Trail,
+    row: usize,
+    value: RowValue,
     wait: Wait,
 ) -> Result<(), AllocError>
-    ensures { OnOk result (found.new.items ≡ found.old.items ++ woken checked.now cells.now wait) }
+    ensures { OnOk result (found.new.items ≡ found.old.items
+        ++ woken checked.now cells.now path row value wait) }
 {
-    add_given(found, checked, cells, wait.path, wait.row)?;
-    let start = started(checked, cells, wait.path, wait.row);
-    add_first(found, checked, cells, wait.path, wait.row, start, wait.user)
+    if is_awaited(checked, cells, path, row, wait) {
+        add_woken_by(
+            found,
+            checked,
+            wait,
+            value,
+            cells.find(wait.path, wait.row),
+            node_of(checked, wait.row),
+            node_of(checked, wait.user),
+        )
+    } else {
+        Ok(())
+    }
+}
+
+/// Adds the fact that comes where a name or a loop of this node, which may be On by the fact of this number, gets the
+/// value that it waits for.
+fn add_woken_by(
+    found: &mut Vec<RowFact>,
+    checked: &Checked,
+    wait: Wait,
+    value: RowValue,
+    spot: Option<usize>,
+    node: Node,
+    user: Node,
+) -> Result<(), AllocError>
+    ensures { OnOk result (found.new.items ≡ found.old.items
+        ++ woken_by checked.now wait value spot node user) }
+{
+    match (spot, node, user) {
+        (Some(_), Node::Name { .. }, _) if wait.user == wait.row => {
+            add_has(found, wait.path, wait.row, value)
+        }
+        (Some(spot), Node::Loop { head, .. }, Node::Next { .. })
+            if block_of(checked, wait.user) == head => {
+            let first = Trail::Below { spot, number: 0 };
+            add_has(found, first, wait.user, value)
+        }
+        _ => Ok(()),
+    }
+}
+
+/// Whether this waits for the row at the path.
+fn is_awaited(checked: &Checked, cells: &Cells, path: Trail, row: usize, wait: Wait) -> bool
+    ensures { result ≡ is_awaited checked.now cells.now path row wait }
+{
+    match awaited(checked, wait.user) {
+        Some(there) => {
+            let far = distance(checked, wait.row, Some(there));
+            there == row && same_trail(cells.out_of(wait.path, far), path)
+        }
+        None => false,
+    }
 }
 
 /// The iteration that the path ends in, if it ends in one.
-pub fn iteration_of(checked: &Checked, cells: &Cells, path: Trail) -> Option<Iteration>
+fn iteration_of(checked: &Checked, cells: &Cells, path: Trail) -> Option<Iteration>
     ensures { result ≡ iteration_of checked.now cells.now path }
 {
     match path {
-        Trail::Below { spot, number } => {
-            iteration_by(spot, number, node_of(checked, cells.spot(spot).row))
-        }
+        Trail::Below { spot, .. } => iteration_in(checked, cells.fact(spot)),
         Trail::Outermost => None,
     }
 }
 
+/// The iteration of the loop that is On by the fact.
+fn iteration_in(checked: &Checked, fact: RowFact) -> Option<Iteration>
+    ensures { result ≡ iteration_in checked.now fact }
+{
+    match fact {
+        RowFact::On { row, .. } => iteration_by(node_of(checked, row)),
+        _ => None,
+    }
+}
+
 /// The iteration of a loop at a row of this node.
-fn iteration_by(spot: usize, number: u64, node: Node) -> Option<Iteration>
-    ensures { result ≡ iteration_by spot number node }
+fn iteration_by(node: Node) -> Option<Iteration>
+    ensures { result ≡ iteration_by node }
 {
     match node {
         Node::Loop {
@@ -195,8 +221,6 @@ fn iteration_by(spot: usize, number: u64, node: Node) -> Option<Iteration>
             switches,
             last,
         } => Some(Iteration {
-            spot,
-            number,
             head,
             switches,
             last,
@@ -205,7 +229,8 @@ fn iteration_by(spot: usize, number: u64, node: Node) -> Option<Iteration>
     }
 }
 
-/// Adds the facts that come by the row, if it is the switches or a `next` of the iteration that the path ends in.
+/// Adds the facts that come where the row Has the value at the path, by the row `reader`, if that is the switches or a
+/// `next` of the iteration that the path ends in.
 pub fn add_loop(
     found: &mut Vec<RowFact>,
     checked: &Checked,
@@ -213,69 +238,64 @@ pub fn add_loop(
     cells: &Cells,
     path: Trail,
     row: usize,
+    value: RowValue,
+    reader: usize,
 ) -> Result<(), AllocError>
-    ensures { OnOk result
-        (found.new.items ≡ found.old.items ++ loop_at checked.now links.now cells.now path row) }
+    ensures { OnOk result (found.new.items ≡ found.old.items
+        ++ loop_by checked.now links.now cells.now path row value reader (at (rows checked.now) reader).node) }
 {
-    match node_of(checked, row) {
-        Node::Switches { test } => {
+    match node_of(checked, reader) {
+        Node::Switches { test } if test == row => {
             let iteration = iteration_of(checked, cells, path);
-            add_switches(found, links, cells, path, iteration, row, test)
+            add_switches(found, links, path, iteration, reader, test, value)
         }
-        Node::Next { value, .. } => {
+        Node::Next { value: read, .. } if read == row => {
             let iteration = iteration_of(checked, cells, path);
-            add_next(found, checked, cells, path, iteration, row, value)
+            add_next(found, checked, path, iteration, reader, value)
         }
         _ => Ok(()),
     }
 }
 
-/// Adds the facts that come by the switches at the row, if they are those of the iteration.
+/// Adds the facts that come by this value of the predicate, if the switches at the row are those of the iteration.
 fn add_switches(
     found: &mut Vec<RowFact>,
     links: &Links,
-    cells: &Cells,
     path: Trail,
     iteration: Option<Iteration>,
     row: usize,
     test: usize,
+    value: RowValue,
 ) -> Result<(), AllocError>
-    ensures { OnOk result
-        (found.new.items ≡ found.old.items ++ switches_by links.now cells.now path iteration row test) }
+    ensures { OnOk result (found.new.items ≡ found.old.items
+        ++ switches_by links.now path iteration row test value) }
 {
     match iteration {
         Some(iteration) if row == iteration.switches => {
-            add_turn(
-                found,
-                links,
-                path,
-                iteration,
-                test,
-                cells.read(path, test).has,
-            )
+            add_turn(found, links, path, iteration, test, value)
         }
         _ => Ok(()),
     }
 }
 
-/// Adds the facts that come by the predicate, which may have this value, in an iteration.
+/// Adds the facts that come by this value of the predicate in an iteration.
 fn add_turn(
     found: &mut Vec<RowFact>,
     links: &Links,
     path: Trail,
     iteration: Iteration,
     test: usize,
-    value: Option<SourceValue>,
+    value: RowValue,
 ) -> Result<(), AllocError>
-    ensures { OnOk result
-        (found.new.items ≡ found.old.items ++ turn_by links.now path iteration test value) }
+    ensures { OnOk result (found.new.items ≡ found.old.items
+        ++ turn_by links.now path iteration test value) }
 {
     match value {
-        Some(SourceValue::Bool(true)) => {
-            add_on(found, next_of(path), test)?;
+        RowValue::Bool(true) => {
+            add_on_at(found, next_of(path), test)?;
             add_ons(found, path, links.turns.of(iteration.switches))
         }
-        Some(SourceValue::Bool(false)) => {
+        RowValue::Bool(false) => {
             found.push(RowFact::On {
                 path,
                 row: iteration.last,
@@ -286,30 +306,30 @@ fn add_turn(
     }
 }
 
-/// Adds the facts that come by the `next` at the row, if it is one of the iteration's loop.
+/// Adds that the variable Has the value in the next iteration, if the `next` at the row is one of the iteration's loop.
 fn add_next(
     found: &mut Vec<RowFact>,
     checked: &Checked,
-    cells: &Cells,
     path: Trail,
     iteration: Option<Iteration>,
     row: usize,
-    value: usize,
+    value: RowValue,
 ) -> Result<(), AllocError>
-    ensures { OnOk result
-        (found.new.items ≡ found.old.items ++ next_by checked.now cells.now path iteration row value) }
+    ensures { OnOk result (found.new.items ≡ found.old.items
+        ++ next_by checked.now path iteration row value) }
 {
     match iteration {
         Some(iteration) if block_of(checked, row) == iteration.head => {
-            add_has(found, next_of(path), row, cells.read(path, value).has)
+            add_has_at(found, next_of(path), row, value)
         }
         _ => Ok(()),
     }
 }
 
 /// Adds that the row is On at the path, if there is one.
-fn add_on(found: &mut Vec<RowFact>, path: Option<Trail>, row: usize) -> Result<(), AllocError>
-    ensures { OnOk result (found.new.items ≡ found.old.items ++ on_at path row) }
+fn add_on_at(found: &mut Vec<RowFact>, path: Option<Trail>, row: usize) -> Result<(), AllocError>
+    ensures { OnOk result (found.new.items ≡ found.old.items
+        ++ on_at path row) }
 {
     if let Some(path) = path {
         found.push(RowFact::On { path, row })?;
@@ -317,32 +337,18 @@ fn add_on(found: &mut Vec<RowFact>, path: Option<Trail>, row: usize) -> Result<(
     Ok(())
 }
 
-/// Adds that the row has the value at the path, if there are both.
-fn add_has(
+/// Adds that the row Has the value at the path, if there is one.
+fn add_has_at(
     found: &mut Vec<RowFact>,
     path: Option<Trail>,
     row: usize,
-    value: Option<SourceValue>,
+    value: RowValue,
 ) -> Result<(), AllocError>
-    ensures { OnOk result (found.new.items ≡ found.old.items ++ has_at path row value) }
+    ensures { OnOk result (found.new.items ≡ found.old.items
+        ++ has_at path row value) }
 {
     match path {
-        Some(path) => add_value(found, path, row, value),
+        Some(path) => add_has(found, path, row, value),
         None => Ok(()),
-    }
-}
-
-/// What the row gives back to the loop of this iteration, if it is its last expression.
-pub fn left(
-    cells: &Cells,
-    path: Trail,
-    iteration: Option<Iteration>,
-    row: usize,
-) -> Option<SourceValue>
-    ensures { result ≡ left cells.now path iteration row }
-{
-    match iteration {
-        Some(iteration) if iteration.last == row => cells.read(path, iteration.last).has,
-        _ => None,
     }
 }

@@ -1,7 +1,7 @@
 //! Queues of what waits for binders.
 
 ghost use Rattle.std.specs.Prelude.{◌≡◌, IfOk, OnOk};
-ghost use Rattle.id_meaning.specs.Cells.{queue};
+ghost use Rattle.id_meaning.specs.Effects.{queue};
 ghost use Rattle.id_meaning.specs.Waits.{Adds, width};
 
 use crate::cells::Trail;

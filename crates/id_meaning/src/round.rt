@@ -28,7 +28,8 @@ pub enum RoundsError {
     Memory,
 }
 
-/// The facts of round n, each once: On by path and place, then Has by path, place and value.
+/// The facts of round n, each once: On by path and place, then Has by path, place and value, then Shape by name and
+/// bounds, then Put by cell, store and value, then Ask by fetch and cell.
 ///
 /// `BadRounds` where n is above `MAX_ROUNDS`, which takes no memory; `TooManyFacts` where some round up to n has
 /// more than `MAX_FACTS` facts; `Memory` where a growth was refused. Takes memory for each row of the program and
@@ -51,9 +52,9 @@ pub fn rounds(
     if n > MAX_ROUNDS {
         return Err(RoundsError::BadRounds);
     }
-    let cells = run(alloc, checked, inputs.values.as_slice(), n)?;
-    let facts = list(alloc, checked, &cells)?;
-    Ok(facts)
+    let facts = run(alloc, checked, inputs.values.as_slice(), n)?;
+    let all = list(alloc, checked, &facts)?;
+    Ok(all)
 }
 
 impl From<AllocError> for RoundsError {

@@ -1,100 +1,90 @@
 //! What the rows of a program have after n rounds (docs/MEANING.md, "Rounds").
 
-ghost use Rattle.std.specs.Prelude.{◌≡◌, ◌≤◌, IfErr, IfOk, OnOk};
+ghost use Rattle.std.specs.Prelude.{◌≡◌, ◌≤◌, length, IfErr, IfOk, OnOk};
 ghost use Rattle.id_meaning.specs.Sources.{source};
-ghost use Rattle.id_meaning.specs.Cells.{count_of};
 ghost use Rattle.id_meaning.specs.Computed.{HasMoreFacts};
 ghost use Rattle.id_meaning.specs.Listed.{IsRound};
 ghost use Rattle.id_meaning.specs.Waits.{Goes};
 
-use crate::SourceValue;
-use crate::cells::{Cells, QUEUES, RowFact, learn_again, learn_all};
+use crate::cells::{Cells, Facts, QUEUES, RowFact};
 use crate::effects::{add_effects, first_facts};
 use crate::links::{Links, link};
 use crate::queues::Queues;
 use crate::round::{MAX_FACTS, RoundsError};
 use crate::waits::wait_all;
 use id_check::Checked;
+use id_value::Constant;
 use std::alloc::{AllocError, Global};
 
-/// What the rows of the program with these inputs have after n rounds, unless they have more than `MAX_FACTS` facts:
-/// then no more are looked for. Each round looks only at what the news of the one before lead to.
+/// The facts of round n of the program with these inputs, unless some round up to it has more than `MAX_FACTS`: then
+/// no more are looked for. Each round looks only at what the news of the one before lead to.
 pub fn run(
     alloc: Global,
     checked: &Checked,
-    inputs: &[SourceValue],
+    inputs: &[Constant],
     n: u32,
-) -> Result<Cells, RoundsError>
+) -> Result<Facts, RoundsError>
     ensures facts { IfOk result (λ v. IsRound (source checked.now inputs.now) n v) }
-    ensures few { IfOk result (λ v. count_of v ≤ 1000000) }
+    ensures few { IfOk result (λ v. length v ≤ 1000000) }
     ensures asked { IfErr result (λ e. e ≡ RoundsError.BadRounds → ⊥) }
     ensures too_many { IfErr result
         (λ e. e ≡ RoundsError.TooManyFacts → HasMoreFacts (source checked.now inputs.now) n 1000000) }
 {
-    let mut cells = Cells::new(alloc)?;
+    let mut facts = Facts::new(alloc)?;
     if n == 0 {
-        return Ok(cells);
+        return Ok(facts);
+    }
+    let first = first_facts(alloc, checked, inputs)?;
+    facts.learn_all(first.as_slice())?;
+    if facts.len() > MAX_FACTS {
+        return Err(RoundsError::TooManyFacts);
     }
     let links = link(alloc, checked)?;
     let mut waits = Queues::new(alloc, QUEUES)?;
-    let mut ahead = Cells::new(alloc)?;
-    let mut news = Vec::new(alloc);
-    let first = first_facts(alloc, checked, inputs)?;
-    learn_all(&mut ahead, &mut news, first.as_slice())?;
-    let mut count = news.len();
-    if count > MAX_FACTS {
-        return Err(RoundsError::TooManyFacts);
-    }
+    let mut cells = Cells::new(alloc)?;
+    let mut done = 0;
     for _round in 1..n {
-        if news.is_empty() {
-            return Ok(ahead);
+        if done == facts.len() {
+            return Ok(facts);
         }
-        learn_again(&mut cells, news.as_slice())?;
-        wait_all(&mut waits, checked, &links, &cells, news.as_slice())?;
-        let mut next = Vec::new(alloc);
-        let room = MAX_FACTS - count;
+        let news = &facts.as_slice()[done..];
+        cells.add_all(news)?;
+        wait_all(&mut waits, checked, &links, &cells, news)?;
         learn_effects(
             alloc,
-            &mut ahead,
-            &mut next,
-            room,
+            &mut facts,
             checked,
             &links,
             &waits,
             &cells,
-            news.as_slice(),
+            &cells.items.as_slice()[done..],
         )?;
-        if next.len() > room {
+        if facts.len() > MAX_FACTS {
             return Err(RoundsError::TooManyFacts);
         }
-        count += next.len();
-        news = next;
+        done = cells.items.len();
     }
-    Ok(ahead)
+    Ok(facts)
 }
 
-/// Learns what follows from these facts, with others that the cells have, and tells the news, until there are more
-/// than there is room for.
+/// Learns what follows from these facts, with others that the cells have, until there are more than `MAX_FACTS`.
 fn learn_effects(
     alloc: Global,
-    ahead: &mut Cells,
-    news: &mut Vec<RowFact>,
-    room: usize,
+    facts: &mut Facts,
     checked: &Checked,
     links: &Links,
     waits: &Queues,
     cells: &Cells,
-    facts: &[RowFact],
+    news: &[RowFact],
 ) -> Result<(), AllocError>
-    ensures { OnOk result (Goes checked.now links.now waits.now cells.now facts.now
-        ahead.old ahead.new news.old.items news.new.items room) }
+    ensures { OnOk result (Goes checked.now links.now waits.now cells.now news.now facts.old facts.new) }
 {
     let mut found = Vec::new(alloc);
-    for fact in facts {
+    for fact in news {
         found.clear();
-        add_effects(&mut found, checked, links, waits, cells, *fact)?;
-        learn_all(ahead, news, found.as_slice())?;
-        if news.len() > room {
+        add_effects(alloc, &mut found, checked, links, waits, cells, *fact)?;
+        facts.learn_all(found.as_slice())?;
+        if facts.len() > MAX_FACTS {
             return Ok(());
         }
     }

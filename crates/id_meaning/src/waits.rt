@@ -4,6 +4,7 @@
 //! value leads to those alone that are On.
 
 ghost use Rattle.std.specs.Prelude.{[], ◌∷◌, OnOk};
+ghost use Rattle.id_meaning.specs.Cells.{items};
 ghost use Rattle.id_meaning.specs.Waits.{Waits, WaitsFor};
 
 use crate::cells::{Cells, RowFact, Trail, queue_of};
@@ -22,7 +23,7 @@ pub fn wait_all(
     cells: &Cells,
     facts: &[RowFact],
 ) -> Result<(), AllocError>
-    ensures { OnOk result (Waits checked.now links.now cells.now waits.old waits.new facts.now) }
+    ensures { OnOk result (Waits checked.now links.now (items cells.now) waits.old waits.new facts.now) }
 {
     for fact in facts {
         wait(waits, checked, links, cells, *fact)?;
@@ -38,7 +39,7 @@ fn wait(
     cells: &Cells,
     fact: RowFact,
 ) -> Result<(), AllocError>
-    ensures { OnOk result (Waits checked.now links.now cells.now waits.old waits.new (fact ∷ [])) }
+    ensures { OnOk result (Waits checked.now links.now (items cells.now) waits.old waits.new (fact ∷ [])) }
 {
     match fact {
         RowFact::On { path, row } => match node_of(checked, row) {
@@ -48,7 +49,7 @@ fn wait(
             }
             _ => Ok(()),
         },
-        RowFact::Has { .. } => Ok(()),
+        _ => Ok(()),
     }
 }
 
@@ -61,7 +62,7 @@ fn wait_each(
     row: usize,
     users: &[usize],
 ) -> Result<(), AllocError>
-    ensures { OnOk result (WaitsFor checked.now cells.now waits.old waits.new path row users.now) }
+    ensures { OnOk result (WaitsFor checked.now (items cells.now) waits.old waits.new path row users.now) }
 {
     for user in users {
         wait_for(waits, checked, cells, path, row, *user)?;
@@ -78,7 +79,7 @@ fn wait_for(
     row: usize,
     user: usize,
 ) -> Result<(), AllocError>
-    ensures { OnOk result (WaitsFor checked.now cells.now waits.old waits.new path row (user ∷ [])) }
+    ensures { OnOk result (WaitsFor checked.now (items cells.now) waits.old waits.new path row (user ∷ [])) }
 {
     let binder = awaited(checked, user);
     match binder {

@@ -7,15 +7,17 @@ use Rattle.std.proofs.lemmas.List.Elements.{filter_map-append, recursion_from_Al
 use Rattle.std.proofs.lemmas.List.Sorted.{All-permutation, IsPermutation-sym}
 use Rattle.id_graph.specs.Graph.{Parts}
 use Rattle.id_meaning.specs.declared.SourceFault.{SourceFault}
+use Rattle.id_tag.specs.declared.Structure.{Structure}
 use Rattle.id_tag.specs.declared.Tag.{Tag}
 use Rattle.id_meaning.specs.declared.Path.{Path}
+use Rattle.id_meaning.specs.declared.Site.{Site}
 use Rattle.id_record.specs.declared.step.Step.TheVariants.{Went}
 use Rattle.id_record.specs.Events.{AllWent, EventView}
 use Rattle.id_record.proofs.EachLemmas.{each-weaker}
 use Rattle.id_element.specs.Steps.{State}
 use Rattle.id_element.specs.Replays.{ElementView}
 use Rattle.id_observe.specs.Merged.{by_moment}
-use Rattle.id_observe.specs.Observed.{events_of, fault_of, faults_in, faults_of, path_in}
+use Rattle.id_observe.specs.Observed.{events_of, fault_of, faults_in, faults_of, path_in, structure_in}
 use Rattle.id_observe.specs.Firsts.{IsFirstFault}
 use Rattle.id_observe.proofs.ObservedLemmas.{none_first}
 
@@ -70,7 +72,7 @@ first-permutation h xs ys y same is =
 
 -- the first fault is one of those that the records show
 pub first_is_shown : (g : Parts) (elements : List State) (f : SourceFault) → IsFirstFault g elements f → (i : ℕ) × (slice_get (faults_in g elements) i ≡ Some f)
-first_is_shown g elements f is = first-permutation (λ e. fault_of g (path_in g elements) e.step) (events_of elements) is.order f is.merged.all is.first
+first_is_shown g elements f is = first-permutation (λ e. fault_of g (path_in g elements) (structure_in g elements) e.step) (events_of elements) is.order f is.merged.all is.first
 
 -- the events of elements, by their states
 events_of-states : (es : List ElementView) → flat_map (λ e. e.state.events) es ≡ events_of (map (λ e. e.state) es)
@@ -78,10 +80,10 @@ events_of-states [] = refl
 events_of-states (e ∷ es) = ap (λ xs. e.state.events ++ xs) (events_of-states es)
 
 -- what a walk over the merged events found, said of the elements
-pub found_first : (g : Parts) (es : List ElementView) (m : List EventView) (o : Option SourceFault) → IsPermutation (flat_map (λ e. e.state.events) es) m → IsStrictlySortedBy by_moment m → o ≡ slice_get (faults_of g (path_in g (map (λ e. e.state) es)) m) 0
+pub found_first : (g : Parts) (es : List ElementView) (m : List EventView) (o : Option SourceFault) → IsPermutation (flat_map (λ e. e.state.events) es) m → IsStrictlySortedBy by_moment m → o ≡ slice_get (faults_of g (path_in g (map (λ e. e.state) es)) (structure_in g (map (λ e. e.state) es)) m) 0
     → MatchOption o (faults_in g (map (λ e. e.state) es) ≡ []) (IsFirstFault g (map (λ e. e.state) es))
 found_first g es m None all sorted is =
-    nothing-permutation (λ e. fault_of g (path_in g (map (λ e. e.state) es)) e.step) (events_of (map (λ e. e.state) es)) m (subst (λ xs. IsPermutation xs m) (events_of-states es) all) (none_first (faults_of g (path_in g (map (λ e. e.state) es)) m) (sym is))
+    nothing-permutation (λ e. fault_of g (path_in g (map (λ e. e.state) es)) (structure_in g (map (λ e. e.state) es)) e.step) (events_of (map (λ e. e.state) es)) m (subst (λ xs. IsPermutation xs m) (events_of-states es) all) (none_first (faults_of g (path_in g (map (λ e. e.state) es)) (structure_in g (map (λ e. e.state) es)) m) (sym is))
 found_first g es m (Some f) all sorted is = record {
   order = m;
   merged = record { all = subst (λ xs. IsPermutation xs m) (events_of-states es) all; sorted = sorted };
@@ -89,19 +91,19 @@ found_first g es m (Some f) all sorted is = record {
 }
 
 -- events that went well show no fault
-went_none : (g : Parts) (path : Tag → Path) (vs : List EventView) → AllWent vs → faults_of g path vs ≡ []
-went_none g path vs went =
-    nothing_all (λ e. fault_of g path e.step) vs
-    (each-weaker (λ e. e.step ≡ Went) (λ e. fault_of g path e.step ≡ None) (λ e is. ap (fault_of g path) is) vs (recursion_from_All (λ e. e.step ≡ Went) vs went))
+pub went_none : (g : Parts) (path : Tag → Path) (name : Structure → Site) (vs : List EventView) → AllWent vs → faults_of g path name vs ≡ []
+went_none g path name vs went =
+    nothing_all (λ e. fault_of g path name e.step) vs
+    (each-weaker (λ e. e.step ≡ Went) (λ e. fault_of g path name e.step ≡ None) (λ e is. ap (fault_of g path name) is) vs (recursion_from_All (λ e. e.step ≡ Went) vs went))
 
 -- elements whose events went well show no fault
-faults_none : (g : Parts) (path : Tag → Path) (es : List ElementView) → AllByRecursion (λ e. AllWent e.state.events) es
-    → faults_of g path (events_of (map (λ e. e.state) es)) ≡ []
-faults_none g path [] all = refl
-faults_none g path (e ∷ es) all =
-    filter_map-append (λ v. fault_of g path v.step) e.state.events (events_of (map (λ x. x.state) es))
-    ∙ ap (λ fs. fs ++ faults_of g path (events_of (map (λ x. x.state) es))) (went_none g path e.state.events all.0)
-    ∙ faults_none g path es all.1
+faults_none : (g : Parts) (path : Tag → Path) (name : Structure → Site) (es : List ElementView) → AllByRecursion (λ e. AllWent e.state.events) es
+    → faults_of g path name (events_of (map (λ e. e.state) es)) ≡ []
+faults_none g path name [] all = refl
+faults_none g path name (e ∷ es) all =
+    filter_map-append (λ v. fault_of g path name v.step) e.state.events (events_of (map (λ x. x.state) es))
+    ∙ ap (λ fs. fs ++ faults_of g path name (events_of (map (λ x. x.state) es))) (went_none g path name e.state.events all.0)
+    ∙ faults_none g path name es all.1
 
 pub faults-went : (g : Parts) (es : List ElementView) → All (λ e. AllWent e.state.events) es → faults_in g (map (λ e. e.state) es) ≡ []
-faults-went g es all = faults_none g (path_in g (map (λ e. e.state) es)) es (recursion_from_All (λ e. AllWent e.state.events) es all)
+faults-went g es all = faults_none g (path_in g (map (λ e. e.state) es)) (structure_in g (map (λ e. e.state) es)) es (recursion_from_All (λ e. AllWent e.state.events) es all)

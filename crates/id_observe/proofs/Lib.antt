@@ -1,5 +1,6 @@
 pub mod ObservedLemmas
 pub mod PathsLemmas
+pub mod SkippedLemmas
 pub mod OrderedLemmas
 pub mod MergedLemmas
 pub mod RecordsLemmas

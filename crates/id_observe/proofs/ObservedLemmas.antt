@@ -1,7 +1,7 @@
 -- Lemmas on specs/Observed.antt: walks over records, one event and one element after another.
-use Rattle.std.proofs.Common.{◌≡◌, ℕ, suc, ◌+◌, Option, Some, None, List, [], ◌∷◌, ◌++◌, map, take, drop, refl, sym, ap, ◌∙◌, append-nil}
+use Rattle.std.proofs.Common.{◌≡◌, ℕ, suc, ◌+◌, ◌<◌, Option, Some, None, List, [], ◌∷◌, ◌++◌, map, length, get_or, take, drop, refl, sym, ap, ◌∙◌, append-nil}
 use Rattle.std.specs.Prelude.{Bool, true, false, is_some, slice_get, unwrap_or, option_map}
-use Rattle.std.specs.List.{filter_map, cons_option}
+use Rattle.std.specs.List.{filter_map, flat_map, cons_option}
 use Rattle.std.proofs.lemmas.List.{take_more, take-append-drop, map-append}
 use Rattle.std.proofs.lemmas.List.Elements.{filter_map-append}
 use Rattle.std.proofs.lemmas.Grind.{flat_map-append}
@@ -9,11 +9,10 @@ use Rattle.std.proofs.lemmas.Option.{slice_get_within, get_or_from_slice_get, sl
 use Rattle.std.proofs.Math.Seq.{drop-cons}
 use Rattle.id_graph.specs.declared.instr.Instr.{Instr}
 use Rattle.id_graph.specs.Graph.{Parts}
-use Rattle.id_tag.specs.declared.Tag.{Tag}
 use Rattle.id_tag.specs.declared.Value.{Value}
-use Rattle.id_meaning.specs.declared.Path.{Path}
+use Rattle.id_element.specs.Steps.{State}
 use Rattle.id_element.specs.Replays.{ElementView}
-use Rattle.id_observe.specs.Observed.{events_of, answers, faults_of, fault_of, names_of, name_in, label_marks, is_label, is_label_of}
+use Rattle.id_observe.specs.Observed.{events_of, answers, first_value, label_marks, is_label, is_label_of}
 
 -- one more element at the end of what was walked over
 pub take-next : {A : Type 0} (xs : List A) (i : ℕ) (x : A) → slice_get xs i ≡ Some x → take (i + 1) xs ≡ take i xs ++ x ∷ []
@@ -29,6 +28,16 @@ split-next xs i x at =
 -- a walk goes on by what one element gives
 pub filter_map-next : {A B : Type 0} (h : A → Option B) (xs : List A) (i : ℕ) (x : A) → slice_get xs i ≡ Some x → filter_map h (take (i + 1) xs) ≡ filter_map h (take i xs) ++ cons_option (h x) []
 filter_map-next h xs i x at = ap (filter_map h) (take-next xs i x at) ∙ filter_map-append h (take i xs) (x ∷ [])
+
+-- the same, where what the element gives was found first
+pub filter_map-at : {A B : Type 0} (h : A → Option B) (xs : List A) (i : ℕ) (d : A) (o : Option B) → i < length xs → o ≡ h (get_or xs i d) → filter_map h (take (i + 1) xs) ≡ filter_map h (take i xs) ++ cons_option o []
+filter_map-at h xs i d o lt is =
+    ap (filter_map h) (take_more xs i d lt) ∙ filter_map-append h (take i xs) (get_or xs i d ∷ []) ∙ ap (λ x. filter_map h (take i xs) ++ cons_option x []) (sym is)
+
+-- and so for images
+pub map-at : {A B : Type 0} (h : A → B) (xs : List A) (i : ℕ) (d : A) (y : B) → i < length xs → y ≡ h (get_or xs i d) → map h (take (i + 1) xs) ≡ map h (take i xs) ++ y ∷ []
+map-at h xs i d y lt is =
+    ap (map h) (take_more xs i d lt) ∙ map-append h (take i xs) (get_or xs i d ∷ []) ∙ ap (λ x. map h (take i xs) ++ x ∷ []) (sym is)
 
 -- the first that gives something, after those that gave nothing
 pub filter_map-first : {A B : Type 0} (h : A → Option B) (xs : List A) (i : ℕ) (x : A) (v : B) → slice_get xs i ≡ Some x → filter_map h (take i xs) ≡ [] → h x ≡ Some v → slice_get (filter_map h xs) 0 ≡ Some v
@@ -47,13 +56,30 @@ pub filter_map-nothing : {A B : Type 0} (h : A → Option B) (xs : List A) (i : 
 filter_map-nothing h xs i x None at before gives missed = rw (filter_map-next h xs i x at, before, gives)
 filter_map-nothing h xs i x (Some v) at before gives missed = cc
 
+-- what the states of elements hold, one more element after those walked over
+parts-next : {A : Type 0} (f : State → List A) (es : List ElementView) (i : ℕ) (e : ElementView) → slice_get es i ≡ Some e
+    → flat_map f (map (λ x. x.state) (take (i + 1) es)) ≡ flat_map f (map (λ x. x.state) (take i es)) ++ f e.state
+parts-next f es i e at =
+    ap (λ xs. flat_map f (map (λ x. x.state) xs)) (take-next es i e at)
+    ∙ ap (flat_map f) (map-append (λ x. x.state) (take i es) (e ∷ []))
+    ∙ flat_map-append f (map (λ x. x.state) (take i es)) (e.state ∷ [])
+    ∙ ap (λ ys. flat_map f (map (λ x. x.state) (take i es)) ++ ys) (append-nil (f e.state))
+
 -- the events of elements, one more element after those walked over
 pub events-next : (es : List ElementView) (i : ℕ) (e : ElementView) → slice_get es i ≡ Some e → events_of (map (λ x. x.state) (take (i + 1) es)) ≡ events_of (map (λ x. x.state) (take i es)) ++ e.state.events
-events-next es i e at =
-    ap (λ xs. events_of (map (λ x. x.state) xs)) (take-next es i e at)
-    ∙ ap events_of (map-append (λ x. x.state) (take i es) (e ∷ []))
-    ∙ flat_map-append (λ s. s.events) (map (λ x. x.state) (take i es)) (e.state ∷ [])
-    ∙ ap (λ ys. events_of (map (λ x. x.state) (take i es)) ++ ys) (append-nil e.state.events)
+events-next es i e at = parts-next (λ s. s.events) es i e at
+
+-- what a walk over what they hold gives for one more element comes after what it gave before
+pub walk-next : {A B : Type 0} (f : State → List A) (h : A → Option B) (es : List ElementView) (i : ℕ) (e : ElementView) → slice_get es i ≡ Some e
+    → filter_map h (flat_map f (map (λ x. x.state) (take (i + 1) es))) ≡ filter_map h (flat_map f (map (λ x. x.state) (take i es))) ++ filter_map h (f e.state)
+walk-next f h es i e at =
+    ap (filter_map h) (parts-next f es i e at) ∙ filter_map-append h (flat_map f (map (λ x. x.state) (take i es))) (f e.state)
+
+-- and so do the images of what they hold
+pub images-next : {A B : Type 0} (f : State → List A) (h : A → B) (es : List ElementView) (i : ℕ) (e : ElementView) → slice_get es i ≡ Some e
+    → map h (flat_map f (map (λ x. x.state) (take (i + 1) es))) ≡ map h (flat_map f (map (λ x. x.state) (take i es))) ++ map h (f e.state)
+images-next f h es i e at =
+    ap (map h) (parts-next f es i e at) ∙ map-append h (flat_map f (map (λ x. x.state) (take i es))) (f e.state)
 
 -- and all of them
 events-split : (es : List ElementView) (i : ℕ) (e : ElementView) → slice_get es i ≡ Some e
@@ -74,7 +100,7 @@ none_first [] at = refl
 none_first (x ∷ xs) at = cc
 
 -- the first element whose record has an answer, after those whose records have none
-pub answers-first : (es : List ElementView) (i : ℕ) (e : ElementView) (v : Value) → slice_get es i ≡ Some e
+answers-first : (es : List ElementView) (i : ℕ) (e : ElementView) (v : Value) → slice_get es i ≡ Some e
     → answers (events_of (map (λ x. x.state) (take i es))) ≡ [] → slice_get (answers e.state.events) 0 ≡ Some v
     → slice_get (answers (events_of (map (λ x. x.state) es))) 0 ≡ Some v
 answers-first es i e v at before first =
@@ -86,7 +112,7 @@ answers-first es i e v at before first =
     rw (whole, before) (first-append (answers e.state.events) (answers rest) v first)
 
 -- a record with no answer adds none
-pub answers-next : (es : List ElementView) (i : ℕ) (e : ElementView) → slice_get es i ≡ Some e
+answers-next : (es : List ElementView) (i : ℕ) (e : ElementView) → slice_get es i ≡ Some e
     → answers (events_of (map (λ x. x.state) (take i es))) ≡ [] → answers e.state.events ≡ []
     → answers (events_of (map (λ x. x.state) (take (i + 1) es))) ≡ []
 answers-next es i e at before none =
@@ -94,19 +120,19 @@ answers-next es i e at before none =
     ∙ filter_map-append _ (events_of (map (λ x. x.state) (take i es))) e.state.events
     ∙ rw (before, none)
 
--- the faults of one more record come after those before
-pub faults-next : (g : Parts) (path : Tag → Path) (es : List ElementView) (i : ℕ) (e : ElementView) → slice_get es i ≡ Some e
-    → faults_of g path (events_of (map (λ x. x.state) (take (i + 1) es))) ≡ faults_of g path (events_of (map (λ x. x.state) (take i es))) ++ faults_of g path e.state.events
-faults-next g path es i e at =
-    ap (faults_of g path) (events-next es i e at)
-    ∙ filter_map-append (λ v. fault_of g path v.step) (events_of (map (λ x. x.state) (take i es))) e.state.events
+-- the first value, where the record of this element has it and those before have none
+pub value-found : (es : List ElementView) (i : ℕ) (e : ElementView) (o : Option Value) → slice_get es i ≡ Some e
+    → answers (events_of (map (λ x. x.state) (take i es))) ≡ [] → o ≡ slice_get (answers e.state.events) 0 → is_some o ≡ true
+    → o ≡ first_value (map (λ x. x.state) es)
+value-found es i e None at before is found = cc
+value-found es i e (Some v) at before is found = sym (answers-first es i e v at before (sym is))
 
--- the names of one more record come after those before
-pub names-next : (g : Parts) (path : Tag → Path) (es : List ElementView) (i : ℕ) (e : ElementView) → slice_get es i ≡ Some e
-    → names_of g path (events_of (map (λ x. x.state) (take (i + 1) es))) ≡ names_of g path (events_of (map (λ x. x.state) (take i es))) ++ names_of g path e.state.events
-names-next g path es i e at =
-    ap (names_of g path) (events-next es i e at)
-    ∙ filter_map-append (λ v. name_in g path v.message.payload) (events_of (map (λ x. x.state) (take i es))) e.state.events
+-- and none yet, where it has none
+pub value-missed : (es : List ElementView) (i : ℕ) (e : ElementView) (o : Option Value) → slice_get es i ≡ Some e
+    → answers (events_of (map (λ x. x.state) (take i es))) ≡ [] → o ≡ slice_get (answers e.state.events) 0 → is_some o ≡ false
+    → answers (events_of (map (λ x. x.state) (take (i + 1) es))) ≡ []
+value-missed es i e None at before is missed = answers-next es i e at before (none_first (answers e.state.events) (sym is))
+value-missed es i e (Some v) at before is missed = cc
 
 -- the mark of a number, where there is one, says whether its instruction is a label
 pub is_label-from_mark : (g : Parts) (n : ℕ) → unwrap_or (slice_get (label_marks g) n) false ≡ is_label g n

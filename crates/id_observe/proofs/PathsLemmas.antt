@@ -7,14 +7,15 @@ use Rattle.std.specs.Option.{option_map_or, option_or}
 use Rattle.id_graph.specs.Graph.{Parts}
 use Rattle.id_tag.specs.declared.Context.{Context}
 use Rattle.id_tag.specs.declared.Tag.{Tag}
-use Rattle.id_tag.specs.Tags.{same_context}
+use Rattle.id_tag.specs.declared.Structure.{Structure}
+use Rattle.id_tag.specs.Tags.{same_context, same_structure}
 use Rattle.id_record.specs.Events.{EventView}
 use Rattle.id_element.specs.Replays.{ElementView}
 use Rattle.id_list.specs.List.{Among}
 use Rattle.id_observe.specs.declared.paths.Paths.{Paths}
-use Rattle.id_observe.specs.Observed.{events_of}
+use Rattle.id_observe.specs.Observed.{events_of, name_by, structure_by}
 use Rattle.id_meaning.specs.declared.PathStep.{PathStep}
-use Rattle.id_observe.specs.Paths.{enter_in, enter_of, path_by, path_of, step_of, steps_to}
+use Rattle.id_observe.specs.Paths.{enter_in, enter_of, maker_in, maker_of, path_by, path_of, step_of, steps_to}
 
 some_none : {X : Type 0} {x : X} → Some x ≡ None → ⊥
 some_none e = cc
@@ -53,6 +54,31 @@ enter_in-next g es i e c old at =
     let more : enter_in g (take (i + 1) es) c ≡ option_or (enter_of g e c) (enter_in g (take i es) c) =
     ap (λ xs. enter_in g xs c) (take-next es i e at) ∙ enter_in-append g (take i es) (e ∷ []) c ∙ ap (λ o. option_or o (enter_in g (take i es) c)) (enter_in-one g e c) in
     ap (λ o. option_or o old) more ∙ or-assoc (enter_of g e c) (enter_in g (take i es) c) old
+
+-- no events made a structure
+pub maker_in-none : (g : Parts) (s : Structure) → maker_in g [] s ≡ None
+unfolding maker_in
+maker_in-none g s = refl
+
+-- the later of two lists of events counts first
+pub maker_in-append : (g : Parts) (es fs : List EventView) (s : Structure) → maker_in g (es ++ fs) s ≡ option_or (maker_in g fs s) (maker_in g es s)
+unfolding maker_in
+maker_in-append g [] fs s = sym (or-none (maker_in g fs s))
+maker_in-append g (e ∷ es) fs s =
+    ap (λ o. option_or o (maker_of g e s)) (maker_in-append g es fs s) ∙ or-assoc (maker_in g fs s) (maker_in g es s) (maker_of g e s)
+
+-- one event
+pub maker_in-one : (g : Parts) (e : EventView) (s : Structure) → maker_in g (e ∷ []) s ≡ maker_of g e s
+unfolding maker_in
+maker_in-one g e s = refl
+
+-- one more event of a list, over what was there before
+pub maker_in-next : (g : Parts) (es : List EventView) (i : ℕ) (e : EventView) (s : Structure) (old : Option Tag) → slice_get es i ≡ Some e
+    → option_or (maker_in g (take (i + 1) es) s) old ≡ option_or (maker_of g e s) (option_or (maker_in g (take i es) s) old)
+maker_in-next g es i e s old at =
+    let more : maker_in g (take (i + 1) es) s ≡ option_or (maker_of g e s) (maker_in g (take i es) s) =
+    ap (λ xs. maker_in g xs s) (take-next es i e at) ∙ maker_in-append g (take i es) (e ∷ []) s ∙ ap (λ o. option_or o (maker_in g (take i es) s)) (maker_in-one g e s) in
+    ap (λ o. option_or o old) more ∙ or-assoc (maker_of g e s) (maker_in g (take i es) s) old
 
 -- a tag whose context nothing entered has no steps
 pub steps_to-main : (g : Parts) (enter : Context → Option Tag) (n : ℕ) (t : Tag) → enter t.context ≡ None → steps_to g enter n t ≡ []
@@ -106,11 +132,22 @@ pub path_by-same : (g : Parts) (es : List EventView) (p : Paths) → p.graph.now
     → path_by p ≡ path_of g es
 path_by-same g es p graph enters most = λ i t. record { steps = steps_to (graph i) (λ c. enters c i) (most i) t }
 
+-- tables that tell what the events of elements do give each structure its name by these events
+pub structure_by-same : (g : Parts) (es : List EventView) (p : Paths) → p.graph.now ≡ g → path_by p ≡ path_of g es → ((s : Structure) → get same_structure p.makers s ≡ maker_in g es s)
+    → structure_by p ≡ (λ s. name_by g (path_of g es) (maker_in g es s))
+structure_by-same g es p graph paths makers = λ i s. name_by (graph i) (paths i) (makers s i)
+
 -- the enters of one more record come after those before
 pub enters-next : (g : Parts) (es : List ElementView) (i : ℕ) (e : ElementView) (c : Context) → slice_get es i ≡ Some e
     → enter_in g (events_of (map (λ x. x.state) (take (i + 1) es))) c ≡ option_or (enter_in g e.state.events c) (enter_in g (events_of (map (λ x. x.state) (take i es))) c)
 enters-next g es i e c at =
     ap (λ xs. enter_in g xs c) (events-next es i e at) ∙ enter_in-append g (events_of (map (λ x. x.state) (take i es))) e.state.events c
+
+-- so do the structures that it made
+pub makers-next : (g : Parts) (es : List ElementView) (i : ℕ) (e : ElementView) (s : Structure) → slice_get es i ≡ Some e
+    → maker_in g (events_of (map (λ x. x.state) (take (i + 1) es))) s ≡ option_or (maker_in g e.state.events s) (maker_in g (events_of (map (λ x. x.state) (take i es))) s)
+makers-next g es i e s at =
+    ap (λ xs. maker_in g xs s) (events-next es i e at) ∙ maker_in-append g (events_of (map (λ x. x.state) (take i es))) e.state.events s
 
 -- the events of one more record are counted with those before
 pub length-next : (es : List ElementView) (i : ℕ) (e : ElementView) → slice_get es i ≡ Some e

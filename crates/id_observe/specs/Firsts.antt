@@ -6,7 +6,7 @@ use Rattle.id_meaning.specs.declared.SourceFault.{SourceFault}
 use Rattle.id_record.specs.Events.{EventView}
 use Rattle.id_element.specs.Steps.{State}
 use Rattle.id_observe.specs.Merged.{by_moment}
-use Rattle.id_observe.specs.Observed.{events_of, faults_of, path_in}
+use Rattle.id_observe.specs.Observed.{events_of, faults_of, path_in, structure_in}
 
 -- these are all events of the elements, by stamp, and at one stamp by element
 pub record AreMergedOf (elements : List State) (es : List EventView) : Type 0 where
@@ -17,4 +17,4 @@ pub record AreMergedOf (elements : List State) (es : List EventView) : Type 0 wh
 pub record IsFirstFault (g : Parts) (elements : List State) (f : SourceFault) : Type 0 where
   pub order : List EventView
   pub merged : AreMergedOf elements order
-  pub first : slice_get (faults_of g (path_in g elements) order) 0 ≡ Some f
+  pub first : slice_get (faults_of g (path_in g elements) (structure_in g elements) order) 0 ≡ Some f

@@ -1,6 +1,11 @@
 -- What a run shows (docs/MACHINE.md, "Observed").
 use Rattle.std.specs.Prelude.{ℕ, Bool, true, false, not, ◌&&◌, ◌==◌, count_by, List, map, Option, Some, None, slice_get}
-use Rattle.std.specs.Prelude.{option_and_then, if◌then◌else◌}
+use Rattle.std.specs.Prelude.{ℤ, ◌≡◌, All, IsFalse, option_and_then, option_map, unwrap_or, if◌then◌else◌}
+use Rattle.std.specs.FinMap.{empty}
+use Rattle.std.specs.declared.cmp.Ordering.{Ordering}
+use Rattle.std.specs.declared.cmp.Ordering.TheVariants.{Less, Equal, Greater}
+use Rattle.std.specs.Ordering.{nat_cmp, ordering_then}
+use Rattle.std.specs.Cmp.Lexicographic.{slice_cmp}
 use Rattle.std.specs.List.{filter_map, flat_map}
 use Rattle.id_graph.specs.declared.instr.Op.{Op}
 use Rattle.id_graph.specs.declared.instr.Op.TheVariants as op
@@ -10,20 +15,34 @@ use Rattle.id_tag.specs.declared.Tag.{Tag}
 use Rattle.id_tag.specs.declared.Value.{Value}
 use Rattle.id_tag.specs.declared.Value.TheVariants as value
 use Rattle.id_tag.specs.declared.Payload.{Payload}
-use Rattle.id_tag.specs.declared.Payload.TheVariants.{Token}
-use Rattle.id_tag.specs.Tags.{same_tag}
+use Rattle.id_tag.specs.declared.Payload.TheVariants.{Token, Read, Write}
+use Rattle.id_tag.specs.declared.Structure.{Structure}
+use Rattle.std.specs.HashMap.{get}
+use Rattle.id_tag.specs.Tags.{same_structure, same_tag}
+use Rattle.id_observe.specs.declared.paths.Paths.{Paths}
+use Rattle.id_observe.specs.Paths.{is_alloc, path_by}
 use Rattle.id_meaning.specs.declared.SourceValue.{SourceValue}
 use Rattle.id_meaning.specs.declared.SourceValue.TheVariants as source
 use Rattle.id_meaning.specs.declared.Path.{Path}
+use Rattle.id_meaning.specs.declared.Site.{Site}
+use Rattle.id_meaning.specs.declared.Shape.{Shape}
+use Rattle.id_meaning.specs.declared.Put.{Put}
+use Rattle.id_meaning.specs.declared.Ask.{Ask}
 use Rattle.id_meaning.specs.declared.SourceFault.{SourceFault}
+use Rattle.id_meaning.specs.declared.SourceFault.TheVariants as fault
+use Rattle.id_meaning.specs.Orders.{step_cmp}
 use Rattle.id_meaning.specs.declared.NameValue.{NameValue}
 use Rattle.id_valid.specs.Validator.{is_value}
 use Rattle.id_record.specs.declared.step.Step.{Step}
 use Rattle.id_record.specs.declared.step.Step.TheVariants.{Went, Fault, Stuck}
-use Rattle.id_record.specs.declared.step.Fault.TheVariants.{Operator}
-use Rattle.id_record.specs.Events.{EventView}
+use Rattle.id_record.specs.declared.step.Fault.TheVariants.{Operator, SecondStore}
+use Rattle.id_bank.specs.declared.Filled.{Filled}
+use Rattle.id_bank.specs.declared.Reader.{Reader}
+use Rattle.id_bank.specs.Cells.{cells_of, deferred_of}
+use Rattle.id_record.specs.Events.{EventView, tag_of}
 use Rattle.id_element.specs.Steps.{State}
-pub use Rattle.id_observe.specs.Paths.{place_of, path_of}
+use Rattle.id_element.specs.Replays.{ElementView}
+pub use Rattle.id_observe.specs.Paths.{place_of, path_of, made, maker_in}
 
 -- a tag of main's context, at iteration 0
 abbrev pub main_tag : ℕ → Tag
@@ -36,14 +55,34 @@ events_of elements = flat_map (λ e. e.events) elements
 -- the value that a token brings to instruction 0 under main's tag
 abbrev pub brought : Payload → Option Value
 brought (Token t p v) = if same_tag t (main_tag 0) then Some v else None
+brought (Read c t) = None
+brought (Write c v t) = None
 
--- a value of a token as one of the source
-abbrev pub source_value : Value → Option SourceValue
-source_value value.Signal = None
-source_value (value.Int n) = Some (source.Int n)
-source_value (value.Bool b) = Some (source.Bool b)
-source_value (value.Context c) = None
-source_value (value.Continuation t) = None
+-- the path of a tag, by the records of these elements
+abbrev pub path_in : Parts → List State → Tag → Path
+path_in g elements = path_of g (events_of elements)
+
+-- where the tag's instruction stands, where each tag has this path
+abbrev pub site_at : Parts → (Tag → Path) → Tag → Site
+site_at g path t = record { path = path t; place = place_of g t.instr }
+
+-- the name of a structure: where it was made. One that nothing made has that of the answer; in a run there is none
+abbrev pub name_by : Parts → (Tag → Path) → Option Tag → Site
+name_by g path maker = site_at g path (unwrap_or maker (main_tag 0))
+
+-- the name of a structure, by the records of these elements
+abbrev pub structure_in : Parts → List State → Structure → Site
+structure_in g elements s = name_by g (path_in g elements) (maker_in g (events_of elements) s)
+
+-- a value of a token as one of the source, where each structure has this name
+abbrev pub source_value : (Structure → Site) → Value → Option SourceValue
+source_value name value.Signal = None
+source_value name (value.Int n) = Some (source.Int n)
+source_value name (value.Bool b) = Some (source.Bool b)
+source_value name (value.Structure s) = Some (source.Name (name s))
+source_value name (value.Address c) = None
+source_value name (value.Context c) = None
+source_value name (value.Continuation t) = None
 
 -- the values that these events brought to instruction 0 under main's tag, in order
 abbrev pub answers : List EventView → List Value
@@ -51,26 +90,39 @@ answers es = filter_map (λ e. brought e.message.payload) es
 
 -- the answer that the records of these elements show: the first of those values. One element handles that tag, so its
 -- record has them all
-abbrev pub answer_in : List State → Option SourceValue
-answer_in elements = option_and_then source_value (slice_get (answers (events_of elements)) 0)
+abbrev pub answer_in : Parts → List State → Option SourceValue
+answer_in g elements =
+    option_and_then (source_value (structure_in g elements)) (slice_get (answers (events_of elements)) 0)
 
--- the path of a tag, by the records of these elements
-abbrev pub path_in : Parts → List State → Tag → Path
-path_in g elements = path_of g (events_of elements)
+-- how two sites compare: by path, then by place
+abbrev pub site_cmp : Site → Site → Ordering
+site_cmp a b = ordering_then (slice_cmp step_cmp a.path.steps b.path.steps) (nat_cmp a.place b.place)
 
--- the fault of the source that an event's step shows, where each tag has this path
-abbrev pub fault_of : Parts → (Tag → Path) → Step → Option SourceFault
-fault_of g path Went = None
-fault_of g path (Fault (Operator f t)) = Some (record { kind = f; path = path t; place = place_of g t.instr })
-fault_of g path Stuck = None
+-- two stores into one cell, as they compare: the first of them first
+abbrev pub stores_as : Ordering → Site → ℤ → Site → Site → SourceFault
+stores_as Less s i a b = fault.SecondStore s i a b
+stores_as Equal s i a b = fault.SecondStore s i a b
+stores_as Greater s i a b = fault.SecondStore s i b a
+
+-- the fault of two stores into one cell of the structure of this name
+abbrev pub second_store : Site → ℤ → Site → Site → SourceFault
+second_store s i a b = stores_as (site_cmp a b) s i a b
+
+-- the fault of the source that an event's step shows, where each tag has this path and each structure this name
+abbrev pub fault_of : Parts → (Tag → Path) → (Structure → Site) → Step → Option SourceFault
+fault_of g path name Went = None
+fault_of g path name (Fault (Operator f t)) = Some (fault.Operator f (site_at g path t))
+fault_of g path name (Fault (SecondStore c t u)) =
+    Some (second_store (name c.structure) c.index (site_at g path t) (site_at g path u))
+fault_of g path name Stuck = None
 
 -- the faults of the source that these events show, in their order
-abbrev pub faults_of : Parts → (Tag → Path) → List EventView → List SourceFault
-faults_of g path es = filter_map (λ e. fault_of g path e.step) es
+abbrev pub faults_of : Parts → (Tag → Path) → (Structure → Site) → List EventView → List SourceFault
+faults_of g path name es = filter_map (λ e. fault_of g path name e.step) es
 
 -- the faults of the source that the records of these elements show
 abbrev pub faults_in : Parts → List State → List SourceFault
-faults_in g elements = faults_of g (path_in g elements) (events_of elements)
+faults_in g elements = faults_of g (path_in g elements) (structure_in g elements) (events_of elements)
 
 -- a merge for values of the source
 abbrev pub is_value_merge : Op → Bool
@@ -102,18 +154,85 @@ name_at g n q None = None
 name_at g n q (Some v) = Some (record { path = q; place = place_of g n; value = v })
 
 -- what a binder Has, where a token was handled by its label, and each tag has this path
-abbrev pub name_in : Parts → (Tag → Path) → Payload → Option NameValue
-name_in g path (Token t p v) = if is_label g t.instr then name_at g t.instr (path t) (source_value v) else None
+abbrev pub name_in : Parts → (Tag → Path) → (Structure → Site) → Payload → Option NameValue
+name_in g path name (Token t p v) =
+    if is_label g t.instr then name_at g t.instr (path t) (source_value name v) else None
+name_in g path name (Read c t) = None
+name_in g path name (Write c v t) = None
 
--- what these events show that binders Have, where each tag has this path
-abbrev pub names_of : Parts → (Tag → Path) → List EventView → List NameValue
-names_of g path es = filter_map (λ e. name_in g path e.message.payload) es
+-- what these events show that binders Have, where each tag has this path and each structure this name
+abbrev pub names_of : Parts → (Tag → Path) → (Structure → Site) → List EventView → List NameValue
+names_of g path name es = filter_map (λ e. name_in g path name e.message.payload) es
 
 -- what the records of these elements show that binders Have
 abbrev pub names_in : Parts → List State → List NameValue
-names_in g elements = names_of g (path_in g elements) (events_of elements)
+names_in g elements = names_of g (path_in g elements) (structure_in g elements) (events_of elements)
+
+-- the structure that an event made, where each tag has this path
+abbrev pub shape_of : Parts → (Tag → Path) → EventView → Option Shape
+shape_of g path e =
+    option_map (λ s. record { name = site_at g path (tag_of e.message.payload); low = s.low; high = s.high })
+    (made g e)
+
+-- the structures that these events made, in their order
+abbrev pub shapes_of : Parts → (Tag → Path) → List EventView → List Shape
+shapes_of g path es = filter_map (shape_of g path) es
+
+-- the structures that the records of these elements show
+abbrev pub structures_in : Parts → List State → List Shape
+structures_in g elements = shapes_of g (path_in g elements) (events_of elements)
+
+-- what is put into a cell, where each tag has this path and each structure this name: its origin is the store's tag
+abbrev pub put_of : Parts → (Tag → Path) → (Structure → Site) → Filled → Option Put
+put_of g path name f =
+    option_map
+    (λ v. record { name = name f.cell.structure; index = f.cell.index; value = v; store = site_at g path f.origin })
+    (source_value name f.value)
+
+-- what the cells of these elements show that is put into them
+abbrev pub cells_in : Parts → List State → List Put
+cells_in g elements =
+    filter_map (put_of g (path_in g elements) (structure_in g elements)) (flat_map (λ e. cells_of e.cells) elements)
+
+-- the fetch of a reply asks for a cell
+abbrev pub ask_of : Parts → (Tag → Path) → (Structure → Site) → Reader → Ask
+ask_of g path name r =
+    record { fetch = site_at g path r.reply; name = name r.cell.structure; index = r.cell.index }
+
+-- the fetches whose replies wait in the cells of these elements
+abbrev pub waiting_in : Parts → List State → List Ask
+waiting_in g elements =
+    map (ask_of g (path_in g elements) (structure_in g elements)) (flat_map (λ e. deferred_of e.cells) elements)
+
+-- the cell that a message asks for, with its reply
+abbrev pub reader_in : Payload → Option Reader
+reader_in (Token t p v) = None
+reader_in (Read c t) = Some (record { cell = c; reply = t })
+reader_in (Write c v t) = None
+
+-- what the fetches ask for whose reads the records of these elements show
+abbrev pub asks_in : Parts → List State → List Ask
+asks_in g elements =
+    map (ask_of g (path_in g elements) (structure_in g elements))
+    (filter_map (λ e. reader_in e.message.payload) (events_of elements))
 
 -- For use inside.
+
+-- the name of a structure, where these tables tell under which tag each was made
+abbrev pub structure_by : Paths → Structure → Site
+structure_by p s = name_by p.graph.now (path_by p) (get same_structure p.makers s)
+
+-- the first value that the records of these elements brought to instruction 0 under main's tag
+abbrev pub first_value : List State → Option Value
+first_value elements = slice_get (answers (events_of elements)) 0
+
+-- no instruction makes structures
+abbrev pub MakesNone : Parts → Type 0
+MakesNone g = All (λ i. IsFalse (is_alloc (Some i.op))) g.instrs
+
+-- no cell was read or written at these elements
+abbrev pub HaveNoCells : List ElementView → Type 0
+HaveNoCells elements = All (λ e. e.state.cells ≡ empty) elements
 
 -- of each instruction, by number, whether it is a label
 abbrev pub label_marks : Parts → List Bool

@@ -1,17 +1,22 @@
--- Paths of tags (docs/MACHINE.md, "Paths of tags").
-use Rattle.std.specs.Prelude.{ℕ, zero, suc, ◌-◌, ◌==◌, Bool, false, List, [], ◌∷◌, ◌++◌, length, Option, Some, None}
+-- Paths of tags, and which tag made a structure (docs/MACHINE.md, "Paths of tags").
+use Rattle.std.specs.Prelude.{ℕ, zero, suc, ◌-◌, ◌==◌, Bool, true, false, List, [], ◌∷◌, ◌++◌, length, Option, Some, None}
 use Rattle.std.specs.Prelude.{slice_get, option_map, if◌then◌else◌}
 use Rattle.std.specs.HashMap.{get}
 use Rattle.std.specs.Option.{option_map_or, option_or}
 use Rattle.id_graph.specs.declared.instr.Op.{Op}
-use Rattle.id_graph.specs.declared.instr.Op.TheVariants.{Enter}
+use Rattle.id_graph.specs.declared.instr.Op.TheVariants.{Alloc, Enter}
 use Rattle.id_graph.specs.Graph.{Parts}
 use Rattle.id_valid.specs.Roles.{op_at}
 use Rattle.id_tag.specs.declared.Context.{Context}
 use Rattle.id_tag.specs.declared.Tag.{Tag}
+use Rattle.id_tag.specs.declared.Structure.{Structure}
+use Rattle.id_tag.specs.declared.Value.TheVariants as value
 use Rattle.id_tag.specs.declared.Payload.{Payload}
+use Rattle.id_tag.specs.declared.Payload.TheVariants.{Token, Read, Write}
 use Rattle.id_tag.specs.declared.Message.{Message}
-use Rattle.id_tag.specs.Tags.{same_context}
+use Rattle.id_tag.specs.Tags.{same_context, same_structure}
+use Rattle.id_ops.specs.declared.Fired.{Fired}
+use Rattle.id_ops.specs.declared.Fired.TheVariants.{Out}
 use Rattle.id_record.specs.Events.{EventView, tag_of}
 use Rattle.id_observe.specs.declared.paths.Paths.{Paths}
 use Rattle.id_meaning.specs.declared.Path.{Path}
@@ -32,7 +37,9 @@ entered_by _ ms = None
 
 -- the context that was entered where an instruction took what came, and sent these messages
 abbrev pub entered : Parts → Payload → List Message → Option Context
-entered g x ms = entered_by (op_at g (tag_of x).instr) ms
+entered g (Token t p v) ms = entered_by (op_at g t.instr) ms
+entered g (Read c t) ms = None
+entered g (Write c v t) ms = None
 
 -- the tag, if the other context is this one
 abbrev pub if_same : Tag → Context → Option Context → Option Tag
@@ -70,7 +77,40 @@ steps_to g enter (suc n) t =
 abbrev pub path_of : Parts → List EventView → Tag → Path
 path_of g es t = record { steps = steps_to g (enter_in g es) (length es) t }
 
+-- the structure that was made where this operator fired so: an `alloc` makes what it gives
+abbrev pub made_by : Option Op → Fired → Option Structure
+made_by (Some Alloc) (Out (value.Structure s)) = Some s
+made_by _ _ = None
+
+-- the structure that an event made
+abbrev pub made : Parts → EventView → Option Structure
+made g e = made_by (op_at g (tag_of e.message.payload).instr) e.fired
+
+-- the tag, if the other structure is this one
+abbrev pub if_made : Tag → Structure → Option Structure → Option Tag
+if_made t s None = None
+if_made t s (Some r) = if same_structure r s then Some t else None
+
+-- the tag under which an event made the structure, if it did
+abbrev pub maker_of : Parts → EventView → Structure → Option Tag
+maker_of g e s = if_made (tag_of e.message.payload) s (made g e)
+
+-- the tag under which these events made the structure: by the last one that did
+unfoldable pub maker_in : Parts → List EventView → Structure → Option Tag
+maker_in g [] s = None
+maker_in g (e ∷ es) s = option_or (maker_in g es s) (maker_of g e s)
+
 -- For use inside.
+
+-- whether an instruction is an `alloc`
+abbrev pub is_alloc : Option Op → Bool
+is_alloc (Some Alloc) = true
+is_alloc _ = false
+
+-- whether it is an `enter`
+abbrev pub is_enter : Option Op → Bool
+is_enter (Some (Enter b r)) = true
+is_enter _ = false
 
 -- the path of a tag, where these tables tell under which tag each context was entered, and how many steps it has at
 -- most

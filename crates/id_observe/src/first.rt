@@ -3,7 +3,7 @@
 ghost use Rattle.std.specs.Prelude.{◌≡◌, ◌↔◌, [], map, slice_get, All, IfOk, IsTrue, MatchOption};
 ghost use Rattle.id_record.specs.Events.{AllWent};
 ghost use Rattle.std.specs.List.Sorted.{IsStrictlyIncreasing};
-ghost use Rattle.id_observe.specs.Observed.{faults_in, faults_of};
+ghost use Rattle.id_observe.specs.Observed.{faults_in, faults_of, structure_by};
 ghost use Rattle.id_observe.specs.Paths.{path_by};
 ghost use Rattle.id_observe.specs.Firsts.{IsFirstFault};
 
@@ -48,7 +48,8 @@ fn first_of(
     paths: &Paths<'_>,
     events: &Merged<'_>,
 ) -> Result<Option<SourceFault>, AllocError>
-    ensures { IfOk result (λ o. o ≡ slice_get (faults_of paths.now.graph.now (path_by paths.now) events.now) 0) }
+    ensures { IfOk result (λ o. o ≡ slice_get
+        (faults_of paths.now.graph.now (path_by paths.now) (structure_by paths.now) events.now) 0) }
 {
     for position in 0..events.len() {
         let event = events.event(position);

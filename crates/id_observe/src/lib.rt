@@ -13,4 +13,4 @@ mod paths;
 
 pub use first::first_fault;
 pub use merge::{Merged, merge_records};
-pub use observe::{Observed, answer, main_tag, observe_records};
+pub use observe::{Holdings, Observed, answer, main_tag, observe_holdings, observe_records};

@@ -63,6 +63,7 @@ impl<'a> Merged<'a> {
           element = result.element;
           stamp = result.stamp;
           message = result.message;
+          fired = result.fired;
           outputs = result.outputs;
           step = result.step;
         }) }

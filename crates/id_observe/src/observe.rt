@@ -1,33 +1,51 @@
-//! What a run shows: the answer, what binders have, and the faults (docs/MACHINE.md, "Observed").
+//! What a run shows: the answer, what binders have, structures and their cells, fetches that wait, and the faults
+//! (docs/MACHINE.md, "Observed").
 
 ghost use Rattle.std.specs.Prelude.{◌≡◌, ◌==◌, ◌&&◌, ◌++◌, [], ℕ, false, count_by, map, nat_eq, slice_get, unwrap_or};
-ghost use Rattle.std.specs.Prelude.{IfOk, OnOk, None, if◌then◌else◌};
+ghost use Rattle.std.specs.Prelude.{IfOk, OnOk, None, Some, if◌then◌else◌, option_and_then, option_map};
+ghost use Rattle.std.specs.Prelude.{◌<◌, ◌↔◌, IsTrue, length};
 ghost use Rattle.std.specs.HashMap.{get};
-ghost use Rattle.std.specs.List.{cons_option, filter_map};
+ghost use Rattle.std.specs.List.{cons_option, filter_map, flat_map};
+ghost use Rattle.id_bank.specs.Cells.{cells_of, deferred_of};
+ghost use Rattle.id_record.specs.Events.{EventView};
+ghost use Rattle.id_valid.specs.Roles.{op_at};
 ghost use Rattle.id_valid.specs.Validator.{is_value};
-ghost use Rattle.id_observe.specs.Observed.{answer_in, answers, brought, claims, events_of, fault_of, faults_in};
-ghost use Rattle.id_observe.specs.Observed.{faults_of, is_label, is_next, is_value_merge, label_marks, main_tag};
-ghost use Rattle.id_observe.specs.Observed.{name_at, name_in, names_in, names_of, source_value};
-ghost use Rattle.id_observe.specs.Paths.{path_by, place_of};
+ghost use Rattle.id_observe.specs.Observed.{answer_in, answers, ask_of, brought, cells_in, claims, events_of, fault_of};
+ghost use Rattle.id_observe.specs.Observed.{faults_in, faults_of, first_value, is_label, is_next, is_value_merge};
+ghost use Rattle.id_observe.specs.Observed.{label_marks, main_tag, name_at, name_in, names_in, names_of, put_of};
+ghost use Rattle.id_observe.specs.Observed.{HaveNoCells, MakesNone, shape_of};
+ghost use Rattle.id_observe.specs.Observed.{second_store, shapes_of, site_at, site_cmp, source_value, structure_by};
+ghost use Rattle.id_observe.specs.Observed.{structures_in, waiting_in};
+ghost use Rattle.id_observe.specs.Paths.{made_by, path_by, place_of};
 
-use crate::paths::Paths;
-use id_element::Element;
+use crate::paths::{Paths, is_alloc, made};
+use id_bank::{Filled, Reader};
+use id_element::{Element, op_at};
 use id_graph::{Graph, Instr, Op, PortKind};
 use id_list::Sequence;
-use id_meaning::{NameValue, SourceFault, SourceValue};
-use id_record::{Events, Fault, Step};
+use id_meaning::{Ask, NameValue, Put, Shape, Site, SourceFault, SourceValue};
+use id_ops::Fired;
+use id_record::{Events, Fault, Step, tag_of};
 use id_tag::{Context, Payload, Tag, Value};
 use id_valid::Valid;
 use std::alloc::{AllocError, Global};
+use std::cmp::Ordering;
 use std::collections::HashMap;
 
-/// What a run shows, named by places of the text alone.
+/// What a run shows, named by paths and places of the text alone.
 #[derive(Drop)]
 pub struct Observed {
     /// The value of the first token that instruction 0 handled under main's tag.
     pub answer: Option<SourceValue>,
     /// For each token that a label handled, one element's record after another's: what its binder Has.
     pub names: Sequence<NameValue>,
+    /// For each `alloc` that made one, one element's record after another's: the structure and its bounds.
+    pub structures: Sequence<Shape>,
+    /// For each cell that holds a value, one element's cells after another's: what is put into it, and by which store.
+    pub cells: Sequence<Put>,
+    /// For each reply that waits for a cell's value, one element's cells after another's: which fetch asks for which
+    /// cell.
+    pub waiting: Sequence<Ask>,
     /// For each event that was a fault, one element's record after another's: what went wrong, and at which place.
     pub faults: Sequence<SourceFault>,
 }
@@ -38,19 +56,99 @@ pub fn observe_records(
     graph: &Valid,
     elements: &[Element<'_>],
 ) -> Result<Observed, AllocError>
-    ensures answer { IfOk result (λ o. o.answer ≡ answer_in (map (λ e. e.state) elements.now)) }
+    ensures answer { IfOk result (λ o. o.answer ≡ answer_in graph.now (map (λ e. e.state) elements.now)) }
     ensures names { IfOk result (λ o. o.names ≡ names_in graph.now (map (λ e. e.state) elements.now)) }
+    ensures structures { IfOk result (λ o. o.structures ≡ structures_in graph.now (map (λ e. e.state) elements.now)) }
+    ensures cells { IfOk result (λ o. o.cells ≡ cells_in graph.now (map (λ e. e.state) elements.now)) }
+    ensures waiting { IfOk result (λ o. o.waiting ≡ waiting_in graph.now (map (λ e. e.state) elements.now)) }
     ensures faults { IfOk result (λ o. o.faults ≡ faults_in graph.now (map (λ e. e.state) elements.now)) }
 {
     let paths = Paths::new(alloc, graph.graph(), elements)?;
     let names = all_names(alloc, &paths, elements)?;
+    let structures = all_structures(alloc, &paths, elements)?;
+    let cells = all_cells(alloc, &paths, elements)?;
+    let waiting = all_waiting(alloc, &paths, elements)?;
     let faults = all_faults(alloc, &paths, elements)?;
-    let answer = answer(elements);
+    let answer = value_in(alloc, &paths, first_value(elements))?;
     Ok(Observed {
         answer,
         names: Sequence::new(names),
+        structures: Sequence::new(structures),
+        cells: Sequence::new(cells),
+        waiting: Sequence::new(waiting),
         faults: Sequence::new(faults),
     })
+}
+
+/// What a run shows of structures, named by paths and places of the text alone.
+#[derive(Drop)]
+pub struct Holdings {
+    /// For each `alloc` that made one, one element's record after another's: the structure and its bounds.
+    pub structures: Sequence<Shape>,
+    /// For each cell that holds a value, one element's cells after another's: what is put into it, and by which store.
+    pub cells: Sequence<Put>,
+    /// For each reply that waits for a cell's value, one element's cells after another's: which fetch asks for which
+    /// cell.
+    pub waiting: Sequence<Ask>,
+}
+
+/// What these elements show of structures, for who asks for nothing else. Where no instruction makes structures and no
+/// cell was read or written, that takes no look at the records.
+pub fn observe_holdings(
+    alloc: Global,
+    graph: &Valid,
+    elements: &[Element<'_>],
+) -> Result<Holdings, AllocError>
+    ensures structures { IfOk result (λ o. o.structures ≡ structures_in graph.now (map (λ e. e.state) elements.now)) }
+    ensures cells { IfOk result (λ o. o.cells ≡ cells_in graph.now (map (λ e. e.state) elements.now)) }
+    ensures waiting { IfOk result (λ o. o.waiting ≡ waiting_in graph.now (map (λ e. e.state) elements.now)) }
+{
+    if hold_nothing(graph.graph(), elements) {
+        return Ok(no_holdings(alloc));
+    }
+    let paths = Paths::new(alloc, graph.graph(), elements)?;
+    let structures = all_structures(alloc, &paths, elements)?;
+    let cells = all_cells(alloc, &paths, elements)?;
+    let waiting = all_waiting(alloc, &paths, elements)?;
+    Ok(Holdings {
+        structures: Sequence::new(structures),
+        cells: Sequence::new(cells),
+        waiting: Sequence::new(waiting),
+    })
+}
+
+/// Whether no instruction makes structures, and no cell was read or written at these elements.
+fn hold_nothing(graph: &Graph, elements: &[Element<'_>]) -> bool
+    ensures { IsTrue result ↔ (MakesNone graph.now × HaveNoCells elements.now) }
+{
+    makes_none(graph) && have_no_cells(elements)
+}
+
+/// Whether no instruction makes structures.
+fn makes_none(graph: &Graph) -> bool
+    ensures { IsTrue result ↔ MakesNone graph.now }
+{
+    graph.instrs().iter().all(|instr| !is_alloc(Some(instr.op)))
+}
+
+/// Whether no cell was read or written at these elements.
+fn have_no_cells(elements: &[Element<'_>]) -> bool
+    ensures { IsTrue result ↔ HaveNoCells elements.now }
+{
+    elements.iter().all(|element| element.has_no_cells())
+}
+
+/// Nothing of structures.
+fn no_holdings(alloc: Global) -> Holdings
+    ensures structures { result.structures ≡ [] }
+    ensures cells { result.cells ≡ [] }
+    ensures waiting { result.waiting ≡ [] }
+{
+    Holdings {
+        structures: Sequence::new(Vec::new(alloc)),
+        cells: Sequence::new(Vec::new(alloc)),
+        waiting: Sequence::new(Vec::new(alloc)),
+    }
 }
 
 /// What these records show that binders have.
@@ -61,7 +159,8 @@ fn all_names(
 ) -> Result<Vec<NameValue>, AllocError>
     ensures { IfOk result
         (λ v. v.items
-        ≡ names_of paths.now.graph.now (path_by paths.now) (events_of (map (λ e. e.state) elements.now))) }
+        ≡ names_of paths.now.graph.now (path_by paths.now) (structure_by paths.now)
+        (events_of (map (λ e. e.state) elements.now))) }
 {
     let marks = label_marks(alloc, paths.graph())?;
     let mut names = Vec::new(alloc);
@@ -146,7 +245,8 @@ fn add_names(
 ) -> Result<(), AllocError>
     requires { marks.now ≡ label_marks paths.now.graph.now }
     ensures { OnOk result
-        (names.new.items ≡ names.old.items ++ names_of paths.now.graph.now (path_by paths.now) events.now) }
+        (names.new.items ≡ names.old.items
+        ++ names_of paths.now.graph.now (path_by paths.now) (structure_by paths.now) events.now) }
 {
     for position in 0..events.len() {
         let payload = events.payload(position);
@@ -176,12 +276,12 @@ fn name_in(
     payload: &Payload,
 ) -> Result<Option<NameValue>, AllocError>
     requires { marks.now ≡ label_marks paths.now.graph.now }
-    ensures { IfOk result (λ o. o ≡ name_in paths.now.graph.now (path_by paths.now) payload.now) }
+    ensures { IfOk result
+        (λ o. o ≡ name_in paths.now.graph.now (path_by paths.now) (structure_by paths.now) payload.now) }
 {
     match *payload {
-        Payload::Token { tag, value, .. } => {
-            name_if_label(alloc, paths, marks, tag, source_value(value))
-        }
+        Payload::Token { tag, value, .. } => { name_if_label(alloc, paths, marks, tag, value) }
+        Payload::Read { .. } | Payload::Write { .. } => Ok(None),
     }
 }
 
@@ -192,14 +292,16 @@ fn name_if_label(
     paths: &Paths<'_>,
     marks: &[bool],
     tag: Tag,
-    value: Option<SourceValue>,
+    value: Value,
 ) -> Result<Option<NameValue>, AllocError>
     requires { marks.now ≡ label_marks paths.now.graph.now }
     ensures { IfOk result (λ o. o ≡
         (if is_label paths.now.graph.now tag.instr
-        then name_at paths.now.graph.now tag.instr (path_by paths.now tag) value else None)) }
+        then name_at paths.now.graph.now tag.instr (path_by paths.now tag) (source_value (structure_by paths.now) value)
+        else None)) }
 {
     if mark_at(marks, tag.instr) {
+        let value = source_value(alloc, paths, value)?;
         let name = name_at(alloc, paths, tag, value)?;
         Ok(name)
     } else {
@@ -233,14 +335,33 @@ fn name_at(
     }
 }
 
-/// The answer that these records show, for who asks for nothing else. Takes no memory.
-pub fn answer(elements: &[Element<'_>]) -> Option<SourceValue>
-    ensures { result ≡ answer_in (map (λ e. e.state) elements.now) }
+/// The answer that these records show, for who asks for nothing else. Memory is wanted only where it is a structure.
+pub fn answer(
+    alloc: Global,
+    graph: &Valid,
+    elements: &[Element<'_>],
+) -> Result<Option<SourceValue>, AllocError>
+    ensures { IfOk result (λ o. o ≡ answer_in graph.now (map (λ e. e.state) elements.now)) }
+{
+    match first_value(elements) {
+        Some(Value::Int(number)) => Ok(Some(SourceValue::Int(number))),
+        Some(Value::Bool(truth)) => Ok(Some(SourceValue::Bool(truth))),
+        Some(Value::Structure(structure)) => {
+            let paths = Paths::new(alloc, graph.graph(), elements)?;
+            Ok(Some(SourceValue::Name(paths.name(alloc, structure)?)))
+        }
+        _ => Ok(None),
+    }
+}
+
+/// The first value that these records brought to the answer.
+fn first_value(elements: &[Element<'_>]) -> Option<Value>
+    ensures { result ≡ first_value (map (λ e. e.state) elements.now) }
 {
     for element in elements {
-        match first_answer(&element.events()) {
-            Some(value) => return source_value(value),
-            None => {}
+        let value = first_answer(&element.events());
+        if value.is_some() {
+            return value;
         }
     }
     None
@@ -251,13 +372,25 @@ fn first_answer(events: &Events<'_>) -> Option<Value>
     ensures { result ≡ slice_get (answers events.now) 0 }
 {
     for position in 0..events.len() {
-        let payload = events.payload(position);
-        let value = brought(&payload);
+        let value = brought_at(events, position);
         if value.is_some() {
             return value;
         }
     }
     None
+}
+
+/// The value that the event at a position brought to the answer. What comes to another instruction is not looked at.
+fn brought_at(events: &Events<'_>, position: usize) -> Option<Value>
+    requires { position < length events.now }
+    ensures { option_map (λ e. brought e.message.payload) (slice_get events.now position) ≡ Some result }
+{
+    let instr = events.instr(position);
+    if instr == 0 {
+        brought(&events.payload(position))
+    } else {
+        None
+    }
 }
 
 /// The value that a token brings to instruction 0 under main's tag.
@@ -272,6 +405,7 @@ fn brought(payload: &Payload) -> Option<Value>
                 None
             }
         }
+        Payload::Read { .. } | Payload::Write { .. } => None,
     }
 }
 
@@ -290,14 +424,233 @@ pub fn main_tag(instr: u32) -> Tag
 }
 
 /// The value as one of the source.
-fn source_value(value: Value) -> Option<SourceValue>
-    ensures { result ≡ source_value value }
+fn source_value(
+    alloc: Global,
+    paths: &Paths<'_>,
+    value: Value,
+) -> Result<Option<SourceValue>, AllocError>
+    ensures { IfOk result (λ o. o ≡ source_value (structure_by paths.now) value) }
 {
     match value {
-        Value::Int(number) => Some(SourceValue::Int(number)),
-        Value::Bool(truth) => Some(SourceValue::Bool(truth)),
-        _ => None,
+        Value::Int(number) => Ok(Some(SourceValue::Int(number))),
+        Value::Bool(truth) => Ok(Some(SourceValue::Bool(truth))),
+        Value::Structure(structure) => {
+            Ok(Some(SourceValue::Name(paths.name(alloc, structure)?)))
+        }
+        _ => Ok(None),
     }
+}
+
+/// The value, if there is one, as one of the source.
+fn value_in(
+    alloc: Global,
+    paths: &Paths<'_>,
+    value: Option<Value>,
+) -> Result<Option<SourceValue>, AllocError>
+    ensures { IfOk result (λ o. o ≡ option_and_then (source_value (structure_by paths.now)) value) }
+{
+    match value {
+        Some(value) => source_value(alloc, paths, value),
+        None => Ok(None),
+    }
+}
+
+/// The structures that these records show.
+fn all_structures(
+    alloc: Global,
+    paths: &Paths<'_>,
+    elements: &[Element<'_>],
+) -> Result<Vec<Shape>, AllocError>
+    ensures { IfOk result
+        (λ v. v.items
+        ≡ shapes_of paths.now.graph.now (path_by paths.now) (events_of (map (λ e. e.state) elements.now))) }
+{
+    let mut shapes = Vec::new(alloc);
+    for element in elements {
+        add_shapes(alloc, paths, &element.events(), &mut shapes)?;
+    }
+    Ok(shapes)
+}
+
+/// Adds the structures that these events made.
+fn add_shapes(
+    alloc: Global,
+    paths: &Paths<'_>,
+    events: &Events<'_>,
+    shapes: &mut Vec<Shape>,
+) -> Result<(), AllocError>
+    ensures { OnOk result
+        (shapes.new.items ≡ shapes.old.items ++ shapes_of paths.now.graph.now (path_by paths.now) events.now) }
+{
+    for position in 0..events.len() {
+        add_shape_at(alloc, paths, events, position, shapes)?;
+    }
+    Ok(())
+}
+
+/// Adds the structure that the event at a position made, if it made one. An event of no `alloc` is not looked at.
+fn add_shape_at(
+    alloc: Global,
+    paths: &Paths<'_>,
+    events: &Events<'_>,
+    position: usize,
+    shapes: &mut Vec<Shape>,
+) -> Result<(), AllocError>
+    requires { position < length events.now }
+    ensures { OnOk result
+        ((e : EventView)
+        → slice_get events.now position ≡ Some e
+        → shapes.new.items ≡ shapes.old.items ++ cons_option (shape_of paths.now.graph.now (path_by paths.now) e) []) }
+{
+    if is_alloc(op_at(paths.graph(), events.instr(position))) {
+        let event = events.event(position);
+        let tag = tag_of(&event.message.payload);
+        add_shape(shape_of(alloc, paths, tag, event.fired)?, shapes)?;
+        Ok(())
+    } else {
+        Ok(())
+    }
+}
+
+/// Adds the structure, if there is one.
+fn add_shape(shape: Option<Shape>, shapes: &mut Vec<Shape>) -> Result<(), AllocError>
+    ensures { OnOk result (shapes.new.items ≡ shapes.old.items ++ cons_option shape []) }
+{
+    match shape {
+        Some(shape) => {
+            shapes.push(shape)?;
+            Ok(())
+        }
+        None => Ok(()),
+    }
+}
+
+/// The structure that was made where the instruction of the tag fired so.
+fn shape_of(
+    alloc: Global,
+    paths: &Paths<'_>,
+    tag: Tag,
+    fired: Fired,
+) -> Result<Option<Shape>, AllocError>
+    ensures { IfOk result (λ o. o ≡ option_map
+        (λ s. record { name = site_at paths.now.graph.now (path_by paths.now) tag; low = s.low; high = s.high })
+        (made_by (op_at paths.now.graph.now tag.instr) fired)) }
+{
+    match made(paths.graph(), tag, fired) {
+        Some(structure) => Ok(Some(Shape {
+            name: paths.site(alloc, tag)?,
+            low: structure.low,
+            high: structure.high,
+        })),
+        None => Ok(None),
+    }
+}
+
+/// What the cells of these elements show that is put into them.
+fn all_cells(
+    alloc: Global,
+    paths: &Paths<'_>,
+    elements: &[Element<'_>],
+) -> Result<Vec<Put>, AllocError>
+    ensures { IfOk result
+        (λ v. v.items
+        ≡ filter_map (put_of paths.now.graph.now (path_by paths.now) (structure_by paths.now))
+        (flat_map (λ e. cells_of e.cells) (map (λ e. e.state) elements.now))) }
+{
+    let mut puts = Vec::new(alloc);
+    for element in elements {
+        add_puts(alloc, paths, element.cells(alloc)?.as_slice(), &mut puts)?;
+    }
+    Ok(puts)
+}
+
+/// Adds what these cells hold.
+fn add_puts(
+    alloc: Global,
+    paths: &Paths<'_>,
+    cells: &[Filled],
+    puts: &mut Vec<Put>,
+) -> Result<(), AllocError>
+    ensures { OnOk result (puts.new.items ≡ puts.old.items
+        ++ filter_map (put_of paths.now.graph.now (path_by paths.now) (structure_by paths.now)) cells.now) }
+{
+    for cell in cells {
+        add_put(put_of(alloc, paths, *cell)?, puts)?;
+    }
+    Ok(())
+}
+
+/// Adds what is put into a cell, if that is a value of the source.
+fn add_put(put: Option<Put>, puts: &mut Vec<Put>) -> Result<(), AllocError>
+    ensures { OnOk result (puts.new.items ≡ puts.old.items ++ cons_option put []) }
+{
+    match put {
+        Some(put) => {
+            puts.push(put)?;
+            Ok(())
+        }
+        None => Ok(()),
+    }
+}
+
+/// What is put into a cell, and by which store.
+fn put_of(alloc: Global, paths: &Paths<'_>, filled: Filled) -> Result<Option<Put>, AllocError>
+    ensures { IfOk result (λ o. o ≡ put_of paths.now.graph.now (path_by paths.now) (structure_by paths.now) filled) }
+{
+    match source_value(alloc, paths, filled.value)? {
+        Some(value) => Ok(Some(Put {
+            name: paths.name(alloc, filled.cell.structure)?,
+            index: filled.cell.index,
+            value,
+            store: paths.site(alloc, filled.origin)?,
+        })),
+        None => Ok(None),
+    }
+}
+
+/// The fetches whose replies wait in the cells of these elements.
+fn all_waiting(
+    alloc: Global,
+    paths: &Paths<'_>,
+    elements: &[Element<'_>],
+) -> Result<Vec<Ask>, AllocError>
+    ensures { IfOk result
+        (λ v. v.items
+        ≡ map (ask_of paths.now.graph.now (path_by paths.now) (structure_by paths.now))
+        (flat_map (λ e. deferred_of e.cells) (map (λ e. e.state) elements.now))) }
+{
+    let mut asks = Vec::new(alloc);
+    for element in elements {
+        add_asks(alloc, paths, element.deferred(alloc)?.as_slice(), &mut asks)?;
+    }
+    Ok(asks)
+}
+
+/// Adds the fetches of these replies.
+fn add_asks(
+    alloc: Global,
+    paths: &Paths<'_>,
+    readers: &[Reader],
+    asks: &mut Vec<Ask>,
+) -> Result<(), AllocError>
+    ensures { OnOk result (asks.new.items ≡ asks.old.items
+        ++ map (ask_of paths.now.graph.now (path_by paths.now) (structure_by paths.now)) readers.now) }
+{
+    for reader in readers {
+        asks.push(ask_of(alloc, paths, *reader)?)?;
+    }
+    Ok(())
+}
+
+/// The cell that the fetch of a reply asks for.
+fn ask_of(alloc: Global, paths: &Paths<'_>, reader: Reader) -> Result<Ask, AllocError>
+    ensures { IfOk result (λ a. a ≡ ask_of paths.now.graph.now (path_by paths.now) (structure_by paths.now) reader) }
+{
+    Ok(Ask {
+        fetch: paths.site(alloc, reader.reply)?,
+        name: paths.name(alloc, reader.cell.structure)?,
+        index: reader.cell.index,
+    })
 }
 
 /// The faults that these records show.
@@ -308,13 +661,33 @@ fn all_faults(
 ) -> Result<Vec<SourceFault>, AllocError>
     ensures { IfOk result
         (λ v. v.items
-        ≡ faults_of paths.now.graph.now (path_by paths.now) (events_of (map (λ e. e.state) elements.now))) }
+        ≡ faults_of paths.now.graph.now (path_by paths.now) (structure_by paths.now)
+        (events_of (map (λ e. e.state) elements.now))) }
 {
     let mut faults = Vec::new(alloc);
     for element in elements {
-        add_faults(alloc, paths, &element.events(), &mut faults)?;
+        add_element_faults(alloc, paths, element, &mut faults)?;
     }
     Ok(faults)
+}
+
+/// Adds the faults that the record of an element shows. Where each event went well, that takes no look at it.
+fn add_element_faults(
+    alloc: Global,
+    paths: &Paths<'_>,
+    element: &Element<'_>,
+    faults: &mut Vec<SourceFault>,
+) -> Result<(), AllocError>
+    ensures { OnOk result
+        (faults.new.items ≡ faults.old.items
+        ++ faults_of paths.now.graph.now (path_by paths.now) (structure_by paths.now) element.now.state.events) }
+{
+    if element.all_went() {
+        Ok(())
+    } else {
+        add_faults(alloc, paths, &element.events(), faults)?;
+        Ok(())
+    }
 }
 
 /// Adds the faults that these events show.
@@ -325,7 +698,8 @@ fn add_faults(
     faults: &mut Vec<SourceFault>,
 ) -> Result<(), AllocError>
     ensures { OnOk result
-        (faults.new.items ≡ faults.old.items ++ faults_of paths.now.graph.now (path_by paths.now) events.now) }
+        (faults.new.items ≡ faults.old.items
+        ++ faults_of paths.now.graph.now (path_by paths.now) (structure_by paths.now) events.now) }
 {
     for position in 0..events.len() {
         let event = events.event(position);
@@ -353,16 +727,55 @@ pub(crate) fn source_fault(
     paths: &Paths<'_>,
     step: Step,
 ) -> Result<Option<SourceFault>, AllocError>
-    ensures { IfOk result (λ o. o ≡ fault_of paths.now.graph.now (path_by paths.now) step) }
+    ensures { IfOk result (λ o. o ≡ fault_of paths.now.graph.now (path_by paths.now) (structure_by paths.now) step) }
 {
     match step {
-        Step::Fault(Fault::Operator { fault, tag }) => Ok(Some(SourceFault {
+        Step::Fault(Fault::Operator { fault, tag }) => Ok(Some(SourceFault::Operator {
             kind: fault,
-            path: paths.path(alloc, tag)?,
-            place: place_of(paths.graph(), tag.instr),
+            site: paths.site(alloc, tag)?,
         })),
+        Step::Fault(
+            Fault::SecondStore {
+                cell,
+                first,
+                second,
+            },
+        ) => {
+            let name = paths.name(alloc, cell.structure)?;
+            let held = paths.site(alloc, first)?;
+            let came = paths.site(alloc, second)?;
+            Ok(Some(second_store(name, cell.index, held, came)))
+        }
         Step::Went | Step::Stuck => Ok(None),
     }
+}
+
+/// The fault of two stores into one cell of the structure of this name: the smaller of them first.
+fn second_store(name: Site, index: i64, a: Site, b: Site) -> SourceFault
+    ensures { result ≡ second_store name index a b }
+{
+    match site_cmp(&a, &b) {
+        Ordering::Less | Ordering::Equal => SourceFault::SecondStore {
+            name,
+            index,
+            first: a,
+            second: b,
+        },
+        Ordering::Greater => SourceFault::SecondStore {
+            name,
+            index,
+            first: b,
+            second: a,
+        },
+    }
+}
+
+/// How two sites compare: by path, a front of a path first, then by place.
+fn site_cmp(a: &Site, b: &Site) -> Ordering
+    ensures { result ≡ site_cmp a.now b.now }
+{
+    let paths = a.path.steps.as_slice().cmp(&b.path.steps.as_slice());
+    paths.then(a.place.cmp(&b.place))
 }
 
 /// The place of the instruction of this number.

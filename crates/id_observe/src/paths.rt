@@ -1,40 +1,89 @@
-//! The path of each tag (docs/MACHINE.md, "Paths of tags").
+//! The path of each tag, and the name of each structure (docs/MACHINE.md, "Paths of tags").
 
-ghost use Rattle.std.specs.Prelude.{◌≡◌, length, map, IfOk, OnOk};
+ghost use Rattle.std.specs.Prelude.{◌≡◌, ◌<◌, length, map, option_map, slice_get, IfOk, OnOk, Some};
 ghost use Rattle.std.specs.Option.{option_or};
 ghost use Rattle.std.specs.HashMap.{get};
-ghost use Rattle.id_tag.specs.Tags.{same_context};
-ghost use Rattle.id_record.specs.Events.{tag_of};
+ghost use Rattle.id_tag.specs.Tags.{same_context, same_structure};
+ghost use Rattle.id_record.specs.Events.{EventView, tag_of};
 ghost use Rattle.id_valid.specs.Roles.{op_at};
 ghost use Rattle.id_observe.specs.Observed.{events_of};
 ghost use Rattle.id_observe.specs.Paths.{place_of};
-ghost use Rattle.id_observe.specs.Paths.{enter_in, entered, enters_loop, if_same, last_context, step_of, steps_to};
+ghost use Rattle.id_observe.specs.Paths.{enter_in, entered, entered_by, enters_loop, if_made, if_same, last_context};
+ghost use Rattle.id_observe.specs.Paths.{enter_of, is_alloc, is_enter, made_by, maker_in, maker_of, step_of, steps_to};
 
-use crate::observe::place_of;
-use id_element::Element;
+use crate::observe::{main_tag, place_of};
+use id_element::{Element, op_at};
 use id_graph::{Graph, Op};
 use id_list::Sequence;
-use id_meaning::{Path, PathStep};
+use id_meaning::{Path, PathStep, Site};
+use id_ops::Fired;
 use id_record::{Events, Outputs, tag_of};
-use id_tag::{Context, Payload, Tag};
+use id_tag::{Context, Payload, Structure, Tag, Value};
 use std::alloc::{AllocError, Global};
 use std::collections::HashMap;
 
-/// Adds the tags under which these events entered contexts.
-fn add_enters(
+/// Adds the tags under which these events entered contexts and made structures.
+fn add_record(
     graph: &Graph,
     events: &Events<'_>,
     enters: &mut HashMap<Context, Tag>,
+    makers: &mut HashMap<Structure, Tag>,
 ) -> Result<(), AllocError>
-    ensures { OnOk result
+    ensures enters { OnOk result
         ((c : Context)
         → get same_context enters.new c ≡ option_or (enter_in graph.now events.now c) (get same_context enters.old c)) }
+    ensures makers { OnOk result
+        ((s : Structure)
+        → get same_structure makers.new s
+        ≡ option_or (maker_in graph.now events.now s) (get same_structure makers.old s)) }
 {
     for position in 0..events.len() {
-        let event = events.event(position);
-        add_enter(graph, &event.message.payload, &event.outputs, enters)?;
+        let op = op_at(graph, events.instr(position));
+        add_enter_at(graph, op, events, position, enters)?;
+        add_maker_at(graph, op, events, position, makers)?;
     }
     Ok(())
+}
+
+/// Adds the tag under which the event at a position entered a context, if it did, where its instruction does this. An
+/// event of no `enter` is not looked at.
+fn add_enter_at(
+    graph: &Graph,
+    op: Option<Op>,
+    events: &Events<'_>,
+    position: usize,
+    enters: &mut HashMap<Context, Tag>,
+) -> Result<(), AllocError>
+    requires position { position < length events.now }
+    requires op { option_map (λ e. op_at graph.now (tag_of e.message.payload).instr) (slice_get events.now position)
+        ≡ Some op }
+    ensures { OnOk result
+        ((e : EventView)
+        → slice_get events.now position ≡ Some e
+        → (c : Context)
+        → get same_context enters.new c ≡ option_or (enter_of graph.now e c) (get same_context enters.old c)) }
+{
+    if is_enter(op) {
+        let event = events.event(position);
+        add_enter(graph, &event.message.payload, &event.outputs, enters)?;
+        Ok(())
+    } else {
+        Ok(())
+    }
+}
+
+/// Whether an instruction is an `enter`.
+fn is_enter(op: Option<Op>) -> bool
+    ensures { result ≡ is_enter op }
+{
+    matches!(op, Some(Op::Enter { .. }))
+}
+
+/// Whether an instruction is an `alloc`.
+pub(crate) fn is_alloc(op: Option<Op>) -> bool
+    ensures { result ≡ is_alloc op }
+{
+    matches!(op, Some(Op::Alloc))
 }
 
 /// Adds the tag under which an event entered a context, if it did, where an instruction took what came and sent
@@ -62,12 +111,19 @@ fn add_enter(
 fn entered(graph: &Graph, payload: &Payload, outputs: &Outputs<'_>) -> Option<Context>
     ensures { result ≡ entered graph.now payload.now outputs.now }
 {
-    match graph.instrs().get(tag_of(payload).instr as usize) {
-        Some(instr) => match instr.op {
-            Op::Enter { .. } => last_context(outputs),
-            _ => None,
-        },
-        None => None,
+    match *payload {
+        Payload::Token { tag, .. } => entered_by(op_at(graph, tag.instr), outputs),
+        Payload::Read { .. } | Payload::Write { .. } => None,
+    }
+}
+
+/// The context that an instruction entered by sending these messages.
+fn entered_by(op: Option<Op>, outputs: &Outputs<'_>) -> Option<Context>
+    ensures { result ≡ entered_by op outputs.now }
+{
+    match op {
+        Some(Op::Enter { .. }) => last_context(outputs),
+        _ => None,
     }
 }
 
@@ -110,34 +166,94 @@ fn step_of(graph: &Graph, number: u32, iteration: u64) -> PathStep
     }
 }
 
-/// What the records of elements tell of the paths of tags: under which tag each context was entered, and how many
-/// steps a path has at most.
+/// Adds the tag under which the event at a position made a structure, if it did, where its instruction does this. An
+/// event of no `alloc` is not looked at.
+fn add_maker_at(
+    graph: &Graph,
+    op: Option<Op>,
+    events: &Events<'_>,
+    position: usize,
+    makers: &mut HashMap<Structure, Tag>,
+) -> Result<(), AllocError>
+    requires position { position < length events.now }
+    requires op { option_map (λ e. op_at graph.now (tag_of e.message.payload).instr) (slice_get events.now position)
+        ≡ Some op }
+    ensures { OnOk result
+        ((e : EventView)
+        → slice_get events.now position ≡ Some e
+        → (s : Structure)
+        → get same_structure makers.new s ≡ option_or (maker_of graph.now e s) (get same_structure makers.old s)) }
+{
+    if is_alloc(op) {
+        let event = events.event(position);
+        let tag = tag_of(&event.message.payload);
+        add_maker(tag, made(graph, tag, event.fired), makers)?;
+        Ok(())
+    } else {
+        Ok(())
+    }
+}
+
+/// Adds the tag under which an event made a structure, if it did.
+fn add_maker(
+    tag: Tag,
+    made: Option<Structure>,
+    makers: &mut HashMap<Structure, Tag>,
+) -> Result<(), AllocError>
+    ensures { OnOk result ((s : Structure) → get same_structure makers.new s ≡
+        option_or (if_made tag s made) (get same_structure makers.old s)) }
+{
+    match made {
+        Some(structure) => {
+            let _ = makers.insert(structure, tag)?;
+            Ok(())
+        }
+        None => Ok(()),
+    }
+}
+
+/// The structure that was made where the instruction of the tag fired so.
+pub(crate) fn made(graph: &Graph, tag: Tag, fired: Fired) -> Option<Structure>
+    ensures { result ≡ made_by (op_at graph.now tag.instr) fired }
+{
+    match (op_at(graph, tag.instr), fired) {
+        (Some(Op::Alloc), Fired::Out(Value::Structure(structure))) => Some(structure),
+        _ => None,
+    }
+}
+
+/// What the records of elements tell of the paths of tags and the names of structures: under which tag each context was
+/// entered and each structure was made, and how many steps a path has at most.
 #[derive(Drop)]
 pub(crate) struct Paths<'a> {
     graph: &'a Graph,
     enters: HashMap<Context, Tag>,
+    makers: HashMap<Structure, Tag>,
     most: u128,
 }
 
 impl<'a> Paths<'a> {
     ghost use Rattle.std.specs.Prelude.{◌≡◌, map, IfOk};
-    ghost use Rattle.id_observe.specs.Observed.{path_in};
+    ghost use Rattle.id_observe.specs.Observed.{path_in, site_at, structure_by, structure_in};
     ghost use Rattle.id_observe.specs.Paths.{path_by};
 
-    /// What the records of these elements tell, in one pass over them.
+    /// What the records of these elements tell.
     pub(crate) fn new(
         alloc: Global,
         graph: &'a Graph,
         elements: &[Element<'_>],
     ) -> Result<Paths<'a>, AllocError>
         ensures paths { IfOk result (λ p. path_by p ≡ path_in graph.now (map (λ e. e.state) elements.now)) }
+        ensures structures { IfOk result
+            (λ p. structure_by p ≡ structure_in graph.now (map (λ e. e.state) elements.now)) }
         ensures graph { IfOk result (λ p. p.graph.now ≡ graph.now) }
     {
-        let enters = all_enters(alloc, graph, elements)?;
+        let (enters, makers) = all_records(alloc, graph, elements)?;
         let most = count_events(elements);
         Ok(Paths {
             graph,
             enters,
+            makers,
             most,
         })
     }
@@ -149,6 +265,24 @@ impl<'a> Paths<'a> {
         path_to(alloc, self.graph, &self.enters, self.most, tag)
     }
 
+    /// Where the tag's instruction stands.
+    pub(crate) fn site(&self, alloc: Global, tag: Tag) -> Result<Site, AllocError>
+        ensures { IfOk result (λ a. a ≡ site_at self.now.graph.now (path_by self.now) tag) }
+    {
+        Ok(Site {
+            path: self.path(alloc, tag)?,
+            place: place_of(self.graph, tag.instr),
+        })
+    }
+
+    /// The name of a structure.
+    pub(crate) fn name(&self, alloc: Global, structure: Structure) -> Result<Site, AllocError>
+        ensures { IfOk result (λ a. a ≡ structure_by self.now structure) }
+    {
+        let maker = self.makers.get(&structure).copied();
+        self.site(alloc, maker.unwrap_or(main_tag(0)))
+    }
+
     /// The graph.
     pub(crate) fn graph(&self) -> &'a Graph
         ensures { result.now ≡ self.now.graph.now }
@@ -157,21 +291,26 @@ impl<'a> Paths<'a> {
     }
 }
 
-/// The tags under which the records of these elements tell that contexts were entered.
-fn all_enters(
+/// The tags under which the records of these elements tell that contexts were entered, and those under which structures
+/// were made.
+fn all_records(
     alloc: Global,
     graph: &Graph,
     elements: &[Element<'_>],
-) -> Result<HashMap<Context, Tag>, AllocError>
-    ensures { IfOk result
+) -> Result<(HashMap<Context, Tag>, HashMap<Structure, Tag>), AllocError>
+    ensures enters { IfOk result
         (λ m. (c : Context)
-        → get same_context m c ≡ enter_in graph.now (events_of (map (λ e. e.state) elements.now)) c) }
+        → get same_context m.0 c ≡ enter_in graph.now (events_of (map (λ e. e.state) elements.now)) c) }
+    ensures makers { IfOk result
+        (λ m. (s : Structure)
+        → get same_structure m.1 s ≡ maker_in graph.now (events_of (map (λ e. e.state) elements.now)) s) }
 {
     let mut enters = HashMap::new(alloc);
+    let mut makers = HashMap::new(alloc);
     for element in elements {
-        add_enters(graph, &element.events(), &mut enters)?;
+        add_record(graph, &element.events(), &mut enters, &mut makers)?;
     }
-    Ok(enters)
+    Ok((enters, makers))
 }
 
 /// How many events these elements have in their records. 128 bits hold the sum of as many lengths as a slice can have.

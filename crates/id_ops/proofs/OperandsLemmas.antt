@@ -1,5 +1,5 @@
 -- Lemmas on specs/Operands.antt, in the order of its definitions.
-use Rattle.std.proofs.Common.{ℕ, ◌+◌, ◌≡◌, ◌≢◌, Bool, true, false, cond, Some, refl, sym, ap, subst}
+use Rattle.std.proofs.Common.{ℕ, ◌+◌, ℤ, ◌≡◌, ◌≢◌, Bool, true, false, cond, Some, refl, sym, ap, subst}
 use Rattle.std.specs.Prelude.{neg_ℤ}
 use Rattle.id_value.specs.declared.Constant.{Constant}
 use Rattle.id_value.specs.declared.Constant.TheVariants as constant
@@ -7,6 +7,8 @@ use Rattle.id_value.specs.declared.Outcome.{Outcome}
 use Rattle.id_value.specs.declared.Outcome.TheVariants.{Gives, Fails, Lacks}
 use Rattle.id_value.specs.declared.UnaryOp.{UnaryOp}
 use Rattle.id_value.specs.declared.UnaryOp.TheVariants.{Neg, Not}
+use Rattle.id_value.specs.declared.FaultKind.TheVariants.{BadBounds, OutOfBounds}
+use Rattle.id_value.specs.Bounds.{are_good, is_inside}
 use Rattle.id_value.specs.Results.{calculated, whole}
 use Rattle.id_value.proofs.ResultsLemmas.{IsNumberOrFault, calculated-number, whole-number}
 use Rattle.id_graph.specs.declared.instr.PortKind.{PortKind}
@@ -14,19 +16,20 @@ use Rattle.id_graph.specs.declared.instr.PortKind.TheVariants as kind
 use Rattle.id_graph.specs.declared.instr.Dyadic.{Dyadic}
 use Rattle.id_graph.specs.declared.instr.Dyadic.TheVariants as class
 use Rattle.id_graph.specs.declared.instr.Op.{Op}
-use Rattle.id_graph.specs.declared.instr.Op.TheVariants.{Const, Unary, Binary, Merge, Switch, Back, Enter, Send, Next, Reset}
+use Rattle.id_graph.specs.declared.instr.Op.TheVariants.{Const, Unary, Binary, Merge, Switch, Back, Enter, Send, Next, Reset, Alloc, Address, Fetch, Store}
 use Rattle.id_graph.specs.Ports.{sends}
 use Rattle.id_tag.specs.Kinds.{kind_of, same_kind}
 use Rattle.id_tag.specs.declared.Context.{Context}
+use Rattle.id_tag.specs.declared.Structure.{Structure}
 use Rattle.id_tag.specs.declared.Tag.{Tag}
 use Rattle.id_tag.specs.declared.Value.{Value}
-use Rattle.id_tag.specs.declared.Value.TheVariants.{Signal, Int, Bool as Truth, Context as Opened, Continuation}
+use Rattle.id_tag.specs.declared.Value.TheVariants.{Signal, Int, Bool as Truth, Structure as Made, Address as At, Context as Opened, Continuation}
 use Rattle.id_ops.specs.declared.Fresh.{Fresh}
 use Rattle.id_ops.specs.declared.Operands.{Operands}
 use Rattle.id_ops.specs.declared.Operands.TheVariants.{One, Two}
 use Rattle.id_ops.specs.declared.Fired.{Fired}
-use Rattle.id_ops.specs.declared.Fired.TheVariants.{Out, Side, Moved, Sent, Nothing}
-use Rattle.id_ops.specs.Operators.{fired_by, fired_const, fired_unary, fired_binary, fired_merge, fired_switch, fired_back, fired_enter, tag_within, fired_send, fired_next, fired_reset, fired}
+use Rattle.id_ops.specs.declared.Fired.TheVariants.{Out, Side, Moved, Sent, Failed, Nothing}
+use Rattle.id_ops.specs.Operators.{fired_by, fired_const, fired_unary, fired_binary, fired_merge, fired_switch, fired_back, fired_enter, tag_within, fired_send, fired_next, fired_reset, structure_in, fired_alloc, address_in, fired_address, fired_fetch, fired_store, fired}
 use Rattle.id_ops.specs.Operands.{IsOfKind, Suits}
 
 -- ---- the test of a kind
@@ -90,6 +93,8 @@ fires_const : (c : Constant) (o : Operands) → Suits (Const c) o → fired_cons
 fires_const c (One Signal) h e = cc
 fires_const c (One (Int n)) h e = let k = h.0 in cc
 fires_const c (One (Truth b)) h e = let k = h.0 in cc
+fires_const c (One (Made a)) h e = let k = h.0 in cc
+fires_const c (One (At a)) h e = let k = h.0 in cc
 fires_const c (One (Opened u)) h e = let k = h.0 in cc
 fires_const c (One (Continuation u)) h e = let k = h.0 in cc
 fires_const c (Two v w) h e = let k = h.1 in cc
@@ -99,10 +104,14 @@ fires_unary Neg (One (Int n)) h e = fires_number (whole (neg_ℤ n)) (whole-numb
 fires_unary Not (One (Truth b)) h e = cc
 fires_unary Neg (One Signal) h e = let k = h.0 in cc
 fires_unary Neg (One (Truth b)) h e = let k = h.0 in cc
+fires_unary Neg (One (Made a)) h e = let k = h.0 in cc
+fires_unary Neg (One (At a)) h e = let k = h.0 in cc
 fires_unary Neg (One (Opened u)) h e = let k = h.0 in cc
 fires_unary Neg (One (Continuation u)) h e = let k = h.0 in cc
 fires_unary Not (One Signal) h e = let k = h.0 in cc
 fires_unary Not (One (Int n)) h e = let k = h.0 in cc
+fires_unary Not (One (Made a)) h e = let k = h.0 in cc
+fires_unary Not (One (At a)) h e = let k = h.0 in cc
 fires_unary Not (One (Opened u)) h e = let k = h.0 in cc
 fires_unary Not (One (Continuation u)) h e = let k = h.0 in cc
 fires_unary a (Two v w) h e = let k = h.1 in cc
@@ -123,6 +132,8 @@ fires_switch : (k : PortKind) (o : Operands) → Suits (Switch k) o → fired_sw
 fires_switch k (Two (Truth b) v) h e = passes v k (Side b v) h.1 (λ x. cc) e
 fires_switch k (Two Signal v) h e = let z = h.0 in cc
 fires_switch k (Two (Int n) v) h e = let z = h.0 in cc
+fires_switch k (Two (Made a) v) h e = let z = h.0 in cc
+fires_switch k (Two (At a) v) h e = let z = h.0 in cc
 fires_switch k (Two (Opened u) v) h e = let z = h.0 in cc
 fires_switch k (Two (Continuation u) v) h e = let z = h.0 in cc
 fires_switch k (One v) h e = let z = h.1 in cc
@@ -132,6 +143,8 @@ fires_back k (Two (Continuation u) v) h e = passes v k (Sent u v) h.1 (λ x. cc)
 fires_back k (Two Signal v) h e = let z = h.0 in cc
 fires_back k (Two (Int n) v) h e = let z = h.0 in cc
 fires_back k (Two (Truth b) v) h e = let z = h.0 in cc
+fires_back k (Two (Made a) v) h e = let z = h.0 in cc
+fires_back k (Two (At a) v) h e = let z = h.0 in cc
 fires_back k (Two (Opened u) v) h e = let z = h.0 in cc
 fires_back k (One v) h e = let z = h.1 in cc
 
@@ -139,6 +152,8 @@ fires_enter : (b r : ℕ) (next : Context) (o : Operands) → Suits (Enter b r) 
 fires_enter b r next (One Signal) h e = cc
 fires_enter b r next (One (Int n)) h e = let z = h.0 in cc
 fires_enter b r next (One (Truth t)) h e = let z = h.0 in cc
+fires_enter b r next (One (Made a)) h e = let z = h.0 in cc
+fires_enter b r next (One (At a)) h e = let z = h.0 in cc
 fires_enter b r next (One (Opened u)) h e = let z = h.0 in cc
 fires_enter b r next (One (Continuation u)) h e = let z = h.0 in cc
 fires_enter b r next (Two v w) h e = let z = h.1 in cc
@@ -148,6 +163,8 @@ fires_send k n (Two (Opened c) v) h e = passes v k (Sent (tag_within c n) v) h.1
 fires_send k n (Two Signal v) h e = let z = h.0 in cc
 fires_send k n (Two (Int i) v) h e = let z = h.0 in cc
 fires_send k n (Two (Truth b) v) h e = let z = h.0 in cc
+fires_send k n (Two (Made a) v) h e = let z = h.0 in cc
+fires_send k n (Two (At a) v) h e = let z = h.0 in cc
 fires_send k n (Two (Continuation u) v) h e = let z = h.0 in cc
 fires_send k n (One v) h e = let z = h.1 in cc
 
@@ -158,6 +175,40 @@ fires_next k i (Two v w) h e = let z = h.1 in cc
 fires_reset : (k : PortKind) (o : Operands) → Suits (Reset k) o → fired_reset k o ≢ Nothing
 fires_reset k (One v) h e = passes v k (Moved 0 v) h.0 (λ x. cc) e
 fires_reset k (Two v w) h e = let z = h.1 in cc
+
+fires_structure : (fresh : Fresh) (lo hi : ℤ) → structure_in fresh lo hi ≢ Nothing
+fires_structure fresh lo hi = at (are_good lo hi)
+  where
+    at : (b : Bool) → cond b (Out (Made (record { element = fresh.element; serial = fresh.structure; low = lo; high = hi }))) (Failed BadBounds) ≢ Nothing
+    at true e = cc
+    at false e = cc
+
+fires_alloc : (fresh : Fresh) (o : Operands) → Suits Alloc o → fired_alloc fresh o ≢ Nothing
+fires_alloc fresh (Two (Int lo) (Int hi)) h e = fires_structure fresh lo hi e
+fires_alloc fresh (One v) h e = let z = h.1 in cc
+fires_alloc fresh (Two v w) h e = let y = h.0 in let z = h.1 in cc
+
+fires_index : (s : Structure) (i : ℤ) → address_in s i ≢ Nothing
+fires_index s i = at (is_inside s.low s.high i)
+  where
+    at : (b : Bool) → cond b (Out (At (record { structure = s; index = i }))) (Failed OutOfBounds) ≢ Nothing
+    at true e = cc
+    at false e = cc
+
+fires_address : (o : Operands) → Suits Address o → fired_address o ≢ Nothing
+fires_address (Two (Made s) (Int i)) h e = fires_index s i e
+fires_address (One v) h e = let z = h.1 in cc
+fires_address (Two v w) h e = let y = h.0 in let z = h.1 in cc
+
+fires_fetch : (r : ℕ) (t : Tag) (o : Operands) → Suits (Fetch r) o → fired_fetch r t o ≢ Nothing
+fires_fetch r t (One (At c)) h e = cc
+fires_fetch r t (One v) h e = let z = h.0 in cc
+fires_fetch r t (Two v w) h e = let z = h.1 in cc
+
+fires_store : (t : Tag) (o : Operands) → Suits Store o → fired_store t o ≢ Nothing
+fires_store t (Two (At c) (Int n)) h e = cc
+fires_store t (One v) h e = let z = h.1 in cc
+fires_store t (Two v w) h e = let y = h.0 in let z = h.1 in cc
 
 pub fires-from_Suits : (op : Op) (t : Tag) (o : Operands) (fresh : Fresh) → Suits op o → fired op t o fresh ≢ Nothing
 fires-from_Suits (Const c) t o fresh = fires_const c o
@@ -170,6 +221,10 @@ fires-from_Suits (Enter b r) t o fresh = fires_enter b r fresh.context o
 fires-from_Suits (Send k n) t o fresh = fires_send k n o
 fires-from_Suits (Next k) t o fresh = fires_next k t.iteration o
 fires-from_Suits (Reset k) t o fresh = fires_reset k o
+fires-from_Suits Alloc t o fresh = fires_alloc fresh o
+fires-from_Suits Address t o fresh = fires_address o
+fires-from_Suits (Fetch r) t o fresh = fires_fetch r t o
+fires-from_Suits Store t o fresh = fires_store t o
 
 -- ---- operands with which an operator does something suit it
 
@@ -216,6 +271,22 @@ suits_reset : (k : PortKind) (o : Operands) → fired_reset k o ≢ Nothing → 
 suits_reset k (One v) h = (passed v k (Moved 0 v) h, refl)
 suits_reset k (Two v w) h = absurd (h refl)
 
+suits_alloc : (fresh : Fresh) (o : Operands) → fired_alloc fresh o ≢ Nothing → Suits Alloc o
+suits_alloc fresh (Two (Int lo) (Int hi)) h = (refl, refl)
+suits_alloc fresh _ h = absurd (h refl)
+
+suits_address : (o : Operands) → fired_address o ≢ Nothing → Suits Address o
+suits_address (Two (Made s) (Int i)) h = (refl, refl)
+suits_address _ h = absurd (h refl)
+
+suits_fetch : (r : ℕ) (t : Tag) (o : Operands) → fired_fetch r t o ≢ Nothing → Suits (Fetch r) o
+suits_fetch r t (One (At c)) h = (refl, refl)
+suits_fetch r t _ h = absurd (h refl)
+
+suits_store : (t : Tag) (o : Operands) → fired_store t o ≢ Nothing → Suits Store o
+suits_store t (Two (At c) (Int n)) h = (refl, refl)
+suits_store t _ h = absurd (h refl)
+
 pub Suits-from_fires : (op : Op) (t : Tag) (o : Operands) (fresh : Fresh) → fired op t o fresh ≢ Nothing → Suits op o
 Suits-from_fires (Const c) t o fresh = suits_const c o
 Suits-from_fires (Unary a) t o fresh = suits_unary a o
@@ -227,6 +298,10 @@ Suits-from_fires (Enter b r) t o fresh = suits_enter b r fresh.context o
 Suits-from_fires (Send k n) t o fresh = suits_send k n o
 Suits-from_fires (Next k) t o fresh = suits_next k t.iteration o
 Suits-from_fires (Reset k) t o fresh = suits_reset k o
+Suits-from_fires Alloc t o fresh = suits_alloc fresh o
+Suits-from_fires Address t o fresh = suits_address o
+Suits-from_fires (Fetch r) t o fresh = suits_fetch r t o
+Suits-from_fires Store t o fresh = suits_store t o
 
 -- ---- what an operator sends is of the kind that is said
 
@@ -280,6 +355,37 @@ kind_reset : (k : PortKind) (o : Operands) → IsOfKind (Reset k) (fired_reset k
 kind_reset k (One v) = of_kind (Reset k) v k (Moved 0 v) (λ e. e)
 kind_reset k (Two v w) = tt
 
+kind_structure : (fresh : Fresh) (lo hi : ℤ) → IsOfKind Alloc (structure_in fresh lo hi)
+kind_structure fresh lo hi = at (are_good lo hi)
+  where
+    at : (b : Bool)
+        → IsOfKind Alloc (cond b (Out (Made (record { element = fresh.element; serial = fresh.structure; low = lo; high = hi }))) (Failed BadBounds))
+    at true = refl
+    at false = tt
+
+kind_alloc : (fresh : Fresh) (o : Operands) → IsOfKind Alloc (fired_alloc fresh o)
+kind_alloc fresh (Two (Int lo) (Int hi)) = kind_structure fresh lo hi
+kind_alloc fresh _ = tt
+
+kind_index : (s : Structure) (i : ℤ) → IsOfKind Address (address_in s i)
+kind_index s i = at (is_inside s.low s.high i)
+  where
+    at : (b : Bool) → IsOfKind Address (cond b (Out (At (record { structure = s; index = i }))) (Failed OutOfBounds))
+    at true = refl
+    at false = tt
+
+kind_address : (o : Operands) → IsOfKind Address (fired_address o)
+kind_address (Two (Made s) (Int i)) = kind_index s i
+kind_address _ = tt
+
+kind_fetch : (r : ℕ) (t : Tag) (o : Operands) → IsOfKind (Fetch r) (fired_fetch r t o)
+kind_fetch r t (One (At c)) = refl
+kind_fetch r t _ = tt
+
+kind_store : (t : Tag) (o : Operands) → IsOfKind Store (fired_store t o)
+kind_store t (Two (At c) (Int n)) = (refl, refl)
+kind_store t _ = tt
+
 pub IsOfKind-fired : (op : Op) (t : Tag) (o : Operands) (fresh : Fresh) → IsOfKind op (fired op t o fresh)
 IsOfKind-fired (Const c) t o fresh = kind_const c o
 IsOfKind-fired (Unary a) t o fresh = kind_unary a o
@@ -291,3 +397,7 @@ IsOfKind-fired (Enter b r) t o fresh = kind_enter b r fresh.context o
 IsOfKind-fired (Send k n) t o fresh = kind_send k n o
 IsOfKind-fired (Next k) t o fresh = kind_next k t.iteration o
 IsOfKind-fired (Reset k) t o fresh = kind_reset k o
+IsOfKind-fired Alloc t o fresh = kind_alloc fresh o
+IsOfKind-fired Address t o fresh = kind_address o
+IsOfKind-fired (Fetch r) t o fresh = kind_fetch r t o
+IsOfKind-fired Store t o fresh = kind_store t o

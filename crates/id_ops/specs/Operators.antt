@@ -1,27 +1,31 @@
 -- What each operator does with its operands (docs/MACHINE.md, "Firing").
-use Rattle.std.specs.Prelude.{ℕ, ◌+◌, Bool as Truth, true, if◌then◌else◌}
+use Rattle.std.specs.Prelude.{ℕ, ◌+◌, ℤ, Bool as Truth, true, if◌then◌else◌}
 use Rattle.id_value.specs.declared.Constant.{Constant}
 use Rattle.id_value.specs.declared.Constant.TheVariants as constant
 use Rattle.id_value.specs.declared.UnaryOp.{UnaryOp}
 use Rattle.id_value.specs.declared.Outcome.{Outcome}
 use Rattle.id_value.specs.declared.Outcome.TheVariants.{Gives, Fails, Lacks}
+use Rattle.id_value.specs.declared.FaultKind.TheVariants.{BadBounds, OutOfBounds}
+use Rattle.id_value.specs.Bounds.{are_good, is_inside}
 use Rattle.id_value.specs.Results.{calculated, compared, decided, result_of_unary}
 use Rattle.id_graph.specs.declared.instr.PortKind.{PortKind}
 use Rattle.id_graph.specs.declared.instr.Dyadic.{Dyadic}
 use Rattle.id_graph.specs.declared.instr.Dyadic.TheVariants as class
 use Rattle.id_graph.specs.declared.instr.Op.{Op}
 use Rattle.id_graph.specs.declared.instr.Op.TheVariants.{Const, Unary, Binary, Merge, Switch, Back, Enter, Send, Next}
-use Rattle.id_graph.specs.declared.instr.Op.TheVariants.{Reset}
+use Rattle.id_graph.specs.declared.instr.Op.TheVariants.{Reset, Alloc, Address, Fetch, Store}
 use Rattle.id_tag.specs.Kinds.{kind_of, same_kind}
 use Rattle.id_tag.specs.declared.Context.{Context}
 use Rattle.id_tag.specs.declared.Tag.{Tag}
+use Rattle.id_tag.specs.declared.Structure.{Structure}
 use Rattle.id_tag.specs.declared.Value.{Value}
-use Rattle.id_tag.specs.declared.Value.TheVariants.{Signal, Int, Bool, Context as Opened, Continuation}
+use Rattle.id_tag.specs.declared.Value.TheVariants.{Signal, Int, Bool, Structure as Made, Address as At}
+use Rattle.id_tag.specs.declared.Value.TheVariants.{Context as Opened, Continuation}
 use Rattle.id_ops.specs.declared.Operands.{Operands}
 use Rattle.id_ops.specs.declared.Operands.TheVariants.{One, Two}
 use Rattle.id_ops.specs.declared.Fresh.{Fresh}
 use Rattle.id_ops.specs.declared.Fired.{Fired}
-use Rattle.id_ops.specs.declared.Fired.TheVariants.{Out, Side, Moved, Entered, Sent, Failed, Nothing}
+use Rattle.id_ops.specs.declared.Fired.TheVariants.{Out, Side, Moved, Entered, Sent, Asked, Stored, Failed, Nothing}
 
 -- the constant as a value
 abbrev pub constant_value : Constant → Value
@@ -91,6 +95,38 @@ abbrev pub fired_reset : PortKind → Operands → Fired
 fired_reset k (One v) = if same_kind (kind_of v) k then Moved 0 v else Nothing
 fired_reset k (Two _ _) = Nothing
 
+-- the next structure of the element, with these bounds, where they are good
+abbrev pub structure_in : Fresh → ℤ → ℤ → Fired
+structure_in fresh lo hi =
+    if are_good lo hi
+    then Out (Made (record { element = fresh.element; serial = fresh.structure; low = lo; high = hi }))
+    else Failed BadBounds
+
+-- `alloc`: two numbers make the next structure of the element, with these as its bounds
+abbrev pub fired_alloc : Fresh → Operands → Fired
+fired_alloc fresh (Two (Int lo) (Int hi)) = structure_in fresh lo hi
+fired_alloc fresh _ = Nothing
+
+-- the structure's cell at an index, where that is inside its bounds
+abbrev pub address_in : Structure → ℤ → Fired
+address_in s i =
+    if is_inside s.low s.high i then Out (At (record { structure = s; index = i })) else Failed OutOfBounds
+
+-- `address`: a structure and a number make the address of that cell
+abbrev pub fired_address : Operands → Fired
+fired_address (Two (Made s) (Int i)) = address_in s i
+fired_address _ = Nothing
+
+-- `fetch`: an address asks for its cell's value, for the instruction r under the context and iteration of the operands
+abbrev pub fired_fetch : ℕ → Tag → Operands → Fired
+fired_fetch r t (One (At c)) = Asked c (record { context = t.context; iteration = t.iteration; instr = r })
+fired_fetch r t _ = Nothing
+
+-- `store`: a number goes to the cell at an address, and its origin is the tag of the operands
+abbrev pub fired_store : Tag → Operands → Fired
+fired_store t (Two (At c) (Int n)) = Stored c (Int n) t
+fired_store t _ = Nothing
+
 -- what the operator does under a tag, with its operands and the next numbers of the element
 abbrev pub fired : Op → Tag → Operands → Fresh → Fired
 fired (Const c) t operands fresh = fired_const c operands
@@ -103,6 +139,10 @@ fired (Enter b r) t operands fresh = fired_enter fresh.context operands
 fired (Send k n) t operands fresh = fired_send k n operands
 fired (Next k) t operands fresh = fired_next k t.iteration operands
 fired (Reset k) t operands fresh = fired_reset k operands
+fired Alloc t operands fresh = fired_alloc fresh operands
+fired Address t operands fresh = fired_address operands
+fired (Fetch r) t operands fresh = fired_fetch r t operands
+fired Store t operands fresh = fired_store t operands
 
 -- the side to which a firing sends: the true side, unless a switch goes to the false side
 abbrev pub side_of : Fired → Truth
@@ -111,5 +151,7 @@ side_of (Side b v) = b
 side_of (Moved i v) = true
 side_of (Entered c) = true
 side_of (Sent t v) = true
+side_of (Asked c t) = true
+side_of (Stored c v t) = true
 side_of (Failed k) = true
 side_of Nothing = true

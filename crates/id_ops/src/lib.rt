@@ -14,11 +14,15 @@ ghost use Rattle.id_ops.specs.declared.Fired.TheVariants.{Nothing};
 ghost use Rattle.id_ops.specs.Operands.{Suits, IsOfKind};
 ghost use Rattle.id_ops.specs.Operators.{constant_value, fired_by, fired_const, fired_unary, fired_binary, fired_merge};
 ghost use Rattle.id_ops.specs.Operators.{fired_switch, fired_back, fired_enter, tag_within, fired_send, fired_next};
-ghost use Rattle.id_ops.specs.Operators.{fired_reset, fired};
+ghost use Rattle.id_ops.specs.Operators.{fired_reset, structure_in, fired_alloc, address_in};
+ghost use Rattle.id_ops.specs.Operators.{fired_address, fired_fetch, fired_store, fired};
 
 use id_graph::{Dyadic, Instr, Op, PortKind};
-use id_tag::{Context, Tag, Value};
-use id_value::{Constant, FaultKind, Outcome, UnaryOp, calculate, compare, decide, unary_result};
+use id_tag::{Cell, Context, Structure, Tag, Value};
+use id_value::{
+    Constant, FaultKind, Outcome, UnaryOp, bounds_are_good, calculate, compare, decide, is_inside,
+    unary_result,
+};
 
 /// The operands of one firing, by port.
 #[derive(Clone, Copy)]
@@ -37,7 +41,7 @@ pub struct Fresh {
 }
 
 /// What a firing does.
-#[derive(Clone, Copy)]
+#[derive(Clone, Copy, PartialEq, Eq)]
 pub enum Fired {
     /// The value goes to each destination under the tag of the operands.
     Out(Value),
@@ -50,15 +54,27 @@ pub enum Fired {
     Entered(Context),
     /// The value goes to port 0 of this tag.
     Sent(Tag, Value),
+    /// The cell is asked for its value, which is to go to port 0 of the tag `reply`.
+    Asked {
+        cell: Cell,
+        reply: Tag,
+    },
+    /// The value goes to the cell, from the store of the tag `origin`.
+    Stored {
+        cell: Cell,
+        value: Value,
+        origin: Tag,
+    },
     /// The operator fails.
     Failed(FaultKind),
     /// The operands are of no kind that the operator takes: nothing is sent.
     Nothing,
 }
 
-/// What the instruction does under this tag with its operands. `next` alone looks at the tag, for its
-/// iteration, which is to have a next one; of the next numbers `enter` looks at the next context alone.
-/// Takes no memory (docs/MACHINE.md, "Firing").
+/// What the instruction does under this tag with its operands. `next` looks at the tag's iteration, which is
+/// to have a next one; `fetch` and `store` name tags by it, and no other operator looks at it. Of the next
+/// numbers `enter` looks at the next context, and `alloc` at the element and the next structure. Takes no
+/// memory (docs/MACHINE.md, "Firing").
 pub fn fire(instr: &Instr, tag: Tag, operands: Operands, fresh: Fresh) -> Fired
     requires { (k : PortKind) → instr.now.op ≡ Next k → tag.iteration < 2 ^ 64 - 1 }
     ensures table { result ≡ fired instr.now.op tag operands fresh }
@@ -87,6 +103,10 @@ fn fire_op(op: Op, tag: Tag, operands: Operands, fresh: Fresh) -> Fired
         Op::Send { kind, target } => fire_send(kind, target, operands),
         Op::Next(kind) => fire_next(kind, tag.iteration, operands),
         Op::Reset(kind) => fire_reset(kind, operands),
+        Op::Alloc => fire_alloc(fresh, operands),
+        Op::Address => fire_address(operands),
+        Op::Fetch { reply } => fire_fetch(reply, tag, operands),
+        Op::Store => fire_store(tag, operands),
     }
 }
 
@@ -99,7 +119,8 @@ fn fire_const(constant: Constant, operands: Operands) -> Fired
     }
 }
 
-fn value_of(constant: Constant) -> Value
+/// A constant as the value of a token.
+pub fn value_of(constant: Constant) -> Value
     ensures { result ≡ constant_value constant }
 {
     match constant {
@@ -216,6 +237,79 @@ fn fire_reset(kind: PortKind, operands: Operands) -> Fired
 {
     match operands {
         Operands::One(value) if value.has_kind(kind) => Fired::Moved(0, value),
+        _ => Fired::Nothing,
+    }
+}
+
+fn fire_alloc(fresh: Fresh, operands: Operands) -> Fired
+    ensures { result ≡ fired_alloc fresh operands }
+{
+    match operands {
+        Operands::Two(Value::Int(low), Value::Int(high)) => structure_in(fresh, low, high),
+        _ => Fired::Nothing,
+    }
+}
+
+fn structure_in(fresh: Fresh, low: i64, high: i64) -> Fired
+    ensures { result ≡ structure_in fresh low high }
+{
+    if bounds_are_good(low, high) {
+        Fired::Out(Value::Structure(Structure {
+            element: fresh.element,
+            serial: fresh.structure,
+            low,
+            high,
+        }))
+    } else {
+        Fired::Failed(FaultKind::BadBounds)
+    }
+}
+
+fn fire_address(operands: Operands) -> Fired
+    ensures { result ≡ fired_address operands }
+{
+    match operands {
+        Operands::Two(Value::Structure(structure), Value::Int(index)) => {
+            address_in(structure, index)
+        }
+        _ => Fired::Nothing,
+    }
+}
+
+fn address_in(structure: Structure, index: i64) -> Fired
+    ensures { result ≡ address_in structure index }
+{
+    if is_inside(structure.low, structure.high, index) {
+        Fired::Out(Value::Address(Cell { structure, index }))
+    } else {
+        Fired::Failed(FaultKind::OutOfBounds)
+    }
+}
+
+fn fire_fetch(reply: u32, tag: Tag, operands: Operands) -> Fired
+    ensures { result ≡ fired_fetch reply tag operands }
+{
+    match operands {
+        Operands::One(Value::Address(cell)) => Fired::Asked {
+            cell,
+            reply: Tag {
+                instr: reply,
+                ..tag
+            },
+        },
+        _ => Fired::Nothing,
+    }
+}
+
+fn fire_store(tag: Tag, operands: Operands) -> Fired
+    ensures { result ≡ fired_store tag operands }
+{
+    match operands {
+        Operands::Two(Value::Address(cell), Value::Int(number)) => Fired::Stored {
+            cell,
+            value: Value::Int(number),
+            origin: tag,
+        },
         _ => Fired::Nothing,
     }
 }

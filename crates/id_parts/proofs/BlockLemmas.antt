@@ -5,7 +5,7 @@ use Rattle.std.proofs.lemmas.Bool.Decides.{nat_tests}
 use Rattle.std.specs.Prelude.{nat_lt, nat_le}
 use Rattle.id_parts.specs.declared.row.Row.{Row}
 use Rattle.id_parts.specs.Rows.{at}
-use Rattle.id_parts.specs.Tables.{around, has_statements, is_binding}
+use Rattle.id_parts.specs.Tables.{around, has_statements, is_statement}
 use Rattle.id_parts.specs.Turns.{in_block, IsStatement}
 
 or_false : (a b : Bool) → a ≡ false → b ≡ false → a || b ≡ false
@@ -74,11 +74,11 @@ module _ (R : List Row) where
   pub in_block-here : (i v : ℕ) → has_statements (at R v).node ≡ true → (at R v).first ≤ i → i < v → in_block R i (suc v) ≡ true
   in_block-here i v b f l = or_true (in_block R i v) _ (and_true (has_statements (at R v).node) (around R v i) b (around-true v i f l))
 
-  -- a binding that has a block round it stands right in one
-  pub statement_of : (b v : ℕ) → v ≤ length R → is_binding (at R b).node ≡ true → in_block R b v ≡ true → (s : ℕ) × (s < length R) × IsStatement R s b
+  -- a binding or a store that has a block round it stands right in one
+  pub statement_of : (b v : ℕ) → v ≤ length R → is_statement (at R b).node ≡ true → in_block R b v ≡ true → (s : ℕ) × (s < length R) × IsStatement R s b
   statement_of b zero h n e = absurd (false≢true e)
   statement_of b (suc v) h n e = elim (or_cases (in_block R b v) _ e) [
     | inl i ↦ statement_of b v (omega arith) n i
     | inr p ↦ let a = and_both (has_statements (at R v).node) (around R v b) p.1 in
-        (v, omega arith, record { block = a.0; binding = n; inside = a.1; right = p.0 })
+        (v, omega arith, record { block = a.0; statement = n; inside = a.1; right = p.0 })
   ]

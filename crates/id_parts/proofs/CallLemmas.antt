@@ -6,7 +6,7 @@ use Rattle.id_parts.specs.declared.row.Stand.{Stand}
 use Rattle.id_parts.specs.declared.row.Node.{Node}
 use Rattle.id_parts.specs.declared.row.Node.TheVariants.{Enter, Arg, Call, Block}
 use Rattle.id_parts.specs.Rows.{at}
-use Rattle.id_parts.specs.Tables.{HasPart, is_binding, is_block, is_expression}
+use Rattle.id_parts.specs.Tables.{HasPart, can_be_on, is_block, is_expression, is_statement}
 use Rattle.id_parts.specs.Calls.{AreArgs, IsArgIn, IsArgOf, IsCallOf, IsEnterOf}
 use Rattle.id_parts.specs.Turns.{TurnedIn, Turns, in_block}
 use Rattle.id_parts.proofs.BlockLemmas.{in_block-more}
@@ -33,8 +33,8 @@ pub record Called (F : List Row) (s : Stand) (p e n c i hi : ℕ) : Type 0 where
   pub each : (k : ℕ) → k < i → (m : ℕ) × IsArgOf F m e k
   pub once : (m l k : ℕ) → e < m → m < hi → e < l → l < hi → IsArgOf F m e k → IsArgOf F l e k → m ≡ l
   pub turned : ((m k v : ℕ) → m < length F → (at F m).node ≡ Arg e k v → TurnedIn F s.region v)
-      → (j : ℕ) → e ≤ j → j < hi → is_expression (at F j).node ≡ true → TurnedIn F (at F j).region j
-  pub held : (j : ℕ) → e ≤ j → j < hi → is_binding (at F j).node ≡ true → in_block F j hi ≡ true
+      → (j : ℕ) → e ≤ j → j < hi → can_be_on (at F j).node ≡ true → TurnedIn F (at F j).region j
+  pub held : (j : ℕ) → e ≤ j → j < hi → is_statement (at F j).node ≡ true → in_block F j hi ≡ true
 
 abbrev index_or : ℕ → Node → ℕ
 index_or d (Arg e k v) = k
@@ -78,9 +78,9 @@ module _ (F : List Row) (s : Stand) (p e n c : ℕ) where
         each = λ k d. absurd (omega arith);
         once = λ m l k d f. absurd (omega arith);
         turned = λ _ j d f g. let z : j ≡ e = omega arith in
-            absurd (false≢true (sym (ap is_expression node) ∙ sym (ap (λ k. is_expression (at F k).node) z) ∙ g));
+            absurd (false≢true (sym (ap can_be_on node) ∙ sym (ap (λ k. can_be_on (at F k).node) z) ∙ g));
         held = λ j d f g. let z : j ≡ e = omega arith in
-            absurd (false≢true (sym (ap is_binding node) ∙ sym (ap (λ k. is_binding (at F k).node) z) ∙ g));
+            absurd (false≢true (sym (ap is_statement node) ∙ sym (ap (λ k. is_statement (at F k).node) z) ∙ g));
       }
 
   module _ (i hi mid v : ℕ) (t : Called F s p e n c i hi) (a : AreExpression F s hi mid) (ends : suc v ≡ mid)
@@ -206,23 +206,23 @@ module _ (F : List Row) (s : Stand) (p e n c : ℕ) where
     ]
 
     turned_all : ((m k w : ℕ) → m < length F → (at F m).node ≡ Arg e k w → TurnedIn F s.region w)
-        → (j : ℕ) → e ≤ j → j < suc mid → is_expression (at F j).node ≡ true → TurnedIn F (at F j).region j
+        → (j : ℕ) → e ≤ j → j < suc mid → can_be_on (at F j).node ≡ true → TurnedIn F (at F j).region j
     turned_all f j d b g = elim (cases_lt j hi) [
       | inl l ↦ t.turned f j d l g
       | inr l ↦ elim (cases_lt j mid) [
         | inl k ↦ a.turned (subst (TurnedIn F s.region) (sym last_value) (f mid i v inside arg_node)) j l k g
         | inr k ↦ let z : j ≡ mid = omega arith in
-            absurd (false≢true (sym (ap is_expression arg_node) ∙ sym (ap (λ m. is_expression (at F m).node) z) ∙ g))
+            absurd (false≢true (sym (ap can_be_on arg_node) ∙ sym (ap (λ m. can_be_on (at F m).node) z) ∙ g))
       ]
     ]
 
-    held_all : (j : ℕ) → e ≤ j → j < suc mid → is_binding (at F j).node ≡ true → in_block F j (suc mid) ≡ true
+    held_all : (j : ℕ) → e ≤ j → j < suc mid → is_statement (at F j).node ≡ true → in_block F j (suc mid) ≡ true
     held_all j d b g = elim (cases_lt j hi) [
       | inl l ↦ in_block-more F j hi (suc mid) (omega (arith, reach)) (t.held j d l g)
       | inr l ↦ elim (cases_lt j mid) [
         | inl k ↦ in_block-more F j mid (suc mid) (omega arith) (a.held j l k g)
         | inr k ↦ let z : j ≡ mid = omega arith in
-            absurd (false≢true (sym (ap is_binding arg_node) ∙ sym (ap (λ m. is_binding (at F m).node) z) ∙ g))
+            absurd (false≢true (sym (ap is_statement arg_node) ∙ sym (ap (λ m. is_statement (at F m).node) z) ∙ g))
       ]
     ]
 

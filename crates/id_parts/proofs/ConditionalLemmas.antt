@@ -5,7 +5,7 @@ use Rattle.id_parts.specs.declared.row.Row.{Row}
 use Rattle.id_parts.specs.declared.row.Stand.{Stand}
 use Rattle.id_parts.specs.declared.row.Node.TheVariants.{Split, If, Block}
 use Rattle.id_parts.specs.Rows.{arm, arm_at, at}
-use Rattle.id_parts.specs.Tables.{is_binding, is_block, is_expression, is_split}
+use Rattle.id_parts.specs.Tables.{can_be_on, is_block, is_expression, is_split, is_statement}
 use Rattle.id_parts.specs.Regions.{AreArms, InArm, IsIfOf, IsSplitOf, Lies}
 use Rattle.id_parts.specs.Turns.{Root, TurnedIn, Turns, in_block}
 use Rattle.id_parts.proofs.BlockLemmas.{in_block-more}
@@ -169,7 +169,7 @@ module _ (F : List Row) (s : Stand) (p lo t u x y n : ℕ) (b : Branches F s p l
       no_block c h = false≢true (ap is_block h)
 
   -- the expressions of the predicate are turned on with the conditional, those of the arms with their regions
-  turned_before : TurnedIn F s.region n → (j : ℕ) → lo ≤ j → j < n → is_expression (at F j).node ≡ true → TurnedIn F (at F j).region j
+  turned_before : TurnedIn F s.region n → (j : ℕ) → lo ≤ j → j < n → can_be_on (at F j).node ≡ true → TurnedIn F (at F j).region j
   turned_before on j c d k =
       let zero : t ≡ b.test.end = omega (arith, b.test.ends, b.test_ends) in
       let one : x ≡ b.then.end = omega (arith, b.then.ends) in
@@ -178,7 +178,7 @@ module _ (F : List Row) (s : Stand) (p lo t u x y n : ℕ) (b : Branches F s p l
         | inl f ↦ b.test.turned (subst (TurnedIn F s.region) zero (TurnedIn.part on b.within (Turns.test if_node split_node))) j c f k
         | inr f ↦ elim (cases_lt u j) [
           | inr g ↦ let z : j ≡ u = omega arith in
-              absurd (false≢true (sym (ap is_expression split_node) ∙ sym (ap (λ l. is_expression (at F l).node) z) ∙ k))
+              absurd (false≢true (sym (ap can_be_on split_node) ∙ sym (ap (λ l. can_be_on (at F l).node) z) ∙ k))
           | inl g ↦ elim (cases_lt x j) [
             | inr l ↦ b.then.turned (subst (TurnedIn F (arm_at u true)) one (TurnedIn.root (Root.of_then b.within if_node))) j g (omega arith) k
             | inl l ↦ b.otherwise.turned (subst (TurnedIn F (arm_at u false)) two (TurnedIn.root (Root.of_otherwise b.within if_node))) j l d k
@@ -186,11 +186,11 @@ module _ (F : List Row) (s : Stand) (p lo t u x y n : ℕ) (b : Branches F s p l
         ]
       ]
 
-  held_before : (j : ℕ) → lo ≤ j → j < n → is_binding (at F j).node ≡ true → in_block F j (suc n) ≡ true
+  held_before : (j : ℕ) → lo ≤ j → j < n → is_statement (at F j).node ≡ true → in_block F j (suc n) ≡ true
   held_before j c d k = elim (cases_lt j u) [
     | inl f ↦ in_block-more F j u (suc n) (omega (arith, then_low, otherwise_low, last_low)) (b.test.held j c f k)
     | inr f ↦ elim (cases_lt u j) [
-      | inr g ↦ let z : j ≡ u = omega arith in absurd (false≢true (sym (ap is_binding split_node) ∙ sym (ap (λ l. is_binding (at F l).node) z) ∙ k))
+      | inr g ↦ let z : j ≡ u = omega arith in absurd (false≢true (sym (ap is_statement split_node) ∙ sym (ap (λ l. is_statement (at F l).node) z) ∙ k))
       | inl g ↦ elim (cases_lt x j) [
         | inr l ↦ in_block-more F j (suc x) (suc n) (omega (arith, otherwise_low, last_low)) (b.then.held j g (omega arith) k)
         | inl l ↦ in_block-more F j n (suc n) (omega arith) (b.otherwise.held j l d k)

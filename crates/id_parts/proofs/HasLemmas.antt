@@ -1,12 +1,13 @@
 -- A table that has the rows of another at its beginning.
 use Rattle.std.proofs.Common.{◌≡◌, ◌<◌, ◌≤◌, ℕ, suc, Bool, true, false, List, [], ◌∷◌, ◌++◌, length, refl, ◌∙◌, arith}
 use Rattle.std.proofs.lemmas.List.{get_or_append_left, get_or_push, length_push}
-use Rattle.id_tree.specs.Tree.{Tree, literal, unary, binary, name, conditional, call, block, loop, binding, next, param, define, none, more}
+use Rattle.id_tree.specs.Tree.{Tree, literal, unary, binary, name, conditional, call, block, loop, array, fetch, binding, next}
+use Rattle.id_tree.specs.Tree.{store, param, define, none, more}
 use Rattle.id_parts.specs.declared.row.Row.{Row}
 use Rattle.id_parts.specs.declared.row.Stand.{Stand}
 use Rattle.id_parts.specs.declared.row.Node.{Node}
 use Rattle.id_parts.specs.declared.row.Node.TheVariants.{Head, Split, Enter, Arg, Start, LoopHead}
-use Rattle.id_parts.specs.declared.row.Node.TheVariants.{Variable, Switches, Turn, NextUse, Next, Body, Reset}
+use Rattle.id_parts.specs.declared.row.Node.TheVariants.{Variable, Switches, Turn, NextUse, Next, Body, Reset, Address}
 use Rattle.id_parts.specs.Names.{number_of}
 use Rattle.id_parts.specs.Rows.{Parts, add, add_arguments, add_nexts, add_variables, arm, at}
 use Rattle.id_parts.specs.Rows.{begin_loop, in_top, last, naming, no_row, size, value_of, with_row}
@@ -75,6 +76,13 @@ used s T x p = with_row (naming T x) s p (size T) (NextUse (number_of T.names x)
 abbrev pub nexted : Stand → ℕ → Parts → List ℕ → Tree → ℕ → Parts
 nexted s i T x a p = let U = add s (used s T x p) a in with_row U s p (size T) (Next (number_of T.names x) i (size T) (last U))
 
+-- the parts of a store up to its address
+abbrev pub addressed : Stand → Parts → Tree → Tree → ℕ → Parts
+addressed s T t i p =
+    let U = add s T t in
+    let V = add s U i in
+    with_row V s p (size T) (Address (last U) (last V))
+
 -- the rows of R are the first of F
 pub record Has (F R : List Row) : Type 0 where
   pub within : length R ≤ length F
@@ -135,6 +143,12 @@ module _ (F : List Row) where
         let o = Has-nexts a (in_side s T t a p true) 0 B (Has-push (stated s T t a p).rows _ n) in
         let u = Has-push (tested s T t a p).rows _ (Has-push (switched s T t a p).rows _ o) in
         Has-begin s T a p (Has-add t (in_loop T) (begin_loop s T a p) u)
+    Has-add (array a b p) s T h = Has-add a s T (Has-add b s (add s T a) (Has-push (add s (add s T a) b).rows _ h))
+    Has-add (fetch a b p) s T h = Has-add a s T (Has-add b s (add s T a) (Has-push (add s (add s T a) b).rows _ h))
+    Has-add (store t i e p) s T h =
+        let U = add s T t in
+        let A = addressed s T t i p in
+        Has-add t s T (Has-add i s U (Has-push (add s U i).rows _ (Has-add e s A (Has-push (add s A e).rows _ h))))
     Has-add (next x a p) s T h = Has-add a s T (Has-push (add s T a).rows _ h)
     Has-add (binding x a p) s T h = Has-add a s T (Has-push (add s T a).rows _ h)
     Has-add (param x k p) s T h = Has-push T.rows _ h

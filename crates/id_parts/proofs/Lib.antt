@@ -19,3 +19,4 @@ mod NextLemmas
 mod ParamsLemmas
 mod ProcedureLemmas
 mod RowLemmas
+mod StoreLemmas

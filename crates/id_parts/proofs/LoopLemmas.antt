@@ -6,7 +6,8 @@ use Rattle.id_parts.specs.declared.row.Stand.{Stand}
 use Rattle.id_parts.specs.declared.row.Node.{Node}
 use Rattle.id_parts.specs.declared.row.Node.TheVariants.{Start, LoopHead, Variable, Entries, Switches, Turn, NextUse, Next, Body, Reset, Loop, Block}
 use Rattle.id_parts.specs.Rows.{arm, arm_at, at, in_top, top}
-use Rattle.id_parts.specs.Tables.{HasPart, has_statements, is_binding, is_block, is_expression, is_in_loop, is_next, is_switches, is_variable}
+use Rattle.id_parts.specs.Tables.{HasPart, can_be_on, has_statements, is_block, is_expression, is_in_loop, is_next, is_statement}
+use Rattle.id_parts.specs.Tables.{is_switches, is_variable}
 use Rattle.id_parts.specs.Loops.{AreEntries, AreLast, AreSwitches, HavePlace, InSide, IsBody, IsLoop, IsLoopOf, IsNextOf}
 use Rattle.id_parts.specs.Loops.{IsStartOf, StandsAt}
 use Rattle.id_parts.specs.Regions.{Lies}
@@ -15,7 +16,7 @@ use Rattle.id_parts.proofs.BlockLemmas.{around-true, in_block-here, in_block-mor
 use Rattle.id_parts.proofs.HasLemmas.{row_in}
 use Rattle.id_parts.proofs.RowLemmas.{AreSwitchesOf, Fits, Fits-simple, HeadIn, IsVariableOf, Lies-both, PartIs, RowIs, RowIs-fits, RowIs-row}
 use Rattle.id_parts.proofs.RowLemmas.{RowIs-within, RowsAre, RowsAre-none, StandsHere, StandsWithin, gives_own, is_inner}
-use Rattle.id_parts.proofs.ExpressionLemmas.{AreExpression, expression-fits, part_of}
+use Rattle.id_parts.proofs.ExpressionLemmas.{AreExpression, expression-fits, part_of, root_in_body, turns_statement}
 use Rattle.id_parts.proofs.NextLemmas.{AreNexts, VariableAt, is_of_next, no_inner, no_part}
 
 -- the rows from lo on are those of a loop at the row n: its head behind its `Start`, its variables up to its entries at e, its
@@ -588,20 +589,20 @@ module _ (F : List Row) (s : Stand) (p lo e t w d l n : ℕ) (b : LoopRows F s p
         belongs = is_loop_at;
       }
 
-  -- the expressions of a loop are turned on with its regions
-  turned_before : (j : ℕ) → lo ≤ j → j < n → is_expression (at F j).node ≡ true → TurnedIn F (at F j).region j
-  turned_before = by_part (λ j. is_expression (at F j).node ≡ true → TurnedIn F (at F j).region j)
+  -- the expressions and stores of a loop are turned on with its regions
+  turned_before : (j : ℕ) → lo ≤ j → j < n → can_be_on (at F j).node ≡ true → TurnedIn F (at F j).region j
+  turned_before = by_part (λ j. can_be_on (at F j).node ≡ true → TurnedIn F (at F j).region j)
       (none lo Start start_node refl) (none (suc lo) (LoopHead lo) head_node refl) (λ j g h. none j Variable (variable_node j g h) refl)
       (none e Entries entries_node refl) test_on (none w (Switches t) switches_node refl) (none (suc w) Turn turn_node refl) body_on
       (none d Body body_node refl) last_on (none (suc l) (Reset l) reset_node refl)
     where
-      none : (j : ℕ) (m : Node) → (at F j).node ≡ m → is_expression m ≡ false → is_expression (at F j).node ≡ true → TurnedIn F (at F j).region j
-      none j m e off q = absurd (fails is_expression j m e off q)
+      none : (j : ℕ) (m : Node) → (at F j).node ≡ m → can_be_on m ≡ false → can_be_on (at F j).node ≡ true → TurnedIn F (at F j).region j
+      none j m e off q = absurd (fails can_be_on j m e off q)
 
       within : (j : ℕ) → j < n → j < length F
       within j f = omega (arith, b.within)
 
-      test_on : (j : ℕ) → e < j → j < w → is_expression (at F j).node ≡ true → TurnedIn F (at F j).region j
+      test_on : (j : ℕ) → e < j → j < w → can_be_on (at F j).node ≡ true → TurnedIn F (at F j).region j
       test_on j g h k =
           let same : t ≡ b.test.end = omega (arith, b.test.ends, b.test_ends) in
           let region : (at F w).region ≡ top (suc lo) = ap (λ (r : Row). r.region) b.switches in
@@ -609,12 +610,12 @@ module _ (F : List Row) (s : Stand) (p lo e t w d l n : ℕ) (b : LoopRows F s p
           let on = subst (λ r. TurnedIn F r t) region (TurnedIn.root (Root.of_test low switches_node)) in
           b.test.turned (subst (TurnedIn F (top (suc lo))) same on) j g h k
 
-      last_on : (j : ℕ) → d < j → j < suc l → is_expression (at F j).node ≡ true → TurnedIn F (at F j).region j
+      last_on : (j : ℕ) → d < j → j < suc l → can_be_on (at F j).node ≡ true → TurnedIn F (at F j).region j
       last_on j g h k =
           let same : l ≡ b.last.end = omega (arith, b.last.ends) in
           b.last.turned (subst (TurnedIn F (arm_at w false)) same (TurnedIn.root (Root.of_last b.within loop_node))) j g h k
 
-      body_on : (j : ℕ) → suc w < j → j < d → is_expression (at F j).node ≡ true → TurnedIn F (at F j).region j
+      body_on : (j : ℕ) → suc w < j → j < d → can_be_on (at F j).node ≡ true → TurnedIn F (at F j).region j
       body_on j g h k = elim (b.body.turned j g h k) [
         | inr on ↦ on
         | inl by ↦
@@ -622,16 +623,16 @@ module _ (F : List Row) (s : Stand) (p lo e t w d l n : ℕ) (b : LoopRows F s p
             let first : (at F d).first ≡ suc (suc w) = ap (λ (r : Row). r.first) b.body_end in
             let is : IsStatement F d by.row = record {
               block = ap has_statements body_node;
-              binding = ap is_binding by.node;
+              statement = turns_statement F by.row by.value by.statement;
               inside = around-true F d by.row (omega (arith, first, by.low)) by.before;
               right = by.free;
             } in
-            let on = TurnedIn.root (Root.of_statement (within d (omega (arith, last_low, before_loop))) body_node is by.node) in
+            let on = TurnedIn.root (root_in_body F d by.row by.value (within d (omega (arith, last_low, before_loop))) body_node is by.statement) in
             by.turned (subst (λ r. TurnedIn F r by.value) region on)
       ]
 
-  held_before : (j : ℕ) → lo ≤ j → j < n → is_binding (at F j).node ≡ true → in_block F j (suc n) ≡ true
-  held_before = by_part (λ j. is_binding (at F j).node ≡ true → in_block F j (suc n) ≡ true)
+  held_before : (j : ℕ) → lo ≤ j → j < n → is_statement (at F j).node ≡ true → in_block F j (suc n) ≡ true
+  held_before = by_part (λ j. is_statement (at F j).node ≡ true → in_block F j (suc n) ≡ true)
       (none lo Start start_node refl) (none (suc lo) (LoopHead lo) head_node refl) (λ j g h. none j Variable (variable_node j g h) refl)
       (none e Entries entries_node refl)
       (λ j g h k. in_block-more F j w (suc n) (omega (arith, body_low, last_low, before_loop)) (b.test.held j g h k))
@@ -644,8 +645,8 @@ module _ (F : List Row) (s : Stand) (p lo e t w d l n : ℕ) (b : LoopRows F s p
       (λ j g h k. in_block-more F j (suc l) (suc n) (omega (arith, before_loop)) (b.last.held j g h k))
       (none (suc l) (Reset l) reset_node refl)
     where
-      none : (j : ℕ) (m : Node) → (at F j).node ≡ m → is_binding m ≡ false → is_binding (at F j).node ≡ true → in_block F j (suc n) ≡ true
-      none j m e off q = absurd (fails is_binding j m e off q)
+      none : (j : ℕ) (m : Node) → (at F j).node ≡ m → is_statement m ≡ false → is_statement (at F j).node ≡ true → in_block F j (suc n) ≡ true
+      none j m e off q = absurd (fails is_statement j m e off q)
 
   -- a loop behind its parts
   pub are-loop : AreExpression F s lo (suc n)

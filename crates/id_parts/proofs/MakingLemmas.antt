@@ -9,7 +9,7 @@ use Rattle.id_tree.specs.declared.tree.Expr.{Row_of-Expr, end_of-Expr, more_of-E
 use Rattle.id_tree.specs.declared.tree.Expr.{Row_of-Stmt, end_of-Stmt, more_of-Stmt, items-the_row-Stmt, items_hidden-the_row-Stmt-1}
 use Rattle.id_tree.specs.declared.tree.Stmt.{Stmt}
 use Rattle.id_tree.specs.declared.tree.Stmt as stmt
-use Rattle.id_tree.specs.Tree.{Tree, call, block, binding, define, loop, more, tree_of, args_tree, stmt_tree, row_tree}
+use Rattle.id_tree.specs.Tree.{Tree, call, block, binding, store, define, loop, more, tree_of, args_tree, stmt_tree, row_tree}
 use Rattle.id_parts.specs.declared.row.Stand.{Stand}
 use Rattle.id_parts.specs.declared.row.Node.TheVariants as node
 use Rattle.id_parts.specs.Names.{number_of, with_name}
@@ -124,6 +124,14 @@ pub binding_step : (s : Stand) (k i : ℕ) (T U V : Parts) (xs : List Stmt) (x :
     → get_or xs i d ≡ stmt.Binding x e p → U ≡ add s T (binding x (tree_of e) p) → add_nexts s k T (stmts_tree (drop i xs)) ≡ V
     → add_nexts s k U (stmts_tree (drop (i + 1) xs)) ≡ V
 binding_step s k i T U V xs x e p d l is u w =
+    ap (λ X. add_nexts s k X (stmts_tree (drop (i + 1) xs))) u
+    ∙ sym (ap (λ ss. add_nexts s k T (stmts_tree ss)) (drop_more xs i d l ∙ ap (λ y. y ∷ drop (i + 1) xs) is)) ∙ w
+
+-- so it is where that is a store
+pub store_step : (s : Stand) (k i : ℕ) (T U V : Parts) (xs : List Stmt) (t j e : Expr) (p : ℕ) (d : Stmt) → i < length xs
+    → get_or xs i d ≡ stmt.Store t j e p → U ≡ add s T (store (tree_of t) (tree_of j) (tree_of e) p) → add_nexts s k T (stmts_tree (drop i xs)) ≡ V
+    → add_nexts s k U (stmts_tree (drop (i + 1) xs)) ≡ V
+store_step s k i T U V xs t j e p d l is u w =
     ap (λ X. add_nexts s k X (stmts_tree (drop (i + 1) xs))) u
     ∙ sym (ap (λ ss. add_nexts s k T (stmts_tree ss)) (drop_more xs i d l ∙ ap (λ y. y ∷ drop (i + 1) xs) is)) ∙ w
 

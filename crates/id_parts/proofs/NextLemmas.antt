@@ -5,17 +5,16 @@ use Rattle.id_tree.specs.Tree.{Tree, more, next}
 use Rattle.id_parts.specs.declared.row.Row.{Row}
 use Rattle.id_parts.specs.declared.row.Stand.{Stand}
 use Rattle.id_parts.specs.declared.row.Node.{Node}
-use Rattle.id_parts.specs.declared.row.Node.TheVariants.{LoopHead, Variable, NextUse, Next, Loop, Block, Binding}
+use Rattle.id_parts.specs.declared.row.Node.TheVariants.{LoopHead, Variable, NextUse, Next, Loop, Block}
 use Rattle.id_parts.specs.Rows.{Parts, add_variables, arm, arm_at, at, in_top, size, with_row}
-use Rattle.id_parts.specs.Tables.{is_binding, is_block, is_expression, is_in_loop, is_next}
+use Rattle.id_parts.specs.Tables.{can_be_on, is_block, is_expression, is_in_loop, is_next, is_statement}
 use Rattle.id_parts.specs.Loops.{IsLoopOf, IsNextIn, IsNextOf}
 use Rattle.id_parts.specs.Regions.{Lies}
 use Rattle.id_parts.specs.Turns.{Root, TurnedIn, in_block}
 use Rattle.id_parts.proofs.BlockLemmas.{in_block-before, in_block-behind, in_block-more}
 use Rattle.id_parts.proofs.HasLemmas.{Has, Has-variables, at-push, push-size, row_for, row_in}
-use Rattle.id_parts.proofs.RowLemmas.{Fits, Fits-simple, HeadIn, IsNextOfLoop, IsUseOf, PartIs, RowIs, RowIs-fits, RowIs-row, RowIs-within}
-use Rattle.id_parts.proofs.RowLemmas.{RowsAre-suc, StandsHere}
-use Rattle.id_parts.proofs.ExpressionLemmas.{AreExpression, ByBinding, part_of}
+use Rattle.id_parts.proofs.RowLemmas.{Fits, HeadIn, IsNextOfLoop, IsUseOf, RowIs, RowIs-row, RowIs-within, StandsHere}
+use Rattle.id_parts.proofs.ExpressionLemmas.{AreExpression, AreStatement, ByStatement, part_of}
 
 -- how many `next` statements are in the list
 abbrev pub nexts_in : Tree → ℕ
@@ -74,8 +73,8 @@ pub record AreNexts (F : List Row) (s : Stand) (i c lo hi : ℕ) : Type 0 where
   pub order : i ≤ c
   pub rows : (j : ℕ) → lo ≤ j → j < hi → RowIs F s s.block j (at F j)
   pub first : (j : ℕ) → lo ≤ j → j < hi → lo ≤ (at F j).first
-  pub turned : (j : ℕ) → lo ≤ j → j < hi → is_expression (at F j).node ≡ true → ByBinding F s lo hi j ⊎ TurnedIn F (at F j).region j
-  pub held : (j : ℕ) → lo ≤ j → j < hi → is_binding (at F j).node ≡ true → StandsHere F s j ⊎ (in_block F j hi ≡ true)
+  pub turned : (j : ℕ) → lo ≤ j → j < hi → can_be_on (at F j).node ≡ true → ByStatement F s lo hi j ⊎ TurnedIn F (at F j).region j
+  pub held : (j : ℕ) → lo ≤ j → j < hi → is_statement (at F j).node ≡ true → StandsHere F s j ⊎ (in_block F j hi ≡ true)
   pub parts : (j : ℕ) → lo ≤ j → j < hi → (at F j).block ≡ s.block → is_in_loop (at F j).node ≡ true → is_of_next (at F j).node ≡ true
   pub own : (j k x : ℕ) → lo ≤ j → j < hi → IsNextOf F j s.block k x → (i ≤ k) × (k < c)
   pub each : (k : ℕ) → i ≤ k → k < c → (m : ℕ) × (x : ℕ) × IsNextOf F m s.block k x
@@ -124,11 +123,10 @@ module _ (F : List Row) (s : Stand) where
           | inl q ↦ elim (f.turned j b q t) [
             | inl by ↦ inl (record {
               row = by.row;
-              name = by.name;
               value = by.value;
               low = by.low;
               before = omega (arith, by.before);
-              node = by.node;
+              statement = by.statement;
               free = in_block-behind F by.row mid hi next by.free (λ k u v. let z = g.first k u v in omega (arith, by.before));
               turned = by.turned;
             })
@@ -137,11 +135,10 @@ module _ (F : List Row) (s : Stand) where
           | inr q ↦ elim (g.turned j q d t) [
             | inl by ↦ inl (record {
               row = by.row;
-              name = by.name;
               value = by.value;
               low = omega (arith, by.low);
               before = by.before;
-              node = by.node;
+              statement = by.statement;
               free = by.free;
               turned = by.turned;
             })
@@ -181,46 +178,31 @@ module _ (F : List Row) (s : Stand) where
   pub no_inner : (mid j k x : ℕ) → s.block < mid → RowIs F s mid j (at F j) → IsNextOf F j s.block k x → ⊥
   no_inner mid j k x l r t = false≢true (sym (no_part mid j l r t.block) ∙ ap is_in_loop t.node)
 
-  -- a binding behind its expression
-  pub one-binding : (p lo x a i j : ℕ) → at F j ≡ row_in s p lo j (Binding x a) → suc a ≡ j → s.block < lo → AreExpression F s lo j
-      → AreNexts F s i i lo (suc j)
-  one-binding p lo x a i j e q low h =
-      let part = part_of F s lo j a h q in
-      let le : lo ≤ j = omega (arith, h.low, h.ends) in
-      let same : a ≡ h.end = omega (arith, h.ends) in
-      let node : (at F j).node ≡ Binding x a = ap (λ (r : Row). r.node) e in
-      let fits = Fits-simple F s p lo j (Binding x a) e refl (λ h. absurd (false≢true h)) (λ c w. subst (PartIs F s lo j) (sym w) part) in
-      let row = RowIs-fits F s p lo j j (Binding x a) e le h.rows refl fits in
-      let rows = RowsAre-suc F s lo j h.rows row in
-      record {
-        low = omega arith;
-        order = omega arith;
-        rows = λ k c d. behind-head lo k (omega arith) (rows k c d);
-        first = λ k c d. (rows k c d).low;
-        turned = λ k c d w. elim (cases_lt k j) [
-          | inl f ↦ inl (record {
-            row = j;
-            name = x;
-            value = a;
-            low = le;
-            before = omega arith;
-            node = node;
-            free = in_block-before F j (suc j) (omega arith);
-            turned = λ t. h.turned (subst (TurnedIn F s.region) same t) k c f w;
-          })
-          | inr f ↦ let z : k ≡ j = omega arith in
-              absurd (false≢true (sym (ap is_expression node) ∙ sym (ap (λ g. is_expression (at F g).node) z) ∙ w))
-        ];
-        held = λ k c d w. elim (cases_lt k j) [
-          | inl f ↦ inr (in_block-more F k j (suc j) (omega arith) (h.held k c f w))
-          | inr f ↦ let z : k ≡ j = omega arith in
-              inl (ap (λ g. (at F g).block) z ∙ ap (λ (r : Row). r.block) e, ap (λ g. (at F g).region) z ∙ ap (λ (r : Row). r.region) e)
-        ];
-        parts = λ m c d t is. absurd (false≢true (sym (no_part lo m low (rows m c d) t) ∙ is));
-        own = λ m k y c d t. absurd (no_inner lo m k y low (rows m c d) t);
-        each = λ k c d. absurd (omega arith);
-        once = λ m o k y z c d _ _ t _. absurd (no_inner lo m k y low (rows m c d) t);
-      }
+  -- a statement that is no `next`
+  pub one-statement : (lo i j : ℕ) → s.block < lo → AreStatement F s lo j → AreNexts F s i i lo (suc j)
+  one-statement lo i j low h = record {
+    low = omega (arith, h.low);
+    order = omega arith;
+    rows = λ k c d. behind-head lo k (omega arith) (h.rows k c d);
+    first = λ k c d. (h.rows k c d).low;
+    turned = λ k c d w. inl (record {
+      row = j;
+      value = h.value;
+      low = h.low;
+      before = omega arith;
+      statement = h.statement;
+      free = in_block-before F j (suc j) (omega arith);
+      turned = λ t. h.turned t k c d w;
+    });
+    held = λ k c d w. elim (cases_lt k j) [
+      | inl f ↦ inr (h.held k c f w)
+      | inr f ↦ let z : j ≡ k = omega arith in inl (subst (StandsHere F s) z h.stands)
+    ];
+    parts = λ m c d t is. absurd (false≢true (sym (no_part lo m low (h.rows m c d) t) ∙ is));
+    own = λ m k y c d t. absurd (no_inner lo m k y low (h.rows m c d) t);
+    each = λ k c d. absurd (omega arith);
+    once = λ m o k y z c d _ _ t _. absurd (no_inner lo m k y low (h.rows m c d) t);
+  }
 
 -- a `next` statement of the index i behind its use of the outer name at the row lo, and its expression
 module _ (F : List Row) (u h w l n : ℕ) (c : IsRound F u h w l n) (p lo x i a j : ℕ)
@@ -368,12 +350,12 @@ module _ (F : List Row) (u h w l n : ℕ) (c : IsRound F u h w l n) (p lo x i a 
     rows = by_row (λ k. RowIs F s h k (at F k)) use_row (λ k g f. row_before k (omega arith) f) next_row;
     first = by_row (λ k. lo ≤ (at F k).first) (first_before lo (omega arith) low) (λ k g f. first_before k (omega arith) f)
         (omega (arith, ap (λ (r : Row). r.first) row));
-    turned = by_row (λ k. is_expression (at F k).node ≡ true → ByBinding F s lo (suc j) k ⊎ TurnedIn F (at F k).region k)
-        (λ t. absurd (false≢true (sym (ap is_expression use_node) ∙ t))) (λ k g f t. inr (turned_on k g f t))
-        (λ t. absurd (false≢true (sym (ap is_expression next_node) ∙ t)));
-    held = by_row (λ k. is_binding (at F k).node ≡ true → StandsHere F s k ⊎ (in_block F k (suc j) ≡ true))
-        (λ t. absurd (false≢true (sym (ap is_binding use_node) ∙ t))) (λ k g f t. inr (in_block-more F k j (suc j) (omega arith) (e.held k g f t)))
-        (λ t. absurd (false≢true (sym (ap is_binding next_node) ∙ t)));
+    turned = by_row (λ k. can_be_on (at F k).node ≡ true → ByStatement F s lo (suc j) k ⊎ TurnedIn F (at F k).region k)
+        (λ t. absurd (false≢true (sym (ap can_be_on use_node) ∙ t))) (λ k g f t. inr (turned_on k g f t))
+        (λ t. absurd (false≢true (sym (ap can_be_on next_node) ∙ t)));
+    held = by_row (λ k. is_statement (at F k).node ≡ true → StandsHere F s k ⊎ (in_block F k (suc j) ≡ true))
+        (λ t. absurd (false≢true (sym (ap is_statement use_node) ∙ t))) (λ k g f t. inr (in_block-more F k j (suc j) (omega arith) (e.held k g f t)))
+        (λ t. absurd (false≢true (sym (ap is_statement next_node) ∙ t)));
     parts = by_row (λ k. (at F k).block ≡ h → is_in_loop (at F k).node ≡ true → is_of_next (at F k).node ≡ true)
         (λ _ _. ap is_of_next use_node)
         (λ k g f t is. absurd (false≢true (sym (no_part F s (suc lo) k (omega (arith, head_low)) (e.rows k g f) t) ∙ is)))
@@ -383,7 +365,7 @@ module _ (F : List Row) (u h w l n : ℕ) (c : IsRound F u h w l n) (p lo x i a 
     once = λ m o k y z b d b' d' t t'. (own_is m k y b d t).0 ∙ sym (own_is o k z b' d' t').0;
   }
     where
-      turned_on : (k : ℕ) → lo < k → k < j → is_expression (at F k).node ≡ true → TurnedIn F (at F k).region k
+      turned_on : (k : ℕ) → lo < k → k < j → can_be_on (at F k).node ≡ true → TurnedIn F (at F k).region k
       turned_on k g f t =
           let region : (at F j).region ≡ arm_at w true = ap (λ (r : Row). r.region) row in
           let same : a ≡ e.end = omega (arith, ends, e.ends) in

@@ -5,7 +5,8 @@ use Rattle.std.proofs.lemmas.Slice.Eq.{bytes_eq-Decides}
 use Rattle.std.specs.Prelude.{if◌then◌else◌}
 use Rattle.std.specs.Str.{bytes_eq}
 use Rattle.id_list.specs.List.{AllDiffer, Among}
-use Rattle.id_tree.specs.Tree.{Tree, literal, unary, binary, name, conditional, call, block, loop, binding, next, param, define, none, more}
+use Rattle.id_tree.specs.Tree.{Tree, literal, unary, binary, name, conditional, call, block, loop, array, fetch, binding, next, store, param}
+use Rattle.id_tree.specs.Tree.{define, none, more}
 use Rattle.id_parts.specs.declared.row.Row.{Row}
 use Rattle.id_parts.specs.declared.row.Stand.{Stand}
 use Rattle.id_parts.specs.declared.row.Node.TheVariants.{Head, Split, Start, Variable}
@@ -13,7 +14,7 @@ use Rattle.id_parts.specs.Names.{first_names, number_of, with_name}
 use Rattle.id_parts.specs.Rows.{Parts, add, add_arguments, add_nexts, add_variables, arm, at, begin_loop, in_top, last, parts_of, rows_of, size, with_row}
 use Rattle.id_parts.specs.Tables.{AreNamed, name_of}
 use Rattle.id_parts.proofs.HasLemmas.{Has, Has-add, Has-arguments, Has-itself, Has-nexts}
-use Rattle.id_parts.proofs.HasLemmas.{Has-push, Has-variables, argued, at-push, entered, push-size}
+use Rattle.id_parts.proofs.HasLemmas.{Has-push, Has-variables, addressed, argued, at-push, entered, push-size}
 use Rattle.id_parts.proofs.HasLemmas.{closed, headed, in_loop, in_side, left_by, nexted, opened, reset, stated, switched, tested, used}
 
 Among-with_name : (xs : List (List ℕ)) (x y : List ℕ) → Among y (with_name xs x) → Among y xs ⊎ (y ≡ x)
@@ -71,6 +72,9 @@ mutual
   AllDiffer-add (loop t a l p) s T d =
       let u = AllDiffer-add t (in_loop T) (begin_loop s T a p) (AllDiffer-variables a (in_loop T) (headed s T p) d) in
       AllDiffer-add l (in_side s T t a p false) (closed s T t a p) (AllDiffer-nexts a (in_side s T t a p true) 0 (opened s T t a p) u)
+  AllDiffer-add (array a b p) s T d = AllDiffer-add b s (add s T a) (AllDiffer-add a s T d)
+  AllDiffer-add (fetch a b p) s T d = AllDiffer-add b s (add s T a) (AllDiffer-add a s T d)
+  AllDiffer-add (store t i a p) s T d = AllDiffer-add a s (addressed s T t i p) (AllDiffer-add i s (add s T t) (AllDiffer-add t s T d))
   AllDiffer-add (next x a p) s T d = AllDiffer-with_name (add s T a).names x (AllDiffer-add a s T d)
   AllDiffer-add (binding x a p) s T d = AllDiffer-with_name (add s T a).names x (AllDiffer-add a s T d)
   AllDiffer-add (param x k p) s T d = AllDiffer-with_name T.names x d
@@ -150,6 +154,13 @@ mutual
       let m = names-longer t (in_loop T) (begin_loop s T a p) in
       let n = nexts-longer a (in_side s T t a p true) 0 (opened s T t a p) in
       let o = names-longer l (in_side s T t a p false) (closed s T t a p) in
+      omega arith
+  names-longer (array a b p) s T = let l = names-longer a s T in let m = names-longer b s (add s T a) in omega arith
+  names-longer (fetch a b p) s T = let l = names-longer a s T in let m = names-longer b s (add s T a) in omega arith
+  names-longer (store t i a p) s T =
+      let l = names-longer t s T in
+      let m = names-longer i s (add s T t) in
+      let q = names-longer a s (addressed s T t i p) in
       omega arith
   names-longer (next x a p) s T = let l = names-longer a s T in let m = with_name-longer (add s T a).names x in omega arith
   names-longer (binding x a p) s T = let l = names-longer a s T in let m = with_name-longer (add s T a).names x in omega arith
@@ -267,6 +278,34 @@ module _ (F : List Row) (n : ℕ) where
         let g = Has-push F V.rows _ h in
         let m = names-longer b s U in
         below-push F n (size T) V.rows _ h (below-both F n (size T) (size U) (size V) (named a s T (Has-add F b s U g) (omega arith)) (named b s U g l))
+        (no_name n)
+    named (array a b p) s T h l =
+        let U = add s T a in
+        let V = add s U b in
+        let g = Has-push F V.rows _ h in
+        let m = names-longer b s U in
+        below-push F n (size T) V.rows _ h (below-both F n (size T) (size U) (size V) (named a s T (Has-add F b s U g) (omega arith)) (named b s U g l))
+        (no_name n)
+    named (fetch a b p) s T h l =
+        let U = add s T a in
+        let V = add s U b in
+        let g = Has-push F V.rows _ h in
+        let m = names-longer b s U in
+        below-push F n (size T) V.rows _ h (below-both F n (size T) (size U) (size V) (named a s T (Has-add F b s U g) (omega arith)) (named b s U g l))
+        (no_name n)
+    named (store t i a p) s T h l =
+        let U = add s T t in
+        let V = add s U i in
+        let A = addressed s T t i p in
+        let W = add s A a in
+        let g = Has-push F W.rows _ h in
+        let f = Has-add F a s A g in
+        let e = Has-push F V.rows _ f in
+        let m = names-longer i s U in
+        let q = names-longer a s A in
+        let front = below-both F n (size T) (size U) (size V) (named t s T (Has-add F i s U e) (omega arith)) (named i s U e (omega arith)) in
+        below-push F n (size T) W.rows _ h
+        (below-both F n (size T) (size A) (size W) (below-push F n (size T) V.rows _ f front (no_name n)) (named a s A g l))
         (no_name n)
     named (loop t ss l p) s T h z =
         let E = begin_loop s T ss p in

@@ -1,15 +1,16 @@
 -- No parameters stand in the rows of an expression.
 use Rattle.std.proofs.Common.{◌≡◌, inl, inr, ◌<◌, ◌≤◌, ℕ, suc, true, false, List, [], ◌∷◌, ◌++◌, length, refl, ap, ◌∙◌, arith}
 use Rattle.std.proofs.lemmas.Bool.{cases_lt}
-use Rattle.id_tree.specs.Tree.{Tree, more, binding, next}
+use Rattle.id_tree.specs.Tree.{Tree, more, binding, next, store}
 use Rattle.id_parts.specs.declared.row.Row.{Row}
 use Rattle.id_parts.specs.declared.row.Stand.{Stand}
 use Rattle.id_parts.specs.declared.row.Node.TheVariants.{Split, Start, Variable}
 use Rattle.id_parts.specs.Rows.{Parts, add, add_arguments, add_nexts, add_variables, arm, at, begin_loop, last, size, with_row}
 use Rattle.id_parts.specs.Tables.{is_param}
 use Rattle.id_parts.specs.Trees.{IsTree, Expression, Arguments, Statements, by_literal, by_unary, by_binary, by_name, by_conditional}
-use Rattle.id_parts.specs.Trees.{by_call, by_block, by_loop, next_statement, no_arguments, more_arguments, no_statements, more_statements}
-use Rattle.id_parts.proofs.HasLemmas.{Has, Has-add, Has-arguments, Has-nexts, Has-push, Has-variables, argued, at-push, entered, push-size}
+use Rattle.id_parts.specs.Trees.{by_call, by_block, by_loop, by_array, by_fetch, next_statement, store_statement}
+use Rattle.id_parts.specs.Trees.{no_arguments, more_arguments, no_statements, more_statements}
+use Rattle.id_parts.proofs.HasLemmas.{Has, Has-add, Has-arguments, Has-nexts, Has-push, Has-variables, addressed, argued, at-push, entered, push-size}
 use Rattle.id_parts.proofs.HasLemmas.{closed, headed, in_loop, in_side, left_by, nexted, opened, reset, stated, switched, tested, used}
 
 module _ (F : List Row) where
@@ -51,6 +52,19 @@ module _ (F : List Row) where
       (free-push (size T) S.rows _ k refl (free-push (size T) T.rows _ (Has-push F S.rows _ k) refl (free-none (size T))))
       (NoParams-variables ss (in_loop T) H v))
 
+  -- the rows of a store
+  free-store : (s : Stand) (T : Parts) (t i e : Tree) (p : ℕ) → Has F (add s T (store t i e p)).rows → NoParams (size T) (size (add s T t))
+      → NoParams (size (add s T t)) (size (add s (add s T t) i)) → NoParams (size (addressed s T t i p)) (size (add s (addressed s T t i p) e))
+      → NoParams (size T) (size (add s T (store t i e p)))
+  free-store s T t i e p h target index value =
+      let U = add s T t in
+      let V = add s U i in
+      let A = addressed s T t i p in
+      let W = add s A e in
+      let f = Has-add F e s A (Has-push F W.rows _ h) in
+      free-push (size T) W.rows _ h refl
+      (free-both (size T) (size A) (size W) (free-push (size T) V.rows _ f refl (free-both (size T) (size U) (size V) target index)) value)
+
   mutual
     pub NoParams-expression : {t : Tree} (s : Stand) (T : Parts) → IsTree Expression t → Has F (add s T t).rows → NoParams (size T) (size (add s T t))
     NoParams-expression s T by_literal h = free-push (size T) T.rows _ h refl (free-none (size T))
@@ -59,6 +73,18 @@ module _ (F : List Row) where
         let U = add s T a in
         free-push (size T) U.rows _ h refl (NoParams-expression s T d (Has-push F U.rows _ h))
     NoParams-expression s T (by_binary {a = a} {b = b} d e) h =
+        let U = add s T a in
+        let V = add s U b in
+        let g = Has-push F V.rows _ h in
+        free-push (size T) V.rows _ h refl
+        (free-both (size T) (size U) (size V) (NoParams-expression s T d (Has-add F b s U g)) (NoParams-expression s U e g))
+    NoParams-expression s T (by_array {a = a} {b = b} d e) h =
+        let U = add s T a in
+        let V = add s U b in
+        let g = Has-push F V.rows _ h in
+        free-push (size T) V.rows _ h refl
+        (free-both (size T) (size U) (size V) (NoParams-expression s T d (Has-add F b s U g)) (NoParams-expression s U e g))
+    NoParams-expression s T (by_fetch {t = a} {i = b} d e) h =
         let U = add s T a in
         let V = add s U b in
         let g = Has-push F V.rows _ h in
@@ -142,6 +168,19 @@ module _ (F : List Row) where
         free-both (size T) (size V) (size (add s V ss))
         (free-push (size T) U.rows _ g refl (NoParams-expression s T d (Has-push F U.rows _ g)))
         (NoParams-statements s V e h)
+    NoParams-statements s T (store_statement {t} {i} {e} {ss} {p} d f k l) h =
+        let U = add s T t in
+        let V = add s U i in
+        let A = addressed s T t i p in
+        let W = add s A e in
+        let X = add s T (store t i e p) in
+        let g = Has-add F ss s X h in
+        let m = Has-push F W.rows _ g in
+        let n = Has-add F e s A m in
+        let o = Has-push F V.rows _ n in
+        free-both (size T) (size X) (size (add s X ss))
+        (free-store s T t i e p g (NoParams-expression s T d (Has-add F i s U o)) (NoParams-expression s U f o) (NoParams-expression s A k m))
+        (NoParams-statements s X l h)
 
     NoParams-nexts : {t : Tree} (s : Stand) (i : ℕ) (T : Parts) → IsTree Statements t → Has F (add_nexts s i T t).rows
         → NoParams (size T) (size (add_nexts s i T t))
@@ -153,6 +192,19 @@ module _ (F : List Row) where
         free-both (size T) (size V) (size (add_nexts s i V ss))
         (free-push (size T) U.rows _ g refl (NoParams-expression s T d (Has-push F U.rows _ g)))
         (NoParams-nexts s i V e h)
+    NoParams-nexts s j T (store_statement {t} {i} {e} {ss} {p} d f k l) h =
+        let U = add s T t in
+        let V = add s U i in
+        let A = addressed s T t i p in
+        let W = add s A e in
+        let X = add s T (store t i e p) in
+        let g = Has-nexts F ss s j X h in
+        let m = Has-push F W.rows _ g in
+        let n = Has-add F e s A m in
+        let o = Has-push F V.rows _ n in
+        free-both (size T) (size X) (size (add_nexts s j X ss))
+        (free-store s T t i e p g (NoParams-expression s T d (Has-add F i s U o)) (NoParams-expression s U f o) (NoParams-expression s A k m))
+        (NoParams-nexts s j X l h)
     NoParams-nexts s i T (next_statement {x} {a} {ss} {p} d e) h =
         let N = used s T x p in
         let U = add s N a in

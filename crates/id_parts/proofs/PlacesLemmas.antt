@@ -1,7 +1,8 @@
 -- The places of the things of a table are those of its tree, and they differ.
 use Rattle.std.proofs.Common.{◌≡◌, ◌⊎◌, inl, inr, ◌<◌, ◌≤◌, ℕ, suc, true, false, List, [], ◌∷◌, ◌++◌, length, refl, sym, ap, ◌∙◌, subst, arith}
 use Rattle.std.proofs.lemmas.Bool.{cases_lt, false≢true}
-use Rattle.id_tree.specs.Tree.{Tree, literal, unary, binary, name, conditional, call, block, loop, binding, next, param, define, none, more}
+use Rattle.id_tree.specs.Tree.{Tree, literal, unary, binary, name, conditional, call, block, loop, array, fetch, binding, next, store, param}
+use Rattle.id_tree.specs.Tree.{define, none, more}
 use Rattle.id_tree.specs.Distinct.{Apart, Distinct, HasPlace}
 use Rattle.id_parts.specs.declared.row.Row.{Row}
 use Rattle.id_parts.specs.declared.row.Stand.{Stand}
@@ -10,7 +11,7 @@ use Rattle.id_parts.specs.Names.{first_names, number_of}
 use Rattle.id_parts.specs.Rows.{Parts, add, add_arguments, add_nexts, add_variables, arm, at, begin_loop, in_top, last, rows_of, size, with_row}
 use Rattle.id_parts.specs.Tables.{AreApart, is_thing}
 use Rattle.id_parts.proofs.HasLemmas.{Has, Has-add, Has-arguments, Has-itself, Has-nexts}
-use Rattle.id_parts.proofs.HasLemmas.{Has-push, Has-variables, argued, at-push, entered, push-size, row_for}
+use Rattle.id_parts.proofs.HasLemmas.{Has-push, Has-variables, addressed, argued, at-push, entered, push-size, row_for}
 use Rattle.id_parts.proofs.HasLemmas.{closed, headed, in_loop, in_side, left_by, nexted, opened, reset, stated, switched, tested, used}
 
 pub add-longer : (t : Tree) (s : Stand) (T : Parts) → size T ≤ size (add s T t)
@@ -141,6 +142,30 @@ module _ (F : List Row) where
         let g = Has-push F V.rows _ h in
         placed-push (size T) (λ q. HasPlace a q ⊎ HasPlace b q) V.rows _ h
         (placed-both (size T) (size U) (size V) (HasPlace a) (HasPlace b) (placed a s T (Has-add F b s U g)) (placed b s U g))
+    placed (array a b p) s T h =
+        let U = add s T a in
+        let V = add s U b in
+        let g = Has-push F V.rows _ h in
+        placed-push (size T) (λ q. HasPlace a q ⊎ HasPlace b q) V.rows _ h
+        (placed-both (size T) (size U) (size V) (HasPlace a) (HasPlace b) (placed a s T (Has-add F b s U g)) (placed b s U g))
+    placed (fetch a b p) s T h =
+        let U = add s T a in
+        let V = add s U b in
+        let g = Has-push F V.rows _ h in
+        placed-push (size T) (λ q. HasPlace a q ⊎ HasPlace b q) V.rows _ h
+        (placed-both (size T) (size U) (size V) (HasPlace a) (HasPlace b) (placed a s T (Has-add F b s U g)) (placed b s U g))
+    placed (store t i a p) s T h =
+        let U = add s T t in
+        let V = add s U i in
+        let A = addressed s T t i p in
+        let W = add s A a in
+        let g = Has-push F W.rows _ h in
+        let f = Has-add F a s A g in
+        let e = Has-push F V.rows _ f in
+        placed-push (size T) (λ q. HasPlace t q ⊎ (HasPlace i q ⊎ HasPlace a q)) W.rows _ h
+        (placed-both (size T) (size U) (size W) (HasPlace t) (λ q. HasPlace i q ⊎ HasPlace a q) (placed t s T (Has-add F i s U e))
+        (placed-both (size U) (size A) (size W) (HasPlace i) (HasPlace a) (placed-mark (size U) (HasPlace i) V.rows _ f refl (placed i s U e))
+        (placed a s A g)))
     placed (loop t a l p) s T h =
         let E = begin_loop s T a p in
         let U = tested s T t a p in
@@ -327,6 +352,36 @@ module _ (F : List Row) where
         let V = add s U b in
         let k = Has-push F V.rows _ h in
         differ-two a b s T _ h d.0 d.1 d.2 (differ a s T (Has-add F b s U k) d.3) (differ b s U k d.4)
+    differ (array a b p) s T h d =
+        let U = add s T a in
+        let V = add s U b in
+        let k = Has-push F V.rows _ h in
+        differ-two a b s T _ h d.0 d.1 d.2 (differ a s T (Has-add F b s U k) d.3) (differ b s U k d.4)
+    differ (fetch a b p) s T h d =
+        let U = add s T a in
+        let V = add s U b in
+        let k = Has-push F V.rows _ h in
+        differ-two a b s T _ h d.0 d.1 d.2 (differ a s T (Has-add F b s U k) d.3) (differ b s U k d.4)
+    differ (store t i a p) s T h d =
+        let U = add s T t in
+        let V = add s U i in
+        let A = addressed s T t i p in
+        let W = add s A a in
+        let g = Has-push F W.rows _ h in
+        let f = Has-add F a s A g in
+        let e = Has-push F V.rows _ f in
+        let k = Has-add F i s U e in
+        let target = placed t s T k in
+        let index = placed-mark (size U) (HasPlace i) V.rows _ f refl (placed i s U e) in
+        let value = placed a s A g in
+        let rest = placed-both (size U) (size A) (size W) (HasPlace i) (HasPlace a) index value in
+        differ-push (size T) (λ q. HasPlace t q ⊎ (HasPlace i q ⊎ HasPlace a q)) W.rows _ h
+        (placed-both (size T) (size U) (size W) (HasPlace t) (λ q. HasPlace i q ⊎ HasPlace a q) target rest)
+        (λ z. elim z [ inl y ↦ d.0 y | inr z' ↦ elim z' [ inl y ↦ d.1 y | inr y ↦ d.2 y ] ])
+        (differ-both (size T) (size U) (size W) (HasPlace t) (λ q. HasPlace i q ⊎ HasPlace a q) target rest
+        (λ q y z. elim z [ inl j ↦ d.3 q y j | inr j ↦ d.4 q y j ]) (differ t s T k d.6)
+        (differ-both (size U) (size A) (size W) (HasPlace i) (HasPlace a) index value d.5
+        (differ-mark (size U) V.rows _ f refl (differ i s U e d.7)) (differ a s A g d.8)))
     differ (loop t a l p) s T h d =
         let E = begin_loop s T a p in
         let U = tested s T t a p in

@@ -11,7 +11,7 @@ use Rattle.id_parts.specs.Rows.{at, in_top}
 use Rattle.id_parts.specs.Rows.{top}
 use Rattle.id_parts.specs.Tables.{begins_block, is_in_loop}
 use Rattle.id_parts.specs.Loops.{IsLoopOf}
-use Rattle.id_parts.specs.Tables.{is_binding, is_block, is_def, is_expression, is_head, is_param}
+use Rattle.id_parts.specs.Tables.{can_be_on, is_block, is_def, is_expression, is_head, is_param, is_statement}
 use Rattle.id_parts.specs.Regions.{Lies}
 use Rattle.id_parts.specs.Turns.{AreParamsOf, InDefinition, IsDefOf, IsStatement, Root, TurnedIn}
 use Rattle.id_parts.proofs.BlockLemmas.{statement_of}
@@ -36,8 +36,8 @@ pub record StandsIn (F : List Row) (i : ℕ) (r : Row) : Type 0 where
   pub def_of : InDefinition F i r.block
   pub params : is_def r.node ≡ true → AreParamsOf F r.first i
   pub alone : is_def r.node ≡ true → (j : ℕ) → r.first ≤ j → j < i → is_def (at F j).node ≡ false
-  pub turned : is_expression r.node ≡ true → TurnedIn F r.region i
-  pub in_a_block : is_binding r.node ≡ true → (s : ℕ) × (s < length F) × IsStatement F s i
+  pub turned : can_be_on r.node ≡ true → TurnedIn F r.region i
+  pub in_a_block : is_statement r.node ≡ true → (s : ℕ) × (s < length F) × IsStatement F s i
 
 -- the rows from the head h up to the definition at the row n
 pub record IsProcedure (F : List Row) (h n : ℕ) : Type 0 where
@@ -45,20 +45,20 @@ pub record IsProcedure (F : List Row) (h n : ℕ) : Type 0 where
   pub def : IsDefOf F n h
   pub low : h < n
   pub rows : RowsAre F (in_top h) (suc h) n
-  pub turned : (i : ℕ) → suc h ≤ i → i < n → is_expression (at F i).node ≡ true → TurnedIn F (at F i).region i
-  pub held : (i : ℕ) → suc h ≤ i → i < n → is_binding (at F i).node ≡ true → (s : ℕ) × (s < length F) × IsStatement F s i
+  pub turned : (i : ℕ) → suc h ≤ i → i < n → can_be_on (at F i).node ≡ true → TurnedIn F (at F i).region i
+  pub held : (i : ℕ) → suc h ≤ i → i < n → is_statement (at F i).node ≡ true → (s : ℕ) × (s < length F) × IsStatement F s i
 
 inner_no_def : (n : Node) → is_inner n ≡ true → is_def n ≡ false
 inner_no_def (Def x h k b) e = absurd (false≢true e)
 inner_no_def _ e = refl
 
-param_no_expression : (n : Node) → is_param n ≡ true → is_expression n ≡ true → ⊥
-param_no_expression (Param x k) e f = false≢true f
-param_no_expression _ e f = false≢true e
+param_not_on : (n : Node) → is_param n ≡ true → can_be_on n ≡ true → ⊥
+param_not_on (Param x k) e f = false≢true f
+param_not_on _ e f = false≢true e
 
-param_no_binding : (n : Node) → is_param n ≡ true → is_binding n ≡ true → ⊥
-param_no_binding (Param x k) e f = false≢true f
-param_no_binding _ e f = false≢true e
+param_no_statement : (n : Node) → is_param n ≡ true → is_statement n ≡ true → ⊥
+param_no_statement (Param x k) e f = false≢true f
+param_no_statement _ e f = false≢true e
 
 abbrev def_head : ℕ → Node → ℕ
 def_head d (Def x h k b) = h
@@ -217,11 +217,11 @@ module _ (F : List Row) where
         low = omega arith;
         rows = RowsAre-both F (in_top h) (suc h) mid (length R) enough params e.rows;
         turned = λ j u v w. elim (cases_lt j mid) [
-          | inl d ↦ absurd (param_no_expression (at F j).node (ps.param j (omega arith) d) w)
+          | inl d ↦ absurd (param_not_on (at F j).node (ps.param j (omega arith) d) w)
           | inr d ↦ e.turned (subst (TurnedIn F (top h)) (sym same) (TurnedIn.root (Root.of_procedure within node))) j d v w
         ];
         held = λ j u v w. elim (cases_lt j mid) [
-          | inl d ↦ absurd (param_no_binding (at F j).node (ps.param j (omega arith) d) w)
+          | inl d ↦ absurd (param_no_statement (at F j).node (ps.param j (omega arith) d) w)
           | inr d ↦ statement_of F j (length R) (omega (arith, within)) w (e.held j d v w)
         ];
       } in

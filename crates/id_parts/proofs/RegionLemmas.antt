@@ -4,13 +4,14 @@ use Rattle.std.proofs.lemmas.Bool.{cases_lt, false≢true}
 use Rattle.id_parts.specs.declared.row.Region.{Region}
 use Rattle.id_parts.specs.declared.row.Row.{Row}
 use Rattle.id_parts.specs.declared.row.Node.{Node}
-use Rattle.id_parts.specs.declared.row.Node.TheVariants.{Split, If, LoopHead, Switches}
+use Rattle.id_parts.specs.declared.row.Node.TheVariants.{Split, If, LoopHead, Store, Switches}
 use Rattle.id_parts.specs.Rows.{arm_at, at, top}
 use Rattle.id_parts.specs.Tables.{HasNear, HasOperand, HasPart, begins_block, is_if, is_loop, is_split, is_switches, is_top}
 use Rattle.id_parts.specs.Loops.{InSide, IsLoopOf, StandsInSide}
 use Rattle.id_parts.specs.Regions.{InArm, IsIfOf, Lies, here, in_arm, in_loop, in_side}
 use Rattle.id_parts.specs.Turns.{IsTable, Root, TurnedIn, Turns, argument, body, left, of_otherwise, of_procedure, of_then}
-use Rattle.id_parts.specs.Turns.{operand, part, right, root, statement, test, of_last, of_next, of_statement, of_test}
+use Rattle.id_parts.specs.Turns.{operand, part, right, root, statement, test, of_last, of_next, of_statement, of_store, of_test}
+use Rattle.id_parts.specs.Turns.{address_index, address_target, fetch_index, fetched, high, low, stored, stored_value}
 use Rattle.id_parts.proofs.BlockLemmas.{around-within}
 use Rattle.id_parts.proofs.BlocksLemmas.{not_last}
 use Rattle.id_parts.proofs.RowLemmas.{Lies-both, near_part, operand_part}
@@ -238,7 +239,14 @@ module _ (R : List Row) (t : IsTable R) where
     ]
   ]
 
-  -- an expression that another turns on stands where that does
+  -- what stands where the address of a store does stands where the store does
+  address_stands : (n b a : ℕ) {v : ℕ} → n < length R → HasPart (Store b v) b → (at R n).node ≡ Store b v → HasNear (at R b).node a
+      → (at R a).region ≡ (at R n).region
+  address_stands n b a l h e f =
+      let p = (t.formed.each n l).parts b (subst (λ m. HasPart m b) (sym e) h) in
+      (t.part_stands b a (omega (arith, p.1, l)) f).1 ∙ (t.part_stands n b l (subst (λ m. HasNear m b) (sym e) h)).1
+
+  -- what another expression or store turns on stands where that does
   pub Turns-stands : (n a : ℕ) → n < length R → Turns R n a → (at R a).region ≡ (at R n).region
   Turns-stands n a l (operand e) = (t.part_stands n a l (subst (λ m. HasNear m a) (sym e) refl)).1
   Turns-stands n a l (left e) = (t.part_stands n a l (subst (λ m. HasNear m a) (sym e) (inl refl))).1
@@ -255,6 +263,14 @@ module _ (R : List Row) (t : IsTable R) where
   Turns-stands n a l (statement {m} is s e) =
       let w = around-within R n m s.inside in
       (t.part_stands m a (omega (arith, w.1, l)) (subst (λ m. HasNear m a) (sym e) refl)).1 ∙ (t.statement_stands n m l s).1
+  Turns-stands n a l (low e) = (t.part_stands n a l (subst (λ m. HasNear m a) (sym e) (inl refl))).1
+  Turns-stands n a l (high e) = (t.part_stands n a l (subst (λ m. HasNear m a) (sym e) (inr refl))).1
+  Turns-stands n a l (fetched e) = (t.part_stands n a l (subst (λ m. HasNear m a) (sym e) (inl refl))).1
+  Turns-stands n a l (fetch_index e) = (t.part_stands n a l (subst (λ m. HasNear m a) (sym e) (inr refl))).1
+  Turns-stands n a l (address_target {a = b} e f) = address_stands n b a l (inl refl) e (subst (λ m. HasNear m a) (sym f) (inl refl))
+  Turns-stands n a l (address_index {a = b} e f) = address_stands n b a l (inl refl) e (subst (λ m. HasNear m a) (sym f) (inr refl))
+  Turns-stands n a l (stored_value e) = (t.part_stands n a l (subst (λ m. HasNear m a) (sym e) (inr refl))).1
+  Turns-stands n a l (stored is s e) = (t.statement_stands n a l s).1
 
   -- a root of a region stands right in it
   pub Root-stands : (r : Region) (e : ℕ) → Root R r e → (at R e).region ≡ r
@@ -271,6 +287,7 @@ module _ (R : List Row) (t : IsTable R) where
   Root-stands r e (of_statement {n} {m} l is s d) =
       let w = around-within R n m s.inside in
       (t.part_stands m e (omega (arith, w.1, l)) (subst (λ m. HasNear m e) (sym d) refl)).1 ∙ (t.statement_stands n m l s).1
+  Root-stands r e (of_store {n} l is s d) = (t.statement_stands n e l s).1
   Root-stands r e (of_next {m} l d) = (t.part_stands m e l (subst (λ m. HasNear m e) (sym d) (inr refl))).1
   Root-stands r e (of_last {n} {h} {w} l d) = (t.loop_is n h (record { switches = w; last = e; within = l; node = d })).last_is.region
 

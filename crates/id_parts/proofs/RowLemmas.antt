@@ -6,10 +6,13 @@ use Rattle.id_parts.specs.declared.row.Stand.{Stand}
 use Rattle.id_parts.specs.declared.row.Node.{Node}
 use Rattle.id_parts.specs.declared.row.Node.TheVariants.{Head, Literal, Name, Unary, Binary, Split, If, Enter, Arg, Call, Block, Def, Program}
 use Rattle.id_parts.specs.declared.row.Node.TheVariants.{Start, LoopHead, Variable, Switches, NextUse, Next, Body, Loop}
+use Rattle.id_parts.specs.declared.row.Node.TheVariants.{Array, Fetch, Address, Store}
 use Rattle.id_parts.proofs.BlockLemmas.{and_both}
 use Rattle.id_parts.specs.Rows.{at, top, value_of}
-use Rattle.id_parts.specs.Tables.{HasNear, HasOperand, HasPart, begins_block, has_statements, is_binding, is_block, is_expression, is_in_loop, is_top}
+use Rattle.id_parts.specs.Tables.{HasNear, HasOperand, HasPart, begins_block, has_statements, is_block, is_expression, is_in_loop}
+use Rattle.id_parts.specs.Tables.{is_statement, is_top}
 use Rattle.id_parts.specs.Calls.{AreArgs, IsArgIn, IsCallOf, IsEnterOf}
+use Rattle.id_parts.specs.Stores.{IsAddressOf, IsStoreOf}
 use Rattle.id_parts.specs.Loops.{IsLoop, IsLoopOf, IsNextIn, IsNextOf, StandsInSide}
 use Rattle.id_parts.specs.Regions.{AreArms, IsIfOf, IsSplitOf, Lies, StandsInArm, here, in_arm, in_loop, in_side}
 use Rattle.id_parts.specs.Turns.{in_block}
@@ -26,8 +29,8 @@ is_inner _ = true
 abbrev pub is_plain : Node → Bool
 is_plain n = is_inner n && not (is_in_loop n)
 
--- whether besides a row of this node is of no conditional, no call and no loop, or a row between the others of one, and
--- gives its own value
+-- whether besides a row of this node is of no conditional, no call, no loop and no store, or a row between the others of
+-- one, and gives its own value
 abbrev pub is_simple : Node → Bool
 is_simple (Split t) = false
 is_simple (If s x y) = false
@@ -43,6 +46,8 @@ is_simple (NextUse x) = false
 is_simple (Next x k o v) = false
 is_simple Body = false
 is_simple (Loop h w l) = false
+is_simple (Address t i) = false
+is_simple (Store a v) = false
 is_simple n = is_inner n
 
 -- the value v of the row i is given right in this stand
@@ -92,7 +97,7 @@ pub record IsVariableOf (F : List Row) (i : ℕ) : Type 0 where
   pub next : IsNextOf F row (at F i).block index name
   pub own : (at F i).block + 1 + index ≡ i
 
--- a row of the number i with this node, if it is one of a conditional, a call or a loop, belongs to the others of it
+-- a row of the number i with this node, if it is one of a conditional, a call, a loop or a store, belongs to the others of it
 abbrev pub Belongs : List Row → ℕ → Node → Type 0
 Belongs F i (Split t) = (n : ℕ) × IsIfOf F n i
 Belongs F i (If u x y) = IsSplitOf F u i × AreArms F u x y i
@@ -106,6 +111,8 @@ Belongs F i (Switches t) = AreSwitchesOf F i
 Belongs F i (NextUse x) = IsUseOf F i x
 Belongs F i (Next x k o v) = IsNextOfLoop F i k x o
 Belongs F i (Loop h w l) = IsLoop F i h w l
+Belongs F i (Address t j) = (n : ℕ) × IsStoreOf F n i
+Belongs F i (Store a v) = IsAddressOf F a i v
 Belongs F i _ = Unit {0}
 
 -- a row of the number i with this node, value and first row, in this stand, fits the rows before it
@@ -116,7 +123,7 @@ pub record Fits (F : List Row) (s : Stand) (lo i v : ℕ) (n : Node) : Type 0 wh
   pub value_block : (b : ℕ) → n ≡ Block b → v ≡ (at F b).value
   pub value_self : is_block n ≡ false → v ≡ i
   pub value : is_expression n ≡ true → GivesValue F s i v
-  pub statements : has_statements n ≡ true → (b : ℕ) → lo ≤ b → b < i → is_binding (at F b).node ≡ true → in_block F b i ≡ false → StandsHere F s b
+  pub statements : has_statements n ≡ true → (b : ℕ) → lo ≤ b → b < i → is_statement (at F b).node ≡ true → in_block F b i ≡ false → StandsHere F s b
   pub at_top : is_top n ≡ true → s.region ≡ top s.block
   pub heads : begins_block n ≡ true → s.block ≡ i
   pub belongs : Belongs F i n
@@ -194,6 +201,7 @@ operand_part (Arg e i v) a h = inr h
 operand_part (Call e c) a h = absurd h
 operand_part (Next x k o v) a h = inr h
 operand_part (Loop u w l) a h = inr (inr h)
+operand_part (Store b v) a h = inr h
 operand_part (Def x h k b) a e = inr e
 operand_part _ a h = h
 
@@ -216,6 +224,8 @@ expression_plain (Binary o a b) e = refl
 expression_plain (If s x y) e = refl
 expression_plain (Call s c) e = refl
 expression_plain (Loop h w l) e = refl
+expression_plain (Array a b) e = refl
+expression_plain (Fetch t i) e = refl
 expression_plain (Block b) e = refl
 expression_plain _ e = absurd (false≢true e)
 
@@ -247,6 +257,8 @@ belongs_none F i (NextUse x) e = absurd (false≢true e)
 belongs_none F i (Next x k o v) e = absurd (false≢true e)
 belongs_none F i Body e = absurd (false≢true e)
 belongs_none F i (Loop h w l) e = absurd (false≢true e)
+belongs_none F i (Address t j) e = absurd (false≢true e)
+belongs_none F i (Store a v) e = absurd (false≢true e)
 belongs_none F i _ e = tt
 
 module _ (F : List Row) where
@@ -356,7 +368,7 @@ module _ (F : List Row) where
 
   -- a block fits behind its body, whose value it has
   pub Fits-block : (s : Stand) (lo i b v : ℕ) → v ≡ (at F b).value → PartIs F s lo i b → RowIs F s lo b (at F b)
-      → ((c : ℕ) → lo ≤ c → c < i → is_binding (at F c).node ≡ true → in_block F c i ≡ false → StandsHere F s c)
+      → ((c : ℕ) → lo ≤ c → c < i → is_statement (at F c).node ≡ true → in_block F c i ≡ false → StandsHere F s c)
       → Fits F s lo i v (Block b)
   Fits-block s lo i b v same part body statements = record {
     formed = λ a h. subst (λ k. (lo ≤ k) × (k < i)) (sym h) (part.low, part.before);

@@ -3,38 +3,43 @@ use Rattle.std.proofs.Common.{◌≡◌, inl, inr, ◌+◌, ◌-◌, ◌<◌, �
 use Rattle.std.proofs.Common.{arith}
 use Rattle.std.proofs.lemmas.Bool.{cases_lt, false≢true}
 use Rattle.id_value.specs.declared.Kind.{Kind}
-use Rattle.id_tree.specs.Tree.{Tree, binding, next, param, define}
+use Rattle.id_tree.specs.Tree.{Tree, binding, next, store, param, define}
 use Rattle.id_parts.specs.declared.row.Row.{Row}
 use Rattle.id_parts.specs.declared.row.Stand.{Stand}
 use Rattle.id_parts.specs.declared.row.Region.{Region}
 use Rattle.id_parts.specs.declared.row.Node.{Node}
 use Rattle.id_parts.specs.declared.row.Node.TheVariants.{Head, Literal, Name, Split, If, Enter, Arg}
 use Rattle.id_parts.specs.declared.row.Node.TheVariants.{Call, Def, Program, Start, LoopHead, Variable, Entries, Switches, Turn, NextUse, Next, Body, Reset}
-use Rattle.id_parts.specs.declared.row.Node.TheVariants.{Loop}
+use Rattle.id_parts.specs.declared.row.Node.TheVariants.{Loop, Address, Store}
 use Rattle.id_parts.specs.Names.{number_of, first_names}
 use Rattle.id_parts.specs.Rows.{Parts, add, add_arguments, add_nexts, add_variables, arm, arm_at, begin_loop, count_of, at, in_top}
 use Rattle.id_parts.specs.Rows.{last, rows_of, size, top, with_row}
 use Rattle.id_parts.specs.Tables.{Formed, HasNear, HasOperand, HasPart, IsFormed, IsNested}
-use Rattle.id_parts.specs.Tables.{begins_block, has_statements, is_in_loop, is_loop, is_next, is_switches, is_variable}
+use Rattle.id_parts.specs.Tables.{begins_block, can_be_on, has_statements, is_address, is_in_loop, is_loop, is_next, is_statement, is_store}
 use Rattle.id_parts.specs.Loops.{InSide, IsLoop, IsLoopOf, IsNextIn, IsNextOf, StandsAt}
-use Rattle.id_parts.specs.Tables.{is_arg, is_binding, is_block, is_call, is_def, is_enter, is_expression, is_head, is_if, is_split, is_top}
+use Rattle.id_parts.specs.Tables.{is_arg, is_block, is_call, is_def, is_enter, is_expression, is_head, is_if, is_split, is_switches, is_top}
+use Rattle.id_parts.specs.Tables.{is_variable}
+use Rattle.id_parts.specs.Stores.{IsAddressOf, IsStoreOf}
 use Rattle.id_parts.specs.Calls.{AreArgs, IsArgIn, IsArgOf, IsCallOf, IsEnterOf}
 use Rattle.id_parts.specs.Regions.{AreArms, InArm, IsIfOf, IsSplitOf, Lies, here, in_arm, in_loop, in_side}
 use Rattle.id_parts.specs.Trees.{IsTree, IsProgramTree, Sort, Expression, Arguments, Statements}
 use Rattle.id_parts.specs.Trees.{Params, Defs, by_literal, by_unary, by_binary, by_name, by_conditional}
-use Rattle.id_parts.specs.Trees.{by_call, by_loop, next_statement, no_arguments, more_arguments, by_block}
+use Rattle.id_parts.specs.Trees.{by_call, by_loop, by_array, by_fetch, next_statement, store_statement, no_arguments, more_arguments, by_block}
 use Rattle.id_parts.specs.Trees.{no_statements, more_statements, no_params, more_params, no_defs, more_defs}
 use Rattle.id_parts.specs.Turns.{AreParamsOf, IsDefOf, IsTable}
 use Rattle.id_parts.proofs.BlockLemmas.{around-within}
-use Rattle.id_parts.proofs.HasLemmas.{Has, Has-add, Has-arguments, Has-itself, Has-push, argued, at-push, entered, push-size, push-within, row_for, row_in}
+use Rattle.id_parts.proofs.HasLemmas.{Has, Has-add, Has-arguments, Has-itself, Has-push, addressed, argued, at-push, entered, push-size, push-within}
+use Rattle.id_parts.proofs.HasLemmas.{row_for, row_in}
 use Rattle.id_parts.proofs.HasLemmas.{Has-nexts, Has-variables, closed, headed, left_by, nexted, opened, reset, stated, switched, tested, used}
 use Rattle.id_parts.proofs.RowLemmas.{Belongs, RowsAre-none}
-use Rattle.id_parts.proofs.ExpressionLemmas.{AreExpression, AreStatements, AreParams, are-binary, are-binding, are-block, are-leaf, are-param, are-unary}
+use Rattle.id_parts.proofs.ExpressionLemmas.{AreExpression, AreStatement, AreStatements, AreParams, are-array, are-binary, are-binding, are-block}
+use Rattle.id_parts.proofs.ExpressionLemmas.{are-fetch, are-leaf, are-param, are-unary, statement-before}
 use Rattle.id_parts.proofs.CallLemmas.{Called, are-call, called-argument, called-enter}
 use Rattle.id_parts.proofs.ConditionalLemmas.{are-conditional}
 use Rattle.id_parts.proofs.LoopLemmas.{are-loop}
-use Rattle.id_parts.proofs.NextLemmas.{AreNexts, IsRound, Variables, nexts-both, nexts-none, nexts_in, one-binding, one-next, size-variables}
+use Rattle.id_parts.proofs.NextLemmas.{AreNexts, IsRound, Variables, nexts-both, nexts-none, nexts_in, one-next, one-statement, size-variables}
 use Rattle.id_parts.proofs.NextLemmas.{variables-added, variables-each}
+use Rattle.id_parts.proofs.StoreLemmas.{are-store}
 use Rattle.id_parts.proofs.ParamsLemmas.{NoParams-expression}
 use Rattle.id_parts.proofs.ProcedureLemmas.{StandsIn, are-define}
 
@@ -64,6 +69,30 @@ module _ (F : List Row) where
   nexts-within : (t : Tree) (s : Stand) (i : ℕ) (T : Parts) → size T ≤ size (add_nexts s i T t)
   nexts-within t s i T = (Has-nexts (add_nexts s i T t).rows t s i T (Has-itself (add_nexts s i T t).rows)).within
 
+  -- the rows of a store, behind those of its parts
+  stored : (s : Stand) (T : Parts) (t i e : Tree) (p : ℕ) → Has F (add s T (store t i e p)).rows → AreExpression F s (size T) (size (add s T t))
+      → AreExpression F s (size (add s T t)) (size (add s (add s T t) i))
+      → AreExpression F s (size (addressed s T t i p)) (size (add s (addressed s T t i p) e))
+      → AreStatement F s (size T) (size (add s (addressed s T t i p) e))
+  stored s T t i e p h target index value =
+      let U = add s T t in
+      let V = add s U i in
+      let A = addressed s T t i p in
+      let W = add s A e in
+      let f = Has-add F e s A (Has-push F W.rows _ h) in
+      let one : suc (last U) ≡ size U = last_of s (size T) (size U) target in
+      let next : size A ≡ suc (size V) = push-size V.rows _ in
+      are-store F s p (size T) (last U) (last V) (size V) (last W) (size W) (record {
+        within = push-within F W.rows _ h;
+        target = subst (AreExpression F s (size T)) (sym one) target;
+        index = subst (λ k. AreExpression F s k (size V)) (sym one) index;
+        index_ends = last_of s (size U) (size V) index;
+        address = at-push F V.rows _ f;
+        value = subst (λ k. AreExpression F s k (size W)) next value;
+        value_ends = last_of s (size A) (size W) value;
+        row = at-push F W.rows _ h;
+      })
+
   mutual
     pub Are-add : {k : Sort} {t : Tree} (s : Stand) (T : Parts) → IsTree k t → Has F (add s T t).rows → Are k s (size T) (size (add s T t))
     Are-add s T (by_literal {v} {p}) h = grown s (size T) T.rows _ (are-leaf F s p (size T) (Literal v) (at-push F T.rows _ h) refl refl (λ a q. q))
@@ -82,6 +111,24 @@ module _ (F : List Row) where
         let f = Are-add s U u after in
         grown s (size T) V.rows _
         (are-binary F s p (size T) (size U) (last U) (last V) (size V) o (at-push F V.rows _ h) (push-within F V.rows _ h) (last_of s (size T) (size U) e)
+        (last_of s (size U) (size V) f) e f)
+    Are-add s T (by_array {a} {b} {p} t u) h =
+        let U = add s T a in
+        let V = add s U b in
+        let after = Has-push F V.rows _ h in
+        let e = Are-add s T t (Has-add F b s U after) in
+        let f = Are-add s U u after in
+        grown s (size T) V.rows _
+        (are-array F s p (size T) (size U) (last U) (last V) (size V) (at-push F V.rows _ h) (push-within F V.rows _ h) (last_of s (size T) (size U) e)
+        (last_of s (size U) (size V) f) e f)
+    Are-add s T (by_fetch {t = a} {i = b} {p} t u) h =
+        let U = add s T a in
+        let V = add s U b in
+        let after = Has-push F V.rows _ h in
+        let e = Are-add s T t (Has-add F b s U after) in
+        let f = Are-add s U u after in
+        grown s (size T) V.rows _
+        (are-fetch F s p (size T) (size U) (last U) (last V) (size V) (at-push F V.rows _ h) (push-within F V.rows _ h) (last_of s (size T) (size U) e)
         (last_of s (size U) (size V) f) e f)
     Are-add s T (by_conditional {t} {x} {y} {p} d e f) h =
         let U = add s T t in
@@ -140,15 +187,29 @@ module _ (F : List Row) where
         let V = add s T (binding x a p) in
         let after = Has-add F ss s V h in
         let e = Are-add s T t (Has-push F U.rows _ after) in
-        are-binding F s p (size T) (size (add s V ss)) (number_of U.names x) (last U) (size U) (at-push F U.rows _ after) (last_of s (size T) (size U) e) e
+        statement-before F s (size T) (size U) (size (add s V ss))
+        (are-binding F s p (size T) (number_of U.names x) (last U) (size U) (at-push F U.rows _ after) (last_of s (size T) (size U) e) e)
         (subst (λ n. AreStatements F s n (size (add s V ss))) (push-size U.rows _) (Are-add s V u h))
     Are-add s T (next_statement {x} {a} {ss} {p} t u) h =
         let U = add s T a in
         let V = add s T (next x a p) in
         let after = Has-add F ss s V h in
         let e = Are-add s T t (Has-push F U.rows _ after) in
-        are-binding F s p (size T) (size (add s V ss)) (number_of U.names x) (last U) (size U) (at-push F U.rows _ after) (last_of s (size T) (size U) e) e
+        statement-before F s (size T) (size U) (size (add s V ss))
+        (are-binding F s p (size T) (number_of U.names x) (last U) (size U) (at-push F U.rows _ after) (last_of s (size T) (size U) e) e)
         (subst (λ n. AreStatements F s n (size (add s V ss))) (push-size U.rows _) (Are-add s V u h))
+    Are-add s T (store_statement {t} {i} {e} {ss} {p} d f g u) h =
+        let U = add s T t in
+        let V = add s U i in
+        let A = addressed s T t i p in
+        let W = add s A e in
+        let X = add s T (store t i e p) in
+        let after = Has-add F ss s X h in
+        let has = Has-push F W.rows _ after in
+        let has_index = Has-push F V.rows _ (Has-add F e s A has) in
+        let own = stored s T t i e p after (Are-add s T d (Has-add F i s U has_index)) (Are-add s U f has_index) (Are-add s A g has) in
+        statement-before F s (size T) (size W) (size (add s X ss)) own
+        (subst (λ n. AreStatements F s n (size (add s X ss))) (push-size W.rows _) (Are-add s X u h))
     Are-add s T (by_loop {t} {ss} {l} {p} d e f) h =
         let lo = size T in
         let head = suc lo in
@@ -277,10 +338,26 @@ module _ (F : List Row) where
         let has = Has-nexts F ss s i V h in
         let value = Are-add s T d (Has-push F U.rows _ has) in
         let long : size V ≡ suc (size U) = push-size U.rows _ in
-        let one = one-binding F s p (size T) (number_of U.names x) (last U) i (size U) (at-push F U.rows _ has) (last_of s (size T) (size U) value)
-        (omega (arith, r.low)) value in
+        let one = one-statement F s (size T) i (size U) (omega (arith, r.low))
+        (are-binding F s p (size T) (number_of U.names x) (last U) (size U) (at-push F U.rows _ has) (last_of s (size T) (size U) value) value) in
         let rest = Are-nexts u g w l n i V e r h v (omega (arith, value.low, value.ends)) within in
         nexts-both F s i i c (size T) (size V) (size (add_nexts s i V ss)) (subst (AreNexts F s i i (size T)) (sym long) one) rest
+    Are-nexts u g w l n j T (store_statement {t} {i} {e} {ss} {p} d f k q) r h v after within =
+        let s = arm (in_top g) w true in
+        let U = add s T t in
+        let V = add s U i in
+        let A = addressed s T t i p in
+        let W = add s A e in
+        let X = add s T (store t i e p) in
+        let c = j + nexts_in ss in
+        let has = Has-nexts F ss s j X h in
+        let has_value = Has-push F W.rows _ has in
+        let has_index = Has-push F V.rows _ (Has-add F e s A has_value) in
+        let own = stored s T t i e p has (Are-add s T d (Has-add F i s U has_index)) (Are-add s U f has_index) (Are-add s A k has_value) in
+        let long : size X ≡ suc (size W) = push-size W.rows _ in
+        let one = one-statement F s (size T) j (size W) (omega (arith, r.low)) own in
+        let rest = Are-nexts u g w l n j X q r h v (omega (arith, own.low)) within in
+        nexts-both F s j j c (size T) (size X) (size (add_nexts s j X ss)) (subst (AreNexts F s j j (size T)) (sym long) one) rest
     Are-nexts u g w l n i T (next_statement {x} {a} {ss} {p} d e) r h v after within =
         let s = arm (in_top g) w true in
         let N = used s T x p in
@@ -322,6 +399,15 @@ variable_node _ e = absurd (false≢true e)
 InSide-low : (w b n i : ℕ) (side : Bool) → w + 1 < b → InSide w b n side i → w < i
 InSide-low w b n i true l h = h.0
 InSide-low w b n i false l h = omega (arith, h.0)
+
+-- an expression can be On, and so can a store
+expression_on : (n : Node) → is_expression n ≡ true → can_be_on n ≡ true
+expression_on (Store a v) e = absurd (false≢true e)
+expression_on _ e = e
+
+store_on : (n : Node) → is_store n ≡ true → can_be_on n ≡ true
+store_on (Store a v) e = refl
+store_on _ e = absurd (false≢true e)
 
 -- a node of which something is true that is false of heads is no head
 no_head : (f : Node → Bool) → f Head ≡ false → ((t : ℕ) → f (LoopHead t) ≡ false) → (n : Node) → f n ≡ true → begins_block n ≡ false
@@ -545,6 +631,29 @@ module _ (F : List Row) (n : ℕ) (h : Ends F n) where
       let same = call_once w.row v.row u w.call v.call in
       (in_call v.row u v.call).1.once m l k v.stands.after v.stands.before w.stands.after (omega (arith, w.stands.before, same)) a b
 
+  address_in : (i a : ℕ) (c : IsStoreOf F i a) → IsAddressOf F a i c.value
+  address_in i a c = belongs i (Store a c.value) c.within c.node (λ p. false≢true (sym (ap is_store p)))
+
+  store_once : (m k a : ℕ) → IsStoreOf F m a → IsStoreOf F k a → m ≡ k
+  store_once m k a d e = elim (cases_lt m k) [
+    | inl l ↦ absurd (later m k d e l)
+    | inr l ↦ elim (cases_lt k m) [ inl f ↦ absurd (later k m e d f) | inr f ↦ omega arith ]
+  ]
+    where
+      -- of two stores of one `Address` none is behind the other: it would stand in the other's value, which begins behind the `Address`
+      later : (m k : ℕ) (d : IsStoreOf F m a) → IsStoreOf F k a → m < k → ⊥
+      later m k d e l =
+          let x = address_in m a d in
+          let y = address_in k a e in
+          let less = (Formed-ends.each a (omega (arith, x.before, x.value_behind, d.within))).first in
+          elim (cases_lt m e.value) [
+            | inl f ↦
+                let z = Nested-ends.each m e.value f (omega (arith, y.value_behind, e.within)) (omega (arith, y.value_first, x.before, x.value_behind)) in
+                omega (arith, z, y.value_first, x.first, less)
+            | inr f ↦ let z : e.value ≡ m = omega (arith, f, l, y.value_behind) in
+                omega (arith, ap (λ j. (at F j).first) z, y.value_first, x.first, less)
+          ]
+
   IsTable-ends : IsTable F
   IsTable-ends = record {
     formed = Formed-ends;
@@ -561,7 +670,7 @@ module _ (F : List Row) (n : ℕ) (h : Ends F n) where
     statement_stands = λ s b l e.
         let w = around-within F s b e.inside in
         let q = in_procedure s l (not_end has_statements refl s e.block) in
-        q.fits.statements e.block b w.0 w.1 e.binding e.right;
+        q.fits.statements e.block b w.0 w.1 e.statement e.right;
     operand_is = λ i a l e. (in_procedure i l (λ p. subst (λ m. HasOperand m a) p e)).fits.operand_is a e;
     head_place = λ i g d. (in_procedure i d.within (not_end is_def refl i (ap is_def d.node))).head_place d.name g d.body d.result d.node;
     head_is = λ i x g b k l e. head_at i x g b k l e;
@@ -587,6 +696,9 @@ module _ (F : List Row) (n : ℕ) (h : Ends F n) where
     arg_of = λ i u k a. arg_belongs i u k a;
     args_of = λ i u c. (in_call i u c).1;
     one_arg = λ m l u k a b. arg_once m l u k a b;
+    has_store = λ a t i l e. belongs a (Address t i) l e (λ p. false≢true (sym (ap is_address p)));
+    one_store = λ m k a d e. store_once m k a d e;
+    address_of = λ i a c. address_in i a c;
     in_loop = λ i t b e. (def_here i b).in_loop t e;
     has_loop = λ u t l e. loop_at u t l e;
     switches_of = λ u t l e. let c = belongs u (Switches t) l e (λ p. false≢true (sym (ap is_switches p))) in (c.loop, c.of, c.own);
@@ -609,8 +721,9 @@ module _ (F : List Row) (n : ℕ) (h : Ends F n) where
     value_stands = λ i l e.
         let v = (in_procedure i l (not_end is_expression refl i e)).fits.value e in
         (v.within, v.expression, v.no_block, v.region, v.block);
-    turned = λ i l e. (in_procedure i l (not_end is_expression refl i e)).turned e;
-    in_a_block = λ i l e. (in_procedure i l (not_end is_binding refl i e)).in_a_block e;
+    turned = λ i l e. (in_procedure i l (not_end is_expression refl i e)).turned (expression_on (at F i).node e);
+    store_turned = λ i l e. (in_procedure i l (not_end is_store refl i e)).turned (store_on (at F i).node e);
+    in_a_block = λ i l e. (in_procedure i l (not_end is_statement refl i e)).in_a_block e;
   }
 
 -- the rows of a program's tree are a table

@@ -5,6 +5,7 @@ pub mod Tables
 pub mod Regions
 pub mod Calls
 pub mod Loops
+pub mod Stores
 pub mod Trees
 pub mod Turns
 -- For the proof of `table_of` alone.

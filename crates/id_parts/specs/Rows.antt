@@ -7,9 +7,9 @@ use Rattle.id_parts.specs.declared.row.Node.{Node}
 use Rattle.id_parts.specs.declared.row.Node.TheVariants.{Head, Param, Literal, Name, Unary, Binary}
 use Rattle.id_parts.specs.declared.row.Node.TheVariants.{Split, If, Enter, Arg, Call, Block, Binding, Def, Program}
 use Rattle.id_parts.specs.declared.row.Node.TheVariants.{Start, LoopHead, Variable, Entries, Switches, Turn, NextUse}
-use Rattle.id_parts.specs.declared.row.Node.TheVariants.{Next, Body, Reset, Loop}
+use Rattle.id_parts.specs.declared.row.Node.TheVariants.{Next, Body, Reset, Loop, Array, Fetch, Address, Store}
 use Rattle.id_tree.specs.Tree.{Tree, literal, unary, binary, name, conditional, call, block, binding, param, define}
-use Rattle.id_tree.specs.Tree.{none, more, loop, next}
+use Rattle.id_tree.specs.Tree.{none, more, loop, next, array, fetch, store}
 use Rattle.id_parts.specs.Names.{number_of, with_name, first_names}
 
 -- rows, and the names in them by their numbers
@@ -118,6 +118,19 @@ abbrev mutual
       let D = with_row (add_nexts b 0 B ss) b p (size B) Body in
       let L = add o D l in
       with_row (with_row L o p (size D) (Reset (last L))) s p (size T) (Loop h w (last L))
+  add s T (array a b p) =
+      let U = add s T a in
+      let V = add s U b in
+      with_row V s p (size T) (Array (last U) (last V))
+  add s T (fetch t i p) =
+      let U = add s T t in
+      let V = add s U i in
+      with_row V s p (size T) (Fetch (last U) (last V))
+  add s T (store t i e p) =
+      let U = add s T t in
+      let V = add s U i in
+      let W = add s (with_row V s p (size T) (Address (last U) (last V))) e in
+      with_row W s p (size T) (Store (size V) (last W))
   add s T (next x a p) =
       let U = add s T a in
       with_row (naming U x) s p (size T) (Binding (number_of U.names x) (last U))

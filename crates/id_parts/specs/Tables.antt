@@ -6,7 +6,7 @@ use Rattle.id_parts.specs.declared.row.Node.{Node}
 use Rattle.id_parts.specs.declared.row.Node.TheVariants.{Head, Param, Literal, Name, Unary, Binary}
 use Rattle.id_parts.specs.declared.row.Node.TheVariants.{Split, If, Enter, Arg, Call, Block, Binding, Def, Program}
 use Rattle.id_parts.specs.declared.row.Node.TheVariants.{Start, LoopHead, Variable, Entries, Switches, Turn, NextUse}
-use Rattle.id_parts.specs.declared.row.Node.TheVariants.{Next, Body, Reset, Loop}
+use Rattle.id_parts.specs.declared.row.Node.TheVariants.{Next, Body, Reset, Loop, Array, Fetch, Address, Store}
 use Rattle.id_parts.specs.Rows.{at}
 
 -- the node names the row a as its part
@@ -21,13 +21,17 @@ HasPart (Switches t) a = a ≡ t
 HasPart (Next x k o v) a = (a ≡ o) ⊎ (a ≡ v)
 HasPart (Reset v) a = a ≡ v
 HasPart (Loop h w l) a = (a ≡ h) ⊎ ((a ≡ w) ⊎ (a ≡ l))
+HasPart (Array b c) a = (a ≡ b) ⊎ (a ≡ c)
+HasPart (Fetch t i) a = (a ≡ t) ⊎ (a ≡ i)
+HasPart (Address t i) a = (a ≡ t) ⊎ (a ≡ i)
+HasPart (Store b v) a = (a ≡ b) ⊎ (a ≡ v)
 HasPart (Block b) a = a ≡ b
 HasPart (Binding x b) a = a ≡ b
 HasPart (Def x h k b) a = (a ≡ h) ⊎ (a ≡ b)
 HasPart _ a = ⊥
 
 -- such a part that is an expression: any but the head of a definition, the split of a conditional, the `Enter` of a
--- call, the use of a `next`, and the head and the switches of a loop
+-- call, the use of a `next`, the head and the switches of a loop, and the `Address` of a store
 abbrev pub HasOperand : Node → ℕ → Type 0
 HasOperand (Def x h k b) a = a ≡ b
 HasOperand (If s x y) a = (a ≡ x) ⊎ (a ≡ y)
@@ -35,6 +39,7 @@ HasOperand (Arg e i v) a = a ≡ v
 HasOperand (Call e c) a = ⊥
 HasOperand (Next x k o v) a = a ≡ v
 HasOperand (Loop h w l) a = a ≡ l
+HasOperand (Store b v) a = a ≡ v
 HasOperand n a = HasPart n a
 
 -- such a part that stands where the node does: any but the arms of a conditional and the parts of a loop
@@ -72,6 +77,7 @@ is_thing Turn = false
 is_thing (NextUse x) = false
 is_thing Body = false
 is_thing (Reset v) = false
+is_thing (Address t i) = false
 is_thing _ = true
 
 -- no two things have one place
@@ -103,8 +109,15 @@ is_expression (Binary o a b) = true
 is_expression (If s x y) = true
 is_expression (Call e c) = true
 is_expression (Loop h w l) = true
+is_expression (Array a b) = true
+is_expression (Fetch t i) = true
 is_expression (Block b) = true
 is_expression _ = false
+
+-- whether what stands at a row of this node can be On: an expression or a store
+abbrev pub can_be_on : Node → Bool
+can_be_on (Store a v) = true
+can_be_on n = is_expression n
 
 -- whether a value gets its name at a row of this node: a loop's variable gets its own at its `next` statement
 abbrev pub is_binder : Node → Bool
@@ -116,6 +129,21 @@ is_binder _ = false
 abbrev pub is_binding : Node → Bool
 is_binding (Binding x a) = true
 is_binding _ = false
+
+abbrev pub is_store : Node → Bool
+is_store (Store a v) = true
+is_store _ = false
+
+-- whether a statement ends at a row of this node that is no `next`
+abbrev pub is_statement : Node → Bool
+is_statement (Binding x a) = true
+is_statement (Store a v) = true
+is_statement _ = false
+
+-- whether the address of a store stands at a row of this node
+abbrev pub is_address : Node → Bool
+is_address (Address t i) = true
+is_address _ = false
 
 abbrev pub is_param : Node → Bool
 is_param (Param x k) = true

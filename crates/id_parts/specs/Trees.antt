@@ -5,7 +5,7 @@ use Rattle.id_value.specs.declared.Constant.{Constant}
 use Rattle.id_value.specs.declared.UnaryOp.{UnaryOp}
 use Rattle.id_value.specs.declared.BinaryOp.{BinaryOp}
 use Rattle.id_tree.specs.Tree.{Tree, literal, unary, binary, name, conditional, call, block, binding, param, define}
-use Rattle.id_tree.specs.Tree.{none, more, loop, next}
+use Rattle.id_tree.specs.Tree.{none, more, loop, next, array, fetch, store}
 
 -- what a tree can be the tree of
 pub data Sort : Type 0 where
@@ -27,6 +27,8 @@ pub data IsTree : Sort → Tree → Type 0 where
   by_call : {x : List ℕ} {a : Tree} {p : ℕ} → IsTree Arguments a → IsTree Expression (call x a p)
   by_loop : {t ss l : Tree} {p : ℕ} → IsTree Expression t → IsTree Statements ss → IsTree Expression l
       → IsTree Expression (loop t ss l p)
+  by_array : {a b : Tree} {p : ℕ} → IsTree Expression a → IsTree Expression b → IsTree Expression (array a b p)
+  by_fetch : {t i : Tree} {p : ℕ} → IsTree Expression t → IsTree Expression i → IsTree Expression (fetch t i p)
   by_block : {ss b : Tree} {p : ℕ} → IsTree Statements ss → IsTree Expression b → IsTree Expression (block ss b p)
   no_arguments : IsTree Arguments none
   more_arguments : {a b : Tree} → IsTree Expression a → IsTree Arguments b → IsTree Arguments (more a b)
@@ -35,6 +37,9 @@ pub data IsTree : Sort → Tree → Type 0 where
       → IsTree Statements (more (binding x a p) ss)
   next_statement : {x : List ℕ} {a ss : Tree} {p : ℕ} → IsTree Expression a → IsTree Statements ss
       → IsTree Statements (more (next x a p) ss)
+  store_statement : {t i e ss : Tree} {p : ℕ} → IsTree Expression t → IsTree Expression i → IsTree Expression e
+      → IsTree Statements ss
+      → IsTree Statements (more (store t i e p) ss)
   no_params : IsTree Params none
   more_params : {x : List ℕ} {k : Kind} {ps : Tree} {p : ℕ} → IsTree Params ps → IsTree Params (more (param x k p) ps)
   no_defs : IsTree Defs none

@@ -9,13 +9,14 @@ use Rattle.id_parts.specs.declared.row.Node.TheVariants.{Head, Unary, Binary, Sp
 use Rattle.id_parts.specs.declared.row.Node.TheVariants.{Enter, Arg, Call, Block, Binding}
 use Rattle.id_parts.specs.declared.row.Node.TheVariants.{Def, Program, Start, LoopHead, Entries, Switches, Turn}
 use Rattle.id_parts.specs.declared.row.Node.TheVariants.{NextUse, Next, Body, Reset, Loop}
+use Rattle.id_parts.specs.declared.row.Node.TheVariants.{Array, Fetch, Address, Store}
 use Rattle.id_parts.specs.Rows.{arm_at, at, top}
 use Rattle.id_parts.specs.Tables.{HasOperand, HasNear, IsFormed, IsNested, around}
-use Rattle.id_parts.specs.Tables.{begins_block, has_statements, is_binding, is_block, is_expression, is_head}
-use Rattle.id_parts.specs.Tables.{is_in_loop}
-use Rattle.id_parts.specs.Tables.{is_param, is_top, is_variable}
+use Rattle.id_parts.specs.Tables.{begins_block, has_statements, is_block, is_expression, is_head, is_in_loop}
+use Rattle.id_parts.specs.Tables.{is_param, is_statement, is_store, is_top, is_variable}
 use Rattle.id_parts.specs.Calls.{AreArgs, IsArgIn, IsArgOf, IsCallOf, IsEnterOf}
 use Rattle.id_parts.specs.Loops.{IsLoop, IsLoopOf, IsNextIn, IsNextOf, StandsInSide}
+use Rattle.id_parts.specs.Stores.{IsAddressOf, IsStoreOf}
 use Rattle.id_parts.specs.Regions.{AreArms, IsIfOf, IsSplitOf, StandsInArm, StandsInside, StandsWith}
 
 -- whether one of the rows before s is a block or the body of a loop round the row i
@@ -23,24 +24,32 @@ abbrev pub in_block : List Row → ℕ → ℕ → Bool
 in_block R i zero = false
 in_block R i (suc s) = in_block R i s || (has_statements (at R s).node && around R s i)
 
--- the row b is a binding right in the block, or the body of a loop, at the row s: no smaller one is round it
+-- the row b is a binding or a store right in the block, or the body of a loop, at the row s: no smaller one is round it
 pub record IsStatement (R : List Row) (s b : ℕ) : Type 0 where
   pub block : has_statements (at R s).node ≡ true
-  pub binding : is_binding (at R b).node ≡ true
+  pub statement : is_statement (at R b).node ≡ true
   pub inside : around R s b ≡ true
   pub right : in_block R b s ≡ false
 
--- an expression of this node that is On turns the expression at the row a on with it
+-- the expression or store at the row n that is On turns the one at the row a on with it
 pub data Turns (R : List Row) (n : ℕ) : ℕ → Type 0 where
   operand : {a : ℕ} {o : _} → (at R n).node ≡ Unary o a → Turns R n a
   left : {a b : ℕ} {o : _} → (at R n).node ≡ Binary o a b → Turns R n a
   right : {a b : ℕ} {o : _} → (at R n).node ≡ Binary o a b → Turns R n b
   test : {s x y t : ℕ} → (at R n).node ≡ If s x y → (at R s).node ≡ Split t → Turns R n t
   argument : {e c m k v : ℕ} → (at R n).node ≡ Call e c → m < length R → (at R m).node ≡ Arg e k v → Turns R n v
+  low : {a b : ℕ} → (at R n).node ≡ Array a b → Turns R n a
+  high : {a b : ℕ} → (at R n).node ≡ Array a b → Turns R n b
+  fetched : {t i : ℕ} → (at R n).node ≡ Fetch t i → Turns R n t
+  fetch_index : {t i : ℕ} → (at R n).node ≡ Fetch t i → Turns R n i
+  address_target : {a v t i : ℕ} → (at R n).node ≡ Store a v → (at R a).node ≡ Address t i → Turns R n t
+  address_index : {a v t i : ℕ} → (at R n).node ≡ Store a v → (at R a).node ≡ Address t i → Turns R n i
+  stored_value : {a v : ℕ} → (at R n).node ≡ Store a v → Turns R n v
   body : {b : ℕ} → (at R n).node ≡ Block b → Turns R n b
   statement : {m b x a : ℕ} → (at R n).node ≡ Block b → IsStatement R n m → (at R m).node ≡ Binding x a → Turns R n a
+  stored : {m b a v : ℕ} → (at R n).node ≡ Block b → IsStatement R n m → (at R m).node ≡ Store a v → Turns R n m
 
--- the expression at the row is a root of the region: it is turned on with the region itself
+-- the expression or store at the row is a root of the region: it is turned on with the region itself
 pub data Root (R : List Row) : Region → ℕ → Type 0 where
   of_procedure : {n x h b : ℕ} {k : Kind} → n < length R → (at R n).node ≡ Def x h k b → Root R (top h) b
   of_then : {n s x y : ℕ} → n < length R → (at R n).node ≡ If s x y → Root R (arm_at s true) x
@@ -48,10 +57,12 @@ pub data Root (R : List Row) : Region → ℕ → Type 0 where
   of_test : {w t : ℕ} → w < length R → (at R w).node ≡ Switches t → Root R (at R w).region t
   of_statement : {n m x a : ℕ} → n < length R → (at R n).node ≡ Body → IsStatement R n m → (at R m).node ≡ Binding x a
       → Root R (at R n).region a
+  of_store : {n m a v : ℕ} → n < length R → (at R n).node ≡ Body → IsStatement R n m → (at R m).node ≡ Store a v
+      → Root R (at R n).region m
   of_next : {m x k o a : ℕ} → m < length R → (at R m).node ≡ Next x k o a → Root R (at R m).region a
   of_last : {n h w l : ℕ} → n < length R → (at R n).node ≡ Loop h w l → Root R (arm_at w false) l
 
--- the expression at the row is turned on wherever the region is live
+-- the expression or store at the row is turned on wherever the region is live
 pub data TurnedIn (R : List Row) (r : Region) : ℕ → Type 0 where
   root : {e : ℕ} → Root R r e → TurnedIn R r e
   part : {n e : ℕ} → TurnedIn R r n → n < length R → Turns R n e → TurnedIn R r e
@@ -122,7 +133,7 @@ pub record IsTable (R : List Row) : Type 0 where
   pub at_top : (i : ℕ) → i < length R → is_top (at R i).node ≡ true → (at R i).region ≡ top (at R i).block
   pub head_block : (h : ℕ) → h < length R → begins_block (at R h).node ≡ true → (at R h).block ≡ h
   -- a row's parts stand where it does, save the arms of a conditional and the parts of a loop, and so do the bindings
-  -- of a block or of a loop's body
+  -- and stores of a block or of a loop's body
   pub part_stands : (n a : ℕ) → n < length R → HasNear (at R n).node a → StandsWith R n a
   pub statement_stands : (s b : ℕ) → s < length R → IsStatement R s b → StandsWith R s b
   -- what stands in a row that is not the last stands where it does, or further in
@@ -152,6 +163,10 @@ pub record IsTable (R : List Row) : Type 0 where
   pub arg_of : (m e k : ℕ) (a : IsArgOf R m e k) → IsArgIn R m e k a.value
   pub args_of : (n e : ℕ) (c : IsCallOf R n e) → AreArgs R e n c.count
   pub one_arg : (m l e k : ℕ) → IsArgOf R m e k → IsArgOf R l e k → m ≡ l
+  -- each `Address` has one store, whose rows stand as they ought to
+  pub has_store : (a t i : ℕ) → a < length R → (at R a).node ≡ Address t i → (n : ℕ) × IsStoreOf R n a
+  pub one_store : (n m a : ℕ) → IsStoreOf R n a → IsStoreOf R m a → n ≡ m
+  pub address_of : (n a : ℕ) (c : IsStoreOf R n a) → IsAddressOf R a n c.value
   -- a row of a loop's block stands before the loop
   pub in_loop : (i s : ℕ) → i + 1 < length R → (at R (at R i).block).node ≡ LoopHead s
       → (n : ℕ) × IsLoopOf R n (at R i).block × (i < n)
@@ -190,7 +205,8 @@ pub record IsTable (R : List Row) : Type 0 where
       → ((at R n).value ≤ n) × (is_expression (at R (at R n).value).node ≡ true)
       × (is_block (at R (at R n).value).node ≡ false)
       × ((at R (at R n).value).region ≡ (at R n).region) × ((at R (at R n).value).block ≡ (at R n).block)
-  -- each expression is turned on with its region, and each binding stands right in a block
+  -- each expression and each store is turned on with its region, and each statement stands right in a block or a body
   pub turned : (n : ℕ) → n < length R → is_expression (at R n).node ≡ true → TurnedIn R (at R n).region n
-  pub in_a_block : (b : ℕ) → b < length R → is_binding (at R b).node ≡ true
+  pub store_turned : (n : ℕ) → n < length R → is_store (at R n).node ≡ true → TurnedIn R (at R n).region n
+  pub in_a_block : (b : ℕ) → b < length R → is_statement (at R b).node ≡ true
       → (s : ℕ) × (s < length R) × IsStatement R s b

@@ -7,7 +7,7 @@
 //!
 //! Rows stand in the order in which the text finishes its parts; a **marker** row stands wherever a region or a
 //! scope begins that has no row of its own, or where instructions are made between parts. A row's own parts are
-//! the rows from `first` up to it. The rows of each form, those of later forms settled beforehand:
+//! the rows from `first` up to it. The rows of each form:
 //!
 //! | Form | Its rows, in order |
 //! |---|---|

@@ -2,7 +2,7 @@
 
 ghost use Rattle.std.specs.Prelude.{ℕ, ◌≡◌, ◌+◌, ◌++◌, ◌∷◌, [], length, map, IfOk, OnOk};
 ghost use Rattle.id_tree.specs.Tree.{unary, binary, name as name_tree, conditional};
-ghost use Rattle.id_tree.specs.Tree.{call, block, binding, loop as loop_tree};
+ghost use Rattle.id_tree.specs.Tree.{call, block, binding, loop as loop_tree, array, fetch, store};
 ghost use Rattle.id_tree.specs.Tree.{tree_of, params_tree, def_tree, defs_tree, program_tree};
 ghost use Rattle.id_parts.specs.Names.{number_of, with_name};
 ghost use Rattle.id_parts.specs.Rows.{arm, in_top, value_of, with_row, add, add_arguments, add_nexts};
@@ -231,6 +231,12 @@ impl<'a> Maker<'a> {
                 last,
                 place,
             } => self.add_loop(stand, statements, test, last, *place),
+            Expr::Array { low, high, place } => self.add_array(stand, low, high, *place),
+            Expr::Fetch {
+                target,
+                index,
+                place,
+            } => self.add_fetch(stand, target, index, *place),
         }
     }
 
@@ -282,6 +288,42 @@ impl<'a> Maker<'a> {
         let left = self.add_expr(stand, left)?;
         let right = self.add_expr(stand, right)?;
         self.push(stand, place, first, Node::Binary { op, left, right })
+    }
+
+    #[cycle(add)]
+    fn add_array(
+        &mut self,
+        stand: Stand,
+        low: &'a Expr,
+        high: &'a Expr,
+        place: usize,
+    ) -> Result<usize, AllocError>
+        ensures added { OnOk result (parts self.new
+            ≡ add stand (parts self.old) (array (tree_of low.now) (tree_of high.now) place)) }
+        ensures number { IfOk result (λ i. i + 1 ≡ length self.new.rows.items) }
+    {
+        let first = self.rows.len();
+        let low = self.add_expr(stand, low)?;
+        let high = self.add_expr(stand, high)?;
+        self.push(stand, place, first, Node::Array { low, high })
+    }
+
+    #[cycle(add)]
+    fn add_fetch(
+        &mut self,
+        stand: Stand,
+        target: &'a Expr,
+        index: &'a Expr,
+        place: usize,
+    ) -> Result<usize, AllocError>
+        ensures added { OnOk result (parts self.new
+            ≡ add stand (parts self.old) (fetch (tree_of target.now) (tree_of index.now) place)) }
+        ensures number { IfOk result (λ i. i + 1 ≡ length self.new.rows.items) }
+    {
+        let first = self.rows.len();
+        let target = self.add_expr(stand, target)?;
+        let index = self.add_expr(stand, index)?;
+        self.push(stand, place, first, Node::Fetch { target, index })
     }
 
     #[cycle(add)]
@@ -409,6 +451,12 @@ impl<'a> Maker<'a> {
                     stand, name, value, *place,
                 )?,
                 Stmt::Next { name, value, place } => self.add_binding(stand, name, value, *place)?,
+                Stmt::Store {
+                    target,
+                    index,
+                    value,
+                    place,
+                } => self.add_store(stand, target, index, value, *place)?,
             }
         }
         Ok(())
@@ -484,6 +532,7 @@ impl<'a> Maker<'a> {
         for statement in statements {
             match statement {
                 Stmt::Binding { .. } => {}
+                Stmt::Store { .. } => {}
                 Stmt::Next { place, .. } => self.add_variable(stand, *place)?,
             }
         }
@@ -514,6 +563,12 @@ impl<'a> Maker<'a> {
                     self.add_next(stand, index, name, value, *place)?;
                     index += 1;
                 }
+                Stmt::Store {
+                    target,
+                    index,
+                    value,
+                    place,
+                } => self.add_store(stand, target, index, value, *place)?,
             }
         }
         Ok(())
@@ -565,6 +620,27 @@ impl<'a> Maker<'a> {
         let value = self.add_expr(stand, value)?;
         let name = self.number(name)?;
         self.push(stand, place, first, Node::Binding { name, value })?;
+        Ok(())
+    }
+
+    #[cycle(add)]
+    fn add_store(
+        &mut self,
+        stand: Stand,
+        target: &'a Expr,
+        index: &'a Expr,
+        expr: &'a Expr,
+        place: usize,
+    ) -> Result<(), AllocError>
+        ensures { OnOk result (parts self.new ≡ add stand (parts self.old)
+            (store (tree_of target.now) (tree_of index.now) (tree_of expr.now) place)) }
+    {
+        let first = self.rows.len();
+        let target = self.add_expr(stand, target)?;
+        let index = self.add_expr(stand, index)?;
+        let address = self.push(stand, place, first, Node::Address { target, index })?;
+        let value = self.add_expr(stand, expr)?;
+        self.push(stand, place, first, Node::Store { address, value })?;
         Ok(())
     }
 }

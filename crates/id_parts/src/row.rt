@@ -129,6 +129,25 @@ pub enum Node {
         switches: usize,
         last: usize,
     },
+    /// What makes a structure: the rows of its bounds.
+    Array {
+        low: usize,
+        high: usize,
+    },
+    Fetch {
+        target: usize,
+        index: usize,
+    },
+    /// The address of the cell that a store fills, at the place of the store, behind the index and before the value.
+    Address {
+        target: usize,
+        index: usize,
+    },
+    /// A store behind its value: the row of its `Address`, and what gives the value.
+    Store {
+        address: usize,
+        value: usize,
+    },
     /// Statements in whatever order, and the body that gives the value.
     Block {
         body: usize,

@@ -35,3 +35,14 @@ pub Prints-more_stop : {A : Type 0} (f : A → List ℕ) (xs : List A) (i : ℕ)
 Prints-more_stop f xs i x old mid new u e r at k l w =
     let here : Prints old new (flat_map f (take (i + 1) xs)) (Err e) = Prints-more f xs i x old mid new u (Err e) at k l in
     same_text old new _ _ _ (sym (texts-cut f xs (i + 1))) (Prints-stop old new _ (flat_map f (drop (i + 1) xs)) e r here w)
+
+-- the same where the text of the thing is told with a cursor that stands for the text
+pub Prints-more_at : {A : Type 0} (f : List ℕ → A → List ℕ) (k t : List ℕ) (xs : List A) (i : ℕ) (x : A) (old mid new : Option Told) (u : Unit {0}) (r : Result (Unit {0}) PrintError) → k ≡ t
+    → slice_get xs i ≡ Some x → Prints old mid (flat_map (f t) (take i xs)) (Ok u) → Prints mid new (f k x) r → Prints old new (flat_map (f t) (take (i + 1) xs)) r
+Prints-more_at f k t xs i x old mid new u r same at so_far one =
+    let P : List ℕ → Type 0 = λ z. Prints mid new (f z x) r in Prints-more (f t) xs i x old mid new u r at so_far (subst P same one)
+
+pub Prints-more_stop_at : {A : Type 0} (f : List ℕ → A → List ℕ) (k t : List ℕ) (xs : List A) (i : ℕ) (x : A) (old mid new : Option Told) (u : Unit {0}) (e : PrintError) (r : Result (Unit {0}) PrintError)
+    → k ≡ t → slice_get xs i ≡ Some x → Prints old mid (flat_map (f t) (take i xs)) (Ok u) → Prints mid new (f k x) (Err e) → IsErr r → Prints old new (flat_map (f t) xs) r
+Prints-more_stop_at f k t xs i x old mid new u e r same at so_far one fails =
+    let P : List ℕ → Type 0 = λ z. Prints mid new (f z x) (Err e) in Prints-more_stop (f t) xs i x old mid new u e r at so_far (subst P same one) fails

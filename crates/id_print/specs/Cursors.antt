@@ -12,8 +12,10 @@ pub record IsSpot (text : List ℕ) (s : Spot) : Type 0 where
   pub line_fits : s.line ≤ s.at + 1
   pub column_fits : s.column ≤ s.at + 1
 
--- the text is short enough, and both spots are places of it
-pub record IsCursor (text : List ℕ) (s t : Spot) : Type 0 where
+-- the text is short enough, and the spots are places of it
+pub record IsCursor (text : List ℕ) (s t u v : Spot) : Type 0 where
   pub fits : length text ≤ MAX_BYTES
   pub step : IsSpot text s
   pub place : IsSpot text t
+  pub other_step : IsSpot text u
+  pub other_place : IsSpot text v

@@ -9,7 +9,9 @@ use Rattle.id_tag.specs.declared.Tag.{Tag}
 use Rattle.id_tag.specs.declared.Value.{Value}
 use Rattle.id_tag.specs.declared.Value.TheVariants as value
 use Rattle.id_tag.specs.declared.Payload.{Payload}
-use Rattle.id_tag.specs.declared.Payload.TheVariants.{Token}
+use Rattle.id_tag.specs.declared.Payload.TheVariants.{Token, Read, Write}
+use Rattle.id_tag.specs.declared.Structure.{Structure}
+use Rattle.id_tag.specs.declared.Cell.{Cell}
 use Rattle.id_core.specs.Events.{EventView}
 use Rattle.id_record.specs.declared.step.Step.{Step}
 use Rattle.id_record.specs.declared.step.Step.TheVariants.{Went, Fault, Stuck}
@@ -34,11 +36,21 @@ continuation_text t = codes "k" ++ tag_text t
 abbrev pub opened_text : Context → List ℕ
 opened_text c = codes "c" ++ context_text c
 
--- a value that a token carries
+-- a structure: its element and its number
+abbrev pub structure_text : Structure → List ℕ
+structure_text s = codes "s" ++ (decimal s.element ++ (codes "." ++ decimal s.serial))
+
+-- a cell: its structure and its index
+abbrev pub cell_text : Cell → List ℕ
+cell_text c = structure_text c.structure ++ (codes "[" ++ (signed_decimal c.index ++ codes "]"))
+
+-- a value that a message carries
 abbrev pub carried_text : Value → List ℕ
 carried_text value.Signal = codes "signal"
 carried_text (value.Int n) = signed_decimal n
 carried_text (value.Bool b) = truth_text b
+carried_text (value.Structure s) = structure_text s
+carried_text (value.Address c) = cell_text c
 carried_text (value.Context c) = opened_text c
 carried_text (value.Continuation t) = continuation_text t
 
@@ -63,9 +75,23 @@ delivery_text t port v = goal_text t port ++ (codes " " ++ carried_text v)
 abbrev pub token_text : Tag → Port → Value → List ℕ
 token_text t port v = codes "token c" ++ delivery_text t port v
 
--- what a message says, which so far is always a token
+-- the tag of a fetch's reply or of a store
+abbrev pub from_text : Tag → List ℕ
+from_text t = codes " c" ++ (turn_text t ++ (codes " " ++ decimal t.instr))
+
+-- a read of a cell
+abbrev pub read_text : Cell → Tag → List ℕ
+read_text c t = codes "read " ++ (cell_text c ++ from_text t)
+
+-- a write of a value to a cell
+abbrev pub write_text : Cell → Value → Tag → List ℕ
+write_text c v t = codes "write " ++ (cell_text c ++ (codes " " ++ (carried_text v ++ from_text t)))
+
+-- what a message says
 abbrev pub payload_text : Payload → List ℕ
 payload_text (Token t port v) = token_text t port v
+payload_text (Read c t) = read_text c t
+payload_text (Write c v t) = write_text c v t
 
 -- a stamp and an element
 abbrev pub moment_text : ℕ → ℕ → List ℕ

@@ -16,7 +16,8 @@ pub(crate) struct Spot {
     column: u32,
 }
 
-/// A text, with the place of it that was last looked up, and the last place of a step of a path.
+/// A text, with the place of it that was last looked up, and the last place of a step of a path; and both of another
+/// series of places, which `turn` takes in their stead: that of the names that stand behind something else on a line.
 ///
 /// From a place to a later one only the bytes between them are read; places that rise take one pass
 /// over the text in all.
@@ -25,6 +26,8 @@ pub(crate) struct Cursor<'a> {
     text: &'a str,
     step: Spot,
     place: Spot,
+    other_step: Spot,
+    other_place: Spot,
 }
 
 impl<'a> Model for Cursor<'a> {
@@ -35,7 +38,7 @@ impl<'a> Model for Cursor<'a> {
 
     ghost view = { λ c. c.text.now };
 
-    ghost invariant = { λ c. IsCursor c.text.now c.step c.place };
+    ghost invariant = { λ c. IsCursor c.text.now c.step c.place c.other_step c.other_place };
 }
 
 impl<'a> Cursor<'a> {
@@ -48,6 +51,8 @@ impl<'a> Cursor<'a> {
             text,
             step: start(),
             place: start(),
+            other_step: start(),
+            other_place: start(),
         }
     }
 
@@ -71,6 +76,18 @@ impl<'a> Cursor<'a> {
     {
         self.step = spot_at(self.text.as_bytes(), self.step, at);
         (self.step.line, self.step.column)
+    }
+
+    /// Goes on with the other series of places.
+    pub(crate) fn turn(&mut self)
+        ensures { self.new ≡ self.old }
+    {
+        let step = self.step;
+        let place = self.place;
+        self.step = self.other_step;
+        self.place = self.other_place;
+        self.other_step = step;
+        self.other_place = place;
     }
 
     /// Whether a `{` stands at a place.

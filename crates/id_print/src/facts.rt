@@ -2,14 +2,18 @@
 
 ghost use Rattle.std.specs.Prelude.{◌≡◌, ◌≤◌, ◌↔◌, ◌++◌, length, codes, IsTrue};
 ghost use Rattle.id_print.specs.Told.{Prints};
-ghost use Rattle.id_print.specs.Texts.{point_text, point_value_text, fact_text, facts_text};
-ghost use Rattle.id_print.specs.Within.{PointWithin, FactWithin, FactsWithin};
+ghost use Rattle.id_print.specs.Texts.{point_text, point_value_text, site_text, put_text, fact_text, facts_text};
+ghost use Rattle.id_print.specs.Texts.{shape_text, ask_text};
+ghost use Rattle.id_print.specs.Within.{PointWithin, HasWithin, SiteWithin, PutWithin, AskWithin, FactWithin};
+ghost use Rattle.id_print.specs.Within.{FactsWithin};
 
 use crate::cursor::Cursor;
-use crate::report::is_point_within;
 use crate::sink::{PrintError, Sink, put};
-use crate::texts::{put_point, put_point_value};
-use id_meaning::{Fact, Path, SourceValue};
+use crate::texts::{put_ask, put_filled, put_point, put_point_value, put_shape, put_site_behind};
+use crate::within::{
+    is_ask_within, is_point_within, is_put_within, is_site_within, is_value_within,
+};
+use id_meaning::{Ask, Fact, Path, Put, Shape, SourceValue};
 use id_text::MAX_BYTES;
 
 /// Writes a line for each fact of the text, in order. Takes no memory.
@@ -48,15 +52,56 @@ fn put_has<W: Sink>(
     cursor: &mut Cursor<'_>,
     path: &Path,
     place: usize,
-    value: SourceValue,
+    value: &SourceValue,
 ) -> Result<(), PrintError>
-    requires { PointWithin (length cursor.old) path.now place }
+    requires { HasWithin (length cursor.old) path.now place value.now }
     ensures prints { Prints (W.told sink.old) (W.told sink.new)
-        (codes "has " ++ point_value_text cursor.old path.now place value) result }
+        (codes "has " ++ point_value_text cursor.old path.now place value.now) result }
     ensures same { cursor.new ≡ cursor.old }
 {
     put(sink, b"has ")?;
     put_point_value(sink, cursor, path, place, value)
+}
+
+fn put_shaped<W: Sink>(
+    sink: &mut W,
+    cursor: &mut Cursor<'_>,
+    shape: &Shape,
+) -> Result<(), PrintError>
+    requires { SiteWithin (length cursor.old) shape.now.name }
+    ensures prints { Prints (W.told sink.old) (W.told sink.new)
+        (codes "shape " ++ shape_text cursor.old shape.now) result }
+    ensures same { cursor.new ≡ cursor.old }
+{
+    put(sink, b"shape ")?;
+    put_shape(sink, cursor, shape)
+}
+
+fn put_stored<W: Sink>(
+    sink: &mut W,
+    cursor: &mut Cursor<'_>,
+    stored: &Put,
+) -> Result<(), PrintError>
+    requires { PutWithin (length cursor.old) stored.now }
+    ensures prints { Prints (W.told sink.old) (W.told sink.new)
+        (codes "put " ++ put_text cursor.old stored.now) result }
+    ensures same { cursor.new ≡ cursor.old }
+{
+    put(sink, b"put ")?;
+    put_filled(sink, cursor, stored)?;
+    put(sink, b" by ")?;
+    put_site_behind(sink, cursor, &stored.store)?;
+    put(sink, b"\n")
+}
+
+fn put_asked<W: Sink>(sink: &mut W, cursor: &mut Cursor<'_>, ask: &Ask) -> Result<(), PrintError>
+    requires { AskWithin (length cursor.old) ask.now }
+    ensures prints { Prints (W.told sink.old) (W.told sink.new)
+        (codes "ask " ++ ask_text cursor.old ask.now) result }
+    ensures same { cursor.new ≡ cursor.old }
+{
+    put(sink, b"ask ")?;
+    put_ask(sink, cursor, ask)
 }
 
 fn put_fact<W: Sink>(sink: &mut W, cursor: &mut Cursor<'_>, fact: &Fact) -> Result<(), PrintError>
@@ -66,7 +111,10 @@ fn put_fact<W: Sink>(sink: &mut W, cursor: &mut Cursor<'_>, fact: &Fact) -> Resu
 {
     match fact {
         Fact::On { path, place } => put_on(sink, cursor, path, *place),
-        Fact::Has { path, place, value } => put_has(sink, cursor, path, *place, *value),
+        Fact::Has { path, place, value } => put_has(sink, cursor, path, *place, value),
+        Fact::Shape(shape) => put_shaped(sink, cursor, shape),
+        Fact::Put(stored) => put_stored(sink, cursor, stored),
+        Fact::Ask(ask) => put_asked(sink, cursor, ask),
     }
 }
 
@@ -81,8 +129,16 @@ fn is_fact_within(fact: &Fact, size: usize) -> bool
     ensures { IsTrue result ↔ FactWithin size fact.now }
 {
     match fact {
-        Fact::On { path, place } | Fact::Has { path, place, .. } => {
-            is_point_within(path, *place, size)
-        }
+        Fact::On { path, place } => is_point_within(path, *place, size),
+        Fact::Has { path, place, value } => has_within(path, *place, value, size),
+        Fact::Shape(shape) => is_site_within(&shape.name, size),
+        Fact::Put(stored) => is_put_within(stored, size),
+        Fact::Ask(ask) => is_ask_within(ask, size),
     }
+}
+
+fn has_within(path: &Path, place: usize, value: &SourceValue, size: usize) -> bool
+    ensures { IsTrue result ↔ HasWithin size path.now place value.now }
+{
+    is_point_within(path, place, size) && is_value_within(value, size)
 }

@@ -1,4 +1,4 @@
-//! What the program prints: reports of runs, the lines of names, facts and faults, and traces.
+//! What the program prints: reports of runs, the lines of names, structures, facts and faults, and traces.
 //!
 //! Keeps: a failed write ends a text at once, so what went out is a front of it.
 //! Errors: `PrintError`, only where a write failed.
@@ -13,9 +13,10 @@ mod report;
 mod sink;
 mod texts;
 mod trace;
+mod within;
 
 pub use facts::{facts_within, write_facts};
-pub use report::{Ending, Report, is_within, run_report, write_fault, write_report};
+pub use report::{Ending, Held, Report, is_within, run_report, write_fault, write_report};
 pub use sink::{PrintError, Sink, SinkFault, put};
 pub use texts::{put_number, put_place};
 pub use trace::write_trace;

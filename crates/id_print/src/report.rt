@@ -1,24 +1,33 @@
 //! Reports of runs, and how they are printed.
 
-ghost use Rattle.std.specs.Prelude.{◌≡◌, ◌≤◌, ◌↔◌, [], length, IsTrue, IsFalse, IfOk};
-ghost use Rattle.id_core.specs.Observed.{answer, faults, names};
-ghost use Rattle.id_meaning.specs.Orders.{NamesRise};
+ghost use Rattle.std.specs.Prelude.{◌≡◌, ◌≤◌, ◌↔◌, ◌++◌, [], codes, length, map, IsTrue, IsFalse, IfOk};
+ghost use Rattle.id_core.specs.Observed.{answer, faults, names, waiting};
+ghost use Rattle.id_meaning.specs.Orders.{NamesRise, Rises};
+ghost use Rattle.id_print.specs.declared.report.Held.TheVariants as held;
 ghost use Rattle.id_print.specs.Endings.{EndsSo};
-ghost use Rattle.id_print.specs.Names.{IsSortedOf, AreApart};
+ghost use Rattle.id_print.specs.Names.{IsOrderOf, IsSortedOf, AreApart, AreApartBy, HeldBefore, WaitBefore};
+ghost use Rattle.id_print.specs.Names.{OfOneThing, OfOneFetch, held_lines};
 ghost use Rattle.id_print.specs.Told.{Prints};
 ghost use Rattle.id_print.specs.Texts.{kind_text, fault_head_text, fault_text, answer_text, answer_value_text};
-ghost use Rattle.id_print.specs.Texts.{name_text, names_text, shown_text, stopped_text};
+ghost use Rattle.id_print.specs.Texts.{name_text, names_text, held_text, helds_text, waiting_text, waitings_text};
+ghost use Rattle.id_print.specs.Texts.{shown_text, quiet_text, stopped_text, site_text, stores_text, second_text};
+ghost use Rattle.id_print.specs.Texts.{shape_text, filled_text};
 ghost use Rattle.id_print.specs.Reports.{asked, report_text};
-ghost use Rattle.id_print.specs.Within.{StepsWithin, PointWithin, FaultWithin, EndingWithin, NameWithin, NamesWithin};
-ghost use Rattle.id_print.specs.Within.{ReportWithin};
+ghost use Rattle.id_print.specs.Within.{SiteWithin, PutWithin, AskWithin, SecondWithin, FaultWithin, NameWithin};
+ghost use Rattle.id_print.specs.Within.{NamesWithin, HeldWithin, HeldsWithin, AsksWithin, AnswerWithin, ReportWithin};
 
 use crate::cursor::Cursor;
-use crate::names::sorted_names;
+use crate::names::{sorted_asks, sorted_helds, sorted_names};
 use crate::sink::{PrintError, Sink, put};
-use crate::texts::{put_point, put_point_value, put_value};
+use crate::texts::{
+    put_ask, put_cell, put_filled, put_point_value, put_shape, put_site, put_value,
+};
+use crate::within::{
+    are_asks_within, are_helds_within, are_names_within, is_answer_within, is_ending_within,
+};
 use id_core::Machine;
 use id_list::Sequence;
-use id_meaning::{NameValue, Path, PathStep, SourceFault, SourceValue};
+use id_meaning::{Ask, NameValue, Put, Shape, Site, SourceFault, SourceValue};
 use id_text::MAX_BYTES;
 use id_value::FaultKind;
 use std::alloc::{AllocError, Global};
@@ -34,18 +43,30 @@ pub enum Ending {
     Fault(SourceFault),
 }
 
-/// What a run has shown: how it ended, the answer, and what binders have, by path and place, where that was asked for.
+/// A line about a structure.
+#[derive(Drop)]
+pub enum Held {
+    /// Its bounds.
+    Array(Shape),
+    /// A cell of it, and what is put there.
+    Cell(Put),
+}
+
+/// What a run has shown: how it ended, the answer, what binders have, by path and place, where that was asked for, the
+/// structures with their cells, by name and index, and the fetches that wait, by path and place.
 #[derive(Drop)]
 pub struct Report {
     pub ending: Ending,
     pub answer: Option<SourceValue>,
     pub names: Sequence<NameValue>,
+    pub structures: Sequence<Held>,
+    pub waiting: Sequence<Ask>,
 }
 
 /// The report of a run: it ended at its first fault, by stamp and then by element, where there is one, else it is quiet
 /// or it was stopped. What binders have is looked up only where `named` asks for it: else the report has no names.
 pub fn run_report(alloc: Global, machine: &Machine<'_>, named: bool) -> Result<Report, AllocError>
-    ensures answer { IfOk result (λ r. r.answer ≡ answer machine.now.world) }
+    ensures answer { IfOk result (λ r. r.answer ≡ answer machine.now.graph machine.now.world) }
     ensures ending { IfOk result (λ r. EndsSo machine.now r.ending) }
 
     // What binders have is all there, in order; where the run shows no name twice, each comes before the next.
@@ -53,19 +74,50 @@ pub fn run_report(alloc: Global, machine: &Machine<'_>, named: bool) -> Result<R
     ensures rise { IfOk result
         (λ r. IsTrue named → AreApart (names machine.now.graph machine.now.world) → NamesRise r.names) }
     ensures none { IfOk result (λ r. IsFalse named → r.names ≡ []) }
+
+    // So are the structures with their cells, and the fetches that wait.
+    ensures held { IfOk result (λ r. IsOrderOf HeldBefore r.structures (held_lines machine.now)) }
+    ensures held_rise { IfOk result
+        (λ r. AreApartBy OfOneThing (held_lines machine.now) → Rises HeldBefore r.structures) }
+    ensures waiting { IfOk result
+        (λ r. IsOrderOf WaitBefore r.waiting (waiting machine.now.graph machine.now.world)) }
+    ensures waiting_rise { IfOk result
+        (λ r. AreApartBy OfOneFetch (waiting machine.now.graph machine.now.world) → Rises WaitBefore r.waiting) }
 {
     let ending = ending_of(alloc, machine)?;
-    let answer = machine.answer();
+    let answer = machine.answer(alloc)?;
     let names = if named {
         machine_names(alloc, machine)?
     } else {
         Sequence::new(Vec::new(alloc))
     };
+    let holdings = machine.holdings(alloc)?;
+    let helds = joined(alloc, holdings.structures, holdings.cells)?;
     Ok(Report {
         ending,
         answer,
         names,
+        structures: sorted_helds(helds),
+        waiting: sorted_asks(holdings.waiting),
     })
+}
+
+/// The lines of structures, and then those of cells.
+fn joined(
+    alloc: Global,
+    shapes: Sequence<Shape>,
+    stored: Sequence<Put>,
+) -> Result<Vec<Held>, AllocError>
+    ensures { IfOk result (λ v. v.items ≡ map held.Array shapes ++ map held.Cell stored) }
+{
+    let mut helds = Vec::new(alloc);
+    for shape in shapes.into_vec() {
+        helds.push(Held::Array(shape))?;
+    }
+    for put in stored.into_vec() {
+        helds.push(Held::Cell(put))?;
+    }
+    Ok(helds)
 }
 
 /// What binders have in a run, by path and place.
@@ -105,6 +157,8 @@ fn put_kind<W: Sink>(kind: FaultKind, sink: &mut W) -> Result<(), PrintError>
     match kind {
         FaultKind::Overflow => put(sink, b"overflow"),
         FaultKind::DivisionByZero => put(sink, b"division by zero"),
+        FaultKind::BadBounds => put(sink, b"bad bounds"),
+        FaultKind::OutOfBounds => put(sink, b"out of bounds"),
     }
 }
 
@@ -123,37 +177,111 @@ pub fn write_fault<W: Sink>(fault: &SourceFault, text: &str, sink: &mut W) -> Re
     ensures { Prints (W.told sink.old) (W.told sink.new) (fault_text text.now fault.now) result }
 {
     let mut cursor = Cursor::new(text);
-    put_fault_head(fault.kind, sink)?;
-    put_point(sink, &mut cursor, &fault.path, fault.place)?;
-    put(sink, b"\n")
-}
-
-fn put_answer_value<W: Sink>(answer: &Option<SourceValue>, sink: &mut W) -> Result<(), PrintError>
-    ensures { Prints (W.told sink.old) (W.told sink.new) (answer_value_text answer.now) result }
-{
-    match answer {
-        None => put(sink, b"none"),
-        Some(value) => put_value(sink, *value),
+    match fault {
+        SourceFault::Operator { kind, site } => put_failed(sink, &mut cursor, *kind, site),
+        SourceFault::SecondStore {
+            name,
+            index,
+            first,
+            second,
+        } => put_second(sink, &mut cursor, name, *index, first, second),
     }
 }
 
-fn write_answer<W: Sink>(answer: &Option<SourceValue>, sink: &mut W) -> Result<(), PrintError>
-    ensures { Prints (W.told sink.old) (W.told sink.new) (answer_text answer.now) result }
+fn put_failed<W: Sink>(
+    sink: &mut W,
+    cursor: &mut Cursor<'_>,
+    kind: FaultKind,
+    site: &Site,
+) -> Result<(), PrintError>
+    requires { SiteWithin (length cursor.old) site.now }
+    ensures prints { Prints (W.told sink.old) (W.told sink.new)
+        (fault_head_text kind ++ (site_text cursor.old site.now ++ codes "\n")) result }
+    ensures same { cursor.new ≡ cursor.old }
 {
-    put(sink, b"answer ")?;
-    put_answer_value(answer, sink)?;
+    put_fault_head(kind, sink)?;
+    put_site(sink, cursor, site)?;
     put(sink, b"\n")
 }
 
-/// Writes the line of each name, in order.
-fn write_names<W: Sink>(names: &[NameValue], text: &str, sink: &mut W) -> Result<(), PrintError>
-    requires fits { length text.now ≤ MAX_BYTES }
-    requires inside { NamesWithin (length text.now) names.now }
-    ensures { Prints (W.told sink.old) (W.told sink.new) (names_text text.now names.now) result }
+fn put_second<W: Sink>(
+    sink: &mut W,
+    cursor: &mut Cursor<'_>,
+    name: &Site,
+    index: i64,
+    first: &Site,
+    second: &Site,
+) -> Result<(), PrintError>
+    requires { SecondWithin (length cursor.old) name.now first.now second.now }
+    ensures prints { Prints (W.told sink.old) (W.told sink.new)
+        (codes "fault second store of " ++ second_text cursor.old name.now index first.now second.now) result }
+    ensures same { cursor.new ≡ cursor.old }
 {
-    let mut cursor = Cursor::new(text);
+    put(sink, b"fault second store of ")?;
+    put_cell(sink, cursor, name, index)?;
+    put(sink, b" at ")?;
+    put_stores(sink, cursor, first, second)
+}
+
+fn put_stores<W: Sink>(
+    sink: &mut W,
+    cursor: &mut Cursor<'_>,
+    first: &Site,
+    second: &Site,
+) -> Result<(), PrintError>
+    requires first { SiteWithin (length cursor.old) first.now }
+    requires second { SiteWithin (length cursor.old) second.now }
+    ensures prints { Prints (W.told sink.old) (W.told sink.new)
+        (stores_text cursor.old first.now second.now) result }
+    ensures same { cursor.new ≡ cursor.old }
+{
+    put_site(sink, cursor, first)?;
+    put(sink, b" and ")?;
+    put_site(sink, cursor, second)?;
+    put(sink, b"\n")
+}
+
+fn put_answer_value<W: Sink>(
+    sink: &mut W,
+    cursor: &mut Cursor<'_>,
+    answer: &Option<SourceValue>,
+) -> Result<(), PrintError>
+    requires { AnswerWithin (length cursor.old) answer.now }
+    ensures prints { Prints (W.told sink.old) (W.told sink.new) (answer_value_text cursor.old answer.now) result }
+    ensures same { cursor.new ≡ cursor.old }
+{
+    match answer {
+        None => put(sink, b"none"),
+        Some(value) => put_value(sink, cursor, value),
+    }
+}
+
+fn put_answer<W: Sink>(
+    sink: &mut W,
+    cursor: &mut Cursor<'_>,
+    answer: &Option<SourceValue>,
+) -> Result<(), PrintError>
+    requires { AnswerWithin (length cursor.old) answer.now }
+    ensures prints { Prints (W.told sink.old) (W.told sink.new) (answer_text cursor.old answer.now) result }
+    ensures same { cursor.new ≡ cursor.old }
+{
+    put(sink, b"answer ")?;
+    put_answer_value(sink, cursor, answer)?;
+    put(sink, b"\n")
+}
+
+/// The line of each name, in order.
+fn put_names<W: Sink>(
+    sink: &mut W,
+    cursor: &mut Cursor<'_>,
+    names: &[NameValue],
+) -> Result<(), PrintError>
+    requires { NamesWithin (length cursor.old) names.now }
+    ensures prints { Prints (W.told sink.old) (W.told sink.new) (names_text cursor.old names.now) result }
+    ensures same { cursor.new ≡ cursor.old }
+{
     for name in names {
-        put_name(sink, &mut cursor, name)?;
+        put_name(sink, cursor, name)?;
     }
     Ok(())
 }
@@ -168,35 +296,137 @@ fn put_name<W: Sink>(
     ensures same { cursor.new ≡ cursor.old }
 {
     put(sink, b"name ")?;
-    put_point_value(sink, cursor, &name.path, name.place, name.value)
+    put_point_value(sink, cursor, &name.path, name.place, &name.value)
 }
 
-fn write_shown<W: Sink>(
-    answer: &Option<SourceValue>,
-    names: &[NameValue],
-    text: &str,
+/// The line of each structure and cell, in order.
+fn put_helds<W: Sink>(
     sink: &mut W,
+    cursor: &mut Cursor<'_>,
+    helds: &[Held],
 ) -> Result<(), PrintError>
-    requires fits { length text.now ≤ MAX_BYTES }
-    requires inside { NamesWithin (length text.now) names.now }
-    ensures { Prints (W.told sink.old) (W.told sink.new) (shown_text text.now answer.now names.now) result }
+    requires { HeldsWithin (length cursor.old) helds.now }
+    ensures prints { Prints (W.told sink.old) (W.told sink.new) (helds_text cursor.old helds.now) result }
+    ensures same { cursor.new ≡ cursor.old }
 {
-    write_answer(answer, sink)?;
-    write_names(names, text, sink)
+    for held in helds {
+        put_held(sink, cursor, held)?;
+    }
+    Ok(())
 }
 
-fn write_stopped<W: Sink>(
-    answer: &Option<SourceValue>,
-    names: &[NameValue],
-    text: &str,
+fn put_held<W: Sink>(sink: &mut W, cursor: &mut Cursor<'_>, held: &Held) -> Result<(), PrintError>
+    requires { HeldWithin (length cursor.old) held.now }
+    ensures prints { Prints (W.told sink.old) (W.told sink.new) (held_text cursor.old held.now) result }
+    ensures same { cursor.new ≡ cursor.old }
+{
+    match held {
+        Held::Array(shape) => put_array(sink, cursor, shape),
+        Held::Cell(stored) => put_present(sink, cursor, stored),
+    }
+}
+
+fn put_array<W: Sink>(
     sink: &mut W,
+    cursor: &mut Cursor<'_>,
+    shape: &Shape,
 ) -> Result<(), PrintError>
-    requires fits { length text.now ≤ MAX_BYTES }
-    requires inside { NamesWithin (length text.now) names.now }
-    ensures { Prints (W.told sink.old) (W.told sink.new) (stopped_text text.now answer.now names.now) result }
+    requires { SiteWithin (length cursor.old) shape.now.name }
+    ensures prints { Prints (W.told sink.old) (W.told sink.new)
+        (codes "array " ++ shape_text cursor.old shape.now) result }
+    ensures same { cursor.new ≡ cursor.old }
+{
+    put(sink, b"array ")?;
+    put_shape(sink, cursor, shape)
+}
+
+fn put_present<W: Sink>(
+    sink: &mut W,
+    cursor: &mut Cursor<'_>,
+    stored: &Put,
+) -> Result<(), PrintError>
+    requires { PutWithin (length cursor.old) stored.now }
+    ensures prints { Prints (W.told sink.old) (W.told sink.new)
+        (codes "cell " ++ (filled_text cursor.old stored.now ++ codes "\n")) result }
+    ensures same { cursor.new ≡ cursor.old }
+{
+    put(sink, b"cell ")?;
+    put_filled(sink, cursor, stored)?;
+    put(sink, b"\n")
+}
+
+/// The line of each fetch that waits, in order.
+fn put_waitings<W: Sink>(
+    sink: &mut W,
+    cursor: &mut Cursor<'_>,
+    asks: &[Ask],
+) -> Result<(), PrintError>
+    requires { AsksWithin (length cursor.old) asks.now }
+    ensures prints { Prints (W.told sink.old) (W.told sink.new) (waitings_text cursor.old asks.now) result }
+    ensures same { cursor.new ≡ cursor.old }
+{
+    for ask in asks {
+        put_waiting(sink, cursor, ask)?;
+    }
+    Ok(())
+}
+
+fn put_waiting<W: Sink>(sink: &mut W, cursor: &mut Cursor<'_>, ask: &Ask) -> Result<(), PrintError>
+    requires { AskWithin (length cursor.old) ask.now }
+    ensures prints { Prints (W.told sink.old) (W.told sink.new) (waiting_text cursor.old ask.now) result }
+    ensures same { cursor.new ≡ cursor.old }
+{
+    put(sink, b"waiting ")?;
+    put_ask(sink, cursor, ask)
+}
+
+fn put_shown<W: Sink>(
+    sink: &mut W,
+    cursor: &mut Cursor<'_>,
+    report: &Report,
+    names: &[NameValue],
+) -> Result<(), PrintError>
+    requires inside { ReportWithin (length cursor.old) report.now }
+    requires names { NamesWithin (length cursor.old) names.now }
+    ensures prints { Prints (W.told sink.old) (W.told sink.new)
+        (shown_text cursor.old report.now.answer names.now report.now.structures) result }
+    ensures same { cursor.new ≡ cursor.old }
+{
+    put_answer(sink, cursor, &report.answer)?;
+    put_names(sink, cursor, names)?;
+    put_helds(sink, cursor, report.structures.as_slice())
+}
+
+fn put_quiet<W: Sink>(
+    sink: &mut W,
+    cursor: &mut Cursor<'_>,
+    report: &Report,
+    names: &[NameValue],
+) -> Result<(), PrintError>
+    requires inside { ReportWithin (length cursor.old) report.now }
+    requires names { NamesWithin (length cursor.old) names.now }
+    ensures prints { Prints (W.told sink.old) (W.told sink.new)
+        (quiet_text cursor.old report.now.answer names.now report.now.structures report.now.waiting) result }
+    ensures same { cursor.new ≡ cursor.old }
+{
+    put_shown(sink, cursor, report, names)?;
+    put_waitings(sink, cursor, report.waiting.as_slice())
+}
+
+fn put_stopped<W: Sink>(
+    sink: &mut W,
+    cursor: &mut Cursor<'_>,
+    report: &Report,
+    names: &[NameValue],
+) -> Result<(), PrintError>
+    requires inside { ReportWithin (length cursor.old) report.now }
+    requires names { NamesWithin (length cursor.old) names.now }
+    ensures prints { Prints (W.told sink.old) (W.told sink.new)
+        (stopped_text cursor.old report.now.answer names.now report.now.structures) result }
+    ensures same { cursor.new ≡ cursor.old }
 {
     put(sink, b"stopped\n")?;
-    write_shown(answer, names, text, sink)
+    put_shown(sink, cursor, report, names)
 }
 
 /// The names where they are asked for, and none where they are not.
@@ -206,10 +436,12 @@ fn asked(names: bool, all: &[NameValue]) -> &[NameValue]
     if names { all } else { &[] }
 }
 
-/// Writes the lines of a report on a run of the text: of a fault its line alone, else the answer,
-/// and then, where `names` asks for them, a line for each name. Takes no memory.
+/// Writes the lines of a report on a run of the text: of a fault its line alone, else the answer, where `names` asks
+/// for them a line for each name, and a line for each structure and cell; of a quiet run then one for each fetch that
+/// waits. Takes no memory.
 ///
-/// The places of the names are found from one another: those that rise take one pass over the text.
+/// The places of the lines are found from one another, and so are those of the names of structures behind them: those
+/// that rise take one pass over the text.
 pub fn write_report<W: Sink>(
     report: &Report,
     text: &str,
@@ -221,47 +453,21 @@ pub fn write_report<W: Sink>(
     ensures { Prints (W.told sink.old) (W.told sink.new) (report_text text.now names report.now) result }
 {
     let shown = asked(names, report.names.as_slice());
+    let mut cursor = Cursor::new(text);
     match &report.ending {
-        Ending::Quiet => write_shown(&report.answer, shown, text, sink),
-        Ending::Stopped => write_stopped(&report.answer, shown, text, sink),
+        Ending::Quiet => put_quiet(sink, &mut cursor, report, shown),
+        Ending::Stopped => put_stopped(sink, &mut cursor, report, shown),
         Ending::Fault(fault) => write_fault(fault, text, sink),
     }
 }
 
-/// Whether every place that the report tells, those of its names too, lies in a text of so many
-/// bytes. Takes no memory.
+/// Whether every place that the report tells lies in a text of so many bytes. Takes no memory.
 pub fn is_within(report: &Report, size: usize) -> bool
     ensures { IsTrue result ↔ ReportWithin size report.now }
 {
-    is_ending_within(&report.ending, size) && are_names_within(report.names.as_slice(), size)
-}
-
-fn is_ending_within(ending: &Ending, size: usize) -> bool
-    ensures { IsTrue result ↔ EndingWithin size ending.now }
-{
-    match ending {
-        Ending::Quiet | Ending::Stopped => true,
-        Ending::Fault(fault) => is_point_within(&fault.path, fault.place, size),
-    }
-}
-
-fn are_names_within(names: &[NameValue], size: usize) -> bool
-    ensures { IsTrue result ↔ NamesWithin size names.now }
-{
-    names
-        .iter()
-        .all(|name| is_point_within(&name.path, name.place, size))
-}
-
-/// Whether a place and those of the steps of its path lie in a text of so many bytes.
-pub(crate) fn is_point_within(path: &Path, place: usize, size: usize) -> bool
-    ensures { IsTrue result ↔ PointWithin size path.now place }
-{
-    place <= size && are_steps_within(path.steps.as_slice(), size)
-}
-
-fn are_steps_within(steps: &[PathStep], size: usize) -> bool
-    ensures { IsTrue result ↔ StepsWithin size steps.now }
-{
-    steps.iter().all(|step| step.place <= size)
+    is_ending_within(&report.ending, size)
+        && is_answer_within(&report.answer, size)
+        && are_names_within(report.names.as_slice(), size)
+        && are_helds_within(report.structures.as_slice(), size)
+        && are_asks_within(report.waiting.as_slice(), size)
 }

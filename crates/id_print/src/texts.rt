@@ -4,12 +4,13 @@ ghost use Rattle.std.specs.Prelude.{◌≡◌, ◌≤◌, ◌++◌, length, deci
 ghost use Rattle.std.specs.Fmt.{signed_decimal};
 ghost use Rattle.id_print.specs.Told.{Prints};
 ghost use Rattle.id_print.specs.Texts.{iteration_text, line_column_text, place_text, step_text, steps_text};
-ghost use Rattle.id_print.specs.Texts.{point_text, point_value_text, truth_text, value_text};
-ghost use Rattle.id_print.specs.Within.{StepsWithin, PointWithin};
+ghost use Rattle.id_print.specs.Texts.{point_text, point_value_text, truth_text, value_text, site_text, equal_text};
+ghost use Rattle.id_print.specs.Texts.{bounds_text, shape_text, cell_text, filled_text, ask_text};
+ghost use Rattle.id_print.specs.Within.{StepsWithin, PointWithin, SiteWithin, ValueWithin, PutWithin, AskWithin};
 
 use crate::cursor::Cursor;
 use crate::sink::{PrintError, Sink, put};
-use id_meaning::{Path, PathStep, SourceValue};
+use id_meaning::{Ask, Path, PathStep, Put, Shape, Site, SourceValue};
 use id_text::{MAX_BYTES, line_col};
 use itoa::Buffer;
 
@@ -127,29 +128,161 @@ pub(crate) fn put_point<W: Sink>(
     put_at(sink, cursor, place)
 }
 
+/// A path and a place: the name of a structure.
+pub(crate) fn put_site<W: Sink>(
+    sink: &mut W,
+    cursor: &mut Cursor<'_>,
+    site: &Site,
+) -> Result<(), PrintError>
+    requires { SiteWithin (length cursor.old) site.now }
+    ensures prints { Prints (W.told sink.old) (W.told sink.new) (site_text cursor.old site.now) result }
+    ensures same { cursor.new ≡ cursor.old }
+{
+    put_point(sink, cursor, &site.path, site.place)
+}
+
+/// The same, behind something else on the line.
+pub(crate) fn put_site_behind<W: Sink>(
+    sink: &mut W,
+    cursor: &mut Cursor<'_>,
+    site: &Site,
+) -> Result<(), PrintError>
+    requires { SiteWithin (length cursor.old) site.now }
+    ensures prints { Prints (W.told sink.old) (W.told sink.new) (site_text cursor.old site.now) result }
+    ensures same { cursor.new ≡ cursor.old }
+{
+    cursor.turn();
+    let done = put_site(sink, cursor, site);
+    cursor.turn();
+    done
+}
+
 /// A point, its value and the end of the line.
 pub(crate) fn put_point_value<W: Sink>(
     sink: &mut W,
     cursor: &mut Cursor<'_>,
     path: &Path,
     place: usize,
-    value: SourceValue,
+    value: &SourceValue,
 ) -> Result<(), PrintError>
-    requires { PointWithin (length cursor.old) path.now place }
+    requires point { PointWithin (length cursor.old) path.now place }
+    requires value { ValueWithin (length cursor.old) value.now }
     ensures prints { Prints (W.told sink.old) (W.told sink.new)
-        (point_value_text cursor.old path.now place value) result }
+        (point_value_text cursor.old path.now place value.now) result }
     ensures same { cursor.new ≡ cursor.old }
 {
     put_point(sink, cursor, path, place)?;
-    put_end(sink, value)
+    put_equal(sink, cursor, value)?;
+    put(sink, b"\n")
 }
 
-/// A value after `=`, and the end of the line.
-fn put_end<W: Sink>(sink: &mut W, value: SourceValue) -> Result<(), PrintError>
-    ensures { Prints (W.told sink.old) (W.told sink.new) (codes " = " ++ (value_text value ++ codes "\n")) result }
+/// A value after `=`.
+fn put_equal<W: Sink>(
+    sink: &mut W,
+    cursor: &mut Cursor<'_>,
+    value: &SourceValue,
+) -> Result<(), PrintError>
+    requires { ValueWithin (length cursor.old) value.now }
+    ensures prints { Prints (W.told sink.old) (W.told sink.new) (equal_text cursor.old value.now) result }
+    ensures same { cursor.new ≡ cursor.old }
 {
     put(sink, b" = ")?;
-    put_value(sink, value)?;
+    put_value(sink, cursor, value)
+}
+
+/// A structure and its bounds, and the end of the line.
+pub(crate) fn put_shape<W: Sink>(
+    sink: &mut W,
+    cursor: &mut Cursor<'_>,
+    shape: &Shape,
+) -> Result<(), PrintError>
+    requires { SiteWithin (length cursor.old) shape.now.name }
+    ensures prints { Prints (W.told sink.old) (W.told sink.new) (shape_text cursor.old shape.now) result }
+    ensures same { cursor.new ≡ cursor.old }
+{
+    put_site(sink, cursor, &shape.name)?;
+    put(sink, b" ")?;
+    put_bounds(sink, shape.low, shape.high)
+}
+
+/// Two bounds, and the end of the line.
+fn put_bounds<W: Sink>(sink: &mut W, low: i64, high: i64) -> Result<(), PrintError>
+    ensures { Prints (W.told sink.old) (W.told sink.new) (bounds_text low high) result }
+{
+    put_int(sink, low)?;
+    put(sink, b"..")?;
+    put_int(sink, high)?;
+    put(sink, b"\n")
+}
+
+/// An index in brackets.
+pub(crate) fn put_index<W: Sink>(sink: &mut W, index: i64) -> Result<(), PrintError>
+    ensures { Prints (W.told sink.old) (W.told sink.new) (codes "[" ++ (signed_decimal index ++ codes "]")) result }
+{
+    put(sink, b"[")?;
+    put_int(sink, index)?;
+    put(sink, b"]")
+}
+
+/// A cell of a structure.
+pub(crate) fn put_cell<W: Sink>(
+    sink: &mut W,
+    cursor: &mut Cursor<'_>,
+    name: &Site,
+    index: i64,
+) -> Result<(), PrintError>
+    requires { SiteWithin (length cursor.old) name.now }
+    ensures prints { Prints (W.told sink.old) (W.told sink.new) (cell_text cursor.old name.now index) result }
+    ensures same { cursor.new ≡ cursor.old }
+{
+    put_site(sink, cursor, name)?;
+    put_index(sink, index)
+}
+
+/// The same, behind something else on the line.
+fn put_cell_behind<W: Sink>(
+    sink: &mut W,
+    cursor: &mut Cursor<'_>,
+    name: &Site,
+    index: i64,
+) -> Result<(), PrintError>
+    requires { SiteWithin (length cursor.old) name.now }
+    ensures prints { Prints (W.told sink.old) (W.told sink.new) (cell_text cursor.old name.now index) result }
+    ensures same { cursor.new ≡ cursor.old }
+{
+    cursor.turn();
+    let done = put_cell(sink, cursor, name, index);
+    cursor.turn();
+    done
+}
+
+/// A cell and the value that is put into it.
+pub(crate) fn put_filled<W: Sink>(
+    sink: &mut W,
+    cursor: &mut Cursor<'_>,
+    stored: &Put,
+) -> Result<(), PrintError>
+    requires { PutWithin (length cursor.old) stored.now }
+    ensures prints { Prints (W.told sink.old) (W.told sink.new) (filled_text cursor.old stored.now) result }
+    ensures same { cursor.new ≡ cursor.old }
+{
+    put_cell(sink, cursor, &stored.name, stored.index)?;
+    put_equal(sink, cursor, &stored.value)
+}
+
+/// A fetch and the cell that it asks for, and the end of the line.
+pub(crate) fn put_ask<W: Sink>(
+    sink: &mut W,
+    cursor: &mut Cursor<'_>,
+    ask: &Ask,
+) -> Result<(), PrintError>
+    requires { AskWithin (length cursor.old) ask.now }
+    ensures prints { Prints (W.told sink.old) (W.told sink.new) (ask_text cursor.old ask.now) result }
+    ensures same { cursor.new ≡ cursor.old }
+{
+    put_site(sink, cursor, &ask.fetch)?;
+    put(sink, b" of ")?;
+    put_cell_behind(sink, cursor, &ask.name, ask.index)?;
     put(sink, b"\n")
 }
 
@@ -169,11 +302,18 @@ pub fn truth_bytes(truth: bool) -> &'static [u8]
 }
 
 /// A value.
-pub fn put_value<W: Sink>(sink: &mut W, value: SourceValue) -> Result<(), PrintError>
-    ensures { Prints (W.told sink.old) (W.told sink.new) (value_text value) result }
+pub(crate) fn put_value<W: Sink>(
+    sink: &mut W,
+    cursor: &mut Cursor<'_>,
+    value: &SourceValue,
+) -> Result<(), PrintError>
+    requires { ValueWithin (length cursor.old) value.now }
+    ensures prints { Prints (W.told sink.old) (W.told sink.new) (value_text cursor.old value.now) result }
+    ensures same { cursor.new ≡ cursor.old }
 {
     match value {
-        SourceValue::Int(n) => put_int(sink, n),
-        SourceValue::Bool(truth) => put(sink, truth_bytes(truth)),
+        SourceValue::Int(n) => put_int(sink, *n),
+        SourceValue::Bool(truth) => put(sink, truth_bytes(*truth)),
+        SourceValue::Name(name) => put_site_behind(sink, cursor, name),
     }
 }

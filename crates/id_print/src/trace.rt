@@ -5,12 +5,13 @@ ghost use Rattle.id_print.specs.Told.{Prints};
 ghost use Rattle.id_print.specs.Traces.{carried_text, context_text, continuation_text, delivery_text, end_text};
 ghost use Rattle.id_print.specs.Traces.{entry_text, goal_text, handled_text, moment_text, opened_text, payload_text};
 ghost use Rattle.id_print.specs.Traces.{port_text, tag_text, token_text, trace_text, turn_text};
+ghost use Rattle.id_print.specs.Traces.{structure_text, cell_text, from_text, read_text, write_text};
 
 use crate::sink::{PrintError, Sink, put};
-use crate::texts::{put_int, put_long, put_number, put_numbers, truth_bytes};
+use crate::texts::{put_index, put_int, put_long, put_number, put_numbers, truth_bytes};
 use id_core::{Event, Events, Step};
 use id_graph::Port;
-use id_tag::{Context, Payload, Tag, Value};
+use id_tag::{Cell, Context, Payload, Structure, Tag, Value};
 
 /// Writes a line for each event, in order. Takes no memory.
 pub fn write_trace<W: Sink>(events: &Events<'_>, sink: &mut W) -> Result<(), PrintError>
@@ -66,7 +67,54 @@ fn put_payload<W: Sink>(sink: &mut W, payload: &Payload) -> Result<(), PrintErro
 {
     match *payload {
         Payload::Token { tag, port, value } => put_token(sink, tag, port, value),
+        Payload::Read { cell, reply } => put_read(sink, cell, reply),
+        Payload::Write {
+            cell,
+            value,
+            origin,
+        } => put_write(sink, cell, value, origin),
     }
+}
+
+fn put_read<W: Sink>(sink: &mut W, cell: Cell, reply: Tag) -> Result<(), PrintError>
+    ensures { Prints (W.told sink.old) (W.told sink.new) (read_text cell reply) result }
+{
+    put(sink, b"read ")?;
+    put_cell(sink, cell)?;
+    put_from(sink, reply)
+}
+
+fn put_write<W: Sink>(sink: &mut W, cell: Cell, value: Value, origin: Tag) -> Result<(), PrintError>
+    ensures { Prints (W.told sink.old) (W.told sink.new) (write_text cell value origin) result }
+{
+    put(sink, b"write ")?;
+    put_cell(sink, cell)?;
+    put(sink, b" ")?;
+    put_carried(sink, value)?;
+    put_from(sink, origin)
+}
+
+fn put_from<W: Sink>(sink: &mut W, tag: Tag) -> Result<(), PrintError>
+    ensures { Prints (W.told sink.old) (W.told sink.new) (from_text tag) result }
+{
+    put(sink, b" c")?;
+    put_turn(sink, tag)?;
+    put(sink, b" ")?;
+    put_number(sink, tag.instr)
+}
+
+fn put_structure<W: Sink>(sink: &mut W, structure: Structure) -> Result<(), PrintError>
+    ensures { Prints (W.told sink.old) (W.told sink.new) (structure_text structure) result }
+{
+    put(sink, b"s")?;
+    put_numbers(sink, structure.element as u64, b".", structure.serial)
+}
+
+fn put_cell<W: Sink>(sink: &mut W, cell: Cell) -> Result<(), PrintError>
+    ensures { Prints (W.told sink.old) (W.told sink.new) (cell_text cell) result }
+{
+    put_structure(sink, cell.structure)?;
+    put_index(sink, cell.index)
 }
 
 fn put_token<W: Sink>(sink: &mut W, tag: Tag, port: Port, value: Value) -> Result<(), PrintError>
@@ -117,6 +165,8 @@ fn put_carried<W: Sink>(sink: &mut W, value: Value) -> Result<(), PrintError>
         Value::Signal => put(sink, b"signal"),
         Value::Int(n) => put_int(sink, n),
         Value::Bool(truth) => put(sink, truth_bytes(truth)),
+        Value::Structure(structure) => put_structure(sink, structure),
+        Value::Address(cell) => put_cell(sink, cell),
         Value::Context(context) => put_opened(sink, context),
         Value::Continuation(tag) => put_continuation(sink, tag),
     }

@@ -7,22 +7,24 @@ use Rattle.id_valid.specs.Roles.{op_at}
 use Rattle.id_valid.specs.Validator.{IsValid}
 use Rattle.id_valid.proofs.ValidatorLemmas.{IsEntered-valid}
 use Rattle.std.proofs.Common.{zero, suc, Some, ◌≡◌, ◌⊎◌, inl, inr, Bool, ℕ, ◌+◌, ◌≤◌, ◌<◌}
-use Rattle.std.proofs.Common.{List, [], ◌∷◌, ◌++◌, length, length-append, map, max, take, get_or, refl, ap, ◌∙◌, arith}
-use Rattle.std.proofs.lemmas.List.{length-map, length-take, map_more}
+use Rattle.std.proofs.Common.{List, [], ◌∷◌, ◌++◌, length, length-append, map, max, take, get_or, refl, sym, ap, ◌∙◌, arith}
+use Rattle.std.proofs.lemmas.List.{append_assoc, length-map, length-take, map_more, take_more}
 use Rattle.std.specs.Prelude.{Option, None}
 use Rattle.id_graph.specs.declared.instr.Op.{Op}
-use Rattle.id_graph.specs.declared.instr.Op.TheVariants.{Const, Unary, Binary, Merge, Switch, Back, Enter, Send, Next, Reset}
+use Rattle.id_graph.specs.declared.instr.Op.TheVariants.{Const, Unary, Binary, Merge, Switch, Back, Enter, Send, Next, Reset, Alloc, Address, Fetch, Store}
 use Rattle.id_graph.specs.declared.dests.Dest.{Dest}
 use Rattle.id_tag.specs.declared.Context.{Context}
 use Rattle.id_tag.specs.declared.Tag.{Tag}
 use Rattle.id_tag.specs.declared.Value.{Value}
 use Rattle.id_tag.specs.declared.Value.TheVariants as value
 use Rattle.id_tag.specs.declared.Payload.{Payload}
+use Rattle.id_tag.specs.declared.Payload.TheVariants.{Token}
+use Rattle.id_graph.specs.declared.dests.Port.TheVariants.{Zero}
 use Rattle.id_tag.specs.declared.Message.{Message}
 use Rattle.id_tag.specs.declared.Sender.TheVariants.{Element}
 use Rattle.id_ops.specs.declared.Fired.{Fired}
-use Rattle.id_ops.specs.declared.Fired.TheVariants.{Out, Side, Moved, Entered, Sent, Failed, Nothing}
-use Rattle.id_record.specs.Sends.{HasSecond, count_started, moved_to, sent, started, token_to, numbered}
+use Rattle.id_ops.specs.declared.Fired.TheVariants.{Out, Side, Moved, Entered, Sent, Asked, Stored, Failed, Nothing}
+use Rattle.id_record.specs.Sends.{HasSecond, count_started, moved_to, sent, started, token_to, replies, numbered}
 
 -- a value that goes out goes to each destination
 pub length-out : (o : Option Op) (ds : List Dest) (t : Tag) (f : Fired)
@@ -55,6 +57,10 @@ HasSecond-valid g n (Some (Back k)) graph valid is = tt
 HasSecond-valid g n (Some (Send k t)) graph valid is = tt
 HasSecond-valid g n (Some (Next k)) graph valid is = tt
 HasSecond-valid g n (Some (Reset k)) graph valid is = tt
+HasSecond-valid g n (Some Alloc) graph valid is = tt
+HasSecond-valid g n (Some Address) graph valid is = tt
+HasSecond-valid g n (Some (Fetch r)) graph valid is = tt
+HasSecond-valid g n (Some Store) graph valid is = tt
 
 -- so many payloads start a block
 pub length-started : (o : Option Op) (t : Tag) (c : Context) → length (started o t c) ≡ count_started o
@@ -69,6 +75,10 @@ length-started (Some (Back k)) t c = refl
 length-started (Some (Send k n)) t c = refl
 length-started (Some (Next k)) t c = refl
 length-started (Some (Reset k)) t c = refl
+length-started (Some Alloc) t c = refl
+length-started (Some Address) t c = refl
+length-started (Some (Fetch r)) t c = refl
+length-started (Some Store) t c = refl
 
 -- a context that is entered goes to each destination, and then the block is started
 pub length-entered : (o : Option Op) (ds : List Dest) (t : Tag) (c : Context) → length (sent o ds t (Entered c)) ≡ length ds + count_started o
@@ -82,8 +92,26 @@ length-sent o ds t (Side b v) = omega (arith, length-map ds (token_to t v))
 length-sent o ds t (Moved i v) = omega (arith, length-map ds (token_to (moved_to t i) v))
 length-sent o ds t (Entered c) = omega (arith, length-entered o ds t c)
 length-sent o ds t (Sent u v) = omega arith
+length-sent o ds t (Asked c r) = omega arith
+length-sent o ds t (Stored c v w) = omega arith
 length-sent o ds t (Failed f) = omega arith
 length-sent o ds t Nothing = omega arith
+
+-- as many payloads as replies
+pub length-replies : (v : Value) (ts : List Tag) → length (replies v ts) ≡ length ts
+length-replies v ts = length-map ts (λ t. Token t Zero v)
+
+-- what stands behind the first list
+pub get-behind : {X : Type 0} (xs ys : List X) (k i : ℕ) → k ≡ length xs + i → slice_get (xs ++ ys) k ≡ slice_get ys i
+get-behind [] ys k i is = let same : k ≡ i = omega (arith, is) in ap (slice_get ys) same
+get-behind (x ∷ xs) ys zero i is = absurd (omega (arith, is))
+get-behind (x ∷ xs) ys (suc k) i is = get-behind xs ys k i (omega (arith, is))
+
+-- what stands in the first list
+pub get-before : {X : Type 0} (xs ys : List X) (k : ℕ) (x : X) → slice_get xs k ≡ Some x → slice_get (xs ++ ys) k ≡ Some x
+get-before [] ys k x is = cc
+get-before (y ∷ xs) ys zero x is = is
+get-before (y ∷ xs) ys (suc k) x is = get-before xs ys k x is
 
 -- the message of the element n that has the number k
 abbrev pub numbered_as : ℕ → ℕ → ℕ → ℕ → Payload → Message
@@ -108,6 +136,19 @@ pub numbered-more : (n p s : ℕ) (t : Tag) (v : Value) (ds : List Dest) (i : �
 numbered-more n p s t v ds i d x lt is =
     let count : 0 + length (map (token_to t v) (take i ds)) ≡ i = omega (arith, length-map (take i ds) (token_to t v), length-take i ds) in
     rw (map_more (token_to t v) ds i d lt, numbered-push n p s 0 (map (token_to t v) (take i ds)) (token_to t v (get_or ds i d)), count, is)
+
+-- one more reply has one more token
+pub replies-more : (n p s : ℕ) (v : Value) (ts : List Tag) (i : ℕ) (t : Tag) (x : Payload) → i < length ts → x ≡ Token (get_or ts i t) Zero v
+    → numbered n p s 0 (replies v (take (i + 1) ts)) ≡ numbered n p s 0 (replies v (take i ts)) ++ numbered_as n p s i x ∷ []
+replies-more n p s v ts i t x lt is =
+    let to : Tag → Payload = λ u. Token u Zero v in
+    let count : 0 + length (map to (take i ts)) ≡ i = omega (arith, length-map (take i ts) to, length-take i ts) in
+    rw (map_more to ts i t lt, numbered-push n p s 0 (map to (take i ts)) (to (get_or ts i t)), count, is)
+
+-- one more reply stands behind those so far
+pub reply-added : (old now new ts : List Tag) (i : ℕ) (t : Tag) → i < length ts → now ≡ old ++ take i ts → new ≡ now ++ get_or ts i t ∷ [] → new ≡ old ++ take (i + 1) ts
+reply-added old now new ts i t lt is added =
+    added ∙ ap (λ xs. xs ++ get_or ts i t ∷ []) is ∙ append_assoc old (take i ts) (get_or ts i t ∷ []) ∙ ap (λ xs. old ++ xs) (sym (take_more ts i t lt))
 
 -- as many messages as payloads
 pub length-numbered : (n p s k : ℕ) (xs : List Payload) → length (numbered n p s k xs) ≡ length xs

@@ -1,12 +1,12 @@
 -- How the record keeps an event in a line.
-use Rattle.std.specs.Prelude.{◌≡◌, ℕ, ◌<◌, ℤ, pos, Bool, true, false, List, Option, None, Some, length, slice_index_or}
+use Rattle.std.specs.Prelude.{◌≡◌, ℕ, ◌<◌, ◌≤◌, ◌+◌, ℤ, pos, Bool, true, false, List, Option, None, Some, length}
+use Rattle.std.specs.Prelude.{slice_index_or}
 use Rattle.std.specs.Prelude.{unsigned_abs}
 use Rattle.id_tag.specs.declared.Tag.{Tag}
 use Rattle.id_tag.specs.declared.Value.{Value}
 use Rattle.id_tag.specs.declared.Value.TheVariants as value
 use Rattle.id_tag.specs.declared.Sender.{Sender}
 use Rattle.id_tag.specs.declared.Sender.TheVariants.{Start, Element}
-use Rattle.id_tag.specs.declared.Payload.{Payload}
 use Rattle.id_tag.specs.declared.Payload.TheVariants.{Token}
 use Rattle.id_ops.specs.declared.Fired.{Fired}
 use Rattle.id_ops.specs.declared.Fired.TheVariants as fired
@@ -14,6 +14,7 @@ use Rattle.id_value.specs.declared.FaultKind.TheVariants as fault
 use Rattle.id_record.specs.declared.step.Verdict.TheVariants as verdict
 use Rattle.id_record.specs.declared.line.Reaction.{Reaction}
 use Rattle.id_record.specs.declared.line.Handled.{Handled}
+use Rattle.id_record.specs.declared.line.Replies.{Replies}
 use Rattle.id_record.specs.declared.line.Line.{Line}
 use Rattle.id_record.specs.declared.line.Carried.{Carried}
 use Rattle.id_record.specs.declared.line.Carried.TheVariants.{Signal, Int, Bool as Truth, Context as InContext}
@@ -23,9 +24,9 @@ use Rattle.id_record.specs.declared.line.Exit.TheVariants as exits
 use Rattle.id_record.specs.declared.line.Effect.{Effect}
 use Rattle.id_record.specs.declared.line.Effect.TheVariants as effect
 
--- the value that a payload carries
-abbrev pub value_of : Payload → Value
-value_of (Token tag port v) = v
+-- no replies
+abbrev pub no_replies : Replies
+no_replies = record { from = 0; count = 0 }
 
 -- the value that a line carries, where its event names this tag beside that of its message
 abbrev pub carried_value : Tag → Carried → Option Value
@@ -41,6 +42,8 @@ abbrev pub NamedBy : Value → Tag → Type 0
 NamedBy value.Signal t = Unit {0}
 NamedBy (value.Int n) t = Unit {0}
 NamedBy (value.Bool b) t = Unit {0}
+NamedBy (value.Structure s) t = Unit {0}
+NamedBy (value.Address c) t = Unit {0}
 NamedBy (value.Context c) t = Unit {0}
 NamedBy (value.Continuation u) t = t ≡ u
 
@@ -52,6 +55,8 @@ Names (fired.Side b w) v t = Unit {0}
 Names (fired.Moved i w) v t = t.iteration ≡ i
 Names (fired.Entered c) v t = t.context ≡ c
 Names (fired.Sent u w) v t = t ≡ u
+Names (fired.Asked c r) v t = Unit {0}
+Names (fired.Stored c w o) v t = Unit {0}
 Names (fired.Failed f) v t = Unit {0}
 Names fired.Nothing v t = NamedBy v t
 
@@ -60,6 +65,8 @@ abbrev pub number_in : Value → ℤ
 number_in value.Signal = pos 0
 number_in (value.Int n) = n
 number_in (value.Bool b) = pos 0
+number_in (value.Structure s) = pos 0
+number_in (value.Address c) = pos 0
 number_in (value.Context c) = pos 0
 number_in (value.Continuation t) = pos 0
 
@@ -70,6 +77,8 @@ number_of (fired.Side b v) s = number_in v
 number_of (fired.Moved i v) s = pos s
 number_of (fired.Entered c) s = pos s
 number_of (fired.Sent u v) s = pos s
+number_of (fired.Asked c r) s = pos s
+number_of (fired.Stored c v o) s = pos s
 number_of (fired.Failed f) s = pos s
 number_of fired.Nothing s = pos s
 
@@ -81,6 +90,8 @@ exit_of (fired.Side false v) = exits.False
 exit_of (fired.Moved i v) = exits.Only
 exit_of (fired.Entered c) = exits.Only
 exit_of (fired.Sent u v) = exits.Only
+exit_of (fired.Asked c r) = exits.Only
+exit_of (fired.Stored c v o) = exits.Only
 exit_of (fired.Failed f) = exits.Only
 exit_of fired.Nothing = exits.Only
 
@@ -137,6 +148,7 @@ own l v = record {
   };
   stamp = l.stamp;
   reaction = reaction_of l.effect l.exit l.result (target_in l) v;
+  replies = no_replies;
 }
 
 -- the event of a line that carries this
@@ -164,6 +176,15 @@ IsThere asides (Aside i) = i < length asides
 -- the line's event is there
 abbrev pub IsWithin : List Handled → Line → Type 0
 IsWithin asides l = IsThere asides l.carried
+
+-- so many replies are there
+abbrev pub AreThere : List Tag → Replies → Type 0
+AreThere ts r = r.from + r.count ≤ length ts
+
+-- the event of the line is there with its replies
+pub record IsKept (asides : List Handled) (ts : List Tag) (l : Line) : Type 0 where
+  pub within : IsWithin asides l
+  pub replies : AreThere ts (unpacked asides l).replies
 
 -- the event stands in the line, whatever stands aside
 pub record IsPacked (e : Handled) (l : Line) : Type 0 where

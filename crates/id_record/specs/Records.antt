@@ -1,19 +1,19 @@
 -- The events of a record, as its lines keep them (docs/MACHINE.md, "The record").
-use Rattle.std.specs.Prelude.{ℕ, ◌+◌, Bool, List, [], ◌∷◌, slice_get}
+use Rattle.std.specs.Prelude.{ℕ, ◌+◌, Bool, List, [], ◌∷◌, ◌++◌, drop, slice_get, take}
 use Rattle.std.specs.Option.{option_map_or}
 use Rattle.id_graph.specs.declared.dests.Dest.{Dest}
 use Rattle.id_graph.specs.Graph.{Parts, arcs_on}
 use Rattle.id_tag.specs.declared.Tag.{Tag}
 use Rattle.id_tag.specs.declared.Payload.{Payload}
-use Rattle.id_tag.specs.declared.Message.{Message}
 use Rattle.id_ops.specs.declared.Fired.{Fired}
 use Rattle.id_ops.specs.Operators.{side_of}
 use Rattle.id_record.specs.declared.line.Handled.{Handled}
+use Rattle.id_record.specs.declared.line.Replies.{Replies}
 use Rattle.id_record.specs.declared.line.Line.{Line}
-use Rattle.id_record.specs.Events.{EventView, full_step, tag_of}
+use Rattle.id_record.specs.Events.{EventView, full_step, tag_of, value_of}
 use Rattle.id_record.specs.Lines.{unpacked}
 use Rattle.id_valid.specs.Roles.{op_at}
-use Rattle.id_record.specs.Sends.{numbered, sent}
+use Rattle.id_record.specs.Sends.{numbered, replies, sent}
 
 -- the destinations of the instruction of this number on a side
 abbrev pub dests_at : Parts → ℕ → Bool → List Dest
@@ -23,30 +23,39 @@ dests_at g n b = option_map_or (arcs_on b) (slice_get g.instrs n) []
 abbrev pub sent_by : Parts → Tag → Fired → List Payload
 sent_by g t f = sent (op_at g t.instr) (dests_at g t.instr (side_of f)) t f
 
--- what the element n sends in the event at this position, at this stamp, where the instruction of the tag fires
-abbrev pub sent_at : Parts → ℕ → ℕ → ℕ → Tag → Fired → List Message
-sent_at g n position stamp t f = numbered n position stamp 0 (sent_by g t f)
+-- what is sent for a message where this is fired, and where its value goes to these replies
+abbrev pub sent_for : Parts → Payload → Fired → List Tag → List Payload
+sent_for g x f ts = sent_by g (tag_of x) f ++ replies (value_of x) ts
 
--- the event of the element n at this position
-abbrev pub event_of_handled : Parts → ℕ → ℕ → Handled → EventView
-event_of_handled g n position h = record {
+-- the replies of an event, among all those of its record
+abbrev pub replies_in : List Tag → Replies → List Tag
+replies_in ts r = take r.count (drop r.from ts)
+
+-- the event of the element n at this position, in a record with these replies
+abbrev pub event_of_handled : Parts → ℕ → List Tag → ℕ → Handled → EventView
+event_of_handled g n ts position h = record {
   element = n;
   stamp = h.stamp;
   message = h.message;
-  outputs = sent_at g n position h.stamp (tag_of h.message.payload) h.reaction.fired;
+  fired = h.reaction.fired;
+  outputs =
+      numbered n position h.stamp 0 (sent_for g h.message.payload h.reaction.fired (replies_in ts h.replies));
   step = full_step h.message.payload h.reaction.verdict;
 }
 
--- the events of these lines, from this position on
-abbrev pub events_from : Parts → ℕ → ℕ → List Handled → List Line → List EventView
-events_from g n position asides [] = []
-events_from g n position asides (l ∷ ls) =
-    event_of_handled g n position (unpacked asides l) ∷ events_from g n (position + 1) asides ls
+-- the events of these lines, from this position on, in a record with these replies
+abbrev pub events_from : Parts → ℕ → List Tag → ℕ → List Handled → List Line → List EventView
+events_from g n ts position asides [] = []
+events_from g n ts position asides (l ∷ ls) =
+    event_of_handled g n ts position (unpacked asides l) ∷ events_from g n ts (position + 1) asides ls
 
--- what contracts see of a record: its events, and how many more lines and events aside find room
+-- what contracts see of a record: its events, the replies of all of them, and how many more lines, events aside and
+-- replies find room
 pub record RecordView : Type 0 where
   pub element : ℕ
   pub graph : Parts
   pub events : List EventView
+  pub replies : List Tag
   pub room : ℕ
   pub room_aside : ℕ
+  pub room_for_replies : ℕ

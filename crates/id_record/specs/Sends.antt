@@ -10,10 +10,11 @@ use Rattle.id_tag.specs.declared.Value.{Value}
 use Rattle.id_tag.specs.declared.Value.TheVariants as value
 use Rattle.id_tag.specs.declared.Sender.TheVariants as sender
 use Rattle.id_tag.specs.declared.Payload.{Payload}
-use Rattle.id_tag.specs.declared.Payload.TheVariants.{Token}
+use Rattle.id_tag.specs.declared.Payload.TheVariants.{Token, Read, Write}
 use Rattle.id_tag.specs.declared.Message.{Message}
 use Rattle.id_ops.specs.declared.Fired.{Fired}
-use Rattle.id_ops.specs.declared.Fired.TheVariants.{Out, Side, Moved, Entered, Sent, Failed, Nothing}
+use Rattle.id_ops.specs.declared.Fired.TheVariants.{Out, Side, Moved, Entered, Sent, Asked, Stored, Failed}
+use Rattle.id_ops.specs.declared.Fired.TheVariants.{Nothing}
 use Rattle.id_ops.specs.Operators.{tag_within}
 
 -- a token to this destination, under the context and iteration of the tag
@@ -46,15 +47,22 @@ HasSecond (Some (Enter b r)) = b + 1 < 2 ^ 32
 HasSecond _ = Unit {0}
 
 -- what a firing of the operator sends, with the destinations on its side: one token to each in order, at the tag's
--- iteration or at the one that it moved to, of an entered block also what starts it, or one token to port 0 of a tag
+-- iteration or at the one that it moved to, of an entered block also what starts it, or one token to port 0 of a tag,
+-- or a read or a write of a cell
 abbrev pub sent : Option Op → List Dest → Tag → Fired → List Payload
 sent o ds t (Out v) = map (token_to t v) ds
 sent o ds t (Side b v) = map (token_to t v) ds
 sent o ds t (Moved i v) = map (token_to (moved_to t i) v) ds
 sent o ds t (Entered c) = map (token_to t (value.Context c)) ds ++ started o t c
 sent o ds t (Sent u v) = Token u Zero v ∷ []
+sent o ds t (Asked c r) = Read c r ∷ []
+sent o ds t (Stored c v w) = Write c v w ∷ []
 sent o ds t (Failed f) = []
 sent o ds t Nothing = []
+
+-- a value for each of these replies, in order: to port 0 of its tag
+abbrev pub replies : Value → List Tag → List Payload
+replies v ts = map (λ t. Token t Zero v) ts
 
 -- each payload as a message of the element n, from the position in its record, with numbers from k and this stamp
 abbrev pub numbered : ℕ → ℕ → ℕ → ℕ → List Payload → List Message

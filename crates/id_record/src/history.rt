@@ -1,18 +1,19 @@
 //! The record of an element: a line for each event, seen as a list of events.
 
 ghost use Rattle.std.specs.Prelude.{◌≡◌, ◌<◌, ◌++◌, ◌∷◌, [], vec_len, vec_capacity};
-ghost use Rattle.id_record.specs.Events.{full_step, tag_of};
+ghost use Rattle.id_record.specs.Events.{full_step, second_store, tag_of, value_of};
 ghost use Rattle.id_ops.specs.Operators.{side_of};
-ghost use Rattle.id_record.specs.Records.{dests_at};
+ghost use Rattle.id_record.specs.Lines.{AreThere};
+ghost use Rattle.id_record.specs.Records.{dests_at, replies_in};
 ghost use Rattle.id_valid.specs.Roles.{op_at};
 ghost use Rattle.id_graph.specs.Graph.{IsGraph};
 
-use crate::line::{Handled, Line, line_aside, packed, payload_in, unpack};
+use crate::line::{Handled, Line, Replies, instr_in, line_aside, packed, payload_in, unpack};
 use crate::outputs::{Envelope, Outputs, chosen};
 use crate::step::{Fault, Step, Verdict};
 use id_graph::{Dest, Graph, Op};
 use id_ops::Fired;
-use id_tag::{Message, Payload, Tag};
+use id_tag::{Message, Payload, Tag, Value};
 use id_valid::Valid;
 use std::alloc::{AllocError, Global};
 use std::marker::Model;
@@ -24,11 +25,12 @@ pub struct Record<'a> {
     element: u32,
     lines: Vec<Line>,
     asides: Vec<Handled>,
+    replies: Vec<Tag>,
 }
 
 impl<'a> Model for Record<'a> {
     ghost use Rattle.std.specs.Prelude.{◌-◌, vec_len, vec_capacity, All};
-    ghost use Rattle.id_record.specs.Lines.{IsWithin};
+    ghost use Rattle.id_record.specs.Lines.{IsKept};
     ghost use Rattle.id_record.specs.Records.{RecordView, events_from};
 
     ghost Value = { RecordView };
@@ -36,21 +38,24 @@ impl<'a> Model for Record<'a> {
     ghost view = { λ r. record {
       element = r.element;
       graph = r.graph.now;
-      events = events_from r.graph.now r.element 0 r.asides.items r.lines.items;
+      events = events_from r.graph.now r.element r.replies.items 0 r.asides.items r.lines.items;
+      replies = r.replies.items;
       room = vec_capacity r.lines - vec_len r.lines;
       room_aside = vec_capacity r.asides - vec_len r.asides;
+      room_for_replies = vec_capacity r.replies - vec_len r.replies;
     } };
 
-    ghost invariant = { λ r. All (IsWithin r.asides.items) r.lines.items };
+    ghost invariant = { λ r. All (IsKept r.asides.items r.replies.items) r.lines.items };
 }
 
-/// An event: the element that handled the message, the stamp that it gave it, what it sent, and what
+/// An event: the element that handled the message, the stamp that it gave it, what it fired and sent, and what
 /// it came to.
 #[derive(Drop)]
 pub struct Event<'a> {
     pub element: u32,
     pub stamp: u64,
     pub message: Message,
+    pub fired: Fired,
     pub outputs: Outputs<'a>,
     pub step: Step,
 }
@@ -71,7 +76,9 @@ impl<'a> Model for Events<'a> {
 }
 
 impl<'a> Record<'a> {
-    ghost use Rattle.std.specs.Prelude.{◌≡◌, ◌<◌, ◌≤◌, ◌++◌, ◌∷◌, [], length, option_map, slice_get, Some, OnOk};
+    ghost use Rattle.std.specs.Prelude.{◌≡◌, ◌<◌, ◌≤◌, ◌+◌, ◌++◌, ◌∷◌, [], length, option_map, slice_get, Some, OnOk};
+    ghost use Rattle.id_record.specs.Events.{tag_of};
+    ghost use Rattle.id_record.specs.Lines.{AreThere};
     ghost use Rattle.id_record.specs.Records.{event_of_handled};
 
     /// The empty record of the element of this number. Takes no memory.
@@ -85,30 +92,56 @@ impl<'a> Record<'a> {
             element,
             lines: Vec::new(alloc),
             asides: Vec::new(alloc),
+            replies: Vec::new(alloc),
         }
     }
 
-    /// Makes room for one more event.
-    pub fn reserve(&mut self) -> Result<(), AllocError>
+    /// Makes room for one more event, and for so many replies.
+    pub fn reserve(&mut self, replies: usize) -> Result<(), AllocError>
         ensures events { self.new.events ≡ self.old.events }
+        ensures replies { self.new.replies ≡ self.old.replies }
         ensures element { self.new.element ≡ self.old.element }
         ensures graph { self.new.graph ≡ self.old.graph }
         ensures room { OnOk result (0 < self.new.room) }
         ensures room_aside { OnOk result (0 < self.new.room_aside) }
+        ensures room_for_replies { OnOk result (replies ≤ self.new.room_for_replies) }
     {
         self.lines.reserve(1)?;
         self.asides.reserve(1)?;
+        self.replies.reserve(replies)?;
         Ok(())
+    }
+
+    /// Adds a reply to those of the next event. Takes no memory.
+    pub fn add_reply(&mut self, reply: Tag)
+        requires { 0 < self.old.room_for_replies }
+        ensures events { self.new.events ≡ self.old.events }
+        ensures replies { self.new.replies ≡ self.old.replies ++ reply ∷ [] }
+        ensures element { self.new.element ≡ self.old.element }
+        ensures graph { self.new.graph ≡ self.old.graph }
+        ensures room { self.new.room ≡ self.old.room }
+        ensures room_aside { self.new.room_aside ≡ self.old.room_aside }
+        ensures room_for_replies { self.new.room_for_replies + 1 ≡ self.old.room_for_replies }
+    {
+        self.replies.push_reserved(reply);
+    }
+
+    /// How many replies there are, of all events. Takes no memory.
+    pub fn count_replies(&self) -> usize
+        ensures { result ≡ length self.now.replies }
+    {
+        self.replies.len()
     }
 
     /// Adds an event at the end. Takes no memory.
     pub fn push(&mut self, event: Handled)
         requires room { 0 < self.old.room }
         requires room_aside { 0 < self.old.room_aside }
+        requires replies { AreThere self.old.replies event.replies }
         ensures element { self.new.element ≡ self.old.element }
         ensures graph { self.new.graph ≡ self.old.graph }
-        ensures events { self.new.events
-            ≡ self.old.events ++ event_of_handled self.old.graph self.old.element (length self.old.events) event ∷ [] }
+        ensures events { self.new.events ≡ self.old.events
+            ++ event_of_handled self.old.graph self.old.element self.old.replies (length self.old.events) event ∷ [] }
     {
         match packed(&event) {
             Some(line) => add_line(&mut self.lines, line),
@@ -156,12 +189,21 @@ impl<'a> Record<'a> {
         payload_in(self.asides.as_slice(), line)
     }
 
-    fn event(&self, position: usize) -> Event<'a>
+    fn instr(&self, position: usize) -> u32
+        requires { position < length self.now.events }
+        ensures { option_map (λ e. (tag_of e.message.payload).instr) (slice_get self.now.events position) ≡ Some result }
+    {
+        let line = &self.lines[position];
+        instr_in(self.asides.as_slice(), line)
+    }
+
+    fn event(&self, position: usize) -> Event<'_>
         requires { position < length self.now.events }
         ensures { slice_get self.now.events position ≡ Some (record {
           element = result.element;
           stamp = result.stamp;
           message = result.message;
+          fired = result.fired;
           outputs = result.outputs;
           step = result.step;
         }) }
@@ -179,11 +221,14 @@ impl<'a> Record<'a> {
             element: self.element,
             stamp: handled.stamp,
             message: handled.message,
+            fired: handled.reaction.fired,
             outputs: Outputs::new(
                 op_at(graph, tag.instr),
                 dests_at(graph, tag.instr, handled.reaction.fired),
                 tag,
                 handled.reaction.fired,
+                value_of(&handled.message.payload),
+                replies_in(self.replies.as_slice(), handled.replies),
                 envelope,
             ),
             step: full_step(&handled.message.payload, handled.reaction.verdict),
@@ -193,6 +238,7 @@ impl<'a> Record<'a> {
 
 impl<'a> Events<'a> {
     ghost use Rattle.std.specs.Prelude.{◌≡◌, ◌<◌, length, option_map, slice_get, Some};
+    ghost use Rattle.id_record.specs.Events.{tag_of};
 
     /// How many events there are. Takes no memory.
     pub fn len(&self) -> usize
@@ -209,6 +255,15 @@ impl<'a> Events<'a> {
         self.record.payload(position)
     }
 
+    /// The number of the instruction whose tag the message of the event at a position names, without the rest of the
+    /// event. Takes no memory.
+    pub fn instr(&self, position: usize) -> u32
+        requires { position < length self.now }
+        ensures { option_map (λ e. (tag_of e.message.payload).instr) (slice_get self.now position) ≡ Some result }
+    {
+        self.record.instr(position)
+    }
+
     /// The event at a position, from 0. Takes no memory.
     pub fn event(&self, position: usize) -> Event<'a>
         requires { position < length self.now }
@@ -216,6 +271,7 @@ impl<'a> Events<'a> {
           element = result.element;
           stamp = result.stamp;
           message = result.message;
+          fired = result.fired;
           outputs = result.outputs;
           step = result.step;
         }) }
@@ -252,12 +308,33 @@ fn dests_at(graph: &Graph, number: u32, fired: Fired) -> &[Dest]
     }
 }
 
-/// The tag that a payload names.
+/// The replies of an event, among all those of its record.
+fn replies_in(all: &[Tag], replies: Replies) -> &[Tag]
+    requires { AreThere all.now replies }
+    ensures { result.now ≡ replies_in all.now replies }
+{
+    &all[replies.from..replies.from + replies.count]
+}
+
+/// The tag that a payload names: that of a token, of a read's reply, of a write's origin.
 pub fn tag_of(payload: &Payload) -> Tag
     ensures { result ≡ tag_of payload.now }
 {
-    let Payload::Token { tag, .. } = *payload;
-    tag
+    match *payload {
+        Payload::Token { tag, .. } => tag,
+        Payload::Read { reply, .. } => reply,
+        Payload::Write { origin, .. } => origin,
+    }
+}
+
+/// The value that a payload carries: a read carries none, and a signal stands for it.
+pub fn value_of(payload: &Payload) -> Value
+    ensures { result ≡ value_of payload.now }
+{
+    match *payload {
+        Payload::Token { value, .. } | Payload::Write { value, .. } => value,
+        Payload::Read { .. } => Value::Signal,
+    }
 }
 
 /// What a verdict on a message says in full.
@@ -271,5 +348,20 @@ pub fn full_step(payload: &Payload, verdict: Verdict) -> Step
             tag: tag_of(payload),
         }),
         Verdict::Stuck => Step::Stuck,
+        Verdict::Second(first) => second_store(payload, first),
+    }
+}
+
+/// What a second store comes to: its cell has the value of the store of this tag.
+fn second_store(payload: &Payload, first: Tag) -> Step
+    ensures { result ≡ second_store payload.now first }
+{
+    match *payload {
+        Payload::Write { cell, origin, .. } => Step::Fault(Fault::SecondStore {
+            cell,
+            first,
+            second: origin,
+        }),
+        Payload::Token { .. } | Payload::Read { .. } => Step::Stuck,
     }
 }

@@ -11,7 +11,9 @@ mod line;
 mod outputs;
 mod step;
 
-pub use history::{Event, Events, Record, full_step, tag_of};
-pub use line::{Handled, Reaction};
-pub use outputs::{Envelope, Outputs, chosen, count_started, message, moved_to, start, token_to};
+pub use history::{Event, Events, Record, full_step, tag_of, value_of};
+pub use line::{Handled, NO_REPLIES, Reaction, Replies};
+pub use outputs::{
+    Envelope, Outputs, chosen, count_started, message, moved_to, start, token_at, token_to,
+};
 pub use step::{Fault, Step, Verdict};

@@ -1,35 +1,49 @@
 //! How the record keeps an event: in one line of 64 bytes, or aside where it does not fit in one.
 
-ghost use Rattle.std.specs.Prelude.{◌≡◌, Some, IfSome};
+ghost use Rattle.std.specs.Prelude.{◌≡◌, Some, IfSome, IsTrue};
 ghost use Rattle.id_tag.specs.declared.Tag.{Tag};
 ghost use Rattle.id_tag.specs.declared.Value.{Value};
+ghost use Rattle.id_tag.specs.declared.Payload.TheVariants.{Token};
 ghost use Rattle.id_ops.specs.declared.Fired.TheVariants as firings;
 ghost use Rattle.id_tag.specs.declared.Value.TheVariants as value;
 ghost use Rattle.id_record.specs.declared.step.Verdict.TheVariants.{Went, Failed};
 ghost use Rattle.id_record.specs.declared.line.Carried.TheVariants.{Aside};
 ghost use Rattle.id_record.specs.declared.line.Exit.{Exit};
-ghost use Rattle.id_record.specs.Lines.{IsPacked, IsWithin, Names, carried_value, exit_of, fired_at, number_in};
-ghost use Rattle.id_record.specs.Lines.{number_of, own, reaction_of, sender_of, target_in, unpacked, value_of};
+ghost use Rattle.id_record.specs.Lines.{IsPacked, IsWithin, Names, carried_value, exit_of, fired_at, no_replies};
+ghost use Rattle.id_record.specs.Lines.{number_in, number_of, own, reaction_of, sender_of, target_in, unpacked};
+ghost use Rattle.id_record.specs.Events.{tag_of, value_of};
 
+use crate::history::{tag_of, value_of};
 use crate::step::Verdict;
 use id_graph::Port;
 use id_ops::{Fired, tag_within};
 use id_tag::{Context, Message, Payload, Sender, Tag, Value};
 use id_value::FaultKind;
 
-/// What an instruction makes of a token: what it fires, and what the record keeps of the event.
+/// What comes of a message: what is fired, and what the event comes to.
 #[derive(Clone, Copy)]
 pub struct Reaction {
     pub fired: Fired,
     pub verdict: Verdict,
 }
 
-/// A message that was handled, the stamp of that event, and what its instruction made of it.
+/// Where the replies to which an event sent its value stand in its record: so many, from this one on.
+#[derive(Clone, Copy)]
+pub struct Replies {
+    pub from: usize,
+    pub count: usize,
+}
+
+/// No replies.
+pub const NO_REPLIES: Replies = Replies { from: 0, count: 0 };
+
+/// A message that was handled, the stamp of that event, what came of it, and the replies to which it sent its value.
 #[derive(Clone, Copy)]
 pub struct Handled {
     pub message: Message,
     pub stamp: u64,
     pub reaction: Reaction,
+    pub replies: Replies,
 }
 
 /// A handled message in 64 bytes: most numbers of a run need no more than 32 bits. The tag that the event names beside
@@ -111,14 +125,6 @@ pub(crate) fn packed(event: &Handled) -> Option<Line>
     }
 }
 
-/// The value that a payload carries.
-fn value_of(payload: &Payload) -> Value
-    ensures { result ≡ value_of payload.now }
-{
-    let Payload::Token { value, .. } = *payload;
-    value
-}
-
 /// The line of an event that stands aside at this index.
 pub(crate) fn line_aside(index: usize) -> Line
     ensures { result.carried ≡ Aside index }
@@ -175,6 +181,18 @@ pub(crate) fn payload_in(asides: &[Handled], line: &Line) -> Payload
     }
 }
 
+/// The number of the instruction whose tag the message of a line names.
+pub(crate) fn instr_in(asides: &[Handled], line: &Line) -> u32
+    requires { IsWithin asides.now line.now }
+    ensures { result ≡ (tag_of (unpacked asides.now line.now).message.payload).instr }
+{
+    match line.carried {
+        Carried::Aside(index) => tag_of(&asides[index].message.payload).instr,
+        Carried::Signal | Carried::Int(_) | Carried::Bool(_) => line.instr,
+        Carried::Context(_, _) | Carried::Continuation => line.instr,
+    }
+}
+
 /// The context of these numbers, as a value.
 fn context_value(element: u32, serial: u32) -> Value
     ensures { result ≡ value.Context (record { element = element; serial = serial }) }
@@ -207,6 +225,7 @@ fn carry(value: Value, fired: Fired) -> Option<Carried>
         (Value::Signal, _) => Some(Carried::Signal),
         (Value::Int(number), _) => Some(Carried::Int(number)),
         (Value::Bool(truth), _) => Some(Carried::Bool(truth)),
+        (Value::Structure(_) | Value::Address(_), _) => None,
         (Value::Context(context), _) => carry_context(context),
         (Value::Continuation(_), Fired::Nothing) => Some(Carried::Continuation),
         (Value::Continuation(_), _) => None,
@@ -266,10 +285,25 @@ fn effect_of(value: Value, reaction: Reaction) -> Option<Effect>
             Some(Effect::DivisionByZero),
         (Fired::Out(value), Verdict::Went) => going_out(value),
         (Fired::Side(_, value), Verdict::Went) => going_out(value),
-        (Fired::Moved(_, moved), Verdict::Went) if moved == value => Some(Effect::Moved),
+        (Fired::Moved(_, moved), Verdict::Went) if same_value(moved, value) => Some(Effect::Moved),
         (Fired::Entered(_), Verdict::Went) => Some(Effect::Entered),
-        (Fired::Sent(_, sent), Verdict::Went) if sent == value => Some(Effect::Sent),
+        (Fired::Sent(_, sent), Verdict::Went) if same_value(sent, value) => Some(Effect::Sent),
         _ => None,
+    }
+}
+
+/// Whether two values are one, addresses aside: a line has no room for them.
+fn same_value(a: Value, b: Value) -> bool
+    ensures { IsTrue result → a ≡ b }
+{
+    match a {
+        Value::Signal => b == Value::Signal,
+        Value::Int(number) => b == Value::Int(number),
+        Value::Bool(truth) => b == Value::Bool(truth),
+        Value::Structure(structure) => b == Value::Structure(structure),
+        Value::Address(_) => false,
+        Value::Context(context) => b == Value::Context(context),
+        Value::Continuation(tag) => b == Value::Continuation(tag),
     }
 }
 
@@ -283,6 +317,7 @@ fn going_out(value: Value) -> Option<Effect>
         Value::Int(_) => Some(Effect::Int),
         Value::Bool(true) => Some(Effect::True),
         Value::Bool(false) => Some(Effect::False),
+        Value::Structure(_) | Value::Address(_) => None,
         Value::Context(_) | Value::Continuation(_) => None,
     }
 }
@@ -332,8 +367,11 @@ fn narrowed(event: &Handled, carried: Carried, effect: Effect, to: Tag) -> Optio
     ensures to_instr { IfSome result (λ l. l.to_instr ≡ to.instr) }
     ensures message { IfSome result (λ l. (own l (value_of event.now.message.payload)).message ≡ event.now.message) }
     ensures stamp { IfSome result (λ l. l.stamp ≡ event.now.stamp) }
+    ensures replies { IfSome result (λ l. event.now.replies ≡ no_replies) }
 {
-    let Payload::Token { tag, port, .. } = event.message.payload;
+    let Some((tag, port)) = port_of(event) else {
+        return None;
+    };
     let (started, sender) = origin(event.message.sender);
     let position = event.message.position as u64;
     if tag.context.serial > LARGEST || tag.iteration > LARGEST || position > LARGEST {
@@ -370,6 +408,20 @@ fn narrowed(event: &Handled, carried: Carried, effect: Effect, to: Tag) -> Optio
     })
 }
 
+/// The port of the event's token, with its tag, where the event has no replies.
+fn port_of(event: &Handled) -> Option<(Tag, Port)>
+    ensures token { IfSome result
+        (λ p. event.now.message.payload ≡ Token p.0 p.1 (value_of event.now.message.payload)) }
+    ensures replies { IfSome result (λ p. event.now.replies ≡ no_replies) }
+{
+    match event.message.payload {
+        Payload::Token { tag, port, .. } if event.replies.from == 0 && event.replies.count == 0 => {
+            Some((tag, port))
+        }
+        _ => None,
+    }
+}
+
 /// Whether no element sent the message, and the element that did.
 fn origin(sender: Sender) -> (bool, u32)
     ensures { sender_of result.0 result.1 ≡ sender }
@@ -394,6 +446,7 @@ fn own(line: &Line, value: Value) -> Handled
         },
         stamp: u64::from(line.stamp),
         reaction: reaction_in(line, value),
+        replies: NO_REPLIES,
     }
 }
 

@@ -1,13 +1,14 @@
 //! What an event sent, which contracts see as a list of messages.
 
-ghost use Rattle.std.specs.Prelude.{◌≡◌, ◌<◌, length, map, slice_get, Some};
+ghost use Rattle.std.specs.Prelude.{◌≡◌, ◌<◌, ◌++◌, length, map, slice_get, Some};
 ghost use Rattle.id_graph.specs.declared.dests.Port.TheVariants.{Zero};
 ghost use Rattle.id_tag.specs.declared.Payload.TheVariants.{Token};
 ghost use Rattle.id_tag.specs.declared.Sender.TheVariants.{Element};
 ghost use Rattle.id_ops.specs.declared.Fired.TheVariants.{Entered};
 ghost use Rattle.id_graph.specs.Graph.{arcs_on};
 ghost use Rattle.id_ops.specs.Operators.{side_of};
-ghost use Rattle.id_record.specs.Sends.{HasSecond, beside, count_started, moved_to, sent, started, token_to};
+ghost use Rattle.id_record.specs.Sends.{HasSecond, beside, count_started, moved_to, replies, sent, started};
+ghost use Rattle.id_record.specs.Sends.{token_to};
 
 use id_graph::{Dest, Instr, Op, Port};
 use id_ops::{Fired, tag_within};
@@ -22,51 +23,58 @@ pub struct Envelope {
     pub stamp: u64,
 }
 
-/// The messages that an event sent, in the order of their numbers. Each is made when it is asked for,
-/// from what the instruction fired.
+/// The messages that an event sent, in the order of their numbers: what was fired, and then a value to replies. Each is
+/// made when it is asked for.
 #[derive(Drop)]
 pub struct Outputs<'a> {
     op: Option<Op>,
     dests: &'a [Dest],
     tag: Tag,
     fired: Fired,
+    value: Value,
+    readers: &'a [Tag],
     envelope: Envelope,
 }
 
 impl<'a> Model for Outputs<'a> {
-    ghost use Rattle.std.specs.Prelude.{List};
+    ghost use Rattle.std.specs.Prelude.{List, ◌++◌};
     ghost use Rattle.id_tag.specs.declared.Message.{Message};
-    ghost use Rattle.id_record.specs.Sends.{HasSecond, numbered, sent};
+    ghost use Rattle.id_record.specs.Sends.{HasSecond, numbered, replies, sent};
 
     ghost Value = { List Message };
 
     ghost view = { λ o. numbered o.envelope.number o.envelope.position o.envelope.stamp 0
-        (sent o.op o.dests.now o.tag o.fired) };
+        (sent o.op o.dests.now o.tag o.fired ++ replies o.value o.readers.now) };
 
     ghost invariant = { λ o. HasSecond o.op };
 }
 
 impl<'a> Outputs<'a> {
-    ghost use Rattle.std.specs.Prelude.{◌≡◌, ◌<◌, ◌==◌, length, slice_get, Some};
-    ghost use Rattle.id_record.specs.Sends.{HasSecond, numbered, sent};
+    ghost use Rattle.std.specs.Prelude.{◌≡◌, ◌<◌, ◌==◌, ◌++◌, length, slice_get, Some};
+    ghost use Rattle.id_record.specs.Sends.{HasSecond, numbered, replies, sent};
 
-    /// What is sent where the operator of an instruction fires under this tag, with these
-    /// destinations on the side of the firing. Takes no memory.
+    /// What is sent where the operator of an instruction fires under this tag, with these destinations on the side of
+    /// the firing, and the value goes to these replies. Takes no memory.
     pub fn new(
         op: Option<Op>,
         dests: &'a [Dest],
         tag: Tag,
         fired: Fired,
+        value: Value,
+        readers: &'a [Tag],
         envelope: Envelope,
     ) -> Outputs<'a>
         requires { HasSecond op }
-        ensures { result ≡ numbered envelope.number envelope.position envelope.stamp 0 (sent op dests.now tag fired) }
+        ensures { result ≡ numbered envelope.number envelope.position envelope.stamp 0
+            (sent op dests.now tag fired ++ replies value readers.now) }
     {
         Outputs {
             op,
             dests,
             tag,
             fired,
+            value,
+            readers,
             envelope,
         }
     }
@@ -75,12 +83,7 @@ impl<'a> Outputs<'a> {
     pub fn len(&self) -> usize
         ensures { result ≡ length self.now }
     {
-        match self.fired {
-            Fired::Out(_) | Fired::Side(..) | Fired::Moved(..) => self.dests.len(),
-            Fired::Entered(_) => self.dests.len() + count_started(self.op),
-            Fired::Sent(..) => 1,
-            Fired::Failed(_) | Fired::Nothing => 0,
-        }
+        count_sent(self.op, self.dests, self.tag, self.fired) + self.readers.len()
     }
 
     /// Whether there is none. Takes no memory.
@@ -95,11 +98,25 @@ impl<'a> Outputs<'a> {
         requires { number < length self.now }
         ensures { slice_get self.now number ≡ Some result }
     {
-        message(
-            self.envelope,
-            number,
-            payload(self.op, self.dests, self.tag, self.fired, number),
-        )
+        let fired = count_sent(self.op, self.dests, self.tag, self.fired);
+        let said = if number < fired {
+            payload(self.op, self.dests, self.tag, self.fired, number)
+        } else {
+            reply(self.readers, self.value, number - fired)
+        };
+        message(self.envelope, number, said)
+    }
+}
+
+/// How many messages are sent where the operator fires.
+fn count_sent(op: Option<Op>, dests: &[Dest], tag: Tag, fired: Fired) -> usize
+    ensures { result ≡ length (sent op dests.now tag fired) }
+{
+    match fired {
+        Fired::Out(_) | Fired::Side(..) | Fired::Moved(..) => dests.len(),
+        Fired::Entered(_) => dests.len() + count_started(op),
+        Fired::Sent(..) | Fired::Asked { .. } | Fired::Stored { .. } => 1,
+        Fired::Failed(_) | Fired::Nothing => 0,
     }
 }
 
@@ -124,6 +141,16 @@ fn payload(op: Option<Op>, dests: &[Dest], tag: Tag, fired: Fired, number: usize
         Fired::Moved(iteration, value) => going_out(dests, moved_to(tag, iteration), value, number),
         Fired::Entered(context) => entering(op, dests, tag, context, number),
         Fired::Sent(target, value) => token_at(target, value),
+        Fired::Asked { cell, reply } => Payload::Read { cell, reply },
+        Fired::Stored {
+            cell,
+            value,
+            origin,
+        } => Payload::Write {
+            cell,
+            value,
+            origin,
+        },
         Fired::Failed(_) | Fired::Nothing => unreachable!(),
     }
 }
@@ -196,8 +223,16 @@ pub fn moved_to(tag: Tag, iteration: u64) -> Tag
     Tag { iteration, ..tag }
 }
 
+/// What the message of this number says, of those that bring a value to replies.
+fn reply(readers: &[Tag], value: Value, number: usize) -> Payload
+    requires { number < length readers.now }
+    ensures { slice_get (replies value readers.now) number ≡ Some result }
+{
+    token_at(readers[number], value)
+}
+
 /// A token with this value for port 0 of a tag.
-fn token_at(tag: Tag, value: Value) -> Payload
+pub fn token_at(tag: Tag, value: Value) -> Payload
     ensures { result ≡ Token tag Zero value }
 {
     Payload::Token {

@@ -3,9 +3,9 @@
 use crate::graphs::countdown;
 use crate::rows::{Expected, deliver, is_traced};
 use id_core::{Machine, takes_inputs};
-use id_graph::list;
+use id_graph::{Constant, list};
 use id_list::Sequence;
-use id_meaning::{Inputs, SourceValue};
+use id_meaning::Inputs;
 use id_print::{is_within, run_report, write_report};
 use id_valid::Valid;
 use std::alloc::{AllocError, Global};
@@ -55,7 +55,7 @@ fn the_loop_is_listed(rt: HostRuntime) -> Result<(), Fail> {
 /// The machine of one element at its start, where `n` is 1.
 fn counting<'a>(rt: &impl Abort, alloc: Global, graph: &'a Valid) -> Result<Machine<'a>, Fail> {
     let mut values = Vec::new(alloc);
-    values.push(SourceValue::Int(1))?;
+    values.push(Constant::Int(1))?;
     let inputs = Inputs {
         values: Sequence::new(values),
     };

@@ -3,13 +3,14 @@
 ghost use Rattle.std.specs.Prelude.{◌≡◌};
 
 use crate::graphs::{block, call, called_blocks, either, seven, sum_and_product};
+use id_bank::{Bank, Filled, ReadAnswer, Reader, WriteAnswer};
 use id_core::{Element, Machine, MachineError, Step, TakeError, fits, merge_records, takes_inputs};
 use id_graph::{Block, Constant, Graph, GraphCause, Instr, Op, Port, PortKind};
 use id_list::Sequence;
 use id_match::{Entry, Offered, Waiting};
 use id_meaning::{Inputs, SourceValue};
 use id_print::{Sink, SinkFault, write_trace};
-use id_tag::{Context, Message, Payload, Sender, Tag, Value, route};
+use id_tag::{Cell, Context, Message, Payload, Sender, Structure, Tag, Value, route};
 use id_valid::{InvalidCause, Valid, validate};
 use std::alloc::{AllocError, Global};
 use std::process::Abort;
@@ -55,6 +56,80 @@ fn offers_are_kept_taken_and_paired(rt: HostRuntime) -> Result<(), Fail> {
     let mut waiting = Waiting::new(rt.alloc());
     let answered = are_answered(rt.alloc(), &mut waiting)?;
     assert!(rt; answered);
+    Ok(())
+}
+
+/// Cell 1 of a structure with the bounds 1 and 3.
+fn first_cell() -> Cell {
+    Cell {
+        structure: Structure {
+            element: 0,
+            serial: 1,
+            low: 1,
+            high: 3,
+        },
+        index: 1,
+    }
+}
+
+/// Whether instructions 5 and 6 wait for the cell, in this order.
+fn are_two_readers(readers: &[Reader]) -> bool {
+    match readers {
+        [first, second] => {
+            first.cell == first_cell() && first.reply == main_tag(5) && second.reply == main_tag(6)
+        }
+        _ => false,
+    }
+}
+
+/// Whether the cell alone is listed, with the 5 of instruction 7.
+fn is_five(cells: &[Filled]) -> bool {
+    match cells {
+        [filled] => {
+            filled.cell == first_cell()
+                && filled.value == Value::Int(5)
+                && filled.origin == main_tag(7)
+        }
+        _ => false,
+    }
+}
+
+/// Whether the write is for two replies.
+fn is_for_two(answer: WriteAnswer) -> bool {
+    match answer {
+        WriteAnswer::Readers(replies) => replies.len() == 2,
+        WriteAnswer::Second(_) => false,
+    }
+}
+
+/// Whether two reads before the write have the answers of the row.
+fn are_put_off(alloc: Global, bank: &mut Bank) -> Result<bool, AllocError> {
+    let cell = first_cell();
+    let first = bank.read(cell, main_tag(5))?;
+    let second = bank.read(cell, main_tag(6))?;
+    let late = matches!(first, ReadAnswer::Deferred) && matches!(second, ReadAnswer::Deferred);
+    let waiting = bank.deferred(alloc)?;
+    Ok(late && bank.readers(cell) == 2 && are_two_readers(waiting.as_slice()))
+}
+
+/// Whether the write, and what comes after it, have the answers of the row.
+fn is_kept(alloc: Global, bank: &mut Bank) -> Result<bool, AllocError> {
+    let cell = first_cell();
+    let filled = is_for_two(bank.write(cell, Value::Int(5), main_tag(7))?);
+    let read = bank.read(cell, main_tag(8))?;
+    let now = matches!(read, ReadAnswer::Now(Value::Int(5))) && bank.readers(cell) == 0;
+    let again = bank.write(cell, Value::Int(5), main_tag(9))?;
+    let second = matches!(again, WriteAnswer::Second(first) if first == main_tag(7));
+    let cells = bank.cells(alloc)?;
+    Ok(filled && now && second && is_five(cells.as_slice()))
+}
+
+#[test]
+fn a_cell_is_stored_into_once_and_may_be_read_before(rt: HostRuntime) -> Result<(), Fail> {
+    let mut bank = Bank::new(rt.alloc());
+    let late = are_put_off(rt.alloc(), &mut bank)?;
+    let kept = is_kept(rt.alloc(), &mut bank)?;
+    assert!(rt; late && kept);
     Ok(())
 }
 

@@ -13,6 +13,9 @@ use Rattle.id_tag.specs.declared.Context.{Context}
 use Rattle.id_tag.specs.declared.Tag.{Tag}
 use Rattle.id_tag.specs.declared.Value.TheVariants as value
 use Rattle.id_tag.specs.declared.Payload.{Payload}
+use Rattle.id_tag.specs.declared.Payload.TheVariants.{Token}
+use Rattle.id_tag.specs.declared.Value.{Value}
+use Rattle.id_graph.specs.declared.dests.Port.{Port}
 use Rattle.id_tag.specs.declared.Message.{Message}
 use Rattle.id_tag.specs.Tags.{same_context}
 use Rattle.id_tag.proofs.TagsLemmas.{one_from_same_tag, same_tag_laws}
@@ -30,13 +33,13 @@ use Rattle.id_core.specs.Machines.{World}
 use Rattle.id_core.specs.Observed.{events_of}
 use Rattle.id_observe.specs.Paths.{last_context, entered_by, entered, if_same, enter_of, enter_in}
 use Rattle.id_observe.proofs.PathsLemmas.{enter_in-is, enter_in-nothing}
-use Rattle.id_meaning.specs.declared.SourceValue.{SourceValue}
+use Rattle.id_value.specs.declared.Constant.{Constant}
 use Rattle.id_list.specs.List.{Among, AllDiffer}
 use Rattle.id_list.proofs.AmongLemmas.{Among-map}
 use Rattle.id_list.proofs.DifferLemmas.{AllDiffer-few}
 use Rattle.id_list.proofs.PlacesLemmas.{slice_get-last}
 use Rattle.id_runs.specs.Activations.{main_context}
-use Rattle.id_runs.specs.Events.{Waits, Blocked, Fires, Event, Took, FiresAs, fired_event, sent_on, Enters}
+use Rattle.id_runs.specs.Events.{Waits, Blocked, Fires, Event, Took, Looked, Wrote, FiresAs, fired_event, sent_on, Enters}
 use Rattle.id_runs.specs.Runs.{Reach}
 use Rattle.id_runs.specs.Serials.{ContextsApart}
 use Rattle.id_runs.proofs.Enters as firing
@@ -106,6 +109,10 @@ nothing_sent (Some (op.Enter b r)) ms e = e
 nothing_sent (Some (op.Send k n)) ms e = refl
 nothing_sent (Some (op.Next k)) ms e = refl
 nothing_sent (Some (op.Reset k)) ms e = refl
+nothing_sent (Some op.Alloc) ms e = refl
+nothing_sent (Some op.Address) ms e = refl
+nothing_sent (Some (op.Fetch r)) ms e = refl
+nothing_sent (Some op.Store) ms e = refl
 
 -- an `enter` makes a context or comes to nothing
 enter_fires : (f : Fired) (next : Context) (ops : Operands) → f ≡ fired_enter next ops → (f ≡ fires.Nothing) ⊎ (f ≡ fires.Entered next)
@@ -125,6 +132,10 @@ op_fires f (op.Enter b r) t ops fresh ms e = inr (enter_fires f fresh.context op
 op_fires f (op.Send k n) t ops fresh ms e = inl refl
 op_fires f (op.Next k) t ops fresh ms e = inl refl
 op_fires f (op.Reset k) t ops fresh ms e = inl refl
+op_fires f op.Alloc t ops fresh ms e = inl refl
+op_fires f op.Address t ops fresh ms e = inl refl
+op_fires f (op.Fetch r) t ops fresh ms e = inl refl
+op_fires f op.Store t ops fresh ms e = inl refl
 
 -- an event of the run has entered the context
 pub record WasEntered (run : List Event) (o : Option Context) : Type 0 where
@@ -133,7 +144,7 @@ pub record WasEntered (run : List Event) (o : Option Context) : Type 0 where
   pub tag : Tag
   pub fires : FiresAs run tag (fires.Entered context)
 
-module _ (g : Parts) (vs : List SourceValue) (count : ℕ) (s : World) (run : List Event) (r : Reach g vs count s run) where
+module _ (g : Parts) (vs : List Constant) (count : ℕ) (s : World) (run : List Event) (r : Reach g vs count s run) where
   abbrev all : List EventView
   all = events_of s.elements
 
@@ -148,7 +159,7 @@ module _ (g : Parts) (vs : List SourceValue) (count : ℕ) (s : World) (run : Li
       let e = firing.entered_by (y.instr).op t x.operands y.fresh d (sym y.is) in
       let op_is : op_at g t.instr ≡ Some (op.Enter e.block e.reply) = ap (option_map (λ (i : Instr). i.op)) y.at ∙ ap (λ o. Some o) e.is in
       let ds = dests_at g t.instr true in
-      ap (λ z. entered_by (op_at g (tag_of z).instr) v.outputs) shows.payload
+      ap (λ z. entered g z v.outputs) shows.payload
       ∙ ap (λ o. entered_by o v.outputs) op_is
       ∙ last_said v.outputs
       ∙ ap last_of shows.outputs
@@ -163,26 +174,29 @@ module _ (g : Parts) (vs : List SourceValue) (count : ℕ) (s : World) (run : Li
   said_itself : {t : Tag} {c : Context} (x : FiresAs run t (fires.Entered c)) (v : EventView) → Shows g v (fired_event x) → enter_of g v c ≡ Some t
   said_itself {t} {c} x v shows = tag_said x v shows c ∙ ap (λ b. cond b (Some t) None) (same_itself c)
 
-  silent : (v : EventView) (c : Context) → map (λ (m : Message). m.payload) v.outputs ≡ [] → enter_of g v c ≡ None
-  silent v c e =
-      let x = v.message.payload in
-      ap (if_same (tag_of x) c) (nothing_sent (op_at g (tag_of x).instr) v.outputs (last_said v.outputs ∙ ap last_of e))
+  silent : (v : EventView) (t : Tag) (p : Port) (u : Value) (c : Context) → v.message.payload ≡ Token t p u → map (λ (m : Message). m.payload) v.outputs ≡ []
+      → enter_of g v c ≡ None
+  silent v t p u c is e =
+      ap (λ x. if_same (tag_of x) c (entered g x v.outputs)) is
+      ∙ ap (if_same t c) (nothing_sent (op_at g t.instr) v.outputs (last_said v.outputs ∙ ap last_of e))
 
   -- an event that has not entered the context does not say so
   said_none : (v : EventView) (h : Event) → Among h run → Shows g v h → (c : Context) → (enter_of g v c ≡ None) ⊎ Enters h c
-  said_none v (Took n t p u Waits) among shows c = inl (silent v c shows.outputs)
-  said_none v (Took n t p u Blocked) among shows c = inl (silent v c shows.outputs)
+  said_none v (Looked n d t a) among shows c = inl (ap (λ x. if_same (tag_of x) c (entered g x v.outputs)) shows.payload)
+  said_none v (Wrote n d u w a) among shows c = inl (ap (λ x. if_same (tag_of x) c (entered g x v.outputs)) shows.payload)
+  said_none v (Took n t p u Waits) among shows c = inl (silent v t p u c shows.payload shows.outputs)
+  said_none v (Took n t p u Blocked) among shows c = inl (silent v t p u c shows.payload shows.outputs)
   said_none v (Took n t p u (Fires ops f)) among shows c =
       let x : FiresAs run t f = record { element = n; port = p; value = u; operands = ops; among = among } in
       let y = has_fired g vs count s run r x in
       elim (op_fires f (y.instr).op t ops y.fresh v.outputs y.is) [
         | inl none ↦
             inl (
-            (λ i. if_same (tag_of (shows.payload i)) c (entered_by (op_at g (tag_of (shows.payload i)).instr) v.outputs))
+            ap (λ x. if_same (tag_of x) c (entered g x v.outputs)) shows.payload
             ∙ ap (λ o. if_same t c (entered_by (option_map (λ (i : Instr). i.op) o) v.outputs)) y.at
             ∙ ap (if_same t c) none
             )
-        | inr (inl nothing) ↦ inl (silent v c (shows.outputs ∙ ap (λ z. sent_on (op_at g t.instr) (dests_at g t.instr) t (Fires ops z)) nothing))
+        | inr (inl nothing) ↦ inl (silent v t p u c shows.payload (shows.outputs ∙ ap (λ z. sent_on (op_at g t.instr) (dests_at g t.instr) t (Fires ops z)) nothing))
         | inr (inr is) ↦ made (y.fresh).context is
       ]
     where

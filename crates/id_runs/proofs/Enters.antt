@@ -1,5 +1,7 @@
 -- An `enter` alone makes a context.
-use Rattle.std.proofs.Common.{◌≡◌, ℕ, ◌+◌, Bool as Truth, true, false, cond, refl}
+use Rattle.std.proofs.Common.{◌≡◌, ℕ, ℤ, ◌+◌, Bool as Truth, true, false, cond, refl}
+use Rattle.id_value.specs.declared.FaultKind.TheVariants.{BadBounds, OutOfBounds}
+use Rattle.id_value.specs.Bounds.{are_good, is_inside}
 use Rattle.id_value.specs.declared.Outcome.{Outcome}
 use Rattle.id_value.specs.declared.Outcome.TheVariants.{Gives, Fails, Lacks}
 use Rattle.id_value.specs.declared.Constant.TheVariants as constants
@@ -10,12 +12,13 @@ use Rattle.id_graph.specs.declared.instr.Op.TheVariants as op
 use Rattle.id_tag.specs.Kinds.{kind_of, same_kind}
 use Rattle.id_tag.specs.declared.Context.{Context}
 use Rattle.id_tag.specs.declared.Tag.{Tag}
+use Rattle.id_tag.specs.declared.Structure.{Structure}
 use Rattle.id_tag.specs.declared.Value.{Value}
-use Rattle.id_tag.specs.declared.Value.TheVariants.{Signal, Int, Bool, Context as Opened, Continuation}
+use Rattle.id_tag.specs.declared.Value.TheVariants.{Signal, Int, Bool, Structure as Made, Address as At, Context as Opened, Continuation}
 use Rattle.id_ops.specs.declared.Operands.{Operands}
 use Rattle.id_ops.specs.declared.Operands.TheVariants.{One as Alone, Two}
 use Rattle.id_ops.specs.declared.Fresh.{Fresh}
-use Rattle.id_ops.specs.declared.Fired.TheVariants.{Out, Side, Moved, Entered, Sent, Nothing}
+use Rattle.id_ops.specs.declared.Fired.TheVariants.{Out, Side, Moved, Entered, Sent, Failed, Nothing}
 use Rattle.id_ops.specs.Operators.{fired, fired_by, tag_within}
 
 merge_enters : (v : Value) (b : Truth) (c : Context) → cond b (Out v) Nothing ≡ Entered c → ⊥
@@ -33,6 +36,15 @@ moved_enters i v false c h = cc
 sent_enters : (u : Tag) (v : Value) (b : Truth) (c : Context) → cond b (Sent u v) Nothing ≡ Entered c → ⊥
 sent_enters u v true c h = cc
 sent_enters u v false c h = cc
+
+bounds_enter : (f : Fresh) (lo hi : ℤ) (b : Truth) (c : Context)
+    → cond b (Out (Made (record { element = f.element; serial = f.structure; low = lo; high = hi }))) (Failed BadBounds) ≡ Entered c → ⊥
+bounds_enter f lo hi true c h = cc
+bounds_enter f lo hi false c h = cc
+
+index_enters : (s : Structure) (i : ℤ) (b : Truth) (c : Context) → cond b (Out (At (record { structure = s; index = i }))) (Failed OutOfBounds) ≡ Entered c → ⊥
+index_enters s i true c h = cc
+index_enters s i false c h = cc
 
 result_enters : (y : Outcome) (c : Context) → fired_by y ≡ Entered c → ⊥
 result_enters (Gives k) c h = cc
@@ -68,3 +80,11 @@ entered_by (op.Next k) t (Alone v) f c h = absurd (moved_enters (t.iteration + 1
 entered_by (op.Next k) t (Two v x) f c h = cc
 entered_by (op.Reset k) t (Alone v) f c h = absurd (moved_enters 0 v (same_kind (kind_of v) k) c h)
 entered_by (op.Reset k) t (Two v x) f c h = cc
+entered_by op.Alloc t (Two (Int a) (Int b)) f c h = absurd (bounds_enter f a b (are_good a b) c h)
+entered_by op.Alloc t _ f c h = cc
+entered_by op.Address t (Two (Made s) (Int i)) f c h = absurd (index_enters s i (is_inside s.low s.high i) c h)
+entered_by op.Address t _ f c h = cc
+entered_by (op.Fetch r) t (Alone (At d)) f c h = cc
+entered_by (op.Fetch r) t _ f c h = cc
+entered_by op.Store t (Two (At d) (Int n)) f c h = cc
+entered_by op.Store t _ f c h = cc

@@ -5,7 +5,7 @@ use Rattle.id_graph.specs.Graph.{Parts}
 use Rattle.id_tag.specs.declared.Payload.{Payload}
 use Rattle.id_tag.specs.Routes.{route_of}
 use Rattle.id_core.specs.Machines.{World}
-use Rattle.id_meaning.specs.declared.SourceValue.{SourceValue}
+use Rattle.id_value.specs.declared.Constant.{Constant}
 use Rattle.id_list.specs.List.{Among}
 use Rattle.id_list.proofs.AmongLemmas.{Among-either}
 use Rattle.id_list.proofs.PlacesLemmas.{Among-from_remove}
@@ -14,12 +14,12 @@ use Rattle.id_runs.specs.Runs.{happens, Reach, begin, deliver, handled, flying, 
 use Rattle.id_runs.proofs.Messages.{flying_after, was_flying}
 
 -- each event of a run sends what Q holds of, where Q holds of what was handled up to then; `happened` is what is known of the events of the finished run
-abbrev pub Passes : Parts → List SourceValue → ℕ → (Event → Type 0) → (Payload → Type 0) → Type 0
+abbrev pub Passes : Parts → List Constant → ℕ → (Event → Type 0) → (Payload → Type 0) → Type 0
 Passes g vs count happened Q =
     (s : World) (run : List Event) → Reach g vs count s run → (e : Event) → Among e run → ((h : Event) → Among h run → happened h)
     → ((x : Payload) → Among x (handled run) → Q x) → (x : Payload) → Among x (sends_of g e) → Q x
 
-module _ (g : Parts) (vs : List SourceValue) (count : ℕ) (happened : Event → Type 0) (Q : Payload → Type 0) (starts : (x : Payload) → Among x (starting g vs) → Q x) (passes : Passes g vs count happened Q) where
+module _ (g : Parts) (vs : List Constant) (count : ℕ) (happened : Event → Type 0) (Q : Payload → Type 0) (starts : (x : Payload) → Among x (starting g vs) → Q x) (passes : Passes g vs count happened Q) where
   -- Q holds of what is in flight and of what was handled
   pub every_message : (s : World) (run : List Event) → Reach g vs count s run → ((e : Event) → Among e run → happened e) → (x : Payload) → Moving s run x → Q x
   every_message s run begin known x (inl h) = starts x h

@@ -10,7 +10,8 @@ use Rattle.id_tag.specs.declared.Value.TheVariants as value
 use Rattle.id_valid.specs.Roles.{op_at}
 use Rattle.id_record.specs.Sends.{started}
 use Rattle.id_tag.specs.declared.Payload.{Payload}
-use Rattle.id_tag.specs.declared.Payload.TheVariants.{Token}
+use Rattle.id_tag.specs.declared.Payload.TheVariants.{Token, Read, Write}
+use Rattle.id_tag.specs.declared.Cell.{Cell}
 use Rattle.id_ops.specs.declared.Fired.{Fired}
 use Rattle.id_ops.specs.declared.Fired.TheVariants as fires
 use Rattle.id_record.specs.Records.{dests_at, sent_by}
@@ -20,12 +21,14 @@ use Rattle.id_list.proofs.AmongLemmas.{Among-either, Among-left, Among-map, Amon
 use Rattle.id_runs.specs.Events.{Event, FiresAs, fired_event, FiresOnce, GivesOn}
 
 -- how a firing under the tag sends the message: along an arc from the side on which it gives the value, along an arc at
--- the iteration to which it moves the value, to a tag, or to start the block that it enters
+-- the iteration to which it moves the value, to a tag, to start the block that it enters, or to a cell as a read or a write
 pub data SentAs (g : Parts) (t : Tag) (f : Fired) (x : Payload) : Type 0 where
   along : (b : Bool) (v : Value) (d : Dest) → GivesOn f b v → Among d (dests_at g t.instr b) → x ≡ token_to t v d → SentAs g t f x
   moving : (i : ℕ) (v : Value) (d : Dest) → f ≡ fires.Moved i v → Among d (dests_at g t.instr true) → x ≡ token_to (moved_to t i) v d → SentAs g t f x
   to_tag : (u : Tag) (v : Value) → f ≡ fires.Sent u v → x ≡ Token u Zero v → SentAs g t f x
   to_start : (c : Context) → f ≡ fires.Entered c → Among x (started (op_at g t.instr) t c) → SentAs g t f x
+  reading : (c : Cell) (u : Tag) → f ≡ fires.Asked c u → x ≡ Read c u → SentAs g t f x
+  writing : (c : Cell) (v : Value) (u : Tag) → f ≡ fires.Stored c v u → x ≡ Write c v u → SentAs g t f x
 
 along_side : (g : Parts) (t : Tag) (f : Fired) (x : Payload) (b : Bool) (v : Value) → GivesOn f b v
     → Among x (map (token_to t v) (dests_at g t.instr b)) → SentAs g t f x
@@ -46,6 +49,8 @@ sent_as g t (fires.Entered c) x h =
       | inr a ↦ to_start c refl a
     ]
 sent_as g t (fires.Sent u v) x h = to_tag u v refl (Among-one x (Token u Zero v) h)
+sent_as g t (fires.Asked c u) x h = reading c u refl (Among-one x (Read c u) h)
+sent_as g t (fires.Stored c v u) x h = writing c v u refl (Among-one x (Write c v u) h)
 sent_as g t (fires.Failed k) x h = absurd h
 sent_as g t fires.Nothing x h = absurd h
 
@@ -64,6 +69,8 @@ gives_sent g t (fires.Moved i w) b v d gives h = absurd gives
 gives_sent g t (fires.Entered c) b v d gives h =
     Among-left (token_to t v d) (map (token_to t (value.Context c)) (dests_at g t.instr true)) (started (op_at g t.instr) t c) (to_each g t b true v (value.Context c) d gives.0 gives.1 h)
 gives_sent g t (fires.Sent u w) b v d gives h = absurd gives
+gives_sent g t (fires.Asked c u) b v d gives h = absurd gives
+gives_sent g t (fires.Stored c w u) b v d gives h = absurd gives
 gives_sent g t (fires.Failed k) b v d gives h = absurd gives
 gives_sent g t fires.Nothing b v d gives h = absurd gives
 
@@ -79,6 +86,8 @@ gives_one (fires.Side a u) b c v w x y = (x.0 ∙ sym y.0, x.1 ∙ sym y.1)
 gives_one (fires.Moved i u) b c v w x y = absurd x
 gives_one (fires.Entered k) b c v w x y = (x.0 ∙ sym y.0, x.1 ∙ sym y.1)
 gives_one (fires.Sent t u) b c v w x y = absurd x
+gives_one (fires.Asked d u) b c v w x y = absurd x
+gives_one (fires.Stored d z u) b c v w x y = absurd x
 gives_one (fires.Failed k) b c v w x y = absurd x
 gives_one fires.Nothing b c v w x y = absurd x
 

@@ -11,11 +11,11 @@ use Rattle.id_match.specs.Ports.{same_port}
 use Rattle.id_list.specs.List.{Among}
 use Rattle.id_list.proofs.AmongLemmas.{Among-map}
 use Rattle.id_runs.specs.Events.{Event, payload_of}
-use Rattle.id_runs.specs.Keys.{Key, AtPort, key_of, same_key}
+use Rattle.id_runs.specs.Keys.{Key, AtPort, ByFetch, ByStore, key_of, same_key}
 use Rattle.id_runs.specs.Runs.{handled}
 use Rattle.id_runs.specs.OneMessage.{count_for}
 
-both_true : (a b : Bool) → (a && b) ≡ true → (a ≡ true) × (b ≡ true)
+pub both_true : (a b : Bool) → (a && b) ≡ true → (a ≡ true) × (b ≡ true)
 both_true true b e = (refl, e)
 both_true false b e = cc
 
@@ -36,9 +36,19 @@ one_key (AtPort t p) (AtPort u q) e =
     let tag_is = one_from_same_tag t u both.0 in
     let port_is = one_port p q both.1 in
     (λ i. AtPort (tag_is i) (port_is i))
+one_key (ByFetch t) (ByFetch u) e = ap ByFetch (one_from_same_tag t u e)
+one_key (ByStore t) (ByStore u) e = ap ByStore (one_from_same_tag t u e)
+one_key (AtPort t p) (ByFetch u) e = cc
+one_key (AtPort t p) (ByStore u) e = cc
+one_key (ByFetch t) (AtPort u q) e = cc
+one_key (ByFetch t) (ByStore u) e = cc
+one_key (ByStore t) (AtPort u q) e = cc
+one_key (ByStore t) (ByFetch u) e = cc
 
 pub key_itself : (k : Key) → same_key k k ≡ true
 key_itself (AtPort t p) = (λ i. same_tag_laws.refl t i && same_port p p) ∙ port_itself p
+key_itself (ByFetch t) = same_tag_laws.refl t
+key_itself (ByStore t) = same_tag_laws.refl t
 
 -- 1 where the message has the key, and else 0
 abbrev pub hit : Key → Payload → ℕ

@@ -1,7 +1,11 @@
 pub mod Events
 pub mod Runs
 pub mod Keys
+pub mod Touching
+pub mod Cells
+pub mod CellLaws
 pub mod Messages
+pub mod Answered
 pub mod Waiting
 pub mod OneMessage
 pub mod SentOnce
@@ -12,4 +16,7 @@ pub mod RecordsOfRuns
 pub mod Suited
 pub mod Serials
 pub mod Enters
+pub mod Asks
 pub mod Entered
+pub mod Made
+pub mod Banks

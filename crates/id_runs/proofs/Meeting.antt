@@ -16,13 +16,13 @@ use Rattle.id_ops.specs.declared.Operands.TheVariants as operands
 use Rattle.id_ops.specs.Operators.{fired}
 use Rattle.id_core.specs.Steps.{State}
 use Rattle.id_core.specs.Machines.{World}
-use Rattle.id_meaning.specs.declared.SourceValue.{SourceValue}
+use Rattle.id_value.specs.declared.Constant.{Constant}
 use Rattle.id_list.specs.List.{Among}
 use Rattle.id_runs.specs.Events.{Arrival, Waits, Blocked, Fires, Event, Took, payload_of, FiresAs}
 use Rattle.id_runs.specs.Keys.{AtPort}
 use Rattle.id_runs.specs.Runs.{fires_on, Reach, begin, deliver, handled, flying}
 use Rattle.id_runs.specs.OneMessage.{Exclusive}
-use Rattle.id_runs.proofs.Events.{half, operands_by, Effect, nowhere, alone as fires_alone, first, meets, again, taking}
+use Rattle.id_runs.proofs.Events.{half, operands_by, Effect, nowhere, alone as fires_alone, first, meets, again, handling, taken, took_token, payload_of-happens}
 use Rattle.id_runs.proofs.Keys.{counts, one_message}
 use Rattle.id_runs.proofs.Messages.{was_flying}
 use Rattle.id_runs.proofs.Waiting.{waited, waited_handled, OperandsHandled, one_handled, two_handled, HasFired, has_fired, FiredOn, FiredWith, BlockedAt, Settled, settled}
@@ -49,13 +49,13 @@ fired_later ops e f =
     record { fresh = f.fresh; at = f.at; fires = record { element = x.element; port = x.port; value = x.value; operands = x.operands; among = inr x.among }; operands_are = f.operands_are }
 
 -- a token for an operator of one port fires it
-pub alone : (g : Parts) (vs : List SourceValue) (count : ℕ) (s : World) (run : List Event) → Reach g vs count s run
+pub alone : (g : Parts) (vs : List Constant) (count : ℕ) (s : World) (run : List Event) → Reach g vs count s run
     → (t : Tag) (p : Port) (v : Value) (i : Instr)
     → slice_get g.instrs t.instr ≡ Some i → two_ports i.op ≡ false → Among (Token t p v) (handled run) → FiredOn g run t i (operands.One v)
 alone g vs count s run begin t p v i at b h = absurd h
 alone g vs count s run (deliver {s = s₀} {run = run₀} k m e r f q) t p v i at b (inl is) =
     let n = route_of m.payload count in
-    let new = taking g n e m.payload in
+    let new = taken (handling g n e m.payload) (sym (is ∙ payload_of-happens g n e m.payload)) in
     let same : Token t p v ≡ Token new.tag new.port new.value = is ∙ ap payload_of new.is in
     let tag_is : new.tag ≡ t = cc in
     let value_is : new.value ≡ v = cc in
@@ -82,13 +82,13 @@ blocked_waits g fresh t p v o a o' (first j z c f n q) e = let bad : Waits ≡ B
 blocked_waits g fresh t p v o a o' (meets j u z c f n q) e = let bad : fires_on fresh j t (operands_by p v u) ≡ Blocked = sym f ∙ e in cc
 blocked_waits g fresh t p v o a o' (again j u z c f n q) e = (u, n)
 
-module _ (g : Parts) (vs : List SourceValue) (count : ℕ) (only : Exclusive g vs count) where
+module _ (g : Parts) (vs : List Constant) (count : ℕ) (only : Exclusive g vs count) where
   -- no token is blocked
   pub never_blocked : (s : World) (run : List Event) → Reach g vs count s run → (n : ℕ) (t : Tag) (p : Port) (v : Value) → Among (Took n t p v Blocked) run → ⊥
   never_blocked s run begin n t p v among = absurd among
   never_blocked s run (deliver {s = s₀} {run = run₀} k m e r f q) n t p v (inl is) =
       let n₀ = route_of m.payload count in
-      let new = taking g n₀ e m.payload in
+      let new = taken (handling g n₀ e m.payload) (took_token g n₀ e m.payload n t p v Blocked is) in
       let same : Took n t p v Blocked ≡ Took n₀ new.tag new.port new.value new.arrival = is ∙ new.is in
       let blocked : new.arrival ≡ Blocked = cc in
       let w = blocked_waits g new.fresh new.tag new.port new.value _ new.arrival _ new.effect blocked in

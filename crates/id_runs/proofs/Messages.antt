@@ -3,7 +3,12 @@ use Rattle.std.proofs.Common.{◌≡◌, inl, inr, ℕ, ◌+◌, length, Some, L
 use Rattle.std.proofs.lemmas.List.{map-append}
 use Rattle.std.specs.List.{remove}
 use Rattle.id_graph.specs.Graph.{Parts}
+use Rattle.id_graph.specs.declared.dests.Port.TheVariants.{Zero}
 use Rattle.id_tag.specs.declared.Payload.{Payload}
+use Rattle.id_tag.specs.declared.Payload.TheVariants.{Token}
+use Rattle.id_tag.specs.declared.Value.{Value}
+use Rattle.id_bank.specs.declared.ReadAnswer.TheVariants.{Now, Deferred}
+use Rattle.id_bank.specs.declared.WriteAnswer.TheVariants.{Readers, Second}
 use Rattle.id_tag.specs.declared.Tag.{Tag}
 use Rattle.id_tag.specs.declared.Message.{Message}
 use Rattle.id_tag.specs.Routes.{route_of}
@@ -11,11 +16,12 @@ use Rattle.id_ops.specs.declared.Fired.{Fired}
 use Rattle.id_record.specs.Records.{sent_by}
 use Rattle.id_core.specs.Steps.{State, next_numbers, numbered, outputs_of, next_stamp, outcome}
 use Rattle.id_core.specs.Machines.{World, taken_from}
-use Rattle.id_meaning.specs.declared.SourceValue.{SourceValue}
+use Rattle.id_value.specs.declared.Constant.{Constant}
 use Rattle.id_list.specs.List.{Among}
-use Rattle.id_list.proofs.AmongLemmas.{Among-from_at, Among-left, Among-right, Among-either}
+use Rattle.id_list.proofs.AmongLemmas.{Among-from_at, Among-from_map, Among-left, Among-right, Among-either}
 use Rattle.id_list.proofs.PlacesLemmas.{Among-from_remove, taken-or-left, map-remove, slice_get-image}
-use Rattle.id_runs.specs.Events.{Waits, Blocked, Fires, Event, Took, payload_of, sends_of, FiresAs, fired_event, FiresOnce}
+use Rattle.id_runs.specs.Events.{Waits, Blocked, Fires, Event, Took, Looked, Wrote, payload_of, sends_of, FiresAs, fired_event, FiresOnce}
+use Rattle.id_runs.specs.Cells.{Replies, at_once, by_fill}
 use Rattle.id_runs.specs.Runs.{happens, Reach, begin, deliver, handled, flying, Origin, Moving}
 use Rattle.id_runs.proofs.Events.{payload_of-happens, outcome_sends}
 
@@ -28,7 +34,7 @@ numbered_payloads n position stamp k (x ∷ xs) = ap (λ ys. x ∷ ys) (numbered
 
 pub sent_payloads : (g : Parts) (n : ℕ) (e : State) (m : Message) → map said (outputs_of g n e m) ≡ sends_of g (happens g n e m.payload)
 sent_payloads g n e m =
-    numbered_payloads n (length e.events) (next_stamp e m) 0 (outcome g (next_numbers n e) e.waiting m.payload).sends ∙ outcome_sends g n e m.payload
+    numbered_payloads n (length e.events) (next_stamp e m) 0 (outcome g (next_numbers n e) e.waiting e.cells m.payload).sends ∙ outcome_sends g n e m.payload
 
 -- what is in flight after an event: what is left of before, and what the event sends
 pub flying_after : (g : Parts) (k : ℕ) (s : World) (m : Message) (n : ℕ) (e : State)
@@ -43,11 +49,11 @@ pub was_flying : (g : Parts) (k : ℕ) (s : World) (m : Message) (n : ℕ) (e : 
 was_flying g k s m n e f =
     subst (λ y. Among y (flying s)) (sym (payload_of-happens g n e m.payload)) (Among-from_at m.payload (flying s) k (slice_get-image said s.flight k m f))
 
-sent_later : {g : Parts} (vs : List SourceValue) {run : List Event} {x : Payload} (e : Event) → Origin g vs run x → Origin g vs (e ∷ run) x
+sent_later : {g : Parts} (vs : List Constant) {run : List Event} {x : Payload} (e : Event) → Origin g vs run x → Origin g vs (e ∷ run) x
 sent_later vs e (inl s) = inl s
 sent_later vs e (inr s) = inr (record { event = s.event; among = inr s.among; sends = s.sends })
 
-module _ (g : Parts) (vs : List SourceValue) (count : ℕ) where
+module _ (g : Parts) (vs : List Constant) (count : ℕ) where
   -- what is in flight or was handled was there at the start, or an event sent it
   pub origin : (s : World) (run : List Event) → Reach g vs count s run → (x : Payload) → Moving s run x → Origin g vs run x
   origin s run begin x (inl h) = inl h
@@ -94,19 +100,22 @@ module _ (g : Parts) (vs : List SourceValue) (count : ℕ) where
         | inr done ↦ done
       ]
 
--- an event that sends the message has fired
-pub record SentFrom (g : Parts) (run : List Event) (e : Event) (x : Payload) : Type 0 where
-  pub tag : Tag
-  pub fired : Fired
-  pub fires : FiresAs run tag fired
-  pub is : fired_event fires ≡ e
-  pub sends : Among x (sent_by g tag fired)
+-- how an event sends the message: it has fired, or it answers a read
+pub data SentFrom (g : Parts) (run : List Event) (e : Event) (x : Payload) : Type 0 where
+  by_firing : (t : Tag) (f : Fired) (y : FiresAs run t f) → fired_event y ≡ e → Among x (sent_by g t f) → SentFrom g run e x
+  by_answer : (t : Tag) (v : Value) → x ≡ Token t Zero v → Replies run t v e → SentFrom g run e x
 
 pub sent_from : (g : Parts) (run : List Event) (e : Event) → Among e run → (x : Payload) → Among x (sends_of g e) → SentFrom g run e x
 sent_from g run (Took n t p v Waits) among x out = absurd out
 sent_from g run (Took n t p v Blocked) among x out = absurd out
-sent_from g run (Took n t p v (Fires ops f)) among x out =
-    record { tag = t; fired = f; fires = record { element = n; port = p; value = v; operands = ops; among = among }; is = refl; sends = out }
+sent_from g run (Took n t p v (Fires ops f)) among x out = by_firing t f (record { element = n; port = p; value = v; operands = ops; among = among }) refl out
+sent_from g run (Looked n c t (Now v)) among x (inl is) = by_answer t v is (at_once n c among)
+sent_from g run (Looked n c t (Now v)) among x (inr none) = absurd none
+sent_from g run (Looked n c t Deferred) among x out = absurd out
+sent_from g run (Wrote n c v w (Readers ts)) among x out =
+    let t = Among-from_map (λ u. Token u Zero v) x ts out in
+    by_answer t.0 v t.2 (by_fill n c w ts among t.1)
+sent_from g run (Wrote n c v w (Second u)) among x out = absurd out
 
 -- two firings under equal tags are one event
 pub one_firing : {run : List Event} {t t' : Tag} {f f' : Fired} → FiresOnce run → t ≡ t' → (x : FiresAs run t f) (y : FiresAs run t' f')

@@ -13,7 +13,7 @@ use Rattle.id_match.specs.Ports.{other_port}
 use Rattle.id_ops.specs.declared.Fired.{Fired}
 use Rattle.id_core.specs.Steps.{State}
 use Rattle.id_core.specs.Machines.{World, taken_from}
-use Rattle.id_meaning.specs.declared.SourceValue.{SourceValue}
+use Rattle.id_value.specs.declared.Constant.{Constant}
 use Rattle.id_list.specs.List.{Among}
 use Rattle.id_list.proofs.AmongLemmas.{Among-map}
 use Rattle.id_list.proofs.PlacesLemmas.{slice_get-image}
@@ -37,7 +37,7 @@ none zero zero f g = refl
 none (suc a) b f g = absurd (f (omega arith))
 none zero (suc b) f g = absurd (g (omega arith))
 
-module _ (g : Parts) (vs : List SourceValue) (count : ℕ) (only : Exclusive g vs count) where
+module _ (g : Parts) (vs : List Constant) (count : ℕ) (only : Exclusive g vs count) where
   -- where what was handled has each key at most once, each tag has fired once
   pub fires_once : (s : World) (run : List Event) → Reach g vs count s run → Few run → FiresOnce run
   fires_once s run r few t f f' x y = by (z.met)

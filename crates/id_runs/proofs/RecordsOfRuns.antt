@@ -12,15 +12,15 @@ use Rattle.id_core.specs.Events.{EventView}
 use Rattle.id_core.specs.Steps.{State, fresh, event_of, state_after}
 use Rattle.id_core.specs.Machines.{World, IsQuiet}
 use Rattle.id_core.specs.Observed.{events_of}
-use Rattle.id_meaning.specs.declared.SourceValue.{SourceValue}
+use Rattle.id_value.specs.declared.Constant.{Constant}
 use Rattle.id_list.specs.List.{Among}
 use Rattle.id_list.proofs.AmongLemmas.{Among-left, Among-right, Among-either, Among-from_at, Among-from_map}
 use Rattle.id_list.proofs.PlacesLemmas.{slice_get-set, set-here, set-elsewhere}
-use Rattle.id_runs.specs.Events.{Event, payload_of, sends_of, came_to}
+use Rattle.id_runs.specs.Events.{Event, payload_of, sends_of, fired_in, came_to}
 use Rattle.id_runs.specs.Keys.{Key}
 use Rattle.id_runs.specs.Runs.{happens, Reach, begin, deliver, handled}
 use Rattle.id_runs.specs.OneMessage.{count_for, Exclusive}
-use Rattle.id_runs.proofs.Events.{payload_of-happens, outcome_step}
+use Rattle.id_runs.proofs.Events.{payload_of-happens, outcome_fired, outcome_step}
 use Rattle.id_runs.proofs.Keys.{hit, count_none, count_cons, count_append}
 use Rattle.id_runs.proofs.Messages.{sent_payloads}
 use Rattle.id_runs.proofs.OneMessage.{few}
@@ -28,6 +28,7 @@ use Rattle.id_runs.proofs.OneMessage.{few}
 -- the event of a record is the event of the run
 pub record Shows (g : Parts) (v : EventView) (h : Event) : Type 0 where
   pub payload : v.message.payload ≡ payload_of h
+  pub fired : v.fired ≡ fired_in h
   pub outputs : map (λ m. m.payload) v.outputs ≡ sends_of g h
   pub step : v.step ≡ came_to h
 
@@ -43,9 +44,9 @@ unrecorded zero m e v h a = cc
 unrecorded (suc n) zero e v h a = let is : e ≡ fresh = cc in subst (λ (y : State). Among v y.events) is a
 unrecorded (suc n) (suc m) e v h a = unrecorded n m e v h a
 
-module _ (g : Parts) (vs : List SourceValue) (count : ℕ) where
+module _ (g : Parts) (vs : List Constant) (count : ℕ) where
   shown_now : (n : ℕ) (e : State) (m : Message) → Shows g (event_of g n e m) (happens g n e m.payload)
-  shown_now n e m = record { payload = sym (payload_of-happens g n e m.payload); outputs = sent_payloads g n e m; step = outcome_step g n e m.payload }
+  shown_now n e m = record { payload = sym (payload_of-happens g n e m.payload); fired = outcome_fired g n e m.payload; outputs = sent_payloads g n e m; step = outcome_step g n e m.payload }
 
   -- each event of a record is one of the run
   pub from_record : (s : World) (run : List Event) → Reach g vs count s run → (v : EventView) → Recorded s v → (h : Event) × Among h run × Shows g v h
@@ -188,7 +189,7 @@ told_more (y ∷ es) zero e e' j c at more =
 told_more (y ∷ es) (suc n) e e' j c at more =
     omega (arith, told_append y.events (events_of (set es n e')) j, told_append y.events (events_of es) j, told_more es n e e' j c at more)
 
-module _ (g : Parts) (vs : List SourceValue) (count : ℕ) where
+module _ (g : Parts) (vs : List Constant) (count : ℕ) where
   -- one event more
   told_step : (n : ℕ) (e : State) (m : Message) (j : Key) → count_for j (told (state_after g n e m).events) ≡ hit j m.payload + count_for j (told e.events)
   told_step n e m j = omega (arith, told_append e.events (event_of g n e m ∷ []) j, count_cons j m.payload [], count_none j)
@@ -219,7 +220,7 @@ of_all Q (y ∷ xs) x all (inl e) = subst Q (sym e) (all 0 y (omega arith))
 of_all Q (y ∷ xs) x all (inr h) = of_all Q xs x (λ k d lt. all (suc k) d (omega arith)) h
 
 -- no event of a quiet run was a fault or `Stuck`
-pub quiet_went : (g : Parts) (vs : List SourceValue) (count : ℕ) (s : World) (run : List Event) → Reach g vs count s run → IsQuiet s → (e : Event)
+pub quiet_went : (g : Parts) (vs : List Constant) (count : ℕ) (s : World) (run : List Event) → Reach g vs count s run → IsQuiet s → (e : Event)
     → Among e run → came_to e ≡ Went
 quiet_went g vs count s run r quiet e among =
     let x = to_record g vs count s run r e among in

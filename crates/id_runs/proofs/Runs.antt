@@ -5,10 +5,10 @@ use Rattle.id_tag.specs.declared.Message.{Message}
 use Rattle.id_tag.specs.Routes.{route_of}
 use Rattle.id_core.specs.Steps.{State, is_ended}
 use Rattle.id_core.specs.Machines.{World, start, taken_from, given_to, routed_to, delivered, run}
-use Rattle.id_meaning.specs.declared.SourceValue.{SourceValue}
+use Rattle.id_value.specs.declared.Constant.{Constant}
 use Rattle.id_runs.specs.Runs.{Reached, begin, deliver}
 
-module _ (g : Parts) (vs : List SourceValue) (count : ℕ) where
+module _ (g : Parts) (vs : List Constant) (count : ℕ) where
   given : (k : ℕ) (s : World) (m : Message) (o : Option State) → Reached g vs count s → slice_get s.flight k ≡ Some m
       → slice_get s.elements (route_of m.payload count) ≡ o → Reached g vs count (given_to g k s m (route_of m.payload count) o)
   given k s m None r f e = r

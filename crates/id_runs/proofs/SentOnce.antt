@@ -1,8 +1,9 @@
--- An event sends at most one message for a key, where the destinations of an instruction on one side differ.
-use Rattle.std.proofs.Common.{◌≡◌, inl, inr, ℕ, zero, suc, ◌+◌, ◌≤◌, Bool, Option, Some, None, List, [], ◌∷◌, ◌++◌, map, refl, sym, ◌∙◌, ap, subst, arith}
+-- An event sends at most one message for a key, where the destinations of an instruction on one side differ, and each key was handled once.
+use Rattle.std.proofs.Common.{◌≡◌, inl, inr, ℕ, zero, suc, ◌+◌, ◌≤◌, Bool, true, false, cond, Option, Some, None, List, [], ◌∷◌, ◌++◌, map, refl, sym, ◌∙◌, ap, subst, arith}
+use Rattle.std.proofs.lemmas.List.{map-append}
 use Rattle.id_graph.specs.declared.dests.Dest.{Dest}
 use Rattle.id_graph.specs.declared.dests.Port.{Port}
-use Rattle.id_graph.specs.declared.dests.Port.TheVariants.{Zero}
+use Rattle.id_graph.specs.declared.dests.Port.TheVariants.{Zero, One}
 use Rattle.id_graph.specs.Graph.{Parts}
 use Rattle.id_tag.specs.declared.Tag.{Tag}
 use Rattle.id_tag.specs.declared.Context.{Context}
@@ -10,9 +11,9 @@ use Rattle.id_tag.specs.declared.Value.{Value}
 use Rattle.id_tag.specs.declared.Value.TheVariants as value
 use Rattle.id_tag.specs.declared.Payload.{Payload}
 use Rattle.id_graph.specs.declared.instr.Op.{Op}
-use Rattle.id_graph.specs.declared.instr.Op.TheVariants.{Const, Unary, Binary, Merge, Switch, Back, Enter, Send, Next, Reset}
+use Rattle.id_graph.specs.declared.instr.Op.TheVariants.{Const, Unary, Binary, Merge, Switch, Back, Enter, Send, Next, Reset, Alloc, Address, Fetch, Store}
 use Rattle.id_valid.specs.Roles.{op_at}
-use Rattle.id_tag.specs.declared.Payload.TheVariants.{Token}
+use Rattle.id_tag.specs.declared.Payload.TheVariants.{Token, Read, Write}
 use Rattle.id_ops.specs.declared.Fired.{Fired}
 use Rattle.id_ops.specs.declared.Fired.TheVariants as fires
 use Rattle.id_ops.specs.Operators.{side_of, tag_within}
@@ -22,10 +23,20 @@ use Rattle.id_record.specs.Records.{dests_at}
 use Rattle.id_core.specs.Steps.{sent, moved_to, token_to}
 use Rattle.id_list.specs.List.{Among, AllDiffer}
 use Rattle.id_list.proofs.AmongLemmas.{Among-from_map, Among-one}
-use Rattle.id_runs.specs.Events.{Waits, Blocked, Fires, Event, Took, payload_of, sends_of, Enters}
-use Rattle.id_runs.specs.Keys.{Key, AtPort, key_of}
-use Rattle.id_runs.specs.OneMessage.{count_for}
-use Rattle.id_runs.proofs.Keys.{count_none, count_one, count_first, count_append, counted}
+use Rattle.id_tag.specs.declared.Cell.{Cell}
+use Rattle.id_tag.specs.Tags.{same_cell}
+use Rattle.id_bank.specs.declared.ReadAnswer.TheVariants.{Now, Deferred}
+use Rattle.id_bank.specs.declared.WriteAnswer.TheVariants.{Readers, Second}
+use Rattle.id_core.specs.Machines.{World}
+use Rattle.id_value.specs.declared.Constant.{Constant}
+use Rattle.id_runs.specs.Events.{Waits, Blocked, Fires, Event, Took, Looked, Wrote, payload_of, sends_of, Enters}
+use Rattle.id_runs.specs.Runs.{Reach, handled}
+use Rattle.id_runs.specs.Cells.{held, put_off, cell_at}
+use Rattle.id_runs.specs.Keys.{Key, AtPort, ByFetch, ByStore, key_of}
+use Rattle.id_runs.specs.OneMessage.{count_for, Few}
+use Rattle.id_runs.proofs.Keys.{hit, hit_itself, hit_is, hit_small, count_none, count_cons, count_one, count_first, count_append, counted}
+use Rattle.id_runs.proofs.Cells.{cells_exact}
+use Rattle.id_runs.proofs.CellLaws.{whole_list}
 
 -- a key is for one port of one tag
 pub key_parts : {t u : Tag} {p q : Port} → AtPort t p ≡ AtPort u q → (t ≡ u) × (p ≡ q)
@@ -61,6 +72,10 @@ started_apart k (Some (Back j)) t c = omega (arith, count_none k)
 started_apart k (Some (Send j n)) t c = omega (arith, count_none k)
 started_apart k (Some (Next j)) t c = omega (arith, count_none k)
 started_apart k (Some (Reset j)) t c = omega (arith, count_none k)
+started_apart k (Some Alloc) t c = omega (arith, count_none k)
+started_apart k (Some Address) t c = omega (arith, count_none k)
+started_apart k (Some (Fetch r)) t c = omega (arith, count_none k)
+started_apart k (Some Store) t c = omega (arith, count_none k)
 
 -- and they are in the context
 started_within : (o : Option Op) (t : Tag) (c : Context) (x : Payload) → Among x (started o t c) → (tag_of x).context ≡ c
@@ -76,10 +91,22 @@ started_within (Some (Back j)) t c x h = absurd h
 started_within (Some (Send j n)) t c x h = absurd h
 started_within (Some (Next j)) t c x h = absurd h
 started_within (Some (Reset j)) t c x h = absurd h
+started_within (Some Alloc) t c x h = absurd h
+started_within (Some Address) t c x h = absurd h
+started_within (Some (Fetch r)) t c x h = absurd h
+started_within (Some Store) t c x h = absurd h
 
 -- the key of a message tells its tag
 tag_of_key : (x y : Payload) → key_of x ≡ key_of y → tag_of x ≡ tag_of y
 tag_of_key (Token t p v) (Token u q w) e = (key_parts e).0
+tag_of_key (Read c t) (Read d u) e = cc
+tag_of_key (Write c v t) (Write d w u) e = cc
+tag_of_key (Token t p v) (Read d u) e = cc
+tag_of_key (Token t p v) (Write d w u) e = cc
+tag_of_key (Read c t) (Token u q w) e = cc
+tag_of_key (Read c t) (Write d w u) e = cc
+tag_of_key (Write c v t) (Token u q w) e = cc
+tag_of_key (Write c v t) (Read d u) e = cc
 
 -- lists of which no two share a key have one at most, where each has
 apart_lists : (k : Key) (xs ys : List Payload) → count_for k xs ≤ 1 → count_for k ys ≤ 1
@@ -109,13 +136,73 @@ sent_apart k o u ds (fires.Side b v) differ elsewhere = dests_apart k u v ds dif
 sent_apart k o u ds (fires.Moved i v) differ elsewhere = dests_apart k (moved_to u i) v ds differ
 sent_apart k o u ds (fires.Entered c) differ elsewhere = entered_apart k o u ds c differ (elsewhere c refl)
 sent_apart k o u ds (fires.Sent to v) differ elsewhere = count_one k (Token to Zero v)
+sent_apart k o u ds (fires.Asked c to) differ elsewhere = count_one k (Read c to)
+sent_apart k o u ds (fires.Stored c v to) differ elsewhere = count_one k (Write c v to)
 sent_apart k o u ds (fires.Failed f) differ elsewhere = omega (arith, count_none k)
 sent_apart k o u ds fires.Nothing differ elsewhere = omega (arith, count_none k)
 
--- so an event that enters a block does so in another context than its own
-pub sent_once : (g : Parts) → ((n : ℕ) (b : Bool) → AllDiffer (dests_at g n b)) → (e : Event) (k : Key)
-    → ((c : Context) → Enters e c → c ≡ (tag_of (payload_of e)).context → ⊥) → count_for k (sends_of g e) ≤ 1
-sent_once g differ (Took n t p v Waits) k elsewhere = omega (arith, count_none k)
-sent_once g differ (Took n t p v Blocked) k elsewhere = omega (arith, count_none k)
-sent_once g differ (Took n t p v (Fires ops f)) k elsewhere =
-    sent_apart k (op_at g t.instr) t (dests_at g t.instr (side_of f)) f (differ t.instr (side_of f)) elsewhere
+-- ---- the answers of a fill
+
+-- the answers to these replies
+abbrev pub answers : Value → List Tag → List Payload
+answers v ts = map (λ t. Token t Zero v) ts
+
+-- an answer is for a port of a reply: there are no more of one than there are reads for that reply
+hit_answer : (t u : Tag) (v : Value) (c : Cell) → hit (AtPort t Zero) (Token u Zero v) ≤ hit (ByFetch t) (Read c u)
+hit_answer t u v c = go (hit (AtPort t Zero) (Token u Zero v)) refl
+  where
+    go : (n : ℕ) → hit (AtPort t Zero) (Token u Zero v) ≡ n → hit (AtPort t Zero) (Token u Zero v) ≤ hit (ByFetch t) (Read c u)
+    go zero e = omega (arith, e)
+    go (suc n) e =
+        let is = (key_parts (hit_is (AtPort t Zero) (Token u Zero v) (omega (arith, e)))).0 in
+        omega (arith, hit_small (AtPort t Zero) (Token u Zero v), hit_itself (ByFetch t) (Read c u) (ap ByFetch is))
+
+held_hits : (t : Tag) (v : Value) (c : Cell) (e : Event) → count_for (AtPort t Zero) (answers v (held c e)) ≤ hit (ByFetch t) (payload_of e)
+held_hits t v c (Took n u p w a) = omega (arith, count_none (AtPort t Zero))
+held_hits t v c (Wrote n d w x a) = omega (arith, count_none (AtPort t Zero))
+held_hits t v c (Looked n d u (Now w)) = omega (arith, count_none (AtPort t Zero))
+held_hits t v c (Looked n d u Deferred) = by (same_cell d c)
+  where
+    by : (b : Bool) → count_for (AtPort t Zero) (answers v (cond b (u ∷ []) [])) ≤ hit (ByFetch t) (Read d u)
+    by true = omega (arith, count_cons (AtPort t Zero) (Token u Zero v) [], count_none (AtPort t Zero), hit_answer t u v d)
+    by false = omega (arith, count_none (AtPort t Zero))
+
+off_hits : (t : Tag) (v : Value) (c : Cell) (run : List Event) → count_for (AtPort t Zero) (answers v (put_off run c)) ≤ count_for (ByFetch t) (handled run)
+off_hits t v c [] = omega (arith, count_none (AtPort t Zero))
+off_hits t v c (e ∷ run) =
+    let parts : count_for (AtPort t Zero) (answers v (put_off run c ++ held c e)) ≡ count_for (AtPort t Zero) (answers v (put_off run c)) + count_for (AtPort t Zero) (answers v (held c e)) =
+    ap (count_for (AtPort t Zero)) (map-append (λ u. Token u Zero v) (put_off run c) (held c e)) ∙ count_append (AtPort t Zero) (answers v (put_off run c)) (answers v (held c e)) in
+    omega (arith, parts, off_hits t v c run, held_hits t v c e, count_cons (ByFetch t) (payload_of e) (handled run))
+
+-- an answer has no other key
+no_answer : (k : Key) (v : Value) (ts : List Tag) → ((t : Tag) → AtPort t Zero ≡ k → ⊥) → count_for k (answers v ts) ≤ 1
+no_answer k v ts other = go (count_for k (answers v ts)) refl
+  where
+    go : (n : ℕ) → count_for k (answers v ts) ≡ n → count_for k (answers v ts) ≤ 1
+    go zero e = omega (arith, e)
+    go (suc n) e =
+        let b = counted k (answers v ts) (omega (arith, e)) in
+        let u = Among-from_map (λ t. Token t Zero v) b.0 ts b.1 in
+        absurd (other u.0 (sym (ap key_of u.2) ∙ b.2))
+
+pub off_once : (k : Key) (v : Value) (c : Cell) (run : List Event) → Few run → count_for k (answers v (put_off run c)) ≤ 1
+off_once (AtPort t Zero) v c run few = omega (arith, off_hits t v c run, few (ByFetch t))
+off_once (AtPort t One) v c run few = no_answer (AtPort t One) v (put_off run c) (λ u e. let bad : Zero ≡ One = (key_parts e).1 in cc)
+off_once (ByFetch t) v c run few = no_answer (ByFetch t) v (put_off run c) (λ u e. cc)
+off_once (ByStore t) v c run few = no_answer (ByStore t) v (put_off run c) (λ u e. cc)
+
+module _ (g : Parts) (vs : List Constant) (count : ℕ) (differ : (n : ℕ) (b : Bool) → AllDiffer (dests_at g n b)) where
+  -- so an event that enters a block does so in another context than its own
+  pub sent_once : (s : World) (run : List Event) → Reach g vs count s run → Few run → (e : Event) → Among e run → (k : Key)
+      → ((c : Context) → Enters e c → c ≡ (tag_of (payload_of e)).context → ⊥) → count_for k (sends_of g e) ≤ 1
+  sent_once s run r few (Took n t p v Waits) among k elsewhere = omega (arith, count_none k)
+  sent_once s run r few (Took n t p v Blocked) among k elsewhere = omega (arith, count_none k)
+  sent_once s run r few (Took n t p v (Fires ops f)) among k elsewhere =
+      sent_apart k (op_at g t.instr) t (dests_at g t.instr (side_of f)) f (differ t.instr (side_of f)) elsewhere
+  sent_once s run r few (Looked n c t (Now v)) among k elsewhere = count_one k (Token t Zero v)
+  sent_once s run r few (Looked n c t Deferred) among k elsewhere = omega (arith, count_none k)
+  sent_once s run r few (Wrote n c v w (Readers ts)) among k elsewhere =
+      subst (λ us. count_for k (answers v us) ≤ 1)
+      (sym (whole_list run (cell_at count s) (cells_exact g vs count s run r) c v w ts (record { element = n; among = among })))
+      (off_once k v c run few)
+  sent_once s run r few (Wrote n c v w (Second x)) among k elsewhere = omega (arith, count_none k)

@@ -1,6 +1,6 @@
 -- Each message of a run of a valid graph fits it, so what fires does so on operands that suit its operator.
 use Rattle.std.proofs.Common.{◌≡◌, inr, ℕ, ◌+◌, ◌<◌, false, max, Option, Some, None, List, ◌∷◌, [], slice_get, refl, sym, ◌∙◌, ap, subst, arith}
-use Rattle.std.specs.Prelude.{All, ◌≤◌, is_some, option_map}
+use Rattle.std.specs.Prelude.{All, is_some, option_map}
 use Rattle.std.specs.Option.{option_map_or}
 use Rattle.id_graph.specs.declared.instr.Instr.{Instr}
 use Rattle.id_graph.specs.declared.dests.Port.{Port}
@@ -10,7 +10,13 @@ use Rattle.id_graph.specs.Ports.{port_kind, two_ports}
 use Rattle.id_tag.specs.declared.Tag.{Tag}
 use Rattle.id_tag.specs.declared.Value.{Value}
 use Rattle.id_tag.specs.declared.Payload.{Payload}
-use Rattle.id_tag.specs.declared.Payload.TheVariants.{Token}
+use Rattle.id_tag.specs.declared.Payload.TheVariants.{Token, Read, Write}
+use Rattle.id_tag.specs.declared.Cell.{Cell}
+use Rattle.id_tag.specs.declared.Value.TheVariants as value
+use Rattle.id_graph.specs.declared.instr.Op.TheVariants.{Merge}
+use Rattle.id_graph.specs.declared.instr.PortKind.TheVariants.{Int}
+use Rattle.id_bank.specs.declared.WriteAnswer.TheVariants.{Readers}
+use Rattle.id_record.specs.Records.{sent_by}
 use Rattle.id_tag.specs.declared.Message.{Message}
 use Rattle.id_tag.specs.Kinds.{kind_of}
 use Rattle.id_valid.specs.Validator.{IsValid}
@@ -20,17 +26,21 @@ use Rattle.id_ops.specs.declared.Fired.{Fired}
 use Rattle.id_ops.specs.Operators.{fired, side_of}
 use Rattle.id_ops.specs.Operands.{Suits}
 use Rattle.id_ops.proofs.OperandsLemmas.{fires-from_Suits}
-use Rattle.id_element.specs.Fits.{Fits, PayloadFits, TokenFits}
+use Rattle.id_element.specs.Fits.{Fits, PayloadFits, TokenFits, ContinuationFits, AddressFits}
 use Rattle.id_element.proofs.FitsLemmas.{TokenFits-later}
 use Rattle.id_element.proofs.OutcomeLemmas.{one_port}
 use Rattle.id_element.proofs.SentLemmas.{OperandsFit, fired_fits, kind_at_op, sent_fits}
 use Rattle.id_core.specs.Steps.{sent}
 use Rattle.id_core.specs.Machines.{World, TakesInputs, block_messages, run, start}
 use Rattle.id_core.proofs.MachinesLemmas.{start_fits}
-use Rattle.id_meaning.specs.declared.SourceValue.{SourceValue}
+use Rattle.id_value.specs.declared.Constant.{Constant}
 use Rattle.id_list.specs.List.{Among}
-use Rattle.id_list.proofs.AmongLemmas.{Among-from_map}
-use Rattle.id_runs.specs.Events.{Waits, Blocked, Fires, Event, Took, FiresAs, sends_of}
+use Rattle.id_list.proofs.AmongLemmas.{Among-from_map, Among-map}
+use Rattle.id_runs.specs.Events.{Event, Looked, Wrote, FiresAs, payload_of, sends_of}
+use Rattle.id_runs.specs.Cells.{Replies, cell_at}
+use Rattle.id_runs.proofs.Cells.{cells_exact}
+use Rattle.id_runs.proofs.CellLaws.{reply_sound}
+use Rattle.id_runs.proofs.Messages.{SentFrom, by_firing, by_answer, sent_from}
 use Rattle.id_runs.specs.Runs.{Reach, handled, starting}
 use Rattle.id_runs.specs.Suited.{IsSuited, AreSuited}
 use Rattle.id_runs.proofs.EveryMessage.{every_message}
@@ -85,7 +95,7 @@ suitable g t i ops events at fit have = by_ports have
           suits = (kind last Zero v first, kind last One w second);
         })
 
-module _ (g : Parts) (vs : List SourceValue) (count : ℕ) (valid : IsValid g) (takes : TakesInputs g vs) where
+module _ (g : Parts) (vs : List Constant) (count : ℕ) (valid : IsValid g) (takes : TakesInputs g vs) where
   -- the messages at the start fit
   starts : (x : Payload) → Among x (starting g vs) → FitsOnce g x
   starts x h =
@@ -97,19 +107,60 @@ module _ (g : Parts) (vs : List SourceValue) (count : ℕ) (valid : IsValid g) (
       let fits = of_all (Fits g) _ m.0 (subst (λ bs. All (Fits g) (block_messages bs vs)) (sym answer.main) all) m.1 in
       record { stamp = (m.0).stamp; fits = subst (PayloadFits g (m.0).stamp) (sym m.2) fits }
 
+  -- an answer fits where its read and the write of its value do
+  reply_fits : (c : Cell) (t w : Tag) (v : Value) → FitsOnce g (Read c t) → FitsOnce g (Write c v w) → FitsOnce g (Token t Zero v)
+  reply_fits c t w v x y = by v ((y.fits).kind)
+    where
+      at : {u : Value} → kind_of u ≡ Int → ContinuationFits g x.stamp t Zero u → AddressFits u → FitsOnce g (Token t Zero u)
+      at is fits inside = record {
+        stamp = x.stamp;
+        fits = record {
+          kind = kind_at_op g t.instr Zero (Merge Int) ((x.fits).reply).merge ∙ ap (λ k. Some k) (sym is);
+          in_time = ((x.fits).reply).in_time;
+          continuation = fits;
+          address = inside;
+        };
+      }
+
+      by : (u : Value) → kind_of u ≡ Int → FitsOnce g (Token t Zero u)
+      by (value.Int n) is = at is tt tt
+      by value.Signal is = cc
+      by (value.Bool b) is = cc
+      by (value.Structure s) is = cc
+      by (value.Address d) is = cc
+      by (value.Context d) is = cc
+      by (value.Continuation u) is = cc
+
+  -- and so does one that an event of a run sends, where what was handled does
+  answers_fit : (s : World) (events : List Event) → Reach g vs count s events → ((x : Payload) → Among x (handled events) → FitsOnce g x)
+      → (t : Tag) (v : Value) (e : Event) → Replies events t v e → FitsOnce g (Token t Zero v)
+  answers_fit s events r fit t v e x =
+      let z = reply_sound events (cell_at count s) (cells_exact g vs count s events r) t v e x in
+      let asks = (z.1).1 in
+      let puts = (z.2).2 in
+      reply_fits z.0 t (z.2).0 v
+      (fit (Read z.0 t) (Among-map payload_of (Looked asks.element z.0 t (z.1).0) events asks.among))
+      (fit (Write z.0 v (z.2).0) (Among-map payload_of (Wrote puts.element z.0 v (z.2).0 (Readers (z.2).1)) events puts.among))
+
   -- what an event sends fits, where what was handled does
   passes : (s : World) (events : List Event) → Reach g vs count s events → (e : Event) → Among e events → ((h : Event) → Among h events → Unit {0})
       → ((x : Payload) → Among x (handled events) → FitsOnce g x) → (x : Payload) → Among x (sends_of g e) → FitsOnce g x
-  passes s events r (Took n t p v Waits) among known fit x h = absurd h
-  passes s events r (Took n t p v Blocked) among known fit x h = absurd h
-  passes s events r (Took n t p v (Fires ops f)) among known fit x h =
-      let y = has_fired g vs count s events r (record { element = n; port = p; value = v; operands = ops; among = among }) in
-      let i = y.instr in
-      let z = suitable g t i ops events y.at fit y.handled_are in
-      let all = sent_fits g z.stamp t i (fired i.op t ops y.fresh) valid y.at (omega (arith, z.in_time))
-      (fired_fits g z.stamp t i.op ops y.fresh valid (ap (option_map (λ j. j.op)) y.at) z.in_time z.fit) in
-      let same = ap (λ o. sent (option_map (λ j. j.op) o) (option_map_or (arcs_on (side_of f)) o []) t f) y.at ∙ ap (λ u. sent (Some i.op) (arcs_on (side_of u) i) t u) y.is in
-      record { stamp = z.stamp; fits = of_all (PayloadFits g z.stamp) _ x all (subst (Among x) same h) }
+  passes s events r e among known fit x h = by (sent_from g events e among x h)
+    where
+      of_firing : (t : Tag) (f : Fired) (y : FiresAs events t f) → Among x (sent_by g t f) → FitsOnce g x
+      of_firing t f fired_so out =
+          let y = has_fired g vs count s events r fired_so in
+          let ops = fired_so.operands in
+          let i = y.instr in
+          let z = suitable g t i ops events y.at fit y.handled_are in
+          let all = sent_fits g z.stamp t i (fired i.op t ops y.fresh) valid y.at (omega (arith, z.in_time))
+          (fired_fits g z.stamp t i.op ops y.fresh valid (ap (option_map (λ j. j.op)) y.at) z.in_time z.fit) in
+          let same = ap (λ o. sent (option_map (λ j. j.op) o) (option_map_or (arcs_on (side_of f)) o []) t f) y.at ∙ ap (λ u. sent (Some i.op) (arcs_on (side_of u) i) t u) y.is in
+          record { stamp = z.stamp; fits = of_all (PayloadFits g z.stamp) _ x all (subst (Among x) same out) }
+
+      by : SentFrom g events e x → FitsOnce g x
+      by (by_firing t f y is out) = of_firing t f y out
+      by (by_answer t v is y) = subst (FitsOnce g) (sym is) (answers_fit s events r fit t v e y)
 
   -- so each firing is suited
   firing_suited : (s : World) (events : List Event) → Reach g vs count s events → (t : Tag) (f : Fired) (x : FiresAs events t f)

@@ -22,13 +22,13 @@ use Rattle.id_ops.specs.declared.Operands.TheVariants as operands
 use Rattle.id_ops.specs.Operators.{fired}
 use Rattle.id_core.specs.Steps.{State, next_numbers, outcome, state_after}
 use Rattle.id_core.specs.Machines.{World, taken_from}
-use Rattle.id_meaning.specs.declared.SourceValue.{SourceValue}
+use Rattle.id_value.specs.declared.Constant.{Constant}
 use Rattle.id_list.specs.List.{Among}
 use Rattle.id_list.proofs.AmongLemmas.{Among-map}
 use Rattle.id_list.proofs.PlacesLemmas.{slice_get-set, set-here, set-elsewhere}
 use Rattle.id_runs.specs.Events.{Arrival, Waits, Blocked, Fires, Event, Took, payload_of, FiresAs}
 use Rattle.id_runs.specs.Runs.{fires_on, happens, Reach, begin, deliver, handled}
-use Rattle.id_runs.proofs.Events.{half, operands_by, tag_cases, Effect, nowhere, alone as fires_alone, first, meets, again, Taking, taking}
+use Rattle.id_runs.proofs.Events.{half, operands_by, tag_cases, Effect, nowhere, alone as fires_alone, first, meets, again, Taking, Aside, Handling, of_token, of_cell, handling, taken, took_token, payload_of-happens}
 
 -- ---- what waits came by an event
 
@@ -56,7 +56,20 @@ still_waits g fresh n t p v o a o' run (first i at two f b q) old h e =
 still_waits g fresh n t p v o a o' run (meets i u at two f b q) old h e = let no_half : None ≡ Some h = sym q ∙ e in cc
 still_waits g fresh n t p v o a o' run (again i u at two f b q) old h e = waited_later _ (old h (sym q ∙ e))
 
-pub waited : (g : Parts) (vs : List SourceValue) (count : ℕ) (s : World) (run : List Event) → Reach g vs count s run
+-- what waits after an event, where what waited before it came by one
+waits_now : (g : Parts) (n : ℕ) (e : State) (x : Payload) (run : List Event) (t : Tag) (h : Half) → ((t' : Tag) (h' : Half) → get e.waiting t' ≡ Some h' → Waited run t' h'.port h'.value)
+    → Handling g n e x → get (outcome g (next_numbers n e) e.waiting e.cells x).waiting t ≡ Some h → Waited (happens g n e x ∷ run) t h.port h.value
+waits_now g n e x run t h before (of_cell aside) there = waited_later _ (before t h (ap (λ y. get y t) (sym aside.still) ∙ there))
+waits_now g n e x run t h before (of_token new) there =
+    elim (tag_cases t new.tag) [
+      | inl same ↦
+          subst (λ (z : Event × Tag). Waited (z.0 ∷ run) z.1 h.port h.value) (λ i. (sym new.is i, sym same i))
+          (still_waits g new.fresh n new.tag new.port new.value _ _ _ run new.effect
+          (λ h' e'. before new.tag h' e') h (ap (λ u. get (outcome g (next_numbers n e) e.waiting e.cells x).waiting u) (sym same) ∙ there))
+      | inr other ↦ waited_later _ (before t h (sym (new.others t other) ∙ there))
+    ]
+
+pub waited : (g : Parts) (vs : List Constant) (count : ℕ) (s : World) (run : List Event) → Reach g vs count s run
     → (n : ℕ) (e : State) (t : Tag) (h : Half) → slice_get s.elements n ≡ Some e → get e.waiting t ≡ Some h → Waited run t h.port h.value
 waited g vs count s run begin n e t h at w =
     let fresh_one = replicated count n _ e at in
@@ -65,17 +78,8 @@ waited g vs count s run begin n e t h at w =
 waited g vs count s run (deliver {s = s₀} {run = run₀} k m e r f at) n x t h got w =
     let before = waited g vs count s₀ run₀ r in
     let n₀ = route_of m.payload count in
-    let new = taking g n₀ e m.payload in
     elim (slice_get-set s₀.elements n₀ n (state_after g n₀ e m) x got) [
-      | inl q ↦
-          let there : get (outcome g (next_numbers n₀ e) e.waiting m.payload).waiting t ≡ Some h = ap (λ (y : State). get y.waiting t) (sym q.1) ∙ w in
-          elim (tag_cases t new.tag) [
-            | inl same ↦
-                subst (λ (z : Event × Tag). Waited (z.0 ∷ run₀) z.1 h.port h.value) (λ i. (sym new.is i, sym same i))
-                (still_waits g new.fresh n₀ new.tag new.port new.value _ _ _ run₀ new.effect
-                (λ h' e'. before n₀ e new.tag h' at e') h (ap (λ u. get (outcome g (next_numbers n₀ e) e.waiting m.payload).waiting u) (sym same) ∙ there))
-            | inr other ↦ waited_later _ (before n₀ e t h at (sym (new.others t other) ∙ there))
-          ]
+      | inl q ↦ waits_now g n₀ e m.payload run₀ t h (λ t' h' e'. before n₀ e t' h' at e') (handling g n₀ e m.payload) (ap (λ (y : State). get y.waiting t) (sym q.1) ∙ w)
       | inr old ↦ waited_later _ (before n x t h old w)
     ]
 
@@ -118,14 +122,14 @@ firing_now g fresh n t p v o a o' ops f run (meets i u at two z b q) is old =
     record { instr = i; fresh = fresh; at = at; is = f_is ∙ ap (λ x. fired i.op t x fresh) (sym ops_is); met = with_partner u two ops_is (waited_later _ (old (half (other_port p) u) b)) }
 firing_now g fresh n t p v o a o' ops f run (again i u at two z b q) is old = let bad : Blocked ≡ Fires ops f = sym z ∙ is in cc
 
-module _ (g : Parts) (vs : List SourceValue) (count : ℕ) where
+module _ (g : Parts) (vs : List Constant) (count : ℕ) where
   pub firing : (s : World) (run : List Event) → Reach g vs count s run → (n : ℕ) (t : Tag) (p : Port) (v : Value) (ops : Operands) (f : Fired)
       → Among (Took n t p v (Fires ops f)) run → Firing g run t p v ops f
   firing s run begin n t p v ops f among = absurd among
   firing s run (deliver {s = s₀} {run = run₀} k m e r fl at) n t p v ops f (inr old) = firing_later _ (firing s₀ run₀ r n t p v ops f old)
   firing s run (deliver {s = s₀} {run = run₀} k m e r fl at) n t p v ops f (inl is) =
       let n₀ = route_of m.payload count in
-      let new = taking g n₀ e m.payload in
+      let new = taken (handling g n₀ e m.payload) (took_token g n₀ e m.payload n t p v (Fires ops f) is) in
       let same : Took n t p v (Fires ops f) ≡ Took n₀ new.tag new.port new.value new.arrival = is ∙ new.is in
       let tag_is : new.tag ≡ t = cc in
       let port_is : new.port ≡ p = cc in
@@ -164,7 +168,7 @@ pub record HasFired (g : Parts) (run : List Event) (t : Tag) (f : Fired) (ops : 
   pub is : f ≡ fired instr.op t ops fresh
   pub handled_are : OperandsHandled run t (two_ports instr.op) ops
 
-module _ (g : Parts) (vs : List SourceValue) (count : ℕ) where
+module _ (g : Parts) (vs : List Constant) (count : ℕ) where
   -- what fired was handled
   pub has_fired : (s : World) (run : List Event) → Reach g vs count s run → {t : Tag} {f : Fired} (x : FiresAs run t f) → HasFired g run t f x.operands
   has_fired s run r {t} {f} x =
@@ -282,12 +286,12 @@ routed : (count : ℕ) (x : Payload) (t : Tag) (p : Port) (v : Value) → x ≡ 
 routed count x t p v e = ap (λ y. route_of y count) e
 
 -- every token for an operator of two ports that was handled waits, has fired or was blocked
-pub settled : (g : Parts) (vs : List SourceValue) (count : ℕ) (s : World) (run : List Event) → Reach g vs count s run
+pub settled : (g : Parts) (vs : List Constant) (count : ℕ) (s : World) (run : List Event) → Reach g vs count s run
     → (t : Tag) (p : Port) (v : Value) (i : Instr)
     → slice_get g.instrs t.instr ≡ Some i → two_ports i.op ≡ true → Among (Token t p v) (handled run) → Settled count s run t p v
 settled g vs count s run begin t p v i at b h = absurd h
 settled g vs count s run (deliver {s = s₀} {run = run₀} k m e r f q) t p v i at b h =
-    by_tag (tag_cases t new.tag) h (λ old. settled g vs count s₀ run₀ r t p v i at b old)
+    by_handling (handling g (route_of m.payload count) e m.payload) (λ old. settled g vs count s₀ run₀ r t p v i at b old)
   where
     n : ℕ
     n = route_of m.payload count
@@ -298,56 +302,68 @@ settled g vs count s run (deliver {s = s₀} {run = run₀} k m e r f q) t p v i
     s' : World
     s' = taken_from g k s₀ m n e
 
-    new : Taking g n e m.payload
-    new = taking g n e m.payload
+    -- an event on a cell leaves what waits
+    by_cell : Aside g n e m.payload → Settled count s₀ run₀ t p v → Settled count s' (happens g n e m.payload ∷ run₀) t p v
+    by_cell aside (inl w) = inl (waits_on count s₀ s' n e e' t p v q refl (ap (λ y. get y t) aside.still) w)
+    by_cell aside (inr z) = later (happens g n e m.payload) z
 
-    event : Event
-    event = Took n new.tag new.port new.value new.arrival
+    by_token : Taking g n e m.payload → (Among (Token t p v) (handled run₀) → Settled count s₀ run₀ t p v) → Settled count s' (happens g n e m.payload ∷ run₀) t p v
+    by_token new before_it = by_tag (tag_cases t new.tag) h before_it
+      where
+        event : Event
+        event = Took n new.tag new.port new.value new.arrival
 
-    here : n ≡ tag_route new.tag count
-    here = routed count m.payload new.tag new.port new.value new.says
+        here : n ≡ tag_route new.tag count
+        here = routed count m.payload new.tag new.port new.value new.says
 
-    -- as the run has the event
-    as_happened : {u : Tag} {p : Port} {v : Value} → Settled count s' (event ∷ run₀) u p v → Settled count s' (happens g n e m.payload ∷ run₀) u p v
-    as_happened {u} {p} {v} x = subst (λ z. Settled count s' (z ∷ run₀) u p v) (sym new.is) x
+        -- as the run has the event
+        as_happened : {u : Tag} {p : Port} {v : Value} → Settled count s' (event ∷ run₀) u p v → Settled count s' (happens g n e m.payload ∷ run₀) u p v
+        as_happened {u} {p} {v} x = subst (λ z. Settled count s' (z ∷ run₀) u p v) (sym new.is) x
 
-    state_is : (w : WaitsAt count s₀ new.tag p v) → get e.waiting new.tag ≡ Some (half p v)
-    state_is w =
-        let both : Some w.state ≡ Some e = sym w.at ∙ ap (slice_get s₀.elements) (sym here) ∙ q in
-        let one : w.state ≡ e = cc in
-        ap (λ (y : State). get y.waiting new.tag) (sym one) ∙ w.there
+        state_is : (w : WaitsAt count s₀ new.tag p v) → get e.waiting new.tag ≡ Some (half p v)
+        state_is w =
+            let both : Some w.state ≡ Some e = sym w.at ∙ ap (slice_get s₀.elements) (sym here) ∙ q in
+            let one : w.state ≡ e = cc in
+            ap (λ (y : State). get y.waiting new.tag) (sym one) ∙ w.there
 
-    there_now : {u : Port} {x : Value}
-        → (get (outcome g (next_numbers n e) e.waiting m.payload).waiting new.tag ≡ Some (half u x)) ⊎ (FiredWith (event ∷ run₀) new.tag u x ⊎ BlockedAt (event ∷ run₀) new.tag)
-        → Settled count s' (event ∷ run₀) new.tag u x
-    there_now (inl w) = inl (record { state = e'; at = ap (slice_get (set s₀.elements n e')) (sym here) ∙ set-here s₀.elements n e' e q; there = w })
-    there_now (inr z) = inr z
+        there_now : {u : Port} {x : Value}
+            → (get (outcome g (next_numbers n e) e.waiting e.cells m.payload).waiting new.tag ≡ Some (half u x)) ⊎ (FiredWith (event ∷ run₀) new.tag u x ⊎ BlockedAt (event ∷ run₀) new.tag)
+            → Settled count s' (event ∷ run₀) new.tag u x
+        there_now (inl w) = inl (record { state = e'; at = ap (slice_get (set s₀.elements n e')) (sym here) ∙ set-here s₀.elements n e' e q; there = w })
+        there_now (inr z) = inr z
 
-    before : Settled count s₀ run₀ new.tag p v → (get e.waiting new.tag ≡ Some (half p v)) ⊎ (FiredWith run₀ new.tag p v ⊎ BlockedAt run₀ new.tag)
-    before (inl w) = inl (state_is w)
-    before (inr z) = inr z
+        before : Settled count s₀ run₀ new.tag p v → (get e.waiting new.tag ≡ Some (half p v)) ⊎ (FiredWith run₀ new.tag p v ⊎ BlockedAt run₀ new.tag)
+        before (inl w) = inl (state_is w)
+        before (inr z) = inr z
 
-    old_token : t ≡ new.tag → Settled count s₀ run₀ t p v → Settled count s' (event ∷ run₀) t p v
-    old_token is x =
-        subst (λ u. Settled count s' (event ∷ run₀) u p v) (sym is)
-        (there_now (settled_here g new.fresh n new.tag new.port new.value new.arrival run₀ _ _ p v new.effect (before (subst (λ u. Settled count s₀ run₀ u p v) is x))))
+        old_token : t ≡ new.tag → Settled count s₀ run₀ t p v → Settled count s' (event ∷ run₀) t p v
+        old_token is x =
+            subst (λ u. Settled count s' (event ∷ run₀) u p v) (sym is)
+            (there_now (settled_here g new.fresh n new.tag new.port new.value new.arrival run₀ _ _ p v new.effect (before (subst (λ u. Settled count s₀ run₀ u p v) is x))))
 
-    own_token : t ≡ new.tag → p ≡ new.port → v ≡ new.value → Settled count s' (event ∷ run₀) t p v
-    own_token is port_is value_is =
-        subst (λ (z : Tag × (Port × Value)). Settled count s' (event ∷ run₀) z.0 z.1.0 z.1.1) {x = (new.tag, (new.port, new.value))} {y = (t, (p, v))} (λ j. (sym is j, (sym port_is j, sym value_is j)))
-        (there_now (settled_new g new.fresh n new.tag new.port new.value new.arrival run₀ _ _ i new.effect (ap (λ (u : Tag). slice_get g.instrs u.instr) (sym is) ∙ at) b))
+        own_token : t ≡ new.tag → p ≡ new.port → v ≡ new.value → Settled count s' (event ∷ run₀) t p v
+        own_token is port_is value_is =
+            subst (λ (z : Tag × (Port × Value)). Settled count s' (event ∷ run₀) z.0 z.1.0 z.1.1) {x = (new.tag, (new.port, new.value))} {y = (t, (p, v))} (λ j. (sym is j, (sym port_is j, sym value_is j)))
+            (there_now (settled_new g new.fresh n new.tag new.port new.value new.arrival run₀ _ _ i new.effect (ap (λ (u : Tag). slice_get g.instrs u.instr) (sym is) ∙ at) b))
 
-    elsewhere : (t ≡ new.tag → ⊥) → Settled count s₀ run₀ t p v → Settled count s' (event ∷ run₀) t p v
-    elsewhere other (inl w) = inl (waits_on count s₀ s' n e e' t p v q refl (new.others t other) w)
-    elsewhere other (inr z) = later event z
+        elsewhere : (t ≡ new.tag → ⊥) → Settled count s₀ run₀ t p v → Settled count s' (event ∷ run₀) t p v
+        elsewhere other (inl w) = inl (waits_on count s₀ s' n e e' t p v q refl (new.others t other) w)
+        elsewhere other (inr z) = later event z
 
-    by_tag : (t ≡ new.tag) ⊎ (t ≡ new.tag → ⊥) → Among (Token t p v) (handled (happens g n e m.payload ∷ run₀))
-        → (Among (Token t p v) (handled run₀) → Settled count s₀ run₀ t p v) → Settled count s' (happens g n e m.payload ∷ run₀) t p v
-    by_tag (inl is) (inl token) before_it =
-        let same : Token t p v ≡ payload_of event = token ∙ ap payload_of new.is in
-        as_happened (own_token is (cc) (cc))
-    by_tag (inl is) (inr old) before_it = as_happened (old_token is (before_it old))
-    by_tag (inr other) (inl token) before_it =
-        let same : Token t p v ≡ payload_of event = token ∙ ap payload_of new.is in
-        absurd (other (cc))
-    by_tag (inr other) (inr old) before_it = as_happened (elsewhere other (before_it old))
+        by_tag : (t ≡ new.tag) ⊎ (t ≡ new.tag → ⊥) → Among (Token t p v) (handled (happens g n e m.payload ∷ run₀))
+            → (Among (Token t p v) (handled run₀) → Settled count s₀ run₀ t p v) → Settled count s' (happens g n e m.payload ∷ run₀) t p v
+        by_tag (inl is) (inl token) before_it =
+            let same : Token t p v ≡ payload_of event = token ∙ ap payload_of new.is in
+            as_happened (own_token is (cc) (cc))
+        by_tag (inl is) (inr old) before_it = as_happened (old_token is (before_it old))
+        by_tag (inr other) (inl token) before_it =
+            let same : Token t p v ≡ payload_of event = token ∙ ap payload_of new.is in
+            absurd (other (cc))
+        by_tag (inr other) (inr old) before_it = as_happened (elsewhere other (before_it old))
+
+    by_handling : Handling g n e m.payload → (Among (Token t p v) (handled run₀) → Settled count s₀ run₀ t p v) → Settled count s' (happens g n e m.payload ∷ run₀) t p v
+    by_handling (of_token new) before_it = by_token new before_it
+    by_handling (of_cell aside) before_it = elim h [
+      | inl is ↦ absurd (aside.no_token t p v (sym (is ∙ payload_of-happens g n e m.payload)))
+      | inr old ↦ by_cell aside (before_it old)
+    ]

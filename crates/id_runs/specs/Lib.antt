@@ -5,3 +5,4 @@ pub mod Keys
 pub mod OneMessage
 pub mod Suited
 pub mod Serials
+pub mod Cells

@@ -10,7 +10,7 @@ use Rattle.id_tag.specs.declared.Value.{Value}
 use Rattle.id_tag.specs.declared.Payload.{Payload}
 use Rattle.id_tag.specs.declared.Payload.TheVariants.{Token}
 use Rattle.id_core.specs.Machines.{World}
-use Rattle.id_meaning.specs.declared.SourceValue.{SourceValue}
+use Rattle.id_value.specs.declared.Constant.{Constant}
 use Rattle.id_list.specs.List.{Among}
 use Rattle.id_runs.specs.Events.{Event, sends_of, FiresOnce}
 use Rattle.id_runs.specs.Keys.{Key, key_of, same_key}
@@ -30,7 +30,7 @@ AtMostOne s run = (k : Key) → count_for k (flying s) + count_for k (handled ru
 
 -- in any run one event alone, or the start alone, sends for a key: each may be shown where a key was handled at most
 -- once, and a tag fired once
-pub record Exclusive (g : Parts) (vs : List SourceValue) (count : ℕ) : Type 0 where
+pub record Exclusive (g : Parts) (vs : List Constant) (count : ℕ) : Type 0 where
   -- a token for an operator of one port is for its port 0
   pub first_port : (s : World) (run : List Event) → Reach g vs count s run
       → (t : Tag) (p : Port) (v : Value) (i : Instr)

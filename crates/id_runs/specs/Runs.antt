@@ -1,5 +1,6 @@
 -- Runs, with the events of all elements in the order in which they came, the newest first (docs/MACHINE.md, "Runs").
 use Rattle.std.specs.Prelude.{◌≡◌, ◌⊎◌, ℕ, if◌then◌else◌, Option, Some, None, List, [], ◌∷◌, map, slice_get}
+use Rattle.std.specs.FinMap.{get}
 use Rattle.id_graph.specs.declared.dests.Port.{Port}
 use Rattle.id_graph.specs.declared.instr.Instr.{Instr}
 use Rattle.id_graph.specs.Graph.{Parts}
@@ -7,21 +8,23 @@ use Rattle.id_graph.specs.Ports.{two_ports}
 use Rattle.id_tag.specs.declared.Tag.{Tag}
 use Rattle.id_tag.specs.declared.Value.{Value}
 use Rattle.id_tag.specs.declared.Payload.{Payload}
-use Rattle.id_tag.specs.declared.Payload.TheVariants.{Token}
+use Rattle.id_tag.specs.declared.Payload.TheVariants.{Token, Read, Write}
 use Rattle.id_tag.specs.declared.Message.{Message}
 use Rattle.id_tag.specs.Routes.{route_of}
 use Rattle.id_match.specs.declared.Offered.{Offered}
 use Rattle.id_match.specs.declared.Offered.TheVariants.{Kept, Pair, Taken}
 use Rattle.id_match.specs.Waiting.{Store, offer_answer}
+use Rattle.id_bank.specs.Cells.{read_answer, write_answer}
 use Rattle.id_ops.specs.declared.Operands.{Operands}
 use Rattle.id_ops.specs.declared.Operands.TheVariants.{One, Two}
 use Rattle.id_ops.specs.declared.Fresh.{Fresh}
 use Rattle.id_ops.specs.Operators.{fired}
 use Rattle.id_core.specs.Steps.{State, next_numbers}
 use Rattle.id_core.specs.Machines.{World, start, start_messages, taken_from}
-use Rattle.id_meaning.specs.declared.SourceValue.{SourceValue}
+use Rattle.id_value.specs.declared.Constant.{Constant}
 use Rattle.id_list.specs.List.{Among}
-use Rattle.id_runs.specs.Events.{Arrival, Waits, Blocked, Fires, Event, Took, payload_of, sends_of}
+use Rattle.id_runs.specs.Events.{Arrival, Waits, Blocked, Fires, Event, Took, Looked, Wrote, payload_of}
+use Rattle.id_runs.specs.Events.{sends_of}
 
 -- the instruction fires under the tag on these operands
 abbrev pub fires_on : Fresh → Instr → Tag → Operands → Arrival
@@ -42,9 +45,11 @@ arrival_at fresh (Some i) w t p v =
 -- the event of the element n in a state, on a message
 abbrev pub happens : Parts → ℕ → State → Payload → Event
 happens g n e (Token t p v) = Took n t p v (arrival_at (next_numbers n e) (slice_get g.instrs t.instr) e.waiting t p v)
+happens g n e (Read c t) = Looked n c t (read_answer (get e.cells c))
+happens g n e (Write c v w) = Wrote n c v w (write_answer (get e.cells c))
 
 -- the machine comes to this state by these events
-pub data Reach (g : Parts) (vs : List SourceValue) (count : ℕ) : World → List Event → Type 0 where
+pub data Reach (g : Parts) (vs : List Constant) (count : ℕ) : World → List Event → Type 0 where
   begin : Reach g vs count (start g vs count) []
   deliver : {s : World} {run : List Event} (k : ℕ) (m : Message) (e : State) → Reach g vs count s run
       → slice_get s.flight k ≡ Some m → slice_get s.elements (route_of m.payload count) ≡ Some e
@@ -52,7 +57,7 @@ pub data Reach (g : Parts) (vs : List SourceValue) (count : ℕ) : World → Lis
       (happens g (route_of m.payload count) e m.payload ∷ run)
 
 -- some events lead there
-pub record Reached (g : Parts) (vs : List SourceValue) (count : ℕ) (s : World) : Type 0 where
+pub record Reached (g : Parts) (vs : List Constant) (count : ℕ) (s : World) : Type 0 where
   pub events : List Event
   pub reach : Reach g vs count s events
 
@@ -63,7 +68,7 @@ handled run = map payload_of run
 abbrev pub flying : World → List Payload
 flying s = map (λ m. m.payload) s.flight
 
-abbrev pub starting : Parts → List SourceValue → List Payload
+abbrev pub starting : Parts → List Constant → List Payload
 starting g vs = map (λ m. m.payload) (start_messages g vs)
 
 -- an event of the run sent the message
@@ -73,7 +78,7 @@ pub record SentBy (g : Parts) (run : List Event) (x : Payload) : Type 0 where
   pub sends : Among x (sends_of g event)
 
 -- the message was there at the start, or was sent
-abbrev pub Origin : Parts → List SourceValue → List Event → Payload → Type 0
+abbrev pub Origin : Parts → List Constant → List Event → Payload → Type 0
 Origin g vs run x = Among x (starting g vs) ⊎ SentBy g run x
 
 -- the message is in flight, or was handled

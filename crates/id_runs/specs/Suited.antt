@@ -9,7 +9,7 @@ use Rattle.id_ops.specs.declared.Fired.{Fired}
 use Rattle.id_ops.specs.declared.Fired.TheVariants.{Nothing}
 use Rattle.id_ops.specs.Operands.{Suits}
 use Rattle.id_core.specs.Machines.{World, TakesInputs, start, run}
-use Rattle.id_meaning.specs.declared.SourceValue.{SourceValue}
+use Rattle.id_value.specs.declared.Constant.{Constant}
 use Rattle.id_runs.specs.Events.{Event, FiresAs}
 use Rattle.id_runs.specs.Runs.{Reach, Reached}
 
@@ -21,12 +21,12 @@ pub record IsSuited (g : Parts) (t : Tag) (ops : Operands) (f : Fired) : Type 0 
   pub fires : f ≢ Nothing
 
 -- some events lead to this state, and in all that do each firing is suited
-pub record AreSuited (g : Parts) (vs : List SourceValue) (count : ℕ) (s : World) : Type 0 where
+pub record AreSuited (g : Parts) (vs : List Constant) (count : ℕ) (s : World) : Type 0 where
   pub reached : Reached g vs count s
   pub suited : (events : List Event) → Reach g vs count s events → (t : Tag) (f : Fired) (x : FiresAs events t f)
       → IsSuited g t x.operands f
 
 -- *Suited*: in each run of a valid graph that takes the inputs, operands that meet an operator suit it
 abbrev pub Suited : Type 0
-Suited = (g : Parts) (vs : List SourceValue) (count : ℕ) (ks : List ℕ) → IsValid g → TakesInputs g vs
+Suited = (g : Parts) (vs : List Constant) (count : ℕ) (ks : List ℕ) → IsValid g → TakesInputs g vs
     → AreSuited g vs count (run g count ks (start g vs count))

@@ -2,7 +2,7 @@
 //!
 //! Keeps: nothing; there is no code here.
 //! Errors: none.
-//! Read first: `specs/Events.antt`, then `specs/Runs.antt`, `specs/OneMessage.antt`, `specs/Suited.antt` and
-//! `specs/Serials.antt`.
+//! Read first: `specs/Events.antt`, then `specs/Runs.antt`, `specs/OneMessage.antt`, `specs/Cells.antt`,
+//! `specs/Suited.antt` and `specs/Serials.antt`.
 //! Not here: the machine's step and its records (`id_core`), the graphs of the schemas (`id_laws`).
 #![tactic(auto)]

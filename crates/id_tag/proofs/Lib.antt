@@ -1,1 +1,2 @@
 pub mod TagsLemmas
+pub mod SortedLemmas

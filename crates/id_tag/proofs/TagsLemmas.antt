@@ -1,15 +1,17 @@
 -- Lemmas on specs/Tags.antt.
-use Rattle.std.proofs.Common.{◌≡◌, ℕ, true, ◌&&◌, nat_eq, refl, sym, ◌∙◌, ap, arith}
-use Rattle.std.specs.Ordering.{nat_cmp, ordering_then, eq_by_cmp, is_eq}
+use Rattle.std.proofs.Common.{◌≡◌, ℕ, ℤ, true, ◌&&◌, nat_eq, refl, sym, ◌∙◌, ap, arith}
+use Rattle.std.specs.Ordering.{nat_cmp, int_cmp, int_eq, ordering_then, eq_by_cmp, is_eq}
 use Rattle.std.specs.declared.cmp.Ordering.{Ordering}
 use Rattle.std.specs.declared.cmp.Ordering.TheVariants.{Less, Equal, Greater}
 use Rattle.std.proofs.lemmas.Bool.Decides.{nat_tests}
-use Rattle.std.specs.Cmp.{IsTotalOrder, IsEquivalence, nat_cmp_total, eq_by_cmp_equiv}
+use Rattle.std.specs.Cmp.{IsTotalOrder, IsEquivalence, nat_cmp_total, int_cmp_total, eq_by_cmp_equiv}
 use Rattle.std.proofs.lemmas.Cmp.{then_total, on_total}
-use Rattle.std.proofs.lemmas.Map.Lookups.{CmpEqualImpliesEq, exact_pairs, exact_unsigned}
+use Rattle.std.proofs.lemmas.Map.Lookups.{CmpEqualImpliesEq, exact_pairs, exact_unsigned, exact_signed}
 use Rattle.id_tag.specs.declared.Context.{Context}
-use Rattle.id_tag.specs.Tags.{context_cmp, tag_cmp, same_tag}
 use Rattle.id_tag.specs.declared.Tag.{Tag}
+use Rattle.id_tag.specs.declared.Structure.{Structure}
+use Rattle.id_tag.specs.declared.Cell.{Cell}
+use Rattle.id_tag.specs.Tags.{context_cmp, tag_cmp, same_tag, structure_cmp, cell_cmp, same_cell}
 
 -- contexts that compare alike are one
 pub exact_contexts : CmpEqualImpliesEq context_cmp
@@ -67,3 +69,46 @@ ties_from_same_tag t u h = tied _ (ties-same_tag t u ∙ h)
 
 pub one_from_same_tag : (t u : Tag) → same_tag t u ≡ true → t ≡ u
 one_from_same_tag t u h = exact_tags t u (ties_from_same_tag t u h)
+
+-- ---- cells
+
+abbrev bounds_cmp : ℤ × ℤ → ℤ × ℤ → Ordering
+bounds_cmp a b = ordering_then (int_cmp a.0 b.0) (int_cmp a.1 b.1)
+
+abbrev serial_cmp : ℕ × (ℤ × ℤ) → ℕ × (ℤ × ℤ) → Ordering
+serial_cmp a b = ordering_then (nat_cmp a.0 b.0) (bounds_cmp a.1 b.1)
+
+-- structures that compare alike are one
+exact_structures : CmpEqualImpliesEq structure_cmp
+exact_structures a b h =
+    ap (λ (p : ℕ × (ℕ × (ℤ × ℤ))). record { element = p.0; serial = p.1.0; low = p.1.1.0; high = p.1.1.1 })
+    (exact_pairs nat_cmp serial_cmp exact_unsigned
+    (exact_pairs nat_cmp bounds_cmp exact_unsigned (exact_pairs int_cmp int_cmp exact_signed exact_signed))
+    (a.element, (a.serial, (a.low, a.high))) (b.element, (b.serial, (b.low, b.high))) h)
+
+-- cells that compare alike are one
+pub exact_cells : CmpEqualImpliesEq cell_cmp
+exact_cells c d h =
+    ap (λ (p : Structure × ℤ). record { structure = p.0; index = p.1 })
+    (exact_pairs structure_cmp int_cmp exact_structures exact_signed (c.structure, c.index) (d.structure, d.index) h)
+
+structures_total : IsTotalOrder structure_cmp
+structures_total =
+    then_total (on_total (λ s. s.element) nat_cmp_total)
+    (then_total (on_total (λ s. s.serial) nat_cmp_total)
+    (then_total (on_total (λ s. s.low) int_cmp_total) (on_total (λ s. s.high) int_cmp_total)))
+
+-- cells are in one order
+pub cells_total : IsTotalOrder cell_cmp
+cells_total = then_total (on_total (λ c. c.structure) structures_total) (on_total (λ c. c.index) int_cmp_total)
+
+integers_tie : (m n : ℤ) → is_eq (int_cmp m n) ≡ int_eq m n
+integers_tie m n = grind (arith, nat_tests)
+
+-- the test of cells by their numbers is that by their order
+pub ties-same_cell : (c d : Cell) → eq_by_cmp cell_cmp c d ≡ same_cell c d
+ties-same_cell c d = simp (then_ties, numbers_tie, integers_tie)
+
+-- cells that pass the test are one
+pub one_from_same_cell : (c d : Cell) → same_cell c d ≡ true → c ≡ d
+one_from_same_cell c d h = exact_cells c d (tied _ (ties-same_cell c d ∙ h))

@@ -1,4 +1,4 @@
--- The codes of tags, ports and values, by which models that hold them tell them apart.
+-- The codes of tags, cells, ports and values, by which models that hold them tell them apart.
 use Rattle.std.specs.Prelude.{◌≡◌, ℕ, ℤ, Bool, true, false, ◌⊎◌, refl}
 use Rattle.std.proofs.Common.{inl, inr}
 use Rattle.std.specs.Coded.{Coded, code_by, coded×, coded⊎, coded_ℕ, coded_ℤ, coded_bool}
@@ -6,6 +6,8 @@ use Rattle.id_graph.specs.declared.dests.Port.{Port}
 use Rattle.id_graph.specs.declared.dests.Port.TheVariants.{Zero, One}
 use Rattle.id_tag.specs.declared.Context.{Context}
 use Rattle.id_tag.specs.declared.Tag.{Tag}
+use Rattle.id_tag.specs.declared.Structure.{Structure}
+use Rattle.id_tag.specs.declared.Cell.{Cell}
 use Rattle.id_tag.specs.declared.Value.{Value}
 use Rattle.id_tag.specs.declared.Value.TheVariants as value
 
@@ -22,6 +24,20 @@ coded_tag =
     (λ t. (t.context, (t.iteration, t.instr)))
     (λ p. record { context = p.0; iteration = p.1.0; instr = p.1.1 })
     (λ _. refl)
+
+-- a structure as its two numbers with its bounds
+abbrev pub coded_structure : Coded Structure
+coded_structure =
+    code_by ((ℕ × ℕ) × (ℤ × ℤ)) (coded× (coded× coded_ℕ coded_ℕ) (coded× coded_ℤ coded_ℤ))
+    (λ a. ((a.element, a.serial), (a.low, a.high)))
+    (λ p. record { element = p.0.0; serial = p.0.1; low = p.1.0; high = p.1.1 })
+    (λ _. refl)
+
+-- a cell as its structure with its index
+abbrev pub coded_cell : Coded Cell
+coded_cell =
+    code_by (Structure × ℤ) (coded× coded_structure coded_ℤ) (λ c. (c.structure, c.index))
+    (λ p. record { structure = p.0; index = p.1 }) (λ _. refl)
 
 -- whether the port is port 1
 abbrev pub is_port_one : Port → Bool
@@ -41,35 +57,42 @@ port_of-is_port_one One = refl
 abbrev pub coded_port : Coded Port
 coded_port = code_by Bool coded_bool is_port_one port_of port_of-is_port_one
 
--- a truth value for a signal, or else a number, a truth value, a context or a tag
+-- a truth value for a signal, or else a number, a truth value, a structure, a cell, a context or a tag
 abbrev pub Parts : Type 0
-Parts = Bool ⊎ (ℤ ⊎ (Bool ⊎ (Context ⊎ Tag)))
+Parts = Bool ⊎ (ℤ ⊎ (Bool ⊎ (Structure ⊎ (Cell ⊎ (Context ⊎ Tag)))))
 
 -- what a value holds
 abbrev pub parts_of : Value → Parts
 parts_of value.Signal = inl false
 parts_of (value.Int n) = inr (inl n)
 parts_of (value.Bool b) = inr (inr (inl b))
-parts_of (value.Context c) = inr (inr (inr (inl c)))
-parts_of (value.Continuation t) = inr (inr (inr (inr t)))
+parts_of (value.Structure a) = inr (inr (inr (inl a)))
+parts_of (value.Address c) = inr (inr (inr (inr (inl c))))
+parts_of (value.Context c) = inr (inr (inr (inr (inr (inl c)))))
+parts_of (value.Continuation t) = inr (inr (inr (inr (inr (inr t)))))
 
 -- the value that holds it
 abbrev pub from_parts : Parts → Value
 from_parts (inl _) = value.Signal
 from_parts (inr (inl n)) = value.Int n
 from_parts (inr (inr (inl b))) = value.Bool b
-from_parts (inr (inr (inr (inl c)))) = value.Context c
-from_parts (inr (inr (inr (inr t)))) = value.Continuation t
+from_parts (inr (inr (inr (inl a)))) = value.Structure a
+from_parts (inr (inr (inr (inr (inl c))))) = value.Address c
+from_parts (inr (inr (inr (inr (inr (inl c)))))) = value.Context c
+from_parts (inr (inr (inr (inr (inr (inr t)))))) = value.Continuation t
 
 pub from_parts-parts_of : (v : Value) → from_parts (parts_of v) ≡ v
 from_parts-parts_of value.Signal = refl
 from_parts-parts_of (value.Int _) = refl
 from_parts-parts_of (value.Bool _) = refl
+from_parts-parts_of (value.Structure _) = refl
+from_parts-parts_of (value.Address _) = refl
 from_parts-parts_of (value.Context _) = refl
 from_parts-parts_of (value.Continuation _) = refl
 
 -- a value as what it holds
 abbrev pub coded_value : Coded Value
 coded_value =
-    code_by Parts (coded⊎ coded_bool
-    (coded⊎ coded_ℤ (coded⊎ coded_bool (coded⊎ coded_context coded_tag)))) parts_of from_parts from_parts-parts_of
+    code_by Parts
+    (coded⊎ coded_bool (coded⊎ coded_ℤ (coded⊎ coded_bool (coded⊎ coded_structure (coded⊎ coded_cell
+    (coded⊎ coded_context coded_tag)))))) parts_of from_parts from_parts-parts_of

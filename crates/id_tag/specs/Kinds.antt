@@ -11,6 +11,8 @@ abbrev pub kind_of : Value → PortKind
 kind_of value.Signal = Signal
 kind_of (value.Int _) = Int
 kind_of (value.Bool _) = Truth
+kind_of (value.Structure _) = Structure
+kind_of (value.Address _) = Address
 kind_of (value.Context _) = Context
 kind_of (value.Continuation _) = Continuation
 

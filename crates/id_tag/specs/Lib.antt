@@ -3,3 +3,5 @@ pub mod Kinds
 pub mod Routes
 -- for models that hold tags and values
 pub mod Codes
+-- for use inside
+pub mod Near

@@ -6,26 +6,46 @@
 //! Not here: waiting for a partner (`id_match`), firing (`id_ops`).
 #![tactic(auto)]
 
-ghost use Rattle.std.specs.Prelude.{◌≡◌, ◌<◌, ◌↔◌, IsTrue};
+ghost use Rattle.std.specs.Prelude.{◌≡◌, ◌<◌, ◌%◌, ◌↔◌, IsTrue};
 ghost use Rattle.id_tag.specs.Kinds.{kind_of, same_kind};
-ghost use Rattle.id_tag.specs.Routes.{tag_route, route_of};
+ghost use Rattle.id_tag.specs.Routes.{offset_of, tag_route, cell_route, route_of};
+
+mod near;
 
 use id_graph::{Port, PortKind};
+pub use near::NearHasher;
 
 /// The context of an activation: the element that made it, and the number that it gave it.
 /// Main's context is element 0, number 0; each element numbers those that it makes from 1.
-#[derive(Clone, Copy, Debug, PartialEq, Eq, PartialOrd, Ord, Hash)]
+#[derive(Clone, Copy, Debug, Default, PartialEq, Eq, PartialOrd, Ord, Hash)]
 pub struct Context {
     pub element: u32,
     pub serial: u64,
 }
 
 /// A tag: the context, the iteration (from 0) and the instruction that a value is for.
-#[derive(Clone, Copy, Debug, PartialEq, Eq, PartialOrd, Ord, Hash)]
+#[derive(Clone, Copy, Debug, Default, PartialEq, Eq, PartialOrd, Ord, Hash)]
 pub struct Tag {
     pub context: Context,
     pub iteration: u64,
     pub instr: u32,
+}
+
+/// A structure: the element that made it, the number that it gave it, and its bounds. Each element numbers
+/// those that it makes from 1.
+#[derive(Clone, Copy, Debug, PartialEq, Eq, PartialOrd, Ord, Hash)]
+pub struct Structure {
+    pub element: u32,
+    pub serial: u64,
+    pub low: i64,
+    pub high: i64,
+}
+
+/// A cell of a structure. Where a message names it, `index` is inside the structure's bounds.
+#[derive(Clone, Copy, Debug, PartialEq, Eq, PartialOrd, Ord, Hash)]
+pub struct Cell {
+    pub structure: Structure,
+    pub index: i64,
 }
 
 /// A value that a token carries.
@@ -34,12 +54,14 @@ pub enum Value {
     Signal,
     Int(i64),
     Bool(bool),
+    Structure(Structure),
+    Address(Cell),
     Context(Context),
     Continuation(Tag),
 }
 
 /// Who sent a message.
-#[derive(Clone, Copy)]
+#[derive(Clone, Copy, PartialEq, Eq)]
 pub enum Sender {
     /// No element: the message was there at the start.
     Start,
@@ -48,15 +70,30 @@ pub enum Sender {
 }
 
 /// What a message says.
-#[derive(Clone, Copy)]
+#[derive(Clone, Copy, PartialEq, Eq)]
 pub enum Payload {
     /// A value for a port of the tag's instruction.
-    Token { tag: Tag, port: Port, value: Value },
+    Token {
+        tag: Tag,
+        port: Port,
+        value: Value,
+    },
+    /// A read of a cell, whose value is to go to port 0 of the tag `reply`.
+    Read {
+        cell: Cell,
+        reply: Tag,
+    },
+    /// A value for a cell, from the store instruction of the tag `origin`.
+    Write {
+        cell: Cell,
+        value: Value,
+        origin: Tag,
+    },
 }
 
 /// A message, with its sender, the position in the sender's record of the event that sent it, its
 /// number among that event's outputs (both from 0), and the stamp of that event.
-#[derive(Clone, Copy)]
+#[derive(Clone, Copy, PartialEq, Eq)]
 pub struct Message {
     pub payload: Payload,
     pub sender: Sender,
@@ -74,6 +111,8 @@ impl Value {
             Value::Signal => PortKind::Signal,
             Value::Int(_) => PortKind::Int,
             Value::Bool(_) => PortKind::Bool,
+            Value::Structure(_) => PortKind::Structure,
+            Value::Address(_) => PortKind::Address,
             Value::Context(_) => PortKind::Context,
             Value::Continuation(_) => PortKind::Continuation,
         }
@@ -96,10 +135,10 @@ pub fn route(message: &Message, count: u32) -> u32
 {
     match message.payload {
         Payload::Token { tag, .. } => route_tag(tag, count),
+        Payload::Read { cell, .. } | Payload::Write { cell, .. } => route_cell(cell, count),
     }
 }
 
-// 128 bits hold the sum of any three such numbers, and mostly 64 bits do.
 fn route_tag(tag: Tag, count: u32) -> u32
     requires { 0 < count }
     ensures exact { result ≡ tag_route tag count }
@@ -110,6 +149,38 @@ fn route_tag(tag: Tag, count: u32) -> u32
     }
     let made = u128::from(tag.context.element) + u128::from(tag.context.serial);
     let sum = made + u128::from(tag.iteration);
+    modulo(sum, count)
+}
+
+fn route_cell(cell: Cell, count: u32) -> u32
+    requires { 0 < count }
+    ensures exact { result ≡ cell_route cell count }
+    ensures below { result < count }
+{
+    if count == 1 {
+        return 0;
+    }
+    let made = u128::from(cell.structure.element) + u128::from(cell.structure.serial);
+    let sum = made + u128::from(offset_of(cell));
+    modulo(sum, count)
+}
+
+// How far the cell is above the lowest of its structure.
+fn offset_of(cell: Cell) -> u64
+    ensures { result ≡ offset_of cell }
+{
+    if cell.index <= cell.structure.low {
+        return 0;
+    }
+    (i128::from(cell.index) - i128::from(cell.structure.low)) as u64
+}
+
+// 128 bits hold the sum of any three such numbers, and mostly 64 bits do.
+fn modulo(sum: u128, count: u32) -> u32
+    requires { 0 < count }
+    ensures exact { result ≡ sum % count }
+    ensures below { result < count }
+{
     if sum <= u128::from(u64::MAX) {
         (sum as u64 % u64::from(count)) as u32
     } else {

@@ -4,7 +4,7 @@ use Rattle.id_text.specs.declared.token.Token.{Token}
 use Rattle.id_text.specs.declared.token.TokenKind.{TokenKind}
 use Rattle.id_text.specs.declared.token.TokenKind.TheVariants.{Name, Key, Sign}
 use Rattle.id_text.specs.declared.token.Keyword.TheVariants as keyword
-use Rattle.id_text.specs.declared.token.Symbol.TheVariants.{LeftBrace, RightBrace}
+use Rattle.id_text.specs.declared.token.Symbol.TheVariants.{LeftBrace, RightBrace, LeftBracket}
 use Rattle.id_tree.specs.declared.parser.Scope.{Scope}
 use Rattle.id_tree.specs.declared.parser.Scope.TheVariants as scope
 use Rattle.id_tree.specs.declared.tokens.Word.{Word}
@@ -12,17 +12,17 @@ use Rattle.id_tree.specs.declared.tokens.Word.TheVariants as the
 use Rattle.id_tree.specs.declared.tree.Stmt.{Stmt}
 use Rattle.id_tree.specs.declared.tree.TreeError.{TreeError}
 use Rattle.id_tree.specs.Tree.{Tree, stmt_tree, binding, next, none, more}
-use Rattle.id_tree.specs.Grammar.{Unary, Tail, Rest, done, name, part, either, with_statement, statement_of, last_of, block_of, loop_of, Opens, by_braces, by_binding, by_next, by_body, by_last}
+use Rattle.id_tree.specs.Grammar.{Atom, Tail, Rest, done, name, part, either, with_statement, statement_of, assigned_of, last_of, block_of, loop_of, Opens, by_braces, by_statement, by_next, by_body, by_last}
 use Rattle.id_tree.specs.Machine.{opening, Inside, Want, Have, name_in, run}
 use Rattle.id_tree.specs.Readers.{first_kind, second_kind, IsRead, IsGathered, Leads, Fails, BeginsWithName, LacksName, Encloses, Exposes, onto, last_word, Adds, Gathers}
 use Rattle.id_tree.proofs.RunLemmas.{run-none, run-done, run-part, run-inside}
 use Rattle.id_tree.proofs.ReaderLemmas.{EndsBy-at, At, At-opens, At-chosen, At-left_out, At-enclosed, Fails-enclosed, Leads-done, Leads-at}
 
-pub opens_braces : {k : TokenKind} {p : ℕ} → k ≡ Sign LeftBrace → Opens Unary k p (either (the.Key keyword.While) (loop_of p) (block_of p))
+pub opens_braces : {k : TokenKind} {p : ℕ} → k ≡ Sign LeftBrace → Opens Atom k p (either (the.Key keyword.While) (λ _. loop_of p) (block_of p))
 opens_braces q = rw q by_braces
 
-opens_binding : {k : TokenKind} {p : ℕ} (o : Scope) (x : List ℕ) → k ≡ Name x → Opens (Tail o) k p (statement_of o (λ e. binding x e p))
-opens_binding o x q = rw q by_binding
+opens_statement : {k : TokenKind} {p : ℕ} (o : Scope) (x : List ℕ) → k ≡ Name x → Opens (Tail o) k p (assigned_of o x p)
+opens_statement o x q = rw q by_statement
 
 opens_next : {k : TokenKind} {p : ℕ} → k ≡ Key keyword.Next → Opens (Tail scope.Loop) k p (name (λ x q. statement_of scope.Loop (λ e. next x e p)))
 opens_next q = rw q by_next
@@ -33,13 +33,13 @@ opens_last scope.Loop q = rw q by_last
 
 -- behind a brace comes the word `while`, or a block
 module _ {ts us : List Token} {t : Token} {d : ℕ} (e : ts ≡ t ∷ us) (is : first_kind ts ≡ Sign LeftBrace) (w : d + 1 + 1 ≤ 200) where
-  At-braces : At ts Unary d us (either (the.Key keyword.While) (loop_of t.start) (block_of t.start)) 0
+  At-braces : At ts Atom d us (either (the.Key keyword.While) (λ _. loop_of t.start) (block_of t.start)) 0
   At-braces = At-opens e (opens_braces is) d w
 
-  pub At-block : (second_kind ts ≡ Key keyword.While → ⊥) → At ts Unary d us (block_of t.start) 0
+  pub At-block : (second_kind ts ≡ Key keyword.While → ⊥) → At ts Atom d us (block_of t.start) 0
   At-block f = At-left_out At-braces (λ q. f (ap second_kind e ∙ q))
 
-  pub At-loop : {v : Token} {vs : List Token} → us ≡ v ∷ vs → second_kind ts ≡ Key keyword.While → At ts Unary d vs (loop_of t.start) 0
+  pub At-loop : {v : Token} {vs : List Token} → us ≡ v ∷ vs → second_kind ts ≡ Key keyword.While → At ts Atom d vs (loop_of t.start) 0
   At-loop i q = At-chosen At-braces i (ap second_kind (sym e) ∙ q)
 
 -- what is read in a tail is read in as many expressions as the tail
@@ -49,10 +49,16 @@ Encloses-tail {ts = ts} {us = us} {d = d} {h = h} {w = w} {e = e} q = subst (λ 
 pub Exposes-tail : {ts : List Token} {d : ℕ} {w : Word} {x : TreeError} → Exposes ts d w x → Exposes ts (d + 0) w x
 Exposes-tail {ts = ts} {d = d} {w = w} {x = x} q = subst (λ k. Exposes ts k w x) (sym (add-zero d)) q
 
--- a binding begins with its name
+-- a binding or a store begins with a name
+pub At-statement : {ts us : List Token} {x : List ℕ} {p : ℕ} (o : Scope) (d : ℕ) → d + 1 ≤ 200 → BeginsWithName ts x p us →
+    At ts (Tail o) d us (assigned_of o x p) 0
+At-statement {x = x} o d w q = rw (← q.place) (At-opens q.whole (opens_statement o x (ap first_kind q.whole ∙ q.kind)) d (omega arith))
+
+-- behind that of a binding stands no bracket
 pub At-binding : {ts us : List Token} {x : List ℕ} {p : ℕ} (o : Scope) (d : ℕ) → d + 1 ≤ 200 → BeginsWithName ts x p us →
+    (first_kind us ≡ Sign LeftBracket → ⊥) →
     At ts (Tail o) d us (statement_of o (λ e. binding x e p)) 0
-At-binding {x = x} o d w q = rw (← q.place) (At-opens q.whole (opens_binding o x (ap first_kind q.whole ∙ q.kind)) d (omega arith))
+At-binding o d w q f = At-left_out (At-statement o d w q) f
 
 -- a next statement begins with its word
 pub At-next : {ts us : List Token} {t : Token} (d : ℕ) → d + 1 ≤ 200 → ts ≡ t ∷ us → first_kind ts ≡ Key keyword.Next →

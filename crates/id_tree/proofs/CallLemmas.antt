@@ -4,7 +4,7 @@ use Rattle.id_text.specs.Tokens.{EndsOnce}
 use Rattle.id_text.specs.declared.token.Token.{Token}
 use Rattle.id_text.specs.declared.token.TokenKind.{TokenKind}
 use Rattle.id_text.specs.declared.token.TokenKind.TheVariants.{Name, Number, Key, Sign}
-use Rattle.id_text.specs.declared.token.Keyword.TheVariants.{If, Not, True, False}
+use Rattle.id_text.specs.declared.token.Keyword.TheVariants.{If, Not, True, False, Array}
 use Rattle.id_text.specs.declared.token.Symbol.TheVariants.{LeftParen, RightParen, LeftBrace, Comma, Minus}
 use Rattle.id_tree.specs.declared.tokens.Word.TheVariants as the
 use Rattle.id_tree.specs.declared.tree.Expr.{Expr}
@@ -12,7 +12,7 @@ use Rattle.id_tree.specs.declared.tree.TreeError.{TreeError}
 use Rattle.id_tree.specs.declared.tree.TreeError.TheVariants.{Unexpected}
 use Rattle.id_tree.specs.Tree as tree
 use Rattle.id_tree.specs.Tree.{Tree, tree_of, call, none, more}
-use Rattle.id_tree.specs.Grammar.{Expression, Unary, Arguments, MoreArguments, Rest, done, part, named_of, argument_of, arguments_of, Opens, no_arguments, last_argument, next_argument}
+use Rattle.id_tree.specs.Grammar.{Expression, Atom, Arguments, MoreArguments, Rest, done, part, named_of, argument_of, arguments_of, Opens, no_arguments, last_argument, next_argument}
 use Rattle.id_tree.specs.Machine.{opening, Frame, Inside, State, Move, Want, Have, Next, expresses, takes, Refused, run}
 use Rattle.id_tree.specs.Readers.{first_kind, first_start, IsRead, IsGathered, EndsBy, Leads, Fails, begins_expression, no_room_at, Applies, Misapplies, passed, Hands}
 use Rattle.id_tree.proofs.RunLemmas.{Unopened, run-deep, run-none, run-done, run-part, run-inside, run-chosen, run-left_out, run-arguments}
@@ -20,13 +20,13 @@ use Rattle.id_tree.proofs.ReaderLemmas.{EndsBy-at, At, At-opens, Leads-done, fir
 
 -- A name, and what stands behind it.
 module _ {ts us : List Token} {t : Token} (e : ts ≡ t ∷ us) (d : ℕ) (w : d + 1 ≤ 200) (x : List ℕ) (q : first_kind ts ≡ Name x) where
-  At-named : At ts Unary d us (named_of x t.start) 0
+  At-named : At ts Atom d us (named_of x t.start) 0
   At-named = At-opens e (opens_name x q) d (omega arith)
 
-  pub Leads-named : {vs : List Token} {a : Tree} {h : ℕ} → Applies us d x t.start vs a h → Leads ts Unary d vs a h
+  pub Leads-named : {vs : List Token} {a : Tree} {h : ℕ} → Applies us d x t.start vs a h → Leads ts Atom d vs a h
   Leads-named p = record { comes = λ K. At-named.comes K ∙ p.comes K }
 
-  pub Fails-named : {y : TreeError} → Misapplies us d x t.start y → Fails ts Unary d y
+  pub Fails-named : {y : TreeError} → Misapplies us d x t.start y → Fails ts Atom d y
   Fails-named {y = y} p = record { fails = λ K. EndsBy-at y (At-named.comes K) (p.fails K) }
 
 -- what was read behind the name was read from it on
@@ -42,7 +42,7 @@ pub Applies-name : {ts : List Token} {x : List ℕ} {p : ℕ} (d : ℕ) {a : Tre
 Applies-name {ts = ts} {x = x} {p = p} d f i j = rw (i, j) (record {
   comes = λ K.
       let n = tree.name x p in
-      run-left_out 200 ts (the.Sign LeftParen) (part Arguments (λ a. done (call x a p))) (done n) 0 (d + 1) 1 K (no_word (the.Sign LeftParen) ts f)
+      run-left_out 200 ts (the.Sign LeftParen) (λ _. part Arguments (λ a. done (call x a p))) (done n) 0 (d + 1) 1 K (no_word (the.Sign LeftParen) ts f)
       ∙ run-done 200 ts n 0 (d + 1) 1 K;
 })
 
@@ -51,7 +51,8 @@ module _ {ts us : List Token} {t : Token} (e : ts ≡ t ∷ us) (q : first_kind 
   bracket_comes : (K : List Frame) → run 200 ts (Next (named_of x p) 0 (d + 1) 1 K) ≡ run 200 us (Want Arguments (d + 1) (Inside (λ a. done (call x a p)) 0 (d + 1) 1 ∷ K))
   bracket_comes K =
       let f : Tree → Rest = λ a. done (call x a p) in
-      rw e (run-chosen 200 t us (the.Sign LeftParen) (part Arguments f) (done (tree.name x p)) 0 (d + 1) 1 K (first_of e q) ∙ run-part 200 us Arguments f 0 (d + 1) 1 K)
+      rw e (run-chosen 200 t us (the.Sign LeftParen) (λ _. part Arguments f) (done (tree.name x p)) 0 (d + 1) 1 K (first_of e q)
+      ∙ run-part 200 us Arguments f 0 (d + 1) 1 K)
 
   pub Applies-call : {vs : List Token} {a b : Tree} {m h : ℕ} → Leads us Arguments (d + 1) vs a m → b ≡ call x a p → h ≡ m + 1 → Applies ts d x p vs b h
   Applies-call {vs = vs} {a = a} {m = m} r i j = rw (i, j) (record {
@@ -217,6 +218,7 @@ wants_room t d K b w = by_kind t.kind refl b
     by_kind (Key Not) e b = rw e (more _)
     by_kind (Key True) e b = rw e (more _)
     by_kind (Key False) e b = rw e (more _)
+    by_kind (Key Array) e b = rw e (more _)
     by_kind (Number v) e b = rw e (more _)
     by_kind (Name x) e b = rw e (more _)
     by_kind (Sign Minus) e b = rw e (more _)
@@ -232,6 +234,7 @@ wants_none t d K b = by_kind t.kind refl b
     by_kind (Key Not) e b = cc
     by_kind (Key True) e b = cc
     by_kind (Key False) e b = cc
+    by_kind (Key Array) e b = cc
     by_kind (Number v) e b = cc
     by_kind (Name x) e b = cc
     by_kind (Sign Minus) e b = cc

@@ -4,23 +4,24 @@ use Rattle.std.proofs.Math.Dec.{leb-zero}
 use Rattle.id_text.specs.declared.token.Token.{Token}
 use Rattle.id_text.specs.declared.token.TokenKind.{TokenKind}
 use Rattle.id_text.specs.declared.token.TokenKind.TheVariants.{Sign}
-use Rattle.id_text.specs.declared.token.Symbol.TheVariants.{RightParen, Comma}
+use Rattle.id_text.specs.declared.token.Symbol.TheVariants.{RightParen, LeftBracket, Comma}
 use Rattle.id_tree.specs.declared.parser.Level.{Level}
 use Rattle.id_tree.specs.declared.parser.Level.TheVariants as level
 use Rattle.id_tree.specs.declared.parser.Scope.{Scope}
 use Rattle.id_tree.specs.declared.tokens.Word.{Word}
+use Rattle.id_tree.specs.declared.tokens.Word.TheVariants as the
 use Rattle.id_value.specs.declared.BinaryOp.{BinaryOp}
 use Rattle.id_tree.specs.Tree.{Tree, none, more}
-use Rattle.id_tree.specs.Grammar.{Phrase, Definition, Parameters, MoreParameters, Expression, Grouped, Negation, Unary, Arguments, MoreArguments, Tail, arguments_of, Rest, part, Opens, by_conditional, denied, negated, number, by_true, by_false, parens, by_name, by_braces, last_argument, next_argument, operand, left_operand, operator_of, own_height, Derives, opened, unconditional, single, grouped, plain, some_arguments, Follows, ended, taken, chosen, left_out, named, kinded, given, Program, empty, defined}
-use Rattle.id_tree.specs.Machine.{opening, is_word, room, Move, pick, ahead, ends, wants, Frame, Left, Right, Inside, Outer, again, State, Begin, Want, Have, Next, Accepted, Refused, run}
-use Rattle.id_tree.proofs.RowLemmas.{Quiet, Ends, Bars, Parts, valid, Quiet-operator, Follows-height, arguments_parts}
-use Rattle.id_tree.proofs.RunLemmas.{First, Unopened, run-done, run-part, run-inside, run-outer, run-right, run-level, run-left, run-unconditional, run-plain, run-word, run-chosen, run-left_out, run-arguments, run-name, run-kind, run-opens, run-operator}
+use Rattle.id_tree.specs.Grammar.{Phrase, Definition, Parameters, MoreParameters, Expression, Grouped, Negation, Unary, Postfix, Atom, Arguments, MoreArguments, Tail, arguments_of, Rest, part, Opens, by_conditional, denied, negated, number, by_true, by_false, parens, by_name, by_array, by_braces, last_argument, next_argument, operand, left_operand, operator_of, own_height, Derives, opened, unconditional, single, grouped, plain, bare, atomic, fetched, some_arguments, Follows, ended, taken, chosen, left_out, named, kinded, given, Program, empty, defined}
+use Rattle.id_tree.specs.Machine.{opening, is_word, room, Move, pick, ahead, ends, wants, Frame, Left, Right, Target, Inside, Outer, again, State, Begin, Want, Have, Next, Accepted, Refused, run}
+use Rattle.id_tree.proofs.RowLemmas.{Quiet, Ends, Bars, Parts, valid, not_fetch, Quiet-atom, Quiet-fetch, Quiet-operator, Follows-height, arguments_parts}
+use Rattle.id_tree.proofs.RunLemmas.{First, Unopened, run-done, run-part, run-inside, run-outer, run-right, run-level, run-left, run-unconditional, run-plain, run-bare, run-postfix, run-target, run-fetch, run-word, run-chosen, run-left_out, run-arguments, run-name, run-kind, run-opens, run-operator}
 
 -- no operator of a level within the phrase begins the tokens
 abbrev Stops : Phrase → List Token → Type 0
 Stops s ts = First (Quiet s) ts
 
--- none of a tighter level than the phrase's own, where it has one that may go on
+-- nothing that goes on a tighter level than the phrase's own, where it has one that may go on
 abbrev StopsInside : Phrase → List Token → Type 0
 StopsInside (Grouped level.Or) ts = Stops (operand level.Or) ts
 StopsInside (Grouped level.And) ts = Stops (operand level.And) ts
@@ -33,6 +34,8 @@ StopsInside Definition ts = Unit {0}
 StopsInside Parameters ts = Unit {0}
 StopsInside MoreParameters ts = Unit {0}
 StopsInside Unary ts = Stops Unary ts
+StopsInside Postfix ts = Stops Atom ts
+StopsInside Atom ts = Stops Atom ts
 StopsInside Arguments ts = Unit {0}
 StopsInside MoreArguments ts = Unit {0}
 StopsInside (Tail o) ts = Unit {0}
@@ -46,6 +49,8 @@ After MoreParameters e h d K = Have e h K
 After Expression e h d K = Have e h K
 After Negation e h d K = Have e h K
 After Unary e h d K = Have e h K
+After Postfix e h d K = Have e h (Target d ∷ K)
+After Atom e h d K = Have e h K
 After Arguments e h d K = Have e h K
 After MoreArguments e h d K = Have e h K
 After (Tail o) e h d K = Have e h K
@@ -68,6 +73,9 @@ Stops-inside Definition ts q = tt
 Stops-inside Parameters ts q = tt
 Stops-inside MoreParameters ts q = tt
 Stops-inside Unary ts q = q
+Stops-inside Postfix [] q = tt
+Stops-inside Postfix (t ∷ ts) q = Quiet-atom t.kind q
+Stops-inside Atom ts q = q
 Stops-inside Arguments ts q = tt
 Stops-inside MoreArguments ts q = tt
 Stops-inside (Tail o) ts q = tt
@@ -112,6 +120,8 @@ run-after n us MoreParameters e h d K q = refl
 run-after n us Expression e h d K q = refl
 run-after n us Negation e h d K q = refl
 run-after n us Unary e h d K q = refl
+run-after n us Postfix e h d K q = run-target n us e h d K (First-weaker (Quiet Postfix) (λ k. is_word (the.Sign LeftBracket) k ≡ false) not_fetch us q)
+run-after n us Atom e h d K q = refl
 run-after n us Arguments e h d K q = refl
 run-after n us MoreArguments e h d K q = refl
 run-after n us (Tail o) e h d K q = refl
@@ -155,7 +165,7 @@ Follows-bars : {r : Rest} {ts : List Token} {e : Tree} {h : ℕ} → Follows r t
     Bars s0 w r → Stops s0 us → First (λ k. is_word w k ≡ false) (ts ++ us)
 Follows-bars ended s0 w us b q = First-weaker (Quiet s0) (λ k. is_word w k ≡ false) b us q
 Follows-bars (given {s = i} {f = g} {us = xs} {ts = ts} x f) s0 w us b q = rw (append_assoc xs ts us) (Part-bars i g x s0 w (ts ++ us) b)
-Follows-bars (taken i f) s0 w us b q = absurd b
+Follows-bars (taken i f) s0 w us b q = rw i b
 Follows-bars (named i f) s0 w us b q = absurd b
 Follows-bars (kinded i f) s0 w us b q = absurd b
 Follows-bars (chosen i f) s0 w us b q = absurd b
@@ -167,6 +177,8 @@ Stops-opens (Grouped l) o us q = elim o [ ]
 Stops-opens Expression o us q = q
 Stops-opens Negation o us q = q
 Stops-opens Unary o us q = q
+Stops-opens Postfix o us q = elim o [ ]
+Stops-opens Atom o us q = q
 Stops-opens s o [] q = tt
 Stops-opens Definition o (t ∷ us) q = tt
 Stops-opens Parameters o (t ∷ us) q = tt
@@ -184,6 +196,8 @@ After-opens Expression o e h d K = refl
 After-opens (Grouped l) o e h d K = elim o [ ]
 After-opens Negation o e h d K = refl
 After-opens Unary o e h d K = refl
+After-opens Postfix o e h d K = elim o [ ]
+After-opens Atom o e h d K = refl
 After-opens Arguments o e h d K = refl
 After-opens MoreArguments o e h d K = refl
 After-opens (Tail j) o e h d K = refl
@@ -193,14 +207,22 @@ abbrev IsFirst : Phrase → Phrase → Type 0
 IsFirst Expression (Grouped l) = Unit {0}
 IsFirst Expression Negation = Unit {0}
 IsFirst Expression Unary = Unit {0}
+IsFirst Expression Postfix = Unit {0}
+IsFirst Expression Atom = Unit {0}
 IsFirst Negation (Grouped level.Comparison) = Unit {0}
 IsFirst Negation (Grouped level.Sum) = Unit {0}
 IsFirst Negation (Grouped level.Product) = Unit {0}
 IsFirst Negation Unary = Unit {0}
+IsFirst Negation Postfix = Unit {0}
+IsFirst Negation Atom = Unit {0}
+IsFirst Unary Postfix = Unit {0}
+IsFirst Unary Atom = Unit {0}
 IsFirst Arguments Expression = Unit {0}
 IsFirst Arguments (Grouped l) = Unit {0}
 IsFirst Arguments Negation = Unit {0}
 IsFirst Arguments Unary = Unit {0}
+IsFirst Arguments Postfix = Unit {0}
+IsFirst Arguments Atom = Unit {0}
 IsFirst _ _ = ⊥
 
 IsFirst-operand : (s0 : Phrase) (l : Level) → IsFirst s0 (Grouped l) → IsFirst s0 (operand l)
@@ -240,6 +262,19 @@ IsFirst-left Arguments level.Sum q = tt
 IsFirst-left Arguments level.Product q = tt
 IsFirst-left _ _ q = absurd q
 
+IsFirst-bare : (s0 : Phrase) → IsFirst s0 Unary → IsFirst s0 Postfix
+IsFirst-bare Expression q = tt
+IsFirst-bare Negation q = tt
+IsFirst-bare Arguments q = tt
+IsFirst-bare _ q = absurd q
+
+IsFirst-atomic : (s0 : Phrase) → IsFirst s0 Postfix → IsFirst s0 Atom
+IsFirst-atomic Expression q = tt
+IsFirst-atomic Negation q = tt
+IsFirst-atomic Unary q = tt
+IsFirst-atomic Arguments q = tt
+IsFirst-atomic _ q = absurd q
+
 -- its productions begin with no token with which one of the other's begins
 Unopened-opens : {s : Phrase} {k : TokenKind} {p : ℕ} {r : Rest} → Opens s k p r → (s0 : Phrase) → IsFirst s0 s → opening s0 k p ≡ None
 Unopened-opens denied Expression q = refl
@@ -266,6 +301,16 @@ Unopened-opens by_false Arguments q = refl
 Unopened-opens parens Arguments q = refl
 Unopened-opens by_name Arguments q = refl
 Unopened-opens by_braces Arguments q = refl
+Unopened-opens by_array Expression q = refl
+Unopened-opens by_array Negation q = refl
+Unopened-opens by_array Arguments q = refl
+Unopened-opens number Unary q = refl
+Unopened-opens by_true Unary q = refl
+Unopened-opens by_false Unary q = refl
+Unopened-opens parens Unary q = refl
+Unopened-opens by_name Unary q = refl
+Unopened-opens by_array Unary q = refl
+Unopened-opens by_braces Unary q = refl
 Unopened-opens _ Expression q = absurd q
 Unopened-opens _ Negation q = absurd q
 Unopened-opens _ _ q = absurd q
@@ -283,6 +328,9 @@ Unopened-derives (single {l = l} x) s0 q us = Unopened-derives x s0 (IsFirst-ope
 Unopened-derives (grouped {l = l} {us = xs} {vs = ys} x t p y) s0 q us =
     rw (append_assoc xs (t ∷ ys) us) (Unopened-derives x s0 (IsFirst-left s0 l q) (t ∷ (ys ++ us)))
 Unopened-derives (plain x) s0 q us = Unopened-derives x s0 (IsFirst-comparison s0 q) us
+Unopened-derives (bare x) s0 q us = Unopened-derives x s0 (IsFirst-bare s0 q) us
+Unopened-derives (atomic x) s0 q us = Unopened-derives x s0 (IsFirst-atomic s0 q) us
+Unopened-derives (fetched {us = xs} {vs = ys} x t p f) s0 q us = rw (append_assoc xs (t ∷ ys) us) (Unopened-derives x s0 q (t ∷ (ys ++ us)))
 Unopened-derives (some_arguments f) s0 q us = absurd (no_arguments s0 q)
   where
     no_arguments : (s0 : Phrase) → IsFirst s0 Arguments → ⊥
@@ -349,6 +397,16 @@ mutual
       ∙ run-after n us (operand l) b k (d + 1) (Right l o a m t.start d ∷ K) stops
       ∙ run-right n us b k l o a m t.start d K)
   run-derives (plain {ts = ts} x) n d K us b q = run-plain n (ts ++ us) d K (Unopened-derives x Negation tt us) ∙ run-derives x n d K us b q
+  run-derives (bare {ts = ts} {e = e} {h = h} x) n d K us b q =
+      run-bare n (ts ++ us) d K (Unopened-derives x Unary tt us)
+      ∙ run-derives x n d K us b (Stops-inside Postfix us q)
+      ∙ run-after n us Postfix e h d K q
+  run-derives (atomic {ts = ts} x) n d K us b q = run-postfix n (ts ++ us) d K ∙ run-derives x n d (Target d ∷ K) us b q
+  run-derives (fetched {us = xs} {vs = ys} {a = a} {e = e} {m = m} {n = k} x t p f) n d K us w q =
+      rw (append_assoc xs (t ∷ ys) us)
+      (run-derives x n d K (t ∷ (ys ++ us)) (omega arith) (Quiet-fetch p)
+      ∙ run-fetch n t (ys ++ us) a m d K p (omega arith)
+      ∙ run-follows f n m (d + 1) 1 (Target d ∷ K) us Arguments (omega arith) (λ i. ((refl, (refl, (refl, (refl, (refl, refl))))), tt)) (Stops-arguments us))
   run-derives (some_arguments {ts = ts} {e = e} {h = h} f) n d K us b q =
       run-arguments n (ts ++ us) d K (Unopened-arguments f us)
       ∙ run-follows f n 0 (d + 0) 0 K us Arguments (omega arith) (arguments_parts Arguments) (Stops-arguments us)
@@ -359,7 +417,7 @@ mutual
   run-follows (taken {w = v} {t = t} {r = r} {ts = ts} i f) n m d c K us s0 w p q =
       run-word n t (ts ++ us) v r m d c K i ∙ run-follows f n m d c K us s0 w p q
   run-follows (chosen {w = v} {t = t} {r = r} {q = o} {ts = ts} i f) n m d c K us s0 w p q =
-      run-chosen n t (ts ++ us) v r o m d c K i ∙ run-follows f n m d c K us s0 w p.1 q
+      run-chosen n t (ts ++ us) v r o m d c K i ∙ run-follows f n m d c K us s0 w (p.1 t.start) q
   run-follows (left_out {w = v} {r = r} {q = o} {ts = ts} f) n m d c K us s0 w p q =
       run-left_out n (ts ++ us) v r o m d c K (Follows-bars f s0 v us p.0 q) ∙ run-follows f n m d c K us s0 w p.2 q
   run-follows (named {t = t} {x = x} {f = g} {ts = ts} i f) n m d c K us s0 w p q =

@@ -4,8 +4,8 @@ use Rattle.id_text.specs.declared.token.Token.{Token}
 use Rattle.id_text.specs.declared.token.TokenKind.{TokenKind}
 use Rattle.id_value.specs.declared.Kind.{Kind}
 use Rattle.id_tree.specs.Tree as tree
-use Rattle.id_tree.specs.Tree.{Tree, literal, unary, binary, conditional, call, block, loop, binding, param, define, none, more}
-use Rattle.id_tree.specs.Grammar.{Phrase, Rest, done, word, either, name, of_kind, part, with_statement, with_tail, loop_with_tail, Opens, definition, no_parameters, first_parameter, last_parameter, next_parameter, by_conditional, denied, negated, number, by_true, by_false, parens, by_name, by_braces, no_arguments, last_argument, next_argument, by_binding, by_next, by_body, by_last, Derives, opened, unconditional, single, grouped, plain, some_arguments, Follows, ended, taken, chosen, left_out, named, kinded, given, Program, empty, defined}
+use Rattle.id_tree.specs.Tree.{Tree, literal, unary, binary, conditional, call, block, loop, array, fetch, binding, store, param, define, none, more}
+use Rattle.id_tree.specs.Grammar.{Phrase, Rest, done, word, either, name, of_kind, part, with_statement, with_tail, loop_with_tail, Opens, definition, no_parameters, first_parameter, last_parameter, next_parameter, by_conditional, denied, negated, number, by_true, by_false, parens, by_name, by_array, by_braces, no_arguments, last_argument, next_argument, by_statement, by_next, by_body, by_last, Derives, opened, unconditional, single, grouped, plain, bare, atomic, fetched, some_arguments, Follows, ended, taken, chosen, left_out, named, kinded, given, Program, empty, defined}
 use Rattle.id_tree.specs.Distinct.{HasPlace, Apart, Distinct}
 use Rattle.id_tree.proofs.FinishLemmas.{Laid}
 
@@ -19,8 +19,11 @@ Spans low (conditional t x y p) high = (low ≤ p) × ((mid : ℕ) × (next : �
 Spans low (call x a p) high = (low ≤ p) × Spans (p + 1) a high
 Spans low (block a b p) high = (low ≤ p) × ((mid : ℕ) × Spans (p + 1) a mid × Spans mid b high)
 Spans low (loop t x y p) high = (low ≤ p) × ((mid : ℕ) × (next : ℕ) × Spans (p + 1) t mid × Spans mid x next × Spans next y high)
+Spans low (array a b p) high = (low ≤ p) × ((mid : ℕ) × Spans (p + 1) a mid × Spans mid b high)
+Spans low (fetch t i p) high = Spans low t p × Spans (p + 1) i high
 Spans low (binding x a p) high = (low ≤ p) × Spans (p + 1) a high
 Spans low (tree.next x a p) high = (low ≤ p) × Spans (p + 1) a high
+Spans low (store t i a p) high = Spans low t p × ((mid : ℕ) × Spans (p + 1) i mid × Spans mid a high)
 Spans low (param x k p) high = (low ≤ p) × (p < high)
 Spans low (define x a k b p) high = (low ≤ p) × ((mid : ℕ) × Spans (p + 1) a mid × Spans mid b high)
 Spans low none high = low ≤ high
@@ -38,8 +41,11 @@ Spans-order (call x a p) low high q = omega (arith, q.0, Spans-order a (p + 1) h
 Spans-order (block a b p) low high (u, (mid, v, w)) = omega (arith, u, Spans-order a (p + 1) mid v, Spans-order b mid high w)
 Spans-order (loop t x y p) low high (u, (mid, next, v, w, z)) =
     omega (arith, u, Spans-order t (p + 1) mid v, Spans-order x mid next w, Spans-order y next high z)
+Spans-order (array a b p) low high (u, (mid, v, w)) = omega (arith, u, Spans-order a (p + 1) mid v, Spans-order b mid high w)
+Spans-order (fetch t i p) low high q = omega (arith, Spans-order t low p q.0, Spans-order i (p + 1) high q.1)
 Spans-order (binding x a p) low high q = omega (arith, q.0, Spans-order a (p + 1) high q.1)
 Spans-order (tree.next x a p) low high q = omega (arith, q.0, Spans-order a (p + 1) high q.1)
+Spans-order (store t i a p) low high (u, (mid, v, w)) = omega (arith, Spans-order t low p u, Spans-order i (p + 1) mid v, Spans-order a mid high w)
 Spans-order (param x k p) low high q = omega (arith, q.0, q.1)
 Spans-order (define x a k b p) low high (u, (mid, v, w)) = omega (arith, u, Spans-order a (p + 1) mid v, Spans-order b mid high w)
 Spans-order none low high q = q
@@ -57,8 +63,13 @@ Spans-wider (call x a p) low high below above u v q = (omega (arith, q.0), Spans
 Spans-wider (block a b p) low high below above u v (o, (mid, s, t)) = (omega (arith, o), (mid, s, Spans-wider b mid high mid above (omega arith) v t))
 Spans-wider (loop t x y p) low high below above u v (o, (mid, next, w, s, z)) =
     (omega (arith, o), (mid, next, w, s, Spans-wider y next high next above (omega arith) v z))
+Spans-wider (array a b p) low high below above u v (o, (mid, s, t)) = (omega (arith, o), (mid, s, Spans-wider b mid high mid above (omega arith) v t))
+Spans-wider (fetch t i p) low high below above u v q =
+    (Spans-wider t low p below p u (omega arith) q.0, Spans-wider i (p + 1) high (p + 1) above (omega arith) v q.1)
 Spans-wider (binding x a p) low high below above u v q = (omega (arith, q.0), Spans-wider a (p + 1) high (p + 1) above (omega arith) v q.1)
 Spans-wider (tree.next x a p) low high below above u v q = (omega (arith, q.0), Spans-wider a (p + 1) high (p + 1) above (omega arith) v q.1)
+Spans-wider (store t i a p) low high below above u v (o, (mid, s, w)) =
+    (Spans-wider t low p below p u (omega arith) o, (mid, s, Spans-wider a mid high mid above (omega arith) v w))
 Spans-wider (param x k p) low high below above u v' q = (omega (arith, q.0), omega (arith, q.1))
 Spans-wider (define x a k b p) low high below above u v (o, (mid, s, t)) = (omega (arith, o), (mid, s, Spans-wider b mid high mid above (omega arith) v t))
 Spans-wider none low high below above u v q = omega arith
@@ -94,10 +105,26 @@ Spans-place (loop t x y p) low high q (o, (mid, next, u, v, w)) (inr (inr (inl h
     let r = Spans-place x mid next q v h in (omega (arith, o, r.0, Spans-order t (p + 1) mid u), omega (arith, r.1, Spans-order y next high w))
 Spans-place (loop t x y p) low high q (o, (mid, next, u, v, w)) (inr (inr (inr h))) =
     let r = Spans-place y next high q w h in (omega (arith, o, r.0, Spans-order t (p + 1) mid u, Spans-order x mid next v), r.1)
+Spans-place (array a b p) low high q (o, (mid, s, t)) (inl h) = (omega (arith, o, h), omega (arith, Spans-order a (p + 1) mid s, Spans-order b mid high t, h))
+Spans-place (array a b p) low high q (o, (mid, s, t)) (inr (inl h)) =
+    let r = Spans-place a (p + 1) mid q s h in (omega (arith, o, r.0), omega (arith, r.1, Spans-order b mid high t))
+Spans-place (array a b p) low high q (o, (mid, s, t)) (inr (inr h)) =
+    let r = Spans-place b mid high q t h in (omega (arith, o, r.0, Spans-order a (p + 1) mid s), r.1)
+Spans-place (fetch t i p) low high q s (inl h) = (omega (arith, Spans-order t low p s.0, h), omega (arith, Spans-order i (p + 1) high s.1, h))
+Spans-place (fetch t i p) low high q s (inr (inl h)) = let r = Spans-place t low p q s.0 h in (r.0, omega (arith, r.1, Spans-order i (p + 1) high s.1))
+Spans-place (fetch t i p) low high q s (inr (inr h)) = let r = Spans-place i (p + 1) high q s.1 h in (omega (arith, r.0, Spans-order t low p s.0), r.1)
 Spans-place (binding x a p) low high q s (inl h) = (omega (arith, s.0, h), omega (arith, Spans-order a (p + 1) high s.1, h))
 Spans-place (binding x a p) low high q s (inr h) = let r = Spans-place a (p + 1) high q s.1 h in (omega (arith, s.0, r.0), r.1)
 Spans-place (tree.next x a p) low high q s (inl h) = (omega (arith, s.0, h), omega (arith, Spans-order a (p + 1) high s.1, h))
 Spans-place (tree.next x a p) low high q s (inr h) = let r = Spans-place a (p + 1) high q s.1 h in (omega (arith, s.0, r.0), r.1)
+Spans-place (store t i a p) low high q (o, (mid, s, w)) (inl h) =
+    (omega (arith, Spans-order t low p o, h), omega (arith, Spans-order i (p + 1) mid s, Spans-order a mid high w, h))
+Spans-place (store t i a p) low high q (o, (mid, s, w)) (inr (inl h)) =
+    let r = Spans-place t low p q o h in (r.0, omega (arith, r.1, Spans-order i (p + 1) mid s, Spans-order a mid high w))
+Spans-place (store t i a p) low high q (o, (mid, s, w)) (inr (inr (inl h))) =
+    let r = Spans-place i (p + 1) mid q s h in (omega (arith, r.0, Spans-order t low p o), omega (arith, r.1, Spans-order a mid high w))
+Spans-place (store t i a p) low high q (o, (mid, s, w)) (inr (inr (inr h))) =
+    let r = Spans-place a mid high q w h in (omega (arith, r.0, Spans-order t low p o, Spans-order i (p + 1) mid s), r.1)
 Spans-place (param x k p) low high q s h = (omega (arith, s.0, h), omega (arith, s.1, h))
 Spans-place (define x a k b p) low high q (o, (mid, s, t)) (inl h) = (omega (arith, o, h), omega (arith, Spans-order a (p + 1) mid s, Spans-order b mid high t, h))
 Spans-place (define x a k b p) low high q (o, (mid, s, t)) (inr (inl h)) = let r = Spans-place a (p + 1) mid q s h in (omega (arith, o, r.0), omega (arith, r.1, Spans-order b mid high t))
@@ -152,8 +179,33 @@ Distinct-spans (loop t x y p) low high (o, (mid, next, u, v, w)) = (
   Distinct-spans x mid next v,
   Distinct-spans y next high w,
 )
+Distinct-spans (array a b p) low high (o, (mid, s, t)) = (
+  λ h. omega (arith, (Spans-place a (p + 1) mid p s h).0),
+  λ h. omega (arith, (Spans-place b mid high p t h).0, Spans-order a (p + 1) mid s),
+  Spans-apart a b (p + 1) mid mid high (omega arith) s t,
+  Distinct-spans a (p + 1) mid s,
+  Distinct-spans b mid high t,
+)
+Distinct-spans (fetch t i p) low high s = (
+  λ h. omega (arith, (Spans-place t low p p s.0 h).1),
+  λ h. omega (arith, (Spans-place i (p + 1) high p s.1 h).0),
+  Spans-apart t i low p (p + 1) high (omega arith) s.0 s.1,
+  Distinct-spans t low p s.0,
+  Distinct-spans i (p + 1) high s.1,
+)
 Distinct-spans (binding x a p) low high s = (λ h. omega (arith, (Spans-place a (p + 1) high p s.1 h).0), Distinct-spans a (p + 1) high s.1)
 Distinct-spans (tree.next x a p) low high s = (λ h. omega (arith, (Spans-place a (p + 1) high p s.1 h).0), Distinct-spans a (p + 1) high s.1)
+Distinct-spans (store t i a p) low high (o, (mid, s, w)) = (
+  λ h. omega (arith, (Spans-place t low p p o h).1),
+  λ h. omega (arith, (Spans-place i (p + 1) mid p s h).0),
+  λ h. omega (arith, (Spans-place a mid high p w h).0, Spans-order i (p + 1) mid s),
+  Spans-apart t i low p (p + 1) mid (omega arith) o s,
+  Spans-apart t a low p mid high (omega (arith, Spans-order i (p + 1) mid s)) o w,
+  Spans-apart i a (p + 1) mid mid high (omega arith) s w,
+  Distinct-spans t low p o,
+  Distinct-spans i (p + 1) mid s,
+  Distinct-spans a mid high w,
+)
 Distinct-spans (param x k p) low high s = tt
 Distinct-spans (define x a k b p) low high (o, (mid, s, t)) = (
   λ h. omega (arith, (Spans-place a (p + 1) mid p s h).0),
@@ -169,7 +221,7 @@ Distinct-spans (more a b) low high s = (Spans-apart a b low s.0 s.0 high (omega 
 abbrev Keeps : ℕ → ℕ → Rest → Type 0
 Keeps from low (done e) = (high : ℕ) → low ≤ high → Spans from e high
 Keeps from low (word w r) = (mid : ℕ) → low ≤ mid → Keeps from mid r
-Keeps from low (either w r q) = Keeps from low q × ((mid : ℕ) → low ≤ mid → Keeps from mid r)
+Keeps from low (either w r q) = Keeps from low q × ((p : ℕ) → low ≤ p → Keeps from (p + 1) (r p))
 Keeps from low (name f) = (x : List ℕ) (p : ℕ) → low ≤ p → Keeps from (p + 1) (f x p)
 Keeps from low (of_kind f) = (k : Kind) (mid : ℕ) → low ≤ mid → Keeps from mid (f k)
 Keeps from low (part s f) = (a : Tree) (mid : ℕ) → Spans low a mid → Keeps from mid (f a)
@@ -219,17 +271,29 @@ Opens-keeps (by_false {p = p}) = λ high w. (omega arith, omega arith)
 Opens-keeps (parens {p = p}) = λ e mid s z v high w. Spans-wider e (p + 1) mid p high (omega arith) (omega arith) s
 Opens-keeps (by_name {p = p}) = (
   λ high w. (omega arith, omega arith),
-  λ mid u a next s high w. (omega arith, Spans-wider a mid next (p + 1) high (omega arith) w s),
+  λ q u a next s high w. (omega arith, Spans-wider a (q + 1) next (p + 1) high (omega arith) w s),
 )
+Opens-keeps (by_array {p = p}) = λ q1 u1 a m1 s q2 u2 b m2 t q3 u3 high w.
+    (omega arith, (q2, Spans-wider a q1 m1 (p + 1) q2 u1 u2 s, Spans-wider b q2 m2 q2 high (omega arith) (omega arith) t))
 Opens-keeps (no_arguments {p = p}) = λ high w. omega arith
 Opens-keeps (last_argument {p = p}) = λ high w. omega arith
 Opens-keeps (next_argument {p = p}) = λ e mid s a next t high w. (mid, Spans-wider e (p + 1) mid p mid (omega arith) (omega arith) s, Spans-wider a mid next mid high (omega arith) w t)
 Opens-keeps (by_braces {p = p}) = (
   λ a mid s high w. Spans-with_tail a p mid high w s,
-  λ q1 u1 e q2 v q3 u2 a mid s high w. Spans-loop_with_tail e a p q3 mid high w (Spans-wider e q1 q2 (p + 1) q3 u1 u2 v) s,
+  λ q1 u1 e q2 v q3 u2 a mid s high w. Spans-loop_with_tail e a p q3 mid high w (Spans-wider e (q1 + 1) q2 (p + 1) q3 (omega arith) u2 v) s,
 )
-Opens-keeps (by_binding {x = x} {p = p}) = λ q1 u1 e mid s q2 u2 a next t high w.
-    Spans-with_statement (binding x e p) a p q2 next high w (omega arith, Spans-wider e q1 mid (p + 1) q2 u1 u2 s) t
+Opens-keeps (by_statement {x = x} {p = p}) = (
+  λ q1 u1 e mid s q2 u2 a next t high w. Spans-with_statement (binding x e p) a p q2 next high w (omega arith, Spans-wider e q1 mid (p + 1) q2 u1 u2 s) t,
+  λ q u i m1 s1 q1 u1 q2 u2 e m2 s2 q3 u3 a next t high w.
+      Spans-with_statement (store (tree.name x p) i e q) a p q3 next high w (
+        (omega arith, omega (arith, u)),
+        (
+          q2,
+          Spans-wider i (q + 1) m1 (q + 1) q2 (omega arith) (omega (arith, u1, u2)) s1,
+          Spans-wider e q2 m2 q2 q3 (omega arith) u3 s2,
+        ),
+      ) t,
+)
 Opens-keeps (by_next {p = p}) = λ x q u q1 u1 e mid s q2 u2 a after t high w.
     Spans-with_statement (tree.next x e p) a p q2 after high w (omega arith, Spans-wider e q1 mid (p + 1) q2 (omega arith) u2 s) t
 Opens-keeps (by_body {p = p}) = λ e mid s z v high w. (p + 1, omega arith, Spans-wider e (p + 1) mid (p + 1) high (omega arith) (omega arith) s)
@@ -249,12 +313,19 @@ mutual
       let l = Laid-split us (t ∷ vs) low high p in
       (Spans-wider a low l.0 low t.start (omega arith) l.2.0 (Derives-spans x low l.0 l.1), Derives-spans y (t.start + 1) high l.2.1)
   Derives-spans (plain d) low high p = Derives-spans d low high p
+  Derives-spans (bare d) low high p = Derives-spans d low high p
+  Derives-spans (atomic d) low high p = Derives-spans d low high p
+  Derives-spans (fetched {us = us} {vs = vs} {a = a} x t q f) low high p =
+      let l = Laid-split us (t ∷ vs) low high p in
+      let target = Spans-wider a low l.0 low t.start (omega arith) l.2.0 (Derives-spans x low l.0 l.1) in
+      Follows-spans f low (t.start + 1) high (λ i mid s q1 u1 above w.
+      (target, Spans-wider i (t.start + 1) mid (t.start + 1) above (omega arith) (omega arith) s)) l.2.1
   Derives-spans (some_arguments f) low high p = Follows-spans f low low high (λ e mid s a next t high w. (mid, s, Spans-wider a mid next mid high (omega arith) w t)) p
 
   Follows-spans : {r : Rest} {ts : List Token} {e : Tree} {h : ℕ} → Follows r ts e h → (from low high : ℕ) → Keeps from low r → Laid low ts high → Spans from e high
   Follows-spans ended from low high k p = k high p
   Follows-spans (taken {t = t} q f) from low high k p = Follows-spans f from (t.start + 1) high (k (t.start + 1) (omega (arith, p.0))) p.1
-  Follows-spans (chosen {t = t} q f) from low high k p = Follows-spans f from (t.start + 1) high (k.1 (t.start + 1) (omega (arith, p.0))) p.1
+  Follows-spans (chosen {t = t} q f) from low high k p = Follows-spans f from (t.start + 1) high (k.1 t.start p.0) p.1
   Follows-spans (left_out f) from low high k p = Follows-spans f from low high k.0 p
   Follows-spans (named {t = t} {x = x} q f) from low high k p = Follows-spans f from (t.start + 1) high (k x t.start p.0) p.1
   Follows-spans (kinded {t = t} {k = j} q f) from low high k p = Follows-spans f from (t.start + 1) high (k j (t.start + 1) (omega (arith, p.0))) p.1

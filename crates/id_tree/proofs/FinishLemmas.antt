@@ -12,9 +12,9 @@ use Rattle.id_tree.specs.declared.parser.Scope.{Scope}
 use Rattle.id_tree.specs.declared.parser.Scope.TheVariants as scope
 use Rattle.id_value.specs.declared.Kind.TheVariants as kind
 use Rattle.id_tree.specs.Tree.{Tree, none, more}
-use Rattle.id_tree.specs.Grammar.{Phrase, Definition, Parameters, MoreParameters, Expression, Grouped, Negation, Unary, Arguments, MoreArguments, Tail, kind_of, Rest, done, word, either, name, of_kind, part, last_of, Opens, definition, no_parameters, last_parameter, number, no_arguments, last_argument, by_body, by_last, own_height, Derives, opened, unconditional, single, grouped, plain, Follows, ended, taken, left_out, named, kinded, given, Program, empty, defined}
+use Rattle.id_tree.specs.Grammar.{Phrase, Definition, Parameters, MoreParameters, Expression, Grouped, Negation, Unary, Postfix, Atom, Arguments, MoreArguments, Tail, kind_of, Rest, done, word, either, name, of_kind, part, last_of, Opens, definition, no_parameters, last_parameter, number, no_arguments, last_argument, by_body, by_last, own_height, Derives, opened, unconditional, single, grouped, plain, bare, atomic, Follows, ended, taken, left_out, named, kinded, given, Program, empty, defined}
 use Rattle.id_tree.specs.Machine.{least_height, Frame, State}
-use Rattle.id_tree.specs.Standing.{Roomy, Around, outermost, unconditionally, left, right, plainly, inside, Stands, begun, wanting, having, within, finished}
+use Rattle.id_tree.specs.Standing.{Roomy, Around, outermost, unconditionally, left, right, plainly, barely, target, atomically, inside, Stands, begun, wanting, having, within, finished}
 
 -- the starts rise from the first number on and stay below the second
 abbrev pub Laid : ℕ → List Token → ℕ → Type 0
@@ -63,7 +63,7 @@ record Least (s : Phrase) (from : ℕ) : Type 0 where
   laid : Laid from tokens to
   derives : Derives s tokens tree (least_height s)
 
-least_number : (from : ℕ) → Least Unary from
+least_number : (from : ℕ) → Least Atom from
 least_number from = record {
   tokens = token (Number (pos 0)) from ∷ [];
   tree = _;
@@ -72,8 +72,11 @@ least_number from = record {
   derives = opened number ended;
 }
 
+least_unary : (from : ℕ) → Least Unary from
+least_unary from = let l = least_number from in record { tokens = l.tokens; tree = l.tree; to = l.to; laid = l.laid; derives = bare (atomic l.derives) }
+
 least_sum : (from : ℕ) → Least (Grouped level.Sum) from
-least_sum from = let l = least_number from in record { tokens = l.tokens; tree = l.tree; to = l.to; laid = l.laid; derives = single (single l.derives) }
+least_sum from = let l = least_unary from in record { tokens = l.tokens; tree = l.tree; to = l.to; laid = l.laid; derives = single (single l.derives) }
 
 least_negation : (from : ℕ) → Least Negation from
 least_negation from = let l = least_sum from in record { tokens = l.tokens; tree = l.tree; to = l.to; laid = l.laid; derives = plain (single l.derives) }
@@ -126,8 +129,10 @@ least_tail o k from opens body = record {
 }
 
 least : (s : Phrase) (from : ℕ) → Least s from
-least Unary from = least_number from
-least (Grouped level.Product) from = let l = least_number from in record { tokens = l.tokens; tree = l.tree; to = l.to; laid = l.laid; derives = single l.derives }
+least Atom from = least_number from
+least Postfix from = let l = least_number from in record { tokens = l.tokens; tree = l.tree; to = l.to; laid = l.laid; derives = atomic l.derives }
+least Unary from = least_unary from
+least (Grouped level.Product) from = let l = least_unary from in record { tokens = l.tokens; tree = l.tree; to = l.to; laid = l.laid; derives = single l.derives }
 least (Grouped level.Sum) from = least_sum from
 least (Grouped level.Comparison) from =
     let l = least_sum from in record { tokens = l.tokens; tree = l.tree; to = l.to; laid = l.laid; derives = single l.derives }
@@ -218,6 +223,9 @@ Around-completed (right {m = m} {us = us} {vs = vs} a y t q fit) ws e k from x w
     (Around-completed a (vs ++ t ∷ ws) _ (max m k + 1) from (grouped y t q x) (omega arith))
 Around-completed (unconditionally a) vs e h from x w = Around-completed a vs e h from (unconditional x) w
 Around-completed (plainly a) vs e h from x w = Around-completed a vs e h from (plain x) w
+Around-completed (barely a) vs e h from x w = Around-completed a vs e h from (bare x) w
+Around-completed (target a) vs e h from x w = Around-completed a vs e h from x w
+Around-completed (atomically a) vs e h from x w = Around-completed a vs e h from (atomic x) w
 Around-completed {n = n} (inside {s = s} {f = f} {d = d} {h = h} {us = us} {vs = vs} a b fit roomy) ws e k from x w =
     let g = finish (f e) n (d + own_height s) from (omega arith) (roomy e) in
     Completed-more n from g.to ((us ++ vs) ++ ws) g.tokens g.laid

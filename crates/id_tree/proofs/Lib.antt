@@ -10,4 +10,5 @@ mod ReaderLemmas
 mod BlockLemmas
 mod ParamLemmas
 mod CallLemmas
+mod ArrayLemmas
 mod StatementLemmas

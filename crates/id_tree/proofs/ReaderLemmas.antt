@@ -5,7 +5,7 @@ use Rattle.id_text.specs.declared.token.Token.{Token}
 use Rattle.id_text.specs.declared.token.TokenKind.{TokenKind}
 use Rattle.id_text.specs.declared.token.TokenKind.TheVariants.{Name, Number, Key, Sign, End}
 use Rattle.id_text.specs.declared.token.Keyword.{Keyword}
-use Rattle.id_text.specs.declared.token.Keyword.TheVariants.{Def, If, True, False, Not}
+use Rattle.id_text.specs.declared.token.Keyword.TheVariants.{Def, If, True, False, Array, Not}
 use Rattle.id_text.specs.declared.token.Symbol.{Symbol}
 use Rattle.id_text.specs.declared.token.Symbol.TheVariants.{LeftParen, RightParen, LeftBrace, Minus}
 use Rattle.id_tree.specs.declared.parser.Level.{Level}
@@ -20,9 +20,9 @@ use Rattle.id_tree.specs.declared.tree.Def.{Def as Definition_}
 use Rattle.id_tree.specs.declared.tree.TreeError.{TreeError}
 use Rattle.id_tree.specs.declared.tree.TreeError.TheVariants.{Unexpected, TooDeep}
 use Rattle.id_tree.specs.Tree.{Tree, def_tree, defs_tree, literal, unary, binary, none, more}
-use Rattle.id_tree.specs.Grammar.{Phrase, Definition, Expression, Grouped, Negation, Unary, kind_of, Rest, done, word, name, part, enclosed, definition_of, named_of, conditional_of, either, Opens, definition, by_conditional, denied, negated, number, by_true, by_false, parens, by_name, operand, operator_of, own_height}
+use Rattle.id_tree.specs.Grammar.{Phrase, Definition, Expression, Grouped, Negation, Atom, kind_of, Rest, done, word, name, part, enclosed, definition_of, named_of, conditional_of, either, Opens, definition, by_conditional, denied, negated, number, by_true, by_false, parens, by_name, operand, operator_of, own_height}
 use Rattle.id_tree.specs.Machine.{opening, room, Frame, Left, Right, Inside, Outer, again, Move, State, Begin, Want, Have, Next, Finished, is_word, name_in, takes, ahead, ends, wants, Outcome, Accepted, Refused, run}
-use Rattle.id_tree.specs.Readers.{first_kind, first_start, truth_in, IsRead, EndsBy, IsPrefix, Leads, Fails, Defines, Grows, Stunts, Takes, Misses, BeginsWithName, NoName, LacksName, Encloses, Exposes, def_trees, Amasses}
+use Rattle.id_tree.specs.Readers.{first_kind, first_start, truth_in, IsBehind, IsRead, EndsBy, IsPrefix, Leads, Fails, Defines, Grows, Stunts, Takes, Misses, BeginsWithName, NoName, LacksName, Encloses, Exposes, def_trees, Amasses}
 use Rattle.id_tree.proofs.RowLemmas.{opening-from_opens, same-is_word}
 use Rattle.id_tree.proofs.RunLemmas.{First, Unopened, run-step, run-deep, run-none, run-word, run-name, run-chosen, run-left_out, run-opens, run-opens-deep, run-operator, run-done, run-part, run-inside, run-outer, run-right, run-level, run-left, run-unconditional, run-plain}
 
@@ -85,12 +85,13 @@ module _ {ts us : List Token} {s : Phrase} {d h : ℕ} where
   Fails-word {r = r} {x = x} p q = record { fails = λ K. EndsBy-at x (p.comes K) (q.fails r h (d + own_height s) (own_height s) K) }
 
   -- a word that may be left out, which comes or does not
-  pub At-chosen : {w : Word} {r o : Rest} {t : Token} {vs : List Token} → At ts s d us (either w r o) h → us ≡ t ∷ vs → first_kind us ≡ kind_of w → At ts s d vs r h
+  pub At-chosen : {w : Word} {r : ℕ → Rest} {o : Rest} {t : Token} {vs : List Token} →
+      At ts s d us (either w r o) h → us ≡ t ∷ vs → first_kind us ≡ kind_of w → At ts s d vs (r t.start) h
   At-chosen {w = w} {r = r} {o = o} {t = t} {vs = vs} p e q = record {
     comes = λ K. p.comes K ∙ rw e (run-chosen 200 t vs w r o h (d + own_height s) (own_height s) K (first_of e q));
   }
 
-  pub At-left_out : {w : Word} {r o : Rest} → At ts s d us (either w r o) h → (first_kind us ≡ kind_of w → ⊥) → At ts s d us o h
+  pub At-left_out : {w : Word} {r : ℕ → Rest} {o : Rest} → At ts s d us (either w r o) h → (first_kind us ≡ kind_of w → ⊥) → At ts s d us o h
   At-left_out {w = w} {r = r} {o = o} p f = record {
     comes = λ K. p.comes K ∙ run-left_out 200 us w r o h (d + own_height s) (own_height s) K (no_word w us f);
   }
@@ -133,27 +134,27 @@ module _ {ts us : List Token} {s : Phrase} {d h : ℕ} where
   Leads-at p q f = rw (p, q) f
 
 -- a token that begins no operand
-pub Unary-fails : {ts us : List Token} {t : Token} (e : ts ≡ t ∷ us) (d : ℕ) (x : TreeError) → x ≡ Unexpected (first_start ts) → opening Unary t.kind t.start ≡ None → Fails ts Unary d x
-Unary-fails {us = us} {t = t} e d x j q = record { fails = λ K. rw (j, e) (run-none 200 t us (Want Unary d K) (rw q refl)) }
+pub Atom-fails : {ts us : List Token} {t : Token} (e : ts ≡ t ∷ us) (d : ℕ) (x : TreeError) → x ≡ Unexpected (first_start ts) →
+    opening Atom t.kind t.start ≡ None → Fails ts Atom d x
+Atom-fails {us = us} {t = t} e d x j q = record { fails = λ K. rw (j, e) (run-none 200 t us (Want Atom d K) (rw q refl)) }
 
 -- no sign but these begins an operand
-pub unopened : (s : Symbol) (p : ℕ) → (Sign s ≡ Sign Minus → ⊥) → (Sign s ≡ Sign LeftParen → ⊥) → (Sign s ≡ Sign LeftBrace → ⊥) → opening Unary (Sign s) p ≡ None
-unopened Minus p f g h = absurd (f refl)
-unopened LeftParen p f g h = absurd (g refl)
-unopened LeftBrace p f g h = absurd (h refl)
-unopened _ p f g h = refl
+pub unopened : (s : Symbol) (p : ℕ) → (Sign s ≡ Sign LeftParen → ⊥) → (Sign s ≡ Sign LeftBrace → ⊥) → opening Atom (Sign s) p ≡ None
+unopened LeftParen p g h = absurd (g refl)
+unopened LeftBrace p g h = absurd (h refl)
+unopened _ p g h = refl
 
 -- the productions, at a token of the kind
 pub opens_negated : {k : TokenKind} → k ≡ Sign Minus → IsPrefix level.Product unary_op.Neg k
 opens_negated q = rw q (λ p. negated)
 
-pub opens_parens : {k : TokenKind} {p : ℕ} → k ≡ Sign LeftParen → Opens Unary k p (enclosed (the.Sign RightParen) (λ e. done e))
+pub opens_parens : {k : TokenKind} {p : ℕ} → k ≡ Sign LeftParen → Opens Atom k p (enclosed (the.Sign RightParen) (λ e. done e))
 opens_parens q = rw q parens
 
-pub opens_number : {k : TokenKind} {p : ℕ} (v : ℤ) → k ≡ Number v → Opens Unary k p (done (literal (constant.Int v) p))
+pub opens_number : {k : TokenKind} {p : ℕ} (v : ℤ) → k ≡ Number v → Opens Atom k p (done (literal (constant.Int v) p))
 opens_number v q = rw q number
 
-pub opens_name : {k : TokenKind} {p : ℕ} (x : List ℕ) → k ≡ Name x → Opens Unary k p (named_of x p)
+pub opens_name : {k : TokenKind} {p : ℕ} (x : List ℕ) → k ≡ Name x → Opens Atom k p (named_of x p)
 opens_name x q = rw q by_name
 
 pub opens_conditional : {k : TokenKind} {p : ℕ} → k ≡ Key If → Opens Expression k p (conditional_of p)
@@ -162,16 +163,17 @@ opens_conditional q = rw q by_conditional
 pub opens_denied : {k : TokenKind} → k ≡ Key Not → IsPrefix level.And unary_op.Not k
 opens_denied q = rw q (λ p. denied)
 
-pub opens_truth : {k : TokenKind} {p : ℕ} (v : Bool) → truth_in k ≡ Some v → Opens Unary k p (done (literal (constant.Bool v) p))
+pub opens_truth : {k : TokenKind} {p : ℕ} (v : Bool) → truth_in k ≡ Some v → Opens Atom k p (done (literal (constant.Bool v) p))
 opens_truth {k = Key True} v q = let i : true ≡ v = cc in rw (← i) by_true
 opens_truth {k = Key False} v q = let i : false ≡ v = cc in rw (← i) by_false
 opens_truth {k = _} v q = cc
 
 -- no word but these begins an operand
-pub untrue : (k : Keyword) (p : ℕ) → truth_in (Key k) ≡ None → opening Unary (Key k) p ≡ None
-untrue True p q = cc
-untrue False p q = cc
-untrue _ p q = refl
+pub untrue : (k : Keyword) (p : ℕ) → truth_in (Key k) ≡ None → (Key k ≡ Key Array → ⊥) → opening Atom (Key k) p ≡ None
+untrue True p q f = cc
+untrue False p q f = cc
+untrue Array p q f = absurd (f refl)
+untrue _ p q f = refl
 
 pub opens_definition : {k : TokenKind} {p : ℕ} → k ≡ Key Def → Opens Definition k p (name definition_of)
 opens_definition q = rw q definition
@@ -216,7 +218,7 @@ module _ {ts us : List Token} {t : Token} {d : ℕ} (e : ts ≡ t ∷ us) where
   pub At-conditional : first_kind ts ≡ Key If → d + 1 + 1 ≤ 200 → At ts Expression d us (conditional_of t.start) 0
   At-conditional q w = At-opens e (opens_conditional q) d w
 
-  pub At-parens : first_kind ts ≡ Sign LeftParen → d + 1 + 1 ≤ 200 → At ts Unary d us (enclosed (the.Sign RightParen) (λ a. done a)) 0
+  pub At-parens : first_kind ts ≡ Sign LeftParen → d + 1 + 1 ≤ 200 → At ts Atom d us (enclosed (the.Sign RightParen) (λ a. done a)) 0
   At-parens q w = At-opens e (opens_parens q) d w
 
 -- An expression and the word behind it.
@@ -253,6 +255,10 @@ first-none l (t ∷ vs) q = q
 -- what was read behind what was read
 pub IsRead-then : {ts us vs : List Token} {d m n : ℕ} → IsRead ts us d m → IsRead us vs d n → IsRead ts vs d n
 IsRead-then p q = record { behind = record { ends = q.behind.ends; shorter = omega (arith, p.behind.shorter, q.behind.shorter) }; some = q.some; fits = q.fits }
+
+-- the same, behind a name
+pub IsRead-behind : {ts us vs : List Token} {d h : ℕ} → IsBehind us ts → IsRead us vs d h → IsRead ts vs d h
+IsRead-behind b q = record { behind = record { ends = q.behind.ends; shorter = omega (arith, b.shorter, q.behind.shorter) }; some = q.some; fits = q.fits }
 
 module _ {l : Level} {d : ℕ} {ts us : List Token} where
   -- a level that may go on is open again, and another is there

@@ -9,7 +9,7 @@ use Rattle.id_tree.specs.Readers.{EndsBy}
 use Rattle.id_tree.specs.Grammar.{Phrase, Rest, done, word, either, name, of_kind, part, own_height, Program}
 use Rattle.id_tree.specs.Accepted.{Accepts, GoesOn, GoesOnDeeper, StopsAt, RefusedBy, IsMemory}
 use Rattle.id_tree.specs.Machine.{Move, pick, takes, Frame, State, Begin, Want, Have, Next, Finished, Accepted, Refused, run}
-use Rattle.id_tree.specs.Standing.{Around, outermost, unconditionally, left, right, plainly, inside, Stands, begun, wanting, having, within, finished, Roomy}
+use Rattle.id_tree.specs.Standing.{Around, outermost, unconditionally, left, right, plainly, barely, target, atomically, inside, Stands, begun, wanting, having, within, finished, Roomy}
 use Rattle.id_tree.proofs.RunLemmas.{run-step, run-none, run-deep}
 use Rattle.id_tree.proofs.CompleteLemmas.{run-program}
 use Rattle.id_tree.proofs.SoundLemmas.{Moves, Moves-takes, Defined-none}
@@ -93,7 +93,7 @@ stopped n S us (t ∷ ts) deep at st q = Stopped-move n S us t ts deep at st (λ
 Roomy-wider : (n m d : ℕ) (r : Rest) → n ≤ m → Roomy n d r → Roomy m d r
 Roomy-wider n m d (done e) w q = tt
 Roomy-wider n m d (word v r) w q = Roomy-wider n m d r w q
-Roomy-wider n m d (either v r o) w q = (Roomy-wider n m d r w q.0, Roomy-wider n m d o w q.1)
+Roomy-wider n m d (either v r o) w q = (λ p. Roomy-wider n m d (r p) w (q.0 p), Roomy-wider n m d o w q.1)
 Roomy-wider n m d (name f) w q = λ x p. Roomy-wider n m d (f x p) w (q x p)
 Roomy-wider n m d (of_kind f) w q = λ k. Roomy-wider n m d (f k) w (q k)
 Roomy-wider n m d (part s f) w q = (omega (arith, q.0), λ a. Roomy-wider n m d (f a) w (q.1 a))
@@ -104,6 +104,9 @@ Around-wider (left a) m w = left (Around-wider a m w)
 Around-wider (right a y t q fit) m w = right (Around-wider a m w) y t q (omega arith)
 Around-wider (unconditionally a) m w = unconditionally (Around-wider a m w)
 Around-wider (plainly a) m w = plainly (Around-wider a m w)
+Around-wider (barely a) m w = barely (Around-wider a m w)
+Around-wider (target a) m w = target (Around-wider a m w)
+Around-wider (atomically a) m w = atomically (Around-wider a m w)
 Around-wider {n = n} (inside {s = s} {f = f} {d = d} a b fit roomy) m w = inside (Around-wider a m w) b (omega arith) (λ e. Roomy-wider n m (d + own_height s) (f e) w (roomy e))
 
 -- what stands within n stands within more

@@ -7,7 +7,7 @@ use Rattle.id_text.specs.declared.token.Token.{Token}
 use Rattle.id_text.specs.declared.token.TokenKind.{TokenKind}
 use Rattle.id_text.specs.declared.token.TokenKind.TheVariants.{Key, Sign}
 use Rattle.id_text.specs.declared.token.Keyword.TheVariants.{While, And, Or}
-use Rattle.id_text.specs.declared.token.Symbol.TheVariants.{LeftParen, RightParen, Comma, Equal, NotEqual, Less, LessEqual, Greater, GreaterEqual, Plus, Minus}
+use Rattle.id_text.specs.declared.token.Symbol.TheVariants.{LeftParen, RightParen, LeftBracket, Comma, Equal, NotEqual, Less, LessEqual, Greater, GreaterEqual, Plus, Minus}
 use Rattle.id_tree.specs.declared.tokens.Word.{Word}
 use Rattle.id_tree.specs.declared.tokens.Word.TheVariants as the
 use Rattle.id_value.specs.declared.BinaryOp.{BinaryOp}
@@ -16,17 +16,28 @@ use Rattle.id_tree.specs.declared.parser.Level.{Level}
 use Rattle.id_tree.specs.declared.parser.Scope.{Scope}
 use Rattle.id_tree.specs.declared.parser.Level.TheVariants as level
 use Rattle.id_tree.specs.declared.parser.Scope.TheVariants as scope
-use Rattle.id_tree.specs.Tree.{Tree}
-use Rattle.id_tree.specs.Grammar.{Phrase, Definition, Parameters, MoreParameters, Expression, Grouped, Negation, Unary, Arguments, MoreArguments, Tail, kind_of, arguments_of, last_of, Rest, done, word, either, name, of_kind, part, Opens, definition, no_parameters, first_parameter, last_parameter, next_parameter, by_conditional, denied, negated, number, by_true, by_false, parens, by_name, by_braces, no_arguments, last_argument, next_argument, by_binding, by_next, by_body, by_last, operand, left_operand, operator_of, own_height, Derives, opened, unconditional, single, grouped, plain, some_arguments, Follows, ended, taken, chosen, left_out, named, kinded, given}
+use Rattle.id_tree.specs.Tree as tree
+use Rattle.id_tree.specs.Tree.{Tree, binding, store}
+use Rattle.id_tree.specs.Grammar.{Phrase, Definition, Parameters, MoreParameters, Expression, Grouped, Negation, Unary, Postfix, Atom, Arguments, MoreArguments, Tail, kind_of, arguments_of, statement_of, last_of, Rest, done, word, either, name, of_kind, part, Opens, definition, no_parameters, first_parameter, last_parameter, next_parameter, by_conditional, denied, negated, number, by_true, by_false, parens, by_name, by_array, by_braces, no_arguments, last_argument, next_argument, by_statement, by_next, by_body, by_last, operand, left_operand, operator_of, own_height, Derives, opened, unconditional, single, grouped, plain, bare, atomic, fetched, some_arguments, Follows, ended, taken, chosen, left_out, named, kinded, given}
 use Rattle.id_tree.specs.Machine.{opening, least_height, room, is_word}
 use Rattle.id_tree.specs.Standing.{Roomy}
 
 -- whether a kind is the bracket with which the arguments of a call begin
+abbrev pub is_paren : TokenKind → Bool
+is_paren (Sign LeftParen) = true
+is_paren _ = false
+
+-- whether it is that one, or the one with which the index of a fetch begins
 abbrev pub is_bracket : TokenKind → Bool
 is_bracket (Sign LeftParen) = true
+is_bracket (Sign LeftBracket) = true
 is_bracket _ = false
 
--- a kind is no such bracket
+-- a kind is no bracket of a call
+abbrev pub QuietAtom : TokenKind → Type 0
+QuietAtom k = is_paren k ≡ false
+
+-- nor one of a fetch
 abbrev pub QuietUnary : TokenKind → Type 0
 QuietUnary k = is_bracket k ≡ false
 
@@ -63,6 +74,8 @@ Quiet (Grouped level.Sum) k = QuietSum k
 Quiet (Grouped level.Product) k = QuietProduct k
 Quiet Negation k = QuietComparison k
 Quiet Unary k = QuietUnary k
+Quiet Postfix k = QuietUnary k
+Quiet Atom k = QuietAtom k
 Quiet Arguments k = Unit {0}
 Quiet MoreArguments k = Unit {0}
 Quiet (Tail o) k = Unit {0}
@@ -80,6 +93,7 @@ Ends s0 s (part s' f) = ⊥
 -- a word is none with which what is left of a production of the phrase begins, or what stands behind it where that is nothing
 abbrev pub Bars : Phrase → Word → Rest → Type 0
 Bars s0 w (done e) = (k : TokenKind) → Quiet s0 k → is_word w k ≡ false
+Bars s0 w (word v r) = is_word w (kind_of v) ≡ false
 Bars s0 w (part (Tail o) f) = (k : TokenKind) (p : ℕ) (r : Rest) → Opens (Tail o) k p r → is_word w k ≡ false
 Bars s0 w _ = ⊥
 
@@ -87,7 +101,7 @@ Bars s0 w _ = ⊥
 abbrev pub Parts : Phrase → Rest → Type 0
 Parts s0 (done e) = Unit {0}
 Parts s0 (word w r) = Parts s0 r
-Parts s0 (either w r q) = Bars s0 w q × Parts s0 r × Parts s0 q
+Parts s0 (either w r q) = Bars s0 w q × ((p : ℕ) → Parts s0 (r p)) × Parts s0 q
 Parts s0 (name f) = (x : List ℕ) (p : ℕ) → Parts s0 (f x p)
 Parts s0 (of_kind f) = (k : Kind) → Parts s0 (f k)
 Parts s0 (part s f) = (a : Tree) → Ends s0 s (f a) × Parts s0 (f a)
@@ -96,7 +110,7 @@ Parts s0 (part s f) = (a : Tree) → Ends s0 s (f a) × Parts s0 (f a)
 abbrev pub Needs : ℕ → Rest → Type 0
 Needs m (done e) = m ≤ 0
 Needs m (word w r) = Needs m r
-Needs m (either w r q) = Needs m r × Needs m q
+Needs m (either w r q) = ((p : ℕ) → Needs m (r p)) × Needs m q
 Needs m (name f) = (x : List ℕ) (p : ℕ) → Needs m (f x p)
 Needs m (of_kind f) = (k : Kind) → Needs m (f k)
 Needs m (part s f) = (k : ℕ) × (m ≤ max (least_height s) k) × ((a : Tree) → Needs k (f a))
@@ -121,24 +135,44 @@ same-is_word (the.Key j) _ e = cc
 same-is_word (the.Sign j) _ e = cc
 
 -- what is no bracket is not the word for one
-not_bracket : (k : TokenKind) → is_bracket k ≡ false → is_word (the.Sign LeftParen) k ≡ false
-not_bracket k q = tested (is_word (the.Sign LeftParen) k) refl
+not_word : (w : Word) (f : TokenKind → Bool) → f (kind_of w) ≡ true → (k : TokenKind) → f k ≡ false → is_word w k ≡ false
+not_word w f o k q = tested (is_word w k) refl
   where
-    tested : (b : Bool) → is_word (the.Sign LeftParen) k ≡ b → is_word (the.Sign LeftParen) k ≡ false
-    tested true i = let e = same-is_word (the.Sign LeftParen) k i in absurd (no_truth (ap is_bracket (sym e) ∙ q))
-      where
-        no_truth : true ≡ false → ⊥
-        no_truth e = cc
+    no_truth : true ≡ false → ⊥
+    no_truth e = cc
+
+    tested : (b : Bool) → is_word w k ≡ b → is_word w k ≡ false
+    tested true i = absurd (no_truth (sym o ∙ ap f (sym (same-is_word w k i)) ∙ q))
     tested false i = i
+
+not_paren : (k : TokenKind) → is_paren k ≡ false → is_word (the.Sign LeftParen) k ≡ false
+not_paren = not_word (the.Sign LeftParen) is_paren refl
+
+pub not_fetch : (k : TokenKind) → is_bracket k ≡ false → is_word (the.Sign LeftBracket) k ≡ false
+not_fetch = not_word (the.Sign LeftBracket) is_bracket refl
+
+-- what is no bracket is none of a call
+pub Quiet-atom : (k : TokenKind) → QuietUnary k → QuietAtom k
+Quiet-atom (Sign LeftParen) q = cc
+Quiet-atom (Sign _) q = refl
+Quiet-atom _ q = refl
+
+-- the bracket of a fetch is none of a call
+pub Quiet-fetch : {k : TokenKind} → k ≡ Sign LeftBracket → QuietAtom k
+Quiet-fetch e = rw e refl
 
 -- no tail of a block begins with the word `while`
 not_while : (k : TokenKind) (p : ℕ) (r : Rest) → Opens (Tail scope.Block) k p r → is_word (the.Key While) k ≡ false
-not_while k p r by_binding = refl
+not_while k p r by_statement = refl
 not_while k p r by_body = refl
 
 -- behind an argument comes a comma or the closing bracket
 pub arguments_parts : (s0 : Phrase) → Parts s0 arguments_of
 arguments_parts s0 = λ e. (((refl, (refl, (refl, (refl, (refl, refl))))), (refl, (refl, (refl, (refl, (refl, refl)))))), λ a. (λ k q. tt, tt))
+
+-- behind the value of a statement comes a semicolon
+statement_parts : (o : Scope) (f : Tree → Tree) → Parts (Tail o) (statement_of o f)
+statement_parts o f = λ e. (((refl, (refl, (refl, (refl, (refl, refl)))))), λ a. (λ k q. tt, tt))
 
 -- the body of a block, and the last expression of a loop
 last_valid : {o : Scope} → Valid (Tail o) last_of
@@ -208,16 +242,22 @@ valid parens = record {
   roomy = λ n d h. (h, λ e. tt);
 }
 valid by_name = record {
-  parts = (not_bracket, λ a. (λ k q. tt, tt), tt);
+  parts = (not_paren, λ p a. (λ k q. tt, tt), tt);
   high = omega arith;
-  needs = ((0, omega arith, λ a. omega arith), omega arith);
-  roomy = λ n d h. ((h, λ a. tt), tt);
+  needs = (λ p. (0, omega arith, λ a. omega arith), omega arith);
+  roomy = λ n d h. (λ p. (h, λ a. tt), tt);
+}
+valid by_array = record {
+  parts = λ a. ((refl, (refl, (refl, (refl, (refl, refl))))), λ b. ((refl, (refl, (refl, (refl, (refl, refl))))), tt));
+  high = omega arith;
+  needs = (0, omega arith, λ a. (0, omega arith, λ b. omega arith));
+  roomy = λ n d h. (h, λ a. (h, λ b. tt));
 }
 valid by_braces = record {
-  parts = (not_while, λ t. ((refl, (refl, (refl, (refl, (refl, refl))))), λ a. (λ k q. tt, tt)), λ a. (λ k q. tt, tt));
+  parts = (not_while, λ p t. ((refl, (refl, (refl, (refl, (refl, refl))))), λ a. (λ k q. tt, tt)), λ a. (λ k q. tt, tt));
   high = omega arith;
-  needs = ((0, omega arith, λ t. (0, omega arith, λ a. omega arith)), (0, omega arith, λ a. omega arith));
-  roomy = λ n d h. ((h, λ t. (h, λ a. tt)), (h, λ a. tt));
+  needs = (λ p. (0, omega arith, λ t. (0, omega arith, λ a. omega arith)), (0, omega arith, λ a. omega arith));
+  roomy = λ n d h. (λ p. (h, λ t. (h, λ a. tt)), (h, λ a. tt));
 }
 valid no_arguments = record { parts = tt; high = omega arith; needs = omega arith; roomy = λ n d h. tt }
 valid last_argument = record { parts = tt; high = omega arith; needs = omega arith; roomy = λ n d h. tt }
@@ -227,11 +267,15 @@ valid next_argument = record {
   needs = (0, omega arith, λ e. (0, omega arith, λ a. omega arith));
   roomy = λ n d h. (h, λ e. (omega arith, λ a. tt));
 }
-valid by_binding = record {
-  parts = λ e. ((refl, (refl, (refl, (refl, (refl, refl))))), λ a. (λ k q. tt, tt));
+valid (by_statement {s = s} {x = x} {p = p}) = record {
+  parts = (
+    refl,
+    λ q i. ((refl, (refl, (refl, (refl, (refl, refl))))), statement_parts s (λ e. store (tree.name x p) i e q)),
+    statement_parts s (λ e. binding x e p),
+  );
   high = omega arith;
-  needs = (1, omega arith, λ e. (0, omega arith, λ a. omega arith));
-  roomy = λ n d h. (h, λ e. (h, λ a. tt));
+  needs = (λ q. (1, omega arith, λ i. (1, omega arith, λ e. (0, omega arith, λ a. omega arith))), (1, omega arith, λ e. (0, omega arith, λ a. omega arith)));
+  roomy = λ n d h. (λ q. (h, λ i. (h, λ e. (h, λ a. tt))), (h, λ e. (h, λ a. tt)));
 }
 valid by_next = record {
   parts = λ x q e. ((refl, (refl, (refl, (refl, (refl, refl))))), λ a. (λ k q. tt, tt));
@@ -257,12 +301,13 @@ opening-from_opens by_true = refl
 opening-from_opens by_false = refl
 opening-from_opens parens = refl
 opening-from_opens by_name = refl
+opening-from_opens by_array = refl
 opening-from_opens by_braces = refl
 opening-from_opens no_arguments = refl
 opening-from_opens last_argument = refl
 opening-from_opens next_argument = refl
-opening-from_opens (by_binding {s = scope.Block}) = refl
-opening-from_opens (by_binding {s = scope.Loop}) = refl
+opening-from_opens (by_statement {s = scope.Block}) = refl
+opening-from_opens (by_statement {s = scope.Loop}) = refl
 opening-from_opens by_next = refl
 opening-from_opens by_body = refl
 opening-from_opens by_last = refl
@@ -270,6 +315,7 @@ opening-from_opens by_last = refl
 -- an operator of a level is none of a tighter one
 pub Quiet-operator : (l : Level) (k : TokenKind) (o : BinaryOp) → operator_of l k ≡ Some o → Quiet (operand l) k
 Quiet-operator level.Product (Sign LeftParen) o e = cc
+Quiet-operator level.Product (Sign LeftBracket) o e = cc
 Quiet-operator level.Product (Sign _) o e = refl
 Quiet-operator level.Product (Key _) o e = refl
 Quiet-operator level.Product _ o e = cc
@@ -297,6 +343,8 @@ least-most Expression = omega arith
 least-most (Grouped l) = omega arith
 least-most Negation = omega arith
 least-most Unary = omega arith
+least-most Postfix = omega arith
+least-most Atom = omega arith
 least-most Arguments = omega arith
 least-most MoreArguments = omega arith
 least-most (Tail o) = omega arith
@@ -324,13 +372,16 @@ mutual
   Derives-height (single {l = l} d) = omega (arith, operand-least l, Derives-height d)
   Derives-height (grouped a t q b) = omega arith
   Derives-height (plain d) = Derives-height d
+  Derives-height (bare d) = Derives-height d
+  Derives-height (atomic d) = Derives-height d
+  Derives-height (fetched x t q f) = omega arith
   Derives-height (some_arguments f) = zero-le
 
   -- the parts have the height that they need
   pub Follows-height : {r : Rest} {ts : List Token} {e : Tree} {h : ℕ} → Follows r ts e h → (m : ℕ) → Needs m r → m ≤ h
   Follows-height ended m n = n
   Follows-height (taken q f) m n = Follows-height f m n
-  Follows-height (chosen q f) m n = Follows-height f m n.0
+  Follows-height (chosen q f) m n = Follows-height f m (n.0 _)
   Follows-height (left_out f) m n = Follows-height f m n.1
   Follows-height (named q f) m n = Follows-height f m (n _ _)
   Follows-height (kinded {k = k} q f) m n = Follows-height f m (n k)

@@ -3,15 +3,17 @@ use Rattle.std.proofs.Common.{◌≡◌, ℕ, ◌+◌, ◌≤◌, ◌<◌, max, 
 use Rattle.std.proofs.lemmas.Bool.{lt-leb}
 use Rattle.id_text.specs.declared.token.Token.{Token}
 use Rattle.id_text.specs.declared.token.TokenKind.{TokenKind}
-use Rattle.id_text.specs.declared.token.TokenKind.TheVariants.{Name}
+use Rattle.id_text.specs.declared.token.TokenKind.TheVariants.{Name, Sign}
+use Rattle.id_text.specs.declared.token.Symbol.TheVariants.{LeftBracket}
 use Rattle.id_tree.specs.declared.parser.Level.{Level}
 use Rattle.id_tree.specs.declared.parser.Level.TheVariants as level
 use Rattle.id_tree.specs.declared.tokens.Word.{Word}
+use Rattle.id_tree.specs.declared.tokens.Word.TheVariants as the
 use Rattle.id_value.specs.declared.Kind.{Kind}
 use Rattle.id_value.specs.declared.BinaryOp.{BinaryOp}
 use Rattle.id_tree.specs.Tree.{Tree, binary}
-use Rattle.id_tree.specs.Grammar.{Phrase, Definition, Parameters, MoreParameters, Expression, Grouped, Negation, Unary, Arguments, MoreArguments, Tail, kind_of, arguments_of, Rest, done, word, either, name, of_kind, part, kind_named, Opens, operand, operator_of, own_height}
-use Rattle.id_tree.specs.Machine.{opening, room, Frame, Left, Right, Inside, Outer, again, State, Begin, Want, Have, Next, Move, is_word, takes, Refused, run}
+use Rattle.id_tree.specs.Grammar.{Phrase, Definition, Parameters, MoreParameters, Expression, Grouped, Negation, Unary, Postfix, Atom, Arguments, MoreArguments, Tail, kind_of, fetch_of, arguments_of, Rest, done, word, either, name, of_kind, part, kind_named, Opens, operand, operator_of, own_height}
+use Rattle.id_tree.specs.Machine.{opening, room, Frame, Left, Right, Target, Inside, Outer, again, State, Begin, Want, Have, Next, Move, is_word, takes, Refused, run}
 use Rattle.id_tree.proofs.RowLemmas.{opening-from_opens, is_word-same}
 
 module _ (n : ℕ) (t : Token) (ts : List Token) where
@@ -35,8 +37,11 @@ module _ (n : ℕ) (t : Token) (ts : List Token) where
   run-word w r h d c K q = let b = is_word-same w t.kind q in run-step (Next (word w r) h d c K) (record { need = 0; next = Next r h d c K }) (rw b refl) zero-le
 
   -- a word that may be left out
-  pub run-chosen : (w : Word) (r o : Rest) (h d c : ℕ) (K : List Frame) → t.kind ≡ kind_of w → run n (t ∷ ts) (Next (either w r o) h d c K) ≡ run n ts (Next r h d c K)
-  run-chosen w r o h d c K q = let b = is_word-same w t.kind q in run-step (Next (either w r o) h d c K) (record { need = 0; next = Next r h d c K }) (rw b refl) zero-le
+  pub run-chosen : (w : Word) (r : ℕ → Rest) (o : Rest) (h d c : ℕ) (K : List Frame) → t.kind ≡ kind_of w →
+      run n (t ∷ ts) (Next (either w r o) h d c K) ≡ run n ts (Next (r t.start) h d c K)
+  run-chosen w r o h d c K q =
+      let b = is_word-same w t.kind q in
+      run-step (Next (either w r o) h d c K) (record { need = 0; next = Next (r t.start) h d c K }) (rw b refl) zero-le
 
   -- a name
   pub run-name : (x : List ℕ) (f : List ℕ → ℕ → Rest) (h d c : ℕ) (K : List Frame) → t.kind ≡ Name x → run n (t ∷ ts) (Next (name f) h d c K) ≡ run n ts (Next (f x t.start) h d c K)
@@ -54,6 +59,8 @@ module _ (n : ℕ) (t : Token) (ts : List Token) where
   run-opens Expression r d K o h = run-step (Want Expression d K) _ (rw (opening-from_opens o) refl) h
   run-opens Negation r d K o h = run-step (Want Negation d K) _ (rw (opening-from_opens o) refl) h
   run-opens Unary r d K o h = run-step (Want Unary d K) _ (rw (opening-from_opens o) refl) h
+  run-opens Postfix r d K o h = elim o [ ]
+  run-opens Atom r d K o h = run-step (Want Atom d K) _ (rw (opening-from_opens o) refl) h
   run-opens Arguments r d K o h = run-step (Want Arguments d K) _ (rw (opening-from_opens o) refl) h
   run-opens MoreArguments r d K o h = run-step (Want MoreArguments d K) _ (rw (opening-from_opens o) refl) h
   run-opens (Tail j) r d K o h = run-step (Want (Tail j) d K) _ (rw (opening-from_opens o) refl) h
@@ -67,6 +74,8 @@ module _ (n : ℕ) (t : Token) (ts : List Token) where
       run-deep (Want Expression d K) (record { need = d + 1 + room r; next = Next r 0 (d + 1) 1 K }) (rw (opening-from_opens o) refl) h
   run-opens-deep Negation r d K o h = run-deep (Want Negation d K) (record { need = d + 1 + room r; next = Next r 0 (d + 1) 1 K }) (rw (opening-from_opens o) refl) h
   run-opens-deep Unary r d K o h = run-deep (Want Unary d K) (record { need = d + 1 + room r; next = Next r 0 (d + 1) 1 K }) (rw (opening-from_opens o) refl) h
+  run-opens-deep Postfix r d K o h = elim o [ ]
+  run-opens-deep Atom r d K o h = run-deep (Want Atom d K) (record { need = d + 1 + room r; next = Next r 0 (d + 1) 1 K }) (rw (opening-from_opens o) refl) h
   run-opens-deep Arguments r d K o h = run-deep (Want Arguments d K) (record { need = d + 0 + room r; next = Next r 0 (d + 0) 0 K }) (rw (opening-from_opens o) refl) h
   run-opens-deep MoreArguments r d K o h = run-deep (Want MoreArguments d K) (record { need = d + 0 + room r; next = Next r 0 (d + 0) 0 K }) (rw (opening-from_opens o) refl) h
   run-opens-deep (Tail j) r d K o h = run-deep (Want (Tail j) d K) (record { need = d + 0 + room r; next = Next r 0 (d + 0) 0 K }) (rw (opening-from_opens o) refl) h
@@ -75,6 +84,19 @@ module _ (n : ℕ) (t : Token) (ts : List Token) where
   -- an operator of a level
   pub run-operator : (l : Level) (o : BinaryOp) (a : Tree) (m d : ℕ) (K : List Frame) → operator_of l t.kind ≡ Some o → d + m + 1 ≤ n → run n (t ∷ ts) (Have a m (Left l d ∷ K)) ≡ run n ts (Want (operand l) (d + 1) (Right l o a m t.start d ∷ K))
   run-operator l o a m d K q h = run-step (Have a m (Left l d ∷ K)) (record { need = d + m + 1; next = Want (operand l) (d + 1) (Right l o a m t.start d ∷ K) }) (rw q refl) h
+
+  -- the bracket of a fetch
+  run-bracket : (a : Tree) (m d : ℕ) (K : List Frame) → t.kind ≡ Sign LeftBracket →
+      takes t (Have a m (Target d ∷ K)) ≡ Some (record { need = d + m + 1; next = Next (fetch_of a t.start) m (d + 1) 1 (Target d ∷ K) })
+  run-bracket a m d K q = let b = is_word-same (the.Sign LeftBracket) t.kind q in rw b refl
+
+  pub run-fetch : (a : Tree) (m d : ℕ) (K : List Frame) → t.kind ≡ Sign LeftBracket → d + m + 1 ≤ n →
+      run n (t ∷ ts) (Have a m (Target d ∷ K)) ≡ run n ts (Next (fetch_of a t.start) m (d + 1) 1 (Target d ∷ K))
+  run-fetch a m d K q h = run-step (Have a m (Target d ∷ K)) _ (run-bracket a m d K q) h
+
+  pub run-fetch-deep : (a : Tree) (m d : ℕ) (K : List Frame) → t.kind ≡ Sign LeftBracket → n < d + m + 1 →
+      run n (t ∷ ts) (Have a m (Target d ∷ K)) ≡ Refused true t.start
+  run-fetch-deep a m d K q h = run-deep (Have a m (Target d ∷ K)) _ (run-bracket a m d K q) h
 
 -- What takes no token.
 pub run-done : (n : ℕ) (ts : List Token) (e : Tree) (h d c : ℕ) (K : List Frame) → run n ts (Next (done e) h d c K) ≡ run n ts (Have e (h + c) K)
@@ -136,13 +158,25 @@ unfolding run
 run-plain n [] d K q = refl
 run-plain n (t ∷ ts) d K q = rw q refl
 
+-- without `-` an operand that may be a fetch is wanted
+pub run-bare : (n : ℕ) (ts : List Token) (d : ℕ) (K : List Frame) → Unopened Unary ts → run n ts (Want Unary d K) ≡ run n ts (Want Postfix d K)
+unfolding run
+run-bare n [] d K q = refl
+run-bare n (t ∷ ts) d K q = rw q refl
+
+-- it begins with one that is none
+pub run-postfix : (n : ℕ) (ts : List Token) (d : ℕ) (K : List Frame) → run n ts (Want Postfix d K) ≡ run n ts (Want Atom d (Target d ∷ K))
+unfolding run
+run-postfix n [] d K = refl
+run-postfix n (t ∷ ts) d K = refl
+
 -- the first token's kind is so
 abbrev pub First : (TokenKind → Type 0) → List Token → Type 0
 First P [] = Unit {0}
 First P (t ∷ ts) = P t.kind
 
 -- where the word is not, it is left out
-pub run-left_out : (n : ℕ) (ts : List Token) (w : Word) (r o : Rest) (h d c : ℕ) (K : List Frame) → First (λ k. is_word w k ≡ false) ts →
+pub run-left_out : (n : ℕ) (ts : List Token) (w : Word) (r : ℕ → Rest) (o : Rest) (h d c : ℕ) (K : List Frame) → First (λ k. is_word w k ≡ false) ts →
     run n ts (Next (either w r o) h d c K) ≡ run n ts (Next o h d c K)
 unfolding run
 run-left_out n [] w r o h d c K q = refl
@@ -160,3 +194,10 @@ pub run-left : (n : ℕ) (ts : List Token) (l : Level) (e : Tree) (h d : ℕ) (K
 unfolding run
 run-left n [] l e h d K q = refl
 run-left n (t ∷ ts) l e h d K q = rw q refl
+
+-- an operand ends where no bracket of a fetch stands
+pub run-target : (n : ℕ) (ts : List Token) (e : Tree) (h d : ℕ) (K : List Frame) → First (λ k. is_word (the.Sign LeftBracket) k ≡ false) ts →
+    run n ts (Have e h (Target d ∷ K)) ≡ run n ts (Have e h K)
+unfolding run
+run-target n [] e h d K q = refl
+run-target n (t ∷ ts) e h d K q = rw q refl

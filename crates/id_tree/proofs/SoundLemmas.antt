@@ -3,12 +3,14 @@ use Rattle.std.proofs.Common.{◌≡◌, ℕ, ◌+◌, ◌≤◌, max, Bool, tru
 use Rattle.id_text.specs.declared.token.Token.{Token}
 use Rattle.id_text.specs.declared.token.TokenKind.{TokenKind}
 use Rattle.id_text.specs.declared.token.TokenKind.TheVariants.{Name, End}
+use Rattle.id_text.specs.declared.token.Symbol.TheVariants.{LeftBracket}
+use Rattle.id_tree.specs.declared.tokens.Word.TheVariants as the
 use Rattle.id_tree.specs.declared.parser.Level.{Level}
 use Rattle.id_tree.specs.declared.parser.Level.TheVariants as level
 use Rattle.id_tree.specs.Tree.{Tree, binary, none, more}
-use Rattle.id_tree.specs.Grammar.{Phrase, Definition, Parameters, MoreParameters, Expression, Grouped, Negation, Unary, Arguments, MoreArguments, Tail, argument_of, Rest, done, word, either, name, of_kind, part, kind_named, operand, left_operand, operator_of, own_height, Derives, opened, unconditional, single, grouped, plain, some_arguments, ended, taken, chosen, left_out, named, kinded, given, Program, empty, defined}
-use Rattle.id_tree.specs.Machine.{opening, Move, pick, is_word, name_in, ahead, ends, defines, enters, sums, negates, expresses, wants, operates, repeats, nexts, closes, takes, Frame, Left, Inside, Outer, State}
-use Rattle.id_tree.specs.Standing.{Begins, Defined, Roomy, Around, outermost, unconditionally, left, right, plainly, inside, Stands, begun, wanting, having, within, finished}
+use Rattle.id_tree.specs.Grammar.{Phrase, Definition, Parameters, MoreParameters, Expression, Grouped, Negation, Unary, Postfix, Atom, Arguments, MoreArguments, Tail, argument_of, Rest, done, word, either, name, of_kind, part, kind_named, operand, left_operand, operator_of, own_height, Derives, opened, unconditional, single, grouped, plain, bare, atomic, fetched, some_arguments, ended, taken, chosen, left_out, named, kinded, given, Program, empty, defined}
+use Rattle.id_tree.specs.Machine.{opening, Move, pick, is_word, name_in, ahead, ends, defines, enters, points, multiplies, sums, negates, expresses, wants, operates, repeats, indexes, nexts, closes, takes, Frame, Left, Inside, Outer, State}
+use Rattle.id_tree.specs.Standing.{Begins, Defined, Roomy, Around, outermost, unconditionally, left, right, plainly, barely, target, atomically, inside, Stands, begun, wanting, having, within, finished}
 use Rattle.id_tree.proofs.RowLemmas.{valid, least-most, left_operand-least, Derives-height}
 use Rattle.id_tree.proofs.RowLemmas.{same-is_word}
 use Rattle.id_tree.proofs.CompleteLemmas.{ahead-append}
@@ -65,6 +67,9 @@ Around-fits (unconditionally a) = Around-fits a
 Around-fits (left a) = Around-fits a
 Around-fits (right a x t q fit) = omega arith
 Around-fits (plainly a) = Around-fits a
+Around-fits (barely a) = Around-fits a
+Around-fits (target a) = Around-fits a
+Around-fits (atomically a) = Around-fits a
 Around-fits (inside a b fit roomy) = omega arith
 
 Around-at : {n : ℕ} {s : Phrase} {d : ℕ} {K : List Frame} {us vs : List Token} → us ≡ vs → Around n s d K us → Around n s d K vs
@@ -94,8 +99,14 @@ module _ (n : ℕ) (t : Token) where
   Moves-enters {s = s} {d = d} {K = K} {us = us} other a other_moves = Moves-pick n (us ++ t ∷ []) (opening s t.kind t.start) _ other (λ row q fits.
       within a (record { completes = λ ts e m f. Derives-of (omega arith) (opened row.opens f) }) (omega arith) ((valid row.opens).roomy n (d + own_height s) fits)) other_moves
 
+  Moves-points : {d : ℕ} {K : List Frame} {us : List Token} → Around n Postfix d K us → Moves n (us ++ t ∷ []) (points t d K)
+  Moves-points a = Moves-enters None (atomically (target a)) tt
+
+  Moves-multiplies : {d : ℕ} {K : List Frame} {us : List Token} → Around n Unary d K us → Moves n (us ++ t ∷ []) (multiplies t d K)
+  Moves-multiplies {d = d} {K = K} a = Moves-enters (points t d K) a (Moves-points (barely a))
+
   Moves-sums : {d : ℕ} {K : List Frame} {us : List Token} → Around n (Grouped level.Sum) d K us → Moves n (us ++ t ∷ []) (sums t d K)
-  Moves-sums a = Moves-enters None (left (left a)) tt
+  Moves-sums a = Moves-multiplies (left (left a))
 
   Moves-negates : {d : ℕ} {K : List Frame} {us : List Token} → Around n Negation d K us → Moves n (us ++ t ∷ []) (negates t d K)
   Moves-negates {d = d} {K = K} a = Moves-enters (sums t d (Left level.Comparison d ∷ K)) a (Moves-sums (left (plainly a)))
@@ -108,14 +119,16 @@ module _ (n : ℕ) (t : Token) where
   Moves-wants {s = Definition} a = Moves-enters None a tt
   Moves-wants {s = Parameters} a = Moves-enters None a tt
   Moves-wants {s = MoreParameters} a = Moves-enters None a tt
-  Moves-wants {s = Unary} a = Moves-enters None a tt
+  Moves-wants {s = Unary} a = Moves-multiplies a
+  Moves-wants {s = Postfix} a = Moves-points a
+  Moves-wants {s = Atom} a = Moves-enters None a tt
   Moves-wants {s = Tail o} a = Moves-enters None a tt
   Moves-wants {s = Expression} a = Moves-expresses a
   Moves-wants {s = Arguments} {d = d} {K = K} a =
       Moves-enters (expresses t (d + 0) (Inside argument_of 0 (d + 0) 0 ∷ K)) a (Moves-expresses (Around-argument a))
   Moves-wants {s = MoreArguments} a = Moves-enters None a tt
   Moves-wants {s = Negation} a = Moves-negates a
-  Moves-wants {s = Grouped level.Product} a = Moves-enters None (left a) tt
+  Moves-wants {s = Grouped level.Product} a = Moves-multiplies (left a)
   Moves-wants {s = Grouped level.Comparison} a = Moves-sums (left a)
   Moves-wants {s = Grouped level.Sum} a = Moves-sums a
   Moves-wants {s = Grouped level.And} a = Moves-negates (left a)
@@ -136,6 +149,14 @@ module _ (n : ℕ) (t : Token) where
   Moves-repeats level.Comparison other a x q = q
   Moves-repeats level.Sum other a x q = Moves-operates other a x q
   Moves-repeats level.Product other a x q = Moves-operates other a x q
+
+  -- the bracket of a fetch, or what the end of its target makes
+  Moves-indexes : {d h : ℕ} {K : List Frame} {us vs : List Token} {e : Tree} (other : Option Move) → Around n Postfix d K us →
+      Derives Postfix vs e h → Moves n ((us ++ vs) ++ t ∷ []) other → Moves n ((us ++ vs) ++ t ∷ []) (indexes t e h d K other)
+  Moves-indexes {h = h} {us = us} {vs = vs} {e = e} other a x other_moves = Moves-if n _ (is_word (the.Sign LeftBracket) t.kind) _ other (λ q fits.
+      Stands-at (sym (append_assoc us vs (t ∷ [])))
+      (within (target a) (record { completes = λ ts f m g. Derives-at (sym (snoc-at vs ts t)) (fetched x t (same-is_word (the.Sign LeftBracket) t.kind q) g) })
+      (omega arith) (omega (arith, Derives-height x), λ i. tt))) other_moves
 
   Moves-ends : (us : List Token) (e : Tree) (h : ℕ) (k : TokenKind) → (k ≡ End → Program us e h) → h ≤ n → Moves n us (ends k e)
   Moves-ends us e h End p w = λ fits. finished (p refl) w
@@ -161,7 +182,7 @@ module _ (n : ℕ) (t : Token) where
       Moves-if n _ (is_word v t.kind) _ (nexts t o h (d + own_height s) (own_height s) K close)
       (λ q fits.
       Stands-at (sym (append_assoc us vs (t ∷ [])))
-      (within a (record { completes = λ ts f m g. Derives-at (sym (snoc-at vs ts t)) (b.completes (t ∷ ts) f m (chosen (same-is_word v t.kind q) g)) }) w roomy.0))
+      (within a (record { completes = λ ts f m g. Derives-at (sym (snoc-at vs ts t)) (b.completes (t ∷ ts) f m (chosen (same-is_word v t.kind q) g)) }) w (roomy.0 t.start)))
       (Moves-nexts o h close a (record { completes = λ ts f m g. b.completes ts f m (left_out g) }) w roomy.1 closing)
   Moves-nexts (part i g) h close a b w roomy closing = Moves-wants (inside a b w roomy.1)
 
@@ -184,6 +205,9 @@ module _ (n : ℕ) (t : Token) where
       (Moves-closes a (vs ++ i ∷ ws) (binary o b e i.start) (max m k + 1) whole (omega arith)))
   Moves-closes (unconditionally a) vs e h x w = Moves-closes a vs e h (unconditional x) w
   Moves-closes (plainly a) vs e h x w = Moves-closes a vs e h (plain x) w
+  Moves-closes (barely a) vs e h x w = Moves-closes a vs e h (bare x) w
+  Moves-closes (atomically a) vs e h x w = Moves-closes a vs e h (atomic x) w
+  Moves-closes (target {K = K} a) vs e h x w = Moves-indexes (closes t e h K) a x (Moves-closes a vs e h x w)
   Moves-closes (inside {s = s} {i = i} {f = f} {d = d} {h = h} {K = K} {us = us} {vs = vs} a b fit roomy) ws e k x w =
       Moves-at n (nexts t (f e) (max h k) (d + own_height s) (own_height s) K (λ u j. closes t u j K))
       (ap (λ xs. xs ++ t ∷ []) (sym (append_assoc us vs ws)))

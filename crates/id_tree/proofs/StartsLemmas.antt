@@ -5,8 +5,9 @@ use Rattle.id_text.specs.Tokens.{IsWithin}
 use Rattle.id_text.specs.declared.token.Token.{Token}
 use Rattle.id_text.specs.declared.token.TokenKind.{TokenKind}
 use Rattle.id_value.specs.declared.Kind.{Kind}
-use Rattle.id_tree.specs.Tree.{Tree, binding, next, param, none, more}
-use Rattle.id_tree.specs.Grammar.{Phrase, Rest, done, word, either, name, of_kind, part, with_statement, with_tail, loop_with_tail, Opens, definition, no_parameters, first_parameter, last_parameter, next_parameter, by_conditional, denied, negated, number, by_true, by_false, parens, by_name, by_braces, no_arguments, last_argument, next_argument, by_binding, by_next, by_body, by_last, Derives, opened, unconditional, single, grouped, plain, some_arguments, Follows, ended, taken, chosen, left_out, named, kinded, given, Program, empty, defined}
+use Rattle.id_tree.specs.Tree as tree
+use Rattle.id_tree.specs.Tree.{Tree, binding, next, store, param, none, more}
+use Rattle.id_tree.specs.Grammar.{Phrase, Rest, done, word, either, name, of_kind, part, with_statement, with_tail, loop_with_tail, Opens, definition, no_parameters, first_parameter, last_parameter, next_parameter, by_conditional, denied, negated, number, by_true, by_false, parens, by_name, by_array, by_braces, no_arguments, last_argument, next_argument, by_statement, by_next, by_body, by_last, Derives, opened, unconditional, single, grouped, plain, bare, atomic, fetched, some_arguments, Follows, ended, taken, chosen, left_out, named, kinded, given, Program, empty, defined}
 use Rattle.id_tree.specs.Distinct.{HasPlace}
 use Rattle.id_tree.specs.Starts.{StartsAt, PlacesAreStarts}
 
@@ -23,7 +24,7 @@ AllPlaced P e = (q : ℕ) → HasPlace e q → P q
 abbrev Fills : (ℕ → Type 0) → Rest → Type 0
 Fills P (done e) = AllPlaced P e
 Fills P (word w r) = Fills P r
-Fills P (either w r q) = Fills P q × Fills P r
+Fills P (either w r q) = Fills P q × ((p : ℕ) → P p → Fills P (r p))
 Fills P (name f) = (x : List ℕ) (p : ℕ) → P p → Fills P (f x p)
 Fills P (of_kind f) = (k : Kind) → Fills P (f k)
 Fills P (part s f) = (a : Tree) → AllPlaced P a → Fills P (f a)
@@ -81,12 +82,16 @@ module _ (P : ℕ → Type 0) where
   Opens-fills by_true g = λ q i. at_own i g
   Opens-fills by_false g = λ q i. at_own i g
   Opens-fills parens g = λ e h. h
-  Opens-fills by_name g = (λ q i. at_own i g, λ a h. of_part a g h)
+  Opens-fills by_name g = (λ q i. at_own i g, λ p i a h. of_part a g h)
+  Opens-fills by_array g = λ a h b i. of_parts a b g h i
   Opens-fills no_arguments g = λ q h. absurd h
   Opens-fills last_argument g = λ q h. absurd h
   Opens-fills next_argument g = λ e h a i. of_both e a h i
-  Opens-fills by_braces g = (λ a h. of_block a g h, λ t h a i. of_loop t a g h i)
-  Opens-fills (by_binding {x = x} {p = p}) g = λ e i a h. of_statement (binding x e p) a (of_part e g i) h
+  Opens-fills by_braces g = (λ a h. of_block a g h, λ p j t h a i. of_loop t a g h i)
+  Opens-fills (by_statement {x = x} {p = p}) g = (
+    λ e i a h. of_statement (binding x e p) a (of_part e g i) h,
+    λ q j i h e k a l. of_statement (store (tree.name x p) i e q) a (of_three (tree.name x p) i e j (λ r n. at_own n g) h k) l,
+  )
   Opens-fills (by_next {p = p}) g = λ x q i e h a j. of_statement (next x e p) a (of_part e g h) j
   Opens-fills by_body g = λ e h. of_both none e (λ q i. absurd i) h
   Opens-fills by_last g = λ e h. of_both none e (λ q i. absurd i) h
@@ -107,12 +112,17 @@ module _ (P : ℕ → Type 0) where
     Derives-placed (grouped {us = us} {vs = vs} {a = a} {b = b} x t i y) g = of_parts a b
         (AllStart-back us (t ∷ vs) g).0 (Derives-placed x (AllStart-front us (t ∷ vs) g)) (Derives-placed y (AllStart-back us (t ∷ vs) g).1)
     Derives-placed (plain d) g = Derives-placed d g
+    Derives-placed (bare d) g = Derives-placed d g
+    Derives-placed (atomic d) g = Derives-placed d g
+    Derives-placed (fetched {us = us} {vs = vs} {a = a} x t i f) g =
+        let back = AllStart-back us (t ∷ vs) g in
+        Follows-placed f (λ j h. of_parts a j back.0 (Derives-placed x (AllStart-front us (t ∷ vs) g)) h) back.1
     Derives-placed (some_arguments f) g = Follows-placed f (λ e h a i. of_both e a h i) g
 
     Follows-placed : {r : Rest} {ts : List Token} {e : Tree} {h : ℕ} → Follows r ts e h → Fills P r → AllStart P ts → AllPlaced P e
     Follows-placed ended k g = k
     Follows-placed (taken i f) k g = Follows-placed f k g.1
-    Follows-placed (chosen i f) k g = Follows-placed f k.1 g.1
+    Follows-placed (chosen {t = t} i f) k g = Follows-placed f (k.1 t.start g.0) g.1
     Follows-placed (left_out f) k g = Follows-placed f k.0 g
     Follows-placed (named {t = t} {x = x} i f) k g = Follows-placed f (k x t.start g.0) g.1
     Follows-placed (kinded {k = j} i f) k g = Follows-placed f (k j) g.1

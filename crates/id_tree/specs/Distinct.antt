@@ -1,7 +1,7 @@
 -- Places of things: no two things of a tree have one (docs/LANGUAGE.md, "Place").
 use Rattle.std.specs.Prelude.{◌≡◌, ◌⊎◌, ℕ}
-use Rattle.id_tree.specs.Tree.{Tree, literal, unary, binary, name, conditional, call, block, loop, binding, next, param}
-use Rattle.id_tree.specs.Tree.{define, none, more}
+use Rattle.id_tree.specs.Tree.{Tree, literal, unary, binary, name, conditional, call, block, loop, array, fetch}
+use Rattle.id_tree.specs.Tree.{binding, next, store, param, define, none, more}
 
 -- a thing of the tree has this place
 abbrev pub HasPlace : Tree → ℕ → Type 0
@@ -13,8 +13,11 @@ HasPlace (conditional t x y p) q = (p ≡ q) ⊎ (HasPlace t q ⊎ (HasPlace x q
 HasPlace (call x a p) q = (p ≡ q) ⊎ HasPlace a q
 HasPlace (block a b p) q = (p ≡ q) ⊎ (HasPlace a q ⊎ HasPlace b q)
 HasPlace (loop t a b p) q = (p ≡ q) ⊎ (HasPlace t q ⊎ (HasPlace a q ⊎ HasPlace b q))
+HasPlace (array a b p) q = (p ≡ q) ⊎ (HasPlace a q ⊎ HasPlace b q)
+HasPlace (fetch t i p) q = (p ≡ q) ⊎ (HasPlace t q ⊎ HasPlace i q)
 HasPlace (binding x a p) q = (p ≡ q) ⊎ HasPlace a q
 HasPlace (next x a p) q = (p ≡ q) ⊎ HasPlace a q
+HasPlace (store t i a p) q = (p ≡ q) ⊎ (HasPlace t q ⊎ (HasPlace i q ⊎ HasPlace a q))
 HasPlace (param x k p) q = p ≡ q
 HasPlace (define x a k b p) q = (p ≡ q) ⊎ (HasPlace a q ⊎ HasPlace b q)
 HasPlace none q = ⊥
@@ -38,8 +41,13 @@ Distinct (block a b p) = (¬ HasPlace a p) × (¬ HasPlace b p) × Apart a b × 
 Distinct (loop t a b p) =
     (¬ HasPlace t p) × (¬ HasPlace a p) × (¬ HasPlace b p) × Apart t a × Apart t b × Apart a b
     × Distinct t × Distinct a × Distinct b
+Distinct (array a b p) = (¬ HasPlace a p) × (¬ HasPlace b p) × Apart a b × Distinct a × Distinct b
+Distinct (fetch t i p) = (¬ HasPlace t p) × (¬ HasPlace i p) × Apart t i × Distinct t × Distinct i
 Distinct (binding x a p) = (¬ HasPlace a p) × Distinct a
 Distinct (next x a p) = (¬ HasPlace a p) × Distinct a
+Distinct (store t i a p) =
+    (¬ HasPlace t p) × (¬ HasPlace i p) × (¬ HasPlace a p) × Apart t i × Apart t a × Apart i a
+    × Distinct t × Distinct i × Distinct a
 Distinct (param x k p) = Unit {0}
 Distinct (define x a k b p) = (¬ HasPlace a p) × (¬ HasPlace b p) × Apart a b × Distinct a × Distinct b
 Distinct none = Unit {0}

@@ -6,7 +6,8 @@ use Rattle.id_text.specs.declared.token.TokenKind.TheVariants.{Name, Number, Key
 use Rattle.id_text.specs.declared.token.Keyword.TheVariants.{Def, If, Then, Else, While, Do, Next, Finally, In, True}
 use Rattle.id_text.specs.declared.token.Keyword.TheVariants.{False, Int, Bool, Array, Div, Rem, And, Or, Not}
 use Rattle.id_text.specs.declared.token.Symbol.{Symbol}
-use Rattle.id_text.specs.declared.token.Symbol.TheVariants.{LeftParen, RightParen, LeftBrace, RightBrace, Comma}
+use Rattle.id_text.specs.declared.token.Symbol.TheVariants.{LeftParen, RightParen, LeftBrace, RightBrace}
+use Rattle.id_text.specs.declared.token.Symbol.TheVariants.{LeftBracket, RightBracket, Comma}
 use Rattle.id_text.specs.declared.token.Symbol.TheVariants.{Semicolon, Colon, Becomes, Equal, NotEqual, Less, LessEqual}
 use Rattle.id_text.specs.declared.token.Symbol.TheVariants.{Greater, GreaterEqual, Plus, Minus, Star}
 use Rattle.id_value.specs.declared.Kind.{Kind}
@@ -25,13 +26,14 @@ use Rattle.id_tree.specs.declared.parser.Scope.TheVariants as scope
 use Rattle.id_tree.specs.declared.tokens.Word.{Word}
 use Rattle.id_tree.specs.declared.tokens.Word.TheVariants as the
 use Rattle.id_tree.specs.Tree as tree
-use Rattle.id_tree.specs.Tree.{Tree, literal, unary, conditional, call, block, loop, binding, next, param, define}
-use Rattle.id_tree.specs.Tree.{binary, none, more}
+use Rattle.id_tree.specs.Tree.{Tree, literal, unary, conditional, call, block, loop, array, fetch, binding, next, store}
+use Rattle.id_tree.specs.Tree.{param, define, binary, none, more}
 
 -- What a rule is for: a definition; its parameters behind the bracket, and more of them behind one; an expression of
--- any form; a level of operators; what stands behind `not` or without it; an operand of the tightest level; the
--- arguments of a call behind its bracket, and more of them behind one; or the tail of a block or a loop, from where its
--- statements may come on, and behind each of them.
+-- any form; a level of operators; what stands behind `not` or without it; an operand of the tightest level; the same
+-- without `-` before it, which may be a fetch; the same, but no fetch; the arguments of a call behind its bracket, and
+-- more of them behind one; or the tail of a block or a loop, from where its statements may come on, and behind each of
+-- them.
 pub data Phrase : Type 0 where
   Definition : Phrase
   Parameters : Phrase
@@ -40,6 +42,8 @@ pub data Phrase : Type 0 where
   Grouped : Level → Phrase
   Negation : Phrase
   Unary : Phrase
+  Postfix : Phrase
+  Atom : Phrase
   Arguments : Phrase
   MoreArguments : Phrase
   Tail : Scope → Phrase
@@ -50,12 +54,12 @@ kind_of (the.Key k) = Key k
 kind_of (the.Sign s) = Sign s
 
 -- What is left of a production, and the tree that it makes: nothing, and the tree; a reserved word or a sign, and
--- then more; the same, or else something without it; a name, and then more for its spelling and its place; a kind's
--- word, and then more for the kind; a part, and then more for its tree.
+-- then more; the same, and then more for its place, or else something without it; a name, and then more for its
+-- spelling and its place; a kind's word, and then more for the kind; a part, and then more for its tree.
 pub data Rest : Type 0 where
   done : Tree → Rest
   word : Word → Rest → Rest
-  either : Word → Rest → Rest → Rest
+  either : Word → (ℕ → Rest) → Rest → Rest
   name : (List ℕ → ℕ → Rest) → Rest
   of_kind : (Kind → Rest) → Rest
   part : Phrase → (Tree → Rest) → Rest
@@ -94,7 +98,16 @@ conditional_of p =
 
 -- behind a name: "(" and the arguments of a call, or nothing
 abbrev pub named_of : List ℕ → ℕ → Rest
-named_of x p = either (the.Sign LeftParen) (part Arguments (λ a. done (call x a p))) (done (tree.name x p))
+named_of x p = either (the.Sign LeftParen) (λ _. part Arguments (λ a. done (call x a p))) (done (tree.name x p))
+
+-- behind the word `array`: "(", the lower bound, ",", the upper bound, ")"
+abbrev pub array_of : ℕ → Rest
+array_of p = sign LeftParen
+    (enclosed (the.Sign Comma) (λ a. enclosed (the.Sign RightParen) (λ b. done (array a b p))))
+
+-- behind the `[` of a fetch, whose target stands before it: the index, "]"
+abbrev pub fetch_of : Tree → ℕ → Rest
+fetch_of t p = enclosed (the.Sign RightBracket) (λ i. done (fetch t i p))
 
 -- behind an argument: those behind it
 abbrev pub argument_of : Tree → Rest
@@ -109,10 +122,19 @@ abbrev pub with_statement : Tree → Tree → Tree
 with_statement s (more a e) = more (more s a) e
 with_statement s _ = none
 
--- behind the name of a statement: "=", its value, ";", the tail behind it
+-- behind what a statement gives a value to: "=", its value, ";", the tail behind it
 abbrev pub statement_of : Scope → (Tree → Tree) → Rest
 statement_of s f =
     sign Becomes (enclosed (the.Sign Semicolon) (λ e. part (Tail s) (λ a. done (with_statement (f e) a))))
+
+-- behind the `[` of a store, whose target stands before it: the index, "]", and the rest of the statement
+abbrev pub store_of : Scope → Tree → ℕ → Rest
+store_of s t p = enclosed (the.Sign RightBracket) (λ i. statement_of s (λ e. store t i e p))
+
+-- behind the name with which a statement begins: it is the target of a store, or of a binding
+abbrev pub assigned_of : Scope → List ℕ → ℕ → Rest
+assigned_of s x p =
+    either (the.Sign LeftBracket) (λ q. store_of s (tree.name x p) q) (statement_of s (λ e. binding x e p))
 
 -- behind the last word of the statements: the expression that gives the value, "}"
 abbrev pub last_of : Rest
@@ -147,16 +169,17 @@ pub data Opens : Phrase → TokenKind → ℕ → Rest → Type 0 where
   by_conditional : {p : ℕ} → Opens Expression (Key If) p (conditional_of p)
   denied : {p : ℕ} → Opens Negation (Key Not) p (part Negation (λ e. done (unary unary_op.Not e p)))
   negated : {p : ℕ} → Opens Unary (Sign Minus) p (part Unary (λ e. done (unary unary_op.Neg e p)))
-  number : {v : ℤ} {p : ℕ} → Opens Unary (Number v) p (done (literal (constant.Int v) p))
-  by_true : {p : ℕ} → Opens Unary (Key True) p (done (literal (constant.Bool true) p))
-  by_false : {p : ℕ} → Opens Unary (Key False) p (done (literal (constant.Bool false) p))
-  parens : {p : ℕ} → Opens Unary (Sign LeftParen) p (enclosed (the.Sign RightParen) (λ e. done e))
-  by_name : {x : List ℕ} {p : ℕ} → Opens Unary (Name x) p (named_of x p)
-  by_braces : {p : ℕ} → Opens Unary (Sign LeftBrace) p (either (the.Key While) (loop_of p) (block_of p))
+  number : {v : ℤ} {p : ℕ} → Opens Atom (Number v) p (done (literal (constant.Int v) p))
+  by_true : {p : ℕ} → Opens Atom (Key True) p (done (literal (constant.Bool true) p))
+  by_false : {p : ℕ} → Opens Atom (Key False) p (done (literal (constant.Bool false) p))
+  parens : {p : ℕ} → Opens Atom (Sign LeftParen) p (enclosed (the.Sign RightParen) (λ e. done e))
+  by_name : {x : List ℕ} {p : ℕ} → Opens Atom (Name x) p (named_of x p)
+  by_array : {p : ℕ} → Opens Atom (Key Array) p (array_of p)
+  by_braces : {p : ℕ} → Opens Atom (Sign LeftBrace) p (either (the.Key While) (λ _. loop_of p) (block_of p))
   no_arguments : {p : ℕ} → Opens Arguments (Sign RightParen) p (done none)
   last_argument : {p : ℕ} → Opens MoreArguments (Sign RightParen) p (done none)
   next_argument : {p : ℕ} → Opens MoreArguments (Sign Comma) p arguments_of
-  by_binding : {s : Scope} {x : List ℕ} {p : ℕ} → Opens (Tail s) (Name x) p (statement_of s (λ e. binding x e p))
+  by_statement : {s : Scope} {x : List ℕ} {p : ℕ} → Opens (Tail s) (Name x) p (assigned_of s x p)
   by_next : {p : ℕ} →
       Opens (Tail scope.Loop) (Key Next) p (name (λ x q. statement_of scope.Loop (λ e. next x e p)))
   by_body : {p : ℕ} → Opens (Tail scope.Block) (Key In) p last_of
@@ -204,13 +227,16 @@ own_height Expression = 1
 own_height (Grouped l) = 1
 own_height Negation = 1
 own_height Unary = 1
+own_height Postfix = 1
+own_height Atom = 1
 own_height Arguments = 0
 own_height MoreArguments = 0
 own_height (Tail s) = 0
 
 mutual
   -- the tokens are a phrase, with this tree of this height: a production, an expression without `if`, one operand of a
-  -- level or more of them from the left, a comparison without `not` before it, or arguments from the first one on
+  -- level or more of them from the left, a comparison without `not` before it, an operand without `-` before it, which
+  -- is a fetch of what stands before its `[`, or none, or arguments from the first one on
   pub data Derives : Phrase → List Token → Tree → ℕ → Type 0 where
     opened : {s : Phrase} {t : Token} {r : Rest} {ts : List Token} {e : Tree} {h : ℕ} →
         Opens s t.kind t.start r → Follows r ts e h → Derives s (t ∷ ts) e (h + own_height s)
@@ -220,6 +246,11 @@ mutual
         Derives (left_operand l) us a m → (t : Token) → operator_of l t.kind ≡ Some o → Derives (operand l) vs b n →
         Derives (Grouped l) (us ++ t ∷ vs) (binary o a b t.start) (max m n + 1)
     plain : {ts : List Token} {e : Tree} {h : ℕ} → Derives (Grouped level.Comparison) ts e h → Derives Negation ts e h
+    bare : {ts : List Token} {e : Tree} {h : ℕ} → Derives Postfix ts e h → Derives Unary ts e h
+    atomic : {ts : List Token} {e : Tree} {h : ℕ} → Derives Atom ts e h → Derives Postfix ts e h
+    fetched : {us vs : List Token} {a e : Tree} {m n : ℕ} →
+        Derives Postfix us a m → (t : Token) → t.kind ≡ Sign LeftBracket → Follows (fetch_of a t.start) vs e n →
+        Derives Postfix (us ++ t ∷ vs) e (max m n + 1)
     some_arguments : {ts : List Token} {e : Tree} {h : ℕ} → Follows arguments_of ts e h → Derives Arguments ts e h
 
   -- the tokens are what is left of a production, with the tree that it makes, and its parts have this greatest height
@@ -227,9 +258,9 @@ mutual
     ended : {e : Tree} → Follows (done e) [] e 0
     taken : {w : Word} {t : Token} {r : Rest} {ts : List Token} {e : Tree} {h : ℕ} →
         t.kind ≡ kind_of w → Follows r ts e h → Follows (word w r) (t ∷ ts) e h
-    chosen : {w : Word} {t : Token} {r q : Rest} {ts : List Token} {e : Tree} {h : ℕ} →
-        t.kind ≡ kind_of w → Follows r ts e h → Follows (either w r q) (t ∷ ts) e h
-    left_out : {w : Word} {r q : Rest} {ts : List Token} {e : Tree} {h : ℕ} →
+    chosen : {w : Word} {t : Token} {r : ℕ → Rest} {q : Rest} {ts : List Token} {e : Tree} {h : ℕ} →
+        t.kind ≡ kind_of w → Follows (r t.start) ts e h → Follows (either w r q) (t ∷ ts) e h
+    left_out : {w : Word} {r : ℕ → Rest} {q : Rest} {ts : List Token} {e : Tree} {h : ℕ} →
         Follows q ts e h → Follows (either w r q) ts e h
     named : {t : Token} {x : List ℕ} {f : List ℕ → ℕ → Rest} {ts : List Token} {e : Tree} {h : ℕ} →
         t.kind ≡ Name x → Follows (f x t.start) ts e h → Follows (name f) (t ∷ ts) e h

@@ -4,9 +4,9 @@ use denote.Enum.Bare.{sameb}
 use Rattle.id_text.specs.declared.token.Token.{Token}
 use Rattle.id_text.specs.declared.token.TokenKind.{TokenKind}
 use Rattle.id_text.specs.declared.token.TokenKind.TheVariants.{Name, Number, Key, Sign, End}
-use Rattle.id_text.specs.declared.token.Keyword.TheVariants.{Def, If, Finally, In, True, False, Not}
+use Rattle.id_text.specs.declared.token.Keyword.TheVariants.{Def, If, Finally, In, True, False, Array, Not}
 use Rattle.id_text.specs.declared.token.Keyword.TheVariants as keyword_of
-use Rattle.id_text.specs.declared.token.Symbol.TheVariants.{LeftParen, RightParen, LeftBrace, Comma, Minus}
+use Rattle.id_text.specs.declared.token.Symbol.TheVariants.{LeftParen, RightParen, LeftBrace, LeftBracket, Comma, Minus}
 use Rattle.id_text.specs.contracts.token.Keyword as keyword
 use Rattle.id_text.specs.contracts.token.Symbol as symbol
 use Rattle.id_value.specs.declared.BinaryOp.{BinaryOp}
@@ -18,11 +18,12 @@ use Rattle.id_tree.specs.declared.tokens.Word.TheVariants as the
 use Rattle.id_value.specs.declared.Kind.TheVariants as kind
 use Rattle.id_tree.specs.Tree.{Tree, binary, none, more}
 use Rattle.id_tree.specs.Grammar.{Phrase, Definition, Parameters, MoreParameters, Expression, Grouped, Negation, Unary}
-use Rattle.id_tree.specs.Grammar.{Arguments, MoreArguments, Tail, Rest, done, word, either, name, of_kind, part}
-use Rattle.id_tree.specs.Grammar.{kind_named, Opens, definition, no_parameters, first_parameter, last_parameter}
-use Rattle.id_tree.specs.Grammar.{next_parameter, by_conditional, denied, negated, number, by_true, by_false, parens}
-use Rattle.id_tree.specs.Grammar.{by_name, by_braces, no_arguments, last_argument, next_argument, argument_of}
-use Rattle.id_tree.specs.Grammar.{by_binding, by_next, by_body, by_last, operand, operator_of, own_height}
+use Rattle.id_tree.specs.Grammar.{Postfix, Atom, Arguments, MoreArguments, Tail, Rest, done, word, either, name}
+use Rattle.id_tree.specs.Grammar.{of_kind, part, fetch_of, kind_named, Opens, definition, no_parameters}
+use Rattle.id_tree.specs.Grammar.{first_parameter, last_parameter, next_parameter, by_conditional, denied, negated}
+use Rattle.id_tree.specs.Grammar.{number, by_true, by_false, parens, by_name, by_array, by_braces, no_arguments}
+use Rattle.id_tree.specs.Grammar.{last_argument, next_argument, argument_of, by_statement, by_next, by_body, by_last}
+use Rattle.id_tree.specs.Grammar.{operand, operator_of, own_height}
 
 -- a production that begins with this token
 pub record Row (s : Phrase) (k : TokenKind) (p : ℕ) : Type 0 where
@@ -39,16 +40,17 @@ opening MoreParameters (Sign Comma) p = Some (record { rest = _; opens = next_pa
 opening Expression (Key If) p = Some (record { rest = _; opens = by_conditional })
 opening Negation (Key Not) p = Some (record { rest = _; opens = denied })
 opening Unary (Sign Minus) p = Some (record { rest = _; opens = negated })
-opening Unary (Number v) p = Some (record { rest = _; opens = number })
-opening Unary (Key True) p = Some (record { rest = _; opens = by_true })
-opening Unary (Key False) p = Some (record { rest = _; opens = by_false })
-opening Unary (Sign LeftParen) p = Some (record { rest = _; opens = parens })
-opening Unary (Name x) p = Some (record { rest = _; opens = by_name })
-opening Unary (Sign LeftBrace) p = Some (record { rest = _; opens = by_braces })
+opening Atom (Number v) p = Some (record { rest = _; opens = number })
+opening Atom (Key True) p = Some (record { rest = _; opens = by_true })
+opening Atom (Key False) p = Some (record { rest = _; opens = by_false })
+opening Atom (Sign LeftParen) p = Some (record { rest = _; opens = parens })
+opening Atom (Name x) p = Some (record { rest = _; opens = by_name })
+opening Atom (Key Array) p = Some (record { rest = _; opens = by_array })
+opening Atom (Sign LeftBrace) p = Some (record { rest = _; opens = by_braces })
 opening Arguments (Sign RightParen) p = Some (record { rest = _; opens = no_arguments })
 opening MoreArguments (Sign RightParen) p = Some (record { rest = _; opens = last_argument })
 opening MoreArguments (Sign Comma) p = Some (record { rest = _; opens = next_argument })
-opening (Tail s) (Name x) p = Some (record { rest = _; opens = by_binding })
+opening (Tail s) (Name x) p = Some (record { rest = _; opens = by_statement })
 opening (Tail scope.Loop) (Key keyword_of.Next) p = Some (record { rest = _; opens = by_next })
 opening (Tail scope.Block) (Key In) p = Some (record { rest = _; opens = by_body })
 opening (Tail scope.Loop) (Key Finally) p = Some (record { rest = _; opens = by_last })
@@ -63,6 +65,8 @@ least_height Expression = 1
 least_height (Grouped l) = 1
 least_height Negation = 1
 least_height Unary = 1
+least_height Postfix = 1
+least_height Atom = 1
 least_height Arguments = 0
 least_height MoreArguments = 0
 least_height (Tail s) = 1
@@ -76,12 +80,13 @@ room (name f) = room (f [] 0)
 room (of_kind f) = room (f kind.Int)
 room (part s f) = max (least_height s) (room (f none))
 
--- What stands round a part, from the inside: a level whose first operand it is, one whose next operand it is, a
--- production, or the program, with the definitions before it; the last numbers are the expressions round the level or
--- the production's parts.
+-- What stands round a part, from the inside: a level whose first operand it is, one whose next operand it is, what it
+-- may be the target of, a production, or the program, with the definitions before it; the last numbers are the
+-- expressions round the level, the fetch or the production's parts.
 pub data Frame : Type 0 where
   Left : Level → ℕ → Frame
   Right : Level → BinaryOp → Tree → ℕ → ℕ → ℕ → Frame
+  Target : ℕ → Frame
   Inside : (Tree → Rest) → ℕ → ℕ → ℕ → Frame
   Outer : List Tree → Frame
 
@@ -137,9 +142,17 @@ enters t s d K other =
     pick (opening s t.kind t.start)
     (λ row. Some (record { need = d + own_height s + room row.rest; next = behind_first row.rest s d K })) other
 
+-- a token where an operand without `-` is to come
+abbrev pub points : Token → ℕ → List Frame → Option Move
+points t d K = enters t Atom d (Target d ∷ K) None
+
+-- a token where an operand of a product is to come
+abbrev pub multiplies : Token → ℕ → List Frame → Option Move
+multiplies t d K = enters t Unary d K (points t d K)
+
 -- a token where a sum is to come
 abbrev pub sums : Token → ℕ → List Frame → Option Move
-sums t d K = enters t Unary d (Left level.Product d ∷ Left level.Sum d ∷ K) None
+sums t d K = multiplies t d (Left level.Product d ∷ Left level.Sum d ∷ K)
 
 -- a token where `not` or a comparison is to come
 abbrev pub negates : Token → ℕ → List Frame → Option Move
@@ -163,9 +176,11 @@ wants t (Grouped level.Or) d K = negates t d (Left level.And d ∷ Left level.Or
 wants t (Grouped level.And) d K = negates t d (Left level.And d ∷ K)
 wants t (Grouped level.Comparison) d K = sums t d (Left level.Comparison d ∷ K)
 wants t (Grouped level.Sum) d K = sums t d K
-wants t (Grouped level.Product) d K = enters t Unary d (Left level.Product d ∷ K) None
+wants t (Grouped level.Product) d K = multiplies t d (Left level.Product d ∷ K)
 wants t Negation d K = negates t d K
-wants t Unary d K = enters t Unary d K None
+wants t Unary d K = multiplies t d K
+wants t Postfix d K = points t d K
+wants t Atom d K = enters t Atom d K None
 wants t Arguments d K = passes t d K
 wants t MoreArguments d K = enters t MoreArguments d K None
 wants t (Tail s) d K = enters t (Tail s) d K None
@@ -184,11 +199,18 @@ repeats t e h level.Comparison d K other = other
 repeats t e h level.Sum d K other = operates t e h level.Sum d K other
 repeats t e h level.Product d K other = operates t e h level.Product d K other
 
+-- a token behind what may be the target of a fetch: its `[`, or else what the end of the operand makes of it
+abbrev pub indexes : Token → Tree → ℕ → ℕ → List Frame → Option Move → Option Move
+indexes t e h d K other =
+    cond (is_word (the.Sign LeftBracket) t.kind)
+    (Some (record { need = d + h + 1; next = Next (fetch_of e t.start) h (d + 1) 1 (Target d ∷ K) })) other
+
 -- a token in a production, whose end closes
 abbrev pub nexts : Token → Rest → ℕ → ℕ → ℕ → List Frame → (Tree → ℕ → Option Move) → Option Move
 nexts t (done e) h d c K close = close e (h + c)
 nexts t (word w r) h d c K close = cond (is_word w t.kind) (free (Next r h d c K)) None
-nexts t (either w r q) h d c K close = cond (is_word w t.kind) (free (Next r h d c K)) (nexts t q h d c K close)
+nexts t (either w r q) h d c K close =
+    cond (is_word w t.kind) (free (Next (r t.start) h d c K)) (nexts t q h d c K close)
 nexts t (name f) h d c K close = pick (name_in t.kind) (λ x. free (Next (f x t.start) h d c K)) None
 nexts t (of_kind f) h d c K close = pick (kind_named t.kind) (λ k. free (Next (f k) h d c K)) None
 nexts t (part s f) h d c K close = wants t s d (Inside f h d c ∷ K)
@@ -214,6 +236,7 @@ closes t e h (Outer ds ∷ K) = defines t (ds ++ e ∷ [])
 closes t e h (Left l d ∷ K) = operates t e h l d K (closes t e h K)
 closes t b n (Right l o a m p d ∷ K) =
     repeats t (binary o a b p) (max m n + 1) l d K (closes t (binary o a b p) (max m n + 1) K)
+closes t e h (Target d ∷ K) = indexes t e h d K (closes t e h K)
 closes t e h (Inside f m d c ∷ K) = nexts t (f e) (max m h) d c K (λ a n. closes t a n K)
 
 -- what a token does

@@ -6,7 +6,7 @@ use Rattle.id_text.specs.declared.token.Token.{Token}
 use Rattle.id_text.specs.declared.token.TokenKind.{TokenKind}
 use Rattle.id_text.specs.declared.token.TokenKind.TheVariants.{Name, Number, Key, Sign, End}
 use Rattle.id_text.specs.declared.token.Keyword.{Keyword}
-use Rattle.id_text.specs.declared.token.Keyword.TheVariants.{If, Finally, In, Not, True, False}
+use Rattle.id_text.specs.declared.token.Keyword.TheVariants.{If, Finally, In, Not, True, False, Array}
 use Rattle.id_text.specs.declared.token.Symbol.TheVariants.{LeftParen, LeftBrace, Colon, Becomes, Minus}
 use Rattle.id_tree.specs.declared.parser.Level.{Level}
 use Rattle.id_tree.specs.declared.parser.Scope.{Scope}
@@ -22,8 +22,10 @@ use Rattle.id_tree.specs.declared.tree.TreeError.{TreeError}
 use Rattle.id_tree.specs.declared.tree.TreeError.TheVariants.{Unexpected, TooDeep, Memory}
 use Rattle.id_tree.specs.Tree.{Tree, tree_of, stmt_tree, def_tree, unary, param, more}
 use Rattle.id_tree.specs.Grammar.{Phrase, Definition, Parameters, MoreParameters, Arguments, MoreArguments, Tail, Rest}
-use Rattle.id_tree.specs.Grammar.{named_of, done, of_kind, part, sign, enclosed, with_statement, Opens, operand}
-use Rattle.id_tree.specs.Machine.{Frame, Left, Inside, again, Begin, Want, Have, Next, Outcome, Refused, name_in, run}
+use Rattle.id_tree.specs.Grammar.{named_of, assigned_of, done, of_kind, part, sign, enclosed, with_statement, Opens}
+use Rattle.id_tree.specs.Grammar.{operand}
+use Rattle.id_tree.specs.Machine.{Frame, Left, Target, Inside, again, Begin, Want, Have, Next, Outcome, Refused}
+use Rattle.id_tree.specs.Machine.{name_in, run}
 
 -- what the first token is
 abbrev pub first_kind : List Token → TokenKind
@@ -83,6 +85,14 @@ pub record Grows (ts : List Token) (l : Level) (d : ℕ) (a : Tree) (m : ℕ)
 -- the run ends so behind the left operand
 pub record Stunts (ts : List Token) (l : Level) (d : ℕ) (a : Tree) (m : ℕ) (x : TreeError) : Type 0 where
   pub fails : (K : List Frame) → EndsBy (run 200 ts (Have a m (Left l d ∷ K))) x
+
+-- the run takes a `[`, an index and a `]` behind what is there, and the fetch is there
+pub record Indexes (ts : List Token) (d : ℕ) (a : Tree) (m : ℕ) (us : List Token) (e : Tree) (h : ℕ) : Type 0 where
+  pub comes : (K : List Frame) → run 200 ts (Have a m (Target d ∷ K)) ≡ run 200 us (Have e h (Target d ∷ K))
+
+-- the run ends so in a fetch of what is there
+pub record Misindexes (ts : List Token) (d : ℕ) (a : Tree) (m : ℕ) (x : TreeError) : Type 0 where
+  pub fails : (K : List Frame) → EndsBy (run 200 ts (Have a m (Target d ∷ K))) x
 
 -- the run takes the words of a production
 pub record Takes (f : Rest → Rest) (ts us : List Token) : Type 0 where
@@ -191,6 +201,17 @@ pub record Adds (ts : List Token) (o : Scope) (d : ℕ) (us : List Token) (s : T
   pub comes : (K : List Frame) →
       run 200 ts (Want (Tail o) d K) ≡ run 200 us (Want (Tail o) d (Inside (λ a. done (with_statement s a)) h d 0 ∷ K))
 
+-- from behind the name with which a statement begins the run takes the statement
+pub record Assigns (ts : List Token) (o : Scope) (d : ℕ) (x : List ℕ) (p : ℕ) (us : List Token) (s : Tree) (h : ℕ)
+    : Type 0 where
+  pub comes : (K : List Frame) →
+      run 200 ts (Next (assigned_of o x p) 0 (d + 0) 0 K)
+      ≡ run 200 us (Want (Tail o) d (Inside (λ a. done (with_statement s a)) h d 0 ∷ K))
+
+-- from behind that name the run ends so
+pub record Misassigns (ts : List Token) (o : Scope) (d : ℕ) (x : List ℕ) (p : ℕ) (y : TreeError) : Type 0 where
+  pub fails : (K : List Frame) → EndsBy (run 200 ts (Next (assigned_of o x p) 0 (d + 0) 0 K)) y
+
 -- the run takes statements of a tail, and puts them before those that come behind
 pub record Stacks (ts : List Token) (o : Scope) (d : ℕ) (us : List Token) (ss : List Stmt) (h : ℕ) (K : List Frame)
     : Type 0 where
@@ -215,6 +236,7 @@ begins_expression (Key If) = true
 begins_expression (Key Not) = true
 begins_expression (Key True) = true
 begins_expression (Key False) = true
+begins_expression (Key Array) = true
 begins_expression (Number v) = true
 begins_expression (Name x) = true
 begins_expression (Sign Minus) = true

@@ -6,11 +6,11 @@ use Rattle.id_tree.specs.declared.parser.Level.TheVariants as level
 use Rattle.id_value.specs.declared.BinaryOp.{BinaryOp}
 use Rattle.id_value.specs.declared.Kind.{Kind}
 use Rattle.id_tree.specs.Tree.{Tree}
-use Rattle.id_tree.specs.Grammar.{Phrase, Definition, Expression, Grouped, Negation, Rest, done, word, either, name}
-use Rattle.id_tree.specs.Grammar.{of_kind, part, operand, left_operand, operator_of, own_height, Derives, Follows}
-use Rattle.id_tree.specs.Grammar.{Program}
-use Rattle.id_tree.specs.Machine.{least_height, Frame, Left, Right, Inside, Outer, ahead, State, Begin, Want, Have}
-use Rattle.id_tree.specs.Machine.{Next, Finished}
+use Rattle.id_tree.specs.Grammar.{Phrase, Definition, Expression, Grouped, Negation, Unary, Postfix, Atom, Rest, done}
+use Rattle.id_tree.specs.Grammar.{word, either, name, of_kind, part, operand, left_operand, operator_of, own_height}
+use Rattle.id_tree.specs.Grammar.{Derives, Follows, Program}
+use Rattle.id_tree.specs.Machine.{least_height, Frame, Left, Right, Target, Inside, Outer, ahead, State, Begin, Want}
+use Rattle.id_tree.specs.Machine.{Have, Next, Finished}
 
 -- the tokens begin a phrase, of which this is left, and its parts so far have this greatest height
 pub record Begins (s : Phrase) (vs : List Token) (r : Rest) (h : ℕ) : Type 0 where
@@ -25,7 +25,7 @@ pub record Defined (ds : List Tree) (us : List Token) (h : ℕ) : Type 0 where
 abbrev pub Roomy : ℕ → ℕ → Rest → Type 0
 Roomy n d (done e) = Unit {0}
 Roomy n d (word w r) = Roomy n d r
-Roomy n d (either w r q) = Roomy n d r × Roomy n d q
+Roomy n d (either w r q) = ((p : ℕ) → Roomy n d (r p)) × Roomy n d q
 Roomy n d (name f) = (x : List ℕ) (p : ℕ) → Roomy n d (f x p)
 Roomy n d (of_kind f) = (k : Kind) → Roomy n d (f k)
 Roomy n d (part s f) = (d + least_height s ≤ n) × ((a : Tree) → Roomy n d (f a))
@@ -43,6 +43,9 @@ pub data Around (n : ℕ) : Phrase → ℕ → List Frame → List Token → Typ
       d + m + 1 ≤ n → Around n (operand l) (d + 1) (Right l o a m t.start d ∷ K) (us ++ (vs ++ t ∷ []))
   plainly : {d : ℕ} {K : List Frame} {us : List Token} →
       Around n Negation d K us → Around n (Grouped level.Comparison) d K us
+  barely : {d : ℕ} {K : List Frame} {us : List Token} → Around n Unary d K us → Around n Postfix d K us
+  target : {d : ℕ} {K : List Frame} {us : List Token} → Around n Postfix d K us → Around n Postfix d (Target d ∷ K) us
+  atomically : {d : ℕ} {K : List Frame} {us : List Token} → Around n Postfix d K us → Around n Atom d K us
   inside : {s i : Phrase} {f : Tree → Rest} {d h : ℕ} {K : List Frame} {us vs : List Token} →
       Around n s d K us → Begins s vs (part i f) h → d + own_height s + h ≤ n →
       ((a : Tree) → Roomy n (d + own_height s) (f a)) →

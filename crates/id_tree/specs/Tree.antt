@@ -4,17 +4,18 @@ use Rattle.id_value.specs.declared.Kind.{Kind}
 use Rattle.id_value.specs.declared.Constant.{Constant}
 use Rattle.id_value.specs.declared.UnaryOp.{UnaryOp}
 use Rattle.id_value.specs.declared.BinaryOp.{BinaryOp}
-use Rattle.id_tree.specs.declared.tree.Expr.{Expr, Literal, Unary', Binary', Name, If', Call', Block', Loop'}
-use Rattle.id_tree.specs.declared.tree.Expr.{Row_of-Expr, end_of-Expr, more_of-Expr, Row_of-Stmt, end_of-Stmt}
+use Rattle.id_tree.specs.declared.tree.Expr.{Expr, Literal, Unary', Binary', Name, If', Call', Block', Loop', Array'}
+use Rattle.id_tree.specs.declared.tree.Expr.{Fetch', Row_of-Expr, end_of-Expr, more_of-Expr, Row_of-Stmt, end_of-Stmt}
 use Rattle.id_tree.specs.declared.tree.Expr.{more_of-Stmt}
-use Rattle.id_tree.specs.declared.tree.Stmt.{Stmt, Binding, Next}
+use Rattle.id_tree.specs.declared.tree.Stmt.{Stmt, Binding, Next, Store}
 use Rattle.id_tree.specs.declared.tree.Param.{Param}
 use Rattle.id_tree.specs.declared.tree.Def.{Def}
 use Rattle.id_tree.specs.declared.tree.Program.{Program}
 
 -- An expression, a statement, a parameter, a definition with its parameters and its body, or a list of trees; a call
 -- has the list of its arguments, a block its statements and its body, a loop its predicate, its statements and its last
--- expression. The last number of a thing is its place.
+-- expression, an array its lower and its upper bound, a fetch its target and its index, a store its target, its index
+-- and its value. The last number of a thing is its place.
 pub data Tree : Type 0 where
   literal : Constant → ℕ → Tree
   unary : UnaryOp → Tree → ℕ → Tree
@@ -24,8 +25,11 @@ pub data Tree : Type 0 where
   call : List ℕ → Tree → ℕ → Tree
   block : Tree → Tree → ℕ → Tree
   loop : Tree → Tree → Tree → ℕ → Tree
+  array : Tree → Tree → ℕ → Tree
+  fetch : Tree → Tree → ℕ → Tree
   binding : List ℕ → Tree → ℕ → Tree
   next : List ℕ → Tree → ℕ → Tree
+  store : Tree → Tree → Tree → ℕ → Tree
   param : List ℕ → Kind → ℕ → Tree
   define : List ℕ → Tree → Kind → Tree → ℕ → Tree
   none : Tree
@@ -42,6 +46,8 @@ abbrev mutual
   tree_of (Call' x n args place) = call x (args_tree args) place
   tree_of (Block' n statements p body place) = block (row_tree statements) (tree_of body) place
   tree_of (Loop' p test n statements q last place) = loop (tree_of test) (row_tree statements) (tree_of last) place
+  tree_of (Array' p low q high place) = array (tree_of low) (tree_of high) place
+  tree_of (Fetch' p target q index place) = fetch (tree_of target) (tree_of index) place
 
   -- the trees of the arguments, in order
   pub args_tree : {n : _} → Row_of-Expr n → Tree
@@ -52,6 +58,7 @@ abbrev mutual
   pub stmt_tree : Stmt → Tree
   stmt_tree (Binding x value place) = binding x (tree_of value) place
   stmt_tree (Next x value place) = next x (tree_of value) place
+  stmt_tree (Store target index value place) = store (tree_of target) (tree_of index) (tree_of value) place
 
   -- the trees of the statements, in order
   pub row_tree : {n : _} → Row_of-Stmt n → Tree

@@ -18,6 +18,8 @@ ghost use Rattle.id_tree.specs.Grammar.{
   Grouped,
   Negation,
   Unary,
+  Postfix,
+  Atom,
   Arguments,
   Tail,
   operand,
@@ -43,7 +45,11 @@ ghost use Rattle.id_tree.specs.Readers.{
   Beheads,
   Encloses,
   Exposes,
+  Indexes,
+  Misindexes,
   Adds,
+  Assigns,
+  Misassigns,
   Gathers,
   IsGathered,
   Applies,
@@ -53,7 +59,8 @@ ghost use Rattle.id_tree.specs.Readers.{
 };
 
 use crate::part::{
-    Part, binary, binding, block, call, conditional, name, next, number, truth, unary, whole_loop,
+    Part, array, binary, binding, block, call, conditional, fetch, name, next, number, store,
+    truth, unary, whole_loop,
 };
 use crate::tokens::{
     Word, begins_with, begins_with_sign, comparison_of, enter, expect_end, expect_kind,
@@ -381,7 +388,7 @@ fn parse_prefixed(
     Ok((whole, rest))
 }
 
-/// `unary = "-" unary | NUMBER | "true" | "false" | NAME | call | "(" expr ")" | block | loop`
+/// `unary = "-" unary | postfix`
 #[cycle(expr)]
 fn parse_unary(alloc: Global, tokens: &[Token], depth: usize) -> Result<(Part, &[Token]), TreeError>
     requires ends { EndsOnce tokens.now }
@@ -391,16 +398,100 @@ fn parse_unary(alloc: Global, tokens: &[Token], depth: usize) -> Result<(Part, &
         Leads tokens.now Unary depth x.1.now (tree_of x.0.expr) x.0.height) }
     ensures err { IfErr result (Fails tokens.now Unary depth) }
 {
-    let (first, _) = split(tokens);
-    if is_sign(first, Symbol::Minus) {
+    if begins_with_sign(tokens, Symbol::Minus) {
         parse_prefixed(alloc, UnaryOp::Neg, tokens, Level::Product, depth)
-    } else if is_sign(first, Symbol::LeftParen) {
+    } else {
+        parse_postfix(alloc, tokens, depth)
+    }
+}
+
+/// `postfix = atom { "[" expr "]" }`
+#[cycle(expr)]
+fn parse_postfix(
+    alloc: Global,
+    tokens: &[Token],
+    depth: usize,
+) -> Result<(Part, &[Token]), TreeError>
+    requires ends { EndsOnce tokens.now }
+    requires room { depth < MAX_NESTING }
+    ensures read { IfOk result (λ x. IsRead tokens.now x.1.now depth x.0.height) }
+    ensures ok { IfOk result (λ x.
+        Leads tokens.now Postfix depth x.1.now (tree_of x.0.expr) x.0.height) }
+    ensures err { IfErr result (Fails tokens.now Postfix depth) }
+{
+    let (mut target, mut rest) = parse_atom(alloc, tokens, depth)?;
+    'fetches: while begins_with_sign(rest, Symbol::LeftBracket) {
+        let (whole, behind) = parse_fetch(alloc, target, rest, depth)?;
+        target = whole;
+        rest = behind;
+    }
+    Ok((target, rest))
+}
+
+/// A fetch, from behind its target: `"[" expr "]"`
+#[cycle(expr)]
+fn parse_fetch(
+    alloc: Global,
+    target: Part,
+    tokens: &[Token],
+    depth: usize,
+) -> Result<(Part, &[Token]), TreeError>
+    requires ends { EndsOnce tokens.now }
+    requires begins { first_kind tokens.now ≡ TokenKind.Sign Symbol.LeftBracket }
+    requires some { 0 < target.height }
+    requires fits { depth + target.height ≤ MAX_NESTING }
+    ensures read { IfOk result (λ x. IsRead tokens.now x.1.now depth x.0.height) }
+    ensures ok { IfOk result (λ x.
+        Indexes tokens.now depth (tree_of target.expr) target.height
+        x.1.now (tree_of x.0.expr) x.0.height) }
+    ensures err { IfErr result (Misindexes tokens.now depth (tree_of target.expr) target.height) }
+{
+    let (first, begun) = enter(tokens, depth + target.height + 1)?;
+    let bracket = Word::Sign(Symbol::RightBracket);
+    let (index, rest) = parse_enclosed(alloc, begun, bracket, depth + 1)?;
+    let whole = fetch(alloc, target, index, first.start)?;
+    Ok((whole, rest))
+}
+
+/// `atom = "(" expr ")" | block | loop | array | leaf`
+#[cycle(expr)]
+fn parse_atom(alloc: Global, tokens: &[Token], depth: usize) -> Result<(Part, &[Token]), TreeError>
+    requires ends { EndsOnce tokens.now }
+    requires room { depth < MAX_NESTING }
+    ensures read { IfOk result (λ x. IsRead tokens.now x.1.now depth x.0.height) }
+    ensures ok { IfOk result (λ x.
+        Leads tokens.now Atom depth x.1.now (tree_of x.0.expr) x.0.height) }
+    ensures err { IfErr result (Fails tokens.now Atom depth) }
+{
+    if begins_with_sign(tokens, Symbol::LeftParen) {
         parse_parens(alloc, tokens, depth)
-    } else if is_sign(first, Symbol::LeftBrace) {
+    } else if begins_with_sign(tokens, Symbol::LeftBrace) {
         parse_braces(alloc, tokens, depth)
+    } else if begins_with(tokens, Keyword::Array) {
+        parse_array(alloc, tokens, depth)
     } else {
         parse_leaf(alloc, tokens, depth)
     }
+}
+
+/// `array = "array" "(" expr "," expr ")"`
+#[cycle(expr)]
+fn parse_array(alloc: Global, tokens: &[Token], depth: usize) -> Result<(Part, &[Token]), TreeError>
+    requires ends { EndsOnce tokens.now }
+    requires begins { first_kind tokens.now ≡ TokenKind.Key Keyword.Array }
+    requires room { depth < MAX_NESTING }
+    ensures read { IfOk result (λ x. IsRead tokens.now x.1.now depth x.0.height) }
+    ensures ok { IfOk result (λ x.
+        Leads tokens.now Atom depth x.1.now (tree_of x.0.expr) x.0.height) }
+    ensures err { IfErr result (Fails tokens.now Atom depth) }
+{
+    let inner = depth + 1;
+    let (first, behind) = enter(tokens, inner + 1)?;
+    let opened = expect_word(behind, Word::Sign(Symbol::LeftParen))?;
+    let (low, begun) = parse_enclosed(alloc, opened, Word::Sign(Symbol::Comma), inner)?;
+    let (high, rest) = parse_enclosed(alloc, begun, Word::Sign(Symbol::RightParen), inner)?;
+    let whole = array(alloc, low, high, first.start)?;
+    Ok((whole, rest))
 }
 
 /// `"(" expr ")"`
@@ -415,8 +506,8 @@ fn parse_parens(
     requires room { depth < MAX_NESTING }
     ensures read { IfOk result (λ x. IsRead tokens.now x.1.now depth x.0.height) }
     ensures ok { IfOk result (λ x.
-        Leads tokens.now Unary depth x.1.now (tree_of x.0.expr) x.0.height) }
-    ensures err { IfErr result (Fails tokens.now Unary depth) }
+        Leads tokens.now Atom depth x.1.now (tree_of x.0.expr) x.0.height) }
+    ensures err { IfErr result (Fails tokens.now Atom depth) }
 {
     let inner = depth + 1;
     let (_, opened) = enter(tokens, inner + 1)?;
@@ -457,8 +548,8 @@ fn parse_braces(
     requires room { depth < MAX_NESTING }
     ensures read { IfOk result (λ x. IsRead tokens.now x.1.now depth x.0.height) }
     ensures ok { IfOk result (λ x.
-        Leads tokens.now Unary depth x.1.now (tree_of x.0.expr) x.0.height) }
-    ensures err { IfErr result (Fails tokens.now Unary depth) }
+        Leads tokens.now Atom depth x.1.now (tree_of x.0.expr) x.0.height) }
+    ensures err { IfErr result (Fails tokens.now Atom depth) }
 {
     let (_, opened) = split(tokens);
     if begins_with(opened, Keyword::While) {
@@ -477,8 +568,8 @@ fn parse_block(alloc: Global, tokens: &[Token], depth: usize) -> Result<(Part, &
     requires room { depth < MAX_NESTING }
     ensures read { IfOk result (λ x. IsRead tokens.now x.1.now depth x.0.height) }
     ensures ok { IfOk result (λ x.
-        Leads tokens.now Unary depth x.1.now (tree_of x.0.expr) x.0.height) }
-    ensures err { IfErr result (Fails tokens.now Unary depth) }
+        Leads tokens.now Atom depth x.1.now (tree_of x.0.expr) x.0.height) }
+    ensures err { IfErr result (Fails tokens.now Atom depth) }
 {
     let inner = depth + 1;
     let (first, opened) = enter(tokens, inner + 1)?;
@@ -498,8 +589,8 @@ fn parse_loop(alloc: Global, tokens: &[Token], depth: usize) -> Result<(Part, &[
     requires room { depth < MAX_NESTING }
     ensures read { IfOk result (λ x. IsRead tokens.now x.1.now depth x.0.height) }
     ensures ok { IfOk result (λ x.
-        Leads tokens.now Unary depth x.1.now (tree_of x.0.expr) x.0.height) }
-    ensures err { IfErr result (Fails tokens.now Unary depth) }
+        Leads tokens.now Atom depth x.1.now (tree_of x.0.expr) x.0.height) }
+    ensures err { IfErr result (Fails tokens.now Atom depth) }
 {
     let inner = depth + 1;
     let (first, opened) = enter(tokens, inner + 1)?;
@@ -512,7 +603,7 @@ fn parse_loop(alloc: Global, tokens: &[Token], depth: usize) -> Result<(Part, &[
     Ok((whole, rest))
 }
 
-/// `{ stmt }` or `{ stmt | next }`, with the greatest height of a value, and the tokens from the last word on.
+/// `{ stmt }` or `{ stmt | next }`, with the greatest height of a part, and the tokens from the last word on.
 #[cycle(expr)]
 fn parse_statements(
     alloc: Global,
@@ -539,7 +630,7 @@ fn parse_statements(
     Ok((statements, height, rest))
 }
 
-/// `stmt = NAME "=" expr ";"`, or `next` in a loop, with the value's height.
+/// `stmt = NAME "=" expr ";" | store`, or `next` in a loop, with the greatest height of a part.
 #[cycle(expr)]
 fn parse_statement(
     alloc: Global,
@@ -557,11 +648,43 @@ fn parse_statement(
     if begins_next(tokens, scope) {
         return parse_next(alloc, tokens, depth);
     }
-    let (name, place, named) = expect_name(alloc, tokens)?;
+    let (x, place, named) = expect_name(alloc, tokens)?;
+    if begins_with_sign(named, Symbol::LeftBracket) {
+        return parse_store(alloc, x, place, named, scope, depth);
+    }
     let begun = expect_word(named, Word::Sign(Symbol::Becomes))?;
     let (value, rest) = parse_enclosed(alloc, begun, Word::Sign(Symbol::Semicolon), depth)?;
     let height = value.height;
-    let statement = binding(name, value, place);
+    let statement = binding(x, value, place);
+    Ok((statement, height, rest))
+}
+
+/// A store, from behind its name: `store = NAME "[" expr "]" "=" expr ";"`, with the greatest height of a part.
+/// The height of its name, 1, is never above that of its index.
+#[cycle(expr)]
+fn parse_store(
+    alloc: Global,
+    x: Identifier,
+    place: usize,
+    tokens: &[Token],
+    scope: Scope,
+    depth: usize,
+) -> Result<(Stmt, usize, &[Token]), TreeError>
+    requires ends { EndsOnce tokens.now }
+    requires begins { first_kind tokens.now ≡ TokenKind.Sign Symbol.LeftBracket }
+    requires room { depth < MAX_NESTING }
+    ensures read { IfOk result (λ y. IsRead tokens.now y.2.now depth y.1) }
+    ensures ok { IfOk result (λ y.
+        Assigns tokens.now scope depth x place y.2.now (stmt_tree y.0) y.1) }
+    ensures err { IfErr result (Misassigns tokens.now scope depth x place) }
+{
+    let (first, opened) = split(tokens);
+    let bracket = Word::Sign(Symbol::RightBracket);
+    let (index, closed) = parse_enclosed(alloc, opened, bracket, depth)?;
+    let begun = expect_word(closed, Word::Sign(Symbol::Becomes))?;
+    let (value, rest) = parse_enclosed(alloc, begun, Word::Sign(Symbol::Semicolon), depth)?;
+    let height = index.height.max(value.height);
+    let statement = store(name(x, place), index, value, first.start);
     Ok((statement, height, rest))
 }
 
@@ -588,18 +711,18 @@ fn parse_next(
     Ok((statement, height, behind))
 }
 
-/// `NUMBER | "true" | "false" | NAME | call`
+/// `leaf = NUMBER | "true" | "false" | NAME | call`
 #[cycle(expr)]
 fn parse_leaf(alloc: Global, tokens: &[Token], depth: usize) -> Result<(Part, &[Token]), TreeError>
     requires ends { EndsOnce tokens.now }
-    requires no_minus { first_kind tokens.now ≢ TokenKind.Sign Symbol.Minus }
     requires no_paren { first_kind tokens.now ≢ TokenKind.Sign Symbol.LeftParen }
     requires no_brace { first_kind tokens.now ≢ TokenKind.Sign Symbol.LeftBrace }
+    requires no_array { first_kind tokens.now ≢ TokenKind.Key Keyword.Array }
     requires room { depth < MAX_NESTING }
     ensures read { IfOk result (λ x. IsRead tokens.now x.1.now depth x.0.height) }
     ensures ok { IfOk result (λ x.
-        Leads tokens.now Unary depth x.1.now (tree_of x.0.expr) x.0.height) }
-    ensures err { IfErr result (Fails tokens.now Unary depth) }
+        Leads tokens.now Atom depth x.1.now (tree_of x.0.expr) x.0.height) }
+    ensures err { IfErr result (Fails tokens.now Atom depth) }
 {
     let (first, rest) = split(tokens);
     match &first.kind {

@@ -158,6 +158,46 @@ pub fn conditional(
     })
 }
 
+/// The bounds of a new structure.
+pub fn array(alloc: Global, low: Part, high: Part, place: usize) -> Result<Part, TreeError>
+    requires low { low.height < 2 ^ 63 }
+    requires high { high.height < 2 ^ 63 }
+    ensures height { IfOk result (λ p. p.height ≡ max low.height high.height + 1) }
+    ensures tree { IfOk result (λ p. tree_of p.expr
+        ≡ tree.array (tree_of low.expr) (tree_of high.expr) place) }
+    ensures err { IfErr result (λ e. e ≡ Memory) }
+{
+    let height = low.height.max(high.height) + 1;
+    let low = Box::new(alloc, low.into_expr())?;
+    let high = Box::new(alloc, high.into_expr())?;
+    Ok(Part {
+        expr: Expr::Array { low, high, place },
+        height,
+    })
+}
+
+/// The structure and the index of an element.
+pub fn fetch(alloc: Global, target: Part, index: Part, place: usize) -> Result<Part, TreeError>
+    requires low { target.height < 2 ^ 63 }
+    requires high { index.height < 2 ^ 63 }
+    ensures height { IfOk result (λ p. p.height ≡ max target.height index.height + 1) }
+    ensures tree { IfOk result (λ p. tree_of p.expr
+        ≡ tree.fetch (tree_of target.expr) (tree_of index.expr) place) }
+    ensures err { IfErr result (λ e. e ≡ Memory) }
+{
+    let height = target.height.max(index.height) + 1;
+    let target = Box::new(alloc, target.into_expr())?;
+    let index = Box::new(alloc, index.into_expr())?;
+    Ok(Part {
+        expr: Expr::Fetch {
+            target,
+            index,
+            place,
+        },
+        height,
+    })
+}
+
 /// The name for the value of an expression.
 pub fn binding(name: Identifier, value: Part, place: usize) -> Stmt
     ensures { stmt_tree result ≡ tree.binding name (tree_of value.expr) place }
@@ -180,7 +220,20 @@ pub fn next(name: Identifier, value: Part, place: usize) -> Stmt
     }
 }
 
-/// The statements, whose values have at most this height, round the body.
+/// The value of a structure's element.
+pub fn store(target: Part, index: Part, value: Part, place: usize) -> Stmt
+    ensures { stmt_tree result
+        ≡ tree.store (tree_of target.expr) (tree_of index.expr) (tree_of value.expr) place }
+{
+    Stmt::Store {
+        target: target.into_expr(),
+        index: index.into_expr(),
+        value: value.into_expr(),
+        place,
+    }
+}
+
+/// The statements, whose parts have at most this height, round the body.
 pub fn block(
     alloc: Global,
     statements: Vec<Stmt>,
@@ -207,7 +260,7 @@ pub fn block(
     })
 }
 
-/// The predicate, the statements, whose values have at most this height, and the last expression of a loop.
+/// The predicate, the statements, whose parts have at most this height, and the last expression of a loop.
 pub fn whole_loop(
     alloc: Global,
     test: Part,

@@ -150,6 +150,7 @@ pub fn begins_expression(token: &Token) -> bool
         TokenKind::Key(Keyword::Not) => true,
         TokenKind::Key(Keyword::True) => true,
         TokenKind::Key(Keyword::False) => true,
+        TokenKind::Key(Keyword::Array) => true,
         TokenKind::Number(_) => true,
         TokenKind::Name(_) => true,
         TokenKind::Sign(Symbol::Minus) => true,

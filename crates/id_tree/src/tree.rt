@@ -60,6 +60,18 @@ pub enum Expr {
         last: Box<Expr>,
         place: usize,
     },
+    /// A new structure between its bounds, at the word `array`.
+    Array {
+        low: Box<Expr>,
+        high: Box<Expr>,
+        place: usize,
+    },
+    /// The element of a structure at an index, at the `[`.
+    Fetch {
+        target: Box<Expr>,
+        index: Box<Expr>,
+        place: usize,
+    },
 }
 
 /// A statement of a block or of a loop.
@@ -75,6 +87,13 @@ pub enum Stmt {
     /// A loop's variable and the expression of its next value, at the word `next`.
     Next {
         name: Identifier,
+        value: Expr,
+        place: usize,
+    },
+    /// The value of a structure's element at an index, at the `[`. The target is a name.
+    Store {
+        target: Expr,
+        index: Expr,
         value: Expr,
         place: usize,
     },

@@ -6,7 +6,7 @@ use Rattle.id_graph.specs.declared.instr.Block.{Block}
 use Rattle.id_graph.specs.declared.instr.Instr.{Instr}
 use Rattle.id_graph.specs.declared.instr.Op.{Op}
 use Rattle.id_graph.specs.declared.instr.Op.TheVariants.{Const, Unary, Binary, Merge, Switch, Back, Enter, Send, Next}
-use Rattle.id_graph.specs.declared.instr.Op.TheVariants.{Reset}
+use Rattle.id_graph.specs.declared.instr.Op.TheVariants.{Reset, Alloc, Address, Fetch, Store}
 use Rattle.id_graph.specs.declared.instr.PortKind.{PortKind}
 use Rattle.id_graph.specs.declared.dests.Dest.{Dest}
 use Rattle.id_graph.specs.declared.dests.Port.{Port}
@@ -29,6 +29,10 @@ merge_kind (Enter b r) = None
 merge_kind (Send k t) = None
 merge_kind (Next k) = None
 merge_kind (Reset k) = None
+merge_kind Alloc = None
+merge_kind Address = None
+merge_kind (Fetch r) = None
+merge_kind Store = None
 
 -- the kind of a `back`
 abbrev pub back_kind : Op → Option PortKind
@@ -42,6 +46,10 @@ back_kind (Enter b r) = None
 back_kind (Send k t) = None
 back_kind (Next k) = None
 back_kind (Reset k) = None
+back_kind Alloc = None
+back_kind Address = None
+back_kind (Fetch r) = None
+back_kind Store = None
 
 -- the kind of a block's result: that of the `back` at its `first + 1`, if it is one
 abbrev pub result_kind : Parts → Block → Option PortKind
@@ -59,7 +67,8 @@ is_second g n = list_any (λ b. b.first + 1 == n) g.blocks
 abbrev pub is_entry : Parts → ℕ → Bool
 is_entry g n = list_any (λ b. list_any (λ e. e == n) b.entries) g.blocks
 
--- whether the operator names the instruction as the one that replies come to: the last one of an `enter`
+-- whether the operator names the instruction as the one that replies come to: the last one of an `enter`, that of a
+-- `fetch`
 abbrev pub replies_to : Op → ℕ → Bool
 replies_to (Enter b r) n = r == n
 replies_to (Const v) n = false
@@ -71,6 +80,10 @@ replies_to (Back k) n = false
 replies_to (Send k t) n = false
 replies_to (Next k) n = false
 replies_to (Reset k) n = false
+replies_to Alloc n = false
+replies_to Address n = false
+replies_to (Fetch r) n = r == n
+replies_to Store n = false
 
 -- whether replies come to the instruction
 abbrev pub is_reply : Parts → ℕ → Bool

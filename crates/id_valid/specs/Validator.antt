@@ -7,7 +7,7 @@ use Rattle.id_graph.specs.declared.instr.Block.{Block}
 use Rattle.id_graph.specs.declared.instr.Instr.{Instr}
 use Rattle.id_graph.specs.declared.instr.Op.{Op}
 use Rattle.id_graph.specs.declared.instr.Op.TheVariants.{Const, Unary, Binary, Merge, Switch, Back, Enter, Send, Next}
-use Rattle.id_graph.specs.declared.instr.Op.TheVariants.{Reset}
+use Rattle.id_graph.specs.declared.instr.Op.TheVariants.{Reset, Alloc, Address as AddressOp, Fetch, Store}
 use Rattle.id_graph.specs.declared.instr.PortKind.{PortKind}
 use Rattle.id_graph.specs.declared.instr.PortKind.TheVariants.{Signal, Int, Bool as BoolKind, Structure, Address}
 use Rattle.id_graph.specs.declared.instr.PortKind.TheVariants.{Context, Continuation}
@@ -69,6 +69,10 @@ AreNamed g (Switch k) = Unit {0}
 AreNamed g (Back k) = Unit {0}
 AreNamed g (Next k) = Unit {0}
 AreNamed g (Reset k) = Unit {0}
+AreNamed g Alloc = Unit {0}
+AreNamed g AddressOp = Unit {0}
+AreNamed g (Fetch r) = op_at g r ≡ Some (Merge Int)
+AreNamed g Store = Unit {0}
 
 -- the port at the destination takes the kind that the operator sends
 abbrev pub IsTaken : List Instr → Op → Dest → Type 0

@@ -93,8 +93,12 @@ fn are_named(survey: &Survey<'_>, op: Op) -> bool
     match op {
         Op::Enter { block, reply } => is_entered(survey, block, reply),
         Op::Send { kind, target } => is_sent_to(survey, kind, target),
+        Op::Fetch { reply } => {
+            op_at(survey.graph(), reply as usize) == Some(Op::Merge(PortKind::Int))
+        }
         Op::Const(_) | Op::Unary(_) | Op::Binary(_) | Op::Merge(_) | Op::Switch(_) => true,
         Op::Back(_) | Op::Next(_) | Op::Reset(_) => true,
+        Op::Alloc | Op::Address | Op::Store => true,
     }
 }
 

@@ -1,13 +1,17 @@
-//! Values, operators by class, and what operators give: told once for the meaning and the machine.
+//! Values, operators by class, what operators give, and bounds: told once for the meaning and the machine.
 //!
 //! Keeps: nothing beyond its values.
 //! Errors: none; nothing here takes memory. A fault is a result (`FaultKind`).
-//! Read first: docs/MEANING.md ("Operators"), `specs/Results.antt`, then `calculate`.
+//! Read first: docs/MEANING.md ("Operators"), `specs/Results.antt`, `specs/Bounds.antt`, then `calculate`.
 //! Not here: values that are no constants, as the machine's signals (`id_tag`).
 #![tactic(auto)]
 
 ghost use Rattle.std.specs.Prelude.{◌≡◌, neg_ℤ, MatchOption};
+ghost use Rattle.id_value.specs.Bounds.{are_good, is_inside};
 ghost use Rattle.id_value.specs.Results.{calculated, compared, decided, result_of_binary, result_of_unary, whole};
+
+/// The most elements that a structure may have.
+pub const MAX_ELEMENTS: i64 = 1_000_000;
 
 /// The kind of a value.
 #[derive(Clone, Copy, PartialEq, Eq)]
@@ -87,6 +91,10 @@ pub enum FaultKind {
     Overflow,
     /// A division by 0: `1 div 0`
     DivisionByZero,
+    /// Bounds that no structure has: `array(2, 0)`, `array(1, 1000001)`
+    BadBounds,
+    /// An index below the lower bound or above the upper one.
+    OutOfBounds,
 }
 
 /// What an operator comes to: it gives a value, it fails for a cause, or it has no result, since an
@@ -187,6 +195,23 @@ pub fn decide(op: Truth, left: bool, right: bool) -> bool
         Truth::And => left && right,
         Truth::Or => left || right,
     }
+}
+
+/// Whether a structure may have these bounds: it has at least no element, and at most `MAX_ELEMENTS`.
+pub fn bounds_are_good(lo: i64, hi: i64) -> bool
+    ensures { result ≡ are_good lo hi }
+{
+    match hi.checked_sub(lo) {
+        Some(last) => -1 <= last && last < MAX_ELEMENTS,
+        None => false,
+    }
+}
+
+/// Whether the index is one of an element between these bounds.
+pub fn is_inside(lo: i64, hi: i64, index: i64) -> bool
+    ensures { result ≡ is_inside lo hi index }
+{
+    lo <= index && index <= hi
 }
 
 // The quotient without its fraction: -7 by 2 is -3.

@@ -1,6 +1,6 @@
--- Each context of a run is entered by one event.
-use Rattle.id_runs.proofs.Serials.{contexts_apart}
+-- Each context and each structure of a run is made by one event.
+use Rattle.id_runs.proofs.Serials.{all_numbered}
 use Rattle.id_laws.proofs.serials.Goals as goal
 
 pub returns : goal.returns
-returns c = contexts_apart
+returns c = all_numbered

@@ -1,5 +1,5 @@
 -- The arcs of one more import are pushed.
-use Rattle.std.proofs.Common.{◌≡◌, ◌∙◌, ◌+◌, ap, arith, get_or, refl}
+use Rattle.std.proofs.Common.{◌≡◌, ◌∙◌, ◌+◌, arith, get_or, refl}
 use Rattle.id_build.specs.Made.{number_by}
 use Rattle.id_build.specs.Rows.{name_in}
 use Rattle.id_build.proofs.FeedsLemmas.{import_feeds-next, two_are}

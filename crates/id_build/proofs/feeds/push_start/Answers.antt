@@ -1,5 +1,5 @@
 -- A `Start` begins the loop whose head is the next row, and its sends are those of the variables and of the imports.
-use Rattle.std.proofs.Common.{◌≡◌, ◌∙◌, ◌+◌, ap, ℕ, List, length, refl}
+use Rattle.std.proofs.Common.{◌∙◌, ap, ℕ, List, refl}
 use Rattle.id_build.specs.Made.{number_by}
 use Rattle.id_desugar.specs.Regions.{is_loop_head}
 use Rattle.id_build.proofs.FeedsLemmas.{start_arcs}

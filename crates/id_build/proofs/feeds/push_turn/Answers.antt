@@ -1,5 +1,5 @@
 -- The arc of one more of what hands on is pushed.
-use Rattle.std.proofs.Common.{◌≡◌, ◌∙◌, ◌+◌, ◌<◌, ◌++◌, ◌∷◌, [], ℕ, List, true, ap, arith, get_or, length, subst}
+use Rattle.std.proofs.Common.{◌≡◌, ◌∙◌, ◌+◌, ◌<◌, ◌++◌, ◌∷◌, [], ℕ, List, ap, arith, get_or, length, subst}
 use Rattle.id_desugar.specs.Regions.{imports_of}
 use Rattle.id_graph.specs.declared.dests.Port.TheVariants.{Zero}
 use Rattle.id_build.specs.Made.{number_by}

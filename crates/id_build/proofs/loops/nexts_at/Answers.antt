@@ -1,5 +1,5 @@
 -- The switches of a loop hand on its variables first.
-use Rattle.std.proofs.Common.{◌≡◌, ◌∙◌, ◌++◌, ◌-◌, ap, arith, length, length-append, take}
+use Rattle.std.proofs.Common.{◌≡◌, ◌∙◌, ◌-◌, ap, arith, length, length-append, take}
 use Rattle.id_desugar.specs.Regions.{imports_of, nexts_of}
 use Rattle.id_build.proofs.LoopsLemmas.{nexts_first, take_front}
 use Rattle.id_build.proofs.loops.nexts_at.Goals as goal

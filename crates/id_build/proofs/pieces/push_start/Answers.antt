@@ -1,5 +1,5 @@
 -- A `Start` begins the loop whose head is the next row.
-use Rattle.std.proofs.Common.{◌≡◌, ap}
+use Rattle.std.proofs.Common.{ap}
 use Rattle.id_desugar.specs.Regions.{is_loop_head}
 use Rattle.id_build.proofs.LoopsLemmas.{start_head}
 use Rattle.id_build.proofs.pieces.push_start.Goals as goal

@@ -1,5 +1,5 @@
 -- One more send to the entry of a variable.
-use Rattle.std.proofs.Common.{◌+◌, arith, refl}
+use Rattle.std.proofs.Common.{◌+◌, refl}
 use Rattle.id_build.specs.Rows.{send_to}
 use Rattle.id_build.proofs.SendsLemmas.{variable_entries-next}
 use Rattle.id_build.proofs.pieces.push_variable_sends.Goals as goal

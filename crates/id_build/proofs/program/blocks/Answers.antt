@@ -1,5 +1,5 @@
 -- One more row may be one more head.
-use Rattle.std.proofs.Common.{◌≡◌, ◌∙◌, ◌++◌, ◌∷◌, [], ℕ, List, Bool as Truth, true, false, ap, map, sym}
+use Rattle.std.proofs.Common.{◌≡◌, ◌∙◌, ◌++◌, ◌∷◌, [], true, false, ap, map, sym}
 use Rattle.std.proofs.lemmas.List.{append_assoc}
 use Rattle.id_parts.specs.declared.row.Row.{Row}
 use Rattle.id_parts.specs.Tables.{is_head}

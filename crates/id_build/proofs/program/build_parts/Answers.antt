@@ -1,7 +1,6 @@
 -- The graph made is one that the schemas give the program.
 use Rattle.std.proofs.Common.{◌≡◌, ◌≤◌, ◌∙◌, List, ap, arith, length, map, sym, subst}
 use Rattle.std.proofs.lemmas.Grind.{common_steps}
-use Rattle.id_check.specs.Programs.{rows}
 use Rattle.id_graph.specs.declared.instr.Block.{Block}
 use Rattle.id_graph.specs.declared.instr.Instr.{Instr}
 use Rattle.id_graph.specs.Graph.{parts}

@@ -1,6 +1,6 @@
 -- The entries of a loop are its variables, and then its imports, whose numbers an instruction can have.
 use Rattle.std.proofs.Common.{◌≡◌, ◌∙◌, ◌+◌, ◌-◌, ◌<◌, ◌≤◌, ◌++◌, ◌∷◌, [], List, ℕ, ap, arith, length, map, drop, sym, append-nil}
-use Rattle.std.proofs.lemmas.List.{drop_all, map-append}
+use Rattle.std.proofs.lemmas.List.{drop_all}
 use Rattle.id_desugar.specs.Regions.{imports_of, nexts_of}
 use Rattle.id_build.specs.Made.{number_by}
 use Rattle.id_build.specs.Rows.{Entry, entries_by, entries_row, import_entries, loop_entries, node, variable_entries}

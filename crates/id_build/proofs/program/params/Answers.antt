@@ -1,5 +1,5 @@
 -- The entries are the parameters between the head and its definition.
-use Rattle.std.proofs.Common.{◌≡◌, ◌∙◌, ◌++◌, ◌∷◌, [], ℕ, List, ap, sym, map, arith, cond}
+use Rattle.std.proofs.Common.{◌≡◌, ◌∙◌, ◌++◌, ◌∷◌, [], ap, sym, map, arith, cond}
 use Rattle.std.specs.Prelude.{◌&&◌, nat_eq}
 use Rattle.id_parts.specs.Tables.{is_param}
 use Rattle.id_check.specs.Programs.{rows}

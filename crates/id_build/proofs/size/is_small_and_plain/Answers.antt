@@ -1,5 +1,5 @@
 -- Rows without imports make what their nodes say.
-use Rattle.std.proofs.Common.{◌≡◌, ◌∙◌, ◌<◌, ℕ, true, inl, inr, refl, ap, sym, arith, length}
+use Rattle.std.proofs.Common.{◌≡◌, ◌∙◌, true, inl, inr, refl, ap, sym, arith, length}
 use Rattle.std.proofs.lemmas.Bool.{cases_lt}
 use Rattle.id_check.specs.Programs.{place, rows}
 use Rattle.id_build.specs.Rows.{is_plain, made, made_of, node, size_below}

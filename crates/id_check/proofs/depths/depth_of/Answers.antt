@@ -1,5 +1,4 @@
-use Rattle.std.proofs.Common.{◌≡◌, ◌<◌, ◌+◌, ℕ, suc, get_or, length, sym, ◌∙◌, ap, add-one, arith}
-use Rattle.id_parts.specs.declared.row.Node.TheVariants.{LoopHead}
+use Rattle.std.proofs.Common.{◌≡◌, ◌<◌, ◌+◌, suc, get_or, sym, ◌∙◌, ap, add-one, arith}
 use Rattle.id_parts.specs.Loops.{depth}
 use Rattle.id_parts.specs.Rows.{at}
 use Rattle.id_check.proofs.DepthsLemmas.{depth_loop, depth_low, depth_none}

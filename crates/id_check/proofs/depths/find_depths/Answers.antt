@@ -1,4 +1,4 @@
-use Rattle.std.proofs.Common.{◌≡◌, ◌+◌, ℕ, [], ◌∷◌, ◌++◌, length, sym, ap, subst, arith}
+use Rattle.std.proofs.Common.{◌≡◌, ◌+◌, length, sym, ap, subst, arith}
 use Rattle.id_check.specs.Depths.{AreDepths}
 use Rattle.id_check.proofs.DepthsLemmas.{depths_more}
 use Rattle.id_check.proofs.depths.find_depths.Goals as goal

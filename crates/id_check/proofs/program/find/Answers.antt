@@ -5,7 +5,7 @@ use Rattle.id_parts.specs.declared.row.Node.TheVariants.{Param, Name, Enter, Bin
 use Rattle.id_parts.specs.Rows.{at}
 use Rattle.id_parts.specs.Tables.{name_of}
 use Rattle.id_check.specs.Causes.{causes}
-use Rattle.id_check.specs.Depths.{AreDepths, AreInBlocks}
+use Rattle.id_check.specs.Depths.{AreInBlocks}
 use Rattle.id_check.specs.Firsts.{IsFirstOf}
 use Rattle.id_check.specs.Kinds.{AreKinds}
 use Rattle.id_check.specs.Names.{AreNames}

@@ -1,4 +1,4 @@
-use Rattle.std.proofs.Common.{◌≡◌, ◌<◌, length, set, true, sym, ◌∙◌, subst, add-one, arith}
+use Rattle.std.proofs.Common.{set, true, sym, ◌∙◌, subst, add-one, arith}
 use Rattle.id_check.specs.Names.{AreTaken}
 use Rattle.id_check.proofs.ScopesLemmas.{confines_is, or_false}
 use Rattle.id_check.specs.Scopes.{confines, held}

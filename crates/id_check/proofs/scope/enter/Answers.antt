@@ -1,15 +1,12 @@
-use Rattle.std.proofs.Common.{◌≡◌, ◌⊎◌, inl, inr, ◌+◌, ◌<◌, ◌≤◌, ℕ, List, get_or, length, refl, sym, ◌∙◌, ap, subst, add-one, arith}
-use Rattle.std.proofs.lemmas.Bool.{cases_lt}
+use Rattle.std.proofs.Common.{◌≡◌, ◌+◌, ◌<◌, ◌≤◌, ℕ, get_or, refl, sym, ◌∙◌, ap, subst, add-one, arith}
 use Rattle.std.proofs.lemmas.Grind.{common_steps}
 use Rattle.std.proofs.lemmas.List.{get_or_default, get_or_past}
-use Rattle.id_parts.specs.declared.row.Row.{Row}
 use Rattle.id_parts.specs.Rows.{at}
 use Rattle.id_check.specs.Scopes.{bound_name}
 use Rattle.id_check.specs.Causes.{second, seconds}
 use Rattle.id_check.specs.Firsts.{Notes}
-use Rattle.id_check.specs.Names.{AreWaiting, IsOpen, IsTaking, keys}
+use Rattle.id_check.specs.Names.{AreWaiting, IsTaking, keys}
 use Rattle.id_check.proofs.FirstsLemmas.{Notes-append, Notes-none}
-use Rattle.id_check.proofs.ScopesLemmas.{keeps_below}
 use Rattle.id_check.proofs.TakingLemmas.{IsShut, seconds_gap, shut_next, shut_start, taking_end, taking_gap, taking_start}
 use Rattle.id_check.proofs.scope.enter.Goals as goal
 

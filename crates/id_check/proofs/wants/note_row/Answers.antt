@@ -34,6 +34,27 @@ note_next-requires-clause-outer c = part_of c.in-Next.outer c.requires.formed c.
 pub note_next-requires-clause-value : goal.note_next-requires-clause-value
 note_next-requires-clause-value c = part_of c.in-Next.value c.requires.formed c.requires.row c.in-Next.is (inr refl)
 
+pub note_both-requires-clause-left : goal.note_both-requires-clause-left
+note_both-requires-clause-left c = part_of c.in-Array.low c.requires.formed c.requires.row c.in-Array.is (inl refl)
+
+pub note_both-requires-clause-right : goal.note_both-requires-clause-right
+note_both-requires-clause-right c = part_of c.in-Array.high c.requires.formed c.requires.row c.in-Array.is (inr refl)
+
+pub note_cell-requires-clause-target : goal.note_cell-requires-clause-target
+note_cell-requires-clause-target c = part_of c.in-Fetch.target c.requires.formed c.requires.row c.in-Fetch.is (inl refl)
+
+pub note_cell-requires-clause-index : goal.note_cell-requires-clause-index
+note_cell-requires-clause-index c = part_of c.in-Fetch.index c.requires.formed c.requires.row c.in-Fetch.is (inr refl)
+
+pub note_cell-requires-in-Address-clause-target : goal.note_cell-requires-in-Address-clause-target
+note_cell-requires-in-Address-clause-target c = part_of c.in-Address.target c.requires.formed c.requires.row c.in-Address.is (inl refl)
+
+pub note_cell-requires-in-Address-clause-index : goal.note_cell-requires-in-Address-clause-index
+note_cell-requires-in-Address-clause-index c = part_of c.in-Address.index c.requires.formed c.requires.row c.in-Address.is (inr refl)
+
+pub note_wrong-requires-in-Store-clause-row : goal.note_wrong-requires-in-Store-clause-row
+note_wrong-requires-in-Store-clause-row c = part_of c.in-Store.value c.requires.formed c.requires.row c.in-Store.is (inr refl)
+
 pub note_arm-requires-clause-then : goal.note_arm-requires-clause-then
 note_arm-requires-clause-then c = part_of c.in-If.then c.requires.formed c.requires.row c.in-If.is (inr (inl refl))
 
@@ -151,6 +172,26 @@ pub returns-in-Switches : goal.returns-in-Switches
 returns-in-Switches c =
     subst (Noted c.args.rows.now c.args.kinds.now c.args.binders.now c.args.i c.args.first.now c.note_wrong-in-Switches.new.first) (sym c.in-Switches.is)
     c.note_wrong-in-Switches.ensures
+
+pub returns-in-Array : goal.returns-in-Array
+returns-in-Array c =
+    subst (Noted c.args.rows.now c.args.kinds.now c.args.binders.now c.args.i c.args.first.now c.note_both.new.first) (sym c.in-Array.is)
+    c.note_both.ensures
+
+pub returns-in-Fetch : goal.returns-in-Fetch
+returns-in-Fetch c =
+    subst (Noted c.args.rows.now c.args.kinds.now c.args.binders.now c.args.i c.args.first.now c.note_cell.new.first) (sym c.in-Fetch.is)
+    c.note_cell.ensures
+
+pub returns-in-Address : goal.returns-in-Address
+returns-in-Address c =
+    subst (Noted c.args.rows.now c.args.kinds.now c.args.binders.now c.args.i c.args.first.now c.note_cell-in-Address.new.first) (sym c.in-Address.is)
+    c.note_cell-in-Address.ensures
+
+pub returns-in-Store : goal.returns-in-Store
+returns-in-Store c =
+    subst (Noted c.args.rows.now c.args.kinds.now c.args.binders.now c.args.i c.args.first.now c.note_wrong-in-Store.new.first) (sym c.in-Store.is)
+    c.note_wrong-in-Store.ensures
 
 pub returns-in-Next : goal.returns-in-Next
 returns-in-Next c =

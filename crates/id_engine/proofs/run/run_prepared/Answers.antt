@@ -30,7 +30,7 @@ returns-clause-is_true c =
     let b = c.args.named in
     let begins = c.in_ok-machine.ensures.start ∙ ap (λ (x : Parts). record { graph = x; count = 1; world = start x p.inputs.values 1 }) c.valid.ensures.value in
     if_ok_with c.machine_report.result (HasRun c.in_ok-machine.machine m c.args.steps) (IsReportFrom m b) (IsTrueOf S b)
-    (λ r h from. IsTrueOf-laws S g 1 h.positions m b r c.sound.ensures c.complete.ensures c.coherent.ensures c.requires c.valid.ensures.kept
+    (λ r h from. IsTrueOf-laws S g 1 h.positions m b r c.sound.ensures c.complete.ensures c.requires c.valid.ensures.kept
     (h.same_graph ∙ ap (λ x. x.graph) begins) (h.world ∙ ap (λ (x : MachineView). run x.graph 1 h.positions x.world) begins) from)
     c.machine_report.ensures.run c.machine_report.ensures.report
 

@@ -1,6 +1,6 @@
 -- The facts so far, and those of the parameters that are left.
 use Rattle.std.proofs.Common.{◌≡◌, ◌++◌, drop}
-use Rattle.id_meaning.specs.Cells.{input_facts}
+use Rattle.id_meaning.specs.Effects.{input_facts}
 use Rattle.id_meaning.proofs.effects.add_inputs.Given as goal
 
 abbrev pub invariant-loop-number : goal.invariant-loop-number

@@ -1,5 +1,8 @@
 -- What one row more reads.
-use Rattle.std.proofs.Common.{◌≡◌, ◌+◌, suc, arith}
+use Rattle.std.proofs.Common.{◌≡◌, ◌+◌, ◌∙◌, List, arith, subst, suc, sym}
+use Rattle.id_parts.specs.declared.row.Row.{Row}
+use Rattle.id_parts.specs.Rows.{at}
+use Rattle.id_meaning.specs.Links.{GainsTo, linked_of}
 use Rattle.id_meaning.proofs.LinksLemmas.{reads-by}
 use Rattle.id_meaning.proofs.links.reads.Goals as goal
 
@@ -7,4 +10,8 @@ pub loop-n-preserved : goal.loop-n-preserved
 loop-n-preserved c =
     let n = c.loop-n.n in
     let next : n + 1 ≡ suc n = omega arith in
-    reads-by c.args.checked.now n (n + 1) _ _ c.as_slice-row-items.result.now c.beyond.result next c.as_slice-row-items.ensures.value c.beyond.ensures c.loop-n.invariant c.in_ok-add_reads.ensures
+    let rows = c.as_slice-row-items.result.now in
+    let same : c.as_slice.result.now ≡ rows = c.as_slice.ensures.value ∙ sym c.as_slice-row-items.ensures.value in
+    let F : List Row → Type 0 = λ xs. GainsTo c.loop-n.reads c.add_reads.new.reads (linked_of xs c.beyond.result (at rows n).node) n in
+    reads-by c.args.checked.now n (n + 1) _ _ rows c.beyond.result next c.as_slice-row-items.ensures.value c.beyond.ensures c.loop-n.invariant
+    (subst F same c.in_ok-add_reads.ensures)

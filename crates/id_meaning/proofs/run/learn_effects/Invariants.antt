@@ -1,6 +1,9 @@
 -- What follows from the facts so far has been learnt.
-use Rattle.id_meaning.proofs.WaitsLemmas.{Gone}
+use Rattle.std.proofs.Common.{◌≡◌, take}
+use Rattle.id_meaning.specs.Cells.{all_learnt}
+use Rattle.id_meaning.specs.Effects.{all_effects}
 use Rattle.id_meaning.proofs.run.learn_effects.Given as goal
 
 abbrev pub invariant-loop-fact : goal.invariant-loop-fact
-invariant-loop-fact l = Gone l.checked l.links l.waits l.cells l.initial.ahead l.facts l.initial.news.items l.fact-index l.ahead l.news.items
+invariant-loop-fact l =
+    l.facts ≡ all_learnt l.initial.facts (all_effects l.checked l.links l.waits l.cells (take l.fact-index l.news))

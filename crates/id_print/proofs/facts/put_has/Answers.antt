@@ -4,7 +4,7 @@ use Rattle.id_print.proofs.facts.put_has.Goals as goal
 
 pub returns-in_err-put-clause-prints : goal.returns-in_err-put-clause-prints
 returns-in_err-put-clause-prints g c =
-    Prints-stop _ _ _ (point_value_text c.args.cursor.now c.args.path.now c.args.place c.args.value) _ _ c.in_err-put.ensures c.from_residual.ensures.0
+    Prints-stop _ _ _ (point_value_text c.args.cursor.now c.args.path.now c.args.place c.args.value.now) _ _ c.in_err-put.ensures c.from_residual.ensures.0
 
 pub returns-clause-prints : goal.returns-clause-prints
 returns-clause-prints g c = Prints-then _ _ _ _ _ _ _ c.in_ok-put.ensures c.put_point_value.ensures.prints

@@ -1,10 +1,9 @@
-use Rattle.std.proofs.Common.{◌+◌, [], ◌∷◌, ◌++◌, refl, ap, ◌∙◌, sym, subst, arith}
+use Rattle.std.proofs.Common.{◌+◌, [], ◌∷◌, ◌++◌, ap, ◌∙◌, sym, subst, arith}
 use Rattle.std.proofs.lemmas.Result.{err_from_is_err_and}
-use Rattle.id_text.specs.Lexes.{Lexes, IsRefusal, token_of}
-use Rattle.id_text.specs.Lexes.Ending.{Whole}
+use Rattle.id_text.specs.Lexes.{IsRefusal, token_of}
 use Rattle.id_text.proofs.LexesLemmas.{IsReadTo, piece_fits, read_gap, read_token, read_end, refusal_at}
 use Rattle.id_text.proofs.lexer.read_all.Goals as goal
-use Rattle.id_text.proofs.lexer.read_all.Goals.{In_ok-piece, In_ok-push-2, In_err-piece}
+use Rattle.id_text.proofs.lexer.read_all.Goals.{In_err-piece}
 
 -- what is read is refused where its piece is
 refused : (c : In_err-piece) → IsRefusal c.args.text.now c.in_err-piece.field-0.0

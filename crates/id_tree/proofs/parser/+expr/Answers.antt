@@ -3,14 +3,15 @@ use Rattle.std.proofs.Common.{◌≡◌, ◌∙◌, ◌<◌, ◌≤◌, ap, sym,
 use Rattle.std.proofs.lemmas.Grind.{common_steps}
 use Rattle.std.proofs.lemmas.Result.{err_from_is_err_and, IfOk-weaker, IfErr-weaker}
 use Rattle.id_text.specs.declared.token.TokenKind.TheVariants.{Name, Key, Sign}
-use Rattle.id_text.specs.declared.token.Symbol.TheVariants.{Minus, LeftParen, RightParen, Comma}
+use Rattle.id_text.specs.declared.token.Symbol.TheVariants.{Minus, LeftParen, RightParen, LeftBracket, Comma}
 use Rattle.id_text.specs.declared.token.Keyword.TheVariants.{If, While, Next, Not}
 use Rattle.id_tree.specs.declared.parser.Level.TheVariants as level
 use Rattle.id_tree.specs.declared.parser.Scope.TheVariants as scope
-use Rattle.id_tree.specs.Grammar.{Expression, Grouped, Negation, Unary}
-use Rattle.id_tree.specs.Readers.{first_kind, second_kind, truth_in, IsRead, IsGathered, Leads, Fails, Applies, Misapplies}
-use Rattle.id_tree.specs.Tree.{tree_of}
-use Rattle.id_tree.proofs.ReaderLemmas.{IsRead-then, Level-begins, Level-grows, Level-grown, Level-fails, Level-stunts, Level-ends, Right-deep, Right-fails, Right-grows, At-conditional, At-parens, At-part, At-word, At-name, At-enclosed, Leads-done, Leads-at, Fails-deep, Fails-part, Fails-word, Fails-name, Fails-enclosed, IsPrefix-begins, Prefix-deep, Prefix-fails, Prefix-leads, Encloses-done, Exposes-word, Exposes-part, opens_negated, opens_denied, opens_conditional, opens_parens, Expression-leads, Expression-fails, Negation-leads, Negation-fails, At-opens, opens_number, opens_truth, Unary-fails, unopened, untrue}
+use Rattle.id_tree.specs.Grammar.{Expression, Grouped, Negation, Unary, Postfix, Atom, Tail}
+use Rattle.id_tree.specs.Readers.{first_kind, second_kind, truth_in, IsRead, IsGathered, Leads, Fails, Adds, Assigns, Misassigns, Applies, Misapplies}
+use Rattle.id_tree.specs.Tree.{tree_of, stmt_tree, store}
+use Rattle.id_tree.proofs.ReaderLemmas.{IsRead-then, Level-begins, Level-grows, Level-grown, Level-fails, Level-stunts, Level-ends, Right-deep, Right-fails, Right-grows, At-conditional, At-parens, At-part, At-word, At-name, At-enclosed, Leads-done, Leads-at, Fails-deep, Fails-part, Fails-word, Fails-name, Fails-enclosed, IsPrefix-begins, Prefix-deep, Prefix-fails, Prefix-leads, Encloses-done, Exposes-word, Exposes-part, opens_negated, opens_denied, opens_conditional, opens_parens, Expression-leads, Expression-fails, Negation-leads, Negation-fails, At-opens, opens_number, opens_truth, Atom-fails, IsRead-behind, unopened, untrue}
+use Rattle.id_tree.proofs.ArrayLemmas.{opens_array, At-array, Unary-leads, Unary-fails, Pointed-atom, Pointed-fetch, Pointed-fails, Pointed-ends, Postfix-fails, Fetch-deep, Fetch-fails, Fetch-indexes, Behind-bracket, Behind-word, Behind-enclosed, Misassigns-word, Misassigns-enclosed, Assigns-done, Adds-assigned, Fails-assigned}
 use Rattle.id_tree.proofs.CallLemmas.{IsRead-named, Leads-named, Fails-named, Applies-name, Applies-call, Misapplies-call, Leads-unpassed, Hands-first, Fails-argument, Hands-add, Fails-added, Leads-passed, Fails-passed, IsRead-add, Fails-full}
 use Rattle.id_tree.proofs.BlockLemmas.{opens_braces, At-block, At-loop, Encloses-tail, Exposes-tail, At-binding, At-next, Fails-tail, Adds-done, IsGathered-add, Gathers-none, Gathers-add, Fails-gathered, Leads-gathered, Leads-last, Fails-last}
 use Rattle.id_tree.proofs.parser.+expr.Goals as goal
@@ -193,26 +194,76 @@ parse_statements-returns-in_err-statement-clause-err t c =
     let p = err_from_is_err_and c.from_residual.result c.from_residual.ensures.1 in
     rw (p.1, p.2) (Fails-gathered c.stmts.invariant.1 c.in_err-statement.ensures.err)
 
-pub parse_statement-returns-in_err-name-clause-err : goal.parse_statement-returns-in_err-name-clause-err
-parse_statement-returns-in_err-name-clause-err t c =
+pub parse_statement-returns-in_err-x-clause-err : goal.parse_statement-returns-in_err-x-clause-err
+parse_statement-returns-in_err-x-clause-err t c =
     let p = err_from_is_err_and c.from_residual.result c.from_residual.ensures.1 in
     let is_not : (c.args.scope ≡ scope.Loop) × (first_kind c.args.tokens.now ≡ Key Next) → ⊥ = search rules in
-    rw (p.1, p.2) (Fails-tail c.args.scope c.args.depth c.requires.not_last is_not c.in_err-name.ensures.err)
+    rw (p.1, p.2) (Fails-tail c.args.scope c.args.depth c.requires.not_last is_not c.in_err-x.ensures.err)
+
+pub parse_statement-returns-then-begins_with_sign-clause-read : goal.parse_statement-returns-then-begins_with_sign-clause-read
+parse_statement-returns-then-begins_with_sign-clause-read t c =
+    IfOk-weaker c.parse_store.result (λ y. IsRead c.in_ok-x.named.now y.2.now c.args.depth y.1) (λ y. IsRead c.args.tokens.now y.2.now c.args.depth y.1)
+    (λ y q. IsRead-behind c.in_ok-x.ensures.behind q) c.parse_store.ensures.read
+
+pub parse_statement-returns-then-begins_with_sign-clause-ok : goal.parse_statement-returns-then-begins_with_sign-clause-ok
+parse_statement-returns-then-begins_with_sign-clause-ok t c =
+    IfOk-weaker c.parse_store.result (λ y. Assigns c.in_ok-x.named.now c.args.scope c.args.depth c.in_ok-x.x c.in_ok-x.place y.2.now (stmt_tree y.0) y.1)
+    (λ y. Adds c.args.tokens.now c.args.scope c.args.depth y.2.now (stmt_tree y.0) y.1)
+    (λ y q. Adds-assigned c.args.scope c.args.depth (omega (arith, c.requires.room)) c.in_ok-x.ensures.ok q) c.parse_store.ensures.ok
+
+pub parse_statement-returns-then-begins_with_sign-clause-err : goal.parse_statement-returns-then-begins_with_sign-clause-err
+parse_statement-returns-then-begins_with_sign-clause-err t c =
+    IfErr-weaker c.parse_store.result (Misassigns c.in_ok-x.named.now c.args.scope c.args.depth c.in_ok-x.x c.in_ok-x.place)
+    (Fails c.args.tokens.now (Tail c.args.scope) c.args.depth)
+    (λ y q. Fails-assigned c.args.scope c.args.depth (omega (arith, c.requires.room)) c.in_ok-x.ensures.ok q) c.parse_store.ensures.err
 
 pub parse_statement-returns-in_err-begun-clause-err : goal.parse_statement-returns-in_err-begun-clause-err
 parse_statement-returns-in_err-begun-clause-err t c =
+    let is_not : first_kind c.in_ok-x.named.now ≡ Sign LeftBracket → ⊥ = search rules in
     let p = err_from_is_err_and c.from_residual-in_err-begun.result c.from_residual-in_err-begun.ensures.1 in
-    rw (p.1, p.2) (Fails-word (At-binding c.args.scope c.args.depth (omega arith) c.in_ok-name.ensures.ok) c.in_err-begun.ensures.err)
+    rw (p.1, p.2) (Fails-word (At-binding c.args.scope c.args.depth (omega arith) c.in_ok-x.ensures.ok is_not) c.in_err-begun.ensures.err)
 
 pub parse_statement-returns-in_err-value-clause-err : goal.parse_statement-returns-in_err-value-clause-err
 parse_statement-returns-in_err-value-clause-err t c =
+    let is_not : first_kind c.in_ok-x.named.now ≡ Sign LeftBracket → ⊥ = search rules in
     let p = err_from_is_err_and c.from_residual-in_err-value.result c.from_residual-in_err-value.ensures.1 in
-    rw (p.1, p.2) (Fails-enclosed (At-word (At-binding c.args.scope c.args.depth (omega arith) c.in_ok-name.ensures.ok) c.in_ok-begun.ensures.ok) (Exposes-tail c.in_err-value.ensures.err))
+    rw (p.1, p.2) (Fails-enclosed (At-word (At-binding c.args.scope c.args.depth (omega arith) c.in_ok-x.ensures.ok is_not)
+    c.in_ok-begun.ensures.ok) (Exposes-tail c.in_err-value.ensures.err))
 
 pub parse_statement-returns-clause-ok : goal.parse_statement-returns-clause-ok
 parse_statement-returns-clause-ok t c =
+    let is_not : first_kind c.in_ok-x.named.now ≡ Sign LeftBracket → ⊥ = search rules in
     Adds-done c.binding-statement.ensures (omega arith)
-    (At-enclosed (At-word (At-binding c.args.scope c.args.depth (omega arith) c.in_ok-name.ensures.ok) c.in_ok-begun.ensures.ok) (Encloses-tail c.in_ok-value.ensures.ok))
+    (At-enclosed (At-word (At-binding c.args.scope c.args.depth (omega arith) c.in_ok-x.ensures.ok is_not)
+    c.in_ok-begun.ensures.ok) (Encloses-tail c.in_ok-value.ensures.ok))
+
+pub parse_store-returns-in_err-index-clause-err : goal.parse_store-returns-in_err-index-clause-err
+parse_store-returns-in_err-index-clause-err t c =
+    let p = err_from_is_err_and c.from_residual.result c.from_residual.ensures.1 in
+    rw (p.1, p.2) (Misassigns-enclosed (Behind-bracket c.args.scope c.args.depth c.args.x c.args.place c.split.ensures.whole c.requires.begins)
+    (Exposes-tail c.in_err-index.ensures.err))
+
+pub parse_store-returns-in_err-begun-clause-err : goal.parse_store-returns-in_err-begun-clause-err
+parse_store-returns-in_err-begun-clause-err t c =
+    let p = err_from_is_err_and c.from_residual-in_err-begun.result c.from_residual-in_err-begun.ensures.1 in
+    rw (p.1, p.2) (Misassigns-word (Behind-enclosed (Behind-bracket c.args.scope c.args.depth c.args.x c.args.place c.split.ensures.whole c.requires.begins)
+    (Encloses-tail c.in_ok-index.ensures.ok)) c.in_err-begun.ensures.err)
+
+pub parse_store-returns-in_err-value-clause-err : goal.parse_store-returns-in_err-value-clause-err
+parse_store-returns-in_err-value-clause-err t c =
+    let p = err_from_is_err_and c.from_residual-in_err-value.result c.from_residual-in_err-value.ensures.1 in
+    rw (p.1, p.2) (Misassigns-enclosed (Behind-word (Behind-enclosed
+    (Behind-bracket c.args.scope c.args.depth c.args.x c.args.place c.split.ensures.whole c.requires.begins)
+    (Encloses-tail c.in_ok-index.ensures.ok)) c.in_ok-begun.ensures.ok) (Exposes-tail c.in_err-value.ensures.err))
+
+pub parse_store-returns-clause-ok : goal.parse_store-returns-clause-ok
+parse_store-returns-clause-ok t c =
+    let tree =
+    c.store-statement.ensures
+    ∙ ap (λ a. store a (tree_of c.in_ok-index.index.expr) (tree_of c.in_ok-value.value.expr) c.split.result.0.now.start) c.name.ensures.tree in
+    Assigns-done tree (omega (arith, c.max-height.ensures))
+    (Behind-enclosed (Behind-word (Behind-enclosed (Behind-bracket c.args.scope c.args.depth c.args.x c.args.place c.split.ensures.whole c.requires.begins)
+    (Encloses-tail c.in_ok-index.ensures.ok)) c.in_ok-begun.ensures.ok) (Encloses-tail c.in_ok-value.ensures.ok))
 
 pub parse_statement-returns-then-begins_next-clause-ok : goal.parse_statement-returns-then-begins_next-clause-ok
 parse_statement-returns-then-begins_next-clause-ok t c =
@@ -376,18 +427,6 @@ parse_statements-stmts-smaller t c = grind (arith, common_steps)
 pub parse_statements-returns-clause-read : goal.parse_statements-returns-clause-read
 parse_statements-returns-clause-read t c = grind (arith, common_steps)
 
-pub parse_unary-returns-then-is_sign-clause-read : goal.parse_unary-returns-then-is_sign-clause-read
-parse_unary-returns-then-is_sign-clause-read t c = grind (arith, common_steps)
-
-pub parse_unary-returns-then-is_sign-2-clause-read : goal.parse_unary-returns-then-is_sign-2-clause-read
-parse_unary-returns-then-is_sign-2-clause-read t c = grind (arith, common_steps)
-
-pub parse_unary-returns-then-is_sign-3-clause-read : goal.parse_unary-returns-then-is_sign-3-clause-read
-parse_unary-returns-then-is_sign-3-clause-read t c = grind (arith, common_steps)
-
-pub parse_unary-returns-else-is_sign-3-clause-read : goal.parse_unary-returns-else-is_sign-3-clause-read
-parse_unary-returns-else-is_sign-3-clause-read t c = grind (arith, common_steps)
-
 pub parse_negation-returns-else-begins_with-clause-ok : goal.parse_negation-returns-else-begins_with-clause-ok
 parse_negation-returns-else-begins_with-clause-ok t c =
     let is_not : first_kind c.args.tokens.now ≡ Key Not → ⊥ = search rules in
@@ -408,8 +447,86 @@ parse_negation-parse_prefixed-requires t c =
 
 pub parse_unary-parse_prefixed-requires : goal.parse_unary-parse_prefixed-requires
 parse_unary-parse_prefixed-requires t c =
-    let is : c.split.result.0.now.kind ≡ Sign Minus = search rules in
-    (grind (arith, common_steps), (c.requires.ends, (opens_negated (ap first_kind c.split.ensures.whole ∙ is), c.requires.room)))
+    let is : first_kind c.args.tokens.now ≡ Sign Minus = search rules in
+    (grind (arith, common_steps), (c.requires.ends, (opens_negated is, c.requires.room)))
+
+pub parse_unary-returns-else-begins_with_sign-clause-ok : goal.parse_unary-returns-else-begins_with_sign-clause-ok
+parse_unary-returns-else-begins_with_sign-clause-ok t c =
+    let is_not : first_kind c.args.tokens.now ≡ Sign Minus → ⊥ = search rules in
+    IfOk-weaker c.parse_postfix.result (λ x. Leads c.args.tokens.now Postfix c.args.depth x.1.now (tree_of x.0.expr) x.0.height)
+    (λ x. Leads c.args.tokens.now Unary c.args.depth x.1.now (tree_of x.0.expr) x.0.height)
+    (λ x q. Unary-leads is_not q) c.parse_postfix.ensures.ok
+
+pub parse_unary-returns-else-begins_with_sign-clause-err : goal.parse_unary-returns-else-begins_with_sign-clause-err
+parse_unary-returns-else-begins_with_sign-clause-err t c =
+    let is_not : first_kind c.args.tokens.now ≡ Sign Minus → ⊥ = search rules in
+    IfErr-weaker c.parse_postfix.result (Fails c.args.tokens.now Postfix c.args.depth) (Fails c.args.tokens.now Unary c.args.depth)
+    (λ x q. Unary-fails is_not q) c.parse_postfix.ensures.err
+
+pub parse_postfix-returns-in_err-target-clause-err : goal.parse_postfix-returns-in_err-target-clause-err
+parse_postfix-returns-in_err-target-clause-err t c =
+    let p = err_from_is_err_and c.from_residual.result c.from_residual.ensures.1 in
+    rw (p.1, p.2) (Postfix-fails c.in_err-target.ensures.err)
+
+pub parse_postfix-fetches-init : goal.parse_postfix-fetches-init
+parse_postfix-fetches-init t c = (c.in_ok-target.ensures.read, Pointed-atom c.in_ok-target.ensures.ok)
+
+pub parse_postfix-fetches-preserved : goal.parse_postfix-fetches-preserved
+parse_postfix-fetches-preserved t c =
+    (IsRead-then c.fetches.invariant.0 c.in_ok-whole.ensures.read, Pointed-fetch c.fetches.invariant.1 c.in_ok-whole.ensures.ok)
+
+pub parse_postfix-returns-in_err-whole-clause-err : goal.parse_postfix-returns-in_err-whole-clause-err
+parse_postfix-returns-in_err-whole-clause-err t c =
+    let p = err_from_is_err_and c.from_residual-in_err-whole.result c.from_residual-in_err-whole.ensures.1 in
+    rw (p.1, p.2) (Pointed-fails c.fetches.invariant.1 c.in_err-whole.ensures.err)
+
+pub parse_postfix-returns-clause-ok : goal.parse_postfix-returns-clause-ok
+parse_postfix-returns-clause-ok t c =
+    let is_not : first_kind c.fetches.rest.now ≡ Sign LeftBracket → ⊥ = search rules in
+    Pointed-ends c.fetches.invariant.1 is_not
+
+pub parse_fetch-returns-in_err-first-clause-err : goal.parse_fetch-returns-in_err-first-clause-err
+parse_fetch-returns-in_err-first-clause-err t c =
+    let p = err_from_is_err_and c.from_residual.result c.from_residual.ensures.1 in
+    rw (p.1, p.2) (Fetch-deep c.requires.ends c.requires.begins _ _ _ _ c.in_err-first.ensures.err c.in_err-first.ensures.deep)
+
+pub parse_fetch-returns-in_err-index-clause-err : goal.parse_fetch-returns-in_err-index-clause-err
+parse_fetch-returns-in_err-index-clause-err t c =
+    let p = err_from_is_err_and c.from_residual-in_err-index.result c.from_residual-in_err-index.ensures.1 in
+    rw (p.1, p.2) (Fetch-fails c.in_ok-first.ensures.whole c.requires.begins _ _ _ c.in_ok-first.ensures.fits c.in_err-index.ensures.err)
+
+pub parse_fetch-returns-clause-ok : goal.parse_fetch-returns-clause-ok
+parse_fetch-returns-clause-ok t c =
+    Fetch-indexes c.in_ok-first.ensures.whole c.requires.begins _ _ _
+    c.in_ok-first.ensures.fits c.in_ok-index.ensures.ok c.in_ok-whole.ensures.tree c.in_ok-whole.ensures.height
+
+pub parse_array-returns-in_err-first-clause-err : goal.parse_array-returns-in_err-first-clause-err
+parse_array-returns-in_err-first-clause-err t c =
+    let p = err_from_is_err_and c.from_residual.result c.from_residual.ensures.1 in
+    rw (p.1, p.2) (Fails-deep c.requires.ends (opens_array c.requires.begins) _ _ c.in_err-first.ensures.err c.in_err-first.ensures.deep)
+
+pub parse_array-returns-in_err-opened-clause-err : goal.parse_array-returns-in_err-opened-clause-err
+parse_array-returns-in_err-opened-clause-err t c =
+    let p = err_from_is_err_and c.from_residual-in_err-opened.result c.from_residual-in_err-opened.ensures.1 in
+    rw (p.1, p.2) (Fails-word (At-array c.in_ok-first.ensures.whole c.requires.begins c.in_ok-first.ensures.fits) c.in_err-opened.ensures.err)
+
+pub parse_array-returns-in_err-low-clause-err : goal.parse_array-returns-in_err-low-clause-err
+parse_array-returns-in_err-low-clause-err t c =
+    let p = err_from_is_err_and c.from_residual-in_err-low.result c.from_residual-in_err-low.ensures.1 in
+    rw (p.1, p.2) (Fails-enclosed (At-word (At-array c.in_ok-first.ensures.whole c.requires.begins c.in_ok-first.ensures.fits)
+    c.in_ok-opened.ensures.ok) c.in_err-low.ensures.err)
+
+pub parse_array-returns-in_err-high-clause-err : goal.parse_array-returns-in_err-high-clause-err
+parse_array-returns-in_err-high-clause-err t c =
+    let p = err_from_is_err_and c.from_residual-in_err-high.result c.from_residual-in_err-high.ensures.1 in
+    rw (p.1, p.2) (Fails-enclosed (At-enclosed (At-word (At-array c.in_ok-first.ensures.whole c.requires.begins c.in_ok-first.ensures.fits)
+    c.in_ok-opened.ensures.ok) c.in_ok-low.ensures.ok) c.in_err-high.ensures.err)
+
+pub parse_array-returns-clause-ok : goal.parse_array-returns-clause-ok
+parse_array-returns-clause-ok t c =
+    Leads-at c.in_ok-whole.ensures.tree (omega (arith, c.in_ok-whole.ensures.height))
+    (Leads-done (At-enclosed (At-enclosed (At-word (At-array c.in_ok-first.ensures.whole c.requires.begins c.in_ok-first.ensures.fits)
+    c.in_ok-opened.ensures.ok) c.in_ok-low.ensures.ok) c.in_ok-high.ensures.ok))
 
 pub parse_prefixed-parse_operand-requires : goal.parse_prefixed-parse_operand-requires
 parse_prefixed-parse_operand-requires t c =
@@ -454,14 +571,20 @@ parse_leaf-returns-in-Some-clause-ok t c =
     (ap (λ xs. truth_in (first_kind xs)) c.split.ensures.whole ∙ sym c.truth_of.ensures ∙ c.in-Some.is)) c.args.depth (omega (arith, c.requires.room))))
 
 pub parse_leaf-returns-in-None-clause-err : goal.parse_leaf-returns-in-None-clause-err
-parse_leaf-returns-in-None-clause-err t c = Unary-fails c.split.ensures.whole c.args.depth c.unexpected.result c.unexpected.ensures
-    (rw c.in-Key.is (untrue c.in-Key.field-0 c.split.result.0.now.start (ap truth_in (sym c.in-Key.is) ∙ sym c.truth_of.ensures ∙ c.in-None.is)))
+parse_leaf-returns-in-None-clause-err t c = Atom-fails c.split.ensures.whole c.args.depth c.unexpected.result c.unexpected.ensures
+    (rw c.in-Key.is (untrue c.in-Key.field-0 c.split.result.0.now.start (ap truth_in (sym c.in-Key.is) ∙ sym c.truth_of.ensures ∙ c.in-None.is)
+    (λ q. c.requires.no_array (ap first_kind c.split.ensures.whole ∙ c.in-Key.is ∙ q))))
 
 pub parse_leaf-returns-in-Sign-clause-err : goal.parse_leaf-returns-in-Sign-clause-err
-parse_leaf-returns-in-Sign-clause-err t c = Unary-fails c.split.ensures.whole c.args.depth c.unexpected-in-Sign.result c.unexpected-in-Sign.ensures (rw c.in-Sign.is (unopened c.in-Sign.field-0 c.split.result.0.now.start (λ q. c.requires.no_minus (ap first_kind c.split.ensures.whole ∙ c.in-Sign.is ∙ q)) (λ q. c.requires.no_paren (ap first_kind c.split.ensures.whole ∙ c.in-Sign.is ∙ q)) (λ q. c.requires.no_brace (ap first_kind c.split.ensures.whole ∙ c.in-Sign.is ∙ q))))
+parse_leaf-returns-in-Sign-clause-err t c =
+    Atom-fails c.split.ensures.whole c.args.depth c.unexpected-in-Sign.result c.unexpected-in-Sign.ensures
+    (rw c.in-Sign.is (unopened c.in-Sign.field-0 c.split.result.0.now.start
+    (λ q. c.requires.no_paren (ap first_kind c.split.ensures.whole ∙ c.in-Sign.is ∙ q))
+    (λ q. c.requires.no_brace (ap first_kind c.split.ensures.whole ∙ c.in-Sign.is ∙ q))))
 
 pub parse_leaf-returns-in-End-clause-err : goal.parse_leaf-returns-in-End-clause-err
-parse_leaf-returns-in-End-clause-err t c = Unary-fails c.split.ensures.whole c.args.depth c.unexpected-in-End.result c.unexpected-in-End.ensures (rw c.in-End.is refl)
+parse_leaf-returns-in-End-clause-err t c =
+    Atom-fails c.split.ensures.whole c.args.depth c.unexpected-in-End.result c.unexpected-in-End.ensures (rw c.in-End.is refl)
 
 pub parse_leaf-returns-in_ok-copy-in-Name-clause-read : goal.parse_leaf-returns-in_ok-copy-in-Name-clause-read
 parse_leaf-returns-in_ok-copy-in-Name-clause-read t c =
@@ -473,13 +596,14 @@ parse_leaf-returns-in_ok-copy-in-Name-clause-ok t c =
     let is : c.split.result.0.now.kind ≡ Name c.in_ok-copy-in-Name.field-0 = c.in-Name.is ∙ ap Name (sym c.in_ok-copy-in-Name.ensures) in
     IfOk-weaker c.parse_named.result
     (λ y. Applies c.split.result.1.now c.args.depth c.in_ok-copy-in-Name.field-0 c.split.result.0.now.start y.1.now (tree_of y.0.expr) y.0.height)
-    (λ y. Leads c.args.tokens.now Unary c.args.depth y.1.now (tree_of y.0.expr) y.0.height)
+    (λ y. Leads c.args.tokens.now Atom c.args.depth y.1.now (tree_of y.0.expr) y.0.height)
     (λ y q. Leads-named c.split.ensures.whole c.args.depth (omega (arith, c.requires.room)) c.in_ok-copy-in-Name.field-0 (ap first_kind c.split.ensures.whole ∙ is) q) c.parse_named.ensures.ok
 
 pub parse_leaf-returns-in_ok-copy-in-Name-clause-err : goal.parse_leaf-returns-in_ok-copy-in-Name-clause-err
 parse_leaf-returns-in_ok-copy-in-Name-clause-err t c =
     let is : c.split.result.0.now.kind ≡ Name c.in_ok-copy-in-Name.field-0 = c.in-Name.is ∙ ap Name (sym c.in_ok-copy-in-Name.ensures) in
-    IfErr-weaker c.parse_named.result (Misapplies c.split.result.1.now c.args.depth c.in_ok-copy-in-Name.field-0 c.split.result.0.now.start) (Fails c.args.tokens.now Unary c.args.depth)
+    IfErr-weaker c.parse_named.result (Misapplies c.split.result.1.now c.args.depth c.in_ok-copy-in-Name.field-0 c.split.result.0.now.start)
+    (Fails c.args.tokens.now Atom c.args.depth)
     (λ y q. Fails-named c.split.ensures.whole c.args.depth (omega (arith, c.requires.room)) c.in_ok-copy-in-Name.field-0 (ap first_kind c.split.ensures.whole ∙ is) q) c.parse_named.ensures.err
 
 pub parse_named-returns-else-begins_with_sign-clause-ok : goal.parse_named-returns-else-begins_with_sign-clause-ok

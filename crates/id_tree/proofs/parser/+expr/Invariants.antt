@@ -5,6 +5,7 @@ use Rattle.id_tree.specs.declared.parser.Level.TheVariants as level
 use Rattle.id_tree.specs.Readers.{IsRead, Gathers, IsGathered, Hands}
 use Rattle.id_tree.specs.Tree.{tree_of}
 use Rattle.id_tree.proofs.ReaderLemmas.{Begun}
+use Rattle.id_tree.proofs.ArrayLemmas.{Pointed}
 use Rattle.id_tree.proofs.parser.+expr.Given as goal
 
 -- the looser level has the higher rank
@@ -37,31 +38,46 @@ abbrev pub decreases-parse_conditional : goal.decreases-parse_conditional
 decreases-parse_conditional l = (200 - l.depth) * 32
 
 abbrev pub decreases-parse_unary : goal.decreases-parse_unary
-decreases-parse_unary l = (200 - l.depth) * 32 + 2
+decreases-parse_unary l = (200 - l.depth) * 32 + 4
+
+abbrev pub decreases-parse_postfix : goal.decreases-parse_postfix
+decreases-parse_postfix l = (200 - l.depth) * 32 + 3
+
+abbrev pub decreases-parse_fetch : goal.decreases-parse_fetch
+decreases-parse_fetch l = (200 - l.depth) * 32
+
+abbrev pub decreases-parse_atom : goal.decreases-parse_atom
+decreases-parse_atom l = (200 - l.depth) * 32 + 2
+
+abbrev pub decreases-parse_array : goal.decreases-parse_array
+decreases-parse_array l = (200 - l.depth) * 32
 
 abbrev pub decreases-parse_operand : goal.decreases-parse_operand
-decreases-parse_operand l = (200 - l.depth) * 32 + (3 + 2 * rank l.level)
+decreases-parse_operand l = (200 - l.depth) * 32 + (5 + 2 * rank l.level)
 
 abbrev pub decreases-parse_grouped : goal.decreases-parse_grouped
-decreases-parse_grouped l = (200 - l.depth) * 32 + (4 + 2 * rank l.level)
+decreases-parse_grouped l = (200 - l.depth) * 32 + (6 + 2 * rank l.level)
 
 abbrev pub decreases-parse_negation : goal.decreases-parse_negation
-decreases-parse_negation l = (200 - l.depth) * 32 + 9
+decreases-parse_negation l = (200 - l.depth) * 32 + 11
 
 abbrev pub decreases-parse_expression : goal.decreases-parse_expression
-decreases-parse_expression l = (200 - l.depth) * 32 + 15
+decreases-parse_expression l = (200 - l.depth) * 32 + 17
 
 abbrev pub decreases-parse_enclosed : goal.decreases-parse_enclosed
-decreases-parse_enclosed l = (200 - l.depth) * 32 + 16
+decreases-parse_enclosed l = (200 - l.depth) * 32 + 18
 
 abbrev pub decreases-parse_next : goal.decreases-parse_next
-decreases-parse_next l = (200 - l.depth) * 32 + 17
+decreases-parse_next l = (200 - l.depth) * 32 + 19
+
+abbrev pub decreases-parse_store : goal.decreases-parse_store
+decreases-parse_store l = (200 - l.depth) * 32 + 19
 
 abbrev pub decreases-parse_statement : goal.decreases-parse_statement
-decreases-parse_statement l = (200 - l.depth) * 32 + 18
+decreases-parse_statement l = (200 - l.depth) * 32 + 20
 
 abbrev pub decreases-parse_statements : goal.decreases-parse_statements
-decreases-parse_statements l = (200 - l.depth) * 32 + 19
+decreases-parse_statements l = (200 - l.depth) * 32 + 21
 
 abbrev pub decreases-parse_leaf : goal.decreases-parse_leaf
 decreases-parse_leaf l = (200 - l.depth) * 32 + 1
@@ -70,10 +86,10 @@ abbrev pub decreases-parse_named : goal.decreases-parse_named
 decreases-parse_named l = (200 - l.depth) * 32
 
 abbrev pub decreases-parse_some_arguments : goal.decreases-parse_some_arguments
-decreases-parse_some_arguments l = (200 - l.depth) * 32 + 17
+decreases-parse_some_arguments l = (200 - l.depth) * 32 + 19
 
 abbrev pub decreases-parse_arguments : goal.decreases-parse_arguments
-decreases-parse_arguments l = (200 - l.depth) * 32 + 18
+decreases-parse_arguments l = (200 - l.depth) * 32 + 20
 
 -- arguments have come, and the call is open
 abbrev pub invariant-parse_some_arguments-arguments : goal.invariant-parse_some_arguments-arguments
@@ -81,6 +97,14 @@ invariant-parse_some_arguments-arguments l = IsRead l.fn.tokens l.rest l.depth l
 
 abbrev pub decreases-parse_some_arguments-arguments : goal.decreases-parse_some_arguments-arguments
 decreases-parse_some_arguments-arguments l = length l.rest
+
+-- what may be the target of a fetch has come
+abbrev pub invariant-parse_postfix-fetches : goal.invariant-parse_postfix-fetches
+invariant-parse_postfix-fetches l =
+    IsRead l.fn.tokens l.rest l.depth l.target.height × Pointed l.fn.tokens l.depth l.rest (tree_of l.target.expr) l.target.height
+
+abbrev pub decreases-parse_postfix-fetches : goal.decreases-parse_postfix-fetches
+decreases-parse_postfix-fetches l = length l.rest
 
 -- the first operand has come, and the level is open
 abbrev pub invariant-parse_grouped-loop-op : goal.invariant-parse_grouped-loop-op

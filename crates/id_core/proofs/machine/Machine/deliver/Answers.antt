@@ -99,8 +99,11 @@ index-requires-2 c = grind (arith, common_steps)
 pub is_ended-requires : goal.is_ended-requires
 is_ended-requires c = grind (arith, common_steps)
 
-pub most_outputs-requires : goal.most_outputs-requires
-most_outputs-requires c = grind (arith, common_steps)
+pub index-requires-3 : goal.index-requires-3
+index-requires-3 c = grind (arith, common_steps)
+
+pub most_outputs-most-requires : goal.most_outputs-most-requires
+most_outputs-most-requires c = grind (arith, common_steps)
 
 pub invariant_of-self : goal.invariant_of-self
 invariant_of-self c = grind (arith, common_steps)

@@ -1,8 +1,9 @@
 -- What is recorded is what was sent: the event is at the instruction.
-use Rattle.std.proofs.Common.{◌∷◌, ◌++◌, [], length, ap, ◌∙◌}
+use Rattle.std.proofs.Common.{◌∷◌, ◌++◌, [], length, refl, ap, ◌∙◌}
 use Rattle.id_record.specs.declared.line.Handled.{Handled}
 use Rattle.std.specs.Prelude.{Some, option_map}
 use Rattle.id_record.specs.Events.{tag_of}
+use Rattle.id_record.specs.Lines.{no_replies}
 use Rattle.id_record.proofs.SendsLemmas.{HasSecond-valid}
 use Rattle.id_record.proofs.LinesLemmas.{event_at_instr}
 use Rattle.id_element.proofs.desk.Desk.conclude.Goals as goal
@@ -17,5 +18,5 @@ send-requires-clause-second c =
 pub returns-clause-events : goal.returns-clause-events
 returns-clause-events c =
     let log = c.args.self.now.log in
-    let event : Handled = record { message = c.args.message; stamp = c.args.stamp; reaction = c.args.reaction } in
-    c.push.ensures.events ∙ ap (λ e. log.events ++ e ∷ []) (event_at_instr log.graph log.element (length log.events) event c.args.instr.now c.args.tag c.requires.own c.requires.tag)
+    let event : Handled = record { message = c.args.message; stamp = c.args.stamp; reaction = c.args.reaction; replies = no_replies } in
+    c.push.ensures.events ∙ ap (λ e. log.events ++ e ∷ []) (event_at_instr log.graph log.element log.replies (length log.events) event c.args.instr.now c.args.tag refl c.requires.own c.requires.tag)

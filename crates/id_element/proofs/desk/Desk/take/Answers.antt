@@ -6,11 +6,29 @@ use Rattle.id_element.proofs.desk.Desk.take.Goals as goal
 pub returns-in_err-stamp-clause-end : goal.returns-in_err-stamp-clause-end
 returns-in_err-stamp-clause-end c = grind (arith, common_steps)
 
-pub returns-in_err-reserve-clause-end : goal.returns-in_err-reserve-clause-end
-returns-in_err-reserve-clause-end c = grind (arith, common_steps)
+pub returns-in_err-reserve-in-Token-clause-end : goal.returns-in_err-reserve-in-Token-clause-end
+returns-in_err-reserve-in-Token-clause-end c = grind (arith, common_steps)
 
-pub returns-in_err-reaction-clause-end : goal.returns-in_err-reaction-clause-end
-returns-in_err-reaction-clause-end c = grind (arith, common_steps)
+pub returns-in_err-reserve-in-Read-clause-end : goal.returns-in_err-reserve-in-Read-clause-end
+returns-in_err-reserve-in-Read-clause-end c = grind (arith, common_steps)
 
-pub returns-clause-end : goal.returns-clause-end
-returns-clause-end c = grind (arith, common_steps)
+pub returns-in_err-reserve-in-Write-clause-end : goal.returns-in_err-reserve-in-Write-clause-end
+returns-in_err-reserve-in-Write-clause-end c = grind (arith, common_steps)
+
+pub returns-in_err-reaction-in-Token-clause-end : goal.returns-in_err-reaction-in-Token-clause-end
+returns-in_err-reaction-in-Token-clause-end c = grind (arith, common_steps)
+
+pub returns-in_err-answer-in-Read-clause-end : goal.returns-in_err-answer-in-Read-clause-end
+returns-in_err-answer-in-Read-clause-end c = grind (arith, common_steps)
+
+pub returns-in_err-answer-in-Write-clause-end : goal.returns-in_err-answer-in-Write-clause-end
+returns-in_err-answer-in-Write-clause-end c = grind (arith, common_steps)
+
+pub returns-in_ok-reaction-in-Token-clause-end : goal.returns-in_ok-reaction-in-Token-clause-end
+returns-in_ok-reaction-in-Token-clause-end c = grind (arith, common_steps)
+
+pub returns-in_ok-answer-in-Read-clause-end : goal.returns-in_ok-answer-in-Read-clause-end
+returns-in_ok-answer-in-Read-clause-end c = grind (arith, common_steps)
+
+pub returns-in_ok-answer-in-Write-clause-end : goal.returns-in_ok-answer-in-Write-clause-end
+returns-in_ok-answer-in-Write-clause-end c = grind (arith, common_steps)

@@ -26,7 +26,7 @@ invariant_of-self-2 c =
 pub returns-clause-fits : goal.returns-clause-fits
 returns-clause-fits c =
     rw (← ap (λ v. v.graph) c.self.view_is, ← ap (λ v. v.number) c.self.view_is, ← ap (λ v. v.state) c.self.view_is)
-    (outputs_fit c.self.inside.desk.log.graph c.self.inside.desk.log.element (state_of c.self.inside.desk) c.args.message (subst IsValid c.graph-graph.ensures c.graph.ensures.kept) c.self.invariant.replays.waiting (rw (ap (λ v. v.graph) c.self.view_is) c.requires.fits))
+    (outputs_fit c.self.inside.desk.log.graph c.self.inside.desk.log.element (state_of c.self.inside.desk) c.args.message (subst IsValid c.graph-graph.ensures c.graph.ensures.kept) c.self.invariant.replays.waiting c.self.invariant.replays.cells (rw (ap (λ v. v.graph) c.self.view_is) c.requires.fits))
 
 pub returns-in_err-step-clause-end : goal.returns-in_err-step-clause-end
 returns-in_err-step-clause-end c = grind (arith, common_steps)

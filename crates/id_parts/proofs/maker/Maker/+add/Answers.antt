@@ -3,9 +3,10 @@ use Rattle.std.proofs.lemmas.Result.{on_ok_weaker}
 use Rattle.id_tree.specs.Tree.{tree_of}
 use Rattle.id_parts.specs.Rows.{add_nexts}
 use Rattle.id_parts.specs.Making.{parts, stmts_tree}
-use Rattle.id_parts.proofs.MakingLemmas.{binding_parts, binding_step, body_parts, call_parts, loop_parts}
+use Rattle.id_parts.proofs.MakingLemmas.{binding_parts, binding_step, body_parts, call_parts, loop_parts, store_step}
 use Rattle.id_parts.proofs.MakingLemmas.{named, next_parts, next_step, of_block, of_call, of_loop}
 use Rattle.id_parts.proofs.maker.Maker.+add.Goals.{add_nexts-in-Binding+in_ok-add_binding-in-Binding, add_nexts-in-Next+in_ok-add_next-in-Next}
+use Rattle.id_parts.proofs.maker.Maker.+add.Goals.{add_nexts-in-Store+in_ok-add_store-in-Store}
 use Rattle.id_parts.proofs.maker.Maker.+add.Goals as goal
 
 pub add_expr-returns-in-Block-clause-added : goal.add_expr-returns-in-Block-clause-added
@@ -54,6 +55,13 @@ add_nexts-loop-statement-preserved t c =
         rest = ap (λ n. add_nexts s n (parts c.match-statement.self) (stmts_tree (drop (i + 1) xs))) w.index-is
             ∙ next_step s k i T (parts c.match-statement.self) V xs w.in-Next.name w.in-Next.value w.in-Next.place d c.loop-statement-test.true
             (sym c.statement-item.is ∙ w.in-Next.is) (ap parts w.self-is ∙ w.in_ok-add_next-in-Next.ensures) c.loop-statement.invariant.rest;
+      }
+      | add_nexts-in-Store+in_ok-add_store-in-Store w ↦ record {
+        counted = omega (arith, c.loop-statement.invariant.counted, w.index-is);
+        rest = ap (λ n. add_nexts s n (parts c.match-statement.self) (stmts_tree (drop (i + 1) xs))) w.index-is
+            ∙ store_step s k i T (parts c.match-statement.self) V xs w.in-Store.target w.in-Store.index w.in-Store.value w.in-Store.place d
+            c.loop-statement-test.true (sym c.statement-item.is ∙ w.in-Store.is) (ap parts w.self-is ∙ w.in_ok-add_store-in-Store.ensures)
+            c.loop-statement.invariant.rest;
       }
     ]
 

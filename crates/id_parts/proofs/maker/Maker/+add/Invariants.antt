@@ -17,6 +17,15 @@ decreases-add_unary l = 4 * goal.size-add_unary l + 1
 abbrev pub decreases-add_binary : goal.decreases-add_binary
 decreases-add_binary l = 4 * max (the_size l.left.now) (the_size l.right.now) + 1
 
+abbrev pub decreases-add_array : goal.decreases-add_array
+decreases-add_array l = 4 * max (the_size l.low.now) (the_size l.high.now) + 1
+
+abbrev pub decreases-add_fetch : goal.decreases-add_fetch
+decreases-add_fetch l = 4 * max (the_size l.target.now) (the_size l.index.now) + 1
+
+abbrev pub decreases-add_store : goal.decreases-add_store
+decreases-add_store l = 4 * max (the_size l.target.now) (max (the_size l.index.now) (the_size l.expr.now)) + 1
+
 abbrev pub decreases-add_conditional : goal.decreases-add_conditional
 decreases-add_conditional l = 4 * max (the_size l.test.now) (max (the_size l.then.now) (the_size l.otherwise.now)) + 1
 

@@ -1,39 +1,39 @@
 -- The event at a position is that of its line.
 use Rattle.std.proofs.Common.{◌≡◌, ◌<◌, ◌+◌, Some, length, vec_len, sym, ap, ◌∙◌, arith, refl}
-use Rattle.id_record.specs.Lines.{unpacked}
+use Rattle.id_record.specs.Lines.{AreThere, unpacked}
 use Rattle.id_record.specs.Records.{event_of_handled}
 use Rattle.std.proofs.lemmas.Grind.{common_steps}
 use Rattle.std.proofs.lemmas.Option.{slice_get_read}
 use Rattle.std.proofs.Common.{subst}
 use Rattle.id_valid.specs.Validator.{IsValid}
 use Rattle.id_record.proofs.SendsLemmas.{HasSecond-valid}
-use Rattle.id_record.proofs.LinesLemmas.{length-events_from, events_from-get, line_within}
+use Rattle.id_record.proofs.LinesLemmas.{length-events_from, events_from-get, line_kept}
 use Rattle.id_record.proofs.history.Record.event.Goals as goal
 
 pub index-line-requires : goal.index-line-requires
 index-line-requires c =
     let r = c.self.inside in
     let held : vec_len r.lines ≡ length r.lines.items = grind (arith, common_steps) in
-    omega (arith, held, length-events_from r.graph.now r.element 0 r.asides.items r.lines.items, ap (λ v. length v.events) c.self.view_is)
+    omega (arith, held, length-events_from r.graph.now r.element r.replies.items 0 r.asides.items r.lines.items, ap (λ v. length v.events) c.self.view_is)
 
 pub unpack-handled-requires : goal.unpack-handled-requires
 unpack-handled-requires c =
     let r = c.self.inside in
-    let below : c.args.position < length r.lines.items = omega (arith, length-events_from r.graph.now r.element 0 r.asides.items r.lines.items, ap (λ v. length v.events) c.self.view_is) in
-    rw c.as_slice.ensures.value (line_within r.asides.items r.lines.items c.args.position c.index-line.result.now c.self.invariant below c.index-line.ensures)
+    let below : c.args.position < length r.lines.items = omega (arith, length-events_from r.graph.now r.element r.replies.items 0 r.asides.items r.lines.items, ap (λ v. length v.events) c.self.view_is) in
+    rw c.as_slice.ensures.value (line_kept r.asides.items r.replies.items r.lines.items c.args.position c.index-line.result.now c.self.invariant below c.index-line.ensures).within
 
 pub returns : goal.returns
 returns c =
     let r = c.self.inside in
-    let below : c.args.position < length r.lines.items = omega (arith, length-events_from r.graph.now r.element 0 r.asides.items r.lines.items, ap (λ v. length v.events) c.self.view_is) in
+    let below : c.args.position < length r.lines.items = omega (arith, length-events_from r.graph.now r.element r.replies.items 0 r.asides.items r.lines.items, ap (λ v. length v.events) c.self.view_is) in
     let there = slice_get_read r.lines.items _ _ _ refl below c.index-line.ensures in
     let handled : unpacked r.asides.items c.index-line.result.now ≡ c.unpack-handled.result = ap (λ a. unpacked a c.index-line.result.now) (sym c.as_slice.ensures.value) ∙ sym c.unpack-handled.ensures in
     let number : 0 + c.args.position ≡ c.args.position = omega arith in
-    rw (c.full_step.ensures, c.new.ensures, c.op_at.ensures.op, c.dests_at.ensures, c.graph-graph.ensures.value, c.tag_of-tag.ensures, ← ap (λ v. v.events) c.self.view_is)
+    rw (c.full_step.ensures, c.new.ensures, c.value_of.ensures, c.replies_in.ensures, c.as_slice-2.ensures.value, c.op_at.ensures.op, c.dests_at.ensures, c.graph-graph.ensures.value, c.tag_of-tag.ensures, ← ap (λ v. v.events) c.self.view_is)
     (
-    events_from-get r.graph.now r.element 0 r.asides.items r.lines.items c.args.position c.index-line.result.now there
-    ∙ ap (λ h. Some (event_of_handled r.graph.now r.element (0 + c.args.position) h)) handled
-    ∙ ap (λ k. Some (event_of_handled r.graph.now r.element k c.unpack-handled.result)) number
+    events_from-get r.graph.now r.element r.replies.items 0 r.asides.items r.lines.items c.args.position c.index-line.result.now there
+    ∙ ap (λ h. Some (event_of_handled r.graph.now r.element r.replies.items (0 + c.args.position) h)) handled
+    ∙ ap (λ k. Some (event_of_handled r.graph.now r.element r.replies.items k c.unpack-handled.result)) number
     )
 
 pub new-requires : goal.new-requires
@@ -41,3 +41,12 @@ new-requires c =
     let g = c.graph-graph.result.now in
     let valid : IsValid g = subst IsValid (sym c.graph-graph.ensures.value) c.graph-graph.ensures.kept in
     HasSecond-valid g c.tag_of-tag.result.instr c.op_at.result c.op_at.ensures.graph valid (sym c.op_at.ensures.op)
+
+-- the replies of the event are those of the record
+pub replies_in-requires : goal.replies_in-requires
+replies_in-requires c =
+    let r = c.self.inside in
+    let below : c.args.position < length r.lines.items = omega (arith, length-events_from r.graph.now r.element r.replies.items 0 r.asides.items r.lines.items, ap (λ v. length v.events) c.self.view_is) in
+    let kept = line_kept r.asides.items r.replies.items r.lines.items c.args.position c.index-line.result.now c.self.invariant below c.index-line.ensures in
+    let handled : unpacked r.asides.items c.index-line.result.now ≡ c.unpack-handled.result = ap (λ a. unpacked a c.index-line.result.now) (sym c.as_slice.ensures.value) ∙ sym c.unpack-handled.ensures in
+    rw c.as_slice-2.ensures.value (subst (λ h. AreThere r.replies.items h.replies) handled kept.replies)

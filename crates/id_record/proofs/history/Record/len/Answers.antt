@@ -8,4 +8,4 @@ pub returns : goal.returns
 returns c =
     let r = c.self.inside in
     let many : c.len.result ≡ length r.lines.items = grind (arith, common_steps) in
-    many ∙ sym (length-events_from r.graph.now r.element 0 r.asides.items r.lines.items) ∙ ap (λ v. length v.events) c.self.view_is
+    many ∙ sym (length-events_from r.graph.now r.element r.replies.items 0 r.asides.items r.lines.items) ∙ ap (λ v. length v.events) c.self.view_is

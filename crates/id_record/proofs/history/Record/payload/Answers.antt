@@ -4,29 +4,29 @@ use Rattle.std.specs.Prelude.{option_map}
 use Rattle.id_record.specs.Lines.{unpacked}
 use Rattle.std.proofs.lemmas.Grind.{common_steps}
 use Rattle.std.proofs.lemmas.Option.{slice_get_read}
-use Rattle.id_record.proofs.LinesLemmas.{length-events_from, events_from-get, line_within}
+use Rattle.id_record.proofs.LinesLemmas.{length-events_from, events_from-get, line_kept}
 use Rattle.id_record.proofs.history.Record.payload.Goals as goal
 
 pub index-line-requires : goal.index-line-requires
 index-line-requires c =
     let r = c.self.inside in
     let held : vec_len r.lines ≡ length r.lines.items = grind (arith, common_steps) in
-    omega (arith, held, length-events_from r.graph.now r.element 0 r.asides.items r.lines.items, ap (λ v. length v.events) c.self.view_is)
+    omega (arith, held, length-events_from r.graph.now r.element r.replies.items 0 r.asides.items r.lines.items, ap (λ v. length v.events) c.self.view_is)
 
 pub payload_in-requires : goal.payload_in-requires
 payload_in-requires c =
     let r = c.self.inside in
-    let below : c.args.position < length r.lines.items = omega (arith, length-events_from r.graph.now r.element 0 r.asides.items r.lines.items, ap (λ v. length v.events) c.self.view_is) in
-    rw c.as_slice.ensures.value (line_within r.asides.items r.lines.items c.args.position c.index-line.result.now c.self.invariant below c.index-line.ensures)
+    let below : c.args.position < length r.lines.items = omega (arith, length-events_from r.graph.now r.element r.replies.items 0 r.asides.items r.lines.items, ap (λ v. length v.events) c.self.view_is) in
+    rw c.as_slice.ensures.value (line_kept r.asides.items r.replies.items r.lines.items c.args.position c.index-line.result.now c.self.invariant below c.index-line.ensures).within
 
 pub returns : goal.returns
 returns c =
     let r = c.self.inside in
-    let below : c.args.position < length r.lines.items = omega (arith, length-events_from r.graph.now r.element 0 r.asides.items r.lines.items, ap (λ v. length v.events) c.self.view_is) in
+    let below : c.args.position < length r.lines.items = omega (arith, length-events_from r.graph.now r.element r.replies.items 0 r.asides.items r.lines.items, ap (λ v. length v.events) c.self.view_is) in
     let there = slice_get_read r.lines.items _ _ _ refl below c.index-line.ensures in
     let read : unpacked r.asides.items c.index-line.result.now ≡ unpacked c.as_slice.result.now c.index-line.result.now = ap (λ a. unpacked a c.index-line.result.now) (sym c.as_slice.ensures.value) in
     rw (c.payload_in.ensures, ← ap (λ v. v.events) c.self.view_is)
     (
-    ap (option_map (λ e. e.message.payload)) (events_from-get r.graph.now r.element 0 r.asides.items r.lines.items c.args.position c.index-line.result.now there)
+    ap (option_map (λ e. e.message.payload)) (events_from-get r.graph.now r.element r.replies.items 0 r.asides.items r.lines.items c.args.position c.index-line.result.now there)
     ∙ ap (λ h. Some h.message.payload) read
     )

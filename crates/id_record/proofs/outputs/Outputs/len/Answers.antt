@@ -1,21 +1,15 @@
--- A message for each destination, and those that start a block.
-use Rattle.std.proofs.Common.{◌+◌, length, ap, sym, ◌∙◌}
-use Rattle.id_record.specs.Sends.{sent}
-use Rattle.id_record.proofs.SendsLemmas.{length-entered, length-numbered, length-out}
+-- A message for all that is fired, and one for each reply.
+use Rattle.std.proofs.Common.{◌≡◌, ◌+◌, ◌++◌, length, length-append, ap, sym, ◌∙◌, arith}
+use Rattle.id_record.specs.Sends.{replies, sent}
+use Rattle.id_record.proofs.SendsLemmas.{length-numbered, length-replies}
 use Rattle.id_record.proofs.outputs.Outputs.len.Goals as goal
 
-pub returns-in-Out : goal.returns-in-Out
-returns-in-Out c =
+pub returns : goal.returns
+returns c =
     let o = c.self.inside in
-    sym (length-out o.op o.dests.now o.tag o.fired c.in-Out.is)
-    ∙ sym (length-numbered o.envelope.number o.envelope.position o.envelope.stamp 0 (sent o.op o.dests.now o.tag o.fired))
-    ∙ ap length c.self.view_is
-
-pub returns-in-Entered : goal.returns-in-Entered
-returns-in-Entered c =
-    let o = c.self.inside in
-    ap (λ k. length o.dests.now + k) c.count_started.ensures
-    ∙ sym (length-entered o.op o.dests.now o.tag c.in-Entered.field-0)
-    ∙ ap (λ f. length (sent o.op o.dests.now o.tag f)) (sym c.in-Entered.is)
-    ∙ sym (length-numbered o.envelope.number o.envelope.position o.envelope.stamp 0 (sent o.op o.dests.now o.tag o.fired))
+    let fired = sent o.op o.dests.now o.tag o.fired in
+    let whole : c.count_sent.result + length o.readers.now ≡ length (fired ++ replies o.value o.readers.now) =
+    omega (arith, length-append fired (replies o.value o.readers.now), length-replies o.value o.readers.now, c.count_sent.ensures) in
+    whole
+    ∙ sym (length-numbered o.envelope.number o.envelope.position o.envelope.stamp 0 (fired ++ replies o.value o.readers.now))
     ∙ ap length c.self.view_is

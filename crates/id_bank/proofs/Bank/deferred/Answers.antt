@@ -1,0 +1,15 @@
+-- the loop runs over what the map lists
+use Rattle.std.proofs.Common.{◌≡◌, ◌∙◌, ap, sym, subst, IfOk}
+use Rattle.std.specs.List.{flat_map}
+use Rattle.std.proofs.lemmas.List.Folds.{flat_map-map}
+use Rattle.id_bank.specs.Cells.{readers_at, deferred_of}
+use Rattle.id_bank.specs.Slots.{state_of}
+use Rattle.id_bank.proofs.Bank.deferred.Goals as goal
+
+pub returns : goal.returns
+returns c =
+    let all = ap (flat_map (λ e. readers_at (e.0, state_of e.1.now))) c.deref.ensures.value
+    ∙ sym (flat_map-map readers_at (λ e. (e.0, state_of e.1.now)) c.in_ok-slots.slots.items)
+    ∙ ap (flat_map readers_at) c.in_ok-slots.ensures
+    ∙ ap deferred_of c.self.view_is in
+    record { items = subst (λ l. IfOk c.waiting.result (λ es. es.items ≡ l)) all c.waiting.ensures }

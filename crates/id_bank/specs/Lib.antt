@@ -1,0 +1,5 @@
+pub mod Cells
+-- for models that hold cells
+pub mod Codes
+-- for use inside
+pub mod Slots

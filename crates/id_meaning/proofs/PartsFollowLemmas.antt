@@ -1,0 +1,151 @@
+-- Where the facts that follow from one stand, among all that do.
+use Rattle.std.proofs.Common.{◌≡◌, inl, inr, ℕ, ◌<◌, Bool as Truth, nat_eq, Some, List, [], ◌∷◌, ◌++◌, length}
+use Rattle.std.proofs.Common.{if◌then◌else◌, refl, ap, sym, ◌∙◌, subst}
+use Rattle.std.proofs.lemmas.Bool.{eq-eqb}
+use Rattle.id_list.specs.List.{Among}
+use Rattle.id_list.proofs.AmongLemmas.{Among-left, Among-right}
+use Rattle.id_parts.specs.declared.row.Node.{Node}
+use Rattle.id_parts.specs.Rows.{at}
+use Rattle.id_check.specs.Programs.{Stands, rows}
+use Rattle.id_meaning.specs.declared.cells.Cells.{Cells}
+use Rattle.id_meaning.specs.declared.cells.RowFact.{RowFact}
+use Rattle.id_meaning.specs.declared.cells.RowFact.TheVariants.{On, Has}
+use Rattle.id_meaning.specs.declared.cells.RowValue.{RowValue}
+use Rattle.id_meaning.specs.declared.cells.Trail.{Trail}
+use Rattle.id_meaning.specs.declared.links.Links.{Links}
+use Rattle.id_meaning.specs.declared.queues.Queues.{Queues}
+use Rattle.id_meaning.specs.declared.queues.Wait.{Wait}
+use Rattle.id_meaning.specs.Sources.{Source}
+use Rattle.id_meaning.specs.Links.{AreArgs, AreReads, Leads, asker_of, beyond, linked_of, targets}
+use Rattle.id_meaning.specs.Cells.{AreChained, find, items, queue_of}
+use Rattle.id_meaning.specs.Effects.{all_woken, call_at, effects, exit_at, gain, gains, given, haves, loop_by, ons, pass_of, queue, start_at, woken}
+use Rattle.id_meaning.specs.Listed.{AreFound}
+use Rattle.id_meaning.proofs.CompleteLemmas.{among-at}
+use Rattle.id_meaning.proofs.LookupLemmas.{find-all, find-true}
+use Rattle.id_meaning.proofs.RulesLemmas.{IsOnBy}
+
+-- ---- lists of facts
+
+-- what has these values, and what is On at these rows
+pub haves-all : (p : Trail) (n : ℕ) (vs : List RowValue) (v : RowValue) → Among v vs → Among (Has p n v) (haves p n vs)
+haves-all p n [] v h = absurd h
+haves-all p n (u ∷ vs) v (inl e) = inl (ap (λ x. Has p n x) e)
+haves-all p n (u ∷ vs) v (inr h) = inr (haves-all p n vs v h)
+
+pub ons-all : (p : Trail) (ns : List ℕ) (n : ℕ) → Among n ns → Among (On p n) (ons p ns)
+ons-all p [] n h = absurd h
+ons-all p (m ∷ ns) n (inl e) = inl (ap (λ x. On p x) e)
+ons-all p (m ∷ ns) n (inr h) = inr (ons-all p ns n h)
+
+-- what comes where the number is itself
+pub when-same : (a : ℕ) (x : RowFact) (fs : List RowFact) → Among x fs → Among x (if nat_eq a a then fs else [])
+when-same a x fs h = let F : Truth → Type 0 = λ t. Among x (if t then fs else []) in subst F (sym (eq-eqb a a refl)) h
+
+-- ---- the number of a fact
+
+module _ (S : Source) (c : Cells) (chained : AreChained c) (found : AreFound S (items c)) where
+  -- what is On by a fact is among the facts, and is found by its number
+  pub known-on : {i n : ℕ} {p : Trail} → IsOnBy (items c) i p n → Among (On p n) (items c)
+  known-on {i = i} o = let F : RowFact → Type 0 = λ f. Among f (items c) in subst F o.fact (among-at (items c) i o.within)
+
+  pub found-by : {i n : ℕ} {p : Trail} → IsOnBy (items c) i p n → find c p n ≡ Some i
+  found-by {i = i} {n = n} {p = p} o =
+      let r = find-all c chained p n (known-on o) in
+      let t = find-true c chained p n r.0 r.1 in
+      r.1 ∙ ap (λ j. Some j) (found.apart r.0 i t.within o.within (t.fact ∙ sym o.fact))
+
+-- ---- into the parts of what follows
+
+module _ (S : Source) (l : Links) (W : Queues) (c : Cells) where
+  -- what comes at a row that is On, by its call, and by its loop
+  pub from-given : (p : Trail) (n : ℕ) (x : RowFact) → Among x (given S.checked c (On p n) p n) → Among x (effects S.checked l W c (On p n))
+  from-given p n x h =
+      let g = On p n in
+      Among-right x (ons p (targets l.turns.rows.items n)) (given S.checked c g p n ++ (call_at S.checked l c g p n ++ start_at S.checked l c g p n))
+      (Among-left x (given S.checked c g p n) (call_at S.checked l c g p n ++ start_at S.checked l c g p n) h)
+
+  pub from-call : (p : Trail) (n : ℕ) (x : RowFact) → Among x (call_at S.checked l c (On p n) p n) → Among x (effects S.checked l W c (On p n))
+  from-call p n x h =
+      let g = On p n in
+      Among-right x (ons p (targets l.turns.rows.items n)) (given S.checked c g p n ++ (call_at S.checked l c g p n ++ start_at S.checked l c g p n))
+      (Among-right x (given S.checked c g p n) (call_at S.checked l c g p n ++ start_at S.checked l c g p n)
+      (Among-left x (call_at S.checked l c g p n) (start_at S.checked l c g p n) h))
+
+  pub from-start : (p : Trail) (n : ℕ) (x : RowFact) → Among x (start_at S.checked l c (On p n) p n) → Among x (effects S.checked l W c (On p n))
+  from-start p n x h =
+      let g = On p n in
+      Among-right x (ons p (targets l.turns.rows.items n)) (given S.checked c g p n ++ (call_at S.checked l c g p n ++ start_at S.checked l c g p n))
+      (Among-right x (given S.checked c g p n) (call_at S.checked l c g p n ++ start_at S.checked l c g p n)
+      (Among-right x (call_at S.checked l c g p n) (start_at S.checked l c g p n) h))
+
+  -- what comes at one of these rows
+  pub gains-all : (p : Trail) (n : ℕ) (v : RowValue) (x : RowFact) (m : ℕ) (ms : List ℕ) → Among m ms → Among x (gain S.checked l c p n v m)
+      → Among x (gains S.checked l c p n v ms)
+  gains-all p n v x m [] h k = absurd h
+  gains-all p n v x m (a ∷ ms) (inl e) k =
+      let F : ℕ → Type 0 = λ b. Among x (gain S.checked l c p n v b) in
+      Among-left x (gain S.checked l c p n v a) (gains S.checked l c p n v ms) (subst F e k)
+  gains-all p n v x m (a ∷ ms) (inr h) k = Among-right x (gain S.checked l c p n v a) (gains S.checked l c p n v ms) (gains-all p n v x m ms h k)
+
+  -- what comes at a row that reads this one
+  pub from-gain : (p : Trail) (n : ℕ) (v : RowValue) (x : RowFact) (m : ℕ) → Leads l.reads n m → Among x (gain S.checked l c p n v m)
+      → Among x (effects S.checked l W c (Has p n v))
+  from-gain p n v x m h k =
+      let ms = targets l.reads.rows.items n in
+      Among-left x (gains S.checked l c p n v ms) (all_woken S.checked c p n v (queue W.queues.items (queue_of p n)) ++ exit_at S.checked c p n v)
+      (gains-all p n v x m ms h k)
+
+  -- and of that what comes by an argument, and by the switches or a `next` of a loop
+  pub from-pass : (p : Trail) (n : ℕ) (v : RowValue) (x : RowFact) (m : ℕ) (z : Node) → Stands S.checked m z → Leads l.reads n m
+      → Among x (pass_of S.checked l c p n v z) → Among x (effects S.checked l W c (Has p n v))
+  from-pass p n v x m z st h k =
+      let y = (at (rows S.checked) m).node in
+      let F : Node → Type 0 = λ a. Among x (pass_of S.checked l c p n v a) in
+      from-gain p n v x m h
+      (Among-right x (given S.checked c (Has p n v) p m) (pass_of S.checked l c p n v y ++ loop_by S.checked l c p n v m y)
+      (Among-left x (pass_of S.checked l c p n v y) (loop_by S.checked l c p n v m y) (subst F (sym st.node) k)))
+
+  pub from-loop : (p : Trail) (n : ℕ) (v : RowValue) (x : RowFact) (m : ℕ) (z : Node) → Stands S.checked m z → Leads l.reads n m
+      → Among x (loop_by S.checked l c p n v m z) → Among x (effects S.checked l W c (Has p n v))
+  from-loop p n v x m z st h k =
+      let y = (at (rows S.checked) m).node in
+      let F : Node → Type 0 = λ a. Among x (loop_by S.checked l c p n v m a) in
+      from-gain p n v x m h
+      (Among-right x (given S.checked c (Has p n v) p m) (pass_of S.checked l c p n v y ++ loop_by S.checked l c p n v m y)
+      (Among-right x (pass_of S.checked l c p n v y) (loop_by S.checked l c p n v m y) (subst F (sym st.node) k)))
+
+  woken-all : (p : Trail) (n : ℕ) (v : RowValue) (x : RowFact) (w : Wait) (ws : List Wait) → Among w ws → Among x (woken S.checked c p n v w)
+      → Among x (all_woken S.checked c p n v ws)
+  woken-all p n v x w [] h k = absurd h
+  woken-all p n v x w (a ∷ ws) (inl e) k =
+      let F : Wait → Type 0 = λ b. Among x (woken S.checked c p n v b) in
+      Among-left x (woken S.checked c p n v a) (all_woken S.checked c p n v ws) (subst F e k)
+  woken-all p n v x w (a ∷ ws) (inr h) k = Among-right x (woken S.checked c p n v a) (all_woken S.checked c p n v ws) (woken-all p n v x w ws h k)
+
+  -- what comes by one that waits for the value
+  pub from-woken : (p : Trail) (n : ℕ) (v : RowValue) (x : RowFact) (w : Wait) → Among w (queue W.queues.items (queue_of p n))
+      → Among x (woken S.checked c p n v w) → Among x (effects S.checked l W c (Has p n v))
+  from-woken p n v x w h k =
+      let ws = queue W.queues.items (queue_of p n) in
+      Among-right x (gains S.checked l c p n v (targets l.reads.rows.items n)) (all_woken S.checked c p n v ws ++ exit_at S.checked c p n v)
+      (Among-left x (all_woken S.checked c p n v ws) (exit_at S.checked c p n v) (woken-all p n v x w ws h k))
+
+  -- what comes where a call or a loop ends
+  pub from-exit : (p : Trail) (n : ℕ) (v : RowValue) (x : RowFact) → Among x (exit_at S.checked c p n v) → Among x (effects S.checked l W c (Has p n v))
+  from-exit p n v x h =
+      let ws = queue W.queues.items (queue_of p n) in
+      Among-right x (gains S.checked l c p n v (targets l.reads.rows.items n)) (all_woken S.checked c p n v ws ++ exit_at S.checked c p n v)
+      (Among-right x (all_woken S.checked c p n v ws) (exit_at S.checked c p n v) h)
+
+  -- ---- who reads, and who asks
+
+  -- a row is linked to from what it reads, and from what asks for it
+  pub reader : AreReads S.checked l.reads → (m a : ℕ) (z : Node) → Stands S.checked m z → a < length (rows S.checked)
+      → Among a (linked_of (rows S.checked) (beyond S.checked m z) z) → Leads l.reads a m
+  reader reads m a z st w h =
+      let F : Node → Type 0 = λ y. Among a (linked_of (rows S.checked) (beyond S.checked m y) y) in
+      reads.all m a st.within w (subst F (sym st.node) h)
+
+  pub asker : AreArgs S.checked l.args → (m e : ℕ) (z : Node) → Stands S.checked m z → e < length (rows S.checked)
+      → asker_of (at (rows S.checked) m).block z ≡ Some e → Leads l.args e m
+  asker args m e z st w h = args.all m e st.within w (ap (λ y. asker_of (at (rows S.checked) m).block y) st.node ∙ h)

@@ -1,0 +1,170 @@
+-- Lemmas on specs/Paths.antt and specs/Observed.antt: what needs no look at an event, or at any.
+use Rattle.std.proofs.Common.{◌≡◌, ◌≢◌, ℕ, zero, suc, ◌<◌, Bool, true, false, ◌&&◌, Option, Some, None, List, [], ◌∷◌, ◌++◌, map, length, refl, sym, ap, ◌∙◌, arith}
+use Rattle.std.specs.Prelude.{◌==◌, if◌then◌else◌, slice_get, option_map}
+use Rattle.std.specs.List.{filter_map, flat_map, cons_option, AllByRecursion}
+use Rattle.std.specs.FinMap.{empty, entries, len-empty, len-entries}
+use Rattle.std.proofs.lemmas.List.Elements.{recursion_from_All}
+use Rattle.std.proofs.lemmas.Bool.{ne_eqb}
+use Rattle.std.proofs.lemmas.Option.{slice_get_within, get_or_from_slice_get}
+use Rattle.id_graph.specs.declared.instr.Instr.{Instr}
+use Rattle.id_graph.specs.declared.instr.Op.{Op}
+use Rattle.id_graph.specs.declared.instr.Op.TheVariants.{Const, Unary, Binary, Merge, Switch, Back, Enter, Send, Next, Reset, Alloc, Address, Fetch, Store}
+use Rattle.id_graph.specs.Graph.{Parts}
+use Rattle.id_valid.specs.Roles.{op_at}
+use Rattle.id_tag.specs.declared.Context.{Context}
+use Rattle.id_tag.specs.declared.Message.{Message}
+use Rattle.id_tag.specs.declared.Payload.{Payload}
+use Rattle.id_tag.specs.declared.Payload.TheVariants.{Token, Read, Write}
+use Rattle.id_tag.specs.declared.Structure.{Structure}
+use Rattle.id_tag.specs.declared.Tag.{Tag}
+use Rattle.id_tag.specs.Tags.{cell_cmp, same_context}
+use Rattle.id_ops.specs.declared.Fired.{Fired}
+use Rattle.id_bank.specs.Cells.{Cells, CellState, cells_of, deferred_of, filled_at, readers_at}
+use Rattle.id_record.specs.Events.{EventView, tag_of}
+use Rattle.id_element.specs.Replays.{ElementView}
+use Rattle.id_meaning.specs.declared.Path.{Path}
+use Rattle.id_observe.specs.Paths.{enter_of, entered, entered_by, if_made, if_same, is_alloc, is_enter, made_by, maker_of}
+use Rattle.id_observe.specs.Observed.{HaveNoCells, MakesNone, ask_of, brought, cells_in, events_of, main_tag, path_in, put_of, shape_of, structure_in, structures_in, waiting_in}
+
+-- ---- one event
+
+-- there is an element at each position
+pub element-at : {A : Type 0} (xs : List A) (i : ℕ) → i < length xs → (x : A) × (slice_get xs i ≡ Some x)
+element-at [] i lt = absurd (omega (arith, lt))
+element-at (x ∷ xs) zero lt = (x, refl)
+element-at (x ∷ xs) (suc i) lt = element-at xs i (omega (arith, lt))
+
+-- what is known of a part of an element
+pub part-is : {A B : Type 0} (f : A → B) (o : Option A) (x : A) (y : B) → o ≡ Some x → option_map f o ≡ Some y → f x ≡ y
+part-is f o x y at is = let both : Some (f x) ≡ Some y = ap (option_map f) (sym at) ∙ is in cc
+
+-- what a part of an element gives
+pub image-from_part : {A B C : Type 0} (f : A → B) (h : B → C) (o : Option A) (y : B) (z : C) → option_map f o ≡ Some y → z ≡ h y → option_map (λ x. h (f x)) o ≡ Some z
+image-from_part f h None y z is gives = cc
+image-from_part f h (Some x) y z is gives = let same : f x ≡ y = cc in ap (λ w. Some (h w)) same ∙ ap Some (sym gives)
+
+-- two elements at one position are one
+pub one-at : {A : Type 0} {o : Option A} (x y : A) → o ≡ Some x → o ≡ Some y → x ≡ y
+one-at x y here there = let both : Some x ≡ Some y = sym here ∙ there in cc
+
+-- a token for another instruction than the first brings nothing to the answer
+pub brought-elsewhere : (x : Payload) → (tag_of x).instr ≢ 0 → brought x ≡ None
+brought-elsewhere (Token t p v) not =
+    ap (λ b. if b then Some v else None) (never (same_context t.context (main_tag 0).context) (t.iteration == 0) (t.instr == 0) (ne_eqb t.instr 0 not))
+  where
+    never : (a b c : Bool) → c ≡ false → (a && (b && c)) ≡ false
+    never true true c is = is
+    never true false c is = refl
+    never false b c is = refl
+brought-elsewhere (Read c t) not = refl
+brought-elsewhere (Write c v t) not = refl
+
+-- what is no `alloc` makes no structure
+pub made_by-none : (o : Option Op) (f : Fired) → is_alloc o ≡ false → made_by o f ≡ None
+made_by-none None f not = refl
+made_by-none (Some Alloc) f not = cc
+made_by-none (Some (Const v)) f not = refl
+made_by-none (Some (Unary u)) f not = refl
+made_by-none (Some (Binary u)) f not = refl
+made_by-none (Some (Merge k)) f not = refl
+made_by-none (Some (Switch k)) f not = refl
+made_by-none (Some (Back k)) f not = refl
+made_by-none (Some (Enter b r)) f not = refl
+made_by-none (Some (Send k n)) f not = refl
+made_by-none (Some (Next k)) f not = refl
+made_by-none (Some (Reset k)) f not = refl
+made_by-none (Some Address) f not = refl
+made_by-none (Some (Fetch r)) f not = refl
+made_by-none (Some Store) f not = refl
+
+-- what is no `enter` enters no context
+entered_by-none : (o : Option Op) (ms : List Message) → is_enter o ≡ false → entered_by o ms ≡ None
+entered_by-none None ms not = refl
+entered_by-none (Some Alloc) ms not = refl
+entered_by-none (Some (Const v)) ms not = refl
+entered_by-none (Some (Unary u)) ms not = refl
+entered_by-none (Some (Binary u)) ms not = refl
+entered_by-none (Some (Merge k)) ms not = refl
+entered_by-none (Some (Switch k)) ms not = refl
+entered_by-none (Some (Back k)) ms not = refl
+entered_by-none (Some (Enter b r)) ms not = cc
+entered_by-none (Some (Send k n)) ms not = refl
+entered_by-none (Some (Next k)) ms not = refl
+entered_by-none (Some (Reset k)) ms not = refl
+entered_by-none (Some Address) ms not = refl
+entered_by-none (Some (Fetch r)) ms not = refl
+entered_by-none (Some Store) ms not = refl
+
+entered-none : (g : Parts) (x : Payload) (ms : List Message) → is_enter (op_at g (tag_of x).instr) ≡ false → entered g x ms ≡ None
+entered-none g (Token t p v) ms not = entered_by-none (op_at g t.instr) ms not
+entered-none g (Read c t) ms not = refl
+entered-none g (Write c v t) ms not = refl
+
+-- an event whose instruction is no `enter` entered no context
+pub enter_of-none : (g : Parts) (e : EventView) (o : Option Op) (c : Context) → op_at g (tag_of e.message.payload).instr ≡ o → is_enter o ≡ false → enter_of g e c ≡ None
+enter_of-none g e o c is not =
+    ap (if_same (tag_of e.message.payload) c) (entered-none g e.message.payload e.outputs (ap is_enter is ∙ not))
+
+-- one whose instruction is no `alloc` made no structure
+pub maker_of-none : (g : Parts) (e : EventView) (o : Option Op) (s : Structure) → op_at g (tag_of e.message.payload).instr ≡ o → is_alloc o ≡ false → maker_of g e s ≡ None
+maker_of-none g e o s is not =
+    ap (if_made (tag_of e.message.payload) s) (made_by-none (op_at g (tag_of e.message.payload).instr) e.fired (ap is_alloc is ∙ not))
+
+pub shape_of-none : (g : Parts) (path : Tag → Path) (e : EventView) (o : Option Op) → op_at g (tag_of e.message.payload).instr ≡ o → is_alloc o ≡ false → shape_of g path e ≡ None
+shape_of-none g path e o is not =
+    ap (option_map _) (made_by-none (op_at g (tag_of e.message.payload).instr) e.fired (ap is_alloc is ∙ not))
+
+-- ---- all events
+
+filter_map-none : {A B : Type 0} (h : A → Option B) → ((x : A) → h x ≡ None) → (xs : List A) → filter_map h xs ≡ []
+filter_map-none h none [] = refl
+filter_map-none h none (x ∷ xs) = ap (λ o. cons_option o (filter_map h xs)) (none x) ∙ filter_map-none h none xs
+
+-- no instruction is an `alloc` where none makes structures
+op_at-none : (g : Parts) (n : ℕ) → MakesNone g → is_alloc (op_at g n) ≡ false
+op_at-none g n none = from (slice_get g.instrs n) refl
+  where
+    from : (o : Option Instr) → slice_get g.instrs n ≡ o → is_alloc (option_map (λ i. i.op) o) ≡ false
+    from None at = refl
+    from (Some i) at =
+        sym (ap (λ j. is_alloc (Some j.op)) (get_or_from_slice_get g.instrs n i i at)) ∙ none n i (slice_get_within g.instrs n i at)
+
+-- so no event made a structure
+pub structures-none : (g : Parts) (es : List ElementView) → MakesNone g → structures_in g (map (λ e. e.state) es) ≡ []
+structures-none g es none =
+    let path = path_in g (map (λ e. e.state) es) in
+    filter_map-none (shape_of g path)
+    (λ e. shape_of-none g path e (op_at g (tag_of e.message.payload).instr) refl (op_at-none g (tag_of e.message.payload).instr none))
+    (events_of (map (λ e. e.state) es))
+
+-- ---- cells
+
+no_length : {A : Type 0} (xs : List A) → length xs ≡ 0 → xs ≡ []
+no_length [] e = refl
+no_length (x ∷ xs) e = absurd (omega (arith, e))
+
+no_entries : entries (empty {X = CellState} {R = cell_cmp}) ≡ []
+no_entries = no_length (entries empty) (sym (len-entries empty) ∙ len-empty cell_cmp CellState)
+
+cells_of-none : cells_of empty ≡ []
+cells_of-none = ap (flat_map filled_at) no_entries
+
+deferred_of-none : deferred_of empty ≡ []
+deferred_of-none = ap (flat_map readers_at) no_entries
+
+no_parts : {A : Type 0} (f : Cells → List A) → f empty ≡ [] → (es : List ElementView) → AllByRecursion (λ e. e.state.cells ≡ empty) es → flat_map (λ s. f s.cells) (map (λ e. e.state) es) ≡ []
+no_parts f none [] all = refl
+no_parts f none (e ∷ es) all =
+    ap (λ xs. xs ++ flat_map (λ s. f s.cells) (map (λ x. x.state) es)) (ap f all.0 ∙ none) ∙ no_parts f none es all.1
+
+-- elements at which no cell was touched show no cell
+pub cells-none : (g : Parts) (es : List ElementView) → HaveNoCells es → cells_in g (map (λ e. e.state) es) ≡ []
+cells-none g es all =
+    let ss = map (λ e. e.state) es in
+    ap (filter_map (put_of g (path_in g ss) (structure_in g ss))) (no_parts cells_of cells_of-none es (recursion_from_All (λ e. e.state.cells ≡ empty) es all))
+
+-- and no fetch that waits
+pub waiting-none : (g : Parts) (es : List ElementView) → HaveNoCells es → waiting_in g (map (λ e. e.state) es) ≡ []
+waiting-none g es all =
+    let ss = map (λ e. e.state) es in
+    ap (map (ask_of g (path_in g ss) (structure_in g ss))) (no_parts deferred_of deferred_of-none es (recursion_from_All (λ e. e.state.cells ≡ empty) es all))

@@ -1,0 +1,16 @@
+-- One more element adds what it shows.
+use Rattle.std.proofs.Common.{◌≡◌, Some, refl}
+use Rattle.std.specs.Prelude.{slice_get}
+use Rattle.std.proofs.lemmas.Option.{slice_get_read}
+use Rattle.id_bank.specs.Cells.{cells_of}
+use Rattle.id_observe.specs.Observed.{put_of, structure_by}
+use Rattle.id_observe.proofs.ObservedLemmas.{walk-next}
+use Rattle.id_observe.specs.Paths.{path_by}
+use Rattle.id_observe.proofs.observe.all_cells.Goals as goal
+
+pub loop-element-preserved : goal.loop-element-preserved
+loop-element-preserved c =
+    let es = c.args.elements.now in
+    let at : slice_get es c.loop-element.element-index ≡ Some c.element-item.result = slice_get_read es _ _ _ refl c.loop-element-test.true c.element-item.is in
+    let next = walk-next (λ s. cells_of s.cells) (put_of c.args.paths.now.graph.now (path_by c.args.paths.now) (structure_by c.args.paths.now)) es c.loop-element.element-index c.element-item.result at in
+    rw (c.in_ok-add_puts.ensures, c.loop-element.invariant, c.as_slice.ensures.value, c.in_ok-cells.ensures, next)

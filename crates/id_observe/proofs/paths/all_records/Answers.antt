@@ -1,0 +1,33 @@
+-- One more record adds what it tells.
+use Rattle.std.proofs.Common.{◌≡◌, Some, refl, ap, sym, ◌∙◌, arith}
+use Rattle.std.proofs.lemmas.Grind.{common_steps}
+use Rattle.std.specs.Prelude.{slice_get}
+use Rattle.std.specs.Option.{option_or}
+use Rattle.std.specs.HashMap.{get}
+use Rattle.std.proofs.lemmas.Option.{slice_get_read}
+use Rattle.id_tag.specs.Tags.{same_context, same_structure}
+use Rattle.id_observe.specs.Paths.{enter_in, maker_in}
+use Rattle.id_observe.proofs.PathsLemmas.{enter_in-none, enters-next, maker_in-none, makers-next}
+use Rattle.id_observe.proofs.paths.all_records.Goals as goal
+
+pub loop-element-init : goal.loop-element-init
+loop-element-init c = record {
+  enters = λ d. let none = enter_in-none c.args.graph.now d in grind (arith, common_steps, none);
+  makers = λ d. let none = maker_in-none c.args.graph.now d in grind (arith, common_steps, none);
+}
+
+pub loop-element-preserved : goal.loop-element-preserved
+loop-element-preserved c =
+    let g = c.args.graph.now in
+    let es = c.args.elements.now in
+    let i = c.loop-element.element-index in
+    let e = c.element-item.result in
+    let at : slice_get es i ≡ Some e = slice_get_read es _ _ _ refl c.loop-element-test.true c.element-item.is in
+    record {
+      enters = λ d.
+          c.in_ok-add_record.ensures.enters d ∙ ap (λ xs. option_or (enter_in g xs d) (get same_context c.loop-element.enters d)) c.events.ensures.value
+          ∙ ap (option_or (enter_in g e.state.events d)) (c.loop-element.invariant.enters d) ∙ sym (enters-next g es i e d at);
+      makers = λ d.
+          c.in_ok-add_record.ensures.makers d ∙ ap (λ xs. option_or (maker_in g xs d) (get same_structure c.loop-element.makers d)) c.events.ensures.value
+          ∙ ap (option_or (maker_in g e.state.events d)) (c.loop-element.invariant.makers d) ∙ sym (makers-next g es i e d at);
+    }

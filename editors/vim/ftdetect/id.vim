@@ -1,0 +1,2 @@
+" Texts of idc end in .id.
+autocmd BufNewFile,BufRead *.id setfiletype id
