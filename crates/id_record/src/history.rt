@@ -189,9 +189,11 @@ impl<'a> Record<'a> {
         payload_in(self.asides.as_slice(), line)
     }
 
+    /// The number of the instruction whose tag the message of the event at a position names.
     fn instr(&self, position: usize) -> u32
         requires { position < length self.now.events }
-        ensures { option_map (λ e. (tag_of e.message.payload).instr) (slice_get self.now.events position) ≡ Some result }
+        ensures { option_map (λ e. (tag_of e.message.payload).instr) (slice_get self.now.events position)
+            ≡ Some result }
     {
         let line = &self.lines[position];
         instr_in(self.asides.as_slice(), line)

@@ -10,9 +10,10 @@
 
 mod parser;
 mod part;
+mod program;
 mod tokens;
 mod tree;
 
 pub use id_value::{BinaryOp, Constant, Kind, UnaryOp};
-pub use parser::parse;
+pub use program::parse;
 pub use tree::{Def, Expr, MAX_NESTING, Param, Program, Stmt, TreeError};

@@ -1,7 +1,7 @@
 -- The list begins with the parameter's name, and the run takes the rest of it.
 use Rattle.std.proofs.lemmas.Result.{err_from_is_err_and}
 use Rattle.id_tree.proofs.ParamLemmas.{Declares-done, Undeclares-name, Undeclares-kind}
-use Rattle.id_tree.proofs.parser.parse_param.Goals as goal
+use Rattle.id_tree.proofs.program.parse_param.Goals as goal
 
 pub returns-in_err-name-clause-err : goal.returns-in_err-name-clause-err
 returns-in_err-name-clause-err c =

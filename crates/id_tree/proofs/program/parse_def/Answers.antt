@@ -4,7 +4,7 @@ use Rattle.std.proofs.lemmas.Result.{err_from_is_err_and}
 use Rattle.id_tree.specs.Grammar.{body_of}
 use Rattle.id_tree.proofs.ReaderLemmas.{opens_definition, At-opens, At-name, At-enclosed, Leads-done, Fails-name, Fails-enclosed}
 use Rattle.id_tree.proofs.ParamLemmas.{At-heading, Fails-heading}
-use Rattle.id_tree.proofs.parser.parse_def.Goals as goal
+use Rattle.id_tree.proofs.program.parse_def.Goals as goal
 
 pub returns-in_err-name-clause-err : goal.returns-in_err-name-clause-err
 returns-in_err-name-clause-err c =

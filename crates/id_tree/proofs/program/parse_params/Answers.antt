@@ -6,7 +6,7 @@ use Rattle.id_text.specs.declared.token.Symbol.TheVariants.{RightParen, Comma}
 use Rattle.id_tree.specs.Readers.{first_kind}
 use Rattle.id_tree.proofs.ReaderLemmas.{first_of}
 use Rattle.id_tree.proofs.ParamLemmas.{IsBehind-more, Leads-none, Counts-first, Counts-add, Leads-listed, Fails-listed, Fails-next, Fails-first}
-use Rattle.id_tree.proofs.parser.parse_params.Goals as goal
+use Rattle.id_tree.proofs.program.parse_params.Goals as goal
 
 pub params-init : goal.params-init
 params-init c =

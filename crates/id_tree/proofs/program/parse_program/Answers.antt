@@ -7,7 +7,7 @@ use Rattle.id_tree.specs.Readers.{first_kind}
 use Rattle.id_tree.specs.Tree.{defs_tree}
 use Rattle.id_tree.specs.Machine.{Accepted}
 use Rattle.id_tree.proofs.ReaderLemmas.{Amasses-none, Amasses-add, Amasses-fails, Amasses-stops, Amasses-accepts}
-use Rattle.id_tree.proofs.parser.parse_program.Goals as goal
+use Rattle.id_tree.proofs.program.parse_program.Goals as goal
 
 pub defs-init : goal.defs-init
 defs-init c = rw c.new-defs.ensures.items (Amasses-none c.args.tokens.now c.requires)

@@ -11,7 +11,7 @@ use Rattle.id_tree.proofs.FinishLemmas.{Laid-rises}
 use Rattle.id_tree.proofs.RefusedLemmas.{Accepts-from_run, RefusedBy-from_run, Same-from_run, IsMemory-from_run}
 use Rattle.id_tree.proofs.DistinctLemmas.{Program-distinct}
 use Rattle.id_tree.proofs.StartsLemmas.{Program-starts}
-use Rattle.id_tree.proofs.parser.parse.Goals as goal
+use Rattle.id_tree.proofs.program.parse.Goals as goal
 
 pub returns-clause-tree : goal.returns-clause-tree
 returns-clause-tree c =

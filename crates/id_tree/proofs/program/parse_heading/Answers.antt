@@ -1,7 +1,7 @@
 -- The parts of the heading that were there are taken, and the run ends at the one that is not.
 use Rattle.std.proofs.lemmas.Result.{err_from_is_err_and}
 use Rattle.id_tree.proofs.ParamLemmas.{Beheads-paren, Beheads-params, Beheads-kind, Beheads-sign, Heads-done}
-use Rattle.id_tree.proofs.parser.parse_heading.Goals as goal
+use Rattle.id_tree.proofs.program.parse_heading.Goals as goal
 
 pub returns-in_err-opened-clause-err : goal.returns-in_err-opened-clause-err
 returns-in_err-opened-clause-err c =
