@@ -4,6 +4,7 @@
 
 ghost use Rattle.std.specs.Prelude.{◌≡◌, [], ◌∷◌, ◌++◌, IfOk, IfErr, MatchResult};
 ghost use Rattle.id_text.specs.Tokens.{EndsOnce, Rises};
+ghost use Rattle.id_text.specs.declared.token.TokenKind.TheVariants.{Key};
 ghost use Rattle.id_tree.specs.Tree.{Tree, params_tree, def_tree, program_tree};
 ghost use Rattle.id_tree.specs.declared.tree.Param.{Param};
 ghost use Rattle.id_tree.specs.Accepted.{Accepts, RefusedBy, IsMemory};
@@ -66,7 +67,7 @@ fn parse_program(alloc: Global, tokens: &[Token]) -> Result<Program, TreeError>
 /// `def = "def" NAME "(" [ param { "," param } ] ")" ":" kind "=" expr ";"`
 fn parse_def(alloc: Global, tokens: &[Token]) -> Result<(Def, &[Token]), TreeError>
     requires ends { EndsOnce tokens.now }
-    requires begins { first_kind tokens.now ≡ TokenKind.Key Keyword.Def }
+    requires begins { first_kind tokens.now ≡ Key Keyword.Def }
     ensures behind { IfOk result (λ x. IsBehind x.1.now tokens.now) }
     ensures ok { IfOk result (λ x. Defines tokens.now x.1.now (def_tree x.0)) }
     ensures err { IfErr result (Fails tokens.now Definition 0) }
