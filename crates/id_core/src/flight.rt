@@ -1,13 +1,13 @@
 //! The messages in flight, which contracts see as a list.
 
+use crate::in_flight::InFlight;
 use id_tag::Message;
-use std::collections::VecDeque;
 use std::marker::Model;
 
 /// The messages in flight, in the order in which they were sent.
 #[derive(Drop)]
 pub struct Flight<'a> {
-    messages: &'a VecDeque<Message>,
+    messages: &'a InFlight,
 }
 
 impl<'a> Model for Flight<'a> {
@@ -16,15 +16,15 @@ impl<'a> Model for Flight<'a> {
 
     ghost Value = { List Message };
 
-    ghost view = { λ f. f.messages.now.items };
+    ghost view = { λ f. f.messages.now.messages };
 }
 
 impl<'a> Flight<'a> {
     ghost use Rattle.std.specs.Prelude.{◌≡◌, ◌<◌, ◌==◌, length, slice_get, Some};
 
     /// These messages. Takes no memory.
-    pub(crate) fn new(messages: &'a VecDeque<Message>) -> Flight<'a>
-        ensures { result ≡ messages.now.items }
+    pub(crate) fn new(messages: &'a InFlight) -> Flight<'a>
+        ensures { result ≡ messages.now.messages }
     {
         Flight { messages }
     }
@@ -48,6 +48,6 @@ impl<'a> Flight<'a> {
         requires { position < length self.now }
         ensures { slice_get self.now position ≡ Some result }
     {
-        self.messages[position]
+        *self.messages.message(position)
     }
 }

@@ -8,6 +8,7 @@
 
 mod entering;
 mod flight;
+mod in_flight;
 mod machine;
 
 pub use entering::takes_inputs;

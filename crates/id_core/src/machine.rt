@@ -3,7 +3,6 @@
 ghost use Rattle.std.specs.Prelude.{◌≡◌, ◌<◌, ◌≤◌, ◌+◌, ◌++◌, ◌↔◌, [], ℕ, All, length, map, replicate, IfOk, OnOk};
 ghost use Rattle.std.specs.Prelude.{IsTrue, vec_len};
 ghost use Rattle.std.specs.List.{remove};
-ghost use Rattle.std.specs.VecDeque.{deque_len, deque_capacity};
 ghost use Rattle.id_graph.specs.declared.dests.Port.TheVariants.{Zero};
 ghost use Rattle.id_tag.specs.declared.Payload.TheVariants.{Token};
 ghost use Rattle.id_record.specs.Events.{AllWent};
@@ -13,6 +12,7 @@ ghost use Rattle.id_core.specs.Machines.{AreElements, TakesInputs, input_message
 ghost use Rattle.id_observe.specs.Observed.{main_tag};
 
 use crate::flight::Flight;
+use crate::in_flight::InFlight;
 use id_element::{Element, TakeError};
 use id_graph::Port;
 use id_meaning::{Inputs, SourceFault, SourceValue};
@@ -67,7 +67,7 @@ impl<T: Drop> From<AllocFailed<T>> for MachineError {
 pub struct Machine<'a> {
     graph: &'a Valid,
     elements: Vec<Element<'a>>,
-    flight: VecDeque<Message>,
+    flight: InFlight,
     outputs: Vec<Message>,
 }
 
@@ -83,10 +83,10 @@ impl<'a> Model for Machine<'a> {
     ghost view = { λ m. record {
       graph = m.graph.now;
       count = length m.elements.items;
-      world = world_of m.elements.items m.flight.items;
+      world = world_of m.elements.items m.flight.messages;
     } };
 
-    ghost invariant = { λ m. IsMachine m.graph.now m.elements.items m.flight.items m.outputs.items };
+    ghost invariant = { λ m. IsMachine m.graph.now m.elements.items m.flight.messages m.outputs.items };
 }
 
 impl<'a> Machine<'a> {
@@ -118,11 +118,11 @@ impl<'a> Machine<'a> {
             return Err(MachineError::BadElements);
         }
         let elements = fresh_elements(alloc, graph, count)?;
-        let flight = start_flight(alloc, graph, inputs)?;
+        let messages = start_flight(alloc, graph, inputs)?;
         Ok(Machine {
             graph,
             elements,
-            flight,
+            flight: InFlight::new(alloc, messages),
             outputs: Vec::new(alloc),
         })
     }
@@ -143,16 +143,18 @@ impl<'a> Machine<'a> {
             (event_at self.old.graph self.old.count self.old.world position ≡ None) }
         ensures err { OnErr result (self.new ≡ self.old) }
     {
-        let message = self.flight[position];
-        let number = route(&message, self.elements.len() as u32) as usize;
-        if self.elements[number].is_ended(&message) {
+        let message = self.flight.message(position);
+        let number = route(message, self.elements.len() as u32) as usize;
+        let element = &self.elements[number];
+        if element.is_ended(message) {
             return Err(TakeError::StampEnd);
         }
-        let most = self.elements[number].most_outputs(&message);
-        self.flight.reserve(most)?;
+        let most = element.most_outputs(message);
+        self.flight.open(position, most)?;
+        let message = *self.flight.message(position);
         let step = self.elements[number].take(message, &mut self.outputs)?;
-        take_out(&mut self.flight, position);
-        move_all(&mut self.outputs, &mut self.flight);
+        self.flight.take_next();
+        self.flight.add_all(&mut self.outputs);
         Ok(step)
     }
 
@@ -301,26 +303,4 @@ fn start_message(number: usize, instr: u32, value: Value) -> Message
         output: number,
         stamp: 0,
     }
-}
-
-/// Takes the message at a position out of the list, which closes up. Takes no memory.
-fn take_out(flight: &mut VecDeque<Message>, position: usize)
-    requires { position < length flight.old.items }
-    ensures items { flight.new.items ≡ remove flight.old.items position }
-    ensures len { deque_len flight.new + 1 ≡ deque_len flight.old }
-    ensures capacity { deque_capacity flight.new ≡ deque_capacity flight.old }
-{
-    let _taken = flight.remove(position);
-}
-
-/// Moves all messages to the end of the other list, in which there is room for them. Takes no memory.
-fn move_all(from: &mut Vec<Message>, to: &mut VecDeque<Message>)
-    requires { deque_len to.old + vec_len from.old ≤ deque_capacity to.old }
-    ensures moved { to.new.items ≡ to.old.items ++ from.old.items }
-    ensures emptied { from.new.items ≡ [] }
-{
-    for message in from.iter() {
-        to.push_back_reserved(*message);
-    }
-    from.clear();
 }

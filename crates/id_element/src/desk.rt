@@ -14,7 +14,7 @@ use id_graph::{Graph, Instr};
 use id_match::Waiting;
 use id_ops::Fired;
 use id_record::{
-    Envelope, Handled, NO_REPLIES, Reaction, Record, Replies, Step, Verdict, full_step, message,
+    Envelope, Handling, NO_REPLIES, Reaction, Record, Replies, Step, Verdict, full_step, message,
     tag_of, token_at, value_of,
 };
 use id_tag::{Message, Payload, Tag};
@@ -70,27 +70,28 @@ impl<'a> Desk<'a> {
     pub(crate) fn take(
         &mut self,
         graph: &Graph,
-        message: Message,
+        message: &Message,
         outputs: &mut Vec<Message>,
     ) -> Result<Step, TakeError>
         requires own { graph.now ≡ self.old.log.graph }
         requires valid { IsValid graph.now }
         requires counted { self.old.contexts ≤ self.old.stamp }
         requires numbered { self.old.structures ≤ self.old.stamp }
-        requires fits { Fits graph.now message }
+        requires fits { Fits graph.now message.now }
 
-        ensures step { IfOk result (λ step. step ≡ step_of graph.now self.old.log.element (state_of self.old) message) }
+        ensures step { IfOk result
+            (λ step. step ≡ step_of graph.now self.old.log.element (state_of self.old) message.now) }
         ensures state { OnOk result
-            (state_of self.new ≡ state_after graph.now self.old.log.element (state_of self.old) message) }
+            (state_of self.new ≡ state_after graph.now self.old.log.element (state_of self.old) message.now) }
         ensures outputs { OnOk result
             (outputs.new.items
-            ≡ outputs.old.items ++ outputs_of graph.now self.old.log.element (state_of self.old) message) }
+            ≡ outputs.old.items ++ outputs_of graph.now self.old.log.element (state_of self.old) message.now) }
         ensures number { self.new.log.element ≡ self.old.log.element }
         ensures graph { self.new.log.graph ≡ self.old.log.graph }
-        ensures left { OnOk result (message.stamp < 2 ^ 64 - 1) }
+        ensures left { OnOk result (message.now.stamp < 2 ^ 64 - 1) }
         ensures last_left { OnOk result (self.old.stamp < 2 ^ 64 - 1) }
 
-        ensures end { (result ≡ Err StampEnd) ↔ IsTrue (is_ended (state_of self.old) message) }
+        ensures end { (result ≡ Err StampEnd) ↔ IsTrue (is_ended (state_of self.old) message.now) }
         ensures err { OnErr result (state_of self.new ≡ state_of self.old) }
         ensures err_outputs { OnErr result (outputs.new.items ≡ outputs.old.items) }
     {
@@ -101,7 +102,7 @@ impl<'a> Desk<'a> {
                 self.reserve(most_sent(instr), 0, outputs)?;
                 let next = fresh_numbers(self.log.element(), self.contexts, self.structures);
                 let reaction = react(&mut self.waiting, instr, next, tag, port, value)?;
-                Ok(self.conclude(instr, tag, message, stamp, reaction, outputs))
+                Ok(self.conclude(instr, tag, message, stamp, &reaction, outputs))
             }
             Payload::Read { cell, reply } => {
                 self.reserve(1, 0, outputs)?;
@@ -122,6 +123,7 @@ impl<'a> Desk<'a> {
     }
 
     /// Makes room for an event that sends so many messages, to so many replies.
+    #[inline(always)]
     fn reserve(
         &mut self,
         sent: usize,
@@ -144,68 +146,70 @@ impl<'a> Desk<'a> {
     }
 
     /// Sends what was fired, and records the event. There is room for it. Takes no memory.
+    #[inline(always)]
     fn conclude(
         &mut self,
         instr: &Instr,
         tag: Tag,
-        message: Message,
+        message: &Message,
         stamp: u64,
-        reaction: Reaction,
+        reaction: &Reaction,
         outputs: &mut Vec<Message>,
     ) -> Step
         requires room { 0 < self.old.log.room }
         requires room_aside { 0 < self.old.log.room_aside }
-        requires own { slice_get self.old.log.graph.instrs (tag_of message.payload).instr ≡ Some instr.now }
-        requires tag { tag ≡ tag_of message.payload }
+        requires own { slice_get self.old.log.graph.instrs (tag_of message.now.payload).instr ≡ Some instr.now }
+        requires tag { tag ≡ tag_of message.now.payload }
         requires room_in_outputs { vec_len outputs.old + most_sent instr.now ≤ vec_capacity outputs.old }
         requires graph { IsGraph self.old.log.graph }
         requires valid { IsValid self.old.log.graph }
         requires counted { self.old.contexts + 1 < 2 ^ 64 }
         requires numbered { self.old.structures + 1 < 2 ^ 64 }
 
-        ensures step { result ≡ full_step message.payload reaction.verdict }
+        ensures step { result ≡ full_step message.now.payload reaction.now.verdict }
         ensures waiting { self.new.waiting ≡ self.old.waiting }
         ensures cells { self.new.cells ≡ self.old.cells }
         ensures stamp { self.new.stamp ≡ stamp }
-        ensures contexts { self.new.contexts ≡ self.old.contexts + made_by reaction.fired }
-        ensures structures { self.new.structures ≡ self.old.structures + allocated_by instr.now.op reaction.fired }
+        ensures contexts { self.new.contexts ≡ self.old.contexts + made_by reaction.now.fired }
+        ensures structures { self.new.structures ≡ self.old.structures + allocated_by instr.now.op reaction.now.fired }
         ensures number { self.new.log.element ≡ self.old.log.element }
         ensures graph { self.new.log.graph ≡ self.old.log.graph }
         ensures events { self.new.log.events ≡ self.old.log.events ++ record {
           element = self.old.log.element;
           stamp = stamp;
-          message = message;
-          fired = reaction.fired;
+          message = message.now;
+          fired = reaction.now.fired;
           outputs = numbered self.old.log.element (length self.old.log.events) stamp 0
-              (sent (Some instr.now.op) (arcs_on (side_of reaction.fired) instr.now) tag reaction.fired);
-          step = full_step message.payload reaction.verdict;
+              (sent (Some instr.now.op) (arcs_on (side_of reaction.now.fired) instr.now) tag reaction.now.fired);
+          step = full_step message.now.payload reaction.now.verdict;
         } ∷ [] }
         ensures outputs { outputs.new.items ≡ outputs.old.items
             ++ numbered self.old.log.element (length self.old.log.events) stamp 0
-            (sent (Some instr.now.op) (arcs_on (side_of reaction.fired) instr.now) tag reaction.fired) }
+            (sent (Some instr.now.op) (arcs_on (side_of reaction.now.fired) instr.now) tag reaction.now.fired) }
     {
         let envelope = Envelope {
             number: self.log.element(),
             position: self.log.len(),
             stamp,
         };
-        send(instr, tag, reaction.fired, envelope, outputs);
-        self.log.push(Handled {
+        send(instr, tag, &reaction.fired, envelope, outputs);
+        self.log.push(Handling {
             message,
             stamp,
             reaction,
             replies: NO_REPLIES,
         });
         self.stamp = stamp;
-        self.contexts += made_by(reaction.fired);
-        self.structures += allocated_by(instr.op, reaction.fired);
+        self.contexts += made_by(&reaction.fired);
+        self.structures += allocated_by(instr.op, &reaction.fired);
         full_step(&message.payload, reaction.verdict)
     }
 
     /// Sends the answer to a read, if it has one, and records the event. There is room for it. Takes no memory.
+    #[inline(always)]
     fn answer(
         &mut self,
-        read: Message,
+        read: &Message,
         stamp: u64,
         answer: ReadAnswer,
         outputs: &mut Vec<Message>,
@@ -220,10 +224,10 @@ impl<'a> Desk<'a> {
           events = self.old.log.events ++ record {
             element = self.old.log.element;
             stamp = stamp;
-            message = read;
-            fired = answer_fired (tag_of read.payload) answer;
+            message = read.now;
+            fired = answer_fired (tag_of read.now.payload) answer;
             outputs = numbered self.old.log.element (length self.old.log.events) stamp 0
-                (answer_sends (tag_of read.payload) answer);
+                (answer_sends (tag_of read.now.payload) answer);
             step = Went;
           } ∷ [];
         } }
@@ -231,7 +235,7 @@ impl<'a> Desk<'a> {
         ensures graph { self.new.log.graph ≡ self.old.log.graph }
         ensures outputs { outputs.new.items ≡ outputs.old.items
             ++ numbered self.old.log.element (length self.old.log.events) stamp 0
-            (answer_sends (tag_of read.payload) answer) }
+            (answer_sends (tag_of read.now.payload) answer) }
     {
         let envelope = Envelope {
             number: self.log.element(),
@@ -243,10 +247,10 @@ impl<'a> Desk<'a> {
         if let ReadAnswer::Now(value) = answer {
             outputs.push_reserved(message(envelope, 0, token_at(reply, value)));
         }
-        self.log.push(Handled {
+        self.log.push(Handling {
             message: read,
             stamp,
-            reaction: Reaction {
+            reaction: &Reaction {
                 fired,
                 verdict: Verdict::Went,
             },
@@ -258,9 +262,10 @@ impl<'a> Desk<'a> {
 
     /// Sends the value of a write to the replies that waited for it, and records the event. There is room for it. Takes
     /// no memory.
+    #[inline(always)]
     fn fill(
         &mut self,
-        write: Message,
+        write: &Message,
         stamp: u64,
         answer: &WriteAnswer,
         outputs: &mut Vec<Message>,
@@ -270,24 +275,24 @@ impl<'a> Desk<'a> {
         requires room_for_replies { length (readers_of answer.now) ≤ self.old.log.room_for_replies }
         requires room_in_outputs { vec_len outputs.old + length (readers_of answer.now) ≤ vec_capacity outputs.old }
 
-        ensures step { result ≡ full_step write.payload (fill_verdict (tag_of write.payload) answer.now) }
+        ensures step { result ≡ full_step write.now.payload (fill_verdict (tag_of write.now.payload) answer.now) }
         ensures state { state_of self.new ≡ record (state_of self.old) {
           stamp = stamp;
           events = self.old.log.events ++ record {
             element = self.old.log.element;
             stamp = stamp;
-            message = write;
+            message = write.now;
             fired = Nothing;
             outputs = numbered self.old.log.element (length self.old.log.events) stamp 0
-                (fill_sends (value_of write.payload) answer.now);
-            step = full_step write.payload (fill_verdict (tag_of write.payload) answer.now);
+                (fill_sends (value_of write.now.payload) answer.now);
+            step = full_step write.now.payload (fill_verdict (tag_of write.now.payload) answer.now);
           } ∷ [];
         } }
         ensures number { self.new.log.element ≡ self.old.log.element }
         ensures graph { self.new.log.graph ≡ self.old.log.graph }
         ensures outputs { outputs.new.items ≡ outputs.old.items
             ++ numbered self.old.log.element (length self.old.log.events) stamp 0
-            (fill_sends (value_of write.payload) answer.now) }
+            (fill_sends (value_of write.now.payload) answer.now) }
     {
         let envelope = Envelope {
             number: self.log.element(),
@@ -304,10 +309,10 @@ impl<'a> Desk<'a> {
             &mut self.log,
             outputs,
         );
-        self.log.push(Handled {
+        self.log.push(Handling {
             message: write,
             stamp,
-            reaction: Reaction {
+            reaction: &Reaction {
                 fired: Fired::Nothing,
                 verdict,
             },

@@ -72,6 +72,7 @@ impl<'a> Element<'a> {
     /// Handles a message that is for this element: appends what is sent for it, and answers what it
     /// came to (docs/MACHINE.md, "Element step"). After an error nothing has changed, and the same
     /// message can be given again.
+    #[inline(always)]
     pub fn take(&mut self, message: Message, outputs: &mut Vec<Message>) -> Result<Step, TakeError>
         requires { IsFor self.old.graph self.old.count self.old.number message }
 
@@ -90,12 +91,13 @@ impl<'a> Element<'a> {
         ensures err_outputs { OnErr result (outputs.new.items ≡ outputs.old.items) }
     {
         let graph = self.desk.log.graph();
-        let step = self.desk.take(graph.graph(), message, outputs)?;
-        self.went = still_went(self.went, step);
+        let step = self.desk.take(graph.graph(), &message, outputs)?;
+        self.went = still_went(self.went, &step);
         Ok(step)
     }
 
     /// An upper bound on what the element sends for a message that fits. Takes no memory.
+    #[inline(always)]
     pub fn most_outputs(&self, message: &Message) -> usize
         requires { Fits self.now.graph message.now }
         ensures { length (outputs_of self.now.graph self.now.number self.now.state message.now) ≤ result }
@@ -110,6 +112,7 @@ impl<'a> Element<'a> {
     }
 
     /// Whether no stamp is left for the message. Takes no memory.
+    #[inline(always)]
     pub fn is_ended(&self, message: &Message) -> bool
         ensures { result ≡ is_ended self.now.state message.now }
     {
@@ -155,8 +158,12 @@ impl<'a> Element<'a> {
 }
 
 /// Whether every event went well, this one taken in.
-fn still_went(went: bool, step: Step) -> bool
-    ensures { IsTrue result ↔ (IsTrue went × (step ≡ Went)) }
+#[inline(always)]
+fn still_went(went: bool, step: &Step) -> bool
+    ensures { IsTrue result ↔ (IsTrue went × (step.now ≡ Went)) }
 {
-    went && step == Step::Went
+    match *step {
+        Step::Went => went,
+        Step::Fault(_) | Step::Stuck => false,
+    }
 }

@@ -28,6 +28,7 @@ use id_tag::{Context, Message, Payload, Tag, Value};
 use std::alloc::AllocError;
 
 /// The stamp of the next event, one above both, where there is one.
+#[inline(always)]
 pub(crate) fn next_stamp(last: u64, message: u64) -> Result<u64, TakeError>
     ensures ok { IfOk result (λ stamp. stamp ≡ max last message + 1) }
     ensures below { OnOk result (message < 2 ^ 64 - 1) }
@@ -43,6 +44,7 @@ pub(crate) fn next_stamp(last: u64, message: u64) -> Result<u64, TakeError>
 }
 
 /// An upper bound on what one message at this instruction sends.
+#[inline(always)]
 pub(crate) fn most_sent(instr: &Instr) -> usize
     ensures { result ≡ most_sent instr.now }
 {
@@ -51,6 +53,7 @@ pub(crate) fn most_sent(instr: &Instr) -> usize
 }
 
 /// Lets a token come to its instruction, at an element with these next numbers. After an error nothing has changed.
+#[inline(always)]
 pub(crate) fn react(
     waiting: &mut Waiting,
     instr: &Instr,
@@ -73,12 +76,13 @@ pub(crate) fn react(
     ensures err { OnErr result (waiting.new ≡ waiting.old) }
 {
     let arrival = arrive(waiting, instr.op, tag, port, value)?;
-    let fired = firing(instr, tag, next, arrival);
-    let verdict = verdict(arrival, fired);
+    let fired = firing(instr, tag, next, &arrival);
+    let verdict = verdict(&arrival, &fired);
     Ok(Reaction { fired, verdict })
 }
 
 /// Fires an instruction of one port, and offers a token for one of two ports. After an error nothing has changed.
+#[inline(always)]
 fn arrive(
     waiting: &mut Waiting,
     op: Op,
@@ -101,17 +105,19 @@ fn arrive(
 }
 
 /// What the instruction does with what arrived: nothing where the token waits or is blocked.
-fn firing(instr: &Instr, tag: Tag, next: Fresh, arrival: Arrival) -> Fired
+#[inline(always)]
+fn firing(instr: &Instr, tag: Tag, next: Fresh, arrival: &Arrival) -> Fired
     requires { tag.iteration < 2 ^ 64 - 1 }
-    ensures { result ≡ firing_of instr.now tag next arrival }
+    ensures { result ≡ firing_of instr.now tag next arrival.now }
 {
-    match arrival {
+    match *arrival {
         Arrival::Fires(operands) => fire(instr, tag, operands, next),
         Arrival::Waits | Arrival::Blocked => Fired::Nothing,
     }
 }
 
 /// The numbers that an element gives next, where it has made so many contexts and so many structures. Takes no memory.
+#[inline(always)]
 pub(crate) fn fresh_numbers(number: u32, contexts: u64, structures: u64) -> Fresh
     requires contexts { contexts + 1 < 2 ^ 64 }
     requires structures { structures + 1 < 2 ^ 64 }
@@ -128,21 +134,26 @@ pub(crate) fn fresh_numbers(number: u32, contexts: u64, structures: u64) -> Fres
 }
 
 /// How many contexts a firing takes. Takes no memory.
-pub(crate) fn made_by(fired: Fired) -> u64
-    ensures { result ≡ made_by fired }
+#[inline(always)]
+pub(crate) fn made_by(fired: &Fired) -> u64
+    ensures { result ≡ made_by fired.now }
 {
-    match fired {
+    match *fired {
         Fired::Entered(_) => 1,
         _ => 0,
     }
 }
 
 /// How many structures a firing of the operator takes. Takes no memory.
-pub(crate) fn allocated_by(op: Op, fired: Fired) -> u64
-    ensures { result ≡ allocated_by op fired }
+#[inline(always)]
+pub(crate) fn allocated_by(op: Op, fired: &Fired) -> u64
+    ensures { result ≡ allocated_by op fired.now }
 {
-    match (op, fired) {
-        (Op::Alloc, Fired::Out(_)) => 1,
+    match op {
+        Op::Alloc => match *fired {
+            Fired::Out(_) => 1,
+            _ => 0,
+        },
         _ => 0,
     }
 }
@@ -179,31 +190,35 @@ fn second_verdict(first: Tag, origin: Tag) -> Verdict
 }
 
 /// What the record keeps of an event.
-fn verdict(arrival: Arrival, fired: Fired) -> Verdict
-    ensures { result ≡ verdict_of arrival fired }
+#[inline(always)]
+fn verdict(arrival: &Arrival, fired: &Fired) -> Verdict
+    ensures { result ≡ verdict_of arrival.now fired.now }
 {
-    match (arrival, fired) {
-        (Arrival::Blocked, _) => Verdict::Stuck,
-        (_, Fired::Failed(fault)) => Verdict::Failed(fault),
-        _ => Verdict::Went,
+    match *arrival {
+        Arrival::Blocked => Verdict::Stuck,
+        Arrival::Fires(_) | Arrival::Waits => match *fired {
+            Fired::Failed(fault) => Verdict::Failed(fault),
+            _ => Verdict::Went,
+        },
     }
 }
 
 /// Appends the outputs of a firing, for which there is room. Takes no memory.
+#[inline(always)]
 pub(crate) fn send(
     instr: &Instr,
     tag: Tag,
-    fired: Fired,
+    fired: &Fired,
     envelope: Envelope,
     outputs: &mut Vec<Message>,
 )
     requires room { vec_len outputs.old + most_sent instr.now ≤ vec_capacity outputs.old }
     requires second { HasSecond (Some instr.now.op) }
     ensures { outputs.new.items ≡ outputs.old.items ++ numbered envelope.number envelope.position envelope.stamp 0
-        (sent (Some instr.now.op) (arcs_on (side_of fired) instr.now) tag fired) }
+        (sent (Some instr.now.op) (arcs_on (side_of fired.now) instr.now) tag fired.now) }
 {
     let dests = chosen(instr, fired);
-    match fired {
+    match *fired {
         Fired::Out(value) | Fired::Side(_, value) => send_all(dests, tag, value, envelope, outputs),
         Fired::Moved(iteration, value) => {
             send_all(dests, moved_to(tag, iteration), value, envelope, outputs)
@@ -258,6 +273,7 @@ fn send_start(
 }
 
 /// Appends one token for each destination, in order.
+#[inline(always)]
 fn send_all(dests: &[Dest], tag: Tag, value: Value, envelope: Envelope, outputs: &mut Vec<Message>)
     requires { vec_len outputs.old + length dests.now ≤ vec_capacity outputs.old }
     ensures items { outputs.new.items

@@ -14,6 +14,7 @@ use Rattle.id_value.specs.declared.FaultKind.TheVariants as fault
 use Rattle.id_record.specs.declared.step.Verdict.TheVariants as verdict
 use Rattle.id_record.specs.declared.line.Reaction.{Reaction}
 use Rattle.id_record.specs.declared.line.Handled.{Handled}
+use Rattle.id_record.specs.declared.line.Handling.{Handling}
 use Rattle.id_record.specs.declared.line.Replies.{Replies}
 use Rattle.id_record.specs.declared.line.Line.{Line}
 use Rattle.id_record.specs.declared.line.Carried.{Carried}
@@ -27,6 +28,10 @@ use Rattle.id_record.specs.declared.line.Effect.TheVariants as effect
 -- no replies
 abbrev pub no_replies : Replies
 no_replies = record { from = 0; count = 0 }
+
+-- what the record keeps of a message that is being handled
+abbrev pub handled : Handling → Handled
+handled h = record { message = h.message.now; stamp = h.stamp; reaction = h.reaction.now; replies = h.replies }
 
 -- the value that a line carries, where its event names this tag beside that of its message
 abbrev pub carried_value : Tag → Carried → Option Value

@@ -8,7 +8,9 @@ ghost use Rattle.id_record.specs.Records.{dests_at, replies_in};
 ghost use Rattle.id_valid.specs.Roles.{op_at};
 ghost use Rattle.id_graph.specs.Graph.{IsGraph};
 
-use crate::line::{Handled, Line, Replies, instr_in, line_aside, packed, payload_in, unpack};
+use crate::line::{
+    Handled, Handling, Line, Replies, instr_in, line_aside, packed, payload_in, unpack,
+};
 use crate::outputs::{Envelope, Outputs, chosen};
 use crate::step::{Fault, Step, Verdict};
 use id_graph::{Dest, Graph, Op};
@@ -78,7 +80,7 @@ impl<'a> Model for Events<'a> {
 impl<'a> Record<'a> {
     ghost use Rattle.std.specs.Prelude.{◌≡◌, ◌<◌, ◌≤◌, ◌+◌, ◌++◌, ◌∷◌, [], length, option_map, slice_get, Some, OnOk};
     ghost use Rattle.id_record.specs.Events.{tag_of};
-    ghost use Rattle.id_record.specs.Lines.{AreThere};
+    ghost use Rattle.id_record.specs.Lines.{AreThere, handled};
     ghost use Rattle.id_record.specs.Records.{event_of_handled};
 
     /// The empty record of the element of this number. Takes no memory.
@@ -97,6 +99,7 @@ impl<'a> Record<'a> {
     }
 
     /// Makes room for one more event, and for so many replies.
+    #[inline(always)]
     pub fn reserve(&mut self, replies: usize) -> Result<(), AllocError>
         ensures events { self.new.events ≡ self.old.events }
         ensures replies { self.new.replies ≡ self.old.replies }
@@ -134,26 +137,34 @@ impl<'a> Record<'a> {
     }
 
     /// Adds an event at the end. Takes no memory.
-    pub fn push(&mut self, event: Handled)
+    #[inline(always)]
+    pub fn push(&mut self, event: Handling<'_>)
         requires room { 0 < self.old.room }
         requires room_aside { 0 < self.old.room_aside }
         requires replies { AreThere self.old.replies event.replies }
         ensures element { self.new.element ≡ self.old.element }
         ensures graph { self.new.graph ≡ self.old.graph }
         ensures events { self.new.events ≡ self.old.events
-            ++ event_of_handled self.old.graph self.old.element self.old.replies (length self.old.events) event ∷ [] }
+            ++ event_of_handled self.old.graph self.old.element self.old.replies (length self.old.events)
+            (handled event.entry) ∷ [] }
     {
         match packed(&event) {
             Some(line) => add_line(&mut self.lines, line),
             None => {
                 let index = self.asides.len();
-                self.asides.push_reserved(event);
+                self.asides.push_reserved(Handled {
+                    message: *event.message,
+                    stamp: event.stamp,
+                    reaction: *event.reaction,
+                    replies: event.replies,
+                });
                 add_line(&mut self.lines, line_aside(index));
             }
         }
     }
 
     /// The events, in order. Takes no memory.
+    #[inline(always)]
     pub fn events(&self) -> Events<'_>
         ensures { result ≡ self.now.events }
     {
@@ -175,12 +186,14 @@ impl<'a> Record<'a> {
     }
 
     /// How many events there are. Takes no memory.
+    #[inline(always)]
     pub fn len(&self) -> usize
         ensures { result ≡ length self.now.events }
     {
         self.lines.len()
     }
 
+    #[inline(always)]
     fn payload(&self, position: usize) -> Payload
         requires { position < length self.now.events }
         ensures { option_map (λ e. e.message.payload) (slice_get self.now.events position) ≡ Some result }
@@ -199,6 +212,7 @@ impl<'a> Record<'a> {
         instr_in(self.asides.as_slice(), line)
     }
 
+    #[inline(always)]
     fn event(&self, position: usize) -> Event<'_>
         requires { position < length self.now.events }
         ensures { slice_get self.now.events position ≡ Some (record {
@@ -226,7 +240,7 @@ impl<'a> Record<'a> {
             fired: handled.reaction.fired,
             outputs: Outputs::new(
                 op_at(graph, tag.instr),
-                dests_at(graph, tag.instr, handled.reaction.fired),
+                dests_at(graph, tag.instr, &handled.reaction.fired),
                 tag,
                 handled.reaction.fired,
                 value_of(&handled.message.payload),
@@ -250,6 +264,7 @@ impl<'a> Events<'a> {
     }
 
     /// What the message of the event at a position says, without the rest of the event. Takes no memory.
+    #[inline(always)]
     pub fn payload(&self, position: usize) -> Payload
         requires { position < length self.now }
         ensures { option_map (λ e. e.message.payload) (slice_get self.now position) ≡ Some result }
@@ -267,6 +282,7 @@ impl<'a> Events<'a> {
     }
 
     /// The event at a position, from 0. Takes no memory.
+    #[inline(always)]
     pub fn event(&self, position: usize) -> Event<'a>
         requires { position < length self.now }
         ensures { slice_get self.now position ≡ Some (record {
@@ -284,6 +300,7 @@ impl<'a> Events<'a> {
 }
 
 /// Adds a line at the end. Takes no memory.
+#[inline(always)]
 fn add_line(lines: &mut Vec<Line>, line: Line)
     requires { vec_len lines.old < vec_capacity lines.old }
     ensures { lines.new.items ≡ lines.old.items ++ line ∷ [] }
@@ -292,6 +309,7 @@ fn add_line(lines: &mut Vec<Line>, line: Line)
 }
 
 /// What the instruction of this number does, if there is one.
+#[inline(always)]
 fn op_at(graph: &Graph, number: u32) -> Option<Op>
     ensures op { result ≡ op_at graph.now number }
     ensures graph { IsGraph graph.now }
@@ -301,8 +319,9 @@ fn op_at(graph: &Graph, number: u32) -> Option<Op>
 }
 
 /// The destinations of the instruction of this number, on the side to which it fired.
-fn dests_at(graph: &Graph, number: u32, fired: Fired) -> &[Dest]
-    ensures { result.now ≡ dests_at graph.now number (side_of fired) }
+#[inline(always)]
+fn dests_at<'g>(graph: &'g Graph, number: u32, fired: &Fired) -> &'g [Dest]
+    ensures { result.now ≡ dests_at graph.now number (side_of fired.now) }
 {
     match graph.instrs().get(number as usize) {
         Some(instr) => chosen(instr, fired),
@@ -311,6 +330,7 @@ fn dests_at(graph: &Graph, number: u32, fired: Fired) -> &[Dest]
 }
 
 /// The replies of an event, among all those of its record.
+#[inline(always)]
 fn replies_in(all: &[Tag], replies: Replies) -> &[Tag]
     requires { AreThere all.now replies }
     ensures { result.now ≡ replies_in all.now replies }
@@ -319,6 +339,7 @@ fn replies_in(all: &[Tag], replies: Replies) -> &[Tag]
 }
 
 /// The tag that a payload names: that of a token, of a read's reply, of a write's origin.
+#[inline(always)]
 pub fn tag_of(payload: &Payload) -> Tag
     ensures { result ≡ tag_of payload.now }
 {
@@ -330,6 +351,7 @@ pub fn tag_of(payload: &Payload) -> Tag
 }
 
 /// The value that a payload carries: a read carries none, and a signal stands for it.
+#[inline(always)]
 pub fn value_of(payload: &Payload) -> Value
     ensures { result ≡ value_of payload.now }
 {
@@ -340,6 +362,7 @@ pub fn value_of(payload: &Payload) -> Value
 }
 
 /// What a verdict on a message says in full.
+#[inline(always)]
 pub fn full_step(payload: &Payload, verdict: Verdict) -> Step
     ensures { result ≡ full_step payload.now verdict }
 {

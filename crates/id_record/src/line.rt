@@ -1,6 +1,6 @@
 //! How the record keeps an event: in one line of 64 bytes, or aside where it does not fit in one.
 
-ghost use Rattle.std.specs.Prelude.{◌≡◌, Some, IfSome, IsTrue};
+ghost use Rattle.std.specs.Prelude.{◌≡◌, ℤ, Some, IfSome, IsTrue};
 ghost use Rattle.id_tag.specs.declared.Tag.{Tag};
 ghost use Rattle.id_tag.specs.declared.Value.{Value};
 ghost use Rattle.id_tag.specs.declared.Payload.TheVariants.{Token};
@@ -9,8 +9,9 @@ ghost use Rattle.id_tag.specs.declared.Value.TheVariants as value;
 ghost use Rattle.id_record.specs.declared.step.Verdict.TheVariants.{Went, Failed};
 ghost use Rattle.id_record.specs.declared.line.Carried.TheVariants.{Aside};
 ghost use Rattle.id_record.specs.declared.line.Exit.{Exit};
-ghost use Rattle.id_record.specs.Lines.{IsPacked, IsWithin, Names, carried_value, exit_of, fired_at, no_replies};
-ghost use Rattle.id_record.specs.Lines.{number_in, number_of, own, reaction_of, sender_of, target_in, unpacked};
+ghost use Rattle.id_record.specs.Lines.{IsPacked, IsWithin, NamedBy, Names, carried_value, exit_of, fired_at, handled};
+ghost use Rattle.id_record.specs.Lines.{no_replies, number_in, number_of, own, reaction_of, sender_of, target_in};
+ghost use Rattle.id_record.specs.Lines.{unpacked};
 ghost use Rattle.id_record.specs.Events.{tag_of, value_of};
 
 use crate::history::{tag_of, value_of};
@@ -43,6 +44,15 @@ pub struct Handled {
     pub message: Message,
     pub stamp: u64,
     pub reaction: Reaction,
+    pub replies: Replies,
+}
+
+/// A message that is being handled, with what `Handled` keeps of it. It is too large to be passed around by value.
+#[derive(Clone, Copy)]
+pub struct Handling<'a> {
+    pub message: &'a Message,
+    pub stamp: u64,
+    pub reaction: &'a Reaction,
     pub replies: Replies,
 }
 
@@ -111,13 +121,14 @@ enum Effect {
 }
 
 /// The event in a line, where it fits in one.
-pub(crate) fn packed(event: &Handled) -> Option<Line>
-    ensures { IfSome result (λ l. IsPacked event.now l) }
+#[inline(always)]
+pub(crate) fn packed(event: &Handling<'_>) -> Option<Line>
+    ensures { IfSome result (λ l. IsPacked (handled event.now) l) }
 {
     let value = value_of(&event.message.payload);
-    let to = target(value, event.reaction.fired);
+    let to = target(value, &event.reaction.fired);
     match (
-        carry(value, event.reaction.fired),
+        carry(value, &event.reaction.fired),
         effect_of(value, event.reaction),
     ) {
         (Some(carried), Some(effect)) => narrowed(event, carried, effect, to),
@@ -152,6 +163,7 @@ pub(crate) fn line_aside(index: usize) -> Line
 }
 
 /// The event of a line.
+#[inline(always)]
 pub(crate) fn unpack(asides: &[Handled], line: &Line) -> Handled
     requires { IsWithin asides.now line.now }
     ensures { result ≡ unpacked asides.now line.now }
@@ -194,6 +206,7 @@ pub(crate) fn instr_in(asides: &[Handled], line: &Line) -> u32
 }
 
 /// The context of these numbers, as a value.
+#[inline(always)]
 fn context_value(element: u32, serial: u32) -> Value
     ensures { result ≡ value.Context (record { element = element; serial = serial }) }
 {
@@ -204,6 +217,7 @@ fn context_value(element: u32, serial: u32) -> Value
 }
 
 /// The tag that the event of a line names beside that of its message.
+#[inline(always)]
 fn target_in(line: &Line) -> Tag
     ensures { result ≡ target_in line.now }
 {
@@ -218,21 +232,25 @@ fn target_in(line: &Line) -> Tag
 }
 
 /// A value that a line has room for, where the instruction fired this.
-fn carry(value: Value, fired: Fired) -> Option<Carried>
-    ensures { IfSome result (λ c. (t : Tag) → Names fired value t → carried_value t c ≡ Some value) }
+#[inline(always)]
+fn carry(value: Value, fired: &Fired) -> Option<Carried>
+    ensures { IfSome result (λ c. (t : Tag) → Names fired.now value t → carried_value t c ≡ Some value) }
 {
-    match (value, fired) {
-        (Value::Signal, _) => Some(Carried::Signal),
-        (Value::Int(number), _) => Some(Carried::Int(number)),
-        (Value::Bool(truth), _) => Some(Carried::Bool(truth)),
-        (Value::Structure(_) | Value::Address(_), _) => None,
-        (Value::Context(context), _) => carry_context(context),
-        (Value::Continuation(_), Fired::Nothing) => Some(Carried::Continuation),
-        (Value::Continuation(_), _) => None,
+    match value {
+        Value::Signal => Some(Carried::Signal),
+        Value::Int(number) => Some(Carried::Int(number)),
+        Value::Bool(truth) => Some(Carried::Bool(truth)),
+        Value::Structure(_) | Value::Address(_) => None,
+        Value::Context(context) => carry_context(context),
+        Value::Continuation(_) => match *fired {
+            Fired::Nothing => Some(Carried::Continuation),
+            _ => None,
+        },
     }
 }
 
 /// A context that a line has room for.
+#[inline(always)]
 fn carry_context(context: Context) -> Option<Carried>
     ensures { IfSome result (λ c. (t : Tag) → carried_value t c ≡ Some (value.Context context)) }
 {
@@ -244,11 +262,12 @@ fn carry_context(context: Context) -> Option<Carried>
 }
 
 /// The tag that an event names beside that of its message.
-fn target(value: Value, fired: Fired) -> Tag
-    ensures { Names fired value result }
+#[inline(always)]
+fn target(value: Value, fired: &Fired) -> Tag
+    ensures { Names fired.now value result }
 {
-    match (fired, value) {
-        (Fired::Moved(iteration, _), _) => Tag {
+    match *fired {
+        Fired::Moved(iteration, _) => Tag {
             context: Context {
                 element: 0,
                 serial: 0,
@@ -256,43 +275,86 @@ fn target(value: Value, fired: Fired) -> Tag
             iteration,
             instr: 0,
         },
-        (Fired::Entered(context), _) => tag_within(context, 0),
-        (Fired::Sent(tag, _), _) => tag,
-        (Fired::Nothing, Value::Continuation(tag)) => tag,
-        _ => Tag {
-            context: Context {
-                element: 0,
-                serial: 0,
-            },
-            iteration: 0,
-            instr: 0,
-        },
+        Fired::Entered(context) => tag_within(context, 0),
+        Fired::Sent(tag, _) => tag,
+        Fired::Nothing => named_by(value),
+        _ => NO_TAG,
     }
 }
 
-/// What the instruction made of the value, where a line has room for it.
-fn effect_of(value: Value, reaction: Reaction) -> Option<Effect>
-    ensures { IfSome result (λ e. (t : Tag) → Names reaction.fired value t →
-        reaction_of e (exit_of reaction.fired) (number_of reaction.fired t.context.serial) t value ≡ reaction) }
+/// The tag that a value names, or else any.
+#[inline(always)]
+fn named_by(value: Value) -> Tag
+    ensures { NamedBy value result }
 {
-    match (reaction.fired, reaction.verdict) {
-        (Fired::Nothing, Verdict::Stuck) => Some(Effect::Stuck),
-        (Fired::Nothing, Verdict::Went) => Some(Effect::Nothing),
-        (Fired::Failed(FaultKind::Overflow), Verdict::Failed(FaultKind::Overflow)) => {
-            Some(Effect::Overflow)
-        }
-        (Fired::Failed(FaultKind::DivisionByZero), Verdict::Failed(FaultKind::DivisionByZero)) =>
-            Some(Effect::DivisionByZero),
-        (Fired::Out(value), Verdict::Went) => going_out(value),
-        (Fired::Side(_, value), Verdict::Went) => going_out(value),
-        (Fired::Moved(_, moved), Verdict::Went) if same_value(moved, value) => Some(Effect::Moved),
-        (Fired::Entered(_), Verdict::Went) => Some(Effect::Entered),
-        (Fired::Sent(_, sent), Verdict::Went) if same_value(sent, value) => Some(Effect::Sent),
+    match value {
+        Value::Continuation(tag) => tag,
+        _ => NO_TAG,
+    }
+}
+
+const NO_TAG: Tag = Tag {
+    context: Context {
+        element: 0,
+        serial: 0,
+    },
+    iteration: 0,
+    instr: 0,
+};
+
+/// What the instruction made of the value, where a line has room for it.
+#[inline(always)]
+fn effect_of(value: Value, reaction: &Reaction) -> Option<Effect>
+    ensures { IfSome result (λ e. (t : Tag) → Names reaction.now.fired value t →
+        reaction_of e (exit_of reaction.now.fired) (number_of reaction.now.fired t.context.serial) t value
+        ≡ reaction.now) }
+{
+    match reaction.verdict {
+        Verdict::Went => effect_of_firing(value, &reaction.fired),
+        Verdict::Failed(fault) => effect_of_fault(fault, &reaction.fired),
+        Verdict::Stuck => match reaction.fired {
+            Fired::Nothing => Some(Effect::Stuck),
+            _ => None,
+        },
+        Verdict::Second(_) => None,
+    }
+}
+
+/// The effect of a firing that went well, where a line has room for it.
+#[inline(always)]
+fn effect_of_firing(value: Value, fired: &Fired) -> Option<Effect>
+    ensures { IfSome result (λ e. (t : Tag) → Names fired.now value t →
+        reaction_of e (exit_of fired.now) (number_of fired.now t.context.serial) t value
+        ≡ record { fired = fired.now; verdict = Went }) }
+{
+    match *fired {
+        Fired::Nothing => Some(Effect::Nothing),
+        Fired::Out(value) => going_out(value),
+        Fired::Side(_, value) => going_out(value),
+        Fired::Moved(_, moved) if same_value(moved, value) => Some(Effect::Moved),
+        Fired::Entered(_) => Some(Effect::Entered),
+        Fired::Sent(_, sent) if same_value(sent, value) => Some(Effect::Sent),
+        _ => None,
+    }
+}
+
+/// The effect of a fault, where the firing is of the same fault.
+fn effect_of_fault(fault: FaultKind, fired: &Fired) -> Option<Effect>
+    ensures { IfSome result (λ e. (x : Exit) (n : ℤ) (t : Tag) (v : Value) →
+        reaction_of e x n t v ≡ record { fired = fired.now; verdict = Failed fault }) }
+{
+    let Fired::Failed(found) = *fired else {
+        return None;
+    };
+    match (fault, found) {
+        (FaultKind::Overflow, FaultKind::Overflow) => Some(Effect::Overflow),
+        (FaultKind::DivisionByZero, FaultKind::DivisionByZero) => Some(Effect::DivisionByZero),
         _ => None,
     }
 }
 
 /// Whether two values are one, addresses aside: a line has no room for them.
+#[inline(always)]
 fn same_value(a: Value, b: Value) -> bool
     ensures { IsTrue result → a ≡ b }
 {
@@ -308,6 +370,7 @@ fn same_value(a: Value, b: Value) -> bool
 }
 
 /// The effect of a value's going out, where a line has room for it.
+#[inline(always)]
 fn going_out(value: Value) -> Option<Effect>
     ensures { IfSome result (λ e. (x : Exit) (t : Tag) (v : Value) →
         reaction_of e x (number_in value) t v ≡ record { fired = fired_at x value; verdict = Went }) }
@@ -323,10 +386,11 @@ fn going_out(value: Value) -> Option<Effect>
 }
 
 /// The number that went out, or else the serial number of the context that the event names.
-fn number(fired: Fired, serial: u32) -> i64
-    ensures { result ≡ number_of fired serial }
+#[inline(always)]
+fn number(fired: &Fired, serial: u32) -> i64
+    ensures { result ≡ number_of fired.now serial }
 {
-    match fired {
+    match *fired {
         Fired::Out(value) => number_in(value),
         Fired::Side(_, value) => number_in(value),
         _ => i64::from(serial),
@@ -344,10 +408,11 @@ fn number_in(value: Value) -> i64
 }
 
 /// Where the value went out.
-fn exit_of(fired: Fired) -> Exit
-    ensures { result ≡ exit_of fired }
+#[inline(always)]
+fn exit_of(fired: &Fired) -> Exit
+    ensures { result ≡ exit_of fired.now }
 {
-    match fired {
+    match *fired {
         Fired::Side(true, _) => Exit::True,
         Fired::Side(false, _) => Exit::False,
         _ => Exit::Only,
@@ -357,15 +422,17 @@ fn exit_of(fired: Fired) -> Exit
 const LARGEST: u64 = 0xffff_ffff;
 
 /// The event in a line with this value, this effect and this tag beside that of its message, where its numbers fit.
-fn narrowed(event: &Handled, carried: Carried, effect: Effect, to: Tag) -> Option<Line>
+#[inline(always)]
+fn narrowed(event: &Handling<'_>, carried: Carried, effect: Effect, to: Tag) -> Option<Line>
     ensures carried { IfSome result (λ l. l.carried ≡ carried) }
     ensures effect { IfSome result (λ l. l.effect ≡ effect) }
-    ensures exit { IfSome result (λ l. l.exit ≡ exit_of event.now.reaction.fired) }
-    ensures number { IfSome result (λ l. l.result ≡ number_of event.now.reaction.fired to.context.serial) }
+    ensures exit { IfSome result (λ l. l.exit ≡ exit_of event.now.reaction.now.fired) }
+    ensures number { IfSome result (λ l. l.result ≡ number_of event.now.reaction.now.fired to.context.serial) }
     ensures to_element { IfSome result (λ l. l.to_element ≡ to.context.element) }
     ensures to_iteration { IfSome result (λ l. l.to_iteration ≡ to.iteration) }
     ensures to_instr { IfSome result (λ l. l.to_instr ≡ to.instr) }
-    ensures message { IfSome result (λ l. (own l (value_of event.now.message.payload)).message ≡ event.now.message) }
+    ensures message { IfSome result
+        (λ l. (own l (value_of event.now.message.now.payload)).message ≡ event.now.message.now) }
     ensures stamp { IfSome result (λ l. l.stamp ≡ event.now.stamp) }
     ensures replies { IfSome result (λ l. event.now.replies ≡ no_replies) }
 {
@@ -388,7 +455,7 @@ fn narrowed(event: &Handled, carried: Carried, effect: Effect, to: Tag) -> Optio
     }
     Some(Line {
         carried,
-        result: number(event.reaction.fired, to.context.serial as u32),
+        result: number(&event.reaction.fired, to.context.serial as u32),
         serial: tag.context.serial as u32,
         iteration: tag.iteration as u32,
         position: position as u32,
@@ -404,14 +471,15 @@ fn narrowed(event: &Handled, carried: Carried, effect: Effect, to: Tag) -> Optio
         port,
         started,
         effect,
-        exit: exit_of(event.reaction.fired),
+        exit: exit_of(&event.reaction.fired),
     })
 }
 
 /// The port of the event's token, with its tag, where the event has no replies.
-fn port_of(event: &Handled) -> Option<(Tag, Port)>
+#[inline(always)]
+fn port_of(event: &Handling<'_>) -> Option<(Tag, Port)>
     ensures token { IfSome result
-        (λ p. event.now.message.payload ≡ Token p.0 p.1 (value_of event.now.message.payload)) }
+        (λ p. event.now.message.now.payload ≡ Token p.0 p.1 (value_of event.now.message.now.payload)) }
     ensures replies { IfSome result (λ p. event.now.replies ≡ no_replies) }
 {
     match event.message.payload {
@@ -423,6 +491,7 @@ fn port_of(event: &Handled) -> Option<(Tag, Port)>
 }
 
 /// Whether no element sent the message, and the element that did.
+#[inline(always)]
 fn origin(sender: Sender) -> (bool, u32)
     ensures { sender_of result.0 result.1 ≡ sender }
 {
@@ -451,6 +520,7 @@ fn own(line: &Line, value: Value) -> Handled
 }
 
 /// What the message says of a line that carries this value.
+#[inline(always)]
 fn own_payload(line: &Line, value: Value) -> Payload
     ensures { result ≡ (own line.now value).message.payload }
 {
@@ -468,6 +538,7 @@ fn own_payload(line: &Line, value: Value) -> Payload
     }
 }
 
+#[inline(always)]
 fn sender(line: &Line) -> Sender
     ensures { result ≡ sender_of line.now.started line.now.sender }
 {

@@ -55,6 +55,7 @@ impl<'a> Outputs<'a> {
 
     /// What is sent where the operator of an instruction fires under this tag, with these destinations on the side of
     /// the firing, and the value goes to these replies. Takes no memory.
+    #[inline(always)]
     pub fn new(
         op: Option<Op>,
         dests: &'a [Dest],
@@ -83,7 +84,7 @@ impl<'a> Outputs<'a> {
     pub fn len(&self) -> usize
         ensures { result ≡ length self.now }
     {
-        count_sent(self.op, self.dests, self.tag, self.fired) + self.readers.len()
+        count_sent(self.op, self.dests, self.tag, &self.fired) + self.readers.len()
     }
 
     /// Whether there is none. Takes no memory.
@@ -98,9 +99,9 @@ impl<'a> Outputs<'a> {
         requires { number < length self.now }
         ensures { slice_get self.now number ≡ Some result }
     {
-        let fired = count_sent(self.op, self.dests, self.tag, self.fired);
+        let fired = count_sent(self.op, self.dests, self.tag, &self.fired);
         let said = if number < fired {
-            payload(self.op, self.dests, self.tag, self.fired, number)
+            payload(self.op, self.dests, self.tag, &self.fired, number)
         } else {
             reply(self.readers, self.value, number - fired)
         };
@@ -109,10 +110,10 @@ impl<'a> Outputs<'a> {
 }
 
 /// How many messages are sent where the operator fires.
-fn count_sent(op: Option<Op>, dests: &[Dest], tag: Tag, fired: Fired) -> usize
-    ensures { result ≡ length (sent op dests.now tag fired) }
+fn count_sent(op: Option<Op>, dests: &[Dest], tag: Tag, fired: &Fired) -> usize
+    ensures { result ≡ length (sent op dests.now tag fired.now) }
 {
-    match fired {
+    match *fired {
         Fired::Out(_) | Fired::Side(..) | Fired::Moved(..) => dests.len(),
         Fired::Entered(_) => dests.len() + count_started(op),
         Fired::Sent(..) | Fired::Asked { .. } | Fired::Stored { .. } => 1,
@@ -121,22 +122,23 @@ fn count_sent(op: Option<Op>, dests: &[Dest], tag: Tag, fired: Fired) -> usize
 }
 
 /// The destinations on the side to which an instruction fired. Takes no memory.
-pub fn chosen(instr: &Instr, fired: Fired) -> &[Dest]
-    ensures { result.now ≡ arcs_on (side_of fired) instr.now }
+#[inline(always)]
+pub fn chosen<'i>(instr: &'i Instr, fired: &Fired) -> &'i [Dest]
+    ensures { result.now ≡ arcs_on (side_of fired.now) instr.now }
 {
-    match fired {
+    match *fired {
         Fired::Side(false, _) => instr.others.as_slice(),
         _ => instr.dests.as_slice(),
     }
 }
 
 /// What the message of this number says.
-fn payload(op: Option<Op>, dests: &[Dest], tag: Tag, fired: Fired, number: usize) -> Payload
+fn payload(op: Option<Op>, dests: &[Dest], tag: Tag, fired: &Fired, number: usize) -> Payload
     requires second { HasSecond op }
-    requires number { number < length (sent op dests.now tag fired) }
-    ensures { slice_get (sent op dests.now tag fired) number ≡ Some result }
+    requires number { number < length (sent op dests.now tag fired.now) }
+    ensures { slice_get (sent op dests.now tag fired.now) number ≡ Some result }
 {
-    match fired {
+    match *fired {
         Fired::Out(value) | Fired::Side(_, value) => going_out(dests, tag, value, number),
         Fired::Moved(iteration, value) => going_out(dests, moved_to(tag, iteration), value, number),
         Fired::Entered(context) => entering(op, dests, tag, context, number),
@@ -217,6 +219,7 @@ fn beside(tag: Tag, instr: u32) -> Tag
 }
 
 /// The tag of the same instruction in the same context, at this iteration.
+#[inline(always)]
 pub fn moved_to(tag: Tag, iteration: u64) -> Tag
     ensures { result ≡ moved_to tag iteration }
 {
@@ -232,6 +235,7 @@ fn reply(readers: &[Tag], value: Value, number: usize) -> Payload
 }
 
 /// A token with this value for port 0 of a tag.
+#[inline(always)]
 pub fn token_at(tag: Tag, value: Value) -> Payload
     ensures { result ≡ Token tag Zero value }
 {
@@ -243,6 +247,7 @@ pub fn token_at(tag: Tag, value: Value) -> Payload
 }
 
 /// A token with this value for a destination, under the context and iteration of the tag.
+#[inline(always)]
 pub fn token_to(tag: Tag, value: Value, dest: Dest) -> Payload
     ensures { result ≡ token_to tag value dest }
 {
@@ -258,6 +263,7 @@ pub fn token_to(tag: Tag, value: Value, dest: Dest) -> Payload
 }
 
 /// The message of this number of those that the envelope is for.
+#[inline(always)]
 pub fn message(envelope: Envelope, number: usize, payload: Payload) -> Message
     ensures { result ≡ record {
       payload = payload;

@@ -123,10 +123,7 @@ fn the_loop_counts_down(rt: HostRuntime) -> Result<(), Fail> {
     let mut machine = counting(&rt, rt.alloc(), &graph)?;
     let quiet = deliver(&mut machine, 35)?;
     assert!(rt; quiet);
-    let traced = machine
-        .elements()
-        .iter()
-        .all(|element| is_traced(element, TRACE));
+    let traced = is_traced(rt.alloc(), &machine, TRACE)?;
     assert!(rt; traced);
     let reported = is_reported(&rt, rt.alloc(), &machine)?;
     assert!(rt; reported);

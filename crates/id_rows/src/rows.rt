@@ -335,21 +335,24 @@ impl Sink for Expected<'_> {
     }
 }
 
-/// Whether the trace of the element is this one.
-pub(crate) fn is_traced(element: &Element<'_>, trace: &str) -> bool {
+/// Whether the trace of the machine is this one.
+pub(crate) fn is_traced(
+    alloc: Global,
+    machine: &Machine<'_>,
+    trace: &str,
+) -> Result<bool, AllocError> {
+    let merged = merge_records(alloc, machine.elements())?;
     let mut sink = Expected {
         rest: trace.as_bytes(),
     };
-    write_trace(&element.events(), &mut sink).is_ok() && sink.rest.is_empty()
+    Ok(write_trace(&merged, &mut sink).is_ok() && sink.rest.is_empty())
 }
 
 /// Whether the one element is traced so, and five events are merged.
 fn are_recorded(alloc: Global, machine: &Machine<'_>) -> Result<bool, AllocError> {
     let merged = merge_records(alloc, machine.elements())?;
-    match machine.elements() {
-        [element] => Ok(is_traced(element, TRACE) && merged.len() == 5),
-        _ => Ok(false),
-    }
+    let traced = is_traced(alloc, machine, TRACE)?;
+    Ok(traced && merged.len() == 5 && machine.elements().len() == 1)
 }
 
 /// Whether 7 is observed.

@@ -5,7 +5,7 @@ use Rattle.id_record.proofs.SendsLemmas.{length-entered, length-out}
 use Rattle.id_record.proofs.outputs.count_sent.Goals as goal
 
 pub returns-in-Out : goal.returns-in-Out
-returns-in-Out c = sym (length-out c.args.op c.args.dests.now c.args.tag c.args.fired c.in-Out.is)
+returns-in-Out c = sym (length-out c.args.op c.args.dests.now c.args.tag c.args.fired.now c.in-Out.is)
 
 pub returns-in-Entered : goal.returns-in-Entered
 returns-in-Entered c =

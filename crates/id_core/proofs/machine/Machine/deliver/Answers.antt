@@ -6,26 +6,35 @@ use Rattle.std.proofs.lemmas.List.{length-set}
 use Rattle.std.proofs.lemmas.Grind.{common_steps}
 use Rattle.std.proofs.lemmas.Option.{slice_get_read}
 use Rattle.id_tag.specs.Routes.{route_of}
-use Rattle.id_element.specs.Steps.{step_of, outputs_of}
+use Rattle.id_element.specs.Steps.{is_ended, step_of, outputs_of}
 use Rattle.id_core.specs.Machines.{IsElement, delivered, world_of}
 use Rattle.id_core.proofs.MachinesLemmas.{IsDelivery, taken, world-delivered, event-delivered, IsMachine-deliver}
 use Rattle.id_core.proofs.machine.Machine.deliver.Goals as goal
 
-delivery : (c : goal.After-move_all) → IsDelivery c.self.inside.graph.now (length c.self.inside.elements.items) c.self.inside.elements.items c.self.inside.flight.items c.args.position c.route-number.result c.index.result.now c.index_mut.result.now
+delivery : (c : goal.After-add_all) → IsDelivery c.self.inside.graph.now (length c.self.inside.elements.items) c.self.inside.elements.items c.self.inside.flight.messages c.args.position c.route-number.result c.message-message-2.result.now c.index_mut.result.now
 delivery c =
     let es = c.self.inside.elements.items in
-    let fl = c.self.inside.flight.items in
+    let fl = c.self.inside.flight.messages in
     let within : c.args.position < length fl = omega (arith, ap (λ v. length v.world.flight) c.self.view_is) in
     let many : c.len.result ≡ length es = grind (arith, common_steps) in
     let below : c.route-number.result < length es = omega arith in
-    let there : slice_get fl c.args.position ≡ Some c.index.result.now = slice_get_read fl _ _ _ refl within c.index.ensures in
+    let first : slice_get fl c.args.position ≡ Some c.message-message.result.now = c.message-message.ensures in
+    let there : slice_get fl c.args.position ≡ Some c.message-message-2.result.now =
+    ap (λ ms. slice_get ms c.args.position) (sym c.open.ensures.messages) ∙ c.message-message-2.ensures in
+    let message : c.message-message.result.now ≡ c.message-message-2.result.now = cc in
     let element : slice_get es c.route-number.result ≡ Some c.index_mut.result.now = slice_get_read es _ _ _ refl below c.index_mut.ensures.value in
-    let before : slice_get es c.route-number.result ≡ Some c.index-2.result.now = slice_get_read es _ _ _ refl below c.index-2.ensures in
-    let one : c.index-2.result.now ≡ c.index_mut.result.now = cc in
+    let before : slice_get es c.route-number.result ≡ Some c.index-element.result.now = slice_get_read es _ _ _ refl below c.index-element.ensures in
+    let one : c.index-element.result.now ≡ c.index_mut.result.now = cc in
     let same : IsElement c.self.inside.graph.now (length es) c.route-number.result c.index_mut.result.now = rw c.index_mut.ensures.value (c.self.invariant.elements _ _ below) in
     record {
-      given = record { there = there; routed = sym (c.route-number.ensures.exact ∙ ap (route_of c.index.result.now.payload) many); element = element };
-      left = rw (← one) (sym c.is_ended.ensures ∙ c.if-is_ended.false);
+      given = record {
+        there = there;
+        routed = ap (λ m. route_of m.payload (length es)) (sym message)
+            ∙ sym (c.route-number.ensures.exact ∙ ap (route_of c.message-message.result.now.payload) many);
+        element = element;
+      };
+      left = ap (is_ended c.index_mut.result.now.state) (sym message)
+          ∙ ap (λ e. is_ended e.state c.message-message.result.now) (sym one) ∙ sym c.is_ended.ensures ∙ c.if-is_ended.false;
       same = same;
     }
 
@@ -33,22 +42,21 @@ no_event : {X : Type 0} (o : Option X) (x : X) → o ≡ Some x → o ≡ None �
 no_event o x some none = cc
 
 -- the elements afterwards
-element_after : (c : goal.After-move_all) → c.take.new.self ≡ taken c.index_mut.result.now c.index.result.now
+element_after : (c : goal.After-add_all) → c.take.new.self ≡ taken c.index_mut.result.now c.message-message-2.result.now
 element_after c = c.in_ok-step.ensures.state
 
 -- the messages in flight afterwards
-flight_after : (c : goal.After-move_all) → c.move_all.new.to.items ≡ remove c.self.inside.flight.items c.args.position ++ outputs_of c.index_mut.result.now.graph c.index_mut.result.now.number c.index_mut.result.now.state c.index.result.now
+flight_after : (c : goal.After-add_all) → c.add_all.new.self.messages ≡ remove c.self.inside.flight.messages c.args.position ++ outputs_of c.index_mut.result.now.graph c.index_mut.result.now.number c.index_mut.result.now.state c.message-message-2.result.now
 flight_after c =
-    let removed = c.take_out.ensures.items in
-    rw (c.move_all.ensures.moved, removed, c.reserve.ensures.items, c.in_ok-step.ensures.outputs, c.self.invariant.nothing_left)
+    rw (c.add_all.ensures.messages, c.take_next.ensures.messages, c.in_ok-open.ensures.gap, c.open.ensures.messages, c.in_ok-step.ensures.outputs, c.self.invariant.nothing_left)
 
 pub returns-clause-world : goal.returns-clause-world
 returns-clause-world c =
     let es = c.self.inside.elements.items in
-    let fl = c.self.inside.flight.items in
-    let world = world-delivered c.self.inside.graph.now (length es) es fl c.args.position c.route-number.result c.index.result.now c.index_mut.result.now (delivery c) in
+    let fl = c.self.inside.flight.messages in
+    let world = world-delivered c.self.inside.graph.now (length es) es fl c.args.position c.route-number.result c.message-message-2.result.now c.index_mut.result.now (delivery c) in
     let count : length (set es c.route-number.result c.take.new.self) ≡ length es = length-set es c.route-number.result c.take.new.self in
-    let after : world_of (set es c.route-number.result c.take.new.self) c.move_all.new.to.items ≡ delivered c.self.inside.graph.now (length es) (world_of es fl) c.args.position =
+    let after : world_of (set es c.route-number.result c.take.new.self) c.add_all.new.self.messages ≡ delivered c.self.inside.graph.now (length es) (world_of es fl) c.args.position =
     rw (element_after c, flight_after c) world in
     rw (← ap (λ v. v.graph) c.self.view_is, ← ap (λ v. v.count) c.self.view_is, ← ap (λ v. v.world) c.self.view_is)
     (λ i. record { graph = c.self.inside.graph.now; count = count i; world = after i })
@@ -56,17 +64,17 @@ returns-clause-world c =
 pub invariant_of-self-2 : goal.invariant_of-self-2
 invariant_of-self-2 c =
     let es = c.self.inside.elements.items in
-    let fl = c.self.inside.flight.items in
-    rw (element_after c, flight_after c, c.move_all.ensures.emptied)
-    (IsMachine-deliver c.self.inside.graph.now es fl c.self.inside.outputs.items c.args.position c.route-number.result c.index.result.now c.index_mut.result.now c.self.invariant (delivery c) c.in_ok-step.ensures.fits)
+    let fl = c.self.inside.flight.messages in
+    rw (element_after c, flight_after c, c.add_all.ensures.emptied)
+    (IsMachine-deliver c.self.inside.graph.now es fl c.self.inside.outputs.items c.args.position c.route-number.result c.message-message-2.result.now c.index_mut.result.now c.self.invariant (delivery c) c.in_ok-step.ensures.fits)
 
 pub returns-clause-step : goal.returns-clause-step
 returns-clause-step c =
     let es = c.self.inside.elements.items in
-    let fl = c.self.inside.flight.items in
-    let event = event-delivered c.self.inside.graph.now (length es) es fl c.args.position c.route-number.result c.index.result.now c.index_mut.result.now (delivery c) in
+    let fl = c.self.inside.flight.messages in
+    let event = event-delivered c.self.inside.graph.now (length es) es fl c.args.position c.route-number.result c.message-message-2.result.now c.index_mut.result.now (delivery c) in
     let e = c.index_mut.result.now in
-    let m = c.index.result.now in
+    let m = c.message-message-2.result.now in
     let same = (delivery c).same in
     let step : c.in_ok-step.step ≡ step_of c.self.inside.graph.now c.route-number.result e.state m =
     c.in_ok-step.ensures.step ∙ ap (λ g. step_of g e.number e.state m) same.graph ∙ ap (λ n. step_of c.self.inside.graph.now n e.state m) same.number in
@@ -76,58 +84,7 @@ returns-clause-step c =
 pub returns-clause-end : goal.returns-clause-end
 returns-clause-end c =
     let es = c.self.inside.elements.items in
-    let fl = c.self.inside.flight.items in
-    let event = event-delivered c.self.inside.graph.now (length es) es fl c.args.position c.route-number.result c.index.result.now c.index_mut.result.now (delivery c) in
+    let fl = c.self.inside.flight.messages in
+    let event = event-delivered c.self.inside.graph.now (length es) es fl c.args.position c.route-number.result c.message-message-2.result.now c.index_mut.result.now (delivery c) in
     rw (← ap (λ v. v.graph) c.self.view_is, ← ap (λ v. v.count) c.self.view_is, ← ap (λ v. v.world) c.self.view_is)
     (λ bad. cc, λ none. absurd (no_event _ _ event none))
-
-pub index-requires : goal.index-requires
-index-requires c = grind (arith, common_steps)
-
-pub overflow_cast-len : goal.overflow_cast-len
-overflow_cast-len c = grind (arith, common_steps)
-
-pub route-number-requires : goal.route-number-requires
-route-number-requires c = grind (arith, common_steps)
-
-pub overflow_cast-number : goal.overflow_cast-number
-overflow_cast-number c = grind (arith, common_steps)
-
-pub index-requires-2 : goal.index-requires-2
-index-requires-2 c = grind (arith, common_steps)
-
-pub is_ended-requires : goal.is_ended-requires
-is_ended-requires c = grind (arith, common_steps)
-
-pub index-requires-3 : goal.index-requires-3
-index-requires-3 c = grind (arith, common_steps)
-
-pub most_outputs-most-requires : goal.most_outputs-most-requires
-most_outputs-most-requires c = grind (arith, common_steps)
-
-pub invariant_of-self : goal.invariant_of-self
-invariant_of-self c = grind (arith, common_steps)
-
-pub returns-in_err-reserve-clause-err : goal.returns-in_err-reserve-clause-err
-returns-in_err-reserve-clause-err c = grind (arith, common_steps)
-
-pub index_mut-requires : goal.index_mut-requires
-index_mut-requires c = grind (arith, common_steps)
-
-pub take-requires : goal.take-requires
-take-requires c = grind (arith, common_steps)
-
-pub invariant_of-self-in_err-step : goal.invariant_of-self-in_err-step
-invariant_of-self-in_err-step c = grind (arith, common_steps)
-
-pub returns-in_err-step-clause-err : goal.returns-in_err-step-clause-err
-returns-in_err-step-clause-err c = grind (arith, common_steps)
-
-pub take_out-requires : goal.take_out-requires
-take_out-requires c = grind (arith, common_steps)
-
-pub move_all-requires : goal.move_all-requires
-move_all-requires c = grind (arith, common_steps)
-
-pub returns-clause-err : goal.returns-clause-err
-returns-clause-err c = grind (arith, common_steps)

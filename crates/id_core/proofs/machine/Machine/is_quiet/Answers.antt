@@ -9,7 +9,7 @@ use Rattle.id_core.proofs.machine.Machine.is_quiet.Goals as goal
 pub returns-then-is_empty : goal.returns-then-is_empty
 returns-then-is_empty c =
     let elements = c.self.inside.elements.items in
-    let nothing : c.self.inside.flight.items ≡ [] = grind (arith, common_steps) in
+    let nothing : c.self.inside.flight.messages ≡ [] = grind (arith, common_steps) in
     rw (← ap (λ v. v.world) c.self.view_is) (
       λ yes. record {
         empty = nothing;

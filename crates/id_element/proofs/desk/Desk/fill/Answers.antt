@@ -16,9 +16,9 @@ returns-clause-state c =
     let d = c.args.self.now in
     let log = d.log in
     let rs = c.readers_of-readers.result.now in
-    let x = c.args.write.payload in
+    let x = c.args.write.now.payload in
     let event : Handled = record {
-      message = c.args.write;
+      message = c.args.write.now;
       stamp = c.args.stamp;
       reaction = record { fired = Nothing; verdict = c.fill_verdict-verdict.result };
       replies = record { from = c.count_replies-from.result; count = length rs };
@@ -27,7 +27,7 @@ returns-clause-state c =
     let shown : Verdict → List Tag → EventView = λ v ts. record {
       element = log.element;
       stamp = c.args.stamp;
-      message = c.args.write;
+      message = c.args.write.now;
       fired = Nothing;
       outputs = numbered log.element (length log.events) c.args.stamp 0 (replies (value_of x) ts);
       step = full_step x v;

@@ -1,7 +1,7 @@
 -- The messages so far are there, and there is room for the rest.
 use Rattle.std.proofs.Common.{◌≡◌, ◌+◌, ◌≤◌, ◌++◌, take, vec_len}
 use Rattle.std.specs.VecDeque.{deque_len, deque_capacity}
-use Rattle.id_core.proofs.machine.move_all.Given as goal
+use Rattle.id_core.proofs.in_flight.move_all.Given as goal
 
 abbrev pub invariant-loop-message : goal.invariant-loop-message
 invariant-loop-message l =

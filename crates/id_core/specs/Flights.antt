@@ -1,0 +1,10 @@
+-- How a machine keeps what is in flight: a list with a gap in it, at which messages are taken out.
+use Rattle.std.specs.Prelude.{ℕ, List}
+use Rattle.id_tag.specs.declared.Message.{Message}
+
+-- the messages, in the order in which they were sent, how many of them stand before the gap, and how many more there is
+-- room for
+pub record FlightView : Type 0 where
+  pub messages : List Message
+  pub gap : ℕ
+  pub room : ℕ
