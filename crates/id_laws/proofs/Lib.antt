@@ -65,3 +65,5 @@ pub mod ValidKinds
 pub mod Validity
 pub mod InputsFit
 pub mod LabelsOnce
+pub mod EveryRun
+pub mod DeterminateLemmas

@@ -1,5 +1,6 @@
 -- What public clauses cite.
 pub mod Laws
+pub mod Determinate
 -- For use inside.
 pub mod Activations
 pub mod Topics

@@ -6,8 +6,10 @@
 //! Not here: the facts of a source (`id_meaning`), the graphs of the schemas (`id_build`), runs (`id_runs`).
 #![tactic(auto)]
 
+ghost use Rattle.id_laws.specs.Determinate.{Determinate};
 ghost use Rattle.id_laws.specs.Laws.{Coherence, InputsFit, Kinded, Labels, NeverStuck, QuietIsComplete, Soundness};
 ghost use Rattle.id_laws.specs.Laws.{Serials, Suited, Validity};
+ghost use Rattle.id_runs.specs.Legal.{LegalLists};
 
 /// *Sound*: what any run of a schemas' graph shows is of the source. The answer is the source's, each
 /// fault is one of the source at its path, what a binder is shown to have at a path it Has there, and
@@ -36,6 +38,13 @@ pub fn coherent()
     ensures { Coherence }
 {}
 
+/// *Determinate*: two runs of one source that fall quiet show the same, whatever the numberings of their
+/// graphs, the numbers of their elements and the orders of their deliveries, and where a run falls quiet no
+/// run of its source shows a fault (docs/MEANING.md, "Laws"). Takes no memory.
+pub fn determinate()
+    ensures { Determinate }
+{}
+
 /// *Validity*: every graph that the schemas give a program is valid (docs/GRAPH.md, "Validator"). Takes
 /// no memory.
 pub fn valid()
@@ -52,6 +61,13 @@ pub fn suited()
 /// none enters main's context (docs/MEANING.md, "Laws"). Takes no memory.
 pub fn serials()
     ensures { Serials }
+{}
+
+/// *Legal lists*: the events of any list of deliveries to any machine are a legal list of events, which leads to
+/// the same state; and each legal list is that of a list of deliveries, which leads to the same state but for the
+/// order of what is in flight (docs/MEANING.md, "Laws"). Takes no memory.
+pub fn legal_lists()
+    ensures { LegalLists }
 {}
 
 /// *Inputs fit*: every graph that the schemas give a program takes the inputs of the program: one for each

@@ -20,3 +20,4 @@ pub mod Asks
 pub mod Entered
 pub mod Made
 pub mod Banks
+pub mod Legal

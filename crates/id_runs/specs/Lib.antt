@@ -6,3 +6,4 @@ pub mod OneMessage
 pub mod Suited
 pub mod Serials
 pub mod Cells
+pub mod Legal
