@@ -14,6 +14,12 @@ use std::convert::AsStr;
 use std::env::Env;
 use std::{env, io};
 
+/// The elements of a machine where the words say nothing.
+const DEFAULT_ELEMENTS: &str = "1";
+
+/// The most elements that the words may ask for.
+const MAX_ELEMENTS: i64 = 64;
+
 /// The steps that an element may make where the words say nothing.
 const DEFAULT_STEPS: &str = "1000000";
 
@@ -23,7 +29,12 @@ const MAX_STEPS: i64 = 100_000_000;
 /// The last round whose facts the words may ask for.
 const LAST_ROUND: i64 = 10_000;
 
-const STATUSES: &str = "Statuses:
+// A text, the statuses of the program, and an example.
+macro_rules! with_statuses {
+    ($text:literal) => {
+        concat!(
+            $text,
+            "Statuses:
   0  the run is quiet, or what was asked for is done
   1  the run stopped at a fault, which is printed
   2  the text or an input is refused
@@ -32,7 +43,27 @@ const STATUSES: &str = "Statuses:
   5  the file can't be read, memory ran out, or a write failed
 
 Example:
-  idc run examples/sum.id --steps 1000";
+  idc run examples/sum.id --steps 1000"
+        )
+    };
+}
+
+/// What stands below the help of `run`.
+const STATUSES: &str = with_statuses!("");
+
+/// What stands below the first page of help: the options of the commands, the statuses and an example.
+const OVERVIEW: &str = with_statuses!(
+    "Options of run:
+      --elements <N>  How many elements the machine has, from 1 to 64 [default: 1]
+      --steps <N>     The most messages that each element handles [default: 1000000]
+      --names         Prints the value of each name
+      --trace         Prints each event before the answer
+
+Options of graph:
+      --dot           Prints it in the language of Graphviz
+
+"
+);
 
 /// The argument that names the file.
 fn file_argument<'a>(alloc: Global) -> Arg<'a> {
@@ -47,6 +78,24 @@ fn inputs_argument<'a>(alloc: Global) -> Arg<'a> {
         .value_name("NAME=VALUE")
         .num_args(0..)
         .help("A value for the parameter of main with that name")
+}
+
+/// The argument for the number of elements.
+fn elements_argument<'a>(alloc: Global) -> Arg<'a> {
+    Arg::new(alloc, "elements")
+        .long("elements")
+        .value_name("N")
+        .value_parser(value_parser!(u32).range(1..=MAX_ELEMENTS))
+        .default_value(DEFAULT_ELEMENTS)
+        .help("How many elements the machine has")
+}
+
+/// The argument that asks for the trace.
+fn trace_argument<'a>(alloc: Global) -> Arg<'a> {
+    Arg::new(alloc, "trace")
+        .long("trace")
+        .action(ArgAction::SetTrue)
+        .help("Prints each event before the answer")
 }
 
 /// The argument for the limit of steps.
@@ -65,6 +114,14 @@ fn names_argument<'a>(alloc: Global) -> Arg<'a> {
         .long("names")
         .action(ArgAction::SetTrue)
         .help("Prints the value of each name")
+}
+
+/// The argument that asks for the picture.
+fn dot_argument<'a>(alloc: Global) -> Arg<'a> {
+    Arg::new(alloc, "dot")
+        .long("dot")
+        .action(ArgAction::SetTrue)
+        .help("Prints it in the language of Graphviz")
 }
 
 /// The argument for the round.
@@ -100,12 +157,8 @@ fn check_command<'a>(alloc: Global) -> Result<Command<'a>, AllocError> {
 
 /// The command `graph`.
 fn graph_command<'a>(alloc: Global) -> Result<Command<'a>, AllocError> {
-    file_command(
-        alloc,
-        "graph",
-        "idc graph",
-        "Prints the tagged-token graph of a program",
-    )
+    let about = "Prints the tagged-token graph of a program";
+    file_command(alloc, "graph", "idc graph", about)?.arg(dot_argument(alloc))
 }
 
 /// The command `run`.
@@ -114,8 +167,10 @@ fn run_command<'a>(alloc: Global) -> Result<Command<'a>, AllocError> {
     file_command(alloc, "run", "idc run", about)?
         .after_help(STATUSES)
         .arg(inputs_argument(alloc))?
+        .arg(elements_argument(alloc))?
         .arg(steps_argument(alloc))?
-        .arg(names_argument(alloc))
+        .arg(names_argument(alloc))?
+        .arg(trace_argument(alloc))
 }
 
 /// The command `facts`.
@@ -130,6 +185,7 @@ fn facts_command<'a>(alloc: Global) -> Result<Command<'a>, AllocError> {
 fn bare_command<'a>(alloc: Global) -> Command<'a> {
     Command::new(alloc, "idc")
         .about("Compiles a lenient dataflow program to a tagged-token graph and runs it")
+        .after_help(OVERVIEW)
         .no_binary_name(true)
         .subcommand_required(true)
 }
@@ -181,14 +237,20 @@ fn run_request<'a>(
     file: &'a str,
     matches: &ArgMatches<'a>,
 ) -> Result<Option<Request<'a>>, AllocError> {
+    let Some(count) = matches.get_one::<u32>("elements") else {
+        return Ok(None);
+    };
     let Some(steps) = matches.get_one::<u64>("steps") else {
         return Ok(None);
     };
+    let trace = matches.get_flag("trace");
     let names = matches.get_flag("names");
     let inputs = inputs_of(alloc, matches)?;
     Ok(Some(Request::Run {
         file,
         inputs,
+        count,
+        trace,
         steps,
         names,
     }))
@@ -222,6 +284,7 @@ fn request_of<'a>(
     };
     match name {
         "check" => Ok(Some(Request::Check { file })),
+        "graph" if matches.get_flag("dot") => Ok(Some(Request::Draw { file })),
         "graph" => Ok(Some(Request::Graph { file })),
         "run" => run_request(alloc, file, matches),
         _ => facts_request(alloc, file, matches),

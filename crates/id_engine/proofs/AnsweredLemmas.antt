@@ -1,18 +1,18 @@
 -- What is said of one answer of a call, said in other words.
-use Rattle.std.proofs.Common.{◌≡◌, ◌≢◌, ℕ, List, Result, Ok, Err, inl, inr}
+use Rattle.std.proofs.Common.{◌≡◌, ◌≢◌, ◌<◌, ◌⊎◌, ℕ, List, Result, Ok, Err, inl, inr}
 use Rattle.std.specs.Prelude.{IfOk, IfErr, OnOk}
 use Rattle.id_check.specs.declared.checked.Checked.{Checked}
 use Rattle.id_meaning.specs.Sources.{source}
 use Rattle.id_engine.specs.declared.compiled.CompileError.{CompileError}
 use Rattle.id_engine.specs.declared.compiled.CompileError.TheVariants as compiler
 use Rattle.id_engine.specs.declared.error.EngineError.{EngineError}
-use Rattle.id_engine.specs.declared.error.EngineError.TheVariants.{Compile, MissingInput, UnknownInput, RepeatedInput, BadInput, BadSteps, BadRounds, TooManyFacts, Memory, Write}
+use Rattle.id_engine.specs.declared.error.EngineError.TheVariants.{Compile, MissingInput, UnknownInput, RepeatedInput, BadInput, BadElements, BadSteps, BadRounds, TooManyFacts, Memory, Write}
 use Rattle.id_engine.specs.Programs.{HasInputs, IsProgramOf, IsRefusedBy, by_memory, too_large}
 use Rattle.id_engine.specs.Refusals.{AreRefusedFacts, AreRefusedFor, IsRefusedRun, IsInsideOf}
-use Rattle.id_engine.specs.Refusals.IsRefusedRun.{by_source as by_run_source, no_steps, too_many_steps}
+use Rattle.id_engine.specs.Refusals.IsRefusedRun.{by_source as by_run_source, no_elements, too_many_elements, no_steps, too_many_steps}
 use Rattle.id_engine.specs.Refusals.IsRefusedSource.{by_memory as no_memory}
 use Rattle.id_engine.specs.Refusals.AreRefusedFacts.{by_source, bad_rounds, too_many_facts}
-use Rattle.id_engine.specs.Reports.{AreRefusedRounds, AreRefusedSteps, IsRefusedGraph}
+use Rattle.id_engine.specs.Reports.{AreRefusedRounds, IsRefusedGraph, IsUnallowed}
 
 module _ {A E : Type 0} where
   pub on_ok : (r : Result A E) (P : Type 0) → P → OnOk r P
@@ -63,6 +63,7 @@ late_memory text (MissingInput x) h = absurd cc
 late_memory text (UnknownInput j) h = absurd cc
 late_memory text (RepeatedInput j) h = absurd cc
 late_memory text (BadInput j) h = absurd cc
+late_memory text BadElements h = absurd cc
 late_memory text BadSteps h = absurd cc
 late_memory text BadRounds h = absurd cc
 late_memory text TooManyFacts h = absurd cc
@@ -76,37 +77,46 @@ late_words text P ws (MissingInput x) h = let n : MissingInput x ≢ Write = λ 
 late_words text P ws (UnknownInput j) h = let n : UnknownInput j ≢ Write = λ k. absurd cc in (tt, n)
 late_words text P ws (RepeatedInput j) h = let n : RepeatedInput j ≢ Write = λ k. absurd cc in (tt, n)
 late_words text P ws (BadInput j) h = let n : BadInput j ≢ Write = λ k. absurd cc in (tt, n)
+late_words text P ws BadElements h = absurd h
 late_words text P ws BadSteps h = absurd h
 late_words text P ws BadRounds h = absurd h
 late_words text P ws TooManyFacts h = absurd h
 late_words text P ws Memory h = let n : Memory ≢ Write = λ k. absurd cc in (tt, n)
 late_words text P ws Write h = absurd h
 
-pub late_steps : (text : List ℕ) (steps : ℕ) (e : EngineError) → AreRefusedSteps steps e → IsLate text e
-late_steps text steps (Compile x) h = absurd cc
-late_steps text steps (MissingInput x) h = absurd cc
-late_steps text steps (UnknownInput j) h = absurd cc
-late_steps text steps (RepeatedInput j) h = absurd cc
-late_steps text steps (BadInput j) h = absurd cc
-late_steps text steps BadSteps h = let n : BadSteps ≢ Write = λ k. absurd cc in (tt, n)
-late_steps text steps BadRounds h = absurd cc
-late_steps text steps TooManyFacts h = absurd cc
-late_steps text steps Memory h = let n : Memory ≢ Write = λ k. absurd cc in (tt, n)
-late_steps text steps Write h = absurd cc
+-- why so many elements and steps are not allowed is no error of a place, and none of a write
+pub late_unallowed : (text : List ℕ) (count steps : ℕ) (e : EngineError) → IsUnallowed count steps e → IsLate text e
+late_unallowed text count steps (Compile x) h = absurd cc
+late_unallowed text count steps (MissingInput x) h = absurd cc
+late_unallowed text count steps (UnknownInput j) h = absurd cc
+late_unallowed text count steps (RepeatedInput j) h = absurd cc
+late_unallowed text count steps (BadInput j) h = absurd cc
+late_unallowed text count steps BadElements h = let n : BadElements ≢ Write = λ k. absurd cc in (tt, n)
+late_unallowed text count steps BadSteps h = let n : BadSteps ≢ Write = λ k. absurd cc in (tt, n)
+late_unallowed text count steps BadRounds h = absurd cc
+late_unallowed text count steps TooManyFacts h = absurd cc
+late_unallowed text count steps Memory h = let n : Memory ≢ Write = λ k. absurd cc in (tt, n)
+late_unallowed text count steps Write h = absurd cc
 
--- why steps are refused is why the run of the text is
-pub refused_steps : (text : List ℕ) (ws : List (List ℕ)) (steps : ℕ) → HasInputs text ws → (e : EngineError) → AreRefusedSteps steps e → IsRefusedRun text ws steps e
-refused_steps text ws steps i (Compile x) h = absurd cc
-refused_steps text ws steps i (MissingInput x) h = absurd cc
-refused_steps text ws steps i (UnknownInput j) h = absurd cc
-refused_steps text ws steps i (RepeatedInput j) h = absurd cc
-refused_steps text ws steps i (BadInput j) h = absurd cc
-refused_steps text ws steps i BadSteps (inl h) = no_steps i h
-refused_steps text ws steps i BadSteps (inr h) = too_many_steps i h
-refused_steps text ws steps i BadRounds h = absurd cc
-refused_steps text ws steps i TooManyFacts h = absurd cc
-refused_steps text ws steps i Memory h = by_run_source no_memory
-refused_steps text ws steps i Write h = absurd cc
+-- and it is why the run of the text is refused
+pub refused_unallowed : (text : List ℕ) (ws : List (List ℕ)) (count steps : ℕ) → HasInputs text ws → (e : EngineError) → IsUnallowed count steps e
+    → IsRefusedRun text ws count steps e
+refused_unallowed text ws count steps i (Compile x) h = absurd cc
+refused_unallowed text ws count steps i (MissingInput x) h = absurd cc
+refused_unallowed text ws count steps i (UnknownInput j) h = absurd cc
+refused_unallowed text ws count steps i (RepeatedInput j) h = absurd cc
+refused_unallowed text ws count steps i (BadInput j) h = absurd cc
+refused_unallowed text ws count steps i BadElements (inl h) = no_elements i h
+refused_unallowed text ws count steps i BadElements (inr h) = too_many_elements i h
+refused_unallowed text ws count steps i BadSteps h = by_steps h.2
+  where
+    by_steps : (steps ≡ 0) ⊎ (100000000 < steps) → IsRefusedRun text ws count steps BadSteps
+    by_steps (inl k) = no_steps i h.0 h.1 k
+    by_steps (inr k) = too_many_steps i h.0 h.1 k
+refused_unallowed text ws count steps i BadRounds h = absurd cc
+refused_unallowed text ws count steps i TooManyFacts h = absurd cc
+refused_unallowed text ws count steps i Memory h = by_run_source no_memory
+refused_unallowed text ws count steps i Write h = absurd cc
 
 -- why rounds are refused is why the facts of the text are
 pub refused_rounds : (text : List ℕ) (ws : List (List ℕ)) (round : ℕ) (h : HasInputs text ws) (e : EngineError) → AreRefusedRounds (source h.program h.inputs) round e
@@ -116,6 +126,7 @@ refused_rounds text ws round i (MissingInput x) h = absurd cc
 refused_rounds text ws round i (UnknownInput j) h = absurd cc
 refused_rounds text ws round i (RepeatedInput j) h = absurd cc
 refused_rounds text ws round i (BadInput j) h = absurd cc
+refused_rounds text ws round i BadElements h = absurd cc
 refused_rounds text ws round i BadSteps h = absurd cc
 refused_rounds text ws round i BadRounds h = bad_rounds i h
 refused_rounds text ws round i TooManyFacts h = too_many_facts i h.0 h.1

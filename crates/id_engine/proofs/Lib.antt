@@ -1,10 +1,13 @@
+mod AlikeLemmas
 mod AnsweredLemmas
 mod HeldLemmas
 mod InsideLemmas
 mod NamesLemmas
 mod PlacedLemmas
 mod RunLemmas
+mod DeliveryLemmas
 mod ServedLemmas
 mod ShownLemmas
-mod SingleLemmas
 mod StuckLemmas
+mod TraceLemmas
+mod PrintedLemmas

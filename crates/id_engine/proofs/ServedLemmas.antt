@@ -3,7 +3,7 @@ use Rattle.std.proofs.Common.{◌≡◌, ◌≢◌, ℕ, List, [], Option, Resul
 use Rattle.id_print.specs.Told.{Told}
 use Rattle.id_request.specs.declared.Request.{Request}
 use Rattle.id_engine.specs.declared.error.EngineError.{EngineError}
-use Rattle.id_engine.specs.declared.error.EngineError.TheVariants.{Compile, MissingInput, UnknownInput, RepeatedInput, BadInput, BadSteps, BadRounds, TooManyFacts, Memory, Write}
+use Rattle.id_engine.specs.declared.error.EngineError.TheVariants.{Compile, MissingInput, UnknownInput, RepeatedInput, BadInput, BadElements, BadSteps, BadRounds, TooManyFacts, Memory, Write}
 use Rattle.id_engine.specs.declared.refusal.Cause.{Cause}
 use Rattle.id_engine.specs.declared.refusal.Detail.{Detail}
 use Rattle.id_engine.specs.declared.refusal.Detail.TheVariants.{Nothing, Place, Kinds, Word}
@@ -31,6 +31,7 @@ told_inside text ws (MissingInput x) r t h = word_inside text _ r.detail t.1
 told_inside text ws (UnknownInput j) r t h = word_inside text _ r.detail t.1
 told_inside text ws (RepeatedInput j) r t h = word_inside text _ r.detail t.1
 told_inside text ws (BadInput j) r t h = word_inside text _ r.detail t.1
+told_inside text ws BadElements r t h = plain_inside text r _ tt t
 told_inside text ws BadSteps r t h = plain_inside text r _ tt t
 told_inside text ws BadRounds r t h = plain_inside text r _ tt t
 told_inside text ws TooManyFacts r t h = plain_inside text r _ tt t
@@ -45,6 +46,7 @@ Serves-error text r out out' err err' (MissingInput x) n front silent why told =
 Serves-error text r out out' err err' (UnknownInput j) n front silent why told = let d : UnknownInput j ≢ Write = λ h. absurd cc in refused _ d why (silent d) told
 Serves-error text r out out' err err' (RepeatedInput j) n front silent why told = let d : RepeatedInput j ≢ Write = λ h. absurd cc in refused _ d why (silent d) told
 Serves-error text r out out' err err' (BadInput j) n front silent why told = let d : BadInput j ≢ Write = λ h. absurd cc in refused _ d why (silent d) told
+Serves-error text r out out' err err' BadElements n front silent why told = let d : BadElements ≢ Write = λ h. absurd cc in refused _ d why (silent d) told
 Serves-error text r out out' err err' BadSteps n front silent why told = let d : BadSteps ≢ Write = λ h. absurd cc in refused _ d why (silent d) told
 Serves-error text r out out' err err' BadRounds n front silent why told = let d : BadRounds ≢ Write = λ h. absurd cc in refused _ d why (silent d) told
 Serves-error text r out out' err err' TooManyFacts n front silent why told = let d : TooManyFacts ≢ Write = λ h. absurd cc in refused _ d why (silent d) told

@@ -1,5 +1,5 @@
 -- No delivery to a machine that runs a schemas' graph is stuck.
-use Rattle.std.proofs.Common.{◌≡◌, ◌≢◌, ℕ, List, [], ◌∷◌, ◌++◌, Bool, true, false, cond, Option, Some, None, inl, refl, sym, ap, subst, ◌∙◌}
+use Rattle.std.proofs.Common.{◌≡◌, ◌≢◌, ℕ, List, [], ◌∷◌, ◌++◌, ◌<◌, ◌≤◌, Bool, true, false, cond, Option, Some, None, inl, refl, sym, ap, subst, ◌∙◌}
 use Rattle.std.specs.Prelude.{slice_get}
 use Rattle.id_graph.specs.Graph.{Parts}
 use Rattle.id_tag.specs.declared.Message.{Message}
@@ -30,7 +30,7 @@ use Rattle.id_laws.proofs.ValidCounts.{all_among}
 use Rattle.id_engine.specs.Reports.{IsDelivery, IsFreshMachine}
 use Rattle.id_engine.proofs.NamesLemmas.{at_among}
 use Rattle.id_engine.proofs.RunLemmas.{run-append}
-use Rattle.id_engine.proofs.SingleLemmas.{Reaches}
+use Rattle.id_engine.proofs.DeliveryLemmas.{Reaches}
 
 -- the event of an element that takes a message is in its record afterwards
 taken_event : (g : Parts) (k : ℕ) (s : World) (m : Message) (n : ℕ) (e : State) (v : EventView) → slice_get s.elements n ≡ Some e → event_of g n e m ≡ v
@@ -62,24 +62,24 @@ delivered_event : (g : Parts) (count : ℕ) (s : World) (k : ℕ) (v : EventView
 delivered_event g count s k v h = routed_event g count k s (slice_get s.flight k) v h
 
 -- no delivery to a machine that runs a schemas' graph is stuck
-pub not_stuck : NeverStuck → (a b c : MachineView) (n : ℕ) (step : Step) → IsFreshMachine a → Reaches a b n → IsDelivery b c step → step ≢ Stuck
-not_stuck never a b c n step fresh h d stuck =
+pub not_stuck : NeverStuck → (a b c : MachineView) (steps n p q : ℕ) (step : Step) → IsFreshMachine a → Reaches a b steps n p → IsDelivery q b c step → step ≢ Stuck
+not_stuck never a b c steps n p q step fresh h d stuck =
     let S = fresh.origin in
     let ks = (h.goes).positions in
-    let shown : Among d.event (events_of (delivered b.graph b.count b.world d.position).elements) = delivered_event b.graph b.count b.world d.position d.event d.made in
-    let is : delivered b.graph b.count b.world d.position ≡ run a.graph 1 (ks ++ d.position ∷ []) (start a.graph S.inputs 1) =
-    ap (λ g. delivered g b.count b.world d.position) h.same_graph ∙ ap (λ i. delivered a.graph i b.world d.position) (h.same_count ∙ fresh.one)
-    ∙ ap (λ w. delivered a.graph 1 w d.position) (h.goes).world ∙ sym (run-append a.graph 1 ks (d.position ∷ []) a.world)
-    ∙ ap (λ w. run a.graph 1 (ks ++ d.position ∷ []) w) fresh.world in
+    let shown : Among d.event (events_of (delivered b.graph b.count b.world q).elements) = delivered_event b.graph b.count b.world q d.event d.made in
+    let is : delivered b.graph b.count b.world q ≡ run a.graph a.count (ks ++ q ∷ []) (start a.graph S.inputs a.count) =
+    ap (λ g. delivered g b.count b.world q) h.same_graph ∙ ap (λ i. delivered a.graph i b.world q) h.same_count
+    ∙ ap (λ w. delivered a.graph a.count w q) (h.goes).world ∙ sym (run-append a.graph a.count ks (q ∷ []) a.world)
+    ∙ ap (λ w. run a.graph a.count (ks ++ q ∷ []) w) fresh.world in
     let Q : World → Type 0 = λ w. Among d.event (events_of w.elements) in
-    (never S a.graph 1 (ks ++ d.position ∷ []) fresh.inputs fresh.schemas).goes_on d.event (subst Q is shown) (d.step_is ∙ stuck)
+    (never S a.graph a.count (ks ++ q ∷ []) fresh.inputs fresh.schemas).goes_on d.event (subst Q is shown) (d.step_is ∙ stuck)
 
 -- a fresh machine
-pub IsFreshMachine-start : (S : Source) (g : Parts) (m : MachineView) → m ≡ record { graph = g; count = 1; world = start g S.inputs 1 }
+pub IsFreshMachine-start : (S : Source) (g : Parts) (count : ℕ) (m : MachineView) → 0 < count → count ≤ 64 → m ≡ record { graph = g; count = count; world = start g S.inputs count }
     → AreInputs S.checked S.inputs → Schemas S.checked g → IsFreshMachine m
-IsFreshMachine-start S g m is inputs schemas =
+IsFreshMachine-start S g count m some few is inputs schemas =
     let Q : MachineView → Type 0 = IsFreshMachine in
-    subst Q (sym is) (record { origin = S; inputs = inputs; schemas = schemas; one = refl; world = refl })
+    subst Q (sym is) (record { origin = S; inputs = inputs; schemas = schemas; some = some; few = few; world = refl })
 
 -- ---- a run with nothing left
 
@@ -98,10 +98,10 @@ no_fault g p m vs v none among = go (fault_of g p m v.step) refl
     go (Some f) e = let here = filter_map_has (λ (u : EventView). fault_of g p m u.step) vs v f among e in absurd (subst (Among f) none here)
 
 -- where nothing is in flight and no fault was shown, a run of a schemas' graph is quiet
-pub IsQuiet-from : NeverStuck → (S : Source) (g : Parts) (ks : List ℕ) → AreInputs S.checked S.inputs → Schemas S.checked g → (w : World)
-    → w ≡ run g 1 ks (start g S.inputs 1) → faults g w ≡ [] → w.flight ≡ [] → IsQuiet w
-IsQuiet-from never S g ks inputs schemas w is none empty =
-    let ok = never S g 1 ks inputs schemas in
+pub IsQuiet-from : NeverStuck → (S : Source) (g : Parts) (count : ℕ) (ks : List ℕ) → AreInputs S.checked S.inputs → Schemas S.checked g → (w : World)
+    → w ≡ run g count ks (start g S.inputs count) → faults g w ≡ [] → w.flight ≡ [] → IsQuiet w
+IsQuiet-from never S g count ks inputs schemas w is none empty =
+    let ok = never S g count ks inputs schemas in
     let no : (v : EventView) → Among v (events_of w.elements) → v.step ≢ Stuck = λ v a. ok.goes_on v (subst (λ (x : World). Among v (events_of x.elements)) is a) in
     record {
       empty = empty;
@@ -116,9 +116,9 @@ IsQuiet-from never S g ks inputs schemas w is none empty =
     recorded_in w e v a b = let k = at_among e w.elements a in record { element = k.0; state = e; at = k.1; among = b }
 
 -- a run that stops has left a message
-pub left_over : NeverStuck → (S : Source) (g : Parts) (ks : List ℕ) (m : MachineView) (e : Ending) → AreInputs S.checked S.inputs → Schemas S.checked g → m.graph ≡ g
-    → m.world ≡ run g 1 ks (start g S.inputs 1) → EndsSo m e → e ≡ Stopped → m.world.flight ≡ [] → ⊥
-left_over never S g ks m e inputs schemas same world ends is empty =
+pub left_over : NeverStuck → (S : Source) (g : Parts) (count : ℕ) (ks : List ℕ) (m : MachineView) (e : Ending) → AreInputs S.checked S.inputs → Schemas S.checked g → m.graph ≡ g
+    → m.world ≡ run g count ks (start g S.inputs count) → EndsSo m e → e ≡ Stopped → m.world.flight ≡ [] → ⊥
+left_over never S g count ks m e inputs schemas same world ends is empty =
     let E : Ending → Type 0 = λ x. EndsSo m x in
     let s : E Stopped = subst E is ends in
-    s.1 (IsQuiet-from never S g ks inputs schemas m.world world (ap (λ x. faults x m.world) (sym same) ∙ s.0) empty)
+    s.1 (IsQuiet-from never S g count ks inputs schemas m.world world (ap (λ x. faults x m.world) (sym same) ∙ s.0) empty)

@@ -1,6 +1,7 @@
 pub mod Programs
 pub mod Commands
 pub mod Runs
+pub mod Alike
 pub mod Refusals
 pub mod Served
 pub mod Reading

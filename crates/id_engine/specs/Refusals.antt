@@ -33,7 +33,8 @@ use Rattle.id_engine.specs.declared.refusal.Cause.TheVariants.{TooLong, BadByte,
 use Rattle.id_engine.specs.declared.refusal.Cause.TheVariants.{TooDeep, NoMain, MainKind, Duplicate, Unknown}
 use Rattle.id_engine.specs.declared.refusal.Cause.TheVariants.{WrongCount, WrongKind, TooManyParams, TooLarge}
 use Rattle.id_engine.specs.declared.refusal.Cause.TheVariants.{MissingInput, UnknownInput, RepeatedInput, BadInput}
-use Rattle.id_engine.specs.declared.refusal.Cause.TheVariants.{BadSteps, BadRounds, TooManyFacts, Memory, Write}
+use Rattle.id_engine.specs.declared.refusal.Cause.TheVariants.{BadElements, BadSteps, BadRounds, TooManyFacts}
+use Rattle.id_engine.specs.declared.refusal.Cause.TheVariants.{Memory, Write}
 use Rattle.id_engine.specs.Programs.{IsProgramOf, HasInputs, IsNameOfParam, IsRefusedBy}
 
 -- the number of a cause, where it has one, its name, and the status of the program after it
@@ -56,6 +57,7 @@ row_of MissingInput = (Some 15, codes "MissingInput", 2)
 row_of UnknownInput = (Some 16, codes "UnknownInput", 2)
 row_of RepeatedInput = (Some 17, codes "RepeatedInput", 2)
 row_of BadInput = (Some 18, codes "BadInput", 2)
+row_of BadElements = (Some 19, codes "BadElements", 4)
 row_of BadSteps = (Some 20, codes "BadSteps", 4)
 row_of BadRounds = (Some 24, codes "BadRounds", 4)
 row_of TooManyFacts = (Some 25, codes "TooManyFacts", 3)
@@ -118,6 +120,7 @@ Tells ws (engine.MissingInput param) r = (r.cause ≡ MissingInput) × IsWord (S
 Tells ws (engine.UnknownInput word) r = (r.cause ≡ UnknownInput) × IsWord (slice_get ws word) r.detail
 Tells ws (engine.RepeatedInput word) r = (r.cause ≡ RepeatedInput) × IsWord (slice_get ws word) r.detail
 Tells ws (engine.BadInput word) r = (r.cause ≡ BadInput) × IsWord (slice_get ws word) r.detail
+Tells ws engine.BadElements r = r ≡ plain BadElements
 Tells ws engine.BadSteps r = r ≡ plain BadSteps
 Tells ws engine.BadRounds r = r ≡ plain BadRounds
 Tells ws engine.TooManyFacts r = r ≡ plain TooManyFacts
@@ -208,16 +211,23 @@ pub data IsRefusedSource (text : List ℕ) (words : List (List ℕ)) : EngineErr
   by_words : {e : EngineError} → AreRefusedWords text words e → IsRefusedSource text words e
   by_memory : IsRefusedSource text words engine.Memory
 
--- why a run of a text on these input words, with so many steps for each element, is refused
-pub data IsRefusedRun (text : List ℕ) (words : List (List ℕ)) (steps : ℕ) : EngineError → Type 0 where
-  by_source : {e : EngineError} → IsRefusedSource text words e → IsRefusedRun text words steps e
-  no_steps : HasInputs text words → steps ≡ 0 → IsRefusedRun text words steps engine.BadSteps
-  too_many_steps : HasInputs text words → 100000000 < steps → IsRefusedRun text words steps engine.BadSteps
-  by_write : IsRefusedRun text words steps engine.Write
+-- why a run of a text on these input words, on so many elements with so many steps for each, is refused
+pub data IsRefusedRun (text : List ℕ) (words : List (List ℕ)) (count steps : ℕ) : EngineError → Type 0 where
+  by_source : {e : EngineError} → IsRefusedSource text words e → IsRefusedRun text words count steps e
+  no_elements : HasInputs text words → count ≡ 0 → IsRefusedRun text words count steps engine.BadElements
+  too_many_elements : HasInputs text words → 64 < count → IsRefusedRun text words count steps engine.BadElements
+  -- the number of elements is looked at before that of steps
+  no_steps : HasInputs text words → 0 < count → count ≤ 64 → steps ≡ 0
+      → IsRefusedRun text words count steps engine.BadSteps
+  too_many_steps : HasInputs text words → 0 < count → count ≤ 64 → 100000000 < steps
+      → IsRefusedRun text words count steps engine.BadSteps
+  by_write : IsRefusedRun text words count steps engine.Write
 
--- a run is taken: the words give inputs, and the number of steps is allowed
-pub record IsTakenRun (text : List ℕ) (words : List (List ℕ)) (steps : ℕ) : Type 0 where
+-- a run is taken: the words give inputs, and the numbers of elements and of steps are allowed
+pub record IsTakenRun (text : List ℕ) (words : List (List ℕ)) (count steps : ℕ) : Type 0 where
   pub inputs : HasInputs text words
+  pub some_elements : 0 < count
+  pub few_elements : count ≤ 64
   pub some : 0 < steps
   pub few : steps ≤ 100000000
 

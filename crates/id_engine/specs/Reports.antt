@@ -1,11 +1,10 @@
--- The report of a run of a text's program, and deliveries to a machine of one element.
-use Rattle.std.specs.Prelude.{◌≡◌, ◌≤◌, ◌<◌, ◌⊎◌, ℕ, Bool, IsTrue, IsFalse, List, [], ◌∷◌, All, length, Option, None}
-use Rattle.std.specs.Prelude.{Some, IfSome}
+-- The report of a run of a text's program, and deliveries to a machine.
+use Rattle.std.specs.Prelude.{◌≡◌, ◌≤◌, ◌<◌, ◌⊎◌, ℕ, Bool, IsTrue, IsFalse, List, [], ◌++◌, All, length, Option, Some}
+use Rattle.std.specs.Prelude.{IfSome, Result, Ok, Err, slice_get}
 use Rattle.id_check.specs.declared.checked.Checked.{Checked}
 use Rattle.id_value.specs.declared.Constant.{Constant}
 use Rattle.id_meaning.specs.declared.SourceFault.{SourceFault}
 use Rattle.id_meaning.specs.Sources.{Source, AreInputs, source}
-use Rattle.id_meaning.specs.Inputs.{AreInputsOf}
 use Rattle.id_list.specs.List.{Among}
 use Rattle.id_meaning.specs.declared.Ask.{Ask}
 use Rattle.id_meaning.specs.declared.Fact.TheVariants as fact
@@ -15,24 +14,28 @@ use Rattle.id_meaning.specs.Orders.{NamesRise, Rises}
 use Rattle.id_build.specs.Schemas.{Schemas}
 use Rattle.id_build.specs.Rows.{size}
 use Rattle.id_graph.specs.Graph.{Parts}
+use Rattle.id_tag.specs.declared.Message.{Message}
 use Rattle.id_record.specs.declared.step.Step.{Step}
 use Rattle.id_core.specs.Events.{EventView}
-use Rattle.id_core.specs.Steps.{State}
 use Rattle.id_core.specs.Machines.{World, MachineView, delivered, event_at, run, start}
 use Rattle.id_core.specs.Observed.{answer, faults, names, waiting}
 use Rattle.id_print.specs.declared.report.Ending.{Ending}
 use Rattle.id_print.specs.declared.report.Ending.TheVariants.{Quiet, Stopped, Fault}
 use Rattle.id_print.specs.declared.report.Report.{Report}
+use Rattle.id_print.specs.declared.sink.PrintError.{PrintError}
+use Rattle.id_print.specs.Told.{Told, Prints}
 use Rattle.id_print.specs.Endings.{EndsSo}
+use Rattle.id_print.specs.Reports.{report_text}
+use Rattle.id_print.specs.Traces.{trace_text}
 use Rattle.id_print.specs.Names.{IsOrderOf, IsSortedOf, AreApart, AreApartBy, HeldBefore, WaitBefore}
 use Rattle.id_print.specs.Names.{OfOneThing, OfOneFetch, AreHeld, AreSomeHeld, held_lines}
 use Rattle.id_meaning.specs.Computed.{HasMoreFacts}
 use Rattle.id_engine.specs.declared.compiled.CompileError.{CompileError}
 use Rattle.id_engine.specs.declared.compiled.CompileError.TheVariants as compiler
 use Rattle.id_engine.specs.declared.error.EngineError.{EngineError}
-use Rattle.id_engine.specs.declared.error.EngineError.TheVariants.{BadSteps, BadRounds, TooManyFacts, Memory}
-use Rattle.id_engine.specs.Programs.{IsProgramOf}
-use Rattle.id_engine.specs.Runs.{EndsAt, IsHeldBack, after, held_of}
+use Rattle.id_engine.specs.declared.error.EngineError.TheVariants.{BadElements, BadSteps, BadRounds, TooManyFacts}
+use Rattle.id_engine.specs.declared.error.EngineError.TheVariants.{Memory, Write}
+use Rattle.id_engine.specs.Runs.{AreOfFirst, EndsAt, IsHeldBack, IsTraceOf, after, held_of}
 
 -- the status of an ending
 abbrev pub status_of : Ending → ℕ
@@ -80,93 +83,105 @@ pub record IsReportFrom (m : MachineView) (b : Bool) (r : Report) : Type 0 where
 
 -- deliveries at these positions, from this state, have come to an end: at a fault, or where all messages left are held
 -- back
-pub data HasEnded (g : Parts) (steps : ℕ) (w : World) (ks : List ℕ) : Type 0 where
-  at_fault : (f : SourceFault) → EndsAt g 1 w ks f → HasEnded g steps w ks
-  at_rest : faults g (run g 1 ks w) ≡ [] → All (IsHeldBack 1 steps (run g 1 ks w)) (run g 1 ks w).flight
-      → HasEnded g steps w ks
+pub data HasEnded (g : Parts) (count steps : ℕ) (w : World) (ks : List ℕ) : Type 0 where
+  at_fault : (f : SourceFault) → EndsAt g count w ks f → HasEnded g count steps w ks
+  at_rest : faults g (run g count ks w) ≡ [] → All (IsHeldBack count steps (run g count ks w)) (run g count ks w).flight
+      → HasEnded g count steps w ks
 
--- the report, with names where they are asked for, is that of a run that has ended, on one element that has handled at
--- most so many messages
-pub record IsReportOfRun (g : Parts) (vs : List Constant) (steps : ℕ) (b : Bool) (r : Report) : Type 0 where
+-- the report, with names where they are asked for, is that of a run that has ended, on so many elements, each of which
+-- has handled at most so many messages
+pub record IsReportOfRun (g : Parts) (vs : List Constant) (count steps : ℕ) (b : Bool) (r : Report) : Type 0 where
   pub positions : List ℕ
-  pub few : All (λ s. length s.events ≤ steps) (after g vs 1 positions).elements
-  pub ended : HasEnded g steps (start g vs 1) positions
-  pub answer_is : r.answer ≡ answer g (after g vs 1 positions)
-  pub sorted : IsTrue b → IsSortedOf r.names (names g (after g vs 1 positions))
-  pub held : IsOrderOf HeldBefore r.structures (held_of g 1 (after g vs 1 positions))
-  pub waits : IsOrderOf WaitBefore r.waiting (waiting g (after g vs 1 positions))
-  pub ends : EndsSo (record { graph = g; count = 1; world = after g vs 1 positions }) r.ending
-  pub left : r.ending ≡ Stopped → (after g vs 1 positions).flight ≡ [] → ⊥
+  pub first : AreOfFirst g count steps positions (start g vs count)
+  pub few : All (λ s. length s.events ≤ steps) (after g vs count positions).elements
+  pub ended : HasEnded g count steps (start g vs count) positions
+  pub answer_is : r.answer ≡ answer g (after g vs count positions)
+  pub sorted : IsTrue b → IsSortedOf r.names (names g (after g vs count positions))
+  pub held : IsOrderOf HeldBefore r.structures (held_of g count (after g vs count positions))
+  pub waits : IsOrderOf WaitBefore r.waiting (waiting g (after g vs count positions))
+  pub ends : EndsSo (record { graph = g; count = count; world = after g vs count positions }) r.ending
+  pub left : r.ending ≡ Stopped → (after g vs count positions).flight ≡ [] → ⊥
 
--- the report is one of a run of the text's program on the inputs that the words give, and what it says is so
-pub record IsReportOf (text : List ℕ) (words : List (List ℕ)) (steps : ℕ) (b : Bool) (r : Report) : Type 0 where
-  pub program : Checked
-  pub is_program : IsProgramOf text program
-  pub inputs : List Constant
-  pub are_inputs : AreInputsOf program words inputs
-  pub is_true : IsTrueOf (source program inputs) b r
-  pub graph : Parts
-  pub schemas : Schemas program graph
-  pub of_run : IsReportOfRun graph inputs steps b r
+-- a machine's trace, where it is asked for, and the report are printed with this result
+pub record HasPrinted (text : List ℕ) (t b : Bool) (w : World) (r : Report) (old new : Option Told)
+    (result : Result (Unit {0}) PrintError) : Type 0 where
+  pub events : List EventView
+  pub traced : IsTraceOf t w events
+  pub printed : Prints old new (trace_text events ++ report_text text b r) result
 
--- the one element of a machine has handled so many messages
-pub record IsSingle (w : World) (n : ℕ) : Type 0 where
-  pub state : State
-  pub elements : w.elements ≡ state ∷ []
-  pub handled : length state.events ≡ n
+-- they are printed whole, and this is the status; or a write failed; or memory was refused before the first byte
+pub data PrintsRun (text : List ℕ) (t b : Bool) (w : World) (r : Report) (old new : Option Told) : Result ℕ EngineError
+    → Type 0 where
+  whole : HasPrinted text t b w r old new (Ok tt) → PrintsRun text t b w r old new (Ok (status_of r.ending))
+  cut : (e : PrintError) → HasPrinted text t b w r old new (Err e) → PrintsRun text t b w r old new (Err Write)
+  unprinted : new ≡ old → PrintsRun text t b w r old new (Err Memory)
 
--- deliveries to one element have led from one state to another: it has handled so many messages, and there was no fault
-pub record GoesOn (g : Parts) (from to : World) (n : ℕ) : Type 0 where
-  pub positions : List ℕ
-  pub world : to ≡ run g 1 positions from
-  pub single : IsSingle to n
-  pub none : faults g to ≡ []
+-- so many elements and so many steps for each of them are allowed
+pub record AreAllowed (count steps : ℕ) : Type 0 where
+  pub some_elements : 0 < count
+  pub few_elements : count ≤ 64
+  pub some : 0 < steps
+  pub few : steps ≤ 100000000
 
--- the machine is one of one element, at the start of a graph that the schemas give a program, with inputs of the
--- program
+-- why a run on so many elements with so many steps for each is refused
+abbrev pub IsUnallowed : ℕ → ℕ → EngineError → Type 0
+IsUnallowed count steps BadElements = (count ≡ 0) ⊎ (64 < count)
+IsUnallowed count steps BadSteps = (0 < count) × (count ≤ 64) × ((steps ≡ 0) ⊎ (100000000 < steps))
+IsUnallowed count steps e = e ≡ Memory
+
+-- a run of a program with its inputs is printed, or it is refused before the first byte
+pub data RunsSo (P : Checked) (vs : List Constant) (text : List ℕ) (count : ℕ) (t : Bool) (steps : ℕ) (b : Bool)
+    (old new : Option Told) : Result ℕ EngineError → Type 0 where
+  ran : {result : Result ℕ EngineError} (g : Parts) (r : Report) → AreAllowed count steps → Schemas P g
+      → IsTrueOf (source P vs) b r → (o : IsReportOfRun g vs count steps b r)
+      → PrintsRun text t b (after g vs count o.positions) r old new result →
+      RunsSo P vs text count t steps b old new result
+  unallowed : (e : EngineError) → IsUnallowed count steps e → new ≡ old → RunsSo P vs text count t steps b old new (Err e)
+
+-- the elements of a machine are so many
+abbrev pub HasCount : MachineView → Type 0
+HasCount m = (0 < m.count) × (m.count ≤ 64) × (length m.world.elements ≡ m.count)
+
+-- the machine is one at the start of a graph that the schemas give a program, with inputs of the program
 pub record IsFreshMachine (m : MachineView) : Type 0 where
   pub origin : Source
   pub inputs : AreInputs origin.checked origin.inputs
   pub schemas : Schemas origin.checked m.graph
-  pub one : m.count ≡ 1
-  pub world : m.world ≡ start m.graph origin.inputs 1
+  pub some : 0 < m.count
+  pub few : m.count ≤ 64
+  pub world : m.world ≡ start m.graph origin.inputs m.count
 
--- deliveries to a machine of one element that handles at most so many messages have come to an end
+-- deliveries to a machine, each of the first message that is not held back, have come to an end: each element has
+-- handled at most so many messages
 pub record HasRun (old new : MachineView) (steps : ℕ) : Type 0 where
   pub positions : List ℕ
   pub same_graph : new.graph ≡ old.graph
   pub same_count : new.count ≡ old.count
-  pub world : new.world ≡ run old.graph 1 positions old.world
+  pub world : new.world ≡ run old.graph old.count positions old.world
+  pub first : AreOfFirst old.graph old.count steps positions old.world
   pub few : All (λ s. length s.events ≤ steps) new.world.elements
-  pub ended : HasEnded old.graph steps old.world positions
+  pub ended : HasEnded old.graph old.count steps old.world positions
 
--- no message of the machine can be delivered
-abbrev pub IsAtRest : MachineView → Type 0
-IsAtRest m = (k : ℕ) → k < length m.world.flight → event_at m.graph m.count m.world k ≡ None
+-- the message at this position is held back
+abbrev pub IsHeldAt : ℕ → ℕ → World → ℕ → Type 0
+IsHeldAt count steps w k = (m : Message) → slice_get w.flight k ≡ Some m → IsHeldBack count steps w m
 
--- one message was delivered, and the event came to this
-pub record IsDelivery (old new : MachineView) (step : Step) : Type 0 where
-  pub position : ℕ
+-- delivering the message at this position makes an event
+abbrev pub HasEvent : MachineView → ℕ → Type 0
+HasEvent m k = (v : EventView) × (event_at m.graph m.count m.world k ≡ Some v)
+
+-- the message at this position was delivered, and the event came to this
+pub record IsDelivery (position : ℕ) (old new : MachineView) (step : Step) : Type 0 where
   pub event : EventView
   pub made : event_at old.graph old.count old.world position ≡ Some event
   pub step_is : event.step ≡ step
   pub new_is : new ≡ record old { world = delivered old.graph old.count old.world position }
-
--- a message was delivered, or none can be
-abbrev pub Delivers : MachineView → MachineView → Option Step → Type 0
-Delivers old new None = IsAtRest old × (new ≡ old)
-Delivers old new (Some step) = IsDelivery old new step
 
 -- why the facts of a round of a source are refused
 abbrev pub AreRefusedRounds : Source → ℕ → EngineError → Type 0
 AreRefusedRounds S round BadRounds = 10000 < round
 AreRefusedRounds S round TooManyFacts = (round ≤ 10000) × HasMoreFacts S round 1000000
 AreRefusedRounds S round e = e ≡ Memory
-
--- why a run with so many steps for each element is refused
-abbrev pub AreRefusedSteps : ℕ → EngineError → Type 0
-AreRefusedSteps steps BadSteps = (steps ≡ 0) ⊎ (100000000 < steps)
-AreRefusedSteps steps e = e ≡ Memory
 
 -- why a program has no graph
 abbrev pub IsRefusedGraph : Checked → CompileError → Type 0

@@ -1,6 +1,6 @@
 -- Runs of the engine: which messages are delivered, and what is printed of them (docs/PROMISES.md, "The run").
-use Rattle.std.specs.Prelude.{◌≡◌, ◌≢◌, ◌≤◌, ◌⊎◌, ℕ, Bool, IsTrue, List, [], ◌∷◌, ◌++◌, All, length, slice_get, Option}
-use Rattle.std.specs.Prelude.{Some, Ok}
+use Rattle.std.specs.Prelude.{◌≡◌, ◌≢◌, ◌<◌, ◌≤◌, ◌⊎◌, ℕ, Bool, IsTrue, IsFalse, List, [], ◌∷◌, ◌++◌, All, length}
+use Rattle.std.specs.Prelude.{slice_get, Option, Some, Ok}
 use Rattle.id_check.specs.declared.checked.Checked.{Checked}
 use Rattle.id_graph.specs.Graph.{Parts}
 use Rattle.id_tag.specs.declared.Message.{Message}
@@ -12,13 +12,16 @@ use Rattle.id_meaning.specs.declared.NameValue.{NameValue}
 use Rattle.id_meaning.specs.Inputs.{AreInputsOf}
 use Rattle.id_build.specs.Schemas.{Schemas}
 use Rattle.id_core.specs.Steps.{State, is_ended}
-use Rattle.id_core.specs.Machines.{World, IsQuiet, run, start}
+use Rattle.id_core.specs.Events.{EventView}
+use Rattle.id_core.specs.Firsts.{AreMergedOf}
+use Rattle.id_core.specs.Machines.{World, IsQuiet, delivered, run, start}
 use Rattle.id_core.specs.Observed.{answer, faults, names, waiting}
 use Rattle.id_print.specs.Told.{Told, Prints}
 use Rattle.id_print.specs.declared.report.Held.{Held}
 use Rattle.id_print.specs.Names.{IsOrderOf, IsSortedOf, HeldBefore, WaitBefore, held_lines}
 use Rattle.id_print.specs.Texts.{quiet_text, stopped_text, fault_text}
 use Rattle.id_print.specs.Reports.{asked}
+use Rattle.id_print.specs.Traces.{trace_text}
 use Rattle.id_engine.specs.Programs.{IsProgramOf}
 
 -- the machine of so many elements after deliveries at these positions from its start
@@ -34,6 +37,33 @@ pub record IsHeldBack (count steps : ℕ) (w : World) (m : Message) : Type 0 whe
   pub state : State
   pub element : slice_get w.elements (route_of m.payload count) ≡ Some state
   pub held : (length state.events ≡ steps) ⊎ IsTrue (is_ended state m)
+
+-- the message at this position is not held back: the element that it is for has handled another number of messages, and
+-- a stamp is left for it there
+pub record IsFree (count steps : ℕ) (w : World) (k : ℕ) : Type 0 where
+  pub message : Message
+  pub at : slice_get w.flight k ≡ Some message
+  pub state : State
+  pub element : slice_get w.elements (route_of message.payload count) ≡ Some state
+  pub some : length state.events ≢ steps
+  pub stamp : IsFalse (is_ended state message)
+
+-- all messages before this position are held back
+abbrev pub AreHeldBefore : ℕ → ℕ → World → ℕ → Type 0
+AreHeldBefore count steps w k =
+    (j : ℕ) (m : Message) → j < k → slice_get w.flight j ≡ Some m → IsHeldBack count steps w m
+
+-- each of these deliveries, one after another, is of the first message that is not held back
+abbrev pub AreOfFirst : Parts → ℕ → ℕ → List ℕ → World → Type 0
+AreOfFirst g count steps [] w = Unit {0}
+AreOfFirst g count steps (k ∷ ks) w =
+    AreHeldBefore count steps w k × IsFree count steps w k × AreOfFirst g count steps ks (delivered g count w k)
+
+-- what is traced of a machine: all its events, by stamp, and at one stamp by element, where they are asked for, and
+-- else none
+pub record IsTraceOf (t : Bool) (w : World) (es : List EventView) : Type 0 where
+  pub asked : IsTrue t → AreMergedOf w.elements es
+  pub unasked : IsFalse t → es ≡ []
 
 -- the deliveries end at a fault: none before the last one showed a fault, and the last one shows this one
 pub record EndsAt (g : Parts) (count : ℕ) (w : World) (ks : List ℕ) (f : SourceFault) : Type 0 where
@@ -63,10 +93,10 @@ pub data Ends (g : Parts) (vs : List Constant) (count steps : ℕ) (ks : List �
       IsOrderOf HeldBefore hs (held_of g count (after g vs count ks)) →
       Ends g vs count steps ks text b 3 (stopped_text text (answer g (after g vs count ks)) (asked b ns) hs)
 
--- a run of the text's program on the inputs that the words give, on one element, which handles at most so many
--- messages, is printed with this status
-pub record Ran (text : List ℕ) (words : List (List ℕ)) (steps : ℕ) (b : Bool) (old new : Option Told) (status : ℕ)
-    : Type 0 where
+-- a run of the text's program on the inputs that the words give, on so many elements, each of which handles at most so
+-- many messages, is printed with this status, its trace before its report where that is asked for
+pub record Ran (text : List ℕ) (words : List (List ℕ)) (count : ℕ) (t : Bool) (steps : ℕ) (b : Bool)
+    (old new : Option Told) (status : ℕ) : Type 0 where
   pub program : Checked
   pub is_program : IsProgramOf text program
   pub graph : Parts
@@ -74,7 +104,10 @@ pub record Ran (text : List ℕ) (words : List (List ℕ)) (steps : ℕ) (b : Bo
   pub inputs : List Constant
   pub are_inputs : AreInputsOf program words inputs
   pub positions : List ℕ
-  pub few : All (λ s. length s.events ≤ steps) (after graph inputs 1 positions).elements
+  pub first : AreOfFirst graph count steps positions (start graph inputs count)
+  pub few : All (λ s. length s.events ≤ steps) (after graph inputs count positions).elements
+  pub events : List EventView
+  pub traced : IsTraceOf t (after graph inputs count positions) events
   pub output : List ℕ
-  pub ends : Ends graph inputs 1 steps positions text b status output
-  pub printed : Prints old new output (Ok tt)
+  pub ends : Ends graph inputs count steps positions text b status output
+  pub printed : Prints old new (trace_text events ++ output) (Ok tt)

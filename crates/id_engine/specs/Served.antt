@@ -12,7 +12,8 @@ use Rattle.id_engine.specs.declared.refusal.Cause.TheVariants as cause
 use Rattle.id_engine.specs.declared.source.SourceFault.{SourceFault}
 use Rattle.id_engine.specs.Reading.{IsToldText, IsUnread}
 use Rattle.id_engine.specs.Programs.{HasProgram}
-use Rattle.id_engine.specs.Commands.{Command, Check, List_graph, Facts, Run, ShowsAll, ShowsFront}
+use Rattle.id_engine.specs.Commands.{Command, Check, List_graph, Draw_graph, Facts, Run, ShowsAll}
+use Rattle.id_engine.specs.Commands.{ShowsFront}
 use Rattle.id_engine.specs.Runs.{Ran}
 use Rattle.id_engine.specs.Refusals.{IsRefusedText, IsRefusedRun, IsTakenRun, AreRefusedFacts, AreTakenFacts}
 use Rattle.id_engine.specs.Refusals.{IsToldRefusal, IsPrintedLine, plain, row_of, source_cause}
@@ -21,43 +22,50 @@ use Rattle.id_engine.specs.Refusals.{IsToldRefusal, IsPrintedLine, plain, row_of
 abbrev pub file_of : Request → List ℕ
 file_of (asks.Check file) = file.now
 file_of (asks.Graph file) = file.now
-file_of (asks.Run file inputs steps names) = file.now
+file_of (asks.Draw file) = file.now
+file_of (asks.Run file inputs count trace steps names) = file.now
 file_of (asks.Facts file rounds inputs) = file.now
 
 -- the words of a request's inputs
 abbrev pub words_of : Request → List (List ℕ)
 words_of (asks.Check file) = []
 words_of (asks.Graph file) = []
-words_of (asks.Run file inputs steps names) = map (λ w. w.now) inputs.items
+words_of (asks.Draw file) = []
+words_of (asks.Run file inputs count trace steps names) = map (λ w. w.now) inputs.items
 words_of (asks.Facts file rounds inputs) = map (λ w. w.now) inputs.items
 
 -- what a request asks for
 abbrev pub command_of : Request → Command
 command_of (asks.Check file) = Check
 command_of (asks.Graph file) = List_graph
-command_of (asks.Run file inputs steps names) = Run names (map (λ w. w.now) inputs.items)
+command_of (asks.Draw file) = Draw_graph
+command_of (asks.Run file inputs count trace steps names) = Run names trace (map (λ w. w.now) inputs.items)
 command_of (asks.Facts file rounds inputs) = Facts rounds (map (λ w. w.now) inputs.items)
 
 -- a request on a text is taken: the text has a program, the words give inputs, and all numbers are within their limits
 abbrev pub IsTaken : List ℕ → Request → Type 0
 IsTaken text (asks.Check file) = HasProgram text
 IsTaken text (asks.Graph file) = HasProgram text
-IsTaken text (asks.Run file inputs steps names) = IsTakenRun text (map (λ w. w.now) inputs.items) steps
+IsTaken text (asks.Draw file) = HasProgram text
+IsTaken text (asks.Run file inputs count trace steps names) = IsTakenRun text (map (λ w. w.now) inputs.items) count steps
 IsTaken text (asks.Facts file rounds inputs) = AreTakenFacts text (map (λ w. w.now) inputs.items) rounds
 
 -- a request to run the text is run
 abbrev pub IsRun : List ℕ → Request → Option Told → Option Told → ℕ → Type 0
 IsRun text (asks.Check file) out out' status = Unit {0}
 IsRun text (asks.Graph file) out out' status = Unit {0}
-IsRun text (asks.Run file inputs steps names) out out' status =
-    Ran text (map (λ w. w.now) inputs.items) steps names out out' status
+IsRun text (asks.Draw file) out out' status = Unit {0}
+IsRun text (asks.Run file inputs count trace steps names) out out' status =
+    Ran text (map (λ w. w.now) inputs.items) count trace steps names out out' status
 IsRun text (asks.Facts file rounds inputs) out out' status = Unit {0}
 
 -- why a request on a text is refused
 abbrev pub IsRefusedRequest : List ℕ → Request → EngineError → Type 0
 IsRefusedRequest text (asks.Check file) e = IsRefusedText text e
 IsRefusedRequest text (asks.Graph file) e = IsRefusedText text e
-IsRefusedRequest text (asks.Run file inputs steps names) e = IsRefusedRun text (map (λ w. w.now) inputs.items) steps e
+IsRefusedRequest text (asks.Draw file) e = IsRefusedText text e
+IsRefusedRequest text (asks.Run file inputs count trace steps names) e =
+    IsRefusedRun text (map (λ w. w.now) inputs.items) count steps e
 IsRefusedRequest text (asks.Facts file rounds inputs) e = AreRefusedFacts text (map (λ w. w.now) inputs.items) rounds e
 
 -- the request is served: what it asks for is printed whole, or one line says why not

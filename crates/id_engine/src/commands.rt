@@ -1,10 +1,13 @@
 //! The commands that run nothing: whether a text is accepted, its graph, its facts.
 
 ghost use Rattle.std.specs.Prelude.{◌≡◌, ◌≢◌, ◌≤◌, length, map, IfOk, IfErr, OnOk, string_bytes};
+ghost use Rattle.id_build.specs.Schemas.{Schemas};
 ghost use Rattle.id_meaning.specs.Computed.{AreFacts};
 ghost use Rattle.id_meaning.specs.Sources.{AreInputs, source};
 ghost use Rattle.id_print.specs.Within.{FactsWithin};
-ghost use Rattle.id_engine.specs.Commands.{AreFactsOf, Check, Facts, IsListingOf, List_graph, ShowsAll, ShowsFront};
+ghost use Rattle.id_graph.specs.Dot.{dot_text};
+ghost use Rattle.id_engine.specs.Commands.{AreFactsOf, Check, Draw_graph, Facts, IsListingOf, IsPictureOf, List_graph};
+ghost use Rattle.id_engine.specs.Commands.{ShowsAll, ShowsFront};
 ghost use Rattle.id_engine.specs.Programs.{HasProgram, IsPlacedWithin, IsProgramOf};
 ghost use Rattle.id_engine.specs.Refusals.{AreRefusedFacts, AreTakenFacts, IsInsideOf, IsRefusedText};
 ghost use Rattle.id_engine.specs.Reports.{AreRefusedRounds};
@@ -12,7 +15,7 @@ ghost use Rattle.id_engine.specs.Reports.{AreRefusedRounds};
 use crate::compiled::{Compiled, accept, compile};
 use crate::error::EngineError;
 use crate::prepared::{Prepared, prepare};
-use id_graph::list;
+use id_graph::{draw, list};
 use id_meaning::{Fact, RoundsError, rounds};
 use id_print::{Sink, put, write_facts};
 use std::alloc::Global;
@@ -86,6 +89,48 @@ fn list_compiled(alloc: Global, compiled: &Compiled, text: &str) -> Result<Strin
 {
     match list(alloc, compiled.valid().graph(), text) {
         Ok(listing) => Ok(listing),
+        Err(_) => Err(EngineError::Memory),
+    }
+}
+
+/// Writes the picture of the text's graph, and answers the status, 0.
+pub fn draw_text<W: Sink>(alloc: Global, text: &str, out: &mut W) -> Result<u8, EngineError>
+    ensures shown { IfOk result (ShowsAll Draw_graph text.now (W.told out.old) (W.told out.new)) }
+    ensures cut { result ≡ Err EngineError.Write → ShowsFront Draw_graph text.now (W.told out.old) (W.told out.new) }
+    ensures silent { IfErr result (λ e. e ≢ EngineError.Write → W.told out.new ≡ W.told out.old) }
+    ensures taken { OnOk result (HasProgram text.now) }
+    ensures refused { IfErr result (IsRefusedText text.now) }
+    ensures inside { IfErr result (IsInsideOf text.now) }
+{
+    let picture = picture_of(alloc, text)?;
+    match put(out, picture.as_str().as_bytes()) {
+        Ok(()) => Ok(0),
+        Err(_) => Err(EngineError::Write),
+    }
+}
+
+/// The picture of the text's graph.
+fn picture_of(alloc: Global, text: &str) -> Result<String, EngineError>
+    ensures picture { IfOk result (λ s. IsPictureOf text.now (string_bytes s)) }
+    ensures program { OnOk result (HasProgram text.now) }
+    ensures refused { IfErr result (IsRefusedText text.now) }
+    ensures inside { IfErr result (IsInsideOf text.now) }
+    ensures not_write { IfErr result (λ e. e ≢ EngineError.Write) }
+{
+    match compile(alloc, text) {
+        Ok(compiled) => draw_compiled(alloc, &compiled),
+        Err(error) => Err(EngineError::Compile(error)),
+    }
+}
+
+/// The picture of a compiled text's graph, which is one that the schemas give.
+fn draw_compiled(alloc: Global, compiled: &Compiled) -> Result<String, EngineError>
+    ensures picture { IfOk result (λ s. string_bytes s ≡ dot_text compiled.now.graph) }
+    ensures schemas { Schemas compiled.now.checked compiled.now.graph }
+    ensures memory { IfErr result (λ e. e ≡ EngineError.Memory) }
+{
+    match draw(alloc, compiled.valid().graph()) {
+        Ok(picture) => Ok(picture),
         Err(_) => Err(EngineError::Memory),
     }
 }

@@ -20,6 +20,8 @@ pub enum EngineError {
     /// The input word of this number has no value of its parameter's kind, refusal 18:
     /// `def main(n: int): int = n;` with `n=`.
     BadInput { word: usize },
+    /// No element, or more than 64, refusal 19: `def main(): int = 1;` on 0 elements.
+    BadElements,
     /// No step, or more than 100,000,000, refusal 20: `def main(): int = 1;` with 0 steps.
     BadSteps,
     /// More rounds than 10,000, refusal 24: `def main(): int = 1;` with 10,001 rounds.

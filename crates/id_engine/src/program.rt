@@ -6,7 +6,7 @@ ghost use Rattle.id_engine.specs.Refusals.{IsInsideOf, IsPrintedLine, IsToldRefu
 ghost use Rattle.id_engine.specs.Served.{Answers, Drives, HasHelped, IsRefusedRequest, IsRun, IsTaken, Serves};
 ghost use Rattle.id_engine.specs.Served.{command_of, file_of, words_of};
 
-use crate::commands::{check_text, facts_text, graph_text};
+use crate::commands::{check_text, draw_text, facts_text, graph_text};
 use crate::error::EngineError;
 use crate::refusal::{Cause, of_engine_error, of_source_fault, plain, refuse};
 use crate::run::engine;
@@ -69,6 +69,7 @@ fn print_asked<O: Sink>(
     match request {
         Request::Check { .. } => check_text(alloc, text, out),
         Request::Graph { .. } => graph_text(alloc, text, out),
+        Request::Draw { .. } => draw_text(alloc, text, out),
         Request::Facts { rounds, inputs, .. } => facts_text(
             alloc,
             text,
@@ -78,10 +79,21 @@ fn print_asked<O: Sink>(
         ),
         Request::Run {
             inputs,
+            count,
+            trace,
             steps,
             names,
             ..
-        } => engine(alloc, text, inputs.as_slice(), *steps, *names, out),
+        } => engine(
+            alloc,
+            text,
+            inputs.as_slice(),
+            *count,
+            *trace,
+            *steps,
+            *names,
+            out,
+        ),
     }
 }
 
@@ -91,7 +103,7 @@ fn words_of<'a>(request: &'a Request<'a>) -> &'a [&'a str]
 {
     match request {
         Request::Run { inputs, .. } | Request::Facts { inputs, .. } => inputs.as_slice(),
-        Request::Check { .. } | Request::Graph { .. } => &[],
+        Request::Check { .. } | Request::Graph { .. } | Request::Draw { .. } => &[],
     }
 }
 
@@ -126,6 +138,7 @@ fn file_of<'a>(request: &Request<'a>) -> &'a str
     match request {
         Request::Check { file }
         | Request::Graph { file }
+        | Request::Draw { file }
         | Request::Run { file, .. }
         | Request::Facts { file, .. } => file,
     }

@@ -58,6 +58,8 @@ pub enum Cause {
     RepeatedInput,
     /// An input word with no value of its parameter's kind: `n=`
     BadInput,
+    /// No element, or more than 64: 0.
+    BadElements,
     /// No step, or more than 100,000,000: 0.
     BadSteps,
     /// More rounds than 10,000: 10001.
@@ -130,6 +132,7 @@ impl Cause {
             Cause::UnknownInput => numbered(16, b"UnknownInput", 2),
             Cause::RepeatedInput => numbered(17, b"RepeatedInput", 2),
             Cause::BadInput => numbered(18, b"BadInput", 2),
+            Cause::BadElements => numbered(19, b"BadElements", 4),
             Cause::BadSteps => numbered(20, b"BadSteps", 4),
             Cause::BadRounds => numbered(24, b"BadRounds", 4),
             Cause::TooManyFacts => numbered(25, b"TooManyFacts", 3),
@@ -274,6 +277,7 @@ pub(crate) fn of_engine_error<'a>(words: &'a [&'a str], error: &'a EngineError) 
             words.get(*word).copied(),
         ),
         EngineError::BadInput { word } => worded(Cause::BadInput, words.get(*word).copied()),
+        EngineError::BadElements => plain(Cause::BadElements),
         EngineError::BadSteps => plain(Cause::BadSteps),
         EngineError::BadRounds => plain(Cause::BadRounds),
         EngineError::TooManyFacts => plain(Cause::TooManyFacts),

@@ -1,45 +1,50 @@
 //! A text, compiled, run and printed.
 
-ghost use Rattle.std.specs.Prelude.{◌≡◌, ◌≢◌, ◌<◌, ◌≤◌, ◌↔◌, length, map, IsTrue, IfOk, IfErr, OnOk};
-ghost use Rattle.id_build.specs.Schemas.{Schemas};
+ghost use Rattle.std.specs.Prelude.{◌≡◌, ◌≢◌, ◌<◌, ◌≤◌, ◌++◌, ◌↔◌, length, map, IsTrue, IsFalse, IfOk, IfErr, OnOk};
 ghost use Rattle.id_core.specs.Machines.{TakesInputs, start};
-ghost use Rattle.id_meaning.specs.Sources.{AreInputs, source};
+ghost use Rattle.id_meaning.specs.Sources.{AreInputs};
+ghost use Rattle.id_print.specs.Reports.{report_text};
+ghost use Rattle.id_print.specs.Told.{Prints};
+ghost use Rattle.id_print.specs.Traces.{trace_text};
 ghost use Rattle.id_print.specs.Within.{ReportWithin};
+ghost use Rattle.id_engine.specs.Alike.{PrintedAlike};
 ghost use Rattle.id_engine.specs.Commands.{Run, ShowsAll, ShowsFront};
+ghost use Rattle.id_engine.specs.Programs.{IsPlacedWithin};
 ghost use Rattle.id_engine.specs.Refusals.{IsInsideOf, IsRefusedRun, IsTakenRun};
-ghost use Rattle.id_engine.specs.Reports.{AreRefusedSteps, Delivers, IsAtRest, HasRun, IsFreshMachine, IsReportFrom};
-ghost use Rattle.id_engine.specs.Reports.{IsReportOf, IsReportOfRun, IsTrueOf, status_of};
-ghost use Rattle.id_engine.specs.Runs.{Ran};
+ghost use Rattle.id_engine.specs.Reports.{AreAllowed, HasCount, HasEvent, HasRun, IsDelivery, IsFreshMachine};
+ghost use Rattle.id_engine.specs.Reports.{IsHeldAt, IsReportFrom, PrintsRun, RunsSo, status_of};
+ghost use Rattle.id_engine.specs.Runs.{AreHeldBefore, IsFree, IsTraceOf, Ran};
 
 use crate::error::EngineError;
 use crate::prepared::{Prepared, prepare};
-use id_core::{Machine, MachineError, Step, TakeError};
+use id_core::{MAX_ELEMENTS, Machine, MachineError, Merged, Step, TakeError, merge_records};
 use id_meaning::Inputs;
-use id_print::{Ending, Report, Sink, run_report, write_report};
+use id_print::{Ending, PrintError, Report, Sink, run_report, write_report, write_trace};
+use id_tag::route;
 use id_valid::Valid;
-use std::alloc::Global;
+use std::alloc::{AllocError, Global};
 
 /// The most steps that an element may be allowed.
 pub const MAX_STEPS: u64 = 100_000_000;
 
-/// How many elements the machine has.
-const ELEMENTS: u32 = 1;
-
-/// A fresh machine for the graph, with these inputs.
+/// A fresh machine of so many elements for the graph, with these inputs.
 fn machine_of<'a>(
     alloc: Global,
     valid: &'a Valid,
     inputs: &Inputs,
+    count: u32,
 ) -> Result<Machine<'a>, EngineError>
-    requires { TakesInputs valid.now inputs.now.values }
+    requires inputs { TakesInputs valid.now inputs.now.values }
+    requires some { 0 < count }
+    requires few { count ≤ 64 }
     ensures start { IfOk result (λ m. m ≡ record {
       graph = valid.now;
-      count = 1;
-      world = start valid.now inputs.now.values 1;
+      count = count;
+      world = start valid.now inputs.now.values count;
     }) }
     ensures memory { IfErr result (λ e. e ≡ EngineError.Memory) }
 {
-    match Machine::new(alloc, valid, inputs, ELEMENTS) {
+    match Machine::new(alloc, valid, inputs, count) {
         Ok(machine) => Ok(machine),
         Err(MachineError::BadElements) => unreachable!(),
         Err(MachineError::Memory) => Err(EngineError::Memory),
@@ -58,43 +63,77 @@ fn goes_on(step: Step) -> bool
     }
 }
 
-/// Delivers the first message in flight that can be delivered, and says what the event came to; or
-/// nothing, if no stamp is left for any of them: that is no want of memory.
-fn deliver_first(machine: &mut Machine<'_>) -> Result<Option<Step>, EngineError>
-    ensures delivers { IfOk result (Delivers machine.old machine.new) }
-    ensures memory { IfErr result (λ e. e ≡ EngineError.Memory) }
-    ensures stamps_left { IfErr result (λ e. ¬ IsAtRest machine.old) }
-    ensures same { IfErr result (λ e. machine.new ≡ machine.old) }
+/// Whether the message at a position is held back: the element that it is for has handled `steps` messages, or no stamp
+/// is left for it there.
+fn is_held_back(machine: &Machine<'_>, position: usize, count: u32, steps: u64) -> bool
+    requires position { position < length machine.now.world.flight }
+    requires count { machine.now.count ≡ count }
+    requires elements { HasCount machine.now }
+    ensures held { IsTrue result → IsHeldAt count steps machine.now.world position }
+    ensures free { IsFalse result → IsFree count steps machine.now.world position }
 {
-    let count = machine.in_flight().len();
-    for position in 0..count {
-        match machine.deliver(position) {
-            Ok(step) => return Ok(Some(step)),
-            Err(TakeError::StampEnd) => {}
-            Err(TakeError::Memory) => return Err(EngineError::Memory),
-        }
+    let message = machine.in_flight().message(position);
+    match machine.elements().get(route(&message, count) as usize) {
+        Some(element) => { element.events().len() as u64 == steps || element.is_ended(&message) }
+        None => unreachable!(),
     }
-    Ok(None)
 }
 
-/// Delivers messages, each time the first that can be delivered, until there is none, at the first fault, or
-/// until the machine's one element has handled `steps` messages.
-fn run_machine(machine: &mut Machine<'_>, steps: u64) -> Result<(), EngineError>
-    requires { IsFreshMachine machine.old }
+/// The first position from this one on whose message is not held back, or how many messages are in flight, if there is
+/// none.
+fn first_free(machine: &Machine<'_>, from: usize, count: u32, steps: u64) -> usize
+    requires from { from ≤ length machine.now.world.flight }
+    requires count { machine.now.count ≡ count }
+    requires elements { HasCount machine.now }
+    requires held { AreHeldBefore count steps machine.now.world from }
+    ensures bound { result ≤ length machine.now.world.flight }
+    ensures held { AreHeldBefore count steps machine.now.world result }
+    ensures free { result ≢ length machine.now.world.flight → IsFree count steps machine.now.world result }
+{
+    let len = machine.in_flight().len();
+    for position in from..len {
+        if !is_held_back(machine, position, count, steps) {
+            return position;
+        }
+    }
+    len
+}
+
+/// Delivers the message at a position, for which a stamp is left, and says what the event came to.
+fn deliver(machine: &mut Machine<'_>, position: usize) -> Result<Step, EngineError>
+    requires position { position < length machine.old.world.flight }
+    requires event { HasEvent machine.old position }
+    ensures delivers { IfOk result (IsDelivery position machine.old machine.new) }
+    ensures memory { IfErr result (λ e. e ≡ EngineError.Memory) }
+    ensures same { IfErr result (λ e. machine.new ≡ machine.old) }
+{
+    match machine.deliver(position) {
+        Ok(step) => Ok(step),
+        Err(TakeError::StampEnd) => unreachable!(),
+        Err(TakeError::Memory) => Err(EngineError::Memory),
+    }
+}
+
+/// Delivers messages, each time the first that is not held back, until there is none, or at the first fault. No message
+/// before `position` is looked at again: what is held back stays so, and what is sent goes last.
+fn run_machine(machine: &mut Machine<'_>, count: u32, steps: u64) -> Result<(), EngineError>
+    requires fresh { IsFreshMachine machine.old }
+    requires count { machine.old.count ≡ count }
+    requires few { steps ≤ 100000000 }
     ensures run { OnOk result (HasRun machine.old machine.new steps) }
     ensures memory { IfErr result (λ e. e ≡ EngineError.Memory) }
-    ensures stamps_left { IfErr result (λ e. ¬ IsAtRest machine.new) }
 {
     id_laws::never_stuck();
-    for handled in 0..steps {
-        let step = deliver_first(machine)?;
-        match step {
-            Some(step) => {
-                if !goes_on(step) {
-                    return Ok(());
-                }
-            }
-            None => return Ok(()),
+    let most = (count as u64) * steps;
+    let mut position = 0usize;
+    for handled in 0..most {
+        position = first_free(machine, position, count, steps);
+        if position == machine.in_flight().len() {
+            return Ok(());
+        }
+        let step = deliver(machine, position)?;
+        if !goes_on(step) {
+            return Ok(());
         }
     }
     Ok(())
@@ -104,83 +143,128 @@ fn run_machine(machine: &mut Machine<'_>, steps: u64) -> Result<(), EngineError>
 fn machine_report(
     alloc: Global,
     machine: &mut Machine<'_>,
+    count: u32,
     steps: u64,
     named: bool,
 ) -> Result<Report, EngineError>
-    requires { IsFreshMachine machine.old }
+    requires fresh { IsFreshMachine machine.old }
+    requires count { machine.old.count ≡ count }
+    requires few { steps ≤ 100000000 }
     ensures run { OnOk result (HasRun machine.old machine.new steps) }
     ensures report { IfOk result (IsReportFrom machine.new named) }
     ensures memory { IfErr result (λ e. e ≡ EngineError.Memory) }
 {
-    run_machine(machine, steps)?;
+    run_machine(machine, count, steps)?;
     let report = run_report(alloc, machine, named)?;
     Ok(report)
 }
 
-/// The report of a run of a compiled program with its inputs, with what names have where that is asked for.
-fn run_prepared(
+/// All events of a machine, by stamp, and at one stamp by element, where they are asked for, and else none.
+fn trace_of<'a>(
+    alloc: Global,
+    machine: &'a Machine<'_>,
+    trace: bool,
+) -> Result<Merged<'a>, AllocError>
+    ensures { IfOk result (IsTraceOf trace machine.now.world) }
+{
+    if trace {
+        merge_records(alloc, machine.elements())
+    } else {
+        merge_records(alloc, &[])
+    }
+}
+
+/// Writes the line of each event, and then the report.
+fn write_run<W: Sink>(
+    events: &Merged<'_>,
+    report: &Report,
+    text: &str,
+    names: bool,
+    out: &mut W,
+) -> Result<(), PrintError>
+    requires fits { length text.now ≤ 1048576 }
+    requires inside { ReportWithin (length text.now) report.now }
+    ensures { Prints (W.told out.old) (W.told out.new)
+        (trace_text events.now ++ report_text text.now names report.now) result }
+{
+    write_trace(events, out)?;
+    write_report(report, text, names, out)
+}
+
+/// Writes the trace of a machine, where it is asked for, and the report, and answers the status. All that is written is
+/// made before the first byte.
+fn print_run<W: Sink>(
+    alloc: Global,
+    machine: &Machine<'_>,
+    report: &Report,
+    text: &str,
+    trace: bool,
+    names: bool,
+    out: &mut W,
+) -> Result<u8, EngineError>
+    requires fits { length text.now ≤ 1048576 }
+    requires inside { ReportWithin (length text.now) report.now }
+    ensures { PrintsRun text.now trace names machine.now.world report.now (W.told out.old) (W.told out.new) result }
+{
+    let events = trace_of(alloc, machine, trace)?;
+    match write_run(&events, report, text, names, out) {
+        Ok(()) => Ok(status_of(&report.ending)),
+        Err(_) => Err(EngineError::Write),
+    }
+}
+
+/// Runs a compiled program with its inputs, and writes what is asked for.
+fn run_prepared<W: Sink>(
     alloc: Global,
     prepared: &Prepared,
+    text: &str,
+    count: u32,
+    trace: bool,
     steps: u64,
-    named: bool,
-) -> Result<Report, EngineError>
-    requires { AreInputs prepared.now.compiled.checked prepared.now.inputs.values }
-    ensures is_true { IfOk result (IsTrueOf (source prepared.now.compiled.checked prepared.now.inputs.values) named) }
-    ensures schemas { OnOk result (Schemas prepared.now.compiled.checked prepared.now.compiled.graph) }
-    ensures run { IfOk result (IsReportOfRun prepared.now.compiled.graph prepared.now.inputs.values steps named) }
-    ensures memory { IfErr result (λ e. e ≡ EngineError.Memory) }
+    names: bool,
+    out: &mut W,
+) -> Result<u8, EngineError>
+    requires inputs { AreInputs prepared.now.compiled.checked prepared.now.inputs.values }
+    requires within { IsPlacedWithin (length text.now) prepared.now.compiled.checked }
+    requires short { length text.now ≤ 1048576 }
+    requires allowed { AreAllowed count steps }
+    ensures { RunsSo prepared.now.compiled.checked prepared.now.inputs.values text.now count trace steps names
+        (W.told out.old) (W.told out.new) result }
 {
     id_laws::sound();
     id_laws::complete();
     id_laws::inputs_fit();
     id_laws::never_stuck();
-    let mut machine = machine_of(alloc, prepared.compiled.valid(), &prepared.inputs)?;
-    machine_report(alloc, &mut machine, steps, named)
+    let mut machine = machine_of(alloc, prepared.compiled.valid(), &prepared.inputs, count)?;
+    let report = machine_report(alloc, &mut machine, count, steps, names)?;
+    print_run(alloc, &machine, &report, text, trace, names, out)
 }
 
-/// The report of a run of a text on these input words, with what names have where that is asked for.
-fn run_text(
-    alloc: Global,
-    text: &str,
-    inputs: &[&str],
-    steps: u64,
-    named: bool,
-) -> Result<Report, EngineError>
-    ensures report { IfOk result (IsReportOf text.now (map (λ w. w.now) inputs.now) steps named) }
-    ensures within { IfOk result (ReportWithin (length text.now)) }
-    ensures short { OnOk result (length text.now ≤ 1048576) }
-    ensures taken { OnOk result (IsTakenRun text.now (map (λ w. w.now) inputs.now) steps) }
-    ensures refused { IfErr result (IsRefusedRun text.now (map (λ w. w.now) inputs.now) steps) }
-    ensures inside { IfErr result (IsInsideOf text.now) }
-    ensures not_write { IfErr result (λ e. e ≢ EngineError.Write) }
-{
-    match prepare(alloc, text, inputs) {
-        Ok(prepared) => run_limited(alloc, &prepared, steps, named),
-        Err(error) => Err(error),
-    }
-}
-
-/// The report of a run of a compiled program with its inputs, where so many steps are allowed.
-fn run_limited(
+/// Runs a compiled program with its inputs, where so many elements and so many steps are allowed, and writes what is
+/// asked for.
+fn run_allowed<W: Sink>(
     alloc: Global,
     prepared: &Prepared,
+    text: &str,
+    count: u32,
+    trace: bool,
     steps: u64,
-    named: bool,
-) -> Result<Report, EngineError>
-    requires { AreInputs prepared.now.compiled.checked prepared.now.inputs.values }
-    ensures is_true { IfOk result (IsTrueOf (source prepared.now.compiled.checked prepared.now.inputs.values) named) }
-    ensures schemas { OnOk result (Schemas prepared.now.compiled.checked prepared.now.compiled.graph) }
-    ensures run { IfOk result (IsReportOfRun prepared.now.compiled.graph prepared.now.inputs.values steps named) }
-    ensures few { OnOk result ((0 < steps) × (steps ≤ 100000000)) }
-    ensures refused { IfErr result (AreRefusedSteps steps) }
+    names: bool,
+    out: &mut W,
+) -> Result<u8, EngineError>
+    requires inputs { AreInputs prepared.now.compiled.checked prepared.now.inputs.values }
+    requires within { IsPlacedWithin (length text.now) prepared.now.compiled.checked }
+    requires short { length text.now ≤ 1048576 }
+    ensures { RunsSo prepared.now.compiled.checked prepared.now.inputs.values text.now count trace steps names
+        (W.told out.old) (W.told out.new) result }
 {
-    if steps == 0 {
+    if count == 0 || count > MAX_ELEMENTS {
+        return Err(EngineError::BadElements);
+    }
+    if steps == 0 || steps > MAX_STEPS {
         return Err(EngineError::BadSteps);
     }
-    if steps > MAX_STEPS {
-        return Err(EngineError::BadSteps);
-    }
-    run_prepared(alloc, prepared, steps, named)
+    run_prepared(alloc, prepared, text, count, trace, steps, names, out)
 }
 
 /// The status of a run that ended so.
@@ -194,38 +278,49 @@ fn status_of(ending: &Ending) -> u8
     }
 }
 
-/// Compiles a text, runs it on the inputs that the words give, each element for at most `steps` messages,
-/// writes what `idc run` prints, with what names have where `names` asks for it, and answers the status: 0
-/// after a quiet run, 1 after a fault, 3 at the step limit.
+/// Compiles a text, runs it on the inputs that the words give, on `count` elements, each for at most `steps` messages,
+/// and writes what `idc run` prints: all events where `trace` asks for them, and then the report, with what names have
+/// where `names` asks for it. It answers the status: 0 after a quiet run, 1 after a fault, 3 at the step limit.
 pub fn engine<W: Sink>(
     alloc: Global,
     text: &str,
     inputs: &[&str],
+    count: u32,
+    trace: bool,
     steps: u64,
     names: bool,
     out: &mut W,
 ) -> Result<u8, EngineError>
     // What is printed is what a run of the text's program on its inputs shows, and the source's equations give it.
     ensures shown { IfOk result
-        (ShowsAll (Run names (map (λ w. w.now) inputs.now)) text.now (W.told out.old) (W.told out.new)) }
+        (ShowsAll (Run names trace (map (λ w. w.now) inputs.now)) text.now (W.told out.old) (W.told out.new)) }
 
-    // It is a run: messages are delivered until there is none, at a fault, or until all those left are held back.
+    // It is a run: the first message that is not held back is delivered, until there is none, or at a fault.
     ensures ran { IfOk result
-        (Ran text.now (map (λ w. w.now) inputs.now) steps names (W.told out.old) (W.told out.new)) }
+        (Ran text.now (map (λ w. w.now) inputs.now) count trace steps names (W.told out.old) (W.told out.new)) }
 
     // After a failed write a front of such a text is out, and after any other error nothing.
     ensures cut { result ≡ Err EngineError.Write
-        → ShowsFront (Run names (map (λ w. w.now) inputs.now)) text.now (W.told out.old) (W.told out.new) }
+        → ShowsFront (Run names trace (map (λ w. w.now) inputs.now)) text.now (W.told out.old) (W.told out.new) }
     ensures silent { IfErr result (λ e. e ≢ EngineError.Write → W.told out.new ≡ W.told out.old) }
 
     // A refusal comes for its cause alone, at a place of the text.
-    ensures taken { OnOk result (IsTakenRun text.now (map (λ w. w.now) inputs.now) steps) }
-    ensures refused { IfErr result (IsRefusedRun text.now (map (λ w. w.now) inputs.now) steps) }
+    ensures taken { OnOk result (IsTakenRun text.now (map (λ w. w.now) inputs.now) count steps) }
+    ensures refused { IfErr result (IsRefusedRun text.now (map (λ w. w.now) inputs.now) count steps) }
     ensures inside { IfErr result (IsInsideOf text.now) }
 {
-    let report = run_text(alloc, text, inputs, steps, names)?;
-    match write_report(&report, text, names, out) {
-        Ok(()) => Ok(status_of(&report.ending)),
-        Err(_) => Err(EngineError::Write),
+    match prepare(alloc, text, inputs) {
+        Ok(prepared) => run_allowed(alloc, &prepared, text, count, trace, steps, names, out),
+        Err(error) => Err(error),
     }
+}
+
+/// *Printed alike*, a law: all runs of one source that fall quiet print the same bytes, whatever the
+/// numberings of their graphs, the numbers of their elements and the orders of their deliveries, and where
+/// one falls quiet none ends at a fault (docs/PROMISES.md, "The run"). Takes no memory.
+pub fn printed_alike()
+    ensures { PrintedAlike }
+{
+    id_laws::sound();
+    id_laws::determinate();
 }

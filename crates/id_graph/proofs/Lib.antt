@@ -1,2 +1,3 @@
 pub mod GraphLemmas
 pub mod ListingLemmas
+pub mod DotLemmas

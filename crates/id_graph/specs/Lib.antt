@@ -2,3 +2,5 @@
 pub mod Ports
 pub mod Graph
 pub mod Listing
+pub mod Dot
+pub mod Begun

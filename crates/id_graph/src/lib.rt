@@ -1,4 +1,4 @@
-//! The dataflow graph: instructions, their ports and destinations, and the listing.
+//! The dataflow graph: instructions, their ports and destinations, the listing and the picture.
 //!
 //! Keeps: every destination is a port that exists, and there are fewer than 2^32 instructions.
 //! Errors: `GraphError`, the refusal 27, with both lists handed back.
@@ -8,11 +8,13 @@
 #![tactic(auto)]
 
 mod dests;
+mod dot;
 mod graph;
 mod instr;
 mod listing;
 
 pub use dests::{Dest, Dests, Port};
+pub use dot::draw;
 pub use graph::{Graph, GraphCause, GraphError, kind_at};
 pub use id_value::{Arithmetic, Comparison, Constant, Truth, UnaryOp};
 pub use instr::{Block, Dyadic, Instr, Op, PortKind};

@@ -88,7 +88,7 @@ fn write_place(out: &mut String, lines: &Lines<'_>, place: usize) -> Result<(), 
 }
 
 /// Appends an operator with its parameters.
-fn write_op(out: &mut String, op: Op) -> Result<(), AllocError>
+pub fn write_op(out: &mut String, op: Op) -> Result<(), AllocError>
     ensures { OnOk result (string_bytes out.new ≡ string_bytes out.old ++ op_text op) }
 {
     match op {
@@ -203,7 +203,7 @@ fn write_sorted(out: &mut String, row: &mut Vec<Dest>, dests: &[Dest]) -> Result
 }
 
 /// Makes the list of these destinations in order.
-fn put_in_order(row: &mut Vec<Dest>, dests: &[Dest]) -> Result<(), AllocError>
+pub fn put_in_order(row: &mut Vec<Dest>, dests: &[Dest]) -> Result<(), AllocError>
     ensures { OnOk result (row.new.items ≡ in_order dests.now) }
 {
     row.clear();
@@ -224,7 +224,7 @@ fn write_dests(out: &mut String, dests: &[Dest]) -> Result<(), AllocError>
 }
 
 /// The number of a port.
-fn port_number(port: Port) -> u32
+pub fn port_number(port: Port) -> u32
     ensures { result ≡ port_number port }
 {
     match port {

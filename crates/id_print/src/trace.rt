@@ -1,4 +1,4 @@
-//! Traces: the events of an element, a line for each.
+//! Traces: the events of a run, a line for each.
 
 ghost use Rattle.std.specs.Prelude.{◌≡◌, ◌++◌};
 ghost use Rattle.id_print.specs.Told.{Prints};
@@ -9,12 +9,12 @@ ghost use Rattle.id_print.specs.Traces.{structure_text, cell_text, from_text, re
 
 use crate::sink::{PrintError, Sink, put};
 use crate::texts::{put_index, put_int, put_long, put_number, put_numbers, truth_bytes};
-use id_core::{Event, Events, Step};
+use id_core::{Event, Merged, Step};
 use id_graph::Port;
 use id_tag::{Cell, Context, Payload, Structure, Tag, Value};
 
 /// Writes a line for each event, in order. Takes no memory.
-pub fn write_trace<W: Sink>(events: &Events<'_>, sink: &mut W) -> Result<(), PrintError>
+pub fn write_trace<W: Sink>(events: &Merged<'_>, sink: &mut W) -> Result<(), PrintError>
     ensures { Prints (W.told sink.old) (W.told sink.new) (trace_text events.now) result }
 {
     for position in 0..events.len() {

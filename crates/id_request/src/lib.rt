@@ -19,11 +19,17 @@ pub enum Request<'a> {
     Graph {
         file: &'a str,
     },
-    /// Run the file on these input words, each element for at most so many messages, and print what its
-    /// names have, too, or not.
+    /// Print the picture of the graph of the file.
+    Draw {
+        file: &'a str,
+    },
+    /// Run the file on these input words, on so many elements, each for at most so many messages, and print the
+    /// trace before all else, or not, and what its names have, too, or not.
     Run {
         file: &'a str,
         inputs: Vec<&'a str>,
+        count: u32,
+        trace: bool,
         steps: u64,
         names: bool,
     },

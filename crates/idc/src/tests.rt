@@ -100,6 +100,7 @@ const ROWS: &str = "\
 run|text.id / answer 14 / def main(): int = 2 + 3 * 4;
 run|text.id|--steps|11 / answer 14 / def main(): int = 2 + 3 * 4;
 run|text.id|--steps|100000000 / answer 14 / def main(): int = 2 + 3 * 4;
+run|text.id|--elements|64 / answer 14 / def main(): int = 2 + 3 * 4;
 run|text.id / fault overflow at @1:49 / def main(): int = (0 - 9223372036854775807 - 1) div (0 - 1);
 check|text.id / ok / def main(n: int): int = n;
 facts|text.id|1 / on @1:21 / def main(): int = 1 + 2;
@@ -137,7 +138,7 @@ fn does_what_the_rows_say(rt: HostRuntime) -> Result<(), Fail> {
             rows = rows.saturating_add(1);
         }
     }
-    assert_eq!(&rt; rows, 15);
+    assert_eq!(&rt; rows, 16);
     Ok(())
 }
 
@@ -213,24 +214,15 @@ fn refuses_once_what_a_buffer_cannot_send_on(rt: HostRuntime) -> Result<(), Fail
     Ok(())
 }
 
-#[test]
-fn allows_a_million_steps_and_refuses_none(rt: HostRuntime) {
+/// Checks that a run on so many elements, each for at most so many messages, is refused with this line.
+fn expect_refusal<R: Abort + AllocGlobal>(rt: &R, count: u32, steps: u64, line: &str) {
     let alloc = rt.alloc();
-    let words = ["run", "text.id"];
-    let read = read_words(alloc, &words);
-    let defaults = matches!(
-        &read,
-        Ok(Request::Run {
-            steps: 1_000_000,
-            names: false,
-            ..
-        })
-    );
-    assert!(&rt; defaults);
     let asked = Ok(Request::Run {
         file: "text.id",
         inputs: Vec::new(alloc),
-        steps: 0,
+        count,
+        trace: true,
+        steps,
         names: false,
     });
     let mut source = OneText {
@@ -240,12 +232,54 @@ fn allows_a_million_steps_and_refuses_none(rt: HostRuntime) {
         writer: Halting { turn: 0 },
     };
     let mut err = Telling {
-        rt: &rt,
+        rt,
         room: 100,
         bytes: Vec::new(alloc),
         failures: 0,
     };
     let status = drive(alloc, &asked, &mut source, &mut out, &mut err);
-    assert_eq!(&rt; status, 4);
-    assert_eq!(&rt; err.bytes.as_slice(), "refused 20 BadSteps\n".as_bytes());
+    assert_eq!(rt; status, 4);
+    assert_eq!(rt; err.bytes.as_slice(), line.as_bytes());
+}
+
+#[test]
+fn allows_a_million_steps_on_one_element_and_refuses_none(rt: HostRuntime) {
+    let words = ["run", "text.id"];
+    let read = read_words(rt.alloc(), &words);
+    let defaults = matches!(
+        &read,
+        Ok(Request::Run {
+            count: 1,
+            trace: false,
+            steps: 1_000_000,
+            names: false,
+            ..
+        })
+    );
+    assert!(&rt; defaults);
+    expect_refusal(&rt, 1, 0, "refused 20 BadSteps\n");
+    expect_refusal(&rt, 0, 0, "refused 19 BadElements\n");
+    expect_refusal(&rt, 65, 1, "refused 19 BadElements\n");
+}
+
+/// The trace of `def main(): int = 7;`, and its answer.
+const TRACED: &str = "\
+1 0 token c0.0#0 1.0 signal
+2 0 token c0.0#0 2.0 k0.0#0:0
+3 0 token c0.0#0 3.0 signal
+4 0 token c0.0#0 2.1 7
+5 0 token c0.0#0 0.0 7
+answer 7
+";
+
+#[test]
+fn prints_the_trace_before_the_answer(rt: HostRuntime) -> Result<(), Fail> {
+    let whole = print(&rt, "def main(): int = 7;", "run|text.id|--trace", 1_000_000)?;
+    assert_eq!(&rt; whole.out.as_slice(), TRACED.as_bytes());
+    assert_eq!(&rt; whole.status, 0);
+    let cut = print(&rt, "def main(): int = 7;", "run|text.id|--trace", 40)?;
+    assert!(&rt; TRACED.as_bytes().starts_with(cut.out.as_slice()));
+    assert_eq!(&rt; cut.err.as_slice(), "refused Write\n".as_bytes());
+    assert_eq!(&rt; cut.status, 5);
+    Ok(())
 }

@@ -1,40 +1,63 @@
-use Rattle.std.proofs.Common.{◌≡◌, ◌≢◌, ℕ, Option, subst, arith, rules}
+use Rattle.std.proofs.Common.{◌≡◌, ◌≢◌, ◌*◌, ℕ, length, sym, subst, ap, ◌∙◌, arith, rules}
 use Rattle.std.proofs.lemmas.Grind.{common_steps}
-use Rattle.id_record.specs.declared.step.Step.{Step}
 use Rattle.id_record.specs.declared.step.Step.TheVariants.{Went}
-use Rattle.id_engine.specs.Reports.{Delivers}
-use Rattle.id_engine.proofs.SingleLemmas.{HasRun-fault, HasRun-limit, HasRun-rest, Reaches, Reaches-none, Reaches-went}
+use Rattle.id_engine.specs.Runs.{AreHeldBefore, IsFree}
+use Rattle.id_engine.proofs.DeliveryLemmas.{HasEvent-free, HasRun-fault, HasRun-limit, HasRun-rest, Reaches-none, Reaches-went}
 use Rattle.id_engine.proofs.StuckLemmas.{not_stuck}
 use Rattle.id_engine.proofs.run.run_machine.Goals as goal
 
 pub loop-handled-init : goal.loop-handled-init
-loop-handled-init c = Reaches-none c.args.machine.now c.requires
+loop-handled-init c = Reaches-none c.args.machine.now c.args.steps c.requires.fresh
 
-pub returns-in-None-clause-run : goal.returns-in-None-clause-run
-returns-in-None-clause-run c =
-    let d = subst (λ (o : Option Step). Delivers c.loop-handled.machine c.deliver_first.new.machine o) c.in-None.is c.in_ok-step.ensures.delivers in
-    HasRun-rest c.args.machine.now c.loop-handled.machine c.deliver_first.new.machine c.loop-handled.handled c.args.steps (c.requires).one c.loop-handled.invariant (omega arith) d.0 d.1
+pub first_free-position-requires-clause-held : goal.first_free-position-requires-clause-held
+first_free-position-requires-clause-held c =
+    subst (λ (n : ℕ). AreHeldBefore n c.args.steps c.loop-handled.machine.world c.loop-handled.position) c.requires.count (c.loop-handled.invariant.goes).held
+
+pub returns-then-position-len-clause-run : goal.returns-then-position-len-clause-run
+returns-then-position-len-clause-run c =
+    let m = c.loop-handled.machine in
+    let q = c.first_free-position.result in
+    let held = subst (λ (n : ℕ). AreHeldBefore n c.args.steps m.world q) (sym c.requires.count) c.first_free-position.ensures.held in
+    let all : q ≡ length m.world.flight = first_of (omega arith, search rules, grind (arith, common_steps)) in
+    HasRun-rest c.args.machine.now m c.args.steps c.loop-handled.handled c.loop-handled.position q c.loop-handled.invariant held all
+
+pub deliver-requires-clause-event : goal.deliver-requires-clause-event
+deliver-requires-clause-event c =
+    let m = c.loop-handled.machine in
+    let q = c.first_free-position.result in
+    let some : q ≢ length m.world.flight = λ e. first_of (omega (arith, e), search rules, grind (arith, common_steps)) in
+    HasEvent-free m c.args.count c.args.steps q (c.loop-handled.invariant.same_count ∙ c.requires.count) (c.first_free-position.ensures.free some)
 
 pub goes_on-requires : goal.goes_on-requires
 goes_on-requires c =
-    let d = subst (λ (o : Option Step). Delivers c.loop-handled.machine c.deliver_first.new.machine o) c.in-Some.is c.in_ok-step.ensures.delivers in
-    not_stuck c.never_stuck.ensures c.args.machine.now c.loop-handled.machine c.deliver_first.new.machine c.loop-handled.handled c.in-Some.step c.requires c.loop-handled.invariant d
+    not_stuck c.never_stuck.ensures c.args.machine.now c.loop-handled.machine c.deliver.new.machine c.args.steps c.loop-handled.handled c.loop-handled.position
+    c.first_free-position.result c.in_ok-step.step c.requires.fresh c.loop-handled.invariant c.in_ok-step.ensures.delivers
 
 pub returns-then-not-goes_on-clause-run : goal.returns-then-not-goes_on-clause-run
 returns-then-not-goes_on-clause-run c =
-    let d = subst (λ (o : Option Step). Delivers c.loop-handled.machine c.deliver_first.new.machine o) c.in-Some.is c.in_ok-step.ensures.delivers in
-    let stuck = not_stuck c.never_stuck.ensures c.args.machine.now c.loop-handled.machine c.deliver_first.new.machine c.loop-handled.handled c.in-Some.step c.requires c.loop-handled.invariant d in
-    let went : c.in-Some.step ≢ Went = λ e. (let t = c.goes_on.ensures.1 e in absurd (first_of (cc, search rules, grind (arith, common_steps)))) in
-    HasRun-fault c.args.machine.now c.loop-handled.machine c.deliver_first.new.machine c.loop-handled.handled c.in-Some.step (c.requires).one c.loop-handled.invariant d
-    c.args.steps went stuck (omega arith)
+    let m = c.loop-handled.machine in
+    let q = c.first_free-position.result in
+    let some : q ≢ length m.world.flight = λ e. first_of (omega (arith, e), search rules, grind (arith, common_steps)) in
+    let held = subst (λ (n : ℕ). AreHeldBefore n c.args.steps m.world q) (sym c.requires.count) c.first_free-position.ensures.held in
+    let free = subst (λ (n : ℕ). IsFree n c.args.steps m.world q) (sym c.requires.count) (c.first_free-position.ensures.free some) in
+    let stuck = not_stuck c.never_stuck.ensures c.args.machine.now m c.deliver.new.machine c.args.steps c.loop-handled.handled c.loop-handled.position q c.in_ok-step.step
+    c.requires.fresh c.loop-handled.invariant c.in_ok-step.ensures.delivers in
+    let went : c.in_ok-step.step ≢ Went = λ e. (let t = c.goes_on.ensures.1 e in absurd (first_of (cc, search rules, grind (arith, common_steps)))) in
+    HasRun-fault c.args.machine.now m c.deliver.new.machine c.args.steps c.loop-handled.handled c.loop-handled.position q c.in_ok-step.step c.loop-handled.invariant held free
+    c.in_ok-step.ensures.delivers went stuck
 
 pub loop-handled-preserved : goal.loop-handled-preserved
 loop-handled-preserved c =
-    let d = subst (λ (o : Option Step). Delivers c.loop-handled.machine c.deliver_first.new.machine o) c.in-Some.is c.in_ok-step.ensures.delivers in
-    Reaches-went c.args.machine.now c.loop-handled.machine c.deliver_first.new.machine c.loop-handled.handled c.in-Some.step (c.requires).one c.loop-handled.invariant d
-    (c.goes_on.ensures.0 (first_of (cc, search rules, grind (arith, common_steps))))
+    let m = c.loop-handled.machine in
+    let q = c.first_free-position.result in
+    let some : q ≢ length m.world.flight = λ e. first_of (omega (arith, e), search rules, grind (arith, common_steps)) in
+    let held = subst (λ (n : ℕ). AreHeldBefore n c.args.steps m.world q) (sym c.requires.count) c.first_free-position.ensures.held in
+    let free = subst (λ (n : ℕ). IsFree n c.args.steps m.world q) (sym c.requires.count) (c.first_free-position.ensures.free some) in
+    Reaches-went c.args.machine.now m c.deliver.new.machine c.args.steps c.loop-handled.handled c.loop-handled.position q c.in_ok-step.step c.loop-handled.invariant held free
+    c.in_ok-step.ensures.delivers (c.goes_on.ensures.0 (first_of (cc, search rules, grind (arith, common_steps))))
 
 pub returns-clause-run : goal.returns-clause-run
 returns-clause-run c =
-    let e : c.loop-handled.handled ≡ c.args.steps = omega arith in
-    HasRun-limit c.args.machine.now c.loop-handled.machine c.args.steps (subst (λ (n : ℕ). Reaches c.args.machine.now c.loop-handled.machine n) e c.loop-handled.invariant)
+    let most : c.loop-handled.handled ≡ c.args.count * c.args.steps = first_of (omega arith, search rules, grind (arith, common_steps)) in
+    HasRun-limit c.args.machine.now c.loop-handled.machine c.args.steps c.loop-handled.handled c.loop-handled.position c.requires.fresh c.loop-handled.invariant
+    (most ∙ ap (λ n. n * c.args.steps) (sym c.requires.count))

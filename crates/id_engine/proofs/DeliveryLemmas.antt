@@ -1,0 +1,499 @@
+-- Deliveries to a machine, each of the first message that is not held back (specs/Reports.antt).
+use Rattle.std.proofs.Common.{◌≡◌, ◌≢◌, ℕ, zero, suc, ◌+◌, ◌-◌, ◌*◌, ◌^◌, ◌==◌, ◌<◌, ◌≤◌, ◌⊎◌, Bool, true, false, cond, ◌||◌, inl, inr, List, [], ◌∷◌, ◌++◌, All, length, take, drop, replicate, Option, Some, None, slice_get, slice_index_or, slice_set, IsTrue, IsFalse, refl, sym, ap, subst, ◌∙◌, arith, length-append, length-set, append_assoc}
+use Rattle.std.proofs.lemmas.Bool.{cases_eq}
+use Rattle.std.specs.List.{cons_option, remove}
+use Rattle.std.proofs.lemmas.List.Elements.{filter_map-append}
+use Rattle.std.proofs.lemmas.Nat.{mod_below}
+use Rattle.std.proofs.lemmas.Option.{slice_get-get_or}
+use Rattle.id_graph.specs.Graph.{Parts}
+use Rattle.id_tag.specs.declared.Payload.{Payload}
+use Rattle.id_tag.specs.declared.Payload.TheVariants.{Token, Read, Write}
+use Rattle.id_tag.specs.declared.Message.{Message}
+use Rattle.id_tag.specs.declared.Tag.{Tag}
+use Rattle.id_tag.specs.declared.Structure.{Structure}
+use Rattle.id_tag.specs.Routes.{offset_of, route_of}
+use Rattle.id_meaning.specs.declared.Path.{Path}
+use Rattle.id_meaning.specs.declared.Site.{Site}
+use Rattle.id_meaning.specs.declared.SourceFault.{SourceFault}
+use Rattle.id_record.specs.declared.step.Step.{Step}
+use Rattle.id_record.specs.declared.step.Step.TheVariants.{Went, Fault, Stuck}
+use Rattle.id_record.specs.declared.step.Fault.TheVariants.{Operator, SecondStore}
+use Rattle.id_core.specs.Events.{EventView}
+use Rattle.id_core.specs.Steps.{State, event_of, fresh, is_ended, state_after}
+use Rattle.id_core.specs.Machines.{World, MachineView, delivered, event_at, event_of_given, event_of_routed, given_to, routed_to, run, taken_from, world_of}
+use Rattle.id_core.specs.Replays.{ElementView}
+use Rattle.id_core.specs.Observed.{events_of, fault_of, faults, faults_of, path_in, structure_in}
+use Rattle.id_list.proofs.PlacesLemmas.{set-here, set-elsewhere, slice_get-image, slice_get-set}
+use Rattle.id_engine.specs.Runs.{AreHeldBefore, AreOfFirst, IsFree, IsHeldBack}
+use Rattle.id_engine.specs.Reports.{at_fault, at_rest, HasCount, HasEvent, HasRun, IsDelivery, IsFreshMachine, IsHeldAt}
+use Rattle.id_engine.proofs.RunLemmas.{run-append}
+
+-- ---- a message that is not held back
+
+-- its delivery makes an event, and this is the machine afterwards
+pub event-free : (g : Parts) (count steps : ℕ) (w : World) (k : ℕ) → (f : IsFree count steps w k)
+    → event_at g count w k ≡ Some (event_of g (route_of f.message.payload count) f.state f.message)
+event-free g count steps w k f =
+    let n = route_of f.message.payload count in
+    ap (event_of_routed g count w) f.at ∙ ap (event_of_given g n f.message) f.element ∙ ap (λ b. cond b None (Some (event_of g n f.state f.message))) f.stamp
+
+delivered-free : (g : Parts) (count steps : ℕ) (w : World) (k : ℕ) → (f : IsFree count steps w k)
+    → delivered g count w k ≡ taken_from g k w f.message (route_of f.message.payload count) f.state
+delivered-free g count steps w k f =
+    let n = route_of f.message.payload count in
+    ap (routed_to g count k w) f.at ∙ ap (given_to g k w f.message n) f.element ∙ ap (λ b. cond b w (taken_from g k w f.message n f.state)) f.stamp
+
+pub HasEvent-free : (m : MachineView) (count steps k : ℕ) → m.count ≡ count → IsFree count steps m.world k → HasEvent m k
+HasEvent-free m count steps k is f =
+    let made = event-free m.graph count steps m.world k f in
+    (_, subst (λ (c : ℕ). event_at m.graph c m.world k ≡ Some (event_of m.graph (route_of f.message.payload count) f.state f.message)) (sym is) made)
+
+-- it is there
+within_get : {A : Type 0} (xs : List A) (k : ℕ) (x : A) → slice_get xs k ≡ Some x → k < length xs
+within_get [] k x h = absurd cc
+within_get (y ∷ ys) zero x h = omega arith
+within_get (y ∷ ys) (suc k) x h = let le = within_get ys k x h in omega (arith, le)
+
+pub IsFree-within : (count steps : ℕ) (w : World) (k : ℕ) → IsFree count steps w k → k < length w.flight
+IsFree-within count steps w k f = within_get w.flight k f.message f.at
+
+-- ---- what is left in place
+
+before_taken : {A : Type 0} (xs zs : List A) (k j : ℕ) → j < k → k < length xs → slice_get (take k xs ++ zs) j ≡ slice_get xs j
+before_taken [] zs k j lt within = absurd (omega (arith, within))
+before_taken (x ∷ xs) zs zero j lt within = absurd (omega (arith, lt))
+before_taken (x ∷ xs) zs (suc k) zero lt within = refl
+before_taken (x ∷ xs) zs (suc k) (suc j) lt within = before_taken xs zs k j (omega (arith, lt)) (omega (arith, within))
+
+before_removed : {A : Type 0} (xs ys : List A) (k j : ℕ) → j < k → k < length xs → slice_get (remove xs k ++ ys) j ≡ slice_get xs j
+before_removed xs ys k j lt within = ap (λ zs. slice_get zs j) (append_assoc (take k xs) (drop (suc k) xs) ys) ∙ before_taken xs (drop (suc k) xs ++ ys) k j lt within
+
+-- ---- what is held back stays so
+
+ended_by_message : (a b c : Bool) → (a || b) ≡ true → (a || c) ≡ false → b ≡ true
+ended_by_message true b c h k = absurd cc
+ended_by_message false b c h k = h
+
+ended_whatever : (a b : Bool) → b ≡ true → (a || b) ≡ true
+ended_whatever true b h = refl
+ended_whatever false b h = h
+
+strictly : (a b : ℕ) → a ≤ b → (a ≡ b → ⊥) → a < b
+strictly zero zero le ne = absurd (ne refl)
+strictly zero (suc b) le ne = omega arith
+strictly (suc a) zero le ne = absurd (omega (arith, le))
+strictly (suc a) (suc b) le ne = let r = strictly a b (omega (arith, le)) (λ e. ne (ap suc e)) in omega (arith, r)
+
+some_same : {A : Type 0} (x y : A) → Some x ≡ Some y → x ≡ y
+some_same x y h = cc
+
+module _ (g : Parts) (count steps : ℕ) (w : World) (k : ℕ) (f : IsFree count steps w k) where
+  abbrev number : ℕ
+  number = route_of f.message.payload count
+
+  abbrev next : State
+  next = state_after g number f.state f.message
+
+  abbrev to : World
+  to = taken_from g k w f.message number f.state
+
+  -- a message for the element that took one
+  held_same : (m : Message) (h : IsHeldBack count steps w m) → route_of m.payload count ≡ number → IsHeldBack count steps to m
+  held_same m h is =
+      let here : Some h.state ≡ Some f.state = sym h.element ∙ ap (slice_get w.elements) is ∙ f.element in
+      let same : h.state ≡ f.state = some_same h.state f.state here in
+      record {
+        state = next;
+        element = ap (slice_get to.elements) is ∙ set-here w.elements number next f.state f.element;
+        held = at h.held same;
+      }
+    where
+      at : (length h.state.events ≡ steps) ⊎ IsTrue (is_ended h.state m) → h.state ≡ f.state → (length next.events ≡ steps) ⊎ IsTrue (is_ended next m)
+      at (inl limit) same = absurd (f.some (ap (λ s. length s.events) (sym same) ∙ limit))
+      at (inr ended) same =
+          let old : is_ended f.state m ≡ true = subst (λ (s : State). is_ended s m ≡ true) same ended in
+          inr (ended_whatever (next.stamp == 2 ^ 64 - 1) (m.stamp == 2 ^ 64 - 1) (ended_by_message (f.state.stamp == 2 ^ 64 - 1) (m.stamp == 2 ^ 64 - 1) (f.message.stamp == 2 ^ 64 - 1) old f.stamp))
+
+  -- a message for another element
+  held_other : (m : Message) (h : IsHeldBack count steps w m) → (route_of m.payload count ≡ number → ⊥) → IsHeldBack count steps to m
+  held_other m h other = record {
+    state = h.state;
+    element = set-elsewhere w.elements number (route_of m.payload count) next other ∙ h.element;
+    held = h.held;
+  }
+
+  held_on : (m : Message) → IsHeldBack count steps w m → IsHeldBack count steps to m
+  held_on m h = at (cases_eq (route_of m.payload count) number)
+    where
+      at : (route_of m.payload count ≡ number) ⊎ (route_of m.payload count ≡ number → ⊥) → IsHeldBack count steps to m
+      at (inl is) = held_same m h is
+      at (inr other) = held_other m h other
+
+  held_before : AreHeldBefore count steps w k → AreHeldBefore count steps to k
+  held_before held j m lt at = held_on m (held j m lt (sym (before_removed w.flight _ k j lt (IsFree-within count steps w k f)) ∙ at))
+
+  -- no element has handled more than it may
+  few_after : ((n : ℕ) (e : State) → slice_get w.elements n ≡ Some e → length e.events ≤ steps) → (n : ℕ) (e : State) → slice_get to.elements n ≡ Some e → length e.events ≤ steps
+  few_after few n e at = cases (slice_get-set w.elements number n next e at)
+    where
+      cases : ((n ≡ number) × (e ≡ next)) ⊎ (slice_get w.elements n ≡ Some e) → length e.events ≤ steps
+      cases (inl h) =
+          let old = strictly (length f.state.events) steps (few number f.state f.element) f.some in
+          let long = length-append f.state.events (event_of g number f.state f.message ∷ []) in
+          let is = ap (λ s. length s.events) h.1 in
+          omega (arith, old, long, is)
+      cases (inr h) = few n e h
+
+-- ---- the events of all elements
+
+-- the events of elements of which one has handled one more message
+record Split (es : List State) (n : ℕ) (a : State) (v : EventView) : Type 0 where
+  xs : List EventView
+  ys : List EventView
+  old : events_of es ≡ xs ++ ys
+  new : events_of (slice_set es n a) ≡ xs ++ v ∷ ys
+
+split : (es : List State) (n : ℕ) (e a : State) (v : EventView) → slice_get es n ≡ Some e → a.events ≡ e.events ++ v ∷ [] → Split es n a v
+split [] n e a v at is = absurd cc
+split (s ∷ es) zero e a v at is =
+    let same : s ≡ e = cc in
+    record {
+      xs = e.events;
+      ys = events_of es;
+      old = ap (λ (x : State). x.events ++ events_of es) same;
+      new = ap (λ l. l ++ events_of es) is ∙ append_assoc e.events (v ∷ []) (events_of es);
+    }
+split (s ∷ es) (suc n) e a v at is =
+    let t = split es n e a v at is in
+    record {
+      xs = s.events ++ t.xs;
+      ys = t.ys;
+      old = ap (λ l. s.events ++ l) t.old ∙ sym (append_assoc s.events t.xs t.ys);
+      new = ap (λ l. s.events ++ l) t.new ∙ sym (append_assoc s.events t.xs (v ∷ t.ys));
+    }
+
+length-put : (xs ys : List EventView) (v : EventView) → length (xs ++ v ∷ ys) ≡ length (xs ++ ys) + 1
+length-put xs ys v = let a = length-append xs (v ∷ ys) in let b = length-append xs ys in omega (arith, a, b)
+
+-- ---- faults
+
+-- events that show no fault with these paths and names show none with any
+pathless : (g : Parts) (p q : Tag → Path) (m n : Structure → Site) (x : Step) → fault_of g p m x ≡ None → fault_of g q n x ≡ None
+pathless g p q m n Went h = refl
+pathless g p q m n (Fault (Operator f t)) h = absurd cc
+pathless g p q m n (Fault (SecondStore c t u)) h = absurd cc
+pathless g p q m n Stuck h = refl
+
+faults_pathless : (g : Parts) (p q : Tag → Path) (m n : Structure → Site) (vs : List EventView) → faults_of g p m vs ≡ [] → faults_of g q n vs ≡ []
+faults_pathless g p q m n [] h = refl
+faults_pathless g p q m n (v ∷ vs) h = go (fault_of g p m v.step) refl (faults_pathless g p q m n vs) h
+  where
+    go : (o : Option SourceFault) → fault_of g p m v.step ≡ o → (faults_of g p m vs ≡ [] → faults_of g q n vs ≡ []) → cons_option o (faults_of g p m vs) ≡ []
+        → cons_option (fault_of g q n v.step) (faults_of g q n vs) ≡ []
+    go None is rest h = ap (λ o. cons_option o (faults_of g q n vs)) (pathless g p q m n v.step is) ∙ rest h
+    go (Some f) is rest h = absurd cc
+
+no_first : {A : Type 0} (xs ys : List A) → xs ++ ys ≡ [] → xs ≡ []
+no_first [] ys h = refl
+no_first (x ∷ xs) ys h = absurd cc
+
+no_second : {A : Type 0} (xs ys : List A) → xs ++ ys ≡ [] → ys ≡ []
+no_second [] ys h = h
+no_second (x ∷ xs) ys h = absurd cc
+
+-- one event more among events that show no fault
+faults_put : (g : Parts) (p : Tag → Path) (m : Structure → Site) (xs ys : List EventView) (v : EventView) → faults_of g p m (xs ++ ys) ≡ []
+    → faults_of g p m (xs ++ v ∷ ys) ≡ cons_option (fault_of g p m v.step) []
+faults_put g p m xs ys v none =
+    let h : EventView → Option SourceFault = λ u. fault_of g p m u.step in
+    let apart = sym (filter_map-append h xs ys) ∙ none in
+    let a : faults_of g p m xs ≡ [] = no_first (faults_of g p m xs) (faults_of g p m ys) apart in
+    let b : faults_of g p m ys ≡ [] = no_second (faults_of g p m xs) (faults_of g p m ys) apart in
+    filter_map-append h xs (v ∷ ys) ∙ ap (λ fs. fs ++ cons_option (h v) (faults_of g p m ys)) a ∙ ap (cons_option (h v)) b
+
+-- what a machine shows that showed no fault, after one event more
+faults-next : (g : Parts) (w to : World) (n : ℕ) (a : State) (v : EventView) → (s : Split w.elements n a v) → to.elements ≡ slice_set w.elements n a → faults g w ≡ []
+    → faults g to ≡ cons_option (fault_of g (path_in g to.elements) (structure_in g to.elements) v.step) []
+faults-next g w to n a v s is none =
+    let p = path_in g to.elements in
+    let m = structure_in g to.elements in
+    let old : faults_of g p m (events_of w.elements) ≡ [] = faults_pathless g (path_in g w.elements) p (structure_in g w.elements) m (events_of w.elements) none in
+    ap (λ (es : List State). faults_of g p m (events_of es)) is ∙ ap (faults_of g p m) s.new
+    ∙ faults_put g p m s.xs s.ys v (ap (faults_of g p m) (sym s.old) ∙ old)
+
+-- ---- how many events there are
+
+total_bound : (es : List State) (steps : ℕ) → ((n : ℕ) (e : State) → slice_get es n ≡ Some e → length e.events ≤ steps) → length (events_of es) ≤ length es * steps
+total_bound [] steps few = omega arith
+total_bound (s ∷ es) steps few =
+    let here = few 0 s refl in
+    let rest = total_bound es steps (λ n e at. few (suc n) e at) in
+    let long = length-append s.events (events_of es) in
+    omega (arith, here, rest, long)
+
+-- where all have handled as many together as they may, each has
+all_full : (es : List State) (steps : ℕ) → ((n : ℕ) (e : State) → slice_get es n ≡ Some e → length e.events ≤ steps) → length (events_of es) ≡ length es * steps
+    → (n : ℕ) (e : State) → slice_get es n ≡ Some e → length e.events ≡ steps
+all_full [] steps few full n e at = absurd cc
+all_full (s ∷ es) steps few full zero e at =
+    let same : s ≡ e = cc in
+    let here = few 0 s refl in
+    let rest = total_bound es steps (λ n e at. few (suc n) e at) in
+    let long = length-append s.events (events_of es) in
+    ap (λ (x : State). length x.events) (sym same) ∙ omega (arith, here, rest, long, full)
+all_full (s ∷ es) steps few full (suc n) e at =
+    let here = few 0 s refl in
+    let rest = total_bound es steps (λ n e at. few (suc n) e at) in
+    let long = length-append s.events (events_of es) in
+    all_full es steps (λ n e at. few (suc n) e at) (omega (arith, here, rest, long, full)) n e at
+
+get_within : {A : Type 0} (xs : List A) (k : ℕ) → k < length xs → (x : A) × (slice_get xs k ≡ Some x)
+get_within [] k lt = absurd (omega (arith, lt))
+get_within (x ∷ xs) zero lt = (x, refl)
+get_within (x ∷ xs) (suc k) lt = get_within xs k (omega (arith, lt))
+
+route_below : (x : Payload) (count : ℕ) → 0 < count → route_of x count < count
+route_below (Token t p v) count some = mod_below (t.context.element + t.context.serial + t.iteration) count some
+route_below (Read c t) count some = mod_below (c.structure.element + c.structure.serial + offset_of c) count some
+route_below (Write c v t) count some = mod_below (c.structure.element + c.structure.serial + offset_of c) count some
+
+-- ---- runs
+
+push_first : (g : Parts) (count steps : ℕ) (ks : List ℕ) (k : ℕ) (s : World) → AreOfFirst g count steps ks s → AreHeldBefore count steps (run g count ks s) k
+    → IsFree count steps (run g count ks s) k → AreOfFirst g count steps (ks ++ k ∷ []) s
+push_first g count steps [] k s h held free = (held, free, tt)
+push_first g count steps (j ∷ ks) k s h held free = (h.0, h.1, push_first g count steps ks k (delivered g count s j) h.2 held free)
+
+-- deliveries have led from one state to another: each was of the first message that was not held back, no element has
+-- handled more than it may, there was no fault, and the messages before a position are held back
+pub record GoesOn (g : Parts) (count steps : ℕ) (from to : World) (n position : ℕ) : Type 0 where
+  pub positions : List ℕ
+  pub world : to ≡ run g count positions from
+  pub first : AreOfFirst g count steps positions from
+  pub few : (k : ℕ) (e : State) → slice_get to.elements k ≡ Some e → length e.events ≤ steps
+  pub none : faults g to ≡ []
+  pub size : length to.elements ≡ count
+  pub handled : length (events_of to.elements) ≡ n
+  pub held : AreHeldBefore count steps to position
+  pub within : position ≤ length to.flight
+
+-- the machine b is what such deliveries have made of a
+pub record Reaches (a b : MachineView) (steps n position : ℕ) : Type 0 where
+  pub same_graph : b.graph ≡ a.graph
+  pub same_count : b.count ≡ a.count
+  pub goes : GoesOn a.graph a.count steps a.world b.world n position
+
+fresh_events : (c : ℕ) → events_of (replicate c fresh) ≡ []
+fresh_events zero = refl
+fresh_events (suc c) = fresh_events c
+
+fresh_few : (steps c k : ℕ) (e : State) → slice_get (replicate c fresh) k ≡ Some e → length e.events ≤ steps
+fresh_few steps zero k e h = absurd cc
+fresh_few steps (suc c) zero e h =
+    let same : fresh ≡ e = cc in
+    subst (λ (x : State). length x.events ≤ steps) same (omega arith)
+fresh_few steps (suc c) (suc k) e h = fresh_few steps c k e h
+
+so_many : {A : Type 0} (c : ℕ) (x : A) → length (replicate c x) ≡ c
+so_many zero x = refl
+so_many (suc c) x = ap suc (so_many c x)
+
+-- at the start no delivery was made
+pub Reaches-none : (a : MachineView) (steps : ℕ) → IsFreshMachine a → Reaches a a steps 0 0
+Reaches-none a steps h = record {
+  same_graph = refl;
+  same_count = refl;
+  goes = record {
+    positions = [];
+    world = refl;
+    first = tt;
+    few = λ k e at. fresh_few steps a.count k e (ap (λ w. slice_get w.elements k) (sym h.world) ∙ at);
+    none = ap (faults a.graph) h.world ∙ ap (faults_of a.graph (path_in a.graph (replicate a.count fresh)) (structure_in a.graph (replicate a.count fresh))) (fresh_events a.count);
+    size = ap (λ w. length w.elements) h.world ∙ so_many a.count fresh;
+    handled = ap (λ w. length (events_of w.elements)) h.world ∙ ap length (fresh_events a.count);
+    held = λ j m lt at. absurd (omega (arith, lt));
+    within = omega arith;
+  };
+}
+
+pub HasCount-reaches : (a b : MachineView) (steps n p : ℕ) → IsFreshMachine a → Reaches a b steps n p → HasCount b
+HasCount-reaches a b steps n p fresh h =
+    let same = h.same_count in
+    let size = (h.goes).size in
+    (omega (arith, fresh.some, same), omega (arith, fresh.few, same), size ∙ sym same)
+
+long_enough : {A : Type 0} (xs zs : List A) (k : ℕ) → k < length xs → k ≤ length (take k xs ++ zs)
+long_enough [] zs k lt = absurd (omega (arith, lt))
+long_enough (x ∷ xs) zs zero lt = omega arith
+long_enough (x ∷ xs) zs (suc k) lt = let le = long_enough xs zs k (omega (arith, lt)) in omega (arith, le)
+
+still_within : {A : Type 0} (xs ys : List A) (k : ℕ) → k < length xs → k ≤ length (remove xs k ++ ys)
+still_within {A = A} xs ys k lt =
+    let le = long_enough xs (drop (suc k) xs ++ ys) k lt in
+    subst (λ (zs : List A). k ≤ length zs) (sym (append_assoc (take k xs) (drop (suc k) xs) ys)) le
+
+-- an element that is another after it has handled a fault
+failed : (g : Parts) (path : Tag → Path) (name : Structure → Site) (x : Step) → x ≢ Went → x ≢ Stuck → (f : SourceFault) × (fault_of g path name x ≡ Some f)
+failed g path name Went w s = absurd (w refl)
+failed g path name (Fault (Operator f t)) w s = (_, refl)
+failed g path name (Fault (SecondStore c t u)) w s = (_, refl)
+failed g path name Stuck w s = absurd (s refl)
+
+-- one delivery more, of the first message that is not held back
+module _ (g : Parts) (count steps : ℕ) (from w : World) (n p q : ℕ) (v : EventView) (h : GoesOn g count steps from w n p) (held : AreHeldBefore count steps w q)
+    (f : IsFree count steps w q) (made : event_at g count w q ≡ Some v) where
+  abbrev after : World
+  after = to g count steps w q f
+
+  is_after : delivered g count w q ≡ after
+  is_after = delivered-free g count steps w q f
+
+  event_is : v ≡ event_of g (number g count steps w q f) f.state f.message
+  event_is = some_same v _ (sym made ∙ event-free g count steps w q f)
+
+  parts : Split w.elements (number g count steps w q f) (next g count steps w q f) v
+  parts = split w.elements (number g count steps w q f) f.state (next g count steps w q f) v f.element (ap (λ u. f.state.events ++ u ∷ []) (sym event_is))
+
+  faults_are : faults g after ≡ cons_option (fault_of g (path_in g after.elements) (structure_in g after.elements) v.step) []
+  faults_are = faults-next g w after (number g count steps w q f) (next g count steps w q f) v parts refl h.none
+
+  run_is : after ≡ run g count (h.positions ++ q ∷ []) from
+  run_is = sym is_after ∙ ap (λ x. delivered g count x q) h.world ∙ sym (run-append g count h.positions (q ∷ []) from)
+
+  first_is : AreOfFirst g count steps (h.positions ++ q ∷ []) from
+  first_is = push_first g count steps h.positions q from h.first (subst (λ (x : World). AreHeldBefore count steps x q) h.world held) (subst (λ (x : World). IsFree count steps x q) h.world f)
+
+  GoesOn-went : v.step ≡ Went → GoesOn g count steps from after (n + 1) q
+  GoesOn-went went = record {
+    positions = h.positions ++ q ∷ [];
+    world = run_is;
+    first = first_is;
+    few = few_after g count steps w q f h.few;
+    none = faults_are ∙ ap (λ (x : Step). cons_option (fault_of g (path_in g after.elements) (structure_in g after.elements) x) []) went;
+    size = length-set w.elements (number g count steps w q f) (next g count steps w q f) ∙ h.size;
+    handled = ap length parts.new ∙ length-put parts.xs parts.ys v ∙ ap (λ l. length l + 1) (sym parts.old) ∙ ap (λ i. i + 1) h.handled;
+    held = held_before g count steps w q f held;
+    within = still_within w.flight _ q (IsFree-within count steps w q f);
+  }
+
+-- a delivery to b, as one to the graph of a
+module _ (a b c : MachineView) (steps n p q : ℕ) (step : Step) (h : Reaches a b steps n p) (held : AreHeldBefore a.count steps b.world q) (f : IsFree a.count steps b.world q)
+    (d : IsDelivery q b c step) where
+  made_there : event_at a.graph a.count b.world q ≡ Some d.event
+  made_there =
+      let E : Parts → ℕ → Type 0 = λ g i. event_at g i b.world q ≡ Some d.event in
+      subst (λ (i : ℕ). E a.graph i) h.same_count (subst (λ (g : Parts). E g b.count) h.same_graph d.made)
+
+  abbrev there : World
+  there = after a.graph a.count steps a.world b.world n p q d.event h.goes held f made_there
+
+  world_is : c.world ≡ there
+  world_is =
+      ap (λ m. m.world) d.new_is ∙ ap (λ g. delivered g b.count b.world q) h.same_graph ∙ ap (λ i. delivered a.graph i b.world q) h.same_count
+      ∙ is_after a.graph a.count steps a.world b.world n p q d.event h.goes held f made_there
+
+  graph_is : c.graph ≡ a.graph
+  graph_is = ap (λ m. m.graph) d.new_is ∙ h.same_graph
+
+  count_is : c.count ≡ a.count
+  count_is = ap (λ m. m.count) d.new_is ∙ h.same_count
+
+  pub Reaches-went : step ≡ Went → Reaches a c steps (n + 1) q
+  Reaches-went went = record {
+    same_graph = graph_is;
+    same_count = count_is;
+    goes = subst (λ (x : World). GoesOn a.graph a.count steps a.world x (n + 1) q) (sym world_is)
+        (GoesOn-went a.graph a.count steps a.world b.world n p q d.event h.goes held f made_there (d.step_is ∙ went));
+  }
+
+  pub HasRun-fault : step ≢ Went → step ≢ Stuck → HasRun a c steps
+  HasRun-fault went stuck =
+      let path = path_in a.graph there.elements in
+      let name = structure_in a.graph there.elements in
+      let x = failed a.graph path name step went stuck in
+      let ks = (h.goes).positions in
+      let run_there = run_is a.graph a.count steps a.world b.world n p q d.event h.goes held f made_there in
+      let few_there = few_after a.graph a.count steps b.world q f (h.goes).few in
+      let shown : faults a.graph there ≡ x.0 ∷ [] =
+      faults_are a.graph a.count steps a.world b.world n p q d.event h.goes held f made_there
+      ∙ ap (λ (y : Step). cons_option (fault_of a.graph path name y) []) d.step_is ∙ ap (λ o. cons_option o []) x.1 in
+      record {
+        positions = ks ++ q ∷ [];
+        same_graph = graph_is;
+        same_count = count_is;
+        world = world_is ∙ run_there;
+        first = first_is a.graph a.count steps a.world b.world n p q d.event h.goes held f made_there;
+        few = subst (λ (y : World). All (λ s. length s.events ≤ steps) y.elements) (sym world_is)
+            (λ k e within. few_there k (slice_index_or there.elements k e) (slice_get-get_or there.elements k e within));
+        ended = at_fault x.0 (record {
+          before = ks;
+          last = q;
+          deliveries = refl;
+          none_before = ap (faults a.graph) (sym (h.goes).world) ∙ (h.goes).none;
+          one = ap (faults a.graph) (sym run_there) ∙ shown;
+        });
+      }
+
+-- a run to where all that is left is held back
+ended_run : (a b : MachineView) (steps n p : ℕ) → Reaches a b steps n p → All (IsHeldBack a.count steps b.world) b.world.flight → HasRun a b steps
+ended_run a b steps n p h held =
+    let ks = (h.goes).positions in
+    let H : World → Type 0 = λ w. All (IsHeldBack a.count steps w) w.flight in
+    record {
+      positions = ks;
+      same_graph = h.same_graph;
+      same_count = h.same_count;
+      world = (h.goes).world;
+      first = (h.goes).first;
+      few = λ k e within. (h.goes).few k (slice_index_or b.world.elements k e) (slice_get-get_or b.world.elements k e within);
+      ended = at_rest (ap (faults a.graph) (sym (h.goes).world) ∙ (h.goes).none) (subst H (h.goes).world held);
+    }
+
+pub HasRun-rest : (a b : MachineView) (steps n p q : ℕ) → Reaches a b steps n p → AreHeldBefore a.count steps b.world q → q ≡ length b.world.flight → HasRun a b steps
+HasRun-rest a b steps n p q h held all =
+    ended_run a b steps n p h (λ k d within. held k (slice_index_or b.world.flight k d) (omega (arith, within, all)) (slice_get-get_or b.world.flight k d within))
+
+pub HasRun-limit : (a b : MachineView) (steps n p : ℕ) → IsFreshMachine a → Reaches a b steps n p → n ≡ a.count * steps → HasRun a b steps
+HasRun-limit a b steps n p fresh h most = ended_run a b steps n p h (λ k d within. back (slice_index_or b.world.flight k d))
+  where
+    goes : GoesOn a.graph a.count steps a.world b.world n p
+    goes = h.goes
+
+    full : length (events_of b.world.elements) ≡ length b.world.elements * steps
+    full = goes.handled ∙ most ∙ ap (λ c. c * steps) (sym goes.size)
+
+    back : (m : Message) → IsHeldBack a.count steps b.world m
+    back m =
+        let less = route_below m.payload a.count fresh.some in
+        let size = goes.size in
+        let e = get_within b.world.elements (route_of m.payload a.count) (omega (arith, less, size)) in
+        record { state = e.0; element = e.1; held = inl (all_full b.world.elements steps goes.few full (route_of m.payload a.count) e.0 e.1) }
+
+-- one message more is held back
+upto : (j k : ℕ) → j < k + 1 → (j ≡ k → ⊥) → j < k
+upto j k lt ne = strictly j k (omega (arith, lt)) ne
+
+pub held_one_more : (count steps : ℕ) (w : World) (k : ℕ) → AreHeldBefore count steps w k → IsHeldAt count steps w k → AreHeldBefore count steps w (k + 1)
+held_one_more count steps w k held here j m lt at = cases (cases_eq j k)
+  where
+    cases : (j ≡ k) ⊎ (j ≡ k → ⊥) → IsHeldBack count steps w m
+    cases (inl is) = here m (ap (slice_get w.flight) (sym is) ∙ at)
+    cases (inr other) = held j m (upto j k lt other) at
+
+-- ---- what an element says of a message for it
+
+element_at : (w : World) (count n : ℕ) (es : List ElementView) (e : ElementView) (x : Message) → world_of es w.flight ≡ w → slice_get es n ≡ Some e
+    → n ≡ route_of x.payload count → slice_get w.elements (route_of x.payload count) ≡ Some e.state
+element_at w count n es e x is at route =
+    ap (slice_get w.elements) (sym route) ∙ ap (λ (v : World). slice_get v.elements n) (sym is) ∙ slice_get-image (λ (u : ElementView). u.state) es n e at
+
+pub held_by : (w : World) (count steps k n : ℕ) (es : List ElementView) (e : ElementView) (x : Message) → world_of es w.flight ≡ w → slice_get es n ≡ Some e
+    → n ≡ route_of x.payload count → slice_get w.flight k ≡ Some x → (length e.state.events ≡ steps) ⊎ IsTrue (is_ended e.state x) → IsHeldAt count steps w k
+held_by w count steps k n es e x is at route there held m here =
+    let same : x ≡ m = some_same x m (sym there ∙ here) in
+    subst (IsHeldBack count steps w) same (record { state = e.state; element = element_at w count n es e x is at route; held = held })
+
+pub free_by : (w : World) (count steps k n : ℕ) (es : List ElementView) (e : ElementView) (x : Message) → world_of es w.flight ≡ w → slice_get es n ≡ Some e
+    → n ≡ route_of x.payload count → slice_get w.flight k ≡ Some x → length e.state.events ≢ steps → IsFalse (is_ended e.state x) → IsFree count steps w k
+free_by w count steps k n es e x is at route there some stamp =
+    record { message = x; at = there; state = e.state; element = element_at w count n es e x is at route; some = some; stamp = stamp }

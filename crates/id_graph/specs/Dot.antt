@@ -1,0 +1,103 @@
+-- The picture of a graph: its text in the language of Graphviz (docs/GRAPH.md, "Picture").
+use Rattle.std.specs.Prelude.{ℕ, ◌+◌, ◌==◌, Bool, true, false, if◌then◌else◌, List, [], ◌∷◌, ◌++◌, codes}
+use Rattle.std.specs.List.{flat_map, list_any}
+use Rattle.std.specs.Fmt.{decimal}
+use Rattle.id_graph.specs.declared.instr.Block.{Block}
+use Rattle.id_graph.specs.declared.instr.Instr.{Instr}
+use Rattle.id_graph.specs.declared.instr.Op.{Op}
+use Rattle.id_graph.specs.declared.instr.Op.TheVariants.{Const, Unary, Binary, Merge, Switch, Back, Enter, Send, Next}
+use Rattle.id_graph.specs.declared.instr.Op.TheVariants.{Reset, Alloc, Address, Fetch, Store}
+use Rattle.id_graph.specs.declared.dests.Dest.{Dest}
+use Rattle.id_graph.specs.declared.dests.Port.TheVariants.{Zero}
+use Rattle.id_graph.specs.Graph.{Parts, arcs_on}
+use Rattle.id_graph.specs.Ports.{two_ports, two_sides}
+use Rattle.id_graph.specs.Listing.{in_order, op_text, port_number}
+
+-- what goes before all: boxes with fields, small and close together
+abbrev pub opening : List ℕ
+opening =
+    codes "digraph {\ngraph [nodesep=0.15, ranksep=0.25];\nedge [arrowsize=0.5];\n"
+    ++ codes "node [shape=record, fontsize=10, height=0.2, margin=\"0.05,0.02\"];\n{\n"
+
+-- the end of a cluster, and the head of the next, of the block that begins at the number
+abbrev pub cluster_text : ℕ → List ℕ
+cluster_text n = codes "}\nsubgraph cluster_" ++ decimal n ++ codes " {\nlabel=\"block " ++ decimal n ++ codes "\";\n"
+
+-- what goes before a box: nothing, unless a block begins there
+abbrev pub start_text : Bool → ℕ → List ℕ
+start_text begun n = if begun then cluster_text n else []
+
+-- the field for each port, from the left; the box itself is the only port of what has one
+abbrev pub ports_text : Op → List ℕ
+ports_text op = if two_ports op then codes "{<0>0|<1>1}|" else codes "<0>"
+
+-- the field for each side of what has two, from the left
+abbrev pub sides_text : Op → List ℕ
+sides_text op = if two_sides op then codes "|{<then>then|<else>else}" else []
+
+-- the box of an instruction: its ports, its number, its operator, its sides
+abbrev pub box_text : ℕ → Op → List ℕ
+box_text n op =
+    decimal n ++ codes " [label=\"{" ++ ports_text op ++ decimal n ++ codes " " ++ op_text op ++ sides_text op
+    ++ codes "}\"];\n"
+
+-- whether a block begins at the number
+abbrev pub is_begun : List Block → ℕ → Bool
+is_begun bs n = list_any (λ b. b.first == n) bs
+
+-- the boxes of instructions whose numbers begin at n, in the clusters of their blocks
+abbrev pub boxes_text : List Block → ℕ → List Instr → List ℕ
+boxes_text bs n [] = []
+boxes_text bs n (i ∷ is) = start_text (is_begun bs n) n ++ box_text n i.op ++ boxes_text bs (n + 1) is
+
+-- an arrow in this style from a field of a box to a port
+abbrev pub arrow_text : ℕ → List ℕ → List ℕ → Dest → List ℕ
+arrow_text n field style d =
+    decimal n ++ field ++ codes " -> " ++ decimal d.instr ++ codes ":" ++ decimal (port_number d.port)
+    ++ codes " [style=" ++ style ++ codes "];\n"
+
+-- an arrow for each destination, in order
+abbrev pub arrows_text : ℕ → List ℕ → List ℕ → List Dest → List ℕ
+arrows_text n field style ds = flat_map (arrow_text n field style) (in_order ds)
+
+-- the arrows of an instruction: of a switch those of each side from the field of the side
+abbrev pub sent_text : ℕ → Instr → List ℕ
+sent_text n i =
+    if two_sides i.op then
+    arrows_text n (codes ":then") (codes "solid") (arcs_on true i)
+    ++ arrows_text n (codes ":else") (codes "dashed") (arcs_on false i)
+    else arrows_text n [] (codes "solid") (arcs_on true i)
+
+-- a dotted arrow to the instruction of this number, which is above or below as it falls
+abbrev pub named_text : ℕ → ℕ → List ℕ
+named_text n m = arrow_text n [] (codes "dotted, constraint=false") (record { instr = m; port = Zero })
+
+-- a dotted arrow down to the instruction that replies come to
+abbrev pub reply_text : ℕ → ℕ → List ℕ
+reply_text n m = arrow_text n [] (codes "dotted") (record { instr = m; port = Zero })
+
+-- dotted arrows to the instructions that the operator names
+abbrev pub names_text : ℕ → Op → List ℕ
+names_text n (Enter b r) = named_text n b ++ reply_text n r
+names_text n (Send k t) = named_text n t
+names_text n (Fetch r) = reply_text n r
+names_text n (Const v) = []
+names_text n (Unary f) = []
+names_text n (Binary f) = []
+names_text n (Merge k) = []
+names_text n (Switch k) = []
+names_text n (Back k) = []
+names_text n (Next k) = []
+names_text n (Reset k) = []
+names_text n Alloc = []
+names_text n Address = []
+names_text n Store = []
+
+-- the arrows of instructions whose numbers begin at n
+abbrev pub links_text : ℕ → List Instr → List ℕ
+links_text n [] = []
+links_text n (i ∷ is) = sent_text n i ++ names_text n i.op ++ links_text (n + 1) is
+
+-- the picture of a graph: its boxes, the end of the last cluster, its arrows
+abbrev pub dot_text : Parts → List ℕ
+dot_text g = opening ++ boxes_text g.blocks 0 g.instrs ++ codes "}\n" ++ links_text 0 g.instrs ++ codes "}\n"

@@ -1,0 +1,243 @@
+//! The picture of a graph, in the language of Graphviz (docs/GRAPH.md, "Picture").
+
+ghost use Rattle.std.specs.Prelude.{◌≡◌, ◌<◌, ◌++◌, ◌==◌, length, IfOk, OnOk, string_bytes};
+ghost use Rattle.std.specs.List.{flat_map};
+ghost use Rattle.id_graph.specs.Begun.{Marks, TellsBegun};
+ghost use Rattle.id_graph.specs.Dot.{arrow_text, arrows_text, box_text, boxes_text, cluster_text, dot_text};
+ghost use Rattle.id_graph.specs.Dot.{links_text, named_text, names_text, opening, ports_text, reply_text};
+ghost use Rattle.id_graph.specs.Dot.{sent_text, sides_text, start_text};
+
+use crate::dests::{Dest, Port};
+use crate::graph::Graph;
+use crate::instr::{Block, Instr, Op};
+use crate::listing::{port_number, put_in_order, write_op};
+use std::alloc::{AllocError, Global};
+
+/// The picture of a graph: a box for each instruction, a cluster for each block, an arrow for each destination.
+pub fn draw(alloc: Global, graph: &Graph) -> Result<String, AllocError>
+    ensures { IfOk result (λ s. string_bytes s ≡ dot_text graph.now) }
+{
+    let marks = find_begun(alloc, graph.blocks(), graph.instrs().len())?;
+    let mut out = String::new(alloc);
+    write_opening(&mut out)?;
+    write_boxes(&mut out, marks.as_slice(), graph)?;
+    out.push_str("}\n")?;
+    write_links(alloc, &mut out, graph.instrs())?;
+    out.push_str("}\n")?;
+    Ok(out)
+}
+
+/// Whether a block begins there, for each number below `count`.
+fn find_begun(alloc: Global, blocks: &[Block], count: usize) -> Result<Vec<bool>, AllocError>
+    ensures { IfOk result (λ v. TellsBegun blocks.now count v.items) }
+{
+    let mut marks = vec![in alloc; false; count]?;
+    for block in blocks {
+        mark(&mut marks, block.first);
+    }
+    Ok(marks)
+}
+
+/// Marks the place of a number, if the number is below the length.
+fn mark(marks: &mut [bool], number: u32)
+    ensures { Marks marks.old marks.new (λ k. number == k) }
+{
+    if (number as usize) < marks.len() {
+        marks[number as usize] = true;
+    }
+}
+
+/// Appends what goes before all.
+fn write_opening(out: &mut String) -> Result<(), AllocError>
+    ensures { OnOk result (string_bytes out.new ≡ string_bytes out.old ++ opening) }
+{
+    out.push_str("digraph {\ngraph [nodesep=0.15, ranksep=0.25];\nedge [arrowsize=0.5];\n")?;
+    out.push_str("node [shape=record, fontsize=10, height=0.2, margin=\"0.05,0.02\"];\n{\n")
+}
+
+/// Appends the boxes in the clusters of their blocks, which begin where there is a mark.
+fn write_boxes(out: &mut String, marks: &[bool], graph: &Graph) -> Result<(), AllocError>
+    requires { TellsBegun graph.now.blocks (length graph.now.instrs) marks.now }
+    ensures { OnOk result
+        (string_bytes out.new ≡ string_bytes out.old ++ boxes_text graph.now.blocks 0 graph.now.instrs) }
+{
+    for (number, instr) in graph.instrs().iter().enumerate() {
+        write_start(out, marks[number], number)?;
+        write_box(out, number, instr.op)?;
+    }
+    Ok(())
+}
+
+/// Appends what goes before a box.
+fn write_start(out: &mut String, begun: bool, number: usize) -> Result<(), AllocError>
+    ensures { OnOk result
+        (string_bytes out.new ≡ string_bytes out.old ++ start_text begun number) }
+{
+    if begun {
+        write_cluster(out, number)
+    } else {
+        Ok(())
+    }
+}
+
+/// Appends the end of a cluster and the head of the next.
+fn write_cluster(out: &mut String, number: usize) -> Result<(), AllocError>
+    ensures { OnOk result (string_bytes out.new ≡ string_bytes out.old ++ cluster_text number) }
+{
+    write!(
+        out,
+        "}}\nsubgraph cluster_{number} {{\nlabel=\"block {number}\";\n"
+    )
+}
+
+/// Appends the box of an instruction.
+fn write_box(out: &mut String, number: usize, op: Op) -> Result<(), AllocError>
+    ensures { OnOk result (string_bytes out.new ≡ string_bytes out.old ++ box_text number op) }
+{
+    write!(out, "{number} [label=\"{{{}{number} ", ports_text(op))?;
+    write_op(out, op)?;
+    writeln!(out, "{}}}\"];", sides_text(op))
+}
+
+/// The field for each port.
+fn ports_text(op: Op) -> &'static str
+    ensures { result.now ≡ ports_text op }
+{
+    if op.two_ports() {
+        "{<0>0|<1>1}|"
+    } else {
+        "<0>"
+    }
+}
+
+/// The field for each side of what has two.
+fn sides_text(op: Op) -> &'static str
+    ensures { result.now ≡ sides_text op }
+{
+    if op.two_sides() {
+        "|{<then>then|<else>else}"
+    } else {
+        ""
+    }
+}
+
+/// Appends the arrows of all instructions.
+fn write_links(alloc: Global, out: &mut String, instrs: &[Instr]) -> Result<(), AllocError>
+    ensures { OnOk result (string_bytes out.new ≡ string_bytes out.old ++ links_text 0 instrs.now) }
+{
+    let mut row = Vec::new(alloc);
+    for (number, instr) in instrs.iter().enumerate() {
+        write_sent(out, &mut row, number, instr)?;
+        write_names(out, number, instr.op)?;
+    }
+    Ok(())
+}
+
+/// Appends the arrows of an instruction. `row` serves to put destinations in order.
+fn write_sent(
+    out: &mut String,
+    row: &mut Vec<Dest>,
+    number: usize,
+    instr: &Instr,
+) -> Result<(), AllocError>
+    ensures { OnOk result
+        (string_bytes out.new ≡ string_bytes out.old ++ sent_text number instr.now) }
+{
+    let dests = instr.dests.as_slice();
+    if instr.op.two_sides() {
+        write_arrows(out, row, number, ":then", "solid", dests)?;
+        write_arrows(out, row, number, ":else", "dashed", instr.others.as_slice())
+    } else {
+        write_arrows(out, row, number, "", "solid", dests)
+    }
+}
+
+/// Appends an arrow for each destination, in order.
+fn write_arrows(
+    out: &mut String,
+    row: &mut Vec<Dest>,
+    number: usize,
+    field: &str,
+    style: &str,
+    dests: &[Dest],
+) -> Result<(), AllocError>
+    ensures { OnOk result
+        (string_bytes out.new ≡ string_bytes out.old ++ arrows_text number field.now style.now dests.now) }
+{
+    put_in_order(row, dests)?;
+    write_each(out, number, field, style, row)
+}
+
+/// Appends an arrow for each destination, as they come.
+fn write_each(
+    out: &mut String,
+    number: usize,
+    field: &str,
+    style: &str,
+    dests: &[Dest],
+) -> Result<(), AllocError>
+    ensures { OnOk result (string_bytes out.new
+        ≡ string_bytes out.old ++ flat_map (arrow_text number field.now style.now) dests.now) }
+{
+    for dest in dests {
+        write_arrow(out, number, field, style, *dest)?;
+    }
+    Ok(())
+}
+
+/// Appends an arrow.
+fn write_arrow(
+    out: &mut String,
+    number: usize,
+    field: &str,
+    style: &str,
+    dest: Dest,
+) -> Result<(), AllocError>
+    ensures { OnOk result
+        (string_bytes out.new ≡ string_bytes out.old ++ arrow_text number field.now style.now dest) }
+{
+    write!(
+        out,
+        "{number}{field} -> {}:{}",
+        dest.instr,
+        port_number(dest.port)
+    )?;
+    writeln!(out, " [style={style}];")
+}
+
+/// Appends dotted arrows to the instructions that an operator names.
+fn write_names(out: &mut String, number: usize, op: Op) -> Result<(), AllocError>
+    ensures { OnOk result (string_bytes out.new ≡ string_bytes out.old ++ names_text number op) }
+{
+    match op {
+        Op::Enter { block, reply } => {
+            write_named(out, number, block)?;
+            write_reply(out, number, reply)
+        }
+        Op::Send { target, .. } => write_named(out, number, target),
+        Op::Fetch { reply } => write_reply(out, number, reply),
+        _ => Ok(()),
+    }
+}
+
+/// Appends a dotted arrow to the instruction of this number, which is above or below as it falls.
+fn write_named(out: &mut String, number: usize, named: u32) -> Result<(), AllocError>
+    ensures { OnOk result (string_bytes out.new ≡ string_bytes out.old ++ named_text number named) }
+{
+    let dest = Dest {
+        instr: named,
+        port: Port::Zero,
+    };
+    write_arrow(out, number, "", "dotted, constraint=false", dest)
+}
+
+/// Appends a dotted arrow down to the instruction that replies come to.
+fn write_reply(out: &mut String, number: usize, reply: u32) -> Result<(), AllocError>
+    ensures { OnOk result (string_bytes out.new ≡ string_bytes out.old ++ reply_text number reply) }
+{
+    let dest = Dest {
+        instr: reply,
+        port: Port::Zero,
+    };
+    write_arrow(out, number, "", "dotted", dest)
+}
