@@ -25,7 +25,6 @@ use smallvec::SmallVec;
 use std::alloc::{AllocError, Global};
 use std::collections::HashMap;
 use std::collections::hash_map::Entry as Place;
-use std::hash::FoldHasher;
 use std::marker::Model;
 
 /// Replies that wait for one value, in order of arrival. One alone takes no memory of its own.
@@ -125,7 +124,7 @@ pub struct Reader {
 #[derive(Drop)]
 pub struct Bank {
     alloc: Global,
-    slots: HashMap<(i64, Structure), Slot, NearHasher<FoldHasher>>,
+    slots: HashMap<(i64, Structure), Slot, NearHasher>,
 }
 
 impl Model for Bank {
@@ -152,7 +151,7 @@ impl Bank {
     {
         Bank {
             alloc,
-            slots: HashMap::with_hasher(alloc, NearHasher::new(FoldHasher::default())),
+            slots: HashMap::with_hasher(alloc, NearHasher::new()),
         }
     }
 
@@ -218,7 +217,7 @@ impl Bank {
 
 // A read in one look-up: room is made where the cell is new, and only there.
 fn read_at(
-    slots: &mut HashMap<(i64, Structure), Slot, NearHasher<FoldHasher>>,
+    slots: &mut HashMap<(i64, Structure), Slot, NearHasher>,
     alloc: Global,
     key: (i64, Structure),
     reply: Tag,
@@ -241,7 +240,7 @@ fn read_at(
 
 // A write in one look-up.
 fn write_at(
-    slots: &mut HashMap<(i64, Structure), Slot, NearHasher<FoldHasher>>,
+    slots: &mut HashMap<(i64, Structure), Slot, NearHasher>,
     alloc: Global,
     key: (i64, Structure),
     value: Value,
@@ -267,7 +266,7 @@ fn write_at(
 // The cells with what they hold, in their order.
 fn in_order(
     alloc: Global,
-    slots: &HashMap<(i64, Structure), Slot, NearHasher<FoldHasher>>,
+    slots: &HashMap<(i64, Structure), Slot, NearHasher>,
 ) -> Result<Vec<(Cell, &Slot)>, AllocError>
     ensures { IfOk result (λ es. map_list (λ e. (e.0, state_of e.1.now)) es.items ≡
         map.entries (map.from_entries {R = cell_cmp} (map_list entry_of slots.now.entries))) }
@@ -280,7 +279,7 @@ fn in_order(
 // The same in the order of the table.
 fn listed(
     alloc: Global,
-    slots: &HashMap<(i64, Structure), Slot, NearHasher<FoldHasher>>,
+    slots: &HashMap<(i64, Structure), Slot, NearHasher>,
 ) -> Result<Vec<(Cell, &Slot)>, AllocError>
     ensures items { IfOk result (λ es.
         map_list (λ e. (e.0, state_of e.1.now)) es.items ≡ map_list entry_of slots.now.entries) }

@@ -149,10 +149,10 @@ event-delivered g count es flight k n m e d =
     event_at-is g count es flight k n m e d.given ∙ ap (λ b. cond b None (Some (event_of g n e.state m))) d.left
 
 -- a machine is one after a delivery
-pub IsMachine-deliver : (g : Parts) (es : List ElementView) (flight outputs : List Message) (k n : ℕ) (m : Message) (e : ElementView)
-    → IsMachine g es flight outputs → IsDelivery g (length es) es flight k n m e → All (Fits e.graph) (outputs_of e.graph e.number e.state m)
-    → IsMachine g (set es n (taken e m)) (remove flight k ++ outputs_of e.graph e.number e.state m) []
-IsMachine-deliver g es flight outputs k n m e old d fits = record {
+pub IsMachine-deliver : (g : Parts) (es : List ElementView) (flight : List Message) (k n : ℕ) (m : Message) (e : ElementView)
+    → IsMachine g es flight → IsDelivery g (length es) es flight k n m e → All (Fits e.graph) (outputs_of e.graph e.number e.state m)
+    → IsMachine g (set es n (taken e m)) (remove flight k ++ outputs_of e.graph e.number e.state m)
+IsMachine-deliver g es flight k n m e old d fits = record {
   at_least_one = omega (arith, old.at_least_one, length-set es n (taken e m));
   at_most_64 = omega (arith, old.at_most_64, length-set es n (taken e m));
   elements =
@@ -163,7 +163,6 @@ IsMachine-deliver g es flight outputs k n m e old d fits = record {
   flight_fits = All-append (Fits g) (remove flight k) _
       (All-append (Fits g) (take k flight) (drop (suc k) flight) (All-take (Fits g) k flight old.flight_fits) (All-drop (Fits g) (suc k) flight old.flight_fits))
       (let P : Parts → Type 0 = λ x. All (Fits x) (outputs_of e.graph e.number e.state m) in subst P d.same.graph fits);
-  nothing_left = refl;
 }
 
 -- the element at each position has it as its number

@@ -2,9 +2,7 @@
 use Rattle.std.specs.Prelude.{ℕ, List}
 use Rattle.id_tag.specs.declared.Message.{Message}
 
--- the messages, in the order in which they were sent, how many of them stand before the gap, and how many more there is
--- room for
+-- the messages, in the order in which they were sent, and how many of them stand before the gap
 pub record FlightView : Type 0 where
   pub messages : List Message
   pub gap : ℕ
-  pub room : ℕ

@@ -136,11 +136,9 @@ pub record MachineView : Type 0 where
   pub count : ℕ
   pub world : World
 
--- what every machine keeps: 1 to 64 elements in order of their numbers, in flight what fits the graph, and its list of
--- outputs empty
-pub record IsMachine (g : Parts) (es : List ElementView) (flight outputs : List Message) : Type 0 where
+-- what every machine keeps: 1 to 64 elements in order of their numbers, and in flight what fits the graph
+pub record IsMachine (g : Parts) (es : List ElementView) (flight : List Message) : Type 0 where
   pub at_least_one : 0 < length es
   pub at_most_64 : length es ≤ 64
   pub elements : AreElements g (length es) es
   pub flight_fits : All (Fits g) flight
-  pub nothing_left : outputs ≡ []

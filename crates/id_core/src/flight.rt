@@ -30,6 +30,7 @@ impl<'a> Flight<'a> {
     }
 
     /// How many messages there are. Takes no memory.
+    #[inline(always)]
     pub fn len(&self) -> usize
         ensures { result ≡ length self.now }
     {
@@ -44,10 +45,21 @@ impl<'a> Flight<'a> {
     }
 
     /// The message at a position, from 0. Takes no memory.
+    #[inline(always)]
     pub fn message(&self, position: usize) -> Message
         requires { position < length self.now }
         ensures { slice_get self.now position ≡ Some result }
     {
-        *self.messages.message(position)
+        *self.look(position)
+    }
+
+    /// The message at a position, from 0, where it lies. Takes no memory.
+    #[inline(always)]
+    pub fn look(&self, position: usize) -> &'a Message
+        requires { position < length self.now }
+        ensures { slice_get self.now position ≡ Some result.now }
+    {
+        let held = self.messages;
+        held.message(position)
     }
 }

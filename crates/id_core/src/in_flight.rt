@@ -1,8 +1,10 @@
 //! What is in flight, as a machine keeps it: a list with a gap, at which messages are taken out.
 
-ghost use Rattle.std.specs.Prelude.{◌≡◌, ◌+◌, ◌++◌, ◌≤◌, [], vec_len};
+ghost use Rattle.std.specs.Prelude.{◌≡◌, ◌+◌, ◌++◌, ◌≤◌};
 ghost use Rattle.std.specs.VecDeque.{deque_len, deque_capacity};
 
+use id_element::{Element, TakeError};
+use id_record::Step;
 use id_tag::Message;
 use std::alloc::{AllocError, Global};
 use std::collections::VecDeque;
@@ -18,8 +20,7 @@ pub(crate) struct InFlight {
 }
 
 impl Model for InFlight {
-    ghost use Rattle.std.specs.Prelude.{◌-◌, ◌++◌, length};
-    ghost use Rattle.std.specs.VecDeque.{deque_len, deque_capacity};
+    ghost use Rattle.std.specs.Prelude.{◌++◌, length};
     ghost use Rattle.id_core.specs.Flights.{FlightView};
 
     ghost Value = { FlightView };
@@ -27,13 +28,16 @@ impl Model for InFlight {
     ghost view = { λ f. record {
       messages = f.before.items ++ f.after.items;
       gap = length f.before.items;
-      room = deque_capacity f.after - deque_len f.after;
     } };
 }
 
 impl InFlight {
-    ghost use Rattle.std.specs.Prelude.{◌≡◌, ◌<◌, ◌≤◌, ◌++◌, ◌==◌, [], length, slice_get, vec_len, Some, OnOk};
+    ghost use Rattle.std.specs.Prelude.{◌≡◌, ◌<◌, ◌++◌, ◌==◌, ◌↔◌, All, length, slice_get, Some, IfOk, OnOk, OnErr};
+    ghost use Rattle.std.specs.Prelude.{IsTrue};
     ghost use Rattle.std.specs.List.{remove};
+    ghost use Rattle.id_element.specs.declared.step.TakeError.TheVariants.{StampEnd};
+    ghost use Rattle.id_element.specs.Fits.{Fits, IsFor};
+    ghost use Rattle.id_element.specs.Steps.{is_ended, outputs_of, state_after, step_of};
 
     /// These messages. Takes no memory.
     pub(crate) fn new(alloc: Global, messages: VecDeque<Message>) -> InFlight
@@ -46,6 +50,7 @@ impl InFlight {
     }
 
     /// How many messages there are. Takes no memory.
+    #[inline(always)]
     pub(crate) fn len(&self) -> usize
         ensures { result ≡ length self.now.messages }
     {
@@ -60,6 +65,7 @@ impl InFlight {
     }
 
     /// The message at a position, from 0. Takes no memory.
+    #[inline(always)]
     pub(crate) fn message(&self, position: usize) -> &Message
         requires { position < length self.now.messages }
         ensures { slice_get self.now.messages position ≡ Some result.now }
@@ -72,18 +78,17 @@ impl InFlight {
         }
     }
 
-    /// Moves the gap to the message at a position, and makes room for so many more at the end.
-    pub(crate) fn open(&mut self, position: usize, more: usize) -> Result<(), AllocError>
+    /// Moves the gap to the message at a position.
+    #[inline(always)]
+    pub(crate) fn open(&mut self, position: usize) -> Result<(), AllocError>
         requires { position < length self.old.messages }
         ensures messages { self.new.messages ≡ self.old.messages }
         ensures gap { OnOk result (self.new.gap ≡ position) }
-        ensures room { OnOk result (more ≤ self.new.room) }
     {
-        if position != self.before.len() {
-            self.move_to(position)?;
+        if position == self.before.len() {
+            return Ok(());
         }
-        self.after.reserve(more)?;
-        Ok(())
+        self.move_to(position)
     }
 
     /// Moves the gap to the message at a position.
@@ -104,24 +109,35 @@ impl InFlight {
         Ok(())
     }
 
-    /// Takes the message at the gap out of the list, which closes up. Takes no memory.
+    /// Gives the message at the gap to an element: it leaves the list, which closes up, and what is sent goes to the end.
+    /// After an error nothing has changed.
     #[inline(always)]
-    pub(crate) fn take_next(&mut self)
-        requires { self.old.gap < length self.old.messages }
-        ensures messages { self.new.messages ≡ remove self.old.messages self.old.gap }
-        ensures room { self.old.room ≤ self.new.room }
-    {
-        let _next = self.after.pop_front();
-    }
+    pub(crate) fn give_next(
+        &mut self,
+        message: &Message,
+        element: &mut Element<'_>,
+    ) -> Result<Step, TakeError>
+        requires next { slice_get self.old.messages self.old.gap ≡ Some message.now }
+        requires is_for { IsFor element.old.graph element.old.count element.old.number message.now }
 
-    /// Moves all messages of a list to the end of this one, in which there is room for them. Takes no memory.
-    #[inline(always)]
-    pub(crate) fn add_all(&mut self, from: &mut Vec<Message>)
-        requires { vec_len from.old ≤ self.old.room }
-        ensures messages { self.new.messages ≡ self.old.messages ++ from.old.items }
-        ensures emptied { from.new.items ≡ [] }
+        ensures messages { OnOk result (self.new.messages ≡ remove self.old.messages self.old.gap
+            ++ outputs_of element.old.graph element.old.number element.old.state message.now) }
+        ensures state { OnOk result (element.new ≡ record element.old {
+          state = state_after element.old.graph element.old.number element.old.state message.now;
+        }) }
+        ensures step { IfOk result
+            (λ step. step ≡ step_of element.old.graph element.old.number element.old.state message.now) }
+        ensures fits { OnOk result
+            (All (Fits element.old.graph)
+            (outputs_of element.old.graph element.old.number element.old.state message.now)) }
+
+        ensures end { (result ≡ Err StampEnd) ↔ IsTrue (is_ended element.old.state message.now) }
+        ensures err { OnErr result (element.new ≡ element.old) }
+        ensures err_messages { OnErr result (self.new.messages ≡ self.old.messages) }
     {
-        move_all(from, &mut self.after);
+        let step = element.take(message, &mut self.after)?;
+        let _next = self.after.pop_front();
+        Ok(step)
     }
 }
 
@@ -153,17 +169,4 @@ fn move_back(before: &mut VecDeque<Message>, after: &mut VecDeque<Message>, coun
             None => unreachable!(),
         }
     }
-}
-
-/// Moves all messages to the end of the other list, in which there is room for them. Takes no memory.
-#[inline(always)]
-fn move_all(from: &mut Vec<Message>, to: &mut VecDeque<Message>)
-    requires { deque_len to.old + vec_len from.old ≤ deque_capacity to.old }
-    ensures moved { to.new.items ≡ to.old.items ++ from.old.items }
-    ensures emptied { from.new.items ≡ [] }
-{
-    for message in from.iter() {
-        to.push_back_reserved(*message);
-    }
-    from.clear();
 }

@@ -68,7 +68,6 @@ pub struct Machine<'a> {
     graph: &'a Valid,
     elements: Vec<Element<'a>>,
     flight: InFlight,
-    outputs: Vec<Message>,
 }
 
 impl<'a> Model for Machine<'a> {
@@ -86,7 +85,7 @@ impl<'a> Model for Machine<'a> {
       world = world_of m.elements.items m.flight.messages;
     } };
 
-    ghost invariant = { λ m. IsMachine m.graph.now m.elements.items m.flight.messages m.outputs.items };
+    ghost invariant = { λ m. IsMachine m.graph.now m.elements.items m.flight.messages };
 }
 
 impl<'a> Machine<'a> {
@@ -123,7 +122,6 @@ impl<'a> Machine<'a> {
             graph,
             elements,
             flight: InFlight::new(alloc, messages),
-            outputs: Vec::new(alloc),
         })
     }
 
@@ -149,12 +147,9 @@ impl<'a> Machine<'a> {
         if element.is_ended(message) {
             return Err(TakeError::StampEnd);
         }
-        let most = element.most_outputs(message);
-        self.flight.open(position, most)?;
+        self.flight.open(position)?;
         let message = *self.flight.message(position);
-        let step = self.elements[number].take(message, &mut self.outputs)?;
-        self.flight.take_next();
-        self.flight.add_all(&mut self.outputs);
+        let step = self.flight.give_next(&message, &mut self.elements[number])?;
         Ok(step)
     }
 

@@ -4,4 +4,3 @@ pub mod FitsLemmas
 pub mod SentLemmas
 pub mod OutcomeLemmas
 pub mod ReplaysLemmas
-pub mod LengthsLemmas

@@ -5,21 +5,22 @@ ghost use Rattle.std.specs.Prelude.{◌≡◌};
 ghost use Rattle.id_element.specs.Steps.{readers_of};
 
 use crate::outcome::{
-    allocated_by, answer_fired, fill_verdict, fresh_numbers, made_by, most_sent, next_stamp, react,
-    send, send_replies,
+    allocated_by, allocated_by_shot, answer_fired, fill_verdict, fresh_numbers, made_by, most_sent,
+    next_stamp, react, send, send_replies, send_shot,
 };
-use crate::step::TakeError;
+use crate::step::{Reacted, TakeError};
 use id_bank::{Bank, ReadAnswer, WriteAnswer};
 use id_graph::{Graph, Instr};
 use id_match::Waiting;
-use id_ops::Fired;
+use id_ops::{Fired, Shot};
 use id_record::{
-    Envelope, Handling, NO_REPLIES, Reaction, Record, Replies, Step, Verdict, full_step, message,
-    tag_of, token_at, value_of,
+    Envelope, Handling, NO_REPLIES, Reaction, Record, Replies, Shooting, Verdict, message, tag_of,
+    token_at, value_of,
 };
-use id_tag::{Message, Payload, Tag};
+use id_tag::{Message, Payload, Plain, Tag};
 use id_valid::Valid;
 use std::alloc::{AllocError, Global};
+use std::collections::VecDeque;
 
 /// What waits at an element, its cells, its last stamp, how many contexts and structures it has made, and its record,
 /// which knows its number.
@@ -35,12 +36,16 @@ pub(crate) struct Desk<'a> {
 
 impl<'a> Desk<'a> {
     ghost use Rattle.std.specs.Prelude.{◌≡◌, ◌+◌, ◌-◌, ◌^◌, ◌<◌, ◌≤◌, ◌++◌, ◌∷◌, [], ◌↔◌, Some, slice_get, length, max};
-    ghost use Rattle.std.specs.Prelude.{vec_len, vec_capacity, IfOk, OnOk, OnErr, IsTrue};
+    ghost use Rattle.std.specs.Prelude.{IfOk, OnOk, OnErr, IsTrue};
+    ghost use Rattle.std.specs.VecDeque.{deque_len, deque_capacity};
     ghost use Rattle.id_element.specs.declared.step.TakeError.TheVariants.{StampEnd};
     ghost use Rattle.id_record.specs.Events.{full_step, tag_of, value_of};
     ghost use Rattle.id_element.specs.Fits.{Fits};
+    ghost use Rattle.id_tag.specs.Plains.{whole};
+    ghost use Rattle.id_ops.specs.Shots.{fired_of};
     ghost use Rattle.id_ops.specs.declared.Fired.TheVariants.{Nothing};
     ghost use Rattle.id_record.specs.declared.step.Step.TheVariants.{Went};
+    ghost use Rattle.id_record.specs.declared.step.Verdict.TheVariants as verdict;
     ghost use Rattle.id_element.specs.Steps.{allocated_by, answer_fired, answer_sends, fill_sends, fill_verdict, fresh};
     ghost use Rattle.id_element.specs.Steps.{is_ended, made_by, step_of, outputs_of, readers_of, state_after};
     ghost use Rattle.id_record.specs.Sends.{numbered, sent};
@@ -66,13 +71,13 @@ impl<'a> Desk<'a> {
         }
     }
 
-    /// Handles a message that fits the graph: the element step.
+    /// Handles a message that fits the graph, and says what it came to: the element step.
     pub(crate) fn take(
         &mut self,
         graph: &Graph,
         message: &Message,
-        outputs: &mut Vec<Message>,
-    ) -> Result<Step, TakeError>
+        outputs: &mut VecDeque<Message>,
+    ) -> Result<Verdict, TakeError>
         requires own { graph.now ≡ self.old.log.graph }
         requires valid { IsValid graph.now }
         requires counted { self.old.contexts ≤ self.old.stamp }
@@ -80,7 +85,7 @@ impl<'a> Desk<'a> {
         requires fits { Fits graph.now message.now }
 
         ensures step { IfOk result
-            (λ step. step ≡ step_of graph.now self.old.log.element (state_of self.old) message.now) }
+            (λ v. full_step message.now.payload v ≡ step_of graph.now self.old.log.element (state_of self.old) message.now) }
         ensures state { OnOk result
             (state_of self.new ≡ state_after graph.now self.old.log.element (state_of self.old) message.now) }
         ensures outputs { OnOk result
@@ -101,8 +106,14 @@ impl<'a> Desk<'a> {
                 let instr = &graph.instrs()[tag.instr as usize];
                 self.reserve(most_sent(instr), 0, outputs)?;
                 let next = fresh_numbers(self.log.element(), self.contexts, self.structures);
-                let reaction = react(&mut self.waiting, instr, next, tag, port, value)?;
-                Ok(self.conclude(instr, tag, message, stamp, &reaction, outputs))
+                match react(&mut self.waiting, instr, next, tag, port, value)? {
+                    Reacted::Shot(plain, shot) => {
+                        Ok(self.conclude_shot(instr, tag, message, stamp, plain, shot, outputs))
+                    }
+                    Reacted::Full(reaction) => {
+                        Ok(self.conclude(instr, tag, message, stamp, &reaction, outputs))
+                    }
+                }
             }
             Payload::Read { cell, reply } => {
                 self.reserve(1, 0, outputs)?;
@@ -128,7 +139,7 @@ impl<'a> Desk<'a> {
         &mut self,
         sent: usize,
         replies: usize,
-        outputs: &mut Vec<Message>,
+        outputs: &mut VecDeque<Message>,
     ) -> Result<(), AllocError>
         ensures state { state_of self.new ≡ state_of self.old }
         ensures number { self.new.log.element ≡ self.old.log.element }
@@ -138,7 +149,7 @@ impl<'a> Desk<'a> {
         ensures room { OnOk result (0 < self.new.log.room) }
         ensures room_aside { OnOk result (0 < self.new.log.room_aside) }
         ensures room_for_replies { OnOk result (replies ≤ self.new.log.room_for_replies) }
-        ensures room_in_outputs { OnOk result (vec_len outputs.new + sent ≤ vec_capacity outputs.new) }
+        ensures room_in_outputs { OnOk result (deque_len outputs.new + sent ≤ deque_capacity outputs.new) }
     {
         outputs.reserve(sent)?;
         self.log.reserve(replies)?;
@@ -146,7 +157,7 @@ impl<'a> Desk<'a> {
     }
 
     /// Sends what was fired, and records the event. There is room for it. Takes no memory.
-    #[inline(always)]
+    #[inline(never)]
     fn conclude(
         &mut self,
         instr: &Instr,
@@ -154,19 +165,19 @@ impl<'a> Desk<'a> {
         message: &Message,
         stamp: u64,
         reaction: &Reaction,
-        outputs: &mut Vec<Message>,
-    ) -> Step
+        outputs: &mut VecDeque<Message>,
+    ) -> Verdict
         requires room { 0 < self.old.log.room }
         requires room_aside { 0 < self.old.log.room_aside }
         requires own { slice_get self.old.log.graph.instrs (tag_of message.now.payload).instr ≡ Some instr.now }
         requires tag { tag ≡ tag_of message.now.payload }
-        requires room_in_outputs { vec_len outputs.old + most_sent instr.now ≤ vec_capacity outputs.old }
+        requires room_in_outputs { deque_len outputs.old + most_sent instr.now ≤ deque_capacity outputs.old }
         requires graph { IsGraph self.old.log.graph }
         requires valid { IsValid self.old.log.graph }
         requires counted { self.old.contexts + 1 < 2 ^ 64 }
         requires numbered { self.old.structures + 1 < 2 ^ 64 }
 
-        ensures step { result ≡ full_step message.now.payload reaction.now.verdict }
+        ensures verdict { result ≡ reaction.now.verdict }
         ensures waiting { self.new.waiting ≡ self.old.waiting }
         ensures cells { self.new.cells ≡ self.old.cells }
         ensures stamp { self.new.stamp ≡ stamp }
@@ -202,23 +213,84 @@ impl<'a> Desk<'a> {
         self.stamp = stamp;
         self.contexts += made_by(&reaction.fired);
         self.structures += allocated_by(instr.op, &reaction.fired);
-        full_step(&message.payload, reaction.verdict)
+        reaction.verdict
+    }
+
+    /// Sends what was shot, and records the event. There is room for it. Takes no memory.
+    #[inline(always)]
+    fn conclude_shot(
+        &mut self,
+        instr: &Instr,
+        tag: Tag,
+        message: &Message,
+        stamp: u64,
+        plain: Plain,
+        shot: Shot,
+        outputs: &mut VecDeque<Message>,
+    ) -> Verdict
+        requires room { 0 < self.old.log.room }
+        requires room_aside { 0 < self.old.log.room_aside }
+        requires value { value_of message.now.payload ≡ whole plain }
+        requires own { slice_get self.old.log.graph.instrs (tag_of message.now.payload).instr ≡ Some instr.now }
+        requires tag { tag ≡ tag_of message.now.payload }
+        requires room_in_outputs { deque_len outputs.old + most_sent instr.now ≤ deque_capacity outputs.old }
+        requires graph { IsGraph self.old.log.graph }
+        requires valid { IsValid self.old.log.graph }
+        requires counted { self.old.contexts + 1 < 2 ^ 64 }
+        requires numbered { self.old.structures + 1 < 2 ^ 64 }
+
+        ensures verdict { result ≡ verdict.Went }
+        ensures waiting { self.new.waiting ≡ self.old.waiting }
+        ensures cells { self.new.cells ≡ self.old.cells }
+        ensures stamp { self.new.stamp ≡ stamp }
+        ensures contexts { self.new.contexts ≡ self.old.contexts + made_by (fired_of shot) }
+        ensures structures { self.new.structures ≡ self.old.structures + allocated_by instr.now.op (fired_of shot) }
+        ensures number { self.new.log.element ≡ self.old.log.element }
+        ensures graph { self.new.log.graph ≡ self.old.log.graph }
+        ensures events { self.new.log.events ≡ self.old.log.events ++ record {
+          element = self.old.log.element;
+          stamp = stamp;
+          message = message.now;
+          fired = fired_of shot;
+          outputs = numbered self.old.log.element (length self.old.log.events) stamp 0
+              (sent (Some instr.now.op) (arcs_on (side_of (fired_of shot)) instr.now) tag (fired_of shot));
+          step = full_step message.now.payload verdict.Went;
+        } ∷ [] }
+        ensures outputs { outputs.new.items ≡ outputs.old.items
+            ++ numbered self.old.log.element (length self.old.log.events) stamp 0
+            (sent (Some instr.now.op) (arcs_on (side_of (fired_of shot)) instr.now) tag (fired_of shot)) }
+    {
+        let envelope = Envelope {
+            number: self.log.element(),
+            position: self.log.len(),
+            stamp,
+        };
+        send_shot(instr, tag, shot, envelope, outputs);
+        self.log.push_shot(Shooting {
+            message,
+            value: plain,
+            stamp,
+            shot,
+        });
+        self.stamp = stamp;
+        self.structures += allocated_by_shot(instr.op, shot);
+        Verdict::Went
     }
 
     /// Sends the answer to a read, if it has one, and records the event. There is room for it. Takes no memory.
-    #[inline(always)]
+    #[inline(never)]
     fn answer(
         &mut self,
         read: &Message,
         stamp: u64,
         answer: ReadAnswer,
-        outputs: &mut Vec<Message>,
-    ) -> Step
+        outputs: &mut VecDeque<Message>,
+    ) -> Verdict
         requires room { 0 < self.old.log.room }
         requires room_aside { 0 < self.old.log.room_aside }
-        requires room_in_outputs { vec_len outputs.old + 1 ≤ vec_capacity outputs.old }
+        requires room_in_outputs { deque_len outputs.old + 1 ≤ deque_capacity outputs.old }
 
-        ensures step { result ≡ Went }
+        ensures verdict { result ≡ verdict.Went }
         ensures state { state_of self.new ≡ record (state_of self.old) {
           stamp = stamp;
           events = self.old.log.events ++ record {
@@ -245,7 +317,7 @@ impl<'a> Desk<'a> {
         let reply = tag_of(&read.payload);
         let fired = answer_fired(reply, answer);
         if let ReadAnswer::Now(value) = answer {
-            outputs.push_reserved(message(envelope, 0, token_at(reply, value)));
+            outputs.push_back_reserved(message(envelope, 0, token_at(reply, value)));
         }
         self.log.push(Handling {
             message: read,
@@ -257,25 +329,25 @@ impl<'a> Desk<'a> {
             replies: NO_REPLIES,
         });
         self.stamp = stamp;
-        Step::Went
+        Verdict::Went
     }
 
     /// Sends the value of a write to the replies that waited for it, and records the event. There is room for it. Takes
     /// no memory.
-    #[inline(always)]
+    #[inline(never)]
     fn fill(
         &mut self,
         write: &Message,
         stamp: u64,
         answer: &WriteAnswer,
-        outputs: &mut Vec<Message>,
-    ) -> Step
+        outputs: &mut VecDeque<Message>,
+    ) -> Verdict
         requires room { 0 < self.old.log.room }
         requires room_aside { 0 < self.old.log.room_aside }
         requires room_for_replies { length (readers_of answer.now) ≤ self.old.log.room_for_replies }
-        requires room_in_outputs { vec_len outputs.old + length (readers_of answer.now) ≤ vec_capacity outputs.old }
+        requires room_in_outputs { deque_len outputs.old + length (readers_of answer.now) ≤ deque_capacity outputs.old }
 
-        ensures step { result ≡ full_step write.now.payload (fill_verdict (tag_of write.now.payload) answer.now) }
+        ensures verdict { result ≡ fill_verdict (tag_of write.now.payload) answer.now }
         ensures state { state_of self.new ≡ record (state_of self.old) {
           stamp = stamp;
           events = self.old.log.events ++ record {
@@ -322,7 +394,7 @@ impl<'a> Desk<'a> {
             },
         });
         self.stamp = stamp;
-        full_step(&write.payload, verdict)
+        verdict
     }
 }
 

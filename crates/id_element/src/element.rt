@@ -4,13 +4,13 @@ ghost use Rattle.std.specs.Prelude.{◌≡◌, ◌↔◌, IsTrue};
 ghost use Rattle.id_record.specs.declared.step.Step.TheVariants.{Went};
 
 use crate::desk::Desk;
-use crate::outcome::most_sent;
 use crate::step::TakeError;
 use id_bank::{Filled, Reader};
-use id_record::{Events, Step};
-use id_tag::{Message, Payload};
+use id_record::{Events, Step, full_step};
+use id_tag::Message;
 use id_valid::Valid;
 use std::alloc::{AllocError, Global};
+use std::collections::VecDeque;
 use std::marker::Model;
 
 /// An element of the machine: it handles the messages that are routed to it, one at a time.
@@ -46,7 +46,7 @@ impl<'a> Model for Element<'a> {
 }
 
 impl<'a> Element<'a> {
-    ghost use Rattle.std.specs.Prelude.{◌≡◌, ◌<◌, ◌≤◌, ◌++◌, ◌↔◌, All, length, IfOk, OnOk, OnErr, IsTrue};
+    ghost use Rattle.std.specs.Prelude.{◌≡◌, ◌<◌, ◌≤◌, ◌++◌, ◌↔◌, All, IfOk, OnOk, OnErr, IsTrue};
     ghost use Rattle.std.specs.FinMap.{empty};
     ghost use Rattle.id_element.specs.declared.step.TakeError.TheVariants.{StampEnd};
     ghost use Rattle.id_record.specs.Events.{AllWent};
@@ -73,42 +73,32 @@ impl<'a> Element<'a> {
     /// came to (docs/MACHINE.md, "Element step"). After an error nothing has changed, and the same
     /// message can be given again.
     #[inline(always)]
-    pub fn take(&mut self, message: Message, outputs: &mut Vec<Message>) -> Result<Step, TakeError>
-        requires { IsFor self.old.graph self.old.count self.old.number message }
+    pub fn take(
+        &mut self,
+        message: &Message,
+        outputs: &mut VecDeque<Message>,
+    ) -> Result<Step, TakeError>
+        requires { IsFor self.old.graph self.old.count self.old.number message.now }
 
-        ensures step { IfOk result (λ step. step ≡ step_of self.old.graph self.old.number self.old.state message) }
+        ensures step { IfOk result (λ step. step ≡ step_of self.old.graph self.old.number self.old.state message.now) }
         ensures state { OnOk result
-            (self.new ≡ record self.old { state = state_after self.old.graph self.old.number self.old.state message }) }
+            (self.new ≡ record self.old { state = state_after self.old.graph self.old.number self.old.state message.now }) }
         ensures outputs { OnOk result
             (outputs.new.items
-            ≡ outputs.old.items ++ outputs_of self.old.graph self.old.number self.old.state message) }
+            ≡ outputs.old.items ++ outputs_of self.old.graph self.old.number self.old.state message.now) }
         // What is sent fits, so that the element it is routed to can take it.
         ensures fits { OnOk result
-            (All (Fits self.old.graph) (outputs_of self.old.graph self.old.number self.old.state message)) }
+            (All (Fits self.old.graph) (outputs_of self.old.graph self.old.number self.old.state message.now)) }
 
-        ensures end { (result ≡ Err StampEnd) ↔ IsTrue (is_ended self.old.state message) }
+        ensures end { (result ≡ Err StampEnd) ↔ IsTrue (is_ended self.old.state message.now) }
         ensures err { OnErr result (self.new ≡ self.old) }
         ensures err_outputs { OnErr result (outputs.new.items ≡ outputs.old.items) }
     {
         let graph = self.desk.log.graph();
-        let step = self.desk.take(graph.graph(), &message, outputs)?;
+        let verdict = self.desk.take(graph.graph(), message, outputs)?;
+        let step = full_step(&message.payload, verdict);
         self.went = still_went(self.went, &step);
         Ok(step)
-    }
-
-    /// An upper bound on what the element sends for a message that fits. Takes no memory.
-    #[inline(always)]
-    pub fn most_outputs(&self, message: &Message) -> usize
-        requires { Fits self.now.graph message.now }
-        ensures { length (outputs_of self.now.graph self.now.number self.now.state message.now) ≤ result }
-    {
-        match message.payload {
-            Payload::Token { tag, .. } => {
-                most_sent(&self.desk.log.graph().graph().instrs()[tag.instr as usize])
-            }
-            Payload::Read { .. } => 1,
-            Payload::Write { cell, .. } => self.desk.cells.readers(cell),
-        }
     }
 
     /// Whether no stamp is left for the message. Takes no memory.

@@ -1,7 +1,8 @@
 //! What a token does at its instruction, and what is sent for it (docs/MACHINE.md, "Element step").
 
-ghost use Rattle.std.specs.Prelude.{Some, ◌≡◌, ◌+◌, ◌-◌, ◌^◌, ◌<◌, ◌≤◌, ◌++◌, ◌||◌, ◌==◌, length, max, vec_len};
-ghost use Rattle.std.specs.Prelude.{vec_capacity, IfOk, OnOk, OnErr, IfErr, IsTrue, false, if◌then◌else◌, map};
+ghost use Rattle.std.specs.Prelude.{Some, ◌≡◌, ◌+◌, ◌-◌, ◌^◌, ◌<◌, ◌≤◌, ◌++◌, ◌||◌, ◌==◌, length, max};
+ghost use Rattle.std.specs.VecDeque.{deque_len, deque_capacity};
+ghost use Rattle.std.specs.Prelude.{IfOk, OnOk, OnErr, IfErr, IfSome, IsTrue, false, if◌then◌else◌, map};
 ghost use Rattle.id_bank.specs.Cells.{Cells};
 ghost use Rattle.id_element.specs.Steps.{allocated_by, answer_fired, arrival, at_instr, fill_verdict, fresh_numbers};
 ghost use Rattle.id_element.specs.Steps.{made_by, waiting_after};
@@ -11,21 +12,29 @@ ghost use Rattle.id_tag.specs.declared.Payload.TheVariants.{Token};
 ghost use Rattle.id_record.specs.declared.step.Verdict.TheVariants as verdict;
 ghost use Rattle.id_record.specs.Events.{full_step};
 ghost use Rattle.id_tag.specs.Tags.{same_tag};
-ghost use Rattle.id_element.specs.Firings.{firing_of, most_sent, verdict_of};
+ghost use Rattle.id_element.specs.Firings.{IsOf, firing_of, most_sent, reaction_in, verdict_of};
+ghost use Rattle.id_element.specs.Steps.{fired_verdict};
+ghost use Rattle.id_graph.specs.declared.instr.Instr.{Instr};
+ghost use Rattle.id_tag.specs.declared.Tag.{Tag};
+ghost use Rattle.id_ops.specs.declared.Fresh.{Fresh};
+ghost use Rattle.id_ops.specs.declared.Operands.TheVariants.{One, Two};
+ghost use Rattle.id_ops.specs.Operators.{fired};
+ghost use Rattle.id_ops.specs.Shots.{fired_of};
 ghost use Rattle.id_graph.specs.Graph.{arcs_on};
 ghost use Rattle.id_ops.specs.Operators.{side_of};
 
-use crate::step::{Arrival, TakeError};
+use crate::step::{Arrival, Reacted, TakeError};
 use id_bank::{ReadAnswer, WriteAnswer};
 use id_graph::{Dest, Instr, Op, Port};
 use id_match::{Offered, Waiting};
-use id_ops::{Fired, Fresh, Operands, fire};
+use id_ops::{Fired, Fresh, Operands, Shot, fire, shoot_one, shoot_two};
 use id_record::{
     Envelope, Reaction, Record, Verdict, chosen, count_started, message, moved_to, start, token_at,
     token_to,
 };
-use id_tag::{Context, Message, Payload, Tag, Value};
+use id_tag::{Context, Message, Payload, Tag, Value, plain_of};
 use std::alloc::AllocError;
+use std::collections::VecDeque;
 
 /// The stamp of the next event, one above both, where there is one.
 #[inline(always)]
@@ -61,24 +70,92 @@ pub(crate) fn react(
     tag: Tag,
     port: Port,
     value: Value,
-) -> Result<Reaction, AllocError>
+) -> Result<Reacted, AllocError>
     requires { tag.iteration < 2 ^ 64 - 1 }
     ensures outcome { IfOk result (λ r. (b : Cells) → at_instr next waiting.old b tag port value (Some instr.now)
         ≡ record {
-          fired = r.fired;
-          sends = sent (Some instr.now.op) (arcs_on (side_of r.fired) instr.now) tag r.fired;
-          step = full_step (Token tag port value) r.verdict;
+          fired = (reaction_in r).fired;
+          sends = sent (Some instr.now.op) (arcs_on (side_of (reaction_in r).fired) instr.now) tag (reaction_in r).fired;
+          step = full_step (Token tag port value) (reaction_in r).verdict;
           waiting = waiting.new;
           cells = b;
-          made = made_by r.fired;
-          allocated = allocated_by instr.now.op r.fired;
+          made = made_by (reaction_in r).fired;
+          allocated = allocated_by instr.now.op (reaction_in r).fired;
         }) }
+    ensures value { IfOk result (IsOf value) }
     ensures err { OnErr result (waiting.new ≡ waiting.old) }
 {
     let arrival = arrive(waiting, instr.op, tag, port, value)?;
-    let fired = firing(instr, tag, next, &arrival);
-    let verdict = verdict(&arrival, &fired);
-    Ok(Reaction { fired, verdict })
+    Ok(reacted(instr, next, tag, &value, &arrival))
+}
+
+/// What comes of what arrived, in short where that is in reach.
+#[inline(always)]
+fn reacted(instr: &Instr, next: Fresh, tag: Tag, value: &Value, arrival: &Arrival) -> Reacted
+    requires { tag.iteration < 2 ^ 64 - 1 }
+    ensures fired { (reaction_in result).fired ≡ firing_of instr.now tag next arrival.now }
+    ensures verdict { (reaction_in result).verdict ≡ verdict_of arrival.now (reaction_in result).fired }
+    ensures value { IsOf value.now result }
+{
+    match (plain_of(value), shot(instr.op, tag.iteration, arrival)) {
+        (Some(plain), Some(shot)) => Reacted::Shot(plain, shot),
+        _ => Reacted::Full(reaction(instr, next, tag, arrival)),
+    }
+}
+
+/// What comes of what arrived, in full.
+#[inline(never)]
+fn reaction(instr: &Instr, next: Fresh, tag: Tag, arrival: &Arrival) -> Reaction
+    requires { tag.iteration < 2 ^ 64 - 1 }
+    ensures fired { result.fired ≡ firing_of instr.now tag next arrival.now }
+    ensures verdict { result.verdict ≡ verdict_of arrival.now result.fired }
+{
+    let fired = firing(instr, tag, next, arrival);
+    let verdict = verdict(arrival, &fired);
+    Reaction { fired, verdict }
+}
+
+/// What comes of what arrived at an operator at this iteration, in short: where nothing fires since the token waits, and
+/// where plain operands have a plain value sent.
+#[inline(always)]
+fn shot(op: Op, iteration: u64, arrival: &Arrival) -> Option<Shot>
+    requires { iteration < 2 ^ 64 - 1 }
+    ensures fires { IfSome result (λ s. (i : Instr) (t : Tag) (next : Fresh) → i.op ≡ op → t.iteration ≡ iteration
+        → firing_of i t next arrival.now ≡ fired_of s) }
+    ensures went { IfSome result (λ s. verdict_of arrival.now (fired_of s) ≡ verdict.Went) }
+{
+    match *arrival {
+        Arrival::Fires(Operands::One(operand)) => shot_one(op, iteration, &operand),
+        Arrival::Fires(Operands::Two(left, right)) => shot_two(op, &left, &right),
+        Arrival::Waits => Some(Shot::Nothing),
+        Arrival::Blocked => None,
+    }
+}
+
+/// What an operator of one port sends for an operand, in short.
+#[inline(always)]
+fn shot_one(op: Op, iteration: u64, operand: &Value) -> Option<Shot>
+    requires { iteration < 2 ^ 64 - 1 }
+    ensures fires { IfSome result (λ s. (t : Tag) (next : Fresh) → t.iteration ≡ iteration
+        → fired op t (One operand.now) next ≡ fired_of s) }
+    ensures went { IfSome result (λ s. fired_verdict (fired_of s) ≡ verdict.Went) }
+{
+    match plain_of(operand) {
+        Some(plain) => shoot_one(op, iteration, plain),
+        None => None,
+    }
+}
+
+/// What an operator of two ports sends for its operands, in short.
+#[inline(always)]
+fn shot_two(op: Op, left: &Value, right: &Value) -> Option<Shot>
+    ensures fires { IfSome result (λ s. (t : Tag) (next : Fresh) → fired op t (Two left.now right.now) next ≡ fired_of s) }
+    ensures went { IfSome result (λ s. fired_verdict (fired_of s) ≡ verdict.Went) }
+{
+    match (plain_of(left), plain_of(right)) {
+        (Some(left), Some(right)) => shoot_two(op, left, right),
+        _ => None,
+    }
 }
 
 /// Fires an instruction of one port, and offers a token for one of two ports. After an error nothing has changed.
@@ -158,6 +235,17 @@ pub(crate) fn allocated_by(op: Op, fired: &Fired) -> u64
     }
 }
 
+/// How many structures a shot of the operator takes. Takes no memory.
+#[inline(always)]
+pub(crate) fn allocated_by_shot(op: Op, shot: Shot) -> u64
+    ensures { result ≡ allocated_by op (fired_of shot) }
+{
+    match (op, shot) {
+        (Op::Alloc, Shot::Out(_)) => 1,
+        _ => 0,
+    }
+}
+
 /// What the answer to a read fires. Takes no memory.
 pub(crate) fn answer_fired(reply: Tag, answer: ReadAnswer) -> Fired
     ensures { result ≡ answer_fired reply answer }
@@ -210,9 +298,9 @@ pub(crate) fn send(
     tag: Tag,
     fired: &Fired,
     envelope: Envelope,
-    outputs: &mut Vec<Message>,
+    outputs: &mut VecDeque<Message>,
 )
-    requires room { vec_len outputs.old + most_sent instr.now ≤ vec_capacity outputs.old }
+    requires room { deque_len outputs.old + most_sent instr.now ≤ deque_capacity outputs.old }
     requires second { HasSecond (Some instr.now.op) }
     ensures { outputs.new.items ≡ outputs.old.items ++ numbered envelope.number envelope.position envelope.stamp 0
         (sent (Some instr.now.op) (arcs_on (side_of fired.now) instr.now) tag fired.now) }
@@ -228,10 +316,10 @@ pub(crate) fn send(
             send_start(instr.op, tag, context, dests.len(), envelope, outputs);
         }
         Fired::Sent(target, value) => {
-            outputs.push_reserved(message(envelope, 0, token_at(target, value)));
+            outputs.push_back_reserved(message(envelope, 0, token_at(target, value)));
         }
         Fired::Asked { cell, reply } => {
-            outputs.push_reserved(message(envelope, 0, Payload::Read { cell, reply }));
+            outputs.push_back_reserved(message(envelope, 0, Payload::Read { cell, reply }));
         }
         Fired::Stored {
             cell,
@@ -243,22 +331,51 @@ pub(crate) fn send(
                 value,
                 origin,
             };
-            outputs.push_reserved(message(envelope, 0, write));
+            outputs.push_back_reserved(message(envelope, 0, write));
         }
         Fired::Failed(_) | Fired::Nothing => {}
     }
 }
 
+/// Appends the outputs of a shot, for which there is room. Takes no memory.
+#[inline(always)]
+pub(crate) fn send_shot(
+    instr: &Instr,
+    tag: Tag,
+    shot: Shot,
+    envelope: Envelope,
+    outputs: &mut VecDeque<Message>,
+)
+    requires { deque_len outputs.old + most_sent instr.now ≤ deque_capacity outputs.old }
+    ensures { outputs.new.items ≡ outputs.old.items ++ numbered envelope.number envelope.position envelope.stamp 0
+        (sent (Some instr.now.op) (arcs_on (side_of (fired_of shot)) instr.now) tag (fired_of shot)) }
+{
+    let dests = instr.dests.as_slice();
+    let others = instr.others.as_slice();
+    match shot {
+        Shot::Nothing => {}
+        Shot::Out(plain) | Shot::Side(true, plain) => {
+            send_all(dests, tag, plain.value(), envelope, outputs)
+        }
+        Shot::Side(false, plain) => send_all(others, tag, plain.value(), envelope, outputs),
+        Shot::Moved(iteration, plain) => {
+            let moved = moved_to(tag, iteration);
+            send_all(dests, moved, plain.value(), envelope, outputs)
+        }
+    }
+}
+
 /// Appends what starts the block that the operator names, with numbers from this one on.
+#[inline(never)]
 fn send_start(
     op: Op,
     tag: Tag,
     context: Context,
     number: usize,
     envelope: Envelope,
-    outputs: &mut Vec<Message>,
+    outputs: &mut VecDeque<Message>,
 )
-    requires room { vec_len outputs.old + count_started (Some op) ≤ vec_capacity outputs.old }
+    requires room { deque_len outputs.old + count_started (Some op) ≤ deque_capacity outputs.old }
     requires number { number < 2 ^ 63 }
     requires second { HasSecond (Some op) }
     ensures { outputs.new.items ≡ outputs.old.items
@@ -266,24 +383,30 @@ fn send_start(
 {
     if let Op::Enter { .. } = op {
         let signal = start(Some(op), tag, context, 0);
-        outputs.push_reserved(message(envelope, number, signal));
+        outputs.push_back_reserved(message(envelope, number, signal));
         let continuation = start(Some(op), tag, context, 1);
-        outputs.push_reserved(message(envelope, number + 1, continuation));
+        outputs.push_back_reserved(message(envelope, number + 1, continuation));
     }
 }
 
 /// Appends one token for each destination, in order.
 #[inline(always)]
-fn send_all(dests: &[Dest], tag: Tag, value: Value, envelope: Envelope, outputs: &mut Vec<Message>)
-    requires { vec_len outputs.old + length dests.now ≤ vec_capacity outputs.old }
+fn send_all(
+    dests: &[Dest],
+    tag: Tag,
+    value: Value,
+    envelope: Envelope,
+    outputs: &mut VecDeque<Message>,
+)
+    requires { deque_len outputs.old + length dests.now ≤ deque_capacity outputs.old }
     ensures items { outputs.new.items
         ≡ outputs.old.items
         ++ numbered envelope.number envelope.position envelope.stamp 0 (map (token_to tag value) dests.now) }
-    ensures len { vec_len outputs.new ≡ vec_len outputs.old + length dests.now }
-    ensures capacity { vec_capacity outputs.new ≡ vec_capacity outputs.old }
+    ensures len { deque_len outputs.new ≡ deque_len outputs.old + length dests.now }
+    ensures capacity { deque_capacity outputs.new ≡ deque_capacity outputs.old }
 {
     for (number, dest) in dests.iter().enumerate() {
-        outputs.push_reserved(message(envelope, number, token_to(tag, value, *dest)));
+        outputs.push_back_reserved(message(envelope, number, token_to(tag, value, *dest)));
     }
 }
 
@@ -294,9 +417,9 @@ pub(crate) fn send_replies(
     value: Value,
     envelope: Envelope,
     log: &mut Record<'_>,
-    outputs: &mut Vec<Message>,
+    outputs: &mut VecDeque<Message>,
 )
-    requires room { vec_len outputs.old + length readers.now ≤ vec_capacity outputs.old }
+    requires room { deque_len outputs.old + length readers.now ≤ deque_capacity outputs.old }
     requires room_for_replies { length readers.now ≤ log.old.room_for_replies }
     ensures items { outputs.new.items ≡ outputs.old.items
         ++ numbered envelope.number envelope.position envelope.stamp 0 (replies value readers.now) }
@@ -308,7 +431,7 @@ pub(crate) fn send_replies(
     ensures room_aside { log.new.room_aside ≡ log.old.room_aside }
 {
     for (number, reader) in readers.iter().enumerate() {
-        outputs.push_reserved(message(envelope, number, token_at(*reader, value)));
+        outputs.push_back_reserved(message(envelope, number, token_at(*reader, value)));
         log.add_reply(*reader);
     }
 }

@@ -1,6 +1,8 @@
 //! What becomes of a message, and why a message is not handled (docs/MACHINE.md, "Element step").
 
-use id_ops::Operands;
+use id_ops::{Operands, Shot};
+use id_record::Reaction;
+use id_tag::Plain;
 use std::alloc::{AllocError, AllocFailed};
 use thiserror::Error;
 
@@ -46,4 +48,11 @@ pub(crate) enum Arrival {
     Waits,
     /// Its port was filled already.
     Blocked,
+}
+
+/// What comes of a token at its instruction: in short where its value is plain and so is what is sent, and else in full.
+#[derive(Clone, Copy)]
+pub(crate) enum Reacted {
+    Shot(Plain, Shot),
+    Full(Reaction),
 }

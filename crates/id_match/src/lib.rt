@@ -22,7 +22,6 @@ use id_tag::{NearHasher, Tag, Value};
 use std::alloc::{AllocError, Global};
 use std::collections::HashMap;
 use std::collections::hash_map::Entry as Place;
-use std::hash::FoldHasher;
 use std::marker::Model;
 
 /// A value that waits, with its port.
@@ -54,7 +53,7 @@ pub struct Entry {
 /// The values that wait for their partner, by tag and port.
 #[derive(Drop)]
 pub struct Waiting {
-    halves: HashMap<Tag, Half, NearHasher<FoldHasher>>,
+    halves: HashMap<Tag, Half, NearHasher>,
 }
 
 impl Model for Waiting {
@@ -83,7 +82,7 @@ impl Waiting {
         ensures keyed { (t : Tag) (p : Port) → waits result t p ≡ None }
     {
         Waiting {
-            halves: HashMap::with_hasher(alloc, NearHasher::new(FoldHasher::default())),
+            halves: HashMap::with_hasher(alloc, NearHasher::new()),
         }
     }
 
@@ -123,10 +122,7 @@ impl Waiting {
 }
 
 // What waits, in the order of the map.
-fn listed(
-    alloc: Global,
-    halves: &HashMap<Tag, Half, NearHasher<FoldHasher>>,
-) -> Result<Vec<Entry>, AllocError>
+fn listed(alloc: Global, halves: &HashMap<Tag, Half, NearHasher>) -> Result<Vec<Entry>, AllocError>
     ensures items { IfOk result (λ es. es.items ≡ map_list entry_at halves.now.entries) }
     ensures unique { hash.IsUnique same_tag halves.now }
 {
@@ -149,7 +145,7 @@ fn sort_by_tag(entries: &mut Vec<Entry>)
 
 // An offer in one look-up: room is made where the tag is new, and only there.
 fn offer_to(
-    halves: &mut HashMap<Tag, Half, NearHasher<FoldHasher>>,
+    halves: &mut HashMap<Tag, Half, NearHasher>,
     tag: Tag,
     port: Port,
     value: Value,

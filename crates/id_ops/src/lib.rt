@@ -17,12 +17,15 @@ ghost use Rattle.id_ops.specs.Operators.{fired_switch, fired_back, fired_enter, 
 ghost use Rattle.id_ops.specs.Operators.{fired_reset, structure_in, fired_alloc, address_in};
 ghost use Rattle.id_ops.specs.Operators.{fired_address, fired_fetch, fired_store, fired};
 
+mod shot;
+
 use id_graph::{Dyadic, Instr, Op, PortKind};
 use id_tag::{Cell, Context, Structure, Tag, Value};
 use id_value::{
     Constant, FaultKind, Outcome, UnaryOp, bounds_are_good, calculate, compare, decide, is_inside,
     unary_result,
 };
+pub use shot::{Shot, shoot_one, shoot_two};
 
 /// The operands of one firing, by port.
 #[derive(Clone, Copy)]

@@ -14,12 +14,16 @@ ghost use Rattle.id_record.specs.Lines.{no_replies, number_in, number_of, own, r
 ghost use Rattle.id_record.specs.Lines.{unpacked};
 ghost use Rattle.id_record.specs.Events.{tag_of, value_of};
 
+mod shooting;
+
 use crate::history::{tag_of, value_of};
 use crate::step::Verdict;
 use id_graph::Port;
 use id_ops::{Fired, tag_within};
 use id_tag::{Context, Message, Payload, Sender, Tag, Value};
 use id_value::FaultKind;
+pub use shooting::Shooting;
+pub(crate) use shooting::{handled_whole, shot_line};
 
 /// What comes of a message: what is fired, and what the event comes to.
 #[derive(Clone, Copy)]

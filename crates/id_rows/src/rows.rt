@@ -13,6 +13,7 @@ use id_print::{Sink, SinkFault, write_trace};
 use id_tag::{Cell, Context, Message, Payload, Sender, Structure, Tag, Value, route};
 use id_valid::{InvalidCause, Valid, validate};
 use std::alloc::{AllocError, Global};
+use std::collections::VecDeque;
 use std::process::Abort;
 use std::test::Fail;
 
@@ -401,8 +402,8 @@ fn give(
 {
     assert!(rt; fits(graph, &message));
     assert!(rt; route(&message, 1) == 0);
-    let mut outputs = Vec::new(alloc);
-    element.take(message, &mut outputs)
+    let mut outputs = VecDeque::new(alloc);
+    element.take(&message, &mut outputs)
 }
 
 /// What a fresh element answers to the second of two messages.

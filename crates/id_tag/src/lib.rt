@@ -11,9 +11,11 @@ ghost use Rattle.id_tag.specs.Kinds.{kind_of, same_kind};
 ghost use Rattle.id_tag.specs.Routes.{offset_of, tag_route, cell_route, route_of};
 
 mod near;
+mod plain;
 
 use id_graph::{Port, PortKind};
 pub use near::NearHasher;
+pub use plain::{Plain, plain_of};
 
 /// The context of an activation: the element that made it, and the number that it gave it.
 /// Main's context is element 0, number 0; each element numbers those that it makes from 1.
@@ -128,6 +130,7 @@ impl Value {
 }
 
 /// The number of the element, of `count`, that handles the message. Takes no memory.
+#[inline(always)]
 pub fn route(message: &Message, count: u32) -> u32
     requires { 0 < count }
     ensures exact { result ≡ route_of message.now.payload count }
@@ -139,6 +142,7 @@ pub fn route(message: &Message, count: u32) -> u32
     }
 }
 
+#[inline(always)]
 fn route_tag(tag: Tag, count: u32) -> u32
     requires { 0 < count }
     ensures exact { result ≡ tag_route tag count }
@@ -152,6 +156,7 @@ fn route_tag(tag: Tag, count: u32) -> u32
     modulo(sum, count)
 }
 
+#[inline(always)]
 fn route_cell(cell: Cell, count: u32) -> u32
     requires { 0 < count }
     ensures exact { result ≡ cell_route cell count }

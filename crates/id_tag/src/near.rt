@@ -1,7 +1,7 @@
 //! A hash by which neighbours stand in a row in a table: the tags of neighbouring contexts, or neighbouring cells.
 
-ghost use Rattle.std.specs.Prelude.{◌≡◌};
-ghost use Rattle.id_tag.specs.Near.{shift_of};
+ghost use Rattle.std.specs.Prelude.{◌≡◌, ◌+◌, ◌≤◌, fold, length};
+ghost use Rattle.id_tag.specs.Near.{folded, half, mix, nothing_read, number, shift_of};
 
 use std::hash::{BuildHasher, Hasher};
 
@@ -11,49 +11,61 @@ use std::hash::{BuildHasher, Hasher};
 /// machine comes to them, and each such row begins where chance has it; and so do 64 neighbouring cells of a
 /// structure. Longer rows would fill stretches of the table.
 #[derive(Clone, Copy)]
-pub struct NearHasher<H> {
-    mixed: H,
+pub struct NearHasher {
+    mixed: u64,
     // The shift and 1, once there is one.
     shift: u64,
 }
 
-impl<H> NearHasher<H> {
-    /// The hasher that has read nothing, where this one mixes.
-    pub fn new(mixed: H) -> NearHasher<H> {
-        NearHasher { mixed, shift: 0 }
-    }
-}
-
-impl<H: Hasher> Hasher for NearHasher<H> {
-    ghost use Rattle.id_tag.specs.Near.{written, shifted};
-
-    ghost write = { written H.write };
-
-    ghost finish = { λ h. shifted (H.finish h.mixed) h };
-
-    #[inline(always)]
-    fn finish(&self) -> u64 {
-        self.mixed.finish().wrapping_add(self.shift)
-    }
-
-    #[inline(always)]
-    fn write(&mut self, bytes: &[u8]) {
-        if self.shift == 0 && bytes.len() == 8 {
-            self.shift = 1 + shift_of(bytes[0]);
-            self.mixed.write(&bytes[1..]);
-        } else {
-            self.mixed.write(bytes);
+impl NearHasher {
+    /// The hasher that has read nothing.
+    pub fn new() -> NearHasher
+        ensures { result ≡ nothing_read }
+    {
+        NearHasher {
+            mixed: 0x243f_6a88_85a3_08d3,
+            shift: 0,
         }
     }
 }
 
-impl<H: Hasher + Copy> BuildHasher for NearHasher<H> {
-    type Hasher = NearHasher<H>;
+impl Hasher for NearHasher {
+    ghost use Rattle.id_tag.specs.Near.{written, finished};
+
+    ghost write = { written };
+
+    ghost finish = { finished };
+
+    #[inline(always)]
+    fn finish(&self) -> u64 {
+        folded(self.mixed).wrapping_add(self.shift)
+    }
+
+    #[inline(always)]
+    fn write(&mut self, bytes: &[u8]) {
+        if bytes.len() == 8 {
+            let number = number(bytes);
+            if self.shift == 0 {
+                self.shift = 1 + shift_of(bytes[0]);
+                self.mixed = mix(self.mixed, number / 256);
+            } else {
+                self.mixed = mix(self.mixed, number);
+            }
+        } else if bytes.len() == 4 {
+            self.mixed = mix(self.mixed, half(bytes, 0));
+        } else {
+            self.mixed = mix_each(self.mixed, bytes);
+        }
+    }
+}
+
+impl BuildHasher for NearHasher {
+    type Hasher = NearHasher;
 
     ghost build_hasher = { λ h. h };
 
     #[inline(always)]
-    fn build_hasher(&self) -> NearHasher<H> {
+    fn build_hasher(&self) -> NearHasher {
         *self
     }
 }
@@ -64,4 +76,50 @@ fn shift_of(lowest: u8) -> u64
     ensures { result ≡ shift_of lowest }
 {
     u64::from(lowest % 64) + u64::from(lowest / 64) * 0x9e37_79b1
+}
+
+/// The number of the four bytes from this one on, the lowest first.
+#[inline(always)]
+fn half(bytes: &[u8], at: usize) -> u64
+    requires { at + 4 ≤ length bytes.now }
+    ensures { result ≡ half bytes.now at }
+{
+    u64::from(u32::from_le_bytes([bytes[at], bytes[at + 1], bytes[at + 2], bytes[at + 3]]))
+}
+
+/// The number of eight bytes, the lowest first.
+#[inline(always)]
+fn number(bytes: &[u8]) -> u64
+    requires { 8 ≤ length bytes.now }
+    ensures { result ≡ number bytes.now }
+{
+    half(bytes, 0) | half(bytes, 4) << 32
+}
+
+/// What is mixed so far, with a number more.
+#[inline(always)]
+fn mix(mixed: u64, number: u64) -> u64
+    ensures { result ≡ mix mixed number }
+{
+    mixed
+        .wrapping_add(number)
+        .wrapping_mul(0x9e37_79b9_7f4a_7c15)
+}
+
+/// What is mixed so far, with each byte more.
+fn mix_each(mixed: u64, bytes: &[u8]) -> u64
+    ensures { result ≡ fold mix mixed bytes.now }
+{
+    bytes
+        .iter()
+        .fold(mixed, |mixed, byte| mix(mixed, u64::from(*byte)))
+}
+
+/// What is mixed, with its high bits brought to all places.
+#[inline(always)]
+fn folded(mixed: u64) -> u64
+    ensures { result ≡ folded mixed }
+{
+    let product = u128::from(mixed) * 0x9e37_79b9_7f4a_7c15;
+    (product & 0xffff_ffff_ffff_ffff) as u64 ^ (product >> 64) as u64
 }

@@ -11,7 +11,7 @@ loop-number-preserved c =
     record {
       sent = omega arith;
       room = omega arith;
-      items = rw (c.push_reserved.ensures.items, i.items, more, c.message.ensures, append_assoc);
+      items = rw (c.push_back_reserved.ensures.items, i.items, more, c.message.ensures, append_assoc);
       added = reply-added c.args.log.now.replies c.loop-number.log.replies _ c.args.readers.now c.loop-number.number _ c.loop-number-test.true i.added c.add_reply.ensures.replies;
       left = omega (arith, i.left, c.add_reply.ensures.room_for_replies);
       events = c.add_reply.ensures.events ∙ i.events;

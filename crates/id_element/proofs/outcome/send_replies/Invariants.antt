@@ -1,12 +1,13 @@
 -- The replies so far have their tokens, in order, and stand in the record, and there is room for the rest.
-use Rattle.std.proofs.Common.{◌≡◌, ◌+◌, ◌≤◌, ◌++◌, length, vec_len, vec_capacity, take}
+use Rattle.std.proofs.Common.{◌≡◌, ◌+◌, ◌≤◌, ◌++◌, length, take}
+use Rattle.std.specs.VecDeque.{deque_len, deque_capacity}
 use Rattle.id_record.specs.Sends.{numbered, replies}
 use Rattle.id_element.proofs.outcome.send_replies.Given as goal
 
 abbrev pub invariant-loop-number : goal.invariant-loop-number
 invariant-loop-number l = record {
-  sent : vec_len l.outputs ≡ vec_len l.fn.outputs + l.number;
-  room : vec_len l.fn.outputs + length l.readers ≤ vec_capacity l.outputs;
+  sent : deque_len l.outputs ≡ deque_len l.fn.outputs + l.number;
+  room : deque_len l.fn.outputs + length l.readers ≤ deque_capacity l.outputs;
   items : l.outputs.items
       ≡ l.fn.outputs.items ++ numbered l.envelope.number l.envelope.position l.envelope.stamp 0 (replies l.value (take l.number l.readers));
   added : l.log.replies ≡ l.fn.log.replies ++ take l.number l.readers;

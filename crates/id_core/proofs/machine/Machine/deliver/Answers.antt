@@ -11,7 +11,7 @@ use Rattle.id_core.specs.Machines.{IsElement, delivered, world_of}
 use Rattle.id_core.proofs.MachinesLemmas.{IsDelivery, taken, world-delivered, event-delivered, IsMachine-deliver}
 use Rattle.id_core.proofs.machine.Machine.deliver.Goals as goal
 
-delivery : (c : goal.After-add_all) → IsDelivery c.self.inside.graph.now (length c.self.inside.elements.items) c.self.inside.elements.items c.self.inside.flight.messages c.args.position c.route-number.result c.message-message-2.result.now c.index_mut.result.now
+delivery : (c : goal.In_ok-step) → IsDelivery c.self.inside.graph.now (length c.self.inside.elements.items) c.self.inside.elements.items c.self.inside.flight.messages c.args.position c.route-number.result c.message.result.now c.index_mut.result.now
 delivery c =
     let es = c.self.inside.elements.items in
     let fl = c.self.inside.flight.messages in
@@ -19,9 +19,9 @@ delivery c =
     let many : c.len.result ≡ length es = grind (arith, common_steps) in
     let below : c.route-number.result < length es = omega arith in
     let first : slice_get fl c.args.position ≡ Some c.message-message.result.now = c.message-message.ensures in
-    let there : slice_get fl c.args.position ≡ Some c.message-message-2.result.now =
-    ap (λ ms. slice_get ms c.args.position) (sym c.open.ensures.messages) ∙ c.message-message-2.ensures in
-    let message : c.message-message.result.now ≡ c.message-message-2.result.now = cc in
+    let there : slice_get fl c.args.position ≡ Some c.message.result.now =
+    ap (λ ms. slice_get ms c.args.position) (sym c.open.ensures.messages) ∙ c.message.ensures in
+    let message : c.message-message.result.now ≡ c.message.result.now = cc in
     let element : slice_get es c.route-number.result ≡ Some c.index_mut.result.now = slice_get_read es _ _ _ refl below c.index_mut.ensures.value in
     let before : slice_get es c.route-number.result ≡ Some c.index-element.result.now = slice_get_read es _ _ _ refl below c.index-element.ensures in
     let one : c.index-element.result.now ≡ c.index_mut.result.now = cc in
@@ -42,21 +42,21 @@ no_event : {X : Type 0} (o : Option X) (x : X) → o ≡ Some x → o ≡ None �
 no_event o x some none = cc
 
 -- the elements afterwards
-element_after : (c : goal.After-add_all) → c.take.new.self ≡ taken c.index_mut.result.now c.message-message-2.result.now
+element_after : (c : goal.In_ok-step) → c.give_next.new.element ≡ taken c.index_mut.result.now c.message.result.now
 element_after c = c.in_ok-step.ensures.state
 
 -- the messages in flight afterwards
-flight_after : (c : goal.After-add_all) → c.add_all.new.self.messages ≡ remove c.self.inside.flight.messages c.args.position ++ outputs_of c.index_mut.result.now.graph c.index_mut.result.now.number c.index_mut.result.now.state c.message-message-2.result.now
+flight_after : (c : goal.In_ok-step) → c.give_next.new.self.messages ≡ remove c.self.inside.flight.messages c.args.position ++ outputs_of c.index_mut.result.now.graph c.index_mut.result.now.number c.index_mut.result.now.state c.message.result.now
 flight_after c =
-    rw (c.add_all.ensures.messages, c.take_next.ensures.messages, c.in_ok-open.ensures.gap, c.open.ensures.messages, c.in_ok-step.ensures.outputs, c.self.invariant.nothing_left)
+    rw (c.in_ok-step.ensures.messages, c.in_ok-open.ensures.gap, c.open.ensures.messages) refl
 
 pub returns-clause-world : goal.returns-clause-world
 returns-clause-world c =
     let es = c.self.inside.elements.items in
     let fl = c.self.inside.flight.messages in
-    let world = world-delivered c.self.inside.graph.now (length es) es fl c.args.position c.route-number.result c.message-message-2.result.now c.index_mut.result.now (delivery c) in
-    let count : length (set es c.route-number.result c.take.new.self) ≡ length es = length-set es c.route-number.result c.take.new.self in
-    let after : world_of (set es c.route-number.result c.take.new.self) c.add_all.new.self.messages ≡ delivered c.self.inside.graph.now (length es) (world_of es fl) c.args.position =
+    let world = world-delivered c.self.inside.graph.now (length es) es fl c.args.position c.route-number.result c.message.result.now c.index_mut.result.now (delivery c) in
+    let count : length (set es c.route-number.result c.give_next.new.element) ≡ length es = length-set es c.route-number.result c.give_next.new.element in
+    let after : world_of (set es c.route-number.result c.give_next.new.element) c.give_next.new.self.messages ≡ delivered c.self.inside.graph.now (length es) (world_of es fl) c.args.position =
     rw (element_after c, flight_after c) world in
     rw (← ap (λ v. v.graph) c.self.view_is, ← ap (λ v. v.count) c.self.view_is, ← ap (λ v. v.world) c.self.view_is)
     (λ i. record { graph = c.self.inside.graph.now; count = count i; world = after i })
@@ -65,16 +65,16 @@ pub invariant_of-self-2 : goal.invariant_of-self-2
 invariant_of-self-2 c =
     let es = c.self.inside.elements.items in
     let fl = c.self.inside.flight.messages in
-    rw (element_after c, flight_after c, c.add_all.ensures.emptied)
-    (IsMachine-deliver c.self.inside.graph.now es fl c.self.inside.outputs.items c.args.position c.route-number.result c.message-message-2.result.now c.index_mut.result.now c.self.invariant (delivery c) c.in_ok-step.ensures.fits)
+    rw (element_after c, flight_after c)
+    (IsMachine-deliver c.self.inside.graph.now es fl c.args.position c.route-number.result c.message.result.now c.index_mut.result.now c.self.invariant (delivery c) c.in_ok-step.ensures.fits)
 
 pub returns-clause-step : goal.returns-clause-step
 returns-clause-step c =
     let es = c.self.inside.elements.items in
     let fl = c.self.inside.flight.messages in
-    let event = event-delivered c.self.inside.graph.now (length es) es fl c.args.position c.route-number.result c.message-message-2.result.now c.index_mut.result.now (delivery c) in
+    let event = event-delivered c.self.inside.graph.now (length es) es fl c.args.position c.route-number.result c.message.result.now c.index_mut.result.now (delivery c) in
     let e = c.index_mut.result.now in
-    let m = c.message-message-2.result.now in
+    let m = c.message.result.now in
     let same = (delivery c).same in
     let step : c.in_ok-step.step ≡ step_of c.self.inside.graph.now c.route-number.result e.state m =
     c.in_ok-step.ensures.step ∙ ap (λ g. step_of g e.number e.state m) same.graph ∙ ap (λ n. step_of c.self.inside.graph.now n e.state m) same.number in
@@ -85,6 +85,6 @@ pub returns-clause-end : goal.returns-clause-end
 returns-clause-end c =
     let es = c.self.inside.elements.items in
     let fl = c.self.inside.flight.messages in
-    let event = event-delivered c.self.inside.graph.now (length es) es fl c.args.position c.route-number.result c.message-message-2.result.now c.index_mut.result.now (delivery c) in
+    let event = event-delivered c.self.inside.graph.now (length es) es fl c.args.position c.route-number.result c.message.result.now c.index_mut.result.now (delivery c) in
     rw (← ap (λ v. v.graph) c.self.view_is, ← ap (λ v. v.count) c.self.view_is, ← ap (λ v. v.world) c.self.view_is)
     (λ bad. cc, λ none. absurd (no_event _ _ event none))

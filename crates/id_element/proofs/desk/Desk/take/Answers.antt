@@ -15,8 +15,8 @@ returns-in_err-reserve-in-Read-clause-end c = grind (arith, common_steps)
 pub returns-in_err-reserve-in-Write-clause-end : goal.returns-in_err-reserve-in-Write-clause-end
 returns-in_err-reserve-in-Write-clause-end c = grind (arith, common_steps)
 
-pub returns-in_err-reaction-in-Token-clause-end : goal.returns-in_err-reaction-in-Token-clause-end
-returns-in_err-reaction-in-Token-clause-end c = grind (arith, common_steps)
+pub returns-in_err-plain-in-Token-clause-end : goal.returns-in_err-plain-in-Token-clause-end
+returns-in_err-plain-in-Token-clause-end c = grind (arith, common_steps)
 
 pub returns-in_err-answer-in-Read-clause-end : goal.returns-in_err-answer-in-Read-clause-end
 returns-in_err-answer-in-Read-clause-end c = grind (arith, common_steps)
@@ -24,8 +24,11 @@ returns-in_err-answer-in-Read-clause-end c = grind (arith, common_steps)
 pub returns-in_err-answer-in-Write-clause-end : goal.returns-in_err-answer-in-Write-clause-end
 returns-in_err-answer-in-Write-clause-end c = grind (arith, common_steps)
 
-pub returns-in_ok-reaction-in-Token-clause-end : goal.returns-in_ok-reaction-in-Token-clause-end
-returns-in_ok-reaction-in-Token-clause-end c = grind (arith, common_steps)
+pub returns-in-Shot-clause-end : goal.returns-in-Shot-clause-end
+returns-in-Shot-clause-end c = grind (arith, common_steps)
+
+pub returns-in-Full-clause-end : goal.returns-in-Full-clause-end
+returns-in-Full-clause-end c = grind (arith, common_steps)
 
 pub returns-in_ok-answer-in-Read-clause-end : goal.returns-in_ok-answer-in-Read-clause-end
 returns-in_ok-answer-in-Read-clause-end c = grind (arith, common_steps)

@@ -15,21 +15,21 @@ use Rattle.id_element.proofs.element.Element.take.Goals as goal
 pub invariant_of-self-2 : goal.invariant_of-self-2
 invariant_of-self-2 c =
     let old : ElementView = record { number = c.self.inside.desk.log.element; count = c.self.inside.count; graph = c.self.inside.desk.log.graph; state = state_of c.self.inside.desk } in
-    let is_for : IsFor c.self.inside.desk.log.graph c.self.inside.count c.self.inside.desk.log.element c.args.message =
+    let is_for : IsFor c.self.inside.desk.log.graph c.self.inside.count c.self.inside.desk.log.element c.args.message.now =
     rw (ap (λ v. v.graph) c.self.view_is, ap (λ v. v.count) c.self.view_is, ap (λ v. v.number) c.self.view_is) c.requires in
-    let stepped : state_of c.take.new.self ≡ state_after c.self.inside.desk.log.graph c.self.inside.desk.log.element (state_of c.self.inside.desk) c.args.message =
-    c.in_ok-step.ensures.state ∙ ap (λ g. state_after g c.self.inside.desk.log.element (state_of c.self.inside.desk) c.args.message) (c.graph.ensures.value ∙ c.graph-graph.ensures) in
-    let goes : IsTrue c.still_went-self-inside.result ↔ (IsTrue c.self.inside.went × (step_of c.self.inside.desk.log.graph c.self.inside.desk.log.element (state_of c.self.inside.desk) c.args.message ≡ Went)) =
-    rw (← c.graph-graph.ensures, ← c.graph.ensures.value, ← c.in_ok-step.ensures.step) c.still_went-self-inside.ensures in
-    rw (stepped, c.in_ok-step.ensures.number, c.in_ok-step.ensures.graph) (IsKept-take old c.args.message c.self.inside.went c.still_went-self-inside.result is_for c.in_ok-step.ensures.left c.in_ok-step.ensures.last_left goes c.self.invariant)
+    let stepped : state_of c.take.new.self ≡ state_after c.self.inside.desk.log.graph c.self.inside.desk.log.element (state_of c.self.inside.desk) c.args.message.now =
+    c.in_ok-verdict.ensures.state ∙ ap (λ g. state_after g c.self.inside.desk.log.element (state_of c.self.inside.desk) c.args.message.now) (c.graph.ensures.value ∙ c.graph-graph.ensures) in
+    let goes : IsTrue c.still_went-self-inside.result ↔ (IsTrue c.self.inside.went × (step_of c.self.inside.desk.log.graph c.self.inside.desk.log.element (state_of c.self.inside.desk) c.args.message.now ≡ Went)) =
+    rw (← c.graph-graph.ensures, ← c.graph.ensures.value, ← c.in_ok-verdict.ensures.step, ← c.full_step-step.ensures) c.still_went-self-inside.ensures in
+    rw (stepped, c.in_ok-verdict.ensures.number, c.in_ok-verdict.ensures.graph) (IsKept-take old c.args.message.now c.self.inside.went c.still_went-self-inside.result is_for c.in_ok-verdict.ensures.left c.in_ok-verdict.ensures.last_left goes c.self.invariant)
 
 pub returns-clause-fits : goal.returns-clause-fits
 returns-clause-fits c =
     rw (← ap (λ v. v.graph) c.self.view_is, ← ap (λ v. v.number) c.self.view_is, ← ap (λ v. v.state) c.self.view_is)
-    (outputs_fit c.self.inside.desk.log.graph c.self.inside.desk.log.element (state_of c.self.inside.desk) c.args.message (subst IsValid c.graph-graph.ensures c.graph.ensures.kept) c.self.invariant.replays.waiting c.self.invariant.replays.cells (rw (ap (λ v. v.graph) c.self.view_is) c.requires.fits))
+    (outputs_fit c.self.inside.desk.log.graph c.self.inside.desk.log.element (state_of c.self.inside.desk) c.args.message.now (subst IsValid c.graph-graph.ensures c.graph.ensures.kept) c.self.invariant.replays.waiting c.self.invariant.replays.cells (rw (ap (λ v. v.graph) c.self.view_is) c.requires.fits))
 
-pub returns-in_err-step-clause-end : goal.returns-in_err-step-clause-end
-returns-in_err-step-clause-end c = grind (arith, common_steps)
+pub returns-in_err-verdict-clause-end : goal.returns-in_err-verdict-clause-end
+returns-in_err-verdict-clause-end c = grind (arith, common_steps)
 
 pub returns-clause-end : goal.returns-clause-end
 returns-clause-end c = grind (arith, common_steps)

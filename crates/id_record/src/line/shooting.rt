@@ -1,0 +1,214 @@
+//! The lines of tokens with plain values that sent plain values, or nothing: most events.
+
+ghost use Rattle.std.specs.Prelude.{◌≡◌, ℤ, IfSome, IsTrue, Some};
+ghost use Rattle.id_tag.specs.declared.Tag.{Tag};
+ghost use Rattle.id_tag.specs.declared.Value.{Value};
+ghost use Rattle.id_tag.specs.declared.plain.Plain.{Plain};
+ghost use Rattle.id_tag.specs.Plains.{whole};
+ghost use Rattle.id_ops.specs.Shots.{fired_of};
+ghost use Rattle.id_ops.specs.declared.Fired.TheVariants.{Moved};
+ghost use Rattle.id_record.specs.declared.line.Exit.{Exit};
+ghost use Rattle.id_record.specs.declared.step.Verdict.TheVariants.{Went};
+ghost use Rattle.id_record.specs.Events.{value_of};
+ghost use Rattle.id_record.specs.Lines.{IsPacked, Names, carried_value, exit_of, fired_at, number_in, number_of};
+ghost use Rattle.id_record.specs.Lines.{own, reaction_of};
+ghost use Rattle.id_record.specs.Shootings.{shooting, tag_at};
+
+use super::{Carried, Effect, Exit, Handled, LARGEST, Line, NO_REPLIES, Reaction, origin};
+use crate::step::Verdict;
+use id_ops::Shot;
+use id_tag::{Message, Payload, Plain};
+
+/// A token with a plain value that is being handled, the stamp of that event, and what its instruction sends.
+#[derive(Clone, Copy)]
+pub struct Shooting<'a> {
+    pub message: &'a Message,
+    pub value: Plain,
+    pub stamp: u64,
+    pub shot: Shot,
+}
+
+/// The event in a line, where it fits in one.
+#[inline(always)]
+pub(crate) fn shot_line(event: &Shooting<'_>) -> Option<Line>
+    requires { value_of event.now.message.now.payload ≡ whole event.now.value }
+    ensures { IfSome result (λ l. IsPacked (shooting event.now) l) }
+{
+    match shot_effect(event.shot, event.value) {
+        Some(effect) => {
+            narrowed(
+                event,
+                carried(event.value),
+                effect,
+                iteration_of(event.shot),
+            )
+        },
+        None => None,
+    }
+}
+
+/// The event as one that stands aside is kept.
+pub(crate) fn handled_whole(event: &Shooting<'_>) -> Handled
+    ensures { result ≡ shooting event.now }
+{
+    Handled {
+        message: *event.message,
+        stamp: event.stamp,
+        reaction: Reaction {
+            fired: event.shot.fired(),
+            verdict: Verdict::Went,
+        },
+        replies: NO_REPLIES,
+    }
+}
+
+/// The value as a line carries it.
+#[inline(always)]
+fn carried(value: Plain) -> Carried
+    ensures { (t : Tag) → carried_value t result ≡ Some (whole value) }
+{
+    match value {
+        Plain::Signal => Carried::Signal,
+        Plain::Int(number) => Carried::Int(number),
+        Plain::Bool(truth) => Carried::Bool(truth),
+    }
+}
+
+/// The iteration to which a shot moves its value, or 0.
+#[inline(always)]
+fn iteration_of(shot: Shot) -> u64
+    ensures { (v : Plain) → Names (fired_of shot) (whole v) (tag_at result) }
+{
+    match shot {
+        Shot::Moved(iteration, _) => iteration,
+        _ => 0,
+    }
+}
+
+/// The effect of a shot on a token with this value, where a line has room for it: a value that moved is the token's own.
+#[inline(always)]
+fn shot_effect(shot: Shot, value: Plain) -> Option<Effect>
+    ensures { IfSome result (λ e. (t : Tag) → Names (fired_of shot) (whole value) t →
+        reaction_of e (exit_of (fired_of shot)) (number_of (fired_of shot) t.context.serial) t (whole value)
+        ≡ record { fired = fired_of shot; verdict = Went }) }
+{
+    match shot {
+        Shot::Nothing => Some(Effect::Nothing),
+        Shot::Out(sent) | Shot::Side(_, sent) => Some(going_out(sent)),
+        Shot::Moved(_, sent) => moved(sent, value),
+    }
+}
+
+/// The effect of a plain value's going out.
+#[inline(always)]
+fn going_out(sent: Plain) -> Effect
+    ensures { (x : Exit) (t : Tag) (v : Value) → reaction_of result x (number_in (whole sent)) t v
+        ≡ record { fired = fired_at x (whole sent); verdict = Went } }
+{
+    match sent {
+        Plain::Signal => Effect::Signal,
+        Plain::Int(_) => Effect::Int,
+        Plain::Bool(true) => Effect::True,
+        Plain::Bool(false) => Effect::False,
+    }
+}
+
+/// The effect of moving a token's own value.
+#[inline(always)]
+fn moved(sent: Plain, value: Plain) -> Option<Effect>
+    ensures { IfSome result (λ e. (x : Exit) (n : ℤ) (t : Tag) → reaction_of e x n t (whole value)
+        ≡ record { fired = Moved t.iteration (whole sent); verdict = Went }) }
+{
+    if is_same(sent, value) {
+        Some(Effect::Moved)
+    } else {
+        None
+    }
+}
+
+/// Whether two plain values are one.
+#[inline(always)]
+fn is_same(a: Plain, b: Plain) -> bool
+    ensures { IsTrue result → a ≡ b }
+{
+    match (a, b) {
+        (Plain::Signal, Plain::Signal) => true,
+        (Plain::Int(a), Plain::Int(b)) => a == b,
+        (Plain::Bool(a), Plain::Bool(b)) => a == b,
+        _ => false,
+    }
+}
+
+/// Where the value of a shot went out.
+#[inline(always)]
+fn exit(shot: Shot) -> Exit
+    ensures { result ≡ exit_of (fired_of shot) }
+{
+    match shot {
+        Shot::Side(true, _) => Exit::True,
+        Shot::Side(false, _) => Exit::False,
+        _ => Exit::Only,
+    }
+}
+
+/// The number that went out, or else 0.
+#[inline(always)]
+fn number(shot: Shot) -> i64
+    ensures { result ≡ number_of (fired_of shot) 0 }
+{
+    match shot {
+        Shot::Out(Plain::Int(number)) | Shot::Side(_, Plain::Int(number)) => number,
+        _ => 0,
+    }
+}
+
+/// The event in a line with this value, this effect and this iteration beside that of its message, where its numbers fit.
+#[inline(always)]
+fn narrowed(event: &Shooting<'_>, carried: Carried, effect: Effect, iteration: u64) -> Option<Line>
+    ensures carried { IfSome result (λ l. l.carried ≡ carried) }
+    ensures effect { IfSome result (λ l. l.effect ≡ effect) }
+    ensures exit { IfSome result (λ l. l.exit ≡ exit_of (fired_of event.now.shot)) }
+    ensures number { IfSome result (λ l. l.result ≡ number_of (fired_of event.now.shot) 0) }
+    ensures to_element { IfSome result (λ l. l.to_element ≡ 0) }
+    ensures to_iteration { IfSome result (λ l. l.to_iteration ≡ iteration) }
+    ensures to_instr { IfSome result (λ l. l.to_instr ≡ 0) }
+    ensures message { IfSome result
+        (λ l. (own l (value_of event.now.message.now.payload)).message ≡ event.now.message.now) }
+    ensures stamp { IfSome result (λ l. l.stamp ≡ event.now.stamp) }
+{
+    let message = event.message;
+    let Payload::Token { tag, port, .. } = message.payload else {
+        return None;
+    };
+    let (started, sender) = origin(message.sender);
+    let position = message.position as u64;
+    if tag.context.serial > LARGEST || tag.iteration > LARGEST || position > LARGEST {
+        return None;
+    }
+    if message.stamp > LARGEST || event.stamp > LARGEST || iteration > LARGEST {
+        return None;
+    }
+    if tag.context.element > 0xff || sender > 0xff || message.output > 0xff {
+        return None;
+    }
+    Some(Line {
+        carried,
+        result: number(event.shot),
+        serial: tag.context.serial as u32,
+        iteration: tag.iteration as u32,
+        position: position as u32,
+        sent: message.stamp as u32,
+        stamp: event.stamp as u32,
+        instr: tag.instr,
+        to_iteration: iteration as u32,
+        to_instr: 0,
+        element: tag.context.element as u8,
+        to_element: 0,
+        sender: sender as u8,
+        output: message.output as u8,
+        port,
+        started,
+        effect,
+        exit: exit(event.shot),
+    })
+}
