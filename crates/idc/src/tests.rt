@@ -274,7 +274,12 @@ answer 7
 
 #[test]
 fn prints_the_trace_before_the_answer(rt: HostRuntime) -> Result<(), Fail> {
-    let whole = print(&rt, "def main(): int = 7;", "run|text.id|--trace", 1_000_000)?;
+    let whole = print(
+        &rt,
+        "def main(): int = 7;",
+        "run|text.id|--trace",
+        1_000_000,
+    )?;
     assert_eq!(&rt; whole.out.as_slice(), TRACED.as_bytes());
     assert_eq!(&rt; whole.status, 0);
     let cut = print(&rt, "def main(): int = 7;", "run|text.id|--trace", 40)?;
