@@ -1,6 +1,6 @@
 -- Lemmas on specs/Lines.antt and specs/Records.antt: a record goes on by one event.
-use Rattle.std.proofs.Common.{◌≡◌, ℕ, zero, suc, pos, ◌+◌, ◌<◌, List, [], ◌∷◌, ◌++◌, Option, None, Some, IfSome, length, refl, sym, ap, subst, ◌∙◌, length-append, get_or, arith}
-use Rattle.std.specs.Prelude.{All, ◌≤◌, drop, slice_get, option_map, take}
+use Rattle.std.proofs.Common.{◌≡◌, ℕ, zero, suc, ◌+◌, ◌<◌, List, [], ◌∷◌, ◌++◌, Option, None, Some, IfSome, length, refl, sym, ap, subst, ◌∙◌, length-append, get_or, arith}
+use Rattle.std.specs.Prelude.{All, ◌≤◌, ◌*◌, ◌/◌, ◌%◌, ◌^◌, ℤ, true, false, drop, slice_get, option_map, take}
 use Rattle.std.specs.List.{AllByRecursion}
 use Rattle.std.proofs.lemmas.List.{append-nil, drop-append-le, get_or_append_left, length-take, take-append-drop, take-append-le, take_all}
 use Rattle.std.proofs.Math.Seq.{drop-append_seam}
@@ -19,13 +19,15 @@ use Rattle.id_tag.specs.declared.Value.TheVariants as value
 use Rattle.id_record.specs.declared.line.Handled.{Handled}
 use Rattle.id_record.specs.declared.line.Replies.{Replies}
 use Rattle.id_record.specs.declared.line.Line.{Line}
-use Rattle.id_record.specs.declared.line.Carried.{Carried}
+use Rattle.id_record.specs.declared.line.Kind.{Kind}
 use Rattle.id_record.specs.declared.line.Effect.{Effect}
-use Rattle.id_record.specs.declared.line.Carried.TheVariants.{Signal, Int, Bool as Truth, Context as InContext, Continuation as Continues, Aside}
+use Rattle.id_record.specs.declared.line.Kind.TheVariants as kind
 use Rattle.id_record.specs.Events.{EventView, full_step, tag_of, value_of}
 use Rattle.id_record.specs.Sends.{numbered, replies, sent}
-use Rattle.id_record.specs.Lines.{AreThere, IsKept, IsPacked, IsThere, Names, carried_value, exit_of, no_replies, number_of, own, reaction_of, read, target_in, unpacked}
+use Rattle.id_record.specs.Lines.{AreThere, IsKept, IsPacked, IsThere, Names, carried_value, context_of, element_at, high_half, index_of, instr_at, joined, low_half, no_replies, number_of, own, reaction_of, read, target_in, unpacked}
 use Rattle.id_record.specs.Records.{event_of_handled, events_from, replies_in, sent_by, sent_for}
+use Rattle.std.specs.Int.{cast_unsigned, w64}
+use Rattle.std.proofs.lemmas.Int.{of_z-to_z}
 use Rattle.id_record.proofs.EachLemmas.{each-append, each-weaker, each-get}
 
 -- as many events as lines
@@ -54,27 +56,29 @@ events_from-push g n ts k asides (m ∷ ls) l =
     ap (λ es. event_of_handled g n ts k (unpacked asides m) ∷ es) (events_from-push g n ts (k + 1) asides ls l ∙ ap (λ j. events_from g n ts (k + 1) asides ls ++ event_of_handled g n ts j (unpacked asides l) ∷ []) there)
 
 -- one more event aside changes none
-read-append : (asides more : List Handled) (l : Line) (c : Carried) → IsThere asides c → read (asides ++ more) l c ≡ read asides l c
-read-append asides more l Signal there = refl
-read-append asides more l (Int n) there = refl
-read-append asides more l (Truth b) there = refl
-read-append asides more l (InContext e n) there = refl
-read-append asides more l Continues there = refl
-read-append asides more l (Aside i) there = grind (arith, get_or_append_left)
+read-append : (asides more : List Handled) (l : Line) (k : Kind) → IsThere asides k l.value → read (asides ++ more) l k ≡ read asides l k
+read-append asides more l kind.Signal there = refl
+read-append asides more l kind.Int there = refl
+read-append asides more l kind.True there = refl
+read-append asides more l kind.False there = refl
+read-append asides more l kind.Context there = refl
+read-append asides more l kind.Continuation there = refl
+read-append asides more l kind.Aside there = grind (arith, get_or_append_left)
 
-there-append : (asides more : List Handled) (c : Carried) → IsThere asides c → IsThere (asides ++ more) c
-there-append asides more Signal there = tt
-there-append asides more (Int n) there = tt
-there-append asides more (Truth b) there = tt
-there-append asides more (InContext e n) there = tt
-there-append asides more Continues there = tt
-there-append asides more (Aside i) there = omega (arith, length-append asides more)
+there-append : (asides more : List Handled) (k : Kind) (n : ℤ) → IsThere asides k n → IsThere (asides ++ more) k n
+there-append asides more kind.Signal n there = tt
+there-append asides more kind.Int n there = tt
+there-append asides more kind.True n there = tt
+there-append asides more kind.False n there = tt
+there-append asides more kind.Context n there = tt
+there-append asides more kind.Continuation n there = tt
+there-append asides more kind.Aside n there = omega (arith, length-append asides more, there)
 
 events_from-append : (g : Parts) (n : ℕ) (ts : List Tag) (k : ℕ) (asides more : List Handled) (ls : List Line) → AllByRecursion (IsKept asides ts) ls
     → events_from g n ts k (asides ++ more) ls ≡ events_from g n ts k asides ls
 events_from-append g n ts k asides more [] kept = refl
 events_from-append g n ts k asides more (l ∷ ls) kept =
-    let here : unpacked (asides ++ more) l ≡ unpacked asides l = read-append asides more l l.carried (kept.0).within in
+    let here : unpacked (asides ++ more) l ≡ unpacked asides l = read-append asides more l l.kind (kept.0).within in
     let rest = events_from-append g n ts (k + 1) asides more ls kept.1 in
     ap (λ h. event_of_handled g n ts k h ∷ events_from g n ts (k + 1) (asides ++ more) ls) here ∙ ap (λ es. event_of_handled g n ts k (unpacked asides l) ∷ es) rest
 
@@ -127,9 +131,11 @@ get_last [] x = refl
 get_last (y ∷ ys) x = get_last ys x
 
 -- the last event aside
-aside_last : (asides : List Handled) (e : Handled) (l : Line) → l.carried ≡ Aside (length asides) → unpacked (asides ++ e ∷ []) l ≡ e
-aside_last asides e l is =
-    ap (read (asides ++ e ∷ []) l) is ∙ get_or_from_slice_get (asides ++ e ∷ []) (length asides) e (own l value.Signal) (get_last asides e)
+aside_last : (asides : List Handled) (e : Handled) (l : Line) → l.kind ≡ kind.Aside → index_of l.value ≡ length asides → unpacked (asides ++ e ∷ []) l ≡ e
+aside_last asides e l is at =
+    ap (read (asides ++ e ∷ []) l) is
+    ∙ ap (λ i. get_or (asides ++ e ∷ []) i (own l value.Signal)) at
+    ∙ get_or_from_slice_get (asides ++ e ∷ []) (length asides) e (own l value.Signal) (get_last asides e)
 
 -- an event in a line of its own
 pub pushed_line : (g : Parts) (n : ℕ) (ts : List Tag) (asides : List Handled) (ls : List Line) (e : Handled) (l : Line) → IsPacked e l
@@ -147,25 +153,25 @@ kept_line asides ts ls e l packed there kept =
     All-from_recursion (IsKept asides ts) (ls ++ l ∷ []) (each-append (IsKept asides ts) ls (l ∷ []) (recursion_from_All (IsKept asides ts) ls kept) (last, tt))
 
 -- an event aside
-pub pushed_aside : (g : Parts) (n : ℕ) (ts : List Tag) (asides : List Handled) (ls : List Line) (e : Handled) (l : Line) → l.carried ≡ Aside (length asides) → All (IsKept asides ts) ls
+pub pushed_aside : (g : Parts) (n : ℕ) (ts : List Tag) (asides : List Handled) (ls : List Line) (e : Handled) (l : Line) → l.kind ≡ kind.Aside → index_of l.value ≡ length asides → All (IsKept asides ts) ls
     → events_from g n ts 0 (asides ++ e ∷ []) (ls ++ l ∷ []) ≡ events_from g n ts 0 asides ls ++ event_of_handled g n ts (length (events_from g n ts 0 asides ls)) e ∷ []
-pushed_aside g n ts asides ls e l is kept =
+pushed_aside g n ts asides ls e l is index kept =
     let at : 0 + length ls ≡ length (events_from g n ts 0 asides ls) = omega (arith, length-events_from g n ts 0 asides ls) in
     events_from-push g n ts 0 (asides ++ e ∷ []) ls l
     ∙ ap (λ es. es ++ event_of_handled g n ts (0 + length ls) (unpacked (asides ++ e ∷ []) l) ∷ []) (events_from-append g n ts 0 asides (e ∷ []) ls (recursion_from_All (IsKept asides ts) ls kept))
-    ∙ ap (λ h. events_from g n ts 0 asides ls ++ event_of_handled g n ts (0 + length ls) h ∷ []) (aside_last asides e l is)
+    ∙ ap (λ h. events_from g n ts 0 asides ls ++ event_of_handled g n ts (0 + length ls) h ∷ []) (aside_last asides e l is index)
     ∙ ap (λ j. events_from g n ts 0 asides ls ++ event_of_handled g n ts j e ∷ []) at
 
-pub kept_aside : (asides : List Handled) (ts : List Tag) (ls : List Line) (e : Handled) (l : Line) → l.carried ≡ Aside (length asides) → AreThere ts e.replies
+pub kept_aside : (asides : List Handled) (ts : List Tag) (ls : List Line) (e : Handled) (l : Line) → l.kind ≡ kind.Aside → index_of l.value ≡ length asides → AreThere ts e.replies
     → All (IsKept asides ts) ls → All (IsKept (asides ++ e ∷ []) ts) (ls ++ l ∷ [])
-kept_aside asides ts ls e l is there kept =
+kept_aside asides ts ls e l is index there kept =
     let last : IsKept (asides ++ e ∷ []) ts l = record {
-      within = subst (IsThere (asides ++ e ∷ [])) (sym is) (omega (arith, length-append asides (e ∷ [])));
-      replies = subst (λ h. AreThere ts h.replies) (sym (aside_last asides e l is)) there;
+      within = subst (λ k. IsThere (asides ++ e ∷ []) k l.value) (sym is) (omega (arith, index, length-append asides (e ∷ [])));
+      replies = subst (λ h. AreThere ts h.replies) (sym (aside_last asides e l is index)) there;
     } in
     let on : (m : Line) → IsKept asides ts m → IsKept (asides ++ e ∷ []) ts m = λ m k. record {
-      within = there-append asides (e ∷ []) m.carried k.within;
-      replies = subst (λ h. AreThere ts h.replies) (sym (read-append asides (e ∷ []) m m.carried k.within)) k.replies;
+      within = there-append asides (e ∷ []) m.kind m.value k.within;
+      replies = subst (λ h. AreThere ts h.replies) (sym (read-append asides (e ∷ []) m m.kind k.within)) k.replies;
     } in
     All-from_recursion (IsKept (asides ++ e ∷ []) ts) (ls ++ l ∷ [])
     (each-append (IsKept (asides ++ e ∷ []) ts) ls (l ∷ [])
@@ -212,97 +218,124 @@ event_at_instr g n ts k h i t none there tag =
     ∙ ap (λ o. event (sent (option_map (λ j. j.op) o) (option_map_or (arcs_on b) o []) (tag_of h.message.payload) f)) there
     ∙ ap (λ u. event (sent (Some i.op) (arcs_on b i) u f)) (sym tag)
 
+-- the halves of a joined number
+half-bits : (h l : ℕ) → h < 2 ^ 32 → l < 2 ^ 32 → cast_unsigned w64 (joined h l) ≡ h * 2 ^ 32 + l
+half-bits h l high low =
+    let below : h * 2 ^ 32 + l < 2 ^ 64 = omega (arith, high, low) in
+    of_z-to_z w64 (h * 2 ^ 32 + l) below
+
+pub high_half-joined : (h l : ℕ) → h < 2 ^ 32 → l < 2 ^ 32 → high_half (joined h l) ≡ h
+high_half-joined h l high low =
+    let whole : (h * 2 ^ 32 + l) / 2 ^ 32 ≡ h = omega (arith, high, low) in
+    ap (λ n. n / 2 ^ 32) (half-bits h l high low) ∙ whole
+
+pub low_half-joined : (h l : ℕ) → h < 2 ^ 32 → l < 2 ^ 32 → low_half (joined h l) ≡ l
+low_half-joined h l high low =
+    let rest : (h * 2 ^ 32 + l) % 2 ^ 32 ≡ l = omega (arith, high, low) in
+    ap (λ n. n % 2 ^ 32) (half-bits h l high low) ∙ rest
+
+-- a tag has room in a line, and the line has its element and its instruction
+pub record IsNamed (t : Tag) (l : Line) : Type 0 where
+  pub serial : t.context.serial < 2 ^ 32
+  pub iteration : t.iteration < 2 ^ 32
+  pub element : element_at l.to ≡ t.context.element
+  pub instr : instr_at l.to ≡ t.instr
+
 -- the line names the tag
-target-line : (t : Tag) (l : Line) → l.to_element ≡ t.context.element → l.to_iteration ≡ t.iteration → l.to_instr ≡ t.instr → l.result ≡ pos t.context.serial → target_in l ≡ t
-target-line t l element iteration instr result = rw (element, iteration, instr, result) refl
+target-line : (t : Tag) (l : Line) → IsNamed t l → l.result ≡ joined t.iteration t.context.serial → target_in l ≡ t
+target-line t l named result =
+    let high : high_half l.result ≡ t.iteration = ap high_half result ∙ high_half-joined t.iteration t.context.serial named.iteration named.serial in
+    let low : low_half l.result ≡ t.context.serial = ap low_half result ∙ low_half-joined t.iteration t.context.serial named.iteration named.serial in
+    rw (named.element, high, named.instr, low) refl
 
 -- what an event names is named by its line
-pub names-line : (f : Fired) (v : Value) (t : Tag) (l : Line) → Names f v t → l.to_element ≡ t.context.element → l.to_iteration ≡ t.iteration → l.to_instr ≡ t.instr → l.result ≡ number_of f t.context.serial → Names f v (target_in l)
-names-line (fired.Out w) v t l names element iteration instr result = tt
-names-line (fired.Side b w) v t l names element iteration instr result = tt
-names-line (fired.Moved i w) v t l names element iteration instr result =
-    ap (λ u. u.iteration) (target-line t l element iteration instr result) ∙ names
-names-line (fired.Entered c) v t l names element iteration instr result = ap (λ u. u.context) (target-line t l element iteration instr result) ∙ names
-names-line (fired.Sent u w) v t l names element iteration instr result = target-line t l element iteration instr result ∙ names
-names-line (fired.Asked c r) v t l names element iteration instr result = tt
-names-line (fired.Stored c w o) v t l names element iteration instr result = tt
-names-line (fired.Failed f) v t l names element iteration instr result = tt
-names-line fired.Nothing value.Signal t l names element iteration instr result = tt
-names-line fired.Nothing (value.Int n) t l names element iteration instr result = tt
-names-line fired.Nothing (value.Bool b) t l names element iteration instr result = tt
-names-line fired.Nothing (value.Structure s) t l names element iteration instr result = tt
-names-line fired.Nothing (value.Address c) t l names element iteration instr result = tt
-names-line fired.Nothing (value.Context c) t l names element iteration instr result = tt
-names-line fired.Nothing (value.Continuation u) t l names element iteration instr result = target-line t l element iteration instr result ∙ names
+pub names-line : (f : Fired) (v : Value) (t : Tag) (l : Line) → Names f v t → IsNamed t l → l.result ≡ number_of f t → Names f v (target_in l)
+names-line (fired.Out w) v t l names named result = tt
+names-line (fired.Side b w) v t l names named result = tt
+names-line (fired.Moved i w) v t l names named result = ap (λ u. u.iteration) (target-line t l named result) ∙ names
+names-line (fired.Entered c) v t l names named result = ap (λ u. u.context) (target-line t l named result) ∙ names
+names-line (fired.Sent u w) v t l names named result = target-line t l named result ∙ names
+names-line (fired.Asked c r) v t l names named result = tt
+names-line (fired.Stored c w o) v t l names named result = tt
+names-line (fired.Failed f) v t l names named result = tt
+names-line fired.Nothing value.Signal t l names named result = tt
+names-line fired.Nothing (value.Int n) t l names named result = tt
+names-line fired.Nothing (value.Bool b) t l names named result = tt
+names-line fired.Nothing (value.Structure s) t l names named result = tt
+names-line fired.Nothing (value.Address c) t l names named result = tt
+names-line fired.Nothing (value.Context c) t l names named result = tt
+names-line fired.Nothing (value.Continuation u) t l names named result = target-line t l named result ∙ names
 
--- the number is the same, where the serial number is that of the line
-number-line : (f : Fired) (t : Tag) (l : Line) → l.result ≡ number_of f t.context.serial → l.result ≡ number_of f (target_in l).context.serial
-number-line (fired.Out w) t l result = result
-number-line (fired.Side b w) t l result = result
-number-line (fired.Moved i w) t l result = rw result refl
-number-line (fired.Entered c) t l result = rw result refl
-number-line (fired.Sent u w) t l result = rw result refl
-number-line (fired.Asked c r) t l result = rw result refl
-number-line (fired.Stored c v o) t l result = rw result refl
-number-line (fired.Failed f) t l result = rw result refl
-number-line fired.Nothing t l result = rw result refl
+-- the number is the same, where the tag is the one that the line names
+number-line : (f : Fired) (t : Tag) (l : Line) → IsNamed t l → l.result ≡ number_of f t → l.result ≡ number_of f (target_in l)
+number-line (fired.Out w) t l named result = result
+number-line (fired.Side b w) t l named result = result
+number-line (fired.Moved i w) t l named result = result ∙ ap (number_of (fired.Moved i w)) (sym (target-line t l named result))
+number-line (fired.Entered c) t l named result = result ∙ ap (number_of (fired.Entered c)) (sym (target-line t l named result))
+number-line (fired.Sent u w) t l named result = result ∙ ap (number_of (fired.Sent u w)) (sym (target-line t l named result))
+number-line (fired.Asked c r) t l named result = result ∙ ap (number_of (fired.Asked c r)) (sym (target-line t l named result))
+number-line (fired.Stored c v o) t l named result = result ∙ ap (number_of (fired.Stored c v o)) (sym (target-line t l named result))
+number-line (fired.Failed f) t l named result = result ∙ ap (number_of (fired.Failed f)) (sym (target-line t l named result))
+number-line fired.Nothing t l named result = result ∙ ap (number_of fired.Nothing) (sym (target-line t l named result))
 
 -- a line that carries a value is read as one that does
-read-carried : (asides : List Handled) (l : Line) (c : Carried) (v : Value) → carried_value (target_in l) c ≡ Some v → read asides l c ≡ own l v
-read-carried asides l Signal v is = let same : value.Signal ≡ v = cc in ap (own l) same
-read-carried asides l (Int n) v is = let same : value.Int n ≡ v = cc in ap (own l) same
-read-carried asides l (Truth b) v is = let same : value.Bool b ≡ v = cc in ap (own l) same
-read-carried asides l (InContext e n) v is = let same : value.Context (record { element = e; serial = n }) ≡ v = cc in ap (own l) same
-read-carried asides l Continues v is = let same : value.Continuation (target_in l) ≡ v = cc in ap (own l) same
-read-carried asides l (Aside i) v is = cc
+read-carried : (asides : List Handled) (l : Line) (k : Kind) (v : Value) → carried_value (target_in l) k l.value ≡ Some v → read asides l k ≡ own l v
+read-carried asides l kind.Signal v is = let same : value.Signal ≡ v = cc in ap (own l) same
+read-carried asides l kind.Int v is = let same : value.Int l.value ≡ v = cc in ap (own l) same
+read-carried asides l kind.True v is = let same : value.Bool true ≡ v = cc in ap (own l) same
+read-carried asides l kind.False v is = let same : value.Bool false ≡ v = cc in ap (own l) same
+read-carried asides l kind.Context v is = let same : value.Context (context_of l.value) ≡ v = cc in ap (own l) same
+read-carried asides l kind.Continuation v is = let same : value.Continuation (target_in l) ≡ v = cc in ap (own l) same
+read-carried asides l kind.Aside v is = cc
 
-there-carried : (asides : List Handled) (t : Tag) (c : Carried) (v : Value) → carried_value t c ≡ Some v → IsThere asides c
-there-carried asides t Signal v is = tt
-there-carried asides t (Int n) v is = tt
-there-carried asides t (Truth b) v is = tt
-there-carried asides t (InContext e n) v is = tt
-there-carried asides t Continues v is = tt
-there-carried asides t (Aside i) v is = cc
+there-carried : (asides : List Handled) (t : Tag) (k : Kind) (n : ℤ) (v : Value) → carried_value t k n ≡ Some v → IsThere asides k n
+there-carried asides t kind.Signal n v is = tt
+there-carried asides t kind.Int n v is = tt
+there-carried asides t kind.True n v is = tt
+there-carried asides t kind.False n v is = tt
+there-carried asides t kind.Context n v is = tt
+there-carried asides t kind.Continuation n v is = tt
+there-carried asides t kind.Aside n v is = cc
 
 -- an event stands in a line of its value, its numbers and its reaction
 pub packed-line : (e : Handled) (l : Line) (t : Tag) → Names e.reaction.fired (value_of e.message.payload) t
-    → ((u : Tag) → Names e.reaction.fired (value_of e.message.payload) u → carried_value u l.carried ≡ Some (value_of e.message.payload))
-    → ((u : Tag) → Names e.reaction.fired (value_of e.message.payload) u → reaction_of l.effect (exit_of e.reaction.fired) (number_of e.reaction.fired u.context.serial) u (value_of e.message.payload) ≡ e.reaction)
-    → l.exit ≡ exit_of e.reaction.fired → l.result ≡ number_of e.reaction.fired t.context.serial
-    → l.to_element ≡ t.context.element → l.to_iteration ≡ t.iteration → l.to_instr ≡ t.instr
+    → ((u : Tag) → Names e.reaction.fired (value_of e.message.payload) u → carried_value u l.kind l.value ≡ Some (value_of e.message.payload))
+    → ((u : Tag) → Names e.reaction.fired (value_of e.message.payload) u → reaction_of l.effect (number_of e.reaction.fired u) u (value_of e.message.payload) ≡ e.reaction)
+    → l.result ≡ number_of e.reaction.fired t → IsNamed t l
     → (own l (value_of e.message.payload)).message ≡ e.message → l.stamp ≡ e.stamp → e.replies ≡ no_replies → IsPacked e l
-packed-line e l t names carried effect exit result element iteration instr message stamp none =
+packed-line e l t names carried effect result named message stamp none =
     let v = value_of e.message.payload in
     let f = e.reaction.fired in
     let u = target_in l in
-    let named : Names f v u = names-line f v t l names element iteration instr result in
-    let reaction : reaction_of l.effect l.exit l.result u v ≡ e.reaction =
-    ap (λ x. reaction_of l.effect x l.result u v) exit
-    ∙ ap (λ n. reaction_of l.effect (exit_of f) n u v) (number-line f t l result)
-    ∙ effect u named in
+    let names_u : Names f v u = names-line f v t l names named result in
+    let reaction : reaction_of l.effect l.result u v ≡ e.reaction =
+    ap (λ n. reaction_of l.effect n u v) (number-line f t l named result)
+    ∙ effect u names_u in
     let whole : own l v ≡ e =
-    ap (λ m. record { message = m; stamp = l.stamp; reaction = reaction_of l.effect l.exit l.result u v; replies = no_replies }) message
-    ∙ ap (λ s. record { message = e.message; stamp = s; reaction = reaction_of l.effect l.exit l.result u v; replies = no_replies }) stamp
+    ap (λ m. record { message = m; stamp = l.stamp; reaction = reaction_of l.effect l.result u v; replies = no_replies }) message
+    ∙ ap (λ s. record { message = e.message; stamp = s; reaction = reaction_of l.effect l.result u v; replies = no_replies }) stamp
     ∙ ap (λ r. record { message = e.message; stamp = e.stamp; reaction = r; replies = no_replies }) reaction
     ∙ ap (λ rs. record { message = e.message; stamp = e.stamp; reaction = e.reaction; replies = rs }) (sym none) in
     record {
-      is = λ asides. read-carried asides l l.carried v (carried u named) ∙ whole;
-      within = λ asides. there-carried asides u l.carried v (carried u named);
+      is = λ asides. read-carried asides l l.kind v (carried u names_u) ∙ whole;
+      within = λ asides. there-carried asides u l.kind l.value v (carried u names_u);
     }
 
-pub packed-narrowed : (e : Handled) (v : Value) (c : Carried) (x : Effect) (t : Tag) (o : Option Line) → v ≡ value_of e.message.payload → Names e.reaction.fired v t
-    → ((u : Tag) → Names e.reaction.fired v u → carried_value u c ≡ Some v)
-    → ((u : Tag) → Names e.reaction.fired v u → reaction_of x (exit_of e.reaction.fired) (number_of e.reaction.fired u.context.serial) u v ≡ e.reaction)
-    → IfSome o (λ l. l.carried ≡ c) → IfSome o (λ l. l.effect ≡ x) → IfSome o (λ l. l.exit ≡ exit_of e.reaction.fired) → IfSome o (λ l. l.result ≡ number_of e.reaction.fired t.context.serial)
-    → IfSome o (λ l. l.to_element ≡ t.context.element) → IfSome o (λ l. l.to_iteration ≡ t.iteration) → IfSome o (λ l. l.to_instr ≡ t.instr)
+pub packed-narrowed : (e : Handled) (v : Value) (k : Kind) (m : ℤ) (x : Effect) (t : Tag) (o : Option Line) → v ≡ value_of e.message.payload → Names e.reaction.fired v t
+    → ((u : Tag) → Names e.reaction.fired v u → carried_value u k m ≡ Some v)
+    → ((u : Tag) → Names e.reaction.fired v u → reaction_of x (number_of e.reaction.fired u) u v ≡ e.reaction)
+    → IfSome o (λ l. l.kind ≡ k) → IfSome o (λ l. l.value ≡ m) → IfSome o (λ l. l.effect ≡ x) → IfSome o (λ l. l.result ≡ number_of e.reaction.fired t)
+    → IfSome o (λ l. t.context.serial < 2 ^ 32) → IfSome o (λ l. t.iteration < 2 ^ 32) → IfSome o (λ l. element_at l.to ≡ t.context.element) → IfSome o (λ l. instr_at l.to ≡ t.instr)
     → IfSome o (λ l. (own l (value_of e.message.payload)).message ≡ e.message) → IfSome o (λ l. l.stamp ≡ e.stamp) → IfSome o (λ l. e.replies ≡ no_replies) → IfSome o (λ l. IsPacked e l)
-packed-narrowed e v c x t None same names carried effect is_carried is_effect exit result element iteration instr message stamp none = tt
-packed-narrowed e v c x t (Some l) same names carried effect is_carried is_effect exit result element iteration instr message stamp none =
+packed-narrowed e v k m x t None same names carried effect is_kind is_value is_effect result serial iteration element instr message stamp none = tt
+packed-narrowed e v k m x t (Some l) same names carried effect is_kind is_value is_effect result serial iteration element instr message stamp none =
     let f = e.reaction.fired in
-    let holds : (u : Tag) → Names f v u → carried_value u l.carried ≡ Some v = λ u n. ap (carried_value u) is_carried ∙ carried u n in
-    let does : (u : Tag) → Names f v u → reaction_of l.effect (exit_of f) (number_of f u.context.serial) u v ≡ e.reaction =
-    λ u n. ap (λ y. reaction_of y (exit_of f) (number_of f u.context.serial) u v) is_effect ∙ effect u n in
+    let holds : (u : Tag) → Names f v u → carried_value u l.kind l.value ≡ Some v =
+    λ u n. ap (λ j. carried_value u j l.value) is_kind ∙ ap (carried_value u k) is_value ∙ carried u n in
+    let does : (u : Tag) → Names f v u → reaction_of l.effect (number_of f u) u v ≡ e.reaction =
+    λ u n. ap (λ y. reaction_of y (number_of f u) u v) is_effect ∙ effect u n in
+    let named : IsNamed t l = record { serial = serial; iteration = iteration; element = element; instr = instr } in
     packed-line e l t (subst (λ w. Names f w t) same names)
-    (subst (λ w. (u : Tag) → Names f w u → carried_value u l.carried ≡ Some w) same holds)
-    (subst (λ w. (u : Tag) → Names f w u → reaction_of l.effect (exit_of f) (number_of f u.context.serial) u w ≡ e.reaction) same does)
-    exit result element iteration instr message stamp none
+    (subst (λ w. (u : Tag) → Names f w u → carried_value u l.kind l.value ≡ Some w) same holds)
+    (subst (λ w. (u : Tag) → Names f w u → reaction_of l.effect (number_of f u) u w ≡ e.reaction) same does)
+    result named message stamp none

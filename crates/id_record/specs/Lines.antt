@@ -1,7 +1,8 @@
 -- How the record keeps an event in a line.
-use Rattle.std.specs.Prelude.{◌≡◌, ℕ, ◌<◌, ◌≤◌, ◌+◌, ℤ, pos, Bool, true, false, List, Option, None, Some, length}
+use Rattle.std.specs.Prelude.{◌≡◌, ℕ, zero, suc, ◌<◌, ◌≤◌, ◌+◌, ◌*◌, ◌/◌, ◌%◌, ◌^◌, ℤ, pos, true, false, List, Option, None, Some, length}
 use Rattle.std.specs.Prelude.{slice_index_or}
-use Rattle.std.specs.Prelude.{unsigned_abs}
+use Rattle.std.specs.Int.{cast_signed, cast_unsigned, w64}
+use Rattle.id_tag.specs.declared.Context.{Context}
 use Rattle.id_tag.specs.declared.Tag.{Tag}
 use Rattle.id_tag.specs.declared.Value.{Value}
 use Rattle.id_tag.specs.declared.Value.TheVariants as value
@@ -10,6 +11,7 @@ use Rattle.id_tag.specs.declared.Sender.TheVariants.{Start, Element}
 use Rattle.id_tag.specs.declared.Payload.TheVariants.{Token}
 use Rattle.id_ops.specs.declared.Fired.{Fired}
 use Rattle.id_ops.specs.declared.Fired.TheVariants as fired
+use Rattle.id_value.specs.declared.FaultKind.{FaultKind}
 use Rattle.id_value.specs.declared.FaultKind.TheVariants as fault
 use Rattle.id_record.specs.declared.step.Verdict.TheVariants as verdict
 use Rattle.id_record.specs.declared.line.Reaction.{Reaction}
@@ -17,9 +19,10 @@ use Rattle.id_record.specs.declared.line.Handled.{Handled}
 use Rattle.id_record.specs.declared.line.Handling.{Handling}
 use Rattle.id_record.specs.declared.line.Replies.{Replies}
 use Rattle.id_record.specs.declared.line.Line.{Line}
-use Rattle.id_record.specs.declared.line.Carried.{Carried}
-use Rattle.id_record.specs.declared.line.Carried.TheVariants.{Signal, Int, Bool as Truth, Context as InContext}
-use Rattle.id_record.specs.declared.line.Carried.TheVariants.{Continuation as Continues, Aside}
+use Rattle.id_record.specs.declared.line.Kind.{Kind}
+use Rattle.id_record.specs.declared.line.Kind.TheVariants as kind
+use Rattle.id_graph.specs.declared.dests.Port.{Port}
+use Rattle.id_graph.specs.declared.dests.Port.TheVariants.{Zero, One}
 use Rattle.id_record.specs.declared.line.Exit.{Exit}
 use Rattle.id_record.specs.declared.line.Exit.TheVariants as exits
 use Rattle.id_record.specs.declared.line.Effect.{Effect}
@@ -33,14 +36,48 @@ no_replies = record { from = 0; count = 0 }
 abbrev pub handled : Handling → Handled
 handled h = record { message = h.message.now; stamp = h.stamp; reaction = h.reaction.now; replies = h.replies }
 
--- the value that a line carries, where its event names this tag beside that of its message
-abbrev pub carried_value : Tag → Carried → Option Value
-carried_value t Signal = Some value.Signal
-carried_value t (Int n) = Some (value.Int n)
-carried_value t (Truth b) = Some (value.Bool b)
-carried_value t (InContext e n) = Some (value.Context (record { element = e; serial = n }))
-carried_value t Continues = Some (value.Continuation t)
-carried_value t (Aside i) = None
+-- two numbers of 32 bits as the halves of one
+abbrev pub joined : ℕ → ℕ → ℤ
+joined high low = cast_signed w64 (high * 2 ^ 32 + low)
+
+-- the higher half of a number
+abbrev pub high_half : ℤ → ℕ
+high_half n = cast_unsigned w64 n / 2 ^ 32
+
+-- the lower half of a number
+abbrev pub low_half : ℤ → ℕ
+low_half n = cast_unsigned w64 n % 2 ^ 32
+
+-- the context whose element and serial number are the halves of a number
+abbrev pub context_of : ℤ → Context
+context_of n = record { element = high_half n; serial = low_half n }
+
+-- the index that the value of a line is
+abbrev pub index_of : ℤ → ℕ
+index_of n = cast_unsigned w64 n
+
+-- the element of a place
+abbrev pub element_at : ℕ → ℕ
+element_at place = place / 2 ^ 24
+
+-- the instruction of a place
+abbrev pub instr_at : ℕ → ℕ
+instr_at place = place % 2 ^ 24
+
+-- the port of this number
+abbrev pub port_at : ℕ → Port
+port_at zero = Zero
+port_at (suc n) = One
+
+-- the value that a line of this kind carries in this number, where its event names this tag beside that of its message
+abbrev pub carried_value : Tag → Kind → ℤ → Option Value
+carried_value t kind.Signal n = Some value.Signal
+carried_value t kind.Int n = Some (value.Int n)
+carried_value t kind.True n = Some (value.Bool true)
+carried_value t kind.False n = Some (value.Bool false)
+carried_value t kind.Context n = Some (value.Context (context_of n))
+carried_value t kind.Continuation n = Some (value.Continuation t)
+carried_value t kind.Aside n = None
 
 -- the tag is the one that the value names, if it names one
 abbrev pub NamedBy : Value → Tag → Type 0
@@ -75,30 +112,17 @@ number_in (value.Address c) = pos 0
 number_in (value.Context c) = pos 0
 number_in (value.Continuation t) = pos 0
 
--- the number that went out, or else this serial number
-abbrev pub number_of : Fired → ℕ → ℤ
-number_of (fired.Out v) s = number_in v
-number_of (fired.Side b v) s = number_in v
-number_of (fired.Moved i v) s = pos s
-number_of (fired.Entered c) s = pos s
-number_of (fired.Sent u v) s = pos s
-number_of (fired.Asked c r) s = pos s
-number_of (fired.Stored c v o) s = pos s
-number_of (fired.Failed f) s = pos s
-number_of fired.Nothing s = pos s
-
--- where the value of a firing went out
-abbrev pub exit_of : Fired → Exit
-exit_of (fired.Out v) = exits.Only
-exit_of (fired.Side true v) = exits.True
-exit_of (fired.Side false v) = exits.False
-exit_of (fired.Moved i v) = exits.Only
-exit_of (fired.Entered c) = exits.Only
-exit_of (fired.Sent u v) = exits.Only
-exit_of (fired.Asked c r) = exits.Only
-exit_of (fired.Stored c v o) = exits.Only
-exit_of (fired.Failed f) = exits.Only
-exit_of fired.Nothing = exits.Only
+-- the number that went out, or else the iteration and the serial number of the tag
+abbrev pub number_of : Fired → Tag → ℤ
+number_of (fired.Out v) t = number_in v
+number_of (fired.Side b v) t = number_in v
+number_of (fired.Moved i v) t = joined t.iteration t.context.serial
+number_of (fired.Entered c) t = joined t.iteration t.context.serial
+number_of (fired.Sent u v) t = joined t.iteration t.context.serial
+number_of (fired.Asked c r) t = joined t.iteration t.context.serial
+number_of (fired.Stored c v o) t = joined t.iteration t.context.serial
+number_of (fired.Failed f) t = joined t.iteration t.context.serial
+number_of fired.Nothing t = joined t.iteration t.context.serial
 
 -- the firing by which a value went out there
 abbrev pub fired_at : Exit → Value → Fired
@@ -106,81 +130,95 @@ fired_at exits.Only v = fired.Out v
 fired_at exits.True v = fired.Side true v
 fired_at exits.False v = fired.Side false v
 
--- what an effect stands for, with the exit and the number of its line, the tag that its event names, and the value of
--- its message
-abbrev pub reaction_of : Effect → Exit → ℤ → Tag → Value → Reaction
-reaction_of effect.Stuck x n t v = record { fired = fired.Nothing; verdict = verdict.Stuck }
-reaction_of effect.Nothing x n t v = record { fired = fired.Nothing; verdict = verdict.Went }
-reaction_of effect.Overflow x n t v =
-    record { fired = fired.Failed fault.Overflow; verdict = verdict.Failed fault.Overflow }
-reaction_of effect.DivisionByZero x n t v =
-    record { fired = fired.Failed fault.DivisionByZero; verdict = verdict.Failed fault.DivisionByZero }
-reaction_of effect.Signal x n t v = record { fired = fired_at x value.Signal; verdict = verdict.Went }
-reaction_of effect.Int x n t v = record { fired = fired_at x (value.Int n); verdict = verdict.Went }
-reaction_of effect.True x n t v = record { fired = fired_at x (value.Bool true); verdict = verdict.Went }
-reaction_of effect.False x n t v = record { fired = fired_at x (value.Bool false); verdict = verdict.Went }
-reaction_of effect.Moved x n t v = record { fired = fired.Moved t.iteration v; verdict = verdict.Went }
-reaction_of effect.Entered x n t v = record { fired = fired.Entered t.context; verdict = verdict.Went }
-reaction_of effect.Sent x n t v = record { fired = fired.Sent t v; verdict = verdict.Went }
+-- this was fired, and all went well
+abbrev pub went : Fired → Reaction
+went f = record { fired = f; verdict = verdict.Went }
+
+-- the operator failed
+abbrev pub failed : FaultKind → Reaction
+failed f = record { fired = fired.Failed f; verdict = verdict.Failed f }
+
+-- what an effect stands for, with the number of its line, the tag that its event names, and the value of its message
+abbrev pub reaction_of : Effect → ℤ → Tag → Value → Reaction
+reaction_of effect.Stuck n t v = record { fired = fired.Nothing; verdict = verdict.Stuck }
+reaction_of effect.Nothing n t v = went fired.Nothing
+reaction_of effect.Overflow n t v = failed fault.Overflow
+reaction_of effect.DivisionByZero n t v = failed fault.DivisionByZero
+reaction_of effect.Signal n t v = went (fired.Out value.Signal)
+reaction_of effect.Int n t v = went (fired.Out (value.Int n))
+reaction_of effect.True n t v = went (fired.Out (value.Bool true))
+reaction_of effect.False n t v = went (fired.Out (value.Bool false))
+reaction_of effect.SignalOnTrue n t v = went (fired.Side true value.Signal)
+reaction_of effect.IntOnTrue n t v = went (fired.Side true (value.Int n))
+reaction_of effect.TrueOnTrue n t v = went (fired.Side true (value.Bool true))
+reaction_of effect.FalseOnTrue n t v = went (fired.Side true (value.Bool false))
+reaction_of effect.SignalOnFalse n t v = went (fired.Side false value.Signal)
+reaction_of effect.IntOnFalse n t v = went (fired.Side false (value.Int n))
+reaction_of effect.TrueOnFalse n t v = went (fired.Side false (value.Bool true))
+reaction_of effect.FalseOnFalse n t v = went (fired.Side false (value.Bool false))
+reaction_of effect.Moved n t v = went (fired.Moved t.iteration v)
+reaction_of effect.Entered n t v = went (fired.Entered t.context)
+reaction_of effect.Sent n t v = went (fired.Sent t v)
 
 -- the tag that the event of a line names beside that of its message
 abbrev pub target_in : Line → Tag
 target_in l = record {
-  context = record { element = l.to_element; serial = unsigned_abs l.result };
-  iteration = l.to_iteration;
-  instr = l.to_instr;
+  context = record { element = element_at l.to; serial = low_half l.result };
+  iteration = high_half l.result;
+  instr = instr_at l.to;
 }
 
--- who sent the message: no element, or the one of this number
-abbrev pub sender_of : Bool → ℕ → Sender
-sender_of true n = Start
-sender_of false n = Element n
+-- who sent the message: no element, or the one whose number is 1 less
+abbrev pub sender_of : ℕ → Sender
+sender_of zero = Start
+sender_of (suc n) = Element n
 
 -- the event of a line that carries this value
 abbrev pub own : Line → Value → Handled
 own l v = record {
   message = record {
     payload = Token (record {
-      context = record
-          { element = l.element; serial = l.serial };
+      context = record { element = element_at l.place; serial = l.serial };
       iteration = l.iteration;
-      instr = l.instr;
-    }) l.port v;
-    sender = sender_of l.started l.sender;
-    position = l.position;
+      instr = instr_at l.place;
+    }) (port_at (l.position / 2 ^ 31)) v;
+    sender = sender_of l.sender;
+    position = l.position % 2 ^ 31;
     output = l.output;
     stamp = l.sent;
   };
   stamp = l.stamp;
-  reaction = reaction_of l.effect l.exit l.result (target_in l) v;
+  reaction = reaction_of l.effect l.result (target_in l) v;
   replies = no_replies;
 }
 
--- the event of a line that carries this
-abbrev pub read : List Handled → Line → Carried → Handled
-read asides l Signal = own l value.Signal
-read asides l (Int n) = own l (value.Int n)
-read asides l (Truth b) = own l (value.Bool b)
-read asides l (InContext e n) = own l (value.Context (record { element = e; serial = n }))
-read asides l Continues = own l (value.Continuation (target_in l))
-read asides l (Aside i) = slice_index_or asides i (own l value.Signal)
+-- the event of a line of this kind
+abbrev pub read : List Handled → Line → Kind → Handled
+read asides l kind.Signal = own l value.Signal
+read asides l kind.Int = own l (value.Int l.value)
+read asides l kind.True = own l (value.Bool true)
+read asides l kind.False = own l (value.Bool false)
+read asides l kind.Context = own l (value.Context (context_of l.value))
+read asides l kind.Continuation = own l (value.Continuation (target_in l))
+read asides l kind.Aside = slice_index_or asides (index_of l.value) (own l value.Signal)
 
 -- the event of a line
 abbrev pub unpacked : List Handled → Line → Handled
-unpacked asides l = read asides l l.carried
+unpacked asides l = read asides l l.kind
 
--- what stands aside is there
-abbrev pub IsThere : List Handled → Carried → Type 0
-IsThere asides Signal = Unit {0}
-IsThere asides (Int n) = Unit {0}
-IsThere asides (Truth b) = Unit {0}
-IsThere asides (InContext e n) = Unit {0}
-IsThere asides Continues = Unit {0}
-IsThere asides (Aside i) = i < length asides
+-- what stands aside at the index that this number is, where a line of this kind says so, is there
+abbrev pub IsThere : List Handled → Kind → ℤ → Type 0
+IsThere asides kind.Signal n = Unit {0}
+IsThere asides kind.Int n = Unit {0}
+IsThere asides kind.True n = Unit {0}
+IsThere asides kind.False n = Unit {0}
+IsThere asides kind.Context n = Unit {0}
+IsThere asides kind.Continuation n = Unit {0}
+IsThere asides kind.Aside n = index_of n < length asides
 
 -- the line's event is there
 abbrev pub IsWithin : List Handled → Line → Type 0
-IsWithin asides l = IsThere asides l.carried
+IsWithin asides l = IsThere asides l.kind l.value
 
 -- so many replies are there
 abbrev pub AreThere : List Tag → Replies → Type 0

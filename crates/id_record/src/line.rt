@@ -1,17 +1,17 @@
-//! How the record keeps an event: in one line of 64 bytes, or aside where it does not fit in one.
+//! How the record keeps an event: in one line of 48 bytes, or aside where it does not fit in one.
 
-ghost use Rattle.std.specs.Prelude.{◌≡◌, ℤ, Some, IfSome, IsTrue};
+ghost use Rattle.std.specs.Prelude.{◌≡◌, ◌<◌, ◌%◌, ◌/◌, ◌^◌, ℤ, pos, true, false, Some, IfSome, IsTrue};
 ghost use Rattle.id_tag.specs.declared.Tag.{Tag};
 ghost use Rattle.id_tag.specs.declared.Value.{Value};
 ghost use Rattle.id_tag.specs.declared.Payload.TheVariants.{Token};
 ghost use Rattle.id_ops.specs.declared.Fired.TheVariants as firings;
 ghost use Rattle.id_tag.specs.declared.Value.TheVariants as value;
 ghost use Rattle.id_record.specs.declared.step.Verdict.TheVariants.{Went, Failed};
-ghost use Rattle.id_record.specs.declared.line.Carried.TheVariants.{Aside};
-ghost use Rattle.id_record.specs.declared.line.Exit.{Exit};
-ghost use Rattle.id_record.specs.Lines.{IsPacked, IsWithin, NamedBy, Names, carried_value, exit_of, fired_at, handled};
-ghost use Rattle.id_record.specs.Lines.{no_replies, number_in, number_of, own, reaction_of, sender_of, target_in};
-ghost use Rattle.id_record.specs.Lines.{unpacked};
+ghost use Rattle.id_record.specs.declared.line.Kind.TheVariants.{Aside};
+ghost use Rattle.id_record.specs.Lines.{IsPacked, IsWithin, NamedBy, Names, carried_value, context_of, element_at};
+ghost use Rattle.id_record.specs.Lines.{failed, fired_at, handled, high_half, index_of, instr_at, joined, low_half};
+ghost use Rattle.id_record.specs.Lines.{no_replies, number_in, number_of, own, port_at, reaction_of, sender_of};
+ghost use Rattle.id_record.specs.Lines.{target_in, unpacked, went};
 ghost use Rattle.id_record.specs.Events.{tag_of, value_of};
 
 mod shooting;
@@ -60,42 +60,48 @@ pub struct Handling<'a> {
     pub replies: Replies,
 }
 
-/// A handled message in 64 bytes: most numbers of a run need no more than 32 bits. The tag that the event names beside
-/// that of its message stands in `to_element`, `result`, `to_iteration` and `to_instr`.
+/// A handled message in 48 bytes: most numbers of a run need no more than 32 bits. `kind` and `value` say what the
+/// message carries, and `effect` and `result` what came of it. Of the tag of the message `place` is the element and the
+/// instruction, and `serial` and `iteration` are the rest. Of the tag that the event names beside it `to` is the element
+/// and the instruction, and `result` the rest. `position` is also the port, and `sender` is 0 where no element sent the
+/// message, or 1 more than the number of the one that did.
 #[derive(Clone, Copy)]
 pub(crate) struct Line {
-    carried: Carried,
+    value: i64,
     result: i64,
     serial: u32,
     iteration: u32,
     position: u32,
     sent: u32,
     stamp: u32,
-    instr: u32,
-    to_iteration: u32,
-    to_instr: u32,
-    element: u8,
-    to_element: u8,
+    place: u32,
+    to: u32,
     sender: u8,
     output: u8,
-    port: Port,
-    started: bool,
+    kind: Kind,
     effect: Effect,
-    exit: Exit,
 }
 
-const _: () = prove!(size_of::<Line>() == 64);
+const _: () = prove!(size_of::<Line>() == 48);
 
-/// The value that the message carries, or where the whole event stands aside. `Continuation` stands for the tag that
-/// the event names.
+/// The value that a message carries, as a line keeps it.
 #[derive(Clone, Copy)]
-enum Carried {
+struct Carried {
+    kind: Kind,
+    value: i64,
+}
+
+/// What the value of a line stands for: of `Int` it is the number, of `Context` its element and serial number, and of
+/// `Aside`, where the whole event stands aside, its index there. `Continuation` stands for the tag that the event names.
+#[derive(Clone, Copy)]
+enum Kind {
     Signal,
-    Int(i64),
-    Bool(bool),
-    Context(u32, u32),
+    Int,
+    True,
+    False,
+    Context,
     Continuation,
-    Aside(usize),
+    Aside,
 }
 
 /// Where a value went out: to the only side of its operator, or on this side of a switch.
@@ -106,9 +112,9 @@ enum Exit {
     False,
 }
 
-/// What the instruction made of the message; `Int` stands for the result of the line, `Entered` for the context of
-/// the tag that the event names, `Sent` for sending the message's own value to that tag, and `Moved` for sending it on
-/// at that tag's iteration.
+/// What the instruction made of the message. A value went out to the only side of its operator, or on a side of a
+/// switch; `Int` stands for the result of the line. `Entered` stands for the context of the tag that the event names,
+/// `Sent` for sending the message's own value to that tag, and `Moved` for sending it on at that tag's iteration.
 #[derive(Clone, Copy)]
 enum Effect {
     Stuck,
@@ -119,6 +125,14 @@ enum Effect {
     Int,
     True,
     False,
+    SignalOnTrue,
+    IntOnTrue,
+    TrueOnTrue,
+    FalseOnTrue,
+    SignalOnFalse,
+    IntOnFalse,
+    TrueOnFalse,
+    FalseOnFalse,
     Moved,
     Entered,
     Sent,
@@ -142,27 +156,23 @@ pub(crate) fn packed(event: &Handling<'_>) -> Option<Line>
 
 /// The line of an event that stands aside at this index.
 pub(crate) fn line_aside(index: usize) -> Line
-    ensures { result.carried ≡ Aside index }
+    ensures kind { result.kind ≡ Aside }
+    ensures index { index_of result.value ≡ index }
 {
     Line {
-        carried: Carried::Aside(index),
+        value: (index as u64).cast_signed(),
         result: 0,
         serial: 0,
         iteration: 0,
         position: 0,
         sent: 0,
         stamp: 0,
-        instr: 0,
-        to_iteration: 0,
-        to_instr: 0,
-        element: 0,
-        to_element: 0,
+        place: 0,
+        to: 0,
         sender: 0,
         output: 0,
-        port: Port::Zero,
-        started: true,
+        kind: Kind::Aside,
         effect: Effect::Nothing,
-        exit: Exit::Only,
     }
 }
 
@@ -172,13 +182,14 @@ pub(crate) fn unpack(asides: &[Handled], line: &Line) -> Handled
     requires { IsWithin asides.now line.now }
     ensures { result ≡ unpacked asides.now line.now }
 {
-    match line.carried {
-        Carried::Signal => own(line, Value::Signal),
-        Carried::Int(number) => own(line, Value::Int(number)),
-        Carried::Bool(truth) => own(line, Value::Bool(truth)),
-        Carried::Context(element, serial) => own(line, context_value(element, serial)),
-        Carried::Continuation => own(line, Value::Continuation(target_in(line))),
-        Carried::Aside(index) => asides[index],
+    match line.kind {
+        Kind::Signal => own(line, Value::Signal),
+        Kind::Int => own(line, Value::Int(line.value)),
+        Kind::True => own(line, Value::Bool(true)),
+        Kind::False => own(line, Value::Bool(false)),
+        Kind::Context => own(line, Value::Context(context_of(line.value))),
+        Kind::Continuation => own(line, Value::Continuation(target_in(line))),
+        Kind::Aside => asides[index_of(line.value)],
     }
 }
 
@@ -187,13 +198,14 @@ pub(crate) fn payload_in(asides: &[Handled], line: &Line) -> Payload
     requires { IsWithin asides.now line.now }
     ensures { result ≡ (unpacked asides.now line.now).message.payload }
 {
-    match line.carried {
-        Carried::Signal => own_payload(line, Value::Signal),
-        Carried::Int(number) => own_payload(line, Value::Int(number)),
-        Carried::Bool(truth) => own_payload(line, Value::Bool(truth)),
-        Carried::Context(element, serial) => own_payload(line, context_value(element, serial)),
-        Carried::Continuation => own_payload(line, Value::Continuation(target_in(line))),
-        Carried::Aside(index) => asides[index].message.payload,
+    match line.kind {
+        Kind::Signal => own_payload(line, Value::Signal),
+        Kind::Int => own_payload(line, Value::Int(line.value)),
+        Kind::True => own_payload(line, Value::Bool(true)),
+        Kind::False => own_payload(line, Value::Bool(false)),
+        Kind::Context => own_payload(line, Value::Context(context_of(line.value))),
+        Kind::Continuation => own_payload(line, Value::Continuation(target_in(line))),
+        Kind::Aside => asides[index_of(line.value)].message.payload,
     }
 }
 
@@ -202,22 +214,96 @@ pub(crate) fn instr_in(asides: &[Handled], line: &Line) -> u32
     requires { IsWithin asides.now line.now }
     ensures { result ≡ (tag_of (unpacked asides.now line.now).message.payload).instr }
 {
-    match line.carried {
-        Carried::Aside(index) => tag_of(&asides[index].message.payload).instr,
-        Carried::Signal | Carried::Int(_) | Carried::Bool(_) => line.instr,
-        Carried::Context(_, _) | Carried::Continuation => line.instr,
+    match line.kind {
+        Kind::Aside => tag_of(&asides[index_of(line.value)].message.payload).instr,
+        Kind::Signal | Kind::Int | Kind::True | Kind::False => instr_at(line.place),
+        Kind::Context | Kind::Continuation => instr_at(line.place),
     }
 }
 
-/// The context of these numbers, as a value.
+/// Two numbers of 32 bits as the halves of one.
 #[inline(always)]
-fn context_value(element: u32, serial: u32) -> Value
-    ensures { result ≡ value.Context (record { element = element; serial = serial }) }
+fn joined(high: u64, low: u64) -> i64
+    requires high { high < 2 ^ 32 }
+    requires low { low < 2 ^ 32 }
+    ensures { result ≡ joined high low }
 {
-    Value::Context(Context {
-        element,
-        serial: u64::from(serial),
-    })
+    (high * 0x1_0000_0000 + low).cast_signed()
+}
+
+/// The higher half of a number.
+#[inline(always)]
+fn high_half(number: i64) -> u32
+    ensures { result ≡ high_half number }
+{
+    (number.cast_unsigned() / 0x1_0000_0000) as u32
+}
+
+/// The lower half of a number.
+#[inline(always)]
+fn low_half(number: i64) -> u32
+    ensures { result ≡ low_half number }
+{
+    (number.cast_unsigned() % 0x1_0000_0000) as u32
+}
+
+/// The context whose element and serial number are the halves of a number.
+#[inline(always)]
+fn context_of(number: i64) -> Context
+    ensures { result ≡ context_of number }
+{
+    Context {
+        element: high_half(number),
+        serial: u64::from(low_half(number)),
+    }
+}
+
+/// The index that the value of a line is.
+#[inline(always)]
+fn index_of(value: i64) -> usize
+    ensures { result ≡ index_of value }
+{
+    value.cast_unsigned() as usize
+}
+
+/// An element and an instruction in 32 bits: 8 of them for the element.
+#[inline(always)]
+fn place(element: u32, instr: u32) -> u32
+    requires element { element < 2 ^ 8 }
+    requires instr { instr < 2 ^ 24 }
+    ensures element { element_at result ≡ element }
+    ensures instr { instr_at result ≡ instr }
+{
+    element * 0x100_0000 + instr
+}
+
+/// The element of a place.
+#[inline(always)]
+fn element_at(place: u32) -> u32
+    ensures { result ≡ element_at place }
+{
+    place / 0x100_0000
+}
+
+/// The instruction of a place.
+#[inline(always)]
+fn instr_at(place: u32) -> u32
+    ensures { result ≡ instr_at place }
+{
+    place % 0x100_0000
+}
+
+/// A position and a port in 32 bits: the highest of them for the port.
+#[inline(always)]
+fn position_at(position: u64, port: Port) -> u32
+    requires { position < 2 ^ 31 }
+    ensures position { result % 2 ^ 31 ≡ position }
+    ensures port { port_at (result / 2 ^ 31) ≡ port }
+{
+    match port {
+        Port::Zero => position as u32,
+        Port::One => position as u32 + 0x8000_0000,
+    }
 }
 
 /// The tag that the event of a line names beside that of its message.
@@ -227,39 +313,54 @@ fn target_in(line: &Line) -> Tag
 {
     Tag {
         context: Context {
-            element: u32::from(line.to_element),
-            serial: line.result.unsigned_abs(),
+            element: element_at(line.to),
+            serial: u64::from(low_half(line.result)),
         },
-        iteration: u64::from(line.to_iteration),
-        instr: line.to_instr,
+        iteration: u64::from(high_half(line.result)),
+        instr: instr_at(line.to),
     }
 }
 
 /// A value that a line has room for, where the instruction fired this.
 #[inline(always)]
 fn carry(value: Value, fired: &Fired) -> Option<Carried>
-    ensures { IfSome result (λ c. (t : Tag) → Names fired.now value t → carried_value t c ≡ Some value) }
+    ensures { IfSome result (λ c. (t : Tag) → Names fired.now value t → carried_value t c.kind c.value ≡ Some value) }
 {
     match value {
-        Value::Signal => Some(Carried::Signal),
-        Value::Int(number) => Some(Carried::Int(number)),
-        Value::Bool(truth) => Some(Carried::Bool(truth)),
+        Value::Signal => Some(of_kind(Kind::Signal)),
+        Value::Int(number) => Some(Carried {
+            kind: Kind::Int,
+            value: number,
+        }),
+        Value::Bool(true) => Some(of_kind(Kind::True)),
+        Value::Bool(false) => Some(of_kind(Kind::False)),
         Value::Structure(_) | Value::Address(_) => None,
         Value::Context(context) => carry_context(context),
         Value::Continuation(_) => match *fired {
-            Fired::Nothing => Some(Carried::Continuation),
+            Fired::Nothing => Some(of_kind(Kind::Continuation)),
             _ => None,
         },
     }
 }
 
+/// What needs no more than its kind.
+#[inline(always)]
+fn of_kind(kind: Kind) -> Carried
+    ensures { result ≡ record { kind = kind; value = pos 0 } }
+{
+    Carried { kind, value: 0 }
+}
+
 /// A context that a line has room for.
 #[inline(always)]
 fn carry_context(context: Context) -> Option<Carried>
-    ensures { IfSome result (λ c. (t : Tag) → carried_value t c ≡ Some (value.Context context)) }
+    ensures { IfSome result (λ c. (t : Tag) → carried_value t c.kind c.value ≡ Some (value.Context context)) }
 {
     if context.serial <= LARGEST {
-        Some(Carried::Context(context.element, context.serial as u32))
+        Some(Carried {
+            kind: Kind::Context,
+            value: joined(u64::from(context.element), context.serial),
+        })
     } else {
         None
     }
@@ -310,8 +411,7 @@ const NO_TAG: Tag = Tag {
 #[inline(always)]
 fn effect_of(value: Value, reaction: &Reaction) -> Option<Effect>
     ensures { IfSome result (λ e. (t : Tag) → Names reaction.now.fired value t →
-        reaction_of e (exit_of reaction.now.fired) (number_of reaction.now.fired t.context.serial) t value
-        ≡ reaction.now) }
+        reaction_of e (number_of reaction.now.fired t) t value ≡ reaction.now) }
 {
     match reaction.verdict {
         Verdict::Went => effect_of_firing(value, &reaction.fired),
@@ -328,13 +428,13 @@ fn effect_of(value: Value, reaction: &Reaction) -> Option<Effect>
 #[inline(always)]
 fn effect_of_firing(value: Value, fired: &Fired) -> Option<Effect>
     ensures { IfSome result (λ e. (t : Tag) → Names fired.now value t →
-        reaction_of e (exit_of fired.now) (number_of fired.now t.context.serial) t value
-        ≡ record { fired = fired.now; verdict = Went }) }
+        reaction_of e (number_of fired.now t) t value ≡ record { fired = fired.now; verdict = Went }) }
 {
     match *fired {
         Fired::Nothing => Some(Effect::Nothing),
-        Fired::Out(value) => going_out(value),
-        Fired::Side(_, value) => going_out(value),
+        Fired::Out(value) => going_out(Exit::Only, value),
+        Fired::Side(true, value) => going_out(Exit::True, value),
+        Fired::Side(false, value) => going_out(Exit::False, value),
         Fired::Moved(_, moved) if same_value(moved, value) => Some(Effect::Moved),
         Fired::Entered(_) => Some(Effect::Entered),
         Fired::Sent(_, sent) if same_value(sent, value) => Some(Effect::Sent),
@@ -344,8 +444,8 @@ fn effect_of_firing(value: Value, fired: &Fired) -> Option<Effect>
 
 /// The effect of a fault, where the firing is of the same fault.
 fn effect_of_fault(fault: FaultKind, fired: &Fired) -> Option<Effect>
-    ensures { IfSome result (λ e. (x : Exit) (n : ℤ) (t : Tag) (v : Value) →
-        reaction_of e x n t v ≡ record { fired = fired.now; verdict = Failed fault }) }
+    ensures { IfSome result (λ e. (n : ℤ) (t : Tag) (v : Value) →
+        reaction_of e n t v ≡ record { fired = fired.now; verdict = Failed fault }) }
 {
     let Fired::Failed(found) = *fired else {
         return None;
@@ -373,31 +473,85 @@ fn same_value(a: Value, b: Value) -> bool
     }
 }
 
-/// The effect of a value's going out, where a line has room for it.
+/// The effect of a value's going out there, where a line has room for it.
 #[inline(always)]
-fn going_out(value: Value) -> Option<Effect>
-    ensures { IfSome result (λ e. (x : Exit) (t : Tag) (v : Value) →
-        reaction_of e x (number_in value) t v ≡ record { fired = fired_at x value; verdict = Went }) }
+fn going_out(exit: Exit, value: Value) -> Option<Effect>
+    ensures { IfSome result (λ e. (t : Tag) (v : Value) →
+        reaction_of e (number_in value) t v ≡ record { fired = fired_at exit value; verdict = Went }) }
 {
     match value {
-        Value::Signal => Some(Effect::Signal),
-        Value::Int(_) => Some(Effect::Int),
-        Value::Bool(true) => Some(Effect::True),
-        Value::Bool(false) => Some(Effect::False),
+        Value::Signal => Some(signal_at(exit)),
+        Value::Int(_) => Some(int_at(exit)),
+        Value::Bool(true) => Some(true_at(exit)),
+        Value::Bool(false) => Some(false_at(exit)),
         Value::Structure(_) | Value::Address(_) => None,
         Value::Context(_) | Value::Continuation(_) => None,
     }
 }
 
-/// The number that went out, or else the serial number of the context that the event names.
+/// The effect of a signal's going out there.
 #[inline(always)]
-fn number(fired: &Fired, serial: u32) -> i64
-    ensures { result ≡ number_of fired.now serial }
+fn signal_at(exit: Exit) -> Effect
+    ensures { (n : ℤ) (t : Tag) (v : Value) →
+        reaction_of result n t v ≡ record { fired = fired_at exit value.Signal; verdict = Went } }
+{
+    match exit {
+        Exit::Only => Effect::Signal,
+        Exit::True => Effect::SignalOnTrue,
+        Exit::False => Effect::SignalOnFalse,
+    }
+}
+
+/// The effect of a number's going out there.
+#[inline(always)]
+fn int_at(exit: Exit) -> Effect
+    ensures { (n : ℤ) (t : Tag) (v : Value) →
+        reaction_of result n t v ≡ record { fired = fired_at exit (value.Int n); verdict = Went } }
+{
+    match exit {
+        Exit::Only => Effect::Int,
+        Exit::True => Effect::IntOnTrue,
+        Exit::False => Effect::IntOnFalse,
+    }
+}
+
+/// The effect of `true`'s going out there.
+#[inline(always)]
+fn true_at(exit: Exit) -> Effect
+    ensures { (n : ℤ) (t : Tag) (v : Value) →
+        reaction_of result n t v ≡ record { fired = fired_at exit (value.Bool true); verdict = Went } }
+{
+    match exit {
+        Exit::Only => Effect::True,
+        Exit::True => Effect::TrueOnTrue,
+        Exit::False => Effect::TrueOnFalse,
+    }
+}
+
+/// The effect of `false`'s going out there.
+#[inline(always)]
+fn false_at(exit: Exit) -> Effect
+    ensures { (n : ℤ) (t : Tag) (v : Value) →
+        reaction_of result n t v ≡ record { fired = fired_at exit (value.Bool false); verdict = Went } }
+{
+    match exit {
+        Exit::Only => Effect::False,
+        Exit::True => Effect::FalseOnTrue,
+        Exit::False => Effect::FalseOnFalse,
+    }
+}
+
+/// The number that went out, or else the iteration and the serial number of the tag that the event names.
+#[inline(always)]
+fn number(fired: &Fired, to: Tag) -> i64
+    requires iteration { to.iteration < 2 ^ 32 }
+    requires serial { to.context.serial < 2 ^ 32 }
+    ensures { result ≡ number_of fired.now to }
 {
     match *fired {
         Fired::Out(value) => number_in(value),
         Fired::Side(_, value) => number_in(value),
-        _ => i64::from(serial),
+        _ => joined(to.iteration, to.context.serial),
     }
 }
 
@@ -411,30 +565,30 @@ fn number_in(value: Value) -> i64
     }
 }
 
-/// Where the value went out.
-#[inline(always)]
-fn exit_of(fired: &Fired) -> Exit
-    ensures { result ≡ exit_of fired.now }
-{
-    match *fired {
-        Fired::Side(true, _) => Exit::True,
-        Fired::Side(false, _) => Exit::False,
-        _ => Exit::Only,
-    }
-}
-
+/// The largest serial number, iteration and stamp that a line has room for, and so on.
 const LARGEST: u64 = 0xffff_ffff;
+
+const LARGEST_POSITION: u64 = 0x7fff_ffff;
+
+const LARGEST_INSTR: u32 = 0xff_ffff;
+
+const LARGEST_ELEMENT: u32 = 0xff;
+
+const LARGEST_SENDER: u64 = 0xff;
+
+const LARGEST_OUTPUT: usize = 0xff;
 
 /// The event in a line with this value, this effect and this tag beside that of its message, where its numbers fit.
 #[inline(always)]
 fn narrowed(event: &Handling<'_>, carried: Carried, effect: Effect, to: Tag) -> Option<Line>
-    ensures carried { IfSome result (λ l. l.carried ≡ carried) }
+    ensures kind { IfSome result (λ l. l.kind ≡ carried.kind) }
+    ensures value { IfSome result (λ l. l.value ≡ carried.value) }
     ensures effect { IfSome result (λ l. l.effect ≡ effect) }
-    ensures exit { IfSome result (λ l. l.exit ≡ exit_of event.now.reaction.now.fired) }
-    ensures number { IfSome result (λ l. l.result ≡ number_of event.now.reaction.now.fired to.context.serial) }
-    ensures to_element { IfSome result (λ l. l.to_element ≡ to.context.element) }
-    ensures to_iteration { IfSome result (λ l. l.to_iteration ≡ to.iteration) }
-    ensures to_instr { IfSome result (λ l. l.to_instr ≡ to.instr) }
+    ensures number { IfSome result (λ l. l.result ≡ number_of event.now.reaction.now.fired to) }
+    ensures to_serial { IfSome result (λ l. to.context.serial < 2 ^ 32) }
+    ensures to_iteration { IfSome result (λ l. to.iteration < 2 ^ 32) }
+    ensures to_element { IfSome result (λ l. element_at l.to ≡ to.context.element) }
+    ensures to_instr { IfSome result (λ l. instr_at l.to ≡ to.instr) }
     ensures message { IfSome result
         (λ l. (own l (value_of event.now.message.now.payload)).message ≡ event.now.message.now) }
     ensures stamp { IfSome result (λ l. l.stamp ≡ event.now.stamp) }
@@ -443,39 +597,40 @@ fn narrowed(event: &Handling<'_>, carried: Carried, effect: Effect, to: Tag) -> 
     let Some((tag, port)) = port_of(event) else {
         return None;
     };
-    let (started, sender) = origin(event.message.sender);
+    let sender = origin(event.message.sender);
     let position = event.message.position as u64;
-    if tag.context.serial > LARGEST || tag.iteration > LARGEST || position > LARGEST {
+    if tag.context.serial > LARGEST || tag.iteration > LARGEST || position > LARGEST_POSITION {
         return None;
     }
-    if event.message.stamp > LARGEST || event.stamp > LARGEST || to.iteration > LARGEST {
+    if event.message.stamp > LARGEST || event.stamp > LARGEST {
         return None;
     }
-    if tag.context.element > 0xff || to.context.element > 0xff || sender > 0xff {
+    if tag.context.element > LARGEST_ELEMENT || tag.instr > LARGEST_INSTR {
         return None;
     }
-    if to.context.serial > LARGEST || event.message.output > 0xff {
+    if to.context.element > LARGEST_ELEMENT || to.instr > LARGEST_INSTR {
+        return None;
+    }
+    if to.context.serial > LARGEST || to.iteration > LARGEST {
+        return None;
+    }
+    if sender > LARGEST_SENDER || event.message.output > LARGEST_OUTPUT {
         return None;
     }
     Some(Line {
-        carried,
-        result: number(&event.reaction.fired, to.context.serial as u32),
+        value: carried.value,
+        result: number(&event.reaction.fired, to),
         serial: tag.context.serial as u32,
         iteration: tag.iteration as u32,
-        position: position as u32,
+        position: position_at(position, port),
         sent: event.message.stamp as u32,
         stamp: event.stamp as u32,
-        instr: tag.instr,
-        to_iteration: to.iteration as u32,
-        to_instr: to.instr,
-        element: tag.context.element as u8,
-        to_element: to.context.element as u8,
+        place: place(tag.context.element, tag.instr),
+        to: place(to.context.element, to.instr),
         sender: sender as u8,
         output: event.message.output as u8,
-        port,
-        started,
+        kind: carried.kind,
         effect,
-        exit: exit_of(&event.reaction.fired),
     })
 }
 
@@ -494,14 +649,14 @@ fn port_of(event: &Handling<'_>) -> Option<(Tag, Port)>
     }
 }
 
-/// Whether no element sent the message, and the element that did.
+/// Who sent the message: 0 where no element did, or 1 more than the number of the one that did.
 #[inline(always)]
-fn origin(sender: Sender) -> (bool, u32)
-    ensures { sender_of result.0 result.1 ≡ sender }
+fn origin(sender: Sender) -> u64
+    ensures { sender_of result ≡ sender }
 {
     match sender {
-        Sender::Start => (true, 0),
-        Sender::Element(number) => (false, number),
+        Sender::Start => 0,
+        Sender::Element(number) => u64::from(number) + 1,
     }
 }
 
@@ -513,7 +668,7 @@ fn own(line: &Line, value: Value) -> Handled
         message: Message {
             payload: own_payload(line, value),
             sender: sender(line),
-            position: line.position as usize,
+            position: (line.position % 0x8000_0000) as usize,
             output: usize::from(line.output),
             stamp: u64::from(line.sent),
         },
@@ -531,30 +686,38 @@ fn own_payload(line: &Line, value: Value) -> Payload
     Payload::Token {
         tag: Tag {
             context: Context {
-                element: u32::from(line.element),
+                element: element_at(line.place),
                 serial: u64::from(line.serial),
             },
             iteration: u64::from(line.iteration),
-            instr: line.instr,
+            instr: instr_at(line.place),
         },
-        port: line.port,
+        port: port_at(line.position / 0x8000_0000),
         value,
     }
 }
 
+/// The port that the highest bit of a position is.
+#[inline(always)]
+fn port_at(bit: u32) -> Port
+    ensures { result ≡ port_at bit }
+{
+    if bit == 0 { Port::Zero } else { Port::One }
+}
+
 #[inline(always)]
 fn sender(line: &Line) -> Sender
-    ensures { result ≡ sender_of line.now.started line.now.sender }
+    ensures { result ≡ sender_of line.now.sender }
 {
-    if line.started {
+    if line.sender == 0 {
         Sender::Start
     } else {
-        Sender::Element(u32::from(line.sender))
+        Sender::Element(u32::from(line.sender - 1))
     }
 }
 
 fn reaction_in(line: &Line, value: Value) -> Reaction
-    ensures { result ≡ reaction_of line.now.effect line.now.exit line.now.result (target_in line.now) value }
+    ensures { result ≡ reaction_of line.now.effect line.now.result (target_in line.now) value }
 {
     match line.effect {
         Effect::Stuck => Reaction {
@@ -564,29 +727,26 @@ fn reaction_in(line: &Line, value: Value) -> Reaction
         Effect::Nothing => went(Fired::Nothing),
         Effect::Overflow => failed(FaultKind::Overflow),
         Effect::DivisionByZero => failed(FaultKind::DivisionByZero),
-        Effect::Signal => went(fired_at(line.exit, Value::Signal)),
-        Effect::Int => went(fired_at(line.exit, Value::Int(line.result))),
-        Effect::True => went(fired_at(line.exit, Value::Bool(true))),
-        Effect::False => went(fired_at(line.exit, Value::Bool(false))),
-        Effect::Moved => went(Fired::Moved(u64::from(line.to_iteration), value)),
+        Effect::Signal => went(Fired::Out(Value::Signal)),
+        Effect::Int => went(Fired::Out(Value::Int(line.result))),
+        Effect::True => went(Fired::Out(Value::Bool(true))),
+        Effect::False => went(Fired::Out(Value::Bool(false))),
+        Effect::SignalOnTrue => went(Fired::Side(true, Value::Signal)),
+        Effect::IntOnTrue => went(Fired::Side(true, Value::Int(line.result))),
+        Effect::TrueOnTrue => went(Fired::Side(true, Value::Bool(true))),
+        Effect::FalseOnTrue => went(Fired::Side(true, Value::Bool(false))),
+        Effect::SignalOnFalse => went(Fired::Side(false, Value::Signal)),
+        Effect::IntOnFalse => went(Fired::Side(false, Value::Int(line.result))),
+        Effect::TrueOnFalse => went(Fired::Side(false, Value::Bool(true))),
+        Effect::FalseOnFalse => went(Fired::Side(false, Value::Bool(false))),
+        Effect::Moved => went(Fired::Moved(target_in(line).iteration, value)),
         Effect::Entered => went(Fired::Entered(target_in(line).context)),
         Effect::Sent => went(Fired::Sent(target_in(line), value)),
     }
 }
 
-/// The firing by which a value went out there.
-fn fired_at(exit: Exit, value: Value) -> Fired
-    ensures { result ≡ fired_at exit value }
-{
-    match exit {
-        Exit::Only => Fired::Out(value),
-        Exit::True => Fired::Side(true, value),
-        Exit::False => Fired::Side(false, value),
-    }
-}
-
 fn went(fired: Fired) -> Reaction
-    ensures { result ≡ record { fired = fired; verdict = Went } }
+    ensures { result ≡ went fired }
 {
     Reaction {
         fired,
@@ -595,7 +755,7 @@ fn went(fired: Fired) -> Reaction
 }
 
 fn failed(fault: FaultKind) -> Reaction
-    ensures { result ≡ record { fired = firings.Failed fault; verdict = Failed fault } }
+    ensures { result ≡ failed fault }
 {
     Reaction {
         fired: Fired::Failed(fault),

@@ -1,20 +1,23 @@
 //! The lines of tokens with plain values that sent plain values, or nothing: most events.
 
-ghost use Rattle.std.specs.Prelude.{◌≡◌, ℤ, IfSome, IsTrue, Some};
+ghost use Rattle.std.specs.Prelude.{◌≡◌, ◌<◌, ◌^◌, ℤ, IfSome, IsTrue, Some};
 ghost use Rattle.id_tag.specs.declared.Tag.{Tag};
 ghost use Rattle.id_tag.specs.declared.Value.{Value};
 ghost use Rattle.id_tag.specs.declared.plain.Plain.{Plain};
 ghost use Rattle.id_tag.specs.Plains.{whole};
 ghost use Rattle.id_ops.specs.Shots.{fired_of};
 ghost use Rattle.id_ops.specs.declared.Fired.TheVariants.{Moved};
-ghost use Rattle.id_record.specs.declared.line.Exit.{Exit};
 ghost use Rattle.id_record.specs.declared.step.Verdict.TheVariants.{Went};
 ghost use Rattle.id_record.specs.Events.{value_of};
-ghost use Rattle.id_record.specs.Lines.{IsPacked, Names, carried_value, exit_of, fired_at, number_in, number_of};
-ghost use Rattle.id_record.specs.Lines.{own, reaction_of};
+ghost use Rattle.id_record.specs.Lines.{IsPacked, Names, carried_value, element_at, fired_at, instr_at, number_in};
+ghost use Rattle.id_record.specs.Lines.{number_of, own, reaction_of};
 ghost use Rattle.id_record.specs.Shootings.{shooting, tag_at};
 
-use super::{Carried, Effect, Exit, Handled, LARGEST, Line, NO_REPLIES, Reaction, origin};
+use super::{
+    Carried, Effect, Exit, Handled, Kind, LARGEST, LARGEST_ELEMENT, LARGEST_INSTR, LARGEST_OUTPUT,
+    LARGEST_POSITION, LARGEST_SENDER, Line, NO_REPLIES, Reaction, false_at, int_at, joined,
+    of_kind, origin, place, position_at, signal_at, true_at,
+};
 use crate::step::Verdict;
 use id_ops::Shot;
 use id_tag::{Message, Payload, Plain};
@@ -65,12 +68,16 @@ pub(crate) fn handled_whole(event: &Shooting<'_>) -> Handled
 /// The value as a line carries it.
 #[inline(always)]
 fn carried(value: Plain) -> Carried
-    ensures { (t : Tag) → carried_value t result ≡ Some (whole value) }
+    ensures { (t : Tag) → carried_value t result.kind result.value ≡ Some (whole value) }
 {
     match value {
-        Plain::Signal => Carried::Signal,
-        Plain::Int(number) => Carried::Int(number),
-        Plain::Bool(truth) => Carried::Bool(truth),
+        Plain::Signal => of_kind(Kind::Signal),
+        Plain::Int(number) => Carried {
+            kind: Kind::Int,
+            value: number,
+        },
+        Plain::Bool(true) => of_kind(Kind::True),
+        Plain::Bool(false) => of_kind(Kind::False),
     }
 }
 
@@ -89,34 +96,36 @@ fn iteration_of(shot: Shot) -> u64
 #[inline(always)]
 fn shot_effect(shot: Shot, value: Plain) -> Option<Effect>
     ensures { IfSome result (λ e. (t : Tag) → Names (fired_of shot) (whole value) t →
-        reaction_of e (exit_of (fired_of shot)) (number_of (fired_of shot) t.context.serial) t (whole value)
+        reaction_of e (number_of (fired_of shot) t) t (whole value)
         ≡ record { fired = fired_of shot; verdict = Went }) }
 {
     match shot {
         Shot::Nothing => Some(Effect::Nothing),
-        Shot::Out(sent) | Shot::Side(_, sent) => Some(going_out(sent)),
+        Shot::Out(sent) => Some(going_out(Exit::Only, sent)),
+        Shot::Side(true, sent) => Some(going_out(Exit::True, sent)),
+        Shot::Side(false, sent) => Some(going_out(Exit::False, sent)),
         Shot::Moved(_, sent) => moved(sent, value),
     }
 }
 
-/// The effect of a plain value's going out.
+/// The effect of a plain value's going out there.
 #[inline(always)]
-fn going_out(sent: Plain) -> Effect
-    ensures { (x : Exit) (t : Tag) (v : Value) → reaction_of result x (number_in (whole sent)) t v
-        ≡ record { fired = fired_at x (whole sent); verdict = Went } }
+fn going_out(exit: Exit, sent: Plain) -> Effect
+    ensures { (t : Tag) (v : Value) → reaction_of result (number_in (whole sent)) t v
+        ≡ record { fired = fired_at exit (whole sent); verdict = Went } }
 {
     match sent {
-        Plain::Signal => Effect::Signal,
-        Plain::Int(_) => Effect::Int,
-        Plain::Bool(true) => Effect::True,
-        Plain::Bool(false) => Effect::False,
+        Plain::Signal => signal_at(exit),
+        Plain::Int(_) => int_at(exit),
+        Plain::Bool(true) => true_at(exit),
+        Plain::Bool(false) => false_at(exit),
     }
 }
 
 /// The effect of moving a token's own value.
 #[inline(always)]
 fn moved(sent: Plain, value: Plain) -> Option<Effect>
-    ensures { IfSome result (λ e. (x : Exit) (n : ℤ) (t : Tag) → reaction_of e x n t (whole value)
+    ensures { IfSome result (λ e. (n : ℤ) (t : Tag) → reaction_of e n t (whole value)
         ≡ record { fired = Moved t.iteration (whole sent); verdict = Went }) }
 {
     if is_same(sent, value) {
@@ -139,25 +148,25 @@ fn is_same(a: Plain, b: Plain) -> bool
     }
 }
 
-/// Where the value of a shot went out.
+/// The number that went out, or else the iteration that the event names.
 #[inline(always)]
-fn exit(shot: Shot) -> Exit
-    ensures { result ≡ exit_of (fired_of shot) }
+fn number(shot: Shot, iteration: u64) -> i64
+    requires { iteration < 2 ^ 32 }
+    ensures { result ≡ number_of (fired_of shot) (tag_at iteration) }
 {
     match shot {
-        Shot::Side(true, _) => Exit::True,
-        Shot::Side(false, _) => Exit::False,
-        _ => Exit::Only,
+        Shot::Out(sent) | Shot::Side(_, sent) => number_in(sent),
+        Shot::Nothing | Shot::Moved(_, _) => joined(iteration, 0),
     }
 }
 
-/// The number that went out, or else 0.
+/// The number that a plain value is, or 0.
 #[inline(always)]
-fn number(shot: Shot) -> i64
-    ensures { result ≡ number_of (fired_of shot) 0 }
+fn number_in(sent: Plain) -> i64
+    ensures { result ≡ number_in (whole sent) }
 {
-    match shot {
-        Shot::Out(Plain::Int(number)) | Shot::Side(_, Plain::Int(number)) => number,
+    match sent {
+        Plain::Int(number) => number,
         _ => 0,
     }
 }
@@ -165,13 +174,13 @@ fn number(shot: Shot) -> i64
 /// The event in a line with this value, this effect and this iteration beside that of its message, where its numbers fit.
 #[inline(always)]
 fn narrowed(event: &Shooting<'_>, carried: Carried, effect: Effect, iteration: u64) -> Option<Line>
-    ensures carried { IfSome result (λ l. l.carried ≡ carried) }
+    ensures kind { IfSome result (λ l. l.kind ≡ carried.kind) }
+    ensures value { IfSome result (λ l. l.value ≡ carried.value) }
     ensures effect { IfSome result (λ l. l.effect ≡ effect) }
-    ensures exit { IfSome result (λ l. l.exit ≡ exit_of (fired_of event.now.shot)) }
-    ensures number { IfSome result (λ l. l.result ≡ number_of (fired_of event.now.shot) 0) }
-    ensures to_element { IfSome result (λ l. l.to_element ≡ 0) }
-    ensures to_iteration { IfSome result (λ l. l.to_iteration ≡ iteration) }
-    ensures to_instr { IfSome result (λ l. l.to_instr ≡ 0) }
+    ensures number { IfSome result (λ l. l.result ≡ number_of (fired_of event.now.shot) (tag_at iteration)) }
+    ensures to_iteration { IfSome result (λ l. iteration < 2 ^ 32) }
+    ensures to_element { IfSome result (λ l. element_at l.to ≡ 0) }
+    ensures to_instr { IfSome result (λ l. instr_at l.to ≡ 0) }
     ensures message { IfSome result
         (λ l. (own l (value_of event.now.message.now.payload)).message ≡ event.now.message.now) }
     ensures stamp { IfSome result (λ l. l.stamp ≡ event.now.stamp) }
@@ -180,35 +189,33 @@ fn narrowed(event: &Shooting<'_>, carried: Carried, effect: Effect, iteration: u
     let Payload::Token { tag, port, .. } = message.payload else {
         return None;
     };
-    let (started, sender) = origin(message.sender);
+    let sender = origin(message.sender);
     let position = message.position as u64;
-    if tag.context.serial > LARGEST || tag.iteration > LARGEST || position > LARGEST {
+    if tag.context.serial > LARGEST || tag.iteration > LARGEST || position > LARGEST_POSITION {
         return None;
     }
     if message.stamp > LARGEST || event.stamp > LARGEST || iteration > LARGEST {
         return None;
     }
-    if tag.context.element > 0xff || sender > 0xff || message.output > 0xff {
+    if tag.context.element > LARGEST_ELEMENT || tag.instr > LARGEST_INSTR {
+        return None;
+    }
+    if sender > LARGEST_SENDER || message.output > LARGEST_OUTPUT {
         return None;
     }
     Some(Line {
-        carried,
-        result: number(event.shot),
+        value: carried.value,
+        result: number(event.shot, iteration),
         serial: tag.context.serial as u32,
         iteration: tag.iteration as u32,
-        position: position as u32,
+        position: position_at(position, port),
         sent: message.stamp as u32,
         stamp: event.stamp as u32,
-        instr: tag.instr,
-        to_iteration: iteration as u32,
-        to_instr: 0,
-        element: tag.context.element as u8,
-        to_element: 0,
+        place: place(tag.context.element, tag.instr),
+        to: 0,
         sender: sender as u8,
         output: message.output as u8,
-        port,
-        started,
+        kind: carried.kind,
         effect,
-        exit: exit(event.shot),
     })
 }

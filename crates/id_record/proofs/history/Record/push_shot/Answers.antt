@@ -2,7 +2,6 @@
 use Rattle.std.proofs.Common.{◌≡◌, length, ap, ◌∙◌, arith}
 use Rattle.id_record.specs.Shootings.{shooting}
 use Rattle.std.proofs.lemmas.Grind.{common_steps}
-use Rattle.id_record.specs.declared.line.Carried.TheVariants.{Aside}
 use Rattle.id_record.proofs.LinesLemmas.{pushed_line, kept_line, pushed_aside, kept_aside}
 use Rattle.id_record.proofs.history.Record.push_shot.Goals as goal
 
@@ -20,11 +19,11 @@ invariant_of-self-in-None c =
     let r = c.self.inside in
     let at : c.len-index.result ≡ length r.asides.items = grind (arith, common_steps) in
     rw (c.add_line-in-None.ensures, c.push_reserved.ensures.items, c.handled_whole.ensures)
-    (kept_aside r.asides.items r.replies.items r.lines.items (shooting c.args.event) c.line_aside.result (c.line_aside.ensures ∙ ap (λ i. Aside i) at) (omega arith) c.self.invariant)
+    (kept_aside r.asides.items r.replies.items r.lines.items (shooting c.args.event) c.line_aside.result c.line_aside.ensures.kind (c.line_aside.ensures.index ∙ at) (omega arith) c.self.invariant)
 
 pub returns-in-None-clause-events : goal.returns-in-None-clause-events
 returns-in-None-clause-events c =
     let r = c.self.inside in
     let at : c.len-index.result ≡ length r.asides.items = grind (arith, common_steps) in
     rw (← ap (λ v. v.events) c.self.view_is, ← ap (λ v. v.graph) c.self.view_is, ← ap (λ v. v.element) c.self.view_is, c.add_line-in-None.ensures, c.push_reserved.ensures.items, c.handled_whole.ensures)
-    (pushed_aside r.graph.now r.element r.replies.items r.asides.items r.lines.items (shooting c.args.event) c.line_aside.result (c.line_aside.ensures ∙ ap (λ i. Aside i) at) c.self.invariant)
+    (pushed_aside r.graph.now r.element r.replies.items r.asides.items r.lines.items (shooting c.args.event) c.line_aside.result c.line_aside.ensures.kind (c.line_aside.ensures.index ∙ at) c.self.invariant)
