@@ -50,16 +50,6 @@ impl<'a> Flight<'a> {
         requires { position < length self.now }
         ensures { slice_get self.now position ≡ Some result }
     {
-        *self.look(position)
-    }
-
-    /// The message at a position, from 0, where it lies. Takes no memory.
-    #[inline(always)]
-    pub fn look(&self, position: usize) -> &'a Message
-        requires { position < length self.now }
-        ensures { slice_get self.now position ≡ Some result.now }
-    {
-        let held = self.messages;
-        held.message(position)
+        self.messages.message(position)
     }
 }

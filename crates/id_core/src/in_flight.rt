@@ -1,13 +1,12 @@
 //! What is in flight, as a machine keeps it: a list with a gap, at which messages are taken out.
 
-ghost use Rattle.std.specs.Prelude.{◌≡◌, ◌+◌, ◌++◌, ◌≤◌};
-ghost use Rattle.std.specs.VecDeque.{deque_len, deque_capacity};
+ghost use Rattle.std.specs.Prelude.{◌≡◌, ◌+◌, ◌++◌, ◌≤◌, length};
 
 use id_element::{Element, TakeError};
+use id_flight::Queue;
 use id_record::Step;
 use id_tag::Message;
 use std::alloc::{AllocError, Global};
-use std::collections::VecDeque;
 use std::marker::Model;
 
 /// The messages in flight, in the order in which they were sent: those before the gap, and those after it. A message is
@@ -15,8 +14,8 @@ use std::marker::Model;
 /// message moves once, however many there are.
 #[derive(Drop)]
 pub(crate) struct InFlight {
-    before: VecDeque<Message>,
-    after: VecDeque<Message>,
+    before: Queue,
+    after: Queue,
 }
 
 impl Model for InFlight {
@@ -26,8 +25,8 @@ impl Model for InFlight {
     ghost Value = { FlightView };
 
     ghost view = { λ f. record {
-      messages = f.before.items ++ f.after.items;
-      gap = length f.before.items;
+      messages = f.before.messages ++ f.after.messages;
+      gap = length f.before.messages;
     } };
 }
 
@@ -40,11 +39,11 @@ impl InFlight {
     ghost use Rattle.id_element.specs.Steps.{is_ended, outputs_of, state_after, step_of};
 
     /// These messages. Takes no memory.
-    pub(crate) fn new(alloc: Global, messages: VecDeque<Message>) -> InFlight
-        ensures { result.messages ≡ messages.items }
+    pub(crate) fn new(alloc: Global, messages: Queue) -> InFlight
+        ensures { result.messages ≡ messages.messages }
     {
         InFlight {
-            before: VecDeque::new(alloc),
+            before: Queue::new(alloc),
             after: messages,
         }
     }
@@ -66,15 +65,15 @@ impl InFlight {
 
     /// The message at a position, from 0. Takes no memory.
     #[inline(always)]
-    pub(crate) fn message(&self, position: usize) -> &Message
+    pub(crate) fn message(&self, position: usize) -> Message
         requires { position < length self.now.messages }
-        ensures { slice_get self.now.messages position ≡ Some result.now }
+        ensures { slice_get self.now.messages position ≡ Some result }
     {
         let gap = self.before.len();
         if position < gap {
-            &self.before[position]
+            self.before.message(position)
         } else {
-            &self.after[position - gap]
+            self.after.message(position - gap)
         }
     }
 
@@ -136,17 +135,17 @@ impl InFlight {
         ensures err_messages { OnErr result (self.new.messages ≡ self.old.messages) }
     {
         let step = element.take(message, &mut self.after)?;
-        let _next = self.after.pop_front();
+        self.after.drop_front();
         Ok(step)
     }
 }
 
 /// Moves so many messages, one after another, from the front of the second list to the end of the first.
-fn move_on(before: &mut VecDeque<Message>, after: &mut VecDeque<Message>, count: usize)
-    requires there { count ≤ deque_len after.old }
-    requires room { deque_len before.old + count ≤ deque_capacity before.old }
-    ensures items { before.new.items ++ after.new.items ≡ before.old.items ++ after.old.items }
-    ensures len { deque_len before.new ≡ deque_len before.old + count }
+fn move_on(before: &mut Queue, after: &mut Queue, count: usize)
+    requires there { count ≤ length after.old.messages }
+    requires room { count ≤ before.old.room }
+    ensures messages { before.new.messages ++ after.new.messages ≡ before.old.messages ++ after.old.messages }
+    ensures len { length before.new.messages ≡ length before.old.messages + count }
 {
     for _ in 0..count {
         match after.pop_front() {
@@ -157,11 +156,11 @@ fn move_on(before: &mut VecDeque<Message>, after: &mut VecDeque<Message>, count:
 }
 
 /// Moves so many messages, one after another, from the end of the first list to the front of the second.
-fn move_back(before: &mut VecDeque<Message>, after: &mut VecDeque<Message>, count: usize)
-    requires there { count ≤ deque_len before.old }
-    requires room { deque_len after.old + count ≤ deque_capacity after.old }
-    ensures items { before.new.items ++ after.new.items ≡ before.old.items ++ after.old.items }
-    ensures len { deque_len before.new + count ≡ deque_len before.old }
+fn move_back(before: &mut Queue, after: &mut Queue, count: usize)
+    requires there { count ≤ length before.old.messages }
+    requires room { count ≤ after.old.room }
+    ensures messages { before.new.messages ++ after.new.messages ≡ before.old.messages ++ after.old.messages }
+    ensures len { length before.new.messages + count ≡ length before.old.messages }
 {
     for _ in 0..count {
         match before.pop_back() {

@@ -14,6 +14,7 @@ ghost use Rattle.id_observe.specs.Observed.{main_tag};
 use crate::flight::Flight;
 use crate::in_flight::InFlight;
 use id_element::{Element, TakeError};
+use id_flight::Queue;
 use id_graph::Port;
 use id_meaning::{Inputs, SourceFault, SourceValue};
 use id_observe::{
@@ -25,7 +26,6 @@ use id_tag::{Message, Payload, Sender, Value, route};
 use id_valid::Valid;
 use id_value::Constant;
 use std::alloc::{AllocError, AllocFailed, Global};
-use std::collections::VecDeque;
 use std::marker::Model;
 
 /// The most elements that a machine may have.
@@ -142,13 +142,12 @@ impl<'a> Machine<'a> {
         ensures err { OnErr result (self.new ≡ self.old) }
     {
         let message = self.flight.message(position);
-        let number = route(message, self.elements.len() as u32) as usize;
+        let number = route(&message, self.elements.len() as u32) as usize;
         let element = &self.elements[number];
-        if element.is_ended(message) {
+        if element.is_ended(&message) {
             return Err(TakeError::StampEnd);
         }
         self.flight.open(position)?;
-        let message = *self.flight.message(position);
         let step = self.flight.give_next(&message, &mut self.elements[number])?;
         Ok(step)
     }
@@ -245,36 +244,28 @@ fn fresh_elements<'a>(
 }
 
 /// The messages in flight at the start.
-fn start_flight(
-    alloc: Global,
-    graph: &Valid,
-    inputs: &Inputs,
-) -> Result<VecDeque<Message>, AllocError>
+fn start_flight(alloc: Global, graph: &Valid, inputs: &Inputs) -> Result<Queue, AllocError>
     requires { TakesInputs graph.now inputs.now.values }
-    ensures messages { IfOk result (λ q. q.items ≡ start_messages graph.now inputs.now.values) }
-    ensures fit { IfOk result (λ q. All (Fits graph.now) q.items) }
+    ensures messages { IfOk result (λ q. q.messages ≡ start_messages graph.now inputs.now.values) }
+    ensures fit { IfOk result (λ q. All (Fits graph.now) q.messages) }
 {
     let block = graph.main_block();
     let within = (block.first as usize) + 1 < graph.graph().instrs().len();
     prove!(within);
-    let mut flight = VecDeque::with_capacity(alloc, 2)?;
+    let mut flight = Queue::new(alloc);
     let trigger = start_message(0, block.first, Value::Signal);
-    flight.push_back_reserved(trigger);
+    flight.push_back(trigger)?;
     let back = start_message(1, block.first + 1, Value::Continuation(main_tag(0)));
-    flight.push_back_reserved(back);
+    flight.push_back(back)?;
     let entries = block.entries.as_slice();
     add_inputs(entries, inputs.values.as_slice(), &mut flight)?;
     Ok(flight)
 }
 
 /// Adds the messages that bring inputs to as many entries, one each in their order.
-fn add_inputs(
-    entries: &[u32],
-    inputs: &[Constant],
-    flight: &mut VecDeque<Message>,
-) -> Result<(), AllocError>
+fn add_inputs(entries: &[u32], inputs: &[Constant], flight: &mut Queue) -> Result<(), AllocError>
     requires { length entries.now ≡ length inputs.now }
-    ensures { OnOk result (flight.new.items ≡ flight.old.items ++ input_messages 2 entries.now inputs.now) }
+    ensures { OnOk result (flight.new.messages ≡ flight.old.messages ++ input_messages 2 entries.now inputs.now) }
 {
     for (index, entry) in entries.iter().enumerate() {
         let value = value_of(inputs[index]);

@@ -10,6 +10,7 @@ use crate::outcome::{
 };
 use crate::step::{Reacted, TakeError};
 use id_bank::{Bank, ReadAnswer, WriteAnswer};
+use id_flight::Queue;
 use id_graph::{Graph, Instr};
 use id_match::Waiting;
 use id_ops::{Fired, Shot};
@@ -20,7 +21,6 @@ use id_record::{
 use id_tag::{Message, Payload, Plain, Tag};
 use id_valid::Valid;
 use std::alloc::{AllocError, Global};
-use std::collections::VecDeque;
 
 /// What waits at an element, its cells, its last stamp, how many contexts and structures it has made, and its record,
 /// which knows its number.
@@ -37,7 +37,6 @@ pub(crate) struct Desk<'a> {
 impl<'a> Desk<'a> {
     ghost use Rattle.std.specs.Prelude.{◌≡◌, ◌+◌, ◌-◌, ◌^◌, ◌<◌, ◌≤◌, ◌++◌, ◌∷◌, [], ◌↔◌, Some, slice_get, length, max};
     ghost use Rattle.std.specs.Prelude.{IfOk, OnOk, OnErr, IsTrue};
-    ghost use Rattle.std.specs.VecDeque.{deque_len, deque_capacity};
     ghost use Rattle.id_element.specs.declared.step.TakeError.TheVariants.{StampEnd};
     ghost use Rattle.id_record.specs.Events.{full_step, tag_of, value_of};
     ghost use Rattle.id_element.specs.Fits.{Fits};
@@ -76,7 +75,7 @@ impl<'a> Desk<'a> {
         &mut self,
         graph: &Graph,
         message: &Message,
-        outputs: &mut VecDeque<Message>,
+        outputs: &mut Queue,
     ) -> Result<Verdict, TakeError>
         requires own { graph.now ≡ self.old.log.graph }
         requires valid { IsValid graph.now }
@@ -89,8 +88,8 @@ impl<'a> Desk<'a> {
         ensures state { OnOk result
             (state_of self.new ≡ state_after graph.now self.old.log.element (state_of self.old) message.now) }
         ensures outputs { OnOk result
-            (outputs.new.items
-            ≡ outputs.old.items ++ outputs_of graph.now self.old.log.element (state_of self.old) message.now) }
+            (outputs.new.messages
+            ≡ outputs.old.messages ++ outputs_of graph.now self.old.log.element (state_of self.old) message.now) }
         ensures number { self.new.log.element ≡ self.old.log.element }
         ensures graph { self.new.log.graph ≡ self.old.log.graph }
         ensures left { OnOk result (message.now.stamp < 2 ^ 64 - 1) }
@@ -98,7 +97,7 @@ impl<'a> Desk<'a> {
 
         ensures end { (result ≡ Err StampEnd) ↔ IsTrue (is_ended (state_of self.old) message.now) }
         ensures err { OnErr result (state_of self.new ≡ state_of self.old) }
-        ensures err_outputs { OnErr result (outputs.new.items ≡ outputs.old.items) }
+        ensures err_outputs { OnErr result (outputs.new.messages ≡ outputs.old.messages) }
     {
         let stamp = next_stamp(self.stamp, message.stamp)?;
         match message.payload {
@@ -139,17 +138,17 @@ impl<'a> Desk<'a> {
         &mut self,
         sent: usize,
         replies: usize,
-        outputs: &mut VecDeque<Message>,
+        outputs: &mut Queue,
     ) -> Result<(), AllocError>
         ensures state { state_of self.new ≡ state_of self.old }
         ensures number { self.new.log.element ≡ self.old.log.element }
         ensures graph { self.new.log.graph ≡ self.old.log.graph }
-        ensures items { outputs.new.items ≡ outputs.old.items }
+        ensures messages { outputs.new.messages ≡ outputs.old.messages }
 
         ensures room { OnOk result (0 < self.new.log.room) }
         ensures room_aside { OnOk result (0 < self.new.log.room_aside) }
         ensures room_for_replies { OnOk result (replies ≤ self.new.log.room_for_replies) }
-        ensures room_in_outputs { OnOk result (deque_len outputs.new + sent ≤ deque_capacity outputs.new) }
+        ensures room_in_outputs { OnOk result (sent ≤ outputs.new.room) }
     {
         outputs.reserve(sent)?;
         self.log.reserve(replies)?;
@@ -165,13 +164,13 @@ impl<'a> Desk<'a> {
         message: &Message,
         stamp: u64,
         reaction: &Reaction,
-        outputs: &mut VecDeque<Message>,
+        outputs: &mut Queue,
     ) -> Verdict
         requires room { 0 < self.old.log.room }
         requires room_aside { 0 < self.old.log.room_aside }
         requires own { slice_get self.old.log.graph.instrs (tag_of message.now.payload).instr ≡ Some instr.now }
         requires tag { tag ≡ tag_of message.now.payload }
-        requires room_in_outputs { deque_len outputs.old + most_sent instr.now ≤ deque_capacity outputs.old }
+        requires room_in_outputs { most_sent instr.now ≤ outputs.old.room }
         requires graph { IsGraph self.old.log.graph }
         requires valid { IsValid self.old.log.graph }
         requires counted { self.old.contexts + 1 < 2 ^ 64 }
@@ -194,7 +193,7 @@ impl<'a> Desk<'a> {
               (sent (Some instr.now.op) (arcs_on (side_of reaction.now.fired) instr.now) tag reaction.now.fired);
           step = full_step message.now.payload reaction.now.verdict;
         } ∷ [] }
-        ensures outputs { outputs.new.items ≡ outputs.old.items
+        ensures outputs { outputs.new.messages ≡ outputs.old.messages
             ++ numbered self.old.log.element (length self.old.log.events) stamp 0
             (sent (Some instr.now.op) (arcs_on (side_of reaction.now.fired) instr.now) tag reaction.now.fired) }
     {
@@ -226,14 +225,14 @@ impl<'a> Desk<'a> {
         stamp: u64,
         plain: Plain,
         shot: Shot,
-        outputs: &mut VecDeque<Message>,
+        outputs: &mut Queue,
     ) -> Verdict
         requires room { 0 < self.old.log.room }
         requires room_aside { 0 < self.old.log.room_aside }
         requires value { value_of message.now.payload ≡ whole plain }
         requires own { slice_get self.old.log.graph.instrs (tag_of message.now.payload).instr ≡ Some instr.now }
         requires tag { tag ≡ tag_of message.now.payload }
-        requires room_in_outputs { deque_len outputs.old + most_sent instr.now ≤ deque_capacity outputs.old }
+        requires room_in_outputs { most_sent instr.now ≤ outputs.old.room }
         requires graph { IsGraph self.old.log.graph }
         requires valid { IsValid self.old.log.graph }
         requires counted { self.old.contexts + 1 < 2 ^ 64 }
@@ -256,7 +255,7 @@ impl<'a> Desk<'a> {
               (sent (Some instr.now.op) (arcs_on (side_of (fired_of shot)) instr.now) tag (fired_of shot));
           step = full_step message.now.payload verdict.Went;
         } ∷ [] }
-        ensures outputs { outputs.new.items ≡ outputs.old.items
+        ensures outputs { outputs.new.messages ≡ outputs.old.messages
             ++ numbered self.old.log.element (length self.old.log.events) stamp 0
             (sent (Some instr.now.op) (arcs_on (side_of (fired_of shot)) instr.now) tag (fired_of shot)) }
     {
@@ -284,11 +283,11 @@ impl<'a> Desk<'a> {
         read: &Message,
         stamp: u64,
         answer: ReadAnswer,
-        outputs: &mut VecDeque<Message>,
+        outputs: &mut Queue,
     ) -> Verdict
         requires room { 0 < self.old.log.room }
         requires room_aside { 0 < self.old.log.room_aside }
-        requires room_in_outputs { deque_len outputs.old + 1 ≤ deque_capacity outputs.old }
+        requires room_in_outputs { 1 ≤ outputs.old.room }
 
         ensures verdict { result ≡ verdict.Went }
         ensures state { state_of self.new ≡ record (state_of self.old) {
@@ -305,7 +304,7 @@ impl<'a> Desk<'a> {
         } }
         ensures number { self.new.log.element ≡ self.old.log.element }
         ensures graph { self.new.log.graph ≡ self.old.log.graph }
-        ensures outputs { outputs.new.items ≡ outputs.old.items
+        ensures outputs { outputs.new.messages ≡ outputs.old.messages
             ++ numbered self.old.log.element (length self.old.log.events) stamp 0
             (answer_sends (tag_of read.now.payload) answer) }
     {
@@ -340,12 +339,12 @@ impl<'a> Desk<'a> {
         write: &Message,
         stamp: u64,
         answer: &WriteAnswer,
-        outputs: &mut VecDeque<Message>,
+        outputs: &mut Queue,
     ) -> Verdict
         requires room { 0 < self.old.log.room }
         requires room_aside { 0 < self.old.log.room_aside }
         requires room_for_replies { length (readers_of answer.now) ≤ self.old.log.room_for_replies }
-        requires room_in_outputs { deque_len outputs.old + length (readers_of answer.now) ≤ deque_capacity outputs.old }
+        requires room_in_outputs { length (readers_of answer.now) ≤ outputs.old.room }
 
         ensures verdict { result ≡ fill_verdict (tag_of write.now.payload) answer.now }
         ensures state { state_of self.new ≡ record (state_of self.old) {
@@ -362,7 +361,7 @@ impl<'a> Desk<'a> {
         } }
         ensures number { self.new.log.element ≡ self.old.log.element }
         ensures graph { self.new.log.graph ≡ self.old.log.graph }
-        ensures outputs { outputs.new.items ≡ outputs.old.items
+        ensures outputs { outputs.new.messages ≡ outputs.old.messages
             ++ numbered self.old.log.element (length self.old.log.events) stamp 0
             (fill_sends (value_of write.now.payload) answer.now) }
     {

@@ -6,11 +6,11 @@ ghost use Rattle.id_record.specs.declared.step.Step.TheVariants.{Went};
 use crate::desk::Desk;
 use crate::step::TakeError;
 use id_bank::{Filled, Reader};
+use id_flight::Queue;
 use id_record::{Events, Step, full_step};
 use id_tag::Message;
 use id_valid::Valid;
 use std::alloc::{AllocError, Global};
-use std::collections::VecDeque;
 use std::marker::Model;
 
 /// An element of the machine: it handles the messages that are routed to it, one at a time.
@@ -73,26 +73,22 @@ impl<'a> Element<'a> {
     /// came to (docs/MACHINE.md, "Element step"). After an error nothing has changed, and the same
     /// message can be given again.
     #[inline(always)]
-    pub fn take(
-        &mut self,
-        message: &Message,
-        outputs: &mut VecDeque<Message>,
-    ) -> Result<Step, TakeError>
+    pub fn take(&mut self, message: &Message, outputs: &mut Queue) -> Result<Step, TakeError>
         requires { IsFor self.old.graph self.old.count self.old.number message.now }
 
         ensures step { IfOk result (λ step. step ≡ step_of self.old.graph self.old.number self.old.state message.now) }
         ensures state { OnOk result
             (self.new ≡ record self.old { state = state_after self.old.graph self.old.number self.old.state message.now }) }
         ensures outputs { OnOk result
-            (outputs.new.items
-            ≡ outputs.old.items ++ outputs_of self.old.graph self.old.number self.old.state message.now) }
+            (outputs.new.messages
+            ≡ outputs.old.messages ++ outputs_of self.old.graph self.old.number self.old.state message.now) }
         // What is sent fits, so that the element it is routed to can take it.
         ensures fits { OnOk result
             (All (Fits self.old.graph) (outputs_of self.old.graph self.old.number self.old.state message.now)) }
 
         ensures end { (result ≡ Err StampEnd) ↔ IsTrue (is_ended self.old.state message.now) }
         ensures err { OnErr result (self.new ≡ self.old) }
-        ensures err_outputs { OnErr result (outputs.new.items ≡ outputs.old.items) }
+        ensures err_outputs { OnErr result (outputs.new.messages ≡ outputs.old.messages) }
     {
         let graph = self.desk.log.graph();
         let verdict = self.desk.take(graph.graph(), message, outputs)?;

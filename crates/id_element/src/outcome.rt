@@ -1,7 +1,6 @@
 //! What a token does at its instruction, and what is sent for it (docs/MACHINE.md, "Element step").
 
 ghost use Rattle.std.specs.Prelude.{Some, ◌≡◌, ◌+◌, ◌-◌, ◌^◌, ◌<◌, ◌≤◌, ◌++◌, ◌||◌, ◌==◌, length, max};
-ghost use Rattle.std.specs.VecDeque.{deque_len, deque_capacity};
 ghost use Rattle.std.specs.Prelude.{IfOk, OnOk, OnErr, IfErr, IfSome, IsTrue, false, if◌then◌else◌, map};
 ghost use Rattle.id_bank.specs.Cells.{Cells};
 ghost use Rattle.id_element.specs.Steps.{allocated_by, answer_fired, arrival, at_instr, fill_verdict, fresh_numbers};
@@ -25,6 +24,7 @@ ghost use Rattle.id_ops.specs.Operators.{side_of};
 
 use crate::step::{Arrival, Reacted, TakeError};
 use id_bank::{ReadAnswer, WriteAnswer};
+use id_flight::Queue;
 use id_graph::{Dest, Instr, Op, Port};
 use id_match::{Offered, Waiting};
 use id_ops::{Fired, Fresh, Operands, Shot, fire, shoot_one, shoot_two};
@@ -32,9 +32,8 @@ use id_record::{
     Envelope, Reaction, Record, Verdict, chosen, count_started, message, moved_to, start, token_at,
     token_to,
 };
-use id_tag::{Context, Message, Payload, Tag, Value, plain_of};
+use id_tag::{Context, Payload, Tag, Value, plain_of};
 use std::alloc::AllocError;
-use std::collections::VecDeque;
 
 /// The stamp of the next event, one above both, where there is one.
 #[inline(always)]
@@ -293,16 +292,10 @@ fn verdict(arrival: &Arrival, fired: &Fired) -> Verdict
 
 /// Appends the outputs of a firing, for which there is room. Takes no memory.
 #[inline(always)]
-pub(crate) fn send(
-    instr: &Instr,
-    tag: Tag,
-    fired: &Fired,
-    envelope: Envelope,
-    outputs: &mut VecDeque<Message>,
-)
-    requires room { deque_len outputs.old + most_sent instr.now ≤ deque_capacity outputs.old }
+pub(crate) fn send(instr: &Instr, tag: Tag, fired: &Fired, envelope: Envelope, outputs: &mut Queue)
+    requires room { most_sent instr.now ≤ outputs.old.room }
     requires second { HasSecond (Some instr.now.op) }
-    ensures { outputs.new.items ≡ outputs.old.items ++ numbered envelope.number envelope.position envelope.stamp 0
+    ensures { outputs.new.messages ≡ outputs.old.messages ++ numbered envelope.number envelope.position envelope.stamp 0
         (sent (Some instr.now.op) (arcs_on (side_of fired.now) instr.now) tag fired.now) }
 {
     let dests = chosen(instr, fired);
@@ -344,10 +337,10 @@ pub(crate) fn send_shot(
     tag: Tag,
     shot: Shot,
     envelope: Envelope,
-    outputs: &mut VecDeque<Message>,
+    outputs: &mut Queue,
 )
-    requires { deque_len outputs.old + most_sent instr.now ≤ deque_capacity outputs.old }
-    ensures { outputs.new.items ≡ outputs.old.items ++ numbered envelope.number envelope.position envelope.stamp 0
+    requires { most_sent instr.now ≤ outputs.old.room }
+    ensures { outputs.new.messages ≡ outputs.old.messages ++ numbered envelope.number envelope.position envelope.stamp 0
         (sent (Some instr.now.op) (arcs_on (side_of (fired_of shot)) instr.now) tag (fired_of shot)) }
 {
     let dests = instr.dests.as_slice();
@@ -373,12 +366,12 @@ fn send_start(
     context: Context,
     number: usize,
     envelope: Envelope,
-    outputs: &mut VecDeque<Message>,
+    outputs: &mut Queue,
 )
-    requires room { deque_len outputs.old + count_started (Some op) ≤ deque_capacity outputs.old }
+    requires room { count_started (Some op) ≤ outputs.old.room }
     requires number { number < 2 ^ 63 }
     requires second { HasSecond (Some op) }
-    ensures { outputs.new.items ≡ outputs.old.items
+    ensures { outputs.new.messages ≡ outputs.old.messages
         ++ numbered envelope.number envelope.position envelope.stamp number (started (Some op) tag context) }
 {
     if let Op::Enter { .. } = op {
@@ -391,19 +384,12 @@ fn send_start(
 
 /// Appends one token for each destination, in order.
 #[inline(always)]
-fn send_all(
-    dests: &[Dest],
-    tag: Tag,
-    value: Value,
-    envelope: Envelope,
-    outputs: &mut VecDeque<Message>,
-)
-    requires { deque_len outputs.old + length dests.now ≤ deque_capacity outputs.old }
-    ensures items { outputs.new.items
-        ≡ outputs.old.items
+fn send_all(dests: &[Dest], tag: Tag, value: Value, envelope: Envelope, outputs: &mut Queue)
+    requires { length dests.now ≤ outputs.old.room }
+    ensures messages { outputs.new.messages
+        ≡ outputs.old.messages
         ++ numbered envelope.number envelope.position envelope.stamp 0 (map (token_to tag value) dests.now) }
-    ensures len { deque_len outputs.new ≡ deque_len outputs.old + length dests.now }
-    ensures capacity { deque_capacity outputs.new ≡ deque_capacity outputs.old }
+    ensures room { outputs.old.room ≤ outputs.new.room + length dests.now }
 {
     for (number, dest) in dests.iter().enumerate() {
         outputs.push_back_reserved(message(envelope, number, token_to(tag, value, *dest)));
@@ -417,11 +403,11 @@ pub(crate) fn send_replies(
     value: Value,
     envelope: Envelope,
     log: &mut Record<'_>,
-    outputs: &mut VecDeque<Message>,
+    outputs: &mut Queue,
 )
-    requires room { deque_len outputs.old + length readers.now ≤ deque_capacity outputs.old }
+    requires room { length readers.now ≤ outputs.old.room }
     requires room_for_replies { length readers.now ≤ log.old.room_for_replies }
-    ensures items { outputs.new.items ≡ outputs.old.items
+    ensures messages { outputs.new.messages ≡ outputs.old.messages
         ++ numbered envelope.number envelope.position envelope.stamp 0 (replies value readers.now) }
     ensures replies { log.new.replies ≡ log.old.replies ++ readers.now }
     ensures events { log.new.events ≡ log.old.events }

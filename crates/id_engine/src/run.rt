@@ -72,9 +72,9 @@ fn is_held_back(machine: &Machine<'_>, position: usize, count: u32, steps: u64) 
     ensures held { IsTrue result → IsHeldAt count steps machine.now.world position }
     ensures free { IsFalse result → IsFree count steps machine.now.world position }
 {
-    let message = machine.in_flight().look(position);
-    match machine.elements().get(route(message, count) as usize) {
-        Some(element) => { element.events().len() as u64 == steps || element.is_ended(message) }
+    let message = machine.in_flight().message(position);
+    match machine.elements().get(route(&message, count) as usize) {
+        Some(element) => { element.events().len() as u64 == steps || element.is_ended(&message) }
         None => unreachable!(),
     }
 }

@@ -5,6 +5,7 @@ ghost use Rattle.std.specs.Prelude.{◌≡◌};
 use crate::graphs::{block, call, called_blocks, either, seven, sum_and_product};
 use id_bank::{Bank, Filled, ReadAnswer, Reader, WriteAnswer};
 use id_core::{Element, Machine, MachineError, Step, TakeError, fits, merge_records, takes_inputs};
+use id_flight::Queue;
 use id_graph::{Block, Constant, Graph, GraphCause, Instr, Op, Port, PortKind};
 use id_list::Sequence;
 use id_match::{Entry, Offered, Waiting};
@@ -13,7 +14,6 @@ use id_print::{Sink, SinkFault, write_trace};
 use id_tag::{Cell, Context, Message, Payload, Sender, Structure, Tag, Value, route};
 use id_valid::{InvalidCause, Valid, validate};
 use std::alloc::{AllocError, Global};
-use std::collections::VecDeque;
 use std::process::Abort;
 use std::test::Fail;
 
@@ -402,7 +402,7 @@ fn give(
 {
     assert!(rt; fits(graph, &message));
     assert!(rt; route(&message, 1) == 0);
-    let mut outputs = VecDeque::new(alloc);
+    let mut outputs = Queue::new(alloc);
     element.take(&message, &mut outputs)
 }
 

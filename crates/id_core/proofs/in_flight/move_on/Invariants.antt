@@ -1,10 +1,9 @@
 -- So many have moved, there is room for the rest, and the two lists together are as they were.
-use Rattle.std.proofs.Common.{◌≡◌, ◌+◌, ◌≤◌, ◌++◌}
-use Rattle.std.specs.VecDeque.{deque_len, deque_capacity}
+use Rattle.std.proofs.Common.{◌≡◌, ◌+◌, ◌≤◌, ◌++◌, length}
 use Rattle.id_core.proofs.in_flight.move_on.Given as goal
 
 abbrev pub invariant-loop : goal.invariant-loop
 invariant-loop l =
-    (deque_len l.before ≡ deque_len l.fn.before + l.counter) × (deque_len l.after + l.counter ≡ deque_len l.fn.after)
-    × (deque_len l.fn.before + l.fn.count ≤ deque_capacity l.before)
-    × (l.before.items ++ l.after.items ≡ l.fn.before.items ++ l.fn.after.items)
+    (length l.before.messages ≡ length l.fn.before.messages + l.counter) × (length l.after.messages + l.counter ≡ length l.fn.after.messages)
+    × (l.fn.before.room ≤ l.before.room + l.counter)
+    × (l.before.messages ++ l.after.messages ≡ l.fn.before.messages ++ l.fn.after.messages)

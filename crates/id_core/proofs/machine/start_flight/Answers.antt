@@ -7,9 +7,9 @@ use Rattle.id_core.proofs.MachinesLemmas.{start_fits}
 use Rattle.id_core.proofs.machine.start_flight.Goals as goal
 
 -- the messages in flight
-messages : (c : goal.In_ok-add_inputs) → c.add_inputs.new.flight.items ≡ block_messages (c.main_block-block.result.now ∷ []) c.args.inputs.now.values
+messages : (c : goal.In_ok-add_inputs) → c.add_inputs.new.flight.messages ≡ block_messages (c.main_block-block.result.now ∷ []) c.args.inputs.now.values
 messages c =
-    let first : c.push_back_reserved-2.new.self.items ++ input_messages 2 c.main_block-block.result.now.entries c.args.inputs.now.values
+    let first : c.push_back-2.new.self.messages ++ input_messages 2 c.main_block-block.result.now.entries c.args.inputs.now.values
     ≡ block_messages (c.main_block-block.result.now ∷ []) c.args.inputs.now.values = first_of (search rules, grind (arith, common_steps)) in
     rw (c.in_ok-add_inputs.ensures, c.as_slice-entries.ensures, c.as_slice.ensures) first
 

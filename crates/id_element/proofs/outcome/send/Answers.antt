@@ -24,4 +24,4 @@ returns-in-Entered c =
     let whole : sent o ds c.args.tag (Entered x) ≡ sent o (arcs_on (side_of c.args.fired.now) c.args.instr.now) c.args.tag c.args.fired.now =
     ap (λ xs. sent o xs c.args.tag (Entered x)) c.chosen-dests.ensures
     ∙ ap (λ f. sent o (arcs_on (side_of c.args.fired.now) c.args.instr.now) c.args.tag f) (sym c.in-Entered.is) in
-    rw (c.send_start.ensures, c.send_all-in-Entered.ensures.items, append_assoc, ← whole, apart) refl
+    rw (c.send_start.ensures, c.send_all-in-Entered.ensures.messages, append_assoc, ← whole, apart) refl

@@ -1,5 +1,5 @@
 -- One more destination has one more token, with the next number.
-use Rattle.std.proofs.Common.{append_assoc, ◌∙◌, arith}
+use Rattle.std.proofs.Common.{append_assoc, arith}
 use Rattle.id_record.proofs.SendsLemmas.{numbered-more}
 use Rattle.id_element.proofs.outcome.send_all.Goals as goal
 
@@ -7,4 +7,4 @@ pub loop-number-preserved : goal.loop-number-preserved
 loop-number-preserved c =
     let e = c.args.envelope in
     let more = numbered-more e.number e.position e.stamp c.args.tag c.args.value c.args.dests.now c.loop-number.number _ c.token_to.result c.loop-number-test.true c.token_to.ensures in
-    (omega arith, c.push_back_reserved.ensures.capacity ∙ c.loop-number.invariant.1, rw (c.push_back_reserved.ensures.items, c.loop-number.invariant.2, more, c.message.ensures, append_assoc))
+    (omega (arith, c.push_back_reserved.ensures.room, c.loop-number.invariant.0), rw (c.push_back_reserved.ensures.messages, c.loop-number.invariant.1, more, c.message.ensures, append_assoc))

@@ -1,15 +1,13 @@
 -- The replies so far have their tokens, in order, and stand in the record, and there is room for the rest.
 use Rattle.std.proofs.Common.{◌≡◌, ◌+◌, ◌≤◌, ◌++◌, length, take}
-use Rattle.std.specs.VecDeque.{deque_len, deque_capacity}
 use Rattle.id_record.specs.Sends.{numbered, replies}
 use Rattle.id_element.proofs.outcome.send_replies.Given as goal
 
 abbrev pub invariant-loop-number : goal.invariant-loop-number
 invariant-loop-number l = record {
-  sent : deque_len l.outputs ≡ deque_len l.fn.outputs + l.number;
-  room : deque_len l.fn.outputs + length l.readers ≤ deque_capacity l.outputs;
-  items : l.outputs.items
-      ≡ l.fn.outputs.items ++ numbered l.envelope.number l.envelope.position l.envelope.stamp 0 (replies l.value (take l.number l.readers));
+  room : l.fn.outputs.room ≤ l.outputs.room + l.number;
+  messages : l.outputs.messages
+      ≡ l.fn.outputs.messages ++ numbered l.envelope.number l.envelope.position l.envelope.stamp 0 (replies l.value (take l.number l.readers));
   added : l.log.replies ≡ l.fn.log.replies ++ take l.number l.readers;
   left : l.log.room_for_replies + l.number ≡ l.fn.log.room_for_replies;
   events : l.log.events ≡ l.fn.log.events;

@@ -14,9 +14,9 @@ returns-then-len-steps-clause-held c =
     let w = c.args.machine.now.world in
     let es = c.elements.result.now in
     let e = c.in-Some.element.now in
-    let x = c.look-message.result.now in
+    let x = c.message-message.result in
     let at : slice_get es c.route.result ≡ Some e = slice_get_read es _ _ _ refl (lt_of c.route.result (length es) (c.in-Some.ensures.lookup).0) (c.in-Some.ensures.lookup).1 in
-    let there : slice_get w.flight c.args.position ≡ Some x = ap (λ l. slice_get l c.args.position) (sym c.in_flight.ensures.value) ∙ c.look-message.ensures in
+    let there : slice_get w.flight c.args.position ≡ Some x = ap (λ l. slice_get l c.args.position) (sym c.in_flight.ensures.value) ∙ c.message-message.ensures in
     let long : c.len.result ≡ length e.state.events = c.len.ensures ∙ ap length c.events.ensures.value in
     let same : c.len.result ≡ c.args.steps = first_of (search rules, grind (arith, common_steps)) in
     λ _. held_by w c.args.count c.args.steps c.args.position c.route.result es e x c.elements.ensures.world at c.route.ensures.exact there (inl (sym long ∙ same))
@@ -26,9 +26,9 @@ returns-else-len-steps-clause-held c =
     let w = c.args.machine.now.world in
     let es = c.elements.result.now in
     let e = c.in-Some.element.now in
-    let x = c.look-message.result.now in
+    let x = c.message-message.result in
     let at : slice_get es c.route.result ≡ Some e = slice_get_read es _ _ _ refl (lt_of c.route.result (length es) (c.in-Some.ensures.lookup).0) (c.in-Some.ensures.lookup).1 in
-    let there : slice_get w.flight c.args.position ≡ Some x = ap (λ l. slice_get l c.args.position) (sym c.in_flight.ensures.value) ∙ c.look-message.ensures in
+    let there : slice_get w.flight c.args.position ≡ Some x = ap (λ l. slice_get l c.args.position) (sym c.in_flight.ensures.value) ∙ c.message-message.ensures in
     let long : c.len.result ≡ length e.state.events = c.len.ensures ∙ ap length c.events.ensures.value in
     λ h. held_by w c.args.count c.args.steps c.args.position c.route.result es e x c.elements.ensures.world at c.route.ensures.exact there (inr (sym c.is_ended.ensures ∙ h))
 
@@ -37,9 +37,9 @@ returns-else-len-steps-clause-free c =
     let w = c.args.machine.now.world in
     let es = c.elements.result.now in
     let e = c.in-Some.element.now in
-    let x = c.look-message.result.now in
+    let x = c.message-message.result in
     let at : slice_get es c.route.result ≡ Some e = slice_get_read es _ _ _ refl (lt_of c.route.result (length es) (c.in-Some.ensures.lookup).0) (c.in-Some.ensures.lookup).1 in
-    let there : slice_get w.flight c.args.position ≡ Some x = ap (λ l. slice_get l c.args.position) (sym c.in_flight.ensures.value) ∙ c.look-message.ensures in
+    let there : slice_get w.flight c.args.position ≡ Some x = ap (λ l. slice_get l c.args.position) (sym c.in_flight.ensures.value) ∙ c.message-message.ensures in
     let long : c.len.result ≡ length e.state.events = c.len.ensures ∙ ap length c.events.ensures.value in
     let other : length e.state.events ≢ c.args.steps = λ k. first_of (omega (arith, k, long), search rules, grind (arith, common_steps)) in
     λ h. free_by w c.args.count c.args.steps c.args.position c.route.result es e x c.elements.ensures.world at c.route.ensures.exact there other (sym c.is_ended.ensures ∙ h)

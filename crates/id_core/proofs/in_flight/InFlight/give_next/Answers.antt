@@ -16,9 +16,9 @@ leaves xs ys zs within =
 
 pub returns-clause-messages : goal.returns-clause-messages
 returns-clause-messages c =
-    let xs = c.self.inside.before.items in
-    let ys = c.self.inside.after.items in
+    let xs = c.self.inside.before.messages in
+    let ys = c.self.inside.after.messages in
     let at = ap (λ v. v.messages) c.self.view_is in
     let gap = ap (λ v. v.gap) c.self.view_is in
-    rw (← at, ← gap, c.pop_front-next.ensures.rest, c.in_ok-step.ensures.outputs)
+    rw (← at, ← gap, c.drop_front.ensures, c.in_ok-step.ensures.outputs)
     (sym (leaves xs ys _ (slice_get_within (xs ++ ys) (length xs) c.args.message.now (rw (at, gap) c.requires.next))))

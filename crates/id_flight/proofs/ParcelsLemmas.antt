@@ -1,0 +1,84 @@
+-- Lemmas on specs/Parcels.antt: a parcel that says what a message says has the message, and what stands aside stays
+-- there.
+use Rattle.std.proofs.Common.{◌≡◌, suc, List, [], ◌∷◌, ◌++◌, Option, None, Some, IfSome, map, refl, ap, subst, ◌∙◌, arith}
+use Rattle.std.specs.Prelude.{All}
+use Rattle.std.specs.List.{AllByRecursion}
+use Rattle.std.proofs.lemmas.List.{map-append}
+use Rattle.std.proofs.lemmas.List.Elements.{recursion_from_All}
+use Rattle.id_graph.specs.declared.dests.Port.{Port}
+use Rattle.id_tag.specs.declared.Tag.{Tag}
+use Rattle.id_tag.specs.declared.Message.{Message}
+use Rattle.id_flight.specs.declared.parcel.Parcel.{Parcel}
+use Rattle.id_flight.specs.declared.parcel.What.{What}
+use Rattle.id_flight.specs.declared.parcel.What.TheVariants.{Signal, Int, Bool as Truth, Context as InContext}
+use Rattle.id_flight.specs.declared.parcel.What.TheVariants.{Continuation as Continues, Structure as Named, Address, Read}
+use Rattle.id_flight.specs.declared.parcel.What.TheVariants.{WriteInt, WriteBool, Aside}
+use Rattle.id_flight.specs.Parcels.{IsPacked, IsThere, IsWithin, own, place_of, said, tag_in, told, unpacked}
+
+-- what says something does not stand aside
+there-said : (asides : List Message) (t : Tag) (q : Port) (w : What) (m : Message) → said t q w ≡ Some m.payload → IsThere asides w
+there-said asides t q Signal m says = tt
+there-said asides t q (Int n) m says = tt
+there-said asides t q (Truth b) m says = tt
+there-said asides t q (InContext e s) m says = tt
+there-said asides t q (Continues e s k j) m says = tt
+there-said asides t q (Named e s l h) m says = tt
+there-said asides t q (Address e s l h i) m says = tt
+there-said asides t q (Read e s l h i) m says = tt
+there-said asides t q (WriteInt e s l h i n) m says = tt
+there-said asides t q (WriteBool e s l h i b) m says = tt
+there-said asides t q (Aside i) m says = cc
+
+pub packed-narrowed : (m : Message) (w : What) (t : Tag) (q : Port) (p : Parcel) → said t q w ≡ Some m.payload
+    → p.what ≡ w → p.port ≡ q → tag_in p ≡ t → own p m.payload ≡ m → IsPacked m p
+packed-narrowed m w t q p says what port tag whole =
+    let here : said (tag_in p) p.port p.what ≡ Some m.payload =
+    ap (λ u. said u p.port p.what) tag ∙ ap (λ r. said t r p.what) port ∙ ap (said t q) what ∙ says in
+    record {
+      is = λ asides. ap (told asides p (place_of p.what)) here ∙ whole;
+      within = λ asides. there-said asides (tag_in p) p.port p.what m here;
+    }
+
+pub packed-if : (m : Message) (w : What) (t : Tag) (q : Port) (o : Option Parcel) → said t q w ≡ Some m.payload
+    → IfSome o (λ p. p.what ≡ w) → IfSome o (λ p. p.port ≡ q) → IfSome o (λ p. tag_in p ≡ t) → IfSome o (λ p. own p m.payload ≡ m)
+    → IfSome o (λ p. IsPacked m p)
+packed-if m w t q None says what port tag whole = tt
+packed-if m w t q (Some p) says what port tag whole = packed-narrowed m w t q p says what port tag whole
+
+-- the parcels behind the first have what all have
+pub all-rest : (P : Parcel → Type 0) (p : Parcel) (ps qs : List Parcel) → qs ≡ p ∷ ps → All P qs → All P ps
+all-rest P p ps qs is all k d below =
+    let every : All P (p ∷ ps) = subst (λ xs. All P xs) is all in
+    every (suc k) d (omega (arith, below))
+
+-- the messages aside are those of before, and more
+abbrev pub Keeps : List Message → List Message → Type 0
+Keeps asides more = (p : Parcel) → IsWithin asides p → IsWithin more p × (unpacked more p ≡ unpacked asides p)
+
+messages-kept_each : (asides more : List Message) → Keeps asides more → (ps : List Parcel) → AllByRecursion (IsWithin asides) ps
+    → map (unpacked more) ps ≡ map (unpacked asides) ps
+messages-kept_each asides more keeps [] within = refl
+messages-kept_each asides more keeps (p ∷ ps) within =
+    ap (λ m. m ∷ map (unpacked more) ps) ((keeps p within.0).1)
+    ∙ ap (λ ms. unpacked asides p ∷ ms) (messages-kept_each asides more keeps ps within.1)
+
+messages-kept : (asides more : List Message) (ps : List Parcel) → Keeps asides more → All (IsWithin asides) ps
+    → map (unpacked more) ps ≡ map (unpacked asides) ps
+messages-kept asides more ps keeps within = messages-kept_each asides more keeps ps (recursion_from_All (IsWithin asides) ps within)
+
+-- a parcel more at the end is its message more
+pub messages-more : (asides more : List Message) (ps qs : List Parcel) (p : Parcel) (m : Message) → Keeps asides more → All (IsWithin asides) ps
+    → unpacked more p ≡ m → qs ≡ ps ++ p ∷ [] → map (unpacked more) qs ≡ map (unpacked asides) ps ++ m ∷ []
+messages-more asides more ps qs p m keeps within is at =
+    ap (map (unpacked more)) at
+    ∙ map-append (unpacked more) ps (p ∷ [])
+    ∙ ap (λ ms. ms ++ unpacked more p ∷ []) (messages-kept asides more ps keeps within)
+    ∙ ap (λ x. map (unpacked asides) ps ++ x ∷ []) is
+
+-- and so it is at the front
+pub messages-before : (asides more : List Message) (ps qs : List Parcel) (p : Parcel) (m : Message) → Keeps asides more → All (IsWithin asides) ps
+    → unpacked more p ≡ m → qs ≡ p ∷ ps → map (unpacked more) qs ≡ m ∷ map (unpacked asides) ps
+messages-before asides more ps qs p m keeps within is at =
+    ap (map (unpacked more)) at
+    ∙ ap (λ ms. unpacked more p ∷ ms) (messages-kept asides more ps keeps within)
+    ∙ ap (λ x. x ∷ map (unpacked asides) ps) is

@@ -1,0 +1,8 @@
+-- The parcels behind the first have their messages where they had them.
+use Rattle.id_flight.specs.Parcels.{IsWithin}
+use Rattle.id_flight.proofs.ParcelsLemmas.{all-rest}
+use Rattle.id_flight.proofs.queue.Queue.pop_front.Goals as goal
+
+pub invariant_of-self-else-is_empty : goal.invariant_of-self-else-is_empty
+invariant_of-self-else-is_empty c =
+    all-rest (IsWithin c.self.inside.asides.items) c.in_ok-parcel.parcel c.pop_front.new.self.items c.self.inside.parcels.items c.in_ok-parcel.ensures.items c.self.invariant

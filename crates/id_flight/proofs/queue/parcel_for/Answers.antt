@@ -1,0 +1,5 @@
+-- A parcel that has its message needs nothing aside.
+use Rattle.id_flight.proofs.queue.parcel_for.Goals as goal
+
+pub returns-in-Some-clause-within : goal.returns-in-Some-clause-within
+returns-in-Some-clause-within c = c.in-Some.ensures.within c.args.asides.now.items

@@ -1,0 +1,384 @@
+//! How a queue keeps a message: in one parcel of 64 bytes, or aside where it does not fit in one.
+
+ghost use Rattle.std.specs.Prelude.{◌≡◌, IfSome, Some};
+ghost use Rattle.id_tag.specs.declared.Tag.{Tag};
+ghost use Rattle.id_tag.specs.declared.Value.TheVariants as value;
+ghost use Rattle.id_tag.specs.declared.Payload.TheVariants.{Token, Read, Write};
+ghost use Rattle.id_graph.specs.declared.dests.Port.{Port};
+ghost use Rattle.id_flight.specs.declared.parcel.What.TheVariants.{Aside};
+ghost use Rattle.id_flight.specs.Parcels.{IsPacked, IsWithin, cell_in, own, said, structure_in, tag_in, unpacked};
+
+use id_graph::Port;
+use id_tag::{Cell, Context, Message, Payload, Sender, Structure, Tag, Value};
+
+/// A message in 64 bytes: most numbers of a run need no more than 32 bits, and there are no more than 64 elements.
+#[derive(Clone, Copy)]
+pub(crate) struct Parcel {
+    what: What,
+    serial: u32,
+    iteration: u32,
+    instr: u32,
+    position: u32,
+    stamp: u32,
+    element: u8,
+    sender: u8,
+    output: u8,
+    port: Port,
+}
+
+const _: () = prove!(size_of::<Parcel>() == 64);
+
+/// What a message says beside its tag and its port: the value of a token, a read, a write of a number or of a truth
+/// value, or that the whole message stands aside. Structures are told by their element, serial number and bounds, and
+/// cells by their index too.
+#[derive(Clone, Copy)]
+enum What {
+    Signal,
+    Int(i64),
+    Bool(bool),
+    Context(u32, u32),
+    Continuation(u32, u32, u32, u32),
+    Structure(u8, u32, i64, i64),
+    Address(u8, u32, i64, i64, i64),
+    Read(u8, u32, i64, i64, i64),
+    WriteInt(u8, u32, i64, i64, i64, i64),
+    WriteBool(u8, u32, i64, i64, i64, bool),
+    Aside(usize),
+}
+
+const LARGEST: u64 = 0xffff_ffff;
+
+/// The message in a parcel, where it fits in one.
+#[inline(always)]
+pub(crate) fn packed(message: &Message) -> Option<Parcel>
+    ensures { IfSome result (λ p. IsPacked message.now p) }
+{
+    match message.payload {
+        Payload::Token { tag, port, value } => match carried(value) {
+            Some(what) => narrowed(message, tag, port, what),
+            None => None,
+        },
+        Payload::Read { cell, reply } => match asked(cell) {
+            Some(what) => narrowed(message, reply, Port::Zero, what),
+            None => None,
+        },
+        Payload::Write {
+            cell,
+            value,
+            origin,
+        } => match stored(cell, value) {
+            Some(what) => narrowed(message, origin, Port::Zero, what),
+            None => None,
+        },
+    }
+}
+
+/// The parcel of a message that stands aside at this index.
+pub(crate) fn parcel_aside(index: usize) -> Parcel
+    ensures { result.what ≡ Aside index }
+{
+    Parcel {
+        what: What::Aside(index),
+        serial: 0,
+        iteration: 0,
+        instr: 0,
+        position: 0,
+        stamp: 0,
+        element: 0,
+        sender: 0,
+        output: 0,
+        port: Port::Zero,
+    }
+}
+
+/// The message of a parcel.
+#[inline(always)]
+pub(crate) fn unpack(asides: &[Message], parcel: &Parcel) -> Message
+    requires { IsWithin asides.now parcel.now }
+    ensures { result ≡ unpacked asides.now parcel.now }
+{
+    match parcel.what {
+        What::Signal => token(parcel, Value::Signal),
+        What::Int(number) => token(parcel, Value::Int(number)),
+        What::Bool(truth) => token(parcel, Value::Bool(truth)),
+        What::Context(element, serial) => token(parcel, Value::Context(context(element, serial))),
+        What::Continuation(element, serial, iteration, instr) => {
+            token(
+                parcel,
+                Value::Continuation(tag(element, serial, iteration, instr)),
+            )
+        }
+        What::Structure(element, serial, low, high) => {
+            token(
+                parcel,
+                Value::Structure(structure(element, serial, low, high)),
+            )
+        }
+        What::Address(element, serial, low, high, index) => {
+            token(
+                parcel,
+                Value::Address(cell(element, serial, low, high, index)),
+            )
+        }
+        What::Read(element, serial, low, high, index) => {
+            let cell = cell(element, serial, low, high, index);
+            let reply = tag_of(parcel);
+            message(parcel, Payload::Read { cell, reply })
+        }
+        What::WriteInt(element, serial, low, high, index, number) => {
+            write(
+                parcel,
+                cell(element, serial, low, high, index),
+                Value::Int(number),
+            )
+        }
+        What::WriteBool(element, serial, low, high, index, truth) => {
+            write(
+                parcel,
+                cell(element, serial, low, high, index),
+                Value::Bool(truth),
+            )
+        }
+        What::Aside(index) => asides[index],
+    }
+}
+
+/// The token of a parcel with this value.
+#[inline(always)]
+fn token(parcel: &Parcel, value: Value) -> Message
+    ensures { result ≡ own parcel.now (Token (tag_in parcel.now) parcel.now.port value) }
+{
+    let tag = tag_of(parcel);
+    let port = parcel.port;
+    message(parcel, Payload::Token { tag, port, value })
+}
+
+/// The write of this value to a cell.
+#[inline(always)]
+fn write(parcel: &Parcel, cell: Cell, value: Value) -> Message
+    ensures { result ≡ own parcel.now (Write cell value (tag_in parcel.now)) }
+{
+    let origin = tag_of(parcel);
+    message(
+        parcel,
+        Payload::Write {
+            cell,
+            value,
+            origin,
+        },
+    )
+}
+
+/// The message of a parcel that says this.
+#[inline(always)]
+fn message(parcel: &Parcel, payload: Payload) -> Message
+    ensures { result ≡ own parcel.now payload }
+{
+    Message {
+        payload,
+        sender: Sender::Element(u32::from(parcel.sender)),
+        position: parcel.position as usize,
+        output: usize::from(parcel.output),
+        stamp: u64::from(parcel.stamp),
+    }
+}
+
+/// The tag of a parcel.
+#[inline(always)]
+fn tag_of(parcel: &Parcel) -> Tag
+    ensures { result ≡ tag_in parcel.now }
+{
+    tag(
+        u32::from(parcel.element),
+        parcel.serial,
+        parcel.iteration,
+        parcel.instr,
+    )
+}
+
+/// The tag of these numbers.
+#[inline(always)]
+fn tag(element: u32, serial: u32, iteration: u32, instr: u32) -> Tag
+    ensures { result ≡ record {
+      context = record { element = element; serial = serial };
+      iteration = iteration;
+      instr = instr;
+    } }
+{
+    Tag {
+        context: context(element, serial),
+        iteration: u64::from(iteration),
+        instr,
+    }
+}
+
+/// The context of these numbers.
+#[inline(always)]
+fn context(element: u32, serial: u32) -> Context
+    ensures { result ≡ record { element = element; serial = serial } }
+{
+    Context {
+        element,
+        serial: u64::from(serial),
+    }
+}
+
+/// The structure of these numbers and bounds.
+#[inline(always)]
+fn structure(element: u8, serial: u32, low: i64, high: i64) -> Structure
+    ensures { result ≡ structure_in element serial low high }
+{
+    Structure {
+        element: u32::from(element),
+        serial: u64::from(serial),
+        low,
+        high,
+    }
+}
+
+/// The cell at this index of the structure of these numbers and bounds.
+#[inline(always)]
+fn cell(element: u8, serial: u32, low: i64, high: i64, index: i64) -> Cell
+    ensures { result ≡ cell_in element serial low high index }
+{
+    Cell {
+        structure: structure(element, serial, low, high),
+        index,
+    }
+}
+
+/// What a token with this value says, where a parcel has room for it.
+#[inline(always)]
+fn carried(value: Value) -> Option<What>
+    ensures { IfSome result (λ w. (t : Tag) (q : Port) → said t q w ≡ Some (Token t q value)) }
+{
+    match value {
+        Value::Signal => Some(What::Signal),
+        Value::Int(number) => Some(What::Int(number)),
+        Value::Bool(truth) => Some(What::Bool(truth)),
+        Value::Structure(structure) => carried_structure(structure),
+        Value::Address(cell) => carried_cell(cell),
+        Value::Context(context) => carried_context(context),
+        Value::Continuation(tag) => carried_tag(tag),
+    }
+}
+
+/// What a token with this structure says, where a parcel has room for it.
+#[inline(always)]
+fn carried_structure(structure: Structure) -> Option<What>
+    ensures { IfSome result (λ w. (t : Tag) (q : Port) →
+        said t q w ≡ Some (Token t q (value.Structure structure))) }
+{
+    let (element, serial) = short_structure(structure)?;
+    Some(What::Structure(element, serial, structure.low, structure.high))
+}
+
+/// What a token with the address of this cell says, where a parcel has room for it.
+#[inline(always)]
+fn carried_cell(cell: Cell) -> Option<What>
+    ensures { IfSome result (λ w. (t : Tag) (q : Port) → said t q w ≡ Some (Token t q (value.Address cell))) }
+{
+    let (element, serial) = short_structure(cell.structure)?;
+    let Structure { low, high, .. } = cell.structure;
+    Some(What::Address(element, serial, low, high, cell.index))
+}
+
+/// What a token with this context says, where a parcel has room for it.
+#[inline(always)]
+fn carried_context(context: Context) -> Option<What>
+    ensures { IfSome result (λ w. (t : Tag) (q : Port) → said t q w ≡ Some (Token t q (value.Context context))) }
+{
+    let serial = short(context.serial)?;
+    Some(What::Context(context.element, serial))
+}
+
+/// What a token with this continuation says, where a parcel has room for it.
+#[inline(always)]
+fn carried_tag(tag: Tag) -> Option<What>
+    ensures { IfSome result (λ w. (t : Tag) (q : Port) → said t q w ≡ Some (Token t q (value.Continuation tag))) }
+{
+    let serial = short(tag.context.serial)?;
+    let iteration = short(tag.iteration)?;
+    Some(What::Continuation(tag.context.element, serial, iteration, tag.instr))
+}
+
+/// What a read of this cell says, where a parcel has room for it.
+#[inline(always)]
+fn asked(cell: Cell) -> Option<What>
+    ensures { IfSome result (λ w. (t : Tag) (q : Port) → said t q w ≡ Some (Read cell t)) }
+{
+    let (element, serial) = short_structure(cell.structure)?;
+    let Structure { low, high, .. } = cell.structure;
+    Some(What::Read(element, serial, low, high, cell.index))
+}
+
+/// What a write of this value to a cell says, where a parcel has room for it.
+#[inline(always)]
+fn stored(cell: Cell, value: Value) -> Option<What>
+    ensures { IfSome result (λ w. (t : Tag) (q : Port) → said t q w ≡ Some (Write cell value t)) }
+{
+    let (element, serial) = short_structure(cell.structure)?;
+    let Structure { low, high, .. } = cell.structure;
+    match value {
+        Value::Int(number) => Some(What::WriteInt(element, serial, low, high, cell.index, number)),
+        Value::Bool(truth) => Some(What::WriteBool(element, serial, low, high, cell.index, truth)),
+        _ => None,
+    }
+}
+
+/// The element and the serial number of a structure, where they are short.
+#[inline(always)]
+fn short_structure(structure: Structure) -> Option<(u8, u32)>
+    ensures { IfSome result (λ s. structure_in s.0 s.1 structure.low structure.high ≡ structure) }
+{
+    if structure.element > 0xff || structure.serial > LARGEST {
+        return None;
+    }
+    Some((structure.element as u8, structure.serial as u32))
+}
+
+/// The number in 32 bits, where it fits in them.
+#[inline(always)]
+fn short(number: u64) -> Option<u32>
+    ensures { IfSome result (λ n. n ≡ number) }
+{
+    if number > LARGEST {
+        return None;
+    }
+    Some(number as u32)
+}
+
+/// The message in a parcel that says this of this tag and port, where its numbers fit.
+#[inline(always)]
+fn narrowed(message: &Message, tag: Tag, port: Port, what: What) -> Option<Parcel>
+    ensures what { IfSome result (λ p. p.what ≡ what) }
+    ensures port { IfSome result (λ p. p.port ≡ port) }
+    ensures tag { IfSome result (λ p. tag_in p ≡ tag) }
+    ensures message { IfSome result (λ p. own p message.now.payload ≡ message.now) }
+{
+    let Sender::Element(sender) = message.sender else {
+        return None;
+    };
+    let position = message.position as u64;
+    if tag.context.serial > LARGEST || tag.iteration > LARGEST || position > LARGEST {
+        return None;
+    }
+    if tag.context.element > 0xff || sender > 0xff {
+        return None;
+    }
+    if message.output > 0xff || message.stamp > LARGEST {
+        return None;
+    }
+    Some(Parcel {
+        what,
+        serial: tag.context.serial as u32,
+        iteration: tag.iteration as u32,
+        instr: tag.instr,
+        position: position as u32,
+        stamp: message.stamp as u32,
+        element: tag.context.element as u8,
+        sender: sender as u8,
+        output: message.output as u8,
+        port,
+    })
+}

@@ -1,0 +1,178 @@
+//! A queue of messages, each in a parcel of 64 bytes.
+
+ghost use Rattle.std.specs.Prelude.{◌≡◌, ◌<◌, ◌≤◌, ◌+◌, vec_capacity, vec_len};
+ghost use Rattle.id_flight.specs.declared.parcel.Parcel.{Parcel};
+ghost use Rattle.id_flight.specs.Parcels.{IsWithin, unpacked};
+
+use crate::parcel::{Parcel, packed, parcel_aside, unpack};
+use id_tag::Message;
+use std::alloc::{AllocError, Global};
+use std::collections::VecDeque;
+use std::marker::Model;
+
+/// Messages in a row, in 64 bytes each, but for the few whose numbers don't fit: those stand aside until the queue is
+/// empty.
+#[derive(Drop)]
+pub struct Queue {
+    parcels: VecDeque<Parcel>,
+    asides: Vec<Message>,
+}
+
+impl Model for Queue {
+    ghost use Rattle.std.specs.Prelude.{◌-◌, All, map, min, vec_capacity, vec_len};
+    ghost use Rattle.std.specs.VecDeque.{deque_capacity, deque_len};
+    ghost use Rattle.id_flight.specs.Parcels.{IsWithin, unpacked};
+    ghost use Rattle.id_flight.specs.Queues.{QueueView};
+
+    ghost Value = { QueueView };
+
+    ghost view = { λ q. record {
+      messages = map (unpacked q.asides.items) q.parcels.items;
+      room = min (deque_capacity q.parcels - deque_len q.parcels) (vec_capacity q.asides - vec_len q.asides);
+    } };
+
+    ghost invariant = { λ q. All (IsWithin q.asides.items) q.parcels.items };
+}
+
+impl Queue {
+    ghost use Rattle.std.specs.Prelude.{◌≡◌, ◌<◌, ◌≤◌, ◌+◌, ◌^◌, ◌==◌, ◌++◌, ◌∷◌, ◌↔◌, [], drop, length, slice_get, Some};
+    ghost use Rattle.std.specs.Prelude.{option_to_list, IsSome, OnErr, OnOk};
+
+    /// The empty queue. Takes no memory.
+    pub fn new(alloc: Global) -> Queue
+        ensures { result.messages ≡ [] }
+    {
+        Queue {
+            parcels: VecDeque::new(alloc),
+            asides: Vec::new(alloc),
+        }
+    }
+
+    /// How many messages there are. Takes no memory.
+    #[inline(always)]
+    pub fn len(&self) -> usize
+        ensures len { result ≡ length self.now.messages }
+        // So the lengths of two queues can be added.
+        ensures bound { result < 2 ^ 63 }
+    {
+        self.parcels.len()
+    }
+
+    /// Whether there is none. Takes no memory.
+    #[inline(always)]
+    pub fn is_empty(&self) -> bool
+        ensures { result ≡ (length self.now.messages == 0) }
+    {
+        self.parcels.is_empty()
+    }
+
+    /// The message at a position, from 0. Takes no memory.
+    #[inline(always)]
+    pub fn message(&self, position: usize) -> Message
+        requires { position < length self.now.messages }
+        ensures { slice_get self.now.messages position ≡ Some result }
+    {
+        let parcel = &self.parcels[position];
+        unpack(self.asides.as_slice(), parcel)
+    }
+
+    /// Makes room for so many messages more.
+    #[inline(always)]
+    pub fn reserve(&mut self, more: usize) -> Result<(), AllocError>
+        ensures messages { self.new.messages ≡ self.old.messages }
+        ensures room { OnOk result (more ≤ self.new.room) }
+    {
+        self.parcels.reserve(more)?;
+        self.asides.reserve(more)?;
+        Ok(())
+    }
+
+    /// Adds a message at the end.
+    pub fn push_back(&mut self, message: Message) -> Result<(), AllocError>
+        ensures messages { OnOk result (self.new.messages ≡ self.old.messages ++ message ∷ []) }
+        ensures err { OnErr result (self.new.messages ≡ self.old.messages) }
+    {
+        self.reserve(1)?;
+        self.push_back_reserved(message);
+        Ok(())
+    }
+
+    /// Adds a message at the end, for which there is room. Takes no memory.
+    #[inline(always)]
+    pub fn push_back_reserved(&mut self, message: Message)
+        requires { 0 < self.old.room }
+        ensures messages { self.new.messages ≡ self.old.messages ++ message ∷ [] }
+        ensures room { self.old.room ≤ self.new.room + 1 }
+    {
+        let parcel = parcel_for(&mut self.asides, message);
+        self.parcels.push_back_reserved(parcel);
+    }
+
+    /// Adds a message at the front, for which there is room. Takes no memory.
+    pub fn push_front_reserved(&mut self, message: Message)
+        requires { 0 < self.old.room }
+        ensures messages { self.new.messages ≡ message ∷ self.old.messages }
+        ensures room { self.old.room ≤ self.new.room + 1 }
+    {
+        let parcel = parcel_for(&mut self.asides, message);
+        self.parcels.push_front_reserved(parcel);
+    }
+
+    /// Takes out the first message, if there is one. Takes no memory.
+    pub fn pop_front(&mut self) -> Option<Message>
+        ensures messages { self.old.messages ≡ option_to_list result ++ self.new.messages }
+        ensures variant { IsSome result ↔ (0 < length self.old.messages) }
+    {
+        let parcel = self.parcels.pop_front()?;
+        let message = unpack(self.asides.as_slice(), &parcel);
+        if self.parcels.is_empty() {
+            self.asides.clear();
+        }
+        Some(message)
+    }
+
+    /// Drops the first message, if there is one. Takes no memory.
+    #[inline(always)]
+    pub fn drop_front(&mut self)
+        ensures { self.new.messages ≡ drop 1 self.old.messages }
+    {
+        let _first = self.parcels.pop_front();
+        if self.parcels.is_empty() {
+            self.asides.clear();
+        }
+    }
+
+    /// Takes out the last message, if there is one. Takes no memory.
+    pub fn pop_back(&mut self) -> Option<Message>
+        ensures messages { self.old.messages ≡ self.new.messages ++ option_to_list result }
+        ensures variant { IsSome result ↔ (0 < length self.old.messages) }
+    {
+        let parcel = self.parcels.pop_back()?;
+        let message = unpack(self.asides.as_slice(), &parcel);
+        if self.parcels.is_empty() {
+            self.asides.clear();
+        }
+        Some(message)
+    }
+}
+
+/// A parcel for the message, which stands aside where it does not fit. Takes no memory.
+#[inline(always)]
+fn parcel_for(asides: &mut Vec<Message>, message: Message) -> Parcel
+    requires { vec_len asides.old < vec_capacity asides.old }
+    ensures is { unpacked asides.new.items result ≡ message }
+    ensures within { IsWithin asides.new.items result }
+    ensures others { (p : Parcel) → IsWithin asides.old.items p →
+        IsWithin asides.new.items p × (unpacked asides.new.items p ≡ unpacked asides.old.items p) }
+    ensures room { vec_len asides.new ≤ vec_len asides.old + 1 }
+    ensures capacity { vec_capacity asides.new ≡ vec_capacity asides.old }
+{
+    match packed(&message) {
+        Some(parcel) => parcel,
+        None => {
+            let index = asides.len();
+            asides.push_reserved(message);
+            parcel_aside(index)
+        }
+    }
+}
