@@ -1,4 +1,6 @@
--- The state of an element, as its desk holds it.
+-- The state of an element, as its desk holds it, and the messages that go to its cells.
+use Rattle.id_tag.specs.declared.Payload.{Payload}
+use Rattle.id_tag.specs.declared.Payload.TheVariants.{Read, Write}
 use Rattle.id_element.specs.declared.desk.Desk.{Desk}
 use Rattle.id_element.specs.Steps.{State}
 
@@ -12,3 +14,13 @@ state_of d = record {
   structures = d.structures;
   events = d.log.events;
 }
+
+-- what is said is a read
+abbrev pub IsRead : Payload → Type 0
+IsRead (Read c t) = Unit {0}
+IsRead x = ⊥
+
+-- what is said is a write
+abbrev pub IsWrite : Payload → Type 0
+IsWrite (Write c v t) = Unit {0}
+IsWrite x = ⊥

@@ -36,12 +36,12 @@ verdict_of (Fires operands) f = fired_verdict f
 verdict_of Waits f = fired_verdict f
 verdict_of Blocked f = Stuck
 
--- what comes of a token, in full
-abbrev pub reaction_in : Reacted → Reaction
-reaction_in (Shot p s) = record { fired = fired_of s; verdict = Went }
-reaction_in (Full r) = r
+-- what comes of a token, where this is its reaction unless it is told in short
+abbrev pub reaction_in : Reacted → Reaction → Reaction
+reaction_in (Shot p s) r = record { fired = fired_of s; verdict = Went }
+reaction_in Full r = r
 
 -- what comes of it in short names the value of the token
 abbrev pub IsOf : Value → Reacted → Type 0
 IsOf v (Shot p s) = v ≡ whole p
-IsOf v (Full r) = Unit {0}
+IsOf v Full = Unit {0}

@@ -34,9 +34,15 @@ pub(crate) struct Desk<'a> {
     pub(crate) log: Record<'a>,
 }
 
+/// Nothing came of a token.
+const NO_REACTION: Reaction = Reaction {
+    fired: Fired::Nothing,
+    verdict: Verdict::Went,
+};
+
 impl<'a> Desk<'a> {
     ghost use Rattle.std.specs.Prelude.{◌≡◌, ◌+◌, ◌-◌, ◌^◌, ◌<◌, ◌≤◌, ◌++◌, ◌∷◌, [], ◌↔◌, Some, slice_get, length, max};
-    ghost use Rattle.std.specs.Prelude.{IfOk, OnOk, OnErr, IsTrue};
+    ghost use Rattle.std.specs.Prelude.{IfErr, IfOk, OnOk, OnErr, IsTrue};
     ghost use Rattle.id_element.specs.declared.step.TakeError.TheVariants.{StampEnd};
     ghost use Rattle.id_record.specs.Events.{full_step, tag_of, value_of};
     ghost use Rattle.id_element.specs.Fits.{Fits};
@@ -46,10 +52,10 @@ impl<'a> Desk<'a> {
     ghost use Rattle.id_record.specs.declared.step.Step.TheVariants.{Went};
     ghost use Rattle.id_record.specs.declared.step.Verdict.TheVariants as verdict;
     ghost use Rattle.id_element.specs.Steps.{allocated_by, answer_fired, answer_sends, fill_sends, fill_verdict, fresh};
-    ghost use Rattle.id_element.specs.Steps.{is_ended, made_by, step_of, outputs_of, readers_of, state_after};
+    ghost use Rattle.id_element.specs.Steps.{is_ended, made_by, next_stamp, step_of, outputs_of, readers_of, state_after};
     ghost use Rattle.id_record.specs.Sends.{numbered, sent};
     ghost use Rattle.id_valid.specs.Validator.{IsValid};
-    ghost use Rattle.id_element.specs.Desks.{state_of};
+    ghost use Rattle.id_element.specs.Desks.{state_of, IsRead, IsWrite};
     ghost use Rattle.id_element.specs.Firings.{most_sent};
     ghost use Rattle.id_graph.specs.Graph.{arcs_on, IsGraph};
     ghost use Rattle.id_ops.specs.Operators.{side_of};
@@ -105,31 +111,91 @@ impl<'a> Desk<'a> {
                 let instr = &graph.instrs()[tag.instr as usize];
                 self.reserve(most_sent(instr), 0, outputs)?;
                 let next = fresh_numbers(self.log.element(), self.contexts, self.structures);
-                match react(&mut self.waiting, instr, next, tag, port, value)? {
+                let mut full = NO_REACTION;
+                match react(&mut self.waiting, instr, next, tag, port, value, &mut full)? {
                     Reacted::Shot(plain, shot) => {
                         Ok(self.conclude_shot(instr, tag, message, stamp, plain, shot, outputs))
                     }
-                    Reacted::Full(reaction) => {
-                        Ok(self.conclude(instr, tag, message, stamp, &reaction, outputs))
+                    Reacted::Full => {
+                        Ok(self.conclude(instr, tag, message, stamp, &full, outputs))
                     }
                 }
             }
-            Payload::Read { cell, reply } => {
-                self.reserve(1, 0, outputs)?;
-                let answer = self.cells.read(cell, reply)?;
-                Ok(self.answer(message, stamp, answer, outputs))
-            }
-            Payload::Write {
-                cell,
-                value,
-                origin,
-            } => {
-                let readers = self.cells.readers(cell);
-                self.reserve(readers, readers, outputs)?;
-                let answer = self.cells.write(cell, value, origin)?;
-                Ok(self.fill(message, stamp, &answer, outputs))
-            }
+            Payload::Read { .. } => self.take_read(message, stamp, outputs),
+            Payload::Write { .. } => self.take_write(message, stamp, outputs),
         }
+    }
+
+    /// Handles a read: the element step where a stamp is left, which is this one.
+    #[inline(never)]
+    fn take_read(
+        &mut self,
+        read: &Message,
+        stamp: u64,
+        outputs: &mut Queue,
+    ) -> Result<Verdict, TakeError>
+        requires is { IsRead read.now.payload }
+        requires stamp { stamp ≡ next_stamp (state_of self.old) read.now }
+
+        ensures step { IfOk result (λ v. full_step read.now.payload v
+            ≡ step_of self.old.log.graph self.old.log.element (state_of self.old) read.now) }
+        ensures state { OnOk result
+            (state_of self.new ≡ state_after self.old.log.graph self.old.log.element (state_of self.old) read.now) }
+        ensures outputs { OnOk result
+            (outputs.new.messages
+            ≡ outputs.old.messages ++ outputs_of self.old.log.graph self.old.log.element (state_of self.old) read.now) }
+        ensures number { self.new.log.element ≡ self.old.log.element }
+        ensures graph { self.new.log.graph ≡ self.old.log.graph }
+
+        ensures memory { IfErr result (λ e. e ≡ TakeError.Memory) }
+        ensures err { OnErr result (state_of self.new ≡ state_of self.old) }
+        ensures err_outputs { OnErr result (outputs.new.messages ≡ outputs.old.messages) }
+    {
+        let Payload::Read { cell, reply } = read.payload else {
+            unreachable!()
+        };
+        self.reserve(1, 0, outputs)?;
+        let answer = self.cells.read(cell, reply)?;
+        Ok(self.answer(read, stamp, answer, outputs))
+    }
+
+    /// Handles a write: the element step where a stamp is left, which is this one.
+    #[inline(never)]
+    fn take_write(
+        &mut self,
+        write: &Message,
+        stamp: u64,
+        outputs: &mut Queue,
+    ) -> Result<Verdict, TakeError>
+        requires is { IsWrite write.now.payload }
+        requires stamp { stamp ≡ next_stamp (state_of self.old) write.now }
+
+        ensures step { IfOk result (λ v. full_step write.now.payload v
+            ≡ step_of self.old.log.graph self.old.log.element (state_of self.old) write.now) }
+        ensures state { OnOk result
+            (state_of self.new ≡ state_after self.old.log.graph self.old.log.element (state_of self.old) write.now) }
+        ensures outputs { OnOk result
+            (outputs.new.messages
+            ≡ outputs.old.messages ++ outputs_of self.old.log.graph self.old.log.element (state_of self.old) write.now) }
+        ensures number { self.new.log.element ≡ self.old.log.element }
+        ensures graph { self.new.log.graph ≡ self.old.log.graph }
+
+        ensures memory { IfErr result (λ e. e ≡ TakeError.Memory) }
+        ensures err { OnErr result (state_of self.new ≡ state_of self.old) }
+        ensures err_outputs { OnErr result (outputs.new.messages ≡ outputs.old.messages) }
+    {
+        let Payload::Write {
+            cell,
+            value,
+            origin,
+        } = write.payload
+        else {
+            unreachable!()
+        };
+        let readers = self.cells.readers(cell);
+        self.reserve(readers, readers, outputs)?;
+        let answer = self.cells.write(cell, value, origin)?;
+        Ok(self.fill(write, stamp, &answer, outputs))
     }
 
     /// Makes room for an event that sends so many messages, to so many replies.

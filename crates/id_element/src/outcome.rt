@@ -69,49 +69,61 @@ pub(crate) fn react(
     tag: Tag,
     port: Port,
     value: Value,
+    full: &mut Reaction,
 ) -> Result<Reacted, AllocError>
     requires { tag.iteration < 2 ^ 64 - 1 }
     ensures outcome { IfOk result (λ r. (b : Cells) → at_instr next waiting.old b tag port value (Some instr.now)
         ≡ record {
-          fired = (reaction_in r).fired;
-          sends = sent (Some instr.now.op) (arcs_on (side_of (reaction_in r).fired) instr.now) tag (reaction_in r).fired;
-          step = full_step (Token tag port value) (reaction_in r).verdict;
+          fired = (reaction_in r full.new).fired;
+          sends = sent (Some instr.now.op) (arcs_on (side_of (reaction_in r full.new).fired) instr.now) tag
+              (reaction_in r full.new).fired;
+          step = full_step (Token tag port value) (reaction_in r full.new).verdict;
           waiting = waiting.new;
           cells = b;
-          made = made_by (reaction_in r).fired;
-          allocated = allocated_by instr.now.op (reaction_in r).fired;
+          made = made_by (reaction_in r full.new).fired;
+          allocated = allocated_by instr.now.op (reaction_in r full.new).fired;
         }) }
     ensures value { IfOk result (IsOf value) }
     ensures err { OnErr result (waiting.new ≡ waiting.old) }
 {
     let arrival = arrive(waiting, instr.op, tag, port, value)?;
-    Ok(reacted(instr, next, tag, &value, &arrival))
+    Ok(reacted(instr, next, tag, &value, &arrival, full))
 }
 
 /// What comes of what arrived, in short where that is in reach.
 #[inline(always)]
-fn reacted(instr: &Instr, next: Fresh, tag: Tag, value: &Value, arrival: &Arrival) -> Reacted
+fn reacted(
+    instr: &Instr,
+    next: Fresh,
+    tag: Tag,
+    value: &Value,
+    arrival: &Arrival,
+    full: &mut Reaction,
+) -> Reacted
     requires { tag.iteration < 2 ^ 64 - 1 }
-    ensures fired { (reaction_in result).fired ≡ firing_of instr.now tag next arrival.now }
-    ensures verdict { (reaction_in result).verdict ≡ verdict_of arrival.now (reaction_in result).fired }
+    ensures fired { (reaction_in result full.new).fired ≡ firing_of instr.now tag next arrival.now }
+    ensures verdict { (reaction_in result full.new).verdict
+        ≡ verdict_of arrival.now (reaction_in result full.new).fired }
     ensures value { IsOf value.now result }
 {
     match (plain_of(value), shot(instr.op, tag.iteration, arrival)) {
         (Some(plain), Some(shot)) => Reacted::Shot(plain, shot),
-        _ => Reacted::Full(reaction(instr, next, tag, arrival)),
+        _ => {
+            react_full(instr, next, tag, arrival, full);
+            Reacted::Full
+        }
     }
 }
 
 /// What comes of what arrived, in full.
 #[inline(never)]
-fn reaction(instr: &Instr, next: Fresh, tag: Tag, arrival: &Arrival) -> Reaction
+fn react_full(instr: &Instr, next: Fresh, tag: Tag, arrival: &Arrival, full: &mut Reaction)
     requires { tag.iteration < 2 ^ 64 - 1 }
-    ensures fired { result.fired ≡ firing_of instr.now tag next arrival.now }
-    ensures verdict { result.verdict ≡ verdict_of arrival.now result.fired }
+    ensures fired { full.new.fired ≡ firing_of instr.now tag next arrival.now }
+    ensures verdict { full.new.verdict ≡ verdict_of arrival.now full.new.fired }
 {
-    let fired = firing(instr, tag, next, arrival);
-    let verdict = verdict(arrival, &fired);
-    Reaction { fired, verdict }
+    full.fired = firing(instr, tag, next, arrival);
+    full.verdict = verdict(arrival, &full.fired);
 }
 
 /// What comes of what arrived at an operator at this iteration, in short: where nothing fires since the token waits, and

@@ -1,7 +1,6 @@
 //! What becomes of a message, and why a message is not handled (docs/MACHINE.md, "Element step").
 
 use id_ops::{Operands, Shot};
-use id_record::Reaction;
 use id_tag::Plain;
 use std::alloc::{AllocError, AllocFailed};
 use thiserror::Error;
@@ -50,9 +49,10 @@ pub(crate) enum Arrival {
     Blocked,
 }
 
-/// What comes of a token at its instruction: in short where its value is plain and so is what is sent, and else in full.
+/// What comes of a token at its instruction: in short where its value is plain and so is what is sent, and else in full,
+/// in a place that was lent for it. A reaction is too large to be handed from call to call for each token.
 #[derive(Clone, Copy)]
 pub(crate) enum Reacted {
     Shot(Plain, Shot),
-    Full(Reaction),
+    Full,
 }
