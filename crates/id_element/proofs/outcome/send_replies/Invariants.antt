@@ -1,5 +1,5 @@
 -- The replies so far have their tokens, in order, and stand in the record, and there is room for the rest.
-use Rattle.std.proofs.Common.{◌≡◌, ◌+◌, ◌≤◌, ◌++◌, length, take}
+use Rattle.std.proofs.Common.{◌≡◌, ◌+◌, ◌≤◌, ◌++◌, take}
 use Rattle.id_record.specs.Sends.{numbered, replies}
 use Rattle.id_element.proofs.outcome.send_replies.Given as goal
 
