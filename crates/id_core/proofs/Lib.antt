@@ -1,2 +1,3 @@
 pub mod InputsLemmas
+pub mod FlightLemmas
 pub mod MachinesLemmas

@@ -3,7 +3,7 @@ use Rattle.std.proofs.Common.{◌≡◌, ℕ, suc, ◌+◌, ◌<◌, Bool, true,
 use Rattle.std.specs.Prelude.{All, slice_index, slice_get, option_map}
 use Rattle.std.specs.List.{list_any, remove}
 use Rattle.std.specs.List.Sorted.{IsStrictlyIncreasing}
-use Rattle.std.proofs.lemmas.List.{length-map, length-append, length-set, get_or-map, get_or-set_same, get_or-set_other, map-set}
+use Rattle.std.proofs.lemmas.List.{set-get_or, length-map, length-append, length-set, get_or-map, get_or-set_same, get_or-set_other, map-set}
 use Rattle.std.proofs.lemmas.Bool.{cases_lt, cases_eq}
 use Rattle.std.proofs.Math.ListN.{get_or-append}
 use Rattle.std.proofs.Math.Seq.{get_or-append_seam}
@@ -15,7 +15,7 @@ use Rattle.id_graph.specs.declared.instr.PortKind.TheVariants as kind
 use Rattle.id_graph.specs.Graph.{Parts}
 use Rattle.id_value.specs.declared.Constant.{Constant}
 use Rattle.id_tag.specs.Routes.{route_of}
-use Rattle.std.proofs.lemmas.Option.{slice_get_within, slice_get-map}
+use Rattle.std.proofs.lemmas.Option.{get_or_from_slice_get, slice_get_within, slice_get-map}
 use Rattle.id_tag.specs.declared.Payload.TheVariants.{Token}
 use Rattle.id_tag.specs.declared.Value.TheVariants as value
 use Rattle.id_tag.specs.declared.Message.{Message}
@@ -24,6 +24,11 @@ use Rattle.id_valid.specs.Validator.{IsMainBlock}
 use Rattle.id_element.specs.Fits.{Fits, TokenFits}
 use Rattle.id_element.specs.Steps.{fresh, outputs_of, event_of, state_after, is_ended}
 use Rattle.id_element.specs.Replays.{ElementView}
+use Rattle.id_element.specs.Shorts.{IsHandled}
+use Rattle.id_element.specs.declared.step.Short.{Short}
+use Rattle.id_element.specs.declared.step.Short.TheVariants.{Went, Failed, Apart}
+use Rattle.id_tag.specs.declared.plain.PlainToken.{PlainToken}
+use Rattle.id_tag.specs.Plains.{message_of}
 use Rattle.id_core.specs.Machines.{world_of, taken_from, given_to, routed_to, delivered, event_of_given, event_of_routed, event_at, start_message, input_messages, block_messages, AreTaken, IsElement, AreElements, IsMachine}
 use Rattle.id_observe.specs.Observed.{main_tag}
 use Rattle.id_element.proofs.SentLemmas.{kind_at_op}
@@ -176,3 +181,25 @@ pub AreElements-rise : (g : Parts) (count : ℕ) (es : List ElementView) → Are
 AreElements-rise g count es are k lt =
     let next : k + 1 < length es = omega (arith, lt, length-map es (λ e. e.number)) in
     omega (arith, number_at g count es k are (omega (arith, next)), number_at g count es (k + 1) are next)
+
+-- ---- plain tokens
+
+module _ (g : Parts) (es : List ElementView) (flight : List Message) (k n : ℕ) (t : PlainToken) (e later : ElementView) (left : List Message)
+    (old : IsMachine g es flight) (d : IsDelivery g (length es) es flight k n (message_of t) e)
+    (fits : All (Fits e.graph) (outputs_of e.graph e.number e.state (message_of t))) where
+  unchanged : set es n e ≡ es
+  unchanged = ap (set es n) (sym (get_or_from_slice_get es n e e d.given.element)) ∙ set-get_or es n e
+
+  -- the machine goes on where a plain token was handled, and stays where it was not
+  pub IsMachine-short : (s : Short) → (IsHandled s → later ≡ taken e (message_of t))
+      → (IsHandled s → left ≡ remove flight k ++ outputs_of e.graph e.number e.state (message_of t))
+      → (s ≡ Apart → later ≡ e) → (s ≡ Apart → left ≡ flight) → IsMachine g (set es n later) left
+  IsMachine-short Went taken_is left_is same still =
+      rw (taken_is tt, left_is tt) (IsMachine-deliver g es flight k n (message_of t) e old d fits)
+  IsMachine-short (Failed f) taken_is left_is same still =
+      rw (taken_is tt, left_is tt) (IsMachine-deliver g es flight k n (message_of t) e old d fits)
+  IsMachine-short Apart taken_is left_is same still = rw (same refl, still refl, unchanged) old
+
+  -- and so it has the same world
+  pub world-apart : later ≡ e → left ≡ flight → world_of (set es n later) left ≡ world_of es flight
+  world-apart same still = ap (λ x. world_of (set es n x) left) same ∙ ap (λ x. world_of (set es n e) x) still ∙ ap (λ x. world_of x flight) unchanged

@@ -2,10 +2,10 @@
 
 ghost use Rattle.std.specs.Prelude.{◌≡◌, ◌+◌, ◌++◌, ◌≤◌, length};
 
-use id_element::{Element, TakeError};
+use id_element::{Element, Short, TakeError};
 use id_flight::Queue;
 use id_record::Step;
-use id_tag::Message;
+use id_tag::{Message, PlainToken};
 use std::alloc::{AllocError, Global};
 use std::marker::Model;
 
@@ -31,12 +31,15 @@ impl Model for InFlight {
 }
 
 impl InFlight {
-    ghost use Rattle.std.specs.Prelude.{◌≡◌, ◌<◌, ◌++◌, ◌==◌, ◌↔◌, All, length, slice_get, Some, IfOk, OnOk, OnErr};
+    ghost use Rattle.std.specs.Prelude.{◌≡◌, ◌<◌, ◌++◌, ◌==◌, ◌↔◌, All, length, slice_get, Some, IfOk, IfSome, OnOk, OnErr};
     ghost use Rattle.std.specs.Prelude.{IsTrue};
     ghost use Rattle.std.specs.List.{remove};
     ghost use Rattle.id_element.specs.declared.step.TakeError.TheVariants.{StampEnd};
     ghost use Rattle.id_element.specs.Fits.{Fits, IsFor};
     ghost use Rattle.id_element.specs.Steps.{is_ended, outputs_of, state_after, step_of};
+    ghost use Rattle.id_element.specs.Shorts.{IsHandled, step_in};
+    ghost use Rattle.id_element.specs.declared.step.Short.TheVariants.{Apart};
+    ghost use Rattle.id_tag.specs.Plains.{message_of, tag_in};
 
     /// These messages. Takes no memory.
     pub(crate) fn new(alloc: Global, messages: Queue) -> InFlight
@@ -74,6 +77,20 @@ impl InFlight {
             self.before.message(position)
         } else {
             self.after.message(position - gap)
+        }
+    }
+
+    /// The plain token at a position, from 0, where one is kept there so. Takes no memory.
+    #[inline(always)]
+    pub(crate) fn plain(&self, position: usize) -> Option<PlainToken>
+        requires { position < length self.now.messages }
+        ensures { IfSome result (λ t. slice_get self.now.messages position ≡ Some (message_of t)) }
+    {
+        let gap = self.before.len();
+        if position < gap {
+            self.before.plain(position)
+        } else {
+            self.after.plain(position - gap)
         }
     }
 
@@ -137,6 +154,41 @@ impl InFlight {
         let step = element.take(message, &mut self.after)?;
         self.after.drop_front();
         Ok(step)
+    }
+
+    /// Gives the plain token at the gap to an element, as `give_next` does, where that is short.
+    #[inline(always)]
+    pub(crate) fn give_plain(
+        &mut self,
+        token: &PlainToken,
+        element: &mut Element<'_>,
+    ) -> Result<Short, TakeError>
+        requires next { slice_get self.old.messages self.old.gap ≡ Some (message_of token.now) }
+        requires is_for { IsFor element.old.graph element.old.count element.old.number (message_of token.now) }
+
+        ensures messages { IfOk result (λ short. IsHandled short → self.new.messages
+            ≡ remove self.old.messages self.old.gap
+            ++ outputs_of element.old.graph element.old.number element.old.state (message_of token.now)) }
+        ensures state { IfOk result (λ short. IsHandled short → element.new ≡ record element.old {
+          state = state_after element.old.graph element.old.number element.old.state (message_of token.now);
+        }) }
+        ensures step { IfOk result (λ short. IsHandled short → step_in short (tag_in token.now)
+            ≡ step_of element.old.graph element.old.number element.old.state (message_of token.now)) }
+        ensures fits { OnOk result (All (Fits element.old.graph)
+            (outputs_of element.old.graph element.old.number element.old.state (message_of token.now))) }
+        ensures apart { IfOk result (λ short. short ≡ Apart → element.new ≡ element.old) }
+        ensures apart_messages { IfOk result (λ short. short ≡ Apart → self.new.messages ≡ self.old.messages) }
+
+        ensures end { (result ≡ Err StampEnd) ↔ IsTrue (is_ended element.old.state (message_of token.now)) }
+        ensures err { OnErr result (element.new ≡ element.old) }
+        ensures err_messages { OnErr result (self.new.messages ≡ self.old.messages) }
+    {
+        let short = element.take_plain(token, &mut self.after)?;
+        if let Short::Apart = short {
+            return Ok(short);
+        }
+        self.after.drop_front();
+        Ok(short)
     }
 }
 

@@ -13,7 +13,7 @@ ghost use Rattle.id_observe.specs.Observed.{main_tag};
 
 use crate::flight::Flight;
 use crate::in_flight::InFlight;
-use id_element::{Element, TakeError};
+use id_element::{Element, Short, TakeError};
 use id_flight::Queue;
 use id_graph::Port;
 use id_meaning::{Inputs, SourceFault, SourceValue};
@@ -21,8 +21,8 @@ use id_observe::{
     Holdings, Observed, answer, first_fault, main_tag, observe_holdings, observe_records,
 };
 use id_ops::value_of;
-use id_record::Step;
-use id_tag::{Message, Payload, Sender, Value, route};
+use id_record::{Fault, Step};
+use id_tag::{Message, Payload, PlainToken, Sender, Value, route, route_tag};
 use id_valid::Valid;
 use id_value::Constant;
 use std::alloc::{AllocError, AllocFailed, Global};
@@ -89,13 +89,16 @@ impl<'a> Model for Machine<'a> {
 }
 
 impl<'a> Machine<'a> {
-    ghost use Rattle.std.specs.Prelude.{◌≡◌, ◌<◌, ◌↔◌, ◌⊎◌, [], All, length, map, Some, None, option_map, IfOk, OnOk};
+    ghost use Rattle.std.specs.Prelude.{◌≡◌, ◌<◌, ◌↔◌, ◌⊎◌, [], All, length, map, Some, None, option_map, slice_get, IfOk, OnOk};
     ghost use Rattle.std.specs.Prelude.{OnErr, IsTrue, MatchOption};
     ghost use Rattle.std.specs.List.Sorted.{IsStrictlyIncreasing};
     ghost use Rattle.id_core.specs.Firsts.{IsFirstFault};
     ghost use Rattle.id_core.specs.declared.machine.MachineError.TheVariants.{BadElements};
     ghost use Rattle.id_element.specs.declared.step.TakeError.TheVariants.{StampEnd};
     ghost use Rattle.id_element.specs.Fits.{Fits};
+    ghost use Rattle.id_element.specs.Shorts.{IsHandled, step_in};
+    ghost use Rattle.id_element.specs.declared.step.Short.TheVariants.{Apart};
+    ghost use Rattle.id_tag.specs.Plains.{message_of, tag_in};
     ghost use Rattle.id_core.specs.Observed.{answer, cells, faults, names, structures, waiting};
     ghost use Rattle.id_core.specs.Machines.{AreElements, IsQuiet, TakesInputs, delivered, event_at, start, world_of};
 
@@ -128,7 +131,36 @@ impl<'a> Machine<'a> {
     /// Delivers the message at a position of the list of those in flight: it leaves, the list closes
     /// up, the element that it is for handles it, and what is sent goes to the end of the list. After an
     /// error nothing has changed.
+    #[inline(always)]
     pub fn deliver(&mut self, position: usize) -> Result<Step, TakeError>
+        requires { position < length self.old.world.flight }
+
+        ensures world { OnOk result
+            (self.new ≡ record self.old { world = delivered self.old.graph self.old.count self.old.world position }) }
+        ensures step { IfOk result
+            (λ step. option_map (λ e. e.step) (event_at self.old.graph self.old.count self.old.world position)
+            ≡ Some step) }
+
+        ensures end { (result ≡ Err StampEnd) ↔
+            (event_at self.old.graph self.old.count self.old.world position ≡ None) }
+        ensures err { OnErr result (self.new ≡ self.old) }
+    {
+        match self.flight.plain(position) {
+            Some(token) => match self.deliver_plain(position, &token)? {
+                Short::Went => Ok(Step::Went),
+                Short::Failed(fault) => Ok(Step::Fault(Fault::Operator {
+                    fault,
+                    tag: token.tag(),
+                })),
+                Short::Apart => self.deliver_any(position),
+            },
+            None => self.deliver_any(position),
+        }
+    }
+
+    /// Delivers any message at a position, as `deliver` does.
+    #[inline(never)]
+    fn deliver_any(&mut self, position: usize) -> Result<Step, TakeError>
         requires { position < length self.old.world.flight }
 
         ensures world { OnOk result
@@ -150,6 +182,32 @@ impl<'a> Machine<'a> {
         self.flight.open(position)?;
         let step = self.flight.give_next(&message, &mut self.elements[number])?;
         Ok(step)
+    }
+
+    /// Delivers the plain token at a position, as `deliver` does, where that is short.
+    #[inline(always)]
+    fn deliver_plain(&mut self, position: usize, token: &PlainToken) -> Result<Short, TakeError>
+        requires { slice_get self.old.world.flight position ≡ Some (message_of token.now) }
+
+        ensures world { IfOk result (λ short. IsHandled short →
+            (self.new ≡ record self.old { world = delivered self.old.graph self.old.count self.old.world position })) }
+        ensures step { IfOk result (λ short. IsHandled short →
+            option_map (λ e. e.step) (event_at self.old.graph self.old.count self.old.world position)
+            ≡ Some (step_in short (tag_in token.now))) }
+        ensures apart { IfOk result (λ short. short ≡ Apart → self.new ≡ self.old) }
+
+        ensures end { (result ≡ Err StampEnd) ↔
+            (event_at self.old.graph self.old.count self.old.world position ≡ None) }
+        ensures err { OnErr result (self.new ≡ self.old) }
+    {
+        let number = route_tag(token.tag(), self.elements.len() as u32) as usize;
+        let element = &self.elements[number];
+        if element.is_ended_at(u64::from(token.stamp)) {
+            return Err(TakeError::StampEnd);
+        }
+        self.flight.open(position)?;
+        let short = self.flight.give_plain(token, &mut self.elements[number])?;
+        Ok(short)
     }
 
     /// Whether nothing is in flight and no event was a fault or `Stuck`. Takes no memory.

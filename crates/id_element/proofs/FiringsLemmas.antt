@@ -1,5 +1,12 @@
 -- Lemmas on specs/Firings.antt: the outcome is what the code computes in parts.
-use Rattle.std.proofs.Common.{◌≡◌, ℕ, List, Some, [], refl, sym, ap, ◌∙◌}
+use Rattle.std.proofs.Common.{◌≡◌, ◌<◌, ◌+◌, ◌++◌, ◌∷◌, ℕ, List, Option, Some, None, [], true, cond, length, refl, sym, ap, ◌∙◌}
+use Rattle.std.specs.Prelude.{slice_get, option_and_then}
+use Rattle.std.proofs.lemmas.Option.{slice_get_within}
+use Rattle.id_graph.specs.declared.dests.Dest.{Dest}
+use Rattle.id_graph.specs.declared.instr.PortKind.{PortKind}
+use Rattle.id_graph.specs.Graph.{kind_at}
+use Rattle.id_graph.specs.Ports.{port_kind}
+use Rattle.id_tag.specs.declared.Message.{Message}
 use Rattle.id_graph.specs.declared.dests.Port.{Port}
 use Rattle.id_graph.specs.declared.instr.Instr.{Instr}
 use Rattle.id_graph.specs.declared.instr.Op.{Op}
@@ -26,9 +33,21 @@ use Rattle.id_record.specs.Lines.{no_replies}
 use Rattle.id_record.specs.declared.line.Handled.{Handled}
 use Rattle.id_record.proofs.LinesLemmas.{event_alone}
 use Rattle.id_tag.specs.declared.Payload.{Payload}
-use Rattle.id_element.specs.Steps.{Outcome, allocated_by, answer_fired, answer_sends, arrival, arriving, at_instr, fired_step, fired_verdict, made_by, waiting_after}
+use Rattle.id_element.specs.Steps.{State, next_stamp, outputs_of, outcome, outcome_of, state_after}
+use Rattle.id_element.specs.Steps.{Outcome, allocated_by, answer_fired, answer_sends, arrival, arrival_of, arriving, at_instr, fired_step, fired_verdict, made_by, waiting_after}
 use Rattle.id_record.specs.Sends.{numbered, sent}
-use Rattle.id_element.specs.Firings.{firing_of, verdict_of}
+use Rattle.id_element.specs.Firings.{IsMeeting, IsShot, arrival_in, firing_of, verdict_of}
+use Rattle.id_graph.specs.Ports.{two_ports}
+use Rattle.id_match.specs.Waiting.{offer_after, offer_answer, pair_of}
+use Rattle.id_match.specs.declared.Offered.TheVariants.{Pair}
+use Rattle.id_ops.specs.declared.Operands.TheVariants.{One, Two}
+use Rattle.id_ops.specs.declared.shot.Shot.{Shot}
+use Rattle.id_ops.specs.declared.shot.Shot.TheVariants as shot
+use Rattle.id_ops.specs.Shots.{IsNear, IsOwn, fired_of}
+use Rattle.id_record.specs.declared.step.Verdict.TheVariants as verdict
+use Rattle.id_tag.specs.declared.plain.Plain.{Plain}
+use Rattle.id_tag.specs.declared.plain.PlainToken.{PlainToken}
+use Rattle.id_tag.specs.Plains.{tag_in, whole}
 
 -- the outcome of an arrival in the parts that the code computes
 abbrev pub computed : Fresh → Instr → Tag → Port → Value → Store → Cells → Arrival → Outcome
@@ -121,3 +140,141 @@ event_of_read g n ts k h a fires none =
       step = full_step h.message.payload h.reaction.verdict;
     } in
     event_alone g n ts k h none ∙ ap (λ f. event f (sent_by g t f)) fires ∙ ap (event (answer_fired t a)) (answer-sent g t t a)
+
+-- ---- plain tokens
+
+-- a shot goes well
+shot_went : (s : Shot) → fired_verdict (fired_of s) ≡ verdict.Went
+shot_went shot.Nothing = refl
+shot_went (shot.Out v) = refl
+shot_went (shot.Side b v) = refl
+shot_went (shot.Moved k v) = refl
+
+-- a token for an operator of two ports comes to what its offer does
+offered : (op : Op) (w : Store) (t : PlainToken) → two_ports op ≡ true
+    → arrival_in op w t ≡ arrival_of (offer_answer w (tag_in t) t.port (whole t.value))
+offered op w t two = ap (λ b. cond b (arrival_of (offer_answer w (tag_in t) t.port (whole t.value))) (Fires (One (whole t.value)))) two
+
+-- and these wait afterwards
+waits_offered : (op : Op) (w : Store) (t : PlainToken) → two_ports op ≡ true
+    → waiting_after op w (tag_in t) t.port (whole t.value) ≡ offer_after w (tag_in t) t.port (whole t.value)
+waits_offered op w t two = ap (λ b. cond b (offer_after w (tag_in t) t.port (whole t.value)) w) two
+
+-- a plain token whose offer gave a pair meets its partner
+pub meeting : (op : Op) (w later : Store) (t : PlainToken) (l r v : Plain) → two_ports op ≡ true
+    → offer_answer w (tag_in t) t.port (whole t.value) ≡ pair_of t.port (whole t.value) (whole v)
+    → Pair (whole l) (whole r) ≡ pair_of t.port (whole t.value) (whole v)
+    → later ≡ offer_after w (tag_in t) t.port (whole t.value) → IsMeeting op w later t l r
+meeting op w later t l r v two answer pair after = record {
+  meets = offered op w t two ∙ ap arrival_of (answer ∙ sym pair);
+  waits = after ∙ sym (waits_offered op w t two);
+}
+
+-- it comes to what its operands are shot for
+pub shot_from_meeting : (op : Op) (w later : Store) (t : PlainToken) (l r : Plain) (s : Shot) → IsMeeting op w later t l r
+    → ((u : Tag) (n : Fresh) → fired op u (Two (whole l) (whole r)) n ≡ fired_of s) → IsOwn s t.value → IsNear t.iteration s
+    → IsShot op w later t s
+shot_from_meeting op w later t l r s m fires own near = record {
+  fires = λ i n same. ap (firing_of i (tag_in t) n) m.meets ∙ ap (λ o. fired o (tag_in t) (Two (whole l) (whole r)) n) same ∙ fires (tag_in t) n;
+  went = ap (λ a. verdict_of a (fired_of s)) m.meets ∙ shot_went s;
+  waits = m.waits;
+  own = own;
+  near = near;
+}
+
+-- the outcome of a plain token, where the code has computed its parts
+plain_outcome : (g : Parts) (n : Fresh) (w later : Store) (b : Cells) (t : PlainToken) (i : Instr) (f : Fired) (d : Verdict)
+    → slice_get g.instrs t.instr ≡ Some i → later ≡ waiting_after i.op w (tag_in t) t.port (whole t.value)
+    → f ≡ firing_of i (tag_in t) n (arrival_in i.op w t) → d ≡ verdict_of (arrival_in i.op w t) f
+    → outcome g n w b (Token (tag_in t) t.port (whole t.value)) ≡ record {
+      fired = f;
+      sends = sent (Some i.op) (arcs_on (side_of f) i) (tag_in t) f;
+      step = full_step (Token (tag_in t) t.port (whole t.value)) d;
+      waiting = later;
+      cells = b;
+      made = made_by f;
+      allocated = allocated_by i.op f;
+    }
+plain_outcome g n w later b t i f d there waits fires comes =
+    ap (λ o. at_instr n w b (tag_in t) t.port (whole t.value) o) there
+    ∙ reacted n i (tag_in t) t.port (whole t.value) w later b (arrival_in i.op w t) f d refl waits fires comes
+
+-- the outcome of one that comes to a shot
+pub shot_outcome : (g : Parts) (n : Fresh) (w later : Store) (b : Cells) (t : PlainToken) (i : Instr) (s : Shot)
+    → slice_get g.instrs t.instr ≡ Some i → IsShot i.op w later t s
+    → outcome g n w b (Token (tag_in t) t.port (whole t.value)) ≡ record {
+      fired = fired_of s;
+      sends = sent (Some i.op) (arcs_on (side_of (fired_of s)) i) (tag_in t) (fired_of s);
+      step = Went;
+      waiting = later;
+      cells = b;
+      made = made_by (fired_of s);
+      allocated = allocated_by i.op (fired_of s);
+    }
+shot_outcome g n w later b t i s there shot =
+    plain_outcome g n w later b t i (fired_of s) verdict.Went there shot.waits (sym (shot.fires i n refl)) (sym shot.went)
+
+-- the outcome of one that meets its partner
+pub met_outcome : (g : Parts) (n : Fresh) (w later : Store) (b : Cells) (t : PlainToken) (i : Instr) (l r : Plain)
+    → slice_get g.instrs t.instr ≡ Some i → IsMeeting i.op w later t l r
+    → outcome g n w b (Token (tag_in t) t.port (whole t.value)) ≡ record {
+      fired = fired i.op (tag_in t) (Two (whole l) (whole r)) n;
+      sends = sent (Some i.op) (arcs_on (side_of (fired i.op (tag_in t) (Two (whole l) (whole r)) n)) i) (tag_in t)
+          (fired i.op (tag_in t) (Two (whole l) (whole r)) n);
+      step = full_step (Token (tag_in t) t.port (whole t.value)) (fired_verdict (fired i.op (tag_in t) (Two (whole l) (whole r)) n));
+      waiting = later;
+      cells = b;
+      made = made_by (fired i.op (tag_in t) (Two (whole l) (whole r)) n);
+      allocated = allocated_by i.op (fired i.op (tag_in t) (Two (whole l) (whole r)) n);
+    }
+met_outcome g n w later b t i l r there m =
+    let f = fired i.op (tag_in t) (Two (whole l) (whole r)) n in
+    plain_outcome g n w later b t i f (fired_verdict f) there m.waits
+    (sym (ap (firing_of i (tag_in t) n) m.meets)) (sym (ap (λ a. verdict_of a f) m.meets))
+
+-- the state after a message, by its outcome
+pub state_from_outcome : (g : Parts) (e : ℕ) (s : State) (m : Message) (o : Outcome) → outcome_of g e s m ≡ o
+    → state_after g e s m ≡ record {
+      waiting = o.waiting;
+      cells = o.cells;
+      stamp = next_stamp s m;
+      contexts = s.contexts + o.made;
+      structures = s.structures + o.allocated;
+      events = s.events ++ record {
+        element = e;
+        stamp = next_stamp s m;
+        message = m;
+        fired = o.fired;
+        outputs = numbered e (length s.events) (next_stamp s m) 0 o.sends;
+        step = o.step;
+      } ∷ [];
+    }
+state_from_outcome g e s m o is =
+    ap (λ x. record {
+      waiting = x.waiting;
+      cells = x.cells;
+      stamp = next_stamp s m;
+      contexts = s.contexts + x.made;
+      structures = s.structures + x.allocated;
+      events = s.events ++ record {
+        element = e;
+        stamp = next_stamp s m;
+        message = m;
+        fired = x.fired;
+        outputs = numbered e (length s.events) (next_stamp s m) 0 x.sends;
+        step = x.step;
+      } ∷ [];
+    }) is
+
+-- what is sent for a message, by its outcome
+pub outputs_from_outcome : (g : Parts) (e : ℕ) (s : State) (m : Message) (o : Outcome) → outcome_of g e s m ≡ o
+    → outputs_of g e s m ≡ numbered e (length s.events) (next_stamp s m) 0 o.sends
+outputs_from_outcome g e s m o is = ap (λ x. numbered e (length s.events) (next_stamp s m) 0 x.sends) is
+
+-- a port that takes a kind is one of an instruction that there is
+pub within_kind : (g : Parts) (d : Dest) (k : PortKind) → kind_at g.instrs d ≡ Some k → d.instr < length g.instrs
+within_kind g d k h = at (slice_get g.instrs d.instr) refl h
+  where
+    at : (o : Option Instr) → slice_get g.instrs d.instr ≡ o → option_and_then (λ i. port_kind i.op d.port) o ≡ Some k → d.instr < length g.instrs
+    at None e h = cc
+    at (Some i) e h = slice_get_within g.instrs d.instr i e

@@ -4,3 +4,4 @@ pub mod FitsLemmas
 pub mod SentLemmas
 pub mod OutcomeLemmas
 pub mod ReplaysLemmas
+pub mod ShortLemmas

@@ -1,8 +1,18 @@
 -- The state of an element, as its desk holds it, and the messages that go to its cells.
+use Rattle.std.specs.Prelude.{◌-◌, ◌<◌, ◌^◌, ◌≤◌, ℕ, length}
+use Rattle.id_graph.specs.declared.instr.Instr.{Instr}
+use Rattle.id_tag.specs.declared.plain.Plain.{Plain}
+use Rattle.id_tag.specs.declared.plain.PlainToken.{PlainToken}
+use Rattle.id_tag.specs.Plains.{tag_in, whole}
 use Rattle.id_tag.specs.declared.Payload.{Payload}
 use Rattle.id_tag.specs.declared.Payload.TheVariants.{Read, Write}
 use Rattle.id_element.specs.declared.desk.Desk.{Desk}
-use Rattle.id_element.specs.Steps.{State}
+use Rattle.id_ops.specs.declared.Fired.{Fired}
+use Rattle.id_ops.specs.declared.Operands.TheVariants.{Two}
+use Rattle.id_ops.specs.Operators.{fired}
+use Rattle.id_record.specs.Shootings.{HasLine}
+use Rattle.id_element.specs.Firings.{most_sent}
+use Rattle.id_element.specs.Steps.{State, fresh_numbers}
 
 -- what waits, the cells, the last stamp, how many contexts and structures were made, and the record
 abbrev pub state_of : Desk → State
@@ -24,3 +34,17 @@ IsRead x = ⊥
 abbrev pub IsWrite : Payload → Type 0
 IsWrite (Write c v t) = Unit {0}
 IsWrite x = ⊥
+
+-- all numbers of the event of a plain token at the instruction are small
+pub record IsShort (d : Desk) (i : Instr) (t : PlainToken) (stamp : ℕ) : Type 0 where
+  pub stamp_is : stamp < 2 ^ 32
+  pub position : length d.log.events < 2 ^ 32
+  pub element : d.log.element < 256
+  pub iteration : t.iteration < 2 ^ 32 - 1
+  pub few : most_sent i ≤ 256
+  pub line : HasLine t
+
+-- what the instruction fires on these operands under the tag of a plain token
+abbrev pub fired_by : Desk → Instr → PlainToken → Plain → Plain → Fired
+fired_by d i t l r =
+    fired i.op (tag_in t) (Two (whole l) (whole r)) (fresh_numbers d.log.element d.contexts d.structures)

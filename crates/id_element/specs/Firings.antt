@@ -10,14 +10,19 @@ use Rattle.id_element.specs.declared.step.Arrival.{Arrival}
 use Rattle.id_element.specs.declared.step.Arrival.TheVariants.{Fires, Waits, Blocked}
 use Rattle.id_record.specs.declared.step.Verdict.{Verdict}
 use Rattle.id_record.specs.declared.step.Verdict.TheVariants.{Stuck, Went}
-use Rattle.id_record.specs.declared.line.Reaction.{Reaction}
-use Rattle.id_tag.specs.declared.Value.{Value}
 use Rattle.id_tag.specs.Plains.{whole}
-use Rattle.id_ops.specs.Shots.{fired_of}
+use Rattle.id_tag.specs.Plains.{tag_in}
+use Rattle.id_tag.specs.declared.plain.Plain.{Plain}
+use Rattle.id_tag.specs.declared.plain.PlainToken.{PlainToken}
+use Rattle.id_graph.specs.declared.instr.Op.{Op}
+use Rattle.id_match.specs.Waiting.{Store}
+use Rattle.id_ops.specs.declared.Operands.TheVariants.{Two}
+use Rattle.id_ops.specs.declared.shot.Shot.{Shot as Shots}
+use Rattle.id_ops.specs.Shots.{IsNear, IsOwn, fired_of}
 use Rattle.id_element.specs.declared.step.Reacted.{Reacted}
-use Rattle.id_element.specs.declared.step.Reacted.TheVariants.{Shot, Full}
+use Rattle.id_element.specs.declared.step.Reacted.TheVariants.{Shot, Met, Apart}
 use Rattle.id_record.specs.Sends.{count_started}
-use Rattle.id_element.specs.Steps.{fired_verdict}
+use Rattle.id_element.specs.Steps.{arrival, fired_verdict, waiting_after}
 
 -- what one message at the instruction sends at most: to each destination on a side, and what starts a block, or one
 abbrev pub most_sent : Instr → ℕ
@@ -36,12 +41,25 @@ verdict_of (Fires operands) f = fired_verdict f
 verdict_of Waits f = fired_verdict f
 verdict_of Blocked f = Stuck
 
--- what comes of a token, where this is its reaction unless it is told in short
-abbrev pub reaction_in : Reacted → Reaction → Reaction
-reaction_in (Shot p s) r = record { fired = fired_of s; verdict = Went }
-reaction_in Full r = r
+-- what becomes of a plain token at an operator where these wait
+abbrev pub arrival_in : Op → Store → PlainToken → Arrival
+arrival_in op w t = arrival op w (tag_in t) t.port (whole t.value)
 
--- what comes of it in short names the value of the token
-abbrev pub IsOf : Value → Reacted → Type 0
-IsOf v (Shot p s) = v ≡ whole p
-IsOf v Full = Unit {0}
+-- a plain token comes to this shot, and these wait afterwards
+pub record IsShot (op : Op) (w later : Store) (t : PlainToken) (s : Shots) : Type 0 where
+  pub fires : (i : Instr) (n : Fresh) → i.op ≡ op → firing_of i (tag_in t) n (arrival_in op w t) ≡ fired_of s
+  pub went : verdict_of (arrival_in op w t) (fired_of s) ≡ Went
+  pub waits : later ≡ waiting_after op w (tag_in t) t.port (whole t.value)
+  pub own : IsOwn s t.value
+  pub near : IsNear t.iteration s
+
+-- a plain token meets its partner, these are the operands, and these wait afterwards
+pub record IsMeeting (op : Op) (w later : Store) (t : PlainToken) (l r : Plain) : Type 0 where
+  pub meets : arrival_in op w t ≡ Fires (Two (whole l) (whole r))
+  pub waits : later ≡ waiting_after op w (tag_in t) t.port (whole t.value)
+
+-- this comes of a plain token, and these wait afterwards
+abbrev pub IsReaction : Op → Store → Store → PlainToken → Reacted → Type 0
+IsReaction op w later t (Shot s) = IsShot op w later t s
+IsReaction op w later t (Met l r) = IsMeeting op w later t l r
+IsReaction op w later t Apart = later ≡ w

@@ -6,19 +6,19 @@ ghost use Rattle.id_element.specs.Steps.{readers_of};
 
 use crate::outcome::{
     allocated_by, allocated_by_shot, answer_fired, fill_verdict, fresh_numbers, made_by, most_sent,
-    next_stamp, react, send, send_replies, send_shot,
+    next_stamp, react, react_full, react_plain, send, send_replies, send_shot,
 };
-use crate::step::{Reacted, TakeError};
+use crate::step::{Arrival, Reacted, Short, TakeError};
 use id_bank::{Bank, ReadAnswer, WriteAnswer};
 use id_flight::Queue;
 use id_graph::{Graph, Instr};
 use id_match::Waiting;
-use id_ops::{Fired, Shot};
+use id_ops::{Fired, Operands, Shot};
 use id_record::{
-    Envelope, Handling, NO_REPLIES, Reaction, Record, Replies, Shooting, Verdict, message, tag_of,
-    token_at, value_of,
+    Envelope, Handling, NO_REPLIES, Reaction, Record, Replies, Shooting, Verdict, has_line,
+    message, tag_of, token_at, value_of,
 };
-use id_tag::{Message, Payload, Plain, Tag};
+use id_tag::{Message, Payload, Plain, PlainToken, Tag};
 use id_valid::Valid;
 use std::alloc::{AllocError, Global};
 
@@ -34,28 +34,25 @@ pub(crate) struct Desk<'a> {
     pub(crate) log: Record<'a>,
 }
 
-/// Nothing came of a token.
-const NO_REACTION: Reaction = Reaction {
-    fired: Fired::Nothing,
-    verdict: Verdict::Went,
-};
-
 impl<'a> Desk<'a> {
     ghost use Rattle.std.specs.Prelude.{◌≡◌, ◌+◌, ◌-◌, ◌^◌, ◌<◌, ◌≤◌, ◌++◌, ◌∷◌, [], ◌↔◌, Some, slice_get, length, max};
     ghost use Rattle.std.specs.Prelude.{IfErr, IfOk, OnOk, OnErr, IsTrue};
     ghost use Rattle.id_element.specs.declared.step.TakeError.TheVariants.{StampEnd};
     ghost use Rattle.id_record.specs.Events.{full_step, tag_of, value_of};
     ghost use Rattle.id_element.specs.Fits.{Fits};
-    ghost use Rattle.id_tag.specs.Plains.{whole};
-    ghost use Rattle.id_ops.specs.Shots.{fired_of};
+    ghost use Rattle.id_tag.specs.Plains.{message_of, tag_in};
+    ghost use Rattle.id_ops.specs.Shots.{IsNear, IsOwn, fired_of};
     ghost use Rattle.id_ops.specs.declared.Fired.TheVariants.{Nothing};
     ghost use Rattle.id_record.specs.declared.step.Step.TheVariants.{Went};
     ghost use Rattle.id_record.specs.declared.step.Verdict.TheVariants as verdict;
     ghost use Rattle.id_element.specs.Steps.{allocated_by, answer_fired, answer_sends, fill_sends, fill_verdict, fresh};
+    ghost use Rattle.id_element.specs.Steps.{fired_verdict};
     ghost use Rattle.id_element.specs.Steps.{is_ended, made_by, next_stamp, step_of, outputs_of, readers_of, state_after};
     ghost use Rattle.id_record.specs.Sends.{numbered, sent};
     ghost use Rattle.id_valid.specs.Validator.{IsValid};
-    ghost use Rattle.id_element.specs.Desks.{state_of, IsRead, IsWrite};
+    ghost use Rattle.id_element.specs.Desks.{state_of, IsRead, IsShort, IsWrite, fired_by};
+    ghost use Rattle.id_element.specs.Shorts.{IsHandled, step_in};
+    ghost use Rattle.id_element.specs.declared.step.Short.{Short};
     ghost use Rattle.id_element.specs.Firings.{most_sent};
     ghost use Rattle.id_graph.specs.Graph.{arcs_on, IsGraph};
     ghost use Rattle.id_ops.specs.Operators.{side_of};
@@ -77,6 +74,7 @@ impl<'a> Desk<'a> {
     }
 
     /// Handles a message that fits the graph, and says what it came to: the element step.
+    #[inline(never)]
     pub(crate) fn take(
         &mut self,
         graph: &Graph,
@@ -111,19 +109,76 @@ impl<'a> Desk<'a> {
                 let instr = &graph.instrs()[tag.instr as usize];
                 self.reserve(most_sent(instr), 0, outputs)?;
                 let next = fresh_numbers(self.log.element(), self.contexts, self.structures);
-                let mut full = NO_REACTION;
-                match react(&mut self.waiting, instr, next, tag, port, value, &mut full)? {
-                    Reacted::Shot(plain, shot) => {
-                        Ok(self.conclude_shot(instr, tag, message, stamp, plain, shot, outputs))
-                    }
-                    Reacted::Full => {
-                        Ok(self.conclude(instr, tag, message, stamp, &full, outputs))
-                    }
-                }
+                let reaction = react(&mut self.waiting, instr, next, tag, port, value)?;
+                Ok(self.conclude(instr, tag, message, stamp, &reaction, outputs))
             }
             Payload::Read { .. } => self.take_read(message, stamp, outputs),
             Payload::Write { .. } => self.take_write(message, stamp, outputs),
         }
+    }
+
+    /// Handles a plain token that fits the graph, where that is short, and says what became of it: the element step.
+    #[inline(always)]
+    pub(crate) fn take_plain(
+        &mut self,
+        graph: &Graph,
+        token: &PlainToken,
+        outputs: &mut Queue,
+    ) -> Result<Short, TakeError>
+        requires own { graph.now ≡ self.old.log.graph }
+        requires valid { IsValid graph.now }
+        requires counted { self.old.contexts ≤ self.old.stamp }
+        requires numbered { self.old.structures ≤ self.old.stamp }
+        requires fits { Fits graph.now (message_of token.now) }
+
+        ensures step { IfOk result (λ short. IsHandled short → step_in short (tag_in token.now)
+            ≡ step_of graph.now self.old.log.element (state_of self.old) (message_of token.now)) }
+        ensures state { IfOk result (λ short. IsHandled short → state_of self.new
+            ≡ state_after graph.now self.old.log.element (state_of self.old) (message_of token.now)) }
+        ensures outputs { IfOk result (λ short. IsHandled short → outputs.new.messages
+            ≡ outputs.old.messages
+            ++ outputs_of graph.now self.old.log.element (state_of self.old) (message_of token.now)) }
+        ensures apart { result ≡ Ok Short.Apart → state_of self.new ≡ state_of self.old }
+        ensures apart_outputs { result ≡ Ok Short.Apart → outputs.new.messages ≡ outputs.old.messages }
+        ensures number { self.new.log.element ≡ self.old.log.element }
+        ensures graph { self.new.log.graph ≡ self.old.log.graph }
+        ensures left { OnOk result (token.now.stamp < 2 ^ 64 - 1) }
+        ensures last_left { OnOk result (self.old.stamp < 2 ^ 64 - 1) }
+
+        ensures end { (result ≡ Err StampEnd) ↔ IsTrue (is_ended (state_of self.old) (message_of token.now)) }
+        ensures err { OnErr result (state_of self.new ≡ state_of self.old) }
+        ensures err_outputs { OnErr result (outputs.new.messages ≡ outputs.old.messages) }
+    {
+        let stamp = next_stamp(self.stamp, u64::from(token.stamp))?;
+        let instr = &graph.instrs()[token.instr as usize];
+        if !self.is_short(instr, token, stamp) {
+            return Ok(Short::Apart);
+        }
+        self.reserve(most_sent(instr), 0, outputs)?;
+        match react_plain(&mut self.waiting, instr.op, token)? {
+            Reacted::Shot(shot) => {
+                self.conclude_shot(instr, token, stamp as u32, shot, outputs);
+                Ok(Short::Went)
+            }
+            Reacted::Met(left, right) => {
+                let copy = *token;
+                Ok(self.conclude_met(instr, &copy, stamp, left, right, outputs))
+            }
+            Reacted::Apart => Ok(Short::Apart),
+        }
+    }
+
+    /// Whether all numbers of this event are small.
+    #[inline(always)]
+    fn is_short(&self, instr: &Instr, token: &PlainToken, stamp: u64) -> bool
+        ensures { IsTrue result → IsShort self.now instr.now token.now stamp }
+    {
+        stamp <= 0xffff_ffff
+            && self.log.len() <= 0xffff_ffff
+            && self.log.element() <= 0xff
+            && token.iteration < 0xffff_ffff
+            && most_sent(instr) <= 0x100
+            && has_line(token)
     }
 
     /// Handles a read: the element step where a stamp is left, which is this one.
@@ -286,25 +341,23 @@ impl<'a> Desk<'a> {
     fn conclude_shot(
         &mut self,
         instr: &Instr,
-        tag: Tag,
-        message: &Message,
-        stamp: u64,
-        plain: Plain,
+        token: &PlainToken,
+        stamp: u32,
         shot: Shot,
         outputs: &mut Queue,
-    ) -> Verdict
+    )
         requires room { 0 < self.old.log.room }
         requires room_aside { 0 < self.old.log.room_aside }
-        requires value { value_of message.now.payload ≡ whole plain }
-        requires own { slice_get self.old.log.graph.instrs (tag_of message.now.payload).instr ≡ Some instr.now }
-        requires tag { tag ≡ tag_of message.now.payload }
+        requires short { IsShort self.old instr.now token.now stamp }
+        requires own_value { IsOwn shot token.now.value }
+        requires near { IsNear token.now.iteration shot }
+        requires own { slice_get self.old.log.graph.instrs token.now.instr ≡ Some instr.now }
         requires room_in_outputs { most_sent instr.now ≤ outputs.old.room }
         requires graph { IsGraph self.old.log.graph }
         requires valid { IsValid self.old.log.graph }
         requires counted { self.old.contexts + 1 < 2 ^ 64 }
         requires numbered { self.old.structures + 1 < 2 ^ 64 }
 
-        ensures verdict { result ≡ verdict.Went }
         ensures waiting { self.new.waiting ≡ self.old.waiting }
         ensures cells { self.new.cells ≡ self.old.cells }
         ensures stamp { self.new.stamp ≡ stamp }
@@ -315,31 +368,87 @@ impl<'a> Desk<'a> {
         ensures events { self.new.log.events ≡ self.old.log.events ++ record {
           element = self.old.log.element;
           stamp = stamp;
-          message = message.now;
+          message = message_of token.now;
           fired = fired_of shot;
           outputs = numbered self.old.log.element (length self.old.log.events) stamp 0
-              (sent (Some instr.now.op) (arcs_on (side_of (fired_of shot)) instr.now) tag (fired_of shot));
-          step = full_step message.now.payload verdict.Went;
+              (sent (Some instr.now.op) (arcs_on (side_of (fired_of shot)) instr.now) (tag_in token.now) (fired_of shot));
+          step = Went;
         } ∷ [] }
         ensures outputs { outputs.new.messages ≡ outputs.old.messages
             ++ numbered self.old.log.element (length self.old.log.events) stamp 0
-            (sent (Some instr.now.op) (arcs_on (side_of (fired_of shot)) instr.now) tag (fired_of shot)) }
+            (sent (Some instr.now.op) (arcs_on (side_of (fired_of shot)) instr.now) (tag_in token.now) (fired_of shot)) }
     {
-        let envelope = Envelope {
-            number: self.log.element(),
-            position: self.log.len(),
+        let sample = PlainToken {
+            position: self.log.len() as u32,
             stamp,
+            sender: self.log.element() as u8,
+            ..*token
         };
-        send_shot(instr, tag, shot, envelope, outputs);
-        self.log.push_shot(Shooting {
-            message,
-            value: plain,
-            stamp,
-            shot,
-        });
-        self.stamp = stamp;
+        send_shot(instr, &sample, shot, outputs);
+        self.log.push_shot(Shooting { token, stamp, shot });
+        self.stamp = u64::from(stamp);
         self.structures += allocated_by_shot(instr.op, shot);
-        Verdict::Went
+    }
+
+    /// Fires the operands that a plain token and its partner are, sends what comes of them, and records the event. There
+    /// is room for it. Takes no memory.
+    #[inline(never)]
+    fn conclude_met(
+        &mut self,
+        instr: &Instr,
+        token: &PlainToken,
+        stamp: u64,
+        left: Plain,
+        right: Plain,
+        outputs: &mut Queue,
+    ) -> Short
+        requires room { 0 < self.old.log.room }
+        requires room_aside { 0 < self.old.log.room_aside }
+        requires own { slice_get self.old.log.graph.instrs token.now.instr ≡ Some instr.now }
+        requires iteration { token.now.iteration < 2 ^ 32 - 1 }
+        requires room_in_outputs { most_sent instr.now ≤ outputs.old.room }
+        requires graph { IsGraph self.old.log.graph }
+        requires valid { IsValid self.old.log.graph }
+        requires counted { self.old.contexts + 1 < 2 ^ 64 }
+        requires numbered { self.old.structures + 1 < 2 ^ 64 }
+
+        ensures handled { IsHandled result }
+        ensures verdict { step_in result (tag_in token.now)
+            ≡ full_step (message_of token.now).payload (fired_verdict (fired_by self.old instr.now token.now left right)) }
+        ensures waiting { self.new.waiting ≡ self.old.waiting }
+        ensures cells { self.new.cells ≡ self.old.cells }
+        ensures stamp { self.new.stamp ≡ stamp }
+        ensures contexts { self.new.contexts
+            ≡ self.old.contexts + made_by (fired_by self.old instr.now token.now left right) }
+        ensures structures { self.new.structures
+            ≡ self.old.structures + allocated_by instr.now.op (fired_by self.old instr.now token.now left right) }
+        ensures number { self.new.log.element ≡ self.old.log.element }
+        ensures graph { self.new.log.graph ≡ self.old.log.graph }
+        ensures events { self.new.log.events ≡ self.old.log.events ++ record {
+          element = self.old.log.element;
+          stamp = stamp;
+          message = message_of token.now;
+          fired = fired_by self.old instr.now token.now left right;
+          outputs = numbered self.old.log.element (length self.old.log.events) stamp 0
+              (sent (Some instr.now.op) (arcs_on (side_of (fired_by self.old instr.now token.now left right)) instr.now)
+              (tag_in token.now) (fired_by self.old instr.now token.now left right));
+          step = full_step (message_of token.now).payload
+              (fired_verdict (fired_by self.old instr.now token.now left right));
+        } ∷ [] }
+        ensures outputs { outputs.new.messages ≡ outputs.old.messages
+            ++ numbered self.old.log.element (length self.old.log.events) stamp 0
+            (sent (Some instr.now.op) (arcs_on (side_of (fired_by self.old instr.now token.now left right)) instr.now)
+            (tag_in token.now) (fired_by self.old instr.now token.now left right)) }
+    {
+        let next = fresh_numbers(self.log.element(), self.contexts, self.structures);
+        let arrival = Arrival::Fires(Operands::Two(left.value(), right.value()));
+        let reaction = react_full(instr, next, token.tag(), &arrival);
+        let message = token.message();
+        match self.conclude(instr, token.tag(), &message, stamp, &reaction, outputs) {
+            Verdict::Failed(fault) => Short::Failed(fault),
+            Verdict::Went => Short::Went,
+            Verdict::Stuck | Verdict::Second(_) => unreachable!(),
+        }
     }
 
     /// Sends the answer to a read, if it has one, and records the event. There is room for it. Takes no memory.

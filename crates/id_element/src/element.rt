@@ -2,13 +2,16 @@
 
 ghost use Rattle.std.specs.Prelude.{◌≡◌, ◌↔◌, IsTrue};
 ghost use Rattle.id_record.specs.declared.step.Step.TheVariants.{Went};
+ghost use Rattle.id_element.specs.Shorts.{IsHandled, step_in};
+ghost use Rattle.id_element.specs.declared.step.Short.{Short};
+ghost use Rattle.id_tag.specs.declared.Tag.{Tag};
 
 use crate::desk::Desk;
-use crate::step::TakeError;
+use crate::step::{Short, TakeError};
 use id_bank::{Filled, Reader};
 use id_flight::Queue;
 use id_record::{Events, Step, full_step};
-use id_tag::Message;
+use id_tag::{Message, PlainToken};
 use id_valid::Valid;
 use std::alloc::{AllocError, Global};
 use std::marker::Model;
@@ -46,7 +49,7 @@ impl<'a> Model for Element<'a> {
 }
 
 impl<'a> Element<'a> {
-    ghost use Rattle.std.specs.Prelude.{◌≡◌, ◌<◌, ◌≤◌, ◌++◌, ◌↔◌, All, IfOk, OnOk, OnErr, IsTrue};
+    ghost use Rattle.std.specs.Prelude.{◌≡◌, ◌<◌, ◌≤◌, ◌-◌, ◌^◌, ◌==◌, ◌||◌, ◌++◌, ◌↔◌, All, IfOk, OnOk, OnErr, IsTrue};
     ghost use Rattle.std.specs.FinMap.{empty};
     ghost use Rattle.id_element.specs.declared.step.TakeError.TheVariants.{StampEnd};
     ghost use Rattle.id_record.specs.Events.{AllWent};
@@ -54,6 +57,9 @@ impl<'a> Element<'a> {
     ghost use Rattle.id_element.specs.Replays.{Replays};
     ghost use Rattle.id_bank.specs.Cells.{cells_of, deferred_of};
     ghost use Rattle.id_element.specs.Steps.{fresh, is_ended, step_of, outputs_of, state_after};
+    ghost use Rattle.id_element.specs.Shorts.{IsHandled, step_in};
+    ghost use Rattle.id_element.specs.declared.step.Short.{Short};
+    ghost use Rattle.id_tag.specs.Plains.{message_of, tag_in};
 
     /// The element of this number, of so many, that has handled nothing. Takes no memory.
     pub fn new(alloc: Global, number: u32, count: u32, graph: &'a Valid) -> Element<'a>
@@ -95,6 +101,46 @@ impl<'a> Element<'a> {
         let step = full_step(&message.payload, verdict);
         self.went = still_went(self.went, &step);
         Ok(step)
+    }
+
+    /// Handles a plain token that is for this element, as `take` does, where that is short, and says what became of it.
+    /// After an error, and where it is not short, nothing has changed.
+    #[inline(always)]
+    pub fn take_plain(
+        &mut self,
+        token: &PlainToken,
+        outputs: &mut Queue,
+    ) -> Result<Short, TakeError>
+        requires { IsFor self.old.graph self.old.count self.old.number (message_of token.now) }
+
+        ensures step { IfOk result (λ short. IsHandled short → step_in short (tag_in token.now)
+            ≡ step_of self.old.graph self.old.number self.old.state (message_of token.now)) }
+        ensures state { IfOk result (λ short. IsHandled short → self.new ≡ record self.old {
+          state = state_after self.old.graph self.old.number self.old.state (message_of token.now);
+        }) }
+        ensures outputs { IfOk result (λ short. IsHandled short → outputs.new.messages
+            ≡ outputs.old.messages ++ outputs_of self.old.graph self.old.number self.old.state (message_of token.now)) }
+        ensures fits { OnOk result (All (Fits self.old.graph)
+            (outputs_of self.old.graph self.old.number self.old.state (message_of token.now))) }
+        ensures apart { result ≡ Ok Short.Apart → self.new ≡ self.old }
+        ensures apart_outputs { result ≡ Ok Short.Apart → outputs.new.messages ≡ outputs.old.messages }
+
+        ensures end { (result ≡ Err StampEnd) ↔ IsTrue (is_ended self.old.state (message_of token.now)) }
+        ensures err { OnErr result (self.new ≡ self.old) }
+        ensures err_outputs { OnErr result (outputs.new.messages ≡ outputs.old.messages) }
+    {
+        let graph = self.desk.log.graph();
+        let short = self.desk.take_plain(graph.graph(), token, outputs)?;
+        self.went = still_short(self.went, short);
+        Ok(short)
+    }
+
+    /// Whether no stamp is left after this one. Takes no memory.
+    #[inline(always)]
+    pub fn is_ended_at(&self, stamp: u64) -> bool
+        ensures { result ≡ ((self.now.state.stamp == 2 ^ 64 - 1) || (stamp == 2 ^ 64 - 1)) }
+    {
+        self.desk.stamp == u64::MAX || stamp == u64::MAX
     }
 
     /// Whether no stamp is left for the message. Takes no memory.
@@ -140,6 +186,18 @@ impl<'a> Element<'a> {
         ensures kept { Replays self.now }
     {
         self.desk.log.events()
+    }
+}
+
+/// Whether every event went well, that of a plain token taken in, if it was handled.
+#[inline(always)]
+fn still_short(went: bool, short: Short) -> bool
+    ensures handled { IsHandled short → (t : Tag) → (IsTrue result ↔ (IsTrue went × (step_in short t ≡ Went))) }
+    ensures apart { short ≡ Short.Apart → result ≡ went }
+{
+    match short {
+        Short::Failed(_) => false,
+        Short::Went | Short::Apart => went,
     }
 }
 

@@ -15,4 +15,4 @@ mod step;
 
 pub use element::Element;
 pub use fitting::{fits, op_at};
-pub use step::TakeError;
+pub use step::{Short, TakeError};

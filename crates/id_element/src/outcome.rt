@@ -1,7 +1,7 @@
 //! What a token does at its instruction, and what is sent for it (docs/MACHINE.md, "Element step").
 
 ghost use Rattle.std.specs.Prelude.{Some, ◌≡◌, ◌+◌, ◌-◌, ◌^◌, ◌<◌, ◌≤◌, ◌++◌, ◌||◌, ◌==◌, length, max};
-ghost use Rattle.std.specs.Prelude.{IfOk, OnOk, OnErr, IfErr, IfSome, IsTrue, false, if◌then◌else◌, map};
+ghost use Rattle.std.specs.Prelude.{IfOk, OnOk, OnErr, IfErr, IsTrue, true, false, if◌then◌else◌, map};
 ghost use Rattle.id_bank.specs.Cells.{Cells};
 ghost use Rattle.id_element.specs.Steps.{allocated_by, answer_fired, arrival, at_instr, fill_verdict, fresh_numbers};
 ghost use Rattle.id_element.specs.Steps.{made_by, waiting_after};
@@ -11,7 +11,12 @@ ghost use Rattle.id_tag.specs.declared.Payload.TheVariants.{Token};
 ghost use Rattle.id_record.specs.declared.step.Verdict.TheVariants as verdict;
 ghost use Rattle.id_record.specs.Events.{full_step};
 ghost use Rattle.id_tag.specs.Tags.{same_tag};
-ghost use Rattle.id_element.specs.Firings.{IsOf, firing_of, most_sent, reaction_in, verdict_of};
+ghost use Rattle.id_element.specs.Firings.{IsReaction, firing_of, most_sent, verdict_of};
+ghost use Rattle.id_graph.specs.Ports.{two_ports};
+ghost use Rattle.id_match.specs.Waiting.{Store, offer_after, offer_answer, pair_of};
+ghost use Rattle.id_match.specs.declared.Offered.TheVariants.{Pair};
+ghost use Rattle.id_tag.specs.Plains.{message_of, tag_in, whole};
+ghost use Rattle.id_ops.specs.Shots.{IsNear};
 ghost use Rattle.id_element.specs.Steps.{fired_verdict};
 ghost use Rattle.id_graph.specs.declared.instr.Instr.{Instr};
 ghost use Rattle.id_tag.specs.declared.Tag.{Tag};
@@ -26,13 +31,13 @@ use crate::step::{Arrival, Reacted, TakeError};
 use id_bank::{ReadAnswer, WriteAnswer};
 use id_flight::Queue;
 use id_graph::{Dest, Instr, Op, Port};
-use id_match::{Offered, Waiting};
+use id_match::{Met, Offered, Waiting};
 use id_ops::{Fired, Fresh, Operands, Shot, fire, shoot_one, shoot_two};
 use id_record::{
     Envelope, Reaction, Record, Verdict, chosen, count_started, message, moved_to, start, token_at,
     token_to,
 };
-use id_tag::{Context, Payload, Tag, Value, plain_of};
+use id_tag::{Context, Payload, Plain, PlainToken, Tag, Value};
 use std::alloc::AllocError;
 
 /// The stamp of the next event, one above both, where there is one.
@@ -61,7 +66,6 @@ pub(crate) fn most_sent(instr: &Instr) -> usize
 }
 
 /// Lets a token come to its instruction, at an element with these next numbers. After an error nothing has changed.
-#[inline(always)]
 pub(crate) fn react(
     waiting: &mut Waiting,
     instr: &Instr,
@@ -69,108 +73,97 @@ pub(crate) fn react(
     tag: Tag,
     port: Port,
     value: Value,
-    full: &mut Reaction,
-) -> Result<Reacted, AllocError>
+) -> Result<Reaction, AllocError>
     requires { tag.iteration < 2 ^ 64 - 1 }
     ensures outcome { IfOk result (λ r. (b : Cells) → at_instr next waiting.old b tag port value (Some instr.now)
         ≡ record {
-          fired = (reaction_in r full.new).fired;
-          sends = sent (Some instr.now.op) (arcs_on (side_of (reaction_in r full.new).fired) instr.now) tag
-              (reaction_in r full.new).fired;
-          step = full_step (Token tag port value) (reaction_in r full.new).verdict;
+          fired = r.fired;
+          sends = sent (Some instr.now.op) (arcs_on (side_of r.fired) instr.now) tag r.fired;
+          step = full_step (Token tag port value) r.verdict;
           waiting = waiting.new;
           cells = b;
-          made = made_by (reaction_in r full.new).fired;
-          allocated = allocated_by instr.now.op (reaction_in r full.new).fired;
+          made = made_by r.fired;
+          allocated = allocated_by instr.now.op r.fired;
         }) }
-    ensures value { IfOk result (IsOf value) }
     ensures err { OnErr result (waiting.new ≡ waiting.old) }
 {
     let arrival = arrive(waiting, instr.op, tag, port, value)?;
-    Ok(reacted(instr, next, tag, &value, &arrival, full))
-}
-
-/// What comes of what arrived, in short where that is in reach.
-#[inline(always)]
-fn reacted(
-    instr: &Instr,
-    next: Fresh,
-    tag: Tag,
-    value: &Value,
-    arrival: &Arrival,
-    full: &mut Reaction,
-) -> Reacted
-    requires { tag.iteration < 2 ^ 64 - 1 }
-    ensures fired { (reaction_in result full.new).fired ≡ firing_of instr.now tag next arrival.now }
-    ensures verdict { (reaction_in result full.new).verdict
-        ≡ verdict_of arrival.now (reaction_in result full.new).fired }
-    ensures value { IsOf value.now result }
-{
-    match (plain_of(value), shot(instr.op, tag.iteration, arrival)) {
-        (Some(plain), Some(shot)) => Reacted::Shot(plain, shot),
-        _ => {
-            react_full(instr, next, tag, arrival, full);
-            Reacted::Full
-        }
-    }
+    Ok(react_full(instr, next, tag, &arrival))
 }
 
 /// What comes of what arrived, in full.
-#[inline(never)]
-fn react_full(instr: &Instr, next: Fresh, tag: Tag, arrival: &Arrival, full: &mut Reaction)
+pub(crate) fn react_full(instr: &Instr, next: Fresh, tag: Tag, arrival: &Arrival) -> Reaction
     requires { tag.iteration < 2 ^ 64 - 1 }
-    ensures fired { full.new.fired ≡ firing_of instr.now tag next arrival.now }
-    ensures verdict { full.new.verdict ≡ verdict_of arrival.now full.new.fired }
+    ensures fired { result.fired ≡ firing_of instr.now tag next arrival.now }
+    ensures verdict { result.verdict ≡ verdict_of arrival.now result.fired }
 {
-    full.fired = firing(instr, tag, next, arrival);
-    full.verdict = verdict(arrival, &full.fired);
+    let fired = firing(instr, tag, next, arrival);
+    let verdict = verdict(arrival, &fired);
+    Reaction { fired, verdict }
 }
 
-/// What comes of what arrived at an operator at this iteration, in short: where nothing fires since the token waits, and
-/// where plain operands have a plain value sent.
+/// Lets a plain token come to its instruction, in short where that is in reach: where nothing fires since the token
+/// waits, and where plain operands have a plain value sent.
 #[inline(always)]
-fn shot(op: Op, iteration: u64, arrival: &Arrival) -> Option<Shot>
-    requires { iteration < 2 ^ 64 - 1 }
-    ensures fires { IfSome result (λ s. (i : Instr) (t : Tag) (next : Fresh) → i.op ≡ op → t.iteration ≡ iteration
-        → firing_of i t next arrival.now ≡ fired_of s) }
-    ensures went { IfSome result (λ s. verdict_of arrival.now (fired_of s) ≡ verdict.Went) }
+pub(crate) fn react_plain(
+    waiting: &mut Waiting,
+    op: Op,
+    token: &PlainToken,
+) -> Result<Reacted, AllocError>
+    ensures reaction { IfOk result (IsReaction op waiting.old waiting.new token.now) }
+    ensures err { OnErr result (waiting.new ≡ waiting.old) }
 {
-    match *arrival {
-        Arrival::Fires(Operands::One(operand)) => shot_one(op, iteration, &operand),
-        Arrival::Fires(Operands::Two(left, right)) => shot_two(op, &left, &right),
-        Arrival::Waits => Some(Shot::Nothing),
-        Arrival::Blocked => None,
+    if !op.two_ports() {
+        return Ok(fires(op, token));
+    }
+    match waiting.offer_plain(token)? {
+        Met::Kept => Ok(Reacted::Shot(Shot::Nothing)),
+        Met::Apart => Ok(Reacted::Apart),
+        Met::Partner(partner) => Ok(met(op, token, partner)),
     }
 }
 
-/// What an operator of one port sends for an operand, in short.
+/// What comes of a plain token at an operator of one port.
 #[inline(always)]
-fn shot_one(op: Op, iteration: u64, operand: &Value) -> Option<Shot>
-    requires { iteration < 2 ^ 64 - 1 }
-    ensures fires { IfSome result (λ s. (t : Tag) (next : Fresh) → t.iteration ≡ iteration
-        → fired op t (One operand.now) next ≡ fired_of s) }
-    ensures went { IfSome result (λ s. fired_verdict (fired_of s) ≡ verdict.Went) }
+fn fires(op: Op, token: &PlainToken) -> Reacted
+    requires { two_ports op ≡ false }
+    ensures { (w : Store) → IsReaction op w w token.now result }
 {
-    match plain_of(operand) {
-        Some(plain) => shoot_one(op, iteration, plain),
-        None => None,
+    match shoot_one(op, u64::from(token.iteration), token.value) {
+        Some(shot) => Reacted::Shot(shot),
+        None => Reacted::Apart,
     }
 }
 
-/// What an operator of two ports sends for its operands, in short.
+/// What comes of a plain token that met its partner.
 #[inline(always)]
-fn shot_two(op: Op, left: &Value, right: &Value) -> Option<Shot>
-    ensures fires { IfSome result (λ s. (t : Tag) (next : Fresh) → fired op t (Two left.now right.now) next ≡ fired_of s) }
-    ensures went { IfSome result (λ s. fired_verdict (fired_of s) ≡ verdict.Went) }
+fn met(op: Op, token: &PlainToken, partner: Plain) -> Reacted
+    requires { two_ports op ≡ true }
+    ensures { (w later : Store)
+        → offer_answer w (tag_in token.now) token.now.port (whole token.now.value)
+        ≡ pair_of token.now.port (whole token.now.value) (whole partner)
+        → later ≡ offer_after w (tag_in token.now) token.now.port (whole token.now.value)
+        → IsReaction op w later token.now result }
 {
-    match (plain_of(left), plain_of(right)) {
-        (Some(left), Some(right)) => shoot_two(op, left, right),
-        _ => None,
+    let (left, right) = by_port(token.port, token.value, partner);
+    match shoot_two(op, left, right) {
+        Some(shot) => Reacted::Shot(shot),
+        None => Reacted::Met(left, right),
+    }
+}
+
+/// The two values by port, of which `value` came to this port.
+#[inline(always)]
+fn by_port(port: Port, value: Plain, partner: Plain) -> (Plain, Plain)
+    ensures { Pair (whole result.0) (whole result.1) ≡ pair_of port (whole value) (whole partner) }
+{
+    match port {
+        Port::Zero => (value, partner),
+        Port::One => (partner, value),
     }
 }
 
 /// Fires an instruction of one port, and offers a token for one of two ports. After an error nothing has changed.
-#[inline(always)]
 fn arrive(
     waiting: &mut Waiting,
     op: Op,
@@ -193,7 +186,6 @@ fn arrive(
 }
 
 /// What the instruction does with what arrived: nothing where the token waits or is blocked.
-#[inline(always)]
 fn firing(instr: &Instr, tag: Tag, next: Fresh, arrival: &Arrival) -> Fired
     requires { tag.iteration < 2 ^ 64 - 1 }
     ensures { result ≡ firing_of instr.now tag next arrival.now }
@@ -222,7 +214,6 @@ pub(crate) fn fresh_numbers(number: u32, contexts: u64, structures: u64) -> Fres
 }
 
 /// How many contexts a firing takes. Takes no memory.
-#[inline(always)]
 pub(crate) fn made_by(fired: &Fired) -> u64
     ensures { result ≡ made_by fired.now }
 {
@@ -233,7 +224,6 @@ pub(crate) fn made_by(fired: &Fired) -> u64
 }
 
 /// How many structures a firing of the operator takes. Takes no memory.
-#[inline(always)]
 pub(crate) fn allocated_by(op: Op, fired: &Fired) -> u64
     ensures { result ≡ allocated_by op fired.now }
 {
@@ -289,7 +279,6 @@ fn second_verdict(first: Tag, origin: Tag) -> Verdict
 }
 
 /// What the record keeps of an event.
-#[inline(always)]
 fn verdict(arrival: &Arrival, fired: &Fired) -> Verdict
     ensures { result ≡ verdict_of arrival.now fired.now }
 {
@@ -303,7 +292,6 @@ fn verdict(arrival: &Arrival, fired: &Fired) -> Verdict
 }
 
 /// Appends the outputs of a firing, for which there is room. Takes no memory.
-#[inline(always)]
 pub(crate) fn send(instr: &Instr, tag: Tag, fired: &Fired, envelope: Envelope, outputs: &mut Queue)
     requires room { most_sent instr.now ≤ outputs.old.room }
     requires second { HasSecond (Some instr.now.op) }
@@ -342,31 +330,69 @@ pub(crate) fn send(instr: &Instr, tag: Tag, fired: &Fired, envelope: Envelope, o
     }
 }
 
-/// Appends the outputs of a shot, for which there is room. Takes no memory.
+/// Appends the outputs of a shot, for which there is room: each is like this token. Takes no memory.
 #[inline(always)]
-pub(crate) fn send_shot(
-    instr: &Instr,
-    tag: Tag,
-    shot: Shot,
-    envelope: Envelope,
-    outputs: &mut Queue,
-)
-    requires { most_sent instr.now ≤ outputs.old.room }
-    ensures { outputs.new.messages ≡ outputs.old.messages ++ numbered envelope.number envelope.position envelope.stamp 0
-        (sent (Some instr.now.op) (arcs_on (side_of (fired_of shot)) instr.now) tag (fired_of shot)) }
+pub(crate) fn send_shot(instr: &Instr, like: &PlainToken, shot: Shot, outputs: &mut Queue)
+    requires room { most_sent instr.now ≤ outputs.old.room }
+    requires few { most_sent instr.now ≤ 256 }
+    requires near { IsNear like.now.iteration shot }
+    requires iteration { like.now.iteration < 2 ^ 32 - 1 }
+    ensures { outputs.new.messages ≡ outputs.old.messages ++ numbered like.now.sender like.now.position like.now.stamp 0
+        (sent (Some instr.now.op) (arcs_on (side_of (fired_of shot)) instr.now) (tag_in like.now) (fired_of shot)) }
 {
     let dests = instr.dests.as_slice();
     let others = instr.others.as_slice();
     match shot {
         Shot::Nothing => {}
-        Shot::Out(plain) | Shot::Side(true, plain) => {
-            send_all(dests, tag, plain.value(), envelope, outputs)
+        Shot::Out(value) | Shot::Side(true, value) => {
+            send_plain(dests, &PlainToken { value, ..*like }, outputs)
         }
-        Shot::Side(false, plain) => send_all(others, tag, plain.value(), envelope, outputs),
-        Shot::Moved(iteration, plain) => {
-            let moved = moved_to(tag, iteration);
-            send_all(dests, moved, plain.value(), envelope, outputs)
+        Shot::Side(false, value) => send_plain(others, &PlainToken { value, ..*like }, outputs),
+        Shot::Moved(iteration, value) => {
+            let iteration = iteration as u32;
+            send_plain(
+                dests,
+                &PlainToken {
+                    value,
+                    iteration,
+                    ..*like
+                },
+                outputs,
+            )
         }
+    }
+}
+
+/// Appends one plain token for each destination, in order, each like this one.
+#[inline(always)]
+fn send_plain(dests: &[Dest], like: &PlainToken, outputs: &mut Queue)
+    requires room { length dests.now ≤ outputs.old.room }
+    requires few { length dests.now ≤ 256 }
+    ensures { outputs.new.messages ≡ outputs.old.messages ++ numbered like.now.sender like.now.position like.now.stamp 0
+        (map (token_to (tag_in like.now) (whole like.now.value)) dests.now) }
+{
+    for (number, dest) in dests.iter().enumerate() {
+        outputs.push_plain_reserved(&plain_to(like, *dest, number));
+    }
+}
+
+/// A plain token for a destination, with this number, and else like this one.
+#[inline(always)]
+fn plain_to(like: &PlainToken, dest: Dest, number: usize) -> PlainToken
+    requires { number < 256 }
+    ensures { message_of result ≡ record {
+      payload = token_to (tag_in like.now) (whole like.now.value) dest;
+      sender = Element like.now.sender;
+      position = like.now.position;
+      output = number;
+      stamp = like.now.stamp;
+    } }
+{
+    PlainToken {
+        instr: dest.instr,
+        port: dest.port,
+        output: number as u8,
+        ..*like
     }
 }
 
@@ -395,7 +421,6 @@ fn send_start(
 }
 
 /// Appends one token for each destination, in order.
-#[inline(always)]
 fn send_all(dests: &[Dest], tag: Tag, value: Value, envelope: Envelope, outputs: &mut Queue)
     requires { length dests.now ≤ outputs.old.room }
     ensures messages { outputs.new.messages

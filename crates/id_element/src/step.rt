@@ -2,6 +2,7 @@
 
 use id_ops::{Operands, Shot};
 use id_tag::Plain;
+use id_value::FaultKind;
 use std::alloc::{AllocError, AllocFailed};
 use thiserror::Error;
 
@@ -49,10 +50,24 @@ pub(crate) enum Arrival {
     Blocked,
 }
 
-/// What comes of a token at its instruction: in short where its value is plain and so is what is sent, and else in full,
-/// in a place that was lent for it. A reaction is too large to be handed from call to call for each token.
+/// What comes of a plain token at its instruction, in short.
 #[derive(Clone, Copy)]
 pub(crate) enum Reacted {
-    Shot(Plain, Shot),
-    Full,
+    /// A plain value is sent, or nothing.
+    Shot(Shot),
+    /// It met its partner, and these operands, by port, have something else come of them.
+    Met(Plain, Plain),
+    /// Something else comes of it, and nothing has changed yet.
+    Apart,
+}
+
+/// What became of a plain token.
+#[derive(Clone, Copy)]
+pub enum Short {
+    /// It was handled, and all went well.
+    Went,
+    /// It was handled, and its instruction failed.
+    Failed(FaultKind),
+    /// It was not handled, and nothing has changed: it is to be handled as any message.
+    Apart,
 }

@@ -1,15 +1,18 @@
 //! How a queue keeps a message: in one parcel of 64 bytes, or aside where it does not fit in one.
 
-ghost use Rattle.std.specs.Prelude.{◌≡◌, IfSome, Some};
+ghost use Rattle.std.specs.Prelude.{◌≡◌, IfSome, List, Some};
+ghost use Rattle.id_tag.specs.declared.Message.{Message};
 ghost use Rattle.id_tag.specs.declared.Tag.{Tag};
 ghost use Rattle.id_tag.specs.declared.Value.TheVariants as value;
 ghost use Rattle.id_tag.specs.declared.Payload.TheVariants.{Token, Read, Write};
 ghost use Rattle.id_graph.specs.declared.dests.Port.{Port};
 ghost use Rattle.id_flight.specs.declared.parcel.What.TheVariants.{Aside};
 ghost use Rattle.id_flight.specs.Parcels.{IsPacked, IsWithin, cell_in, own, said, structure_in, tag_in, unpacked};
+ghost use Rattle.id_tag.specs.declared.plain.Plain.{Plain};
+ghost use Rattle.id_tag.specs.Plains.{message_of, whole};
 
 use id_graph::Port;
-use id_tag::{Cell, Context, Message, Payload, Sender, Structure, Tag, Value};
+use id_tag::{Cell, Context, Message, Payload, Plain, PlainToken, Sender, Structure, Tag, Value};
 
 /// A message in 64 bytes: most numbers of a run need no more than 32 bits, and there are no more than 64 elements.
 #[derive(Clone, Copy)]
@@ -70,6 +73,70 @@ pub(crate) fn packed(message: &Message) -> Option<Parcel>
             Some(what) => narrowed(message, origin, Port::Zero, what),
             None => None,
         },
+    }
+}
+
+/// The parcel of a plain token.
+#[inline(always)]
+pub(crate) fn packed_plain(token: &PlainToken) -> Parcel
+    ensures { IsPacked (message_of token.now) result }
+{
+    let what = carried_plain(token.value);
+    Parcel {
+        what,
+        serial: token.serial,
+        iteration: token.iteration,
+        instr: token.instr,
+        position: token.position,
+        stamp: token.stamp,
+        element: token.element,
+        sender: token.sender,
+        output: token.output,
+        port: token.port,
+    }
+}
+
+/// What a token with this value says.
+#[inline(always)]
+fn carried_plain(value: Plain) -> What
+    ensures { (t : Tag) (q : Port) → said t q result ≡ Some (Token t q (whole value)) }
+{
+    match value {
+        Plain::Signal => What::Signal,
+        Plain::Int(number) => What::Int(number),
+        Plain::Bool(truth) => What::Bool(truth),
+    }
+}
+
+/// The plain token of a parcel, where it is one.
+#[inline(always)]
+pub(crate) fn plain_in(parcel: &Parcel) -> Option<PlainToken>
+    ensures { IfSome result (λ t. (asides : List Message) → unpacked asides parcel.now ≡ message_of t) }
+{
+    match parcel.what {
+        What::Signal => Some(plain_token(parcel, Plain::Signal)),
+        What::Int(number) => Some(plain_token(parcel, Plain::Int(number))),
+        What::Bool(truth) => Some(plain_token(parcel, Plain::Bool(truth))),
+        _ => None,
+    }
+}
+
+/// The token of a parcel with this plain value.
+#[inline(always)]
+fn plain_token(parcel: &Parcel, value: Plain) -> PlainToken
+    ensures { message_of result ≡ own parcel.now (Token (tag_in parcel.now) parcel.now.port (whole value)) }
+{
+    PlainToken {
+        value,
+        serial: parcel.serial,
+        iteration: parcel.iteration,
+        instr: parcel.instr,
+        position: parcel.position,
+        stamp: parcel.stamp,
+        element: parcel.element,
+        sender: parcel.sender,
+        output: parcel.output,
+        port: parcel.port,
     }
 }
 

@@ -4,8 +4,8 @@ ghost use Rattle.std.specs.Prelude.{◌≡◌, ◌<◌, ◌≤◌, ◌+◌, vec_
 ghost use Rattle.id_flight.specs.declared.parcel.Parcel.{Parcel};
 ghost use Rattle.id_flight.specs.Parcels.{IsWithin, unpacked};
 
-use crate::parcel::{Parcel, packed, parcel_aside, unpack};
-use id_tag::Message;
+use crate::parcel::{Parcel, packed, packed_plain, parcel_aside, plain_in, unpack};
+use id_tag::{Message, PlainToken};
 use std::alloc::{AllocError, Global};
 use std::collections::VecDeque;
 use std::marker::Model;
@@ -36,7 +36,8 @@ impl Model for Queue {
 
 impl Queue {
     ghost use Rattle.std.specs.Prelude.{◌≡◌, ◌<◌, ◌≤◌, ◌+◌, ◌^◌, ◌==◌, ◌++◌, ◌∷◌, ◌↔◌, [], drop, length, slice_get, Some};
-    ghost use Rattle.std.specs.Prelude.{option_to_list, IsSome, OnErr, OnOk};
+    ghost use Rattle.std.specs.Prelude.{option_to_list, IfSome, IsSome, OnErr, OnOk};
+    ghost use Rattle.id_tag.specs.Plains.{message_of};
 
     /// The empty queue. Takes no memory.
     pub fn new(alloc: Global) -> Queue
@@ -76,6 +77,15 @@ impl Queue {
         unpack(self.asides.as_slice(), parcel)
     }
 
+    /// The plain token at a position, from 0, where a parcel keeps one there. Takes no memory.
+    #[inline(always)]
+    pub fn plain(&self, position: usize) -> Option<PlainToken>
+        requires { position < length self.now.messages }
+        ensures { IfSome result (λ t. slice_get self.now.messages position ≡ Some (message_of t)) }
+    {
+        plain_in(&self.parcels[position])
+    }
+
     /// Makes room for so many messages more.
     #[inline(always)]
     pub fn reserve(&mut self, more: usize) -> Result<(), AllocError>
@@ -106,6 +116,16 @@ impl Queue {
     {
         let parcel = parcel_for(&mut self.asides, message);
         self.parcels.push_back_reserved(parcel);
+    }
+
+    /// Adds a plain token at the end, for which there is room. Takes no memory.
+    #[inline(always)]
+    pub fn push_plain_reserved(&mut self, token: &PlainToken)
+        requires { 0 < self.old.room }
+        ensures messages { self.new.messages ≡ self.old.messages ++ message_of token.now ∷ [] }
+        ensures room { self.old.room ≤ self.new.room + 1 }
+    {
+        self.parcels.push_back_reserved(packed_plain(token));
     }
 
     /// Adds a message at the front, for which there is room. Takes no memory.

@@ -1,3 +1,4 @@
 pub mod WaitingLemmas
+pub mod FrontLemmas
 pub mod KeyedLemmas
 pub mod EntriesLemmas

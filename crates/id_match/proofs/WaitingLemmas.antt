@@ -1,10 +1,9 @@
 -- Lemmas on specs/Waiting.antt.
-use Rattle.std.proofs.Common.{◌≡◌, Bool, true, false, cond, List, [], ◌∷◌, Option, Some, None, Result, Ok, Err, IfOk, OnOk, OnErr, refl, sym, ◌∙◌, ap}
+use Rattle.std.proofs.Common.{◌≡◌, Bool, true, false, cond, List, [], ◌∷◌, Option, Some, None, refl, sym, ◌∙◌, ap}
 use Rattle.std.specs.FinMap.{get, find, from_entries, get-from_entries, get-insert, get-remove, get_tied, same_map}
 use Rattle.std.specs.Map.{lookup}
 use Rattle.std.specs.Cmp.{eq_by_cmp_equiv}
 use Rattle.std.specs.Ordering.{eq_by_cmp}
-use Rattle.std.specs.declared.alloc.AllocError.{AllocError}
 use Rattle.id_graph.specs.declared.dests.Port.{Port}
 use Rattle.id_graph.specs.declared.dests.Port.TheVariants.{Zero, One}
 use Rattle.id_tag.specs.declared.Tag.{Tag}
@@ -12,11 +11,10 @@ use Rattle.id_tag.specs.declared.Value.{Value}
 use Rattle.id_tag.specs.Tags.{tag_cmp, same_tag}
 use Rattle.id_tag.proofs.TagsLemmas.{tags_total, exact_tags, ties-same_tag, ties_from_same_tag}
 use Rattle.id_match.specs.declared.Half.{Half}
-use Rattle.id_match.specs.declared.Offered.{Offered}
-use Rattle.id_match.specs.declared.Offered.TheVariants.{Kept, Taken}
+use Rattle.id_match.specs.declared.Offered.TheVariants.{Taken}
 use Rattle.id_match.specs.Ports.{other_port, same_port}
 use Rattle.id_match.specs.Halves.{answer_at, half_after}
-use Rattle.id_match.specs.Waiting.{Store, at_port, pair_of, answer_of, offer_answer, store_after, offer_after}
+use Rattle.id_match.specs.Waiting.{Store, at_port, pair_of, answer_of, store_after, offer_after}
 
 -- the search of a store's entries is that of a map's
 pub find_half : (es : List (Tag × Half)) (t : Tag) → find tag_cmp t es ≡ lookup (same_tag t) es
@@ -83,29 +81,3 @@ pub offer_after-from_get : (s r : Store) (t : Tag) (p : Port) (v : Value) → ge
 offer_after-from_get s r t p v here others =
     same_map tags_total exact_tags r (offer_after s t p v)
     (λ u. joined t u (same_tag t u) refl s r _ here others ∙ sym (get-offer_after s t p v u))
-
--- the same three facts of an offer, said of the map that holds the halves and of the store
-module _ (es : List (Tag × Half)) (s : Store) (is : from_entries es ≡ s) (t : Tag) (p : Port) (v : Value) where
-  under : get s t ≡ lookup (same_tag t) es
-  under = ap (λ r. get r t) (sym is) ∙ get_half es t
-
-  answer_is : offer_answer s t p v ≡ answer_at (lookup (same_tag t) es) p v
-  answer_is = answer_of-at_port (get s t) p v ∙ ap (λ o. answer_at o p v) under
-
-  pub offer_answer-from_entries : (r : Result Offered AllocError) → IfOk r (λ a. a ≡ answer_at (lookup (same_tag t) es) p v) → IfOk r (λ a. a ≡ offer_answer s t p v)
-  offer_answer-from_entries (Ok a) h = h ∙ sym answer_is
-  offer_answer-from_entries (Err e) h = tt
-
-  pub kept_from_entries : (r : Result Offered AllocError) → OnErr r (lookup (same_tag t) es ≡ None) → OnErr r (offer_answer s t p v ≡ Kept)
-  kept_from_entries (Ok a) h = tt
-  kept_from_entries (Err e) h = answer_is ∙ ap (λ o. answer_at o p v) h
-
-  pub offer_after-from_entries : (fs : List (Tag × Half)) (r : Result Offered AllocError)
-      → OnOk r (lookup (same_tag t) fs ≡ half_after (lookup (same_tag t) es) p v)
-      → OnOk r ((u : Tag) → same_tag t u ≡ false → lookup (same_tag u) fs ≡ lookup (same_tag u) es)
-      → OnOk r (from_entries fs ≡ offer_after s t p v)
-  offer_after-from_entries fs (Ok a) here others =
-      offer_after-from_get s (from_entries fs) t p v
-      (get_half fs t ∙ here ∙ ap (λ o. half_after o p v) (sym under))
-      (λ u apart. get_half fs u ∙ others u apart ∙ sym (get_half es u) ∙ ap (λ r. get r u) is)
-  offer_after-from_entries fs (Err e) here others = tt

@@ -1,12 +1,13 @@
 //! The waiting-matching store: values that wait for their partner.
 //!
-//! Keeps: at most one value for each tag, with its port. Clauses see a finite map.
+//! Keeps: at most one value for each tag, with its port. Clauses see a finite map. A value stands in the one slot
+//! of the front that its tag's numbers tell, where it fits and that is free, and else in a hash map behind it.
 //! Errors: want of memory alone, and then nothing has changed.
 //! Read first: `specs/Waiting.antt`, then `offer`.
 //! Not here: which operators have two ports (`id_graph`), firing (`id_ops`).
 #![tactic(auto)]
 
-ghost use Rattle.std.specs.Prelude.{◌≡◌, false, None, IsPermutation, IsSortedByKey, IfOk, OnOk, OnErr};
+ghost use Rattle.std.specs.Prelude.{◌≡◌, false, None, IsPermutation, IsSortedByKey, IfOk, IfSome, OnOk, OnErr};
 ghost use Rattle.std.specs.FinMap as map;
 ghost use Rattle.std.specs.HashMap as hash;
 ghost use Rattle.std.specs.Prelude.{map as map_list};
@@ -16,9 +17,16 @@ ghost use Rattle.id_graph.specs.declared.dests.Port.{Port};
 ghost use Rattle.id_match.specs.declared.Offered.TheVariants.{Kept};
 ghost use Rattle.id_match.specs.Waiting.{pair_of, entry_at};
 ghost use Rattle.id_match.specs.Halves.{answer_at, half_after};
+ghost use Rattle.id_match.specs.Meetings.{told};
+ghost use Rattle.id_tag.specs.Plains.{tag_in, whole};
 
+mod front;
+
+use front::{
+    Slot, count, half_in, in_front, larger, meet, put_alone, put_beside, put_value, slot_in, take,
+};
 use id_graph::Port;
-use id_tag::{NearHasher, Tag, Value};
+use id_tag::{NearHasher, Plain, PlainToken, Tag, Value, plain_of};
 use std::alloc::{AllocError, Global};
 use std::collections::HashMap;
 use std::collections::hash_map::Entry as Place;
@@ -42,6 +50,17 @@ pub enum Offered {
     Taken,
 }
 
+/// What an offer of a plain value comes to, in short.
+#[derive(Clone, Copy)]
+pub enum Met {
+    /// The value waits for its partner.
+    Kept,
+    /// The plain value of the other port: neither waits any longer.
+    Partner(Plain),
+    /// The value was not offered: what waits under its tag is no plain value, or waits at its port.
+    Apart,
+}
+
 /// A value that waits, with its tag and port.
 #[derive(Clone, Copy)]
 pub struct Entry {
@@ -53,6 +72,10 @@ pub struct Entry {
 /// The values that wait for their partner, by tag and port.
 #[derive(Drop)]
 pub struct Waiting {
+    alloc: Global,
+    // For a larger front.
+    front: Vec<Slot>,
+    // What waits in no slot.
     halves: HashMap<Tag, Half, NearHasher>,
 }
 
@@ -61,12 +84,15 @@ impl Model for Waiting {
     ghost use Rattle.id_tag.specs.Tags.{tag_cmp};
     ghost use Rattle.id_match.specs.declared.Half.{Half};
     ghost use Rattle.id_match.specs.Codes.{coded_store};
+    ghost use Rattle.id_match.specs.Front.{IsKept, all_entries};
 
     ghost Value = { map.FinMap tag_cmp Half };
 
     ghost coded = { coded_store };
 
-    ghost view = { λ s. map.from_entries s.halves.entries };
+    ghost view = { λ s. map.from_entries (all_entries s.front.items s.halves.entries) };
+
+    ghost invariant = { λ s. IsKept s.front.items s.halves.entries };
 }
 
 impl Waiting {
@@ -82,6 +108,8 @@ impl Waiting {
         ensures keyed { (t : Tag) (p : Port) → waits result t p ≡ None }
     {
         Waiting {
+            alloc,
+            front: Vec::new(alloc),
             halves: HashMap::with_hasher(alloc, NearHasher::new()),
         }
     }
@@ -98,7 +126,70 @@ impl Waiting {
         ensures grows { OnErr result (offer_answer self.old tag port value ≡ Kept) }
         ensures err { OnErr result (self.new ≡ self.old) }
     {
-        offer_to(&mut self.halves, tag, port, value)
+        self.make_room();
+        if let Some(answer) = take(&mut self.front, tag, port, value) {
+            Ok(answer)
+        } else if put_value(&mut self.front, &self.halves, tag, port, value) {
+            Ok(Offered::Kept)
+        } else {
+            offer_to(&mut self.halves, tag, port, value)
+        }
+    }
+
+    /// Offers a plain token to its port of its tag, where that is short. Memory is wanted only where the value is kept;
+    /// after an error, and where it was not offered, nothing has changed.
+    #[inline(always)]
+    pub fn offer_plain(&mut self, token: &PlainToken) -> Result<Met, AllocError>
+        ensures answer { IfOk result (λ met. IfSome (told met token.now)
+            (λ answer. answer ≡ offer_answer self.old (tag_in token.now) token.now.port (whole token.now.value))) }
+        ensures after { IfOk result (λ met. IfSome (told met token.now)
+            (λ answer. self.new ≡ offer_after self.old (tag_in token.now) token.now.port (whole token.now.value))) }
+        ensures apart { IfOk result (λ met. told met token.now ≡ None → self.new ≡ self.old) }
+        ensures err { OnErr result (self.new ≡ self.old) }
+    {
+        if let Some(partner) = meet(&mut self.front, token) {
+            Ok(Met::Partner(partner))
+        } else if put_alone(&mut self.front, &self.halves, slot_in(token)) {
+            Ok(Met::Kept)
+        } else {
+            // A copy, so that no reference to the caller's token leaves, and it can stand in registers.
+            let copy = *token;
+            self.offer_behind(&copy)
+        }
+    }
+
+    // The same where it is long: where the slot is taken, or more waits than the front holds.
+    #[inline(never)]
+    fn offer_behind(&mut self, token: &PlainToken) -> Result<Met, AllocError>
+        ensures answer { IfOk result (λ met. IfSome (told met token.now)
+            (λ answer. answer ≡ offer_answer self.old (tag_in token.now) token.now.port (whole token.now.value))) }
+        ensures after { IfOk result (λ met. IfSome (told met token.now)
+            (λ answer. self.new ≡ offer_after self.old (tag_in token.now) token.now.port (whole token.now.value))) }
+        ensures apart { IfOk result (λ met. told met token.now ≡ None → self.new ≡ self.old) }
+        ensures err { OnErr result (self.new ≡ self.old) }
+    {
+        self.make_room();
+        if half_in(&self.front, token.tag()).is_some() {
+            Ok(Met::Apart)
+        } else if put_beside(&mut self.front, &self.halves, slot_in(token)) {
+            Ok(Met::Kept)
+        } else {
+            offer_plain_to(&mut self.halves, token)
+        }
+    }
+
+    // Makes the front larger where many values stand behind it, or there is none. Where memory is wanting, all stays
+    // as it is, so this never makes an error.
+    #[inline(never)]
+    fn make_room(&mut self)
+        ensures { self.new ≡ self.old }
+    {
+        let len = self.front.len();
+        if self.halves.len() > len / 8 || len == 0 {
+            if let Some(front) = larger(self.alloc, &self.front) {
+                self.front = front;
+            }
+        }
     }
 
     /// How many values wait. Takes no memory.
@@ -106,7 +197,7 @@ impl Waiting {
         ensures len { result ≡ map.len self.now }
         ensures listed { result ≡ length (entries_of self.now) }
     {
-        self.halves.len()
+        count(&self.front) + self.halves.len()
     }
 
     /// The values that wait, in the order of their tags.
@@ -115,7 +206,8 @@ impl Waiting {
         ensures keyed { IfOk result (λ es. (e : Entry) →
             Contains es.items e ↔ (waits self.now e.tag e.port ≡ Some e.value)) }
     {
-        let mut entries = listed(alloc, &self.halves)?;
+        let mut entries = in_front(alloc, &self.front)?;
+        entries.append(&mut listed(alloc, &self.halves)?)?;
         sort_by_tag(&mut entries);
         Ok(entries)
     }
@@ -170,6 +262,45 @@ fn offer_to(
             }
             place.remove();
             Ok(pair(port, value, half.value))
+        }
+    }
+}
+
+// An offer of a plain token in one look-up.
+#[inline(always)]
+fn offer_plain_to(
+    halves: &mut HashMap<Tag, Half, NearHasher>,
+    token: &PlainToken,
+) -> Result<Met, AllocError>
+    ensures answer { IfOk result (λ met. IfSome (told met token.now) (λ answer. answer ≡
+        answer_at (hash.get same_tag halves.old (tag_in token.now)) token.now.port (whole token.now.value))) }
+    ensures at { IfOk result (λ met. IfSome (told met token.now) (λ _. hash.get same_tag halves.new (tag_in token.now) ≡
+        half_after (hash.get same_tag halves.old (tag_in token.now)) token.now.port (whole token.now.value))) }
+    ensures others { OnOk result ((t : Tag) → same_tag (tag_in token.now) t ≡ false →
+        hash.get same_tag halves.new t ≡ hash.get same_tag halves.old t) }
+    ensures apart { IfOk result (λ met. told met token.now ≡ None → hash.IsUnchanged halves.old halves.new) }
+    ensures err { OnErr result (hash.IsUnchanged halves.old halves.new) }
+{
+    match halves.entry(token.tag())? {
+        Place::Vacant(place) => {
+            place.insert(Half {
+                port: token.port,
+                value: token.value.value(),
+            });
+            Ok(Met::Kept)
+        }
+        Place::Occupied(place) => {
+            let half = *place.get();
+            if half.port == token.port {
+                return Ok(Met::Apart);
+            }
+            match plain_of(&half.value) {
+                Some(partner) => {
+                    place.remove();
+                    Ok(Met::Partner(partner))
+                }
+                None => Ok(Met::Apart),
+            }
         }
     }
 }

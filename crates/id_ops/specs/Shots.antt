@@ -1,5 +1,6 @@
 -- Firings that send a plain value, in two words: what an instruction does with most tokens.
-use Rattle.std.specs.Prelude.{Option, None, option_map}
+use Rattle.std.specs.Prelude.{◌≡◌, ◌≤◌, ◌+◌, ℕ, Option, None, option_map}
+use Rattle.id_tag.specs.declared.plain.Plain.{Plain}
 use Rattle.id_tag.specs.Plains.{plain_of, whole}
 use Rattle.id_ops.specs.declared.Fired.{Fired}
 use Rattle.id_ops.specs.declared.Fired.TheVariants as fired
@@ -24,3 +25,13 @@ shot_of (fired.Asked c r) = None
 shot_of (fired.Stored c v o) = None
 shot_of (fired.Failed f) = None
 shot_of fired.Nothing = None
+
+-- the shot moves no value but this one
+abbrev pub IsOwn : Shot → Plain → Type 0
+IsOwn (Moved i w) v = w ≡ v
+IsOwn s v = Unit {0}
+
+-- the shot moves its value no further than to the iteration after this one
+abbrev pub IsNear : ℕ → Shot → Type 0
+IsNear k (Moved i w) = i ≤ k + 1
+IsNear k s = Unit {0}

@@ -1,14 +1,15 @@
 //! What an instruction does with plain operands where it sends a plain value: most firings, in two words.
 
-ghost use Rattle.std.specs.Prelude.{◌≡◌, ◌<◌, ◌-◌, ◌^◌, IfSome, Some};
+ghost use Rattle.std.specs.Prelude.{◌≡◌, ◌<◌, ◌-◌, ◌^◌, ℕ, IfSome, Some};
 ghost use Rattle.id_graph.specs.declared.instr.Op.TheVariants.{Next};
 ghost use Rattle.id_graph.specs.declared.instr.PortKind.{PortKind};
 ghost use Rattle.id_tag.specs.Plains.{plain_of, whole};
 ghost use Rattle.id_tag.specs.declared.Tag.{Tag};
+ghost use Rattle.id_tag.specs.declared.plain.Plain.{Plain};
 ghost use Rattle.id_ops.specs.declared.Fresh.{Fresh};
 ghost use Rattle.id_ops.specs.declared.Operands.TheVariants.{One, Two};
 ghost use Rattle.id_ops.specs.Operators.{constant_value, fired, fired_binary, fired_by, fired_const, fired_switch, fired_unary};
-ghost use Rattle.id_ops.specs.Shots.{fired_of, shot_of};
+ghost use Rattle.id_ops.specs.Shots.{IsNear, IsOwn, fired_of, shot_of};
 
 use crate::Fired;
 use id_graph::{Dyadic, Op, PortKind};
@@ -50,6 +51,8 @@ pub fn shoot_one(op: Op, iteration: u64, operand: Plain) -> Option<Shot>
         → result ≡ shot_of (fired op t (One (whole operand)) f) }
     ensures fired { IfSome result (λ s. (t : Tag) (f : Fresh) → t.iteration ≡ iteration
         → fired op t (One (whole operand)) f ≡ fired_of s) }
+    ensures own { IfSome result (λ s. IsOwn s operand) }
+    ensures near { IfSome result (IsNear iteration) }
 {
     match op {
         Op::Const(constant) => shoot_const(constant, operand),
@@ -66,6 +69,8 @@ pub fn shoot_one(op: Op, iteration: u64, operand: Plain) -> Option<Shot>
 pub fn shoot_two(op: Op, left: Plain, right: Plain) -> Option<Shot>
     ensures exact { (t : Tag) (f : Fresh) → result ≡ shot_of (fired op t (Two (whole left) (whole right)) f) }
     ensures fired { IfSome result (λ s. (t : Tag) (f : Fresh) → fired op t (Two (whole left) (whole right)) f ≡ fired_of s) }
+    ensures own { IfSome result (λ s. (p : Plain) → IsOwn s p) }
+    ensures near { IfSome result (λ s. (iteration : ℕ) → IsNear iteration s) }
 {
     match op {
         Op::Binary(operator) => shoot_binary(operator, left, right),

@@ -9,8 +9,8 @@ ghost use Rattle.id_valid.specs.Roles.{op_at};
 ghost use Rattle.id_graph.specs.Graph.{IsGraph};
 
 use crate::line::{
-    Handled, Handling, Line, Replies, Shooting, handled_whole, instr_in, line_aside, packed,
-    payload_in, shot_line, unpack,
+    Handled, Handling, Line, Replies, Shooting, instr_in, line_aside, packed, payload_in,
+    shot_line, unpack,
 };
 use crate::outputs::{Envelope, Outputs, chosen};
 use crate::step::{Fault, Step, Verdict};
@@ -80,10 +80,10 @@ impl<'a> Model for Events<'a> {
 
 impl<'a> Record<'a> {
     ghost use Rattle.std.specs.Prelude.{◌≡◌, ◌<◌, ◌≤◌, ◌+◌, ◌++◌, ◌∷◌, [], length, option_map, slice_get, Some, OnOk};
-    ghost use Rattle.id_tag.specs.Plains.{whole};
     ghost use Rattle.id_record.specs.Events.{tag_of, value_of};
     ghost use Rattle.id_record.specs.Lines.{AreThere, handled};
-    ghost use Rattle.id_record.specs.Shootings.{shooting};
+    ghost use Rattle.id_record.specs.Shootings.{HasLine, shooting};
+    ghost use Rattle.id_ops.specs.Shots.{IsNear, IsOwn};
     ghost use Rattle.id_record.specs.Records.{event_of_handled};
 
     /// The empty record of the element of this number. Takes no memory.
@@ -166,26 +166,20 @@ impl<'a> Record<'a> {
         }
     }
 
-    /// Adds the event of a token with a plain value at the end. Takes no memory.
+    /// Adds the event of a plain token at the end. Takes no memory.
     #[inline(always)]
     pub fn push_shot(&mut self, event: Shooting<'_>)
         requires room { 0 < self.old.room }
-        requires room_aside { 0 < self.old.room_aside }
-        requires value { value_of event.message.now.payload ≡ whole event.value }
+        requires fits { HasLine event.token.now }
+        requires own { IsOwn event.shot event.token.now.value }
+        requires near { IsNear event.token.now.iteration event.shot }
         ensures element { self.new.element ≡ self.old.element }
         ensures graph { self.new.graph ≡ self.old.graph }
         ensures events { self.new.events ≡ self.old.events
             ++ event_of_handled self.old.graph self.old.element self.old.replies (length self.old.events)
             (shooting event.entry) ∷ [] }
     {
-        match shot_line(&event) {
-            Some(line) => add_line(&mut self.lines, line),
-            None => {
-                let index = self.asides.len();
-                self.asides.push_reserved(handled_whole(&event));
-                add_line(&mut self.lines, line_aside(index));
-            }
-        }
+        add_line(&mut self.lines, shot_line(&event));
     }
 
     /// The events, in order. Takes no memory.

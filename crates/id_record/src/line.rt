@@ -22,8 +22,8 @@ use id_graph::Port;
 use id_ops::{Fired, tag_within};
 use id_tag::{Context, Message, Payload, Sender, Tag, Value};
 use id_value::FaultKind;
-pub use shooting::Shooting;
-pub(crate) use shooting::{handled_whole, shot_line};
+pub(crate) use shooting::shot_line;
+pub use shooting::{Shooting, has_line};
 
 /// What comes of a message: what is fired, and what the event comes to.
 #[derive(Clone, Copy)]

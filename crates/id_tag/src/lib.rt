@@ -15,7 +15,7 @@ mod plain;
 
 use id_graph::{Port, PortKind};
 pub use near::NearHasher;
-pub use plain::{Plain, plain_of};
+pub use plain::{Plain, PlainToken, plain_of};
 
 /// The context of an activation: the element that made it, and the number that it gave it.
 /// Main's context is element 0, number 0; each element numbers those that it makes from 1.
@@ -142,8 +142,9 @@ pub fn route(message: &Message, count: u32) -> u32
     }
 }
 
+/// The number of the element, of `count`, that handles a token of this tag. Takes no memory.
 #[inline(always)]
-fn route_tag(tag: Tag, count: u32) -> u32
+pub fn route_tag(tag: Tag, count: u32) -> u32
     requires { 0 < count }
     ensures exact { result ≡ tag_route tag count }
     ensures below { result < count }

@@ -4,8 +4,8 @@ ghost use Rattle.std.specs.Prelude.{◌≡◌, IfSome};
 ghost use Rattle.id_tag.specs.Kinds.{kind_of};
 ghost use Rattle.id_tag.specs.Plains.{plain_of, whole};
 
-use crate::Value;
-use id_graph::PortKind;
+use crate::{Context, Message, Payload, Sender, Tag, Value};
+use id_graph::{Port, PortKind};
 
 /// A signal, a number or a truth value.
 #[derive(Clone, Copy)]
@@ -53,5 +53,59 @@ pub fn plain_of(value: &Value) -> Option<Plain>
         Value::Bool(truth) => Some(Plain::Bool(truth)),
         Value::Structure(_) | Value::Address(_) => None,
         Value::Context(_) | Value::Continuation(_) => None,
+    }
+}
+
+/// A token with a plain value that an element sent, whose numbers are small: what most messages are.
+#[derive(Clone, Copy)]
+pub struct PlainToken {
+    pub value: Plain,
+    /// The serial number of the tag's context.
+    pub serial: u32,
+    pub iteration: u32,
+    pub instr: u32,
+    pub position: u32,
+    pub stamp: u32,
+    /// The element of the tag's context.
+    pub element: u8,
+    pub sender: u8,
+    pub output: u8,
+    pub port: Port,
+}
+
+impl PlainToken {
+    ghost use Rattle.std.specs.Prelude.{◌≡◌};
+    ghost use Rattle.id_tag.specs.Plains.{message_of, tag_in};
+
+    /// The same as any message. Takes no memory.
+    pub fn message(&self) -> Message
+        ensures { result ≡ message_of self.now }
+    {
+        Message {
+            payload: Payload::Token {
+                tag: self.tag(),
+                port: self.port,
+                value: self.value.value(),
+            },
+            sender: Sender::Element(u32::from(self.sender)),
+            position: self.position as usize,
+            output: usize::from(self.output),
+            stamp: u64::from(self.stamp),
+        }
+    }
+
+    /// Its tag. Takes no memory.
+    #[inline(always)]
+    pub fn tag(&self) -> Tag
+        ensures { result ≡ tag_in self.now }
+    {
+        Tag {
+            context: Context {
+                element: u32::from(self.element),
+                serial: u64::from(self.serial),
+            },
+            iteration: u64::from(self.iteration),
+            instr: self.instr,
+        }
     }
 }

@@ -1,68 +1,57 @@
 //! The lines of tokens with plain values that sent plain values, or nothing: most events.
 
-ghost use Rattle.std.specs.Prelude.{◌≡◌, ◌<◌, ◌^◌, ℤ, IfSome, IsTrue, Some};
+ghost use Rattle.std.specs.Prelude.{◌≡◌, ◌≤◌, ◌<◌, ◌+◌, ◌^◌, ◌↔◌, ℕ, ℤ, IsTrue, Some};
 ghost use Rattle.id_tag.specs.declared.Tag.{Tag};
 ghost use Rattle.id_tag.specs.declared.Value.{Value};
 ghost use Rattle.id_tag.specs.declared.plain.Plain.{Plain};
-ghost use Rattle.id_tag.specs.Plains.{whole};
-ghost use Rattle.id_ops.specs.Shots.{fired_of};
-ghost use Rattle.id_ops.specs.declared.Fired.TheVariants.{Moved};
+ghost use Rattle.id_tag.specs.Plains.{message_of, whole};
+ghost use Rattle.id_ops.specs.Shots.{IsNear, IsOwn, fired_of};
 ghost use Rattle.id_record.specs.declared.step.Verdict.TheVariants.{Went};
-ghost use Rattle.id_record.specs.Events.{value_of};
 ghost use Rattle.id_record.specs.Lines.{IsPacked, Names, carried_value, element_at, fired_at, instr_at, number_in};
 ghost use Rattle.id_record.specs.Lines.{number_of, own, reaction_of};
-ghost use Rattle.id_record.specs.Shootings.{shooting, tag_at};
+ghost use Rattle.id_record.specs.Shootings.{HasLine, shooting, tag_at};
 
 use super::{
-    Carried, Effect, Exit, Handled, Kind, LARGEST, LARGEST_ELEMENT, LARGEST_INSTR, LARGEST_OUTPUT,
-    LARGEST_POSITION, LARGEST_SENDER, Line, NO_REPLIES, Reaction, false_at, int_at, joined,
-    of_kind, origin, place, position_at, signal_at, true_at,
+    Carried, Effect, Exit, Kind, Line, false_at, int_at, joined, of_kind, place, position_at,
+    signal_at, true_at,
 };
-use crate::step::Verdict;
 use id_ops::Shot;
-use id_tag::{Message, Payload, Plain};
+use id_tag::{Plain, PlainToken};
 
-/// A token with a plain value that is being handled, the stamp of that event, and what its instruction sends.
+/// A plain token that is being handled, the stamp of that event, and what its instruction sends.
 #[derive(Clone, Copy)]
 pub struct Shooting<'a> {
-    pub message: &'a Message,
-    pub value: Plain,
-    pub stamp: u64,
+    pub token: &'a PlainToken,
+    pub stamp: u32,
     pub shot: Shot,
 }
 
-/// The event in a line, where it fits in one.
+/// Whether a line has room for the event of this token, whose own value alone is moved, and to the next iteration at
+/// most. Takes no memory.
 #[inline(always)]
-pub(crate) fn shot_line(event: &Shooting<'_>) -> Option<Line>
-    requires { value_of event.now.message.now.payload ≡ whole event.now.value }
-    ensures { IfSome result (λ l. IsPacked (shooting event.now) l) }
+pub fn has_line(token: &PlainToken) -> bool
+    ensures { IsTrue result ↔ HasLine token.now }
 {
-    match shot_effect(event.shot, event.value) {
-        Some(effect) => {
-            narrowed(
-                event,
-                carried(event.value),
-                effect,
-                iteration_of(event.shot),
-            )
-        },
-        None => None,
-    }
+    token.position <= 0x7fff_ffff
+        && token.instr <= 0xff_ffff
+        && token.sender < 0xff
+        && token.iteration < 0xffff_ffff
 }
 
-/// The event as one that stands aside is kept.
-pub(crate) fn handled_whole(event: &Shooting<'_>) -> Handled
-    ensures { result ≡ shooting event.now }
+/// The event in a line.
+#[inline(always)]
+pub(crate) fn shot_line(event: &Shooting<'_>) -> Line
+    requires fits { HasLine event.now.token.now }
+    requires own { IsOwn event.now.shot event.now.token.now.value }
+    requires near { IsNear event.now.token.now.iteration event.now.shot }
+    ensures { IsPacked (shooting event.now) result }
 {
-    Handled {
-        message: *event.message,
-        stamp: event.stamp,
-        reaction: Reaction {
-            fired: event.shot.fired(),
-            verdict: Verdict::Went,
-        },
-        replies: NO_REPLIES,
-    }
+    narrowed(
+        event,
+        carried(event.token.value),
+        shot_effect(event.shot),
+        iteration_of(event.shot),
+    )
 }
 
 /// The value as a line carries it.
@@ -84,7 +73,8 @@ fn carried(value: Plain) -> Carried
 /// The iteration to which a shot moves its value, or 0.
 #[inline(always)]
 fn iteration_of(shot: Shot) -> u64
-    ensures { (v : Plain) → Names (fired_of shot) (whole v) (tag_at result) }
+    ensures names { (v : Plain) → Names (fired_of shot) (whole v) (tag_at result) }
+    ensures near { (k : ℕ) → IsNear k shot → result ≤ k + 1 }
 {
     match shot {
         Shot::Moved(iteration, _) => iteration,
@@ -92,19 +82,19 @@ fn iteration_of(shot: Shot) -> u64
     }
 }
 
-/// The effect of a shot on a token with this value, where a line has room for it: a value that moved is the token's own.
+/// The effect of a shot, which moves no value but the token's own.
 #[inline(always)]
-fn shot_effect(shot: Shot, value: Plain) -> Option<Effect>
-    ensures { IfSome result (λ e. (t : Tag) → Names (fired_of shot) (whole value) t →
-        reaction_of e (number_of (fired_of shot) t) t (whole value)
-        ≡ record { fired = fired_of shot; verdict = Went }) }
+fn shot_effect(shot: Shot) -> Effect
+    ensures { (v : Plain) (t : Tag) → IsOwn shot v → Names (fired_of shot) (whole v) t →
+        reaction_of result (number_of (fired_of shot) t) t (whole v)
+        ≡ record { fired = fired_of shot; verdict = Went } }
 {
     match shot {
-        Shot::Nothing => Some(Effect::Nothing),
-        Shot::Out(sent) => Some(going_out(Exit::Only, sent)),
-        Shot::Side(true, sent) => Some(going_out(Exit::True, sent)),
-        Shot::Side(false, sent) => Some(going_out(Exit::False, sent)),
-        Shot::Moved(_, sent) => moved(sent, value),
+        Shot::Nothing => Effect::Nothing,
+        Shot::Out(sent) => going_out(Exit::Only, sent),
+        Shot::Side(true, sent) => going_out(Exit::True, sent),
+        Shot::Side(false, sent) => going_out(Exit::False, sent),
+        Shot::Moved(_, _) => Effect::Moved,
     }
 }
 
@@ -119,32 +109,6 @@ fn going_out(exit: Exit, sent: Plain) -> Effect
         Plain::Int(_) => int_at(exit),
         Plain::Bool(true) => true_at(exit),
         Plain::Bool(false) => false_at(exit),
-    }
-}
-
-/// The effect of moving a token's own value.
-#[inline(always)]
-fn moved(sent: Plain, value: Plain) -> Option<Effect>
-    ensures { IfSome result (λ e. (n : ℤ) (t : Tag) → reaction_of e n t (whole value)
-        ≡ record { fired = Moved t.iteration (whole sent); verdict = Went }) }
-{
-    if is_same(sent, value) {
-        Some(Effect::Moved)
-    } else {
-        None
-    }
-}
-
-/// Whether two plain values are one.
-#[inline(always)]
-fn is_same(a: Plain, b: Plain) -> bool
-    ensures { IsTrue result → a ≡ b }
-{
-    match (a, b) {
-        (Plain::Signal, Plain::Signal) => true,
-        (Plain::Int(a), Plain::Int(b)) => a == b,
-        (Plain::Bool(a), Plain::Bool(b)) => a == b,
-        _ => false,
     }
 }
 
@@ -171,51 +135,34 @@ fn number_in(sent: Plain) -> i64
     }
 }
 
-/// The event in a line with this value, this effect and this iteration beside that of its message, where its numbers fit.
+/// The event in a line with this value, this effect and this iteration beside that of its message.
 #[inline(always)]
-fn narrowed(event: &Shooting<'_>, carried: Carried, effect: Effect, iteration: u64) -> Option<Line>
-    ensures kind { IfSome result (λ l. l.kind ≡ carried.kind) }
-    ensures value { IfSome result (λ l. l.value ≡ carried.value) }
-    ensures effect { IfSome result (λ l. l.effect ≡ effect) }
-    ensures number { IfSome result (λ l. l.result ≡ number_of (fired_of event.now.shot) (tag_at iteration)) }
-    ensures to_iteration { IfSome result (λ l. iteration < 2 ^ 32) }
-    ensures to_element { IfSome result (λ l. element_at l.to ≡ 0) }
-    ensures to_instr { IfSome result (λ l. instr_at l.to ≡ 0) }
-    ensures message { IfSome result
-        (λ l. (own l (value_of event.now.message.now.payload)).message ≡ event.now.message.now) }
-    ensures stamp { IfSome result (λ l. l.stamp ≡ event.now.stamp) }
+fn narrowed(event: &Shooting<'_>, carried: Carried, effect: Effect, iteration: u64) -> Line
+    requires fits { HasLine event.now.token.now }
+    requires iteration { iteration < 2 ^ 32 }
+    ensures kind { result.kind ≡ carried.kind }
+    ensures value { result.value ≡ carried.value }
+    ensures effect { result.effect ≡ effect }
+    ensures number { result.result ≡ number_of (fired_of event.now.shot) (tag_at iteration) }
+    ensures to_element { element_at result.to ≡ 0 }
+    ensures to_instr { instr_at result.to ≡ 0 }
+    ensures message { (own result (whole event.now.token.now.value)).message ≡ message_of event.now.token.now }
+    ensures stamp { result.stamp ≡ event.now.stamp }
 {
-    let message = event.message;
-    let Payload::Token { tag, port, .. } = message.payload else {
-        return None;
-    };
-    let sender = origin(message.sender);
-    let position = message.position as u64;
-    if tag.context.serial > LARGEST || tag.iteration > LARGEST || position > LARGEST_POSITION {
-        return None;
-    }
-    if message.stamp > LARGEST || event.stamp > LARGEST || iteration > LARGEST {
-        return None;
-    }
-    if tag.context.element > LARGEST_ELEMENT || tag.instr > LARGEST_INSTR {
-        return None;
-    }
-    if sender > LARGEST_SENDER || message.output > LARGEST_OUTPUT {
-        return None;
-    }
-    Some(Line {
+    let token = event.token;
+    Line {
         value: carried.value,
         result: number(event.shot, iteration),
-        serial: tag.context.serial as u32,
-        iteration: tag.iteration as u32,
-        position: position_at(position, port),
-        sent: message.stamp as u32,
-        stamp: event.stamp as u32,
-        place: place(tag.context.element, tag.instr),
+        serial: token.serial,
+        iteration: token.iteration,
+        position: position_at(u64::from(token.position), token.port),
+        sent: token.stamp,
+        stamp: event.stamp,
+        place: place(u32::from(token.element), token.instr),
         to: 0,
-        sender: sender as u8,
-        output: message.output as u8,
+        sender: token.sender + 1,
+        output: token.output,
         kind: carried.kind,
         effect,
-    })
+    }
 }

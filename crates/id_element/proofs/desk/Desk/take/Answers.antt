@@ -9,15 +9,6 @@ returns-in_err-stamp-clause-end c = grind (arith, common_steps)
 pub returns-in_err-reserve-in-Token-clause-end : goal.returns-in_err-reserve-in-Token-clause-end
 returns-in_err-reserve-in-Token-clause-end c = grind (arith, common_steps)
 
-pub returns-in_err-plain-in-Token-clause-end : goal.returns-in_err-plain-in-Token-clause-end
-returns-in_err-plain-in-Token-clause-end c = grind (arith, common_steps)
-
-pub returns-in-Shot-clause-end : goal.returns-in-Shot-clause-end
-returns-in-Shot-clause-end c = grind (arith, common_steps)
-
-pub returns-in-Full-clause-end : goal.returns-in-Full-clause-end
-returns-in-Full-clause-end c = grind (arith, common_steps)
-
 pub returns-in-Read-clause-end : goal.returns-in-Read-clause-end
 returns-in-Read-clause-end c = grind (arith, common_steps)
 

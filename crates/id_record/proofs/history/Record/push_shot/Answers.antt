@@ -1,29 +1,14 @@
--- The record goes on by one event: in a line of its own, or aside.
-use Rattle.std.proofs.Common.{◌≡◌, length, ap, ◌∙◌, arith}
+-- The record goes on by one event, in a line of its own.
+use Rattle.std.proofs.Common.{ap, arith}
 use Rattle.id_record.specs.Shootings.{shooting}
-use Rattle.std.proofs.lemmas.Grind.{common_steps}
-use Rattle.id_record.proofs.LinesLemmas.{pushed_line, kept_line, pushed_aside, kept_aside}
+use Rattle.id_record.proofs.LinesLemmas.{pushed_line, kept_line}
 use Rattle.id_record.proofs.history.Record.push_shot.Goals as goal
 
 pub invariant_of-self : goal.invariant_of-self
-invariant_of-self c = rw c.add_line.ensures (kept_line c.self.inside.asides.items c.self.inside.replies.items c.self.inside.lines.items (shooting c.args.event) c.in-Some.line c.in-Some.ensures (omega arith) c.self.invariant)
+invariant_of-self c = rw c.add_line.ensures (kept_line c.self.inside.asides.items c.self.inside.replies.items c.self.inside.lines.items (shooting c.args.event) c.shot_line.result c.shot_line.ensures (omega arith) c.self.invariant)
 
-pub returns-in-Some-clause-events : goal.returns-in-Some-clause-events
-returns-in-Some-clause-events c =
+pub returns-clause-events : goal.returns-clause-events
+returns-clause-events c =
     let r = c.self.inside in
     rw (← ap (λ v. v.events) c.self.view_is, ← ap (λ v. v.graph) c.self.view_is, ← ap (λ v. v.element) c.self.view_is, c.add_line.ensures)
-    (pushed_line r.graph.now r.element r.replies.items r.asides.items r.lines.items (shooting c.args.event) c.in-Some.line c.in-Some.ensures)
-
-pub invariant_of-self-in-None : goal.invariant_of-self-in-None
-invariant_of-self-in-None c =
-    let r = c.self.inside in
-    let at : c.len-index.result ≡ length r.asides.items = grind (arith, common_steps) in
-    rw (c.add_line-in-None.ensures, c.push_reserved.ensures.items, c.handled_whole.ensures)
-    (kept_aside r.asides.items r.replies.items r.lines.items (shooting c.args.event) c.line_aside.result c.line_aside.ensures.kind (c.line_aside.ensures.index ∙ at) (omega arith) c.self.invariant)
-
-pub returns-in-None-clause-events : goal.returns-in-None-clause-events
-returns-in-None-clause-events c =
-    let r = c.self.inside in
-    let at : c.len-index.result ≡ length r.asides.items = grind (arith, common_steps) in
-    rw (← ap (λ v. v.events) c.self.view_is, ← ap (λ v. v.graph) c.self.view_is, ← ap (λ v. v.element) c.self.view_is, c.add_line-in-None.ensures, c.push_reserved.ensures.items, c.handled_whole.ensures)
-    (pushed_aside r.graph.now r.element r.replies.items r.asides.items r.lines.items (shooting c.args.event) c.line_aside.result c.line_aside.ensures.kind (c.line_aside.ensures.index ∙ at) c.self.invariant)
+    (pushed_line r.graph.now r.element r.replies.items r.asides.items r.lines.items (shooting c.args.event) c.shot_line.result c.shot_line.ensures)

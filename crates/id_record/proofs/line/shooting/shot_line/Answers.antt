@@ -1,23 +1,21 @@
 -- The event stands in the line that has its value, its numbers and its reaction.
-use Rattle.std.proofs.Common.{◌≡◌, Some, refl, sym, arith}
-use Rattle.std.specs.Prelude.{Option, None, IfSome, ◌<◌, ◌^◌}
+use Rattle.std.proofs.Common.{◌<◌, ◌^◌, Some, refl, arith}
 use Rattle.id_tag.specs.Plains.{whole}
-use Rattle.id_record.specs.Lines.{no_replies}
 use Rattle.id_record.specs.Shootings.{shooting, tag_at}
 use Rattle.id_record.proofs.LinesLemmas.{packed-narrowed}
 use Rattle.id_record.proofs.line.shooting.shot_line.Goals as goal
 
-none_sent : {X : Type 0} (o : Option X) → IfSome o (λ l. no_replies ≡ no_replies)
-none_sent None = tt
-none_sent (Some l) = refl
+pub narrowed-requires-clause-iteration : goal.narrowed-requires-clause-iteration
+narrowed-requires-clause-iteration c =
+    let token = c.args.event.now.token.now in
+    omega (arith, c.iteration_of.ensures.near token.iteration c.requires.near, c.requires.fits.iteration)
 
-none_large : {X : Type 0} (o : Option X) → IfSome o (λ l. 0 < 2 ^ 32)
-none_large None = tt
-none_large (Some l) = omega arith
-
-pub returns-in-Some : goal.returns-in-Some
-returns-in-Some c =
+pub returns : goal.returns
+returns c =
     let is = c.narrowed.ensures in
-    packed-narrowed (shooting c.args.event.now) (whole c.args.event.now.value) c.carried.result.kind c.carried.result.value c.in-Some.effect (tag_at c.iteration_of.result) c.narrowed.result (sym c.requires)
-    (c.iteration_of.ensures c.args.event.now.value) (λ u n. c.carried.ensures u) c.in-Some.ensures
-    is.kind is.value is.effect is.number (none_large c.narrowed.result) is.to_iteration is.to_element is.to_instr is.message is.stamp (none_sent c.narrowed.result)
+    let value = c.args.event.now.token.now.value in
+    let small : c.iteration_of.result < 2 ^ 32 = omega (arith, c.iteration_of.ensures.near c.args.event.now.token.now.iteration c.requires.near, c.requires.fits.iteration) in
+    let zero_small : 0 < 2 ^ 32 = omega arith in
+    packed-narrowed (shooting c.args.event.now) (whole value) c.carried.result.kind c.carried.result.value c.shot_effect.result (tag_at c.iteration_of.result) (Some c.narrowed.result) refl
+    (c.iteration_of.ensures.names value) (λ u n. c.carried.ensures u) (λ t n. c.shot_effect.ensures value t c.requires.own n)
+    is.kind is.value is.effect is.number zero_small small is.to_element is.to_instr is.message is.stamp refl

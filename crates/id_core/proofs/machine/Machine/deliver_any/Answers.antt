@@ -9,7 +9,7 @@ use Rattle.id_tag.specs.Routes.{route_of}
 use Rattle.id_element.specs.Steps.{is_ended, step_of, outputs_of}
 use Rattle.id_core.specs.Machines.{IsElement, delivered, world_of}
 use Rattle.id_core.proofs.MachinesLemmas.{IsDelivery, taken, world-delivered, event-delivered, IsMachine-deliver}
-use Rattle.id_core.proofs.machine.Machine.deliver.Goals as goal
+use Rattle.id_core.proofs.machine.Machine.deliver_any.Goals as goal
 
 delivery : (c : goal.In_ok-step) → IsDelivery c.self.inside.graph.now (length c.self.inside.elements.items) c.self.inside.elements.items c.self.inside.flight.messages c.args.position c.route-number.result c.message-message.result c.index_mut.result.now
 delivery c =

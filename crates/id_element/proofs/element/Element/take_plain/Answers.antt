@@ -1,0 +1,36 @@
+-- The record goes on by one event, where the token was handled, and what it sends fits, by what the desk says of its
+-- step.
+use Rattle.std.proofs.Common.{◌≡◌, ap, subst, ◌∙◌}
+use Rattle.id_valid.specs.Validator.{IsValid}
+use Rattle.id_tag.specs.Plains.{message_of, tag_in}
+use Rattle.id_element.specs.declared.step.Short.TheVariants.{Apart}
+use Rattle.id_element.specs.Fits.{IsFor}
+use Rattle.id_element.specs.Shorts.{IsHandled, step_in}
+use Rattle.id_element.specs.Steps.{state_after, step_of}
+use Rattle.id_element.specs.Desks.{state_of}
+use Rattle.id_element.specs.Replays.{ElementView}
+use Rattle.id_element.proofs.ShortLemmas.{IsKept-short}
+use Rattle.id_element.proofs.OutcomeLemmas.{outputs_fit}
+use Rattle.id_element.proofs.element.Element.take_plain.Goals as goal
+
+pub invariant_of-self-2 : goal.invariant_of-self-2
+invariant_of-self-2 c =
+    let d = c.self.inside.desk in
+    let m = message_of c.args.token.now in
+    let s = c.in_ok-short.short in
+    let old : ElementView = record { number = d.log.element; count = c.self.inside.count; graph = d.log.graph; state = state_of d } in
+    let is_for : IsFor d.log.graph c.self.inside.count d.log.element m =
+    rw (ap (λ v. v.graph) c.self.view_is, ap (λ v. v.count) c.self.view_is, ap (λ v. v.number) c.self.view_is) c.requires in
+    let graph = c.graph.ensures.value ∙ c.graph-graph.ensures in
+    let comes : IsHandled s → step_in s (tag_in c.args.token.now) ≡ step_of d.log.graph d.log.element (state_of d) m =
+    λ h. c.in_ok-short.ensures.step h ∙ ap (λ g. step_of g d.log.element (state_of d) m) graph in
+    let after : IsHandled s → state_of c.take_plain.new.self ≡ state_after d.log.graph d.log.element (state_of d) m =
+    λ h. c.in_ok-short.ensures.state h ∙ ap (λ g. state_after g d.log.element (state_of d) m) graph in
+    let same : s ≡ Apart → state_of c.take_plain.new.self ≡ state_of d = λ e. c.in_ok-short.ensures.apart (cc) in
+    rw (c.in_ok-short.ensures.number, c.in_ok-short.ensures.graph)
+    (IsKept-short old c.args.token.now c.self.inside.went c.still_short-self-inside.result (state_of c.take_plain.new.self) is_for c.in_ok-short.ensures.left c.in_ok-short.ensures.last_left c.self.invariant s comes after same c.still_short-self-inside.ensures.handled c.still_short-self-inside.ensures.apart)
+
+pub returns-clause-fits : goal.returns-clause-fits
+returns-clause-fits c =
+    rw (← ap (λ v. v.graph) c.self.view_is, ← ap (λ v. v.number) c.self.view_is, ← ap (λ v. v.state) c.self.view_is)
+    (outputs_fit c.self.inside.desk.log.graph c.self.inside.desk.log.element (state_of c.self.inside.desk) (message_of c.args.token.now) (subst IsValid c.graph-graph.ensures c.graph.ensures.kept) c.self.invariant.replays.waiting c.self.invariant.replays.cells (rw (ap (λ v. v.graph) c.self.view_is) c.requires.fits))

@@ -1,0 +1,75 @@
+-- what the calls say of the front and of the halves, said of the store
+use Rattle.std.proofs.Common.{◌≡◌, ◌∙◌, None, refl, sym, ap, subst, arith}
+use Rattle.std.proofs.lemmas.Grind.{common_steps}
+use Rattle.std.specs.FinMap.{from_entries}
+use Rattle.id_tag.specs.Plains.{tag_in, whole}
+use Rattle.id_match.specs.Front.{IsKept, all_entries, front_half}
+use Rattle.id_match.specs.Meetings.{told}
+use Rattle.id_match.proofs.FrontLemmas.{all_of_slot, behind_kept, behind_answer, behind_after, others_always, if_ok, if_some}
+use Rattle.id_match.proofs.Waiting.offer_behind.Goals as goal
+
+pub invariant_of-self : goal.invariant_of-self
+invariant_of-self c =
+    let is : from_entries (all_entries c.self.inside.front.items c.self.inside.halves.entries) ≡ c.args.self.now = c.self.view_is ∙ c.make_room.ensures in
+    (all_of_slot c.self.inside.front.items c.self.inside.halves.entries _ is c.self.invariant c.args.token.now.port (whole c.args.token.now.value) _
+    (tag_in c.args.token.now) c.slot_in.result c.slot_in.ensures.tag c.slot_in.ensures.half
+    (c.if-put_beside.ensures.apart refl) (c.if-put_beside.ensures.free refl) (c.if-put_beside.ensures.put refl)).0
+
+pub returns-then-put_beside-clause-answer : goal.returns-then-put_beside-clause-answer
+returns-then-put_beside-clause-answer c =
+    let is : from_entries (all_entries c.self.inside.front.items c.self.inside.halves.entries) ≡ c.args.self.now = c.self.view_is ∙ c.make_room.ensures in
+    (all_of_slot c.self.inside.front.items c.self.inside.halves.entries _ is c.self.invariant c.args.token.now.port (whole c.args.token.now.value) _
+    (tag_in c.args.token.now) c.slot_in.result c.slot_in.ensures.tag c.slot_in.ensures.half
+    (c.if-put_beside.ensures.apart refl) (c.if-put_beside.ensures.free refl) (c.if-put_beside.ensures.put refl)).1
+
+pub returns-then-put_beside-clause-after : goal.returns-then-put_beside-clause-after
+returns-then-put_beside-clause-after c =
+    let is : from_entries (all_entries c.self.inside.front.items c.self.inside.halves.entries) ≡ c.args.self.now = c.self.view_is ∙ c.make_room.ensures in
+    (all_of_slot c.self.inside.front.items c.self.inside.halves.entries _ is c.self.invariant c.args.token.now.port (whole c.args.token.now.value) _
+    (tag_in c.args.token.now) c.slot_in.result c.slot_in.ensures.tag c.slot_in.ensures.half
+    (c.if-put_beside.ensures.apart refl) (c.if-put_beside.ensures.free refl) (c.if-put_beside.ensures.put refl)).2
+
+pub invariant_of-self-else-put_beside : goal.invariant_of-self-else-put_beside
+invariant_of-self-else-put_beside c =
+    let is : from_entries (all_entries c.self.inside.front.items c.self.inside.halves.entries) ≡ c.args.self.now = c.self.view_is ∙ c.make_room.ensures in
+    let same : c.put_beside.new.front.items ≡ c.self.inside.front.items = c.if-put_beside.ensures.full refl in
+    let kept : IsKept c.put_beside.new.front.items c.self.inside.halves.entries = subst (λ f. IsKept f c.self.inside.halves.entries) (sym same)
+    c.self.invariant in
+    let holds : from_entries (all_entries c.put_beside.new.front.items c.self.inside.halves.entries) ≡ c.args.self.now = ap (λ f. from_entries (all_entries
+    f c.self.inside.halves.entries)) same ∙ is in
+    let empty : front_half c.self.inside.front.items (tag_in c.args.token.now) ≡ None = grind (arith, common_steps) in
+    let free : front_half c.put_beside.new.front.items (tag_in c.args.token.now) ≡ None = ap (λ f. front_half f (tag_in c.args.token.now)) same ∙ empty in
+    let others = others_always c.self.inside.halves.entries c.offer_plain_to.new.halves.entries c.offer_plain_to.result (tag_in c.args.token.now)
+    c.offer_plain_to.ensures.others c.offer_plain_to.ensures.err in
+    behind_kept c.put_beside.new.front.items c.self.inside.halves.entries _ holds kept (tag_in c.args.token.now) c.args.token.now.port (whole
+    c.args.token.now.value) free c.offer_plain_to.new.halves.entries others
+
+pub returns-else-put_beside-clause-answer : goal.returns-else-put_beside-clause-answer
+returns-else-put_beside-clause-answer c =
+    let is : from_entries (all_entries c.self.inside.front.items c.self.inside.halves.entries) ≡ c.args.self.now = c.self.view_is ∙ c.make_room.ensures in
+    let same : c.put_beside.new.front.items ≡ c.self.inside.front.items = c.if-put_beside.ensures.full refl in
+    let kept : IsKept c.put_beside.new.front.items c.self.inside.halves.entries = subst (λ f. IsKept f c.self.inside.halves.entries) (sym same)
+    c.self.invariant in
+    let holds : from_entries (all_entries c.put_beside.new.front.items c.self.inside.halves.entries) ≡ c.args.self.now = ap (λ f. from_entries (all_entries
+    f c.self.inside.halves.entries)) same ∙ is in
+    let empty : front_half c.self.inside.front.items (tag_in c.args.token.now) ≡ None = grind (arith, common_steps) in
+    let free : front_half c.put_beside.new.front.items (tag_in c.args.token.now) ≡ None = ap (λ f. front_half f (tag_in c.args.token.now)) same ∙ empty in
+    if_ok c.offer_plain_to.result (λ met h. if_some (told met c.args.token.now) (λ a e. behind_answer c.put_beside.new.front.items
+    c.self.inside.halves.entries _ holds kept (tag_in c.args.token.now) c.args.token.now.port (whole c.args.token.now.value) free a e) h)
+    c.offer_plain_to.ensures.answer
+
+pub returns-else-put_beside-clause-after : goal.returns-else-put_beside-clause-after
+returns-else-put_beside-clause-after c =
+    let is : from_entries (all_entries c.self.inside.front.items c.self.inside.halves.entries) ≡ c.args.self.now = c.self.view_is ∙ c.make_room.ensures in
+    let same : c.put_beside.new.front.items ≡ c.self.inside.front.items = c.if-put_beside.ensures.full refl in
+    let kept : IsKept c.put_beside.new.front.items c.self.inside.halves.entries = subst (λ f. IsKept f c.self.inside.halves.entries) (sym same)
+    c.self.invariant in
+    let holds : from_entries (all_entries c.put_beside.new.front.items c.self.inside.halves.entries) ≡ c.args.self.now = ap (λ f. from_entries (all_entries
+    f c.self.inside.halves.entries)) same ∙ is in
+    let empty : front_half c.self.inside.front.items (tag_in c.args.token.now) ≡ None = grind (arith, common_steps) in
+    let free : front_half c.put_beside.new.front.items (tag_in c.args.token.now) ≡ None = ap (λ f. front_half f (tag_in c.args.token.now)) same ∙ empty in
+    let others = others_always c.self.inside.halves.entries c.offer_plain_to.new.halves.entries c.offer_plain_to.result (tag_in c.args.token.now)
+    c.offer_plain_to.ensures.others c.offer_plain_to.ensures.err in
+    if_ok c.offer_plain_to.result (λ met h. if_some (told met c.args.token.now) (λ a e. behind_after c.put_beside.new.front.items
+    c.self.inside.halves.entries _ holds kept (tag_in c.args.token.now) c.args.token.now.port (whole c.args.token.now.value) free
+    c.offer_plain_to.new.halves.entries others e) h) c.offer_plain_to.ensures.at
