@@ -31,7 +31,8 @@ impl Model for InFlight {
 }
 
 impl InFlight {
-    ghost use Rattle.std.specs.Prelude.{◌≡◌, ◌<◌, ◌++◌, ◌==◌, ◌↔◌, All, length, slice_get, Some, IfOk, IfSome, OnOk, OnErr};
+    ghost use Rattle.std.specs.Prelude.{◌≡◌, ◌<◌, ◌++◌, ◌==◌, ◌↔◌, All, length, slice_get};
+    ghost use Rattle.std.specs.Prelude.{Some, IfOk, IfSome, OnOk, OnErr};
     ghost use Rattle.std.specs.Prelude.{IsTrue};
     ghost use Rattle.std.specs.List.{remove};
     ghost use Rattle.id_element.specs.declared.step.TakeError.TheVariants.{StampEnd};
@@ -125,8 +126,8 @@ impl InFlight {
         Ok(())
     }
 
-    /// Gives the message at the gap to an element: it leaves the list, which closes up, and what is sent goes to the end.
-    /// After an error nothing has changed.
+    /// Gives the message at the gap to an element: it leaves the list, which closes up, and what is sent goes to the
+    /// end. After an error nothing has changed.
     #[inline(always)]
     pub(crate) fn give_next(
         &mut self,

@@ -46,8 +46,8 @@ impl<'a> Desk<'a> {
     ghost use Rattle.id_record.specs.declared.step.Step.TheVariants.{Went};
     ghost use Rattle.id_record.specs.declared.step.Verdict.TheVariants as verdict;
     ghost use Rattle.id_element.specs.Steps.{allocated_by, answer_fired, answer_sends, fill_sends, fill_verdict, fresh};
-    ghost use Rattle.id_element.specs.Steps.{fired_verdict};
-    ghost use Rattle.id_element.specs.Steps.{is_ended, made_by, next_stamp, step_of, outputs_of, readers_of, state_after};
+    ghost use Rattle.id_element.specs.Steps.{fired_verdict, is_ended, made_by, next_stamp, step_of};
+    ghost use Rattle.id_element.specs.Steps.{outputs_of, readers_of, state_after};
     ghost use Rattle.id_record.specs.Sends.{numbered, sent};
     ghost use Rattle.id_valid.specs.Validator.{IsValid};
     ghost use Rattle.id_element.specs.Desks.{state_of, IsRead, IsShort, IsWrite, fired_by};
@@ -87,8 +87,8 @@ impl<'a> Desk<'a> {
         requires numbered { self.old.structures ≤ self.old.stamp }
         requires fits { Fits graph.now message.now }
 
-        ensures step { IfOk result
-            (λ v. full_step message.now.payload v ≡ step_of graph.now self.old.log.element (state_of self.old) message.now) }
+        ensures step { IfOk result (λ v. full_step message.now.payload v
+            ≡ step_of graph.now self.old.log.element (state_of self.old) message.now) }
         ensures state { OnOk result
             (state_of self.new ≡ state_after graph.now self.old.log.element (state_of self.old) message.now) }
         ensures outputs { OnOk result
@@ -230,8 +230,8 @@ impl<'a> Desk<'a> {
         ensures state { OnOk result
             (state_of self.new ≡ state_after self.old.log.graph self.old.log.element (state_of self.old) write.now) }
         ensures outputs { OnOk result
-            (outputs.new.messages
-            ≡ outputs.old.messages ++ outputs_of self.old.log.graph self.old.log.element (state_of self.old) write.now) }
+            (outputs.new.messages ≡ outputs.old.messages
+            ++ outputs_of self.old.log.graph self.old.log.element (state_of self.old) write.now) }
         ensures number { self.new.log.element ≡ self.old.log.element }
         ensures graph { self.new.log.graph ≡ self.old.log.graph }
 
@@ -370,13 +370,13 @@ impl<'a> Desk<'a> {
           stamp = stamp;
           message = message_of token.now;
           fired = fired_of shot;
-          outputs = numbered self.old.log.element (length self.old.log.events) stamp 0
-              (sent (Some instr.now.op) (arcs_on (side_of (fired_of shot)) instr.now) (tag_in token.now) (fired_of shot));
+          outputs = numbered self.old.log.element (length self.old.log.events) stamp 0 (sent
+              (Some instr.now.op) (arcs_on (side_of (fired_of shot)) instr.now) (tag_in token.now) (fired_of shot));
           step = Went;
         } ∷ [] }
         ensures outputs { outputs.new.messages ≡ outputs.old.messages
-            ++ numbered self.old.log.element (length self.old.log.events) stamp 0
-            (sent (Some instr.now.op) (arcs_on (side_of (fired_of shot)) instr.now) (tag_in token.now) (fired_of shot)) }
+            ++ numbered self.old.log.element (length self.old.log.events) stamp 0 (sent
+            (Some instr.now.op) (arcs_on (side_of (fired_of shot)) instr.now) (tag_in token.now) (fired_of shot)) }
     {
         let sample = PlainToken {
             position: self.log.len() as u32,
@@ -390,8 +390,8 @@ impl<'a> Desk<'a> {
         self.structures += allocated_by_shot(instr.op, shot);
     }
 
-    /// Fires the operands that a plain token and its partner are, sends what comes of them, and records the event. There
-    /// is room for it. Takes no memory.
+    /// Fires the operands that a plain token and its partner are, sends what comes of them, and records the event.
+    /// There is room for it. Takes no memory.
     #[inline(never)]
     fn conclude_met(
         &mut self,
@@ -413,8 +413,8 @@ impl<'a> Desk<'a> {
         requires numbered { self.old.structures + 1 < 2 ^ 64 }
 
         ensures handled { IsHandled result }
-        ensures verdict { step_in result (tag_in token.now)
-            ≡ full_step (message_of token.now).payload (fired_verdict (fired_by self.old instr.now token.now left right)) }
+        ensures verdict { step_in result (tag_in token.now) ≡ full_step
+            (message_of token.now).payload (fired_verdict (fired_by self.old instr.now token.now left right)) }
         ensures waiting { self.new.waiting ≡ self.old.waiting }
         ensures cells { self.new.cells ≡ self.old.cells }
         ensures stamp { self.new.stamp ≡ stamp }

@@ -83,8 +83,8 @@ impl<'a> Element<'a> {
         requires { IsFor self.old.graph self.old.count self.old.number message.now }
 
         ensures step { IfOk result (λ step. step ≡ step_of self.old.graph self.old.number self.old.state message.now) }
-        ensures state { OnOk result
-            (self.new ≡ record self.old { state = state_after self.old.graph self.old.number self.old.state message.now }) }
+        ensures state { OnOk result (self.new
+            ≡ record self.old { state = state_after self.old.graph self.old.number self.old.state message.now }) }
         ensures outputs { OnOk result
             (outputs.new.messages
             ≡ outputs.old.messages ++ outputs_of self.old.graph self.old.number self.old.state message.now) }

@@ -136,7 +136,8 @@ pub data RunsSo (P : Checked) (vs : List Constant) (text : List ℕ) (count : �
       → IsTrueOf (source P vs) b r → (o : IsReportOfRun g vs count steps b r)
       → PrintsRun text t b (after g vs count o.positions) r old new result →
       RunsSo P vs text count t steps b old new result
-  unallowed : (e : EngineError) → IsUnallowed count steps e → new ≡ old → RunsSo P vs text count t steps b old new (Err e)
+  unallowed : (e : EngineError) → IsUnallowed count steps e → new ≡ old →
+      RunsSo P vs text count t steps b old new (Err e)
 
 -- the elements of a machine are so many
 abbrev pub HasCount : MachineView → Type 0

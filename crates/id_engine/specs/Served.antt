@@ -47,7 +47,8 @@ abbrev pub IsTaken : List ℕ → Request → Type 0
 IsTaken text (asks.Check file) = HasProgram text
 IsTaken text (asks.Graph file) = HasProgram text
 IsTaken text (asks.Draw file) = HasProgram text
-IsTaken text (asks.Run file inputs count trace steps names) = IsTakenRun text (map (λ w. w.now) inputs.items) count steps
+IsTaken text (asks.Run file inputs count trace steps names) =
+    IsTakenRun text (map (λ w. w.now) inputs.items) count steps
 IsTaken text (asks.Facts file rounds inputs) = AreTakenFacts text (map (λ w. w.now) inputs.items) rounds
 
 -- a request to run the text is run

@@ -13,7 +13,8 @@ use Rattle.id_tag.specs.declared.Sender.TheVariants.{Element}
 use Rattle.id_flight.specs.declared.parcel.Parcel.{Parcel}
 use Rattle.id_flight.specs.declared.parcel.What.{What}
 use Rattle.id_flight.specs.declared.parcel.What.TheVariants.{Signal, Int, Bool as Truth, Context as InContext}
-use Rattle.id_flight.specs.declared.parcel.What.TheVariants.{Continuation as Continues, Structure as Named, Address, Read}
+use Rattle.id_flight.specs.declared.parcel.What.TheVariants.{Continuation as Continues, Structure as Named}
+use Rattle.id_flight.specs.declared.parcel.What.TheVariants.{Address, Read}
 use Rattle.id_flight.specs.declared.parcel.What.TheVariants.{WriteInt, WriteBool, Aside}
 
 -- the tag of a parcel
@@ -38,8 +39,8 @@ said t q Signal = Some (Token t q value.Signal)
 said t q (Int n) = Some (Token t q (value.Int n))
 said t q (Truth b) = Some (Token t q (value.Bool b))
 said t q (InContext e s) = Some (Token t q (value.Context (record { element = e; serial = s })))
-said t q (Continues e s k j) =
-    Some (Token t q (value.Continuation (record { context = record { element = e; serial = s }; iteration = k; instr = j })))
+said t q (Continues e s k j) = Some (Token t q (value.Continuation
+    (record { context = record { element = e; serial = s }; iteration = k; instr = j })))
 said t q (Named e s l h) = Some (Token t q (value.Structure (structure_in e s l h)))
 said t q (Address e s l h i) = Some (Token t q (value.Address (cell_in e s l h i)))
 said t q (Read e s l h i) = Some (Reads (cell_in e s l h i) t)

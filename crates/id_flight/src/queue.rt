@@ -35,7 +35,8 @@ impl Model for Queue {
 }
 
 impl Queue {
-    ghost use Rattle.std.specs.Prelude.{◌≡◌, ◌<◌, ◌≤◌, ◌+◌, ◌^◌, ◌==◌, ◌++◌, ◌∷◌, ◌↔◌, [], drop, length, slice_get, Some};
+    ghost use Rattle.std.specs.Prelude.{◌≡◌, ◌<◌, ◌≤◌, ◌+◌, ◌^◌, ◌==◌, ◌++◌, ◌∷◌, ◌↔◌, [], drop};
+    ghost use Rattle.std.specs.Prelude.{length, slice_get, Some};
     ghost use Rattle.std.specs.Prelude.{option_to_list, IfSome, IsSome, OnErr, OnOk};
     ghost use Rattle.id_tag.specs.Plains.{message_of};
 

@@ -1,5 +1,6 @@
 -- The front of the store: slots that hold what waits under tags with small numbers.
-use Rattle.std.specs.Prelude.{◌≡◌, ◌≢◌, ℕ, ◌+◌, ◌-◌, ◌/◌, ◌%◌, ◌^◌, ◌<◌, if◌then◌else◌, Option, Some, None, List, ◌++◌, length, bit_and, slice_index_or}
+use Rattle.std.specs.Prelude.{◌≡◌, ◌≢◌, ℕ, ◌+◌, ◌-◌, ◌/◌, ◌%◌, ◌^◌, ◌<◌, if◌then◌else◌, Option, Some, None}
+use Rattle.std.specs.Prelude.{List, ◌++◌, length, bit_and, slice_index_or}
 use Rattle.std.specs.Option.{option_map}
 use Rattle.std.specs.List.{filter_map}
 use Rattle.std.specs.Map.{lookup}
@@ -68,8 +69,8 @@ front_half front t = held (slice_index_or front (place t (length front)) empty_s
 
 -- a value stands at no place but its tag's
 abbrev pub IsPlaced : List Slot → Type 0
-IsPlaced front =
-    (i : ℕ) (d : Slot) (t : Tag) → i < length front → place t (length front) ≢ i → held (slice_index_or front i d) t ≡ None
+IsPlaced front = (i : ℕ) (d : Slot) (t : Tag) → i < length front → place t (length front) ≢ i
+    → held (slice_index_or front i d) t ≡ None
 
 -- each tag's value stands in its place of the front, or among the halves, and never in both
 pub record IsKept (front : List Slot) (halves : List (Tag × Half)) : Type 0 where

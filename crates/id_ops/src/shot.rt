@@ -8,7 +8,8 @@ ghost use Rattle.id_tag.specs.declared.Tag.{Tag};
 ghost use Rattle.id_tag.specs.declared.plain.Plain.{Plain};
 ghost use Rattle.id_ops.specs.declared.Fresh.{Fresh};
 ghost use Rattle.id_ops.specs.declared.Operands.TheVariants.{One, Two};
-ghost use Rattle.id_ops.specs.Operators.{constant_value, fired, fired_binary, fired_by, fired_const, fired_switch, fired_unary};
+ghost use Rattle.id_ops.specs.Operators.{constant_value, fired, fired_binary, fired_by, fired_const, fired_switch};
+ghost use Rattle.id_ops.specs.Operators.{fired_unary};
 ghost use Rattle.id_ops.specs.Shots.{IsNear, IsOwn, fired_of, shot_of};
 
 use crate::Fired;
@@ -68,7 +69,8 @@ pub fn shoot_one(op: Op, iteration: u64, operand: Plain) -> Option<Shot>
 #[inline(always)]
 pub fn shoot_two(op: Op, left: Plain, right: Plain) -> Option<Shot>
     ensures exact { (t : Tag) (f : Fresh) → result ≡ shot_of (fired op t (Two (whole left) (whole right)) f) }
-    ensures fired { IfSome result (λ s. (t : Tag) (f : Fresh) → fired op t (Two (whole left) (whole right)) f ≡ fired_of s) }
+    ensures fired { IfSome result
+        (λ s. (t : Tag) (f : Fresh) → fired op t (Two (whole left) (whole right)) f ≡ fired_of s) }
     ensures own { IfSome result (λ s. (p : Plain) → IsOwn s p) }
     ensures near { IfSome result (λ s. (iteration : ℕ) → IsNear iteration s) }
 {

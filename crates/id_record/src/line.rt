@@ -62,9 +62,9 @@ pub struct Handling<'a> {
 
 /// A handled message in 48 bytes: most numbers of a run need no more than 32 bits. `kind` and `value` say what the
 /// message carries, and `effect` and `result` what came of it. Of the tag of the message `place` is the element and the
-/// instruction, and `serial` and `iteration` are the rest. Of the tag that the event names beside it `to` is the element
-/// and the instruction, and `result` the rest. `position` is also the port, and `sender` is 0 where no element sent the
-/// message, or 1 more than the number of the one that did.
+/// instruction, and `serial` and `iteration` are the rest. Of the tag that the event names beside it `to` is the
+/// element and the instruction, and `result` the rest. `position` is also the port, and `sender` is 0 where no element
+/// sent the message, or 1 more than the number of the one that did.
 #[derive(Clone, Copy)]
 pub(crate) struct Line {
     value: i64,
@@ -92,7 +92,8 @@ struct Carried {
 }
 
 /// What the value of a line stands for: of `Int` it is the number, of `Context` its element and serial number, and of
-/// `Aside`, where the whole event stands aside, its index there. `Continuation` stands for the tag that the event names.
+/// `Aside`, where the whole event stands aside, its index there. `Continuation` stands for the tag that the event
+/// names.
 #[derive(Clone, Copy)]
 enum Kind {
     Signal,

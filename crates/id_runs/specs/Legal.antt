@@ -62,7 +62,8 @@ pub record IsRunOf (g : Parts) (vs : List Constant) (count : ℕ) (es : List Eve
   pub end : IsSameBut (run g count positions (start g vs count)) w
 
 -- *Legal lists*: the events of each list of deliveries to a machine are a legal list, and lead to the same state; and
--- each legal list is that of a list of deliveries, which leads to the same state, but for the order of what is in flight
+-- each legal list is that of a list of deliveries, which leads to the same state, but for the order of what is in
+-- flight
 pub record LegalLists : Type 0 where
   pub of_runs : (g : Parts) (vs : List Constant) (count : ℕ) (ks : List ℕ)
       → LeadTo g count (start g vs count) (happened g count ks (start g vs count)) (run g count ks (start g vs count))

@@ -12,7 +12,8 @@ ghost use Rattle.id_tree.specs.Distinct.{Distinct};
 ghost use Rattle.id_tree.specs.Starts.{PlacesAreStarts};
 ghost use Rattle.id_tree.specs.Grammar.{Definition, Parameters};
 ghost use Rattle.id_tree.specs.Machine.{run, Begin, Accepted};
-ghost use Rattle.id_tree.specs.Readers.{first_kind, EndsBy, IsBehind, Leads, Defines, Fails, Declares, Undeclares, Heads};
+ghost use Rattle.id_tree.specs.Readers.{first_kind, EndsBy, IsBehind, Leads, Defines, Fails};
+ghost use Rattle.id_tree.specs.Readers.{Declares, Undeclares, Heads};
 ghost use Rattle.id_tree.specs.Readers.{Beheads};
 
 use crate::parser::parse_enclosed;
