@@ -70,7 +70,8 @@ use Rattle.id_laws.proofs.Sources.{feeds_source, is_mover}
 use Rattle.id_laws.proofs.Movers.{moved_by}
 use Rattle.id_laws.proofs.Feeding.{feeds_tell, moves_tell}
 use Rattle.id_laws.proofs.TurnedOn.{holds_by, turned_on, without_none}
-use Rattle.id_laws.proofs.Firing.{Returned, Passed, Given, Entering, Means, OperandsTell, one, two, firing_means}
+use Rattle.id_laws.proofs.Firing.{firing_means}
+use Rattle.id_laws.proofs.FiringMeans.{Returned, Passed, Given, Entering, Means, OperandsTell, one, two}
 use Rattle.id_laws.proofs.Started.{Starts, first, second, starts_as}
 
 -- ---- the part that a firing is of

@@ -30,6 +30,8 @@ pub mod OneEnd
 pub mod Agreement
 pub mod Start
 pub mod NeverStuck
+pub mod FiringMeans
+pub mod OperatorsTell
 pub mod Firing
 pub mod Sources
 pub mod Movers
@@ -41,6 +43,8 @@ pub mod Firings
 pub mod Triggers
 pub mod Speakers
 pub mod CarriedValues
+pub mod CarriedThings
+pub mod CarriedRegions
 pub mod CarriedFacts
 pub mod OperatorsAgree
 pub mod StartTells

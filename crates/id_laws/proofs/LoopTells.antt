@@ -28,7 +28,7 @@ use Rattle.id_laws.specs.Activations.{of_loop, Opens, Live, entered}
 use Rattle.id_laws.specs.Topics.{IsPart, Shown, Tells, Told, NameIn, topic_at, wants, result_of}
 use Rattle.id_laws.proofs.Assumed.{IsKnown}
 use Rattle.id_laws.proofs.Arcs.{gets_last, part_of, takes_in, varies}
-use Rattle.id_laws.proofs.Firing.{Given}
+use Rattle.id_laws.proofs.FiringMeans.{Given}
 use Rattle.id_laws.proofs.Iterations.{loop_between, without_below}
 use Rattle.id_laws.proofs.LoopEntries.{GivenAs, as_first, as_import, given_as}
 use Rattle.id_laws.proofs.Loops.{last_row, loop_of_start, loop_stands, next_block, result_is, start_block, start_place, start_region}

@@ -77,7 +77,8 @@ use Rattle.id_laws.specs.Ways.{way_back}
 use Rattle.id_laws.proofs.Agreement.{agree_unary, agree_at}
 use Rattle.id_laws.proofs.Arcs.{returns, unary, binary, allocates, addresses}
 use Rattle.id_laws.proofs.Assumed.{IsKnown}
-use Rattle.id_laws.proofs.CarriedFacts.{address_part, carried, constant_spoken, here_is, one_structure, operand_spoken, body_region, said_at, structure_of}
+use Rattle.id_laws.proofs.CarriedFacts.{address_part, carried, one_structure, body_region, structure_of}
+use Rattle.id_laws.proofs.CarriedThings.{constant_spoken, here_is, operand_spoken, said_at}
 use Rattle.id_laws.proofs.CarriedValues.{sent_in, stands_constant}
 use Rattle.id_build.proofs.EndsLemmas.{end_is}
 use Rattle.id_laws.proofs.Firings.{PartFired, alone_fired, both_fired, came, sent_handled, start_handled}
@@ -194,7 +195,7 @@ module _ (S : Source) (g : Parts) (number : ℕ → ℕ → ℕ) (numbered : Num
       let kind_is : value_kind v ≡ d.result = some_is (sym (Has_kind S known inputs (main_body P) outermost v b.0 thing has) ∙ ap (kind_at P) body_is ∙ known.result_kind P.main main d) in
       let c : CarriedHas S number run outermost (place P (main_body P)) v = carried S g number numbered known inputs count only s run r quiet.empty no_second _
       has in
-      let row_is = here_is S g number numbered known inputs count only s run r quiet.empty no_second (c.here) (record { within = b.0; node = refl }) thing in
+      let row_is = here_is S g number numbered known inputs count only s run r quiet.empty (c.here) (record { within = b.0; node = refl }) thing in
       let start : Live S number run main_activation (top main) = at_start in
       let one = one_activation S g number numbered known count only s run r quiet.empty (c.here).live start (c.here).path_of main_path in
       let from : speaker P (c.here).row ≡ origin P (main_body P) = ap (speaker P) row_is ∙ expression_speaks P known (main_body P) (node P (main_body P)) refl b.1 in
@@ -280,7 +281,7 @@ module _ (S : Source) (g : Parts) (number : ℕ → ℕ → ℕ) (numbered : Num
       h.1.0 in
       let a = on.activation in
       let operand = came S g number numbered known count only s run r quiet.empty a (origin P m) n 0 Zero (constant_value c)
-      (constant_spoken S g number numbered known inputs count only s run r quiet.empty no_second c on m x refl refl has)
+      (constant_spoken S g number numbered known inputs count only s run r quiet.empty c on m x refl refl has)
       (fed_as P known (origin P m) n 0 Zero (Unary o m) x.within x.node (inl refl)) in
       no_failure a n 0 (op.Unary o) (Alone (constant_value c)) k (alone_fired S g number numbered known count only s run r quiet.empty a n 0 (op.Unary o) Zero
       (constant_value c) x.within (unary x.node) refl operand)
@@ -293,10 +294,10 @@ module _ (S : Source) (g : Parts) (number : ℕ → ℕ → ℕ) (numbered : Num
       h.1.1.0 in
       let a = on.activation in
       let left = came S g number numbered known count only s run r quiet.empty a (origin P m) n 0 Zero (constant_value c)
-      (constant_spoken S g number numbered known inputs count only s run r quiet.empty no_second c on m x refl (inl refl) has)
+      (constant_spoken S g number numbered known inputs count only s run r quiet.empty c on m x refl (inl refl) has)
       (fed_as P known (origin P m) n 0 Zero (Binary o m l) x.within x.node (inl refl)) in
       let right = came S g number numbered known count only s run r quiet.empty a (origin P l) n 0 One (constant_value d)
-      (constant_spoken S g number numbered known inputs count only s run r quiet.empty no_second d on l x refl (inr refl) has')
+      (constant_spoken S g number numbered known inputs count only s run r quiet.empty d on l x refl (inr refl) has')
       (fed_as P known (origin P l) n 0 One (Binary o m l) x.within x.node (inr (inl refl))) in
       let made = op.Binary (binary_op o (port_at P m)) in
       let inner = operand_of S known inputs n m x.within (subst (λ z. HasOperand z m) (sym x.node) (inl refl)) in
@@ -310,10 +311,10 @@ module _ (S : Source) (g : Parts) (number : ℕ → ℕ → ℕ) (numbered : Num
       let high : CarriedHas S number run p (place P f) (source.Int hi) = carry _ h.1.1.0 in
       let a = on.activation in
       let left = came S g number numbered known count only s run r quiet.empty a (origin P e) n 0 Zero (value.Int lo)
-      (constant_spoken S g number numbered known inputs count only s run r quiet.empty no_second (constants.Int lo) on e x refl (inl refl) low)
+      (constant_spoken S g number numbered known inputs count only s run r quiet.empty (constants.Int lo) on e x refl (inl refl) low)
       (fed_as P known (origin P e) n 0 Zero (Array e f) x.within x.node (inl refl)) in
       let right = came S g number numbered known count only s run r quiet.empty a (origin P f) n 0 One (value.Int hi)
-      (constant_spoken S g number numbered known inputs count only s run r quiet.empty no_second (constants.Int hi) on f x refl (inr refl) high)
+      (constant_spoken S g number numbered known inputs count only s run r quiet.empty (constants.Int hi) on f x refl (inr refl) high)
       (fed_as P known (origin P f) n 0 One (Array e f) x.within x.node (inr (inl refl))) in
       no_failure a n 0 op.Alloc (Two (value.Int lo) (value.Int hi)) BadBounds
       (both_fired S g number numbered known count only s run r quiet.empty a n 0 op.Alloc (value.Int lo) (value.Int hi) x.within
@@ -326,8 +327,8 @@ module _ (S : Source) (g : Parts) (number : ℕ → ℕ → ℕ) (numbered : Num
       never_outside on.activation n t i x.within (of_fetch x.node) out (carry _ h.1.1.1.0)
       (fed_as P known (origin P t) n 0 Zero (Fetch t i) x.within x.node (inl refl))
       (fed_as P known (origin P i) n 0 One (Fetch t i) x.within x.node (inr (inl refl)))
-      target.stands (operand_spoken S g number numbered known inputs count only s run r quiet.empty no_second on t x refl (inl refl) target)
-      (constant_spoken S g number numbered known inputs count only s run r quiet.empty no_second (constants.Int j) on i x refl (inr refl) index)
+      target.stands (operand_spoken S g number numbered known inputs count only s run r quiet.empty on t x refl (inl refl) target)
+      (constant_spoken S g number numbered known inputs count only s run r quiet.empty (constants.Int j) on i x refl (inr refl) index)
   no_fault_by (out_of_store {m = m} {t = t} {i = i} {x = e} {p = p} {s = y} {j = j} {lo = lo} {hi = hi} x out) h =
       let on : Here S number run p (place P m) = carry _ h.0 in
       let target : CarriedHas S number run p (place P t) (source.Name y) = carry _ h.1.0 in
@@ -337,9 +338,9 @@ module _ (S : Source) (g : Parts) (number : ℕ → ℕ → ℕ) (numbered : Num
       never_outside on.activation x.address t i (x.parts).within (of_store (x.parts).node) out (carry _ h.1.1.1.0)
       (fed_as P known (origin P t) x.address 0 Zero (Address t i) (x.parts).within (x.parts).node (inl refl))
       (fed_as P known (origin P i) x.address 0 One (Address t i) (x.parts).within (x.parts).node (inr (inl refl)))
-      target.stands (said_at S g number numbered known inputs count only s run r quiet.empty no_second on t in_target.0 in_target.1 target)
+      target.stands (said_at S g number numbered known inputs count only s run r quiet.empty on t in_target.0 in_target.1 target)
       (subst (Speaks S number run on.activation (origin P i)) (stands_constant (constants.Int j) index.stands)
-      (said_at S g number numbered known inputs count only s run r quiet.empty no_second on i in_index.0 in_index.1 index))
+      (said_at S g number numbered known inputs count only s run r quiet.empty on i in_index.0 in_index.1 index))
   no_fault_by (second_store before) h = two_stores S g number numbered known inputs count only s run r quiet before h.0 h.1.0
 
   no_source_fault : FaultFree S
@@ -414,7 +415,7 @@ module _ (S : Source) (g : Parts) (number : ℕ → ℕ → ℕ) (numbered : Num
       let thing = binder_thing (node P b) x.binds in
       let holds = subst (λ e. Holds S (Has n.path e n.value)) (sym x.here) name.holds in
       let c : CarriedHas S number run n.path (place P b) n.value = carried S g number numbered known inputs count only s run r quiet.empty no_second _ holds in
-      let row_is = here_is S g number numbered known inputs count only s run r quiet.empty no_second c.here (record { within = x.within; node = refl }) thing in
+      let row_is = here_is S g number numbered known inputs count only s run r quiet.empty c.here (record { within = x.within; node = refl }) thing in
       let a = (c.here).activation in
       let said : Speaks S number run a (output (label P b)) c.value =
       subst (λ z. Speaks S number run a z c.value) (ap (speaker P) row_is ∙ binder_speaks P known b (node P b) refl x.binds) c.spoken in

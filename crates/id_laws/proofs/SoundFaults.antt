@@ -53,7 +53,7 @@ use Rattle.id_runs.proofs.RecordsOfRuns.{among_filter_map}
 use Rattle.id_runs.proofs.Serials.{structures_apart}
 use Rattle.id_laws.specs.Laws.{events}
 use Rattle.id_laws.proofs.Assumed.{IsKnown}
-use Rattle.id_laws.proofs.Firing.{FaultAt}
+use Rattle.id_laws.proofs.FiringMeans.{FaultAt}
 use Rattle.id_laws.proofs.AllTell.{firing_tells}
 use Rattle.id_laws.proofs.StartTells.{all_tell, seats}
 use Rattle.id_laws.proofs.Observing.{handled_event, part_place}

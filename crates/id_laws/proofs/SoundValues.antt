@@ -52,7 +52,7 @@ use Rattle.id_laws.proofs.Sendings.{is_fetch, is_store}
 use Rattle.id_laws.proofs.Sites.{read_told, written_told}
 use Rattle.id_laws.proofs.Naming.{shown_holds, stands_shown}
 use Rattle.id_laws.proofs.Senders.{sent_back}
-use Rattle.id_laws.proofs.Firing.{Means}
+use Rattle.id_laws.proofs.FiringMeans.{Means}
 use Rattle.id_laws.proofs.AllTell.{FiredPart, firing_tells}
 use Rattle.id_laws.proofs.StartTells.{all_tell, seats}
 use Rattle.id_laws.proofs.Observing.{handled_event}

@@ -18,7 +18,7 @@ use Rattle.id_tag.specs.declared.Payload.TheVariants.{Token}
 use Rattle.id_core.specs.Machines.{World}
 use Rattle.id_value.specs.declared.Constant.{Constant}
 use Rattle.id_ops.specs.Operators.{constant_value}
-use Rattle.id_laws.proofs.Firing.{constant_stands}
+use Rattle.id_laws.proofs.FiringMeans.{constant_stands}
 use Rattle.id_meaning.specs.declared.Fact.TheVariants.{Has}
 use Rattle.id_meaning.specs.Sources.{Source, IsInput, value_of}
 use Rattle.id_meaning.specs.Facts.{outermost, without, param_has}
