@@ -43,7 +43,7 @@ use Rattle.id_match.specs.declared.Offered.TheVariants.{Pair}
 use Rattle.id_ops.specs.declared.Operands.TheVariants.{One, Two}
 use Rattle.id_ops.specs.declared.shot.Shot.{Shot}
 use Rattle.id_ops.specs.declared.shot.Shot.TheVariants as shot
-use Rattle.id_ops.specs.Shots.{IsNear, IsOwn, fired_of}
+use Rattle.id_ops.specs.Shots.{IsBrief, IsOwn, fired_of}
 use Rattle.id_record.specs.declared.step.Verdict.TheVariants as verdict
 use Rattle.id_tag.specs.declared.plain.Plain.{Plain}
 use Rattle.id_tag.specs.declared.plain.PlainToken.{PlainToken}
@@ -149,6 +149,7 @@ shot_went shot.Nothing = refl
 shot_went (shot.Out v) = refl
 shot_went (shot.Side b v) = refl
 shot_went (shot.Moved k v) = refl
+shot_went (shot.Sent u v) = refl
 
 -- a token for an operator of two ports comes to what its offer does
 offered : (op : Op) (w : Store) (t : PlainToken) → two_ports op ≡ true
@@ -172,14 +173,14 @@ meeting op w later t l r v two answer pair after = record {
 
 -- it comes to what its operands are shot for
 pub shot_from_meeting : (op : Op) (w later : Store) (t : PlainToken) (l r : Plain) (s : Shot) → IsMeeting op w later t l r
-    → ((u : Tag) (n : Fresh) → fired op u (Two (whole l) (whole r)) n ≡ fired_of s) → IsOwn s t.value → IsNear t.iteration s
+    → ((u : Tag) (n : Fresh) → fired op u (Two (whole l) (whole r)) n ≡ fired_of s) → IsOwn s t.value → IsBrief t.iteration s
     → IsShot op w later t s
-shot_from_meeting op w later t l r s m fires own near = record {
+shot_from_meeting op w later t l r s m fires own brief = record {
   fires = λ i n same. ap (firing_of i (tag_in t) n) m.meets ∙ ap (λ o. fired o (tag_in t) (Two (whole l) (whole r)) n) same ∙ fires (tag_in t) n;
   went = ap (λ a. verdict_of a (fired_of s)) m.meets ∙ shot_went s;
   waits = m.waits;
   own = own;
-  near = near;
+  brief = brief;
 }
 
 -- the outcome of a plain token, where the code has computed its parts

@@ -18,7 +18,7 @@ use Rattle.id_graph.specs.declared.instr.Op.{Op}
 use Rattle.id_match.specs.Waiting.{Store}
 use Rattle.id_ops.specs.declared.Operands.TheVariants.{Two}
 use Rattle.id_ops.specs.declared.shot.Shot.{Shot as Shots}
-use Rattle.id_ops.specs.Shots.{IsNear, IsOwn, fired_of}
+use Rattle.id_ops.specs.Shots.{IsBrief, IsOwn, fired_of}
 use Rattle.id_element.specs.declared.step.Reacted.{Reacted}
 use Rattle.id_element.specs.declared.step.Reacted.TheVariants.{Shot, Met, Apart}
 use Rattle.id_record.specs.Sends.{count_started}
@@ -51,7 +51,7 @@ pub record IsShot (op : Op) (w later : Store) (t : PlainToken) (s : Shots) : Typ
   pub went : verdict_of (arrival_in op w t) (fired_of s) ≡ Went
   pub waits : later ≡ waiting_after op w (tag_in t) t.port (whole t.value)
   pub own : IsOwn s t.value
-  pub near : IsNear t.iteration s
+  pub brief : IsBrief t.iteration s
 
 -- a plain token meets its partner, these are the operands, and these wait afterwards
 pub record IsMeeting (op : Op) (w later : Store) (t : PlainToken) (l r : Plain) : Type 0 where

@@ -41,7 +41,7 @@ impl<'a> Desk<'a> {
     ghost use Rattle.id_record.specs.Events.{full_step, tag_of, value_of};
     ghost use Rattle.id_element.specs.Fits.{Fits};
     ghost use Rattle.id_tag.specs.Plains.{message_of, tag_in};
-    ghost use Rattle.id_ops.specs.Shots.{IsNear, IsOwn, fired_of};
+    ghost use Rattle.id_ops.specs.Shots.{IsBrief, IsOwn, fired_of};
     ghost use Rattle.id_ops.specs.declared.Fired.TheVariants.{Nothing};
     ghost use Rattle.id_record.specs.declared.step.Step.TheVariants.{Went};
     ghost use Rattle.id_record.specs.declared.step.Verdict.TheVariants as verdict;
@@ -173,12 +173,13 @@ impl<'a> Desk<'a> {
     fn is_short(&self, instr: &Instr, token: &PlainToken, stamp: u64) -> bool
         ensures { IsTrue result → IsShort self.now instr.now token.now stamp }
     {
-        stamp <= 0xffff_ffff
-            && self.log.len() <= 0xffff_ffff
-            && self.log.element() <= 0xff
-            && token.iteration < 0xffff_ffff
-            && most_sent(instr) <= 0x100
-            && has_line(token)
+        // All at once, without a branch for each: nearly all of them hold.
+        (stamp <= 0xffff_ffff)
+            & (self.log.len() <= 0xffff_ffff)
+            & (self.log.element() <= 0xff)
+            & (token.iteration < 0xffff_ffff)
+            & (most_sent(instr) <= 0x100)
+            & has_line(token)
     }
 
     /// Handles a read: the element step where a stamp is left, which is this one.
@@ -350,7 +351,7 @@ impl<'a> Desk<'a> {
         requires room_aside { 0 < self.old.log.room_aside }
         requires short { IsShort self.old instr.now token.now stamp }
         requires own_value { IsOwn shot token.now.value }
-        requires near { IsNear token.now.iteration shot }
+        requires brief { IsBrief token.now.iteration shot }
         requires own { slice_get self.old.log.graph.instrs token.now.instr ≡ Some instr.now }
         requires room_in_outputs { most_sent instr.now ≤ outputs.old.room }
         requires graph { IsGraph self.old.log.graph }

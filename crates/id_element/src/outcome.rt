@@ -1,6 +1,6 @@
 //! What a token does at its instruction, and what is sent for it (docs/MACHINE.md, "Element step").
 
-ghost use Rattle.std.specs.Prelude.{Some, ◌≡◌, ◌+◌, ◌-◌, ◌^◌, ◌<◌, ◌≤◌, ◌++◌, ◌||◌, ◌==◌, length, max};
+ghost use Rattle.std.specs.Prelude.{Some, ◌≡◌, ◌+◌, ◌-◌, ◌^◌, ◌<◌, ◌≤◌, ◌++◌, ◌∷◌, [], ◌||◌, ◌==◌, length, max};
 ghost use Rattle.std.specs.Prelude.{IfOk, OnOk, OnErr, IfErr, IsTrue, true, false, if◌then◌else◌, map};
 ghost use Rattle.id_bank.specs.Cells.{Cells};
 ghost use Rattle.id_element.specs.Steps.{allocated_by, answer_fired, arrival, at_instr, fill_verdict, fresh_numbers};
@@ -15,9 +15,10 @@ ghost use Rattle.id_element.specs.Firings.{IsReaction, firing_of, most_sent, ver
 ghost use Rattle.id_graph.specs.Ports.{two_ports};
 ghost use Rattle.id_match.specs.Waiting.{Store, offer_after, offer_answer, pair_of};
 ghost use Rattle.id_match.specs.declared.Offered.TheVariants.{Pair};
-ghost use Rattle.id_tag.specs.Plains.{message_of, tag_in, whole};
-ghost use Rattle.id_ops.specs.Shots.{IsNear};
-ghost use Rattle.id_element.specs.Steps.{fired_verdict};
+ghost use Rattle.id_tag.specs.Plains.{is_word, message_of, tag_in, whole};
+ghost use Rattle.id_tag.specs.declared.plain.Plain.{Plain};
+ghost use Rattle.id_graph.specs.declared.dests.Port.TheVariants.{Zero, One as PortOne};
+ghost use Rattle.id_ops.specs.Shots.{IsBrief, IsOwn, target_tag};
 ghost use Rattle.id_graph.specs.declared.instr.Instr.{Instr};
 ghost use Rattle.id_tag.specs.declared.Tag.{Tag};
 ghost use Rattle.id_ops.specs.declared.Fresh.{Fresh};
@@ -32,7 +33,7 @@ use id_bank::{ReadAnswer, WriteAnswer};
 use id_flight::Queue;
 use id_graph::{Dest, Instr, Op, Port};
 use id_match::{Met, Offered, Waiting};
-use id_ops::{Fired, Fresh, Operands, Shot, fire, shoot_one, shoot_two};
+use id_ops::{Fired, Fresh, Operands, Shot, Target, fire, shoot_one, shoot_two};
 use id_record::{
     Envelope, Reaction, Record, Verdict, chosen, count_started, message, moved_to, start, token_at,
     token_to,
@@ -135,7 +136,7 @@ fn fires(op: Op, token: &PlainToken) -> Reacted
     }
 }
 
-/// What comes of a plain token that met its partner.
+/// What comes of a plain token that met its partner: a shot that sends a value on sends the token's own.
 #[inline(always)]
 fn met(op: Op, token: &PlainToken, partner: Plain) -> Reacted
     requires { two_ports op ≡ true }
@@ -147,15 +148,30 @@ fn met(op: Op, token: &PlainToken, partner: Plain) -> Reacted
 {
     let (left, right) = by_port(token.port, token.value, partner);
     match shoot_two(op, left, right) {
-        Some(shot) => Reacted::Shot(shot),
-        None => Reacted::Met(left, right),
+        Some(shot) if is_own(shot, token) => Reacted::Shot(shot),
+        _ => Reacted::Met(left, right),
+    }
+}
+
+/// Whether a shot of operands of which the token's came to port 1 sends that on, or that is a word, or it sends
+/// nothing.
+#[inline(always)]
+fn is_own(shot: Shot, token: &PlainToken) -> bool
+    ensures { IsTrue result → (v : Plain) → (token.now.port ≡ PortOne → v ≡ token.now.value)
+        → (is_word v ≡ true → IsOwn shot v) → IsOwn shot token.now.value }
+{
+    match shot {
+        Shot::Nothing => true,
+        Shot::Out(_) | Shot::Side(_, _) => token.value.is_word(),
+        Shot::Moved(_, _) | Shot::Sent(_, _) => token.port == Port::One && token.value.is_word(),
     }
 }
 
 /// The two values by port, of which `value` came to this port.
 #[inline(always)]
 fn by_port(port: Port, value: Plain, partner: Plain) -> (Plain, Plain)
-    ensures { Pair (whole result.0) (whole result.1) ≡ pair_of port (whole value) (whole partner) }
+    ensures pair { Pair (whole result.0) (whole result.1) ≡ pair_of port (whole value) (whole partner) }
+    ensures one { port ≡ PortOne → result.1 ≡ value }
 {
     match port {
         Port::Zero => (value, partner),
@@ -335,7 +351,7 @@ pub(crate) fn send(instr: &Instr, tag: Tag, fired: &Fired, envelope: Envelope, o
 pub(crate) fn send_shot(instr: &Instr, like: &PlainToken, shot: Shot, outputs: &mut Queue)
     requires room { most_sent instr.now ≤ outputs.old.room }
     requires few { most_sent instr.now ≤ 256 }
-    requires near { IsNear like.now.iteration shot }
+    requires brief { IsBrief like.now.iteration shot }
     requires iteration { like.now.iteration < 2 ^ 32 - 1 }
     ensures { outputs.new.messages ≡ outputs.old.messages ++ numbered like.now.sender like.now.position like.now.stamp 0
         (sent (Some instr.now.op) (arcs_on (side_of (fired_of shot)) instr.now) (tag_in like.now) (fired_of shot)) }
@@ -348,6 +364,11 @@ pub(crate) fn send_shot(instr: &Instr, like: &PlainToken, shot: Shot, outputs: &
             send_plain(dests, &PlainToken { value, ..*like }, outputs)
         }
         Shot::Side(false, value) => send_plain(others, &PlainToken { value, ..*like }, outputs),
+        Shot::Sent(target, value) => {
+            // A copy, so that no reference to the caller's token leaves, and it can stand in registers.
+            let copy = PlainToken { value, ..*like };
+            send_to(target, &copy, outputs)
+        }
         Shot::Moved(iteration, value) => {
             let iteration = iteration as u32;
             send_plain(
@@ -361,6 +382,29 @@ pub(crate) fn send_shot(instr: &Instr, like: &PlainToken, shot: Shot, outputs: &
             )
         }
     }
+}
+
+/// Appends a token for port 0 of a tag, else like this plain one.
+#[inline(never)]
+fn send_to(target: Target, like: &PlainToken, outputs: &mut Queue)
+    requires room { 0 < outputs.old.room }
+    ensures { outputs.new.messages ≡ outputs.old.messages ++ numbered like.now.sender like.now.position like.now.stamp 0
+        (Token (target_tag target) Zero (whole like.now.value) ∷ []) }
+{
+    let tag = Tag {
+        context: Context {
+            element: u32::from(target.element),
+            serial: u64::from(target.serial),
+        },
+        iteration: u64::from(target.iteration),
+        instr: target.instr,
+    };
+    let envelope = Envelope {
+        number: u32::from(like.sender),
+        position: like.position as usize,
+        stamp: u64::from(like.stamp),
+    };
+    outputs.push_back_reserved(message(envelope, 0, token_at(tag, like.value.value())));
 }
 
 /// Appends one plain token for each destination, in order, each like this one.

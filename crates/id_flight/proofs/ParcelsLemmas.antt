@@ -10,18 +10,13 @@ use Rattle.id_tag.specs.declared.Tag.{Tag}
 use Rattle.id_tag.specs.declared.Message.{Message}
 use Rattle.id_flight.specs.declared.parcel.Parcel.{Parcel}
 use Rattle.id_flight.specs.declared.parcel.What.{What}
-use Rattle.id_flight.specs.declared.parcel.What.TheVariants.{Signal, Int, Bool as Truth, Context as InContext}
-use Rattle.id_flight.specs.declared.parcel.What.TheVariants.{Continuation as Continues, Structure as Named, Address, Read}
+use Rattle.id_flight.specs.declared.parcel.What.TheVariants.{Plain, Structure as Named, Address, Read}
 use Rattle.id_flight.specs.declared.parcel.What.TheVariants.{WriteInt, WriteBool, Aside}
 use Rattle.id_flight.specs.Parcels.{IsPacked, IsThere, IsWithin, own, place_of, said, tag_in, told, unpacked}
 
 -- what says something does not stand aside
 there-said : (asides : List Message) (t : Tag) (q : Port) (w : What) (m : Message) → said t q w ≡ Some m.payload → IsThere asides w
-there-said asides t q Signal m says = tt
-there-said asides t q (Int n) m says = tt
-there-said asides t q (Truth b) m says = tt
-there-said asides t q (InContext e s) m says = tt
-there-said asides t q (Continues e s k j) m says = tt
+there-said asides t q (Plain v) m says = tt
 there-said asides t q (Named e s l h) m says = tt
 there-said asides t q (Address e s l h i) m says = tt
 there-said asides t q (Read e s l h i) m says = tt

@@ -12,10 +12,9 @@ use Rattle.id_tag.specs.declared.Value.TheVariants as value
 use Rattle.id_tag.specs.declared.Sender.TheVariants.{Element}
 use Rattle.id_flight.specs.declared.parcel.Parcel.{Parcel}
 use Rattle.id_flight.specs.declared.parcel.What.{What}
-use Rattle.id_flight.specs.declared.parcel.What.TheVariants.{Signal, Int, Bool as Truth, Context as InContext}
-use Rattle.id_flight.specs.declared.parcel.What.TheVariants.{Continuation as Continues, Structure as Named}
-use Rattle.id_flight.specs.declared.parcel.What.TheVariants.{Address, Read}
+use Rattle.id_flight.specs.declared.parcel.What.TheVariants.{Plain, Structure as Named, Address, Read}
 use Rattle.id_flight.specs.declared.parcel.What.TheVariants.{WriteInt, WriteBool, Aside}
+use Rattle.id_tag.specs.Plains.{whole}
 
 -- the tag of a parcel
 abbrev pub tag_in : Parcel → Tag
@@ -35,12 +34,7 @@ cell_in e s l h i = record { structure = structure_in e s l h; index = i }
 
 -- what a message says of its tag and its port, unless it stands aside
 abbrev pub said : Tag → Port → What → Option Payload
-said t q Signal = Some (Token t q value.Signal)
-said t q (Int n) = Some (Token t q (value.Int n))
-said t q (Truth b) = Some (Token t q (value.Bool b))
-said t q (InContext e s) = Some (Token t q (value.Context (record { element = e; serial = s })))
-said t q (Continues e s k j) = Some (Token t q (value.Continuation
-    (record { context = record { element = e; serial = s }; iteration = k; instr = j })))
+said t q (Plain v) = Some (Token t q (whole v))
 said t q (Named e s l h) = Some (Token t q (value.Structure (structure_in e s l h)))
 said t q (Address e s l h i) = Some (Token t q (value.Address (cell_in e s l h i)))
 said t q (Read e s l h i) = Some (Reads (cell_in e s l h i) t)

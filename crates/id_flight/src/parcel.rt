@@ -12,7 +12,10 @@ ghost use Rattle.id_tag.specs.declared.plain.Plain.{Plain};
 ghost use Rattle.id_tag.specs.Plains.{message_of, whole};
 
 use id_graph::Port;
-use id_tag::{Cell, Context, Message, Payload, Plain, PlainToken, Sender, Structure, Tag, Value};
+use id_tag::{
+    Cell, Context, Message, Payload, Plain, PlainToken, Sender, Structure, Tag, Value, plain_of,
+    small, tiny,
+};
 
 /// A message in 64 bytes: most numbers of a run need no more than 32 bits, and there are no more than 64 elements.
 #[derive(Clone, Copy)]
@@ -36,11 +39,7 @@ const _: () = prove!(size_of::<Parcel>() == 64);
 /// cells by their index too.
 #[derive(Clone, Copy)]
 enum What {
-    Signal,
-    Int(i64),
-    Bool(bool),
-    Context(u32, u32),
-    Continuation(u32, u32, u32, u32),
+    Plain(Plain),
     Structure(u8, u32, i64, i64),
     Address(u8, u32, i64, i64, i64),
     Read(u8, u32, i64, i64, i64),
@@ -48,8 +47,6 @@ enum What {
     WriteBool(u8, u32, i64, i64, i64, bool),
     Aside(usize),
 }
-
-const LARGEST: u64 = 0xffff_ffff;
 
 /// The message in a parcel, where it fits in one.
 #[inline(always)]
@@ -81,9 +78,8 @@ pub(crate) fn packed(message: &Message) -> Option<Parcel>
 pub(crate) fn packed_plain(token: &PlainToken) -> Parcel
     ensures { IsPacked (message_of token.now) result }
 {
-    let what = carried_plain(token.value);
     Parcel {
-        what,
+        what: What::Plain(token.value),
         serial: token.serial,
         iteration: token.iteration,
         instr: token.instr,
@@ -96,27 +92,13 @@ pub(crate) fn packed_plain(token: &PlainToken) -> Parcel
     }
 }
 
-/// What a token with this value says.
-#[inline(always)]
-fn carried_plain(value: Plain) -> What
-    ensures { (t : Tag) (q : Port) → said t q result ≡ Some (Token t q (whole value)) }
-{
-    match value {
-        Plain::Signal => What::Signal,
-        Plain::Int(number) => What::Int(number),
-        Plain::Bool(truth) => What::Bool(truth),
-    }
-}
-
 /// The plain token of a parcel, where it is one.
 #[inline(always)]
 pub(crate) fn plain_in(parcel: &Parcel) -> Option<PlainToken>
     ensures { IfSome result (λ t. (asides : List Message) → unpacked asides parcel.now ≡ message_of t) }
 {
     match parcel.what {
-        What::Signal => Some(plain_token(parcel, Plain::Signal)),
-        What::Int(number) => Some(plain_token(parcel, Plain::Int(number))),
-        What::Bool(truth) => Some(plain_token(parcel, Plain::Bool(truth))),
+        What::Plain(value) => Some(plain_token(parcel, value)),
         _ => None,
     }
 }
@@ -165,16 +147,7 @@ pub(crate) fn unpack(asides: &[Message], parcel: &Parcel) -> Message
     ensures { result ≡ unpacked asides.now parcel.now }
 {
     match parcel.what {
-        What::Signal => token(parcel, Value::Signal),
-        What::Int(number) => token(parcel, Value::Int(number)),
-        What::Bool(truth) => token(parcel, Value::Bool(truth)),
-        What::Context(element, serial) => token(parcel, Value::Context(context(element, serial))),
-        What::Continuation(element, serial, iteration, instr) => {
-            token(
-                parcel,
-                Value::Continuation(tag(element, serial, iteration, instr)),
-            )
-        }
+        What::Plain(value) => token(parcel, value.value()),
         What::Structure(element, serial, low, high) => {
             token(
                 parcel,
@@ -255,38 +228,13 @@ fn message(parcel: &Parcel, payload: Payload) -> Message
 fn tag_of(parcel: &Parcel) -> Tag
     ensures { result ≡ tag_in parcel.now }
 {
-    tag(
-        u32::from(parcel.element),
-        parcel.serial,
-        parcel.iteration,
-        parcel.instr,
-    )
-}
-
-/// The tag of these numbers.
-#[inline(always)]
-fn tag(element: u32, serial: u32, iteration: u32, instr: u32) -> Tag
-    ensures { result ≡ record {
-      context = record { element = element; serial = serial };
-      iteration = iteration;
-      instr = instr;
-    } }
-{
     Tag {
-        context: context(element, serial),
-        iteration: u64::from(iteration),
-        instr,
-    }
-}
-
-/// The context of these numbers.
-#[inline(always)]
-fn context(element: u32, serial: u32) -> Context
-    ensures { result ≡ record { element = element; serial = serial } }
-{
-    Context {
-        element,
-        serial: u64::from(serial),
+        context: Context {
+            element: u32::from(parcel.element),
+            serial: u64::from(parcel.serial),
+        },
+        iteration: u64::from(parcel.iteration),
+        instr: parcel.instr,
     }
 }
 
@@ -320,13 +268,9 @@ fn carried(value: Value) -> Option<What>
     ensures { IfSome result (λ w. (t : Tag) (q : Port) → said t q w ≡ Some (Token t q value)) }
 {
     match value {
-        Value::Signal => Some(What::Signal),
-        Value::Int(number) => Some(What::Int(number)),
-        Value::Bool(truth) => Some(What::Bool(truth)),
         Value::Structure(structure) => carried_structure(structure),
         Value::Address(cell) => carried_cell(cell),
-        Value::Context(context) => carried_context(context),
-        Value::Continuation(tag) => carried_tag(tag),
+        _ => Some(What::Plain(plain_of(&value)?)),
     }
 }
 
@@ -348,25 +292,6 @@ fn carried_cell(cell: Cell) -> Option<What>
     let (element, serial) = short_structure(cell.structure)?;
     let Structure { low, high, .. } = cell.structure;
     Some(What::Address(element, serial, low, high, cell.index))
-}
-
-/// What a token with this context says, where a parcel has room for it.
-#[inline(always)]
-fn carried_context(context: Context) -> Option<What>
-    ensures { IfSome result (λ w. (t : Tag) (q : Port) → said t q w ≡ Some (Token t q (value.Context context))) }
-{
-    let serial = short(context.serial)?;
-    Some(What::Context(context.element, serial))
-}
-
-/// What a token with this continuation says, where a parcel has room for it.
-#[inline(always)]
-fn carried_tag(tag: Tag) -> Option<What>
-    ensures { IfSome result (λ w. (t : Tag) (q : Port) → said t q w ≡ Some (Token t q (value.Continuation tag))) }
-{
-    let serial = short(tag.context.serial)?;
-    let iteration = short(tag.iteration)?;
-    Some(What::Continuation(tag.context.element, serial, iteration, tag.instr))
 }
 
 /// What a read of this cell says, where a parcel has room for it.
@@ -398,21 +323,7 @@ fn stored(cell: Cell, value: Value) -> Option<What>
 fn short_structure(structure: Structure) -> Option<(u8, u32)>
     ensures { IfSome result (λ s. structure_in s.0 s.1 structure.low structure.high ≡ structure) }
 {
-    if structure.element > 0xff || structure.serial > LARGEST {
-        return None;
-    }
-    Some((structure.element as u8, structure.serial as u32))
-}
-
-/// The number in 32 bits, where it fits in them.
-#[inline(always)]
-fn short(number: u64) -> Option<u32>
-    ensures { IfSome result (λ n. n ≡ number) }
-{
-    if number > LARGEST {
-        return None;
-    }
-    Some(number as u32)
+    Some((tiny(structure.element)?, small(structure.serial)?))
 }
 
 /// The message in a parcel that says this of this tag and port, where its numbers fit.
@@ -426,26 +337,28 @@ fn narrowed(message: &Message, tag: Tag, port: Port, what: What) -> Option<Parce
     let Sender::Element(sender) = message.sender else {
         return None;
     };
-    let position = message.position as u64;
-    if tag.context.serial > LARGEST || tag.iteration > LARGEST || position > LARGEST {
-        return None;
-    }
-    if tag.context.element > 0xff || sender > 0xff {
-        return None;
-    }
-    if message.output > 0xff || message.stamp > LARGEST {
-        return None;
-    }
     Some(Parcel {
         what,
-        serial: tag.context.serial as u32,
-        iteration: tag.iteration as u32,
+        serial: small(tag.context.serial)?,
+        iteration: small(tag.iteration)?,
         instr: tag.instr,
-        position: position as u32,
-        stamp: message.stamp as u32,
-        element: tag.context.element as u8,
-        sender: sender as u8,
-        output: message.output as u8,
+        position: small(message.position as u64)?,
+        stamp: small(message.stamp)?,
+        element: tiny(tag.context.element)?,
+        sender: tiny(sender)?,
+        output: tiniest(message.output)?,
         port,
     })
+}
+
+/// The number in 8 bits, where it fits in them.
+#[inline(always)]
+fn tiniest(number: usize) -> Option<u8>
+    ensures { IfSome result (λ n. n ≡ number) }
+{
+    if number <= 0xff {
+        Some(number as u8)
+    } else {
+        None
+    }
 }

@@ -1,36 +1,29 @@
 -- The front of the store: slots that hold what waits under tags with small numbers.
-use Rattle.std.specs.Prelude.{◌≡◌, ◌≢◌, ℕ, ◌+◌, ◌-◌, ◌/◌, ◌%◌, ◌^◌, ◌<◌, if◌then◌else◌, Option, Some, None}
-use Rattle.std.specs.Prelude.{List, ◌++◌, length, bit_and, slice_index_or}
+use Rattle.std.specs.Prelude.{◌≡◌, ◌≢◌, ℕ, ◌+◌, ◌-◌, ◌/◌, ◌%◌, ◌^◌, ◌<◌, if◌then◌else◌, false}
+use Rattle.std.specs.Prelude.{Option, Some, None, List, ◌++◌, length, bit_and, slice_index_or}
 use Rattle.std.specs.Option.{option_map}
 use Rattle.std.specs.List.{filter_map}
 use Rattle.std.specs.Map.{lookup}
 use Rattle.id_graph.specs.declared.dests.Port.TheVariants.{Zero}
 use Rattle.id_tag.specs.declared.Tag.{Tag}
 use Rattle.id_tag.specs.declared.Value.{Value}
-use Rattle.id_tag.specs.declared.Value.TheVariants as value
+use Rattle.id_tag.specs.declared.plain.Plain.TheVariants.{Signal}
+use Rattle.id_tag.specs.Plains.{whole}
 use Rattle.id_tag.specs.Near.{mix}
 use Rattle.id_tag.specs.Tags.{same_tag}
 use Rattle.id_graph.specs.declared.dests.Port.{Port}
 use Rattle.id_match.specs.declared.Half.{Half}
 use Rattle.id_match.specs.declared.Offered.{Offered}
-use Rattle.id_match.specs.declared.front.Kept.{Kept}
-use Rattle.id_match.specs.declared.front.Kept.TheVariants.{Empty, Signal, Int, Bool, Context, Continuation}
 use Rattle.id_match.specs.declared.front.Slot.{Slot}
 use Rattle.id_match.specs.Halves.{answer_at, half_after}
 
 -- the value that a slot keeps, if it keeps one
-abbrev pub kept_value : Kept → Option Value
-kept_value Empty = None
-kept_value Signal = Some value.Signal
-kept_value (Int n) = Some (value.Int n)
-kept_value (Bool b) = Some (value.Bool b)
-kept_value (Context e n) = Some (value.Context (record { element = e; serial = n }))
-kept_value (Continuation e n i p) =
-    Some (value.Continuation (record { context = record { element = e; serial = n }; iteration = i; instr = p }))
+abbrev pub slot_value : Slot → Option Value
+slot_value s = if s.is_full then Some (whole s.value) else None
 
 -- what waits in a slot, and its tag
 abbrev pub slot_half : Slot → Option Half
-slot_half s = option_map (λ v. record { port = s.port; value = v }) (kept_value s.kept)
+slot_half s = option_map (λ v. record { port = s.port; value = v }) (slot_value s)
 
 abbrev pub slot_tag : Slot → Tag
 slot_tag s = record {
@@ -48,7 +41,15 @@ held s t = if same_tag t (slot_tag s) then slot_half s else None
 
 -- the slot that keeps nothing
 abbrev pub empty_slot : Slot
-empty_slot = record { kept = Empty; serial = 0; iteration = 0; instr = 0; element = 0; port = Zero }
+empty_slot = record {
+  value = Signal;
+  serial = 0;
+  iteration = 0;
+  instr = 0;
+  element = 0;
+  port = Zero;
+  is_full = false;
+}
 
 -- the place of a tag's numbers among n slots: neighbouring serial numbers have places in a row
 unfoldable pub place_of : ℕ → ℕ → ℕ → ℕ → ℕ

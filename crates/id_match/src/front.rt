@@ -7,65 +7,43 @@ ghost use Rattle.std.specs.Prelude.{IsSome, IfOk, length, replicate, map as map_
 ghost use Rattle.std.specs.Option.{option_map};
 ghost use Rattle.id_match.specs.Ports.{same_port};
 ghost use Rattle.std.specs.Map.{lookup};
-ghost use Rattle.id_tag.specs.Near.{mix};
 ghost use Rattle.id_tag.specs.Plains.{tag_in, whole};
 ghost use Rattle.id_tag.specs.Tags.{same_tag};
 ghost use Rattle.id_match.specs.declared.Half.{Half};
 ghost use Rattle.id_match.specs.Waiting.{entry_at, pair_of};
-ghost use Rattle.id_match.specs.Front.{IsPlaced, Meets, Puts, empty_slot, front_entries, front_half, held, kept_value};
-ghost use Rattle.id_match.specs.Front.{place_of, slot_entry, slot_half, slot_tag};
+ghost use Rattle.id_match.specs.Front.{IsPlaced, Meets, Puts, empty_slot, front_entries, front_half, held};
+ghost use Rattle.id_match.specs.Front.{place_of, slot_entry, slot_half, slot_tag, slot_value};
 
 use crate::{Entry, Half, Offered, pair};
 use id_graph::Port;
-use id_tag::{Context, NearHasher, Plain, PlainToken, Tag, Value};
+use id_tag::{Context, NearHasher, Plain, PlainToken, Tag, Value, mix, plain_of, small, tiny};
 use std::alloc::{AllocError, Global};
 use std::collections::HashMap;
 
-/// What a slot keeps.
-#[derive(Clone, Copy)]
-pub(crate) enum Kept {
-    Empty,
-    Signal,
-    Int(i64),
-    Bool(bool),
-    /// The element and the serial number of a context.
-    Context(u8, u32),
-    /// The element and the serial number of a tag's context, the iteration and the instruction.
-    Continuation(u8, u32, u32, u32),
-}
-
-/// A value that waits, with its tag and port.
+/// A value that waits, with its tag and port, or none.
 #[derive(Clone, Copy)]
 pub(crate) struct Slot {
-    kept: Kept,
+    value: Plain,
     serial: u32,
     iteration: u32,
     instr: u32,
     element: u8,
     port: Port,
+    is_full: bool,
 }
 
 const _: () = prove!(size_of::<Slot>() == 32);
 
 /// The slot that keeps nothing.
 const EMPTY: Slot = Slot {
-    kept: Kept::Empty,
+    value: Plain::Signal,
     serial: 0,
     iteration: 0,
     instr: 0,
     element: 0,
     port: Port::Zero,
+    is_full: false,
 };
-
-/// What is mixed so far, with a number more.
-#[inline(always)]
-fn mix(mixed: u64, number: u64) -> u64
-    ensures { result ≡ mix mixed number }
-{
-    mixed
-        .wrapping_add(number)
-        .wrapping_mul(0x9e37_79b9_7f4a_7c15)
-}
 
 /// The place of a tag's numbers among so many slots.
 #[inline(always)]
@@ -99,28 +77,14 @@ impl Slot {
     fn half(&self) -> Option<Half>
         ensures { result ≡ slot_half self.now }
     {
-        let value = match self.kept {
-            Kept::Empty => return None,
-            Kept::Signal => Value::Signal,
-            Kept::Int(number) => Value::Int(number),
-            Kept::Bool(truth) => Value::Bool(truth),
-            Kept::Context(element, serial) => Value::Context(Context {
-                element: u32::from(element),
-                serial: u64::from(serial),
-            }),
-            Kept::Continuation(element, serial, iteration, instr) => Value::Continuation(Tag {
-                context: Context {
-                    element: u32::from(element),
-                    serial: u64::from(serial),
-                },
-                iteration: u64::from(iteration),
-                instr,
-            }),
-        };
-        Some(Half {
-            port: self.port,
-            value,
-        })
+        if self.is_full {
+            Some(Half {
+                port: self.port,
+                value: self.value.value(),
+            })
+        } else {
+            None
+        }
     }
 
     /// The value that it keeps, if that waits under this tag.
@@ -135,7 +99,7 @@ impl Slot {
     fn is_empty(&self) -> bool
         ensures { IsTrue result ↔ (slot_half self.now ≡ None) }
     {
-        matches!(self.kept, Kept::Empty)
+        !self.is_full
     }
 
     /// What it keeps, as an entry.
@@ -155,66 +119,15 @@ impl Slot {
     fn partner(&self, token: &PlainToken) -> Option<Plain>
         ensures { IfSome result (λ v. (slot_tag self.now ≡ tag_in token.now)
             × (same_port self.now.port token.now.port ≡ false)
-            × (kept_value self.now.kept ≡ Some (whole v))) }
+            × (slot_value self.now ≡ Some (whole v))) }
     {
-        let same = self.serial == token.serial
+        let is_there = self.is_full
+            && self.serial == token.serial
             && self.iteration == token.iteration
             && self.instr == token.instr
             && self.element == token.element
             && self.port != token.port;
-        if !same {
-            return None;
-        }
-        match self.kept {
-            Kept::Signal => Some(Plain::Signal),
-            Kept::Int(number) => Some(Plain::Int(number)),
-            Kept::Bool(truth) => Some(Plain::Bool(truth)),
-            Kept::Empty | Kept::Context(..) | Kept::Continuation(..) => None,
-        }
-    }
-}
-
-/// The number in 32 bits, if it fits.
-fn small(number: u64) -> Option<u32>
-    ensures { IfSome result (λ n. n ≡ number) }
-{
-    if number <= 0xffff_ffff {
-        Some(number as u32)
-    } else {
-        None
-    }
-}
-
-/// The number in 8 bits, if it fits.
-fn tiny(number: u32) -> Option<u8>
-    ensures { IfSome result (λ n. n ≡ number) }
-{
-    if number <= 0xff {
-        Some(number as u8)
-    } else {
-        None
-    }
-}
-
-/// What a slot keeps of a value, if the value fits.
-fn kept_of(value: Value) -> Option<Kept>
-    ensures { IfSome result (λ k. kept_value k ≡ Some value) }
-{
-    match value {
-        Value::Signal => Some(Kept::Signal),
-        Value::Int(number) => Some(Kept::Int(number)),
-        Value::Bool(truth) => Some(Kept::Bool(truth)),
-        Value::Context(context) => Some(Kept::Context(
-            tiny(context.element)?,
-            small(context.serial)?,
-        )),
-        Value::Continuation(tag) => Some(Kept::Continuation(
-            tiny(tag.context.element)?,
-            small(tag.context.serial)?,
-            small(tag.iteration)?,
-            tag.instr,
-        )),
-        Value::Structure(_) | Value::Address(_) => None,
+        if is_there { Some(self.value) } else { None }
     }
 }
 
@@ -223,12 +136,13 @@ fn slot_for(tag: Tag, port: Port, value: Value) -> Option<Slot>
     ensures { IfSome result (λ s. (slot_tag s ≡ tag) × (slot_half s ≡ Some (record { port = port; value = value }))) }
 {
     Some(Slot {
-        kept: kept_of(value)?,
+        value: plain_of(&value)?,
         serial: small(tag.context.serial)?,
         iteration: small(tag.iteration)?,
         instr: tag.instr,
         element: tiny(tag.context.element)?,
         port,
+        is_full: true,
     })
 }
 
@@ -239,16 +153,13 @@ pub(crate) fn slot_in(token: &PlainToken) -> Slot
     ensures half { slot_half result ≡ Some (record { port = token.now.port; value = whole token.now.value }) }
 {
     Slot {
-        kept: match token.value {
-            Plain::Signal => Kept::Signal,
-            Plain::Int(number) => Kept::Int(number),
-            Plain::Bool(truth) => Kept::Bool(truth),
-        },
+        value: token.value,
         serial: token.serial,
         iteration: token.iteration,
         instr: token.instr,
         element: token.element,
         port: token.port,
+        is_full: true,
     }
 }
 
@@ -270,7 +181,7 @@ pub(crate) fn meet(front: &mut Vec<Slot>, token: &PlainToken) -> Option<Plain>
         front.len(),
     );
     let partner = front[at].partner(token)?;
-    front[at].kept = Kept::Empty;
+    front[at].is_full = false;
     Some(partner)
 }
 
@@ -291,7 +202,7 @@ pub(crate) fn take(front: &mut Vec<Slot>, tag: Tag, port: Port, value: Value) ->
     if half.port == port {
         return Some(Offered::Taken);
     }
-    front[at].kept = Kept::Empty;
+    front[at].is_full = false;
     Some(pair(port, value, half.value))
 }
 

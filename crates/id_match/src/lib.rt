@@ -7,7 +7,8 @@
 //! Not here: which operators have two ports (`id_graph`), firing (`id_ops`).
 #![tactic(auto)]
 
-ghost use Rattle.std.specs.Prelude.{◌≡◌, false, None, IsPermutation, IsSortedByKey, IfOk, IfSome, OnOk, OnErr};
+ghost use Rattle.std.specs.Prelude.{◌≡◌, ◌<◌, ◌+◌, ◌-◌, ◌^◌, false, None, IsPermutation, IsSortedByKey};
+ghost use Rattle.std.specs.Prelude.{IfOk, IfSome, OnOk, OnErr};
 ghost use Rattle.std.specs.FinMap as map;
 ghost use Rattle.std.specs.HashMap as hash;
 ghost use Rattle.std.specs.Prelude.{map as map_list};
@@ -15,6 +16,8 @@ ghost use Rattle.id_tag.specs.Tags.{same_tag, tag_cmp};
 ghost use Rattle.id_tag.specs.declared.Tag.{Tag};
 ghost use Rattle.id_graph.specs.declared.dests.Port.{Port};
 ghost use Rattle.id_match.specs.declared.Offered.TheVariants.{Kept};
+ghost use Rattle.id_match.specs.declared.Met.TheVariants as meeting;
+ghost use Rattle.id_tag.specs.declared.plain.Plain.{Plain};
 ghost use Rattle.id_match.specs.Waiting.{pair_of, entry_at};
 ghost use Rattle.id_match.specs.Halves.{answer_at, half_after};
 ghost use Rattle.id_match.specs.Meetings.{told};
@@ -72,9 +75,11 @@ pub struct Entry {
 /// The values that wait for their partner, by tag and port.
 #[derive(Drop)]
 pub struct Waiting {
-    alloc: Global,
     // For a larger front.
+    alloc: Global,
     front: Vec<Slot>,
+    // How many more plain tokens came to stand behind the front than met what stands there, since it grew.
+    crowded: usize,
     // What waits in no slot.
     halves: HashMap<Tag, Half, NearHasher>,
 }
@@ -110,6 +115,7 @@ impl Waiting {
         Waiting {
             alloc,
             front: Vec::new(alloc),
+            crowded: 0,
             halves: HashMap::with_hasher(alloc, NearHasher::new()),
         }
     }
@@ -174,20 +180,23 @@ impl Waiting {
         } else if put_beside(&mut self.front, &self.halves, slot_in(token)) {
             Ok(Met::Kept)
         } else {
-            offer_plain_to(&mut self.halves, token)
+            let met = offer_plain_to(&mut self.halves, token)?;
+            self.crowded = crowded_after(self.crowded, met);
+            Ok(met)
         }
     }
 
-    // Makes the front larger where many values stand behind it, or there is none. Where memory is wanting, all stays
-    // as it is, so this never makes an error.
+    // Makes the front larger where many plain tokens stand behind it since their slots are taken, or there is none.
+    // What fits in no slot doesn't count. Where memory is wanting, all stays as it is, so this never makes an error.
     #[inline(never)]
     fn make_room(&mut self)
         ensures { self.new ≡ self.old }
     {
         let len = self.front.len();
-        if self.halves.len() > len / 8 || len == 0 {
+        if self.crowded > len / 8 || len == 0 {
             if let Some(front) = larger(self.alloc, &self.front) {
                 self.front = front;
+                self.crowded = 0;
             }
         }
     }
@@ -210,6 +219,19 @@ impl Waiting {
         entries.append(&mut listed(alloc, &self.halves)?)?;
         sort_by_tag(&mut entries);
         Ok(entries)
+    }
+}
+
+// How many stand behind the front after an offer there.
+fn crowded_after(crowded: usize, met: Met) -> usize
+    ensures kept { met ≡ meeting.Kept → crowded < 2 ^ 64 - 1 → result ≡ crowded + 1 }
+    ensures apart { met ≡ meeting.Apart → result ≡ crowded }
+    ensures partner { (v : Plain) → met ≡ meeting.Partner v → result ≡ crowded - 1 }
+{
+    match met {
+        Met::Kept => crowded.saturating_add(1),
+        Met::Partner(_) => crowded.saturating_sub(1),
+        Met::Apart => crowded,
     }
 }
 

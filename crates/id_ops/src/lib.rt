@@ -25,7 +25,7 @@ use id_value::{
     Constant, FaultKind, Outcome, UnaryOp, bounds_are_good, calculate, compare, decide, is_inside,
     unary_result,
 };
-pub use shot::{Shot, shoot_one, shoot_two};
+pub use shot::{Shot, Target, shoot_one, shoot_two};
 
 /// The operands of one firing, by port.
 #[derive(Clone, Copy)]

@@ -1,23 +1,24 @@
-//! What an instruction does with plain operands where it sends a plain value: most firings, in two words.
+//! What an instruction does with plain operands where it sends a word: most firings, in small numbers.
 
-ghost use Rattle.std.specs.Prelude.{◌≡◌, ◌<◌, ◌-◌, ◌^◌, ℕ, IfSome, Some};
+ghost use Rattle.std.specs.Prelude.{◌≡◌, ◌<◌, ◌-◌, ◌^◌, ℕ, true, None, IfSome, Some};
 ghost use Rattle.id_graph.specs.declared.instr.Op.TheVariants.{Next};
 ghost use Rattle.id_graph.specs.declared.instr.PortKind.{PortKind};
-ghost use Rattle.id_tag.specs.Plains.{plain_of, whole};
+ghost use Rattle.id_tag.specs.Plains.{is_word, word_of, whole};
+ghost use Rattle.id_tag.specs.Kinds.{kind_of};
 ghost use Rattle.id_tag.specs.declared.Tag.{Tag};
 ghost use Rattle.id_tag.specs.declared.plain.Plain.{Plain};
 ghost use Rattle.id_ops.specs.declared.Fresh.{Fresh};
 ghost use Rattle.id_ops.specs.declared.Operands.TheVariants.{One, Two};
-ghost use Rattle.id_ops.specs.Operators.{constant_value, fired, fired_binary, fired_by, fired_const, fired_switch};
-ghost use Rattle.id_ops.specs.Operators.{fired_unary};
-ghost use Rattle.id_ops.specs.Shots.{IsNear, IsOwn, fired_of, shot_of};
+ghost use Rattle.id_ops.specs.Operators.{constant_value, fired, fired_back, fired_binary, fired_by, fired_const};
+ghost use Rattle.id_ops.specs.Operators.{fired_send, fired_switch, fired_unary};
+ghost use Rattle.id_ops.specs.declared.shot.Shot.TheVariants.{Sent};
+ghost use Rattle.id_ops.specs.Shots.{IsBrief, IsOwn, fired_of, shot_of};
 
-use crate::Fired;
 use id_graph::{Dyadic, Op, PortKind};
 use id_tag::Plain;
 use id_value::{Constant, Outcome, UnaryOp, calculate, compare, decide, unary_result};
 
-/// A firing that sends a plain value to all destinations on a side, or nothing.
+/// A firing that sends a word to all destinations on a side or to one tag, or nothing.
 #[derive(Clone, Copy)]
 pub enum Shot {
     Nothing,
@@ -27,24 +28,22 @@ pub enum Shot {
     Side(bool, Plain),
     /// The value goes to each destination at this iteration, in the context of the operands.
     Moved(u64, Plain),
+    /// The value goes to port 0 of this tag.
+    Sent(Target, Plain),
 }
 
-impl Shot {
-    /// The same as a firing. Takes no memory.
-    pub fn fired(self) -> Fired
-        ensures { result ≡ fired_of self }
-    {
-        match self {
-            Shot::Nothing => Fired::Nothing,
-            Shot::Out(value) => Fired::Out(value.value()),
-            Shot::Side(side, value) => Fired::Side(side, value.value()),
-            Shot::Moved(iteration, value) => Fired::Moved(iteration, value.value()),
-        }
-    }
+/// A tag in small numbers.
+#[derive(Clone, Copy)]
+pub struct Target {
+    /// The serial number of the context.
+    pub serial: u32,
+    pub iteration: u32,
+    pub instr: u32,
+    /// The element of the context.
+    pub element: u8,
 }
 
-/// What an operator of one port does with a plain operand at this iteration, where it sends a plain value. Takes no
-/// memory.
+/// What an operator of one port does with a plain operand at this iteration, where it sends a word. Takes no memory.
 #[inline(always)]
 pub fn shoot_one(op: Op, iteration: u64, operand: Plain) -> Option<Shot>
     requires { (k : PortKind) → op ≡ Next k → iteration < 2 ^ 64 - 1 }
@@ -53,8 +52,11 @@ pub fn shoot_one(op: Op, iteration: u64, operand: Plain) -> Option<Shot>
     ensures fired { IfSome result (λ s. (t : Tag) (f : Fresh) → t.iteration ≡ iteration
         → fired op t (One (whole operand)) f ≡ fired_of s) }
     ensures own { IfSome result (λ s. IsOwn s operand) }
-    ensures near { IfSome result (IsNear iteration) }
+    ensures brief { IfSome result (IsBrief iteration) }
 {
+    if !operand.is_word() {
+        return None;
+    }
     match op {
         Op::Const(constant) => shoot_const(constant, operand),
         Op::Unary(operator) => shoot_unary(operator, operand),
@@ -65,18 +67,22 @@ pub fn shoot_one(op: Op, iteration: u64, operand: Plain) -> Option<Shot>
     }
 }
 
-/// What an operator of two ports does with plain operands, where it sends a plain value. Takes no memory.
+/// What an operator of two ports does with plain operands, where it sends a word. Where it sends that to a tag, the
+/// number of an instruction of more than 24 bits is not for this. Takes no memory.
 #[inline(always)]
 pub fn shoot_two(op: Op, left: Plain, right: Plain) -> Option<Shot>
-    ensures exact { (t : Tag) (f : Fresh) → result ≡ shot_of (fired op t (Two (whole left) (whole right)) f) }
     ensures fired { IfSome result
         (λ s. (t : Tag) (f : Fresh) → fired op t (Two (whole left) (whole right)) f ≡ fired_of s) }
-    ensures own { IfSome result (λ s. (p : Plain) → IsOwn s p) }
-    ensures near { IfSome result (λ s. (iteration : ℕ) → IsNear iteration s) }
+    ensures none { result ≡ None → (t : Tag) (f : Fresh)
+        → shot_of (fired op t (Two (whole left) (whole right)) f) ≡ None }
+    ensures own { IfSome result (λ s. is_word right ≡ true → IsOwn s right) }
+    ensures brief { IfSome result (λ s. (iteration : ℕ) → IsBrief iteration s) }
 {
     match op {
         Op::Binary(operator) => shoot_binary(operator, left, right),
         Op::Switch(kind) => shoot_switch(kind, left, right),
+        Op::Send { kind, target } => shoot_send(kind, target, left, right),
+        Op::Back(kind) => shoot_back(kind, left, right),
         _ => None,
     }
 }
@@ -94,7 +100,7 @@ fn shoot_const(constant: Constant, operand: Plain) -> Option<Shot>
 /// A constant as a plain value.
 #[inline(always)]
 fn plain_constant(constant: Constant) -> Plain
-    ensures { plain_of (constant_value constant) ≡ Some result }
+    ensures { word_of (constant_value constant) ≡ Some result }
 {
     match constant {
         Constant::Int(number) => Plain::Int(number),
@@ -108,7 +114,7 @@ fn shoot_unary(operator: UnaryOp, operand: Plain) -> Option<Shot>
     match operand {
         Plain::Int(number) => shot_by(unary_result(operator, Constant::Int(number))),
         Plain::Bool(truth) => shot_by(unary_result(operator, Constant::Bool(truth))),
-        Plain::Signal => None,
+        _ => None,
     }
 }
 
@@ -135,8 +141,71 @@ fn shoot_switch(kind: PortKind, left: Plain, right: Plain) -> Option<Shot>
     ensures { result ≡ shot_of (fired_switch kind (Two (whole left) (whole right))) }
 {
     match left {
-        Plain::Bool(side) if right.kind() == kind => Some(Shot::Side(side, right)),
+        Plain::Bool(side) if right.is_word() && right.kind() == kind => {
+            Some(Shot::Side(side, right))
+        }
         _ => None,
+    }
+}
+
+#[inline(always)]
+fn shoot_send(kind: PortKind, target: u32, left: Plain, right: Plain) -> Option<Shot>
+    ensures fired { IfSome result (λ s. fired_send kind target (Two (whole left) (whole right)) ≡ fired_of s) }
+    ensures own { IfSome result (λ s. IsOwn s right) }
+    ensures brief { IfSome result (λ s. (iteration : ℕ) → IsBrief iteration s) }
+{
+    match left {
+        Plain::Context(element, serial) => {
+            shot_to(
+                Target {
+                    serial,
+                    iteration: 0,
+                    instr: target,
+                    element,
+                },
+                kind,
+                right,
+            )
+        }
+        _ => None,
+    }
+}
+
+#[inline(always)]
+fn shoot_back(kind: PortKind, left: Plain, right: Plain) -> Option<Shot>
+    ensures fired { IfSome result (λ s. fired_back kind (Two (whole left) (whole right)) ≡ fired_of s) }
+    ensures own { IfSome result (λ s. IsOwn s right) }
+    ensures brief { IfSome result (λ s. (iteration : ℕ) → IsBrief iteration s) }
+{
+    match left {
+        Plain::Continuation(element, serial, iteration, instr) => {
+            shot_to(
+                Target {
+                    serial,
+                    iteration,
+                    instr,
+                    element,
+                },
+                kind,
+                right,
+            )
+        }
+        _ => None,
+    }
+}
+
+/// The shot of a word of this kind to a tag, whose instruction has a number of 24 bits.
+#[inline(always)]
+fn shot_to(target: Target, kind: PortKind, value: Plain) -> Option<Shot>
+    ensures kind { IfSome result (λ _. kind_of (whole value) ≡ kind) }
+    ensures sent { IfSome result (λ s. s ≡ Sent target value) }
+    ensures word { IfSome result (λ _. is_word value ≡ true) }
+    ensures small { IfSome result (λ _. target.instr < 2 ^ 24) }
+{
+    if target.instr <= 0xff_ffff && value.is_word() && value.kind() == kind {
+        Some(Shot::Sent(target, value))
+    } else {
+        None
     }
 }
 

@@ -1,7 +1,8 @@
 -- What the record keeps of a token with a plain value.
-use Rattle.std.specs.Prelude.{◌<◌, ◌-◌, ◌^◌, ℕ}
-use Rattle.id_tag.specs.declared.Tag.{Tag}
+use Rattle.std.specs.Prelude.{◌<◌, ◌-◌, ◌^◌}
 use Rattle.id_tag.specs.Plains.{message_of}
+use Rattle.id_tag.specs.declared.plain.Plain.{Plain}
+use Rattle.id_tag.specs.declared.plain.Plain.TheVariants.{Continuation}
 use Rattle.id_ops.specs.Shots.{fired_of}
 use Rattle.id_tag.specs.declared.plain.PlainToken.{PlainToken}
 use Rattle.id_record.specs.declared.step.Verdict.TheVariants.{Went}
@@ -18,9 +19,10 @@ shooting s = record {
   replies = no_replies;
 }
 
--- a tag at this iteration
-abbrev pub tag_at : ℕ → Tag
-tag_at i = record { context = record { element = 0; serial = 0 }; iteration = i; instr = 0 }
+-- a line has room for the value: an instruction that it names has a number of 24 bits
+abbrev pub IsNarrow : Plain → Type 0
+IsNarrow (Continuation e s k j) = j < 2 ^ 24
+IsNarrow v = Unit {0}
 
 -- a line has room for the event of the token
 pub record HasLine (t : PlainToken) : Type 0 where
@@ -28,3 +30,4 @@ pub record HasLine (t : PlainToken) : Type 0 where
   pub instr : t.instr < 2 ^ 24
   pub sender : t.sender < 255
   pub iteration : t.iteration < 2 ^ 32 - 1
+  pub value : IsNarrow t.value

@@ -83,7 +83,7 @@ impl<'a> Record<'a> {
     ghost use Rattle.id_record.specs.Events.{tag_of, value_of};
     ghost use Rattle.id_record.specs.Lines.{AreThere, handled};
     ghost use Rattle.id_record.specs.Shootings.{HasLine, shooting};
-    ghost use Rattle.id_ops.specs.Shots.{IsNear, IsOwn};
+    ghost use Rattle.id_ops.specs.Shots.{IsBrief, IsOwn};
     ghost use Rattle.id_record.specs.Records.{event_of_handled};
 
     /// The empty record of the element of this number. Takes no memory.
@@ -172,7 +172,7 @@ impl<'a> Record<'a> {
         requires room { 0 < self.old.room }
         requires fits { HasLine event.token.now }
         requires own { IsOwn event.shot event.token.now.value }
-        requires near { IsNear event.token.now.iteration event.shot }
+        requires brief { IsBrief event.token.now.iteration event.shot }
         ensures element { self.new.element ≡ self.old.element }
         ensures graph { self.new.graph ≡ self.old.graph }
         ensures events { self.new.events ≡ self.old.events

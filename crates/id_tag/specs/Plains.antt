@@ -1,10 +1,10 @@
--- Plain values: those of one word.
-use Rattle.std.specs.Prelude.{Option, None, Some}
+-- Plain values: those of small numbers.
+use Rattle.std.specs.Prelude.{Bool as Truth, true, false, Option, None, Some}
 use Rattle.id_tag.specs.declared.Tag.{Tag}
 use Rattle.id_tag.specs.declared.Value.{Value}
 use Rattle.id_tag.specs.declared.Value.TheVariants as value
 use Rattle.id_tag.specs.declared.plain.Plain.{Plain}
-use Rattle.id_tag.specs.declared.plain.Plain.TheVariants.{Signal, Int, Bool}
+use Rattle.id_tag.specs.declared.plain.Plain.TheVariants.{Signal, Int, Bool, Context, Continuation}
 use Rattle.id_tag.specs.declared.plain.PlainToken.{PlainToken}
 use Rattle.id_tag.specs.declared.Message.{Message}
 use Rattle.id_tag.specs.declared.Payload.TheVariants.{Token}
@@ -15,16 +15,27 @@ abbrev pub whole : Plain → Value
 whole Signal = value.Signal
 whole (Int n) = value.Int n
 whole (Bool b) = value.Bool b
+whole (Context e s) = value.Context (record { element = e; serial = s })
+whole (Continuation e s k j) =
+    value.Continuation (record { context = record { element = e; serial = s }; iteration = k; instr = j })
 
--- the plain value that a value is, if it is one
-abbrev pub plain_of : Value → Option Plain
-plain_of value.Signal = Some Signal
-plain_of (value.Int n) = Some (Int n)
-plain_of (value.Bool b) = Some (Bool b)
-plain_of (value.Structure s) = None
-plain_of (value.Address c) = None
-plain_of (value.Context c) = None
-plain_of (value.Continuation t) = None
+-- whether a plain value is a word: a signal, a number or a truth value
+abbrev pub is_word : Plain → Truth
+is_word Signal = true
+is_word (Int n) = true
+is_word (Bool b) = true
+is_word (Context e s) = false
+is_word (Continuation e s k j) = false
+
+-- the word that a value is, if it is one, as a plain value
+abbrev pub word_of : Value → Option Plain
+word_of value.Signal = Some Signal
+word_of (value.Int n) = Some (Int n)
+word_of (value.Bool b) = Some (Bool b)
+word_of (value.Structure s) = None
+word_of (value.Address c) = None
+word_of (value.Context c) = None
+word_of (value.Continuation t) = None
 
 -- the tag of a plain token
 abbrev pub tag_in : PlainToken → Tag

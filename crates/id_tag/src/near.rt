@@ -96,9 +96,9 @@ fn number(bytes: &[u8]) -> u64
     half(bytes, 0) | half(bytes, 4) << 32
 }
 
-/// What is mixed so far, with a number more.
+/// What is mixed so far, with a number more. Takes no memory.
 #[inline(always)]
-fn mix(mixed: u64, number: u64) -> u64
+pub fn mix(mixed: u64, number: u64) -> u64
     ensures { result ≡ mix mixed number }
 {
     mixed

@@ -1,18 +1,22 @@
-//! Plain values: those of one word, which most tokens carry.
+//! Plain values: those of small numbers, which most tokens carry.
 
-ghost use Rattle.std.specs.Prelude.{◌≡◌, IfSome};
+ghost use Rattle.std.specs.Prelude.{◌≡◌, ◌≤◌, ◌^◌, None, IfSome};
 ghost use Rattle.id_tag.specs.Kinds.{kind_of};
-ghost use Rattle.id_tag.specs.Plains.{plain_of, whole};
+ghost use Rattle.id_tag.specs.Plains.{is_word, whole, word_of};
 
 use crate::{Context, Message, Payload, Sender, Tag, Value};
 use id_graph::{Port, PortKind};
 
-/// A signal, a number or a truth value.
+/// A word, which is a signal, a number or a truth value; or a context or a continuation in small numbers.
 #[derive(Clone, Copy)]
 pub enum Plain {
     Signal,
     Int(i64),
     Bool(bool),
+    /// The element and the serial number of a context.
+    Context(u8, u32),
+    /// The element and the serial number of a tag's context, its iteration and its instruction.
+    Continuation(u8, u32, u32, u32),
 }
 
 impl Plain {
@@ -25,6 +29,12 @@ impl Plain {
             Plain::Signal => Value::Signal,
             Plain::Int(number) => Value::Int(number),
             Plain::Bool(truth) => Value::Bool(truth),
+            Plain::Context(element, serial) => Value::Context(context(element, serial)),
+            Plain::Continuation(element, serial, iteration, instr) => Value::Continuation(Tag {
+                context: context(element, serial),
+                iteration: u64::from(iteration),
+                instr,
+            }),
         }
     }
 
@@ -37,22 +47,81 @@ impl Plain {
             Plain::Signal => PortKind::Signal,
             Plain::Int(_) => PortKind::Int,
             Plain::Bool(_) => PortKind::Bool,
+            Plain::Context(_, _) => PortKind::Context,
+            Plain::Continuation(_, _, _, _) => PortKind::Continuation,
+        }
+    }
+
+    /// Whether it is a word. Takes no memory.
+    #[inline(always)]
+    pub fn is_word(self) -> bool
+        ensures { result ≡ is_word self }
+    {
+        match self {
+            Plain::Signal | Plain::Int(_) | Plain::Bool(_) => true,
+            Plain::Context(_, _) | Plain::Continuation(_, _, _, _) => false,
         }
     }
 }
 
-/// The value as a plain one, where it is one. Takes no memory.
+/// The context of these numbers.
+#[inline(always)]
+fn context(element: u8, serial: u32) -> Context
+    ensures { result ≡ record { element = element; serial = serial } }
+{
+    Context {
+        element: u32::from(element),
+        serial: u64::from(serial),
+    }
+}
+
+/// The value as a plain one, where it is a word, or a context or a continuation in small numbers. Takes no memory.
 #[inline(always)]
 pub fn plain_of(value: &Value) -> Option<Plain>
-    ensures exact { result ≡ plain_of value.now }
     ensures whole { IfSome result (λ p. whole p ≡ value.now) }
+    ensures none { result ≡ None → word_of value.now ≡ None }
 {
     match *value {
         Value::Signal => Some(Plain::Signal),
         Value::Int(number) => Some(Plain::Int(number)),
         Value::Bool(truth) => Some(Plain::Bool(truth)),
         Value::Structure(_) | Value::Address(_) => None,
-        Value::Context(_) | Value::Continuation(_) => None,
+        Value::Context(context) => Some(Plain::Context(
+            tiny(context.element)?,
+            small(context.serial)?,
+        )),
+        Value::Continuation(tag) => Some(Plain::Continuation(
+            tiny(tag.context.element)?,
+            small(tag.context.serial)?,
+            small(tag.iteration)?,
+            tag.instr,
+        )),
+    }
+}
+
+/// The number in 32 bits, where it fits in them. Takes no memory.
+#[inline(always)]
+pub fn small(number: u64) -> Option<u32>
+    ensures fits { IfSome result (λ n. n ≡ number) }
+    ensures none { result ≡ None → 2 ^ 32 ≤ number }
+{
+    if number <= 0xffff_ffff {
+        Some(number as u32)
+    } else {
+        None
+    }
+}
+
+/// The number in 8 bits, where it fits in them. Takes no memory.
+#[inline(always)]
+pub fn tiny(number: u32) -> Option<u8>
+    ensures fits { IfSome result (λ n. n ≡ number) }
+    ensures none { result ≡ None → 2 ^ 8 ≤ number }
+{
+    if number <= 0xff {
+        Some(number as u8)
+    } else {
+        None
     }
 }
 
@@ -100,10 +169,7 @@ impl PlainToken {
         ensures { result ≡ tag_in self.now }
     {
         Tag {
-            context: Context {
-                element: u32::from(self.element),
-                serial: u64::from(self.serial),
-            },
+            context: context(self.element, self.serial),
             iteration: u64::from(self.iteration),
             instr: self.instr,
         }

@@ -1,21 +1,20 @@
-//! The lines of tokens with plain values that sent plain values, or nothing: most events.
+//! The lines of tokens with plain values that sent words, or nothing: most events.
 
-ghost use Rattle.std.specs.Prelude.{◌≡◌, ◌≤◌, ◌<◌, ◌+◌, ◌^◌, ◌↔◌, ℕ, ℤ, IsTrue, Some};
+ghost use Rattle.std.specs.Prelude.{◌≡◌, ◌<◌, ◌^◌, ◌↔◌, IsTrue, true, Some};
 ghost use Rattle.id_tag.specs.declared.Tag.{Tag};
 ghost use Rattle.id_tag.specs.declared.Value.{Value};
-ghost use Rattle.id_tag.specs.declared.plain.Plain.{Plain};
-ghost use Rattle.id_tag.specs.Plains.{message_of, whole};
-ghost use Rattle.id_ops.specs.Shots.{IsNear, IsOwn, fired_of};
+ghost use Rattle.id_tag.specs.Plains.{is_word, message_of, whole};
+ghost use Rattle.id_ops.specs.Shots.{IsBrief, IsOwn, fired_of, target_tag};
 ghost use Rattle.id_record.specs.declared.step.Verdict.TheVariants.{Went};
-ghost use Rattle.id_record.specs.Lines.{IsPacked, Names, carried_value, element_at, fired_at, instr_at, number_in};
-ghost use Rattle.id_record.specs.Lines.{number_of, own, reaction_of};
-ghost use Rattle.id_record.specs.Shootings.{HasLine, shooting, tag_at};
+ghost use Rattle.id_record.specs.Lines.{IsPacked, NamedBy, Names, carried_value, element_at, fired_at, instr_at};
+ghost use Rattle.id_record.specs.Lines.{number_in, number_of, own, reaction_of};
+ghost use Rattle.id_record.specs.Shootings.{HasLine, IsNarrow, shooting};
 
 use super::{
     Carried, Effect, Exit, Kind, Line, false_at, int_at, joined, of_kind, place, position_at,
     signal_at, true_at,
 };
-use id_ops::Shot;
+use id_ops::{Shot, Target};
 use id_tag::{Plain, PlainToken};
 
 /// A plain token that is being handled, the stamp of that event, and what its instruction sends.
@@ -26,16 +25,29 @@ pub struct Shooting<'a> {
     pub shot: Shot,
 }
 
-/// Whether a line has room for the event of this token, whose own value alone is moved, and to the next iteration at
-/// most. Takes no memory.
+/// Whether a line has room for the event of this token, which sends its own value on alone, and to the next iteration
+/// at most. Takes no memory.
 #[inline(always)]
 pub fn has_line(token: &PlainToken) -> bool
     ensures { IsTrue result ↔ HasLine token.now }
 {
-    token.position <= 0x7fff_ffff
-        && token.instr <= 0xff_ffff
-        && token.sender < 0xff
-        && token.iteration < 0xffff_ffff
+    // All at once, without a branch for each: nearly all of them hold.
+    (token.position <= 0x7fff_ffff)
+        & (token.instr <= 0xff_ffff)
+        & (token.sender < 0xff)
+        & (token.iteration < 0xffff_ffff)
+        & is_narrow(token.value)
+}
+
+/// Whether a line has room for the value.
+#[inline(always)]
+fn is_narrow(value: Plain) -> bool
+    ensures { IsTrue result ↔ IsNarrow value }
+{
+    match value {
+        Plain::Continuation(_, _, _, instr) => instr <= 0xff_ffff,
+        _ => true,
+    }
 }
 
 /// The event in a line.
@@ -43,21 +55,21 @@ pub fn has_line(token: &PlainToken) -> bool
 pub(crate) fn shot_line(event: &Shooting<'_>) -> Line
     requires fits { HasLine event.now.token.now }
     requires own { IsOwn event.now.shot event.now.token.now.value }
-    requires near { IsNear event.now.token.now.iteration event.now.shot }
+    requires brief { IsBrief event.now.token.now.iteration event.now.shot }
     ensures { IsPacked (shooting event.now) result }
 {
     narrowed(
         event,
         carried(event.token.value),
-        shot_effect(event.shot),
-        iteration_of(event.shot),
+        shot_effect(event),
+        named(event.shot, event.token),
     )
 }
 
 /// The value as a line carries it.
 #[inline(always)]
 fn carried(value: Plain) -> Carried
-    ensures { (t : Tag) → carried_value t result.kind result.value ≡ Some (whole value) }
+    ensures { (t : Tag) → NamedBy (whole value) t → carried_value t result.kind result.value ≡ Some (whole value) }
 {
     match value {
         Plain::Signal => of_kind(Kind::Signal),
@@ -67,40 +79,84 @@ fn carried(value: Plain) -> Carried
         },
         Plain::Bool(true) => of_kind(Kind::True),
         Plain::Bool(false) => of_kind(Kind::False),
+        Plain::Context(element, serial) => Carried {
+            kind: Kind::Context,
+            value: joined(u64::from(element), u64::from(serial)),
+        },
+        Plain::Continuation(_, _, _, _) => of_kind(Kind::Continuation),
     }
 }
 
-/// The iteration to which a shot moves its value, or 0.
+/// The tag that the event names beside that of its message: where the value was sent, which iteration it moved to, or
+/// what a value that waits names.
 #[inline(always)]
-fn iteration_of(shot: Shot) -> u64
-    ensures names { (v : Plain) → Names (fired_of shot) (whole v) (tag_at result) }
-    ensures near { (k : ℕ) → IsNear k shot → result ≤ k + 1 }
+fn named(shot: Shot, token: &PlainToken) -> Target
+    requires fits { HasLine token.now }
+    requires brief { IsBrief token.now.iteration shot }
+    ensures names { Names (fired_of shot) (whole token.now.value) (target_tag result) }
+    ensures small { result.instr < 2 ^ 24 }
 {
     match shot {
-        Shot::Moved(iteration, _) => iteration,
-        _ => 0,
+        Shot::Moved(iteration, _) => Target {
+            serial: 0,
+            iteration: iteration as u32,
+            instr: 0,
+            element: 0,
+        },
+        Shot::Sent(target, _) => target,
+        Shot::Nothing => named_by(token.value),
+        Shot::Out(_) | Shot::Side(_, _) => NOWHERE,
     }
 }
 
-/// The effect of a shot, which moves no value but the token's own.
+/// The tag that a value names, or else any.
 #[inline(always)]
-fn shot_effect(shot: Shot) -> Effect
-    ensures { (v : Plain) (t : Tag) → IsOwn shot v → Names (fired_of shot) (whole v) t →
-        reaction_of result (number_of (fired_of shot) t) t (whole v)
-        ≡ record { fired = fired_of shot; verdict = Went } }
+fn named_by(value: Plain) -> Target
+    requires { IsNarrow value }
+    ensures named { NamedBy (whole value) (target_tag result) }
+    ensures small { result.instr < 2 ^ 24 }
 {
-    match shot {
+    match value {
+        Plain::Continuation(element, serial, iteration, instr) => Target {
+            serial,
+            iteration,
+            instr,
+            element,
+        },
+        _ => NOWHERE,
+    }
+}
+
+const NOWHERE: Target = Target {
+    serial: 0,
+    iteration: 0,
+    instr: 0,
+    element: 0,
+};
+
+/// The effect of a shot of words, which sends no value on but the token's own.
+#[inline(always)]
+fn shot_effect(event: &Shooting<'_>) -> Effect
+    requires own { IsOwn event.now.shot event.now.token.now.value }
+    requires brief { IsBrief event.now.token.now.iteration event.now.shot }
+    ensures { (t : Tag) → Names (fired_of event.now.shot) (whole event.now.token.now.value) t →
+        reaction_of result (number_of (fired_of event.now.shot) t) t (whole event.now.token.now.value)
+        ≡ record { fired = fired_of event.now.shot; verdict = Went } }
+{
+    match event.shot {
         Shot::Nothing => Effect::Nothing,
         Shot::Out(sent) => going_out(Exit::Only, sent),
         Shot::Side(true, sent) => going_out(Exit::True, sent),
         Shot::Side(false, sent) => going_out(Exit::False, sent),
         Shot::Moved(_, _) => Effect::Moved,
+        Shot::Sent(_, _) => Effect::Sent,
     }
 }
 
-/// The effect of a plain value's going out there.
+/// The effect of a word's going out there.
 #[inline(always)]
 fn going_out(exit: Exit, sent: Plain) -> Effect
+    requires { is_word sent ≡ true }
     ensures { (t : Tag) (v : Value) → reaction_of result (number_in (whole sent)) t v
         ≡ record { fired = fired_at exit (whole sent); verdict = Went } }
 {
@@ -109,18 +165,21 @@ fn going_out(exit: Exit, sent: Plain) -> Effect
         Plain::Int(_) => int_at(exit),
         Plain::Bool(true) => true_at(exit),
         Plain::Bool(false) => false_at(exit),
+        // No word.
+        Plain::Context(_, _) | Plain::Continuation(_, _, _, _) => signal_at(exit),
     }
 }
 
-/// The number that went out, or else the iteration that the event names.
+/// The number that went out, or else the iteration and the serial number of the tag that the event names.
 #[inline(always)]
-fn number(shot: Shot, iteration: u64) -> i64
-    requires { iteration < 2 ^ 32 }
-    ensures { result ≡ number_of (fired_of shot) (tag_at iteration) }
+fn number(shot: Shot, named: &Target) -> i64
+    ensures { result ≡ number_of (fired_of shot) (target_tag named.now) }
 {
     match shot {
         Shot::Out(sent) | Shot::Side(_, sent) => number_in(sent),
-        Shot::Nothing | Shot::Moved(_, _) => joined(iteration, 0),
+        Shot::Nothing | Shot::Moved(_, _) | Shot::Sent(_, _) => {
+            joined(u64::from(named.iteration), u64::from(named.serial))
+        }
     }
 }
 
@@ -135,31 +194,31 @@ fn number_in(sent: Plain) -> i64
     }
 }
 
-/// The event in a line with this value, this effect and this iteration beside that of its message.
+/// The event in a line with this value, this effect and this tag beside that of its message.
 #[inline(always)]
-fn narrowed(event: &Shooting<'_>, carried: Carried, effect: Effect, iteration: u64) -> Line
+fn narrowed(event: &Shooting<'_>, carried: Carried, effect: Effect, named: Target) -> Line
     requires fits { HasLine event.now.token.now }
-    requires iteration { iteration < 2 ^ 32 }
+    requires small { named.instr < 2 ^ 24 }
     ensures kind { result.kind ≡ carried.kind }
     ensures value { result.value ≡ carried.value }
     ensures effect { result.effect ≡ effect }
-    ensures number { result.result ≡ number_of (fired_of event.now.shot) (tag_at iteration) }
-    ensures to_element { element_at result.to ≡ 0 }
-    ensures to_instr { instr_at result.to ≡ 0 }
+    ensures number { result.result ≡ number_of (fired_of event.now.shot) (target_tag named) }
+    ensures to_element { element_at result.to ≡ named.element }
+    ensures to_instr { instr_at result.to ≡ named.instr }
     ensures message { (own result (whole event.now.token.now.value)).message ≡ message_of event.now.token.now }
     ensures stamp { result.stamp ≡ event.now.stamp }
 {
     let token = event.token;
     Line {
         value: carried.value,
-        result: number(event.shot, iteration),
+        result: number(event.shot, &named),
         serial: token.serial,
         iteration: token.iteration,
         position: position_at(u64::from(token.position), token.port),
         sent: token.stamp,
         stamp: event.stamp,
         place: place(u32::from(token.element), token.instr),
-        to: 0,
+        to: place(u32::from(named.element), named.instr),
         sender: token.sender + 1,
         output: token.output,
         kind: carried.kind,

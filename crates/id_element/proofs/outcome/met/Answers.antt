@@ -6,5 +6,7 @@ pub returns-in-Some : goal.returns-in-Some
 returns-in-Some c w later answer after =
     let t = c.args.token.now in
     shot_from_meeting c.args.op w later t c.by_port-left.result.0 c.by_port-left.result.1 c.in-Some.shot
-    (meeting c.args.op w later t c.by_port-left.result.0 c.by_port-left.result.1 c.args.partner c.requires answer c.by_port-left.ensures after)
-    c.in-Some.ensures.fired (c.in-Some.ensures.own t.value) (c.in-Some.ensures.near t.iteration)
+    (meeting c.args.op w later t c.by_port-left.result.0 c.by_port-left.result.1 c.args.partner c.requires answer c.by_port-left.ensures.pair after)
+    c.in-Some.ensures.fired
+    (c.is_own.ensures c.if-is_own.true c.by_port-left.result.1 c.by_port-left.ensures.one c.in-Some.ensures.own)
+    (c.in-Some.ensures.brief t.iteration)

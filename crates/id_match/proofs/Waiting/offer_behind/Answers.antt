@@ -5,7 +5,7 @@ use Rattle.std.specs.FinMap.{from_entries}
 use Rattle.id_tag.specs.Plains.{tag_in, whole}
 use Rattle.id_match.specs.Front.{IsKept, all_entries, front_half}
 use Rattle.id_match.specs.Meetings.{told}
-use Rattle.id_match.proofs.FrontLemmas.{all_of_slot, behind_kept, behind_answer, behind_after, others_always, if_ok, if_some}
+use Rattle.id_match.proofs.FrontLemmas.{all_of_slot, behind_kept, behind_answer, behind_after, others_always, if_some}
 use Rattle.id_match.proofs.Waiting.offer_behind.Goals as goal
 
 pub invariant_of-self : goal.invariant_of-self
@@ -44,8 +44,8 @@ invariant_of-self-else-put_beside c =
     behind_kept c.put_beside.new.front.items c.self.inside.halves.entries _ holds kept (tag_in c.args.token.now) c.args.token.now.port (whole
     c.args.token.now.value) free c.offer_plain_to.new.halves.entries others
 
-pub returns-else-put_beside-clause-answer : goal.returns-else-put_beside-clause-answer
-returns-else-put_beside-clause-answer c =
+pub returns-in_ok-met-clause-answer : goal.returns-in_ok-met-clause-answer
+returns-in_ok-met-clause-answer c =
     let is : from_entries (all_entries c.self.inside.front.items c.self.inside.halves.entries) ≡ c.args.self.now = c.self.view_is ∙ c.make_room.ensures in
     let same : c.put_beside.new.front.items ≡ c.self.inside.front.items = c.if-put_beside.ensures.full refl in
     let kept : IsKept c.put_beside.new.front.items c.self.inside.halves.entries = subst (λ f. IsKept f c.self.inside.halves.entries) (sym same)
@@ -54,12 +54,12 @@ returns-else-put_beside-clause-answer c =
     f c.self.inside.halves.entries)) same ∙ is in
     let empty : front_half c.self.inside.front.items (tag_in c.args.token.now) ≡ None = grind (arith, common_steps) in
     let free : front_half c.put_beside.new.front.items (tag_in c.args.token.now) ≡ None = ap (λ f. front_half f (tag_in c.args.token.now)) same ∙ empty in
-    if_ok c.offer_plain_to.result (λ met h. if_some (told met c.args.token.now) (λ a e. behind_answer c.put_beside.new.front.items
-    c.self.inside.halves.entries _ holds kept (tag_in c.args.token.now) c.args.token.now.port (whole c.args.token.now.value) free a e) h)
-    c.offer_plain_to.ensures.answer
+    if_some (told c.in_ok-met.met c.args.token.now) (λ a e. behind_answer c.put_beside.new.front.items
+    c.self.inside.halves.entries _ holds kept (tag_in c.args.token.now) c.args.token.now.port (whole c.args.token.now.value) free a e)
+    c.in_ok-met.ensures.answer
 
-pub returns-else-put_beside-clause-after : goal.returns-else-put_beside-clause-after
-returns-else-put_beside-clause-after c =
+pub returns-in_ok-met-clause-after : goal.returns-in_ok-met-clause-after
+returns-in_ok-met-clause-after c =
     let is : from_entries (all_entries c.self.inside.front.items c.self.inside.halves.entries) ≡ c.args.self.now = c.self.view_is ∙ c.make_room.ensures in
     let same : c.put_beside.new.front.items ≡ c.self.inside.front.items = c.if-put_beside.ensures.full refl in
     let kept : IsKept c.put_beside.new.front.items c.self.inside.halves.entries = subst (λ f. IsKept f c.self.inside.halves.entries) (sym same)
@@ -70,6 +70,6 @@ returns-else-put_beside-clause-after c =
     let free : front_half c.put_beside.new.front.items (tag_in c.args.token.now) ≡ None = ap (λ f. front_half f (tag_in c.args.token.now)) same ∙ empty in
     let others = others_always c.self.inside.halves.entries c.offer_plain_to.new.halves.entries c.offer_plain_to.result (tag_in c.args.token.now)
     c.offer_plain_to.ensures.others c.offer_plain_to.ensures.err in
-    if_ok c.offer_plain_to.result (λ met h. if_some (told met c.args.token.now) (λ a e. behind_after c.put_beside.new.front.items
+    if_some (told c.in_ok-met.met c.args.token.now) (λ a e. behind_after c.put_beside.new.front.items
     c.self.inside.halves.entries _ holds kept (tag_in c.args.token.now) c.args.token.now.port (whole c.args.token.now.value) free
-    c.offer_plain_to.new.halves.entries others e) h) c.offer_plain_to.ensures.at
+    c.offer_plain_to.new.halves.entries others e) c.in_ok-met.ensures.at
