@@ -33,14 +33,16 @@ use Rattle.id_record.specs.Lines.{no_replies}
 use Rattle.id_record.specs.declared.line.Handled.{Handled}
 use Rattle.id_record.proofs.LinesLemmas.{event_alone}
 use Rattle.id_tag.specs.declared.Payload.{Payload}
-use Rattle.id_element.specs.Steps.{State, next_stamp, outputs_of, outcome, outcome_of, state_after}
+use Rattle.id_element.specs.Steps.{State, next_stamp, outputs_of, outcome, outcome_of, state_after, step_of}
 use Rattle.id_element.specs.Steps.{Outcome, allocated_by, answer_fired, answer_sends, arrival, arrival_of, arriving, at_instr, fired_step, fired_verdict, made_by, waiting_after}
 use Rattle.id_record.specs.Sends.{numbered, sent}
-use Rattle.id_element.specs.Firings.{IsMeeting, IsShot, arrival_in, firing_of, verdict_of}
+use Rattle.id_element.specs.declared.step.PlainOperands.{PlainOperands}
+use Rattle.id_element.specs.declared.step.PlainOperands.TheVariants as plain
+use Rattle.id_element.specs.Firings.{IsFiring, IsShot, arrival_in, firing_of, operands_in, verdict_of}
 use Rattle.id_graph.specs.Ports.{two_ports}
 use Rattle.id_match.specs.Waiting.{offer_after, offer_answer, pair_of}
 use Rattle.id_match.specs.declared.Offered.TheVariants.{Pair}
-use Rattle.id_ops.specs.declared.Operands.TheVariants.{One, Two}
+use Rattle.id_ops.specs.declared.Operands.TheVariants.{One}
 use Rattle.id_ops.specs.declared.shot.Shot.{Shot}
 use Rattle.id_ops.specs.declared.shot.Shot.TheVariants as shot
 use Rattle.id_ops.specs.Shots.{IsBrief, IsOwn, fired_of}
@@ -161,116 +163,96 @@ waits_offered : (op : Op) (w : Store) (t : PlainToken) → two_ports op ≡ true
     → waiting_after op w (tag_in t) t.port (whole t.value) ≡ offer_after w (tag_in t) t.port (whole t.value)
 waits_offered op w t two = ap (λ b. cond b (offer_after w (tag_in t) t.port (whole t.value)) w) two
 
--- a plain token whose offer gave a pair meets its partner
+-- a plain token whose offer gave a pair fires an operator of two ports
 pub meeting : (op : Op) (w later : Store) (t : PlainToken) (l r v : Plain) → two_ports op ≡ true
     → offer_answer w (tag_in t) t.port (whole t.value) ≡ pair_of t.port (whole t.value) (whole v)
     → Pair (whole l) (whole r) ≡ pair_of t.port (whole t.value) (whole v)
-    → later ≡ offer_after w (tag_in t) t.port (whole t.value) → IsMeeting op w later t l r
+    → later ≡ offer_after w (tag_in t) t.port (whole t.value) → IsFiring op w later t (plain.Two l r)
 meeting op w later t l r v two answer pair after = record {
-  meets = offered op w t two ∙ ap arrival_of (answer ∙ sym pair);
+  fires = offered op w t two ∙ ap arrival_of (answer ∙ sym pair);
   waits = after ∙ sym (waits_offered op w t two);
 }
 
 -- it comes to what its operands are shot for
-pub shot_from_meeting : (op : Op) (w later : Store) (t : PlainToken) (l r : Plain) (s : Shot) → IsMeeting op w later t l r
-    → ((u : Tag) (n : Fresh) → fired op u (Two (whole l) (whole r)) n ≡ fired_of s) → IsOwn s t.value → IsBrief t.iteration s
+pub shot_from_firing : (op : Op) (w later : Store) (t : PlainToken) (o : PlainOperands) (s : Shot) → IsFiring op w later t o
+    → ((u : Tag) (n : Fresh) → fired op u (operands_in o) n ≡ fired_of s) → IsOwn s t.value → IsBrief t.iteration s
     → IsShot op w later t s
-shot_from_meeting op w later t l r s m fires own brief = record {
-  fires = λ i n same. ap (firing_of i (tag_in t) n) m.meets ∙ ap (λ o. fired o (tag_in t) (Two (whole l) (whole r)) n) same ∙ fires (tag_in t) n;
-  went = ap (λ a. verdict_of a (fired_of s)) m.meets ∙ shot_went s;
-  waits = m.waits;
+shot_from_firing op w later t o s firing fires own brief = record {
+  fires = λ i n same. ap (firing_of i (tag_in t) n) firing.fires ∙ ap (λ op. fired op (tag_in t) (operands_in o) n) same ∙ fires (tag_in t) n;
+  went = ap (λ a. verdict_of a (fired_of s)) firing.fires ∙ shot_went s;
+  waits = firing.waits;
   own = own;
   brief = brief;
 }
 
--- the outcome of a plain token, where the code has computed its parts
-plain_outcome : (g : Parts) (n : Fresh) (w later : Store) (b : Cells) (t : PlainToken) (i : Instr) (f : Fired) (d : Verdict)
+-- the outcome of a plain token that has this fired, where these wait afterwards
+abbrev pub plain_outcome : Instr → PlainToken → Store → Cells → Fired → Verdict → Outcome
+plain_outcome i t later b f d = record {
+  fired = f;
+  sends = sent (Some i.op) (arcs_on (side_of f) i) (tag_in t) f;
+  step = full_step (Token (tag_in t) t.port (whole t.value)) d;
+  waiting = later;
+  cells = b;
+  made = made_by f;
+  allocated = allocated_by i.op f;
+}
+
+-- the outcome where the code has computed its parts
+plain_reacted : (g : Parts) (n : Fresh) (w later : Store) (b : Cells) (t : PlainToken) (i : Instr) (f : Fired) (d : Verdict)
     → slice_get g.instrs t.instr ≡ Some i → later ≡ waiting_after i.op w (tag_in t) t.port (whole t.value)
     → f ≡ firing_of i (tag_in t) n (arrival_in i.op w t) → d ≡ verdict_of (arrival_in i.op w t) f
-    → outcome g n w b (Token (tag_in t) t.port (whole t.value)) ≡ record {
-      fired = f;
-      sends = sent (Some i.op) (arcs_on (side_of f) i) (tag_in t) f;
-      step = full_step (Token (tag_in t) t.port (whole t.value)) d;
-      waiting = later;
-      cells = b;
-      made = made_by f;
-      allocated = allocated_by i.op f;
-    }
-plain_outcome g n w later b t i f d there waits fires comes =
+    → outcome g n w b (Token (tag_in t) t.port (whole t.value)) ≡ plain_outcome i t later b f d
+plain_reacted g n w later b t i f d there waits fires comes =
     ap (λ o. at_instr n w b (tag_in t) t.port (whole t.value) o) there
     ∙ reacted n i (tag_in t) t.port (whole t.value) w later b (arrival_in i.op w t) f d refl waits fires comes
 
 -- the outcome of one that comes to a shot
 pub shot_outcome : (g : Parts) (n : Fresh) (w later : Store) (b : Cells) (t : PlainToken) (i : Instr) (s : Shot)
     → slice_get g.instrs t.instr ≡ Some i → IsShot i.op w later t s
-    → outcome g n w b (Token (tag_in t) t.port (whole t.value)) ≡ record {
-      fired = fired_of s;
-      sends = sent (Some i.op) (arcs_on (side_of (fired_of s)) i) (tag_in t) (fired_of s);
-      step = Went;
-      waiting = later;
-      cells = b;
-      made = made_by (fired_of s);
-      allocated = allocated_by i.op (fired_of s);
-    }
+    → outcome g n w b (Token (tag_in t) t.port (whole t.value)) ≡ plain_outcome i t later b (fired_of s) verdict.Went
 shot_outcome g n w later b t i s there shot =
-    plain_outcome g n w later b t i (fired_of s) verdict.Went there shot.waits (sym (shot.fires i n refl)) (sym shot.went)
+    plain_reacted g n w later b t i (fired_of s) verdict.Went there shot.waits (sym (shot.fires i n refl)) (sym shot.went)
 
--- the outcome of one that meets its partner
-pub met_outcome : (g : Parts) (n : Fresh) (w later : Store) (b : Cells) (t : PlainToken) (i : Instr) (l r : Plain)
-    → slice_get g.instrs t.instr ≡ Some i → IsMeeting i.op w later t l r
-    → outcome g n w b (Token (tag_in t) t.port (whole t.value)) ≡ record {
-      fired = fired i.op (tag_in t) (Two (whole l) (whole r)) n;
-      sends = sent (Some i.op) (arcs_on (side_of (fired i.op (tag_in t) (Two (whole l) (whole r)) n)) i) (tag_in t)
-          (fired i.op (tag_in t) (Two (whole l) (whole r)) n);
-      step = full_step (Token (tag_in t) t.port (whole t.value)) (fired_verdict (fired i.op (tag_in t) (Two (whole l) (whole r)) n));
-      waiting = later;
-      cells = b;
-      made = made_by (fired i.op (tag_in t) (Two (whole l) (whole r)) n);
-      allocated = allocated_by i.op (fired i.op (tag_in t) (Two (whole l) (whole r)) n);
-    }
-met_outcome g n w later b t i l r there m =
-    let f = fired i.op (tag_in t) (Two (whole l) (whole r)) n in
-    plain_outcome g n w later b t i f (fired_verdict f) there m.waits
-    (sym (ap (firing_of i (tag_in t) n) m.meets)) (sym (ap (λ a. verdict_of a f) m.meets))
+-- the outcome of one that fires these operands
+pub fires_outcome : (g : Parts) (n : Fresh) (w later : Store) (b : Cells) (t : PlainToken) (i : Instr) (o : PlainOperands)
+    → slice_get g.instrs t.instr ≡ Some i → IsFiring i.op w later t o
+    → outcome g n w b (Token (tag_in t) t.port (whole t.value))
+    ≡ plain_outcome i t later b (fired i.op (tag_in t) (operands_in o) n) (fired_verdict (fired i.op (tag_in t) (operands_in o) n))
+fires_outcome g n w later b t i o there firing =
+    let f = fired i.op (tag_in t) (operands_in o) n in
+    plain_reacted g n w later b t i f (fired_verdict f) there firing.waits
+    (sym (ap (firing_of i (tag_in t) n) firing.fires)) (sym (ap (λ a. verdict_of a f) firing.fires))
 
--- the state after a message, by its outcome
-pub state_from_outcome : (g : Parts) (e : ℕ) (s : State) (m : Message) (o : Outcome) → outcome_of g e s m ≡ o
-    → state_after g e s m ≡ record {
-      waiting = o.waiting;
-      cells = o.cells;
-      stamp = next_stamp s m;
-      contexts = s.contexts + o.made;
-      structures = s.structures + o.allocated;
-      events = s.events ++ record {
-        element = e;
-        stamp = next_stamp s m;
-        message = m;
-        fired = o.fired;
-        outputs = numbered e (length s.events) (next_stamp s m) 0 o.sends;
-        step = o.step;
-      } ∷ [];
-    }
-state_from_outcome g e s m o is =
-    ap (λ x. record {
-      waiting = x.waiting;
-      cells = x.cells;
-      stamp = next_stamp s m;
-      contexts = s.contexts + x.made;
-      structures = s.structures + x.allocated;
-      events = s.events ++ record {
-        element = e;
-        stamp = next_stamp s m;
-        message = m;
-        fired = x.fired;
-        outputs = numbered e (length s.events) (next_stamp s m) 0 x.sends;
-        step = x.step;
-      } ∷ [];
-    }) is
+-- the state after a message of this outcome
+abbrev pub state_by : ℕ → State → Message → Outcome → State
+state_by e s m o = record {
+  waiting = o.waiting;
+  cells = o.cells;
+  stamp = next_stamp s m;
+  contexts = s.contexts + o.made;
+  structures = s.structures + o.allocated;
+  events = s.events ++ record {
+    element = e;
+    stamp = next_stamp s m;
+    message = m;
+    fired = o.fired;
+    outputs = numbered e (length s.events) (next_stamp s m) 0 o.sends;
+    step = o.step;
+  } ∷ [];
+}
 
--- what is sent for a message, by its outcome
-pub outputs_from_outcome : (g : Parts) (e : ℕ) (s : State) (m : Message) (o : Outcome) → outcome_of g e s m ≡ o
-    → outputs_of g e s m ≡ numbered e (length s.events) (next_stamp s m) 0 o.sends
-outputs_from_outcome g e s m o is = ap (λ x. numbered e (length s.events) (next_stamp s m) 0 x.sends) is
+-- what the element step on a message is, by its outcome
+pub record IsStepBy (g : Parts) (e : ℕ) (s : State) (m : Message) (o : Outcome) : Type 0 where
+  pub step : step_of g e s m ≡ o.step
+  pub state : state_after g e s m ≡ state_by e s m o
+  pub outputs : outputs_of g e s m ≡ numbered e (length s.events) (next_stamp s m) 0 o.sends
+
+pub step_by : (g : Parts) (e : ℕ) (s : State) (m : Message) (o : Outcome) → outcome_of g e s m ≡ o → IsStepBy g e s m o
+step_by g e s m o is = record {
+  step = ap (λ x. x.step) is;
+  state = ap (state_by e s m) is;
+  outputs = ap (λ x. numbered e (length s.events) (next_stamp s m) 0 x.sends) is;
+}
 
 -- a port that takes a kind is one of an instruction that there is
 pub within_kind : (g : Parts) (d : Dest) (k : PortKind) → kind_at g.instrs d ≡ Some k → d.instr < length g.instrs

@@ -1,6 +1,18 @@
--- An element keeps its state where a plain token was handled, and where it was not.
-use Rattle.std.proofs.Common.{◌≡◌, ◌<◌, ◌-◌, ◌^◌, Bool, refl, sym, subst}
-use Rattle.std.specs.Prelude.{◌↔◌, IsTrue}
+-- An element keeps its state where a plain token was handled, and where it was not; and the element step on one.
+use Rattle.std.proofs.Common.{◌≡◌, ◌<◌, ◌-◌, ◌^◌, ℕ, Bool, List, Some, length, get_or, refl, sym, ap, subst, ◌∙◌}
+use Rattle.std.specs.Prelude.{◌↔◌, IsTrue, slice_get}
+use Rattle.std.proofs.lemmas.Option.{slice_get_read}
+use Rattle.id_graph.specs.declared.instr.Instr.{Instr}
+use Rattle.id_graph.specs.declared.instr.PortKind.{PortKind}
+use Rattle.id_graph.specs.Graph.{Parts, kind_at}
+use Rattle.id_match.specs.Waiting.{Store}
+use Rattle.id_ops.specs.Operators.{fired}
+use Rattle.id_ops.specs.Shots.{fired_of}
+use Rattle.id_record.specs.declared.step.Verdict.TheVariants as verdict
+use Rattle.id_element.specs.declared.step.Reacted.{Reacted}
+use Rattle.id_element.specs.declared.step.Reacted.TheVariants as reacted
+use Rattle.id_element.specs.Firings.{IsReaction, operands_in}
+use Rattle.id_element.proofs.FiringsLemmas.{IsStepBy, fires_outcome, plain_outcome, shot_outcome, step_by, within_kind}
 use Rattle.id_tag.specs.declared.Tag.{Tag}
 use Rattle.id_tag.specs.declared.plain.PlainToken.{PlainToken}
 use Rattle.id_tag.specs.Plains.{message_of, tag_in}
@@ -10,7 +22,7 @@ use Rattle.id_element.specs.declared.step.Short.TheVariants.{Went, Failed, Apart
 use Rattle.id_element.specs.Fits.{IsFor}
 use Rattle.id_element.specs.Replays.{ElementView, IsKept}
 use Rattle.id_element.specs.Shorts.{IsHandled, step_in}
-use Rattle.id_element.specs.Steps.{State, state_after, step_of}
+use Rattle.id_element.specs.Steps.{State, fired_verdict, next_numbers, state_after, step_of}
 use Rattle.id_element.proofs.ReplaysLemmas.{IsKept-take}
 
 module _ (old : ElementView) (t : PlainToken) (went later : Bool) (new : State)
@@ -36,3 +48,30 @@ module _ (old : ElementView) (t : PlainToken) (went later : Bool) (new : State)
   IsKept-short (Failed f) comes after same goes stays = handled (Failed f) (comes tt) (after tt) (goes tt)
   IsKept-short Apart comes after same goes stays =
       subst (λ x. IsKept (record old { state = x }) later) (sym (same refl)) (subst (IsKept old) (sym (stays refl)) kept)
+
+-- the element step on a plain token at this instruction of which this came, where these wait afterwards
+abbrev pub IsStepOn : Parts → ℕ → State → PlainToken → Instr → Store → Reacted → Type 0
+IsStepOn g e s t i later (reacted.Shot shot) =
+    IsStepBy g e s (message_of t) (plain_outcome i t later s.cells (fired_of shot) verdict.Went)
+IsStepOn g e s t i later (reacted.Fires o) =
+    let f = fired i.op (tag_in t) (operands_in o) (next_numbers e s) in
+    IsStepBy g e s (message_of t) (plain_outcome i t later s.cells f (fired_verdict f))
+IsStepOn g e s t i later reacted.Apart = Unit {0}
+
+step_at : (g : Parts) (e : ℕ) (s : State) (t : PlainToken) (i : Instr) (later : Store) (r : Reacted) → slice_get g.instrs t.instr ≡ Some i
+    → IsReaction i.op s.waiting later t r → IsStepOn g e s t i later r
+step_at g e s t i later (reacted.Shot shot) there comes =
+    step_by g e s (message_of t) _ (shot_outcome g (next_numbers e s) s.waiting later s.cells t i shot there comes)
+step_at g e s t i later (reacted.Fires o) there comes =
+    step_by g e s (message_of t) _ (fires_outcome g (next_numbers e s) s.waiting later s.cells t i o there comes)
+step_at g e s t i later reacted.Apart there comes = tt
+
+-- it is that, where the instruction was read in the list, and the state before is what it was when the token came
+pub step_on : (g : Parts) (e : ℕ) (s before : State) (t : PlainToken) (is : List Instr) (i : Instr) (k : PortKind) (later : Store) (r q : Reacted)
+    → kind_at g.instrs (record { instr = t.instr; port = t.port }) ≡ Some k → is ≡ g.instrs → i ≡ get_or is t.instr i
+    → before ≡ s → IsReaction i.op before.waiting later t r → r ≡ q → IsStepOn g e s t i later q
+step_on g e s before t is i k later r q kind own read same comes for =
+    let within = within_kind g (record { instr = t.instr; port = t.port }) k kind in
+    let at : i ≡ get_or g.instrs t.instr i = read ∙ ap (λ xs. get_or xs t.instr i) own in
+    step_at g e s t i later q (slice_get_read g.instrs (length g.instrs) t.instr i refl within at)
+    (subst (λ x. IsReaction i.op s.waiting later t x) for (subst (λ x. IsReaction i.op x.waiting later t r) same comes))

@@ -1,17 +1,16 @@
 -- The state of an element, as its desk holds it, and the messages that go to its cells.
 use Rattle.std.specs.Prelude.{◌-◌, ◌<◌, ◌^◌, ◌≤◌, ℕ, length}
 use Rattle.id_graph.specs.declared.instr.Instr.{Instr}
-use Rattle.id_tag.specs.declared.plain.Plain.{Plain}
 use Rattle.id_tag.specs.declared.plain.PlainToken.{PlainToken}
-use Rattle.id_tag.specs.Plains.{tag_in, whole}
+use Rattle.id_tag.specs.Plains.{tag_in}
 use Rattle.id_tag.specs.declared.Payload.{Payload}
 use Rattle.id_tag.specs.declared.Payload.TheVariants.{Read, Write}
 use Rattle.id_element.specs.declared.desk.Desk.{Desk}
 use Rattle.id_ops.specs.declared.Fired.{Fired}
-use Rattle.id_ops.specs.declared.Operands.TheVariants.{Two}
 use Rattle.id_ops.specs.Operators.{fired}
 use Rattle.id_record.specs.Shootings.{HasLine}
-use Rattle.id_element.specs.Firings.{most_sent}
+use Rattle.id_element.specs.declared.step.PlainOperands.{PlainOperands}
+use Rattle.id_element.specs.Firings.{most_sent, operands_in}
 use Rattle.id_element.specs.Steps.{State, fresh_numbers}
 
 -- what waits, the cells, the last stamp, how many contexts and structures were made, and the record
@@ -45,6 +44,6 @@ pub record IsShort (d : Desk) (i : Instr) (t : PlainToken) (stamp : ℕ) : Type 
   pub line : HasLine t
 
 -- what the instruction fires on these operands under the tag of a plain token
-abbrev pub fired_by : Desk → Instr → PlainToken → Plain → Plain → Fired
-fired_by d i t l r =
-    fired i.op (tag_in t) (Two (whole l) (whole r)) (fresh_numbers d.log.element d.contexts d.structures)
+abbrev pub fired_by : Desk → Instr → PlainToken → PlainOperands → Fired
+fired_by d i t o =
+    fired i.op (tag_in t) (operands_in o) (fresh_numbers d.log.element d.contexts d.structures)

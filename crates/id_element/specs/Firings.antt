@@ -12,15 +12,17 @@ use Rattle.id_record.specs.declared.step.Verdict.{Verdict}
 use Rattle.id_record.specs.declared.step.Verdict.TheVariants.{Stuck, Went}
 use Rattle.id_tag.specs.Plains.{whole}
 use Rattle.id_tag.specs.Plains.{tag_in}
-use Rattle.id_tag.specs.declared.plain.Plain.{Plain}
 use Rattle.id_tag.specs.declared.plain.PlainToken.{PlainToken}
 use Rattle.id_graph.specs.declared.instr.Op.{Op}
 use Rattle.id_match.specs.Waiting.{Store}
-use Rattle.id_ops.specs.declared.Operands.TheVariants.{Two}
-use Rattle.id_ops.specs.declared.shot.Shot.{Shot as Shots}
+use Rattle.id_ops.specs.declared.Operands.{Operands}
+use Rattle.id_ops.specs.declared.Operands.TheVariants.{One, Two}
+use Rattle.id_ops.specs.declared.shot.Shot.{Shot}
 use Rattle.id_ops.specs.Shots.{IsBrief, IsOwn, fired_of}
+use Rattle.id_element.specs.declared.step.PlainOperands.{PlainOperands}
+use Rattle.id_element.specs.declared.step.PlainOperands.TheVariants as plain
 use Rattle.id_element.specs.declared.step.Reacted.{Reacted}
-use Rattle.id_element.specs.declared.step.Reacted.TheVariants.{Shot, Met, Apart}
+use Rattle.id_element.specs.declared.step.Reacted.TheVariants as reacted
 use Rattle.id_record.specs.Sends.{count_started}
 use Rattle.id_element.specs.Steps.{arrival, fired_verdict, waiting_after}
 
@@ -46,20 +48,25 @@ abbrev pub arrival_in : Op → Store → PlainToken → Arrival
 arrival_in op w t = arrival op w (tag_in t) t.port (whole t.value)
 
 -- a plain token comes to this shot, and these wait afterwards
-pub record IsShot (op : Op) (w later : Store) (t : PlainToken) (s : Shots) : Type 0 where
+pub record IsShot (op : Op) (w later : Store) (t : PlainToken) (s : Shot) : Type 0 where
   pub fires : (i : Instr) (n : Fresh) → i.op ≡ op → firing_of i (tag_in t) n (arrival_in op w t) ≡ fired_of s
   pub went : verdict_of (arrival_in op w t) (fired_of s) ≡ Went
   pub waits : later ≡ waiting_after op w (tag_in t) t.port (whole t.value)
   pub own : IsOwn s t.value
   pub brief : IsBrief t.iteration s
 
--- a plain token meets its partner, these are the operands, and these wait afterwards
-pub record IsMeeting (op : Op) (w later : Store) (t : PlainToken) (l r : Plain) : Type 0 where
-  pub meets : arrival_in op w t ≡ Fires (Two (whole l) (whole r))
+-- the operands that these plain values are
+abbrev pub operands_in : PlainOperands → Operands
+operands_in (plain.One v) = One (whole v)
+operands_in (plain.Two l r) = Two (whole l) (whole r)
+
+-- a plain token fires the operator with these operands, and these wait afterwards
+pub record IsFiring (op : Op) (w later : Store) (t : PlainToken) (o : PlainOperands) : Type 0 where
+  pub fires : arrival_in op w t ≡ Fires (operands_in o)
   pub waits : later ≡ waiting_after op w (tag_in t) t.port (whole t.value)
 
 -- this comes of a plain token, and these wait afterwards
 abbrev pub IsReaction : Op → Store → Store → PlainToken → Reacted → Type 0
-IsReaction op w later t (Shot s) = IsShot op w later t s
-IsReaction op w later t (Met l r) = IsMeeting op w later t l r
-IsReaction op w later t Apart = later ≡ w
+IsReaction op w later t (reacted.Shot s) = IsShot op w later t s
+IsReaction op w later t (reacted.Fires o) = IsFiring op w later t o
+IsReaction op w later t reacted.Apart = later ≡ w

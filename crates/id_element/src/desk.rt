@@ -8,7 +8,7 @@ use crate::outcome::{
     allocated_by, allocated_by_shot, answer_fired, fill_verdict, fresh_numbers, made_by, most_sent,
     next_stamp, react, react_full, react_plain, send, send_replies, send_shot,
 };
-use crate::step::{Arrival, Reacted, Short, TakeError};
+use crate::step::{Arrival, PlainOperands, Reacted, Short, TakeError};
 use id_bank::{Bank, ReadAnswer, WriteAnswer};
 use id_flight::Queue;
 use id_graph::{Graph, Instr};
@@ -18,7 +18,7 @@ use id_record::{
     Envelope, Handling, NO_REPLIES, Reaction, Record, Replies, Shooting, Verdict, has_line,
     message, tag_of, token_at, value_of,
 };
-use id_tag::{Message, Payload, Plain, PlainToken, Tag};
+use id_tag::{Message, Payload, PlainToken, Tag};
 use id_valid::Valid;
 use std::alloc::{AllocError, Global};
 
@@ -160,9 +160,9 @@ impl<'a> Desk<'a> {
                 self.conclude_shot(instr, token, stamp as u32, shot, outputs);
                 Ok(Short::Went)
             }
-            Reacted::Met(left, right) => {
+            Reacted::Fires(operands) => {
                 let copy = *token;
-                Ok(self.conclude_met(instr, &copy, stamp, left, right, outputs))
+                Ok(self.conclude_plain(instr, &copy, stamp, operands, outputs))
             }
             Reacted::Apart => Ok(Short::Apart),
         }
@@ -391,16 +391,15 @@ impl<'a> Desk<'a> {
         self.structures += allocated_by_shot(instr.op, shot);
     }
 
-    /// Fires the operands that a plain token and its partner are, sends what comes of them, and records the event.
-    /// There is room for it. Takes no memory.
+    /// Fires the operands of which a plain token is one, sends what comes of them, and records the event. There is room
+    /// for it. Takes no memory.
     #[inline(never)]
-    fn conclude_met(
+    fn conclude_plain(
         &mut self,
         instr: &Instr,
         token: &PlainToken,
         stamp: u64,
-        left: Plain,
-        right: Plain,
+        operands: PlainOperands,
         outputs: &mut Queue,
     ) -> Short
         requires room { 0 < self.old.log.room }
@@ -415,34 +414,37 @@ impl<'a> Desk<'a> {
 
         ensures handled { IsHandled result }
         ensures verdict { step_in result (tag_in token.now) ≡ full_step
-            (message_of token.now).payload (fired_verdict (fired_by self.old instr.now token.now left right)) }
+            (message_of token.now).payload (fired_verdict (fired_by self.old instr.now token.now operands)) }
         ensures waiting { self.new.waiting ≡ self.old.waiting }
         ensures cells { self.new.cells ≡ self.old.cells }
         ensures stamp { self.new.stamp ≡ stamp }
         ensures contexts { self.new.contexts
-            ≡ self.old.contexts + made_by (fired_by self.old instr.now token.now left right) }
+            ≡ self.old.contexts + made_by (fired_by self.old instr.now token.now operands) }
         ensures structures { self.new.structures
-            ≡ self.old.structures + allocated_by instr.now.op (fired_by self.old instr.now token.now left right) }
+            ≡ self.old.structures + allocated_by instr.now.op (fired_by self.old instr.now token.now operands) }
         ensures number { self.new.log.element ≡ self.old.log.element }
         ensures graph { self.new.log.graph ≡ self.old.log.graph }
         ensures events { self.new.log.events ≡ self.old.log.events ++ record {
           element = self.old.log.element;
           stamp = stamp;
           message = message_of token.now;
-          fired = fired_by self.old instr.now token.now left right;
+          fired = fired_by self.old instr.now token.now operands;
           outputs = numbered self.old.log.element (length self.old.log.events) stamp 0
-              (sent (Some instr.now.op) (arcs_on (side_of (fired_by self.old instr.now token.now left right)) instr.now)
-              (tag_in token.now) (fired_by self.old instr.now token.now left right));
+              (sent (Some instr.now.op) (arcs_on (side_of (fired_by self.old instr.now token.now operands)) instr.now)
+              (tag_in token.now) (fired_by self.old instr.now token.now operands));
           step = full_step (message_of token.now).payload
-              (fired_verdict (fired_by self.old instr.now token.now left right));
+              (fired_verdict (fired_by self.old instr.now token.now operands));
         } ∷ [] }
         ensures outputs { outputs.new.messages ≡ outputs.old.messages
             ++ numbered self.old.log.element (length self.old.log.events) stamp 0
-            (sent (Some instr.now.op) (arcs_on (side_of (fired_by self.old instr.now token.now left right)) instr.now)
-            (tag_in token.now) (fired_by self.old instr.now token.now left right)) }
+            (sent (Some instr.now.op) (arcs_on (side_of (fired_by self.old instr.now token.now operands)) instr.now)
+            (tag_in token.now) (fired_by self.old instr.now token.now operands)) }
     {
         let next = fresh_numbers(self.log.element(), self.contexts, self.structures);
-        let arrival = Arrival::Fires(Operands::Two(left.value(), right.value()));
+        let arrival = Arrival::Fires(match operands {
+            PlainOperands::One(value) => Operands::One(value.value()),
+            PlainOperands::Two(left, right) => Operands::Two(left.value(), right.value()),
+        });
         let reaction = react_full(instr, next, token.tag(), &arrival);
         let message = token.message();
         match self.conclude(instr, token.tag(), &message, stamp, &reaction, outputs) {

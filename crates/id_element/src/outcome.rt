@@ -28,7 +28,7 @@ ghost use Rattle.id_ops.specs.Shots.{fired_of};
 ghost use Rattle.id_graph.specs.Graph.{arcs_on};
 ghost use Rattle.id_ops.specs.Operators.{side_of};
 
-use crate::step::{Arrival, Reacted, TakeError};
+use crate::step::{Arrival, PlainOperands, Reacted, TakeError};
 use id_bank::{ReadAnswer, WriteAnswer};
 use id_flight::Queue;
 use id_graph::{Dest, Instr, Op, Port};
@@ -103,8 +103,8 @@ pub(crate) fn react_full(instr: &Instr, next: Fresh, tag: Tag, arrival: &Arrival
     Reaction { fired, verdict }
 }
 
-/// Lets a plain token come to its instruction, in short where that is in reach: where nothing fires since the token
-/// waits, and where plain operands have a plain value sent.
+/// Lets a plain token come to its instruction, in short where that is in reach: where it waits for its partner, and
+/// where the operands are plain.
 #[inline(always)]
 pub(crate) fn react_plain(
     waiting: &mut Waiting,
@@ -132,7 +132,7 @@ fn fires(op: Op, token: &PlainToken) -> Reacted
 {
     match shoot_one(op, u64::from(token.iteration), token.value) {
         Some(shot) => Reacted::Shot(shot),
-        None => Reacted::Apart,
+        None => Reacted::Fires(PlainOperands::One(token.value)),
     }
 }
 
@@ -149,7 +149,7 @@ fn met(op: Op, token: &PlainToken, partner: Plain) -> Reacted
     let (left, right) = by_port(token.port, token.value, partner);
     match shoot_two(op, left, right) {
         Some(shot) if is_own(shot, token) => Reacted::Shot(shot),
-        _ => Reacted::Met(left, right),
+        _ => Reacted::Fires(PlainOperands::Two(left, right)),
     }
 }
 

@@ -50,13 +50,20 @@ pub(crate) enum Arrival {
     Blocked,
 }
 
+/// Operands that are plain values, by port.
+#[derive(Clone, Copy)]
+pub(crate) enum PlainOperands {
+    One(Plain),
+    Two(Plain, Plain),
+}
+
 /// What comes of a plain token at its instruction, in short.
 #[derive(Clone, Copy)]
 pub(crate) enum Reacted {
     /// A plain value is sent, or nothing.
     Shot(Shot),
-    /// It met its partner, and these operands, by port, have something else come of them.
-    Met(Plain, Plain),
+    /// It fires its instruction, and these operands have something else come of them.
+    Fires(PlainOperands),
     /// Something else comes of it, and nothing has changed yet.
     Apart,
 }

@@ -93,7 +93,10 @@ impl Queue {
         ensures messages { self.new.messages ≡ self.old.messages }
         ensures room { OnOk result (more ≤ self.new.room) }
     {
-        self.parcels.reserve(more)?;
+        // Asked here first, since the list's own call is not inlined.
+        if self.parcels.capacity().saturating_sub(self.parcels.len()) < more {
+            self.parcels.reserve(more)?;
+        }
         self.asides.reserve(more)?;
         Ok(())
     }
