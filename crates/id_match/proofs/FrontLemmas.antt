@@ -18,7 +18,7 @@ use Rattle.id_match.specs.declared.Entry.{Entry}
 use Rattle.id_match.specs.declared.Half.{Half}
 use Rattle.id_match.specs.declared.Offered.{Offered}
 use Rattle.id_match.specs.declared.front.Slot.{Slot}
-use Rattle.id_match.specs.Front.{slot_half, slot_tag, slot_entry, held, empty_slot, place_of, place, front_entries, front_half, IsPlaced, IsKept, Puts, Meets, all_entries}
+use Rattle.id_match.specs.Front.{slot_half, slot_tag, slot_entry, held, empty_slot, place_of, place, front_entries, front_half, IsPlaced, IsKept, Puts, Meets, MarksSame, HoldsSame, IsMarked, all_entries}
 use Rattle.id_match.specs.Halves.{answer_at, half_after}
 use Rattle.id_match.specs.Ports.{same_port}
 use Rattle.id_match.specs.declared.Offered.TheVariants.{Kept, Taken}
@@ -184,6 +184,14 @@ lookup_all f es placed t =
 
 -- ---- the store
 
+-- where all slots tell the same
+pub marks_kept : (f m : List Slot) (es : List (Tag × Half)) → MarksSame f m → IsMarked f es → IsMarked m es
+marks_kept f m es same marked = record {
+  nothing = λ t some e. marked.nothing t (subst (λ n. 0 < n) same.len some) (sym (same.at t) ∙ e);
+  one = λ t u some e at x y.
+      marked.one t u (subst (λ n. 0 < n) same.len some) (sym (same.at t) ∙ e) (subst (λ n. place u n ≡ place t n) same.len at) x y;
+}
+
 by_some : (o : Option Half) (es : List (Tag × Half)) (t : Tag) → ((h : Half) → o ≡ Some h → lookup (same_tag t) es ≡ None)
     → IsSome o → lookup (same_tag t) es ≡ None
 by_some None es t f some = cc
@@ -201,7 +209,7 @@ module _ (f : List Slot) (es : List (Tag × Half)) (s : Store) (is : from_entrie
   answer_by : (o : Option Half) → get s t ≡ o → (a : Offered) → a ≡ answer_at o p v → a ≡ offer_answer s t p v
   answer_by o e a h = h ∙ ap (λ x. answer_at x p v) (sym e) ∙ sym (answer_of-at_port (get s t) p v)
 
-  module _ (m : List Slot) (a : Offered) (meets : Meets f m t p v a) (none : lookup (same_tag t) es ≡ None) where
+  module _ (m : List Slot) (a : Offered) (meets : Meets f m t p v a) (marks : MarksSame f m) (none : lookup (same_tag t) es ≡ None) where
     here : get s t ≡ front_half f t
     here = under_all t ∙ ap (option_or (front_half f t)) none ∙ or_none (front_half f t)
 
@@ -217,6 +225,7 @@ module _ (f : List Slot) (es : List (Tag × Half)) (s : Store) (is : from_entrie
     meets_kept = record {
       placed = meets.after.placed kept.placed;
       apart = λ u h e. apart_by u h e (same_tag t u) refl;
+      marked = marks_kept f m es marks kept.marked;
     }
 
     got : (u : Tag) → get (from_entries {R = tag_cmp} (all_entries m es)) u ≡ option_or (front_half m u) (lookup (same_tag u) es)
@@ -243,30 +252,57 @@ module _ (f : List Slot) (es : List (Tag × Half)) (s : Store) (is : from_entrie
     pub behind_answer : (a : Offered) → a ≡ answer_at (lookup (same_tag t) es) p v → a ≡ offer_answer s t p v
     behind_answer a h = answer_by (lookup (same_tag t) es) behind a h
 
-    module _ (fs : List (Tag × Half)) (others : (u : Tag) → same_tag t u ≡ false → lookup (same_tag u) fs ≡ lookup (same_tag u) es) where
+    module _ (m : List Slot) (holds : HoldsSame f m) (fs : List (Tag × Half))
+        (others : (u : Tag) → same_tag t u ≡ false → lookup (same_tag u) fs ≡ lookup (same_tag u) es) where
       behind_apart : (u : Tag) (h : Half) → front_half f u ≡ Some h → (b : Bool) → same_tag t u ≡ b → lookup (same_tag u) fs ≡ None
       behind_apart u h e true same =
           let gone : front_half f u ≡ None = subst (λ w. front_half f w ≡ None) (one_from_same_tag t u same) none in
           let bad : None ≡ Some h = sym gone ∙ e in cc
       behind_apart u h e false same = others u same ∙ kept.apart u h e
 
-      pub behind_kept : IsKept f fs
-      behind_kept = record {
-        placed = kept.placed;
-        apart = λ u h e. behind_apart u h e (same_tag t u) refl;
+      pub behind_kept : IsMarked m fs → IsKept m fs
+      behind_kept marked = record {
+        placed = holds.placed kept.placed;
+        apart = λ u h e. behind_apart u h (sym (holds.under u) ∙ e) (same_tag t u) refl;
+        marked = marked;
       }
 
-      pub behind_after : lookup (same_tag t) fs ≡ half_after (lookup (same_tag t) es) p v → from_entries (all_entries f fs) ≡ offer_after s t p v
+      behind_got : (u : Tag) → get (from_entries {R = tag_cmp} (all_entries m fs)) u ≡ option_or (front_half f u) (lookup (same_tag u) fs)
+      behind_got u =
+          get_half (all_entries m fs) u ∙ lookup_all m fs (holds.placed kept.placed) u
+          ∙ ap (λ o. option_or o (lookup (same_tag u) fs)) (holds.under u)
+
+      pub behind_after : lookup (same_tag t) fs ≡ half_after (lookup (same_tag t) es) p v → from_entries (all_entries m fs) ≡ offer_after s t p v
       behind_after after =
-          offer_after-from_get s (from_entries (all_entries f fs)) t p v
-          (get_half (all_entries f fs) t ∙ lookup_all f fs kept.placed t
-          ∙ ap (λ o. option_or o (lookup (same_tag t) fs)) none ∙ after ∙ ap (λ o. half_after o p v) (sym behind))
-          (λ u apart. get_half (all_entries f fs) u ∙ lookup_all f fs kept.placed u
-          ∙ ap (option_or (front_half f u)) (others u apart) ∙ sym (under_all u))
+          offer_after-from_get s (from_entries (all_entries m fs)) t p v
+          (behind_got t ∙ ap (λ o. option_or o (lookup (same_tag t) fs)) none ∙ after ∙ ap (λ o. half_after o p v) (sym behind))
+          (λ u apart. behind_got u ∙ ap (option_or (front_half f u)) (others u apart) ∙ sym (under_all u))
+
+get_or_any : (f : List Slot) (i : ℕ) (a b : Slot) → i < length f → get_or f i a ≡ get_or f i b
+get_or_any [] i a b inside = absurd (omega arith)
+get_or_any (s ∷ f) zero a b inside = refl
+get_or_any (s ∷ f) (suc i) a b inside = get_or_any f i a b (omega arith)
 
 -- ---- a call on the front
 
-gone : (o : Option Half) (h : Half) (p : Port) (v : Value) → o ≡ Some h → same_port h.port p ≡ false → half_after o p v ≡ None
+module _ (f : List Slot) (at : ℕ) (x : Slot) (same : (u : Tag) → held x u ≡ held (get_or f at empty_slot) u) (within : at < length f) where
+  holds_by : (i : ℕ) (d : Slot) (u : Tag) (b : Bool) → nat_eq i at ≡ b → i < length f
+      → held (get_or (set f at x) i d) u ≡ held (get_or f i d) u
+  holds_by i d u true e inside =
+      let one : i ≡ at = numbers_one i at e in
+      ap (λ k. held (get_or (set f at x) k d) u) one ∙ ap (λ y. held y u) (get_or-set_same f at x d within) ∙ same u
+      ∙ ap (λ y. held y u) (get_or_any f at empty_slot d within) ∙ ap (λ k. held (get_or f k d) u) (sym one)
+  holds_by i d u false e inside = ap (λ y. held y u) (get_or-set_other f at i x d (numbers_apart i at e))
+
+  under_same : (u : Tag) (b : Bool) → nat_eq (place u (length f)) at ≡ b
+      → held (get_or (set f at x) (place u (length f)) empty_slot) u ≡ front_half f u
+  under_same u true e =
+      let one : place u (length f) ≡ at = numbers_one _ _ e in
+      ap (λ k. held (get_or (set f at x) k empty_slot) u) one ∙ ap (λ y. held y u) (get_or-set_same f at x empty_slot within) ∙ same u
+      ∙ ap (λ k. held (get_or f k empty_slot) u) (sym one)
+  under_same u false e = ap (λ y. held y u) (get_or-set_other f at (place u (length f)) x empty_slot (numbers_apart _ _ e))
+
+pub gone : (o : Option Half) (h : Half) (p : Port) (v : Value) → o ≡ Some h → same_port h.port p ≡ false → half_after o p v ≡ None
 gone o h p v e apart = ap (λ q. half_after q p v) e ∙ ap (λ b. cond b (Some h) None) apart
 
 paired : (o : Option Half) (h : Half) (p : Port) (v : Value) → o ≡ Some h → same_port h.port p ≡ false → answer_at o p v ≡ pair_of p v h.value
@@ -301,9 +337,31 @@ module _ (f : List Slot) (t : Tag) (some : 0 < length f) (at : ℕ) (there : at 
       subst (λ k. Puts f (set f k x) t (slot_half x)) (sym there)
       (subst (Puts f (set f (place t (length f)) x) t) held_is (puts_set f t x some was (for_tag x t own)))
 
+-- a slot is written that holds the same, whatever it tells
+pub holds_set : (f : List Slot) (at : ℕ) (x : Slot) → ((u : Tag) → held x u ≡ held (get_or f at empty_slot) u) → at < length f
+    → HoldsSame f (set f at x)
+holds_set f at x same within = record {
+  placed = λ placed i d u inside apart.
+      holds_by f at x same within i d u (nat_eq i at) refl (subst (λ n. i < n) (length-set f at x) inside)
+      ∙ placed i d u (subst (λ n. i < n) (length-set f at x) inside) (subst (λ n. place u n ≢ i) (length-set f at x) apart);
+  under = λ u.
+      ap (λ n. held (get_or (set f at x) (place u n) empty_slot) u) (length-set f at x)
+      ∙ under_same f at x same within u (nat_eq (place u (length f)) at) refl;
+}
+
+pub holds_refl : (f : List Slot) → HoldsSame f f
+holds_refl f = record { placed = λ p. p; under = λ u. refl }
+
+pub holds_trans : (f m n : List Slot) → HoldsSame f m → HoldsSame m n → HoldsSame f n
+holds_trans f m n a b = record { placed = λ p. b.placed (a.placed p); under = λ u. b.under u ∙ a.under u }
+
 -- a slot of the tag's holds under it what it keeps
 pub held_as : (s : Slot) (t : Tag) (o : Option Half) → slot_tag s ≡ t → slot_half s ≡ o → held s t ≡ o
 held_as s t o own is = subst (λ u. held s u ≡ slot_half s) own (held_own s) ∙ is
+
+-- what a tag by another name is under
+pub same_under_tag : (t u : Tag) (es : List (Tag × Half)) (o : Option Half) → t ≡ u → lookup (same_tag u) es ≡ o → lookup (same_tag t) es ≡ o
+same_under_tag t u es o e is = ap (λ w. lookup (same_tag w) es) e ∙ is
 
 -- ---- whole offers
 
@@ -316,24 +374,24 @@ stored f m t p v free puts = record {
 module _ (f : List Slot) (es : List (Tag × Half)) (s : Store) (is : from_entries (all_entries f es) ≡ s) (kept : IsKept f es) (p : Port) (v : Value) (m :
     List Slot) where
   -- what comes of a value that met its partner in the front, or went there
-  pub all_of_meets : (t : Tag) (a : Offered) → Meets f m t p v a → lookup (same_tag t) es ≡ None
+  pub all_of_meets : (t : Tag) (a : Offered) → Meets f m t p v a → MarksSame f m → lookup (same_tag t) es ≡ None
       → IsKept m es × (a ≡ offer_answer s t p v) × (from_entries (all_entries m es) ≡ offer_after s t p v)
-  all_of_meets t a meets none = (
-    meets_kept f es s is kept t p v m a meets none,
-    meets_answer f es s is kept t p v m a meets none,
-    meets_after f es s is kept t p v m a meets none,
+  all_of_meets t a meets marks none = (
+    meets_kept f es s is kept t p v m a meets marks none,
+    meets_answer f es s is kept t p v m a meets marks none,
+    meets_after f es s is kept t p v m a meets marks none,
   )
 
   pub all_of_put : (t : Tag) → lookup (same_tag t) es ≡ None → front_half f t ≡ None → Puts f m t (Some (record { port = p; value = v }))
-      → IsKept m es × (Kept ≡ offer_answer s t p v) × (from_entries (all_entries m es) ≡ offer_after s t p v)
-  all_of_put t none free puts = all_of_meets t Kept (stored f m t p v free puts) none
+      → MarksSame f m → IsKept m es × (Kept ≡ offer_answer s t p v) × (from_entries (all_entries m es) ≡ offer_after s t p v)
+  all_of_put t none free puts marks = all_of_meets t Kept (stored f m t p v free puts) marks none
 
   pub all_of_slot : (t : Tag) (x : Slot) → slot_tag x ≡ t → slot_half x ≡ Some (record { port = p; value = v })
       → lookup (same_tag (slot_tag x)) es ≡ None → front_half f (slot_tag x) ≡ None → Puts f m (slot_tag x) (slot_half x)
-      → IsKept m es × (Kept ≡ offer_answer s t p v) × (from_entries (all_entries m es) ≡ offer_after s t p v)
-  all_of_slot t x own half none free puts =
+      → MarksSame f m → IsKept m es × (Kept ≡ offer_answer s t p v) × (from_entries (all_entries m es) ≡ offer_after s t p v)
+  all_of_slot t x own half none free puts marks =
       subst (λ u. IsKept m es × (Kept ≡ offer_answer s u p v) × (from_entries (all_entries m es) ≡ offer_after s u p v)) own
-      (all_of_put (slot_tag x) none free (subst (Puts f m (slot_tag x)) half puts))
+      (all_of_put (slot_tag x) none free (subst (Puts f m (slot_tag x)) half puts) marks)
 
 -- the same values in another front
 module _ (f m : List Slot) (es : List (Tag × Half)) (s : Store) (is : from_entries (all_entries f es) ≡ s) (kept : IsKept f es)
@@ -341,8 +399,8 @@ module _ (f m : List Slot) (es : List (Tag × Half)) (s : Store) (is : from_entr
   as_before : (t : Tag) → front_half m t ≡ front_half f t
   as_before t = same t ∙ lookup_front f kept.placed t
 
-  pub moved_kept : IsKept m es
-  moved_kept = record { placed = placed; apart = λ t h e. kept.apart t h (sym (as_before t) ∙ e) }
+  pub moved_kept : IsMarked m es → IsKept m es
+  moved_kept marked = record { placed = placed; apart = λ t h e. kept.apart t h (sym (as_before t) ∙ e); marked = marked }
 
   pub moved_same : from_entries (all_entries m es) ≡ s
   moved_same =
@@ -459,11 +517,6 @@ not_passed_by t e es false same none rest = (same, rest none)
 not_passed : (t : Tag) (es : List (Tag × Half)) → lookup (same_tag t) es ≡ None → AllByRecursion (λ u. same_tag t u ≡ false) (keys_of es)
 not_passed t [] none = tt
 not_passed t (e ∷ es) none = not_passed_by t e es (same_tag t e.0) refl none (not_passed t es)
-
-get_or_any : (f : List Slot) (i : ℕ) (a b : Slot) → i < length f → get_or f i a ≡ get_or f i b
-get_or_any [] i a b inside = absurd (omega arith)
-get_or_any (s ∷ f) zero a b inside = refl
-get_or_any (s ∷ f) (suc i) a b inside = get_or_any f i a b (omega arith)
 
 abbrev IsFrom : List Slot → ℕ → ℕ → Type 0
 IsFrom f k n = (i : ℕ) (d : Slot) (t : Tag) → i < length f → place t n ≢ i + k → held (get_or f i d) t ≡ None

@@ -1,4 +1,5 @@
 pub mod WaitingLemmas
 pub mod FrontLemmas
+pub mod BehindLemmas
 pub mod KeyedLemmas
 pub mod EntriesLemmas

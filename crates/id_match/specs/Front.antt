@@ -1,6 +1,6 @@
 -- The front of the store: slots that hold what waits under tags with small numbers.
 use Rattle.std.specs.Prelude.{◌≡◌, ◌≢◌, ℕ, ◌+◌, ◌-◌, ◌/◌, ◌%◌, ◌^◌, ◌<◌, if◌then◌else◌, false}
-use Rattle.std.specs.Prelude.{Option, Some, None, List, ◌++◌, length, bit_and, slice_index_or}
+use Rattle.std.specs.Prelude.{Option, Some, None, IsSome, List, ◌++◌, length, bit_and, slice_index_or, true}
 use Rattle.std.specs.Option.{option_map}
 use Rattle.std.specs.List.{filter_map}
 use Rattle.std.specs.Map.{lookup}
@@ -14,7 +14,10 @@ use Rattle.id_tag.specs.Tags.{same_tag}
 use Rattle.id_graph.specs.declared.dests.Port.{Port}
 use Rattle.id_match.specs.declared.Half.{Half}
 use Rattle.id_match.specs.declared.Offered.{Offered}
+use Rattle.id_match.specs.declared.Entry.{Entry}
 use Rattle.id_match.specs.declared.front.Slot.{Slot}
+use Rattle.id_match.specs.declared.front.Behind.{Behind}
+use Rattle.id_match.specs.declared.front.Behind.TheVariants.{Nothing, One, Many}
 use Rattle.id_match.specs.Halves.{answer_at, half_after}
 
 -- the value that a slot keeps, if it keeps one
@@ -39,7 +42,7 @@ slot_entry s = option_map (λ h. (slot_tag s, h)) (slot_half s)
 abbrev pub held : Slot → Tag → Option Half
 held s t = if same_tag t (slot_tag s) then slot_half s else None
 
--- the slot that keeps nothing
+-- the slot that keeps nothing, with nothing behind
 abbrev pub empty_slot : Slot
 empty_slot = record {
   value = Signal;
@@ -49,12 +52,13 @@ empty_slot = record {
   element = 0;
   port = Zero;
   is_full = false;
+  behind = Nothing;
 }
 
 -- the place of a tag's numbers among n slots: neighbouring serial numbers have places in a row
 unfoldable pub place_of : ℕ → ℕ → ℕ → ℕ → ℕ
 place_of serial iteration instr n =
-    bit_and ((mix (mix (mix 0 (serial / 64)) iteration) instr / 2 ^ 32 + serial % 64) % 2 ^ 64) (n - 1)
+    bit_and ((mix (mix (mix 0 (serial / 512)) iteration) instr / 2 ^ 32 + serial % 512) % 2 ^ 64) (n - 1)
 
 -- the place of a tag
 abbrev pub place : Tag → ℕ → ℕ
@@ -73,10 +77,47 @@ abbrev pub IsPlaced : List Slot → Type 0
 IsPlaced front = (i : ℕ) (d : Slot) (t : Tag) → i < length front → place t (length front) ≢ i
     → held (slice_index_or front i d) t ≡ None
 
--- each tag's value stands in its place of the front, or among the halves, and never in both
+-- what a slot tells when one more comes to stand behind it
+abbrev pub one_more : Behind → Behind
+one_more Nothing = One
+one_more One = Many
+one_more Many = Many
+
+-- what a slot tells when one of those behind it leaves
+abbrev pub one_less : Behind → Behind
+one_less Nothing = Nothing
+one_less One = Nothing
+one_less Many = Many
+
+-- what the slot of a tag tells
+abbrev pub mark_at : List Slot → Tag → Behind
+mark_at front t = (slice_index_or front (place t (length front)) empty_slot).behind
+
+-- what each slot tells is so: nothing stands behind it, or no two of the halves do, or any number
+pub record IsMarked (front : List Slot) (halves : List (Tag × Half)) : Type 0 where
+  pub nothing : (t : Tag) → 0 < length front → mark_at front t ≡ Nothing → lookup (same_tag t) halves ≡ None
+  pub one : (t u : Tag) → 0 < length front → mark_at front t ≡ One → place u (length front) ≡ place t (length front)
+      → IsSome (lookup (same_tag t) halves) → IsSome (lookup (same_tag u) halves) → same_tag t u ≡ true
+
+-- two fronts tell the same of what stands behind
+pub record MarksSame (f m : List Slot) : Type 0 where
+  pub len : length m ≡ length f
+  pub at : (t : Tag) → mark_at m t ≡ mark_at f t
+
+-- two fronts hold the same
+pub record HoldsSame (f m : List Slot) : Type 0 where
+  pub placed : IsPlaced f → IsPlaced m
+  pub under : (t : Tag) → front_half m t ≡ front_half f t
+
+-- the same halves wait, but under this tag
+abbrev pub OthersSame : Tag → List (Tag × Half) → List (Tag × Half) → Type 0
+OthersSame t es fs = (u : Tag) → same_tag t u ≡ false → lookup (same_tag u) fs ≡ lookup (same_tag u) es
+
+-- each tag's value stands in its place of the front, or among the halves, and never in both, and slots tell of these
 pub record IsKept (front : List Slot) (halves : List (Tag × Half)) : Type 0 where
   pub placed : IsPlaced front
   pub apart : (t : Tag) (h : Half) → front_half front t ≡ Some h → lookup (same_tag t) halves ≡ None
+  pub marked : IsMarked front halves
 
 -- o is under t in the front m, and what f has is under each other tag
 pub record Puts (f m : List Slot) (t : Tag) (o : Option Half) : Type 0 where
@@ -91,3 +132,7 @@ pub record Meets (f m : List Slot) (t : Tag) (p : Port) (v : Value) (a : Offered
 -- what all of the store holds
 abbrev pub all_entries : List Slot → List (Tag × Half) → List (Tag × Half)
 all_entries front halves = front_entries front ++ halves
+
+-- the half of an entry, with its tag
+abbrev pub half_entry : Entry → Tag × Half
+half_entry e = (e.tag, record { port = e.port; value = e.value })

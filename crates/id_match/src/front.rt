@@ -1,9 +1,10 @@
 //! The front of the store: slots of 32 bytes, each for one value that waits under a tag with small numbers.
 //!
-//! A tag's value stands in one slot alone, which the tag's numbers tell, so a look-up looks at one slot.
+//! A tag's value stands in one slot alone, which the tag's numbers tell, so a look-up looks at one slot. A slot also
+//! tells whether anything stands behind it: under tags with its place, in the map.
 
 ghost use Rattle.std.specs.Prelude.{◌≡◌, ◌<◌, ◌↔◌, ◌≤◌, IsTrue, false, Some, None, IfSome};
-ghost use Rattle.std.specs.Prelude.{IsSome, IfOk, length, replicate, map as map_list};
+ghost use Rattle.std.specs.Prelude.{IsSome, IfOk, List, length, replicate, map as map_list};
 ghost use Rattle.std.specs.Option.{option_map};
 ghost use Rattle.id_match.specs.Ports.{same_port};
 ghost use Rattle.std.specs.Map.{lookup};
@@ -13,6 +14,9 @@ ghost use Rattle.id_match.specs.declared.Half.{Half};
 ghost use Rattle.id_match.specs.Waiting.{entry_at, pair_of};
 ghost use Rattle.id_match.specs.Front.{IsPlaced, Meets, Puts, empty_slot, front_entries, front_half, held};
 ghost use Rattle.id_match.specs.Front.{place_of, slot_entry, slot_half, slot_tag, slot_value};
+ghost use Rattle.id_match.specs.Front.{HoldsSame, IsMarked, MarksSame, OthersSame, half_entry, mark_at};
+ghost use Rattle.id_match.specs.Front.{one_less, one_more};
+ghost use Rattle.id_match.specs.declared.front.Behind.TheVariants.{Nothing};
 
 use crate::{Entry, Half, Offered, pair};
 use id_graph::Port;
@@ -20,7 +24,39 @@ use id_tag::{Context, NearHasher, Plain, PlainToken, Tag, Value, mix, plain_of, 
 use std::alloc::{AllocError, Global};
 use std::collections::HashMap;
 
-/// A value that waits, with its tag and port, or none.
+/// How many values stand behind a slot: in the map, under tags with the slot's place.
+#[derive(Clone, Copy, PartialEq, Eq)]
+pub(crate) enum Behind {
+    Nothing,
+    /// One at the most.
+    One,
+    /// Any number.
+    Many,
+}
+
+impl Behind {
+    /// Where one more comes to stand there.
+    fn more(self) -> Behind
+        ensures { result ≡ one_more self }
+    {
+        match self {
+            Behind::Nothing => Behind::One,
+            Behind::One | Behind::Many => Behind::Many,
+        }
+    }
+
+    /// Where one of them leaves.
+    fn less(self) -> Behind
+        ensures { result ≡ one_less self }
+    {
+        match self {
+            Behind::Nothing | Behind::One => Behind::Nothing,
+            Behind::Many => Behind::Many,
+        }
+    }
+}
+
+/// A value that waits, with its tag and port, or none, and what stands behind.
 #[derive(Clone, Copy)]
 pub(crate) struct Slot {
     value: Plain,
@@ -30,11 +66,12 @@ pub(crate) struct Slot {
     element: u8,
     port: Port,
     is_full: bool,
+    behind: Behind,
 }
 
 const _: () = prove!(size_of::<Slot>() == 32);
 
-/// The slot that keeps nothing.
+/// The slot that keeps nothing, with nothing behind.
 const EMPTY: Slot = Slot {
     value: Plain::Signal,
     serial: 0,
@@ -43,6 +80,7 @@ const EMPTY: Slot = Slot {
     element: 0,
     port: Port::Zero,
     is_full: false,
+    behind: Behind::Nothing,
 };
 
 /// The place of a tag's numbers among so many slots.
@@ -52,8 +90,8 @@ fn place_of(serial: u64, iteration: u64, instr: u32, len: usize) -> usize
     ensures exact { result ≡ place_of serial iteration instr len }
     ensures below { result < len }
 {
-    let row = mix(mix(mix(0, serial / 64), iteration), u64::from(instr));
-    let at = (row >> 32).wrapping_add(serial % 64);
+    let row = mix(mix(mix(0, serial / 512), iteration), u64::from(instr));
+    let at = (row >> 32).wrapping_add(serial % 512);
     (at & (len as u64 - 1)) as usize
 }
 
@@ -143,6 +181,7 @@ fn slot_for(tag: Tag, port: Port, value: Value) -> Option<Slot>
         element: tiny(tag.context.element)?,
         port,
         is_full: true,
+        behind: Behind::Nothing,
     })
 }
 
@@ -160,6 +199,7 @@ pub(crate) fn slot_in(token: &PlainToken) -> Slot
         element: token.element,
         port: token.port,
         is_full: true,
+        behind: Behind::Nothing,
     }
 }
 
@@ -170,6 +210,7 @@ pub(crate) fn meet(front: &mut Vec<Slot>, token: &PlainToken) -> Option<Plain>
         (whole token.now.value) (pair_of token.now.port (whole token.now.value) (whole v))) }
     ensures found { IfSome result (λ _. IsSome (front_half front.old.items (tag_in token.now))) }
     ensures none { result ≡ None → front.new.items ≡ front.old.items }
+    ensures marks { MarksSame front.old.items front.new.items }
 {
     if front.is_empty() {
         return None;
@@ -191,6 +232,7 @@ pub(crate) fn take(front: &mut Vec<Slot>, tag: Tag, port: Port, value: Value) ->
     ensures found { IfSome result (λ _. IsSome (front_half front.old.items tag)) }
     ensures none { result ≡ None → front.new.items ≡ front.old.items }
     ensures free { result ≡ None → front_half front.old.items tag ≡ None }
+    ensures marks { MarksSame front.old.items front.new.items }
 {
     if front.is_empty() {
         return None;
@@ -222,7 +264,7 @@ fn put(front: &mut Vec<Slot>, slot: Slot) -> bool
     ensures free { IsTrue result → front_half front.old.items (slot_tag slot) ≡ None }
     ensures put { IsTrue result → Puts front.old.items front.new.items (slot_tag slot) (slot_half slot) }
     ensures full { result ≡ false → front.new.items ≡ front.old.items }
-    ensures len { length front.new.items ≡ length front.old.items }
+    ensures marks { MarksSame front.old.items front.new.items }
 {
     if front.is_empty() {
         return false;
@@ -235,41 +277,68 @@ fn put(front: &mut Vec<Slot>, slot: Slot) -> bool
     );
     let free = front[at].is_empty();
     if free {
-        front[at] = slot;
+        front[at] = Slot {
+            behind: front[at].behind,
+            ..slot
+        };
     }
     free
 }
 
-/// Puts the slot into its place, if that keeps nothing and nothing waits but in the front.
+/// Puts the slot into its place, if that keeps nothing, and nothing stands behind it.
 #[inline(always)]
-pub(crate) fn put_alone(
-    front: &mut Vec<Slot>,
-    halves: &HashMap<Tag, Half, NearHasher>,
-    slot: Slot,
-) -> bool
-    ensures apart { IsTrue result → lookup (same_tag (slot_tag slot)) halves.now.entries ≡ None }
+pub(crate) fn put_alone(front: &mut Vec<Slot>, slot: Slot) -> bool
+    ensures apart { (es : List (Tag × Half)) → IsMarked front.old.items es → IsTrue result
+        → lookup (same_tag (slot_tag slot)) es ≡ None }
     ensures free { IsTrue result → front_half front.old.items (slot_tag slot) ≡ None }
     ensures put { IsTrue result → Puts front.old.items front.new.items (slot_tag slot) (slot_half slot) }
     ensures full { result ≡ false → front.new.items ≡ front.old.items }
+    ensures marks { MarksSame front.old.items front.new.items }
 {
-    if !halves.is_empty() {
+    if front.is_empty() {
         return false;
     }
-    put(front, slot)
+    let at = place_of(
+        u64::from(slot.serial),
+        u64::from(slot.iteration),
+        slot.instr,
+        front.len(),
+    );
+    let free = front[at].is_empty() & (front[at].behind == Behind::Nothing);
+    if free {
+        front[at] = Slot {
+            behind: Behind::Nothing,
+            ..slot
+        };
+    }
+    free
 }
 
-/// Puts the slot into its place, if that keeps nothing and nothing waits under its tag among the halves.
+/// What stands behind the slot of a tag.
+fn stands_behind(front: &[Slot], tag: Tag) -> Behind
+    ensures { result ≡ Nothing → (0 < length front.now) × (mark_at front.now tag ≡ Nothing) }
+{
+    if front.is_empty() {
+        return Behind::Many;
+    }
+    front[place_of(tag.context.serial, tag.iteration, tag.instr, front.len())].behind
+}
+
+/// Puts the slot into its place, if that keeps nothing and nothing waits under its tag behind.
 pub(crate) fn put_beside(
     front: &mut Vec<Slot>,
     halves: &HashMap<Tag, Half, NearHasher>,
     slot: Slot,
 ) -> bool
-    ensures apart { IsTrue result → lookup (same_tag (slot_tag slot)) halves.now.entries ≡ None }
+    ensures apart { IsMarked front.old.items halves.now.entries → IsTrue result
+        → lookup (same_tag (slot_tag slot)) halves.now.entries ≡ None }
     ensures free { IsTrue result → front_half front.old.items (slot_tag slot) ≡ None }
     ensures put { IsTrue result → Puts front.old.items front.new.items (slot_tag slot) (slot_half slot) }
     ensures full { result ≡ false → front.new.items ≡ front.old.items }
+    ensures marks { MarksSame front.old.items front.new.items }
 {
-    if !halves.is_empty() && halves.contains_key(&slot.tag()) {
+    let tag = slot.tag();
+    if stands_behind(front, tag) != Behind::Nothing && halves.contains_key(&tag) {
         return false;
     }
     put(front, slot)
@@ -283,15 +352,53 @@ pub(crate) fn put_value(
     port: Port,
     value: Value,
 ) -> bool
-    ensures apart { IsTrue result → lookup (same_tag tag) halves.now.entries ≡ None }
+    ensures apart { IsMarked front.old.items halves.now.entries → IsTrue result
+        → lookup (same_tag tag) halves.now.entries ≡ None }
     ensures free { IsTrue result → front_half front.old.items tag ≡ None }
     ensures put { IsTrue result →
         Puts front.old.items front.new.items tag (Some (record { port = port; value = value })) }
     ensures full { result ≡ false → front.new.items ≡ front.old.items }
+    ensures marks { MarksSame front.old.items front.new.items }
 {
     match slot_for(tag, port, value) {
         Some(slot) => put_beside(front, halves, slot),
         None => false,
+    }
+}
+
+/// Tells the slot of a tag that a value comes to stand behind it.
+pub(crate) fn step_behind(front: &mut Vec<Slot>, tag: Tag)
+    ensures holds { HoldsSame front.old.items front.new.items }
+    ensures marked { (es fs : List (Tag × Half)) → IsMarked front.old.items es → OthersSame tag es fs
+        → IsMarked front.new.items fs }
+{
+    if front.is_empty() {
+        return;
+    }
+    let at = place_of(tag.context.serial, tag.iteration, tag.instr, front.len());
+    front[at].behind = front[at].behind.more();
+}
+
+/// Tells the slot of a tag that the value under that tag leaves from behind it.
+pub(crate) fn leave_behind(front: &mut Vec<Slot>, tag: Tag)
+    ensures holds { HoldsSame front.old.items front.new.items }
+    ensures marked { (es fs : List (Tag × Half)) → IsMarked front.old.items es → OthersSame tag es fs
+        → IsSome (lookup (same_tag tag) es) → lookup (same_tag tag) fs ≡ None → IsMarked front.new.items fs }
+{
+    if front.is_empty() {
+        return;
+    }
+    let at = place_of(tag.context.serial, tag.iteration, tag.instr, front.len());
+    front[at].behind = front[at].behind.less();
+}
+
+/// Tells the slots that these values stand behind them, and no others.
+pub(crate) fn mark(front: &mut Vec<Slot>, entries: &[Entry])
+    ensures holds { HoldsSame front.old.items front.new.items }
+    ensures marked { IsMarked front.new.items (map_list half_entry entries.now) }
+{
+    for i in 0..entries.len() {
+        step_behind(front, entries[i].tag);
     }
 }
 
@@ -306,19 +413,19 @@ fn empty(alloc: Global, len: usize) -> Option<Vec<Slot>>
     Some(front)
 }
 
-/// A front of 1,024 slots, or of four times as many as before, up to 2 ^ 24, which holds the same.
+/// A front of 1,024 slots, or of twice as many as before, up to 2 ^ 24, which holds the same.
 pub(crate) fn larger(alloc: Global, front: &[Slot]) -> Option<Vec<Slot>>
     ensures placed { IfSome result (λ m. IsPlaced m.items) }
     ensures same { IfSome result (λ m. (t : Tag) →
         front_half m.items t ≡ lookup (same_tag t) (front_entries front.now)) }
 {
-    if front.len() > 0x40_0000 {
+    if front.len() > 0x80_0000 {
         return None;
     }
     let len = if front.is_empty() {
         1024
     } else {
-        front.len() * 4
+        front.len() * 2
     };
     let mut more = empty(alloc, len)?;
     for i in 0..front.len() {

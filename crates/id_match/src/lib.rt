@@ -22,11 +22,14 @@ ghost use Rattle.id_match.specs.Waiting.{pair_of, entry_at};
 ghost use Rattle.id_match.specs.Halves.{answer_at, half_after};
 ghost use Rattle.id_match.specs.Meetings.{told};
 ghost use Rattle.id_tag.specs.Plains.{tag_in, whole};
+ghost use Rattle.std.specs.Map.{lookup};
+ghost use Rattle.id_match.specs.Front.{HoldsSame, IsMarked, IsPlaced, front_entries, front_half};
 
 mod front;
 
 use front::{
-    Slot, count, half_in, in_front, larger, meet, put_alone, put_beside, put_value, slot_in, take,
+    Slot, count, half_in, in_front, larger, leave_behind, mark, meet, put_alone, put_beside,
+    put_value, slot_in, step_behind, take,
 };
 use id_graph::Port;
 use id_tag::{NearHasher, Plain, PlainToken, Tag, Value, plain_of};
@@ -138,7 +141,7 @@ impl Waiting {
         } else if put_value(&mut self.front, &self.halves, tag, port, value) {
             Ok(Offered::Kept)
         } else {
-            offer_to(&mut self.halves, tag, port, value)
+            offer_to(&mut self.front, &mut self.halves, tag, port, value)
         }
     }
 
@@ -155,7 +158,7 @@ impl Waiting {
     {
         if let Some(partner) = meet(&mut self.front, token) {
             Ok(Met::Partner(partner))
-        } else if put_alone(&mut self.front, &self.halves, slot_in(token)) {
+        } else if put_alone(&mut self.front, slot_in(token)) {
             Ok(Met::Kept)
         } else {
             // A copy, so that no reference to the caller's token leaves, and it can stand in registers.
@@ -180,7 +183,7 @@ impl Waiting {
         } else if put_beside(&mut self.front, &self.halves, slot_in(token)) {
             Ok(Met::Kept)
         } else {
-            let met = offer_plain_to(&mut self.halves, token)?;
+            let met = offer_plain_to(&mut self.front, &mut self.halves, token)?;
             self.crowded = crowded_after(self.crowded, met);
             Ok(met)
         }
@@ -193,8 +196,8 @@ impl Waiting {
         ensures { self.new ≡ self.old }
     {
         let len = self.front.len();
-        if self.crowded > len / 8 || len == 0 {
-            if let Some(front) = larger(self.alloc, &self.front) {
+        if self.crowded > len / 16 || len == 0 {
+            if let Some(front) = larger_front(self.alloc, &self.front, &self.halves) {
                 self.front = front;
                 self.crowded = 0;
             }
@@ -219,6 +222,27 @@ impl Waiting {
         entries.append(&mut listed(alloc, &self.halves)?)?;
         sort_by_tag(&mut entries);
         Ok(entries)
+    }
+}
+
+// A larger front for the same values, if there is memory for it.
+fn larger_front(
+    alloc: Global,
+    front: &[Slot],
+    halves: &HashMap<Tag, Half, NearHasher>,
+) -> Option<Vec<Slot>>
+    ensures placed { IfSome result (λ m. IsPlaced m.items) }
+    ensures same { IfSome result (λ m. (t : Tag) →
+        front_half m.items t ≡ lookup (same_tag t) (front_entries front.now)) }
+    ensures marked { IfSome result (λ m. IsMarked m.items halves.now.entries) }
+{
+    let mut more = larger(alloc, front)?;
+    match listed(alloc, halves) {
+        Ok(entries) => {
+            mark(&mut more, &entries);
+            Some(more)
+        }
+        Err(_) => None,
     }
 }
 
@@ -257,8 +281,9 @@ fn sort_by_tag(entries: &mut Vec<Entry>)
     entries.sort_unstable_by_key(|e| e.tag);
 }
 
-// An offer in one look-up: room is made where the tag is new, and only there.
+// An offer in one look-up: room is made where the tag is new, and only there. The front is told of it.
 fn offer_to(
+    front: &mut Vec<Slot>,
     halves: &mut HashMap<Tag, Half, NearHasher>,
     tag: Tag,
     port: Port,
@@ -269,12 +294,17 @@ fn offer_to(
         hash.get same_tag halves.new tag ≡ half_after (hash.get same_tag halves.old tag) port value) }
     ensures others { OnOk result ((t : Tag) → same_tag tag t ≡ false →
         hash.get same_tag halves.new t ≡ hash.get same_tag halves.old t) }
+    ensures holds { HoldsSame front.old.items front.new.items }
+    ensures marked { IsMarked front.old.items halves.old.entries → IsMarked front.new.items halves.new.entries }
+
     ensures grows { OnErr result (hash.get same_tag halves.old tag ≡ None) }
     ensures err { OnErr result (hash.IsUnchanged halves.old halves.new) }
+    ensures err_front { OnErr result (front.new.items ≡ front.old.items) }
 {
     match halves.entry(tag)? {
         Place::Vacant(place) => {
             place.insert(Half { port, value });
+            step_behind(front, tag);
             Ok(Offered::Kept)
         }
         Place::Occupied(place) => {
@@ -283,14 +313,16 @@ fn offer_to(
                 return Ok(Offered::Taken);
             }
             place.remove();
+            leave_behind(front, tag);
             Ok(pair(port, value, half.value))
         }
     }
 }
 
-// An offer of a plain token in one look-up.
+// An offer of a plain token in one look-up. The front is told of it.
 #[inline(always)]
 fn offer_plain_to(
+    front: &mut Vec<Slot>,
     halves: &mut HashMap<Tag, Half, NearHasher>,
     token: &PlainToken,
 ) -> Result<Met, AllocError>
@@ -300,15 +332,22 @@ fn offer_plain_to(
         half_after (hash.get same_tag halves.old (tag_in token.now)) token.now.port (whole token.now.value))) }
     ensures others { OnOk result ((t : Tag) → same_tag (tag_in token.now) t ≡ false →
         hash.get same_tag halves.new t ≡ hash.get same_tag halves.old t) }
+    ensures holds { HoldsSame front.old.items front.new.items }
+    ensures marked { IsMarked front.old.items halves.old.entries → IsMarked front.new.items halves.new.entries }
     ensures apart { IfOk result (λ met. told met token.now ≡ None → hash.IsUnchanged halves.old halves.new) }
+    ensures apart_front { IfOk result (λ met. told met token.now ≡ None → front.new.items ≡ front.old.items) }
+
     ensures err { OnErr result (hash.IsUnchanged halves.old halves.new) }
+    ensures err_front { OnErr result (front.new.items ≡ front.old.items) }
 {
-    match halves.entry(token.tag())? {
+    let own = token.tag();
+    match halves.entry(own)? {
         Place::Vacant(place) => {
             place.insert(Half {
                 port: token.port,
                 value: token.value.value(),
             });
+            step_behind(front, own);
             Ok(Met::Kept)
         }
         Place::Occupied(place) => {
@@ -319,6 +358,7 @@ fn offer_plain_to(
             match plain_of(&half.value) {
                 Some(partner) => {
                     place.remove();
+                    leave_behind(front, own);
                     Ok(Met::Partner(partner))
                 }
                 None => Ok(Met::Apart),

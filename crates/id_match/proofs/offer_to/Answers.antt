@@ -1,5 +1,9 @@
-use Rattle.std.proofs.Common.{arith}
+use Rattle.std.proofs.Common.{◌≡◌, ◌∙◌, Some, false, arith}
 use Rattle.std.proofs.lemmas.Grind.{common_steps}
+use Rattle.std.specs.HashMap as hash
+use Rattle.id_tag.specs.Tags.{same_tag}
+use Rattle.id_match.specs.Ports.{same_port}
+use Rattle.id_match.proofs.FrontLemmas.{gone}
 use Rattle.id_match.proofs.offer_to.Goals as goal
 
 -- the entry's write leaves the other tags
@@ -30,3 +34,15 @@ returns-else-eq-clause-answer c = grind (arith, common_steps)
 
 pub returns-else-eq-clause-at : goal.returns-else-eq-clause-at
 returns-else-eq-clause-at c = grind (arith, common_steps)
+
+-- the front tells of the one that came
+pub returns-in-Vacant-clause-marked : goal.returns-in-Vacant-clause-marked
+returns-in-Vacant-clause-marked c = λ marked. c.step_behind.ensures.marked _ _ marked (returns-in-Vacant-clause-others c)
+
+-- or left
+pub returns-else-eq-clause-marked : goal.returns-else-eq-clause-marked
+returns-else-eq-clause-marked c = λ marked.
+    let was : hash.get same_tag c.args.halves.now c.args.tag ≡ Some c.get.result.now = grind (arith, common_steps) in
+    let apart : same_port c.get.result.now.port c.args.port ≡ false = grind (arith, common_steps) in
+    c.leave_behind.ensures.marked _ _ marked (returns-else-eq-clause-others c) (grind (arith, common_steps, was))
+    (returns-else-eq-clause-at c ∙ gone (hash.get same_tag c.args.halves.now c.args.tag) c.get.result.now c.args.port c.args.value was apart)

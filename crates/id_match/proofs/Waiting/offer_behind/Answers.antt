@@ -13,21 +13,24 @@ invariant_of-self c =
     let is : from_entries (all_entries c.self.inside.front.items c.self.inside.halves.entries) ≡ c.args.self.now = c.self.view_is ∙ c.make_room.ensures in
     (all_of_slot c.self.inside.front.items c.self.inside.halves.entries _ is c.self.invariant c.args.token.now.port (whole c.args.token.now.value) _
     (tag_in c.args.token.now) c.slot_in.result c.slot_in.ensures.tag c.slot_in.ensures.half
-    (c.if-put_beside.ensures.apart refl) (c.if-put_beside.ensures.free refl) (c.if-put_beside.ensures.put refl)).0
+    (c.if-put_beside.ensures.apart c.self.invariant.marked refl) (c.if-put_beside.ensures.free refl)
+    (c.if-put_beside.ensures.put refl) c.put_beside.ensures.marks).0
 
 pub returns-then-put_beside-clause-answer : goal.returns-then-put_beside-clause-answer
 returns-then-put_beside-clause-answer c =
     let is : from_entries (all_entries c.self.inside.front.items c.self.inside.halves.entries) ≡ c.args.self.now = c.self.view_is ∙ c.make_room.ensures in
     (all_of_slot c.self.inside.front.items c.self.inside.halves.entries _ is c.self.invariant c.args.token.now.port (whole c.args.token.now.value) _
     (tag_in c.args.token.now) c.slot_in.result c.slot_in.ensures.tag c.slot_in.ensures.half
-    (c.if-put_beside.ensures.apart refl) (c.if-put_beside.ensures.free refl) (c.if-put_beside.ensures.put refl)).1
+    (c.if-put_beside.ensures.apart c.self.invariant.marked refl) (c.if-put_beside.ensures.free refl)
+    (c.if-put_beside.ensures.put refl) c.put_beside.ensures.marks).1
 
 pub returns-then-put_beside-clause-after : goal.returns-then-put_beside-clause-after
 returns-then-put_beside-clause-after c =
     let is : from_entries (all_entries c.self.inside.front.items c.self.inside.halves.entries) ≡ c.args.self.now = c.self.view_is ∙ c.make_room.ensures in
     (all_of_slot c.self.inside.front.items c.self.inside.halves.entries _ is c.self.invariant c.args.token.now.port (whole c.args.token.now.value) _
     (tag_in c.args.token.now) c.slot_in.result c.slot_in.ensures.tag c.slot_in.ensures.half
-    (c.if-put_beside.ensures.apart refl) (c.if-put_beside.ensures.free refl) (c.if-put_beside.ensures.put refl)).2
+    (c.if-put_beside.ensures.apart c.self.invariant.marked refl) (c.if-put_beside.ensures.free refl)
+    (c.if-put_beside.ensures.put refl) c.put_beside.ensures.marks).2
 
 pub invariant_of-self-else-put_beside : goal.invariant_of-self-else-put_beside
 invariant_of-self-else-put_beside c =
@@ -42,7 +45,8 @@ invariant_of-self-else-put_beside c =
     let others = others_always c.self.inside.halves.entries c.offer_plain_to.new.halves.entries c.offer_plain_to.result (tag_in c.args.token.now)
     c.offer_plain_to.ensures.others c.offer_plain_to.ensures.err in
     behind_kept c.put_beside.new.front.items c.self.inside.halves.entries _ holds kept (tag_in c.args.token.now) c.args.token.now.port (whole
-    c.args.token.now.value) free c.offer_plain_to.new.halves.entries others
+    c.args.token.now.value) free _ c.offer_plain_to.ensures.holds c.offer_plain_to.new.halves.entries others
+    (c.offer_plain_to.ensures.marked kept.marked)
 
 pub returns-in_ok-met-clause-answer : goal.returns-in_ok-met-clause-answer
 returns-in_ok-met-clause-answer c =
@@ -72,4 +76,4 @@ returns-in_ok-met-clause-after c =
     c.offer_plain_to.ensures.others c.offer_plain_to.ensures.err in
     if_some (told c.in_ok-met.met c.args.token.now) (λ a e. behind_after c.put_beside.new.front.items
     c.self.inside.halves.entries _ holds kept (tag_in c.args.token.now) c.args.token.now.port (whole c.args.token.now.value) free
-    c.offer_plain_to.new.halves.entries others e) c.in_ok-met.ensures.at
+    _ c.offer_plain_to.ensures.holds c.offer_plain_to.new.halves.entries others e) c.in_ok-met.ensures.at

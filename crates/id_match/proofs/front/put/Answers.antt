@@ -11,4 +11,4 @@ returns-then-free-clause-put c = λ free.
     let at : get_or c.args.front.now.items c.place_of-at.result empty_slot ≡ c.index.result.now = grind (arith, common_steps) in
     let there : c.place_of-at.result ≡ place (slot_tag c.args.slot) (length c.args.front.now.items) = grind (arith, common_steps) in
     puts_here c.args.front.now.items (slot_tag c.args.slot) some c.place_of-at.result there c.index.result.now at
-    (c.is_empty-free.ensures.0 free) c.args.slot refl
+    (c.is_empty-free.ensures.0 free) _ refl
