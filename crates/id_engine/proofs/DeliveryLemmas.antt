@@ -24,9 +24,22 @@ use Rattle.id_core.specs.Machines.{World, MachineView, delivered, event_at, even
 use Rattle.id_core.specs.Replays.{ElementView}
 use Rattle.id_core.specs.Observed.{events_of, fault_of, faults, faults_of, path_in, structure_in}
 use Rattle.id_list.proofs.PlacesLemmas.{set-here, set-elsewhere, slice_get-image, slice_get-set}
+use Rattle.id_engine.specs.declared.run.Came.TheVariants as came
 use Rattle.id_engine.specs.Runs.{AreHeldBefore, AreOfFirst, IsFree, IsHeldBack}
-use Rattle.id_engine.specs.Reports.{at_fault, at_rest, HasCount, HasEvent, HasRun, IsDelivery, IsFreshMachine, IsHeldAt}
+use Rattle.id_engine.specs.Reports.{at_fault, at_rest, came_of, HasCount, HasEvent, HasRun, IsDelivery, IsFreshMachine, IsHeldAt}
 use Rattle.id_engine.proofs.RunLemmas.{run-append}
+
+-- ---- what an event came to
+
+pub stuck_from : (s : Step) → came_of s ≡ came.Stuck → s ≡ Stuck
+stuck_from Went e = cc
+stuck_from (Fault f) e = cc
+stuck_from Stuck e = refl
+
+pub went_from : (s : Step) → came_of s ≡ came.Went → s ≡ Went
+went_from Went e = refl
+went_from (Fault f) e = cc
+went_from Stuck e = cc
 
 -- ---- a message that is not held back
 

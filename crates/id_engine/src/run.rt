@@ -11,8 +11,9 @@ ghost use Rattle.id_engine.specs.Alike.{PrintedAlike};
 ghost use Rattle.id_engine.specs.Commands.{Run, ShowsAll, ShowsFront};
 ghost use Rattle.id_engine.specs.Programs.{IsPlacedWithin};
 ghost use Rattle.id_engine.specs.Refusals.{IsInsideOf, IsRefusedRun, IsTakenRun};
-ghost use Rattle.id_engine.specs.Reports.{AreAllowed, HasCount, HasEvent, HasRun, IsDelivery, IsFreshMachine};
+ghost use Rattle.id_engine.specs.Reports.{AreAllowed, HasCount, HasEvent, HasRun, IsDelivered, IsFreshMachine};
 ghost use Rattle.id_engine.specs.Reports.{IsHeldAt, IsReportFrom, PrintsRun, RunsSo, status_of};
+ghost use Rattle.id_engine.specs.declared.run.Came.TheVariants as comes;
 ghost use Rattle.id_engine.specs.Runs.{AreHeldBefore, IsFree, IsTraceOf, Ran};
 
 use crate::error::EngineError;
@@ -51,15 +52,24 @@ fn machine_of<'a>(
     }
 }
 
+/// What an event came to, without its fault: small, since each event of a run hands one on.
+#[derive(Clone, Copy)]
+enum Came {
+    Went,
+    Failed,
+    Stuck,
+}
+
 /// Whether a run goes on after an event that came to this.
-fn goes_on(step: Step) -> bool
-    requires { step ≢ Step.Stuck }
-    ensures { IsTrue result ↔ (step ≡ Step.Went) }
+#[inline(always)]
+fn goes_on(came: Came) -> bool
+    requires { came ≢ comes.Stuck }
+    ensures { IsTrue result ↔ (came ≡ comes.Went) }
 {
-    match step {
-        Step::Went => true,
-        Step::Fault(_) => false,
-        Step::Stuck => unreachable!(),
+    match came {
+        Came::Went => true,
+        Came::Failed => false,
+        Came::Stuck => unreachable!(),
     }
 }
 
@@ -100,15 +110,18 @@ fn first_free(machine: &Machine<'_>, from: usize, count: u32, steps: u64) -> usi
 }
 
 /// Delivers the message at a position, for which a stamp is left, and says what the event came to.
-fn deliver(machine: &mut Machine<'_>, position: usize) -> Result<Step, EngineError>
+#[inline(always)]
+fn deliver(machine: &mut Machine<'_>, position: usize) -> Result<Came, EngineError>
     requires position { position < length machine.old.world.flight }
     requires event { HasEvent machine.old position }
-    ensures delivers { IfOk result (IsDelivery position machine.old machine.new) }
+    ensures delivers { IfOk result (IsDelivered position machine.old machine.new) }
     ensures memory { IfErr result (λ e. e ≡ EngineError.Memory) }
     ensures same { IfErr result (λ e. machine.new ≡ machine.old) }
 {
     match machine.deliver(position) {
-        Ok(step) => Ok(step),
+        Ok(Step::Went) => Ok(Came::Went),
+        Ok(Step::Fault(_)) => Ok(Came::Failed),
+        Ok(Step::Stuck) => Ok(Came::Stuck),
         Err(TakeError::StampEnd) => unreachable!(),
         Err(TakeError::Memory) => Err(EngineError::Memory),
     }
@@ -131,8 +144,8 @@ fn run_machine(machine: &mut Machine<'_>, count: u32, steps: u64) -> Result<(), 
         if position == machine.in_flight().len() {
             return Ok(());
         }
-        let step = deliver(machine, position)?;
-        if !goes_on(step) {
+        let came = deliver(machine, position)?;
+        if !goes_on(came) {
             return Ok(());
         }
     }

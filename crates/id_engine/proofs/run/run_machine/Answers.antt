@@ -1,8 +1,9 @@
 use Rattle.std.proofs.Common.{◌≡◌, ◌≢◌, ◌*◌, ℕ, length, sym, subst, ap, ◌∙◌, arith, rules}
 use Rattle.std.proofs.lemmas.Grind.{common_steps}
 use Rattle.id_record.specs.declared.step.Step.TheVariants.{Went}
+use Rattle.id_engine.specs.Reports.{came_of}
 use Rattle.id_engine.specs.Runs.{AreHeldBefore, IsFree}
-use Rattle.id_engine.proofs.DeliveryLemmas.{HasEvent-free, HasRun-fault, HasRun-limit, HasRun-rest, Reaches-none, Reaches-went}
+use Rattle.id_engine.proofs.DeliveryLemmas.{HasEvent-free, HasRun-fault, HasRun-limit, HasRun-rest, Reaches-none, Reaches-went, stuck_from, went_from}
 use Rattle.id_engine.proofs.StuckLemmas.{not_stuck}
 use Rattle.id_engine.proofs.run.run_machine.Goals as goal
 
@@ -30,8 +31,9 @@ deliver-requires-clause-event c =
 
 pub goes_on-requires : goal.goes_on-requires
 goes_on-requires c =
-    not_stuck c.never_stuck.ensures c.args.machine.now c.loop-handled.machine c.deliver.new.machine c.args.steps c.loop-handled.handled c.loop-handled.position
-    c.first_free-position.result c.in_ok-step.step c.requires.fresh c.loop-handled.invariant c.in_ok-step.ensures.delivers
+    let d = c.in_ok-came.ensures.delivers in
+    λ e. not_stuck c.never_stuck.ensures c.args.machine.now c.loop-handled.machine c.deliver.new.machine c.args.steps c.loop-handled.handled
+    c.loop-handled.position c.first_free-position.result d.step c.requires.fresh c.loop-handled.invariant d.delivery (stuck_from d.step (sym d.is ∙ e))
 
 pub returns-then-not-goes_on-clause-run : goal.returns-then-not-goes_on-clause-run
 returns-then-not-goes_on-clause-run c =
@@ -40,11 +42,12 @@ returns-then-not-goes_on-clause-run c =
     let some : q ≢ length m.world.flight = λ e. first_of (omega (arith, e), search rules, grind (arith, common_steps)) in
     let held = subst (λ (n : ℕ). AreHeldBefore n c.args.steps m.world q) (sym c.requires.count) c.first_free-position.ensures.held in
     let free = subst (λ (n : ℕ). IsFree n c.args.steps m.world q) (sym c.requires.count) (c.first_free-position.ensures.free some) in
-    let stuck = not_stuck c.never_stuck.ensures c.args.machine.now m c.deliver.new.machine c.args.steps c.loop-handled.handled c.loop-handled.position q c.in_ok-step.step
-    c.requires.fresh c.loop-handled.invariant c.in_ok-step.ensures.delivers in
-    let went : c.in_ok-step.step ≢ Went = λ e. (let t = c.goes_on.ensures.1 e in absurd (first_of (cc, search rules, grind (arith, common_steps)))) in
-    HasRun-fault c.args.machine.now m c.deliver.new.machine c.args.steps c.loop-handled.handled c.loop-handled.position q c.in_ok-step.step c.loop-handled.invariant held free
-    c.in_ok-step.ensures.delivers went stuck
+    let d = c.in_ok-came.ensures.delivers in
+    let stuck = not_stuck c.never_stuck.ensures c.args.machine.now m c.deliver.new.machine c.args.steps c.loop-handled.handled c.loop-handled.position q d.step
+    c.requires.fresh c.loop-handled.invariant d.delivery in
+    let went : d.step ≢ Went = λ e. (let t = c.goes_on.ensures.1 (d.is ∙ ap came_of e) in absurd (first_of (cc, search rules, grind (arith, common_steps)))) in
+    HasRun-fault c.args.machine.now m c.deliver.new.machine c.args.steps c.loop-handled.handled c.loop-handled.position q d.step c.loop-handled.invariant held free
+    d.delivery went stuck
 
 pub loop-handled-preserved : goal.loop-handled-preserved
 loop-handled-preserved c =
@@ -53,8 +56,9 @@ loop-handled-preserved c =
     let some : q ≢ length m.world.flight = λ e. first_of (omega (arith, e), search rules, grind (arith, common_steps)) in
     let held = subst (λ (n : ℕ). AreHeldBefore n c.args.steps m.world q) (sym c.requires.count) c.first_free-position.ensures.held in
     let free = subst (λ (n : ℕ). IsFree n c.args.steps m.world q) (sym c.requires.count) (c.first_free-position.ensures.free some) in
-    Reaches-went c.args.machine.now m c.deliver.new.machine c.args.steps c.loop-handled.handled c.loop-handled.position q c.in_ok-step.step c.loop-handled.invariant held free
-    c.in_ok-step.ensures.delivers (c.goes_on.ensures.0 (first_of (cc, search rules, grind (arith, common_steps))))
+    let d = c.in_ok-came.ensures.delivers in
+    Reaches-went c.args.machine.now m c.deliver.new.machine c.args.steps c.loop-handled.handled c.loop-handled.position q d.step c.loop-handled.invariant held free
+    d.delivery (went_from d.step (sym d.is ∙ c.goes_on.ensures.0 (first_of (cc, search rules, grind (arith, common_steps)))))
 
 pub returns-clause-run : goal.returns-clause-run
 returns-clause-run c =
