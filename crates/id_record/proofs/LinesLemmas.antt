@@ -1,6 +1,6 @@
 -- Lemmas on specs/Lines.antt and specs/Records.antt: a record goes on by one event.
 use Rattle.std.proofs.Common.{◌≡◌, ℕ, zero, suc, ◌+◌, ◌<◌, List, [], ◌∷◌, ◌++◌, Option, None, Some, IfSome, length, refl, sym, ap, subst, ◌∙◌, length-append, get_or, arith}
-use Rattle.std.specs.Prelude.{All, ◌≤◌, ◌*◌, ◌/◌, ◌%◌, ◌^◌, ℤ, true, false, drop, slice_get, option_map, take}
+use Rattle.std.specs.Prelude.{All, pos, ◌≤◌, ◌*◌, ◌/◌, ◌%◌, ◌^◌, ℤ, true, false, drop, slice_get, option_map, take}
 use Rattle.std.specs.List.{AllByRecursion}
 use Rattle.std.proofs.lemmas.List.{append-nil, drop-append-le, get_or_append_left, length-take, take-append-drop, take-append-le, take_all}
 use Rattle.std.proofs.Math.Seq.{drop-append_seam}
@@ -17,6 +17,7 @@ use Rattle.id_tag.specs.declared.Tag.{Tag}
 use Rattle.id_tag.specs.declared.Value.{Value}
 use Rattle.id_tag.specs.declared.Value.TheVariants as value
 use Rattle.id_record.specs.declared.line.Handled.{Handled}
+use Rattle.id_tag.specs.declared.Cell.{Cell}
 use Rattle.id_record.specs.declared.line.Replies.{Replies}
 use Rattle.id_record.specs.declared.line.Line.{Line}
 use Rattle.id_record.specs.declared.line.Kind.{Kind}
@@ -24,63 +25,91 @@ use Rattle.id_record.specs.declared.line.Effect.{Effect}
 use Rattle.id_record.specs.declared.line.Kind.TheVariants as kind
 use Rattle.id_record.specs.Events.{EventView, full_step, tag_of, value_of}
 use Rattle.id_record.specs.Sends.{numbered, replies, sent}
-use Rattle.id_record.specs.Lines.{AreThere, IsKept, IsPacked, IsThere, Names, carried_value, context_of, element_at, high_half, index_of, instr_at, joined, low_half, no_replies, number_of, own, reaction_of, read, target_in, unpacked}
+use Rattle.id_record.specs.Lines.{AreThere, Beside, IsCelled, IsKept, IsPacked, IsPackedBeside, IsThere, IsWithin, Names, carried_value, cell_in, context_of, element_at, high_half, index_of, instr_at, joined, low_half, no_replies, number_of, own, port_at, reaction_of, read, saying, tag_at, target_in, told, unpacked}
 use Rattle.id_record.specs.Records.{event_of_handled, events_from, replies_in, sent_by, sent_for}
 use Rattle.std.specs.Int.{cast_unsigned, w64}
 use Rattle.std.proofs.lemmas.Int.{of_z-to_z}
 use Rattle.id_record.proofs.EachLemmas.{each-append, each-weaker, each-get}
 
 -- as many events as lines
-pub length-events_from : (g : Parts) (n : ℕ) (ts : List Tag) (k : ℕ) (asides : List Handled) (ls : List Line) → length (events_from g n ts k asides ls) ≡ length ls
-length-events_from g n ts k asides [] = refl
-length-events_from g n ts k asides (l ∷ ls) = omega (arith, length-events_from g n ts (k + 1) asides ls)
+pub length-events_from : (g : Parts) (n : ℕ) (ts : List Tag) (k : ℕ) (b : Beside) (ls : List Line) → length (events_from g n ts k b ls) ≡ length ls
+length-events_from g n ts k b [] = refl
+length-events_from g n ts k b (l ∷ ls) = omega (arith, length-events_from g n ts (k + 1) b ls)
 
 -- the event at a position is that of the line
-pub events_from-get : (g : Parts) (n : ℕ) (ts : List Tag) (k : ℕ) (asides : List Handled) (ls : List Line) (i : ℕ) (l : Line) → slice_get ls i ≡ Some l
-    → slice_get (events_from g n ts k asides ls) i ≡ Some (event_of_handled g n ts (k + i) (unpacked asides l))
-events_from-get g n ts k asides [] i l is = cc
-events_from-get g n ts k asides (m ∷ ls) zero l is =
+pub events_from-get : (g : Parts) (n : ℕ) (ts : List Tag) (k : ℕ) (b : Beside) (ls : List Line) (i : ℕ) (l : Line) → slice_get ls i ≡ Some l
+    → slice_get (events_from g n ts k b ls) i ≡ Some (event_of_handled g n ts (k + i) (unpacked b l))
+events_from-get g n ts k b [] i l is = cc
+events_from-get g n ts k b (m ∷ ls) zero l is =
     let same : m ≡ l = cc in
     let here : k ≡ k + 0 = omega arith in
-    ap (λ x. Some (event_of_handled g n ts k (unpacked asides x))) same ∙ ap (λ j. Some (event_of_handled g n ts j (unpacked asides l))) here
-events_from-get g n ts k asides (m ∷ ls) (suc i) l is =
+    ap (λ x. Some (event_of_handled g n ts k (unpacked b x))) same ∙ ap (λ j. Some (event_of_handled g n ts j (unpacked b l))) here
+events_from-get g n ts k b (m ∷ ls) (suc i) l is =
     let there : k + 1 + i ≡ k + suc i = omega arith in
-    events_from-get g n ts (k + 1) asides ls i l is ∙ ap (λ j. Some (event_of_handled g n ts j (unpacked asides l))) there
+    events_from-get g n ts (k + 1) b ls i l is ∙ ap (λ j. Some (event_of_handled g n ts j (unpacked b l))) there
 
 -- one more line is one more event
-events_from-push : (g : Parts) (n : ℕ) (ts : List Tag) (k : ℕ) (asides : List Handled) (ls : List Line) (l : Line)
-    → events_from g n ts k asides (ls ++ l ∷ []) ≡ events_from g n ts k asides ls ++ event_of_handled g n ts (k + length ls) (unpacked asides l) ∷ []
-events_from-push g n ts k asides [] l = let here : k ≡ k + 0 = omega arith in ap (λ j. event_of_handled g n ts j (unpacked asides l) ∷ []) here
-events_from-push g n ts k asides (m ∷ ls) l =
+events_from-push : (g : Parts) (n : ℕ) (ts : List Tag) (k : ℕ) (b : Beside) (ls : List Line) (l : Line)
+    → events_from g n ts k b (ls ++ l ∷ []) ≡ events_from g n ts k b ls ++ event_of_handled g n ts (k + length ls) (unpacked b l) ∷ []
+events_from-push g n ts k b [] l = let here : k ≡ k + 0 = omega arith in ap (λ j. event_of_handled g n ts j (unpacked b l) ∷ []) here
+events_from-push g n ts k b (m ∷ ls) l =
     let there : k + 1 + length ls ≡ k + length (m ∷ ls) = omega arith in
-    ap (λ es. event_of_handled g n ts k (unpacked asides m) ∷ es) (events_from-push g n ts (k + 1) asides ls l ∙ ap (λ j. events_from g n ts (k + 1) asides ls ++ event_of_handled g n ts j (unpacked asides l) ∷ []) there)
+    ap (λ es. event_of_handled g n ts k (unpacked b m) ∷ es) (events_from-push g n ts (k + 1) b ls l ∙ ap (λ j. events_from g n ts (k + 1) b ls ++ event_of_handled g n ts j (unpacked b l) ∷ []) there)
+
+-- what stands beside the lines goes on: each line that has its own there has the same
+abbrev pub Goes : Beside → Beside → Type 0
+Goes b d = (l : Line) → IsWithin b l → IsWithin d l × (unpacked d l ≡ unpacked b l)
+
+stays : (b : Beside) → Goes b b
+stays b l within = (within, refl)
+
+-- the cell that a line names is the same where more cells come
+cell-append : (cs more : List Cell) (l : Line) → l.to < length cs → cell_in (cs ++ more) l ≡ cell_in cs l
+cell-append cs more l there = grind (arith, get_or_append_left)
 
 -- one more event aside changes none
-read-append : (asides more : List Handled) (l : Line) (k : Kind) → IsThere asides k l.value → read (asides ++ more) l k ≡ read asides l k
-read-append asides more l kind.Signal there = refl
-read-append asides more l kind.Int there = refl
-read-append asides more l kind.True there = refl
-read-append asides more l kind.False there = refl
-read-append asides more l kind.Context there = refl
-read-append asides more l kind.Continuation there = refl
-read-append asides more l kind.Aside there = grind (arith, get_or_append_left)
+aside-there : (b : Beside) (e : Handled) (l : Line) (k : Kind) → IsThere b l k → IsThere (record b { asides = b.asides ++ e ∷ [] }) l k
+aside-there b e l kind.Aside there = omega (arith, length-append b.asides (e ∷ []), there)
+aside-there b e l k there = there
 
-there-append : (asides more : List Handled) (k : Kind) (n : ℤ) → IsThere asides k n → IsThere (asides ++ more) k n
-there-append asides more kind.Signal n there = tt
-there-append asides more kind.Int n there = tt
-there-append asides more kind.True n there = tt
-there-append asides more kind.False n there = tt
-there-append asides more kind.Context n there = tt
-there-append asides more kind.Continuation n there = tt
-there-append asides more kind.Aside n there = omega (arith, length-append asides more, there)
+aside-same : (b : Beside) (e : Handled) (l : Line) (k : Kind) → IsThere b l k → read (record b { asides = b.asides ++ e ∷ [] }) l k ≡ read b l k
+aside-same b e l kind.Aside there = grind (arith, get_or_append_left)
+aside-same b e l k there = refl
 
-events_from-append : (g : Parts) (n : ℕ) (ts : List Tag) (k : ℕ) (asides more : List Handled) (ls : List Line) → AllByRecursion (IsKept asides ts) ls
-    → events_from g n ts k (asides ++ more) ls ≡ events_from g n ts k asides ls
-events_from-append g n ts k asides more [] kept = refl
-events_from-append g n ts k asides more (l ∷ ls) kept =
-    let here : unpacked (asides ++ more) l ≡ unpacked asides l = read-append asides more l l.kind (kept.0).within in
-    let rest = events_from-append g n ts (k + 1) asides more ls kept.1 in
-    ap (λ h. event_of_handled g n ts k h ∷ events_from g n ts (k + 1) (asides ++ more) ls) here ∙ ap (λ es. event_of_handled g n ts k (unpacked asides l) ∷ es) rest
+aside_goes : (b : Beside) (e : Handled) → Goes b (record b { asides = b.asides ++ e ∷ [] })
+aside_goes b e l there = (aside-there b e l l.kind there, aside-same b e l l.kind there)
+
+-- one more cell changes none
+cell-there : (b : Beside) (c : Cell) (l : Line) (k : Kind) → IsThere b l k → IsThere (record b { cells = b.cells ++ c ∷ [] }) l k
+cell-there b c l kind.Signal there = tt
+cell-there b c l kind.Int there = tt
+cell-there b c l kind.True there = tt
+cell-there b c l kind.False there = tt
+cell-there b c l kind.Context there = tt
+cell-there b c l kind.Continuation there = tt
+cell-there b c l kind.Aside there = there
+cell-there b c l k there = omega (arith, length-append b.cells (c ∷ []), there)
+
+cell-same : (b : Beside) (c : Cell) (l : Line) (k : Kind) → IsThere b l k → read (record b { cells = b.cells ++ c ∷ [] }) l k ≡ read b l k
+cell-same b c l kind.Signal there = refl
+cell-same b c l kind.Int there = refl
+cell-same b c l kind.True there = refl
+cell-same b c l kind.False there = refl
+cell-same b c l kind.Context there = refl
+cell-same b c l kind.Continuation there = refl
+cell-same b c l kind.Aside there = refl
+cell-same b c l k there = ap (λ d. saying l (told k (tag_at l) (port_at (l.position / 2 ^ 31)) l.value l.result d)) (cell-append b.cells (c ∷ []) l there)
+
+cell_goes : (b : Beside) (c : Cell) → Goes b (record b { cells = b.cells ++ c ∷ [] })
+cell_goes b c l there = (cell-there b c l l.kind there, cell-same b c l l.kind there)
+
+events_from-goes : (g : Parts) (n : ℕ) (ts : List Tag) (k : ℕ) (b d : Beside) (ls : List Line) → Goes b d → AllByRecursion (IsKept b ts) ls
+    → events_from g n ts k d ls ≡ events_from g n ts k b ls
+events_from-goes g n ts k b d [] goes kept = refl
+events_from-goes g n ts k b d (l ∷ ls) goes kept =
+    let here : unpacked d l ≡ unpacked b l = (goes l (kept.0).within).1 in
+    let rest = events_from-goes g n ts (k + 1) b d ls goes kept.1 in
+    ap (λ h. event_of_handled g n ts k h ∷ events_from g n ts (k + 1) d ls) here ∙ ap (λ es. event_of_handled g n ts k (unpacked b l) ∷ es) rest
 
 -- the event of the element n at this position, where it sends this
 abbrev pub event_sending : ℕ → ℕ → Handled → List Payload → EventView
@@ -109,21 +138,21 @@ replies_in-last ts more r from count =
     ∙ ap (λ k. take k more) count
     ∙ take_all (length more) more (omega arith)
 
-pub events_from-replies : (g : Parts) (n : ℕ) (ts more : List Tag) (k : ℕ) (asides : List Handled) (ls : List Line) → AllByRecursion (IsKept asides ts) ls
-    → events_from g n (ts ++ more) k asides ls ≡ events_from g n ts k asides ls
-events_from-replies g n ts more k asides [] kept = refl
-events_from-replies g n ts more k asides (l ∷ ls) kept =
-    let h = unpacked asides l in
+pub events_from-replies : (g : Parts) (n : ℕ) (ts more : List Tag) (k : ℕ) (b : Beside) (ls : List Line) → AllByRecursion (IsKept b ts) ls
+    → events_from g n (ts ++ more) k b ls ≡ events_from g n ts k b ls
+events_from-replies g n ts more k b [] kept = refl
+events_from-replies g n ts more k b (l ∷ ls) kept =
+    let h = unpacked b l in
     let here : event_of_handled g n (ts ++ more) k h ≡ event_of_handled g n ts k h =
     ap (λ us. event_sending n k h (sent_for g h.message.payload h.reaction.fired us)) (replies_in-append ts more h.replies (kept.0).replies) in
-    ap (λ e. e ∷ events_from g n (ts ++ more) (k + 1) asides ls) here ∙ ap (λ es. event_of_handled g n ts k h ∷ es) (events_from-replies g n ts more (k + 1) asides ls kept.1)
+    ap (λ e. e ∷ events_from g n (ts ++ more) (k + 1) b ls) here ∙ ap (λ es. event_of_handled g n ts k h ∷ es) (events_from-replies g n ts more (k + 1) b ls kept.1)
 
-pub kept_replies : (asides : List Handled) (ts more : List Tag) (ls : List Line) → All (IsKept asides ts) ls → All (IsKept asides (ts ++ more)) ls
-kept_replies asides ts more ls kept =
-    All-from_recursion (IsKept asides (ts ++ more)) ls
-    (each-weaker (IsKept asides ts) (IsKept asides (ts ++ more))
+pub kept_replies : (b : Beside) (ts more : List Tag) (ls : List Line) → All (IsKept b ts) ls → All (IsKept b (ts ++ more)) ls
+kept_replies b ts more ls kept =
+    All-from_recursion (IsKept b (ts ++ more)) ls
+    (each-weaker (IsKept b ts) (IsKept b (ts ++ more))
     (λ l k. record { within = k.within; replies = omega (arith, k.replies, length-append ts more) })
-    ls (recursion_from_All (IsKept asides ts) ls kept))
+    ls (recursion_from_All (IsKept b ts) ls kept))
 
 -- the last element of a list
 get_last : {X : Type 0} (xs : List X) (x : X) → slice_get (xs ++ x ∷ []) (length xs) ≡ Some x
@@ -131,56 +160,116 @@ get_last [] x = refl
 get_last (y ∷ ys) x = get_last ys x
 
 -- the last event aside
-aside_last : (asides : List Handled) (e : Handled) (l : Line) → l.kind ≡ kind.Aside → index_of l.value ≡ length asides → unpacked (asides ++ e ∷ []) l ≡ e
-aside_last asides e l is at =
-    ap (read (asides ++ e ∷ []) l) is
+aside_last : (asides : List Handled) (cells : List Cell) (e : Handled) (l : Line) → l.kind ≡ kind.Aside → index_of l.value ≡ length asides
+    → unpacked (record { asides = asides ++ e ∷ []; cells = cells }) l ≡ e
+aside_last asides cells e l is at =
+    ap (read (record { asides = asides ++ e ∷ []; cells = cells }) l) is
     ∙ ap (λ i. get_or (asides ++ e ∷ []) i (own l value.Signal)) at
     ∙ get_or_from_slice_get (asides ++ e ∷ []) (length asides) e (own l value.Signal) (get_last asides e)
 
--- an event in a line of its own
-pub pushed_line : (g : Parts) (n : ℕ) (ts : List Tag) (asides : List Handled) (ls : List Line) (e : Handled) (l : Line) → IsPacked e l
-    → events_from g n ts 0 asides (ls ++ l ∷ []) ≡ events_from g n ts 0 asides ls ++ event_of_handled g n ts (length (events_from g n ts 0 asides ls)) e ∷ []
-pushed_line g n ts asides ls e l packed =
-    let at : 0 + length ls ≡ length (events_from g n ts 0 asides ls) = omega (arith, length-events_from g n ts 0 asides ls) in
-    events_from-push g n ts 0 asides ls l
-    ∙ ap (λ j. events_from g n ts 0 asides ls ++ event_of_handled g n ts j (unpacked asides l) ∷ []) at
-    ∙ ap (λ h. events_from g n ts 0 asides ls ++ event_of_handled g n ts (length (events_from g n ts 0 asides ls)) h ∷ []) (packed.is asides)
+-- a line of an event that names a cell
+celled-read : (b : Beside) (l : Line) (k : Kind) → IsCelled k → read b l k ≡ saying l (told k (tag_at l) (port_at (l.position / 2 ^ 31)) l.value l.result (cell_in b.cells l))
+celled-read b l kind.Signal celled = elim celled [ ]
+celled-read b l kind.Int celled = elim celled [ ]
+celled-read b l kind.True celled = elim celled [ ]
+celled-read b l kind.False celled = elim celled [ ]
+celled-read b l kind.Context celled = elim celled [ ]
+celled-read b l kind.Continuation celled = elim celled [ ]
+celled-read b l kind.Aside celled = elim celled [ ]
+celled-read b l k celled = refl
 
-pub kept_line : (asides : List Handled) (ts : List Tag) (ls : List Line) (e : Handled) (l : Line) → IsPacked e l → AreThere ts e.replies
-    → All (IsKept asides ts) ls → All (IsKept asides ts) (ls ++ l ∷ [])
-kept_line asides ts ls e l packed there kept =
-    let last : IsKept asides ts l = record { within = packed.within asides; replies = subst (λ h. AreThere ts h.replies) (sym (packed.is asides)) there } in
-    All-from_recursion (IsKept asides ts) (ls ++ l ∷ []) (each-append (IsKept asides ts) ls (l ∷ []) (recursion_from_All (IsKept asides ts) ls kept) (last, tt))
+celled-there : (b : Beside) (l : Line) (k : Kind) → IsCelled k → l.to < length b.cells → IsThere b l k
+celled-there b l kind.Signal celled there = elim celled [ ]
+celled-there b l kind.Int celled there = elim celled [ ]
+celled-there b l kind.True celled there = elim celled [ ]
+celled-there b l kind.False celled there = elim celled [ ]
+celled-there b l kind.Context celled there = elim celled [ ]
+celled-there b l kind.Continuation celled there = elim celled [ ]
+celled-there b l kind.Aside celled there = elim celled [ ]
+celled-there b l k celled there = there
 
--- an event aside
-pub pushed_aside : (g : Parts) (n : ℕ) (ts : List Tag) (asides : List Handled) (ls : List Line) (e : Handled) (l : Line) → l.kind ≡ kind.Aside → index_of l.value ≡ length asides → All (IsKept asides ts) ls
-    → events_from g n ts 0 (asides ++ e ∷ []) (ls ++ l ∷ []) ≡ events_from g n ts 0 asides ls ++ event_of_handled g n ts (length (events_from g n ts 0 asides ls)) e ∷ []
-pushed_aside g n ts asides ls e l is index kept =
-    let at : 0 + length ls ≡ length (events_from g n ts 0 asides ls) = omega (arith, length-events_from g n ts 0 asides ls) in
-    events_from-push g n ts 0 (asides ++ e ∷ []) ls l
-    ∙ ap (λ es. es ++ event_of_handled g n ts (0 + length ls) (unpacked (asides ++ e ∷ []) l) ∷ []) (events_from-append g n ts 0 asides (e ∷ []) ls (recursion_from_All (IsKept asides ts) ls kept))
-    ∙ ap (λ h. events_from g n ts 0 asides ls ++ event_of_handled g n ts (0 + length ls) h ∷ []) (aside_last asides e l is index)
-    ∙ ap (λ j. events_from g n ts 0 asides ls ++ event_of_handled g n ts j e ∷ []) at
+-- the last cell
+cell_last : (asides : List Handled) (cells : List Cell) (c : Cell) (e : Handled) (l : Line) → IsPackedBeside e (length cells) l c
+    → unpacked (record { asides = asides; cells = cells ++ c ∷ [] }) l ≡ e
+cell_last asides cells c e l packed =
+    let d : Beside = record { asides = asides; cells = cells ++ c ∷ [] } in
+    let none : Cell = record { structure = record { element = 0; serial = 0; low = pos 0; high = pos 0 }; index = pos 0 } in
+    let named : cell_in (cells ++ c ∷ []) l ≡ c = ap (λ i. get_or (cells ++ c ∷ []) i none) packed.index ∙ get_or_from_slice_get (cells ++ c ∷ []) (length cells) c none (get_last cells c) in
+    celled-read d l l.kind packed.kind
+    ∙ ap (λ x. saying l (told l.kind (tag_at l) (port_at (l.position / 2 ^ 31)) l.value l.result x)) named
+    ∙ packed.is
 
-pub kept_aside : (asides : List Handled) (ts : List Tag) (ls : List Line) (e : Handled) (l : Line) → l.kind ≡ kind.Aside → index_of l.value ≡ length asides → AreThere ts e.replies
-    → All (IsKept asides ts) ls → All (IsKept (asides ++ e ∷ []) ts) (ls ++ l ∷ [])
-kept_aside asides ts ls e l is index there kept =
-    let last : IsKept (asides ++ e ∷ []) ts l = record {
-      within = subst (λ k. IsThere (asides ++ e ∷ []) k l.value) (sym is) (omega (arith, index, length-append asides (e ∷ [])));
-      replies = subst (λ h. AreThere ts h.replies) (sym (aside_last asides e l is index)) there;
+-- an event in one more line
+pushed : (g : Parts) (n : ℕ) (ts : List Tag) (b d : Beside) (ls : List Line) (e : Handled) (l : Line) → Goes b d → unpacked d l ≡ e → All (IsKept b ts) ls
+    → events_from g n ts 0 d (ls ++ l ∷ []) ≡ events_from g n ts 0 b ls ++ event_of_handled g n ts (length (events_from g n ts 0 b ls)) e ∷ []
+pushed g n ts b d ls e l goes is kept =
+    let at : 0 + length ls ≡ length (events_from g n ts 0 b ls) = omega (arith, length-events_from g n ts 0 b ls) in
+    events_from-push g n ts 0 d ls l
+    ∙ ap (λ es. es ++ event_of_handled g n ts (0 + length ls) (unpacked d l) ∷ []) (events_from-goes g n ts 0 b d ls goes (recursion_from_All (IsKept b ts) ls kept))
+    ∙ ap (λ h. events_from g n ts 0 b ls ++ event_of_handled g n ts (0 + length ls) h ∷ []) is
+    ∙ ap (λ j. events_from g n ts 0 b ls ++ event_of_handled g n ts j e ∷ []) at
+
+kept_pushed : (ts : List Tag) (b d : Beside) (ls : List Line) (e : Handled) (l : Line) → Goes b d → IsWithin d l → unpacked d l ≡ e → AreThere ts e.replies
+    → All (IsKept b ts) ls → All (IsKept d ts) (ls ++ l ∷ [])
+kept_pushed ts b d ls e l goes within is there kept =
+    let last : IsKept d ts l = record { within = within; replies = subst (λ h. AreThere ts h.replies) (sym is) there } in
+    let on : (m : Line) → IsKept b ts m → IsKept d ts m = λ m k. record {
+      within = (goes m k.within).0;
+      replies = subst (λ h. AreThere ts h.replies) (sym (goes m k.within).1) k.replies;
     } in
-    let on : (m : Line) → IsKept asides ts m → IsKept (asides ++ e ∷ []) ts m = λ m k. record {
-      within = there-append asides (e ∷ []) m.kind m.value k.within;
-      replies = subst (λ h. AreThere ts h.replies) (sym (read-append asides (e ∷ []) m m.kind k.within)) k.replies;
-    } in
-    All-from_recursion (IsKept (asides ++ e ∷ []) ts) (ls ++ l ∷ [])
-    (each-append (IsKept (asides ++ e ∷ []) ts) ls (l ∷ [])
-    (each-weaker (IsKept asides ts) (IsKept (asides ++ e ∷ []) ts) on ls (recursion_from_All (IsKept asides ts) ls kept))
+    All-from_recursion (IsKept d ts) (ls ++ l ∷ [])
+    (each-append (IsKept d ts) ls (l ∷ [])
+    (each-weaker (IsKept b ts) (IsKept d ts) on ls (recursion_from_All (IsKept b ts) ls kept))
     (last, tt))
 
+-- an event in a line of its own
+pub pushed_line : (g : Parts) (n : ℕ) (ts : List Tag) (b : Beside) (ls : List Line) (e : Handled) (l : Line) → IsPacked e l → All (IsKept b ts) ls
+    → events_from g n ts 0 b (ls ++ l ∷ []) ≡ events_from g n ts 0 b ls ++ event_of_handled g n ts (length (events_from g n ts 0 b ls)) e ∷ []
+pushed_line g n ts b ls e l packed kept = pushed g n ts b b ls e l (stays b) (packed.is b) kept
+
+pub kept_line : (b : Beside) (ts : List Tag) (ls : List Line) (e : Handled) (l : Line) → IsPacked e l → AreThere ts e.replies
+    → All (IsKept b ts) ls → All (IsKept b ts) (ls ++ l ∷ [])
+kept_line b ts ls e l packed there kept = kept_pushed ts b b ls e l (stays b) (packed.within b) (packed.is b) there kept
+
+-- an event aside
+pub pushed_aside : (g : Parts) (n : ℕ) (ts : List Tag) (asides : List Handled) (cells : List Cell) (ls : List Line) (e : Handled) (l : Line)
+    → l.kind ≡ kind.Aside → index_of l.value ≡ length asides → All (IsKept (record { asides = asides; cells = cells }) ts) ls
+    → events_from g n ts 0 (record { asides = asides ++ e ∷ []; cells = cells }) (ls ++ l ∷ [])
+    ≡ events_from g n ts 0 (record { asides = asides; cells = cells }) ls ++ event_of_handled g n ts (length (events_from g n ts 0 (record { asides = asides; cells = cells }) ls)) e ∷ []
+pushed_aside g n ts asides cells ls e l is index kept =
+    let b : Beside = record { asides = asides; cells = cells } in
+    pushed g n ts b (record { asides = asides ++ e ∷ []; cells = cells }) ls e l (aside_goes b e) (aside_last asides cells e l is index) kept
+
+pub kept_aside : (ts : List Tag) (asides : List Handled) (cells : List Cell) (ls : List Line) (e : Handled) (l : Line)
+    → l.kind ≡ kind.Aside → index_of l.value ≡ length asides → AreThere ts e.replies
+    → All (IsKept (record { asides = asides; cells = cells }) ts) ls → All (IsKept (record { asides = asides ++ e ∷ []; cells = cells }) ts) (ls ++ l ∷ [])
+kept_aside ts asides cells ls e l is index there kept =
+    let b : Beside = record { asides = asides; cells = cells } in
+    let d : Beside = record { asides = asides ++ e ∷ []; cells = cells } in
+    let within : IsWithin d l = subst (IsThere d l) (sym is) (omega (arith, index, length-append asides (e ∷ []))) in
+    kept_pushed ts b d ls e l (aside_goes b e) within (aside_last asides cells e l is index) there kept
+
+-- an event in a line, with its cell beside the lines
+pub pushed_cell : (g : Parts) (n : ℕ) (ts : List Tag) (asides : List Handled) (cells : List Cell) (ls : List Line) (e : Handled) (l : Line) (c : Cell)
+    → IsPackedBeside e (length cells) l c → All (IsKept (record { asides = asides; cells = cells }) ts) ls
+    → events_from g n ts 0 (record { asides = asides; cells = cells ++ c ∷ [] }) (ls ++ l ∷ [])
+    ≡ events_from g n ts 0 (record { asides = asides; cells = cells }) ls ++ event_of_handled g n ts (length (events_from g n ts 0 (record { asides = asides; cells = cells }) ls)) e ∷ []
+pushed_cell g n ts asides cells ls e l c packed kept =
+    let b : Beside = record { asides = asides; cells = cells } in
+    pushed g n ts b (record { asides = asides; cells = cells ++ c ∷ [] }) ls e l (cell_goes b c) (cell_last asides cells c e l packed) kept
+
+pub kept_cell : (ts : List Tag) (asides : List Handled) (cells : List Cell) (ls : List Line) (e : Handled) (l : Line) (c : Cell)
+    → IsPackedBeside e (length cells) l c → AreThere ts e.replies
+    → All (IsKept (record { asides = asides; cells = cells }) ts) ls → All (IsKept (record { asides = asides; cells = cells ++ c ∷ [] }) ts) (ls ++ l ∷ [])
+kept_cell ts asides cells ls e l c packed there kept =
+    let b : Beside = record { asides = asides; cells = cells } in
+    let d : Beside = record { asides = asides; cells = cells ++ c ∷ [] } in
+    let last : l.to < length (cells ++ c ∷ []) = omega (arith, packed.index, length-append cells (c ∷ [])) in
+    kept_pushed ts b d ls e l (cell_goes b c) (celled-there d l l.kind packed.kind last) (cell_last asides cells c e l packed) there kept
+
 -- the line at a position, as the code reads it
-pub line_kept : (asides : List Handled) (ts : List Tag) (ls : List Line) (k : ℕ) (l : Line) → All (IsKept asides ts) ls → k < length ls → l ≡ get_or ls k l → IsKept asides ts l
-line_kept asides ts ls k l kept below is = each-get (IsKept asides ts) ls k l (recursion_from_All (IsKept asides ts) ls kept) (slice_get_read ls (length ls) k l refl below is)
+pub line_kept : (b : Beside) (ts : List Tag) (ls : List Line) (k : ℕ) (l : Line) → All (IsKept b ts) ls → k < length ls → l ≡ get_or ls k l → IsKept b ts l
+line_kept b ts ls k l kept below is = each-get (IsKept b ts) ls k l (recursion_from_All (IsKept b ts) ls kept) (slice_get_read ls (length ls) k l refl below is)
 
 -- an event with no replies
 pub event_alone : (g : Parts) (n : ℕ) (ts : List Tag) (k : ℕ) (h : Handled) → h.replies ≡ no_replies
@@ -279,23 +368,23 @@ number-line (fired.Failed f) t l named result = result ∙ ap (number_of (fired.
 number-line fired.Nothing t l named result = result ∙ ap (number_of fired.Nothing) (sym (target-line t l named result))
 
 -- a line that carries a value is read as one that does
-read-carried : (asides : List Handled) (l : Line) (k : Kind) (v : Value) → carried_value (target_in l) k l.value ≡ Some v → read asides l k ≡ own l v
-read-carried asides l kind.Signal v is = let same : value.Signal ≡ v = cc in ap (own l) same
-read-carried asides l kind.Int v is = let same : value.Int l.value ≡ v = cc in ap (own l) same
-read-carried asides l kind.True v is = let same : value.Bool true ≡ v = cc in ap (own l) same
-read-carried asides l kind.False v is = let same : value.Bool false ≡ v = cc in ap (own l) same
-read-carried asides l kind.Context v is = let same : value.Context (context_of l.value) ≡ v = cc in ap (own l) same
-read-carried asides l kind.Continuation v is = let same : value.Continuation (target_in l) ≡ v = cc in ap (own l) same
-read-carried asides l kind.Aside v is = cc
+read-carried : (b : Beside) (l : Line) (k : Kind) (v : Value) → carried_value (target_in l) k l.value ≡ Some v → read b l k ≡ own l v
+read-carried b l kind.Signal v is = let same : value.Signal ≡ v = cc in ap (own l) same
+read-carried b l kind.Int v is = let same : value.Int l.value ≡ v = cc in ap (own l) same
+read-carried b l kind.True v is = let same : value.Bool true ≡ v = cc in ap (own l) same
+read-carried b l kind.False v is = let same : value.Bool false ≡ v = cc in ap (own l) same
+read-carried b l kind.Context v is = let same : value.Context (context_of l.value) ≡ v = cc in ap (own l) same
+read-carried b l kind.Continuation v is = let same : value.Continuation (target_in l) ≡ v = cc in ap (own l) same
+read-carried b l k v is = cc
 
-there-carried : (asides : List Handled) (t : Tag) (k : Kind) (n : ℤ) (v : Value) → carried_value t k n ≡ Some v → IsThere asides k n
-there-carried asides t kind.Signal n v is = tt
-there-carried asides t kind.Int n v is = tt
-there-carried asides t kind.True n v is = tt
-there-carried asides t kind.False n v is = tt
-there-carried asides t kind.Context n v is = tt
-there-carried asides t kind.Continuation n v is = tt
-there-carried asides t kind.Aside n v is = cc
+there-carried : (b : Beside) (t : Tag) (l : Line) (k : Kind) (v : Value) → carried_value t k l.value ≡ Some v → IsThere b l k
+there-carried b t l kind.Signal v is = tt
+there-carried b t l kind.Int v is = tt
+there-carried b t l kind.True v is = tt
+there-carried b t l kind.False v is = tt
+there-carried b t l kind.Context v is = tt
+there-carried b t l kind.Continuation v is = tt
+there-carried b t l k v is = cc
 
 -- an event stands in a line of its value, its numbers and its reaction
 pub packed-line : (e : Handled) (l : Line) (t : Tag) → Names e.reaction.fired (value_of e.message.payload) t
@@ -317,8 +406,8 @@ packed-line e l t names carried effect result named message stamp none =
     ∙ ap (λ r. record { message = e.message; stamp = e.stamp; reaction = r; replies = no_replies }) reaction
     ∙ ap (λ rs. record { message = e.message; stamp = e.stamp; reaction = e.reaction; replies = rs }) (sym none) in
     record {
-      is = λ asides. read-carried asides l l.kind v (carried u names_u) ∙ whole;
-      within = λ asides. there-carried asides u l.kind l.value v (carried u names_u);
+      is = λ b. read-carried b l l.kind v (carried u names_u) ∙ whole;
+      within = λ b. there-carried b u l l.kind v (carried u names_u);
     }
 
 pub packed-narrowed : (e : Handled) (v : Value) (k : Kind) (m : ℤ) (x : Effect) (t : Tag) (o : Option Line) → v ≡ value_of e.message.payload → Names e.reaction.fired v t

@@ -2,13 +2,16 @@
 use Rattle.std.specs.Prelude.{◌≡◌, ℕ, zero, suc, ◌<◌, ◌≤◌, ◌+◌, ◌*◌, ◌/◌, ◌%◌, ◌^◌, ℤ, pos, true, false}
 use Rattle.std.specs.Prelude.{List, Option, None, Some, length, slice_index_or}
 use Rattle.std.specs.Int.{cast_signed, cast_unsigned, w64}
+use Rattle.id_tag.specs.declared.Cell.{Cell}
 use Rattle.id_tag.specs.declared.Context.{Context}
 use Rattle.id_tag.specs.declared.Tag.{Tag}
 use Rattle.id_tag.specs.declared.Value.{Value}
 use Rattle.id_tag.specs.declared.Value.TheVariants as value
+use Rattle.id_tag.specs.declared.Message.{Message}
 use Rattle.id_tag.specs.declared.Sender.{Sender}
 use Rattle.id_tag.specs.declared.Sender.TheVariants.{Start, Element}
-use Rattle.id_tag.specs.declared.Payload.TheVariants.{Token}
+use Rattle.id_tag.specs.declared.Payload.{Payload}
+use Rattle.id_tag.specs.declared.Payload.TheVariants.{Token, Read, Write}
 use Rattle.id_ops.specs.declared.Fired.{Fired}
 use Rattle.id_ops.specs.declared.Fired.TheVariants as fired
 use Rattle.id_value.specs.declared.FaultKind.{FaultKind}
@@ -27,6 +30,15 @@ use Rattle.id_record.specs.declared.line.Exit.{Exit}
 use Rattle.id_record.specs.declared.line.Exit.TheVariants as exits
 use Rattle.id_record.specs.declared.line.Effect.{Effect}
 use Rattle.id_record.specs.declared.line.Effect.TheVariants as effect
+
+-- what stands beside the lines: whole events, and the cells that lines name
+pub record Beside : Type 0 where
+  pub asides : List Handled
+  pub cells : List Cell
+
+-- these events and these cells beside the lines
+abbrev pub beside : List Handled → List Cell → Beside
+beside es cs = record { asides = es; cells = cs }
 
 -- no replies
 abbrev pub no_replies : Replies
@@ -77,7 +89,7 @@ carried_value t kind.True n = Some (value.Bool true)
 carried_value t kind.False n = Some (value.Bool false)
 carried_value t kind.Context n = Some (value.Context (context_of n))
 carried_value t kind.Continuation n = Some (value.Continuation t)
-carried_value t kind.Aside n = None
+carried_value t _ n = None
 
 -- the tag is the one that the value names, if it names one
 abbrev pub NamedBy : Value → Tag → Type 0
@@ -173,63 +185,157 @@ abbrev pub sender_of : ℕ → Sender
 sender_of zero = Start
 sender_of (suc n) = Element n
 
+-- the tag that the message of a line names
+abbrev pub tag_at : Line → Tag
+tag_at l = record {
+  context = record { element = element_at l.place; serial = l.serial };
+  iteration = l.iteration;
+  instr = instr_at l.place;
+}
+
+-- the message of a line that says this
+abbrev pub message_at : Line → Payload → Message
+message_at l x = record {
+  payload = x;
+  sender = sender_of l.sender;
+  position = l.position % 2 ^ 31;
+  output = l.output;
+  stamp = l.sent;
+}
+
 -- the event of a line that carries this value
 abbrev pub own : Line → Value → Handled
 own l v = record {
-  message = record {
-    payload = Token (record {
-      context = record { element = element_at l.place; serial = l.serial };
-      iteration = l.iteration;
-      instr = instr_at l.place;
-    }) (port_at (l.position / 2 ^ 31)) v;
-    sender = sender_of l.sender;
-    position = l.position % 2 ^ 31;
-    output = l.output;
-    stamp = l.sent;
-  };
+  message = message_at l (Token (tag_at l) (port_at (l.position / 2 ^ 31)) v);
   stamp = l.stamp;
   reaction = reaction_of l.effect l.result (target_in l) v;
   replies = no_replies;
 }
 
+-- what an event says that names a cell: its message, what was fired, and the replies to which it sent its value
+pub record Told : Type 0 where
+  pub payload : Payload
+  pub fired : Fired
+  pub replies : Replies
+
+-- a token of this value for this port under this tag, and what was fired
+abbrev pub token_told : Tag → Port → Value → Fired → Told
+token_told t p v f = record { payload = Token t p v; fired = f; replies = no_replies }
+
+-- what the event of a line of this kind says, with the tag and the port of its message, its two numbers, and the cell
+-- that it names
+abbrev pub told : Kind → Tag → Port → ℤ → ℤ → Cell → Told
+told kind.StructureWaits t p n r c = token_told t p (value.Structure c.structure) fired.Nothing
+told kind.StructureOut t p n r c =
+    token_told t p (value.Structure c.structure) (fired.Out (value.Structure c.structure))
+told kind.StructureOnTrue t p n r c =
+    token_told t p (value.Structure c.structure) (fired.Side true (value.Structure c.structure))
+told kind.StructureOnFalse t p n r c =
+    token_told t p (value.Structure c.structure) (fired.Side false (value.Structure c.structure))
+told kind.StructureMoved t p n r c =
+    token_told t p (value.Structure c.structure) (fired.Moved (index_of r) (value.Structure c.structure))
+told kind.StructureAddressed t p n r c =
+    token_told t p (value.Structure c.structure) (fired.Out (value.Address c))
+told kind.TrueSwitched t p n r c =
+    token_told t p (value.Bool true) (fired.Side true (value.Structure c.structure))
+told kind.FalseSwitched t p n r c =
+    token_told t p (value.Bool false) (fired.Side false (value.Structure c.structure))
+told kind.IntAllocated t p n r c = token_told t p (value.Int n) (fired.Out (value.Structure c.structure))
+told kind.IntAddressed t p n r c = token_told t p (value.Int n) (fired.Out (value.Address c))
+told kind.IntStored t p n r c = token_told t p (value.Int n) (fired.Stored c (value.Int n) t)
+told kind.AddressWaits t p n r c = token_told t p (value.Address c) fired.Nothing
+told kind.AddressAsked t p n r c =
+    token_told t p (value.Address c) (fired.Asked c (record t { instr = low_half r }))
+told kind.AddressStored t p n r c = token_told t p (value.Address c) (fired.Stored c (value.Int r) t)
+told kind.ReadDeferred t p n r c = record { payload = Read c t; fired = fired.Nothing; replies = no_replies }
+told kind.ReadAnswered t p n r c =
+    record { payload = Read c t; fired = fired.Sent t (value.Int r); replies = no_replies }
+told kind.Written t p n r c = record {
+  payload = Write c (value.Int n) t;
+  fired = fired.Nothing;
+  replies = record { from = high_half r; count = low_half r };
+}
+told _ t p n r c = token_told t p value.Signal fired.Nothing
+
+-- the port of a token, or port 0
+abbrev pub port_for : Payload → Port
+port_for (Token t p v) = p
+port_for (Read c t) = Zero
+port_for (Write c v t) = Zero
+
+-- the cell that a line names among these
+abbrev pub cell_in : List Cell → Line → Cell
+cell_in cs l =
+    slice_index_or cs l.to
+    (record { structure = record { element = 0; serial = 0; low = pos 0; high = pos 0 }; index = pos 0 })
+
+-- the event of a line that says this
+abbrev pub saying : Line → Told → Handled
+saying l x = record {
+  message = message_at l x.payload;
+  stamp = l.stamp;
+  reaction = went x.fired;
+  replies = x.replies;
+}
+
 -- the event of a line of this kind
-abbrev pub read : List Handled → Line → Kind → Handled
-read asides l kind.Signal = own l value.Signal
-read asides l kind.Int = own l (value.Int l.value)
-read asides l kind.True = own l (value.Bool true)
-read asides l kind.False = own l (value.Bool false)
-read asides l kind.Context = own l (value.Context (context_of l.value))
-read asides l kind.Continuation = own l (value.Continuation (target_in l))
-read asides l kind.Aside = slice_index_or asides (index_of l.value) (own l value.Signal)
+abbrev pub read : Beside → Line → Kind → Handled
+read b l kind.Signal = own l value.Signal
+read b l kind.Int = own l (value.Int l.value)
+read b l kind.True = own l (value.Bool true)
+read b l kind.False = own l (value.Bool false)
+read b l kind.Context = own l (value.Context (context_of l.value))
+read b l kind.Continuation = own l (value.Continuation (target_in l))
+read b l kind.Aside = slice_index_or b.asides (index_of l.value) (own l value.Signal)
+read b l k = saying l (told k (tag_at l) (port_at (l.position / 2 ^ 31)) l.value l.result (cell_in b.cells l))
 
 -- the event of a line
-abbrev pub unpacked : List Handled → Line → Handled
-unpacked asides l = read asides l l.kind
+abbrev pub unpacked : Beside → Line → Handled
+unpacked b l = read b l l.kind
 
--- what stands aside at the index that this number is, where a line of this kind says so, is there
-abbrev pub IsThere : List Handled → Kind → ℤ → Type 0
-IsThere asides kind.Signal n = Unit {0}
-IsThere asides kind.Int n = Unit {0}
-IsThere asides kind.True n = Unit {0}
-IsThere asides kind.False n = Unit {0}
-IsThere asides kind.Context n = Unit {0}
-IsThere asides kind.Continuation n = Unit {0}
-IsThere asides kind.Aside n = index_of n < length asides
+-- what stands beside a line of this kind is there: the event aside at the index that its value is, or the cell that it
+-- names
+abbrev pub IsThere : Beside → Line → Kind → Type 0
+IsThere b l kind.Signal = Unit {0}
+IsThere b l kind.Int = Unit {0}
+IsThere b l kind.True = Unit {0}
+IsThere b l kind.False = Unit {0}
+IsThere b l kind.Context = Unit {0}
+IsThere b l kind.Continuation = Unit {0}
+IsThere b l kind.Aside = index_of l.value < length b.asides
+IsThere b l k = l.to < length b.cells
 
 -- the line's event is there
-abbrev pub IsWithin : List Handled → Line → Type 0
-IsWithin asides l = IsThere asides l.kind l.value
+abbrev pub IsWithin : Beside → Line → Type 0
+IsWithin b l = IsThere b l l.kind
 
 -- so many replies are there
 abbrev pub AreThere : List Tag → Replies → Type 0
 AreThere ts r = r.from + r.count ≤ length ts
 
 -- the event of the line is there with its replies
-pub record IsKept (asides : List Handled) (ts : List Tag) (l : Line) : Type 0 where
-  pub within : IsWithin asides l
-  pub replies : AreThere ts (unpacked asides l).replies
+pub record IsKept (b : Beside) (ts : List Tag) (l : Line) : Type 0 where
+  pub within : IsWithin b l
+  pub replies : AreThere ts (unpacked b l).replies
 
--- the event stands in the line, whatever stands aside
+-- the event stands in the line, whatever stands beside it
 pub record IsPacked (e : Handled) (l : Line) : Type 0 where
-  pub is : (asides : List Handled) → unpacked asides l ≡ e
-  pub within : (asides : List Handled) → IsWithin asides l
+  pub is : (b : Beside) → unpacked b l ≡ e
+  pub within : (b : Beside) → IsWithin b l
+
+-- the line is of an event that names a cell
+abbrev pub IsCelled : Kind → Type 0
+IsCelled kind.Signal = ⊥
+IsCelled kind.Int = ⊥
+IsCelled kind.True = ⊥
+IsCelled kind.False = ⊥
+IsCelled kind.Context = ⊥
+IsCelled kind.Continuation = ⊥
+IsCelled kind.Aside = ⊥
+IsCelled k = Unit {0}
+
+-- the event stands in the line and in the cell that stands beside it at this index
+pub record IsPackedBeside (e : Handled) (i : ℕ) (l : Line) (c : Cell) : Type 0 where
+  pub kind : IsCelled l.kind
+  pub index : l.to ≡ i
+  pub is : saying l (told l.kind (tag_at l) (port_at (l.position / 2 ^ 31)) l.value l.result c) ≡ e

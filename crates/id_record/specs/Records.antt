@@ -11,7 +11,7 @@ use Rattle.id_record.specs.declared.line.Handled.{Handled}
 use Rattle.id_record.specs.declared.line.Replies.{Replies}
 use Rattle.id_record.specs.declared.line.Line.{Line}
 use Rattle.id_record.specs.Events.{EventView, full_step, tag_of, value_of}
-use Rattle.id_record.specs.Lines.{unpacked}
+use Rattle.id_record.specs.Lines.{Beside, unpacked}
 use Rattle.id_valid.specs.Roles.{op_at}
 use Rattle.id_record.specs.Sends.{numbered, replies, sent}
 
@@ -44,10 +44,10 @@ event_of_handled g n ts position h = record {
 }
 
 -- the events of these lines, from this position on, in a record with these replies
-abbrev pub events_from : Parts → ℕ → List Tag → ℕ → List Handled → List Line → List EventView
-events_from g n ts position asides [] = []
-events_from g n ts position asides (l ∷ ls) =
-    event_of_handled g n ts position (unpacked asides l) ∷ events_from g n ts (position + 1) asides ls
+abbrev pub events_from : Parts → ℕ → List Tag → ℕ → Beside → List Line → List EventView
+events_from g n ts position b [] = []
+events_from g n ts position b (l ∷ ls) =
+    event_of_handled g n ts position (unpacked b l) ∷ events_from g n ts (position + 1) b ls
 
 -- what contracts see of a record: its events, the replies of all of them, and how many more lines, events aside and
 -- replies find room

@@ -9,14 +9,14 @@ ghost use Rattle.id_valid.specs.Roles.{op_at};
 ghost use Rattle.id_graph.specs.Graph.{IsGraph};
 
 use crate::line::{
-    Handled, Handling, Line, Replies, Shooting, instr_in, line_aside, packed, payload_in,
-    shot_line, unpack,
+    Celled, Handled, Handling, Line, Replies, Shooting, instr_in, line_aside, packed,
+    packed_beside, payload_in, shot_line, unpack,
 };
 use crate::outputs::{Envelope, Outputs, chosen};
 use crate::step::{Fault, Step, Verdict};
 use id_graph::{Dest, Graph, Op};
 use id_ops::Fired;
-use id_tag::{Message, Payload, Tag, Value};
+use id_tag::{Cell, Message, Payload, Tag, Value};
 use id_valid::Valid;
 use std::alloc::{AllocError, Global};
 use std::marker::Model;
@@ -28,12 +28,14 @@ pub struct Record<'a> {
     element: u32,
     lines: Vec<Line>,
     asides: Vec<Handled>,
+    // Of events that name a cell or a structure.
+    cells: Vec<Cell>,
     replies: Vec<Tag>,
 }
 
 impl<'a> Model for Record<'a> {
-    ghost use Rattle.std.specs.Prelude.{◌-◌, vec_len, vec_capacity, All};
-    ghost use Rattle.id_record.specs.Lines.{IsKept};
+    ghost use Rattle.std.specs.Prelude.{◌-◌, All, min, vec_len, vec_capacity};
+    ghost use Rattle.id_record.specs.Lines.{IsKept, beside};
     ghost use Rattle.id_record.specs.Records.{RecordView, events_from};
 
     ghost Value = { RecordView };
@@ -41,14 +43,15 @@ impl<'a> Model for Record<'a> {
     ghost view = { λ r. record {
       element = r.element;
       graph = r.graph.now;
-      events = events_from r.graph.now r.element r.replies.items 0 r.asides.items r.lines.items;
+      events = events_from r.graph.now r.element r.replies.items 0
+          (beside r.asides.items r.cells.items) r.lines.items;
       replies = r.replies.items;
       room = vec_capacity r.lines - vec_len r.lines;
-      room_aside = vec_capacity r.asides - vec_len r.asides;
+      room_aside = min (vec_capacity r.asides - vec_len r.asides) (vec_capacity r.cells - vec_len r.cells);
       room_for_replies = vec_capacity r.replies - vec_len r.replies;
     } };
 
-    ghost invariant = { λ r. All (IsKept r.asides.items r.replies.items) r.lines.items };
+    ghost invariant = { λ r. All (IsKept (beside r.asides.items r.cells.items) r.replies.items) r.lines.items };
 }
 
 /// An event: the element that handled the message, the stamp that it gave it, what it fired and sent, and what
@@ -97,6 +100,7 @@ impl<'a> Record<'a> {
             element,
             lines: Vec::new(alloc),
             asides: Vec::new(alloc),
+            cells: Vec::new(alloc),
             replies: Vec::new(alloc),
         }
     }
@@ -114,6 +118,7 @@ impl<'a> Record<'a> {
     {
         self.lines.reserve(1)?;
         self.asides.reserve(1)?;
+        self.cells.reserve(1)?;
         self.replies.reserve(replies)?;
         Ok(())
     }
@@ -153,6 +158,26 @@ impl<'a> Record<'a> {
     {
         match packed(&event) {
             Some(line) => add_line(&mut self.lines, line),
+            None => self.push_beside(event),
+        }
+    }
+
+    /// Adds an event at the end that fits in no line alone. Takes no memory.
+    fn push_beside(&mut self, event: Handling<'_>)
+        requires room { 0 < self.old.room }
+        requires room_aside { 0 < self.old.room_aside }
+        requires replies { AreThere self.old.replies event.replies }
+        ensures element { self.new.element ≡ self.old.element }
+        ensures graph { self.new.graph ≡ self.old.graph }
+        ensures events { self.new.events ≡ self.old.events
+            ++ event_of_handled self.old.graph self.old.element self.old.replies (length self.old.events)
+            (handled event.entry) ∷ [] }
+    {
+        match packed_beside(&event, self.cells.len()) {
+            Some(Celled { line, cell }) => {
+                self.cells.push_reserved(cell);
+                add_line(&mut self.lines, line);
+            }
             None => {
                 let index = self.asides.len();
                 self.asides.push_reserved(Handled {
@@ -218,7 +243,7 @@ impl<'a> Record<'a> {
         ensures { option_map (λ e. e.message.payload) (slice_get self.now.events position) ≡ Some result }
     {
         let line = &self.lines[position];
-        payload_in(self.asides.as_slice(), line)
+        payload_in(self.asides.as_slice(), self.cells.as_slice(), line)
     }
 
     /// The number of the instruction whose tag the message of the event at a position names.
@@ -228,7 +253,7 @@ impl<'a> Record<'a> {
             ≡ Some result }
     {
         let line = &self.lines[position];
-        instr_in(self.asides.as_slice(), line)
+        instr_in(self.asides.as_slice(), self.cells.as_slice(), line)
     }
 
     #[inline(always)]
@@ -244,7 +269,7 @@ impl<'a> Record<'a> {
         }) }
     {
         let line = &self.lines[position];
-        let handled = unpack(self.asides.as_slice(), line);
+        let handled = unpack(self.asides.as_slice(), self.cells.as_slice(), line);
         let tag = tag_of(&handled.message.payload);
         let envelope = Envelope {
             number: self.element,

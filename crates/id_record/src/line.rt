@@ -1,4 +1,5 @@
-//! How the record keeps an event: in one line of 48 bytes, or aside where it does not fit in one.
+//! How the record keeps an event: in one line of 48 bytes, in one with a cell beside it, or aside where it fits in
+//! neither.
 
 ghost use Rattle.std.specs.Prelude.{◌≡◌, ◌<◌, ◌%◌, ◌/◌, ◌^◌, ℤ, pos, true, false, Some, IfSome, IsTrue};
 ghost use Rattle.id_tag.specs.declared.Tag.{Tag};
@@ -10,17 +11,20 @@ ghost use Rattle.id_record.specs.declared.step.Verdict.TheVariants.{Went, Failed
 ghost use Rattle.id_record.specs.declared.line.Kind.TheVariants.{Aside};
 ghost use Rattle.id_record.specs.Lines.{IsPacked, IsWithin, NamedBy, Names, carried_value, context_of, element_at};
 ghost use Rattle.id_record.specs.Lines.{failed, fired_at, handled, high_half, index_of, instr_at, joined, low_half};
-ghost use Rattle.id_record.specs.Lines.{no_replies, number_in, number_of, own, port_at, reaction_of, sender_of};
-ghost use Rattle.id_record.specs.Lines.{target_in, unpacked, went};
+ghost use Rattle.id_record.specs.Lines.{beside, message_at, no_replies, number_in, number_of, own, port_at, reaction_of};
+ghost use Rattle.id_record.specs.Lines.{sender_of, tag_at, target_in, unpacked, went};
 ghost use Rattle.id_record.specs.Events.{tag_of, value_of};
 
+mod celled;
 mod shooting;
 
 use crate::history::{tag_of, value_of};
 use crate::step::Verdict;
+pub(crate) use celled::{Celled, packed_beside};
+use celled::{payload_told, said};
 use id_graph::Port;
 use id_ops::{Fired, tag_within};
-use id_tag::{Context, Message, Payload, Sender, Tag, Value};
+use id_tag::{Cell, Context, Message, Payload, Sender, Tag, Value};
 use id_value::FaultKind;
 pub(crate) use shooting::shot_line;
 pub use shooting::{Shooting, has_line};
@@ -64,7 +68,8 @@ pub struct Handling<'a> {
 /// message carries, and `effect` and `result` what came of it. Of the tag of the message `place` is the element and the
 /// instruction, and `serial` and `iteration` are the rest. Of the tag that the event names beside it `to` is the
 /// element and the instruction, and `result` the rest. `position` is also the port, and `sender` is 0 where no element
-/// sent the message, or 1 more than the number of the one that did.
+/// sent the message, or 1 more than the number of the one that did. Where the kind says that the event names a cell,
+/// `to` is the index of that beside the lines.
 #[derive(Clone, Copy)]
 pub(crate) struct Line {
     value: i64,
@@ -93,9 +98,9 @@ struct Carried {
 
 /// What the value of a line stands for: of `Int` it is the number, of `Context` its element and serial number, and of
 /// `Aside`, where the whole event stands aside, its index there. `Continuation` stands for the tag that the event
-/// names.
+/// names. The kinds behind it are of events that name a cell, and say all of them but their numbers.
 #[derive(Clone, Copy)]
-enum Kind {
+pub(crate) enum Kind {
     Signal,
     Int,
     True,
@@ -103,6 +108,23 @@ enum Kind {
     Context,
     Continuation,
     Aside,
+    StructureWaits,
+    StructureOut,
+    StructureOnTrue,
+    StructureOnFalse,
+    StructureMoved,
+    StructureAddressed,
+    TrueSwitched,
+    FalseSwitched,
+    IntAllocated,
+    IntAddressed,
+    IntStored,
+    AddressWaits,
+    AddressAsked,
+    AddressStored,
+    ReadDeferred,
+    ReadAnswered,
+    Written,
 }
 
 /// Where a value went out: to the only side of its operator, or on this side of a switch.
@@ -179,9 +201,9 @@ pub(crate) fn line_aside(index: usize) -> Line
 
 /// The event of a line.
 #[inline(always)]
-pub(crate) fn unpack(asides: &[Handled], line: &Line) -> Handled
-    requires { IsWithin asides.now line.now }
-    ensures { result ≡ unpacked asides.now line.now }
+pub(crate) fn unpack(asides: &[Handled], cells: &[Cell], line: &Line) -> Handled
+    requires { IsWithin (beside asides.now cells.now) line.now }
+    ensures { result ≡ unpacked (beside asides.now cells.now) line.now }
 {
     match line.kind {
         Kind::Signal => own(line, Value::Signal),
@@ -191,13 +213,14 @@ pub(crate) fn unpack(asides: &[Handled], line: &Line) -> Handled
         Kind::Context => own(line, Value::Context(context_of(line.value))),
         Kind::Continuation => own(line, Value::Continuation(target_in(line))),
         Kind::Aside => asides[index_of(line.value)],
+        _ => said(line, cells[line.to as usize]),
     }
 }
 
 /// What the message of a line says.
-pub(crate) fn payload_in(asides: &[Handled], line: &Line) -> Payload
-    requires { IsWithin asides.now line.now }
-    ensures { result ≡ (unpacked asides.now line.now).message.payload }
+pub(crate) fn payload_in(asides: &[Handled], cells: &[Cell], line: &Line) -> Payload
+    requires { IsWithin (beside asides.now cells.now) line.now }
+    ensures { result ≡ (unpacked (beside asides.now cells.now) line.now).message.payload }
 {
     match line.kind {
         Kind::Signal => own_payload(line, Value::Signal),
@@ -207,18 +230,18 @@ pub(crate) fn payload_in(asides: &[Handled], line: &Line) -> Payload
         Kind::Context => own_payload(line, Value::Context(context_of(line.value))),
         Kind::Continuation => own_payload(line, Value::Continuation(target_in(line))),
         Kind::Aside => asides[index_of(line.value)].message.payload,
+        _ => payload_told(line, cells[line.to as usize]),
     }
 }
 
 /// The number of the instruction whose tag the message of a line names.
-pub(crate) fn instr_in(asides: &[Handled], line: &Line) -> u32
-    requires { IsWithin asides.now line.now }
-    ensures { result ≡ (tag_of (unpacked asides.now line.now).message.payload).instr }
+pub(crate) fn instr_in(asides: &[Handled], cells: &[Cell], line: &Line) -> u32
+    requires { IsWithin (beside asides.now cells.now) line.now }
+    ensures { result ≡ (tag_of (unpacked (beside asides.now cells.now) line.now).message.payload).instr }
 {
     match line.kind {
         Kind::Aside => tag_of(&asides[index_of(line.value)].message.payload).instr,
-        Kind::Signal | Kind::Int | Kind::True | Kind::False => instr_at(line.place),
-        Kind::Context | Kind::Continuation => instr_at(line.place),
+        _ => instr_at(line.place),
     }
 }
 
@@ -598,6 +621,52 @@ fn narrowed(event: &Handling<'_>, carried: Carried, effect: Effect, to: Tag) -> 
     let Some((tag, port)) = port_of(event) else {
         return None;
     };
+    if to.context.element > LARGEST_ELEMENT || to.instr > LARGEST_INSTR {
+        return None;
+    }
+    if to.context.serial > LARGEST || to.iteration > LARGEST {
+        return None;
+    }
+    let number = number(&event.reaction.fired, to);
+    let place = place(to.context.element, to.instr);
+    line_of(
+        event,
+        tag,
+        port,
+        Written {
+            kind: carried.kind,
+            effect,
+            value: carried.value,
+            result: number,
+            to: place,
+        },
+    )
+}
+
+/// What a line has beside the numbers of its message.
+#[derive(Clone, Copy)]
+struct Written {
+    kind: Kind,
+    effect: Effect,
+    value: i64,
+    result: i64,
+    to: u32,
+}
+
+/// The line of an event whose message names this tag and comes to this port, where its numbers fit.
+#[inline(always)]
+fn line_of(event: &Handling<'_>, tag: Tag, port: Port, written: Written) -> Option<Line>
+    ensures kind { IfSome result (λ l. l.kind ≡ written.kind) }
+    ensures effect { IfSome result (λ l. l.effect ≡ written.effect) }
+    ensures value { IfSome result (λ l. l.value ≡ written.value) }
+    ensures number { IfSome result (λ l. l.result ≡ written.result) }
+    ensures to { IfSome result (λ l. l.to ≡ written.to) }
+    ensures tag { IfSome result (λ l. tag_at l ≡ tag) }
+    ensures port { IfSome result (λ l. port_at (l.position / 2 ^ 31) ≡ port) }
+    ensures message { IfSome result
+        (λ l. message_at l event.now.message.now.payload ≡ event.now.message.now) }
+    ensures stamp { IfSome result (λ l. l.stamp ≡ event.now.stamp) }
+{
     let sender = origin(event.message.sender);
     let position = event.message.position as u64;
     if tag.context.serial > LARGEST || tag.iteration > LARGEST || position > LARGEST_POSITION {
@@ -609,29 +678,23 @@ fn narrowed(event: &Handling<'_>, carried: Carried, effect: Effect, to: Tag) -> 
     if tag.context.element > LARGEST_ELEMENT || tag.instr > LARGEST_INSTR {
         return None;
     }
-    if to.context.element > LARGEST_ELEMENT || to.instr > LARGEST_INSTR {
-        return None;
-    }
-    if to.context.serial > LARGEST || to.iteration > LARGEST {
-        return None;
-    }
     if sender > LARGEST_SENDER || event.message.output > LARGEST_OUTPUT {
         return None;
     }
     Some(Line {
-        value: carried.value,
-        result: number(&event.reaction.fired, to),
+        value: written.value,
+        result: written.result,
         serial: tag.context.serial as u32,
         iteration: tag.iteration as u32,
         position: position_at(position, port),
         sent: event.message.stamp as u32,
         stamp: event.stamp as u32,
         place: place(tag.context.element, tag.instr),
-        to: place(to.context.element, to.instr),
+        to: written.to,
         sender: sender as u8,
         output: event.message.output as u8,
-        kind: carried.kind,
-        effect,
+        kind: written.kind,
+        effect: written.effect,
     })
 }
 
@@ -666,16 +729,39 @@ fn own(line: &Line, value: Value) -> Handled
     ensures { result ≡ own line.now value }
 {
     Handled {
-        message: Message {
-            payload: own_payload(line, value),
-            sender: sender(line),
-            position: (line.position % 0x8000_0000) as usize,
-            output: usize::from(line.output),
-            stamp: u64::from(line.sent),
-        },
+        message: message_at(line, own_payload(line, value)),
         stamp: u64::from(line.stamp),
         reaction: reaction_in(line, value),
         replies: NO_REPLIES,
+    }
+}
+
+/// The message of a line that says this.
+#[inline(always)]
+fn message_at(line: &Line, payload: Payload) -> Message
+    ensures { result ≡ message_at line.now payload }
+{
+    Message {
+        payload,
+        sender: sender(line),
+        position: (line.position % 0x8000_0000) as usize,
+        output: usize::from(line.output),
+        stamp: u64::from(line.sent),
+    }
+}
+
+/// The tag that the message of a line names.
+#[inline(always)]
+fn tag_at(line: &Line) -> Tag
+    ensures { result ≡ tag_at line.now }
+{
+    Tag {
+        context: Context {
+            element: element_at(line.place),
+            serial: u64::from(line.serial),
+        },
+        iteration: u64::from(line.iteration),
+        instr: instr_at(line.place),
     }
 }
 
@@ -685,14 +771,7 @@ fn own_payload(line: &Line, value: Value) -> Payload
     ensures { result ≡ (own line.now value).message.payload }
 {
     Payload::Token {
-        tag: Tag {
-            context: Context {
-                element: element_at(line.place),
-                serial: u64::from(line.serial),
-            },
-            iteration: u64::from(line.iteration),
-            instr: instr_at(line.place),
-        },
+        tag: tag_at(line),
         port: port_at(line.position / 0x8000_0000),
         value,
     }
