@@ -195,3 +195,9 @@ pub in_order-from_sort : (ds es : List Dest) → IsPermutation ds es → IsNonDe
 in_order-from_sort ds es moved up =
     same_lists es (in_order ds) (Rises-from_index es up) (Rises-in_order ds)
     (λ r. count-sum_by r es ∙ sum_by-IsPermutation (λ d. cond (rank d == r) 1 0) ds es moved ∙ sym (count-sum_by r ds) ∙ sym (count-in_order r ds))
+
+-- a list of one destination or none is in order
+pub in_order-short : (ds : List Dest) → length ds < 2 → in_order ds ≡ ds
+in_order-short [] short = refl
+in_order-short (d ∷ []) short = refl
+in_order-short (d ∷ e ∷ es) short = absurd (omega arith)

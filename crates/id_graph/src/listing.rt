@@ -2,16 +2,21 @@
 
 ghost use Rattle.std.specs.Prelude.{◌≡◌, ◌≤◌, ◌++◌, length, All, IfOk, OnOk, codes, string_bytes};
 ghost use Rattle.std.specs.List.{flat_map};
+ghost use Rattle.std.specs.Fmt.{decimal, signed_decimal};
 ghost use Rattle.id_graph.specs.Listing.{arithmetic_name, comparison_name, constant_text, dest_text, dests_text};
-ghost use Rattle.id_graph.specs.Listing.{dyadic_name, false_text, head_text, in_order, kind_name, line_text, listing};
-ghost use Rattle.id_graph.specs.Listing.{op_text, place_text, port_number, truth_name, unary_name};
+ghost use Rattle.id_graph.specs.Listing.{dyadic_name, false_text, head_text, in_order, kind_name, line_text};
+ghost use Rattle.id_graph.specs.Listing.{lines_text, listing, op_text, place_text, port_number, truth_name, unary_name};
 
 use crate::dests::{Dest, Port};
 use crate::graph::Graph;
 use crate::instr::{Dyadic, Instr, Op, PortKind};
 use id_text::{Lines, MAX_BYTES};
 use id_value::{Arithmetic, Comparison, Constant, Truth, UnaryOp};
+use itoa::Buffer;
 use std::alloc::{AllocError, Global};
+
+/// About how many bytes a line takes.
+const LINE_BYTES: usize = 64;
 
 /// The listing of a graph of this text: a line for each instruction, in order, each ending in LF.
 pub fn list(alloc: Global, graph: &Graph, text: &str) -> Result<String, AllocError>
@@ -20,12 +25,27 @@ pub fn list(alloc: Global, graph: &Graph, text: &str) -> Result<String, AllocErr
     ensures { IfOk result (λ s. string_bytes s ≡ listing text.now graph.now) }
 {
     let lines = Lines::new(alloc, text)?;
-    let mut out = String::new(alloc);
-    let mut row = Vec::new(alloc);
-    for (number, instr) in graph.instrs().iter().enumerate() {
-        write_line(&mut out, &mut row, &lines, number, instr)?;
-    }
+    let mut out = String::with_capacity(alloc, graph.instrs().len() * LINE_BYTES)?;
+    write_lines(alloc, &mut out, &lines, graph.instrs())?;
     Ok(out)
+}
+
+/// Appends the lines of all instructions.
+fn write_lines(
+    alloc: Global,
+    out: &mut String,
+    lines: &Lines<'_>,
+    instrs: &[Instr],
+) -> Result<(), AllocError>
+    requires { All (λ i. i.place ≤ length lines.now) instrs.now }
+    ensures { OnOk result
+        (string_bytes out.new ≡ string_bytes out.old ++ lines_text lines.now 0 instrs.now) }
+{
+    let mut row = Vec::new(alloc);
+    for (number, instr) in instrs.iter().enumerate() {
+        write_line(out, &mut row, lines, number, instr)?;
+    }
+    Ok(())
 }
 
 /// Appends the line of an instruction. `row` serves to put destinations in order.
@@ -71,7 +91,8 @@ fn write_head(
     ensures { OnOk result
         (string_bytes out.new ≡ string_bytes out.old ++ head_text lines.now number instr.now) }
 {
-    write!(out, "{number} ")?;
+    write_number(out, number as u64)?;
+    out.push_str(" ")?;
     write_op(out, instr.op)?;
     write_place(out, lines, instr.place)?;
     Ok(())
@@ -84,7 +105,25 @@ fn write_place(out: &mut String, lines: &Lines<'_>, place: usize) -> Result<(), 
         (string_bytes out.new ≡ string_bytes out.old ++ place_text lines.now place) }
 {
     let (line, column) = lines.line_col(place);
-    write!(out, " @{line}:{column}")
+    write_after(out, " @", line)?;
+    write_after(out, ":", column)
+}
+
+/// Appends a number after a text.
+fn write_after(out: &mut String, before: &str, number: u32) -> Result<(), AllocError>
+    ensures { OnOk result
+        (string_bytes out.new ≡ string_bytes out.old ++ before.now ++ decimal number) }
+{
+    out.push_str(before)?;
+    write_number(out, number as u64)
+}
+
+/// Appends a number.
+fn write_number(out: &mut String, number: u64) -> Result<(), AllocError>
+    ensures { OnOk result (string_bytes out.new ≡ string_bytes out.old ++ decimal number) }
+{
+    let mut buffer = Buffer::new();
+    out.push_str(buffer.format(number))
 }
 
 /// Appends an operator with its parameters.
@@ -93,20 +132,47 @@ pub fn write_op(out: &mut String, op: Op) -> Result<(), AllocError>
 {
     match op {
         Op::Const(constant) => write_const(out, constant),
-        Op::Unary(operator) => write!(out, "{}", unary_name(operator)),
-        Op::Binary(operator) => write!(out, "{}", dyadic_name(operator)),
-        Op::Merge(kind) => write!(out, "merge {}", kind_name(kind)),
-        Op::Switch(kind) => write!(out, "switch {}", kind_name(kind)),
-        Op::Back(kind) => write!(out, "back {}", kind_name(kind)),
-        Op::Enter { block, reply } => write!(out, "enter {block} {reply}"),
-        Op::Send { kind, target } => write!(out, "send {} {target}", kind_name(kind)),
-        Op::Next(kind) => write!(out, "next {}", kind_name(kind)),
-        Op::Reset(kind) => write!(out, "reset {}", kind_name(kind)),
-        Op::Alloc => write!(out, "alloc"),
-        Op::Address => write!(out, "address"),
-        Op::Fetch { reply } => write!(out, "fetch {reply}"),
-        Op::Store => write!(out, "store"),
+        Op::Unary(operator) => out.push_str(unary_name(operator)),
+        Op::Binary(operator) => out.push_str(dyadic_name(operator)),
+        Op::Merge(kind) => write_kind(out, "merge ", kind),
+        Op::Switch(kind) => write_kind(out, "switch ", kind),
+        Op::Back(kind) => write_kind(out, "back ", kind),
+        Op::Enter { block, reply } => write_enter(out, block, reply),
+        Op::Send { kind, target } => write_send(out, kind, target),
+        Op::Next(kind) => write_kind(out, "next ", kind),
+        Op::Reset(kind) => write_kind(out, "reset ", kind),
+        Op::Alloc => out.push_str("alloc"),
+        Op::Address => out.push_str("address"),
+        Op::Fetch { reply } => write_after(out, "fetch ", reply),
+        Op::Store => out.push_str("store"),
     }
+}
+
+/// Appends a kind after the name of its operator.
+fn write_kind(out: &mut String, name: &str, kind: PortKind) -> Result<(), AllocError>
+    ensures { OnOk result
+        (string_bytes out.new ≡ string_bytes out.old ++ name.now ++ kind_name kind) }
+{
+    out.push_str(name)?;
+    out.push_str(kind_name(kind))
+}
+
+/// Appends an `enter` with its two instructions.
+fn write_enter(out: &mut String, block: u32, reply: u32) -> Result<(), AllocError>
+    ensures { OnOk result (string_bytes out.new
+        ≡ string_bytes out.old ++ codes "enter " ++ decimal block ++ codes " " ++ decimal reply) }
+{
+    write_after(out, "enter ", block)?;
+    write_after(out, " ", reply)
+}
+
+/// Appends a `send` with its kind and its entry.
+fn write_send(out: &mut String, kind: PortKind, target: u32) -> Result<(), AllocError>
+    ensures { OnOk result (string_bytes out.new
+        ≡ string_bytes out.old ++ codes "send " ++ kind_name kind ++ codes " " ++ decimal target) }
+{
+    write_kind(out, "send ", kind)?;
+    write_after(out, " ", target)
 }
 
 /// Appends a `const` with its constant.
@@ -115,10 +181,20 @@ fn write_const(out: &mut String, constant: Constant) -> Result<(), AllocError>
         (string_bytes out.new ≡ string_bytes out.old ++ codes "const " ++ constant_text constant) }
 {
     match constant {
-        Constant::Int(number) => write!(out, "const {number}"),
-        Constant::Bool(true) => write!(out, "const true"),
-        Constant::Bool(false) => write!(out, "const false"),
+        Constant::Int(number) => write_int(out, number),
+        Constant::Bool(true) => out.push_str("const true"),
+        Constant::Bool(false) => out.push_str("const false"),
     }
+}
+
+/// Appends a `const` with a number.
+fn write_int(out: &mut String, number: i64) -> Result<(), AllocError>
+    ensures { OnOk result
+        (string_bytes out.new ≡ string_bytes out.old ++ codes "const " ++ signed_decimal number) }
+{
+    let mut buffer = Buffer::new();
+    out.push_str("const ")?;
+    out.push_str(buffer.format(number))
 }
 
 /// The name of an operator on one value.
@@ -198,6 +274,9 @@ fn write_sorted(out: &mut String, row: &mut Vec<Dest>, dests: &[Dest]) -> Result
     ensures { OnOk result
         (string_bytes out.new ≡ string_bytes out.old ++ dests_text dests.now) }
 {
+    if dests.len() < 2 {
+        return write_dests(out, dests);
+    }
     put_in_order(row, dests)?;
     write_dests(out, row)
 }
@@ -218,9 +297,20 @@ fn write_dests(out: &mut String, dests: &[Dest]) -> Result<(), AllocError>
         (string_bytes out.new ≡ string_bytes out.old ++ flat_map dest_text dests.now) }
 {
     for dest in dests {
-        write!(out, " {}.{}", dest.instr, port_number(dest.port))?;
+        write_after(out, " ", dest.instr)?;
+        out.push_str(port_text(dest.port))?;
     }
     Ok(())
+}
+
+/// The number of a port after a dot.
+fn port_text(port: Port) -> &'static str
+    ensures { result.now ≡ codes "." ++ decimal (port_number port) }
+{
+    match port {
+        Port::Zero => ".0",
+        Port::One => ".1",
+    }
 }
 
 /// The number of a port.

@@ -91,13 +91,37 @@ pub fn run_report(alloc: Global, machine: &Machine<'_>, named: bool) -> Result<R
     } else {
         Sequence::new(Vec::new(alloc))
     };
-    let holdings = machine.holdings(alloc)?;
-    let helds = joined(alloc, holdings.structures, holdings.cells)?;
+    let held = machine_held(alloc, machine)?;
     Ok(Report {
         ending,
         answer,
         names,
-        structures: sorted_helds(helds),
+        structures: held.lines,
+        waiting: held.waiting,
+    })
+}
+
+/// The lines of structures and cells, and the fetches that wait, in order.
+#[derive(Drop)]
+struct InOrder {
+    lines: Sequence<Held>,
+    waiting: Sequence<Ask>,
+}
+
+/// What a run shows of structures, in order.
+fn machine_held(alloc: Global, machine: &Machine<'_>) -> Result<InOrder, AllocError>
+    ensures held { IfOk result (λ r. IsOrderOf HeldBefore r.lines (held_lines machine.now)) }
+    ensures held_rise { IfOk result
+        (λ r. AreApartBy OfOneThing (held_lines machine.now) → Rises HeldBefore r.lines) }
+    ensures waiting { IfOk result
+        (λ r. IsOrderOf WaitBefore r.waiting (waiting machine.now.graph machine.now.world)) }
+    ensures waiting_rise { IfOk result
+        (λ r. AreApartBy OfOneFetch (waiting machine.now.graph machine.now.world) → Rises WaitBefore r.waiting) }
+{
+    let holdings = machine.holdings(alloc)?;
+    let helds = joined(alloc, holdings.structures, holdings.cells)?;
+    Ok(InOrder {
+        lines: sorted_helds(helds),
         waiting: sorted_asks(holdings.waiting),
     })
 }

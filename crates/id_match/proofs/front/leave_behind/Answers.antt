@@ -18,3 +18,7 @@ returns-clause-marked c = λ es fs marked others was gone.
     let x : Slot = record c.index_mut.result.now { behind = c.less.result } in
     subst (λ k. IsMarked (set f k x) fs) (sym there)
     (marked_less f c.args.tag some (place_below c.args.tag _ some) x es fs marked others (c.less.ensures ∙ ap one_less (sym told)) was gone)
+
+-- and holds what it held
+pub returns-clause-holds : goal.returns-clause-holds
+returns-clause-holds c = grind (arith, common_steps)

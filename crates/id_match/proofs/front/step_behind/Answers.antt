@@ -18,3 +18,7 @@ returns-clause-marked c = λ es fs marked others.
     let x : Slot = record c.index_mut.result.now { behind = c.more.result } in
     subst (λ k. IsMarked (set f k x) fs) (sym there)
     (marked_more f c.args.tag some (place_below c.args.tag _ some) x es fs marked others (c.more.ensures ∙ ap one_more (sym told)))
+
+-- and holds what it held
+pub returns-clause-holds : goal.returns-clause-holds
+returns-clause-holds c = grind (arith, common_steps)

@@ -12,3 +12,21 @@ returns-clause-met c =
     let there : c.place_of-at.result ≡ place c.args.tag (length c.args.front.now.items) = grind (arith, common_steps) in
     meets_here c.args.front.now.items c.args.tag some c.place_of-at.result there c.index.result.now at
     _ refl c.in-Some.half (grind (arith, common_steps)) c.args.port c.args.value (grind (arith, common_steps)) _ c.pair.ensures
+
+pub returns-then-is_empty-clause-free : goal.returns-then-is_empty-clause-free
+returns-then-is_empty-clause-free c = grind (arith, common_steps)
+
+pub returns-in_default-clause-free : goal.returns-in_default-clause-free
+returns-in_default-clause-free c = grind (arith, common_steps)
+
+pub returns-then-eq-clause-met : goal.returns-then-eq-clause-met
+returns-then-eq-clause-met c = grind (arith, common_steps)
+
+pub returns-then-eq-clause-found : goal.returns-then-eq-clause-found
+returns-then-eq-clause-found c = grind (arith, common_steps)
+
+pub returns-clause-found : goal.returns-clause-found
+returns-clause-found c = grind (arith, common_steps)
+
+pub returns-clause-marks : goal.returns-clause-marks
+returns-clause-marks c = grind (arith, common_steps)
