@@ -6,7 +6,7 @@ program=$here/crates/idc/out/idc
 
 is_stale() {
     [ ! -x "$program" ] || [ -n "$(find "$here/crates" -path '*/out' -prune -o -type f -newer "$program" \
-        \( -name '*.rt' -o -name '*.antt' \) -print | head -n 1)" ]
+        \( -name '*.rt' -o -name '*.antt' \) -print -quit)" ]
 }
 
 if is_stale; then

@@ -16,6 +16,7 @@ ghost use Rattle.id_record.specs.Lines.{sender_of, tag_at, target_in, unpacked, 
 ghost use Rattle.id_record.specs.Events.{tag_of, value_of};
 
 mod celled;
+mod numbers;
 mod shooting;
 
 use crate::history::{tag_of, value_of};
@@ -26,6 +27,10 @@ use id_graph::Port;
 use id_ops::{Fired, tag_within};
 use id_tag::{Cell, Context, Message, Payload, Sender, Tag, Value};
 use id_value::FaultKind;
+use numbers::{
+    context_of, element_at, high_half, index_of, instr_at, joined, low_half, place, port_at,
+    position_at,
+};
 pub(crate) use shooting::shot_line;
 pub use shooting::{Shooting, has_line};
 
@@ -242,91 +247,6 @@ pub(crate) fn instr_in(asides: &[Handled], cells: &[Cell], line: &Line) -> u32
     match line.kind {
         Kind::Aside => tag_of(&asides[index_of(line.value)].message.payload).instr,
         _ => instr_at(line.place),
-    }
-}
-
-/// Two numbers of 32 bits as the halves of one.
-#[inline(always)]
-fn joined(high: u64, low: u64) -> i64
-    requires high { high < 2 ^ 32 }
-    requires low { low < 2 ^ 32 }
-    ensures { result ≡ joined high low }
-{
-    (high * 0x1_0000_0000 + low).cast_signed()
-}
-
-/// The higher half of a number.
-#[inline(always)]
-fn high_half(number: i64) -> u32
-    ensures { result ≡ high_half number }
-{
-    (number.cast_unsigned() / 0x1_0000_0000) as u32
-}
-
-/// The lower half of a number.
-#[inline(always)]
-fn low_half(number: i64) -> u32
-    ensures { result ≡ low_half number }
-{
-    (number.cast_unsigned() % 0x1_0000_0000) as u32
-}
-
-/// The context whose element and serial number are the halves of a number.
-#[inline(always)]
-fn context_of(number: i64) -> Context
-    ensures { result ≡ context_of number }
-{
-    Context {
-        element: high_half(number),
-        serial: u64::from(low_half(number)),
-    }
-}
-
-/// The index that the value of a line is.
-#[inline(always)]
-fn index_of(value: i64) -> usize
-    ensures { result ≡ index_of value }
-{
-    value.cast_unsigned() as usize
-}
-
-/// An element and an instruction in 32 bits: 8 of them for the element.
-#[inline(always)]
-fn place(element: u32, instr: u32) -> u32
-    requires element { element < 2 ^ 8 }
-    requires instr { instr < 2 ^ 24 }
-    ensures element { element_at result ≡ element }
-    ensures instr { instr_at result ≡ instr }
-{
-    element * 0x100_0000 + instr
-}
-
-/// The element of a place.
-#[inline(always)]
-fn element_at(place: u32) -> u32
-    ensures { result ≡ element_at place }
-{
-    place / 0x100_0000
-}
-
-/// The instruction of a place.
-#[inline(always)]
-fn instr_at(place: u32) -> u32
-    ensures { result ≡ instr_at place }
-{
-    place % 0x100_0000
-}
-
-/// A position and a port in 32 bits: the highest of them for the port.
-#[inline(always)]
-fn position_at(position: u64, port: Port) -> u32
-    requires { position < 2 ^ 31 }
-    ensures position { result % 2 ^ 31 ≡ position }
-    ensures port { port_at (result / 2 ^ 31) ≡ port }
-{
-    match port {
-        Port::Zero => position as u32,
-        Port::One => position as u32 + 0x8000_0000,
     }
 }
 
@@ -775,14 +695,6 @@ fn own_payload(line: &Line, value: Value) -> Payload
         port: port_at(line.position / 0x8000_0000),
         value,
     }
-}
-
-/// The port that the highest bit of a position is.
-#[inline(always)]
-fn port_at(bit: u32) -> Port
-    ensures { result ≡ port_at bit }
-{
-    if bit == 0 { Port::Zero } else { Port::One }
 }
 
 #[inline(always)]

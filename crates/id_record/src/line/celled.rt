@@ -10,9 +10,10 @@ ghost use Rattle.id_record.specs.Events.{tag_of};
 ghost use Rattle.id_record.specs.Lines.{IsCelled, IsPackedBeside, handled, no_replies, port_for};
 ghost use Rattle.id_record.specs.Lines.{port_at, saying, tag_at, token_told, told};
 
+use super::numbers::{high_half, index_of, joined, low_half, port_at};
 use super::{
-    Effect, Handled, Handling, Kind, Line, NO_REPLIES, Replies, Written, high_half, index_of,
-    joined, line_of, low_half, message_at, port_at, tag_at, went,
+    Effect, Handled, Handling, Kind, Line, NO_REPLIES, Replies, Written, line_of, message_at,
+    tag_at, went,
 };
 use crate::history::tag_of;
 use crate::step::Verdict;

@@ -10,10 +10,8 @@ ghost use Rattle.id_record.specs.Lines.{IsPacked, NamedBy, Names, carried_value,
 ghost use Rattle.id_record.specs.Lines.{number_in, number_of, own, reaction_of};
 ghost use Rattle.id_record.specs.Shootings.{HasLine, IsNarrow, shooting};
 
-use super::{
-    Carried, Effect, Exit, Kind, Line, false_at, int_at, joined, of_kind, place, position_at,
-    signal_at, true_at,
-};
+use super::numbers::{joined, place, position_at};
+use super::{Carried, Effect, Exit, Kind, Line, false_at, int_at, of_kind, signal_at, true_at};
 use id_ops::{Shot, Target};
 use id_tag::{Plain, PlainToken};
 
