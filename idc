@@ -20,8 +20,4 @@ if is_stale; then
         exit 5
     fi
 fi
-# A record is written once from end to end, so its memory is asked for in large pages, where the system has them: a run
-# of millions of events spends a third of its time on small ones. What the caller has set stays.
-GLIBC_TUNABLES=${GLIBC_TUNABLES-glibc.malloc.hugetlb=1}
-export GLIBC_TUNABLES
 exec "$program" "$@"
