@@ -1,5 +1,5 @@
 -- The cell is the address, and the reply differs from its tag in the instruction alone.
-use Rattle.std.proofs.Common.{◌≡◌, ◌<◌, ap, refl, ◌∙◌, arith}
+use Rattle.std.proofs.Common.{◌<◌, ap, refl, ◌∙◌, arith}
 use Rattle.std.specs.Prelude.{◌^◌}
 use Rattle.std.specs.Int.{w64}
 use Rattle.std.proofs.lemmas.Int.{to_z-of_z}
