@@ -4,7 +4,7 @@ use Rattle.id_tag.specs.declared.Tag.{Tag}
 use Rattle.id_tag.specs.declared.Value.{Value}
 use Rattle.id_tag.specs.declared.Value.TheVariants as value
 use Rattle.id_tag.specs.declared.plain.Plain.{Plain}
-use Rattle.id_tag.specs.declared.plain.Plain.TheVariants.{Signal, Int, Bool, Context, Continuation}
+use Rattle.id_tag.specs.declared.plain.Plain.TheVariants.{Signal, Int, Bool, Context, Continuation, Structure}
 use Rattle.id_tag.specs.declared.plain.PlainToken.{PlainToken}
 use Rattle.id_tag.specs.declared.Message.{Message}
 use Rattle.id_tag.specs.declared.Payload.TheVariants.{Token}
@@ -18,6 +18,7 @@ whole (Bool b) = value.Bool b
 whole (Context e s) = value.Context (record { element = e; serial = s })
 whole (Continuation e s k j) =
     value.Continuation (record { context = record { element = e; serial = s }; iteration = k; instr = j })
+whole (Structure e s l h) = value.Structure (record { element = e; serial = s; low = l; high = h })
 
 -- whether a plain value is a word: a signal, a number or a truth value
 abbrev pub is_word : Plain → Truth
@@ -26,6 +27,26 @@ is_word (Int n) = true
 is_word (Bool b) = true
 is_word (Context e s) = false
 is_word (Continuation e s k j) = false
+is_word (Structure e s l h) = false
+
+-- whether a value is one that instructions send on in short: a word or a structure
+abbrev pub is_sent_on : Value → Truth
+is_sent_on value.Signal = true
+is_sent_on (value.Int n) = true
+is_sent_on (value.Bool b) = true
+is_sent_on (value.Structure s) = true
+is_sent_on (value.Address c) = false
+is_sent_on (value.Context c) = false
+is_sent_on (value.Continuation t) = false
+
+-- whether a plain value is a word or a structure
+abbrev pub is_carried : Plain → Truth
+is_carried Signal = true
+is_carried (Int n) = true
+is_carried (Bool b) = true
+is_carried (Context e s) = false
+is_carried (Continuation e s k j) = false
+is_carried (Structure e s l h) = true
 
 -- the word that a value is, if it is one, as a plain value
 abbrev pub word_of : Value → Option Plain

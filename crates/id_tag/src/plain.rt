@@ -2,12 +2,12 @@
 
 ghost use Rattle.std.specs.Prelude.{◌≡◌, ◌≤◌, ◌^◌, None, IfSome};
 ghost use Rattle.id_tag.specs.Kinds.{kind_of};
-ghost use Rattle.id_tag.specs.Plains.{is_word, whole, word_of};
+ghost use Rattle.id_tag.specs.Plains.{is_carried, is_word, whole, word_of};
 
-use crate::{Context, Message, Payload, Sender, Tag, Value};
+use crate::{Context, Message, Payload, Sender, Structure, Tag, Value};
 use id_graph::{Port, PortKind};
 
-/// A word, which is a signal, a number or a truth value; or a context or a continuation in small numbers.
+/// A word, which is a signal, a number or a truth value; or a context, a continuation or a structure in small numbers.
 #[derive(Clone, Copy)]
 pub enum Plain {
     Signal,
@@ -17,6 +17,8 @@ pub enum Plain {
     Context(u8, u32),
     /// The element and the serial number of a tag's context, its iteration and its instruction.
     Continuation(u8, u32, u32, u32),
+    /// The element and the serial number of a structure, and its bounds.
+    Structure(u8, u32, i32, i32),
 }
 
 impl Plain {
@@ -35,6 +37,12 @@ impl Plain {
                 iteration: u64::from(iteration),
                 instr,
             }),
+            Plain::Structure(element, serial, low, high) => Value::Structure(Structure {
+                element: u32::from(element),
+                serial: u64::from(serial),
+                low: i64::from(low),
+                high: i64::from(high),
+            }),
         }
     }
 
@@ -49,6 +57,7 @@ impl Plain {
             Plain::Bool(_) => PortKind::Bool,
             Plain::Context(_, _) => PortKind::Context,
             Plain::Continuation(_, _, _, _) => PortKind::Continuation,
+            Plain::Structure(_, _, _, _) => PortKind::Structure,
         }
     }
 
@@ -59,7 +68,20 @@ impl Plain {
     {
         match self {
             Plain::Signal | Plain::Int(_) | Plain::Bool(_) => true,
+            Plain::Context(_, _)
+            | Plain::Continuation(_, _, _, _)
+            | Plain::Structure(_, _, _, _) => false,
+        }
+    }
+
+    /// Whether it is a word or a structure: what instructions send on in short. Takes no memory.
+    #[inline(always)]
+    pub fn is_carried(self) -> bool
+        ensures { result ≡ is_carried self }
+    {
+        match self {
             Plain::Context(_, _) | Plain::Continuation(_, _, _, _) => false,
+            _ => true,
         }
     }
 }
@@ -75,7 +97,8 @@ fn context(element: u8, serial: u32) -> Context
     }
 }
 
-/// The value as a plain one, where it is a word, or a context or a continuation in small numbers. Takes no memory.
+/// The value as a plain one, where it is a word, or a context, a continuation or a structure in small numbers. Takes no
+/// memory.
 #[inline(always)]
 pub fn plain_of(value: &Value) -> Option<Plain>
     ensures whole { IfSome result (λ p. whole p ≡ value.now) }
@@ -85,7 +108,13 @@ pub fn plain_of(value: &Value) -> Option<Plain>
         Value::Signal => Some(Plain::Signal),
         Value::Int(number) => Some(Plain::Int(number)),
         Value::Bool(truth) => Some(Plain::Bool(truth)),
-        Value::Structure(_) | Value::Address(_) => None,
+        Value::Structure(structure) => Some(Plain::Structure(
+            tiny(structure.element)?,
+            small(structure.serial)?,
+            near(structure.low)?,
+            near(structure.high)?,
+        )),
+        Value::Address(_) => None,
         Value::Context(context) => Some(Plain::Context(
             tiny(context.element)?,
             small(context.serial)?,
@@ -107,6 +136,18 @@ pub fn small(number: u64) -> Option<u32>
 {
     if number <= 0xffff_ffff {
         Some(number as u32)
+    } else {
+        None
+    }
+}
+
+/// The number in 32 bits with a sign, where it fits in them.
+#[inline(always)]
+fn near(number: i64) -> Option<i32>
+    ensures { IfSome result (λ n. n ≡ number) }
+{
+    if (number >= -0x8000_0000) & (number <= 0x7fff_ffff) {
+        Some(number as i32)
     } else {
         None
     }
