@@ -1,8 +1,9 @@
--- Firings that send a word, in small numbers: what an instruction does with most tokens.
-use Rattle.std.specs.Prelude.{◌≡◌, ◌≤◌, ◌<◌, ◌+◌, ◌^◌, ℕ, true, Option, None, option_map}
+-- Firings that send a word or a structure on, in small numbers: what an instruction does with most tokens.
+use Rattle.std.specs.Prelude.{◌≡◌, ◌≤◌, ◌<◌, ◌+◌, ◌^◌, ℕ, Bool, true, false}
 use Rattle.id_tag.specs.declared.Tag.{Tag}
 use Rattle.id_tag.specs.declared.plain.Plain.{Plain}
-use Rattle.id_tag.specs.Plains.{is_word, word_of, whole}
+use Rattle.id_tag.specs.declared.plain.Plain.TheVariants.{Structure}
+use Rattle.id_tag.specs.Plains.{is_carried, is_sent_on, is_word, whole}
 use Rattle.id_ops.specs.declared.Fired.{Fired}
 use Rattle.id_ops.specs.declared.Fired.TheVariants as fired
 use Rattle.id_ops.specs.declared.shot.Shot.{Shot}
@@ -25,31 +26,36 @@ fired_of (Side b p) = fired.Side b (whole p)
 fired_of (Moved i p) = fired.Moved i (whole p)
 fired_of (Sent t p) = fired.Sent (target_tag t) (whole p)
 
--- the shot that a firing is, if it sends a word to all destinations on a side
-abbrev pub shot_of : Fired → Option Shot
-shot_of (fired.Out v) = option_map (λ p. Out p) (word_of v)
-shot_of (fired.Side b v) = option_map (λ p. Side b p) (word_of v)
-shot_of (fired.Moved i v) = option_map (λ p. Moved i p) (word_of v)
-shot_of (fired.Entered c) = None
-shot_of (fired.Sent t v) = None
-shot_of (fired.Asked c r) = None
-shot_of (fired.Stored c v o) = None
-shot_of (fired.Failed f) = None
-shot_of fired.Nothing = None
+-- whether a firing sends a word or a structure to all destinations on a side
+abbrev pub sends_on : Fired → Bool
+sends_on (fired.Out v) = is_sent_on v
+sends_on (fired.Side b v) = is_sent_on v
+sends_on (fired.Moved i v) = is_sent_on v
+sends_on (fired.Entered c) = false
+sends_on (fired.Sent t v) = false
+sends_on (fired.Asked c r) = false
+sends_on (fired.Stored c v o) = false
+sends_on (fired.Failed f) = false
+sends_on fired.Nothing = false
 
--- the shot of a token of this value sends that value on, or the value is a word, or nothing is sent
+-- what goes out for a token of this value: a structure is its own, and anything else goes out for a word
+abbrev pub SendsOwn : Plain → Plain → Type 0
+SendsOwn (Structure e s l h) v = Structure e s l h ≡ v
+SendsOwn w v = is_word v ≡ true
+
+-- the shot of a token of this value sends that value on, or a word for a word, or nothing is sent
 abbrev pub IsOwn : Shot → Plain → Type 0
 IsOwn Nothing v = Unit {0}
-IsOwn (Out w) v = is_word v ≡ true
-IsOwn (Side b w) v = is_word v ≡ true
+IsOwn (Out w) v = SendsOwn w v
+IsOwn (Side b w) v = SendsOwn w v
 IsOwn (Moved i w) v = w ≡ v
 IsOwn (Sent t w) v = w ≡ v
 
--- the shot at this iteration sends a word, no further than to the next iteration, and to an instruction with a number
--- of 24 bits
+-- the shot at this iteration sends a word or a structure on, no further than to the next iteration, or a word to an
+-- instruction with a number of 24 bits
 abbrev pub IsBrief : ℕ → Shot → Type 0
 IsBrief k Nothing = Unit {0}
-IsBrief k (Out w) = is_word w ≡ true
-IsBrief k (Side b w) = is_word w ≡ true
-IsBrief k (Moved i w) = (is_word w ≡ true) × (i ≤ k + 1)
+IsBrief k (Out w) = is_carried w ≡ true
+IsBrief k (Side b w) = is_carried w ≡ true
+IsBrief k (Moved i w) = (is_carried w ≡ true) × (i ≤ k + 1)
 IsBrief k (Sent t w) = (is_word w ≡ true) × (t.instr < 2 ^ 24)

@@ -1,9 +1,10 @@
-//! What an instruction does with plain operands where it sends a word: most firings, in small numbers.
+//! What an instruction does with plain operands where it sends a word or a structure on: most firings, in small numbers.
 
-ghost use Rattle.std.specs.Prelude.{◌≡◌, ◌<◌, ◌-◌, ◌^◌, ℕ, true, None, IfSome, Some};
-ghost use Rattle.id_graph.specs.declared.instr.Op.TheVariants.{Next};
+ghost use Rattle.std.specs.Prelude.{◌≡◌, ◌≢◌, ◌<◌, ◌-◌, ◌^◌, ℕ, true, false, None, IfSome};
+ghost use Rattle.std.specs.Option.{is_some};
+ghost use Rattle.id_graph.specs.declared.instr.Op.TheVariants.{Alloc, Next};
 ghost use Rattle.id_graph.specs.declared.instr.PortKind.{PortKind};
-ghost use Rattle.id_tag.specs.Plains.{is_word, word_of, whole};
+ghost use Rattle.id_tag.specs.Plains.{is_word, whole};
 ghost use Rattle.id_tag.specs.Kinds.{kind_of};
 ghost use Rattle.id_tag.specs.declared.Tag.{Tag};
 ghost use Rattle.id_tag.specs.declared.plain.Plain.{Plain};
@@ -12,13 +13,13 @@ ghost use Rattle.id_ops.specs.declared.Operands.TheVariants.{One, Two};
 ghost use Rattle.id_ops.specs.Operators.{constant_value, fired, fired_back, fired_binary, fired_by, fired_const};
 ghost use Rattle.id_ops.specs.Operators.{fired_send, fired_switch, fired_unary};
 ghost use Rattle.id_ops.specs.declared.shot.Shot.TheVariants.{Sent};
-ghost use Rattle.id_ops.specs.Shots.{IsBrief, IsOwn, fired_of, shot_of};
+ghost use Rattle.id_ops.specs.Shots.{IsBrief, IsOwn, fired_of, sends_on};
 
 use id_graph::{Dyadic, Op, PortKind};
 use id_tag::Plain;
 use id_value::{Constant, Outcome, UnaryOp, calculate, compare, decide, unary_result};
 
-/// A firing that sends a word to all destinations on a side or to one tag, or nothing.
+/// A firing that sends a word or a structure to all destinations on a side, or a word to one tag, or nothing.
 #[derive(Clone, Copy)]
 pub enum Shot {
     Nothing,
@@ -43,18 +44,19 @@ pub struct Target {
     pub element: u8,
 }
 
-/// What an operator of one port does with a plain operand at this iteration, where it sends a word. Takes no memory.
+/// What an operator of one port does with a plain operand at this iteration, where it sends a word or a structure on.
+/// Takes no memory.
 #[inline(always)]
 pub fn shoot_one(op: Op, iteration: u64, operand: Plain) -> Option<Shot>
     requires { (k : PortKind) → op ≡ Next k → iteration < 2 ^ 64 - 1 }
     ensures exact { (t : Tag) (f : Fresh) → t.iteration ≡ iteration
-        → result ≡ shot_of (fired op t (One (whole operand)) f) }
+        → is_some result ≡ sends_on (fired op t (One (whole operand)) f) }
     ensures fired { IfSome result (λ s. (t : Tag) (f : Fresh) → t.iteration ≡ iteration
         → fired op t (One (whole operand)) f ≡ fired_of s) }
     ensures own { IfSome result (λ s. IsOwn s operand) }
     ensures brief { IfSome result (IsBrief iteration) }
 {
-    if !operand.is_word() {
+    if !operand.is_carried() {
         return None;
     }
     match op {
@@ -67,15 +69,15 @@ pub fn shoot_one(op: Op, iteration: u64, operand: Plain) -> Option<Shot>
     }
 }
 
-/// What an operator of two ports does with plain operands, where it sends a word. Where it sends that to a tag, the
-/// number of an instruction of more than 24 bits is not for this. Takes no memory.
+/// What an operator of two ports does with plain operands, where it sends a word, or a structure on. Where it sends a
+/// word to a tag, the number of an instruction of more than 24 bits is not for this. Takes no memory.
 #[inline(always)]
 pub fn shoot_two(op: Op, left: Plain, right: Plain) -> Option<Shot>
     ensures fired { IfSome result
         (λ s. (t : Tag) (f : Fresh) → fired op t (Two (whole left) (whole right)) f ≡ fired_of s) }
-    ensures none { result ≡ None → (t : Tag) (f : Fresh)
-        → shot_of (fired op t (Two (whole left) (whole right)) f) ≡ None }
-    ensures own { IfSome result (λ s. is_word right ≡ true → IsOwn s right) }
+    ensures none { result ≡ None → op ≢ Alloc → (t : Tag) (f : Fresh)
+        → sends_on (fired op t (Two (whole left) (whole right)) f) ≡ false }
+    ensures own { IfSome result (λ s. IsOwn s right) }
     ensures brief { IfSome result (λ s. (iteration : ℕ) → IsBrief iteration s) }
 {
     match op {
@@ -89,7 +91,10 @@ pub fn shoot_two(op: Op, left: Plain, right: Plain) -> Option<Shot>
 
 #[inline(always)]
 fn shoot_const(constant: Constant, operand: Plain) -> Option<Shot>
-    ensures { result ≡ shot_of (fired_const constant (One (whole operand))) }
+    ensures exact { is_some result ≡ sends_on (fired_const constant (One (whole operand))) }
+    ensures fired { IfSome result (λ s. fired_const constant (One (whole operand)) ≡ fired_of s) }
+    ensures own { IfSome result (λ s. IsOwn s operand) }
+    ensures brief { IfSome result (λ s. (iteration : ℕ) → IsBrief iteration s) }
 {
     match operand {
         Plain::Signal => Some(Shot::Out(plain_constant(constant))),
@@ -100,7 +105,8 @@ fn shoot_const(constant: Constant, operand: Plain) -> Option<Shot>
 /// A constant as a plain value.
 #[inline(always)]
 fn plain_constant(constant: Constant) -> Plain
-    ensures { word_of (constant_value constant) ≡ Some result }
+    ensures value { whole result ≡ constant_value constant }
+    ensures word { is_word result ≡ true }
 {
     match constant {
         Constant::Int(number) => Plain::Int(number),
@@ -109,7 +115,10 @@ fn plain_constant(constant: Constant) -> Plain
 }
 
 fn shoot_unary(operator: UnaryOp, operand: Plain) -> Option<Shot>
-    ensures { result ≡ shot_of (fired_unary operator (One (whole operand))) }
+    ensures exact { is_some result ≡ sends_on (fired_unary operator (One (whole operand))) }
+    ensures fired { IfSome result (λ s. fired_unary operator (One (whole operand)) ≡ fired_of s) }
+    ensures own { IfSome result (λ s. IsOwn s operand) }
+    ensures brief { IfSome result (λ s. (iteration : ℕ) → IsBrief iteration s) }
 {
     match operand {
         Plain::Int(number) => shot_by(unary_result(operator, Constant::Int(number))),
@@ -120,7 +129,10 @@ fn shoot_unary(operator: UnaryOp, operand: Plain) -> Option<Shot>
 
 #[inline(always)]
 fn shoot_binary(operator: Dyadic, left: Plain, right: Plain) -> Option<Shot>
-    ensures { result ≡ shot_of (fired_binary operator (Two (whole left) (whole right))) }
+    ensures exact { is_some result ≡ sends_on (fired_binary operator (Two (whole left) (whole right))) }
+    ensures fired { IfSome result (λ s. fired_binary operator (Two (whole left) (whole right)) ≡ fired_of s) }
+    ensures own { IfSome result (λ s. IsOwn s right) }
+    ensures brief { IfSome result (λ s. (iteration : ℕ) → IsBrief iteration s) }
 {
     match (operator, left, right) {
         (Dyadic::Arithmetic(operator), Plain::Int(left), Plain::Int(right)) => {
@@ -138,10 +150,13 @@ fn shoot_binary(operator: Dyadic, left: Plain, right: Plain) -> Option<Shot>
 
 #[inline(always)]
 fn shoot_switch(kind: PortKind, left: Plain, right: Plain) -> Option<Shot>
-    ensures { result ≡ shot_of (fired_switch kind (Two (whole left) (whole right))) }
+    ensures exact { is_some result ≡ sends_on (fired_switch kind (Two (whole left) (whole right))) }
+    ensures fired { IfSome result (λ s. fired_switch kind (Two (whole left) (whole right)) ≡ fired_of s) }
+    ensures own { IfSome result (λ s. IsOwn s right) }
+    ensures brief { IfSome result (λ s. (iteration : ℕ) → IsBrief iteration s) }
 {
     match left {
-        Plain::Bool(side) if right.is_word() && right.kind() == kind => {
+        Plain::Bool(side) if right.is_carried() && right.kind() == kind => {
             Some(Shot::Side(side, right))
         }
         _ => None,
@@ -212,7 +227,10 @@ fn shot_to(target: Target, kind: PortKind, value: Plain) -> Option<Shot>
 /// What an operator comes to, as a shot, where it gives a value.
 #[inline(always)]
 fn shot_by(outcome: Outcome) -> Option<Shot>
-    ensures { result ≡ shot_of (fired_by outcome) }
+    ensures exact { is_some result ≡ sends_on (fired_by outcome) }
+    ensures fired { IfSome result (λ s. fired_by outcome ≡ fired_of s) }
+    ensures own { IfSome result (λ s. (v : Plain) → is_word v ≡ true → IsOwn s v) }
+    ensures brief { IfSome result (λ s. (iteration : ℕ) → IsBrief iteration s) }
 {
     match outcome {
         Outcome::Gives(constant) => Some(Shot::Out(plain_constant(constant))),
