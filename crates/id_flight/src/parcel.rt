@@ -268,7 +268,10 @@ fn carried(value: Value) -> Option<What>
     ensures { IfSome result (λ w. (t : Tag) (q : Port) → said t q w ≡ Some (Token t q value)) }
 {
     match value {
-        Value::Structure(structure) => carried_structure(structure),
+        Value::Structure(structure) => match plain_of(&value) {
+            Some(plain) => Some(What::Plain(plain)),
+            None => carried_structure(structure),
+        },
         Value::Address(cell) => carried_cell(cell),
         _ => Some(What::Plain(plain_of(&value)?)),
     }
