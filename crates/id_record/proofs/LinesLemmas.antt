@@ -25,7 +25,7 @@ use Rattle.id_record.specs.declared.line.Effect.{Effect}
 use Rattle.id_record.specs.declared.line.Kind.TheVariants as kind
 use Rattle.id_record.specs.Events.{EventView, full_step, tag_of, value_of}
 use Rattle.id_record.specs.Sends.{numbered, replies, sent}
-use Rattle.id_record.specs.Lines.{AreThere, Beside, IsCelled, IsKept, IsPacked, IsPackedBeside, IsThere, IsWithin, Names, carried_value, cell_in, context_of, element_at, high_half, index_of, instr_at, joined, low_half, no_replies, number_of, own, port_at, reaction_of, read, saying, tag_at, target_in, told, unpacked}
+use Rattle.id_record.specs.Lines.{AreThere, Beside, HasNumbers, IsCelled, IsKept, IsPacked, IsPackedBeside, IsThere, IsWithin, Names, carried_value, cell_in, context_of, element_at, high_half, index_of, instr_at, joined, low_half, no_replies, number_of, own, port_at, reaction_of, read, saying, structure_at, tag_at, target_in, told, unpacked}
 use Rattle.id_record.specs.Records.{event_of_handled, events_from, replies_in, sent_by, sent_for}
 use Rattle.std.specs.Int.{cast_unsigned, w64}
 use Rattle.std.proofs.lemmas.Int.{of_z-to_z}
@@ -87,6 +87,7 @@ cell-there b c l kind.True there = tt
 cell-there b c l kind.False there = tt
 cell-there b c l kind.Context there = tt
 cell-there b c l kind.Continuation there = tt
+cell-there b c l kind.Structure there = tt
 cell-there b c l kind.Aside there = there
 cell-there b c l k there = omega (arith, length-append b.cells (c ∷ []), there)
 
@@ -97,6 +98,7 @@ cell-same b c l kind.True there = refl
 cell-same b c l kind.False there = refl
 cell-same b c l kind.Context there = refl
 cell-same b c l kind.Continuation there = refl
+cell-same b c l kind.Structure there = refl
 cell-same b c l kind.Aside there = refl
 cell-same b c l k there = ap (λ d. saying l (told k (tag_at l) (port_at (l.position / 2 ^ 31)) l.value l.result d)) (cell-append b.cells (c ∷ []) l there)
 
@@ -175,6 +177,7 @@ celled-read b l kind.True celled = elim celled [ ]
 celled-read b l kind.False celled = elim celled [ ]
 celled-read b l kind.Context celled = elim celled [ ]
 celled-read b l kind.Continuation celled = elim celled [ ]
+celled-read b l kind.Structure celled = elim celled [ ]
 celled-read b l kind.Aside celled = elim celled [ ]
 celled-read b l k celled = refl
 
@@ -185,6 +188,7 @@ celled-there b l kind.True celled there = elim celled [ ]
 celled-there b l kind.False celled there = elim celled [ ]
 celled-there b l kind.Context celled there = elim celled [ ]
 celled-there b l kind.Continuation celled there = elim celled [ ]
+celled-there b l kind.Structure celled there = elim celled [ ]
 celled-there b l kind.Aside celled there = elim celled [ ]
 celled-there b l k celled there = there
 
@@ -339,9 +343,13 @@ target-line t l named result =
 
 -- what an event names is named by its line
 pub names-line : (f : Fired) (v : Value) (t : Tag) (l : Line) → Names f v t → IsNamed t l → l.result ≡ number_of f t → Names f v (target_in l)
-names-line (fired.Out w) v t l names named result = tt
-names-line (fired.Side b w) v t l names named result = tt
-names-line (fired.Moved i w) v t l names named result = ap (λ u. u.iteration) (target-line t l named result) ∙ names
+names-line (fired.Out (value.Structure s)) v t l names named result = ap (λ u. u.context) (target-line t l named result) ∙ names
+names-line (fired.Out w) v t l names named result = names
+names-line (fired.Side b (value.Structure s)) v t l names named result = ap (λ u. u.context) (target-line t l named result) ∙ names
+names-line (fired.Side b w) v t l names named result = names
+names-line (fired.Moved i w) v t l names named result =
+    let same = target-line t l named result in
+    (ap (λ u. u.iteration) same ∙ names.0, subst (λ u. HasNumbers w u) (sym same) names.1)
 names-line (fired.Entered c) v t l names named result = ap (λ u. u.context) (target-line t l named result) ∙ names
 names-line (fired.Sent u w) v t l names named result = target-line t l named result ∙ names
 names-line (fired.Asked c r) v t l names named result = tt
@@ -350,14 +358,16 @@ names-line (fired.Failed f) v t l names named result = tt
 names-line fired.Nothing value.Signal t l names named result = tt
 names-line fired.Nothing (value.Int n) t l names named result = tt
 names-line fired.Nothing (value.Bool b) t l names named result = tt
-names-line fired.Nothing (value.Structure s) t l names named result = tt
+names-line fired.Nothing (value.Structure s) t l names named result = ap (λ u. u.context) (target-line t l named result) ∙ names
 names-line fired.Nothing (value.Address c) t l names named result = tt
 names-line fired.Nothing (value.Context c) t l names named result = tt
 names-line fired.Nothing (value.Continuation u) t l names named result = target-line t l named result ∙ names
 
 -- the number is the same, where the tag is the one that the line names
 number-line : (f : Fired) (t : Tag) (l : Line) → IsNamed t l → l.result ≡ number_of f t → l.result ≡ number_of f (target_in l)
+number-line (fired.Out (value.Structure s)) t l named result = result ∙ ap (number_of (fired.Out (value.Structure s))) (sym (target-line t l named result))
 number-line (fired.Out w) t l named result = result
+number-line (fired.Side b (value.Structure s)) t l named result = result ∙ ap (number_of (fired.Side b (value.Structure s))) (sym (target-line t l named result))
 number-line (fired.Side b w) t l named result = result
 number-line (fired.Moved i w) t l named result = result ∙ ap (number_of (fired.Moved i w)) (sym (target-line t l named result))
 number-line (fired.Entered c) t l named result = result ∙ ap (number_of (fired.Entered c)) (sym (target-line t l named result))
@@ -375,6 +385,7 @@ read-carried b l kind.True v is = let same : value.Bool true ≡ v = cc in ap (o
 read-carried b l kind.False v is = let same : value.Bool false ≡ v = cc in ap (own l) same
 read-carried b l kind.Context v is = let same : value.Context (context_of l.value) ≡ v = cc in ap (own l) same
 read-carried b l kind.Continuation v is = let same : value.Continuation (target_in l) ≡ v = cc in ap (own l) same
+read-carried b l kind.Structure v is = let same : value.Structure (structure_at (target_in l) l.value) ≡ v = cc in ap (own l) same
 read-carried b l k v is = cc
 
 there-carried : (b : Beside) (t : Tag) (l : Line) (k : Kind) (v : Value) → carried_value t k l.value ≡ Some v → IsThere b l k
@@ -384,6 +395,7 @@ there-carried b t l kind.True v is = tt
 there-carried b t l kind.False v is = tt
 there-carried b t l kind.Context v is = tt
 there-carried b t l kind.Continuation v is = tt
+there-carried b t l kind.Structure v is = tt
 there-carried b t l k v is = cc
 
 -- an event stands in a line of its value, its numbers and its reaction

@@ -1,9 +1,10 @@
 -- How the record keeps an event in a line.
 use Rattle.std.specs.Prelude.{◌≡◌, ℕ, zero, suc, ◌<◌, ◌≤◌, ◌+◌, ◌*◌, ◌/◌, ◌%◌, ◌^◌, ℤ, pos, true, false}
 use Rattle.std.specs.Prelude.{List, Option, None, Some, length, slice_index_or}
-use Rattle.std.specs.Int.{cast_signed, cast_unsigned, w64}
+use Rattle.std.specs.Int.{cast_signed, cast_unsigned, w32, w64}
 use Rattle.id_tag.specs.declared.Cell.{Cell}
 use Rattle.id_tag.specs.declared.Context.{Context}
+use Rattle.id_tag.specs.declared.Structure.{Structure}
 use Rattle.id_tag.specs.declared.Tag.{Tag}
 use Rattle.id_tag.specs.declared.Value.{Value}
 use Rattle.id_tag.specs.declared.Value.TheVariants as value
@@ -81,6 +82,20 @@ abbrev pub port_at : ℕ → Port
 port_at zero = Zero
 port_at (suc n) = One
 
+-- the element and the serial number of a structure, as those of a context
+abbrev pub numbers_of : Structure → Context
+numbers_of s = record { element = s.element; serial = s.serial }
+
+-- the structure with the element and the serial number of a tag's context, and with the halves of a number as its
+-- bounds
+abbrev pub structure_at : Tag → ℤ → Structure
+structure_at t n = record {
+  element = t.context.element;
+  serial = t.context.serial;
+  low = cast_signed w32 (high_half n);
+  high = cast_signed w32 (low_half n);
+}
+
 -- the value that a line of this kind carries in this number, where its event names this tag beside that of its message
 abbrev pub carried_value : Tag → Kind → ℤ → Option Value
 carried_value t kind.Signal n = Some value.Signal
@@ -89,24 +104,36 @@ carried_value t kind.True n = Some (value.Bool true)
 carried_value t kind.False n = Some (value.Bool false)
 carried_value t kind.Context n = Some (value.Context (context_of n))
 carried_value t kind.Continuation n = Some (value.Continuation t)
+carried_value t kind.Structure n = Some (value.Structure (structure_at t n))
 carried_value t _ n = None
 
--- the tag is the one that the value names, if it names one
+-- the tag has the element and the serial number of the structure that the value is, if it is one
+abbrev pub HasNumbers : Value → Tag → Type 0
+HasNumbers value.Signal t = Unit {0}
+HasNumbers (value.Int n) t = Unit {0}
+HasNumbers (value.Bool b) t = Unit {0}
+HasNumbers (value.Structure s) t = t.context ≡ numbers_of s
+HasNumbers (value.Address c) t = Unit {0}
+HasNumbers (value.Context c) t = Unit {0}
+HasNumbers (value.Continuation u) t = Unit {0}
+
+-- the tag is the one that the value names, if it names one, or has the numbers of the structure that it is
 abbrev pub NamedBy : Value → Tag → Type 0
 NamedBy value.Signal t = Unit {0}
 NamedBy (value.Int n) t = Unit {0}
 NamedBy (value.Bool b) t = Unit {0}
-NamedBy (value.Structure s) t = Unit {0}
+NamedBy (value.Structure s) t = t.context ≡ numbers_of s
 NamedBy (value.Address c) t = Unit {0}
 NamedBy (value.Context c) t = Unit {0}
 NamedBy (value.Continuation u) t = t ≡ u
 
 -- the tag is the one that an event names beside that of its message, if it names one: where a value was sent, which
--- context was entered, which iteration a value moved to, or what a value that waits names
+-- context was entered, which iteration a value moved to, or what a value that waits names; and it has the numbers of a
+-- structure that moves, goes out or waits
 abbrev pub Names : Fired → Value → Tag → Type 0
-Names (fired.Out w) v t = Unit {0}
-Names (fired.Side b w) v t = Unit {0}
-Names (fired.Moved i w) v t = t.iteration ≡ i
+Names (fired.Out w) v t = HasNumbers w t
+Names (fired.Side b w) v t = HasNumbers w t
+Names (fired.Moved i w) v t = (t.iteration ≡ i) × HasNumbers w t
 Names (fired.Entered c) v t = t.context ≡ c
 Names (fired.Sent u w) v t = t ≡ u
 Names (fired.Asked c r) v t = Unit {0}
@@ -114,20 +141,21 @@ Names (fired.Stored c w o) v t = Unit {0}
 Names (fired.Failed f) v t = Unit {0}
 Names fired.Nothing v t = NamedBy v t
 
--- the number that the value is, or 0
-abbrev pub number_in : Value → ℤ
-number_in value.Signal = pos 0
-number_in (value.Int n) = n
-number_in (value.Bool b) = pos 0
-number_in (value.Structure s) = pos 0
-number_in (value.Address c) = pos 0
-number_in (value.Context c) = pos 0
-number_in (value.Continuation t) = pos 0
+-- the number that goes out: the value, where it is a number, or for a structure the iteration and the serial number of
+-- the tag, or else 0
+abbrev pub number_out : Value → Tag → ℤ
+number_out value.Signal t = pos 0
+number_out (value.Int n) t = n
+number_out (value.Bool b) t = pos 0
+number_out (value.Structure s) t = joined t.iteration t.context.serial
+number_out (value.Address c) t = pos 0
+number_out (value.Context c) t = pos 0
+number_out (value.Continuation u) t = pos 0
 
 -- the number that went out, or else the iteration and the serial number of the tag
 abbrev pub number_of : Fired → Tag → ℤ
-number_of (fired.Out v) t = number_in v
-number_of (fired.Side b v) t = number_in v
+number_of (fired.Out v) t = number_out v t
+number_of (fired.Side b v) t = number_out v t
 number_of (fired.Moved i v) t = joined t.iteration t.context.serial
 number_of (fired.Entered c) t = joined t.iteration t.context.serial
 number_of (fired.Sent u v) t = joined t.iteration t.context.serial
@@ -171,6 +199,9 @@ reaction_of effect.FalseOnFalse n t v = went (fired.Side false (value.Bool false
 reaction_of effect.Moved n t v = went (fired.Moved t.iteration v)
 reaction_of effect.Entered n t v = went (fired.Entered t.context)
 reaction_of effect.Sent n t v = went (fired.Sent t v)
+reaction_of effect.Own n t v = went (fired.Out v)
+reaction_of effect.OwnOnTrue n t v = went (fired.Side true v)
+reaction_of effect.OwnOnFalse n t v = went (fired.Side false v)
 
 -- the tag that the event of a line names beside that of its message
 abbrev pub target_in : Line → Tag
@@ -286,6 +317,7 @@ read b l kind.True = own l (value.Bool true)
 read b l kind.False = own l (value.Bool false)
 read b l kind.Context = own l (value.Context (context_of l.value))
 read b l kind.Continuation = own l (value.Continuation (target_in l))
+read b l kind.Structure = own l (value.Structure (structure_at (target_in l) l.value))
 read b l kind.Aside = slice_index_or b.asides (index_of l.value) (own l value.Signal)
 read b l k = saying l (told k (tag_at l) (port_at (l.position / 2 ^ 31)) l.value l.result (cell_in b.cells l))
 
@@ -302,6 +334,7 @@ IsThere b l kind.True = Unit {0}
 IsThere b l kind.False = Unit {0}
 IsThere b l kind.Context = Unit {0}
 IsThere b l kind.Continuation = Unit {0}
+IsThere b l kind.Structure = Unit {0}
 IsThere b l kind.Aside = index_of l.value < length b.asides
 IsThere b l k = l.to < length b.cells
 
@@ -331,6 +364,7 @@ IsCelled kind.True = ⊥
 IsCelled kind.False = ⊥
 IsCelled kind.Context = ⊥
 IsCelled kind.Continuation = ⊥
+IsCelled kind.Structure = ⊥
 IsCelled kind.Aside = ⊥
 IsCelled k = Unit {0}
 

@@ -9,10 +9,10 @@ ghost use Rattle.id_ops.specs.declared.Fired.TheVariants as firings;
 ghost use Rattle.id_tag.specs.declared.Value.TheVariants as value;
 ghost use Rattle.id_record.specs.declared.step.Verdict.TheVariants.{Went, Failed};
 ghost use Rattle.id_record.specs.declared.line.Kind.TheVariants.{Aside};
-ghost use Rattle.id_record.specs.Lines.{IsPacked, IsWithin, NamedBy, Names, carried_value, context_of, element_at};
-ghost use Rattle.id_record.specs.Lines.{failed, fired_at, handled, high_half, index_of, instr_at, joined, low_half};
-ghost use Rattle.id_record.specs.Lines.{beside, message_at, no_replies, number_in, number_of, own, port_at, reaction_of};
-ghost use Rattle.id_record.specs.Lines.{sender_of, tag_at, target_in, unpacked, went};
+ghost use Rattle.id_record.specs.Lines.{HasNumbers, IsPacked, IsWithin, NamedBy, Names, carried_value, context_of};
+ghost use Rattle.id_record.specs.Lines.{element_at, failed, fired_at, handled, high_half, index_of, instr_at, joined};
+ghost use Rattle.id_record.specs.Lines.{beside, low_half, message_at, no_replies, number_of, number_out, own, port_at};
+ghost use Rattle.id_record.specs.Lines.{reaction_of, sender_of, structure_at, tag_at, target_in, unpacked, went};
 ghost use Rattle.id_record.specs.Events.{tag_of, value_of};
 
 mod celled;
@@ -25,7 +25,7 @@ pub(crate) use celled::{Celled, packed_beside};
 use celled::{payload_told, said};
 use id_graph::Port;
 use id_ops::{Fired, tag_within};
-use id_tag::{Cell, Context, Message, Payload, Sender, Tag, Value};
+use id_tag::{Cell, Context, Message, Payload, Sender, Structure, Tag, Value};
 use id_value::FaultKind;
 use numbers::{
     context_of, element_at, high_half, index_of, instr_at, joined, low_half, place, port_at,
@@ -103,7 +103,8 @@ struct Carried {
 
 /// What the value of a line stands for: of `Int` it is the number, of `Context` its element and serial number, and of
 /// `Aside`, where the whole event stands aside, its index there. `Continuation` stands for the tag that the event
-/// names. The kinds behind it are of events that name a cell, and say all of them but their numbers.
+/// names. Of `Structure` its halves are the bounds, and the event names a tag with the structure's element and serial
+/// number. The kinds behind it are of events that name a cell, and say all of them but their numbers.
 #[derive(Clone, Copy)]
 pub(crate) enum Kind {
     Signal,
@@ -113,6 +114,7 @@ pub(crate) enum Kind {
     Context,
     Continuation,
     Aside,
+    Structure,
     StructureWaits,
     StructureOut,
     StructureOnTrue,
@@ -141,8 +143,9 @@ enum Exit {
 }
 
 /// What the instruction made of the message. A value went out to the only side of its operator, or on a side of a
-/// switch; `Int` stands for the result of the line. `Entered` stands for the context of the tag that the event names,
-/// `Sent` for sending the message's own value to that tag, and `Moved` for sending it on at that tag's iteration.
+/// switch; `Int` stands for the result of the line, and `Own` for the message's own value. `Entered` stands for the
+/// context of the tag that the event names, `Sent` for sending the message's own value to that tag, and `Moved` for
+/// sending it on at that tag's iteration.
 #[derive(Clone, Copy)]
 enum Effect {
     Stuck,
@@ -164,6 +167,9 @@ enum Effect {
     Moved,
     Entered,
     Sent,
+    Own,
+    OwnOnTrue,
+    OwnOnFalse,
 }
 
 /// The event in a line, where it fits in one.
@@ -217,6 +223,7 @@ pub(crate) fn unpack(asides: &[Handled], cells: &[Cell], line: &Line) -> Handled
         Kind::False => own(line, Value::Bool(false)),
         Kind::Context => own(line, Value::Context(context_of(line.value))),
         Kind::Continuation => own(line, Value::Continuation(target_in(line))),
+        Kind::Structure => own(line, Value::Structure(structure_in(line))),
         Kind::Aside => asides[index_of(line.value)],
         _ => said(line, cells[line.to as usize]),
     }
@@ -234,6 +241,7 @@ pub(crate) fn payload_in(asides: &[Handled], cells: &[Cell], line: &Line) -> Pay
         Kind::False => own_payload(line, Value::Bool(false)),
         Kind::Context => own_payload(line, Value::Context(context_of(line.value))),
         Kind::Continuation => own_payload(line, Value::Continuation(target_in(line))),
+        Kind::Structure => own_payload(line, Value::Structure(structure_in(line))),
         Kind::Aside => asides[index_of(line.value)].message.payload,
         _ => payload_told(line, cells[line.to as usize]),
     }
@@ -262,6 +270,19 @@ fn target_in(line: &Line) -> Tag
         },
         iteration: u64::from(high_half(line.result)),
         instr: instr_at(line.to),
+    }
+}
+
+/// The structure that a line carries.
+#[inline(always)]
+fn structure_in(line: &Line) -> Structure
+    ensures { result ≡ structure_at (target_in line.now) line.now.value }
+{
+    Structure {
+        element: element_at(line.to),
+        serial: u64::from(low_half(line.result)),
+        low: i64::from(high_half(line.value).cast_signed()),
+        high: i64::from(low_half(line.value).cast_signed()),
     }
 }
 
@@ -316,29 +337,54 @@ fn target(value: Value, fired: &Fired) -> Tag
     ensures { Names fired.now value result }
 {
     match *fired {
-        Fired::Moved(iteration, _) => Tag {
-            context: Context {
-                element: 0,
-                serial: 0,
-            },
-            iteration,
-            instr: 0,
-        },
+        Fired::Out(sent) => numbered_by(sent),
+        Fired::Side(_, sent) => numbered_by(sent),
+        Fired::Moved(iteration, sent) => moved_by(iteration, sent),
         Fired::Entered(context) => tag_within(context, 0),
         Fired::Sent(tag, _) => tag,
         Fired::Nothing => named_by(value),
+        Fired::Asked { .. } | Fired::Stored { .. } | Fired::Failed(_) => NO_TAG,
+    }
+}
+
+/// A tag of this iteration, with the numbers of the structure that the value is, if it is one.
+#[inline(always)]
+fn moved_by(iteration: u64, value: Value) -> Tag
+    ensures iteration { result.iteration ≡ iteration }
+    ensures numbers { HasNumbers value result }
+{
+    Tag {
+        iteration,
+        ..numbered_by(value)
+    }
+}
+
+/// A tag with the numbers of the structure that the value is, or else any.
+#[inline(always)]
+fn numbered_by(value: Value) -> Tag
+    ensures { HasNumbers value result }
+{
+    match value {
+        Value::Structure(structure) => Tag {
+            context: Context {
+                element: structure.element,
+                serial: structure.serial,
+            },
+            iteration: 0,
+            instr: 0,
+        },
         _ => NO_TAG,
     }
 }
 
-/// The tag that a value names, or else any.
+/// The tag that a value names, or one with the numbers of the structure that it is, or else any.
 #[inline(always)]
 fn named_by(value: Value) -> Tag
     ensures { NamedBy value result }
 {
     match value {
         Value::Continuation(tag) => tag,
-        _ => NO_TAG,
+        _ => numbered_by(value),
     }
 }
 
@@ -421,7 +467,7 @@ fn same_value(a: Value, b: Value) -> bool
 #[inline(always)]
 fn going_out(exit: Exit, value: Value) -> Option<Effect>
     ensures { IfSome result (λ e. (t : Tag) (v : Value) →
-        reaction_of e (number_in value) t v ≡ record { fired = fired_at exit value; verdict = Went }) }
+        reaction_of e (number_out value t) t v ≡ record { fired = fired_at exit value; verdict = Went }) }
 {
     match value {
         Value::Signal => Some(signal_at(exit)),
@@ -493,18 +539,22 @@ fn number(fired: &Fired, to: Tag) -> i64
     ensures { result ≡ number_of fired.now to }
 {
     match *fired {
-        Fired::Out(value) => number_in(value),
-        Fired::Side(_, value) => number_in(value),
+        Fired::Out(value) => number_out(value, to),
+        Fired::Side(_, value) => number_out(value, to),
         _ => joined(to.iteration, to.context.serial),
     }
 }
 
-/// The number that a value is, or 0.
-fn number_in(value: Value) -> i64
-    ensures { result ≡ number_in value }
+/// The number that a value is, or for a structure the iteration and the serial number of the tag, or else 0.
+#[inline(always)]
+fn number_out(value: Value, to: Tag) -> i64
+    requires iteration { to.iteration < 2 ^ 32 }
+    requires serial { to.context.serial < 2 ^ 32 }
+    ensures { result ≡ number_out value to }
 {
     match value {
         Value::Int(number) => number,
+        Value::Structure(_) => joined(to.iteration, to.context.serial),
         _ => 0,
     }
 }
@@ -734,6 +784,9 @@ fn reaction_in(line: &Line, value: Value) -> Reaction
         Effect::Moved => went(Fired::Moved(target_in(line).iteration, value)),
         Effect::Entered => went(Fired::Entered(target_in(line).context)),
         Effect::Sent => went(Fired::Sent(target_in(line), value)),
+        Effect::Own => went(Fired::Out(value)),
+        Effect::OwnOnTrue => went(Fired::Side(true, value)),
+        Effect::OwnOnFalse => went(Fired::Side(false, value)),
     }
 }
 

@@ -1,13 +1,14 @@
-//! The lines of tokens with plain values that sent words, or nothing: most events.
+//! The lines of tokens with plain values that sent words or structures on, or nothing: most events.
 
-ghost use Rattle.std.specs.Prelude.{◌≡◌, ◌<◌, ◌^◌, ◌↔◌, IsTrue, true, Some};
+ghost use Rattle.std.specs.Prelude.{◌≡◌, ◌<◌, ◌^◌, ◌↔◌, ℤ, IsTrue, true, Some};
 ghost use Rattle.id_tag.specs.declared.Tag.{Tag};
 ghost use Rattle.id_tag.specs.declared.Value.{Value};
-ghost use Rattle.id_tag.specs.Plains.{is_word, message_of, whole};
-ghost use Rattle.id_ops.specs.Shots.{IsBrief, IsOwn, fired_of, target_tag};
+ghost use Rattle.id_tag.specs.declared.plain.Plain.{Plain};
+ghost use Rattle.id_tag.specs.Plains.{is_carried, message_of, whole};
+ghost use Rattle.id_ops.specs.Shots.{IsBrief, IsOwn, SendsOwn, fired_of, target_tag};
 ghost use Rattle.id_record.specs.declared.step.Verdict.TheVariants.{Went};
-ghost use Rattle.id_record.specs.Lines.{IsPacked, NamedBy, Names, carried_value, element_at, fired_at, instr_at};
-ghost use Rattle.id_record.specs.Lines.{number_in, number_of, own, reaction_of};
+ghost use Rattle.id_record.specs.Lines.{HasNumbers, IsPacked, NamedBy, Names, carried_value, element_at, fired_at};
+ghost use Rattle.id_record.specs.Lines.{instr_at, joined, number_of, number_out, own, reaction_of};
 ghost use Rattle.id_record.specs.Shootings.{HasLine, IsNarrow, shooting};
 
 use super::numbers::{joined, place, position_at};
@@ -82,11 +83,15 @@ fn carried(value: Plain) -> Carried
             value: joined(u64::from(element), u64::from(serial)),
         },
         Plain::Continuation(_, _, _, _) => of_kind(Kind::Continuation),
+        Plain::Structure(_, _, low, high) => Carried {
+            kind: Kind::Structure,
+            value: joined(u64::from(low.cast_unsigned()), u64::from(high.cast_unsigned())),
+        },
     }
 }
 
 /// The tag that the event names beside that of its message: where the value was sent, which iteration it moved to, or
-/// what a value that waits names.
+/// what a value that waits names; it has the numbers of a structure that moves, goes out or waits.
 #[inline(always)]
 fn named(shot: Shot, token: &PlainToken) -> Target
     requires fits { HasLine token.now }
@@ -95,19 +100,45 @@ fn named(shot: Shot, token: &PlainToken) -> Target
     ensures small { result.instr < 2 ^ 24 }
 {
     match shot {
-        Shot::Moved(iteration, _) => Target {
-            serial: 0,
-            iteration: iteration as u32,
-            instr: 0,
-            element: 0,
-        },
-        Shot::Sent(target, _) => target,
         Shot::Nothing => named_by(token.value),
-        Shot::Out(_) | Shot::Side(_, _) => NOWHERE,
+        Shot::Out(sent) => numbered_by(sent),
+        Shot::Side(_, sent) => numbered_by(sent),
+        Shot::Moved(iteration, sent) => moved_by(iteration as u32, sent),
+        Shot::Sent(target, _) => target,
     }
 }
 
-/// The tag that a value names, or else any.
+/// A tag of this iteration, with the numbers of the structure that the value is, if it is one.
+#[inline(always)]
+fn moved_by(iteration: u32, value: Plain) -> Target
+    ensures iteration { result.iteration ≡ iteration }
+    ensures numbers { HasNumbers (whole value) (target_tag result) }
+    ensures small { result.instr < 2 ^ 24 }
+{
+    Target {
+        iteration,
+        ..numbered_by(value)
+    }
+}
+
+/// A tag with the numbers of the structure that the value is, or else any.
+#[inline(always)]
+fn numbered_by(value: Plain) -> Target
+    ensures numbers { HasNumbers (whole value) (target_tag result) }
+    ensures small { result.instr < 2 ^ 24 }
+{
+    match value {
+        Plain::Structure(element, serial, _, _) => Target {
+            serial,
+            iteration: 0,
+            instr: 0,
+            element,
+        },
+        _ => NOWHERE,
+    }
+}
+
+/// The tag that a value names, or one with the numbers of the structure that it is, or else any.
 #[inline(always)]
 fn named_by(value: Plain) -> Target
     requires { IsNarrow value }
@@ -121,7 +152,7 @@ fn named_by(value: Plain) -> Target
             instr,
             element,
         },
-        _ => NOWHERE,
+        _ => numbered_by(value),
     }
 }
 
@@ -132,7 +163,7 @@ const NOWHERE: Target = Target {
     element: 0,
 };
 
-/// The effect of a shot of words, which sends no value on but the token's own.
+/// The effect of a shot of words and structures, which sends no value on but the token's own.
 #[inline(always)]
 fn shot_effect(event: &Shooting<'_>) -> Effect
     requires own { IsOwn event.now.shot event.now.token.now.value }
@@ -151,11 +182,11 @@ fn shot_effect(event: &Shooting<'_>) -> Effect
     }
 }
 
-/// The effect of a word's going out there.
+/// The effect of a word's going out there, or of the token's own structure's.
 #[inline(always)]
 fn going_out(exit: Exit, sent: Plain) -> Effect
-    requires { is_word sent ≡ true }
-    ensures { (t : Tag) (v : Value) → reaction_of result (number_in (whole sent)) t v
+    requires { is_carried sent ≡ true }
+    ensures { (t : Tag) (v : Plain) → SendsOwn sent v → reaction_of result (number_out (whole sent) t) t (whole v)
         ≡ record { fired = fired_at exit (whole sent); verdict = Went } }
 {
     match sent {
@@ -163,8 +194,22 @@ fn going_out(exit: Exit, sent: Plain) -> Effect
         Plain::Int(_) => int_at(exit),
         Plain::Bool(true) => true_at(exit),
         Plain::Bool(false) => false_at(exit),
-        // No word.
+        Plain::Structure(_, _, _, _) => own_at(exit),
+        // Neither goes out.
         Plain::Context(_, _) | Plain::Continuation(_, _, _, _) => signal_at(exit),
+    }
+}
+
+/// The effect of the message's own value's going out there.
+#[inline(always)]
+fn own_at(exit: Exit) -> Effect
+    ensures { (n : ℤ) (t : Tag) (v : Value) → reaction_of result n t v
+        ≡ record { fired = fired_at exit v; verdict = Went } }
+{
+    match exit {
+        Exit::Only => Effect::Own,
+        Exit::True => Effect::OwnOnTrue,
+        Exit::False => Effect::OwnOnFalse,
     }
 }
 
@@ -174,22 +219,29 @@ fn number(shot: Shot, named: &Target) -> i64
     ensures { result ≡ number_of (fired_of shot) (target_tag named.now) }
 {
     match shot {
-        Shot::Out(sent) | Shot::Side(_, sent) => number_in(sent),
-        Shot::Nothing | Shot::Moved(_, _) | Shot::Sent(_, _) => {
-            joined(u64::from(named.iteration), u64::from(named.serial))
-        }
+        Shot::Out(sent) | Shot::Side(_, sent) => number_out(sent, named),
+        Shot::Nothing | Shot::Moved(_, _) | Shot::Sent(_, _) => numbers_of(named),
     }
 }
 
-/// The number that a plain value is, or 0.
+/// The number that a plain value is, or for a structure the iteration and the serial number of the tag, or else 0.
 #[inline(always)]
-fn number_in(sent: Plain) -> i64
-    ensures { result ≡ number_in (whole sent) }
+fn number_out(sent: Plain, named: &Target) -> i64
+    ensures { result ≡ number_out (whole sent) (target_tag named.now) }
 {
     match sent {
         Plain::Int(number) => number,
+        Plain::Structure(_, _, _, _) => numbers_of(named),
         _ => 0,
     }
+}
+
+/// The iteration and the serial number of a tag, in one.
+#[inline(always)]
+fn numbers_of(named: &Target) -> i64
+    ensures { result ≡ joined named.now.iteration named.now.serial }
+{
+    joined(u64::from(named.iteration), u64::from(named.serial))
 }
 
 /// The event in a line with this value, this effect and this tag beside that of its message.

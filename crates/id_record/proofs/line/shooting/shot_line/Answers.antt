@@ -1,13 +1,13 @@
 -- The event stands in the line that has its value, its numbers and its reaction.
-use Rattle.std.proofs.Common.{◌≡◌, ◌<◌, ◌^◌, ℕ, true, Some, refl, arith}
+use Rattle.std.proofs.Common.{◌≡◌, ◌<◌, ◌^◌, ℕ, true, Some, refl, subst, arith}
 use Rattle.id_tag.specs.declared.Tag.{Tag}
 use Rattle.id_tag.specs.declared.plain.Plain.{Plain}
-use Rattle.id_tag.specs.declared.plain.Plain.TheVariants.{Signal, Int, Bool, Context, Continuation}
-use Rattle.id_tag.specs.Plains.{is_word, whole}
+use Rattle.id_tag.specs.declared.plain.Plain.TheVariants.{Signal, Int, Bool, Context, Continuation, Structure}
+use Rattle.id_tag.specs.Plains.{is_carried, is_word, whole}
 use Rattle.id_ops.specs.declared.shot.Shot.{Shot}
 use Rattle.id_ops.specs.declared.shot.Shot.TheVariants.{Nothing, Out, Side, Moved, Sent}
-use Rattle.id_ops.specs.Shots.{IsBrief, IsOwn, fired_of, target_tag}
-use Rattle.id_record.specs.Lines.{NamedBy, Names}
+use Rattle.id_ops.specs.Shots.{IsBrief, IsOwn, SendsOwn, fired_of, target_tag}
+use Rattle.id_record.specs.Lines.{HasNumbers, NamedBy, Names}
 use Rattle.id_record.specs.Shootings.{shooting}
 use Rattle.id_record.proofs.LinesLemmas.{packed-narrowed}
 use Rattle.id_record.proofs.line.shooting.shot_line.Goals as goal
@@ -19,13 +19,28 @@ named-word (Int n) t word = tt
 named-word (Bool b) t word = tt
 named-word (Context e s) t word = cc
 named-word (Continuation e s k j) t word = cc
+named-word (Structure e s l h) t word = cc
+
+-- a tag that has the numbers of a value that is sent on is named by that
+named-carried : (w : Plain) (t : Tag) → is_carried w ≡ true → HasNumbers (whole w) t → NamedBy (whole w) t
+named-carried Signal t carried numbers = tt
+named-carried (Int n) t carried numbers = tt
+named-carried (Bool b) t carried numbers = tt
+named-carried (Context e s) t carried numbers = tt
+named-carried (Continuation e s k j) t carried numbers = cc
+named-carried (Structure e s l h) t carried numbers = numbers
+
+-- a tag that has the numbers of what goes out is named by the value for which that goes out
+named-out : (w v : Plain) (t : Tag) → SendsOwn w v → HasNumbers (whole w) t → NamedBy (whole v) t
+named-out (Structure e s l h) v t own numbers = subst (λ u. NamedBy (whole u) t) own numbers
+named-out w v t own numbers = named-word v t own
 
 -- the tag that the event names is the one that its value names, if that names one
 named : (s : Shot) (k : ℕ) (v : Plain) (t : Tag) → IsOwn s v → IsBrief k s → Names (fired_of s) (whole v) t → NamedBy (whole v) t
 named Nothing k v t own brief names = names
-named (Out w) k v t own brief names = named-word v t own
-named (Side b w) k v t own brief names = named-word v t own
-named (Moved i w) k v t own brief names = named-word v t (rw (← own) brief.0)
+named (Out w) k v t own brief names = named-out w v t own names
+named (Side b w) k v t own brief names = named-out w v t own names
+named (Moved i w) k v t own brief names = subst (λ u. NamedBy (whole u) t) own (named-carried w t brief.0 names.1)
 named (Sent u w) k v t own brief names = named-word v t (rw (← own) brief.0)
 
 pub returns : goal.returns
