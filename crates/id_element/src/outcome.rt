@@ -15,7 +15,7 @@ ghost use Rattle.id_element.specs.Firings.{IsReaction, firing_of, most_sent, ver
 ghost use Rattle.id_graph.specs.Ports.{two_ports};
 ghost use Rattle.id_match.specs.Waiting.{Store, offer_after, offer_answer, pair_of};
 ghost use Rattle.id_match.specs.declared.Offered.TheVariants.{Pair};
-ghost use Rattle.id_tag.specs.Plains.{is_word, message_of, tag_in, whole};
+ghost use Rattle.id_tag.specs.Plains.{message_of, tag_in, whole};
 ghost use Rattle.id_tag.specs.declared.plain.Plain.{Plain};
 ghost use Rattle.id_graph.specs.declared.dests.Port.TheVariants.{Zero, One as PortOne};
 ghost use Rattle.id_ops.specs.Shots.{IsBrief, IsOwn, target_tag};
@@ -153,17 +153,19 @@ fn met(op: Op, token: &PlainToken, partner: Plain) -> Reacted
     }
 }
 
-/// Whether a shot of operands of which the token's came to port 1 sends that on, or that is a word, or it sends
-/// nothing.
+/// Whether a shot of operands sends the token's own on, where that came to port 1, or a word for a word, or nothing.
 #[inline(always)]
 fn is_own(shot: Shot, token: &PlainToken) -> bool
     ensures { IsTrue result → (v : Plain) → (token.now.port ≡ PortOne → v ≡ token.now.value)
-        → (is_word v ≡ true → IsOwn shot v) → IsOwn shot token.now.value }
+        → IsOwn shot v → IsOwn shot token.now.value }
 {
     match shot {
         Shot::Nothing => true,
-        Shot::Out(_) | Shot::Side(_, _) => token.value.is_word(),
-        Shot::Moved(_, _) | Shot::Sent(_, _) => token.port == Port::One && token.value.is_word(),
+        Shot::Out(sent) => token.value.is_word() && sent.is_word(),
+        Shot::Side(_, sent) => {
+            token.port == Port::One || (token.value.is_word() && sent.is_word())
+        }
+        Shot::Moved(_, _) | Shot::Sent(_, _) => token.port == Port::One,
     }
 }
 

@@ -1,12 +1,12 @@
 -- The record goes on by one event, where the token was handled, and what it sends fits, by what the desk says of its
 -- step.
-use Rattle.std.proofs.Common.{◌≡◌, ap, subst, ◌∙◌}
+use Rattle.std.proofs.Common.{◌≡◌, ◌++◌, ap, refl, subst, ◌∙◌}
 use Rattle.id_valid.specs.Validator.{IsValid}
 use Rattle.id_tag.specs.Plains.{message_of, tag_in}
 use Rattle.id_element.specs.declared.step.Short.TheVariants.{Apart}
 use Rattle.id_element.specs.Fits.{IsFor}
 use Rattle.id_element.specs.Shorts.{IsHandled, step_in}
-use Rattle.id_element.specs.Steps.{state_after, step_of}
+use Rattle.id_element.specs.Steps.{outputs_of, state_after, step_of}
 use Rattle.id_element.specs.Desks.{state_of}
 use Rattle.id_element.specs.Replays.{ElementView}
 use Rattle.id_element.proofs.ShortLemmas.{IsKept-short}
@@ -34,3 +34,25 @@ pub returns-clause-fits : goal.returns-clause-fits
 returns-clause-fits c =
     rw (← ap (λ v. v.graph) c.self.view_is, ← ap (λ v. v.number) c.self.view_is, ← ap (λ v. v.state) c.self.view_is)
     (outputs_fit c.self.inside.desk.log.graph c.self.inside.desk.log.element (state_of c.self.inside.desk) (message_of c.args.token.now) (subst IsValid c.graph-graph.ensures c.graph.ensures.kept) c.self.invariant.replays.waiting c.self.invariant.replays.cells (rw (ap (λ v. v.graph) c.self.view_is) c.requires.fits))
+
+-- the state is the one after the message
+pub returns-clause-state : goal.returns-clause-state
+returns-clause-state c = λ handled.
+    let d = c.self.inside.desk in
+    let m = message_of c.args.token.now in
+    let later = state_after d.log.graph d.log.element (state_of d) m in
+    let graph = c.graph.ensures.value ∙ c.graph-graph.ensures in
+    let after : state_of c.take_plain.new.self ≡ later =
+    c.in_ok-short.ensures.state handled ∙ ap (λ g. state_after g d.log.element (state_of d) m) graph in
+    rw (c.in_ok-short.ensures.number, c.in_ok-short.ensures.graph, after)
+    (subst (λ (v : ElementView). record { number = d.log.element; count = c.self.inside.count; graph = d.log.graph; state = later } ≡ record v { state = state_after v.graph v.number v.state m }) c.self.view_is refl)
+
+-- and the outputs are its outputs
+pub returns-clause-outputs : goal.returns-clause-outputs
+returns-clause-outputs c = λ handled.
+    let d = c.self.inside.desk in
+    let m = message_of c.args.token.now in
+    let before = c.args.outputs.now.messages in
+    c.in_ok-short.ensures.outputs handled
+    ∙ ap (λ g. before ++ outputs_of g d.log.element (state_of d) m) (c.graph.ensures.value ∙ c.graph-graph.ensures)
+    ∙ ap (λ (v : ElementView). before ++ outputs_of v.graph v.number v.state m) c.self.view_is
