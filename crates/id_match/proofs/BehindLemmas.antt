@@ -1,5 +1,6 @@
--- Lemmas on what slots tell of what stands behind them.
-use Rattle.std.proofs.Common.{◌≡◌, ◌≢◌, ℕ, ◌+◌, ◌<◌, Bool, true, false, cond, nat_eq, List, [], ◌∷◌, ◌++◌, length, map, get_or, set, take, Option, Some, None, IsSome, refl, sym, ◌∙◌, ap, subst, arith}
+-- Lemmas on what pairs tell of what stands behind them.
+use Rattle.std.proofs.Common.{◌≡◌, ◌≢◌, ℕ, ◌+◌, ◌<◌, Bool, true, false, cond, nat_eq, List, [], ◌∷◌, ◌++◌, length}
+use Rattle.std.proofs.Common.{map, get_or, set, take, Option, Some, None, IsSome, refl, sym, ◌∙◌, ap, subst, arith}
 use Rattle.std.specs.Map.{lookup}
 use Rattle.std.specs.Option.{option_or}
 use Rattle.std.proofs.lemmas.Bool.Decides.{nat_tests}
@@ -9,12 +10,12 @@ use Rattle.id_tag.specs.Tags.{same_tag}
 use Rattle.id_tag.proofs.TagsLemmas.{same_tag_laws, one_from_same_tag}
 use Rattle.id_match.specs.declared.Entry.{Entry}
 use Rattle.id_match.specs.declared.Half.{Half}
-use Rattle.id_match.specs.declared.front.Slot.{Slot}
+use Rattle.id_match.specs.declared.front.Pair.{Pair}
 use Rattle.id_match.specs.declared.front.Behind.{Behind}
 use Rattle.id_match.specs.declared.front.Behind.TheVariants.{Nothing, One, Many}
-use Rattle.id_match.specs.Front.{empty_slot, place, mark_at, one_more, one_less, IsMarked, MarksSame, OthersSame, half_entry}
+use Rattle.id_match.specs.Front.{empty_pair, place, mark_at, one_more, one_less, IsMarked, MarksSame, OthersSame, half_entry}
 use Rattle.id_match.specs.Waiting.{entry_at}
-use Rattle.id_match.proofs.FrontLemmas.{lookup-append}
+use Rattle.id_match.proofs.FrontLemmas.{lookup-append, apart_places}
 
 one_number : (m n : ℕ) → nat_eq m n ≡ true → m ≡ n
 one_number m n e = grind (arith, nat_tests)
@@ -23,31 +24,31 @@ two_numbers : (m n : ℕ) → nat_eq m n ≡ false → m ≢ n
 two_numbers m n e = λ same. grind (arith, nat_tests)
 
 -- where the same waits behind
-pub halves_kept : (f : List Slot) (es fs : List (Tag × Half)) → ((u : Tag) → lookup (same_tag u) fs ≡ lookup (same_tag u) es) → IsMarked f es → IsMarked f fs
+pub halves_kept : (f : List Pair) (es fs : List (Tag × Half)) → ((u : Tag) → lookup (same_tag u) fs ≡ lookup (same_tag u) es) → IsMarked f es → IsMarked f fs
 halves_kept f es fs same marked = record {
   nothing = λ t some e. same t ∙ marked.nothing t some e;
   one = λ t u some e at x y. marked.one t u some e at (subst IsSome (same t) x) (subst IsSome (same u) y);
 }
 
-module _ (f : List Slot) (at : ℕ) (within : at < length f) (x : Slot) where
+module _ (f : List Pair) (at : ℕ) (within : at < length f) (x : Pair) where
   mark_by : (u : Tag) (b : Bool) → nat_eq (place u (length f)) at ≡ b
-      → (get_or (set f at x) (place u (length f)) empty_slot).behind ≡ cond b x.behind (mark_at f u)
+      → (get_or (set f at x) (place u (length f)) empty_pair).first.behind ≡ cond b x.first.behind (mark_at f u)
   mark_by u true e =
-      ap (λ k. (get_or (set f at x) k empty_slot).behind) (one_number _ _ e)
-      ∙ ap (λ y. y.behind) (get_or-set_same f at x empty_slot within)
-  mark_by u false e = ap (λ y. y.behind) (get_or-set_other f at (place u (length f)) x empty_slot (two_numbers _ _ e))
+      ap (λ k. (get_or (set f at x) k empty_pair).first.behind) (one_number _ _ e)
+      ∙ ap (λ y. y.first.behind) (get_or-set_same f at x empty_pair within)
+  mark_by u false e = ap (λ y. y.first.behind) (get_or-set_other f at (place u (length f)) x empty_pair (two_numbers _ _ e))
 
-  -- what slots tell where one was written
-  pub mark_set : (u : Tag) (b : Bool) → nat_eq (place u (length f)) at ≡ b → mark_at (set f at x) u ≡ cond b x.behind (mark_at f u)
-  mark_set u b e = ap (λ n. (get_or (set f at x) (place u n) empty_slot).behind) (length-set f at x) ∙ mark_by u b e
+  -- what pairs tell where one was written
+  pub mark_set : (u : Tag) (b : Bool) → nat_eq (place u (length f)) at ≡ b → mark_at (set f at x) u ≡ cond b x.first.behind (mark_at f u)
+  mark_set u b e = ap (λ n. (get_or (set f at x) (place u n) empty_pair).first.behind) (length-set f at x) ∙ mark_by u b e
 
-  same_by : x.behind ≡ (get_or f at empty_slot).behind → (u : Tag) (b : Bool) → nat_eq (place u (length f)) at ≡ b
-      → cond b x.behind (mark_at f u) ≡ mark_at f u
-  same_by own u true e = own ∙ ap (λ k. (get_or f k empty_slot).behind) (sym (one_number _ _ e))
+  same_by : x.first.behind ≡ (get_or f at empty_pair).first.behind → (u : Tag) (b : Bool) → nat_eq (place u (length f)) at ≡ b
+      → cond b x.first.behind (mark_at f u) ≡ mark_at f u
+  same_by own u true e = own ∙ ap (λ k. (get_or f k empty_pair).first.behind) (sym (one_number _ _ e))
   same_by own u false e = refl
 
-  -- a slot is written that tells the same as before
-  pub marks_set : x.behind ≡ (get_or f at empty_slot).behind → MarksSame f (set f at x)
+  -- a pair is written that tells the same as before
+  pub marks_set : x.first.behind ≡ (get_or f at empty_pair).first.behind → MarksSame f (set f at x)
   marks_set own = record {
     len = length-set f at x;
     at = λ u. mark_set u (nat_eq (place u (length f)) at) refl ∙ same_by own u (nat_eq (place u (length f)) at) refl;
@@ -87,23 +88,15 @@ none_by : (o : Option Half) → (IsSome o → ⊥) → o ≡ None
 none_by None not = refl
 none_by (Some h) not = absurd (not refl)
 
--- tags of two places are two
-apart_by : (t u : Tag) (n : ℕ) → place u n ≢ place t n → (b : Bool) → same_tag t u ≡ b → b ≡ false
-apart_by t u n away true e = absurd (away (ap (λ w. place w n) (sym (one_from_same_tag t u e))))
-apart_by t u n away false e = refl
-
-apart_places : (t u : Tag) (n : ℕ) → place u n ≢ place t n → same_tag t u ≡ false
-apart_places t u n away = apart_by t u n away (same_tag t u) refl
-
-module _ (f : List Slot) (t : Tag) (some : 0 < length f) (within : place t (length f) < length f) (x : Slot) (es fs : List (Tag × Half))
+module _ (f : List Pair) (t : Tag) (some : 0 < length f) (within : place t (length f) < length f) (x : Pair) (es fs : List (Tag × Half))
     (marked : IsMarked f es) (others : OthersSame t es fs) where
   abbrev here : Tag → Bool
   here u = nat_eq (place u (length f)) (place t (length f))
 
-  abbrev after : List Slot
+  abbrev after : List Pair
   after = set f (place t (length f)) x
 
-  told_here : (u : Tag) → here u ≡ true → mark_at after u ≡ x.behind
+  told_here : (u : Tag) → here u ≡ true → mark_at after u ≡ x.first.behind
   told_here u e = mark_set f (place t (length f)) within x u true e
 
   told_there : (u : Tag) → here u ≡ false → mark_at after u ≡ mark_at f u
@@ -113,7 +106,7 @@ module _ (f : List Slot) (t : Tag) (some : 0 < length f) (within : place t (leng
   there_same u e = others u (apart_places t u (length f) (two_numbers _ _ e))
 
   one_mark : (u : Tag) → here u ≡ true → mark_at f u ≡ mark_at f t
-  one_mark u e = ap (λ k. (get_or f k empty_slot).behind) (one_number _ _ e)
+  one_mark u e = ap (λ k. (get_or f k empty_pair).first.behind) (one_number _ _ e)
 
   nothing_there : (u : Tag) → here u ≡ false → mark_at after u ≡ Nothing → lookup (same_tag u) fs ≡ None
   nothing_there u e is = there_same u e ∙ marked.nothing u some (sym (told_there u e) ∙ is)
@@ -126,7 +119,7 @@ module _ (f : List Slot) (t : Tag) (some : 0 < length f) (within : place t (leng
   one_there u w e is at a b =
       marked.one u w some (sym (told_there u e) ∙ is) at (subst IsSome (there_same u e) a) (subst IsSome (there_same w (same_there u w e at)) b)
 
-  module _ (tells : x.behind ≡ one_more (mark_at f t)) where
+  module _ (tells : x.first.behind ≡ one_more (mark_at f t)) where
     nothing_more : (u : Tag) (b : Bool) → here u ≡ b → mark_at after u ≡ Nothing → lookup (same_tag u) fs ≡ None
     nothing_more u true e is = absurd (more_not_nothing (mark_at f t) (sym tells ∙ sym (told_here u e) ∙ is))
     nothing_more u false e is = nothing_there u e is
@@ -153,7 +146,7 @@ module _ (f : List Slot) (t : Tag) (some : 0 < length f) (within : place t (leng
           one_more_by u w (here u) refl is (subst (λ n. place w n ≡ place u n) (length-set f (place t (length f)) x) at) a b;
     }
 
-  module _ (tells : x.behind ≡ one_less (mark_at f t)) (was : IsSome (lookup (same_tag t) es)) (gone : lookup (same_tag t) fs ≡ None) where
+  module _ (tells : x.first.behind ≡ one_less (mark_at f t)) (was : IsSome (lookup (same_tag t) es)) (gone : lookup (same_tag t) fs ≡ None) where
     was_one : mark_at after t ≡ Nothing → mark_at f t ≡ One
     was_one is = not_many (mark_at f t) (sym tells ∙ sym (told_here t (nat_same (place t (length f)))) ∙ is)
         (λ none. none_not_some _ (marked.nothing t some none) was)
@@ -186,7 +179,7 @@ half_back [] = refl
 half_back (e ∷ es) = ap (λ l. e ∷ l) (half_back es)
 
 -- what was listed is what waits behind
-pub marked_back : (f : List Slot) (es : List (Tag × Half)) (l : List Entry) → l ≡ map entry_at es → IsMarked f (map half_entry l) → IsMarked f es
+pub marked_back : (f : List Pair) (es : List (Tag × Half)) (l : List Entry) → l ≡ map entry_at es → IsMarked f (map half_entry l) → IsMarked f es
 marked_back f es l is marked = subst (IsMarked f) (ap (map half_entry) is ∙ half_back es) marked
 
 map_append : (k l : List Entry) → map half_entry (k ++ l) ≡ map half_entry k ++ map half_entry l
@@ -209,5 +202,5 @@ others_more l i d inside u apart =
     ∙ or_nothing (lookup (same_tag u) (map half_entry (take i l)))
 
 -- before the first entry nothing is behind
-pub none_marked : (f : List Slot) → IsMarked f []
+pub none_marked : (f : List Pair) → IsMarked f []
 none_marked f = record { nothing = λ t some e. refl; one = λ t u some e at a b. absurd (none_not_some _ refl a) }

@@ -1,11 +1,14 @@
 -- Lemmas on specs/Front.antt.
-use Rattle.std.proofs.Common.{◌≡◌, ◌≢◌, ℕ, zero, suc, ◌+◌, ◌<◌, Bool, true, false, cond, nat_eq, List, [], ◌∷◌, ◌++◌, length, length-append, map, IsTrue, get_or, set, take, Option, Some, None, is_some, IsSome, IfSome, Result, Ok, Err, IfOk, OnOk, OnErr, refl, sym, ◌∙◌, ap, subst, arith}
+use Rattle.std.proofs.Common.{◌≡◌, ◌≢◌, ℕ, zero, suc, ◌+◌, ◌<◌, Bool, true, false, cond, nat_eq, List, [], ◌∷◌, ◌++◌}
+use Rattle.std.proofs.Common.{length, length-append, map, get_or, set, take, replicate, Option, Some, None, is_some}
+use Rattle.std.proofs.Common.{IsSome, IfSome, Result, Ok, Err, IfOk, OnOk, OnErr, refl, sym, ◌∙◌, ap, subst, arith}
 use Rattle.std.specs.FinMap.{get, from_entries, same_map}
-use Rattle.std.specs.List.{cons_option, AllByRecursion, IsDistinct}
+use Rattle.std.specs.List.{cons_option, filter_map, AllByRecursion, IsDistinct}
 use Rattle.std.specs.Map.{lookup, keys_of}
 use Rattle.std.specs.Option.{option_or, option_map}
 use Rattle.std.proofs.lemmas.Bool.Decides.{nat_tests}
-use Rattle.std.proofs.lemmas.List.{append-nil, take_more, length-set, get_or-set_same, get_or-set_other}
+use Rattle.std.proofs.lemmas.List.{append-nil, append_assoc, map-append, take_more, length-set, get_or-set_same}
+use Rattle.std.proofs.lemmas.List.{get_or-set_other, get_or-replicate, length-replicate}
 use Rattle.std.proofs.lemmas.List.Elements.{filter_map-append}
 use Rattle.std.proofs.lemmas.Map.Keys.{IsDistinct-cons}
 use Rattle.std.proofs.lemmas.Nat.{and_le_r}
@@ -17,8 +20,13 @@ use Rattle.id_tag.proofs.TagsLemmas.{tags_total, exact_tags, same_tag_laws, one_
 use Rattle.id_match.specs.declared.Entry.{Entry}
 use Rattle.id_match.specs.declared.Half.{Half}
 use Rattle.id_match.specs.declared.Offered.{Offered}
+use Rattle.id_match.specs.declared.front.Pair.{Pair}
 use Rattle.id_match.specs.declared.front.Slot.{Slot}
-use Rattle.id_match.specs.Front.{slot_half, slot_tag, slot_entry, held, empty_slot, place_of, place, front_entries, front_half, IsPlaced, IsKept, Puts, Meets, MarksSame, HoldsSame, IsMarked, all_entries}
+use Rattle.id_match.specs.declared.front.Behind.{Behind}
+use Rattle.id_match.specs.declared.front.Behind.TheVariants.{Nothing, One, Many}
+use Rattle.id_match.specs.Front.{mark_at, slot_half, slot_tag, slot_entry, held, pair_half, pair_entries, empty_pair}
+use Rattle.id_match.specs.Front.{place_of, place, front_entries, front_half, IsPlaced, IsSingle, IsKept, Puts, PutsIn}
+use Rattle.id_match.specs.Front.{Meets, MeetsIn, MarksSame, HoldsSame, IsMarked, all_entries}
 use Rattle.id_match.specs.Halves.{answer_at, half_after}
 use Rattle.id_match.specs.Ports.{same_port}
 use Rattle.id_match.specs.declared.Offered.TheVariants.{Kept, Taken}
@@ -72,67 +80,218 @@ held_by s t false e h is = cc
 pub tag_from_held : (s : Slot) (t : Tag) (h : Half) → held s t ≡ Some h → slot_tag s ≡ t
 tag_from_held s t h is = held_by s t (same_tag t (slot_tag s)) refl h is
 
+-- ---- a pair
+
+pub gone : (o : Option Half) (h : Half) (p : Port) (v : Value) → o ≡ Some h → same_port h.port p ≡ false → half_after o p v ≡ None
+gone o h p v e apart = ap (λ q. half_after q p v) e ∙ ap (λ b. cond b (Some h) None) apart
+
+not_none : (o : Option Half) → o ≡ None → IsSome o → ⊥
+not_none None e some = cc
+not_none (Some h) e some = cc
+
+some_of : (o : Option Half) (h : Half) → o ≡ Some h → IsSome o
+some_of None h e = cc
+some_of (Some g) h e = refl
+
+pub none_from_test : (o : Option Half) → is_some o ≡ false → o ≡ None
+none_from_test None e = refl
+none_from_test (Some h) e = cc
+
+pub some_from_test : (o : Option Half) → is_some o ≡ true → IsSome o
+some_from_test None e = cc
+some_from_test (Some h) e = refl
+
+-- a value of t, or none, comes into the first slot, and the second has none under t
+module _ (p : Pair) (t : Tag) (x : Slot) (was : IsFor t p.first) (is : IsFor t x) (none : held p.second t ≡ None) where
+  first_single : (u : Tag) (b : Bool) → same_tag t u ≡ b → IsSome (held x u) → held p.second u ≡ None
+  first_single u true e some = subst (λ w. held p.second w ≡ None) (one_from_same_tag t u e) none
+  first_single u false e some = absurd (not_none _ (is u e) some)
+
+  first_under : (u : Tag) (b : Bool) → same_tag t u ≡ b → option_or (held x u) (held p.second u) ≡ cond b (held x t) (pair_half p u)
+  first_under u true e =
+      subst (λ w. option_or (held x w) (held p.second w) ≡ held x t) (one_from_same_tag t u e)
+      (ap (option_or (held x t)) none ∙ or_none (held x t))
+  first_under u false e = ap (λ o. option_or o (held p.second u)) (is u e ∙ sym (was u e))
+
+  pub puts_first : PutsIn p (record { first = x; second = p.second }) t (held x t)
+  puts_first = record { single = λ _ u some. first_single u (same_tag t u) refl some; under = λ u. first_under u (same_tag t u) refl }
+
+-- or into the second
+module _ (p : Pair) (t : Tag) (x : Slot) (was : IsFor t p.second) (is : IsFor t x) (none : held p.first t ≡ None) where
+  second_single : (u : Tag) (b : Bool) → same_tag t u ≡ b → IsSome (held p.first u) → held x u ≡ None
+  second_single u true e some = absurd (not_none _ (subst (λ w. held p.first w ≡ None) (one_from_same_tag t u e) none) some)
+  second_single u false e some = is u e
+
+  second_under : (u : Tag) (b : Bool) → same_tag t u ≡ b → option_or (held p.first u) (held x u) ≡ cond b (held x t) (pair_half p u)
+  second_under u true e =
+      subst (λ w. option_or (held p.first w) (held x w) ≡ held x t) (one_from_same_tag t u e) (ap (λ o. option_or o (held x t)) none)
+  second_under u false e = ap (option_or (held p.first u)) (is u e ∙ sym (was u e))
+
+  pub puts_second : PutsIn p (record { first = p.first; second = x }) t (held x t)
+  puts_second = record { single = λ _ u some. second_single u (same_tag t u) refl some; under = λ u. second_under u (same_tag t u) refl }
+
+or_first : (a b : Option Half) → option_or a b ≡ None → a ≡ None
+or_first None b e = refl
+or_first (Some h) b e = cc
+
+or_second : (a b : Option Half) → option_or a b ≡ None → b ≡ None
+or_second None b e = e
+or_second (Some h) b e = cc
+
+or_some : (a b : Option Half) → IsSome a → option_or a b ≡ a
+or_some None b some = cc
+or_some (Some h) b some = refl
+
+some_tag : (s : Slot) (t : Tag) (o : Option Half) → held s t ≡ o → IsSome o → slot_tag s ≡ t
+some_tag s t None e some = cc
+some_tag s t (Some h) e some = tag_from_held s t h e
+
+unchanged : (b : Bool) (o : Option Half) → (b ≡ true → o ≡ None) → o ≡ cond b None o
+unchanged true o none = none refl
+unchanged false o none = refl
+
+-- a slot takes the place of the first one, or of the second, where that keeps nothing
+pub put_first : (p : Pair) (s x : Slot) → slot_half p.first ≡ None → slot_tag x ≡ slot_tag s → slot_half x ≡ slot_half s → pair_half p (slot_tag s) ≡ None
+    → PutsIn p (record { first = x; second = p.second }) (slot_tag s) (slot_half s)
+put_first p s x empty own half none =
+    subst (PutsIn p (record { first = x; second = p.second }) (slot_tag s)) (subst (λ u. held x u ≡ slot_half x) own (held_own x) ∙ half)
+    (puts_first p (slot_tag s) x (for_empty p.first empty (slot_tag s)) (for_tag x (slot_tag s) own) (or_second _ _ none))
+
+pub put_second : (p : Pair) (s : Slot) → slot_half p.second ≡ None → pair_half p (slot_tag s) ≡ None
+    → PutsIn p (record { first = p.first; second = s }) (slot_tag s) (slot_half s)
+put_second p s empty none =
+    subst (PutsIn p (record { first = p.first; second = s }) (slot_tag s)) (held_own s)
+    (puts_second p (slot_tag s) s (for_empty p.second empty (slot_tag s)) (for_own s) (or_first _ _ none))
+
+module _ (p : Pair) (t : Tag) where
+  -- the first slot's value leaves, or the second's, or there is none
+  pub clear_first : (x : Slot) → IsSingle p → IsSome (held p.first t) → slot_half x ≡ None → PutsIn p (record { first = x; second = p.second }) t None
+  clear_first x single some empty =
+      subst (PutsIn p (record { first = x; second = p.second }) t) (held_none x empty t)
+      (puts_first p t x (for_tag p.first t (some_tag p.first t _ refl some)) (for_empty x empty t) (single t some))
+
+  pub clear_second : (x : Slot) → held p.first t ≡ None → IsSome (held p.second t) → slot_half x ≡ None
+      → PutsIn p (record { first = p.first; second = x }) t None
+  clear_second x none some empty =
+      subst (PutsIn p (record { first = p.first; second = x }) t) (held_none x empty t)
+      (puts_second p t x (for_tag p.second t (some_tag p.second t _ refl some)) (for_empty x empty t) none)
+
+  pub half_none : held p.first t ≡ None → held p.second t ≡ None → pair_half p t ≡ None
+  half_none first second = ap (λ o. option_or o (held p.second t)) first ∙ second
+
+  pub clear_none : held p.first t ≡ None → held p.second t ≡ None → PutsIn p p t None
+  clear_none first second = record {
+    single = λ single. single;
+    under = λ u. unchanged (same_tag t u) (pair_half p u)
+        (λ e. subst (λ w. pair_half p w ≡ None) (one_from_same_tag t u e) (half_none first second));
+  }
+
+  module _ (port : Port) (v : Value) where
+    -- the token meets the value of the first slot, or of the second, or is put
+    pub meet_first : (x : Slot) (a : Offered) → IsSingle p → IsSome (held p.first t) → a ≡ answer_at (held p.first t) port v
+        → half_after (held p.first t) port v ≡ None → slot_half x ≡ None → MeetsIn p (record { first = x; second = p.second }) t port v a
+    meet_first x a single some answer leaves empty =
+        let is : pair_half p t ≡ held p.first t = or_some _ _ some in record {
+          answer = answer ∙ ap (λ o. answer_at o port v) (sym is);
+          after = subst (PutsIn p (record { first = x; second = p.second }) t) (sym (ap (λ o. half_after o port v) is ∙ leaves))
+              (clear_first x single some empty);
+        }
+
+    pub meet_second : (x : Slot) (a : Offered) → held p.first t ≡ None → IsSome (held p.second t) → a ≡ answer_at (held p.second t) port v
+        → half_after (held p.second t) port v ≡ None → slot_half x ≡ None → MeetsIn p (record { first = p.first; second = x }) t port v a
+    meet_second x a none some answer leaves empty =
+        let is : pair_half p t ≡ held p.second t = ap (λ o. option_or o (held p.second t)) none in record {
+          answer = answer ∙ ap (λ o. answer_at o port v) (sym is);
+          after = subst (PutsIn p (record { first = p.first; second = x }) t) (sym (ap (λ o. half_after o port v) is ∙ leaves))
+              (clear_second x none some empty);
+        }
+
+    pub meet_put : (q : Pair) (x : Slot) → slot_tag x ≡ t → slot_half x ≡ Some (record { port = port; value = v }) → pair_half p t ≡ None
+        → (pair_half p (slot_tag x) ≡ None → PutsIn p q (slot_tag x) (slot_half x)) → MeetsIn p q t port v Kept
+    meet_put q x own half none puts =
+        let here : PutsIn p q t (Some (record { port = port; value = v })) =
+        subst (PutsIn p q t) half (subst (λ u. PutsIn p q u (slot_half x)) own (puts (ap (pair_half p) own ∙ none))) in record {
+          answer = sym (ap (λ o. answer_at o port v) none);
+          after = subst (PutsIn p q t) (sym (ap (λ o. half_after o port v) none)) here;
+        }
+
 -- ---- a write to the place of a tag
+
+-- tags of two places are two
+apart_by_place : (t u : Tag) (n : ℕ) → place u n ≢ place t n → (b : Bool) → same_tag t u ≡ b → b ≡ false
+apart_by_place t u n away true e = absurd (away (ap (λ w. place w n) (sym (one_from_same_tag t u e))))
+apart_by_place t u n away false e = refl
+
+pub apart_places : (t u : Tag) (n : ℕ) → place u n ≢ place t n → same_tag t u ≡ false
+apart_places t u n away = apart_by_place t u n away (same_tag t u) refl
 
 pub place_below : (t : Tag) (n : ℕ) → 0 < n → place t n < n
 unfolding place_of
 place_below t n some = omega (arith, and_le_r)
 
-module _ (f : List Slot) (t : Tag) (s : Slot) (some : 0 < length f) (was : IsFor t (get_or f (place t (length f)) empty_slot)) (is : IsFor t s) where
+module _ (f : List Pair) (t : Tag) (q : Pair) (o : Option Half) (some : 0 < length f)
+    (puts : PutsIn (get_or f (place t (length f)) empty_pair) q t o) where
   abbrev at : ℕ
   at = place t (length f)
 
   within : place t (length f) < length f
   within = place_below t (length f) some
 
-  placed_here : (u : Tag) (b : Bool) → same_tag t u ≡ b → place u (length f) ≢ at → held s u ≡ None
-  placed_here u true e apart = absurd (apart (ap (λ w. place w (length f)) (sym (one_from_same_tag t u e))))
-  placed_here u false e apart = is u e
+  placed_here : (u : Tag) → place u (length f) ≢ at → IsPlaced f → pair_half q u ≡ None
+  placed_here u away placed =
+      puts.under u ∙ ap (λ b. cond b o (pair_half (get_or f at empty_pair) u)) (apart_places t u (length f) away)
+      ∙ placed.places at empty_pair u within away
 
-  placed_by : (i : ℕ) (d : Slot) (u : Tag) (b : Bool) → nat_eq i at ≡ b → i < length f → place u (length f) ≢ i → IsPlaced f
-      → held (get_or (set f at s) i d) u ≡ None
+  placed_by : (i : ℕ) (d : Pair) (u : Tag) (b : Bool) → nat_eq i at ≡ b → i < length f → place u (length f) ≢ i → IsPlaced f
+      → pair_half (get_or (set f at q) i d) u ≡ None
   placed_by i d u true e inside apart placed =
       let same : i ≡ at = numbers_one i at e in
-      ap (λ k. held (get_or (set f at s) k d) u) same
-      ∙ ap (λ x. held x u) (get_or-set_same f at s d within)
-      ∙ placed_here u (same_tag t u) refl (subst (λ k. place u (length f) ≢ k) same apart)
+      ap (λ k. pair_half (get_or (set f at q) k d) u) same
+      ∙ ap (λ x. pair_half x u) (get_or-set_same f at q d within)
+      ∙ placed_here u (subst (λ k. place u (length f) ≢ k) same apart) placed
   placed_by i d u false e inside apart placed =
-      ap (λ x. held x u) (get_or-set_other f at i s d (numbers_apart i at e)) ∙ placed i d u inside apart
+      ap (λ x. pair_half x u) (get_or-set_other f at i q d (numbers_apart i at e)) ∙ placed.places i d u inside apart
 
-  elsewhere : (u : Tag) (b : Bool) → nat_eq (place u (length f)) at ≡ b → same_tag t u ≡ false
-      → held (get_or (set f at s) (place u (length f)) empty_slot) u ≡ front_half f u
-  elsewhere u true e apart =
-      let same : place u (length f) ≡ at = numbers_one _ _ e in
-      ap (λ k. held (get_or (set f at s) k empty_slot) u) same
-      ∙ ap (λ x. held x u) (get_or-set_same f at s empty_slot within)
-      ∙ is u apart ∙ sym (was u apart) ∙ ap (λ k. held (get_or f k empty_slot) u) (sym same)
-  elsewhere u false e apart = ap (λ x. held x u) (get_or-set_other f at (place u (length f)) s empty_slot (numbers_apart _ _ e))
+  single_by : (i : ℕ) (d : Pair) (b : Bool) → nat_eq i at ≡ b → i < length f → IsPlaced f → IsSingle (get_or (set f at q) i d)
+  single_by i d true e inside placed =
+      let same : i ≡ at = numbers_one i at e in
+      let is : get_or (set f at q) i d ≡ q = ap (λ k. get_or (set f at q) k d) same ∙ get_or-set_same f at q d within in
+      subst IsSingle (sym is) (puts.single (placed.single at empty_pair within))
+  single_by i d false e inside placed =
+      subst IsSingle (sym (get_or-set_other f at i q d (numbers_apart i at e))) (placed.single i d inside)
 
-  under_by : (u : Tag) (b : Bool) → same_tag t u ≡ b
-      → held (get_or (set f at s) (place u (length f)) empty_slot) u ≡ cond b (held s t) (front_half f u)
+  under_by : (u : Tag) (b : Bool) → nat_eq (place u (length f)) at ≡ b
+      → pair_half (get_or (set f at q) (place u (length f)) empty_pair) u ≡ cond (same_tag t u) o (front_half f u)
   under_by u true e =
-      subst (λ w. held (get_or (set f at s) (place w (length f)) empty_slot) w ≡ held s t) (one_from_same_tag t u e)
-      (ap (λ x. held x t) (get_or-set_same f at s empty_slot within))
-  under_by u false e = elsewhere u (nat_eq (place u (length f)) at) refl e
+      let same : place u (length f) ≡ at = numbers_one _ _ e in
+      ap (λ k. pair_half (get_or (set f at q) k empty_pair) u) same
+      ∙ ap (λ x. pair_half x u) (get_or-set_same f at q empty_pair within)
+      ∙ puts.under u ∙ ap (λ k. cond (same_tag t u) o (pair_half (get_or f k empty_pair) u)) (sym same)
+  under_by u false e =
+      ap (λ x. pair_half x u) (get_or-set_other f at (place u (length f)) q empty_pair (numbers_apart _ _ e))
+      ∙ sym (ap (λ b. cond b o (front_half f u)) (apart_places t u (length f) (numbers_apart _ _ e)))
 
-  -- what a slot's write brings
-  pub puts_set : Puts f (set f (place t (length f)) s) t (held s t)
+  -- what a pair's write brings
+  pub puts_set : Puts f (set f (place t (length f)) q) t o
   puts_set = record {
-    placed = λ placed i d u inside apart.
-        placed_by i d u (nat_eq i at) refl (subst (λ n. i < n) (length-set f at s) inside)
-        (subst (λ n. place u n ≢ i) (length-set f at s) apart) placed;
+    placed = λ placed. record {
+      places = λ i d u inside apart.
+          placed_by i d u (nat_eq i at) refl (subst (λ n. i < n) (length-set f at q) inside)
+          (subst (λ n. place u n ≢ i) (length-set f at q) apart) placed;
+      single = λ i d inside. single_by i d (nat_eq i at) refl (subst (λ n. i < n) (length-set f at q) inside) placed;
+    };
     under = λ u.
-        ap (λ n. held (get_or (set f at s) (place u n) empty_slot) u) (length-set f at s)
-        ∙ under_by u (same_tag t u) refl;
+        ap (λ n. pair_half (get_or (set f at q) (place u n) empty_pair) u) (length-set f at q)
+        ∙ under_by u (nat_eq (place u (length f)) at) refl;
   }
 
-same_under : (f : List Slot) (t : Tag) (o : Option Half) → front_half f t ≡ o → (u : Tag) (b : Bool) → same_tag t u ≡ b
+same_under : (f : List Pair) (t : Tag) (o : Option Half) → front_half f t ≡ o → (u : Tag) (b : Bool) → same_tag t u ≡ b
     → front_half f u ≡ cond b o (front_half f u)
 same_under f t o e u true same = ap (front_half f) (sym (one_from_same_tag t u same)) ∙ e
 same_under f t o e u false same = refl
 
 -- where what is put is there already
-pub puts_same : (f : List Slot) (t : Tag) (o : Option Half) → front_half f t ≡ o → Puts f f t o
+pub puts_same : (f : List Pair) (t : Tag) (o : Option Half) → front_half f t ≡ o → Puts f f t o
 puts_same f t o e = record {
   placed = λ p. p;
   under = λ u. same_under f t o e u (same_tag t u) refl;
@@ -150,42 +309,54 @@ lookup-append t [] fs = refl
 lookup-append t (e ∷ es) fs =
     ap (cond (same_tag t e.0) (Some e.1)) (lookup-append t es fs) ∙ one_of (same_tag t e.0) e.1 _ _
 
-lookup_nowhere : (f : List Slot) (t : Tag) → ((i : ℕ) → i < length f → held (get_or f i empty_slot) t ≡ None)
+lookup_pair : (t : Tag) (p : Pair) → lookup (same_tag t) (pair_entries p) ≡ pair_half p t
+lookup_pair t p =
+    entry_first t (slot_tag p.first) (slot_half p.first) (cons_option (slot_entry p.second) [])
+    ∙ ap (option_or (held p.first t)) (entry_first t (slot_tag p.second) (slot_half p.second) [] ∙ or_none (held p.second t))
+
+pair_first : (t : Tag) (p : Pair) (es : List (Tag × Half))
+    → lookup (same_tag t) (pair_entries p ++ es) ≡ option_or (pair_half p t) (lookup (same_tag t) es)
+pair_first t p es = lookup-append t (pair_entries p) es ∙ ap (λ o. option_or o (lookup (same_tag t) es)) (lookup_pair t p)
+
+lookup_nowhere : (f : List Pair) (t : Tag) → ((i : ℕ) → i < length f → pair_half (get_or f i empty_pair) t ≡ None)
     → lookup (same_tag t) (front_entries f) ≡ None
 lookup_nowhere [] t none = refl
-lookup_nowhere (s ∷ f) t none =
-    entry_first t (slot_tag s) (slot_half s) (front_entries f)
+lookup_nowhere (p ∷ f) t none =
+    pair_first t p (front_entries f)
     ∙ ap (λ o. option_or o (lookup (same_tag t) (front_entries f))) (none zero (omega arith))
     ∙ lookup_nowhere f t (λ i inside. none (suc i) (omega arith))
 
-lookup_one : (f : List Slot) (j : ℕ) (t : Tag) → j < length f
-    → ((i : ℕ) → i < length f → j ≢ i → held (get_or f i empty_slot) t ≡ None)
-    → lookup (same_tag t) (front_entries f) ≡ held (get_or f j empty_slot) t
+lookup_one : (f : List Pair) (j : ℕ) (t : Tag) → j < length f
+    → ((i : ℕ) → i < length f → j ≢ i → pair_half (get_or f i empty_pair) t ≡ None)
+    → lookup (same_tag t) (front_entries f) ≡ pair_half (get_or f j empty_pair) t
 lookup_one [] j t inside others = absurd (omega arith)
-lookup_one (s ∷ f) zero t inside others =
-    entry_first t (slot_tag s) (slot_half s) (front_entries f)
-    ∙ ap (option_or (held s t)) (lookup_nowhere f t (λ i within. others (suc i) (omega arith) (λ e. absurd (omega arith))))
-    ∙ or_none (held s t)
-lookup_one (s ∷ f) (suc j) t inside others =
-    entry_first t (slot_tag s) (slot_half s) (front_entries f)
+lookup_one (p ∷ f) zero t inside others =
+    pair_first t p (front_entries f)
+    ∙ ap (option_or (pair_half p t)) (lookup_nowhere f t (λ i within. others (suc i) (omega arith) (λ e. absurd (omega arith))))
+    ∙ or_none (pair_half p t)
+lookup_one (p ∷ f) (suc j) t inside others =
+    pair_first t p (front_entries f)
     ∙ ap (λ o. option_or o (lookup (same_tag t) (front_entries f))) (others zero (omega arith) (λ e. absurd (omega arith)))
     ∙ lookup_one f j t (omega arith) (λ i within apart. others (suc i) (omega arith) (λ e. apart (omega arith)))
 
--- what the slots hold under a tag is what its one slot holds
-pub lookup_front : (f : List Slot) → IsPlaced f → (t : Tag) → lookup (same_tag t) (front_entries f) ≡ front_half f t
-lookup_front [] placed t = sym (held_none empty_slot refl t)
-lookup_front (s ∷ f) placed t =
-    lookup_one (s ∷ f) (place t (length (s ∷ f))) t (place_below t _ (omega arith)) (λ i inside apart. placed i empty_slot t inside apart)
+none_pair : (t : Tag) → pair_half empty_pair t ≡ None
+none_pair t = ap (λ o. option_or o (held empty_pair.second t)) (held_none empty_pair.first refl t) ∙ held_none empty_pair.second refl t
 
-pub lookup_all : (f : List Slot) (es : List (Tag × Half)) → IsPlaced f → (t : Tag)
+-- what the pairs hold under a tag is what its one pair holds
+pub lookup_front : (f : List Pair) → IsPlaced f → (t : Tag) → lookup (same_tag t) (front_entries f) ≡ front_half f t
+lookup_front [] placed t = sym (none_pair t)
+lookup_front (p ∷ f) placed t =
+    lookup_one (p ∷ f) (place t (length (p ∷ f))) t (place_below t _ (omega arith)) (λ i inside apart. placed.places i empty_pair t inside apart)
+
+pub lookup_all : (f : List Pair) (es : List (Tag × Half)) → IsPlaced f → (t : Tag)
     → lookup (same_tag t) (all_entries f es) ≡ option_or (front_half f t) (lookup (same_tag t) es)
 lookup_all f es placed t =
     lookup-append t (front_entries f) es ∙ ap (λ o. option_or o (lookup (same_tag t) es)) (lookup_front f placed t)
 
 -- ---- the store
 
--- where all slots tell the same
-pub marks_kept : (f m : List Slot) (es : List (Tag × Half)) → MarksSame f m → IsMarked f es → IsMarked m es
+-- where all pairs tell the same
+pub marks_kept : (f m : List Pair) (es : List (Tag × Half)) → MarksSame f m → IsMarked f es → IsMarked m es
 marks_kept f m es same marked = record {
   nothing = λ t some e. marked.nothing t (subst (λ n. 0 < n) same.len some) (sym (same.at t) ∙ e);
   one = λ t u some e at x y.
@@ -198,10 +369,10 @@ by_some None es t f some = cc
 by_some (Some h) es t f some = f h refl
 
 -- no tag of the front is one of the halves
-pub none_behind : (f : List Slot) (es : List (Tag × Half)) → IsKept f es → (t : Tag) → IsSome (front_half f t) → lookup (same_tag t) es ≡ None
+pub none_behind : (f : List Pair) (es : List (Tag × Half)) → IsKept f es → (t : Tag) → IsSome (front_half f t) → lookup (same_tag t) es ≡ None
 none_behind f es kept t some = by_some (front_half f t) es t (kept.apart t) some
 
-module _ (f : List Slot) (es : List (Tag × Half)) (s : Store) (is : from_entries (all_entries f es) ≡ s) (kept : IsKept f es) (t : Tag) (p : Port) (v :
+module _ (f : List Pair) (es : List (Tag × Half)) (s : Store) (is : from_entries (all_entries f es) ≡ s) (kept : IsKept f es) (t : Tag) (p : Port) (v :
     Value) where
   under_all : (u : Tag) → get s u ≡ option_or (front_half f u) (lookup (same_tag u) es)
   under_all u = ap (λ r. get r u) (sym is) ∙ get_half (all_entries f es) u ∙ lookup_all f es kept.placed u
@@ -209,7 +380,7 @@ module _ (f : List Slot) (es : List (Tag × Half)) (s : Store) (is : from_entrie
   answer_by : (o : Option Half) → get s t ≡ o → (a : Offered) → a ≡ answer_at o p v → a ≡ offer_answer s t p v
   answer_by o e a h = h ∙ ap (λ x. answer_at x p v) (sym e) ∙ sym (answer_of-at_port (get s t) p v)
 
-  module _ (m : List Slot) (a : Offered) (meets : Meets f m t p v a) (marks : MarksSame f m) (none : lookup (same_tag t) es ≡ None) where
+  module _ (m : List Pair) (a : Offered) (meets : Meets f m t p v a) (marks : MarksSame f m) (none : lookup (same_tag t) es ≡ None) where
     here : get s t ≡ front_half f t
     here = under_all t ∙ ap (option_or (front_half f t)) none ∙ or_none (front_half f t)
 
@@ -252,7 +423,7 @@ module _ (f : List Slot) (es : List (Tag × Half)) (s : Store) (is : from_entrie
     pub behind_answer : (a : Offered) → a ≡ answer_at (lookup (same_tag t) es) p v → a ≡ offer_answer s t p v
     behind_answer a h = answer_by (lookup (same_tag t) es) behind a h
 
-    module _ (m : List Slot) (holds : HoldsSame f m) (fs : List (Tag × Half))
+    module _ (m : List Pair) (holds : HoldsSame f m) (fs : List (Tag × Half))
         (others : (u : Tag) → same_tag t u ≡ false → lookup (same_tag u) fs ≡ lookup (same_tag u) es) where
       behind_apart : (u : Tag) (h : Half) → front_half f u ≡ Some h → (b : Bool) → same_tag t u ≡ b → lookup (same_tag u) fs ≡ None
       behind_apart u h e true same =
@@ -278,81 +449,96 @@ module _ (f : List Slot) (es : List (Tag × Half)) (s : Store) (is : from_entrie
           (behind_got t ∙ ap (λ o. option_or o (lookup (same_tag t) fs)) none ∙ after ∙ ap (λ o. half_after o p v) (sym behind))
           (λ u apart. behind_got u ∙ ap (option_or (front_half f u)) (others u apart) ∙ sym (under_all u))
 
-get_or_any : (f : List Slot) (i : ℕ) (a b : Slot) → i < length f → get_or f i a ≡ get_or f i b
+get_or_any : (f : List Pair) (i : ℕ) (a b : Pair) → i < length f → get_or f i a ≡ get_or f i b
 get_or_any [] i a b inside = absurd (omega arith)
-get_or_any (s ∷ f) zero a b inside = refl
-get_or_any (s ∷ f) (suc i) a b inside = get_or_any f i a b (omega arith)
+get_or_any (p ∷ f) zero a b inside = refl
+get_or_any (p ∷ f) (suc i) a b inside = get_or_any f i a b (omega arith)
 
 -- ---- a call on the front
 
-module _ (f : List Slot) (at : ℕ) (x : Slot) (same : (u : Tag) → held x u ≡ held (get_or f at empty_slot) u) (within : at < length f) where
-  holds_by : (i : ℕ) (d : Slot) (u : Tag) (b : Bool) → nat_eq i at ≡ b → i < length f
-      → held (get_or (set f at x) i d) u ≡ held (get_or f i d) u
+module _ (f : List Pair) (at : ℕ) (x : Pair) (same : (u : Tag) → pair_half x u ≡ pair_half (get_or f at empty_pair) u)
+    (single : IsSingle (get_or f at empty_pair) → IsSingle x) (within : at < length f) where
+  holds_by : (i : ℕ) (d : Pair) (u : Tag) (b : Bool) → nat_eq i at ≡ b → i < length f
+      → pair_half (get_or (set f at x) i d) u ≡ pair_half (get_or f i d) u
   holds_by i d u true e inside =
       let one : i ≡ at = numbers_one i at e in
-      ap (λ k. held (get_or (set f at x) k d) u) one ∙ ap (λ y. held y u) (get_or-set_same f at x d within) ∙ same u
-      ∙ ap (λ y. held y u) (get_or_any f at empty_slot d within) ∙ ap (λ k. held (get_or f k d) u) (sym one)
-  holds_by i d u false e inside = ap (λ y. held y u) (get_or-set_other f at i x d (numbers_apart i at e))
+      ap (λ k. pair_half (get_or (set f at x) k d) u) one ∙ ap (λ y. pair_half y u) (get_or-set_same f at x d within) ∙ same u
+      ∙ ap (λ y. pair_half y u) (get_or_any f at empty_pair d within) ∙ ap (λ k. pair_half (get_or f k d) u) (sym one)
+  holds_by i d u false e inside = ap (λ y. pair_half y u) (get_or-set_other f at i x d (numbers_apart i at e))
+
+  single_kept : (i : ℕ) (d : Pair) (b : Bool) → nat_eq i at ≡ b → i < length f → IsPlaced f → IsSingle (get_or (set f at x) i d)
+  single_kept i d true e inside placed =
+      let one : i ≡ at = numbers_one i at e in
+      let is : get_or (set f at x) i d ≡ x = ap (λ k. get_or (set f at x) k d) one ∙ get_or-set_same f at x d within in
+      subst IsSingle (sym is) (single (placed.single at empty_pair within))
+  single_kept i d false e inside placed =
+      subst IsSingle (sym (get_or-set_other f at i x d (numbers_apart i at e))) (placed.single i d inside)
 
   under_same : (u : Tag) (b : Bool) → nat_eq (place u (length f)) at ≡ b
-      → held (get_or (set f at x) (place u (length f)) empty_slot) u ≡ front_half f u
+      → pair_half (get_or (set f at x) (place u (length f)) empty_pair) u ≡ front_half f u
   under_same u true e =
       let one : place u (length f) ≡ at = numbers_one _ _ e in
-      ap (λ k. held (get_or (set f at x) k empty_slot) u) one ∙ ap (λ y. held y u) (get_or-set_same f at x empty_slot within) ∙ same u
-      ∙ ap (λ k. held (get_or f k empty_slot) u) (sym one)
-  under_same u false e = ap (λ y. held y u) (get_or-set_other f at (place u (length f)) x empty_slot (numbers_apart _ _ e))
+      ap (λ k. pair_half (get_or (set f at x) k empty_pair) u) one ∙ ap (λ y. pair_half y u) (get_or-set_same f at x empty_pair within) ∙ same u
+      ∙ ap (λ k. pair_half (get_or f k empty_pair) u) (sym one)
+  under_same u false e = ap (λ y. pair_half y u) (get_or-set_other f at (place u (length f)) x empty_pair (numbers_apart _ _ e))
 
-pub gone : (o : Option Half) (h : Half) (p : Port) (v : Value) → o ≡ Some h → same_port h.port p ≡ false → half_after o p v ≡ None
-gone o h p v e apart = ap (λ q. half_after q p v) e ∙ ap (λ b. cond b (Some h) None) apart
+  -- a pair is written that holds the same, whatever it tells
+  pub holds_set : HoldsSame f (set f at x)
+  holds_set = record {
+    placed = λ placed. record {
+      places = λ i d u inside apart.
+          holds_by i d u (nat_eq i at) refl (subst (λ n. i < n) (length-set f at x) inside)
+          ∙ placed.places i d u (subst (λ n. i < n) (length-set f at x) inside) (subst (λ n. place u n ≢ i) (length-set f at x) apart);
+      single = λ i d inside. single_kept i d (nat_eq i at) refl (subst (λ n. i < n) (length-set f at x) inside) placed;
+    };
+    under = λ u.
+        ap (λ n. pair_half (get_or (set f at x) (place u n) empty_pair) u) (length-set f at x)
+        ∙ under_same u (nat_eq (place u (length f)) at) refl;
+  }
 
 paired : (o : Option Half) (h : Half) (p : Port) (v : Value) → o ≡ Some h → same_port h.port p ≡ false → answer_at o p v ≡ pair_of p v h.value
 paired o h p v e apart = ap (λ q. answer_at q p v) e ∙ ap (λ b. cond b Taken (pair_of p v h.value)) apart
 
-module _ (f : List Slot) (t : Tag) (some : 0 < length f) (at : ℕ) (there : at ≡ place t (length f)) (s : Slot) (is : get_or f at empty_slot ≡ s) where
-  at_place : get_or f (place t (length f)) empty_slot ≡ s
-  at_place = ap (λ k. get_or f k empty_slot) (sym there) ∙ is
+module _ (f : List Pair) (t : Tag) (some : 0 < length f) (at : ℕ) (there : at ≡ place t (length f)) (p : Pair) (is : get_or f at empty_pair ≡ p)
+    (q : Pair) where
+  at_place : get_or f (place t (length f)) empty_pair ≡ p
+  at_place = ap (λ k. get_or f k empty_pair) (sym there) ∙ is
 
-  here_is : front_half f t ≡ held s t
-  here_is = ap (λ x. held x t) at_place
+  pub here_is : front_half f t ≡ pair_half p t
+  here_is = ap (λ x. pair_half x t) at_place
 
-  -- the partner leaves its slot
-  pub meets_here : (x : Slot) → slot_half x ≡ None → (h : Half) → held s t ≡ Some h → (p : Port) (v : Value) → same_port h.port p ≡ false
-      → (a : Offered) → a ≡ pair_of p v h.value → Meets f (set f at x) t p v a
-  meets_here x empty h held_is p v apart a answer =
-      let found : front_half f t ≡ Some h = here_is ∙ held_is in
-      let was : IsFor t (get_or f (place t (length f)) empty_slot) = subst (IsFor t) (sym at_place) (for_tag s t (tag_from_held s t h held_is)) in
-      let puts = puts_set f t x some was (for_empty x empty t) in
-      let none : held x t ≡ half_after (front_half f t) p v = held_none x empty t ∙ sym (gone (front_half f t) h p v found apart) in
-      record {
-        answer = answer ∙ sym (paired (front_half f t) h p v found apart);
-        after = subst (λ k. Puts f (set f k x) t (half_after (front_half f t) p v)) (sym there)
-            (subst (Puts f (set f (place t (length f)) x) t) none puts);
-      }
+  -- the front has what comes to its pair
+  pub puts_here : (o : Option Half) → PutsIn p q t o → Puts f (set f at q) t o
+  puts_here o puts =
+      subst (λ k. Puts f (set f k q) t o) (sym there) (puts_set f t q o some (subst (λ x. PutsIn x q t o) (sym at_place) puts))
 
-  -- a value takes a slot that is empty
-  pub puts_here : slot_half s ≡ None → (x : Slot) → slot_tag x ≡ t → Puts f (set f at x) t (slot_half x)
-  puts_here empty x own =
-      let was : IsFor t (get_or f (place t (length f)) empty_slot) = subst (IsFor t) (sym at_place) (for_empty s empty t) in
-      let held_is : held x t ≡ slot_half x = subst (λ u. held x u ≡ slot_half x) own (held_own x) in
-      subst (λ k. Puts f (set f k x) t (slot_half x)) (sym there)
-      (subst (Puts f (set f (place t (length f)) x) t) held_is (puts_set f t x some was (for_tag x t own)))
+  pub meets_here : (port : Port) (v : Value) (a : Offered) → MeetsIn p q t port v a → Meets f (set f at q) t port v a
+  meets_here port v a meets = record {
+    answer = meets.answer ∙ ap (λ o. answer_at o port v) (sym here_is);
+    after = subst (λ o. Puts f (set f at q) t (half_after o port v)) (sym here_is) (puts_here _ meets.after);
+  }
 
--- a slot is written that holds the same, whatever it tells
-pub holds_set : (f : List Slot) (at : ℕ) (x : Slot) → ((u : Tag) → held x u ≡ held (get_or f at empty_slot) u) → at < length f
-    → HoldsSame f (set f at x)
-holds_set f at x same within = record {
-  placed = λ placed i d u inside apart.
-      holds_by f at x same within i d u (nat_eq i at) refl (subst (λ n. i < n) (length-set f at x) inside)
-      ∙ placed i d u (subst (λ n. i < n) (length-set f at x) inside) (subst (λ n. place u n ≢ i) (length-set f at x) apart);
-  under = λ u.
-      ap (λ n. held (get_or (set f at x) (place u n) empty_slot) u) (length-set f at x)
-      ∙ under_same f at x same within u (nat_eq (place u (length f)) at) refl;
+-- the partner leaves its pair
+pub partner_leaves : (p q : Pair) (t : Tag) (h : Half) (port : Port) (v : Value) → pair_half p t ≡ Some h → same_port h.port port ≡ false
+    → PutsIn p q t None → (a : Offered) → a ≡ pair_of port v h.value → MeetsIn p q t port v a
+partner_leaves p q t h port v is apart puts a answer = record {
+  answer = answer ∙ sym (paired (pair_half p t) h port v is apart);
+  after = subst (PutsIn p q t) (sym (gone (pair_half p t) h port v is apart)) puts;
 }
 
-pub holds_refl : (f : List Slot) → HoldsSame f f
+-- the tag has a value at its port already
+pub taken_here : (f : List Pair) (t : Tag) (h : Half) (port : Port) (v : Value) → front_half f t ≡ Some h → same_port h.port port ≡ true
+    → Meets f f t port v Taken
+taken_here f t h port v found same = record {
+  answer = sym (ap (λ o. answer_at o port v) found ∙ ap (λ b. cond b Taken (pair_of port v h.value)) same);
+  after = puts_same f t (half_after (front_half f t) port v)
+      (found ∙ sym (ap (λ o. half_after o port v) found ∙ ap (λ b. cond b (Some h) None) same));
+}
+
+pub holds_refl : (f : List Pair) → HoldsSame f f
 holds_refl f = record { placed = λ p. p; under = λ u. refl }
 
-pub holds_trans : (f m n : List Slot) → HoldsSame f m → HoldsSame m n → HoldsSame f n
+pub holds_trans : (f m n : List Pair) → HoldsSame f m → HoldsSame m n → HoldsSame f n
 holds_trans f m n a b = record { placed = λ p. b.placed (a.placed p); under = λ u. b.under u ∙ a.under u }
 
 -- a slot of the tag's holds under it what it keeps
@@ -363,16 +549,27 @@ held_as s t o own is = subst (λ u. held s u ≡ slot_half s) own (held_own s) �
 pub same_under_tag : (t u : Tag) (es : List (Tag × Half)) (o : Option Half) → t ≡ u → lookup (same_tag u) es ≡ o → lookup (same_tag t) es ≡ o
 same_under_tag t u es o e is = ap (λ w. lookup (same_tag w) es) e ∙ is
 
+-- where a pair tells of nothing, or has the tag's value, nothing is behind under that tag
+module _ (f : List Pair) (t : Tag) (some : 0 < length f) (es : List (Tag × Half)) (kept : IsKept f es) where
+  alone_by : (b : Behind) → mark_at f t ≡ b → (mark_at f t ≢ Nothing → IsSome (front_half f t)) → lookup (same_tag t) es ≡ None
+  alone_by Nothing e found = kept.marked.nothing t some e
+  alone_by One e found = none_behind f es kept t (found (λ z. let bad : One ≡ Nothing = sym e ∙ z in cc))
+  alone_by Many e found = none_behind f es kept t (found (λ z. let bad : Many ≡ Nothing = sym e ∙ z in cc))
+
+  pub alone_in : {A : Type 0} → (r : Option A) → IsSome r → IfSome r (λ _. mark_at f t ≢ Nothing → IsSome (front_half f t)) → lookup (same_tag t) es ≡ None
+  alone_in None is found = cc
+  alone_in (Some a) is found = alone_by (mark_at f t) refl found
+
 -- ---- whole offers
 
-stored : (f m : List Slot) (t : Tag) (p : Port) (v : Value) → front_half f t ≡ None → Puts f m t (Some (record { port = p; value = v })) → Meets f m t p v Kept
+stored : (f m : List Pair) (t : Tag) (p : Port) (v : Value) → front_half f t ≡ None → Puts f m t (Some (record { port = p; value = v })) → Meets f m t p v Kept
 stored f m t p v free puts = record {
   answer = sym (ap (λ o. answer_at o p v) free);
   after = subst (Puts f m t) (sym (ap (λ o. half_after o p v) free)) puts;
 }
 
-module _ (f : List Slot) (es : List (Tag × Half)) (s : Store) (is : from_entries (all_entries f es) ≡ s) (kept : IsKept f es) (p : Port) (v : Value) (m :
-    List Slot) where
+module _ (f : List Pair) (es : List (Tag × Half)) (s : Store) (is : from_entries (all_entries f es) ≡ s) (kept : IsKept f es) (p : Port) (v : Value) (m :
+    List Pair) where
   -- what comes of a value that met its partner in the front, or went there
   pub all_of_meets : (t : Tag) (a : Offered) → Meets f m t p v a → MarksSame f m → lookup (same_tag t) es ≡ None
       → IsKept m es × (a ≡ offer_answer s t p v) × (from_entries (all_entries m es) ≡ offer_after s t p v)
@@ -393,8 +590,15 @@ module _ (f : List Slot) (es : List (Tag × Half)) (s : Store) (is : from_entrie
       subst (λ u. IsKept m es × (Kept ≡ offer_answer s u p v) × (from_entries (all_entries m es) ≡ offer_after s u p v)) own
       (all_of_put (slot_tag x) none free (subst (Puts f m (slot_tag x)) half puts) marks)
 
+-- the same, where the front may have left the token as it came
+pub all_of_meeting : (f : List Pair) (es : List (Tag × Half)) (s : Store) (is : from_entries (all_entries f es) ≡ s) (kept : IsKept f es) (p : Port) (v : Value)
+    (m : List Pair) (t : Tag) (o : Option Offered) → IfSome o (λ a. Meets f m t p v a) → (o ≡ None → m ≡ f) → MarksSame f m → lookup (same_tag t) es ≡ None
+    → IsKept m es × IfSome o (λ a. a ≡ offer_answer s t p v) × IfSome o (λ a. from_entries (all_entries m es) ≡ offer_after s t p v)
+all_of_meeting f es s is kept p v m t None met same marks none = (subst (λ x. IsKept x es) (sym (same refl)) kept, tt, tt)
+all_of_meeting f es s is kept p v m t (Some a) met same marks none = all_of_meets f es s is kept p v m t a met marks none
+
 -- the same values in another front
-module _ (f m : List Slot) (es : List (Tag × Half)) (s : Store) (is : from_entries (all_entries f es) ≡ s) (kept : IsKept f es)
+module _ (f m : List Pair) (es : List (Tag × Half)) (s : Store) (is : from_entries (all_entries f es) ≡ s) (kept : IsKept f es)
     (placed : IsPlaced m) (same : (t : Tag) → front_half m t ≡ lookup (same_tag t) (front_entries f)) where
   as_before : (t : Tag) → front_half m t ≡ front_half f t
   as_before t = same t ∙ lookup_front f kept.placed t
@@ -432,80 +636,104 @@ pub if_some : {A : Type 0} {P Q : A → Type 0} → (o : Option A) → ((a : A) 
 if_some None f h = tt
 if_some (Some a) f h = f a h
 
-pub none_from_test : (o : Option Half) → is_some o ≡ false → o ≡ None
-none_from_test None e = refl
-none_from_test (Some h) e = cc
+-- ---- one pair more
 
--- ---- one slot more
+put_by : (s : Slot) (o : Option Half) (u : Tag) (b : Bool) → same_tag (slot_tag s) u ≡ b → (b ≡ true → o ≡ None)
+    → cond b (slot_half s) o ≡ option_or o (held s u)
+put_by s o u true e none =
+    sym (held_own s) ∙ ap (held s) (one_from_same_tag (slot_tag s) u e) ∙ ap (λ q. option_or q (held s u)) (sym (none refl))
+put_by s o u false e none = sym (or_none o) ∙ ap (option_or o) (sym (for_own s u e))
 
-module _ (f : List Slot) (i : ℕ) (d : Slot) (inside : i < length f) where
-  entries_more : front_entries (take (i + 1) f) ≡ front_entries (take i f) ++ cons_option (slot_entry (get_or f i d)) []
-  entries_more = ap front_entries (take_more f i d inside) ∙ filter_map-append slot_entry (take i f) (get_or f i d ∷ [])
+-- a slot's value is put into the front m, which has none of its tag
+pub moved_to : (m n : List Pair) (s : Slot) → front_half m (slot_tag s) ≡ None → Puts m n (slot_tag s) (slot_half s)
+    → (t : Tag) → front_half n t ≡ option_or (front_half m t) (held s t)
+moved_to m n s free puts t =
+    puts.under t
+    ∙ put_by s (front_half m t) t (same_tag (slot_tag s) t) refl (λ e. ap (front_half m) (sym (one_from_same_tag (slot_tag s) t e)) ∙ free)
 
-  last_half : (t w : Tag) (o : Option Half) → lookup (same_tag t) (cons_option (option_map (λ h. (w, h)) o) []) ≡ cond (same_tag t w) o None
-  last_half t w o = entry_first t w o [] ∙ or_none (cond (same_tag t w) o None)
+-- or a slot keeps nothing, and is passed over
+pub none_moved : (m : List Pair) (s : Slot) → slot_half s ≡ None → (t : Tag) → front_half m t ≡ option_or (front_half m t) (held s t)
+none_moved m s empty t = sym (or_none _) ∙ ap (option_or (front_half m t)) (sym (held_none s empty t))
 
-  -- what the slots up to here hold under a tag
-  lookup_more : (t : Tag) → lookup (same_tag t) (front_entries (take (i + 1) f)) ≡ option_or (lookup (same_tag t) (front_entries (take i f))) (held (get_or
-      f i d) t)
+or_or : (a b c : Option Half) → option_or (option_or a b) c ≡ option_or a (option_or b c)
+or_or None b c = refl
+or_or (Some h) b c = refl
+
+entries-append : (f g : List Pair) → front_entries (f ++ g) ≡ front_entries f ++ front_entries g
+entries-append [] g = refl
+entries-append (p ∷ f) g = ap (λ l. pair_entries p ++ l) (entries-append f g) ∙ sym (append_assoc (pair_entries p) (front_entries f) (front_entries g))
+
+module _ (f : List Pair) (i : ℕ) (d : Pair) (inside : i < length f) where
+  entries_more : front_entries (take (i + 1) f) ≡ front_entries (take i f) ++ pair_entries (get_or f i d)
+  entries_more =
+      ap front_entries (take_more f i d inside) ∙ entries-append (take i f) (get_or f i d ∷ [])
+      ∙ ap (λ l. front_entries (take i f) ++ l) (append-nil (pair_entries (get_or f i d)))
+
+  -- what the pairs up to here hold under a tag
+  lookup_more : (t : Tag) → lookup (same_tag t) (front_entries (take (i + 1) f))
+      ≡ option_or (lookup (same_tag t) (front_entries (take i f))) (pair_half (get_or f i d) t)
   lookup_more t =
       ap (lookup (same_tag t)) entries_more
-      ∙ lookup-append t (front_entries (take i f)) (cons_option (slot_entry (get_or f i d)) [])
-      ∙ ap (option_or (lookup (same_tag t) (front_entries (take i f)))) (last_half t (slot_tag (get_or f i d)) (slot_half (get_or f i d)))
+      ∙ lookup-append t (front_entries (take i f)) (pair_entries (get_or f i d))
+      ∙ ap (option_or (lookup (same_tag t) (front_entries (take i f)))) (lookup_pair t (get_or f i d))
 
-  put_by : (s : Slot) (o : Option Half) (u : Tag) (b : Bool) → same_tag (slot_tag s) u ≡ b → (b ≡ true → o ≡ None)
-      → cond b (slot_half s) o ≡ option_or o (held s u)
-  put_by s o u true e none =
-      sym (held_own s) ∙ ap (held s) (one_from_same_tag (slot_tag s) u e) ∙ ap (λ q. option_or q (held s u)) (sym (none refl))
-  put_by s o u false e none = sym (or_none o) ∙ ap (option_or o) (sym (for_own s u e))
+  -- both slots have come to the front n, by way of l, and m has what the pairs before hold
+  pub both_moved : (m l n : List Pair) → ((t : Tag) → front_half m t ≡ lookup (same_tag t) (front_entries (take i f)))
+      → ((t : Tag) → front_half l t ≡ option_or (front_half m t) (held (get_or f i d).first t))
+      → ((t : Tag) → front_half n t ≡ option_or (front_half l t) (held (get_or f i d).second t))
+      → (t : Tag) → front_half n t ≡ lookup (same_tag t) (front_entries (take (i + 1) f))
+  both_moved m l n before first second t =
+      second t ∙ ap (λ o. option_or o (held (get_or f i d).second t)) (first t)
+      ∙ or_or (front_half m t) (held (get_or f i d).first t) (held (get_or f i d).second t)
+      ∙ ap (λ o. option_or o (pair_half (get_or f i d) t)) (before t) ∙ sym (lookup_more t)
 
-  module _ (m : List Slot) (before : (t : Tag) → front_half m t ≡ lookup (same_tag t) (front_entries (take i f))) where
-    -- the slot is put into the front m, which has what the slots before it hold
-    pub put_more : (n : List Slot) → front_half m (slot_tag (get_or f i d)) ≡ None → Puts m n (slot_tag (get_or f i d)) (slot_half (get_or f i d))
-        → (t : Tag) → front_half n t ≡ lookup (same_tag t) (front_entries (take (i + 1) f))
-    put_more n free puts t =
-        puts.under t
-        ∙ put_by (get_or f i d) (front_half m t) t (same_tag (slot_tag (get_or f i d)) t) refl
-        (λ e. ap (front_half m) (sym (one_from_same_tag (slot_tag (get_or f i d)) t e)) ∙ free)
-        ∙ ap (λ o. option_or o (held (get_or f i d) t)) (before t) ∙ sym (lookup_more t)
+  pub length_more : (n : ℕ) → n ≡ length (pair_entries (get_or f i d)) → length (front_entries (take (i + 1) f)) ≡ length (front_entries (take i f)) + n
+  length_more n is =
+      ap length entries_more ∙ length-append (front_entries (take i f)) (pair_entries (get_or f i d))
+      ∙ ap (λ k. length (front_entries (take i f)) + k) (sym is)
 
-    -- or keeps nothing, and is passed over
-    pub pass_more : slot_half (get_or f i d) ≡ None → (t : Tag) → front_half m t ≡ lookup (same_tag t) (front_entries (take (i + 1) f))
-    pass_more empty t =
-        before t ∙ sym (or_none _) ∙ ap (option_or (lookup (same_tag t) (front_entries (take i f)))) (sym (held_none (get_or f i d) empty t)) ∙ sym
-        (lookup_more t)
+  -- what is listed of both slots
+  pub listed_more : map entry_at (front_entries (take (i + 1) f))
+      ≡ (map entry_at (front_entries (take i f)) ++ map entry_at (filter_map slot_entry ((get_or f i d).first ∷ [])))
+      ++ map entry_at (filter_map slot_entry ((get_or f i d).second ∷ []))
+  listed_more =
+      ap (map entry_at) entries_more
+      ∙ map-append entry_at (front_entries (take i f)) (pair_entries (get_or f i d))
+      ∙ ap (λ l. map entry_at (front_entries (take i f)) ++ l)
+      (ap (map entry_at) (filter_map-append slot_entry ((get_or f i d).first ∷ []) ((get_or f i d).second ∷ []))
+      ∙ map-append entry_at (filter_map slot_entry ((get_or f i d).first ∷ [])) (filter_map slot_entry ((get_or f i d).second ∷ [])))
+      ∙ sym (append_assoc (map entry_at (front_entries (take i f))) (map entry_at (filter_map slot_entry ((get_or f i d).first ∷ [])))
+      (map entry_at (filter_map slot_entry ((get_or f i d).second ∷ []))))
 
-  length_cons : (k : List (Tag × Half)) (w : Tag) (o : Option Half) → (o ≡ None → IsTrue false) → length (k ++ cons_option (option_map (λ h. (w, h)) o) [])
-      ≡ length k + 1
-  length_cons k w None some = let bad : IsTrue false = some refl in cc
-  length_cons k w (Some h) some = omega (arith, length-append k ((w, h) ∷ []))
+  -- both slots are listed one after the other
+  pub both_listed : (k l m : List Entry) → k ≡ map entry_at (front_entries (take i f))
+      → l ≡ k ++ map entry_at (filter_map slot_entry ((get_or f i d).first ∷ []))
+      → m ≡ l ++ map entry_at (filter_map slot_entry ((get_or f i d).second ∷ [])) → m ≡ map entry_at (front_entries (take (i + 1) f))
+  both_listed k l m before first second =
+      second
+      ∙ ap (λ x. x ++ map entry_at (filter_map slot_entry ((get_or f i d).second ∷ [])))
+      (first ∙ ap (λ x. x ++ map entry_at (filter_map slot_entry ((get_or f i d).first ∷ []))) before)
+      ∙ sym listed_more
 
-  pub length_more : (slot_half (get_or f i d) ≡ None → IsTrue false) → length (front_entries (take (i + 1) f)) ≡ length (front_entries (take i f)) + 1
-  length_more some = ap length entries_more ∙ length_cons (front_entries (take i f)) (slot_tag (get_or f i d)) (slot_half (get_or f i d)) some
+-- ---- a front with no value
 
-  pub none_more : slot_half (get_or f i d) ≡ None → front_entries (take (i + 1) f) ≡ front_entries (take i f)
-  none_more none =
-      entries_more
-      ∙ ap (λ o. front_entries (take i f) ++ cons_option (option_map (λ h. (slot_tag (get_or f i d), h)) o) []) none ∙ append-nil (front_entries (take i f))
+none_front : (i k : ℕ) → get_or (replicate k empty_pair) i empty_pair ≡ empty_pair
+none_front i zero = refl
+none_front zero (suc k) = refl
+none_front (suc i) (suc k) = none_front i k
 
-  map_some : (k : List (Tag × Half)) (o : Option (Tag × Half)) (e : Entry) → option_map entry_at o ≡ Some e → map entry_at (k ++ cons_option o []) ≡ map
-      entry_at k ++ e ∷ []
-  map_some [] None e is = cc
-  map_some [] (Some x) e is = let one : entry_at x ≡ e = cc in ap (λ y. y ∷ []) one
-  map_some (x ∷ k) o e is = ap (λ l. entry_at x ∷ l) (map_some k o e is)
+module _ (n : ℕ) where
+  none_at : (i : ℕ) (d : Pair) → i < length (replicate n empty_pair) → get_or (replicate n empty_pair) i d ≡ empty_pair
+  none_at i d inside = get_or-replicate n i empty_pair d (omega (arith, length-replicate n empty_pair))
 
-  map_none : (k : List (Tag × Half)) (o : Option (Tag × Half)) → option_map entry_at o ≡ None → map entry_at (k ++ cons_option o []) ≡ map entry_at k
-  map_none [] None is = refl
-  map_none [] (Some x) is = cc
-  map_none (x ∷ k) o is = ap (λ l. entry_at x ∷ l) (map_none k o is)
+  pub none_placed : IsPlaced (replicate n empty_pair)
+  none_placed = record {
+    places = λ i d t inside away. ap (λ p. pair_half p t) (none_at i d inside) ∙ none_pair t;
+    single = λ i d inside. subst IsSingle (sym (none_at i d inside)) (λ t some. held_none empty_pair.second refl t);
+  }
 
-  pub map_more_some : (e : Entry) → option_map entry_at (slot_entry (get_or f i d)) ≡ Some e
-      → map entry_at (front_entries (take (i + 1) f)) ≡ map entry_at (front_entries (take i f)) ++ e ∷ []
-  map_more_some e is = ap (map entry_at) entries_more ∙ map_some (front_entries (take i f)) (slot_entry (get_or f i d)) e is
-
-  pub map_more_none : option_map entry_at (slot_entry (get_or f i d)) ≡ None
-      → map entry_at (front_entries (take (i + 1) f)) ≡ map entry_at (front_entries (take i f))
-  map_more_none is = ap (map entry_at) entries_more ∙ map_none (front_entries (take i f)) (slot_entry (get_or f i d)) is
+  pub none_held : (t : Tag) → front_half (replicate n empty_pair) t ≡ None
+  none_held t = ap (λ p. pair_half p t) (none_front (place t (length (replicate n empty_pair))) n) ∙ none_pair t
 
 -- ---- distinct tags
 
@@ -518,53 +746,86 @@ not_passed : (t : Tag) (es : List (Tag × Half)) → lookup (same_tag t) es ≡ 
 not_passed t [] none = tt
 not_passed t (e ∷ es) none = not_passed_by t e es (same_tag t e.0) refl none (not_passed t es)
 
-abbrev IsFrom : List Slot → ℕ → ℕ → Type 0
-IsFrom f k n = (i : ℕ) (d : Slot) (t : Tag) → i < length f → place t n ≢ i + k → held (get_or f i d) t ≡ None
+abbrev IsFrom : List Pair → ℕ → ℕ → Type 0
+IsFrom f k n = (i : ℕ) (d : Pair) (t : Tag) → i < length f → place t n ≢ i + k → pair_half (get_or f i d) t ≡ None
 
-abbrev IsApart : List Slot → List (Tag × Half) → Type 0
-IsApart f es = (i : ℕ) (d : Slot) (t : Tag) (h : Half) → i < length f → held (get_or f i d) t ≡ Some h → lookup (same_tag t) es ≡ None
+abbrev AreSingle : List Pair → Type 0
+AreSingle f = (i : ℕ) (d : Pair) → i < length f → IsSingle (get_or f i d)
 
-later_none : (s : Slot) (f : List Slot) (k n : ℕ) → IsFrom (s ∷ f) k n → (t : Tag) (h : Half) → held s t ≡ Some h → (i : ℕ) → i < length f
-    → (b : Bool) → nat_eq (place t n) (suc i + k) ≡ b → held (get_or f i empty_slot) t ≡ None
-later_none s f k n from t h here i inside true e =
+abbrev IsApart : List Pair → List (Tag × Half) → Type 0
+IsApart f es = (i : ℕ) (d : Pair) (t : Tag) (h : Half) → i < length f → pair_half (get_or f i d) t ≡ Some h → lookup (same_tag t) es ≡ None
+
+later_none : (p : Pair) (f : List Pair) (k n : ℕ) → IsFrom (p ∷ f) k n → (t : Tag) (h : Half) → pair_half p t ≡ Some h → (i : ℕ) → i < length f
+    → (b : Bool) → nat_eq (place t n) (suc i + k) ≡ b → pair_half (get_or f i empty_pair) t ≡ None
+later_none p f k n from t h here i inside true e =
     let at : place t n ≡ suc i + k = numbers_one _ _ e in
-    let none : held s t ≡ None = from zero empty_slot t (omega arith) (λ z. absurd (omega arith)) in
+    let none : pair_half p t ≡ None = from zero empty_pair t (omega arith) (λ z. absurd (omega arith)) in
     let bad : None ≡ Some h = sym none ∙ here in cc
-later_none s f k n from t h here i inside false e = from (suc i) empty_slot t (omega arith) (numbers_apart _ _ e)
+later_none p f k n from t h here i inside false e = from (suc i) empty_pair t (omega arith) (numbers_apart _ _ e)
 
-distinct_step : (s : Slot) (f : List Slot) (k n : ℕ) (es : List (Tag × Half)) → IsFrom (s ∷ f) k n → IsApart (s ∷ f) es
-    → IsDistinct same_tag (keys_of (front_entries f ++ es)) → (o : Option Half) → slot_half s ≡ o
-    → IsDistinct same_tag (keys_of (cons_option (option_map (λ h. (slot_tag s, h)) o) (front_entries f) ++ es))
-distinct_step s f k n es from apart rest None e = rest
-distinct_step s f k n es from apart rest (Some h) e =
-    let t : Tag = slot_tag s in
-    let here : held s (slot_tag s) ≡ Some h = held_own s ∙ e in
-    let none : lookup (same_tag (slot_tag s)) (front_entries f ++ es) ≡ None =
-    lookup-append (slot_tag s) (front_entries f) es
-    ∙ ap (λ o. option_or o (lookup (same_tag (slot_tag s)) es))
-    (lookup_nowhere f (slot_tag s) (λ i inside. later_none s f k n from (slot_tag s) h here i inside (nat_eq (place (slot_tag s) n) (suc i + k)) refl))
-    ∙ apart zero empty_slot (slot_tag s) h (omega arith) here in
-    IsDistinct-cons same_tag (slot_tag s) (keys_of (front_entries f ++ es)) (not_passed (slot_tag s) (front_entries f ++ es) none) rest
+rest_none : (p : Pair) (f : List Pair) (k n : ℕ) (es : List (Tag × Half)) → IsFrom (p ∷ f) k n → IsApart (p ∷ f) es
+    → (t : Tag) (h : Half) → pair_half p t ≡ Some h → lookup (same_tag t) (front_entries f ++ es) ≡ None
+rest_none p f k n es from apart t h here =
+    lookup-append t (front_entries f) es
+    ∙ ap (λ o. option_or o (lookup (same_tag t) es))
+    (lookup_nowhere f t (λ i inside. later_none p f k n from t h here i inside (nat_eq (place t n) (suc i + k)) refl))
+    ∙ apart zero empty_pair t h (omega arith) here
 
-distinct_from : (f : List Slot) (k n : ℕ) (es : List (Tag × Half)) → IsFrom f k n → IsDistinct same_tag (keys_of es) → IsApart f es
+-- a slot comes before entries that have none of its tag
+distinct_slot : (s : Slot) (es : List (Tag × Half)) → IsDistinct same_tag (keys_of es)
+    → ((h : Half) → held s (slot_tag s) ≡ Some h → lookup (same_tag (slot_tag s)) es ≡ None) → (o : Option Half) → slot_half s ≡ o
+    → IsDistinct same_tag (keys_of (cons_option (option_map (λ h. (slot_tag s, h)) o) es))
+distinct_slot s es rest none None e = rest
+distinct_slot s es rest none (Some h) e =
+    IsDistinct-cons same_tag (slot_tag s) (keys_of es) (not_passed (slot_tag s) es (none h (held_own s ∙ e))) rest
+
+with_second : (p : Pair) (es : List (Tag × Half)) (t : Tag) (h : Half) → IsSingle p → held p.first t ≡ Some h → lookup (same_tag t) es ≡ None
+    → lookup (same_tag t) (cons_option (slot_entry p.second) es) ≡ None
+with_second p es t h single here none =
+    entry_first t (slot_tag p.second) (slot_half p.second) es
+    ∙ ap (λ o. option_or o (lookup (same_tag t) es)) (single t (some_of _ h here)) ∙ none
+
+second_held : (p : Pair) (t : Tag) (h : Half) → IsSingle p → held p.second t ≡ Some h → (o : Option Half) → held p.first t ≡ o
+    → option_or o (held p.second t) ≡ Some h
+second_held p t h single is None e = is
+second_held p t h single is (Some g) e = let bad : None ≡ Some h = sym (single t (some_of _ g e)) ∙ is in cc
+
+pair_append : (a b : Option (Tag × Half)) (es fs : List (Tag × Half)) → cons_option a (cons_option b (es ++ fs)) ≡ (cons_option a
+    (cons_option b []) ++ es) ++ fs
+pair_append None None es fs = refl
+pair_append None (Some y) es fs = refl
+pair_append (Some x) None es fs = refl
+pair_append (Some x) (Some y) es fs = refl
+
+distinct_from : (f : List Pair) (k n : ℕ) (es : List (Tag × Half)) → IsFrom f k n → AreSingle f → IsDistinct same_tag (keys_of es) → IsApart f es
     → IsDistinct same_tag (keys_of (front_entries f ++ es))
-distinct_from [] k n es from distinct apart = distinct
-distinct_from (s ∷ f) k n es from distinct apart =
-    distinct_step s f k n es from apart
-    (distinct_from f (suc k) n es (λ i d t inside away. from (suc i) d t (omega arith) (λ e. away (omega arith))) distinct
-    (λ i d t h inside e. apart (suc i) d t h (omega arith) e)) (slot_half s) refl
+distinct_from [] k n es from single distinct apart = distinct
+distinct_from (p ∷ f) k n es from single distinct apart =
+    let one : IsSingle p = single zero empty_pair (omega arith) in
+    let rest : IsDistinct same_tag (keys_of (front_entries f ++ es)) =
+    distinct_from f (suc k) n es (λ i d t inside away. from (suc i) d t (omega arith) (λ e. away (omega arith)))
+    (λ i d inside. single (suc i) d (omega arith)) distinct (λ i d t h inside e. apart (suc i) d t h (omega arith) e) in
+    let second : IsDistinct same_tag (keys_of (cons_option (slot_entry p.second) (front_entries f ++ es))) =
+    distinct_slot p.second (front_entries f ++ es) rest
+    (λ h e. rest_none p f k n es from apart _ h (second_held p _ h one e (held p.first (slot_tag p.second)) refl)) (slot_half p.second) refl in
+    let first : IsDistinct same_tag (keys_of (cons_option (slot_entry p.first) (cons_option (slot_entry p.second) (front_entries f ++ es)))) =
+    distinct_slot p.first (cons_option (slot_entry p.second) (front_entries f ++ es)) second
+    (λ h e. with_second p (front_entries f ++ es) _ h one e
+    (rest_none p f k n es from apart _ h (ap (λ o. option_or o (held p.second (slot_tag p.first))) e))) (slot_half p.first) refl in
+    subst (λ l. IsDistinct same_tag (keys_of l)) (pair_append (slot_entry p.first) (slot_entry p.second) (front_entries f) es) first
 
-behind_none : (f : List Slot) (es : List (Tag × Half)) → IsKept f es → (i : ℕ) (d : Slot) (t : Tag) (h : Half) → i < length f
-    → held (get_or f i d) t ≡ Some h → (b : Bool) → nat_eq (place t (length f)) i ≡ b → lookup (same_tag t) es ≡ None
+behind_none : (f : List Pair) (es : List (Tag × Half)) → IsKept f es → (i : ℕ) (d : Pair) (t : Tag) (h : Half) → i < length f
+    → pair_half (get_or f i d) t ≡ Some h → (b : Bool) → nat_eq (place t (length f)) i ≡ b → lookup (same_tag t) es ≡ None
 behind_none f es kept i d t h inside e true at =
     let there : place t (length f) ≡ i = numbers_one _ _ at in
-    let one : get_or f i empty_slot ≡ get_or f i d = get_or_any f i empty_slot d inside in
-    kept.apart t h (ap (λ k. held (get_or f k empty_slot) t) there ∙ ap (λ x. held x t) one ∙ e)
+    let one : get_or f i empty_pair ≡ get_or f i d = get_or_any f i empty_pair d inside in
+    kept.apart t h (ap (λ k. pair_half (get_or f k empty_pair) t) there ∙ ap (λ x. pair_half x t) one ∙ e)
 behind_none f es kept i d t h inside e false away =
-    let none : held (get_or f i d) t ≡ None = kept.placed i d t inside (numbers_apart _ _ away) in
+    let none : pair_half (get_or f i d) t ≡ None = kept.placed.places i d t inside (numbers_apart _ _ away) in
     let bad : None ≡ Some h = sym none ∙ e in cc
 
 -- no tag is listed twice
-pub distinct_all : (f : List Slot) (es : List (Tag × Half)) → IsKept f es → IsDistinct same_tag (keys_of es) → IsDistinct same_tag (keys_of (all_entries f es))
-distinct_all f es kept distinct = distinct_from f zero (length f) es (λ i d t inside apart. kept.placed i d t inside (λ e. apart (omega arith))) distinct
+pub distinct_all : (f : List Pair) (es : List (Tag × Half)) → IsKept f es → IsDistinct same_tag (keys_of es) → IsDistinct same_tag (keys_of (all_entries f es))
+distinct_all f es kept distinct = distinct_from f zero (length f) es (λ i d t inside apart. kept.placed.places i d t inside (λ e. apart
+    (omega arith))) kept.placed.single distinct
     (λ i d t h inside e. behind_none f es kept i d t h inside e (nat_eq (place t (length f)) i) refl)

@@ -1,30 +1,33 @@
 //! The front of the store: slots of 32 bytes, each for one value that waits under a tag with small numbers.
 //!
-//! A tag's value stands in one slot alone, which the tag's numbers tell, so a look-up looks at one slot. A slot also
-//! tells whether anything stands behind it: under tags with its place, in the map.
+//! A tag's value stands in one of two slots alone, the pair at the place that the tag's numbers tell, so a look-up
+//! looks at one pair. A pair also tells whether anything stands behind it: under tags with its place, in the map.
 
-ghost use Rattle.std.specs.Prelude.{◌≡◌, ◌<◌, ◌↔◌, ◌≤◌, IsTrue, false, Some, None, IfSome};
-ghost use Rattle.std.specs.Prelude.{IsSome, IfOk, List, length, replicate, map as map_list};
-ghost use Rattle.std.specs.Option.{option_map};
-ghost use Rattle.id_match.specs.Ports.{same_port};
+ghost use Rattle.std.specs.Prelude.{◌≡◌, ◌≢◌, ◌<◌, ◌↔◌, ◌≤◌, ◌*◌, IsTrue, false, Some, None, IfSome, is_some};
+ghost use Rattle.std.specs.Prelude.{IsSome, IfOk, OnOk, List, [], ◌∷◌, ◌++◌, length, replicate, map as map_list};
+ghost use Rattle.std.specs.List.{filter_map};
+ghost use Rattle.std.specs.Option.{option_map, option_or};
 ghost use Rattle.std.specs.Map.{lookup};
 ghost use Rattle.id_tag.specs.Plains.{tag_in, whole};
 ghost use Rattle.id_tag.specs.Tags.{same_tag};
 ghost use Rattle.id_match.specs.declared.Half.{Half};
-ghost use Rattle.id_match.specs.Waiting.{entry_at, pair_of};
-ghost use Rattle.id_match.specs.Front.{IsPlaced, Meets, Puts, empty_slot, front_entries, front_half, held};
-ghost use Rattle.id_match.specs.Front.{place_of, slot_entry, slot_half, slot_tag, slot_value};
-ghost use Rattle.id_match.specs.Front.{HoldsSame, IsMarked, MarksSame, OthersSame, half_entry, mark_at};
+ghost use Rattle.id_match.specs.Halves.{answer_at, half_after};
+ghost use Rattle.id_match.specs.Meetings.{told};
+ghost use Rattle.id_match.specs.Waiting.{entry_at};
+ghost use Rattle.id_match.specs.Front.{IsPlaced, Meets, Puts, empty_pair, front_entries, front_half, held};
+ghost use Rattle.id_match.specs.Front.{place_of, slot_entry, slot_half, slot_tag};
+ghost use Rattle.id_match.specs.Front.{IsSingle, MeetsIn, PutsIn, pair_entries, pair_half};
+ghost use Rattle.id_match.specs.Front.{HoldsSame, IsKept, IsMarked, MarksSame, OthersSame, half_entry, mark_at};
 ghost use Rattle.id_match.specs.Front.{one_less, one_more};
 ghost use Rattle.id_match.specs.declared.front.Behind.TheVariants.{Nothing};
 
-use crate::{Entry, Half, Offered, pair};
+use crate::{Entry, Half, Met, Offered, pair};
 use id_graph::Port;
 use id_tag::{Context, NearHasher, Plain, PlainToken, Tag, Value, mix, plain_of, small, tiny};
 use std::alloc::{AllocError, Global};
 use std::collections::HashMap;
 
-/// How many values stand behind a slot: in the map, under tags with the slot's place.
+/// How many values stand behind a pair: in the map, under tags with the pair's place.
 #[derive(Clone, Copy, PartialEq, Eq)]
 pub(crate) enum Behind {
     Nothing,
@@ -56,7 +59,7 @@ impl Behind {
     }
 }
 
-/// A value that waits, with its tag and port, or none, and what stands behind.
+/// A value that waits, with its tag and port, or none, and in the first slot of a pair what stands behind the pair.
 #[derive(Clone, Copy)]
 pub(crate) struct Slot {
     value: Plain,
@@ -69,7 +72,14 @@ pub(crate) struct Slot {
     behind: Behind,
 }
 
-const _: () = prove!(size_of::<Slot>() == 32);
+/// The two slots at a place.
+#[derive(Clone, Copy)]
+pub(crate) struct Pair {
+    first: Slot,
+    second: Slot,
+}
+
+const _: () = prove!(size_of::<Pair>() == 64);
 
 /// The slot that keeps nothing, with nothing behind.
 const EMPTY: Slot = Slot {
@@ -83,7 +93,13 @@ const EMPTY: Slot = Slot {
     behind: Behind::Nothing,
 };
 
-/// The place of a tag's numbers among so many slots.
+/// The pair that keeps nothing, with nothing behind.
+const EMPTY_PAIR: Pair = Pair {
+    first: EMPTY,
+    second: EMPTY,
+};
+
+/// The place of a tag's numbers among so many pairs.
 #[inline(always)]
 fn place_of(serial: u64, iteration: u64, instr: u32, len: usize) -> usize
     requires { 0 < len }
@@ -132,6 +148,18 @@ impl Slot {
         if tag == self.tag() { self.half() } else { None }
     }
 
+    /// Whether it keeps a value under this tag.
+    #[inline(always)]
+    fn holds(&self, tag: Tag) -> bool
+        ensures { result ≡ is_some (held self.now tag) }
+    {
+        self.is_full
+            && u64::from(self.serial) == tag.context.serial
+            && u64::from(self.iteration) == tag.iteration
+            && self.instr == tag.instr
+            && u32::from(self.element) == tag.context.element
+    }
+
     /// Whether it keeps nothing.
     #[inline(always)]
     fn is_empty(&self) -> bool
@@ -152,20 +180,102 @@ impl Slot {
         })
     }
 
-    /// The plain value that it keeps for the other port of the token's tag, if there is one.
+    /// Offers the token whose tag's value it keeps.
     #[inline(always)]
-    fn partner(&self, token: &PlainToken) -> Option<Plain>
-        ensures { IfSome result (λ v. (slot_tag self.now ≡ tag_in token.now)
-            × (same_port self.now.port token.now.port ≡ false)
-            × (slot_value self.now ≡ Some (whole v))) }
+    fn meet(&mut self, token: &PlainToken) -> Met
+        ensures met { IsSome (held self.old (tag_in token.now)) → IfSome (told result token.now) (λ a.
+            (a ≡ answer_at (held self.old (tag_in token.now)) token.now.port (whole token.now.value))
+            × (half_after (held self.old (tag_in token.now)) token.now.port (whole token.now.value) ≡ None)
+            × (slot_half self.new ≡ None)) }
+        ensures apart { told result token.now ≡ None → self.new ≡ self.old }
+        ensures mark { self.new.behind ≡ self.old.behind }
     {
-        let is_there = self.is_full
-            && self.serial == token.serial
-            && self.iteration == token.iteration
-            && self.instr == token.instr
-            && self.element == token.element
-            && self.port != token.port;
-        if is_there { Some(self.value) } else { None }
+        if self.port == token.port {
+            return Met::Apart;
+        }
+        self.is_full = false;
+        Met::Partner(self.value)
+    }
+}
+
+impl Pair {
+    /// What waits in it under this tag.
+    fn half(&self, tag: Tag) -> Option<Half>
+        ensures { result ≡ pair_half self.now tag }
+    {
+        self.first.held(tag).or(self.second.held(tag))
+    }
+
+    /// Whether it keeps a value under this tag.
+    fn holds(&self, tag: Tag) -> bool
+        ensures { result ≡ is_some (pair_half self.now tag) }
+    {
+        self.first.holds(tag) || self.second.holds(tag)
+    }
+
+    /// How many values it keeps.
+    fn count(&self) -> usize
+        ensures exact { result ≡ length (pair_entries self.now) }
+        ensures most { result ≤ 2 }
+    {
+        usize::from(!self.first.is_empty()) + usize::from(!self.second.is_empty())
+    }
+
+    /// Takes away what waits under this tag.
+    fn clear(&mut self, tag: Tag)
+        ensures put { IsSingle self.old → PutsIn self.old self.new tag None }
+        ensures mark { self.new.first.behind ≡ self.old.first.behind }
+    {
+        if self.first.holds(tag) {
+            self.first.is_full = false;
+        } else if self.second.holds(tag) {
+            self.second.is_full = false;
+        }
+    }
+
+    /// Puts the slot, under whose tag it keeps nothing, in the place of one that keeps nothing, if there is one.
+    #[inline(always)]
+    fn put(&mut self, slot: Slot) -> bool
+        ensures put { pair_half self.old (slot_tag slot) ≡ None → IsTrue result
+            → PutsIn self.old self.new (slot_tag slot) (slot_half slot) }
+        ensures full { result ≡ false → self.new ≡ self.old }
+        ensures mark { self.new.first.behind ≡ self.old.first.behind }
+    {
+        if self.first.is_empty() {
+            self.first = Slot {
+                behind: self.first.behind,
+                ..slot
+            };
+            true
+        } else if self.second.is_empty() {
+            self.second = slot;
+            true
+        } else {
+            false
+        }
+    }
+
+    /// Offers the token, where that is short: it keeps the tag's value, or room for it, and nothing stands behind.
+    #[inline(always)]
+    fn meet(&mut self, token: &PlainToken) -> Option<Met>
+        ensures met { IsSingle self.old → IfSome result (λ met. IfSome (told met token.now) (λ a.
+            MeetsIn self.old self.new (tag_in token.now) token.now.port (whole token.now.value) a)) }
+        ensures found { IfSome result (λ _. self.old.first.behind ≢ Nothing
+            → IsSome (pair_half self.old (tag_in token.now))) }
+        ensures apart { IfSome result (λ met. told met token.now ≡ None → self.new ≡ self.old) }
+        ensures none { result ≡ None → self.new ≡ self.old }
+        ensures mark { self.new.first.behind ≡ self.old.first.behind }
+    {
+        let tag = token.tag();
+        if self.first.holds(tag) {
+            Some(self.first.meet(token))
+        } else if self.second.holds(tag) {
+            Some(self.second.meet(token))
+        } else if self.first.behind == Behind::Nothing && self.put(slot_in(token)) {
+            Some(Met::Kept)
+        } else {
+            None
+        }
     }
 }
 
@@ -203,12 +313,15 @@ pub(crate) fn slot_in(token: &PlainToken) -> Slot
     }
 }
 
-/// Takes away what waits for the plain token in the front, if that is a plain value.
+/// Offers a plain token to the front, where that is short: where its pair keeps the tag's value, or has room for it and
+/// nothing behind.
 #[inline(always)]
-pub(crate) fn meet(front: &mut Vec<Slot>, token: &PlainToken) -> Option<Plain>
-    ensures met { IfSome result (λ v. Meets front.old.items front.new.items (tag_in token.now) token.now.port
-        (whole token.now.value) (pair_of token.now.port (whole token.now.value) (whole v))) }
-    ensures found { IfSome result (λ _. IsSome (front_half front.old.items (tag_in token.now))) }
+pub(crate) fn meet(front: &mut Vec<Pair>, token: &PlainToken) -> Option<Met>
+    ensures met { IsPlaced front.old.items → IfSome result (λ met. IfSome (told met token.now) (λ a.
+        Meets front.old.items front.new.items (tag_in token.now) token.now.port (whole token.now.value) a)) }
+    ensures alone { (es : List (Tag × Half)) → IsKept front.old.items es → IsSome result
+        → lookup (same_tag (tag_in token.now)) es ≡ None }
+    ensures apart { IfSome result (λ met. told met token.now ≡ None → front.new.items ≡ front.old.items) }
     ensures none { result ≡ None → front.new.items ≡ front.old.items }
     ensures marks { MarksSame front.old.items front.new.items }
 {
@@ -221,14 +334,13 @@ pub(crate) fn meet(front: &mut Vec<Slot>, token: &PlainToken) -> Option<Plain>
         token.instr,
         front.len(),
     );
-    let partner = front[at].partner(token)?;
-    front[at].is_full = false;
-    Some(partner)
+    front[at].meet(token)
 }
 
-/// The same for any value, where a value that waits at the same port stays.
-pub(crate) fn take(front: &mut Vec<Slot>, tag: Tag, port: Port, value: Value) -> Option<Offered>
-    ensures met { IfSome result (λ a. Meets front.old.items front.new.items tag port value a) }
+/// Offers any value to the front, if that has the tag's value.
+pub(crate) fn take(front: &mut Vec<Pair>, tag: Tag, port: Port, value: Value) -> Option<Offered>
+    ensures met { IsPlaced front.old.items
+        → IfSome result (λ a. Meets front.old.items front.new.items tag port value a) }
     ensures found { IfSome result (λ _. IsSome (front_half front.old.items tag)) }
     ensures none { result ≡ None → front.new.items ≡ front.old.items }
     ensures free { result ≡ None → front_half front.old.items tag ≡ None }
@@ -238,29 +350,26 @@ pub(crate) fn take(front: &mut Vec<Slot>, tag: Tag, port: Port, value: Value) ->
         return None;
     }
     let at = place_of(tag.context.serial, tag.iteration, tag.instr, front.len());
-    let Some(half) = front[at].held(tag) else {
-        return None;
-    };
+    let half = front[at].half(tag)?;
     if half.port == port {
         return Some(Offered::Taken);
     }
-    front[at].is_full = false;
+    front[at].clear(tag);
     Some(pair(port, value, half.value))
 }
 
-/// What waits in the front under a tag.
-pub(crate) fn half_in(front: &[Slot], tag: Tag) -> Option<Half>
-    ensures { result ≡ front_half front.now tag }
+/// Whether a value waits in the front under a tag.
+pub(crate) fn has(front: &[Pair], tag: Tag) -> bool
+    ensures { result ≡ is_some (front_half front.now tag) }
 {
     if front.is_empty() {
-        return None;
+        return false;
     }
-    front[place_of(tag.context.serial, tag.iteration, tag.instr, front.len())].held(tag)
+    front[place_of(tag.context.serial, tag.iteration, tag.instr, front.len())].holds(tag)
 }
 
-/// Puts the slot into its place, if that keeps nothing.
-#[inline(always)]
-fn put(front: &mut Vec<Slot>, slot: Slot) -> bool
+/// Puts the slot into its pair, if there is room, and nothing waits under its tag in the front.
+fn put(front: &mut Vec<Pair>, slot: Slot) -> bool
     ensures free { IsTrue result → front_half front.old.items (slot_tag slot) ≡ None }
     ensures put { IsTrue result → Puts front.old.items front.new.items (slot_tag slot) (slot_half slot) }
     ensures full { result ≡ false → front.new.items ≡ front.old.items }
@@ -275,58 +384,24 @@ fn put(front: &mut Vec<Slot>, slot: Slot) -> bool
         slot.instr,
         front.len(),
     );
-    let free = front[at].is_empty();
-    if free {
-        front[at] = Slot {
-            behind: front[at].behind,
-            ..slot
-        };
-    }
-    free
+    !front[at].holds(slot.tag()) && front[at].put(slot)
 }
 
-/// Puts the slot into its place, if that keeps nothing, and nothing stands behind it.
-#[inline(always)]
-pub(crate) fn put_alone(front: &mut Vec<Slot>, slot: Slot) -> bool
-    ensures apart { (es : List (Tag × Half)) → IsMarked front.old.items es → IsTrue result
-        → lookup (same_tag (slot_tag slot)) es ≡ None }
-    ensures free { IsTrue result → front_half front.old.items (slot_tag slot) ≡ None }
-    ensures put { IsTrue result → Puts front.old.items front.new.items (slot_tag slot) (slot_half slot) }
-    ensures full { result ≡ false → front.new.items ≡ front.old.items }
-    ensures marks { MarksSame front.old.items front.new.items }
-{
-    if front.is_empty() {
-        return false;
-    }
-    let at = place_of(
-        u64::from(slot.serial),
-        u64::from(slot.iteration),
-        slot.instr,
-        front.len(),
-    );
-    let free = front[at].is_empty() & (front[at].behind == Behind::Nothing);
-    if free {
-        front[at] = Slot {
-            behind: Behind::Nothing,
-            ..slot
-        };
-    }
-    free
-}
-
-/// What stands behind the slot of a tag.
-fn stands_behind(front: &[Slot], tag: Tag) -> Behind
+/// What stands behind the pair of a tag.
+fn stands_behind(front: &[Pair], tag: Tag) -> Behind
     ensures { result ≡ Nothing → (0 < length front.now) × (mark_at front.now tag ≡ Nothing) }
 {
     if front.is_empty() {
         return Behind::Many;
     }
-    front[place_of(tag.context.serial, tag.iteration, tag.instr, front.len())].behind
+    front[place_of(tag.context.serial, tag.iteration, tag.instr, front.len())]
+        .first
+        .behind
 }
 
-/// Puts the slot into its place, if that keeps nothing and nothing waits under its tag behind.
+/// Puts the slot into its pair, if there is room, and nothing waits under its tag in the front or behind.
 pub(crate) fn put_beside(
-    front: &mut Vec<Slot>,
+    front: &mut Vec<Pair>,
     halves: &HashMap<Tag, Half, NearHasher>,
     slot: Slot,
 ) -> bool
@@ -344,9 +419,9 @@ pub(crate) fn put_beside(
     put(front, slot)
 }
 
-/// Puts the value into its place, if it fits, that keeps nothing, and nothing waits under its tag among the halves.
+/// Puts the value into its pair, if it fits, there is room, and nothing waits under its tag in the front or behind.
 pub(crate) fn put_value(
-    front: &mut Vec<Slot>,
+    front: &mut Vec<Pair>,
     halves: &HashMap<Tag, Half, NearHasher>,
     tag: Tag,
     port: Port,
@@ -366,8 +441,8 @@ pub(crate) fn put_value(
     }
 }
 
-/// Tells the slot of a tag that a value comes to stand behind it.
-pub(crate) fn step_behind(front: &mut Vec<Slot>, tag: Tag)
+/// Tells the pair of a tag that a value comes to stand behind it.
+pub(crate) fn step_behind(front: &mut Vec<Pair>, tag: Tag)
     ensures holds { HoldsSame front.old.items front.new.items }
     ensures marked { (es fs : List (Tag × Half)) → IsMarked front.old.items es → OthersSame tag es fs
         → IsMarked front.new.items fs }
@@ -376,11 +451,11 @@ pub(crate) fn step_behind(front: &mut Vec<Slot>, tag: Tag)
         return;
     }
     let at = place_of(tag.context.serial, tag.iteration, tag.instr, front.len());
-    front[at].behind = front[at].behind.more();
+    front[at].first.behind = front[at].first.behind.more();
 }
 
-/// Tells the slot of a tag that the value under that tag leaves from behind it.
-pub(crate) fn leave_behind(front: &mut Vec<Slot>, tag: Tag)
+/// Tells the pair of a tag that the value under that tag leaves from behind it.
+pub(crate) fn leave_behind(front: &mut Vec<Pair>, tag: Tag)
     ensures holds { HoldsSame front.old.items front.new.items }
     ensures marked { (es fs : List (Tag × Half)) → IsMarked front.old.items es → OthersSame tag es fs
         → IsSome (lookup (same_tag tag) es) → lookup (same_tag tag) fs ≡ None → IsMarked front.new.items fs }
@@ -389,11 +464,11 @@ pub(crate) fn leave_behind(front: &mut Vec<Slot>, tag: Tag)
         return;
     }
     let at = place_of(tag.context.serial, tag.iteration, tag.instr, front.len());
-    front[at].behind = front[at].behind.less();
+    front[at].first.behind = front[at].first.behind.less();
 }
 
-/// Tells the slots that these values stand behind them, and no others.
-pub(crate) fn mark(front: &mut Vec<Slot>, entries: &[Entry])
+/// Tells the pairs that these values stand behind them, and no others.
+pub(crate) fn mark(front: &mut Vec<Pair>, entries: &[Entry])
     ensures holds { HoldsSame front.old.items front.new.items }
     ensures marked { IsMarked front.new.items (map_list half_entry entries.now) }
 {
@@ -402,36 +477,45 @@ pub(crate) fn mark(front: &mut Vec<Slot>, entries: &[Entry])
     }
 }
 
-/// A front with no value, of so many slots.
-fn empty(alloc: Global, len: usize) -> Option<Vec<Slot>>
-    ensures items { IfSome result (λ f. f.items ≡ replicate len empty_slot) }
+/// A front with no value, of so many pairs.
+fn empty(alloc: Global, len: usize) -> Option<Vec<Pair>>
+    ensures items { IfSome result (λ f. f.items ≡ replicate len empty_pair) }
 {
     let mut front = Vec::new(alloc);
-    if front.resize(len, EMPTY).is_err() {
+    if front.resize(len, EMPTY_PAIR).is_err() {
         return None;
     }
     Some(front)
 }
 
-/// A front of 1,024 slots, or of twice as many as before, up to 2 ^ 24, which holds the same.
-pub(crate) fn larger(alloc: Global, front: &[Slot]) -> Option<Vec<Slot>>
+/// Moves what the slot keeps into the front, where nothing waits under its tag, if there is room.
+fn put_moved(front: &mut Vec<Pair>, slot: Slot) -> bool
+    ensures placed { IsTrue result → IsPlaced front.old.items → IsPlaced front.new.items }
+    ensures under { IsTrue result → (t : Tag) →
+        front_half front.new.items t ≡ option_or (front_half front.old.items t) (held slot t) }
+{
+    slot.is_empty() || put(front, slot)
+}
+
+/// A front of 512 pairs, or of twice as many as before, up to 2 ^ 23, which holds the same.
+pub(crate) fn larger(alloc: Global, front: &[Pair]) -> Option<Vec<Pair>>
     ensures placed { IfSome result (λ m. IsPlaced m.items) }
     ensures same { IfSome result (λ m. (t : Tag) →
         front_half m.items t ≡ lookup (same_tag t) (front_entries front.now)) }
 {
-    if front.len() > 0x80_0000 {
+    if front.len() > 0x40_0000 {
         return None;
     }
     let len = if front.is_empty() {
-        1024
+        512
     } else {
         front.len() * 2
     };
     let mut more = empty(alloc, len)?;
     for i in 0..front.len() {
-        // No two slots come to one place, since each place is that before, or so many more.
-        let slot = front[i];
-        if !slot.is_empty() && !put(&mut more, slot) {
+        // No two pairs come to one place, since each place is that before, or so many more.
+        let pair = front[i];
+        if !put_moved(&mut more, pair.first) || !put_moved(&mut more, pair.second) {
             return None;
         }
     }
@@ -439,30 +523,36 @@ pub(crate) fn larger(alloc: Global, front: &[Slot]) -> Option<Vec<Slot>>
 }
 
 /// How many values the slots keep.
-pub(crate) fn count(front: &[Slot]) -> usize
+pub(crate) fn count(front: &[Pair]) -> usize
     ensures exact { result ≡ length (front_entries front.now) }
-    ensures most { result ≤ length front.now }
+    ensures most { result ≤ 2 * length front.now }
 {
     let mut count = 0;
     for i in 0..front.len() {
-        let slot = front[i];
-        if !slot.is_empty() {
-            count += 1;
-        }
+        count += front[i].count();
     }
     count
 }
 
+/// Lists what the slot keeps.
+fn list(entries: &mut Vec<Entry>, slot: &Slot) -> Result<(), AllocError>
+    ensures { OnOk result (entries.new.items ≡
+        entries.old.items ++ map_list entry_at (filter_map slot_entry (slot.now ∷ []))) }
+{
+    if let Some(entry) = slot.entry() {
+        entries.push(entry)?;
+    }
+    Ok(())
+}
+
 /// What the slots keep, in their order.
-pub(crate) fn in_front(alloc: Global, front: &[Slot]) -> Result<Vec<Entry>, AllocError>
+pub(crate) fn in_front(alloc: Global, front: &[Pair]) -> Result<Vec<Entry>, AllocError>
     ensures { IfOk result (λ es. es.items ≡ map_list entry_at (front_entries front.now)) }
 {
     let mut entries = Vec::new(alloc);
     for i in 0..front.len() {
-        let slot = front[i];
-        if let Some(entry) = slot.entry() {
-            entries.push(entry)?;
-        }
+        list(&mut entries, &front[i].first)?;
+        list(&mut entries, &front[i].second)?;
     }
     Ok(entries)
 }

@@ -1,7 +1,7 @@
 //! The waiting-matching store: values that wait for their partner.
 //!
-//! Keeps: at most one value for each tag, with its port. Clauses see a finite map. A value stands in the one slot
-//! of the front that its tag's numbers tell, where it fits and that is free, and else in a hash map behind it.
+//! Keeps: at most one value for each tag, with its port. Clauses see a finite map. A value stands in one of the two
+//! slots of the front that its tag's numbers tell, where it fits and one is free, and else in a hash map behind them.
 //! Errors: want of memory alone, and then nothing has changed.
 //! Read first: `specs/Waiting.antt`, then `offer`.
 //! Not here: which operators have two ports (`id_graph`), firing (`id_ops`).
@@ -28,8 +28,8 @@ ghost use Rattle.id_match.specs.Front.{HoldsSame, IsMarked, IsPlaced, front_entr
 mod front;
 
 use front::{
-    Slot, count, half_in, in_front, larger, leave_behind, mark, meet, put_alone, put_beside,
-    put_value, slot_in, step_behind, take,
+    Pair, count, has, in_front, larger, leave_behind, mark, meet, put_beside, put_value, slot_in,
+    step_behind, take,
 };
 use id_graph::Port;
 use id_tag::{NearHasher, Plain, PlainToken, Tag, Value, plain_of};
@@ -80,7 +80,7 @@ pub struct Entry {
 pub struct Waiting {
     // For a larger front.
     alloc: Global,
-    front: Vec<Slot>,
+    front: Vec<Pair>,
     // How many more plain tokens came to stand behind the front than met what stands there, since it grew.
     crowded: usize,
     // What waits in no slot.
@@ -156,10 +156,8 @@ impl Waiting {
         ensures apart { IfOk result (λ met. told met token.now ≡ None → self.new ≡ self.old) }
         ensures err { OnErr result (self.new ≡ self.old) }
     {
-        if let Some(partner) = meet(&mut self.front, token) {
-            Ok(Met::Partner(partner))
-        } else if put_alone(&mut self.front, slot_in(token)) {
-            Ok(Met::Kept)
+        if let Some(met) = meet(&mut self.front, token) {
+            Ok(met)
         } else {
             // A copy, so that no reference to the caller's token leaves, and it can stand in registers.
             let copy = *token;
@@ -167,7 +165,7 @@ impl Waiting {
         }
     }
 
-    // The same where it is long: where the slot is taken, or more waits than the front holds.
+    // The same where it is long: where both slots are taken, or something stands behind them.
     #[inline(never)]
     fn offer_behind(&mut self, token: &PlainToken) -> Result<Met, AllocError>
         ensures answer { IfOk result (λ met. IfSome (told met token.now)
@@ -178,7 +176,7 @@ impl Waiting {
         ensures err { OnErr result (self.new ≡ self.old) }
     {
         self.make_room();
-        if half_in(&self.front, token.tag()).is_some() {
+        if has(&self.front, token.tag()) {
             Ok(Met::Apart)
         } else if put_beside(&mut self.front, &self.halves, slot_in(token)) {
             Ok(Met::Kept)
@@ -228,9 +226,9 @@ impl Waiting {
 // A larger front for the same values, if there is memory for it.
 fn larger_front(
     alloc: Global,
-    front: &[Slot],
+    front: &[Pair],
     halves: &HashMap<Tag, Half, NearHasher>,
-) -> Option<Vec<Slot>>
+) -> Option<Vec<Pair>>
     ensures placed { IfSome result (λ m. IsPlaced m.items) }
     ensures same { IfSome result (λ m. (t : Tag) →
         front_half m.items t ≡ lookup (same_tag t) (front_entries front.now)) }
@@ -283,7 +281,7 @@ fn sort_by_tag(entries: &mut Vec<Entry>)
 
 // An offer in one look-up: room is made where the tag is new, and only there. The front is told of it.
 fn offer_to(
-    front: &mut Vec<Slot>,
+    front: &mut Vec<Pair>,
     halves: &mut HashMap<Tag, Half, NearHasher>,
     tag: Tag,
     port: Port,
@@ -322,7 +320,7 @@ fn offer_to(
 // An offer of a plain token in one look-up. The front is told of it.
 #[inline(always)]
 fn offer_plain_to(
-    front: &mut Vec<Slot>,
+    front: &mut Vec<Pair>,
     halves: &mut HashMap<Tag, Half, NearHasher>,
     token: &PlainToken,
 ) -> Result<Met, AllocError>

@@ -14,25 +14,29 @@ pub invariant_of-self : goal.invariant_of-self
 invariant_of-self c =
     let is : from_entries (all_entries c.self.inside.front.items c.self.inside.halves.entries) ≡ c.args.self.now = c.self.view_is ∙ c.make_room.ensures in
     (all_of_meets c.self.inside.front.items c.self.inside.halves.entries _ is c.self.invariant c.args.port c.args.value _ c.args.tag _
-    c.in-Some.ensures.met c.take.ensures.marks (none_behind c.self.inside.front.items c.self.inside.halves.entries c.self.invariant _ c.in-Some.ensures.found)).0
+    (c.in-Some.ensures.met c.self.invariant.placed) c.take.ensures.marks
+    (none_behind c.self.inside.front.items c.self.inside.halves.entries c.self.invariant _ c.in-Some.ensures.found)).0
 
 pub returns-in-Some-clause-answer : goal.returns-in-Some-clause-answer
 returns-in-Some-clause-answer c =
     let is : from_entries (all_entries c.self.inside.front.items c.self.inside.halves.entries) ≡ c.args.self.now = c.self.view_is ∙ c.make_room.ensures in
     (all_of_meets c.self.inside.front.items c.self.inside.halves.entries _ is c.self.invariant c.args.port c.args.value _ c.args.tag _
-    c.in-Some.ensures.met c.take.ensures.marks (none_behind c.self.inside.front.items c.self.inside.halves.entries c.self.invariant _ c.in-Some.ensures.found)).1
+    (c.in-Some.ensures.met c.self.invariant.placed) c.take.ensures.marks
+    (none_behind c.self.inside.front.items c.self.inside.halves.entries c.self.invariant _ c.in-Some.ensures.found)).1
 
 pub returns-in-Some-clause-after : goal.returns-in-Some-clause-after
 returns-in-Some-clause-after c =
     let is : from_entries (all_entries c.self.inside.front.items c.self.inside.halves.entries) ≡ c.args.self.now = c.self.view_is ∙ c.make_room.ensures in
     (all_of_meets c.self.inside.front.items c.self.inside.halves.entries _ is c.self.invariant c.args.port c.args.value _ c.args.tag _
-    c.in-Some.ensures.met c.take.ensures.marks (none_behind c.self.inside.front.items c.self.inside.halves.entries c.self.invariant _ c.in-Some.ensures.found)).2
+    (c.in-Some.ensures.met c.self.invariant.placed) c.take.ensures.marks
+    (none_behind c.self.inside.front.items c.self.inside.halves.entries c.self.invariant _ c.in-Some.ensures.found)).2
 
 pub returns-in-Some-clause-keyed : goal.returns-in-Some-clause-keyed
 returns-in-Some-clause-keyed c =
     let is : from_entries (all_entries c.self.inside.front.items c.self.inside.halves.entries) ≡ c.args.self.now = c.self.view_is ∙ c.make_room.ensures in
     λ t p. ap (λ x. waits x t p) ((all_of_meets c.self.inside.front.items c.self.inside.halves.entries _ is c.self.invariant c.args.port c.args.value _
-    c.args.tag _ c.in-Some.ensures.met c.take.ensures.marks (none_behind c.self.inside.front.items c.self.inside.halves.entries c.self.invariant _ c.in-Some.ensures.found)).2)
+    c.args.tag _ (c.in-Some.ensures.met c.self.invariant.placed) c.take.ensures.marks
+    (none_behind c.self.inside.front.items c.self.inside.halves.entries c.self.invariant _ c.in-Some.ensures.found)).2)
     ∙ waits-offer_after _ c.args.tag c.args.port c.args.value t p
 
 pub invariant_of-self-then-put_value : goal.invariant_of-self-then-put_value
@@ -42,7 +46,8 @@ invariant_of-self-then-put_value c =
     let kept : IsKept c.take.new.front.items c.self.inside.halves.entries = subst (λ f. IsKept f c.self.inside.halves.entries) (sym same) c.self.invariant in
     let holds : from_entries (all_entries c.take.new.front.items c.self.inside.halves.entries) ≡ c.args.self.now = ap (λ f. from_entries (all_entries f
     c.self.inside.halves.entries)) same ∙ is in
-    (all_of_put c.take.new.front.items c.self.inside.halves.entries _ holds kept c.args.port c.args.value _ c.args.tag (c.if-put_value.ensures.apart kept.marked refl)
+    (all_of_put c.take.new.front.items c.self.inside.halves.entries _ holds kept c.args.port c.args.value _ c.args.tag
+    (c.if-put_value.ensures.apart kept.marked refl)
     (c.if-put_value.ensures.free refl) (c.if-put_value.ensures.put refl) c.put_value.ensures.marks).0
 
 pub returns-then-put_value-clause-answer : goal.returns-then-put_value-clause-answer
@@ -52,7 +57,8 @@ returns-then-put_value-clause-answer c =
     let kept : IsKept c.take.new.front.items c.self.inside.halves.entries = subst (λ f. IsKept f c.self.inside.halves.entries) (sym same) c.self.invariant in
     let holds : from_entries (all_entries c.take.new.front.items c.self.inside.halves.entries) ≡ c.args.self.now = ap (λ f. from_entries (all_entries f
     c.self.inside.halves.entries)) same ∙ is in
-    (all_of_put c.take.new.front.items c.self.inside.halves.entries _ holds kept c.args.port c.args.value _ c.args.tag (c.if-put_value.ensures.apart kept.marked refl)
+    (all_of_put c.take.new.front.items c.self.inside.halves.entries _ holds kept c.args.port c.args.value _ c.args.tag
+    (c.if-put_value.ensures.apart kept.marked refl)
     (c.if-put_value.ensures.free refl) (c.if-put_value.ensures.put refl) c.put_value.ensures.marks).1
 
 pub returns-then-put_value-clause-after : goal.returns-then-put_value-clause-after
@@ -62,7 +68,8 @@ returns-then-put_value-clause-after c =
     let kept : IsKept c.take.new.front.items c.self.inside.halves.entries = subst (λ f. IsKept f c.self.inside.halves.entries) (sym same) c.self.invariant in
     let holds : from_entries (all_entries c.take.new.front.items c.self.inside.halves.entries) ≡ c.args.self.now = ap (λ f. from_entries (all_entries f
     c.self.inside.halves.entries)) same ∙ is in
-    (all_of_put c.take.new.front.items c.self.inside.halves.entries _ holds kept c.args.port c.args.value _ c.args.tag (c.if-put_value.ensures.apart kept.marked refl)
+    (all_of_put c.take.new.front.items c.self.inside.halves.entries _ holds kept c.args.port c.args.value _ c.args.tag
+    (c.if-put_value.ensures.apart kept.marked refl)
     (c.if-put_value.ensures.free refl) (c.if-put_value.ensures.put refl) c.put_value.ensures.marks).2
 
 pub returns-then-put_value-clause-keyed : goal.returns-then-put_value-clause-keyed
@@ -73,7 +80,8 @@ returns-then-put_value-clause-keyed c =
     let holds : from_entries (all_entries c.take.new.front.items c.self.inside.halves.entries) ≡ c.args.self.now = ap (λ f. from_entries (all_entries f
     c.self.inside.halves.entries)) same ∙ is in
     λ t p. ap (λ x. waits x t p) ((all_of_put c.take.new.front.items c.self.inside.halves.entries _ holds kept c.args.port c.args.value _ c.args.tag
-    (c.if-put_value.ensures.apart kept.marked refl) (c.if-put_value.ensures.free refl) (c.if-put_value.ensures.put refl) c.put_value.ensures.marks).2) ∙ waits-offer_after _ c.args.tag
+    (c.if-put_value.ensures.apart kept.marked refl) (c.if-put_value.ensures.free refl)
+    (c.if-put_value.ensures.put refl) c.put_value.ensures.marks).2) ∙ waits-offer_after _ c.args.tag
     c.args.port c.args.value t p
 
 pub invariant_of-self-else-put_value : goal.invariant_of-self-else-put_value
@@ -136,7 +144,8 @@ returns-else-put_value-clause-keyed c =
     let others = others_always c.self.inside.halves.entries c.offer_to.new.halves.entries c.offer_to.result c.args.tag c.offer_to.ensures.others
     c.offer_to.ensures.err in
     keyed_from_after c.args.self.now _ c.args.tag c.args.port c.args.value c.offer_to.result (on_ok c.offer_to.result (λ e. behind_after
-    c.put_value.new.front.items c.self.inside.halves.entries _ holds kept c.args.tag c.args.port c.args.value free _ c.offer_to.ensures.holds c.offer_to.new.halves.entries others e)
+    c.put_value.new.front.items c.self.inside.halves.entries _ holds kept c.args.tag c.args.port c.args.value free _ c.offer_to.ensures.holds
+    c.offer_to.new.halves.entries others e)
     c.offer_to.ensures.at)
 
 pub returns-else-put_value-clause-grows : goal.returns-else-put_value-clause-grows

@@ -1,21 +1,18 @@
-use Rattle.std.proofs.Common.{◌∙◌, ap, refl, subst, sym}
+-- what a pair keeps is put into its place
+use Rattle.std.proofs.Common.{refl, sym, subst, ap, ◌∙◌}
 use Rattle.id_match.specs.Front.{IsPlaced, front_half}
-use Rattle.id_match.proofs.FrontLemmas.{put_more, pass_more}
-use Rattle.id_match.proofs.front.larger.Goals.{else-not-is_empty-via-then-not-is_empty+else-not-put, else-not-is_empty-via-else-not-is_empty}
+use Rattle.id_match.proofs.FrontLemmas.{both_moved, none_placed, none_held}
 use Rattle.id_match.proofs.front.larger.Goals as goal
 
--- a slot that keeps something is put into its place
+pub loop-i-init : goal.loop-i-init
+loop-i-init c = record {
+  placed = subst IsPlaced (sym c.in_ok-more.ensures.items) (none_placed c.if-is_empty.len);
+  same = λ t. ap (λ f. front_half f t) c.in_ok-more.ensures.items ∙ none_held c.if-is_empty.len t;
+}
+
 pub loop-i-preserved : goal.loop-i-preserved
-loop-i-preserved c = elim c.else-not-is_empty.branch [
-  | else-not-is_empty-via-then-not-is_empty+else-not-put w ↦ record {
-    placed = subst IsPlaced (sym (ap (λ x. x.items) w.more-is)) ((w.if-not-put.ensures.put refl).placed c.loop-i.invariant.placed);
-    same = λ t. ap (λ x. front_half x.items t) w.more-is
-        ∙ put_more c.args.front.now c.loop-i.i _ c.loop-i-test.true c.loop-i.more.items c.loop-i.invariant.same _ (w.if-not-put.ensures.free refl)
-        (w.if-not-put.ensures.put refl) t;
-  }
-  | else-not-is_empty-via-else-not-is_empty w ↦ record {
-    placed = subst IsPlaced (sym (ap (λ x. x.items) w.more-is)) c.loop-i.invariant.placed;
-    same = λ t. ap (λ x. front_half x.items t) w.more-is
-        ∙ pass_more c.args.front.now c.loop-i.i _ c.loop-i-test.true c.loop-i.more.items c.loop-i.invariant.same (w.if-not-is_empty.ensures.0 refl) t;
-  }
-]
+loop-i-preserved c = record {
+  placed = c.if-not-put_moved-2.ensures.placed refl (c.if-not-put_moved.ensures.placed refl c.loop-i.invariant.placed);
+  same = both_moved c.args.front.now c.loop-i.i _ c.loop-i-test.true c.loop-i.more.items c.put_moved.new.front.items _ c.loop-i.invariant.same
+      (c.if-not-put_moved.ensures.under refl) (c.if-not-put_moved-2.ensures.under refl);
+}

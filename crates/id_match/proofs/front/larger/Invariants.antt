@@ -5,7 +5,7 @@ use Rattle.id_tag.specs.declared.Tag.{Tag}
 use Rattle.id_match.specs.Front.{IsPlaced, front_entries, front_half}
 use Rattle.id_match.proofs.front.larger.Given as goal
 
--- what the first slots kept has its places
+-- what the first pairs kept has its places
 abbrev pub invariant-loop-i : goal.invariant-loop-i
 invariant-loop-i l =
     record {

@@ -1,25 +1,34 @@
--- the token's partner stands in its place
-use Rattle.std.proofs.Common.{◌≡◌, ◌<◌, refl, length, get_or, ap, arith}
-use Rattle.std.specs.Option.{option_map}
+-- what comes of the pair comes of the front
+use Rattle.std.proofs.Common.{◌≡◌, ◌≢◌, ◌<◌, ◌∙◌, IsSome, IfSome, length, get_or, sym, ap, subst, arith}
 use Rattle.std.proofs.lemmas.Grind.{common_steps}
-use Rattle.id_graph.specs.declared.dests.Port.{Port}
-use Rattle.id_tag.specs.declared.Value.{Value}
 use Rattle.id_tag.specs.Plains.{tag_in, whole}
-use Rattle.id_match.specs.declared.Half.{Half}
-use Rattle.id_match.specs.Front.{empty_slot, place}
-use Rattle.id_match.proofs.FrontLemmas.{meets_here, held_as}
+use Rattle.id_match.specs.Front.{IsSingle, empty_pair, pair_half, place}
+use Rattle.id_match.specs.Meetings.{told}
+use Rattle.id_match.specs.declared.front.Behind.TheVariants.{Nothing}
+use Rattle.id_match.proofs.FrontLemmas.{meets_here, place_below, if_some, alone_in}
 use Rattle.id_match.proofs.front.meet.Goals as goal
 
-abbrev half_at : Port → Value → Half
-half_at p v = record { port = p; value = v }
-
 pub returns-clause-met : goal.returns-clause-met
-returns-clause-met c =
-    let some : 0 < length c.args.front.now.items = grind (arith, common_steps) in
-    let at : get_or c.args.front.now.items c.place_of-at.result empty_slot ≡ c.index.result.now = grind (arith, common_steps) in
-    let there : c.place_of-at.result ≡ place (tag_in c.args.token.now) (length c.args.front.now.items) = grind (arith, common_steps) in
-    let q = c.in_ok-partner.ensures in
-    meets_here c.args.front.now.items (tag_in c.args.token.now) some c.place_of-at.result there c.index.result.now at
-    _ refl (half_at c.index.result.now.port (whole c.in_ok-partner.partner))
-    (held_as c.index.result.now (tag_in c.args.token.now) _ q.0 (ap (option_map (half_at c.index.result.now.port)) q.2))
-    c.args.token.now.port (whole c.args.token.now.value) q.1 _ refl
+returns-clause-met c = λ placed.
+    let t = tag_in c.args.token.now in
+    let f = c.args.front.now.items in
+    let some : 0 < length f = grind (arith, common_steps) in
+    let at : get_or f c.place_of-at.result empty_pair ≡ c.index_mut.result.now = grind (arith, common_steps) in
+    let there : c.place_of-at.result ≡ place (tag_in c.args.token.now) (length f) = grind (arith, common_steps) in
+    let single : IsSingle c.index_mut.result.now =
+    subst IsSingle (ap (λ k. get_or f k empty_pair) (sym there) ∙ at) (placed.single (place t (length f)) empty_pair (place_below t _ some)) in
+    if_some c.meet.result
+    (λ met. if_some (told met c.args.token.now)
+    (λ a m. meets_here f t some c.place_of-at.result there c.index_mut.result.now at c.meet.new.self c.args.token.now.port (whole c.args.token.now.value) a m))
+    (c.meet.ensures.met single)
+
+pub returns-clause-alone : goal.returns-clause-alone
+returns-clause-alone c = λ es kept is.
+    let t = tag_in c.args.token.now in
+    let f = c.args.front.now.items in
+    let some : 0 < length f = grind (arith, common_steps) in
+    let at : get_or f c.place_of-at.result empty_pair ≡ c.index_mut.result.now = grind (arith, common_steps) in
+    let there : c.place_of-at.result ≡ place (tag_in c.args.token.now) (length f) = grind (arith, common_steps) in
+    alone_in f t some es kept c.meet.result is
+    (subst (λ p. IfSome c.meet.result (λ _. p.first.behind ≢ Nothing → IsSome (pair_half p t)))
+    (sym at ∙ ap (λ k. get_or f k empty_pair) there) c.meet.ensures.found)
