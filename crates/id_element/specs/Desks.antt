@@ -34,13 +34,13 @@ abbrev pub IsWrite : Payload → Type 0
 IsWrite (Write c v t) = Unit {0}
 IsWrite x = ⊥
 
--- all numbers of the event of a plain token at the instruction are small
-pub record IsShort (d : Desk) (i : Instr) (t : PlainToken) (stamp : ℕ) : Type 0 where
+-- all numbers of the event of a plain token are small, and so is this bound on what is sent for it
+pub record IsShort (d : Desk) (most : ℕ) (t : PlainToken) (stamp : ℕ) : Type 0 where
   pub stamp_is : stamp < 2 ^ 32
   pub position : length d.log.events < 2 ^ 32
   pub element : d.log.element < 256
   pub iteration : t.iteration < 2 ^ 32 - 1
-  pub few : most_sent i ≤ 256
+  pub few : most ≤ 256
   pub line : HasLine t
 
 -- what the instruction fires on these operands under the tag of a plain token

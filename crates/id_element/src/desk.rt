@@ -6,7 +6,7 @@ ghost use Rattle.id_element.specs.Steps.{readers_of};
 
 use crate::outcome::{
     allocated_by, allocated_by_shot, answer_fired, fill_verdict, fresh_numbers, made_by, most_sent,
-    next_stamp, react, react_full, react_plain, send, send_replies, send_shot,
+    next_stamp, react, react_full, react_plain, send, send_like, send_replies, send_shot,
 };
 use crate::step::{Arrival, PlainOperands, Reacted, Short, TakeError};
 use id_bank::{Bank, ReadAnswer, WriteAnswer};
@@ -151,10 +151,11 @@ impl<'a> Desk<'a> {
     {
         let stamp = next_stamp(self.stamp, u64::from(token.stamp))?;
         let instr = &graph.instrs()[token.instr as usize];
-        if !self.is_short(instr, token, stamp) {
+        let most = most_sent(instr);
+        if !self.is_short(most, token, stamp) {
             return Ok(Short::Apart);
         }
-        self.reserve(most_sent(instr), 0, outputs)?;
+        self.reserve(most, 0, outputs)?;
         match react_plain(&mut self.waiting, instr.op, token)? {
             Reacted::Shot(shot) => {
                 self.conclude_shot(instr, token, stamp as u32, shot, outputs);
@@ -162,23 +163,23 @@ impl<'a> Desk<'a> {
             }
             Reacted::Fires(operands) => {
                 let copy = *token;
-                Ok(self.conclude_plain(instr, &copy, stamp, operands, outputs))
+                Ok(self.conclude_plain(instr, &copy, stamp as u32, operands, outputs))
             }
             Reacted::Apart => Ok(Short::Apart),
         }
     }
 
-    /// Whether all numbers of this event are small.
+    /// Whether all numbers of this event are small, which sends at most so many messages.
     #[inline(always)]
-    fn is_short(&self, instr: &Instr, token: &PlainToken, stamp: u64) -> bool
-        ensures { IsTrue result → IsShort self.now instr.now token.now stamp }
+    fn is_short(&self, most: usize, token: &PlainToken, stamp: u64) -> bool
+        ensures { IsTrue result → IsShort self.now most token.now stamp }
     {
         // All at once, without a branch for each: nearly all of them hold.
         (stamp <= 0xffff_ffff)
             & (self.log.len() <= 0xffff_ffff)
             & (self.log.element() <= 0xff)
             & (token.iteration < 0xffff_ffff)
-            & (most_sent(instr) <= 0x100)
+            & (most <= 0x100)
             & has_line(token)
     }
 
@@ -325,6 +326,37 @@ impl<'a> Desk<'a> {
             stamp,
         };
         send(instr, tag, &reaction.fired, envelope, outputs);
+        self.note(instr, message, stamp, reaction);
+        reaction.verdict
+    }
+
+    /// Records the event of a token at the instruction, and counts what it made. There is room for it. Takes no memory.
+    #[inline(always)]
+    fn note(&mut self, instr: &Instr, message: &Message, stamp: u64, reaction: &Reaction)
+        requires room { 0 < self.old.log.room }
+        requires room_aside { 0 < self.old.log.room_aside }
+        requires own { slice_get self.old.log.graph.instrs (tag_of message.now.payload).instr ≡ Some instr.now }
+        requires counted { self.old.contexts + 1 < 2 ^ 64 }
+        requires numbered { self.old.structures + 1 < 2 ^ 64 }
+
+        ensures waiting { self.new.waiting ≡ self.old.waiting }
+        ensures cells { self.new.cells ≡ self.old.cells }
+        ensures stamp { self.new.stamp ≡ stamp }
+        ensures contexts { self.new.contexts ≡ self.old.contexts + made_by reaction.now.fired }
+        ensures structures { self.new.structures ≡ self.old.structures + allocated_by instr.now.op reaction.now.fired }
+        ensures number { self.new.log.element ≡ self.old.log.element }
+        ensures graph { self.new.log.graph ≡ self.old.log.graph }
+        ensures events { self.new.log.events ≡ self.old.log.events ++ record {
+          element = self.old.log.element;
+          stamp = stamp;
+          message = message.now;
+          fired = reaction.now.fired;
+          outputs = numbered self.old.log.element (length self.old.log.events) stamp 0
+              (sent (Some instr.now.op) (arcs_on (side_of reaction.now.fired) instr.now) (tag_of message.now.payload)
+              reaction.now.fired);
+          step = full_step message.now.payload reaction.now.verdict;
+        } ∷ [] }
+    {
         self.log.push(Handling {
             message,
             stamp,
@@ -334,7 +366,6 @@ impl<'a> Desk<'a> {
         self.stamp = stamp;
         self.contexts += made_by(&reaction.fired);
         self.structures += allocated_by(instr.op, &reaction.fired);
-        reaction.verdict
     }
 
     /// Sends what was shot, and records the event. There is room for it. Takes no memory.
@@ -349,7 +380,7 @@ impl<'a> Desk<'a> {
     )
         requires room { 0 < self.old.log.room }
         requires room_aside { 0 < self.old.log.room_aside }
-        requires short { IsShort self.old instr.now token.now stamp }
+        requires short { IsShort self.old (most_sent instr.now) token.now stamp }
         requires own_value { IsOwn shot token.now.value }
         requires brief { IsBrief token.now.iteration shot }
         requires own { slice_get self.old.log.graph.instrs token.now.instr ≡ Some instr.now }
@@ -398,14 +429,14 @@ impl<'a> Desk<'a> {
         &mut self,
         instr: &Instr,
         token: &PlainToken,
-        stamp: u64,
+        stamp: u32,
         operands: PlainOperands,
         outputs: &mut Queue,
     ) -> Short
         requires room { 0 < self.old.log.room }
         requires room_aside { 0 < self.old.log.room_aside }
         requires own { slice_get self.old.log.graph.instrs token.now.instr ≡ Some instr.now }
-        requires iteration { token.now.iteration < 2 ^ 32 - 1 }
+        requires short { IsShort self.old (most_sent instr.now) token.now stamp }
         requires room_in_outputs { most_sent instr.now ≤ outputs.old.room }
         requires graph { IsGraph self.old.log.graph }
         requires valid { IsValid self.old.log.graph }
@@ -446,8 +477,15 @@ impl<'a> Desk<'a> {
             PlainOperands::Two(left, right) => Operands::Two(left.value(), right.value()),
         });
         let reaction = react_full(instr, next, token.tag(), &arrival);
-        let message = token.message();
-        match self.conclude(instr, token.tag(), &message, stamp, &reaction, outputs) {
+        let sample = PlainToken {
+            position: self.log.len() as u32,
+            stamp,
+            sender: self.log.element() as u8,
+            ..*token
+        };
+        send_like(instr, &sample, &reaction.fired, outputs);
+        self.note(instr, &token.message(), u64::from(stamp), &reaction);
+        match reaction.verdict {
             Verdict::Failed(fault) => Short::Failed(fault),
             Verdict::Went => Short::Went,
             Verdict::Stuck | Verdict::Second(_) => unreachable!(),

@@ -24,9 +24,10 @@ ghost use Rattle.id_tag.specs.declared.Tag.{Tag};
 ghost use Rattle.id_ops.specs.declared.Fresh.{Fresh};
 ghost use Rattle.id_ops.specs.declared.Operands.TheVariants.{One, Two};
 ghost use Rattle.id_ops.specs.Operators.{fired};
+ghost use Rattle.id_ops.specs.declared.Fired.TheVariants.{Entered};
 ghost use Rattle.id_ops.specs.Shots.{fired_of};
 ghost use Rattle.id_graph.specs.Graph.{arcs_on};
-ghost use Rattle.id_ops.specs.Operators.{side_of};
+ghost use Rattle.id_ops.specs.Operators.{side_of, tag_within};
 
 use crate::step::{Arrival, PlainOperands, Reacted, TakeError};
 use id_bank::{ReadAnswer, WriteAnswer};
@@ -38,7 +39,7 @@ use id_record::{
     Envelope, Reaction, Record, Verdict, chosen, count_started, message, moved_to, start, token_at,
     token_to,
 };
-use id_tag::{Context, Payload, Plain, PlainToken, Tag, Value};
+use id_tag::{Context, Payload, Plain, PlainToken, Tag, Value, small, tiny};
 use std::alloc::AllocError;
 
 /// The stamp of the next event, one above both, where there is one.
@@ -348,6 +349,95 @@ pub(crate) fn send(instr: &Instr, tag: Tag, fired: &Fired, envelope: Envelope, o
     }
 }
 
+/// Appends the outputs of a firing on a plain token, for which there is room: each is like this one. Takes no memory.
+pub(crate) fn send_like(instr: &Instr, like: &PlainToken, fired: &Fired, outputs: &mut Queue)
+    requires room { most_sent instr.now ≤ outputs.old.room }
+    requires few { most_sent instr.now ≤ 256 }
+    requires second { HasSecond (Some instr.now.op) }
+    ensures { outputs.new.messages ≡ outputs.old.messages ++ numbered like.now.sender like.now.position like.now.stamp 0
+        (sent (Some instr.now.op) (arcs_on (side_of fired.now) instr.now) (tag_in like.now) fired.now) }
+{
+    match *fired {
+        Fired::Entered(context) => send_entered(instr, like, context, outputs),
+        _ => send(instr, like.tag(), fired, envelope_of(like), outputs),
+    }
+}
+
+/// Appends the outputs of a firing on a plain token that entered a context, for which there is room.
+fn send_entered(instr: &Instr, like: &PlainToken, context: Context, outputs: &mut Queue)
+    requires room { most_sent instr.now ≤ outputs.old.room }
+    requires few { most_sent instr.now ≤ 256 }
+    requires second { HasSecond (Some instr.now.op) }
+    ensures { outputs.new.messages ≡ outputs.old.messages ++ numbered like.now.sender like.now.position like.now.stamp 0
+        (sent (Some instr.now.op) (arcs_on (side_of (Entered context)) instr.now) (tag_in like.now) (Entered context)) }
+{
+    match (instr.op, tiny(context.element), small(context.serial)) {
+        (Op::Enter { block, reply }, Some(element), Some(serial)) => {
+            let dests = instr.dests.as_slice();
+            let value = Plain::Context(element, serial);
+            send_plain(dests, &PlainToken { value, ..*like }, outputs);
+            let number = dests.len();
+            let first = plain_within(like, element, serial, block, Plain::Signal, number);
+            outputs.push_plain_reserved(&first);
+            let caller = Plain::Continuation(like.element, like.serial, like.iteration, reply);
+            let second = plain_within(like, element, serial, block + 1, caller, number + 1);
+            outputs.push_plain_reserved(&second);
+        }
+        _ => send(
+            instr,
+            like.tag(),
+            &Fired::Entered(context),
+            envelope_of(like),
+            outputs,
+        ),
+    }
+}
+
+/// A plain token for port 0 of an instruction in the context of these numbers, with this value and this number, and else
+/// like this one.
+fn plain_within(
+    like: &PlainToken,
+    element: u8,
+    serial: u32,
+    instr: u32,
+    value: Plain,
+    number: usize,
+) -> PlainToken
+    requires { number < 256 }
+    ensures { message_of result ≡ record {
+      payload = Token (tag_within (record { element = element; serial = serial }) instr) Zero (whole value);
+      sender = Element like.now.sender;
+      position = like.now.position;
+      output = number;
+      stamp = like.now.stamp;
+    } }
+{
+    let output = number as u8;
+    PlainToken {
+        value,
+        serial,
+        iteration: 0,
+        instr,
+        element,
+        port: Port::Zero,
+        output,
+        ..*like
+    }
+}
+
+/// What messages like this one have in common.
+fn envelope_of(like: &PlainToken) -> Envelope
+    ensures number { result.number ≡ like.now.sender }
+    ensures position { result.position ≡ like.now.position }
+    ensures stamp { result.stamp ≡ like.now.stamp }
+{
+    Envelope {
+        number: u32::from(like.sender),
+        position: like.position as usize,
+        stamp: u64::from(like.stamp),
+    }
+}
+
 /// Appends the outputs of a shot, for which there is room: each is like this token. Takes no memory.
 #[inline(always)]
 pub(crate) fn send_shot(instr: &Instr, like: &PlainToken, shot: Shot, outputs: &mut Queue)
@@ -359,18 +449,16 @@ pub(crate) fn send_shot(instr: &Instr, like: &PlainToken, shot: Shot, outputs: &
         (sent (Some instr.now.op) (arcs_on (side_of (fired_of shot)) instr.now) (tag_in like.now) (fired_of shot)) }
 {
     let dests = instr.dests.as_slice();
-    let others = instr.others.as_slice();
     match shot {
         Shot::Nothing => {}
         Shot::Out(value) | Shot::Side(true, value) => {
             send_plain(dests, &PlainToken { value, ..*like }, outputs)
         }
-        Shot::Side(false, value) => send_plain(others, &PlainToken { value, ..*like }, outputs),
-        Shot::Sent(target, value) => {
-            // A copy, so that no reference to the caller's token leaves, and it can stand in registers.
-            let copy = PlainToken { value, ..*like };
-            send_to(target, &copy, outputs)
+        Shot::Side(false, value) => {
+            let others = instr.others.as_slice();
+            send_plain(others, &PlainToken { value, ..*like }, outputs)
         }
+        Shot::Sent(target, value) => send_to(target, &PlainToken { value, ..*like }, outputs),
         Shot::Moved(iteration, value) => {
             let iteration = iteration as u32;
             send_plain(
@@ -387,26 +475,21 @@ pub(crate) fn send_shot(instr: &Instr, like: &PlainToken, shot: Shot, outputs: &
 }
 
 /// Appends a token for port 0 of a tag, else like this plain one.
-#[inline(never)]
+#[inline(always)]
 fn send_to(target: Target, like: &PlainToken, outputs: &mut Queue)
     requires room { 0 < outputs.old.room }
     ensures { outputs.new.messages ≡ outputs.old.messages ++ numbered like.now.sender like.now.position like.now.stamp 0
         (Token (target_tag target) Zero (whole like.now.value) ∷ []) }
 {
-    let tag = Tag {
-        context: Context {
-            element: u32::from(target.element),
-            serial: u64::from(target.serial),
-        },
-        iteration: u64::from(target.iteration),
+    outputs.push_plain_reserved(&PlainToken {
+        serial: target.serial,
+        iteration: target.iteration,
         instr: target.instr,
-    };
-    let envelope = Envelope {
-        number: u32::from(like.sender),
-        position: like.position as usize,
-        stamp: u64::from(like.stamp),
-    };
-    outputs.push_back_reserved(message(envelope, 0, token_at(tag, like.value.value())));
+        element: target.element,
+        port: Port::Zero,
+        output: 0,
+        ..*like
+    });
 }
 
 /// Appends one plain token for each destination, in order, each like this one.
@@ -414,8 +497,10 @@ fn send_to(target: Target, like: &PlainToken, outputs: &mut Queue)
 fn send_plain(dests: &[Dest], like: &PlainToken, outputs: &mut Queue)
     requires room { length dests.now ≤ outputs.old.room }
     requires few { length dests.now ≤ 256 }
-    ensures { outputs.new.messages ≡ outputs.old.messages ++ numbered like.now.sender like.now.position like.now.stamp 0
+    ensures messages { outputs.new.messages ≡ outputs.old.messages
+        ++ numbered like.now.sender like.now.position like.now.stamp 0
         (map (token_to (tag_in like.now) (whole like.now.value)) dests.now) }
+    ensures room { outputs.old.room ≤ outputs.new.room + length dests.now }
 {
     for (number, dest) in dests.iter().enumerate() {
         outputs.push_plain_reserved(&plain_to(like, *dest, number));

@@ -1,11 +1,8 @@
--- What is recorded is what was sent: the event is at the instruction.
-use Rattle.std.proofs.Common.{◌∷◌, ◌++◌, [], length, refl, ap, ◌∙◌}
-use Rattle.id_record.specs.declared.line.Handled.{Handled}
+-- The block that is entered has a second instruction, and what is recorded is at the tag.
+use Rattle.std.proofs.Common.{ap}
 use Rattle.std.specs.Prelude.{Some, option_map}
 use Rattle.id_record.specs.Events.{tag_of}
-use Rattle.id_record.specs.Lines.{no_replies}
 use Rattle.id_record.proofs.SendsLemmas.{HasSecond-valid}
-use Rattle.id_record.proofs.LinesLemmas.{event_at_instr}
 use Rattle.id_element.proofs.desk.Desk.conclude.Goals as goal
 
 -- the block that the operator names has a second instruction
@@ -16,7 +13,4 @@ send-requires-clause-second c =
     (ap (option_map (λ i. i.op)) c.requires.own)
 
 pub returns-clause-events : goal.returns-clause-events
-returns-clause-events c =
-    let log = c.args.self.now.log in
-    let event : Handled = record { message = c.args.message.now; stamp = c.args.stamp; reaction = c.args.reaction.now; replies = no_replies } in
-    c.push.ensures.events ∙ ap (λ e. log.events ++ e ∷ []) (event_at_instr log.graph log.element log.replies (length log.events) event c.args.instr.now c.args.tag refl c.requires.own c.requires.tag)
+returns-clause-events c = rw c.requires.tag c.note.ensures.events
