@@ -1,5 +1,5 @@
 -- Lemmas on specs/Machines.antt.
-use Rattle.std.proofs.Common.{◌≡◌, ℕ, suc, ◌+◌, ◌<◌, Bool, true, false, cond, eqb, eq-eqb, ◌||◌, Some, None, List, [], ◌∷◌, ◌++◌, map, filter, length, get_or, set, take, drop, refl, sym, ap, subst, ◌∙◌, ⊎_elim, arith}
+use Rattle.std.proofs.Common.{◌≡◌, ℕ, suc, ◌+◌, ◌<◌, Bool, true, false, cond, eqb, eq-eqb, ◌||◌, Option, Some, None, List, [], ◌∷◌, ◌++◌, map, filter, length, get_or, set, take, drop, refl, sym, ap, subst, ◌∙◌, ⊎_elim, arith}
 use Rattle.std.specs.Prelude.{All, slice_index, slice_get, option_map}
 use Rattle.std.specs.List.{list_any, remove}
 use Rattle.std.specs.List.Sorted.{IsStrictlyIncreasing}
@@ -24,12 +24,14 @@ use Rattle.id_valid.specs.Validator.{IsMainBlock}
 use Rattle.id_element.specs.Fits.{Fits, TokenFits}
 use Rattle.id_element.specs.Steps.{fresh, outputs_of, event_of, state_after, is_ended}
 use Rattle.id_element.specs.Replays.{ElementView}
+use Rattle.id_record.specs.Events.{EventView}
+use Rattle.id_record.specs.declared.step.Step.{Step}
 use Rattle.id_element.specs.Shorts.{IsHandled}
 use Rattle.id_element.specs.declared.step.Short.{Short}
 use Rattle.id_element.specs.declared.step.Short.TheVariants.{Went, Failed, Apart}
 use Rattle.id_tag.specs.declared.plain.PlainToken.{PlainToken}
 use Rattle.id_tag.specs.Plains.{message_of}
-use Rattle.id_core.specs.Machines.{world_of, taken_from, given_to, routed_to, delivered, event_of_given, event_of_routed, event_at, start_message, input_messages, block_messages, AreTaken, IsElement, AreElements, IsMachine}
+use Rattle.id_core.specs.Machines.{came_of, world_of, taken_from, given_to, routed_to, delivered, event_of_given, event_of_routed, event_at, start_message, input_messages, block_messages, AreTaken, IsElement, AreElements, IsMachine}
 use Rattle.id_observe.specs.Observed.{main_tag}
 use Rattle.id_element.proofs.SentLemmas.{kind_at_op}
 use Rattle.id_core.proofs.InputsLemmas.{inputs_fit}
@@ -203,3 +205,10 @@ module _ (g : Parts) (es : List ElementView) (flight : List Message) (k n : ℕ)
   -- and so it has the same world
   pub world-apart : later ≡ e → left ≡ flight → world_of (set es n later) left ≡ world_of es flight
   world-apart same still = ap (λ x. world_of (set es n x) left) same ∙ ap (λ x. world_of (set es n e) x) still ∙ ap (λ x. world_of x flight) unchanged
+
+-- what an event came to without its fault, from what it came to
+pub came_from : (o : Option EventView) (s : Step) → option_map (λ e. e.step) o ≡ Some s → option_map (λ e. came_of e.step) o ≡ Some (came_of s)
+came_from None s h = absurd cc
+came_from (Some v) s h =
+    let same : v.step ≡ s = cc in
+    ap (λ x. Some (came_of x)) same

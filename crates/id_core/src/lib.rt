@@ -16,4 +16,4 @@ pub use flight::Flight;
 pub use id_element::{Element, TakeError, fits};
 pub use id_observe::{Holdings, Merged, Observed, merge_records, observe_records};
 pub use id_record::{Event, Events, Fault, Outputs, Step};
-pub use machine::{MAX_ELEMENTS, Machine, MachineError};
+pub use machine::{Came, MAX_ELEMENTS, Machine, MachineError};

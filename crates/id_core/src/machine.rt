@@ -62,6 +62,14 @@ impl<T: Drop> From<AllocFailed<T>> for MachineError {
     }
 }
 
+/// What an event came to, without its fault: small, since each event of a run hands one on.
+#[derive(Clone, Copy)]
+pub enum Came {
+    Went,
+    Failed,
+    Stuck,
+}
+
 /// A machine: 1 to 64 elements of one graph, and the messages in flight, in the order in which they were sent.
 #[derive(Drop)]
 pub struct Machine<'a> {
@@ -100,7 +108,8 @@ impl<'a> Machine<'a> {
     ghost use Rattle.id_element.specs.declared.step.Short.TheVariants.{Apart};
     ghost use Rattle.id_tag.specs.Plains.{message_of, tag_in};
     ghost use Rattle.id_core.specs.Observed.{answer, cells, faults, names, structures, waiting};
-    ghost use Rattle.id_core.specs.Machines.{AreElements, IsQuiet, TakesInputs, delivered, event_at, start, world_of};
+    ghost use Rattle.id_core.specs.Machines.{AreElements, IsQuiet, TakesInputs, came_of, delivered, event_at, start};
+    ghost use Rattle.id_core.specs.Machines.{world_of};
 
     /// The machine of so many elements at its start, with the start messages in flight: a signal to
     /// main's first instruction, the continuation to instruction 0, and an input to each of main's entries.
@@ -155,6 +164,55 @@ impl<'a> Machine<'a> {
                 Short::Apart => self.deliver_any(position),
             },
             None => self.deliver_any(position),
+        }
+    }
+
+    /// Delivers the message at a position, as `deliver` does, and says what its event came to without the fault.
+    #[tactic(auto, using(crate::proofs::MachinesLemmas::came_from))]
+    #[inline(always)]
+    pub fn advance(&mut self, position: usize) -> Result<Came, TakeError>
+        requires { position < length self.old.world.flight }
+
+        ensures world { OnOk result
+            (self.new ≡ record self.old { world = delivered self.old.graph self.old.count self.old.world position }) }
+        ensures step { IfOk result
+            (λ came. option_map (λ e. came_of e.step) (event_at self.old.graph self.old.count self.old.world position)
+            ≡ Some came) }
+
+        ensures end { (result ≡ Err StampEnd) ↔
+            (event_at self.old.graph self.old.count self.old.world position ≡ None) }
+        ensures err { OnErr result (self.new ≡ self.old) }
+    {
+        match self.flight.plain(position) {
+            Some(token) => match self.deliver_plain(position, &token)? {
+                Short::Went => Ok(Came::Went),
+                Short::Failed(_) => Ok(Came::Failed),
+                Short::Apart => self.advance_any(position),
+            },
+            None => self.advance_any(position),
+        }
+    }
+
+    /// Delivers any message at a position, as `advance` does.
+    #[tactic(auto, using(crate::proofs::MachinesLemmas::came_from))]
+    #[inline(never)]
+    fn advance_any(&mut self, position: usize) -> Result<Came, TakeError>
+        requires { position < length self.old.world.flight }
+
+        ensures world { OnOk result
+            (self.new ≡ record self.old { world = delivered self.old.graph self.old.count self.old.world position }) }
+        ensures step { IfOk result
+            (λ came. option_map (λ e. came_of e.step) (event_at self.old.graph self.old.count self.old.world position)
+            ≡ Some came) }
+
+        ensures end { (result ≡ Err StampEnd) ↔
+            (event_at self.old.graph self.old.count self.old.world position ≡ None) }
+        ensures err { OnErr result (self.new ≡ self.old) }
+    {
+        match self.deliver_any(position)? {
+            Step::Went => Ok(Came::Went),
+            Step::Fault(_) => Ok(Came::Failed),
+            Step::Stuck => Ok(Came::Stuck),
         }
     }
 

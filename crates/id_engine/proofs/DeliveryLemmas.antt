@@ -1,6 +1,7 @@
 -- Deliveries to a machine, each of the first message that is not held back (specs/Reports.antt).
 use Rattle.std.proofs.Common.{◌≡◌, ◌≢◌, ℕ, zero, suc, ◌+◌, ◌-◌, ◌*◌, ◌^◌, ◌==◌, ◌<◌, ◌≤◌, ◌⊎◌, Bool, true, false, cond, ◌||◌, inl, inr, List, [], ◌∷◌, ◌++◌, All, length, take, drop, replicate, Option, Some, None, slice_get, slice_index_or, slice_set, IsTrue, IsFalse, refl, sym, ap, subst, ◌∙◌, arith, length-append, length-set, append_assoc}
-use Rattle.std.proofs.lemmas.Bool.{cases_eq}
+use Rattle.std.specs.Prelude.{option_map}
+use Rattle.std.proofs.lemmas.Bool.{cases_eq, ne_eqb}
 use Rattle.std.specs.List.{cons_option, remove}
 use Rattle.std.proofs.lemmas.List.Elements.{filter_map-append}
 use Rattle.std.proofs.lemmas.Nat.{mod_below}
@@ -20,14 +21,17 @@ use Rattle.id_record.specs.declared.step.Step.TheVariants.{Went, Fault, Stuck}
 use Rattle.id_record.specs.declared.step.Fault.TheVariants.{Operator, SecondStore}
 use Rattle.id_core.specs.Events.{EventView}
 use Rattle.id_core.specs.Steps.{State, event_of, fresh, is_ended, state_after}
-use Rattle.id_core.specs.Machines.{World, MachineView, delivered, event_at, event_of_given, event_of_routed, given_to, routed_to, run, taken_from, world_of}
+use Rattle.id_core.specs.Machines.{World, MachineView, came_of, delivered, event_at, event_of_given, event_of_routed, given_to, routed_to, run, taken_from, world_of}
 use Rattle.id_core.specs.Replays.{ElementView}
 use Rattle.id_core.specs.Observed.{events_of, fault_of, faults, faults_of, path_in, structure_in}
+use Rattle.id_list.proofs.AmongLemmas.{Among-from_at}
 use Rattle.id_list.proofs.PlacesLemmas.{set-here, set-elsewhere, slice_get-image, slice_get-set}
-use Rattle.id_engine.specs.declared.run.Came.TheVariants as came
+use Rattle.id_core.specs.declared.machine.Came.{Came}
+use Rattle.id_core.specs.declared.machine.Came.TheVariants as came
 use Rattle.id_engine.specs.Runs.{AreHeldBefore, AreOfFirst, IsFree, IsHeldBack}
-use Rattle.id_engine.specs.Reports.{at_fault, at_rest, came_of, HasCount, HasEvent, HasRun, IsDelivery, IsFreshMachine, IsHeldAt}
+use Rattle.id_engine.specs.Reports.{at_fault, at_rest, HasCount, HasEvent, HasRun, IsDelivered, IsDelivery, IsFreshMachine, IsHeldAt}
 use Rattle.id_engine.proofs.RunLemmas.{run-append}
+use Rattle.id_engine.proofs.StampsLemmas.{AreStamped, AreStamped-after, AreStamped-start}
 
 -- ---- what an event came to
 
@@ -69,6 +73,20 @@ within_get (y ∷ ys) (suc k) x h = let le = within_get ys k x h in omega (arith
 
 pub IsFree-within : (count steps : ℕ) (w : World) (k : ℕ) → IsFree count steps w k → k < length w.flight
 IsFree-within count steps w k f = within_get w.flight k f.message f.at
+
+-- its delivery, by what was said of its event
+pub IsDelivered-by : (k : ℕ) (old new : MachineView) (c : Came) → HasEvent old k → option_map (λ (e : EventView). came_of e.step) (event_at old.graph old.count old.world k) ≡ Some c
+    → new ≡ record old { world = delivered old.graph old.count old.world k } → IsDelivered k old new c
+IsDelivered-by k old new c (v, made) said is =
+    let told : Some (came_of v.step) ≡ Some c = sym (ap (option_map (λ (e : EventView). came_of e.step)) made) ∙ said in
+    record {
+      step = v.step;
+      delivery = record { event = v; made = made; step_is = refl; new_is = is };
+      is = came_same c (came_of v.step) (sym told);
+    }
+  where
+    came_same : (a b : Came) → Some a ≡ Some b → a ≡ b
+    came_same a b h = cc
 
 -- ---- what is left in place
 
@@ -289,6 +307,7 @@ pub record GoesOn (g : Parts) (count steps : ℕ) (from to : World) (n position 
   pub handled : length (events_of to.elements) ≡ n
   pub held : AreHeldBefore count steps to position
   pub within : position ≤ length to.flight
+  pub stamps : AreStamped to n
 
 -- the machine b is what such deliveries have made of a
 pub record Reaches (a b : MachineView) (steps n position : ℕ) : Type 0 where
@@ -326,6 +345,7 @@ Reaches-none a steps h = record {
     handled = ap (λ w. length (events_of w.elements)) h.world ∙ ap length (fresh_events a.count);
     held = λ j m lt at. absurd (omega (arith, lt));
     within = omega arith;
+    stamps = subst (λ w. AreStamped w 0) (sym h.world) (AreStamped-start a.graph (h.origin).inputs a.count);
   };
 }
 
@@ -387,6 +407,7 @@ module _ (g : Parts) (count steps : ℕ) (from w : World) (n p q : ℕ) (v : Eve
     handled = ap length parts.new ∙ length-put parts.xs parts.ys v ∙ ap (λ l. length l + 1) (sym parts.old) ∙ ap (λ i. i + 1) h.handled;
     held = held_before g count steps w q f held;
     within = still_within w.flight _ q (IsFree-within count steps w q f);
+    stamps = AreStamped-after g w q (number g count steps w q f) f.message f.state n h.stamps (Among-from_at f.message w.flight q f.at) f.element;
   }
 
 -- a delivery to b, as one to the graph of a
@@ -481,6 +502,48 @@ HasRun-limit a b steps n p fresh h most = ended_run a b steps n p h (λ k d with
         let size = goes.size in
         let e = get_within b.world.elements (route_of m.payload a.count) (omega (arith, less, size)) in
         record { state = e.0; element = e.1; held = inl (all_full b.world.elements steps goes.few full (route_of m.payload a.count) e.0 e.1) }
+
+-- ---- a run that is young
+
+-- an element has no more events than all have together
+events_within : (es : List State) (n : ℕ) (e : State) → slice_get es n ≡ Some e → length e.events ≤ length (events_of es)
+events_within [] n e at = absurd cc
+events_within (s ∷ es) zero e at =
+    let same : s ≡ e = cc in
+    let long = length-append s.events (events_of es) in
+    let here = ap (λ (x : State). length x.events) same in
+    omega (arith, long, here)
+events_within (s ∷ es) (suc n) e at =
+    let rest = events_within es n e at in
+    let long = length-append s.events (events_of es) in
+    omega (arith, rest, long)
+
+not_last : (a b n : ℕ) → a ≤ n → b ≤ n → n < 2 ^ 64 - 1 → ((a == 2 ^ 64 - 1) || (b == 2 ^ 64 - 1)) ≡ false
+not_last a b n less fewer most =
+    let one = ne_eqb a (2 ^ 64 - 1) (λ e. omega (arith, e, less, most)) in
+    let two = ne_eqb b (2 ^ 64 - 1) (λ e. omega (arith, e, fewer, most)) in
+    ap (λ c. c || (b == 2 ^ 64 - 1)) one ∙ two
+
+-- where fewer messages were handled in all than each element may, none is held back
+pub IsFree-young : (a b : MachineView) (steps n p k : ℕ) → IsFreshMachine a → Reaches a b steps n p → n < steps → steps ≤ 100000000 → k < length b.world.flight
+    → IsFree a.count steps b.world k
+IsFree-young a b steps n p k fresh h young few within =
+    let goes = h.goes in
+    let m = get_within b.world.flight k within in
+    let less = route_below m.0.payload a.count fresh.some in
+    let size = goes.size in
+    let e = get_within b.world.elements (route_of m.0.payload a.count) (omega (arith, less, size)) in
+    let part = events_within b.world.elements (route_of m.0.payload a.count) e.0 e.1 in
+    let all = goes.handled in
+    record {
+      message = m.0;
+      at = m.1;
+      state = e.0;
+      element = e.1;
+      some = λ is. omega (arith, is, part, all, young);
+      stamp = not_last e.0.stamp m.0.stamp n ((goes.stamps).elements (route_of m.0.payload a.count) e.0 e.1)
+          ((goes.stamps).flight m.0 (Among-from_at m.0 b.world.flight k m.1)) (omega (arith, young, few));
+    }
 
 -- one message more is held back
 upto : (j k : ℕ) → j < k + 1 → (j ≡ k → ⊥) → j < k

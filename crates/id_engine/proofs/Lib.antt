@@ -5,6 +5,7 @@ mod InsideLemmas
 mod NamesLemmas
 mod PlacedLemmas
 mod RunLemmas
+mod StampsLemmas
 mod DeliveryLemmas
 mod ServedLemmas
 mod ShownLemmas

@@ -16,11 +16,9 @@ use Rattle.id_build.specs.Rows.{size}
 use Rattle.id_graph.specs.Graph.{Parts}
 use Rattle.id_tag.specs.declared.Message.{Message}
 use Rattle.id_record.specs.declared.step.Step.{Step}
-use Rattle.id_record.specs.declared.step.Step.TheVariants as step
-use Rattle.id_engine.specs.declared.run.Came.{Came}
-use Rattle.id_engine.specs.declared.run.Came.TheVariants as came
+use Rattle.id_core.specs.declared.machine.Came.{Came}
 use Rattle.id_core.specs.Events.{EventView}
-use Rattle.id_core.specs.Machines.{World, MachineView, delivered, event_at, run, start}
+use Rattle.id_core.specs.Machines.{World, MachineView, came_of, delivered, event_at, run, start}
 use Rattle.id_core.specs.Observed.{answer, faults, names, waiting}
 use Rattle.id_print.specs.declared.report.Ending.{Ending}
 use Rattle.id_print.specs.declared.report.Ending.TheVariants.{Quiet, Stopped, Fault}
@@ -180,12 +178,6 @@ pub record IsDelivery (position : ℕ) (old new : MachineView) (step : Step) : T
   pub made : event_at old.graph old.count old.world position ≡ Some event
   pub step_is : event.step ≡ step
   pub new_is : new ≡ record old { world = delivered old.graph old.count old.world position }
-
--- what an event came to, without its fault
-abbrev pub came_of : Step → Came
-came_of step.Went = came.Went
-came_of (step.Fault f) = came.Failed
-came_of step.Stuck = came.Stuck
 
 -- the message at this position was delivered, and the event came to this
 pub record IsDelivered (position : ℕ) (old new : MachineView) (c : Came) : Type 0 where

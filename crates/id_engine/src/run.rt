@@ -13,12 +13,12 @@ ghost use Rattle.id_engine.specs.Programs.{IsPlacedWithin};
 ghost use Rattle.id_engine.specs.Refusals.{IsInsideOf, IsRefusedRun, IsTakenRun};
 ghost use Rattle.id_engine.specs.Reports.{AreAllowed, HasCount, HasEvent, HasRun, IsDelivered, IsFreshMachine};
 ghost use Rattle.id_engine.specs.Reports.{IsHeldAt, IsReportFrom, PrintsRun, RunsSo, status_of};
-ghost use Rattle.id_engine.specs.declared.run.Came.TheVariants as comes;
+ghost use Rattle.id_core.specs.declared.machine.Came.TheVariants as comes;
 ghost use Rattle.id_engine.specs.Runs.{AreHeldBefore, IsFree, IsTraceOf, Ran};
 
 use crate::error::EngineError;
 use crate::prepared::{Prepared, prepare};
-use id_core::{MAX_ELEMENTS, Machine, MachineError, Merged, Step, TakeError, merge_records};
+use id_core::{Came, MAX_ELEMENTS, Machine, MachineError, Merged, TakeError, merge_records};
 use id_meaning::Inputs;
 use id_print::{Ending, PrintError, Report, Sink, run_report, write_report, write_trace};
 use id_tag::route;
@@ -50,14 +50,6 @@ fn machine_of<'a>(
         Err(MachineError::BadElements) => unreachable!(),
         Err(MachineError::Memory) => Err(EngineError::Memory),
     }
-}
-
-/// What an event came to, without its fault: small, since each event of a run hands one on.
-#[derive(Clone, Copy)]
-enum Came {
-    Went,
-    Failed,
-    Stuck,
 }
 
 /// Whether a run goes on after an event that came to this.
@@ -109,6 +101,27 @@ fn first_free(machine: &Machine<'_>, from: usize, count: u32, steps: u64) -> usi
     len
 }
 
+/// The same, where so many messages were handled in all: none is held back while they are fewer than each element may
+/// handle.
+#[inline(always)]
+fn next_free(machine: &Machine<'_>, from: usize, count: u32, steps: u64, handled: u64) -> usize
+    requires from { from ≤ length machine.now.world.flight }
+    requires count { machine.now.count ≡ count }
+    requires elements { HasCount machine.now }
+    requires held { AreHeldBefore count steps machine.now.world from }
+    requires young { handled < steps → from < length machine.now.world.flight
+        → IsFree count steps machine.now.world from }
+    ensures bound { result ≤ length machine.now.world.flight }
+    ensures held { AreHeldBefore count steps machine.now.world result }
+    ensures free { result ≢ length machine.now.world.flight → IsFree count steps machine.now.world result }
+{
+    if handled < steps {
+        from
+    } else {
+        first_free(machine, from, count, steps)
+    }
+}
+
 /// Delivers the message at a position, for which a stamp is left, and says what the event came to.
 #[inline(always)]
 fn deliver(machine: &mut Machine<'_>, position: usize) -> Result<Came, EngineError>
@@ -118,10 +131,8 @@ fn deliver(machine: &mut Machine<'_>, position: usize) -> Result<Came, EngineErr
     ensures memory { IfErr result (λ e. e ≡ EngineError.Memory) }
     ensures same { IfErr result (λ e. machine.new ≡ machine.old) }
 {
-    match machine.deliver(position) {
-        Ok(Step::Went) => Ok(Came::Went),
-        Ok(Step::Fault(_)) => Ok(Came::Failed),
-        Ok(Step::Stuck) => Ok(Came::Stuck),
+    match machine.advance(position) {
+        Ok(came) => Ok(came),
         Err(TakeError::StampEnd) => unreachable!(),
         Err(TakeError::Memory) => Err(EngineError::Memory),
     }
@@ -140,7 +151,7 @@ fn run_machine(machine: &mut Machine<'_>, count: u32, steps: u64) -> Result<(), 
     let most = (count as u64) * steps;
     let mut position = 0usize;
     for handled in 0..most {
-        position = first_free(machine, position, count, steps);
+        position = next_free(machine, position, count, steps, handled);
         if position == machine.in_flight().len() {
             return Ok(());
         }
