@@ -68,9 +68,8 @@ impl Plain {
     {
         match self {
             Plain::Signal | Plain::Int(_) | Plain::Bool(_) => true,
-            Plain::Context(_, _)
-            | Plain::Continuation(_, _, _, _)
-            | Plain::Structure(_, _, _, _) => false,
+            Plain::Context(_, _) | Plain::Continuation(_, _, _, _) | Plain::Structure(_, _, _, _) =>
+                false,
         }
     }
 

@@ -85,7 +85,10 @@ fn carried(value: Plain) -> Carried
         Plain::Continuation(_, _, _, _) => of_kind(Kind::Continuation),
         Plain::Structure(_, _, low, high) => Carried {
             kind: Kind::Structure,
-            value: joined(u64::from(low.cast_unsigned()), u64::from(high.cast_unsigned())),
+            value: joined(
+                u64::from(low.cast_unsigned()),
+                u64::from(high.cast_unsigned()),
+            ),
         },
     }
 }
