@@ -1,5 +1,5 @@
 -- The front of the store: pairs of slots that hold what waits under tags with small numbers.
-use Rattle.std.specs.Prelude.{◌≡◌, ◌≢◌, ℕ, ◌+◌, ◌-◌, ◌/◌, ◌%◌, ◌^◌, ◌<◌, if◌then◌else◌, false}
+use Rattle.std.specs.Prelude.{◌≡◌, ◌≢◌, ℕ, ◌+◌, ◌-◌, ◌*◌, ◌/◌, ◌%◌, ◌^◌, ◌<◌, if◌then◌else◌, false}
 use Rattle.std.specs.Prelude.{Option, Some, None, IsSome, List, [], ◌∷◌, ◌++◌, length, bit_and, slice_index_or, true}
 use Rattle.std.specs.Option.{option_map, option_or}
 use Rattle.std.specs.List.{filter_map, flat_map}
@@ -73,8 +73,7 @@ empty_pair = record { first = empty_slot; second = empty_slot }
 
 -- the place of a tag's numbers among n pairs: neighbouring serial numbers have places in a row
 unfoldable pub place_of : ℕ → ℕ → ℕ → ℕ → ℕ
-place_of serial iteration instr n =
-    bit_and ((mix (mix (mix 0 (serial / 512)) iteration) instr / 2 ^ 32 + serial % 512) % 2 ^ 64) (n - 1)
+place_of serial iteration instr n = bit_and ((mix 0 iteration / 2 ^ 32 + instr * 63_014_903 + serial) % 2 ^ 64) (n - 1)
 
 -- the place of a tag
 abbrev pub place : Tag → ℕ → ℕ

@@ -99,6 +99,10 @@ const EMPTY_PAIR: Pair = Pair {
     second: EMPTY,
 };
 
+/// How far from one another the rows of two neighbouring instructions begin: its multiples by 1 to 200 lie nearly evenly
+/// apart among 2^12 to 2^23 places, so that few rows meet.
+const APART: u64 = 63_014_903;
+
 /// The place of a tag's numbers among so many pairs.
 #[inline(always)]
 fn place_of(serial: u64, iteration: u64, instr: u32, len: usize) -> usize
@@ -106,8 +110,8 @@ fn place_of(serial: u64, iteration: u64, instr: u32, len: usize) -> usize
     ensures exact { result ≡ place_of serial iteration instr len }
     ensures below { result < len }
 {
-    let row = mix(mix(mix(0, serial / 512), iteration), u64::from(instr));
-    let at = (row >> 32).wrapping_add(serial % 512);
+    let row = (mix(0, iteration) >> 32) + u64::from(instr) * APART;
+    let at = row.wrapping_add(serial);
     (at & (len as u64 - 1)) as usize
 }
 

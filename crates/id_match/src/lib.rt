@@ -81,7 +81,8 @@ pub struct Waiting {
     // For a larger front.
     alloc: Global,
     front: Vec<Pair>,
-    // How many more plain tokens came to stand behind the front than met what stands there, since it grew.
+    // Since the front grew: sixteen for each plain token that came to stand behind it, less fifteen for each that met
+    // what stands there. So both what stands there and what comes and goes tell that it is too small.
     crowded: usize,
     // What waits in no slot.
     halves: HashMap<Tag, Half, NearHasher>,
@@ -187,14 +188,14 @@ impl Waiting {
         }
     }
 
-    // Makes the front larger where many plain tokens stand behind it since their slots are taken, or there is none.
-    // What fits in no slot doesn't count. Where memory is wanting, all stays as it is, so this never makes an error.
+    // Makes the front larger where many plain tokens stand behind it since their slots are taken, or came and went, or
+    // there is none. What fits in no slot doesn't count. Where memory is wanting, all stays as it is, so this never makes an error.
     #[inline(never)]
     fn make_room(&mut self)
         ensures { self.new ≡ self.old }
     {
         let len = self.front.len();
-        if self.crowded > len / 16 || len == 0 {
+        if self.crowded > len / 4 || len == 0 {
             if let Some(front) = larger_front(self.alloc, &self.front, &self.halves) {
                 self.front = front;
                 self.crowded = 0;
@@ -244,15 +245,15 @@ fn larger_front(
     }
 }
 
-// How many stand behind the front after an offer there.
+// How crowded the front is after an offer behind it.
 fn crowded_after(crowded: usize, met: Met) -> usize
-    ensures kept { met ≡ meeting.Kept → crowded < 2 ^ 64 - 1 → result ≡ crowded + 1 }
+    ensures kept { met ≡ meeting.Kept → crowded < 2 ^ 64 - 16 → result ≡ crowded + 16 }
     ensures apart { met ≡ meeting.Apart → result ≡ crowded }
-    ensures partner { (v : Plain) → met ≡ meeting.Partner v → result ≡ crowded - 1 }
+    ensures partner { (v : Plain) → met ≡ meeting.Partner v → result ≡ crowded - 15 }
 {
     match met {
-        Met::Kept => crowded.saturating_add(1),
-        Met::Partner(_) => crowded.saturating_sub(1),
+        Met::Kept => crowded.saturating_add(16),
+        Met::Partner(_) => crowded.saturating_sub(15),
         Met::Apart => crowded,
     }
 }
