@@ -1,6 +1,10 @@
 -- A list with a gap, at which a message leaves.
-use Rattle.std.proofs.Common.{◌≡◌, ◌<◌, ◌-◌, ◌++◌, List, length, drop, refl, sym, ap, ◌∙◌, append_assoc, arith}
-use Rattle.std.specs.List.{remove}
+use Rattle.std.proofs.Common.{◌≡◌, ◌<◌, ◌+◌, ◌-◌, ◌++◌, ◌∷◌, [], ℕ, List, Option, Some, None, IsSome, length, length-append, drop, get_or, refl, sym, ap, ◌∙◌}
+use Rattle.std.proofs.Common.{append_assoc, arith}
+use Rattle.std.specs.List.{remove, slice_get}
+use Rattle.std.specs.Prelude.{option_to_list}
+use Rattle.std.proofs.Math.Seq.{get_or-append_seam}
+use Rattle.std.proofs.lemmas.Option.{get_or_from_slice_get}
 use Rattle.std.proofs.lemmas.List.Edits.{remove-append_left, remove-append_right}
 
 -- the first of the second part leaves, and more come behind
@@ -11,3 +15,14 @@ leaves xs ys zs within =
     ∙ ap (λ l. remove l (length xs)) (append_assoc xs ys zs)
     ∙ remove-append_right xs (ys ++ zs) (length xs) (length xs) refl (omega arith)
     ∙ ap (λ k. xs ++ remove (ys ++ zs) k) none
+
+-- the last of the first part goes to the front of the second
+module _ {X : Type 0} (xs ys : List X) (m : X) (n : ℕ) (last : n ≡ length xs - 1) (is : slice_get xs n ≡ Some m) where
+  pub last_moves : (o : Option X) (front : List X) → xs ≡ front ++ option_to_list o → IsSome o → (length front + 1 ≡ length xs) × (front ++ m ∷ ys ≡ xs ++ ys)
+  last_moves None front e some = cc
+  last_moves (Some p) front e some =
+      let len : length xs ≡ length front + 1 = ap length e ∙ length-append front (p ∷ []) in
+      let at : n ≡ length front = omega (arith, last, len) in
+      let same : m ≡ p = sym (get_or_from_slice_get xs n m p is) ∙ ap (λ k. get_or xs k p) at ∙ ap (λ l. get_or l (length front) p) e
+      ∙ get_or-append_seam front p [] p in
+      (sym len, ap (λ x. front ++ x ∷ ys) same ∙ sym (append_assoc front (p ∷ []) ys) ∙ ap (λ l. l ++ ys) (sym e))

@@ -1,6 +1,6 @@
 //! What is in flight, as a machine keeps it: a list with a gap, at which messages are taken out.
 
-ghost use Rattle.std.specs.Prelude.{◌≡◌, ◌+◌, ◌++◌, ◌≤◌, length};
+ghost use Rattle.std.specs.Prelude.{◌≡◌, ◌+◌, ◌++◌, ◌≤◌, length, OnOk};
 
 use id_element::{Element, Short, TakeError};
 use id_flight::Queue;
@@ -117,8 +117,7 @@ impl InFlight {
     {
         let gap = self.before.len();
         if position < gap {
-            self.after.reserve(gap - position)?;
-            move_back(&mut self.before, &mut self.after, gap - position);
+            move_back(&mut self.before, &mut self.after, gap - position)?;
         } else {
             self.before.reserve(position - gap)?;
             move_on(&mut self.before, &mut self.after, position - gap);
@@ -208,17 +207,17 @@ fn move_on(before: &mut Queue, after: &mut Queue, count: usize)
     }
 }
 
-/// Moves so many messages, one after another, from the end of the first list to the front of the second.
-fn move_back(before: &mut Queue, after: &mut Queue, count: usize)
+/// Moves so many messages, one after another, from the end of the first list to the front of the second. Where memory is
+/// wanting, some of them have moved.
+fn move_back(before: &mut Queue, after: &mut Queue, count: usize) -> Result<(), AllocError>
     requires there { count ≤ length before.old.messages }
-    requires room { count ≤ after.old.room }
     ensures messages { before.new.messages ++ after.new.messages ≡ before.old.messages ++ after.old.messages }
-    ensures len { length before.new.messages + count ≡ length before.old.messages }
+    ensures len { OnOk result (length before.new.messages + count ≡ length before.old.messages) }
 {
     for _ in 0..count {
-        match before.pop_back() {
-            Some(message) => after.push_front_reserved(message),
-            None => unreachable!(),
-        }
+        let last = before.message(before.len() - 1);
+        after.push_front(last)?;
+        before.pop_back();
     }
+    Ok(())
 }

@@ -1,1 +1,2 @@
 pub mod ParcelsLemmas
+pub mod RowsLemmas

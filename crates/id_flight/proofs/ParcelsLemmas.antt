@@ -1,6 +1,9 @@
 -- Lemmas on specs/Parcels.antt: a parcel that says what a message says has the message, and what stands aside stays
 -- there.
-use Rattle.std.proofs.Common.{◌≡◌, suc, List, [], ◌∷◌, ◌++◌, Option, None, Some, IfSome, map, refl, ap, subst, ◌∙◌, arith}
+use Rattle.std.proofs.Common.{Result, Ok, Err, OnErr}
+use Rattle.std.proofs.Common.{◌≡◌, suc, List, [], ◌∷◌, ◌++◌, Option, None, Some, IfSome, get_or, length, length-append, map, refl, ap, subst, ◌∙◌, arith}
+use Rattle.std.proofs.Math.ListN.{get_or-append}
+use Rattle.std.proofs.Math.Seq.{get_or-append_seam}
 use Rattle.std.specs.Prelude.{All}
 use Rattle.std.specs.List.{AllByRecursion}
 use Rattle.std.proofs.lemmas.List.{map-append}
@@ -57,9 +60,24 @@ messages-kept_each asides more keeps (p ∷ ps) within =
     ap (λ m. m ∷ map (unpacked more) ps) ((keeps p within.0).1)
     ∙ ap (λ ms. unpacked asides p ∷ ms) (messages-kept_each asides more keeps ps within.1)
 
-messages-kept : (asides more : List Message) (ps : List Parcel) → Keeps asides more → All (IsWithin asides) ps
+pub messages-kept : (asides more : List Message) (ps : List Parcel) → Keeps asides more → All (IsWithin asides) ps
     → map (unpacked more) ps ≡ map (unpacked asides) ps
 messages-kept asides more ps keeps within = messages-kept_each asides more keeps ps (recursion_from_All (IsWithin asides) ps within)
+
+-- and so they are all within
+pub all-kept : (asides more : List Message) (ps : List Parcel) → Keeps asides more → All (IsWithin asides) ps → All (IsWithin more) ps
+all-kept asides more ps keeps within k d below = (keeps (get_or ps k d) (within k d below)).0
+
+-- the last of all, and those before it, have what all have
+pub all-last : (P : Parcel → Type 0) (ps qs : List Parcel) (p : Parcel) → qs ≡ ps ++ p ∷ [] → All P qs → P p
+all-last P ps qs p is all =
+    let every : All P (ps ++ p ∷ []) = subst (λ xs. All P xs) is all in
+    subst P (get_or-append_seam ps p [] p) (every (length ps) p (omega (arith, length-append ps (p ∷ []))))
+
+pub all-before : (P : Parcel → Type 0) (ps qs : List Parcel) (p : Parcel) → qs ≡ ps ++ p ∷ [] → All P qs → All P ps
+all-before P ps qs p is all k d below =
+    let every : All P (ps ++ p ∷ []) = subst (λ xs. All P xs) is all in
+    subst P (get_or-append ps (p ∷ []) d k below) (every k d (omega (arith, below, length-append ps (p ∷ []))))
 
 -- a parcel more at the end is its message more
 pub messages-more : (asides more : List Message) (ps qs : List Parcel) (p : Parcel) (m : Message) → Keeps asides more → All (IsWithin asides) ps
@@ -77,3 +95,8 @@ messages-before asides more ps qs p m keeps within is at =
     ap (map (unpacked more)) at
     ∙ ap (λ ms. unpacked more p ∷ ms) (messages-kept asides more ps keeps within)
     ∙ ap (λ x. x ∷ map (unpacked asides) ps) is
+
+-- what holds at any rate holds after an error
+pub on-err : {A B P : Type 0} → (r : Result A B) → P → OnErr r P
+on-err (Ok a) p = tt
+on-err (Err e) p = p

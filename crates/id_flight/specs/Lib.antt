@@ -1,2 +1,3 @@
 pub mod Parcels
 pub mod Queues
+pub mod Rows

@@ -8,5 +8,6 @@
 
 mod parcel;
 mod queue;
+mod row;
 
 pub use queue::Queue;

@@ -5,22 +5,21 @@ ghost use Rattle.id_flight.specs.declared.parcel.Parcel.{Parcel};
 ghost use Rattle.id_flight.specs.Parcels.{IsWithin, unpacked};
 
 use crate::parcel::{Parcel, packed, packed_plain, parcel_aside, plain_in, unpack};
+use crate::row::Row;
 use id_tag::{Message, PlainToken};
 use std::alloc::{AllocError, Global};
-use std::collections::VecDeque;
 use std::marker::Model;
 
 /// Messages in a row, in 64 bytes each, but for the few whose numbers don't fit: those stand aside until the queue is
 /// empty.
 #[derive(Drop)]
 pub struct Queue {
-    parcels: VecDeque<Parcel>,
+    parcels: Row,
     asides: Vec<Message>,
 }
 
 impl Model for Queue {
     ghost use Rattle.std.specs.Prelude.{◌-◌, All, map, min, vec_capacity, vec_len};
-    ghost use Rattle.std.specs.VecDeque.{deque_capacity, deque_len};
     ghost use Rattle.id_flight.specs.Parcels.{IsWithin, unpacked};
     ghost use Rattle.id_flight.specs.Queues.{QueueView};
 
@@ -28,7 +27,7 @@ impl Model for Queue {
 
     ghost view = { λ q. record {
       messages = map (unpacked q.asides.items) q.parcels.items;
-      room = min (deque_capacity q.parcels - deque_len q.parcels) (vec_capacity q.asides - vec_len q.asides);
+      room = min q.parcels.room (vec_capacity q.asides - vec_len q.asides);
     } };
 
     ghost invariant = { λ q. All (IsWithin q.asides.items) q.parcels.items };
@@ -45,7 +44,7 @@ impl Queue {
         ensures { result.messages ≡ [] }
     {
         Queue {
-            parcels: VecDeque::new(alloc),
+            parcels: Row::new(alloc),
             asides: Vec::new(alloc),
         }
     }
@@ -65,7 +64,7 @@ impl Queue {
     pub fn is_empty(&self) -> bool
         ensures { result ≡ (length self.now.messages == 0) }
     {
-        self.parcels.is_empty()
+        self.parcels.len() == 0
     }
 
     /// The message at a position, from 0. Takes no memory.
@@ -74,7 +73,7 @@ impl Queue {
         requires { position < length self.now.messages }
         ensures { slice_get self.now.messages position ≡ Some result }
     {
-        let parcel = &self.parcels[position];
+        let parcel = self.parcels.at(position);
         unpack(self.asides.as_slice(), parcel)
     }
 
@@ -84,7 +83,7 @@ impl Queue {
         requires { position < length self.now.messages }
         ensures { IfSome result (λ t. slice_get self.now.messages position ≡ Some (message_of t)) }
     {
-        plain_in(&self.parcels[position])
+        plain_in(self.parcels.at(position))
     }
 
     /// Makes room for so many messages more.
@@ -93,10 +92,7 @@ impl Queue {
         ensures messages { self.new.messages ≡ self.old.messages }
         ensures room { OnOk result (more ≤ self.new.room) }
     {
-        // Asked here first, since the list's own call is not inlined.
-        if self.parcels.capacity().saturating_sub(self.parcels.len()) < more {
-            self.parcels.reserve(more)?;
-        }
+        self.parcels.reserve(more)?;
         self.asides.reserve(more)?;
         Ok(())
     }
@@ -132,14 +128,15 @@ impl Queue {
         self.parcels.push_back_reserved(packed_plain(token));
     }
 
-    /// Adds a message at the front, for which there is room. Takes no memory.
-    pub fn push_front_reserved(&mut self, message: Message)
-        requires { 0 < self.old.room }
-        ensures messages { self.new.messages ≡ message ∷ self.old.messages }
-        ensures room { self.old.room ≤ self.new.room + 1 }
+    /// Adds a message at the front. After an error nothing has changed.
+    pub fn push_front(&mut self, message: Message) -> Result<(), AllocError>
+        ensures messages { OnOk result (self.new.messages ≡ message ∷ self.old.messages) }
+        ensures err { OnErr result (self.new.messages ≡ self.old.messages) }
     {
+        self.asides.reserve(1)?;
         let parcel = parcel_for(&mut self.asides, message);
-        self.parcels.push_front_reserved(parcel);
+        self.parcels.push_front(parcel)?;
+        Ok(())
     }
 
     /// Takes out the first message, if there is one. Takes no memory.
@@ -149,7 +146,7 @@ impl Queue {
     {
         let parcel = self.parcels.pop_front()?;
         let message = unpack(self.asides.as_slice(), &parcel);
-        if self.parcels.is_empty() {
+        if self.parcels.len() == 0 {
             self.asides.clear();
         }
         Some(message)
@@ -160,8 +157,7 @@ impl Queue {
     pub fn drop_front(&mut self)
         ensures { self.new.messages ≡ drop 1 self.old.messages }
     {
-        let _first = self.parcels.pop_front();
-        if self.parcels.is_empty() {
+        if self.parcels.drop_front() {
             self.asides.clear();
         }
     }
@@ -173,7 +169,7 @@ impl Queue {
     {
         let parcel = self.parcels.pop_back()?;
         let message = unpack(self.asides.as_slice(), &parcel);
-        if self.parcels.is_empty() {
+        if self.parcels.len() == 0 {
             self.asides.clear();
         }
         Some(message)
