@@ -5,17 +5,18 @@ ghost use Rattle.std.specs.Prelude.{◌≡◌};
 ghost use Rattle.id_element.specs.Steps.{readers_of};
 
 use crate::outcome::{
-    allocated_by, allocated_by_shot, answer_fired, fill_verdict, fresh_numbers, made_by, most_sent,
-    next_stamp, react, react_full, react_plain, send, send_like, send_replies, send_shot,
+    allocated_by, allocated_by_shot, answer_fired, deed_of, fill_verdict, fresh_numbers, made_by,
+    most_sent, next_stamp, react, react_full, react_plain, send, send_deed, send_like,
+    send_replies, send_shot,
 };
 use crate::step::{Arrival, PlainOperands, Reacted, Short, TakeError};
 use id_bank::{Bank, ReadAnswer, WriteAnswer};
 use id_flight::Queue;
 use id_graph::{Graph, Instr};
 use id_match::Waiting;
-use id_ops::{Fired, Operands, Shot};
+use id_ops::{Deed, Fired, Operands, Shot};
 use id_record::{
-    Envelope, Handling, NO_REPLIES, Reaction, Record, Replies, Shooting, Verdict, has_line,
+    Doing, Envelope, Handling, NO_REPLIES, Reaction, Record, Replies, Shooting, Verdict, has_line,
     message, tag_of, token_at, value_of,
 };
 use id_tag::{Message, Payload, PlainToken, Tag};
@@ -41,6 +42,7 @@ impl<'a> Desk<'a> {
     ghost use Rattle.id_record.specs.Events.{full_step, tag_of, value_of};
     ghost use Rattle.id_element.specs.Fits.{Fits};
     ghost use Rattle.id_tag.specs.Plains.{message_of, tag_in};
+    ghost use Rattle.id_ops.specs.Deeds.{fired_by_deed};
     ghost use Rattle.id_ops.specs.Shots.{IsBrief, IsOwn, fired_of};
     ghost use Rattle.id_ops.specs.declared.Fired.TheVariants.{Nothing};
     ghost use Rattle.id_record.specs.declared.step.Step.TheVariants.{Went};
@@ -422,10 +424,122 @@ impl<'a> Desk<'a> {
         self.structures += allocated_by_shot(instr.op, shot);
     }
 
+    /// Sends what a deed sends, and records the event. There is room for it. Takes no memory.
+    #[inline(always)]
+    fn conclude_deed(
+        &mut self,
+        instr: &Instr,
+        token: &PlainToken,
+        stamp: u32,
+        deed: Deed,
+        outputs: &mut Queue,
+    )
+        requires room { 0 < self.old.log.room }
+        requires room_aside { 0 < self.old.log.room_aside }
+        requires short { IsShort self.old (most_sent instr.now) token.now stamp }
+        requires own { slice_get self.old.log.graph.instrs token.now.instr ≡ Some instr.now }
+        requires room_in_outputs { most_sent instr.now ≤ outputs.old.room }
+        requires counted { self.old.contexts + 1 < 2 ^ 64 }
+        requires numbered { self.old.structures + 1 < 2 ^ 64 }
+
+        ensures waiting { self.new.waiting ≡ self.old.waiting }
+        ensures cells { self.new.cells ≡ self.old.cells }
+        ensures stamp { self.new.stamp ≡ stamp }
+        ensures contexts { self.new.contexts ≡ self.old.contexts + made_by (fired_by_deed (tag_in token.now) deed) }
+        ensures structures { self.new.structures
+            ≡ self.old.structures + allocated_by instr.now.op (fired_by_deed (tag_in token.now) deed) }
+        ensures number { self.new.log.element ≡ self.old.log.element }
+        ensures graph { self.new.log.graph ≡ self.old.log.graph }
+        ensures events { self.new.log.events ≡ self.old.log.events ++ record {
+          element = self.old.log.element;
+          stamp = stamp;
+          message = message_of token.now;
+          fired = fired_by_deed (tag_in token.now) deed;
+          outputs = numbered self.old.log.element (length self.old.log.events) stamp 0 (sent (Some instr.now.op)
+              (arcs_on (side_of (fired_by_deed (tag_in token.now) deed)) instr.now) (tag_in token.now)
+              (fired_by_deed (tag_in token.now) deed));
+          step = Went;
+        } ∷ [] }
+        ensures outputs { outputs.new.messages ≡ outputs.old.messages
+            ++ numbered self.old.log.element (length self.old.log.events) stamp 0 (sent (Some instr.now.op)
+            (arcs_on (side_of (fired_by_deed (tag_in token.now) deed)) instr.now) (tag_in token.now)
+            (fired_by_deed (tag_in token.now) deed)) }
+    {
+        let sample = PlainToken {
+            position: self.log.len() as u32,
+            stamp,
+            sender: self.log.element() as u8,
+            ..*token
+        };
+        send_deed(instr, &sample, deed, outputs);
+        self.log.push_deed(Doing { token, stamp, deed });
+        self.stamp = u64::from(stamp);
+        let fired = deed.fired(token.tag());
+        self.contexts += made_by(&fired);
+        self.structures += allocated_by(instr.op, &fired);
+    }
+
     /// Fires the operands of which a plain token is one, sends what comes of them, and records the event. There is room
     /// for it. Takes no memory.
     #[inline(never)]
     fn conclude_plain(
+        &mut self,
+        instr: &Instr,
+        token: &PlainToken,
+        stamp: u32,
+        operands: PlainOperands,
+        outputs: &mut Queue,
+    ) -> Short
+        requires room { 0 < self.old.log.room }
+        requires room_aside { 0 < self.old.log.room_aside }
+        requires own { slice_get self.old.log.graph.instrs token.now.instr ≡ Some instr.now }
+        requires short { IsShort self.old (most_sent instr.now) token.now stamp }
+        requires room_in_outputs { most_sent instr.now ≤ outputs.old.room }
+        requires graph { IsGraph self.old.log.graph }
+        requires valid { IsValid self.old.log.graph }
+        requires counted { self.old.contexts + 1 < 2 ^ 64 }
+        requires numbered { self.old.structures + 1 < 2 ^ 64 }
+
+        ensures handled { IsHandled result }
+        ensures verdict { step_in result (tag_in token.now) ≡ full_step
+            (message_of token.now).payload (fired_verdict (fired_by self.old instr.now token.now operands)) }
+        ensures waiting { self.new.waiting ≡ self.old.waiting }
+        ensures cells { self.new.cells ≡ self.old.cells }
+        ensures stamp { self.new.stamp ≡ stamp }
+        ensures contexts { self.new.contexts
+            ≡ self.old.contexts + made_by (fired_by self.old instr.now token.now operands) }
+        ensures structures { self.new.structures
+            ≡ self.old.structures + allocated_by instr.now.op (fired_by self.old instr.now token.now operands) }
+        ensures number { self.new.log.element ≡ self.old.log.element }
+        ensures graph { self.new.log.graph ≡ self.old.log.graph }
+        ensures events { self.new.log.events ≡ self.old.log.events ++ record {
+          element = self.old.log.element;
+          stamp = stamp;
+          message = message_of token.now;
+          fired = fired_by self.old instr.now token.now operands;
+          outputs = numbered self.old.log.element (length self.old.log.events) stamp 0
+              (sent (Some instr.now.op) (arcs_on (side_of (fired_by self.old instr.now token.now operands)) instr.now)
+              (tag_in token.now) (fired_by self.old instr.now token.now operands));
+          step = full_step (message_of token.now).payload
+              (fired_verdict (fired_by self.old instr.now token.now operands));
+        } ∷ [] }
+        ensures outputs { outputs.new.messages ≡ outputs.old.messages
+            ++ numbered self.old.log.element (length self.old.log.events) stamp 0
+            (sent (Some instr.now.op) (arcs_on (side_of (fired_by self.old instr.now token.now operands)) instr.now)
+            (tag_in token.now) (fired_by self.old instr.now token.now operands)) }
+    {
+        match deed_of(instr.op, operands) {
+            Some(deed) => {
+                self.conclude_deed(instr, token, stamp, deed, outputs);
+                Short::Went
+            }
+            None => self.conclude_full(instr, token, stamp, operands, outputs),
+        }
+    }
+
+    /// The same where it is no deed.
+    #[inline(never)]
+    fn conclude_full(
         &mut self,
         instr: &Instr,
         token: &PlainToken,

@@ -1,7 +1,7 @@
 //! What a token does at its instruction, and what is sent for it (docs/MACHINE.md, "Element step").
 
 ghost use Rattle.std.specs.Prelude.{Some, ◌≡◌, ◌+◌, ◌-◌, ◌^◌, ◌<◌, ◌≤◌, ◌++◌, ◌∷◌, [], ◌||◌, ◌==◌, length, max};
-ghost use Rattle.std.specs.Prelude.{IfOk, OnOk, OnErr, IfErr, IsTrue, true, false, if◌then◌else◌, map};
+ghost use Rattle.std.specs.Prelude.{IfOk, IfSome, OnOk, OnErr, IfErr, IsTrue, true, false, if◌then◌else◌, map};
 ghost use Rattle.id_bank.specs.Cells.{Cells};
 ghost use Rattle.id_element.specs.Steps.{allocated_by, answer_fired, arrival, at_instr, fill_verdict, fresh_numbers};
 ghost use Rattle.id_element.specs.Steps.{made_by, waiting_after};
@@ -11,7 +11,7 @@ ghost use Rattle.id_tag.specs.declared.Payload.TheVariants.{Token};
 ghost use Rattle.id_record.specs.declared.step.Verdict.TheVariants as verdict;
 ghost use Rattle.id_record.specs.Events.{full_step};
 ghost use Rattle.id_tag.specs.Tags.{same_tag};
-ghost use Rattle.id_element.specs.Firings.{IsReaction, firing_of, most_sent, verdict_of};
+ghost use Rattle.id_element.specs.Firings.{IsReaction, firing_of, most_sent, operands_in, verdict_of};
 ghost use Rattle.id_graph.specs.Ports.{two_ports};
 ghost use Rattle.id_match.specs.Waiting.{Store, offer_after, offer_answer, pair_of};
 ghost use Rattle.id_match.specs.declared.Offered.TheVariants.{Pair};
@@ -25,6 +25,7 @@ ghost use Rattle.id_ops.specs.declared.Fresh.{Fresh};
 ghost use Rattle.id_ops.specs.declared.Operands.TheVariants.{One, Two};
 ghost use Rattle.id_ops.specs.Operators.{fired};
 ghost use Rattle.id_ops.specs.declared.Fired.TheVariants.{Entered};
+ghost use Rattle.id_ops.specs.Deeds.{fired_by_deed};
 ghost use Rattle.id_ops.specs.Shots.{fired_of};
 ghost use Rattle.id_graph.specs.Graph.{arcs_on};
 ghost use Rattle.id_ops.specs.Operators.{side_of, tag_within};
@@ -34,7 +35,9 @@ use id_bank::{ReadAnswer, WriteAnswer};
 use id_flight::Queue;
 use id_graph::{Dest, Instr, Op, Port};
 use id_match::{Met, Offered, Waiting};
-use id_ops::{Fired, Fresh, Operands, Shot, Target, fire, shoot_one, shoot_two};
+use id_ops::{
+    Deed, Fired, Fresh, Operands, Shot, Target, deed_on, deed_on_two, fire, shoot_one, shoot_two,
+};
 use id_record::{
     Envelope, Reaction, Record, Verdict, chosen, count_started, message, moved_to, start, token_at,
     token_to,
@@ -470,6 +473,49 @@ pub(crate) fn send_shot(instr: &Instr, like: &PlainToken, shot: Shot, outputs: &
                 },
                 outputs,
             )
+        }
+    }
+}
+
+/// What an operator of arrays does with plain operands, where that is short. Takes no memory.
+#[inline(always)]
+pub(crate) fn deed_of(op: Op, operands: PlainOperands) -> Option<Deed>
+    ensures { IfSome result (λ d. (t : Tag) (f : Fresh) → fired op t (operands_in operands) f ≡ fired_by_deed t d) }
+{
+    match operands {
+        PlainOperands::One(value) => deed_on(op, value),
+        PlainOperands::Two(left, right) => deed_on_two(op, left, right),
+    }
+}
+
+/// Appends the outputs of a deed, for which there is room: each is like this token. Takes no memory.
+#[inline(always)]
+pub(crate) fn send_deed(instr: &Instr, like: &PlainToken, deed: Deed, outputs: &mut Queue)
+    requires room { most_sent instr.now ≤ outputs.old.room }
+    requires few { most_sent instr.now ≤ 256 }
+    ensures { outputs.new.messages ≡ outputs.old.messages ++ numbered like.now.sender like.now.position like.now.stamp 0
+        (sent (Some instr.now.op) (arcs_on (side_of (fired_by_deed (tag_in like.now) deed)) instr.now) (tag_in like.now)
+        (fired_by_deed (tag_in like.now) deed)) }
+{
+    match deed {
+        Deed::Addressed(cell) => {
+            let value = cell.address();
+            send_plain(
+                instr.dests.as_slice(),
+                &PlainToken { value, ..*like },
+                outputs,
+            )
+        }
+        Deed::Asked(cell, instr) => outputs.push_read_reserved(
+            &PlainToken {
+                instr,
+                output: 0,
+                ..*like
+            },
+            cell,
+        ),
+        Deed::Stored(cell, number) => {
+            outputs.push_write_reserved(&PlainToken { output: 0, ..*like }, cell, number)
         }
     }
 }

@@ -1,7 +1,7 @@
 -- Lemmas on specs/Parcels.antt: a parcel that says what a message says has the message, and what stands aside stays
 -- there.
 use Rattle.std.proofs.Common.{Result, Ok, Err, OnErr}
-use Rattle.std.proofs.Common.{◌≡◌, suc, List, [], ◌∷◌, ◌++◌, Option, None, Some, IfSome, get_or, length, length-append, map, refl, ap, subst, ◌∙◌, arith}
+use Rattle.std.proofs.Common.{◌≡◌, suc, List, [], ◌∷◌, ◌++◌, Option, None, Some, IfSome, get_or, length, length-append, map, refl, sym, ap, subst, ◌∙◌, arith}
 use Rattle.std.proofs.Math.ListN.{get_or-append}
 use Rattle.std.proofs.Math.Seq.{get_or-append_seam}
 use Rattle.std.specs.Prelude.{All}
@@ -11,11 +11,14 @@ use Rattle.std.proofs.lemmas.List.Elements.{recursion_from_All}
 use Rattle.id_graph.specs.declared.dests.Port.{Port}
 use Rattle.id_tag.specs.declared.Tag.{Tag}
 use Rattle.id_tag.specs.declared.Message.{Message}
+use Rattle.id_tag.specs.declared.Payload.{Payload}
+use Rattle.id_tag.specs.declared.plain.PlainToken.{PlainToken}
+use Rattle.id_tag.specs.Plains.{message_of, tag_in as tag_of}
 use Rattle.id_flight.specs.declared.parcel.Parcel.{Parcel}
 use Rattle.id_flight.specs.declared.parcel.What.{What}
 use Rattle.id_flight.specs.declared.parcel.What.TheVariants.{Plain, Structure as Named, Address, Read}
 use Rattle.id_flight.specs.declared.parcel.What.TheVariants.{WriteInt, WriteBool, Aside}
-use Rattle.id_flight.specs.Parcels.{IsPacked, IsThere, IsWithin, own, place_of, said, tag_in, told, unpacked}
+use Rattle.id_flight.specs.Parcels.{IsPacked, IsThere, IsWithin, like, own, place_of, said, tag_in, told, unpacked}
 
 -- what says something does not stand aside
 there-said : (asides : List Message) (t : Tag) (q : Port) (w : What) (m : Message) → said t q w ≡ Some m.payload → IsThere asides w
@@ -42,6 +45,13 @@ pub packed-if : (m : Message) (w : What) (t : Tag) (q : Port) (o : Option Parcel
     → IfSome o (λ p. IsPacked m p)
 packed-if m w t q None says what port tag whole = tt
 packed-if m w t q (Some p) says what port tag whole = packed-narrowed m w t q p says what port tag whole
+
+-- a parcel that is like a token but says this
+pub packed-like : (t : PlainToken) (w : What) (x : Payload) (p : Parcel) → said (tag_of t) t.port w ≡ Some x → p ≡ like t w
+    → IsPacked (record (message_of t) { payload = x }) p
+packed-like t w x p says is =
+    let m : Message = record (message_of t) { payload = x } in
+    subst (λ q. IsPacked m q) (sym is) (packed-narrowed m w (tag_of t) t.port (like t w) says refl refl refl refl)
 
 -- the parcels behind the first have what all have
 pub all-rest : (P : Parcel → Type 0) (p : Parcel) (ps qs : List Parcel) → qs ≡ p ∷ ps → All P qs → All P ps

@@ -14,6 +14,7 @@ use Rattle.id_flight.specs.declared.parcel.Parcel.{Parcel}
 use Rattle.id_flight.specs.declared.parcel.What.{What}
 use Rattle.id_flight.specs.declared.parcel.What.TheVariants.{Plain, Structure as Named, Address, Read}
 use Rattle.id_flight.specs.declared.parcel.What.TheVariants.{WriteInt, WriteBool, Aside}
+use Rattle.id_tag.specs.declared.plain.PlainToken.{PlainToken}
 use Rattle.id_tag.specs.Plains.{whole}
 
 -- the tag of a parcel
@@ -45,6 +46,21 @@ said t q (Aside i) = None
 -- the message of a parcel that says this
 abbrev pub own : Parcel → Payload → Message
 own p x = record { payload = x; sender = Element p.sender; position = p.position; output = p.output; stamp = p.stamp }
+
+-- the parcel that says this, and is else like a plain token
+abbrev pub like : PlainToken → What → Parcel
+like t w = record {
+  what = w;
+  serial = t.serial;
+  iteration = t.iteration;
+  instr = t.instr;
+  position = t.position;
+  stamp = t.stamp;
+  element = t.element;
+  sender = t.sender;
+  output = t.output;
+  port = t.port;
+}
 
 -- at which place of those that stand aside the message is, where it stands there
 abbrev pub place_of : What → ℕ

@@ -7,14 +7,14 @@ ghost use Rattle.id_tag.specs.declared.Value.TheVariants as value;
 ghost use Rattle.id_tag.specs.declared.Payload.TheVariants.{Token, Read, Write};
 ghost use Rattle.id_graph.specs.declared.dests.Port.{Port};
 ghost use Rattle.id_flight.specs.declared.parcel.What.TheVariants.{Aside};
-ghost use Rattle.id_flight.specs.Parcels.{IsPacked, IsWithin, cell_in, own, said, structure_in, tag_in, unpacked};
+ghost use Rattle.id_flight.specs.Parcels.{IsPacked, IsWithin, cell_in, like, own, said, structure_in, tag_in, unpacked};
 ghost use Rattle.id_tag.specs.declared.plain.Plain.{Plain};
-ghost use Rattle.id_tag.specs.Plains.{message_of, whole};
+ghost use Rattle.id_tag.specs.Plains.{cell_of, message_of, tag_in as tag_of, whole};
 
 use id_graph::Port;
 use id_tag::{
-    Cell, Context, Message, Payload, Plain, PlainToken, Sender, Structure, Tag, Value, plain_of,
-    small, tiny,
+    Cell, Context, Message, Payload, Plain, PlainCell, PlainToken, Sender, Structure, Tag, Value,
+    plain_of, small, tiny,
 };
 
 /// A message in 64 bytes: most numbers of a run need no more than 32 bits, and there are no more than 64 elements.
@@ -78,8 +78,53 @@ pub(crate) fn packed(message: &Message) -> Option<Parcel>
 pub(crate) fn packed_plain(token: &PlainToken) -> Parcel
     ensures { IsPacked (message_of token.now) result }
 {
+    parcel_like(token, What::Plain(token.value))
+}
+
+/// The parcel of a read of a cell, whose reply is to go to this token's tag, and which is else like it.
+#[inline(always)]
+pub(crate) fn packed_read(like: &PlainToken, cell: PlainCell) -> Parcel
+    ensures { IsPacked (record (message_of like.now) { payload = Read (cell_of cell) (tag_of like.now) }) result }
+{
+    parcel_like(
+        like,
+        What::Read(
+            cell.element,
+            cell.serial,
+            i64::from(cell.low),
+            i64::from(cell.high),
+            i64::from(cell.index),
+        ),
+    )
+}
+
+/// The parcel of a write of a number to a cell, from the store of this token's tag, and else like it.
+#[inline(always)]
+pub(crate) fn packed_write(like: &PlainToken, cell: PlainCell, number: i64) -> Parcel
+    ensures { IsPacked (record (message_of like.now) {
+      payload = Write (cell_of cell) (value.Int number) (tag_of like.now);
+    }) result }
+{
+    parcel_like(
+        like,
+        What::WriteInt(
+            cell.element,
+            cell.serial,
+            i64::from(cell.low),
+            i64::from(cell.high),
+            i64::from(cell.index),
+            number,
+        ),
+    )
+}
+
+/// The parcel that says this, and is else like a token.
+#[inline(always)]
+fn parcel_like(token: &PlainToken, what: What) -> Parcel
+    ensures { result ≡ like token.now what }
+{
     Parcel {
-        what: What::Plain(token.value),
+        what,
         serial: token.serial,
         iteration: token.iteration,
         instr: token.instr,
@@ -272,7 +317,10 @@ fn carried(value: Value) -> Option<What>
             Some(plain) => Some(What::Plain(plain)),
             None => carried_structure(structure),
         },
-        Value::Address(cell) => carried_cell(cell),
+        Value::Address(cell) => match plain_of(&value) {
+            Some(plain) => Some(What::Plain(plain)),
+            None => carried_cell(cell),
+        },
         _ => Some(What::Plain(plain_of(&value)?)),
     }
 }

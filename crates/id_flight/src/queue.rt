@@ -4,9 +4,11 @@ ghost use Rattle.std.specs.Prelude.{◌≡◌, ◌<◌, ◌≤◌, ◌+◌, vec_
 ghost use Rattle.id_flight.specs.declared.parcel.Parcel.{Parcel};
 ghost use Rattle.id_flight.specs.Parcels.{IsWithin, unpacked};
 
-use crate::parcel::{Parcel, packed, packed_plain, parcel_aside, plain_in, unpack};
+use crate::parcel::{
+    Parcel, packed, packed_plain, packed_read, packed_write, parcel_aside, plain_in, unpack,
+};
 use crate::row::Row;
-use id_tag::{Message, PlainToken};
+use id_tag::{Message, PlainCell, PlainToken};
 use std::alloc::{AllocError, Global};
 use std::marker::Model;
 
@@ -37,7 +39,9 @@ impl Queue {
     ghost use Rattle.std.specs.Prelude.{◌≡◌, ◌<◌, ◌≤◌, ◌+◌, ◌^◌, ◌==◌, ◌++◌, ◌∷◌, ◌↔◌, [], drop};
     ghost use Rattle.std.specs.Prelude.{length, slice_get, Some};
     ghost use Rattle.std.specs.Prelude.{option_to_list, IfSome, IsSome, OnErr, OnOk};
-    ghost use Rattle.id_tag.specs.Plains.{message_of};
+    ghost use Rattle.id_tag.specs.Plains.{cell_of, message_of, tag_in};
+    ghost use Rattle.id_tag.specs.declared.Payload.TheVariants.{Read, Write};
+    ghost use Rattle.id_tag.specs.declared.Value.TheVariants as value;
 
     /// The empty queue. Takes no memory.
     pub fn new(alloc: Global) -> Queue
@@ -126,6 +130,32 @@ impl Queue {
         ensures room { self.old.room ≤ self.new.room + 1 }
     {
         self.parcels.push_back_reserved(packed_plain(token));
+    }
+
+    /// Adds a read of a cell at the end, whose reply is to go to this token's tag, and which is else like it. There is
+    /// room for it. Takes no memory.
+    #[inline(always)]
+    pub fn push_read_reserved(&mut self, like: &PlainToken, cell: PlainCell)
+        requires { 0 < self.old.room }
+        ensures messages { self.new.messages
+            ≡ self.old.messages ++ record (message_of like.now) { payload = Read (cell_of cell) (tag_in like.now) } ∷ [] }
+        ensures room { self.old.room ≤ self.new.room + 1 }
+    {
+        self.parcels.push_back_reserved(packed_read(like, cell));
+    }
+
+    /// Adds a write of a number to a cell at the end, from the store of this token's tag, and else like it. There is
+    /// room for it. Takes no memory.
+    #[inline(always)]
+    pub fn push_write_reserved(&mut self, like: &PlainToken, cell: PlainCell, number: i64)
+        requires { 0 < self.old.room }
+        ensures messages { self.new.messages ≡ self.old.messages ++ record (message_of like.now) {
+          payload = Write (cell_of cell) (value.Int number) (tag_in like.now);
+        } ∷ [] }
+        ensures room { self.old.room ≤ self.new.room + 1 }
+    {
+        self.parcels
+            .push_back_reserved(packed_write(like, cell, number));
     }
 
     /// Adds a message at the front. After an error nothing has changed.

@@ -1,3 +1,4 @@
 pub mod Operators
 pub mod Operands
 pub mod Shots
+pub mod Deeds

@@ -17,8 +17,10 @@ ghost use Rattle.id_ops.specs.Operators.{fired_switch, fired_back, fired_enter, 
 ghost use Rattle.id_ops.specs.Operators.{fired_reset, structure_in, fired_alloc, address_in};
 ghost use Rattle.id_ops.specs.Operators.{fired_address, fired_fetch, fired_store, fired};
 
+mod deed;
 mod shot;
 
+pub use deed::{Deed, deed_on, deed_on_two};
 use id_graph::{Dyadic, Instr, Op, PortKind};
 use id_tag::{Cell, Context, Structure, Tag, Value};
 use id_value::{

@@ -1,3 +1,4 @@
 pub mod EachLemmas
 pub mod SendsLemmas
 pub mod LinesLemmas
+pub mod NearLemmas

@@ -25,9 +25,9 @@ use Rattle.id_record.specs.declared.line.Effect.{Effect}
 use Rattle.id_record.specs.declared.line.Kind.TheVariants as kind
 use Rattle.id_record.specs.Events.{EventView, full_step, tag_of, value_of}
 use Rattle.id_record.specs.Sends.{numbered, replies, sent}
-use Rattle.id_record.specs.Lines.{AreThere, Beside, HasNumbers, IsCelled, IsKept, IsPacked, IsPackedBeside, IsThere, IsWithin, Names, carried_value, cell_in, context_of, element_at, high_half, index_of, instr_at, joined, low_half, no_replies, number_of, own, port_at, reaction_of, read, saying, structure_at, tag_at, target_in, told, unpacked}
+use Rattle.id_record.specs.Lines.{AreThere, Beside, HasNumbers, IsCelled, IsKept, IsPacked, IsPackedBeside, IsThere, IsWithin, Names, carried_value, cell_at, cell_in, context_of, element_at, high_half, index_of, instr_at, joined, low_half, no_replies, number_of, own, port_at, reaction_of, read, saying, structure_at, tag_at, target_in, told, unpacked}
 use Rattle.id_record.specs.Records.{event_of_handled, events_from, replies_in, sent_by, sent_for}
-use Rattle.std.specs.Int.{cast_unsigned, w64}
+use Rattle.std.specs.Int.{cast_signed, cast_unsigned, w32, w64}
 use Rattle.std.proofs.lemmas.Int.{of_z-to_z}
 use Rattle.id_record.proofs.EachLemmas.{each-append, each-weaker, each-get}
 
@@ -88,6 +88,8 @@ cell-there b c l kind.False there = tt
 cell-there b c l kind.Context there = tt
 cell-there b c l kind.Continuation there = tt
 cell-there b c l kind.Structure there = tt
+cell-there b c l kind.Address there = tt
+cell-there b c l kind.Near there = tt
 cell-there b c l kind.Aside there = there
 cell-there b c l k there = omega (arith, length-append b.cells (c ∷ []), there)
 
@@ -99,6 +101,8 @@ cell-same b c l kind.False there = refl
 cell-same b c l kind.Context there = refl
 cell-same b c l kind.Continuation there = refl
 cell-same b c l kind.Structure there = refl
+cell-same b c l kind.Address there = refl
+cell-same b c l kind.Near there = refl
 cell-same b c l kind.Aside there = refl
 cell-same b c l k there = ap (λ d. saying l (told k (tag_at l) (port_at (l.position / 2 ^ 31)) l.value l.result d)) (cell-append b.cells (c ∷ []) l there)
 
@@ -178,6 +182,8 @@ celled-read b l kind.False celled = elim celled [ ]
 celled-read b l kind.Context celled = elim celled [ ]
 celled-read b l kind.Continuation celled = elim celled [ ]
 celled-read b l kind.Structure celled = elim celled [ ]
+celled-read b l kind.Address celled = elim celled [ ]
+celled-read b l kind.Near celled = elim celled [ ]
 celled-read b l kind.Aside celled = elim celled [ ]
 celled-read b l k celled = refl
 
@@ -189,6 +195,8 @@ celled-there b l kind.False celled there = elim celled [ ]
 celled-there b l kind.Context celled there = elim celled [ ]
 celled-there b l kind.Continuation celled there = elim celled [ ]
 celled-there b l kind.Structure celled there = elim celled [ ]
+celled-there b l kind.Address celled there = elim celled [ ]
+celled-there b l kind.Near celled there = elim celled [ ]
 celled-there b l kind.Aside celled there = elim celled [ ]
 celled-there b l k celled there = there
 
@@ -359,7 +367,9 @@ names-line fired.Nothing value.Signal t l names named result = tt
 names-line fired.Nothing (value.Int n) t l names named result = tt
 names-line fired.Nothing (value.Bool b) t l names named result = tt
 names-line fired.Nothing (value.Structure s) t l names named result = ap (λ u. u.context) (target-line t l named result) ∙ names
-names-line fired.Nothing (value.Address c) t l names named result = tt
+names-line fired.Nothing (value.Address c) t l names named result =
+    let same = target-line t l named result in
+    (ap (λ u. u.context) same ∙ names.0, ap (λ u. cast_signed w32 u.iteration) same ∙ names.1)
 names-line fired.Nothing (value.Context c) t l names named result = tt
 names-line fired.Nothing (value.Continuation u) t l names named result = target-line t l named result ∙ names
 
@@ -386,6 +396,7 @@ read-carried b l kind.False v is = let same : value.Bool false ≡ v = cc in ap 
 read-carried b l kind.Context v is = let same : value.Context (context_of l.value) ≡ v = cc in ap (own l) same
 read-carried b l kind.Continuation v is = let same : value.Continuation (target_in l) ≡ v = cc in ap (own l) same
 read-carried b l kind.Structure v is = let same : value.Structure (structure_at (target_in l) l.value) ≡ v = cc in ap (own l) same
+read-carried b l kind.Address v is = let same : value.Address (cell_at (target_in l) l.value) ≡ v = cc in ap (own l) same
 read-carried b l k v is = cc
 
 there-carried : (b : Beside) (t : Tag) (l : Line) (k : Kind) (v : Value) → carried_value t k l.value ≡ Some v → IsThere b l k
@@ -396,6 +407,7 @@ there-carried b t l kind.False v is = tt
 there-carried b t l kind.Context v is = tt
 there-carried b t l kind.Continuation v is = tt
 there-carried b t l kind.Structure v is = tt
+there-carried b t l kind.Address v is = tt
 there-carried b t l k v is = cc
 
 -- an event stands in a line of its value, its numbers and its reaction

@@ -96,6 +96,10 @@ structure_at t n = record {
   high = cast_signed w32 (low_half n);
 }
 
+-- its cell whose index is the tag's iteration, as a number with a sign
+abbrev pub cell_at : Tag → ℤ → Cell
+cell_at t n = record { structure = structure_at t n; index = cast_signed w32 t.iteration }
+
 -- the value that a line of this kind carries in this number, where its event names this tag beside that of its message
 abbrev pub carried_value : Tag → Kind → ℤ → Option Value
 carried_value t kind.Signal n = Some value.Signal
@@ -105,6 +109,7 @@ carried_value t kind.False n = Some (value.Bool false)
 carried_value t kind.Context n = Some (value.Context (context_of n))
 carried_value t kind.Continuation n = Some (value.Continuation t)
 carried_value t kind.Structure n = Some (value.Structure (structure_at t n))
+carried_value t kind.Address n = Some (value.Address (cell_at t n))
 carried_value t _ n = None
 
 -- the tag has the element and the serial number of the structure that the value is, if it is one
@@ -117,19 +122,20 @@ HasNumbers (value.Address c) t = Unit {0}
 HasNumbers (value.Context c) t = Unit {0}
 HasNumbers (value.Continuation u) t = Unit {0}
 
--- the tag is the one that the value names, if it names one, or has the numbers of the structure that it is
+-- the tag is the one that the value names, if it names one, or has the numbers of the structure that it is, or of the
+-- address
 abbrev pub NamedBy : Value → Tag → Type 0
 NamedBy value.Signal t = Unit {0}
 NamedBy (value.Int n) t = Unit {0}
 NamedBy (value.Bool b) t = Unit {0}
 NamedBy (value.Structure s) t = t.context ≡ numbers_of s
-NamedBy (value.Address c) t = Unit {0}
+NamedBy (value.Address c) t = (t.context ≡ numbers_of c.structure) × (cast_signed w32 t.iteration ≡ c.index)
 NamedBy (value.Context c) t = Unit {0}
 NamedBy (value.Continuation u) t = t ≡ u
 
 -- the tag is the one that an event names beside that of its message, if it names one: where a value was sent, which
 -- context was entered, which iteration a value moved to, or what a value that waits names; and it has the numbers of a
--- structure that moves, goes out or waits
+-- structure that moves, goes out or waits, or of an address that waits
 abbrev pub Names : Fired → Value → Tag → Type 0
 Names (fired.Out w) v t = HasNumbers w t
 Names (fired.Side b w) v t = HasNumbers w t
@@ -181,7 +187,6 @@ failed f = record { fired = fired.Failed f; verdict = verdict.Failed f }
 -- what an effect stands for, with the number of its line, the tag that its event names, and the value of its message
 abbrev pub reaction_of : Effect → ℤ → Tag → Value → Reaction
 reaction_of effect.Stuck n t v = record { fired = fired.Nothing; verdict = verdict.Stuck }
-reaction_of effect.Nothing n t v = went fired.Nothing
 reaction_of effect.Overflow n t v = failed fault.Overflow
 reaction_of effect.DivisionByZero n t v = failed fault.DivisionByZero
 reaction_of effect.Signal n t v = went (fired.Out value.Signal)
@@ -202,6 +207,7 @@ reaction_of effect.Sent n t v = went (fired.Sent t v)
 reaction_of effect.Own n t v = went (fired.Out v)
 reaction_of effect.OwnOnTrue n t v = went (fired.Side true v)
 reaction_of effect.OwnOnFalse n t v = went (fired.Side false v)
+reaction_of _ n t v = went fired.Nothing
 
 -- the tag that the event of a line names beside that of its message
 abbrev pub target_in : Line → Tag
@@ -288,6 +294,14 @@ told kind.Written t p n r c = record {
 }
 told _ t p n r c = token_told t p value.Signal fired.Nothing
 
+-- what the event of a line with this effect says that has the numbers of its cell, with the tag and the port of its
+-- message, the number of an instruction, and the cell
+abbrev pub told_near : Effect → Tag → Port → ℕ → Cell → Told
+told_near effect.StructureAddressed t p r c =
+    token_told t p (value.Structure c.structure) (fired.Out (value.Address c))
+told_near effect.IntAddressed t p r c = token_told t p (value.Int c.index) (fired.Out (value.Address c))
+told_near _ t p r c = token_told t p (value.Address c) (fired.Asked c (record t { instr = r }))
+
 -- the port of a token, or port 0
 abbrev pub port_for : Payload → Port
 port_for (Token t p v) = p
@@ -318,6 +332,9 @@ read b l kind.False = own l (value.Bool false)
 read b l kind.Context = own l (value.Context (context_of l.value))
 read b l kind.Continuation = own l (value.Continuation (target_in l))
 read b l kind.Structure = own l (value.Structure (structure_at (target_in l) l.value))
+read b l kind.Address = own l (value.Address (cell_at (target_in l) l.value))
+read b l kind.Near =
+    saying l (told_near l.effect (tag_at l) (port_at (l.position / 2 ^ 31)) (instr_at l.to) (cell_at (target_in l) l.value))
 read b l kind.Aside = slice_index_or b.asides (index_of l.value) (own l value.Signal)
 read b l k = saying l (told k (tag_at l) (port_at (l.position / 2 ^ 31)) l.value l.result (cell_in b.cells l))
 
@@ -335,6 +352,8 @@ IsThere b l kind.False = Unit {0}
 IsThere b l kind.Context = Unit {0}
 IsThere b l kind.Continuation = Unit {0}
 IsThere b l kind.Structure = Unit {0}
+IsThere b l kind.Address = Unit {0}
+IsThere b l kind.Near = Unit {0}
 IsThere b l kind.Aside = index_of l.value < length b.asides
 IsThere b l k = l.to < length b.cells
 
@@ -365,6 +384,8 @@ IsCelled kind.False = ⊥
 IsCelled kind.Context = ⊥
 IsCelled kind.Continuation = ⊥
 IsCelled kind.Structure = ⊥
+IsCelled kind.Address = ⊥
+IsCelled kind.Near = ⊥
 IsCelled kind.Aside = ⊥
 IsCelled k = Unit {0}
 

@@ -1,12 +1,14 @@
 -- What the record keeps of a token with a plain value.
 use Rattle.std.specs.Prelude.{◌<◌, ◌-◌, ◌^◌}
-use Rattle.id_tag.specs.Plains.{message_of}
+use Rattle.id_tag.specs.Plains.{message_of, tag_in}
 use Rattle.id_tag.specs.declared.plain.Plain.{Plain}
 use Rattle.id_tag.specs.declared.plain.Plain.TheVariants.{Continuation}
+use Rattle.id_ops.specs.Deeds.{fired_by_deed}
 use Rattle.id_ops.specs.Shots.{fired_of}
 use Rattle.id_tag.specs.declared.plain.PlainToken.{PlainToken}
 use Rattle.id_record.specs.declared.step.Verdict.TheVariants.{Went}
 use Rattle.id_record.specs.declared.line.Handled.{Handled}
+use Rattle.id_record.specs.declared.line.near.Doing.{Doing}
 use Rattle.id_record.specs.declared.line.shooting.Shooting.{Shooting}
 use Rattle.id_record.specs.Lines.{no_replies}
 
@@ -16,6 +18,15 @@ shooting s = record {
   message = message_of s.token.now;
   stamp = s.stamp;
   reaction = record { fired = fired_of s.shot; verdict = Went };
+  replies = no_replies;
+}
+
+-- what the record keeps of a plain token at an operator of arrays: its deed is fired, and all went well
+abbrev pub doing : Doing → Handled
+doing d = record {
+  message = message_of d.token.now;
+  stamp = d.stamp;
+  reaction = record { fired = fired_by_deed (tag_in d.token.now) d.deed; verdict = Went };
   replies = no_replies;
 }
 

@@ -9,8 +9,8 @@ ghost use Rattle.id_valid.specs.Roles.{op_at};
 ghost use Rattle.id_graph.specs.Graph.{IsGraph};
 
 use crate::line::{
-    Celled, Handled, Handling, Line, Replies, Shooting, instr_in, line_aside, packed,
-    packed_beside, payload_in, shot_line, unpack,
+    Celled, Doing, Handled, Handling, Line, NO_REPLIES, Reaction, Replies, Shooting, deed_beside,
+    deed_line, instr_in, line_aside, packed, packed_beside, payload_in, shot_line, unpack,
 };
 use crate::outputs::{Envelope, Outputs, chosen};
 use crate::step::{Fault, Step, Verdict};
@@ -85,7 +85,7 @@ impl<'a> Record<'a> {
     ghost use Rattle.std.specs.Prelude.{◌≡◌, ◌<◌, ◌≤◌, ◌+◌, ◌++◌, ◌∷◌, [], length, option_map, slice_get, Some, OnOk};
     ghost use Rattle.id_record.specs.Events.{tag_of, value_of};
     ghost use Rattle.id_record.specs.Lines.{AreThere, handled};
-    ghost use Rattle.id_record.specs.Shootings.{HasLine, shooting};
+    ghost use Rattle.id_record.specs.Shootings.{HasLine, doing, shooting};
     ghost use Rattle.id_ops.specs.Shots.{IsBrief, IsOwn};
     ghost use Rattle.id_record.specs.Records.{event_of_handled};
 
@@ -205,6 +205,70 @@ impl<'a> Record<'a> {
             (shooting event.entry) ∷ [] }
     {
         add_line(&mut self.lines, shot_line(&event));
+    }
+
+    /// Adds the event of a plain token at an operator of arrays at the end. Takes no memory.
+    #[inline(always)]
+    pub fn push_deed(&mut self, event: Doing<'_>)
+        requires room { 0 < self.old.room }
+        requires room_aside { 0 < self.old.room_aside }
+        requires fits { HasLine event.token.now }
+        ensures element { self.new.element ≡ self.old.element }
+        ensures graph { self.new.graph ≡ self.old.graph }
+        ensures events { self.new.events ≡ self.old.events
+            ++ event_of_handled self.old.graph self.old.element self.old.replies (length self.old.events)
+            (doing event.entry) ∷ [] }
+    {
+        match deed_line(&event) {
+            Some(line) => add_line(&mut self.lines, line),
+            None => self.push_deed_beside(event),
+        }
+    }
+
+    /// Adds the event of a plain token at an operator of arrays at the end, which fits in no line alone. Takes no memory.
+    #[inline(always)]
+    fn push_deed_beside(&mut self, event: Doing<'_>)
+        requires room { 0 < self.old.room }
+        requires room_aside { 0 < self.old.room_aside }
+        requires fits { HasLine event.token.now }
+        ensures element { self.new.element ≡ self.old.element }
+        ensures graph { self.new.graph ≡ self.old.graph }
+        ensures events { self.new.events ≡ self.old.events
+            ++ event_of_handled self.old.graph self.old.element self.old.replies (length self.old.events)
+            (doing event.entry) ∷ [] }
+    {
+        match deed_beside(&event, self.cells.len()) {
+            Some(Celled { line, cell }) => {
+                self.cells.push_reserved(cell);
+                add_line(&mut self.lines, line);
+            }
+            None => self.push_deed_aside(event),
+        }
+    }
+
+    /// Adds the event of a plain token at an operator of arrays at the end, as any event. Takes no memory.
+    #[inline(never)]
+    fn push_deed_aside(&mut self, event: Doing<'_>)
+        requires room { 0 < self.old.room }
+        requires room_aside { 0 < self.old.room_aside }
+        requires fits { HasLine event.token.now }
+        ensures element { self.new.element ≡ self.old.element }
+        ensures graph { self.new.graph ≡ self.old.graph }
+        ensures events { self.new.events ≡ self.old.events
+            ++ event_of_handled self.old.graph self.old.element self.old.replies (length self.old.events)
+            (doing event.entry) ∷ [] }
+    {
+        let message = event.token.message();
+        let reaction = Reaction {
+            fired: event.deed.fired(event.token.tag()),
+            verdict: Verdict::Went,
+        };
+        self.push(Handling {
+            message: &message,
+            stamp: u64::from(event.stamp),
+            reaction: &reaction,
+            replies: NO_REPLIES,
+        });
     }
 
     /// The events, in order. Takes no memory.

@@ -13,7 +13,7 @@ mod outputs;
 mod step;
 
 pub use history::{Event, Events, Record, full_step, tag_of, value_of};
-pub use line::{Handled, Handling, NO_REPLIES, Reaction, Replies, Shooting, has_line};
+pub use line::{Doing, Handled, Handling, NO_REPLIES, Reaction, Replies, Shooting, has_line};
 pub use outputs::{
     Envelope, Outputs, chosen, count_started, message, moved_to, start, token_at, token_to,
 };

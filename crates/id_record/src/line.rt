@@ -1,22 +1,26 @@
 //! How the record keeps an event: in one line of 48 bytes, in one with a cell beside it, or aside where it fits in
 //! neither.
 
-ghost use Rattle.std.specs.Prelude.{◌≡◌, ◌<◌, ◌%◌, ◌/◌, ◌^◌, ℤ, pos, true, false, Some, IfSome, IsTrue};
+ghost use Rattle.std.specs.Prelude.{◌≡◌, ◌≢◌, ◌<◌, ◌%◌, ◌/◌, ◌^◌, ℤ, pos, true, false, Some, IfSome, IsTrue};
+ghost use Rattle.id_tag.specs.declared.Cell.{Cell};
 ghost use Rattle.id_tag.specs.declared.Tag.{Tag};
 ghost use Rattle.id_tag.specs.declared.Value.{Value};
 ghost use Rattle.id_tag.specs.declared.Payload.TheVariants.{Token};
 ghost use Rattle.id_ops.specs.declared.Fired.TheVariants as firings;
 ghost use Rattle.id_tag.specs.declared.Value.TheVariants as value;
+ghost use Rattle.id_tag.specs.declared.Value.TheVariants.{Address};
 ghost use Rattle.id_record.specs.declared.step.Verdict.TheVariants.{Went, Failed};
 ghost use Rattle.id_record.specs.declared.line.Kind.TheVariants.{Aside};
-ghost use Rattle.id_record.specs.Lines.{HasNumbers, IsPacked, IsWithin, NamedBy, Names, carried_value, context_of};
-ghost use Rattle.id_record.specs.Lines.{element_at, failed, fired_at, handled, high_half, index_of, instr_at, joined};
-ghost use Rattle.id_record.specs.Lines.{beside, low_half, message_at, no_replies, number_of, number_out, own, port_at};
-ghost use Rattle.id_record.specs.Lines.{reaction_of, sender_of, structure_at, tag_at, target_in, unpacked, went};
+ghost use Rattle.id_record.specs.Lines.{HasNumbers, IsPacked, IsWithin, NamedBy, Names, carried_value};
+ghost use Rattle.id_record.specs.Lines.{element_at, fired_at, handled, index_of, instr_at};
+ghost use Rattle.id_record.specs.Lines.{beside, message_at, no_replies, number_of, number_out, own, port_at};
+ghost use Rattle.id_record.specs.Lines.{reaction_of, sender_of, tag_at, unpacked};
 ghost use Rattle.id_record.specs.Events.{tag_of, value_of};
 
 mod celled;
+mod near;
 mod numbers;
+mod reading;
 mod shooting;
 
 use crate::history::{tag_of, value_of};
@@ -25,12 +29,13 @@ pub(crate) use celled::{Celled, packed_beside};
 use celled::{payload_told, said};
 use id_graph::Port;
 use id_ops::{Fired, tag_within};
-use id_tag::{Cell, Context, Message, Payload, Sender, Structure, Tag, Value};
+use id_tag::{Cell, Context, Message, Payload, Sender, Tag, Value};
 use id_value::FaultKind;
-use numbers::{
-    context_of, element_at, high_half, index_of, instr_at, joined, low_half, place, port_at,
-    position_at,
-};
+pub use near::Doing;
+pub(crate) use near::{deed_beside, deed_line};
+use near::{payload_near, said_near};
+use numbers::{context_of, index_of, instr_at, joined, place, position_at};
+use reading::{cell_in, message_at, own, own_payload, structure_in, tag_at, target_in, went};
 pub(crate) use shooting::shot_line;
 pub use shooting::{Shooting, has_line};
 
@@ -104,7 +109,9 @@ struct Carried {
 /// What the value of a line stands for: of `Int` it is the number, of `Context` its element and serial number, and of
 /// `Aside`, where the whole event stands aside, its index there. `Continuation` stands for the tag that the event
 /// names. Of `Structure` its halves are the bounds, and the event names a tag with the structure's element and serial
-/// number. The kinds behind it are of events that name a cell, and say all of them but their numbers.
+/// number; of `Address` the tag's iteration is the index too. `Near` is of an event that names the cell that `Address`
+/// would stand for, of which the effect says the rest. The kinds behind it are of events that name a cell, and say all
+/// of them but their numbers.
 #[derive(Clone, Copy)]
 pub(crate) enum Kind {
     Signal,
@@ -115,6 +122,8 @@ pub(crate) enum Kind {
     Continuation,
     Aside,
     Structure,
+    Address,
+    Near,
     StructureWaits,
     StructureOut,
     StructureOnTrue,
@@ -145,7 +154,8 @@ enum Exit {
 /// What the instruction made of the message. A value went out to the only side of its operator, or on a side of a
 /// switch; `Int` stands for the result of the line, and `Own` for the message's own value. `Entered` stands for the
 /// context of the tag that the event names, `Sent` for sending the message's own value to that tag, and `Moved` for
-/// sending it on at that tag's iteration.
+/// sending it on at that tag's iteration. The last three stand beside `Near` alone: a structure or a number brings the
+/// address of the cell out, or the address asks for the cell's value.
 #[derive(Clone, Copy)]
 enum Effect {
     Stuck,
@@ -170,6 +180,9 @@ enum Effect {
     Own,
     OwnOnTrue,
     OwnOnFalse,
+    StructureAddressed,
+    IntAddressed,
+    AddressAsked,
 }
 
 /// The event in a line, where it fits in one.
@@ -178,12 +191,13 @@ pub(crate) fn packed(event: &Handling<'_>) -> Option<Line>
     ensures { IfSome result (λ l. IsPacked (handled event.now) l) }
 {
     let value = value_of(&event.message.payload);
-    let to = target(value, &event.reaction.fired);
     match (
         carry(value, &event.reaction.fired),
         effect_of(value, event.reaction),
     ) {
-        (Some(carried), Some(effect)) => narrowed(event, carried, effect, to),
+        (Some(carried), Some(effect)) => {
+            narrowed(event, carried, effect, target(value, &event.reaction.fired))
+        }
         _ => None,
     }
 }
@@ -224,6 +238,8 @@ pub(crate) fn unpack(asides: &[Handled], cells: &[Cell], line: &Line) -> Handled
         Kind::Context => own(line, Value::Context(context_of(line.value))),
         Kind::Continuation => own(line, Value::Continuation(target_in(line))),
         Kind::Structure => own(line, Value::Structure(structure_in(line))),
+        Kind::Address => own(line, Value::Address(cell_in(line))),
+        Kind::Near => said_near(line),
         Kind::Aside => asides[index_of(line.value)],
         _ => said(line, cells[line.to as usize]),
     }
@@ -242,6 +258,8 @@ pub(crate) fn payload_in(asides: &[Handled], cells: &[Cell], line: &Line) -> Pay
         Kind::Context => own_payload(line, Value::Context(context_of(line.value))),
         Kind::Continuation => own_payload(line, Value::Continuation(target_in(line))),
         Kind::Structure => own_payload(line, Value::Structure(structure_in(line))),
+        Kind::Address => own_payload(line, Value::Address(cell_in(line))),
+        Kind::Near => payload_near(line),
         Kind::Aside => asides[index_of(line.value)].message.payload,
         _ => payload_told(line, cells[line.to as usize]),
     }
@@ -258,38 +276,12 @@ pub(crate) fn instr_in(asides: &[Handled], cells: &[Cell], line: &Line) -> u32
     }
 }
 
-/// The tag that the event of a line names beside that of its message.
-#[inline(always)]
-fn target_in(line: &Line) -> Tag
-    ensures { result ≡ target_in line.now }
-{
-    Tag {
-        context: Context {
-            element: element_at(line.to),
-            serial: u64::from(low_half(line.result)),
-        },
-        iteration: u64::from(high_half(line.result)),
-        instr: instr_at(line.to),
-    }
-}
-
-/// The structure that a line carries.
-#[inline(always)]
-fn structure_in(line: &Line) -> Structure
-    ensures { result ≡ structure_at (target_in line.now) line.now.value }
-{
-    Structure {
-        element: element_at(line.to),
-        serial: u64::from(low_half(line.result)),
-        low: i64::from(high_half(line.value).cast_signed()),
-        high: i64::from(low_half(line.value).cast_signed()),
-    }
-}
-
 /// A value that a line has room for, where the instruction fired this.
 #[inline(always)]
 fn carry(value: Value, fired: &Fired) -> Option<Carried>
-    ensures { IfSome result (λ c. (t : Tag) → Names fired.now value t → carried_value t c.kind c.value ≡ Some value) }
+    ensures value { IfSome result
+        (λ c. (t : Tag) → Names fired.now value t → carried_value t c.kind c.value ≡ Some value) }
+    ensures no_address { IfSome result (λ _. (c : Cell) → value ≢ Address c) }
 {
     match value {
         Value::Signal => Some(of_kind(Kind::Signal)),
@@ -334,6 +326,7 @@ fn carry_context(context: Context) -> Option<Carried>
 /// The tag that an event names beside that of its message.
 #[inline(always)]
 fn target(value: Value, fired: &Fired) -> Tag
+    requires { (c : Cell) → value ≢ Address c }
     ensures { Names fired.now value result }
 {
     match *fired {
@@ -380,6 +373,7 @@ fn numbered_by(value: Value) -> Tag
 /// The tag that a value names, or one with the numbers of the structure that it is, or else any.
 #[inline(always)]
 fn named_by(value: Value) -> Tag
+    requires { (c : Cell) → value ≢ Address c }
     ensures { NamedBy value result }
 {
     match value {
@@ -691,119 +685,5 @@ fn origin(sender: Sender) -> u64
     match sender {
         Sender::Start => 0,
         Sender::Element(number) => u64::from(number) + 1,
-    }
-}
-
-/// The event of a line that carries this value.
-fn own(line: &Line, value: Value) -> Handled
-    ensures { result ≡ own line.now value }
-{
-    Handled {
-        message: message_at(line, own_payload(line, value)),
-        stamp: u64::from(line.stamp),
-        reaction: reaction_in(line, value),
-        replies: NO_REPLIES,
-    }
-}
-
-/// The message of a line that says this.
-#[inline(always)]
-fn message_at(line: &Line, payload: Payload) -> Message
-    ensures { result ≡ message_at line.now payload }
-{
-    Message {
-        payload,
-        sender: sender(line),
-        position: (line.position % 0x8000_0000) as usize,
-        output: usize::from(line.output),
-        stamp: u64::from(line.sent),
-    }
-}
-
-/// The tag that the message of a line names.
-#[inline(always)]
-fn tag_at(line: &Line) -> Tag
-    ensures { result ≡ tag_at line.now }
-{
-    Tag {
-        context: Context {
-            element: element_at(line.place),
-            serial: u64::from(line.serial),
-        },
-        iteration: u64::from(line.iteration),
-        instr: instr_at(line.place),
-    }
-}
-
-/// What the message says of a line that carries this value.
-#[inline(always)]
-fn own_payload(line: &Line, value: Value) -> Payload
-    ensures { result ≡ (own line.now value).message.payload }
-{
-    Payload::Token {
-        tag: tag_at(line),
-        port: port_at(line.position / 0x8000_0000),
-        value,
-    }
-}
-
-#[inline(always)]
-fn sender(line: &Line) -> Sender
-    ensures { result ≡ sender_of line.now.sender }
-{
-    if line.sender == 0 {
-        Sender::Start
-    } else {
-        Sender::Element(u32::from(line.sender - 1))
-    }
-}
-
-fn reaction_in(line: &Line, value: Value) -> Reaction
-    ensures { result ≡ reaction_of line.now.effect line.now.result (target_in line.now) value }
-{
-    match line.effect {
-        Effect::Stuck => Reaction {
-            fired: Fired::Nothing,
-            verdict: Verdict::Stuck,
-        },
-        Effect::Nothing => went(Fired::Nothing),
-        Effect::Overflow => failed(FaultKind::Overflow),
-        Effect::DivisionByZero => failed(FaultKind::DivisionByZero),
-        Effect::Signal => went(Fired::Out(Value::Signal)),
-        Effect::Int => went(Fired::Out(Value::Int(line.result))),
-        Effect::True => went(Fired::Out(Value::Bool(true))),
-        Effect::False => went(Fired::Out(Value::Bool(false))),
-        Effect::SignalOnTrue => went(Fired::Side(true, Value::Signal)),
-        Effect::IntOnTrue => went(Fired::Side(true, Value::Int(line.result))),
-        Effect::TrueOnTrue => went(Fired::Side(true, Value::Bool(true))),
-        Effect::FalseOnTrue => went(Fired::Side(true, Value::Bool(false))),
-        Effect::SignalOnFalse => went(Fired::Side(false, Value::Signal)),
-        Effect::IntOnFalse => went(Fired::Side(false, Value::Int(line.result))),
-        Effect::TrueOnFalse => went(Fired::Side(false, Value::Bool(true))),
-        Effect::FalseOnFalse => went(Fired::Side(false, Value::Bool(false))),
-        Effect::Moved => went(Fired::Moved(target_in(line).iteration, value)),
-        Effect::Entered => went(Fired::Entered(target_in(line).context)),
-        Effect::Sent => went(Fired::Sent(target_in(line), value)),
-        Effect::Own => went(Fired::Out(value)),
-        Effect::OwnOnTrue => went(Fired::Side(true, value)),
-        Effect::OwnOnFalse => went(Fired::Side(false, value)),
-    }
-}
-
-fn went(fired: Fired) -> Reaction
-    ensures { result ≡ went fired }
-{
-    Reaction {
-        fired,
-        verdict: Verdict::Went,
-    }
-}
-
-fn failed(fault: FaultKind) -> Reaction
-    ensures { result ≡ failed fault }
-{
-    Reaction {
-        fired: Fired::Failed(fault),
-        verdict: Verdict::Failed(fault),
     }
 }

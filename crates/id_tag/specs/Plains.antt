@@ -1,14 +1,24 @@
 -- Plain values: those of small numbers.
 use Rattle.std.specs.Prelude.{Bool as Truth, true, false, Option, None, Some}
+use Rattle.id_tag.specs.declared.Cell.{Cell}
 use Rattle.id_tag.specs.declared.Tag.{Tag}
 use Rattle.id_tag.specs.declared.Value.{Value}
 use Rattle.id_tag.specs.declared.Value.TheVariants as value
 use Rattle.id_tag.specs.declared.plain.Plain.{Plain}
 use Rattle.id_tag.specs.declared.plain.Plain.TheVariants.{Signal, Int, Bool, Context, Continuation, Structure}
+use Rattle.id_tag.specs.declared.plain.Plain.TheVariants.{Address}
+use Rattle.id_tag.specs.declared.plain.PlainCell.{PlainCell}
 use Rattle.id_tag.specs.declared.plain.PlainToken.{PlainToken}
 use Rattle.id_tag.specs.declared.Message.{Message}
 use Rattle.id_tag.specs.declared.Payload.TheVariants.{Token}
 use Rattle.id_tag.specs.declared.Sender.TheVariants.{Element}
+
+-- a cell in small numbers as any cell
+abbrev pub cell_of : PlainCell → Cell
+cell_of c = record {
+  structure = record { element = c.element; serial = c.serial; low = c.low; high = c.high };
+  index = c.index;
+}
 
 -- a plain value as any value
 abbrev pub whole : Plain → Value
@@ -19,6 +29,8 @@ whole (Context e s) = value.Context (record { element = e; serial = s })
 whole (Continuation e s k j) =
     value.Continuation (record { context = record { element = e; serial = s }; iteration = k; instr = j })
 whole (Structure e s l h) = value.Structure (record { element = e; serial = s; low = l; high = h })
+whole (Address e l s h i) =
+    value.Address (record { structure = record { element = e; serial = s; low = l; high = h }; index = i })
 
 -- whether a plain value is a word: a signal, a number or a truth value
 abbrev pub is_word : Plain → Truth
@@ -28,6 +40,7 @@ is_word (Bool b) = true
 is_word (Context e s) = false
 is_word (Continuation e s k j) = false
 is_word (Structure e s l h) = false
+is_word (Address e l s h i) = false
 
 -- whether a value is one that instructions send on in short: a word or a structure
 abbrev pub is_sent_on : Value → Truth
@@ -47,6 +60,7 @@ is_carried (Bool b) = true
 is_carried (Context e s) = false
 is_carried (Continuation e s k j) = false
 is_carried (Structure e s l h) = true
+is_carried (Address e l s h i) = false
 
 -- the word that a value is, if it is one, as a plain value
 abbrev pub word_of : Value → Option Plain

@@ -1,13 +1,16 @@
 //! Plain values: those of small numbers, which most tokens carry.
 
-ghost use Rattle.std.specs.Prelude.{◌≡◌, ◌≤◌, ◌^◌, None, IfSome};
+ghost use Rattle.std.specs.Prelude.{◌≡◌, ◌≢◌, ◌≤◌, ◌^◌, None, IfSome};
 ghost use Rattle.id_tag.specs.Kinds.{kind_of};
-ghost use Rattle.id_tag.specs.Plains.{is_carried, is_word, whole, word_of};
+ghost use Rattle.id_tag.specs.Plains.{cell_of, is_carried, is_word, whole, word_of};
+ghost use Rattle.id_tag.specs.declared.Cell.{Cell};
+ghost use Rattle.id_tag.specs.declared.Value.TheVariants as value;
 
-use crate::{Context, Message, Payload, Sender, Structure, Tag, Value};
+use crate::{Cell, Context, Message, Payload, Sender, Structure, Tag, Value};
 use id_graph::{Port, PortKind};
 
-/// A word, which is a signal, a number or a truth value; or a context, a continuation or a structure in small numbers.
+/// A word, which is a signal, a number or a truth value; or a context, a continuation, a structure or an address in
+/// small numbers.
 #[derive(Clone, Copy)]
 pub enum Plain {
     Signal,
@@ -19,6 +22,8 @@ pub enum Plain {
     Continuation(u8, u32, u32, u32),
     /// The element and the serial number of a structure, and its bounds.
     Structure(u8, u32, i32, i32),
+    /// The element, the low bound, the serial number and the high bound of a structure, and the index of its cell.
+    Address(u8, i16, u32, i32, i32),
 }
 
 impl Plain {
@@ -37,12 +42,35 @@ impl Plain {
                 iteration: u64::from(iteration),
                 instr,
             }),
-            Plain::Structure(element, serial, low, high) => Value::Structure(Structure {
-                element: u32::from(element),
-                serial: u64::from(serial),
-                low: i64::from(low),
-                high: i64::from(high),
+            Plain::Structure(element, serial, low, high) => {
+                Value::Structure(structure(element, serial, low, high))
+            }
+            Plain::Address(element, low, serial, high, index) => Value::Address(PlainCell {
+                element,
+                low,
+                serial,
+                high,
+                index,
+            }
+            .cell()),
+        }
+    }
+
+    /// The cell whose address it is, if it is one. Takes no memory.
+    #[inline(always)]
+    pub fn cell(self) -> Option<PlainCell>
+        ensures some { IfSome result (λ c. whole self ≡ value.Address (cell_of c)) }
+        ensures none { result ≡ None → (c : Cell) → whole self ≢ value.Address c }
+    {
+        match self {
+            Plain::Address(element, low, serial, high, index) => Some(PlainCell {
+                element,
+                low,
+                serial,
+                high,
+                index,
             }),
+            _ => None,
         }
     }
 
@@ -58,6 +86,7 @@ impl Plain {
             Plain::Context(_, _) => PortKind::Context,
             Plain::Continuation(_, _, _, _) => PortKind::Continuation,
             Plain::Structure(_, _, _, _) => PortKind::Structure,
+            Plain::Address(_, _, _, _, _) => PortKind::Address,
         }
     }
 
@@ -68,8 +97,7 @@ impl Plain {
     {
         match self {
             Plain::Signal | Plain::Int(_) | Plain::Bool(_) => true,
-            Plain::Context(_, _) | Plain::Continuation(_, _, _, _) | Plain::Structure(_, _, _, _) =>
-                false,
+            _ => false,
         }
     }
 
@@ -80,9 +108,58 @@ impl Plain {
     {
         match self {
             Plain::Context(_, _) | Plain::Continuation(_, _, _, _) => false,
+            Plain::Address(_, _, _, _, _) => false,
             _ => true,
         }
     }
+}
+
+/// A cell in small numbers.
+#[derive(Clone, Copy)]
+pub struct PlainCell {
+    /// The element and the serial number of its structure.
+    pub element: u8,
+    /// The lower bound of its structure.
+    pub low: i16,
+    pub serial: u32,
+    /// The upper bound of its structure.
+    pub high: i32,
+    pub index: i32,
+}
+
+impl PlainCell {
+    /// The same as any cell. Takes no memory.
+    #[inline(always)]
+    pub fn cell(self) -> Cell
+        ensures { result ≡ cell_of self }
+    {
+        Cell {
+            structure: structure(self.element, self.serial, i32::from(self.low), self.high),
+            index: i64::from(self.index),
+        }
+    }
+
+    /// Its address. Takes no memory.
+    #[inline(always)]
+    pub fn address(self) -> Plain
+        ensures { whole result ≡ value.Address (cell_of self) }
+    {
+        Plain::Address(self.element, self.low, self.serial, self.high, self.index)
+    }
+}
+
+/// The cell in small numbers, where it has those. Takes no memory.
+#[inline(always)]
+pub fn plain_cell(cell: Cell) -> Option<PlainCell>
+    ensures { IfSome result (λ c. cell_of c ≡ cell) }
+{
+    Some(PlainCell {
+        element: tiny(cell.structure.element)?,
+        low: nearest(cell.structure.low)?,
+        serial: small(cell.structure.serial)?,
+        high: near(cell.structure.high)?,
+        index: near(cell.index)?,
+    })
 }
 
 /// The context of these numbers.
@@ -96,8 +173,21 @@ fn context(element: u8, serial: u32) -> Context
     }
 }
 
-/// The value as a plain one, where it is a word, or a context, a continuation or a structure in small numbers. Takes no
-/// memory.
+/// The structure of these numbers and bounds.
+#[inline(always)]
+fn structure(element: u8, serial: u32, low: i32, high: i32) -> Structure
+    ensures { result ≡ record { element = element; serial = serial; low = low; high = high } }
+{
+    Structure {
+        element: u32::from(element),
+        serial: u64::from(serial),
+        low: i64::from(low),
+        high: i64::from(high),
+    }
+}
+
+/// The value as a plain one, where it is a word, or a context, a continuation, a structure or an address in small
+/// numbers. Takes no memory.
 #[inline(always)]
 pub fn plain_of(value: &Value) -> Option<Plain>
     ensures whole { IfSome result (λ p. whole p ≡ value.now) }
@@ -113,7 +203,7 @@ pub fn plain_of(value: &Value) -> Option<Plain>
             near(structure.low)?,
             near(structure.high)?,
         )),
-        Value::Address(_) => None,
+        Value::Address(cell) => Some(plain_cell(cell)?.address()),
         Value::Context(context) => Some(Plain::Context(
             tiny(context.element)?,
             small(context.serial)?,
@@ -147,6 +237,18 @@ fn near(number: i64) -> Option<i32>
 {
     if (number >= -0x8000_0000) & (number <= 0x7fff_ffff) {
         Some(number as i32)
+    } else {
+        None
+    }
+}
+
+/// The number in 16 bits with a sign, where it fits in them.
+#[inline(always)]
+fn nearest(number: i64) -> Option<i16>
+    ensures { IfSome result (λ n. n ≡ number) }
+{
+    if (number >= -0x8000) & (number <= 0x7fff) {
+        Some(number as i16)
     } else {
         None
     }

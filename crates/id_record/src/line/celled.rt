@@ -30,11 +30,11 @@ pub(crate) struct Celled {
 
 /// What a line keeps of an event that names a cell.
 #[derive(Clone, Copy)]
-struct Scene {
-    kind: Kind,
-    value: i64,
-    result: i64,
-    cell: Cell,
+pub(super) struct Scene {
+    pub(super) kind: Kind,
+    pub(super) value: i64,
+    pub(super) result: i64,
+    pub(super) cell: Cell,
 }
 
 /// The event in a line with a cell beside it at this index, where it names one and fits.
@@ -232,7 +232,7 @@ fn scene_of_store(tag: Tag, cell: Cell, to: Cell, number: i64, origin: Tag) -> O
 }
 
 /// Whether two cells are one.
-fn is_same_cell(cell: Cell, other: Cell) -> bool
+pub(super) fn is_same_cell(cell: Cell, other: Cell) -> bool
     ensures { IsTrue result → cell ≡ other }
 {
     cell == other
@@ -301,7 +301,7 @@ fn of_kind(kind: Kind, cell: Cell) -> Scene
 
 /// What needs no more than its kind, a number and a cell.
 #[inline(always)]
-fn of_number(kind: Kind, number: i64, cell: Cell) -> Scene
+pub(super) fn of_number(kind: Kind, number: i64, cell: Cell) -> Scene
     ensures { result ≡ record { kind = kind; value = number; result = pos 0; cell = cell } }
 {
     Scene {
@@ -314,7 +314,7 @@ fn of_number(kind: Kind, number: i64, cell: Cell) -> Scene
 
 /// What needs no more than its kind, the number that went out, and a cell.
 #[inline(always)]
-fn of_result(kind: Kind, number: i64, cell: Cell) -> Scene
+pub(super) fn of_result(kind: Kind, number: i64, cell: Cell) -> Scene
     ensures { result ≡ record { kind = kind; value = pos 0; result = number; cell = cell } }
 {
     Scene {
@@ -338,10 +338,10 @@ fn first_cell(structure: Structure) -> Cell
 
 /// What an event says that names a cell.
 #[derive(Clone, Copy)]
-struct Content {
-    payload: Payload,
-    fired: Fired,
-    replies: Replies,
+pub(super) struct Content {
+    pub(super) payload: Payload,
+    pub(super) fired: Fired,
+    pub(super) replies: Replies,
 }
 
 /// The event of a line that names this cell.
@@ -441,7 +441,7 @@ fn told(line: &Line, cell: Cell) -> Content
 
 /// A token of this value for a line's port under its tag, and what was fired.
 #[inline(always)]
-fn by_token(line: &Line, value: Value, fired: Fired) -> Content
+pub(super) fn by_token(line: &Line, value: Value, fired: Fired) -> Content
     ensures { record { payload = result.payload; fired = result.fired; replies = result.replies }
         ≡ token_told (tag_at line.now) (port_at (line.now.position / 2 ^ 31)) value fired }
 {

@@ -1,18 +1,22 @@
 //! The lines of tokens with plain values that sent words or structures on, or nothing: most events.
 
-ghost use Rattle.std.specs.Prelude.{◌≡◌, ◌<◌, ◌^◌, ◌↔◌, ℤ, IsTrue, true, Some};
+ghost use Rattle.std.specs.Prelude.{◌≡◌, ◌<◌, ◌/◌, ◌^◌, ◌↔◌, ℤ, IsTrue, true, Some};
 ghost use Rattle.id_tag.specs.declared.Tag.{Tag};
 ghost use Rattle.id_tag.specs.declared.Value.{Value};
 ghost use Rattle.id_tag.specs.declared.plain.Plain.{Plain};
-ghost use Rattle.id_tag.specs.Plains.{is_carried, message_of, whole};
+ghost use Rattle.id_tag.specs.Plains.{is_carried, message_of, tag_in, whole};
+ghost use Rattle.id_tag.specs.declared.Payload.{Payload};
 ghost use Rattle.id_ops.specs.Shots.{IsBrief, IsOwn, SendsOwn, fired_of, target_tag};
 ghost use Rattle.id_record.specs.declared.step.Verdict.TheVariants.{Went};
 ghost use Rattle.id_record.specs.Lines.{HasNumbers, IsPacked, NamedBy, Names, carried_value, element_at, fired_at};
-ghost use Rattle.id_record.specs.Lines.{instr_at, joined, number_of, number_out, own, reaction_of};
+ghost use Rattle.id_record.specs.Lines.{instr_at, joined, message_at, number_of, number_out, own, port_at};
+ghost use Rattle.id_record.specs.Lines.{reaction_of, tag_at};
 ghost use Rattle.id_record.specs.Shootings.{HasLine, IsNarrow, shooting};
 
 use super::numbers::{joined, place, position_at};
-use super::{Carried, Effect, Exit, Kind, Line, false_at, int_at, of_kind, signal_at, true_at};
+use super::{
+    Carried, Effect, Exit, Kind, Line, Written, false_at, int_at, of_kind, signal_at, true_at,
+};
 use id_ops::{Shot, Target};
 use id_tag::{Plain, PlainToken};
 
@@ -90,11 +94,19 @@ fn carried(value: Plain) -> Carried
                 u64::from(high.cast_unsigned()),
             ),
         },
+        Plain::Address(_, low, _, high, _) => Carried {
+            kind: Kind::Address,
+            value: joined(
+                u64::from(i32::from(low).cast_unsigned()),
+                u64::from(high.cast_unsigned()),
+            ),
+        },
     }
 }
 
 /// The tag that the event names beside that of its message: where the value was sent, which iteration it moved to, or
-/// what a value that waits names; it has the numbers of a structure that moves, goes out or waits.
+/// what a value that waits names; it has the numbers of a structure that moves, goes out or waits, or of an address that
+/// waits.
 #[inline(always)]
 fn named(shot: Shot, token: &PlainToken) -> Target
     requires fits { HasLine token.now }
@@ -141,7 +153,7 @@ fn numbered_by(value: Plain) -> Target
     }
 }
 
-/// The tag that a value names, or one with the numbers of the structure that it is, or else any.
+/// The tag that a value names, or one with the numbers of the structure or the address that it is, or else any.
 #[inline(always)]
 fn named_by(value: Plain) -> Target
     requires { IsNarrow value }
@@ -153,6 +165,12 @@ fn named_by(value: Plain) -> Target
             serial,
             iteration,
             instr,
+            element,
+        },
+        Plain::Address(element, _, serial, _, index) => Target {
+            serial,
+            iteration: index.cast_unsigned(),
+            instr: 0,
             element,
         },
         _ => numbered_by(value),
@@ -198,8 +216,9 @@ fn going_out(exit: Exit, sent: Plain) -> Effect
         Plain::Bool(true) => true_at(exit),
         Plain::Bool(false) => false_at(exit),
         Plain::Structure(_, _, _, _) => own_at(exit),
-        // Neither goes out.
+        // None of these goes out.
         Plain::Context(_, _) | Plain::Continuation(_, _, _, _) => signal_at(exit),
+        Plain::Address(_, _, _, _, _) => signal_at(exit),
     }
 }
 
@@ -261,20 +280,46 @@ fn narrowed(event: &Shooting<'_>, carried: Carried, effect: Effect, named: Targe
     ensures message { (own result (whole event.now.token.now.value)).message ≡ message_of event.now.token.now }
     ensures stamp { result.stamp ≡ event.now.stamp }
 {
-    let token = event.token;
+    token_line(
+        event.token,
+        event.stamp,
+        Written {
+            kind: carried.kind,
+            effect,
+            value: carried.value,
+            result: number(event.shot, &named),
+            to: place(u32::from(named.element), named.instr),
+        },
+    )
+}
+
+/// The line of the event of a token at this stamp.
+#[inline(always)]
+pub(super) fn token_line(token: &PlainToken, stamp: u32, written: Written) -> Line
+    requires { HasLine token.now }
+    ensures kind { result.kind ≡ written.kind }
+    ensures effect { result.effect ≡ written.effect }
+    ensures value { result.value ≡ written.value }
+    ensures number { result.result ≡ written.result }
+    ensures to { result.to ≡ written.to }
+    ensures tag { tag_at result ≡ tag_in token.now }
+    ensures port { port_at (result.position / 2 ^ 31) ≡ token.now.port }
+    ensures message { (x : Payload) → message_at result x ≡ record (message_of token.now) { payload = x } }
+    ensures stamp { result.stamp ≡ stamp }
+{
     Line {
-        value: carried.value,
-        result: number(event.shot, &named),
+        value: written.value,
+        result: written.result,
         serial: token.serial,
         iteration: token.iteration,
         position: position_at(u64::from(token.position), token.port),
         sent: token.stamp,
-        stamp: event.stamp,
+        stamp,
         place: place(u32::from(token.element), token.instr),
-        to: place(u32::from(named.element), named.instr),
+        to: written.to,
         sender: token.sender + 1,
         output: token.output,
-        kind: carried.kind,
-        effect,
+        kind: written.kind,
+        effect: written.effect,
     }
 }

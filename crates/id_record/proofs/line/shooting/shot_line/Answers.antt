@@ -2,7 +2,7 @@
 use Rattle.std.proofs.Common.{◌≡◌, ◌<◌, ◌^◌, ℕ, true, Some, refl, subst, arith}
 use Rattle.id_tag.specs.declared.Tag.{Tag}
 use Rattle.id_tag.specs.declared.plain.Plain.{Plain}
-use Rattle.id_tag.specs.declared.plain.Plain.TheVariants.{Signal, Int, Bool, Context, Continuation, Structure}
+use Rattle.id_tag.specs.declared.plain.Plain.TheVariants.{Signal, Int, Bool, Context, Continuation, Structure, Address}
 use Rattle.id_tag.specs.Plains.{is_carried, is_word, whole}
 use Rattle.id_ops.specs.declared.shot.Shot.{Shot}
 use Rattle.id_ops.specs.declared.shot.Shot.TheVariants.{Nothing, Out, Side, Moved, Sent}
@@ -20,6 +20,7 @@ named-word (Bool b) t word = tt
 named-word (Context e s) t word = cc
 named-word (Continuation e s k j) t word = cc
 named-word (Structure e s l h) t word = cc
+named-word (Address e l s h i) t word = cc
 
 -- a tag that has the numbers of a value that is sent on is named by that
 named-carried : (w : Plain) (t : Tag) → is_carried w ≡ true → HasNumbers (whole w) t → NamedBy (whole w) t
@@ -29,6 +30,7 @@ named-carried (Bool b) t carried numbers = tt
 named-carried (Context e s) t carried numbers = tt
 named-carried (Continuation e s k j) t carried numbers = cc
 named-carried (Structure e s l h) t carried numbers = numbers
+named-carried (Address e l s h i) t carried numbers = cc
 
 -- a tag that has the numbers of what goes out is named by the value for which that goes out
 named-out : (w v : Plain) (t : Tag) → SendsOwn w v → HasNumbers (whole w) t → NamedBy (whole v) t

@@ -1,0 +1,88 @@
+//! What an operator of arrays does with plain operands, in small numbers.
+
+ghost use Rattle.std.specs.Prelude.{◌≡◌, IfSome};
+ghost use Rattle.id_tag.specs.Plains.{whole};
+ghost use Rattle.id_tag.specs.declared.Tag.{Tag};
+ghost use Rattle.id_ops.specs.declared.Fresh.{Fresh};
+ghost use Rattle.id_ops.specs.declared.Operands.TheVariants.{One, Two};
+ghost use Rattle.id_ops.specs.Deeds.{fired_by_deed};
+ghost use Rattle.id_ops.specs.Operators.{address_in, fired};
+
+use crate::Fired;
+use id_graph::Op;
+use id_tag::{Cell, Plain, PlainCell, Structure, Tag, Value, plain_cell};
+use id_value::is_inside;
+
+/// A firing of `address`, `fetch` or `store`.
+#[derive(Clone, Copy)]
+pub enum Deed {
+    /// The address of the cell goes to each destination under the tag of the operands.
+    Addressed(PlainCell),
+    /// The cell is asked for its value, which is to go to port 0 of the instruction of this number, in the context and
+    /// at the iteration of the operands.
+    Asked(PlainCell, u32),
+    /// The number goes to the cell, from the store of the tag of the operands.
+    Stored(PlainCell, i64),
+}
+
+impl Deed {
+    /// The same as any firing, on operands of this tag. Takes no memory.
+    #[inline(always)]
+    pub fn fired(self, tag: Tag) -> Fired
+        ensures { result ≡ fired_by_deed tag self }
+    {
+        match self {
+            Deed::Addressed(cell) => Fired::Out(Value::Address(cell.cell())),
+            Deed::Asked(cell, instr) => Fired::Asked {
+                cell: cell.cell(),
+                reply: Tag { instr, ..tag },
+            },
+            Deed::Stored(cell, number) => Fired::Stored {
+                cell: cell.cell(),
+                value: Value::Int(number),
+                origin: tag,
+            },
+        }
+    }
+}
+
+/// What an operator does with one plain operand, where that is a deed. Takes no memory.
+#[inline(always)]
+pub fn deed_on(op: Op, operand: Plain) -> Option<Deed>
+    ensures { IfSome result (λ d. (t : Tag) (f : Fresh) → fired op t (One (whole operand)) f ≡ fired_by_deed t d) }
+{
+    match op {
+        Op::Fetch { reply } => Some(Deed::Asked(operand.cell()?, reply)),
+        _ => None,
+    }
+}
+
+/// What an operator does with two plain operands, where that is a deed: no fault, in numbers that are small. Takes no
+/// memory.
+#[inline(always)]
+pub fn deed_on_two(op: Op, left: Plain, right: Plain) -> Option<Deed>
+    ensures { IfSome result
+        (λ d. (t : Tag) (f : Fresh) → fired op t (Two (whole left) (whole right)) f ≡ fired_by_deed t d) }
+{
+    match (op, left.value(), right) {
+        (Op::Address, Value::Structure(structure), Plain::Int(index)) => addressed(
+            structure, index,
+        ),
+        (Op::Store, Value::Address(cell), Plain::Int(number)) => {
+            Some(Deed::Stored(plain_cell(cell)?, number))
+        }
+        _ => None,
+    }
+}
+
+/// The address of a structure's cell, where the index is inside its bounds and the numbers are small.
+#[inline(always)]
+fn addressed(structure: Structure, index: i64) -> Option<Deed>
+    ensures { IfSome result (λ d. (t : Tag) → address_in structure index ≡ fired_by_deed t d) }
+{
+    if is_inside(structure.low, structure.high, index) {
+        Some(Deed::Addressed(plain_cell(Cell { structure, index })?))
+    } else {
+        None
+    }
+}

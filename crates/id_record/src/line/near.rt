@@ -1,0 +1,256 @@
+//! The lines of plain tokens at operators of arrays: in the numbers of their cell, or with that beside them.
+
+ghost use Rattle.std.specs.Prelude.{◌≡◌, ◌<◌, ◌/◌, ◌^◌, IfSome};
+ghost use Rattle.std.specs.Int.{cast_signed, w32};
+ghost use Rattle.id_graph.specs.declared.dests.Port.{Port};
+ghost use Rattle.id_tag.specs.Plains.{cell_of, whole};
+ghost use Rattle.id_tag.specs.declared.Value.TheVariants as value;
+ghost use Rattle.id_ops.specs.declared.Fired.TheVariants as firings;
+ghost use Rattle.id_tag.specs.declared.Tag.{Tag};
+ghost use Rattle.id_ops.specs.Deeds.{fired_by_deed};
+ghost use Rattle.id_record.specs.Lines.{IsCelled, IsPacked, IsPackedBeside, cell_at, element_at, high_half};
+ghost use Rattle.id_record.specs.Lines.{instr_at, low_half, port_at, saying, tag_at, target_in, told, told_near};
+ghost use Rattle.id_record.specs.Lines.{token_told};
+ghost use Rattle.id_record.specs.Shootings.{HasLine, doing};
+
+use super::celled::{Celled, Content, Scene, by_token, is_same_cell, of_number, of_result};
+use super::numbers::{instr_at, joined, place};
+use super::reading::{cell_in, tag_at};
+use super::shooting::token_line;
+use super::{Effect, Handled, Kind, Line, Written, message_at, went};
+use id_ops::{Deed, Fired};
+use id_tag::{Cell, Payload, PlainCell, PlainToken, Tag, Value};
+
+/// A plain token that is being handled, the stamp of that event, and what its instruction, which is one of arrays, does.
+#[derive(Clone, Copy)]
+pub struct Doing<'a> {
+    pub token: &'a PlainToken,
+    pub stamp: u32,
+    pub deed: Deed,
+}
+
+/// What a line keeps of an event beside the numbers of its message: an effect, the cell that the event names, and the
+/// number of an instruction.
+#[derive(Clone, Copy)]
+struct Near {
+    effect: Effect,
+    cell: PlainCell,
+    instr: u32,
+}
+
+/// The event in a line with the numbers of its cell, where it fits in one.
+#[inline(always)]
+pub(crate) fn deed_line(event: &Doing<'_>) -> Option<Line>
+    requires { HasLine event.now.token.now }
+    ensures { IfSome result (λ l. IsPacked (doing event.now) l) }
+{
+    match near_for(event.deed, event.token.value.value()) {
+        Some(near) => Some(token_line(event.token, event.stamp, written(near))),
+        None => None,
+    }
+}
+
+/// The event in a line with its cell beside it at this index, where it fits in one.
+#[inline(always)]
+pub(crate) fn deed_beside(event: &Doing<'_>, index: usize) -> Option<Celled>
+    requires { HasLine event.now.token.now }
+    ensures { IfSome result (λ x. IsPackedBeside (doing event.now) index x.line x.cell) }
+{
+    if index as u64 > 0xffff_ffff {
+        return None;
+    }
+    match stored(event.deed, event.token.value.value()) {
+        Some(scene) => Some(celled(event, scene, index as u32)),
+        None => None,
+    }
+}
+
+/// The line of an event that names a cell, with that at this index beside it.
+#[inline(always)]
+fn celled(event: &Doing<'_>, scene: Scene, index: u32) -> Celled
+    requires fits { HasLine event.now.token.now }
+    requires kind { IsCelled scene.kind }
+    requires told { (t : Tag) (p : Port) → told scene.kind t p scene.value scene.result scene.cell
+        ≡ token_told t p (whole event.now.token.now.value) (fired_by_deed t event.now.deed) }
+    ensures { IsPackedBeside (doing event.now) index result.line result.cell }
+{
+    let line = token_line(
+        event.token,
+        event.stamp,
+        Written {
+            kind: scene.kind,
+            effect: Effect::Nothing,
+            value: scene.value,
+            result: scene.result,
+            to: index,
+        },
+    );
+    Celled {
+        line,
+        cell: scene.cell,
+    }
+}
+
+/// What a line keeps of the event of a token with this value, where it needs no cell beside it.
+#[inline(always)]
+fn near_for(deed: Deed, value: Value) -> Option<Near>
+    ensures told { IfSome result (λ n. (t : Tag) (p : Port) →
+        told_near n.effect t p n.instr (cell_of n.cell) ≡ token_told t p value (fired_by_deed t deed)) }
+    ensures small { IfSome result (λ n. n.instr < 2 ^ 24) }
+{
+    match (deed, value) {
+        (Deed::Addressed(cell), Value::Structure(structure))
+            if structure == cell.cell().structure => {
+            Some(Near {
+                effect: Effect::StructureAddressed,
+                cell,
+                instr: 0,
+            })
+        }
+        (Deed::Addressed(cell), Value::Int(index)) if index == cell.cell().index => Some(Near {
+            effect: Effect::IntAddressed,
+            cell,
+            instr: 0,
+        }),
+        (Deed::Asked(cell, instr), Value::Address(asked)) => near_fetch(cell, instr, asked),
+        _ => None,
+    }
+}
+
+/// What a line keeps of the event of a token with this value, where a number is stored.
+#[inline(always)]
+fn stored(deed: Deed, value: Value) -> Option<Scene>
+    ensures kind { IfSome result (λ s. IsCelled s.kind) }
+    ensures told { IfSome result (λ s. (t : Tag) (p : Port) → told s.kind t p s.value s.result s.cell
+        ≡ token_told t p value (fired_by_deed t deed)) }
+{
+    match (deed, value) {
+        (Deed::Stored(cell, number), Value::Address(to)) => stored_at(cell, number, to),
+        (Deed::Stored(cell, number), Value::Int(own)) if own == number => {
+            Some(of_number(Kind::IntStored, number, cell.cell()))
+        }
+        _ => None,
+    }
+}
+
+/// What a line keeps of an address that asks for this cell, where that is its own.
+#[inline(always)]
+fn near_fetch(cell: PlainCell, instr: u32, asked: Cell) -> Option<Near>
+    ensures told { IfSome result (λ n. (t : Tag) (p : Port) → told_near n.effect t p n.instr (cell_of n.cell)
+        ≡ token_told t p (value.Address asked) (firings.Asked (cell_of cell) (record t { instr = instr }))) }
+    ensures small { IfSome result (λ n. n.instr < 2 ^ 24) }
+{
+    if instr <= 0xff_ffff && is_same_cell(asked, cell.cell()) {
+        Some(Near {
+            effect: Effect::AddressAsked,
+            cell,
+            instr,
+        })
+    } else {
+        None
+    }
+}
+
+/// What a line keeps of an address that lets a number be stored in this cell, where that is its own.
+#[inline(always)]
+fn stored_at(cell: PlainCell, number: i64, to: Cell) -> Option<Scene>
+    ensures kind { IfSome result (λ s. IsCelled s.kind) }
+    ensures told { IfSome result (λ s. (t : Tag) (p : Port) → told s.kind t p s.value s.result s.cell
+        ≡ token_told t p (value.Address to) (firings.Stored (cell_of cell) (value.Int number) t)) }
+{
+    if is_same_cell(to, cell.cell()) {
+        Some(of_result(Kind::AddressStored, number, to))
+    } else {
+        None
+    }
+}
+
+/// The numbers of a cell and of an instruction as a line has them.
+#[inline(always)]
+fn written(near: Near) -> Written
+    requires { near.instr < 2 ^ 24 }
+    ensures kind { result.kind ≡ Kind.Near }
+    ensures effect { result.effect ≡ near.effect }
+    ensures low { cast_signed w32 (high_half result.value) ≡ near.cell.low }
+    ensures high { cast_signed w32 (low_half result.value) ≡ near.cell.high }
+    ensures index { cast_signed w32 (high_half result.result) ≡ near.cell.index }
+    ensures serial { low_half result.result ≡ near.cell.serial }
+    ensures element { element_at result.to ≡ near.cell.element }
+    ensures instr { instr_at result.to ≡ near.instr }
+{
+    let cell = near.cell;
+    Written {
+        kind: Kind::Near,
+        effect: near.effect,
+        value: joined(
+            u64::from(i32::from(cell.low).cast_unsigned()),
+            u64::from(cell.high.cast_unsigned()),
+        ),
+        result: joined(
+            u64::from(cell.index.cast_unsigned()),
+            u64::from(cell.serial),
+        ),
+        to: place(u32::from(cell.element), near.instr),
+    }
+}
+
+/// The event of a line that has the numbers of its cell.
+pub(super) fn said_near(line: &Line) -> Handled
+    ensures { result ≡ saying line.now (told_near line.now.effect (tag_at line.now)
+        (port_at (line.now.position / 2 ^ 31)) (instr_at line.now.to) (cell_at (target_in line.now) line.now.value)) }
+{
+    let told = content(line);
+    Handled {
+        message: message_at(line, told.payload),
+        stamp: u64::from(line.stamp),
+        reaction: went(told.fired),
+        replies: told.replies,
+    }
+}
+
+/// What the message says of a line that has the numbers of its cell.
+pub(super) fn payload_near(line: &Line) -> Payload
+    ensures { result ≡ (told_near line.now.effect (tag_at line.now) (port_at (line.now.position / 2 ^ 31))
+        (instr_at line.now.to) (cell_at (target_in line.now) line.now.value)).payload }
+{
+    content(line).payload
+}
+
+/// What the event of a line says that has the numbers of its cell.
+#[inline(always)]
+fn content(line: &Line) -> Content
+    ensures payload { result.payload ≡ (told_near line.now.effect (tag_at line.now)
+        (port_at (line.now.position / 2 ^ 31)) (instr_at line.now.to)
+        (cell_at (target_in line.now) line.now.value)).payload }
+    ensures fired { result.fired ≡ (told_near line.now.effect (tag_at line.now)
+        (port_at (line.now.position / 2 ^ 31)) (instr_at line.now.to)
+        (cell_at (target_in line.now) line.now.value)).fired }
+    ensures replies { result.replies ≡ (told_near line.now.effect (tag_at line.now)
+        (port_at (line.now.position / 2 ^ 31)) (instr_at line.now.to)
+        (cell_at (target_in line.now) line.now.value)).replies }
+{
+    let cell = cell_in(line);
+    match line.effect {
+        Effect::StructureAddressed => {
+            by_token(
+                line,
+                Value::Structure(cell.structure),
+                Fired::Out(Value::Address(cell)),
+            )
+        }
+        Effect::IntAddressed => {
+            by_token(
+                line,
+                Value::Int(cell.index),
+                Fired::Out(Value::Address(cell)),
+            )
+        }
+        _ => {
+            let reply = Tag {
+                instr: instr_at(line.to),
+                ..tag_at(line)
+            };
+            by_token(line, Value::Address(cell), Fired::Asked { cell, reply })
+        }
+    }
+}
