@@ -189,16 +189,19 @@ impl Waiting {
     }
 
     // Makes the front larger where many plain tokens stand behind it since their slots are taken, or came and went, or
-    // there is none. What fits in no slot doesn't count. Where memory is wanting, all stays as it is, so this never makes an error.
+    // there is none. What fits in no slot doesn't count. Where few values wait for so many pairs, a larger front would be
+    // as crowded. Where memory is wanting, all stays as it is, so this never makes an error.
     #[inline(never)]
     fn make_room(&mut self)
         ensures { self.new ≡ self.old }
     {
         let len = self.front.len();
         if self.crowded > len / 4 || len == 0 {
-            if let Some(front) = larger_front(self.alloc, &self.front, &self.halves) {
-                self.front = front;
-                self.crowded = 0;
+            self.crowded = 0;
+            if self.len() >= len / 32 {
+                if let Some(front) = larger_front(self.alloc, &self.front, &self.halves) {
+                    self.front = front;
+                }
             }
         }
     }
