@@ -26,15 +26,12 @@ drop_at [] i l = absurd (omega arith)
 drop_at (b ∷ bs) zero l = refl
 drop_at (b ∷ bs) (suc i) l = drop_at bs i (omega (arith, l))
 
--- the arcs of one more row are pushed
-pub arcs_in-next : (P : Checked) (F : List ℕ) (order : List ℕ) (i : ℕ) (xs ys ws : List Arc) → i < length order → xs ++ arcs_in P F (drop i order) ≡ ws
-    → ys ≡ xs ++ map (arc_of F (get_or order i 0)) (feeds P (get_or order i 0)) → ys ++ arcs_in P F (drop (i + 1) order) ≡ ws
-arcs_in-next P F order i xs ys ws l so one =
+-- the arcs of the rows from the i-th on are its own, and those of the rows behind it
+pub arcs_in-at : (P : Checked) (F order : List ℕ) (i : ℕ) → i < length order
+    → arcs_in P F (drop i order) ≡ map (arc_of F (get_or order i 0)) (feeds P (get_or order i 0)) ++ arcs_in P F (drop (i + 1) order)
+arcs_in-at P F order i l =
     let next : suc i ≡ i + 1 = omega arith in
-    let n = get_or order i 0 in
-    let rest = drop_at order i l ∙ ap (λ k. n ∷ drop k order) next in
-    ap (λ z. z ++ arcs_in P F (drop (i + 1) order)) one ∙ append_assoc xs (map (arc_of F n) (feeds P n)) (arcs_in P F (drop (i + 1) order))
-    ∙ sym (ap (λ z. xs ++ arcs_in P F z) rest) ∙ so
+    ap (arcs_in P F) (drop_at order i l ∙ ap (λ k. get_or order i 0 ∷ drop k order) next)
 
 -- two more arcs are pushed, or one
 two_more : (xs ys ws m : List Arc) (a b : Arc) → xs ++ a ∷ b ∷ m ≡ ws → ys ≡ xs ++ a ∷ b ∷ [] → ys ++ m ≡ ws

@@ -1,13 +1,13 @@
 -- Lemmas on instructions with their arcs.
-use Rattle.std.proofs.Common.{◌≡◌, ◌≢◌, ℕ, zero, suc, ◌+◌, ◌<◌, Bool, true, false, cond, eqb, List, [], ◌∷◌, ◌++◌, length, get_or, take, refl, ap, sym, ◌∙◌, arith, eq-eqb, inl, inr}
+use Rattle.std.proofs.Common.{◌≡◌, ◌≢◌, ℕ, zero, suc, ◌+◌, ◌<◌, Bool, true, false, cond, eqb, List, [], ◌∷◌, ◌++◌, length, get_or, refl, ap, append-nil, sym, ◌∙◌, arith, eq-eqb, inl, inr}
 use Rattle.std.specs.Prelude.{◌&&◌}
 use Rattle.std.proofs.Math.ListN.{set}
-use Rattle.std.proofs.lemmas.List.{take_more}
-use Rattle.std.specs.Prelude.{All}
+use Rattle.std.proofs.lemmas.List.{append_assoc}
+use Rattle.std.specs.Prelude.{All, fold}
 use Rattle.std.proofs.lemmas.Bool.Decides.{eqb_tells}
 use Rattle.id_build.specs.declared.arc.Piece.{Piece}
 use Rattle.id_build.specs.declared.arc.Arc.{Arc}
-use Rattle.id_build.specs.Made.{connected, connected_at, dest_of, dests_from, instrs_from, joined, IsFrom, with_dest}
+use Rattle.id_build.specs.Made.{connected, connected_at, dest_of, dests_from, instrs_from, joined, IsBetween, with_dest}
 use Rattle.std.specs.Bool.{beq}
 use Rattle.id_graph.specs.declared.dests.Dest.{Dest}
 use Rattle.id_graph.specs.declared.instr.Instr.{Instr}
@@ -90,16 +90,30 @@ connected_at-set [] m s i d e h = absurd (omega arith)
 connected_at-set (j ∷ is) zero s i d e h = ap (λ x. with_dest s x d ∷ is) e
 connected_at-set (j ∷ is) (suc m) s i d e h = ap (λ l. j ∷ l) (connected_at-set is m s i d e (omega arith))
 
--- where each arc goes between two of the pieces, so does the next one
-pub IsFrom-next : (F : List ℕ) (ps : List Piece) (xs : List Arc) (is : List Instr) (i : ℕ) (d : Arc) → All (IsFrom ps) xs → i < length xs → is ≡ instrs_from F 0 ps (take i xs) → ((get_or xs i d).from < length is) × ((get_or xs i d).to < length is)
-IsFrom-next F ps xs is i d all h f =
-    let here : IsFrom ps (get_or xs i d) = all i d h in
-    (omega (arith, here.0, ap length f, length-instrs_from F 0 ps (take i xs)), omega (arith, here.1, ap length f, length-instrs_from F 0 ps (take i xs)))
+-- one more arc leaves as many instructions
+length-connected_at : (is : List Instr) (m : ℕ) (s : Bool) (d : Dest) → length (connected_at is m s d) ≡ length is
+length-connected_at [] m s d = refl
+length-connected_at (i ∷ is) zero s d = refl
+length-connected_at (i ∷ is) (suc m) s d = ap suc (length-connected_at is m s d)
 
--- the instructions with the arcs so far and the next one
-pub instrs_from-next : (F : List ℕ) (ps : List Piece) (xs : List Arc) (is new : List Instr) (i : ℕ) (d : Arc) → i < length xs → is ≡ instrs_from F 0 ps (take i xs) → new ≡ connected is (get_or xs i d) → new ≡ instrs_from F 0 ps (take (i + 1) xs)
-instrs_from-next F ps xs is new i d h e f =
-    let w = get_or xs i d in
-    let step = instrs_from-push F ps 0 w.from (take i xs) w (omega arith) in
-    let more = take_more xs i d h in
-    rw (f, e, more) (sym step)
+-- and so do several
+pub length-connected : (is : List Instr) (vs : List Arc) → length (fold connected is vs) ≡ length is
+length-connected is [] = refl
+length-connected is (v ∷ vs) = length-connected (connected is v) vs ∙ length-connected_at is v.from v.side (dest_of v)
+
+-- the instructions of these pieces with some arcs, and then with others, are those with all of them
+pub instrs_from-append : (F : List ℕ) (ps : List Piece) (ws vs : List Arc) → fold connected (instrs_from F 0 ps ws) vs ≡ instrs_from F 0 ps (ws ++ vs)
+instrs_from-append F ps ws [] = ap (instrs_from F 0 ps) (sym (append-nil ws))
+instrs_from-append F ps ws (v ∷ vs) =
+    ap (λ (is : List Instr). fold connected is vs) (sym (instrs_from-push F ps 0 v.from ws v (omega arith)))
+    ∙ instrs_from-append F ps (ws ++ v ∷ []) vs ∙ ap (instrs_from F 0 ps) (append_assoc ws (v ∷ []) vs)
+
+-- of two lists of arcs between the first n instructions each is one
+pub AreBetween-left : (n : ℕ) (vs ws : List Arc) → All (IsBetween n) (vs ++ ws) → All (IsBetween n) vs
+AreBetween-left n [] ws h k d lt = absurd (omega arith)
+AreBetween-left n (v ∷ vs) ws h zero d lt = h zero d (omega arith)
+AreBetween-left n (v ∷ vs) ws h (suc k) d lt = AreBetween-left n vs ws (λ j e less. h (suc j) e (omega arith)) k d (omega arith)
+
+pub AreBetween-right : (n : ℕ) (vs ws : List Arc) → All (IsBetween n) (vs ++ ws) → All (IsBetween n) ws
+AreBetween-right n [] ws h = h
+AreBetween-right n (v ∷ vs) ws h = AreBetween-right n vs ws (λ j e less. h (suc j) e (omega arith))

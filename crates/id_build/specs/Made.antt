@@ -95,9 +95,13 @@ EntriesFit P F =
     (h s : ℕ) → h < length (rows P) → node P h ≡ LoopHead s →
     number_by F (entries_row P h) (length (imports_of P h)) ≤ 2 ^ 32
 
+-- the arc goes between two of the first n instructions
+abbrev pub IsBetween : ℕ → Arc → Type 0
+IsBetween n a = (a.from < n) × (a.to < n)
+
 -- the arc goes between two of these instructions
 abbrev pub IsFrom : List Piece → Arc → Type 0
-IsFrom ps a = (a.from < length ps) × (a.to < length ps)
+IsFrom ps a = IsBetween (length ps) a
 
 -- the instruction with one more arc, at the end of a side
 abbrev pub with_dest : Bool → Instr → Dest → Instr

@@ -1,35 +1,20 @@
 //! Instructions with their arcs (docs/GRAPH.md, "Schemas").
 
-ghost use Rattle.std.specs.Prelude.{◌≡◌, ◌<◌, ◌^◌, [], length, vec_len, IfOk, OnOk, All};
+ghost use Rattle.std.specs.Prelude.{◌≡◌, ◌<◌, ◌^◌, [], fold, length, vec_len, IfOk, OnOk, All};
 ghost use Rattle.id_build.specs.Rows.{op_by};
-ghost use Rattle.id_build.specs.Made.{Fits, instrs_from, IsFrom, connected, number_by};
+ghost use Rattle.id_build.specs.Made.{Fits, instrs_from, IsBetween, connected, number_by};
 
 use crate::arc::{Arc, Form, Piece};
 use crate::feeds::number_by;
 use id_graph::{Dest, Dests, Instr, Op};
 use std::alloc::{AllocError, Global};
 
-/// The instructions of these pieces with their arcs.
-pub fn join(
+/// The instructions of these pieces, without arcs.
+pub fn bare_instrs(
     alloc: Global,
     firsts: &[u32],
     pieces: &[Piece],
-    arcs: &[Arc],
 ) -> Result<Vec<Instr>, AllocError>
-    requires fits { All (λ p. Fits firsts.now p.form) pieces.now }
-    requires from { All (IsFrom pieces.now) arcs.now }
-    requires few { length pieces.now < 2 ^ 32 }
-    ensures { IfOk result (λ v. v.items ≡ instrs_from firsts.now 0 pieces.now arcs.now) }
-{
-    let mut instrs = bare_instrs(alloc, firsts, pieces)?;
-    for arc in arcs {
-        connect(&mut instrs, arc)?;
-    }
-    Ok(instrs)
-}
-
-/// The instructions of these pieces, without arcs.
-fn bare_instrs(alloc: Global, firsts: &[u32], pieces: &[Piece]) -> Result<Vec<Instr>, AllocError>
     requires { All (λ p. Fits firsts.now p.form) pieces.now }
     ensures { IfOk result (λ v. v.items ≡ instrs_from firsts.now 0 pieces.now []) }
 {
@@ -64,6 +49,18 @@ fn op_by(firsts: &[u32], form: Form) -> Op
             reply: (number_by(firsts, row) + 2) as u32,
         },
     }
+}
+
+/// Adds the arcs to the instructions that they come from.
+pub fn connect_all(instrs: &mut Vec<Instr>, arcs: &[Arc]) -> Result<(), AllocError>
+    requires from { All (IsBetween (length instrs.old.items)) arcs.now }
+    requires few { length instrs.old.items < 2 ^ 32 }
+    ensures { OnOk result (instrs.new.items ≡ fold connected instrs.old.items arcs.now) }
+{
+    for arc in arcs {
+        connect(instrs, arc)?;
+    }
+    Ok(())
 }
 
 /// Adds an arc to the instruction that it comes from.

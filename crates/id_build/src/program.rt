@@ -10,7 +10,7 @@ ghost use Rattle.id_parts.specs.Tables as tables;
 ghost use Rattle.id_build.specs.Rows as rows;
 ghost use Rattle.id_build.specs.Rows.{size};
 ghost use Rattle.id_build.specs.Schemas.{Schemas, all_heads, block_of};
-ghost use Rattle.id_build.specs.Made.{AreFirsts, EntriesFit, arcs_in, graph_by, number_by, pieces_in};
+ghost use Rattle.id_build.specs.Made.{AreFirsts, EntriesFit, graph_by, instrs_from, number_by, pieces_in};
 ghost use Rattle.id_build.specs.Slots.{AreColumns, AreSlots};
 
 use crate::arc::Piece;
@@ -18,9 +18,10 @@ use crate::calls::is_param;
 use crate::columns::Columns;
 use crate::error::BuildError;
 use crate::feeds::{Arcs, number_by, push_feeds};
-use crate::joined::join;
+use crate::joined::{bare_instrs, connect_all};
 use crate::loops::entries_row;
 use crate::pieces::push_pieces;
+use crate::size::about_size;
 use crate::slots::{Slots, find_slots};
 use id_check::Checked;
 use id_desugar::{Kernel, row_at};
@@ -92,7 +93,7 @@ fn number(
     ensures large { IfErr result
         (λ e. e ≡ BuildError.TooLarge → 1000000 < length (pieces_in checked.now order.now)) }
 {
-    let mut pieces = Vec::new(alloc);
+    let mut pieces = Vec::with_capacity(alloc, about_size(checked, columns))?;
     let mut firsts = vec![in alloc; 0u32; checked.table.rows.len()]?;
     for n in order {
         firsts[*n] = pieces.len() as u32;
@@ -122,38 +123,39 @@ fn connected(
 {
     let Draft { pieces, firsts } = draft;
     let slots = find_slots(alloc, checked, columns)?;
-    let arcs = arcs(alloc, checked, &slots, order, firsts)?;
-    let instrs = join(
-        alloc,
-        arcs.firsts.as_slice(),
-        pieces.as_slice(),
-        arcs.list.as_slice(),
-    )?;
-    Ok(instrs)
+    let instrs = bare_instrs(alloc, firsts.as_slice(), pieces.as_slice())?;
+    drop(pieces);
+    with_arcs(alloc, checked, &slots, order, firsts, instrs)
 }
 
-/// The arcs of these rows, where the rows' first instructions have these numbers.
-fn arcs(
+/// These instructions with their arcs, row by row, where the rows' first instructions have these numbers.
+fn with_arcs(
     alloc: Global,
     checked: &Checked,
     slots: &Slots<'_>,
     order: &[usize],
     firsts: Vec<u32>,
-) -> Result<Arcs, BuildError>
+    bare: Vec<Instr>,
+) -> Result<Vec<Instr>, BuildError>
     requires slots { AreSlots checked.now slots.now }
-    requires within { (n : ℕ) → Among n order.now → n < length (programs.rows checked.now) }
-    ensures list { IfOk result (λ a. a.list.items ≡ arcs_in checked.now firsts.items order.now) }
-    ensures firsts { IfOk result (λ a. a.firsts.items ≡ firsts.items) }
+    requires order { order.now ≡ regions.order_of checked.now }
+    requires firsts { AreFirsts checked.now order.now firsts.items }
+    requires bare { bare.items ≡ instrs_from firsts.items 0 (pieces_in checked.now order.now) [] }
+    requires few { length (pieces_in checked.now order.now) ≤ 1000000 }
+    ensures instrs { IfOk result (λ v. v.items ≡ (graph_by checked.now order.now firsts.items).instrs) }
     ensures memory { IfErr result (λ e. e ≡ BuildError.Memory) }
 {
+    let mut instrs = bare;
     let mut arcs = Arcs {
         firsts,
         list: Vec::new(alloc),
     };
     for n in order {
         push_feeds(checked, slots, *n, &mut arcs)?;
+        connect_all(&mut instrs, arcs.list.as_slice())?;
+        arcs.list.clear();
     }
-    Ok(arcs)
+    Ok(instrs)
 }
 
 /// The blocks of the program, where the rows' first instructions have these numbers: those of the procedures, and then

@@ -50,6 +50,21 @@ pub fn is_small_and_plain(checked: &Checked) -> bool
     true
 }
 
+/// How many instructions there is to be room for: as many as the schemas give the program, but at most 1,000,000. No
+/// claim rests on it. Takes no memory.
+pub fn about_size(checked: &Checked, columns: Columns<'_>) -> usize
+    requires { AreColumns checked.now columns }
+    ensures { result ≤ 1000000 }
+{
+    let mut size = 0usize;
+    for n in 0..checked.table.rows.len() {
+        size = size
+            .saturating_add(made_count(checked, columns, n))
+            .min(1_000_000);
+    }
+    size
+}
+
 /// How many instructions the row n makes. Takes no memory.
 fn made_count(checked: &Checked, columns: Columns<'_>, n: usize) -> usize
     requires columns { AreColumns checked.now columns }

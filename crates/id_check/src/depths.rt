@@ -12,7 +12,7 @@ pub fn find_depths(alloc: Global, rows: &[Row]) -> Result<Vec<usize>, AllocError
     requires { AreInBlocks rows.now }
     ensures { IfOk result (λ v. AreDepths rows.now (length rows.now) v.items) }
 {
-    let mut depths = Vec::new(alloc);
+    let mut depths = Vec::with_capacity(alloc, rows.len())?;
     for i in 0..rows.len() {
         let depth = depth_of(rows, depths.as_slice(), i);
         depths.push(depth)?;

@@ -55,7 +55,7 @@ fn find_links(
     ensures each { IfOk result (λ v. (i : ℕ) → i < length rows.now
         → get_or v.items i Nowhere ≡ kinds.link_at rows.now (λ k. get_or binders.now k None) i) }
 {
-    let mut links = Vec::new(alloc);
+    let mut links = Vec::with_capacity(alloc, rows.len())?;
     for i in 0..rows.len() {
         links.push(link_at(rows, binders, i))?;
     }
@@ -87,7 +87,7 @@ fn kinds_of(alloc: Global, links: &[Link]) -> Result<Vec<Option<Kind>>, AllocErr
     ensures each { IfOk result (λ v. (i : ℕ) → i < length links.now
         → get_or v.items i None ≡ chains.kind_of (get_or links.now i Nowhere)) }
 {
-    let mut kinds = Vec::new(alloc);
+    let mut kinds = Vec::with_capacity(alloc, links.len())?;
     for i in 0..links.len() {
         kinds.push(kind_of(links[i]))?;
     }

@@ -72,7 +72,7 @@ fn all_uses(
 fn none_yet(alloc: Global, count: usize) -> Result<Vec<Sequence<usize>>, AllocError>
     ensures { IfOk result (λ v. (length v.items ≡ count) × ((h : _) → get_or v.items h [] ≡ [])) }
 {
-    let mut lists = Vec::new(alloc);
+    let mut lists = Vec::with_capacity(alloc, count)?;
     for _row in 0..count {
         lists.push(Sequence::new(Vec::new(alloc)))?;
     }

@@ -23,8 +23,8 @@ struct Chains {
 pub fn order_of(alloc: Global, checked: &Checked) -> Result<Vec<usize>, AllocError>
     ensures { IfOk result (λ v. v.items ≡ order_of checked.now) }
 {
-    let mut order = Vec::new(alloc);
     let count = checked.table.rows.len();
+    let mut order = Vec::with_capacity(alloc, count)?;
     if count > 0 {
         order.push(count - 1)?;
         push_procedures(checked, &mut order, count - 1)?;

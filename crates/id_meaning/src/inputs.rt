@@ -110,7 +110,7 @@ fn wanted_of(alloc: Global, checked: &Checked, node: Node) -> Result<Wanted, All
             Ok(Wanted { name, kind })
         }
         _ => Ok(Wanted {
-            name: Identifier::new(String::new(alloc)),
+            name: Identifier::empty(),
             kind: Kind::Int,
         }),
     }
@@ -121,7 +121,7 @@ fn name_of(alloc: Global, checked: &Checked, number: usize) -> Result<Identifier
     ensures { IfOk result (λ n. n ≡ get_or checked.now.table.names.items number []) }
 {
     if number >= checked.table.names.len() {
-        return Ok(Identifier::new(String::new(alloc)));
+        return Ok(Identifier::empty());
     }
     checked.table.names[number].copy(alloc)
 }

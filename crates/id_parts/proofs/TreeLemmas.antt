@@ -2,7 +2,7 @@
 use Rattle.std.proofs.Common.{List, [], ◌∷◌}
 use Rattle.id_tree.specs.declared.tree.Expr.{Expr, Literal, Unary', Binary', Name, If', Call', Block', Loop', Array', Fetch'}
 use Rattle.id_tree.specs.declared.tree.Expr.{Row_of-Expr, end_of-Expr, more_of-Expr, Row_of-Stmt, end_of-Stmt, more_of-Stmt}
-use Rattle.id_tree.specs.declared.tree.Stmt.{Binding, Next, Store}
+use Rattle.id_tree.specs.declared.tree.Stmt.{Binding, Next, Store'}
 use Rattle.id_tree.specs.declared.tree.Param.{Param}
 use Rattle.id_tree.specs.declared.tree.Def.{Def}
 use Rattle.id_tree.specs.declared.tree.Program.{Program}
@@ -33,7 +33,7 @@ mutual
   IsTree-row_tree end_of-Stmt = no_statements
   IsTree-row_tree (more_of-Stmt (Binding x value place) rest) = more_statements (IsTree-tree_of value) (IsTree-row_tree rest)
   IsTree-row_tree (more_of-Stmt (Next x value place) rest) = next_statement (IsTree-tree_of value) (IsTree-row_tree rest)
-  IsTree-row_tree (more_of-Stmt (Store target index value place) rest) =
+  IsTree-row_tree (more_of-Stmt (Store' p target q index r value place) rest) =
       store_statement (IsTree-tree_of target) (IsTree-tree_of index) (IsTree-tree_of value) (IsTree-row_tree rest)
 
 IsTree-params_tree : (ps : List Param) → IsTree Params (params_tree ps)

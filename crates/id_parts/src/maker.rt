@@ -29,20 +29,56 @@ pub fn table_of(alloc: Global, program: &Program) -> Result<Table, AllocError>
     ensures rows { IfOk result (λ t. t.rows.items ≡ rows_of (program_tree program.now)) }
     ensures names { IfOk result (λ t. t.names.items ≡ (parts_of (program_tree program.now)).names) }
 {
-    let mut maker = Maker::new(alloc)?;
+    let mut maker = Maker::new(alloc, about_rows(program))?;
     maker.add_program(program)?;
     let names = copy_names(alloc, &maker.numbers)?;
     let Maker { rows, .. } = maker;
     Ok(Table { rows, names })
 }
 
+/// About how many bytes of the text a row stands for, or a little less.
+const ROW_BYTES: usize = 4;
+
+/// About how many rows the program has, by where its last definition gives its value. No claim rests on it: a table
+/// with more rows grows. Takes no memory.
+fn about_rows(program: &Program) -> usize {
+    match program.defs.as_slice().last() {
+        Some(def) => value_place(&def.body) / ROW_BYTES,
+        None => 0,
+    }
+}
+
+/// Where an expression gives its value: a block in its body. Takes no memory.
+fn value_place(expr: &Expr) -> usize {
+    match expr {
+        Expr::Block { body, .. } => own_place(body),
+        other => own_place(other),
+    }
+}
+
+/// The place of an expression. Takes no memory.
+fn own_place(expr: &Expr) -> usize {
+    match expr {
+        Expr::Literal { place, .. }
+        | Expr::Unary { place, .. }
+        | Expr::Binary { place, .. }
+        | Expr::Name { place, .. }
+        | Expr::If { place, .. }
+        | Expr::Call { place, .. }
+        | Expr::Block { place, .. }
+        | Expr::Loop { place, .. }
+        | Expr::Array { place, .. }
+        | Expr::Fetch { place, .. } => *place,
+    }
+}
+
 /// The names of the set, in order.
 fn copy_names(alloc: Global, numbers: &IndexSet<&str>) -> Result<Vec<Identifier>, AllocError>
     ensures { IfOk result (λ names. names.items ≡ texts numbers.now.keys) }
 {
-    let mut names = Vec::new(alloc);
+    let mut names = Vec::with_capacity(alloc, numbers.len())?;
     for name in numbers.iter() {
-        names.push(Identifier::new(String::from_str(alloc, name)?))?;
+        names.push(Identifier::new(alloc, name)?)?;
     }
     Ok(names)
 }
@@ -68,14 +104,14 @@ fn in_arm(stand: Stand, split: usize, side: bool) -> Stand
 }
 
 impl<'a> Maker<'a> {
-    /// No rows, and the name `main`.
-    fn new(alloc: Global) -> Result<Maker<'a>, AllocError>
+    /// No rows, with room for so many, and the name `main`.
+    fn new(alloc: Global, capacity: usize) -> Result<Maker<'a>, AllocError>
         ensures { IfOk result IsStart }
     {
         let mut numbers = IndexSet::new(alloc);
         numbers.insert("main")?;
         Ok(Maker {
-            rows: Vec::new(alloc),
+            rows: Vec::with_capacity(alloc, capacity)?,
             numbers,
         })
     }

@@ -85,20 +85,3 @@ sign_of Arrow = codes "<-"
 sign_of Plus = codes "+"
 sign_of Minus = codes "-"
 sign_of Star = codes "*"
-
--- For use inside.
-
--- the reserved word builds a part: it names no kind, truth value or operator
-abbrev pub is_builder : Keyword → Bool
-is_builder Def = true
-is_builder If = true
-is_builder Then = true
-is_builder Else = true
-is_builder While = true
-is_builder Do = true
-is_builder Next = true
-is_builder Finally = true
-is_builder In = true
-is_builder For = true
-is_builder To = true
-is_builder _ = false

@@ -111,7 +111,7 @@ fn read_word(alloc: Global, text: &str, at: usize) -> Result<Piece, TextError>
     let word = word_at(text, at);
     let kind = match keyword_of(word) {
         Some(keyword) => TokenKind::Key(keyword),
-        None => TokenKind::Name(Identifier::new(String::from_str(alloc, word)?)),
+        None => TokenKind::Name(Identifier::new(alloc, word)?),
     };
     Ok(Piece {
         kind: Some(kind),

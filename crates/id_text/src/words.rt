@@ -1,7 +1,7 @@
 //! Names and reserved words.
 
-ghost use Rattle.std.specs.Prelude.{◌≡◌, ◌≢◌, ◌<◌, length, drop, take_while, MatchOption, IsTrue, slice_index};
-ghost use Rattle.id_text.specs.Bytes.{is_builder, is_letter, is_name_byte, word_of};
+ghost use Rattle.std.specs.Prelude.{◌≡◌, ◌≢◌, ◌<◌, ◌≤◌, length, drop, take_while, MatchOption, IsTrue, slice_index};
+ghost use Rattle.id_text.specs.Bytes.{is_letter, is_name_byte, word_of};
 ghost use Rattle.id_text.specs.declared.token.Keyword.{Keyword};
 
 use crate::bytes::name_len;
@@ -17,42 +17,76 @@ pub fn word_at(text: &str, at: usize) -> &str
     &text[at..at + len]
 }
 
-/// The reserved word that is spelled so, if one is.
+/// The reserved word that is spelled so, if one is. Only those of the word's length are compared with it.
 pub fn keyword_of(word: &str) -> Option<Keyword>
+    ensures { MatchOption result ((k : Keyword) → word.now ≢ word_of k) (λ k. word.now ≡ word_of k) }
+{
+    match word.len() {
+        2 => keyword_of_two(word),
+        3 => keyword_of_three(word),
+        4 => keyword_of_four(word),
+        5 | 7 => longer_keyword(word),
+        _ => None,
+    }
+}
+
+/// The reserved word of two bytes that is spelled so, if one is.
+fn keyword_of_two(word: &str) -> Option<Keyword>
+    requires { length word.now ≡ 2 }
+    ensures { MatchOption result ((k : Keyword) → word.now ≢ word_of k) (λ k. word.now ≡ word_of k) }
+{
+    match word {
+        "if" => Some(Keyword::If),
+        "do" => Some(Keyword::Do),
+        "in" => Some(Keyword::In),
+        "to" => Some(Keyword::To),
+        "or" => Some(Keyword::Or),
+        _ => None,
+    }
+}
+
+/// The reserved word of three bytes that is spelled so, if one is.
+fn keyword_of_three(word: &str) -> Option<Keyword>
+    requires { length word.now ≡ 3 }
     ensures { MatchOption result ((k : Keyword) → word.now ≢ word_of k) (λ k. word.now ≡ word_of k) }
 {
     match word {
         "def" => Some(Keyword::Def),
-        "if" => Some(Keyword::If),
-        "then" => Some(Keyword::Then),
-        "else" => Some(Keyword::Else),
-        "while" => Some(Keyword::While),
-        "do" => Some(Keyword::Do),
-        "next" => Some(Keyword::Next),
-        "finally" => Some(Keyword::Finally),
-        "in" => Some(Keyword::In),
-        "for" => Some(Keyword::For),
-        "to" => Some(Keyword::To),
-        _ => operand_word(word),
-    }
-}
-
-/// The reserved word of a kind, a truth value or an operator that is spelled so, if one is.
-fn operand_word(word: &str) -> Option<Keyword>
-    requires { (k : Keyword) → IsTrue (is_builder k) → word.now ≢ word_of k }
-    ensures { MatchOption result ((k : Keyword) → word.now ≢ word_of k) (λ k. word.now ≡ word_of k) }
-{
-    match word {
-        "true" => Some(Keyword::True),
-        "false" => Some(Keyword::False),
         "int" => Some(Keyword::Int),
-        "bool" => Some(Keyword::Bool),
-        "array" => Some(Keyword::Array),
         "div" => Some(Keyword::Div),
         "rem" => Some(Keyword::Rem),
         "and" => Some(Keyword::And),
-        "or" => Some(Keyword::Or),
         "not" => Some(Keyword::Not),
+        "for" => Some(Keyword::For),
+        _ => None,
+    }
+}
+
+/// The reserved word of four bytes that is spelled so, if one is.
+fn keyword_of_four(word: &str) -> Option<Keyword>
+    requires { length word.now ≡ 4 }
+    ensures { MatchOption result ((k : Keyword) → word.now ≢ word_of k) (λ k. word.now ≡ word_of k) }
+{
+    match word {
+        "then" => Some(Keyword::Then),
+        "else" => Some(Keyword::Else),
+        "next" => Some(Keyword::Next),
+        "true" => Some(Keyword::True),
+        "bool" => Some(Keyword::Bool),
+        _ => None,
+    }
+}
+
+/// The reserved word of five or seven bytes that is spelled so, if one is.
+fn longer_keyword(word: &str) -> Option<Keyword>
+    requires { 5 ≤ length word.now }
+    ensures { MatchOption result ((k : Keyword) → word.now ≢ word_of k) (λ k. word.now ≡ word_of k) }
+{
+    match word {
+        "while" => Some(Keyword::While),
+        "finally" => Some(Keyword::Finally),
+        "false" => Some(Keyword::False),
+        "array" => Some(Keyword::Array),
         _ => None,
     }
 }

@@ -7,7 +7,7 @@ use Rattle.id_value.specs.declared.BinaryOp.{BinaryOp}
 use Rattle.id_tree.specs.declared.tree.Expr.{Expr, Literal, Unary', Binary', Name, If', Call', Block', Loop', Array'}
 use Rattle.id_tree.specs.declared.tree.Expr.{Fetch', Row_of-Expr, end_of-Expr, more_of-Expr, Row_of-Stmt, end_of-Stmt}
 use Rattle.id_tree.specs.declared.tree.Expr.{more_of-Stmt}
-use Rattle.id_tree.specs.declared.tree.Stmt.{Stmt, Binding, Next, Store}
+use Rattle.id_tree.specs.declared.tree.Stmt.{Stmt, Binding, Next, Store'}
 use Rattle.id_tree.specs.declared.tree.Param.{Param}
 use Rattle.id_tree.specs.declared.tree.Def.{Def}
 use Rattle.id_tree.specs.declared.tree.Program.{Program}
@@ -58,7 +58,7 @@ abbrev mutual
   pub stmt_tree : Stmt → Tree
   stmt_tree (Binding x value place) = binding x (tree_of value) place
   stmt_tree (Next x value place) = next x (tree_of value) place
-  stmt_tree (Store target index value place) = store (tree_of target) (tree_of index) (tree_of value) place
+  stmt_tree (Store' p target q index r value place) = store (tree_of target) (tree_of index) (tree_of value) place
 
   -- the trees of the statements, in order
   pub row_tree : {n : _} → Row_of-Stmt n → Tree

@@ -174,6 +174,7 @@ fn parse_right(
 }
 
 /// An operand of a level.
+#[inline(always)]
 #[cycle(expr)]
 fn parse_operand(
     alloc: Global,
@@ -538,7 +539,7 @@ fn parse_store(
     let begun = expect_word(closed, Word::Sign(Symbol::Becomes))?;
     let (value, rest) = parse_enclosed(alloc, begun, Word::Sign(Symbol::Semicolon), depth)?;
     let height = index.height.max(value.height);
-    let statement = store(name(x, place), index, value, first.start);
+    let statement = store(alloc, name(x, place), index, value, first.start)?;
     Ok((statement, height, rest))
 }
 

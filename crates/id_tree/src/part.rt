@@ -221,16 +221,26 @@ pub fn next(name: Identifier, value: Part, place: usize) -> Stmt
 }
 
 /// The value of a structure's element.
-pub fn store(target: Part, index: Part, value: Part, place: usize) -> Stmt
-    ensures { stmt_tree result
-        ≡ tree.store (tree_of target.expr) (tree_of index.expr) (tree_of value.expr) place }
+pub fn store(
+    alloc: Global,
+    target: Part,
+    index: Part,
+    value: Part,
+    place: usize,
+) -> Result<Stmt, TreeError>
+    ensures tree { IfOk result (λ s. stmt_tree s
+        ≡ tree.store (tree_of target.expr) (tree_of index.expr) (tree_of value.expr) place) }
+    ensures err { IfErr result (λ e. e ≡ Memory) }
 {
-    Stmt::Store {
-        target: target.into_expr(),
-        index: index.into_expr(),
-        value: value.into_expr(),
+    let target = Box::new(alloc, target.into_expr())?;
+    let index = Box::new(alloc, index.into_expr())?;
+    let value = Box::new(alloc, value.into_expr())?;
+    Ok(Stmt::Store {
+        target,
+        index,
+        value,
         place,
-    }
+    })
 }
 
 /// The statements, whose parts have at most this height, round the body.

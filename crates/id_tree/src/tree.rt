@@ -92,9 +92,9 @@ pub enum Stmt {
     },
     /// The value of a structure's element at an index, at the `[`. The target is a name.
     Store {
-        target: Expr,
-        index: Expr,
-        value: Expr,
+        target: Box<Expr>,
+        index: Box<Expr>,
+        value: Box<Expr>,
         place: usize,
     },
 }

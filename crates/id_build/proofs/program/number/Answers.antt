@@ -9,10 +9,10 @@ use Rattle.id_build.proofs.program.number.Goals as goal
 -- at first there are no instructions, and all numbers are 0
 pub loop-n-init : goal.loop-n-init
 loop-n-init c = record {
-  pieces = c.new-pieces.ensures.items;
+  pieces = c.in_ok-pieces.ensures.items;
   many = omega (arith, c.in_ok-firsts.ensures.len, c.len.ensures);
   firsts = λ m l. zeros 0 m c.in_ok-firsts.firsts.items (λ k. grind (arith, common_steps));
-  few = omega (arith, ap length c.new-pieces.ensures.items);
+  few = omega (arith, ap length c.in_ok-pieces.ensures.items);
 }
 
 pub overflow_cast-len : goal.overflow_cast-len

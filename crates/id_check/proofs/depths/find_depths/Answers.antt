@@ -4,7 +4,7 @@ use Rattle.id_check.proofs.DepthsLemmas.{depths_more}
 use Rattle.id_check.proofs.depths.find_depths.Goals as goal
 
 pub loop-i-init : goal.loop-i-init
-loop-i-init c = record { long = ap length c.new-depths.ensures.items; each = λ i less. absurd (omega arith) }
+loop-i-init c = record { long = ap length c.in_ok-depths.ensures.items; each = λ i less. absurd (omega arith) }
 
 pub depth_of-depth-requires-clause-depths : goal.depth_of-depth-requires-clause-depths
 depth_of-depth-requires-clause-depths c = subst (AreDepths c.args.rows.now c.loop-i.i) (sym c.as_slice.ensures.value) c.loop-i.invariant

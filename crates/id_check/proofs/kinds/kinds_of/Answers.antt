@@ -15,7 +15,7 @@ loop-i-preserved c =
     }
 
 pub returns-in_err-push-clause-long : goal.returns-in_err-push-clause-long
-returns-in_err-push-clause-long c = IfOk-from_err _ _ c.from_residual.ensures.0
+returns-in_err-push-clause-long c = IfOk-from_err _ _ c.from_residual-in_err-push.ensures.0
 
 pub returns-in_err-push-clause-each : goal.returns-in_err-push-clause-each
-returns-in_err-push-clause-each c = IfOk-from_err _ _ c.from_residual.ensures.0
+returns-in_err-push-clause-each c = IfOk-from_err _ _ c.from_residual-in_err-push.ensures.0

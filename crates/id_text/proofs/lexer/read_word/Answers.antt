@@ -1,7 +1,7 @@
 use Rattle.id_text.specs.Bytes.{is_letter}
 use Rattle.id_text.proofs.PieceLemmas.{opens_at, begins_word, begins_name}
 use Rattle.id_text.proofs.lexer.read_word.Goals as goal
-use Rattle.id_text.proofs.lexer.read_word.Goals.{in-Some, in-None+in_ok-from_str-in-None}
+use Rattle.id_text.proofs.lexer.read_word.Goals.{in-Some, in-None+in_ok-new-in-None}
 
 pub returns : goal.returns
 returns c =
@@ -9,5 +9,5 @@ returns c =
     let run = c.word_at-word.ensures in
     elim c.match-keyword_of.branch [
       | in-Some w ↦ rw w.kind-is (begins_word _ _ w.in-Some.keyword opens run w.in-Some.ensures)
-      | in-None+in_ok-from_str-in-None w ↦ rw (w.kind-is, w.new.ensures, w.in_ok-from_str-in-None.ensures.ok) (begins_name _ _ opens run w.in-None.ensures)
+      | in-None+in_ok-new-in-None w ↦ rw (w.kind-is, w.in_ok-new-in-None.ensures) (begins_name _ _ opens run w.in-None.ensures)
     ]

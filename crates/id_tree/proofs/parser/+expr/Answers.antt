@@ -259,7 +259,7 @@ parse_store-returns-in_err-value-clause-err t c =
 pub parse_store-returns-clause-ok : goal.parse_store-returns-clause-ok
 parse_store-returns-clause-ok t c =
     let tree =
-    c.store-statement.ensures
+    c.in_ok-statement.ensures.tree
     ∙ ap (λ a. store a (tree_of c.in_ok-index.index.expr) (tree_of c.in_ok-value.value.expr) c.split.result.0.now.start) c.name.ensures.tree in
     Assigns-done tree (omega (arith, c.max-height.ensures))
     (Behind-enclosed (Behind-word (Behind-enclosed (Behind-bracket c.args.scope c.args.depth c.args.x c.args.place c.split.ensures.whole c.requires.begins)

@@ -59,8 +59,10 @@ add_nexts-loop-statement-preserved t c =
       | add_nexts-in-Store+in_ok-add_store-in-Store w ↦ record {
         counted = omega (arith, c.loop-statement.invariant.counted, w.index-is);
         rest = ap (λ n. add_nexts s n (parts c.match-statement.self) (stmts_tree (drop (i + 1) xs))) w.index-is
-            ∙ store_step s k i T (parts c.match-statement.self) V xs w.in-Store.target w.in-Store.index w.in-Store.value w.in-Store.place d
-            c.loop-statement-test.true (sym c.statement-item.is ∙ w.in-Store.is) (ap parts w.self-is ∙ w.in_ok-add_store-in-Store.ensures)
+            ∙ store_step s k i T (parts c.match-statement.self) V xs w.in-Store.target w.in-Store.index w.in-Store.value
+            w.deref.result.now w.deref-in-Store.result.now w.deref-in-Store-2.result.now w.in-Store.place d
+            c.loop-statement-test.true (sym c.statement-item.is ∙ w.in-Store.is) w.deref.ensures w.deref-in-Store.ensures w.deref-in-Store-2.ensures
+            (ap parts w.self-is ∙ w.in_ok-add_store-in-Store.ensures)
             c.loop-statement.invariant.rest;
       }
     ]
