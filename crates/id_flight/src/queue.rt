@@ -137,8 +137,9 @@ impl Queue {
     #[inline(always)]
     pub fn push_read_reserved(&mut self, like: &PlainToken, cell: PlainCell)
         requires { 0 < self.old.room }
-        ensures messages { self.new.messages
-            ≡ self.old.messages ++ record (message_of like.now) { payload = Read (cell_of cell) (tag_in like.now) } ∷ [] }
+        ensures messages { self.new.messages ≡ self.old.messages ++ record (message_of like.now) {
+          payload = Read (cell_of cell) (tag_in like.now);
+        } ∷ [] }
         ensures room { self.old.room ≤ self.new.room + 1 }
     {
         self.parcels.push_back_reserved(packed_read(like, cell));

@@ -333,8 +333,8 @@ read b l kind.Context = own l (value.Context (context_of l.value))
 read b l kind.Continuation = own l (value.Continuation (target_in l))
 read b l kind.Structure = own l (value.Structure (structure_at (target_in l) l.value))
 read b l kind.Address = own l (value.Address (cell_at (target_in l) l.value))
-read b l kind.Near =
-    saying l (told_near l.effect (tag_at l) (port_at (l.position / 2 ^ 31)) (instr_at l.to) (cell_at (target_in l) l.value))
+read b l kind.Near = saying l
+    (told_near l.effect (tag_at l) (port_at (l.position / 2 ^ 31)) (instr_at l.to) (cell_at (target_in l) l.value))
 read b l kind.Aside = slice_index_or b.asides (index_of l.value) (own l value.Signal)
 read b l k = saying l (told k (tag_at l) (port_at (l.position / 2 ^ 31)) l.value l.result (cell_in b.cells l))
 

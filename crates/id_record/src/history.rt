@@ -225,7 +225,8 @@ impl<'a> Record<'a> {
         }
     }
 
-    /// Adds the event of a plain token at an operator of arrays at the end, which fits in no line alone. Takes no memory.
+    /// Adds the event of a plain token at an operator of arrays at the end, which fits in no line alone. Takes no
+    /// memory.
     #[inline(always)]
     fn push_deed_beside(&mut self, event: Doing<'_>)
         requires room { 0 < self.old.room }

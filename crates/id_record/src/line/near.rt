@@ -21,7 +21,7 @@ use super::{Effect, Handled, Kind, Line, Written, message_at, went};
 use id_ops::{Deed, Fired};
 use id_tag::{Cell, Payload, PlainCell, PlainToken, Tag, Value};
 
-/// A plain token that is being handled, the stamp of that event, and what its instruction, which is one of arrays, does.
+/// A plain token that is being handled, the stamp of that event, and the deed of its instruction.
 #[derive(Clone, Copy)]
 pub struct Doing<'a> {
     pub token: &'a PlainToken,

@@ -105,8 +105,8 @@ fn carried(value: Plain) -> Carried
 }
 
 /// The tag that the event names beside that of its message: where the value was sent, which iteration it moved to, or
-/// what a value that waits names; it has the numbers of a structure that moves, goes out or waits, or of an address that
-/// waits.
+/// what a value that waits names; it has the numbers of a structure that moves, goes out or waits, or of an address
+/// that waits.
 #[inline(always)]
 fn named(shot: Shot, token: &PlainToken) -> Target
     requires fits { HasLine token.now }
