@@ -207,8 +207,8 @@ fn move_on(before: &mut Queue, after: &mut Queue, count: usize)
     }
 }
 
-/// Moves so many messages, one after another, from the end of the first list to the front of the second. Where memory is
-/// wanting, some of them have moved.
+/// Moves so many messages, one after another, from the end of the first list to the front of the second. Where memory
+/// is wanting, some of them have moved.
 fn move_back(before: &mut Queue, after: &mut Queue, count: usize) -> Result<(), AllocError>
     requires there { count ≤ length before.old.messages }
     ensures messages { before.new.messages ++ after.new.messages ≡ before.old.messages ++ after.old.messages }

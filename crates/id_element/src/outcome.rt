@@ -396,8 +396,8 @@ fn send_entered(instr: &Instr, like: &PlainToken, context: Context, outputs: &mu
     }
 }
 
-/// A plain token for port 0 of an instruction in the context of these numbers, with this value and this number, and else
-/// like this one.
+/// A plain token for port 0 of an instruction in the context of these numbers, with this value and this number, and
+/// else like this one.
 fn plain_within(
     like: &PlainToken,
     element: u8,

@@ -176,8 +176,8 @@ impl Row {
     }
 }
 
-/// Drops the first parcel of the row of these two lists, if there is one, where the first list has one or none left. The
-/// second takes its place.
+/// Drops the first parcel of the row of these two lists, if there is one, where the first list has one or none left.
+/// The second takes its place.
 #[inline(never)]
 fn drop_last(front: &mut Vec<Parcel>, left: &mut usize, back: &mut Vec<Parcel>)
     requires row { IsRow left.old front.old.items back.old.items }

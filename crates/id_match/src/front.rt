@@ -99,8 +99,8 @@ const EMPTY_PAIR: Pair = Pair {
     second: EMPTY,
 };
 
-/// How far from one another the rows of two neighbouring instructions begin: its multiples by 1 to 200 lie nearly evenly
-/// apart among 2^12 to 2^23 places, so that few rows meet.
+/// How far from one another the rows of two neighbouring instructions begin: its multiples by 1 to 200 lie nearly
+/// evenly apart among 2^12 to 2^23 places, so that few rows meet.
 const APART: u64 = 63_014_903;
 
 /// The place of a tag's numbers among so many pairs.

@@ -189,8 +189,8 @@ impl Waiting {
     }
 
     // Makes the front larger where many plain tokens stand behind it since their slots are taken, or came and went, or
-    // there is none. What fits in no slot doesn't count. Where few values wait for so many pairs, a larger front would be
-    // as crowded. Where memory is wanting, all stays as it is, so this never makes an error.
+    // there is none. What fits in no slot doesn't count. Where few values wait for so many pairs, a larger front would
+    // be as crowded. Where memory is wanting, all stays as it is, so this never makes an error.
     #[inline(never)]
     fn make_room(&mut self)
         ensures { self.new ≡ self.old }
