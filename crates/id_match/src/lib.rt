@@ -198,7 +198,7 @@ impl Waiting {
         let len = self.front.len();
         if self.crowded > len / 4 || len == 0 {
             self.crowded = 0;
-            if self.len() >= len / 32 {
+            if count(&self.front) + self.halves.len() >= len / 32 {
                 if let Some(front) = larger_front(self.alloc, &self.front, &self.halves) {
                     self.front = front;
                 }
