@@ -133,8 +133,8 @@ pub store_step : (s : Stand) (k i : ℕ) (T U V : Parts) (xs : List Stmt) (t j e
     → add_nexts s k T (stmts_tree (drop i xs)) ≡ V → add_nexts s k U (stmts_tree (drop (i + 1) xs)) ≡ V
 store_step s k i T U V xs t j e a b v p d l is f g h u w =
     let same : store (tree_of a) (tree_of b) (tree_of v) p ≡ store (tree_of t.value) (tree_of j.value) (tree_of e.value) p =
-        ap (λ x. store (tree_of x) (tree_of b) (tree_of v) p) f ∙ ap (λ x. store (tree_of t.value) (tree_of x) (tree_of v) p) g
-        ∙ ap (λ x. store (tree_of t.value) (tree_of j.value) (tree_of x) p) h in
+    ap (λ x. store (tree_of x) (tree_of b) (tree_of v) p) f ∙ ap (λ x. store (tree_of t.value) (tree_of x) (tree_of v) p) g
+    ∙ ap (λ x. store (tree_of t.value) (tree_of j.value) (tree_of x) p) h in
     ap (λ X. add_nexts s k X (stmts_tree (drop (i + 1) xs))) (u ∙ ap (add s T) same)
     ∙ sym (ap (λ ss. add_nexts s k T (stmts_tree ss)) (drop_more xs i d l ∙ ap (λ y. y ∷ drop (i + 1) xs) is)) ∙ w
 
