@@ -1,7 +1,7 @@
 //! The messages in flight, which contracts see as a list.
 
 use crate::in_flight::InFlight;
-use id_tag::Message;
+use id_tag::{Context, Message};
 use std::marker::Model;
 
 /// The messages in flight, in the order in which they were sent.
@@ -20,7 +20,9 @@ impl<'a> Model for Flight<'a> {
 }
 
 impl<'a> Flight<'a> {
-    ghost use Rattle.std.specs.Prelude.{◌≡◌, ◌<◌, ◌==◌, length, slice_get, Some};
+    ghost use Rattle.std.specs.Prelude.{◌≡◌, ◌<◌, ◌≤◌, ◌==◌, length, slice_get, MatchOption, Some};
+    ghost use Rattle.id_flight.specs.Queues.{context_at};
+    ghost use Rattle.id_core.specs.Flights.{AreOthers, IsFirstOf};
 
     /// These messages. Takes no memory.
     pub(crate) fn new(messages: &'a InFlight) -> Flight<'a>
@@ -51,5 +53,25 @@ impl<'a> Flight<'a> {
         ensures { slice_get self.now position ≡ Some result }
     {
         self.messages.message(position)
+    }
+
+    /// The context of the message at a position, from 0: that of a token's tag, of the tag that a read's reply goes to,
+    /// or of the store that a write comes from. Takes no memory.
+    #[inline(always)]
+    pub fn context(&self, position: usize) -> Context
+        requires { position < length self.now }
+        ensures { context_at self.now position ≡ Some result }
+    {
+        self.messages.context(position)
+    }
+
+    /// The first position from this one on whose message is of this context, if there is one. Takes no memory.
+    #[inline(always)]
+    pub fn first_of(&self, from: usize, context: Context) -> Option<usize>
+        requires { from ≤ length self.now }
+        ensures { MatchOption result (AreOthers self.now from (length self.now) (Some context))
+            (IsFirstOf context self.now from) }
+    {
+        self.messages.first_of(from, context)
     }
 }

@@ -5,7 +5,7 @@ ghost use Rattle.std.specs.Prelude.{◌≡◌, ◌+◌, ◌++◌, ◌≤◌, len
 use id_element::{Element, Short, TakeError};
 use id_flight::Queue;
 use id_record::Step;
-use id_tag::{Message, PlainToken};
+use id_tag::{Context, Message, PlainToken};
 use std::alloc::{AllocError, Global};
 use std::marker::Model;
 
@@ -31,10 +31,12 @@ impl Model for InFlight {
 }
 
 impl InFlight {
-    ghost use Rattle.std.specs.Prelude.{◌≡◌, ◌<◌, ◌++◌, ◌==◌, ◌↔◌, All, length, slice_get};
+    ghost use Rattle.std.specs.Prelude.{◌≡◌, ◌<◌, ◌≤◌, ◌++◌, ◌==◌, ◌↔◌, All, length, slice_get};
     ghost use Rattle.std.specs.Prelude.{Some, IfOk, IfSome, OnOk, OnErr};
-    ghost use Rattle.std.specs.Prelude.{IsTrue};
+    ghost use Rattle.std.specs.Prelude.{IsTrue, MatchOption};
     ghost use Rattle.std.specs.List.{remove};
+    ghost use Rattle.id_flight.specs.Queues.{context_at};
+    ghost use Rattle.id_core.specs.Flights.{AreOthers, IsBeside, IsFirstOf};
     ghost use Rattle.id_element.specs.declared.step.TakeError.TheVariants.{StampEnd};
     ghost use Rattle.id_element.specs.Fits.{Fits, IsFor};
     ghost use Rattle.id_element.specs.Steps.{is_ended, outputs_of, state_after, step_of};
@@ -95,20 +97,64 @@ impl InFlight {
         }
     }
 
-    /// Moves the gap to the message at a position.
+    /// The context of the message at a position, from 0. Takes no memory.
+    #[inline(always)]
+    pub(crate) fn context(&self, position: usize) -> Context
+        requires { position < length self.now.messages }
+        ensures { context_at self.now.messages position ≡ Some result }
+    {
+        let gap = self.before.len();
+        if position < gap {
+            self.before.context(position)
+        } else {
+            self.after.context(position - gap)
+        }
+    }
+
+    /// The first position from this one on whose message is of this context, if there is one. Takes no memory.
+    #[inline(always)]
+    pub(crate) fn first_of(&self, from: usize, context: Context) -> Option<usize>
+        requires { from ≤ length self.now.messages }
+        ensures { MatchOption result (AreOthers self.now.messages from (length self.now.messages) (Some context))
+            (IsFirstOf context self.now.messages from) }
+    {
+        // Most often it is the one behind the gap.
+        if from == self.before.len() && self.after.is_first_of(context) {
+            return Some(from);
+        }
+        self.first_behind(from, context)
+    }
+
+    /// The same where it may be any.
+    #[inline(never)]
+    fn first_behind(&self, from: usize, context: Context) -> Option<usize>
+        requires { from ≤ length self.now.messages }
+        ensures { MatchOption result (AreOthers self.now.messages from (length self.now.messages) (Some context))
+            (IsFirstOf context self.now.messages from) }
+    {
+        for position in from..self.len() {
+            if self.context(position) == context {
+                return Some(position);
+            }
+        }
+        None
+    }
+
+    /// Moves the gap beside the message at a position.
     #[inline(always)]
     pub(crate) fn open(&mut self, position: usize) -> Result<(), AllocError>
         requires { position < length self.old.messages }
         ensures messages { self.new.messages ≡ self.old.messages }
-        ensures gap { OnOk result (self.new.gap ≡ position) }
+        ensures gap { OnOk result (IsBeside self.new.gap position) }
     {
-        if position == self.before.len() {
+        let gap = self.before.len();
+        if position <= gap && gap - position <= 1 {
             return Ok(());
         }
         self.move_to(position)
     }
 
-    /// Moves the gap to the message at a position.
+    /// Moves the gap in front of the message at a position.
     #[inline(never)]
     fn move_to(&mut self, position: usize) -> Result<(), AllocError>
         requires { position < length self.old.messages }
@@ -125,18 +171,20 @@ impl InFlight {
         Ok(())
     }
 
-    /// Gives the message at the gap to an element: it leaves the list, which closes up, and what is sent goes to the
-    /// end. After an error nothing has changed.
+    /// Gives the message at a position beside the gap to an element: it leaves the list, which closes up, and what is
+    /// sent goes to the end. After an error nothing has changed.
     #[inline(always)]
     pub(crate) fn give_next(
         &mut self,
+        position: usize,
         message: &Message,
         element: &mut Element<'_>,
     ) -> Result<Step, TakeError>
-        requires next { slice_get self.old.messages self.old.gap ≡ Some message.now }
+        requires gap { IsBeside self.old.gap position }
+        requires next { slice_get self.old.messages position ≡ Some message.now }
         requires is_for { IsFor element.old.graph element.old.count element.old.number message.now }
 
-        ensures messages { OnOk result (self.new.messages ≡ remove self.old.messages self.old.gap
+        ensures messages { OnOk result (self.new.messages ≡ remove self.old.messages position
             ++ outputs_of element.old.graph element.old.number element.old.state message.now) }
         ensures state { OnOk result (element.new ≡ record element.old {
           state = state_after element.old.graph element.old.number element.old.state message.now;
@@ -152,22 +200,24 @@ impl InFlight {
         ensures err_messages { OnErr result (self.new.messages ≡ self.old.messages) }
     {
         let step = element.take(message, &mut self.after)?;
-        self.after.drop_front();
+        self.drop_at(position);
         Ok(step)
     }
 
-    /// Gives the plain token at the gap to an element, as `give_next` does, where that is short.
+    /// Gives the plain token at a position beside the gap to an element, as `give_next` does, where that is short.
     #[inline(always)]
     pub(crate) fn give_plain(
         &mut self,
+        position: usize,
         token: &PlainToken,
         element: &mut Element<'_>,
     ) -> Result<Short, TakeError>
-        requires next { slice_get self.old.messages self.old.gap ≡ Some (message_of token.now) }
+        requires gap { IsBeside self.old.gap position }
+        requires next { slice_get self.old.messages position ≡ Some (message_of token.now) }
         requires is_for { IsFor element.old.graph element.old.count element.old.number (message_of token.now) }
 
         ensures messages { IfOk result (λ short. IsHandled short → self.new.messages
-            ≡ remove self.old.messages self.old.gap
+            ≡ remove self.old.messages position
             ++ outputs_of element.old.graph element.old.number element.old.state (message_of token.now)) }
         ensures state { IfOk result (λ short. IsHandled short → element.new ≡ record element.old {
           state = state_after element.old.graph element.old.number element.old.state (message_of token.now);
@@ -187,8 +237,22 @@ impl InFlight {
         if let Short::Apart = short {
             return Ok(short);
         }
-        self.after.drop_front();
+        self.drop_at(position);
         Ok(short)
+    }
+
+    /// Drops the message at a position beside the gap: the list closes up. Takes no memory.
+    #[inline(always)]
+    fn drop_at(&mut self, position: usize)
+        requires gap { IsBeside self.old.gap position }
+        requires there { position < length self.old.messages }
+        ensures { self.new.messages ≡ remove self.old.messages position }
+    {
+        if position == self.before.len() {
+            self.after.drop_front();
+        } else {
+            self.before.pop_back();
+        }
     }
 }
 
@@ -200,10 +264,11 @@ fn move_on(before: &mut Queue, after: &mut Queue, count: usize)
     ensures len { length before.new.messages ≡ length before.old.messages + count }
 {
     for _ in 0..count {
-        match after.pop_front() {
-            Some(message) => before.push_back_reserved(message),
-            None => unreachable!(),
+        match after.plain(0) {
+            Some(token) => before.push_plain_reserved(&token),
+            None => before.push_back_reserved(after.message(0)),
         }
+        after.drop_front();
     }
 }
 

@@ -238,7 +238,9 @@ impl<'a> Machine<'a> {
             return Err(TakeError::StampEnd);
         }
         self.flight.open(position)?;
-        let step = self.flight.give_next(&message, &mut self.elements[number])?;
+        let step = self
+            .flight
+            .give_next(position, &message, &mut self.elements[number])?;
         Ok(step)
     }
 
@@ -264,7 +266,9 @@ impl<'a> Machine<'a> {
             return Err(TakeError::StampEnd);
         }
         self.flight.open(position)?;
-        let short = self.flight.give_plain(token, &mut self.elements[number])?;
+        let short = self
+            .flight
+            .give_plain(position, token, &mut self.elements[number])?;
         Ok(short)
     }
 

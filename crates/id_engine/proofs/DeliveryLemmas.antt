@@ -1,14 +1,16 @@
--- Deliveries to a machine, each of the first message that is not held back (specs/Reports.antt).
-use Rattle.std.proofs.Common.{◌≡◌, ◌≢◌, ℕ, zero, suc, ◌+◌, ◌-◌, ◌*◌, ◌^◌, ◌==◌, ◌<◌, ◌≤◌, ◌⊎◌, Bool, true, false, cond, ◌||◌, inl, inr, List, [], ◌∷◌, ◌++◌, All, length, take, drop, replicate, Option, Some, None, slice_get, slice_index_or, slice_set, IsTrue, IsFalse, refl, sym, ap, subst, ◌∙◌, arith, length-append, length-set, append_assoc}
+-- Deliveries to a machine, each in its turn (specs/Reports.antt).
+use Rattle.std.proofs.Common.{◌≡◌, ◌≢◌, ℕ, zero, suc, ◌+◌, ◌-◌, ◌*◌, ◌/◌, ◌^◌, ◌==◌, ◌<◌, ◌≤◌, ◌⊎◌, Bool, true, false, cond, ◌||◌, inl, inr, List, [], ◌∷◌, ◌++◌, All, length, take, drop, replicate, Option, Some, None, slice_get, slice_index_or, slice_set, IsTrue, IsFalse, refl, sym, ap, subst, ◌∙◌, arith, length-append, length-set, append_assoc}
 use Rattle.std.specs.Prelude.{option_map}
 use Rattle.std.proofs.lemmas.Bool.{cases_eq, ne_eqb}
 use Rattle.std.specs.List.{cons_option, remove}
 use Rattle.std.proofs.lemmas.List.Elements.{filter_map-append}
 use Rattle.std.proofs.lemmas.Nat.{mod_below}
+use Rattle.std.proofs.Math.Nat.{div-mul-le_self, lt-div-mul-add}
 use Rattle.std.proofs.lemmas.Option.{slice_get-get_or}
 use Rattle.id_graph.specs.Graph.{Parts}
 use Rattle.id_tag.specs.declared.Payload.{Payload}
 use Rattle.id_tag.specs.declared.Payload.TheVariants.{Token, Read, Write}
+use Rattle.id_tag.specs.declared.Context.{Context}
 use Rattle.id_tag.specs.declared.Message.{Message}
 use Rattle.id_tag.specs.declared.Tag.{Tag}
 use Rattle.id_tag.specs.declared.Structure.{Structure}
@@ -20,7 +22,7 @@ use Rattle.id_record.specs.declared.step.Step.{Step}
 use Rattle.id_record.specs.declared.step.Step.TheVariants.{Went, Fault, Stuck}
 use Rattle.id_record.specs.declared.step.Fault.TheVariants.{Operator, SecondStore}
 use Rattle.id_core.specs.Events.{EventView}
-use Rattle.id_core.specs.Steps.{State, event_of, fresh, is_ended, state_after}
+use Rattle.id_core.specs.Steps.{State, event_of, fresh, is_ended, outputs_of, state_after}
 use Rattle.id_core.specs.Machines.{World, MachineView, came_of, delivered, event_at, event_of_given, event_of_routed, given_to, routed_to, run, taken_from, world_of}
 use Rattle.id_core.specs.Replays.{ElementView}
 use Rattle.id_core.specs.Observed.{events_of, fault_of, faults, faults_of, path_in, structure_in}
@@ -28,8 +30,10 @@ use Rattle.id_list.proofs.AmongLemmas.{Among-from_at}
 use Rattle.id_list.proofs.PlacesLemmas.{set-here, set-elsewhere, slice_get-image, slice_get-set}
 use Rattle.id_core.specs.declared.machine.Came.{Came}
 use Rattle.id_core.specs.declared.machine.Came.TheVariants as came
-use Rattle.id_engine.specs.Runs.{AreHeldBefore, AreOfFirst, IsFree, IsHeldBack}
-use Rattle.id_engine.specs.Reports.{at_fault, at_rest, HasCount, HasEvent, HasRun, IsDelivered, IsDelivery, IsFreshMachine, IsHeldAt}
+use Rattle.id_engine.specs.Runs.{early, late, AreHeldBefore, AreInTurn, IsBehindOthers, IsFree, IsHeldBack, IsInTurn, Turn, first_turn, next_turn}
+use Rattle.id_engine.specs.Reports.{at_fault, at_rest, HasCount, HasEvent, HasRun, IsDelivered, IsDelivery, IsFreshMachine, IsHand, IsHeldAt, IsNextHand}
+use Rattle.id_engine.specs.declared.run.Hand.{Hand}
+use Rattle.id_flight.specs.Queues.{context_of}
 use Rattle.id_engine.proofs.RunLemmas.{run-append}
 use Rattle.id_engine.proofs.StampsLemmas.{AreStamped, AreStamped-after, AreStamped-start}
 
@@ -109,7 +113,7 @@ ended_whatever : (a b : Bool) → b ≡ true → (a || b) ≡ true
 ended_whatever true b h = refl
 ended_whatever false b h = h
 
-strictly : (a b : ℕ) → a ≤ b → (a ≡ b → ⊥) → a < b
+pub strictly : (a b : ℕ) → a ≤ b → (a ≡ b → ⊥) → a < b
 strictly zero zero le ne = absurd (ne refl)
 strictly zero (suc b) le ne = omega arith
 strictly (suc a) zero le ne = absurd (omega (arith, le))
@@ -290,30 +294,41 @@ route_below (Write c v t) count some = mod_below (c.structure.element + c.struct
 
 -- ---- runs
 
-push_first : (g : Parts) (count steps : ℕ) (ks : List ℕ) (k : ℕ) (s : World) → AreOfFirst g count steps ks s → AreHeldBefore count steps (run g count ks s) k
-    → IsFree count steps (run g count ks s) k → AreOfFirst g count steps (ks ++ k ∷ []) s
-push_first g count steps [] k s h held free = (held, free, tt)
-push_first g count steps (j ∷ ks) k s h held free = (h.0, h.1, push_first g count steps ks k (delivered g count s j) h.2 held free)
+-- the turn after deliveries at these positions
+abbrev pub turn_after : Parts → ℕ → List ℕ → World → Turn → Turn
+turn_after g count [] w t = t
+turn_after g count (k ∷ ks) w t = turn_after g count ks (delivered g count w k) (next_turn w k t)
 
--- deliveries have led from one state to another: each was of the first message that was not held back, no element has
--- handled more than it may, there was no fault, and the messages before a position are held back
-pub record GoesOn (g : Parts) (count steps : ℕ) (from to : World) (n position : ℕ) : Type 0 where
+turn_more : (g : Parts) (count : ℕ) (ks : List ℕ) (k : ℕ) (w : World) (t : Turn)
+    → turn_after g count (ks ++ k ∷ []) w t ≡ next_turn (run g count ks w) k (turn_after g count ks w t)
+turn_more g count [] k w t = refl
+turn_more g count (j ∷ ks) k w t = turn_more g count ks k (delivered g count w j) (next_turn w j t)
+
+push_turn : (g : Parts) (count steps : ℕ) (ks : List ℕ) (k : ℕ) (w : World) (t : Turn) → AreInTurn g count steps t ks w
+    → IsInTurn count steps (turn_after g count ks w t) (run g count ks w) k → IsFree count steps (run g count ks w) k
+    → AreInTurn g count steps t (ks ++ k ∷ []) w
+push_turn g count steps [] k w t h turn free = (turn, free, tt)
+push_turn g count steps (j ∷ ks) k w t h turn free = (h.0, h.1, push_turn g count steps ks k (delivered g count w j) (next_turn w j t) h.2 turn free)
+
+-- deliveries have led from one state to another, and to this turn: each was in its turn, no element has handled more
+-- than it may, and there was no fault
+pub record GoesOn (g : Parts) (count steps : ℕ) (from to : World) (t : Turn) : Type 0 where
   pub positions : List ℕ
   pub world : to ≡ run g count positions from
-  pub first : AreOfFirst g count steps positions from
+  pub turns : AreInTurn g count steps first_turn positions from
+  pub turn : turn_after g count positions from first_turn ≡ t
   pub few : (k : ℕ) (e : State) → slice_get to.elements k ≡ Some e → length e.events ≤ steps
   pub none : faults g to ≡ []
   pub size : length to.elements ≡ count
-  pub handled : length (events_of to.elements) ≡ n
-  pub held : AreHeldBefore count steps to position
-  pub within : position ≤ length to.flight
-  pub stamps : AreStamped to n
+  pub handled : length (events_of to.elements) ≡ t.handled
+  pub within : t.position ≤ length to.flight
+  pub stamps : AreStamped to t.handled
 
 -- the machine b is what such deliveries have made of a
-pub record Reaches (a b : MachineView) (steps n position : ℕ) : Type 0 where
+pub record Reaches (a b : MachineView) (steps : ℕ) (t : Turn) : Type 0 where
   pub same_graph : b.graph ≡ a.graph
   pub same_count : b.count ≡ a.count
-  pub goes : GoesOn a.graph a.count steps a.world b.world n position
+  pub goes : GoesOn a.graph a.count steps a.world b.world t
 
 fresh_events : (c : ℕ) → events_of (replicate c fresh) ≡ []
 fresh_events zero = refl
@@ -331,26 +346,26 @@ so_many zero x = refl
 so_many (suc c) x = ap suc (so_many c x)
 
 -- at the start no delivery was made
-pub Reaches-none : (a : MachineView) (steps : ℕ) → IsFreshMachine a → Reaches a a steps 0 0
+pub Reaches-none : (a : MachineView) (steps : ℕ) → IsFreshMachine a → Reaches a a steps first_turn
 Reaches-none a steps h = record {
   same_graph = refl;
   same_count = refl;
   goes = record {
     positions = [];
     world = refl;
-    first = tt;
+    turns = tt;
+    turn = refl;
     few = λ k e at. fresh_few steps a.count k e (ap (λ w. slice_get w.elements k) (sym h.world) ∙ at);
     none = ap (faults a.graph) h.world ∙ ap (faults_of a.graph (path_in a.graph (replicate a.count fresh)) (structure_in a.graph (replicate a.count fresh))) (fresh_events a.count);
     size = ap (λ w. length w.elements) h.world ∙ so_many a.count fresh;
     handled = ap (λ w. length (events_of w.elements)) h.world ∙ ap length (fresh_events a.count);
-    held = λ j m lt at. absurd (omega (arith, lt));
     within = omega arith;
     stamps = subst (λ w. AreStamped w 0) (sym h.world) (AreStamped-start a.graph (h.origin).inputs a.count);
   };
 }
 
-pub HasCount-reaches : (a b : MachineView) (steps n p : ℕ) → IsFreshMachine a → Reaches a b steps n p → HasCount b
-HasCount-reaches a b steps n p fresh h =
+pub HasCount-reaches : (a b : MachineView) (steps : ℕ) (t : Turn) → IsFreshMachine a → Reaches a b steps t → HasCount b
+HasCount-reaches a b steps t fresh h =
     let same = h.same_count in
     let size = (h.goes).size in
     (omega (arith, fresh.some, same), omega (arith, fresh.few, same), size ∙ sym same)
@@ -372,8 +387,8 @@ failed g path name (Fault (Operator f t)) w s = (_, refl)
 failed g path name (Fault (SecondStore c t u)) w s = (_, refl)
 failed g path name Stuck w s = absurd (s refl)
 
--- one delivery more, of the first message that is not held back
-module _ (g : Parts) (count steps : ℕ) (from w : World) (n p q : ℕ) (v : EventView) (h : GoesOn g count steps from w n p) (held : AreHeldBefore count steps w q)
+-- one delivery more, in its turn
+module _ (g : Parts) (count steps : ℕ) (from w : World) (t : Turn) (q : ℕ) (v : EventView) (h : GoesOn g count steps from w t) (turn : IsInTurn count steps t w q)
     (f : IsFree count steps w q) (made : event_at g count w q ≡ Some v) where
   abbrev after : World
   after = to g count steps w q f
@@ -393,25 +408,34 @@ module _ (g : Parts) (count steps : ℕ) (from w : World) (n p q : ℕ) (v : Eve
   run_is : after ≡ run g count (h.positions ++ q ∷ []) from
   run_is = sym is_after ∙ ap (λ x. delivered g count x q) h.world ∙ sym (run-append g count h.positions (q ∷ []) from)
 
-  first_is : AreOfFirst g count steps (h.positions ++ q ∷ []) from
-  first_is = push_first g count steps h.positions q from h.first (subst (λ (x : World). AreHeldBefore count steps x q) h.world held) (subst (λ (x : World). IsFree count steps x q) h.world f)
+  turns_are : AreInTurn g count steps first_turn (h.positions ++ q ∷ []) from
+  turns_are =
+      push_turn g count steps h.positions q from first_turn h.turns
+      (subst (λ (x : Turn). IsInTurn count steps x (run g count h.positions from) q) (sym h.turn) (subst (λ (x : World). IsInTurn count steps t x q) h.world turn))
+      (subst (λ (x : World). IsFree count steps x q) h.world f)
 
-  GoesOn-went : v.step ≡ Went → GoesOn g count steps from after (n + 1) q
+  turn_is : turn_after g count (h.positions ++ q ∷ []) from first_turn ≡ next_turn w q t
+  turn_is =
+      turn_more g count h.positions q from first_turn
+      ∙ ap (λ (x : World). next_turn x q (turn_after g count h.positions from first_turn)) (sym h.world)
+      ∙ ap (next_turn w q) h.turn
+
+  GoesOn-went : v.step ≡ Went → GoesOn g count steps from after (next_turn w q t)
   GoesOn-went went = record {
     positions = h.positions ++ q ∷ [];
     world = run_is;
-    first = first_is;
+    turns = turns_are;
+    turn = turn_is;
     few = few_after g count steps w q f h.few;
     none = faults_are ∙ ap (λ (x : Step). cons_option (fault_of g (path_in g after.elements) (structure_in g after.elements) x) []) went;
     size = length-set w.elements (number g count steps w q f) (next g count steps w q f) ∙ h.size;
     handled = ap length parts.new ∙ length-put parts.xs parts.ys v ∙ ap (λ l. length l + 1) (sym parts.old) ∙ ap (λ i. i + 1) h.handled;
-    held = held_before g count steps w q f held;
     within = still_within w.flight _ q (IsFree-within count steps w q f);
-    stamps = AreStamped-after g w q (number g count steps w q f) f.message f.state n h.stamps (Among-from_at f.message w.flight q f.at) f.element;
+    stamps = AreStamped-after g w q (number g count steps w q f) f.message f.state t.handled h.stamps (Among-from_at f.message w.flight q f.at) f.element;
   }
 
 -- a delivery to b, as one to the graph of a
-module _ (a b c : MachineView) (steps n p q : ℕ) (step : Step) (h : Reaches a b steps n p) (held : AreHeldBefore a.count steps b.world q) (f : IsFree a.count steps b.world q)
+module _ (a b c : MachineView) (steps : ℕ) (t : Turn) (q : ℕ) (step : Step) (h : Reaches a b steps t) (turn : IsInTurn a.count steps t b.world q) (f : IsFree a.count steps b.world q)
     (d : IsDelivery q b c step) where
   made_there : event_at a.graph a.count b.world q ≡ Some d.event
   made_there =
@@ -419,12 +443,12 @@ module _ (a b c : MachineView) (steps n p q : ℕ) (step : Step) (h : Reaches a 
       subst (λ (i : ℕ). E a.graph i) h.same_count (subst (λ (g : Parts). E g b.count) h.same_graph d.made)
 
   abbrev there : World
-  there = after a.graph a.count steps a.world b.world n p q d.event h.goes held f made_there
+  there = after a.graph a.count steps a.world b.world t q d.event h.goes turn f made_there
 
   world_is : c.world ≡ there
   world_is =
       ap (λ m. m.world) d.new_is ∙ ap (λ g. delivered g b.count b.world q) h.same_graph ∙ ap (λ i. delivered a.graph i b.world q) h.same_count
-      ∙ is_after a.graph a.count steps a.world b.world n p q d.event h.goes held f made_there
+      ∙ is_after a.graph a.count steps a.world b.world t q d.event h.goes turn f made_there
 
   graph_is : c.graph ≡ a.graph
   graph_is = ap (λ m. m.graph) d.new_is ∙ h.same_graph
@@ -432,12 +456,12 @@ module _ (a b c : MachineView) (steps n p q : ℕ) (step : Step) (h : Reaches a 
   count_is : c.count ≡ a.count
   count_is = ap (λ m. m.count) d.new_is ∙ h.same_count
 
-  pub Reaches-went : step ≡ Went → Reaches a c steps (n + 1) q
+  pub Reaches-went : step ≡ Went → Reaches a c steps (next_turn b.world q t)
   Reaches-went went = record {
     same_graph = graph_is;
     same_count = count_is;
-    goes = subst (λ (x : World). GoesOn a.graph a.count steps a.world x (n + 1) q) (sym world_is)
-        (GoesOn-went a.graph a.count steps a.world b.world n p q d.event h.goes held f made_there (d.step_is ∙ went));
+    goes = subst (λ (x : World). GoesOn a.graph a.count steps a.world x (next_turn b.world q t)) (sym world_is)
+        (GoesOn-went a.graph a.count steps a.world b.world t q d.event h.goes turn f made_there (d.step_is ∙ went));
   }
 
   pub HasRun-fault : step ≢ Went → step ≢ Stuck → HasRun a c steps
@@ -446,17 +470,17 @@ module _ (a b c : MachineView) (steps n p q : ℕ) (step : Step) (h : Reaches a 
       let name = structure_in a.graph there.elements in
       let x = failed a.graph path name step went stuck in
       let ks = (h.goes).positions in
-      let run_there = run_is a.graph a.count steps a.world b.world n p q d.event h.goes held f made_there in
+      let run_there = run_is a.graph a.count steps a.world b.world t q d.event h.goes turn f made_there in
       let few_there = few_after a.graph a.count steps b.world q f (h.goes).few in
       let shown : faults a.graph there ≡ x.0 ∷ [] =
-      faults_are a.graph a.count steps a.world b.world n p q d.event h.goes held f made_there
+      faults_are a.graph a.count steps a.world b.world t q d.event h.goes turn f made_there
       ∙ ap (λ (y : Step). cons_option (fault_of a.graph path name y) []) d.step_is ∙ ap (λ o. cons_option o []) x.1 in
       record {
         positions = ks ++ q ∷ [];
         same_graph = graph_is;
         same_count = count_is;
         world = world_is ∙ run_there;
-        first = first_is a.graph a.count steps a.world b.world n p q d.event h.goes held f made_there;
+        turns = turns_are a.graph a.count steps a.world b.world t q d.event h.goes turn f made_there;
         few = subst (λ (y : World). All (λ s. length s.events ≤ steps) y.elements) (sym world_is)
             (λ k e within. few_there k (slice_index_or there.elements k e) (slice_get-get_or there.elements k e within));
         ended = at_fault x.0 (record {
@@ -469,8 +493,8 @@ module _ (a b c : MachineView) (steps n p q : ℕ) (step : Step) (h : Reaches a 
       }
 
 -- a run to where all that is left is held back
-ended_run : (a b : MachineView) (steps n p : ℕ) → Reaches a b steps n p → All (IsHeldBack a.count steps b.world) b.world.flight → HasRun a b steps
-ended_run a b steps n p h held =
+ended_run : (a b : MachineView) (steps : ℕ) (t : Turn) → Reaches a b steps t → All (IsHeldBack a.count steps b.world) b.world.flight → HasRun a b steps
+ended_run a b steps t h held =
     let ks = (h.goes).positions in
     let H : World → Type 0 = λ w. All (IsHeldBack a.count steps w) w.flight in
     record {
@@ -478,19 +502,19 @@ ended_run a b steps n p h held =
       same_graph = h.same_graph;
       same_count = h.same_count;
       world = (h.goes).world;
-      first = (h.goes).first;
+      turns = (h.goes).turns;
       few = λ k e within. (h.goes).few k (slice_index_or b.world.elements k e) (slice_get-get_or b.world.elements k e within);
       ended = at_rest (ap (faults a.graph) (sym (h.goes).world) ∙ (h.goes).none) (subst H (h.goes).world held);
     }
 
-pub HasRun-rest : (a b : MachineView) (steps n p q : ℕ) → Reaches a b steps n p → AreHeldBefore a.count steps b.world q → q ≡ length b.world.flight → HasRun a b steps
-HasRun-rest a b steps n p q h held all =
-    ended_run a b steps n p h (λ k d within. held k (slice_index_or b.world.flight k d) (omega (arith, within, all)) (slice_get-get_or b.world.flight k d within))
+pub HasRun-rest : (a b : MachineView) (steps : ℕ) (t : Turn) (q : ℕ) → Reaches a b steps t → AreHeldBefore a.count steps b.world q → q ≡ length b.world.flight → HasRun a b steps
+HasRun-rest a b steps t q h held all =
+    ended_run a b steps t h (λ k d within. held k (slice_index_or b.world.flight k d) (omega (arith, within, all)) (slice_get-get_or b.world.flight k d within))
 
-pub HasRun-limit : (a b : MachineView) (steps n p : ℕ) → IsFreshMachine a → Reaches a b steps n p → n ≡ a.count * steps → HasRun a b steps
-HasRun-limit a b steps n p fresh h most = ended_run a b steps n p h (λ k d within. back (slice_index_or b.world.flight k d))
+pub HasRun-limit : (a b : MachineView) (steps : ℕ) (t : Turn) → IsFreshMachine a → Reaches a b steps t → t.handled ≡ a.count * steps → HasRun a b steps
+HasRun-limit a b steps t fresh h most = ended_run a b steps t h (λ k d within. back (slice_index_or b.world.flight k d))
   where
-    goes : GoesOn a.graph a.count steps a.world b.world n p
+    goes : GoesOn a.graph a.count steps a.world b.world t
     goes = h.goes
 
     full : length (events_of b.world.elements) ≡ length b.world.elements * steps
@@ -525,9 +549,9 @@ not_last a b n less fewer most =
     ap (λ c. c || (b == 2 ^ 64 - 1)) one ∙ two
 
 -- where fewer messages were handled in all than each element may, none is held back
-pub IsFree-young : (a b : MachineView) (steps n p k : ℕ) → IsFreshMachine a → Reaches a b steps n p → n < steps → steps ≤ 100000000 → k < length b.world.flight
+pub IsFree-young : (a b : MachineView) (steps : ℕ) (t : Turn) (k : ℕ) → IsFreshMachine a → Reaches a b steps t → t.handled < steps → steps ≤ 100000000 → k < length b.world.flight
     → IsFree a.count steps b.world k
-IsFree-young a b steps n p k fresh h young few within =
+IsFree-young a b steps t k fresh h young few within =
     let goes = h.goes in
     let m = get_within b.world.flight k within in
     let less = route_below m.0.payload a.count fresh.some in
@@ -541,7 +565,7 @@ IsFree-young a b steps n p k fresh h young few within =
       state = e.0;
       element = e.1;
       some = λ is. omega (arith, is, part, all, young);
-      stamp = not_last e.0.stamp m.0.stamp n ((goes.stamps).elements (route_of m.0.payload a.count) e.0 e.1)
+      stamp = not_last e.0.stamp m.0.stamp t.handled ((goes.stamps).elements (route_of m.0.payload a.count) e.0 e.1)
           ((goes.stamps).flight m.0 (Among-from_at m.0 b.world.flight k m.1)) (omega (arith, young, few));
     }
 
@@ -573,3 +597,119 @@ pub free_by : (w : World) (count steps k n : ℕ) (es : List ElementView) (e : E
     → n ≡ route_of x.payload count → slice_get w.flight k ≡ Some x → length e.state.events ≢ steps → IsFalse (is_ended e.state x) → IsFree count steps w k
 free_by w count steps k n es e x is at route there some stamp =
     record { message = x; at = there; state = e.state; element = element_at w count n es e x is at route; some = some; stamp = stamp }
+
+-- ---- what is at hand
+
+-- the turn of a run that has handled so many messages and has this at hand
+abbrev pub turn_of : ℕ → Hand → Turn
+turn_of n h = record { handled = n; position = h.position; context = Some h.context }
+
+-- a run has handled so many messages, and this is at hand
+pub record HasHand (a b : MachineView) (steps n : ℕ) (h : Hand) : Type 0 where
+  pub reaches : Reaches a b steps (turn_of n h)
+  pub is : IsHand b.world.flight h
+
+-- a run has handled so many messages, and all before this position are held back
+pub record HoldsBefore (a b : MachineView) (steps n k : ℕ) : Type 0 where
+  pub turn : Turn
+  pub reaches : Reaches a b steps turn
+  pub handled : turn.handled ≡ n
+  pub held : AreHeldBefore a.count steps b.world k
+  pub within : k ≤ length b.world.flight
+
+pub HasHand-none : (a : MachineView) (steps : ℕ) (h : Hand) → IsFreshMachine a → h.position ≡ 0 → h.context ≡ record { element = 0; serial = 0 }
+    → HasHand a a steps 0 h
+HasHand-none a steps h fresh at context =
+    let same : first_turn ≡ turn_of 0 h = λ i. record { handled = 0; position = sym at i; context = Some (sym context i) } in
+    record {
+      reaches = subst (Reaches a a steps) same (Reaches-none a steps fresh);
+      is = record { within = omega (arith, at); behind = λ front k is. absurd (omega (arith, is, at)) };
+    }
+
+-- what stands in front of a message that leaves stays there
+others_stay : (g : Parts) (count steps : ℕ) (w : World) (q : ℕ) (f : IsFree count steps w q) (c : Option Context) → IsBehindOthers w.flight q c
+    → IsBehindOthers (delivered g count w q).flight q c
+others_stay g count steps w q f c others = subst (λ (x : World). IsBehindOthers x.flight q c) (sym (delivered-free g count steps w q f)) (λ k is at. (
+    let same = before_removed w.flight (outputs_of g (route_of f.message.payload count) f.state f.message) q k (omega (arith, is)) (IsFree-within count steps w q f) in
+    others k is (ap (option_map context_of) (sym same) ∙ at)))
+
+module _ (a b c : MachineView) (steps n : ℕ) (h next : Hand) (step : Step) (has : HasHand a b steps n h) (is : IsNextHand b.world.flight h next)
+    (young : n * 2 < steps) (f : IsFree a.count steps b.world next.position) (d : IsDelivery next.position b c step) where
+  pub in_turn : IsInTurn a.count steps (turn_of n h) b.world next.position
+  in_turn = early young is.is
+
+  pub HasHand-went : step ≡ Went → HasHand a c steps (n + 1) next
+  HasHand-went went =
+      let t : Turn = turn_of n h in
+      let there : Reaches a c steps (next_turn b.world next.position t) = Reaches-went a b c steps t next.position step has.reaches in_turn f d went in
+      let same : next_turn b.world next.position t ≡ turn_of (n + 1) next =
+      ap (λ (x : Option Context). record { handled = n + 1; position = next.position; context = x }) is.context in
+      let world : c.world ≡ delivered b.graph b.count b.world next.position = ap (λ m. m.world) d.new_is in
+      let same_count : a.count ≡ b.count = sym (has.reaches).same_count in
+      record {
+        reaches = subst (Reaches a c steps) same there;
+        is = record {
+          within = (there.goes).within;
+          behind = λ front. subst (λ (x : World). IsBehindOthers x.flight next.position (Some next.context)) (sym world)
+              (others_stay b.graph b.count steps b.world next.position (subst (λ (i : ℕ). IsFree i steps b.world next.position) same_count f) (Some next.context)
+              (is.behind front));
+        };
+      }
+
+-- the next message is not held back
+pub IsFree-next : (a b : MachineView) (steps n : ℕ) (h next : Hand) → IsFreshMachine a → HasHand a b steps n h → n * 2 < steps → steps ≤ 100000000
+    → IsNextHand b.world.flight h next → IsFree a.count steps b.world next.position
+IsFree-next a b steps n h next fresh has young few is = IsFree-young a b steps (turn_of n h) next.position fresh has.reaches (omega (arith, young)) few is.there
+
+-- from there on all before the first position are held back
+pub HoldsBefore-none : (a b : MachineView) (steps n : ℕ) (h : Hand) → HasHand a b steps n h → HoldsBefore a b steps n 0
+HoldsBefore-none a b steps n h has = record {
+  turn = turn_of n h;
+  reaches = has.reaches;
+  handled = refl;
+  held = λ j m lt at. absurd (omega (arith, lt));
+  within = omega arith;
+}
+
+pub HoldsBefore-went : (a b c : MachineView) (steps n p q : ℕ) (step : Step) → (has : HoldsBefore a b steps n p) → steps ≤ n * 2 → AreHeldBefore a.count steps b.world q
+    → IsFree a.count steps b.world q → IsDelivery q b c step → step ≡ Went → HoldsBefore a c steps (n + 1) q
+HoldsBefore-went a b c steps n p q step has old held f d went =
+    let count = has.handled in
+    let there = Reaches-went a b c steps has.turn q step has.reaches (late (omega (arith, old, count)) held) f d went in
+    let world : c.world ≡ delivered a.graph a.count b.world q =
+    ap (λ m. m.world) d.new_is ∙ ap (λ g. delivered g b.count b.world q) (has.reaches).same_graph ∙ ap (λ i. delivered a.graph i b.world q) (has.reaches).same_count in
+    record {
+      turn = next_turn b.world q has.turn;
+      reaches = there;
+      handled = ap (λ i. i + 1) has.handled;
+      held = subst (λ (x : World). AreHeldBefore a.count steps x q) (sym (world ∙ delivered-free a.graph a.count steps b.world q f)) (held_before a.graph a.count steps b.world q f held);
+      within = (there.goes).within;
+    }
+
+-- nothing is in flight
+pub HasRun-empty : (a b : MachineView) (steps : ℕ) (t : Turn) → Reaches a b steps t → length b.world.flight ≡ 0 → HasRun a b steps
+HasRun-empty a b steps t h none = HasRun-rest a b steps t 0 h (λ j m lt at. absurd (omega (arith, lt))) (sym none)
+
+-- ---- the first half of the steps
+
+-- so many are below half of them
+pub early_half : (steps n : ℕ) → n < (steps + 1) / 2 → n * 2 < steps
+early_half steps n lt = go ((steps + 1) / 2) (div-mul-le_self (steps + 1) 2) lt
+  where
+    go : (half : ℕ) → half * 2 ≤ steps + 1 → n < half → n * 2 < steps
+    go half most less = omega (arith, most, less)
+
+-- and half of them is enough
+pub late_half : (steps : ℕ) → steps ≤ (steps + 1) / 2 * 2
+late_half steps = go ((steps + 1) / 2) (lt-div-mul-add {a = steps + 1} {b = 2} (omega arith))
+  where
+    go : (half : ℕ) → steps + 1 < half * 2 + 2 → steps ≤ half * 2
+    go half less = omega (arith, less)
+
+-- half of them are no more than all elements may handle
+pub half_within : (steps count : ℕ) → 0 < count → (steps + 1) / 2 ≤ count * steps
+half_within steps (suc count) some = go ((steps + 1) / 2) (div-mul-le_self (steps + 1) 2) (omega arith)
+  where
+    go : (half : ℕ) → half * 2 ≤ steps + 1 → steps ≤ (suc count) * steps → half ≤ (suc count) * steps
+    go half most less = omega (arith, most, less)
+half_within steps zero some = absurd (omega (arith, some))

@@ -11,4 +11,5 @@ mod ServedLemmas
 mod ShownLemmas
 mod StuckLemmas
 mod TraceLemmas
+mod TurnLemmas
 mod PrintedLemmas

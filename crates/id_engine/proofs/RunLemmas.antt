@@ -115,7 +115,7 @@ IsReportOfRun-from g vs count steps m b r k from left =
     let here : IsReportFrom (record { graph = g; count = count; world = w }) b r = from_world m g count w b r k.same_graph k.world from in (
       record {
         positions = k.positions;
-        first = k.first;
+        turns = k.turns;
         few = subst (λ (x : World). All (λ s. length s.events ≤ steps) x.elements) k.world k.few;
         ended = k.ended;
         answer_is = here.answer_is;

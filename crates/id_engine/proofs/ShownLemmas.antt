@@ -146,7 +146,7 @@ module _ (text : List ℕ) (ws : List (List ℕ)) (P : Checked) (is : IsProgramO
       inputs = vs;
       are_inputs = are;
       positions = o.positions;
-      first = o.first;
+      turns = o.turns;
       few = o.few;
       events = h.events;
       traced = h.traced;

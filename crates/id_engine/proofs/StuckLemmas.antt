@@ -30,6 +30,7 @@ use Rattle.id_laws.proofs.ValidCounts.{all_among}
 use Rattle.id_engine.specs.Reports.{IsDelivery, IsFreshMachine}
 use Rattle.id_engine.proofs.NamesLemmas.{at_among}
 use Rattle.id_engine.proofs.RunLemmas.{run-append}
+use Rattle.id_engine.specs.Runs.{Turn}
 use Rattle.id_engine.proofs.DeliveryLemmas.{Reaches}
 
 -- the event of an element that takes a message is in its record afterwards
@@ -62,8 +63,8 @@ delivered_event : (g : Parts) (count : ℕ) (s : World) (k : ℕ) (v : EventView
 delivered_event g count s k v h = routed_event g count k s (slice_get s.flight k) v h
 
 -- no delivery to a machine that runs a schemas' graph is stuck
-pub not_stuck : NeverStuck → (a b c : MachineView) (steps n p q : ℕ) (step : Step) → IsFreshMachine a → Reaches a b steps n p → IsDelivery q b c step → step ≢ Stuck
-not_stuck never a b c steps n p q step fresh h d stuck =
+pub not_stuck : NeverStuck → (a b c : MachineView) (steps : ℕ) (t : Turn) (q : ℕ) (step : Step) → IsFreshMachine a → Reaches a b steps t → IsDelivery q b c step → step ≢ Stuck
+not_stuck never a b c steps t q step fresh h d stuck =
     let S = fresh.origin in
     let ks = (h.goes).positions in
     let shown : Among d.event (events_of (delivered b.graph b.count b.world q).elements) = delivered_event b.graph b.count b.world q d.event d.made in

@@ -1,5 +1,5 @@
 -- The report of a run of a text's program, and deliveries to a machine.
-use Rattle.std.specs.Prelude.{◌≡◌, ◌≤◌, ◌<◌, ◌⊎◌, ℕ, Bool, IsTrue, IsFalse, List, [], ◌++◌, All, length, Option, Some}
+use Rattle.std.specs.Prelude.{◌≡◌, ◌≤◌, ◌<◌, ◌+◌, ◌⊎◌, ℕ, Bool, IsTrue, IsFalse, List, [], ◌++◌, All, length, Option, Some}
 use Rattle.std.specs.Prelude.{IfSome, Result, Ok, Err, slice_get}
 use Rattle.id_check.specs.declared.checked.Checked.{Checked}
 use Rattle.id_value.specs.declared.Constant.{Constant}
@@ -15,6 +15,7 @@ use Rattle.id_build.specs.Schemas.{Schemas}
 use Rattle.id_build.specs.Rows.{size}
 use Rattle.id_graph.specs.Graph.{Parts}
 use Rattle.id_tag.specs.declared.Message.{Message}
+use Rattle.id_flight.specs.Queues.{context_at}
 use Rattle.id_record.specs.declared.step.Step.{Step}
 use Rattle.id_core.specs.declared.machine.Came.{Came}
 use Rattle.id_core.specs.Events.{EventView}
@@ -36,7 +37,9 @@ use Rattle.id_engine.specs.declared.compiled.CompileError.TheVariants as compile
 use Rattle.id_engine.specs.declared.error.EngineError.{EngineError}
 use Rattle.id_engine.specs.declared.error.EngineError.TheVariants.{BadElements, BadSteps, BadRounds, TooManyFacts}
 use Rattle.id_engine.specs.declared.error.EngineError.TheVariants.{Memory, Write}
-use Rattle.id_engine.specs.Runs.{AreOfFirst, EndsAt, IsHeldBack, IsTraceOf, after, held_of}
+use Rattle.id_engine.specs.Runs.{AreInTurn, EndsAt, IsBehindOthers, IsHeldBack, IsNext, IsTraceOf, after, first_turn}
+use Rattle.id_engine.specs.Runs.{held_of}
+use Rattle.id_engine.specs.declared.run.Hand.{Hand}
 
 -- the status of an ending
 abbrev pub status_of : Ending → ℕ
@@ -93,7 +96,7 @@ pub data HasEnded (g : Parts) (count steps : ℕ) (w : World) (ks : List ℕ) : 
 -- has handled at most so many messages
 pub record IsReportOfRun (g : Parts) (vs : List Constant) (count steps : ℕ) (b : Bool) (r : Report) : Type 0 where
   pub positions : List ℕ
-  pub first : AreOfFirst g count steps positions (start g vs count)
+  pub turns : AreInTurn g count steps first_turn positions (start g vs count)
   pub few : All (λ s. length s.events ≤ steps) (after g vs count positions).elements
   pub ended : HasEnded g count steps (start g vs count) positions
   pub answer_is : r.answer ≡ answer g (after g vs count positions)
@@ -153,20 +156,38 @@ pub record IsFreshMachine (m : MachineView) : Type 0 where
   pub few : m.count ≤ 64
   pub world : m.world ≡ start m.graph origin.inputs m.count
 
--- deliveries to a machine, each of the first message that is not held back, have come to an end: each element has
--- handled at most so many messages
+-- deliveries to a machine, each in its turn, have come to an end: each element has handled at most so many messages
 pub record HasRun (old new : MachineView) (steps : ℕ) : Type 0 where
   pub positions : List ℕ
   pub same_graph : new.graph ≡ old.graph
   pub same_count : new.count ≡ old.count
   pub world : new.world ≡ run old.graph old.count positions old.world
-  pub first : AreOfFirst old.graph old.count steps positions old.world
+  pub turns : AreInTurn old.graph old.count steps first_turn positions old.world
   pub few : All (λ s. length s.events ≤ steps) new.world.elements
   pub ended : HasEnded old.graph old.count steps old.world positions
 
 -- the message at this position is held back
 abbrev pub IsHeldAt : ℕ → ℕ → World → ℕ → Type 0
 IsHeldAt count steps w k = (m : Message) → slice_get w.flight k ≡ Some m → IsHeldBack count steps w m
+
+-- what is at hand is so of these messages: the position is not behind their end, and where none in front of it may be of
+-- the context, none is
+pub record IsHand (ms : List Message) (h : Hand) : Type 0 where
+  pub within : h.position ≤ length ms
+  pub behind : IsFalse h.may_be_in_front → IsBehindOthers ms h.position (Some h.context)
+
+-- behind what was at hand, this is at hand next
+pub record IsNextHand (ms : List Message) (old new : Hand) : Type 0 where
+  pub is : IsNext ms old.position (Some old.context) new.position
+  pub there : new.position < length ms
+  pub context : context_at ms new.position ≡ Some new.context
+  pub behind : IsFalse new.may_be_in_front → IsBehindOthers ms new.position (Some new.context)
+
+-- the last of these messages is at hand
+pub record IsLastHand (ms : List Message) (h : Hand) : Type 0 where
+  pub last : h.position + 1 ≡ length ms
+  pub context : context_at ms h.position ≡ Some h.context
+  pub front : IsTrue h.may_be_in_front
 
 -- delivering the message at this position makes an event
 abbrev pub HasEvent : MachineView → ℕ → Type 0

@@ -1,10 +1,12 @@
 -- Runs of the engine: which messages are delivered, and what is printed of them (docs/PROMISES.md, "The run").
-use Rattle.std.specs.Prelude.{◌≡◌, ◌≢◌, ◌<◌, ◌≤◌, ◌⊎◌, ℕ, Bool, IsTrue, IsFalse, List, [], ◌∷◌, ◌++◌, All, length}
+use Rattle.std.specs.Prelude.{◌≡◌, ◌≢◌, ◌<◌, ◌≤◌, ◌+◌, ◌*◌, ◌⊎◌, ℕ, Bool, IsTrue, IsFalse, List, [], ◌∷◌, ◌++◌, All, length}
 use Rattle.std.specs.Prelude.{slice_get, Option, Some, Ok}
 use Rattle.id_check.specs.declared.checked.Checked.{Checked}
 use Rattle.id_graph.specs.Graph.{Parts}
+use Rattle.id_tag.specs.declared.Context.{Context}
 use Rattle.id_tag.specs.declared.Message.{Message}
 use Rattle.id_tag.specs.Routes.{route_of}
+use Rattle.id_flight.specs.Queues.{context_at}
 use Rattle.id_value.specs.declared.Constant.{Constant}
 use Rattle.id_meaning.specs.declared.Ask.{Ask}
 use Rattle.id_meaning.specs.declared.SourceFault.{SourceFault}
@@ -14,6 +16,7 @@ use Rattle.id_build.specs.Schemas.{Schemas}
 use Rattle.id_core.specs.Steps.{State, is_ended}
 use Rattle.id_core.specs.Events.{EventView}
 use Rattle.id_core.specs.Firsts.{AreMergedOf}
+use Rattle.id_core.specs.Flights.{AreOthers}
 use Rattle.id_core.specs.Machines.{World, IsQuiet, delivered, run, start}
 use Rattle.id_core.specs.Observed.{answer, faults, names, waiting}
 use Rattle.id_print.specs.Told.{Told, Prints}
@@ -53,11 +56,48 @@ abbrev pub AreHeldBefore : ℕ → ℕ → World → ℕ → Type 0
 AreHeldBefore count steps w k =
     (j : ℕ) (m : Message) → j < k → slice_get w.flight j ≡ Some m → IsHeldBack count steps w m
 
--- each of these deliveries, one after another, is of the first message that is not held back
-abbrev pub AreOfFirst : Parts → ℕ → ℕ → List ℕ → World → Type 0
-AreOfFirst g count steps [] w = Unit {0}
-AreOfFirst g count steps (k ∷ ks) w =
-    AreHeldBefore count steps w k × IsFree count steps w k × AreOfFirst g count steps ks (delivered g count w k)
+-- where a run has come to: how many messages were handled in all, at which position the last one stood, and the context
+-- at hand, which was that one's
+pub record Turn : Type 0 where
+  pub handled : ℕ
+  pub position : ℕ
+  pub context : Option Context
+
+-- the turn at a run's start: main's context is at hand
+abbrev pub first_turn : Turn
+first_turn = record { handled = 0; position = 0; context = Some (record { element = 0; serial = 0 }) }
+
+-- the turn after a delivery of the message at this position
+abbrev pub next_turn : World → ℕ → Turn → Turn
+next_turn w k t = record { handled = t.handled + 1; position = k; context = context_at w.flight k }
+
+-- the message right in front of this position is not of this context
+abbrev pub IsBehindOthers : List Message → ℕ → Option Context → Type 0
+IsBehindOthers ms position c = (k : ℕ) → k + 1 ≡ position → context_at ms k ≢ c
+
+-- which message is next, behind one of this context that stood at this position
+pub data IsNext (ms : List Message) (position : ℕ) (c : Option Context) : ℕ → Type 0 where
+  -- the one right in front of it, where that is of the same context
+  in_front : (k : ℕ) → k + 1 ≡ position → context_at ms k ≡ c → IsNext ms position c k
+  -- or else the first of that context from there on
+  behind : (k : ℕ) → IsBehindOthers ms position c → position ≤ k → AreOthers ms position k c → context_at ms k ≡ c
+      → IsNext ms position c k
+  -- or else the last of all
+  last : (k : ℕ) → IsBehindOthers ms position c → AreOthers ms position (length ms) c → k + 1 ≡ length ms
+      → IsNext ms position c k
+
+-- this delivery is of the next message, where fewer were handled in all than half of those that each element may handle,
+-- and else of the first that is not held back
+pub data IsInTurn (count steps : ℕ) (t : Turn) (w : World) (k : ℕ) : Type 0 where
+  early : t.handled * 2 < steps → IsNext w.flight t.position t.context k → IsInTurn count steps t w k
+  late : steps ≤ t.handled * 2 → AreHeldBefore count steps w k → IsInTurn count steps t w k
+
+-- each of these deliveries, one after another, is in its turn, and of a message that is not held back
+abbrev pub AreInTurn : Parts → ℕ → ℕ → Turn → List ℕ → World → Type 0
+AreInTurn g count steps t [] w = Unit {0}
+AreInTurn g count steps t (k ∷ ks) w =
+    IsInTurn count steps t w k × IsFree count steps w k
+    × AreInTurn g count steps (next_turn w k t) ks (delivered g count w k)
 
 -- what is traced of a machine: all its events, by stamp, and at one stamp by element, where they are asked for, and
 -- else none
@@ -104,7 +144,7 @@ pub record Ran (text : List ℕ) (words : List (List ℕ)) (count : ℕ) (t : Bo
   pub inputs : List Constant
   pub are_inputs : AreInputsOf program words inputs
   pub positions : List ℕ
-  pub first : AreOfFirst graph count steps positions (start graph inputs count)
+  pub turns : AreInTurn graph count steps first_turn positions (start graph inputs count)
   pub few : All (λ s. length s.events ≤ steps) (after graph inputs count positions).elements
   pub events : List EventView
   pub traced : IsTraceOf t (after graph inputs count positions) events

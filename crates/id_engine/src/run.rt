@@ -1,6 +1,7 @@
 //! A text, compiled, run and printed.
 
-ghost use Rattle.std.specs.Prelude.{◌≡◌, ◌≢◌, ◌<◌, ◌≤◌, ◌++◌, ◌↔◌, length, map, IsTrue, IsFalse, IfOk, IfErr, OnOk};
+ghost use Rattle.std.specs.Prelude.{◌≡◌, ◌≢◌, ◌<◌, ◌≤◌, ◌-◌, ◌++◌, ◌↔◌, length, map, IsTrue, IsFalse};
+ghost use Rattle.std.specs.Prelude.{IfErr, IfOk, OnOk, Some};
 ghost use Rattle.id_core.specs.Machines.{TakesInputs, start};
 ghost use Rattle.id_meaning.specs.Sources.{AreInputs};
 ghost use Rattle.id_print.specs.Reports.{report_text};
@@ -12,16 +13,18 @@ ghost use Rattle.id_engine.specs.Commands.{Run, ShowsAll, ShowsFront};
 ghost use Rattle.id_engine.specs.Programs.{IsPlacedWithin};
 ghost use Rattle.id_engine.specs.Refusals.{IsInsideOf, IsRefusedRun, IsTakenRun};
 ghost use Rattle.id_engine.specs.Reports.{AreAllowed, HasCount, HasEvent, HasRun, IsDelivered, IsFreshMachine};
-ghost use Rattle.id_engine.specs.Reports.{IsHeldAt, IsReportFrom, PrintsRun, RunsSo, status_of};
+ghost use Rattle.id_engine.specs.Reports.{IsHand, IsHeldAt, IsLastHand, IsNextHand, IsReportFrom, PrintsRun, RunsSo};
+ghost use Rattle.id_engine.specs.Reports.{status_of};
+ghost use Rattle.id_flight.specs.Queues.{context_at};
 ghost use Rattle.id_core.specs.declared.machine.Came.TheVariants as comes;
-ghost use Rattle.id_engine.specs.Runs.{AreHeldBefore, IsFree, IsTraceOf, Ran};
+ghost use Rattle.id_engine.specs.Runs.{AreHeldBefore, IsBehindOthers, IsFree, IsTraceOf, Ran};
 
 use crate::error::EngineError;
 use crate::prepared::{Prepared, prepare};
 use id_core::{Came, MAX_ELEMENTS, Machine, MachineError, Merged, TakeError, merge_records};
 use id_meaning::Inputs;
 use id_print::{Ending, PrintError, Report, Sink, run_report, write_report, write_trace};
-use id_tag::route;
+use id_tag::{Context, route};
 use id_valid::Valid;
 use std::alloc::{AllocError, Global};
 
@@ -122,6 +125,65 @@ fn next_free(machine: &Machine<'_>, from: usize, count: u32, steps: u64, handled
     }
 }
 
+/// What a run has at hand: the position at which the last message stood, its context, and whether the one right in
+/// front of it may be of the same context.
+#[derive(Clone, Copy)]
+struct Hand {
+    position: usize,
+    context: Context,
+    may_be_in_front: bool,
+}
+
+/// Whether the message right in front of a position is of this context.
+#[inline(never)]
+fn is_in_front(machine: &Machine<'_>, position: usize, context: Context) -> bool
+    requires { position ≤ length machine.now.world.flight }
+    ensures some { IsTrue result → 0 < position }
+    ensures is { IsTrue result → context_at machine.now.world.flight (position - 1) ≡ Some context }
+    ensures behind { IsFalse result → IsBehindOthers machine.now.world.flight position (Some context) }
+{
+    position > 0 && machine.in_flight().context(position - 1) == context
+}
+
+/// Takes the last message in flight to hand, if there is one.
+#[inline(always)]
+fn turn_to_last(machine: &Machine<'_>, hand: &mut Hand) -> bool
+    ensures some { IsTrue result → IsLastHand machine.now.world.flight hand.new }
+    ensures none { IsFalse result → length machine.now.world.flight ≡ 0 }
+{
+    let flight = machine.in_flight();
+    let len = flight.len();
+    if len == 0 {
+        return false;
+    }
+    hand.position = len - 1;
+    hand.context = flight.context(len - 1);
+    hand.may_be_in_front = true;
+    true
+}
+
+/// Takes the next message behind what is at hand to hand, if any is in flight.
+#[inline(always)]
+fn turn(machine: &Machine<'_>, hand: &mut Hand) -> bool
+    requires { IsHand machine.now.world.flight hand.old }
+    ensures some { IsTrue result → IsNextHand machine.now.world.flight hand.old hand.new }
+    ensures none { IsFalse result → length machine.now.world.flight ≡ 0 }
+{
+    if hand.may_be_in_front && is_in_front(machine, hand.position, hand.context) {
+        hand.position -= 1;
+        return true;
+    }
+    let next = machine.in_flight().first_of(hand.position, hand.context);
+    match next {
+        Some(position) => {
+            hand.position = position;
+            hand.may_be_in_front = false;
+            true
+        }
+        None => turn_to_last(machine, hand),
+    }
+}
+
 /// Delivers the message at a position, for which a stamp is left, and says what the event came to.
 #[inline(always)]
 fn deliver(machine: &mut Machine<'_>, position: usize) -> Result<Came, EngineError>
@@ -138,8 +200,10 @@ fn deliver(machine: &mut Machine<'_>, position: usize) -> Result<Came, EngineErr
     }
 }
 
-/// Delivers messages, each time the first that is not held back, until there is none, or at the first fault. No message
-/// before `position` is looked at again: what is held back stays so, and what is sent goes last.
+/// Delivers messages until there is none that is not held back, or at the first fault. While fewer were handled in all
+/// than half of those that each element may handle, it goes on with the context at hand as long as it can, and none is
+/// held back. From then on it takes the first that is not held back, and looks at no message in front of that again:
+/// what is held back stays so, and what is sent goes last.
 fn run_machine(machine: &mut Machine<'_>, count: u32, steps: u64) -> Result<(), EngineError>
     requires fresh { IsFreshMachine machine.old }
     requires count { machine.old.count ≡ count }
@@ -148,10 +212,28 @@ fn run_machine(machine: &mut Machine<'_>, count: u32, steps: u64) -> Result<(), 
     ensures memory { IfErr result (λ e. e ≡ EngineError.Memory) }
 {
     id_laws::never_stuck();
+    let mut hand = Hand {
+        position: 0,
+        context: Context {
+            element: 0,
+            serial: 0,
+        },
+        may_be_in_front: false,
+    };
+    let half = (steps + 1) / 2;
+    for handled in 0..half {
+        if !turn(machine, &mut hand) {
+            return Ok(());
+        }
+        let came = deliver(machine, hand.position)?;
+        if !goes_on(came) {
+            return Ok(());
+        }
+    }
     let most = (count as u64) * steps;
     let mut position = 0usize;
-    for handled in 0..most {
-        position = next_free(machine, position, count, steps, handled);
+    for more in half..most {
+        position = next_free(machine, position, count, steps, more);
         if position == machine.in_flight().len() {
             return Ok(());
         }
@@ -319,7 +401,8 @@ pub fn engine<W: Sink>(
     ensures shown { IfOk result
         (ShowsAll (Run names trace (map (λ w. w.now) inputs.now)) text.now (W.told out.old) (W.told out.new)) }
 
-    // It is a run: the first message that is not held back is delivered, until there is none, or at a fault.
+    // It is a run: each time the message is delivered whose turn it is, until there is none that is not held back, or
+    // at a fault.
     ensures ran { IfOk result
         (Ran text.now (map (λ w. w.now) inputs.now) count trace steps names (W.told out.old) (W.told out.new)) }
 

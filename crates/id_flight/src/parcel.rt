@@ -8,6 +8,7 @@ ghost use Rattle.id_tag.specs.declared.Payload.TheVariants.{Token, Read, Write};
 ghost use Rattle.id_graph.specs.declared.dests.Port.{Port};
 ghost use Rattle.id_flight.specs.declared.parcel.What.TheVariants.{Aside};
 ghost use Rattle.id_flight.specs.Parcels.{IsPacked, IsWithin, cell_in, like, own, said, structure_in, tag_in, unpacked};
+ghost use Rattle.id_flight.specs.Queues.{context_of};
 ghost use Rattle.id_tag.specs.declared.plain.Plain.{Plain};
 ghost use Rattle.id_tag.specs.Plains.{cell_of, message_of, tag_in as tag_of, whole};
 
@@ -145,6 +146,29 @@ pub(crate) fn plain_in(parcel: &Parcel) -> Option<PlainToken>
     match parcel.what {
         What::Plain(value) => Some(plain_token(parcel, value)),
         _ => None,
+    }
+}
+
+/// The context of a parcel's message.
+#[inline(always)]
+pub(crate) fn context_in(asides: &[Message], parcel: &Parcel) -> Context
+    requires { IsWithin asides.now parcel.now }
+    ensures { result ≡ context_of (unpacked asides.now parcel.now) }
+{
+    match parcel.what {
+        What::Aside(index) => context_of(&asides[index]),
+        _ => tag_of(parcel).context,
+    }
+}
+
+/// The context of a message.
+fn context_of(message: &Message) -> Context
+    ensures { result ≡ context_of message.now }
+{
+    match message.payload {
+        Payload::Token { tag, .. } => tag.context,
+        Payload::Read { reply, .. } => reply.context,
+        Payload::Write { origin, .. } => origin.context,
     }
 }
 

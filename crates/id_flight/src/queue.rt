@@ -5,10 +5,11 @@ ghost use Rattle.id_flight.specs.declared.parcel.Parcel.{Parcel};
 ghost use Rattle.id_flight.specs.Parcels.{IsWithin, unpacked};
 
 use crate::parcel::{
-    Parcel, packed, packed_plain, packed_read, packed_write, parcel_aside, plain_in, unpack,
+    Parcel, context_in, packed, packed_plain, packed_read, packed_write, parcel_aside, plain_in,
+    unpack,
 };
 use crate::row::Row;
-use id_tag::{Message, PlainCell, PlainToken};
+use id_tag::{Context, Message, PlainCell, PlainToken};
 use std::alloc::{AllocError, Global};
 use std::marker::Model;
 
@@ -38,7 +39,8 @@ impl Model for Queue {
 impl Queue {
     ghost use Rattle.std.specs.Prelude.{◌≡◌, ◌<◌, ◌≤◌, ◌+◌, ◌^◌, ◌==◌, ◌++◌, ◌∷◌, ◌↔◌, [], drop};
     ghost use Rattle.std.specs.Prelude.{length, slice_get, Some};
-    ghost use Rattle.std.specs.Prelude.{option_to_list, IfSome, IsSome, OnErr, OnOk};
+    ghost use Rattle.id_flight.specs.Queues.{context_at};
+    ghost use Rattle.std.specs.Prelude.{option_to_list, IfSome, IsSome, IsTrue, OnErr, OnOk};
     ghost use Rattle.id_tag.specs.Plains.{cell_of, message_of, tag_in};
     ghost use Rattle.id_tag.specs.declared.Payload.TheVariants.{Read, Write};
     ghost use Rattle.id_tag.specs.declared.Value.TheVariants as value;
@@ -88,6 +90,27 @@ impl Queue {
         ensures { IfSome result (λ t. slice_get self.now.messages position ≡ Some (message_of t)) }
     {
         plain_in(self.parcels.at(position))
+    }
+
+    /// The context of the message at a position, from 0. Takes no memory.
+    #[inline(always)]
+    pub fn context(&self, position: usize) -> Context
+        requires { position < length self.now.messages }
+        ensures { context_at self.now.messages position ≡ Some result }
+    {
+        let parcel = self.parcels.at(position);
+        context_in(self.asides.as_slice(), parcel)
+    }
+
+    /// Whether the first message is there and of this context. Takes no memory.
+    #[inline(always)]
+    pub fn is_first_of(&self, context: Context) -> bool
+        ensures { IsTrue result ↔ (context_at self.now.messages 0 ≡ Some context) }
+    {
+        match self.parcels.first() {
+            Some(parcel) => context_in(self.asides.as_slice(), parcel) == context,
+            None => false,
+        }
     }
 
     /// Makes room for so many messages more.
@@ -194,6 +217,7 @@ impl Queue {
     }
 
     /// Takes out the last message, if there is one. Takes no memory.
+    #[inline(always)]
     pub fn pop_back(&mut self) -> Option<Message>
         ensures messages { self.old.messages ≡ self.new.messages ++ option_to_list result }
         ensures variant { IsSome result ↔ (0 < length self.old.messages) }

@@ -39,7 +39,7 @@ impl Model for Row {
 
 impl Row {
     ghost use Rattle.std.specs.Prelude.{◌≡◌, ◌<◌, ◌≤◌, ◌+◌, ◌^◌, ◌++◌, ◌∷◌, ◌==◌, ◌↔◌, [], drop, length, slice_get};
-    ghost use Rattle.std.specs.Prelude.{option_to_list, IsTrue, IsSome, OnErr, OnOk, Some};
+    ghost use Rattle.std.specs.Prelude.{option_copied, option_to_list, IsTrue, IsSome, OnErr, OnOk, Some};
 
     /// The empty row. Takes no memory.
     pub(crate) fn new(alloc: Global) -> Row
@@ -73,6 +73,18 @@ impl Row {
             &self.front[self.left + position]
         } else {
             &self.back[position - ahead]
+        }
+    }
+
+    /// The first parcel, if there is one. Takes no memory.
+    #[inline(always)]
+    pub(crate) fn first(&self) -> Option<&Parcel>
+        ensures { option_copied result ≡ slice_get self.now.items 0 }
+    {
+        if self.left < self.front.len() {
+            Some(&self.front[self.left])
+        } else {
+            self.back.as_slice().first()
         }
     }
 

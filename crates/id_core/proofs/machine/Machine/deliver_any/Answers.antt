@@ -42,7 +42,7 @@ element_after c = c.in_ok-step.ensures.state
 -- the messages in flight afterwards
 flight_after : (c : goal.In_ok-step) → c.give_next.new.self.messages ≡ remove c.self.inside.flight.messages c.args.position ++ outputs_of c.index_mut.result.now.graph c.index_mut.result.now.number c.index_mut.result.now.state c.message-message.result
 flight_after c =
-    rw (c.in_ok-step.ensures.messages, c.in_ok-open.ensures.gap, c.open.ensures.messages) refl
+    rw (c.in_ok-step.ensures.messages, c.open.ensures.messages) refl
 
 pub returns-clause-world : goal.returns-clause-world
 returns-clause-world c =

@@ -47,7 +47,7 @@ element_after c h = c.in_ok-short.ensures.state h
 -- the messages in flight afterwards
 flight_after : (c : goal.In_ok-short) → IsHandled c.in_ok-short.short → c.give_plain.new.self.messages ≡ remove c.self.inside.flight.messages c.args.position ++ outputs_of c.index_mut.result.now.graph c.index_mut.result.now.number c.index_mut.result.now.state (message_of c.args.token.now)
 flight_after c h =
-    rw (c.in_ok-short.ensures.messages h, c.in_ok-open.ensures.gap, c.open.ensures.messages) refl
+    rw (c.in_ok-short.ensures.messages h, c.open.ensures.messages) refl
 
 -- and where the token was not handled
 element_apart : (c : goal.In_ok-short) → c.in_ok-short.short ≡ Apart → c.give_plain.new.element ≡ c.index_mut.result.now
