@@ -5,3 +5,4 @@ pub mod OrderedLemmas
 pub mod MergedLemmas
 pub mod RecordsLemmas
 pub mod FirstsLemmas
+pub mod MarkedLemmas

@@ -19,6 +19,7 @@ use Rattle.id_tag.specs.declared.Payload.TheVariants.{Token, Read, Write}
 use Rattle.id_tag.specs.declared.Structure.{Structure}
 use Rattle.std.specs.HashMap.{get}
 use Rattle.id_tag.specs.Tags.{same_structure, same_tag}
+use Rattle.id_observe.specs.declared.paths.Making.{Making}
 use Rattle.id_observe.specs.declared.paths.Paths.{Paths}
 use Rattle.id_observe.specs.Paths.{is_alloc, path_by}
 use Rattle.id_meaning.specs.declared.SourceValue.{SourceValue}
@@ -225,6 +226,10 @@ structure_by p s = name_by p.graph.now (path_by p) (get same_structure p.makers 
 -- the first value that the records of these elements brought to instruction 0 under main's tag
 abbrev pub first_value : List State → Option Value
 first_value elements = slice_get (answers (events_of elements)) 0
+
+-- the structure that was made so, where each tag has this path
+abbrev pub shape_at : Parts → (Tag → Path) → Making → Shape
+shape_at g path m = record { name = site_at g path m.tag; low = m.structure.low; high = m.structure.high }
 
 -- no instruction makes structures
 abbrev pub MakesNone : Parts → Type 0

@@ -1,6 +1,7 @@
 -- Paths of tags, and which tag made a structure (docs/MACHINE.md, "Paths of tags").
-use Rattle.std.specs.Prelude.{ℕ, zero, suc, ◌-◌, ◌==◌, Bool, true, false, List, [], ◌∷◌, ◌++◌, length, Option, Some}
-use Rattle.std.specs.Prelude.{None, slice_get, option_map, if◌then◌else◌}
+use Rattle.std.specs.Prelude.{ℕ, zero, suc, ◌-◌, ◌==◌, ◌||◌, Bool, true, false, List, [], ◌∷◌, ◌++◌, length, map}
+use Rattle.std.specs.Prelude.{Option, Some, None, slice_get, option_map, if◌then◌else◌}
+use Rattle.std.specs.List.{filter_map}
 use Rattle.std.specs.HashMap.{get}
 use Rattle.std.specs.Option.{option_map_or, option_or}
 use Rattle.id_graph.specs.declared.instr.Op.{Op}
@@ -18,6 +19,7 @@ use Rattle.id_tag.specs.Tags.{same_context, same_structure}
 use Rattle.id_ops.specs.declared.Fired.{Fired}
 use Rattle.id_ops.specs.declared.Fired.TheVariants.{Out}
 use Rattle.id_record.specs.Events.{EventView, tag_of}
+use Rattle.id_observe.specs.declared.paths.Making.{Making}
 use Rattle.id_observe.specs.declared.paths.Paths.{Paths}
 use Rattle.id_meaning.specs.declared.Path.{Path}
 use Rattle.id_meaning.specs.declared.PathStep.{PathStep}
@@ -102,6 +104,14 @@ maker_in g (e ∷ es) s = option_or (maker_in g es s) (maker_of g e s)
 
 -- For use inside.
 
+-- the structure that an event made, with the tag under which it did
+abbrev pub making_of : Parts → EventView → Option Making
+making_of g e = option_map (λ s. record { structure = s; tag = tag_of e.message.payload }) (made g e)
+
+-- the structures that these events made, in their order
+abbrev pub makings_of : Parts → List EventView → List Making
+makings_of g es = filter_map (making_of g) es
+
 -- whether an instruction is an `alloc`
 abbrev pub is_alloc : Option Op → Bool
 is_alloc (Some Alloc) = true
@@ -111,6 +121,14 @@ is_alloc _ = false
 abbrev pub is_enter : Option Op → Bool
 is_enter (Some (Enter b r)) = true
 is_enter _ = false
+
+-- whether the events of an instruction tell of paths or structures
+abbrev pub is_telling : Op → Bool
+is_telling o = is_enter (Some o) || is_alloc (Some o)
+
+-- of each instruction, by number, whether its events do
+abbrev pub telling_marks : Parts → List Bool
+telling_marks g = map (λ i. is_telling i.op) g.instrs
 
 -- the path of a tag, where these tables tell under which tag each context was entered, and how many steps it has at
 -- most

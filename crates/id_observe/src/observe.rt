@@ -13,19 +13,18 @@ ghost use Rattle.id_valid.specs.Validator.{is_value};
 ghost use Rattle.id_observe.specs.Observed.{answer_in, answers, ask_of, brought, cells_in, claims, events_of, fault_of};
 ghost use Rattle.id_observe.specs.Observed.{faults_in, faults_of, first_value, is_label, is_next, is_value_merge};
 ghost use Rattle.id_observe.specs.Observed.{label_marks, main_tag, name_at, name_in, names_in, names_of, put_of};
-ghost use Rattle.id_observe.specs.Observed.{HaveNoCells, MakesNone, shape_of};
-ghost use Rattle.id_observe.specs.Observed.{second_store, shapes_of, site_at, site_cmp, source_value, structure_by};
+ghost use Rattle.id_observe.specs.Observed.{HaveNoCells, MakesNone, shape_at};
+ghost use Rattle.id_observe.specs.Observed.{second_store, site_cmp, source_value, structure_by};
 ghost use Rattle.id_observe.specs.Observed.{structures_in, waiting_in};
-ghost use Rattle.id_observe.specs.Paths.{made_by, path_by, place_of};
+ghost use Rattle.id_observe.specs.Paths.{path_by, place_of};
 
-use crate::paths::{Paths, is_alloc, made};
+use crate::paths::{Making, Paths, is_alloc};
 use id_bank::{Filled, Reader};
-use id_element::{Element, op_at};
+use id_element::Element;
 use id_graph::{Graph, Instr, Op, PortKind};
 use id_list::Sequence;
 use id_meaning::{Ask, NameValue, Put, Shape, Site, SourceFault, SourceValue};
-use id_ops::Fired;
-use id_record::{Events, Fault, Step, tag_of};
+use id_record::{Events, Fault, Step};
 use id_tag::{Context, Payload, Tag, Value};
 use id_valid::Valid;
 use std::alloc::{AllocError, Global};
@@ -65,7 +64,7 @@ pub fn observe_records(
 {
     let paths = Paths::new(alloc, graph.graph(), elements)?;
     let names = all_names(alloc, &paths, elements)?;
-    let structures = all_structures(alloc, &paths, elements)?;
+    let structures = all_structures(alloc, &paths)?;
     let cells = all_cells(alloc, &paths, elements)?;
     let waiting = all_waiting(alloc, &paths, elements)?;
     let faults = all_faults(alloc, &paths, elements)?;
@@ -107,7 +106,7 @@ pub fn observe_holdings(
         return Ok(no_holdings(alloc));
     }
     let paths = Paths::new(alloc, graph.graph(), elements)?;
-    let structures = all_structures(alloc, &paths, elements)?;
+    let structures = all_structures(alloc, &paths)?;
     let cells = all_cells(alloc, &paths, elements)?;
     let waiting = all_waiting(alloc, &paths, elements)?;
     Ok(Holdings {
@@ -367,31 +366,26 @@ fn first_value(elements: &[Element<'_>]) -> Option<Value>
     None
 }
 
-/// The first value that one of these events brought to the answer.
+/// The first value that one of these events brought to the answer. What comes to another instruction is not looked at.
 fn first_answer(events: &Events<'_>) -> Option<Value>
     ensures { result ≡ slice_get (answers events.now) 0 }
 {
-    for position in 0..events.len() {
-        let value = brought_at(events, position);
+    let mut from = 0;
+    loop {
+        let position = events.next_marked(&FIRST, from);
+        if position >= events.len() {
+            return None;
+        }
+        let value = brought(&events.payload(position));
         if value.is_some() {
             return value;
         }
+        from = position + 1;
     }
-    None
 }
 
-/// The value that the event at a position brought to the answer. What comes to another instruction is not looked at.
-fn brought_at(events: &Events<'_>, position: usize) -> Option<Value>
-    requires { position < length events.now }
-    ensures { option_map (λ e. brought e.message.payload) (slice_get events.now position) ≡ Some result }
-{
-    let instr = events.instr(position);
-    if instr == 0 {
-        brought(&events.payload(position))
-    } else {
-        None
-    }
-}
+/// The mark of instruction 0.
+const FIRST: [bool; 1] = [true];
 
 /// The value that a token brings to instruction 0 under main's tag.
 fn brought(payload: &Payload) -> Option<Value>
@@ -455,95 +449,27 @@ fn value_in(
     }
 }
 
-/// The structures that these records show.
-fn all_structures(
-    alloc: Global,
-    paths: &Paths<'_>,
-    elements: &[Element<'_>],
-) -> Result<Vec<Shape>, AllocError>
+/// The structures that were made.
+fn all_structures(alloc: Global, paths: &Paths<'_>) -> Result<Vec<Shape>, AllocError>
     ensures { IfOk result
-        (λ v. v.items
-        ≡ shapes_of paths.now.graph.now (path_by paths.now) (events_of (map (λ e. e.state) elements.now))) }
+        (λ v. v.items ≡ map (shape_at paths.now.graph.now (path_by paths.now)) paths.now.makings.items) }
 {
     let mut shapes = Vec::new(alloc);
-    for element in elements {
-        add_shapes(alloc, paths, &element.events(), &mut shapes)?;
+    for making in paths.makings() {
+        shapes.push(shape_at(alloc, paths, *making)?)?;
     }
     Ok(shapes)
 }
 
-/// Adds the structures that these events made.
-fn add_shapes(
-    alloc: Global,
-    paths: &Paths<'_>,
-    events: &Events<'_>,
-    shapes: &mut Vec<Shape>,
-) -> Result<(), AllocError>
-    ensures { OnOk result
-        (shapes.new.items ≡ shapes.old.items ++ shapes_of paths.now.graph.now (path_by paths.now) events.now) }
+/// The structure that was made so.
+fn shape_at(alloc: Global, paths: &Paths<'_>, making: Making) -> Result<Shape, AllocError>
+    ensures { IfOk result (λ s. s ≡ shape_at paths.now.graph.now (path_by paths.now) making) }
 {
-    for position in 0..events.len() {
-        add_shape_at(alloc, paths, events, position, shapes)?;
-    }
-    Ok(())
-}
-
-/// Adds the structure that the event at a position made, if it made one. An event of no `alloc` is not looked at.
-fn add_shape_at(
-    alloc: Global,
-    paths: &Paths<'_>,
-    events: &Events<'_>,
-    position: usize,
-    shapes: &mut Vec<Shape>,
-) -> Result<(), AllocError>
-    requires { position < length events.now }
-    ensures { OnOk result
-        ((e : EventView)
-        → slice_get events.now position ≡ Some e
-        → shapes.new.items ≡ shapes.old.items ++ cons_option (shape_of paths.now.graph.now (path_by paths.now) e) []) }
-{
-    if is_alloc(op_at(paths.graph(), events.instr(position))) {
-        let event = events.event(position);
-        let tag = tag_of(&event.message.payload);
-        add_shape(shape_of(alloc, paths, tag, event.fired)?, shapes)?;
-        Ok(())
-    } else {
-        Ok(())
-    }
-}
-
-/// Adds the structure, if there is one.
-fn add_shape(shape: Option<Shape>, shapes: &mut Vec<Shape>) -> Result<(), AllocError>
-    ensures { OnOk result (shapes.new.items ≡ shapes.old.items ++ cons_option shape []) }
-{
-    match shape {
-        Some(shape) => {
-            shapes.push(shape)?;
-            Ok(())
-        }
-        None => Ok(()),
-    }
-}
-
-/// The structure that was made where the instruction of the tag fired so.
-fn shape_of(
-    alloc: Global,
-    paths: &Paths<'_>,
-    tag: Tag,
-    fired: Fired,
-) -> Result<Option<Shape>, AllocError>
-    ensures { IfOk result (λ o. o ≡ option_map
-        (λ s. record { name = site_at paths.now.graph.now (path_by paths.now) tag; low = s.low; high = s.high })
-        (made_by (op_at paths.now.graph.now tag.instr) fired)) }
-{
-    match made(paths.graph(), tag, fired) {
-        Some(structure) => Ok(Some(Shape {
-            name: paths.site(alloc, tag)?,
-            low: structure.low,
-            high: structure.high,
-        })),
-        None => Ok(None),
-    }
+    Ok(Shape {
+        name: paths.site(alloc, making.tag)?,
+        low: making.structure.low,
+        high: making.structure.high,
+    })
 }
 
 /// What the cells of these elements show that is put into them.

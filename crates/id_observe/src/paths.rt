@@ -1,6 +1,7 @@
 //! The path of each tag, and the name of each structure (docs/MACHINE.md, "Paths of tags").
 
-ghost use Rattle.std.specs.Prelude.{◌≡◌, ◌<◌, length, map, option_map, slice_get, IfOk, OnOk, Some};
+ghost use Rattle.std.specs.Prelude.{◌≡◌, ◌<◌, ◌++◌, [], length, map, option_map, slice_get, IfOk, OnOk, Some};
+ghost use Rattle.std.specs.List.{cons_option};
 ghost use Rattle.std.specs.Option.{option_or};
 ghost use Rattle.std.specs.HashMap.{get};
 ghost use Rattle.id_tag.specs.Tags.{same_context, same_structure};
@@ -9,7 +10,8 @@ ghost use Rattle.id_valid.specs.Roles.{op_at};
 ghost use Rattle.id_observe.specs.Observed.{events_of};
 ghost use Rattle.id_observe.specs.Paths.{place_of};
 ghost use Rattle.id_observe.specs.Paths.{enter_in, entered, entered_by, enters_loop, if_made, if_same, last_context};
-ghost use Rattle.id_observe.specs.Paths.{enter_of, is_alloc, is_enter, made_by, maker_in, maker_of, step_of, steps_to};
+ghost use Rattle.id_observe.specs.Paths.{enter_of, is_alloc, is_enter, is_telling, made_by, maker_in, maker_of};
+ghost use Rattle.id_observe.specs.Paths.{making_of, makings_of, step_of, steps_to, telling_marks};
 
 use crate::observe::{main_tag, place_of};
 use id_element::{Element, op_at};
@@ -22,13 +24,42 @@ use id_tag::{Context, Payload, Structure, Tag, Value};
 use std::alloc::{AllocError, Global};
 use std::collections::HashMap;
 
-/// Adds the tags under which these events entered contexts and made structures.
+/// A structure, and the tag under which it was made.
+#[derive(Clone, Copy)]
+pub(crate) struct Making {
+    pub(crate) structure: Structure,
+    pub(crate) tag: Tag,
+}
+
+/// For each instruction, by number, whether its events tell of paths or structures.
+fn telling_marks(alloc: Global, graph: &Graph) -> Result<Vec<bool>, AllocError>
+    ensures { IfOk result (λ v. v.items ≡ telling_marks graph.now) }
+{
+    let mut marks = Vec::with_capacity(alloc, graph.instrs().len())?;
+    for instr in graph.instrs() {
+        marks.push(is_telling(instr.op))?;
+    }
+    Ok(marks)
+}
+
+/// Whether the events of an instruction tell of paths or structures.
+fn is_telling(op: Op) -> bool
+    ensures { result ≡ is_telling op }
+{
+    is_enter(Some(op)) || is_alloc(Some(op))
+}
+
+/// Adds the tags under which these events entered contexts and made structures, and those structures. Where these are
+/// the marks of the graph, events of other instructions are not looked at.
 fn add_record(
     graph: &Graph,
+    marks: &[bool],
     events: &Events<'_>,
     enters: &mut HashMap<Context, Tag>,
     makers: &mut HashMap<Structure, Tag>,
+    makings: &mut Vec<Making>,
 ) -> Result<(), AllocError>
+    requires { marks.now ≡ telling_marks graph.now }
     ensures enters { OnOk result
         ((c : Context)
         → get same_context enters.new c ≡ option_or (enter_in graph.now events.now c) (get same_context enters.old c)) }
@@ -36,13 +67,19 @@ fn add_record(
         ((s : Structure)
         → get same_structure makers.new s
         ≡ option_or (maker_in graph.now events.now s) (get same_structure makers.old s)) }
+    ensures makings { OnOk result (makings.new.items ≡ makings.old.items ++ makings_of graph.now events.now) }
 {
-    for position in 0..events.len() {
+    let mut from = 0;
+    loop {
+        let position = events.next_marked(marks, from);
+        if position >= events.len() {
+            return Ok(());
+        }
         let op = op_at(graph, events.instr(position));
         add_enter_at(graph, op, events, position, enters)?;
-        add_maker_at(graph, op, events, position, makers)?;
+        add_maker_at(graph, op, events, position, makers, makings)?;
+        from = position + 1;
     }
-    Ok(())
 }
 
 /// Adds the tag under which the event at a position entered a context, if it did, where its instruction does this. An
@@ -166,7 +203,7 @@ fn step_of(graph: &Graph, number: u32, iteration: u64) -> PathStep
     }
 }
 
-/// Adds the tag under which the event at a position made a structure, if it did, where its instruction does this. An
+/// Adds the structure that the event at a position made, if it did, and its tag, where its instruction does this. An
 /// event of no `alloc` is not looked at.
 fn add_maker_at(
     graph: &Graph,
@@ -174,38 +211,47 @@ fn add_maker_at(
     events: &Events<'_>,
     position: usize,
     makers: &mut HashMap<Structure, Tag>,
+    makings: &mut Vec<Making>,
 ) -> Result<(), AllocError>
     requires position { position < length events.now }
     requires op { option_map (λ e. op_at graph.now (tag_of e.message.payload).instr) (slice_get events.now position)
         ≡ Some op }
-    ensures { OnOk result
+    ensures makers { OnOk result
         ((e : EventView)
         → slice_get events.now position ≡ Some e
         → (s : Structure)
         → get same_structure makers.new s ≡ option_or (maker_of graph.now e s) (get same_structure makers.old s)) }
+    ensures makings { OnOk result
+        ((e : EventView)
+        → slice_get events.now position ≡ Some e
+        → makings.new.items ≡ makings.old.items ++ cons_option (making_of graph.now e) []) }
 {
     if is_alloc(op) {
         let event = events.event(position);
         let tag = tag_of(&event.message.payload);
-        add_maker(tag, made(graph, tag, event.fired), makers)?;
+        add_maker(tag, made(graph, tag, event.fired), makers, makings)?;
         Ok(())
     } else {
         Ok(())
     }
 }
 
-/// Adds the tag under which an event made a structure, if it did.
+/// Adds the structure that an event under this tag made, if it did.
 fn add_maker(
     tag: Tag,
     made: Option<Structure>,
     makers: &mut HashMap<Structure, Tag>,
+    makings: &mut Vec<Making>,
 ) -> Result<(), AllocError>
-    ensures { OnOk result ((s : Structure) → get same_structure makers.new s ≡
+    ensures makers { OnOk result ((s : Structure) → get same_structure makers.new s ≡
         option_or (if_made tag s made) (get same_structure makers.old s)) }
+    ensures makings { OnOk result (makings.new.items ≡ makings.old.items
+        ++ cons_option (option_map (λ s. record { structure = s; tag = tag }) made) []) }
 {
     match made {
         Some(structure) => {
             let _ = makers.insert(structure, tag)?;
+            makings.push(Making { structure, tag })?;
             Ok(())
         }
         None => Ok(()),
@@ -213,7 +259,7 @@ fn add_maker(
 }
 
 /// The structure that was made where the instruction of the tag fired so.
-pub(crate) fn made(graph: &Graph, tag: Tag, fired: Fired) -> Option<Structure>
+fn made(graph: &Graph, tag: Tag, fired: Fired) -> Option<Structure>
     ensures { result ≡ made_by (op_at graph.now tag.instr) fired }
 {
     match (op_at(graph, tag.instr), fired) {
@@ -223,19 +269,21 @@ pub(crate) fn made(graph: &Graph, tag: Tag, fired: Fired) -> Option<Structure>
 }
 
 /// What the records of elements tell of the paths of tags and the names of structures: under which tag each context was
-/// entered and each structure was made, and how many steps a path has at most.
+/// entered and each structure was made, those structures one element's record after another's, and how many steps a
+/// path has at most.
 #[derive(Drop)]
 pub(crate) struct Paths<'a> {
     graph: &'a Graph,
     enters: HashMap<Context, Tag>,
     makers: HashMap<Structure, Tag>,
+    makings: Vec<Making>,
     most: u128,
 }
 
 impl<'a> Paths<'a> {
     ghost use Rattle.std.specs.Prelude.{◌≡◌, map, IfOk};
-    ghost use Rattle.id_observe.specs.Observed.{path_in, site_at, structure_by, structure_in};
-    ghost use Rattle.id_observe.specs.Paths.{path_by};
+    ghost use Rattle.id_observe.specs.Observed.{events_of, path_in, site_at, structure_by, structure_in};
+    ghost use Rattle.id_observe.specs.Paths.{makings_of, path_by};
 
     /// What the records of these elements tell.
     pub(crate) fn new(
@@ -246,14 +294,17 @@ impl<'a> Paths<'a> {
         ensures paths { IfOk result (λ p. path_by p ≡ path_in graph.now (map (λ e. e.state) elements.now)) }
         ensures structures { IfOk result
             (λ p. structure_by p ≡ structure_in graph.now (map (λ e. e.state) elements.now)) }
+        ensures makings { IfOk result
+            (λ p. p.makings.items ≡ makings_of graph.now (events_of (map (λ e. e.state) elements.now))) }
         ensures graph { IfOk result (λ p. p.graph.now ≡ graph.now) }
     {
-        let (enters, makers) = all_records(alloc, graph, elements)?;
+        let (enters, makers, makings) = all_records(alloc, graph, elements)?;
         let most = count_events(elements);
         Ok(Paths {
             graph,
             enters,
             makers,
+            makings,
             most,
         })
     }
@@ -283,6 +334,13 @@ impl<'a> Paths<'a> {
         self.site(alloc, maker.unwrap_or(main_tag(0)))
     }
 
+    /// The structures that were made, in the order of their events.
+    pub(crate) fn makings(&self) -> &[Making]
+        ensures { result.now ≡ self.now.makings.items }
+    {
+        self.makings.as_slice()
+    }
+
     /// The graph.
     pub(crate) fn graph(&self) -> &'a Graph
         ensures { result.now ≡ self.now.graph.now }
@@ -291,26 +349,37 @@ impl<'a> Paths<'a> {
     }
 }
 
-/// The tags under which the records of these elements tell that contexts were entered, and those under which structures
-/// were made.
+/// The tags under which the records of these elements tell that contexts were entered, those under which structures
+/// were made, and those structures, one record after another.
 fn all_records(
     alloc: Global,
     graph: &Graph,
     elements: &[Element<'_>],
-) -> Result<(HashMap<Context, Tag>, HashMap<Structure, Tag>), AllocError>
+) -> Result<(HashMap<Context, Tag>, HashMap<Structure, Tag>, Vec<Making>), AllocError>
     ensures enters { IfOk result
         (λ m. (c : Context)
         → get same_context m.0 c ≡ enter_in graph.now (events_of (map (λ e. e.state) elements.now)) c) }
     ensures makers { IfOk result
         (λ m. (s : Structure)
         → get same_structure m.1 s ≡ maker_in graph.now (events_of (map (λ e. e.state) elements.now)) s) }
+    ensures makings { IfOk result
+        (λ m. m.2.items ≡ makings_of graph.now (events_of (map (λ e. e.state) elements.now))) }
 {
+    let marks = telling_marks(alloc, graph)?;
     let mut enters = HashMap::new(alloc);
     let mut makers = HashMap::new(alloc);
+    let mut makings = Vec::new(alloc);
     for element in elements {
-        add_record(graph, &element.events(), &mut enters, &mut makers)?;
+        add_record(
+            graph,
+            marks.as_slice(),
+            &element.events(),
+            &mut enters,
+            &mut makers,
+            &mut makings,
+        )?;
     }
-    Ok((enters, makers))
+    Ok((enters, makers, makings))
 }
 
 /// How many events these elements have in their records. 128 bits hold the sum of as many lengths as a slice can have.

@@ -1,7 +1,7 @@
 //! The record of an element: a line for each event, seen as a list of events.
 
 ghost use Rattle.std.specs.Prelude.{◌≡◌, ◌<◌, ◌++◌, ◌∷◌, [], vec_len, vec_capacity};
-ghost use Rattle.id_record.specs.Events.{full_step, second_store, tag_of, value_of};
+ghost use Rattle.id_record.specs.Events.{full_step, is_marked, second_store, tag_of, value_of};
 ghost use Rattle.id_ops.specs.Operators.{side_of};
 ghost use Rattle.id_record.specs.Lines.{AreThere};
 ghost use Rattle.id_record.specs.Records.{dests_at, replies_in};
@@ -83,7 +83,7 @@ impl<'a> Model for Events<'a> {
 
 impl<'a> Record<'a> {
     ghost use Rattle.std.specs.Prelude.{◌≡◌, ◌<◌, ◌≤◌, ◌+◌, ◌++◌, ◌∷◌, [], length, option_map, slice_get, Some, OnOk};
-    ghost use Rattle.id_record.specs.Events.{tag_of, value_of};
+    ghost use Rattle.id_record.specs.Events.{AreUnmarked, IsMarkedAt, tag_of, value_of};
     ghost use Rattle.id_record.specs.Lines.{AreThere, handled};
     ghost use Rattle.id_record.specs.Shootings.{HasLine, doing, shooting};
     ghost use Rattle.id_ops.specs.Shots.{IsBrief, IsOwn};
@@ -312,6 +312,7 @@ impl<'a> Record<'a> {
     }
 
     /// The number of the instruction whose tag the message of the event at a position names.
+    #[inline(always)]
     fn instr(&self, position: usize) -> u32
         requires { position < length self.now.events }
         ensures { option_map (λ e. (tag_of e.message.payload).instr) (slice_get self.now.events position)
@@ -319,6 +320,24 @@ impl<'a> Record<'a> {
     {
         let line = &self.lines[position];
         instr_in(self.asides.as_slice(), self.cells.as_slice(), line)
+    }
+
+    /// The position of the first event, from this one on, whose message names a marked instruction, or else how many
+    /// events there are.
+    #[inline(never)]
+    fn next_marked(&self, marks: &[bool], from: usize) -> usize
+        requires { from ≤ length self.now.events }
+        ensures from { from ≤ result }
+        ensures within { result ≤ length self.now.events }
+        ensures between { AreUnmarked marks.now self.now.events from result }
+        ensures found { result < length self.now.events → IsMarkedAt marks.now self.now.events result }
+    {
+        for position in from..self.len() {
+            if is_marked(marks, self.instr(position)) {
+                return position;
+            }
+        }
+        self.len()
     }
 
     #[inline(always)]
@@ -362,8 +381,8 @@ impl<'a> Record<'a> {
 }
 
 impl<'a> Events<'a> {
-    ghost use Rattle.std.specs.Prelude.{◌≡◌, ◌<◌, length, option_map, slice_get, Some};
-    ghost use Rattle.id_record.specs.Events.{tag_of};
+    ghost use Rattle.std.specs.Prelude.{◌≡◌, ◌<◌, ◌≤◌, length, option_map, slice_get, Some};
+    ghost use Rattle.id_record.specs.Events.{AreUnmarked, IsMarkedAt, tag_of};
 
     /// How many events there are. Takes no memory.
     pub fn len(&self) -> usize
@@ -383,11 +402,25 @@ impl<'a> Events<'a> {
 
     /// The number of the instruction whose tag the message of the event at a position names, without the rest of the
     /// event. Takes no memory.
+    #[inline(always)]
     pub fn instr(&self, position: usize) -> u32
         requires { position < length self.now }
         ensures { option_map (λ e. (tag_of e.message.payload).instr) (slice_get self.now position) ≡ Some result }
     {
         self.record.instr(position)
+    }
+
+    /// The position of the first event, from this one on, whose message names a marked instruction, or else how many
+    /// events there are. An instruction beyond the marks is not marked. Takes no memory.
+    #[inline(always)]
+    pub fn next_marked(&self, marks: &[bool], from: usize) -> usize
+        requires { from ≤ length self.now }
+        ensures from { from ≤ result }
+        ensures within { result ≤ length self.now }
+        ensures between { AreUnmarked marks.now self.now from result }
+        ensures found { result < length self.now → IsMarkedAt marks.now self.now result }
+    {
+        self.record.next_marked(marks, from)
     }
 
     /// The event at a position, from 0. Takes no memory.
@@ -415,6 +448,14 @@ fn add_line(lines: &mut Vec<Line>, line: Line)
     ensures { lines.new.items ≡ lines.old.items ++ line ∷ [] }
 {
     lines.push_reserved(line);
+}
+
+/// The mark of this number, where there is one.
+#[inline(always)]
+fn is_marked(marks: &[bool], number: u32) -> bool
+    ensures { result ≡ is_marked marks.now number }
+{
+    marks.get(number as usize).copied().unwrap_or(false)
 }
 
 /// What the instruction of this number does, if there is one.

@@ -266,6 +266,7 @@ pub(crate) fn payload_in(asides: &[Handled], cells: &[Cell], line: &Line) -> Pay
 }
 
 /// The number of the instruction whose tag the message of a line names.
+#[inline(always)]
 pub(crate) fn instr_in(asides: &[Handled], cells: &[Cell], line: &Line) -> u32
     requires { IsWithin (beside asides.now cells.now) line.now }
     ensures { result ≡ (tag_of (unpacked (beside asides.now cells.now) line.now).message.payload).instr }

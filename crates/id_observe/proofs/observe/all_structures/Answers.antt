@@ -1,15 +1,10 @@
--- One more element adds what it shows.
-use Rattle.std.proofs.Common.{◌≡◌, Some, refl}
-use Rattle.std.specs.Prelude.{slice_get}
-use Rattle.std.proofs.lemmas.Option.{slice_get_read}
-use Rattle.id_observe.specs.Observed.{shape_of}
-use Rattle.id_observe.proofs.ObservedLemmas.{walk-next}
+-- One more structure is there.
+use Rattle.id_observe.specs.Observed.{shape_at}
 use Rattle.id_observe.specs.Paths.{path_by}
+use Rattle.id_observe.proofs.ObservedLemmas.{map-at}
 use Rattle.id_observe.proofs.observe.all_structures.Goals as goal
 
-pub loop-element-preserved : goal.loop-element-preserved
-loop-element-preserved c =
-    let es = c.args.elements.now in
-    let at : slice_get es c.loop-element.element-index ≡ Some c.element-item.result = slice_get_read es _ _ _ refl c.loop-element-test.true c.element-item.is in
-    let next = walk-next (λ s. s.events) (shape_of c.args.paths.now.graph.now (path_by c.args.paths.now)) es c.loop-element.element-index c.element-item.result at in
-    rw (c.in_ok-add_shapes.ensures, c.loop-element.invariant, c.events.ensures.value, next)
+pub loop-making-preserved : goal.loop-making-preserved
+loop-making-preserved c =
+    let next = map-at (shape_at c.args.paths.now.graph.now (path_by c.args.paths.now)) c.makings-making-items.result.now c.loop-making.making-index _ _ c.loop-making-test.true c.in_ok-shape_at.ensures in
+    rw (c.in_ok-push.ensures.items, c.loop-making.invariant, next)

@@ -6,7 +6,8 @@ use Rattle.std.specs.Option.{option_or}
 use Rattle.std.specs.HashMap.{get}
 use Rattle.std.proofs.lemmas.Option.{slice_get_read}
 use Rattle.id_tag.specs.Tags.{same_context, same_structure}
-use Rattle.id_observe.specs.Paths.{enter_in, maker_in}
+use Rattle.id_observe.specs.Paths.{enter_in, maker_in, making_of}
+use Rattle.id_observe.proofs.ObservedLemmas.{walk-next}
 use Rattle.id_observe.proofs.PathsLemmas.{enter_in-none, enters-next, maker_in-none, makers-next}
 use Rattle.id_observe.proofs.paths.all_records.Goals as goal
 
@@ -14,6 +15,7 @@ pub loop-element-init : goal.loop-element-init
 loop-element-init c = record {
   enters = λ d. let none = enter_in-none c.args.graph.now d in grind (arith, common_steps, none);
   makers = λ d. let none = maker_in-none c.args.graph.now d in grind (arith, common_steps, none);
+  makings = c.new-makings.ensures.items;
 }
 
 pub loop-element-preserved : goal.loop-element-preserved
@@ -30,4 +32,5 @@ loop-element-preserved c =
       makers = λ d.
           c.in_ok-add_record.ensures.makers d ∙ ap (λ xs. option_or (maker_in g xs d) (get same_structure c.loop-element.makers d)) c.events.ensures.value
           ∙ ap (option_or (maker_in g e.state.events d)) (c.loop-element.invariant.makers d) ∙ sym (makers-next g es i e d at);
+      makings = rw (c.in_ok-add_record.ensures.makings, c.loop-element.invariant.makings, c.events.ensures.value, walk-next (λ s. s.events) (making_of g) es i e at);
     }
