@@ -1,7 +1,8 @@
 -- Lemmas on specs/Cells.antt and specs/Slots.antt: the table, and the map that it stands for.
-use Rattle.std.proofs.Common.{◌≡◌, ℤ, Bool, true, false, cond, ◌&&◌, List, [], ◌∷◌, map, length, Option, Some, None, option_map, Result, Ok, Err, OnOk, OnErr, refl, sym, ◌∙◌, ap, arith}
-use Rattle.std.specs.FinMap.{empty, find, get, insert, from_entries, get-empty, get-from_entries, get-insert, same_map}
-use Rattle.std.specs.List.{IsDistinct, AllByRecursion}
+use Rattle.std.proofs.Common.{◌≡◌, ℤ, Bool, true, false, cond, ◌&&◌, List, [], ◌∷◌, ◌++◌, map, length, Option, Some, None, option_map, Result, Ok, Err, OnOk, OnErr, refl, sym, subst, ◌∙◌, ap, arith}
+use Rattle.std.specs.FinMap.{empty, entries, entries-insert, find, get, insert, from_entries, get-empty, get-from_entries, get-insert, len-empty, len-entries, put, same_map}
+use Rattle.std.specs.FinMap.Entries.{by_order}
+use Rattle.std.specs.List.{IsDistinct, AllByRecursion, flat_map}
 use Rattle.std.specs.Map.{lookup, keys_of}
 use Rattle.std.specs.Cmp.{eq_by_cmp_equiv}
 use Rattle.std.specs.Ordering.{eq_by_cmp, int_eq, is_eq}
@@ -18,7 +19,7 @@ use Rattle.id_bank.specs.declared.WriteAnswer.TheVariants.{Readers}
 use Rattle.id_bank.specs.declared.slot.Held.{Held}
 use Rattle.id_bank.specs.declared.slot.Slot.{Slot}
 use Rattle.id_bank.specs.declared.slot.Slot.TheVariants as slot
-use Rattle.id_bank.specs.Cells.{CellState, Present, Deferred, Cells, state_read, write_answer, state_written, count_readers}
+use Rattle.id_bank.specs.Cells.{CellState, Present, Deferred, Cells, deferred_of, readers_at, state_read, write_answer, state_written, count_readers}
 use Rattle.id_bank.specs.Slots.{key_of, cell_of, same_key, value_of, state_of, entry_of}
 
 -- ---- what a write answers
@@ -181,3 +182,43 @@ pub distinct_cells : (es : List ((ℤ × Structure) × Slot)) → IsDistinct sam
 unfolding IsDistinct
 distinct_cells [] h = tt
 distinct_cells (e ∷ es) h = (apart_cells e.0 es h.0, distinct_cells es h.1)
+
+-- ---- no replies
+
+readers_at-none : (c : Cell) (s : CellState) → count_readers (Some s) ≡ 0 → readers_at (c, s) ≡ []
+readers_at-none c (Present v w) none = refl
+readers_at-none c (Deferred []) none = refl
+readers_at-none c (Deferred (t ∷ ts)) none = absurd (omega (arith, none))
+
+-- no reply waits at the cells of these entries
+abbrev NoneWait : List (Cell × CellState) → Type 0
+NoneWait es = AllByRecursion (λ e. count_readers (Some e.1) ≡ 0) es
+
+NoneWait-put : (k : Cell) (s : CellState) (es : List (Cell × CellState)) → count_readers (Some s) ≡ 0 → NoneWait es → NoneWait (put cell_cmp k s es)
+NoneWait-put k s [] none all = (none, tt)
+NoneWait-put k s (e ∷ es) none all =
+    elim (cell_cmp k e.0) as (λ o. NoneWait (by_order o ((k, s) ∷ e ∷ es) ((e.0, s) ∷ es) (e ∷ put cell_cmp k s es))) [
+      | Less ↦ (none, all)
+      | Equal ↦ (none, all.1)
+      | Greater ↦ (all.0, NoneWait-put k s es none all.1)
+    ]
+
+NoneWait-entries : (es : List ((ℤ × Structure) × Slot)) → AllByRecursion (λ e. count_readers (Some (state_of e.1)) ≡ 0) es
+    → NoneWait (entries (from_entries {R = cell_cmp} (map entry_of es)))
+NoneWait-entries [] all = subst NoneWait (sym (no_entries (entries empty) (sym (len-entries empty) ∙ len-empty cell_cmp CellState))) tt
+  where
+    no_entries : (fs : List (Cell × CellState)) → length fs ≡ 0 → fs ≡ []
+    no_entries [] is = refl
+    no_entries (f ∷ fs) is = absurd (omega (arith, is))
+NoneWait-entries (e ∷ es) all =
+    subst NoneWait (sym (entries-insert cells_total (from_entries (map entry_of es)) (cell_of e.0) (state_of e.1)))
+    (NoneWait-put (cell_of e.0) (state_of e.1) (entries (from_entries {R = cell_cmp} (map entry_of es))) all.0 (NoneWait-entries es all.1))
+
+readers-none : (es : List (Cell × CellState)) → NoneWait es → flat_map readers_at es ≡ []
+readers-none [] all = refl
+readers-none (e ∷ es) all = ap (λ rs. rs ++ flat_map readers_at es) (readers_at-none e.0 e.1 all.0) ∙ readers-none es all.1
+
+-- so none is listed
+pub deferred_of-none : (es : List ((ℤ × Structure) × Slot)) → AllByRecursion (λ e. count_readers (Some (state_of e.1)) ≡ 0) es
+    → deferred_of (from_entries {R = cell_cmp} (map entry_of es)) ≡ []
+deferred_of-none es all = readers-none (entries (from_entries {R = cell_cmp} (map entry_of es))) (NoneWait-entries es all)

@@ -7,14 +7,14 @@
 //! Not here: addresses and their bounds (`id_ops`), who sends the replies (`id_element`).
 #![tactic(auto)]
 
-ghost use Rattle.std.specs.Prelude.{◌≡◌, ℤ, false, length, Some, IfOk, OnOk, OnErr};
+ghost use Rattle.std.specs.Prelude.{◌≡◌, ◌↔◌, ℤ, false, length, All, IsTrue, Some, IfOk, OnOk, OnErr};
 ghost use Rattle.std.specs.Prelude.{map as map_list};
 ghost use Rattle.std.specs.FinMap as map;
 ghost use Rattle.std.specs.HashMap as hash;
 ghost use Rattle.id_tag.specs.declared.Structure.{Structure};
 ghost use Rattle.id_tag.specs.Tags.{cell_cmp};
 ghost use Rattle.id_bank.specs.declared.ReadAnswer.TheVariants.{Deferred as PutOff};
-ghost use Rattle.id_bank.specs.Cells.{read_answer, state_read, write_answer, state_written};
+ghost use Rattle.id_bank.specs.Cells.{count_readers, read_answer, state_read, write_answer, state_written};
 ghost use Rattle.id_bank.specs.Slots.{same_key, state_of, entry_of, state_at};
 
 mod slot;
@@ -206,10 +206,14 @@ impl Bank {
         filled(alloc, &slots)
     }
 
-    /// The replies that wait, in the order of their cells, and of one cell in order of arrival.
+    /// The replies that wait, in the order of their cells, and of one cell in order of arrival. Memory is wanted only
+    /// where there are some.
     pub fn deferred(&self, alloc: Global) -> Result<Vec<Reader>, AllocError>
         ensures items { IfOk result (λ rs. rs.items ≡ deferred_of self.now) }
     {
+        if none_waits(&self.slots) {
+            return Ok(Vec::new(alloc));
+        }
         let slots = in_order(alloc, &self.slots)?;
         waiting(alloc, &slots)
     }
@@ -261,6 +265,13 @@ fn write_at(
         }
         Place::Occupied(place) => Ok(place.into_mut().write(alloc, held, origin)),
     }
+}
+
+// Whether no reply waits for a cell's value.
+fn none_waits(slots: &HashMap<(i64, Structure), Slot, NearHasher>) -> bool
+    ensures { IsTrue result ↔ All (λ e. count_readers (Some (state_of e.1)) ≡ 0) slots.now.entries }
+{
+    slots.iter().all(|(_, slot)| slot.readers() == 0)
 }
 
 // The cells with what they hold, in their order.

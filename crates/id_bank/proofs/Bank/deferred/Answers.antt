@@ -4,6 +4,8 @@ use Rattle.std.specs.List.{flat_map}
 use Rattle.std.proofs.lemmas.List.Folds.{flat_map-map}
 use Rattle.id_bank.specs.Cells.{readers_at, deferred_of}
 use Rattle.id_bank.specs.Slots.{state_of}
+use Rattle.id_bank.proofs.CellsLemmas.{deferred_of-none}
+use Rattle.std.proofs.lemmas.List.Elements.{recursion_from_All}
 use Rattle.id_bank.proofs.Bank.deferred.Goals as goal
 
 pub returns : goal.returns
@@ -13,3 +15,8 @@ returns c =
     ∙ ap (flat_map readers_at) c.in_ok-slots.ensures
     ∙ ap deferred_of c.self.view_is in
     record { items = subst (λ l. IfOk c.waiting.result (λ es. es.items ≡ l)) all c.waiting.ensures }
+
+-- no reply waits
+pub returns-then-none_waits : goal.returns-then-none_waits
+returns-then-none_waits c =
+    record { items = c.new.ensures.items ∙ sym (deferred_of-none c.self.inside.slots.entries (recursion_from_All _ _ (c.none_waits.ensures.0 c.if-none_waits.true))) ∙ ap deferred_of c.self.view_is }
