@@ -103,7 +103,7 @@ pub(crate) fn key_of(cell: Cell) -> (i64, Structure)
 pub(crate) fn filled(alloc: Global, slots: &[(Cell, &Slot)]) -> Result<Vec<Filled>, AllocError>
     ensures { IfOk result (λ cells. cells.items ≡ flat_map (λ e. filled_at (e.0, state_of e.1.now)) slots.now) }
 {
-    let mut cells = Vec::new(alloc);
+    let mut cells = Vec::with_capacity(alloc, slots.len())?;
     for entry in slots {
         add_filled(&mut cells, entry.0, entry.1)?;
     }

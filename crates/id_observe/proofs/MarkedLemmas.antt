@@ -1,6 +1,6 @@
 -- Lemmas on walks that pass over the events of instructions that are not marked.
 use Rattle.std.proofs.Common.{◌≡◌, ℕ, zero, suc, ◌+◌, ◌-◌, ◌<◌, ◌≤◌, Bool, true, false, ◌||◌, Option, Some, None, List, [], ◌∷◌, ◌++◌, map, take, refl, sym, ap, ◌∙◌, append-nil, arith}
-use Rattle.std.specs.Prelude.{slice_get, option_map, unwrap_or}
+use Rattle.std.specs.Prelude.{if◌then◌else◌, slice_get, option_map, unwrap_or}
 use Rattle.std.specs.List.{filter_map, cons_option}
 use Rattle.std.specs.Option.{option_or}
 use Rattle.std.proofs.lemmas.Option.{slice_get-map}
@@ -11,12 +11,15 @@ use Rattle.id_tag.specs.declared.Context.{Context}
 use Rattle.id_tag.specs.declared.Structure.{Structure}
 use Rattle.id_tag.specs.declared.Tag.{Tag}
 use Rattle.id_meaning.specs.declared.Path.{Path}
+use Rattle.id_meaning.specs.declared.Site.{Site}
+use Rattle.id_tag.specs.declared.Payload.{Payload}
+use Rattle.id_tag.specs.declared.Payload.TheVariants.{Token, Read, Write}
 use Rattle.id_record.specs.Events.{AreUnmarked, EventView, is_marked, is_marked_in, tag_of}
 use Rattle.id_observe.specs.Paths.{enter_in, is_alloc, is_enter, is_telling, maker_in, making_of, makings_of, path_by, telling_marks}
-use Rattle.id_observe.specs.Observed.{answers, brought, events_of, made, path_in, shape_at, shape_of, shapes_of, site_at, structures_in}
+use Rattle.id_observe.specs.Observed.{answers, brought, events_of, is_label, label_marks, made, name_at, name_in, names_of, path_in, shape_at, shape_of, shapes_of, site_at, source_value, structures_in}
 use Rattle.id_element.specs.Replays.{ElementView}
 use Rattle.id_observe.specs.declared.paths.Paths.{Paths}
-use Rattle.id_observe.proofs.ObservedLemmas.{element-from_part, filter_map-next}
+use Rattle.id_observe.proofs.ObservedLemmas.{element-from_part, filter_map-next, is_label-from_mark}
 use Rattle.id_observe.proofs.PathsLemmas.{enter_in-next, maker_in-next}
 use Rattle.id_observe.proofs.SkippedLemmas.{brought-elsewhere, enter_of-none, made_by-none, maker_of-none}
 
@@ -112,3 +115,15 @@ answers-skip es i j le un =
     marked : (n : ℕ) → n ≡ 0 → is_marked (true ∷ []) n ≡ false → ⊥
     marked zero is not = cc
     marked (suc n) is not = cc
+
+-- nor does a binder have anything by events of instructions that are no labels
+pub names-skip : (g : Parts) (path : Tag → Path) (name : Structure → Site) (es : List EventView) (i j : ℕ) → i ≤ j → AreUnmarked (label_marks g) es i j
+    → names_of g path name (take j es) ≡ names_of g path name (take i es)
+names-skip g path name es i j le un =
+    filter_map-skip (λ e. name_in g path name e.message.payload) (label_marks g) es i j le un
+    (λ e not. name_in-none e.message.payload (sym (is_label-from_mark g (tag_of e.message.payload).instr) ∙ not))
+  where
+    name_in-none : (x : Payload) → is_label g (tag_of x).instr ≡ false → name_in g path name x ≡ None
+    name_in-none (Token t p v) not = ap (λ b. if b then name_at g t.instr (path t) (source_value name v) else None) not
+    name_in-none (Read c t) not = refl
+    name_in-none (Write c v t) not = refl

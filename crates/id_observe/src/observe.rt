@@ -234,7 +234,7 @@ fn is_value(kind: PortKind) -> bool
     }
 }
 
-/// Adds what these events show that binders have.
+/// Adds what these events show that binders have. What comes to an instruction that is no label is not looked at.
 fn add_names(
     alloc: Global,
     paths: &Paths<'_>,
@@ -247,11 +247,16 @@ fn add_names(
         (names.new.items ≡ names.old.items
         ++ names_of paths.now.graph.now (path_by paths.now) (structure_by paths.now) events.now) }
 {
-    for position in 0..events.len() {
+    let mut from = 0;
+    loop {
+        let position = events.next_marked(marks, from);
+        if position >= events.len() {
+            return Ok(());
+        }
         let payload = events.payload(position);
         add_name(name_in(alloc, paths, marks, &payload)?, names)?;
+        from = position + 1;
     }
-    Ok(())
 }
 
 /// Adds what a binder has, if it has something.
@@ -500,6 +505,7 @@ fn add_puts(
     ensures { OnOk result (puts.new.items ≡ puts.old.items
         ++ filter_map (put_of paths.now.graph.now (path_by paths.now) (structure_by paths.now)) cells.now) }
 {
+    puts.reserve(cells.len())?;
     for cell in cells {
         add_put(put_of(alloc, paths, *cell)?, puts)?;
     }
