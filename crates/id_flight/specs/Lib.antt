@@ -1,3 +1,4 @@
+pub mod Demands
 pub mod Parcels
 pub mod Queues
 pub mod Rows

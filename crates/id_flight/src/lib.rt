@@ -6,8 +6,10 @@
 //! Not here: the element that a message goes to (`id_tag`), the order in which messages are taken out (`id_core`).
 #![tactic(auto)]
 
+mod demand;
 mod parcel;
 mod queue;
 mod row;
 
+pub use demand::Demand;
 pub use queue::Queue;

@@ -9,9 +9,11 @@ ghost use Rattle.id_graph.specs.declared.dests.Port.{Port};
 ghost use Rattle.id_flight.specs.declared.parcel.What.TheVariants.{Aside};
 ghost use Rattle.id_flight.specs.Parcels.{IsPacked, IsWithin, cell_in, like, own, said, structure_in, tag_in, unpacked};
 ghost use Rattle.id_flight.specs.Queues.{context_of};
+ghost use Rattle.id_flight.specs.Demands.{demanded};
 ghost use Rattle.id_tag.specs.declared.plain.Plain.{Plain};
 ghost use Rattle.id_tag.specs.Plains.{cell_of, message_of, tag_in as tag_of, whole};
 
+use crate::demand::Demand;
 use id_graph::Port;
 use id_tag::{
     Cell, Context, Message, Payload, Plain, PlainCell, PlainToken, Sender, Structure, Tag, Value,
@@ -149,6 +151,26 @@ pub(crate) fn plain_in(parcel: &Parcel) -> Option<PlainToken>
     }
 }
 
+/// The read of a cell, or the write of a number to one, that a parcel is, if it is one.
+#[inline(always)]
+pub(crate) fn demand_in(parcel: &Parcel) -> Option<Demand>
+    ensures { IfSome result (λ d. (asides : List Message) → unpacked asides parcel.now ≡ demanded d) }
+{
+    match parcel.what {
+        What::Read(element, serial, low, high, index) => Some(Demand {
+            like: plain_token(parcel, Plain::Signal),
+            cell: cell(element, serial, low, high, index),
+            number: None,
+        }),
+        What::WriteInt(element, serial, low, high, index, number) => Some(Demand {
+            like: plain_token(parcel, Plain::Signal),
+            cell: cell(element, serial, low, high, index),
+            number: Some(number),
+        }),
+        _ => None,
+    }
+}
+
 /// The context of a parcel's message.
 #[inline(always)]
 pub(crate) fn context_in(asides: &[Message], parcel: &Parcel) -> Context
@@ -175,7 +197,8 @@ fn context_of(message: &Message) -> Context
 /// The token of a parcel with this plain value.
 #[inline(always)]
 fn plain_token(parcel: &Parcel, value: Plain) -> PlainToken
-    ensures { message_of result ≡ own parcel.now (Token (tag_in parcel.now) parcel.now.port (whole value)) }
+    ensures message { message_of result ≡ own parcel.now (Token (tag_in parcel.now) parcel.now.port (whole value)) }
+    ensures tag { tag_of result ≡ tag_in parcel.now }
 {
     PlainToken {
         value,

@@ -4,9 +4,10 @@ ghost use Rattle.std.specs.Prelude.{◌≡◌, ◌<◌, ◌≤◌, ◌+◌, vec_
 ghost use Rattle.id_flight.specs.declared.parcel.Parcel.{Parcel};
 ghost use Rattle.id_flight.specs.Parcels.{IsWithin, unpacked};
 
+use crate::demand::Demand;
 use crate::parcel::{
-    Parcel, context_in, packed, packed_plain, packed_read, packed_write, parcel_aside, plain_in,
-    unpack,
+    Parcel, context_in, demand_in, packed, packed_plain, packed_read, packed_write, parcel_aside,
+    plain_in, unpack,
 };
 use crate::row::Row;
 use id_tag::{Context, Message, PlainCell, PlainToken};
@@ -41,6 +42,7 @@ impl Queue {
     ghost use Rattle.std.specs.Prelude.{length, slice_get, Some};
     ghost use Rattle.id_flight.specs.Queues.{context_at};
     ghost use Rattle.std.specs.Prelude.{option_to_list, IfSome, IsSome, IsTrue, OnErr, OnOk};
+    ghost use Rattle.id_flight.specs.Demands.{demanded};
     ghost use Rattle.id_tag.specs.Plains.{cell_of, message_of, tag_in};
     ghost use Rattle.id_tag.specs.declared.Payload.TheVariants.{Read, Write};
     ghost use Rattle.id_tag.specs.declared.Value.TheVariants as value;
@@ -90,6 +92,16 @@ impl Queue {
         ensures { IfSome result (λ t. slice_get self.now.messages position ≡ Some (message_of t)) }
     {
         plain_in(self.parcels.at(position))
+    }
+
+    /// The read of a cell, or the write of a number to one, at a position, from 0, where a parcel keeps one there. Takes
+    /// no memory.
+    #[inline(always)]
+    pub fn demand(&self, position: usize) -> Option<Demand>
+        requires { position < length self.now.messages }
+        ensures { IfSome result (λ d. slice_get self.now.messages position ≡ Some (demanded d)) }
+    {
+        demand_in(self.parcels.at(position))
     }
 
     /// The context of the message at a position, from 0. Takes no memory.

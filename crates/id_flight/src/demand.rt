@@ -1,0 +1,42 @@
+//! Reads and writes of cells in small numbers.
+
+ghost use Rattle.std.specs.Prelude.{◌≡◌};
+ghost use Rattle.id_flight.specs.Demands.{demanded};
+
+use id_tag::{Cell, Message, Payload, PlainToken, Sender, Value};
+
+/// A read or a write of a cell that an element sent, whose numbers are small: what most messages to cells are.
+#[derive(Clone, Copy)]
+pub struct Demand {
+    /// A token of the tag that the message names, which is else like it.
+    pub like: PlainToken,
+    pub cell: Cell,
+    /// The number that is written, or none where the cell is read.
+    pub number: Option<i64>,
+}
+
+impl Demand {
+    /// The same as any message. Takes no memory.
+    #[inline(always)]
+    pub fn message(&self) -> Message
+        ensures { result ≡ demanded self.now }
+    {
+        let cell = self.cell;
+        let tag = self.like.tag();
+        let payload = match self.number {
+            None => Payload::Read { cell, reply: tag },
+            Some(number) => Payload::Write {
+                cell,
+                value: Value::Int(number),
+                origin: tag,
+            },
+        };
+        Message {
+            payload,
+            sender: Sender::Element(u32::from(self.like.sender)),
+            position: self.like.position as usize,
+            output: usize::from(self.like.output),
+            stamp: u64::from(self.like.stamp),
+        }
+    }
+}
