@@ -61,6 +61,12 @@ count_readers None = 0
 count_readers (Some (Present v w)) = 0
 count_readers (Some (Deferred ts)) = length ts
 
+-- how many replies wait, by what the cell holds, unless that is a value
+abbrev pub count_expected : Option CellState → Option ℕ
+count_expected None = Some 0
+count_expected (Some (Present v w)) = None
+count_expected (Some (Deferred ts)) = Some (length ts)
+
 -- an entry's cell with its value, if it holds one
 abbrev pub filled_at : Cell × CellState → List Filled
 filled_at (c, Present v w) = record { cell = c; value = v; origin = w } ∷ []

@@ -143,7 +143,7 @@ impl Model for Bank {
 
 impl Bank {
     ghost use Rattle.std.specs.Prelude.{◌↔◌, IsTrue};
-    ghost use Rattle.id_bank.specs.Cells.{read_after, write_after, count_readers, cells_of, deferred_of};
+    ghost use Rattle.id_bank.specs.Cells.{read_after, write_after, count_expected, count_readers, cells_of, deferred_of};
 
     /// The bank of which no cell was read or written. Takes no memory.
     pub fn new(alloc: Global) -> Bank
@@ -195,6 +195,16 @@ impl Bank {
         match self.slots.get(&key_of(cell)) {
             Some(slot) => slot.readers(),
             None => 0,
+        }
+    }
+
+    /// How many replies wait for the value of a cell, unless it has one. Takes no memory.
+    pub fn expected(&self, cell: Cell) -> Option<usize>
+        ensures { result ≡ count_expected (map.get self.now cell) }
+    {
+        match self.slots.get(&key_of(cell)) {
+            Some(slot) => slot.expected(),
+            None => Some(0),
         }
     }
 

@@ -4,7 +4,7 @@ ghost use Rattle.std.specs.Prelude.{◌≡◌, ◌++◌, IfOk, OnOk, OnErr};
 ghost use Rattle.std.specs.Prelude.{map as map_list, Some};
 ghost use Rattle.std.specs.List.{flat_map};
 ghost use Rattle.id_bank.specs.declared.ReadAnswer.TheVariants.{Deferred as PutOff};
-ghost use Rattle.id_bank.specs.Cells.{read_answer, state_read, write_answer, state_written, count_readers};
+ghost use Rattle.id_bank.specs.Cells.{read_answer, state_read, write_answer, state_written, count_expected, count_readers};
 ghost use Rattle.id_bank.specs.Cells.{filled_at, readers_at};
 ghost use Rattle.id_bank.specs.Slots.{value_of, state_of, key_of};
 
@@ -88,6 +88,16 @@ impl Slot {
         match self {
             Slot::Present { .. } => 0,
             Slot::Deferred(replies) => replies.len(),
+        }
+    }
+
+    /// How many replies wait for the cell's value, unless it has one. Takes no memory.
+    pub(crate) fn expected(&self) -> Option<usize>
+        ensures { result ≡ count_expected (Some (state_of self.now)) }
+    {
+        match self {
+            Slot::Present { .. } => None,
+            Slot::Deferred(replies) => Some(replies.len()),
         }
     }
 }
