@@ -12,7 +12,7 @@ use Rattle.id_record.specs.declared.line.Handled.{Handled}
 use Rattle.id_record.specs.declared.line.Kind.{Kind}
 use Rattle.id_record.specs.declared.line.Kind.TheVariants as kind
 use Rattle.id_record.specs.declared.line.Line.{Line}
-use Rattle.id_record.specs.Lines.{Beside, IsCelled, IsPacked, IsPackedBeside, IsThere, cell_at, instr_at, message_at, no_replies, port_at, read, saying, tag_at, target_in, token_told, told, told_near, unpacked, went}
+use Rattle.id_record.specs.Lines.{Beside, IsCelled, IsPacked, IsPackedBeside, IsThere, cell_at, instr_at, message_at, no_replies, port_at, read, saying, tag_at, target_in, token_told, told, told_near, unpacked, went, Told}
 
 -- the event of a token, by its parts
 said-token : (e : Handled) (l : Line) (t : Tag) (p : Port) (v : Value) (f : Fired)
@@ -42,6 +42,32 @@ packed-near e l x n c t p v f is_kind is_effect instr cell tag port told message
       is = λ b. says b ∙ whole;
       within = λ b. subst (IsThere b l) (sym is_kind) tt;
     }
+
+-- the event of a line that says this, by its parts
+said-of : (e : Handled) (l : Line) (x : Told) → message_at l x.payload ≡ e.message → l.stamp ≡ e.stamp → went x.fired ≡ e.reaction → x.replies ≡ e.replies → saying l x ≡ e
+said-of e l x message stamp reaction these =
+    ap (λ m. record { message = m; stamp = l.stamp; reaction = went x.fired; replies = x.replies }) message
+    ∙ ap (λ s. record { message = e.message; stamp = s; reaction = went x.fired; replies = x.replies }) stamp
+    ∙ ap (λ r. record { message = e.message; stamp = e.stamp; reaction = r; replies = x.replies }) reaction
+    ∙ ap (λ rs. record { message = e.message; stamp = e.stamp; reaction = e.reaction; replies = rs }) these
+
+-- an event that says this stands in the line that has its kind and its numbers, and in the cell beside it
+pub packed-said : (e : Handled) (i : ℕ) (l : Line) (k : Kind) (m r : ℤ) (c : Cell) (t : Tag) (p : Port) (x : Told)
+    → IsCelled k → l.kind ≡ k → l.to ≡ i → l.value ≡ m → l.result ≡ r → tag_at l ≡ t → port_at (l.position / 2 ^ 31) ≡ p
+    → told k t p m r c ≡ x → message_at l x.payload ≡ e.message → l.stamp ≡ e.stamp → went x.fired ≡ e.reaction → x.replies ≡ e.replies
+    → IsPackedBeside e i l c
+packed-said e i l k m r c t p x celled is_kind index value result tag port says message stamp reaction these = record {
+  kind = subst IsCelled (sym is_kind) celled;
+  index = index;
+  is =
+      ap (λ j. saying l (told j (tag_at l) (port_at (l.position / 2 ^ 31)) l.value l.result c)) is_kind
+      ∙ ap (λ u. saying l (told k u (port_at (l.position / 2 ^ 31)) l.value l.result c)) tag
+      ∙ ap (λ q. saying l (told k t q l.value l.result c)) port
+      ∙ ap (λ n. saying l (told k t p n l.result c)) value
+      ∙ ap (λ n. saying l (told k t p m n c)) result
+      ∙ ap (saying l) says
+      ∙ said-of e l x message stamp reaction these;
+}
 
 -- an event stands in the line that has its kind and its numbers, and in the cell beside it
 pub packed-told : (e : Handled) (i : ℕ) (l : Line) (k : Kind) (m r : ℤ) (c : Cell) (t : Tag) (p : Port) (v : Value) (f : Fired)

@@ -3,5 +3,6 @@ pub mod Events
 pub mod Sends
 pub mod Records
 pub mod Shootings
+pub mod Visits
 -- For use inside.
 pub mod Lines

@@ -9,8 +9,9 @@ ghost use Rattle.id_valid.specs.Roles.{op_at};
 ghost use Rattle.id_graph.specs.Graph.{IsGraph};
 
 use crate::line::{
-    Celled, Doing, Handled, Handling, Line, NO_REPLIES, Reaction, Replies, Shooting, deed_beside,
-    deed_line, instr_in, line_aside, packed, packed_beside, payload_in, shot_line, unpack,
+    Celled, Doing, Handled, Handling, Line, NO_REPLIES, Reaction, Replies, Shooting, Visiting,
+    deed_beside, deed_line, instr_in, line_aside, packed, packed_beside, payload_in, shot_line,
+    unpack, visit_beside, visited,
 };
 use crate::outputs::{Envelope, Outputs, chosen};
 use crate::step::{Fault, Step, Verdict};
@@ -86,6 +87,7 @@ impl<'a> Record<'a> {
     ghost use Rattle.id_record.specs.Events.{AreUnmarked, IsMarkedAt, tag_of, value_of};
     ghost use Rattle.id_record.specs.Lines.{AreThere, handled};
     ghost use Rattle.id_record.specs.Shootings.{HasLine, doing, shooting};
+    ghost use Rattle.id_record.specs.Visits.{visiting};
     ghost use Rattle.id_ops.specs.Shots.{IsBrief, IsOwn};
     ghost use Rattle.id_record.specs.Records.{event_of_handled};
 
@@ -270,6 +272,45 @@ impl<'a> Record<'a> {
             reaction: &reaction,
             replies: NO_REPLIES,
         });
+    }
+
+    /// Adds the event of a read or a write of a cell at the end. Takes no memory.
+    #[inline(always)]
+    pub fn push_visit(&mut self, event: Visiting<'_>)
+        requires room { 0 < self.old.room }
+        requires room_aside { 0 < self.old.room_aside }
+        requires fits { HasLine event.token.now }
+        requires replies { AreThere self.old.replies (visiting event).replies }
+        ensures element { self.new.element ≡ self.old.element }
+        ensures graph { self.new.graph ≡ self.old.graph }
+        ensures events { self.new.events ≡ self.old.events
+            ++ event_of_handled self.old.graph self.old.element self.old.replies (length self.old.events)
+            (visiting event.entry) ∷ [] }
+    {
+        match visit_beside(&event, self.cells.len()) {
+            Some(Celled { line, cell }) => {
+                self.cells.push_reserved(cell);
+                add_line(&mut self.lines, line);
+            }
+            None => self.push_visit_aside(event),
+        }
+    }
+
+    /// Adds the event of a read or a write of a cell at the end, as any event. Takes no memory.
+    #[inline(never)]
+    fn push_visit_aside(&mut self, event: Visiting<'_>)
+        requires room { 0 < self.old.room }
+        requires room_aside { 0 < self.old.room_aside }
+        requires replies { AreThere self.old.replies (visiting event).replies }
+        ensures element { self.new.element ≡ self.old.element }
+        ensures graph { self.new.graph ≡ self.old.graph }
+        ensures events { self.new.events ≡ self.old.events
+            ++ event_of_handled self.old.graph self.old.element self.old.replies (length self.old.events)
+            (visiting event.entry) ∷ [] }
+    {
+        let index = self.asides.len();
+        self.asides.push_reserved(visited(&event));
+        add_line(&mut self.lines, line_aside(index));
     }
 
     /// The events, in order. Takes no memory.

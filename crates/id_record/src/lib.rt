@@ -13,7 +13,9 @@ mod outputs;
 mod step;
 
 pub use history::{Event, Events, Record, full_step, tag_of, value_of};
-pub use line::{Doing, Handled, Handling, NO_REPLIES, Reaction, Replies, Shooting, has_line};
+pub use line::{
+    Doing, Fate, Handled, Handling, NO_REPLIES, Reaction, Replies, Shooting, Visiting, has_line,
+};
 pub use outputs::{
     Envelope, Outputs, chosen, count_started, message, moved_to, start, token_at, token_to,
 };

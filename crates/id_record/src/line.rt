@@ -22,6 +22,7 @@ mod near;
 mod numbers;
 mod reading;
 mod shooting;
+mod visiting;
 
 use crate::history::{tag_of, value_of};
 use crate::step::Verdict;
@@ -38,6 +39,8 @@ use numbers::{context_of, index_of, instr_at, joined, place, position_at};
 use reading::{cell_in, message_at, own, own_payload, structure_in, tag_at, target_in, went};
 pub(crate) use shooting::shot_line;
 pub use shooting::{Shooting, has_line};
+pub(crate) use visiting::{visit_beside, visited};
+pub use visiting::{Fate, Visiting};
 
 /// What comes of a message: what is fired, and what the event comes to.
 #[derive(Clone, Copy)]

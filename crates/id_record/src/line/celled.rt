@@ -107,7 +107,8 @@ fn scene_of(event: &Handling<'_>) -> Option<Scene>
 }
 
 /// What a line keeps of the write of a number to a cell.
-fn written(cell: Cell, number: i64, fired: &Fired, replies: Replies) -> Option<Scene>
+#[inline(always)]
+pub(super) fn written(cell: Cell, number: i64, fired: &Fired, replies: Replies) -> Option<Scene>
     ensures kind { IfSome result (λ s. IsCelled s.kind) }
     ensures told { IfSome result (λ s. (t : Tag) (p : Port) → told s.kind t p s.value s.result s.cell
         ≡ record { payload = Write cell (value.Int number) t; fired = fired.now; replies = replies }) }
