@@ -1,5 +1,5 @@
 -- An element keeps its state where a plain token was handled, and where it was not; and the element step on one.
-use Rattle.std.proofs.Common.{◌≡◌, ◌<◌, ◌-◌, ◌^◌, ℕ, Bool, List, Some, length, get_or, refl, sym, ap, subst, ◌∙◌}
+use Rattle.std.proofs.Common.{◌≡◌, ◌<◌, ◌-◌, ◌^◌, ℕ, Bool, true, false, List, Some, length, get_or, refl, sym, ap, subst, ◌∙◌}
 use Rattle.std.specs.Prelude.{◌↔◌, IsTrue, slice_get}
 use Rattle.std.proofs.lemmas.Option.{slice_get_read}
 use Rattle.id_graph.specs.declared.instr.Instr.{Instr}
@@ -13,6 +13,7 @@ use Rattle.id_element.specs.declared.step.Reacted.{Reacted}
 use Rattle.id_element.specs.declared.step.Reacted.TheVariants as reacted
 use Rattle.id_element.specs.Firings.{IsReaction, operands_in}
 use Rattle.id_element.proofs.FiringsLemmas.{IsStepBy, fires_outcome, plain_outcome, shot_outcome, step_by, within_kind}
+use Rattle.id_tag.specs.declared.Message.{Message}
 use Rattle.id_tag.specs.declared.Tag.{Tag}
 use Rattle.id_tag.specs.declared.plain.PlainToken.{PlainToken}
 use Rattle.id_tag.specs.Plains.{message_of, tag_in}
@@ -75,3 +76,16 @@ step_on g e s before t is i k later r q kind own read same comes for =
     let at : i ≡ get_or g.instrs t.instr i = read ∙ ap (λ xs. get_or xs t.instr i) own in
     step_at g e s t i later q (slice_get_read g.instrs (length g.instrs) t.instr i refl within at)
     (subst (λ x. IsReaction i.op s.waiting later t x) for (subst (λ x. IsReaction i.op x.waiting later t r) same comes))
+
+-- an element keeps its state where a read or a write in small numbers was handled, and where it was not
+pub IsKept-demand : (old : ElementView) (m : Message) (went : Bool) (new : State) (b : Bool) → IsFor old.graph old.count old.number m
+    → m.stamp < 2 ^ 64 - 1 → old.state.stamp < 2 ^ 64 - 1 → IsKept old went
+    → (b ≡ true → step_of old.graph old.number old.state m ≡ step.Went)
+    → (b ≡ true → new ≡ state_after old.graph old.number old.state m)
+    → (b ≡ false → new ≡ old.state)
+    → IsKept (record old { state = new }) went
+IsKept-demand old m went new true is_for left last kept comes after same =
+    let so : IsTrue went ↔ (IsTrue went × (step_of old.graph old.number old.state m ≡ step.Went)) = (λ h. (h, comes refl), λ p. p.0) in
+    subst (λ x. IsKept (record old { state = x }) went) (sym (after refl)) (IsKept-take old m went went is_for left last so kept)
+IsKept-demand old m went new false is_for left last kept comes after same =
+    subst (λ x. IsKept (record old { state = x }) went) (sym (same refl)) kept

@@ -2,7 +2,12 @@
 use Rattle.std.specs.Prelude.{◌-◌, ◌<◌, ◌^◌, ◌≤◌, ℕ, length}
 use Rattle.id_graph.specs.declared.instr.Instr.{Instr}
 use Rattle.id_tag.specs.declared.plain.PlainToken.{PlainToken}
-use Rattle.id_tag.specs.Plains.{tag_in}
+use Rattle.id_tag.specs.Plains.{message_of, tag_in}
+use Rattle.id_flight.specs.declared.demand.Demand.{Demand}
+use Rattle.id_record.specs.declared.line.Handled.{Handled}
+use Rattle.id_record.specs.declared.line.visiting.Fate.{Fate}
+use Rattle.id_record.specs.Lines.{went}
+use Rattle.id_record.specs.Visits.{fated}
 use Rattle.id_tag.specs.declared.Payload.{Payload}
 use Rattle.id_tag.specs.declared.Payload.TheVariants.{Read, Write}
 use Rattle.id_element.specs.declared.desk.Desk.{Desk}
@@ -47,3 +52,12 @@ pub record IsShort (d : Desk) (most : ℕ) (t : PlainToken) (stamp : ℕ) : Type
 abbrev pub fired_by : Desk → Instr → PlainToken → PlainOperands → Fired
 fired_by d i t o =
     fired i.op (tag_in t) (operands_in o) (fresh_numbers d.log.element d.contexts d.structures)
+
+-- what the record keeps of a read or a write in small numbers that came to this, at a stamp
+abbrev pub visit_of : Demand → ℕ → Fate → Handled
+visit_of d stamp f = record {
+  message = record (message_of d.like) { payload = (fated f d.cell (tag_in d.like)).payload };
+  stamp = stamp;
+  reaction = went (fated f d.cell (tag_in d.like)).fired;
+  replies = (fated f d.cell (tag_in d.like)).replies;
+}

@@ -9,7 +9,7 @@ ghost use Rattle.id_tag.specs.declared.Tag.{Tag};
 use crate::desk::Desk;
 use crate::step::{Short, TakeError};
 use id_bank::{Filled, Reader};
-use id_flight::Queue;
+use id_flight::{Demand, Queue};
 use id_record::{Events, Step, full_step};
 use id_tag::{Message, PlainToken};
 use id_valid::Valid;
@@ -50,10 +50,12 @@ impl<'a> Model for Element<'a> {
 
 impl<'a> Element<'a> {
     ghost use Rattle.std.specs.Prelude.{◌≡◌, ◌<◌, ◌≤◌, ◌-◌, ◌^◌, ◌==◌, ◌||◌, ◌++◌, ◌↔◌, All, IfOk, OnOk, OnErr, IsTrue};
+    ghost use Rattle.std.specs.Prelude.{true, false};
     ghost use Rattle.std.specs.FinMap.{empty};
     ghost use Rattle.id_element.specs.declared.step.TakeError.TheVariants.{StampEnd};
     ghost use Rattle.id_record.specs.Events.{AllWent};
     ghost use Rattle.id_element.specs.Fits.{Fits, IsFor};
+    ghost use Rattle.id_flight.specs.Demands.{demanded};
     ghost use Rattle.id_element.specs.Replays.{Replays};
     ghost use Rattle.id_bank.specs.Cells.{cells_of, deferred_of};
     ghost use Rattle.id_element.specs.Steps.{fresh, is_ended, step_of, outputs_of, state_after};
@@ -133,6 +135,32 @@ impl<'a> Element<'a> {
         let short = self.desk.take_plain(graph.graph(), token, outputs)?;
         self.went = still_short(self.went, short);
         Ok(short)
+    }
+
+    /// Handles a read or a write of a cell that is for this element, as `take` does, where that is short, and answers
+    /// whether it did: all goes well then. After an error, and where it is not short, nothing has changed.
+    #[inline(always)]
+    pub fn take_demand(&mut self, demand: &Demand, outputs: &mut Queue) -> Result<bool, TakeError>
+        requires { IsFor self.old.graph self.old.count self.old.number (demanded demand.now) }
+
+        ensures step { result ≡ Ok true →
+            step_of self.old.graph self.old.number self.old.state (demanded demand.now) ≡ Went }
+        ensures state { result ≡ Ok true → self.new ≡ record self.old {
+          state = state_after self.old.graph self.old.number self.old.state (demanded demand.now);
+        } }
+        ensures outputs { result ≡ Ok true → outputs.new.messages
+            ≡ outputs.old.messages ++ outputs_of self.old.graph self.old.number self.old.state (demanded demand.now) }
+        ensures fits { OnOk result (All (Fits self.old.graph)
+            (outputs_of self.old.graph self.old.number self.old.state (demanded demand.now))) }
+        ensures apart { result ≡ Ok false → self.new ≡ self.old }
+        ensures apart_outputs { result ≡ Ok false → outputs.new.messages ≡ outputs.old.messages }
+
+        ensures end { (result ≡ Err StampEnd) ↔ IsTrue (is_ended self.old.state (demanded demand.now)) }
+        ensures err { OnErr result (self.new ≡ self.old) }
+        ensures err_outputs { OnErr result (outputs.new.messages ≡ outputs.old.messages) }
+    {
+        let handled = self.desk.take_demand(demand, outputs)?;
+        Ok(handled)
     }
 
     /// Whether no stamp is left after this one. Takes no memory.
