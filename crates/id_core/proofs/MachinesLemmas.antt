@@ -206,6 +206,23 @@ module _ (g : Parts) (es : List ElementView) (flight : List Message) (k n : ℕ)
   pub world-apart : later ≡ e → left ≡ flight → world_of (set es n later) left ≡ world_of es flight
   world-apart same still = ap (λ x. world_of (set es n x) left) same ∙ ap (λ x. world_of (set es n e) x) still ∙ ap (λ x. world_of x flight) unchanged
 
+-- ---- reads and writes in small numbers
+
+module _ (g : Parts) (es : List ElementView) (flight : List Message) (k n : ℕ) (m : Message) (e later : ElementView) (left : List Message)
+    (old : IsMachine g es flight) (d : IsDelivery g (length es) es flight k n m e) (fits : All (Fits e.graph) (outputs_of e.graph e.number e.state m)) where
+  same_list : set es n e ≡ es
+  same_list = ap (set es n) (sym (get_or_from_slice_get es n e e d.given.element)) ∙ set-get_or es n e
+
+  -- the machine goes on where a message was handled, and stays where it was not
+  pub IsMachine-handled : (b : Bool) → (b ≡ true → later ≡ taken e m) → (b ≡ true → left ≡ remove flight k ++ outputs_of e.graph e.number e.state m)
+      → (b ≡ false → later ≡ e) → (b ≡ false → left ≡ flight) → IsMachine g (set es n later) left
+  IsMachine-handled true taken_is left_is same still = rw (taken_is refl, left_is refl) (IsMachine-deliver g es flight k n m e old d fits)
+  IsMachine-handled false taken_is left_is same still = rw (same refl, still refl, same_list) old
+
+  -- and so it has the same world
+  pub world-stays : later ≡ e → left ≡ flight → world_of (set es n later) left ≡ world_of es flight
+  world-stays same still = ap (λ x. world_of (set es n x) left) same ∙ ap (λ x. world_of (set es n e) x) still ∙ ap (λ x. world_of x flight) same_list
+
 -- what an event came to without its fault, from what it came to
 pub came_from : (o : Option EventView) (s : Step) → option_map (λ e. e.step) o ≡ Some s → option_map (λ e. came_of e.step) o ≡ Some (came_of s)
 came_from None s h = absurd cc

@@ -3,7 +3,7 @@
 ghost use Rattle.std.specs.Prelude.{◌≡◌, ◌+◌, ◌++◌, ◌≤◌, length, OnOk};
 
 use id_element::{Element, Short, TakeError};
-use id_flight::Queue;
+use id_flight::{Demand, Queue};
 use id_record::Step;
 use id_tag::{Context, Message, PlainToken};
 use std::alloc::{AllocError, Global};
@@ -38,7 +38,10 @@ impl InFlight {
     ghost use Rattle.id_flight.specs.Queues.{context_at};
     ghost use Rattle.id_core.specs.Flights.{AreOthers, IsBeside, IsFirstOf};
     ghost use Rattle.id_element.specs.declared.step.TakeError.TheVariants.{StampEnd};
+    ghost use Rattle.std.specs.Prelude.{true, false};
     ghost use Rattle.id_element.specs.Fits.{Fits, IsFor};
+    ghost use Rattle.id_flight.specs.Demands.{demanded};
+    ghost use Rattle.id_record.specs.declared.step.Step.TheVariants.{Went};
     ghost use Rattle.id_element.specs.Steps.{is_ended, outputs_of, state_after, step_of};
     ghost use Rattle.id_element.specs.Shorts.{IsHandled, step_in};
     ghost use Rattle.id_element.specs.declared.step.Short.TheVariants.{Apart};
@@ -94,6 +97,20 @@ impl InFlight {
             self.before.plain(position)
         } else {
             self.after.plain(position - gap)
+        }
+    }
+
+    /// The read or the write of a cell at a position, from 0, where one is kept there in short. Takes no memory.
+    #[inline(always)]
+    pub(crate) fn demand(&self, position: usize) -> Option<Demand>
+        requires { position < length self.now.messages }
+        ensures { IfSome result (λ d. slice_get self.now.messages position ≡ Some (demanded d)) }
+    {
+        let gap = self.before.len();
+        if position < gap {
+            self.before.demand(position)
+        } else {
+            self.after.demand(position - gap)
         }
     }
 
@@ -239,6 +256,43 @@ impl InFlight {
         }
         self.drop_at(position);
         Ok(short)
+    }
+
+    /// Gives the read or the write at a position beside the gap to an element, as `give_next` does, where that is short, and answers
+    /// whether it was.
+    #[inline(always)]
+    pub(crate) fn give_demand(
+        &mut self,
+        position: usize,
+        demand: &Demand,
+        element: &mut Element<'_>,
+    ) -> Result<bool, TakeError>
+        requires gap { IsBeside self.old.gap position }
+        requires next { slice_get self.old.messages position ≡ Some (demanded demand.now) }
+        requires is_for { IsFor element.old.graph element.old.count element.old.number (demanded demand.now) }
+
+        ensures messages { result ≡ Ok true → self.new.messages
+            ≡ remove self.old.messages position
+            ++ outputs_of element.old.graph element.old.number element.old.state (demanded demand.now) }
+        ensures state { result ≡ Ok true → element.new ≡ record element.old {
+          state = state_after element.old.graph element.old.number element.old.state (demanded demand.now);
+        } }
+        ensures step { result ≡ Ok true →
+            step_of element.old.graph element.old.number element.old.state (demanded demand.now) ≡ Went }
+        ensures fits { OnOk result (All (Fits element.old.graph)
+            (outputs_of element.old.graph element.old.number element.old.state (demanded demand.now))) }
+        ensures apart { result ≡ Ok false → element.new ≡ element.old }
+        ensures apart_messages { result ≡ Ok false → self.new.messages ≡ self.old.messages }
+
+        ensures end { (result ≡ Err StampEnd) ↔ IsTrue (is_ended element.old.state (demanded demand.now)) }
+        ensures err { OnErr result (element.new ≡ element.old) }
+        ensures err_messages { OnErr result (self.new.messages ≡ self.old.messages) }
+    {
+        let handled = element.take_demand(demand, &mut self.after)?;
+        if handled {
+            self.drop_at(position);
+        }
+        Ok(handled)
     }
 
     /// Drops the message at a position beside the gap: the list closes up. Takes no memory.

@@ -14,7 +14,7 @@ ghost use Rattle.id_observe.specs.Observed.{main_tag};
 use crate::flight::Flight;
 use crate::in_flight::InFlight;
 use id_element::{Element, Short, TakeError};
-use id_flight::Queue;
+use id_flight::{Demand, Queue};
 use id_graph::Port;
 use id_meaning::{Inputs, SourceFault, SourceValue};
 use id_observe::{
@@ -107,6 +107,9 @@ impl<'a> Machine<'a> {
     ghost use Rattle.id_element.specs.Shorts.{IsHandled, step_in};
     ghost use Rattle.id_element.specs.declared.step.Short.TheVariants.{Apart};
     ghost use Rattle.id_tag.specs.Plains.{message_of, tag_in};
+    ghost use Rattle.std.specs.Prelude.{true, false};
+    ghost use Rattle.id_flight.specs.Demands.{demanded};
+    ghost use Rattle.id_record.specs.declared.step.Step.TheVariants.{Went};
     ghost use Rattle.id_core.specs.Observed.{answer, cells, faults, names, structures, waiting};
     ghost use Rattle.id_core.specs.Machines.{AreElements, IsQuiet, TakesInputs, came_of, delivered, event_at, start};
     ghost use Rattle.id_core.specs.Machines.{world_of};
@@ -209,6 +212,33 @@ impl<'a> Machine<'a> {
             (event_at self.old.graph self.old.count self.old.world position ≡ None) }
         ensures err { OnErr result (self.new ≡ self.old) }
     {
+        match self.flight.demand(position) {
+            Some(demand) => {
+                if self.deliver_demand(position, &demand)? {
+                    return Ok(Came::Went);
+                }
+                self.advance_full(position)
+            }
+            None => self.advance_full(position),
+        }
+    }
+
+    /// The same where it is handled in full.
+    #[tactic(auto, using(crate::proofs::MachinesLemmas::came_from))]
+    #[inline(never)]
+    fn advance_full(&mut self, position: usize) -> Result<Came, TakeError>
+        requires { position < length self.old.world.flight }
+
+        ensures world { OnOk result
+            (self.new ≡ record self.old { world = delivered self.old.graph self.old.count self.old.world position }) }
+        ensures step { IfOk result
+            (λ came. option_map (λ e. came_of e.step) (event_at self.old.graph self.old.count self.old.world position)
+            ≡ Some came) }
+
+        ensures end { (result ≡ Err StampEnd) ↔
+            (event_at self.old.graph self.old.count self.old.world position ≡ None) }
+        ensures err { OnErr result (self.new ≡ self.old) }
+    {
         match self.deliver_any(position)? {
             Step::Went => Ok(Came::Went),
             Step::Fault(_) => Ok(Came::Failed),
@@ -270,6 +300,34 @@ impl<'a> Machine<'a> {
             .flight
             .give_plain(position, token, &mut self.elements[number])?;
         Ok(short)
+    }
+
+    /// Delivers the read or the write of a cell at a position, as `deliver` does, where that is short, and answers
+    /// whether it was: all went well then.
+    #[inline(always)]
+    fn deliver_demand(&mut self, position: usize, demand: &Demand) -> Result<bool, TakeError>
+        requires { slice_get self.old.world.flight position ≡ Some (demanded demand.now) }
+
+        ensures world { result ≡ Ok true →
+            self.new ≡ record self.old { world = delivered self.old.graph self.old.count self.old.world position } }
+        ensures step { result ≡ Ok true →
+            option_map (λ e. e.step) (event_at self.old.graph self.old.count self.old.world position) ≡ Some Went }
+        ensures apart { result ≡ Ok false → self.new ≡ self.old }
+
+        ensures end { (result ≡ Err StampEnd) ↔
+            (event_at self.old.graph self.old.count self.old.world position ≡ None) }
+        ensures err { OnErr result (self.new ≡ self.old) }
+    {
+        let number = route(&demand.message(), self.elements.len() as u32) as usize;
+        let element = &self.elements[number];
+        if element.is_ended_at(u64::from(demand.like.stamp)) {
+            return Err(TakeError::StampEnd);
+        }
+        self.flight.open(position)?;
+        let handled = self
+            .flight
+            .give_demand(position, demand, &mut self.elements[number])?;
+        Ok(handled)
     }
 
     /// Whether nothing is in flight and no event was a fault or `Stuck`. Takes no memory.
