@@ -517,6 +517,15 @@ pub(crate) fn send_deed(instr: &Instr, like: &PlainToken, deed: Deed, outputs: &
         Deed::Stored(cell, number) => {
             outputs.push_write_reserved(&PlainToken { output: 0, ..*like }, cell, number)
         }
+        Deed::Switched(true, value) => {
+            let dests = instr.dests.as_slice();
+            send_plain(dests, &PlainToken { value, ..*like }, outputs)
+        }
+        Deed::Switched(false, value) => send_plain(
+            instr.others.as_slice(),
+            &PlainToken { value, ..*like },
+            outputs,
+        ),
     }
 }
 

@@ -6,14 +6,15 @@ ghost use Rattle.id_tag.specs.declared.Tag.{Tag};
 ghost use Rattle.id_ops.specs.declared.Fresh.{Fresh};
 ghost use Rattle.id_ops.specs.declared.Operands.TheVariants.{One, Two};
 ghost use Rattle.id_ops.specs.Deeds.{fired_by_deed};
-ghost use Rattle.id_ops.specs.Operators.{address_in, fired};
+ghost use Rattle.id_ops.specs.Operators.{address_in, fired, fired_switch};
+ghost use Rattle.id_tag.specs.declared.Value.TheVariants as values;
 
 use crate::Fired;
-use id_graph::Op;
+use id_graph::{Op, PortKind};
 use id_tag::{Cell, Plain, PlainCell, Structure, Tag, Value, plain_cell};
 use id_value::is_inside;
 
-/// A firing of `address`, `fetch` or `store`.
+/// A firing of `address`, `fetch` or `store`, or of `switch` on a structure.
 #[derive(Clone, Copy)]
 pub enum Deed {
     /// The address of the cell goes to each destination under the tag of the operands.
@@ -23,6 +24,8 @@ pub enum Deed {
     Asked(PlainCell, u32),
     /// The number goes to the cell, from the store of the tag of the operands.
     Stored(PlainCell, i64),
+    /// The value goes to each destination on this side under the tag of the operands.
+    Switched(bool, Plain),
 }
 
 impl Deed {
@@ -42,6 +45,7 @@ impl Deed {
                 value: Value::Int(number),
                 origin: tag,
             },
+            Deed::Switched(side, value) => Fired::Side(side, value.value()),
         }
     }
 }
@@ -64,6 +68,9 @@ pub fn deed_on_two(op: Op, left: Plain, right: Plain) -> Option<Deed>
     ensures { IfSome result
         (λ d. (t : Tag) (f : Fresh) → fired op t (Two (whole left) (whole right)) f ≡ fired_by_deed t d) }
 {
+    if let (Op::Switch(kind), Plain::Bool(side)) = (op, left) {
+        return switched(kind, side, right);
+    }
     match (op, left.value(), right) {
         (Op::Address, Value::Structure(structure), Plain::Int(index)) => addressed(
             structure, index,
@@ -71,6 +78,18 @@ pub fn deed_on_two(op: Op, left: Plain, right: Plain) -> Option<Deed>
         (Op::Store, Value::Address(cell), Plain::Int(number)) => {
             Some(Deed::Stored(plain_cell(cell)?, number))
         }
+        _ => None,
+    }
+}
+
+/// What a switch of this kind does with a structure.
+#[inline(always)]
+fn switched(kind: PortKind, side: bool, value: Plain) -> Option<Deed>
+    ensures { IfSome result
+        (λ d. (t : Tag) → fired_switch kind (Two (values.Bool side) (whole value)) ≡ fired_by_deed t d) }
+{
+    match (kind, value) {
+        (PortKind::Structure, Plain::Structure(_, _, _, _)) => Some(Deed::Switched(side, value)),
         _ => None,
     }
 }

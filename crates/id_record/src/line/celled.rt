@@ -294,7 +294,7 @@ fn scene_of_truth(truth: bool, fired: &Fired) -> Option<Scene>
 
 /// What needs no more than its kind and a cell.
 #[inline(always)]
-fn of_kind(kind: Kind, cell: Cell) -> Scene
+pub(super) fn of_kind(kind: Kind, cell: Cell) -> Scene
     ensures { result ≡ record { kind = kind; value = pos 0; result = pos 0; cell = cell } }
 {
     of_number(kind, 0, cell)
@@ -328,7 +328,7 @@ pub(super) fn of_result(kind: Kind, number: i64, cell: Cell) -> Scene
 
 /// A cell of a structure, which stands for it.
 #[inline(always)]
-fn first_cell(structure: Structure) -> Cell
+pub(super) fn first_cell(structure: Structure) -> Cell
     ensures { result ≡ record { structure = structure; index = structure.low } }
 {
     Cell {

@@ -13,13 +13,15 @@ ghost use Rattle.id_record.specs.Lines.{instr_at, low_half, port_at, saying, tag
 ghost use Rattle.id_record.specs.Lines.{token_told};
 ghost use Rattle.id_record.specs.Shootings.{HasLine, doing};
 
-use super::celled::{Celled, Content, Scene, by_token, is_same_cell, of_number, of_result};
+use super::celled::{
+    Celled, Content, Scene, by_token, first_cell, is_same_cell, of_kind, of_number, of_result,
+};
 use super::numbers::{instr_at, joined, place};
 use super::reading::{cell_in, tag_at};
 use super::shooting::token_line;
 use super::{Effect, Handled, Kind, Line, Written, message_at, went};
 use id_ops::{Deed, Fired};
-use id_tag::{Cell, Payload, PlainCell, PlainToken, Tag, Value};
+use id_tag::{Cell, Payload, Plain, PlainCell, PlainToken, Tag, Value};
 
 /// A plain token that is being handled, the stamp of that event, and the deed of its instruction.
 #[derive(Clone, Copy)]
@@ -128,6 +130,25 @@ fn stored(deed: Deed, value: Value) -> Option<Scene>
         (Deed::Stored(cell, number), Value::Address(to)) => stored_at(cell, number, to),
         (Deed::Stored(cell, number), Value::Int(own)) if own == number => {
             Some(of_number(Kind::IntStored, number, cell.cell()))
+        }
+        (Deed::Switched(side, sent), Value::Bool(truth)) if side == truth => switched(side, sent),
+        _ => None,
+    }
+}
+
+/// What a line keeps of a truth value that sends a structure on at its side.
+#[inline(always)]
+fn switched(side: bool, sent: Plain) -> Option<Scene>
+    ensures kind { IfSome result (λ s. IsCelled s.kind) }
+    ensures told { IfSome result (λ s. (t : Tag) (p : Port) → told s.kind t p s.value s.result s.cell
+        ≡ token_told t p (value.Bool side) (firings.Side side (whole sent))) }
+{
+    match (side, sent.value()) {
+        (true, Value::Structure(structure)) => {
+            Some(of_kind(Kind::TrueSwitched, first_cell(structure)))
+        }
+        (false, Value::Structure(structure)) => {
+            Some(of_kind(Kind::FalseSwitched, first_cell(structure)))
         }
         _ => None,
     }
