@@ -143,7 +143,8 @@ impl Model for Bank {
 
 impl Bank {
     ghost use Rattle.std.specs.Prelude.{◌↔◌, IsTrue};
-    ghost use Rattle.id_bank.specs.Cells.{read_after, write_after, count_expected, count_readers, cells_of, deferred_of};
+    ghost use Rattle.id_bank.specs.Cells.{read_after, write_after, cells_of, deferred_of};
+    ghost use Rattle.id_bank.specs.Cells.{count_expected, count_readers};
 
     /// The bank of which no cell was read or written. Takes no memory.
     pub fn new(alloc: Global) -> Bank

@@ -4,7 +4,8 @@ ghost use Rattle.std.specs.Prelude.{◌≡◌, ◌++◌, IfOk, OnOk, OnErr};
 ghost use Rattle.std.specs.Prelude.{map as map_list, Some};
 ghost use Rattle.std.specs.List.{flat_map};
 ghost use Rattle.id_bank.specs.declared.ReadAnswer.TheVariants.{Deferred as PutOff};
-ghost use Rattle.id_bank.specs.Cells.{read_answer, state_read, write_answer, state_written, count_expected, count_readers};
+ghost use Rattle.id_bank.specs.Cells.{read_answer, state_read, write_answer, state_written, count_expected};
+ghost use Rattle.id_bank.specs.Cells.{count_readers};
 ghost use Rattle.id_bank.specs.Cells.{filled_at, readers_at};
 ghost use Rattle.id_bank.specs.Slots.{value_of, state_of, key_of};
 

@@ -327,8 +327,8 @@ impl<'a> Desk<'a> {
         Ok(())
     }
 
-    /// Sends the answer to a read in small numbers, if it has one, and records the event. There is room for it. Takes no
-    /// memory.
+    /// Sends the answer to a read in small numbers, if it has one, and records the event. There is room for it. Takes
+    /// no memory.
     #[inline(always)]
     fn answer_demand(&mut self, read: &Demand, stamp: u32, answer: ReadAnswer, outputs: &mut Queue)
         requires is { read.now.number ≡ None }
@@ -502,7 +502,8 @@ impl<'a> Desk<'a> {
         self.visit(write, stamp, Fate::Filled(number, replies));
     }
 
-    /// Records the event of a read or a write in small numbers that came to this. There is room for it. Takes no memory.
+    /// Records the event of a read or a write in small numbers that came to this. There is room for it. Takes no
+    /// memory.
     #[inline(always)]
     fn visit(&mut self, demand: &Demand, stamp: u32, fate: Fate)
         requires room { 0 < self.old.log.room }
