@@ -94,8 +94,8 @@ impl Queue {
         plain_in(self.parcels.at(position))
     }
 
-    /// The read of a cell, or the write of a number to one, at a position, from 0, where a parcel keeps one there. Takes
-    /// no memory.
+    /// The read of a cell, or the write of a number to one, at a position, from 0, where a parcel keeps one there.
+    /// Takes no memory.
     #[inline(always)]
     pub fn demand(&self, position: usize) -> Option<Demand>
         requires { position < length self.now.messages }
