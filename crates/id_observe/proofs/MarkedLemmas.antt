@@ -46,7 +46,8 @@ filter_map-skip : {B : Type 0} (h : EventView → Option B) (marks : List Bool) 
 filter_map-skip h marks es i j le un none =
     steady (λ k. filter_map h (take k es)) i j le (λ k below from.
     let there = unmarked-at marks es i j k un below from in
-    filter_map-next h es k there.0 there.1 ∙ ap (λ o. filter_map h (take k es) ++ cons_option o []) (none there.0 there.2) ∙ append-nil (filter_map h (take k es)))
+    filter_map-next h es k there.0 there.1 ∙ ap (λ o. filter_map h (take k es) ++ cons_option o []) (none there.0 there.2)
+    ∙ append-nil (filter_map h (take k es)))
 
 or-false : (a b : Bool) → (a || b) ≡ false → (a ≡ false) × (b ≡ false)
 or-false true b is = cc
@@ -57,7 +58,8 @@ untold : (g : Parts) (n : ℕ) → is_marked (telling_marks g) n ≡ false → (
 untold g n not =
     from (slice_get g.instrs n) (ap (λ o. unwrap_or o false) (sym (slice_get-map (λ i. is_telling i.op) g.instrs n)) ∙ not)
   where
-    from : (o : Option Instr) → unwrap_or (option_map (λ i. is_telling i.op) o) false ≡ false → (is_enter (option_map (λ i. i.op) o) ≡ false) × (is_alloc (option_map (λ i. i.op) o) ≡ false)
+    from : (o : Option Instr) → unwrap_or (option_map (λ i. is_telling i.op) o) false ≡ false
+        → (is_enter (option_map (λ i. i.op) o) ≡ false) × (is_alloc (option_map (λ i. i.op) o) ≡ false)
     from None is = (refl, refl)
     from (Some i) is = or-false (is_enter (Some i.op)) (is_alloc (Some i.op)) is
 
@@ -83,7 +85,8 @@ makers-skip g es i j s old le un =
 pub making_of-none : (g : Parts) (e : EventView) → is_alloc (op_at g (tag_of e.message.payload).instr) ≡ false → making_of g e ≡ None
 making_of-none g e not = ap (option_map _) (made_by-none (op_at g (tag_of e.message.payload).instr) e.fired not)
 
-pub makings-skip : (g : Parts) (es : List EventView) (i j : ℕ) → i ≤ j → AreUnmarked (telling_marks g) es i j → makings_of g (take j es) ≡ makings_of g (take i es)
+pub makings-skip : (g : Parts) (es : List EventView) (i j : ℕ) → i ≤ j → AreUnmarked (telling_marks g) es i j
+    → makings_of g (take j es) ≡ makings_of g (take i es)
 makings-skip g es i j le un =
     filter_map-skip (making_of g) (telling_marks g) es i j le un (λ e not. making_of-none g e (untold g _ not).1)
 
@@ -95,13 +98,15 @@ shapes_of-makings g path (e ∷ es) =
   where
     one : (o : Option Structure)
         → map (shape_at g path) (cons_option (option_map (λ s. record { structure = s; tag = tag_of e.message.payload }) o) (makings_of g es))
-        ≡ cons_option (option_map (λ s. record { name = site_at g path (tag_of e.message.payload); low = s.low; high = s.high }) o) (map (shape_at g path) (makings_of g es))
+        ≡ cons_option (option_map (λ s. record { name = site_at g path (tag_of e.message.payload); low = s.low; high = s.high }) o)
+        (map (shape_at g path) (makings_of g es))
     one None = refl
     one (Some s) = refl
 
 -- what is shown of them, where tables tell what the events of elements do
 pub structures-from_makings : (g h : Parts) (es : List ElementView) (p : Paths) → p.graph.now ≡ h → path_by p ≡ path_in h (map (λ e. e.state) es)
-    → p.makings.items ≡ makings_of h (events_of (map (λ e. e.state) es)) → h ≡ g → map (shape_at p.graph.now (path_by p)) p.makings.items ≡ structures_in g (map (λ e. e.state) es)
+    → p.makings.items ≡ makings_of h (events_of (map (λ e. e.state) es)) → h ≡ g
+    → map (shape_at p.graph.now (path_by p)) p.makings.items ≡ structures_in g (map (λ e. e.state) es)
 structures-from_makings g h es p graph path makings same =
     let ss = map (λ e. e.state) es in
     ap (λ x. map (shape_at x (path_by p)) p.makings.items) graph ∙ ap (λ f. map (shape_at h f) p.makings.items) path
@@ -110,7 +115,8 @@ structures-from_makings g h es p graph path makings same =
 -- events of other instructions than the first bring no answer
 pub answers-skip : (es : List EventView) (i j : ℕ) → i ≤ j → AreUnmarked (true ∷ []) es i j → answers (take j es) ≡ answers (take i es)
 answers-skip es i j le un =
-    filter_map-skip (λ e. brought e.message.payload) (true ∷ []) es i j le un (λ e not. brought-elsewhere e.message.payload (λ first. absurd (marked _ first not)))
+    filter_map-skip (λ e. brought e.message.payload) (true ∷ []) es i j le un
+    (λ e not. brought-elsewhere e.message.payload (λ first. absurd (marked _ first not)))
   where
     marked : (n : ℕ) → n ≡ 0 → is_marked (true ∷ []) n ≡ false → ⊥
     marked zero is not = cc

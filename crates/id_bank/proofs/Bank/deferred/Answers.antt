@@ -19,4 +19,6 @@ returns c =
 -- no reply waits
 pub returns-then-none_waits : goal.returns-then-none_waits
 returns-then-none_waits c =
-    record { items = c.new.ensures.items ∙ sym (deferred_of-none c.self.inside.slots.entries (recursion_from_All _ _ (c.none_waits.ensures.0 c.if-none_waits.true))) ∙ ap deferred_of c.self.view_is }
+    let es = c.self.inside.slots.entries in
+    let none = deferred_of-none es (recursion_from_All _ _ (c.none_waits.ensures.0 c.if-none_waits.true)) in
+    record { items = c.new.ensures.items ∙ sym none ∙ ap deferred_of c.self.view_is }

@@ -16,7 +16,8 @@ loop-alloc-preserved c =
     let p = c.args.paths.now in
     let es = c.args.events.now in
     let i = c.next_marked-position.result in
-    let between : AreUnmarked (label_marks p.graph.now) es c.loop-alloc.from i = subst (λ m. AreUnmarked m es c.loop-alloc.from i) c.requires c.next_marked-position.ensures.between in
+    let between : AreUnmarked (label_marks p.graph.now) es c.loop-alloc.from i =
+    subst (λ m. AreUnmarked m es c.loop-alloc.from i) c.requires c.next_marked-position.ensures.between in
     let skip = names-skip p.graph.now (path_by p) (structure_by p) es c.loop-alloc.from i c.next_marked-position.ensures.from between in
     let next = filter_map-next_part (λ e. e.message.payload) (name_in p.graph.now (path_by p) (structure_by p)) es i _ c.payload-payload.ensures in
     record {
@@ -31,6 +32,7 @@ returns-then-position-len c =
     let es = c.args.events.now in
     let i = c.next_marked-position.result in
     let all : take i es ≡ es = take_all _ _ (omega (arith, c.if-position-len.true, c.len.ensures)) in
-    let between : AreUnmarked (label_marks p.graph.now) es c.loop-alloc.from i = subst (λ m. AreUnmarked m es c.loop-alloc.from i) c.requires c.next_marked-position.ensures.between in
+    let between : AreUnmarked (label_marks p.graph.now) es c.loop-alloc.from i =
+    subst (λ m. AreUnmarked m es c.loop-alloc.from i) c.requires c.next_marked-position.ensures.between in
     let skip = names-skip p.graph.now (path_by p) (structure_by p) es c.loop-alloc.from i c.next_marked-position.ensures.from between in
     c.loop-alloc.invariant.names ∙ ap (λ ns. c.args.names.now.items ++ ns) (sym skip ∙ ap (names_of p.graph.now (path_by p) (structure_by p)) all)

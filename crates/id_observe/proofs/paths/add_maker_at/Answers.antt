@@ -27,7 +27,8 @@ returns-in_ok-add_maker-clause-makings c = λ e at.
     let old = c.args.makings.now.items in
     c.in_ok-add_maker.ensures.makings
     ∙ ap (λ m. old ++ cons_option (option_map (λ s. record { structure = s; tag = c.tag_of-tag.result }) m) []) c.made.ensures
-    ∙ ap (λ t. old ++ cons_option (option_map (λ s. record { structure = s; tag = t }) (made_by (op_at g t.instr) c.event-event.result.fired)) []) c.tag_of-tag.ensures
+    ∙ ap (λ t. old ++ cons_option (option_map (λ s. record { structure = s; tag = t })
+    (made_by (op_at g t.instr) c.event-event.result.fired)) []) c.tag_of-tag.ensures
     ∙ ap (λ x. old ++ cons_option (making_of g x) []) (one-at _ e c.event-event.ensures at)
 
 pub returns-else-is_alloc-clause-makers : goal.returns-else-is_alloc-clause-makers
@@ -40,4 +41,5 @@ pub returns-else-is_alloc-clause-makings : goal.returns-else-is_alloc-clause-mak
 returns-else-is_alloc-clause-makings c = λ e at.
     let g = c.args.graph.now in
     let is = part-is (λ x. op_at g (tag_of x.message.payload).instr) (slice_get c.args.events.now c.args.position) e c.args.op at c.requires.op in
-    sym (ap (λ o. c.args.makings.now.items ++ cons_option o []) (making_of-none g e (ap is_alloc is ∙ sym c.is_alloc.ensures ∙ c.if-is_alloc.false)) ∙ append-nil c.args.makings.now.items)
+    sym (ap (λ o. c.args.makings.now.items ++ cons_option o []) (making_of-none g e (ap is_alloc is ∙ sym c.is_alloc.ensures ∙ c.if-is_alloc.false))
+    ∙ append-nil c.args.makings.now.items)

@@ -29,21 +29,30 @@ loop-from-preserved c =
     let es = c.args.events.now in
     let i = c.next_marked-position.result in
     let there = element-at es i (omega (arith, c.if-position-len.false, c.len.ensures)) in
-    let between : AreUnmarked (telling_marks g) es c.loop-from.from i = subst (λ m. AreUnmarked m es c.loop-from.from i) c.requires c.next_marked-position.ensures.between in
+    let between : AreUnmarked (telling_marks g) es c.loop-from.from i =
+    subst (λ m. AreUnmarked m es c.loop-from.from i) c.requires c.next_marked-position.ensures.between in
     record {
       within = omega (arith, c.if-position-len.false, c.len.ensures);
       enters = λ d.
           c.in_ok-add_enter_at.ensures there.0 there.1 d
           ∙ ap (option_or (enter_of g there.0 d))
-          (c.loop-from.invariant.enters d ∙ sym (enters-skip g es c.loop-from.from i d (get same_context c.args.enters.now d) c.next_marked-position.ensures.from between))
+          (c.loop-from.invariant.enters d ∙ sym (enters-skip g es c.loop-from.from i d
+          (get same_context c.args.enters.now d) c.next_marked-position.ensures.from between))
           ∙ sym (enter_in-next g es i there.0 d (get same_context c.args.enters.now d) there.1);
       makers = λ d.
           c.in_ok-add_maker_at.ensures.makers there.0 there.1 d
           ∙ ap (option_or (maker_of g there.0 d))
-          (c.loop-from.invariant.makers d ∙ sym (makers-skip g es c.loop-from.from i d (get same_structure c.args.makers.now d) c.next_marked-position.ensures.from between))
+          (c.loop-from.invariant.makers d ∙ sym (makers-skip g es c.loop-from.from i d
+          (get same_structure c.args.makers.now d) c.next_marked-position.ensures.from between))
           ∙ sym (maker_in-next g es i there.0 d (get same_structure c.args.makers.now d) there.1);
       makings =
-          rw (c.in_ok-add_maker_at.ensures.makings there.0 there.1, c.loop-from.invariant.makings, filter_map-next (making_of g) es i there.0 there.1, makings-skip g es c.loop-from.from i c.next_marked-position.ensures.from between, append_assoc);
+          rw (
+            c.in_ok-add_maker_at.ensures.makings there.0 there.1,
+            c.loop-from.invariant.makings,
+            filter_map-next (making_of g) es i there.0 there.1,
+            makings-skip g es c.loop-from.from i c.next_marked-position.ensures.from between,
+            append_assoc,
+          );
     }
 
 -- all events are passed
@@ -53,23 +62,29 @@ returns-then-position-len c =
     let es = c.args.events.now in
     let i = c.next_marked-position.result in
     let all : take i es ≡ es = take_all _ _ (omega (arith, c.if-position-len.true, c.len.ensures)) in
-    let between : AreUnmarked (telling_marks g) es c.loop-from.from i = subst (λ m. AreUnmarked m es c.loop-from.from i) c.requires c.next_marked-position.ensures.between in
+    let between : AreUnmarked (telling_marks g) es c.loop-from.from i =
+    subst (λ m. AreUnmarked m es c.loop-from.from i) c.requires c.next_marked-position.ensures.between in
     record {
       enters = λ d.
-          c.loop-from.invariant.enters d ∙ sym (enters-skip g es c.loop-from.from i d (get same_context c.args.enters.now d) c.next_marked-position.ensures.from between)
+          c.loop-from.invariant.enters d ∙ sym (enters-skip g es c.loop-from.from i d
+          (get same_context c.args.enters.now d) c.next_marked-position.ensures.from between)
           ∙ ap (λ xs. option_or (enter_in g xs d) (get same_context c.args.enters.now d)) all;
       makers = λ d.
-          c.loop-from.invariant.makers d ∙ sym (makers-skip g es c.loop-from.from i d (get same_structure c.args.makers.now d) c.next_marked-position.ensures.from between)
+          c.loop-from.invariant.makers d ∙ sym (makers-skip g es c.loop-from.from i d
+          (get same_structure c.args.makers.now d) c.next_marked-position.ensures.from between)
           ∙ ap (λ xs. option_or (maker_in g xs d) (get same_structure c.args.makers.now d)) all;
       makings =
           c.loop-from.invariant.makings
-          ∙ ap (λ m. c.args.makings.now.items ++ m) (sym (makings-skip g es c.loop-from.from i c.next_marked-position.ensures.from between) ∙ ap (makings_of g) all);
+          ∙ ap (λ m. c.args.makings.now.items ++ m) (sym (makings-skip g es c.loop-from.from i c.next_marked-position.ensures.from between)
+          ∙ ap (makings_of g) all);
     }
 
 pub add_enter_at-requires-clause-op : goal.add_enter_at-requires-clause-op
 add_enter_at-requires-clause-op c =
-    image-from_part (λ e. (tag_of e.message.payload).instr) (op_at c.args.graph.now) (slice_get c.args.events.now c.next_marked-position.result) c.instr.result c.op_at-op.result c.instr.ensures c.op_at-op.ensures
+    image-from_part (λ e. (tag_of e.message.payload).instr) (op_at c.args.graph.now)
+    (slice_get c.args.events.now c.next_marked-position.result) c.instr.result c.op_at-op.result c.instr.ensures c.op_at-op.ensures
 
 pub add_maker_at-requires-clause-op : goal.add_maker_at-requires-clause-op
 add_maker_at-requires-clause-op c =
-    image-from_part (λ e. (tag_of e.message.payload).instr) (op_at c.args.graph.now) (slice_get c.args.events.now c.next_marked-position.result) c.instr.result c.op_at-op.result c.instr.ensures c.op_at-op.ensures
+    image-from_part (λ e. (tag_of e.message.payload).instr) (op_at c.args.graph.now)
+    (slice_get c.args.events.now c.next_marked-position.result) c.instr.result c.op_at-op.result c.instr.ensures c.op_at-op.ensures

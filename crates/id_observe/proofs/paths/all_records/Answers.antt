@@ -32,5 +32,6 @@ loop-element-preserved c =
       makers = λ d.
           c.in_ok-add_record.ensures.makers d ∙ ap (λ xs. option_or (maker_in g xs d) (get same_structure c.loop-element.makers d)) c.events.ensures.value
           ∙ ap (option_or (maker_in g e.state.events d)) (c.loop-element.invariant.makers d) ∙ sym (makers-next g es i e d at);
-      makings = rw (c.in_ok-add_record.ensures.makings, c.loop-element.invariant.makings, c.events.ensures.value, walk-next (λ s. s.events) (making_of g) es i e at);
+      makings =
+          rw (c.in_ok-add_record.ensures.makings, c.loop-element.invariant.makings, c.events.ensures.value, walk-next (λ s. s.events) (making_of g) es i e at);
     }

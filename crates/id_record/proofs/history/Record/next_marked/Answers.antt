@@ -15,8 +15,11 @@ pub loop-position-preserved : goal.loop-position-preserved
 loop-position-preserved c =
     let es = c.args.self.now.events in
     let here : option_map (is_marked_in c.args.marks.now) (slice_get es c.loop-position.position) ≡ Some false =
-    image-from_part (λ e. (tag_of e.message.payload).instr) (is_marked c.args.marks.now) (slice_get es c.loop-position.position) c.instr.result _ c.instr.ensures (sym c.if-is_marked.false ∙ c.is_marked.ensures) in
+    image-from_part (λ e. (tag_of e.message.payload).instr) (is_marked c.args.marks.now)
+    (slice_get es c.loop-position.position) c.instr.result _ c.instr.ensures (sym c.if-is_marked.false ∙ c.is_marked.ensures) in
     record {
       after = omega arith;
-      unmarked = below_more (λ (k : ℕ). c.args.from ≤ k → option_map (is_marked_in c.args.marks.now) (slice_get es k) ≡ Some false) c.loop-position.position c.loop-position.invariant.unmarked (λ from. here);
+      unmarked =
+          below_more (λ (k : ℕ). c.args.from ≤ k → option_map (is_marked_in c.args.marks.now)
+          (slice_get es k) ≡ Some false) c.loop-position.position c.loop-position.invariant.unmarked (λ from. here);
     }
