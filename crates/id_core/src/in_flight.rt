@@ -258,8 +258,8 @@ impl InFlight {
         Ok(short)
     }
 
-    /// Gives the read or the write at a position beside the gap to an element, as `give_next` does, where that is short,
-    /// and answers whether it was.
+    /// Gives the read or the write at a position beside the gap to an element, as `give_next` does, where that is
+    /// short, and answers whether it was.
     #[inline(always)]
     pub(crate) fn give_demand(
         &mut self,
