@@ -9,7 +9,6 @@ use Rattle.id_tag.specs.declared.Tag.{Tag}
 use Rattle.id_tag.specs.declared.Value.{Value}
 use Rattle.id_tag.specs.declared.plain.Plain.TheVariants.{Signal}
 use Rattle.id_tag.specs.Plains.{whole}
-use Rattle.id_tag.specs.Near.{mix}
 use Rattle.id_tag.specs.Tags.{same_tag}
 use Rattle.id_graph.specs.declared.dests.Port.{Port}
 use Rattle.id_match.specs.declared.Half.{Half}
@@ -71,9 +70,11 @@ IsSingle p = (t : Tag) → IsSome (held p.first t) → held p.second t ≡ None
 abbrev pub empty_pair : Pair
 empty_pair = record { first = empty_slot; second = empty_slot }
 
--- the place of a tag's numbers among n pairs: neighbouring serial numbers have places in a row
+-- the place of a tag's numbers among n pairs: neighbouring instructions of an iteration stand side by side, by groups
+-- of 32, the next iteration's 17 places further, and the next context's 1,021
 unfoldable pub place_of : ℕ → ℕ → ℕ → ℕ → ℕ
-place_of serial iteration instr n = bit_and ((mix 0 iteration / 2 ^ 32 + instr * 63_014_903 + serial) % 2 ^ 64) (n - 1)
+place_of serial iteration instr n =
+    bit_and ((instr / 32 * 63_014_903 + instr % 32 + iteration * 17 + serial * 1_021) % 2 ^ 64) (n - 1)
 
 -- the place of a tag
 abbrev pub place : Tag → ℕ → ℕ

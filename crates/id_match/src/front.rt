@@ -23,7 +23,7 @@ ghost use Rattle.id_match.specs.declared.front.Behind.TheVariants.{Nothing};
 
 use crate::{Entry, Half, Met, Offered, pair};
 use id_graph::Port;
-use id_tag::{Context, NearHasher, Plain, PlainToken, Tag, Value, mix, plain_of, small, tiny};
+use id_tag::{Context, NearHasher, Plain, PlainToken, Tag, Value, plain_of, small, tiny};
 use std::alloc::{AllocError, Global};
 use std::collections::HashMap;
 
@@ -99,9 +99,20 @@ const EMPTY_PAIR: Pair = Pair {
     second: EMPTY,
 };
 
-/// How far from one another the rows of two neighbouring instructions begin: its multiples by 1 to 200 lie nearly
-/// evenly apart among 2^12 to 2^23 places, so that few rows meet.
+/// How many neighbouring instructions have places side by side: those of one iteration, so that its values meet near
+/// one another.
+const GROUP: u32 = 32;
+
+/// How far from one another the places of two neighbouring groups begin: its multiples by 1 to 200 lie nearly evenly
+/// apart among 2^12 to 2^23 places, so that few groups meet.
 const APART: u64 = 63_014_903;
+
+/// How many places further the next iteration stands. It is odd, so that an instruction's values of as many iterations
+/// as there are places stand at a place each, and its pairs have room for a whole group in every iteration.
+const ITERATION: u64 = 17;
+
+/// How many places further the next context stands, odd as well, and further than the iterations of most loops.
+const CONTEXT: u64 = 1_021;
 
 /// The place of a tag's numbers among so many pairs.
 #[inline(always)]
@@ -110,8 +121,10 @@ fn place_of(serial: u64, iteration: u64, instr: u32, len: usize) -> usize
     ensures exact { result ≡ place_of serial iteration instr len }
     ensures below { result < len }
 {
-    let row = (mix(0, iteration) >> 32) + u64::from(instr) * APART;
-    let at = row.wrapping_add(serial);
+    let row = u64::from(instr / GROUP) * APART + u64::from(instr % GROUP);
+    let at = row
+        .wrapping_add(iteration.wrapping_mul(ITERATION))
+        .wrapping_add(serial.wrapping_mul(CONTEXT));
     (at & (len as u64 - 1)) as usize
 }
 
