@@ -27,10 +27,10 @@ use std::collections::HashMap;
 use std::collections::hash_map::Entry as Place;
 use std::marker::Model;
 
-/// Replies that wait for one value, in order of arrival. One alone takes no memory of its own.
+/// Replies that wait for one value, in order of arrival. Two take no memory of their own.
 #[derive(Drop)]
 pub struct Replies {
-    list: SmallVec<Tag, 1>,
+    list: SmallVec<Tag, 2>,
 }
 
 impl Model for Replies {
@@ -294,7 +294,8 @@ fn in_order(
         map.entries (map.from_entries {R = cell_cmp} (map_list entry_of slots.now.entries))) }
 {
     let mut listed = listed(alloc, slots)?;
-    listed.sort_unstable_by_key(|e| e.0);
+    // Cells are often touched in runs, up or down, which are merged.
+    listed.sort_by_key(|e| e.0)?;
     Ok(listed)
 }
 
