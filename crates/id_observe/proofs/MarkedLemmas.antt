@@ -1,5 +1,5 @@
 -- Lemmas on walks that pass over the events of instructions that are not marked.
-use Rattle.std.proofs.Common.{◌≡◌, ℕ, zero, suc, ◌+◌, ◌-◌, ◌<◌, ◌≤◌, Bool, true, false, ◌||◌, Option, Some, None, List, [], ◌∷◌, ◌++◌, map, take, refl, sym, ap, ◌∙◌, append-nil, arith}
+use Rattle.std.proofs.Common.{◌≡◌, ℕ, zero, suc, ◌+◌, ◌-◌, ◌<◌, ◌≤◌, Bool, true, false, ◌||◌, Option, Some, None, List, [], ◌∷◌, ◌++◌, drop, map, take, refl, sym, ap, ◌∙◌, append-nil, arith}
 use Rattle.std.specs.Prelude.{if◌then◌else◌, slice_get, option_map, unwrap_or}
 use Rattle.std.specs.List.{filter_map, cons_option}
 use Rattle.std.specs.Option.{option_or}
@@ -62,6 +62,19 @@ untold g n not =
         → (is_enter (option_map (λ i. i.op) o) ≡ false) × (is_alloc (option_map (λ i. i.op) o) ≡ false)
     from None is = (refl, refl)
     from (Some i) is = or-false (is_enter (Some i.op)) (is_alloc (Some i.op)) is
+
+-- what is marked beside the first is marked, and so is the first
+pub unsought : (ms : List Bool) (n : ℕ) → is_marked (true ∷ drop 1 ms) n ≡ false → (is_marked ms n ≡ false) × (is_marked (true ∷ []) n ≡ false)
+unsought ms zero not = cc
+unsought [] (suc n) not = (refl, refl)
+unsought (m ∷ ms) (suc n) not = (not, refl)
+
+-- where none is of an instruction with one of many marks, none is of one with one of fewer
+pub unmarked-fewer : (ns ms : List Bool) → ((n : ℕ) → is_marked ns n ≡ false → is_marked ms n ≡ false) → (es : List EventView) (i j : ℕ)
+    → AreUnmarked ns es i j → AreUnmarked ms es i j
+unmarked-fewer ns ms fewer es i j un k below from =
+    let there = unmarked-at ns es i j k un below from in
+    ap (option_map (is_marked_in ms)) there.1 ∙ ap Some (fewer _ there.2)
 
 -- events of others enter no context
 pub enters-skip : (g : Parts) (es : List EventView) (i j : ℕ) (c : Context) (old : Option Tag) → i ≤ j → AreUnmarked (telling_marks g) es i j

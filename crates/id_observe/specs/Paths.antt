@@ -1,5 +1,5 @@
 -- Paths of tags, and which tag made a structure (docs/MACHINE.md, "Paths of tags").
-use Rattle.std.specs.Prelude.{ℕ, zero, suc, ◌-◌, ◌==◌, ◌||◌, Bool, true, false, List, [], ◌∷◌, ◌++◌, length, map}
+use Rattle.std.specs.Prelude.{ℕ, zero, suc, ◌-◌, ◌==◌, ◌||◌, Bool, true, false, List, [], ◌∷◌, ◌++◌, drop, length, map}
 use Rattle.std.specs.Prelude.{Option, Some, None, slice_get, option_map, if◌then◌else◌}
 use Rattle.std.specs.List.{filter_map}
 use Rattle.std.specs.HashMap.{get}
@@ -129,6 +129,10 @@ is_telling o = is_enter (Some o) || is_alloc (Some o)
 -- of each instruction, by number, whether its events do
 abbrev pub telling_marks : Parts → List Bool
 telling_marks g = map (λ i. is_telling i.op) g.instrs
+
+-- the same with a mark of instruction 0, whose events bring the answer
+abbrev pub seeking_marks : Parts → List Bool
+seeking_marks g = true ∷ drop 1 (telling_marks g)
 
 -- the path of a tag, where these tables tell under which tag each context was entered, and how many steps it has at
 -- most

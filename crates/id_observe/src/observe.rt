@@ -68,7 +68,7 @@ pub fn observe_records(
     let cells = all_cells(alloc, &paths, elements)?;
     let waiting = all_waiting(alloc, &paths, elements)?;
     let faults = all_faults(alloc, &paths, elements)?;
-    let answer = value_in(alloc, &paths, first_value(elements))?;
+    let answer = value_in(alloc, &paths, paths.first_value())?;
     Ok(Observed {
         answer,
         names: Sequence::new(names),
@@ -79,9 +79,11 @@ pub fn observe_records(
     })
 }
 
-/// What a run shows of structures, named by paths and places of the text alone.
+/// What a run shows of its answer and of structures, named by paths and places of the text alone.
 #[derive(Drop)]
 pub struct Holdings {
+    /// The value of the first token that instruction 0 handled under main's tag.
+    pub answer: Option<SourceValue>,
     /// For each `alloc` that made one, one element's record after another's: the structure and its bounds.
     pub structures: Sequence<Shape>,
     /// For each cell that holds a value, one element's cells after another's: what is put into it, and by which store.
@@ -91,25 +93,28 @@ pub struct Holdings {
     pub waiting: Sequence<Ask>,
 }
 
-/// What these elements show of structures, for who asks for nothing else. Where no instruction makes structures and no
-/// cell was read or written, that takes no look at the records.
+/// What these elements show of the answer and of structures, for who asks for nothing else. The records are looked
+/// through once; where no instruction makes structures and no cell was read or written, for the answer alone.
 pub fn observe_holdings(
     alloc: Global,
     graph: &Valid,
     elements: &[Element<'_>],
 ) -> Result<Holdings, AllocError>
+    ensures answer { IfOk result (λ o. o.answer ≡ answer_in graph.now (map (λ e. e.state) elements.now)) }
     ensures structures { IfOk result (λ o. o.structures ≡ structures_in graph.now (map (λ e. e.state) elements.now)) }
     ensures cells { IfOk result (λ o. o.cells ≡ cells_in graph.now (map (λ e. e.state) elements.now)) }
     ensures waiting { IfOk result (λ o. o.waiting ≡ waiting_in graph.now (map (λ e. e.state) elements.now)) }
 {
     if hold_nothing(graph.graph(), elements) {
-        return Ok(no_holdings(alloc));
+        return Ok(no_holdings(alloc, answer(alloc, graph, elements)?));
     }
     let paths = Paths::new(alloc, graph.graph(), elements)?;
     let structures = all_structures(alloc, &paths)?;
     let cells = all_cells(alloc, &paths, elements)?;
     let waiting = all_waiting(alloc, &paths, elements)?;
+    let answer = value_in(alloc, &paths, paths.first_value())?;
     Ok(Holdings {
+        answer,
         structures: Sequence::new(structures),
         cells: Sequence::new(cells),
         waiting: Sequence::new(waiting),
@@ -137,13 +142,15 @@ fn have_no_cells(elements: &[Element<'_>]) -> bool
     elements.iter().all(|element| element.has_no_cells())
 }
 
-/// Nothing of structures.
-fn no_holdings(alloc: Global) -> Holdings
+/// This answer, and nothing of structures.
+fn no_holdings(alloc: Global, answer: Option<SourceValue>) -> Holdings
+    ensures answer { result.answer ≡ answer }
     ensures structures { result.structures ≡ [] }
     ensures cells { result.cells ≡ [] }
     ensures waiting { result.waiting ≡ [] }
 {
     Holdings {
+        answer,
         structures: Sequence::new(Vec::new(alloc)),
         cells: Sequence::new(Vec::new(alloc)),
         waiting: Sequence::new(Vec::new(alloc)),
@@ -393,7 +400,7 @@ fn first_answer(events: &Events<'_>) -> Option<Value>
 const FIRST: [bool; 1] = [true];
 
 /// The value that a token brings to instruction 0 under main's tag.
-fn brought(payload: &Payload) -> Option<Value>
+pub(crate) fn brought(payload: &Payload) -> Option<Value>
     ensures { result ≡ brought payload.now }
 {
     match *payload {

@@ -7,13 +7,13 @@ ghost use Rattle.std.specs.HashMap.{get};
 ghost use Rattle.id_tag.specs.Tags.{same_context, same_structure};
 ghost use Rattle.id_record.specs.Events.{EventView, tag_of};
 ghost use Rattle.id_valid.specs.Roles.{op_at};
-ghost use Rattle.id_observe.specs.Observed.{events_of};
+ghost use Rattle.id_observe.specs.Observed.{answers, events_of};
 ghost use Rattle.id_observe.specs.Paths.{place_of};
 ghost use Rattle.id_observe.specs.Paths.{enter_in, entered, entered_by, enters_loop, if_made, if_same, last_context};
 ghost use Rattle.id_observe.specs.Paths.{enter_of, is_alloc, is_enter, is_telling, made_by, maker_in, maker_of};
-ghost use Rattle.id_observe.specs.Paths.{making_of, makings_of, step_of, steps_to, telling_marks};
+ghost use Rattle.id_observe.specs.Paths.{making_of, makings_of, seeking_marks, step_of, steps_to, telling_marks};
 
-use crate::observe::{main_tag, place_of};
+use crate::observe::{brought, main_tag, place_of};
 use id_element::{Element, op_at};
 use id_graph::{Graph, Op};
 use id_list::Sequence;
@@ -42,6 +42,19 @@ fn telling_marks(alloc: Global, graph: &Graph) -> Result<Vec<bool>, AllocError>
     Ok(marks)
 }
 
+/// The same, with a mark of instruction 0, whose events bring the answer.
+fn seeking_marks(alloc: Global, graph: &Graph) -> Result<Vec<bool>, AllocError>
+    ensures { IfOk result (λ v. v.items ≡ seeking_marks graph.now) }
+{
+    let mut marks = telling_marks(alloc, graph)?;
+    if marks.is_empty() {
+        marks.push(true)?;
+    } else {
+        marks[0] = true;
+    }
+    Ok(marks)
+}
+
 /// Whether the events of an instruction tell of paths or structures.
 fn is_telling(op: Op) -> bool
     ensures { result ≡ is_telling op }
@@ -49,8 +62,8 @@ fn is_telling(op: Op) -> bool
     is_enter(Some(op)) || is_alloc(Some(op))
 }
 
-/// Adds the tags under which these events entered contexts and made structures, and those structures. Where these are
-/// the marks of the graph, events of other instructions are not looked at.
+/// Adds the tags under which these events entered contexts and made structures, those structures, and the values that
+/// they brought to the answer. Where these are the marks of the graph, events of other instructions are not looked at.
 fn add_record(
     graph: &Graph,
     marks: &[bool],
@@ -58,8 +71,9 @@ fn add_record(
     enters: &mut HashMap<Context, Tag>,
     makers: &mut HashMap<Structure, Tag>,
     makings: &mut Vec<Making>,
+    values: &mut Vec<Value>,
 ) -> Result<(), AllocError>
-    requires { marks.now ≡ telling_marks graph.now }
+    requires { marks.now ≡ seeking_marks graph.now }
     ensures enters { OnOk result
         ((c : Context)
         → get same_context enters.new c ≡ option_or (enter_in graph.now events.now c) (get same_context enters.old c)) }
@@ -68,6 +82,7 @@ fn add_record(
         → get same_structure makers.new s
         ≡ option_or (maker_in graph.now events.now s) (get same_structure makers.old s)) }
     ensures makings { OnOk result (makings.new.items ≡ makings.old.items ++ makings_of graph.now events.now) }
+    ensures values { OnOk result (values.new.items ≡ values.old.items ++ answers events.now) }
 {
     let mut from = 0;
     loop {
@@ -78,7 +93,21 @@ fn add_record(
         let op = op_at(graph, events.instr(position));
         add_enter_at(graph, op, events, position, enters)?;
         add_maker_at(graph, op, events, position, makers, makings)?;
+        add_value(brought(&events.payload(position)), values)?;
         from = position + 1;
+    }
+}
+
+/// Adds a value, if there is one.
+fn add_value(value: Option<Value>, values: &mut Vec<Value>) -> Result<(), AllocError>
+    ensures { OnOk result (values.new.items ≡ values.old.items ++ cons_option value []) }
+{
+    match value {
+        Some(value) => {
+            values.push(value)?;
+            Ok(())
+        }
+        None => Ok(()),
     }
 }
 
@@ -269,8 +298,8 @@ fn made(graph: &Graph, tag: Tag, fired: Fired) -> Option<Structure>
 }
 
 /// What the records of elements tell of the paths of tags and the names of structures: under which tag each context was
-/// entered and each structure was made, those structures one element's record after another's, and how many steps a
-/// path has at most.
+/// entered and each structure was made, those structures one element's record after another's, how many steps a path
+/// has at most, and which values came to the answer.
 #[derive(Drop)]
 pub(crate) struct Paths<'a> {
     graph: &'a Graph,
@@ -278,11 +307,12 @@ pub(crate) struct Paths<'a> {
     makers: HashMap<Structure, Tag>,
     makings: Vec<Making>,
     most: u128,
+    values: Vec<Value>,
 }
 
 impl<'a> Paths<'a> {
-    ghost use Rattle.std.specs.Prelude.{◌≡◌, map, IfOk};
-    ghost use Rattle.id_observe.specs.Observed.{events_of, path_in, site_at, structure_by, structure_in};
+    ghost use Rattle.std.specs.Prelude.{◌≡◌, map, slice_get, IfOk};
+    ghost use Rattle.id_observe.specs.Observed.{answers, events_of, path_in, site_at, structure_by, structure_in};
     ghost use Rattle.id_observe.specs.Paths.{makings_of, path_by};
 
     /// What the records of these elements tell.
@@ -297,8 +327,10 @@ impl<'a> Paths<'a> {
         ensures makings { IfOk result
             (λ p. p.makings.items ≡ makings_of graph.now (events_of (map (λ e. e.state) elements.now))) }
         ensures graph { IfOk result (λ p. p.graph.now ≡ graph.now) }
+        ensures values { IfOk result
+            (λ p. p.values.items ≡ answers (events_of (map (λ e. e.state) elements.now))) }
     {
-        let (enters, makers, makings) = all_records(alloc, graph, elements)?;
+        let (enters, makers, makings, values) = all_records(alloc, graph, elements)?;
         let most = count_events(elements);
         Ok(Paths {
             graph,
@@ -306,6 +338,7 @@ impl<'a> Paths<'a> {
             makers,
             makings,
             most,
+            values,
         })
     }
 
@@ -341,6 +374,13 @@ impl<'a> Paths<'a> {
         self.makings.as_slice()
     }
 
+    /// The first value that came to the answer.
+    pub(crate) fn first_value(&self) -> Option<Value>
+        ensures { result ≡ slice_get self.now.values.items 0 }
+    {
+        self.values.first().copied()
+    }
+
     /// The graph.
     pub(crate) fn graph(&self) -> &'a Graph
         ensures { result.now ≡ self.now.graph.now }
@@ -350,12 +390,20 @@ impl<'a> Paths<'a> {
 }
 
 /// The tags under which the records of these elements tell that contexts were entered, those under which structures
-/// were made, and those structures, one record after another.
+/// were made, those structures, and the values that came to the answer, one record after another.
 fn all_records(
     alloc: Global,
     graph: &Graph,
     elements: &[Element<'_>],
-) -> Result<(HashMap<Context, Tag>, HashMap<Structure, Tag>, Vec<Making>), AllocError>
+) -> Result<
+    (
+        HashMap<Context, Tag>,
+        HashMap<Structure, Tag>,
+        Vec<Making>,
+        Vec<Value>,
+    ),
+    AllocError,
+>
     ensures enters { IfOk result
         (λ m. (c : Context)
         → get same_context m.0 c ≡ enter_in graph.now (events_of (map (λ e. e.state) elements.now)) c) }
@@ -364,11 +412,13 @@ fn all_records(
         → get same_structure m.1 s ≡ maker_in graph.now (events_of (map (λ e. e.state) elements.now)) s) }
     ensures makings { IfOk result
         (λ m. m.2.items ≡ makings_of graph.now (events_of (map (λ e. e.state) elements.now))) }
+    ensures values { IfOk result (λ m. m.3.items ≡ answers (events_of (map (λ e. e.state) elements.now))) }
 {
-    let marks = telling_marks(alloc, graph)?;
+    let marks = seeking_marks(alloc, graph)?;
     let mut enters = HashMap::new(alloc);
     let mut makers = HashMap::new(alloc);
     let mut makings = Vec::new(alloc);
+    let mut values = Vec::new(alloc);
     for element in elements {
         add_record(
             graph,
@@ -377,9 +427,10 @@ fn all_records(
             &mut enters,
             &mut makers,
             &mut makings,
+            &mut values,
         )?;
     }
-    Ok((enters, makers, makings))
+    Ok((enters, makers, makings, values))
 }
 
 /// How many events these elements have in their records. 128 bits hold the sum of as many lengths as a slice can have.

@@ -6,6 +6,7 @@ use Rattle.id_tag.specs.declared.Context.{Context}
 use Rattle.id_tag.specs.declared.Structure.{Structure}
 use Rattle.id_tag.specs.Tags.{same_context, same_structure}
 use Rattle.id_observe.specs.Paths.{enter_in, maker_in, makings_of}
+use Rattle.id_observe.specs.Observed.{answers}
 use Rattle.id_observe.proofs.paths.add_record.Given as goal
 
 abbrev pub invariant-loop-from : goal.invariant-loop-from
@@ -14,6 +15,7 @@ invariant-loop-from l = record {
   enters : (c : Context) → get same_context l.enters c ≡ option_or (enter_in l.graph (take l.from l.events) c) (get same_context l.fn.enters c);
   makers : (s : Structure) → get same_structure l.makers s ≡ option_or (maker_in l.graph (take l.from l.events) s) (get same_structure l.fn.makers s);
   makings : l.makings.items ≡ l.fn.makings.items ++ makings_of l.graph (take l.from l.events);
+  values : l.values.items ≡ l.fn.values.items ++ answers (take l.from l.events);
 }
 
 -- how many events are left

@@ -7,6 +7,7 @@ use Rattle.std.specs.HashMap.{get}
 use Rattle.std.proofs.lemmas.Option.{slice_get_read}
 use Rattle.id_tag.specs.Tags.{same_context, same_structure}
 use Rattle.id_observe.specs.Paths.{enter_in, maker_in, making_of}
+use Rattle.id_observe.specs.Observed.{brought}
 use Rattle.id_observe.proofs.ObservedLemmas.{walk-next}
 use Rattle.id_observe.proofs.PathsLemmas.{enter_in-none, enters-next, maker_in-none, makers-next}
 use Rattle.id_observe.proofs.paths.all_records.Goals as goal
@@ -16,6 +17,7 @@ loop-element-init c = record {
   enters = λ d. let none = enter_in-none c.args.graph.now d in grind (arith, common_steps, none);
   makers = λ d. let none = maker_in-none c.args.graph.now d in grind (arith, common_steps, none);
   makings = c.new-makings.ensures.items;
+  values = c.new-values.ensures.items;
 }
 
 pub loop-element-preserved : goal.loop-element-preserved
@@ -34,4 +36,6 @@ loop-element-preserved c =
           ∙ ap (option_or (maker_in g e.state.events d)) (c.loop-element.invariant.makers d) ∙ sym (makers-next g es i e d at);
       makings =
           rw (c.in_ok-add_record.ensures.makings, c.loop-element.invariant.makings, c.events.ensures.value, walk-next (λ s. s.events) (making_of g) es i e at);
+      values =
+          rw (c.in_ok-add_record.ensures.values, c.loop-element.invariant.values, c.events.ensures.value, walk-next (λ s. s.events) (λ v. brought v.message.payload) es i e at);
     }

@@ -17,5 +17,6 @@ returns-clause-structures c =
       makers = c.in_ok-enters.makers;
       makings = c.in_ok-enters.makings;
       most = c.count_events-most.result;
+      values = c.in_ok-enters.values;
     } in
     structure_by-same g es p refl (path_by-same g es p refl told.enters c.count_events-most.ensures) told.makers
