@@ -367,8 +367,10 @@ impl<'a> Machine<'a> {
         answer(alloc, self.graph, self.elements.as_slice())
     }
 
-    /// What the run so far shows of structures, for who asks for nothing else.
+    /// What the run so far shows of its answer and of structures, for who asks for nothing else: by one look through the
+    /// records.
     pub fn holdings(&self, alloc: Global) -> Result<Holdings, AllocError>
+        ensures answer { IfOk result (λ o. o.answer ≡ answer self.now.graph self.now.world) }
         ensures structures { IfOk result (λ o. o.structures ≡ structures self.now.graph self.now.world) }
         ensures cells { IfOk result (λ o. o.cells ≡ cells self.now.graph self.now.world) }
         ensures waiting { IfOk result (λ o. o.waiting ≡ waiting self.now.graph self.now.world) }
