@@ -477,7 +477,7 @@ pub(crate) fn send_shot(instr: &Instr, like: &PlainToken, shot: Shot, outputs: &
     }
 }
 
-/// What an operator of arrays does with plain operands, where that is short. Takes no memory.
+/// What an operator does with plain operands, where that is a deed. Takes no memory.
 #[inline(always)]
 pub(crate) fn deed_of(op: Op, operands: PlainOperands) -> Option<Deed>
     ensures { IfSome result (λ d. (t : Tag) (f : Fresh) → fired op t (operands_in operands) f ≡ fired_by_deed t d) }
@@ -526,6 +526,7 @@ pub(crate) fn send_deed(instr: &Instr, like: &PlainToken, deed: Deed, outputs: &
             &PlainToken { value, ..*like },
             outputs,
         ),
+        Deed::Passed(target, value) => send_to(target, &PlainToken { value, ..*like }, outputs),
     }
 }
 

@@ -1,4 +1,4 @@
-//! What an operator of arrays does with plain operands, in small numbers.
+//! What an operator of arrays, or a `send`, does with plain operands, in small numbers.
 
 ghost use Rattle.std.specs.Prelude.{◌≡◌, IfSome};
 ghost use Rattle.id_tag.specs.Plains.{whole};
@@ -6,15 +6,16 @@ ghost use Rattle.id_tag.specs.declared.Tag.{Tag};
 ghost use Rattle.id_ops.specs.declared.Fresh.{Fresh};
 ghost use Rattle.id_ops.specs.declared.Operands.TheVariants.{One, Two};
 ghost use Rattle.id_ops.specs.Deeds.{fired_by_deed};
-ghost use Rattle.id_ops.specs.Operators.{address_in, fired, fired_switch};
+ghost use Rattle.id_ops.specs.Operators.{address_in, fired, fired_send, fired_switch};
 ghost use Rattle.id_tag.specs.declared.Value.TheVariants as values;
 
 use crate::Fired;
+use crate::shot::{Shot, Target, shoot_send};
 use id_graph::{Op, PortKind};
 use id_tag::{Cell, Plain, PlainCell, Structure, Tag, Value, plain_cell};
 use id_value::is_inside;
 
-/// A firing of `address`, `fetch` or `store`, or of `switch` on a structure.
+/// A firing of `address`, `fetch` or `store`, of `switch` on a structure, or of `send`.
 #[derive(Clone, Copy)]
 pub enum Deed {
     /// The address of the cell goes to each destination under the tag of the operands.
@@ -26,6 +27,8 @@ pub enum Deed {
     Stored(PlainCell, i64),
     /// The value goes to each destination on this side under the tag of the operands.
     Switched(bool, Plain),
+    /// The word goes to port 0 of this tag.
+    Passed(Target, Plain),
 }
 
 impl Deed {
@@ -46,6 +49,7 @@ impl Deed {
                 origin: tag,
             },
             Deed::Switched(side, value) => Fired::Side(side, value.value()),
+            Deed::Passed(target, word) => Fired::Sent(target.tag(), word.value()),
         }
     }
 }
@@ -78,6 +82,7 @@ pub fn deed_on_two(op: Op, left: Plain, right: Plain) -> Option<Deed>
         (Op::Store, Value::Address(cell), Plain::Int(number)) => {
             Some(Deed::Stored(plain_cell(cell)?, number))
         }
+        (Op::Send { kind, target }, Value::Context(_), _) => passed(kind, target, left, right),
         _ => None,
     }
 }
@@ -90,6 +95,18 @@ fn switched(kind: PortKind, side: bool, value: Plain) -> Option<Deed>
 {
     match (kind, value) {
         (PortKind::Structure, Plain::Structure(_, _, _, _)) => Some(Deed::Switched(side, value)),
+        _ => None,
+    }
+}
+
+/// What a `send` of this kind to this instruction does with a word.
+#[inline(always)]
+fn passed(kind: PortKind, target: u32, left: Plain, right: Plain) -> Option<Deed>
+    ensures { IfSome result
+        (λ d. (t : Tag) → fired_send kind target (Two (whole left) (whole right)) ≡ fired_by_deed t d) }
+{
+    match shoot_send(kind, target, left, right) {
+        Some(Shot::Sent(to, word)) => Some(Deed::Passed(to, word)),
         _ => None,
     }
 }

@@ -13,10 +13,10 @@ ghost use Rattle.id_ops.specs.declared.Operands.TheVariants.{One, Two};
 ghost use Rattle.id_ops.specs.Operators.{constant_value, fired, fired_back, fired_binary, fired_by, fired_const};
 ghost use Rattle.id_ops.specs.Operators.{fired_send, fired_switch, fired_unary};
 ghost use Rattle.id_ops.specs.declared.shot.Shot.TheVariants.{Sent};
-ghost use Rattle.id_ops.specs.Shots.{IsBrief, IsOwn, fired_of, sends_on};
+ghost use Rattle.id_ops.specs.Shots.{IsBrief, IsOwn, fired_of, sends_on, target_tag};
 
 use id_graph::{Dyadic, Op, PortKind};
-use id_tag::Plain;
+use id_tag::{Context, Plain, Tag};
 use id_value::{Constant, Outcome, UnaryOp, calculate, compare, decide, unary_result};
 
 /// A firing that sends a word or a structure to all destinations on a side, or a word to one tag, or nothing.
@@ -42,6 +42,23 @@ pub struct Target {
     pub instr: u32,
     /// The element of the context.
     pub element: u8,
+}
+
+impl Target {
+    /// The same tag, in full. Takes no memory.
+    #[inline(always)]
+    pub fn tag(self) -> Tag
+        ensures { result ≡ target_tag self }
+    {
+        Tag {
+            context: Context {
+                element: u32::from(self.element),
+                serial: u64::from(self.serial),
+            },
+            iteration: u64::from(self.iteration),
+            instr: self.instr,
+        }
+    }
 }
 
 /// What an operator of one port does with a plain operand at this iteration, where it sends a word or a structure on.
@@ -163,8 +180,9 @@ fn shoot_switch(kind: PortKind, left: Plain, right: Plain) -> Option<Shot>
     }
 }
 
+/// What a `send` of this kind to this instruction does, where that is a word's going to a tag.
 #[inline(always)]
-fn shoot_send(kind: PortKind, target: u32, left: Plain, right: Plain) -> Option<Shot>
+pub(crate) fn shoot_send(kind: PortKind, target: u32, left: Plain, right: Plain) -> Option<Shot>
     ensures fired { IfSome result (λ s. fired_send kind target (Two (whole left) (whole right)) ≡ fired_of s) }
     ensures own { IfSome result (λ s. IsOwn s right) }
     ensures brief { IfSome result (λ s. (iteration : ℕ) → IsBrief iteration s) }

@@ -1,5 +1,5 @@
--- Lemmas on specs/Lines.antt: the line that has the numbers of the cell that its event names.
-use Rattle.std.proofs.Common.{◌≡◌, ℕ, refl, sym, ap, subst, ◌∙◌}
+-- Lemmas on specs/Lines.antt: the line that has the numbers of the cell that its event names, or that of its word.
+use Rattle.std.proofs.Common.{◌≡◌, ℕ, sym, ap, subst, ◌∙◌}
 use Rattle.std.specs.Prelude.{◌/◌, ◌^◌, ℤ}
 use Rattle.id_graph.specs.declared.dests.Port.{Port}
 use Rattle.id_tag.specs.declared.Cell.{Cell}
@@ -12,7 +12,7 @@ use Rattle.id_record.specs.declared.line.Handled.{Handled}
 use Rattle.id_record.specs.declared.line.Kind.{Kind}
 use Rattle.id_record.specs.declared.line.Kind.TheVariants as kind
 use Rattle.id_record.specs.declared.line.Line.{Line}
-use Rattle.id_record.specs.Lines.{Beside, IsCelled, IsPacked, IsPackedBeside, IsThere, cell_at, instr_at, message_at, no_replies, port_at, read, saying, tag_at, target_in, token_told, told, told_near, unpacked, went, Told}
+use Rattle.id_record.specs.Lines.{Beside, IsCelled, IsPacked, IsPackedBeside, IsThere, cell_at, instr_at, message_at, no_replies, port_at, read, saying, tag_at, target_in, token_told, told, told_near, told_passed, unpacked, went, Told}
 
 -- the event of a token, by its parts
 said-token : (e : Handled) (l : Line) (t : Tag) (p : Port) (v : Value) (f : Fired)
@@ -36,6 +36,26 @@ packed-near e l x n c t p v f is_kind is_effect instr cell tag port told message
     ∙ ap (λ q. saying l (told_near x t q (instr_at l.to) (cell_at (target_in l) l.value))) port
     ∙ ap (λ m. saying l (told_near x t p m (cell_at (target_in l) l.value))) instr
     ∙ ap (λ d. saying l (told_near x t p n d)) cell
+    ∙ ap (saying l) told in
+    let whole = said-token e l t p v f message stamp reaction none in
+    record {
+      is = λ b. says b ∙ whole;
+      within = λ b. subst (IsThere b l) (sym is_kind) tt;
+    }
+
+-- an event stands in the line that has its effect, its tag and its number
+pub packed-passed : (e : Handled) (l : Line) (x : Effect) (to : Tag) (n : ℤ) (t : Tag) (p : Port) (v : Value) (f : Fired)
+    → l.kind ≡ kind.Passed → l.effect ≡ x → target_in l ≡ to → l.value ≡ n → tag_at l ≡ t → port_at (l.position / 2 ^ 31) ≡ p
+    → told_passed x t p to n ≡ token_told t p v f → message_at l (Token t p v) ≡ e.message → l.stamp ≡ e.stamp → went f ≡ e.reaction → no_replies ≡ e.replies
+    → IsPacked e l
+packed-passed e l x to n t p v f is_kind is_effect target number tag port told message stamp reaction none =
+    let says : (b : Beside) → unpacked b l ≡ saying l (token_told t p v f) = λ b.
+    ap (read b l) is_kind
+    ∙ ap (λ y. saying l (told_passed y (tag_at l) (port_at (l.position / 2 ^ 31)) (target_in l) l.value)) is_effect
+    ∙ ap (λ u. saying l (told_passed x u (port_at (l.position / 2 ^ 31)) (target_in l) l.value)) tag
+    ∙ ap (λ q. saying l (told_passed x t q (target_in l) l.value)) port
+    ∙ ap (λ u. saying l (told_passed x t p u l.value)) target
+    ∙ ap (λ m. saying l (told_passed x t p to m)) number
     ∙ ap (saying l) told in
     let whole = said-token e l t p v f message stamp reaction none in
     record {

@@ -302,6 +302,18 @@ told_near effect.StructureAddressed t p r c =
 told_near effect.IntAddressed t p r c = token_told t p (value.Int c.index) (fired.Out (value.Address c))
 told_near _ t p r c = token_told t p (value.Address c) (fired.Asked c (record t { instr = r }))
 
+-- the word that an effect stands for, with the number of its line
+abbrev pub word_of : Effect → ℤ → Value
+word_of effect.Int n = value.Int n
+word_of effect.True n = value.Bool true
+word_of effect.False n = value.Bool false
+word_of _ n = value.Signal
+
+-- what the event of a line with this effect says whose word goes to a tag in the context that its message carries, with
+-- the tag and the port of the message, the tag to which the word goes, and the number of the line
+abbrev pub told_passed : Effect → Tag → Port → Tag → ℤ → Told
+told_passed x t p u n = token_told t p (value.Context u.context) (fired.Sent u (word_of x n))
+
 -- the port of a token, or port 0
 abbrev pub port_for : Payload → Port
 port_for (Token t p v) = p
@@ -335,6 +347,8 @@ read b l kind.Structure = own l (value.Structure (structure_at (target_in l) l.v
 read b l kind.Address = own l (value.Address (cell_at (target_in l) l.value))
 read b l kind.Near = saying l
     (told_near l.effect (tag_at l) (port_at (l.position / 2 ^ 31)) (instr_at l.to) (cell_at (target_in l) l.value))
+read b l kind.Passed = saying l
+    (told_passed l.effect (tag_at l) (port_at (l.position / 2 ^ 31)) (target_in l) l.value)
 read b l kind.Aside = slice_index_or b.asides (index_of l.value) (own l value.Signal)
 read b l k = saying l (told k (tag_at l) (port_at (l.position / 2 ^ 31)) l.value l.result (cell_in b.cells l))
 
@@ -354,6 +368,7 @@ IsThere b l kind.Continuation = Unit {0}
 IsThere b l kind.Structure = Unit {0}
 IsThere b l kind.Address = Unit {0}
 IsThere b l kind.Near = Unit {0}
+IsThere b l kind.Passed = Unit {0}
 IsThere b l kind.Aside = index_of l.value < length b.asides
 IsThere b l k = l.to < length b.cells
 
@@ -386,6 +401,7 @@ IsCelled kind.Continuation = ⊥
 IsCelled kind.Structure = ⊥
 IsCelled kind.Address = ⊥
 IsCelled kind.Near = ⊥
+IsCelled kind.Passed = ⊥
 IsCelled kind.Aside = ⊥
 IsCelled k = Unit {0}
 

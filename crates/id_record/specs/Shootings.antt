@@ -21,7 +21,7 @@ shooting s = record {
   replies = no_replies;
 }
 
--- what the record keeps of a plain token at an operator of arrays: its deed is fired, and all went well
+-- what the record keeps of a plain token with a deed: that is fired, and all went well
 abbrev pub doing : Doing → Handled
 doing d = record {
   message = message_of d.token.now;

@@ -209,7 +209,7 @@ impl<'a> Record<'a> {
         add_line(&mut self.lines, shot_line(&event));
     }
 
-    /// Adds the event of a plain token at an operator of arrays at the end. Takes no memory.
+    /// Adds the event of a plain token with a deed at the end. Takes no memory.
     #[inline(always)]
     pub fn push_deed(&mut self, event: Doing<'_>)
         requires room { 0 < self.old.room }
@@ -227,8 +227,7 @@ impl<'a> Record<'a> {
         }
     }
 
-    /// Adds the event of a plain token at an operator of arrays at the end, which fits in no line alone. Takes no
-    /// memory.
+    /// Adds the event of a plain token with a deed at the end, which fits in no line alone. Takes no memory.
     #[inline(always)]
     fn push_deed_beside(&mut self, event: Doing<'_>)
         requires room { 0 < self.old.room }
@@ -249,7 +248,7 @@ impl<'a> Record<'a> {
         }
     }
 
-    /// Adds the event of a plain token at an operator of arrays at the end, as any event. Takes no memory.
+    /// Adds the event of a plain token with a deed at the end, as any event. Takes no memory.
     #[inline(never)]
     fn push_deed_aside(&mut self, event: Doing<'_>)
         requires room { 0 < self.old.room }

@@ -20,6 +20,7 @@ ghost use Rattle.id_record.specs.Events.{tag_of, value_of};
 mod celled;
 mod near;
 mod numbers;
+mod passing;
 mod reading;
 mod shooting;
 mod visiting;
@@ -36,6 +37,7 @@ pub use near::Doing;
 pub(crate) use near::{deed_beside, deed_line};
 use near::{payload_near, said_near};
 use numbers::{context_of, index_of, instr_at, joined, place, position_at};
+use passing::{payload_passed, said_passed};
 use reading::{cell_in, message_at, own, own_payload, structure_in, tag_at, target_in, went};
 pub(crate) use shooting::shot_line;
 pub use shooting::{Shooting, has_line};
@@ -113,8 +115,9 @@ struct Carried {
 /// `Aside`, where the whole event stands aside, its index there. `Continuation` stands for the tag that the event
 /// names. Of `Structure` its halves are the bounds, and the event names a tag with the structure's element and serial
 /// number; of `Address` the tag's iteration is the index too. `Near` is of an event that names the cell that `Address`
-/// would stand for, of which the effect says the rest. The kinds behind it are of events that name a cell, and say all
-/// of them but their numbers.
+/// would stand for, of which the effect says the rest. `Passed` is of an event that sends a word to the tag that it
+/// names, for a message that carries the context of that tag: it is the number of the word, and the effect says which
+/// that is. The kinds behind it are of events that name a cell, and say all of them but their numbers.
 #[derive(Clone, Copy)]
 pub(crate) enum Kind {
     Signal,
@@ -127,6 +130,7 @@ pub(crate) enum Kind {
     Structure,
     Address,
     Near,
+    Passed,
     StructureWaits,
     StructureOut,
     StructureOnTrue,
@@ -158,7 +162,8 @@ enum Exit {
 /// switch; `Int` stands for the result of the line, and `Own` for the message's own value. `Entered` stands for the
 /// context of the tag that the event names, `Sent` for sending the message's own value to that tag, and `Moved` for
 /// sending it on at that tag's iteration. The last three stand beside `Near` alone: a structure or a number brings the
-/// address of the cell out, or the address asks for the cell's value.
+/// address of the cell out, or the address asks for the cell's value. Beside `Passed` one of `Signal`, `Int`, `True` and
+/// `False` stands for that word.
 #[derive(Clone, Copy)]
 enum Effect {
     Stuck,
@@ -243,6 +248,7 @@ pub(crate) fn unpack(asides: &[Handled], cells: &[Cell], line: &Line) -> Handled
         Kind::Structure => own(line, Value::Structure(structure_in(line))),
         Kind::Address => own(line, Value::Address(cell_in(line))),
         Kind::Near => said_near(line),
+        Kind::Passed => said_passed(line),
         Kind::Aside => asides[index_of(line.value)],
         _ => said(line, cells[line.to as usize]),
     }
@@ -263,6 +269,7 @@ pub(crate) fn payload_in(asides: &[Handled], cells: &[Cell], line: &Line) -> Pay
         Kind::Structure => own_payload(line, Value::Structure(structure_in(line))),
         Kind::Address => own_payload(line, Value::Address(cell_in(line))),
         Kind::Near => payload_near(line),
+        Kind::Passed => payload_passed(line),
         Kind::Aside => asides[index_of(line.value)].message.payload,
         _ => payload_told(line, cells[line.to as usize]),
     }

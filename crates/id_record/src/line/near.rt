@@ -1,4 +1,4 @@
-//! The lines of plain tokens at operators of arrays: in the numbers of their cell, or with that beside them.
+//! The lines of the deeds of plain tokens: in the numbers of their cell, or with that beside them.
 
 ghost use Rattle.std.specs.Prelude.{◌≡◌, ◌<◌, ◌/◌, ◌^◌, IfSome};
 ghost use Rattle.std.specs.Int.{cast_signed, w32};
@@ -17,6 +17,7 @@ use super::celled::{
     Celled, Content, Scene, by_token, first_cell, is_same_cell, of_kind, of_number, of_result,
 };
 use super::numbers::{instr_at, joined, place};
+use super::passing::passed_line;
 use super::reading::{cell_in, tag_at};
 use super::shooting::token_line;
 use super::{Effect, Handled, Kind, Line, Written, message_at, went};
@@ -40,9 +41,21 @@ struct Near {
     instr: u32,
 }
 
-/// The event in a line with the numbers of its cell, where it fits in one.
+/// The event in a line with the numbers of its cell, or with that of its word, where it fits in one.
 #[inline(always)]
 pub(crate) fn deed_line(event: &Doing<'_>) -> Option<Line>
+    requires { HasLine event.now.token.now }
+    ensures { IfSome result (λ l. IsPacked (doing event.now) l) }
+{
+    match near_line(event) {
+        Some(line) => Some(line),
+        None => passed_line(event),
+    }
+}
+
+/// The event in a line with the numbers of its cell, where it fits in one.
+#[inline(always)]
+fn near_line(event: &Doing<'_>) -> Option<Line>
     requires { HasLine event.now.token.now }
     ensures { IfSome result (λ l. IsPacked (doing event.now) l) }
 {

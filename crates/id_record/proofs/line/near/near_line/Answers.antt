@@ -7,7 +7,7 @@ use Rattle.id_ops.specs.Deeds.{fired_by_deed}
 use Rattle.id_record.specs.Lines.{cell_at, element_at, high_half, instr_at, low_half, target_in, token_told}
 use Rattle.id_record.specs.Shootings.{doing}
 use Rattle.id_record.proofs.NearLemmas.{packed-near}
-use Rattle.id_record.proofs.line.near.deed_line.Goals as goal
+use Rattle.id_record.proofs.line.near.near_line.Goals as goal
 
 pub returns-in-Some : goal.returns-in-Some
 returns-in-Some c =
