@@ -85,7 +85,6 @@ pub fn run_report(alloc: Global, machine: &Machine<'_>, named: bool) -> Result<R
         (λ r. AreApartBy OfOneFetch (waiting machine.now.graph machine.now.world) → Rises WaitBefore r.waiting) }
 {
     let ending = ending_of(alloc, machine)?;
-    let answer = machine.answer(alloc)?;
     let names = if named {
         machine_names(alloc, machine)?
     } else {
@@ -94,22 +93,24 @@ pub fn run_report(alloc: Global, machine: &Machine<'_>, named: bool) -> Result<R
     let held = machine_held(alloc, machine)?;
     Ok(Report {
         ending,
-        answer,
+        answer: held.answer,
         names,
         structures: held.lines,
         waiting: held.waiting,
     })
 }
 
-/// The lines of structures and cells, and the fetches that wait, in order.
+/// The answer, the lines of structures and cells, and the fetches that wait, in order.
 #[derive(Drop)]
 struct InOrder {
+    answer: Option<SourceValue>,
     lines: Sequence<Held>,
     waiting: Sequence<Ask>,
 }
 
-/// What a run shows of structures, in order.
+/// What a run shows of its answer and of structures, in order.
 fn machine_held(alloc: Global, machine: &Machine<'_>) -> Result<InOrder, AllocError>
+    ensures answer { IfOk result (λ r. r.answer ≡ answer machine.now.graph machine.now.world) }
     ensures held { IfOk result (λ r. IsOrderOf HeldBefore r.lines (held_lines machine.now)) }
     ensures held_rise { IfOk result
         (λ r. AreApartBy OfOneThing (held_lines machine.now) → Rises HeldBefore r.lines) }
@@ -121,6 +122,7 @@ fn machine_held(alloc: Global, machine: &Machine<'_>) -> Result<InOrder, AllocEr
     let holdings = machine.holdings(alloc)?;
     let helds = joined(alloc, holdings.structures, holdings.cells)?;
     Ok(InOrder {
+        answer: holdings.answer,
         lines: sorted_helds(helds),
         waiting: sorted_asks(holdings.waiting),
     })
