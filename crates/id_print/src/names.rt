@@ -1,6 +1,6 @@
 //! What a report lists, in order: names, structures with their cells, and fetches that wait.
 
-ghost use Rattle.std.specs.Prelude.{◌≡◌};
+ghost use Rattle.std.specs.Prelude.{◌≡◌, IfOk};
 ghost use Rattle.id_meaning.specs.Orders.{NamesRise, Rises};
 ghost use Rattle.id_print.specs.Names.{IsOrderOf, IsSortedOf, AreApart, AreApartBy, HeldBefore, WaitBefore};
 ghost use Rattle.id_print.specs.Names.{OfOneThing, OfOneFetch, site_cmp, name_cmp, line_cmp, held_cmp, held_name};
@@ -8,6 +8,7 @@ ghost use Rattle.id_print.specs.Names.{OfOneThing, OfOneFetch, site_cmp, name_cm
 use crate::report::Held;
 use id_list::Sequence;
 use id_meaning::{Ask, NameValue, Site};
+use std::alloc::AllocError;
 use std::cmp::Ordering;
 
 /// The names by path and place. Takes no memory.
@@ -20,24 +21,25 @@ pub(crate) fn sorted_names(names: Sequence<NameValue>) -> Sequence<NameValue>
     Sequence::new(names)
 }
 
-/// The structures and cells by name and index, a structure before its cells. Takes no memory.
-pub(crate) fn sorted_helds(helds: Vec<Held>) -> Sequence<Held>
-    ensures sorted { IsOrderOf HeldBefore result helds.items }
-    ensures rise { AreApartBy OfOneThing helds.items → Rises HeldBefore result }
+/// The structures and cells by name and index, a structure before its cells. They come in runs that are in order, which
+/// are merged: that takes as much memory as they do.
+pub(crate) fn sorted_helds(helds: Vec<Held>) -> Result<Sequence<Held>, AllocError>
+    ensures sorted { IfOk result (λ r. IsOrderOf HeldBefore r helds.items) }
+    ensures rise { IfOk result (λ r. AreApartBy OfOneThing helds.items → Rises HeldBefore r) }
 {
     let mut helds = helds;
-    helds.sort_unstable_by(|a, b| compare_helds(a, b));
-    Sequence::new(helds)
+    helds.sort_by(|a, b| compare_helds(a, b))?;
+    Ok(Sequence::new(helds))
 }
 
-/// The fetches by path and place. Takes no memory.
-pub(crate) fn sorted_asks(asks: Sequence<Ask>) -> Sequence<Ask>
-    ensures sorted { IsOrderOf WaitBefore result asks }
-    ensures rise { AreApartBy OfOneFetch asks → Rises WaitBefore result }
+/// The fetches by path and place. They come in runs too, and merging those takes memory as well.
+pub(crate) fn sorted_asks(asks: Sequence<Ask>) -> Result<Sequence<Ask>, AllocError>
+    ensures sorted { IfOk result (λ r. IsOrderOf WaitBefore r asks) }
+    ensures rise { IfOk result (λ r. AreApartBy OfOneFetch asks → Rises WaitBefore r) }
 {
     let mut asks = asks.into_vec();
-    asks.sort_unstable_by(|a, b| compare_sites(&a.fetch, &b.fetch));
-    Sequence::new(asks)
+    asks.sort_by(|a, b| compare_sites(&a.fetch, &b.fetch))?;
+    Ok(Sequence::new(asks))
 }
 
 /// How two sites compare: by path, a front of a path first, then by place.

@@ -123,8 +123,8 @@ fn machine_held(alloc: Global, machine: &Machine<'_>) -> Result<InOrder, AllocEr
     let helds = joined(alloc, holdings.structures, holdings.cells)?;
     Ok(InOrder {
         answer: holdings.answer,
-        lines: sorted_helds(helds),
-        waiting: sorted_asks(holdings.waiting),
+        lines: sorted_helds(helds)?,
+        waiting: sorted_asks(holdings.waiting)?,
     })
 }
 
@@ -140,6 +140,7 @@ fn joined(
     for shape in shapes.into_vec() {
         helds.push(Held::Array(shape))?;
     }
+    helds.reserve(stored.len())?;
     for put in stored.into_vec() {
         helds.push(Held::Cell(put))?;
     }

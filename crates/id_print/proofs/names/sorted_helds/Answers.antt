@@ -8,9 +8,9 @@ use Rattle.id_print.proofs.names.sorted_helds.Goals as goal
 
 sorted : (c : goal.After-new) → IsOrderOf HeldBefore c.new.result c.args.helds.items
 sorted c =
-    let up = c.sort_unstable_by.ensures.sorted (first_lt held_cmp) (ranks_by helds_told.total (λ x. x))
+    let up = c.in_ok-sort_by.ensures.sorted (first_lt held_cmp) (ranks_by helds_told.total (λ x. x))
     (answers_always _ (λ a r. is_lt r ≡ first_lt held_cmp a.0.now a.1.0.now) _ (λ f a r f' q. let e : r ≡ held_cmp a.0.now a.1.0.now = search rules in ap is_lt e)) in
-    rw c.new.ensures (record { same = c.sort_unstable_by.ensures.permutation; in_order = in_order-from_sort held_cmp HeldBefore OfOneThing helds_told _ up })
+    rw c.new.ensures (record { same = c.in_ok-sort_by.ensures.permutation; in_order = in_order-from_sort held_cmp HeldBefore OfOneThing helds_told _ up })
 
 pub returns-clause-sorted : goal.returns-clause-sorted
 returns-clause-sorted c = sorted c
