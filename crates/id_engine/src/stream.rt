@@ -20,6 +20,7 @@ impl<W: Write + Drop> Sink for Stream<W> {
 
     ghost told = { λ _. None };
 
+    #[inline(always)]
     fn write(&mut self, bytes: &[u8]) -> Result<usize, SinkFault> {
         write_some(&mut self.writer, bytes)
     }
@@ -43,6 +44,7 @@ pub fn settle<W: Write + Drop, E: Sink>(out: &mut Stream<W>, err: &mut E, status
 
 /// One write of the writer's, and how many bytes it took from the front of these, or that it failed.
 /// A write that a signal cut short is made again.
+#[inline(always)]
 pub fn write_some<W: Write>(writer: &mut W, bytes: &[u8]) -> Result<usize, SinkFault>
     ensures bound { IfOk result (λ n. n ≤ length bytes.now) }
     ensures bytes { WriteAppends (W.contents writer.old) (W.contents writer.new) result bytes.now }

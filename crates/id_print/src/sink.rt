@@ -24,6 +24,7 @@ pub trait Sink {
 }
 
 /// Writes all the bytes, in as many writes as it takes.
+#[inline(always)]
 pub fn put<W: Sink>(sink: &mut W, bytes: &[u8]) -> Result<(), PrintError>
     ensures { Prints (W.told sink.old) (W.told sink.new) bytes.now result }
 {
