@@ -2,7 +2,7 @@
 
 ghost use Rattle.std.specs.Prelude.{◌≡◌, ◌≤◌, length};
 ghost use Rattle.id_text.specs.Places.{line_of, column_of};
-ghost use Rattle.id_print.specs.Cursors.{IsSpot};
+ghost use Rattle.id_print.specs.Cursors.{IsSeries, IsSpot};
 ghost use Rattle.id_print.specs.Texts.{has_brace};
 
 use id_text::MAX_BYTES;
@@ -16,18 +16,25 @@ pub(crate) struct Spot {
     column: u32,
 }
 
-/// A text, with the place of it that was last looked up, and the last place of a step of a path; and both of another
-/// series of places, which `turn` takes in their stead: that of the names that stand behind something else on a line.
+/// A series of places: the last of them, and the last that stood before the one that it followed.
+#[derive(Clone, Copy, Drop)]
+pub(crate) struct Series {
+    last: Spot,
+    back: Spot,
+}
+
+/// A text, with the places of it that were looked up, and those of the steps of paths; and both of other places, which
+/// `turn` takes in their stead: those of the names that stand behind something else on a line.
 ///
-/// From a place to a later one only the bytes between them are read; places that rise take one pass
-/// over the text in all.
+/// From a place to a later one only the bytes between them are read; places that rise take one pass over the text in
+/// all. So do places that rise again and again from one that they come back to.
 #[derive(Drop)]
 pub(crate) struct Cursor<'a> {
     text: &'a str,
-    step: Spot,
-    place: Spot,
-    other_step: Spot,
-    other_place: Spot,
+    step: Series,
+    place: Series,
+    other_step: Series,
+    other_place: Series,
 }
 
 impl<'a> Model for Cursor<'a> {
@@ -49,10 +56,10 @@ impl<'a> Cursor<'a> {
     {
         Cursor {
             text,
-            step: start(),
-            place: start(),
-            other_step: start(),
-            other_place: start(),
+            step: fresh(),
+            place: fresh(),
+            other_step: fresh(),
+            other_place: fresh(),
         }
     }
 
@@ -63,8 +70,8 @@ impl<'a> Cursor<'a> {
         ensures column { result.1 ≡ column_of self.old at }
         ensures same { self.new ≡ self.old }
     {
-        self.place = spot_at(self.text.as_bytes(), self.place, at);
-        (self.place.line, self.place.column)
+        self.place = series_at(self.text.as_bytes(), self.place, at);
+        (self.place.last.line, self.place.last.column)
     }
 
     /// The line and column of the place of a step of a path.
@@ -74,8 +81,8 @@ impl<'a> Cursor<'a> {
         ensures column { result.1 ≡ column_of self.old at }
         ensures same { self.new ≡ self.old }
     {
-        self.step = spot_at(self.text.as_bytes(), self.step, at);
-        (self.step.line, self.step.column)
+        self.step = series_at(self.text.as_bytes(), self.step, at);
+        (self.step.last.line, self.step.last.column)
     }
 
     /// Goes on with the other series of places.
@@ -111,6 +118,38 @@ fn start() -> Spot
         at: 0,
         line: 1,
         column: 1,
+    }
+}
+
+/// A series without a place.
+fn fresh() -> Series
+    ensures last { result.last.at ≡ 0 }
+    ensures last_line { result.last.line ≡ 1 }
+    ensures last_column { result.last.column ≡ 1 }
+    ensures back { result.back ≡ result.last }
+{
+    Series {
+        last: start(),
+        back: start(),
+    }
+}
+
+/// The series with this place as its last. A place before the last is found from the one that was such before.
+fn series_at(text: &[u8], from: Series, at: usize) -> Series
+    requires fits { length text.now ≤ MAX_BYTES }
+    requires from { IsSeries text.now from }
+    requires inside { at ≤ length text.now }
+    ensures at { result.last.at ≡ at }
+    ensures series { IsSeries text.now result }
+{
+    if from.last.at <= at {
+        Series {
+            last: spot_after(text, from.last, at),
+            back: from.back,
+        }
+    } else {
+        let back = spot_at(text, from.back, at);
+        Series { last: back, back }
     }
 }
 
