@@ -47,9 +47,9 @@ pub(crate) fn deed_line(event: &Doing<'_>) -> Option<Line>
     requires { HasLine event.now.token.now }
     ensures { IfSome result (λ l. IsPacked (doing event.now) l) }
 {
-    match near_line(event) {
-        Some(line) => Some(line),
-        None => passed_line(event),
+    match event.deed {
+        Deed::Passed(_, _) => passed_line(event),
+        _ => near_line(event),
     }
 }
 
