@@ -186,17 +186,16 @@ fn turn(machine: &Machine<'_>, hand: &mut Hand) -> bool
 
 /// Delivers the message at a position, for which a stamp is left, and says what the event came to.
 #[inline(always)]
-fn deliver(machine: &mut Machine<'_>, position: usize) -> Result<Came, EngineError>
+fn deliver(machine: &mut Machine<'_>, position: usize) -> Result<Came, AllocError>
     requires position { position < length machine.old.world.flight }
     requires event { HasEvent machine.old position }
     ensures delivers { IfOk result (IsDelivered position machine.old machine.new) }
-    ensures memory { IfErr result (λ e. e ≡ EngineError.Memory) }
     ensures same { IfErr result (λ e. machine.new ≡ machine.old) }
 {
     match machine.advance(position) {
         Ok(came) => Ok(came),
         Err(TakeError::StampEnd) => unreachable!(),
-        Err(TakeError::Memory) => Err(EngineError::Memory),
+        Err(TakeError::Memory) => Err(AllocError),
     }
 }
 
