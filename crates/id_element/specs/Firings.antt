@@ -26,9 +26,10 @@ use Rattle.id_element.specs.declared.step.Reacted.TheVariants as reacted
 use Rattle.id_record.specs.Sends.{count_started}
 use Rattle.id_element.specs.Steps.{arrival, fired_verdict, waiting_after}
 
--- what one message at the instruction sends at most: to each destination on a side, and what starts a block, or one
+-- no message at the instruction sends more than this: it sends to each destination on a side, and what starts a block,
+-- or one; a sum is asked for more cheaply than the most of both sides
 abbrev pub most_sent : Instr → ℕ
-most_sent i = max (max (length i.dests) (length i.others)) 1 + count_started (Some i.op)
+most_sent i = length i.dests + length i.others + 3
 
 -- what the instruction does with what arrived, with the element's next numbers: nothing where the token waits or is
 -- blocked

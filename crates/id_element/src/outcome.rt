@@ -66,8 +66,7 @@ pub(crate) fn next_stamp(last: u64, message: u64) -> Result<u64, TakeError>
 pub(crate) fn most_sent(instr: &Instr) -> usize
     ensures { result ≡ most_sent instr.now }
 {
-    let dests = instr.dests.as_slice().len();
-    dests.max(instr.others.as_slice().len()).max(1) + count_started(Some(instr.op))
+    instr.dests.as_slice().len() + instr.others.as_slice().len() + 3
 }
 
 /// Lets a token come to its instruction, at an element with these next numbers. After an error nothing has changed.

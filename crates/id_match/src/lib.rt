@@ -160,13 +160,26 @@ impl Waiting {
         if let Some(met) = meet(&mut self.front, token) {
             Ok(met)
         } else {
-            // A copy, so that no reference to the caller's token leaves, and it can stand in registers.
-            let copy = *token;
-            self.offer_behind(&copy)
+            self.offer_apart(token)
         }
     }
 
-    // The same where it is long: where both slots are taken, or something stands behind them.
+    // The same where it is long: where both slots are taken, or something stands behind them. The copy stands in the
+    // place of the caller's token, which can stand in registers so.
+    #[inline(always)]
+    fn offer_apart(&mut self, token: &PlainToken) -> Result<Met, AllocError>
+        ensures answer { IfOk result (λ met. IfSome (told met token.now)
+            (λ answer. answer ≡ offer_answer self.old (tag_in token.now) token.now.port (whole token.now.value))) }
+        ensures after { IfOk result (λ met. IfSome (told met token.now)
+            (λ answer. self.new ≡ offer_after self.old (tag_in token.now) token.now.port (whole token.now.value))) }
+        ensures apart { IfOk result (λ met. told met token.now ≡ None → self.new ≡ self.old) }
+        ensures err { OnErr result (self.new ≡ self.old) }
+    {
+        let copy = *token;
+        self.offer_behind(&copy)
+    }
+
+    // The same out of line.
     #[inline(never)]
     fn offer_behind(&mut self, token: &PlainToken) -> Result<Met, AllocError>
         ensures answer { IfOk result (λ met. IfSome (told met token.now)
