@@ -168,7 +168,7 @@ impl InFlight {
         ensures gap { OnOk result (IsBeside self.new.gap position) }
     {
         let gap = self.before.len();
-        if position <= gap && gap - position <= 1 {
+        if position == gap || position < gap && gap - position == 1 {
             return Ok(());
         }
         self.move_to(position)
@@ -219,8 +219,9 @@ impl InFlight {
         ensures err { OnErr result (element.new ≡ element.old) }
         ensures err_messages { OnErr result (self.new.messages ≡ self.old.messages) }
     {
+        let is_behind = position == self.before.len();
         let step = element.take(message, &mut self.after)?;
-        self.drop_at(position);
+        self.drop_at(position, is_behind);
         Ok(step)
     }
 
@@ -253,11 +254,13 @@ impl InFlight {
         ensures err { OnErr result (element.new ≡ element.old) }
         ensures err_messages { OnErr result (self.new.messages ≡ self.old.messages) }
     {
+        // Asked first, while it is known.
+        let is_behind = position == self.before.len();
         let short = element.take_plain(token, &mut self.after)?;
         if let Short::Apart = short {
             return Ok(short);
         }
-        self.drop_at(position);
+        self.drop_at(position, is_behind);
         Ok(short)
     }
 
@@ -291,21 +294,24 @@ impl InFlight {
         ensures err { OnErr result (element.new ≡ element.old) }
         ensures err_messages { OnErr result (self.new.messages ≡ self.old.messages) }
     {
+        let is_behind = position == self.before.len();
         let handled = element.take_demand(demand, &mut self.after)?;
         if handled {
-            self.drop_at(position);
+            self.drop_at(position, is_behind);
         }
         Ok(handled)
     }
 
-    /// Drops the message at a position beside the gap: the list closes up. Takes no memory.
+    /// Drops the message at a position beside the gap, which is behind it or in front of it: the list closes up. Takes
+    /// no memory.
     #[inline(always)]
-    fn drop_at(&mut self, position: usize)
+    fn drop_at(&mut self, position: usize, is_behind: bool)
         requires gap { IsBeside self.old.gap position }
+        requires behind { IsTrue is_behind ↔ (self.old.gap ≡ position) }
         requires there { position < length self.old.messages }
         ensures { self.new.messages ≡ remove self.old.messages position }
     {
-        if position == self.before.len() {
+        if is_behind {
             self.after.drop_front();
         } else {
             self.before.pop_back();

@@ -4,8 +4,8 @@ use Rattle.std.proofs.lemmas.Grind.{common_steps}
 use Rattle.id_core.proofs.FlightLemmas.{leaves_behind}
 use Rattle.id_core.proofs.in_flight.InFlight.drop_at.Goals as goal
 
-pub returns-then-position-len : goal.returns-then-position-len
-returns-then-position-len c =
+pub returns-then-is_behind : goal.returns-then-is_behind
+returns-then-is_behind c =
     let xs = c.self.inside.before.messages in
     let ys = c.self.inside.after.messages in
     let at = ap (λ v. v.messages) c.self.view_is in
