@@ -93,10 +93,7 @@ impl InFlight {
         ensures { IfSome result (λ t. slice_get self.now.messages position ≡ Some (message_of t)) }
     {
         let gap = self.before.len();
-        if position == gap {
-            // Most often; and the first of a list is found at once.
-            self.after.plain(0)
-        } else if position < gap {
+        if position < gap {
             self.before.plain(position)
         } else {
             self.after.plain(position - gap)
