@@ -1,1 +1,1 @@
-pub mod CellsLemmas
+pub mod SlotsLemmas

@@ -1,30 +1,38 @@
 //! The bank: the cells of structures, each of which is stored into once and may be read before.
 //!
 //! Keeps: of each cell that was read or written the value with the tag of its store, or the replies that wait
-//!     for it, in order of arrival. Clauses see a finite map.
+//!     for it, in order of arrival: in pages of eight neighbours, and where these were found of late. Clauses see a
+//!     finite map.
 //! Errors: want of memory alone, and then nothing has changed.
 //! Read first: `specs/Cells.antt`, then `read` and `write`.
 //! Not here: addresses and their bounds (`id_ops`), who sends the replies (`id_element`).
 #![tactic(auto)]
 
-ghost use Rattle.std.specs.Prelude.{◌≡◌, ◌↔◌, ℤ, false, length, All, IsTrue, Some, IfOk, OnOk, OnErr};
+ghost use Rattle.std.specs.Prelude.{◌≡◌, ◌↔◌, ◌++◌, ◌<◌, length, All, IsTrue, IfOk, OnOk, OnErr};
 ghost use Rattle.std.specs.Prelude.{map as map_list};
 ghost use Rattle.std.specs.FinMap as map;
-ghost use Rattle.std.specs.HashMap as hash;
-ghost use Rattle.id_tag.specs.declared.Structure.{Structure};
+ghost use Rattle.std.specs.List.{flat_map, IsDistinct};
+ghost use Rattle.std.specs.Map.{keys_of};
+ghost use Rattle.std.specs.Ordering.{eq_by_cmp};
+ghost use Rattle.indexmap.specs.IndexMap.{keys, IsUnique};
 ghost use Rattle.id_tag.specs.Tags.{cell_cmp};
 ghost use Rattle.id_bank.specs.declared.ReadAnswer.TheVariants.{Deferred as PutOff};
-ghost use Rattle.id_bank.specs.Cells.{count_readers, read_answer, state_read, write_answer, state_written};
-ghost use Rattle.id_bank.specs.Slots.{same_key, state_of, entry_of, state_at};
+ghost use Rattle.id_bank.specs.Cells.{read_answer, write_answer};
+ghost use Rattle.id_bank.specs.Slots.{HasNone, HasNoReaders, IsPage, same_page, state_in, held_in, entry_at, cell_in};
+ghost use Rattle.id_bank.specs.Slots.{cells_below, cells_in, page_cells};
 
+mod page;
 mod slot;
 
-use crate::slot::{Held, Slot, filled, key_of, waiting};
+use crate::page::{
+    Recent, cell_in, expected_in, has_no_readers, has_none, offset_of, page_of, place, read_at,
+    readers_in, write_at,
+};
+use crate::slot::{Slot, filled, waiting};
 use id_tag::{Cell, NearHasher, Structure, Tag, Value};
+use indexmap::IndexMap;
 use smallvec::SmallVec;
 use std::alloc::{AllocError, Global};
-use std::collections::HashMap;
-use std::collections::hash_map::Entry as Place;
 use std::marker::Model;
 
 /// Replies that wait for one value, in order of arrival. Two take no memory of their own.
@@ -60,6 +68,16 @@ impl Replies {
     {
         let mut list = SmallVec::new(alloc);
         list.push_reserved(reply);
+        Replies { list }
+    }
+
+    // Two replies. Takes no memory.
+    fn two(alloc: Global, first: Tag, second: Tag) -> Replies
+        ensures { result ≡ first ∷ second ∷ [] }
+    {
+        let mut list = SmallVec::new(alloc);
+        list.push_reserved(first);
+        list.push_reserved(second);
         Replies { list }
     }
 
@@ -124,21 +142,25 @@ pub struct Reader {
 #[derive(Drop)]
 pub struct Bank {
     alloc: Global,
-    slots: HashMap<(i64, Structure), Slot, NearHasher>,
+    pages: IndexMap<(i64, Structure), Vec<Slot>, NearHasher>,
+    recent: Recent,
 }
 
 impl Model for Bank {
-    ghost use Rattle.std.specs.Prelude.{map as map_list};
     ghost use Rattle.std.specs.FinMap as map;
     ghost use Rattle.id_bank.specs.Cells.{Cells};
     ghost use Rattle.id_bank.specs.Codes.{coded_cells};
-    ghost use Rattle.id_bank.specs.Slots.{entry_of};
+    ghost use Rattle.std.specs.Prelude.{All};
+    ghost use Rattle.indexmap.specs.IndexMap.{keys};
+    ghost use Rattle.id_bank.specs.Slots.{IsPage, cells_in};
 
     ghost Value = { Cells };
 
     ghost coded = { coded_cells };
 
-    ghost view = { λ b. map.from_entries (map_list entry_of b.slots.entries) };
+    ghost view = { λ b. map.from_entries (cells_in b.pages.entries) };
+
+    ghost invariant = { λ b. All IsPage (keys b.pages) };
 }
 
 impl Bank {
@@ -152,7 +174,8 @@ impl Bank {
     {
         Bank {
             alloc,
-            slots: HashMap::with_hasher(alloc, NearHasher::new()),
+            pages: IndexMap::with_hasher(alloc, NearHasher::new()),
+            recent: Recent::new(),
         }
     }
 
@@ -164,7 +187,14 @@ impl Bank {
         ensures grows { OnErr result (read_answer (map.get self.old cell) ≡ PutOff) }
         ensures err { OnErr result (self.new ≡ self.old) }
     {
-        read_at(&mut self.slots, self.alloc, key_of(cell), reply)
+        read_at(
+            &mut self.pages,
+            &mut self.recent,
+            self.alloc,
+            page_of(cell),
+            offset_of(cell),
+            reply,
+        )
     }
 
     /// Writes the value of the store `origin` to a cell: the cell holds it from now on, and all that waited for
@@ -179,22 +209,31 @@ impl Bank {
         ensures after { OnOk result (self.new ≡ write_after self.old cell value origin) }
         ensures err { OnErr result (self.new ≡ self.old) }
     {
-        write_at(&mut self.slots, self.alloc, key_of(cell), value, origin)
+        write_at(
+            &mut self.pages,
+            &mut self.recent,
+            self.alloc,
+            page_of(cell),
+            offset_of(cell),
+            value,
+            origin,
+        )
     }
 
     /// Whether no cell was read or written. Takes no memory.
     pub fn is_empty(&self) -> bool
         ensures { IsTrue result ↔ (self.now ≡ map.empty) }
     {
-        self.slots.is_empty()
+        none_held(&self.pages)
     }
 
     /// How many replies wait for the value of a cell. Takes no memory.
     pub fn readers(&self, cell: Cell) -> usize
         ensures { result ≡ count_readers (map.get self.now cell) }
     {
-        match self.slots.get(&key_of(cell)) {
-            Some(slot) => slot.readers(),
+        let key = page_of(cell);
+        match place(&self.pages, &self.recent, key) {
+            Some(i) => readers_in(&self.pages[i], offset_of(cell)),
             None => 0,
         }
     }
@@ -203,8 +242,9 @@ impl Bank {
     pub fn expected(&self, cell: Cell) -> Option<usize>
         ensures { result ≡ count_expected (map.get self.now cell) }
     {
-        match self.slots.get(&key_of(cell)) {
-            Some(slot) => slot.expected(),
+        let key = page_of(cell);
+        match place(&self.pages, &self.recent, key) {
+            Some(i) => expected_in(&self.pages[i], offset_of(cell)),
             None => Some(0),
         }
     }
@@ -213,7 +253,7 @@ impl Bank {
     pub fn cells(&self, alloc: Global) -> Result<Vec<Filled>, AllocError>
         ensures items { IfOk result (λ cs. cs.items ≡ cells_of self.now) }
     {
-        let slots = in_order(alloc, &self.slots)?;
+        let slots = in_order(alloc, &self.pages)?;
         filled(alloc, &slots)
     }
 
@@ -222,100 +262,122 @@ impl Bank {
     pub fn deferred(&self, alloc: Global) -> Result<Vec<Reader>, AllocError>
         ensures items { IfOk result (λ rs. rs.items ≡ deferred_of self.now) }
     {
-        if none_waits(&self.slots) {
+        if none_waits(&self.pages) {
             return Ok(Vec::new(alloc));
         }
-        let slots = in_order(alloc, &self.slots)?;
+        let slots = in_order(alloc, &self.pages)?;
         waiting(alloc, &slots)
     }
 }
 
-// A read in one look-up: room is made where the cell is new, and only there.
-fn read_at(
-    slots: &mut HashMap<(i64, Structure), Slot, NearHasher>,
-    alloc: Global,
-    key: (i64, Structure),
-    reply: Tag,
-) -> Result<ReadAnswer, AllocError>
-    ensures answer { IfOk result (λ answer. answer ≡ read_answer (state_at slots.old key)) }
-    ensures at { OnOk result (state_at slots.new key ≡ Some (state_read reply (state_at slots.old key))) }
-    ensures others { (k : ℤ × Structure) → same_key key k ≡ false →
-        hash.get same_key slots.new k ≡ hash.get same_key slots.old k }
-    ensures grows { OnErr result (read_answer (state_at slots.old key) ≡ PutOff) }
-    ensures err { OnErr result (state_at slots.new key ≡ state_at slots.old key) }
+// Whether no cell was read or written: mostly the first page decides.
+fn none_held(pages: &IndexMap<(i64, Structure), Vec<Slot>, NearHasher>) -> bool
+    ensures { IsTrue result ↔ All (λ e. HasNone e.1.items) pages.now.entries }
 {
-    match slots.entry(key)? {
-        Place::Vacant(place) => {
-            place.insert(Slot::Deferred(Replies::one(alloc, reply)));
-            Ok(ReadAnswer::Deferred)
-        }
-        Place::Occupied(place) => place.into_mut().read(reply),
-    }
-}
-
-// A write in one look-up.
-fn write_at(
-    slots: &mut HashMap<(i64, Structure), Slot, NearHasher>,
-    alloc: Global,
-    key: (i64, Structure),
-    value: Value,
-    origin: Tag,
-) -> Result<WriteAnswer, AllocError>
-    ensures answer { IfOk result (λ answer. answer ≡ write_answer (state_at slots.old key)) }
-    ensures at { OnOk result (
-        state_at slots.new key ≡ Some (state_written value origin (state_at slots.old key))) }
-    ensures others { (k : ℤ × Structure) → same_key key k ≡ false →
-        hash.get same_key slots.new k ≡ hash.get same_key slots.old k }
-    ensures err { OnErr result (state_at slots.new key ≡ state_at slots.old key) }
-{
-    let held = Held::new(alloc, value)?;
-    match slots.entry(key)? {
-        Place::Vacant(place) => {
-            place.insert(Slot::Present { held, origin });
-            Ok(WriteAnswer::Readers(Replies::none(alloc)))
-        }
-        Place::Occupied(place) => Ok(place.into_mut().write(alloc, held, origin)),
-    }
+    pages.iter().all(|(_, slots)| has_none(slots))
 }
 
 // Whether no reply waits for a cell's value.
-fn none_waits(slots: &HashMap<(i64, Structure), Slot, NearHasher>) -> bool
-    ensures { IsTrue result ↔ All (λ e. count_readers (Some (state_of e.1)) ≡ 0) slots.now.entries }
+fn none_waits(pages: &IndexMap<(i64, Structure), Vec<Slot>, NearHasher>) -> bool
+    ensures { IsTrue result ↔ All (λ e. HasNoReaders e.1.items) pages.now.entries }
 {
-    slots.iter().all(|(_, slot)| slot.readers() == 0)
+    pages.iter().all(|(_, slots)| has_no_readers(slots))
 }
 
 // The cells with what they hold, in their order.
 fn in_order(
     alloc: Global,
-    slots: &HashMap<(i64, Structure), Slot, NearHasher>,
+    pages: &IndexMap<(i64, Structure), Vec<Slot>, NearHasher>,
 ) -> Result<Vec<(Cell, &Slot)>, AllocError>
-    ensures { IfOk result (λ es. map_list (λ e. (e.0, state_of e.1.now)) es.items ≡
-        map.entries (map.from_entries {R = cell_cmp} (map_list entry_of slots.now.entries))) }
+    requires { All IsPage (keys pages.now) }
+    ensures { IfOk result (λ es. map_list (λ e. (e.0, held_in e.1.now)) es.items ≡
+        map.entries (map.from_entries {R = cell_cmp} (cells_in pages.now.entries))) }
 {
-    let mut listed = listed(alloc, slots)?;
-    // Cells are often touched in runs, up or down, which are merged.
+    let mut listed = listed(alloc, pages)?;
+    // One run, which the sort only looks through.
     listed.sort_by_key(|e| e.0)?;
     Ok(listed)
 }
 
-// The same in the order of the table.
+// The same, page after page in their order.
 fn listed(
     alloc: Global,
-    slots: &HashMap<(i64, Structure), Slot, NearHasher>,
+    pages: &IndexMap<(i64, Structure), Vec<Slot>, NearHasher>,
 ) -> Result<Vec<(Cell, &Slot)>, AllocError>
-    ensures items { IfOk result (λ es.
-        map_list (λ e. (e.0, state_of e.1.now)) es.items ≡ map_list entry_of slots.now.entries) }
-    ensures unique { hash.IsUnique same_key slots.now }
+    requires { All IsPage (keys pages.now) }
+    ensures same { IfOk result
+        (λ es. map.from_entries {R = cell_cmp} (map_list (λ e. (e.0, held_in e.1.now)) es.items)
+        ≡ map.from_entries (cells_in pages.now.entries)) }
+    ensures distinct { IfOk result
+        (λ es. IsDistinct (eq_by_cmp cell_cmp) (keys_of (map_list (λ e. (e.0, held_in e.1.now)) es.items))) }
 {
-    slots
+    let mut order = shown(alloc, pages)?;
+    order.sort_by_key(|e| (e.0.1, e.0.0))?;
+    spread(alloc, &order)
+}
+
+// The pages with their slots.
+fn shown(
+    alloc: Global,
+    pages: &IndexMap<(i64, Structure), Vec<Slot>, NearHasher>,
+) -> Result<Vec<((i64, Structure), &Vec<Slot>)>, AllocError>
+    ensures items { IfOk result (λ es. map_list (λ e. (e.0, e.1.now)) es.items ≡ pages.now.entries) }
+    ensures unique { IsUnique same_page pages.now }
+{
+    pages
         .iter()
-        .map(|(key, slot)| (
-            Cell {
-                structure: key.1,
-                index: key.0,
-            },
-            slot,
-        ))
+        .map(|(page, slots)| (*page, slots))
         .collect(alloc)
+}
+
+// The cells of pages.
+fn spread<'a>(
+    alloc: Global,
+    pages: &[((i64, Structure), &'a Vec<Slot>)],
+) -> Result<Vec<(Cell, &'a Slot)>, AllocError>
+    requires { All (λ e. IsPage e.0) pages.now }
+    ensures { IfOk result (λ es. map_list (λ e. (e.0, held_in e.1.now)) es.items ≡
+        flat_map (λ e. page_cells (e.0, e.1.now)) pages.now) }
+{
+    let mut cells = Vec::new(alloc);
+    for entry in pages {
+        add_cells(&mut cells, entry.0, entry.1)?;
+    }
+    Ok(cells)
+}
+
+// Those of a page's cells that were read or written.
+fn add_cells<'a>(
+    cells: &mut Vec<(Cell, &'a Slot)>,
+    page: (i64, Structure),
+    slots: &'a [Slot],
+) -> Result<(), AllocError>
+    requires { IsPage page }
+    ensures { OnOk result (map_list (λ e. (e.0, held_in e.1.now)) cells.new.items ≡
+        map_list (λ e. (e.0, held_in e.1.now)) cells.old.items ++ cells_below 8 page slots.now) }
+{
+    for offset in 0..8 {
+        add_cell(cells, page, slots, offset)?;
+    }
+    Ok(())
+}
+
+// The cell at a place of a page, if it was read or written.
+#[inline(always)]
+fn add_cell<'a>(
+    cells: &mut Vec<(Cell, &'a Slot)>,
+    page: (i64, Structure),
+    slots: &'a [Slot],
+    offset: usize,
+) -> Result<(), AllocError>
+    requires page { IsPage page }
+    requires offset { offset < 8 }
+    ensures { OnOk result (map_list (λ e. (e.0, held_in e.1.now)) cells.new.items ≡
+        map_list (λ e. (e.0, held_in e.1.now)) cells.old.items ++
+        entry_at (cell_in page offset) (state_in slots.now offset)) }
+{
+    if offset < slots.len() && !slots[offset].is_absent() {
+        cells.push((cell_in(page, offset), &slots[offset]))?;
+    }
+    Ok(())
 }

@@ -1,118 +1,306 @@
 //! How a cell is kept, and what a read and a write make of it.
 
-ghost use Rattle.std.specs.Prelude.{◌≡◌, ◌++◌, IfOk, OnOk, OnErr};
-ghost use Rattle.std.specs.Prelude.{map as map_list, Some};
+ghost use Rattle.std.specs.Prelude.{◌≡◌, ◌++◌, ◌∷◌, ◌↔◌, [], IsTrue, IfOk, IfSome, OnOk, OnErr};
+ghost use Rattle.std.specs.Prelude.{map as map_list, None, Some};
 ghost use Rattle.std.specs.List.{flat_map};
+ghost use Rattle.id_tag.specs.declared.Value.TheVariants.{Int};
 ghost use Rattle.id_bank.specs.declared.ReadAnswer.TheVariants.{Deferred as PutOff};
-ghost use Rattle.id_bank.specs.Cells.{read_answer, state_read, write_answer, state_written, count_expected};
-ghost use Rattle.id_bank.specs.Cells.{count_readers};
-ghost use Rattle.id_bank.specs.Cells.{filled_at, readers_at};
-ghost use Rattle.id_bank.specs.Slots.{value_of, state_of, key_of};
+ghost use Rattle.id_bank.specs.Cells.{Present, Deferred, read_answer, state_read, write_answer, state_written};
+ghost use Rattle.id_bank.specs.Cells.{count_expected, count_readers, filled_at, readers_at};
+ghost use Rattle.id_bank.specs.Slots.{tag_of, kept_state, state_of, origin_of, replies_of, held_in};
 
 use crate::{Filled, ReadAnswer, Reader, Replies, WriteAnswer};
-use id_tag::{Cell, Structure, Tag, Value};
+use id_tag::{Cell, Context, Tag, Value, small, tiny};
 use std::alloc::{AllocError, Global};
 use std::mem;
 
-/// A value, of which a number takes no memory of its own.
-#[derive(Drop)]
-pub(crate) enum Held {
-    Int(i64),
-    Wide(Box<Value>),
+/// A tag besides its element, in small numbers.
+#[derive(Clone, Copy)]
+pub(crate) struct Numbers {
+    pub(crate) serial: u32,
+    pub(crate) iteration: u32,
+    pub(crate) instr: u32,
 }
 
-impl Held {
-    /// Holds a value.
-    pub(crate) fn new(alloc: Global, value: Value) -> Result<Held, AllocError>
-        ensures { IfOk result (λ held. value_of held ≡ value) }
-    {
-        match value {
-            Value::Int(number) => Ok(Held::Int(number)),
-            _ => Ok(Held::Wide(Box::new(alloc, value)?)),
-        }
-    }
+// The element and the other numbers of a tag, where they are small.
+#[inline(always)]
+fn small_tag(tag: &Tag) -> Option<(u8, Numbers)>
+    ensures { IfSome result (λ p. tag_of p.0 p.1 ≡ tag.now) }
+{
+    Some((
+        tiny(tag.context.element)?,
+        Numbers {
+            serial: small(tag.context.serial)?,
+            iteration: small(tag.iteration)?,
+            instr: tag.instr,
+        },
+    ))
+}
 
-    /// The value. Takes no memory.
-    pub(crate) fn value(&self) -> Value
-        ensures { result ≡ value_of self.now }
-    {
-        match self {
-            Held::Int(number) => Value::Int(*number),
-            Held::Wide(value) => **value,
-        }
+// The tag of small numbers.
+#[inline(always)]
+fn tag_of(element: u8, numbers: Numbers) -> Tag
+    ensures { result ≡ tag_of element numbers }
+{
+    Tag {
+        context: Context {
+            element: u32::from(element),
+            serial: u64::from(numbers.serial),
+        },
+        iteration: u64::from(numbers.iteration),
+        instr: numbers.instr,
     }
 }
 
-/// What a cell holds.
+/// What a cell holds: up to two replies, or a number, if the tags are of small numbers, take no memory of their own.
 #[derive(Drop)]
 pub(crate) enum Slot {
-    Present { held: Held, origin: Tag },
+    /// Nothing: the cell was neither read nor written.
+    Absent,
+    /// A number, with the tag of its store.
+    Number(u8, Numbers, i64),
+    /// One reply that waits.
+    One(u8, Numbers),
+    /// Two replies that wait: their elements, and their other numbers.
+    Two(u8, u8, Numbers, Numbers),
+    /// Anything else.
+    Wide(Box<Kept>),
+}
+
+/// What a cell holds in memory of its own.
+#[derive(Drop)]
+pub(crate) enum Kept {
+    Present { value: Value, origin: Tag },
     Deferred(Replies),
 }
 
 impl Slot {
-    /// Reads the cell for this reply. After an error nothing has changed.
-    pub(crate) fn read(&mut self, reply: Tag) -> Result<ReadAnswer, AllocError>
-        ensures answer { IfOk result (λ answer. answer ≡ read_answer (Some (state_of self.old))) }
-        ensures after { OnOk result (state_of self.new ≡ state_read reply (Some (state_of self.old))) }
-        ensures grows { OnErr result (read_answer (Some (state_of self.old)) ≡ PutOff) }
-        ensures err { OnErr result (state_of self.new ≡ state_of self.old) }
+    // A value from a store.
+    #[inline(always)]
+    fn present(alloc: Global, value: Value, origin: Tag) -> Result<Slot, AllocError>
+        ensures { IfOk result (λ s. state_of s ≡ Some (Present value origin)) }
+    {
+        if let Value::Int(number) = value {
+            if let Some((element, numbers)) = small_tag(&origin) {
+                return Ok(Slot::Number(element, numbers, number));
+            }
+        }
+        Slot::wide(alloc, Kept::Present { value, origin })
+    }
+
+    #[cold]
+    #[inline(never)]
+    fn wide(alloc: Global, kept: Kept) -> Result<Slot, AllocError>
+        ensures { IfOk result (λ s. state_of s ≡ Some (kept_state kept)) }
+    {
+        Ok(Slot::Wide(Box::new(alloc, kept)?))
+    }
+
+    // One reply.
+    #[inline(always)]
+    fn one(alloc: Global, reply: Tag) -> Result<Slot, AllocError>
+        ensures { IfOk result (λ s. state_of s ≡ Some (Deferred (reply ∷ []))) }
+    {
+        match small_tag(&reply) {
+            Some((element, numbers)) => Ok(Slot::One(element, numbers)),
+            None => Slot::wide(alloc, Kept::Deferred(Replies::one(alloc, reply))),
+        }
+    }
+
+    // A reply of small numbers, and one more.
+    #[inline(always)]
+    fn two(alloc: Global, element: u8, first: Numbers, reply: Tag) -> Result<Slot, AllocError>
+        ensures { IfOk result (λ s. state_of s ≡ Some (Deferred (tag_of element first ∷ reply ∷ []))) }
+    {
+        match small_tag(&reply) {
+            Some((other, second)) => Ok(Slot::Two(element, other, first, second)),
+            None => Slot::wide(
+                alloc,
+                Kept::Deferred(Replies::two(alloc, tag_of(element, first), reply)),
+            ),
+        }
+    }
+
+    // Three replies.
+    #[cold]
+    #[inline(never)]
+    fn three(alloc: Global, first: Tag, second: Tag, third: Tag) -> Result<Slot, AllocError>
+        ensures { IfOk result (λ s. state_of s ≡ Some (Deferred (first ∷ second ∷ third ∷ []))) }
+    {
+        let mut replies = Replies::two(alloc, first, second);
+        replies.push(third)?;
+        Slot::wide(alloc, Kept::Deferred(replies))
+    }
+
+    /// Whether the cell was neither read nor written. Takes no memory.
+    #[inline(always)]
+    pub(crate) fn is_absent(&self) -> bool
+        ensures { IsTrue result ↔ (state_of self.now ≡ None) }
     {
         match self {
-            Slot::Present { held, .. } => Ok(ReadAnswer::Now(held.value())),
-            Slot::Deferred(replies) => {
+            Slot::Absent => true,
+            Slot::Number(_, _, _) | Slot::One(_, _) | Slot::Two(_, _, _, _) | Slot::Wide(_) =>
+                false,
+        }
+    }
+
+    /// Reads the cell for this reply. After an error nothing has changed.
+    #[inline(always)]
+    pub(crate) fn read(&mut self, alloc: Global, reply: Tag) -> Result<ReadAnswer, AllocError>
+        ensures answer { IfOk result (λ answer. answer ≡ read_answer (state_of self.old)) }
+        ensures after { OnOk result (state_of self.new ≡ Some (state_read reply (state_of self.old))) }
+        ensures grows { OnErr result (read_answer (state_of self.old) ≡ PutOff) }
+        ensures err { OnErr result (state_of self.new ≡ state_of self.old) }
+    {
+        let next = match self {
+            Slot::Number(_, _, number) => return Ok(ReadAnswer::Now(Value::Int(*number))),
+            Slot::Wide(kept) => return kept.read(reply),
+            Slot::Absent => Slot::one(alloc, reply)?,
+            Slot::One(element, first) => Slot::two(alloc, *element, *first, reply)?,
+            Slot::Two(element, other, first, second) => {
+                Slot::three(
+                    alloc,
+                    tag_of(*element, *first),
+                    tag_of(*other, *second),
+                    reply,
+                )?
+            }
+        };
+        *self = next;
+        Ok(ReadAnswer::Deferred)
+    }
+
+    /// Writes a value to the cell. After an error nothing has changed.
+    #[inline(always)]
+    pub(crate) fn write(
+        &mut self,
+        alloc: Global,
+        value: Value,
+        origin: Tag,
+    ) -> Result<WriteAnswer, AllocError>
+        ensures answer { IfOk result (λ answer. answer ≡ write_answer (state_of self.old)) }
+        ensures after { OnOk result (state_of self.new ≡ Some (state_written value origin (state_of self.old))) }
+        ensures err { OnErr result (state_of self.new ≡ state_of self.old) }
+    {
+        if let Some(first) = self.origin() {
+            return Ok(WriteAnswer::Second(first));
+        }
+        let next = Slot::present(alloc, value, origin)?;
+        let before = mem::replace(self, next);
+        Ok(WriteAnswer::Readers(before.replies(alloc)))
+    }
+
+    // The origin of the value, if there is one.
+    #[inline(always)]
+    fn origin(&self) -> Option<Tag>
+        ensures { result ≡ origin_of (state_of self.now) }
+    {
+        match self {
+            Slot::Number(element, numbers, _) => Some(tag_of(*element, *numbers)),
+            Slot::Wide(kept) => kept.origin(),
+            Slot::Absent | Slot::One(_, _) | Slot::Two(_, _, _, _) => None,
+        }
+    }
+
+    // The replies that wait.
+    #[inline(always)]
+    fn replies(self, alloc: Global) -> Replies
+        ensures { result ≡ replies_of (state_of self) }
+    {
+        match self {
+            Slot::Absent | Slot::Number(_, _, _) => Replies::none(alloc),
+            Slot::One(element, numbers) => Replies::one(alloc, tag_of(element, numbers)),
+            Slot::Two(element, other, first, second) => {
+                Replies::two(alloc, tag_of(element, first), tag_of(other, second))
+            }
+            Slot::Wide(kept) => Box::into_inner(kept).replies(alloc),
+        }
+    }
+
+    /// How many replies wait for the cell's value. Takes no memory.
+    #[inline(always)]
+    pub(crate) fn readers(&self) -> usize
+        ensures { result ≡ count_readers (state_of self.now) }
+    {
+        match self {
+            Slot::Absent | Slot::Number(_, _, _) => 0,
+            Slot::One(_, _) => 1,
+            Slot::Two(_, _, _, _) => 2,
+            Slot::Wide(kept) => kept.readers(),
+        }
+    }
+
+    /// How many replies wait for the cell's value, unless it has one. Takes no memory.
+    #[inline(always)]
+    pub(crate) fn expected(&self) -> Option<usize>
+        ensures { result ≡ count_expected (state_of self.now) }
+    {
+        match self {
+            Slot::Number(_, _, _) => None,
+            Slot::Absent => Some(0),
+            Slot::One(_, _) => Some(1),
+            Slot::Two(_, _, _, _) => Some(2),
+            Slot::Wide(kept) => kept.expected(),
+        }
+    }
+}
+
+impl Kept {
+    fn read(&mut self, reply: Tag) -> Result<ReadAnswer, AllocError>
+        ensures answer { IfOk result (λ answer. answer ≡ read_answer (Some (kept_state self.old))) }
+        ensures after { OnOk result (kept_state self.new ≡ state_read reply (Some (kept_state self.old))) }
+        ensures grows { OnErr result (read_answer (Some (kept_state self.old)) ≡ PutOff) }
+        ensures err { OnErr result (kept_state self.new ≡ kept_state self.old) }
+    {
+        match self {
+            Kept::Present { value, .. } => Ok(ReadAnswer::Now(*value)),
+            Kept::Deferred(replies) => {
                 replies.push(reply)?;
                 Ok(ReadAnswer::Deferred)
             }
         }
     }
 
-    /// Writes a value to the cell. Takes no memory.
-    pub(crate) fn write(&mut self, alloc: Global, held: Held, origin: Tag) -> WriteAnswer
-        ensures answer { result ≡ write_answer (Some (state_of self.old)) }
-        ensures after { state_of self.new ≡ state_written (value_of held) origin (Some (state_of self.old)) }
+    fn origin(&self) -> Option<Tag>
+        ensures { result ≡ origin_of (Some (kept_state self.now)) }
     {
         match self {
-            Slot::Present { origin: first, .. } => WriteAnswer::Second(*first),
-            Slot::Deferred(replies) => {
-                let waiting = mem::replace(replies, Replies::none(alloc));
-                *self = Slot::Present { held, origin };
-                WriteAnswer::Readers(waiting)
-            }
+            Kept::Present { origin, .. } => Some(*origin),
+            Kept::Deferred(_) => None,
         }
     }
 
-    /// How many replies wait for the cell's value. Takes no memory.
-    pub(crate) fn readers(&self) -> usize
-        ensures { result ≡ count_readers (Some (state_of self.now)) }
+    fn replies(self, alloc: Global) -> Replies
+        ensures { result ≡ replies_of (Some (kept_state self)) }
     {
         match self {
-            Slot::Present { .. } => 0,
-            Slot::Deferred(replies) => replies.len(),
+            Kept::Present { .. } => Replies::none(alloc),
+            Kept::Deferred(replies) => replies,
         }
     }
 
-    /// How many replies wait for the cell's value, unless it has one. Takes no memory.
-    pub(crate) fn expected(&self) -> Option<usize>
-        ensures { result ≡ count_expected (Some (state_of self.now)) }
+    fn readers(&self) -> usize
+        ensures { result ≡ count_readers (Some (kept_state self.now)) }
     {
         match self {
-            Slot::Present { .. } => None,
-            Slot::Deferred(replies) => Some(replies.len()),
+            Kept::Present { .. } => 0,
+            Kept::Deferred(replies) => replies.len(),
         }
     }
-}
 
-/// The key of a cell: its index comes first, so that neighbours stand in a row. Takes no memory.
-pub(crate) fn key_of(cell: Cell) -> (i64, Structure)
-    ensures { result ≡ key_of cell }
-{
-    (cell.index, cell.structure)
+    fn expected(&self) -> Option<usize>
+        ensures { result ≡ count_expected (Some (kept_state self.now)) }
+    {
+        match self {
+            Kept::Present { .. } => None,
+            Kept::Deferred(replies) => Some(replies.len()),
+        }
+    }
 }
 
 /// Those of the cells that hold a value.
 pub(crate) fn filled(alloc: Global, slots: &[(Cell, &Slot)]) -> Result<Vec<Filled>, AllocError>
-    ensures { IfOk result (λ cells. cells.items ≡ flat_map (λ e. filled_at (e.0, state_of e.1.now)) slots.now) }
+    ensures { IfOk result (λ cells. cells.items ≡ flat_map (λ e. filled_at (e.0, held_in e.1.now)) slots.now) }
 {
     let mut cells = Vec::with_capacity(alloc, slots.len())?;
     for entry in slots {
@@ -121,13 +309,29 @@ pub(crate) fn filled(alloc: Global, slots: &[(Cell, &Slot)]) -> Result<Vec<Fille
     Ok(cells)
 }
 
+#[inline(always)]
 fn add_filled(cells: &mut Vec<Filled>, cell: Cell, slot: &Slot) -> Result<(), AllocError>
-    ensures { OnOk result (cells.new.items ≡ cells.old.items ++ filled_at (cell, state_of slot.now)) }
+    ensures { OnOk result (cells.new.items ≡ cells.old.items ++ filled_at (cell, held_in slot.now)) }
 {
-    if let Slot::Present { held, origin } = slot {
+    match slot {
+        Slot::Number(element, numbers, number) => cells.push(Filled {
+            cell,
+            value: Value::Int(*number),
+            origin: tag_of(*element, *numbers),
+        })?,
+        Slot::Wide(kept) => add_kept(cells, cell, kept)?,
+        Slot::Absent | Slot::One(_, _) | Slot::Two(_, _, _, _) => {}
+    }
+    Ok(())
+}
+
+fn add_kept(cells: &mut Vec<Filled>, cell: Cell, kept: &Kept) -> Result<(), AllocError>
+    ensures { OnOk result (cells.new.items ≡ cells.old.items ++ filled_at (cell, kept_state kept.now)) }
+{
+    if let Kept::Present { value, origin } = kept {
         cells.push(Filled {
             cell,
-            value: held.value(),
+            value: *value,
             origin: *origin,
         })?;
     }
@@ -136,7 +340,7 @@ fn add_filled(cells: &mut Vec<Filled>, cell: Cell, slot: &Slot) -> Result<(), Al
 
 /// The replies that wait at the cells.
 pub(crate) fn waiting(alloc: Global, slots: &[(Cell, &Slot)]) -> Result<Vec<Reader>, AllocError>
-    ensures { IfOk result (λ rs. rs.items ≡ flat_map (λ e. readers_at (e.0, state_of e.1.now)) slots.now) }
+    ensures { IfOk result (λ rs. rs.items ≡ flat_map (λ e. readers_at (e.0, held_in e.1.now)) slots.now) }
 {
     let mut readers = Vec::new(alloc);
     for entry in slots {
@@ -146,11 +350,26 @@ pub(crate) fn waiting(alloc: Global, slots: &[(Cell, &Slot)]) -> Result<Vec<Read
 }
 
 fn add_waiting(readers: &mut Vec<Reader>, cell: Cell, slot: &Slot) -> Result<(), AllocError>
-    ensures { OnOk result (readers.new.items ≡ readers.old.items ++ readers_at (cell, state_of slot.now)) }
+    ensures { OnOk result (readers.new.items ≡ readers.old.items ++ readers_at (cell, held_in slot.now)) }
 {
     match slot {
-        Slot::Present { .. } => Ok(()),
-        Slot::Deferred(replies) => add_readers(readers, cell, replies.as_slice()),
+        Slot::Absent | Slot::Number(_, _, _) => Ok(()),
+        Slot::One(element, numbers) => add_readers(readers, cell, &[tag_of(*element, *numbers)]),
+        Slot::Two(element, other, first, second) => add_readers(
+            readers,
+            cell,
+            &[tag_of(*element, *first), tag_of(*other, *second)],
+        ),
+        Slot::Wide(kept) => add_kept_readers(readers, cell, kept),
+    }
+}
+
+fn add_kept_readers(readers: &mut Vec<Reader>, cell: Cell, kept: &Kept) -> Result<(), AllocError>
+    ensures { OnOk result (readers.new.items ≡ readers.old.items ++ readers_at (cell, kept_state kept.now)) }
+{
+    match kept {
+        Kept::Present { .. } => Ok(()),
+        Kept::Deferred(replies) => add_readers(readers, cell, replies.as_slice()),
     }
 }
 

@@ -1,11 +1,12 @@
--- the table has no entry exactly where the map that it stands for has none
+-- no cell of the pages was read or written exactly where the map that they stand for has nothing
 use Rattle.std.proofs.Common.{◌∙◌, sym}
-use Rattle.id_bank.proofs.CellsLemmas.{empty-from_none, none-from_empty}
+use Rattle.std.proofs.lemmas.List.Elements.{recursion_from_All, All-from_recursion}
+use Rattle.id_bank.proofs.SlotsLemmas.{empty-from_none, none-from_pages}
 use Rattle.id_bank.proofs.Bank.is_empty.Goals as goal
 
 pub returns : goal.returns
 returns c =
-    let es = c.self.inside.slots.entries in (
-      λ yes. sym c.self.view_is ∙ empty-from_none es (c.is_empty.ensures.0 yes),
-      λ none. c.is_empty.ensures.1 (none-from_empty es (c.self.view_is ∙ none)),
+    let es = c.self.inside.pages.entries in (
+      λ yes. sym c.self.view_is ∙ empty-from_none es (recursion_from_All _ es (c.none_held.ensures.0 yes)),
+      λ none. c.none_held.ensures.1 (All-from_recursion _ es (none-from_pages es (c.self.view_is ∙ none))),
     )
