@@ -66,8 +66,9 @@ impl<'a> Desk<'a> {
     ghost use Rattle.id_graph.specs.Graph.{arcs_on, IsGraph};
     ghost use Rattle.id_ops.specs.Operators.{side_of};
 
-    /// The desk of the element of this number, at which nothing was handled. Takes no memory.
-    pub(crate) fn new(alloc: Global, number: u32, graph: &'a Valid) -> Desk<'a>
+    /// The desk of the element of this number, which is alone or one of several, at which nothing was handled. Takes no
+    /// memory.
+    pub(crate) fn new(alloc: Global, number: u32, graph: &'a Valid, alone: bool) -> Desk<'a>
         ensures number { result.log.element ≡ number }
         ensures graph { result.log.graph ≡ graph.now }
         ensures state { state_of result ≡ fresh }
@@ -78,7 +79,7 @@ impl<'a> Desk<'a> {
             stamp: 0,
             contexts: 0,
             structures: 0,
-            log: Record::new(alloc, number, graph),
+            log: Record::new(alloc, number, graph, alone),
         }
     }
 

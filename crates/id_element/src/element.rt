@@ -72,7 +72,7 @@ impl<'a> Element<'a> {
     {
         Element {
             count,
-            desk: Desk::new(alloc, number, graph),
+            desk: Desk::new(alloc, number, graph, count == 1),
             went: true,
         }
     }

@@ -15,6 +15,7 @@ ghost use Rattle.id_ops.specs.Operators.{fired_send, fired_switch, fired_unary};
 ghost use Rattle.id_ops.specs.declared.shot.Shot.TheVariants.{Sent};
 ghost use Rattle.id_ops.specs.Shots.{IsBrief, IsOwn, fired_of, sends_on, target_tag};
 
+use crate::Fired;
 use id_graph::{Dyadic, Op, PortKind};
 use id_tag::{Context, Plain, Tag};
 use id_value::{Constant, Outcome, UnaryOp, calculate, compare, decide, unary_result};
@@ -57,6 +58,21 @@ impl Target {
             },
             iteration: u64::from(self.iteration),
             instr: self.instr,
+        }
+    }
+}
+
+impl Shot {
+    /// The same as any firing. Takes no memory.
+    pub fn fired(self) -> Fired
+        ensures { result ≡ fired_of self }
+    {
+        match self {
+            Shot::Nothing => Fired::Nothing,
+            Shot::Out(sent) => Fired::Out(sent.value()),
+            Shot::Side(side, sent) => Fired::Side(side, sent.value()),
+            Shot::Moved(iteration, sent) => Fired::Moved(iteration, sent.value()),
+            Shot::Sent(target, sent) => Fired::Sent(target.tag(), sent.value()),
         }
     }
 }

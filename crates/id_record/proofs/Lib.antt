@@ -1,5 +1,7 @@
 pub mod EachLemmas
 pub mod SendsLemmas
 pub mod LinesLemmas
+pub mod LedgersLemmas
+pub mod SpotsLemmas
 pub mod NearLemmas
 pub mod MarksLemmas

@@ -5,7 +5,7 @@ use Rattle.std.specs.List.{AllByRecursion}
 use Rattle.std.proofs.lemmas.List.{append-nil, drop-append-le, get_or_append_left, length-take, take-append-drop, take-append-le, take_all}
 use Rattle.std.proofs.Math.Seq.{drop-append_seam}
 use Rattle.std.proofs.lemmas.List.Elements.{recursion_from_All, All-from_recursion}
-use Rattle.std.proofs.lemmas.Option.{get_or_from_slice_get, slice_get_read}
+use Rattle.std.proofs.lemmas.Option.{get_or_from_slice_get}
 use Rattle.std.specs.Option.{option_map_or}
 use Rattle.id_graph.specs.declared.instr.Instr.{Instr}
 use Rattle.id_graph.specs.Graph.{Parts, arcs_on}
@@ -284,8 +284,8 @@ kept_cell ts asides cells ls e l c packed there kept =
     kept_pushed ts b d ls e l (cell_goes b c) (celled-there d l l.kind packed.kind last) (cell_last asides cells c e l packed) there kept
 
 -- the line at a position, as the code reads it
-pub line_kept : (b : Beside) (ts : List Tag) (ls : List Line) (k : ℕ) (l : Line) → All (IsKept b ts) ls → k < length ls → l ≡ get_or ls k l → IsKept b ts l
-line_kept b ts ls k l kept below is = each-get (IsKept b ts) ls k l (recursion_from_All (IsKept b ts) ls kept) (slice_get_read ls (length ls) k l refl below is)
+pub line_kept : (b : Beside) (ts : List Tag) (ls : List Line) (k : ℕ) (l : Line) → All (IsKept b ts) ls → slice_get ls k ≡ Some l → IsKept b ts l
+line_kept b ts ls k l kept is = each-get (IsKept b ts) ls k l (recursion_from_All (IsKept b ts) ls kept) is
 
 -- an event with no replies
 pub event_alone : (g : Parts) (n : ℕ) (ts : List Tag) (k : ℕ) (h : Handled) → h.replies ≡ no_replies

@@ -6,3 +6,5 @@ pub mod Shootings
 pub mod Visits
 -- For use inside.
 pub mod Lines
+pub mod Ledgers
+pub mod Spots

@@ -1,23 +1,24 @@
 //! The record of an element: a line for each event, seen as a list of events.
 
-ghost use Rattle.std.specs.Prelude.{◌≡◌, ◌<◌, ◌++◌, ◌∷◌, [], vec_len, vec_capacity};
+ghost use Rattle.std.specs.Prelude.{◌≡◌, ◌<◌, ◌++◌, ◌∷◌, [], vec_len, vec_capacity, IsFalse, IsTrue};
 ghost use Rattle.id_record.specs.Events.{full_step, is_marked, second_store, tag_of, value_of};
 ghost use Rattle.id_ops.specs.Operators.{side_of};
 ghost use Rattle.id_record.specs.Lines.{AreThere};
 ghost use Rattle.id_record.specs.Records.{dests_at, replies_in};
+ghost use Rattle.id_record.specs.Spots.{cells_at};
 ghost use Rattle.id_valid.specs.Roles.{op_at};
 ghost use Rattle.id_graph.specs.Graph.{IsGraph};
 
 use crate::line::{
-    Celled, Doing, Handled, Handling, Line, NO_REPLIES, Reaction, Replies, Shooting, Visiting,
-    deed_beside, deed_line, instr_in, line_aside, packed, packed_beside, payload_in, shot_line,
-    unpack, visit_beside, visited,
+    Celled, Doing, Handled, Handling, Ledger, NO_REPLIES, Reaction, Replies, Shooting, Spot,
+    Visiting, deed_beside, deed_line, instr_in, packed, packed_beside, payload_in, shot, shot_line,
+    spot_of, unpack, visit_beside, visited, whole,
 };
 use crate::outputs::{Envelope, Outputs, chosen};
 use crate::step::{Fault, Step, Verdict};
 use id_graph::{Dest, Graph, Op};
 use id_ops::Fired;
-use id_tag::{Cell, Message, Payload, Tag, Value};
+use id_tag::{Message, Payload, Tag, Value};
 use id_valid::Valid;
 use std::alloc::{AllocError, Global};
 use std::marker::Model;
@@ -27,10 +28,10 @@ use std::marker::Model;
 pub struct Record<'a> {
     graph: &'a Valid,
     element: u32,
-    lines: Vec<Line>,
+    lines: Ledger,
     asides: Vec<Handled>,
     // Of events that name a cell or a structure.
-    cells: Vec<Cell>,
+    cells: Vec<Spot>,
     replies: Vec<Tag>,
 }
 
@@ -38,6 +39,7 @@ impl<'a> Model for Record<'a> {
     ghost use Rattle.std.specs.Prelude.{◌-◌, All, min, vec_len, vec_capacity};
     ghost use Rattle.id_record.specs.Lines.{IsKept, beside};
     ghost use Rattle.id_record.specs.Records.{RecordView, events_from};
+    ghost use Rattle.id_record.specs.Spots.{cells_at};
 
     ghost Value = { RecordView };
 
@@ -45,14 +47,15 @@ impl<'a> Model for Record<'a> {
       element = r.element;
       graph = r.graph.now;
       events = events_from r.graph.now r.element r.replies.items 0
-          (beside r.asides.items r.cells.items) r.lines.items;
+          (beside r.asides.items (cells_at r.cells.items)) r.lines.items;
       replies = r.replies.items;
-      room = vec_capacity r.lines - vec_len r.lines;
+      room = r.lines.room;
       room_aside = min (vec_capacity r.asides - vec_len r.asides) (vec_capacity r.cells - vec_len r.cells);
       room_for_replies = vec_capacity r.replies - vec_len r.replies;
     } };
 
-    ghost invariant = { λ r. All (IsKept (beside r.asides.items r.cells.items) r.replies.items) r.lines.items };
+    ghost invariant = { λ r.
+        All (IsKept (beside r.asides.items (cells_at r.cells.items)) r.replies.items) r.lines.items };
 }
 
 /// An event: the element that handled the message, the stamp that it gave it, what it fired and sent, and what
@@ -91,8 +94,9 @@ impl<'a> Record<'a> {
     ghost use Rattle.id_ops.specs.Shots.{IsBrief, IsOwn};
     ghost use Rattle.id_record.specs.Records.{event_of_handled};
 
-    /// The empty record of the element of this number. Takes no memory.
-    pub fn new(alloc: Global, element: u32, graph: &'a Valid) -> Record<'a>
+    /// The empty record of the element of this number, which is alone or one of several: the record of one that is
+    /// alone is smaller. Takes no memory.
+    pub fn new(alloc: Global, element: u32, graph: &'a Valid, alone: bool) -> Record<'a>
         ensures events { result.events ≡ [] }
         ensures element { result.element ≡ element }
         ensures graph { result.graph ≡ graph.now }
@@ -100,7 +104,7 @@ impl<'a> Record<'a> {
         Record {
             graph,
             element,
-            lines: Vec::new(alloc),
+            lines: Ledger::new(alloc, alone),
             asides: Vec::new(alloc),
             cells: Vec::new(alloc),
             replies: Vec::new(alloc),
@@ -118,7 +122,7 @@ impl<'a> Record<'a> {
         ensures room_aside { OnOk result (0 < self.new.room_aside) }
         ensures room_for_replies { OnOk result (replies ≤ self.new.room_for_replies) }
     {
-        self.lines.reserve(1)?;
+        self.lines.reserve()?;
         self.asides.reserve(1)?;
         self.cells.reserve(1)?;
         self.replies.reserve(replies)?;
@@ -159,7 +163,11 @@ impl<'a> Record<'a> {
             (handled event.entry) ∷ [] }
     {
         match packed(&event) {
-            Some(line) => add_line(&mut self.lines, line),
+            Some(line) => {
+                if !self.lines.push(line) {
+                    self.push_whole(event);
+                }
+            }
             None => self.push_beside(event),
         }
     }
@@ -176,27 +184,51 @@ impl<'a> Record<'a> {
             (handled event.entry) ∷ [] }
     {
         match packed_beside(&event, self.cells.len()) {
-            Some(Celled { line, cell }) => {
-                self.cells.push_reserved(cell);
-                add_line(&mut self.lines, line);
+            Some(celled) => {
+                if !add_beside(&mut self.lines, &mut self.cells, celled) {
+                    self.push_whole(event);
+                }
             }
-            None => {
-                let index = self.asides.len();
-                self.asides.push_reserved(Handled {
-                    message: *event.message,
-                    stamp: event.stamp,
-                    reaction: *event.reaction,
-                    replies: event.replies,
-                });
-                add_line(&mut self.lines, line_aside(index));
-            }
+            None => self.push_whole(event),
         }
+    }
+
+    /// Adds an event at the end, aside. Takes no memory.
+    #[inline(never)]
+    fn push_whole(&mut self, event: Handling<'_>)
+        requires room { 0 < self.old.room }
+        requires room_aside { 0 < self.old.room_aside }
+        requires replies { AreThere self.old.replies event.replies }
+        ensures element { self.new.element ≡ self.old.element }
+        ensures graph { self.new.graph ≡ self.old.graph }
+        ensures events { self.new.events ≡ self.old.events
+            ++ event_of_handled self.old.graph self.old.element self.old.replies (length self.old.events)
+            (handled event.entry) ∷ [] }
+    {
+        self.push_aside(&whole(&event));
+    }
+
+    /// Adds this event at the end, aside. Takes no memory.
+    fn push_aside(&mut self, event: &Handled)
+        requires room { 0 < self.old.room }
+        requires room_aside { 0 < self.old.room_aside }
+        requires replies { AreThere self.old.replies event.now.replies }
+        ensures element { self.new.element ≡ self.old.element }
+        ensures graph { self.new.graph ≡ self.old.graph }
+        ensures events { self.new.events ≡ self.old.events
+            ++ event_of_handled self.old.graph self.old.element self.old.replies (length self.old.events)
+            event.now ∷ [] }
+    {
+        let index = self.asides.len();
+        self.asides.push_reserved(*event);
+        self.lines.push_aside(index);
     }
 
     /// Adds the event of a plain token at the end. Takes no memory.
     #[inline(always)]
     pub fn push_shot(&mut self, event: Shooting<'_>)
         requires room { 0 < self.old.room }
+        requires room_aside { 0 < self.old.room_aside }
         requires fits { HasLine event.token.now }
         requires own { IsOwn event.shot event.token.now.value }
         requires brief { IsBrief event.token.now.iteration event.shot }
@@ -206,7 +238,23 @@ impl<'a> Record<'a> {
             ++ event_of_handled self.old.graph self.old.element self.old.replies (length self.old.events)
             (shooting event.entry) ∷ [] }
     {
-        add_line(&mut self.lines, shot_line(&event));
+        if !self.lines.push(shot_line(&event)) {
+            self.push_shot_aside(event);
+        }
+    }
+
+    /// Adds the event of a plain token at the end, aside. Takes no memory.
+    #[inline(never)]
+    fn push_shot_aside(&mut self, event: Shooting<'_>)
+        requires room { 0 < self.old.room }
+        requires room_aside { 0 < self.old.room_aside }
+        ensures element { self.new.element ≡ self.old.element }
+        ensures graph { self.new.graph ≡ self.old.graph }
+        ensures events { self.new.events ≡ self.old.events
+            ++ event_of_handled self.old.graph self.old.element self.old.replies (length self.old.events)
+            (shooting event.entry) ∷ [] }
+    {
+        self.push_aside(&shot(&event));
     }
 
     /// Adds the event of a plain token with a deed at the end. Takes no memory.
@@ -222,7 +270,11 @@ impl<'a> Record<'a> {
             (doing event.entry) ∷ [] }
     {
         match deed_line(&event) {
-            Some(line) => add_line(&mut self.lines, line),
+            Some(line) => {
+                if !self.lines.push(line) {
+                    self.push_deed_aside(event);
+                }
+            }
             None => self.push_deed_beside(event),
         }
     }
@@ -240,9 +292,10 @@ impl<'a> Record<'a> {
             (doing event.entry) ∷ [] }
     {
         match deed_beside(&event, self.cells.len()) {
-            Some(Celled { line, cell }) => {
-                self.cells.push_reserved(cell);
-                add_line(&mut self.lines, line);
+            Some(celled) => {
+                if !add_beside(&mut self.lines, &mut self.cells, celled) {
+                    self.push_deed_aside(event);
+                }
             }
             None => self.push_deed_aside(event),
         }
@@ -287,15 +340,16 @@ impl<'a> Record<'a> {
             (visiting event.entry) ∷ [] }
     {
         match visit_beside(&event, self.cells.len()) {
-            Some(Celled { line, cell }) => {
-                self.cells.push_reserved(cell);
-                add_line(&mut self.lines, line);
+            Some(celled) => {
+                if !add_beside(&mut self.lines, &mut self.cells, celled) {
+                    self.push_visit_aside(event);
+                }
             }
             None => self.push_visit_aside(event),
         }
     }
 
-    /// Adds the event of a read or a write of a cell at the end, as any event. Takes no memory.
+    /// Adds the event of a read or a write of a cell at the end, aside. Takes no memory.
     #[inline(never)]
     fn push_visit_aside(&mut self, event: Visiting<'_>)
         requires room { 0 < self.old.room }
@@ -307,9 +361,7 @@ impl<'a> Record<'a> {
             ++ event_of_handled self.old.graph self.old.element self.old.replies (length self.old.events)
             (visiting event.entry) ∷ [] }
     {
-        let index = self.asides.len();
-        self.asides.push_reserved(visited(&event));
-        add_line(&mut self.lines, line_aside(index));
+        self.push_aside(&visited(&event));
     }
 
     /// The events, in order. Takes no memory.
@@ -347,8 +399,8 @@ impl<'a> Record<'a> {
         requires { position < length self.now.events }
         ensures { option_map (λ e. e.message.payload) (slice_get self.now.events position) ≡ Some result }
     {
-        let line = &self.lines[position];
-        payload_in(self.asides.as_slice(), self.cells.as_slice(), line)
+        let line = self.lines.unstamped(position);
+        payload_in(self.asides.as_slice(), self.cells.as_slice(), &line)
     }
 
     /// The number of the instruction whose tag the message of the event at a position names.
@@ -358,8 +410,8 @@ impl<'a> Record<'a> {
         ensures { option_map (λ e. (tag_of e.message.payload).instr) (slice_get self.now.events position)
             ≡ Some result }
     {
-        let line = &self.lines[position];
-        instr_in(self.asides.as_slice(), self.cells.as_slice(), line)
+        let line = self.lines.unstamped(position);
+        instr_in(self.asides.as_slice(), self.cells.as_slice(), &line)
     }
 
     /// The position of the first event, from this one on, whose message names a marked instruction, or else how many
@@ -392,8 +444,8 @@ impl<'a> Record<'a> {
           step = result.step;
         }) }
     {
-        let line = &self.lines[position];
-        let handled = unpack(self.asides.as_slice(), self.cells.as_slice(), line);
+        let line = self.lines.line(position);
+        let handled = unpack(self.asides.as_slice(), self.cells.as_slice(), &line);
         let tag = tag_of(&handled.message.payload);
         let envelope = Envelope {
             number: self.element,
@@ -481,13 +533,27 @@ impl<'a> Events<'a> {
     }
 }
 
-/// Adds a line at the end. Takes no memory.
+/// Adds a line at the end with its cell beside it, and answers whether it did: where both fit. Takes no memory.
 #[inline(always)]
-fn add_line(lines: &mut Vec<Line>, line: Line)
-    requires { vec_len lines.old < vec_capacity lines.old }
-    ensures { lines.new.items ≡ lines.old.items ++ line ∷ [] }
+fn add_beside(lines: &mut Ledger, cells: &mut Vec<Spot>, celled: Celled) -> bool
+    requires room { 0 < lines.old.room }
+    requires room_beside { vec_len cells.old < vec_capacity cells.old }
+    ensures line { IsTrue result → lines.new.items ≡ lines.old.items ++ celled.line ∷ [] }
+    ensures cell { IsTrue result → cells_at cells.new.items ≡ cells_at cells.old.items ++ celled.cell ∷ [] }
+    ensures left { IsFalse result → lines.new ≡ lines.old }
+    ensures left_beside { IsFalse result → cells.new ≡ cells.old }
 {
-    lines.push_reserved(line);
+    match spot_of(celled.cell) {
+        Some(spot) => {
+            if lines.push(celled.line) {
+                cells.push_reserved(spot);
+                true
+            } else {
+                false
+            }
+        }
+        None => false,
+    }
 }
 
 /// The mark of this number, where there is one.

@@ -1,7 +1,6 @@
-//! How the record keeps an event: in one line of 48 bytes, in one with a cell beside it, or aside where it fits in
-//! neither.
+//! How the record keeps an event: in one line, in one with a cell beside it, or aside where it fits in neither.
 
-ghost use Rattle.std.specs.Prelude.{◌≡◌, ◌≢◌, ◌<◌, ◌%◌, ◌/◌, ◌^◌, ℤ, pos, true, false, Some, IfSome, IsTrue};
+ghost use Rattle.std.specs.Prelude.{◌≡◌, ◌≢◌, ◌<◌, ◌%◌, ◌/◌, ◌^◌, ℤ, length, pos, true, false, Some, IfSome, IsTrue};
 ghost use Rattle.id_tag.specs.declared.Cell.{Cell};
 ghost use Rattle.id_tag.specs.declared.Tag.{Tag};
 ghost use Rattle.id_tag.specs.declared.Value.{Value};
@@ -13,16 +12,19 @@ ghost use Rattle.id_record.specs.declared.step.Verdict.TheVariants.{Went, Failed
 ghost use Rattle.id_record.specs.declared.line.Kind.TheVariants.{Aside};
 ghost use Rattle.id_record.specs.Lines.{HasNumbers, IsPacked, IsWithin, NamedBy, Names, carried_value};
 ghost use Rattle.id_record.specs.Lines.{element_at, fired_at, handled, index_of, instr_at};
-ghost use Rattle.id_record.specs.Lines.{beside, message_at, no_replies, number_of, number_out, own, port_at};
+ghost use Rattle.id_record.specs.Lines.{beside, cell_in, message_at, no_replies, number_of, number_out, own, port_at};
 ghost use Rattle.id_record.specs.Lines.{reaction_of, sender_of, tag_at, unpacked};
+ghost use Rattle.id_record.specs.Spots.{cells_at};
 ghost use Rattle.id_record.specs.Events.{tag_of, value_of};
 
 mod celled;
+mod ledger;
 mod near;
 mod numbers;
 mod passing;
 mod reading;
 mod shooting;
+mod spot;
 mod visiting;
 
 use crate::history::{tag_of, value_of};
@@ -33,14 +35,16 @@ use id_graph::Port;
 use id_ops::{Fired, tag_within};
 use id_tag::{Cell, Context, Message, Payload, Sender, Tag, Value};
 use id_value::FaultKind;
+pub(crate) use ledger::Ledger;
 pub use near::Doing;
 pub(crate) use near::{deed_beside, deed_line};
 use near::{payload_near, said_near};
 use numbers::{context_of, index_of, instr_at, joined, place, position_at};
 use passing::{payload_passed, said_passed};
 use reading::{cell_in, message_at, own, own_payload, structure_in, tag_at, target_in, went};
-pub(crate) use shooting::shot_line;
+pub(crate) use shooting::{shot, shot_line};
 pub use shooting::{Shooting, has_line};
+pub(crate) use spot::{Spot, spot_of};
 pub(crate) use visiting::{visit_beside, visited};
 pub use visiting::{Fate, Visiting};
 
@@ -79,12 +83,12 @@ pub struct Handling<'a> {
     pub replies: Replies,
 }
 
-/// A handled message in 48 bytes: most numbers of a run need no more than 32 bits. `kind` and `value` say what the
-/// message carries, and `effect` and `result` what came of it. Of the tag of the message `place` is the element and the
-/// instruction, and `serial` and `iteration` are the rest. Of the tag that the event names beside it `to` is the
-/// element and the instruction, and `result` the rest. `position` is also the port, and `sender` is 0 where no element
-/// sent the message, or 1 more than the number of the one that did. Where the kind says that the event names a cell,
-/// `to` is the index of that beside the lines.
+/// A handled message in 48 bytes, of which 8 are its stamps: most numbers of a run need no more than 32 bits. `kind`
+/// and `value` say what the message carries, and `effect` and `result` what came of it. Of the tag of the message
+/// `place` is the element and the instruction, and `serial` and `iteration` are the rest. Of the tag that the event
+/// names beside it `to` is the element and the instruction, and `result` the rest. `position` is also the port, and
+/// `sender` is 0 where no element sent the message, or 1 more than the number of the one that did. Where the kind says
+/// that the event names a cell, `to` is the index of that beside the lines.
 #[derive(Clone, Copy)]
 pub(crate) struct Line {
     value: i64,
@@ -210,10 +214,13 @@ pub(crate) fn packed(event: &Handling<'_>) -> Option<Line>
     }
 }
 
-/// The line of an event that stands aside at this index.
-pub(crate) fn line_aside(index: usize) -> Line
+/// The line of an event that stands aside at this index, with this stamp, and that of the first event as its message's.
+fn line_aside(index: usize, stamp: u32) -> Line
     ensures kind { result.kind ≡ Aside }
     ensures index { index_of result.value ≡ index }
+    ensures stamp { result.stamp ≡ stamp }
+    ensures sent { result.sent ≡ 1 }
+    ensures position { result.position ≡ 0 }
 {
     Line {
         value: (index as u64).cast_signed(),
@@ -221,8 +228,8 @@ pub(crate) fn line_aside(index: usize) -> Line
         serial: 0,
         iteration: 0,
         position: 0,
-        sent: 0,
-        stamp: 0,
+        sent: 1,
+        stamp,
         place: 0,
         to: 0,
         sender: 0,
@@ -232,11 +239,23 @@ pub(crate) fn line_aside(index: usize) -> Line
     }
 }
 
+/// The event, as it stands aside.
+pub(crate) fn whole(event: &Handling<'_>) -> Handled
+    ensures { result ≡ handled event.now }
+{
+    Handled {
+        message: *event.message,
+        stamp: event.stamp,
+        reaction: *event.reaction,
+        replies: event.replies,
+    }
+}
+
 /// The event of a line.
 #[inline(always)]
-pub(crate) fn unpack(asides: &[Handled], cells: &[Cell], line: &Line) -> Handled
-    requires { IsWithin (beside asides.now cells.now) line.now }
-    ensures { result ≡ unpacked (beside asides.now cells.now) line.now }
+pub(crate) fn unpack(asides: &[Handled], cells: &[Spot], line: &Line) -> Handled
+    requires { IsWithin (beside asides.now (cells_at cells.now)) line.now }
+    ensures { result ≡ unpacked (beside asides.now (cells_at cells.now)) line.now }
 {
     match line.kind {
         Kind::Signal => own(line, Value::Signal),
@@ -250,14 +269,23 @@ pub(crate) fn unpack(asides: &[Handled], cells: &[Cell], line: &Line) -> Handled
         Kind::Near => said_near(line),
         Kind::Passed => said_passed(line),
         Kind::Aside => asides[index_of(line.value)],
-        _ => said(line, cells[line.to as usize]),
+        _ => said(line, cell_named(cells, line)),
     }
 }
 
+/// The cell that a line names.
+#[inline(always)]
+fn cell_named(cells: &[Spot], line: &Line) -> Cell
+    requires { line.now.to < length cells.now }
+    ensures { result ≡ cell_in (cells_at cells.now) line.now }
+{
+    cells[line.to as usize].cell()
+}
+
 /// What the message of a line says.
-pub(crate) fn payload_in(asides: &[Handled], cells: &[Cell], line: &Line) -> Payload
-    requires { IsWithin (beside asides.now cells.now) line.now }
-    ensures { result ≡ (unpacked (beside asides.now cells.now) line.now).message.payload }
+pub(crate) fn payload_in(asides: &[Handled], cells: &[Spot], line: &Line) -> Payload
+    requires { IsWithin (beside asides.now (cells_at cells.now)) line.now }
+    ensures { result ≡ (unpacked (beside asides.now (cells_at cells.now)) line.now).message.payload }
 {
     match line.kind {
         Kind::Signal => own_payload(line, Value::Signal),
@@ -271,15 +299,15 @@ pub(crate) fn payload_in(asides: &[Handled], cells: &[Cell], line: &Line) -> Pay
         Kind::Near => payload_near(line),
         Kind::Passed => payload_passed(line),
         Kind::Aside => asides[index_of(line.value)].message.payload,
-        _ => payload_told(line, cells[line.to as usize]),
+        _ => payload_told(line, cell_named(cells, line)),
     }
 }
 
 /// The number of the instruction whose tag the message of a line names.
 #[inline(always)]
-pub(crate) fn instr_in(asides: &[Handled], cells: &[Cell], line: &Line) -> u32
-    requires { IsWithin (beside asides.now cells.now) line.now }
-    ensures { result ≡ (tag_of (unpacked (beside asides.now cells.now) line.now).message.payload).instr }
+pub(crate) fn instr_in(asides: &[Handled], cells: &[Spot], line: &Line) -> u32
+    requires { IsWithin (beside asides.now (cells_at cells.now)) line.now }
+    ensures { result ≡ (tag_of (unpacked (beside asides.now (cells_at cells.now)) line.now).message.payload).instr }
 {
     match line.kind {
         Kind::Aside => tag_of(&asides[index_of(line.value)].message.payload).instr,

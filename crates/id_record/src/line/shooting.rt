@@ -14,8 +14,10 @@ ghost use Rattle.id_record.specs.Lines.{reaction_of, tag_at};
 ghost use Rattle.id_record.specs.Shootings.{HasLine, IsNarrow, shooting};
 
 use super::numbers::{joined, place, position_at};
+use super::reading::went;
 use super::{
-    Carried, Effect, Exit, Kind, Line, Written, false_at, int_at, of_kind, signal_at, true_at,
+    Carried, Effect, Exit, Handled, Kind, Line, NO_REPLIES, Written, false_at, int_at, of_kind,
+    signal_at, true_at,
 };
 use id_ops::{Shot, Target};
 use id_tag::{Plain, PlainToken};
@@ -67,6 +69,18 @@ pub(crate) fn shot_line(event: &Shooting<'_>) -> Line
         shot_effect(event),
         named(event.shot, event.token),
     )
+}
+
+/// The event, as it stands aside.
+pub(crate) fn shot(event: &Shooting<'_>) -> Handled
+    ensures { result ≡ shooting event.now }
+{
+    Handled {
+        message: event.token.message(),
+        stamp: u64::from(event.stamp),
+        reaction: went(event.shot.fired()),
+        replies: NO_REPLIES,
+    }
 }
 
 /// The value as a line carries it.
