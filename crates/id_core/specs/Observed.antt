@@ -7,10 +7,12 @@ use Rattle.id_meaning.specs.declared.Shape.{Shape}
 use Rattle.id_meaning.specs.declared.Put.{Put}
 use Rattle.id_meaning.specs.declared.Ask.{Ask}
 use Rattle.id_meaning.specs.declared.NameValue.{NameValue}
+pub use Rattle.id_observe.specs.declared.holdings.CellValue.{CellValue}
 pub use Rattle.id_observe.specs.Observed.{events_of, brought, source_value, answers, answer_in, place_of, path_of}
 pub use Rattle.id_observe.specs.Observed.{path_in, fault_of, faults_of, faults_in, is_value_merge, is_next, claims}
 pub use Rattle.id_observe.specs.Observed.{is_label_of, is_label, name_at, name_in, names_of, names_in}
-pub use Rattle.id_observe.specs.Observed.{ask_of, asks_in, cells_in, made, maker_in, name_by, put_of, reader_in}
+pub use Rattle.id_observe.specs.Observed.{ask_of, asks_in, cells_in, cell_value, cell_values_in, made, maker_in}
+pub use Rattle.id_observe.specs.Observed.{name_by, put_of, reader_in}
 pub use Rattle.id_observe.specs.Observed.{second_store, shape_of, shapes_of, site_at, site_cmp, structure_in}
 pub use Rattle.id_observe.specs.Observed.{structures_in, waiting_in}
 use Rattle.id_core.specs.Machines.{World}
@@ -34,6 +36,10 @@ structures g s = structures_in g s.elements
 -- what a machine shows that is put into cells
 abbrev pub cells : Parts → World → List Put
 cells g s = cells_in g s.elements
+
+-- what the cells of a machine hold
+abbrev pub cell_values : Parts → World → List CellValue
+cell_values g s = cell_values_in g s.elements
 
 -- the fetches that wait in a machine
 abbrev pub waiting : Parts → World → List Ask

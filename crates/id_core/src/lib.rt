@@ -14,6 +14,6 @@ mod machine;
 pub use entering::takes_inputs;
 pub use flight::Flight;
 pub use id_element::{Element, TakeError, fits};
-pub use id_observe::{Holdings, Merged, Observed, merge_records, observe_records};
+pub use id_observe::{CellValue, Holdings, Merged, Observed, merge_records, observe_records};
 pub use id_record::{Event, Events, Fault, Outputs, Step};
 pub use machine::{Came, MAX_ELEMENTS, Machine, MachineError};

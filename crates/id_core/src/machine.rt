@@ -110,7 +110,7 @@ impl<'a> Machine<'a> {
     ghost use Rattle.std.specs.Prelude.{true, false};
     ghost use Rattle.id_flight.specs.Demands.{demanded};
     ghost use Rattle.id_record.specs.declared.step.Step.TheVariants.{Went};
-    ghost use Rattle.id_core.specs.Observed.{answer, cells, faults, names, structures, waiting};
+    ghost use Rattle.id_core.specs.Observed.{answer, cell_values, cells, faults, names, structures, waiting};
     ghost use Rattle.id_core.specs.Machines.{AreElements, IsQuiet, TakesInputs, came_of, delivered, event_at, start};
     ghost use Rattle.id_core.specs.Machines.{world_of};
 
@@ -367,12 +367,12 @@ impl<'a> Machine<'a> {
         answer(alloc, self.graph, self.elements.as_slice())
     }
 
-    /// What the run so far shows of its answer and of structures, for who asks for nothing else: by one look through the
-    /// records.
+    /// What the run so far shows of its answer and of structures, for who asks for nothing else: by one look through
+    /// the records. By which stores the cells have their values is not looked up.
     pub fn holdings(&self, alloc: Global) -> Result<Holdings, AllocError>
         ensures answer { IfOk result (λ o. o.answer ≡ answer self.now.graph self.now.world) }
         ensures structures { IfOk result (λ o. o.structures ≡ structures self.now.graph self.now.world) }
-        ensures cells { IfOk result (λ o. o.cells ≡ cells self.now.graph self.now.world) }
+        ensures cells { IfOk result (λ o. o.cells ≡ cell_values self.now.graph self.now.world) }
         ensures waiting { IfOk result (λ o. o.waiting ≡ waiting self.now.graph self.now.world) }
     {
         observe_holdings(alloc, self.graph, self.elements.as_slice())

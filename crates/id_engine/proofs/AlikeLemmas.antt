@@ -132,8 +132,8 @@ module _ (S : Source) (inputs : AreInputs S.checked S.inputs) (sound : Soundness
       same_helds = order_same _ _ _ helds_told h.helds k.helds _ _ h.held k.held
           (AreApartBy-held S r.graph r.schemas.number r.count (end_of S r) (sound_end r)) (AreApartBy-held S q.graph q.schemas.number q.count (end_of S q) (sound_end q))
           (IsPermutation-append (map Array (shown.structures r.graph (end_of S r))) (map Array (shown.structures q.graph (end_of S q)))
-          (map Cell (shown.cells r.graph (end_of S r))) (map Cell (shown.cells q.graph (end_of S q)))
-          (IsPermutation-map Array _ _ same.structures) (IsPermutation-map Cell _ _ same.cells))
+          (map Cell (shown.cell_values r.graph (end_of S r))) (map Cell (shown.cell_values q.graph (end_of S q)))
+          (IsPermutation-map Array _ _ same.structures) (IsPermutation-map Cell _ _ (IsPermutation-map shown.cell_value _ _ same.cells)))
 
       same_waits : h.waits ≡ k.waits
       same_waits = order_same _ _ _ asks_told h.waits k.waits _ _ h.waiting k.waiting

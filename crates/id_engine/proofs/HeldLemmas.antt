@@ -1,19 +1,23 @@
 -- The structures and cells of a report of a sound run, and its fetches that wait (specs/Reports.antt).
-use Rattle.std.proofs.Common.{◌≡◌, ◌⊎◌, inl, inr, ℕ, List, [], ◌∷◌, ◌++◌, map, refl, ap}
+use Rattle.std.proofs.Common.{◌≡◌, ◌⊎◌, inl, inr, ℕ, ℤ, List, [], ◌∷◌, ◌++◌, map, refl, sym, ap, subst}
 use Rattle.id_graph.specs.Graph.{Parts}
 use Rattle.id_meaning.specs.declared.Ask.{Ask}
 use Rattle.id_meaning.specs.declared.Put.{Put}
 use Rattle.id_meaning.specs.declared.Shape.{Shape}
+use Rattle.id_meaning.specs.declared.Site.{Site}
+use Rattle.id_meaning.specs.declared.Fact.TheVariants as fact
+use Rattle.id_meaning.specs.Rounds.{Holds}
 use Rattle.id_list.specs.List.{Among, AllDiffer}
 use Rattle.id_meaning.specs.Sources.{Source}
 use Rattle.id_meaning.specs.Names.{AreWaiting}
 use Rattle.id_meaning.specs.Orders.{AskBefore, Rises}
 use Rattle.id_core.specs.Machines.{World}
 use Rattle.id_core.specs.Observed as shown
+use Rattle.id_core.specs.Observed.{CellValue}
 use Rattle.id_laws.specs.Laws.{IsSound, IsComplete}
 use Rattle.id_print.specs.declared.report.Held.{Held}
 use Rattle.id_print.specs.declared.report.Held.TheVariants.{Array, Cell}
-use Rattle.id_print.specs.Names.{AreApartBy, AreHeld, AreSomeHeld, HeldBefore, IsOrderOf, OfOneFetch, OfOneThing, WaitBefore, held_lines}
+use Rattle.id_print.specs.Names.{AreApartBy, AreHeld, AreSomeHeld, HeldBefore, IsOrderOf, IsPut, OfOneFetch, OfOneThing, WaitBefore, held_lines}
 use Rattle.id_engine.proofs.NamesLemmas.{among_map, among_permuted, among_sorted, differ_by, one_by}
 
 -- what is among two lists is among one of them
@@ -41,30 +45,30 @@ array_among x [] h = absurd h
 array_among x (s ∷ ss) (inl e) = inl cc
 array_among x (s ∷ ss) (inr h) = inr (array_among x ss h)
 
-no_cell : (x : Put) (ss : List Shape) → Among (Cell x) (map Array ss) → ⊥
+no_cell : (x : CellValue) (ss : List Shape) → Among (Cell x) (map Array ss) → ⊥
 no_cell x [] h = h
 no_cell x (s ∷ ss) (inl e) = absurd cc
 no_cell x (s ∷ ss) (inr h) = no_cell x ss h
 
-cell_among : (x : Put) (ps : List Put) → Among (Cell x) (map Cell ps) → Among x ps
+cell_among : (x : CellValue) (ps : List CellValue) → Among (Cell x) (map Cell ps) → Among x ps
 cell_among x [] h = absurd h
 cell_among x (p ∷ ps) (inl e) = inl cc
 cell_among x (p ∷ ps) (inr h) = inr (cell_among x ps h)
 
-no_array : (x : Shape) (ps : List Put) → Among (Array x) (map Cell ps) → ⊥
+no_array : (x : Shape) (ps : List CellValue) → Among (Array x) (map Cell ps) → ⊥
 no_array x [] h = h
 no_array x (p ∷ ps) (inl e) = absurd cc
 no_array x (p ∷ ps) (inr h) = no_array x ps h
 
-the_shape : (x : Shape) (ss : List Shape) (ps : List Put) → Among (Array x) (map Array ss ++ map Cell ps) → Among x ss
+the_shape : (x : Shape) (ss : List Shape) (ps : List CellValue) → Among (Array x) (map Array ss ++ map Cell ps) → Among x ss
 the_shape x ss ps h = at (among_either (Array x) (map Array ss) (map Cell ps) h)
   where
     at : Among (Array x) (map Array ss) ⊎ Among (Array x) (map Cell ps) → Among x ss
     at (inl k) = array_among x ss k
     at (inr k) = absurd (no_array x ps k)
 
-the_put : (x : Put) (ss : List Shape) (ps : List Put) → Among (Cell x) (map Array ss ++ map Cell ps) → Among x ps
-the_put x ss ps h = at (among_either (Cell x) (map Array ss) (map Cell ps) h)
+the_cell : (x : CellValue) (ss : List Shape) (ps : List CellValue) → Among (Cell x) (map Array ss ++ map Cell ps) → Among x ps
+the_cell x ss ps h = at (among_either (Cell x) (map Array ss) (map Cell ps) h)
   where
     at : Among (Cell x) (map Array ss) ⊎ Among (Cell x) (map Cell ps) → Among x ps
     at (inl k) = absurd (no_cell x ss k)
@@ -75,7 +79,7 @@ arrays_differ : (ss : List Shape) → AllDiffer ss → AllDiffer (map Array ss)
 arrays_differ [] h = tt
 arrays_differ (s ∷ ss) h = (λ k. h.0 (array_among s ss k), arrays_differ ss h.1)
 
-cells_differ : (ps : List Put) → AllDiffer ps → AllDiffer (map Cell ps)
+cells_differ : (ps : List CellValue) → AllDiffer ps → AllDiffer (map Cell ps)
 cells_differ [] h = tt
 cells_differ (p ∷ ps) h = (λ k. h.0 (cell_among p ps k), cells_differ ps h.1)
 
@@ -87,30 +91,47 @@ both_differ (x ∷ xs) ys h k apart = (λ a. none (among_either x xs ys a), both
     none (inl a) = h.0 a
     none (inr a) = apart x (inl refl) a
 
-not_both : (h : Held) (ss : List Shape) (ps : List Put) → Among h (map Array ss) → Among h (map Cell ps) → ⊥
+not_both : (h : Held) (ss : List Shape) (ps : List CellValue) → Among h (map Array ss) → Among h (map Cell ps) → ⊥
 not_both (Array s) ss ps a b = no_array s ps b
 not_both (Cell p) ss ps a b = no_cell p ss a
+
+-- what is among images is the image of one
+among_image : {A B : Type 0} (f : A → B) (xs : List A) (y : B) → Among y (map f xs) → (x : A) × Among x xs × (f x ≡ y)
+among_image f [] y h = absurd h
+among_image f (x ∷ xs) y (inl e) = (x, inl refl, sym e)
+among_image f (x ∷ xs) y (inr h) = let there = among_image f xs y h in (there.0, inr there.1, there.2)
+
+-- the structure and the index of a cell
+abbrev key_of : CellValue → Site × ℤ
+key_of c = (c.name, c.index)
+
+keys_of : (xs : List Put) → map key_of (map shown.cell_value xs) ≡ map (λ x. (x.name, x.index)) xs
+keys_of [] = refl
+keys_of (x ∷ xs) = ap (λ ks. (x.name, x.index) ∷ ks) (keys_of xs)
 
 -- what a sound run shows of structures and cells is apart
 pub AreApartBy-held : (S : Source) (g : Parts) (number : ℕ → ℕ → ℕ) (count : ℕ) (w : World) → IsSound S g number w
     → AreApartBy OfOneThing (held_lines (record { graph = g; count = count; world = w }))
-AreApartBy-held S g number count w s = record { differ = both_differ _ _ (arrays_differ ss differ_shapes) (cells_differ ps differ_puts) (λ h a b. not_both h ss ps a b); one = one }
+AreApartBy-held S g number count w s = record { differ = both_differ _ _ (arrays_differ ss differ_shapes) (cells_differ ps differ_cells) (λ h a b. not_both h ss ps a b); one = one }
   where
     ss : List Shape
     ss = shown.structures g w
 
-    ps : List Put
-    ps = shown.cells g w
+    ps : List CellValue
+    ps = shown.cell_values g w
+
+    cells_once : AllDiffer (map key_of ps)
+    cells_once = subst AllDiffer (sym (keys_of (shown.cells g w))) s.cells_once
 
     differ_shapes : AllDiffer ss
     differ_shapes = differ_by (λ x. x.name) ss s.structures_once
 
-    differ_puts : AllDiffer ps
-    differ_puts = differ_by (λ x. (x.name, x.index)) ps s.cells_once
+    differ_cells : AllDiffer ps
+    differ_cells = differ_by key_of ps cells_once
 
     one : (h k : Held) → Among h (map Array ss ++ map Cell ps) → Among k (map Array ss ++ map Cell ps) → OfOneThing h k → h ≡ k
     one (Array x) (Array y) a b e = ap Array (one_by (λ x. x.name) ss s.structures_once x y (the_shape x ss ps a) (the_shape y ss ps b) e)
-    one (Cell x) (Cell y) a b e = ap Cell (one_by (λ x. (x.name, x.index)) ps s.cells_once x y (the_put x ss ps a) (the_put y ss ps b) (λ i. (e.0 i, e.1 i)))
+    one (Cell x) (Cell y) a b e = ap Cell (one_by key_of ps cells_once x y (the_cell x ss ps a) (the_cell y ss ps b) (λ i. (e.0 i, e.1 i)))
     one (Array x) (Cell y) a b e = absurd e
     one (Cell x) (Array y) a b e = absurd e
 
@@ -120,10 +141,14 @@ pub AreSomeHeld-sound : (S : Source) (g : Parts) (number : ℕ → ℕ → ℕ) 
 AreSomeHeld-sound S g number count w hs s sorted rise =
     let all = held_lines (record { graph = g; count = count; world = w }) in
     record {
-      shapes = λ x h. s.structures x (the_shape x (shown.structures g w) (shown.cells g w) (among_sorted all hs (Array x) sorted.same h));
-      puts = λ x h. s.cells x (the_put x (shown.structures g w) (shown.cells g w) (among_sorted all hs (Cell x) sorted.same h));
+      shapes = λ x h. s.structures x (the_shape x (shown.structures g w) (shown.cell_values g w) (among_sorted all hs (Array x) sorted.same h));
+      puts = λ c h. put_there c (among_image shown.cell_value (shown.cells g w) c (the_cell c (shown.structures g w) (shown.cell_values g w) (among_sorted all hs (Cell c) sorted.same h)));
       rise = rise;
     }
+  where
+    put_there : (c : CellValue) → (x : Put) × Among x (shown.cells g w) × (shown.cell_value x ≡ c) → IsPut S c
+    put_there c t =
+        (t.0.store, subst (λ (d : CellValue). Holds S (fact.Put (record { name = d.name; index = d.index; value = d.value; store = t.0.store }))) t.2 (s.cells t.0 t.1))
 
 -- and all, where the run is complete
 pub AreHeld-complete : (S : Source) (g : Parts) (count : ℕ) (w : World) (hs : List Held) → AreSomeHeld S hs → IsComplete S g w
@@ -132,7 +157,8 @@ AreHeld-complete S g count w hs some c sorted =
     let all = held_lines (record { graph = g; count = count; world = w }) in
     record {
       shapes = λ x h. among_permuted all hs (Array x) sorted.same (among_first _ _ _ (among_map Array (shown.structures g w) x (c.structures x h)));
-      puts = λ x h. among_permuted all hs (Cell x) sorted.same (among_second _ (map Array (shown.structures g w)) _ (among_map Cell (shown.cells g w) x (c.cells x h)));
+      puts = λ x h. among_permuted all hs (Cell (shown.cell_value x)) sorted.same
+          (among_second _ (map Array (shown.structures g w)) _ (among_map Cell (shown.cell_values g w) _ (among_map shown.cell_value (shown.cells g w) x (c.cells x h))));
       some = some;
     }
 

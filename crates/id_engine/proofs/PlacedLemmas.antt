@@ -25,6 +25,7 @@ use Rattle.id_meaning.specs.declared.Path.{Path}
 use Rattle.id_meaning.specs.declared.Fact.{Fact}
 use Rattle.id_meaning.specs.declared.Fact.TheVariants.{On, Has}
 use Rattle.id_meaning.specs.declared.Fact.TheVariants as fact
+use Rattle.id_meaning.specs.declared.Put.{Put}
 use Rattle.id_meaning.specs.declared.Ask.{Ask}
 use Rattle.id_meaning.specs.declared.Site.{Site}
 use Rattle.id_meaning.specs.declared.SourceValue.{SourceValue}
@@ -114,7 +115,7 @@ module _ {size : ℕ} {P : Checked} (h : IsPlacedWithin size P) where
   fact_within (On p e) k = point_within p e k
   fact_within (Has p e v) k = record { point = point_within p e k.0; value = value_within v k.1 }
   fact_within (fact.Shape s) k = site_within s.name k
-  fact_within (fact.Put p) k = record { name = site_within p.name k.0; value = value_within p.value k.1; store = site_within p.store k.2 }
+  fact_within (fact.Put p) k = record { filled = record { name = site_within p.name k.0; value = value_within p.value k.1 }; store = site_within p.store k.2 }
   fact_within (fact.Ask a) k = record { fetch = site_within a.fetch k.0; name = site_within a.name k.1 }
 
   thing_within : (n : ℕ) → n < length (rows P) → is_thing (node P n) ≡ true → place P n ≤ size
@@ -280,7 +281,10 @@ module _ {size : ℕ} (S : Source) (h : IsPlacedWithin size S.checked) where
   -- a structure's line lies in the text, and so does that of a cell
   held_within : (hs : List Held) → AreSomeHeld S hs → (x : Held) → Among x hs → HeldWithin size x
   held_within hs s (Array x) k = fact_within h (fact.Shape x) (holds_placed S (fact.Shape x) (s.shapes x k))
-  held_within hs s (Cell x) k = fact_within h (fact.Put x) (holds_placed S (fact.Put x) (s.puts x k))
+  held_within hs s (Cell c) k =
+      let put = s.puts c k in
+      let p : Put = record { name = c.name; index = c.index; value = c.value; store = put.0 } in
+      (fact_within h (fact.Put p) (holds_placed S (fact.Put p) put.1)).filled
 
   helds_within : (hs : List Held) → AreSomeHeld S hs → HeldsWithin size hs
   helds_within hs s = λ k d within. held_within hs s _ (Among-from_at _ hs k (slice_get-get_or hs k d within))

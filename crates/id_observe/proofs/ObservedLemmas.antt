@@ -9,10 +9,17 @@ use Rattle.std.proofs.lemmas.Option.{slice_get_within, get_or_from_slice_get, sl
 use Rattle.std.proofs.Math.Seq.{drop-cons}
 use Rattle.id_graph.specs.declared.instr.Instr.{Instr}
 use Rattle.id_graph.specs.Graph.{Parts}
+use Rattle.id_tag.specs.declared.Structure.{Structure}
+use Rattle.id_tag.specs.declared.Tag.{Tag}
 use Rattle.id_tag.specs.declared.Value.{Value}
+use Rattle.id_meaning.specs.declared.Path.{Path}
+use Rattle.id_meaning.specs.declared.Put.{Put}
+use Rattle.id_meaning.specs.declared.Site.{Site}
+use Rattle.id_meaning.specs.declared.SourceValue.{SourceValue}
+use Rattle.id_bank.specs.declared.Filled.{Filled}
 use Rattle.id_element.specs.Steps.{State}
 use Rattle.id_element.specs.Replays.{ElementView}
-use Rattle.id_observe.specs.Observed.{events_of, answers, first_value, label_marks, is_label, is_label_of}
+use Rattle.id_observe.specs.Observed.{events_of, answers, cell_value, cell_value_of, first_value, label_marks, is_label, is_label_of, put_of, site_at, source_value}
 
 -- one more element at the end of what was walked over
 pub take-next : {A : Type 0} (xs : List A) (i : ℕ) (x : A) → slice_get xs i ≡ Some x → take (i + 1) xs ≡ take i xs ++ x ∷ []
@@ -80,6 +87,20 @@ pub images-next : {A B : Type 0} (f : State → List A) (h : A → B) (es : List
     → map h (flat_map f (map (λ x. x.state) (take (i + 1) es))) ≡ map h (flat_map f (map (λ x. x.state) (take i es))) ++ map h (f e.state)
 images-next f h es i e at =
     ap (map h) (parts-next f es i e at) ∙ map-append h (flat_map f (map (λ x. x.state) (take i es))) (f e.state)
+
+-- what cells hold is that of what is put into them
+pub cell_values-from_puts : (g : Parts) (path : Tag → Path) (name : Structure → Site) (fs : List Filled) → filter_map (cell_value_of name) fs ≡ map cell_value (filter_map (put_of g path name) fs)
+cell_values-from_puts g path name [] = refl
+cell_values-from_puts g path name (f ∷ fs) = ap (cons_option (cell_value_of name f)) (cell_values-from_puts g path name fs) ∙ one (source_value name f.value)
+  where
+    puts : List Put
+    puts = filter_map (put_of g path name) fs
+
+    one : (o : Option SourceValue)
+        → cons_option (option_map (λ v. record { name = name f.cell.structure; index = f.cell.index; value = v }) o) (map cell_value puts)
+        ≡ map cell_value (cons_option (option_map (λ v. record { name = name f.cell.structure; index = f.cell.index; value = v; store = site_at g path f.origin }) o) puts)
+    one None = refl
+    one (Some v) = refl
 
 -- and all of them
 events-split : (es : List ElementView) (i : ℕ) (e : ElementView) → slice_get es i ≡ Some e

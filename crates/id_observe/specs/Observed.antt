@@ -19,6 +19,8 @@ use Rattle.id_tag.specs.declared.Payload.TheVariants.{Token, Read, Write}
 use Rattle.id_tag.specs.declared.Structure.{Structure}
 use Rattle.std.specs.HashMap.{get}
 use Rattle.id_tag.specs.Tags.{same_structure, same_tag}
+use Rattle.id_observe.specs.declared.holdings.CellValue.{CellValue}
+use Rattle.id_observe.specs.declared.holdings.Named.{Named}
 use Rattle.id_observe.specs.declared.paths.Making.{Making}
 use Rattle.id_observe.specs.declared.paths.Paths.{Paths}
 use Rattle.id_observe.specs.Paths.{is_alloc, path_by}
@@ -195,6 +197,14 @@ abbrev pub cells_in : Parts → List State → List Put
 cells_in g elements =
     filter_map (put_of g (path_in g elements) (structure_in g elements)) (flat_map (λ e. cells_of e.cells) elements)
 
+-- what a cell holds, of what is put into it: the value, by whichever store
+abbrev pub cell_value : Put → CellValue
+cell_value p = record { name = p.name; index = p.index; value = p.value }
+
+-- what the cells of these elements hold
+abbrev pub cell_values_in : Parts → List State → List CellValue
+cell_values_in g elements = map cell_value (cells_in g elements)
+
 -- the fetch of a reply asks for a cell
 abbrev pub ask_of : Parts → (Tag → Path) → (Structure → Site) → Reader → Ask
 ask_of g path name r =
@@ -230,6 +240,16 @@ first_value elements = slice_get (answers (events_of elements)) 0
 -- the structure that was made so, where each tag has this path
 abbrev pub shape_at : Parts → (Tag → Path) → Making → Shape
 shape_at g path m = record { name = site_at g path m.tag; low = m.structure.low; high = m.structure.high }
+
+-- what a cell holds, where each structure has this name
+abbrev pub cell_value_of : (Structure → Site) → Filled → Option CellValue
+cell_value_of name f =
+    option_map (λ v. record { name = name f.cell.structure; index = f.cell.index; value = v })
+    (source_value name f.value)
+
+-- the structure has this name, where these tables tell under which tag each was made
+abbrev pub IsNamed : Paths → Named → Type 0
+IsNamed p n = n.name ≡ structure_by p n.structure
 
 -- no instruction makes structures
 abbrev pub MakesNone : Parts → Type 0

@@ -3,7 +3,6 @@
 
 ghost use Rattle.std.specs.Prelude.{◌≡◌, ◌==◌, ◌&&◌, ◌++◌, [], ℕ, false, count_by, map, nat_eq, slice_get, unwrap_or};
 ghost use Rattle.std.specs.Prelude.{IfOk, OnOk, None, Some, if◌then◌else◌, option_and_then, option_map};
-ghost use Rattle.std.specs.Prelude.{◌<◌, ◌↔◌, IsTrue, length};
 ghost use Rattle.std.specs.HashMap.{get};
 ghost use Rattle.std.specs.List.{cons_option, filter_map, flat_map};
 ghost use Rattle.id_bank.specs.Cells.{cells_of, deferred_of};
@@ -13,12 +12,11 @@ ghost use Rattle.id_valid.specs.Validator.{is_value};
 ghost use Rattle.id_observe.specs.Observed.{answer_in, answers, ask_of, brought, cells_in, claims, events_of, fault_of};
 ghost use Rattle.id_observe.specs.Observed.{faults_in, faults_of, first_value, is_label, is_next, is_value_merge};
 ghost use Rattle.id_observe.specs.Observed.{label_marks, main_tag, name_at, name_in, names_in, names_of, put_of};
-ghost use Rattle.id_observe.specs.Observed.{HaveNoCells, MakesNone, shape_at};
-ghost use Rattle.id_observe.specs.Observed.{second_store, site_cmp, source_value, structure_by};
+ghost use Rattle.id_observe.specs.Observed.{second_store, shape_at, site_cmp, source_value, structure_by};
 ghost use Rattle.id_observe.specs.Observed.{structures_in, waiting_in};
 ghost use Rattle.id_observe.specs.Paths.{path_by, place_of};
 
-use crate::paths::{Making, Paths, is_alloc};
+use crate::paths::{Making, Paths};
 use id_bank::{Filled, Reader};
 use id_element::Element;
 use id_graph::{Graph, Instr, Op, PortKind};
@@ -77,84 +75,6 @@ pub fn observe_records(
         waiting: Sequence::new(waiting),
         faults: Sequence::new(faults),
     })
-}
-
-/// What a run shows of its answer and of structures, named by paths and places of the text alone.
-#[derive(Drop)]
-pub struct Holdings {
-    /// The value of the first token that instruction 0 handled under main's tag.
-    pub answer: Option<SourceValue>,
-    /// For each `alloc` that made one, one element's record after another's: the structure and its bounds.
-    pub structures: Sequence<Shape>,
-    /// For each cell that holds a value, one element's cells after another's: what is put into it, and by which store.
-    pub cells: Sequence<Put>,
-    /// For each reply that waits for a cell's value, one element's cells after another's: which fetch asks for which
-    /// cell.
-    pub waiting: Sequence<Ask>,
-}
-
-/// What these elements show of the answer and of structures, for who asks for nothing else. The records are looked
-/// through once; where no instruction makes structures and no cell was read or written, for the answer alone.
-pub fn observe_holdings(
-    alloc: Global,
-    graph: &Valid,
-    elements: &[Element<'_>],
-) -> Result<Holdings, AllocError>
-    ensures answer { IfOk result (λ o. o.answer ≡ answer_in graph.now (map (λ e. e.state) elements.now)) }
-    ensures structures { IfOk result (λ o. o.structures ≡ structures_in graph.now (map (λ e. e.state) elements.now)) }
-    ensures cells { IfOk result (λ o. o.cells ≡ cells_in graph.now (map (λ e. e.state) elements.now)) }
-    ensures waiting { IfOk result (λ o. o.waiting ≡ waiting_in graph.now (map (λ e. e.state) elements.now)) }
-{
-    if hold_nothing(graph.graph(), elements) {
-        return Ok(no_holdings(alloc, answer(alloc, graph, elements)?));
-    }
-    let paths = Paths::new(alloc, graph.graph(), elements)?;
-    let structures = all_structures(alloc, &paths)?;
-    let cells = all_cells(alloc, &paths, elements)?;
-    let waiting = all_waiting(alloc, &paths, elements)?;
-    let answer = value_in(alloc, &paths, paths.first_value())?;
-    Ok(Holdings {
-        answer,
-        structures: Sequence::new(structures),
-        cells: Sequence::new(cells),
-        waiting: Sequence::new(waiting),
-    })
-}
-
-/// Whether no instruction makes structures, and no cell was read or written at these elements.
-fn hold_nothing(graph: &Graph, elements: &[Element<'_>]) -> bool
-    ensures { IsTrue result ↔ (MakesNone graph.now × HaveNoCells elements.now) }
-{
-    makes_none(graph) && have_no_cells(elements)
-}
-
-/// Whether no instruction makes structures.
-fn makes_none(graph: &Graph) -> bool
-    ensures { IsTrue result ↔ MakesNone graph.now }
-{
-    graph.instrs().iter().all(|instr| !is_alloc(Some(instr.op)))
-}
-
-/// Whether no cell was read or written at these elements.
-fn have_no_cells(elements: &[Element<'_>]) -> bool
-    ensures { IsTrue result ↔ HaveNoCells elements.now }
-{
-    elements.iter().all(|element| element.has_no_cells())
-}
-
-/// This answer, and nothing of structures.
-fn no_holdings(alloc: Global, answer: Option<SourceValue>) -> Holdings
-    ensures answer { result.answer ≡ answer }
-    ensures structures { result.structures ≡ [] }
-    ensures cells { result.cells ≡ [] }
-    ensures waiting { result.waiting ≡ [] }
-{
-    Holdings {
-        answer,
-        structures: Sequence::new(Vec::new(alloc)),
-        cells: Sequence::new(Vec::new(alloc)),
-        waiting: Sequence::new(Vec::new(alloc)),
-    }
 }
 
 /// What these records show that binders have.
@@ -430,7 +350,7 @@ pub fn main_tag(instr: u32) -> Tag
 }
 
 /// The value as one of the source.
-fn source_value(
+pub(crate) fn source_value(
     alloc: Global,
     paths: &Paths<'_>,
     value: Value,
@@ -448,7 +368,7 @@ fn source_value(
 }
 
 /// The value, if there is one, as one of the source.
-fn value_in(
+pub(crate) fn value_in(
     alloc: Global,
     paths: &Paths<'_>,
     value: Option<Value>,
@@ -462,7 +382,7 @@ fn value_in(
 }
 
 /// The structures that were made.
-fn all_structures(alloc: Global, paths: &Paths<'_>) -> Result<Vec<Shape>, AllocError>
+pub(crate) fn all_structures(alloc: Global, paths: &Paths<'_>) -> Result<Vec<Shape>, AllocError>
     ensures { IfOk result
         (λ v. v.items ≡ map (shape_at paths.now.graph.now (path_by paths.now)) paths.now.makings.items) }
 {
@@ -548,7 +468,7 @@ fn put_of(alloc: Global, paths: &Paths<'_>, filled: Filled) -> Result<Option<Put
 }
 
 /// The fetches whose replies wait in the cells of these elements.
-fn all_waiting(
+pub(crate) fn all_waiting(
     alloc: Global,
     paths: &Paths<'_>,
     elements: &[Element<'_>],

@@ -7,7 +7,7 @@ ghost use Rattle.std.specs.HashMap.{get};
 ghost use Rattle.id_tag.specs.Tags.{same_context, same_structure};
 ghost use Rattle.id_record.specs.Events.{EventView, tag_of};
 ghost use Rattle.id_valid.specs.Roles.{op_at};
-ghost use Rattle.id_observe.specs.Observed.{answers, events_of};
+ghost use Rattle.id_observe.specs.Observed.{answers, brought, events_of};
 ghost use Rattle.id_observe.specs.Paths.{place_of};
 ghost use Rattle.id_observe.specs.Paths.{enter_in, entered, entered_by, enters_loop, if_made, if_same, last_context};
 ghost use Rattle.id_observe.specs.Paths.{enter_of, is_alloc, is_enter, is_telling, made_by, maker_in, maker_of};
@@ -20,7 +20,7 @@ use id_list::Sequence;
 use id_meaning::{Path, PathStep, Site};
 use id_ops::Fired;
 use id_record::{Events, Outputs, tag_of};
-use id_tag::{Context, Payload, Structure, Tag, Value};
+use id_tag::{Context, NearHasher, Payload, Structure, Tag, Value};
 use std::alloc::{AllocError, Global};
 use std::collections::HashMap;
 
@@ -68,8 +68,8 @@ fn add_record(
     graph: &Graph,
     marks: &[bool],
     events: &Events<'_>,
-    enters: &mut HashMap<Context, Tag>,
-    makers: &mut HashMap<Structure, Tag>,
+    enters: &mut HashMap<Context, Tag, NearHasher>,
+    makers: &mut HashMap<Structure, Tag, NearHasher>,
     makings: &mut Vec<Making>,
     values: &mut Vec<Value>,
 ) -> Result<(), AllocError>
@@ -90,11 +90,35 @@ fn add_record(
         if position >= events.len() {
             return Ok(());
         }
-        let op = op_at(graph, events.instr(position));
+        let number = events.instr(position);
+        let op = op_at(graph, number);
         add_enter_at(graph, op, events, position, enters)?;
         add_maker_at(graph, op, events, position, makers, makings)?;
-        add_value(brought(&events.payload(position)), values)?;
+        add_value_at(number, events, position, values)?;
         from = position + 1;
+    }
+}
+
+/// Adds the value that the event at a position brought to the answer, if it did, where its message names the
+/// instruction of this number. An event of another than instruction 0 is not looked at.
+fn add_value_at(
+    number: u32,
+    events: &Events<'_>,
+    position: usize,
+    values: &mut Vec<Value>,
+) -> Result<(), AllocError>
+    requires position { position < length events.now }
+    requires number { option_map (λ e. (tag_of e.message.payload).instr) (slice_get events.now position) ≡ Some number }
+    ensures { OnOk result
+        ((e : EventView)
+        → slice_get events.now position ≡ Some e
+        → values.new.items ≡ values.old.items ++ cons_option (brought e.message.payload) []) }
+{
+    if number == 0 {
+        add_value(brought(&events.payload(position)), values)?;
+        Ok(())
+    } else {
+        Ok(())
     }
 }
 
@@ -118,7 +142,7 @@ fn add_enter_at(
     op: Option<Op>,
     events: &Events<'_>,
     position: usize,
-    enters: &mut HashMap<Context, Tag>,
+    enters: &mut HashMap<Context, Tag, NearHasher>,
 ) -> Result<(), AllocError>
     requires position { position < length events.now }
     requires op { option_map (λ e. op_at graph.now (tag_of e.message.payload).instr) (slice_get events.now position)
@@ -158,7 +182,7 @@ fn add_enter(
     graph: &Graph,
     payload: &Payload,
     outputs: &Outputs<'_>,
-    enters: &mut HashMap<Context, Tag>,
+    enters: &mut HashMap<Context, Tag, NearHasher>,
 ) -> Result<(), AllocError>
     ensures { OnOk result ((c : Context) → get same_context enters.new c ≡
         option_or (if_same (tag_of payload.now) c (entered graph.now payload.now outputs.now))
@@ -239,7 +263,7 @@ fn add_maker_at(
     op: Option<Op>,
     events: &Events<'_>,
     position: usize,
-    makers: &mut HashMap<Structure, Tag>,
+    makers: &mut HashMap<Structure, Tag, NearHasher>,
     makings: &mut Vec<Making>,
 ) -> Result<(), AllocError>
     requires position { position < length events.now }
@@ -269,7 +293,7 @@ fn add_maker_at(
 fn add_maker(
     tag: Tag,
     made: Option<Structure>,
-    makers: &mut HashMap<Structure, Tag>,
+    makers: &mut HashMap<Structure, Tag, NearHasher>,
     makings: &mut Vec<Making>,
 ) -> Result<(), AllocError>
     ensures makers { OnOk result ((s : Structure) → get same_structure makers.new s ≡
@@ -303,8 +327,8 @@ fn made(graph: &Graph, tag: Tag, fired: Fired) -> Option<Structure>
 #[derive(Drop)]
 pub(crate) struct Paths<'a> {
     graph: &'a Graph,
-    enters: HashMap<Context, Tag>,
-    makers: HashMap<Structure, Tag>,
+    enters: HashMap<Context, Tag, NearHasher>,
+    makers: HashMap<Structure, Tag, NearHasher>,
     makings: Vec<Making>,
     most: u128,
     values: Vec<Value>,
@@ -397,8 +421,8 @@ fn all_records(
     elements: &[Element<'_>],
 ) -> Result<
     (
-        HashMap<Context, Tag>,
-        HashMap<Structure, Tag>,
+        HashMap<Context, Tag, NearHasher>,
+        HashMap<Structure, Tag, NearHasher>,
         Vec<Making>,
         Vec<Value>,
     ),
@@ -415,8 +439,8 @@ fn all_records(
     ensures values { IfOk result (λ m. m.3.items ≡ answers (events_of (map (λ e. e.state) elements.now))) }
 {
     let marks = seeking_marks(alloc, graph)?;
-    let mut enters = HashMap::new(alloc);
-    let mut makers = HashMap::new(alloc);
+    let mut enters = HashMap::with_hasher(alloc, NearHasher::new());
+    let mut makers = HashMap::with_hasher(alloc, NearHasher::new());
     let mut makings = Vec::new(alloc);
     let mut values = Vec::new(alloc);
     for element in elements {
@@ -449,7 +473,7 @@ fn count_events(elements: &[Element<'_>]) -> u128
 fn path_to(
     alloc: Global,
     graph: &Graph,
-    enters: &HashMap<Context, Tag>,
+    enters: &HashMap<Context, Tag, NearHasher>,
     most: u128,
     tag: Tag,
 ) -> Result<Path, AllocError>

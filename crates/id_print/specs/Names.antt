@@ -1,12 +1,12 @@
 -- The names of a report, its structures with their cells, and its fetches that wait, in order (docs/PROMISES.md,
 -- "Printing").
-use Rattle.std.specs.Prelude.{◌≡◌, ◌⊎◌, ◌<ℤ◌, ℤ, List, ◌++◌, map, AllPairs, IsPermutation}
+use Rattle.std.specs.Prelude.{◌≡◌, ◌⊎◌, ◌<ℤ◌, List, ◌++◌, map, AllPairs, IsPermutation}
 use Rattle.std.specs.declared.cmp.Ordering.{Ordering}
 use Rattle.std.specs.declared.cmp.Ordering.TheVariants.{Less, Equal, Greater}
 use Rattle.std.specs.Ordering.{int_cmp, nat_cmp, ordering_then}
 use Rattle.std.specs.Cmp.Lexicographic.{slice_cmp}
 use Rattle.id_core.specs.Machines.{MachineView}
-use Rattle.id_core.specs.Observed.{cells, structures}
+use Rattle.id_core.specs.Observed.{CellValue, cell_value, cell_values, structures}
 use Rattle.id_list.specs.List.{Among, AllDiffer}
 use Rattle.id_meaning.specs.declared.Ask.{Ask}
 use Rattle.id_meaning.specs.declared.NameValue.{NameValue}
@@ -32,12 +32,12 @@ NameBefore n m = PointBefore n.path n.place m.path m.place
 -- the structure that a line is about
 abbrev pub held_name : Held → Site
 held_name (Array s) = s.name
-held_name (Cell p) = p.name
+held_name (Cell c) = c.name
 
 -- of the lines about one structure its own comes before its cells, and these come by index
 abbrev pub LineBefore : Held → Held → Type 0
-LineBefore (Array s) (Cell p) = Unit {0}
-LineBefore (Cell p) (Cell q) = p.index <ℤ q.index
+LineBefore (Array s) (Cell c) = Unit {0}
+LineBefore (Cell c) (Cell d) = c.index <ℤ d.index
 LineBefore _ _ = ⊥
 
 -- by the structure's name, and then as lines of one
@@ -50,7 +50,7 @@ WaitBefore a b = SiteBefore a.fetch b.fetch
 
 -- the lines about the structures that a machine shows, and then those about their cells
 abbrev pub held_lines : MachineView → List Held
-held_lines m = map Array (structures m.graph m.world) ++ map Cell (cells m.graph m.world)
+held_lines m = map Array (structures m.graph m.world) ++ map Cell (cell_values m.graph m.world)
 
 -- names in order
 abbrev pub IsSortedOf : List NameValue → List NameValue → Type 0
@@ -68,7 +68,7 @@ AtOnePoint n m = (n.path ≡ m.path) × (n.place ≡ m.place)
 -- two lines are about one structure, or about one cell
 abbrev pub OfOneThing : Held → Held → Type 0
 OfOneThing (Array s) (Array t) = s.name ≡ t.name
-OfOneThing (Cell p) (Cell q) = (p.name ≡ q.name) × (p.index ≡ q.index)
+OfOneThing (Cell c) (Cell d) = (c.name ≡ d.name) × (c.index ≡ d.index)
 OfOneThing _ _ = ⊥
 
 -- two fetches are one
@@ -79,16 +79,20 @@ OfOneFetch a b = a.fetch ≡ b.fetch
 abbrev pub AreApart : List NameValue → Type 0
 AreApart = AreApartBy AtOnePoint
 
+-- a store of the source puts this value into this cell
+abbrev pub IsPut : Source → CellValue → Type 0
+IsPut S c = (s : Site) × Holds S (fact.Put (record { name = c.name; index = c.index; value = c.value; store = s }))
+
 -- these are some of them, each once, by name and index
 pub record AreSomeHeld (S : Source) (hs : List Held) : Type 0 where
   pub shapes : (s : Shape) → Among (Array s) hs → Holds S (fact.Shape s)
-  pub puts : (p : Put) → Among (Cell p) hs → Holds S (fact.Put p)
+  pub puts : (c : CellValue) → Among (Cell c) hs → IsPut S c
   pub rise : Rises HeldBefore hs
 
 -- these are all structures of the source and all that is put into their cells, each once, by name and index
 pub record AreHeld (S : Source) (hs : List Held) : Type 0 where
   pub shapes : (s : Shape) → Holds S (fact.Shape s) → Among (Array s) hs
-  pub puts : (p : Put) → Holds S (fact.Put p) → Among (Cell p) hs
+  pub puts : (p : Put) → Holds S (fact.Put p) → Among (Cell (cell_value p)) hs
   pub some : AreSomeHeld S hs
 
 -- For use inside.
@@ -104,9 +108,9 @@ name_cmp n m = ordering_then (slice_cmp step_cmp n.path.steps m.path.steps) (nat
 -- how two lines of one structure compare
 abbrev pub line_cmp : Held → Held → Ordering
 line_cmp (Array s) (Array t) = Equal
-line_cmp (Array s) (Cell p) = Less
-line_cmp (Cell p) (Array s) = Greater
-line_cmp (Cell p) (Cell q) = int_cmp p.index q.index
+line_cmp (Array s) (Cell c) = Less
+line_cmp (Cell c) (Array s) = Greater
+line_cmp (Cell c) (Cell d) = int_cmp c.index d.index
 
 -- how two lines compare: by the structure's name, then as lines of one
 abbrev pub held_cmp : Held → Held → Ordering

@@ -97,9 +97,9 @@ shape_text text s = site_text text s.name ++ (codes " " ++ bounds_text s.low s.h
 abbrev pub cell_text : List ℕ → Site → ℤ → List ℕ
 cell_text text s i = site_text text s ++ (codes "[" ++ (signed_decimal i ++ codes "]"))
 
--- a cell and the value that is put into it
-abbrev pub filled_text : List ℕ → Put → List ℕ
-filled_text text p = cell_text text p.name p.index ++ equal_text text p.value
+-- a cell and the value that it holds
+abbrev pub filled_text : List ℕ → Site → ℤ → SourceValue → List ℕ
+filled_text text s i v = cell_text text s i ++ equal_text text v
 
 -- a fetch and the cell that it asks for, and the end of the line
 abbrev pub ask_text : List ℕ → Ask → List ℕ
@@ -108,7 +108,7 @@ ask_text text a = site_text text a.fetch ++ (codes " of " ++ (cell_text text a.n
 -- the line of a structure, or of a cell of one
 abbrev pub held_text : List ℕ → Held → List ℕ
 held_text text (held.Array s) = codes "array " ++ shape_text text s
-held_text text (held.Cell p) = codes "cell " ++ (filled_text text p ++ codes "\n")
+held_text text (held.Cell c) = codes "cell " ++ (filled_text text c.name c.index c.value ++ codes "\n")
 
 -- the lines of structures and cells, one after another
 abbrev pub helds_text : List ℕ → List Held → List ℕ
@@ -168,7 +168,7 @@ fault_text text (SecondStore s i a b) = codes "fault second store of " ++ second
 
 -- what is put into a cell, and by which store, and the end of the line
 abbrev pub put_text : List ℕ → Put → List ℕ
-put_text text p = filled_text text p ++ (codes " by " ++ (site_text text p.store ++ codes "\n"))
+put_text text p = filled_text text p.name p.index p.value ++ (codes " by " ++ (site_text text p.store ++ codes "\n"))
 
 -- the line of a fact
 abbrev pub fact_text : List ℕ → Fact → List ℕ

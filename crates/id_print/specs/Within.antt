@@ -38,10 +38,14 @@ ValueWithin size (Int n) = Unit {0}
 ValueWithin size (Bool b) = Unit {0}
 ValueWithin size (Name s) = SiteWithin size s
 
+-- the places of a cell's structure and of its value are at most so many bytes in
+pub record FilledWithin (size : ℕ) (s : Site) (v : SourceValue) : Type 0 where
+  pub name : SiteWithin size s
+  pub value : ValueWithin size v
+
 -- the places of what is put into a cell are at most so many bytes in
 pub record PutWithin (size : ℕ) (p : Put) : Type 0 where
-  pub name : SiteWithin size p.name
-  pub value : ValueWithin size p.value
+  pub filled : FilledWithin size p.name p.value
   pub store : SiteWithin size p.store
 
 -- the places of a fetch and of the structure that it asks are at most so many bytes in
@@ -63,7 +67,7 @@ FaultWithin size (SecondStore s i a b) = SecondWithin size s a b
 -- the places of a structure or of a cell are at most so many bytes in
 abbrev pub HeldWithin : ℕ → Held → Type 0
 HeldWithin size (held.Array s) = SiteWithin size s.name
-HeldWithin size (held.Cell p) = PutWithin size p
+HeldWithin size (held.Cell c) = FilledWithin size c.name c.value
 
 -- those of all these structures and cells are
 abbrev pub HeldsWithin : ℕ → List Held → Type 0

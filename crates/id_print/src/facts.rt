@@ -88,7 +88,7 @@ fn put_stored<W: Sink>(
     ensures same { cursor.new ≡ cursor.old }
 {
     put(sink, b"put ")?;
-    put_filled(sink, cursor, stored)?;
+    put_filled(sink, cursor, &stored.name, stored.index, &stored.value)?;
     put(sink, b" by ")?;
     put_site_behind(sink, cursor, &stored.store)?;
     put(sink, b"\n")

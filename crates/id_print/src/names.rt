@@ -71,7 +71,7 @@ fn held_name(held: &Held) -> &Site
 {
     match held {
         Held::Array(shape) => &shape.name,
-        Held::Cell(put) => &put.name,
+        Held::Cell(cell) => &cell.name,
     }
 }
 

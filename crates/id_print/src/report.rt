@@ -13,7 +13,7 @@ ghost use Rattle.id_print.specs.Texts.{name_text, names_text, held_text, helds_t
 ghost use Rattle.id_print.specs.Texts.{shown_text, quiet_text, stopped_text, site_text, stores_text, second_text};
 ghost use Rattle.id_print.specs.Texts.{shape_text, filled_text};
 ghost use Rattle.id_print.specs.Reports.{asked, report_text};
-ghost use Rattle.id_print.specs.Within.{SiteWithin, PutWithin, AskWithin, SecondWithin, FaultWithin, NameWithin};
+ghost use Rattle.id_print.specs.Within.{SiteWithin, FilledWithin, AskWithin, SecondWithin, FaultWithin, NameWithin};
 ghost use Rattle.id_print.specs.Within.{NamesWithin, HeldWithin, HeldsWithin, AsksWithin, AnswerWithin, ReportWithin};
 
 use crate::cursor::Cursor;
@@ -25,9 +25,9 @@ use crate::texts::{
 use crate::within::{
     are_asks_within, are_helds_within, are_names_within, is_answer_within, is_ending_within,
 };
-use id_core::Machine;
+use id_core::{CellValue, Machine};
 use id_list::Sequence;
-use id_meaning::{Ask, NameValue, Put, Shape, Site, SourceFault, SourceValue};
+use id_meaning::{Ask, NameValue, Shape, Site, SourceFault, SourceValue};
 use id_text::MAX_BYTES;
 use id_value::FaultKind;
 use std::alloc::{AllocError, Global};
@@ -48,8 +48,8 @@ pub enum Ending {
 pub enum Held {
     /// Its bounds.
     Array(Shape),
-    /// A cell of it, and what is put there.
-    Cell(Put),
+    /// A cell of it, and what it holds.
+    Cell(CellValue),
 }
 
 /// What a run has shown: how it ended, the answer, what binders have, by path and place, where that was asked for, the
@@ -132,17 +132,17 @@ fn machine_held(alloc: Global, machine: &Machine<'_>) -> Result<InOrder, AllocEr
 fn joined(
     alloc: Global,
     shapes: Sequence<Shape>,
-    stored: Sequence<Put>,
+    cells: Sequence<CellValue>,
 ) -> Result<Vec<Held>, AllocError>
-    ensures { IfOk result (λ v. v.items ≡ map held.Array shapes ++ map held.Cell stored) }
+    ensures { IfOk result (λ v. v.items ≡ map held.Array shapes ++ map held.Cell cells) }
 {
     let mut helds = Vec::new(alloc);
     for shape in shapes.into_vec() {
         helds.push(Held::Array(shape))?;
     }
-    helds.reserve(stored.len())?;
-    for put in stored.into_vec() {
-        helds.push(Held::Cell(put))?;
+    helds.reserve(cells.len())?;
+    for cell in cells.into_vec() {
+        helds.push(Held::Cell(cell))?;
     }
     Ok(helds)
 }
@@ -349,7 +349,7 @@ fn put_held<W: Sink>(sink: &mut W, cursor: &mut Cursor<'_>, held: &Held) -> Resu
 {
     match held {
         Held::Array(shape) => put_array(sink, cursor, shape),
-        Held::Cell(stored) => put_present(sink, cursor, stored),
+        Held::Cell(cell) => put_present(sink, cursor, cell),
     }
 }
 
@@ -370,15 +370,15 @@ fn put_array<W: Sink>(
 fn put_present<W: Sink>(
     sink: &mut W,
     cursor: &mut Cursor<'_>,
-    stored: &Put,
+    cell: &CellValue,
 ) -> Result<(), PrintError>
-    requires { PutWithin (length cursor.old) stored.now }
+    requires { FilledWithin (length cursor.old) cell.now.name cell.now.value }
     ensures prints { Prints (W.told sink.old) (W.told sink.new)
-        (codes "cell " ++ (filled_text cursor.old stored.now ++ codes "\n")) result }
+        (codes "cell " ++ (filled_text cursor.old cell.now.name cell.now.index cell.now.value ++ codes "\n")) result }
     ensures same { cursor.new ≡ cursor.old }
 {
     put(sink, b"cell ")?;
-    put_filled(sink, cursor, stored)?;
+    put_filled(sink, cursor, &cell.name, cell.index, &cell.value)?;
     put(sink, b"\n")
 }
 

@@ -6,11 +6,11 @@ ghost use Rattle.id_print.specs.Told.{Prints};
 ghost use Rattle.id_print.specs.Texts.{iteration_text, line_column_text, place_text, step_text, steps_text};
 ghost use Rattle.id_print.specs.Texts.{point_text, point_value_text, truth_text, value_text, site_text, equal_text};
 ghost use Rattle.id_print.specs.Texts.{bounds_text, shape_text, cell_text, filled_text, ask_text};
-ghost use Rattle.id_print.specs.Within.{StepsWithin, PointWithin, SiteWithin, ValueWithin, PutWithin, AskWithin};
+ghost use Rattle.id_print.specs.Within.{StepsWithin, PointWithin, SiteWithin, ValueWithin, FilledWithin, AskWithin};
 
 use crate::cursor::Cursor;
 use crate::sink::{PrintError, Sink, put};
-use id_meaning::{Ask, Path, PathStep, Put, Shape, Site, SourceValue};
+use id_meaning::{Ask, Path, PathStep, Shape, Site, SourceValue};
 use id_text::{MAX_BYTES, line_col};
 use itoa::Buffer;
 
@@ -256,18 +256,21 @@ fn put_cell_behind<W: Sink>(
     done
 }
 
-/// A cell and the value that is put into it.
+/// A cell and the value that it holds.
 pub(crate) fn put_filled<W: Sink>(
     sink: &mut W,
     cursor: &mut Cursor<'_>,
-    stored: &Put,
+    name: &Site,
+    index: i64,
+    value: &SourceValue,
 ) -> Result<(), PrintError>
-    requires { PutWithin (length cursor.old) stored.now }
-    ensures prints { Prints (W.told sink.old) (W.told sink.new) (filled_text cursor.old stored.now) result }
+    requires { FilledWithin (length cursor.old) name.now value.now }
+    ensures prints { Prints (W.told sink.old) (W.told sink.new)
+        (filled_text cursor.old name.now index value.now) result }
     ensures same { cursor.new ≡ cursor.old }
 {
-    put_cell(sink, cursor, &stored.name, stored.index)?;
-    put_equal(sink, cursor, &stored.value)
+    put_cell(sink, cursor, name, index)?;
+    put_equal(sink, cursor, value)
 }
 
 /// A fetch and the cell that it asks for, and the end of the line.

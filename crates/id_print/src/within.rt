@@ -3,7 +3,7 @@
 ghost use Rattle.std.specs.Prelude.{◌≤◌, ◌↔◌, IsTrue};
 ghost use Rattle.id_print.specs.Within.{StepsWithin, PointWithin, SiteWithin, ValueWithin, PutWithin, AskWithin};
 ghost use Rattle.id_print.specs.Within.{AsksWithin, AnswerWithin, NameWithin, NamesWithin, HeldWithin, HeldsWithin};
-ghost use Rattle.id_print.specs.Within.{FaultWithin, SecondWithin, EndingWithin};
+ghost use Rattle.id_print.specs.Within.{FaultWithin, FilledWithin, SecondWithin, EndingWithin};
 
 use crate::report::{Ending, Held};
 use id_meaning::{Ask, NameValue, Path, PathStep, Put, Site, SourceFault, SourceValue};
@@ -48,9 +48,13 @@ pub(crate) fn is_answer_within(answer: &Option<SourceValue>, size: usize) -> boo
 pub(crate) fn is_put_within(stored: &Put, size: usize) -> bool
     ensures { IsTrue result ↔ PutWithin size stored.now }
 {
-    is_site_within(&stored.name, size)
-        && is_value_within(&stored.value, size)
-        && is_site_within(&stored.store, size)
+    is_filled_within(&stored.name, &stored.value, size) && is_site_within(&stored.store, size)
+}
+
+fn is_filled_within(name: &Site, value: &SourceValue, size: usize) -> bool
+    ensures { IsTrue result ↔ FilledWithin size name.now value.now }
+{
+    is_site_within(name, size) && is_value_within(value, size)
 }
 
 pub(crate) fn is_ask_within(ask: &Ask, size: usize) -> bool
@@ -70,7 +74,7 @@ fn is_held_within(held: &Held, size: usize) -> bool
 {
     match held {
         Held::Array(shape) => is_site_within(&shape.name, size),
-        Held::Cell(stored) => is_put_within(stored, size),
+        Held::Cell(cell) => is_filled_within(&cell.name, &cell.value, size),
     }
 }
 

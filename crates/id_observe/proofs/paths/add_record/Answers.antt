@@ -13,7 +13,7 @@ use Rattle.id_observe.specs.Observed.{answers, brought}
 use Rattle.id_observe.proofs.MarkedLemmas.{answers-skip, enters-skip, makers-skip, makings-skip, unmarked-fewer, unsought}
 use Rattle.id_observe.proofs.ObservedLemmas.{filter_map-next}
 use Rattle.id_observe.proofs.PathsLemmas.{enter_in-none, enter_in-next, maker_in-none, maker_in-next}
-use Rattle.id_observe.proofs.SkippedLemmas.{element-at, part-is}
+use Rattle.id_observe.proofs.SkippedLemmas.{element-at}
 use Rattle.id_observe.proofs.paths.add_record.Goals as goal
 
 pub loop-from-init : goal.loop-from-init
@@ -59,11 +59,9 @@ loop-from-preserved c =
           );
       values =
           rw (
-            c.in_ok-add_value.ensures,
+            c.in_ok-add_value_at.ensures there.0 there.1,
             c.loop-from.invariant.values,
-            c.brought.ensures,
             filter_map-next (λ e. brought e.message.payload) es i there.0 there.1,
-            part-is (λ e. e.message.payload) (slice_get es i) there.0 c.payload.result there.1 c.payload.ensures,
             answers-skip es c.loop-from.from i c.next_marked-position.ensures.from first,
             append_assoc,
           );
@@ -101,9 +99,9 @@ returns-then-position-len c =
 pub add_enter_at-requires-clause-op : goal.add_enter_at-requires-clause-op
 add_enter_at-requires-clause-op c =
     image-from_part (λ e. (tag_of e.message.payload).instr) (op_at c.args.graph.now)
-    (slice_get c.args.events.now c.next_marked-position.result) c.instr.result c.op_at-op.result c.instr.ensures c.op_at-op.ensures
+    (slice_get c.args.events.now c.next_marked-position.result) c.instr-number.result c.op_at-op.result c.instr-number.ensures c.op_at-op.ensures
 
 pub add_maker_at-requires-clause-op : goal.add_maker_at-requires-clause-op
 add_maker_at-requires-clause-op c =
     image-from_part (λ e. (tag_of e.message.payload).instr) (op_at c.args.graph.now)
-    (slice_get c.args.events.now c.next_marked-position.result) c.instr.result c.op_at-op.result c.instr.ensures c.op_at-op.ensures
+    (slice_get c.args.events.now c.next_marked-position.result) c.instr-number.result c.op_at-op.result c.instr-number.ensures c.op_at-op.ensures

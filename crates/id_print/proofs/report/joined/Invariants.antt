@@ -7,5 +7,5 @@ abbrev pub invariant-loop-shape : goal.invariant-loop-shape
 invariant-loop-shape l = l.helds.items ≡ map held.Array l.yielded
 
 -- those of all structures, and of the cells so far
-abbrev pub invariant-loop-put : goal.invariant-loop-put
-invariant-loop-put l = l.helds.items ≡ map held.Array l.fn.shapes ++ map held.Cell l.yielded
+abbrev pub invariant-loop-cell : goal.invariant-loop-cell
+invariant-loop-cell l = l.helds.items ≡ map held.Array l.fn.shapes ++ map held.Cell l.yielded

@@ -1,16 +1,20 @@
-use Rattle.std.proofs.Common.{codes, ◌++◌}
+use Rattle.std.proofs.Common.{codes, rules, w64, ◌++◌}
+use mir.Val.{SFits}
+use Rattle.std.proofs.lemmas.Int.{to_z-of_z}
 use Rattle.id_print.specs.Texts.{filled_text}
 use Rattle.id_print.proofs.SinkLemmas.{Prints-stop, Prints-then}
 use Rattle.id_print.proofs.report.put_present.Goals as goal
 
 pub returns-in_err-put-clause-prints : goal.returns-in_err-put-clause-prints
 returns-in_err-put-clause-prints g c =
-    Prints-stop _ _ _ (filled_text c.args.cursor.now c.args.stored.now ++ codes "\n") _ _ c.in_err-put.ensures c.from_residual.ensures.0
+    Prints-stop _ _ _ (filled_text c.args.cursor.now c.args.cell.now.name c.args.cell.now.index c.args.cell.now.value ++ codes "\n") _ _ c.in_err-put.ensures c.from_residual.ensures.0
 
 pub returns-in_err-put_filled-clause-prints : goal.returns-in_err-put_filled-clause-prints
 returns-in_err-put_filled-clause-prints g c =
-    Prints-then _ _ _ _ _ _ _ c.in_ok-put.ensures (Prints-stop _ _ _ (codes "\n") _ _ c.in_err-put_filled.ensures.prints c.from_residual-in_err-put_filled.ensures.0)
+    let index_fits : SFits w64 c.args.cell.now.index = search rules in
+    Prints-then _ _ _ _ _ _ _ c.in_ok-put.ensures (Prints-stop _ _ _ (codes "\n") _ _ (rw (to_z-of_z w64 c.args.cell.now.index index_fits) at c.in_err-put_filled.ensures.prints) c.from_residual-in_err-put_filled.ensures.0)
 
 pub returns-clause-prints : goal.returns-clause-prints
 returns-clause-prints g c =
-    Prints-then _ _ _ _ _ _ _ c.in_ok-put.ensures (Prints-then _ _ _ _ _ _ _ c.in_ok-put_filled.ensures.prints c.put-2.ensures)
+    let index_fits : SFits w64 c.args.cell.now.index = search rules in
+    Prints-then _ _ _ _ _ _ _ c.in_ok-put.ensures (Prints-then _ _ _ _ _ _ _ (rw (to_z-of_z w64 c.args.cell.now.index index_fits) at c.in_ok-put_filled.ensures.prints) c.put-2.ensures)

@@ -1,5 +1,5 @@
 -- Both are asked, the second where the first holds.
-use Rattle.id_observe.proofs.observe.hold_nothing.Goals as goal
+use Rattle.id_observe.proofs.holdings.hold_nothing.Goals as goal
 
 pub returns-then-makes_none : goal.returns-then-makes_none
 returns-then-makes_none c =

@@ -1,0 +1,232 @@
+//! What a run shows of its answer and of structures, for who asks for nothing else (docs/MACHINE.md, "Observed").
+
+ghost use Rattle.std.specs.Prelude.{◌≡◌, ◌++◌, ◌↔◌, [], map, IfOk, OnOk, IsTrue};
+ghost use Rattle.std.specs.List.{cons_option, filter_map, flat_map};
+ghost use Rattle.id_bank.specs.Cells.{cells_of};
+ghost use Rattle.id_observe.specs.Observed.{HaveNoCells, MakesNone, IsNamed, answer_in, cell_value_of};
+ghost use Rattle.id_observe.specs.Observed.{cell_values_in, structure_by, structures_in, waiting_in};
+
+use crate::observe::{all_structures, all_waiting, answer, source_value, value_in};
+use crate::paths::{Paths, is_alloc};
+use id_bank::Filled;
+use id_element::Element;
+use id_graph::Graph;
+use id_list::Sequence;
+use id_meaning::{Ask, Path, Shape, Site, SourceValue};
+use id_tag::Structure;
+use id_valid::Valid;
+use std::alloc::{AllocError, Global};
+
+/// What a cell holds.
+#[derive(Drop)]
+pub struct CellValue {
+    /// The name of its structure.
+    pub name: Site,
+    pub index: i64,
+    pub value: SourceValue,
+}
+
+/// What a run shows of its answer and of structures, named by paths and places of the text alone.
+#[derive(Drop)]
+pub struct Holdings {
+    /// The value of the first token that instruction 0 handled under main's tag.
+    pub answer: Option<SourceValue>,
+    /// For each `alloc` that made one, one element's record after another's: the structure and its bounds.
+    pub structures: Sequence<Shape>,
+    /// For each cell that holds a value, one element's cells after another's.
+    pub cells: Sequence<CellValue>,
+    /// For each reply that waits for a cell's value, one element's cells after another's: which fetch asks for which
+    /// cell.
+    pub waiting: Sequence<Ask>,
+}
+
+/// What these elements show of the answer and of structures, for who asks for nothing else. The records are looked
+/// through once; where no instruction makes structures and no cell was read or written, for the answer alone.
+pub fn observe_holdings(
+    alloc: Global,
+    graph: &Valid,
+    elements: &[Element<'_>],
+) -> Result<Holdings, AllocError>
+    ensures answer { IfOk result (λ o. o.answer ≡ answer_in graph.now (map (λ e. e.state) elements.now)) }
+    ensures structures { IfOk result (λ o. o.structures ≡ structures_in graph.now (map (λ e. e.state) elements.now)) }
+    ensures cells { IfOk result (λ o. o.cells ≡ cell_values_in graph.now (map (λ e. e.state) elements.now)) }
+    ensures waiting { IfOk result (λ o. o.waiting ≡ waiting_in graph.now (map (λ e. e.state) elements.now)) }
+{
+    if hold_nothing(graph.graph(), elements) {
+        return Ok(no_holdings(alloc, answer(alloc, graph, elements)?));
+    }
+    let paths = Paths::new(alloc, graph.graph(), elements)?;
+    let structures = all_structures(alloc, &paths)?;
+    let cells = all_cell_values(alloc, &paths, elements)?;
+    let waiting = all_waiting(alloc, &paths, elements)?;
+    let answer = value_in(alloc, &paths, paths.first_value())?;
+    Ok(Holdings {
+        answer,
+        structures: Sequence::new(structures),
+        cells: Sequence::new(cells),
+        waiting: Sequence::new(waiting),
+    })
+}
+
+/// Whether no instruction makes structures, and no cell was read or written at these elements.
+fn hold_nothing(graph: &Graph, elements: &[Element<'_>]) -> bool
+    ensures { IsTrue result ↔ (MakesNone graph.now × HaveNoCells elements.now) }
+{
+    makes_none(graph) && have_no_cells(elements)
+}
+
+/// Whether no instruction makes structures.
+fn makes_none(graph: &Graph) -> bool
+    ensures { IsTrue result ↔ MakesNone graph.now }
+{
+    graph.instrs().iter().all(|instr| !is_alloc(Some(instr.op)))
+}
+
+/// Whether no cell was read or written at these elements.
+fn have_no_cells(elements: &[Element<'_>]) -> bool
+    ensures { IsTrue result ↔ HaveNoCells elements.now }
+{
+    elements.iter().all(|element| element.has_no_cells())
+}
+
+/// This answer, and nothing of structures.
+fn no_holdings(alloc: Global, answer: Option<SourceValue>) -> Holdings
+    ensures answer { result.answer ≡ answer }
+    ensures structures { result.structures ≡ [] }
+    ensures cells { result.cells ≡ [] }
+    ensures waiting { result.waiting ≡ [] }
+{
+    Holdings {
+        answer,
+        structures: Sequence::new(Vec::new(alloc)),
+        cells: Sequence::new(Vec::new(alloc)),
+        waiting: Sequence::new(Vec::new(alloc)),
+    }
+}
+
+/// What the cells of these elements hold.
+fn all_cell_values(
+    alloc: Global,
+    paths: &Paths<'_>,
+    elements: &[Element<'_>],
+) -> Result<Vec<CellValue>, AllocError>
+    ensures { IfOk result
+        (λ v. v.items
+        ≡ filter_map (cell_value_of (structure_by paths.now))
+        (flat_map (λ e. cells_of e.cells) (map (λ e. e.state) elements.now))) }
+{
+    let mut values = Vec::new(alloc);
+    for element in elements {
+        add_cell_values(alloc, paths, element.cells(alloc)?.as_slice(), &mut values)?;
+    }
+    Ok(values)
+}
+
+/// A structure and its name.
+#[derive(Drop)]
+struct Named {
+    structure: Structure,
+    name: Site,
+}
+
+/// Adds what these cells hold. Where many of one structure stand together, its name is looked up once for them.
+fn add_cell_values(
+    alloc: Global,
+    paths: &Paths<'_>,
+    cells: &[Filled],
+    values: &mut Vec<CellValue>,
+) -> Result<(), AllocError>
+    ensures { OnOk result (values.new.items ≡ values.old.items
+        ++ filter_map (cell_value_of (structure_by paths.now)) cells.now) }
+{
+    values.reserve(cells.len())?;
+    let mut at_hand = with_name(alloc, paths, NOTHING)?;
+    for cell in cells {
+        at_hand = named_for(alloc, paths, at_hand, cell.cell.structure)?;
+        add_cell_value(cell_value_of(alloc, paths, &at_hand, *cell)?, values)?;
+    }
+    Ok(())
+}
+
+/// A structure whose name is looked up before there is a cell.
+const NOTHING: Structure = Structure {
+    element: 0,
+    serial: 0,
+    low: 0,
+    high: 0,
+};
+
+/// The structure with its name.
+fn with_name(alloc: Global, paths: &Paths<'_>, structure: Structure) -> Result<Named, AllocError>
+    ensures structure { IfOk result (λ n. n.structure ≡ structure) }
+    ensures name { IfOk result (IsNamed paths.now) }
+{
+    Ok(Named {
+        structure,
+        name: paths.name(alloc, structure)?,
+    })
+}
+
+/// The structure with its name, which is that at hand if it is the same one.
+fn named_for(
+    alloc: Global,
+    paths: &Paths<'_>,
+    at_hand: Named,
+    structure: Structure,
+) -> Result<Named, AllocError>
+    requires { IsNamed paths.now at_hand }
+    ensures structure { IfOk result (λ n. n.structure ≡ structure) }
+    ensures name { IfOk result (IsNamed paths.now) }
+{
+    if at_hand.structure == structure {
+        Ok(at_hand)
+    } else {
+        with_name(alloc, paths, structure)
+    }
+}
+
+/// What a cell of this structure holds.
+fn cell_value_of(
+    alloc: Global,
+    paths: &Paths<'_>,
+    named: &Named,
+    filled: Filled,
+) -> Result<Option<CellValue>, AllocError>
+    requires named { IsNamed paths.now named.now }
+    requires structure { named.now.structure ≡ filled.cell.structure }
+    ensures { IfOk result (λ o. o ≡ cell_value_of (structure_by paths.now) filled) }
+{
+    match source_value(alloc, paths, filled.value)? {
+        Some(value) => Ok(Some(CellValue {
+            name: copy_site(alloc, &named.name)?,
+            index: filled.cell.index,
+            value,
+        })),
+        None => Ok(None),
+    }
+}
+
+/// A site like this one.
+fn copy_site(alloc: Global, site: &Site) -> Result<Site, AllocError>
+    ensures { IfOk result (λ s. s ≡ site.now) }
+{
+    Ok(Site {
+        path: Path {
+            steps: Sequence::new(Vec::from_slice(alloc, site.path.steps.as_slice())?),
+        },
+        place: site.place,
+    })
+}
+
+/// Adds what a cell holds, if that is a value of the source.
+fn add_cell_value(value: Option<CellValue>, values: &mut Vec<CellValue>) -> Result<(), AllocError>
+    ensures { OnOk result (values.new.items ≡ values.old.items ++ cons_option value []) }
+{
+    match value {
+        Some(value) => {
+            values.push(value)?;
+            Ok(())
+        }
+        None => Ok(()),
+    }
+}
