@@ -33,10 +33,10 @@ use Rattle.id_match.specs.declared.Offered.TheVariants.{Kept, Taken}
 use Rattle.id_match.specs.Waiting.{Store, entry_at, pair_of, offer_answer, offer_after}
 use Rattle.id_match.proofs.WaitingLemmas.{get_half, answer_of-at_port, offer_after-from_get}
 
-numbers_one : (m n : ℕ) → nat_eq m n ≡ true → m ≡ n
+pub numbers_one : (m n : ℕ) → nat_eq m n ≡ true → m ≡ n
 numbers_one m n e = grind (arith, nat_tests)
 
-numbers_apart : (m n : ℕ) → nat_eq m n ≡ false → m ≢ n
+pub numbers_apart : (m n : ℕ) → nat_eq m n ≡ false → m ≢ n
 numbers_apart m n e = λ same. grind (arith, nat_tests)
 
 none_either : (b : Bool) → ◌≡◌ {A = Option Half} (cond b None None) None
@@ -89,7 +89,7 @@ not_none : (o : Option Half) → o ≡ None → IsSome o → ⊥
 not_none None e some = cc
 not_none (Some h) e some = cc
 
-some_of : (o : Option Half) (h : Half) → o ≡ Some h → IsSome o
+pub some_of : (o : Option Half) (h : Half) → o ≡ Some h → IsSome o
 some_of None h e = cc
 some_of (Some g) h e = refl
 
@@ -449,7 +449,7 @@ module _ (f : List Pair) (es : List (Tag × Half)) (s : Store) (is : from_entrie
           (behind_got t ∙ ap (λ o. option_or o (lookup (same_tag t) fs)) none ∙ after ∙ ap (λ o. half_after o p v) (sym behind))
           (λ u apart. behind_got u ∙ ap (option_or (front_half f u)) (others u apart) ∙ sym (under_all u))
 
-get_or_any : (f : List Pair) (i : ℕ) (a b : Pair) → i < length f → get_or f i a ≡ get_or f i b
+pub get_or_any : (f : List Pair) (i : ℕ) (a b : Pair) → i < length f → get_or f i a ≡ get_or f i b
 get_or_any [] i a b inside = absurd (omega arith)
 get_or_any (p ∷ f) zero a b inside = refl
 get_or_any (p ∷ f) (suc i) a b inside = get_or_any f i a b (omega arith)
@@ -496,7 +496,13 @@ module _ (f : List Pair) (at : ℕ) (x : Pair) (same : (u : Tag) → pair_half x
         ∙ under_same u (nat_eq (place u (length f)) at) refl;
   }
 
-paired : (o : Option Half) (h : Half) (p : Port) (v : Value) → o ≡ Some h → same_port h.port p ≡ false → answer_at o p v ≡ pair_of p v h.value
+pub taken : (o : Option Half) (h : Half) (p : Port) (v : Value) → o ≡ Some h → same_port h.port p ≡ true → answer_at o p v ≡ Taken
+taken o h p v e same = ap (λ q. answer_at q p v) e ∙ ap (λ b. cond b Taken (pair_of p v h.value)) same
+
+pub stays : (o : Option Half) (h : Half) (p : Port) (v : Value) → o ≡ Some h → same_port h.port p ≡ true → half_after o p v ≡ o
+stays o h p v e same = ap (λ q. half_after q p v) e ∙ ap (λ b. cond b (Some h) None) same ∙ sym e
+
+pub paired : (o : Option Half) (h : Half) (p : Port) (v : Value) → o ≡ Some h → same_port h.port p ≡ false → answer_at o p v ≡ pair_of p v h.value
 paired o h p v e apart = ap (λ q. answer_at q p v) e ∙ ap (λ b. cond b Taken (pair_of p v h.value)) apart
 
 module _ (f : List Pair) (t : Tag) (some : 0 < length f) (at : ℕ) (there : at ≡ place t (length f)) (p : Pair) (is : get_or f at empty_pair ≡ p)
@@ -530,9 +536,8 @@ partner_leaves p q t h port v is apart puts a answer = record {
 pub taken_here : (f : List Pair) (t : Tag) (h : Half) (port : Port) (v : Value) → front_half f t ≡ Some h → same_port h.port port ≡ true
     → Meets f f t port v Taken
 taken_here f t h port v found same = record {
-  answer = sym (ap (λ o. answer_at o port v) found ∙ ap (λ b. cond b Taken (pair_of port v h.value)) same);
-  after = puts_same f t (half_after (front_half f t) port v)
-      (found ∙ sym (ap (λ o. half_after o port v) found ∙ ap (λ b. cond b (Some h) None) same));
+  answer = sym (taken (front_half f t) h port v found same);
+  after = puts_same f t (half_after (front_half f t) port v) (sym (stays (front_half f t) h port v found same));
 }
 
 pub holds_refl : (f : List Pair) → HoldsSame f f

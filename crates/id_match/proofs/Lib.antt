@@ -1,5 +1,6 @@
 pub mod WaitingLemmas
 pub mod FrontLemmas
+pub mod CallLemmas
 pub mod BehindLemmas
 pub mod KeyedLemmas
 pub mod EntriesLemmas

@@ -1,11 +1,11 @@
 -- what the calls say of the front and of the halves, said of the store
-use Rattle.std.proofs.Common.{◌≡◌, ◌∙◌, None, refl, sym, ap, subst, arith}
-use Rattle.std.proofs.lemmas.Grind.{common_steps}
+use Rattle.std.proofs.Common.{◌≡◌, ◌∙◌, None, refl, sym, ap, subst}
 use Rattle.std.specs.FinMap.{from_entries}
 use Rattle.id_tag.specs.Plains.{tag_in, whole}
 use Rattle.id_match.specs.Front.{IsKept, all_entries, front_half}
 use Rattle.id_match.specs.Meetings.{told}
 use Rattle.id_match.proofs.FrontLemmas.{all_of_slot, behind_kept, behind_answer, behind_after, others_always, if_some}
+use Rattle.id_match.proofs.CallLemmas.{free_from_test}
 use Rattle.id_match.proofs.Waiting.offer_behind.Goals as goal
 
 pub invariant_of-self : goal.invariant_of-self
@@ -40,7 +40,8 @@ invariant_of-self-else-put_beside c =
     c.self.invariant in
     let holds : from_entries (all_entries c.put_beside.new.front.items c.self.inside.halves.entries) ≡ c.args.self.now = ap (λ f. from_entries (all_entries
     f c.self.inside.halves.entries)) same ∙ is in
-    let empty : front_half c.self.inside.front.items (tag_in c.args.token.now) ≡ None = grind (arith, common_steps) in
+    let empty : front_half c.self.inside.front.items (tag_in c.args.token.now) ≡ None =
+    free_from_test _ c.deref.result.now _ c.tag.result c.deref.ensures.value c.tag.ensures (sym c.if-has.ensures) in
     let free : front_half c.put_beside.new.front.items (tag_in c.args.token.now) ≡ None = ap (λ f. front_half f (tag_in c.args.token.now)) same ∙ empty in
     let others = others_always c.self.inside.halves.entries c.offer_plain_to.new.halves.entries c.offer_plain_to.result (tag_in c.args.token.now)
     c.offer_plain_to.ensures.others c.offer_plain_to.ensures.err in
@@ -56,7 +57,8 @@ returns-in_ok-met-clause-answer c =
     c.self.invariant in
     let holds : from_entries (all_entries c.put_beside.new.front.items c.self.inside.halves.entries) ≡ c.args.self.now = ap (λ f. from_entries (all_entries
     f c.self.inside.halves.entries)) same ∙ is in
-    let empty : front_half c.self.inside.front.items (tag_in c.args.token.now) ≡ None = grind (arith, common_steps) in
+    let empty : front_half c.self.inside.front.items (tag_in c.args.token.now) ≡ None =
+    free_from_test _ c.deref.result.now _ c.tag.result c.deref.ensures.value c.tag.ensures (sym c.if-has.ensures) in
     let free : front_half c.put_beside.new.front.items (tag_in c.args.token.now) ≡ None = ap (λ f. front_half f (tag_in c.args.token.now)) same ∙ empty in
     if_some (told c.in_ok-met.met c.args.token.now) (λ a e. behind_answer c.put_beside.new.front.items
     c.self.inside.halves.entries _ holds kept (tag_in c.args.token.now) c.args.token.now.port (whole c.args.token.now.value) free a e)
@@ -70,7 +72,8 @@ returns-in_ok-met-clause-after c =
     c.self.invariant in
     let holds : from_entries (all_entries c.put_beside.new.front.items c.self.inside.halves.entries) ≡ c.args.self.now = ap (λ f. from_entries (all_entries
     f c.self.inside.halves.entries)) same ∙ is in
-    let empty : front_half c.self.inside.front.items (tag_in c.args.token.now) ≡ None = grind (arith, common_steps) in
+    let empty : front_half c.self.inside.front.items (tag_in c.args.token.now) ≡ None =
+    free_from_test _ c.deref.result.now _ c.tag.result c.deref.ensures.value c.tag.ensures (sym c.if-has.ensures) in
     let free : front_half c.put_beside.new.front.items (tag_in c.args.token.now) ≡ None = ap (λ f. front_half f (tag_in c.args.token.now)) same ∙ empty in
     let others = others_always c.self.inside.halves.entries c.offer_plain_to.new.halves.entries c.offer_plain_to.result (tag_in c.args.token.now)
     c.offer_plain_to.ensures.others c.offer_plain_to.ensures.err in
