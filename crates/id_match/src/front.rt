@@ -5,6 +5,7 @@
 
 ghost use Rattle.std.specs.Prelude.{◌≡◌, ◌≢◌, ◌<◌, ◌↔◌, ◌≤◌, ◌*◌, IsTrue, false, Some, None, IfSome, is_some};
 ghost use Rattle.std.specs.Prelude.{IsSome, IfOk, OnOk, List, [], ◌∷◌, ◌++◌, length, replicate, map as map_list};
+ghost use Rattle.std.specs.Prelude.{slice_index_or};
 ghost use Rattle.std.specs.List.{filter_map};
 ghost use Rattle.std.specs.Option.{option_map, option_or};
 ghost use Rattle.std.specs.Map.{lookup};
@@ -15,7 +16,7 @@ ghost use Rattle.id_match.specs.Halves.{answer_at, half_after};
 ghost use Rattle.id_match.specs.Meetings.{told};
 ghost use Rattle.id_match.specs.Waiting.{entry_at};
 ghost use Rattle.id_match.specs.Front.{IsPlaced, Meets, Puts, empty_pair, front_entries, front_half, held};
-ghost use Rattle.id_match.specs.Front.{place_of, slot_entry, slot_half, slot_tag};
+ghost use Rattle.id_match.specs.Front.{place, place_of, slot_entry, slot_half, slot_tag};
 ghost use Rattle.id_match.specs.Front.{IsSingle, MeetsIn, PutsIn, pair_entries, pair_half};
 ghost use Rattle.id_match.specs.Front.{HoldsSame, IsKept, IsMarked, MarksSame, OthersSame, half_entry, mark_at};
 ghost use Rattle.id_match.specs.Front.{one_less, one_more};
@@ -416,6 +417,15 @@ fn stands_behind(front: &[Pair], tag: Tag) -> Behind
         .behind
 }
 
+/// Whether the pair of a tag has room for one more value.
+fn has_room(front: &[Pair], tag: Tag) -> bool
+    ensures { IsTrue result ↔ (0 < length front.now)
+        × (length (pair_entries (slice_index_or front.now (place tag (length front.now)) empty_pair)) < 2) }
+{
+    !front.is_empty()
+        && front[place_of(tag.context.serial, tag.iteration, tag.instr, front.len())].count() < 2
+}
+
 /// Puts the slot into its pair, if there is room, and nothing waits under its tag in the front or behind.
 pub(crate) fn put_beside(
     front: &mut Vec<Pair>,
@@ -430,7 +440,10 @@ pub(crate) fn put_beside(
     ensures marks { MarksSame front.old.items front.new.items }
 {
     let tag = slot.tag();
-    if stands_behind(front, tag) != Behind::Nothing && halves.contains_key(&tag) {
+    // Without room nothing is looked up behind.
+    if !has_room(front, tag)
+        || (stands_behind(front, tag) != Behind::Nothing && halves.contains_key(&tag))
+    {
         return false;
     }
     put(front, slot)

@@ -209,7 +209,7 @@ impl Waiting {
         ensures { self.new ≡ self.old }
     {
         let len = self.front.len();
-        if self.crowded > len / 4 || len == 0 {
+        if self.crowded > len || len == 0 {
             self.crowded = 0;
             if count(&self.front) + self.halves.len() >= len / 32 {
                 if let Some(front) = larger_front(self.alloc, &self.front, &self.halves) {
