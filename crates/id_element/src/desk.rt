@@ -5,9 +5,9 @@ ghost use Rattle.std.specs.Prelude.{◌≡◌};
 ghost use Rattle.id_element.specs.Steps.{readers_of};
 
 use crate::outcome::{
-    allocated_by, allocated_by_shot, answer_fired, deed_of, fill_verdict, fresh_numbers, made_by,
-    most_sent, next_stamp, react, react_full, react_plain, send, send_deed, send_like,
-    send_replies, send_shot,
+    allocated_by, allocated_by_deed, allocated_by_shot, answer_fired, deed_of, fill_verdict,
+    fresh_numbers, made_by, most_sent, next_stamp, react, react_full, react_plain, send, send_deed,
+    send_like, send_replies, send_shot,
 };
 use crate::step::{Arrival, PlainOperands, Reacted, Short, TakeError};
 use id_bank::{Bank, ReadAnswer, WriteAnswer};
@@ -746,9 +746,7 @@ impl<'a> Desk<'a> {
         send_deed(instr, &sample, deed, outputs);
         self.log.push_deed(Doing { token, stamp, deed });
         self.stamp = u64::from(stamp);
-        let fired = deed.fired(token.tag());
-        self.contexts += made_by(&fired);
-        self.structures += allocated_by(instr.op, &fired);
+        self.structures += allocated_by_deed(instr.op, deed);
     }
 
     /// Fires the operands of which a plain token is one, sends what comes of them, and records the event. There is room

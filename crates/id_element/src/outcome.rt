@@ -268,6 +268,18 @@ pub(crate) fn allocated_by_shot(op: Op, shot: Shot) -> u64
     }
 }
 
+/// How many structures a deed of the operator takes; it makes no context. Takes no memory.
+#[inline(always)]
+pub(crate) fn allocated_by_deed(op: Op, deed: Deed) -> u64
+    ensures structures { (t : Tag) → result ≡ allocated_by op (fired_by_deed t deed) }
+    ensures contexts { (t : Tag) → made_by (fired_by_deed t deed) ≡ 0 }
+{
+    match (op, deed) {
+        (Op::Alloc, Deed::Addressed(_)) => 1,
+        _ => 0,
+    }
+}
+
 /// What the answer to a read fires. Takes no memory.
 pub(crate) fn answer_fired(reply: Tag, answer: ReadAnswer) -> Fired
     ensures { result ≡ answer_fired reply answer }
