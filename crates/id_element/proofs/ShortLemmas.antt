@@ -1,10 +1,11 @@
 -- An element keeps its state where a plain token was handled, and where it was not; and the element step on one.
-use Rattle.std.proofs.Common.{◌≡◌, ◌<◌, ◌-◌, ◌^◌, ℕ, Bool, true, false, List, Some, length, get_or, refl, sym, ap, subst, ◌∙◌}
-use Rattle.std.specs.Prelude.{◌↔◌, IsTrue, slice_get}
+use Rattle.std.proofs.Common.{◌≡◌, ◌<◌, ◌-◌, ◌^◌, ℕ, Bool, true, false, List, Some, Result, Ok, Err, length, get_or, refl, sym, ap, subst, ◌∙◌}
+use Rattle.std.specs.Prelude.{◌↔◌, IfErr, IfOk, IsErr, IsErrAnd, IsTrue, OnErr, OnOk, slice_get}
 use Rattle.std.proofs.lemmas.Option.{slice_get_read}
 use Rattle.id_graph.specs.declared.instr.Instr.{Instr}
 use Rattle.id_graph.specs.declared.instr.PortKind.{PortKind}
 use Rattle.id_graph.specs.Graph.{Parts, kind_at}
+use Rattle.id_bank.specs.Cells.{Cells}
 use Rattle.id_match.specs.Waiting.{Store}
 use Rattle.id_ops.specs.Operators.{fired}
 use Rattle.id_ops.specs.Shots.{fired_of}
@@ -19,6 +20,8 @@ use Rattle.id_tag.specs.declared.plain.PlainToken.{PlainToken}
 use Rattle.id_tag.specs.Plains.{message_of, tag_in}
 use Rattle.id_record.specs.declared.step.Step.TheVariants as step
 use Rattle.id_element.specs.declared.step.Short.{Short}
+use Rattle.id_element.specs.declared.step.TakeError.{TakeError}
+use Rattle.id_element.specs.declared.step.TakeError.TheVariants.{Memory, StampEnd}
 use Rattle.id_element.specs.declared.step.Short.TheVariants.{Went, Failed, Apart}
 use Rattle.id_element.specs.Fits.{IsFor}
 use Rattle.id_element.specs.Replays.{ElementView, IsKept}
@@ -77,6 +80,9 @@ step_on g e s before t is i k later r q kind own read same comes for =
     step_at g e s t i later q (slice_get_read g.instrs (length g.instrs) t.instr i refl within at)
     (subst (λ x. IsReaction i.op s.waiting later t x) for (subst (λ x. IsReaction i.op x.waiting later t r) same comes))
 
+no_error : {A E Z : Type 0} → (a : A) (e : E) → ◌≡◌ {A = Result A E} (Ok a) (Err e) → Z
+no_error a e is = cc
+
 -- an element keeps its state where a read or a write in small numbers was handled, and where it was not
 pub IsKept-demand : (old : ElementView) (m : Message) (went : Bool) (new : State) (b : Bool) → IsFor old.graph old.count old.number m
     → m.stamp < 2 ^ 64 - 1 → old.state.stamp < 2 ^ 64 - 1 → IsKept old went
@@ -89,3 +95,57 @@ IsKept-demand old m went new true is_for left last kept comes after same =
     subst (λ x. IsKept (record old { state = x }) went) (sym (after refl)) (IsKept-take old m went went is_for left last so kept)
 IsKept-demand old m went new false is_for left last kept comes after same =
     subst (λ x. IsKept (record old { state = x }) went) (sym (same refl)) kept
+
+-- what an error says nothing of
+pub if_err : {A E : Type 0} → (P : A → Type 0) (r : Result A E) → IsErr r → IfOk r P
+if_err P (Ok a) is = cc
+if_err P (Err e) is = tt
+
+pub on_ok : {A E : Type 0} → (P : Type 0) (r : Result A E) → IsErr r → OnOk r P
+on_ok P (Ok a) is = cc
+on_ok P (Err e) is = tt
+
+pub not_ok : {A E Z : Type 0} → (r : Result A E) (a : A) → IsErr r → r ≡ Ok a → Z
+not_ok (Ok b) a is e = cc
+not_ok (Err e) a is f = no_error a e (sym f)
+
+pub not_apart : {Z : Type 0} → (s : Short) → IsHandled s → ◌≡◌ {A = Result Short TakeError} (Ok s) (Ok Apart) → Z
+not_apart Went h e = cc
+not_apart (Failed f) h e = cc
+not_apart Apart h e = absurd h
+
+-- and what holds after it, whatever came
+pub on_err : {A E P : Type 0} → (r : Result A E) → P → OnErr r P
+on_err (Ok a) h = tt
+on_err (Err e) h = h
+
+-- the end of stamps is told by no other error, and by nothing that went well
+pub end_ok : {A : Type 0} → (a : A) (b : Bool) → b ≡ false → ◌≡◌ {A = Result A TakeError} (Ok a) (Err StampEnd) ↔ IsTrue b
+end_ok a true e = cc
+end_ok a false e = ((λ is. no_error a StampEnd is), λ p. cc)
+
+pub end_memory : {A : Type 0} → (r : Result A TakeError) (b : Bool) → IsErrAnd r (λ e. e ≡ Memory) → b ≡ false → r ≡ Err StampEnd ↔ IsTrue b
+end_memory (Ok a) b is e = absurd is
+end_memory (Err Memory) true is e = cc
+end_memory (Err Memory) false is e = ((λ q. cc), λ p. cc)
+end_memory (Err StampEnd) b is e = cc
+
+pub end_if : {A : Type 0} → (r : Result A TakeError) (b : Bool) → IfErr r (λ e. e ≡ Memory) → b ≡ false → r ≡ Err StampEnd ↔ IsTrue b
+end_if (Ok a) b is e = end_ok a b e
+end_if (Err Memory) true is e = cc
+end_if (Err Memory) false is e = ((λ q. cc), λ p. cc)
+end_if (Err StampEnd) b is e = cc
+
+pub err_if : {A E : Type 0} → (P : E → Type 0) (r : Result A E) → IsErrAnd r P → IfErr r P
+err_if P (Ok a) is = tt
+err_if P (Err e) is = is
+
+pub not_true : {Z : Type 0} → ◌≡◌ {A = Result Bool TakeError} (Ok false) (Ok true) → Z
+not_true e = cc
+
+-- the state with what waited before
+pub with_waiting : (d s : State) (w : Store) → w ≡ d.waiting → d ≡ s → ◌≡◌ {A = State} (record d { waiting = w }) s
+with_waiting d s w is same = ap (λ v. record d { waiting = v }) is ∙ same
+
+pub with_cells : (d s : State) (b : Cells) → b ≡ d.cells → d ≡ s → ◌≡◌ {A = State} (record d { cells = b }) s
+with_cells d s b is same = ap (λ v. record d { cells = v }) is ∙ same

@@ -3,10 +3,12 @@ use Rattle.std.proofs.Common.{◌≡◌, ◌∙◌, None, Some, false, refl, sym
 use Rattle.std.specs.HashMap as hash
 use Rattle.std.specs.Map.{lookup}
 use Rattle.id_match.specs.Front.{IsMarked}
-use Rattle.id_match.specs.Halves.{answer_at}
+use Rattle.id_match.specs.Halves.{answer_at, half_after}
 use Rattle.id_match.specs.Waiting.{pair_of}
 use Rattle.id_match.proofs.CallLemmas.{apart_ports}
 use Rattle.id_match.proofs.FrontLemmas.{gone, paired, same_under_tag, some_of}
+use Rattle.id_match.specs.declared.Half.{Half}
+use Rattle.id_match.specs.declared.Offered.TheVariants.{Kept}
 use Rattle.id_tag.specs.Plains.{tag_in, whole}
 use Rattle.id_tag.specs.Tags.{same_tag}
 use Rattle.id_match.proofs.offer_plain_to.Goals as goal
@@ -40,6 +42,22 @@ returns-in-Vacant-clause-others c = λ t apart.
     let name = sym (rw c.in-Vacant.is at c.in_ok-place.ensures.same_map) in
     let same = ((rw c.in-Vacant.is at c.in_ok-place.ensures.update).0 c.insert.result.now).2 t
     (subst (λ w. same_tag w t ≡ false) (sym c.tag-own.ensures) apart) in search rules
+
+-- nothing waits, and the value is written
+pub returns-in-Vacant-clause-answer : goal.returns-in-Vacant-clause-answer
+returns-in-Vacant-clause-answer c =
+    subst (λ w. Kept ≡ answer_at (hash.get same_tag c.args.halves.now w) c.args.token.now.port (whole c.args.token.now.value)) c.tag-own.ensures
+    (sym (ap (λ o. answer_at o c.args.token.now.port (whole c.args.token.now.value)) (rw c.in-Vacant.is at c.in_ok-place.ensures.found)))
+
+pub returns-in-Vacant-clause-at : goal.returns-in-Vacant-clause-at
+returns-in-Vacant-clause-at c =
+    let port = c.args.token.now.port in
+    let v = whole c.args.token.now.value in
+    let name = sym (rw c.in-Vacant.is at c.in_ok-place.ensures.same_map) in
+    let here = ((rw c.in-Vacant.is at c.in_ok-place.ensures.update).0 c.insert.result.now).1
+    ∙ ap Some (c.insert.ensures.value ∙ ap {B = Half} (λ x. record { port = port; value = x }) c.value.ensures)
+    ∙ sym (ap (λ o. half_after o port v) (rw c.in-Vacant.is at c.in_ok-place.ensures.found)) in
+    rw (← c.tag-own.ensures) (search rules)
 
 -- and so does its removal
 pub returns-in-Some-clause-others : goal.returns-in-Some-clause-others

@@ -3,7 +3,8 @@ use Rattle.std.proofs.Common.{arith, sym}
 use Rattle.std.proofs.lemmas.Grind.{common_steps}
 use Rattle.id_element.specs.declared.step.Reacted.TheVariants.{Shot, Fires}
 use Rattle.id_element.specs.Desks.{state_of}
-use Rattle.id_element.proofs.ShortLemmas.{IsStepOn, step_on}
+use Rattle.id_element.specs.declared.step.Short.TheVariants.{Went}
+use Rattle.id_element.proofs.ShortLemmas.{IsStepOn, step_on, if_err, on_ok, not_ok, not_apart, on_err, end_ok, end_memory, with_waiting}
 use Rattle.id_element.proofs.desk.Desk.take_plain.Goals as goal
 use Rattle.id_element.proofs.desk.Desk.take_plain.Goals.{After-conclude_shot, After-conclude_plain}
 
@@ -59,3 +60,121 @@ returns-in-Fires-clause-outputs c h =
     let after = (fires c).outputs in
     let before = c.in_ok-reserve.ensures.state in
     grind (arith, common_steps, after, before, c.conclude_plain.ensures.outputs)
+
+-- after an error all is as it was
+pub returns-in_err-stamp-clause-step : goal.returns-in_err-stamp-clause-step
+returns-in_err-stamp-clause-step c = if_err _ c.from_residual.result c.from_residual.ensures.0
+
+pub returns-in_err-stamp-clause-state : goal.returns-in_err-stamp-clause-state
+returns-in_err-stamp-clause-state c = if_err _ c.from_residual.result c.from_residual.ensures.0
+
+pub returns-in_err-stamp-clause-outputs : goal.returns-in_err-stamp-clause-outputs
+returns-in_err-stamp-clause-outputs c = if_err _ c.from_residual.result c.from_residual.ensures.0
+
+pub returns-in_err-stamp-clause-apart : goal.returns-in_err-stamp-clause-apart
+returns-in_err-stamp-clause-apart c = not_ok c.from_residual.result _ c.from_residual.ensures.0
+
+pub returns-in_err-stamp-clause-apart_outputs : goal.returns-in_err-stamp-clause-apart_outputs
+returns-in_err-stamp-clause-apart_outputs c = not_ok c.from_residual.result _ c.from_residual.ensures.0
+
+pub returns-in_err-stamp-clause-left : goal.returns-in_err-stamp-clause-left
+returns-in_err-stamp-clause-left c = on_ok _ c.from_residual.result c.from_residual.ensures.0
+
+pub returns-in_err-stamp-clause-last_left : goal.returns-in_err-stamp-clause-last_left
+returns-in_err-stamp-clause-last_left c = on_ok _ c.from_residual.result c.from_residual.ensures.0
+
+pub returns-in_err-reserve-clause-step : goal.returns-in_err-reserve-clause-step
+returns-in_err-reserve-clause-step c = if_err _ c.from_residual-in_err-reserve.result c.from_residual-in_err-reserve.ensures.0
+
+pub returns-in_err-reserve-clause-state : goal.returns-in_err-reserve-clause-state
+returns-in_err-reserve-clause-state c = if_err _ c.from_residual-in_err-reserve.result c.from_residual-in_err-reserve.ensures.0
+
+pub returns-in_err-reserve-clause-outputs : goal.returns-in_err-reserve-clause-outputs
+returns-in_err-reserve-clause-outputs c = if_err _ c.from_residual-in_err-reserve.result c.from_residual-in_err-reserve.ensures.0
+
+pub returns-in_err-reserve-clause-apart : goal.returns-in_err-reserve-clause-apart
+returns-in_err-reserve-clause-apart c = not_ok c.from_residual-in_err-reserve.result _ c.from_residual-in_err-reserve.ensures.0
+
+pub returns-in_err-reserve-clause-apart_outputs : goal.returns-in_err-reserve-clause-apart_outputs
+returns-in_err-reserve-clause-apart_outputs c = not_ok c.from_residual-in_err-reserve.result _ c.from_residual-in_err-reserve.ensures.0
+
+pub returns-in_err-reserve-clause-left : goal.returns-in_err-reserve-clause-left
+returns-in_err-reserve-clause-left c = on_ok _ c.from_residual-in_err-reserve.result c.from_residual-in_err-reserve.ensures.0
+
+pub returns-in_err-reserve-clause-last_left : goal.returns-in_err-reserve-clause-last_left
+returns-in_err-reserve-clause-last_left c = on_ok _ c.from_residual-in_err-reserve.result c.from_residual-in_err-reserve.ensures.0
+
+pub returns-in_err-reserve-clause-end : goal.returns-in_err-reserve-clause-end
+returns-in_err-reserve-clause-end c =
+    end_memory c.from_residual-in_err-reserve.result _ c.from_residual-in_err-reserve.ensures.1 (rw c.from.ensures at c.in_ok-stamp.ensures.left)
+
+pub returns-in_err-reserve-clause-err : goal.returns-in_err-reserve-clause-err
+returns-in_err-reserve-clause-err c = on_err c.from_residual-in_err-reserve.result c.in_err-reserve.ensures.state
+
+pub returns-in_err-reserve-clause-err_outputs : goal.returns-in_err-reserve-clause-err_outputs
+returns-in_err-reserve-clause-err_outputs c = on_err c.from_residual-in_err-reserve.result c.in_err-reserve.ensures.messages
+
+pub returns-in_err-shot-clause-step : goal.returns-in_err-shot-clause-step
+returns-in_err-shot-clause-step c = if_err _ c.from_residual-in_err-shot.result c.from_residual-in_err-shot.ensures.0
+
+pub returns-in_err-shot-clause-state : goal.returns-in_err-shot-clause-state
+returns-in_err-shot-clause-state c = if_err _ c.from_residual-in_err-shot.result c.from_residual-in_err-shot.ensures.0
+
+pub returns-in_err-shot-clause-outputs : goal.returns-in_err-shot-clause-outputs
+returns-in_err-shot-clause-outputs c = if_err _ c.from_residual-in_err-shot.result c.from_residual-in_err-shot.ensures.0
+
+pub returns-in_err-shot-clause-apart : goal.returns-in_err-shot-clause-apart
+returns-in_err-shot-clause-apart c = not_ok c.from_residual-in_err-shot.result _ c.from_residual-in_err-shot.ensures.0
+
+pub returns-in_err-shot-clause-apart_outputs : goal.returns-in_err-shot-clause-apart_outputs
+returns-in_err-shot-clause-apart_outputs c = not_ok c.from_residual-in_err-shot.result _ c.from_residual-in_err-shot.ensures.0
+
+pub returns-in_err-shot-clause-left : goal.returns-in_err-shot-clause-left
+returns-in_err-shot-clause-left c = on_ok _ c.from_residual-in_err-shot.result c.from_residual-in_err-shot.ensures.0
+
+pub returns-in_err-shot-clause-last_left : goal.returns-in_err-shot-clause-last_left
+returns-in_err-shot-clause-last_left c = on_ok _ c.from_residual-in_err-shot.result c.from_residual-in_err-shot.ensures.0
+
+pub returns-in_err-shot-clause-end : goal.returns-in_err-shot-clause-end
+returns-in_err-shot-clause-end c =
+    end_memory c.from_residual-in_err-shot.result _ c.from_residual-in_err-shot.ensures.1 (rw c.from.ensures at c.in_ok-stamp.ensures.left)
+
+pub returns-in_err-shot-clause-err : goal.returns-in_err-shot-clause-err
+returns-in_err-shot-clause-err c =
+    on_err c.from_residual-in_err-shot.result (with_waiting (state_of c.reserve.new.self) _ _ c.in_err-shot.ensures.err c.in_ok-reserve.ensures.state)
+
+pub returns-in_err-shot-clause-err_outputs : goal.returns-in_err-shot-clause-err_outputs
+returns-in_err-shot-clause-err_outputs c = on_err c.from_residual-in_err-shot.result c.in_ok-reserve.ensures.messages
+
+-- where the token is not short, nothing was done
+pub returns-then-not-is_short-clause-end : goal.returns-then-not-is_short-clause-end
+returns-then-not-is_short-clause-end c = end_ok _ _ (rw c.from.ensures at c.in_ok-stamp.ensures.left)
+
+pub returns-in-Apart-clause-end : goal.returns-in-Apart-clause-end
+returns-in-Apart-clause-end c = end_ok _ _ (rw c.from.ensures at c.in_ok-stamp.ensures.left)
+
+pub returns-in-Apart-clause-apart : goal.returns-in-Apart-clause-apart
+returns-in-Apart-clause-apart c =
+    λ _. with_waiting (state_of c.reserve.new.self) _ _ (rw c.in-Apart.is at c.in_ok-shot.ensures.reaction) c.in_ok-reserve.ensures.state
+
+pub returns-in-Apart-clause-apart_outputs : goal.returns-in-Apart-clause-apart_outputs
+returns-in-Apart-clause-apart_outputs c = λ _. c.in_ok-reserve.ensures.messages
+
+-- where it is, no stamp was the last
+pub returns-in-Shot-clause-end : goal.returns-in-Shot-clause-end
+returns-in-Shot-clause-end c = end_ok _ _ (rw c.from.ensures at c.in_ok-stamp.ensures.left)
+
+pub returns-in-Fires-clause-end : goal.returns-in-Fires-clause-end
+returns-in-Fires-clause-end c = end_ok _ _ (rw c.from.ensures at c.in_ok-stamp.ensures.left)
+
+pub returns-in-Shot-clause-apart : goal.returns-in-Shot-clause-apart
+returns-in-Shot-clause-apart c = not_apart Went tt
+
+pub returns-in-Fires-clause-apart : goal.returns-in-Fires-clause-apart
+returns-in-Fires-clause-apart c = not_apart c.conclude_plain.result c.conclude_plain.ensures.handled
+
+pub returns-in-Shot-clause-apart_outputs : goal.returns-in-Shot-clause-apart_outputs
+returns-in-Shot-clause-apart_outputs c = not_apart Went tt
+
+pub returns-in-Fires-clause-apart_outputs : goal.returns-in-Fires-clause-apart_outputs
+returns-in-Fires-clause-apart_outputs c = not_apart c.conclude_plain.result c.conclude_plain.ensures.handled

@@ -1,15 +1,16 @@
 -- The record goes on by one event, and what it sends fits, by what the desk says of its step.
-use Rattle.std.proofs.Common.{◌≡◌, ap, subst, ◌∙◌, arith}
+use Rattle.std.proofs.Common.{◌≡◌, ◌++◌, ap, refl, subst, ◌∙◌, arith}
 use Rattle.std.proofs.lemmas.Grind.{common_steps}
 use Rattle.id_valid.specs.Validator.{IsValid}
 use Rattle.std.specs.Prelude.{◌↔◌, IsTrue}
 use Rattle.id_record.specs.declared.step.Step.TheVariants.{Went}
 use Rattle.id_element.specs.Fits.{IsFor}
-use Rattle.id_element.specs.Steps.{state_after, step_of}
+use Rattle.id_element.specs.Steps.{outputs_of, state_after, step_of}
 use Rattle.id_element.specs.Desks.{state_of}
 use Rattle.id_element.specs.Replays.{ElementView}
 use Rattle.id_element.proofs.ReplaysLemmas.{IsKept-take}
 use Rattle.id_element.proofs.OutcomeLemmas.{outputs_fit}
+use Rattle.id_element.proofs.ShortLemmas.{on_err}
 use Rattle.id_element.proofs.element.Element.take.Goals as goal
 
 pub invariant_of-self-2 : goal.invariant_of-self-2
@@ -28,6 +29,48 @@ returns-clause-fits c =
     rw (← ap (λ v. v.graph) c.self.view_is, ← ap (λ v. v.number) c.self.view_is, ← ap (λ v. v.state) c.self.view_is)
     (outputs_fit c.self.inside.desk.log.graph c.self.inside.desk.log.element (state_of c.self.inside.desk) c.args.message.now (subst IsValid c.graph-graph.ensures c.graph.ensures.kept) c.self.invariant.replays.waiting c.self.invariant.replays.cells (rw (ap (λ v. v.graph) c.self.view_is) c.requires.fits))
 
+-- the step, the state and the outputs are those of the desk
+pub returns-clause-step : goal.returns-clause-step
+returns-clause-step c =
+    let d = c.self.inside.desk in
+    let m = c.args.message.now in
+    c.full_step-step.ensures ∙ c.in_ok-verdict.ensures.step
+    ∙ ap (λ g. step_of g d.log.element (state_of d) m) (c.graph.ensures.value ∙ c.graph-graph.ensures)
+    ∙ ap (λ (v : ElementView). step_of v.graph v.number v.state m) c.self.view_is
+
+pub returns-clause-state : goal.returns-clause-state
+returns-clause-state c =
+    let d = c.self.inside.desk in
+    let m = c.args.message.now in
+    let later = state_after d.log.graph d.log.element (state_of d) m in
+    let after : state_of c.take.new.self ≡ later =
+    c.in_ok-verdict.ensures.state ∙ ap (λ g. state_after g d.log.element (state_of d) m) (c.graph.ensures.value ∙ c.graph-graph.ensures) in
+    rw (c.in_ok-verdict.ensures.number, c.in_ok-verdict.ensures.graph, after)
+    (subst (λ (v : ElementView). record { number = d.log.element; count = c.self.inside.count; graph = d.log.graph; state = later }
+    ≡ record v { state = state_after v.graph v.number v.state m }) c.self.view_is refl)
+
+pub returns-clause-outputs : goal.returns-clause-outputs
+returns-clause-outputs c =
+    let d = c.self.inside.desk in
+    let m = c.args.message.now in
+    let before = c.args.outputs.now.messages in
+    c.in_ok-verdict.ensures.outputs
+    ∙ ap (λ g. before ++ outputs_of g d.log.element (state_of d) m) (c.graph.ensures.value ∙ c.graph-graph.ensures)
+    ∙ ap (λ (v : ElementView). before ++ outputs_of v.graph v.number v.state m) c.self.view_is
+
+-- after an error all is as it was
+pub invariant_of-self : goal.invariant_of-self
+invariant_of-self c = rw (c.in_err-verdict.ensures.number, c.in_err-verdict.ensures.graph, c.in_err-verdict.ensures.err) c.self.invariant
+
+pub returns-in_err-verdict-clause-err : goal.returns-in_err-verdict-clause-err
+returns-in_err-verdict-clause-err c =
+    on_err c.from_residual.result
+    (rw (c.in_err-verdict.ensures.number, c.in_err-verdict.ensures.graph, c.in_err-verdict.ensures.err) c.self.view_is)
+
+pub returns-in_err-verdict-clause-err_outputs : goal.returns-in_err-verdict-clause-err_outputs
+returns-in_err-verdict-clause-err_outputs c = on_err c.from_residual.result c.in_err-verdict.ensures.err_outputs
+
+-- and the end of stamps is the desk's
 pub returns-in_err-verdict-clause-end : goal.returns-in_err-verdict-clause-end
 returns-in_err-verdict-clause-end c = grind (arith, common_steps)
 

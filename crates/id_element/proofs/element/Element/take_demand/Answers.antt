@@ -6,7 +6,7 @@ use Rattle.id_element.specs.Fits.{IsFor}
 use Rattle.id_element.specs.Desks.{state_of}
 use Rattle.id_element.specs.Steps.{outputs_of, state_after}
 use Rattle.id_element.specs.Replays.{ElementView}
-use Rattle.id_element.proofs.ShortLemmas.{IsKept-demand}
+use Rattle.id_element.proofs.ShortLemmas.{IsKept-demand, on_ok, not_ok, on_err}
 use Rattle.id_element.proofs.OutcomeLemmas.{demand_outputs_fit}
 use Rattle.id_element.proofs.element.Element.take_demand.Goals as goal
 
@@ -42,3 +42,31 @@ returns-clause-outputs c = λ h.
     let m = demanded c.args.demand.now in
     let before = c.args.outputs.now.messages in
     c.in_ok-handled.ensures.outputs (cc) ∙ ap (λ (v : ElementView). before ++ outputs_of v.graph v.number v.state m) c.self.view_is
+
+-- after an error all is as it was
+pub invariant_of-self : goal.invariant_of-self
+invariant_of-self c = rw (c.in_err-handled.ensures.number, c.in_err-handled.ensures.graph, c.in_err-handled.ensures.err) c.self.invariant
+
+pub returns-in_err-handled-clause-step : goal.returns-in_err-handled-clause-step
+returns-in_err-handled-clause-step c = not_ok c.from_residual.result _ c.from_residual.ensures.0
+
+pub returns-in_err-handled-clause-state : goal.returns-in_err-handled-clause-state
+returns-in_err-handled-clause-state c = not_ok c.from_residual.result _ c.from_residual.ensures.0
+
+pub returns-in_err-handled-clause-outputs : goal.returns-in_err-handled-clause-outputs
+returns-in_err-handled-clause-outputs c = not_ok c.from_residual.result _ c.from_residual.ensures.0
+
+pub returns-in_err-handled-clause-apart : goal.returns-in_err-handled-clause-apart
+returns-in_err-handled-clause-apart c = not_ok c.from_residual.result _ c.from_residual.ensures.0
+
+pub returns-in_err-handled-clause-apart_outputs : goal.returns-in_err-handled-clause-apart_outputs
+returns-in_err-handled-clause-apart_outputs c = not_ok c.from_residual.result _ c.from_residual.ensures.0
+
+pub returns-in_err-handled-clause-fits : goal.returns-in_err-handled-clause-fits
+returns-in_err-handled-clause-fits c = on_ok _ c.from_residual.result c.from_residual.ensures.0
+
+pub returns-in_err-handled-clause-err : goal.returns-in_err-handled-clause-err
+returns-in_err-handled-clause-err c = on_err c.from_residual.result (rw (c.in_err-handled.ensures.number, c.in_err-handled.ensures.graph, c.in_err-handled.ensures.err) c.self.view_is)
+
+pub returns-in_err-handled-clause-err_outputs : goal.returns-in_err-handled-clause-err_outputs
+returns-in_err-handled-clause-err_outputs c = on_err c.from_residual.result c.in_err-handled.ensures.err_outputs

@@ -9,7 +9,7 @@ use Rattle.id_element.specs.Shorts.{IsHandled, step_in}
 use Rattle.id_element.specs.Steps.{outputs_of, state_after, step_of}
 use Rattle.id_element.specs.Desks.{state_of}
 use Rattle.id_element.specs.Replays.{ElementView}
-use Rattle.id_element.proofs.ShortLemmas.{IsKept-short}
+use Rattle.id_element.proofs.ShortLemmas.{IsKept-short, if_err, on_ok, not_ok, on_err}
 use Rattle.id_element.proofs.OutcomeLemmas.{outputs_fit}
 use Rattle.id_element.proofs.element.Element.take_plain.Goals as goal
 
@@ -56,3 +56,32 @@ returns-clause-outputs c = λ handled.
     c.in_ok-short.ensures.outputs handled
     ∙ ap (λ g. before ++ outputs_of g d.log.element (state_of d) m) (c.graph.ensures.value ∙ c.graph-graph.ensures)
     ∙ ap (λ (v : ElementView). before ++ outputs_of v.graph v.number v.state m) c.self.view_is
+
+-- after an error all is as it was
+pub invariant_of-self : goal.invariant_of-self
+invariant_of-self c = rw (c.in_err-short.ensures.number, c.in_err-short.ensures.graph, c.in_err-short.ensures.err) c.self.invariant
+
+pub returns-in_err-short-clause-step : goal.returns-in_err-short-clause-step
+returns-in_err-short-clause-step c = if_err _ c.from_residual.result c.from_residual.ensures.0
+
+pub returns-in_err-short-clause-state : goal.returns-in_err-short-clause-state
+returns-in_err-short-clause-state c = if_err _ c.from_residual.result c.from_residual.ensures.0
+
+pub returns-in_err-short-clause-outputs : goal.returns-in_err-short-clause-outputs
+returns-in_err-short-clause-outputs c = if_err _ c.from_residual.result c.from_residual.ensures.0
+
+pub returns-in_err-short-clause-fits : goal.returns-in_err-short-clause-fits
+returns-in_err-short-clause-fits c = on_ok _ c.from_residual.result c.from_residual.ensures.0
+
+pub returns-in_err-short-clause-apart : goal.returns-in_err-short-clause-apart
+returns-in_err-short-clause-apart c = not_ok c.from_residual.result _ c.from_residual.ensures.0
+
+pub returns-in_err-short-clause-apart_outputs : goal.returns-in_err-short-clause-apart_outputs
+returns-in_err-short-clause-apart_outputs c = not_ok c.from_residual.result _ c.from_residual.ensures.0
+
+pub returns-in_err-short-clause-err : goal.returns-in_err-short-clause-err
+returns-in_err-short-clause-err c =
+    on_err c.from_residual.result (rw (c.in_err-short.ensures.number, c.in_err-short.ensures.graph, c.in_err-short.ensures.err) c.self.view_is)
+
+pub returns-in_err-short-clause-err_outputs : goal.returns-in_err-short-clause-err_outputs
+returns-in_err-short-clause-err_outputs c = on_err c.from_residual.result c.in_err-short.ensures.err_outputs
