@@ -5,3 +5,4 @@ pub mod LedgersLemmas
 pub mod SpotsLemmas
 pub mod NearLemmas
 pub mod MarksLemmas
+pub mod TellingsLemmas

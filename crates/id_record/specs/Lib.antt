@@ -1,5 +1,6 @@
 -- What public clauses cite.
 pub mod Events
+pub mod Tellings
 pub mod Sends
 pub mod Records
 pub mod Shootings

@@ -1,5 +1,5 @@
 -- The events of a record, as its lines keep them (docs/MACHINE.md, "The record").
-use Rattle.std.specs.Prelude.{ℕ, ◌+◌, Bool, List, [], ◌∷◌, ◌++◌, drop, slice_get, take}
+use Rattle.std.specs.Prelude.{ℕ, ◌+◌, Bool, List, [], ◌∷◌, ◌++◌, ◌≡◌, All, drop, slice_get, take}
 use Rattle.std.specs.Option.{option_map_or}
 use Rattle.id_graph.specs.declared.dests.Dest.{Dest}
 use Rattle.id_graph.specs.Graph.{Parts, arcs_on}
@@ -11,9 +11,10 @@ use Rattle.id_record.specs.declared.line.Handled.{Handled}
 use Rattle.id_record.specs.declared.line.Replies.{Replies}
 use Rattle.id_record.specs.declared.line.Line.{Line}
 use Rattle.id_record.specs.Events.{EventView, full_step, tag_of, value_of}
-use Rattle.id_record.specs.Lines.{Beside, unpacked}
+use Rattle.id_record.specs.Lines.{Beside, IsKept, unpacked}
 use Rattle.id_valid.specs.Roles.{op_at}
 use Rattle.id_record.specs.Sends.{numbered, replies, sent}
+use Rattle.id_record.specs.Tellings.{telling_from}
 
 -- the destinations of the instruction of this number on a side
 abbrev pub dests_at : Parts → ℕ → Bool → List Dest
@@ -59,3 +60,8 @@ pub record RecordView : Type 0 where
   pub room : ℕ
   pub room_aside : ℕ
   pub room_for_replies : ℕ
+
+-- what a record keeps: the event of each line is there, and these are the positions of the events that tell
+pub record AreKept (g : Parts) (n : ℕ) (ts : List Tag) (b : Beside) (ls : List Line) (ps : List ℕ) : Type 0 where
+  pub lines : All (IsKept b ts) ls
+  pub telling : ps ≡ telling_from 0 (events_from g n ts 0 b ls)

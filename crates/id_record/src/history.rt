@@ -1,21 +1,21 @@
 //! The record of an element: a line for each event, seen as a list of events.
 
-ghost use Rattle.std.specs.Prelude.{◌≡◌, ◌<◌, ◌++◌, ◌∷◌, [], vec_len, vec_capacity, IsFalse, IsTrue};
+ghost use Rattle.std.specs.Prelude.{◌≡◌};
 ghost use Rattle.id_record.specs.Events.{full_step, is_marked, second_store, tag_of, value_of};
 ghost use Rattle.id_ops.specs.Operators.{side_of};
 ghost use Rattle.id_record.specs.Lines.{AreThere};
 ghost use Rattle.id_record.specs.Records.{dests_at, replies_in};
-ghost use Rattle.id_record.specs.Spots.{cells_at};
 ghost use Rattle.id_valid.specs.Roles.{op_at};
 ghost use Rattle.id_graph.specs.Graph.{IsGraph};
 
 use crate::line::{
-    Celled, Doing, Handled, Handling, Ledger, NO_REPLIES, Reaction, Replies, Shooting, Spot,
-    Visiting, deed_beside, deed_line, instr_in, packed, packed_beside, payload_in, shot, shot_line,
-    spot_of, unpack, visit_beside, visited, whole,
+    Doing, Handled, Handling, Ledger, NO_REPLIES, Reaction, Replies, Shooting, Spot, Visiting,
+    deed_beside, deed_line, instr_in, packed, packed_beside, payload_in, shot, shot_line, unpack,
+    visit_beside, visited, whole,
 };
 use crate::outputs::{Envelope, Outputs, chosen};
 use crate::step::{Fault, Step, Verdict};
+use crate::telling::{add_beside, add_line, add_telling, is_telling};
 use id_graph::{Dest, Graph, Op};
 use id_ops::Fired;
 use id_tag::{Message, Payload, Tag, Value};
@@ -33,12 +33,14 @@ pub struct Record<'a> {
     // Of events that name a cell or a structure.
     cells: Vec<Spot>,
     replies: Vec<Tag>,
+    // The positions of the events that tell.
+    telling: Vec<usize>,
 }
 
 impl<'a> Model for Record<'a> {
-    ghost use Rattle.std.specs.Prelude.{◌-◌, All, min, vec_len, vec_capacity};
-    ghost use Rattle.id_record.specs.Lines.{IsKept, beside};
-    ghost use Rattle.id_record.specs.Records.{RecordView, events_from};
+    ghost use Rattle.std.specs.Prelude.{◌-◌, min, vec_len, vec_capacity};
+    ghost use Rattle.id_record.specs.Lines.{beside};
+    ghost use Rattle.id_record.specs.Records.{AreKept, RecordView, events_from};
     ghost use Rattle.id_record.specs.Spots.{cells_at};
 
     ghost Value = { RecordView };
@@ -50,12 +52,13 @@ impl<'a> Model for Record<'a> {
           (beside r.asides.items (cells_at r.cells.items)) r.lines.items;
       replies = r.replies.items;
       room = r.lines.room;
-      room_aside = min (vec_capacity r.asides - vec_len r.asides) (vec_capacity r.cells - vec_len r.cells);
+      room_aside = min (vec_capacity r.telling - vec_len r.telling)
+          (min (vec_capacity r.asides - vec_len r.asides) (vec_capacity r.cells - vec_len r.cells));
       room_for_replies = vec_capacity r.replies - vec_len r.replies;
     } };
 
-    ghost invariant = { λ r.
-        All (IsKept (beside r.asides.items (cells_at r.cells.items)) r.replies.items) r.lines.items };
+    ghost invariant = { λ r. AreKept r.graph.now r.element r.replies.items
+        (beside r.asides.items (cells_at r.cells.items)) r.lines.items r.telling.items };
 }
 
 /// An event: the element that handled the message, the stamp that it gave it, what it fired and sent, and what
@@ -93,6 +96,7 @@ impl<'a> Record<'a> {
     ghost use Rattle.id_record.specs.Visits.{visiting};
     ghost use Rattle.id_ops.specs.Shots.{IsBrief, IsOwn};
     ghost use Rattle.id_record.specs.Records.{event_of_handled};
+    ghost use Rattle.id_record.specs.Tellings.{telling_from};
 
     /// The empty record of the element of this number, which is alone or one of several: the record of one that is
     /// alone is smaller. Takes no memory.
@@ -108,6 +112,7 @@ impl<'a> Record<'a> {
             asides: Vec::new(alloc),
             cells: Vec::new(alloc),
             replies: Vec::new(alloc),
+            telling: Vec::new(alloc),
         }
     }
 
@@ -126,6 +131,7 @@ impl<'a> Record<'a> {
         self.asides.reserve(1)?;
         self.cells.reserve(1)?;
         self.replies.reserve(replies)?;
+        self.telling.reserve(1)?;
         Ok(())
     }
 
@@ -164,7 +170,8 @@ impl<'a> Record<'a> {
     {
         match packed(&event) {
             Some(line) => {
-                if !self.lines.push(line) {
+                let tells = is_telling(&event.message.payload, &event.reaction.fired);
+                if !add_line(&mut self.lines, &mut self.telling, line, tells) {
                     self.push_whole(event);
                 }
             }
@@ -185,7 +192,14 @@ impl<'a> Record<'a> {
     {
         match packed_beside(&event, self.cells.len()) {
             Some(celled) => {
-                if !add_beside(&mut self.lines, &mut self.cells, celled) {
+                let tells = is_telling(&event.message.payload, &event.reaction.fired);
+                if !add_beside(
+                    &mut self.lines,
+                    &mut self.cells,
+                    &mut self.telling,
+                    celled,
+                    tells,
+                ) {
                     self.push_whole(event);
                 }
             }
@@ -219,6 +233,8 @@ impl<'a> Record<'a> {
             ++ event_of_handled self.old.graph self.old.element self.old.replies (length self.old.events)
             event.now ∷ [] }
     {
+        let tells = is_telling(&event.message.payload, &event.reaction.fired);
+        add_telling(&mut self.telling, self.lines.len(), tells);
         let index = self.asides.len();
         self.asides.push_reserved(*event);
         self.lines.push_aside(index);
@@ -238,7 +254,13 @@ impl<'a> Record<'a> {
             ++ event_of_handled self.old.graph self.old.element self.old.replies (length self.old.events)
             (shooting event.entry) ∷ [] }
     {
-        if !self.lines.push(shot_line(&event)) {
+        let line = shot_line(&event);
+        if !add_line(
+            &mut self.lines,
+            &mut self.telling,
+            line,
+            event.token.instr == 0,
+        ) {
             self.push_shot_aside(event);
         }
     }
@@ -271,7 +293,12 @@ impl<'a> Record<'a> {
     {
         match deed_line(&event) {
             Some(line) => {
-                if !self.lines.push(line) {
+                if !add_line(
+                    &mut self.lines,
+                    &mut self.telling,
+                    line,
+                    event.token.instr == 0,
+                ) {
                     self.push_deed_aside(event);
                 }
             }
@@ -293,7 +320,14 @@ impl<'a> Record<'a> {
     {
         match deed_beside(&event, self.cells.len()) {
             Some(celled) => {
-                if !add_beside(&mut self.lines, &mut self.cells, celled) {
+                let tells = event.token.instr == 0;
+                if !add_beside(
+                    &mut self.lines,
+                    &mut self.cells,
+                    &mut self.telling,
+                    celled,
+                    tells,
+                ) {
                     self.push_deed_aside(event);
                 }
             }
@@ -341,7 +375,13 @@ impl<'a> Record<'a> {
     {
         match visit_beside(&event, self.cells.len()) {
             Some(celled) => {
-                if !add_beside(&mut self.lines, &mut self.cells, celled) {
+                if !add_beside(
+                    &mut self.lines,
+                    &mut self.cells,
+                    &mut self.telling,
+                    celled,
+                    false,
+                ) {
                     self.push_visit_aside(event);
                 }
             }
@@ -432,6 +472,13 @@ impl<'a> Record<'a> {
         self.len()
     }
 
+    /// The positions of the events that tell of contexts, of structures or of the answer, in order.
+    fn telling(&self) -> &[usize]
+        ensures { result.now ≡ telling_from 0 self.now.events }
+    {
+        self.telling.as_slice()
+    }
+
     #[inline(always)]
     fn event(&self, position: usize) -> Event<'_>
         requires { position < length self.now.events }
@@ -475,6 +522,7 @@ impl<'a> Record<'a> {
 impl<'a> Events<'a> {
     ghost use Rattle.std.specs.Prelude.{◌≡◌, ◌<◌, ◌≤◌, length, option_map, slice_get, Some};
     ghost use Rattle.id_record.specs.Events.{AreUnmarked, IsMarkedAt, tag_of};
+    ghost use Rattle.id_record.specs.Tellings.{telling_from};
 
     /// How many events there are. Takes no memory.
     pub fn len(&self) -> usize
@@ -515,6 +563,15 @@ impl<'a> Events<'a> {
         self.record.next_marked(marks, from)
     }
 
+    /// The positions, in order, of the events that entered contexts, made structures or were of tokens for instruction
+    /// 0. Takes no memory.
+    pub fn telling(&self) -> &'a [usize]
+        ensures { result.now ≡ telling_from 0 self.now }
+    {
+        let held = self.record;
+        held.telling()
+    }
+
     /// The event at a position, from 0. Takes no memory.
     #[inline(always)]
     pub fn event(&self, position: usize) -> Event<'a>
@@ -530,29 +587,6 @@ impl<'a> Events<'a> {
     {
         let held = self.record;
         held.event(position)
-    }
-}
-
-/// Adds a line at the end with its cell beside it, and answers whether it did: where both fit. Takes no memory.
-#[inline(always)]
-fn add_beside(lines: &mut Ledger, cells: &mut Vec<Spot>, celled: Celled) -> bool
-    requires room { 0 < lines.old.room }
-    requires room_beside { vec_len cells.old < vec_capacity cells.old }
-    ensures line { IsTrue result → lines.new.items ≡ lines.old.items ++ celled.line ∷ [] }
-    ensures cell { IsTrue result → cells_at cells.new.items ≡ cells_at cells.old.items ++ celled.cell ∷ [] }
-    ensures left { IsFalse result → lines.new ≡ lines.old }
-    ensures left_beside { IsFalse result → cells.new ≡ cells.old }
-{
-    match spot_of(celled.cell) {
-        Some(spot) => {
-            if lines.push(celled.line) {
-                cells.push_reserved(spot);
-                true
-            } else {
-                false
-            }
-        }
-        None => false,
     }
 }
 

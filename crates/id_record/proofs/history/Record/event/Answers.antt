@@ -19,7 +19,7 @@ unpack-handled-requires c =
     let r = c.self.inside in
     let below : c.args.position < length r.lines.items = omega (arith, length-events_from r.graph.now r.element r.replies.items 0 (beside r.asides.items (cells_at r.cells.items)) r.lines.items, ap (λ v. length v.events) c.self.view_is) in
     let l = c.line-line.result in
-    let kept = line_kept (beside r.asides.items (cells_at r.cells.items)) r.replies.items r.lines.items c.args.position l c.self.invariant c.line-line.ensures in
+    let kept = line_kept (beside r.asides.items (cells_at r.cells.items)) r.replies.items r.lines.items c.args.position l c.self.invariant.lines c.line-line.ensures in
     subst (λ a. IsWithin (beside c.as_slice.result.now (cells_at a)) l) (sym c.as_slice-2.ensures.value)
     (subst (λ a. IsWithin (beside a (cells_at r.cells.items)) l) (sym c.as_slice.ensures.value) kept.within)
 
@@ -48,6 +48,6 @@ pub replies_in-requires : goal.replies_in-requires
 replies_in-requires c =
     let r = c.self.inside in
     let below : c.args.position < length r.lines.items = omega (arith, length-events_from r.graph.now r.element r.replies.items 0 (beside r.asides.items (cells_at r.cells.items)) r.lines.items, ap (λ v. length v.events) c.self.view_is) in
-    let kept = line_kept (beside r.asides.items (cells_at r.cells.items)) r.replies.items r.lines.items c.args.position c.line-line.result c.self.invariant c.line-line.ensures in
+    let kept = line_kept (beside r.asides.items (cells_at r.cells.items)) r.replies.items r.lines.items c.args.position c.line-line.result c.self.invariant.lines c.line-line.ensures in
     let handled : unpacked (beside r.asides.items (cells_at r.cells.items)) c.line-line.result ≡ c.unpack-handled.result = ap (λ a. unpacked (beside a (cells_at r.cells.items)) c.line-line.result) (sym c.as_slice.ensures.value) ∙ ap (λ a. unpacked (beside c.as_slice.result.now (cells_at a)) c.line-line.result) (sym c.as_slice-2.ensures.value) ∙ sym c.unpack-handled.ensures in
     rw c.as_slice-3.ensures.value (subst (λ h. AreThere r.replies.items h.replies) handled kept.replies)

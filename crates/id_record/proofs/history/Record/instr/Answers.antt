@@ -20,7 +20,7 @@ instr_in-requires c =
     let d = beside r.asides.items (cells_at r.cells.items) in
     let m = c.unstamped-line.result in
     let stamps = c.unstamped-line.ensures in
-    let kept = line_kept d r.replies.items r.lines.items c.args.position (with_stamps (bare_of m) stamps.0) c.self.invariant stamps.1 in
+    let kept = line_kept d r.replies.items r.lines.items c.args.position (with_stamps (bare_of m) stamps.0) c.self.invariant.lines stamps.1 in
     subst (λ a. IsWithin (beside c.as_slice.result.now (cells_at a)) m) (sym c.as_slice-2.ensures.value)
     (subst (λ a. IsWithin (beside a (cells_at r.cells.items)) m) (sym c.as_slice.ensures.value) (within-unstamped d (bare_of m) stamps.0 (stamps_of m) kept.within))
 
@@ -31,7 +31,7 @@ returns c =
     let m = c.unstamped-line.result in
     let stamps = c.unstamped-line.ensures in
     let l = with_stamps (bare_of m) stamps.0 in
-    let kept = line_kept d r.replies.items r.lines.items c.args.position l c.self.invariant stamps.1 in
+    let kept = line_kept d r.replies.items r.lines.items c.args.position l c.self.invariant.lines stamps.1 in
     let says : (unpacked d l).message.payload ≡ (unpacked d m).message.payload = payload-unstamped d (bare_of m) stamps.0 (stamps_of m) kept.within in
     let same : unpacked d m ≡ unpacked (beside c.as_slice.result.now (cells_at c.as_slice-2.result.now)) m = ap (λ a. unpacked (beside a (cells_at r.cells.items)) m) (sym c.as_slice.ensures.value) ∙ ap (λ a. unpacked (beside c.as_slice.result.now (cells_at a)) m) (sym c.as_slice-2.ensures.value) in
     rw (c.instr_in.ensures, ← ap (λ v. v.events) c.self.view_is)

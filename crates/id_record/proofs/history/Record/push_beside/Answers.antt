@@ -1,13 +1,14 @@
 -- The record goes on by one event, in a line with a cell beside it.
-use Rattle.std.proofs.Common.{◌≡◌, List, length, ap, subst, sym, arith, refl}
+use Rattle.std.proofs.Common.{◌≡◌, ◌++◌, ◌∷◌, [], List, length, ap, subst, sym, arith, refl}
 use Rattle.std.proofs.lemmas.Grind.{common_steps}
 use Rattle.id_tag.specs.declared.Tag.{Tag}
 use Rattle.id_record.specs.declared.line.Handled.{Handled}
-use Rattle.id_record.specs.Lines.{AreThere, IsPackedBeside, handled}
+use Rattle.id_record.specs.Lines.{AreThere, IsPackedBeside, beside, handled}
 use Rattle.id_record.specs.Records.{RecordView}
 use Rattle.id_record.specs.Spots.{cells_at}
 use Rattle.id_record.proofs.SpotsLemmas.{length-cells_at}
 use Rattle.id_record.proofs.LinesLemmas.{pushed_cell, kept_cell}
+use Rattle.id_record.proofs.TellingsLemmas.{AreKept-push}
 use Rattle.id_record.proofs.history.Record.push_beside.Goals as goal
 
 there : (ts : List Tag) (v : RecordView) (e : Handled) → ts ≡ v.replies → AreThere v.replies e.replies → AreThere ts e.replies
@@ -16,15 +17,22 @@ there ts v e is h = subst (λ us. AreThere us e.replies) (sym is) h
 pub invariant_of-self-else-not-add_beside : goal.invariant_of-self-else-not-add_beside
 invariant_of-self-else-not-add_beside c =
     let r = c.self.inside in
-    let at : c.len.result ≡ length (cells_at r.cells.items) = grind (arith, common_steps, length-cells_at r.cells.items) in
-    let packed : IsPackedBeside (handled c.args.event) (length (cells_at r.cells.items)) c.in-Some.celled.line c.in-Some.celled.cell = subst (λ i. IsPackedBeside (handled c.args.event) i c.in-Some.celled.line c.in-Some.celled.cell) at c.in-Some.ensures in
+    let cs = cells_at r.cells.items in
+    let h = handled c.args.event in
+    let at : c.len.result ≡ length cs = grind (arith, common_steps, length-cells_at r.cells.items) in
+    let packed : IsPackedBeside h (length cs) c.in-Some.celled.line c.in-Some.celled.cell = subst (λ i. IsPackedBeside h i c.in-Some.celled.line c.in-Some.celled.cell) at c.in-Some.ensures in
     rw (c.if-not-add_beside.ensures.line refl, c.if-not-add_beside.ensures.cell refl)
-    (kept_cell r.replies.items r.asides.items (cells_at r.cells.items) r.lines.items (handled c.args.event) c.in-Some.celled.line c.in-Some.celled.cell packed (there r.replies.items c.args.self.now (handled c.args.event) (ap (λ v. v.replies) c.self.view_is) c.requires.replies) c.self.invariant)
+    (AreKept-push r.graph.now r.element r.replies.items (beside r.asides.items cs) (beside r.asides.items (cs ++ c.in-Some.celled.cell ∷ [])) r.lines.items _ r.telling.items _ h _ _ c.self.invariant
+    (kept_cell r.replies.items r.asides.items cs r.lines.items h c.in-Some.celled.line c.in-Some.celled.cell packed (there r.replies.items c.args.self.now h (ap (λ v. v.replies) c.self.view_is) c.requires.replies) c.self.invariant.lines)
+    (pushed_cell r.graph.now r.element r.replies.items r.asides.items cs r.lines.items h c.in-Some.celled.line c.in-Some.celled.cell packed c.self.invariant.lines)
+    c.is_telling-tells.ensures refl (c.if-not-add_beside.ensures.telling refl))
 
 pub returns-else-not-add_beside-clause-events : goal.returns-else-not-add_beside-clause-events
 returns-else-not-add_beside-clause-events c =
     let r = c.self.inside in
-    let at : c.len.result ≡ length (cells_at r.cells.items) = grind (arith, common_steps, length-cells_at r.cells.items) in
-    let packed : IsPackedBeside (handled c.args.event) (length (cells_at r.cells.items)) c.in-Some.celled.line c.in-Some.celled.cell = subst (λ i. IsPackedBeside (handled c.args.event) i c.in-Some.celled.line c.in-Some.celled.cell) at c.in-Some.ensures in
+    let cs = cells_at r.cells.items in
+    let h = handled c.args.event in
+    let at : c.len.result ≡ length cs = grind (arith, common_steps, length-cells_at r.cells.items) in
+    let packed : IsPackedBeside h (length cs) c.in-Some.celled.line c.in-Some.celled.cell = subst (λ i. IsPackedBeside h i c.in-Some.celled.line c.in-Some.celled.cell) at c.in-Some.ensures in
     rw (← ap (λ v. v.events) c.self.view_is, ← ap (λ v. v.graph) c.self.view_is, ← ap (λ v. v.element) c.self.view_is, ← ap (λ v. v.replies) c.self.view_is, c.if-not-add_beside.ensures.line refl, c.if-not-add_beside.ensures.cell refl)
-    (pushed_cell r.graph.now r.element r.replies.items r.asides.items (cells_at r.cells.items) r.lines.items (handled c.args.event) c.in-Some.celled.line c.in-Some.celled.cell packed c.self.invariant)
+    (pushed_cell r.graph.now r.element r.replies.items r.asides.items cs r.lines.items h c.in-Some.celled.line c.in-Some.celled.cell packed c.self.invariant.lines)

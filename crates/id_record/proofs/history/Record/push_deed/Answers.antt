@@ -4,16 +4,22 @@ use Rattle.id_record.specs.Lines.{beside}
 use Rattle.id_record.specs.Shootings.{doing}
 use Rattle.id_record.specs.Spots.{cells_at}
 use Rattle.id_record.proofs.LinesLemmas.{pushed_line, kept_line}
+use Rattle.id_record.proofs.TellingsLemmas.{AreKept-push, tells-doing}
 use Rattle.id_record.proofs.history.Record.push_deed.Goals as goal
 
-pub invariant_of-self-else-not-push : goal.invariant_of-self-else-not-push
-invariant_of-self-else-not-push c =
+pub invariant_of-self-else-not-add_line : goal.invariant_of-self-else-not-add_line
+invariant_of-self-else-not-add_line c =
     let r = c.self.inside in
-    rw (c.if-not-push.ensures.added refl)
-    (kept_line (beside r.asides.items (cells_at r.cells.items)) r.replies.items r.lines.items (doing c.args.event) c.in-Some.line c.in-Some.ensures (omega arith) c.self.invariant)
+    let b = beside r.asides.items (cells_at r.cells.items) in
+    let h = doing c.args.event in
+    rw (c.if-not-add_line.ensures.line refl)
+    (AreKept-push r.graph.now r.element r.replies.items b b r.lines.items _ r.telling.items _ h _ _ c.self.invariant
+    (kept_line b r.replies.items r.lines.items h c.in-Some.line c.in-Some.ensures (omega arith) c.self.invariant.lines)
+    (pushed_line r.graph.now r.element r.replies.items b r.lines.items h c.in-Some.line c.in-Some.ensures c.self.invariant.lines)
+    (tells-doing c.args.event) refl (c.if-not-add_line.ensures.telling refl))
 
-pub returns-else-not-push-clause-events : goal.returns-else-not-push-clause-events
-returns-else-not-push-clause-events c =
+pub returns-else-not-add_line-clause-events : goal.returns-else-not-add_line-clause-events
+returns-else-not-add_line-clause-events c =
     let r = c.self.inside in
-    rw (← ap (λ v. v.events) c.self.view_is, ← ap (λ v. v.graph) c.self.view_is, ← ap (λ v. v.element) c.self.view_is, c.if-not-push.ensures.added refl)
-    (pushed_line r.graph.now r.element r.replies.items (beside r.asides.items (cells_at r.cells.items)) r.lines.items (doing c.args.event) c.in-Some.line c.in-Some.ensures c.self.invariant)
+    rw (← ap (λ v. v.events) c.self.view_is, ← ap (λ v. v.graph) c.self.view_is, ← ap (λ v. v.element) c.self.view_is, c.if-not-add_line.ensures.line refl)
+    (pushed_line r.graph.now r.element r.replies.items (beside r.asides.items (cells_at r.cells.items)) r.lines.items (doing c.args.event) c.in-Some.line c.in-Some.ensures c.self.invariant.lines)
