@@ -5,3 +5,4 @@ pub mod SentLemmas
 pub mod OutcomeLemmas
 pub mod ReplaysLemmas
 pub mod ShortLemmas
+pub mod TellingsLemmas

@@ -207,6 +207,13 @@ impl<'a> Element<'a> {
         self.desk.cells.deferred(alloc)
     }
 
+    /// The graph that it runs. Takes no memory.
+    pub fn graph(&self) -> &'a Valid
+        ensures { result.now ≡ self.now.graph }
+    {
+        self.desk.log.graph()
+    }
+
     /// The record: the events, in order. Takes no memory.
     pub fn events(&self) -> Events<'_>
         ensures value { result ≡ self.now.state.events }

@@ -6,3 +6,4 @@ pub mod MergedLemmas
 pub mod RecordsLemmas
 pub mod FirstsLemmas
 pub mod MarkedLemmas
+pub mod TellingsLemmas

@@ -33,8 +33,11 @@ split-next xs i x at =
     ap (λ ys. take i xs ++ ys) (sym next) ∙ take-append-drop i xs
 
 -- a walk goes on by what one element gives
+pub filter_map-more : {A B : Type 0} (h : A → Option B) (xs ys : List A) (x : A) → ys ≡ xs ++ x ∷ [] → filter_map h ys ≡ filter_map h xs ++ cons_option (h x) []
+filter_map-more h xs ys x is = ap (filter_map h) is ∙ filter_map-append h xs (x ∷ [])
+
 pub filter_map-next : {A B : Type 0} (h : A → Option B) (xs : List A) (i : ℕ) (x : A) → slice_get xs i ≡ Some x → filter_map h (take (i + 1) xs) ≡ filter_map h (take i xs) ++ cons_option (h x) []
-filter_map-next h xs i x at = ap (filter_map h) (take-next xs i x at) ∙ filter_map-append h (take i xs) (x ∷ [])
+filter_map-next h xs i x at = filter_map-more h (take i xs) (take (i + 1) xs) x (take-next xs i x at)
 
 -- the same, where what the element gives was found first
 pub filter_map-at : {A B : Type 0} (h : A → Option B) (xs : List A) (i : ℕ) (d : A) (o : Option B) → i < length xs → o ≡ h (get_or xs i d) → filter_map h (take (i + 1) xs) ≡ filter_map h (take i xs) ++ cons_option o []
@@ -174,18 +177,6 @@ marks-next g is k i m at mark =
 pub element-from_part : {A B : Type 0} (f : A → B) (o : Option A) (y : B) → option_map f o ≡ Some y → (x : A) × (o ≡ Some x) × (f x ≡ y)
 element-from_part f None y is = cc
 element-from_part f (Some x) y is = let same : f x ≡ y = cc in (x, refl, same)
-
--- what is found in a part of an element is found in the element
-pub filter_map-found_part : {A B C : Type 0} (f : A → C) (h : C → Option B) (xs : List A) (i : ℕ) (y : C) (o : Option B) → option_map f (slice_get xs i) ≡ Some y → filter_map (λ x. h (f x)) (take i xs) ≡ [] → h y ≡ o → is_some o ≡ true → o ≡ slice_get (filter_map (λ x. h (f x)) xs) 0
-filter_map-found_part f h xs i y o at before gives found =
-    let there = element-from_part f (slice_get xs i) y at in
-    filter_map-found (λ x. h (f x)) xs i there.0 o there.1 before (ap h there.2 ∙ gives) found
-
--- nothing yet, and nothing in a part of one more
-pub filter_map-nothing_part : {A B C : Type 0} (f : A → C) (h : C → Option B) (xs : List A) (i : ℕ) (y : C) (o : Option B) → option_map f (slice_get xs i) ≡ Some y → filter_map (λ x. h (f x)) (take i xs) ≡ [] → h y ≡ o → is_some o ≡ false → filter_map (λ x. h (f x)) (take (i + 1) xs) ≡ []
-filter_map-nothing_part f h xs i y o at before gives missed =
-    let there = element-from_part f (slice_get xs i) y at in
-    filter_map-nothing (λ x. h (f x)) xs i there.0 o there.1 before (ap h there.2 ∙ gives) missed
 
 -- a walk goes on by what a part of one element gives
 pub filter_map-next_part : {A B C : Type 0} (f : A → C) (h : C → Option B) (xs : List A) (i : ℕ) (y : C) → option_map f (slice_get xs i) ≡ Some y → filter_map (λ x. h (f x)) (take (i + 1) xs) ≡ filter_map (λ x. h (f x)) (take i xs) ++ cons_option (h y) []

@@ -1,7 +1,7 @@
 -- Lemmas on specs/Paths.antt, in the order of its definitions.
 use Rattle.std.proofs.Common.{◌≡◌, ◌≢◌, ◌⊎◌, inl, inr, ℕ, zero, suc, ◌+◌, ◌-◌, ◌<◌, ◌≤◌, Option, Some, None, List, [], ◌∷◌, ◌++◌, reverse, take, map, length, length-append, slice_get, refl, sym, ap, ◌∙◌, arith}
 use Rattle.std.proofs.lemmas.List.{append-nil, append_assoc, reverse-append}
-use Rattle.id_observe.proofs.ObservedLemmas.{take-next, events-next}
+use Rattle.id_observe.proofs.ObservedLemmas.{events-next}
 use Rattle.std.specs.HashMap.{get}
 use Rattle.std.specs.Option.{option_map_or, option_or}
 use Rattle.id_graph.specs.Graph.{Parts}
@@ -25,13 +25,18 @@ pub enter_in-none : (g : Parts) (c : Context) → enter_in g [] c ≡ None
 unfolding enter_in
 enter_in-none g c = refl
 
+-- the first event counts last
+pub enter_in-cons : (g : Parts) (e : EventView) (es : List EventView) (c : Context) → enter_in g (e ∷ es) c ≡ option_or (enter_in g es c) (enter_of g e c)
+unfolding enter_in
+enter_in-cons g e es c = refl
+
 -- one of three
 or-assoc : {X : Type 0} (x y z : Option X) → option_or (option_or x y) z ≡ option_or x (option_or y z)
 or-assoc None y z = refl
 or-assoc (Some x) y z = refl
 
 -- nothing or the other
-or-none : {X : Type 0} (x : Option X) → option_or x None ≡ x
+pub or-none : {X : Type 0} (x : Option X) → option_or x None ≡ x
 or-none None = refl
 or-none (Some x) = refl
 
@@ -47,18 +52,23 @@ pub enter_in-one : (g : Parts) (e : EventView) (c : Context) → enter_in g (e �
 unfolding enter_in
 enter_in-one g e c = refl
 
--- one more event of a list, over what was there before
-pub enter_in-next : (g : Parts) (es : List EventView) (i : ℕ) (e : EventView) (c : Context) (old : Option Tag) → slice_get es i ≡ Some e
-    → option_or (enter_in g (take (i + 1) es) c) old ≡ option_or (enter_of g e c) (option_or (enter_in g (take i es) c) old)
-enter_in-next g es i e c old at =
-    let more : enter_in g (take (i + 1) es) c ≡ option_or (enter_of g e c) (enter_in g (take i es) c) =
-    ap (λ xs. enter_in g xs c) (take-next es i e at) ∙ enter_in-append g (take i es) (e ∷ []) c ∙ ap (λ o. option_or o (enter_in g (take i es) c)) (enter_in-one g e c) in
-    ap (λ o. option_or o old) more ∙ or-assoc (enter_of g e c) (enter_in g (take i es) c) old
+-- one more event, over what was there before
+pub enter_in-more : (g : Parts) (es fs : List EventView) (e : EventView) (c : Context) (old : Option Tag) → fs ≡ es ++ e ∷ []
+    → option_or (enter_in g fs c) old ≡ option_or (enter_of g e c) (option_or (enter_in g es c) old)
+enter_in-more g es fs e c old is =
+    let more : enter_in g fs c ≡ option_or (enter_of g e c) (enter_in g es c) =
+    ap (λ xs. enter_in g xs c) is ∙ enter_in-append g es (e ∷ []) c ∙ ap (λ o. option_or o (enter_in g es c)) (enter_in-one g e c) in
+    ap (λ o. option_or o old) more ∙ or-assoc (enter_of g e c) (enter_in g es c) old
 
 -- no events made a structure
 pub maker_in-none : (g : Parts) (s : Structure) → maker_in g [] s ≡ None
 unfolding maker_in
 maker_in-none g s = refl
+
+-- the first event counts last
+pub maker_in-cons : (g : Parts) (e : EventView) (es : List EventView) (s : Structure) → maker_in g (e ∷ es) s ≡ option_or (maker_in g es s) (maker_of g e s)
+unfolding maker_in
+maker_in-cons g e es s = refl
 
 -- the later of two lists of events counts first
 pub maker_in-append : (g : Parts) (es fs : List EventView) (s : Structure) → maker_in g (es ++ fs) s ≡ option_or (maker_in g fs s) (maker_in g es s)
@@ -72,13 +82,13 @@ pub maker_in-one : (g : Parts) (e : EventView) (s : Structure) → maker_in g (e
 unfolding maker_in
 maker_in-one g e s = refl
 
--- one more event of a list, over what was there before
-pub maker_in-next : (g : Parts) (es : List EventView) (i : ℕ) (e : EventView) (s : Structure) (old : Option Tag) → slice_get es i ≡ Some e
-    → option_or (maker_in g (take (i + 1) es) s) old ≡ option_or (maker_of g e s) (option_or (maker_in g (take i es) s) old)
-maker_in-next g es i e s old at =
-    let more : maker_in g (take (i + 1) es) s ≡ option_or (maker_of g e s) (maker_in g (take i es) s) =
-    ap (λ xs. maker_in g xs s) (take-next es i e at) ∙ maker_in-append g (take i es) (e ∷ []) s ∙ ap (λ o. option_or o (maker_in g (take i es) s)) (maker_in-one g e s) in
-    ap (λ o. option_or o old) more ∙ or-assoc (maker_of g e s) (maker_in g (take i es) s) old
+-- one more event, over what was there before
+pub maker_in-more : (g : Parts) (es fs : List EventView) (e : EventView) (s : Structure) (old : Option Tag) → fs ≡ es ++ e ∷ []
+    → option_or (maker_in g fs s) old ≡ option_or (maker_of g e s) (option_or (maker_in g es s) old)
+maker_in-more g es fs e s old is =
+    let more : maker_in g fs s ≡ option_or (maker_of g e s) (maker_in g es s) =
+    ap (λ xs. maker_in g xs s) is ∙ maker_in-append g es (e ∷ []) s ∙ ap (λ o. option_or o (maker_in g es s)) (maker_in-one g e s) in
+    ap (λ o. option_or o old) more ∙ or-assoc (maker_of g e s) (maker_in g es s) old
 
 -- a tag whose context nothing entered has no steps
 pub steps_to-main : (g : Parts) (enter : Context → Option Tag) (n : ℕ) (t : Tag) → enter t.context ≡ None → steps_to g enter n t ≡ []

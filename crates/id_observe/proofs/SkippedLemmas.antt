@@ -23,7 +23,7 @@ use Rattle.id_bank.specs.Cells.{Cells, CellState, cells_of, deferred_of, filled_
 use Rattle.id_record.specs.Events.{EventView, tag_of}
 use Rattle.id_element.specs.Replays.{ElementView}
 use Rattle.id_meaning.specs.declared.Path.{Path}
-use Rattle.id_observe.specs.Paths.{enter_of, entered, entered_by, if_made, if_same, is_alloc, is_enter, made_by, maker_of}
+use Rattle.id_observe.specs.Paths.{enter_of, entered, entered_by, if_made, if_same, is_alloc, is_enter, made_by, maker_of, making_of}
 use Rattle.id_observe.specs.Observed.{HaveNoCells, MakesNone, ask_of, brought, cells_in, events_of, main_tag, path_in, put_of, shape_of, structure_in, structures_in, waiting_in}
 
 -- ---- one event
@@ -109,6 +109,9 @@ enter_of-none g e o c is not =
 pub maker_of-none : (g : Parts) (e : EventView) (o : Option Op) (s : Structure) → op_at g (tag_of e.message.payload).instr ≡ o → is_alloc o ≡ false → maker_of g e s ≡ None
 maker_of-none g e o s is not =
     ap (if_made (tag_of e.message.payload) s) (made_by-none (op_at g (tag_of e.message.payload).instr) e.fired (ap is_alloc is ∙ not))
+
+pub making_of-none : (g : Parts) (e : EventView) → is_alloc (op_at g (tag_of e.message.payload).instr) ≡ false → making_of g e ≡ None
+making_of-none g e not = ap (option_map _) (made_by-none (op_at g (tag_of e.message.payload).instr) e.fired not)
 
 pub shape_of-none : (g : Parts) (path : Tag → Path) (e : EventView) (o : Option Op) → op_at g (tag_of e.message.payload).instr ≡ o → is_alloc o ≡ false → shape_of g path e ≡ None
 shape_of-none g path e o is not =

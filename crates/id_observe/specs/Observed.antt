@@ -229,6 +229,10 @@ asks_in g elements =
 
 -- For use inside.
 
+-- the value that the event at a position brought to the answer, if it did
+abbrev pub brought_at : List EventView → ℕ → Option Value
+brought_at es k = option_and_then (λ e. brought e.message.payload) (slice_get es k)
+
 -- the name of a structure, where these tables tell under which tag each was made
 abbrev pub structure_by : Paths → Structure → Site
 structure_by p s = name_by p.graph.now (path_by p) (get same_structure p.makers s)

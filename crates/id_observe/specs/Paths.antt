@@ -1,5 +1,5 @@
 -- Paths of tags, and which tag made a structure (docs/MACHINE.md, "Paths of tags").
-use Rattle.std.specs.Prelude.{ℕ, zero, suc, ◌-◌, ◌==◌, ◌||◌, Bool, true, false, List, [], ◌∷◌, ◌++◌, drop, length, map}
+use Rattle.std.specs.Prelude.{◌≡◌, ℕ, zero, suc, ◌-◌, ◌==◌, Bool, true, false, List, [], ◌∷◌, ◌++◌, length}
 use Rattle.std.specs.Prelude.{Option, Some, None, slice_get, option_map, if◌then◌else◌}
 use Rattle.std.specs.List.{filter_map}
 use Rattle.std.specs.HashMap.{get}
@@ -122,17 +122,19 @@ abbrev pub is_enter : Option Op → Bool
 is_enter (Some (Enter b r)) = true
 is_enter _ = false
 
--- whether the events of an instruction tell of paths or structures
-abbrev pub is_telling : Op → Bool
-is_telling o = is_enter (Some o) || is_alloc (Some o)
+-- whether the other instruction is an `enter` or an `alloc` where this one is
+abbrev pub is_alike : Option Op → Option Op → Bool
+is_alike (Some (Enter b r)) o = is_enter o
+is_alike (Some Alloc) o = is_alloc o
+is_alike _ o = true
 
--- of each instruction, by number, whether its events do
-abbrev pub telling_marks : Parts → List Bool
-telling_marks g = map (λ i. is_telling i.op) g.instrs
+-- each instruction that enters contexts or makes structures does so in the other graph too
+abbrev pub DoAlike : Parts → Parts → Type 0
+DoAlike g h = (n : ℕ) → is_alike (op_at g n) (op_at h n) ≡ true
 
--- the same with a mark of instruction 0, whose events bring the answer
-abbrev pub seeking_marks : Parts → List Bool
-seeking_marks g = true ∷ drop 1 (telling_marks g)
+-- the events at these positions
+abbrev pub events_at : List EventView → List ℕ → List EventView
+events_at es ks = filter_map (slice_get es) ks
 
 -- the path of a tag, where these tables tell under which tag each context was entered, and how many steps it has at
 -- most

@@ -1,7 +1,8 @@
 //! What a run shows: the answer, what binders have, structures and their cells, fetches that wait, and the faults
 //! (docs/MACHINE.md, "Observed").
 
-ghost use Rattle.std.specs.Prelude.{◌≡◌, ◌==◌, ◌&&◌, ◌++◌, [], ℕ, false, count_by, map, nat_eq, slice_get, unwrap_or};
+ghost use Rattle.std.specs.Prelude.{◌≡◌, ◌==◌, ◌&&◌, ◌<◌, ◌++◌, [], ℕ, false, count_by, length, map, nat_eq};
+ghost use Rattle.std.specs.Prelude.{slice_get, unwrap_or};
 ghost use Rattle.std.specs.Prelude.{IfOk, OnOk, None, Some, if◌then◌else◌, option_and_then, option_map};
 ghost use Rattle.std.specs.HashMap.{get};
 ghost use Rattle.std.specs.List.{cons_option, filter_map, flat_map};
@@ -9,7 +10,8 @@ ghost use Rattle.id_bank.specs.Cells.{cells_of, deferred_of};
 ghost use Rattle.id_record.specs.Events.{EventView};
 ghost use Rattle.id_valid.specs.Roles.{op_at};
 ghost use Rattle.id_valid.specs.Validator.{is_value};
-ghost use Rattle.id_observe.specs.Observed.{answer_in, answers, ask_of, brought, cells_in, claims, events_of, fault_of};
+ghost use Rattle.id_observe.specs.Observed.{answer_in, answers, ask_of, brought, cells_in, claims, events_of};
+ghost use Rattle.id_observe.specs.Observed.{brought_at, fault_of};
 ghost use Rattle.id_observe.specs.Observed.{faults_in, faults_of, first_value, is_label, is_next, is_value_merge};
 ghost use Rattle.id_observe.specs.Observed.{label_marks, main_tag, name_at, name_in, names_in, names_of, put_of};
 ghost use Rattle.id_observe.specs.Observed.{second_store, shape_at, site_cmp, source_value, structure_by};
@@ -298,26 +300,31 @@ fn first_value(elements: &[Element<'_>]) -> Option<Value>
     None
 }
 
-/// The first value that one of these events brought to the answer. What comes to another instruction is not looked at.
+/// The first value that one of these events brought to the answer. Only events that tell are looked at.
 fn first_answer(events: &Events<'_>) -> Option<Value>
     ensures { result ≡ slice_get (answers events.now) 0 }
 {
-    let mut from = 0;
-    loop {
-        let position = events.next_marked(&FIRST, from);
-        if position >= events.len() {
-            return None;
-        }
-        let value = brought(&events.payload(position));
+    for position in events.telling() {
+        let value = brought_at(events, *position);
         if value.is_some() {
             return value;
         }
-        from = position + 1;
     }
+    None
 }
 
-/// The mark of instruction 0.
-const FIRST: [bool; 1] = [true];
+/// The value that the event at a position brought to the answer, if it did. Of another than instruction 0 no more is
+/// looked at.
+fn brought_at(events: &Events<'_>, position: usize) -> Option<Value>
+    requires { position < length events.now }
+    ensures { result ≡ brought_at events.now position }
+{
+    if events.instr(position) == 0 {
+        brought(&events.payload(position))
+    } else {
+        None
+    }
+}
 
 /// The value that a token brings to instruction 0 under main's tag.
 pub(crate) fn brought(payload: &Payload) -> Option<Value>

@@ -1,6 +1,7 @@
 //! The path of each tag, and the name of each structure (docs/MACHINE.md, "Paths of tags").
 
-ghost use Rattle.std.specs.Prelude.{◌≡◌, ◌<◌, ◌++◌, [], length, map, option_map, slice_get, IfOk, OnOk, Some};
+ghost use Rattle.std.specs.Prelude.{◌≡◌, ◌<◌, ◌++◌, [], length, map, option_map, slice_get, Some};
+ghost use Rattle.std.specs.Prelude.{All, IfOk, IsTrue, OnOk};
 ghost use Rattle.std.specs.List.{cons_option};
 ghost use Rattle.std.specs.Option.{option_or};
 ghost use Rattle.std.specs.HashMap.{get};
@@ -10,8 +11,9 @@ ghost use Rattle.id_valid.specs.Roles.{op_at};
 ghost use Rattle.id_observe.specs.Observed.{answers, brought, events_of};
 ghost use Rattle.id_observe.specs.Paths.{place_of};
 ghost use Rattle.id_observe.specs.Paths.{enter_in, entered, entered_by, enters_loop, if_made, if_same, last_context};
-ghost use Rattle.id_observe.specs.Paths.{enter_of, is_alloc, is_enter, is_telling, made_by, maker_in, maker_of};
-ghost use Rattle.id_observe.specs.Paths.{making_of, makings_of, seeking_marks, step_of, steps_to, telling_marks};
+ghost use Rattle.id_observe.specs.Paths.{DoAlike, events_at, is_alike};
+ghost use Rattle.id_observe.specs.Paths.{enter_of, is_alloc, is_enter, made_by, maker_in, maker_of};
+ghost use Rattle.id_observe.specs.Paths.{making_of, makings_of, step_of, steps_to};
 
 use crate::observe::{brought, main_tag, place_of};
 use id_element::{Element, op_at};
@@ -31,49 +33,86 @@ pub(crate) struct Making {
     pub(crate) tag: Tag,
 }
 
-/// For each instruction, by number, whether its events tell of paths or structures.
-fn telling_marks(alloc: Global, graph: &Graph) -> Result<Vec<bool>, AllocError>
-    ensures { IfOk result (λ v. v.items ≡ telling_marks graph.now) }
-{
-    let mut marks = Vec::with_capacity(alloc, graph.instrs().len())?;
-    for instr in graph.instrs() {
-        marks.push(is_telling(instr.op))?;
-    }
-    Ok(marks)
-}
-
-/// The same, with a mark of instruction 0, whose events bring the answer.
-fn seeking_marks(alloc: Global, graph: &Graph) -> Result<Vec<bool>, AllocError>
-    ensures { IfOk result (λ v. v.items ≡ seeking_marks graph.now) }
-{
-    let mut marks = telling_marks(alloc, graph)?;
-    if marks.is_empty() {
-        marks.push(true)?;
-    } else {
-        marks[0] = true;
-    }
-    Ok(marks)
-}
-
-/// Whether the events of an instruction tell of paths or structures.
-fn is_telling(op: Op) -> bool
-    ensures { result ≡ is_telling op }
-{
-    is_enter(Some(op)) || is_alloc(Some(op))
-}
-
-/// Adds the tags under which these events entered contexts and made structures, those structures, and the values that
-/// they brought to the answer. Where these are the marks of the graph, events of other instructions are not looked at.
+/// Adds the tags under which the events of an element entered contexts and made structures, those structures, and the
+/// values that they brought to the answer. Where the element's graph does so by the same instructions, which is this
+/// graph mostly, only the events that tell are looked at.
 fn add_record(
     graph: &Graph,
-    marks: &[bool],
+    element: &Element<'_>,
+    enters: &mut HashMap<Context, Tag, NearHasher>,
+    makers: &mut HashMap<Structure, Tag, NearHasher>,
+    makings: &mut Vec<Making>,
+    values: &mut Vec<Value>,
+) -> Result<(), AllocError>
+    ensures enters { OnOk result
+        ((c : Context)
+        → get same_context enters.new c
+        ≡ option_or (enter_in graph.now element.now.state.events c) (get same_context enters.old c)) }
+    ensures makers { OnOk result
+        ((s : Structure)
+        → get same_structure makers.new s
+        ≡ option_or (maker_in graph.now element.now.state.events s) (get same_structure makers.old s)) }
+    ensures makings { OnOk result
+        (makings.new.items ≡ makings.old.items ++ makings_of graph.now element.now.state.events) }
+    ensures values { OnOk result (values.new.items ≡ values.old.items ++ answers element.now.state.events) }
+{
+    let events = element.events();
+    if does_alike(graph, element.graph().graph()) {
+        add_events(
+            graph,
+            &events,
+            events.telling(),
+            enters,
+            makers,
+            makings,
+            values,
+        )?;
+        Ok(())
+    } else {
+        add_each(graph, &events, enters, makers, makings, values)?;
+        Ok(())
+    }
+}
+
+/// Whether each instruction that enters contexts or makes structures does so in the other graph too.
+fn does_alike(graph: &Graph, other: &Graph) -> bool
+    ensures { IsTrue result → DoAlike graph.now other.now }
+{
+    for number in 0..graph.instrs().len() {
+        if !is_alike(op_in(graph, number), op_in(other, number)) {
+            return false;
+        }
+    }
+    true
+}
+
+/// What the instruction of this number does, if there is one.
+fn op_in(graph: &Graph, number: usize) -> Option<Op>
+    ensures { result ≡ op_at graph.now number }
+{
+    graph.instrs().get(number).map(|instr| instr.op)
+}
+
+/// Whether the other instruction is one of this kind, where this enters contexts or makes structures.
+fn is_alike(op: Option<Op>, other: Option<Op>) -> bool
+    ensures { result ≡ is_alike op other }
+{
+    match op {
+        Some(Op::Enter { .. }) => is_enter(other),
+        Some(Op::Alloc) => is_alloc(other),
+        _ => true,
+    }
+}
+
+/// Adds what these events tell, of which each is looked at.
+fn add_each(
+    graph: &Graph,
     events: &Events<'_>,
     enters: &mut HashMap<Context, Tag, NearHasher>,
     makers: &mut HashMap<Structure, Tag, NearHasher>,
     makings: &mut Vec<Making>,
     values: &mut Vec<Value>,
 ) -> Result<(), AllocError>
-    requires { marks.now ≡ seeking_marks graph.now }
     ensures enters { OnOk result
         ((c : Context)
         → get same_context enters.new c ≡ option_or (enter_in graph.now events.now c) (get same_context enters.old c)) }
@@ -84,19 +123,43 @@ fn add_record(
     ensures makings { OnOk result (makings.new.items ≡ makings.old.items ++ makings_of graph.now events.now) }
     ensures values { OnOk result (values.new.items ≡ values.old.items ++ answers events.now) }
 {
-    let mut from = 0;
-    loop {
-        let position = events.next_marked(marks, from);
-        if position >= events.len() {
-            return Ok(());
-        }
-        let number = events.instr(position);
-        let op = op_at(graph, number);
-        add_enter_at(graph, op, events, position, enters)?;
-        add_maker_at(graph, op, events, position, makers, makings)?;
-        add_value_at(number, events, position, values)?;
-        from = position + 1;
+    for position in 0..events.len() {
+        add_events(graph, events, &[position], enters, makers, makings, values)?;
     }
+    Ok(())
+}
+
+/// Adds what the events at these positions tell.
+fn add_events(
+    graph: &Graph,
+    events: &Events<'_>,
+    positions: &[usize],
+    enters: &mut HashMap<Context, Tag, NearHasher>,
+    makers: &mut HashMap<Structure, Tag, NearHasher>,
+    makings: &mut Vec<Making>,
+    values: &mut Vec<Value>,
+) -> Result<(), AllocError>
+    requires { All (λ k. k < length events.now) positions.now }
+    ensures enters { OnOk result
+        ((c : Context)
+        → get same_context enters.new c
+        ≡ option_or (enter_in graph.now (events_at events.now positions.now) c) (get same_context enters.old c)) }
+    ensures makers { OnOk result
+        ((s : Structure)
+        → get same_structure makers.new s
+        ≡ option_or (maker_in graph.now (events_at events.now positions.now) s) (get same_structure makers.old s)) }
+    ensures makings { OnOk result
+        (makings.new.items ≡ makings.old.items ++ makings_of graph.now (events_at events.now positions.now)) }
+    ensures values { OnOk result (values.new.items ≡ values.old.items ++ answers (events_at events.now positions.now)) }
+{
+    for position in positions {
+        let number = events.instr(*position);
+        let op = op_at(graph, number);
+        add_enter_at(graph, op, events, *position, enters)?;
+        add_maker_at(graph, op, events, *position, makers, makings)?;
+        add_value_at(number, events, *position, values)?;
+    }
+    Ok(())
 }
 
 /// Adds the value that the event at a position brought to the answer, if it did, where its message names the
@@ -438,7 +501,6 @@ fn all_records(
         (λ m. m.2.items ≡ makings_of graph.now (events_of (map (λ e. e.state) elements.now))) }
     ensures values { IfOk result (λ m. m.3.items ≡ answers (events_of (map (λ e. e.state) elements.now))) }
 {
-    let marks = seeking_marks(alloc, graph)?;
     let mut enters = HashMap::with_hasher(alloc, NearHasher::new());
     let mut makers = HashMap::with_hasher(alloc, NearHasher::new());
     let mut makings = Vec::new(alloc);
@@ -446,8 +508,7 @@ fn all_records(
     for element in elements {
         add_record(
             graph,
-            marks.as_slice(),
-            &element.events(),
+            element,
             &mut enters,
             &mut makers,
             &mut makings,

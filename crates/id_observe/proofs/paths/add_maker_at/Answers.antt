@@ -8,8 +8,7 @@ use Rattle.id_tag.specs.Tags.{same_structure}
 use Rattle.id_valid.specs.Roles.{op_at}
 use Rattle.id_record.specs.Events.{tag_of}
 use Rattle.id_observe.specs.Paths.{if_made, is_alloc, made_by, maker_of, making_of}
-use Rattle.id_observe.proofs.MarkedLemmas.{making_of-none}
-use Rattle.id_observe.proofs.SkippedLemmas.{maker_of-none, one-at, part-is}
+use Rattle.id_observe.proofs.SkippedLemmas.{maker_of-none, making_of-none, one-at, part-is}
 use Rattle.id_observe.proofs.paths.add_maker_at.Goals as goal
 
 pub returns-in_ok-add_maker-clause-makers : goal.returns-in_ok-add_maker-clause-makers

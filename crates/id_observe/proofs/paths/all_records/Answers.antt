@@ -3,9 +3,7 @@ use Rattle.std.proofs.Common.{◌≡◌, Some, refl, ap, sym, ◌∙◌, arith}
 use Rattle.std.proofs.lemmas.Grind.{common_steps}
 use Rattle.std.specs.Prelude.{slice_get}
 use Rattle.std.specs.Option.{option_or}
-use Rattle.std.specs.HashMap.{get}
 use Rattle.std.proofs.lemmas.Option.{slice_get_read}
-use Rattle.id_tag.specs.Tags.{same_context, same_structure}
 use Rattle.id_observe.specs.Paths.{enter_in, maker_in, making_of}
 use Rattle.id_observe.specs.Observed.{brought}
 use Rattle.id_observe.proofs.ObservedLemmas.{walk-next}
@@ -29,13 +27,13 @@ loop-element-preserved c =
     let at : slice_get es i ≡ Some e = slice_get_read es _ _ _ refl c.loop-element-test.true c.element-item.is in
     record {
       enters = λ d.
-          c.in_ok-add_record.ensures.enters d ∙ ap (λ xs. option_or (enter_in g xs d) (get same_context c.loop-element.enters d)) c.events.ensures.value
+          c.in_ok-add_record.ensures.enters d
           ∙ ap (option_or (enter_in g e.state.events d)) (c.loop-element.invariant.enters d) ∙ sym (enters-next g es i e d at);
       makers = λ d.
-          c.in_ok-add_record.ensures.makers d ∙ ap (λ xs. option_or (maker_in g xs d) (get same_structure c.loop-element.makers d)) c.events.ensures.value
+          c.in_ok-add_record.ensures.makers d
           ∙ ap (option_or (maker_in g e.state.events d)) (c.loop-element.invariant.makers d) ∙ sym (makers-next g es i e d at);
       makings =
-          rw (c.in_ok-add_record.ensures.makings, c.loop-element.invariant.makings, c.events.ensures.value, walk-next (λ s. s.events) (making_of g) es i e at);
+          rw (c.in_ok-add_record.ensures.makings, c.loop-element.invariant.makings, walk-next (λ s. s.events) (making_of g) es i e at);
       values =
-          rw (c.in_ok-add_record.ensures.values, c.loop-element.invariant.values, c.events.ensures.value, walk-next (λ s. s.events) (λ v. brought v.message.payload) es i e at);
+          rw (c.in_ok-add_record.ensures.values, c.loop-element.invariant.values, walk-next (λ s. s.events) (λ v. brought v.message.payload) es i e at);
     }
