@@ -85,19 +85,66 @@ pub fn run_report(alloc: Global, machine: &Machine<'_>, named: bool) -> Result<R
         (λ r. AreApartBy OfOneFetch (waiting machine.now.graph machine.now.world) → Rises WaitBefore r.waiting) }
 {
     let ending = ending_of(alloc, machine)?;
-    let names = if named {
-        machine_names(alloc, machine)?
-    } else {
-        Sequence::new(Vec::new(alloc))
-    };
-    let held = machine_held(alloc, machine)?;
+    let lists = lists_of(alloc, machine, named)?;
     Ok(Report {
         ending,
+        answer: lists.answer,
+        names: lists.names,
+        structures: lists.lines,
+        waiting: lists.waiting,
+    })
+}
+
+/// The answer, what binders have, the lines of structures and cells, and the fetches that wait, in order.
+#[derive(Drop)]
+struct Lists {
+    answer: Option<SourceValue>,
+    names: Sequence<NameValue>,
+    lines: Sequence<Held>,
+    waiting: Sequence<Ask>,
+}
+
+/// What a run shows, in order, of what binders have where that is asked for.
+fn lists_of(alloc: Global, machine: &Machine<'_>, named: bool) -> Result<Lists, AllocError>
+    ensures answer { IfOk result (λ r. r.answer ≡ answer machine.now.graph machine.now.world) }
+    ensures names { IfOk result (λ r. IsTrue named → IsSortedOf r.names (names machine.now.graph machine.now.world)) }
+    ensures rise { IfOk result
+        (λ r. IsTrue named → AreApart (names machine.now.graph machine.now.world) → NamesRise r.names) }
+    ensures none { IfOk result (λ r. IsFalse named → r.names ≡ []) }
+    ensures held { IfOk result (λ r. IsOrderOf HeldBefore r.lines (held_lines machine.now)) }
+    ensures held_rise { IfOk result
+        (λ r. AreApartBy OfOneThing (held_lines machine.now) → Rises HeldBefore r.lines) }
+    ensures waiting { IfOk result
+        (λ r. IsOrderOf WaitBefore r.waiting (waiting machine.now.graph machine.now.world)) }
+    ensures waiting_rise { IfOk result
+        (λ r. AreApartBy OfOneFetch (waiting machine.now.graph machine.now.world) → Rises WaitBefore r.waiting) }
+{
+    let names = asked_names(alloc, machine, named)?;
+    let held = machine_held(alloc, machine)?;
+    Ok(Lists {
         answer: held.answer,
         names,
-        structures: held.lines,
+        lines: held.lines,
         waiting: held.waiting,
     })
+}
+
+/// What binders have where that is asked for, and else no names.
+fn asked_names(
+    alloc: Global,
+    machine: &Machine<'_>,
+    named: bool,
+) -> Result<Sequence<NameValue>, AllocError>
+    ensures names { IfOk result (λ ns. IsTrue named → IsSortedOf ns (names machine.now.graph machine.now.world)) }
+    ensures rise { IfOk result
+        (λ ns. IsTrue named → AreApart (names machine.now.graph machine.now.world) → NamesRise ns) }
+    ensures none { IfOk result (λ ns. IsFalse named → ns ≡ []) }
+{
+    if named {
+        machine_names(alloc, machine)
+    } else {
+        Ok(Sequence::new(Vec::new(alloc)))
+    }
 }
 
 /// The answer, the lines of structures and cells, and the fetches that wait, in order.
@@ -120,26 +167,47 @@ fn machine_held(alloc: Global, machine: &Machine<'_>) -> Result<InOrder, AllocEr
         (λ r. AreApartBy OfOneFetch (waiting machine.now.graph machine.now.world) → Rises WaitBefore r.waiting) }
 {
     let holdings = machine.holdings(alloc)?;
-    let helds = joined(alloc, holdings.structures, holdings.cells)?;
+    let lines = lines_of(alloc, holdings.structures, holdings.cells)?;
+    let waiting = sorted_asks(holdings.waiting)?;
     Ok(InOrder {
         answer: holdings.answer,
-        lines: sorted_helds(helds)?,
-        waiting: sorted_asks(holdings.waiting)?,
+        lines,
+        waiting,
     })
 }
 
-/// The lines of structures, and then those of cells.
-fn joined(
+/// The lines of structures and cells, in order.
+fn lines_of(
     alloc: Global,
     shapes: Sequence<Shape>,
     cells: Sequence<CellValue>,
-) -> Result<Vec<Held>, AllocError>
-    ensures { IfOk result (λ v. v.items ≡ map held.Array shapes ++ map held.Cell cells) }
+) -> Result<Sequence<Held>, AllocError>
+    ensures sorted { IfOk result
+        (λ r. IsOrderOf HeldBefore r (map held.Array shapes ++ map held.Cell cells)) }
+    ensures rise { IfOk result
+        (λ r. AreApartBy OfOneThing (map held.Array shapes ++ map held.Cell cells) → Rises HeldBefore r) }
+{
+    let helds = shape_lines(alloc, shapes)?;
+    let helds = with_cells(helds, cells)?;
+    sorted_helds(helds)
+}
+
+/// The lines of structures.
+fn shape_lines(alloc: Global, shapes: Sequence<Shape>) -> Result<Vec<Held>, AllocError>
+    ensures { IfOk result (λ v. v.items ≡ map held.Array shapes) }
 {
     let mut helds = Vec::new(alloc);
     for shape in shapes.into_vec() {
         helds.push(Held::Array(shape))?;
     }
+    Ok(helds)
+}
+
+/// These lines, and then those of cells.
+fn with_cells(helds: Vec<Held>, cells: Sequence<CellValue>) -> Result<Vec<Held>, AllocError>
+    ensures { IfOk result (λ v. v.items ≡ helds.items ++ map held.Cell cells) }
+{
+    let mut helds = helds;
     helds.reserve(cells.len())?;
     for cell in cells.into_vec() {
         helds.push(Held::Cell(cell))?;
