@@ -16,8 +16,9 @@ use Rattle.id_print.specs.Reports.{report_text}
 use Rattle.id_print.specs.Traces.{trace_text}
 use Rattle.id_engine.specs.declared.error.EngineError.{EngineError}
 use Rattle.id_engine.specs.declared.error.EngineError.TheVariants.{Memory, Write}
-use Rattle.id_engine.specs.Reports.{AreAllowed, HasRun, IsReportFrom, IsTrueOf, IsUnallowed, PrintsRun, RunsSo, ran, unallowed, status_of}
+use Rattle.id_engine.specs.Reports.{AreAllowed, HasRun, IsReportFrom, IsTrueOf, IsUnallowed, PrintsMachine, PrintsRun, RunsSo, ran, unallowed, status_of}
 use Rattle.id_engine.specs.Reports.PrintsRun.{whole, cut, unprinted}
+use Rattle.id_engine.specs.Reports.PrintsMachine.{reported, out_of_memory}
 use Rattle.id_engine.specs.Runs.{IsTraceOf}
 use Rattle.id_engine.proofs.RunLemmas.{IsReportOfRun-from, IsTrueOf-laws}
 use Rattle.id_engine.proofs.StuckLemmas.{left_over}
@@ -68,3 +69,18 @@ module _ (P : Checked) (vs : List Constant) (text : List ℕ) (count : ℕ) (t :
         let k = ran_from in
         let o = IsReportOfRun-from g vs count steps m b r k from (λ stopped empty. left_over never (source P vs) g count k.positions m r.ending inputs schemas k.same_graph k.world from.ends stopped empty) in
         ran g r allowed schemas IsTrueOf-ran o.0 (subst (λ (x : World). PrintsRun text t b x r old new result) o.1 prints)
+
+  -- the same of what is printed of the machine at its start
+  pub RunsSo-machine : (g : Parts) (a : MachineView) → Soundness → QuietIsComplete → AreInputs P vs → Schemas P g → a ≡ record { graph = g; count = count; world = start g vs count }
+      → NeverStuck → AreAllowed count steps → (old new : Option Told) (result : Result ℕ EngineError) → PrintsMachine a text t steps b old new result
+      → RunsSo P vs text count t steps b old new result
+  RunsSo-machine g a sound complete inputs schemas begins never allowed old new result (reported n r has from prints) =
+      RunsSo-from g a n r sound complete inputs schemas begins has from never allowed old new result prints
+  RunsSo-machine g a sound complete inputs schemas begins never allowed old new result (out_of_memory same) = unallowed Memory refl same
+
+-- memory was refused before the machine's report was there
+pub PrintsMachine-memory : (m : MachineView) (text : List ℕ) (t : Bool) (steps : ℕ) (b : Bool) (old : Option Told) (result : Result ℕ EngineError) (x : EngineError)
+    → IsErrAnd result (λ e. e ≡ x) → x ≡ Memory → PrintsMachine m text t steps b old old result
+PrintsMachine-memory m text t steps b old (Ok n) x h is = absurd h
+PrintsMachine-memory m text t steps b old (Err e) x h is = let why : e ≡ Memory = h ∙ is in
+    subst (λ (y : EngineError). PrintsMachine m text t steps b old old (Err y)) (sym why) (out_of_memory refl)

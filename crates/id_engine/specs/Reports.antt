@@ -27,6 +27,7 @@ use Rattle.id_print.specs.declared.report.Report.{Report}
 use Rattle.id_print.specs.declared.sink.PrintError.{PrintError}
 use Rattle.id_print.specs.Told.{Told, Prints}
 use Rattle.id_print.specs.Endings.{EndsSo}
+use Rattle.id_print.specs.Within.{ReportWithin}
 use Rattle.id_print.specs.Reports.{report_text}
 use Rattle.id_print.specs.Traces.{trace_text}
 use Rattle.id_print.specs.Names.{IsOrderOf, IsSortedOf, AreApart, AreApartBy, HeldBefore, WaitBefore}
@@ -165,6 +166,17 @@ pub record HasRun (old new : MachineView) (steps : ℕ) : Type 0 where
   pub turns : AreInTurn old.graph old.count steps first_turn positions old.world
   pub few : All (λ s. length s.events ≤ steps) new.world.elements
   pub ended : HasEnded old.graph old.count steps old.world positions
+
+-- the places of each report of such a run are at most so many bytes in
+abbrev pub AreReportsWithin : MachineView → ℕ → Bool → ℕ → Type 0
+AreReportsWithin m steps b size = (n : MachineView) (r : Report) → HasRun m n steps → IsReportFrom n b r → ReportWithin size r
+
+-- such a run of the machine is printed, or memory was refused before the first byte
+pub data PrintsMachine (m : MachineView) (text : List ℕ) (t : Bool) (steps : ℕ) (b : Bool) (old new : Option Told) :
+    Result ℕ EngineError → Type 0 where
+  reported : {result : Result ℕ EngineError} (n : MachineView) (r : Report) → HasRun m n steps → IsReportFrom n b r
+      → PrintsRun text t b n.world r old new result → PrintsMachine m text t steps b old new result
+  out_of_memory : new ≡ old → PrintsMachine m text t steps b old new (Err Memory)
 
 -- the message at this position is held back
 abbrev pub IsHeldAt : ℕ → ℕ → World → ℕ → Type 0

@@ -14,7 +14,7 @@ ghost use Rattle.id_engine.specs.Programs.{IsPlacedWithin};
 ghost use Rattle.id_engine.specs.Refusals.{IsInsideOf, IsRefusedRun, IsTakenRun};
 ghost use Rattle.id_engine.specs.Reports.{AreAllowed, HasCount, HasEvent, HasRun, IsDelivered, IsFreshMachine};
 ghost use Rattle.id_engine.specs.Reports.{IsHand, IsHeldAt, IsLastHand, IsNextHand, IsReportFrom, PrintsRun, RunsSo};
-ghost use Rattle.id_engine.specs.Reports.{status_of};
+ghost use Rattle.id_engine.specs.Reports.{AreReportsWithin, PrintsMachine, status_of};
 ghost use Rattle.id_flight.specs.Queues.{context_at};
 ghost use Rattle.id_core.specs.declared.machine.Came.TheVariants as comes;
 ghost use Rattle.id_engine.specs.Runs.{AreHeldBefore, IsBehindOthers, IsFree, IsTraceOf, Ran};
@@ -318,6 +318,34 @@ fn print_run<W: Sink>(
     }
 }
 
+/// Runs a fresh machine, and writes what is asked for.
+fn run_started<W: Sink>(
+    alloc: Global,
+    machine: &mut Machine<'_>,
+    text: &str,
+    count: u32,
+    trace: bool,
+    steps: u64,
+    names: bool,
+    out: &mut W,
+) -> Result<u8, EngineError>
+    requires fresh { IsFreshMachine machine.old }
+    requires count { machine.old.count ≡ count }
+    requires few { steps ≤ 100000000 }
+    requires fits { length text.now ≤ 1048576 }
+    requires inside { AreReportsWithin machine.old steps names (length text.now) }
+    ensures { PrintsMachine machine.old text.now trace steps names (W.told out.old) (W.told out.new) result }
+{
+    match machine_report(alloc, machine, count, steps, names) {
+        Ok(report) => {
+            let status = print_run(alloc, machine, &report, text, trace, names, out);
+            drop(report);
+            status
+        }
+        Err(error) => Err(error),
+    }
+}
+
 /// Runs a compiled program with its inputs, and writes what is asked for.
 fn run_prepared<W: Sink>(
     alloc: Global,
@@ -340,9 +368,10 @@ fn run_prepared<W: Sink>(
     id_laws::complete();
     id_laws::inputs_fit();
     id_laws::never_stuck();
-    let mut machine = machine_of(alloc, prepared.compiled.valid(), &prepared.inputs, count)?;
-    let report = machine_report(alloc, &mut machine, count, steps, names)?;
-    print_run(alloc, &machine, &report, text, trace, names, out)
+    match machine_of(alloc, prepared.compiled.valid(), &prepared.inputs, count) {
+        Ok(mut machine) => run_started(alloc, &mut machine, text, count, trace, steps, names, out),
+        Err(error) => Err(error),
+    }
 }
 
 /// Runs a compiled program with its inputs, where so many elements and so many steps are allowed, and writes what is
