@@ -29,8 +29,8 @@ use Rattle.id_match.specs.Front.{place_of, place, front_entries, front_half, IsP
 use Rattle.id_match.specs.Front.{Meets, MeetsIn, MarksSame, HoldsSame, IsMarked, all_entries}
 use Rattle.id_match.specs.Halves.{answer_at, half_after}
 use Rattle.id_match.specs.Ports.{same_port}
-use Rattle.id_match.specs.declared.Offered.TheVariants.{Kept, Taken}
-use Rattle.id_match.specs.Waiting.{Store, entry_at, pair_of, offer_answer, offer_after}
+use Rattle.id_match.specs.declared.Offered.TheVariants.{Kept}
+use Rattle.id_match.specs.Waiting.{Store, entry_at, offer_answer, offer_after}
 use Rattle.id_match.proofs.WaitingLemmas.{get_half, answer_of-at_port, offer_after-from_get}
 
 pub numbers_one : (m n : ℕ) → nat_eq m n ≡ true → m ≡ n
@@ -495,50 +495,6 @@ module _ (f : List Pair) (at : ℕ) (x : Pair) (same : (u : Tag) → pair_half x
         ap (λ n. pair_half (get_or (set f at x) (place u n) empty_pair) u) (length-set f at x)
         ∙ under_same u (nat_eq (place u (length f)) at) refl;
   }
-
-pub taken : (o : Option Half) (h : Half) (p : Port) (v : Value) → o ≡ Some h → same_port h.port p ≡ true → answer_at o p v ≡ Taken
-taken o h p v e same = ap (λ q. answer_at q p v) e ∙ ap (λ b. cond b Taken (pair_of p v h.value)) same
-
-pub stays : (o : Option Half) (h : Half) (p : Port) (v : Value) → o ≡ Some h → same_port h.port p ≡ true → half_after o p v ≡ o
-stays o h p v e same = ap (λ q. half_after q p v) e ∙ ap (λ b. cond b (Some h) None) same ∙ sym e
-
-pub paired : (o : Option Half) (h : Half) (p : Port) (v : Value) → o ≡ Some h → same_port h.port p ≡ false → answer_at o p v ≡ pair_of p v h.value
-paired o h p v e apart = ap (λ q. answer_at q p v) e ∙ ap (λ b. cond b Taken (pair_of p v h.value)) apart
-
-module _ (f : List Pair) (t : Tag) (some : 0 < length f) (at : ℕ) (there : at ≡ place t (length f)) (p : Pair) (is : get_or f at empty_pair ≡ p)
-    (q : Pair) where
-  at_place : get_or f (place t (length f)) empty_pair ≡ p
-  at_place = ap (λ k. get_or f k empty_pair) (sym there) ∙ is
-
-  pub here_is : front_half f t ≡ pair_half p t
-  here_is = ap (λ x. pair_half x t) at_place
-
-  -- the front has what comes to its pair
-  pub puts_here : (o : Option Half) → PutsIn p q t o → Puts f (set f at q) t o
-  puts_here o puts =
-      subst (λ k. Puts f (set f k q) t o) (sym there) (puts_set f t q o some (subst (λ x. PutsIn x q t o) (sym at_place) puts))
-
-  pub meets_here : (port : Port) (v : Value) (a : Offered) → MeetsIn p q t port v a → Meets f (set f at q) t port v a
-  meets_here port v a meets = record {
-    answer = meets.answer ∙ ap (λ o. answer_at o port v) (sym here_is);
-    after = subst (λ o. Puts f (set f at q) t (half_after o port v)) (sym here_is) (puts_here _ meets.after);
-  }
-
--- the partner leaves its pair
-pub partner_leaves : (p q : Pair) (t : Tag) (h : Half) (port : Port) (v : Value) → pair_half p t ≡ Some h → same_port h.port port ≡ false
-    → PutsIn p q t None → (a : Offered) → a ≡ pair_of port v h.value → MeetsIn p q t port v a
-partner_leaves p q t h port v is apart puts a answer = record {
-  answer = answer ∙ sym (paired (pair_half p t) h port v is apart);
-  after = subst (PutsIn p q t) (sym (gone (pair_half p t) h port v is apart)) puts;
-}
-
--- the tag has a value at its port already
-pub taken_here : (f : List Pair) (t : Tag) (h : Half) (port : Port) (v : Value) → front_half f t ≡ Some h → same_port h.port port ≡ true
-    → Meets f f t port v Taken
-taken_here f t h port v found same = record {
-  answer = sym (taken (front_half f t) h port v found same);
-  after = puts_same f t (half_after (front_half f t) port v) (sym (stays (front_half f t) h port v found same));
-}
 
 pub holds_refl : (f : List Pair) → HoldsSame f f
 holds_refl f = record { placed = λ p. p; under = λ u. refl }

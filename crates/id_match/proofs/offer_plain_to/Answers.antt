@@ -5,8 +5,8 @@ use Rattle.std.specs.Map.{lookup}
 use Rattle.id_match.specs.Front.{IsMarked}
 use Rattle.id_match.specs.Halves.{answer_at, half_after}
 use Rattle.id_match.specs.Waiting.{pair_of}
-use Rattle.id_match.proofs.CallLemmas.{apart_ports}
-use Rattle.id_match.proofs.FrontLemmas.{gone, paired, same_under_tag, some_of}
+use Rattle.id_match.proofs.CallLemmas.{apart_ports, paired}
+use Rattle.id_match.proofs.FrontLemmas.{gone, same_under_tag, some_of}
 use Rattle.id_match.specs.declared.Half.{Half}
 use Rattle.id_match.specs.declared.Offered.TheVariants.{Kept}
 use Rattle.id_tag.specs.Plains.{tag_in, whole}

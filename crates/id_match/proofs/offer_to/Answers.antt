@@ -5,8 +5,8 @@ use Rattle.std.specs.HashMap as hash
 use Rattle.std.specs.Map.{lookup}
 use Rattle.id_tag.specs.Tags.{same_tag}
 use Rattle.id_match.specs.Halves.{answer_at, half_after}
-use Rattle.id_match.proofs.CallLemmas.{apart_ports, one_port}
-use Rattle.id_match.proofs.FrontLemmas.{gone, paired, some_of, stays, taken}
+use Rattle.id_match.proofs.CallLemmas.{apart_ports, one_port, paired, stays, taken}
+use Rattle.id_match.proofs.FrontLemmas.{gone, some_of}
 use Rattle.id_match.proofs.offer_to.Goals as goal
 
 -- the entry's write leaves the other tags

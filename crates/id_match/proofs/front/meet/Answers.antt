@@ -4,8 +4,8 @@ use Rattle.id_tag.specs.Plains.{tag_in, whole}
 use Rattle.id_match.specs.Front.{IsSingle, empty_pair, pair_half, place}
 use Rattle.id_match.specs.Meetings.{told}
 use Rattle.id_match.specs.declared.front.Behind.TheVariants.{Nothing}
-use Rattle.id_match.proofs.FrontLemmas.{meets_here, place_below, if_some, alone_in}
-use Rattle.id_match.proofs.CallLemmas.{read_at, same_marks, same_front}
+use Rattle.id_match.proofs.FrontLemmas.{place_below, if_some, alone_in}
+use Rattle.id_match.proofs.CallLemmas.{read_at, same_marks, same_front, meets_here}
 use Rattle.id_match.proofs.front.meet.Goals as goal
 
 pub returns-clause-met : goal.returns-clause-met

@@ -1,8 +1,8 @@
 -- one of the two slots is free, so the value is put there
 use Rattle.std.proofs.Common.{◌≡◌, ◌<◌, ◌∙◌, None, length, get_or, sym, ap, arith}
 use Rattle.id_match.specs.Front.{empty_pair, pair_half, place, slot_tag}
-use Rattle.id_match.proofs.FrontLemmas.{here_is, puts_here, none_from_test}
-use Rattle.id_match.proofs.CallLemmas.{read_at, same_marks, same_front}
+use Rattle.id_match.proofs.FrontLemmas.{none_from_test}
+use Rattle.id_match.proofs.CallLemmas.{read_at, same_marks, same_front, here_is, puts_here}
 use Rattle.id_match.proofs.front.put.Goals as goal
 
 pub returns-then-not-holds-clause-put : goal.returns-then-not-holds-clause-put

@@ -3,8 +3,8 @@ use Rattle.std.proofs.Common.{◌≡◌, ◌<◌, ◌∙◌, Some, true, false, 
 use Rattle.std.proofs.lemmas.Grind.{common_steps}
 use Rattle.id_match.specs.Front.{IsSingle, empty_pair, front_half, pair_half, place}
 use Rattle.id_match.specs.Ports.{same_port}
-use Rattle.id_match.proofs.FrontLemmas.{here_is, meets_here, partner_leaves, place_below, some_of, taken_here}
-use Rattle.id_match.proofs.CallLemmas.{read_at, same_marks}
+use Rattle.id_match.proofs.FrontLemmas.{place_below, some_of}
+use Rattle.id_match.proofs.CallLemmas.{read_at, same_marks, here_is, meets_here, partner_leaves, taken_here}
 use Rattle.id_match.proofs.front.take.Goals as goal
 
 pub returns-then-eq-clause-met : goal.returns-then-eq-clause-met
