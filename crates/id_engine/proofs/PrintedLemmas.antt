@@ -71,16 +71,16 @@ module _ (P : Checked) (vs : List Constant) (text : List ℕ) (count : ℕ) (t :
         ran g r allowed schemas IsTrueOf-ran o.0 (subst (λ (x : World). PrintsRun text t b x r old new result) o.1 prints)
 
   -- the same of what is printed of the machine at its start
-  pub RunsSo-machine : (g : Parts) (a : MachineView) → Soundness → QuietIsComplete → AreInputs P vs → Schemas P g → a ≡ record { graph = g; count = count; world = start g vs count }
-      → NeverStuck → AreAllowed count steps → (old new : Option Told) (result : Result ℕ EngineError) → PrintsMachine a text t steps b old new result
-      → RunsSo P vs text count t steps b old new result
+  pub RunsSo-machine : (g : Parts) (a : MachineView) → Soundness → QuietIsComplete → AreInputs P vs → Schemas P g
+      → a ≡ record { graph = g; count = count; world = start g vs count } → NeverStuck → AreAllowed count steps
+      → (old new : Option Told) (result : Result ℕ EngineError) → PrintsMachine a text t steps b old new result → RunsSo P vs text count t steps b old new result
   RunsSo-machine g a sound complete inputs schemas begins never allowed old new result (reported n r has from prints) =
       RunsSo-from g a n r sound complete inputs schemas begins has from never allowed old new result prints
   RunsSo-machine g a sound complete inputs schemas begins never allowed old new result (out_of_memory same) = unallowed Memory refl same
 
 -- memory was refused before the machine's report was there
-pub PrintsMachine-memory : (m : MachineView) (text : List ℕ) (t : Bool) (steps : ℕ) (b : Bool) (old : Option Told) (result : Result ℕ EngineError) (x : EngineError)
-    → IsErrAnd result (λ e. e ≡ x) → x ≡ Memory → PrintsMachine m text t steps b old old result
+pub PrintsMachine-memory : (m : MachineView) (text : List ℕ) (t : Bool) (steps : ℕ) (b : Bool) (old : Option Told) (result : Result ℕ EngineError)
+    (x : EngineError) → IsErrAnd result (λ e. e ≡ x) → x ≡ Memory → PrintsMachine m text t steps b old old result
 PrintsMachine-memory m text t steps b old (Ok n) x h is = absurd h
 PrintsMachine-memory m text t steps b old (Err e) x h is = let why : e ≡ Memory = h ∙ is in
     subst (λ (y : EngineError). PrintsMachine m text t steps b old old (Err y)) (sym why) (out_of_memory refl)
