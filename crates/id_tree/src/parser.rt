@@ -84,7 +84,7 @@ fn parse_expression(
     requires room { depth < MAX_NESTING }
     ensures read { IfOk result (λ x. IsRead tokens.now x.1.now depth x.0.height) }
     ensures ok { IfOk result (λ x.
-        Leads tokens.now Expression depth x.1.now (tree_of x.0.expr) x.0.height) }
+        Leads tokens.now Expression depth x.1.now (tree_of x.0.expr.value) x.0.height) }
     ensures err { IfErr result (Fails tokens.now Expression depth) }
 {
     if begins_with(tokens, Keyword::If) {
@@ -106,7 +106,7 @@ fn parse_conditional(
     requires room { depth < MAX_NESTING }
     ensures read { IfOk result (λ x. IsRead tokens.now x.1.now depth x.0.height) }
     ensures ok { IfOk result (λ x.
-        Leads tokens.now Expression depth x.1.now (tree_of x.0.expr) x.0.height) }
+        Leads tokens.now Expression depth x.1.now (tree_of x.0.expr.value) x.0.height) }
     ensures err { IfErr result (Fails tokens.now Expression depth) }
 {
     let inner = depth + 1;
@@ -132,7 +132,7 @@ fn parse_grouped(
     requires room { depth < MAX_NESTING }
     ensures read { IfOk result (λ x. IsRead tokens.now x.1.now depth x.0.height) }
     ensures ok { IfOk result (λ x.
-        Leads tokens.now (Grouped level) depth x.1.now (tree_of x.0.expr) x.0.height) }
+        Leads tokens.now (Grouped level) depth x.1.now (tree_of x.0.expr.value) x.0.height) }
     ensures err { IfErr result (Fails tokens.now (Grouped level) depth) }
 {
     let (mut left, mut rest) = parse_operand(alloc, tokens, level, depth)?;
@@ -163,9 +163,9 @@ fn parse_right(
     requires fits { depth + left.height ≤ MAX_NESTING }
     ensures read { IfOk result (λ x. IsRead tokens.now x.1.now depth x.0.height) }
     ensures ok { IfOk result (λ x.
-        Grows tokens.now level depth (tree_of left.expr) left.height
-        x.1.now (tree_of x.0.expr) x.0.height) }
-    ensures err { IfErr result (Stunts tokens.now level depth (tree_of left.expr) left.height) }
+        Grows tokens.now level depth (tree_of left.expr.value) left.height
+        x.1.now (tree_of x.0.expr.value) x.0.height) }
+    ensures err { IfErr result (Stunts tokens.now level depth (tree_of left.expr.value) left.height) }
 {
     let (first, behind) = enter(tokens, depth + left.height + 1)?;
     let (right, rest) = parse_operand(alloc, behind, level, depth + 1)?;
@@ -186,7 +186,7 @@ fn parse_operand(
     requires room { depth < MAX_NESTING }
     ensures read { IfOk result (λ x. IsRead tokens.now x.1.now depth x.0.height) }
     ensures ok { IfOk result (λ x.
-        Leads tokens.now (operand level) depth x.1.now (tree_of x.0.expr) x.0.height) }
+        Leads tokens.now (operand level) depth x.1.now (tree_of x.0.expr.value) x.0.height) }
     ensures err { IfErr result (Fails tokens.now (operand level) depth) }
 {
     match level {
@@ -209,7 +209,7 @@ fn parse_negation(
     requires room { depth < MAX_NESTING }
     ensures read { IfOk result (λ x. IsRead tokens.now x.1.now depth x.0.height) }
     ensures ok { IfOk result (λ x.
-        Leads tokens.now Negation depth x.1.now (tree_of x.0.expr) x.0.height) }
+        Leads tokens.now Negation depth x.1.now (tree_of x.0.expr.value) x.0.height) }
     ensures err { IfErr result (Fails tokens.now Negation depth) }
 {
     if begins_with(tokens, Keyword::Not) {
@@ -233,7 +233,7 @@ fn parse_prefixed(
     requires room { depth < MAX_NESTING }
     ensures read { IfOk result (λ x. IsRead tokens.now x.1.now depth x.0.height) }
     ensures ok { IfOk result (λ x.
-        Leads tokens.now (operand level) depth x.1.now (tree_of x.0.expr) x.0.height) }
+        Leads tokens.now (operand level) depth x.1.now (tree_of x.0.expr.value) x.0.height) }
     ensures err { IfErr result (Fails tokens.now (operand level) depth) }
 {
     let inner = depth + 1;
@@ -250,7 +250,7 @@ fn parse_unary(alloc: Global, tokens: &[Token], depth: usize) -> Result<(Part, &
     requires room { depth < MAX_NESTING }
     ensures read { IfOk result (λ x. IsRead tokens.now x.1.now depth x.0.height) }
     ensures ok { IfOk result (λ x.
-        Leads tokens.now Unary depth x.1.now (tree_of x.0.expr) x.0.height) }
+        Leads tokens.now Unary depth x.1.now (tree_of x.0.expr.value) x.0.height) }
     ensures err { IfErr result (Fails tokens.now Unary depth) }
 {
     if begins_with_sign(tokens, Symbol::Minus) {
@@ -271,7 +271,7 @@ fn parse_postfix(
     requires room { depth < MAX_NESTING }
     ensures read { IfOk result (λ x. IsRead tokens.now x.1.now depth x.0.height) }
     ensures ok { IfOk result (λ x.
-        Leads tokens.now Postfix depth x.1.now (tree_of x.0.expr) x.0.height) }
+        Leads tokens.now Postfix depth x.1.now (tree_of x.0.expr.value) x.0.height) }
     ensures err { IfErr result (Fails tokens.now Postfix depth) }
 {
     let (mut target, mut rest) = parse_atom(alloc, tokens, depth)?;
@@ -297,9 +297,9 @@ fn parse_fetch(
     requires fits { depth + target.height ≤ MAX_NESTING }
     ensures read { IfOk result (λ x. IsRead tokens.now x.1.now depth x.0.height) }
     ensures ok { IfOk result (λ x.
-        Indexes tokens.now depth (tree_of target.expr) target.height
-        x.1.now (tree_of x.0.expr) x.0.height) }
-    ensures err { IfErr result (Misindexes tokens.now depth (tree_of target.expr) target.height) }
+        Indexes tokens.now depth (tree_of target.expr.value) target.height
+        x.1.now (tree_of x.0.expr.value) x.0.height) }
+    ensures err { IfErr result (Misindexes tokens.now depth (tree_of target.expr.value) target.height) }
 {
     let (first, begun) = enter(tokens, depth + target.height + 1)?;
     let bracket = Word::Sign(Symbol::RightBracket);
@@ -315,7 +315,7 @@ fn parse_atom(alloc: Global, tokens: &[Token], depth: usize) -> Result<(Part, &[
     requires room { depth < MAX_NESTING }
     ensures read { IfOk result (λ x. IsRead tokens.now x.1.now depth x.0.height) }
     ensures ok { IfOk result (λ x.
-        Leads tokens.now Atom depth x.1.now (tree_of x.0.expr) x.0.height) }
+        Leads tokens.now Atom depth x.1.now (tree_of x.0.expr.value) x.0.height) }
     ensures err { IfErr result (Fails tokens.now Atom depth) }
 {
     if begins_with_sign(tokens, Symbol::LeftParen) {
@@ -337,7 +337,7 @@ fn parse_array(alloc: Global, tokens: &[Token], depth: usize) -> Result<(Part, &
     requires room { depth < MAX_NESTING }
     ensures read { IfOk result (λ x. IsRead tokens.now x.1.now depth x.0.height) }
     ensures ok { IfOk result (λ x.
-        Leads tokens.now Atom depth x.1.now (tree_of x.0.expr) x.0.height) }
+        Leads tokens.now Atom depth x.1.now (tree_of x.0.expr.value) x.0.height) }
     ensures err { IfErr result (Fails tokens.now Atom depth) }
 {
     let inner = depth + 1;
@@ -361,7 +361,7 @@ fn parse_parens(
     requires room { depth < MAX_NESTING }
     ensures read { IfOk result (λ x. IsRead tokens.now x.1.now depth x.0.height) }
     ensures ok { IfOk result (λ x.
-        Leads tokens.now Atom depth x.1.now (tree_of x.0.expr) x.0.height) }
+        Leads tokens.now Atom depth x.1.now (tree_of x.0.expr.value) x.0.height) }
     ensures err { IfErr result (Fails tokens.now Atom depth) }
 {
     let inner = depth + 1;
@@ -383,7 +383,7 @@ pub(crate) fn parse_enclosed(
     requires room { depth < MAX_NESTING }
     ensures read { IfOk result (λ x. IsRead tokens.now x.1.now depth x.0.height) }
     ensures ok { IfOk result (λ x.
-        Encloses tokens.now depth closing x.1.now (tree_of x.0.expr) x.0.height) }
+        Encloses tokens.now depth closing x.1.now (tree_of x.0.expr.value) x.0.height) }
     ensures err { IfErr result (Exposes tokens.now depth closing) }
 {
     let (inside, closed) = parse_expression(alloc, tokens, depth)?;
@@ -403,7 +403,7 @@ fn parse_braces(
     requires room { depth < MAX_NESTING }
     ensures read { IfOk result (λ x. IsRead tokens.now x.1.now depth x.0.height) }
     ensures ok { IfOk result (λ x.
-        Leads tokens.now Atom depth x.1.now (tree_of x.0.expr) x.0.height) }
+        Leads tokens.now Atom depth x.1.now (tree_of x.0.expr.value) x.0.height) }
     ensures err { IfErr result (Fails tokens.now Atom depth) }
 {
     let (_, opened) = split(tokens);
@@ -423,7 +423,7 @@ fn parse_block(alloc: Global, tokens: &[Token], depth: usize) -> Result<(Part, &
     requires room { depth < MAX_NESTING }
     ensures read { IfOk result (λ x. IsRead tokens.now x.1.now depth x.0.height) }
     ensures ok { IfOk result (λ x.
-        Leads tokens.now Atom depth x.1.now (tree_of x.0.expr) x.0.height) }
+        Leads tokens.now Atom depth x.1.now (tree_of x.0.expr.value) x.0.height) }
     ensures err { IfErr result (Fails tokens.now Atom depth) }
 {
     let inner = depth + 1;
@@ -444,7 +444,7 @@ fn parse_loop(alloc: Global, tokens: &[Token], depth: usize) -> Result<(Part, &[
     requires room { depth < MAX_NESTING }
     ensures read { IfOk result (λ x. IsRead tokens.now x.1.now depth x.0.height) }
     ensures ok { IfOk result (λ x.
-        Leads tokens.now Atom depth x.1.now (tree_of x.0.expr) x.0.height) }
+        Leads tokens.now Atom depth x.1.now (tree_of x.0.expr.value) x.0.height) }
     ensures err { IfErr result (Fails tokens.now Atom depth) }
 {
     let inner = depth + 1;
@@ -539,7 +539,8 @@ fn parse_store(
     let begun = expect_word(closed, Word::Sign(Symbol::Becomes))?;
     let (value, rest) = parse_enclosed(alloc, begun, Word::Sign(Symbol::Semicolon), depth)?;
     let height = index.height.max(value.height);
-    let statement = store(alloc, name(x, place), index, value, first.start)?;
+    let target = name(alloc, x, place)?;
+    let statement = store(target, index, value, first.start);
     Ok((statement, height, rest))
 }
 
@@ -576,15 +577,21 @@ fn parse_leaf(alloc: Global, tokens: &[Token], depth: usize) -> Result<(Part, &[
     requires room { depth < MAX_NESTING }
     ensures read { IfOk result (λ x. IsRead tokens.now x.1.now depth x.0.height) }
     ensures ok { IfOk result (λ x.
-        Leads tokens.now Atom depth x.1.now (tree_of x.0.expr) x.0.height) }
+        Leads tokens.now Atom depth x.1.now (tree_of x.0.expr.value) x.0.height) }
     ensures err { IfErr result (Fails tokens.now Atom depth) }
 {
     let (first, rest) = split(tokens);
     match &first.kind {
-        TokenKind::Number(value) => Ok((number(value, first.start), rest)),
+        TokenKind::Number(value) => {
+            let whole = number(alloc, value, first.start)?;
+            Ok((whole, rest))
+        }
         TokenKind::Name(x) => parse_named(alloc, x.copy(alloc)?, first.start, rest, depth),
         TokenKind::Key(_) => match truth_of(first) {
-            Some(value) => Ok((truth(value, first.start), rest)),
+            Some(value) => {
+                let whole = truth(alloc, value, first.start)?;
+                Ok((whole, rest))
+            }
             None => Err(unexpected(tokens)),
         },
         TokenKind::Sign(_) => Err(unexpected(tokens)),
@@ -606,15 +613,17 @@ fn parse_named(
     ensures read { IfOk result (λ y.
         (0 < y.0.height) × IsGathered tokens.now y.1.now depth y.0.height) }
     ensures ok { IfOk result (λ y.
-        Applies tokens.now depth x place y.1.now (tree_of y.0.expr) y.0.height) }
+        Applies tokens.now depth x place y.1.now (tree_of y.0.expr.value) y.0.height) }
     ensures err { IfErr result (Misapplies tokens.now depth x place) }
 {
     if begins_with_sign(tokens, Symbol::LeftParen) {
         let (_, opened) = split(tokens);
         let (args, height, rest) = parse_arguments(alloc, opened, depth + 1)?;
-        Ok((call(x, args, height, place), rest))
+        let whole = call(alloc, x, args, height, place)?;
+        Ok((whole, rest))
     } else {
-        Ok((name(x, place), tokens))
+        let whole = name(alloc, x, place)?;
+        Ok((whole, tokens))
     }
 }
 

@@ -19,8 +19,8 @@ use Rattle.id_tree.proofs.parser.+expr.Goals as goal
 pub parse_expression-returns-else-begins_with-clause-ok : goal.parse_expression-returns-else-begins_with-clause-ok
 parse_expression-returns-else-begins_with-clause-ok t c =
     let is_not : first_kind c.args.tokens.now ≡ Key If → ⊥ = search rules in
-    IfOk-weaker c.parse_grouped.result (λ x. Leads c.args.tokens.now (Grouped level.Or) c.args.depth x.1.now (tree_of x.0.expr) x.0.height)
-    (λ x. Leads c.args.tokens.now Expression c.args.depth x.1.now (tree_of x.0.expr) x.0.height)
+    IfOk-weaker c.parse_grouped.result (λ x. Leads c.args.tokens.now (Grouped level.Or) c.args.depth x.1.now (tree_of x.0.expr.value) x.0.height)
+    (λ x. Leads c.args.tokens.now Expression c.args.depth x.1.now (tree_of x.0.expr.value) x.0.height)
     (λ x q. Expression-leads is_not q) c.parse_grouped.ensures.ok
 
 pub parse_expression-returns-else-begins_with-clause-err : goal.parse_expression-returns-else-begins_with-clause-err
@@ -259,8 +259,9 @@ parse_store-returns-in_err-value-clause-err t c =
 pub parse_store-returns-clause-ok : goal.parse_store-returns-clause-ok
 parse_store-returns-clause-ok t c =
     let tree =
-    c.in_ok-statement.ensures.tree
-    ∙ ap (λ a. store a (tree_of c.in_ok-index.index.expr) (tree_of c.in_ok-value.value.expr) c.split.result.0.now.start) c.name.ensures.tree in
+    c.store-statement.ensures
+    ∙ ap (λ a. store a (tree_of c.in_ok-index.index.expr.value) (tree_of c.in_ok-value.value.expr.value) c.split.result.0.now.start)
+    c.in_ok-target.ensures.tree in
     Assigns-done tree (omega (arith, c.max-height.ensures))
     (Behind-enclosed (Behind-word (Behind-enclosed (Behind-bracket c.args.scope c.args.depth c.args.x c.args.place c.split.ensures.whole c.requires.begins)
     (Encloses-tail c.in_ok-index.ensures.ok)) c.in_ok-begun.ensures.ok) (Encloses-tail c.in_ok-value.ensures.ok))
@@ -430,8 +431,8 @@ parse_statements-returns-clause-read t c = grind (arith, common_steps)
 pub parse_negation-returns-else-begins_with-clause-ok : goal.parse_negation-returns-else-begins_with-clause-ok
 parse_negation-returns-else-begins_with-clause-ok t c =
     let is_not : first_kind c.args.tokens.now ≡ Key Not → ⊥ = search rules in
-    IfOk-weaker c.parse_grouped.result (λ x. Leads c.args.tokens.now (Grouped level.Comparison) c.args.depth x.1.now (tree_of x.0.expr) x.0.height)
-    (λ x. Leads c.args.tokens.now Negation c.args.depth x.1.now (tree_of x.0.expr) x.0.height)
+    IfOk-weaker c.parse_grouped.result (λ x. Leads c.args.tokens.now (Grouped level.Comparison) c.args.depth x.1.now (tree_of x.0.expr.value) x.0.height)
+    (λ x. Leads c.args.tokens.now Negation c.args.depth x.1.now (tree_of x.0.expr.value) x.0.height)
     (λ x q. Negation-leads is_not q) c.parse_grouped.ensures.ok
 
 pub parse_negation-returns-else-begins_with-clause-err : goal.parse_negation-returns-else-begins_with-clause-err
@@ -453,8 +454,8 @@ parse_unary-parse_prefixed-requires t c =
 pub parse_unary-returns-else-begins_with_sign-clause-ok : goal.parse_unary-returns-else-begins_with_sign-clause-ok
 parse_unary-returns-else-begins_with_sign-clause-ok t c =
     let is_not : first_kind c.args.tokens.now ≡ Sign Minus → ⊥ = search rules in
-    IfOk-weaker c.parse_postfix.result (λ x. Leads c.args.tokens.now Postfix c.args.depth x.1.now (tree_of x.0.expr) x.0.height)
-    (λ x. Leads c.args.tokens.now Unary c.args.depth x.1.now (tree_of x.0.expr) x.0.height)
+    IfOk-weaker c.parse_postfix.result (λ x. Leads c.args.tokens.now Postfix c.args.depth x.1.now (tree_of x.0.expr.value) x.0.height)
+    (λ x. Leads c.args.tokens.now Unary c.args.depth x.1.now (tree_of x.0.expr.value) x.0.height)
     (λ x q. Unary-leads is_not q) c.parse_postfix.ensures.ok
 
 pub parse_unary-returns-else-begins_with_sign-clause-err : goal.parse_unary-returns-else-begins_with_sign-clause-err
@@ -557,15 +558,15 @@ parse_prefixed-overflow_add-inner-2 t c = grind (arith, common_steps)
 pub parse_prefixed-returns-clause-read : goal.parse_prefixed-returns-clause-read
 parse_prefixed-returns-clause-read t c = grind (arith, common_steps)
 
-pub parse_leaf-returns-in-Number-clause-ok : goal.parse_leaf-returns-in-Number-clause-ok
-parse_leaf-returns-in-Number-clause-ok t c =
-    Leads-at c.number.ensures.tree (omega (arith, c.number.ensures.height))
+pub parse_leaf-returns-in_ok-whole-in-Number-clause-ok : goal.parse_leaf-returns-in_ok-whole-in-Number-clause-ok
+parse_leaf-returns-in_ok-whole-in-Number-clause-ok t c =
+    Leads-at c.in_ok-whole-in-Number.ensures.tree (omega (arith, c.in_ok-whole-in-Number.ensures.height))
     (Leads-done (At-opens c.split.ensures.whole
     (opens_number c.in-Number.value (ap first_kind c.split.ensures.whole ∙ c.in-Number.is)) c.args.depth (omega (arith, c.requires.room))))
 
-pub parse_leaf-returns-in-Some-clause-ok : goal.parse_leaf-returns-in-Some-clause-ok
-parse_leaf-returns-in-Some-clause-ok t c =
-    Leads-at c.truth.ensures.tree (omega (arith, c.truth.ensures.height))
+pub parse_leaf-returns-in_ok-whole-in-Some-clause-ok : goal.parse_leaf-returns-in_ok-whole-in-Some-clause-ok
+parse_leaf-returns-in_ok-whole-in-Some-clause-ok t c =
+    Leads-at c.in_ok-whole-in-Some.ensures.tree (omega (arith, c.in_ok-whole-in-Some.ensures.height))
     (Leads-done (At-opens c.split.ensures.whole
     (opens_truth c.in-Some.value
     (ap (λ xs. truth_in (first_kind xs)) c.split.ensures.whole ∙ sym c.truth_of.ensures ∙ c.in-Some.is)) c.args.depth (omega (arith, c.requires.room))))
@@ -595,8 +596,9 @@ pub parse_leaf-returns-in_ok-copy-in-Name-clause-ok : goal.parse_leaf-returns-in
 parse_leaf-returns-in_ok-copy-in-Name-clause-ok t c =
     let is : c.split.result.0.now.kind ≡ Name c.in_ok-copy-in-Name.field-0 = c.in-Name.is ∙ ap Name (sym c.in_ok-copy-in-Name.ensures) in
     IfOk-weaker c.parse_named.result
-    (λ y. Applies c.split.result.1.now c.args.depth c.in_ok-copy-in-Name.field-0 c.split.result.0.now.start y.1.now (tree_of y.0.expr) y.0.height)
-    (λ y. Leads c.args.tokens.now Atom c.args.depth y.1.now (tree_of y.0.expr) y.0.height)
+    (λ y. Applies c.split.result.1.now c.args.depth c.in_ok-copy-in-Name.field-0 c.split.result.0.now.start y.1.now
+    (tree_of y.0.expr.value) y.0.height)
+    (λ y. Leads c.args.tokens.now Atom c.args.depth y.1.now (tree_of y.0.expr.value) y.0.height)
     (λ y q. Leads-named c.split.ensures.whole c.args.depth (omega (arith, c.requires.room)) c.in_ok-copy-in-Name.field-0 (ap first_kind c.split.ensures.whole ∙ is) q) c.parse_named.ensures.ok
 
 pub parse_leaf-returns-in_ok-copy-in-Name-clause-err : goal.parse_leaf-returns-in_ok-copy-in-Name-clause-err
@@ -606,10 +608,10 @@ parse_leaf-returns-in_ok-copy-in-Name-clause-err t c =
     (Fails c.args.tokens.now Atom c.args.depth)
     (λ y q. Fails-named c.split.ensures.whole c.args.depth (omega (arith, c.requires.room)) c.in_ok-copy-in-Name.field-0 (ap first_kind c.split.ensures.whole ∙ is) q) c.parse_named.ensures.err
 
-pub parse_named-returns-else-begins_with_sign-clause-ok : goal.parse_named-returns-else-begins_with_sign-clause-ok
-parse_named-returns-else-begins_with_sign-clause-ok t c =
+pub parse_named-returns-in_ok-whole-2-clause-ok : goal.parse_named-returns-in_ok-whole-2-clause-ok
+parse_named-returns-in_ok-whole-2-clause-ok t c =
     let is_not : first_kind c.args.tokens.now ≡ Sign LeftParen → ⊥ = search rules in
-    Applies-name c.args.depth is_not c.name.ensures.tree c.name.ensures.height
+    Applies-name c.args.depth is_not c.in_ok-whole-2.ensures.tree c.in_ok-whole-2.ensures.height
 
 pub parse_named-returns-in_err-args-clause-err : goal.parse_named-returns-in_err-args-clause-err
 parse_named-returns-in_err-args-clause-err t c =
@@ -617,10 +619,10 @@ parse_named-returns-in_err-args-clause-err t c =
     let p = err_from_is_err_and c.from_residual.result c.from_residual.ensures.1 in
     rw (p.1, p.2) (Misapplies-call c.split.ensures.whole is c.args.depth c.args.x c.args.place c.in_err-args.ensures.err)
 
-pub parse_named-returns-in_ok-args-clause-ok : goal.parse_named-returns-in_ok-args-clause-ok
-parse_named-returns-in_ok-args-clause-ok t c =
+pub parse_named-returns-in_ok-whole-clause-ok : goal.parse_named-returns-in_ok-whole-clause-ok
+parse_named-returns-in_ok-whole-clause-ok t c =
     let is : first_kind c.args.tokens.now ≡ Sign LeftParen = search rules in
-    Applies-call c.split.ensures.whole is c.args.depth c.args.x c.args.place c.in_ok-args.ensures.ok c.call.ensures.tree c.call.ensures.height
+    Applies-call c.split.ensures.whole is c.args.depth c.args.x c.args.place c.in_ok-args.ensures.ok c.in_ok-whole.ensures.tree c.in_ok-whole.ensures.height
 
 pub parse_arguments-returns-then-is_sign-clause-ok : goal.parse_arguments-returns-then-is_sign-clause-ok
 parse_arguments-returns-then-is_sign-clause-ok t c =
@@ -651,7 +653,8 @@ parse_arguments-returns-else-is_sign-2-clause-err t c =
 pub parse_some_arguments-arguments-init : goal.parse_some_arguments-arguments-init
 parse_some_arguments-arguments-init t c = (
   c.in_ok-first.ensures.read,
-  rw (c.in_ok-push.ensures.items, c.new-args.ensures.items) (Hands-first c.args.depth c.requires.not_closed c.in_ok-first.first.expr _ c.into_expr.ensures c.in_ok-first.ensures.ok),
+  rw (c.in_ok-push.ensures.items, c.new-args.ensures.items)
+      (Hands-first c.args.depth c.requires.not_closed c.in_ok-first.first.expr.value _ c.into_expr.ensures c.in_ok-first.ensures.ok),
 )
 
 pub parse_some_arguments-arguments-preserved : goal.parse_some_arguments-arguments-preserved
@@ -659,7 +662,8 @@ parse_some_arguments-arguments-preserved t c =
     let comma : first_kind c.arguments.rest.now ≡ Sign Comma = search rules in (
       rw c.max-height.ensures (IsRead-add c.arguments.invariant.0 c.split.ensures.whole c.in_ok-arg.ensures.read),
       rw (c.max-height.ensures, c.in_ok-push-2.ensures.items)
-          (Hands-add c.arguments.invariant.1 c.split.ensures.whole c.in_ok-arg.arg.expr _ c.into_expr-in-arguments.ensures comma (omega (arith, c.requires.room)) c.in_ok-arg.ensures.ok),
+          (Hands-add c.arguments.invariant.1 c.split.ensures.whole c.in_ok-arg.arg.expr.value _
+          c.into_expr-in-arguments.ensures comma (omega (arith, c.requires.room)) c.in_ok-arg.ensures.ok),
     )
 
 pub parse_some_arguments-returns-in_err-first-clause-err : goal.parse_some_arguments-returns-in_err-first-clause-err

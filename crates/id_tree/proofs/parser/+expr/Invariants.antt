@@ -101,14 +101,15 @@ decreases-parse_some_arguments-arguments l = length l.rest
 -- what may be the target of a fetch has come
 abbrev pub invariant-parse_postfix-fetches : goal.invariant-parse_postfix-fetches
 invariant-parse_postfix-fetches l =
-    IsRead l.fn.tokens l.rest l.depth l.target.height × Pointed l.fn.tokens l.depth l.rest (tree_of l.target.expr) l.target.height
+    IsRead l.fn.tokens l.rest l.depth l.target.height × Pointed l.fn.tokens l.depth l.rest (tree_of l.target.expr.value) l.target.height
 
 abbrev pub decreases-parse_postfix-fetches : goal.decreases-parse_postfix-fetches
 decreases-parse_postfix-fetches l = length l.rest
 
 -- the first operand has come, and the level is open
 abbrev pub invariant-parse_grouped-loop-op : goal.invariant-parse_grouped-loop-op
-invariant-parse_grouped-loop-op l = IsRead l.fn.tokens l.rest l.depth l.left.height × Begun l.fn.tokens l.level l.depth l.rest (tree_of l.left.expr) l.left.height
+invariant-parse_grouped-loop-op l =
+    IsRead l.fn.tokens l.rest l.depth l.left.height × Begun l.fn.tokens l.level l.depth l.rest (tree_of l.left.expr.value) l.left.height
 
 abbrev pub decreases-parse_grouped-loop-op : goal.decreases-parse_grouped-loop-op
 decreases-parse_grouped-loop-op l = length l.rest
