@@ -1,6 +1,6 @@
 //! The parameters of each definition, counted by its head.
 
-ghost use Rattle.std.specs.Prelude.{◌≡◌, ◌<◌, ◌+◌, ◌^◌, length, IfOk};
+ghost use Rattle.std.specs.Prelude.{◌≡◌, ◌<◌, ◌≤◌, ◌+◌, ◌^◌, length, IfOk, OnOk};
 ghost use Rattle.id_check.specs.Tallies as tallies;
 ghost use Rattle.id_check.specs.Tallies.{AreTallies, first_array};
 
@@ -11,33 +11,40 @@ use std::alloc::{AllocError, Global};
 /// The most parameters that a definition may have.
 pub const MAX_PARAMS: usize = 16;
 
+/// The most rows and places that tallies are made for. No text comes near it.
+const MOST: usize = 0xffff_ffff;
+
 /// How many parameters there are, and the place of the first one that is an array.
 #[derive(Clone, Copy)]
 pub struct Tally {
-    pub count: usize,
-    pub array: Option<usize>,
+    pub count: u32,
+    pub array: Option<u32>,
 }
 
 /// The parameters of the definition with each head, by row.
 pub fn find_params(alloc: Global, rows: &[Row]) -> Result<Vec<Tally>, AllocError>
     ensures { IfOk result (λ v. AreTallies rows.now (length rows.now) v.items) }
 {
+    if rows.len() > MOST {
+        return Err(AllocError);
+    }
     let none = Tally {
         count: 0,
         array: None,
     };
     let mut tallies = vec![in alloc; none; rows.len()]?;
     for i in 0..rows.len() {
-        count(rows, &mut tallies, i);
+        count(rows, &mut tallies, i)?;
     }
     Ok(tallies)
 }
 
 /// Counts a row, if it is a parameter. Takes no memory.
-fn count(rows: &[Row], tallies: &mut Vec<Tally>, i: usize)
+fn count(rows: &[Row], tallies: &mut Vec<Tally>, i: usize) -> Result<(), AllocError>
+    requires few { length rows.now ≤ MOST }
     requires row { i < length rows.now }
     requires tallies { AreTallies rows.now i tallies.old.items }
-    ensures { AreTallies rows.now (i + 1) tallies.new.items }
+    ensures { OnOk result (AreTallies rows.now (i + 1) tallies.new.items) }
 {
     let Row {
         place,
@@ -47,14 +54,18 @@ fn count(rows: &[Row], tallies: &mut Vec<Tally>, i: usize)
     } = rows[i];
     if block < rows.len() {
         if let Node::Param { kind, .. } = node {
-            tallies[block] = counted(tallies[block], kind, place);
+            if place > MOST {
+                return Err(AllocError);
+            }
+            tallies[block] = counted(tallies[block], kind, place as u32);
         }
     }
+    Ok(())
 }
 
 /// The tally with one more parameter, of this kind and at this place. Takes no memory.
-fn counted(tally: Tally, kind: Kind, place: usize) -> Tally
-    requires { tally.count + 1 < 2 ^ 64 }
+fn counted(tally: Tally, kind: Kind, place: u32) -> Tally
+    requires { tally.count + 1 < 2 ^ 32 }
     ensures count { result.count ≡ tally.count + 1 }
     ensures array { result.array ≡ first_array tally.array kind place }
 {

@@ -82,7 +82,6 @@ fn find_columns(alloc: Global, rows: &[Row], count: usize) -> Result<Columns, Al
 {
     let Found { binders, mut first } = find_binders(alloc, rows, count)?;
     let kinds = find_kinds(alloc, rows, binders.as_slice())?;
-    let depths = find_depths(alloc, rows)?;
     let tallies = find_params(alloc, rows)?;
     let counts = find_counts(alloc, rows)?;
     note_rows(
@@ -93,6 +92,9 @@ fn find_columns(alloc: Global, rows: &[Row], count: usize) -> Result<Columns, Al
         tallies.as_slice(),
         counts.as_slice(),
     );
+    drop(tallies);
+    drop(counts);
+    let depths = find_depths(alloc, rows)?;
     Ok(Columns {
         binders,
         kinds,

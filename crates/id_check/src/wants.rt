@@ -30,7 +30,7 @@ pub fn note_rows(
     binders: &[Option<usize>],
     kinds: &[Option<Kind>],
     tallies: &[Tally],
-    counts: &[Option<usize>],
+    counts: &[Option<u32>],
 )
     requires formed { IsFormed rows.now }
     requires binders { length binders.now ≡ length rows.now }
@@ -54,7 +54,7 @@ fn note_row(
     binders: &[Option<usize>],
     kinds: &[Option<Kind>],
     tallies: &[Tally],
-    counts: &[Option<usize>],
+    counts: &[Option<u32>],
     i: usize,
 )
     requires formed { IsFormed rows.now }
@@ -153,11 +153,14 @@ fn head_in(node: Node) -> Option<usize>
 }
 
 /// The number of arguments of the call with this `Enter`.
-fn count_at(counts: &[Option<usize>], enter: usize) -> Option<usize>
+fn count_at(counts: &[Option<u32>], enter: usize) -> Option<usize>
     requires { enter < length counts.now }
     ensures { result ≡ get_or counts.now enter None }
 {
-    counts[enter]
+    match counts[enter] {
+        Some(count) => Some(count as usize),
+        None => None,
+    }
 }
 
 /// Notes it if a call at this place has another number of arguments than its procedure, which has this head, has
@@ -188,7 +191,7 @@ fn is_count(rows: &[Row], tallies: &[Tally], head: usize, count: Option<usize>) 
     ensures { result ≡ causes.is_count rows.now head count }
 {
     match count {
-        Some(count) => count == tallies[head].count,
+        Some(count) => count == tallies[head].count as usize,
         None => false,
     }
 }
@@ -444,7 +447,7 @@ fn note_params(
     if name == 0 {
         note_array(first, tally.array);
     }
-    note_count(first, tally.count, place);
+    note_count(first, tally.count as usize, place);
 }
 
 /// Notes it if there are so many parameters of the definition at this place. Takes no memory.
@@ -457,10 +460,10 @@ fn note_count(first: &mut Option<CheckCause>, count: usize, place: usize)
 }
 
 /// Notes the first parameter that is an array, if there is one. Takes no memory.
-fn note_array(first: &mut Option<CheckCause>, array: Option<usize>)
+fn note_array(first: &mut Option<CheckCause>, array: Option<u32>)
     ensures { Notes first.old (array_cause array) first.new }
 {
     if let Some(at) = array {
-        note(first, CheckCause::MainKind { at });
+        note(first, CheckCause::MainKind { at: at as usize });
     }
 }

@@ -19,8 +19,8 @@ index_mut-requires c =
     let long = c.requires.counts.long in
     omega arith
 
-pub returns-in-Call : goal.returns-in-Call
-returns-in-Call c =
+pub returns-else-count-gt-MOST : goal.returns-else-count-gt-MOST
+returns-else-count-gt-MOST c =
     let R = c.args.rows.now in
     let cs = c.args.counts.now.items in
     let e = c.in-Call.enter in
