@@ -18,3 +18,4 @@ pub mod SlotsLemmas
 pub mod SchemasLemmas
 pub mod BuildableLemmas
 pub mod BlocksLemmas
+pub mod BoundLemmas

@@ -23,4 +23,4 @@ mod slots;
 pub use arc::{Arc, Feed, Form, Origin, Piece};
 pub use error::BuildError;
 pub use program::build;
-pub use size::{is_small, is_small_and_plain};
+pub use size::{is_small, is_small_and_plain, is_surely_small};

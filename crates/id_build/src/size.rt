@@ -1,16 +1,18 @@
 //! How many instructions the schemas give a program, found without making them (docs/GRAPH.md, "Schemas").
 
-ghost use Rattle.std.specs.Prelude.{ℕ, ◌≡◌, ◌<◌, ◌≤◌, ◌^◌, ◌↔◌, true, IsTrue, IsSome, IfSome, length};
+ghost use Rattle.std.specs.Prelude.{ℕ, ◌≡◌, ◌+◌, ◌-◌, ◌<◌, ◌≤◌, ◌^◌, ◌↔◌, true, IsTrue, IsSome, IfOk, IfSome, length};
 ghost use Rattle.id_check.specs.declared.checked.Checked.{Checked};
 ghost use Rattle.id_check.specs.Programs as programs;
+ghost use Rattle.id_desugar.specs.Ends.{AreEnds, end_of};
 ghost use Rattle.id_build.specs.Rows.{HasNoSplit, is_plain, made, made_of, size};
 ghost use Rattle.id_build.specs.Slots.{AreColumns};
 
 use crate::columns::Columns;
 use crate::loops::nexts_at;
 use id_check::Checked;
-use id_desugar::{Kernel, row_at};
+use id_desugar::{Kernel, end_of, find_ends, row_at};
 use id_parts::Node;
+use std::alloc::{AllocError, Global};
 
 /// Whether the schemas give the program at most 1,000,000 instructions: `build` refuses it otherwise. Takes no memory.
 pub fn is_small(kernel: &Kernel<'_>) -> bool
@@ -48,6 +50,55 @@ pub fn is_small_and_plain(checked: &Checked) -> bool
         }
     }
     true
+}
+
+/// Whether the schemas give the program at most 1,000,000 instructions even if each conditional and each loop imports
+/// as many names as it has rows: that is told without its regions. Where it does not hold, `is_small` tells.
+pub fn is_surely_small(alloc: Global, checked: &Checked) -> Result<bool, AllocError>
+    ensures { IfOk result (λ b. b ≡ true → size checked.now ≤ 1000000) }
+{
+    if checked.table.rows.len() > 1_000_000 {
+        return Ok(false);
+    }
+    let ends = find_ends(alloc, checked)?;
+    let mut most = 0usize;
+    for n in 0..checked.table.rows.len() {
+        most += most_made(checked, ends.as_slice(), n);
+        if most > 1_000_000 {
+            return Ok(false);
+        }
+    }
+    Ok(true)
+}
+
+/// How many instructions the row n makes at most. Takes no memory.
+fn most_made(checked: &Checked, ends: &[Option<usize>], n: usize) -> usize
+    requires few { length (programs.rows checked.now) ≤ 1000000 }
+    requires ends { AreEnds checked.now ends.now }
+    requires within { n < length (programs.rows checked.now) }
+    ensures most { length (made checked.now n) ≤ result }
+    ensures few { result ≤ 2000001 }
+{
+    let row = row_at(checked, n);
+    match row.node {
+        Node::Split { .. } => rows_in(checked, ends, n) + 1,
+        Node::Switches { .. } => 2 * rows_in(checked, ends, row.block) + 1,
+        Node::Start => 2 * rows_in(checked, ends, n + 1) + 1,
+        Node::Entries => rows_in(checked, ends, row.block),
+        Node::Turn => rows_in(checked, ends, row.block) + 1,
+        node => plain_count(node).unwrap_or(0),
+    }
+}
+
+/// How many rows stand between this one and the one where what begins here ends. Takes no memory.
+fn rows_in(checked: &Checked, ends: &[Option<usize>], head: usize) -> usize
+    requires few { length (programs.rows checked.now) ≤ 1000000 }
+    requires ends { AreEnds checked.now ends.now }
+    requires within { head < length (programs.rows checked.now) }
+    ensures rows { result ≡ end_of checked.now head - (head + 1) }
+    ensures few { result ≤ 1000000 }
+{
+    end_of(checked, ends, head).saturating_sub(head + 1)
 }
 
 /// How many instructions there is to be room for: as many as the schemas give the program, but at most 1,000,000. No

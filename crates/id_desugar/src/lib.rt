@@ -15,4 +15,5 @@ mod kernel;
 mod order;
 
 pub use access::{binder_at, end_of, next_of, row_at};
+pub use ends::find_ends;
 pub use kernel::{Kernel, regions};

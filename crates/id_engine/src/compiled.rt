@@ -11,7 +11,7 @@ ghost use Rattle.id_engine.specs.Programs.{IsTreeOf};
 ghost use Rattle.id_engine.specs.Reports.{IsRefusedGraph};
 ghost use Rattle.id_engine.specs.Refusals.{IsCauseInside};
 
-use id_build::{BuildError, build, is_small, is_small_and_plain};
+use id_build::{BuildError, build, is_small, is_small_and_plain, is_surely_small};
 use id_check::{CheckCause, Checked, check};
 use id_desugar::regions;
 use id_graph::Graph;
@@ -198,6 +198,11 @@ fn has_graph(alloc: Global, checked: &Checked) -> Result<(), CompileError>
 {
     if is_small_and_plain(checked) {
         return Ok(());
+    }
+    match is_surely_small(alloc, checked) {
+        Ok(true) => return Ok(()),
+        Ok(false) => {}
+        Err(_) => return Err(CompileError::Memory),
     }
     let Ok(kernel) = regions(alloc, checked) else {
         return Err(CompileError::Memory);
