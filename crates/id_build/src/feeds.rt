@@ -93,8 +93,8 @@ pub fn push_feeds(
             let next = slots.columns.next(checked, n);
             arcs.push(output(next), first, Port::Zero)
         }
-        Node::Entries => push_entries(checked, slots, n, row.block, arcs),
-        Node::Turn => push_turn(checked, slots, n, row.region, row.block, arcs),
+        Node::Entries => push_entries(checked, slots, n, row.block as usize, arcs),
+        Node::Turn => push_turn(checked, slots, n, row.region, row.block as usize, arcs),
         Node::Address { target, index } => {
             let target = origin(checked, slots, target);
             let index = origin(checked, slots, index);

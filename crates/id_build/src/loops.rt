@@ -86,7 +86,7 @@ pub fn label(checked: &Checked, binder: usize) -> usize
 {
     let row = row_at(checked, binder);
     match row.node {
-        Node::Next { index, .. } => row.block + 1 + index,
+        Node::Next { index, .. } => row.block as usize + 1 + index as usize,
         _ => binder,
     }
 }

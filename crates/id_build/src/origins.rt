@@ -39,7 +39,7 @@ pub fn trigger_of(region: Region) -> Origin
     ensures { result ≡ trigger_of region }
 {
     Origin {
-        row: region.head,
+        row: region.head as usize,
         part: 0,
         side: region.side,
     }
@@ -51,7 +51,7 @@ pub fn origin(checked: &Checked, slots: &Slots<'_>, expr: usize) -> Origin
     ensures origin { result ≡ origin checked.now expr }
     ensures few { result.part < 2 ^ 62 }
 {
-    let value = row_at(checked, expr).value;
+    let value = row_at(checked, expr).value as usize;
     let row = row_at(checked, value);
     match row.node {
         Node::Name { .. } => named_in(checked, slots, row.region, value, binder_at(checked, value)),
@@ -98,15 +98,15 @@ fn handed(checked: &Checked, slots: &Slots<'_>, region: Region, binder: usize) -
     ensures origin { result ≡ handed_by checked.now region binder (node checked.now region.head) }
     ensures few { result.part < 2 ^ 62 }
 {
-    let slot = slot_of(checked, slots, region.head, binder);
-    match row_at(checked, region.head).node {
+    let slot = slot_of(checked, slots, region.head as usize, binder);
+    match row_at(checked, region.head as usize).node {
         Node::LoopHead { .. } => Origin {
-            row: entries_row(checked, slots.columns, region.head),
+            row: entries_row(checked, slots.columns, region.head as usize),
             part: slot,
             side: true,
         },
         _ => Origin {
-            row: region.head,
+            row: region.head as usize,
             part: slot + 1,
             side: region.side,
         },

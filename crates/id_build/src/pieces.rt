@@ -36,7 +36,7 @@ pub fn push_pieces(
     ensures memory { IfErr result (λ e. e ≡ BuildError.Memory) }
 {
     let row = row_at(checked, n);
-    push_row(checked, columns, n, row.place, row.node, pieces)?;
+    push_row(checked, columns, n, row.place as usize, row.node, pieces)?;
     Ok(())
 }
 
@@ -92,11 +92,11 @@ fn push_row(
             push(pieces, Op::Merge(port_at(checked, next)), place)
         }
         Node::Entries => {
-            let head = row_at(checked, n).block;
+            let head = row_at(checked, n).block as usize;
             push_entries(checked, columns.imports(checked, head), place, pieces)
         }
         Node::Turn => {
-            let head = row_at(checked, n).block;
+            let head = row_at(checked, n).block as usize;
             push_turn(checked, columns.imports(checked, head), place, pieces)
         }
         Node::Next { .. } => push(pieces, Op::Next(port_at(checked, n)), place),
@@ -289,7 +289,11 @@ fn push_answer(checked: &Checked, pieces: &mut Vec<Piece>) -> Result<(), BuildEr
     ensures memory { IfErr result (λ e. e ≡ BuildError.Memory) }
 {
     let main = row_at(checked, checked.main);
-    push(pieces, Op::Merge(port_of(result_of(main.node))), main.place)
+    push(
+        pieces,
+        Op::Merge(port_of(result_of(main.node))),
+        main.place as usize,
+    )
 }
 
 /// The result kind of the definition at a row of this node.

@@ -240,7 +240,7 @@ fn push_param(
         ++ (if tables.is_param row.node && nat_eq row.block head then number_by firsts.now n 0 ∷ [] else [])) }
     ensures memory { IfErr result (λ e. e ≡ BuildError.Memory) }
 {
-    if is_param(row.node) && row.block == head {
+    if is_param(row.node) && row.block as usize == head {
         entries.push(number_by(firsts, n) as u32)?;
     }
     Ok(())

@@ -82,10 +82,10 @@ fn most_made(checked: &Checked, ends: &[Option<usize>], n: usize) -> usize
     let row = row_at(checked, n);
     match row.node {
         Node::Split { .. } => rows_in(checked, ends, n) + 1,
-        Node::Switches { .. } => 2 * rows_in(checked, ends, row.block) + 1,
+        Node::Switches { .. } => 2 * rows_in(checked, ends, row.block as usize) + 1,
         Node::Start => 2 * rows_in(checked, ends, n + 1) + 1,
-        Node::Entries => rows_in(checked, ends, row.block),
-        Node::Turn => rows_in(checked, ends, row.block) + 1,
+        Node::Entries => rows_in(checked, ends, row.block as usize),
+        Node::Turn => rows_in(checked, ends, row.block as usize) + 1,
         node => plain_count(node).unwrap_or(0),
     }
 }
@@ -131,8 +131,8 @@ fn made_count(checked: &Checked, columns: Columns<'_>, n: usize) -> usize
             let nexts = nexts_at(checked, columns, n + 1);
             nexts.len() + columns.imports(checked, n + 1).len() + 1
         }
-        Node::Entries => columns.imports(checked, row.block).len(),
-        Node::Turn => columns.imports(checked, row.block).len() + 1,
+        Node::Entries => columns.imports(checked, row.block as usize).len(),
+        Node::Turn => columns.imports(checked, row.block as usize).len() + 1,
         node => plain_count(node).unwrap_or(0),
     }
 }

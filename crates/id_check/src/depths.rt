@@ -28,7 +28,7 @@ fn depth_of(rows: &[Row], depths: &[usize], i: usize) -> usize
     requires depths { AreDepths rows.now i depths.now }
     ensures { result ≡ depth rows.now i }
 {
-    match rows[rows[i].block].node {
+    match rows[rows[i].block as usize].node {
         Node::LoopHead { start } => depths[start] + 1,
         _ => 0,
     }

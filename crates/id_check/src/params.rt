@@ -1,6 +1,6 @@
 //! The parameters of each definition, counted by its head.
 
-ghost use Rattle.std.specs.Prelude.{◌≡◌, ◌<◌, ◌≤◌, ◌+◌, ◌^◌, length, IfOk, OnOk};
+ghost use Rattle.std.specs.Prelude.{◌≡◌, ◌<◌, ◌≤◌, ◌+◌, ◌^◌, length, IfOk};
 ghost use Rattle.id_check.specs.Tallies as tallies;
 ghost use Rattle.id_check.specs.Tallies.{AreTallies, first_array};
 
@@ -11,7 +11,7 @@ use std::alloc::{AllocError, Global};
 /// The most parameters that a definition may have.
 pub const MAX_PARAMS: usize = 16;
 
-/// The most rows and places that tallies are made for. No text comes near it.
+/// The most rows that tallies are made for. No text comes near it.
 const MOST: usize = 0xffff_ffff;
 
 /// How many parameters there are, and the place of the first one that is an array.
@@ -34,17 +34,17 @@ pub fn find_params(alloc: Global, rows: &[Row]) -> Result<Vec<Tally>, AllocError
     };
     let mut tallies = vec![in alloc; none; rows.len()]?;
     for i in 0..rows.len() {
-        count(rows, &mut tallies, i)?;
+        count(rows, &mut tallies, i);
     }
     Ok(tallies)
 }
 
 /// Counts a row, if it is a parameter. Takes no memory.
-fn count(rows: &[Row], tallies: &mut Vec<Tally>, i: usize) -> Result<(), AllocError>
+fn count(rows: &[Row], tallies: &mut Vec<Tally>, i: usize)
     requires few { length rows.now ≤ MOST }
     requires row { i < length rows.now }
     requires tallies { AreTallies rows.now i tallies.old.items }
-    ensures { OnOk result (AreTallies rows.now (i + 1) tallies.new.items) }
+    ensures { AreTallies rows.now (i + 1) tallies.new.items }
 {
     let Row {
         place,
@@ -52,15 +52,12 @@ fn count(rows: &[Row], tallies: &mut Vec<Tally>, i: usize) -> Result<(), AllocEr
         node,
         ..
     } = rows[i];
+    let block = block as usize;
     if block < rows.len() {
         if let Node::Param { kind, .. } = node {
-            if place > MOST {
-                return Err(AllocError);
-            }
-            tallies[block] = counted(tallies[block], kind, place as u32);
+            tallies[block] = counted(tallies[block], kind, place);
         }
     }
-    Ok(())
 }
 
 /// The tally with one more parameter, of this kind and at this place. Takes no memory.

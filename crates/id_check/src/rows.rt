@@ -45,10 +45,10 @@ pub fn bound_name(node: Node) -> Option<usize>
     ensures { result ≡ scopes.bound_name node }
 {
     match node {
-        Node::Param { name, .. }
-        | Node::Binding { name, .. }
-        | Node::Next { name, .. }
-        | Node::Def { name, .. } => Some(name),
+        Node::Param { name, .. } | Node::Binding { name, .. } | Node::Def { name, .. } => {
+            Some(name)
+        }
+        Node::Next { name, .. } => Some(name as usize),
         _ => None,
     }
 }

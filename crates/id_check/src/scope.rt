@@ -214,7 +214,7 @@ fn enter(
         uses.new.binders.items uses.new.last.items uses.new.earlier.items }
     ensures first { Notes first.old (seconds rows.now s s) first.new }
 {
-    let start = start_of(untaken, rows[s].first);
+    let start = start_of(untaken, rows[s].first as usize);
     for k in start..untaken.len() {
         enter_row(rows, held, bound, uses, first, s, untaken[k]);
     }
@@ -227,7 +227,7 @@ fn close(rows: &[Row], untaken: &[usize], held: &mut Vec<bool>, s: usize)
     requires held { AreHeld rows.now s held.old.items }
     ensures { AreHeld rows.now (s + 1) held.new.items }
 {
-    let start = start_of(untaken, rows[s].first);
+    let start = start_of(untaken, rows[s].first as usize);
     for k in start..untaken.len() {
         close_row(rows, held, s, untaken[k]);
     }
@@ -357,7 +357,7 @@ fn note_second(first: &mut Option<CheckCause>, rows: &[Row], b: usize, earlier: 
     requires earlier { earlier < length rows.now }
     ensures { Notes first.old (repeated rows.now b (Some earlier)) first.new }
 {
-    let (at, earlier) = (rows[b].place, rows[earlier].place);
+    let (at, earlier) = (rows[b].place as usize, rows[earlier].place as usize);
     note(first, CheckCause::Duplicate { at, first: earlier });
 }
 
@@ -374,7 +374,7 @@ fn resolve(rows: &[Row], held: &[bool], uses: &mut Uses, s: usize, key: usize, b
     ensures binders { (i : ℕ) → i < length rows.now → get_or uses.new.binders.items i None
         ≡ option_or (get_or uses.old.binders.items i None) (given rows.now s key b i) }
 {
-    let first = rows[s].first;
+    let first = rows[s].first as usize;
     let mut behind = None;
     while let Some(u) = not_before(first, use_before(uses, key, behind)) {
         if is_outside(rows, held, s, u) {

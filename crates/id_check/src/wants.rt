@@ -71,9 +71,9 @@ fn note_row(
 {
     let row = rows[i];
     match row.node {
-        Node::Name { .. } => note_unknown(first, binders[i], row.place),
-        Node::Enter { .. } => note_unknown(first, binders[i], row.place),
-        Node::NextUse { .. } => note_unknown(first, binders[i], row.place),
+        Node::Name { .. } => note_unknown(first, binders[i], row.place as usize),
+        Node::Enter { .. } => note_unknown(first, binders[i], row.place as usize),
+        Node::NextUse { .. } => note_unknown(first, binders[i], row.place as usize),
         Node::Arg {
             enter,
             index,
@@ -93,7 +93,7 @@ fn note_row(
         }
         Node::Call { enter, count } => {
             let callee = callee(rows, binder_at(binders, enter));
-            note_count_of(first, rows, tallies, callee, count, row.place);
+            note_count_of(first, rows, tallies, callee, count, row.place as usize);
         }
         Node::Unary { op, operand } => note_wrong(first, rows, kinds, unary_kind(op), operand),
         Node::Binary { op, left, right } => note_operands(first, rows, kinds, op, left, right),
@@ -116,7 +116,7 @@ fn note_row(
             body,
         } => {
             note_wrong(first, rows, kinds, wanted, body);
-            note_params(first, rows, tallies, head, name, row.place);
+            note_params(first, rows, tallies, head, name, row.place as usize);
         }
         _ => {}
     }
@@ -315,7 +315,7 @@ fn note_equals(
         Some(Kind::Int) => note_wrong(first, rows, kinds, Kind::Int, right),
         Some(Kind::Bool) => note_wrong(first, rows, kinds, Kind::Bool, right),
         Some(Kind::Array) => {
-            let at = rows[left].place;
+            let at = rows[left].place as usize;
             note(
                 first,
                 CheckCause::WrongKind {
@@ -411,7 +411,7 @@ fn note_wrong(
 {
     if let Some(found) = kinds[i] {
         if !is_same(found, wanted) {
-            let at = rows[i].place;
+            let at = rows[i].place as usize;
             note(first, CheckCause::WrongKind { at, wanted, found });
         }
     }

@@ -70,8 +70,8 @@ fn is_own(checked: &Checked, own: Option<usize>, n: usize) -> bool
 fn is_right_in(checked: &Checked, head: usize, n: usize) -> bool
     ensures { result ≡ is_right_in checked.now head n }
 {
-    let switches = row_at(checked, row_at(checked, n).region.head);
-    matches!(switches.node, Node::Switches { .. }) && switches.block == head
+    let switches = row_at(checked, row_at(checked, n).region.head as usize);
+    matches!(switches.node, Node::Switches { .. }) && switches.block as usize == head
 }
 
 /// Whether a loop's block begins at a row of this node.

@@ -64,7 +64,7 @@ fn variable_at(checked: &Checked, count: usize, n: usize) -> Option<usize>
     let _ = count;
     let row = row_at(checked, n);
     match row.node {
-        Node::Next { index, .. } => Some(row.block + 1 + index),
+        Node::Next { index, .. } => Some(row.block as usize + 1 + index as usize),
         _ => None,
     }
 }

@@ -161,7 +161,14 @@ fn turn(
             lists[row] = Sequence::new(list);
         }
         Node::Switches { .. } => {
-            let list = handed_on(alloc, checked, nexts, lists.as_slice(), row, this.block)?;
+            let list = handed_on(
+                alloc,
+                checked,
+                nexts,
+                lists.as_slice(),
+                row,
+                this.block as usize,
+            )?;
             lists[row] = Sequence::new(list);
         }
         _ => {}

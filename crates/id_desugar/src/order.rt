@@ -49,7 +49,7 @@ fn push_procedures(checked: &Checked, order: &mut Vec<usize>, last: usize) -> Re
 fn is_in_procedure(checked: &Checked, row: usize) -> bool
     ensures { result ≡ in_procedure checked.now row }
 {
-    !is_loop_head(row_at(checked, row_at(checked, row).block).node)
+    !is_loop_head(row_at(checked, row_at(checked, row).block as usize).node)
 }
 
 /// Those of the first `last` rows that stand in blocks of loops, block by block.
@@ -120,7 +120,7 @@ fn link(checked: &Checked, chains: &mut Chains, last: usize, row: usize)
     ensures { AreChains checked.now row last chains.new.firsts.items chains.new.nexts.items }
 {
     let _ = last;
-    let block = row_at(checked, row).block;
+    let block = row_at(checked, row).block as usize;
     chains.nexts[row] = chains.firsts[block];
     chains.firsts[block] = Some(row);
 }

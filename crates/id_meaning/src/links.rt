@@ -83,8 +83,8 @@ fn add_statements(
         (Statements rows.now turns.old turns.new waiting.old.items waiting.new.items n row.now) }
 {
     match row.node {
-        Node::Block { .. } => take_statements(turns, waiting, row.first, Some(n)),
-        Node::Body => take_statements(turns, waiting, row.first, switches_of(rows, row)),
+        Node::Block { .. } => take_statements(turns, waiting, row.first as usize, Some(n)),
+        Node::Body => take_statements(turns, waiting, row.first as usize, switches_of(rows, row)),
         Node::Binding { value, .. } => {
             waiting.push(Statement { row: n, value })?;
             Ok(())
@@ -101,7 +101,7 @@ fn add_statements(
 fn switches_of(rows: &[Row], row: &Row) -> Option<usize>
     ensures { result ≡ switches_of rows.now row.now }
 {
-    let head = row.region.head;
+    let head = row.region.head as usize;
     if row.region.side && head < rows.len() && matches!(rows[head].node, Node::Switches { .. }) {
         Some(head)
     } else {
@@ -297,7 +297,7 @@ fn args(alloc: Global, checked: &Checked) -> Result<Edges, AllocError>
 {
     let mut args = Edges::new(alloc, checked.table.rows.len())?;
     for (n, row) in checked.table.rows.as_slice().iter().enumerate() {
-        add_read(&mut args, n, asker_of(row.block, row.node))?;
+        add_read(&mut args, n, asker_of(row.block as usize, row.node))?;
     }
     Ok(args)
 }

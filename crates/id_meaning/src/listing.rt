@@ -162,7 +162,7 @@ fn place_of(checked: &Checked, row: usize) -> usize
     ensures { result ≡ place checked.now row }
 {
     if row < checked.table.rows.len() {
-        checked.table.rows[row].place
+        checked.table.rows[row].place as usize
     } else {
         0
     }

@@ -35,7 +35,7 @@ fn params_at(alloc: Global, rows: &[Row], head: usize) -> Result<Vec<usize>, All
 {
     let mut params = Vec::new(alloc);
     for (n, row) in rows.iter().enumerate() {
-        if is_param(row.node) && row.block == head {
+        if is_param(row.node) && row.block as usize == head {
             params.push(n)?;
         }
     }
@@ -71,7 +71,7 @@ pub fn block_of(checked: &Checked, row: usize) -> usize
     ensures { result ≡ (at (rows checked.now) row).block }
 {
     if row < checked.table.rows.len() {
-        checked.table.rows[row].block
+        checked.table.rows[row].block as usize
     } else {
         0
     }

@@ -83,24 +83,40 @@ fn copy_names(alloc: Global, numbers: &IndexSet<&str>) -> Result<Vec<Identifier>
     Ok(names)
 }
 
-/// Where the body of the procedure with this head stands.
-fn stand_in(head: usize) -> Stand
-    ensures { result ≡ in_top head }
+/// The greatest number of 32 bits.
+const GREATEST: usize = 0xffff_ffff;
+
+/// The number in 32 bits. A greater one, which no text leads to, is told as want of memory.
+fn short(number: usize) -> Result<u32, AllocError>
+    ensures { IfOk result (λ n. n ≡ number) }
 {
-    Stand {
-        block: head,
-        region: Region { head, side: true },
+    if number <= GREATEST {
+        Ok(number as u32)
+    } else {
+        Err(AllocError)
     }
 }
 
-/// Where this arm of a conditional stands, whose switches are at the row `split`.
-fn in_arm(stand: Stand, split: usize, side: bool) -> Stand
-    ensures { result ≡ arm stand split side }
+/// Where the body of the procedure with this head stands.
+fn stand_in(head: usize) -> Result<Stand, AllocError>
+    ensures { IfOk result (λ s. s ≡ in_top head) }
 {
-    Stand {
+    let head = short(head)?;
+    Ok(Stand {
+        block: head,
+        region: Region { head, side: true },
+    })
+}
+
+/// Where this arm of a conditional stands, whose switches are at the row `split`.
+fn in_arm(stand: Stand, split: usize, side: bool) -> Result<Stand, AllocError>
+    ensures { IfOk result (λ s. s ≡ arm stand split side) }
+{
+    let head = short(split)?;
+    Ok(Stand {
         block: stand.block,
-        region: Region { head: split, side },
-    }
+        region: Region { head, side },
+    })
 }
 
 impl<'a> Maker<'a> {
@@ -132,7 +148,7 @@ impl<'a> Maker<'a> {
     {
         match node {
             Node::Block { body } => match self.rows.get(body) {
-                Some(row) => row.value,
+                Some(row) => row.value as usize,
                 None => 0,
             },
             _ => self.rows.len(),
@@ -151,7 +167,9 @@ impl<'a> Maker<'a> {
         ensures number { IfOk result (λ i. i + 1 ≡ length self.new.rows.items) }
     {
         let number = self.rows.len();
-        let value = self.value_of(node);
+        let place = short(place)?;
+        let first = short(first)?;
+        let value = short(self.value_of(node))?;
         self.rows.push(Row {
             place,
             first,
@@ -168,7 +186,8 @@ impl<'a> Maker<'a> {
         ensures { OnOk result (IsStart self.old → parts self.new ≡ parts_of (program_tree program.now)) }
     {
         self.add_defs(program.defs.as_slice())?;
-        self.push(stand_in(0), 0, 0, Node::Program)?;
+        let stand = stand_in(0)?;
+        self.push(stand, 0, 0, Node::Program)?;
         Ok(())
     }
 
@@ -185,7 +204,7 @@ impl<'a> Maker<'a> {
         ensures { OnOk result (parts self.new ≡ add (in_top 0) (parts self.old) (def_tree def.now)) }
     {
         let head = self.rows.len();
-        let stand = stand_in(head);
+        let stand = stand_in(head)?;
         self.push(stand, def.place, head, Node::Head)?;
         self.add_params(stand, def.params.as_slice())?;
         let body = self.add_expr(stand, &def.body)?;
@@ -378,8 +397,10 @@ impl<'a> Maker<'a> {
         let first = self.rows.len();
         let test = self.add_expr(stand, test)?;
         let split = self.push(stand, place, first, Node::Split { test })?;
-        let then = self.add_expr(in_arm(stand, split, true), then)?;
-        let otherwise = self.add_expr(in_arm(stand, split, false), otherwise)?;
+        let where_true = in_arm(stand, split, true)?;
+        let then = self.add_expr(where_true, then)?;
+        let where_false = in_arm(stand, split, false)?;
+        let otherwise = self.add_expr(where_false, otherwise)?;
         self.push(
             stand,
             place,
@@ -513,17 +534,17 @@ impl<'a> Maker<'a> {
     {
         let start = self.rows.len();
         let head = self.begin_loop(stand, statements, place)?;
-        let inside = stand_in(head);
+        let inside = stand_in(head)?;
         let entered = self.rows.len();
         let test = self.add_expr(inside, test)?;
         let switches = self.push(inside, place, entered, Node::Switches { test })?;
-        let body = in_arm(inside, switches, true);
+        let body = in_arm(inside, switches, true)?;
         let turned = self.rows.len();
         self.push(body, place, turned, Node::Turn)?;
         let begun = self.rows.len();
         self.add_nexts(body, statements)?;
         self.push(body, place, begun, Node::Body)?;
-        let behind = in_arm(inside, switches, false);
+        let behind = in_arm(inside, switches, false)?;
         let closed = self.rows.len();
         let last = self.add_expr(behind, last)?;
         self.push(behind, place, closed, Node::Reset { value: last })?;
@@ -553,7 +574,7 @@ impl<'a> Maker<'a> {
         let start = self.rows.len();
         self.push(stand, place, start, Node::Start)?;
         let head = self.rows.len();
-        let inside = stand_in(head);
+        let inside = stand_in(head)?;
         self.push(inside, place, head, Node::LoopHead { start })?;
         self.add_variables(inside, statements)?;
         let first = self.rows.len();
@@ -624,9 +645,11 @@ impl<'a> Maker<'a> {
             ≡ add_next stand index (parts self.old) name.now (tree_of expr.now) place) }
     {
         let outer = self.rows.len();
-        let name = self.number(name)?;
-        self.push(stand, place, outer, Node::NextUse { name })?;
+        let number = self.number(name)?;
+        self.push(stand, place, outer, Node::NextUse { name: number })?;
         let value = self.add_expr(stand, expr)?;
+        let name = short(number)?;
+        let index = short(index)?;
         self.push(
             stand,
             place,

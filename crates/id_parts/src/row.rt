@@ -11,28 +11,29 @@ use id_value::{BinaryOp, Constant, Kind, UnaryOp};
 /// by the true side of its `Switches`, and what is behind its body by the false side.
 #[derive(Clone, Copy, PartialEq, Eq)]
 pub struct Region {
-    pub head: usize,
+    pub head: u32,
     pub side: bool,
 }
 
 /// Where parts stand: in the block of the graph with this head, in this region of it.
 #[derive(Clone, Copy)]
 pub struct Stand {
-    pub block: usize,
+    pub block: u32,
     pub region: Region,
 }
 
-/// A part of the program. Its own parts are the rows from `first` up to it.
+/// A part of the program. Its own parts are the rows from `first` up to it. Its numbers are of 32 bits, since the rows
+/// are the largest thing that the front end makes.
 #[derive(Clone, Copy)]
 pub struct Row {
     /// The byte offset of its head token; a marker has that of its construct, `Program` has 0.
-    pub place: usize,
-    pub first: usize,
+    pub place: u32,
+    pub first: u32,
     /// The row of the head of the block of the graph that it stands in.
-    pub block: usize,
+    pub block: u32,
     pub region: Region,
     /// The row that gives its value: a block's is its body's, any other's itself.
-    pub value: usize,
+    pub value: u32,
     pub node: Node,
 }
 
@@ -111,8 +112,8 @@ pub enum Node {
     /// A `next` statement behind its expression: the index of its variable, from 0, the row of its `NextUse`, and
     /// what gives the value.
     Next {
-        name: usize,
-        index: usize,
+        name: u32,
+        index: u32,
         outer: usize,
         value: usize,
     },

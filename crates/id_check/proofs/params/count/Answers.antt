@@ -18,8 +18,8 @@ counted-requires c =
     let short = params_below-short R b c.args.i in
     omega (arith, c.element_fits.fits)
 
-pub returns-else-place-gt-MOST : goal.returns-else-place-gt-MOST
-returns-else-place-gt-MOST c =
+pub returns-in-Param : goal.returns-in-Param
+returns-in-Param c =
     let R = c.args.rows.now in
     let b = (at R c.args.i).block in
     let ts = c.args.tallies.now.items in

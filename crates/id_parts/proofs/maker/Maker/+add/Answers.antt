@@ -1,7 +1,8 @@
-use Rattle.std.proofs.Common.{◌+◌, refl, sym, ap, ◌∙◌, drop, arith}
+use Rattle.std.proofs.Common.{◌≡◌, ◌+◌, refl, sym, ap, ◌∙◌, drop, subst, arith}
 use Rattle.std.proofs.lemmas.Result.{on_ok_weaker}
 use Rattle.id_tree.specs.Tree.{tree_of}
-use Rattle.id_parts.specs.Rows.{add_nexts}
+use Rattle.id_parts.specs.declared.row.Node.TheVariants.{Next}
+use Rattle.id_parts.specs.Rows.{add_nexts, with_row}
 use Rattle.id_parts.specs.Making.{parts, stmts_tree}
 use Rattle.id_parts.proofs.MakingLemmas.{binding_parts, binding_step, body_parts, call_parts, loop_parts, store_step}
 use Rattle.id_parts.proofs.MakingLemmas.{named, next_parts, next_step, of_block, of_call, of_loop}
@@ -98,24 +99,32 @@ add_loop-returns-clause-added t c =
     let D = parts c.push-3.new.self in
     let L = parts c.add_expr-2.new.self in
     let Z = parts c.push-4.new.self in
-    let body = body_parts c.in_arm-body.result W B N D (stmts_tree c.args.statements.now) c.args.place c.len-turned.result c.len-begun.result
+    let body = body_parts c.in_ok-body.body W B N D (stmts_tree c.args.statements.now) c.args.place c.len-turned.result c.len-begun.result
     (omega arith) c.in_ok-push.ensures.added (omega arith) c.in_ok-add_nexts.ensures c.in_ok-push-2.ensures.added in
     on_ok_weaker c.push-5.result
-    (λ w. loop_parts c.args.stand c.stand_in-inside.result c.in_arm-body.result c.in_arm-behind.result T E U W D L Z (parts c.push-5.new.self)
+    (λ w. loop_parts c.args.stand c.in_ok-inside.inside c.in_ok-body.body c.in_ok-behind.behind T E U W D L Z (parts c.push-5.new.self)
     (tree_of c.args.test.now) (stmts_tree c.args.statements.now) (tree_of c.args.last.now) c.args.place c.len-start.result c.in_ok-head.head
     c.len-entered.result c.in_ok-test.test c.in_ok-switches.switches c.len-closed.result c.in_ok-last.last
-    (omega arith) c.in_ok-head.ensures.added (omega (arith, c.in_ok-head.ensures.number)) c.stand_in-inside.ensures (omega arith)
-    c.in_ok-test.ensures.added c.in_ok-test.ensures.number c.in_ok-switches.ensures.added c.in_ok-switches.ensures.number c.in_arm-body.ensures
-    body c.in_arm-behind.ensures (omega arith) c.in_ok-last.ensures.added c.in_ok-last.ensures.number c.in_ok-push-3.ensures.added w)
+    (omega arith) c.in_ok-head.ensures.added (omega (arith, c.in_ok-head.ensures.number)) c.in_ok-inside.ensures (omega arith)
+    c.in_ok-test.ensures.added c.in_ok-test.ensures.number c.in_ok-switches.ensures.added c.in_ok-switches.ensures.number c.in_ok-body.ensures
+    body c.in_ok-behind.ensures (omega arith) c.in_ok-last.ensures.added c.in_ok-last.ensures.number c.in_ok-push-3.ensures.added w)
     c.push-5.ensures.added
 
 pub add_next-returns : goal.add_next-returns
 add_next-returns t c =
+    let s = c.args.stand in
     let T = parts c.args.self.now in
     let N = parts c.number.new.self in
     let E = parts c.push.new.self in
     let U = parts c.add_expr.new.self in
-    next_parts c.args.stand T N E U (parts c.push-2.new.self) c.args.name.now (tree_of c.args.expr.now)
-    c.args.place c.len-outer.result c.in_ok-name.name c.args.index c.in_ok-value.value (omega arith) c.in_ok-name.ensures.number
-    (named T N c.args.name.now (ap (λ v. v.items) c.in_ok-name.ensures.rows) c.in_ok-name.ensures.names) c.in_ok-push.ensures.added
-    c.in_ok-value.ensures.added c.in_ok-value.ensures.number c.in_ok-push-2.ensures.added
+    let V = parts c.push-2.new.self in
+    let o = c.len-outer.result in
+    let v = c.in_ok-value.value in
+    let indexed : V ≡ with_row U s c.args.place o (Next c.in_ok-name.name c.args.index o v) =
+    subst (λ k. V ≡ with_row U s c.args.place o (Next c.in_ok-name.name k o v)) c.in_ok-index.ensures c.in_ok-push-2.ensures.added in
+    let added : V ≡ with_row U s c.args.place o (Next c.in_ok-number.number c.args.index o v) =
+    subst (λ x. V ≡ with_row U s c.args.place o (Next x c.args.index o v)) c.in_ok-name.ensures indexed in
+    next_parts s T N E U V c.args.name.now (tree_of c.args.expr.now)
+    c.args.place o c.in_ok-number.number c.args.index v (omega arith) c.in_ok-number.ensures.number
+    (named T N c.args.name.now (ap (λ v. v.items) c.in_ok-number.ensures.rows) c.in_ok-number.ensures.names) c.in_ok-push.ensures.added
+    c.in_ok-value.ensures.added c.in_ok-value.ensures.number added

@@ -7,13 +7,13 @@ use Rattle.id_parts.proofs.maker.Maker.add_def.Goals as goal
 
 pub returns : goal.returns
 returns c =
-    let s = c.stand_in-stand.result in
+    let s = c.in_ok-stand.stand in
     let H = parts c.push.new.self in
     let U = parts c.add_params.new.self in
     let V = parts c.add_expr.new.self in
     let W = parts c.number.new.self in
     let d = c.args.def.now in
     define_parts s (parts c.args.self.now) H U V W (parts c.push-2.new.self) d.name (params_tree d.params) (tree_of d.body) d.result d.place
-    c.len-head.result c.in_ok-name.name c.in_ok-body.body (omega arith) c.stand_in-stand.ensures c.in_ok-push.ensures.added
+    c.len-head.result c.in_ok-name.name c.in_ok-body.body (omega arith) c.in_ok-stand.ensures c.in_ok-push.ensures.added
     (c.in_ok-add_params.ensures ∙ ap (λ ps. add s H (params_tree ps)) c.as_slice.ensures) c.in_ok-body.ensures.added c.in_ok-body.ensures.number
     c.in_ok-name.ensures.number (named V W d.name (ap (λ v. v.items) c.in_ok-name.ensures.rows) c.in_ok-name.ensures.names) c.in_ok-push-2.ensures.added
