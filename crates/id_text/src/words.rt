@@ -17,7 +17,7 @@ pub fn word_at(text: &str, at: usize) -> &str
     &text[at..at + len]
 }
 
-/// The reserved word that is spelled so, if one is. Only those of the word's length are compared with it.
+/// The reserved word that is spelled so, if one is. Only those of its length and first byte are compared with it.
 pub fn keyword_of(word: &str) -> Option<Keyword>
     ensures { MatchOption result ((k : Keyword) → word.now ≢ word_of k) (λ k. word.now ≡ word_of k) }
 {
@@ -35,12 +35,13 @@ fn keyword_of_two(word: &str) -> Option<Keyword>
     requires { length word.now ≡ 2 }
     ensures { MatchOption result ((k : Keyword) → word.now ≢ word_of k) (λ k. word.now ≡ word_of k) }
 {
-    match word {
-        "if" => Some(Keyword::If),
-        "do" => Some(Keyword::Do),
-        "in" => Some(Keyword::In),
-        "to" => Some(Keyword::To),
-        "or" => Some(Keyword::Or),
+    let first = word.as_bytes()[0];
+    match (first, word) {
+        (b'i', "if") => Some(Keyword::If),
+        (b'd', "do") => Some(Keyword::Do),
+        (b'i', "in") => Some(Keyword::In),
+        (b't', "to") => Some(Keyword::To),
+        (b'o', "or") => Some(Keyword::Or),
         _ => None,
     }
 }
@@ -50,14 +51,15 @@ fn keyword_of_three(word: &str) -> Option<Keyword>
     requires { length word.now ≡ 3 }
     ensures { MatchOption result ((k : Keyword) → word.now ≢ word_of k) (λ k. word.now ≡ word_of k) }
 {
-    match word {
-        "def" => Some(Keyword::Def),
-        "int" => Some(Keyword::Int),
-        "div" => Some(Keyword::Div),
-        "rem" => Some(Keyword::Rem),
-        "and" => Some(Keyword::And),
-        "not" => Some(Keyword::Not),
-        "for" => Some(Keyword::For),
+    let first = word.as_bytes()[0];
+    match (first, word) {
+        (b'd', "def") => Some(Keyword::Def),
+        (b'i', "int") => Some(Keyword::Int),
+        (b'd', "div") => Some(Keyword::Div),
+        (b'r', "rem") => Some(Keyword::Rem),
+        (b'a', "and") => Some(Keyword::And),
+        (b'n', "not") => Some(Keyword::Not),
+        (b'f', "for") => Some(Keyword::For),
         _ => None,
     }
 }
@@ -67,12 +69,13 @@ fn keyword_of_four(word: &str) -> Option<Keyword>
     requires { length word.now ≡ 4 }
     ensures { MatchOption result ((k : Keyword) → word.now ≢ word_of k) (λ k. word.now ≡ word_of k) }
 {
-    match word {
-        "then" => Some(Keyword::Then),
-        "else" => Some(Keyword::Else),
-        "next" => Some(Keyword::Next),
-        "true" => Some(Keyword::True),
-        "bool" => Some(Keyword::Bool),
+    let first = word.as_bytes()[0];
+    match (first, word) {
+        (b't', "then") => Some(Keyword::Then),
+        (b'e', "else") => Some(Keyword::Else),
+        (b'n', "next") => Some(Keyword::Next),
+        (b't', "true") => Some(Keyword::True),
+        (b'b', "bool") => Some(Keyword::Bool),
         _ => None,
     }
 }
@@ -82,11 +85,12 @@ fn longer_keyword(word: &str) -> Option<Keyword>
     requires { 5 ≤ length word.now }
     ensures { MatchOption result ((k : Keyword) → word.now ≢ word_of k) (λ k. word.now ≡ word_of k) }
 {
-    match word {
-        "while" => Some(Keyword::While),
-        "finally" => Some(Keyword::Finally),
-        "false" => Some(Keyword::False),
-        "array" => Some(Keyword::Array),
+    let first = word.as_bytes()[0];
+    match (first, word) {
+        (b'w', "while") => Some(Keyword::While),
+        (b'f', "finally") => Some(Keyword::Finally),
+        (b'f', "false") => Some(Keyword::False),
+        (b'a', "array") => Some(Keyword::Array),
         _ => None,
     }
 }
