@@ -8,4 +8,5 @@ pub mod Visits
 -- For use inside.
 pub mod Lines
 pub mod Ledgers
+pub mod Margins
 pub mod Spots

@@ -9,13 +9,13 @@ ghost use Rattle.id_valid.specs.Roles.{op_at};
 ghost use Rattle.id_graph.specs.Graph.{IsGraph};
 
 use crate::line::{
-    Doing, Handled, Handling, Ledger, NO_REPLIES, Reaction, Replies, Shooting, Spot, Visiting,
-    deed_beside, deed_line, instr_in, packed, packed_beside, payload_in, shot, shot_line, unpack,
-    visit_beside, visited, whole,
+    Doing, Handled, Handling, Ledger, NO_REPLIES, Reaction, Replies, Shooting, Visiting,
+    deed_beside, deed_line, packed, packed_beside, shot, shot_line, visit_beside, visited, whole,
 };
+use crate::margin::{Margin, add_beside, add_line};
 use crate::outputs::{Envelope, Outputs, chosen};
 use crate::step::{Fault, Step, Verdict};
-use crate::telling::{add_beside, add_line, add_telling, is_telling};
+use crate::telling::is_telling;
 use id_graph::{Dest, Graph, Op};
 use id_ops::Fired;
 use id_tag::{Message, Payload, Tag, Value};
@@ -29,36 +29,28 @@ pub struct Record<'a> {
     graph: &'a Valid,
     element: u32,
     lines: Ledger,
-    asides: Vec<Handled>,
-    // Of events that name a cell or a structure.
-    cells: Vec<Spot>,
+    margin: Margin,
     replies: Vec<Tag>,
-    // The positions of the events that tell.
-    telling: Vec<usize>,
 }
 
 impl<'a> Model for Record<'a> {
-    ghost use Rattle.std.specs.Prelude.{◌-◌, min, vec_len, vec_capacity};
-    ghost use Rattle.id_record.specs.Lines.{beside};
+    ghost use Rattle.std.specs.Prelude.{◌-◌, vec_len, vec_capacity};
     ghost use Rattle.id_record.specs.Records.{AreKept, RecordView, events_from};
-    ghost use Rattle.id_record.specs.Spots.{cells_at};
 
     ghost Value = { RecordView };
 
     ghost view = { λ r. record {
       element = r.element;
       graph = r.graph.now;
-      events = events_from r.graph.now r.element r.replies.items 0
-          (beside r.asides.items (cells_at r.cells.items)) r.lines.items;
+      events = events_from r.graph.now r.element r.replies.items 0 r.margin.beside r.lines.items;
       replies = r.replies.items;
       room = r.lines.room;
-      room_aside = min (vec_capacity r.telling - vec_len r.telling)
-          (min (vec_capacity r.asides - vec_len r.asides) (vec_capacity r.cells - vec_len r.cells));
+      room_aside = r.margin.room;
       room_for_replies = vec_capacity r.replies - vec_len r.replies;
     } };
 
     ghost invariant = { λ r. AreKept r.graph.now r.element r.replies.items
-        (beside r.asides.items (cells_at r.cells.items)) r.lines.items r.telling.items };
+        r.margin.beside r.lines.items r.margin.telling };
 }
 
 /// An event: the element that handled the message, the stamp that it gave it, what it fired and sent, and what
@@ -109,10 +101,8 @@ impl<'a> Record<'a> {
             graph,
             element,
             lines: Ledger::new(alloc, alone),
-            asides: Vec::new(alloc),
-            cells: Vec::new(alloc),
+            margin: Margin::new(alloc),
             replies: Vec::new(alloc),
-            telling: Vec::new(alloc),
         }
     }
 
@@ -128,10 +118,10 @@ impl<'a> Record<'a> {
         ensures room_for_replies { OnOk result (replies ≤ self.new.room_for_replies) }
     {
         self.lines.reserve()?;
-        self.asides.reserve(1)?;
-        self.cells.reserve(1)?;
-        self.replies.reserve(replies)?;
-        self.telling.reserve(1)?;
+        self.margin.reserve()?;
+        if replies > 0 {
+            self.replies.reserve(replies)?;
+        }
         Ok(())
     }
 
@@ -171,7 +161,7 @@ impl<'a> Record<'a> {
         match packed(&event) {
             Some(line) => {
                 let tells = is_telling(&event.message.payload, &event.reaction.fired);
-                if !add_line(&mut self.lines, &mut self.telling, line, tells) {
+                if !add_line(&mut self.lines, &mut self.margin, line, tells) {
                     self.push_whole(event);
                 }
             }
@@ -190,16 +180,10 @@ impl<'a> Record<'a> {
             ++ event_of_handled self.old.graph self.old.element self.old.replies (length self.old.events)
             (handled event.entry) ∷ [] }
     {
-        match packed_beside(&event, self.cells.len()) {
+        match packed_beside(&event, self.margin.count_cells()) {
             Some(celled) => {
                 let tells = is_telling(&event.message.payload, &event.reaction.fired);
-                if !add_beside(
-                    &mut self.lines,
-                    &mut self.cells,
-                    &mut self.telling,
-                    celled,
-                    tells,
-                ) {
+                if !add_beside(&mut self.lines, &mut self.margin, celled, tells) {
                     self.push_whole(event);
                 }
             }
@@ -234,9 +218,7 @@ impl<'a> Record<'a> {
             event.now ∷ [] }
     {
         let tells = is_telling(&event.message.payload, &event.reaction.fired);
-        add_telling(&mut self.telling, self.lines.len(), tells);
-        let index = self.asides.len();
-        self.asides.push_reserved(*event);
+        let index = self.margin.push_aside(event, self.lines.len(), tells);
         self.lines.push_aside(index);
     }
 
@@ -257,7 +239,7 @@ impl<'a> Record<'a> {
         let line = shot_line(&event);
         if !add_line(
             &mut self.lines,
-            &mut self.telling,
+            &mut self.margin,
             line,
             event.token.instr == 0,
         ) {
@@ -295,7 +277,7 @@ impl<'a> Record<'a> {
             Some(line) => {
                 if !add_line(
                     &mut self.lines,
-                    &mut self.telling,
+                    &mut self.margin,
                     line,
                     event.token.instr == 0,
                 ) {
@@ -318,16 +300,10 @@ impl<'a> Record<'a> {
             ++ event_of_handled self.old.graph self.old.element self.old.replies (length self.old.events)
             (doing event.entry) ∷ [] }
     {
-        match deed_beside(&event, self.cells.len()) {
+        match deed_beside(&event, self.margin.count_cells()) {
             Some(celled) => {
                 let tells = event.token.instr == 0;
-                if !add_beside(
-                    &mut self.lines,
-                    &mut self.cells,
-                    &mut self.telling,
-                    celled,
-                    tells,
-                ) {
+                if !add_beside(&mut self.lines, &mut self.margin, celled, tells) {
                     self.push_deed_aside(event);
                 }
             }
@@ -373,15 +349,9 @@ impl<'a> Record<'a> {
             ++ event_of_handled self.old.graph self.old.element self.old.replies (length self.old.events)
             (visiting event.entry) ∷ [] }
     {
-        match visit_beside(&event, self.cells.len()) {
+        match visit_beside(&event, self.margin.count_cells()) {
             Some(celled) => {
-                if !add_beside(
-                    &mut self.lines,
-                    &mut self.cells,
-                    &mut self.telling,
-                    celled,
-                    false,
-                ) {
+                if !add_beside(&mut self.lines, &mut self.margin, celled, false) {
                     self.push_visit_aside(event);
                 }
             }
@@ -440,7 +410,7 @@ impl<'a> Record<'a> {
         ensures { option_map (λ e. e.message.payload) (slice_get self.now.events position) ≡ Some result }
     {
         let line = self.lines.unstamped(position);
-        payload_in(self.asides.as_slice(), self.cells.as_slice(), &line)
+        self.margin.payload(&line)
     }
 
     /// The number of the instruction whose tag the message of the event at a position names.
@@ -451,7 +421,7 @@ impl<'a> Record<'a> {
             ≡ Some result }
     {
         let line = self.lines.unstamped(position);
-        instr_in(self.asides.as_slice(), self.cells.as_slice(), &line)
+        self.margin.instr(&line)
     }
 
     /// The position of the first event, from this one on, whose message names a marked instruction, or else how many
@@ -476,7 +446,7 @@ impl<'a> Record<'a> {
     fn telling(&self) -> &[usize]
         ensures { result.now ≡ telling_from 0 self.now.events }
     {
-        self.telling.as_slice()
+        self.margin.telling()
     }
 
     #[inline(always)]
@@ -492,7 +462,7 @@ impl<'a> Record<'a> {
         }) }
     {
         let line = self.lines.line(position);
-        let handled = unpack(self.asides.as_slice(), self.cells.as_slice(), &line);
+        let handled = self.margin.event(&line);
         let tag = tag_of(&handled.message.payload);
         let envelope = Envelope {
             number: self.element,

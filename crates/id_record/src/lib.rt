@@ -10,6 +10,7 @@
 
 mod history;
 mod line;
+mod margin;
 mod outputs;
 mod step;
 mod telling;

@@ -1,16 +1,15 @@
 -- One more reply changes no event.
 use Rattle.std.proofs.Common.{ap, sym, ◌∙◌}
 use Rattle.std.proofs.lemmas.List.Elements.{recursion_from_All}
-use Rattle.id_record.specs.Lines.{IsKept, beside}
+use Rattle.id_record.specs.Lines.{IsKept}
 use Rattle.id_record.proofs.LinesLemmas.{events_from-replies, kept_replies}
-use Rattle.id_record.specs.Spots.{cells_at}
 use Rattle.id_record.specs.Tellings.{telling_from}
 use Rattle.id_record.proofs.history.Record.add_reply.Goals as goal
 
 pub invariant_of-self : goal.invariant_of-self
 invariant_of-self c =
     let r = c.self.inside in
-    let b = beside r.asides.items (cells_at r.cells.items) in
+    let b = r.margin.beside in
     let same = events_from-replies r.graph.now r.element r.replies.items _ 0 b r.lines.items (recursion_from_All (IsKept b r.replies.items) r.lines.items c.self.invariant.lines) in
     rw c.push_reserved.ensures.items
     (record {
@@ -21,6 +20,6 @@ invariant_of-self c =
 pub returns-clause-events : goal.returns-clause-events
 returns-clause-events c =
     let r = c.self.inside in
-    let b = beside r.asides.items (cells_at r.cells.items) in
+    let b = r.margin.beside in
     rw (← ap (λ v. v.events) c.self.view_is, c.push_reserved.ensures.items)
     (events_from-replies r.graph.now r.element r.replies.items _ 0 b r.lines.items (recursion_from_All (IsKept b r.replies.items) r.lines.items c.self.invariant.lines))

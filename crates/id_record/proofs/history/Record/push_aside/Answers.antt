@@ -1,11 +1,9 @@
 -- The record goes on by one event, which stands aside.
-use Rattle.std.proofs.Common.{◌≡◌, ◌++◌, ◌∷◌, [], List, length, ap, subst, sym, ◌∙◌, arith}
+use Rattle.std.proofs.Common.{◌≡◌, ◌++◌, ◌∷◌, [], List, ap, subst, sym, ◌∙◌}
 use Rattle.id_tag.specs.declared.Tag.{Tag}
 use Rattle.id_record.specs.declared.line.Handled.{Handled}
 use Rattle.id_record.specs.Lines.{AreThere, beside}
 use Rattle.id_record.specs.Records.{RecordView}
-use Rattle.id_record.specs.Spots.{cells_at}
-use Rattle.std.proofs.lemmas.Grind.{common_steps}
 use Rattle.id_record.proofs.LinesLemmas.{pushed_aside, kept_aside}
 use Rattle.id_record.proofs.TellingsLemmas.{AreKept-push}
 use Rattle.id_record.proofs.history.Record.push_aside.Goals as goal
@@ -16,19 +14,17 @@ there ts v e is h = subst (λ us. AreThere us e.replies) (sym is) h
 pub invariant_of-self : goal.invariant_of-self
 invariant_of-self c =
     let r = c.self.inside in
-    let cs = cells_at r.cells.items in
+    let cs = r.margin.beside.cells in
     let h = c.args.event.now in
-    let at : c.len-index.result ≡ length r.asides.items = grind (arith, common_steps) in
-    let index = c.push_aside.ensures.index ∙ at in
-    rw (c.push_aside.ensures.added, c.push_reserved.ensures.items)
-    (AreKept-push r.graph.now r.element r.replies.items (beside r.asides.items cs) (beside (r.asides.items ++ h ∷ []) cs) r.lines.items _ r.telling.items _ h _ _ c.self.invariant
-    (kept_aside r.replies.items r.asides.items cs r.lines.items h c.push_aside.result c.push_aside.ensures.kind index (there r.replies.items c.args.self.now h (ap (λ v. v.replies) c.self.view_is) c.requires.replies) c.self.invariant.lines)
-    (pushed_aside r.graph.now r.element r.replies.items r.asides.items cs r.lines.items h c.push_aside.result c.push_aside.ensures.kind index c.self.invariant.lines)
-    c.is_telling-tells.ensures c.len.ensures c.add_telling.ensures)
+    let index = c.push_aside.ensures.index ∙ c.push_aside-index.ensures.index in
+    rw (c.push_aside.ensures.added, c.push_aside-index.ensures.beside)
+    (AreKept-push r.graph.now r.element r.replies.items (beside r.margin.beside.asides cs) (beside (r.margin.beside.asides ++ h ∷ []) cs) r.lines.items _ r.margin.telling _ h _ _ c.self.invariant
+    (kept_aside r.replies.items r.margin.beside.asides cs r.lines.items h c.push_aside.result c.push_aside.ensures.kind index (there r.replies.items c.args.self.now h (ap (λ v. v.replies) c.self.view_is) c.requires.replies) c.self.invariant.lines)
+    (pushed_aside r.graph.now r.element r.replies.items r.margin.beside.asides cs r.lines.items h c.push_aside.result c.push_aside.ensures.kind index c.self.invariant.lines)
+    c.is_telling-tells.ensures c.len.ensures c.push_aside-index.ensures.telling)
 
 pub returns-clause-events : goal.returns-clause-events
 returns-clause-events c =
     let r = c.self.inside in
-    let at : c.len-index.result ≡ length r.asides.items = grind (arith, common_steps) in
-    rw (← ap (λ v. v.events) c.self.view_is, ← ap (λ v. v.graph) c.self.view_is, ← ap (λ v. v.element) c.self.view_is, ← ap (λ v. v.replies) c.self.view_is, c.push_aside.ensures.added, c.push_reserved.ensures.items)
-    (pushed_aside r.graph.now r.element r.replies.items r.asides.items (cells_at r.cells.items) r.lines.items c.args.event.now c.push_aside.result c.push_aside.ensures.kind (c.push_aside.ensures.index ∙ at) c.self.invariant.lines)
+    rw (← ap (λ v. v.events) c.self.view_is, ← ap (λ v. v.graph) c.self.view_is, ← ap (λ v. v.element) c.self.view_is, ← ap (λ v. v.replies) c.self.view_is, c.push_aside.ensures.added, c.push_aside-index.ensures.beside)
+    (pushed_aside r.graph.now r.element r.replies.items r.margin.beside.asides r.margin.beside.cells r.lines.items c.args.event.now c.push_aside.result c.push_aside.ensures.kind (c.push_aside.ensures.index ∙ c.push_aside-index.ensures.index) c.self.invariant.lines)

@@ -4,4 +4,4 @@ use Rattle.id_record.specs.Tellings.{telling_from}
 use Rattle.id_record.proofs.history.Record.telling.Goals as goal
 
 pub returns : goal.returns
-returns c = c.as_slice.ensures.value ∙ c.self.invariant.telling ∙ ap (λ v. telling_from 0 v.events) c.self.view_is
+returns c = c.telling.ensures ∙ c.self.invariant.telling ∙ ap (λ v. telling_from 0 v.events) c.self.view_is
