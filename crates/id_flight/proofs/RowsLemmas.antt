@@ -1,15 +1,25 @@
--- Lemmas on specs/Rows.antt.
+-- Lemmas on the list of a row.
 use Rattle.std.proofs.Common.{◌≡◌, ℕ, zero, suc, ◌+◌, ◌<◌, List, [], ◌∷◌, length, drop, refl, ap, ◌∙◌, arith}
 use Rattle.id_flight.specs.declared.parcel.Parcel.{Parcel}
-use Rattle.id_flight.specs.Rows.{in_row}
 
-next-left : (left : ℕ) (front back : List Parcel) → left < length front → in_row (suc left) front back ≡ drop 1 (in_row left front back)
-next-left zero (p ∷ front) back there = refl
-next-left (suc left) (p ∷ front) back there = next-left left front back (omega arith)
-next-left left [] back there = absurd (omega arith)
+next-left : (left : ℕ) (ps : List Parcel) → left < length ps → drop (suc left) ps ≡ drop 1 (drop left ps)
+next-left zero (p ∷ ps) there = refl
+next-left (suc left) (p ∷ ps) there = next-left left ps (omega arith)
+next-left left [] there = absurd (omega arith)
 
 -- one more has left
-pub one-left : (left : ℕ) (front back : List Parcel) → left < length front → in_row (left + 1) front back ≡ drop 1 (in_row left front back)
-one-left left front back there =
+pub one-left : (left : ℕ) (ps : List Parcel) → left < length ps → drop (left + 1) ps ≡ drop 1 (drop left ps)
+one-left left ps there =
     let more : left + 1 ≡ suc left = omega arith in
-    ap (λ k. in_row k front back) more ∙ next-left left front back there
+    ap (λ k. drop k ps) more ∙ next-left left ps there
+
+last-left : (left : ℕ) (ps : List Parcel) → length ps < suc (suc left) → drop 1 (drop left ps) ≡ []
+last-left zero [] few = refl
+last-left zero (p ∷ []) few = refl
+last-left zero (p ∷ q ∷ ps) few = absurd (omega arith)
+last-left (suc left) [] few = refl
+last-left (suc left) (p ∷ ps) few = last-left left ps (omega arith)
+
+-- none is left where at most one was
+pub none-left : (left : ℕ) (ps : List Parcel) → length ps < left + 2 → drop 1 (drop left ps) ≡ []
+none-left left ps few = last-left left ps (omega (arith, few))

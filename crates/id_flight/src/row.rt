@@ -1,40 +1,42 @@
-//! Parcels in a row, in two lists: they leave from the first, and come to the second, which takes the place of the
-//! first once all of that have left. So no parcel moves while it waits, also where the lists grow.
+//! Parcels in a row, in one list: those that have left stay in it until there is no room behind the others, and as many
+//! of them as of the others. So each parcel is moved once for each that has left, on an average, where the list is made
+//! shorter.
 
-ghost use Rattle.std.specs.Prelude.{◌≡◌, ◌≤◌, ◌+◌, ◌^◌, [], drop, length, IfOk};
-ghost use Rattle.id_flight.specs.Rows.{IsRow, in_row};
+ghost use Rattle.std.specs.Prelude.{◌≡◌, ◌≤◌, ◌<◌, ◌+◌, ◌-◌, ◌^◌, [], drop, length, vec_capacity, IfOk};
+ghost use Rattle.id_flight.specs.Rows.{IsRow};
 
 use crate::parcel::Parcel;
 use std::alloc::{AllocError, Global};
 use std::marker::Model;
-use std::mem;
 
-/// The most parcels of one list.
+/// The most parcels of the list.
 const MOST: usize = 1 << 60;
+
+/// So many parcels that have left are not worth a move of the others.
+const FEW: usize = 64;
 
 /// Parcels in a row.
 #[derive(Drop)]
 pub(crate) struct Row {
-    // For a wider first list.
+    // For a wider list.
     alloc: Global,
-    front: Vec<Parcel>,
-    // How many of the first list have left.
+    parcels: Vec<Parcel>,
+    // How many of the list have left.
     left: usize,
-    back: Vec<Parcel>,
 }
 
 impl Model for Row {
-    ghost use Rattle.std.specs.Prelude.{◌-◌, ◌^◌, length, min, vec_capacity};
-    ghost use Rattle.id_flight.specs.Rows.{IsRow, RowView, in_row};
+    ghost use Rattle.std.specs.Prelude.{◌-◌, ◌^◌, drop, length, min, vec_capacity};
+    ghost use Rattle.id_flight.specs.Rows.{IsRow, RowView};
 
     ghost Value = { RowView };
 
     ghost view = { λ r. record {
-      items = in_row r.left r.front.items r.back.items;
-      room = min (vec_capacity r.back) (2 ^ 60) - length r.back.items;
+      items = drop r.left r.parcels.items;
+      room = min (vec_capacity r.parcels) (2 ^ 60) - length r.parcels.items;
     } };
 
-    ghost invariant = { λ r. IsRow r.left r.front.items r.back.items };
+    ghost invariant = { λ r. IsRow r.left r.parcels.items };
 }
 
 impl Row {
@@ -47,9 +49,8 @@ impl Row {
     {
         Row {
             alloc,
-            front: Vec::new(alloc),
+            parcels: Vec::new(alloc),
             left: 0,
-            back: Vec::new(alloc),
         }
     }
 
@@ -59,7 +60,7 @@ impl Row {
         ensures len { result ≡ length self.now.items }
         ensures bound { result < 2 ^ 63 }
     {
-        self.front.len() - self.left + self.back.len()
+        self.parcels.len() - self.left
     }
 
     /// The parcel at a position, from 0. Takes no memory.
@@ -68,12 +69,7 @@ impl Row {
         requires { position < length self.now.items }
         ensures { slice_get self.now.items position ≡ Some result.now }
     {
-        let ahead = self.front.len() - self.left;
-        if position < ahead {
-            &self.front[self.left + position]
-        } else {
-            &self.back[position - ahead]
-        }
+        &self.parcels[self.left + position]
     }
 
     /// The first parcel, if there is one. Takes no memory.
@@ -81,11 +77,7 @@ impl Row {
     pub(crate) fn first(&self) -> Option<&Parcel>
         ensures { option_copied result ≡ slice_get self.now.items 0 }
     {
-        if self.left < self.front.len() {
-            Some(&self.front[self.left])
-        } else {
-            self.back.as_slice().first()
-        }
+        self.parcels.get(self.left)
     }
 
     /// Makes room for so many parcels more at the end.
@@ -96,10 +88,10 @@ impl Row {
     {
         // Asked here first, so that the list's growth is not inlined.
         if self
-            .back
+            .parcels
             .capacity()
             .min(MOST)
-            .saturating_sub(self.back.len())
+            .saturating_sub(self.parcels.len())
             < more
         {
             self.grow(more)?;
@@ -113,10 +105,14 @@ impl Row {
         ensures items { self.new.items ≡ self.old.items }
         ensures room { OnOk result (more ≤ self.new.room) }
     {
-        if more > MOST - self.back.len() {
+        if self.left >= FEW && self.left >= self.len() {
+            shorten(&mut self.parcels, self.left);
+            self.left = 0;
+        }
+        if more > MOST - self.parcels.len() {
             return Err(AllocError);
         }
-        self.back.reserve(more)?;
+        self.parcels.reserve(more)?;
         Ok(())
     }
 
@@ -127,7 +123,7 @@ impl Row {
         ensures items { self.new.items ≡ self.old.items ++ parcel ∷ [] }
         ensures room { self.old.room ≡ self.new.room + 1 }
     {
-        self.back.push_reserved(parcel);
+        self.parcels.push_reserved(parcel);
     }
 
     /// Adds a parcel at the front. After an error nothing has changed.
@@ -136,12 +132,12 @@ impl Row {
         ensures err { OnErr result (self.new.items ≡ self.old.items) }
     {
         if self.left == 0 {
-            let more = self.front.len() + 4;
-            self.front = widened(self.alloc, self.front.as_slice(), more, parcel)?;
+            let more = self.parcels.len() + 4;
+            self.parcels = widened(self.alloc, self.parcels.as_slice(), more, parcel)?;
             self.left = more;
         }
         self.left -= 1;
-        self.front[self.left] = parcel;
+        self.parcels[self.left] = parcel;
         Ok(())
     }
 
@@ -152,12 +148,21 @@ impl Row {
         ensures empty { IsTrue result → self.new.items ≡ [] }
     {
         let next = self.left + 1;
-        if next < self.front.len() {
+        if next < self.parcels.len() {
             self.left = next;
             return false;
         }
-        drop_last(&mut self.front, &mut self.left, &mut self.back);
-        self.len() == 0
+        self.empty();
+        true
+    }
+
+    /// Drops all parcels. Takes no memory.
+    #[inline(never)]
+    fn empty(&mut self)
+        ensures { self.new.items ≡ [] }
+    {
+        self.parcels.clear();
+        self.left = 0;
     }
 
     /// Takes out the first parcel, if there is one. Takes no memory.
@@ -178,30 +183,21 @@ impl Row {
         ensures items { self.old.items ≡ self.new.items ++ option_to_list result }
         ensures some { IsSome result ↔ (0 < length self.old.items) }
     {
-        if let Some(last) = self.back.pop() {
-            return Some(last);
-        }
-        if self.left == self.front.len() {
+        if self.left == self.parcels.len() {
             return None;
         }
-        self.front.pop()
+        self.parcels.pop()
     }
 }
 
-/// Drops the first parcel of the row of these two lists, if there is one, where the first list has one or none left.
-/// The second takes its place.
-#[inline(never)]
-fn drop_last(front: &mut Vec<Parcel>, left: &mut usize, back: &mut Vec<Parcel>)
-    requires row { IsRow left.old front.old.items back.old.items }
-    requires last { length front.old.items ≤ left.old + 1 }
-    ensures items { in_row left.new front.new.items back.new.items
-        ≡ drop 1 (in_row left.old front.old.items back.old.items) }
-    ensures row { IsRow left.new front.new.items back.new.items }
+/// Takes so many parcels away in front of the others.
+fn shorten(parcels: &mut Vec<Parcel>, left: usize)
+    requires { left ≤ length parcels.old.items }
+    ensures { parcels.new.items ≡ drop left parcels.old.items }
 {
-    let is_one_left = *left < front.len();
-    front.clear();
-    mem::swap(front, back);
-    *left = if is_one_left { 0 } else { front.len().min(1) };
+    let len = parcels.len();
+    parcels.copy_within(left..len, 0);
+    parcels.truncate(len - left);
 }
 
 /// These parcels, behind so many more, for which the filler stands.
