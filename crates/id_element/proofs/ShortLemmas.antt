@@ -8,6 +8,7 @@ use Rattle.id_graph.specs.Graph.{Parts, kind_at}
 use Rattle.id_bank.specs.Cells.{Cells}
 use Rattle.id_match.specs.Waiting.{Store}
 use Rattle.id_ops.specs.Operators.{fired}
+use Rattle.id_ops.specs.declared.shot.Shot.TheVariants as shot
 use Rattle.id_ops.specs.Shots.{fired_of}
 use Rattle.id_record.specs.declared.step.Verdict.TheVariants as verdict
 use Rattle.id_element.specs.declared.step.Reacted.{Reacted}
@@ -55,8 +56,9 @@ module _ (old : ElementView) (t : PlainToken) (went later : Bool) (new : State)
 
 -- the element step on a plain token at this instruction of which this came, where these wait afterwards
 abbrev pub IsStepOn : Parts → ℕ → State → PlainToken → Instr → Store → Reacted → Type 0
-IsStepOn g e s t i later (reacted.Shot shot) =
-    IsStepBy g e s (message_of t) (plain_outcome i t later s.cells (fired_of shot) verdict.Went)
+IsStepOn g e s t i later reacted.Waits = IsStepBy g e s (message_of t) (plain_outcome i t later s.cells (fired_of shot.Nothing) verdict.Went)
+IsStepOn g e s t i later (reacted.Shot sent) =
+    IsStepBy g e s (message_of t) (plain_outcome i t later s.cells (fired_of sent) verdict.Went)
 IsStepOn g e s t i later (reacted.Fires o) =
     let f = fired i.op (tag_in t) (operands_in o) (next_numbers e s) in
     IsStepBy g e s (message_of t) (plain_outcome i t later s.cells f (fired_verdict f))
@@ -64,8 +66,10 @@ IsStepOn g e s t i later reacted.Apart = Unit {0}
 
 step_at : (g : Parts) (e : ℕ) (s : State) (t : PlainToken) (i : Instr) (later : Store) (r : Reacted) → slice_get g.instrs t.instr ≡ Some i
     → IsReaction i.op s.waiting later t r → IsStepOn g e s t i later r
-step_at g e s t i later (reacted.Shot shot) there comes =
-    step_by g e s (message_of t) _ (shot_outcome g (next_numbers e s) s.waiting later s.cells t i shot there comes)
+step_at g e s t i later reacted.Waits there comes =
+    step_by g e s (message_of t) _ (shot_outcome g (next_numbers e s) s.waiting later s.cells t i shot.Nothing there comes)
+step_at g e s t i later (reacted.Shot sent) there comes =
+    step_by g e s (message_of t) _ (shot_outcome g (next_numbers e s) s.waiting later s.cells t i sent there comes)
 step_at g e s t i later (reacted.Fires o) there comes =
     step_by g e s (message_of t) _ (fires_outcome g (next_numbers e s) s.waiting later s.cells t i o there comes)
 step_at g e s t i later reacted.Apart there comes = tt

@@ -18,6 +18,7 @@ use Rattle.id_match.specs.Waiting.{Store}
 use Rattle.id_ops.specs.declared.Operands.{Operands}
 use Rattle.id_ops.specs.declared.Operands.TheVariants.{One, Two}
 use Rattle.id_ops.specs.declared.shot.Shot.{Shot}
+use Rattle.id_ops.specs.declared.shot.Shot.TheVariants as shot
 use Rattle.id_ops.specs.Shots.{IsBrief, IsOwn, fired_of}
 use Rattle.id_element.specs.declared.step.PlainOperands.{PlainOperands}
 use Rattle.id_element.specs.declared.step.PlainOperands.TheVariants as plain
@@ -68,6 +69,7 @@ pub record IsFiring (op : Op) (w later : Store) (t : PlainToken) (o : PlainOpera
 
 -- this comes of a plain token, and these wait afterwards
 abbrev pub IsReaction : Op → Store → Store → PlainToken → Reacted → Type 0
+IsReaction op w later t reacted.Waits = IsShot op w later t shot.Nothing
 IsReaction op w later t (reacted.Shot s) = IsShot op w later t s
 IsReaction op w later t (reacted.Fires o) = IsFiring op w later t o
 IsReaction op w later t reacted.Apart = later ≡ w

@@ -167,6 +167,10 @@ impl<'a> Desk<'a> {
         }
         self.reserve(most, 0, outputs)?;
         match react_plain(&mut self.waiting, instr.op, token)? {
+            Reacted::Waits => {
+                self.conclude_shot(instr, token, stamp as u32, Shot::Nothing, outputs);
+                Ok(Short::Went)
+            }
             Reacted::Shot(shot) => {
                 self.conclude_shot(instr, token, stamp as u32, shot, outputs);
                 Ok(Short::Went)

@@ -121,7 +121,7 @@ pub(crate) fn react_plain(
         return Ok(fires(op, token));
     }
     match waiting.offer_plain(token)? {
-        Met::Kept => Ok(Reacted::Shot(Shot::Nothing)),
+        Met::Kept => Ok(Reacted::Waits),
         Met::Apart => Ok(Reacted::Apart),
         Met::Partner(partner) => Ok(met(op, token, partner)),
     }

@@ -60,6 +60,8 @@ pub(crate) enum PlainOperands {
 /// What comes of a plain token at its instruction, in short.
 #[derive(Clone, Copy)]
 pub(crate) enum Reacted {
+    /// It waits for its partner.
+    Waits,
     /// A plain value is sent, or nothing.
     Shot(Shot),
     /// It fires its instruction, and these operands have something else come of them.

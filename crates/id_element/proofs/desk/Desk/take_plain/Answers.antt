@@ -1,21 +1,30 @@
 -- What is recorded is the element step, by what came of the token.
 use Rattle.std.proofs.Common.{arith, sym}
 use Rattle.std.proofs.lemmas.Grind.{common_steps}
-use Rattle.id_element.specs.declared.step.Reacted.TheVariants.{Shot, Fires}
+use Rattle.id_element.specs.declared.step.Reacted.TheVariants.{Waits, Shot, Fires}
 use Rattle.id_element.specs.Desks.{state_of}
 use Rattle.id_element.specs.declared.step.Short.TheVariants.{Went}
 use Rattle.id_element.proofs.ShortLemmas.{IsStepOn, step_on, if_err, on_ok, not_ok, not_apart, on_err, end_ok, end_memory, with_waiting}
 use Rattle.id_element.proofs.desk.Desk.take_plain.Goals as goal
-use Rattle.id_element.proofs.desk.Desk.take_plain.Goals.{After-conclude_shot, After-conclude_plain}
+use Rattle.id_element.proofs.desk.Desk.take_plain.Goals.{After-conclude_shot, After-conclude_shot-in-Shot, After-conclude_plain}
+
+-- where it waits for its partner
+waits : (c : After-conclude_shot)
+    → IsStepOn c.args.graph.now c.args.self.now.log.element (state_of c.args.self.now) c.args.token.now
+    c.index-instrs-token.result c.react_plain.new.waiting Waits
+waits c =
+    step_on c.args.graph.now c.args.self.now.log.element (state_of c.args.self.now) (state_of c.reserve.new.self) c.args.token.now _
+    c.index-instrs-token.result _ c.react_plain.new.waiting c.in_ok-react_plain.field-0 Waits
+    c.requires.fits.kind c.instrs.ensures.value c.index-instrs-token.is c.in_ok-reserve.ensures.state c.in_ok-react_plain.ensures.reaction c.in-Waits.is
 
 -- where it is a shot
-shot : (c : After-conclude_shot)
+shot : (c : After-conclude_shot-in-Shot)
     → IsStepOn c.args.graph.now c.args.self.now.log.element (state_of c.args.self.now) c.args.token.now
     c.index-instrs-token.result c.react_plain.new.waiting (Shot c.in-Shot.shot)
 shot c =
     step_on c.args.graph.now c.args.self.now.log.element (state_of c.args.self.now) (state_of c.reserve.new.self) c.args.token.now _
-    c.index-instrs-token.result _ c.react_plain.new.waiting c.in_ok-shot.field-0 (Shot c.in-Shot.shot)
-    c.requires.fits.kind c.instrs.ensures.value c.index-instrs-token.is c.in_ok-reserve.ensures.state c.in_ok-shot.ensures.reaction c.in-Shot.is
+    c.index-instrs-token.result _ c.react_plain.new.waiting c.in_ok-react_plain.field-0 (Shot c.in-Shot.shot)
+    c.requires.fits.kind c.instrs.ensures.value c.index-instrs-token.is c.in_ok-reserve.ensures.state c.in_ok-react_plain.ensures.reaction c.in-Shot.is
 
 -- where it fires the instruction otherwise
 fires : (c : After-conclude_plain)
@@ -23,8 +32,24 @@ fires : (c : After-conclude_plain)
     c.index-instrs-token.result c.react_plain.new.waiting (Fires c.in-Fires.operands)
 fires c =
     step_on c.args.graph.now c.args.self.now.log.element (state_of c.args.self.now) (state_of c.reserve.new.self) c.args.token.now _
-    c.index-instrs-token.result _ c.react_plain.new.waiting c.in_ok-shot.field-0 (Fires c.in-Fires.operands)
-    c.requires.fits.kind c.instrs.ensures.value c.index-instrs-token.is c.in_ok-reserve.ensures.state c.in_ok-shot.ensures.reaction c.in-Fires.is
+    c.index-instrs-token.result _ c.react_plain.new.waiting c.in_ok-react_plain.field-0 (Fires c.in-Fires.operands)
+    c.requires.fits.kind c.instrs.ensures.value c.index-instrs-token.is c.in_ok-reserve.ensures.state c.in_ok-react_plain.ensures.reaction c.in-Fires.is
+
+pub returns-in-Waits-clause-step : goal.returns-in-Waits-clause-step
+returns-in-Waits-clause-step c h = sym (waits c).step
+
+pub returns-in-Waits-clause-state : goal.returns-in-Waits-clause-state
+returns-in-Waits-clause-state c h =
+    let after = (waits c).state in
+    let before = c.in_ok-reserve.ensures.state in
+    let done = c.conclude_shot.ensures in
+    grind (arith, common_steps, after, before, done.waiting, done.cells, done.stamp, done.contexts, done.structures, done.events)
+
+pub returns-in-Waits-clause-outputs : goal.returns-in-Waits-clause-outputs
+returns-in-Waits-clause-outputs c h =
+    let after = (waits c).outputs in
+    let before = c.in_ok-reserve.ensures.state in
+    grind (arith, common_steps, after, before, c.conclude_shot.ensures.outputs)
 
 pub returns-in-Shot-clause-step : goal.returns-in-Shot-clause-step
 returns-in-Shot-clause-step c h = sym (shot c).step
@@ -33,14 +58,14 @@ pub returns-in-Shot-clause-state : goal.returns-in-Shot-clause-state
 returns-in-Shot-clause-state c h =
     let after = (shot c).state in
     let before = c.in_ok-reserve.ensures.state in
-    let done = c.conclude_shot.ensures in
+    let done = c.conclude_shot-in-Shot.ensures in
     grind (arith, common_steps, after, before, done.waiting, done.cells, done.stamp, done.contexts, done.structures, done.events)
 
 pub returns-in-Shot-clause-outputs : goal.returns-in-Shot-clause-outputs
 returns-in-Shot-clause-outputs c h =
     let after = (shot c).outputs in
     let before = c.in_ok-reserve.ensures.state in
-    grind (arith, common_steps, after, before, c.conclude_shot.ensures.outputs)
+    grind (arith, common_steps, after, before, c.conclude_shot-in-Shot.ensures.outputs)
 
 pub returns-in-Fires-clause-step : goal.returns-in-Fires-clause-step
 returns-in-Fires-clause-step c h =
@@ -114,37 +139,37 @@ returns-in_err-reserve-clause-err c = on_err c.from_residual-in_err-reserve.resu
 pub returns-in_err-reserve-clause-err_outputs : goal.returns-in_err-reserve-clause-err_outputs
 returns-in_err-reserve-clause-err_outputs c = on_err c.from_residual-in_err-reserve.result c.in_err-reserve.ensures.messages
 
-pub returns-in_err-shot-clause-step : goal.returns-in_err-shot-clause-step
-returns-in_err-shot-clause-step c = if_err _ c.from_residual-in_err-shot.result c.from_residual-in_err-shot.ensures.0
+pub returns-in_err-react_plain-clause-step : goal.returns-in_err-react_plain-clause-step
+returns-in_err-react_plain-clause-step c = if_err _ c.from_residual-in_err-react_plain.result c.from_residual-in_err-react_plain.ensures.0
 
-pub returns-in_err-shot-clause-state : goal.returns-in_err-shot-clause-state
-returns-in_err-shot-clause-state c = if_err _ c.from_residual-in_err-shot.result c.from_residual-in_err-shot.ensures.0
+pub returns-in_err-react_plain-clause-state : goal.returns-in_err-react_plain-clause-state
+returns-in_err-react_plain-clause-state c = if_err _ c.from_residual-in_err-react_plain.result c.from_residual-in_err-react_plain.ensures.0
 
-pub returns-in_err-shot-clause-outputs : goal.returns-in_err-shot-clause-outputs
-returns-in_err-shot-clause-outputs c = if_err _ c.from_residual-in_err-shot.result c.from_residual-in_err-shot.ensures.0
+pub returns-in_err-react_plain-clause-outputs : goal.returns-in_err-react_plain-clause-outputs
+returns-in_err-react_plain-clause-outputs c = if_err _ c.from_residual-in_err-react_plain.result c.from_residual-in_err-react_plain.ensures.0
 
-pub returns-in_err-shot-clause-apart : goal.returns-in_err-shot-clause-apart
-returns-in_err-shot-clause-apart c = not_ok c.from_residual-in_err-shot.result _ c.from_residual-in_err-shot.ensures.0
+pub returns-in_err-react_plain-clause-apart : goal.returns-in_err-react_plain-clause-apart
+returns-in_err-react_plain-clause-apart c = not_ok c.from_residual-in_err-react_plain.result _ c.from_residual-in_err-react_plain.ensures.0
 
-pub returns-in_err-shot-clause-apart_outputs : goal.returns-in_err-shot-clause-apart_outputs
-returns-in_err-shot-clause-apart_outputs c = not_ok c.from_residual-in_err-shot.result _ c.from_residual-in_err-shot.ensures.0
+pub returns-in_err-react_plain-clause-apart_outputs : goal.returns-in_err-react_plain-clause-apart_outputs
+returns-in_err-react_plain-clause-apart_outputs c = not_ok c.from_residual-in_err-react_plain.result _ c.from_residual-in_err-react_plain.ensures.0
 
-pub returns-in_err-shot-clause-left : goal.returns-in_err-shot-clause-left
-returns-in_err-shot-clause-left c = on_ok _ c.from_residual-in_err-shot.result c.from_residual-in_err-shot.ensures.0
+pub returns-in_err-react_plain-clause-left : goal.returns-in_err-react_plain-clause-left
+returns-in_err-react_plain-clause-left c = on_ok _ c.from_residual-in_err-react_plain.result c.from_residual-in_err-react_plain.ensures.0
 
-pub returns-in_err-shot-clause-last_left : goal.returns-in_err-shot-clause-last_left
-returns-in_err-shot-clause-last_left c = on_ok _ c.from_residual-in_err-shot.result c.from_residual-in_err-shot.ensures.0
+pub returns-in_err-react_plain-clause-last_left : goal.returns-in_err-react_plain-clause-last_left
+returns-in_err-react_plain-clause-last_left c = on_ok _ c.from_residual-in_err-react_plain.result c.from_residual-in_err-react_plain.ensures.0
 
-pub returns-in_err-shot-clause-end : goal.returns-in_err-shot-clause-end
-returns-in_err-shot-clause-end c =
-    end_memory c.from_residual-in_err-shot.result _ c.from_residual-in_err-shot.ensures.1 (rw c.from.ensures at c.in_ok-stamp.ensures.left)
+pub returns-in_err-react_plain-clause-end : goal.returns-in_err-react_plain-clause-end
+returns-in_err-react_plain-clause-end c =
+    end_memory c.from_residual-in_err-react_plain.result _ c.from_residual-in_err-react_plain.ensures.1 (rw c.from.ensures at c.in_ok-stamp.ensures.left)
 
-pub returns-in_err-shot-clause-err : goal.returns-in_err-shot-clause-err
-returns-in_err-shot-clause-err c =
-    on_err c.from_residual-in_err-shot.result (with_waiting (state_of c.reserve.new.self) _ _ c.in_err-shot.ensures.err c.in_ok-reserve.ensures.state)
+pub returns-in_err-react_plain-clause-err : goal.returns-in_err-react_plain-clause-err
+returns-in_err-react_plain-clause-err c =
+    on_err c.from_residual-in_err-react_plain.result (with_waiting (state_of c.reserve.new.self) _ _ c.in_err-react_plain.ensures.err c.in_ok-reserve.ensures.state)
 
-pub returns-in_err-shot-clause-err_outputs : goal.returns-in_err-shot-clause-err_outputs
-returns-in_err-shot-clause-err_outputs c = on_err c.from_residual-in_err-shot.result c.in_ok-reserve.ensures.messages
+pub returns-in_err-react_plain-clause-err_outputs : goal.returns-in_err-react_plain-clause-err_outputs
+returns-in_err-react_plain-clause-err_outputs c = on_err c.from_residual-in_err-react_plain.result c.in_ok-reserve.ensures.messages
 
 -- where the token is not short, nothing was done
 pub returns-then-not-is_short-clause-end : goal.returns-then-not-is_short-clause-end
@@ -155,23 +180,32 @@ returns-in-Apart-clause-end c = end_ok _ _ (rw c.from.ensures at c.in_ok-stamp.e
 
 pub returns-in-Apart-clause-apart : goal.returns-in-Apart-clause-apart
 returns-in-Apart-clause-apart c =
-    λ _. with_waiting (state_of c.reserve.new.self) _ _ (rw c.in-Apart.is at c.in_ok-shot.ensures.reaction) c.in_ok-reserve.ensures.state
+    λ _. with_waiting (state_of c.reserve.new.self) _ _ (rw c.in-Apart.is at c.in_ok-react_plain.ensures.reaction) c.in_ok-reserve.ensures.state
 
 pub returns-in-Apart-clause-apart_outputs : goal.returns-in-Apart-clause-apart_outputs
 returns-in-Apart-clause-apart_outputs c = λ _. c.in_ok-reserve.ensures.messages
 
 -- where it is, no stamp was the last
+pub returns-in-Waits-clause-end : goal.returns-in-Waits-clause-end
+returns-in-Waits-clause-end c = end_ok _ _ (rw c.from.ensures at c.in_ok-stamp.ensures.left)
+
 pub returns-in-Shot-clause-end : goal.returns-in-Shot-clause-end
 returns-in-Shot-clause-end c = end_ok _ _ (rw c.from.ensures at c.in_ok-stamp.ensures.left)
 
 pub returns-in-Fires-clause-end : goal.returns-in-Fires-clause-end
 returns-in-Fires-clause-end c = end_ok _ _ (rw c.from.ensures at c.in_ok-stamp.ensures.left)
 
+pub returns-in-Waits-clause-apart : goal.returns-in-Waits-clause-apart
+returns-in-Waits-clause-apart c = not_apart Went tt
+
 pub returns-in-Shot-clause-apart : goal.returns-in-Shot-clause-apart
 returns-in-Shot-clause-apart c = not_apart Went tt
 
 pub returns-in-Fires-clause-apart : goal.returns-in-Fires-clause-apart
 returns-in-Fires-clause-apart c = not_apart c.conclude_plain.result c.conclude_plain.ensures.handled
+
+pub returns-in-Waits-clause-apart_outputs : goal.returns-in-Waits-clause-apart_outputs
+returns-in-Waits-clause-apart_outputs c = not_apart Went tt
 
 pub returns-in-Shot-clause-apart_outputs : goal.returns-in-Shot-clause-apart_outputs
 returns-in-Shot-clause-apart_outputs c = not_apart Went tt
