@@ -57,7 +57,9 @@ module _ (old : ElementView) (t : PlainToken) (went later : Bool) (new : State)
 -- the element step on a plain token at this instruction of which this came, where these wait afterwards
 abbrev pub IsStepOn : Parts → ℕ → State → PlainToken → Instr → Store → Reacted → Type 0
 IsStepOn g e s t i later reacted.Waits = IsStepBy g e s (message_of t) (plain_outcome i t later s.cells (fired_of shot.Nothing) verdict.Went)
-IsStepOn g e s t i later (reacted.Shot sent) =
+IsStepOn g e s t i later (reacted.One sent) =
+    IsStepBy g e s (message_of t) (plain_outcome i t later s.cells (fired_of sent) verdict.Went)
+IsStepOn g e s t i later (reacted.Two sent) =
     IsStepBy g e s (message_of t) (plain_outcome i t later s.cells (fired_of sent) verdict.Went)
 IsStepOn g e s t i later (reacted.Fires o) =
     let f = fired i.op (tag_in t) (operands_in o) (next_numbers e s) in
@@ -68,7 +70,9 @@ step_at : (g : Parts) (e : ℕ) (s : State) (t : PlainToken) (i : Instr) (later 
     → IsReaction i.op s.waiting later t r → IsStepOn g e s t i later r
 step_at g e s t i later reacted.Waits there comes =
     step_by g e s (message_of t) _ (shot_outcome g (next_numbers e s) s.waiting later s.cells t i shot.Nothing there comes)
-step_at g e s t i later (reacted.Shot sent) there comes =
+step_at g e s t i later (reacted.One sent) there comes =
+    step_by g e s (message_of t) _ (shot_outcome g (next_numbers e s) s.waiting later s.cells t i sent there comes)
+step_at g e s t i later (reacted.Two sent) there comes =
     step_by g e s (message_of t) _ (shot_outcome g (next_numbers e s) s.waiting later s.cells t i sent there comes)
 step_at g e s t i later (reacted.Fires o) there comes =
     step_by g e s (message_of t) _ (fires_outcome g (next_numbers e s) s.waiting later s.cells t i o there comes)

@@ -70,6 +70,7 @@ pub record IsFiring (op : Op) (w later : Store) (t : PlainToken) (o : PlainOpera
 -- this comes of a plain token, and these wait afterwards
 abbrev pub IsReaction : Op → Store → Store → PlainToken → Reacted → Type 0
 IsReaction op w later t reacted.Waits = IsShot op w later t shot.Nothing
-IsReaction op w later t (reacted.Shot s) = IsShot op w later t s
+IsReaction op w later t (reacted.One s) = IsShot op w later t s
+IsReaction op w later t (reacted.Two s) = IsShot op w later t s
 IsReaction op w later t (reacted.Fires o) = IsFiring op w later t o
 IsReaction op w later t reacted.Apart = later ≡ w

@@ -171,7 +171,11 @@ impl<'a> Desk<'a> {
                 self.conclude_shot(instr, token, stamp as u32, Shot::Nothing, outputs);
                 Ok(Short::Went)
             }
-            Reacted::Shot(shot) => {
+            Reacted::One(shot) => {
+                self.conclude_shot(instr, token, stamp as u32, shot, outputs);
+                Ok(Short::Went)
+            }
+            Reacted::Two(shot) => {
                 self.conclude_shot(instr, token, stamp as u32, shot, outputs);
                 Ok(Short::Went)
             }

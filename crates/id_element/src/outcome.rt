@@ -134,7 +134,7 @@ fn fires(op: Op, token: &PlainToken) -> Reacted
     ensures { (w : Store) → IsReaction op w w token.now result }
 {
     match shoot_one(op, u64::from(token.iteration), token.value) {
-        Some(shot) => Reacted::Shot(shot),
+        Some(shot) => Reacted::One(shot),
         None => Reacted::Fires(PlainOperands::One(token.value)),
     }
 }
@@ -151,7 +151,7 @@ fn met(op: Op, token: &PlainToken, partner: Plain) -> Reacted
 {
     let (left, right) = by_port(token.port, token.value, partner);
     match shoot_two(op, left, right) {
-        Some(shot) if is_own(shot, token) => Reacted::Shot(shot),
+        Some(shot) if is_own(shot, token) => Reacted::Two(shot),
         _ => Reacted::Fires(PlainOperands::Two(left, right)),
     }
 }

@@ -57,13 +57,16 @@ pub(crate) enum PlainOperands {
     Two(Plain, Plain),
 }
 
-/// What comes of a plain token at its instruction, in short.
+/// What comes of a plain token at its instruction, in short: each way is known apart from the others, so that none asks
+/// what another needs.
 #[derive(Clone, Copy)]
 pub(crate) enum Reacted {
     /// It waits for its partner.
     Waits,
-    /// A plain value is sent, or nothing.
-    Shot(Shot),
+    /// A plain value is sent, or nothing, by an operator of one port.
+    One(Shot),
+    /// The same by one of two ports.
+    Two(Shot),
     /// It fires its instruction, and these operands have something else come of them.
     Fires(PlainOperands),
     /// Something else comes of it, and nothing has changed yet.

@@ -3,14 +3,10 @@
 //! shorter.
 
 ghost use Rattle.std.specs.Prelude.{◌≡◌, ◌≤◌, ◌<◌, ◌+◌, ◌-◌, ◌^◌, [], drop, length, vec_capacity, IfOk};
-ghost use Rattle.id_flight.specs.Rows.{IsRow};
 
 use crate::parcel::Parcel;
 use std::alloc::{AllocError, Global};
 use std::marker::Model;
-
-/// The most parcels of the list.
-const MOST: usize = 1 << 60;
 
 /// So many parcels that have left are not worth a move of the others.
 const FEW: usize = 64;
@@ -26,17 +22,17 @@ pub(crate) struct Row {
 }
 
 impl Model for Row {
-    ghost use Rattle.std.specs.Prelude.{◌-◌, ◌^◌, drop, length, min, vec_capacity};
-    ghost use Rattle.id_flight.specs.Rows.{IsRow, RowView};
+    ghost use Rattle.std.specs.Prelude.{◌-◌, ◌≤◌, drop, vec_capacity, vec_len};
+    ghost use Rattle.id_flight.specs.Rows.{RowView};
 
     ghost Value = { RowView };
 
     ghost view = { λ r. record {
       items = drop r.left r.parcels.items;
-      room = min (vec_capacity r.parcels) (2 ^ 60) - length r.parcels.items;
+      room = vec_capacity r.parcels - vec_len r.parcels;
     } };
 
-    ghost invariant = { λ r. IsRow r.left r.parcels.items };
+    ghost invariant = { λ r. r.left ≤ vec_len r.parcels };
 }
 
 impl Row {
@@ -87,13 +83,7 @@ impl Row {
         ensures room { OnOk result (more ≤ self.new.room) }
     {
         // Asked here first, so that the list's growth is not inlined.
-        if self
-            .parcels
-            .capacity()
-            .min(MOST)
-            .saturating_sub(self.parcels.len())
-            < more
-        {
+        if self.parcels.capacity() - self.parcels.len() < more {
             self.grow(more)?;
         }
         Ok(())
@@ -108,9 +98,6 @@ impl Row {
         if self.left >= FEW && self.left >= self.len() {
             shorten(&mut self.parcels, self.left);
             self.left = 0;
-        }
-        if more > MOST - self.parcels.len() {
-            return Err(AllocError);
         }
         self.parcels.reserve(more)?;
         Ok(())
@@ -210,11 +197,7 @@ fn widened(
     requires { length parcels.now + 4 ≡ more }
     ensures behind { IfOk result (λ w. drop more w.items ≡ parcels.now) }
     ensures len { IfOk result (λ w. length w.items ≡ more + length parcels.now) }
-    ensures few { IfOk result (λ w. length w.items ≤ 2 ^ 60) }
 {
-    if more > MOST / 2 {
-        return Err(AllocError);
-    }
     let mut wider = Vec::new(alloc);
     wider.resize(more, filler)?;
     wider.extend_from_slice(parcels)?;

@@ -1,12 +1,12 @@
 -- What is recorded is the element step, by what came of the token.
 use Rattle.std.proofs.Common.{arith, sym}
 use Rattle.std.proofs.lemmas.Grind.{common_steps}
-use Rattle.id_element.specs.declared.step.Reacted.TheVariants.{Waits, Shot, Fires}
+use Rattle.id_element.specs.declared.step.Reacted.TheVariants.{Waits, One, Two, Fires}
 use Rattle.id_element.specs.Desks.{state_of}
 use Rattle.id_element.specs.declared.step.Short.TheVariants.{Went}
 use Rattle.id_element.proofs.ShortLemmas.{IsStepOn, step_on, if_err, on_ok, not_ok, not_apart, on_err, end_ok, end_memory, with_waiting}
 use Rattle.id_element.proofs.desk.Desk.take_plain.Goals as goal
-use Rattle.id_element.proofs.desk.Desk.take_plain.Goals.{After-conclude_shot, After-conclude_shot-in-Shot, After-conclude_plain}
+use Rattle.id_element.proofs.desk.Desk.take_plain.Goals.{After-conclude_shot, After-conclude_shot-in-One, After-conclude_shot-in-Two, After-conclude_plain}
 
 -- where it waits for its partner
 waits : (c : After-conclude_shot)
@@ -17,14 +17,23 @@ waits c =
     c.index-instrs-token.result _ c.react_plain.new.waiting c.in_ok-react_plain.field-0 Waits
     c.requires.fits.kind c.instrs.ensures.value c.index-instrs-token.is c.in_ok-reserve.ensures.state c.in_ok-react_plain.ensures.reaction c.in-Waits.is
 
--- where it is a shot
-shot : (c : After-conclude_shot-in-Shot)
+-- where an operator of one port sends
+one : (c : After-conclude_shot-in-One)
     → IsStepOn c.args.graph.now c.args.self.now.log.element (state_of c.args.self.now) c.args.token.now
-    c.index-instrs-token.result c.react_plain.new.waiting (Shot c.in-Shot.shot)
-shot c =
+    c.index-instrs-token.result c.react_plain.new.waiting (One c.in-One.shot)
+one c =
     step_on c.args.graph.now c.args.self.now.log.element (state_of c.args.self.now) (state_of c.reserve.new.self) c.args.token.now _
-    c.index-instrs-token.result _ c.react_plain.new.waiting c.in_ok-react_plain.field-0 (Shot c.in-Shot.shot)
-    c.requires.fits.kind c.instrs.ensures.value c.index-instrs-token.is c.in_ok-reserve.ensures.state c.in_ok-react_plain.ensures.reaction c.in-Shot.is
+    c.index-instrs-token.result _ c.react_plain.new.waiting c.in_ok-react_plain.field-0 (One c.in-One.shot)
+    c.requires.fits.kind c.instrs.ensures.value c.index-instrs-token.is c.in_ok-reserve.ensures.state c.in_ok-react_plain.ensures.reaction c.in-One.is
+
+-- where one of two ports does
+two : (c : After-conclude_shot-in-Two)
+    → IsStepOn c.args.graph.now c.args.self.now.log.element (state_of c.args.self.now) c.args.token.now
+    c.index-instrs-token.result c.react_plain.new.waiting (Two c.in-Two.shot)
+two c =
+    step_on c.args.graph.now c.args.self.now.log.element (state_of c.args.self.now) (state_of c.reserve.new.self) c.args.token.now _
+    c.index-instrs-token.result _ c.react_plain.new.waiting c.in_ok-react_plain.field-0 (Two c.in-Two.shot)
+    c.requires.fits.kind c.instrs.ensures.value c.index-instrs-token.is c.in_ok-reserve.ensures.state c.in_ok-react_plain.ensures.reaction c.in-Two.is
 
 -- where it fires the instruction otherwise
 fires : (c : After-conclude_plain)
@@ -51,21 +60,37 @@ returns-in-Waits-clause-outputs c h =
     let before = c.in_ok-reserve.ensures.state in
     grind (arith, common_steps, after, before, c.conclude_shot.ensures.outputs)
 
-pub returns-in-Shot-clause-step : goal.returns-in-Shot-clause-step
-returns-in-Shot-clause-step c h = sym (shot c).step
+pub returns-in-One-clause-step : goal.returns-in-One-clause-step
+returns-in-One-clause-step c h = sym (one c).step
 
-pub returns-in-Shot-clause-state : goal.returns-in-Shot-clause-state
-returns-in-Shot-clause-state c h =
-    let after = (shot c).state in
+pub returns-in-Two-clause-step : goal.returns-in-Two-clause-step
+returns-in-Two-clause-step c h = sym (two c).step
+
+pub returns-in-One-clause-state : goal.returns-in-One-clause-state
+returns-in-One-clause-state c h =
+    let after = (one c).state in
     let before = c.in_ok-reserve.ensures.state in
-    let done = c.conclude_shot-in-Shot.ensures in
+    let done = c.conclude_shot-in-One.ensures in
     grind (arith, common_steps, after, before, done.waiting, done.cells, done.stamp, done.contexts, done.structures, done.events)
 
-pub returns-in-Shot-clause-outputs : goal.returns-in-Shot-clause-outputs
-returns-in-Shot-clause-outputs c h =
-    let after = (shot c).outputs in
+pub returns-in-Two-clause-state : goal.returns-in-Two-clause-state
+returns-in-Two-clause-state c h =
+    let after = (two c).state in
     let before = c.in_ok-reserve.ensures.state in
-    grind (arith, common_steps, after, before, c.conclude_shot-in-Shot.ensures.outputs)
+    let done = c.conclude_shot-in-Two.ensures in
+    grind (arith, common_steps, after, before, done.waiting, done.cells, done.stamp, done.contexts, done.structures, done.events)
+
+pub returns-in-One-clause-outputs : goal.returns-in-One-clause-outputs
+returns-in-One-clause-outputs c h =
+    let after = (one c).outputs in
+    let before = c.in_ok-reserve.ensures.state in
+    grind (arith, common_steps, after, before, c.conclude_shot-in-One.ensures.outputs)
+
+pub returns-in-Two-clause-outputs : goal.returns-in-Two-clause-outputs
+returns-in-Two-clause-outputs c h =
+    let after = (two c).outputs in
+    let before = c.in_ok-reserve.ensures.state in
+    grind (arith, common_steps, after, before, c.conclude_shot-in-Two.ensures.outputs)
 
 pub returns-in-Fires-clause-step : goal.returns-in-Fires-clause-step
 returns-in-Fires-clause-step c h =
@@ -189,8 +214,11 @@ returns-in-Apart-clause-apart_outputs c = λ _. c.in_ok-reserve.ensures.messages
 pub returns-in-Waits-clause-end : goal.returns-in-Waits-clause-end
 returns-in-Waits-clause-end c = end_ok _ _ (rw c.from.ensures at c.in_ok-stamp.ensures.left)
 
-pub returns-in-Shot-clause-end : goal.returns-in-Shot-clause-end
-returns-in-Shot-clause-end c = end_ok _ _ (rw c.from.ensures at c.in_ok-stamp.ensures.left)
+pub returns-in-One-clause-end : goal.returns-in-One-clause-end
+returns-in-One-clause-end c = end_ok _ _ (rw c.from.ensures at c.in_ok-stamp.ensures.left)
+
+pub returns-in-Two-clause-end : goal.returns-in-Two-clause-end
+returns-in-Two-clause-end c = end_ok _ _ (rw c.from.ensures at c.in_ok-stamp.ensures.left)
 
 pub returns-in-Fires-clause-end : goal.returns-in-Fires-clause-end
 returns-in-Fires-clause-end c = end_ok _ _ (rw c.from.ensures at c.in_ok-stamp.ensures.left)
@@ -198,8 +226,11 @@ returns-in-Fires-clause-end c = end_ok _ _ (rw c.from.ensures at c.in_ok-stamp.e
 pub returns-in-Waits-clause-apart : goal.returns-in-Waits-clause-apart
 returns-in-Waits-clause-apart c = not_apart Went tt
 
-pub returns-in-Shot-clause-apart : goal.returns-in-Shot-clause-apart
-returns-in-Shot-clause-apart c = not_apart Went tt
+pub returns-in-One-clause-apart : goal.returns-in-One-clause-apart
+returns-in-One-clause-apart c = not_apart Went tt
+
+pub returns-in-Two-clause-apart : goal.returns-in-Two-clause-apart
+returns-in-Two-clause-apart c = not_apart Went tt
 
 pub returns-in-Fires-clause-apart : goal.returns-in-Fires-clause-apart
 returns-in-Fires-clause-apart c = not_apart c.conclude_plain.result c.conclude_plain.ensures.handled
@@ -207,8 +238,11 @@ returns-in-Fires-clause-apart c = not_apart c.conclude_plain.result c.conclude_p
 pub returns-in-Waits-clause-apart_outputs : goal.returns-in-Waits-clause-apart_outputs
 returns-in-Waits-clause-apart_outputs c = not_apart Went tt
 
-pub returns-in-Shot-clause-apart_outputs : goal.returns-in-Shot-clause-apart_outputs
-returns-in-Shot-clause-apart_outputs c = not_apart Went tt
+pub returns-in-One-clause-apart_outputs : goal.returns-in-One-clause-apart_outputs
+returns-in-One-clause-apart_outputs c = not_apart Went tt
+
+pub returns-in-Two-clause-apart_outputs : goal.returns-in-Two-clause-apart_outputs
+returns-in-Two-clause-apart_outputs c = not_apart Went tt
 
 pub returns-in-Fires-clause-apart_outputs : goal.returns-in-Fires-clause-apart_outputs
 returns-in-Fires-clause-apart_outputs c = not_apart c.conclude_plain.result c.conclude_plain.ensures.handled
