@@ -176,13 +176,14 @@ meeting op w later t l r v two answer pair after = record {
 -- it comes to what its operands are shot for
 pub shot_from_firing : (op : Op) (w later : Store) (t : PlainToken) (o : PlainOperands) (s : Shot) → IsFiring op w later t o
     → ((u : Tag) (n : Fresh) → fired op u (operands_in o) n ≡ fired_of s) → IsOwn s t.value → IsBrief t.iteration s
-    → IsShot op w later t s
-shot_from_firing op w later t o s firing fires own brief = record {
+    → allocated_by op (fired_of s) ≡ 0 → IsShot op w later t s
+shot_from_firing op w later t o s firing fires own brief none = record {
   fires = λ i n same. ap (firing_of i (tag_in t) n) firing.fires ∙ ap (λ op. fired op (tag_in t) (operands_in o) n) same ∙ fires (tag_in t) n;
   went = ap (λ a. verdict_of a (fired_of s)) firing.fires ∙ shot_went s;
   waits = firing.waits;
   own = own;
   brief = brief;
+  makes_none = none;
 }
 
 -- the outcome of a plain token that has this fired, where these wait afterwards

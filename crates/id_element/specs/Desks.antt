@@ -15,7 +15,7 @@ use Rattle.id_ops.specs.declared.Fired.{Fired}
 use Rattle.id_ops.specs.Operators.{fired}
 use Rattle.id_record.specs.Shootings.{HasLine}
 use Rattle.id_element.specs.declared.step.PlainOperands.{PlainOperands}
-use Rattle.id_element.specs.Firings.{most_sent, operands_in}
+use Rattle.id_element.specs.Firings.{operands_in}
 use Rattle.id_element.specs.Steps.{State, fresh_numbers}
 
 -- what waits, the cells, the last stamp, how many contexts and structures were made, and the record

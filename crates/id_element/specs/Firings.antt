@@ -1,5 +1,5 @@
 -- A message's outcome in the two parts that the code computes: what fires, and what the record keeps.
-use Rattle.std.specs.Prelude.{◌≡◌, ℕ, ◌+◌, Some, length, max}
+use Rattle.std.specs.Prelude.{◌≡◌, ℕ, ◌+◌, length}
 use Rattle.id_graph.specs.declared.instr.Instr.{Instr}
 use Rattle.id_tag.specs.declared.Tag.{Tag}
 use Rattle.id_ops.specs.declared.Fresh.{Fresh}
@@ -24,8 +24,7 @@ use Rattle.id_element.specs.declared.step.PlainOperands.{PlainOperands}
 use Rattle.id_element.specs.declared.step.PlainOperands.TheVariants as plain
 use Rattle.id_element.specs.declared.step.Reacted.{Reacted}
 use Rattle.id_element.specs.declared.step.Reacted.TheVariants as reacted
-use Rattle.id_record.specs.Sends.{count_started}
-use Rattle.id_element.specs.Steps.{arrival, fired_verdict, waiting_after}
+use Rattle.id_element.specs.Steps.{allocated_by, arrival, fired_verdict, waiting_after}
 
 -- no message at the instruction sends more than this: it sends to each destination on a side, and what starts a block,
 -- or one; a sum is asked for more cheaply than the most of both sides
@@ -49,13 +48,14 @@ verdict_of Blocked f = Stuck
 abbrev pub arrival_in : Op → Store → PlainToken → Arrival
 arrival_in op w t = arrival op w (tag_in t) t.port (whole t.value)
 
--- a plain token comes to this shot, and these wait afterwards
+-- a plain token comes to this shot, which makes no structure, and these wait afterwards
 pub record IsShot (op : Op) (w later : Store) (t : PlainToken) (s : Shot) : Type 0 where
   pub fires : (i : Instr) (n : Fresh) → i.op ≡ op → firing_of i (tag_in t) n (arrival_in op w t) ≡ fired_of s
   pub went : verdict_of (arrival_in op w t) (fired_of s) ≡ Went
   pub waits : later ≡ waiting_after op w (tag_in t) t.port (whole t.value)
   pub own : IsOwn s t.value
   pub brief : IsBrief t.iteration s
+  pub makes_none : allocated_by op (fired_of s) ≡ 0
 
 -- the operands that these plain values are
 abbrev pub operands_in : PlainOperands → Operands

@@ -5,9 +5,9 @@ ghost use Rattle.std.specs.Prelude.{◌≡◌};
 ghost use Rattle.id_element.specs.Steps.{readers_of};
 
 use crate::outcome::{
-    allocated_by, allocated_by_deed, allocated_by_shot, answer_fired, deed_of, fill_verdict,
-    fresh_numbers, made_by, most_sent, next_stamp, react, react_full, react_plain, send, send_deed,
-    send_like, send_replies, send_shot,
+    allocated_by, allocated_by_deed, answer_fired, deed_of, fill_verdict, fresh_numbers, made_by,
+    most_sent, next_stamp, react, react_full, react_plain, send, send_deed, send_like,
+    send_replies, send_shot,
 };
 use crate::step::{Arrival, PlainOperands, Reacted, Short, TakeError};
 use id_bank::{Bank, ReadAnswer, WriteAnswer};
@@ -665,6 +665,7 @@ impl<'a> Desk<'a> {
         requires short { IsShort self.old (most_sent instr.now) token.now stamp }
         requires own_value { IsOwn shot token.now.value }
         requires brief { IsBrief token.now.iteration shot }
+        requires makes_none { allocated_by instr.now.op (fired_of shot) ≡ 0 }
         requires own { slice_get self.old.log.graph.instrs token.now.instr ≡ Some instr.now }
         requires room_in_outputs { most_sent instr.now ≤ outputs.old.room }
         requires graph { IsGraph self.old.log.graph }
@@ -701,7 +702,6 @@ impl<'a> Desk<'a> {
         send_shot(instr, &sample, shot, outputs);
         self.log.push_shot(Shooting { token, stamp, shot });
         self.stamp = u64::from(stamp);
-        self.structures += allocated_by_shot(instr.op, shot);
     }
 
     /// Sends what a deed sends, and records the event. There is room for it. Takes no memory.

@@ -151,7 +151,9 @@ fn met(op: Op, token: &PlainToken, partner: Plain) -> Reacted
 {
     let (left, right) = by_port(token.port, token.value, partner);
     match shoot_two(op, left, right) {
-        Some(shot) if is_own(shot, token) => Reacted::Two(shot),
+        Some(shot) if is_own(shot, token) && allocated_by_shot(op, shot) == 0 => {
+            Reacted::Two(shot)
+        }
         _ => Reacted::Fires(PlainOperands::Two(left, right)),
     }
 }
@@ -259,7 +261,7 @@ pub(crate) fn allocated_by(op: Op, fired: &Fired) -> u64
 
 /// How many structures a shot of the operator takes. Takes no memory.
 #[inline(always)]
-pub(crate) fn allocated_by_shot(op: Op, shot: Shot) -> u64
+fn allocated_by_shot(op: Op, shot: Shot) -> u64
     ensures { result ≡ allocated_by op (fired_of shot) }
 {
     match (op, shot) {
