@@ -1,4 +1,5 @@
 pub mod CheckedLemmas
+pub mod TurnsLemmas
 pub mod ParamsLemmas
 pub mod RoundsLemmas
 pub mod StepsLemmas
