@@ -44,7 +44,8 @@ module _ {A : Type 0} (f : RowFact → Option A) (fs : List RowFact) where
       gathered-all (told f fs) refl is i now whole (subst (λ ns. length ns ≤ i) same end) so_far
 
 -- what the fact tells, and where it tells nothing
-pub listed-some : {A : Type 0} → (x y : Option A) (a : A) (old now : List A) → x ≡ y → x ≡ Some a → now ≡ old ++ a ∷ [] → now ≡ old ++ listed y
+pub listed-some : {A : Type 0} → (x y : Option A) (a : A) (old now : List A) → x ≡ y → x ≡ Some a → now ≡ old ++ a ∷ []
+    → now ≡ old ++ listed y
 listed-some x y a old now own is added = added ∙ ap (λ z. old ++ listed z) (sym is ∙ own)
 
 pub listed-none : {A : Type 0} → (x y : Option A) (old now : List A) → x ≡ y → x ≡ None → now ≡ old → now ≡ old ++ listed y
@@ -76,3 +77,8 @@ not_too_many P (Err e) is = λ many. memory_many (sym is ∙ many)
 
 pub many_asked : TooManyFacts ≡ BadRounds → ⊥
 many_asked so = cc
+
+-- and what holds whatever came
+pub on_ok_always : {A E P : Type 0} → (r : Result A E) → P → OnOk r P
+on_ok_always (Ok a) p = p
+on_ok_always (Err e) p = tt

@@ -1,5 +1,5 @@
 -- What the facts so far tell, and what the rest does.
-use Rattle.std.proofs.Common.{ap, ◌∙◌, of_z, to_z, w64}
+use Rattle.std.proofs.Common.{ap, of_z, to_z, w64, ◌∙◌}
 use Rattle.std.proofs.lemmas.Int.{to_z-of_z}
 use Rattle.id_meaning.specs.declared.cells.Sort.TheVariants.{Puts}
 use Rattle.id_meaning.specs.Cells.{chain, chain_by, items, put_by}
@@ -13,12 +13,16 @@ loop-number-init c = gathered-none _ _ c.new-values.ensures.items
 pub loop-number-preserved : goal.loop-number-preserved
 loop-number-preserved c =
     let j = to_z w64 (of_z w64 c.args.index) in
-    told-more (put_by c.args.name j) (items c.args.self.now) (chain c.args.self.now (chain_by Puts c.args.name j)) c.of-number-items.result.now c.loop-number.number-index _ _ _ _
-    (c.of-number-items.ensures ∙ ap (chain c.args.self.now) c.chain_by.ensures.chain) c.loop-number-test.true
+    let cells = c.args.self.now in
+    let same = c.of-number-items.ensures ∙ ap (chain cells) c.chain_by.ensures.chain in
+    let told_by = c.put_at.ensures ∙ ap (put_by c.args.name j) c.fact.ensures in
+    told-more (put_by c.args.name j) (items cells) (chain cells (chain_by Puts c.args.name j))
+    c.of-number-items.result.now c.loop-number.number-index _ _ _ _ same
+    c.loop-number-test.true
     (elim c.match-put_at.branch [
-      | in-Some+in_ok-push w ↦ listed-some c.put_at.result _ w.in-Some.value _ _ (c.put_at.ensures ∙ ap (put_by c.args.name j) c.fact.ensures) w.in-Some.is
+      | in-Some+in_ok-push w ↦ listed-some c.put_at.result _ w.in-Some.value _ _ told_by w.in-Some.is
           (ap (λ v. v.items) w.values-is ∙ w.in_ok-push.ensures.items)
-      | in_default w ↦ listed-none c.put_at.result _ _ _ (c.put_at.ensures ∙ ap (put_by c.args.name j) c.fact.ensures) w.in_default.is (ap (λ v. v.items) w.values-is)
+      | in_default w ↦ listed-none c.put_at.result _ _ _ told_by w.in_default.is (ap (λ v. v.items) w.values-is)
     ])
     c.loop-number.invariant
 
@@ -28,5 +32,10 @@ returns-in_err-push c = if_err _ c.from_residual.result c.from_residual.ensures.
 pub returns : goal.returns
 returns c =
     let j = to_z w64 (of_z w64 c.args.index) in
-    rw (to_z-of_z w64 c.args.index c.ranges.index) at (told-all (put_by c.args.name j) (items c.args.self.now) (chain c.args.self.now (chain_by Puts c.args.name j)) c.of-number-items.result.now c.loop-number.number-index _ _
-    (c.of-number-items.ensures ∙ ap (chain c.args.self.now) c.chain_by.ensures.chain) c.loop-number-test.false c.loop-number.invariant)
+    let cells = c.args.self.now in
+    let same = c.of-number-items.ensures ∙ ap (chain cells) c.chain_by.ensures.chain in
+    let all =
+    told-all (put_by c.args.name j) (items cells) (chain cells (chain_by Puts c.args.name j))
+    c.of-number-items.result.now c.loop-number.number-index _ _ same c.loop-number-test.false
+    c.loop-number.invariant in
+    rw (to_z-of_z w64 c.args.index c.ranges.index) at all

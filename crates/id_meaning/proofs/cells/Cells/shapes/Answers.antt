@@ -12,12 +12,16 @@ loop-number-init c = gathered-none _ _ c.new-shapes.ensures.items
 
 pub loop-number-preserved : goal.loop-number-preserved
 loop-number-preserved c =
-    told-more (bounds_by c.args.name) (items c.args.self.now) (chain c.args.self.now (chain_by Shapes c.args.name (pos 0))) c.of-number-items.result.now c.loop-number.number-index _ _ _ _
-    (c.of-number-items.ensures ∙ ap (chain c.args.self.now) c.chain_by.ensures.chain) c.loop-number-test.true
+    let cells = c.args.self.now in
+    let same = c.of-number-items.ensures ∙ ap (chain cells) c.chain_by.ensures.chain in
+    let told_by = c.bounds_at.ensures ∙ ap (bounds_by c.args.name) c.fact.ensures in
+    told-more (bounds_by c.args.name) (items cells) (chain cells (chain_by Shapes c.args.name (pos 0)))
+    c.of-number-items.result.now c.loop-number.number-index _ _ _ _ same
+    c.loop-number-test.true
     (elim c.match-bounds_at.branch [
-      | in-Some+in_ok-push w ↦ listed-some c.bounds_at.result _ w.in-Some.bounds _ _ (c.bounds_at.ensures ∙ ap (bounds_by c.args.name) c.fact.ensures) w.in-Some.is
+      | in-Some+in_ok-push w ↦ listed-some c.bounds_at.result _ w.in-Some.bounds _ _ told_by w.in-Some.is
           (ap (λ v. v.items) w.shapes-is ∙ w.in_ok-push.ensures.items)
-      | in_default w ↦ listed-none c.bounds_at.result _ _ _ (c.bounds_at.ensures ∙ ap (bounds_by c.args.name) c.fact.ensures) w.in_default.is (ap (λ v. v.items) w.shapes-is)
+      | in_default w ↦ listed-none c.bounds_at.result _ _ _ told_by w.in_default.is (ap (λ v. v.items) w.shapes-is)
     ])
     c.loop-number.invariant
 
@@ -26,5 +30,8 @@ returns-in_err-push c = if_err _ c.from_residual.result c.from_residual.ensures.
 
 pub returns : goal.returns
 returns c =
-    told-all (bounds_by c.args.name) (items c.args.self.now) (chain c.args.self.now (chain_by Shapes c.args.name (pos 0))) c.of-number-items.result.now c.loop-number.number-index _ _
-    (c.of-number-items.ensures ∙ ap (chain c.args.self.now) c.chain_by.ensures.chain) c.loop-number-test.false c.loop-number.invariant
+    let cells = c.args.self.now in
+    let same = c.of-number-items.ensures ∙ ap (chain cells) c.chain_by.ensures.chain in
+    told-all (bounds_by c.args.name) (items cells) (chain cells (chain_by Shapes c.args.name (pos 0)))
+    c.of-number-items.result.now c.loop-number.number-index _ _ same
+    c.loop-number-test.false c.loop-number.invariant
