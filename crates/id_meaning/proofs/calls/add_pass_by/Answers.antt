@@ -19,7 +19,8 @@ returns-in-Some c =
     let count : c.len.result ≡ length table.rows.items = omega (arith, c.len.ensures, table.rows.ok.0) in
     let row = c.param_row-param.ensures ∙ ap (λ n. param_row n c.in-Some.call.head c.args.index) count in
     on_ok_weaker c.add_param.result (λ added. added ∙ ap (λ ys. c.args.found.now.items ++ ys)
-    (passed c.args.checked.now c.args.enter c.args.index c.args.value c.args.call c.in-Some.call c.param_row-param.result c.in-Some.is c.if-call-enter.true row))
+    (passed c.args.checked.now c.args.enter c.args.index c.args.value c.args.call c.in-Some.call c.param_row-param.result
+    c.in-Some.is c.if-call-enter.true row))
     c.add_param.ensures
 
 pub returns-in_default : goal.returns-in_default
