@@ -66,56 +66,23 @@ fn fact_of(
             name,
             index,
             value,
-        } => Ok(Fact::Put(put_of(alloc, checked, facts, path, row, name, index, value)?)),
+        } => Ok(Fact::Put(Put {
+            name: name_at(alloc, checked, facts, name)?,
+            index,
+            value: source_value(alloc, checked, facts, value)?,
+            store: site_at(alloc, checked, facts, path, row)?,
+        })),
         RowFact::Ask {
             path,
             row,
             name,
             index,
-        } => Ok(Fact::Ask(ask_of(alloc, checked, facts, path, row, name, index)?)),
+        } => Ok(Fact::Ask(Ask {
+            fetch: site_at(alloc, checked, facts, path, row)?,
+            name: name_at(alloc, checked, facts, name)?,
+            index,
+        })),
     }
-}
-
-/// What the store at the path and row puts into the cell.
-fn put_of(
-    alloc: Global,
-    checked: &Checked,
-    facts: &Facts,
-    path: Trail,
-    row: usize,
-    name: usize,
-    index: i64,
-    value: RowValue,
-) -> Result<Put, AllocError>
-    ensures { IfOk result (λ v. Fact.Put v
-        ≡ fact_of checked.now facts.now (RowFact.Put path row name index value)) }
-{
-    Ok(Put {
-        name: name_at(alloc, checked, facts, name)?,
-        index,
-        value: source_value(alloc, checked, facts, value)?,
-        store: site_at(alloc, checked, facts, path, row)?,
-    })
-}
-
-/// That the fetch at the path and row asks for the cell.
-fn ask_of(
-    alloc: Global,
-    checked: &Checked,
-    facts: &Facts,
-    path: Trail,
-    row: usize,
-    name: usize,
-    index: i64,
-) -> Result<Ask, AllocError>
-    ensures { IfOk result (λ v. Fact.Ask v
-        ≡ fact_of checked.now facts.now (RowFact.Ask path row name index)) }
-{
-    Ok(Ask {
-        fetch: site_at(alloc, checked, facts, path, row)?,
-        name: name_at(alloc, checked, facts, name)?,
-        index,
-    })
 }
 
 /// The value of the source that this one is.
