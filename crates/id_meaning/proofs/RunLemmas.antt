@@ -80,7 +80,7 @@ few-numbers S r fs s small i k n v h =
 abbrev pub behind : ℕ → List RowFact → List RowFact
 behind d fs = take (length fs - d) (drop d fs)
 
-pub behind-all : (d : ℕ) (fs : List RowFact) → behind d fs ≡ drop d fs
+behind-all : (d : ℕ) (fs : List RowFact) → behind d fs ≡ drop d fs
 behind-all d fs = let l = length-drop d fs in take_all (length fs - d) (drop d fs) (omega arith)
 
 -- the facts are those of round r, and those of the cells of the one before, from which all that follows is there
@@ -134,15 +134,8 @@ module _ (S : Source) (olds fs given found : List RowFact) (a : olds ≡ []) (g 
 module _ (S : Source) (l : Links) (turns : AreTurns (rows S.checked) l.turns) (reads : AreReads S.checked l.reads) (args : AreArgs S.checked l.args) (r : ℕ)
     (b : Cells) (V : Queues) (fs : List RowFact) (done : ℕ) (f : Front S l r b fs V done) where
   -- what is taken behind those of the cells are the news
-  news-are : (ns : List RowFact) → ns ≡ drop done fs → ns ≡ f.news
-  news-are ns e = e ∙ ap (λ d. drop d fs) f.counted ∙ ap (λ y. drop (length (items b)) y) f.parts ∙ drop-append_seam (items b) f.news
-
-  pub front-within : done ≤ length fs
-  front-within =
-      let h = ap length f.parts in
-      let k = length-append (items b) f.news in
-      let d = f.counted in
-      omega arith
+  news-are : (ns : List RowFact) → ns ≡ behind done fs → ns ≡ f.news
+  news-are ns e = e ∙ behind-all done fs ∙ ap (λ d. drop d fs) f.counted ∙ ap (λ y. drop (length (items b)) y) f.parts ∙ drop-append_seam (items b) f.news
 
   pub front-round : IsRound S r fs
   front-round = f.now
@@ -161,7 +154,7 @@ module _ (S : Source) (l : Links) (turns : AreTurns (rows S.checked) l.turns) (r
       let N : ℕ → Type 0 = λ k. IsRound S k fs in
       subst N q (still S (n - suc f.before) f.before fs (subst R same f.old) (subst N (sym j) f.now))
 
-  module _ (c : Cells) (W : Queues) (ns : List RowFact) (small : r < 18446744073709551615) (n : ns ≡ drop done fs) (adds : AddsFacts b c ns)
+  module _ (c : Cells) (W : Queues) (ns : List RowFact) (small : r < 18446744073709551615) (n : ns ≡ behind done fs) (adds : AddsFacts b c ns)
       (w : Waits S.checked l (items c) V W ns) where
     items-are : items c ≡ fs
     items-are = adds.items ∙ ap (λ y. items b ++ y) (news-are ns n) ∙ sym f.parts
@@ -183,9 +176,9 @@ module _ (S : Source) (l : Links) (turns : AreTurns (rows S.checked) l.turns) (r
     abbrev effects : List RowFact → List RowFact
     effects gs = all_effects S.checked l W c gs
 
-    module _ (gs ds : List RowFact) (e : gs ≡ drop done (items c)) (g : Goes S.checked l W c gs fs ds) where
+    module _ (gs ds : List RowFact) (e : gs ≡ behind done (items c)) (g : Goes S.checked l W c gs fs ds) where
       front-parts : f.news ≡ g.front ++ g.rest
-      front-parts = sym (news-are gs (e ∙ ap (λ y. drop done y) items-are)) ∙ g.parts
+      front-parts = sym (news-are gs (e ∙ ap (λ y. behind done y) items-are)) ∙ g.parts
 
       is-there : (x : RowFact) → Among x g.front → Among x (items c)
       is-there x h =

@@ -77,8 +77,3 @@ not_too_many P (Err e) is = λ many. memory_many (sym is ∙ many)
 
 pub many_asked : TooManyFacts ≡ BadRounds → ⊥
 many_asked so = cc
-
--- and what holds whatever came
-pub on_ok_always : {A E P : Type 0} → (r : Result A E) → P → OnOk r P
-on_ok_always (Ok a) p = p
-on_ok_always (Err e) p = tt

@@ -1,12 +1,10 @@
 //! What the rows of a program have after n rounds (docs/MEANING.md, "Rounds").
 
-ghost use Rattle.std.specs.Prelude.{◌≡◌, ◌≤◌, [], drop, length, IfErr, IfOk, OnOk};
-ghost use Rattle.id_meaning.specs.Cells.{AddsFacts, all_learnt, items};
-ghost use Rattle.id_meaning.specs.Effects.{first_facts};
+ghost use Rattle.std.specs.Prelude.{◌≡◌, ◌≤◌, length, IfErr, IfOk, OnOk};
 ghost use Rattle.id_meaning.specs.Sources.{source};
 ghost use Rattle.id_meaning.specs.Computed.{HasMoreFacts};
 ghost use Rattle.id_meaning.specs.Listed.{IsRound};
-ghost use Rattle.id_meaning.specs.Waits.{Goes, Waits};
+ghost use Rattle.id_meaning.specs.Waits.{Goes};
 
 use crate::cells::{Cells, Facts, QUEUES, RowFact};
 use crate::effects::{add_effects, first_facts};
@@ -32,10 +30,12 @@ pub fn run(
     ensures too_many { IfErr result
         (λ e. e ≡ RoundsError.TooManyFacts → HasMoreFacts (source checked.now inputs.now) n 1000000) }
 {
+    let mut facts = Facts::new(alloc)?;
     if n == 0 {
-        return Ok(Facts::new(alloc)?);
+        return Ok(facts);
     }
-    let mut facts = first_round(alloc, checked, inputs)?;
+    let first = first_facts(alloc, checked, inputs)?;
+    facts.learn_all(first.as_slice())?;
     if facts.len() > MAX_FACTS {
         return Err(RoundsError::TooManyFacts);
     }
@@ -47,8 +47,17 @@ pub fn run(
         if done == facts.len() {
             return Ok(facts);
         }
-        follow(
-            alloc, &mut facts, checked, &links, &mut waits, &mut cells, done,
+        let news = &facts.as_slice()[done..];
+        cells.add_all(news)?;
+        wait_all(&mut waits, checked, &links, &cells, news)?;
+        learn_effects(
+            alloc,
+            &mut facts,
+            checked,
+            &links,
+            &waits,
+            &cells,
+            &cells.items.as_slice()[done..],
         )?;
         if facts.len() > MAX_FACTS {
             return Err(RoundsError::TooManyFacts);
@@ -56,49 +65,6 @@ pub fn run(
         done = cells.items.len();
     }
     Ok(facts)
-}
-
-/// The facts of the first round.
-fn first_round(alloc: Global, checked: &Checked, inputs: &[Constant]) -> Result<Facts, AllocError>
-    ensures { IfOk result (λ v. v ≡ all_learnt [] (first_facts checked.now inputs.now)) }
-{
-    let mut facts = Facts::new(alloc)?;
-    let first = first_facts(alloc, checked, inputs)?;
-    facts.learn_all(first.as_slice())?;
-    Ok(facts)
-}
-
-/// Puts the facts from number `done` on, the news, into the cells, which have those before, lets all wait that waits
-/// where they turn rows On, and learns what follows from them.
-fn follow(
-    alloc: Global,
-    facts: &mut Facts,
-    checked: &Checked,
-    links: &Links,
-    waits: &mut Queues,
-    cells: &mut Cells,
-    done: usize,
-) -> Result<(), AllocError>
-    requires within { done ≤ length facts.old }
-    requires counted { done ≡ length (items cells.old) }
-    ensures added { OnOk result (AddsFacts cells.old cells.new (drop done facts.old)) }
-    ensures waiting { OnOk result
-        (Waits checked.now links.now (items cells.new) waits.old waits.new (drop done facts.old)) }
-    ensures learnt { OnOk result
-        (Goes checked.now links.now waits.new cells.new (drop done (items cells.new)) facts.old facts.new) }
-{
-    let news = &facts.as_slice()[done..];
-    cells.add_all(news)?;
-    wait_all(waits, checked, links, cells, news)?;
-    learn_effects(
-        alloc,
-        facts,
-        checked,
-        links,
-        waits,
-        cells,
-        &cells.items.as_slice()[done..],
-    )
 }
 
 /// Learns what follows from these facts, with others that the cells have, until there are more than `MAX_FACTS`.

@@ -1,25 +1,22 @@
 -- Each round learns what follows from the news of the one before; where nothing is news, no later round has more.
-use Rattle.std.proofs.Common.{[], ◌≡◌, ◌+◌, ◌<◌, arith, drop, refl, subst}
-use Rattle.id_meaning.specs.Cells.{items}
-use Rattle.id_meaning.specs.Effects.{first_facts}
+use Rattle.std.proofs.Common.{◌≡◌, ◌+◌, ◌<◌, arith, ap, subst}
 use Rattle.id_meaning.specs.Sources.{source}
 use Rattle.id_meaning.specs.Listed.{IsRound}
-use Rattle.id_meaning.proofs.RunLemmas.{first-front, first-more, front-more, front-next, front-rest, front-round, front-within}
+use Rattle.id_meaning.proofs.RunLemmas.{behind, first-front, first-more, front-more, front-next, front-rest, front-round}
 use Rattle.id_meaning.proofs.TurnsLemmas.{if_err, many_asked, not_asked, not_too_many}
 use Rattle.id_meaning.proofs.run.run.Goals as goal
 
 pub returns-then-len-gt-MAX_FACTS-clause-too_many :
     goal.returns-then-len-gt-MAX_FACTS-clause-too_many
 returns-then-len-gt-MAX_FACTS-clause-too_many c =
-    let first = first_facts c.args.checked.now c.args.inputs.now in
-    λ e. first-more (source c.args.checked.now c.args.inputs.now) [] c.in_ok-facts.facts first first refl refl refl c.in_ok-facts.ensures c.args.n (omega arith)
-    (omega arith)
+    λ e. first-more (source c.args.checked.now c.args.inputs.now) c.in_ok-facts.facts c.learn_all.new.self c.as_slice.result.now c.in_ok-first.first.items
+    c.in_ok-facts.ensures c.as_slice.ensures.value c.in_ok-first.ensures c.in_ok-learn_all.ensures c.args.n (omega arith) (omega arith)
 
 pub loop-round-init : goal.loop-round-init
 loop-round-init c =
-    let first = first_facts c.args.checked.now c.args.inputs.now in
-    first-front (source c.args.checked.now c.args.inputs.now) [] c.in_ok-facts.facts first first refl refl refl c.in_ok-facts.ensures
-    c.in_ok-links.links c.in_ok-cells.cells c.in_ok-waits.waits c.in_ok-cells.ensures.none c.in_ok-cells.ensures.chained c.in_ok-waits.ensures (omega arith)
+    first-front (source c.args.checked.now c.args.inputs.now) c.in_ok-facts.facts c.learn_all.new.self c.as_slice.result.now c.in_ok-first.first.items
+    c.in_ok-facts.ensures c.as_slice.ensures.value c.in_ok-first.ensures c.in_ok-learn_all.ensures c.in_ok-links.links c.in_ok-cells.cells c.in_ok-waits.waits
+    c.in_ok-cells.ensures.none c.in_ok-cells.ensures.chained c.in_ok-waits.ensures (omega arith)
 
 pub returns-then-done-len-clause-facts : goal.returns-then-done-len-clause-facts
 returns-then-done-len-clause-facts c =
@@ -30,17 +27,6 @@ returns-then-done-len-clause-facts c =
     front-rest (source c.args.checked.now c.args.inputs.now) l links.turns links.reads links.args r._round r.cells r.waits r.facts r.done r.invariant c.args.n
     (omega arith) (omega arith)
 
-pub follow-requires : goal.follow-requires
-follow-requires c =
-    let l = c.in_ok-links.links in
-    let links = c.in_ok-links.ensures in
-    let r = c.loop-round in
-    record {
-      within =
-          front-within (source c.args.checked.now c.args.inputs.now) l links.turns links.reads links.args r._round r.cells r.waits r.facts r.done r.invariant;
-      counted = r.invariant.counted;
-    }
-
 pub returns-then-len-gt-MAX_FACTS-2-clause-too_many : goal.returns-then-len-gt-MAX_FACTS-2-clause-too_many
 returns-then-len-gt-MAX_FACTS-2-clause-too_many c = λ e.
     let P = c.args.checked.now in
@@ -48,10 +34,11 @@ returns-then-len-gt-MAX_FACTS-2-clause-too_many c = λ e.
     let links = c.in_ok-links.ensures in
     let r = c.loop-round in
     let small : r._round < 18446744073709551615 = (let w = c.loop-round-test.true in omega arith) in
-    let done = c.in_ok-follow.ensures in
     front-more (source P c.args.inputs.now) l links.turns links.reads links.args r._round r.cells r.waits r.facts r.done r.invariant
-    c.follow.new.cells c.follow.new.waits (drop r.done r.facts) small refl done.added done.waiting
-    (drop r.done (items c.follow.new.cells)) c.follow.new.facts refl done.learnt c.args.n c.loop-round-test.true (omega arith)
+    c.add_all.new.self c.wait_all.new.waits (behind r.done c.as_slice-in-loop-round.result.now) small
+    (ap (λ y. behind r.done y) c.as_slice-in-loop-round.ensures) c.in_ok-add_all.ensures c.in_ok-wait_all.ensures
+    (behind r.done c.as_slice-in-loop-round-2.result.now) c.learn_effects.new.facts (ap (λ y. behind r.done y) c.as_slice-in-loop-round-2.ensures.value)
+    c.in_ok-learn_effects.ensures c.args.n c.loop-round-test.true (omega arith)
 
 pub loop-round-preserved : goal.loop-round-preserved
 loop-round-preserved c =
@@ -60,10 +47,11 @@ loop-round-preserved c =
     let links = c.in_ok-links.ensures in
     let r = c.loop-round in
     let small : r._round < 18446744073709551615 = (let w = c.loop-round-test.true in omega arith) in
-    let done = c.in_ok-follow.ensures in
     front-next (source P c.args.inputs.now) l links.turns links.reads links.args r._round r.cells r.waits r.facts r.done r.invariant
-    c.follow.new.cells c.follow.new.waits (drop r.done r.facts) small refl done.added done.waiting
-    (drop r.done (items c.follow.new.cells)) c.follow.new.facts refl done.learnt (r._round + 1) _ (omega arith) (omega arith) (omega arith)
+    c.add_all.new.self c.wait_all.new.waits (behind r.done c.as_slice-in-loop-round.result.now) small
+    (ap (λ y. behind r.done y) c.as_slice-in-loop-round.ensures) c.in_ok-add_all.ensures c.in_ok-wait_all.ensures
+    (behind r.done c.as_slice-in-loop-round-2.result.now) c.learn_effects.new.facts (ap (λ y. behind r.done y) c.as_slice-in-loop-round-2.ensures.value)
+    c.in_ok-learn_effects.ensures (r._round + 1) _ (omega arith) (omega arith) (omega arith)
 
 pub returns-clause-facts : goal.returns-clause-facts
 returns-clause-facts c =
@@ -78,29 +66,41 @@ returns-clause-facts c =
     (front-round (source c.args.checked.now c.args.inputs.now) l links.turns links.reads links.args r._round r.cells r.waits r.facts r.done r.invariant)
 
 -- want of memory
-pub returns-in_err-new-clause-facts : goal.returns-in_err-new-clause-facts
-returns-in_err-new-clause-facts c = if_err _ c.from_residual.result c.from_residual.ensures.0
-
-pub returns-in_err-new-clause-few : goal.returns-in_err-new-clause-few
-returns-in_err-new-clause-few c = if_err _ c.from_residual.result c.from_residual.ensures.0
-
-pub returns-in_err-new-clause-asked : goal.returns-in_err-new-clause-asked
-returns-in_err-new-clause-asked c = not_asked c.from_residual.result c.from_residual.ensures.1
-
-pub returns-in_err-new-clause-too_many : goal.returns-in_err-new-clause-too_many
-returns-in_err-new-clause-too_many c = not_too_many _ c.from_residual.result c.from_residual.ensures.1
-
 pub returns-in_err-facts-clause-facts : goal.returns-in_err-facts-clause-facts
-returns-in_err-facts-clause-facts c = if_err _ c.from_residual-in_err-facts.result c.from_residual-in_err-facts.ensures.0
+returns-in_err-facts-clause-facts c = if_err _ c.from_residual.result c.from_residual.ensures.0
 
 pub returns-in_err-facts-clause-few : goal.returns-in_err-facts-clause-few
-returns-in_err-facts-clause-few c = if_err _ c.from_residual-in_err-facts.result c.from_residual-in_err-facts.ensures.0
+returns-in_err-facts-clause-few c = if_err _ c.from_residual.result c.from_residual.ensures.0
 
 pub returns-in_err-facts-clause-asked : goal.returns-in_err-facts-clause-asked
-returns-in_err-facts-clause-asked c = not_asked c.from_residual-in_err-facts.result c.from_residual-in_err-facts.ensures.1
+returns-in_err-facts-clause-asked c = not_asked c.from_residual.result c.from_residual.ensures.1
 
 pub returns-in_err-facts-clause-too_many : goal.returns-in_err-facts-clause-too_many
-returns-in_err-facts-clause-too_many c = not_too_many _ c.from_residual-in_err-facts.result c.from_residual-in_err-facts.ensures.1
+returns-in_err-facts-clause-too_many c = not_too_many _ c.from_residual.result c.from_residual.ensures.1
+
+pub returns-in_err-first-clause-facts : goal.returns-in_err-first-clause-facts
+returns-in_err-first-clause-facts c = if_err _ c.from_residual-in_err-first.result c.from_residual-in_err-first.ensures.0
+
+pub returns-in_err-first-clause-few : goal.returns-in_err-first-clause-few
+returns-in_err-first-clause-few c = if_err _ c.from_residual-in_err-first.result c.from_residual-in_err-first.ensures.0
+
+pub returns-in_err-first-clause-asked : goal.returns-in_err-first-clause-asked
+returns-in_err-first-clause-asked c = not_asked c.from_residual-in_err-first.result c.from_residual-in_err-first.ensures.1
+
+pub returns-in_err-first-clause-too_many : goal.returns-in_err-first-clause-too_many
+returns-in_err-first-clause-too_many c = not_too_many _ c.from_residual-in_err-first.result c.from_residual-in_err-first.ensures.1
+
+pub returns-in_err-learn_all-clause-facts : goal.returns-in_err-learn_all-clause-facts
+returns-in_err-learn_all-clause-facts c = if_err _ c.from_residual-in_err-learn_all.result c.from_residual-in_err-learn_all.ensures.0
+
+pub returns-in_err-learn_all-clause-few : goal.returns-in_err-learn_all-clause-few
+returns-in_err-learn_all-clause-few c = if_err _ c.from_residual-in_err-learn_all.result c.from_residual-in_err-learn_all.ensures.0
+
+pub returns-in_err-learn_all-clause-asked : goal.returns-in_err-learn_all-clause-asked
+returns-in_err-learn_all-clause-asked c = not_asked c.from_residual-in_err-learn_all.result c.from_residual-in_err-learn_all.ensures.1
+
+pub returns-in_err-learn_all-clause-too_many : goal.returns-in_err-learn_all-clause-too_many
+returns-in_err-learn_all-clause-too_many c = not_too_many _ c.from_residual-in_err-learn_all.result c.from_residual-in_err-learn_all.ensures.1
 
 pub returns-in_err-links-clause-facts : goal.returns-in_err-links-clause-facts
 returns-in_err-links-clause-facts c = if_err _ c.from_residual-in_err-links.result c.from_residual-in_err-links.ensures.0
@@ -138,17 +138,41 @@ returns-in_err-cells-clause-asked c = not_asked c.from_residual-in_err-cells.res
 pub returns-in_err-cells-clause-too_many : goal.returns-in_err-cells-clause-too_many
 returns-in_err-cells-clause-too_many c = not_too_many _ c.from_residual-in_err-cells.result c.from_residual-in_err-cells.ensures.1
 
-pub returns-in_err-follow-clause-facts : goal.returns-in_err-follow-clause-facts
-returns-in_err-follow-clause-facts c = if_err _ c.from_residual-in_err-follow.result c.from_residual-in_err-follow.ensures.0
+pub returns-in_err-add_all-clause-facts : goal.returns-in_err-add_all-clause-facts
+returns-in_err-add_all-clause-facts c = if_err _ c.from_residual-in_err-add_all.result c.from_residual-in_err-add_all.ensures.0
 
-pub returns-in_err-follow-clause-few : goal.returns-in_err-follow-clause-few
-returns-in_err-follow-clause-few c = if_err _ c.from_residual-in_err-follow.result c.from_residual-in_err-follow.ensures.0
+pub returns-in_err-add_all-clause-few : goal.returns-in_err-add_all-clause-few
+returns-in_err-add_all-clause-few c = if_err _ c.from_residual-in_err-add_all.result c.from_residual-in_err-add_all.ensures.0
 
-pub returns-in_err-follow-clause-asked : goal.returns-in_err-follow-clause-asked
-returns-in_err-follow-clause-asked c = not_asked c.from_residual-in_err-follow.result c.from_residual-in_err-follow.ensures.1
+pub returns-in_err-add_all-clause-asked : goal.returns-in_err-add_all-clause-asked
+returns-in_err-add_all-clause-asked c = not_asked c.from_residual-in_err-add_all.result c.from_residual-in_err-add_all.ensures.1
 
-pub returns-in_err-follow-clause-too_many : goal.returns-in_err-follow-clause-too_many
-returns-in_err-follow-clause-too_many c = not_too_many _ c.from_residual-in_err-follow.result c.from_residual-in_err-follow.ensures.1
+pub returns-in_err-add_all-clause-too_many : goal.returns-in_err-add_all-clause-too_many
+returns-in_err-add_all-clause-too_many c = not_too_many _ c.from_residual-in_err-add_all.result c.from_residual-in_err-add_all.ensures.1
+
+pub returns-in_err-wait_all-clause-facts : goal.returns-in_err-wait_all-clause-facts
+returns-in_err-wait_all-clause-facts c = if_err _ c.from_residual-in_err-wait_all.result c.from_residual-in_err-wait_all.ensures.0
+
+pub returns-in_err-wait_all-clause-few : goal.returns-in_err-wait_all-clause-few
+returns-in_err-wait_all-clause-few c = if_err _ c.from_residual-in_err-wait_all.result c.from_residual-in_err-wait_all.ensures.0
+
+pub returns-in_err-wait_all-clause-asked : goal.returns-in_err-wait_all-clause-asked
+returns-in_err-wait_all-clause-asked c = not_asked c.from_residual-in_err-wait_all.result c.from_residual-in_err-wait_all.ensures.1
+
+pub returns-in_err-wait_all-clause-too_many : goal.returns-in_err-wait_all-clause-too_many
+returns-in_err-wait_all-clause-too_many c = not_too_many _ c.from_residual-in_err-wait_all.result c.from_residual-in_err-wait_all.ensures.1
+
+pub returns-in_err-learn_effects-clause-facts : goal.returns-in_err-learn_effects-clause-facts
+returns-in_err-learn_effects-clause-facts c = if_err _ c.from_residual-in_err-learn_effects.result c.from_residual-in_err-learn_effects.ensures.0
+
+pub returns-in_err-learn_effects-clause-few : goal.returns-in_err-learn_effects-clause-few
+returns-in_err-learn_effects-clause-few c = if_err _ c.from_residual-in_err-learn_effects.result c.from_residual-in_err-learn_effects.ensures.0
+
+pub returns-in_err-learn_effects-clause-asked : goal.returns-in_err-learn_effects-clause-asked
+returns-in_err-learn_effects-clause-asked c = not_asked c.from_residual-in_err-learn_effects.result c.from_residual-in_err-learn_effects.ensures.1
+
+pub returns-in_err-learn_effects-clause-too_many : goal.returns-in_err-learn_effects-clause-too_many
+returns-in_err-learn_effects-clause-too_many c = not_too_many _ c.from_residual-in_err-learn_effects.result c.from_residual-in_err-learn_effects.ensures.1
 
 -- too many facts
 pub returns-then-len-gt-MAX_FACTS-clause-facts : goal.returns-then-len-gt-MAX_FACTS-clause-facts
