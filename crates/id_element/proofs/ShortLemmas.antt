@@ -1,5 +1,6 @@
 -- An element keeps its state where a plain token was handled, and where it was not; and the element step on one.
-use Rattle.std.proofs.Common.{◌≡◌, ◌<◌, ◌-◌, ◌^◌, ℕ, Bool, true, false, List, Some, Result, Ok, Err, length, get_or, refl, sym, ap, subst, ◌∙◌}
+use Rattle.std.proofs.Common.{◌≡◌, ◌<◌, ◌≤◌, ◌+◌, ◌-◌, ◌^◌, arith, ℕ, Bool, true, false, List, Some, Result, Ok, Err, length, get_or, refl}
+use Rattle.std.proofs.Common.{sym, ap, subst, ◌∙◌}
 use Rattle.std.specs.Prelude.{◌↔◌, IfErr, IfOk, IsErr, IsErrAnd, IsTrue, OnErr, OnOk, slice_get}
 use Rattle.std.proofs.lemmas.Option.{slice_get_read}
 use Rattle.id_graph.specs.declared.instr.Instr.{Instr}
@@ -13,7 +14,12 @@ use Rattle.id_ops.specs.Shots.{fired_of}
 use Rattle.id_record.specs.declared.step.Verdict.TheVariants as verdict
 use Rattle.id_element.specs.declared.step.Reacted.{Reacted}
 use Rattle.id_element.specs.declared.step.Reacted.TheVariants as reacted
-use Rattle.id_element.specs.Firings.{IsReaction, operands_in}
+use Rattle.id_element.specs.Firings.{IsReaction, IsShot, operands_in}
+use Rattle.id_element.specs.declared.desk.Desk.{Desk}
+use Rattle.id_element.specs.Desks.{IsShort}
+use Rattle.id_graph.specs.declared.dests.Dest.{Dest}
+use Rattle.id_ops.specs.declared.shot.Shot.{Shot}
+use Rattle.id_graph.specs.declared.instr.Op.{Op}
 use Rattle.id_element.proofs.FiringsLemmas.{IsStepBy, fires_outcome, plain_outcome, shot_outcome, step_by, within_kind}
 use Rattle.id_tag.specs.declared.Message.{Message}
 use Rattle.id_tag.specs.declared.Tag.{Tag}
@@ -157,3 +163,38 @@ with_waiting d s w is same = ap (λ v. record d { waiting = v }) is ∙ same
 
 pub with_cells : (d s : State) (b : Cells) → b ≡ d.cells → d ≡ s → ◌≡◌ {A = State} (record d { cells = b }) s
 with_cells d s b is same = ap (λ v. record d { cells = v }) is ∙ same
+
+-- what is small stays small where the events and the number stay
+pub IsShort-kept : (d e : Desk) (most : ℕ) (t : PlainToken) (stamp : ℕ) → IsShort d most t stamp → e.log.events ≡ d.log.events
+    → e.log.element ≡ d.log.element → IsShort e most t stamp
+IsShort-kept d e most t stamp s same number = record {
+  stamp_is = s.stamp_is;
+  position = subst (λ n. n < 2 ^ 32) (sym (ap length same)) s.position;
+  element = subst (λ n. n < 256) (sym number) s.element;
+  iteration = s.iteration;
+  few = s.few;
+  line = s.line;
+}
+
+-- a number that is at most the last stamp can be raised, and so can what equals it
+pub one_left : (n m last : ℕ) → n ≡ m → m ≤ last → last < 2 ^ 64 - 1 → n + 1 < 2 ^ 64
+one_left n m last is most below = omega arith
+
+-- the instruction that was read in the list is that of a desk of the same graph
+pub own_at : (g h : Parts) (d : Dest) (is : List Instr) (i : Instr) (k : PortKind) → kind_at g.instrs d ≡ Some k → is ≡ g.instrs → i ≡ get_or is d.instr i
+    → h ≡ g → slice_get h.instrs d.instr ≡ Some i
+own_at g h d is i k kind own read same =
+    let at : i ≡ get_or g.instrs d.instr i = read ∙ ap (λ xs. get_or xs d.instr i) own in
+    subst (λ (x : Parts). slice_get x.instrs d.instr ≡ Some i) (sym same)
+    (slice_get_read g.instrs (length g.instrs) d.instr i refl (within_kind g d k kind) at)
+
+-- a shot that came of a token is its own and brief, and makes no structure
+pub shot_of_one : (op : Op) (w later : Store) (t : PlainToken) (r : Reacted) (s : Shot) → IsReaction op w later t r → r ≡ reacted.One s → IsShot op w later t s
+shot_of_one op w later t r s h is = subst (IsReaction op w later t) is h
+
+pub shot_of_two : (op : Op) (w later : Store) (t : PlainToken) (r : Reacted) (s : Shot) → IsReaction op w later t r → r ≡ reacted.Two s → IsShot op w later t s
+shot_of_two op w later t r s h is = subst (IsReaction op w later t) is h
+
+pub shot_of_none : (op : Op) (w later : Store) (t : PlainToken) (r : Reacted) → IsReaction op w later t r → r ≡ reacted.Waits
+    → IsShot op w later t shot.Nothing
+shot_of_none op w later t r h is = subst (IsReaction op w later t) is h

@@ -1,10 +1,13 @@
 -- What is recorded is the element step, by what came of the token.
-use Rattle.std.proofs.Common.{arith, sym}
+use Rattle.std.proofs.Common.{ap, arith, refl, subst, sym, ◌∙◌}
 use Rattle.std.proofs.lemmas.Grind.{common_steps}
+use Rattle.id_valid.specs.Validator.{IsValid}
 use Rattle.id_element.specs.declared.step.Reacted.TheVariants.{Waits, One, Two, Fires}
 use Rattle.id_element.specs.Desks.{state_of}
+use Rattle.id_element.specs.Steps.{State}
 use Rattle.id_element.specs.declared.step.Short.TheVariants.{Went}
 use Rattle.id_element.proofs.ShortLemmas.{IsStepOn, step_on, if_err, on_ok, not_ok, not_apart, on_err, end_ok, end_memory, with_waiting}
+use Rattle.id_element.proofs.ShortLemmas.{IsShort-kept, one_left, own_at, shot_of_none, shot_of_one, shot_of_two}
 use Rattle.id_element.proofs.desk.Desk.take_plain.Goals as goal
 use Rattle.id_element.proofs.desk.Desk.take_plain.Goals.{After-conclude_shot, After-conclude_shot-in-One, After-conclude_shot-in-Two, After-conclude_plain}
 
@@ -191,7 +194,8 @@ returns-in_err-react_plain-clause-end c =
 
 pub returns-in_err-react_plain-clause-err : goal.returns-in_err-react_plain-clause-err
 returns-in_err-react_plain-clause-err c =
-    on_err c.from_residual-in_err-react_plain.result (with_waiting (state_of c.reserve.new.self) _ _ c.in_err-react_plain.ensures.err c.in_ok-reserve.ensures.state)
+    on_err c.from_residual-in_err-react_plain.result
+    (with_waiting (state_of c.reserve.new.self) _ _ c.in_err-react_plain.ensures.err c.in_ok-reserve.ensures.state)
 
 pub returns-in_err-react_plain-clause-err_outputs : goal.returns-in_err-react_plain-clause-err_outputs
 returns-in_err-react_plain-clause-err_outputs c = on_err c.from_residual-in_err-react_plain.result c.in_ok-reserve.ensures.messages
@@ -246,3 +250,313 @@ returns-in-Two-clause-apart_outputs c = not_apart Went tt
 
 pub returns-in-Fires-clause-apart_outputs : goal.returns-in-Fires-clause-apart_outputs
 returns-in-Fires-clause-apart_outputs c = not_apart c.conclude_plain.result c.conclude_plain.ensures.handled
+
+-- the numbers of the token and the last stamp are below the end, where no error was
+
+pub returns-then-not-is_short-clause-left : goal.returns-then-not-is_short-clause-left
+returns-then-not-is_short-clause-left c = rw c.from.ensures at c.in_ok-stamp.ensures.below
+
+pub returns-then-not-is_short-clause-last_left : goal.returns-then-not-is_short-clause-last_left
+returns-then-not-is_short-clause-last_left c = c.in_ok-stamp.ensures.last_below
+
+pub returns-then-not-is_short-clause-err : goal.returns-then-not-is_short-clause-err
+returns-then-not-is_short-clause-err c = tt
+
+pub returns-then-not-is_short-clause-err_outputs : goal.returns-then-not-is_short-clause-err_outputs
+returns-then-not-is_short-clause-err_outputs c = tt
+
+pub returns-in-Apart-clause-left : goal.returns-in-Apart-clause-left
+returns-in-Apart-clause-left c = rw c.from.ensures at c.in_ok-stamp.ensures.below
+
+pub returns-in-Apart-clause-last_left : goal.returns-in-Apart-clause-last_left
+returns-in-Apart-clause-last_left c = c.in_ok-stamp.ensures.last_below
+
+pub returns-in-Apart-clause-err : goal.returns-in-Apart-clause-err
+returns-in-Apart-clause-err c = tt
+
+pub returns-in-Apart-clause-err_outputs : goal.returns-in-Apart-clause-err_outputs
+returns-in-Apart-clause-err_outputs c = tt
+
+pub returns-in-Waits-clause-left : goal.returns-in-Waits-clause-left
+returns-in-Waits-clause-left c = rw c.from.ensures at c.in_ok-stamp.ensures.below
+
+pub returns-in-Waits-clause-last_left : goal.returns-in-Waits-clause-last_left
+returns-in-Waits-clause-last_left c = c.in_ok-stamp.ensures.last_below
+
+pub returns-in-Waits-clause-err : goal.returns-in-Waits-clause-err
+returns-in-Waits-clause-err c = tt
+
+pub returns-in-Waits-clause-err_outputs : goal.returns-in-Waits-clause-err_outputs
+returns-in-Waits-clause-err_outputs c = tt
+
+pub returns-in-One-clause-left : goal.returns-in-One-clause-left
+returns-in-One-clause-left c = rw c.from.ensures at c.in_ok-stamp.ensures.below
+
+pub returns-in-One-clause-last_left : goal.returns-in-One-clause-last_left
+returns-in-One-clause-last_left c = c.in_ok-stamp.ensures.last_below
+
+pub returns-in-One-clause-err : goal.returns-in-One-clause-err
+returns-in-One-clause-err c = tt
+
+pub returns-in-One-clause-err_outputs : goal.returns-in-One-clause-err_outputs
+returns-in-One-clause-err_outputs c = tt
+
+pub returns-in-Two-clause-left : goal.returns-in-Two-clause-left
+returns-in-Two-clause-left c = rw c.from.ensures at c.in_ok-stamp.ensures.below
+
+pub returns-in-Two-clause-last_left : goal.returns-in-Two-clause-last_left
+returns-in-Two-clause-last_left c = c.in_ok-stamp.ensures.last_below
+
+pub returns-in-Two-clause-err : goal.returns-in-Two-clause-err
+returns-in-Two-clause-err c = tt
+
+pub returns-in-Two-clause-err_outputs : goal.returns-in-Two-clause-err_outputs
+returns-in-Two-clause-err_outputs c = tt
+
+pub returns-in-Fires-clause-left : goal.returns-in-Fires-clause-left
+returns-in-Fires-clause-left c = rw c.from.ensures at c.in_ok-stamp.ensures.below
+
+pub returns-in-Fires-clause-last_left : goal.returns-in-Fires-clause-last_left
+returns-in-Fires-clause-last_left c = c.in_ok-stamp.ensures.last_below
+
+pub returns-in-Fires-clause-err : goal.returns-in-Fires-clause-err
+returns-in-Fires-clause-err c = tt
+
+pub returns-in-Fires-clause-err_outputs : goal.returns-in-Fires-clause-err_outputs
+returns-in-Fires-clause-err_outputs c = tt
+
+-- its number and its graph stay
+
+pub returns-in_err-stamp-clause-number : goal.returns-in_err-stamp-clause-number
+returns-in_err-stamp-clause-number c = refl
+
+pub returns-in_err-stamp-clause-graph : goal.returns-in_err-stamp-clause-graph
+returns-in_err-stamp-clause-graph c = refl
+
+pub returns-in_err-reserve-clause-number : goal.returns-in_err-reserve-clause-number
+returns-in_err-reserve-clause-number c = c.in_err-reserve.ensures.number
+
+pub returns-in_err-reserve-clause-graph : goal.returns-in_err-reserve-clause-graph
+returns-in_err-reserve-clause-graph c = c.in_err-reserve.ensures.graph
+
+pub returns-in_err-react_plain-clause-number : goal.returns-in_err-react_plain-clause-number
+returns-in_err-react_plain-clause-number c = c.in_ok-reserve.ensures.number
+
+pub returns-in_err-react_plain-clause-graph : goal.returns-in_err-react_plain-clause-graph
+returns-in_err-react_plain-clause-graph c = c.in_ok-reserve.ensures.graph
+
+pub returns-then-not-is_short-clause-number : goal.returns-then-not-is_short-clause-number
+returns-then-not-is_short-clause-number c = refl
+
+pub returns-then-not-is_short-clause-graph : goal.returns-then-not-is_short-clause-graph
+returns-then-not-is_short-clause-graph c = refl
+
+pub returns-in-Apart-clause-number : goal.returns-in-Apart-clause-number
+returns-in-Apart-clause-number c = c.in_ok-reserve.ensures.number
+
+pub returns-in-Apart-clause-graph : goal.returns-in-Apart-clause-graph
+returns-in-Apart-clause-graph c = c.in_ok-reserve.ensures.graph
+
+pub returns-in-Waits-clause-number : goal.returns-in-Waits-clause-number
+returns-in-Waits-clause-number c = c.conclude_shot.ensures.number ∙ c.in_ok-reserve.ensures.number
+
+pub returns-in-Waits-clause-graph : goal.returns-in-Waits-clause-graph
+returns-in-Waits-clause-graph c = c.conclude_shot.ensures.graph ∙ c.in_ok-reserve.ensures.graph
+
+pub returns-in-One-clause-number : goal.returns-in-One-clause-number
+returns-in-One-clause-number c = c.conclude_shot-in-One.ensures.number ∙ c.in_ok-reserve.ensures.number
+
+pub returns-in-One-clause-graph : goal.returns-in-One-clause-graph
+returns-in-One-clause-graph c = c.conclude_shot-in-One.ensures.graph ∙ c.in_ok-reserve.ensures.graph
+
+pub returns-in-Two-clause-number : goal.returns-in-Two-clause-number
+returns-in-Two-clause-number c = c.conclude_shot-in-Two.ensures.number ∙ c.in_ok-reserve.ensures.number
+
+pub returns-in-Two-clause-graph : goal.returns-in-Two-clause-graph
+returns-in-Two-clause-graph c = c.conclude_shot-in-Two.ensures.graph ∙ c.in_ok-reserve.ensures.graph
+
+pub returns-in-Fires-clause-number : goal.returns-in-Fires-clause-number
+returns-in-Fires-clause-number c = c.conclude_plain.ensures.number ∙ c.in_ok-reserve.ensures.number
+
+pub returns-in-Fires-clause-graph : goal.returns-in-Fires-clause-graph
+returns-in-Fires-clause-graph c = c.conclude_plain.ensures.graph ∙ c.in_ok-reserve.ensures.graph
+
+pub returns-then-not-is_short-clause-step : goal.returns-then-not-is_short-clause-step
+returns-then-not-is_short-clause-step c = λ h. absurd h
+
+pub returns-in-Apart-clause-step : goal.returns-in-Apart-clause-step
+returns-in-Apart-clause-step c = λ h. absurd h
+
+pub returns-then-not-is_short-clause-state : goal.returns-then-not-is_short-clause-state
+returns-then-not-is_short-clause-state c = λ h. absurd h
+
+pub returns-in-Apart-clause-state : goal.returns-in-Apart-clause-state
+returns-in-Apart-clause-state c = λ h. absurd h
+
+pub returns-then-not-is_short-clause-outputs : goal.returns-then-not-is_short-clause-outputs
+returns-then-not-is_short-clause-outputs c = λ h. absurd h
+
+pub returns-in-Apart-clause-outputs : goal.returns-in-Apart-clause-outputs
+returns-in-Apart-clause-outputs c = λ h. absurd h
+
+pub returns-then-not-is_short-clause-apart : goal.returns-then-not-is_short-clause-apart
+returns-then-not-is_short-clause-apart c = λ _. refl
+
+pub returns-then-not-is_short-clause-apart_outputs : goal.returns-then-not-is_short-clause-apart_outputs
+returns-then-not-is_short-clause-apart_outputs c = λ _. refl
+
+pub returns-in_err-stamp-clause-err : goal.returns-in_err-stamp-clause-err
+returns-in_err-stamp-clause-err c = on_err c.from_residual.result refl
+
+pub returns-in_err-stamp-clause-err_outputs : goal.returns-in_err-stamp-clause-err_outputs
+returns-in_err-stamp-clause-err_outputs c = on_err c.from_residual.result refl
+
+-- there is room, and the graph is its own
+
+pub conclude_shot-requires-clause-room : goal.conclude_shot-requires-clause-room
+conclude_shot-requires-clause-room c = c.in_ok-reserve.ensures.room
+
+pub conclude_shot-requires-clause-room_aside : goal.conclude_shot-requires-clause-room_aside
+conclude_shot-requires-clause-room_aside c = c.in_ok-reserve.ensures.room_aside
+
+pub conclude_shot-requires-clause-valid : goal.conclude_shot-requires-clause-valid
+conclude_shot-requires-clause-valid c = subst IsValid (c.requires.own ∙ sym c.in_ok-reserve.ensures.graph) c.requires.valid
+
+pub conclude_shot-requires-in-One-clause-room : goal.conclude_shot-requires-in-One-clause-room
+conclude_shot-requires-in-One-clause-room c = c.in_ok-reserve.ensures.room
+
+pub conclude_shot-requires-in-One-clause-room_aside : goal.conclude_shot-requires-in-One-clause-room_aside
+conclude_shot-requires-in-One-clause-room_aside c = c.in_ok-reserve.ensures.room_aside
+
+pub conclude_shot-requires-in-One-clause-valid : goal.conclude_shot-requires-in-One-clause-valid
+conclude_shot-requires-in-One-clause-valid c = subst IsValid (c.requires.own ∙ sym c.in_ok-reserve.ensures.graph) c.requires.valid
+
+pub conclude_shot-requires-in-Two-clause-room : goal.conclude_shot-requires-in-Two-clause-room
+conclude_shot-requires-in-Two-clause-room c = c.in_ok-reserve.ensures.room
+
+pub conclude_shot-requires-in-Two-clause-room_aside : goal.conclude_shot-requires-in-Two-clause-room_aside
+conclude_shot-requires-in-Two-clause-room_aside c = c.in_ok-reserve.ensures.room_aside
+
+pub conclude_shot-requires-in-Two-clause-valid : goal.conclude_shot-requires-in-Two-clause-valid
+conclude_shot-requires-in-Two-clause-valid c = subst IsValid (c.requires.own ∙ sym c.in_ok-reserve.ensures.graph) c.requires.valid
+
+pub conclude_plain-requires-clause-room : goal.conclude_plain-requires-clause-room
+conclude_plain-requires-clause-room c = c.in_ok-reserve.ensures.room
+
+pub conclude_plain-requires-clause-room_aside : goal.conclude_plain-requires-clause-room_aside
+conclude_plain-requires-clause-room_aside c = c.in_ok-reserve.ensures.room_aside
+
+pub conclude_plain-requires-clause-valid : goal.conclude_plain-requires-clause-valid
+conclude_plain-requires-clause-valid c = subst IsValid (c.requires.own ∙ sym c.in_ok-reserve.ensures.graph) c.requires.valid
+
+-- what is small was so before, and the instruction and the shot are those that were read and made
+pub conclude_shot-requires-clause-counted : goal.conclude_shot-requires-clause-counted
+conclude_shot-requires-clause-counted c =
+    one_left _ _ _ (ap (λ (v : State). v.contexts) c.in_ok-reserve.ensures.state) c.requires.counted c.in_ok-stamp.ensures.last_below
+
+pub conclude_shot-requires-clause-numbered : goal.conclude_shot-requires-clause-numbered
+conclude_shot-requires-clause-numbered c =
+    one_left _ _ _ (ap (λ (v : State). v.structures) c.in_ok-reserve.ensures.state) c.requires.numbered c.in_ok-stamp.ensures.last_below
+
+pub conclude_shot-requires-clause-own : goal.conclude_shot-requires-clause-own
+conclude_shot-requires-clause-own c =
+    own_at c.args.graph.now _ (record { instr = c.args.token.now.instr; port = c.args.token.now.port }) _ c.index-instrs-token.result _
+    c.requires.fits.kind c.instrs.ensures.value c.index-instrs-token.is (c.in_ok-reserve.ensures.graph ∙ sym c.requires.own)
+
+pub conclude_shot-requires-clause-room_in_outputs : goal.conclude_shot-requires-clause-room_in_outputs
+conclude_shot-requires-clause-room_in_outputs c = rw c.most_sent-most.ensures at c.in_ok-reserve.ensures.room_in_outputs
+
+pub conclude_shot-requires-clause-short : goal.conclude_shot-requires-clause-short
+conclude_shot-requires-clause-short c =
+    IsShort-kept _ _ _ _ _ ((rw c.most_sent-most.ensures at c.if-not-is_short.ensures) refl)
+    (ap (λ (v : State). v.events) c.in_ok-reserve.ensures.state) c.in_ok-reserve.ensures.number
+
+pub conclude_shot-requires-clause-own_value : goal.conclude_shot-requires-clause-own_value
+conclude_shot-requires-clause-own_value c = (shot_of_none _ _ _ _ _ c.in_ok-react_plain.ensures.reaction c.in-Waits.is).own
+
+pub conclude_shot-requires-clause-brief : goal.conclude_shot-requires-clause-brief
+conclude_shot-requires-clause-brief c = (shot_of_none _ _ _ _ _ c.in_ok-react_plain.ensures.reaction c.in-Waits.is).brief
+
+pub conclude_shot-requires-clause-makes_none : goal.conclude_shot-requires-clause-makes_none
+conclude_shot-requires-clause-makes_none c = (shot_of_none _ _ _ _ _ c.in_ok-react_plain.ensures.reaction c.in-Waits.is).makes_none
+
+pub conclude_shot-requires-in-One-clause-counted : goal.conclude_shot-requires-in-One-clause-counted
+conclude_shot-requires-in-One-clause-counted c =
+    one_left _ _ _ (ap (λ (v : State). v.contexts) c.in_ok-reserve.ensures.state) c.requires.counted c.in_ok-stamp.ensures.last_below
+
+pub conclude_shot-requires-in-One-clause-numbered : goal.conclude_shot-requires-in-One-clause-numbered
+conclude_shot-requires-in-One-clause-numbered c =
+    one_left _ _ _ (ap (λ (v : State). v.structures) c.in_ok-reserve.ensures.state) c.requires.numbered c.in_ok-stamp.ensures.last_below
+
+pub conclude_shot-requires-in-One-clause-own : goal.conclude_shot-requires-in-One-clause-own
+conclude_shot-requires-in-One-clause-own c =
+    own_at c.args.graph.now _ (record { instr = c.args.token.now.instr; port = c.args.token.now.port }) _ c.index-instrs-token.result _
+    c.requires.fits.kind c.instrs.ensures.value c.index-instrs-token.is (c.in_ok-reserve.ensures.graph ∙ sym c.requires.own)
+
+pub conclude_shot-requires-in-One-clause-room_in_outputs : goal.conclude_shot-requires-in-One-clause-room_in_outputs
+conclude_shot-requires-in-One-clause-room_in_outputs c = rw c.most_sent-most.ensures at c.in_ok-reserve.ensures.room_in_outputs
+
+pub conclude_shot-requires-in-One-clause-short : goal.conclude_shot-requires-in-One-clause-short
+conclude_shot-requires-in-One-clause-short c =
+    IsShort-kept _ _ _ _ _ ((rw c.most_sent-most.ensures at c.if-not-is_short.ensures) refl)
+    (ap (λ (v : State). v.events) c.in_ok-reserve.ensures.state) c.in_ok-reserve.ensures.number
+
+pub conclude_shot-requires-in-One-clause-own_value : goal.conclude_shot-requires-in-One-clause-own_value
+conclude_shot-requires-in-One-clause-own_value c = (shot_of_one _ _ _ _ _ _ c.in_ok-react_plain.ensures.reaction c.in-One.is).own
+
+pub conclude_shot-requires-in-One-clause-brief : goal.conclude_shot-requires-in-One-clause-brief
+conclude_shot-requires-in-One-clause-brief c = (shot_of_one _ _ _ _ _ _ c.in_ok-react_plain.ensures.reaction c.in-One.is).brief
+
+pub conclude_shot-requires-in-One-clause-makes_none : goal.conclude_shot-requires-in-One-clause-makes_none
+conclude_shot-requires-in-One-clause-makes_none c = (shot_of_one _ _ _ _ _ _ c.in_ok-react_plain.ensures.reaction c.in-One.is).makes_none
+
+pub conclude_shot-requires-in-Two-clause-counted : goal.conclude_shot-requires-in-Two-clause-counted
+conclude_shot-requires-in-Two-clause-counted c =
+    one_left _ _ _ (ap (λ (v : State). v.contexts) c.in_ok-reserve.ensures.state) c.requires.counted c.in_ok-stamp.ensures.last_below
+
+pub conclude_shot-requires-in-Two-clause-numbered : goal.conclude_shot-requires-in-Two-clause-numbered
+conclude_shot-requires-in-Two-clause-numbered c =
+    one_left _ _ _ (ap (λ (v : State). v.structures) c.in_ok-reserve.ensures.state) c.requires.numbered c.in_ok-stamp.ensures.last_below
+
+pub conclude_shot-requires-in-Two-clause-own : goal.conclude_shot-requires-in-Two-clause-own
+conclude_shot-requires-in-Two-clause-own c =
+    own_at c.args.graph.now _ (record { instr = c.args.token.now.instr; port = c.args.token.now.port }) _ c.index-instrs-token.result _
+    c.requires.fits.kind c.instrs.ensures.value c.index-instrs-token.is (c.in_ok-reserve.ensures.graph ∙ sym c.requires.own)
+
+pub conclude_shot-requires-in-Two-clause-room_in_outputs : goal.conclude_shot-requires-in-Two-clause-room_in_outputs
+conclude_shot-requires-in-Two-clause-room_in_outputs c = rw c.most_sent-most.ensures at c.in_ok-reserve.ensures.room_in_outputs
+
+pub conclude_shot-requires-in-Two-clause-short : goal.conclude_shot-requires-in-Two-clause-short
+conclude_shot-requires-in-Two-clause-short c =
+    IsShort-kept _ _ _ _ _ ((rw c.most_sent-most.ensures at c.if-not-is_short.ensures) refl)
+    (ap (λ (v : State). v.events) c.in_ok-reserve.ensures.state) c.in_ok-reserve.ensures.number
+
+pub conclude_shot-requires-in-Two-clause-own_value : goal.conclude_shot-requires-in-Two-clause-own_value
+conclude_shot-requires-in-Two-clause-own_value c = (shot_of_two _ _ _ _ _ _ c.in_ok-react_plain.ensures.reaction c.in-Two.is).own
+
+pub conclude_shot-requires-in-Two-clause-brief : goal.conclude_shot-requires-in-Two-clause-brief
+conclude_shot-requires-in-Two-clause-brief c = (shot_of_two _ _ _ _ _ _ c.in_ok-react_plain.ensures.reaction c.in-Two.is).brief
+
+pub conclude_shot-requires-in-Two-clause-makes_none : goal.conclude_shot-requires-in-Two-clause-makes_none
+conclude_shot-requires-in-Two-clause-makes_none c = (shot_of_two _ _ _ _ _ _ c.in_ok-react_plain.ensures.reaction c.in-Two.is).makes_none
+
+pub conclude_plain-requires-clause-counted : goal.conclude_plain-requires-clause-counted
+conclude_plain-requires-clause-counted c =
+    one_left _ _ _ (ap (λ (v : State). v.contexts) c.in_ok-reserve.ensures.state) c.requires.counted c.in_ok-stamp.ensures.last_below
+
+pub conclude_plain-requires-clause-numbered : goal.conclude_plain-requires-clause-numbered
+conclude_plain-requires-clause-numbered c =
+    one_left _ _ _ (ap (λ (v : State). v.structures) c.in_ok-reserve.ensures.state) c.requires.numbered c.in_ok-stamp.ensures.last_below
+
+pub conclude_plain-requires-clause-own : goal.conclude_plain-requires-clause-own
+conclude_plain-requires-clause-own c =
+    own_at c.args.graph.now _ (record { instr = c.args.token.now.instr; port = c.args.token.now.port }) _ c.index-instrs-token.result _
+    c.requires.fits.kind c.instrs.ensures.value c.index-instrs-token.is (c.in_ok-reserve.ensures.graph ∙ sym c.requires.own)
+
+pub conclude_plain-requires-clause-room_in_outputs : goal.conclude_plain-requires-clause-room_in_outputs
+conclude_plain-requires-clause-room_in_outputs c = rw c.most_sent-most.ensures at c.in_ok-reserve.ensures.room_in_outputs
+
+pub conclude_plain-requires-clause-short : goal.conclude_plain-requires-clause-short
+conclude_plain-requires-clause-short c =
+    IsShort-kept _ _ _ _ _ ((rw c.most_sent-most.ensures at c.if-not-is_short.ensures) refl)
+    (ap (λ (v : State). v.events) c.in_ok-reserve.ensures.state) c.in_ok-reserve.ensures.number
