@@ -15,7 +15,7 @@ ghost use Rattle.id_element.specs.Firings.{IsReaction, firing_of, most_sent, ope
 ghost use Rattle.id_graph.specs.Ports.{two_ports};
 ghost use Rattle.id_match.specs.Waiting.{Store, offer_after, offer_answer, pair_of};
 ghost use Rattle.id_match.specs.declared.Offered.TheVariants.{Pair};
-ghost use Rattle.id_tag.specs.Plains.{message_of, tag_in, whole};
+ghost use Rattle.id_tag.specs.Plains.{context_of, message_of, tag_in, whole};
 ghost use Rattle.id_tag.specs.declared.plain.Plain.{Plain};
 ghost use Rattle.id_graph.specs.declared.dests.Port.TheVariants.{Zero, One as PortOne};
 ghost use Rattle.id_ops.specs.Shots.{IsBrief, IsOwn, target_tag};
@@ -42,7 +42,7 @@ use id_record::{
     Envelope, Reaction, Record, Verdict, chosen, count_started, message, moved_to, start, token_at,
     token_to,
 };
-use id_tag::{Context, Payload, Plain, PlainToken, Tag, Value, small, tiny};
+use id_tag::{Context, Payload, Plain, PlainToken, Tag, Value, element_of, name_of, serial_of};
 use std::alloc::AllocError;
 
 /// The stamp of the next event, one above both, where there is one.
@@ -387,16 +387,18 @@ fn send_entered(instr: &Instr, like: &PlainToken, context: Context, outputs: &mu
     ensures { outputs.new.messages ≡ outputs.old.messages ++ numbered like.now.sender like.now.position like.now.stamp 0
         (sent (Some instr.now.op) (arcs_on (side_of (Entered context)) instr.now) (tag_in like.now) (Entered context)) }
 {
-    match (instr.op, tiny(context.element), small(context.serial)) {
-        (Op::Enter { block, reply }, Some(element), Some(serial)) => {
+    let name = name_of(context.element, context.serial);
+    let own = name_of(u32::from(like.element), u64::from(like.serial));
+    match (instr.op, name, own) {
+        (Op::Enter { block, reply }, Some(name), Some(own)) => {
             let dests = instr.dests.as_slice();
-            let value = Plain::Context(element, serial);
+            let value = Plain::Context(name);
             send_plain(dests, &PlainToken { value, ..*like }, outputs);
             let number = dests.len();
-            let first = plain_within(like, element, serial, block, Plain::Signal, number);
+            let first = plain_within(like, name, block, Plain::Signal, number);
             outputs.push_plain_reserved(&first);
-            let caller = Plain::Continuation(like.element, like.serial, like.iteration, reply);
-            let second = plain_within(like, element, serial, block + 1, caller, number + 1);
+            let caller = Plain::Continuation(own, like.iteration, reply);
+            let second = plain_within(like, name, block + 1, caller, number + 1);
             outputs.push_plain_reserved(&second);
         }
         _ => send(
@@ -409,19 +411,12 @@ fn send_entered(instr: &Instr, like: &PlainToken, context: Context, outputs: &mu
     }
 }
 
-/// A plain token for port 0 of an instruction in the context of these numbers, with this value and this number, and
-/// else like this one.
-fn plain_within(
-    like: &PlainToken,
-    element: u8,
-    serial: u32,
-    instr: u32,
-    value: Plain,
-    number: usize,
-) -> PlainToken
+/// A plain token for port 0 of an instruction in the context of this name, with this value and this number, and else
+/// like this one.
+fn plain_within(like: &PlainToken, name: u32, instr: u32, value: Plain, number: usize) -> PlainToken
     requires { number < 256 }
     ensures { message_of result ≡ record {
-      payload = Token (tag_within (record { element = element; serial = serial }) instr) Zero (whole value);
+      payload = Token (tag_within (context_of name) instr) Zero (whole value);
       sender = Element like.now.sender;
       position = like.now.position;
       output = number;
@@ -431,10 +426,10 @@ fn plain_within(
     let output = number as u8;
     PlainToken {
         value,
-        serial,
+        serial: serial_of(name),
         iteration: 0,
         instr,
-        element,
+        element: element_of(name),
         port: Port::Zero,
         output,
         ..*like

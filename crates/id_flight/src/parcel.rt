@@ -92,11 +92,11 @@ pub(crate) fn packed_read(like: &PlainToken, cell: PlainCell) -> Parcel
     parcel_like(
         like,
         What::Read(
-            cell.element,
-            cell.serial,
-            i64::from(cell.low),
-            i64::from(cell.high),
-            i64::from(cell.index),
+            cell.element(),
+            cell.serial(),
+            i64::from(cell.low()),
+            i64::from(cell.high()),
+            i64::from(cell.index()),
         ),
     )
 }
@@ -111,11 +111,11 @@ pub(crate) fn packed_write(like: &PlainToken, cell: PlainCell, number: i64) -> P
     parcel_like(
         like,
         What::WriteInt(
-            cell.element,
-            cell.serial,
-            i64::from(cell.low),
-            i64::from(cell.high),
-            i64::from(cell.index),
+            cell.element(),
+            cell.serial(),
+            i64::from(cell.low()),
+            i64::from(cell.high()),
+            i64::from(cell.index()),
             number,
         ),
     )

@@ -40,7 +40,7 @@ sends_on fired.Nothing = false
 
 -- what goes out for a token of this value: a structure is its own, and anything else goes out for a word
 abbrev pub SendsOwn : Plain → Plain → Type 0
-SendsOwn (Structure e s l h) v = Structure e s l h ≡ v
+SendsOwn (Structure n l h) v = Structure n l h ≡ v
 SendsOwn w v = is_word v ≡ true
 
 -- the shot of a token of this value sends that value on, or a word for a word, or nothing is sent

@@ -72,7 +72,7 @@ pub fn deed_on_two(op: Op, left: Plain, right: Plain) -> Option<Deed>
     ensures { IfSome result
         (λ d. (t : Tag) (f : Fresh) → fired op t (Two (whole left) (whole right)) f ≡ fired_by_deed t d) }
 {
-    if let (Op::Switch(kind), Plain::Bool(side)) = (op, left) {
+    if let (Op::Switch(kind), Some(side)) = (op, left.truth()) {
         return switched(kind, side, right);
     }
     match (op, left.value(), right) {
@@ -94,7 +94,7 @@ fn switched(kind: PortKind, side: bool, value: Plain) -> Option<Deed>
         (λ d. (t : Tag) → fired_switch kind (Two (values.Bool side) (whole value)) ≡ fired_by_deed t d) }
 {
     match (kind, value) {
-        (PortKind::Structure, Plain::Structure(_, _, _, _)) => Some(Deed::Switched(side, value)),
+        (PortKind::Structure, Plain::Structure(_, _, _)) => Some(Deed::Switched(side, value)),
         _ => None,
     }
 }

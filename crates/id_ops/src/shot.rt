@@ -17,7 +17,7 @@ ghost use Rattle.id_ops.specs.Shots.{IsBrief, IsOwn, fired_of, sends_on, target_
 
 use crate::Fired;
 use id_graph::{Dyadic, Op, PortKind};
-use id_tag::{Context, Plain, Tag};
+use id_tag::{Context, Plain, Tag, element_of, plain_truth, serial_of};
 use id_value::{Constant, Outcome, UnaryOp, calculate, compare, decide, unary_result};
 
 /// A firing that sends a word or a structure to all destinations on a side, or a word to one tag, or nothing.
@@ -143,7 +143,7 @@ fn plain_constant(constant: Constant) -> Plain
 {
     match constant {
         Constant::Int(number) => Plain::Int(number),
-        Constant::Bool(truth) => Plain::Bool(truth),
+        Constant::Bool(truth) => plain_truth(truth),
     }
 }
 
@@ -155,7 +155,7 @@ fn shoot_unary(operator: UnaryOp, operand: Plain) -> Option<Shot>
 {
     match operand {
         Plain::Int(number) => shot_by(unary_result(operator, Constant::Int(number))),
-        Plain::Bool(truth) => shot_by(unary_result(operator, Constant::Bool(truth))),
+        Plain::Bool(truth) => shot_by(unary_result(operator, Constant::Bool(truth != 0))),
         _ => None,
     }
 }
@@ -172,10 +172,10 @@ fn shoot_binary(operator: Dyadic, left: Plain, right: Plain) -> Option<Shot>
             shot_by(calculate(operator, left, right))
         }
         (Dyadic::Comparison(operator), Plain::Int(left), Plain::Int(right)) => {
-            Some(Shot::Out(Plain::Bool(compare(operator, left, right))))
+            Some(Shot::Out(plain_truth(compare(operator, left, right))))
         }
         (Dyadic::Truth(operator), Plain::Bool(left), Plain::Bool(right)) => {
-            Some(Shot::Out(Plain::Bool(decide(operator, left, right))))
+            Some(Shot::Out(plain_truth(decide(operator, left != 0, right != 0))))
         }
         _ => None,
     }
@@ -188,8 +188,8 @@ fn shoot_switch(kind: PortKind, left: Plain, right: Plain) -> Option<Shot>
     ensures own { IfSome result (λ s. IsOwn s right) }
     ensures brief { IfSome result (λ s. (iteration : ℕ) → IsBrief iteration s) }
 {
-    match left {
-        Plain::Bool(side) if right.is_carried() && right.kind() == kind => {
+    match left.truth() {
+        Some(side) if right.is_carried() && right.kind() == kind => {
             Some(Shot::Side(side, right))
         }
         _ => None,
@@ -204,13 +204,13 @@ pub(crate) fn shoot_send(kind: PortKind, target: u32, left: Plain, right: Plain)
     ensures brief { IfSome result (λ s. (iteration : ℕ) → IsBrief iteration s) }
 {
     match left {
-        Plain::Context(element, serial) => {
+        Plain::Context(name) => {
             shot_to(
                 Target {
-                    serial,
+                    serial: serial_of(name),
                     iteration: 0,
                     instr: target,
-                    element,
+                    element: element_of(name),
                 },
                 kind,
                 right,
@@ -227,13 +227,13 @@ fn shoot_back(kind: PortKind, left: Plain, right: Plain) -> Option<Shot>
     ensures brief { IfSome result (λ s. (iteration : ℕ) → IsBrief iteration s) }
 {
     match left {
-        Plain::Continuation(element, serial, iteration, instr) => {
+        Plain::Continuation(name, iteration, instr) => {
             shot_to(
                 Target {
-                    serial,
+                    serial: serial_of(name),
                     iteration,
                     instr,
-                    element,
+                    element: element_of(name),
                 },
                 kind,
                 right,

@@ -59,10 +59,10 @@ makes-own : (w v : Plain) → SendsOwn w v → makes (whole v) (fired_of (shot.O
 makes-own plain.Signal v own = refl
 makes-own (plain.Int n) v own = refl
 makes-own (plain.Bool b) v own = refl
-makes-own (plain.Context e s) v own = refl
-makes-own (plain.Continuation e s k j) v own = refl
-makes-own (plain.Structure e s l h) v own = ap (λ p. is_number (whole p)) (sym own)
-makes-own (plain.Address e l s h i) v own = refl
+makes-own (plain.Context n) v own = refl
+makes-own (plain.Continuation n k j) v own = refl
+makes-own (plain.Structure n l h) v own = ap (λ p. is_number (whole p)) (sym own)
+makes-own (plain.Address n p) v own = refl
 
 makes-shot : (s : Shot) (v : Plain) → IsOwn s v → makes (whole v) (fired_of s) ≡ false
 makes-shot shot.Nothing v own = refl

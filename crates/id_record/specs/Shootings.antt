@@ -32,7 +32,7 @@ doing d = record {
 
 -- a line has room for the value: an instruction that it names has a number of 24 bits
 abbrev pub IsNarrow : Plain → Type 0
-IsNarrow (Continuation e s k j) = j < 2 ^ 24
+IsNarrow (Continuation n k j) = j < 2 ^ 24
 IsNarrow v = Unit {0}
 
 -- a line has room for the event of the token

@@ -1,6 +1,8 @@
 -- Plain values: those of small numbers.
-use Rattle.std.specs.Prelude.{Bool as Truth, true, false, Option, None, Some}
+use Rattle.std.specs.Prelude.{Bool as Truth, true, false, not, Option, None, Some, ℕ, ℤ, pos, ◌-ℤ◌, ◌/◌, ◌%◌, ◌^◌, ◌==◌}
 use Rattle.id_tag.specs.declared.Cell.{Cell}
+use Rattle.id_tag.specs.declared.Context.{Context as Activation}
+use Rattle.id_tag.specs.declared.Structure.{Structure as Array}
 use Rattle.id_tag.specs.declared.Tag.{Tag}
 use Rattle.id_tag.specs.declared.Value.{Value}
 use Rattle.id_tag.specs.declared.Value.TheVariants as value
@@ -13,34 +15,64 @@ use Rattle.id_tag.specs.declared.Message.{Message}
 use Rattle.id_tag.specs.declared.Payload.TheVariants.{Token}
 use Rattle.id_tag.specs.declared.Sender.TheVariants.{Element}
 
+-- the element and the serial number in the name of a context or a structure
+abbrev pub element_of : ℕ → ℕ
+element_of n = n % 256
+
+abbrev pub serial_of : ℕ → ℕ
+serial_of n = n / 256
+
+-- the context of a name
+abbrev pub context_of : ℕ → Activation
+context_of n = record { element = element_of n; serial = serial_of n }
+
+-- the structure of a name, with these bounds
+abbrev pub structure_of : ℕ → ℤ → ℤ → Array
+structure_of n l h = record { element = element_of n; serial = serial_of n; low = l; high = h }
+
+-- the bounds and the index in the place of a cell, each above its least
+abbrev pub low_of : ℕ → ℤ
+low_of p = pos (p / 2 ^ 52) -ℤ pos (2 ^ 11)
+
+abbrev pub high_of : ℕ → ℤ
+high_of p = pos (p / 2 ^ 26 % 2 ^ 26) -ℤ pos (2 ^ 25)
+
+abbrev pub index_of : ℕ → ℤ
+index_of p = pos (p % 2 ^ 26) -ℤ pos (2 ^ 25)
+
 -- a cell in small numbers as any cell
 abbrev pub cell_of : PlainCell → Cell
-cell_of c = record {
-  structure = record { element = c.element; serial = c.serial; low = c.low; high = c.high };
-  index = c.index;
-}
+cell_of c = record { structure = structure_of c.name (low_of c.place) (high_of c.place); index = index_of c.place }
 
 -- a plain value as any value
 abbrev pub whole : Plain → Value
 whole Signal = value.Signal
+whole (Bool b) = value.Bool (not (b == 0))
 whole (Int n) = value.Int n
-whole (Bool b) = value.Bool b
-whole (Context e s) = value.Context (record { element = e; serial = s })
-whole (Continuation e s k j) =
-    value.Continuation (record { context = record { element = e; serial = s }; iteration = k; instr = j })
-whole (Structure e s l h) = value.Structure (record { element = e; serial = s; low = l; high = h })
-whole (Address e l s h i) =
-    value.Address (record { structure = record { element = e; serial = s; low = l; high = h }; index = i })
+whole (Context c) = value.Context (context_of c)
+whole (Continuation c k j) = value.Continuation (record { context = context_of c; iteration = k; instr = j })
+whole (Structure n l h) = value.Structure (structure_of n l h)
+whole (Address n p) = value.Address (cell_of (record { name = n; place = p }))
+
+-- the truth value that a plain value is, if it is one
+abbrev pub truth_of : Plain → Option Truth
+truth_of Signal = None
+truth_of (Bool b) = Some (not (b == 0))
+truth_of (Int n) = None
+truth_of (Context n) = None
+truth_of (Continuation n k j) = None
+truth_of (Structure n l h) = None
+truth_of (Address n p) = None
 
 -- whether a plain value is a word: a signal, a number or a truth value
 abbrev pub is_word : Plain → Truth
 is_word Signal = true
 is_word (Int n) = true
 is_word (Bool b) = true
-is_word (Context e s) = false
-is_word (Continuation e s k j) = false
-is_word (Structure e s l h) = false
-is_word (Address e l s h i) = false
+is_word (Context n) = false
+is_word (Continuation n k j) = false
+is_word (Structure n l h) = false
+is_word (Address n p) = false
 
 -- whether a value is one that instructions send on in short: a word or a structure
 abbrev pub is_sent_on : Value → Truth
@@ -57,16 +89,17 @@ abbrev pub is_carried : Plain → Truth
 is_carried Signal = true
 is_carried (Int n) = true
 is_carried (Bool b) = true
-is_carried (Context e s) = false
-is_carried (Continuation e s k j) = false
-is_carried (Structure e s l h) = true
-is_carried (Address e l s h i) = false
+is_carried (Context n) = false
+is_carried (Continuation n k j) = false
+is_carried (Structure n l h) = true
+is_carried (Address n p) = false
 
 -- the word that a value is, if it is one, as a plain value
 abbrev pub word_of : Value → Option Plain
 word_of value.Signal = Some Signal
 word_of (value.Int n) = Some (Int n)
-word_of (value.Bool b) = Some (Bool b)
+word_of (value.Bool true) = Some (Bool 1)
+word_of (value.Bool false) = Some (Bool 0)
 word_of (value.Structure s) = None
 word_of (value.Address c) = None
 word_of (value.Context c) = None

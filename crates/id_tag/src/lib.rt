@@ -15,7 +15,10 @@ mod plain;
 
 use id_graph::{Port, PortKind};
 pub use near::{NearHasher, mix};
-pub use plain::{Plain, PlainCell, PlainToken, plain_cell, plain_of, small, tiny};
+pub use plain::{
+    Plain, PlainCell, PlainToken, element_of, name_of, plain_cell, plain_of, plain_truth,
+    serial_of, small, tiny,
+};
 
 /// The context of an activation: the element that made it, and the number that it gave it.
 /// Main's context is element 0, number 0; each element numbers those that it makes from 1.

@@ -1,8 +1,9 @@
 //! Plain values: those of small numbers, which most tokens carry.
 
-ghost use Rattle.std.specs.Prelude.{◌≡◌, ◌≢◌, ◌≤◌, ◌^◌, None, IfSome};
+ghost use Rattle.std.specs.Prelude.{◌≡◌, ◌≢◌, ◌≤◌, ◌<◌, ◌+◌, ◌^◌, ◌/◌, ◌%◌, ◌-ℤ◌, pos, None, IfSome, IsSome, true};
 ghost use Rattle.id_tag.specs.Kinds.{kind_of};
-ghost use Rattle.id_tag.specs.Plains.{cell_of, is_carried, is_word, whole, word_of};
+ghost use Rattle.id_tag.specs.Plains.{cell_of, context_of, element_of, high_of, index_of, is_carried, is_word};
+ghost use Rattle.id_tag.specs.Plains.{low_of, serial_of, structure_of, truth_of, whole, word_of};
 ghost use Rattle.id_tag.specs.declared.Cell.{Cell};
 ghost use Rattle.id_tag.specs.declared.Value.TheVariants as value;
 
@@ -10,20 +11,62 @@ use crate::{Cell, Context, Message, Payload, Sender, Structure, Tag, Value};
 use id_graph::{Port, PortKind};
 
 /// A word, which is a signal, a number or a truth value; or a context, a continuation, a structure or an address in
-/// small numbers.
+/// small numbers. Beside its kind it has at most a number of 32 bits and one of 64, or two more of 32 in its place, so
+/// that it is copied in three parts.
 #[derive(Clone, Copy)]
 pub enum Plain {
     Signal,
+    /// A truth value: 0 for false, and any other number for true.
+    Bool(u32),
     Int(i64),
-    Bool(bool),
-    /// The element and the serial number of a context.
-    Context(u8, u32),
-    /// The element and the serial number of a tag's context, its iteration and its instruction.
-    Continuation(u8, u32, u32, u32),
-    /// The element and the serial number of a structure, and its bounds.
-    Structure(u8, u32, i32, i32),
-    /// The element, the low bound, the serial number and the high bound of a structure, and the index of its cell.
-    Address(u8, i16, u32, i32, i32),
+    /// The name of a context.
+    Context(u32),
+    /// The name of a tag's context, its iteration and its instruction.
+    Continuation(u32, u32, u32),
+    /// The name of a structure, and its bounds.
+    Structure(u32, i32, i32),
+    /// The name of a structure, and its bounds with the index of its cell.
+    Address(u32, u64),
+}
+
+/// The name of a context or a structure in one number, where its element has 8 bits and its serial number 24: 256 times
+/// the serial number, and the element. Takes no memory.
+#[inline(always)]
+pub fn name_of(element: u32, serial: u64) -> Option<u32>
+    ensures element { IfSome result (λ n. element_of n ≡ element) }
+    ensures serial { IfSome result (λ n. serial_of n ≡ serial) }
+    ensures fits { element < 2 ^ 8 → serial < 2 ^ 24 → IsSome result }
+{
+    if element <= 0xff && serial <= 0xff_ffff {
+        Some(serial as u32 * 256 + element)
+    } else {
+        None
+    }
+}
+
+/// The element of a name. Takes no memory.
+#[inline(always)]
+pub fn element_of(name: u32) -> u8
+    ensures { result ≡ element_of name }
+{
+    (name % 256) as u8
+}
+
+/// The serial number of a name. Takes no memory.
+#[inline(always)]
+pub fn serial_of(name: u32) -> u32
+    ensures { result ≡ serial_of name }
+{
+    name / 256
+}
+
+/// The plain value of a truth value. Takes no memory.
+#[inline(always)]
+pub fn plain_truth(truth: bool) -> Plain
+    ensures whole { whole result ≡ value.Bool truth }
+    ensures word { is_word result ≡ true }
+{
+    Plain::Bool(u32::from(truth))
 }
 
 impl Plain {
@@ -35,24 +78,15 @@ impl Plain {
         match self {
             Plain::Signal => Value::Signal,
             Plain::Int(number) => Value::Int(number),
-            Plain::Bool(truth) => Value::Bool(truth),
-            Plain::Context(element, serial) => Value::Context(context(element, serial)),
-            Plain::Continuation(element, serial, iteration, instr) => Value::Continuation(Tag {
-                context: context(element, serial),
+            Plain::Bool(truth) => Value::Bool(truth != 0),
+            Plain::Context(name) => Value::Context(context(name)),
+            Plain::Continuation(name, iteration, instr) => Value::Continuation(Tag {
+                context: context(name),
                 iteration: u64::from(iteration),
                 instr,
             }),
-            Plain::Structure(element, serial, low, high) => {
-                Value::Structure(structure(element, serial, low, high))
-            }
-            Plain::Address(element, low, serial, high, index) => Value::Address(PlainCell {
-                element,
-                low,
-                serial,
-                high,
-                index,
-            }
-            .cell()),
+            Plain::Structure(name, low, high) => { Value::Structure(structure(name, low, high)) }
+            Plain::Address(name, place) => Value::Address(PlainCell { name, place }.cell()),
         }
     }
 
@@ -63,13 +97,18 @@ impl Plain {
         ensures none { result ≡ None → (c : Cell) → whole self ≢ value.Address c }
     {
         match self {
-            Plain::Address(element, low, serial, high, index) => Some(PlainCell {
-                element,
-                low,
-                serial,
-                high,
-                index,
-            }),
+            Plain::Address(name, place) => Some(PlainCell { name, place }),
+            _ => None,
+        }
+    }
+
+    /// The truth value that it is, if it is one. Takes no memory.
+    #[inline(always)]
+    pub fn truth(self) -> Option<bool>
+        ensures { result ≡ truth_of self }
+    {
+        match self {
+            Plain::Bool(truth) => Some(truth != 0),
             _ => None,
         }
     }
@@ -83,10 +122,10 @@ impl Plain {
             Plain::Signal => PortKind::Signal,
             Plain::Int(_) => PortKind::Int,
             Plain::Bool(_) => PortKind::Bool,
-            Plain::Context(_, _) => PortKind::Context,
-            Plain::Continuation(_, _, _, _) => PortKind::Continuation,
-            Plain::Structure(_, _, _, _) => PortKind::Structure,
-            Plain::Address(_, _, _, _, _) => PortKind::Address,
+            Plain::Context(_) => PortKind::Context,
+            Plain::Continuation(_, _, _) => PortKind::Continuation,
+            Plain::Structure(_, _, _) => PortKind::Structure,
+            Plain::Address(_, _) => PortKind::Address,
         }
     }
 
@@ -96,7 +135,7 @@ impl Plain {
         ensures { result ≡ is_word self }
     {
         match self {
-            Plain::Signal | Plain::Int(_) | Plain::Bool(_) => true,
+            Plain::Signal | Plain::Bool(_) | Plain::Int(_) => true,
             _ => false,
         }
     }
@@ -107,8 +146,8 @@ impl Plain {
         ensures { result ≡ is_carried self }
     {
         match self {
-            Plain::Context(_, _) | Plain::Continuation(_, _, _, _) => false,
-            Plain::Address(_, _, _, _, _) => false,
+            Plain::Context(_) | Plain::Continuation(_, _, _) => false,
+            Plain::Address(_, _) => false,
             _ => true,
         }
     }
@@ -117,25 +156,61 @@ impl Plain {
 /// A cell in small numbers.
 #[derive(Clone, Copy)]
 pub struct PlainCell {
-    /// The element and the serial number of its structure.
-    pub element: u8,
-    /// The lower bound of its structure.
-    pub low: i16,
-    pub serial: u32,
-    /// The upper bound of its structure.
-    pub high: i32,
-    pub index: i32,
+    /// The name of its structure.
+    pub name: u32,
+    /// The bounds of its structure, and its index.
+    pub place: u64,
 }
 
 impl PlainCell {
+    /// The element of its structure. Takes no memory.
+    #[inline(always)]
+    pub fn element(self) -> u8
+        ensures { result ≡ element_of self.name }
+    {
+        element_of(self.name)
+    }
+
+    /// The serial number of its structure. Takes no memory.
+    #[inline(always)]
+    pub fn serial(self) -> u32
+        ensures { result ≡ serial_of self.name }
+    {
+        serial_of(self.name)
+    }
+
+    /// The lower bound of its structure. Takes no memory.
+    #[inline(always)]
+    pub fn low(self) -> i32
+        ensures { result ≡ low_of self.place }
+    {
+        (self.place / 0x10_0000_0000_0000) as i32 - 0x800
+    }
+
+    /// The upper bound of its structure. Takes no memory.
+    #[inline(always)]
+    pub fn high(self) -> i32
+        ensures { result ≡ high_of self.place }
+    {
+        (self.place / 0x400_0000 % 0x400_0000) as i32 - 0x200_0000
+    }
+
+    /// Its index. Takes no memory.
+    #[inline(always)]
+    pub fn index(self) -> i32
+        ensures { result ≡ index_of self.place }
+    {
+        (self.place % 0x400_0000) as i32 - 0x200_0000
+    }
+
     /// The same as any cell. Takes no memory.
     #[inline(always)]
     pub fn cell(self) -> Cell
         ensures { result ≡ cell_of self }
     {
         Cell {
-            structure: structure(self.element, self.serial, i32::from(self.low), self.high),
-            index: i64::from(self.index),
+            structure: structure(self.name, self.low(), self.high()),
+            index: i64::from(self.index()),
         }
     }
 
@@ -144,7 +219,7 @@ impl PlainCell {
     pub fn address(self) -> Plain
         ensures { whole result ≡ value.Address (cell_of self) }
     {
-        Plain::Address(self.element, self.low, self.serial, self.high, self.index)
+        Plain::Address(self.name, self.place)
     }
 }
 
@@ -153,34 +228,73 @@ impl PlainCell {
 pub fn plain_cell(cell: Cell) -> Option<PlainCell>
     ensures { IfSome result (λ c. cell_of c ≡ cell) }
 {
+    let structure = cell.structure;
     Some(PlainCell {
-        element: tiny(cell.structure.element)?,
-        low: nearest(cell.structure.low)?,
-        serial: small(cell.structure.serial)?,
-        high: near(cell.structure.high)?,
-        index: near(cell.index)?,
+        name: name_of(structure.element, structure.serial)?,
+        place: place_of(structure.low, structure.high, cell.index)?,
     })
 }
 
-/// The context of these numbers.
+/// The bounds of a structure and an index in one number, where they fit in 12, 26 and 26 bits with a sign.
 #[inline(always)]
-fn context(element: u8, serial: u32) -> Context
-    ensures { result ≡ record { element = element; serial = serial } }
+fn place_of(low: i64, high: i64, index: i64) -> Option<u64>
+    ensures low { IfSome result (λ p. low_of p ≡ low) }
+    ensures high { IfSome result (λ p. high_of p ≡ high) }
+    ensures index { IfSome result (λ p. index_of p ≡ index) }
 {
-    Context {
-        element: u32::from(element),
-        serial: u64::from(serial),
+    Some(joined(
+        above(low, 0x800)?,
+        above(high, 0x200_0000)?,
+        above(index, 0x200_0000)?,
+    ))
+}
+
+/// How far the number stands above the least of twice so many numbers, half of them below 0, where it is one of them.
+#[inline(always)]
+fn above(number: i64, half: u32) -> Option<u64>
+    ensures exact { IfSome result (λ n. pos n -ℤ pos half ≡ number) }
+    ensures below { IfSome result (λ n. n < half + half) }
+{
+    let half = i64::from(half);
+    if (number >= -half) & (number < half) {
+        Some((number + half) as u64)
+    } else {
+        None
     }
 }
 
-/// The structure of these numbers and bounds.
+/// Numbers of 12, 26 and 26 bits in one.
 #[inline(always)]
-fn structure(element: u8, serial: u32, low: i32, high: i32) -> Structure
-    ensures { result ≡ record { element = element; serial = serial; low = low; high = high } }
+fn joined(first: u64, second: u64, third: u64) -> u64
+    requires first { first < 2 ^ 12 }
+    requires second { second < 2 ^ 26 }
+    requires third { third < 2 ^ 26 }
+    ensures first { result / 2 ^ 52 ≡ first }
+    ensures second { result / 2 ^ 26 % 2 ^ 26 ≡ second }
+    ensures third { result % 2 ^ 26 ≡ third }
+{
+    first * 0x10_0000_0000_0000 + second * 0x400_0000 + third
+}
+
+/// The context of a name.
+#[inline(always)]
+fn context(name: u32) -> Context
+    ensures { result ≡ context_of name }
+{
+    Context {
+        element: u32::from(element_of(name)),
+        serial: u64::from(serial_of(name)),
+    }
+}
+
+/// The structure of a name, with these bounds.
+#[inline(always)]
+fn structure(name: u32, low: i32, high: i32) -> Structure
+    ensures { result ≡ structure_of name low high }
 {
     Structure {
-        element: u32::from(element),
-        serial: u64::from(serial),
+        element: u32::from(element_of(name)),
+        serial: u64::from(serial_of(name)),
         low: i64::from(low),
         high: i64::from(high),
     }
@@ -196,21 +310,16 @@ pub fn plain_of(value: &Value) -> Option<Plain>
     match *value {
         Value::Signal => Some(Plain::Signal),
         Value::Int(number) => Some(Plain::Int(number)),
-        Value::Bool(truth) => Some(Plain::Bool(truth)),
+        Value::Bool(truth) => Some(plain_truth(truth)),
         Value::Structure(structure) => Some(Plain::Structure(
-            tiny(structure.element)?,
-            small(structure.serial)?,
+            name_of(structure.element, structure.serial)?,
             near(structure.low)?,
             near(structure.high)?,
         )),
         Value::Address(cell) => Some(plain_cell(cell)?.address()),
-        Value::Context(context) => Some(Plain::Context(
-            tiny(context.element)?,
-            small(context.serial)?,
-        )),
+        Value::Context(context) => Some(Plain::Context(name_of(context.element, context.serial)?)),
         Value::Continuation(tag) => Some(Plain::Continuation(
-            tiny(tag.context.element)?,
-            small(tag.context.serial)?,
+            name_of(tag.context.element, tag.context.serial)?,
             small(tag.iteration)?,
             tag.instr,
         )),
@@ -237,18 +346,6 @@ fn near(number: i64) -> Option<i32>
 {
     if (number >= -0x8000_0000) & (number <= 0x7fff_ffff) {
         Some(number as i32)
-    } else {
-        None
-    }
-}
-
-/// The number in 16 bits with a sign, where it fits in them.
-#[inline(always)]
-fn nearest(number: i64) -> Option<i16>
-    ensures { IfSome result (λ n. n ≡ number) }
-{
-    if (number >= -0x8000) & (number <= 0x7fff) {
-        Some(number as i16)
     } else {
         None
     }
@@ -311,7 +408,10 @@ impl PlainToken {
         ensures { result ≡ tag_in self.now }
     {
         Tag {
-            context: context(self.element, self.serial),
+            context: Context {
+                element: u32::from(self.element),
+                serial: u64::from(self.serial),
+            },
             iteration: u64::from(self.iteration),
             instr: self.instr,
         }

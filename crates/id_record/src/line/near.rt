@@ -3,7 +3,7 @@
 ghost use Rattle.std.specs.Prelude.{◌≡◌, ◌<◌, ◌/◌, ◌^◌, IfSome};
 ghost use Rattle.std.specs.Int.{cast_signed, w32};
 ghost use Rattle.id_graph.specs.declared.dests.Port.{Port};
-ghost use Rattle.id_tag.specs.Plains.{cell_of, whole};
+ghost use Rattle.id_tag.specs.Plains.{cell_of, element_of, high_of, index_of, low_of, serial_of, whole};
 ghost use Rattle.id_tag.specs.declared.Value.TheVariants as value;
 ghost use Rattle.id_ops.specs.declared.Fired.TheVariants as firings;
 ghost use Rattle.id_tag.specs.declared.Tag.{Tag};
@@ -205,11 +205,11 @@ fn written(near: Near) -> Written
     requires { near.instr < 2 ^ 24 }
     ensures kind { result.kind ≡ Kind.Near }
     ensures effect { result.effect ≡ near.effect }
-    ensures low { cast_signed w32 (high_half result.value) ≡ near.cell.low }
-    ensures high { cast_signed w32 (low_half result.value) ≡ near.cell.high }
-    ensures index { cast_signed w32 (high_half result.result) ≡ near.cell.index }
-    ensures serial { low_half result.result ≡ near.cell.serial }
-    ensures element { element_at result.to ≡ near.cell.element }
+    ensures low { cast_signed w32 (high_half result.value) ≡ low_of near.cell.place }
+    ensures high { cast_signed w32 (low_half result.value) ≡ high_of near.cell.place }
+    ensures index { cast_signed w32 (high_half result.result) ≡ index_of near.cell.place }
+    ensures serial { low_half result.result ≡ serial_of near.cell.name }
+    ensures element { element_at result.to ≡ element_of near.cell.name }
     ensures instr { instr_at result.to ≡ near.instr }
 {
     let cell = near.cell;
@@ -217,14 +217,14 @@ fn written(near: Near) -> Written
         kind: Kind::Near,
         effect: near.effect,
         value: joined(
-            u64::from(i32::from(cell.low).cast_unsigned()),
-            u64::from(cell.high.cast_unsigned()),
+            u64::from(cell.low().cast_unsigned()),
+            u64::from(cell.high().cast_unsigned()),
         ),
         result: joined(
-            u64::from(cell.index.cast_unsigned()),
-            u64::from(cell.serial),
+            u64::from(cell.index().cast_unsigned()),
+            u64::from(cell.serial()),
         ),
-        to: place(u32::from(cell.element), near.instr),
+        to: place(u32::from(cell.element()), near.instr),
     }
 }
 

@@ -17,7 +17,7 @@ use super::reading::{message_at, target_in, went};
 use super::shooting::token_line;
 use super::{Effect, Handled, Kind, Line, Written};
 use id_ops::{Deed, Fired, Target};
-use id_tag::{Payload, Plain, Value};
+use id_tag::{Payload, Plain, Value, element_of, serial_of};
 
 /// What a line keeps of an event beside the numbers of its message: which word goes to which tag, with its number.
 #[derive(Clone, Copy)]
@@ -54,16 +54,17 @@ fn passed_for(deed: Deed, value: Plain) -> Option<Passed>
     ensures small { IfSome result (λ s. s.target.instr < 2 ^ 24) }
 {
     match (deed, value) {
-        (Deed::Passed(target, word), Plain::Context(element, serial))
-            if element == target.element && serial == target.serial && target.instr <= 0xff_ffff =>
-            {
-                let Word { effect, number } = word_for(word)?;
-                Some(Passed {
-                    effect,
-                    number,
-                    target,
-                })
-            }
+        (Deed::Passed(target, word), Plain::Context(name))
+            if element_of(name) == target.element
+                && serial_of(name) == target.serial
+                && target.instr <= 0xff_ffff => {
+            let Word { effect, number } = word_for(word)?;
+            Some(Passed {
+                effect,
+                number,
+                target,
+            })
+        }
         _ => None,
     }
 }
@@ -79,8 +80,8 @@ fn word_for(value: Plain) -> Option<Word>
             effect: Effect::Int,
             number,
         }),
-        Plain::Bool(true) => Some(of_effect(Effect::True)),
-        Plain::Bool(false) => Some(of_effect(Effect::False)),
+        Plain::Bool(0) => Some(of_effect(Effect::False)),
+        Plain::Bool(_) => Some(of_effect(Effect::True)),
         _ => None,
     }
 }

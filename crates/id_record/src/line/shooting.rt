@@ -20,7 +20,7 @@ use super::{
     signal_at, true_at,
 };
 use id_ops::{Shot, Target};
-use id_tag::{Plain, PlainToken};
+use id_tag::{Plain, PlainCell, PlainToken, element_of, serial_of};
 
 /// A plain token that is being handled, the stamp of that event, and what its instruction sends.
 #[derive(Clone, Copy)]
@@ -50,7 +50,7 @@ fn is_narrow(value: Plain) -> bool
     ensures { IsTrue result ↔ IsNarrow value }
 {
     match value {
-        Plain::Continuation(_, _, _, instr) => instr <= 0xff_ffff,
+        Plain::Continuation(_, _, instr) => instr <= 0xff_ffff,
         _ => true,
     }
 }
@@ -94,27 +94,30 @@ fn carried(value: Plain) -> Carried
             kind: Kind::Int,
             value: number,
         },
-        Plain::Bool(true) => of_kind(Kind::True),
-        Plain::Bool(false) => of_kind(Kind::False),
-        Plain::Context(element, serial) => Carried {
+        Plain::Bool(0) => of_kind(Kind::False),
+        Plain::Bool(_) => of_kind(Kind::True),
+        Plain::Context(name) => Carried {
             kind: Kind::Context,
-            value: joined(u64::from(element), u64::from(serial)),
+            value: joined(u64::from(element_of(name)), u64::from(serial_of(name))),
         },
-        Plain::Continuation(_, _, _, _) => of_kind(Kind::Continuation),
-        Plain::Structure(_, _, low, high) => Carried {
+        Plain::Continuation(_, _, _) => of_kind(Kind::Continuation),
+        Plain::Structure(_, low, high) => Carried {
             kind: Kind::Structure,
             value: joined(
                 u64::from(low.cast_unsigned()),
                 u64::from(high.cast_unsigned()),
             ),
         },
-        Plain::Address(_, low, _, high, _) => Carried {
-            kind: Kind::Address,
-            value: joined(
-                u64::from(i32::from(low).cast_unsigned()),
-                u64::from(high.cast_unsigned()),
-            ),
-        },
+        Plain::Address(name, place) => {
+            let cell = PlainCell { name, place };
+            Carried {
+                kind: Kind::Address,
+                value: joined(
+                    u64::from(cell.low().cast_unsigned()),
+                    u64::from(cell.high().cast_unsigned()),
+                ),
+            }
+        }
     }
 }
 
@@ -157,11 +160,11 @@ fn numbered_by(value: Plain) -> Target
     ensures small { result.instr < 2 ^ 24 }
 {
     match value {
-        Plain::Structure(element, serial, _, _) => Target {
-            serial,
+        Plain::Structure(name, _, _) => Target {
+            serial: serial_of(name),
             iteration: 0,
             instr: 0,
-            element,
+            element: element_of(name),
         },
         _ => NOWHERE,
     }
@@ -175,18 +178,21 @@ fn named_by(value: Plain) -> Target
     ensures small { result.instr < 2 ^ 24 }
 {
     match value {
-        Plain::Continuation(element, serial, iteration, instr) => Target {
-            serial,
+        Plain::Continuation(name, iteration, instr) => Target {
+            serial: serial_of(name),
             iteration,
             instr,
-            element,
+            element: element_of(name),
         },
-        Plain::Address(element, _, serial, _, index) => Target {
-            serial,
-            iteration: index.cast_unsigned(),
-            instr: 0,
-            element,
-        },
+        Plain::Address(name, place) => {
+            let cell = PlainCell { name, place };
+            Target {
+                serial: cell.serial(),
+                iteration: cell.index().cast_unsigned(),
+                instr: 0,
+                element: cell.element(),
+            }
+        }
         _ => numbered_by(value),
     }
 }
@@ -227,12 +233,12 @@ fn going_out(exit: Exit, sent: Plain) -> Effect
     match sent {
         Plain::Signal => signal_at(exit),
         Plain::Int(_) => int_at(exit),
-        Plain::Bool(true) => true_at(exit),
-        Plain::Bool(false) => false_at(exit),
-        Plain::Structure(_, _, _, _) => own_at(exit),
+        Plain::Bool(0) => false_at(exit),
+        Plain::Bool(_) => true_at(exit),
+        Plain::Structure(_, _, _) => own_at(exit),
         // None of these goes out.
-        Plain::Context(_, _) | Plain::Continuation(_, _, _, _) => signal_at(exit),
-        Plain::Address(_, _, _, _, _) => signal_at(exit),
+        Plain::Context(_) | Plain::Continuation(_, _, _) => signal_at(exit),
+        Plain::Address(_, _) => signal_at(exit),
     }
 }
 
@@ -267,7 +273,7 @@ fn number_out(sent: Plain, named: &Target) -> i64
 {
     match sent {
         Plain::Int(number) => number,
-        Plain::Structure(_, _, _, _) => numbers_of(named),
+        Plain::Structure(_, _, _) => numbers_of(named),
         _ => 0,
     }
 }

@@ -1,9 +1,10 @@
 -- The context goes to each destination, and what starts the block comes behind.
 use Rattle.std.proofs.Common.{◌≡◌, ℕ, ◌+◌, ◌++◌, true, length, map, refl, sym, subst, ap, ◌∙◌, Some, append_assoc, arith}
+use Rattle.std.proofs.lemmas.Grind.{common_steps}
 use Rattle.std.proofs.lemmas.List.{length-map}
 use Rattle.id_graph.specs.Graph.{arcs_on}
 use Rattle.id_graph.specs.declared.instr.Op.TheVariants.{Enter}
-use Rattle.id_tag.specs.Plains.{tag_in}
+use Rattle.id_tag.specs.Plains.{context_of, element_of, serial_of, tag_in}
 use Rattle.id_tag.specs.declared.Context.{Context}
 use Rattle.id_tag.specs.declared.Value.TheVariants as value
 use Rattle.id_record.specs.Sends.{numbered, started, token_to}
@@ -18,8 +19,9 @@ returns-in-Enter-Some-Some c =
     let e = c.args.like.now in
     let t = tag_in e in
     let here = c.in-Enter-Some-Some in
-    let x : Context = record { element = here.element; serial = here.serial } in
-    let same : x ≡ c.args.context = context_same here.element here.serial c.args.context here.ensures.fits here.ensures'.fits in
+    let x : Context = context_of here.name in
+    let same : x ≡ c.args.context = context_same (element_of here.name) (serial_of here.name) c.args.context (grind (arith, common_steps)) (grind (arith, common_steps)) in
+    let own : context_of here.own ≡ t.context = context_same (element_of here.own) (serial_of here.own) t.context (grind (arith, common_steps)) (grind (arith, common_steps)) in
     let o = Some (Enter here.block here.reply) in
     let ds = c.as_slice-dests.result.now in
     let tokens = map (token_to t (value.Context x)) ds in
@@ -35,6 +37,7 @@ returns-in-Enter-Some-Some c =
       c.send_plain.ensures.messages,
       c.plain_within-second.ensures,
       c.plain_within-first.ensures,
+      own,
       apart,
       append_assoc,
       append_assoc,

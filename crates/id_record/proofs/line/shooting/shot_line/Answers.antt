@@ -17,24 +17,24 @@ named-word : (v : Plain) (t : Tag) → is_word v ≡ true → NamedBy (whole v) 
 named-word Signal t word = tt
 named-word (Int n) t word = tt
 named-word (Bool b) t word = tt
-named-word (Context e s) t word = cc
-named-word (Continuation e s k j) t word = cc
-named-word (Structure e s l h) t word = cc
-named-word (Address e l s h i) t word = cc
+named-word (Context n) t word = cc
+named-word (Continuation n k j) t word = cc
+named-word (Structure n l h) t word = cc
+named-word (Address n p) t word = cc
 
 -- a tag that has the numbers of a value that is sent on is named by that
 named-carried : (w : Plain) (t : Tag) → is_carried w ≡ true → HasNumbers (whole w) t → NamedBy (whole w) t
 named-carried Signal t carried numbers = tt
 named-carried (Int n) t carried numbers = tt
 named-carried (Bool b) t carried numbers = tt
-named-carried (Context e s) t carried numbers = tt
-named-carried (Continuation e s k j) t carried numbers = cc
-named-carried (Structure e s l h) t carried numbers = numbers
-named-carried (Address e l s h i) t carried numbers = cc
+named-carried (Context n) t carried numbers = tt
+named-carried (Continuation n k j) t carried numbers = cc
+named-carried (Structure n l h) t carried numbers = numbers
+named-carried (Address n p) t carried numbers = cc
 
 -- a tag that has the numbers of what goes out is named by the value for which that goes out
 named-out : (w v : Plain) (t : Tag) → SendsOwn w v → HasNumbers (whole w) t → NamedBy (whole v) t
-named-out (Structure e s l h) v t own numbers = subst (λ u. NamedBy (whole u) t) own numbers
+named-out (Structure n l h) v t own numbers = subst (λ u. NamedBy (whole u) t) own numbers
 named-out w v t own numbers = named-word v t own
 
 -- the tag that the event names is the one that its value names, if that names one
