@@ -1,7 +1,7 @@
 //! What an operator of arrays, or a `send`, does with plain operands, in small numbers.
 
 ghost use Rattle.std.specs.Prelude.{◌≡◌, IfSome};
-ghost use Rattle.id_tag.specs.Plains.{whole};
+ghost use Rattle.id_tag.specs.Plains.{structure_of, whole};
 ghost use Rattle.id_tag.specs.declared.Tag.{Tag};
 ghost use Rattle.id_ops.specs.declared.Fresh.{Fresh};
 ghost use Rattle.id_ops.specs.declared.Operands.TheVariants.{One, Two};
@@ -12,7 +12,7 @@ ghost use Rattle.id_tag.specs.declared.Value.TheVariants as values;
 use crate::Fired;
 use crate::shot::{Shot, Target, shoot_send};
 use id_graph::{Op, PortKind};
-use id_tag::{Cell, Plain, PlainCell, Structure, Tag, Value, plain_cell};
+use id_tag::{Plain, PlainCell, Tag, Value, plain_cell_in};
 use id_value::is_inside;
 
 /// A firing of `address`, `fetch` or `store`, of `switch` on a structure, or of `send`.
@@ -72,17 +72,15 @@ pub fn deed_on_two(op: Op, left: Plain, right: Plain) -> Option<Deed>
     ensures { IfSome result
         (λ d. (t : Tag) (f : Fresh) → fired op t (Two (whole left) (whole right)) f ≡ fired_by_deed t d) }
 {
-    if let (Op::Switch(kind), Some(side)) = (op, left.truth()) {
-        return switched(kind, side, right);
-    }
-    match (op, left.value(), right) {
-        (Op::Address, Value::Structure(structure), Plain::Int(index)) => addressed(
-            structure, index,
+    match (op, left, right) {
+        (Op::Switch(kind), Plain::Bool(side), _) => switched(kind, side != 0, right),
+        (Op::Address, Plain::Structure(name, low, high), Plain::Int(index)) => addressed(
+            name, low, high, index,
         ),
-        (Op::Store, Value::Address(cell), Plain::Int(number)) => {
-            Some(Deed::Stored(plain_cell(cell)?, number))
+        (Op::Store, Plain::Address(name, place), Plain::Int(number)) => {
+            Some(Deed::Stored(PlainCell { name, place }, number))
         }
-        (Op::Send { kind, target }, Value::Context(_), _) => passed(kind, target, left, right),
+        (Op::Send { kind, target }, Plain::Context(_), _) => passed(kind, target, left, right),
         _ => None,
     }
 }
@@ -111,13 +109,13 @@ fn passed(kind: PortKind, target: u32, left: Plain, right: Plain) -> Option<Deed
     }
 }
 
-/// The address of a structure's cell, where the index is inside its bounds and the numbers are small.
+/// The address of a cell of the structure of a name, where the index is inside its bounds and the numbers are small.
 #[inline(always)]
-fn addressed(structure: Structure, index: i64) -> Option<Deed>
-    ensures { IfSome result (λ d. (t : Tag) → address_in structure index ≡ fired_by_deed t d) }
+fn addressed(name: u32, low: i32, high: i32, index: i64) -> Option<Deed>
+    ensures { IfSome result (λ d. (t : Tag) → address_in (structure_of name low high) index ≡ fired_by_deed t d) }
 {
-    if is_inside(structure.low, structure.high, index) {
-        Some(Deed::Addressed(plain_cell(Cell { structure, index })?))
+    if is_inside(i64::from(low), i64::from(high), index) {
+        Some(Deed::Addressed(plain_cell_in(name, low, high, index)?))
     } else {
         None
     }

@@ -16,8 +16,8 @@ mod plain;
 use id_graph::{Port, PortKind};
 pub use near::{NearHasher, mix};
 pub use plain::{
-    Plain, PlainCell, PlainToken, element_of, name_of, plain_cell, plain_of, plain_truth,
-    serial_of, small, tiny,
+    Plain, PlainCell, PlainToken, element_of, name_of, plain_cell, plain_cell_in, plain_of,
+    plain_truth, serial_of, small, tiny,
 };
 
 /// The context of an activation: the element that made it, and the number that it gave it.

@@ -235,6 +235,17 @@ pub fn plain_cell(cell: Cell) -> Option<PlainCell>
     })
 }
 
+/// The cell with this index of the structure of a name, with these bounds, where the numbers are small. Takes no memory.
+#[inline(always)]
+pub fn plain_cell_in(name: u32, low: i32, high: i32, index: i64) -> Option<PlainCell>
+    ensures { IfSome result (λ c. cell_of c ≡ record { structure = structure_of name low high; index = index }) }
+{
+    Some(PlainCell {
+        name,
+        place: place_of(i64::from(low), i64::from(high), index)?,
+    })
+}
+
 /// The bounds of a structure and an index in one number, where they fit in 12, 26 and 26 bits with a sign.
 #[inline(always)]
 fn place_of(low: i64, high: i64, index: i64) -> Option<u64>

@@ -233,7 +233,7 @@ fn scene_of_store(tag: Tag, cell: Cell, to: Cell, number: i64, origin: Tag) -> O
 }
 
 /// Whether two cells are one.
-pub(super) fn is_same_cell(cell: Cell, other: Cell) -> bool
+fn is_same_cell(cell: Cell, other: Cell) -> bool
     ensures { IsTrue result → cell ≡ other }
 {
     cell == other

@@ -1,6 +1,6 @@
 //! The lines of the deeds of plain tokens: in the numbers of their cell, or with that beside them.
 
-ghost use Rattle.std.specs.Prelude.{◌≡◌, ◌<◌, ◌/◌, ◌^◌, IfSome};
+ghost use Rattle.std.specs.Prelude.{◌≡◌, ◌<◌, ◌/◌, ◌^◌, IfSome, IsTrue};
 ghost use Rattle.std.specs.Int.{cast_signed, w32};
 ghost use Rattle.id_graph.specs.declared.dests.Port.{Port};
 ghost use Rattle.id_tag.specs.Plains.{cell_of, element_of, high_of, index_of, low_of, serial_of, whole};
@@ -13,16 +13,14 @@ ghost use Rattle.id_record.specs.Lines.{instr_at, low_half, port_at, saying, tag
 ghost use Rattle.id_record.specs.Lines.{token_told};
 ghost use Rattle.id_record.specs.Shootings.{HasLine, doing};
 
-use super::celled::{
-    Celled, Content, Scene, by_token, first_cell, is_same_cell, of_kind, of_number, of_result,
-};
+use super::celled::{Celled, Content, Scene, by_token, first_cell, of_kind, of_number, of_result};
 use super::numbers::{instr_at, joined, place};
 use super::passing::passed_line;
 use super::reading::{cell_in, tag_at};
 use super::shooting::token_line;
 use super::{Effect, Handled, Kind, Line, Written, message_at, went};
 use id_ops::{Deed, Fired};
-use id_tag::{Cell, Payload, Plain, PlainCell, PlainToken, Tag, Value};
+use id_tag::{Payload, Plain, PlainCell, PlainToken, Tag, Value};
 
 /// A plain token that is being handled, the stamp of that event, and the deed of its instruction.
 #[derive(Clone, Copy)]
@@ -59,7 +57,7 @@ fn near_line(event: &Doing<'_>) -> Option<Line>
     requires { HasLine event.now.token.now }
     ensures { IfSome result (λ l. IsPacked (doing event.now) l) }
 {
-    match near_for(event.deed, event.token.value.value()) {
+    match near_for(event.deed, event.token.value) {
         Some(near) => Some(token_line(event.token, event.stamp, written(near))),
         None => None,
     }
@@ -74,7 +72,7 @@ pub(crate) fn deed_beside(event: &Doing<'_>, index: usize) -> Option<Celled>
     if index as u64 > 0xffff_ffff {
         return None;
     }
-    match stored(event.deed, event.token.value.value()) {
+    match stored(event.deed, event.token.value) {
         Some(scene) => Some(celled(event, scene, index as u32)),
         None => None,
     }
@@ -108,43 +106,51 @@ fn celled(event: &Doing<'_>, scene: Scene, index: u32) -> Celled
 
 /// What a line keeps of the event of a token with this value, where it needs no cell beside it.
 #[inline(always)]
-fn near_for(deed: Deed, value: Value) -> Option<Near>
+fn near_for(deed: Deed, value: Plain) -> Option<Near>
     ensures told { IfSome result (λ n. (t : Tag) (p : Port) →
-        told_near n.effect t p n.instr (cell_of n.cell) ≡ token_told t p value (fired_by_deed t deed)) }
+        told_near n.effect t p n.instr (cell_of n.cell) ≡ token_told t p (whole value) (fired_by_deed t deed)) }
     ensures small { IfSome result (λ n. n.instr < 2 ^ 24) }
 {
     match (deed, value) {
-        (Deed::Addressed(cell), Value::Structure(structure))
-            if structure == cell.cell().structure => {
+        (Deed::Addressed(cell), Plain::Structure(name, low, high))
+            if name == cell.name && low == cell.low() && high == cell.high() => {
             Some(Near {
                 effect: Effect::StructureAddressed,
                 cell,
                 instr: 0,
             })
         }
-        (Deed::Addressed(cell), Value::Int(index)) if index == cell.cell().index => Some(Near {
-            effect: Effect::IntAddressed,
-            cell,
-            instr: 0,
-        }),
-        (Deed::Asked(cell, instr), Value::Address(asked)) => near_fetch(cell, instr, asked),
+        (Deed::Addressed(cell), Plain::Int(index)) if index == i64::from(cell.index()) => Some(
+            Near {
+                effect: Effect::IntAddressed,
+                cell,
+                instr: 0,
+            },
+        ),
+        (Deed::Asked(cell, instr), Plain::Address(name, place)) => {
+            near_fetch(cell, instr, PlainCell { name, place })
+        }
         _ => None,
     }
 }
 
 /// What a line keeps of the event of a token with this value, where a number is stored.
 #[inline(always)]
-fn stored(deed: Deed, value: Value) -> Option<Scene>
+fn stored(deed: Deed, value: Plain) -> Option<Scene>
     ensures kind { IfSome result (λ s. IsCelled s.kind) }
     ensures told { IfSome result (λ s. (t : Tag) (p : Port) → told s.kind t p s.value s.result s.cell
-        ≡ token_told t p value (fired_by_deed t deed)) }
+        ≡ token_told t p (whole value) (fired_by_deed t deed)) }
 {
     match (deed, value) {
-        (Deed::Stored(cell, number), Value::Address(to)) => stored_at(cell, number, to),
-        (Deed::Stored(cell, number), Value::Int(own)) if own == number => {
+        (Deed::Stored(cell, number), Plain::Address(name, place)) => {
+            stored_at(cell, number, PlainCell { name, place })
+        }
+        (Deed::Stored(cell, number), Plain::Int(own)) if own == number => {
             Some(of_number(Kind::IntStored, number, cell.cell()))
         }
-        (Deed::Switched(side, sent), Value::Bool(truth)) if side == truth => switched(side, sent),
+        (Deed::Switched(side, sent), Plain::Bool(truth)) if side == (truth != 0) => {
+            switched(side, sent)
+        }
         _ => None,
     }
 }
@@ -169,12 +175,12 @@ fn switched(side: bool, sent: Plain) -> Option<Scene>
 
 /// What a line keeps of an address that asks for this cell, where that is its own.
 #[inline(always)]
-fn near_fetch(cell: PlainCell, instr: u32, asked: Cell) -> Option<Near>
+fn near_fetch(cell: PlainCell, instr: u32, asked: PlainCell) -> Option<Near>
     ensures told { IfSome result (λ n. (t : Tag) (p : Port) → told_near n.effect t p n.instr (cell_of n.cell)
-        ≡ token_told t p (value.Address asked) (firings.Asked (cell_of cell) (record t { instr = instr }))) }
+        ≡ token_told t p (value.Address (cell_of asked)) (firings.Asked (cell_of cell) (record t { instr = instr }))) }
     ensures small { IfSome result (λ n. n.instr < 2 ^ 24) }
 {
-    if instr <= 0xff_ffff && is_same_cell(asked, cell.cell()) {
+    if instr <= 0xff_ffff && is_same(asked, cell) {
         Some(Near {
             effect: Effect::AddressAsked,
             cell,
@@ -187,16 +193,24 @@ fn near_fetch(cell: PlainCell, instr: u32, asked: Cell) -> Option<Near>
 
 /// What a line keeps of an address that lets a number be stored in this cell, where that is its own.
 #[inline(always)]
-fn stored_at(cell: PlainCell, number: i64, to: Cell) -> Option<Scene>
+fn stored_at(cell: PlainCell, number: i64, to: PlainCell) -> Option<Scene>
     ensures kind { IfSome result (λ s. IsCelled s.kind) }
     ensures told { IfSome result (λ s. (t : Tag) (p : Port) → told s.kind t p s.value s.result s.cell
-        ≡ token_told t p (value.Address to) (firings.Stored (cell_of cell) (value.Int number) t)) }
+        ≡ token_told t p (value.Address (cell_of to)) (firings.Stored (cell_of cell) (value.Int number) t)) }
 {
-    if is_same_cell(to, cell.cell()) {
-        Some(of_result(Kind::AddressStored, number, to))
+    if is_same(to, cell) {
+        Some(of_result(Kind::AddressStored, number, to.cell()))
     } else {
         None
     }
+}
+
+/// Whether two cells are one.
+#[inline(always)]
+fn is_same(one: PlainCell, other: PlainCell) -> bool
+    ensures { IsTrue result → one ≡ other }
+{
+    one.name == other.name && one.place == other.place
 }
 
 /// The numbers of a cell and of an instruction as a line has them.

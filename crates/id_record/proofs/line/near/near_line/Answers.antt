@@ -30,5 +30,5 @@ returns-in-Some c =
     } in
     packed-near (doing e) l n.effect n.instr (cell_of n.cell) t u.port (whole u.value) f
     (is.kind ∙ has.kind) (is.effect ∙ has.effect) (ap instr_at is.to ∙ has.instr) cell is.tag is.port
-    (c.in-Some.ensures.told t u.port ∙ ap (λ v. token_told t u.port v f) c.value.ensures)
+    (c.in-Some.ensures.told t u.port)
     (is.message (Token t u.port (whole u.value))) is.stamp refl refl
