@@ -2,6 +2,8 @@
 use Rattle.std.proofs.Common.{◌≡◌, ◌<◌, ◌≤◌, ◌+◌, ◌-◌, ◌^◌, arith, ℕ, Bool, true, false, List, Some, Result, Ok, Err, length, get_or, refl}
 use Rattle.std.proofs.Common.{sym, ap, subst, ◌∙◌}
 use Rattle.std.specs.Prelude.{◌↔◌, IfErr, IfOk, IsErr, IsErrAnd, IsTrue, OnErr, OnOk, slice_get}
+use Rattle.std.proofs.Math.Nat.{le_trans}
+use Rattle.std.proofs.lemmas.List.Elements.{All-get_or}
 use Rattle.std.proofs.lemmas.Option.{slice_get_read}
 use Rattle.id_graph.specs.declared.instr.Instr.{Instr}
 use Rattle.id_graph.specs.declared.instr.PortKind.{PortKind}
@@ -14,7 +16,7 @@ use Rattle.id_ops.specs.Shots.{fired_of}
 use Rattle.id_record.specs.declared.step.Verdict.TheVariants as verdict
 use Rattle.id_element.specs.declared.step.Reacted.{Reacted}
 use Rattle.id_element.specs.declared.step.Reacted.TheVariants as reacted
-use Rattle.id_element.specs.Firings.{IsReaction, IsShot, operands_in}
+use Rattle.id_element.specs.Firings.{IsMost, IsReaction, IsShot, most_sent, operands_in}
 use Rattle.id_element.specs.declared.desk.Desk.{Desk}
 use Rattle.id_element.specs.Desks.{IsShort}
 use Rattle.id_graph.specs.declared.dests.Dest.{Dest}
@@ -175,6 +177,24 @@ IsShort-kept d e most t stamp s same number = record {
   few = s.few;
   line = s.line;
 }
+
+-- and for a smaller bound on what is sent
+pub IsShort-below : (d : Desk) (n m : ℕ) (t : PlainToken) (stamp : ℕ) → n ≤ m → IsShort d m t stamp → IsShort d n t stamp
+IsShort-below d n m t stamp below s = record {
+  stamp_is = s.stamp_is;
+  position = s.position;
+  element = s.element;
+  iteration = s.iteration;
+  few = le_trans below s.few;
+  line = s.line;
+}
+
+-- the instruction that was read in the list sends no more than the most of the graph, nor than what is no less
+pub within : (g : Parts) (m n : ℕ) (d : Dest) (k : PortKind) (is : List Instr) (i : Instr) → IsMost g m → kind_at g.instrs d ≡ Some k → is ≡ g.instrs
+    → i ≡ get_or is d.instr i → m ≤ n → most_sent i ≤ n
+within g m n d k is i most kind own read below =
+    let at : i ≡ get_or g.instrs d.instr i = read ∙ ap (λ xs. get_or xs d.instr i) own in
+    le_trans (subst (λ x. most_sent x ≤ m) (sym at) (All-get_or (λ j. most_sent j ≤ m) g.instrs d.instr i (within_kind g d k kind) most)) below
 
 -- a number that is at most the last stamp can be raised, and so can what equals it
 pub one_left : (n m last : ℕ) → n ≡ m → m ≤ last → last < 2 ^ 64 - 1 → n + 1 < 2 ^ 64

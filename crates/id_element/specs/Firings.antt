@@ -1,5 +1,6 @@
 -- A message's outcome in the two parts that the code computes: what fires, and what the record keeps.
-use Rattle.std.specs.Prelude.{◌≡◌, ℕ, ◌+◌, length}
+use Rattle.std.specs.Prelude.{◌≡◌, ℕ, ◌+◌, ◌≤◌, All, length}
+use Rattle.id_graph.specs.Graph.{Parts}
 use Rattle.id_graph.specs.declared.instr.Instr.{Instr}
 use Rattle.id_tag.specs.declared.Tag.{Tag}
 use Rattle.id_ops.specs.declared.Fresh.{Fresh}
@@ -30,6 +31,10 @@ use Rattle.id_element.specs.Steps.{allocated_by, arrival, fired_verdict, waiting
 -- or one; a sum is asked for more cheaply than the most of both sides
 abbrev pub most_sent : Instr → ℕ
 most_sent i = length i.dests + length i.others + 3
+
+-- no message at an instruction of the graph sends more than m
+abbrev pub IsMost : Parts → ℕ → Type 0
+IsMost g m = All (λ i. most_sent i ≤ m) g.instrs
 
 -- what the instruction does with what arrived, with the element's next numbers: nothing where the token waits or is
 -- blocked

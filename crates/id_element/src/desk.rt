@@ -62,7 +62,7 @@ impl<'a> Desk<'a> {
     ghost use Rattle.id_element.specs.Desks.{state_of, IsRead, IsShort, IsWrite, fired_by};
     ghost use Rattle.id_element.specs.Shorts.{IsHandled, step_in};
     ghost use Rattle.id_element.specs.declared.step.Short.{Short};
-    ghost use Rattle.id_element.specs.Firings.{most_sent};
+    ghost use Rattle.id_element.specs.Firings.{IsMost, most_sent};
     ghost use Rattle.id_graph.specs.Graph.{arcs_on, IsGraph};
     ghost use Rattle.id_ops.specs.Operators.{side_of};
 
@@ -127,16 +127,19 @@ impl<'a> Desk<'a> {
         }
     }
 
-    /// Handles a plain token that fits the graph, where that is short, and says what became of it: the element step.
+    /// Handles a plain token that fits the graph, where that is short, and says what became of it: the element step. No
+    /// instruction sends more than the most.
     #[inline(always)]
     pub(crate) fn take_plain(
         &mut self,
         graph: &Graph,
         token: &PlainToken,
+        most: usize,
         outputs: &mut Queue,
     ) -> Result<Short, TakeError>
         requires own { graph.now ≡ self.old.log.graph }
         requires valid { IsValid graph.now }
+        requires most { IsMost graph.now most }
         requires counted { self.old.contexts ≤ self.old.stamp }
         requires numbered { self.old.structures ≤ self.old.stamp }
         requires fits { Fits graph.now (message_of token.now) }
@@ -161,7 +164,6 @@ impl<'a> Desk<'a> {
     {
         let stamp = next_stamp(self.stamp, u64::from(token.stamp))?;
         let instr = &graph.instrs()[token.instr as usize];
-        let most = most_sent(instr);
         if !self.is_short(most, token, stamp) {
             return Ok(Short::Apart);
         }

@@ -7,6 +7,7 @@ ghost use Rattle.id_element.specs.declared.step.Short.{Short};
 ghost use Rattle.id_tag.specs.declared.Tag.{Tag};
 
 use crate::desk::Desk;
+use crate::outcome::greatest;
 use crate::step::{Short, TakeError};
 use id_bank::{Filled, Reader};
 use id_flight::{Demand, Queue};
@@ -22,12 +23,15 @@ pub struct Element<'a> {
     count: u32,
     desk: Desk<'a>,
     went: bool,
+    // What a message sends at the most, at any instruction of the graph: asked for once.
+    most: usize,
 }
 
 impl<'a> Model for Element<'a> {
     ghost use Rattle.id_element.specs.Codes.{coded_element};
     ghost use Rattle.id_element.specs.Replays.{ElementView, IsKept};
     ghost use Rattle.id_element.specs.Desks.{state_of};
+    ghost use Rattle.id_element.specs.Firings.{IsMost};
 
     ghost Value = { ElementView };
 
@@ -45,7 +49,7 @@ impl<'a> Model for Element<'a> {
       count = e.count;
       graph = e.desk.log.graph;
       state = state_of e.desk;
-    }) e.went };
+    }) e.went × IsMost e.desk.log.graph e.most };
 }
 
 impl<'a> Element<'a> {
@@ -63,7 +67,8 @@ impl<'a> Element<'a> {
     ghost use Rattle.id_element.specs.declared.step.Short.{Short};
     ghost use Rattle.id_tag.specs.Plains.{message_of, tag_in};
 
-    /// The element of this number, of so many, that has handled nothing. Takes no memory.
+    /// The element of this number, of so many, that has handled nothing. Takes no memory, and looks at each instruction
+    /// once.
     pub fn new(alloc: Global, number: u32, count: u32, graph: &'a Valid) -> Element<'a>
         requires at_least_one { 0 < count }
         requires at_most_64 { count ≤ 64 }
@@ -74,6 +79,7 @@ impl<'a> Element<'a> {
             count,
             desk: Desk::new(alloc, number, graph, count == 1),
             went: true,
+            most: greatest(graph.graph()),
         }
     }
 
@@ -132,7 +138,9 @@ impl<'a> Element<'a> {
         ensures err_outputs { OnErr result (outputs.new.messages ≡ outputs.old.messages) }
     {
         let graph = self.desk.log.graph();
-        let short = self.desk.take_plain(graph.graph(), token, outputs)?;
+        let short = self
+            .desk
+            .take_plain(graph.graph(), token, self.most, outputs)?;
         self.went = still_short(self.went, short);
         Ok(short)
     }

@@ -11,7 +11,7 @@ ghost use Rattle.id_tag.specs.declared.Payload.TheVariants.{Token};
 ghost use Rattle.id_record.specs.declared.step.Verdict.TheVariants as verdict;
 ghost use Rattle.id_record.specs.Events.{full_step};
 ghost use Rattle.id_tag.specs.Tags.{same_tag};
-ghost use Rattle.id_element.specs.Firings.{IsReaction, firing_of, most_sent, operands_in, verdict_of};
+ghost use Rattle.id_element.specs.Firings.{IsMost, IsReaction, firing_of, most_sent, operands_in, verdict_of};
 ghost use Rattle.id_graph.specs.Ports.{two_ports};
 ghost use Rattle.id_match.specs.Waiting.{Store, offer_after, offer_answer, pair_of};
 ghost use Rattle.id_match.specs.declared.Offered.TheVariants.{Pair};
@@ -33,7 +33,7 @@ ghost use Rattle.id_ops.specs.Operators.{side_of, tag_within};
 use crate::step::{Arrival, PlainOperands, Reacted, TakeError};
 use id_bank::{ReadAnswer, WriteAnswer};
 use id_flight::Queue;
-use id_graph::{Dest, Instr, Op, Port};
+use id_graph::{Dest, Graph, Instr, Op, Port};
 use id_match::{Met, Offered, Waiting};
 use id_ops::{
     Deed, Fired, Fresh, Operands, Shot, Target, deed_on, deed_on_two, fire, shoot_one, shoot_two,
@@ -67,6 +67,21 @@ pub(crate) fn most_sent(instr: &Instr) -> usize
     ensures { result ≡ most_sent instr.now }
 {
     instr.dests.as_slice().len() + instr.others.as_slice().len() + 3
+}
+
+/// An upper bound on what one message sends at any instruction of the graph.
+pub(crate) fn greatest(graph: &Graph) -> usize
+    ensures { IsMost graph.now result }
+{
+    let instrs = graph.instrs();
+    let mut most = 0;
+    for i in 0..instrs.len() {
+        let own = most_sent(&instrs[i]);
+        if own > most {
+            most = own;
+        }
+    }
+    most
 }
 
 /// Lets a token come to its instruction, at an element with these next numbers. After an error nothing has changed.

@@ -1,5 +1,6 @@
 -- What is recorded is the element step, by what came of the token.
 use Rattle.std.proofs.Common.{ap, arith, refl, subst, sym, ◌∙◌}
+use Rattle.std.proofs.Math.Nat.{le_refl}
 use Rattle.std.proofs.lemmas.Grind.{common_steps}
 use Rattle.id_valid.specs.Validator.{IsValid}
 use Rattle.id_element.specs.declared.step.Reacted.TheVariants.{Waits, One, Two, Fires}
@@ -7,7 +8,7 @@ use Rattle.id_element.specs.Desks.{state_of}
 use Rattle.id_element.specs.Steps.{State}
 use Rattle.id_element.specs.declared.step.Short.TheVariants.{Went}
 use Rattle.id_element.proofs.ShortLemmas.{IsStepOn, step_on, if_err, on_ok, not_ok, not_apart, on_err, end_ok, end_memory, with_waiting}
-use Rattle.id_element.proofs.ShortLemmas.{IsShort-kept, one_left, own_at, shot_of_none, shot_of_one, shot_of_two}
+use Rattle.id_element.proofs.ShortLemmas.{IsShort-below, IsShort-kept, within, one_left, own_at, shot_of_none, shot_of_one, shot_of_two}
 use Rattle.id_element.proofs.desk.Desk.take_plain.Goals as goal
 use Rattle.id_element.proofs.desk.Desk.take_plain.Goals.{After-conclude_shot, After-conclude_shot-in-One, After-conclude_shot-in-Two, After-conclude_plain}
 
@@ -464,11 +465,11 @@ conclude_shot-requires-clause-own c =
     c.requires.fits.kind c.instrs.ensures.value c.index-instrs-token.is (c.in_ok-reserve.ensures.graph ∙ sym c.requires.own)
 
 pub conclude_shot-requires-clause-room_in_outputs : goal.conclude_shot-requires-clause-room_in_outputs
-conclude_shot-requires-clause-room_in_outputs c = rw c.most_sent-most.ensures at c.in_ok-reserve.ensures.room_in_outputs
+conclude_shot-requires-clause-room_in_outputs c = within c.args.graph.now _ _ (record { instr = c.args.token.now.instr; port = c.args.token.now.port }) _ _ c.index-instrs-token.result c.requires.most c.requires.fits.kind c.instrs.ensures.value c.index-instrs-token.is c.in_ok-reserve.ensures.room_in_outputs
 
 pub conclude_shot-requires-clause-short : goal.conclude_shot-requires-clause-short
 conclude_shot-requires-clause-short c =
-    IsShort-kept _ _ _ _ _ ((rw c.most_sent-most.ensures at c.if-not-is_short.ensures) refl)
+    IsShort-kept _ _ _ _ _ (IsShort-below _ _ _ _ _ (within c.args.graph.now _ _ (record { instr = c.args.token.now.instr; port = c.args.token.now.port }) _ _ c.index-instrs-token.result c.requires.most c.requires.fits.kind c.instrs.ensures.value c.index-instrs-token.is (le_refl _)) (c.if-not-is_short.ensures refl))
     (ap (λ (v : State). v.events) c.in_ok-reserve.ensures.state) c.in_ok-reserve.ensures.number
 
 pub conclude_shot-requires-clause-own_value : goal.conclude_shot-requires-clause-own_value
@@ -494,11 +495,11 @@ conclude_shot-requires-in-One-clause-own c =
     c.requires.fits.kind c.instrs.ensures.value c.index-instrs-token.is (c.in_ok-reserve.ensures.graph ∙ sym c.requires.own)
 
 pub conclude_shot-requires-in-One-clause-room_in_outputs : goal.conclude_shot-requires-in-One-clause-room_in_outputs
-conclude_shot-requires-in-One-clause-room_in_outputs c = rw c.most_sent-most.ensures at c.in_ok-reserve.ensures.room_in_outputs
+conclude_shot-requires-in-One-clause-room_in_outputs c = within c.args.graph.now _ _ (record { instr = c.args.token.now.instr; port = c.args.token.now.port }) _ _ c.index-instrs-token.result c.requires.most c.requires.fits.kind c.instrs.ensures.value c.index-instrs-token.is c.in_ok-reserve.ensures.room_in_outputs
 
 pub conclude_shot-requires-in-One-clause-short : goal.conclude_shot-requires-in-One-clause-short
 conclude_shot-requires-in-One-clause-short c =
-    IsShort-kept _ _ _ _ _ ((rw c.most_sent-most.ensures at c.if-not-is_short.ensures) refl)
+    IsShort-kept _ _ _ _ _ (IsShort-below _ _ _ _ _ (within c.args.graph.now _ _ (record { instr = c.args.token.now.instr; port = c.args.token.now.port }) _ _ c.index-instrs-token.result c.requires.most c.requires.fits.kind c.instrs.ensures.value c.index-instrs-token.is (le_refl _)) (c.if-not-is_short.ensures refl))
     (ap (λ (v : State). v.events) c.in_ok-reserve.ensures.state) c.in_ok-reserve.ensures.number
 
 pub conclude_shot-requires-in-One-clause-own_value : goal.conclude_shot-requires-in-One-clause-own_value
@@ -524,11 +525,11 @@ conclude_shot-requires-in-Two-clause-own c =
     c.requires.fits.kind c.instrs.ensures.value c.index-instrs-token.is (c.in_ok-reserve.ensures.graph ∙ sym c.requires.own)
 
 pub conclude_shot-requires-in-Two-clause-room_in_outputs : goal.conclude_shot-requires-in-Two-clause-room_in_outputs
-conclude_shot-requires-in-Two-clause-room_in_outputs c = rw c.most_sent-most.ensures at c.in_ok-reserve.ensures.room_in_outputs
+conclude_shot-requires-in-Two-clause-room_in_outputs c = within c.args.graph.now _ _ (record { instr = c.args.token.now.instr; port = c.args.token.now.port }) _ _ c.index-instrs-token.result c.requires.most c.requires.fits.kind c.instrs.ensures.value c.index-instrs-token.is c.in_ok-reserve.ensures.room_in_outputs
 
 pub conclude_shot-requires-in-Two-clause-short : goal.conclude_shot-requires-in-Two-clause-short
 conclude_shot-requires-in-Two-clause-short c =
-    IsShort-kept _ _ _ _ _ ((rw c.most_sent-most.ensures at c.if-not-is_short.ensures) refl)
+    IsShort-kept _ _ _ _ _ (IsShort-below _ _ _ _ _ (within c.args.graph.now _ _ (record { instr = c.args.token.now.instr; port = c.args.token.now.port }) _ _ c.index-instrs-token.result c.requires.most c.requires.fits.kind c.instrs.ensures.value c.index-instrs-token.is (le_refl _)) (c.if-not-is_short.ensures refl))
     (ap (λ (v : State). v.events) c.in_ok-reserve.ensures.state) c.in_ok-reserve.ensures.number
 
 pub conclude_shot-requires-in-Two-clause-own_value : goal.conclude_shot-requires-in-Two-clause-own_value
@@ -554,9 +555,9 @@ conclude_plain-requires-clause-own c =
     c.requires.fits.kind c.instrs.ensures.value c.index-instrs-token.is (c.in_ok-reserve.ensures.graph ∙ sym c.requires.own)
 
 pub conclude_plain-requires-clause-room_in_outputs : goal.conclude_plain-requires-clause-room_in_outputs
-conclude_plain-requires-clause-room_in_outputs c = rw c.most_sent-most.ensures at c.in_ok-reserve.ensures.room_in_outputs
+conclude_plain-requires-clause-room_in_outputs c = within c.args.graph.now _ _ (record { instr = c.args.token.now.instr; port = c.args.token.now.port }) _ _ c.index-instrs-token.result c.requires.most c.requires.fits.kind c.instrs.ensures.value c.index-instrs-token.is c.in_ok-reserve.ensures.room_in_outputs
 
 pub conclude_plain-requires-clause-short : goal.conclude_plain-requires-clause-short
 conclude_plain-requires-clause-short c =
-    IsShort-kept _ _ _ _ _ ((rw c.most_sent-most.ensures at c.if-not-is_short.ensures) refl)
+    IsShort-kept _ _ _ _ _ (IsShort-below _ _ _ _ _ (within c.args.graph.now _ _ (record { instr = c.args.token.now.instr; port = c.args.token.now.port }) _ _ c.index-instrs-token.result c.requires.most c.requires.fits.kind c.instrs.ensures.value c.index-instrs-token.is (le_refl _)) (c.if-not-is_short.ensures refl))
     (ap (λ (v : State). v.events) c.in_ok-reserve.ensures.state) c.in_ok-reserve.ensures.number

@@ -19,12 +19,12 @@ invariant_of-self-2 c =
     rw (ap (λ v. v.graph) c.self.view_is, ap (λ v. v.count) c.self.view_is, ap (λ v. v.number) c.self.view_is) c.requires in
     let does = c.in_ok-handled.ensures in
     rw (does.number, does.graph)
-    (IsKept-demand old m c.self.inside.went (state_of c.take_demand.new.self) c.in_ok-handled.handled is_for does.left does.last_left c.self.invariant (λ e. does.step (cc)) (λ e. does.state (cc)) (λ e. does.apart (cc)))
+    (IsKept-demand old m c.self.inside.went (state_of c.take_demand.new.self) c.in_ok-handled.handled is_for does.left does.last_left c.self.invariant.0 (λ e. does.step (cc)) (λ e. does.state (cc)) (λ e. does.apart (cc)), c.self.invariant.1)
 
 pub returns-clause-fits : goal.returns-clause-fits
 returns-clause-fits c =
     rw (← ap (λ v. v.graph) c.self.view_is, ← ap (λ v. v.number) c.self.view_is, ← ap (λ v. v.state) c.self.view_is)
-    (demand_outputs_fit c.self.inside.desk.log.graph c.self.inside.desk.log.element (state_of c.self.inside.desk) c.args.demand.now c.self.invariant.replays.cells (rw (ap (λ v. v.graph) c.self.view_is) c.requires.fits))
+    (demand_outputs_fit c.self.inside.desk.log.graph c.self.inside.desk.log.element (state_of c.self.inside.desk) c.args.demand.now c.self.invariant.0.replays.cells (rw (ap (λ v. v.graph) c.self.view_is) c.requires.fits))
 
 -- the state is the one after the message
 pub returns-clause-state : goal.returns-clause-state

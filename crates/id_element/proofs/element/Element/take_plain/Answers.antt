@@ -28,12 +28,12 @@ invariant_of-self-2 c =
     λ h. c.in_ok-short.ensures.state h ∙ ap (λ g. state_after g d.log.element (state_of d) m) graph in
     let same : s ≡ Apart → state_of c.take_plain.new.self ≡ state_of d = λ e. c.in_ok-short.ensures.apart (cc) in
     rw (c.in_ok-short.ensures.number, c.in_ok-short.ensures.graph)
-    (IsKept-short old c.args.token.now c.self.inside.went c.still_short-self-inside.result (state_of c.take_plain.new.self) is_for c.in_ok-short.ensures.left c.in_ok-short.ensures.last_left c.self.invariant s comes after same c.still_short-self-inside.ensures.handled c.still_short-self-inside.ensures.apart)
+    (IsKept-short old c.args.token.now c.self.inside.went c.still_short-self-inside.result (state_of c.take_plain.new.self) is_for c.in_ok-short.ensures.left c.in_ok-short.ensures.last_left c.self.invariant.0 s comes after same c.still_short-self-inside.ensures.handled c.still_short-self-inside.ensures.apart, c.self.invariant.1)
 
 pub returns-clause-fits : goal.returns-clause-fits
 returns-clause-fits c =
     rw (← ap (λ v. v.graph) c.self.view_is, ← ap (λ v. v.number) c.self.view_is, ← ap (λ v. v.state) c.self.view_is)
-    (outputs_fit c.self.inside.desk.log.graph c.self.inside.desk.log.element (state_of c.self.inside.desk) (message_of c.args.token.now) (subst IsValid c.graph-graph.ensures c.graph.ensures.kept) c.self.invariant.replays.waiting c.self.invariant.replays.cells (rw (ap (λ v. v.graph) c.self.view_is) c.requires.fits))
+    (outputs_fit c.self.inside.desk.log.graph c.self.inside.desk.log.element (state_of c.self.inside.desk) (message_of c.args.token.now) (subst IsValid c.graph-graph.ensures c.graph.ensures.kept) c.self.invariant.0.replays.waiting c.self.invariant.0.replays.cells (rw (ap (λ v. v.graph) c.self.view_is) c.requires.fits))
 
 -- the state is the one after the message
 pub returns-clause-state : goal.returns-clause-state
