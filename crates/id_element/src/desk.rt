@@ -6,15 +6,15 @@ ghost use Rattle.id_element.specs.Steps.{readers_of};
 
 use crate::outcome::{
     allocated_by, allocated_by_deed, answer_fired, deed_of, fill_verdict, fresh_numbers, made_by,
-    most_sent, next_stamp, react, react_full, react_plain, send, send_deed, send_like,
+    most_sent, next_stamp, react, react_operands, react_plain, send, send_deed, send_like,
     send_replies, send_shot,
 };
-use crate::step::{Arrival, PlainOperands, Reacted, Short, TakeError};
+use crate::step::{PlainOperands, Reacted, Short, TakeError};
 use id_bank::{Bank, ReadAnswer, WriteAnswer};
 use id_flight::{Demand, Queue};
 use id_graph::{Graph, Instr, Port};
 use id_match::Waiting;
-use id_ops::{Deed, Fired, Operands, Shot};
+use id_ops::{Deed, Fired, Shot};
 use id_record::{
     Doing, Envelope, Fate, Handling, NO_REPLIES, Reaction, Record, Replies, Shooting, Verdict,
     Visiting, has_line, message, tag_of, token_at, value_of,
@@ -863,6 +863,19 @@ impl<'a> Desk<'a> {
             (tag_in token.now) (fired_by self.old instr.now token.now operands)) }
     {
         match deed_of(instr.op, operands) {
+            // The deeds of arrays have ways of their own.
+            Some(Deed::Addressed(cell)) => {
+                self.conclude_deed(instr, token, stamp, Deed::Addressed(cell), outputs);
+                Short::Went
+            }
+            Some(Deed::Asked(cell, reply)) => {
+                self.conclude_deed(instr, token, stamp, Deed::Asked(cell, reply), outputs);
+                Short::Went
+            }
+            Some(Deed::Stored(cell, number)) => {
+                self.conclude_deed(instr, token, stamp, Deed::Stored(cell, number), outputs);
+                Short::Went
+            }
             Some(deed) => {
                 self.conclude_deed(instr, token, stamp, deed, outputs);
                 Short::Went
@@ -920,11 +933,7 @@ impl<'a> Desk<'a> {
             (tag_in token.now) (fired_by self.old instr.now token.now operands)) }
     {
         let next = fresh_numbers(self.log.element(), self.contexts, self.structures);
-        let arrival = Arrival::Fires(match operands {
-            PlainOperands::One(value) => Operands::One(value.value()),
-            PlainOperands::Two(left, right) => Operands::Two(left.value(), right.value()),
-        });
-        let reaction = react_full(instr, next, token.tag(), &arrival);
+        let reaction = react_operands(instr, next, token.tag(), operands);
         let sample = PlainToken {
             position: self.log.len() as u32,
             stamp,

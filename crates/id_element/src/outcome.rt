@@ -11,6 +11,7 @@ ghost use Rattle.id_tag.specs.declared.Payload.TheVariants.{Token};
 ghost use Rattle.id_record.specs.declared.step.Verdict.TheVariants as verdict;
 ghost use Rattle.id_record.specs.Events.{full_step};
 ghost use Rattle.id_tag.specs.Tags.{same_tag};
+ghost use Rattle.id_element.specs.declared.step.Arrival.TheVariants.{Fires};
 ghost use Rattle.id_element.specs.Firings.{IsMost, IsReaction, firing_of, most_sent, operands_in, verdict_of};
 ghost use Rattle.id_graph.specs.Ports.{two_ports};
 ghost use Rattle.id_match.specs.Waiting.{Store, offer_after, offer_answer, pair_of};
@@ -111,7 +112,7 @@ pub(crate) fn react(
 }
 
 /// What comes of what arrived, in full.
-pub(crate) fn react_full(instr: &Instr, next: Fresh, tag: Tag, arrival: &Arrival) -> Reaction
+fn react_full(instr: &Instr, next: Fresh, tag: Tag, arrival: &Arrival) -> Reaction
     requires { tag.iteration < 2 ^ 64 - 1 }
     ensures fired { result.fired ≡ firing_of instr.now tag next arrival.now }
     ensures verdict { result.verdict ≡ verdict_of arrival.now result.fired }
@@ -119,6 +120,31 @@ pub(crate) fn react_full(instr: &Instr, next: Fresh, tag: Tag, arrival: &Arrival
     let fired = firing(instr, tag, next, arrival);
     let verdict = verdict(arrival, &fired);
     Reaction { fired, verdict }
+}
+
+/// What comes of plain operands, in full.
+pub(crate) fn react_operands(
+    instr: &Instr,
+    next: Fresh,
+    tag: Tag,
+    operands: PlainOperands,
+) -> Reaction
+    requires { tag.iteration < 2 ^ 64 - 1 }
+    ensures fired { result.fired ≡ firing_of instr.now tag next (Fires (operands_in operands)) }
+    ensures verdict { result.verdict ≡ verdict_of (Fires (operands_in operands)) result.fired }
+{
+    // Calls are many, so what enters a block is told here.
+    if let (Op::Enter { .. }, PlainOperands::One(Plain::Signal)) = (instr.op, operands) {
+        return Reaction {
+            fired: Fired::Entered(next.context),
+            verdict: Verdict::Went,
+        };
+    }
+    let arrival = Arrival::Fires(match operands {
+        PlainOperands::One(value) => Operands::One(value.value()),
+        PlainOperands::Two(left, right) => Operands::Two(left.value(), right.value()),
+    });
+    react_full(instr, next, tag, &arrival)
 }
 
 /// Lets a plain token come to its instruction, in short where that is in reach: where it waits for its partner, and
