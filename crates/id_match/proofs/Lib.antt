@@ -4,3 +4,4 @@ pub mod CallLemmas
 pub mod BehindLemmas
 pub mod KeyedLemmas
 pub mod EntriesLemmas
+pub mod FramesLemmas

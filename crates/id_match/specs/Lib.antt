@@ -6,4 +6,5 @@ pub mod Keyed
 pub mod Codes
 -- for use inside
 pub mod Front
+pub mod Frames
 pub mod Halves

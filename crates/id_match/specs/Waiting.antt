@@ -1,11 +1,12 @@
 -- The waiting-matching store (docs/MACHINE.md, "The waiting-matching store").
-use Rattle.std.specs.Prelude.{if◌then◌else◌, Option, Some, None, List, map}
+use Rattle.std.specs.Prelude.{ℕ, Bool, ◌==◌, ◌&&◌, if◌then◌else◌, Option, Some, None, List, map}
 use Rattle.std.specs.FinMap.{FinMap, get, insert, remove, entries}
+use Rattle.std.specs.Set.{distinct_count}
 use Rattle.id_graph.specs.declared.dests.Port.{Port}
 use Rattle.id_graph.specs.declared.dests.Port.TheVariants.{Zero, One}
 use Rattle.id_tag.specs.declared.Tag.{Tag}
 use Rattle.id_tag.specs.declared.Value.{Value}
-use Rattle.id_tag.specs.Tags.{tag_cmp}
+use Rattle.id_tag.specs.Tags.{tag_cmp, same_context}
 use Rattle.id_match.specs.declared.Half.{Half}
 use Rattle.id_match.specs.declared.Entry.{Entry}
 use Rattle.id_match.specs.declared.Offered.{Offered}
@@ -57,3 +58,11 @@ entry_at e = record { tag = e.0; port = e.1.port; value = e.1.value }
 -- what waits, in the order of tags
 abbrev pub entries_of : Store → List Entry
 entries_of s = map entry_at (entries s)
+
+-- whether two tags are of one frame, which is a context and an iteration
+abbrev pub same_frame : Tag → Tag → Bool
+same_frame t u = same_context t.context u.context && (t.iteration == u.iteration)
+
+-- how many frames there are among the tags of what waits, where a frame counts once
+abbrev pub frames_of : Store → ℕ
+frames_of s = distinct_count same_frame (map (λ e. e.tag) (entries_of s))

@@ -76,8 +76,8 @@ pub(crate) struct Slot {
 /// The two slots at a place.
 #[derive(Clone, Copy)]
 pub(crate) struct Pair {
-    first: Slot,
-    second: Slot,
+    pub(crate) first: Slot,
+    pub(crate) second: Slot,
 }
 
 const _: () = prove!(size_of::<Pair>() == 64);
@@ -132,7 +132,7 @@ fn place_of(serial: u64, iteration: u64, instr: u32, len: usize) -> usize
 impl Slot {
     /// The tag of what it keeps.
     #[inline(always)]
-    fn tag(&self) -> Tag
+    pub(crate) fn tag(&self) -> Tag
         ensures { result ≡ slot_tag self.now }
     {
         Tag {
@@ -180,7 +180,7 @@ impl Slot {
 
     /// Whether it keeps nothing.
     #[inline(always)]
-    fn is_empty(&self) -> bool
+    pub(crate) fn is_empty(&self) -> bool
         ensures { IsTrue result ↔ (slot_half self.now ≡ None) }
     {
         !self.is_full

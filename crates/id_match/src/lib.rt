@@ -25,6 +25,7 @@ ghost use Rattle.id_tag.specs.Plains.{tag_in, whole};
 ghost use Rattle.std.specs.Map.{lookup};
 ghost use Rattle.id_match.specs.Front.{HoldsSame, IsMarked, IsPlaced, front_entries, front_half};
 
+mod frames;
 mod front;
 
 use front::{

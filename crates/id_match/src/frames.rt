@@ -1,0 +1,78 @@
+//! The frames of the store: the contexts and iterations in which something waits.
+//!
+//! They are counted when they are asked for: a value counts where nothing waits in its frame at a smaller instruction.
+
+ghost use Rattle.std.specs.Prelude.{◌≡◌, ◌≤◌, ◌<◌, ◌*◌, ◌^◌, length};
+ghost use Rattle.std.specs.FinMap.{contains_key};
+ghost use Rattle.std.specs.HashMap as hash;
+ghost use Rattle.std.specs.List.{count_by};
+ghost use Rattle.std.specs.Map.{keys_of};
+ghost use Rattle.id_tag.specs.Tags.{same_tag};
+ghost use Rattle.id_match.specs.Front.{front_entries};
+ghost use Rattle.id_match.specs.Frames.{is_first, keeps_first};
+ghost use Rattle.id_match.specs.Waiting.{frames_of};
+
+use crate::front::{Pair, Slot, has};
+use crate::{Half, Waiting};
+use id_tag::{NearHasher, Tag};
+use std::collections::HashMap;
+
+impl Waiting {
+    /// How many frames there are, different contexts and iterations, among what waits. Nothing is kept for it, so it
+    /// takes time: a look at each pair of slots, and for each frame as many look-ups as the greatest number of an
+    /// instruction that waits in it. Takes no memory.
+    pub fn frames(&self) -> usize
+        ensures frames { result ≡ frames_of self.now }
+    {
+        self.firsts_in_front(&self.front) + self.firsts_behind(&self.halves)
+    }
+
+    // How many of the values in the slots are the first of their frame.
+    fn firsts_in_front(&self, front: &[Pair]) -> usize
+        ensures exact { result ≡ count_by (is_first self.now) (keys_of (front_entries front.now)) }
+        ensures most { result ≤ 2 * length front.now }
+    {
+        let mut firsts = 0;
+        for i in 0..front.len() {
+            firsts += usize::from(self.is_first_in(&front[i].first));
+            firsts += usize::from(self.is_first_in(&front[i].second));
+        }
+        firsts
+    }
+
+    // How many of the values behind are the first of their frame.
+    fn firsts_behind(&self, halves: &HashMap<Tag, Half, NearHasher>) -> usize
+        ensures exact { result ≡ count_by (is_first self.now) (keys_of halves.now.entries) }
+        ensures most { result < 2 ^ 63 }
+        ensures unique { hash.IsUnique same_tag halves.now }
+    {
+        halves.keys().filter(|tag| self.is_first(**tag)).count()
+    }
+
+    // Whether the slot keeps a value that is the first of its frame.
+    fn is_first_in(&self, slot: &Slot) -> bool
+        ensures { result ≡ keeps_first self.now slot.now }
+    {
+        !slot.is_empty() && self.is_first(slot.tag())
+    }
+
+    // Whether nothing waits in the frame of a tag at a smaller instruction. It looks at the greater ones first, so that
+    // all the values of a frame together take a look-up for each instruction.
+    fn is_first(&self, tag: Tag) -> bool
+        ensures { result ≡ is_first self.now tag }
+    {
+        for instr in (0..tag.instr).rev() {
+            if self.is_waiting(Tag { instr, ..tag }) {
+                return false;
+            }
+        }
+        true
+    }
+
+    // Whether something waits under a tag.
+    fn is_waiting(&self, tag: Tag) -> bool
+        ensures { result ≡ contains_key self.now tag }
+    {
+        has(&self.front, tag) || self.halves.contains_key(&tag)
+    }
+}
