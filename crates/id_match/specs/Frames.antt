@@ -15,6 +15,6 @@ waits_below s t (suc n) = contains_key s (record t { instr = n }) || waits_below
 abbrev pub is_first : Store → Tag → Bool
 is_first s t = not (waits_below s t t.instr)
 
--- whether a slot keeps a value that is the first of its frame
-abbrev pub keeps_first : Store → Slot → Bool
-keeps_first s x = is_some (slot_half x) && is_first s (slot_tag x)
+-- whether a slot keeps something that is the first of its frame
+abbrev pub is_first_in : Store → Slot → Bool
+is_first_in s x = is_some (slot_half x) && is_first s (slot_tag x)

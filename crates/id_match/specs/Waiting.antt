@@ -59,10 +59,10 @@ entry_at e = record { tag = e.0; port = e.1.port; value = e.1.value }
 abbrev pub entries_of : Store → List Entry
 entries_of s = map entry_at (entries s)
 
--- whether two tags are of one frame, which is a context and an iteration
+-- whether two tags are of one frame, a context and an iteration
 abbrev pub same_frame : Tag → Tag → Bool
 same_frame t u = same_context t.context u.context && (t.iteration == u.iteration)
 
--- how many frames there are among the tags of what waits, where a frame counts once
+-- how many different frames the tags of what waits are of
 abbrev pub frames_of : Store → ℕ
 frames_of s = distinct_count same_frame (map (λ e. e.tag) (entries_of s))

@@ -9,7 +9,7 @@ ghost use Rattle.std.specs.List.{count_by};
 ghost use Rattle.std.specs.Map.{keys_of};
 ghost use Rattle.id_tag.specs.Tags.{same_tag};
 ghost use Rattle.id_match.specs.Front.{front_entries};
-ghost use Rattle.id_match.specs.Frames.{is_first, keeps_first};
+ghost use Rattle.id_match.specs.Frames.{is_first, is_first_in};
 ghost use Rattle.id_match.specs.Waiting.{frames_of};
 
 use crate::front::{Pair, Slot, has};
@@ -18,9 +18,9 @@ use id_tag::{NearHasher, Tag};
 use std::collections::HashMap;
 
 impl Waiting {
-    /// How many frames there are, different contexts and iterations, among what waits. Nothing is kept for it, so it
-    /// takes time: a look at each pair of slots, and for each frame as many look-ups as the greatest number of an
-    /// instruction that waits in it. Takes no memory.
+    /// How many frames there are: different contexts and iterations among what waits. They are counted when it is
+    /// called, in a look at each pair of slots and each value behind, and for each frame as many look-ups as the number
+    /// of the greatest instruction that waits in it. Takes no memory.
     pub fn frames(&self) -> usize
         ensures frames { result ≡ frames_of self.now }
     {
@@ -51,13 +51,13 @@ impl Waiting {
 
     // Whether the slot keeps a value that is the first of its frame.
     fn is_first_in(&self, slot: &Slot) -> bool
-        ensures { result ≡ keeps_first self.now slot.now }
+        ensures { result ≡ is_first_in self.now slot.now }
     {
         !slot.is_empty() && self.is_first(slot.tag())
     }
 
-    // Whether nothing waits in the frame of a tag at a smaller instruction. It looks at the greater ones first, so that
-    // all the values of a frame together take a look-up for each instruction.
+    // Whether nothing waits in the frame of a tag at a smaller instruction. It looks at the greater ones first, and no
+    // further than the next at which something waits, so that no instruction is looked at for two values of a frame.
     fn is_first(&self, tag: Tag) -> bool
         ensures { result ≡ is_first self.now tag }
     {
