@@ -60,6 +60,36 @@ fn offers_are_kept_taken_and_paired(rt: HostRuntime) -> Result<(), Fail> {
     Ok(())
 }
 
+/// Whether the offers of the row to iterations and instructions have its answers, and leave its frames.
+fn are_counted(waiting: &mut Waiting) -> Result<bool, AllocError> {
+    let three = Value::Int(3);
+    let table = [
+        (0, 5, Port::Zero, Offered::Kept, 1),
+        (0, 6, Port::Zero, Offered::Kept, 1),
+        (1, 5, Port::Zero, Offered::Kept, 2),
+        (1, 5, Port::One, Offered::Pair(three, three), 1),
+        (0, 5, Port::Zero, Offered::Taken, 1),
+    ];
+    for (iteration, instr, port, answer, frames) in table {
+        let tag = Tag {
+            iteration,
+            ..main_tag(instr)
+        };
+        if waiting.offer(tag, port, three)? != answer || waiting.frames() != frames {
+            return Ok(false);
+        }
+    }
+    Ok(true)
+}
+
+#[test]
+fn a_frame_is_an_iteration_in_which_values_wait(rt: HostRuntime) -> Result<(), Fail> {
+    let mut waiting = Waiting::new(rt.alloc());
+    let counted = are_counted(&mut waiting)?;
+    assert!(rt; counted && waiting.len() == 2);
+    Ok(())
+}
+
 /// Cell 1 of a structure with the bounds 1 and 3.
 fn first_cell() -> Cell {
     Cell {
