@@ -10,9 +10,9 @@ ghost use Rattle.id_ops.specs.Operators.{address_in, fired, fired_send, fired_sw
 ghost use Rattle.id_tag.specs.declared.Value.TheVariants as values;
 
 use crate::Fired;
-use crate::shot::{Shot, Target, shoot_send};
+use crate::shot::Target;
 use id_graph::{Op, PortKind};
-use id_tag::{Plain, PlainCell, Tag, Value, plain_cell_in};
+use id_tag::{Plain, PlainCell, Tag, Value, element_of, plain_cell_in, serial_of};
 use id_value::is_inside;
 
 /// A firing of `address`, `fetch` or `store`, of `switch` on a structure, or of `send`.
@@ -27,7 +27,7 @@ pub enum Deed {
     Stored(PlainCell, i64),
     /// The value goes to each destination on this side under the tag of the operands.
     Switched(bool, Plain),
-    /// The word goes to port 0 of this tag.
+    /// The word or the structure goes to port 0 of this tag.
     Passed(Target, Plain),
 }
 
@@ -97,14 +97,22 @@ fn switched(kind: PortKind, side: bool, value: Plain) -> Option<Deed>
     }
 }
 
-/// What a `send` of this kind to this instruction does with a word.
+/// What a `send` of this kind to this instruction does with a word or a structure.
 #[inline(always)]
 fn passed(kind: PortKind, target: u32, left: Plain, right: Plain) -> Option<Deed>
     ensures { IfSome result
         (λ d. (t : Tag) → fired_send kind target (Two (whole left) (whole right)) ≡ fired_by_deed t d) }
 {
-    match shoot_send(kind, target, left, right) {
-        Some(Shot::Sent(to, word)) => Some(Deed::Passed(to, word)),
+    match left {
+        Plain::Context(name) if right.is_carried() && right.kind() == kind => {
+            let to = Target {
+                serial: serial_of(name),
+                iteration: 0,
+                instr: target,
+                element: element_of(name),
+            };
+            Some(Deed::Passed(to, right))
+        }
         _ => None,
     }
 }

@@ -198,7 +198,7 @@ fn shoot_switch(kind: PortKind, left: Plain, right: Plain) -> Option<Shot>
 
 /// What a `send` of this kind to this instruction does, where that is a word's going to a tag.
 #[inline(always)]
-pub(crate) fn shoot_send(kind: PortKind, target: u32, left: Plain, right: Plain) -> Option<Shot>
+fn shoot_send(kind: PortKind, target: u32, left: Plain, right: Plain) -> Option<Shot>
     ensures fired { IfSome result (λ s. fired_send kind target (Two (whole left) (whole right)) ≡ fired_of s) }
     ensures own { IfSome result (λ s. IsOwn s right) }
     ensures brief { IfSome result (λ s. (iteration : ℕ) → IsBrief iteration s) }
