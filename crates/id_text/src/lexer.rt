@@ -66,15 +66,15 @@ fn read_all(alloc: Global, text: &str) -> Result<Vec<Token>, TextError>
         if let Some(kind) = piece.kind {
             tokens.push(Token {
                 kind,
-                start,
-                end: at,
+                start: start as u32,
+                end: at as u32,
             })?;
         }
     }
     tokens.push(Token {
         kind: TokenKind::End,
-        start: at,
-        end: at,
+        start: at as u32,
+        end: at as u32,
     })?;
     Ok(tokens)
 }

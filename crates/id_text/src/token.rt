@@ -76,8 +76,8 @@ pub enum TokenKind {
 #[derive(Drop)]
 pub struct Token {
     pub kind: TokenKind,
-    pub start: usize,
-    pub end: usize,
+    pub start: u32,
+    pub end: u32,
 }
 
 /// Why a text has no tokens.

@@ -114,7 +114,7 @@ fn parse_conditional(
     let (test, behind_then) = parse_enclosed(alloc, begun, Word::Key(Keyword::Then), inner)?;
     let (then, behind_else) = parse_enclosed(alloc, behind_then, Word::Key(Keyword::Else), inner)?;
     let (otherwise, rest) = parse_expression(alloc, behind_else, inner)?;
-    let whole = conditional(alloc, test, then, otherwise, first.start)?;
+    let whole = conditional(alloc, test, then, otherwise, first.start as usize)?;
     Ok((whole, rest))
 }
 
@@ -169,7 +169,7 @@ fn parse_right(
 {
     let (first, behind) = enter(tokens, depth + left.height + 1)?;
     let (right, rest) = parse_operand(alloc, behind, level, depth + 1)?;
-    let whole = binary(alloc, op, left, right, first.start)?;
+    let whole = binary(alloc, op, left, right, first.start as usize)?;
     Ok((whole, rest))
 }
 
@@ -239,7 +239,7 @@ fn parse_prefixed(
     let inner = depth + 1;
     let (first, behind) = enter(tokens, inner + 1)?;
     let (operand, rest) = parse_operand(alloc, behind, level, inner)?;
-    let whole = unary(alloc, op, operand, first.start)?;
+    let whole = unary(alloc, op, operand, first.start as usize)?;
     Ok((whole, rest))
 }
 
@@ -304,7 +304,7 @@ fn parse_fetch(
     let (first, begun) = enter(tokens, depth + target.height + 1)?;
     let bracket = Word::Sign(Symbol::RightBracket);
     let (index, rest) = parse_enclosed(alloc, begun, bracket, depth + 1)?;
-    let whole = fetch(alloc, target, index, first.start)?;
+    let whole = fetch(alloc, target, index, first.start as usize)?;
     Ok((whole, rest))
 }
 
@@ -345,7 +345,7 @@ fn parse_array(alloc: Global, tokens: &[Token], depth: usize) -> Result<(Part, &
     let opened = expect_word(behind, Word::Sign(Symbol::LeftParen))?;
     let (low, begun) = parse_enclosed(alloc, opened, Word::Sign(Symbol::Comma), inner)?;
     let (high, rest) = parse_enclosed(alloc, begun, Word::Sign(Symbol::RightParen), inner)?;
-    let whole = array(alloc, low, high, first.start)?;
+    let whole = array(alloc, low, high, first.start as usize)?;
     Ok((whole, rest))
 }
 
@@ -431,7 +431,7 @@ fn parse_block(alloc: Global, tokens: &[Token], depth: usize) -> Result<(Part, &
     let (statements, height, last) = parse_statements(alloc, opened, Scope::Block, inner)?;
     let (_, begun) = split(last);
     let (body, rest) = parse_enclosed(alloc, begun, Word::Sign(Symbol::RightBrace), inner)?;
-    let whole = block(alloc, statements, height, body, first.start)?;
+    let whole = block(alloc, statements, height, body, first.start as usize)?;
     Ok((whole, rest))
 }
 
@@ -454,7 +454,7 @@ fn parse_loop(alloc: Global, tokens: &[Token], depth: usize) -> Result<(Part, &[
     let (statements, height, ending) = parse_statements(alloc, begun, Scope::Loop, inner)?;
     let (_, left) = split(ending);
     let (last, rest) = parse_enclosed(alloc, left, Word::Sign(Symbol::RightBrace), inner)?;
-    let whole = whole_loop(alloc, test, statements, height, last, first.start)?;
+    let whole = whole_loop(alloc, test, statements, height, last, first.start as usize)?;
     Ok((whole, rest))
 }
 
@@ -540,7 +540,7 @@ fn parse_store(
     let (value, rest) = parse_enclosed(alloc, begun, Word::Sign(Symbol::Semicolon), depth)?;
     let height = index.height.max(value.height);
     let target = name(alloc, x, place)?;
-    let statement = store(target, index, value, first.start);
+    let statement = store(target, index, value, first.start as usize);
     Ok((statement, height, rest))
 }
 
@@ -563,7 +563,7 @@ fn parse_next(
     let begun = expect_word(named, Word::Sign(Symbol::Becomes))?;
     let (value, behind) = parse_enclosed(alloc, begun, Word::Sign(Symbol::Semicolon), depth)?;
     let height = value.height;
-    let statement = next(name, value, first.start);
+    let statement = next(name, value, first.start as usize);
     Ok((statement, height, behind))
 }
 
@@ -583,13 +583,13 @@ fn parse_leaf(alloc: Global, tokens: &[Token], depth: usize) -> Result<(Part, &[
     let (first, rest) = split(tokens);
     match &first.kind {
         TokenKind::Number(value) => {
-            let whole = number(alloc, value, first.start)?;
+            let whole = number(alloc, value, first.start as usize)?;
             Ok((whole, rest))
         }
-        TokenKind::Name(x) => parse_named(alloc, x.copy(alloc)?, first.start, rest, depth),
+        TokenKind::Name(x) => parse_named(alloc, x.copy(alloc)?, first.start as usize, rest, depth),
         TokenKind::Key(_) => match truth_of(first) {
             Some(value) => {
-                let whole = truth(alloc, value, first.start)?;
+                let whole = truth(alloc, value, first.start as usize)?;
                 Ok((whole, rest))
             }
             None => Err(unexpected(tokens)),

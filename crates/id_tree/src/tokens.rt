@@ -137,7 +137,7 @@ pub fn unexpected(tokens: &[Token]) -> TreeError
     ensures { result ≡ TreeError.Unexpected (first_start tokens.now) }
 {
     TreeError::Unexpected {
-        at: tokens[0].start,
+        at: tokens[0].start as usize,
     }
 }
 
@@ -165,7 +165,7 @@ pub fn no_room(tokens: &[Token]) -> TreeError
     requires { EndsOnce tokens.now }
     ensures { result ≡ no_room_at (begins_expression (first_kind tokens.now)) (first_start tokens.now) }
 {
-    let at = tokens[0].start;
+    let at = tokens[0].start as usize;
     if begins_expression(&tokens[0]) {
         TreeError::TooDeep { at }
     } else {
@@ -184,7 +184,7 @@ pub fn enter(tokens: &[Token], nesting: usize) -> Result<(&Token, &[Token]), Tre
 {
     if nesting > MAX_NESTING {
         return Err(TreeError::TooDeep {
-            at: tokens[0].start,
+            at: tokens[0].start as usize,
         });
     }
     Ok(split(tokens))
@@ -217,7 +217,7 @@ pub fn expect_name(
 {
     let (first, rest) = split(tokens);
     match &first.kind {
-        TokenKind::Name(name) => Ok((name.copy(alloc)?, first.start, rest)),
+        TokenKind::Name(name) => Ok((name.copy(alloc)?, first.start as usize, rest)),
         TokenKind::Number(_) => Err(unexpected(tokens)),
         TokenKind::Key(_) => Err(unexpected(tokens)),
         TokenKind::Sign(_) => Err(unexpected(tokens)),

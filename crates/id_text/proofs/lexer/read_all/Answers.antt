@@ -17,6 +17,10 @@ returns-in_err-piece-clause-refused c =
 pub overflow_add-at : goal.overflow_add-at
 overflow_add-at c = omega (arith, piece_fits c.args.text.now c.loop-at.at _ _ c.loop-at.invariant.within c.in_ok-piece.ensures)
 
+pub overflow_cast-at : goal.overflow_cast-at
+overflow_cast-at c =
+    let fits = piece_fits c.args.text.now c.loop-at.at _ _ c.loop-at.invariant.within c.in_ok-piece.ensures in omega (arith, fits, c.requires)
+
 pub loop-at-smaller-in-Continue-branch-2 : goal.loop-at-smaller-in-Continue-branch-2
 loop-at-smaller-in-Continue-branch-2 c =
     let fits = piece_fits c.args.text.now c.loop-at.at _ _ c.loop-at.invariant.within c.in_ok-piece.ensures in omega arith
