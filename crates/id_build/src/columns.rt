@@ -7,15 +7,15 @@ ghost use Rattle.id_desugar.specs.Regions as regions;
 ghost use Rattle.id_build.specs.Slots.{AreColumns};
 
 use id_check::Checked;
-use id_list::Sequence;
+use id_desugar::Imports;
 
 /// For each row the binders that it imports, the row where what begins there ends, and the `next` statement of the
 /// variable there.
 #[derive(Clone, Copy)]
 pub struct Columns<'a> {
-    pub imports: &'a [Sequence<usize>],
-    pub ends: &'a [Option<usize>],
-    pub nexts: &'a [Option<usize>],
+    pub imports: &'a [Imports],
+    pub ends: &'a [Option<u32>],
+    pub nexts: &'a [Option<u32>],
 }
 
 impl<'a> Columns<'a> {

@@ -54,7 +54,7 @@ fn build_parts(
     alloc: Global,
     checked: &Checked,
     columns: Columns<'_>,
-    order: &[usize],
+    order: &[u32],
 ) -> Result<(Vec<Block>, Vec<Instr>), BuildError>
     requires columns { AreColumns checked.now columns }
     requires order { order.now ≡ regions.order_of checked.now }
@@ -82,7 +82,7 @@ fn number(
     alloc: Global,
     checked: &Checked,
     columns: Columns<'_>,
-    order: &[usize],
+    order: &[u32],
 ) -> Result<Draft, BuildError>
     requires columns { AreColumns checked.now columns }
     requires within { (n : ℕ) → Among n order.now → n < length (programs.rows checked.now) }
@@ -96,8 +96,8 @@ fn number(
     let mut pieces = Vec::with_capacity(alloc, about_size(checked, columns))?;
     let mut firsts = vec![in alloc; 0u32; checked.table.rows.len()]?;
     for n in order {
-        firsts[*n] = pieces.len() as u32;
-        push_pieces(checked, columns, *n, &mut pieces)?;
+        firsts[*n as usize] = pieces.len() as u32;
+        push_pieces(checked, columns, *n as usize, &mut pieces)?;
         if pieces.len() > 1_000_000 {
             return Err(BuildError::TooLarge);
         }
@@ -110,7 +110,7 @@ fn connected(
     alloc: Global,
     checked: &Checked,
     columns: Columns<'_>,
-    order: &[usize],
+    order: &[u32],
     draft: Draft,
 ) -> Result<Vec<Instr>, BuildError>
     requires columns { AreColumns checked.now columns }
@@ -133,7 +133,7 @@ fn with_arcs(
     alloc: Global,
     checked: &Checked,
     slots: &Slots<'_>,
-    order: &[usize],
+    order: &[u32],
     firsts: Vec<u32>,
     bare: Vec<Instr>,
 ) -> Result<Vec<Instr>, BuildError>
@@ -151,7 +151,7 @@ fn with_arcs(
         list: Vec::new(alloc),
     };
     for n in order {
-        push_feeds(checked, slots, *n, &mut arcs)?;
+        push_feeds(checked, slots, *n as usize, &mut arcs)?;
         connect_all(&mut instrs, arcs.list.as_slice())?;
         arcs.list.clear();
     }

@@ -72,7 +72,7 @@ pub fn is_surely_small(alloc: Global, checked: &Checked) -> Result<bool, AllocEr
 }
 
 /// How many instructions the row n makes at most. Takes no memory.
-fn most_made(checked: &Checked, ends: &[Option<usize>], n: usize) -> usize
+fn most_made(checked: &Checked, ends: &[Option<u32>], n: usize) -> usize
     requires few { length (programs.rows checked.now) ≤ 1000000 }
     requires ends { AreEnds checked.now ends.now }
     requires within { n < length (programs.rows checked.now) }
@@ -91,7 +91,7 @@ fn most_made(checked: &Checked, ends: &[Option<usize>], n: usize) -> usize
 }
 
 /// How many rows stand between this one and the one where what begins here ends. Takes no memory.
-fn rows_in(checked: &Checked, ends: &[Option<usize>], head: usize) -> usize
+fn rows_in(checked: &Checked, ends: &[Option<u32>], head: usize) -> usize
     requires few { length (programs.rows checked.now) ≤ 1000000 }
     requires ends { AreEnds checked.now ends.now }
     requires within { head < length (programs.rows checked.now) }

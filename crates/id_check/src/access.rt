@@ -4,6 +4,7 @@ ghost use Rattle.std.specs.Prelude.{◌≡◌};
 ghost use Rattle.id_check.specs.Programs as programs;
 
 use crate::checked::Checked;
+use crate::rows::wide;
 use id_parts::Row;
 use id_tree::Kind;
 
@@ -20,7 +21,7 @@ impl Checked {
         ensures { result ≡ programs.binder self.now i }
     {
         if i < self.binders.len() {
-            self.binders[i]
+            wide(self.binders[i])
         } else {
             None
         }
@@ -42,7 +43,7 @@ impl Checked {
         ensures { result ≡ programs.depth self.now i }
     {
         if i < self.depths.len() {
-            self.depths[i]
+            self.depths[i] as usize
         } else {
             0
         }

@@ -21,11 +21,11 @@ pub struct Checked {
     /// The row of the definition of `main`.
     pub main: usize,
     /// For each row that uses a name, the row of its binder.
-    pub binders: Vec<Option<usize>>,
+    pub binders: Vec<Option<u32>>,
     /// For each row its kind, if it has one.
     pub kinds: Vec<Option<Kind>>,
     /// For each row, how many loops of its procedure it is in.
-    pub depths: Vec<usize>,
+    pub depths: Vec<u32>,
     pub ghost tabled: { table.rows.items ≡ rows_of (program_tree program) } by { Prim.hlevel props },
     pub ghost named: { table.names.items ≡ (parts_of (program_tree program)).names } by { Prim.hlevel props },
     pub ghost distinct: { Distinct (program_tree program) } by { Distinct-prop (program_tree program) },

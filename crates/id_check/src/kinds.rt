@@ -8,7 +8,7 @@ ghost use Rattle.id_check.specs.Kinds.{AreKinds, To, Nowhere};
 ghost use Rattle.id_check.specs.Chains as chains;
 ghost use Rattle.id_check.specs.Chains.{IsGoing, IsFilling, IsEnd};
 
-use crate::rows::user_of;
+use crate::rows::{user_of, wide};
 use id_parts::{Node, Row};
 use id_tree::{BinaryOp, Constant, Kind, UnaryOp};
 use std::alloc::{AllocError, Global};
@@ -25,7 +25,7 @@ pub enum Link {
 pub fn find_kinds(
     alloc: Global,
     rows: &[Row],
-    binders: &[Option<usize>],
+    binders: &[Option<u32>],
 ) -> Result<Vec<Option<Kind>>, AllocError>
     requires formed { IsFormed rows.now }
     requires binders { length binders.now ≡ length rows.now }
@@ -44,11 +44,7 @@ pub fn find_kinds(
 }
 
 /// Where the chain of each row goes on.
-fn find_links(
-    alloc: Global,
-    rows: &[Row],
-    binders: &[Option<usize>],
-) -> Result<Vec<Link>, AllocError>
+fn find_links(alloc: Global, rows: &[Row], binders: &[Option<u32>]) -> Result<Vec<Link>, AllocError>
     requires formed { IsFormed rows.now }
     requires binders { length binders.now ≡ length rows.now }
     ensures long { IfOk result (λ v. length v.items ≡ length rows.now) }
@@ -63,7 +59,7 @@ fn find_links(
 }
 
 /// Where the chain of the row goes on.
-fn link_at(rows: &[Row], binders: &[Option<usize>], i: usize) -> Link
+fn link_at(rows: &[Row], binders: &[Option<u32>], i: usize) -> Link
     requires formed { IsFormed rows.now }
     requires binders { length binders.now ≡ length rows.now }
     requires row { i < length rows.now }
@@ -74,11 +70,11 @@ fn link_at(rows: &[Row], binders: &[Option<usize>], i: usize) -> Link
 }
 
 /// The binder of the row.
-pub fn binder_at(binders: &[Option<usize>], i: usize) -> Option<usize>
+pub fn binder_at(binders: &[Option<u32>], i: usize) -> Option<usize>
     requires { i < length binders.now }
     ensures { result ≡ get_or binders.now i None }
 {
-    binders[i]
+    wide(binders[i])
 }
 
 /// The kinds that the links give.

@@ -28,9 +28,9 @@ use std::alloc::{AllocError, Global};
 /// What is found in the rows of a program: their binders, kinds and depths, and the first cause in them.
 #[derive(Drop)]
 struct Columns {
-    binders: Vec<Option<usize>>,
+    binders: Vec<Option<u32>>,
     kinds: Vec<Option<Kind>>,
-    depths: Vec<usize>,
+    depths: Vec<u32>,
     first: Option<CheckCause>,
 }
 

@@ -77,3 +77,13 @@ pub fn user_of(i: usize, node: Node) -> usize
         _ => i,
     }
 }
+
+/// The row, as a number of a machine word.
+pub fn wide(row: Option<u32>) -> Option<usize>
+    ensures { result ≡ row }
+{
+    match row {
+        Some(row) => Some(row as usize),
+        None => None,
+    }
+}

@@ -20,28 +20,31 @@ use crate::rows::{bound_name, closes, is_scope, sees_own, takes};
 use id_parts::{Node, Row};
 use std::alloc::{AllocError, Global};
 
+/// The most rows whose binders are looked for. No text comes near it.
+const MOST: usize = 0xffff_ffff;
+
 /// The last scope that bound a name, and the first of its binders there.
 #[derive(Clone, Copy)]
 pub struct Bound {
-    pub scope: usize,
-    pub binder: usize,
+    pub scope: u32,
+    pub binder: u32,
 }
 
 /// The uses of names: by row their binders so far, and those that wait for one, as a chain for each name from its last
 /// use back.
 #[derive(Drop)]
 pub struct Uses {
-    pub binders: Vec<Option<usize>>,
+    pub binders: Vec<Option<u32>>,
     /// By key, the last use that waits: names of values have the even keys, those of procedures the odd ones.
-    pub last: Vec<Option<usize>>,
+    pub last: Vec<Option<u32>>,
     /// By row, the use of the same name before it that waits.
-    pub earlier: Vec<Option<usize>>,
+    pub earlier: Vec<Option<u32>>,
 }
 
 /// The binders of the names, by row, and the first second binder.
 #[derive(Drop)]
 pub struct Found {
-    pub binders: Vec<Option<usize>>,
+    pub binders: Vec<Option<u32>>,
     pub first: Option<CheckCause>,
 }
 
@@ -54,6 +57,9 @@ pub fn find_binders(alloc: Global, rows: &[Row], count: usize) -> Result<Found, 
         (i b : ℕ) → i < length rows.now → get_or f.binders.items i None ≡ Some b → b < length rows.now) }
     ensures first { IfOk result (λ f. IsFirstOf f.first (duplicates rows.now (length rows.now))) }
 {
+    if rows.len() > MOST {
+        return Err(AllocError);
+    }
     let mut held = vec![in alloc; false; rows.len()]?;
     let mut bound: Vec<Option<Bound>> = vec![in alloc; None; count]?;
     let mut uses = no_uses(alloc, rows, bound.len())?;
@@ -78,7 +84,7 @@ fn no_uses(alloc: Global, rows: &[Row], count: usize) -> Result<Uses, AllocError
 }
 
 /// A list of so many rows or keys that have no row.
-fn nothing(alloc: Global, count: usize) -> Result<Vec<Option<usize>>, AllocError>
+fn nothing(alloc: Global, count: usize) -> Result<Vec<Option<u32>>, AllocError>
     ensures { IfOk result (λ v. v.items ≡ replicate count None) }
 {
     vec![in alloc; None; count]
@@ -93,6 +99,7 @@ fn pass_rows(
     uses: &mut Uses,
     first: &mut Option<CheckCause>,
 ) -> Result<(), AllocError>
+    requires few { length rows.now ≤ MOST }
     requires names { AreNames rows.now (length bound.old.items) }
     requires held { AreHeld rows.now 0 held.old.items }
     requires fresh { IsFresh 0 bound.old.items }
@@ -121,6 +128,7 @@ fn pass(
     first: &mut Option<CheckCause>,
     s: usize,
 ) -> Result<(), AllocError>
+    requires few { length rows.now ≤ MOST }
     requires row { s < length rows.now }
     requires names { AreNames rows.now (length bound.old.items) }
     requires untaken { IsOpen rows.now s s untaken.old.items }
@@ -156,6 +164,7 @@ fn take(
     first: &mut Option<CheckCause>,
     s: usize,
 )
+    requires few { length rows.now ≤ MOST }
     requires row { s < length rows.now }
     requires names { AreNames rows.now (length bound.old.items) }
     requires untaken { IsOpen rows.now s s untaken.old.items }
@@ -199,6 +208,7 @@ fn enter(
     first: &mut Option<CheckCause>,
     s: usize,
 )
+    requires few { length rows.now ≤ MOST }
     requires row { s < length rows.now }
     requires names { AreNames rows.now (length bound.old.items) }
     requires untaken { IsOpen rows.now s s untaken.now }
@@ -284,6 +294,7 @@ fn enter_row(
     s: usize,
     b: usize,
 )
+    requires few { length rows.now ≤ MOST }
     requires row { s < length rows.now }
     requires inside { b < s }
     requires behind { (at rows.now s).first ≤ b }
@@ -314,6 +325,7 @@ fn bind(
     s: usize,
     b: usize,
 )
+    requires few { length rows.now ≤ MOST }
     requires row { s < length rows.now }
     requires inside { b < s }
     requires held { AreHeld rows.now s held.now }
@@ -341,8 +353,8 @@ fn bind(
             note_second(first, rows, b, earlier);
         } else {
             bound[name] = Some(Bound {
-                scope: s,
-                binder: b,
+                scope: s as u32,
+                binder: b as u32,
             });
             if let Some(key) = sought(rows[s].node, name) {
                 resolve(rows, held, uses, s, key, b);
@@ -364,7 +376,9 @@ fn note_second(first: &mut Option<CheckCause>, rows: &[Row], b: usize, earlier: 
 /// Gives the uses of this key within the scope that wait for a binder this one. What is yet in its own scope and does
 /// not see that goes on waiting. Takes no memory.
 fn resolve(rows: &[Row], held: &[bool], uses: &mut Uses, s: usize, key: usize, b: usize)
+    requires few { length rows.now ≤ MOST }
     requires row { s < length rows.now }
+    requires binder { b < length rows.now }
     requires held { AreHeld rows.now s held.now }
     requires key { key < length uses.old.last.items }
     requires waiting { AreWaiting rows.now s (length uses.old.last.items)
@@ -377,8 +391,8 @@ fn resolve(rows: &[Row], held: &[bool], uses: &mut Uses, s: usize, key: usize, b
     let first = rows[s].first as usize;
     let mut behind = None;
     while let Some(u) = not_before(first, use_before(uses, key, behind)) {
-        if is_outside(rows, held, s, u) {
-            give(rows, uses, s, key, behind, u, b);
+        if is_outside(rows, held, s, u as usize) {
+            give(rows, uses, s, key, behind, u as usize, b);
         } else {
             behind = Some(u);
         }
@@ -395,13 +409,13 @@ fn is_outside(rows: &[Row], held: &[bool], s: usize, u: usize) -> bool
 }
 
 /// The last use of this key that waits, before this one if there is one. Takes no memory.
-fn use_before(uses: &Uses, key: usize, behind: Option<usize>) -> Option<usize>
+fn use_before(uses: &Uses, key: usize, behind: Option<u32>) -> Option<u32>
     requires key { key < length uses.now.last.items }
     requires behind { (l : ℕ) → behind ≡ Some l → l < length uses.now.earlier.items }
     ensures { result ≡ names.use_before uses.now.last.items uses.now.earlier.items key behind }
 {
     match behind {
-        Some(later) => uses.earlier[later],
+        Some(later) => uses.earlier[later as usize],
         None => uses.last[key],
     }
 }
@@ -413,11 +427,13 @@ fn give(
     uses: &mut Uses,
     s: usize,
     key: usize,
-    behind: Option<usize>,
+    behind: Option<u32>,
     u: usize,
     b: usize,
 )
+    requires few { length rows.now ≤ MOST }
     requires row { s < length rows.now }
+    requires binder { b < length rows.now }
     requires key { key < length uses.old.last.items }
     requires waiting { AreWaiting rows.now s (length uses.old.last.items)
         uses.old.binders.items uses.old.last.items uses.old.earlier.items }
@@ -428,19 +444,19 @@ fn give(
         uses.new.binders.items uses.new.last.items uses.new.earlier.items }
 {
     let earlier = uses.earlier[u];
-    uses.binders[u] = Some(b);
+    uses.binders[u] = Some(b as u32);
     match behind {
-        Some(later) => uses.earlier[later] = earlier,
+        Some(later) => uses.earlier[later as usize] = earlier,
         None => uses.last[key] = earlier,
     }
 }
 
 /// The use, if it is not before this row.
-fn not_before(first: usize, last: Option<usize>) -> Option<usize>
+fn not_before(first: usize, last: Option<u32>) -> Option<u32>
     ensures { result ≡ names.not_before first last }
 {
     match last {
-        Some(u) if first <= u => Some(u),
+        Some(u) if first <= u as usize => Some(u),
         _ => None,
     }
 }
@@ -450,13 +466,14 @@ fn in_scope(scope: usize, bound: Option<Bound>) -> Option<usize>
     ensures { result ≡ names.in_scope scope bound }
 {
     match bound {
-        Some(bound) if bound.scope == scope => Some(bound.binder),
+        Some(bound) if bound.scope as usize == scope => Some(bound.binder as usize),
         _ => None,
     }
 }
 
 /// The row waits for its binder, if it uses a name. Takes no memory.
 fn wait(rows: &[Row], uses: &mut Uses, s: usize)
+    requires few { length rows.now ≤ MOST }
     requires row { s < length rows.now }
     requires key { (x : ℕ) → names.key_of (at rows.now s).node ≡ Some x → x < length uses.old.last.items }
     requires none { get_or uses.old.binders.items s None ≡ None }
@@ -468,7 +485,7 @@ fn wait(rows: &[Row], uses: &mut Uses, s: usize)
 {
     if let Some(key) = key_of(rows[s].node) {
         uses.earlier[s] = uses.last[key];
-        uses.last[key] = Some(s);
+        uses.last[key] = Some(s as u32);
     }
 }
 

@@ -27,7 +27,7 @@ use id_value::Comparison;
 pub fn note_rows(
     first: &mut Option<CheckCause>,
     rows: &[Row],
-    binders: &[Option<usize>],
+    binders: &[Option<u32>],
     kinds: &[Option<Kind>],
     tallies: &[Tally],
     counts: &[Option<u32>],
@@ -51,7 +51,7 @@ pub fn note_rows(
 fn note_row(
     first: &mut Option<CheckCause>,
     rows: &[Row],
-    binders: &[Option<usize>],
+    binders: &[Option<u32>],
     kinds: &[Option<Kind>],
     tallies: &[Tally],
     counts: &[Option<u32>],
@@ -123,7 +123,7 @@ fn note_row(
 }
 
 /// Notes a name without binder. Takes no memory.
-fn note_unknown(first: &mut Option<CheckCause>, binder: Option<usize>, place: usize)
+fn note_unknown(first: &mut Option<CheckCause>, binder: Option<u32>, place: usize)
     ensures { Notes first.old (unknown binder place) first.new }
 {
     if binder.is_none() {

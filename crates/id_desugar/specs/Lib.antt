@@ -1,5 +1,6 @@
 -- What public clauses cite.
 pub mod Ends
+pub mod Lists
 pub mod Regions
 -- For use inside.
 pub mod Gathering

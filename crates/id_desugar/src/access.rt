@@ -38,10 +38,7 @@ pub fn row_at(checked: &Checked, n: usize) -> Row
 pub fn binder_at(checked: &Checked, n: usize) -> Option<usize>
     ensures { result ≡ programs.binder checked.now n }
 {
-    match checked.binders.get(n) {
-        Some(binder) => *binder,
-        None => None,
-    }
+    checked.binder(n)
 }
 
 /// The binder of the value that a row uses, if it uses one: a procedure's name is none of a value. First values of the
@@ -96,27 +93,27 @@ pub fn is_opening(node: Node) -> bool
 }
 
 /// The row where what begins at a row ends. Takes no memory.
-pub fn end_of(checked: &Checked, ends: &[Option<usize>], head: usize) -> usize
+pub fn end_of(checked: &Checked, ends: &[Option<u32>], head: usize) -> usize
     requires ends { AreEnds checked.now ends.now }
     requires within { head < length (programs.rows checked.now) }
     ensures { result ≡ end_of checked.now head }
 {
     let _ = checked;
     match ends.get(head) {
-        Some(end) => end.unwrap_or(0),
+        Some(end) => end.unwrap_or(0) as usize,
         None => 0,
     }
 }
 
 /// The row of the `next` of the variable at a row. Takes no memory.
-pub fn next_of(checked: &Checked, nexts: &[Option<usize>], variable: usize) -> usize
+pub fn next_of(checked: &Checked, nexts: &[Option<u32>], variable: usize) -> usize
     requires nexts { AreNexts checked.now nexts.now }
     requires within { variable < length (programs.rows checked.now) }
     ensures { result ≡ next_of checked.now variable }
 {
     let _ = checked;
     match nexts.get(variable) {
-        Some(next) => next.unwrap_or(0),
+        Some(next) => next.unwrap_or(0) as usize,
         None => 0,
     }
 }

@@ -11,32 +11,41 @@ use id_check::Checked;
 use id_parts::Node;
 use std::alloc::{AllocError, Global};
 
+/// The most rows that are noted. No text comes near it.
+pub const MOST: usize = 0xffff_ffff;
+
 /// For each row the row where what begins there ends, if something does.
-pub fn find_ends(alloc: Global, checked: &Checked) -> Result<Vec<Option<usize>>, AllocError>
+pub fn find_ends(alloc: Global, checked: &Checked) -> Result<Vec<Option<u32>>, AllocError>
     ensures { IfOk result (λ v. AreEnds checked.now v.items) }
 {
     let count = checked.table.rows.len();
+    if count > MOST {
+        return Err(AllocError);
+    }
     let mut ends = nothing(alloc, count)?;
     for n in 0..count {
-        note(&mut ends, n, begun_at(row_at(checked, n).node));
+        note(&mut ends, n as u32, begun_at(row_at(checked, n).node));
     }
     Ok(ends)
 }
 
 /// For each row of a variable the row of its `next`.
-pub fn find_nexts(alloc: Global, checked: &Checked) -> Result<Vec<Option<usize>>, AllocError>
+pub fn find_nexts(alloc: Global, checked: &Checked) -> Result<Vec<Option<u32>>, AllocError>
     ensures { IfOk result (λ v. AreNexts checked.now v.items) }
 {
     let count = checked.table.rows.len();
+    if count > MOST {
+        return Err(AllocError);
+    }
     let mut nexts = nothing(alloc, count)?;
     for n in 0..count {
-        note(&mut nexts, n, variable_at(checked, count, n));
+        note(&mut nexts, n as u32, variable_at(checked, count, n));
     }
     Ok(nexts)
 }
 
 /// So many rows for which nothing is noted.
-pub fn nothing(alloc: Global, count: usize) -> Result<Vec<Option<usize>>, AllocError>
+pub fn nothing(alloc: Global, count: usize) -> Result<Vec<Option<u32>>, AllocError>
     ensures { IfOk result (λ v. v.items ≡ replicate count None) }
 {
     vec![in alloc; None; count]
@@ -70,7 +79,7 @@ fn variable_at(checked: &Checked, count: usize, n: usize) -> Option<usize>
 }
 
 /// Notes the row n for this row, if there is one and nothing is noted for it yet. Takes no memory.
-fn note(noted: &mut Vec<Option<usize>>, n: usize, row: Option<usize>)
+fn note(noted: &mut Vec<Option<u32>>, n: u32, row: Option<usize>)
     ensures long { length noted.new.items ≡ length noted.old.items }
     ensures each { (h : ℕ) → h < length noted.old.items
         → IsNoted n row h (get_or noted.old.items h None) (get_or noted.new.items h None) }

@@ -15,8 +15,8 @@ ghost use Rattle.id_parts.specs.Tables as table;
 
 use crate::access::{end_of, is_opening, is_variable, next_of, row_at, used_at};
 use crate::ends::begun_at;
+use crate::list::Imports;
 use id_check::Checked;
-use id_list::Sequence;
 use id_parts::Node;
 use std::alloc::{AllocError, Global};
 
@@ -34,9 +34,9 @@ struct Span {
 pub fn all_imports(
     alloc: Global,
     checked: &Checked,
-    ends: &[Option<usize>],
-    nexts: &[Option<usize>],
-) -> Result<Vec<Sequence<usize>>, AllocError>
+    ends: &[Option<u32>],
+    nexts: &[Option<u32>],
+) -> Result<Vec<Imports>, AllocError>
     requires ends { AreEnds checked.now ends.now }
     requires nexts { AreNexts checked.now nexts.now }
     ensures { IfOk result (λ v. v.items ≡ all_imports checked.now) }
@@ -54,8 +54,8 @@ pub fn all_imports(
 fn all_uses(
     alloc: Global,
     checked: &Checked,
-    ends: &[Option<usize>],
-) -> Result<Vec<Sequence<usize>>, AllocError>
+    ends: &[Option<u32>],
+) -> Result<Vec<Imports>, AllocError>
     requires ends { AreEnds checked.now ends.now }
     ensures { IfOk result (λ v. AreFilled checked.now (length (programs.rows checked.now)) v.items) }
 {
@@ -69,12 +69,12 @@ fn all_uses(
 }
 
 /// So many empty lists.
-fn none_yet(alloc: Global, count: usize) -> Result<Vec<Sequence<usize>>, AllocError>
+fn none_yet(alloc: Global, count: usize) -> Result<Vec<Imports>, AllocError>
     ensures { IfOk result (λ v. (length v.items ≡ count) × ((h : _) → get_or v.items h [] ≡ [])) }
 {
     let mut lists = Vec::with_capacity(alloc, count)?;
     for _row in 0..count {
-        lists.push(Sequence::new(Vec::new(alloc)))?;
+        lists.push(Imports::none())?;
     }
     Ok(lists)
 }
@@ -83,8 +83,8 @@ fn none_yet(alloc: Global, count: usize) -> Result<Vec<Sequence<usize>>, AllocEr
 fn fill(
     alloc: Global,
     checked: &Checked,
-    ends: &[Option<usize>],
-    lists: &mut Vec<Sequence<usize>>,
+    ends: &[Option<u32>],
+    lists: &mut Vec<Imports>,
     marks: &mut Vec<usize>,
     end: usize,
 ) -> Result<(), AllocError>
@@ -105,13 +105,14 @@ fn fill(
             mark: end + 1,
         };
         let list = gather(alloc, checked, ends, lists.as_slice(), marks, span)?;
-        lists[opening] = Sequence::new(list);
+        let uses = Imports::new(alloc, list)?;
+        lists[opening] = uses;
     }
     Ok(())
 }
 
 /// The row where the construct begins that ends at a row, if one does. Takes no memory.
-fn opening_ended(checked: &Checked, ends: &[Option<usize>], end: usize) -> Option<usize>
+fn opening_ended(checked: &Checked, ends: &[Option<u32>], end: usize) -> Option<usize>
     requires ends { AreEnds checked.now ends.now }
     ensures some { IfSome result (λ s. (s < length (programs.rows checked.now)) × (end_row checked.now s ≡ Some end)
         × is_opening (at (programs.rows checked.now) s).node ≡ true) }
@@ -125,12 +126,22 @@ fn opening_ended(checked: &Checked, ends: &[Option<usize>], end: usize) -> Optio
 }
 
 /// Whether a construct begins at a row and ends at the row `end`. Takes no memory.
-fn is_ended(checked: &Checked, ends: &[Option<usize>], opening: usize, end: usize) -> bool
+fn is_ended(checked: &Checked, ends: &[Option<u32>], opening: usize, end: usize) -> bool
     requires ends { AreEnds checked.now ends.now }
     ensures { IsTrue result ↔ (opening < length (programs.rows checked.now)) × (end_row checked.now opening ≡ Some end)
         × is_opening (at (programs.rows checked.now) opening).node ≡ true }
 {
-    opening < ends.len() && ends[opening] == Some(end) && is_opening(row_at(checked, opening).node)
+    opening < ends.len() && is_row(ends[opening], end) && is_opening(row_at(checked, opening).node)
+}
+
+/// Whether it is the row.
+fn is_row(row: Option<u32>, wanted: usize) -> bool
+    ensures { IsTrue result ↔ (row ≡ Some wanted) }
+{
+    match row {
+        Some(row) => row as usize == wanted,
+        None => false,
+    }
 }
 
 /// Puts a row's imports in the place of what it uses: a loop's, without its own first values, and those of its
@@ -138,9 +149,9 @@ fn is_ended(checked: &Checked, ends: &[Option<usize>], opening: usize, end: usiz
 fn turn(
     alloc: Global,
     checked: &Checked,
-    ends: &[Option<usize>],
-    nexts: &[Option<usize>],
-    lists: &mut Vec<Sequence<usize>>,
+    ends: &[Option<u32>],
+    nexts: &[Option<u32>],
+    lists: &mut Vec<Imports>,
     marks: &mut Vec<usize>,
     row: usize,
 ) -> Result<(), AllocError>
@@ -158,7 +169,8 @@ fn turn(
     match this.node {
         Node::LoopHead { .. } => {
             let list = imports_of_loop(alloc, checked, ends, lists.as_slice(), marks, row)?;
-            lists[row] = Sequence::new(list);
+            let imports = Imports::new(alloc, list)?;
+            lists[row] = imports;
         }
         Node::Switches { .. } => {
             let list = handed_on(
@@ -169,7 +181,8 @@ fn turn(
                 row,
                 this.block as usize,
             )?;
-            lists[row] = Sequence::new(list);
+            let imports = Imports::new(alloc, list)?;
+            lists[row] = imports;
         }
         _ => {}
     }
@@ -180,8 +193,8 @@ fn turn(
 fn imports_of_loop(
     alloc: Global,
     checked: &Checked,
-    ends: &[Option<usize>],
-    lists: &[Sequence<usize>],
+    ends: &[Option<u32>],
+    lists: &[Imports],
     marks: &mut Vec<usize>,
     head: usize,
 ) -> Result<Vec<usize>, AllocError>
@@ -207,8 +220,8 @@ fn imports_of_loop(
 fn handed_on(
     alloc: Global,
     checked: &Checked,
-    nexts: &[Option<usize>],
-    lists: &[Sequence<usize>],
+    nexts: &[Option<u32>],
+    lists: &[Imports],
     switches: usize,
     head: usize,
 ) -> Result<Vec<usize>, AllocError>
@@ -229,7 +242,7 @@ fn handed_on(
 fn next_rows(
     alloc: Global,
     checked: &Checked,
-    nexts: &[Option<usize>],
+    nexts: &[Option<u32>],
     head: usize,
 ) -> Result<Vec<usize>, AllocError>
     requires nexts { AreNexts checked.now nexts.now }
@@ -250,8 +263,8 @@ fn next_rows(
 fn gather(
     alloc: Global,
     checked: &Checked,
-    ends: &[Option<usize>],
-    lists: &[Sequence<usize>],
+    ends: &[Option<u32>],
+    lists: &[Imports],
     marks: &mut Vec<usize>,
     span: Span,
 ) -> Result<Vec<usize>, AllocError>
@@ -276,8 +289,8 @@ fn gather(
 /// Notes what a row of the span uses, and where an inner construct begins, what that uses. Gives the row to go on with.
 fn note_row(
     checked: &Checked,
-    ends: &[Option<usize>],
-    lists: &[Sequence<usize>],
+    ends: &[Option<u32>],
+    lists: &[Imports],
     marks: &mut Vec<usize>,
     list: &mut Vec<usize>,
     span: Span,
@@ -308,7 +321,7 @@ fn note_row(
 }
 
 /// The row where the construct ends that begins at a row, or 0. Takes no memory.
-fn inner_end(checked: &Checked, ends: &[Option<usize>], row: usize) -> usize
+fn inner_end(checked: &Checked, ends: &[Option<u32>], row: usize) -> usize
     requires ends { AreEnds checked.now ends.now }
     requires within { row < length (programs.rows checked.now) }
     ensures { result ≡ 0 ⊎ ((end_row checked.now row ≡ Some result)
@@ -318,7 +331,7 @@ fn inner_end(checked: &Checked, ends: &[Option<usize>], row: usize) -> usize
         return 0;
     }
     match ends[row] {
-        Some(end) => end,
+        Some(end) => end as usize,
         None => 0,
     }
 }

@@ -7,9 +7,9 @@ ghost use Rattle.id_desugar.specs.Regions.{all_imports, order_of};
 
 use crate::ends::{find_ends, find_nexts};
 use crate::imports::all_imports;
+use crate::list::Imports;
 use crate::order::order_of;
 use id_check::Checked;
-use id_list::Sequence;
 use std::alloc::{AllocError, Global};
 
 /// A checked program, lent, with the order in which its rows are made, and by row where what begins there ends, the
@@ -17,12 +17,12 @@ use std::alloc::{AllocError, Global};
 #[derive(Drop)]
 pub struct Kernel<'a> {
     pub checked: &'a Checked,
-    pub order: Vec<usize>,
+    pub order: Vec<u32>,
     /// For each row the row where what begins there ends, if something does.
-    pub ends: Vec<Option<usize>>,
+    pub ends: Vec<Option<u32>>,
     /// For each row of a variable of a loop the row of its `next`.
-    pub nexts: Vec<Option<usize>>,
-    pub imports: Vec<Sequence<usize>>,
+    pub nexts: Vec<Option<u32>>,
+    pub imports: Vec<Imports>,
     pub ghost ordered: { order.items ≡ order_of checked.now } by { Prim.hlevel props },
     pub ghost ended: { AreEnds checked.now ends.items } by { Prim.hlevel props },
     pub ghost nexted: { AreNexts checked.now nexts.items } by { Prim.hlevel props },

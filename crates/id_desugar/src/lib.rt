@@ -12,8 +12,10 @@ mod access;
 mod ends;
 mod imports;
 mod kernel;
+mod list;
 mod order;
 
 pub use access::{binder_at, end_of, next_of, row_at};
 pub use ends::find_ends;
 pub use kernel::{Kernel, regions};
+pub use list::Imports;

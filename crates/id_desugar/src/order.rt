@@ -6,7 +6,7 @@ ghost use Rattle.id_desugar.specs.Gathering.{AreChains};
 ghost use Rattle.id_desugar.specs.Regions.{in_block, in_procedure, loops_by, order_of, those};
 
 use crate::access::{is_loop_head, row_at};
-use crate::ends::nothing;
+use crate::ends::{MOST, nothing};
 use id_check::Checked;
 use std::alloc::{AllocError, Global};
 
@@ -14,19 +14,22 @@ use std::alloc::{AllocError, Global};
 #[derive(Drop)]
 struct Chains {
     /// By head, the first row of its block.
-    firsts: Vec<Option<usize>>,
+    firsts: Vec<Option<u32>>,
     /// For each row the next of its block.
-    nexts: Vec<Option<usize>>,
+    nexts: Vec<Option<u32>>,
 }
 
 /// The order in which the rows are made: the last, then those of procedures, then those of each loop's block.
-pub fn order_of(alloc: Global, checked: &Checked) -> Result<Vec<usize>, AllocError>
+pub fn order_of(alloc: Global, checked: &Checked) -> Result<Vec<u32>, AllocError>
     ensures { IfOk result (λ v. v.items ≡ order_of checked.now) }
 {
     let count = checked.table.rows.len();
+    if count > MOST {
+        return Err(AllocError);
+    }
     let mut order = Vec::with_capacity(alloc, count)?;
     if count > 0 {
-        order.push(count - 1)?;
+        order.push((count - 1) as u32)?;
         push_procedures(checked, &mut order, count - 1)?;
         push_loops(alloc, checked, &mut order, count - 1)?;
     }
@@ -34,12 +37,13 @@ pub fn order_of(alloc: Global, checked: &Checked) -> Result<Vec<usize>, AllocErr
 }
 
 /// Those of the first `last` rows that stand in blocks of procedures.
-fn push_procedures(checked: &Checked, order: &mut Vec<usize>, last: usize) -> Result<(), AllocError>
+fn push_procedures(checked: &Checked, order: &mut Vec<u32>, last: usize) -> Result<(), AllocError>
+    requires few { last ≤ MOST }
     ensures { OnOk result (order.new.items ≡ order.old.items ++ those (in_procedure checked.now) last) }
 {
     for row in 0..last {
         if is_in_procedure(checked, row) {
-            order.push(row)?;
+            order.push(row as u32)?;
         }
     }
     Ok(())
@@ -56,9 +60,10 @@ fn is_in_procedure(checked: &Checked, row: usize) -> bool
 fn push_loops(
     alloc: Global,
     checked: &Checked,
-    order: &mut Vec<usize>,
+    order: &mut Vec<u32>,
     last: usize,
 ) -> Result<(), AllocError>
+    requires few { last ≤ MOST }
     requires last { last + 1 ≡ length (rows checked.now) }
     ensures { OnOk result (order.new.items ≡ order.old.items ++ loops_by checked.now last last) }
 {
@@ -75,7 +80,7 @@ fn push_loops(
 fn push_block(
     checked: &Checked,
     chains: &Chains,
-    order: &mut Vec<usize>,
+    order: &mut Vec<u32>,
     last: usize,
     head: usize,
 ) -> Result<(), AllocError>
@@ -89,13 +94,14 @@ fn push_block(
     let mut at = chains.firsts[head];
     while let Some(row) = at {
         order.push(row)?;
-        at = chains.nexts[row];
+        at = chains.nexts[row as usize];
     }
     Ok(())
 }
 
 /// The chains of the first `last` rows.
 fn find_chains(alloc: Global, checked: &Checked, last: usize) -> Result<Chains, AllocError>
+    requires few { last ≤ MOST }
     requires last { last + 1 ≡ length (rows checked.now) }
     ensures { IfOk result (λ c. AreChains checked.now 0 last c.firsts.items c.nexts.items) }
 {
@@ -114,6 +120,7 @@ fn find_chains(alloc: Global, checked: &Checked, last: usize) -> Result<Chains, 
 
 /// Puts a row at the beginning of the chain of its block. Takes no memory.
 fn link(checked: &Checked, chains: &mut Chains, last: usize, row: usize)
+    requires few { last ≤ MOST }
     requires last { last + 1 ≡ length (rows checked.now) }
     requires row { row < last }
     requires chains { AreChains checked.now (row + 1) last chains.old.firsts.items chains.old.nexts.items }
@@ -122,5 +129,5 @@ fn link(checked: &Checked, chains: &mut Chains, last: usize, row: usize)
     let _ = last;
     let block = row_at(checked, row).block as usize;
     chains.nexts[row] = chains.firsts[block];
-    chains.firsts[block] = Some(row);
+    chains.firsts[block] = Some(row as u32);
 }

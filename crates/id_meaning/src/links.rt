@@ -359,9 +359,5 @@ pub fn beyond(checked: &Checked, n: usize, node: Node) -> Option<usize>
 pub fn binder_of(checked: &Checked, n: usize) -> Option<usize>
     ensures { result ≡ binder checked.now n }
 {
-    if n < checked.binders.len() {
-        checked.binders[n]
-    } else {
-        None
-    }
+    checked.binder(n)
 }

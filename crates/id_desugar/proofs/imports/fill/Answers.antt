@@ -4,11 +4,11 @@ use Rattle.id_desugar.specs.Gathering.{AreGathered}
 use Rattle.id_desugar.proofs.FilledLemmas.{AreFilled-gathered, AreFilled-set}
 use Rattle.id_desugar.proofs.imports.fill.Goals as goal
 
-pub returns-in_ok-list-clause-lists : goal.returns-in_ok-list-clause-lists
-returns-in_ok-list-clause-lists c =
+pub returns-in_ok-uses-clause-lists : goal.returns-in_ok-uses-clause-lists
+returns-in_ok-uses-clause-lists c =
     let s = c.in-Some.opening in
     let some = c.in-Some.ensures.some in
-    AreFilled-set c.args.checked.now c.args.end s c.args.lists.now.items c.new.result c.requires.lists some.0 some.1 some.2 (c.new.ensures
+    AreFilled-set c.args.checked.now c.args.end s c.args.lists.now.items c.in_ok-uses.uses c.requires.lists some.0 some.1 some.2 (c.in_ok-uses.ensures
     ∙ c.in_ok-list.ensures.list)
 
 pub gather-requires-clause-lists : goal.gather-requires-clause-lists
