@@ -16,7 +16,7 @@ use itoa::Buffer;
 use std::alloc::{AllocError, Global};
 
 /// About how many bytes a line takes.
-const LINE_BYTES: usize = 64;
+const LINE_BYTES: usize = 44;
 
 /// The listing of a graph of this text: a line for each instruction, in order, each ending in LF.
 pub fn list(alloc: Global, graph: &Graph, text: &str) -> Result<String, AllocError>
@@ -42,16 +42,19 @@ fn write_lines(
         (string_bytes out.new ≡ string_bytes out.old ++ lines_text lines.now 0 instrs.now) }
 {
     let mut row = Vec::new(alloc);
+    let mut near = 0;
     for (number, instr) in instrs.iter().enumerate() {
-        write_line(out, &mut row, lines, number, instr)?;
+        write_line(out, &mut row, &mut near, lines, number, instr)?;
     }
     Ok(())
 }
 
-/// Appends the line of an instruction. `row` serves to put destinations in order.
+/// Appends the line of an instruction. `row` serves to put destinations in order, and `near` is the line of the last
+/// place.
 fn write_line(
     out: &mut String,
     row: &mut Vec<Dest>,
+    near: &mut u32,
     lines: &Lines<'_>,
     number: usize,
     instr: &Instr,
@@ -60,7 +63,7 @@ fn write_line(
     ensures { OnOk result
         (string_bytes out.new ≡ string_bytes out.old ++ line_text lines.now number instr.now) }
 {
-    write_head(out, lines, number, instr)?;
+    write_head(out, near, lines, number, instr)?;
     out.push_str(" ->")?;
     write_sorted(out, row, instr.dests.as_slice())?;
     write_false(out, row, instr)?;
@@ -80,9 +83,10 @@ fn write_false(out: &mut String, row: &mut Vec<Dest>, instr: &Instr) -> Result<(
     Ok(())
 }
 
-/// Appends an instruction with its number and place.
+/// Appends an instruction with its number and place; `near` is the line of the last place.
 fn write_head(
     out: &mut String,
+    near: &mut u32,
     lines: &Lines<'_>,
     number: usize,
     instr: &Instr,
@@ -94,17 +98,23 @@ fn write_head(
     write_number(out, number as u64)?;
     out.push_str(" ")?;
     write_op(out, instr.op)?;
-    write_place(out, lines, instr.place)?;
+    write_place(out, near, lines, instr.place)?;
     Ok(())
 }
 
-/// Appends a place after a space and `@`.
-fn write_place(out: &mut String, lines: &Lines<'_>, place: usize) -> Result<(), AllocError>
+/// Appends a place after a space and `@`; `near` is the line of the last place, and then of this one.
+fn write_place(
+    out: &mut String,
+    near: &mut u32,
+    lines: &Lines<'_>,
+    place: usize,
+) -> Result<(), AllocError>
     requires { place ≤ length lines.now }
     ensures { OnOk result
         (string_bytes out.new ≡ string_bytes out.old ++ place_text lines.now place) }
 {
-    let (line, column) = lines.line_col(place);
+    let (line, column) = lines.line_col_near(place, *near);
+    *near = line;
     write_after(out, " @", line)?;
     write_after(out, ":", column)
 }

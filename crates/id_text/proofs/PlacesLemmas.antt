@@ -106,6 +106,14 @@ start_of-column text (suc at) fits =
 pub line_of_le : (text : List ℕ) (at : ℕ) → at ≤ length text → line_of text at ≤ at + 1
 line_of_le text at inside = omega (arith, count_by-le-length is_line_end (take at text), length-take-le at text inside)
 
+-- the first of a rising list that are up to a place are all of them, where the last of them is and the next one is not
+pub until_is : (starts : List ℕ) (at near : ℕ) → IsNonDecreasing starts → 0 < near → near ≤ length starts → get_or starts (near - 1) 0 ≤ at
+    → (near < length starts → at < get_or starts near 0) → near ≡ prefix_len (λ s. leb s at) starts
+until_is starts at near rises some fits last next =
+    sym (prefix_len_is (λ s. leb s at) starts near 0 fits
+    (λ k below. let up = rises k (near - 1) 0 (omega arith) (omega arith) in le-leb (get_or starts k 0) at (omega arith))
+    (λ more. let above = next more in grind (arith, nat_tests)))
+
 -- what the search among the starts of a text finds: the line of the place, and where it starts
 pub record IsFound (text starts : List ℕ) (at line : ℕ) : Type 0 where
   pub within : line - 1 < length starts

@@ -1,6 +1,6 @@
 //! The line and column of a place in a text.
 
-ghost use Rattle.std.specs.Prelude.{◌≡◌, ◌≤◌, length, nat_le, IfOk};
+ghost use Rattle.std.specs.Prelude.{◌≡◌, ◌≤◌, length, nat_le, IfOk, IsTrue};
 ghost use Rattle.std.specs.List.{prefix_len};
 ghost use Rattle.std.specs.List.Sorted.{IsNonDecreasing};
 ghost use Rattle.id_text.specs.Places.{is_line_end, line_of, column_of, line_starts};
@@ -74,8 +74,17 @@ impl<'a> Lines<'a> {
         ensures line { result.0 ≡ line_of self.now at }
         ensures column { result.1 ≡ column_of self.now at }
     {
+        self.line_col_near(at, 0)
+    }
+
+    /// What `line_col` gives for the text, and at once where the place is on the line `near`. Takes no memory.
+    pub fn line_col_near(&self, at: usize, near: u32) -> (u32, u32)
+        requires { at ≤ length self.now }
+        ensures line { result.0 ≡ line_of self.now at }
+        ensures column { result.1 ≡ column_of self.now at }
+    {
         let starts = self.starts.as_slice();
-        let line = starts_until(starts, at);
+        let line = starts_near(starts, at, near as usize);
         let column = at - starts[line - 1] + 1;
         (line as u32, column as u32)
     }
@@ -93,6 +102,35 @@ fn starts_of(alloc: Global, text: &[u8]) -> Result<Vec<usize>, AllocError>
         }
     }
     Ok(starts)
+}
+
+/// How many of the rising starts are at most `at`, which may be `near`.
+fn starts_near(starts: &[usize], at: usize, near: usize) -> usize
+    requires { IsNonDecreasing starts.now }
+    ensures { result ≡ prefix_len (λ s. nat_le s at) starts.now }
+{
+    if are_until(starts, at, near) {
+        near
+    } else {
+        starts_until(starts, at)
+    }
+}
+
+/// Whether just the first `near` of the rising starts, of which there is one at least, are at most `at`.
+fn are_until(starts: &[usize], at: usize, near: usize) -> bool
+    requires { IsNonDecreasing starts.now }
+    ensures { IsTrue result → near ≡ prefix_len (λ s. nat_le s at) starts.now }
+{
+    if near == 0 || near > starts.len() || starts[near - 1] > at {
+        return false;
+    }
+    if near == starts.len() {
+        return true;
+    }
+    if starts[near] <= at {
+        return false;
+    }
+    true
 }
 
 /// How many of the rising starts are at most `at`.
