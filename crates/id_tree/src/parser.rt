@@ -44,8 +44,8 @@ ghost use Rattle.id_tree.specs.Readers.{
 };
 
 use crate::part::{
-    Part, array, binary, binding, block, call, conditional, fetch, name, next, number, store,
-    truth, unary, whole_loop,
+    Part, array, binary, binding, block, call, conditional, fetch, fitted, name, next, number,
+    store, truth, unary, whole_loop,
 };
 use crate::tokens::{
     Word, begins_with, begins_with_sign, comparison_of, enter, expect_name, expect_word, is_sign,
@@ -482,7 +482,7 @@ fn parse_statements(
         height = height.max(own);
         rest = behind;
     }
-    Ok((statements, height, rest))
+    Ok((fitted(statements), height, rest))
 }
 
 /// `stmt = NAME "=" expr ";" | store`, or `next` in a loop, with the greatest height of a part.
@@ -684,7 +684,7 @@ fn parse_some_arguments(
         args.push(arg.into_expr())?;
         rest = behind;
     }
-    Ok((args, height, rest))
+    Ok((fitted(args), height, rest))
 }
 
 /// The word behind the statements.

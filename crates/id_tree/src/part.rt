@@ -305,3 +305,17 @@ pub fn whole_loop(
         height,
     )
 }
+
+/// A list of fewer things is short.
+const FEW: usize = 32;
+
+/// The list. A short one, of which a text may have very many, keeps no room for more.
+pub fn fitted<T>(list: Vec<T>) -> Vec<T>
+    ensures { result.items ≡ list.items }
+{
+    let mut list = list;
+    if list.len() < FEW {
+        list.shrink_to_fit();
+    }
+    list
+}

@@ -17,6 +17,7 @@ ghost use Rattle.id_tree.specs.Readers.{Declares, Undeclares, Heads};
 ghost use Rattle.id_tree.specs.Readers.{Beheads};
 
 use crate::parser::parse_enclosed;
+use crate::part::fitted;
 use crate::tokens::{
     Word, begins_with, begins_with_sign, expect_end, expect_kind, expect_name, expect_word,
     is_sign, split, unexpected,
@@ -79,7 +80,7 @@ fn parse_def(alloc: Global, tokens: &[Token]) -> Result<(Def, &[Token]), TreeErr
     let (body, rest) = parse_enclosed(alloc, begun, Word::Sign(Symbol::Semicolon), 0)?;
     let def = Def {
         name,
-        params: Sequence::new(params),
+        params: Sequence::new(fitted(params)),
         result,
         body: body.into_expr(),
         place,

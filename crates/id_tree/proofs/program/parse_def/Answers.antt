@@ -26,7 +26,7 @@ returns-in_err-body-clause-err c =
     c.in_ok-params.ensures.ok) c.in_err-body.ensures.err)
 
 pub returns-clause-ok : goal.returns-clause-ok
-returns-clause-ok c = rw (c.new.ensures, c.into_expr.ensures) (
+returns-clause-ok c = rw (c.new.ensures, c.fitted.ensures, c.into_expr.ensures) (
   _,
   Leads-done (At-enclosed (At-heading (λ a k. body_of c.in_ok-name.name a k c.in_ok-name.place)
       (At-name (At-opens c.split.ensures.whole (opens_definition c.requires.begins) 0 (omega arith)) c.in_ok-name.ensures.ok)
