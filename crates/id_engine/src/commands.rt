@@ -74,20 +74,21 @@ fn listing_of(alloc: Global, text: &str) -> Result<String, EngineError>
     ensures not_write { IfErr result (λ e. e ≢ EngineError.Write) }
 {
     match compile(alloc, text) {
-        Ok(compiled) => list_compiled(alloc, &compiled, text),
+        Ok(compiled) => list_compiled(alloc, compiled, text),
         Err(error) => Err(EngineError::Compile(error)),
     }
 }
 
-/// The listing of a compiled text's graph.
-fn list_compiled(alloc: Global, compiled: &Compiled, text: &str) -> Result<String, EngineError>
-    requires program { IsProgramOf text.now compiled.now.checked }
-    requires within { IsPlacedWithin (length text.now) compiled.now.checked }
+/// The listing of a compiled text's graph, for which the program's memory is at hand again.
+fn list_compiled(alloc: Global, compiled: Compiled, text: &str) -> Result<String, EngineError>
+    requires program { IsProgramOf text.now compiled.checked }
+    requires within { IsPlacedWithin (length text.now) compiled.checked }
     requires short { length text.now ≤ 1048576 }
     ensures listing { IfOk result (λ s. IsListingOf text.now (string_bytes s)) }
     ensures memory { IfErr result (λ e. e ≡ EngineError.Memory) }
 {
-    match list(alloc, compiled.valid().graph(), text) {
+    let valid = compiled.into_valid();
+    match list(alloc, valid.graph(), text) {
         Ok(listing) => Ok(listing),
         Err(_) => Err(EngineError::Memory),
     }

@@ -60,6 +60,14 @@ impl Compiled {
     {
         &self.valid
     }
+
+    /// The program's graph alone: the program gives its memory back.
+    pub fn into_valid(self) -> Valid
+        ensures value { result ≡ self.graph }
+        ensures kept { Schemas self.checked self.graph }
+    {
+        self.valid
+    }
 }
 
 /// Why a text has no graph.
