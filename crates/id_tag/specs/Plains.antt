@@ -32,13 +32,13 @@ structure_of n l h = record { element = element_of n; serial = serial_of n; low 
 
 -- the bounds and the index in the place of a cell, each above its least
 abbrev pub low_of : ℕ → ℤ
-low_of p = pos (p / 2 ^ 52) -ℤ pos (2 ^ 11)
+low_of p = pos (p / 2 ^ 44) -ℤ pos (2 ^ 19)
 
 abbrev pub high_of : ℕ → ℤ
-high_of p = pos (p / 2 ^ 26 % 2 ^ 26) -ℤ pos (2 ^ 25)
+high_of p = pos (p / 2 ^ 22 % 2 ^ 22) -ℤ pos (2 ^ 21)
 
 abbrev pub index_of : ℕ → ℤ
-index_of p = pos (p % 2 ^ 26) -ℤ pos (2 ^ 25)
+index_of p = pos (p % 2 ^ 22) -ℤ pos (2 ^ 21)
 
 -- a cell in small numbers as any cell
 abbrev pub cell_of : PlainCell → Cell

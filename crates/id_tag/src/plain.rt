@@ -184,7 +184,7 @@ impl PlainCell {
     pub fn low(self) -> i32
         ensures { result ≡ low_of self.place }
     {
-        (self.place / 0x10_0000_0000_0000) as i32 - 0x800
+        (self.place / 0x1000_0000_0000) as i32 - 0x8_0000
     }
 
     /// The upper bound of its structure. Takes no memory.
@@ -192,7 +192,7 @@ impl PlainCell {
     pub fn high(self) -> i32
         ensures { result ≡ high_of self.place }
     {
-        (self.place / 0x400_0000 % 0x400_0000) as i32 - 0x200_0000
+        (self.place / 0x40_0000 % 0x40_0000) as i32 - 0x20_0000
     }
 
     /// Its index. Takes no memory.
@@ -200,7 +200,7 @@ impl PlainCell {
     pub fn index(self) -> i32
         ensures { result ≡ index_of self.place }
     {
-        (self.place % 0x400_0000) as i32 - 0x200_0000
+        (self.place % 0x40_0000) as i32 - 0x20_0000
     }
 
     /// The same as any cell. Takes no memory.
@@ -235,7 +235,8 @@ pub fn plain_cell(cell: Cell) -> Option<PlainCell>
     })
 }
 
-/// The cell with this index of the structure of a name, with these bounds, where the numbers are small. Takes no memory.
+/// The cell with this index of the structure of a name, with these bounds, where the numbers are small. Takes no
+/// memory.
 #[inline(always)]
 pub fn plain_cell_in(name: u32, low: i32, high: i32, index: i64) -> Option<PlainCell>
     ensures { IfSome result (λ c. cell_of c ≡ record { structure = structure_of name low high; index = index }) }
@@ -246,7 +247,8 @@ pub fn plain_cell_in(name: u32, low: i32, high: i32, index: i64) -> Option<Plain
     })
 }
 
-/// The bounds of a structure and an index in one number, where they fit in 12, 26 and 26 bits with a sign.
+/// The bounds of a structure and an index in one number, where they fit in 20, 22 and 22 bits with a sign: as
+/// all do of a structure whose lower bound has 20, since no structure has more than 1,000,000 cells.
 #[inline(always)]
 fn place_of(low: i64, high: i64, index: i64) -> Option<u64>
     ensures low { IfSome result (λ p. low_of p ≡ low) }
@@ -254,9 +256,9 @@ fn place_of(low: i64, high: i64, index: i64) -> Option<u64>
     ensures index { IfSome result (λ p. index_of p ≡ index) }
 {
     Some(joined(
-        above(low, 0x800)?,
-        above(high, 0x200_0000)?,
-        above(index, 0x200_0000)?,
+        above(low, 0x8_0000)?,
+        above(high, 0x20_0000)?,
+        above(index, 0x20_0000)?,
     ))
 }
 
@@ -274,17 +276,17 @@ fn above(number: i64, half: u32) -> Option<u64>
     }
 }
 
-/// Numbers of 12, 26 and 26 bits in one.
+/// Numbers of 20, 22 and 22 bits in one.
 #[inline(always)]
 fn joined(first: u64, second: u64, third: u64) -> u64
-    requires first { first < 2 ^ 12 }
-    requires second { second < 2 ^ 26 }
-    requires third { third < 2 ^ 26 }
-    ensures first { result / 2 ^ 52 ≡ first }
-    ensures second { result / 2 ^ 26 % 2 ^ 26 ≡ second }
-    ensures third { result % 2 ^ 26 ≡ third }
+    requires first { first < 2 ^ 20 }
+    requires second { second < 2 ^ 22 }
+    requires third { third < 2 ^ 22 }
+    ensures first { result / 2 ^ 44 ≡ first }
+    ensures second { result / 2 ^ 22 % 2 ^ 22 ≡ second }
+    ensures third { result % 2 ^ 22 ≡ third }
 {
-    first * 0x10_0000_0000_0000 + second * 0x400_0000 + third
+    first * 0x1000_0000_0000 + second * 0x40_0000 + third
 }
 
 /// The context of a name.
