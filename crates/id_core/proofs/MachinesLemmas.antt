@@ -1,6 +1,6 @@
 -- Lemmas on specs/Machines.antt.
 use Rattle.std.proofs.Common.{◌≡◌, ℕ, suc, ◌+◌, ◌<◌, Bool, true, false, cond, eqb, eq-eqb, ◌||◌, Option, Some, None, List, [], ◌∷◌, ◌++◌, map, filter, length, get_or, set, take, drop, refl, sym, ap, subst, ◌∙◌, ⊎_elim, arith}
-use Rattle.std.specs.Prelude.{All, slice_index, slice_get, option_map}
+use Rattle.std.specs.Prelude.{All, IsErrAnd, IsTrue, OnErr, Result, Ok, Err, slice_index, slice_get, option_map, ◌==◌, ◌-◌, ◌^◌, ◌↔◌}
 use Rattle.std.specs.List.{list_any, remove}
 use Rattle.std.specs.List.Sorted.{IsStrictlyIncreasing}
 use Rattle.std.proofs.lemmas.List.{set-get_or, length-map, length-append, length-set, get_or-map, get_or-set_same, get_or-set_other, map-set}
@@ -22,7 +22,10 @@ use Rattle.id_tag.specs.declared.Message.{Message}
 use Rattle.id_valid.specs.Roles.{has_main_place, IsMain}
 use Rattle.id_valid.specs.Validator.{IsMainBlock}
 use Rattle.id_element.specs.Fits.{Fits, TokenFits}
-use Rattle.id_element.specs.Steps.{fresh, outputs_of, event_of, state_after, is_ended}
+use Rattle.id_element.specs.Fits.{IsFor}
+use Rattle.id_element.specs.Steps.{State, fresh, outputs_of, event_of, state_after, is_ended}
+use Rattle.id_element.specs.declared.step.TakeError.{TakeError}
+use Rattle.id_element.specs.declared.step.TakeError.TheVariants.{Memory, StampEnd}
 use Rattle.id_element.specs.Replays.{ElementView}
 use Rattle.id_record.specs.Events.{EventView}
 use Rattle.id_record.specs.declared.step.Step.{Step}
@@ -31,7 +34,7 @@ use Rattle.id_element.specs.declared.step.Short.{Short}
 use Rattle.id_element.specs.declared.step.Short.TheVariants.{Went, Failed, Apart}
 use Rattle.id_tag.specs.declared.plain.PlainToken.{PlainToken}
 use Rattle.id_tag.specs.Plains.{message_of}
-use Rattle.id_core.specs.Machines.{came_of, world_of, taken_from, given_to, routed_to, delivered, event_of_given, event_of_routed, event_at, start_message, input_messages, block_messages, AreTaken, IsElement, AreElements, IsMachine}
+use Rattle.id_core.specs.Machines.{came_of, world_of, taken_from, given_to, routed_to, delivered, event_of_given, event_of_routed, event_at, start_message, input_messages, block_messages, AreTaken, IsElement, AreElements, IsMachine, MachineView}
 use Rattle.id_observe.specs.Observed.{main_tag}
 use Rattle.id_element.proofs.SentLemmas.{kind_at_op}
 use Rattle.id_core.proofs.InputsLemmas.{inputs_fit}
@@ -229,3 +232,91 @@ came_from None s h = absurd cc
 came_from (Some v) s h =
     let same : v.step ≡ s = cc in
     ap (λ x. Some (came_of x)) same
+
+-- ---- what a delivery owes before it is one, and where an error ends it
+
+-- whether a stamp is left is asked by the message's own
+pub is_ended-asked : (s : State) (m : Message) (stamp : ℕ) (b : Bool) → b ≡ ((s.stamp == 2 ^ 64 - 1) || (stamp == 2 ^ 64 - 1)) → stamp ≡ m.stamp → is_ended s m ≡ b
+is_ended-asked s m stamp b asked is = ap (λ n. (s.stamp == 2 ^ 64 - 1) || (n == 2 ^ 64 - 1)) (sym is) ∙ sym asked
+
+read_again : (es : List ElementView) (n : ℕ) (e f : ElementView) → slice_get es n ≡ Some e → slice_get es n ≡ Some f → e ≡ f
+read_again es n e f first second = cc
+
+-- the element that was asked is the one that takes the message
+pub IsDelivery-again : (g : Parts) (es : List ElementView) (flight : List Message) (k n : ℕ) (m : Message) (e f : ElementView)
+    → IsMachine g es flight → IsGiven g (length es) es flight k n m e → slice_get es n ≡ Some f → is_ended e.state m ≡ false
+    → IsDelivery g (length es) es flight k n m f
+IsDelivery-again g es flight k n m e f old given again left = record {
+  given = record { there = given.there; routed = given.routed; element = again };
+  left = ap (λ (x : ElementView). is_ended x.state m) (sym (read_again es n e f given.element again)) ∙ left;
+  same = subst (IsElement g (length es) n) (get_or_from_slice_get es n f f again) (old.elements n f (slice_get_within es n f again));
+}
+
+-- and a view where what is in flight stays
+pub view-left : (g : Parts) (es : List ElementView) (flight left : List Message) (v : MachineView)
+    → ◌≡◌ {A = MachineView} (record { graph = g; count = length es; world = world_of es flight }) v → left ≡ flight
+    → ◌≡◌ {A = MachineView} (record { graph = g; count = length es; world = world_of es left }) v
+view-left g es flight left v is same = rw same is
+
+-- an error that is another, or the one that was handed on, does not tell the end of stamps
+pub not_end-memory : {A : Type 0} → (r : Result A TakeError) → IsErrAnd r (λ e. e ≡ Memory) → r ≡ Err StampEnd → ⊥
+not_end-memory (Ok a) is h = absurd is
+not_end-memory (Err x) is h = let same : x ≡ StampEnd = cc in let memory : x ≡ Memory = is in cc
+
+pub not_end-same : {A B : Type 0} → (r : Result A TakeError) (x : TakeError) (b : Bool) → IsErrAnd r (λ e. e ≡ x)
+    → (◌≡◌ {A = Result B TakeError} (Err x) (Err StampEnd) → IsTrue b) → b ≡ false → r ≡ Err StampEnd → ⊥
+not_end-same (Ok a) x b is ends left h = absurd is
+not_end-same (Err y) x b is ends left h =
+    let same : y ≡ StampEnd = cc in
+    let told : y ≡ x = is in
+    let true_is : b ≡ true = ends (ap (λ z. Err z) (sym told ∙ same)) in
+    cc
+
+pub after_err : {A E P : Type 0} → (r : Result A E) → P → OnErr r P
+after_err (Ok a) h = tt
+after_err (Err e) h = h
+
+pub no_event : {X : Type 0} (o : Option X) (x : X) → o ≡ Some x → o ≡ None → ⊥
+no_event o x some none = cc
+
+module _ (g : Parts) (es : List ElementView) (flight : List Message) (k n : ℕ) (m : Message) (e : ElementView) (given : IsGiven g (length es) es flight k n m e) where
+  -- the element that the message is for is that of its number
+  element_is : IsMachine g es flight → IsElement g (length es) n e
+  element_is old =
+      subst (IsElement g (length es) n) (get_or_from_slice_get es n e e given.element) (old.elements n e (slice_get_within es n e given.element))
+
+  -- so the message is for it
+  pub is_for : IsMachine g es flight → IsFor e.graph e.count e.number m
+  is_for old =
+      let is = element_is old in
+      let fits : Fits g m = subst (Fits g) (get_or_from_slice_get flight k m m given.there) (old.flight_fits k m (slice_get_within flight k m given.there)) in
+      record {
+        routed = ap (route_of m.payload) is.count_is ∙ given.routed ∙ sym is.number;
+        fits = subst (λ (x : Parts). Fits x m) (sym is.graph) fits;
+      }
+
+  kept_list : set es n e ≡ es
+  kept_list = ap (set es n) (sym (get_or_from_slice_get es n e e given.element)) ∙ set-get_or es n e
+
+  -- a machine stays one where the element and what is in flight stay
+  pub IsMachine-kept : (later : ElementView) (left : List Message) → later ≡ e → left ≡ flight → IsMachine g es flight → IsMachine g (set es n later) left
+  IsMachine-kept later left same still old = rw (same, still, kept_list) old
+
+  module _ (v : MachineView) (is : ◌≡◌ {A = MachineView} (record { graph = g; count = length es; world = world_of es flight }) v) where
+    -- and so does its view
+    pub view-kept : (later : ElementView) (left : List Message) → later ≡ e → left ≡ flight
+        → ◌≡◌ {A = MachineView} (record { graph = g; count = length (set es n later); world = world_of (set es n later) left }) v
+    view-kept later left same still = rw (same, still, kept_list) is
+
+    event_in_view : (b : Bool) → is_ended e.state m ≡ b → event_at v.graph v.count v.world k ≡ cond b None (Some (event_of g n e.state m))
+    event_in_view b left = subst (λ (x : MachineView). event_at x.graph x.count x.world k ≡ cond b None (Some (event_of g n e.state m))) is
+        (event_at-is g (length es) es flight k n m e given ∙ ap (λ c. cond c None (Some (event_of g n e.state m))) left)
+
+    -- the end of stamps is told where none is left
+    pub end_told : {A : Type 0} → (r : Result A TakeError) → is_ended e.state m ≡ true → r ≡ Err StampEnd → r ≡ Err StampEnd ↔ event_at v.graph v.count v.world k ≡ None
+    end_told r left told = ((λ h. event_in_view true left), (λ h. told))
+
+    -- and by nothing else
+    pub end_untold : {A : Type 0} → (r : Result A TakeError) → is_ended e.state m ≡ false → (r ≡ Err StampEnd → ⊥)
+        → r ≡ Err StampEnd ↔ event_at v.graph v.count v.world k ≡ None
+    end_untold r left not = ((λ h. absurd (not h)), (λ h. absurd (no_event _ _ (event_in_view false left) h)))
