@@ -2,9 +2,15 @@
 use Rattle.std.proofs.Common.{◌≡◌, ◌<◌, ◌+◌, ◌-◌, ◌++◌, ◌∷◌, [], ℕ, List, Option, Some, None, IsSome, length, length-append, drop, get_or, refl, sym, ap, ◌∙◌}
 use Rattle.std.proofs.Common.{append_assoc, arith}
 use Rattle.std.specs.List.{remove, slice_get}
-use Rattle.std.specs.Prelude.{option_to_list}
+use Rattle.std.specs.Prelude.{option_to_list, Bool, true, false, IsErr, IsErrAnd, IsTrue, OnErr, OnOk, Result, Ok, Err, ◌==◌, ◌↔◌}
+use Rattle.std.proofs.lemmas.Grind.{common_steps}
+use Rattle.id_element.specs.Shorts.{IsHandled}
+use Rattle.id_element.specs.declared.step.Short.{Short}
+use Rattle.id_element.specs.declared.step.Short.TheVariants.{Went, Failed, Apart}
+use Rattle.id_element.specs.declared.step.TakeError.{TakeError}
+use Rattle.id_element.specs.declared.step.TakeError.TheVariants.{StampEnd}
 use Rattle.std.proofs.Math.Seq.{get_or-append_seam}
-use Rattle.std.proofs.lemmas.Option.{get_or_from_slice_get}
+use Rattle.std.proofs.lemmas.Option.{get_or_from_slice_get, slice_get_within}
 use Rattle.std.proofs.lemmas.List.Edits.{remove-append_left, remove-append_right}
 
 -- one of these leaves, and more come behind
@@ -44,3 +50,59 @@ first_moves xs [] m at = cc
 first_moves xs (y ∷ ys) m at =
     let same : y ≡ m = cc in
     append_assoc xs (m ∷ []) ys ∙ ap (λ x. xs ++ x ∷ ys) (sym same)
+
+-- what is at hand is behind the gap where its position is the gap's
+pub is_behind : (k n gap : ℕ) → n ≡ gap → IsTrue (k == n) ↔ (gap ≡ k)
+is_behind k n gap is = grind (arith, common_steps)
+
+-- and it is there, where more was sent
+pub stays_there : {X : Type 0} (vs xs ys zs outs : List X) (m : X) (k : ℕ) → xs ++ ys ≡ vs → slice_get vs k ≡ Some m → zs ≡ ys ++ outs → k < length (xs ++ zs)
+stays_there vs xs ys zs outs m k is at more =
+    let within : k < length vs = slice_get_within vs k m at in
+    let first : length vs ≡ length (xs ++ ys) = ap length (sym is) in
+    let all : length (xs ++ zs) ≡ length ((xs ++ ys) ++ outs) = ap (λ l. length (xs ++ l)) more ∙ ap length (sym (append_assoc xs ys outs)) in
+    omega (arith, within, first, all, length-append (xs ++ ys) outs)
+
+-- an error that was handed on is the end of stamps where that was
+pub gives_end : {A B : Type 0} → (r : Result A TakeError) (x : TakeError) (P : Type 0) → IsErrAnd r (λ e. e ≡ x)
+    → ◌≡◌ {A = Result B TakeError} (Err x) (Err StampEnd) ↔ P → r ≡ Err StampEnd ↔ P
+gives_end (Ok a) x P is both = absurd is
+gives_end (Err y) x P is both =
+    let told : y ≡ x = is in (
+      (λ h. both.0 (let same : y ≡ StampEnd = cc in ap (λ z. Err z) (sym told ∙ same))),
+      (λ p. let same : x ≡ StampEnd = end_is x (both.1 p) in ap (λ z. Err z) (told ∙ same)),
+    )
+  where
+    end_is : {C : Type 0} (z : TakeError) → ◌≡◌ {A = Result C TakeError} (Err z) (Err StampEnd) → z ≡ StampEnd
+    end_is z h = cc
+
+pub on_error : {A E P : Type 0} → (r : Result A E) → P → OnErr r P
+on_error (Ok a) h = tt
+on_error (Err e) h = h
+
+pub if_ok : {A E : Type 0} → (P : Type 0) (r : Result A E) → IsErr r → OnOk r P
+if_ok P (Ok a) is = cc
+if_ok P (Err e) is = tt
+
+pub is_none : {A E Z : Type 0} → (r : Result A E) (a : A) → IsErr r → r ≡ Ok a → Z
+is_none (Ok b) a is h = cc
+is_none (Err e) a is h = no_ok e a h
+  where
+    no_ok : {B F Y : Type 0} (f : F) (b : B) → ◌≡◌ {A = Result B F} (Err f) (Ok b) → Y
+    no_ok f b e = cc
+
+pub not_both : {E Z : Type 0} → (b : Bool) → b ≡ true → ◌≡◌ {A = Result Bool E} (Ok b) (Ok false) → Z
+not_both b is h = cc
+
+pub not_neither : {E Z : Type 0} → (b : Bool) → b ≡ false → ◌≡◌ {A = Result Bool E} (Ok b) (Ok true) → Z
+not_neither b is h = cc
+
+pub not_handled : {Z : Type 0} → (s : Short) → s ≡ Apart → IsHandled s → Z
+not_handled Went is h = cc
+not_handled (Failed f) is h = cc
+not_handled Apart is h = absurd h
+
+pub is_handled : (s : Short) → (s ≡ Apart → ⊥) → IsHandled s
+is_handled Went not = tt
+is_handled (Failed f) not = tt
+is_handled Apart not = absurd (not refl)
