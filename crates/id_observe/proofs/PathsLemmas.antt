@@ -9,7 +9,10 @@ use Rattle.id_tag.specs.declared.Context.{Context}
 use Rattle.id_tag.specs.declared.Tag.{Tag}
 use Rattle.id_tag.specs.declared.Structure.{Structure}
 use Rattle.id_tag.specs.Tags.{same_context, same_structure}
-use Rattle.id_record.specs.Events.{EventView}
+use Rattle.id_record.specs.Events.{EventView, tag_of}
+use Rattle.id_graph.specs.declared.instr.Op.{Op}
+use Rattle.id_valid.specs.Roles.{op_at}
+use Rattle.std.specs.Prelude.{option_map}
 use Rattle.id_element.specs.Replays.{ElementView}
 use Rattle.id_list.specs.List.{Among}
 use Rattle.id_observe.specs.declared.paths.Paths.{Paths}
@@ -221,3 +224,11 @@ enter_in-is g es c e t among is each = elim (enter_in-only g es c t each) [
   | inl none ↦ absurd (enter_in-something g es c e t among is none)
   | inr some ↦ some
 ]
+
+-- what the instruction of an event does
+pub op_there : (g : Parts) (o : Option EventView) (n : ℕ) (op : Option Op) → option_map (λ e. (tag_of e.message.payload).instr) o ≡ Some n → op ≡ op_at g n
+    → option_map (λ e. op_at g (tag_of e.message.payload).instr) o ≡ Some op
+op_there g None n op is does = cc
+op_there g (Some e) n op is does =
+    let same : (tag_of e.message.payload).instr ≡ n = cc in
+    ap (λ x. Some x) (ap (op_at g) same ∙ sym does)

@@ -1,15 +1,17 @@
 -- One more event adds what it tells.
-use Rattle.std.proofs.Common.{sym, ap, ◌∙◌, append-nil, append_assoc}
+use Rattle.std.proofs.Common.{sym, ap, ◌∙◌, ◌++◌, append-nil, append_assoc}
+use Rattle.std.proofs.lemmas.List.{take_all}
 use Rattle.std.specs.Prelude.{slice_get}
 use Rattle.std.specs.Option.{option_or}
 use Rattle.std.specs.HashMap.{get}
 use Rattle.id_tag.specs.Tags.{same_context, same_structure}
 use Rattle.id_record.specs.Events.{tag_of}
-use Rattle.id_observe.specs.Paths.{enter_of, maker_of, making_of}
-use Rattle.id_observe.specs.Observed.{brought}
+use Rattle.id_observe.specs.Paths.{enter_in, enter_of, events_at, maker_in, maker_of, making_of, makings_of}
+use Rattle.id_observe.specs.Observed.{answers, brought}
 use Rattle.id_observe.proofs.ObservedLemmas.{element-from_part, filter_map-more}
-use Rattle.id_observe.proofs.PathsLemmas.{enter_in-more, enter_in-none, maker_in-more, maker_in-none}
+use Rattle.id_observe.proofs.PathsLemmas.{enter_in-more, enter_in-none, maker_in-more, maker_in-none, op_there}
 use Rattle.id_observe.proofs.TellingsLemmas.{events_at-next}
+use Rattle.id_element.proofs.ShortLemmas.{on_ok}
 use Rattle.id_observe.proofs.paths.add_events.Goals as goal
 
 pub loop-position-init : goal.loop-position-init
@@ -38,4 +40,65 @@ loop-position-preserved c =
           rw (c.in_ok-add_maker_at.ensures.makings e there.1, c.loop-position.invariant.makings, filter_map-more (making_of g) _ _ e more, append_assoc);
       values =
           rw (c.in_ok-add_value_at.ensures e there.1, c.loop-position.invariant.values, filter_map-more (λ x. brought x.message.payload) _ _ e more, append_assoc);
+    }
+
+-- an error tells nothing
+
+pub returns-in_err-add_enter_at : goal.returns-in_err-add_enter_at
+returns-in_err-add_enter_at c = record {
+  enters = on_ok _ c.from_residual.result c.from_residual.ensures.0;
+  makers = on_ok _ c.from_residual.result c.from_residual.ensures.0;
+  makings = on_ok _ c.from_residual.result c.from_residual.ensures.0;
+  values = on_ok _ c.from_residual.result c.from_residual.ensures.0;
+}
+
+pub returns-in_err-add_maker_at : goal.returns-in_err-add_maker_at
+returns-in_err-add_maker_at c = record {
+  enters = on_ok _ c.from_residual-in_err-add_maker_at.result c.from_residual-in_err-add_maker_at.ensures.0;
+  makers = on_ok _ c.from_residual-in_err-add_maker_at.result c.from_residual-in_err-add_maker_at.ensures.0;
+  makings = on_ok _ c.from_residual-in_err-add_maker_at.result c.from_residual-in_err-add_maker_at.ensures.0;
+  values = on_ok _ c.from_residual-in_err-add_maker_at.result c.from_residual-in_err-add_maker_at.ensures.0;
+}
+
+pub returns-in_err-add_value_at : goal.returns-in_err-add_value_at
+returns-in_err-add_value_at c = record {
+  enters = on_ok _ c.from_residual-in_err-add_value_at.result c.from_residual-in_err-add_value_at.ensures.0;
+  makers = on_ok _ c.from_residual-in_err-add_value_at.result c.from_residual-in_err-add_value_at.ensures.0;
+  makings = on_ok _ c.from_residual-in_err-add_value_at.result c.from_residual-in_err-add_value_at.ensures.0;
+  values = on_ok _ c.from_residual-in_err-add_value_at.result c.from_residual-in_err-add_value_at.ensures.0;
+}
+
+-- the events at these positions are there, and are of the instructions that are asked
+pub instr-number-requires : goal.instr-number-requires
+instr-number-requires c = c.requires c.loop-position.position-index 0 c.loop-position-test.true
+
+pub add_enter_at-requires : goal.add_enter_at-requires
+add_enter_at-requires c = record {
+  position = c.requires c.loop-position.position-index 0 c.loop-position-test.true;
+  op = op_there c.args.graph.now (slice_get c.args.events.now _) c.instr-number.result c.op_at-op.result c.instr-number.ensures c.op_at-op.ensures;
+}
+
+pub add_maker_at-requires : goal.add_maker_at-requires
+add_maker_at-requires c = record {
+  position = c.requires c.loop-position.position-index 0 c.loop-position-test.true;
+  op = op_there c.args.graph.now (slice_get c.args.events.now _) c.instr-number.result c.op_at-op.result c.instr-number.ensures c.op_at-op.ensures;
+}
+
+pub add_value_at-requires : goal.add_value_at-requires
+add_value_at-requires c = record {
+  position = c.requires c.loop-position.position-index 0 c.loop-position-test.true;
+  number = c.instr-number.ensures;
+}
+
+-- and those so far are all
+pub returns : goal.returns
+returns c =
+    let g = c.args.graph.now in
+    let vs = c.args.events.now in
+    let all = take_all c.loop-position.position-index c.args.positions.now c.loop-position-test.false in
+    record {
+      enters = λ d. c.loop-position.invariant.enters d ∙ ap (λ ks. option_or (enter_in g (events_at vs ks) d) (get same_context c.args.enters.now d)) all;
+      makers = λ d. c.loop-position.invariant.makers d ∙ ap (λ ks. option_or (maker_in g (events_at vs ks) d) (get same_structure c.args.makers.now d)) all;
+      makings = c.loop-position.invariant.makings ∙ ap (λ ks. c.args.makings.now.items ++ makings_of g (events_at vs ks)) all;
+      values = c.loop-position.invariant.values ∙ ap (λ ks. c.args.values.now.items ++ answers (events_at vs ks)) all;
     }

@@ -1,13 +1,15 @@
 -- One more record adds what it tells.
-use Rattle.std.proofs.Common.{◌≡◌, Some, refl, ap, sym, ◌∙◌, arith}
+use Rattle.std.proofs.Common.{◌≡◌, Some, refl, ap, map, sym, ◌∙◌, arith}
+use Rattle.std.proofs.lemmas.List.{take_all}
 use Rattle.std.proofs.lemmas.Grind.{common_steps}
 use Rattle.std.specs.Prelude.{slice_get}
 use Rattle.std.specs.Option.{option_or}
 use Rattle.std.proofs.lemmas.Option.{slice_get_read}
-use Rattle.id_observe.specs.Paths.{enter_in, maker_in, making_of}
-use Rattle.id_observe.specs.Observed.{brought}
+use Rattle.id_observe.specs.Paths.{enter_in, maker_in, making_of, makings_of}
+use Rattle.id_observe.specs.Observed.{answers, brought, events_of}
 use Rattle.id_observe.proofs.ObservedLemmas.{walk-next}
 use Rattle.id_observe.proofs.PathsLemmas.{enter_in-none, enters-next, maker_in-none, makers-next}
+use Rattle.id_element.proofs.ShortLemmas.{if_err}
 use Rattle.id_observe.proofs.paths.all_records.Goals as goal
 
 pub loop-element-init : goal.loop-element-init
@@ -36,4 +38,24 @@ loop-element-preserved c =
           rw (c.in_ok-add_record.ensures.makings, c.loop-element.invariant.makings, walk-next (λ s. s.events) (making_of g) es i e at);
       values =
           rw (c.in_ok-add_record.ensures.values, c.loop-element.invariant.values, walk-next (λ s. s.events) (λ v. brought v.message.payload) es i e at);
+    }
+
+pub returns-in_err-add_record : goal.returns-in_err-add_record
+returns-in_err-add_record c = record {
+  enters = if_err _ c.from_residual.result c.from_residual.ensures.0;
+  makers = if_err _ c.from_residual.result c.from_residual.ensures.0;
+  makings = if_err _ c.from_residual.result c.from_residual.ensures.0;
+  values = if_err _ c.from_residual.result c.from_residual.ensures.0;
+}
+
+-- the records so far are all
+pub returns : goal.returns
+returns c =
+    let g = c.args.graph.now in
+    let all = take_all c.loop-element.element-index c.args.elements.now c.loop-element-test.false in
+    record {
+      enters = λ d. c.loop-element.invariant.enters d ∙ ap (λ es. enter_in g (events_of (map (λ e. e.state) es)) d) all;
+      makers = λ d. c.loop-element.invariant.makers d ∙ ap (λ es. maker_in g (events_of (map (λ e. e.state) es)) d) all;
+      makings = c.loop-element.invariant.makings ∙ ap (λ es. makings_of g (events_of (map (λ e. e.state) es))) all;
+      values = c.loop-element.invariant.values ∙ ap (λ es. answers (events_of (map (λ e. e.state) es))) all;
     }
