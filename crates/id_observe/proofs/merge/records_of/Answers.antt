@@ -7,6 +7,7 @@ use Rattle.std.proofs.lemmas.Map.Keys.{sorted_from_strictly_increasing}
 use Rattle.id_observe.specs.Merged.{AreRecords}
 use Rattle.id_element.specs.Replays.{Replays}
 use Rattle.id_observe.proofs.RecordsLemmas.{AreRecords-from}
+use Rattle.id_element.proofs.ShortLemmas.{if_err}
 use Rattle.id_observe.proofs.merge.records_of.Goals as goal
 
 pub loop-element-preserved : goal.loop-element-preserved
@@ -28,3 +29,16 @@ returns-clause-are c =
     let replay : All Replays es = All-same Replays es (take c.loop-element.element-index es) (sym whole) c.loop-element.invariant.3 in
     let items = c.loop-element.invariant.2 ∙ ap (map (λ e. e.state.events)) whole in
     subst AreRecords (sym items) (AreRecords-from es (sorted_from_strictly_increasing _ c.requires) (recursion_from_All Replays es replay))
+
+pub returns-in_err-records-clause-records : goal.returns-in_err-records-clause-records
+returns-in_err-records-clause-records c = if_err _ c.from_residual.result c.from_residual.ensures.0
+
+pub returns-in_err-records-clause-are : goal.returns-in_err-records-clause-are
+returns-in_err-records-clause-are c = if_err _ c.from_residual.result c.from_residual.ensures.0
+
+pub push_reserved-requires : goal.push_reserved-requires
+push_reserved-requires c = omega arith
+
+pub returns-clause-records : goal.returns-clause-records
+returns-clause-records c =
+    c.loop-element.invariant.2 ∙ ap (map (λ e. e.state.events)) (take_all c.loop-element.element-index c.args.elements.now c.loop-element-test.false)

@@ -1,14 +1,16 @@
 -- One more event adds what it tells.
-use Rattle.std.proofs.Common.{◌≡◌, ◌∷◌, [], sym, ap, ◌∙◌, append-nil, append_assoc, arith}
+use Rattle.std.proofs.Common.{◌≡◌, ◌∷◌, ◌++◌, [], sym, ap, ◌∙◌, append-nil, append_assoc, arith}
+use Rattle.std.proofs.lemmas.List.{take_all}
 use Rattle.std.specs.List.{cons_option}
 use Rattle.std.specs.Option.{option_or}
 use Rattle.std.specs.HashMap.{get}
 use Rattle.id_tag.specs.Tags.{same_context, same_structure}
-use Rattle.id_observe.specs.Paths.{enter_in, enter_of, events_at, maker_in, maker_of, making_of}
-use Rattle.id_observe.specs.Observed.{brought}
+use Rattle.id_observe.specs.Paths.{enter_in, enter_of, events_at, maker_in, maker_of, making_of, makings_of}
+use Rattle.id_observe.specs.Observed.{answers, brought}
 use Rattle.id_observe.proofs.ObservedLemmas.{filter_map-next, take-next}
 use Rattle.id_observe.proofs.PathsLemmas.{enter_in-more, enter_in-none, enter_in-one, maker_in-more, maker_in-none, maker_in-one}
 use Rattle.id_observe.proofs.SkippedLemmas.{element-at}
+use Rattle.id_element.proofs.ShortLemmas.{on_ok}
 use Rattle.id_observe.proofs.paths.add_each.Goals as goal
 
 pub loop-position-init : goal.loop-position-init
@@ -41,4 +43,24 @@ loop-position-preserved c =
           rw (c.in_ok-add_events.ensures.makings, one, c.loop-position.invariant.makings, filter_map-next (making_of g) es i e there.1, append_assoc);
       values =
           rw (c.in_ok-add_events.ensures.values, one, c.loop-position.invariant.values, filter_map-next (λ x. brought x.message.payload) es i e there.1, append_assoc);
+    }
+
+-- an error tells nothing
+pub returns-in_err-add_events : goal.returns-in_err-add_events
+returns-in_err-add_events c = record {
+  enters = on_ok _ c.from_residual.result c.from_residual.ensures.0;
+  makers = on_ok _ c.from_residual.result c.from_residual.ensures.0;
+  makings = on_ok _ c.from_residual.result c.from_residual.ensures.0;
+  values = on_ok _ c.from_residual.result c.from_residual.ensures.0;
+}
+
+pub returns : goal.returns
+returns c =
+    let g = c.args.graph.now in
+    let all = take_all c.loop-position.position c.args.events.now (omega (arith, c.loop-position-test.false, c.len-position-end.ensures)) in
+    record {
+      enters = λ d. c.loop-position.invariant.enters d ∙ ap (λ es. option_or (enter_in g es d) (get same_context c.args.enters.now d)) all;
+      makers = λ d. c.loop-position.invariant.makers d ∙ ap (λ es. option_or (maker_in g es d) (get same_structure c.args.makers.now d)) all;
+      makings = c.loop-position.invariant.makings ∙ ap (λ es. c.args.makings.now.items ++ makings_of g es) all;
+      values = c.loop-position.invariant.values ∙ ap (λ es. c.args.values.now.items ++ answers es) all;
     }
