@@ -2,7 +2,7 @@
 use Rattle.std.proofs.Common.{◌≡◌, ◌<◌, ◌+◌, ◌-◌, ◌++◌, ◌∷◌, [], ℕ, List, Option, Some, None, IsSome, length, length-append, drop, get_or, refl, sym, ap, ◌∙◌}
 use Rattle.std.proofs.Common.{append_assoc, arith}
 use Rattle.std.specs.List.{remove, slice_get}
-use Rattle.std.specs.Prelude.{option_to_list, Bool, true, false, IsErr, IsErrAnd, IsTrue, OnErr, OnOk, Result, Ok, Err, ◌==◌, ◌↔◌}
+use Rattle.std.specs.Prelude.{option_to_list, Bool, true, false, IsErrAnd, IsTrue, Result, Ok, Err, ◌==◌, ◌↔◌}
 use Rattle.std.proofs.lemmas.Grind.{common_steps}
 use Rattle.id_element.specs.Shorts.{IsHandled}
 use Rattle.id_element.specs.declared.step.Short.{Short}
@@ -75,21 +75,6 @@ gives_end (Err y) x P is both =
   where
     end_is : {C : Type 0} (z : TakeError) → ◌≡◌ {A = Result C TakeError} (Err z) (Err StampEnd) → z ≡ StampEnd
     end_is z h = cc
-
-pub on_error : {A E P : Type 0} → (r : Result A E) → P → OnErr r P
-on_error (Ok a) h = tt
-on_error (Err e) h = h
-
-pub if_ok : {A E : Type 0} → (P : Type 0) (r : Result A E) → IsErr r → OnOk r P
-if_ok P (Ok a) is = cc
-if_ok P (Err e) is = tt
-
-pub is_none : {A E Z : Type 0} → (r : Result A E) (a : A) → IsErr r → r ≡ Ok a → Z
-is_none (Ok b) a is h = cc
-is_none (Err e) a is h = no_ok e a h
-  where
-    no_ok : {B F Y : Type 0} (f : F) (b : B) → ◌≡◌ {A = Result B F} (Err f) (Ok b) → Y
-    no_ok f b e = cc
 
 pub not_both : {E Z : Type 0} → (b : Bool) → b ≡ true → ◌≡◌ {A = Result Bool E} (Ok b) (Ok false) → Z
 not_both b is h = cc

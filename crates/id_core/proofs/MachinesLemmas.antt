@@ -1,6 +1,6 @@
 -- Lemmas on specs/Machines.antt.
 use Rattle.std.proofs.Common.{◌≡◌, ℕ, suc, ◌+◌, ◌<◌, Bool, true, false, cond, eqb, eq-eqb, ◌||◌, Option, Some, None, List, [], ◌∷◌, ◌++◌, map, filter, length, get_or, set, take, drop, refl, sym, ap, subst, ◌∙◌, ⊎_elim, arith}
-use Rattle.std.specs.Prelude.{All, IsErrAnd, IsTrue, OnErr, Result, Ok, Err, slice_index, slice_get, option_map, ◌==◌, ◌-◌, ◌^◌, ◌↔◌}
+use Rattle.std.specs.Prelude.{All, IsErrAnd, IsTrue, Result, Ok, Err, slice_index, slice_get, option_map, ◌==◌, ◌-◌, ◌^◌, ◌↔◌}
 use Rattle.std.specs.List.{list_any, remove}
 use Rattle.std.specs.List.Sorted.{IsStrictlyIncreasing}
 use Rattle.std.proofs.lemmas.List.{set-get_or, length-map, length-append, length-set, get_or-map, get_or-set_same, get_or-set_other, map-set}
@@ -271,10 +271,6 @@ not_end-same (Err y) x b is ends left h =
     let told : y ≡ x = is in
     let true_is : b ≡ true = ends (ap (λ z. Err z) (sym told ∙ same)) in
     cc
-
-pub after_err : {A E P : Type 0} → (r : Result A E) → P → OnErr r P
-after_err (Ok a) h = tt
-after_err (Err e) h = h
 
 pub no_event : {X : Type 0} (o : Option X) (x : X) → o ≡ Some x → o ≡ None → ⊥
 no_event o x some none = cc

@@ -2,8 +2,9 @@
 use Rattle.std.proofs.Common.{◌∙◌, ◌++◌, Ok, ap, false, subst, sym, true}
 use Rattle.std.proofs.lemmas.Option.{slice_get_within}
 use Rattle.id_flight.specs.Demands.{demanded}
+use Rattle.id_element.proofs.ShortLemmas.{not_ok, on_err, on_ok}
 use Rattle.id_core.specs.Flights.{FlightView, IsBeside}
-use Rattle.id_core.proofs.FlightLemmas.{gives_end, if_ok, is_behind, is_none, leaves_before, not_both, not_neither, on_error, stays_there}
+use Rattle.id_core.proofs.FlightLemmas.{gives_end, is_behind, leaves_before, not_both, not_neither, stays_there}
 use Rattle.id_core.proofs.in_flight.InFlight.give_demand.Goals as goal
 
 pub returns-then-handled-clause-messages : goal.returns-then-handled-clause-messages
@@ -22,28 +23,28 @@ pub returns-in_err-handled-clause-end : goal.returns-in_err-handled-clause-end
 returns-in_err-handled-clause-end c = gives_end c.from_residual.result c.in_err-handled.field-0.0 _ c.from_residual.ensures.1 c.in_err-handled.ensures.end
 
 pub returns-in_err-handled-clause-err : goal.returns-in_err-handled-clause-err
-returns-in_err-handled-clause-err c = on_error c.from_residual.result c.in_err-handled.ensures.err
+returns-in_err-handled-clause-err c = on_err c.from_residual.result c.in_err-handled.ensures.err
 
 pub returns-in_err-handled-clause-err_messages : goal.returns-in_err-handled-clause-err_messages
-returns-in_err-handled-clause-err_messages c = on_error c.from_residual.result (ap (λ ms. c.self.inside.before.messages ++ ms) c.in_err-handled.ensures.err_outputs ∙ ap (λ v. v.messages) c.self.view_is)
+returns-in_err-handled-clause-err_messages c = on_err c.from_residual.result (ap (λ ms. c.self.inside.before.messages ++ ms) c.in_err-handled.ensures.err_outputs ∙ ap (λ v. v.messages) c.self.view_is)
 
 pub returns-in_err-handled-clause-fits : goal.returns-in_err-handled-clause-fits
-returns-in_err-handled-clause-fits c = if_ok _ c.from_residual.result c.from_residual.ensures.0
+returns-in_err-handled-clause-fits c = on_ok _ c.from_residual.result c.from_residual.ensures.0
 
 pub returns-in_err-handled-clause-messages : goal.returns-in_err-handled-clause-messages
-returns-in_err-handled-clause-messages c = is_none c.from_residual.result true c.from_residual.ensures.0
+returns-in_err-handled-clause-messages c = not_ok c.from_residual.result true c.from_residual.ensures.0
 
 pub returns-in_err-handled-clause-state : goal.returns-in_err-handled-clause-state
-returns-in_err-handled-clause-state c = is_none c.from_residual.result true c.from_residual.ensures.0
+returns-in_err-handled-clause-state c = not_ok c.from_residual.result true c.from_residual.ensures.0
 
 pub returns-in_err-handled-clause-step : goal.returns-in_err-handled-clause-step
-returns-in_err-handled-clause-step c = is_none c.from_residual.result true c.from_residual.ensures.0
+returns-in_err-handled-clause-step c = not_ok c.from_residual.result true c.from_residual.ensures.0
 
 pub returns-in_err-handled-clause-apart : goal.returns-in_err-handled-clause-apart
-returns-in_err-handled-clause-apart c = is_none c.from_residual.result false c.from_residual.ensures.0
+returns-in_err-handled-clause-apart c = not_ok c.from_residual.result false c.from_residual.ensures.0
 
 pub returns-in_err-handled-clause-apart_messages : goal.returns-in_err-handled-clause-apart_messages
-returns-in_err-handled-clause-apart_messages c = is_none c.from_residual.result false c.from_residual.ensures.0
+returns-in_err-handled-clause-apart_messages c = not_ok c.from_residual.result false c.from_residual.ensures.0
 
 pub drop_at-requires-clause-gap : goal.drop_at-requires-clause-gap
 drop_at-requires-clause-gap c = subst (λ (v : FlightView). IsBeside v.gap c.args.position) (sym c.self.view_is) c.requires.gap

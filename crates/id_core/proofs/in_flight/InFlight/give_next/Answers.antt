@@ -1,8 +1,9 @@
 -- The list closes up behind the message, before what is sent.
 use Rattle.std.proofs.Common.{◌∙◌, ◌++◌, ap, subst, sym}
 use Rattle.std.proofs.lemmas.Option.{slice_get_within}
+use Rattle.id_element.proofs.ShortLemmas.{on_err, on_ok}
 use Rattle.id_core.specs.Flights.{FlightView, IsBeside}
-use Rattle.id_core.proofs.FlightLemmas.{gives_end, if_ok, is_behind, leaves_before, on_error, stays_there}
+use Rattle.id_core.proofs.FlightLemmas.{gives_end, is_behind, leaves_before, stays_there}
 use Rattle.id_core.proofs.in_flight.InFlight.give_next.Goals as goal
 
 pub returns-clause-messages : goal.returns-clause-messages
@@ -20,19 +21,19 @@ pub returns-in_err-step-clause-end : goal.returns-in_err-step-clause-end
 returns-in_err-step-clause-end c = gives_end c.from_residual.result c.in_err-step.field-0.0 _ c.from_residual.ensures.1 c.in_err-step.ensures.end
 
 pub returns-in_err-step-clause-err : goal.returns-in_err-step-clause-err
-returns-in_err-step-clause-err c = on_error c.from_residual.result c.in_err-step.ensures.err
+returns-in_err-step-clause-err c = on_err c.from_residual.result c.in_err-step.ensures.err
 
 pub returns-in_err-step-clause-err_messages : goal.returns-in_err-step-clause-err_messages
-returns-in_err-step-clause-err_messages c = on_error c.from_residual.result (ap (λ ms. c.self.inside.before.messages ++ ms) c.in_err-step.ensures.err_outputs ∙ ap (λ v. v.messages) c.self.view_is)
+returns-in_err-step-clause-err_messages c = on_err c.from_residual.result (ap (λ ms. c.self.inside.before.messages ++ ms) c.in_err-step.ensures.err_outputs ∙ ap (λ v. v.messages) c.self.view_is)
 
 pub returns-in_err-step-clause-fits : goal.returns-in_err-step-clause-fits
-returns-in_err-step-clause-fits c = if_ok _ c.from_residual.result c.from_residual.ensures.0
+returns-in_err-step-clause-fits c = on_ok _ c.from_residual.result c.from_residual.ensures.0
 
 pub returns-in_err-step-clause-messages : goal.returns-in_err-step-clause-messages
-returns-in_err-step-clause-messages c = if_ok _ c.from_residual.result c.from_residual.ensures.0
+returns-in_err-step-clause-messages c = on_ok _ c.from_residual.result c.from_residual.ensures.0
 
 pub returns-in_err-step-clause-state : goal.returns-in_err-step-clause-state
-returns-in_err-step-clause-state c = if_ok _ c.from_residual.result c.from_residual.ensures.0
+returns-in_err-step-clause-state c = on_ok _ c.from_residual.result c.from_residual.ensures.0
 
 pub drop_at-requires-clause-gap : goal.drop_at-requires-clause-gap
 drop_at-requires-clause-gap c = subst (λ (v : FlightView). IsBeside v.gap c.args.position) (sym c.self.view_is) c.requires.gap

@@ -2,8 +2,9 @@
 use Rattle.std.proofs.Common.{◌∙◌, ◌++◌, Ok, ap, subst, sym}
 use Rattle.std.proofs.lemmas.Option.{slice_get_within}
 use Rattle.id_tag.specs.Plains.{message_of}
+use Rattle.id_element.proofs.ShortLemmas.{on_err, on_ok}
 use Rattle.id_core.specs.Flights.{FlightView, IsBeside}
-use Rattle.id_core.proofs.FlightLemmas.{gives_end, if_ok, is_behind, is_handled, leaves_before, not_handled, on_error, stays_there}
+use Rattle.id_core.proofs.FlightLemmas.{gives_end, is_behind, is_handled, leaves_before, not_handled, stays_there}
 use Rattle.id_core.proofs.in_flight.InFlight.give_plain.Goals as goal
 
 pub returns-clause-messages : goal.returns-clause-messages
@@ -21,13 +22,13 @@ pub returns-in_err-short-clause-end : goal.returns-in_err-short-clause-end
 returns-in_err-short-clause-end c = gives_end c.from_residual.result c.in_err-short.field-0.0 _ c.from_residual.ensures.1 c.in_err-short.ensures.end
 
 pub returns-in_err-short-clause-err : goal.returns-in_err-short-clause-err
-returns-in_err-short-clause-err c = on_error c.from_residual.result c.in_err-short.ensures.err
+returns-in_err-short-clause-err c = on_err c.from_residual.result c.in_err-short.ensures.err
 
 pub returns-in_err-short-clause-err_messages : goal.returns-in_err-short-clause-err_messages
-returns-in_err-short-clause-err_messages c = on_error c.from_residual.result (ap (λ ms. c.self.inside.before.messages ++ ms) c.in_err-short.ensures.err_outputs ∙ ap (λ v. v.messages) c.self.view_is)
+returns-in_err-short-clause-err_messages c = on_err c.from_residual.result (ap (λ ms. c.self.inside.before.messages ++ ms) c.in_err-short.ensures.err_outputs ∙ ap (λ v. v.messages) c.self.view_is)
 
 pub returns-in_err-short-clause-fits : goal.returns-in_err-short-clause-fits
-returns-in_err-short-clause-fits c = if_ok _ c.from_residual.result c.from_residual.ensures.0
+returns-in_err-short-clause-fits c = on_ok _ c.from_residual.result c.from_residual.ensures.0
 
 pub drop_at-requires-clause-gap : goal.drop_at-requires-clause-gap
 drop_at-requires-clause-gap c = subst (λ (v : FlightView). IsBeside v.gap c.args.position) (sym c.self.view_is) c.requires.gap

@@ -4,9 +4,9 @@ use Rattle.std.specs.Prelude.{IfOk, OnErr, OnOk, option_map, slice_get, ◌↔�
 use Rattle.id_tag.specs.Plains.{tag_in}
 use Rattle.id_element.specs.Shorts.{IsHandled, step_in}
 use Rattle.id_element.specs.declared.step.TakeError.TheVariants.{StampEnd}
-use Rattle.id_element.proofs.ShortLemmas.{if_err}
+use Rattle.id_element.proofs.ShortLemmas.{if_err, on_err, on_ok}
 use Rattle.id_core.specs.Machines.{MachineView, came_of, delivered, event_at}
-use Rattle.id_core.proofs.FlightLemmas.{gives_end, if_ok, ok_end, on_error}
+use Rattle.id_core.proofs.FlightLemmas.{gives_end, ok_end}
 use Rattle.id_core.proofs.MachinesLemmas.{came_from}
 use Rattle.id_core.proofs.machine.Machine.advance.Goals as goal
 
@@ -15,10 +15,10 @@ deliver_plain-requires c = ap (λ v. slice_get v.world.flight c.args.position) (
 
 pub returns-in_err-deliver_plain-in-Some : goal.returns-in_err-deliver_plain-in-Some
 returns-in_err-deliver_plain-in-Some c = record {
-  world = if_ok _ c.from_residual.result c.from_residual.ensures.0;
+  world = on_ok _ c.from_residual.result c.from_residual.ensures.0;
   step = if_err _ c.from_residual.result c.from_residual.ensures.0;
   end = gives_end c.from_residual.result c.in_err-deliver_plain-in-Some.field-0.0 _ c.from_residual.ensures.1 c.in_err-deliver_plain-in-Some.ensures.end;
-  err = on_error c.from_residual.result c.in_err-deliver_plain-in-Some.ensures.err;
+  err = on_err c.from_residual.result c.in_err-deliver_plain-in-Some.ensures.err;
 }
 
 pub returns-in-Went : goal.returns-in-Went

@@ -6,9 +6,10 @@ use Rattle.std.proofs.lemmas.List.{length-set}
 use Rattle.std.proofs.lemmas.Option.{slice_get_read, slice_get_within}
 use Rattle.id_tag.specs.Routes.{route_of}
 use Rattle.id_element.specs.Steps.{is_ended, step_of, outputs_of}
+use Rattle.id_element.proofs.ShortLemmas.{on_err}
 use Rattle.id_core.specs.Machines.{IsMachine, MachineView, delivered, world_of}
 use Rattle.id_core.proofs.MachinesLemmas.{IsDelivery, IsDelivery-again, IsGiven, taken, world-delivered, event-delivered, IsMachine-deliver}
-use Rattle.id_core.proofs.MachinesLemmas.{not_end-memory, not_end-same, no_event, after_err, end_told, end_untold, is_for, IsMachine-kept, view-kept, view-left}
+use Rattle.id_core.proofs.MachinesLemmas.{not_end-memory, not_end-same, no_event, end_told, end_untold, is_for, IsMachine-kept, view-kept, view-left}
 use Rattle.id_core.proofs.machine.Machine.deliver_any.Goals as goal
 use Rattle.id_core.proofs.machine.Machine.deliver_any.Goals.{After-index-element, After-index_mut}
 
@@ -111,7 +112,7 @@ returns-in_err-open-clause-end c =
 
 pub returns-in_err-open-clause-err : goal.returns-in_err-open-clause-err
 returns-in_err-open-clause-err c =
-    after_err c.from_residual.result
+    on_err c.from_residual.result
     (view-left c.self.inside.graph.now c.self.inside.elements.items c.self.inside.flight.messages c.open.new.self.messages c.args.self.now c.self.view_is c.open.ensures.messages)
 
 pub give_next-requires-clause-next : goal.give_next-requires-clause-next
@@ -137,7 +138,7 @@ returns-in_err-step-clause-end c =
 
 pub returns-in_err-step-clause-err : goal.returns-in_err-step-clause-err
 returns-in_err-step-clause-err c =
-    after_err c.from_residual-in_err-step.result
+    on_err c.from_residual-in_err-step.result
     (view-kept c.self.inside.graph.now c.self.inside.elements.items c.self.inside.flight.messages c.args.position c.route-number.result c.message-message.result c.index_mut.result.now
     (delivery (goal.at.returns-in_err-step-clause-err c).After-index_mut).given c.args.self.now c.self.view_is
     c.give_next.new.element c.give_next.new.self.messages c.in_err-step.ensures.err (c.in_err-step.ensures.err_messages ∙ c.open.ensures.messages))

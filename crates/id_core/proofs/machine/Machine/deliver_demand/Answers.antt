@@ -8,9 +8,10 @@ use Rattle.id_flight.specs.Demands.{demanded}
 use Rattle.id_tag.specs.Routes.{route_of}
 use Rattle.id_record.specs.declared.step.Step.TheVariants.{Went}
 use Rattle.id_element.specs.Steps.{is_ended, step_of, outputs_of}
+use Rattle.id_element.proofs.ShortLemmas.{on_err}
 use Rattle.id_core.specs.Machines.{IsMachine, delivered, world_of}
 use Rattle.id_core.proofs.MachinesLemmas.{IsDelivery, IsDelivery-again, IsGiven, taken, world-delivered, event-delivered, IsMachine-handled, world-stays}
-use Rattle.id_core.proofs.MachinesLemmas.{is_ended-asked, not_end-memory, not_end-same, no_event, after_err, end_told, end_untold, is_for, IsMachine-kept, view-kept, view-left}
+use Rattle.id_core.proofs.MachinesLemmas.{is_ended-asked, not_end-memory, not_end-same, no_event, end_told, end_untold, is_for, IsMachine-kept, view-kept, view-left}
 use Rattle.id_core.proofs.machine.Machine.deliver_demand.Goals as goal
 use Rattle.id_core.proofs.machine.Machine.deliver_demand.Goals.{After-from, After-index_mut}
 
@@ -135,7 +136,7 @@ returns-in_err-open-clause-end c =
 
 pub returns-in_err-open-clause-err : goal.returns-in_err-open-clause-err
 returns-in_err-open-clause-err c =
-    after_err c.from_residual.result
+    on_err c.from_residual.result
     (view-left c.self.inside.graph.now c.self.inside.elements.items c.self.inside.flight.messages c.open.new.self.messages c.args.self.now c.self.view_is c.open.ensures.messages)
 
 pub give_demand-requires-clause-next : goal.give_demand-requires-clause-next
@@ -161,7 +162,7 @@ returns-in_err-handled-clause-end c =
 
 pub returns-in_err-handled-clause-err : goal.returns-in_err-handled-clause-err
 returns-in_err-handled-clause-err c =
-    after_err c.from_residual-in_err-handled.result
+    on_err c.from_residual-in_err-handled.result
     (view-kept c.self.inside.graph.now c.self.inside.elements.items c.self.inside.flight.messages c.args.position c.route-number.result (demanded c.args.demand.now) c.index_mut.result.now
     (delivery (goal.at.returns-in_err-handled-clause-err c).After-index_mut).given c.args.self.now c.self.view_is
     c.give_demand.new.element c.give_demand.new.self.messages c.in_err-handled.ensures.err (c.in_err-handled.ensures.err_messages ∙ c.open.ensures.messages))

@@ -9,9 +9,10 @@ use Rattle.id_tag.specs.Routes.{tag_route}
 use Rattle.id_element.specs.Shorts.{IsHandled, step_in}
 use Rattle.id_element.specs.declared.step.Short.TheVariants.{Apart}
 use Rattle.id_element.specs.Steps.{is_ended, step_of, outputs_of}
+use Rattle.id_element.proofs.ShortLemmas.{on_err}
 use Rattle.id_core.specs.Machines.{IsMachine, delivered, world_of}
 use Rattle.id_core.proofs.MachinesLemmas.{IsDelivery, IsDelivery-again, IsGiven, taken, world-delivered, event-delivered, IsMachine-short, world-apart}
-use Rattle.id_core.proofs.MachinesLemmas.{is_ended-asked, not_end-memory, not_end-same, no_event, after_err, end_told, end_untold, is_for, IsMachine-kept, view-kept, view-left}
+use Rattle.id_core.proofs.MachinesLemmas.{is_ended-asked, not_end-memory, not_end-same, no_event, end_told, end_untold, is_for, IsMachine-kept, view-kept, view-left}
 use Rattle.id_core.proofs.machine.Machine.deliver_plain.Goals as goal
 use Rattle.id_core.proofs.machine.Machine.deliver_plain.Goals.{After-from, After-index_mut}
 
@@ -133,7 +134,7 @@ returns-in_err-open-clause-end c =
 
 pub returns-in_err-open-clause-err : goal.returns-in_err-open-clause-err
 returns-in_err-open-clause-err c =
-    after_err c.from_residual.result
+    on_err c.from_residual.result
     (view-left c.self.inside.graph.now c.self.inside.elements.items c.self.inside.flight.messages c.open.new.self.messages c.args.self.now c.self.view_is c.open.ensures.messages)
 
 pub give_plain-requires-clause-next : goal.give_plain-requires-clause-next
@@ -159,7 +160,7 @@ returns-in_err-short-clause-end c =
 
 pub returns-in_err-short-clause-err : goal.returns-in_err-short-clause-err
 returns-in_err-short-clause-err c =
-    after_err c.from_residual-in_err-short.result
+    on_err c.from_residual-in_err-short.result
     (view-kept c.self.inside.graph.now c.self.inside.elements.items c.self.inside.flight.messages c.args.position c.route_tag-number.result (message_of c.args.token.now) c.index_mut.result.now
     (delivery (goal.at.returns-in_err-short-clause-err c).After-index_mut).given c.args.self.now c.self.view_is
     c.give_plain.new.element c.give_plain.new.self.messages c.in_err-short.ensures.err (c.in_err-short.ensures.err_messages ∙ c.open.ensures.messages))
