@@ -1,5 +1,5 @@
 -- The cell is the address.
-use Rattle.std.proofs.Common.{refl, sym, ap, ◌∙◌}
+use Rattle.std.proofs.Common.{refl, sym, ap}
 use Rattle.id_tag.specs.declared.Value.TheVariants as value
 use Rattle.id_tag.specs.Plains.{cell_of}
 use Rattle.id_ops.specs.declared.Fired.TheVariants as firings

@@ -4,7 +4,7 @@ use Rattle.std.specs.Int.{cast_signed, w32}
 use Rattle.id_tag.specs.declared.Payload.TheVariants.{Token}
 use Rattle.id_tag.specs.Plains.{cell_of, tag_in, whole}
 use Rattle.id_ops.specs.Deeds.{fired_by_deed}
-use Rattle.id_record.specs.Lines.{cell_at, element_at, high_half, instr_at, low_half, target_in, token_told}
+use Rattle.id_record.specs.Lines.{cell_at, element_at, high_half, instr_at, low_half, target_in}
 use Rattle.id_record.specs.Shootings.{doing}
 use Rattle.id_record.proofs.NearLemmas.{packed-near}
 use Rattle.id_record.proofs.line.near.near_line.Goals as goal
