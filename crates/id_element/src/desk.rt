@@ -863,19 +863,6 @@ impl<'a> Desk<'a> {
             (tag_in token.now) (fired_by self.old instr.now token.now operands)) }
     {
         match deed_of(instr.op, operands) {
-            // The deeds of arrays have ways of their own.
-            Some(Deed::Addressed(cell)) => {
-                self.conclude_deed(instr, token, stamp, Deed::Addressed(cell), outputs);
-                Short::Went
-            }
-            Some(Deed::Asked(cell, reply)) => {
-                self.conclude_deed(instr, token, stamp, Deed::Asked(cell, reply), outputs);
-                Short::Went
-            }
-            Some(Deed::Stored(cell, number)) => {
-                self.conclude_deed(instr, token, stamp, Deed::Stored(cell, number), outputs);
-                Short::Went
-            }
             Some(deed) => {
                 self.conclude_deed(instr, token, stamp, deed, outputs);
                 Short::Went
