@@ -1,5 +1,5 @@
 -- Plain values: those of small numbers.
-use Rattle.std.specs.Prelude.{Bool as Truth, true, false, not, Option, None, Some, ℕ, ℤ, pos, ◌-ℤ◌, ◌/◌, ◌%◌, ◌^◌, ◌==◌}
+use Rattle.std.specs.Prelude.{Bool as Truth, true, false, not, Option, None, Some, ℕ, ℤ, pos, neg_ℤ, ◌-ℤ◌, ◌≤ℤ◌, ◌<ℤ◌, ◌/◌, ◌%◌, ◌^◌, ◌==◌}
 use Rattle.id_tag.specs.declared.Cell.{Cell}
 use Rattle.id_tag.specs.declared.Context.{Context as Activation}
 use Rattle.id_tag.specs.declared.Structure.{Structure as Array}
@@ -39,6 +39,15 @@ high_of p = pos (p / 2 ^ 22 % 2 ^ 22) -ℤ pos (2 ^ 21)
 
 abbrev pub index_of : ℕ → ℤ
 index_of p = pos (p % 2 ^ 22) -ℤ pos (2 ^ 21)
+
+-- the bounds and the index are as small as a place needs: the lower bound has 20 bits, and the others have 22
+pub record HasPlace (low high index : ℤ) : Type 0 where
+  pub low_from : neg_ℤ (pos (2 ^ 19)) ≤ℤ low
+  pub low_below : low <ℤ pos (2 ^ 19)
+  pub high_from : neg_ℤ (pos (2 ^ 21)) ≤ℤ high
+  pub high_below : high <ℤ pos (2 ^ 21)
+  pub index_from : neg_ℤ (pos (2 ^ 21)) ≤ℤ index
+  pub index_below : index <ℤ pos (2 ^ 21)
 
 -- a cell in small numbers as any cell
 abbrev pub cell_of : PlainCell → Cell

@@ -1,8 +1,9 @@
 //! Plain values: those of small numbers, which most tokens carry.
 
-ghost use Rattle.std.specs.Prelude.{◌≡◌, ◌≢◌, ◌≤◌, ◌<◌, ◌+◌, ◌^◌, ◌/◌, ◌%◌, ◌-ℤ◌, pos, None, IfSome, IsSome, true};
+ghost use Rattle.std.specs.Prelude.{◌≡◌, ◌≢◌, ◌≤◌, ◌<◌, ◌+◌, ◌^◌, ◌/◌, ◌%◌, ◌-ℤ◌, ◌≤ℤ◌, ◌<ℤ◌, neg_ℤ, pos, None, IfSome, IsSome};
+ghost use Rattle.std.specs.Prelude.{true};
 ghost use Rattle.id_tag.specs.Kinds.{kind_of};
-ghost use Rattle.id_tag.specs.Plains.{cell_of, context_of, element_of, high_of, index_of, is_carried, is_word};
+ghost use Rattle.id_tag.specs.Plains.{HasPlace, cell_of, context_of, element_of, high_of, index_of, is_carried, is_word};
 ghost use Rattle.id_tag.specs.Plains.{low_of, serial_of, structure_of, truth_of, whole, word_of};
 ghost use Rattle.id_tag.specs.declared.Cell.{Cell};
 ghost use Rattle.id_tag.specs.declared.Value.TheVariants as value;
@@ -226,7 +227,9 @@ impl PlainCell {
 /// The cell in small numbers, where it has those. Takes no memory.
 #[inline(always)]
 pub fn plain_cell(cell: Cell) -> Option<PlainCell>
-    ensures { IfSome result (λ c. cell_of c ≡ cell) }
+    ensures same { IfSome result (λ c. cell_of c ≡ cell) }
+    ensures fits { cell.structure.element < 2 ^ 8 → cell.structure.serial < 2 ^ 24
+        → HasPlace cell.structure.low cell.structure.high cell.index → IsSome result }
 {
     let structure = cell.structure;
     Some(PlainCell {
@@ -239,7 +242,8 @@ pub fn plain_cell(cell: Cell) -> Option<PlainCell>
 /// memory.
 #[inline(always)]
 pub fn plain_cell_in(name: u32, low: i32, high: i32, index: i64) -> Option<PlainCell>
-    ensures { IfSome result (λ c. cell_of c ≡ record { structure = structure_of name low high; index = index }) }
+    ensures same { IfSome result (λ c. cell_of c ≡ record { structure = structure_of name low high; index = index }) }
+    ensures fits { HasPlace low high index → IsSome result }
 {
     Some(PlainCell {
         name,
@@ -254,6 +258,7 @@ fn place_of(low: i64, high: i64, index: i64) -> Option<u64>
     ensures low { IfSome result (λ p. low_of p ≡ low) }
     ensures high { IfSome result (λ p. high_of p ≡ high) }
     ensures index { IfSome result (λ p. index_of p ≡ index) }
+    ensures fits { HasPlace low high index → IsSome result }
 {
     Some(joined(
         above(low, 0x8_0000)?,
@@ -267,6 +272,7 @@ fn place_of(low: i64, high: i64, index: i64) -> Option<u64>
 fn above(number: i64, half: u32) -> Option<u64>
     ensures exact { IfSome result (λ n. pos n -ℤ pos half ≡ number) }
     ensures below { IfSome result (λ n. n < half + half) }
+    ensures fits { neg_ℤ (pos half) ≤ℤ number → number <ℤ pos half → IsSome result }
 {
     let half = i64::from(half);
     if (number >= -half) & (number < half) {
