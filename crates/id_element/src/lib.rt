@@ -7,6 +7,7 @@
 //! (`id_core`).
 #![tactic(auto)]
 
+mod cells;
 mod desk;
 mod element;
 mod fitting;

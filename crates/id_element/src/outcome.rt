@@ -1,6 +1,7 @@
 //! What a token does at its instruction, and what is sent for it (docs/MACHINE.md, "Element step").
 
-ghost use Rattle.std.specs.Prelude.{Some, ◌≡◌, ◌+◌, ◌-◌, ◌^◌, ◌<◌, ◌≤◌, ◌++◌, ◌∷◌, [], ◌||◌, ◌==◌, length, max};
+ghost use Rattle.std.specs.Prelude.{Some, ◌≡◌, ◌+◌, ◌-◌, ◌^◌, ◌<◌, ◌≤◌};
+ghost use Rattle.std.specs.Prelude.{◌++◌, ◌∷◌, [], ◌||◌, ◌==◌, length, max};
 ghost use Rattle.std.specs.Prelude.{IfOk, IfSome, OnOk, OnErr, IfErr, IsTrue, true, false, if◌then◌else◌, map};
 ghost use Rattle.id_bank.specs.Cells.{Cells};
 ghost use Rattle.id_element.specs.Steps.{allocated_by, answer_fired, arrival, at_instr, fill_verdict, fresh_numbers};
@@ -371,7 +372,8 @@ fn verdict(arrival: &Arrival, fired: &Fired) -> Verdict
 pub(crate) fn send(instr: &Instr, tag: Tag, fired: &Fired, envelope: Envelope, outputs: &mut Queue)
     requires room { most_sent instr.now ≤ outputs.old.room }
     requires second { HasSecond (Some instr.now.op) }
-    ensures { outputs.new.messages ≡ outputs.old.messages ++ numbered envelope.number envelope.position envelope.stamp 0
+    ensures { outputs.new.messages ≡ outputs.old.messages
+        ++ numbered envelope.number envelope.position envelope.stamp 0
         (sent (Some instr.now.op) (arcs_on (side_of fired.now) instr.now) tag fired.now) }
 {
     let dests = chosen(instr, fired);
@@ -411,7 +413,8 @@ pub(crate) fn send_like(instr: &Instr, like: &PlainToken, fired: &Fired, outputs
     requires room { most_sent instr.now ≤ outputs.old.room }
     requires few { most_sent instr.now ≤ 256 }
     requires second { HasSecond (Some instr.now.op) }
-    ensures { outputs.new.messages ≡ outputs.old.messages ++ numbered like.now.sender like.now.position like.now.stamp 0
+    ensures { outputs.new.messages ≡ outputs.old.messages
+        ++ numbered like.now.sender like.now.position like.now.stamp 0
         (sent (Some instr.now.op) (arcs_on (side_of fired.now) instr.now) (tag_in like.now) fired.now) }
 {
     match *fired {
@@ -425,7 +428,8 @@ fn send_entered(instr: &Instr, like: &PlainToken, context: Context, outputs: &mu
     requires room { most_sent instr.now ≤ outputs.old.room }
     requires few { most_sent instr.now ≤ 256 }
     requires second { HasSecond (Some instr.now.op) }
-    ensures { outputs.new.messages ≡ outputs.old.messages ++ numbered like.now.sender like.now.position like.now.stamp 0
+    ensures { outputs.new.messages ≡ outputs.old.messages
+        ++ numbered like.now.sender like.now.position like.now.stamp 0
         (sent (Some instr.now.op) (arcs_on (side_of (Entered context)) instr.now) (tag_in like.now) (Entered context)) }
 {
     let name = name_of(context.element, context.serial);
@@ -497,7 +501,8 @@ pub(crate) fn send_shot(instr: &Instr, like: &PlainToken, shot: Shot, outputs: &
     requires few { most_sent instr.now ≤ 256 }
     requires brief { IsBrief like.now.iteration shot }
     requires iteration { like.now.iteration < 2 ^ 32 - 1 }
-    ensures { outputs.new.messages ≡ outputs.old.messages ++ numbered like.now.sender like.now.position like.now.stamp 0
+    ensures { outputs.new.messages ≡ outputs.old.messages
+        ++ numbered like.now.sender like.now.position like.now.stamp 0
         (sent (Some instr.now.op) (arcs_on (side_of (fired_of shot)) instr.now) (tag_in like.now) (fired_of shot)) }
 {
     let dests = instr.dests.as_slice();
@@ -529,7 +534,8 @@ pub(crate) fn send_shot(instr: &Instr, like: &PlainToken, shot: Shot, outputs: &
 /// What an operator does with plain operands, where that is a deed. Takes no memory.
 #[inline(always)]
 pub(crate) fn deed_of(op: Op, operands: PlainOperands) -> Option<Deed>
-    ensures { IfSome result (λ d. (t : Tag) (f : Fresh) → fired op t (operands_in operands) f ≡ fired_by_deed t d) }
+    ensures { IfSome result
+        (λ d. (t : Tag) (f : Fresh) → fired op t (operands_in operands) f ≡ fired_by_deed t d) }
 {
     match operands {
         PlainOperands::One(value) => deed_on(op, value),
@@ -542,7 +548,8 @@ pub(crate) fn deed_of(op: Op, operands: PlainOperands) -> Option<Deed>
 pub(crate) fn send_deed(instr: &Instr, like: &PlainToken, deed: Deed, outputs: &mut Queue)
     requires room { most_sent instr.now ≤ outputs.old.room }
     requires few { most_sent instr.now ≤ 256 }
-    ensures { outputs.new.messages ≡ outputs.old.messages ++ numbered like.now.sender like.now.position like.now.stamp 0
+    ensures { outputs.new.messages ≡ outputs.old.messages
+        ++ numbered like.now.sender like.now.position like.now.stamp 0
         (sent (Some instr.now.op) (arcs_on (side_of (fired_by_deed (tag_in like.now) deed)) instr.now) (tag_in like.now)
         (fired_by_deed (tag_in like.now) deed)) }
 {
@@ -583,7 +590,8 @@ pub(crate) fn send_deed(instr: &Instr, like: &PlainToken, deed: Deed, outputs: &
 #[inline(always)]
 fn send_to(target: Target, like: &PlainToken, outputs: &mut Queue)
     requires room { 0 < outputs.old.room }
-    ensures { outputs.new.messages ≡ outputs.old.messages ++ numbered like.now.sender like.now.position like.now.stamp 0
+    ensures { outputs.new.messages ≡ outputs.old.messages
+        ++ numbered like.now.sender like.now.position like.now.stamp 0
         (Token (target_tag target) Zero (whole like.now.value) ∷ []) }
 {
     outputs.push_plain_reserved(&PlainToken {

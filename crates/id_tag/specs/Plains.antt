@@ -1,5 +1,6 @@
 -- Plain values: those of small numbers.
-use Rattle.std.specs.Prelude.{Bool as Truth, true, false, not, Option, None, Some, ℕ, ℤ, pos, neg_ℤ, ◌-ℤ◌, ◌≤ℤ◌, ◌<ℤ◌, ◌/◌, ◌%◌, ◌^◌, ◌==◌}
+use Rattle.std.specs.Prelude.{Bool as Truth, true, false, not, Option, None, Some, ℕ, ℤ}
+use Rattle.std.specs.Prelude.{pos, neg_ℤ, ◌-ℤ◌, ◌≤ℤ◌, ◌<ℤ◌, ◌/◌, ◌%◌, ◌^◌, ◌==◌}
 use Rattle.id_tag.specs.declared.Cell.{Cell}
 use Rattle.id_tag.specs.declared.Context.{Context as Activation}
 use Rattle.id_tag.specs.declared.Structure.{Structure as Array}

@@ -1,9 +1,10 @@
 //! Plain values: those of small numbers, which most tokens carry.
 
-ghost use Rattle.std.specs.Prelude.{◌≡◌, ◌≢◌, ◌≤◌, ◌<◌, ◌+◌, ◌^◌, ◌/◌, ◌%◌, ◌-ℤ◌, ◌≤ℤ◌, ◌<ℤ◌, neg_ℤ, pos, None, IfSome, IsSome};
-ghost use Rattle.std.specs.Prelude.{true};
+ghost use Rattle.std.specs.Prelude.{◌≡◌, ◌≢◌, ◌≤◌, ◌<◌, ◌+◌, ◌^◌, ◌/◌, ◌%◌};
+ghost use Rattle.std.specs.Prelude.{◌-ℤ◌, ◌≤ℤ◌, ◌<ℤ◌, neg_ℤ, pos, None, IfSome, IsSome, true};
 ghost use Rattle.id_tag.specs.Kinds.{kind_of};
-ghost use Rattle.id_tag.specs.Plains.{HasPlace, cell_of, context_of, element_of, high_of, index_of, is_carried, is_word};
+ghost use Rattle.id_tag.specs.Plains.{HasPlace, cell_of, context_of, element_of};
+ghost use Rattle.id_tag.specs.Plains.{high_of, index_of, is_carried, is_word};
 ghost use Rattle.id_tag.specs.Plains.{low_of, serial_of, structure_of, truth_of, whole, word_of};
 ghost use Rattle.id_tag.specs.declared.Cell.{Cell};
 ghost use Rattle.id_tag.specs.declared.Value.TheVariants as value;
