@@ -1,4 +1,4 @@
-//! The list of what a row imports. Most rows import nothing, so that takes but a word.
+//! The list of what a row imports. Most rows import nothing, and such a list takes two words.
 
 ghost use Rattle.std.specs.Prelude.{◌≡◌, [], IfOk};
 
