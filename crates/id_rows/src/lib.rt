@@ -10,4 +10,6 @@ mod countdown;
 #[cfg(test)]
 mod graphs;
 #[cfg(test)]
+mod memory;
+#[cfg(test)]
 mod rows;

@@ -18,7 +18,7 @@ use std::process::Abort;
 use std::test::Fail;
 
 /// The tag of an instruction in main's context.
-fn main_tag(instr: u32) -> Tag {
+pub(crate) fn main_tag(instr: u32) -> Tag {
     Tag {
         context: Context {
             element: 0,
