@@ -544,13 +544,6 @@ module _ (f : List Pair) (es : List (Tag × Half)) (s : Store) (is : from_entrie
       → MarksSame f m → IsKept m es × (Kept ≡ offer_answer s t p v) × (from_entries (all_entries m es) ≡ offer_after s t p v)
   all_of_put t none free puts marks = all_of_meets t Kept (stored f m t p v free puts) marks none
 
-  pub all_of_slot : (t : Tag) (x : Slot) → slot_tag x ≡ t → slot_half x ≡ Some (record { port = p; value = v })
-      → lookup (same_tag (slot_tag x)) es ≡ None → front_half f (slot_tag x) ≡ None → Puts f m (slot_tag x) (slot_half x)
-      → MarksSame f m → IsKept m es × (Kept ≡ offer_answer s t p v) × (from_entries (all_entries m es) ≡ offer_after s t p v)
-  all_of_slot t x own half none free puts marks =
-      subst (λ u. IsKept m es × (Kept ≡ offer_answer s u p v) × (from_entries (all_entries m es) ≡ offer_after s u p v)) own
-      (all_of_put (slot_tag x) none free (subst (Puts f m (slot_tag x)) half puts) marks)
-
 -- the same, where the front may have left the token as it came
 pub all_of_meeting : (f : List Pair) (es : List (Tag × Half)) (s : Store) (is : from_entries (all_entries f es) ≡ s) (kept : IsKept f es) (p : Port) (v : Value)
     (m : List Pair) (t : Tag) (o : Option Offered) → IfSome o (λ a. Meets f m t p v a) → (o ≡ None → m ≡ f) → MarksSame f m → lookup (same_tag t) es ≡ None

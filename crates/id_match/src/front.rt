@@ -315,7 +315,7 @@ fn slot_for(tag: Tag, port: Port, value: Value) -> Option<Slot>
 
 /// The slot for a plain token.
 #[inline(always)]
-pub(crate) fn slot_in(token: &PlainToken) -> Slot
+fn slot_in(token: &PlainToken) -> Slot
     ensures tag { slot_tag result ≡ tag_in token.now }
     ensures half { slot_half result ≡ Some (record { port = token.now.port; value = whole token.now.value }) }
 {
@@ -427,11 +427,7 @@ fn has_room(front: &[Pair], tag: Tag) -> bool
 }
 
 /// Puts the slot into its pair, if there is room, and nothing waits under its tag in the front or behind.
-pub(crate) fn put_beside(
-    front: &mut Vec<Pair>,
-    halves: &HashMap<Tag, Half, NearHasher>,
-    slot: Slot,
-) -> bool
+fn put_beside(front: &mut Vec<Pair>, halves: &HashMap<Tag, Half, NearHasher>, slot: Slot) -> bool
     ensures apart { IsMarked front.old.items halves.now.entries → IsTrue result
         → lookup (same_tag (slot_tag slot)) halves.now.entries ≡ None }
     ensures free { IsTrue result → front_half front.old.items (slot_tag slot) ≡ None }
@@ -447,6 +443,25 @@ pub(crate) fn put_beside(
         return false;
     }
     put(front, slot)
+}
+
+/// Puts the token into its pair, if there is room, and nothing waits under its tag in the front or behind. Without room
+/// nothing else is looked at, and no slot is made.
+#[inline(always)]
+pub(crate) fn put_token(
+    front: &mut Vec<Pair>,
+    halves: &HashMap<Tag, Half, NearHasher>,
+    token: &PlainToken,
+) -> bool
+    ensures apart { IsMarked front.old.items halves.now.entries → IsTrue result
+        → lookup (same_tag (tag_in token.now)) halves.now.entries ≡ None }
+    ensures free { IsTrue result → front_half front.old.items (tag_in token.now) ≡ None }
+    ensures put { IsTrue result → Puts front.old.items front.new.items (tag_in token.now)
+        (Some (record { port = token.now.port; value = whole token.now.value })) }
+    ensures full { result ≡ false → front.new.items ≡ front.old.items }
+    ensures marks { MarksSame front.old.items front.new.items }
+{
+    has_room(front, token.tag()) && put_beside(front, halves, slot_in(token))
 }
 
 /// Puts the value into its pair, if it fits, there is room, and nothing waits under its tag in the front or behind.

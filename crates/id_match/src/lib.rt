@@ -29,7 +29,7 @@ mod frames;
 mod front;
 
 use front::{
-    Pair, count, has, in_front, larger, leave_behind, mark, meet, put_beside, put_value, slot_in,
+    Pair, count, has, in_front, larger, leave_behind, mark, meet, put_token, put_value,
     step_behind, take,
 };
 use id_graph::Port;
@@ -193,7 +193,7 @@ impl Waiting {
         self.make_room();
         if has(&self.front, token.tag()) {
             Ok(Met::Apart)
-        } else if put_beside(&mut self.front, &self.halves, slot_in(token)) {
+        } else if put_token(&mut self.front, &self.halves, token) {
             Ok(Met::Kept)
         } else {
             let met = offer_plain_to(&mut self.front, &mut self.halves, token)?;
@@ -203,19 +203,26 @@ impl Waiting {
     }
 
     // Makes the front larger where many plain tokens stand behind it since their slots are taken, or came and went, or
-    // there is none. What fits in no slot doesn't count. Where few values wait for so many pairs, a larger front would
-    // be as crowded. Where memory is wanting, all stays as it is, so this never makes an error.
-    #[inline(never)]
+    // there is none. What fits in no slot doesn't count.
+    #[inline(always)]
     fn make_room(&mut self)
         ensures { self.new ≡ self.old }
     {
-        let len = self.front.len();
-        if self.crowded > len || len == 0 {
-            self.crowded = 0;
-            if count(&self.front) + self.halves.len() >= len / 32 {
-                if let Some(front) = larger_front(self.alloc, &self.front, &self.halves) {
-                    self.front = front;
-                }
+        if self.crowded > self.front.len() || self.front.is_empty() {
+            self.grow();
+        }
+    }
+
+    // Makes the front larger, but where few values wait for so many pairs: a larger front would be as crowded. Where
+    // memory is wanting, all stays as it is, so this never makes an error.
+    #[inline(never)]
+    fn grow(&mut self)
+        ensures { self.new ≡ self.old }
+    {
+        self.crowded = 0;
+        if count(&self.front) + self.halves.len() >= self.front.len() / 32 {
+            if let Some(front) = larger_front(self.alloc, &self.front, &self.halves) {
+                self.front = front;
             }
         }
     }

@@ -5,7 +5,7 @@ use Rattle.std.specs.Map.{lookup}
 use Rattle.id_tag.specs.Tags.{same_tag}
 use Rattle.id_match.specs.Front.{front_entries}
 use Rattle.id_match.proofs.FrontLemmas.{moved_kept, moved_same}
-use Rattle.id_match.proofs.Waiting.make_room.Goals as goal
+use Rattle.id_match.proofs.Waiting.grow.Goals as goal
 
 pub invariant_of-self : goal.invariant_of-self
 invariant_of-self c =
