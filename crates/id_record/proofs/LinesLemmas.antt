@@ -91,6 +91,7 @@ cell-there b c l kind.Structure there = tt
 cell-there b c l kind.Address there = tt
 cell-there b c l kind.Near there = tt
 cell-there b c l kind.Passed there = tt
+cell-there b c l kind.Given there = tt
 cell-there b c l kind.Aside there = there
 cell-there b c l k there = omega (arith, length-append b.cells (c ∷ []), there)
 
@@ -105,6 +106,7 @@ cell-same b c l kind.Structure there = refl
 cell-same b c l kind.Address there = refl
 cell-same b c l kind.Near there = refl
 cell-same b c l kind.Passed there = refl
+cell-same b c l kind.Given there = refl
 cell-same b c l kind.Aside there = refl
 cell-same b c l k there = ap (λ d. saying l (told k (tag_at l) (port_at (l.position / 2 ^ 31)) l.value l.result d)) (cell-append b.cells (c ∷ []) l there)
 
@@ -187,6 +189,7 @@ celled-read b l kind.Structure celled = elim celled [ ]
 celled-read b l kind.Address celled = elim celled [ ]
 celled-read b l kind.Near celled = elim celled [ ]
 celled-read b l kind.Passed celled = elim celled [ ]
+celled-read b l kind.Given celled = elim celled [ ]
 celled-read b l kind.Aside celled = elim celled [ ]
 celled-read b l k celled = refl
 
@@ -201,6 +204,7 @@ celled-there b l kind.Structure celled there = elim celled [ ]
 celled-there b l kind.Address celled there = elim celled [ ]
 celled-there b l kind.Near celled there = elim celled [ ]
 celled-there b l kind.Passed celled there = elim celled [ ]
+celled-there b l kind.Given celled there = elim celled [ ]
 celled-there b l kind.Aside celled there = elim celled [ ]
 celled-there b l k celled there = there
 

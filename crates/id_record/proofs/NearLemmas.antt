@@ -1,9 +1,11 @@
--- Lemmas on specs/Lines.antt: the line that has the numbers of the cell that its event names, or that of its word.
+-- Lemmas on specs/Lines.antt: the line that has the numbers of the cell that its event names, that of its word, or those
+-- of a structure and its context.
 use Rattle.std.proofs.Common.{◌≡◌, ℕ, sym, ap, subst, ◌∙◌}
 use Rattle.std.specs.Prelude.{◌/◌, ◌^◌, ℤ}
 use Rattle.id_graph.specs.declared.dests.Port.{Port}
 use Rattle.id_tag.specs.declared.Cell.{Cell}
 use Rattle.id_tag.specs.declared.Payload.TheVariants.{Token}
+use Rattle.id_tag.specs.declared.Structure.{Structure}
 use Rattle.id_tag.specs.declared.Tag.{Tag}
 use Rattle.id_tag.specs.declared.Value.{Value}
 use Rattle.id_ops.specs.declared.Fired.{Fired}
@@ -12,7 +14,7 @@ use Rattle.id_record.specs.declared.line.Handled.{Handled}
 use Rattle.id_record.specs.declared.line.Kind.{Kind}
 use Rattle.id_record.specs.declared.line.Kind.TheVariants as kind
 use Rattle.id_record.specs.declared.line.Line.{Line}
-use Rattle.id_record.specs.Lines.{Beside, IsCelled, IsPacked, IsPackedBeside, IsThere, cell_at, instr_at, message_at, no_replies, port_at, read, saying, tag_at, target_in, token_told, told, told_near, told_passed, unpacked, went, Told}
+use Rattle.id_record.specs.Lines.{Beside, IsCelled, IsPacked, IsPackedBeside, IsThere, cell_at, instr_at, message_at, no_replies, port_at, read, saying, tag_at, target_in, token_told, told, given_in, given_to, told_given, told_near, told_passed, unpacked, went, Told}
 
 -- the event of a token, by its parts
 said-token : (e : Handled) (l : Line) (t : Tag) (p : Port) (v : Value) (f : Fired)
@@ -56,6 +58,26 @@ packed-passed e l x to n t p v f is_kind is_effect target number tag port told m
     ∙ ap (λ q. saying l (told_passed x t q (target_in l) l.value)) port
     ∙ ap (λ u. saying l (told_passed x t p u l.value)) target
     ∙ ap (λ m. saying l (told_passed x t p to m)) number
+    ∙ ap (saying l) told in
+    let whole = said-token e l t p v f message stamp reaction none in
+    record {
+      is = λ b. says b ∙ whole;
+      within = λ b. subst (IsThere b l) (sym is_kind) tt;
+    }
+
+-- an event stands in the line that has its effect, its structure and the tag to which that goes
+pub packed-given : (e : Handled) (l : Line) (x : Effect) (to : Tag) (s : Structure) (t : Tag) (p : Port) (v : Value) (f : Fired)
+    → l.kind ≡ kind.Given → l.effect ≡ x → given_to l ≡ to → given_in l ≡ s → tag_at l ≡ t → port_at (l.position / 2 ^ 31) ≡ p
+    → told_given x t p to s ≡ token_told t p v f → message_at l (Token t p v) ≡ e.message → l.stamp ≡ e.stamp → went f ≡ e.reaction → no_replies ≡ e.replies
+    → IsPacked e l
+packed-given e l x to s t p v f is_kind is_effect target structure tag port told message stamp reaction none =
+    let says : (b : Beside) → unpacked b l ≡ saying l (token_told t p v f) = λ b.
+    ap (read b l) is_kind
+    ∙ ap (λ y. saying l (told_given y (tag_at l) (port_at (l.position / 2 ^ 31)) (given_to l) (given_in l))) is_effect
+    ∙ ap (λ u. saying l (told_given x u (port_at (l.position / 2 ^ 31)) (given_to l) (given_in l))) tag
+    ∙ ap (λ q. saying l (told_given x t q (given_to l) (given_in l))) port
+    ∙ ap (λ u. saying l (told_given x t p u (given_in l))) target
+    ∙ ap (λ y. saying l (told_given x t p to y)) structure
     ∙ ap (saying l) told in
     let whole = said-token e l t p v f message stamp reaction none in
     record {

@@ -13,6 +13,7 @@ use Rattle.id_tag.specs.declared.Sender.{Sender}
 use Rattle.id_tag.specs.declared.Sender.TheVariants.{Start, Element}
 use Rattle.id_tag.specs.declared.Payload.{Payload}
 use Rattle.id_tag.specs.declared.Payload.TheVariants.{Token, Read, Write}
+use Rattle.id_tag.specs.Plains.{context_of as context_named, structure_of}
 use Rattle.id_ops.specs.declared.Fired.{Fired}
 use Rattle.id_ops.specs.declared.Fired.TheVariants as fired
 use Rattle.id_value.specs.declared.FaultKind.{FaultKind}
@@ -314,6 +315,24 @@ word_of _ n = value.Signal
 abbrev pub told_passed : Effect → Tag → Port → Tag → ℤ → Told
 told_passed x t p u n = token_told t p (value.Context u.context) (fired.Sent u (word_of x n))
 
+-- the tag of the instruction of this number at iteration 0, in the context of a name
+abbrev pub tag_named : ℕ → ℕ → Tag
+tag_named n i = record { context = context_named n; iteration = 0; instr = i }
+
+-- the tag to which the structure of a line goes, where that has the name of the context
+abbrev pub given_to : Line → Tag
+given_to l = tag_named (low_half l.result) (instr_at l.to)
+
+-- the structure of a line, where that has its name, with the halves of a number as its bounds
+abbrev pub given_in : Line → Structure
+given_in l = structure_of (high_half l.result) (cast_signed w32 (high_half l.value)) (cast_signed w32 (low_half l.value))
+
+-- what the event of a line with this effect says whose structure goes to a tag, with the tag and the port of its
+-- message, which carries the structure or else the context to which it goes
+abbrev pub told_given : Effect → Tag → Port → Tag → Structure → Told
+told_given effect.Sent t p u s = token_told t p (value.Structure s) (fired.Sent u (value.Structure s))
+told_given _ t p u s = token_told t p (value.Context u.context) (fired.Sent u (value.Structure s))
+
 -- the port of a token, or port 0
 abbrev pub port_for : Payload → Port
 port_for (Token t p v) = p
@@ -349,6 +368,8 @@ read b l kind.Near = saying l
     (told_near l.effect (tag_at l) (port_at (l.position / 2 ^ 31)) (instr_at l.to) (cell_at (target_in l) l.value))
 read b l kind.Passed = saying l
     (told_passed l.effect (tag_at l) (port_at (l.position / 2 ^ 31)) (target_in l) l.value)
+read b l kind.Given = saying l
+    (told_given l.effect (tag_at l) (port_at (l.position / 2 ^ 31)) (given_to l) (given_in l))
 read b l kind.Aside = slice_index_or b.asides (index_of l.value) (own l value.Signal)
 read b l k = saying l (told k (tag_at l) (port_at (l.position / 2 ^ 31)) l.value l.result (cell_in b.cells l))
 
@@ -369,6 +390,7 @@ IsThere b l kind.Structure = Unit {0}
 IsThere b l kind.Address = Unit {0}
 IsThere b l kind.Near = Unit {0}
 IsThere b l kind.Passed = Unit {0}
+IsThere b l kind.Given = Unit {0}
 IsThere b l kind.Aside = index_of l.value < length b.asides
 IsThere b l k = l.to < length b.cells
 
@@ -402,6 +424,7 @@ IsCelled kind.Structure = ⊥
 IsCelled kind.Address = ⊥
 IsCelled kind.Near = ⊥
 IsCelled kind.Passed = ⊥
+IsCelled kind.Given = ⊥
 IsCelled kind.Aside = ⊥
 IsCelled k = Unit {0}
 

@@ -18,6 +18,7 @@ ghost use Rattle.id_record.specs.Spots.{cells_at};
 ghost use Rattle.id_record.specs.Events.{tag_of, value_of};
 
 mod celled;
+mod giving;
 mod ledger;
 mod near;
 mod numbers;
@@ -31,6 +32,7 @@ use crate::history::{tag_of, value_of};
 use crate::step::Verdict;
 pub(crate) use celled::{Celled, packed_beside};
 use celled::{payload_told, said};
+use giving::{payload_given, said_given};
 use id_graph::Port;
 use id_ops::{Fired, tag_within};
 use id_tag::{Cell, Context, Message, Payload, Sender, Tag, Value};
@@ -121,7 +123,9 @@ struct Carried {
 /// number; of `Address` the tag's iteration is the index too. `Near` is of an event that names the cell that `Address`
 /// would stand for, of which the effect says the rest. `Passed` is of an event that sends a word to the tag that it
 /// names, for a message that carries the context of that tag: it is the number of the word, and the effect says which
-/// that is. The kinds behind it are of events that name a cell, and say all of them but their numbers.
+/// that is. `Given` is of an event that sends a structure to an instruction, at iteration 0: its halves are the bounds,
+/// and those of the result the names of the structure and of the instruction's context. The kinds behind it are of
+/// events that name a cell, and say all of them but their numbers.
 #[derive(Clone, Copy)]
 pub(crate) enum Kind {
     Signal,
@@ -135,6 +139,7 @@ pub(crate) enum Kind {
     Address,
     Near,
     Passed,
+    Given,
     StructureWaits,
     StructureOut,
     StructureOnTrue,
@@ -167,7 +172,8 @@ enum Exit {
 /// context of the tag that the event names, `Sent` for sending the message's own value to that tag, and `Moved` for
 /// sending it on at that tag's iteration. The last three stand beside `Near` alone: a structure or a number brings the
 /// address of the cell out, or the address asks for the cell's value. Beside `Passed` one of `Signal`, `Int`, `True` and
-/// `False` stands for that word.
+/// `False` stands for that word. Beside `Given` `Sent` stands for a message that carries the structure, and `Nothing`
+/// for one that carries the context.
 #[derive(Clone, Copy)]
 enum Effect {
     Stuck,
@@ -268,6 +274,7 @@ pub(crate) fn unpack(asides: &[Handled], cells: &[Spot], line: &Line) -> Handled
         Kind::Address => own(line, Value::Address(cell_in(line))),
         Kind::Near => said_near(line),
         Kind::Passed => said_passed(line),
+        Kind::Given => said_given(line),
         Kind::Aside => asides[index_of(line.value)],
         _ => said(line, cell_named(cells, line)),
     }
@@ -298,6 +305,7 @@ pub(crate) fn payload_in(asides: &[Handled], cells: &[Spot], line: &Line) -> Pay
         Kind::Address => own_payload(line, Value::Address(cell_in(line))),
         Kind::Near => payload_near(line),
         Kind::Passed => payload_passed(line),
+        Kind::Given => payload_given(line),
         Kind::Aside => asides[index_of(line.value)].message.payload,
         _ => payload_told(line, cell_named(cells, line)),
     }

@@ -22,6 +22,10 @@ pub(crate) struct Margin {
     spare: usize,
 }
 
+/// For so many events more room is made in each of the lists, at the least: one that few events need grows rarely, and
+/// would else let the others ask often.
+const LEAST: usize = 32;
+
 impl Model for Margin {
     ghost use Rattle.std.specs.Prelude.{◌≤◌, ◌+◌, vec_len, vec_capacity};
     ghost use Rattle.id_record.specs.Lines.{beside};
@@ -81,9 +85,9 @@ impl Margin {
         ensures telling { self.new.telling ≡ self.old.telling }
         ensures room { OnOk result (0 < self.new.room) }
     {
-        self.asides.reserve(1)?;
-        self.cells.reserve(1)?;
-        self.telling.reserve(1)?;
+        self.asides.reserve(LEAST)?;
+        self.cells.reserve(LEAST)?;
+        self.telling.reserve(LEAST)?;
         let room_aside = self.asides.capacity() - self.asides.len();
         let room_for_cells = self.cells.capacity() - self.cells.len();
         let room_for_telling = self.telling.capacity() - self.telling.len();

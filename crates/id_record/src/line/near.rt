@@ -14,6 +14,7 @@ ghost use Rattle.id_record.specs.Lines.{token_told};
 ghost use Rattle.id_record.specs.Shootings.{HasLine, doing};
 
 use super::celled::{Celled, Content, Scene, by_token, first_cell, of_kind, of_number, of_result};
+use super::giving::given_line;
 use super::numbers::{instr_at, joined, place};
 use super::passing::passed_line;
 use super::reading::{cell_in, tag_at};
@@ -39,13 +40,15 @@ struct Near {
     instr: u32,
 }
 
-/// The event in a line with the numbers of its cell, or with that of its word, where it fits in one.
+/// The event in a line with the numbers of its cell, with that of its word, or with the names of its structure and of
+/// the context to which that goes, where it fits in one.
 #[inline(always)]
 pub(crate) fn deed_line(event: &Doing<'_>) -> Option<Line>
     requires { HasLine event.now.token.now }
     ensures { IfSome result (λ l. IsPacked (doing event.now) l) }
 {
     match event.deed {
+        Deed::Passed(_, Plain::Structure(_, _, _)) => given_line(event),
         Deed::Passed(_, _) => passed_line(event),
         _ => near_line(event),
     }
