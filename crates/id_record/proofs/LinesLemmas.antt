@@ -1,5 +1,5 @@
 -- Lemmas on specs/Lines.antt and specs/Records.antt: a record goes on by one event.
-use Rattle.std.proofs.Common.{◌≡◌, ℕ, zero, suc, ◌+◌, ◌<◌, List, [], ◌∷◌, ◌++◌, Option, None, Some, IfSome, length, refl, sym, ap, subst, ◌∙◌, length-append, get_or, arith}
+use Rattle.std.proofs.Common.{◌≡◌, ℕ, zero, suc, ◌+◌, ◌<◌, List, [], ◌∷◌, ◌++◌, Option, None, Some, IfSome, SFits, length, refl, sym, ap, subst, ◌∙◌, length-append, get_or, arith}
 use Rattle.std.specs.Prelude.{All, pos, ◌≤◌, ◌*◌, ◌/◌, ◌%◌, ◌^◌, ℤ, true, false, drop, slice_get, option_map, take}
 use Rattle.std.specs.List.{AllByRecursion}
 use Rattle.std.proofs.lemmas.List.{append-nil, drop-append-le, get_or_append_left, length-take, take-append-drop, take-append-le, take_all}
@@ -28,7 +28,7 @@ use Rattle.id_record.specs.Sends.{numbered, replies, sent}
 use Rattle.id_record.specs.Lines.{AreThere, Beside, HasNumbers, IsCelled, IsKept, IsPacked, IsPackedBeside, IsThere, IsWithin, Names, carried_value, cell_at, cell_in, context_of, element_at, high_half, index_of, instr_at, joined, low_half, no_replies, number_of, own, port_at, reaction_of, read, saying, structure_at, tag_at, target_in, told, unpacked}
 use Rattle.id_record.specs.Records.{event_of_handled, events_from, replies_in, sent_by, sent_for}
 use Rattle.std.specs.Int.{cast_signed, cast_unsigned, w32, w64}
-use Rattle.std.proofs.lemmas.Int.{of_z-to_z}
+use Rattle.std.proofs.lemmas.Int.{of_z-to_z, to_z-of_z}
 use Rattle.id_record.proofs.EachLemmas.{each-append, each-weaker, each-get}
 
 -- as many events as lines
@@ -178,7 +178,7 @@ aside_last asides cells e l is at =
     ∙ get_or_from_slice_get (asides ++ e ∷ []) (length asides) e (own l value.Signal) (get_last asides e)
 
 -- a line of an event that names a cell
-celled-read : (b : Beside) (l : Line) (k : Kind) → IsCelled k → read b l k ≡ saying l (told k (tag_at l) (port_at (l.position / 2 ^ 31)) l.value l.result (cell_in b.cells l))
+pub celled-read : (b : Beside) (l : Line) (k : Kind) → IsCelled k → read b l k ≡ saying l (told k (tag_at l) (port_at (l.position / 2 ^ 31)) l.value l.result (cell_in b.cells l))
 celled-read b l kind.Signal celled = elim celled [ ]
 celled-read b l kind.Int celled = elim celled [ ]
 celled-read b l kind.True celled = elim celled [ ]
@@ -192,6 +192,26 @@ celled-read b l kind.Passed celled = elim celled [ ]
 celled-read b l kind.Given celled = elim celled [ ]
 celled-read b l kind.Aside celled = elim celled [ ]
 celled-read b l k celled = refl
+
+-- a kind that is none of those without a cell
+pub IsCelled-else : (k : Kind)
+    → (k ≡ kind.Signal → ⊥) → (k ≡ kind.Int → ⊥) → (k ≡ kind.True → ⊥) → (k ≡ kind.False → ⊥)
+    → (k ≡ kind.Context → ⊥) → (k ≡ kind.Continuation → ⊥) → (k ≡ kind.Aside → ⊥) → (k ≡ kind.Structure → ⊥)
+    → (k ≡ kind.Address → ⊥) → (k ≡ kind.Near → ⊥) → (k ≡ kind.Passed → ⊥) → (k ≡ kind.Given → ⊥)
+    → IsCelled k
+IsCelled-else kind.Signal n _ _ _ _ _ _ _ _ _ _ _ = n refl
+IsCelled-else kind.Int _ n _ _ _ _ _ _ _ _ _ _ = n refl
+IsCelled-else kind.True _ _ n _ _ _ _ _ _ _ _ _ = n refl
+IsCelled-else kind.False _ _ _ n _ _ _ _ _ _ _ _ = n refl
+IsCelled-else kind.Context _ _ _ _ n _ _ _ _ _ _ _ = n refl
+IsCelled-else kind.Continuation _ _ _ _ _ n _ _ _ _ _ _ = n refl
+IsCelled-else kind.Aside _ _ _ _ _ _ n _ _ _ _ _ = n refl
+IsCelled-else kind.Structure _ _ _ _ _ _ _ n _ _ _ _ = n refl
+IsCelled-else kind.Address _ _ _ _ _ _ _ _ n _ _ _ = n refl
+IsCelled-else kind.Near _ _ _ _ _ _ _ _ _ n _ _ = n refl
+IsCelled-else kind.Passed _ _ _ _ _ _ _ _ _ _ n _ = n refl
+IsCelled-else kind.Given _ _ _ _ _ _ _ _ _ _ _ n = n refl
+IsCelled-else k _ _ _ _ _ _ _ _ _ _ _ _ = tt
 
 celled-there : (b : Beside) (l : Line) (k : Kind) → IsCelled k → l.to < length b.cells → IsThere b l k
 celled-there b l kind.Signal celled there = elim celled [ ]
@@ -342,6 +362,28 @@ pub low_half-joined : (h l : ℕ) → h < 2 ^ 32 → l < 2 ^ 32 → low_half (jo
 low_half-joined h l high low =
     let rest : (h * 2 ^ 32 + l) % 2 ^ 32 ≡ l = omega (arith, high, low) in
     ap (λ n. n % 2 ^ 32) (half-bits h l high low) ∙ rest
+
+-- the halves of a number that is made of two of 32 bits with signs
+module _ (j m n : ℤ) (high low : ℕ) (room : SFits w64 j) (has_m : SFits w32 m) (has_n : SFits w32 n) (is : j ≡ joined high low)
+    (is_high : high ≡ cast_unsigned w32 (cast_signed w32 (cast_unsigned w32 m)))
+    (is_low : low ≡ cast_unsigned w32 (cast_signed w32 (cast_unsigned w32 n)))
+    (high_fits : high < 2 ^ 32) (low_fits : low < 2 ^ 32) where
+  whole : cast_signed w64 (cast_unsigned w64 j) ≡ joined high low
+  whole = to_z-of_z w64 j room ∙ is
+
+  pub signed-high : cast_signed w32 (high_half (cast_signed w64 (cast_unsigned w64 j))) ≡ m
+  signed-high =
+      ap (λ k. cast_signed w32 (high_half k)) whole
+      ∙ ap (cast_signed w32) (high_half-joined high low high_fits low_fits ∙ is_high)
+      ∙ ap (λ k. cast_signed w32 (cast_unsigned w32 k)) (to_z-of_z w32 m has_m)
+      ∙ to_z-of_z w32 m has_m
+
+  pub signed-low : cast_signed w32 (low_half (cast_signed w64 (cast_unsigned w64 j))) ≡ n
+  signed-low =
+      ap (λ k. cast_signed w32 (low_half k)) whole
+      ∙ ap (cast_signed w32) (low_half-joined high low high_fits low_fits ∙ is_low)
+      ∙ ap (λ k. cast_signed w32 (cast_unsigned w32 k)) (to_z-of_z w32 n has_n)
+      ∙ to_z-of_z w32 n has_n
 
 -- a tag has room in a line, and the line has its element and its instruction
 pub record IsNamed (t : Tag) (l : Line) : Type 0 where

@@ -2,7 +2,7 @@
 use Rattle.std.proofs.Common.{◌≡◌, refl, ap, ◌∙◌}
 use Rattle.std.specs.Int.{cast_signed, w32}
 use Rattle.id_tag.specs.declared.Payload.TheVariants.{Token}
-use Rattle.id_tag.specs.Plains.{element_of, serial_of, structure_of, tag_in, whole}
+use Rattle.id_tag.specs.Plains.{structure_of, tag_in, whole}
 use Rattle.id_ops.specs.Deeds.{fired_by_deed}
 use Rattle.id_record.specs.Lines.{given_in, given_to, high_half, instr_at, low_half, tag_named}
 use Rattle.id_record.specs.Shootings.{doing}

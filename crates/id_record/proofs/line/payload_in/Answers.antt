@@ -1,0 +1,69 @@
+-- What the message of a line says is that of its kind.
+use Rattle.std.proofs.Common.{ap, sym, ◌∙◌}
+use Rattle.std.specs.Prelude.{◌/◌, ◌^◌}
+use Rattle.id_tag.specs.declared.Value.TheVariants as value
+use Rattle.id_record.specs.Lines.{beside, own, port_at, read, tag_at, told}
+use Rattle.id_record.specs.Spots.{cells_at}
+use Rattle.id_record.proofs.LinesLemmas.{IsCelled-else, celled-read}
+use Rattle.id_record.proofs.line.payload_in.Goals as goal
+
+pub returns-in-Signal : goal.returns-in-Signal
+returns-in-Signal c =
+    c.own_payload.ensures
+    ∙ ap (λ k. (read (beside c.args.asides.now (cells_at c.args.cells.now)) c.args.line.now k).message.payload) (sym c.in-Signal.is)
+
+pub returns-in-True : goal.returns-in-True
+returns-in-True c =
+    c.own_payload-in-True.ensures
+    ∙ ap (λ k. (read (beside c.args.asides.now (cells_at c.args.cells.now)) c.args.line.now k).message.payload) (sym c.in-True.is)
+
+pub returns-in-False : goal.returns-in-False
+returns-in-False c =
+    c.own_payload-in-False.ensures
+    ∙ ap (λ k. (read (beside c.args.asides.now (cells_at c.args.cells.now)) c.args.line.now k).message.payload) (sym c.in-False.is)
+
+pub returns-in-Continuation : goal.returns-in-Continuation
+returns-in-Continuation c =
+    c.own_payload-in-Continuation.ensures
+    ∙ ap (λ x. (own c.args.line.now (value.Continuation x)).message.payload) c.target_in.ensures
+    ∙ ap (λ k. (read (beside c.args.asides.now (cells_at c.args.cells.now)) c.args.line.now k).message.payload) (sym c.in-Continuation.is)
+
+pub returns-in-Structure : goal.returns-in-Structure
+returns-in-Structure c =
+    c.own_payload-in-Structure.ensures
+    ∙ ap (λ x. (own c.args.line.now (value.Structure x)).message.payload) c.structure_in.ensures
+    ∙ ap (λ k. (read (beside c.args.asides.now (cells_at c.args.cells.now)) c.args.line.now k).message.payload) (sym c.in-Structure.is)
+
+pub returns-in-Address : goal.returns-in-Address
+returns-in-Address c =
+    c.own_payload-in-Address.ensures
+    ∙ ap (λ x. (own c.args.line.now (value.Address x)).message.payload) c.cell_in.ensures
+    ∙ ap (λ k. (read (beside c.args.asides.now (cells_at c.args.cells.now)) c.args.line.now k).message.payload) (sym c.in-Address.is)
+
+pub returns-in-Near : goal.returns-in-Near
+returns-in-Near c =
+    c.payload_near.ensures
+    ∙ ap (λ k. (read (beside c.args.asides.now (cells_at c.args.cells.now)) c.args.line.now k).message.payload) (sym c.in-Near.is)
+
+pub returns-in-Passed : goal.returns-in-Passed
+returns-in-Passed c =
+    c.payload_passed.ensures
+    ∙ ap (λ k. (read (beside c.args.asides.now (cells_at c.args.cells.now)) c.args.line.now k).message.payload) (sym c.in-Passed.is)
+
+pub returns-in-Given : goal.returns-in-Given
+returns-in-Given c =
+    c.payload_given.ensures
+    ∙ ap (λ k. (read (beside c.args.asides.now (cells_at c.args.cells.now)) c.args.line.now k).message.payload) (sym c.in-Given.is)
+
+pub returns-in_default : goal.returns-in_default
+returns-in_default c =
+    let b = beside c.args.asides.now (cells_at c.args.cells.now) in
+    let l = c.args.line.now in
+    let n = c.in_default in
+    c.payload_told.ensures
+    ∙ ap (λ x. (told l.kind (tag_at l) (port_at (l.position / 2 ^ 31)) l.value l.result x).payload) c.cell_named.ensures
+    ∙ ap (λ h. h.message.payload)
+    (sym
+    (celled-read b l l.kind
+    (IsCelled-else l.kind n.not-Signal n.not-Int n.not-True n.not-False n.not-Context n.not-Continuation
+    n.not-Aside n.not-Structure n.not-Address n.not-Near n.not-Passed n.not-Given)))
