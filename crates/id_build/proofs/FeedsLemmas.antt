@@ -1,6 +1,6 @@
 -- The arcs to the switches of imports, one import after another.
-use Rattle.std.proofs.Common.{◌≡◌, ℕ, zero, suc, true, ◌+◌, ◌<◌, List, [], ◌∷◌, ◌++◌, length, get_or, drop, map, refl, ap, sym, ◌∙◌, arith}
-use Rattle.std.proofs.lemmas.List.{append_assoc, length-map, map-append}
+use Rattle.std.proofs.Common.{◌≡◌, ℕ, zero, suc, true, ◌+◌, ◌<◌, ◌≤◌, List, [], ◌∷◌, ◌++◌, length, get_or, drop, map, refl, ap, sym, ◌∙◌, arith, append-nil}
+use Rattle.std.proofs.lemmas.List.{append_assoc, drop_all, length-map, map-append}
 use Rattle.id_desugar.specs.Regions.{imports_of, nexts_of}
 use Rattle.id_parts.specs.declared.row.Region.{Region}
 use Rattle.id_check.specs.declared.checked.Checked.{Checked}
@@ -25,6 +25,11 @@ pub drop_at : (bs : List ℕ) (i : ℕ) → i < length bs → drop i bs ≡ get_
 drop_at [] i l = absurd (omega arith)
 drop_at (b ∷ bs) zero l = refl
 drop_at (b ∷ bs) (suc i) l = drop_at bs i (omega (arith, l))
+
+-- at last nothing is left
+pub rest_done : {A B : Type 0} (m : List A → List B) (i : ℕ) (bs : List A) (xs ws : List B) → m [] ≡ [] → length bs ≤ i
+    → xs ++ m (drop i bs) ≡ ws → xs ≡ ws
+rest_done m i bs xs ws none end so = sym (append-nil xs) ∙ ap (λ z. xs ++ z) (sym none) ∙ ap (λ z. xs ++ m z) (sym (drop_all i bs end)) ∙ so
 
 -- the arcs of the rows from the i-th on are its own, and those of the rows behind it
 pub arcs_in-at : (P : Checked) (F order : List ℕ) (i : ℕ) → i < length order
@@ -123,3 +128,21 @@ start_arcs P F G H n j t r o s ms bs xs ys zs ws g h tt' oo ss jj bb mm one two 
     ∙ append_assoc xs (arc_of F n (feed (trigger_of r) 0 Zero) ∷ []) (A ++ B)
     ∙ ap (λ z. xs ++ arc_of F n (feed (trigger_of r) 0 Zero) ∷ z) (sym both)
     ∙ ap (λ z. xs ++ arc_of F n (feed (trigger_of r) 0 Zero) ∷ map (arc_of F n) (import_feeds P (output n) r 1 (map (first_binder P) z ++ imports_of P (n + 1)))) mm
+
+-- an arc that is pushed is that of its feed
+pub one_arc : (F G : List ℕ) (n k t : ℕ) (o q : Origin) (a : Port) (xs ys : List Arc) → G ≡ F → t ≡ number_by F n k → q ≡ o
+    → ys ≡ xs ++ arc_to G q t a ∷ [] → ys ≡ xs ++ arc_of F n (feed o k a) ∷ []
+one_arc F G n k t o q a xs ys g tt' oo one = one ∙ ap (λ z. xs ++ z ∷ []) (arc_is F G n k t o q a g tt' oo)
+
+-- what is added to two
+pub third : {A : Type 0} (xs ys zs : List A) (a b c : A) → ys ≡ xs ++ a ∷ b ∷ [] → zs ≡ ys ++ c ∷ [] → zs ≡ xs ++ a ∷ b ∷ c ∷ []
+third xs ys zs a b c two one = one ∙ ap (λ z. z ++ c ∷ []) two ∙ append_assoc xs (a ∷ b ∷ []) (c ∷ [])
+
+-- two arcs that are pushed one after another are those of their feeds
+pub two_arcs : (F G H : List ℕ) (n j k t u : ℕ) (o p q r : Origin) (a b : Port) (xs ys zs : List Arc) → G ≡ F → H ≡ F
+    → t ≡ number_by F n j → u ≡ number_by F n k
+    → q ≡ o → r ≡ p → ys ≡ xs ++ arc_to G q t a ∷ [] → zs ≡ ys ++ arc_to H r u b ∷ [] → zs ≡ xs ++ arc_of F n (feed o j a) ∷ arc_of F n (feed p k b) ∷ []
+two_arcs F G H n j k t u o p q r a b xs ys zs g h tt' uu oo pp one two =
+    two ∙ ap (λ z. ys ++ z ∷ []) (arc_is F H n k u p r b h uu pp)
+    ∙ ap (λ z. z ++ arc_of F n (feed p k b) ∷ []) (one ∙ ap (λ z. xs ++ z ∷ []) (arc_is F G n j t o q a g tt' oo))
+    ∙ append_assoc xs (arc_of F n (feed o j a) ∷ []) (arc_of F n (feed p k b) ∷ [])

@@ -19,3 +19,4 @@ pub mod SchemasLemmas
 pub mod BuildableLemmas
 pub mod BlocksLemmas
 pub mod BoundLemmas
+pub mod ResultLemmas

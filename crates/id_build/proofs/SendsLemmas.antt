@@ -1,7 +1,12 @@
 -- The sends to the entries of a loop, and the numbers of these, one after another.
 use Rattle.std.proofs.Common.{◌≡◌, ℕ, suc, ◌+◌, ◌<◌, List, [], ◌∷◌, ◌++◌, length, get_or, drop, map, ap, sym, ◌∙◌, arith}
 use Rattle.std.proofs.lemmas.List.{append_assoc}
-use Rattle.id_build.specs.Rows.{Entry, import_entries, variable_entries}
+use Rattle.id_check.specs.declared.checked.Checked.{Checked}
+use Rattle.id_graph.specs.declared.instr.Op.{Op}
+use Rattle.id_graph.specs.declared.instr.PortKind.{PortKind}
+use Rattle.id_build.specs.declared.arc.Form.TheVariants.{Plain}
+use Rattle.id_build.specs.declared.arc.Piece.{Piece}
+use Rattle.id_build.specs.Rows.{Entry, for_each, import_entries, piece, port_at, variable_entries}
 use Rattle.id_build.proofs.FeedsLemmas.{drop_at}
 
 -- what is made of the entry of one more variable
@@ -27,3 +32,18 @@ import_entries-next f e i bs xs ys ws l so one =
     let m = map f (import_entries e (i + 1) (drop (i + 1) bs)) in
     let a = f (record { binder = get_or bs i 0; row = e; part = i }) in
     ap (λ z. z ++ m) one ∙ append_assoc xs (a ∷ []) m ∙ sym (ap (λ z. xs ++ map f (import_entries e i z)) rest) ∙ so
+
+-- and what is made of one more binder
+pub for_each-next : (P : Checked) (f : PortKind → Op) (e i : ℕ) (bs : List ℕ) (xs ys ws : List Piece) → i < length bs
+    → xs ++ for_each P f e (drop i bs) ≡ ws → ys ≡ xs ++ piece (Plain (f (port_at P (get_or bs i 0)))) e ∷ []
+    → ys ++ for_each P f e (drop (i + 1) bs) ≡ ws
+for_each-next P f e i bs xs ys ws l so one =
+    let up : suc i ≡ i + 1 = omega arith in
+    let rest = drop_at bs i l ∙ ap (λ k. get_or bs i 0 ∷ drop k bs) up in
+    let m = for_each P f e (drop (i + 1) bs) in
+    let a = piece (Plain (f (port_at P (get_or bs i 0)))) e in
+    ap (λ z. z ++ m) one ∙ append_assoc xs (a ∷ []) m ∙ sym (ap (λ z. xs ++ for_each P f e z) rest) ∙ so
+
+-- what is there is followed by all that is left
+pub begun : {A : Type 0} (xs ys m : List A) (a : A) → ys ≡ xs ++ a ∷ [] → ys ++ m ≡ xs ++ a ∷ m
+begun xs ys m a one = ap (λ z. z ++ m) one ∙ append_assoc xs (a ∷ []) m

@@ -44,93 +44,190 @@ pub fn push_feeds(
     ensures memory { IfErr result (λ e. e ≡ BuildError.Memory) }
 {
     let row = row_at(checked, n);
-    let first = number_by(arcs.firsts.as_slice(), n);
     match row.node {
-        Node::Head => {
-            let body = body_of(row_at(checked, slots.columns.end(checked, n)).node);
-            arcs.push(origin(checked, slots, body), first + 1, Port::One)
-        }
+        Node::Head => push_result(checked, slots, n, arcs),
         Node::Param { .. } | Node::Name { .. } | Node::Block { .. } => Ok(()),
         Node::Call { .. } | Node::Def { .. } | Node::Program => Ok(()),
         Node::NextUse { .. } | Node::Body | Node::Loop { .. } => Ok(()),
-        Node::Literal { .. } | Node::Enter { .. } => {
-            arcs.push(trigger_of(row.region), first, Port::Zero)
-        }
+        Node::Literal { .. } | Node::Enter { .. } => arcs.push_first(trigger_of(row.region), n),
         Node::Unary { operand, .. } | Node::Binding { value: operand, .. } => {
-            arcs.push(origin(checked, slots, operand), first, Port::Zero)
+            push_value(checked, slots, n, operand, arcs)
         }
         Node::Next { value, .. } | Node::Reset { value } => {
-            arcs.push(origin(checked, slots, value), first, Port::Zero)
+            push_value(checked, slots, n, value, arcs)
         }
         Node::Binary { left, right, .. }
         | Node::Array {
             low: left,
             high: right,
-        } => {
-            let left = origin(checked, slots, left);
-            let right = origin(checked, slots, right);
-            arcs.push_two(left, right, first)
         }
-        Node::Arg { enter, value, .. } => {
-            let value = origin(checked, slots, value);
-            arcs.push_two(output(enter), value, first)
+        | Node::Address {
+            target: left,
+            index: right,
+        } => push_operands(checked, slots, n, left, right, arcs),
+        Node::Arg {
+            enter: first,
+            value,
+            ..
         }
+        | Node::Store {
+            address: first,
+            value,
+        } => push_behind(checked, slots, n, first, value, arcs),
         Node::If {
             then,
             otherwise,
             ..
-        } => {
-            arcs.push(origin(checked, slots, then), first, Port::Zero)?;
-            arcs.push(origin(checked, slots, otherwise), first, Port::Zero)
-        }
+        } => push_arms(checked, slots, n, then, otherwise, arcs),
         Node::Split { test } | Node::Switches { test } => {
-            let test = origin(checked, slots, test);
             push_split(checked, slots, n, row.region, test, arcs)
         }
         Node::Start => push_start(checked, slots, n, row.region, arcs),
         Node::LoopHead { .. } => push_loop_head(checked, slots, n, arcs),
-        Node::Variable => {
-            let next = slots.columns.next(checked, n);
-            arcs.push(output(next), first, Port::Zero)
-        }
+        Node::Variable => arcs.push_first(output(slots.columns.next(checked, n)), n),
         Node::Entries => push_entries(checked, slots, n, row.block as usize, arcs),
         Node::Turn => push_turn(checked, slots, n, row.region, row.block as usize, arcs),
-        Node::Address { target, index } => {
-            let target = origin(checked, slots, target);
-            let index = origin(checked, slots, index);
-            arcs.push_two(target, index, first)
-        }
-        Node::Fetch { target, index } => {
-            let target = origin(checked, slots, target);
-            let index = origin(checked, slots, index);
-            arcs.push_two(target, index, first)?;
-            arcs.push(output(n), first + 1, Port::Zero)
-        }
-        Node::Store { address, value } => {
-            let value = origin(checked, slots, value);
-            arcs.push_two(output(address), value, first)
-        }
+        Node::Fetch { target, index } => push_fetch(checked, slots, n, target, index, arcs),
     }
 }
 
-/// Adds the arcs to the switches of the conditional or loop that are at n in this region, where the predicate's value
-/// has this origin: to the trigger's, and to that of each import.
+/// Adds the arc from the last expression of the procedure with the head n to its way back.
+fn push_result(
+    checked: &Checked,
+    slots: &Slots<'_>,
+    n: usize,
+    arcs: &mut Arcs,
+) -> Result<(), BuildError>
+    requires slots { AreSlots checked.now slots.now }
+    requires within { n < length (programs.rows checked.now) }
+    ensures list { OnOk result (arcs.new.list.items ≡ arcs.old.list.items ++ map (arc_of arcs.old.firsts.items n)
+        (rows.feed (rows.origin checked.now (body_of (rows.node checked.now (end_of checked.now n)))) 1 One ∷ [])) }
+    ensures firsts { arcs.new.firsts.items ≡ arcs.old.firsts.items }
+    ensures memory { IfErr result (λ e. e ≡ BuildError.Memory) }
+{
+    let body = body_of(row_at(checked, slots.columns.end(checked, n)).node);
+    let first = number_by(arcs.firsts.as_slice(), n);
+    arcs.push(origin(checked, slots, body), first + 1, Port::One)
+}
+
+/// Adds the arc from the value of an expression to the first instruction of the row n.
+fn push_value(
+    checked: &Checked,
+    slots: &Slots<'_>,
+    n: usize,
+    value: usize,
+    arcs: &mut Arcs,
+) -> Result<(), BuildError>
+    requires slots { AreSlots checked.now slots.now }
+    ensures list { OnOk result (arcs.new.list.items ≡ arcs.old.list.items ++ map (arc_of arcs.old.firsts.items n)
+        (rows.feed (rows.origin checked.now value) 0 Zero ∷ [])) }
+    ensures firsts { arcs.new.firsts.items ≡ arcs.old.firsts.items }
+    ensures memory { IfErr result (λ e. e ≡ BuildError.Memory) }
+{
+    arcs.push_first(origin(checked, slots, value), n)
+}
+
+/// Adds the arcs from the values of two operands to the two ports of the first instruction of the row n.
+fn push_operands(
+    checked: &Checked,
+    slots: &Slots<'_>,
+    n: usize,
+    left: usize,
+    right: usize,
+    arcs: &mut Arcs,
+) -> Result<(), BuildError>
+    requires slots { AreSlots checked.now slots.now }
+    ensures list { OnOk result (arcs.new.list.items ≡ arcs.old.list.items ++ map (arc_of arcs.old.firsts.items n)
+        (rows.feed (rows.origin checked.now left) 0 Zero ∷ rows.feed (rows.origin checked.now right) 0 One ∷ [])) }
+    ensures firsts { arcs.new.firsts.items ≡ arcs.old.firsts.items }
+    ensures memory { IfErr result (λ e. e ≡ BuildError.Memory) }
+{
+    let left = origin(checked, slots, left);
+    let right = origin(checked, slots, right);
+    let first = number_by(arcs.firsts.as_slice(), n);
+    arcs.push_two(left, right, first)
+}
+
+/// Adds the arcs from the first instruction of a row and from the value of an expression to the two ports of the first
+/// instruction of the row n.
+fn push_behind(
+    checked: &Checked,
+    slots: &Slots<'_>,
+    n: usize,
+    row: usize,
+    value: usize,
+    arcs: &mut Arcs,
+) -> Result<(), BuildError>
+    requires slots { AreSlots checked.now slots.now }
+    ensures list { OnOk result (arcs.new.list.items ≡ arcs.old.list.items ++ map (arc_of arcs.old.firsts.items n)
+        (rows.feed (rows.output row) 0 Zero ∷ rows.feed (rows.origin checked.now value) 0 One ∷ [])) }
+    ensures firsts { arcs.new.firsts.items ≡ arcs.old.firsts.items }
+    ensures memory { IfErr result (λ e. e ≡ BuildError.Memory) }
+{
+    let value = origin(checked, slots, value);
+    let first = number_by(arcs.firsts.as_slice(), n);
+    arcs.push_two(output(row), value, first)
+}
+
+/// Adds the arcs from the values of the arms of the conditional at the row n.
+fn push_arms(
+    checked: &Checked,
+    slots: &Slots<'_>,
+    n: usize,
+    then: usize,
+    otherwise: usize,
+    arcs: &mut Arcs,
+) -> Result<(), BuildError>
+    requires slots { AreSlots checked.now slots.now }
+    ensures list { OnOk result (arcs.new.list.items ≡ arcs.old.list.items ++ map (arc_of arcs.old.firsts.items n)
+        (rows.feed (rows.origin checked.now then) 0 Zero ∷ rows.feed (rows.origin checked.now otherwise) 0 Zero ∷ [])) }
+    ensures firsts { arcs.new.firsts.items ≡ arcs.old.firsts.items }
+    ensures memory { IfErr result (λ e. e ≡ BuildError.Memory) }
+{
+    let first = number_by(arcs.firsts.as_slice(), n);
+    arcs.push(origin(checked, slots, then), first, Port::Zero)?;
+    arcs.push(origin(checked, slots, otherwise), first, Port::Zero)
+}
+
+/// Adds the arcs to the address and the `fetch` of the fetch at the row n.
+fn push_fetch(
+    checked: &Checked,
+    slots: &Slots<'_>,
+    n: usize,
+    target: usize,
+    index: usize,
+    arcs: &mut Arcs,
+) -> Result<(), BuildError>
+    requires slots { AreSlots checked.now slots.now }
+    ensures list { OnOk result (arcs.new.list.items ≡ arcs.old.list.items ++ map (arc_of arcs.old.firsts.items n)
+        (rows.feed (rows.origin checked.now target) 0 Zero ∷ rows.feed (rows.origin checked.now index) 0 One
+        ∷ rows.feed (rows.output n) 1 Zero ∷ [])) }
+    ensures firsts { arcs.new.firsts.items ≡ arcs.old.firsts.items }
+    ensures memory { IfErr result (λ e. e ≡ BuildError.Memory) }
+{
+    push_operands(checked, slots, n, target, index, arcs)?;
+    let first = number_by(arcs.firsts.as_slice(), n);
+    arcs.push(output(n), first + 1, Port::Zero)
+}
+
+/// Adds the arcs to the switches of the conditional or loop that are at n in this region, with this predicate: to the
+/// trigger's, and to that of each import.
 fn push_split(
     checked: &Checked,
     slots: &Slots<'_>,
     n: usize,
     region: Region,
-    test: Origin,
+    test: usize,
     arcs: &mut Arcs,
 ) -> Result<(), BuildError>
     requires slots { AreSlots checked.now slots.now }
-    requires part { test.part < 2 ^ 62 }
     ensures list { OnOk result (arcs.new.list.items ≡ arcs.old.list.items ++ map (arc_of arcs.old.firsts.items n)
-        (rows.feed test 0 Zero ∷ rows.feed (rows.trigger_of region) 0 One
-        ∷ import_feeds checked.now test region 1 (regions.imports_of checked.now n))) }
+        (rows.feed (rows.origin checked.now test) 0 Zero ∷ rows.feed (rows.trigger_of region) 0 One
+        ∷ import_feeds checked.now (rows.origin checked.now test) region 1 (regions.imports_of checked.now n))) }
     ensures firsts { arcs.new.firsts.items ≡ arcs.old.firsts.items }
     ensures memory { IfErr result (λ e. e ≡ BuildError.Memory) }
 {
+    let test = origin(checked, slots, test);
     let first = number_by(arcs.firsts.as_slice(), n);
     arcs.push_two(test, trigger_of(region), first)?;
     push_imports(
@@ -328,6 +425,18 @@ impl Arcs {
             port,
         })?;
         Ok(())
+    }
+
+    /// Adds an arc to the first instruction of the row n.
+    fn push_first(&mut self, origin: Origin, n: usize) -> Result<(), BuildError>
+        requires { origin.part < 2 ^ 62 }
+        ensures list { OnOk result (self.new.list.items
+            ≡ self.old.list.items ++ arc_of self.old.firsts.items n (rows.feed origin 0 Zero) ∷ []) }
+        ensures firsts { self.new.firsts.items ≡ self.old.firsts.items }
+        ensures memory { IfErr result (λ e. e ≡ BuildError.Memory) }
+    {
+        let first = number_by(self.firsts.as_slice(), n);
+        self.push(origin, first, Port::Zero)
     }
 
     /// Adds an arc to each of the two ports of an instruction.

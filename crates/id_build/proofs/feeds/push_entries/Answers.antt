@@ -1,10 +1,11 @@
 -- The arc of one more entry is pushed.
-use Rattle.std.proofs.Common.{◌≡◌, ◌∙◌, ◌+◌, ◌<◌, ◌++◌, ◌∷◌, [], ℕ, List, true, ap, arith, length}
+use Rattle.std.proofs.Common.{◌≡◌, ◌∙◌, ◌+◌, ◌<◌, ◌≤◌, ◌++◌, ◌∷◌, [], ℕ, List, true, ap, arith, length, map, refl}
 use Rattle.id_desugar.specs.Regions.{imports_of}
 use Rattle.id_graph.specs.declared.dests.Port.TheVariants.{Zero}
-use Rattle.id_build.specs.Made.{number_by}
-use Rattle.id_build.specs.Rows.{turn_row}
-use Rattle.id_build.proofs.FeedsLemmas.{arc_is, entry_feeds-next}
+use Rattle.id_build.specs.Made.{arc_of, number_by}
+use Rattle.id_build.specs.Rows.{entry_feeds, turn_row}
+use Rattle.id_build.proofs.FeedsLemmas.{arc_is, entry_feeds-next, rest_done}
+use Rattle.id_build.proofs.ResultLemmas.{if_err, on_ok}
 use Rattle.id_build.proofs.feeds.push_entries.Goals as goal
 
 pub loop-part-preserved : goal.loop-part-preserved
@@ -25,4 +26,25 @@ loop-part-preserved c =
     record {
       list = entry_feeds-next F n m k bs xs ys _ less c.loop-part.invariant.list one;
       firsts = c.in_ok-push.ensures.firsts ∙ c.loop-part.invariant.firsts;
+    }
+
+pub returns-in_err-push : goal.returns-in_err-push
+returns-in_err-push c = record {
+  list = on_ok _ c.from_residual.result c.from_residual.ensures.0;
+  firsts = c.in_err-push.ensures.firsts ∙ c.loop-part.invariant.firsts;
+  memory = if_err _ c.from_residual.result _ c.from_residual.ensures.1 c.in_err-push.ensures.memory;
+}
+
+pub loop-part-init : goal.loop-part-init
+loop-part-init c = record { list = refl; firsts = refl }
+
+pub returns : goal.returns
+returns c =
+    let P = c.args.checked.now in
+    let end : length (imports_of P c.args.head) ≤ c.loop-part.part = omega (arith, c.loop-part-test.false, ap length c.imports-part-end.ensures) in
+    record {
+      list = rest_done (λ z. map (arc_of c.args.arcs.now.firsts.items c.args.n) (entry_feeds (turn_row P c.args.head) c.loop-part.part z)) c.loop-part.part
+          (imports_of P c.args.head) c.loop-part.arcs.list.items _ refl end c.loop-part.invariant.list;
+      firsts = c.loop-part.invariant.firsts;
+      memory = tt;
     }

@@ -1,8 +1,9 @@
 -- The arcs of one more import are pushed.
-use Rattle.std.proofs.Common.{◌≡◌, ◌∙◌, ◌+◌, arith, get_or, refl}
-use Rattle.id_build.specs.Made.{number_by}
-use Rattle.id_build.specs.Rows.{name_in}
-use Rattle.id_build.proofs.FeedsLemmas.{import_feeds-next, two_are}
+use Rattle.std.proofs.Common.{◌≡◌, ◌∙◌, ◌+◌, ◌++◌, List, ℕ, add-zero, ap, arith, get_or, map, refl}
+use Rattle.id_build.specs.Made.{arc_of, number_by}
+use Rattle.id_build.specs.Rows.{import_feeds, name_in}
+use Rattle.id_build.proofs.FeedsLemmas.{import_feeds-next, rest_done, two_are}
+use Rattle.id_build.proofs.ResultLemmas.{if_err, on_ok}
 use Rattle.id_build.proofs.feeds.push_imports.Goals as goal
 
 pub loop-binder-preserved : goal.loop-binder-preserved
@@ -25,3 +26,33 @@ loop-binder-preserved c =
       firsts = c.in_ok-push_two.ensures.firsts ∙ c.loop-binder.invariant.firsts;
       to = omega (arith, c.loop-binder.invariant.to);
     }
+
+pub returns-in_err-push_two : goal.returns-in_err-push_two
+returns-in_err-push_two c = record {
+  list = on_ok _ c.from_residual.result c.from_residual.ensures.0;
+  firsts = c.in_err-push_two.ensures.firsts ∙ c.loop-binder.invariant.firsts;
+  memory = if_err _ c.from_residual.result _ c.from_residual.ensures.1 c.in_err-push_two.ensures.memory;
+}
+
+pub loop-binder-init : goal.loop-binder-init
+loop-binder-init c =
+    let P = c.args.checked.now in
+    let F = c.args.arcs.now.firsts.items in
+    let first : c.number_by.result ≡ number_by F c.args.n 0 =
+    c.number_by.ensures.number ∙ ap (λ (f : List ℕ). number_by f c.args.n 0) c.as_slice.ensures.value in
+    record {
+      list = ap (λ k. c.args.arcs.now.list.items ++ map (arc_of F c.args.n) (import_feeds P c.args.source c.args.region k c.args.binders.now))
+          (add-zero c.args.part);
+      firsts = refl;
+      to = omega (arith, first);
+    }
+
+pub returns : goal.returns
+returns c = record {
+  list = rest_done
+      (λ z. map (arc_of c.args.arcs.now.firsts.items c.args.n)
+      (import_feeds c.args.checked.now c.args.source c.args.region (c.args.part + c.loop-binder.binder-index) z))
+      c.loop-binder.binder-index c.args.binders.now c.loop-binder.arcs.list.items _ refl c.loop-binder-test.false c.loop-binder.invariant.list;
+  firsts = c.loop-binder.invariant.firsts;
+  memory = tt;
+}

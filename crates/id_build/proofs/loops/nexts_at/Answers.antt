@@ -1,7 +1,7 @@
 -- The switches of a loop hand on its variables first.
 use Rattle.std.proofs.Common.{◌≡◌, ◌∙◌, ◌-◌, ap, arith, length, length-append, take}
 use Rattle.id_desugar.specs.Regions.{imports_of, nexts_of}
-use Rattle.id_build.proofs.LoopsLemmas.{nexts_first, take_front}
+use Rattle.id_build.proofs.LoopsLemmas.{head_inside, nexts_first, take_front}
 use Rattle.id_build.proofs.loops.nexts_at.Goals as goal
 
 pub slice_bounds-result-count : goal.slice_bounds-result-count
@@ -19,3 +19,15 @@ returns-clause-nexts c =
     let count : length c.imports-handed.result.now - length c.imports-inner.result.now ≡ length (nexts_of P h) =
     omega (arith, ap length all, length-append (nexts_of P h) (imports_of P h), ap length c.imports-inner.ensures) in
     ap (take (length c.imports-handed.result.now - length c.imports-inner.result.now)) all ∙ take_front (nexts_of P h) (imports_of P h) _ count
+
+pub switches_row-requires : goal.switches_row-requires
+switches_row-requires c = record {
+  columns = c.requires.columns;
+  within = head_inside c.args.checked.now c.args.head c.requires.head;
+}
+
+pub imports-inner-requires : goal.imports-inner-requires
+imports-inner-requires c = c.requires.columns
+
+pub imports-handed-requires : goal.imports-handed-requires
+imports-handed-requires c = c.requires.columns

@@ -1,5 +1,5 @@
 -- One more row may be one more head.
-use Rattle.std.proofs.Common.{◌≡◌, ◌∙◌, ◌++◌, ◌∷◌, [], true, false, ap, map, sym}
+use Rattle.std.proofs.Common.{◌≡◌, ◌∙◌, ◌++◌, ◌∷◌, [], true, false, ap, append-nil, arith, length, map, sym}
 use Rattle.std.proofs.lemmas.List.{append_assoc}
 use Rattle.id_parts.specs.declared.row.Row.{Row}
 use Rattle.id_parts.specs.Tables.{is_head}
@@ -10,6 +10,7 @@ use Rattle.id_build.specs.Made.{number_by}
 use Rattle.id_build.specs.Rows.{node}
 use Rattle.id_build.specs.Schemas.{block_of, loop_heads_below}
 use Rattle.id_build.proofs.BlocksLemmas.{blocks_push, heads_next, heads_same, loop_heads_next, loop_heads_same}
+use Rattle.id_build.proofs.ResultLemmas.{if_err, if_ok}
 use Rattle.id_build.proofs.program.blocks.Goals as goal
 use Rattle.id_build.proofs.program.blocks.Goals.{then-is_head+in_ok-entries+in_ok-add_block, else-is_head}
 use Rattle.id_build.proofs.program.blocks.Goals.{then-is_loop_head+in_ok-entries-2+in_ok-add_block-2, else-is_loop_head}
@@ -60,3 +61,46 @@ loop-head-2-preserved c = elim c.if-is_loop_head.branch [
       let test : is_loop_head (node P h) ≡ false = sym row ∙ sym c.is_loop_head.ensures ∙ w.if-is_loop_head.false in
       ap (λ b. b.items) w.blocks-is ∙ c.loop-head-2.invariant ∙ ap (λ z. map (block_of P (number_by F)) (xs ++ z)) (sym (loop_heads_same P h test))
 ]
+
+pub loop-head-init : goal.loop-head-init
+loop-head-init c = c.new-blocks.ensures.items
+
+pub loop-head-2-init : goal.loop-head-2-init
+loop-head-2-init c =
+    let P = c.args.checked.now in
+    let end : c.loop-head.head ≡ length (rows P) = omega (arith, c.loop-head.auto.head-end, c.loop-head-test.false, c.len-head-end.ensures) in
+    c.loop-head.invariant ∙ ap (λ n. map (block_of P (number_by c.args.firsts.now)) (heads_below (rows P) n)) end
+    ∙ ap (map (block_of P (number_by c.args.firsts.now))) (sym (append-nil (heads_of (rows P))))
+
+pub returns-in_err-entries : goal.returns-in_err-entries
+returns-in_err-entries c = record {
+  blocks = if_ok _ c.from_residual.result c.from_residual.ensures.0;
+  memory = if_err _ c.from_residual.result _ c.from_residual.ensures.1 c.in_err-entries.ensures.memory;
+}
+
+pub returns-in_err-add_block : goal.returns-in_err-add_block
+returns-in_err-add_block c = record {
+  blocks = if_ok _ c.from_residual-in_err-add_block.result c.from_residual-in_err-add_block.ensures.0;
+  memory = if_err _ c.from_residual-in_err-add_block.result _ c.from_residual-in_err-add_block.ensures.1 c.in_err-add_block.ensures.memory;
+}
+
+pub returns-in_err-entries-2 : goal.returns-in_err-entries-2
+returns-in_err-entries-2 c = record {
+  blocks = if_ok _ c.from_residual-in_err-entries-2.result c.from_residual-in_err-entries-2.ensures.0;
+  memory = if_err _ c.from_residual-in_err-entries-2.result _ c.from_residual-in_err-entries-2.ensures.1 c.in_err-entries-2.ensures.memory;
+}
+
+pub returns-in_err-add_block-2 : goal.returns-in_err-add_block-2
+returns-in_err-add_block-2 c = record {
+  blocks = if_ok _ c.from_residual-in_err-add_block-2.result c.from_residual-in_err-add_block-2.ensures.0;
+  memory = if_err _ c.from_residual-in_err-add_block-2.result _ c.from_residual-in_err-add_block-2.ensures.1 c.in_err-add_block-2.ensures.memory;
+}
+
+pub returns : goal.returns
+returns c =
+    let P = c.args.checked.now in
+    let end : c.loop-head-2.head ≡ length (rows P) = omega (arith, c.loop-head-2.auto.head-end, c.loop-head-2-test.false, c.len-head-end-2.ensures) in
+    record {
+      blocks = c.loop-head-2.invariant ∙ ap (λ n. map (block_of P (number_by c.args.firsts.now)) (heads_of (rows P) ++ loop_heads_below P n)) end;
+      memory = tt;
+    }

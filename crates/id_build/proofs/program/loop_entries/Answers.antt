@@ -1,10 +1,12 @@
 -- The entries of a loop are its variables, and then its imports, whose numbers an instruction can have.
-use Rattle.std.proofs.Common.{◌≡◌, ◌∙◌, ◌+◌, ◌-◌, ◌<◌, ◌≤◌, ◌++◌, ◌∷◌, [], List, ℕ, ap, arith, length, map, drop, sym, append-nil}
-use Rattle.std.proofs.lemmas.List.{drop_all}
+use Rattle.std.proofs.Common.{◌≡◌, ◌∙◌, ◌+◌, ◌-◌, ◌<◌, ◌≤◌, ◌++◌, ◌∷◌, [], List, ℕ, ap, add-zero, arith, length, map, drop, refl, sym, append-nil}
+use Rattle.std.proofs.lemmas.List.{drop_all, map-append}
 use Rattle.id_desugar.specs.Regions.{imports_of, nexts_of}
 use Rattle.id_build.specs.Made.{number_by}
 use Rattle.id_build.specs.Rows.{Entry, entries_by, entries_row, import_entries, loop_entries, node, variable_entries}
+use Rattle.id_build.proofs.FeedsLemmas.{rest_done}
 use Rattle.id_build.proofs.LoopsLemmas.{loop_head_is}
+use Rattle.id_build.proofs.ResultLemmas.{if_ok, is_err}
 use Rattle.id_build.proofs.SendsLemmas.{import_entries-next, variable_entries-next}
 use Rattle.id_build.proofs.program.loop_entries.Goals as goal
 
@@ -62,3 +64,41 @@ returns-clause-entries c =
     let none : drop c.loop-part.part (imports_of P h) ≡ [] = drop_all c.loop-part.part (imports_of P h) end in
     sym (append-nil xs) ∙ ap (λ bs. xs ++ map f (import_entries e c.loop-part.part bs)) (sym none) ∙ c.loop-part.invariant
     ∙ ap (λ n. map f (entries_by P h n)) (sym z.1)
+
+pub loop-variable-init : goal.loop-variable-init
+loop-variable-init c =
+    let F = c.args.firsts.now in
+    let f : Entry → ℕ = λ q. number_by F q.row q.part in
+    let h = c.args.head + 1 in
+    let none : h - h ≡ 0 = omega arith in
+    let all : List ℕ → ℕ → List ℕ = λ z k. z ++ map f (variable_entries (h + k) (drop k (nexts_of c.args.checked.now c.args.head))) in
+    ap (λ z. all z (h - h)) c.new-entries.ensures.items ∙ ap (all []) none
+    ∙ ap (λ v. map f (variable_entries v (nexts_of c.args.checked.now c.args.head))) (add-zero h)
+
+pub loop-part-init : goal.loop-part-init
+loop-part-init c =
+    let P = c.args.checked.now in
+    let h = c.args.head in
+    let f : Entry → ℕ = λ q. number_by c.args.firsts.now q.row q.part in
+    let i = c.loop-variable.variable - (h + 1) in
+    let end : length (nexts_of P h) ≤ i = omega (arith, c.loop-variable-test.false, c.entries_row-imported.ensures) in
+    let vs = map f (variable_entries (h + 1) (nexts_of P h)) in
+    let ws = map f (import_entries (entries_row P h) 0 (imports_of P h)) in
+    let done : c.loop-variable.entries.items ≡ vs =
+    rest_done (λ z. map f (variable_entries (h + 1 + i) z)) i (nexts_of P h) c.loop-variable.entries.items _ refl end c.loop-variable.invariant in
+    ap (λ z. z ++ ws) done ∙ sym (map-append f (variable_entries (h + 1) (nexts_of P h)) (import_entries (entries_row P h) 0 (imports_of P h)))
+
+pub returns-in_err-push : goal.returns-in_err-push
+returns-in_err-push c = record {
+  entries = if_ok _ c.from_residual.result c.from_residual.ensures.0;
+  memory = is_err _ c.from_residual.result c.from_residual.ensures.1;
+}
+
+pub returns-in_err-push-2 : goal.returns-in_err-push-2
+returns-in_err-push-2 c = record {
+  entries = if_ok _ c.from_residual-in_err-push-2.result c.from_residual-in_err-push-2.ensures.0;
+  memory = is_err _ c.from_residual-in_err-push-2.result c.from_residual-in_err-push-2.ensures.1;
+}
+
+pub overflow_cast-number_by : goal.overflow_cast-number_by
+overflow_cast-number_by c = omega (arith, c.number_by.ensures.few)
