@@ -287,14 +287,12 @@ fn push_start(
     ensures memory { IfErr result (λ e. e ≡ BuildError.Memory) }
 {
     let head = n + 1;
-    let first = number_by(arcs.firsts.as_slice(), n);
-    arcs.push(trigger_of(region), first, Port::Zero)?;
+    arcs.push_first(trigger_of(region), n)?;
     let nexts = nexts_at(checked, slots.columns, head);
     push_firsts(checked, slots, n, region, nexts, arcs)?;
     let imports = slots.columns.imports(checked, head);
     let from = 1 + nexts.len();
-    push_imports(checked, slots, n, output(n), region, from, imports, arcs)?;
-    Ok(())
+    push_imports(checked, slots, n, output(n), region, from, imports, arcs)
 }
 
 /// Adds the arcs to the `send`s of the first values of the variables with these `next` statements, in the loop that

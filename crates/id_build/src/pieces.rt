@@ -36,8 +36,7 @@ pub fn push_pieces(
     ensures memory { IfErr result (λ e. e ≡ BuildError.Memory) }
 {
     let row = row_at(checked, n);
-    push_row(checked, columns, n, row.place as usize, row.node, pieces)?;
-    Ok(())
+    push_row(checked, columns, n, row.place as usize, row.node, pieces)
 }
 
 /// Adds the instructions of the row n of this place and node.
