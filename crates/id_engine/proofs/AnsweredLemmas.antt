@@ -1,14 +1,14 @@
 -- What is said of one answer of a call, said in other words.
-use Rattle.std.proofs.Common.{◌≡◌, ◌≢◌, ◌<◌, ◌⊎◌, ℕ, List, Result, Ok, Err, inl, inr}
-use Rattle.std.specs.Prelude.{IfOk, IfErr, OnOk}
+use Rattle.std.proofs.Common.{◌≡◌, ◌≢◌, ◌<◌, ◌⊎◌, ◌∙◌, ℕ, List, Result, Ok, Err, IsErr, inl, inr, subst, sym}
+use Rattle.std.specs.Prelude.{IfOk, IfErr, IsErrAnd, OnOk}
 use Rattle.id_check.specs.declared.checked.Checked.{Checked}
-use Rattle.id_meaning.specs.Sources.{source}
+use Rattle.id_meaning.specs.Sources.{Source, source}
 use Rattle.id_engine.specs.declared.compiled.CompileError.{CompileError}
 use Rattle.id_engine.specs.declared.compiled.CompileError.TheVariants as compiler
 use Rattle.id_engine.specs.declared.error.EngineError.{EngineError}
 use Rattle.id_engine.specs.declared.error.EngineError.TheVariants.{Compile, MissingInput, UnknownInput, RepeatedInput, BadInput, BadElements, BadSteps, BadRounds, TooManyFacts, Memory, Write}
 use Rattle.id_engine.specs.Programs.{HasInputs, IsProgramOf, IsRefusedBy, by_memory, too_large}
-use Rattle.id_engine.specs.Refusals.{AreRefusedFacts, AreRefusedFor, IsRefusedRun, IsInsideOf}
+use Rattle.id_engine.specs.Refusals.{AreRefusedFacts, AreRefusedFor, IsCauseInside, IsRefusedRun, IsInsideOf}
 use Rattle.id_engine.specs.Refusals.IsRefusedRun.{by_source as by_run_source, no_elements, too_many_elements, no_steps, too_many_steps}
 use Rattle.id_engine.specs.Refusals.IsRefusedSource.{by_memory as no_memory}
 use Rattle.id_engine.specs.Refusals.AreRefusedFacts.{by_source, bad_rounds, too_many_facts}
@@ -22,6 +22,10 @@ module _ {A E : Type 0} where
   pub if_ok : (r : Result A E) (P Q : A → Type 0) → ((a : A) → P a → Q a) → IfOk r P → IfOk r Q
   if_ok (Ok a) P Q t h = t a h
   if_ok (Err e) P Q t h = tt
+
+  pub ok_all : (r : Result A E) (P : A → Type 0) → ((a : A) → P a) → IfOk r P
+  ok_all (Ok a) P all = all a
+  ok_all (Err e) P all = tt
 
   pub on_ok_both : (r : Result A E) (P Q : A → Type 0) (R : Type 0) → ((a : A) → P a → Q a → R) → IfOk r P → IfOk r Q → OnOk r R
   on_ok_both (Ok a) P Q R t h k = t a h k
@@ -43,6 +47,24 @@ module _ {A E : Type 0} where
   if_err (Ok a) P Q t h = tt
   if_err (Err e) P Q t h = t e h
 
+-- what an error that came of a call says: nothing of a value, and of itself what the call's says
+module _ {A E : Type 0} where
+  pub err_taken : (r : Result A E) (P : Type 0) → IsErr r → OnOk r P
+  err_taken (Ok a) P is = cc
+  err_taken (Err e) P is = tt
+
+  pub err_all : (r : Result A E) (P : E → Type 0) → ((e : E) → P e) → IfErr r P
+  err_all (Ok a) P all = tt
+  err_all (Err e) P all = all e
+
+  pub err_from : (r : Result A E) (P : E → Type 0) (x : E) → IsErrAnd r (λ e. e ≡ x) → P x → IfErr r P
+  err_from (Ok a) P x is h = absurd is
+  err_from (Err e) P x is h = subst P (sym is) h
+
+  pub err_not : {Z : Type 0} → (r : Result A E) (x y : E) → IsErrAnd r (λ e. e ≡ x) → x ≢ y → r ≡ Err y → Z
+  err_not (Ok a) x y is other h = absurd is
+  err_not (Err e) x y is other h = let same : e ≡ y = cc in absurd (other (sym is ∙ same))
+
 -- ---- a program without graph
 
 pub refused_graph : (text : List ℕ) (P : Checked) (e : CompileError) → IsProgramOf text P → IsRefusedGraph P e → IsRefusedBy text e
@@ -51,6 +73,14 @@ refused_graph text P (compiler.Tree e) p h = absurd cc
 refused_graph text P (compiler.Check c) p h = absurd cc
 refused_graph text P compiler.TooLarge p h = too_large P p h
 refused_graph text P compiler.Memory p h = by_memory
+
+-- and a graph that is refused has no place
+pub graph_inside : (text : List ℕ) (P : Checked) (e : CompileError) → IsRefusedGraph P e → IsCauseInside text e
+graph_inside text P (compiler.Text e) h = absurd cc
+graph_inside text P (compiler.Tree e) h = absurd cc
+graph_inside text P (compiler.Check c) h = absurd cc
+graph_inside text P compiler.TooLarge h = tt
+graph_inside text P compiler.Memory h = tt
 
 -- ---- want of memory is no error of a place, and none of a write
 
@@ -83,6 +113,20 @@ late_words text P ws BadRounds h = absurd h
 late_words text P ws TooManyFacts h = absurd h
 late_words text P ws Memory h = let n : Memory ≢ Write = λ k. absurd cc in (tt, n)
 late_words text P ws Write h = absurd h
+
+-- nor are refused rounds
+pub late_rounds : (text : List ℕ) (S : Source) (round : ℕ) (e : EngineError) → AreRefusedRounds S round e → IsLate text e
+late_rounds text S round (Compile x) h = absurd cc
+late_rounds text S round (MissingInput x) h = absurd cc
+late_rounds text S round (UnknownInput j) h = absurd cc
+late_rounds text S round (RepeatedInput j) h = absurd cc
+late_rounds text S round (BadInput j) h = absurd cc
+late_rounds text S round BadElements h = absurd cc
+late_rounds text S round BadSteps h = absurd cc
+late_rounds text S round BadRounds h = let n : BadRounds ≢ Write = λ k. absurd cc in (tt, n)
+late_rounds text S round TooManyFacts h = let n : TooManyFacts ≢ Write = λ k. absurd cc in (tt, n)
+late_rounds text S round Memory h = let n : Memory ≢ Write = λ k. absurd cc in (tt, n)
+late_rounds text S round Write h = absurd cc
 
 -- why so many elements and steps are not allowed is no error of a place, and none of a write
 pub late_unallowed : (text : List ℕ) (count steps : ℕ) (e : EngineError) → IsUnallowed count steps e → IsLate text e

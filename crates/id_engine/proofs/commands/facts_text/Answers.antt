@@ -1,15 +1,44 @@
-use Rattle.std.proofs.Common.{List, map, sym, subst}
+use Rattle.std.proofs.Common.{List, map, sym, subst, refl}
+use Rattle.std.proofs.lemmas.Result.{IfOk-from_err}
+use Rattle.id_engine.specs.declared.error.EngineError.TheVariants.{Write}
+use Rattle.id_engine.proofs.AnsweredLemmas.{err_all, err_from, err_not, err_taken}
 use Rattle.id_meaning.specs.declared.Fact.{Fact}
 use Rattle.id_engine.specs.Commands.{AreFactsOf}
 use Rattle.id_engine.specs.Refusals.AreRefusedFacts.{by_write}
 use Rattle.id_engine.proofs.ShownLemmas.{HasShown-facts}
 use Rattle.id_engine.proofs.commands.facts_text.Goals as goal
 
-pub returns-in-Ok-clause-shown : goal.returns-in-Ok-clause-shown
-returns-in-Ok-clause-shown g c = HasShown-facts _ _ _ _ _ _ _ (subst (λ (fs : List Fact). AreFactsOf c.args.text.now (map (λ w. w.now) c.args.inputs.now) c.args.round fs) (sym c.as_slice.ensures.value) c.in_ok-facts.ensures.facts) c.in-Ok.ensures
+-- an error before the first byte shows nothing
+pub returns-in_err-facts : goal.returns-in_err-facts
+returns-in_err-facts g c =
+    let r = c.from_residual.result in
+    let is = c.from_residual.ensures in
+    let told = c.in_err-facts.ensures in
+    record {
+      shown = IfOk-from_err r _ is.0;
+      cut = err_not r _ Write is.1 told.not_write;
+      silent = err_all r _ (λ e k. refl);
+      taken = err_taken r _ is.0;
+      refused = err_from r _ _ is.1 told.refused;
+      inside = err_from r _ _ is.1 told.inside;
+    }
 
-pub returns-clause-cut : goal.returns-clause-cut
-returns-clause-cut g c = λ _. record { status = 0; error = c.in-Err.field-0; shown = HasShown-facts _ _ _ _ _ _ _ (subst (λ (fs : List Fact). AreFactsOf c.args.text.now (map (λ w. w.now) c.args.inputs.now) c.args.round fs) (sym c.as_slice.ensures.value) c.in_ok-facts.ensures.facts) c.in-Err.ensures }
+pub returns-in-Ok : goal.returns-in-Ok
+returns-in-Ok g c = record {
+  shown = HasShown-facts _ _ _ _ _ _ _ (subst (λ (fs : List Fact). AreFactsOf c.args.text.now (map (λ w. w.now) c.args.inputs.now) c.args.round fs) (sym c.as_slice.ensures.value) c.in_ok-facts.ensures.facts) c.in-Ok.ensures;
+  cut = λ e. absurd cc;
+  silent = tt;
+  taken = c.in_ok-facts.ensures.taken;
+  refused = tt;
+  inside = tt;
+}
 
-pub returns-clause-refused : goal.returns-clause-refused
-returns-clause-refused g c = by_write
+pub returns : goal.returns
+returns g c = record {
+  shown = tt;
+  cut = λ _. record { status = 0; error = c.in-Err.field-0; shown = HasShown-facts _ _ _ _ _ _ _ (subst (λ (fs : List Fact). AreFactsOf c.args.text.now (map (λ w. w.now) c.args.inputs.now) c.args.round fs) (sym c.as_slice.ensures.value) c.in_ok-facts.ensures.facts) c.in-Err.ensures };
+  silent = λ h. absurd (h refl);
+  taken = tt;
+  refused = by_write;
+  inside = tt;
+}

@@ -1,49 +1,41 @@
-use Rattle.std.proofs.Common.{map}
+use Rattle.std.proofs.Common.{◌≡◌, map, refl}
+use Rattle.id_engine.specs.declared.error.EngineError.TheVariants.{Write}
 use Rattle.id_engine.specs.Refusals.IsRefusedRun.{by_source}
 use Rattle.id_engine.proofs.ShownLemmas.{RunsSo-cut, RunsSo-inside, RunsSo-ran, RunsSo-refused, RunsSo-shown, RunsSo-silent, RunsSo-taken}
 use Rattle.id_engine.proofs.run.engine.Goals as goal
 
-pub returns-in-Err-clause-refused : goal.returns-in-Err-clause-refused
-returns-in-Err-clause-refused g c = by_source c.in-Err.ensures.refused
+pub returns-in-Err : goal.returns-in-Err
+returns-in-Err g c = record {
+  shown = tt;
+  ran = tt;
+  cut = λ e. (let is : c.in-Err.error ≡ Write = cc in absurd (c.in-Err.ensures.not_write is));
+  silent = λ h. refl;
+  taken = tt;
+  refused = by_source c.in-Err.ensures.refused;
+  inside = c.in-Err.ensures.inside;
+}
 
-pub returns-in-Ok-clause-shown : goal.returns-in-Ok-clause-shown
-returns-in-Ok-clause-shown g c =
-    let p = c.in-Ok.prepared in
-    let e = c.in-Ok.ensures in
-    RunsSo-shown c.args.text.now (map (λ w. w.now) c.args.inputs.now) p.compiled.checked e.program e.small p.inputs.values e.inputs c.args.count c.args.trace c.args.steps c.args.names _ _ _ c.run_allowed.ensures
-
-pub returns-in-Ok-clause-ran : goal.returns-in-Ok-clause-ran
-returns-in-Ok-clause-ran g c =
-    let p = c.in-Ok.prepared in
-    let e = c.in-Ok.ensures in
-    RunsSo-ran c.args.text.now (map (λ w. w.now) c.args.inputs.now) p.compiled.checked e.program e.small p.inputs.values e.inputs c.args.count c.args.trace c.args.steps c.args.names _ _ _ c.run_allowed.ensures
-
-pub returns-in-Ok-clause-cut : goal.returns-in-Ok-clause-cut
-returns-in-Ok-clause-cut g c =
-    let p = c.in-Ok.prepared in
-    let e = c.in-Ok.ensures in
-    RunsSo-cut c.args.text.now (map (λ w. w.now) c.args.inputs.now) p.compiled.checked e.program e.small p.inputs.values e.inputs c.args.count c.args.trace c.args.steps c.args.names _ _ _ c.run_allowed.ensures
-
-pub returns-in-Ok-clause-silent : goal.returns-in-Ok-clause-silent
-returns-in-Ok-clause-silent g c =
-    let p = c.in-Ok.prepared in
-    let e = c.in-Ok.ensures in
-    RunsSo-silent c.args.text.now (map (λ w. w.now) c.args.inputs.now) p.compiled.checked e.program e.small p.inputs.values e.inputs c.args.count c.args.trace c.args.steps c.args.names _ _ _ c.run_allowed.ensures
-
-pub returns-in-Ok-clause-taken : goal.returns-in-Ok-clause-taken
-returns-in-Ok-clause-taken g c =
-    let p = c.in-Ok.prepared in
-    let e = c.in-Ok.ensures in
-    RunsSo-taken c.args.text.now (map (λ w. w.now) c.args.inputs.now) p.compiled.checked e.program e.small p.inputs.values e.inputs c.args.count c.args.trace c.args.steps c.args.names _ _ _ c.run_allowed.ensures
-
-pub returns-in-Ok-clause-refused : goal.returns-in-Ok-clause-refused
-returns-in-Ok-clause-refused g c =
-    let p = c.in-Ok.prepared in
-    let e = c.in-Ok.ensures in
-    RunsSo-refused c.args.text.now (map (λ w. w.now) c.args.inputs.now) p.compiled.checked e.program e.small p.inputs.values e.inputs c.args.count c.args.trace c.args.steps c.args.names _ _ _ c.run_allowed.ensures
-
-pub returns-in-Ok-clause-inside : goal.returns-in-Ok-clause-inside
-returns-in-Ok-clause-inside g c =
-    let p = c.in-Ok.prepared in
-    let e = c.in-Ok.ensures in
-    RunsSo-inside c.args.text.now (map (λ w. w.now) c.args.inputs.now) p.compiled.checked e.program e.small p.inputs.values e.inputs c.args.count c.args.trace c.args.steps c.args.names _ _ _ c.run_allowed.ensures
+pub returns-in-Ok : goal.returns-in-Ok
+returns-in-Ok g c = record {
+  shown = (let p = c.in-Ok.prepared in
+      let e = c.in-Ok.ensures in
+      RunsSo-shown c.args.text.now (map (λ w. w.now) c.args.inputs.now) p.compiled.checked e.program e.small p.inputs.values e.inputs c.args.count c.args.trace c.args.steps c.args.names _ _ _ c.run_allowed.ensures);
+  ran = (let p = c.in-Ok.prepared in
+      let e = c.in-Ok.ensures in
+      RunsSo-ran c.args.text.now (map (λ w. w.now) c.args.inputs.now) p.compiled.checked e.program e.small p.inputs.values e.inputs c.args.count c.args.trace c.args.steps c.args.names _ _ _ c.run_allowed.ensures);
+  cut = (let p = c.in-Ok.prepared in
+      let e = c.in-Ok.ensures in
+      RunsSo-cut c.args.text.now (map (λ w. w.now) c.args.inputs.now) p.compiled.checked e.program e.small p.inputs.values e.inputs c.args.count c.args.trace c.args.steps c.args.names _ _ _ c.run_allowed.ensures);
+  silent = (let p = c.in-Ok.prepared in
+      let e = c.in-Ok.ensures in
+      RunsSo-silent c.args.text.now (map (λ w. w.now) c.args.inputs.now) p.compiled.checked e.program e.small p.inputs.values e.inputs c.args.count c.args.trace c.args.steps c.args.names _ _ _ c.run_allowed.ensures);
+  taken = (let p = c.in-Ok.prepared in
+      let e = c.in-Ok.ensures in
+      RunsSo-taken c.args.text.now (map (λ w. w.now) c.args.inputs.now) p.compiled.checked e.program e.small p.inputs.values e.inputs c.args.count c.args.trace c.args.steps c.args.names _ _ _ c.run_allowed.ensures);
+  refused = (let p = c.in-Ok.prepared in
+      let e = c.in-Ok.ensures in
+      RunsSo-refused c.args.text.now (map (λ w. w.now) c.args.inputs.now) p.compiled.checked e.program e.small p.inputs.values e.inputs c.args.count c.args.trace c.args.steps c.args.names _ _ _ c.run_allowed.ensures);
+  inside = (let p = c.in-Ok.prepared in
+      let e = c.in-Ok.ensures in
+      RunsSo-inside c.args.text.now (map (λ w. w.now) c.args.inputs.now) p.compiled.checked e.program e.small p.inputs.values e.inputs c.args.count c.args.trace c.args.steps c.args.names _ _ _ c.run_allowed.ensures);
+}
