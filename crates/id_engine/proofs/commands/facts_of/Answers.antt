@@ -28,7 +28,14 @@ returns-in-Ok c = record {
       let n = c.args.round in
       let S : Source = source p.compiled.checked p.inputs.values in
       if_ok c.facts_of_prepared.result (λ v. AreFacts S n v.items) (λ v. AreFactsOf c.args.text.now (map (λ w. w.now) c.args.inputs.now) n v.items)
-      (λ v h. record { program = p.compiled.checked; is_program = c.in-Ok.ensures.program; inputs = p.inputs.values; are_inputs = c.in-Ok.ensures.inputs; are = h })
+      (λ v h. record {
+        program = p.compiled.checked;
+        is_program = c.in-Ok.ensures.program;
+        inputs = p.inputs.values;
+        are_inputs =
+            c.in-Ok.ensures.inputs;
+        are = h;
+      })
       c.facts_of_prepared.ensures.facts);
   within = (let p = c.in-Ok.prepared in
       let n = c.args.round in
@@ -40,15 +47,31 @@ returns-in-Ok c = record {
       let n = c.args.round in
       let ws = map (λ w. w.now) c.args.inputs.now in
       let S : Source = source p.compiled.checked p.inputs.values in
-      let has : HasInputs c.args.text.now ws = record { program = p.compiled.checked; is_program = c.in-Ok.ensures.program; small = c.in-Ok.ensures.small; inputs = p.inputs.values; are_inputs = c.in-Ok.ensures.inputs } in
+      let has : HasInputs c.args.text.now ws = record {
+        program = p.compiled.checked;
+        is_program = c.in-Ok.ensures.program;
+        small =
+            c.in-Ok.ensures.small;
+        inputs = p.inputs.values;
+        are_inputs = c.in-Ok.ensures.inputs;
+      } in
       on_ok_both c.facts_of_prepared.result (λ v. AreFacts S n v.items) (λ v. (n ≤ 10000) × (length v.items ≤ 1000000)) (AreTakenFacts c.args.text.now ws n)
-      (λ v h k. record { inputs = has; few_rounds = k.0; facts = v.items; are = h; few = k.1 }) c.facts_of_prepared.ensures.facts c.facts_of_prepared.ensures.few);
+      (λ v h k. record { inputs = has; few_rounds = k.0; facts = v.items; are = h; few = k.1 }) c.facts_of_prepared.ensures.facts
+      c.facts_of_prepared.ensures.few);
   refused = (let p = c.in-Ok.prepared in
       let n = c.args.round in
       let ws = map (λ w. w.now) c.args.inputs.now in
       let S : Source = source p.compiled.checked p.inputs.values in
-      let has : HasInputs c.args.text.now ws = record { program = p.compiled.checked; is_program = c.in-Ok.ensures.program; small = c.in-Ok.ensures.small; inputs = p.inputs.values; are_inputs = c.in-Ok.ensures.inputs } in
-      if_err c.facts_of_prepared.result (AreRefusedRounds S n) (AreRefusedFacts c.args.text.now ws n) (λ e h. refused_rounds c.args.text.now ws n has e h) c.facts_of_prepared.ensures.refused);
+      let has : HasInputs c.args.text.now ws = record {
+        program = p.compiled.checked;
+        is_program = c.in-Ok.ensures.program;
+        small =
+            c.in-Ok.ensures.small;
+        inputs = p.inputs.values;
+        are_inputs = c.in-Ok.ensures.inputs;
+      } in
+      if_err c.facts_of_prepared.result (AreRefusedRounds S n) (AreRefusedFacts c.args.text.now ws n) (λ e h. refused_rounds c.args.text.now ws n
+      has e h) c.facts_of_prepared.ensures.refused);
   inside = (let p = c.in-Ok.prepared in
       let n = c.args.round in
       let S : Source = source p.compiled.checked p.inputs.values in

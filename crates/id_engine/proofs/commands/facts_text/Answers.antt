@@ -25,7 +25,8 @@ returns-in_err-facts g c =
 
 pub returns-in-Ok : goal.returns-in-Ok
 returns-in-Ok g c = record {
-  shown = HasShown-facts _ _ _ _ _ _ _ (subst (λ (fs : List Fact). AreFactsOf c.args.text.now (map (λ w. w.now) c.args.inputs.now) c.args.round fs) (sym c.as_slice.ensures.value) c.in_ok-facts.ensures.facts) c.in-Ok.ensures;
+  shown = HasShown-facts _ _ _ _ _ _ _ (subst (λ (fs : List Fact). AreFactsOf c.args.text.now (map (λ w. w.now) c.args.inputs.now) c.args.round fs)
+      (sym c.as_slice.ensures.value) c.in_ok-facts.ensures.facts) c.in-Ok.ensures;
   cut = λ e. absurd cc;
   silent = tt;
   taken = c.in_ok-facts.ensures.taken;
@@ -36,7 +37,12 @@ returns-in-Ok g c = record {
 pub returns : goal.returns
 returns g c = record {
   shown = tt;
-  cut = λ _. record { status = 0; error = c.in-Err.field-0; shown = HasShown-facts _ _ _ _ _ _ _ (subst (λ (fs : List Fact). AreFactsOf c.args.text.now (map (λ w. w.now) c.args.inputs.now) c.args.round fs) (sym c.as_slice.ensures.value) c.in_ok-facts.ensures.facts) c.in-Err.ensures };
+  cut = λ _. record {
+    status = 0;
+    error = c.in-Err.field-0;
+    shown = HasShown-facts _ _ _ _ _ _ _ (subst (λ (fs : List Fact). AreFactsOf
+        c.args.text.now (map (λ w. w.now) c.args.inputs.now) c.args.round fs) (sym c.as_slice.ensures.value) c.in_ok-facts.ensures.facts) c.in-Err.ensures;
+  };
   silent = λ h. absurd (h refl);
   taken = tt;
   refused = by_write;

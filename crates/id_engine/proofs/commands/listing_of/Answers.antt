@@ -17,7 +17,12 @@ returns-in-Err c = record {
 pub returns-in-Ok : goal.returns-in-Ok
 returns-in-Ok c = record {
   listing = c.list_compiled.ensures.listing;
-  program = (let has : HasProgram c.args.text.now = record { program = c.in-Ok.compiled.checked; is_program = c.in-Ok.ensures.program; small = c.in-Ok.ensures.small } in
+  program = (let has : HasProgram c.args.text.now = record {
+    program = c.in-Ok.compiled.checked;
+    is_program = c.in-Ok.ensures.program;
+    small =
+        c.in-Ok.ensures.small;
+  } in
       on_ok c.list_compiled.result (HasProgram c.args.text.now) has);
   refused = if_err _ _ _ (λ e h. subst (IsRefusedText c.args.text.now) (sym h) by_memory) c.list_compiled.ensures.memory;
   inside = if_err _ _ _ (λ e h. let l = late_memory c.args.text.now e h in l.0) c.list_compiled.ensures.memory;

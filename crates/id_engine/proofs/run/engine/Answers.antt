@@ -19,23 +19,30 @@ pub returns-in-Ok : goal.returns-in-Ok
 returns-in-Ok g c = record {
   shown = (let p = c.in-Ok.prepared in
       let e = c.in-Ok.ensures in
-      RunsSo-shown c.args.text.now (map (λ w. w.now) c.args.inputs.now) p.compiled.checked e.program e.small p.inputs.values e.inputs c.args.count c.args.trace c.args.steps c.args.names _ _ _ c.run_allowed.ensures);
+      RunsSo-shown c.args.text.now (map (λ w. w.now) c.args.inputs.now) p.compiled.checked e.program e.small p.inputs.values e.inputs c.args.count
+      c.args.trace c.args.steps c.args.names _ _ _ c.run_allowed.ensures);
   ran = (let p = c.in-Ok.prepared in
       let e = c.in-Ok.ensures in
-      RunsSo-ran c.args.text.now (map (λ w. w.now) c.args.inputs.now) p.compiled.checked e.program e.small p.inputs.values e.inputs c.args.count c.args.trace c.args.steps c.args.names _ _ _ c.run_allowed.ensures);
+      RunsSo-ran c.args.text.now (map (λ w. w.now) c.args.inputs.now) p.compiled.checked e.program e.small p.inputs.values e.inputs c.args.count
+      c.args.trace c.args.steps c.args.names _ _ _ c.run_allowed.ensures);
   cut = (let p = c.in-Ok.prepared in
       let e = c.in-Ok.ensures in
-      RunsSo-cut c.args.text.now (map (λ w. w.now) c.args.inputs.now) p.compiled.checked e.program e.small p.inputs.values e.inputs c.args.count c.args.trace c.args.steps c.args.names _ _ _ c.run_allowed.ensures);
+      RunsSo-cut c.args.text.now (map (λ w. w.now) c.args.inputs.now) p.compiled.checked e.program e.small p.inputs.values e.inputs c.args.count
+      c.args.trace c.args.steps c.args.names _ _ _ c.run_allowed.ensures);
   silent = (let p = c.in-Ok.prepared in
       let e = c.in-Ok.ensures in
-      RunsSo-silent c.args.text.now (map (λ w. w.now) c.args.inputs.now) p.compiled.checked e.program e.small p.inputs.values e.inputs c.args.count c.args.trace c.args.steps c.args.names _ _ _ c.run_allowed.ensures);
+      RunsSo-silent c.args.text.now (map (λ w. w.now) c.args.inputs.now) p.compiled.checked e.program e.small p.inputs.values e.inputs c.args.count
+      c.args.trace c.args.steps c.args.names _ _ _ c.run_allowed.ensures);
   taken = (let p = c.in-Ok.prepared in
       let e = c.in-Ok.ensures in
-      RunsSo-taken c.args.text.now (map (λ w. w.now) c.args.inputs.now) p.compiled.checked e.program e.small p.inputs.values e.inputs c.args.count c.args.trace c.args.steps c.args.names _ _ _ c.run_allowed.ensures);
+      RunsSo-taken c.args.text.now (map (λ w. w.now) c.args.inputs.now) p.compiled.checked e.program e.small p.inputs.values e.inputs c.args.count
+      c.args.trace c.args.steps c.args.names _ _ _ c.run_allowed.ensures);
   refused = (let p = c.in-Ok.prepared in
       let e = c.in-Ok.ensures in
-      RunsSo-refused c.args.text.now (map (λ w. w.now) c.args.inputs.now) p.compiled.checked e.program e.small p.inputs.values e.inputs c.args.count c.args.trace c.args.steps c.args.names _ _ _ c.run_allowed.ensures);
+      RunsSo-refused c.args.text.now (map (λ w. w.now) c.args.inputs.now) p.compiled.checked e.program e.small p.inputs.values e.inputs c.args.count
+      c.args.trace c.args.steps c.args.names _ _ _ c.run_allowed.ensures);
   inside = (let p = c.in-Ok.prepared in
       let e = c.in-Ok.ensures in
-      RunsSo-inside c.args.text.now (map (λ w. w.now) c.args.inputs.now) p.compiled.checked e.program e.small p.inputs.values e.inputs c.args.count c.args.trace c.args.steps c.args.names _ _ _ c.run_allowed.ensures);
+      RunsSo-inside c.args.text.now (map (λ w. w.now) c.args.inputs.now) p.compiled.checked e.program e.small p.inputs.values e.inputs c.args.count
+      c.args.trace c.args.steps c.args.names _ _ _ c.run_allowed.ensures);
 }
