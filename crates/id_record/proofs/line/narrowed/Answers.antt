@@ -12,6 +12,7 @@ use Rattle.id_record.specs.Events.{value_of}
 use Rattle.id_record.specs.Lines.{message_at, port_at, tag_at}
 use Rattle.id_record.proofs.line.narrowed.Goals as goal
 
+-- the message of a line with this tag and this port is that of the token
 of_token : (o : Option Line) (t : Tag) (p : Port) (v : Value) (x : Payload) (m : Message)
     → IfSome o (λ l. tag_at l ≡ t) → IfSome o (λ l. port_at (l.position / 2 ^ 31) ≡ p) → IfSome o (λ l. message_at l x ≡ m) → x ≡ Token t p v
     → IfSome o (λ l. message_at l (Token (tag_at l) (port_at (l.position / 2 ^ 31)) v) ≡ m)

@@ -13,6 +13,7 @@ use Rattle.id_record.specs.declared.line.Kind.TheVariants as kind
 use Rattle.id_record.specs.Lines.{index_of, token_told, told}
 use Rattle.id_record.proofs.line.celled.scene_of_structure.Goals as goal
 
+-- two structures whose parts are equal are one
 equal : (s u : Structure) → true ≡ (eqb s.element u.element && (eqb s.serial u.serial && (int_eq s.low u.low && int_eq s.high u.high))) → s ≡ u
 equal s u eq = grind (arith, common_steps)
 
