@@ -27,7 +27,8 @@ returns c =
     let second : c.number_by-first.result + 1 ≡ number_by F n 1 = omega (arith, first) in
     record {
       list = on_ok_weaker c.push.result
-          (λ e. third xs ys c.push.new.self.list.items _ _ _ c.in_ok-push_operands.ensures.list (one_arc F _ n 1 _ (output n) _ Zero ys _ firsts second c.output.ensures e))
+          (λ e. third xs ys c.push.new.self.list.items _ _ _ c.in_ok-push_operands.ensures.list
+          (one_arc F _ n 1 _ (output n) _ Zero ys _ firsts second c.output.ensures e))
           c.push.ensures.list;
       firsts = c.push.ensures.firsts ∙ firsts;
       memory = c.push.ensures.memory;

@@ -15,7 +15,8 @@ returns c =
     let first : c.number_by-first.result ≡ number_by F n 0 =
     c.number_by-first.ensures.number ∙ ap (λ (f : List ℕ). number_by f n 0) c.as_slice.ensures.value in
     record {
-      list = on_ok_weaker c.push_two.result (two_are F F n 0 _ (origin P c.args.left) _ (origin P c.args.right) _ xs _ refl first c.origin-left.ensures.origin c.origin-right.ensures.origin)
+      list = on_ok_weaker c.push_two.result
+          (two_are F F n 0 _ (origin P c.args.left) _ (origin P c.args.right) _ xs _ refl first c.origin-left.ensures.origin c.origin-right.ensures.origin)
           c.push_two.ensures.list;
       firsts = c.push_two.ensures.firsts;
       memory = c.push_two.ensures.memory;
