@@ -1,5 +1,6 @@
 -- A store's entries, from those of the map that holds it.
-use Rattle.std.proofs.Common.{◌≡◌, ◌+◌, ◌<◌, Bool, true, false, cond, ◌&&◌, T, List, [], ◌∷◌, ◌↔◌, map, length, get_or, Option, Some, None, is_some, refl, sym, ◌∙◌, ap, subst, arith}
+use Rattle.std.proofs.Common.{◌≡◌, ◌+◌, ◌<◌, Bool, true, false, cond, ◌&&◌, T, List, [], ◌∷◌, ◌↔◌, map, length, get_or}
+use Rattle.std.proofs.Common.{Option, Some, None, is_some, refl, sym, ◌∙◌, ap, subst, arith}
 use Rattle.std.specs.FinMap.{get-entries, entries_sorted, len-entries, len, len-empty, len-insert, entries, from_entries, is_sorted, get}
 use Rattle.std.specs.FinMap.Entries.{below_all}
 use Rattle.std.specs.List.{IsDistinct, AllByRecursion, Contains, slice_get}
@@ -95,13 +96,13 @@ apart_from_below t [] h = tt
 apart_from_below t (e ∷ es) h =
     (sym (ties-same_tag t e.0) ∙ not_equal _ (first _ _ h), apart_from_below t es (second _ _ h))
 
-distinct_from_is_sorted : (es : List (Tag × Half)) → T (is_sorted tag_cmp es) → IsDistinct same_tag (keys_of es)
+pub distinct_from_is_sorted : (es : List (Tag × Half)) → T (is_sorted tag_cmp es) → IsDistinct same_tag (keys_of es)
 distinct_from_is_sorted [] h = IsDistinct-from_apart same_tag [] (λ i j d low high. absurd (omega arith))
 distinct_from_is_sorted (e ∷ es) h =
     IsDistinct-cons same_tag e.0 (keys_of es) (apart_from_below e.0 es (first _ _ h)) (distinct_from_is_sorted es (second _ _ h))
 
 -- what a store has at a tag is what its entries have there
-get-lookup : (s : Store) (t : Tag) → get s t ≡ lookup (same_tag t) (entries s)
+pub get-lookup : (s : Store) (t : Tag) → get s t ≡ lookup (same_tag t) (entries s)
 get-lookup s t = get-entries s t ∙ find_half (entries s) t
 
 one_half : (q : Port) (w : Value) (p : Port) (v : Value) → cond (same_port q p) (Some w) None ≡ Some v

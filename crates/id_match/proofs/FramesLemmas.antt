@@ -1,5 +1,5 @@
 -- Lemmas on specs/Frames.antt, and on the number of frames.
-use Rattle.std.proofs.Common.{◌≡◌, ℕ, zero, suc, ◌+◌, ◌≤◌, Bool, true, false, not, cond, ◌&&◌, ◌||◌, nat_eq, List, [], ◌∷◌}
+use Rattle.std.proofs.Common.{◌≡◌, ℕ, zero, suc, ◌+◌, ◌≤◌, Bool, true, false, not, cond, ◌&&◌, ◌||◌, nat_eq, List, [], ◌∷◌, ◌++◌}
 use Rattle.std.proofs.Common.{map, Option, Some, None, is_some, refl, sym, ◌∙◌, ap, arith}
 use Rattle.std.specs.FinMap.{get, entries, from_entries, contains_key, contains_key-keys}
 use Rattle.std.specs.List.{AllByRecursion, IsDistinct, count_by, filter, list_any}
@@ -21,6 +21,7 @@ use Rattle.id_match.specs.Front.{front_half, front_entries, IsKept, all_entries}
 use Rattle.id_match.specs.Frames.{waits_below, is_first}
 use Rattle.id_match.specs.Waiting.{Store, entry_at, entries_of, same_frame, frames_of}
 use Rattle.id_match.proofs.FrontLemmas.{lookup_all, distinct_all, numbers_one, numbers_apart}
+use Rattle.id_match.proofs.RearLemmas.{kept_as, lookup-entries, made_as}
 use Rattle.id_match.proofs.WaitingLemmas.{get_half}
 
 -- ---- a look-up
@@ -295,3 +296,26 @@ frames_of-firsts f es s is kept distinct =
     ∙ ap (count_by (is_first s)) (sym (map-append (λ e. e.0) (front_entries f) es))
     ∙ firsts_are_frames s (keys_of (all_entries f es)) (map (λ e. e.tag) (entries_of s)) (made_waits (all_entries f es) s is) (listed_waits s)
     (distinct_all f es kept distinct)
+
+-- the same where what is behind is a store of its own, with a front and values behind that
+module _ (f g : List Pair) (es : List (Tag × Half)) (r s : Store) (rear : from_entries (all_entries g es) ≡ r) (inner : IsKept g es)
+    (is : from_entries (all_entries f (entries r)) ≡ s) (kept : IsKept f (entries r)) (distinct : IsDistinct same_tag (keys_of es)) where
+  abbrev firsts : List (Tag × Half) → ℕ
+  firsts l = count_by (is_first s) (keys_of l)
+
+  firsts-append : (k l : List (Tag × Half)) → firsts (k ++ l) ≡ firsts k + firsts l
+  firsts-append k l =
+      ap (count_by (is_first s)) (map-append (λ e. e.0) k l) ∙ sum_by-append (λ t. cond (is_first s t) 1 0) (keys_of k) (keys_of l)
+
+  same : (t : Tag) → lookup (same_tag t) (all_entries g es) ≡ lookup (same_tag t) (entries r)
+  same t = sym (lookup-entries (all_entries g es) r rear t)
+
+  sums : (x y z : ℕ) → (x + y) + z ≡ x + (y + z)
+  sums x y z = omega arith
+
+  pub frames_of-rear : (firsts (front_entries f) + firsts (front_entries g)) + firsts es ≡ frames_of s
+  frames_of-rear =
+      sums (firsts (front_entries f)) (firsts (front_entries g)) (firsts es)
+      ∙ ap (λ n. firsts (front_entries f) + n) (sym (firsts-append (front_entries g) es))
+      ∙ frames_of-firsts f (all_entries g es) s (made_as f (entries r) (all_entries g es) same kept s is)
+      (kept_as f (entries r) (all_entries g es) same kept) (distinct_all g es inner distinct)

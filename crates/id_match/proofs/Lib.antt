@@ -5,3 +5,4 @@ pub mod BehindLemmas
 pub mod KeyedLemmas
 pub mod EntriesLemmas
 pub mod FramesLemmas
+pub mod RearLemmas

@@ -24,7 +24,10 @@ impl Waiting {
     pub fn frames(&self) -> usize
         ensures frames { result ≡ frames_of self.now }
     {
-        self.firsts_in_front(&self.front) + self.firsts_behind(&self.halves)
+        let rear = &self.rear;
+        self.firsts_in_front(&self.front)
+            + self.firsts_in_front(&rear.front)
+            + self.firsts_behind(&rear.halves)
     }
 
     // How many of the values in the slots are the first of their frame.
@@ -40,7 +43,7 @@ impl Waiting {
         firsts
     }
 
-    // How many of the values behind are the first of their frame.
+    // How many of the values in the rear's map are the first of their frame.
     fn firsts_behind(&self, halves: &HashMap<Tag, Half, NearHasher>) -> usize
         ensures exact { result ≡ count_by (is_first self.now) (keys_of halves.now.entries) }
         ensures most { result < 2 ^ 63 }
@@ -73,6 +76,6 @@ impl Waiting {
     fn is_waiting(&self, tag: Tag) -> bool
         ensures { result ≡ contains_key self.now tag }
     {
-        has(&self.front, tag) || self.halves.contains_key(&tag)
+        has(&self.front, tag) || self.rear.has(tag)
     }
 }

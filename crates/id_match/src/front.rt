@@ -298,7 +298,7 @@ impl Pair {
 }
 
 /// The slot for a value that waits, if it fits.
-fn slot_for(tag: Tag, port: Port, value: Value) -> Option<Slot>
+pub(crate) fn slot_for(tag: Tag, port: Port, value: Value) -> Option<Slot>
     ensures { IfSome result (λ s. (slot_tag s ≡ tag) × (slot_half s ≡ Some (record { port = port; value = value }))) }
 {
     Some(Slot {
@@ -315,7 +315,7 @@ fn slot_for(tag: Tag, port: Port, value: Value) -> Option<Slot>
 
 /// The slot for a plain token.
 #[inline(always)]
-fn slot_in(token: &PlainToken) -> Slot
+pub(crate) fn slot_in(token: &PlainToken) -> Slot
     ensures tag { slot_tag result ≡ tag_in token.now }
     ensures half { slot_half result ≡ Some (record { port = token.now.port; value = whole token.now.value }) }
 {
@@ -387,7 +387,7 @@ pub(crate) fn has(front: &[Pair], tag: Tag) -> bool
 }
 
 /// Puts the slot into its pair, if there is room, and nothing waits under its tag in the front.
-fn put(front: &mut Vec<Pair>, slot: Slot) -> bool
+pub(crate) fn put(front: &mut Vec<Pair>, slot: Slot) -> bool
     ensures free { IsTrue result → front_half front.old.items (slot_tag slot) ≡ None }
     ensures put { IsTrue result → Puts front.old.items front.new.items (slot_tag slot) (slot_half slot) }
     ensures full { result ≡ false → front.new.items ≡ front.old.items }
@@ -406,7 +406,7 @@ fn put(front: &mut Vec<Pair>, slot: Slot) -> bool
 }
 
 /// What stands behind the pair of a tag.
-fn stands_behind(front: &[Pair], tag: Tag) -> Behind
+pub(crate) fn stands_behind(front: &[Pair], tag: Tag) -> Behind
     ensures { result ≡ Nothing → (0 < length front.now) × (mark_at front.now tag ≡ Nothing) }
 {
     if front.is_empty() {
@@ -418,7 +418,7 @@ fn stands_behind(front: &[Pair], tag: Tag) -> Behind
 }
 
 /// Whether the pair of a tag has room for one more value.
-fn has_room(front: &[Pair], tag: Tag) -> bool
+pub(crate) fn has_room(front: &[Pair], tag: Tag) -> bool
     ensures { IsTrue result ↔ (0 < length front.now)
         × (length (pair_entries (slice_index_or front.now (place tag (length front.now)) empty_pair)) < 2) }
 {

@@ -1,42 +1,40 @@
 //! The waiting-matching store: values that wait for their partner.
 //!
 //! Keeps: at most one value for each tag, with its port. Clauses see a finite map. A value stands in one of the two
-//! slots of the front that its tag's numbers tell, where it fits and one is free, and else in a hash map behind them.
+//! slots of the front that its tag's numbers tell, where it fits and one is free, and else in the rear: in a smaller
+//! front of its own, and behind that in a hash map.
 //! Errors: want of memory alone, and then nothing has changed.
 //! Read first: `specs/Waiting.antt`, then `offer`.
 //! Not here: which operators have two ports (`id_graph`), firing (`id_ops`).
 #![tactic(auto)]
 
-ghost use Rattle.std.specs.Prelude.{◌≡◌, ◌<◌, ◌+◌, ◌-◌, ◌^◌, false, None, IsPermutation, IsSortedByKey};
+ghost use Rattle.std.specs.Prelude.{◌≡◌, false, None, Some, IsTrue};
 ghost use Rattle.std.specs.Prelude.{IfOk, IfSome, OnOk, OnErr};
 ghost use Rattle.std.specs.FinMap as map;
-ghost use Rattle.std.specs.HashMap as hash;
-ghost use Rattle.std.specs.Prelude.{map as map_list};
-ghost use Rattle.id_tag.specs.Tags.{same_tag, tag_cmp};
+ghost use Rattle.id_tag.specs.Tags.{same_tag};
 ghost use Rattle.id_tag.specs.declared.Tag.{Tag};
 ghost use Rattle.id_graph.specs.declared.dests.Port.{Port};
 ghost use Rattle.id_match.specs.declared.Offered.TheVariants.{Kept};
-ghost use Rattle.id_match.specs.declared.Met.TheVariants as meeting;
-ghost use Rattle.id_tag.specs.declared.plain.Plain.{Plain};
-ghost use Rattle.id_match.specs.Waiting.{pair_of, entry_at};
+ghost use Rattle.id_match.specs.Waiting.{pair_of};
 ghost use Rattle.id_match.specs.Halves.{answer_at, half_after};
 ghost use Rattle.id_match.specs.Meetings.{told};
 ghost use Rattle.id_tag.specs.Plains.{tag_in, whole};
 ghost use Rattle.std.specs.Map.{lookup};
-ghost use Rattle.id_match.specs.Front.{HoldsSame, IsMarked, IsPlaced, front_entries, front_half};
+ghost use Rattle.id_match.specs.Front.{HoldsSame, IsMarked, IsPlaced, MarksSame, OthersSame, Puts};
+ghost use Rattle.id_match.specs.Front.{front_entries, front_half, slot_half, slot_tag};
 
 mod frames;
 mod front;
+mod rear;
 
 use front::{
-    Pair, count, has, in_front, larger, leave_behind, mark, meet, put_token, put_value,
-    step_behind, take,
+    Behind, Pair, Slot, count, has, has_room, in_front, larger, leave_behind, mark, meet, put,
+    slot_for, slot_in, stands_behind, step_behind, take,
 };
 use id_graph::Port;
-use id_tag::{NearHasher, Plain, PlainToken, Tag, Value, plain_of};
+use id_tag::{Plain, PlainToken, Tag, Value};
+use rear::{Rear, crowded_after, sort_by_tag};
 use std::alloc::{AllocError, Global};
-use std::collections::HashMap;
-use std::collections::hash_map::Entry as Place;
 use std::marker::Model;
 
 /// A value that waits, with its port.
@@ -85,8 +83,8 @@ pub struct Waiting {
     // Since the front grew: sixteen for each plain token that came to stand behind it, less fifteen for each that met
     // what stands there. So both what stands there and what comes and goes tell that it is too small.
     crowded: usize,
-    // What waits in no slot.
-    halves: HashMap<Tag, Half, NearHasher>,
+    // What waits in no slot of the front.
+    rear: Rear,
 }
 
 impl Model for Waiting {
@@ -100,13 +98,13 @@ impl Model for Waiting {
 
     ghost coded = { coded_store };
 
-    ghost view = { λ s. map.from_entries (all_entries s.front.items s.halves.entries) };
+    ghost view = { λ s. map.from_entries (all_entries s.front.items (map.entries s.rear)) };
 
-    ghost invariant = { λ s. IsKept s.front.items s.halves.entries };
+    ghost invariant = { λ s. IsKept s.front.items (map.entries s.rear) };
 }
 
 impl Waiting {
-    ghost use Rattle.std.specs.Prelude.{◌↔◌, length, Some};
+    ghost use Rattle.std.specs.Prelude.{◌↔◌, length};
     ghost use Rattle.std.specs.List.{Contains};
     ghost use Rattle.id_match.specs.declared.Entry.{Entry};
     ghost use Rattle.id_match.specs.Waiting.{waits, offer_answer, offer_after, entries_of};
@@ -121,7 +119,7 @@ impl Waiting {
             alloc,
             front: Vec::new(alloc),
             crowded: 0,
-            halves: HashMap::with_hasher(alloc, NearHasher::new()),
+            rear: Rear::new(alloc),
         }
     }
 
@@ -140,10 +138,10 @@ impl Waiting {
         self.make_room();
         if let Some(answer) = take(&mut self.front, tag, port, value) {
             Ok(answer)
-        } else if put_value(&mut self.front, &self.halves, tag, port, value) {
+        } else if put_value_before(&mut self.front, &self.rear, tag, port, value) {
             Ok(Offered::Kept)
         } else {
-            offer_to(&mut self.front, &mut self.halves, tag, port, value)
+            offer_to(&mut self.front, &mut self.rear, tag, port, value)
         }
     }
 
@@ -193,10 +191,10 @@ impl Waiting {
         self.make_room();
         if has(&self.front, token.tag()) {
             Ok(Met::Apart)
-        } else if put_token(&mut self.front, &self.halves, token) {
+        } else if put_token_before(&mut self.front, &self.rear, token) {
             Ok(Met::Kept)
         } else {
-            let met = offer_plain_to(&mut self.front, &mut self.halves, token)?;
+            let met = offer_plain_to(&mut self.front, &mut self.rear, token)?;
             self.crowded = crowded_after(self.crowded, met);
             Ok(met)
         }
@@ -220,8 +218,8 @@ impl Waiting {
         ensures { self.new ≡ self.old }
     {
         self.crowded = 0;
-        if count(&self.front) + self.halves.len() >= self.front.len() / 32 {
-            if let Some(front) = larger_front(self.alloc, &self.front, &self.halves) {
+        if count(&self.front) + self.rear.len() >= self.front.len() / 32 {
+            if let Some(front) = larger_front(self.alloc, &self.front, &self.rear) {
                 self.front = front;
             }
         }
@@ -232,7 +230,7 @@ impl Waiting {
         ensures len { result ≡ map.len self.now }
         ensures listed { result ≡ length (entries_of self.now) }
     {
-        count(&self.front) + self.halves.len()
+        count(&self.front) + self.rear.len()
     }
 
     /// The values that wait, in the order of their tags.
@@ -242,25 +240,21 @@ impl Waiting {
             Contains es.items e ↔ (waits self.now e.tag e.port ≡ Some e.value)) }
     {
         let mut entries = in_front(alloc, &self.front)?;
-        entries.append(&mut listed(alloc, &self.halves)?)?;
+        entries.append(&mut self.rear.entries(alloc)?)?;
         sort_by_tag(&mut entries);
         Ok(entries)
     }
 }
 
 // A larger front for the same values, if there is memory for it.
-fn larger_front(
-    alloc: Global,
-    front: &[Pair],
-    halves: &HashMap<Tag, Half, NearHasher>,
-) -> Option<Vec<Pair>>
+fn larger_front(alloc: Global, front: &[Pair], rear: &Rear) -> Option<Vec<Pair>>
     ensures placed { IfSome result (λ m. IsPlaced m.items) }
     ensures same { IfSome result (λ m. (t : Tag) →
         front_half m.items t ≡ lookup (same_tag t) (front_entries front.now)) }
-    ensures marked { IfSome result (λ m. IsMarked m.items halves.now.entries) }
+    ensures marked { IfSome result (λ m. IsMarked m.items (map.entries rear.now)) }
 {
     let mut more = larger(alloc, front)?;
-    match listed(alloc, halves) {
+    match rear.entries(alloc) {
         Ok(entries) => {
             mark(&mut more, &entries);
             Some(more)
@@ -269,125 +263,112 @@ fn larger_front(
     }
 }
 
-// How crowded the front is after an offer behind it.
-fn crowded_after(crowded: usize, met: Met) -> usize
-    ensures kept { met ≡ meeting.Kept → crowded < 2 ^ 64 - 16 → result ≡ crowded + 16 }
-    ensures apart { met ≡ meeting.Apart → result ≡ crowded }
-    ensures partner { (v : Plain) → met ≡ meeting.Partner v → result ≡ crowded - 15 }
+// Puts the slot into its pair, if there is room, and nothing waits under its tag in the front or the rear.
+fn put_before(front: &mut Vec<Pair>, rear: &Rear, slot: Slot) -> bool
+    ensures apart { IsMarked front.old.items (map.entries rear.now) → IsTrue result
+        → lookup (same_tag (slot_tag slot)) (map.entries rear.now) ≡ None }
+    ensures free { IsTrue result → front_half front.old.items (slot_tag slot) ≡ None }
+    ensures put { IsTrue result → Puts front.old.items front.new.items (slot_tag slot) (slot_half slot) }
+    ensures full { result ≡ false → front.new.items ≡ front.old.items }
+    ensures marks { MarksSame front.old.items front.new.items }
 {
-    match met {
-        Met::Kept => crowded.saturating_add(16),
-        Met::Partner(_) => crowded.saturating_sub(15),
-        Met::Apart => crowded,
+    let tag = slot.tag();
+    // Without room nothing is looked up behind.
+    if !has_room(front, tag) || (stands_behind(front, tag) != Behind::Nothing && rear.has(tag)) {
+        return false;
+    }
+    put(front, slot)
+}
+
+// The same for a plain token. Without room no slot is made.
+#[inline(always)]
+fn put_token_before(front: &mut Vec<Pair>, rear: &Rear, token: &PlainToken) -> bool
+    ensures apart { IsMarked front.old.items (map.entries rear.now) → IsTrue result
+        → lookup (same_tag (tag_in token.now)) (map.entries rear.now) ≡ None }
+    ensures free { IsTrue result → front_half front.old.items (tag_in token.now) ≡ None }
+    ensures put { IsTrue result → Puts front.old.items front.new.items (tag_in token.now)
+        (Some (record { port = token.now.port; value = whole token.now.value })) }
+    ensures full { result ≡ false → front.new.items ≡ front.old.items }
+    ensures marks { MarksSame front.old.items front.new.items }
+{
+    has_room(front, token.tag()) && put_before(front, rear, slot_in(token))
+}
+
+// The same for a value, if it fits a slot.
+fn put_value_before(front: &mut Vec<Pair>, rear: &Rear, tag: Tag, port: Port, value: Value) -> bool
+    ensures apart { IsMarked front.old.items (map.entries rear.now) → IsTrue result
+        → lookup (same_tag tag) (map.entries rear.now) ≡ None }
+    ensures free { IsTrue result → front_half front.old.items tag ≡ None }
+    ensures put { IsTrue result →
+        Puts front.old.items front.new.items tag (Some (record { port = port; value = value })) }
+    ensures full { result ≡ false → front.new.items ≡ front.old.items }
+    ensures marks { MarksSame front.old.items front.new.items }
+{
+    match slot_for(tag, port, value) {
+        Some(slot) => put_before(front, rear, slot),
+        None => false,
     }
 }
 
-// What waits, in the order of the map.
-fn listed(alloc: Global, halves: &HashMap<Tag, Half, NearHasher>) -> Result<Vec<Entry>, AllocError>
-    ensures items { IfOk result (λ es. es.items ≡ map_list entry_at halves.now.entries) }
-    ensures unique { hash.IsUnique same_tag halves.now }
-{
-    halves
-        .iter()
-        .map(|(tag, half)| Entry {
-            tag: *tag,
-            port: half.port,
-            value: half.value,
-        })
-        .collect(alloc)
-}
-
-fn sort_by_tag(entries: &mut Vec<Entry>)
-    ensures permutation { IsPermutation entries.old.items entries.new.items }
-    ensures sorted { IsSortedByKey (λ e. e.tag) tag_cmp entries.new.items }
-{
-    entries.sort_unstable_by_key(|e| e.tag);
-}
-
-// An offer in one look-up: room is made where the tag is new, and only there. The front is told of it.
+// An offer to the rear. The front is told of it.
 fn offer_to(
     front: &mut Vec<Pair>,
-    halves: &mut HashMap<Tag, Half, NearHasher>,
+    rear: &mut Rear,
     tag: Tag,
     port: Port,
     value: Value,
 ) -> Result<Offered, AllocError>
-    ensures answer { IfOk result (λ answer. answer ≡ answer_at (hash.get same_tag halves.old tag) port value) }
-    ensures at { OnOk result (
-        hash.get same_tag halves.new tag ≡ half_after (hash.get same_tag halves.old tag) port value) }
-    ensures others { OnOk result ((t : Tag) → same_tag tag t ≡ false →
-        hash.get same_tag halves.new t ≡ hash.get same_tag halves.old t) }
+    ensures answer { IfOk result (λ answer.
+        answer ≡ answer_at (lookup (same_tag tag) (map.entries rear.old)) port value) }
+    ensures at { OnOk result (lookup (same_tag tag) (map.entries rear.new) ≡
+        half_after (lookup (same_tag tag) (map.entries rear.old)) port value) }
+    ensures others { OnOk result (OthersSame tag (map.entries rear.old) (map.entries rear.new)) }
     ensures holds { HoldsSame front.old.items front.new.items }
-    ensures marked { IsMarked front.old.items halves.old.entries → IsMarked front.new.items halves.new.entries }
+    ensures marked { IsMarked front.old.items (map.entries rear.old)
+        → IsMarked front.new.items (map.entries rear.new) }
 
-    ensures grows { OnErr result (hash.get same_tag halves.old tag ≡ None) }
-    ensures err { OnErr result (hash.IsUnchanged halves.old halves.new) }
+    ensures grows { OnErr result (answer_at (lookup (same_tag tag) (map.entries rear.old)) port value ≡ Kept) }
+    ensures err { OnErr result (rear.new ≡ rear.old) }
     ensures err_front { OnErr result (front.new.items ≡ front.old.items) }
 {
-    match halves.entry(tag)? {
-        Place::Vacant(place) => {
-            place.insert(Half { port, value });
-            step_behind(front, tag);
-            Ok(Offered::Kept)
-        }
-        Place::Occupied(place) => {
-            let half = *place.get();
-            if half.port == port {
-                return Ok(Offered::Taken);
-            }
-            place.remove();
-            leave_behind(front, tag);
-            Ok(pair(port, value, half.value))
-        }
+    let answer = rear.offer(tag, port, value)?;
+    match answer {
+        Offered::Kept => step_behind(front, tag),
+        Offered::Pair(_, _) => leave_behind(front, tag),
+        Offered::Taken => (),
     }
+    Ok(answer)
 }
 
-// An offer of a plain token in one look-up. The front is told of it.
+// An offer of a plain token to the rear. The front is told of it.
 #[inline(always)]
 fn offer_plain_to(
     front: &mut Vec<Pair>,
-    halves: &mut HashMap<Tag, Half, NearHasher>,
+    rear: &mut Rear,
     token: &PlainToken,
 ) -> Result<Met, AllocError>
-    ensures answer { IfOk result (λ met. IfSome (told met token.now) (λ answer. answer ≡
-        answer_at (hash.get same_tag halves.old (tag_in token.now)) token.now.port (whole token.now.value))) }
-    ensures at { IfOk result (λ met. IfSome (told met token.now) (λ _. hash.get same_tag halves.new (tag_in token.now) ≡
-        half_after (hash.get same_tag halves.old (tag_in token.now)) token.now.port (whole token.now.value))) }
-    ensures others { OnOk result ((t : Tag) → same_tag (tag_in token.now) t ≡ false →
-        hash.get same_tag halves.new t ≡ hash.get same_tag halves.old t) }
+    ensures answer { IfOk result (λ met. IfSome (told met token.now) (λ answer. answer ≡ answer_at
+        (lookup (same_tag (tag_in token.now)) (map.entries rear.old)) token.now.port (whole token.now.value))) }
+    ensures at { IfOk result (λ met. IfSome (told met token.now) (λ _.
+        lookup (same_tag (tag_in token.now)) (map.entries rear.new) ≡ half_after
+        (lookup (same_tag (tag_in token.now)) (map.entries rear.old)) token.now.port (whole token.now.value))) }
+    ensures others { OnOk result (OthersSame (tag_in token.now) (map.entries rear.old) (map.entries rear.new)) }
     ensures holds { HoldsSame front.old.items front.new.items }
-    ensures marked { IsMarked front.old.items halves.old.entries → IsMarked front.new.items halves.new.entries }
-    ensures apart { IfOk result (λ met. told met token.now ≡ None → hash.IsUnchanged halves.old halves.new) }
+    ensures marked { IsMarked front.old.items (map.entries rear.old)
+        → IsMarked front.new.items (map.entries rear.new) }
+    ensures apart { IfOk result (λ met. told met token.now ≡ None → rear.new ≡ rear.old) }
     ensures apart_front { IfOk result (λ met. told met token.now ≡ None → front.new.items ≡ front.old.items) }
 
-    ensures err { OnErr result (hash.IsUnchanged halves.old halves.new) }
+    ensures err { OnErr result (rear.new ≡ rear.old) }
     ensures err_front { OnErr result (front.new.items ≡ front.old.items) }
 {
-    let own = token.tag();
-    match halves.entry(own)? {
-        Place::Vacant(place) => {
-            place.insert(Half {
-                port: token.port,
-                value: token.value.value(),
-            });
-            step_behind(front, own);
-            Ok(Met::Kept)
-        }
-        Place::Occupied(place) => {
-            let half = *place.get();
-            if half.port == token.port {
-                return Ok(Met::Apart);
-            }
-            match plain_of(&half.value) {
-                Some(partner) => {
-                    place.remove();
-                    leave_behind(front, own);
-                    Ok(Met::Partner(partner))
-                }
-                None => Ok(Met::Apart),
-            }
-        }
+    let met = rear.offer_plain(token)?;
+    match met {
+        Met::Kept => step_behind(front, token.tag()),
+        Met::Partner(_) => leave_behind(front, token.tag()),
+        Met::Apart => (),
     }
+    Ok(met)
 }
 
 // The two values by port, of which `value` came to this port.

@@ -1,80 +1,53 @@
--- what the entry tells of the map, said of the map that comes back
-use Rattle.std.proofs.Common.{◌≡◌, ◌∙◌, Some, sym, ap, arith, rules}
-use Rattle.std.proofs.lemmas.Grind.{common_steps}
-use Rattle.std.specs.HashMap as hash
+-- what the rear tells of an offer, said of its entries, and of the pair that tells what stands behind it
+use Rattle.std.proofs.Common.{◌≡◌, ◌∙◌, sym}
+use Rattle.std.specs.FinMap.{entries}
 use Rattle.std.specs.Map.{lookup}
 use Rattle.id_tag.specs.Tags.{same_tag}
-use Rattle.id_match.specs.Halves.{answer_at, half_after}
-use Rattle.id_match.proofs.CallLemmas.{apart_ports, one_port, paired, stays, taken}
-use Rattle.id_match.proofs.FrontLemmas.{gone, some_of}
+use Rattle.id_match.specs.Halves.{answer_at}
+use Rattle.id_match.specs.declared.Offered.TheVariants.{Kept}
+use Rattle.id_match.proofs.RearLemmas.{answer-lookup, err_always, here_after, others_after, partner_left}
 use Rattle.id_match.proofs.offer_to.Goals as goal
 
--- the entry's write leaves the other tags
-pub returns-in-Vacant-clause-others : goal.returns-in-Vacant-clause-others
-returns-in-Vacant-clause-others c = λ t apart.
-    let name = sym (rw c.in-Vacant.is at c.in_ok-place.ensures.same_map) in
-    let same = ((rw c.in-Vacant.is at c.in_ok-place.ensures.update).0 c.insert.result.now).2 t apart in grind (arith, common_steps)
+-- memory was wanted for a value that would have been kept
+pub returns-in_err-answer-clause-grows : goal.returns-in_err-answer-clause-grows
+returns-in_err-answer-clause-grows c =
+    let grows : answer_at (lookup (same_tag c.args.tag) (entries c.args.rear.now)) c.args.port c.args.value ≡ Kept =
+    sym (answer-lookup c.args.rear.now c.args.tag c.args.port c.args.value) ∙ c.in_err-answer.ensures.grows in
+    err_always c.from_residual.result grows
 
--- and so does its removal
-pub returns-else-eq-clause-others : goal.returns-else-eq-clause-others
-returns-else-eq-clause-others c = λ t apart.
-    let name = sym (rw c.in-Occupied.is at c.in_ok-place.ensures.same_map) in
-    let same = ap (lookup (same_tag t)) c.remove.ensures.removed ∙ (rw c.in-Occupied.is at c.in_ok-place.ensures.removal).0.2 t apart in search rules
+-- the value is kept
+pub returns-in-Kept-clause-answer : goal.returns-in-Kept-clause-answer
+returns-in-Kept-clause-answer c = c.in_ok-answer.ensures.answer ∙ answer-lookup c.args.rear.now c.args.tag c.args.port c.args.value
 
--- nothing waits, and the value is written
-pub returns-in-Vacant-clause-answer : goal.returns-in-Vacant-clause-answer
-returns-in-Vacant-clause-answer c = sym (ap (λ o. answer_at o c.args.port c.args.value) (rw c.in-Vacant.is at c.in_ok-place.ensures.found))
+pub returns-in-Kept-clause-at : goal.returns-in-Kept-clause-at
+returns-in-Kept-clause-at c = here_after _ _ _ _ _ c.in_ok-answer.ensures.after
 
-pub returns-in-Vacant-clause-at : goal.returns-in-Vacant-clause-at
-returns-in-Vacant-clause-at c =
-    let name = sym (rw c.in-Vacant.is at c.in_ok-place.ensures.same_map) in
-    let here = ((rw c.in-Vacant.is at c.in_ok-place.ensures.update).0 c.insert.result.now).1 ∙ ap Some c.insert.ensures.value
-    ∙ sym (ap (λ o. half_after o c.args.port c.args.value) (rw c.in-Vacant.is at c.in_ok-place.ensures.found)) in search rules
+pub returns-in-Kept-clause-others : goal.returns-in-Kept-clause-others
+returns-in-Kept-clause-others c = others_after _ _ _ _ _ c.in_ok-answer.ensures.after
 
--- a value waits at the port, and stays
-pub returns-then-eq-clause-answer : goal.returns-then-eq-clause-answer
-returns-then-eq-clause-answer c =
-    let was : hash.get same_tag c.args.halves.now c.args.tag ≡ Some c.get.result.now =
-    sym (rw c.in-Occupied.is at c.in_ok-place.ensures.value) ∙ c.get.ensures in
-    sym (taken _ c.get.result.now c.args.port c.args.value was (one_port c.get.result.now.port c.args.port (sym c.if-eq.ensures)))
+pub returns-in-Kept-clause-marked : goal.returns-in-Kept-clause-marked
+returns-in-Kept-clause-marked c = λ marked. c.step_behind.ensures.marked _ _ marked (others_after _ _ _ _ _ c.in_ok-answer.ensures.after)
 
-pub returns-then-eq-clause-at : goal.returns-then-eq-clause-at
-returns-then-eq-clause-at c =
-    let name = sym (rw c.in-Occupied.is at c.in_ok-place.ensures.same_map) in
-    let was : hash.get same_tag c.args.halves.now c.args.tag ≡ Some c.get.result.now =
-    sym (rw c.in-Occupied.is at c.in_ok-place.ensures.value) ∙ c.get.ensures in
-    let same = ap (lookup (same_tag c.args.tag)) (rw c.in-Occupied.is at c.in_ok-place.ensures.unchanged)
-    ∙ sym (stays _ c.get.result.now c.args.port c.args.value was (one_port c.get.result.now.port c.args.port (sym c.if-eq.ensures))) in search rules
+-- the partner leaves
+pub returns-in-Pair-clause-answer : goal.returns-in-Pair-clause-answer
+returns-in-Pair-clause-answer c = c.in_ok-answer.ensures.answer ∙ answer-lookup c.args.rear.now c.args.tag c.args.port c.args.value
 
-pub returns-then-eq-clause-others : goal.returns-then-eq-clause-others
-returns-then-eq-clause-others c = λ t apart.
-    let name = sym (rw c.in-Occupied.is at c.in_ok-place.ensures.same_map) in
-    let same = ap (lookup (same_tag t)) (rw c.in-Occupied.is at c.in_ok-place.ensures.unchanged) in search rules
+pub returns-in-Pair-clause-at : goal.returns-in-Pair-clause-at
+returns-in-Pair-clause-at c = here_after _ _ _ _ _ c.in_ok-answer.ensures.after
 
--- the partner waits, and leaves
-pub returns-else-eq-clause-answer : goal.returns-else-eq-clause-answer
-returns-else-eq-clause-answer c =
-    let was : hash.get same_tag c.args.halves.now c.args.tag ≡ Some c.get.result.now =
-    sym (rw c.in-Occupied.is at c.in_ok-place.ensures.value) ∙ c.get.ensures in
-    c.pair.ensures ∙ sym (paired _ c.get.result.now c.args.port c.args.value was (apart_ports c.get.result.now.port c.args.port (sym c.if-eq.ensures)))
+pub returns-in-Pair-clause-others : goal.returns-in-Pair-clause-others
+returns-in-Pair-clause-others c = others_after _ _ _ _ _ c.in_ok-answer.ensures.after
 
-pub returns-else-eq-clause-at : goal.returns-else-eq-clause-at
-returns-else-eq-clause-at c =
-    let name = sym (rw c.in-Occupied.is at c.in_ok-place.ensures.same_map) in
-    let was : hash.get same_tag c.args.halves.now c.args.tag ≡ Some c.get.result.now =
-    sym (rw c.in-Occupied.is at c.in_ok-place.ensures.value) ∙ c.get.ensures in
-    let none = ap (lookup (same_tag c.args.tag)) c.remove.ensures.removed ∙ (rw c.in-Occupied.is at c.in_ok-place.ensures.removal).0.1
-    ∙ sym (gone _ c.get.result.now c.args.port c.args.value was (apart_ports c.get.result.now.port c.args.port (sym c.if-eq.ensures))) in search rules
+pub returns-in-Pair-clause-marked : goal.returns-in-Pair-clause-marked
+returns-in-Pair-clause-marked c = λ marked.
+    let left = partner_left (lookup (same_tag c.args.tag) (entries c.args.rear.now)) c.args.port c.args.value c.in-Pair.field-0 c.in-Pair.field-1
+    (sym c.in-Pair.is ∙ c.in_ok-answer.ensures.answer ∙ answer-lookup c.args.rear.now c.args.tag c.args.port c.args.value) in
+    c.leave_behind.ensures.marked _ _ marked (others_after _ _ _ _ _ c.in_ok-answer.ensures.after) left.0
+    (here_after _ _ _ _ _ c.in_ok-answer.ensures.after ∙ left.1)
 
--- the front tells of the one that came
-pub returns-in-Vacant-clause-marked : goal.returns-in-Vacant-clause-marked
-returns-in-Vacant-clause-marked c = λ marked. c.step_behind.ensures.marked _ _ marked (returns-in-Vacant-clause-others c)
+-- the port is taken
+pub returns-in-Taken-clause-answer : goal.returns-in-Taken-clause-answer
+returns-in-Taken-clause-answer c = c.in_ok-answer.ensures.answer ∙ answer-lookup c.args.rear.now c.args.tag c.args.port c.args.value
 
--- or left
-pub returns-else-eq-clause-marked : goal.returns-else-eq-clause-marked
-returns-else-eq-clause-marked c = λ marked.
-    let was : hash.get same_tag c.args.halves.now c.args.tag ≡ Some c.get.result.now =
-    sym (rw c.in-Occupied.is at c.in_ok-place.ensures.value) ∙ c.get.ensures in
-    c.leave_behind.ensures.marked _ _ marked (returns-else-eq-clause-others c) (some_of _ _ was)
-    (returns-else-eq-clause-at c ∙ gone (hash.get same_tag c.args.halves.now c.args.tag) c.get.result.now c.args.port c.args.value was
-    (apart_ports c.get.result.now.port c.args.port (sym c.if-eq.ensures)))
+pub returns-in-Taken-clause-at : goal.returns-in-Taken-clause-at
+returns-in-Taken-clause-at c = here_after _ _ _ _ _ c.in_ok-answer.ensures.after
