@@ -1,7 +1,9 @@
-//! The front of the store: slots of 32 bytes, each for one value that waits under a tag with small numbers.
+//! The front of the store, and of its rear: slots of 32 bytes, each for one value that waits under a tag with small
+//! numbers.
 //!
 //! A tag's value stands in one of two slots alone, the pair at the place that the tag's numbers tell, so a look-up
-//! looks at one pair. A pair also tells whether anything stands behind it: under tags with its place, in the map.
+//! looks at one pair. A pair also tells whether anything stands behind it, under tags with its place: in the rear, or
+//! behind the rear's front in the map.
 
 ghost use Rattle.std.specs.Prelude.{◌≡◌, ◌≢◌, ◌<◌, ◌↔◌, ◌≤◌, ◌*◌, IsTrue, false, Some, None, IfSome, is_some};
 ghost use Rattle.std.specs.Prelude.{IsSome, IfOk, OnOk, List, [], ◌∷◌, ◌++◌, length, replicate, map as map_list};
@@ -28,7 +30,7 @@ use id_tag::{Context, NearHasher, Plain, PlainToken, Tag, Value, plain_of, small
 use std::alloc::{AllocError, Global};
 use std::collections::HashMap;
 
-/// How many values stand behind a pair: in the map, under tags with the pair's place.
+/// How many values stand behind a pair, under tags with the pair's place.
 #[derive(Clone, Copy, PartialEq, Eq)]
 pub(crate) enum Behind {
     Nothing,
