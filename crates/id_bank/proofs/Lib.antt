@@ -1,1 +1,3 @@
 pub mod SlotsLemmas
+mod OrderLemmas
+mod LeftLemmas

@@ -7,13 +7,12 @@ use Rattle.std.specs.Map.{lookup, keys_of, values_of}
 use Rattle.std.proofs.lemmas.List.Concat.{flat_map-cons}
 use Rattle.std.proofs.lemmas.Map.Entries.{lookup_from_place}
 use Rattle.std.specs.List.Sorted.{IsPermutation}
-use Rattle.std.proofs.lemmas.List.Sorted.{IsPermutation-map, All-permutation}
-use Rattle.std.proofs.lemmas.List.Folds.{flat_map-map}
+use Rattle.std.proofs.lemmas.List.Sorted.{IsPermutation-map}
 use Rattle.std.proofs.lemmas.Map.Keys.{IsDistinct-IsPermutation}
 use Rattle.indexmap.proofs.MapLemmas.{lookup_permutation}
 use Rattle.std.proofs.lemmas.List.Quantifiers.{position-Some}
 use Rattle.std.proofs.lemmas.Option.{slice_get-get_or, slice_get-map}
-use Rattle.std.proofs.lemmas.List.Elements.{All-push, All-from_recursion, recursion_from_All}
+use Rattle.std.proofs.lemmas.List.Elements.{All-push}
 use Rattle.std.specs.HashMap.{HashMap, IsUnique, Updates}
 use Rattle.std.specs.HashMap as hash
 use Rattle.indexmap.specs.IndexMap.{set_value_at, with_value_at, insert_entry}
@@ -67,11 +66,11 @@ nat_self n = grind (arith, nat_tests)
 
 -- ---- pages
 
-abbrev named : ℤ × Structure → Cell
+abbrev pub named : ℤ × Structure → Cell
 named p = record { structure = p.1; index = p.0 }
 
 -- the test of pages is that of the cells that their numbers name
-page_cell : (p q : ℤ × Structure) → same_page p q ≡ eq_by_cmp cell_cmp (named p) (named q)
+pub page_cell : (p q : ℤ × Structure) → same_page p q ≡ eq_by_cmp cell_cmp (named p) (named q)
 page_cell p q = turned (int_eq p.0 q.0) (same_structure p.1 q.1) ∙ sym (ties-same_cell (named p) (named q))
 
 -- the test of pages is an equivalence
@@ -92,11 +91,11 @@ one_page p q h =
 
 -- ---- a cell by its page
 
-index_parts : (i : ℤ) → int_div_euclid i (pos 8) *ℤ pos 8 +ℤ pos (unsigned_abs (int_rem_euclid i (pos 8))) ≡ i
+pub index_parts : (i : ℤ) → int_div_euclid i (pos 8) *ℤ pos 8 +ℤ pos (unsigned_abs (int_rem_euclid i (pos 8))) ≡ i
 index_parts (pos a) = omega (arith, ints)
 index_parts (negsuc a) = omega (arith, ints)
 
-below_8 : (i : ℤ) → unsigned_abs (int_rem_euclid i (pos 8)) < 8
+pub below_8 : (i : ℤ) → unsigned_abs (int_rem_euclid i (pos 8)) < 8
 below_8 (pos a) = omega arith
 below_8 (negsuc a) = omega arith
 
@@ -107,7 +106,7 @@ one_rest : (i j : ℤ) (k l : ℕ) → k < 8 → l < 8 → i *ℤ pos 8 +ℤ pos
 one_rest i j k l h g e = omega (arith, ints)
 
 -- a cell is that of its page at its place
-cell_in-page_of : (c : Cell) → cell_in (page_of c) (offset_of c) ≡ c
+pub cell_in-page_of : (c : Cell) → cell_in (page_of c) (offset_of c) ≡ c
 cell_in-page_of c = ap (λ (i : ℤ). record { structure = c.structure; index = i }) (index_parts c.index)
 
 page_of-cell_in : (p : ℤ × Structure) (k : ℕ) → k < 8 → page_of (cell_in p k) ≡ p
@@ -420,11 +419,11 @@ none-from_pages es e = from_in es (none-from_empty (cells_in es) e)
 
 -- ---- no replies
 
-all_append : {X : Type 0} (P : X → Type 0) (xs ys : List X) → AllByRecursion P xs → AllByRecursion P ys → AllByRecursion P (xs ++ ys)
+pub all_append : {X : Type 0} (P : X → Type 0) (xs ys : List X) → AllByRecursion P xs → AllByRecursion P ys → AllByRecursion P (xs ++ ys)
 all_append P [] ys h g = g
 all_append P (x ∷ xs) ys h g = (h.0, all_append P xs ys h.1 g)
 
-all_weaker : {X : Type 0} (P Q : X → Type 0) → ((x : X) → P x → Q x) → (xs : List X) → AllByRecursion P xs → AllByRecursion Q xs
+pub all_weaker : {X : Type 0} (P Q : X → Type 0) → ((x : X) → P x → Q x) → (xs : List X) → AllByRecursion P xs → AllByRecursion Q xs
 all_weaker P Q f [] h = tt
 all_weaker P Q f (x ∷ xs) h = (f x h.0, all_weaker P Q f xs h.1)
 
@@ -482,20 +481,14 @@ pub deferred_of-none : (es : List ((ℤ × Structure) × Vec Slot Global)) → A
     → deferred_of (from_entries {R = cell_cmp} (cells_in es)) ≡ []
 deferred_of-none es all = readers-none (entries (from_entries {R = cell_cmp} (cells_in es))) (NoneWait-entries (cells_in es) (NoneWait-cells_in es all))
 
--- ---- cells that differ
+-- ---- the cells of a page
 
-keys_of-append : (xs ys : List (Cell × CellState)) → keys_of (xs ++ ys) ≡ keys_of xs ++ keys_of ys
+pub keys_of-append : (xs ys : List (Cell × CellState)) → keys_of (xs ++ ys) ≡ keys_of xs ++ keys_of ys
 keys_of-append [] ys = refl
 keys_of-append (x ∷ xs) ys = ap (λ l. x.0 ∷ l) (keys_of-append xs ys)
 
-distinct_append : (xs ys : List Cell) → IsDistinct (eq_by_cmp cell_cmp) xs → IsDistinct (eq_by_cmp cell_cmp) ys
-    → AllByRecursion (λ x. AllByRecursion (λ y. eq_by_cmp cell_cmp x y ≡ false) ys) xs → IsDistinct (eq_by_cmp cell_cmp) (xs ++ ys)
-unfolding IsDistinct
-distinct_append [] ys h g apart = g
-distinct_append (x ∷ xs) ys h g apart = (all_append _ xs ys h.0 apart.0, distinct_append xs ys h.1 g apart.1)
-
 -- a cell of a page, at one of its first n places
-abbrev IsBelow : ℕ → ℤ × Structure → Cell → Type 0
+abbrev pub IsBelow : ℕ → ℤ × Structure → Cell → Type 0
 IsBelow n p d = (page_of d ≡ p) × (offset_of d < n)
 
 below-entry_at : (n : ℕ) (p : ℤ × Structure) (o : Option CellState) → n < 8 → AllByRecursion (IsBelow (suc n) p) (keys_of (entry_at (cell_in p n) o))
@@ -504,7 +497,7 @@ below-entry_at n p (Some s) h =
     let at : offset_of (cell_in p n) ≡ n = offset_of-cell_in p n h in
     ((page_of-cell_in p n h, omega (arith, at)), tt)
 
-below-cells_below : (n : ℕ) (p : ℤ × Structure) (ss : List Slot) → n ≤ 8 → AllByRecursion (IsBelow n p) (keys_of (cells_below n p ss))
+pub below-cells_below : (n : ℕ) (p : ℤ × Structure) (ss : List Slot) → n ≤ 8 → AllByRecursion (IsBelow n p) (keys_of (cells_below n p ss))
 unfolding cells_below
 below-cells_below zero p ss h = tt
 below-cells_below (suc n) p ss h =
@@ -517,63 +510,6 @@ below-cells_below (suc n) p ss h =
   where
     wider : (m : ℕ) → m < n → m < suc n
     wider m g = omega arith
-
-false_right : (a b : Bool) → b ≡ false → (a && b) ≡ false
-false_right true b h = h
-false_right false b h = refl
-
-false_left : (a b : Bool) → a ≡ false → (a && b) ≡ false
-false_left a b h = ap (λ r. r && b) h
-
-apart-entry_at : (n : ℕ) (p : ℤ × Structure) (o : Option CellState) (d : Cell) → n < 8 → IsBelow n p d
-    → AllByRecursion (λ e. eq_by_cmp cell_cmp d e ≡ false) (keys_of (entry_at (cell_in p n) o))
-apart-entry_at n p None d h g = tt
-apart-entry_at n p (Some s) d h g =
-    let low : offset_of d < n = g.1 in
-    let differ : nat_eq (offset_of d) n ≡ false = grind (arith, nat_tests) in
-    (ties-cell_in d p n h ∙ false_right (same_page (page_of d) p) (nat_eq (offset_of d) n) differ, tt)
-
-distinct-entry_at : (c : Cell) (o : Option CellState) → IsDistinct (eq_by_cmp cell_cmp) (keys_of (entry_at c o))
-unfolding IsDistinct
-distinct-entry_at c None = tt
-distinct-entry_at c (Some s) = (tt, tt)
-
-distinct-cells_below : (n : ℕ) (p : ℤ × Structure) (ss : List Slot) → n ≤ 8 → IsDistinct (eq_by_cmp cell_cmp) (keys_of (cells_below n p ss))
-unfolding cells_below IsDistinct
-distinct-cells_below zero p ss h = tt
-distinct-cells_below (suc n) p ss h =
-    let xs = cells_below n p ss in
-    let ys = entry_at (cell_in p n) (state_in ss n) in
-    subst (IsDistinct (eq_by_cmp cell_cmp)) (sym (keys_of-append xs ys))
-    (distinct_append (keys_of xs) (keys_of ys) (distinct-cells_below n p ss (omega arith)) (distinct-entry_at (cell_in p n) (state_in ss n))
-    (all_weaker (IsBelow n p) _ (λ d g. apart-entry_at n p (state_in ss n) d (omega arith) g) (keys_of xs) (below-cells_below n p ss (omega arith))))
-
-other_pages : (p : ℤ × Structure) (es : List ((ℤ × Structure) × Vec Slot Global)) → AllByRecursion (λ q. same_page p q ≡ false) (keys_of es)
-    → AllByRecursion (λ d. same_page p (page_of d) ≡ false) (keys_of (cells_in es))
-other_pages p [] h = tt
-other_pages p (e ∷ es) h =
-    subst (AllByRecursion (λ d. same_page p (page_of d) ≡ false))
-    (sym (ap keys_of (flat_map-cons page_cells e es) ∙ keys_of-append (page_cells e) (cells_in es)))
-    (all_append _ (keys_of (page_cells e)) (keys_of (cells_in es))
-    (all_weaker (IsBelow 8 e.0) _ (λ d g. ap (same_page p) g.0 ∙ h.0) (keys_of (page_cells e)) (below-cells_below 8 e.0 e.1.items (omega arith)))
-    (other_pages p es h.1))
-
-cell_apart : (x d : Cell) → same_page (page_of x) (page_of d) ≡ false → eq_by_cmp cell_cmp x d ≡ false
-cell_apart x d h =
-    ap (eq_by_cmp cell_cmp x) (sym (cell_in-page_of d)) ∙ ties-cell_in x (page_of d) (offset_of d) (below_8 d.index)
-    ∙ false_left (same_page (page_of x) (page_of d)) (nat_eq (offset_of x) (offset_of d)) h
-
--- the pages of a table differ, so their cells do
-pub distinct_cells : (es : List ((ℤ × Structure) × Vec Slot Global)) → IsDistinct same_page (keys_of es) → IsDistinct (eq_by_cmp cell_cmp) (keys_of (cells_in es))
-unfolding IsDistinct
-distinct_cells [] unique = tt
-distinct_cells (e ∷ es) unique =
-    subst (IsDistinct (eq_by_cmp cell_cmp)) (sym (ap keys_of (flat_map-cons page_cells e es) ∙ keys_of-append (page_cells e) (cells_in es)))
-    (distinct_append (keys_of (page_cells e)) (keys_of (cells_in es)) (distinct-cells_below 8 e.0 e.1.items (omega arith)) (distinct_cells es unique.1)
-    (all_weaker (IsBelow 8 e.0) _
-    (λ x g. all_weaker (λ d. same_page e.0 (page_of d) ≡ false) _
-    (λ d apart. cell_apart x d (ap (λ q. same_page q (page_of d)) g.0 ∙ apart)) (keys_of (cells_in es)) (other_pages e.0 es unique.0))
-    (keys_of (page_cells e)) (below-cells_below 8 e.0 e.1.items (omega arith))))
 
 -- ---- pages in another order
 
@@ -671,41 +607,6 @@ module _ {S : Type 0} (m n : HashMap (ℤ × Structure) (Vec Slot Global) S) (p 
   fits-new is here all =
       subst (All IsPage) (sym (ap keys_of (is ∙ insert_entry-new same_page m p w absent) ∙ keys_of-end m.entries (p, w)))
       (All-push IsPage (keys_of m.entries) p all here)
-
--- ---- pages that are listed by other values
-
-module _ {A : Type 0} (show : A → (ℤ × Structure) × Vec Slot Global) (es : List ((ℤ × Structure) × Vec Slot Global)) (unique : IsDistinct same_page (keys_of es))
-    (xs ys : List A) (is : map show xs ≡ es) (perm : IsPermutation xs ys) where
-  moved : IsPermutation es (map show ys)
-  moved = subst (λ l. IsPermutation l (map show ys)) is (IsPermutation-map show xs ys perm)
-
-  unique-moved : IsDistinct same_page (keys_of (map show ys))
-  unique-moved = distinct-from_permutation es (map show ys) moved unique
-
-  listed : (zs : List A) → zs ≡ ys → (cells : List (Cell × CellState)) → cells ≡ flat_map (λ a. page_cells (show a)) zs → cells ≡ cells_in (map show ys)
-  listed zs one cells from = from ∙ ap (flat_map (λ a. page_cells (show a))) one ∙ sym (flat_map-map page_cells show ys)
-
-  -- their cells make the map
-  pub same-listed : (zs : List A) → zs ≡ ys → (cells : List (Cell × CellState)) → cells ≡ flat_map (λ a. page_cells (show a)) zs
-      → from_entries {R = cell_cmp} cells ≡ from_entries {R = cell_cmp} (cells_in es)
-  same-listed zs one cells from =
-      ap (λ l. from_entries {R = cell_cmp} l) (listed zs one cells from) ∙ same-from_permutation es (map show ys) moved unique unique-moved
-
-  -- and differ
-  pub distinct-listed : (zs : List A) → zs ≡ ys → (cells : List (Cell × CellState)) → cells ≡ flat_map (λ a. page_cells (show a)) zs
-      → IsDistinct (eq_by_cmp cell_cmp) (keys_of cells)
-  distinct-listed zs one cells from =
-      subst (λ l. IsDistinct (eq_by_cmp cell_cmp) (keys_of l)) (sym (listed zs one cells from)) (distinct_cells (map show ys) unique-moved)
-
-  fits-keys : (zs : List A) → AllByRecursion IsPage (keys_of (map show zs)) → AllByRecursion (λ a. IsPage (show a).0) zs
-  fits-keys [] h = tt
-  fits-keys (z ∷ zs) h = (h.0, fits-keys zs h.1)
-
-  pub fits-listed : (zs : List A) → zs ≡ ys → All IsPage (keys_of es) → All (λ a. IsPage (show a).0) zs
-  fits-listed zs one all =
-      subst (All (λ a. IsPage (show a).0)) (sym one)
-      (All-from_recursion _ ys (fits-keys ys (recursion_from_All _ _
-      (All-permutation IsPage (keys_of es) (keys_of (map show ys)) (IsPermutation-map (λ (e : (ℤ × Structure) × Vec Slot Global). e.0) es (map show ys) moved) all))))
 
 -- what holds at an answer implies more there
 pub if_ok : {A B : Type 0} (r : Result A B) (P Q : A → Type 0) → ((a : A) → P a → Q a) → IfOk r P → IfOk r Q

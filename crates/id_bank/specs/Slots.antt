@@ -1,5 +1,5 @@
 -- How the bank keeps a cell: in a slot of the page that has it and its neighbours.
-use Rattle.std.specs.Prelude.{◌≡◌, ◌<◌, ℕ, ℤ, pos, ◌+ℤ◌, ◌*ℤ◌, Bool, ◌&&◌, Option, None, Some, option_and_then}
+use Rattle.std.specs.Prelude.{◌≡◌, ◌<◌, ℕ, ℤ, pos, ◌+ℤ◌, ◌*ℤ◌, ◌-◌, Bool, ◌&&◌, Option, None, Some, option_and_then}
 use Rattle.std.specs.Prelude.{unwrap_or, zero, suc, List, [], ◌∷◌, ◌++◌, box_value, slice_index_or}
 use Rattle.std.specs.Int.{w64, int_div_euclid, int_rem_euclid}
 use Rattle.std.specs.Int.RustNames.{unsigned_abs, FitsSigned}
@@ -13,6 +13,7 @@ use Rattle.id_tag.specs.declared.Tag.{Tag}
 use Rattle.id_tag.specs.declared.Value.TheVariants.{Int}
 use Rattle.id_tag.specs.Tags.{same_structure}
 use Rattle.id_bank.specs.Cells.{CellState, Present, Deferred, count_readers}
+use Rattle.id_bank.specs.declared.Filled.{Filled}
 use Rattle.id_bank.specs.declared.slot.Numbers.{Numbers}
 use Rattle.id_bank.specs.declared.slot.Slot.{Slot}
 use Rattle.id_bank.specs.declared.slot.Slot.TheVariants.{Absent, Number, One, Two, Wide}
@@ -101,6 +102,22 @@ page_cells e = cells_below 8 e.0 e.1.items
 -- the cells of all pages
 abbrev pub cells_in : List ((ℤ × Structure) × Vec Slot Global) → List (Cell × CellState)
 cells_in es = flat_map page_cells es
+
+-- the cells of a page at its last n places
+unfoldable pub cells_above : ℕ → ℤ × Structure → List Slot → List (Cell × CellState)
+cells_above zero p ss = []
+cells_above (suc n) p ss = entry_at (cell_in p (7 - n)) (state_in ss (7 - n)) ++ cells_above n p ss
+
+-- the cells of these pages, of the first one those at its last n places
+abbrev pub cells_left : ℕ → List ((ℤ × Structure) × Vec Slot Global) → List (Cell × CellState)
+cells_left n [] = []
+cells_left n (e ∷ es) = cells_above n e.0 e.1.items ++ cells_in es
+
+-- a cell with its value, if it holds one
+abbrev pub filled_by : Cell → Option CellState → Option Filled
+filled_by c None = None
+filled_by c (Some (Present v w)) = Some (record { cell = c; value = v; origin = w })
+filled_by c (Some (Deferred ts)) = None
 
 -- what a slot of a cell that was read or written holds
 abbrev pub held_in : Slot → CellState

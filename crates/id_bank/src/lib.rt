@@ -11,9 +11,7 @@
 ghost use Rattle.std.specs.Prelude.{◌≡◌, ◌↔◌, ◌++◌, ◌<◌, length, All, IsTrue, IfOk, OnOk, OnErr};
 ghost use Rattle.std.specs.Prelude.{map as map_list};
 ghost use Rattle.std.specs.FinMap as map;
-ghost use Rattle.std.specs.List.{flat_map, IsDistinct};
-ghost use Rattle.std.specs.Map.{keys_of};
-ghost use Rattle.std.specs.Ordering.{eq_by_cmp};
+ghost use Rattle.std.specs.List.{flat_map};
 ghost use Rattle.indexmap.specs.IndexMap.{keys, IsUnique};
 ghost use Rattle.id_tag.specs.Tags.{cell_cmp};
 ghost use Rattle.id_bank.specs.declared.ReadAnswer.TheVariants.{Deferred as PutOff};
@@ -25,10 +23,10 @@ mod page;
 mod slot;
 
 use crate::page::{
-    Recent, cell_in, expected_in, has_no_readers, has_none, offset_of, page_of, place, read_at,
-    readers_in, write_at,
+    Recent, cell_in, expected_in, filled_in, has_no_readers, has_none, offset_of, page_of, place,
+    read_at, readers_in, write_at,
 };
-use crate::slot::{Slot, filled, waiting};
+use crate::slot::{Slot, waiting};
 use id_tag::{Cell, NearHasher, Structure, Tag, Value};
 use indexmap::IndexMap;
 use smallvec::SmallVec;
@@ -249,12 +247,16 @@ impl Bank {
         }
     }
 
-    /// The cells that hold a value, in the order of cells.
-    pub fn cells(&self, alloc: Global) -> Result<Vec<Filled>, AllocError>
-        ensures items { IfOk result (λ cs. cs.items ≡ cells_of self.now) }
+    /// The cells that hold a value, in the order of cells: memory is wanted for that of their pages.
+    pub fn cells(&self, alloc: Global) -> Result<Cells<'_>, AllocError>
+        ensures items { IfOk result (λ cs. cs ≡ cells_of self.now) }
     {
-        let slots = in_order(alloc, &self.pages)?;
-        filled(alloc, &slots)
+        let pages = ordered(alloc, &self.pages)?;
+        Ok(Cells {
+            pages,
+            page: 0,
+            left: 8,
+        })
     }
 
     /// The replies that wait, in the order of their cells, and of one cell in order of arrival. Memory is wanted only
@@ -267,6 +269,65 @@ impl Bank {
         }
         let slots = in_order(alloc, &self.pages)?;
         waiting(alloc, &slots)
+    }
+}
+
+/// The cells that hold a value, in the order of cells: those that are still to come.
+#[derive(Drop)]
+pub struct Cells<'a> {
+    pages: Vec<((i64, Structure), &'a Vec<Slot>)>,
+    // The page that is gone through.
+    page: usize,
+    // How many of its places are still to come.
+    left: usize,
+}
+
+impl<'a> Model for Cells<'a> {
+    ghost use Rattle.std.specs.Prelude.{◌≤◌, List, All, drop, map};
+    ghost use Rattle.std.specs.List.{flat_map};
+    ghost use Rattle.id_bank.specs.Cells.{filled_at};
+    ghost use Rattle.id_bank.specs.declared.Filled.{Filled};
+    ghost use Rattle.id_bank.specs.Slots.{IsPage, cells_left};
+
+    ghost Value = { List Filled };
+
+    ghost view = { λ c.
+        flat_map filled_at (cells_left c.left (map (λ e. (e.0, e.1.now)) (drop c.page c.pages.items))) };
+
+    ghost invariant = { λ c. (c.left ≤ 8) × All (λ e. IsPage e.0) c.pages.items };
+}
+
+impl<'a> Cells<'a> {
+    ghost use Rattle.std.specs.Prelude.{[], ◌∷◌, IfSome, IfNone};
+
+    /// The next cell, which is then no longer to come. Takes no memory.
+    pub fn next(&mut self) -> Option<Filled>
+        ensures some { IfSome result (λ f. self.old ≡ f ∷ self.new) }
+        ensures none { IfNone result (self.old ≡ []) }
+    {
+        while self.page < self.pages.len() {
+            if self.left > 0 {
+                let offset = 8 - self.left;
+                self.left -= 1;
+                let entry = &self.pages[self.page];
+                if let Some(filled) = filled_in(entry.0, entry.1, offset) {
+                    return Some(filled);
+                }
+            } else {
+                self.page += 1;
+                self.left = 8;
+            }
+        }
+        None
+    }
+
+    /// How many slots the pages have, which may be more than there are cells to come. Takes no memory.
+    pub fn slots(&self) -> usize {
+        let mut count: usize = 0;
+        for entry in &self.pages {
+            count = count.saturating_add(entry.1.len());
+        }
+        count
     }
 }
 
@@ -293,27 +354,23 @@ fn in_order(
     ensures { IfOk result (λ es. map_list (λ e. (e.0, held_in e.1.now)) es.items ≡
         map.entries (map.from_entries {R = cell_cmp} (cells_in pages.now.entries))) }
 {
-    let mut listed = listed(alloc, pages)?;
-    // One run, which the sort only looks through.
-    listed.sort_by_key(|e| e.0)?;
-    Ok(listed)
+    let order = ordered(alloc, pages)?;
+    spread(alloc, &order)
 }
 
-// The same, page after page in their order.
-fn listed(
+// The pages with their slots, in the order of their cells.
+fn ordered(
     alloc: Global,
     pages: &IndexMap<(i64, Structure), Vec<Slot>, NearHasher>,
-) -> Result<Vec<(Cell, &Slot)>, AllocError>
+) -> Result<Vec<((i64, Structure), &Vec<Slot>)>, AllocError>
     requires { All IsPage (keys pages.now) }
-    ensures same { IfOk result
-        (λ es. map.from_entries {R = cell_cmp} (map_list (λ e. (e.0, held_in e.1.now)) es.items)
-        ≡ map.from_entries (cells_in pages.now.entries)) }
-    ensures distinct { IfOk result
-        (λ es. IsDistinct (eq_by_cmp cell_cmp) (keys_of (map_list (λ e. (e.0, held_in e.1.now)) es.items))) }
+    ensures fits { IfOk result (λ es. All (λ e. IsPage e.0) es.items) }
+    ensures listed { IfOk result (λ es. cells_in (map_list (λ e. (e.0, e.1.now)) es.items) ≡
+        map.entries (map.from_entries {R = cell_cmp} (cells_in pages.now.entries))) }
 {
     let mut order = shown(alloc, pages)?;
     order.sort_by_key(|e| (e.0.1, e.0.0))?;
-    spread(alloc, &order)
+    Ok(order)
 }
 
 // The pages with their slots.

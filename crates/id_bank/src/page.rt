@@ -9,10 +9,10 @@ ghost use Rattle.id_bank.specs.declared.ReadAnswer.TheVariants.{Deferred as PutO
 ghost use Rattle.id_bank.specs.Cells.{read_answer, state_read, write_answer, state_written, count_expected};
 ghost use Rattle.id_bank.specs.Cells.{count_readers};
 ghost use Rattle.id_bank.specs.Slots.{page_of, offset_of, cell_in, same_page, state_in, state_at};
-ghost use Rattle.id_bank.specs.Slots.{IsPage, HasNone, HasNoReaders};
+ghost use Rattle.id_bank.specs.Slots.{IsPage, HasNone, HasNoReaders, filled_by};
 
-use crate::slot::Slot;
-use crate::{ReadAnswer, WriteAnswer};
+use crate::slot::{Slot, filled};
+use crate::{Filled, ReadAnswer, WriteAnswer};
 use id_tag::{Cell, NearHasher, Structure, Tag, Value};
 use indexmap::IndexMap;
 use std::alloc::{AllocError, Global};
@@ -286,6 +286,20 @@ pub(crate) fn expected_in(slots: &[Slot], offset: usize) -> Option<usize>
         slots[offset].expected()
     } else {
         Some(0)
+    }
+}
+
+/// The cell at a place of a page, if it holds a value. Takes no memory.
+#[inline(always)]
+pub(crate) fn filled_in(page: (i64, Structure), slots: &[Slot], offset: usize) -> Option<Filled>
+    requires page { IsPage page }
+    requires offset { offset < 8 }
+    ensures { result ≡ filled_by (cell_in page offset) (state_in slots.now offset) }
+{
+    if offset < slots.len() {
+        filled(cell_in(page, offset), &slots[offset])
+    } else {
+        None
     }
 }
 

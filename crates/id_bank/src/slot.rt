@@ -6,8 +6,8 @@ ghost use Rattle.std.specs.List.{flat_map};
 ghost use Rattle.id_tag.specs.declared.Value.TheVariants.{Int};
 ghost use Rattle.id_bank.specs.declared.ReadAnswer.TheVariants.{Deferred as PutOff};
 ghost use Rattle.id_bank.specs.Cells.{Present, Deferred, read_answer, state_read, write_answer, state_written};
-ghost use Rattle.id_bank.specs.Cells.{count_expected, count_readers, filled_at, readers_at};
-ghost use Rattle.id_bank.specs.Slots.{tag_of, kept_state, state_of, origin_of, replies_of, held_in};
+ghost use Rattle.id_bank.specs.Cells.{count_expected, count_readers, readers_at};
+ghost use Rattle.id_bank.specs.Slots.{tag_of, kept_state, state_of, origin_of, replies_of, held_in, filled_by};
 
 use crate::{Filled, ReadAnswer, Reader, Replies, WriteAnswer};
 use id_tag::{Cell, Context, Tag, Value, small, tiny};
@@ -298,44 +298,33 @@ impl Kept {
     }
 }
 
-/// Those of the cells that hold a value.
-pub(crate) fn filled(alloc: Global, slots: &[(Cell, &Slot)]) -> Result<Vec<Filled>, AllocError>
-    ensures { IfOk result (λ cells. cells.items ≡ flat_map (λ e. filled_at (e.0, held_in e.1.now)) slots.now) }
-{
-    let mut cells = Vec::with_capacity(alloc, slots.len())?;
-    for entry in slots {
-        add_filled(&mut cells, entry.0, entry.1)?;
-    }
-    Ok(cells)
-}
-
+/// The cell, if it holds a value. Takes no memory.
 #[inline(always)]
-fn add_filled(cells: &mut Vec<Filled>, cell: Cell, slot: &Slot) -> Result<(), AllocError>
-    ensures { OnOk result (cells.new.items ≡ cells.old.items ++ filled_at (cell, held_in slot.now)) }
+pub(crate) fn filled(cell: Cell, slot: &Slot) -> Option<Filled>
+    ensures { result ≡ filled_by cell (state_of slot.now) }
 {
     match slot {
-        Slot::Number(element, numbers, number) => cells.push(Filled {
+        Slot::Number(element, numbers, number) => Some(Filled {
             cell,
             value: Value::Int(*number),
             origin: tag_of(*element, *numbers),
-        })?,
-        Slot::Wide(kept) => add_kept(cells, cell, kept)?,
-        Slot::Absent | Slot::One(_, _) | Slot::Two(_, _, _, _) => {}
+        }),
+        Slot::Wide(kept) => filled_kept(cell, kept),
+        Slot::Absent | Slot::One(_, _) | Slot::Two(_, _, _, _) => None,
     }
-    Ok(())
 }
 
-fn add_kept(cells: &mut Vec<Filled>, cell: Cell, kept: &Kept) -> Result<(), AllocError>
-    ensures { OnOk result (cells.new.items ≡ cells.old.items ++ filled_at (cell, kept_state kept.now)) }
+fn filled_kept(cell: Cell, kept: &Kept) -> Option<Filled>
+    ensures { result ≡ filled_by cell (Some (kept_state kept.now)) }
 {
-    if let Kept::Present { value, origin } = kept {
-        cells.push(Filled {
+    match kept {
+        Kept::Present { value, origin } => Some(Filled {
             cell,
             value: *value,
             origin: *origin,
-        })?;
+        }),
+        Kept::Deferred(_) => None,
     }
-    Ok(())
 }
 
 /// The replies that wait at the cells.

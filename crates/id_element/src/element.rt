@@ -9,7 +9,7 @@ ghost use Rattle.id_tag.specs.declared.Tag.{Tag};
 use crate::desk::Desk;
 use crate::outcome::greatest;
 use crate::step::{Short, TakeError};
-use id_bank::{Filled, Reader};
+use id_bank::{Cells, Reader};
 use id_flight::{Demand, Queue};
 use id_record::{Events, Step, full_step};
 use id_tag::{Message, PlainToken};
@@ -202,8 +202,8 @@ impl<'a> Element<'a> {
     }
 
     /// The cells that hold a value, in the order of cells.
-    pub fn cells(&self, alloc: Global) -> Result<Vec<Filled>, AllocError>
-        ensures { IfOk result (λ cs. cs.items ≡ cells_of self.now.state.cells) }
+    pub fn cells(&self, alloc: Global) -> Result<Cells<'_>, AllocError>
+        ensures { IfOk result (λ cs. cs ≡ cells_of self.now.state.cells) }
     {
         self.desk.cells.cells(alloc)
     }

@@ -8,7 +8,7 @@ ghost use Rattle.id_observe.specs.Observed.{cell_values_in, structure_by, struct
 
 use crate::observe::{all_structures, all_waiting, answer, source_value, value_in};
 use crate::paths::{Paths, is_alloc};
-use id_bank::Filled;
+use id_bank::{Cells, Filled};
 use id_element::Element;
 use id_graph::Graph;
 use id_list::Sequence;
@@ -117,7 +117,7 @@ fn all_cell_values(
 {
     let mut values = Vec::new(alloc);
     for element in elements {
-        add_cell_values(alloc, paths, element.cells(alloc)?.as_slice(), &mut values)?;
+        add_cell_values(alloc, paths, element.cells(alloc)?, &mut values)?;
     }
     Ok(values)
 }
@@ -133,17 +133,18 @@ struct Named {
 fn add_cell_values(
     alloc: Global,
     paths: &Paths<'_>,
-    cells: &[Filled],
+    cells: Cells<'_>,
     values: &mut Vec<CellValue>,
 ) -> Result<(), AllocError>
     ensures { OnOk result (values.new.items ≡ values.old.items
-        ++ filter_map (cell_value_of (structure_by paths.now)) cells.now) }
+        ++ filter_map (cell_value_of (structure_by paths.now)) cells.entry) }
 {
-    values.reserve(cells.len())?;
+    values.reserve(cells.slots())?;
+    let mut cells = cells;
     let mut at_hand = with_name(alloc, paths, NOTHING)?;
-    for cell in cells {
+    while let Some(cell) = cells.next() {
         at_hand = named_for(alloc, paths, at_hand, cell.cell.structure)?;
-        add_cell_value(cell_value_of(alloc, paths, &at_hand, *cell)?, values)?;
+        add_cell_value(cell_value_of(alloc, paths, &at_hand, cell)?, values)?;
     }
     Ok(())
 }

@@ -19,7 +19,7 @@ ghost use Rattle.id_observe.specs.Observed.{structures_in, waiting_in};
 ghost use Rattle.id_observe.specs.Paths.{path_by, place_of};
 
 use crate::paths::{Making, Paths};
-use id_bank::{Filled, Reader};
+use id_bank::{Cells, Filled, Reader};
 use id_element::Element;
 use id_graph::{Graph, Instr, Op, PortKind};
 use id_list::Sequence;
@@ -424,7 +424,7 @@ fn all_cells(
 {
     let mut puts = Vec::new(alloc);
     for element in elements {
-        add_puts(alloc, paths, element.cells(alloc)?.as_slice(), &mut puts)?;
+        add_puts(alloc, paths, element.cells(alloc)?, &mut puts)?;
     }
     Ok(puts)
 }
@@ -433,15 +433,16 @@ fn all_cells(
 fn add_puts(
     alloc: Global,
     paths: &Paths<'_>,
-    cells: &[Filled],
+    cells: Cells<'_>,
     puts: &mut Vec<Put>,
 ) -> Result<(), AllocError>
     ensures { OnOk result (puts.new.items ≡ puts.old.items
-        ++ filter_map (put_of paths.now.graph.now (path_by paths.now) (structure_by paths.now)) cells.now) }
+        ++ filter_map (put_of paths.now.graph.now (path_by paths.now) (structure_by paths.now)) cells.entry) }
 {
-    puts.reserve(cells.len())?;
-    for cell in cells {
-        add_put(put_of(alloc, paths, *cell)?, puts)?;
+    puts.reserve(cells.slots())?;
+    let mut cells = cells;
+    while let Some(cell) = cells.next() {
+        add_put(put_of(alloc, paths, cell)?, puts)?;
     }
     Ok(())
 }

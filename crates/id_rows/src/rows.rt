@@ -3,7 +3,7 @@
 ghost use Rattle.std.specs.Prelude.{◌≡◌};
 
 use crate::graphs::{block, call, called_blocks, either, seven, sum_and_product};
-use id_bank::{Bank, Filled, ReadAnswer, Reader, WriteAnswer};
+use id_bank::{Bank, Cells, ReadAnswer, Reader, WriteAnswer};
 use id_core::{Element, Machine, MachineError, Step, TakeError, fits, merge_records, takes_inputs};
 use id_flight::Queue;
 use id_graph::{Block, Constant, Graph, GraphCause, Instr, Op, Port, PortKind};
@@ -113,10 +113,11 @@ fn are_two_readers(readers: &[Reader]) -> bool {
     }
 }
 
-/// Whether the cell alone is listed, with the 5 of instruction 7.
-fn is_five(cells: &[Filled]) -> bool {
-    match cells {
-        [filled] => {
+/// Whether the cell alone is to come, with the 5 of instruction 7.
+fn is_five(cells: Cells<'_>) -> bool {
+    let mut cells = cells;
+    match (cells.next(), cells.next()) {
+        (Some(filled), None) => {
             filled.cell == first_cell()
                 && filled.value == Value::Int(5)
                 && filled.origin == main_tag(7)
@@ -152,7 +153,7 @@ fn is_kept(alloc: Global, bank: &mut Bank) -> Result<bool, AllocError> {
     let again = bank.write(cell, Value::Int(5), main_tag(9))?;
     let second = matches!(again, WriteAnswer::Second(first) if first == main_tag(7));
     let cells = bank.cells(alloc)?;
-    Ok(filled && now && second && is_five(cells.as_slice()))
+    Ok(filled && now && second && is_five(cells))
 }
 
 #[test]
