@@ -1,11 +1,16 @@
 -- Lemmas on specs/Texts.antt: texts that are printed one after another.
-use Rattle.std.proofs.Common.{◌≡◌, ℕ, ◌+◌, List, [], ◌∷◌, ◌++◌, take, drop, Option, Some, Result, Ok, Err, IsErr, sym, ap, subst, ◌∙◌}
+use Rattle.std.proofs.Common.{◌≡◌, ℕ, ℤ, codes, append_assoc, ◌+◌, List, [], ◌∷◌, ◌++◌, take, drop, Option, Some, Result, Ok, Err, IsErr, sym, ap, subst, ◌∙◌}
 use Rattle.std.specs.Prelude.{slice_get}
 use Rattle.std.specs.List.{flat_map}
 use Rattle.std.proofs.lemmas.List.{append-nil, take_more, take-append-drop}
 use Rattle.std.proofs.lemmas.List.Concat.{flat_map-append}
 use Rattle.std.proofs.lemmas.Option.{slice_get_within, get_or_from_slice_get}
 use Rattle.id_print.specs.declared.sink.PrintError.{PrintError}
+use Rattle.std.specs.Fmt.{signed_decimal}
+use Rattle.id_meaning.specs.declared.Site.{Site}
+use Rattle.id_meaning.specs.declared.SourceValue.{SourceValue}
+use Rattle.id_meaning.specs.declared.SourceValue.TheVariants.{Int}
+use Rattle.id_print.specs.Texts.{cell_text, content_text, equal_text, filled_text, number_content_text, site_text}
 use Rattle.id_print.specs.Told.{Told, Prints}
 use Rattle.id_print.proofs.SinkLemmas.{Prints-stop, Prints-then}
 
@@ -46,3 +51,19 @@ pub Prints-more_stop_at : {A : Type 0} (f : List ℕ → A → List ℕ) (k t : 
     → k ≡ t → slice_get xs i ≡ Some x → Prints old mid (flat_map (f t) (take i xs)) (Ok u) → Prints mid new (f k x) (Err e) → IsErr r → Prints old new (flat_map (f t) xs) r
 Prints-more_stop_at f k t xs i x old mid new u e r same at so_far one fails =
     let P : List ℕ → Type 0 = λ z. Prints mid new (f z x) (Err e) in Prints-more_stop (f t) xs i x old mid new u e r at so_far (subst P same one) fails
+
+-- a cell with its value is the name of its structure and what stands behind it
+pub filled_text-content : (text : List ℕ) (s : Site) (i : ℤ) (v : SourceValue) → filled_text text s i v ++ codes "\n" ≡ site_text text s ++ content_text text i v
+filled_text-content text s i v =
+    append_assoc (cell_text text s i) (equal_text text v) (codes "\n")
+    ∙ append_assoc (site_text text s) (codes "[" ++ (signed_decimal i ++ codes "]")) (equal_text text v ++ codes "\n")
+
+-- of a number that is in one piece
+pub content_text-number : (text : List ℕ) (i n : ℤ) → number_content_text i n ≡ content_text text i (Int n)
+content_text-number text i n =
+    ap (λ t. codes "[" ++ t)
+    (sym (append_assoc (signed_decimal i) (codes "]") (codes " = " ++ (signed_decimal n ++ codes "\n"))))
+
+-- the same where it is told with a cursor that stands for the text
+pub Prints-content_at : (k t : List ℕ) (i : ℤ) (v : SourceValue) (old new : Option Told) (r : Result (Unit {0}) PrintError) → k ≡ t → Prints old new (content_text k i v) r → Prints old new (content_text t i v) r
+Prints-content_at k t i v old new r same one = let P : List ℕ → Type 0 = λ z. Prints old new (content_text z i v) r in subst P same one

@@ -101,6 +101,14 @@ cell_text text s i = site_text text s ++ (codes "[" ++ (signed_decimal i ++ code
 abbrev pub filled_text : List ℕ → Site → ℤ → SourceValue → List ℕ
 filled_text text s i v = cell_text text s i ++ equal_text text v
 
+-- behind the name of a structure an index, the value that its cell holds, and the end of the line
+abbrev pub content_text : List ℕ → ℤ → SourceValue → List ℕ
+content_text text i v = (codes "[" ++ (signed_decimal i ++ codes "]")) ++ (equal_text text v ++ codes "\n")
+
+-- the same of a number
+abbrev pub number_content_text : ℤ → ℤ → List ℕ
+number_content_text i n = codes "[" ++ (signed_decimal i ++ (codes "] = " ++ (signed_decimal n ++ codes "\n")))
+
 -- a fetch and the cell that it asks for, and the end of the line
 abbrev pub ask_text : List ℕ → Ask → List ℕ
 ask_text text a = site_text text a.fetch ++ (codes " of " ++ (cell_text text a.name a.index ++ codes "\n"))

@@ -8,6 +8,7 @@
 
 mod cursor;
 mod facts;
+mod line;
 mod names;
 mod report;
 mod sink;

@@ -20,7 +20,7 @@ use crate::cursor::Cursor;
 use crate::names::{sorted_asks, sorted_helds, sorted_names};
 use crate::sink::{PrintError, Sink, put};
 use crate::texts::{
-    put_ask, put_cell, put_filled, put_point_value, put_shape, put_site, put_value,
+    put_ask, put_cell, put_content, put_point_value, put_shape, put_site, put_value,
 };
 use crate::within::{
     are_asks_within, are_helds_within, are_names_within, is_answer_within, is_ending_within,
@@ -446,8 +446,8 @@ fn put_present<W: Sink>(
     ensures same { cursor.new ≡ cursor.old }
 {
     put(sink, b"cell ")?;
-    put_filled(sink, cursor, &cell.name, cell.index, &cell.value)?;
-    put(sink, b"\n")
+    put_site(sink, cursor, &cell.name)?;
+    put_content(sink, cursor, cell.index, &cell.value)
 }
 
 /// The line of each fetch that waits, in order.

@@ -6,9 +6,11 @@ ghost use Rattle.id_print.specs.Told.{Prints};
 ghost use Rattle.id_print.specs.Texts.{iteration_text, line_column_text, place_text, step_text, steps_text};
 ghost use Rattle.id_print.specs.Texts.{point_text, point_value_text, truth_text, value_text, site_text, equal_text};
 ghost use Rattle.id_print.specs.Texts.{bounds_text, shape_text, cell_text, filled_text, ask_text};
+ghost use Rattle.id_print.specs.Texts.{content_text, number_content_text};
 ghost use Rattle.id_print.specs.Within.{StepsWithin, PointWithin, SiteWithin, ValueWithin, FilledWithin, AskWithin};
 
 use crate::cursor::Cursor;
+use crate::line::Piece;
 use crate::sink::{PrintError, Sink, put};
 use id_meaning::{Ask, Path, PathStep, Shape, Site, SourceValue};
 use id_text::{MAX_BYTES, line_col};
@@ -109,8 +111,12 @@ fn put_at<W: Sink>(sink: &mut W, cursor: &mut Cursor<'_>, at: usize) -> Result<(
     ensures same { cursor.new ≡ cursor.old }
 {
     let (line, column) = cursor.line_col(at);
-    put(sink, b"@")?;
-    put_line_column(sink, line, column)
+    let mut piece = Piece::new();
+    piece.number(column as u64);
+    piece.byte(b':');
+    piece.number(line as u64);
+    piece.byte(b'@');
+    put(sink, piece.as_slice())
 }
 
 /// Where something is: its path and its place.
@@ -271,6 +277,57 @@ pub(crate) fn put_filled<W: Sink>(
 {
     put_cell(sink, cursor, name, index)?;
     put_equal(sink, cursor, value)
+}
+
+/// Behind the name of a structure an index, the value that its cell holds, and the end of the line.
+pub(crate) fn put_content<W: Sink>(
+    sink: &mut W,
+    cursor: &mut Cursor<'_>,
+    index: i64,
+    value: &SourceValue,
+) -> Result<(), PrintError>
+    requires { ValueWithin (length cursor.old) value.now }
+    ensures prints { Prints (W.told sink.old) (W.told sink.new) (content_text cursor.old index value.now) result }
+    ensures same { cursor.new ≡ cursor.old }
+{
+    match value {
+        SourceValue::Int(n) => put_number_content(sink, index, *n),
+        SourceValue::Bool(_) | SourceValue::Name(_) => {
+            put_other_content(sink, cursor, index, value)
+        }
+    }
+}
+
+/// The same of a number, in one piece.
+fn put_number_content<W: Sink>(sink: &mut W, index: i64, n: i64) -> Result<(), PrintError>
+    ensures { Prints (W.told sink.old) (W.told sink.new) (number_content_text index n) result }
+{
+    let mut piece = Piece::new();
+    piece.byte(b'\n');
+    piece.int(n);
+    piece.byte(b' ');
+    piece.byte(b'=');
+    piece.byte(b' ');
+    piece.byte(b']');
+    piece.int(index);
+    piece.byte(b'[');
+    put(sink, piece.as_slice())
+}
+
+/// The same of any value.
+fn put_other_content<W: Sink>(
+    sink: &mut W,
+    cursor: &mut Cursor<'_>,
+    index: i64,
+    value: &SourceValue,
+) -> Result<(), PrintError>
+    requires { ValueWithin (length cursor.old) value.now }
+    ensures prints { Prints (W.told sink.old) (W.told sink.new) (content_text cursor.old index value.now) result }
+    ensures same { cursor.new ≡ cursor.old }
+{
+    put_index(sink, index)?;
+    put_equal(sink, cursor, value)?;
+    put(sink, b"\n")
 }
 
 /// A fetch and the cell that it asks for, and the end of the line.
