@@ -104,7 +104,7 @@ NamesRise-Rises (n ∷ m ∷ ns) h = (h.0, NamesRise-Rises (m ∷ ns) h.1)
 same_path : (p q : Path) → slice_cmp step_cmp p.steps q.steps ≡ Equal → p ≡ q
 same_path p q e = let steps = same_steps p.steps q.steps e in λ i. record { steps = steps i }
 
-site_total : IsTotalOrder site_cmp
+pub site_total : IsTotalOrder site_cmp
 site_total = then_total (on_total (λ s. s.path.steps) (lists_total step_total)) (on_total (λ s. s.place) nat_cmp_total)
 
 site_less : (s t : Site) → SiteBefore s t → site_cmp s t ≡ Less

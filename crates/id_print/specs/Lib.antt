@@ -7,3 +7,4 @@ pub mod Names
 pub mod Within
 -- For use inside.
 pub mod Cursors
+pub mod Helds

@@ -8,6 +8,7 @@
 
 mod cursor;
 mod facts;
+mod helds;
 mod line;
 mod names;
 mod report;
@@ -17,6 +18,7 @@ mod trace;
 mod within;
 
 pub use facts::{facts_within, write_facts};
+pub use helds::Helds;
 pub use report::{Ending, Held, Report, is_within, run_report, write_fault, write_report};
 pub use sink::{PrintError, Sink, SinkFault, put};
 pub use texts::{put_number, put_place};

@@ -1,30 +1,29 @@
 //! Reports of runs, and how they are printed.
 
-ghost use Rattle.std.specs.Prelude.{◌≡◌, ◌≤◌, ◌↔◌, ◌++◌, [], codes, length, map, IsTrue, IsFalse, IfOk};
+ghost use Rattle.std.specs.Prelude.{◌≡◌, ◌≤◌, ◌↔◌, ◌++◌, [], codes, length, IsTrue, IsFalse, IfOk};
 ghost use Rattle.id_core.specs.Observed.{answer, faults, names, waiting};
 ghost use Rattle.id_meaning.specs.Orders.{NamesRise, Rises};
-ghost use Rattle.id_print.specs.declared.report.Held.TheVariants as held;
 ghost use Rattle.id_print.specs.Endings.{EndsSo};
 ghost use Rattle.id_print.specs.Names.{IsOrderOf, IsSortedOf, AreApart, AreApartBy, HeldBefore, WaitBefore};
 ghost use Rattle.id_print.specs.Names.{OfOneThing, OfOneFetch, held_lines};
 ghost use Rattle.id_print.specs.Told.{Prints};
 ghost use Rattle.id_print.specs.Texts.{kind_text, fault_head_text, fault_text, answer_text, answer_value_text};
-ghost use Rattle.id_print.specs.Texts.{name_text, names_text, held_text, helds_text, waiting_text, waitings_text};
+ghost use Rattle.id_print.specs.Texts.{name_text, names_text, helds_text, waiting_text, waitings_text};
 ghost use Rattle.id_print.specs.Texts.{shown_text, quiet_text, stopped_text, site_text, stores_text, second_text};
 ghost use Rattle.id_print.specs.Texts.{shape_text, filled_text};
+ghost use Rattle.id_print.specs.Helds.{joined};
 ghost use Rattle.id_print.specs.Reports.{asked, report_text};
 ghost use Rattle.id_print.specs.Within.{SiteWithin, FilledWithin, AskWithin, SecondWithin, FaultWithin, NameWithin};
-ghost use Rattle.id_print.specs.Within.{NamesWithin, HeldWithin, HeldsWithin, AsksWithin, AnswerWithin, ReportWithin};
+ghost use Rattle.id_print.specs.Within.{NamesWithin, HeldsWithin, AsksWithin, AnswerWithin, ReportWithin};
 
 use crate::cursor::Cursor;
-use crate::names::{sorted_asks, sorted_helds, sorted_names};
+use crate::helds::{Helds, behind_first, has_lines, is_cell_first};
+use crate::names::{sorted_asks, sorted_names};
 use crate::sink::{PrintError, Sink, put};
 use crate::texts::{
     put_ask, put_cell, put_content, put_point_value, put_shape, put_site, put_value,
 };
-use crate::within::{
-    are_asks_within, are_helds_within, are_names_within, is_answer_within, is_ending_within,
-};
+use crate::within::{are_asks_within, are_names_within, is_answer_within, is_ending_within};
 use id_core::{CellValue, Machine};
 use id_list::Sequence;
 use id_meaning::{Ask, NameValue, Shape, Site, SourceFault, SourceValue};
@@ -59,7 +58,7 @@ pub struct Report {
     pub ending: Ending,
     pub answer: Option<SourceValue>,
     pub names: Sequence<NameValue>,
-    pub structures: Sequence<Held>,
+    pub structures: Helds,
     pub waiting: Sequence<Ask>,
 }
 
@@ -100,7 +99,7 @@ pub fn run_report(alloc: Global, machine: &Machine<'_>, named: bool) -> Result<R
 struct Lists {
     answer: Option<SourceValue>,
     names: Sequence<NameValue>,
-    lines: Sequence<Held>,
+    lines: Helds,
     waiting: Sequence<Ask>,
 }
 
@@ -151,7 +150,7 @@ fn asked_names(
 #[derive(Drop)]
 struct InOrder {
     answer: Option<SourceValue>,
-    lines: Sequence<Held>,
+    lines: Helds,
     waiting: Sequence<Ask>,
 }
 
@@ -167,52 +166,13 @@ fn machine_held(alloc: Global, machine: &Machine<'_>) -> Result<InOrder, AllocEr
         (λ r. AreApartBy OfOneFetch (waiting machine.now.graph machine.now.world) → Rises WaitBefore r.waiting) }
 {
     let holdings = machine.holdings(alloc)?;
-    let lines = lines_of(alloc, holdings.structures, holdings.cells)?;
+    let lines = Helds::new(holdings.structures, holdings.cells)?;
     let waiting = sorted_asks(holdings.waiting)?;
     Ok(InOrder {
         answer: holdings.answer,
         lines,
         waiting,
     })
-}
-
-/// The lines of structures and cells, in order.
-fn lines_of(
-    alloc: Global,
-    shapes: Sequence<Shape>,
-    cells: Sequence<CellValue>,
-) -> Result<Sequence<Held>, AllocError>
-    ensures sorted { IfOk result
-        (λ r. IsOrderOf HeldBefore r (map held.Array shapes ++ map held.Cell cells)) }
-    ensures rise { IfOk result
-        (λ r. AreApartBy OfOneThing (map held.Array shapes ++ map held.Cell cells) → Rises HeldBefore r) }
-{
-    let helds = shape_lines(alloc, shapes)?;
-    let helds = with_cells(helds, cells)?;
-    sorted_helds(helds)
-}
-
-/// The lines of structures.
-fn shape_lines(alloc: Global, shapes: Sequence<Shape>) -> Result<Vec<Held>, AllocError>
-    ensures { IfOk result (λ v. v.items ≡ map held.Array shapes) }
-{
-    let mut helds = Vec::new(alloc);
-    for shape in shapes.into_vec() {
-        helds.push(Held::Array(shape))?;
-    }
-    Ok(helds)
-}
-
-/// These lines, and then those of cells.
-fn with_cells(helds: Vec<Held>, cells: Sequence<CellValue>) -> Result<Vec<Held>, AllocError>
-    ensures { IfOk result (λ v. v.items ≡ helds.items ++ map held.Cell cells) }
-{
-    let mut helds = helds;
-    helds.reserve(cells.len())?;
-    for cell in cells.into_vec() {
-        helds.push(Held::Cell(cell))?;
-    }
-    Ok(helds)
 }
 
 /// What binders have in a run, by path and place.
@@ -398,27 +358,40 @@ fn put_name<W: Sink>(
 fn put_helds<W: Sink>(
     sink: &mut W,
     cursor: &mut Cursor<'_>,
-    helds: &[Held],
+    helds: &Helds,
 ) -> Result<(), PrintError>
     requires { HeldsWithin (length cursor.old) helds.now }
     ensures prints { Prints (W.told sink.old) (W.told sink.new) (helds_text cursor.old helds.now) result }
     ensures same { cursor.new ≡ cursor.old }
 {
-    for held in helds {
-        put_held(sink, cursor, held)?;
-    }
-    Ok(())
+    let (shapes, cells) = helds.parts();
+    put_joined(sink, cursor, shapes, cells)
 }
 
-fn put_held<W: Sink>(sink: &mut W, cursor: &mut Cursor<'_>, held: &Held) -> Result<(), PrintError>
-    requires { HeldWithin (length cursor.old) held.now }
-    ensures prints { Prints (W.told sink.old) (W.told sink.new) (held_text cursor.old held.now) result }
+/// The lines of structures and of cells, each before those of the other kind that it comes before.
+fn put_joined<W: Sink>(
+    sink: &mut W,
+    cursor: &mut Cursor<'_>,
+    shapes: &[Shape],
+    cells: &[CellValue],
+) -> Result<(), PrintError>
+    requires { HeldsWithin (length cursor.old) (joined shapes.now cells.now) }
+    ensures prints { Prints (W.told sink.old) (W.told sink.new)
+        (helds_text cursor.old (joined shapes.now cells.now)) result }
     ensures same { cursor.new ≡ cursor.old }
 {
-    match held {
-        Held::Array(shape) => put_array(sink, cursor, shape),
-        Held::Cell(cell) => put_present(sink, cursor, cell),
+    let mut shapes = shapes;
+    let mut cells = cells;
+    while has_lines(shapes, cells) {
+        if is_cell_first(shapes, cells) {
+            put_present(sink, cursor, &cells[0])?;
+            cells = behind_first(cells);
+        } else {
+            put_array(sink, cursor, &shapes[0])?;
+            shapes = behind_first(shapes);
+        }
     }
+    Ok(())
 }
 
 fn put_array<W: Sink>(
@@ -489,7 +462,7 @@ fn put_shown<W: Sink>(
 {
     put_answer(sink, cursor, &report.answer)?;
     put_names(sink, cursor, names)?;
-    put_helds(sink, cursor, report.structures.as_slice())
+    put_helds(sink, cursor, &report.structures)
 }
 
 fn put_quiet<W: Sink>(
@@ -563,6 +536,6 @@ pub fn is_within(report: &Report, size: usize) -> bool
     is_ending_within(&report.ending, size)
         && is_answer_within(&report.answer, size)
         && are_names_within(report.names.as_slice(), size)
-        && are_helds_within(report.structures.as_slice(), size)
+        && report.structures.are_within(size)
         && are_asks_within(report.waiting.as_slice(), size)
 }

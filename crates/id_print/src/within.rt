@@ -2,10 +2,10 @@
 
 ghost use Rattle.std.specs.Prelude.{◌≤◌, ◌↔◌, IsTrue};
 ghost use Rattle.id_print.specs.Within.{StepsWithin, PointWithin, SiteWithin, ValueWithin, PutWithin, AskWithin};
-ghost use Rattle.id_print.specs.Within.{AsksWithin, AnswerWithin, NameWithin, NamesWithin, HeldWithin, HeldsWithin};
+ghost use Rattle.id_print.specs.Within.{AsksWithin, AnswerWithin, NameWithin, NamesWithin};
 ghost use Rattle.id_print.specs.Within.{FaultWithin, FilledWithin, SecondWithin, EndingWithin};
 
-use crate::report::{Ending, Held};
+use crate::report::Ending;
 use id_meaning::{Ask, NameValue, Path, PathStep, Put, Site, SourceFault, SourceValue};
 
 /// Whether a place and those of the steps of its path lie in a text of so many bytes.
@@ -51,7 +51,7 @@ pub(crate) fn is_put_within(stored: &Put, size: usize) -> bool
     is_filled_within(&stored.name, &stored.value, size) && is_site_within(&stored.store, size)
 }
 
-fn is_filled_within(name: &Site, value: &SourceValue, size: usize) -> bool
+pub(crate) fn is_filled_within(name: &Site, value: &SourceValue, size: usize) -> bool
     ensures { IsTrue result ↔ FilledWithin size name.now value.now }
 {
     is_site_within(name, size) && is_value_within(value, size)
@@ -67,21 +67,6 @@ pub(crate) fn are_asks_within(asks: &[Ask], size: usize) -> bool
     ensures { IsTrue result ↔ AsksWithin size asks.now }
 {
     asks.iter().all(|ask| is_ask_within(ask, size))
-}
-
-fn is_held_within(held: &Held, size: usize) -> bool
-    ensures { IsTrue result ↔ HeldWithin size held.now }
-{
-    match held {
-        Held::Array(shape) => is_site_within(&shape.name, size),
-        Held::Cell(cell) => is_filled_within(&cell.name, &cell.value, size),
-    }
-}
-
-pub(crate) fn are_helds_within(helds: &[Held], size: usize) -> bool
-    ensures { IsTrue result ↔ HeldsWithin size helds.now }
-{
-    helds.iter().all(|held| is_held_within(held, size))
 }
 
 fn is_name_within(name: &NameValue, size: usize) -> bool

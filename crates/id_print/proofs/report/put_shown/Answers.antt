@@ -13,4 +13,4 @@ returns-in_err-put_names-clause-prints g c =
 
 pub returns-clause-prints : goal.returns-clause-prints
 returns-clause-prints g c =
-    Prints-then _ _ _ _ _ _ _ c.in_ok-put_answer.ensures.prints (Prints-then _ _ _ _ _ _ _ (rw c.in_ok-put_answer.ensures.same at c.in_ok-put_names.ensures.prints) (rw c.as_slice.ensures at (rw c.in_ok-put_answer.ensures.same at (rw c.in_ok-put_names.ensures.same at c.put_helds.ensures.prints))))
+    Prints-then _ _ _ _ _ _ _ c.in_ok-put_answer.ensures.prints (Prints-then _ _ _ _ _ _ _ (rw c.in_ok-put_answer.ensures.same at c.in_ok-put_names.ensures.prints) (rw c.in_ok-put_answer.ensures.same at (rw c.in_ok-put_names.ensures.same at c.put_helds.ensures.prints)))

@@ -1,5 +1,5 @@
 -- a number of 64 bits has at most 20 digits
-use Rattle.std.proofs.Common.{rules, ◌≡◌, ◌≤◌, ◌+◌, ◌∙◌, ap, arith, decimal, drop, length}
+use Rattle.std.proofs.Common.{rules, ◌≤◌, ◌∙◌, ap, arith, decimal, drop, length}
 use Rattle.std.proofs.lemmas.Fmt.{length-decimal-le}
 use Rattle.std.proofs.lemmas.List.{length-drop, length-append}
 use Rattle.id_print.proofs.line.Piece.number.Goals as goal
