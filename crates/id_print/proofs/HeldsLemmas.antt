@@ -1,9 +1,9 @@
 -- Lemmas on specs/Helds.antt: the lines of structures and of cells, joined.
-use Rattle.std.proofs.Common.{◌≡◌, ◌≢◌, ℕ, zero, suc, ◌+◌, ◌<◌, ◌↔◌, Bool, true, false, cond, List, [], ◌∷◌, ◌++◌, drop, map, length, get_or, All, Option, Result, Ok, Err, IsErr, append_assoc, refl, sym, ap, subst, ◌∙◌, arith}
+use Rattle.std.proofs.Common.{◌≡◌, ℕ, zero, suc, ◌+◌, ◌<◌, Bool, true, false, cond, List, [], ◌∷◌, ◌++◌, drop, map, length, get_or, All, Option, Result, Ok, Err, IsErr, append_assoc, refl, sym, ap, subst, ◌∙◌, arith}
 use Rattle.std.specs.declared.cmp.Ordering.{Ordering}
 use Rattle.std.specs.declared.cmp.Ordering.TheVariants.{Less, Equal, Greater}
 use Rattle.std.specs.Ordering.{is_lt, ordering_then, ordering_reverse}
-use Rattle.std.specs.List.{AllByRecursion, flat_map}
+use Rattle.std.specs.List.{AllByRecursion}
 use Rattle.std.specs.List.Sorted.{IsPermutation, IsSortedBy}
 use Rattle.std.proofs.lemmas.List.Elements.{All-from_recursion, recursion_from_All}
 use Rattle.std.proofs.lemmas.List.Sorted.{All-permutation, IsPermutation-append, IsPermutation-append_comm, IsPermutation-cons, IsPermutation-map, IsPermutation-refl, IsPermutation-sym, IsPermutation-trans}
@@ -16,11 +16,11 @@ use Rattle.id_print.specs.Names.{HeldBefore, IsOrderOf, OfOneThing, held_cmp, si
 use Rattle.id_print.specs.declared.sink.PrintError.{PrintError}
 use Rattle.id_print.specs.Told.{Told, Prints}
 use Rattle.id_print.specs.Texts.{held_text, helds_text}
-use Rattle.id_print.specs.Within.{FilledWithin, HeldWithin, HeldsWithin, SiteWithin}
+use Rattle.id_print.specs.Within.{HeldWithin, HeldsWithin}
 use Rattle.std.proofs.lemmas.List.{append-nil}
 use Rattle.std.proofs.lemmas.List.Concat.{flat_map-append}
 use Rattle.id_print.proofs.NamesLemmas.{first_lt, helds_told, in_order-from_sort, site_total}
-use Rattle.id_print.proofs.SinkLemmas.{Prints-nothing, Prints-stop, Prints-then}
+use Rattle.id_print.proofs.SinkLemmas.{Prints-stop, Prints-then}
 use Rattle.id_print.proofs.TextsLemmas.{same_text}
 
 -- ---- the first line
@@ -48,17 +48,6 @@ has_array [] [] h e = absurd (omega arith)
 has_array [] (c ∷ cs) h e = cc
 has_array (s ∷ ss) cs h e = omega arith
 
--- and where the first is that of a cell, there is a cell
-pub has_cell : (ss : List Shape) (cs : List CellValue) → is_cell_first ss cs ≡ true → 0 < length cs
-has_cell [] [] e = cc
-has_cell (s ∷ ss) [] e = cc
-has_cell ss (c ∷ cs) e = omega arith
-
-pub no_lines : (ss : List Shape) (cs : List CellValue) → (0 < length ss + length cs → ⊥) → joined ss cs ≡ []
-no_lines [] [] h = refl
-no_lines [] (c ∷ cs) h = absurd (h (omega arith))
-no_lines (s ∷ ss) cs h = absurd (h (omega arith))
-
 -- ---- lines that are printed
 
 -- of all lines some are printed, and these are left
@@ -66,9 +55,6 @@ pub record IsPartly (old new : Option Told) (text : List ℕ) (all rest : List H
   pub front : List Held
   pub parts : all ≡ front ++ rest
   pub printed : Prints old new (helds_text text front) (Ok tt)
-
-pub Partly-start : (old : Option Told) (text : List ℕ) (all : List Held) → IsPartly old old text all all
-Partly-start old text all = record { front = []; parts = refl; printed = Prints-nothing old }
 
 helds_text-more : (text : List ℕ) (front : List Held) (x : Held) → helds_text text (front ++ x ∷ []) ≡ helds_text text front ++ held_text text x
 helds_text-more text front x = flat_map-append (held_text text) front (x ∷ []) ∙ ap (λ t. helds_text text front ++ t) (append-nil (held_text text x))
@@ -88,10 +74,6 @@ Partly-stop old mid new text all rest left x e r h is p fails =
     ap (helds_text text) (h.parts ∙ ap (λ l. h.front ++ l) is) ∙ flat_map-append (held_text text) h.front (x ∷ left) in
     same_text old new _ _ r (sym cut)
     (Prints-then old mid new (helds_text text h.front) _ tt r h.printed (Prints-stop mid new (held_text text x) (helds_text text left) e r p fails))
-
-pub Partly-end : (old new : Option Told) (text : List ℕ) (all rest : List Held) → IsPartly old new text all rest → rest ≡ [] → Prints old new (helds_text text all) (Ok tt)
-Partly-end old new text all rest h e =
-    same_text old new _ _ (Ok tt) (ap (helds_text text) (sym (h.parts ∙ ap (λ l. h.front ++ l) e ∙ append-nil h.front))) h.printed
 
 -- a line that is told with a cursor that stands for the text
 pub Prints-held_at : (k t : List ℕ) (x : Held) (old new : Option Told) (r : Result (Unit {0}) PrintError) → k ≡ t → Prints old new (held_text k x) r → Prints old new (held_text t x) r

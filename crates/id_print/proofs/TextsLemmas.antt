@@ -9,8 +9,7 @@ use Rattle.id_print.specs.declared.sink.PrintError.{PrintError}
 use Rattle.std.specs.Fmt.{signed_decimal}
 use Rattle.id_meaning.specs.declared.Site.{Site}
 use Rattle.id_meaning.specs.declared.SourceValue.{SourceValue}
-use Rattle.id_meaning.specs.declared.SourceValue.TheVariants.{Int}
-use Rattle.id_print.specs.Texts.{cell_text, content_text, equal_text, filled_text, number_content_text, site_text}
+use Rattle.id_print.specs.Texts.{cell_text, content_text, equal_text, filled_text, site_text}
 use Rattle.id_print.specs.Told.{Told, Prints}
 use Rattle.id_print.proofs.SinkLemmas.{Prints-stop, Prints-then}
 
@@ -58,12 +57,6 @@ filled_text-content text s i v =
     append_assoc (cell_text text s i) (equal_text text v) (codes "\n")
     ∙ append_assoc (site_text text s) (codes "[" ++ (signed_decimal i ++ codes "]")) (equal_text text v ++ codes "\n")
 
--- of a number that is in one piece
-pub content_text-number : (text : List ℕ) (i n : ℤ) → number_content_text i n ≡ content_text text i (Int n)
-content_text-number text i n =
-    ap (λ t. codes "[" ++ t)
-    (sym (append_assoc (signed_decimal i) (codes "]") (codes " = " ++ (signed_decimal n ++ codes "\n"))))
-
--- the same where it is told with a cursor that stands for the text
+-- what stands behind the name is printed with a cursor that stands for the text
 pub Prints-content_at : (k t : List ℕ) (i : ℤ) (v : SourceValue) (old new : Option Told) (r : Result (Unit {0}) PrintError) → k ≡ t → Prints old new (content_text k i v) r → Prints old new (content_text t i v) r
 Prints-content_at k t i v old new r same one = let P : List ℕ → Type 0 = λ z. Prints old new (content_text z i v) r in subst P same one
