@@ -325,7 +325,8 @@ given_to l = tag_named (low_half l.result) (instr_at l.to)
 
 -- the structure of a line, where that has its name, with the halves of a number as its bounds
 abbrev pub given_in : Line → Structure
-given_in l = structure_of (high_half l.result) (cast_signed w32 (high_half l.value)) (cast_signed w32 (low_half l.value))
+given_in l = structure_of (high_half l.result)
+    (cast_signed w32 (high_half l.value)) (cast_signed w32 (low_half l.value))
 
 -- what the event of a line with this effect says whose structure goes to a tag, with the tag and the port of its
 -- message, which carries the structure or else the context to which it goes

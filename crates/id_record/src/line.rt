@@ -171,9 +171,9 @@ enum Exit {
 /// switch; `Int` stands for the result of the line, and `Own` for the message's own value. `Entered` stands for the
 /// context of the tag that the event names, `Sent` for sending the message's own value to that tag, and `Moved` for
 /// sending it on at that tag's iteration. The last three stand beside `Near` alone: a structure or a number brings the
-/// address of the cell out, or the address asks for the cell's value. Beside `Passed` one of `Signal`, `Int`, `True` and
-/// `False` stands for that word. Beside `Given` `Sent` stands for a message that carries the structure, and `Nothing`
-/// for one that carries the context.
+/// address of the cell out, or the address asks for the cell's value. Beside `Passed` one of `Signal`, `Int`, `True`
+/// and `False` stands for that word. Beside `Given` `Sent` stands for a message that carries the structure, and
+/// `Nothing` for one that carries the context.
 #[derive(Clone, Copy)]
 enum Effect {
     Stuck,
