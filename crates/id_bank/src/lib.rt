@@ -320,15 +320,6 @@ impl<'a> Cells<'a> {
         }
         None
     }
-
-    /// How many slots the pages have, which may be more than there are cells to come. Takes no memory.
-    pub fn slots(&self) -> usize {
-        let mut count: usize = 0;
-        for entry in &self.pages {
-            count = count.saturating_add(entry.1.len());
-        }
-        count
-    }
 }
 
 // Whether no cell was read or written: mostly the first page decides.

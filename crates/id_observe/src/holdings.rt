@@ -139,7 +139,6 @@ fn add_cell_values(
     ensures { OnOk result (values.new.items ≡ values.old.items
         ++ filter_map (cell_value_of (structure_by paths.now)) cells.entry) }
 {
-    values.reserve(cells.slots())?;
     let mut cells = cells;
     let mut at_hand = with_name(alloc, paths, NOTHING)?;
     while let Some(cell) = cells.next() {

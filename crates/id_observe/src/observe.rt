@@ -439,7 +439,6 @@ fn add_puts(
     ensures { OnOk result (puts.new.items ≡ puts.old.items
         ++ filter_map (put_of paths.now.graph.now (path_by paths.now) (structure_by paths.now)) cells.entry) }
 {
-    puts.reserve(cells.slots())?;
     let mut cells = cells;
     while let Some(cell) = cells.next() {
         add_put(put_of(alloc, paths, cell)?, puts)?;
