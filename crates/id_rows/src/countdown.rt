@@ -117,15 +117,19 @@ fn is_reported(rt: &impl Abort, alloc: Global, machine: &Machine<'_>) -> Result<
     Ok(write_report(&report, TEXT, true, &mut sink).is_ok() && sink.rest.is_empty())
 }
 
+/// Whether 35 deliveries make the machine quiet, with the trace and the report of the run.
+fn is_run_so(rt: &impl Abort, alloc: Global, machine: &mut Machine<'_>) -> Result<bool, Fail> {
+    let quiet = deliver(machine, 35)?;
+    let traced = is_traced(alloc, machine, TRACE)?;
+    let reported = is_reported(rt, alloc, machine)?;
+    Ok(quiet && traced && reported)
+}
+
 #[test]
 fn the_loop_counts_down(rt: HostRuntime) -> Result<(), Fail> {
     let graph = countdown(&rt, rt.alloc())?;
     let mut machine = counting(&rt, rt.alloc(), &graph)?;
-    let quiet = deliver(&mut machine, 35)?;
-    assert!(rt; quiet);
-    let traced = is_traced(rt.alloc(), &machine, TRACE)?;
-    assert!(rt; traced);
-    let reported = is_reported(&rt, rt.alloc(), &machine)?;
-    assert!(rt; reported);
+    let run = is_run_so(&rt, rt.alloc(), &mut machine)?;
+    assert!(rt; run);
     Ok(())
 }

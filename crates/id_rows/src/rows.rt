@@ -393,14 +393,20 @@ fn is_seven(alloc: Global, machine: &Machine<'_>) -> Result<bool, AllocError> {
     Ok(matches!(shown.answer, Some(SourceValue::Int(7))))
 }
 
+/// Whether five deliveries make the machine quiet, are recorded, and bring 7.
+fn is_run_to_seven(alloc: Global, machine: &mut Machine<'_>) -> Result<bool, Fail> {
+    let quiet = deliver(machine, 5)?;
+    let recorded = are_recorded(alloc, machine)?;
+    let seven = is_seven(alloc, machine)?;
+    Ok(quiet && recorded && seven)
+}
+
 #[test]
 fn five_deliveries_bring_7(rt: HostRuntime) -> Result<(), Fail> {
     let graph = seven(&rt, rt.alloc())?;
     let mut machine = started(&rt, rt.alloc(), &graph, 1)?;
-    let quiet = deliver(&mut machine, 5)?;
-    let recorded = are_recorded(rt.alloc(), &machine)?;
-    let seven = is_seven(rt.alloc(), &machine)?;
-    assert!(rt; quiet && recorded && seven);
+    let run = is_run_to_seven(rt.alloc(), &mut machine)?;
+    assert!(rt; run);
     Ok(())
 }
 
