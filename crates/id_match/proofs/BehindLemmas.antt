@@ -174,13 +174,10 @@ module _ (f : List Pair) (t : Tag) (some : 0 < length f) (within : place t (leng
 
 -- ---- entries
 
-half_back : (es : List (Tag × Half)) → map half_entry (map entry_at es) ≡ es
+-- entries as what waits
+pub half_back : (es : List (Tag × Half)) → map half_entry (map entry_at es) ≡ es
 half_back [] = refl
 half_back (e ∷ es) = ap (λ l. e ∷ l) (half_back es)
-
--- what was listed is what waits behind
-pub marked_back : (f : List Pair) (es : List (Tag × Half)) (l : List Entry) → l ≡ map entry_at es → IsMarked f (map half_entry l) → IsMarked f es
-marked_back f es l is marked = subst (IsMarked f) (ap (map half_entry) is ∙ half_back es) marked
 
 map_append : (k l : List Entry) → map half_entry (k ++ l) ≡ map half_entry k ++ map half_entry l
 map_append [] l = refl

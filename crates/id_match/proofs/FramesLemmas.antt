@@ -1,5 +1,5 @@
 -- Lemmas on specs/Frames.antt, and on the number of frames.
-use Rattle.std.proofs.Common.{◌≡◌, ℕ, zero, suc, ◌+◌, ◌≤◌, Bool, true, false, not, cond, ◌&&◌, ◌||◌, nat_eq, List, [], ◌∷◌, ◌++◌}
+use Rattle.std.proofs.Common.{◌≡◌, ℕ, zero, suc, ◌+◌, ◌≤◌, Bool, true, false, not, cond, ◌&&◌, ◌||◌, nat_eq, List, [], ◌∷◌}
 use Rattle.std.proofs.Common.{map, Option, Some, None, is_some, refl, sym, ◌∙◌, ap, arith}
 use Rattle.std.specs.FinMap.{get, entries, from_entries, contains_key, contains_key-keys}
 use Rattle.std.specs.List.{AllByRecursion, IsDistinct, count_by, filter, list_any}
@@ -297,25 +297,11 @@ frames_of-firsts f es s is kept distinct =
     ∙ firsts_are_frames s (keys_of (all_entries f es)) (map (λ e. e.tag) (entries_of s)) (made_waits (all_entries f es) s is) (listed_waits s)
     (distinct_all f es kept distinct)
 
--- the same where what is behind is a store of its own, with a front and values behind that
-module _ (f g : List Pair) (es : List (Tag × Half)) (r s : Store) (rear : from_entries (all_entries g es) ≡ r) (inner : IsKept g es)
-    (is : from_entries (all_entries f (entries r)) ≡ s) (kept : IsKept f (entries r)) (distinct : IsDistinct same_tag (keys_of es)) where
-  abbrev firsts : List (Tag × Half) → ℕ
-  firsts l = count_by (is_first s) (keys_of l)
+-- the same where what is behind is a store of its own
+module _ (f : List Pair) (es : List (Tag × Half)) (r s : Store) (rear : from_entries es ≡ r) (is : from_entries (all_entries f (entries r)) ≡ s)
+    (kept : IsKept f (entries r)) (distinct : IsDistinct same_tag (keys_of es)) where
+  same : (t : Tag) → lookup (same_tag t) es ≡ lookup (same_tag t) (entries r)
+  same t = sym (lookup-entries es r rear t)
 
-  firsts-append : (k l : List (Tag × Half)) → firsts (k ++ l) ≡ firsts k + firsts l
-  firsts-append k l =
-      ap (count_by (is_first s)) (map-append (λ e. e.0) k l) ∙ sum_by-append (λ t. cond (is_first s t) 1 0) (keys_of k) (keys_of l)
-
-  same : (t : Tag) → lookup (same_tag t) (all_entries g es) ≡ lookup (same_tag t) (entries r)
-  same t = sym (lookup-entries (all_entries g es) r rear t)
-
-  sums : (x y z : ℕ) → (x + y) + z ≡ x + (y + z)
-  sums x y z = omega arith
-
-  pub frames_of-rear : (firsts (front_entries f) + firsts (front_entries g)) + firsts es ≡ frames_of s
-  frames_of-rear =
-      sums (firsts (front_entries f)) (firsts (front_entries g)) (firsts es)
-      ∙ ap (λ n. firsts (front_entries f) + n) (sym (firsts-append (front_entries g) es))
-      ∙ frames_of-firsts f (all_entries g es) s (made_as f (entries r) (all_entries g es) same kept s is)
-      (kept_as f (entries r) (all_entries g es) same kept) (distinct_all g es inner distinct)
+  pub frames_of-rear : count_by (is_first s) (keys_of (front_entries f)) + count_by (is_first s) (keys_of es) ≡ frames_of s
+  frames_of-rear = frames_of-firsts f es s (made_as f (entries r) es same kept s is) (kept_as f (entries r) es same kept) distinct

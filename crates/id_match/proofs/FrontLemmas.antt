@@ -696,7 +696,7 @@ not_passed_by : (t : Tag) (e : Tag × Half) (es : List (Tag × Half)) (b : Bool)
 not_passed_by t e es true same none rest = cc
 not_passed_by t e es false same none rest = (same, rest none)
 
-not_passed : (t : Tag) (es : List (Tag × Half)) → lookup (same_tag t) es ≡ None → AllByRecursion (λ u. same_tag t u ≡ false) (keys_of es)
+pub not_passed : (t : Tag) (es : List (Tag × Half)) → lookup (same_tag t) es ≡ None → AllByRecursion (λ u. same_tag t u ≡ false) (keys_of es)
 not_passed t [] none = tt
 not_passed t (e ∷ es) none = not_passed_by t e es (same_tag t e.0) refl none (not_passed t es)
 

@@ -1,5 +1,5 @@
 -- Lemmas on what waits in the rear, by its entries.
-use Rattle.std.proofs.Common.{◌≡◌, Bool, true, false, cond, List, Option, Some, None, IsSome, Result, Ok, Err, OnErr, refl, sym, ◌∙◌, ap}
+use Rattle.std.proofs.Common.{◌≡◌, Bool, true, false, cond, List, Option, Some, None, IsSome, Result, Ok, Err, IfOk, OnErr, refl, sym, ◌∙◌, ap}
 use Rattle.std.specs.FinMap.{entries, from_entries, get, same_map}
 use Rattle.std.specs.Map.{lookup}
 use Rattle.std.specs.Option.{option_or}
@@ -46,6 +46,11 @@ module _ (s r : Store) (t : Tag) (p : Port) (v : Value) (is : r ≡ offer_after 
   -- and under the others
   pub others_after : OthersSame t (entries s) (entries r)
   others_after u apart = has u ∙ ap (λ b. cond b (half_after (get s t) p v) (get s u)) apart ∙ get-lookup s u
+
+-- what follows from what holds of a value
+pub if_ok : {A B : Type 0} → {P Q : A → Type 0} → (r : Result A B) → ((a : A) → P a → Q a) → IfOk r P → IfOk r Q
+if_ok (Ok a) f p = f a p
+if_ok (Err b) f p = tt
 
 -- what holds in every case holds of an error
 pub err_always : {A B Q : Type 0} → (r : Result A B) → Q → OnErr r Q

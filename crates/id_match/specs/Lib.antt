@@ -6,5 +6,6 @@ pub mod Keyed
 pub mod Codes
 -- for use inside
 pub mod Front
+pub mod Rear
 pub mod Frames
 pub mod Halves

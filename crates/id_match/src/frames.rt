@@ -4,17 +4,18 @@
 
 ghost use Rattle.std.specs.Prelude.{◌≡◌, ◌≤◌, ◌<◌, ◌*◌, ◌^◌, length};
 ghost use Rattle.std.specs.FinMap.{contains_key};
-ghost use Rattle.std.specs.HashMap as hash;
 ghost use Rattle.std.specs.List.{count_by};
 ghost use Rattle.std.specs.Map.{keys_of};
-ghost use Rattle.id_tag.specs.Tags.{same_tag};
 ghost use Rattle.id_match.specs.Front.{front_entries};
 ghost use Rattle.id_match.specs.Frames.{is_first, is_first_in};
+ghost use Rattle.id_match.specs.Rear.{frame_entries, rear_entries};
 ghost use Rattle.id_match.specs.Waiting.{frames_of};
 
+use crate::Waiting;
 use crate::front::{Pair, Slot, has};
-use crate::{Half, Waiting};
+use crate::rear::{Frame, Name};
 use id_tag::{NearHasher, Tag};
+use slab::Slab;
 use std::collections::HashMap;
 
 impl Waiting {
@@ -25,9 +26,7 @@ impl Waiting {
         ensures frames { result ≡ frames_of self.now }
     {
         let rear = &self.rear;
-        self.firsts_in_front(&self.front)
-            + self.firsts_in_front(&rear.front)
-            + self.firsts_behind(&rear.halves)
+        self.firsts_in_front(&self.front) + self.firsts_behind(&rear.keys, &rear.frames)
     }
 
     // How many of the values in the slots are the first of their frame.
@@ -43,13 +42,30 @@ impl Waiting {
         firsts
     }
 
-    // How many of the values in the rear's map are the first of their frame.
-    fn firsts_behind(&self, halves: &HashMap<Tag, Half, NearHasher>) -> usize
-        ensures exact { result ≡ count_by (is_first self.now) (keys_of halves.now.entries) }
+    // How many of the values in the rear's frames are the first of their frame.
+    fn firsts_behind(&self, keys: &HashMap<Name, usize, NearHasher>, frames: &Slab<Frame>) -> usize
+        requires { length (rear_entries keys.now.entries frames.now) < 2 ^ 63 }
+        ensures exact { result ≡ count_by (is_first self.now) (keys_of (rear_entries keys.now.entries frames.now)) }
         ensures most { result < 2 ^ 63 }
-        ensures unique { hash.IsUnique same_tag halves.now }
     {
-        halves.keys().filter(|tag| self.is_first(**tag)).count()
+        let mut firsts = 0;
+        for (name, key) in keys {
+            if let Some(frame) = frames.get(*key) {
+                firsts += self.firsts_within(*name, frame);
+            }
+        }
+        firsts
+    }
+
+    // How many of the values in a frame of the rear are the first of their frame in the store.
+    fn firsts_within(&self, name: Name, frame: &Frame) -> usize
+        ensures { result ≡ count_by (is_first self.now) (keys_of (frame_entries name frame.now.halves.items)) }
+    {
+        let mut firsts = 0;
+        for i in 0..frame.halves.len() {
+            firsts += usize::from(self.is_first(name.tag(frame.halves[i].0)));
+        }
+        firsts
     }
 
     // Whether the slot keeps a value that is the first of its frame.

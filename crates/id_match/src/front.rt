@@ -1,9 +1,7 @@
-//! The front of the store, and of its rear: slots of 32 bytes, each for one value that waits under a tag with small
-//! numbers.
+//! The front of the store: slots of 32 bytes, each for one value that waits under a tag with small numbers.
 //!
 //! A tag's value stands in one of two slots alone, the pair at the place that the tag's numbers tell, so a look-up
-//! looks at one pair. A pair also tells whether anything stands behind it, under tags with its place: in the rear, or
-//! behind the rear's front in the map.
+//! looks at one pair. A pair also tells whether anything stands behind it, in the rear under tags with its place.
 
 ghost use Rattle.std.specs.Prelude.{◌≡◌, ◌≢◌, ◌<◌, ◌↔◌, ◌≤◌, ◌*◌, IsTrue, false, Some, None, IfSome, is_some};
 ghost use Rattle.std.specs.Prelude.{IsSome, IfOk, OnOk, List, [], ◌∷◌, ◌++◌, length, replicate, map as map_list};
@@ -26,9 +24,8 @@ ghost use Rattle.id_match.specs.declared.front.Behind.TheVariants.{Nothing};
 
 use crate::{Entry, Half, Met, Offered, pair};
 use id_graph::Port;
-use id_tag::{Context, NearHasher, Plain, PlainToken, Tag, Value, plain_of, small, tiny};
+use id_tag::{Context, Plain, PlainToken, Tag, Value, plain_of, small, tiny};
 use std::alloc::{AllocError, Global};
-use std::collections::HashMap;
 
 /// How many values stand behind a pair, under tags with the pair's place.
 #[derive(Clone, Copy, PartialEq, Eq)]
@@ -426,66 +423,6 @@ pub(crate) fn has_room(front: &[Pair], tag: Tag) -> bool
 {
     !front.is_empty()
         && front[place_of(tag.context.serial, tag.iteration, tag.instr, front.len())].count() < 2
-}
-
-/// Puts the slot into its pair, if there is room, and nothing waits under its tag in the front or behind.
-fn put_beside(front: &mut Vec<Pair>, halves: &HashMap<Tag, Half, NearHasher>, slot: Slot) -> bool
-    ensures apart { IsMarked front.old.items halves.now.entries → IsTrue result
-        → lookup (same_tag (slot_tag slot)) halves.now.entries ≡ None }
-    ensures free { IsTrue result → front_half front.old.items (slot_tag slot) ≡ None }
-    ensures put { IsTrue result → Puts front.old.items front.new.items (slot_tag slot) (slot_half slot) }
-    ensures full { result ≡ false → front.new.items ≡ front.old.items }
-    ensures marks { MarksSame front.old.items front.new.items }
-{
-    let tag = slot.tag();
-    // Without room nothing is looked up behind.
-    if !has_room(front, tag)
-        || (stands_behind(front, tag) != Behind::Nothing && halves.contains_key(&tag))
-    {
-        return false;
-    }
-    put(front, slot)
-}
-
-/// Puts the token into its pair, if there is room, and nothing waits under its tag in the front or behind. Without room
-/// nothing else is looked at, and no slot is made.
-#[inline(always)]
-pub(crate) fn put_token(
-    front: &mut Vec<Pair>,
-    halves: &HashMap<Tag, Half, NearHasher>,
-    token: &PlainToken,
-) -> bool
-    ensures apart { IsMarked front.old.items halves.now.entries → IsTrue result
-        → lookup (same_tag (tag_in token.now)) halves.now.entries ≡ None }
-    ensures free { IsTrue result → front_half front.old.items (tag_in token.now) ≡ None }
-    ensures put { IsTrue result → Puts front.old.items front.new.items (tag_in token.now)
-        (Some (record { port = token.now.port; value = whole token.now.value })) }
-    ensures full { result ≡ false → front.new.items ≡ front.old.items }
-    ensures marks { MarksSame front.old.items front.new.items }
-{
-    has_room(front, token.tag()) && put_beside(front, halves, slot_in(token))
-}
-
-/// Puts the value into its pair, if it fits, there is room, and nothing waits under its tag in the front or behind.
-pub(crate) fn put_value(
-    front: &mut Vec<Pair>,
-    halves: &HashMap<Tag, Half, NearHasher>,
-    tag: Tag,
-    port: Port,
-    value: Value,
-) -> bool
-    ensures apart { IsMarked front.old.items halves.now.entries → IsTrue result
-        → lookup (same_tag tag) halves.now.entries ≡ None }
-    ensures free { IsTrue result → front_half front.old.items tag ≡ None }
-    ensures put { IsTrue result →
-        Puts front.old.items front.new.items tag (Some (record { port = port; value = value })) }
-    ensures full { result ≡ false → front.new.items ≡ front.old.items }
-    ensures marks { MarksSame front.old.items front.new.items }
-{
-    match slot_for(tag, port, value) {
-        Some(slot) => put_beside(front, halves, slot),
-        None => false,
-    }
 }
 
 /// Tells the pair of a tag that a value comes to stand behind it.

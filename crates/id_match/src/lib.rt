@@ -1,19 +1,21 @@
 //! The waiting-matching store: values that wait for their partner.
 //!
 //! Keeps: at most one value for each tag, with its port. Clauses see a finite map. A value stands in one of the two
-//! slots of the front that its tag's numbers tell, where it fits and one is free, and else in the rear: in a smaller
-//! front of its own, and behind that in a hash map.
+//! slots of the front that its tag's numbers tell, where it fits and one is free, and else in the rear: in the frame of
+//! its context and iteration, one of those in a slab.
 //! Errors: want of memory alone, and then nothing has changed.
 //! Read first: `specs/Waiting.antt`, then `offer`.
 //! Not here: which operators have two ports (`id_graph`), firing (`id_ops`).
 #![tactic(auto)]
 
-ghost use Rattle.std.specs.Prelude.{◌≡◌, false, None, Some, IsTrue};
+ghost use Rattle.std.specs.Prelude.{◌≡◌, ◌<◌, ◌+◌, ◌-◌, ◌^◌, false, None, Some, IsTrue};
 ghost use Rattle.std.specs.Prelude.{IfOk, IfSome, OnOk, OnErr};
 ghost use Rattle.std.specs.FinMap as map;
 ghost use Rattle.id_tag.specs.Tags.{same_tag};
 ghost use Rattle.id_tag.specs.declared.Tag.{Tag};
 ghost use Rattle.id_graph.specs.declared.dests.Port.{Port};
+ghost use Rattle.id_tag.specs.declared.plain.Plain.{Plain};
+ghost use Rattle.id_match.specs.declared.Met.TheVariants as meeting;
 ghost use Rattle.id_match.specs.declared.Offered.TheVariants.{Kept};
 ghost use Rattle.id_match.specs.Waiting.{pair_of};
 ghost use Rattle.id_match.specs.Halves.{answer_at, half_after};
@@ -33,7 +35,7 @@ use front::{
 };
 use id_graph::Port;
 use id_tag::{Plain, PlainToken, Tag, Value};
-use rear::{Rear, crowded_after, sort_by_tag};
+use rear::{Rear, sort_by_tag};
 use std::alloc::{AllocError, Global};
 use std::marker::Model;
 
@@ -80,7 +82,7 @@ pub struct Waiting {
     // For a larger front.
     alloc: Global,
     front: Vec<Pair>,
-    // Since the front grew: sixteen for each plain token that came to stand behind it, less fifteen for each that met
+    // Since the front grew: sixteen for each plain token that came to stand behind it, less twelve for each that met
     // what stands there. So both what stands there and what comes and goes tell that it is too small.
     crowded: usize,
     // What waits in no slot of the front.
@@ -254,7 +256,7 @@ fn larger_front(alloc: Global, front: &[Pair], rear: &Rear) -> Option<Vec<Pair>>
     ensures marked { IfSome result (λ m. IsMarked m.items (map.entries rear.now)) }
 {
     let mut more = larger(alloc, front)?;
-    match rear.entries(alloc) {
+    match rear.unordered(alloc) {
         Ok(entries) => {
             mark(&mut more, &entries);
             Some(more)
@@ -369,6 +371,19 @@ fn offer_plain_to(
         Met::Apart => (),
     }
     Ok(met)
+}
+
+// How crowded a front is after an offer behind it.
+fn crowded_after(crowded: usize, met: Met) -> usize
+    ensures kept { met ≡ meeting.Kept → crowded < 2 ^ 64 - 16 → result ≡ crowded + 16 }
+    ensures apart { met ≡ meeting.Apart → result ≡ crowded }
+    ensures partner { (v : Plain) → met ≡ meeting.Partner v → result ≡ crowded - 12 }
+{
+    match met {
+        Met::Kept => crowded.saturating_add(16),
+        Met::Partner(_) => crowded.saturating_sub(12),
+        Met::Apart => crowded,
+    }
 }
 
 // The two values by port, of which `value` came to this port.

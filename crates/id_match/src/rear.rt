@@ -1,64 +1,240 @@
-//! The rear of the store: what waits behind its front.
+//! The rear of the store: what waits behind its front, because its slots were taken or it fits no slot.
 //!
-//! It is a store of its own, of what found its slots taken or fits no slot. Most of it stands in a front of its own,
-//! which grows by the traffic behind itself and so is smaller, and the rest in a hash map.
+//! It waits in frames, one for each context and iteration. The frames stand in a slab, and a table tells the key of
+//! each by its name. A frame is made when a value comes to wait in it, and given back when its last value leaves; a
+//! value finds its frame, and in it its partner, by one look-up in the table.
 
-ghost use Rattle.std.specs.Prelude.{◌≡◌, ◌<◌, ◌+◌, ◌-◌, ◌^◌, false, None, IsPermutation, IsSortedByKey};
-ghost use Rattle.std.specs.Prelude.{IfOk, IfSome, OnOk, OnErr};
+ghost use Rattle.std.specs.Prelude.{◌≡◌, ◌≢◌, ◌+◌, ◌<◌, ◌↔◌, ◌≤◌, ◌^◌, ◌++◌, true, false, None, Some, IsTrue};
+ghost use Rattle.std.specs.Prelude.{IsPermutation, IsSortedByKey, IfOk, IfSome, OnOk, OnErr, is_some, length, nat_eq};
+ghost use Rattle.std.specs.Prelude.{IsSome, [], ℕ, slice_index_or, map as map_list, ◌*◌, ◌-◌};
 ghost use Rattle.std.specs.FinMap as map;
-ghost use Rattle.std.specs.HashMap as hash;
-ghost use Rattle.std.specs.Prelude.{map as map_list};
+ghost use Rattle.std.specs.Map.{lookup};
 ghost use Rattle.id_tag.specs.Tags.{same_tag, tag_cmp};
 ghost use Rattle.id_tag.specs.declared.Tag.{Tag};
+ghost use Rattle.id_tag.specs.declared.Value.{Value};
 ghost use Rattle.id_tag.specs.declared.plain.Plain.{Plain};
-ghost use Rattle.id_match.specs.declared.Offered.TheVariants.{Kept};
-ghost use Rattle.id_match.specs.declared.Met.TheVariants as meeting;
-ghost use Rattle.id_match.specs.Waiting.{entry_at};
+ghost use Rattle.id_match.specs.declared.Half.{Half};
+ghost use Rattle.id_match.specs.declared.Offered.TheVariants.{Kept, Taken};
+ghost use Rattle.id_match.specs.declared.rear.Came.TheVariants as coming;
+ghost use Rattle.id_match.specs.Front.{half_entry};
+ghost use Rattle.id_match.specs.Waiting.{entry_at, pair_of};
 ghost use Rattle.id_match.specs.Halves.{answer_at, half_after};
 ghost use Rattle.id_match.specs.Meetings.{told};
+ghost use Rattle.id_match.specs.Rear.{Holds, IsFramed, Sets, after_came, frame_entries, name_of, rear_entries};
+ghost use Rattle.id_match.specs.Rear.{rear_half, said, tag_at};
 ghost use Rattle.id_tag.specs.Plains.{tag_in, whole};
-ghost use Rattle.std.specs.Map.{lookup};
-ghost use Rattle.id_match.specs.Front.{HoldsSame, IsMarked, IsPlaced, front_entries, front_half};
 
-use crate::front::{
-    Pair, count, has, in_front, larger, leave_behind, mark, meet, put_token, put_value,
-    step_behind, take,
-};
 use crate::{Entry, Half, Met, Offered, pair};
 use id_graph::Port;
-use id_tag::{NearHasher, Plain, PlainToken, Tag, Value, plain_of};
+use id_tag::{Context, NearHasher, Plain, PlainToken, Tag, Value, plain_of};
+use slab::Slab;
 use std::alloc::{AllocError, Global};
 use std::collections::HashMap;
 use std::collections::hash_map::Entry as Place;
 use std::marker::Model;
 
+/// The name of a frame.
+#[derive(Clone, Copy, PartialEq, Eq, Hash)]
+pub(crate) struct Name {
+    context: Context,
+    iteration: u64,
+}
+
+/// What waits behind the front in one context and iteration, by instruction.
+#[derive(Drop)]
+pub(crate) struct Frame {
+    pub(crate) halves: Vec<(u32, Half)>,
+}
+
+/// What the offer of a value comes to.
+#[derive(Clone, Copy)]
+enum Came {
+    /// The value waits for its partner.
+    Kept,
+    /// This is the value of the other port, a plain one: neither waits any longer.
+    Plain(Plain),
+    /// This is the value of the other port, and no plain one: neither waits any longer.
+    Partner(Value),
+    /// Nothing has changed: a value waits at that port, or one at the other that isn't plain, where it was to be.
+    Apart,
+}
+
 /// What waits behind the front, by tag and port.
 #[derive(Drop)]
 pub(crate) struct Rear {
-    // For a larger front.
+    // For the frames.
     alloc: Global,
-    pub(crate) front: Vec<Pair>,
-    // Since the front grew: sixteen for each plain token that came to stand behind it, less fifteen for each that met
-    // what stands there. So both what stands there and what comes and goes tell that it is too small.
-    crowded: usize,
-    // What waits in no slot.
-    pub(crate) halves: HashMap<Tag, Half, NearHasher>,
+    pub(crate) keys: HashMap<Name, usize, NearHasher>,
+    pub(crate) frames: Slab<Frame>,
+    // How many values wait.
+    count: usize,
 }
 
+/// How many values may wait, more than any memory holds: so the number of all that wait fits.
+const MOST: usize = 0x4000_0000_0000_0000;
+
 impl Model for Rear {
+    ghost use Rattle.std.specs.Prelude.{◌≡◌, ◌≤◌, ◌^◌};
     ghost use Rattle.std.specs.FinMap as map;
     ghost use Rattle.id_tag.specs.Tags.{tag_cmp};
     ghost use Rattle.id_match.specs.declared.Half.{Half};
     ghost use Rattle.id_match.specs.Codes.{coded_store};
-    ghost use Rattle.id_match.specs.Front.{IsKept, all_entries};
+    ghost use Rattle.id_match.specs.Rear.{IsFramed, rear_entries};
 
     ghost Value = { map.FinMap tag_cmp Half };
 
     ghost coded = { coded_store };
 
-    ghost view = { λ s. map.from_entries (all_entries s.front.items s.halves.entries) };
+    ghost view = { λ s. map.from_entries (rear_entries s.keys.entries s.frames) };
 
-    ghost invariant = { λ s. IsKept s.front.items s.halves.entries };
+    ghost invariant = { λ s. IsFramed s.keys.entries s.frames
+        × (s.count ≡ map.len (map.from_entries {R = tag_cmp} (rear_entries s.keys.entries s.frames)))
+        × (s.count ≤ 2 ^ 62) };
+}
+
+fn name_of(tag: Tag) -> Name
+    ensures { result ≡ name_of tag }
+{
+    Name {
+        context: tag.context,
+        iteration: tag.iteration,
+    }
+}
+
+impl Name {
+    // The tag of an instruction in its frame.
+    pub(crate) fn tag(self, instr: u32) -> Tag
+        ensures { result ≡ tag_at self instr }
+    {
+        Tag {
+            context: self.context,
+            iteration: self.iteration,
+            instr,
+        }
+    }
+}
+
+impl Frame {
+    // Where the value of an instruction stands.
+    fn find(&self, instr: u32) -> Option<usize>
+        ensures none { result ≡ None → lookup (nat_eq instr) self.now.halves.items ≡ None }
+        ensures has { is_some result ≡ is_some (lookup (nat_eq instr) self.now.halves.items) }
+        ensures within { IfSome result (λ i. i < length self.now.halves.items) }
+        ensures found { IfSome result (λ i. (d : ℕ × Half) → ((slice_index_or self.now.halves.items i d).0 ≡ instr)
+            × (lookup (nat_eq instr) self.now.halves.items ≡ Some (slice_index_or self.now.halves.items i d).1)) }
+    {
+        for i in 0..self.halves.len() {
+            if self.halves[i].0 == instr {
+                return Some(i);
+            }
+        }
+        None
+    }
+
+    // Whether nothing waits in it.
+    fn is_empty(&self) -> bool
+        ensures { IsTrue result ↔ (self.now.halves.items ≡ []) }
+    {
+        self.halves.is_empty()
+    }
+
+    // Offers a value to the port of an instruction. Where it is to be short, a partner that isn't plain stays.
+    fn offer(&mut self, instr: u32, half: Half, short: bool, room: bool) -> Result<Came, AllocError>
+        ensures answer { IfOk result (λ came. IfSome (said came half) (λ a.
+            a ≡ answer_at (lookup (nat_eq instr) self.old.halves.items) half.port half.value)) }
+        ensures sets { IfOk result (λ came. IfSome (said came half) (λ _.
+            Sets self.old.halves.items self.new.halves.items instr
+            (half_after (lookup (nat_eq instr) self.old.halves.items) half.port half.value))) }
+        ensures apart { IfOk result (λ came. said came half ≡ None → self.new.halves.items ≡ self.old.halves.items) }
+        ensures taken { short ≡ false → IfOk result (λ came. said came half ≡ None
+            → answer_at (lookup (nat_eq instr) self.old.halves.items) half.port half.value ≡ Taken) }
+        ensures plain { IsTrue short → IfOk result (λ came. (v : Value) → came ≢ coming.Partner v) }
+        ensures full { room ≡ false → IfOk result (λ came. came ≢ coming.Kept) }
+        ensures grows { OnErr result (lookup (nat_eq instr) self.old.halves.items ≡ None) }
+        ensures err { OnErr result (self.new.halves.items ≡ self.old.halves.items) }
+    {
+        let Some(at) = self.find(instr) else {
+            if !room {
+                return Err(AllocError);
+            }
+            self.halves.push((instr, half))?;
+            return Ok(Came::Kept);
+        };
+        let partner = self.halves[at].1;
+        if partner.port == half.port {
+            return Ok(Came::Apart);
+        }
+        match leaving(partner.value, short) {
+            Some(came) => {
+                self.halves.swap_remove(at);
+                Ok(came)
+            }
+            None => Ok(Came::Apart),
+        }
+    }
+}
+
+// What an offer comes to whose partner is this, if it may leave.
+fn leaving(partner: Value, short: bool) -> Option<Came>
+    ensures partner { IfSome result (λ came. (h : Half) → said came h ≡ Some (pair_of h.port h.value partner)) }
+    ensures plain { IsTrue short → IfSome result (λ came. (v : Value) → came ≢ coming.Partner v) }
+    ensures left { IfSome result (λ came. came ≢ coming.Kept) }
+    ensures any { short ≡ false → IsSome result }
+{
+    match plain_of(&partner) {
+        Some(plain) => Some(Came::Plain(plain)),
+        None => {
+            if short {
+                None
+            } else {
+                Some(Came::Partner(partner))
+            }
+        }
+    }
+}
+
+// An offer to the frames, in one look-up. Room is made where the name is new, and only there, before any change.
+fn offer_to(
+    alloc: Global,
+    keys: &mut HashMap<Name, usize, NearHasher>,
+    frames: &mut Slab<Frame>,
+    tag: Tag,
+    half: Half,
+    short: bool,
+    room: bool,
+) -> Result<Came, AllocError>
+    requires { IsFramed keys.old.entries frames.old }
+    ensures holds { Holds keys.old.entries frames.old keys.new.entries frames.new tag
+        (after_came result half (rear_half keys.old.entries frames.old tag)) }
+    ensures answer { IfOk result (λ came. IfSome (said came half) (λ a.
+        a ≡ answer_at (rear_half keys.old.entries frames.old tag) half.port half.value)) }
+    ensures taken { short ≡ false → IfOk result (λ came. said came half ≡ None
+        → answer_at (rear_half keys.old.entries frames.old tag) half.port half.value ≡ Taken) }
+    ensures plain { IsTrue short → IfOk result (λ came. (v : Value) → came ≢ coming.Partner v) }
+    ensures full { room ≡ false → IfOk result (λ came. came ≢ coming.Kept) }
+    ensures grows { OnErr result (rear_half keys.old.entries frames.old tag ≡ None) }
+{
+    match keys.entry(name_of(tag))? {
+        Place::Vacant(place) => {
+            if !room {
+                return Err(AllocError);
+            }
+            frames.reserve(1)?;
+            let mut halves = Vec::new(alloc);
+            halves.push((tag.instr, half))?;
+            place.insert(frames.insert_reserved(Frame { halves }));
+            Ok(Came::Kept)
+        }
+        Place::Occupied(place) => {
+            let key = *place.get();
+            let came = frames[key].offer(tag.instr, half, short, room)?;
+            if frames[key].is_empty() {
+                frames.remove(key);
+                place.remove();
+            }
+            Ok(came)
+        }
+    }
 }
 
 impl Rear {
@@ -71,9 +247,9 @@ impl Rear {
     {
         Rear {
             alloc,
-            front: Vec::new(alloc),
-            crowded: 0,
-            halves: HashMap::with_hasher(alloc, NearHasher::new()),
+            keys: HashMap::with_hasher(alloc, NearHasher::new()),
+            frames: Slab::new(alloc),
+            count: 0,
         }
     }
 
@@ -90,13 +266,11 @@ impl Rear {
         ensures grows { OnErr result (offer_answer self.old tag port value ≡ Kept) }
         ensures err { OnErr result (self.new ≡ self.old) }
     {
-        self.make_room();
-        if let Some(answer) = take(&mut self.front, tag, port, value) {
-            Ok(answer)
-        } else if put_value(&mut self.front, &self.halves, tag, port, value) {
-            Ok(Offered::Kept)
-        } else {
-            offer_to(&mut self.front, &mut self.halves, tag, port, value)
+        match self.meet(tag, Half { port, value }, false)? {
+            Came::Kept => Ok(Offered::Kept),
+            Came::Plain(partner) => Ok(pair(port, value, partner.value())),
+            Came::Partner(partner) => Ok(pair(port, value, partner)),
+            Came::Apart => Ok(Offered::Taken),
         }
     }
 
@@ -111,134 +285,136 @@ impl Rear {
         ensures apart { IfOk result (λ met. told met token.now ≡ None → self.new ≡ self.old) }
         ensures err { OnErr result (self.new ≡ self.old) }
     {
-        if let Some(met) = meet(&mut self.front, token) {
-            Ok(met)
-        } else {
-            self.offer_behind(token)
+        let half = Half {
+            port: token.port,
+            value: token.value.value(),
+        };
+        match self.meet(token.tag(), half, true)? {
+            Came::Kept => Ok(Met::Kept),
+            Came::Plain(partner) => Ok(Met::Partner(partner)),
+            Came::Partner(_) | Came::Apart => Ok(Met::Apart),
         }
     }
 
-    // The same where it is long: where both slots are taken, or something stands behind them.
-    #[inline(never)]
-    fn offer_behind(&mut self, token: &PlainToken) -> Result<Met, AllocError>
-        ensures answer { IfOk result (λ met. IfSome (told met token.now)
-            (λ answer. answer ≡ offer_answer self.old (tag_in token.now) token.now.port (whole token.now.value))) }
-        ensures after { IfOk result (λ met. IfSome (told met token.now)
-            (λ answer. self.new ≡ offer_after self.old (tag_in token.now) token.now.port (whole token.now.value))) }
-        ensures apart { IfOk result (λ met. told met token.now ≡ None → self.new ≡ self.old) }
+    // Offers a value to a port of a tag. Where it is to be short, a partner that isn't plain stays.
+    fn meet(&mut self, tag: Tag, half: Half, short: bool) -> Result<Came, AllocError>
+        ensures answer { IfOk result (λ came. IfSome (said came half)
+            (λ answer. answer ≡ offer_answer self.old tag half.port half.value)) }
+        ensures after { IfOk result (λ came. IfSome (said came half)
+            (λ answer. self.new ≡ offer_after self.old tag half.port half.value)) }
+        ensures apart { IfOk result (λ came. said came half ≡ None → self.new ≡ self.old) }
+        ensures taken { short ≡ false → IfOk result (λ came. said came half ≡ None
+            → offer_answer self.old tag half.port half.value ≡ Taken) }
+        ensures plain { IsTrue short → IfOk result (λ came. (v : Value) → came ≢ coming.Partner v) }
+        ensures grows { OnErr result (offer_answer self.old tag half.port half.value ≡ Kept) }
         ensures err { OnErr result (self.new ≡ self.old) }
     {
-        self.make_room();
-        if has(&self.front, token.tag()) {
-            Ok(Met::Apart)
-        } else if put_token(&mut self.front, &self.halves, token) {
-            Ok(Met::Kept)
-        } else {
-            let met = offer_plain_to(&mut self.front, &mut self.halves, token)?;
-            self.crowded = crowded_after(self.crowded, met);
-            Ok(met)
-        }
-    }
-
-    // Makes the front larger where many plain tokens stand behind it since their slots are taken, or came and went, or
-    // there is none. What fits in no slot doesn't count.
-    #[inline(always)]
-    fn make_room(&mut self)
-        ensures { self.new ≡ self.old }
-    {
-        if self.crowded > self.front.len() || self.front.is_empty() {
-            self.grow();
-        }
-    }
-
-    // Makes the front larger, but where few values wait for so many pairs: a larger front would be as crowded. Where
-    // memory is wanting, all stays as it is, so this never makes an error.
-    #[inline(never)]
-    fn grow(&mut self)
-        ensures { self.new ≡ self.old }
-    {
-        self.crowded = 0;
-        if count(&self.front) + self.halves.len() >= self.front.len() / 32 {
-            if let Some(front) = larger_front(self.alloc, &self.front, &self.halves) {
-                self.front = front;
-            }
-        }
+        let room = self.count < MOST;
+        let came = offer_to(
+            self.alloc,
+            &mut self.keys,
+            &mut self.frames,
+            tag,
+            half,
+            short,
+            room,
+        )?;
+        self.count = counted(self.count, came);
+        Ok(came)
     }
 
     /// Whether something waits under a tag. Takes no memory.
     pub(crate) fn has(&self, tag: Tag) -> bool
         ensures { result ≡ is_some (lookup (same_tag tag) (map.entries self.now)) }
     {
-        has(&self.front, tag) || self.halves.contains_key(&tag)
+        has_behind(&self.keys, &self.frames, tag)
     }
 
     /// How many values wait. Takes no memory.
     pub(crate) fn len(&self) -> usize
         ensures len { result ≡ map.len self.now }
-        ensures most { result < 2 ^ 63 + 2 ^ 60 }
+        ensures most { result < 2 ^ 63 }
         ensures listed { result ≡ length (entries_of self.now) }
     {
-        count(&self.front) + self.halves.len()
+        self.count
+    }
+
+    /// The values that wait, in no order, for what only looks them up.
+    pub(crate) fn unordered(&self, alloc: Global) -> Result<Vec<Entry>, AllocError>
+        ensures { IfOk result (λ es. (t : Tag) →
+            lookup (same_tag t) (map_list half_entry es.items) ≡ lookup (same_tag t) (map.entries self.now)) }
+    {
+        listed(alloc, &self.keys, &self.frames)
     }
 
     /// The values that wait, in the order of their tags.
     pub(crate) fn entries(&self, alloc: Global) -> Result<Vec<Entry>, AllocError>
         ensures items { IfOk result (λ es. es.items ≡ entries_of self.now) }
     {
-        let mut entries = in_front(alloc, &self.front)?;
-        entries.append(&mut listed(alloc, &self.halves)?)?;
+        let mut entries = listed(alloc, &self.keys, &self.frames)?;
         sort_by_tag(&mut entries);
         Ok(entries)
     }
 }
 
-// A larger front for the same values, if there is memory for it.
-fn larger_front(
+// How many values wait after an offer that comes to this.
+fn counted(count: usize, came: Came) -> usize
+    ensures kept { came ≡ coming.Kept → count < 2 ^ 64 - 1 → result ≡ count + 1 }
+    ensures plain { (v : Plain) → came ≡ coming.Plain v → result ≡ count - 1 }
+    ensures partner { (v : Value) → came ≡ coming.Partner v → result ≡ count - 1 }
+    ensures apart { came ≡ coming.Apart → result ≡ count }
+{
+    match came {
+        Came::Kept => count.saturating_add(1),
+        Came::Plain(_) | Came::Partner(_) => count.saturating_sub(1),
+        Came::Apart => count,
+    }
+}
+
+// Whether something waits in the frames under a tag.
+fn has_behind(keys: &HashMap<Name, usize, NearHasher>, frames: &Slab<Frame>, tag: Tag) -> bool
+    ensures { result ≡ is_some (rear_half keys.now.entries frames.now tag) }
+{
+    match keys.get(&name_of(tag)) {
+        Some(key) => match frames.get(*key) {
+            Some(frame) => frame.find(tag.instr).is_some(),
+            None => false,
+        },
+        None => false,
+    }
+}
+
+// What waits in the frames, in the order of the table.
+fn listed(
     alloc: Global,
-    front: &[Pair],
-    halves: &HashMap<Tag, Half, NearHasher>,
-) -> Option<Vec<Pair>>
-    ensures placed { IfSome result (λ m. IsPlaced m.items) }
-    ensures same { IfSome result (λ m. (t : Tag) →
-        front_half m.items t ≡ lookup (same_tag t) (front_entries front.now)) }
-    ensures marked { IfSome result (λ m. IsMarked m.items halves.now.entries) }
+    keys: &HashMap<Name, usize, NearHasher>,
+    frames: &Slab<Frame>,
+) -> Result<Vec<Entry>, AllocError>
+    ensures { IfOk result (λ es. es.items ≡ map_list entry_at (rear_entries keys.now.entries frames.now)) }
 {
-    let mut more = larger(alloc, front)?;
-    match listed(alloc, halves) {
-        Ok(entries) => {
-            mark(&mut more, &entries);
-            Some(more)
+    let mut entries = Vec::new(alloc);
+    for (name, key) in keys {
+        if let Some(frame) = frames.get(*key) {
+            list(&mut entries, *name, frame)?;
         }
-        Err(_) => None,
     }
+    Ok(entries)
 }
 
-/// How crowded a front is after an offer behind it.
-pub(crate) fn crowded_after(crowded: usize, met: Met) -> usize
-    ensures kept { met ≡ meeting.Kept → crowded < 2 ^ 64 - 16 → result ≡ crowded + 16 }
-    ensures apart { met ≡ meeting.Apart → result ≡ crowded }
-    ensures partner { (v : Plain) → met ≡ meeting.Partner v → result ≡ crowded - 15 }
+// Lists what waits in a frame.
+fn list(entries: &mut Vec<Entry>, name: Name, frame: &Frame) -> Result<(), AllocError>
+    ensures { OnOk result (entries.new.items ≡
+        entries.old.items ++ map_list entry_at (frame_entries name frame.now.halves.items)) }
 {
-    match met {
-        Met::Kept => crowded.saturating_add(16),
-        Met::Partner(_) => crowded.saturating_sub(15),
-        Met::Apart => crowded,
-    }
-}
-
-// What waits, in the order of the map.
-fn listed(alloc: Global, halves: &HashMap<Tag, Half, NearHasher>) -> Result<Vec<Entry>, AllocError>
-    ensures items { IfOk result (λ es. es.items ≡ map_list entry_at halves.now.entries) }
-    ensures unique { hash.IsUnique same_tag halves.now }
-{
-    halves
-        .iter()
-        .map(|(tag, half)| Entry {
-            tag: *tag,
+    for i in 0..frame.halves.len() {
+        let (instr, half) = frame.halves[i];
+        entries.push(Entry {
+            tag: name.tag(instr),
             port: half.port,
             value: half.value,
-        })
-        .collect(alloc)
+        })?;
+    }
+    Ok(())
 }
 
 pub(crate) fn sort_by_tag(entries: &mut Vec<Entry>)
@@ -246,90 +422,4 @@ pub(crate) fn sort_by_tag(entries: &mut Vec<Entry>)
     ensures sorted { IsSortedByKey (λ e. e.tag) tag_cmp entries.new.items }
 {
     entries.sort_unstable_by_key(|e| e.tag);
-}
-
-// An offer in one look-up: room is made where the tag is new, and only there. The front is told of it.
-fn offer_to(
-    front: &mut Vec<Pair>,
-    halves: &mut HashMap<Tag, Half, NearHasher>,
-    tag: Tag,
-    port: Port,
-    value: Value,
-) -> Result<Offered, AllocError>
-    ensures answer { IfOk result (λ answer. answer ≡ answer_at (hash.get same_tag halves.old tag) port value) }
-    ensures at { OnOk result (
-        hash.get same_tag halves.new tag ≡ half_after (hash.get same_tag halves.old tag) port value) }
-    ensures others { OnOk result ((t : Tag) → same_tag tag t ≡ false →
-        hash.get same_tag halves.new t ≡ hash.get same_tag halves.old t) }
-    ensures holds { HoldsSame front.old.items front.new.items }
-    ensures marked { IsMarked front.old.items halves.old.entries → IsMarked front.new.items halves.new.entries }
-
-    ensures grows { OnErr result (hash.get same_tag halves.old tag ≡ None) }
-    ensures err { OnErr result (hash.IsUnchanged halves.old halves.new) }
-    ensures err_front { OnErr result (front.new.items ≡ front.old.items) }
-{
-    match halves.entry(tag)? {
-        Place::Vacant(place) => {
-            place.insert(Half { port, value });
-            step_behind(front, tag);
-            Ok(Offered::Kept)
-        }
-        Place::Occupied(place) => {
-            let half = *place.get();
-            if half.port == port {
-                return Ok(Offered::Taken);
-            }
-            place.remove();
-            leave_behind(front, tag);
-            Ok(pair(port, value, half.value))
-        }
-    }
-}
-
-// An offer of a plain token in one look-up. The front is told of it.
-#[inline(always)]
-fn offer_plain_to(
-    front: &mut Vec<Pair>,
-    halves: &mut HashMap<Tag, Half, NearHasher>,
-    token: &PlainToken,
-) -> Result<Met, AllocError>
-    ensures answer { IfOk result (λ met. IfSome (told met token.now) (λ answer. answer ≡
-        answer_at (hash.get same_tag halves.old (tag_in token.now)) token.now.port (whole token.now.value))) }
-    ensures at { IfOk result (λ met. IfSome (told met token.now) (λ _. hash.get same_tag halves.new (tag_in token.now) ≡
-        half_after (hash.get same_tag halves.old (tag_in token.now)) token.now.port (whole token.now.value))) }
-    ensures others { OnOk result ((t : Tag) → same_tag (tag_in token.now) t ≡ false →
-        hash.get same_tag halves.new t ≡ hash.get same_tag halves.old t) }
-    ensures holds { HoldsSame front.old.items front.new.items }
-    ensures marked { IsMarked front.old.items halves.old.entries → IsMarked front.new.items halves.new.entries }
-    ensures apart { IfOk result (λ met. told met token.now ≡ None → hash.IsUnchanged halves.old halves.new) }
-    ensures apart_front { IfOk result (λ met. told met token.now ≡ None → front.new.items ≡ front.old.items) }
-
-    ensures err { OnErr result (hash.IsUnchanged halves.old halves.new) }
-    ensures err_front { OnErr result (front.new.items ≡ front.old.items) }
-{
-    let own = token.tag();
-    match halves.entry(own)? {
-        Place::Vacant(place) => {
-            place.insert(Half {
-                port: token.port,
-                value: token.value.value(),
-            });
-            step_behind(front, own);
-            Ok(Met::Kept)
-        }
-        Place::Occupied(place) => {
-            let half = *place.get();
-            if half.port == token.port {
-                return Ok(Met::Apart);
-            }
-            match plain_of(&half.value) {
-                Some(partner) => {
-                    place.remove();
-                    leave_behind(front, own);
-                    Ok(Met::Partner(partner))
-                }
-                None => Ok(Met::Apart),
-            }
-        }
-    }
 }

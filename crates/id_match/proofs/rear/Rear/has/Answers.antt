@@ -1,23 +1,12 @@
--- what waits is in the front or behind
-use Rattle.std.proofs.Common.{◌≡◌, ◌∙◌, sym, ap, is_some, arith}
-use Rattle.std.proofs.lemmas.Grind.{common_steps}
-use Rattle.id_match.specs.Front.{front_half}
-use Rattle.id_match.proofs.EntriesLemmas.{get-lookup}
-use Rattle.id_match.proofs.FramesLemmas.{in_front, not_in_front}
+-- what the frame has is what the entries have
+use Rattle.std.proofs.Common.{◌∙◌, sym, ap, is_some}
+use Rattle.id_match.specs.Rear.{rear_entries}
+use Rattle.id_match.proofs.FramedLemmas.{lookup-rear}
+use Rattle.id_match.proofs.RearLemmas.{lookup-entries}
 use Rattle.id_match.proofs.rear.Rear.has.Goals as goal
 
-pub returns-then-has : goal.returns-then-has
-returns-then-has c =
-    let front : c.deref.result.now ≡ c.self.inside.front.items = grind (arith, common_steps) in
-    c.if-has.true
-    ∙ sym (in_front c.self.inside.front.items c.self.inside.halves.entries c.args.self.now c.self.view_is c.self.invariant c.args.tag
-    (ap (λ f. is_some (front_half f c.args.tag)) (sym front) ∙ sym c.has.ensures ∙ c.if-has.true))
-    ∙ ap is_some (get-lookup c.args.self.now c.args.tag)
-
-pub returns-else-has : goal.returns-else-has
-returns-else-has c =
-    let front : c.deref.result.now ≡ c.self.inside.front.items = grind (arith, common_steps) in
-    c.contains_key.ensures
-    ∙ sym (not_in_front c.self.inside.front.items c.self.inside.halves.entries c.args.self.now c.self.view_is c.self.invariant c.args.tag
-    (ap (λ f. is_some (front_half f c.args.tag)) (sym front) ∙ sym c.has.ensures ∙ c.if-has.false))
-    ∙ ap is_some (get-lookup c.args.self.now c.args.tag)
+pub returns : goal.returns
+returns c =
+    c.has_behind.ensures
+    ∙ ap is_some (sym (lookup-rear c.self.inside.frames c.self.inside.keys.entries c.args.tag c.self.invariant.0.unique)
+    ∙ sym (lookup-entries (rear_entries c.self.inside.keys.entries c.self.inside.frames) c.args.self.now c.self.view_is c.args.tag))
