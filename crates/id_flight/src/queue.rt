@@ -14,16 +14,21 @@ use id_tag::{Context, Message, PlainCell, PlainToken};
 use std::alloc::{AllocError, Global};
 use std::marker::Model;
 
+/// Room aside is asked for so many messages at least, since both lists are asked again where one has none left.
+const MANY: usize = 128;
+
 /// Messages in a row, in 64 bytes each, but for the few whose numbers don't fit: those stand aside until the queue is
 /// empty.
 #[derive(Drop)]
 pub struct Queue {
     parcels: Row,
     asides: Vec<Message>,
+    // For how many messages more both lists have room, when they were last asked: so an event asks one number.
+    room: usize,
 }
 
 impl Model for Queue {
-    ghost use Rattle.std.specs.Prelude.{◌-◌, All, map, min, vec_capacity, vec_len};
+    ghost use Rattle.std.specs.Prelude.{◌≤◌, ◌+◌, All, map, vec_capacity, vec_len};
     ghost use Rattle.id_flight.specs.Parcels.{IsWithin, unpacked};
     ghost use Rattle.id_flight.specs.Queues.{QueueView};
 
@@ -31,10 +36,11 @@ impl Model for Queue {
 
     ghost view = { λ q. record {
       messages = map (unpacked q.asides.items) q.parcels.items;
-      room = min q.parcels.room (vec_capacity q.asides - vec_len q.asides);
+      room = q.room;
     } };
 
-    ghost invariant = { λ q. All (IsWithin q.asides.items) q.parcels.items };
+    ghost invariant = { λ q. All (IsWithin q.asides.items) q.parcels.items
+        × (q.room ≤ q.parcels.room) × (q.room + vec_len q.asides ≤ vec_capacity q.asides) };
 }
 
 impl Queue {
@@ -54,6 +60,7 @@ impl Queue {
         Queue {
             parcels: Row::new(alloc),
             asides: Vec::new(alloc),
+            room: 0,
         }
     }
 
@@ -131,8 +138,26 @@ impl Queue {
         ensures messages { self.new.messages ≡ self.old.messages }
         ensures room { OnOk result (more ≤ self.new.room) }
     {
+        // Asked here first, so that the lists' growth is not inlined.
+        if self.room < more {
+            self.widen(more)?;
+        }
+        Ok(())
+    }
+
+    /// The same where it is missing.
+    #[inline(never)]
+    fn widen(&mut self, more: usize) -> Result<(), AllocError>
+        ensures messages { self.new.messages ≡ self.old.messages }
+        ensures room { OnOk result (more ≤ self.new.room) }
+    {
+        self.room = 0;
         self.parcels.reserve(more)?;
-        self.asides.reserve(more)?;
+        self.asides.reserve(more.max(MANY))?;
+        self.room = self
+            .parcels
+            .room()
+            .min(self.asides.capacity() - self.asides.len());
         Ok(())
     }
 
@@ -153,6 +178,7 @@ impl Queue {
         ensures messages { self.new.messages ≡ self.old.messages ++ message ∷ [] }
         ensures room { self.old.room ≤ self.new.room + 1 }
     {
+        self.room -= 1;
         let parcel = parcel_for(&mut self.asides, message);
         self.parcels.push_back_reserved(parcel);
     }
@@ -164,6 +190,7 @@ impl Queue {
         ensures messages { self.new.messages ≡ self.old.messages ++ message_of token.now ∷ [] }
         ensures room { self.old.room ≤ self.new.room + 1 }
     {
+        self.room -= 1;
         self.parcels.push_back_reserved(packed_plain(token));
     }
 
@@ -177,6 +204,7 @@ impl Queue {
         } ∷ [] }
         ensures room { self.old.room ≤ self.new.room + 1 }
     {
+        self.room -= 1;
         self.parcels.push_back_reserved(packed_read(like, cell));
     }
 
@@ -190,6 +218,7 @@ impl Queue {
         } ∷ [] }
         ensures room { self.old.room ≤ self.new.room + 1 }
     {
+        self.room -= 1;
         self.parcels
             .push_back_reserved(packed_write(like, cell, number));
     }
@@ -199,6 +228,7 @@ impl Queue {
         ensures messages { OnOk result (self.new.messages ≡ message ∷ self.old.messages) }
         ensures err { OnErr result (self.new.messages ≡ self.old.messages) }
     {
+        self.room = 0;
         self.asides.reserve(1)?;
         let parcel = parcel_for(&mut self.asides, message);
         self.parcels.push_front(parcel)?;

@@ -76,6 +76,14 @@ impl Row {
         self.parcels.get(self.left)
     }
 
+    /// For how many parcels more there is room at the end. Takes no memory.
+    #[inline(always)]
+    pub(crate) fn room(&self) -> usize
+        ensures { result ≡ self.now.room }
+    {
+        self.parcels.capacity() - self.parcels.len()
+    }
+
     /// Makes room for so many parcels more at the end.
     #[inline(always)]
     pub(crate) fn reserve(&mut self, more: usize) -> Result<(), AllocError>
@@ -83,7 +91,7 @@ impl Row {
         ensures room { OnOk result (more ≤ self.new.room) }
     {
         // Asked here first, so that the list's growth is not inlined.
-        if self.parcels.capacity() - self.parcels.len() < more {
+        if self.room() < more {
             self.grow(more)?;
         }
         Ok(())
@@ -133,6 +141,7 @@ impl Row {
     pub(crate) fn drop_front(&mut self) -> bool
         ensures items { self.new.items ≡ drop 1 self.old.items }
         ensures empty { IsTrue result → self.new.items ≡ [] }
+        ensures room { self.old.room ≤ self.new.room }
     {
         let next = self.left + 1;
         if next < self.parcels.len() {
@@ -146,7 +155,8 @@ impl Row {
     /// Drops all parcels. Takes no memory.
     #[inline(never)]
     fn empty(&mut self)
-        ensures { self.new.items ≡ [] }
+        ensures items { self.new.items ≡ [] }
+        ensures room { self.old.room ≤ self.new.room }
     {
         self.parcels.clear();
         self.left = 0;
@@ -155,6 +165,7 @@ impl Row {
     /// Takes out the first parcel, if there is one. Takes no memory.
     pub(crate) fn pop_front(&mut self) -> Option<Parcel>
         ensures items { self.old.items ≡ option_to_list result ++ self.new.items }
+        ensures room { self.old.room ≤ self.new.room }
         ensures some { IsSome result ↔ (0 < length self.old.items) }
     {
         if self.len() == 0 {
@@ -168,6 +179,7 @@ impl Row {
     /// Takes out the last parcel, if there is one. Takes no memory.
     pub(crate) fn pop_back(&mut self) -> Option<Parcel>
         ensures items { self.old.items ≡ self.new.items ++ option_to_list result }
+        ensures room { self.old.room ≤ self.new.room }
         ensures some { IsSome result ↔ (0 < length self.old.items) }
     {
         if self.left == self.parcels.len() {

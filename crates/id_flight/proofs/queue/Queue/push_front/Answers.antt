@@ -1,7 +1,8 @@
 -- The message is the first, and the others stay; or it stands aside, though no parcel tells of it.
-use Rattle.std.proofs.Common.{◌∷◌, map, sym, ap, subst, ◌∙◌}
+use Rattle.std.proofs.Common.{◌∷◌, map, sym, ap, subst, ◌∙◌, arith}
 use Rattle.std.specs.Prelude.{All}
 use Rattle.std.proofs.lemmas.List.Elements.{All-cons}
+use Rattle.std.proofs.lemmas.Grind.{common_steps}
 use Rattle.id_flight.specs.Parcels.{IsWithin, unpacked}
 use Rattle.id_flight.proofs.ParcelsLemmas.{all-kept, messages-before, messages-kept, on-err}
 use Rattle.id_flight.proofs.queue.Queue.push_front.Goals as goal
@@ -11,7 +12,7 @@ returns-clause-messages c =
     let made = c.parcel_for-parcel in
     let asides = c.reserve.new.self.items in
     let ps = c.self.inside.parcels.items in
-    let within : All (IsWithin asides) ps = subst (λ a. All (IsWithin a) ps) (sym c.reserve.ensures.items) c.self.invariant in
+    let within : All (IsWithin asides) ps = subst (λ a. All (IsWithin a) ps) (sym c.reserve.ensures.items) c.self.invariant.0 in
     messages-before asides made.new.asides.items ps c.push_front.new.self.items made.result c.args.message made.ensures.others within made.ensures.is
     c.in_ok-push_front.ensures.items
     ∙ ap (λ a. c.args.message ∷ map (unpacked a) ps) c.reserve.ensures.items
@@ -22,7 +23,7 @@ returns-in_err-push_front-clause-err c =
     let made = c.parcel_for-parcel in
     let asides = c.reserve.new.self.items in
     let ps = c.self.inside.parcels.items in
-    let within : All (IsWithin asides) ps = subst (λ a. All (IsWithin a) ps) (sym c.reserve.ensures.items) c.self.invariant in
+    let within : All (IsWithin asides) ps = subst (λ a. All (IsWithin a) ps) (sym c.reserve.ensures.items) c.self.invariant.0 in
     on-err c.from_residual-in_err-push_front.result
     (ap (map (unpacked made.new.asides.items)) c.in_err-push_front.ensures.err
     ∙ messages-kept asides made.new.asides.items ps made.ensures.others within
@@ -35,6 +36,9 @@ invariant_of-self-2 c =
     let asides = c.reserve.new.self.items in
     let more = made.new.asides.items in
     let ps = c.self.inside.parcels.items in
-    let within : All (IsWithin asides) ps = subst (λ a. All (IsWithin a) ps) (sym c.reserve.ensures.items) c.self.invariant in
-    subst (λ qs. All (IsWithin more) qs) (sym c.in_ok-push_front.ensures.items)
-    (All-cons (IsWithin more) made.result ps made.ensures.within (all-kept asides more ps made.ensures.others within))
+    let within : All (IsWithin asides) ps = subst (λ a. All (IsWithin a) ps) (sym c.reserve.ensures.items) c.self.invariant.0 in (
+      subst (λ qs. All (IsWithin more) qs) (sym c.in_ok-push_front.ensures.items)
+          (All-cons (IsWithin more) made.result ps made.ensures.within (all-kept asides more ps made.ensures.others within)),
+      grind (arith, common_steps),
+      grind (arith, common_steps),
+    )

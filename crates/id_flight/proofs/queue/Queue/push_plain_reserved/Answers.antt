@@ -1,8 +1,9 @@
 -- The token is the last, the others stay, and nothing more stands aside.
-use Rattle.std.proofs.Common.{◌++◌, ◌∷◌, [], refl, sym, ap, subst, ◌∙◌}
+use Rattle.std.proofs.Common.{◌++◌, ◌∷◌, [], refl, sym, ap, subst, ◌∙◌, arith}
 use Rattle.std.specs.Prelude.{All}
 use Rattle.std.proofs.lemmas.List.Elements.{All-push}
 use Rattle.id_tag.specs.Plains.{message_of}
+use Rattle.std.proofs.lemmas.Grind.{common_steps}
 use Rattle.id_flight.specs.Parcels.{IsWithin}
 use Rattle.id_flight.proofs.ParcelsLemmas.{messages-more}
 use Rattle.id_flight.proofs.queue.Queue.push_plain_reserved.Goals as goal
@@ -10,13 +11,16 @@ use Rattle.id_flight.proofs.queue.Queue.push_plain_reserved.Goals as goal
 pub invariant_of-self : goal.invariant_of-self
 invariant_of-self c =
     let asides = c.self.inside.asides.items in
-    let p = c.packed_plain.result in
-    subst (λ ps. All (IsWithin asides) ps) (sym c.push_back_reserved.ensures.items)
-    (All-push (IsWithin asides) c.self.inside.parcels.items p c.self.invariant (c.packed_plain.ensures.within asides))
+    let p = c.packed_plain.result in (
+      subst (λ ps. All (IsWithin asides) ps) (sym c.push_back_reserved.ensures.items)
+          (All-push (IsWithin asides) c.self.inside.parcels.items p c.self.invariant.0 (c.packed_plain.ensures.within asides)),
+      grind (arith, common_steps),
+      grind (arith, common_steps),
+    )
 
 pub returns-clause-messages : goal.returns-clause-messages
 returns-clause-messages c =
     let asides = c.self.inside.asides.items in
     let p = c.packed_plain.result in
-    messages-more asides asides c.self.inside.parcels.items c.push_back_reserved.new.self.items p (message_of c.args.token.now) (λ q w. (w, refl)) c.self.invariant (c.packed_plain.ensures.is asides) c.push_back_reserved.ensures.items
+    messages-more asides asides c.self.inside.parcels.items c.push_back_reserved.new.self.items p (message_of c.args.token.now) (λ q w. (w, refl)) c.self.invariant.0 (c.packed_plain.ensures.is asides) c.push_back_reserved.ensures.items
     ∙ ap (λ v. v.messages ++ message_of c.args.token.now ∷ []) c.self.view_is

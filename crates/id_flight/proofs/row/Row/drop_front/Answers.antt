@@ -14,4 +14,4 @@ pub returns-clause-items : goal.returns-clause-items
 returns-clause-items c =
     let r = c.self.inside in
     let few : length r.parcels.items < r.left + 2 = grind (arith, common_steps) in
-    c.empty.ensures ∙ sym (none-left r.left r.parcels.items few) ∙ ap (λ v. drop 1 v.items) c.self.view_is
+    c.empty.ensures.items ∙ sym (none-left r.left r.parcels.items few) ∙ ap (λ v. drop 1 v.items) c.self.view_is
