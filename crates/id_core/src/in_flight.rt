@@ -88,15 +88,15 @@ impl InFlight {
 
     /// The plain token at a position, from 0, where one is kept there so. Takes no memory.
     #[inline(always)]
-    pub(crate) fn plain(&self, position: usize) -> Option<PlainToken>
+    pub(crate) fn plain(&self, position: usize) -> Option<&PlainToken>
         requires { position < length self.now.messages }
-        ensures { IfSome result (λ t. slice_get self.now.messages position ≡ Some (message_of t)) }
+        ensures { IfSome result (λ t. slice_get self.now.messages position ≡ Some (message_of t.now)) }
     {
         let gap = self.before.len();
         if position < gap {
-            self.before.plain(position)
+            self.before.token(position)
         } else {
-            self.after.plain(position - gap)
+            self.after.token(position - gap)
         }
     }
 

@@ -158,14 +158,17 @@ impl<'a> Machine<'a> {
         ensures err { OnErr result (self.new ≡ self.old) }
     {
         match self.flight.plain(position) {
-            Some(token) => match self.deliver_plain(position, &token)? {
-                Short::Went => Ok(Step::Went),
-                Short::Failed(fault) => Ok(Step::Fault(Fault::Operator {
-                    fault,
-                    tag: token.tag(),
-                })),
-                Short::Apart => self.deliver_any(position),
-            },
+            Some(token) => {
+                let token = *token;
+                match self.deliver_plain(position, &token)? {
+                    Short::Went => Ok(Step::Went),
+                    Short::Failed(fault) => Ok(Step::Fault(Fault::Operator {
+                        fault,
+                        tag: token.tag(),
+                    })),
+                    Short::Apart => self.deliver_any(position),
+                }
+            }
             None => self.deliver_any(position),
         }
     }
@@ -187,11 +190,14 @@ impl<'a> Machine<'a> {
         ensures err { OnErr result (self.new ≡ self.old) }
     {
         match self.flight.plain(position) {
-            Some(token) => match self.deliver_plain(position, &token)? {
-                Short::Went => Ok(Came::Went),
-                Short::Failed(_) => Ok(Came::Failed),
-                Short::Apart => self.advance_any(position),
-            },
+            Some(token) => {
+                let token = *token;
+                match self.deliver_plain(position, &token)? {
+                    Short::Went => Ok(Came::Went),
+                    Short::Failed(_) => Ok(Came::Failed),
+                    Short::Apart => self.advance_any(position),
+                }
+            }
             None => self.advance_any(position),
         }
     }

@@ -1,7 +1,7 @@
 -- Lemmas on specs/Parcels.antt: a parcel that says what a message says has the message, and what stands aside stays
 -- there.
 use Rattle.std.proofs.Common.{Result, Ok, Err, OnErr}
-use Rattle.std.proofs.Common.{◌≡◌, suc, List, [], ◌∷◌, ◌++◌, Option, None, Some, IfSome, get_or, length, length-append, map, refl, sym, ap, subst, ◌∙◌, arith}
+use Rattle.std.proofs.Common.{◌≡◌, suc, List, [], ◌∷◌, ◌++◌, Option, None, Some, IfSome, get_or, length, length-append, map, refl, ap, subst, ◌∙◌, arith}
 use Rattle.std.proofs.Math.ListN.{get_or-append}
 use Rattle.std.proofs.Math.Seq.{get_or-append_seam}
 use Rattle.std.specs.Prelude.{All}
@@ -12,46 +12,41 @@ use Rattle.id_graph.specs.declared.dests.Port.{Port}
 use Rattle.id_tag.specs.declared.Tag.{Tag}
 use Rattle.id_tag.specs.declared.Message.{Message}
 use Rattle.id_tag.specs.declared.Payload.{Payload}
-use Rattle.id_tag.specs.declared.plain.PlainToken.{PlainToken}
-use Rattle.id_tag.specs.Plains.{message_of, tag_in as tag_of}
+use Rattle.id_tag.specs.declared.plain.Plain.{Plain as Short}
+use Rattle.id_tag.specs.Plains.{tag_in}
 use Rattle.id_flight.specs.declared.parcel.Parcel.{Parcel}
 use Rattle.id_flight.specs.declared.parcel.What.{What}
-use Rattle.id_flight.specs.declared.parcel.What.TheVariants.{Plain, Structure as Named, Address, Read}
-use Rattle.id_flight.specs.declared.parcel.What.TheVariants.{WriteInt, WriteBool, Aside}
-use Rattle.id_flight.specs.Parcels.{IsPacked, IsThere, IsWithin, like, own, place_of, said, tag_in, told, unpacked}
+use Rattle.id_flight.specs.declared.parcel.What.TheVariants.{Plain, Structure as Named, Address, Read, Write, Aside}
+use Rattle.id_flight.specs.Parcels.{IsPacked, IsThere, IsWithin, own, place_of, said, told, unpacked}
 
 -- what says something does not stand aside
-there-said : (asides : List Message) (t : Tag) (q : Port) (w : What) (m : Message) → said t q w ≡ Some m.payload → IsThere asides w
-there-said asides t q (Plain v) m says = tt
-there-said asides t q (Named e s l h) m says = tt
-there-said asides t q (Address e s l h i) m says = tt
-there-said asides t q (Read e s l h i) m says = tt
-there-said asides t q (WriteInt e s l h i n) m says = tt
-there-said asides t q (WriteBool e s l h i b) m says = tt
-there-said asides t q (Aside i) m says = cc
+there-said : (asides : List Message) (t : Tag) (q : Port) (v : Short) (w : What) (x : Payload) → said t q v w ≡ Some x → IsThere asides w
+there-said asides t q v Plain x says = tt
+there-said asides t q v (Named e s l h) x says = tt
+there-said asides t q v (Address e s l h) x says = tt
+there-said asides t q v (Read e s l h) x says = tt
+there-said asides t q v (Write n p) x says = tt
+there-said asides t q v (Aside i) x says = cc
 
-pub packed-narrowed : (m : Message) (w : What) (t : Tag) (q : Port) (p : Parcel) → said t q w ≡ Some m.payload
-    → p.what ≡ w → p.port ≡ q → tag_in p ≡ t → own p m.payload ≡ m → IsPacked m p
-packed-narrowed m w t q p says what port tag whole =
-    let here : said (tag_in p) p.port p.what ≡ Some m.payload =
-    ap (λ u. said u p.port p.what) tag ∙ ap (λ r. said t r p.what) port ∙ ap (said t q) what ∙ says in
-    record {
-      is = λ asides. ap (told asides p (place_of p.what)) here ∙ whole;
-      within = λ asides. there-said asides (tag_in p) p.port p.what m here;
-    }
+-- a parcel that says what a message says, and is else like it, has the message
+pub packed-said : (m : Message) (p : Parcel) → said (tag_in p.token) p.token.port p.token.value p.what ≡ Some m.payload
+    → own p m.payload ≡ m → IsPacked m p
+packed-said m p says whole = record {
+  is = λ asides. ap (told asides p (place_of p.what)) says ∙ whole;
+  within = λ asides. there-said asides (tag_in p.token) p.token.port p.token.value p.what m.payload says;
+}
 
-pub packed-if : (m : Message) (w : What) (t : Tag) (q : Port) (o : Option Parcel) → said t q w ≡ Some m.payload
-    → IfSome o (λ p. p.what ≡ w) → IfSome o (λ p. p.port ≡ q) → IfSome o (λ p. tag_in p ≡ t) → IfSome o (λ p. own p m.payload ≡ m)
-    → IfSome o (λ p. IsPacked m p)
-packed-if m w t q None says what port tag whole = tt
-packed-if m w t q (Some p) says what port tag whole = packed-narrowed m w t q p says what port tag whole
+packed-narrowed : (m : Message) (v : Short) (w : What) (t : Tag) (q : Port) (p : Parcel) → said t q v w ≡ Some m.payload
+    → p.what ≡ w → p.token.value ≡ v → p.token.port ≡ q → tag_in p.token ≡ t → own p m.payload ≡ m → IsPacked m p
+packed-narrowed m v w t q p says what value port tag whole =
+    packed-said m p (ap (λ u. said u p.token.port p.token.value p.what) tag ∙ ap (λ r. said t r p.token.value p.what) port
+    ∙ ap (λ u. said t q u p.what) value ∙ ap (said t q v) what ∙ says) whole
 
--- a parcel that is like a token but says this
-pub packed-like : (t : PlainToken) (w : What) (x : Payload) (p : Parcel) → said (tag_of t) t.port w ≡ Some x → p ≡ like t w
-    → IsPacked (record (message_of t) { payload = x }) p
-packed-like t w x p says is =
-    let m : Message = record (message_of t) { payload = x } in
-    subst (λ q. IsPacked m q) (sym is) (packed-narrowed m w (tag_of t) t.port (like t w) says refl refl refl refl)
+pub packed-if : (m : Message) (v : Short) (w : What) (t : Tag) (q : Port) (o : Option Parcel) → said t q v w ≡ Some m.payload
+    → IfSome o (λ p. p.what ≡ w) → IfSome o (λ p. p.token.value ≡ v) → IfSome o (λ p. p.token.port ≡ q)
+    → IfSome o (λ p. tag_in p.token ≡ t) → IfSome o (λ p. own p m.payload ≡ m) → IfSome o (λ p. IsPacked m p)
+packed-if m v w t q None says what value port tag whole = tt
+packed-if m v w t q (Some p) says what value port tag whole = packed-narrowed m v w t q p says what value port tag whole
 
 -- the parcels behind the first have what all have
 pub all-rest : (P : Parcel → Type 0) (p : Parcel) (ps qs : List Parcel) → qs ≡ p ∷ ps → All P qs → All P ps

@@ -98,6 +98,18 @@ impl Queue {
         requires { position < length self.now.messages }
         ensures { IfSome result (λ t. slice_get self.now.messages position ≡ Some (message_of t)) }
     {
+        match self.token(position) {
+            Some(token) => Some(*token),
+            None => None,
+        }
+    }
+
+    /// The same where it stands, so that it is copied once. Takes no memory.
+    #[inline(always)]
+    pub fn token(&self, position: usize) -> Option<&PlainToken>
+        requires { position < length self.now.messages }
+        ensures { IfSome result (λ t. slice_get self.now.messages position ≡ Some (message_of t.now)) }
+    {
         plain_in(self.parcels.at(position))
     }
 

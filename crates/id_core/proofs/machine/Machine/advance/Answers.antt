@@ -24,7 +24,7 @@ returns-in_err-deliver_plain-in-Some c = record {
 pub returns-in-Went : goal.returns-in-Went
 returns-in-Went c = record {
   world = c.in_ok-deliver_plain-in-Some.ensures.world (subst IsHandled (sym c.in-Went.is) tt);
-  step = came_from _ _ (c.in_ok-deliver_plain-in-Some.ensures.step (subst IsHandled (sym c.in-Went.is) tt)) ∙ ap (λ s. Some (came_of (step_in s (tag_in c.in-Some.token)))) c.in-Went.is;
+  step = came_from _ _ (c.in_ok-deliver_plain-in-Some.ensures.step (subst IsHandled (sym c.in-Went.is) tt)) ∙ ap (λ s. Some (came_of (step_in s (tag_in c.in-Some.token.now)))) c.in-Went.is;
   end = ok_end _ _ c.in_ok-deliver_plain-in-Some.ensures.end;
   err = tt;
 }
@@ -32,7 +32,7 @@ returns-in-Went c = record {
 pub returns-in-Failed : goal.returns-in-Failed
 returns-in-Failed c = record {
   world = c.in_ok-deliver_plain-in-Some.ensures.world (subst IsHandled (sym c.in-Failed.is) tt);
-  step = came_from _ _ (c.in_ok-deliver_plain-in-Some.ensures.step (subst IsHandled (sym c.in-Failed.is) tt)) ∙ ap (λ s. Some (came_of (step_in s (tag_in c.in-Some.token)))) c.in-Failed.is;
+  step = came_from _ _ (c.in_ok-deliver_plain-in-Some.ensures.step (subst IsHandled (sym c.in-Failed.is) tt)) ∙ ap (λ s. Some (came_of (step_in s (tag_in c.in-Some.token.now)))) c.in-Failed.is;
   end = ok_end _ _ c.in_ok-deliver_plain-in-Some.ensures.end;
   err = tt;
 }

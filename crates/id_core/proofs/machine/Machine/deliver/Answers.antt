@@ -24,7 +24,7 @@ returns-in_err-deliver_plain-in-Some c = record {
 pub returns-in-Went : goal.returns-in-Went
 returns-in-Went c = record {
   world = c.in_ok-deliver_plain-in-Some.ensures.world (subst IsHandled (sym c.in-Went.is) tt);
-  step = c.in_ok-deliver_plain-in-Some.ensures.step (subst IsHandled (sym c.in-Went.is) tt) ∙ ap (λ s. Some (step_in s (tag_in c.in-Some.token))) c.in-Went.is;
+  step = c.in_ok-deliver_plain-in-Some.ensures.step (subst IsHandled (sym c.in-Went.is) tt) ∙ ap (λ s. Some (step_in s (tag_in c.in-Some.token.now))) c.in-Went.is;
   end = ok_end _ _ c.in_ok-deliver_plain-in-Some.ensures.end;
   err = tt;
 }
@@ -32,7 +32,7 @@ returns-in-Went c = record {
 pub returns-in-Failed : goal.returns-in-Failed
 returns-in-Failed c = record {
   world = c.in_ok-deliver_plain-in-Some.ensures.world (subst IsHandled (sym c.in-Failed.is) tt);
-  step = c.in_ok-deliver_plain-in-Some.ensures.step (subst IsHandled (sym c.in-Failed.is) tt) ∙ ap (λ s. Some (step_in s (tag_in c.in-Some.token))) c.in-Failed.is ∙ ap (λ t. Some (step_in (Failed c.in-Failed.fault) t)) (sym c.tag.ensures);
+  step = c.in_ok-deliver_plain-in-Some.ensures.step (subst IsHandled (sym c.in-Failed.is) tt) ∙ ap (λ s. Some (step_in s (tag_in c.in-Some.token.now))) c.in-Failed.is ∙ ap (λ t. Some (step_in (Failed c.in-Failed.fault) t)) (sym c.tag.ensures);
   end = ok_end _ _ c.in_ok-deliver_plain-in-Some.ensures.end;
   err = tt;
 }
