@@ -161,7 +161,13 @@ impl<'a> Record<'a> {
         match packed(&event) {
             Some(line) => {
                 let tells = is_telling(&event.message.payload, &event.reaction.fired);
-                if !add_line(&mut self.lines, &mut self.margin, line, tells) {
+                if !add_line(
+                    &mut self.lines,
+                    &mut self.margin,
+                    line,
+                    line.sent_from(),
+                    tells,
+                ) {
                     self.push_whole(event);
                 }
             }
@@ -241,6 +247,7 @@ impl<'a> Record<'a> {
             &mut self.lines,
             &mut self.margin,
             line,
+            event.token.position,
             event.token.instr == 0,
         ) {
             self.push_shot_aside(event);
@@ -279,6 +286,7 @@ impl<'a> Record<'a> {
                     &mut self.lines,
                     &mut self.margin,
                     line,
+                    line.sent_from(),
                     event.token.instr == 0,
                 ) {
                     self.push_deed_aside(event);

@@ -1,7 +1,8 @@
 //! What stands beside the lines of a record: whole events, the cells that lines name, and the positions of the events
 //! that tell.
 
-ghost use Rattle.std.specs.Prelude.{◌≡◌, ◌<◌, ◌≤◌, ◌+◌, ◌++◌, ◌∷◌, [], length, vec_len, vec_capacity, IsFalse, IsTrue};
+ghost use Rattle.std.specs.Prelude.{◌≡◌, ◌<◌, ◌≤◌, ◌+◌, ◌%◌, ◌^◌, ◌++◌, ◌∷◌, [], length, vec_len, vec_capacity};
+ghost use Rattle.std.specs.Prelude.{IsFalse, IsTrue};
 ghost use Rattle.id_record.specs.Lines.{beside};
 ghost use Rattle.id_record.specs.Tellings.{told_at};
 
@@ -179,10 +180,17 @@ impl Margin {
     }
 }
 
-/// Adds a line at the end, and its position to those of the events that tell, where its event does; answers whether it
-/// did. Takes no memory.
+/// Adds a line at the end, whose message the event at `sent_from` sent, and its position to those of the events that
+/// tell, where its event does; answers whether it did. Takes no memory.
 #[inline(always)]
-pub(crate) fn add_line(lines: &mut Ledger, margin: &mut Margin, line: Line, tells: bool) -> bool
+pub(crate) fn add_line(
+    lines: &mut Ledger,
+    margin: &mut Margin,
+    line: Line,
+    sent_from: u32,
+    tells: bool,
+) -> bool
+    requires sent_from { sent_from ≡ line.position % 2 ^ 31 }
     requires room { 0 < lines.old.room }
     requires room_beside { 0 < margin.old.room }
     ensures line { IsTrue result → lines.new.items ≡ lines.old.items ++ line ∷ [] }
@@ -193,7 +201,7 @@ pub(crate) fn add_line(lines: &mut Ledger, margin: &mut Margin, line: Line, tell
     ensures left_beside { IsFalse result → margin.new ≡ margin.old }
 {
     let position = lines.len();
-    if lines.push(line) {
+    if lines.push(line, sent_from) {
         margin.push_telling(position, tells);
         true
     } else {
@@ -222,7 +230,7 @@ pub(crate) fn add_beside(
     match spot_of(celled.cell) {
         Some(spot) => {
             let position = lines.len();
-            if lines.push(celled.line) {
+            if lines.push(celled.line, celled.line.sent_from()) {
                 margin.push_cell(spot, position, tells);
                 true
             } else {

@@ -1,7 +1,7 @@
 //! The lines of a record in order: of an element that is alone without their stamps, which follow there from where
 //! events stand.
 
-ghost use Rattle.std.specs.Prelude.{◌≡◌, ◌<◌, ◌++◌, ◌∷◌, [], ◌↔◌, vec_capacity, vec_len, IsFalse, IsTrue};
+ghost use Rattle.std.specs.Prelude.{◌≡◌, ◌<◌, ◌%◌, ◌^◌, ◌++◌, ◌∷◌, [], ◌↔◌, vec_capacity, vec_len, IsFalse, IsTrue};
 ghost use Rattle.id_record.specs.Ledgers.{Follows, bare_of, sent_at, stamp_at, stamps_at, stamps_of, with_stamps};
 
 use super::{Effect, Kind, Line, line_aside};
@@ -58,7 +58,7 @@ impl Model for Ledger {
 }
 
 impl Ledger {
-    ghost use Rattle.std.specs.Prelude.{◌≡◌, ◌<◌, ◌++◌, ◌∷◌, [], length, slice_get, IsFalse, IsTrue, OnOk, Some};
+    ghost use Rattle.std.specs.Prelude.{◌≡◌, ◌<◌, ◌%◌, ◌^◌, ◌++◌, ◌∷◌, [], length, slice_get, IsFalse, IsTrue, OnOk, Some};
     ghost use Rattle.id_record.specs.declared.line.Kind.TheVariants.{Aside};
     ghost use Rattle.id_record.specs.Ledgers.{Follows, IsUnstamped};
     ghost use Rattle.id_record.specs.Lines.{index_of};
@@ -95,16 +95,23 @@ impl Ledger {
         Ok(())
     }
 
-    /// Adds a line at the end, and answers whether it did: among lines without stamps only one whose stamps follow.
-    /// Takes no memory.
+    /// Adds a line at the end, and answers whether it did: among lines without stamps only one whose stamps follow. The
+    /// event that sent its message stands at `sent_from`. Takes no memory.
     #[inline(always)]
-    pub(crate) fn push(&mut self, line: Line) -> bool
-        requires { 0 < self.old.room }
+    pub(crate) fn push(&mut self, line: Line, sent_from: u32) -> bool
+        requires room { 0 < self.old.room }
+        requires sent_from { sent_from ≡ line.position % 2 ^ 31 }
         ensures added { IsTrue result → self.new.items ≡ self.old.items ++ line ∷ [] }
         ensures left { IsFalse result → self.new ≡ self.old }
         ensures follows { Follows (length self.old.items) line → IsTrue result }
     {
-        if add_stamps(self.alone, self.bares.len(), &mut self.stamps, &line) {
+        if add_stamps(
+            self.alone,
+            self.bares.len(),
+            &mut self.stamps,
+            &line,
+            sent_from,
+        ) {
             self.bares.push_reserved(bare_of(&line));
             true
         } else {
@@ -120,7 +127,7 @@ impl Ledger {
         ensures index { index_of result.value ≡ index }
     {
         let line = line_aside(index, stamp_at(self.len()));
-        let _added = self.push(line);
+        let _added = self.push(line, 0);
         line
     }
 
@@ -148,18 +155,25 @@ impl Ledger {
     }
 }
 
-/// Adds the stamps of a line at this position, where its element is not alone, and answers whether the line goes there:
-/// of one that is alone where its stamps follow.
+/// Adds the stamps of a line at this position, whose message the event at `sent_from` sent, where its element is not
+/// alone, and answers whether the line goes there: of one that is alone where its stamps follow.
 #[inline(always)]
-fn add_stamps(alone: bool, position: usize, stamps: &mut Vec<Stamps>, line: &Line) -> bool
-    requires { IsFalse alone → vec_len stamps.old < vec_capacity stamps.old }
+fn add_stamps(
+    alone: bool,
+    position: usize,
+    stamps: &mut Vec<Stamps>,
+    line: &Line,
+    sent_from: u32,
+) -> bool
+    requires sent_from { sent_from ≡ line.now.position % 2 ^ 31 }
+    requires room { IsFalse alone → vec_len stamps.old < vec_capacity stamps.old }
     ensures goes { IsTrue alone → IsTrue result ↔ Follows position line.now }
     ensures same { IsTrue alone → stamps.new ≡ stamps.old }
     ensures always { IsFalse alone → IsTrue result }
     ensures added { IsFalse alone → stamps.new.items ≡ stamps.old.items ++ stamps_of line.now ∷ [] }
 {
     if alone {
-        follows(line, position)
+        follows(line, position, sent_from)
     } else {
         stamps.push_reserved(stamps_of(line));
         true
@@ -184,12 +198,14 @@ fn sent_at(position: u32) -> u32
     position % 0x8000_0000 + 1
 }
 
-/// Whether the stamps of a line at a position follow from where its event and the one that sent its message stand.
+/// Whether the stamps of a line at a position follow from where its event and the one that sent its message stand, which
+/// is `sent_from`.
 #[inline(always)]
-fn follows(line: &Line, position: usize) -> bool
+fn follows(line: &Line, position: usize, sent_from: u32) -> bool
+    requires { sent_from ≡ line.now.position % 2 ^ 31 }
     ensures { IsTrue result ↔ Follows position line.now }
 {
-    (line.stamp == stamp_at(position)) & (line.sent == sent_at(line.position))
+    (line.stamp == stamp_at(position)) & (line.sent == sent_from + 1)
 }
 
 /// The stamps that follow for a line at a position.

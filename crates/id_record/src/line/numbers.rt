@@ -85,9 +85,18 @@ pub(super) fn position_at(position: u64, port: Port) -> u32
     ensures position { result % 2 ^ 31 ≡ position }
     ensures port { port_at (result / 2 ^ 31) ≡ port }
 {
+    position as u32 + bit_of(port) * 0x8000_0000
+}
+
+/// The bit that stands for a port.
+#[inline(always)]
+fn bit_of(port: Port) -> u32
+    ensures below { result < 2 }
+    ensures port { port_at result ≡ port }
+{
     match port {
-        Port::Zero => position as u32,
-        Port::One => position as u32 + 0x8000_0000,
+        Port::Zero => 0,
+        Port::One => 1,
     }
 }
 

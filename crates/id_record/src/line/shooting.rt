@@ -1,6 +1,6 @@
 //! The lines of tokens with plain values that sent words or structures on, or nothing: most events.
 
-ghost use Rattle.std.specs.Prelude.{◌≡◌, ◌<◌, ◌/◌, ◌^◌, ◌↔◌, ℤ, IsTrue, true, Some};
+ghost use Rattle.std.specs.Prelude.{◌≡◌, ◌<◌, ◌%◌, ◌/◌, ◌^◌, ◌↔◌, ℤ, IsTrue, true, Some};
 ghost use Rattle.id_tag.specs.declared.Tag.{Tag};
 ghost use Rattle.id_tag.specs.declared.Value.{Value};
 ghost use Rattle.id_tag.specs.declared.plain.Plain.{Plain};
@@ -61,7 +61,8 @@ pub(crate) fn shot_line(event: &Shooting<'_>) -> Line
     requires fits { HasLine event.now.token.now }
     requires own { IsOwn event.now.shot event.now.token.now.value }
     requires brief { IsBrief event.now.token.now.iteration event.now.shot }
-    ensures { IsPacked (shooting event.now) result }
+    ensures packed { IsPacked (shooting event.now) result }
+    ensures sent_from { result.position % 2 ^ 31 ≡ event.now.token.now.position }
 {
     narrowed(
         event,
@@ -298,6 +299,7 @@ fn narrowed(event: &Shooting<'_>, carried: Carried, effect: Effect, named: Targe
     ensures to_element { element_at result.to ≡ named.element }
     ensures to_instr { instr_at result.to ≡ named.instr }
     ensures message { (own result (whole event.now.token.now.value)).message ≡ message_of event.now.token.now }
+    ensures sent_from { result.position % 2 ^ 31 ≡ event.now.token.now.position }
     ensures stamp { result.stamp ≡ event.now.stamp }
 {
     token_line(
@@ -324,6 +326,7 @@ pub(super) fn token_line(token: &PlainToken, stamp: u32, written: Written) -> Li
     ensures to { result.to ≡ written.to }
     ensures tag { tag_at result ≡ tag_in token.now }
     ensures port { port_at (result.position / 2 ^ 31) ≡ token.now.port }
+    ensures sent_from { result.position % 2 ^ 31 ≡ token.now.position }
     ensures message { (x : Payload) → message_at result x ≡ record (message_of token.now) { payload = x } }
     ensures stamp { result.stamp ≡ stamp }
 {

@@ -12,12 +12,12 @@ invariant_of-self-else-not-add_line c =
     let h = shooting c.args.event in
     rw (c.if-not-add_line.ensures.line refl, c.if-not-add_line.ensures.beside)
     (AreKept-push r.graph.now r.element r.replies.items b b r.lines.items _ r.margin.telling _ h _ _ c.self.invariant
-    (kept_line b r.replies.items r.lines.items h c.shot_line-line.result c.shot_line-line.ensures (omega arith) c.self.invariant.lines)
-    (pushed_line r.graph.now r.element r.replies.items b r.lines.items h c.shot_line-line.result c.shot_line-line.ensures c.self.invariant.lines)
+    (kept_line b r.replies.items r.lines.items h c.shot_line-line.result c.shot_line-line.ensures.packed (omega arith) c.self.invariant.lines)
+    (pushed_line r.graph.now r.element r.replies.items b r.lines.items h c.shot_line-line.result c.shot_line-line.ensures.packed c.self.invariant.lines)
     (tells-shooting c.args.event c.requires.own) refl (c.if-not-add_line.ensures.telling refl))
 
 pub returns-else-not-add_line-clause-events : goal.returns-else-not-add_line-clause-events
 returns-else-not-add_line-clause-events c =
     let r = c.self.inside in
     rw (← ap (λ v. v.events) c.self.view_is, ← ap (λ v. v.graph) c.self.view_is, ← ap (λ v. v.element) c.self.view_is, c.if-not-add_line.ensures.line refl, c.if-not-add_line.ensures.beside)
-    (pushed_line r.graph.now r.element r.replies.items r.margin.beside r.lines.items (shooting c.args.event) c.shot_line-line.result c.shot_line-line.ensures c.self.invariant.lines)
+    (pushed_line r.graph.now r.element r.replies.items r.margin.beside r.lines.items (shooting c.args.event) c.shot_line-line.result c.shot_line-line.ensures.packed c.self.invariant.lines)

@@ -45,8 +45,8 @@ named (Side b w) k v t own brief names = named-out w v t own names
 named (Moved i w) k v t own brief names = subst (λ u. NamedBy (whole u) t) own (named-carried w t brief.0 names.1)
 named (Sent u w) k v t own brief names = named-word v t (rw (← own) brief.0)
 
-pub returns : goal.returns
-returns c =
+pub returns-clause-packed : goal.returns-clause-packed
+returns-clause-packed c =
     let is = c.narrowed.ensures in
     let e = c.args.event.now in
     let value = e.token.now.value in
