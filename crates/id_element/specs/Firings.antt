@@ -1,5 +1,5 @@
 -- A message's outcome in the two parts that the code computes: what fires, and what the record keeps.
-use Rattle.std.specs.Prelude.{◌≡◌, ℕ, ◌+◌, ◌≤◌, All, length}
+use Rattle.std.specs.Prelude.{◌≡◌, ℕ, ◌+◌, ◌<◌, ◌≤◌, ◌^◌, All, length}
 use Rattle.id_graph.specs.Graph.{Parts}
 use Rattle.id_graph.specs.declared.instr.Instr.{Instr}
 use Rattle.id_tag.specs.declared.Tag.{Tag}
@@ -35,6 +35,13 @@ most_sent i = length i.dests + length i.others + 3
 -- no message at an instruction of the graph sends more than m
 abbrev pub IsMost : Parts → ℕ → Type 0
 IsMost g m = All (λ i. most_sent i ≤ m) g.instrs
+
+-- no message at an instruction of the graph sends more than m, and where that is 256 at the most, the number of the
+-- element e and those of the instructions are small
+pub record IsBound (g : Parts) (e m : ℕ) : Type 0 where
+  pub most : IsMost g m
+  pub element : m ≤ 256 → e < 256
+  pub instrs : m ≤ 256 → length g.instrs ≤ 2 ^ 24
 
 -- what the instruction does with what arrived, with the element's next numbers: nothing where the token waits or is
 -- blocked

@@ -52,7 +52,7 @@ impl<'a> Desk<'a> {
     ghost use Rattle.id_element.specs.Desks.{state_of, IsShort, fired_by};
     ghost use Rattle.id_element.specs.Shorts.{IsHandled, step_in};
     ghost use Rattle.id_element.specs.declared.step.Short.{Short};
-    ghost use Rattle.id_element.specs.Firings.{IsMost, most_sent};
+    ghost use Rattle.id_element.specs.Firings.{IsBound, most_sent};
     ghost use Rattle.id_graph.specs.Graph.{arcs_on, IsGraph};
     ghost use Rattle.id_ops.specs.Operators.{side_of};
 
@@ -118,7 +118,8 @@ impl<'a> Desk<'a> {
     }
 
     /// Handles a plain token that fits the graph, where that is short, and says what became of it: the element step. No
-    /// instruction sends more than the most.
+    /// instruction sends more than the most, which is large too where the number of the element or those of the
+    /// instructions are.
     #[inline(always)]
     pub(crate) fn take_plain(
         &mut self,
@@ -129,7 +130,7 @@ impl<'a> Desk<'a> {
     ) -> Result<Short, TakeError>
         requires own { graph.now ≡ self.old.log.graph }
         requires valid { IsValid graph.now }
-        requires most { IsMost graph.now most }
+        requires bound { IsBound graph.now self.old.log.element most }
         requires counted { self.old.contexts ≤ self.old.stamp }
         requires numbered { self.old.structures ≤ self.old.stamp }
         requires fits { Fits graph.now (message_of token.now) }
@@ -154,7 +155,7 @@ impl<'a> Desk<'a> {
     {
         let stamp = next_stamp(self.stamp, u64::from(token.stamp))?;
         let instr = &graph.instrs()[token.instr as usize];
-        if !self.is_short(most, token, stamp) {
+        if !self.is_short_in(graph, most, token, stamp) {
             return Ok(Short::Apart);
         }
         self.reserve(most, 0, outputs)?;
@@ -190,6 +191,21 @@ impl<'a> Desk<'a> {
             & (token.iteration < 0xffff_ffff)
             & (most <= 0x100)
             & has_line(token)
+    }
+
+    /// The same of a token that fits the graph, at a stamp above its own, where the most is large too unless the number
+    /// of the element and those of the instructions are small: those of the token and its iteration follow.
+    #[inline(always)]
+    fn is_short_in(&self, graph: &Graph, most: usize, token: &PlainToken, stamp: u64) -> bool
+        requires bound { IsBound graph.now self.now.log.element most }
+        requires fits { Fits graph.now (message_of token.now) }
+        requires above { token.now.stamp < stamp }
+        ensures { IsTrue result → IsShort self.now most token.now stamp }
+    {
+        // What has 31 bits alike is asked at once, without a branch for each: nearly all of it has.
+        ((stamp | self.log.len() as u64 | u64::from(token.position)) <= 0x7fff_ffff)
+            & (most <= 0x100)
+            & (token.sender < 0xff)
     }
 
     /// Makes room for an event that sends so many messages, to so many replies.

@@ -7,7 +7,7 @@ ghost use Rattle.id_element.specs.declared.step.Short.{Short};
 ghost use Rattle.id_tag.specs.declared.Tag.{Tag};
 
 use crate::desk::Desk;
-use crate::outcome::greatest;
+use crate::outcome::bound;
 use crate::step::{Short, TakeError};
 use id_bank::{Cells, Reader};
 use id_flight::{Demand, Queue};
@@ -23,7 +23,8 @@ pub struct Element<'a> {
     count: u32,
     desk: Desk<'a>,
     went: bool,
-    // What a message sends at the most, at any instruction of the graph: asked for once.
+    // What a message sends at the most, at any instruction of the graph, and more than 256 where the number of the
+    // element or those of the instructions are not small: asked for once.
     most: usize,
 }
 
@@ -31,7 +32,7 @@ impl<'a> Model for Element<'a> {
     ghost use Rattle.id_element.specs.Codes.{coded_element};
     ghost use Rattle.id_element.specs.Replays.{ElementView, IsKept};
     ghost use Rattle.id_element.specs.Desks.{state_of};
-    ghost use Rattle.id_element.specs.Firings.{IsMost};
+    ghost use Rattle.id_element.specs.Firings.{IsBound};
 
     ghost Value = { ElementView };
 
@@ -49,7 +50,7 @@ impl<'a> Model for Element<'a> {
       count = e.count;
       graph = e.desk.log.graph;
       state = state_of e.desk;
-    }) e.went × IsMost e.desk.log.graph e.most };
+    }) e.went × IsBound e.desk.log.graph e.desk.log.element e.most };
 }
 
 impl<'a> Element<'a> {
@@ -79,7 +80,7 @@ impl<'a> Element<'a> {
             count,
             desk: Desk::new(alloc, number, graph, count == 1),
             went: true,
-            most: greatest(graph.graph()),
+            most: bound(number, graph.graph()),
         }
     }
 
@@ -141,7 +142,7 @@ impl<'a> Element<'a> {
         let short = self
             .desk
             .take_plain(graph.graph(), token, self.most, outputs)?;
-        self.went = still_short(self.went, short);
+        note_short(&mut self.went, short);
         Ok(short)
     }
 
@@ -232,15 +233,15 @@ impl<'a> Element<'a> {
     }
 }
 
-/// Whether every event went well, that of a plain token taken in, if it was handled.
+/// Notes of a plain token whether it went well, if it was handled: most do, and leave what was noted as it is.
 #[inline(always)]
-fn still_short(went: bool, short: Short) -> bool
-    ensures handled { IsHandled short → (t : Tag) → (IsTrue result ↔ (IsTrue went × (step_in short t ≡ Went))) }
-    ensures apart { short ≡ Short.Apart → result ≡ went }
+fn note_short(went: &mut bool, short: Short)
+    ensures handled { IsHandled short → (t : Tag)
+        → (IsTrue went.new ↔ (IsTrue went.old × (step_in short t ≡ Went))) }
+    ensures apart { short ≡ Short.Apart → went.new ≡ went.old }
 {
-    match short {
-        Short::Failed(_) => false,
-        Short::Went | Short::Apart => went,
+    if let Short::Failed(_) = short {
+        *went = false;
     }
 }
 

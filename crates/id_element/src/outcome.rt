@@ -13,7 +13,7 @@ ghost use Rattle.id_record.specs.declared.step.Verdict.TheVariants as verdict;
 ghost use Rattle.id_record.specs.Events.{full_step};
 ghost use Rattle.id_tag.specs.Tags.{same_tag};
 ghost use Rattle.id_element.specs.declared.step.Arrival.TheVariants.{Fires};
-ghost use Rattle.id_element.specs.Firings.{IsMost, IsReaction, firing_of, most_sent, operands_in, verdict_of};
+ghost use Rattle.id_element.specs.Firings.{IsBound, IsMost, IsReaction, firing_of, most_sent, operands_in, verdict_of};
 ghost use Rattle.id_graph.specs.Ports.{two_ports};
 ghost use Rattle.id_match.specs.Waiting.{Store, offer_after, offer_answer, pair_of};
 ghost use Rattle.id_match.specs.declared.Offered.TheVariants.{Pair};
@@ -84,6 +84,20 @@ pub(crate) fn greatest(graph: &Graph) -> usize
         }
     }
     most
+}
+
+/// An upper bound on what one message sends at any instruction of the graph: above 256 too where the number of the
+/// element or those of the instructions are not small, so that one number tells of all.
+pub(crate) fn bound(number: u32, graph: &Graph) -> usize
+    ensures { IsBound graph.now number result }
+{
+    let most = greatest(graph);
+    let is_small = number <= 0xff && graph.instrs().len() <= 0x100_0000;
+    if is_small || most > 0x100 {
+        most
+    } else {
+        0x101
+    }
 }
 
 /// Lets a token come to its instruction, at an element with these next numbers. After an error nothing has changed.

@@ -28,7 +28,7 @@ invariant_of-self-2 c =
     λ h. c.in_ok-short.ensures.state h ∙ ap (λ g. state_after g d.log.element (state_of d) m) graph in
     let same : s ≡ Apart → state_of c.take_plain.new.self ≡ state_of d = λ e. c.in_ok-short.ensures.apart (cc) in
     rw (c.in_ok-short.ensures.number, c.in_ok-short.ensures.graph)
-    (IsKept-short old c.args.token.now c.self.inside.went c.still_short-self-inside.result (state_of c.take_plain.new.self) is_for c.in_ok-short.ensures.left c.in_ok-short.ensures.last_left c.self.invariant.0 s comes after same c.still_short-self-inside.ensures.handled c.still_short-self-inside.ensures.apart, c.self.invariant.1)
+    (IsKept-short old c.args.token.now c.self.inside.went c.note_short.new.went (state_of c.take_plain.new.self) is_for c.in_ok-short.ensures.left c.in_ok-short.ensures.last_left c.self.invariant.0 s comes after same c.note_short.ensures.handled c.note_short.ensures.apart, c.self.invariant.1)
 
 pub returns-clause-fits : goal.returns-clause-fits
 returns-clause-fits c =
