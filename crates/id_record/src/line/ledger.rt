@@ -58,7 +58,8 @@ impl Model for Ledger {
 }
 
 impl Ledger {
-    ghost use Rattle.std.specs.Prelude.{◌≡◌, ◌<◌, ◌%◌, ◌^◌, ◌++◌, ◌∷◌, [], length, slice_get, IsFalse, IsTrue, OnOk, Some};
+    ghost use Rattle.std.specs.Prelude.{◌≡◌, ◌<◌, ◌%◌, ◌^◌, ◌++◌, ◌∷◌, [], length, slice_get};
+    ghost use Rattle.std.specs.Prelude.{IsFalse, IsTrue, OnOk, Some};
     ghost use Rattle.id_record.specs.declared.line.Kind.TheVariants.{Aside};
     ghost use Rattle.id_record.specs.Ledgers.{Follows, IsUnstamped};
     ghost use Rattle.id_record.specs.Lines.{index_of};
@@ -198,8 +199,8 @@ fn sent_at(position: u32) -> u32
     position % 0x8000_0000 + 1
 }
 
-/// Whether the stamps of a line at a position follow from where its event and the one that sent its message stand, which
-/// is `sent_from`.
+/// Whether the stamps of a line at a position follow from where its event stands, and from `sent_from`, where the one
+/// that sent its message does.
 #[inline(always)]
 fn follows(line: &Line, position: usize, sent_from: u32) -> bool
     requires { sent_from ≡ line.now.position % 2 ^ 31 }
