@@ -430,62 +430,8 @@ impl<'a> Desk<'a> {
 
     /// Fires the operands of which a plain token is one, sends what comes of them, and records the event. There is room
     /// for it. Takes no memory.
-    #[inline(always)]
-    fn conclude_plain(
-        &mut self,
-        instr: &Instr,
-        token: &PlainToken,
-        stamp: u32,
-        operands: PlainOperands,
-        outputs: &mut Queue,
-    ) -> Short
-        requires room { 0 < self.old.log.room }
-        requires room_aside { 0 < self.old.log.room_aside }
-        requires own { slice_get self.old.log.graph.instrs token.now.instr ≡ Some instr.now }
-        requires short { IsShort self.old (most_sent instr.now) token.now stamp }
-        requires room_in_outputs { most_sent instr.now ≤ outputs.old.room }
-        requires graph { IsGraph self.old.log.graph }
-        requires valid { IsValid self.old.log.graph }
-        requires counted { self.old.contexts + 1 < 2 ^ 64 }
-        requires numbered { self.old.structures + 1 < 2 ^ 64 }
-
-        ensures handled { IsHandled result }
-        ensures verdict { step_in result (tag_in token.now) ≡ full_step
-            (message_of token.now).payload (fired_verdict (fired_by self.old instr.now token.now operands)) }
-        ensures waiting { self.new.waiting ≡ self.old.waiting }
-        ensures cells { self.new.cells ≡ self.old.cells }
-        ensures stamp { self.new.stamp ≡ stamp }
-        ensures contexts { self.new.contexts
-            ≡ self.old.contexts + made_by (fired_by self.old instr.now token.now operands) }
-        ensures structures { self.new.structures
-            ≡ self.old.structures + allocated_by instr.now.op (fired_by self.old instr.now token.now operands) }
-        ensures number { self.new.log.element ≡ self.old.log.element }
-        ensures graph { self.new.log.graph ≡ self.old.log.graph }
-        ensures events { self.new.log.events ≡ self.old.log.events ++ record {
-          element = self.old.log.element;
-          stamp = stamp;
-          message = message_of token.now;
-          fired = fired_by self.old instr.now token.now operands;
-          outputs = numbered self.old.log.element (length self.old.log.events) stamp 0
-              (sent (Some instr.now.op) (arcs_on (side_of (fired_by self.old instr.now token.now operands)) instr.now)
-              (tag_in token.now) (fired_by self.old instr.now token.now operands));
-          step = full_step (message_of token.now).payload
-              (fired_verdict (fired_by self.old instr.now token.now operands));
-        } ∷ [] }
-        ensures outputs { outputs.new.messages ≡ outputs.old.messages
-            ++ numbered self.old.log.element (length self.old.log.events) stamp 0
-            (sent (Some instr.now.op) (arcs_on (side_of (fired_by self.old instr.now token.now operands)) instr.now)
-            (tag_in token.now) (fired_by self.old instr.now token.now operands)) }
-    {
-        // Copies, so that the caller's own can stand in registers.
-        let copy = *token;
-        let own = operands;
-        self.conclude_apart(instr, &copy, stamp, own, outputs)
-    }
-
-    /// The same out of line.
     #[inline(never)]
-    fn conclude_apart(
+    fn conclude_plain(
         &mut self,
         instr: &Instr,
         token: &PlainToken,

@@ -25,6 +25,8 @@ use Rattle.id_record.specs.declared.line.Effect.{Effect}
 use Rattle.id_record.specs.declared.line.Kind.TheVariants as kind
 use Rattle.id_record.specs.Events.{EventView, full_step, tag_of, value_of}
 use Rattle.id_record.specs.Sends.{numbered, replies, sent}
+use Rattle.id_record.specs.declared.line.shooting.NamedTag.{NamedTag}
+use Rattle.id_record.specs.Shootings.{IsHalved, tag_by}
 use Rattle.id_record.specs.Lines.{AreThere, Beside, HasNumbers, IsCelled, IsKept, IsPacked, IsPackedBeside, IsThere, IsWithin, Names, carried_value, cell_at, cell_in, context_of, element_at, high_half, index_of, instr_at, joined, low_half, no_replies, number_of, own, port_at, reaction_of, read, saying, structure_at, tag_at, target_in, told, unpacked}
 use Rattle.id_record.specs.Records.{event_of_handled, events_from, replies_in, sent_by, sent_for}
 use Rattle.std.specs.Int.{cast_signed, cast_unsigned, w32, w64}
@@ -362,6 +364,27 @@ pub low_half-joined : (h l : ℕ) → h < 2 ^ 32 → l < 2 ^ 32 → low_half (jo
 low_half-joined h l high low =
     let rest : (h * 2 ^ 32 + l) % 2 ^ 32 ≡ l = omega (arith, high, low) in
     ap (λ n. n % 2 ^ 32) (half-bits h l high low) ∙ rest
+
+-- two numbers of a line tell the tag whose iteration and serial number are the halves of the first
+pub named-tag : (n : NamedTag) (k s e i : ℕ) → k < 2 ^ 32 → s < 2 ^ 32 → n.numbers ≡ joined k s → element_at n.place ≡ e → instr_at n.place ≡ i
+    → tag_by n ≡ record { context = record { element = e; serial = s }; iteration = k; instr = i }
+named-tag n k s e i high low is element instr =
+    ap (λ m. tag_by (record { numbers = m; place = n.place })) is
+    ∙ ap (λ x. record { context = record { element = element_at n.place; serial = low_half (joined k s) }; iteration = x; instr = instr_at n.place })
+    (high_half-joined k s high low)
+    ∙ ap (λ x. record { context = record { element = element_at n.place; serial = x }; iteration = k; instr = instr_at n.place })
+    (low_half-joined k s high low)
+    ∙ ap (λ x. record { context = record { element = x; serial = s }; iteration = k; instr = instr_at n.place }) element
+    ∙ ap (λ x. record { context = record { element = e; serial = s }; iteration = k; instr = x }) instr
+
+pub named-halves : (n : NamedTag) (k s : ℕ) → k < 2 ^ 32 → s < 2 ^ 32 → n.numbers ≡ joined k s → IsHalved n
+named-halves n k s high low is =
+    let first : high_half n.numbers ≡ k = ap high_half is ∙ high_half-joined k s high low in
+    let second : low_half n.numbers ≡ s = ap low_half is ∙ low_half-joined k s high low in
+    record {
+      numbers = is ∙ ap (λ x. joined x s) (sym first) ∙ ap (λ x. joined (high_half n.numbers) x) (sym second);
+      iteration = subst (λ x. x < 2 ^ 32) (sym first) high;
+    }
 
 -- the halves of a number that is made of two of 32 bits with signs
 module _ (j m n : ℤ) (high low : ℕ) (room : SFits w64 j) (has_m : SFits w32 m) (has_n : SFits w32 n) (is : j ≡ joined high low)

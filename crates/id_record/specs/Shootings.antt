@@ -1,5 +1,5 @@
 -- What the record keeps of a token with a plain value.
-use Rattle.std.specs.Prelude.{◌<◌, ◌-◌, ◌^◌}
+use Rattle.std.specs.Prelude.{◌≡◌, ◌<◌, ◌-◌, ◌^◌}
 use Rattle.id_tag.specs.Plains.{message_of, tag_in}
 use Rattle.id_tag.specs.declared.plain.Plain.{Plain}
 use Rattle.id_tag.specs.declared.plain.Plain.TheVariants.{Continuation}
@@ -10,7 +10,9 @@ use Rattle.id_record.specs.declared.step.Verdict.TheVariants.{Went}
 use Rattle.id_record.specs.declared.line.Handled.{Handled}
 use Rattle.id_record.specs.declared.line.near.Doing.{Doing}
 use Rattle.id_record.specs.declared.line.shooting.Shooting.{Shooting}
-use Rattle.id_record.specs.Lines.{no_replies}
+use Rattle.id_tag.specs.declared.Tag.{Tag}
+use Rattle.id_record.specs.declared.line.shooting.NamedTag.{NamedTag}
+use Rattle.id_record.specs.Lines.{element_at, high_half, instr_at, joined, low_half, no_replies}
 
 -- what the record keeps of it: what was shot is fired, and all went well
 abbrev pub shooting : Shooting → Handled
@@ -42,3 +44,16 @@ pub record HasLine (t : PlainToken) : Type 0 where
   pub sender : t.sender < 255
   pub iteration : t.iteration < 2 ^ 32 - 1
   pub value : IsNarrow t.value
+
+-- the tag that two numbers of a line tell
+abbrev pub tag_by : NamedTag → Tag
+tag_by n = record {
+  context = record { element = element_at n.place; serial = low_half n.numbers };
+  iteration = high_half n.numbers;
+  instr = instr_at n.place;
+}
+
+-- the first of the two has halves, which are the tag's iteration and serial number
+pub record IsHalved (n : NamedTag) : Type 0 where
+  pub numbers : n.numbers ≡ joined (high_half n.numbers) (low_half n.numbers)
+  pub iteration : high_half n.numbers < 2 ^ 32

@@ -11,7 +11,7 @@ ghost use Rattle.id_record.specs.declared.step.Verdict.TheVariants.{Went};
 ghost use Rattle.id_record.specs.Lines.{HasNumbers, IsPacked, NamedBy, Names, carried_value, element_at, fired_at};
 ghost use Rattle.id_record.specs.Lines.{instr_at, joined, message_at, number_of, number_out, own, port_at};
 ghost use Rattle.id_record.specs.Lines.{reaction_of, tag_at};
-ghost use Rattle.id_record.specs.Shootings.{HasLine, IsNarrow, shooting};
+ghost use Rattle.id_record.specs.Shootings.{HasLine, IsHalved, IsNarrow, shooting, tag_by};
 
 use super::numbers::{joined, place, position_at};
 use super::reading::went;
@@ -122,87 +122,116 @@ fn carried(value: Plain) -> Carried
     }
 }
 
+/// The tag that an event names beside that of its message, as a line has it: the iteration and the serial number of the
+/// context in one, and the element with the instruction.
+#[derive(Clone, Copy)]
+struct NamedTag {
+    numbers: i64,
+    place: u32,
+}
+
 /// The tag that the event names beside that of its message: where the value was sent, which iteration it moved to, or
 /// what a value that waits names; it has the numbers of a structure that moves, goes out or waits, or of an address
 /// that waits.
 #[inline(always)]
-fn named(shot: Shot, token: &PlainToken) -> Target
+fn named(shot: Shot, token: &PlainToken) -> NamedTag
     requires fits { HasLine token.now }
     requires brief { IsBrief token.now.iteration shot }
-    ensures names { Names (fired_of shot) (whole token.now.value) (target_tag result) }
-    ensures small { result.instr < 2 ^ 24 }
+    ensures names { Names (fired_of shot) (whole token.now.value) (tag_by result) }
+    ensures halved { IsHalved result }
 {
     match shot {
         Shot::Nothing => named_by(token.value),
         Shot::Out(sent) => numbered_by(sent),
         Shot::Side(_, sent) => numbered_by(sent),
         Shot::Moved(iteration, sent) => moved_by(iteration as u32, sent),
-        Shot::Sent(target, _) => target,
+        Shot::Sent(target, _) => named_at(target),
+    }
+}
+
+/// The tag, where its instruction has a number of 24 bits.
+#[inline(always)]
+fn named_at(target: Target) -> NamedTag
+    requires { target.instr < 2 ^ 24 }
+    ensures tag { tag_by result ≡ target_tag target }
+    ensures halved { IsHalved result }
+{
+    NamedTag {
+        numbers: joined(u64::from(target.iteration), u64::from(target.serial)),
+        place: place(u32::from(target.element), target.instr),
     }
 }
 
 /// A tag of this iteration, with the numbers of the structure that the value is, if it is one.
 #[inline(always)]
-fn moved_by(iteration: u32, value: Plain) -> Target
-    ensures iteration { result.iteration ≡ iteration }
-    ensures numbers { HasNumbers (whole value) (target_tag result) }
-    ensures small { result.instr < 2 ^ 24 }
+fn moved_by(iteration: u32, value: Plain) -> NamedTag
+    ensures iteration { (tag_by result).iteration ≡ iteration }
+    ensures numbers { HasNumbers (whole value) (tag_by result) }
+    ensures halved { IsHalved result }
 {
-    Target {
-        iteration,
-        ..numbered_by(value)
+    match value {
+        Plain::Structure(name, _, _) => named_at(Target {
+            serial: serial_of(name),
+            iteration,
+            instr: 0,
+            element: element_of(name),
+        }),
+        _ => named_at(Target {
+            serial: 0,
+            iteration,
+            instr: 0,
+            element: 0,
+        }),
     }
 }
 
 /// A tag with the numbers of the structure that the value is, or else any.
 #[inline(always)]
-fn numbered_by(value: Plain) -> Target
-    ensures numbers { HasNumbers (whole value) (target_tag result) }
-    ensures small { result.instr < 2 ^ 24 }
+fn numbered_by(value: Plain) -> NamedTag
+    ensures numbers { HasNumbers (whole value) (tag_by result) }
+    ensures halved { IsHalved result }
 {
     match value {
-        Plain::Structure(name, _, _) => Target {
+        Plain::Structure(name, _, _) => named_at(Target {
             serial: serial_of(name),
             iteration: 0,
             instr: 0,
             element: element_of(name),
-        },
+        }),
         _ => NOWHERE,
     }
 }
 
 /// The tag that a value names, or one with the numbers of the structure or the address that it is, or else any.
 #[inline(always)]
-fn named_by(value: Plain) -> Target
+fn named_by(value: Plain) -> NamedTag
     requires { IsNarrow value }
-    ensures named { NamedBy (whole value) (target_tag result) }
-    ensures small { result.instr < 2 ^ 24 }
+    ensures named { NamedBy (whole value) (tag_by result) }
+    ensures halved { IsHalved result }
 {
     match value {
-        Plain::Continuation(name, iteration, instr) => Target {
+        Plain::Continuation(name, iteration, instr) => named_at(Target {
             serial: serial_of(name),
             iteration,
             instr,
             element: element_of(name),
-        },
+        }),
         Plain::Address(name, place) => {
             let cell = PlainCell { name, place };
-            Target {
+            named_at(Target {
                 serial: cell.serial(),
                 iteration: cell.index().cast_unsigned(),
                 instr: 0,
                 element: cell.element(),
-            }
+            })
         }
         _ => numbered_by(value),
     }
 }
 
-const NOWHERE: Target = Target {
-    serial: 0,
-    iteration: 0,
-    instr: 0,
-    element: 0,
+const NOWHERE: NamedTag = NamedTag {
+    numbers: 0,
+    place: 0,
 };
 
 /// The effect of a shot of words and structures, which sends no value on but the token's own.
@@ -258,46 +287,40 @@ fn own_at(exit: Exit) -> Effect
 
 /// The number that went out, or else the iteration and the serial number of the tag that the event names.
 #[inline(always)]
-fn number(shot: Shot, named: &Target) -> i64
-    ensures { result ≡ number_of (fired_of shot) (target_tag named.now) }
+fn number(shot: Shot, named: NamedTag) -> i64
+    requires { IsHalved named }
+    ensures { result ≡ number_of (fired_of shot) (tag_by named) }
 {
     match shot {
         Shot::Out(sent) | Shot::Side(_, sent) => number_out(sent, named),
-        Shot::Nothing | Shot::Moved(_, _) | Shot::Sent(_, _) => numbers_of(named),
+        Shot::Nothing | Shot::Moved(_, _) | Shot::Sent(_, _) => named.numbers,
     }
 }
 
 /// The number that a plain value is, or for a structure the iteration and the serial number of the tag, or else 0.
 #[inline(always)]
-fn number_out(sent: Plain, named: &Target) -> i64
-    ensures { result ≡ number_out (whole sent) (target_tag named.now) }
+fn number_out(sent: Plain, named: NamedTag) -> i64
+    requires { IsHalved named }
+    ensures { result ≡ number_out (whole sent) (tag_by named) }
 {
     match sent {
         Plain::Int(number) => number,
-        Plain::Structure(_, _, _) => numbers_of(named),
+        Plain::Structure(_, _, _) => named.numbers,
         _ => 0,
     }
 }
 
-/// The iteration and the serial number of a tag, in one.
-#[inline(always)]
-fn numbers_of(named: &Target) -> i64
-    ensures { result ≡ joined named.now.iteration named.now.serial }
-{
-    joined(u64::from(named.iteration), u64::from(named.serial))
-}
-
 /// The event in a line with this value, this effect and this tag beside that of its message.
 #[inline(always)]
-fn narrowed(event: &Shooting<'_>, carried: Carried, effect: Effect, named: Target) -> Line
+fn narrowed(event: &Shooting<'_>, carried: Carried, effect: Effect, named: NamedTag) -> Line
     requires fits { HasLine event.now.token.now }
-    requires small { named.instr < 2 ^ 24 }
+    requires halved { IsHalved named }
     ensures kind { result.kind ≡ carried.kind }
     ensures value { result.value ≡ carried.value }
     ensures effect { result.effect ≡ effect }
-    ensures number { result.result ≡ number_of (fired_of event.now.shot) (target_tag named) }
-    ensures to_element { element_at result.to ≡ named.element }
-    ensures to_instr { instr_at result.to ≡ named.instr }
+    ensures number { result.result ≡ number_of (fired_of event.now.shot) (tag_by named) }
+    ensures to_element { element_at result.to ≡ (tag_by named).context.element }
+    ensures to_instr { instr_at result.to ≡ (tag_by named).instr }
     ensures message { (own result (whole event.now.token.now.value)).message ≡ message_of event.now.token.now }
     ensures sent_from { result.position % 2 ^ 31 ≡ event.now.token.now.position }
     ensures stamp { result.stamp ≡ event.now.stamp }
@@ -309,8 +332,8 @@ fn narrowed(event: &Shooting<'_>, carried: Carried, effect: Effect, named: Targe
             kind: carried.kind,
             effect,
             value: carried.value,
-            result: number(event.shot, &named),
-            to: place(u32::from(named.element), named.instr),
+            result: number(event.shot, named),
+            to: named.place,
         },
     )
 }

@@ -6,9 +6,9 @@ use Rattle.id_tag.specs.declared.plain.Plain.TheVariants.{Signal, Int, Bool, Con
 use Rattle.id_tag.specs.Plains.{is_carried, is_word, whole}
 use Rattle.id_ops.specs.declared.shot.Shot.{Shot}
 use Rattle.id_ops.specs.declared.shot.Shot.TheVariants.{Nothing, Out, Side, Moved, Sent}
-use Rattle.id_ops.specs.Shots.{IsBrief, IsOwn, SendsOwn, fired_of, target_tag}
+use Rattle.id_ops.specs.Shots.{IsBrief, IsOwn, SendsOwn, fired_of}
 use Rattle.id_record.specs.Lines.{HasNumbers, NamedBy, Names}
-use Rattle.id_record.specs.Shootings.{shooting}
+use Rattle.id_record.specs.Shootings.{shooting, tag_by}
 use Rattle.id_record.proofs.LinesLemmas.{packed-narrowed}
 use Rattle.id_record.proofs.line.shooting.shot_line.Goals as goal
 
@@ -50,8 +50,8 @@ returns-clause-packed c =
     let is = c.narrowed.ensures in
     let e = c.args.event.now in
     let value = e.token.now.value in
-    let tag = target_tag c.named.result in
-    let small : tag.iteration < 2 ^ 32 = omega arith in
+    let tag = tag_by c.named.result in
+    let small : tag.iteration < 2 ^ 32 = c.named.ensures.halved.iteration in
     let serial : tag.context.serial < 2 ^ 32 = omega arith in
     packed-narrowed (shooting e) (whole value) c.carried.result.kind c.carried.result.value c.shot_effect.result tag (Some c.narrowed.result) refl
     c.named.ensures.names (λ u n. c.carried.ensures u (named e.shot e.token.now.iteration value u c.requires.own c.requires.brief n)) (λ t n. c.shot_effect.ensures t n)
