@@ -1,5 +1,5 @@
 -- Lemmas on specs/Ledgers.antt: what is kept of lines gives them back.
-use Rattle.std.proofs.Common.{◌≡◌, ℕ, zero, suc, ◌+◌, ◌<◌, List, [], ◌∷◌, ◌++◌, Some, get_or, length, refl, sym, ap, ◌∙◌, arith}
+use Rattle.std.proofs.Common.{◌≡◌, ℕ, zero, suc, ◌+◌, ◌%◌, ◌^◌, ◌<◌, List, [], ◌∷◌, ◌++◌, Some, get_or, length, refl, sym, ap, ◌∙◌, arith}
 use Rattle.std.specs.Prelude.{Bool, IsFalse, IsTrue, true, false, slice_get}
 use Rattle.id_tag.specs.declared.Value.TheVariants as value
 use Rattle.id_record.specs.declared.line.Line.{Line}
@@ -8,13 +8,26 @@ use Rattle.id_record.specs.declared.line.Kind.TheVariants as kind
 use Rattle.id_record.specs.Lines.{Beside, IsThere, IsWithin, index_of, own, read, unpacked}
 use Rattle.id_record.specs.declared.line.ledger.Bare.{Bare}
 use Rattle.id_record.specs.declared.line.ledger.Stamps.{Stamps}
-use Rattle.id_record.specs.Ledgers.{AreBeside, Follows, bare_of, following, lines_in, sent_at, stamped, stamps_at, stamps_of, with_stamps}
+use Rattle.id_record.specs.Ledgers.{AreBeside, Follows, bare_of, following, lines_in, sent_at, stamp_at, stamped, stamps_at, stamps_of, with_stamps}
 
 -- the stamps of a line that follow are those that follow for it
 pub follows-stamps : (i : ℕ) (l : Line) → Follows i l → with_stamps (bare_of l) (stamps_at i (bare_of l)) ≡ l
 follows-stamps i l f =
     ap (λ s. with_stamps (bare_of l) (record { sent = sent_at l.position; stamp = s })) (sym f.0)
     ∙ ap (λ s. with_stamps (bare_of l) (record { sent = s; stamp = l.stamp })) (sym f.1)
+
+-- the stamps of a line follow where these do, which are its own
+module _ (i k : ℕ) (l : Line) (s : Stamps) (p : ℕ) (at : i ≡ k) (own : s ≡ stamps_of l) (from : p ≡ l.position % 2 ^ 31) where
+  same : sent_at p ≡ sent_at l.position
+  same = omega (arith, from)
+
+  pub follows-from : (s.stamp ≡ stamp_at i) × (s.sent ≡ sent_at p) → Follows k l
+  follows-from goes =
+      (ap (λ x. x.stamp) (sym own) ∙ goes.0 ∙ ap stamp_at at, ap (λ x. x.sent) (sym own) ∙ goes.1 ∙ same)
+
+  pub from-follows : Follows k l → (s.stamp ≡ stamp_at i) × (s.sent ≡ sent_at p)
+  from-follows follows =
+      (ap (λ x. x.stamp) own ∙ follows.0 ∙ ap stamp_at (sym at), ap (λ x. x.sent) own ∙ follows.1 ∙ sym same)
 
 -- as many lines
 pub length-following : (i : ℕ) (bs : List Bare) → length (following i bs) ≡ length bs

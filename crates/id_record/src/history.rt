@@ -10,9 +10,9 @@ ghost use Rattle.id_graph.specs.Graph.{IsGraph};
 
 use crate::line::{
     Doing, Handled, Handling, Ledger, NO_REPLIES, Reaction, Replies, Shooting, Visiting,
-    deed_beside, deed_line, packed, packed_beside, shot, shot_line, visit_beside, visited, whole,
+    deed_beside, deed_line, packed, packed_beside, shot, visit_beside, visited, whole,
 };
-use crate::margin::{Margin, add_beside, add_line};
+use crate::margin::{Margin, add_beside, add_line, add_shot};
 use crate::outputs::{Envelope, Outputs, chosen};
 use crate::step::{Fault, Step, Verdict};
 use crate::telling::is_telling;
@@ -161,13 +161,7 @@ impl<'a> Record<'a> {
         match packed(&event) {
             Some(line) => {
                 let tells = is_telling(&event.message.payload, &event.reaction.fired);
-                if !add_line(
-                    &mut self.lines,
-                    &mut self.margin,
-                    line,
-                    line.sent_from(),
-                    tells,
-                ) {
+                if !add_line(&mut self.lines, &mut self.margin, line, tells) {
                     self.push_whole(event);
                 }
             }
@@ -242,15 +236,10 @@ impl<'a> Record<'a> {
             ++ event_of_handled self.old.graph self.old.element self.old.replies (length self.old.events)
             (shooting event.entry) ∷ [] }
     {
-        let line = shot_line(&event);
-        if !add_line(
-            &mut self.lines,
-            &mut self.margin,
-            line,
-            event.token.position,
-            event.token.instr == 0,
-        ) {
-            self.push_shot_aside(event);
+        let tells = event.token.instr == 0;
+        match add_shot(&mut self.lines, &mut self.margin, &event, tells) {
+            Some(_line) => {}
+            None => self.push_shot_aside(event),
         }
     }
 
@@ -286,7 +275,6 @@ impl<'a> Record<'a> {
                     &mut self.lines,
                     &mut self.margin,
                     line,
-                    line.sent_from(),
                     event.token.instr == 0,
                 ) {
                     self.push_deed_aside(event);

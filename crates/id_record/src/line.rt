@@ -110,18 +110,6 @@ pub(crate) struct Line {
 
 const _: () = prove!(size_of::<Line>() == 48);
 
-impl Line {
-    ghost use Rattle.std.specs.Prelude.{◌≡◌, ◌%◌, ◌^◌};
-
-    /// The position of the event that sent its message.
-    #[inline(always)]
-    pub(crate) fn sent_from(&self) -> u32
-        ensures { result ≡ self.now.position % 2 ^ 31 }
-    {
-        self.position % 0x8000_0000
-    }
-}
-
 /// The value that a message carries, as a line keeps it.
 #[derive(Clone, Copy)]
 struct Carried {

@@ -1,12 +1,16 @@
 //! What stands beside the lines of a record: whole events, the cells that lines name, and the positions of the events
 //! that tell.
 
-ghost use Rattle.std.specs.Prelude.{◌≡◌, ◌<◌, ◌≤◌, ◌+◌, ◌%◌, ◌^◌, ◌++◌, ◌∷◌, [], length, vec_len, vec_capacity};
-ghost use Rattle.std.specs.Prelude.{IsFalse, IsTrue};
-ghost use Rattle.id_record.specs.Lines.{beside};
+ghost use Rattle.std.specs.Prelude.{◌≡◌, ◌<◌, ◌≤◌, ◌+◌, ◌++◌, ◌∷◌, [], length, vec_len, vec_capacity, IsFalse, IsTrue};
+ghost use Rattle.std.specs.Prelude.{IfSome, None};
+ghost use Rattle.id_ops.specs.Shots.{IsBrief, IsOwn};
+ghost use Rattle.id_record.specs.Lines.{IsPacked, beside};
+ghost use Rattle.id_record.specs.Shootings.{HasLine, shooting};
 ghost use Rattle.id_record.specs.Tellings.{told_at};
 
-use crate::line::{Celled, Handled, Ledger, Line, Spot, instr_in, payload_in, spot_of, unpack};
+use crate::line::{
+    Celled, Handled, Ledger, Line, Shooting, Spot, instr_in, payload_in, spot_of, unpack,
+};
 use id_tag::Payload;
 use std::alloc::{AllocError, Global};
 use std::marker::Model;
@@ -180,17 +184,10 @@ impl Margin {
     }
 }
 
-/// Adds a line at the end, whose message the event at `sent_from` sent, and its position to those of the events that
-/// tell, where its event does; answers whether it did. Takes no memory.
+/// Adds a line at the end, and its position to those of the events that tell, where its event does; answers whether it
+/// did. Takes no memory.
 #[inline(always)]
-pub(crate) fn add_line(
-    lines: &mut Ledger,
-    margin: &mut Margin,
-    line: Line,
-    sent_from: u32,
-    tells: bool,
-) -> bool
-    requires sent_from { sent_from ≡ line.position % 2 ^ 31 }
+pub(crate) fn add_line(lines: &mut Ledger, margin: &mut Margin, line: Line, tells: bool) -> bool
     requires room { 0 < lines.old.room }
     requires room_beside { 0 < margin.old.room }
     ensures line { IsTrue result → lines.new.items ≡ lines.old.items ++ line ∷ [] }
@@ -201,11 +198,42 @@ pub(crate) fn add_line(
     ensures left_beside { IsFalse result → margin.new ≡ margin.old }
 {
     let position = lines.len();
-    if lines.push(line, sent_from) {
+    if lines.push(line) {
         margin.push_telling(position, tells);
         true
     } else {
         false
+    }
+}
+
+/// The same with the line of the event of a plain token, and answers that.
+#[inline(always)]
+pub(crate) fn add_shot(
+    lines: &mut Ledger,
+    margin: &mut Margin,
+    event: &Shooting<'_>,
+    tells: bool,
+) -> Option<Line>
+    requires room { 0 < lines.old.room }
+    requires room_beside { 0 < margin.old.room }
+    requires fits { HasLine event.now.token.now }
+    requires own { IsOwn event.now.shot event.now.token.now.value }
+    requires brief { IsBrief event.now.token.now.iteration event.now.shot }
+    ensures packed { IfSome result (IsPacked (shooting event.now)) }
+    ensures line { IfSome result (λ l. lines.new.items ≡ lines.old.items ++ l ∷ []) }
+    ensures beside { margin.new.beside ≡ margin.old.beside }
+    ensures telling { IfSome result (λ _.
+        margin.new.telling ≡ margin.old.telling ++ told_at tells (length lines.old.items)) }
+    ensures left { result ≡ None → lines.new ≡ lines.old }
+    ensures left_beside { result ≡ None → margin.new ≡ margin.old }
+{
+    let position = lines.len();
+    match lines.push_shot(event) {
+        Some(line) => {
+            margin.push_telling(position, tells);
+            Some(line)
+        }
+        None => None,
     }
 }
 
@@ -230,7 +258,7 @@ pub(crate) fn add_beside(
     match spot_of(celled.cell) {
         Some(spot) => {
             let position = lines.len();
-            if lines.push(celled.line, celled.line.sent_from()) {
+            if lines.push(celled.line) {
                 margin.push_cell(spot, position, tells);
                 true
             } else {

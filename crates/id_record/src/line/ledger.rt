@@ -4,7 +4,7 @@
 ghost use Rattle.std.specs.Prelude.{◌≡◌, ◌<◌, ◌%◌, ◌^◌, ◌++◌, ◌∷◌, [], ◌↔◌, vec_capacity, vec_len, IsFalse, IsTrue};
 ghost use Rattle.id_record.specs.Ledgers.{Follows, bare_of, sent_at, stamp_at, stamps_at, stamps_of, with_stamps};
 
-use super::{Effect, Kind, Line, line_aside};
+use super::{Effect, Kind, Line, Shooting, line_aside, shot_line};
 use std::alloc::{AllocError, Global};
 use std::marker::Model;
 
@@ -59,7 +59,10 @@ impl Model for Ledger {
 
 impl Ledger {
     ghost use Rattle.std.specs.Prelude.{◌≡◌, ◌<◌, ◌%◌, ◌^◌, ◌++◌, ◌∷◌, [], length, slice_get};
-    ghost use Rattle.std.specs.Prelude.{IsFalse, IsTrue, OnOk, Some};
+    ghost use Rattle.std.specs.Prelude.{IfSome, IsFalse, IsTrue, None, OnOk, Some};
+    ghost use Rattle.id_ops.specs.Shots.{IsBrief, IsOwn};
+    ghost use Rattle.id_record.specs.Lines.{IsPacked};
+    ghost use Rattle.id_record.specs.Shootings.{HasLine, shooting};
     ghost use Rattle.id_record.specs.declared.line.Kind.TheVariants.{Aside};
     ghost use Rattle.id_record.specs.Ledgers.{Follows, IsUnstamped};
     ghost use Rattle.id_record.specs.Lines.{index_of};
@@ -96,12 +99,11 @@ impl Ledger {
         Ok(())
     }
 
-    /// Adds a line at the end, and answers whether it did: among lines without stamps only one whose stamps follow. The
-    /// event that sent its message stands at `sent_from`. Takes no memory.
+    /// Adds a line at the end, and answers whether it did: among lines without stamps only one whose stamps follow.
+    /// Takes no memory.
     #[inline(always)]
-    pub(crate) fn push(&mut self, line: Line, sent_from: u32) -> bool
-        requires room { 0 < self.old.room }
-        requires sent_from { sent_from ≡ line.position % 2 ^ 31 }
+    pub(crate) fn push(&mut self, line: Line) -> bool
+        requires { 0 < self.old.room }
         ensures added { IsTrue result → self.new.items ≡ self.old.items ++ line ∷ [] }
         ensures left { IsFalse result → self.new ≡ self.old }
         ensures follows { Follows (length self.old.items) line → IsTrue result }
@@ -110,13 +112,44 @@ impl Ledger {
             self.alone,
             self.bares.len(),
             &mut self.stamps,
-            &line,
-            sent_from,
+            stamps_of(&line),
+            sent_from(line.position),
         ) {
             self.bares.push_reserved(bare_of(&line));
             true
         } else {
             false
+        }
+    }
+
+    /// Adds the line of the event of a plain token at the end, and answers it: among lines without stamps only where
+    /// those of the event follow. They are looked at before anything of the line is put together. Takes no memory.
+    #[inline(always)]
+    pub(crate) fn push_shot(&mut self, event: &Shooting<'_>) -> Option<Line>
+        requires room { 0 < self.old.room }
+        requires fits { HasLine event.now.token.now }
+        requires own { IsOwn event.now.shot event.now.token.now.value }
+        requires brief { IsBrief event.now.token.now.iteration event.now.shot }
+        ensures packed { IfSome result (IsPacked (shooting event.now)) }
+        ensures added { IfSome result (λ l. self.new.items ≡ self.old.items ++ l ∷ []) }
+        ensures left { result ≡ None → self.new ≡ self.old }
+    {
+        let stamps = Stamps {
+            sent: event.token.stamp,
+            stamp: event.stamp,
+        };
+        if add_stamps(
+            self.alone,
+            self.bares.len(),
+            &mut self.stamps,
+            stamps,
+            event.token.position,
+        ) {
+            let made = shot_line(event);
+            self.bares.push_reserved(bare_of(&made));
+            Some(made)
+        } else {
+            None
         }
     }
 
@@ -128,7 +161,7 @@ impl Ledger {
         ensures index { index_of result.value ≡ index }
     {
         let line = line_aside(index, stamp_at(self.len()));
-        let _added = self.push(line, 0);
+        let _added = self.push(line);
         line
     }
 
@@ -163,20 +196,20 @@ fn add_stamps(
     alone: bool,
     position: usize,
     stamps: &mut Vec<Stamps>,
-    line: &Line,
+    own: Stamps,
     sent_from: u32,
 ) -> bool
-    requires sent_from { sent_from ≡ line.now.position % 2 ^ 31 }
+    requires sent_from { sent_from < 2 ^ 31 }
     requires room { IsFalse alone → vec_len stamps.old < vec_capacity stamps.old }
-    ensures goes { IsTrue alone → IsTrue result ↔ Follows position line.now }
+    ensures goes { IsTrue alone → IsTrue result ↔ (own.stamp ≡ stamp_at position) × (own.sent ≡ sent_at sent_from) }
     ensures same { IsTrue alone → stamps.new ≡ stamps.old }
     ensures always { IsFalse alone → IsTrue result }
-    ensures added { IsFalse alone → stamps.new.items ≡ stamps.old.items ++ stamps_of line.now ∷ [] }
+    ensures added { IsFalse alone → stamps.new.items ≡ stamps.old.items ++ own ∷ [] }
 {
     if alone {
-        follows(line, position, sent_from)
+        (own.stamp == stamp_at(position)) & (own.sent == sent_from + 1)
     } else {
-        stamps.push_reserved(stamps_of(line));
+        stamps.push_reserved(own);
         true
     }
 }
@@ -196,17 +229,15 @@ fn stamp_at(position: usize) -> u32
 fn sent_at(position: u32) -> u32
     ensures { result ≡ sent_at position }
 {
-    position % 0x8000_0000 + 1
+    sent_from(position) + 1
 }
 
-/// Whether the stamps of a line at a position follow from where its event stands, and from `sent_from`, where the one
-/// that sent its message does.
+/// The position of the event that sent a line's message, without the port.
 #[inline(always)]
-fn follows(line: &Line, position: usize, sent_from: u32) -> bool
-    requires { sent_from ≡ line.now.position % 2 ^ 31 }
-    ensures { IsTrue result ↔ Follows position line.now }
+fn sent_from(position: u32) -> u32
+    ensures { result ≡ position % 2 ^ 31 }
 {
-    (line.stamp == stamp_at(position)) & (line.sent == sent_from + 1)
+    position % 0x8000_0000
 }
 
 /// The stamps that follow for a line at a position.

@@ -62,7 +62,9 @@ pub(crate) fn shot_line(event: &Shooting<'_>) -> Line
     requires own { IsOwn event.now.shot event.now.token.now.value }
     requires brief { IsBrief event.now.token.now.iteration event.now.shot }
     ensures packed { IsPacked (shooting event.now) result }
+    ensures sent { result.sent ≡ event.now.token.now.stamp }
     ensures sent_from { result.position % 2 ^ 31 ≡ event.now.token.now.position }
+    ensures stamp { result.stamp ≡ event.now.stamp }
 {
     narrowed(
         event,
@@ -322,6 +324,7 @@ fn narrowed(event: &Shooting<'_>, carried: Carried, effect: Effect, named: Named
     ensures to_element { element_at result.to ≡ (tag_by named).context.element }
     ensures to_instr { instr_at result.to ≡ (tag_by named).instr }
     ensures message { (own result (whole event.now.token.now.value)).message ≡ message_of event.now.token.now }
+    ensures sent { result.sent ≡ event.now.token.now.stamp }
     ensures sent_from { result.position % 2 ^ 31 ≡ event.now.token.now.position }
     ensures stamp { result.stamp ≡ event.now.stamp }
 {
@@ -349,6 +352,7 @@ pub(super) fn token_line(token: &PlainToken, stamp: u32, written: Written) -> Li
     ensures to { result.to ≡ written.to }
     ensures tag { tag_at result ≡ tag_in token.now }
     ensures port { port_at (result.position / 2 ^ 31) ≡ token.now.port }
+    ensures sent { result.sent ≡ token.now.stamp }
     ensures sent_from { result.position % 2 ^ 31 ≡ token.now.position }
     ensures message { (x : Payload) → message_at result x ≡ record (message_of token.now) { payload = x } }
     ensures stamp { result.stamp ≡ stamp }

@@ -5,19 +5,19 @@ use Rattle.id_record.proofs.LinesLemmas.{pushed_line, kept_line}
 use Rattle.id_record.proofs.TellingsLemmas.{AreKept-push, tells-shooting}
 use Rattle.id_record.proofs.history.Record.push_shot.Goals as goal
 
-pub invariant_of-self-else-not-add_line : goal.invariant_of-self-else-not-add_line
-invariant_of-self-else-not-add_line c =
+pub invariant_of-self : goal.invariant_of-self
+invariant_of-self c =
     let r = c.self.inside in
     let b = r.margin.beside in
     let h = shooting c.args.event in
-    rw (c.if-not-add_line.ensures.line refl, c.if-not-add_line.ensures.beside)
+    rw (c.in-Some.ensures.line, c.in-Some.ensures.beside)
     (AreKept-push r.graph.now r.element r.replies.items b b r.lines.items _ r.margin.telling _ h _ _ c.self.invariant
-    (kept_line b r.replies.items r.lines.items h c.shot_line-line.result c.shot_line-line.ensures.packed (omega arith) c.self.invariant.lines)
-    (pushed_line r.graph.now r.element r.replies.items b r.lines.items h c.shot_line-line.result c.shot_line-line.ensures.packed c.self.invariant.lines)
-    (tells-shooting c.args.event c.requires.own) refl (c.if-not-add_line.ensures.telling refl))
+    (kept_line b r.replies.items r.lines.items h c.in-Some._line c.in-Some.ensures.packed (omega arith) c.self.invariant.lines)
+    (pushed_line r.graph.now r.element r.replies.items b r.lines.items h c.in-Some._line c.in-Some.ensures.packed c.self.invariant.lines)
+    (tells-shooting c.args.event c.requires.own) refl (c.in-Some.ensures.telling))
 
-pub returns-else-not-add_line-clause-events : goal.returns-else-not-add_line-clause-events
-returns-else-not-add_line-clause-events c =
+pub returns-in-Some-clause-events : goal.returns-in-Some-clause-events
+returns-in-Some-clause-events c =
     let r = c.self.inside in
-    rw (← ap (λ v. v.events) c.self.view_is, ← ap (λ v. v.graph) c.self.view_is, ← ap (λ v. v.element) c.self.view_is, c.if-not-add_line.ensures.line refl, c.if-not-add_line.ensures.beside)
-    (pushed_line r.graph.now r.element r.replies.items r.margin.beside r.lines.items (shooting c.args.event) c.shot_line-line.result c.shot_line-line.ensures.packed c.self.invariant.lines)
+    rw (← ap (λ v. v.events) c.self.view_is, ← ap (λ v. v.graph) c.self.view_is, ← ap (λ v. v.element) c.self.view_is, c.in-Some.ensures.line, c.in-Some.ensures.beside)
+    (pushed_line r.graph.now r.element r.replies.items r.margin.beside r.lines.items (shooting c.args.event) c.in-Some._line c.in-Some.ensures.packed c.self.invariant.lines)

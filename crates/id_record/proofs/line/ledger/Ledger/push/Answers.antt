@@ -1,9 +1,8 @@
 -- A line goes behind the others, of an element that is alone where its stamps follow.
-use Rattle.std.proofs.Common.{◌≡◌, Bool, true, false, length, refl, subst, sym, ap, ◌∙◌, arith}
+use Rattle.std.proofs.Common.{◌≡◌, ◌++◌, ◌∷◌, [], Bool, true, false, length, refl, sym, ap, ◌∙◌, arith}
 use Rattle.std.specs.Prelude.{IsFalse, IsTrue}
 use Rattle.std.proofs.lemmas.Grind.{common_steps}
-use Rattle.id_record.specs.Ledgers.{Follows}
-use Rattle.id_record.proofs.LedgersLemmas.{length-lines_in, pushed-lines}
+use Rattle.id_record.proofs.LedgersLemmas.{follows-from, from-follows, length-lines_in, pushed-lines}
 use Rattle.id_record.proofs.line.ledger.Ledger.push.Goals as goal
 
 either : (X : Type 0) (a : Bool) → (IsTrue a → X) → (IsFalse a → X) → X
@@ -17,9 +16,10 @@ returns-then-add_stamps-clause-added c _ =
     rw (← ap (λ v. v.items) c.self.view_is, c.push_reserved.ensures.items, c.bare_of.ensures)
     (
     pushed-lines l.alone l.bares.items l.stamps.items _ c.args.line c.self.invariant
-    (λ a. subst (λ k. Follows k c.args.line) at ((c.if-add_stamps.ensures.goes a).0 refl))
+    (λ a. follows-from c.len.result _ c.args.line c.stamps_of.result c.sent_from.result at c.stamps_of.ensures c.sent_from.ensures
+    ((c.if-add_stamps.ensures.goes a).0 refl))
     (λ a. ap (λ v. v.items) (c.if-add_stamps.ensures.same a))
-    c.if-add_stamps.ensures.added
+    (λ a. c.if-add_stamps.ensures.added a ∙ ap (λ s. l.stamps.items ++ s ∷ []) c.stamps_of.ensures)
     )
 
 pub returns-else-add_stamps-clause-follows : goal.returns-else-add_stamps-clause-follows
@@ -28,5 +28,6 @@ returns-else-add_stamps-clause-follows c follows =
     let at : c.len.result ≡ length l.bares.items = grind (arith, common_steps) in
     let many : length c.args.self.now.items ≡ c.len.result = sym (ap (λ v. length v.items) c.self.view_is) ∙ length-lines_in l.alone l.bares.items l.stamps.items c.self.invariant ∙ sym at in
     either (IsTrue false) l.alone
-    (λ a. (c.if-add_stamps.ensures.goes a).1 (subst (λ n. Follows n c.args.line) many follows))
+    (λ a. (c.if-add_stamps.ensures.goes a).1 (from-follows c.len.result _ c.args.line c.stamps_of.result c.sent_from.result (sym many)
+    c.stamps_of.ensures c.sent_from.ensures follows))
     c.if-add_stamps.ensures.always
