@@ -1,5 +1,5 @@
 -- How the record keeps an event in a line.
-use Rattle.std.specs.Prelude.{◌≡◌, ℕ, zero, suc, ◌<◌, ◌≤◌, ◌+◌, ◌*◌, ◌/◌, ◌%◌, ◌^◌, ℤ, pos, true, false}
+use Rattle.std.specs.Prelude.{◌≡◌, ◌==◌, if◌then◌else◌, ℕ, zero, suc, ◌<◌, ◌≤◌, ◌+◌, ◌*◌, ◌/◌, ◌%◌, ◌^◌, ℤ, pos, true, false}
 use Rattle.std.specs.Prelude.{List, Option, None, Some, length, slice_index_or}
 use Rattle.std.specs.Int.{cast_signed, cast_unsigned, w32, w64}
 use Rattle.id_tag.specs.declared.Cell.{Cell}
@@ -218,10 +218,9 @@ target_in l = record {
   instr = instr_at l.to;
 }
 
--- who sent the message: no element, or the one whose number is 1 less
+-- who sent the message: the element of this number, or none where that is 255
 abbrev pub sender_of : ℕ → Sender
-sender_of zero = Start
-sender_of (suc n) = Element n
+sender_of n = if n == 255 then Start else Element n
 
 -- the tag that the message of a line names
 abbrev pub tag_at : Line → Tag

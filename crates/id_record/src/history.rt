@@ -236,8 +236,7 @@ impl<'a> Record<'a> {
             ++ event_of_handled self.old.graph self.old.element self.old.replies (length self.old.events)
             (shooting event.entry) ∷ [] }
     {
-        let tells = event.token.instr == 0;
-        match add_shot(&mut self.lines, &mut self.margin, &event, tells) {
+        match add_shot(&mut self.lines, &mut self.margin, &event) {
             Some(_line) => {}
             None => self.push_shot_aside(event),
         }

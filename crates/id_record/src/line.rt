@@ -1,6 +1,6 @@
 //! How the record keeps an event: in one line, in one with a cell beside it, or aside where it fits in neither.
 
-ghost use Rattle.std.specs.Prelude.{◌≡◌, ◌≢◌, ◌<◌, ◌%◌, ◌/◌, ◌^◌, ℤ, length, pos, true, false, Some, IfSome, IsTrue};
+ghost use Rattle.std.specs.Prelude.{◌≡◌, ◌≢◌, ◌<◌, ◌≤◌, ◌%◌, ◌/◌, ◌^◌, ℤ, length, pos, true, false, Some, IfSome, IsTrue};
 ghost use Rattle.id_tag.specs.declared.Cell.{Cell};
 ghost use Rattle.id_tag.specs.declared.Tag.{Tag};
 ghost use Rattle.id_tag.specs.declared.Value.{Value};
@@ -89,8 +89,8 @@ pub struct Handling<'a> {
 /// and `value` say what the message carries, and `effect` and `result` what came of it. Of the tag of the message
 /// `place` is the element and the instruction, and `serial` and `iteration` are the rest. Of the tag that the event
 /// names beside it `to` is the element and the instruction, and `result` the rest. `position` is also the port, and
-/// `sender` is 0 where no element sent the message, or 1 more than the number of the one that did. Where the kind says
-/// that the event names a cell, `to` is the index of that beside the lines.
+/// `sender` is 255 where no element sent the message, and else the number of the one that did. Where the kind says that
+/// the event names a cell, `to` is the index of that beside the lines.
 #[derive(Clone, Copy)]
 pub(crate) struct Line {
     value: i64,
@@ -724,13 +724,15 @@ fn port_of(event: &Handling<'_>) -> Option<(Tag, Port)>
     }
 }
 
-/// Who sent the message: 0 where no element did, or 1 more than the number of the one that did.
+/// Who sent the message: 255 where no element did, and else the number of the one that did, where that is below, or a
+/// larger number.
 #[inline(always)]
 fn origin(sender: Sender) -> u64
-    ensures { sender_of result ≡ sender }
+    ensures { result ≤ 255 → sender_of result ≡ sender }
 {
     match sender {
-        Sender::Start => 0,
-        Sender::Element(number) => u64::from(number) + 1,
+        Sender::Start => LARGEST_SENDER,
+        Sender::Element(number) if number < 0xff => u64::from(number),
+        Sender::Element(_) => LARGEST_SENDER + 1,
     }
 }

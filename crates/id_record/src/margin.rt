@@ -2,7 +2,7 @@
 //! that tell.
 
 ghost use Rattle.std.specs.Prelude.{◌≡◌, ◌<◌, ◌≤◌, ◌+◌, ◌++◌, ◌∷◌, [], length, vec_len, vec_capacity, IsFalse, IsTrue};
-ghost use Rattle.std.specs.Prelude.{IfSome, None};
+ghost use Rattle.std.specs.Prelude.{◌==◌, IfSome, None};
 ghost use Rattle.id_ops.specs.Shots.{IsBrief, IsOwn};
 ghost use Rattle.id_record.specs.Lines.{IsPacked, beside};
 ghost use Rattle.id_record.specs.Shootings.{HasLine, shooting};
@@ -206,13 +206,12 @@ pub(crate) fn add_line(lines: &mut Ledger, margin: &mut Margin, line: Line, tell
     }
 }
 
-/// The same with the line of the event of a plain token, and answers that.
+/// The same with the line of the event of a plain token, which tells where it is for instruction 0, and answers that.
 #[inline(always)]
 pub(crate) fn add_shot(
     lines: &mut Ledger,
     margin: &mut Margin,
     event: &Shooting<'_>,
-    tells: bool,
 ) -> Option<Line>
     requires room { 0 < lines.old.room }
     requires room_beside { 0 < margin.old.room }
@@ -223,14 +222,14 @@ pub(crate) fn add_shot(
     ensures line { IfSome result (λ l. lines.new.items ≡ lines.old.items ++ l ∷ []) }
     ensures beside { margin.new.beside ≡ margin.old.beside }
     ensures telling { IfSome result (λ _.
-        margin.new.telling ≡ margin.old.telling ++ told_at tells (length lines.old.items)) }
+        margin.new.telling ≡ margin.old.telling ++ told_at (event.now.token.now.instr == 0) (length lines.old.items)) }
     ensures left { result ≡ None → lines.new ≡ lines.old }
     ensures left_beside { result ≡ None → margin.new ≡ margin.old }
 {
     let position = lines.len();
     match lines.push_shot(event) {
         Some(line) => {
-            margin.push_telling(position, tells);
+            margin.push_telling(position, event.token.instr == 0);
             Some(line)
         }
         None => None,

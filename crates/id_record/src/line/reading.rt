@@ -107,10 +107,10 @@ pub(super) fn own_payload(line: &Line, value: Value) -> Payload
 fn sender(line: &Line) -> Sender
     ensures { result ≡ sender_of line.now.sender }
 {
-    if line.sender == 0 {
+    if line.sender == 0xff {
         Sender::Start
     } else {
-        Sender::Element(u32::from(line.sender - 1))
+        Sender::Element(u32::from(line.sender))
     }
 }
 

@@ -367,7 +367,7 @@ pub(super) fn token_line(token: &PlainToken, stamp: u32, written: Written) -> Li
         stamp,
         place: place(u32::from(token.element), token.instr),
         to: written.to,
-        sender: token.sender + 1,
+        sender: token.sender,
         output: token.output,
         kind: written.kind,
         effect: written.effect,
