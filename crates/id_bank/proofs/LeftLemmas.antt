@@ -1,13 +1,16 @@
 -- Lemmas on specs/Slots.antt: the cells that are still to come.
-use Rattle.std.proofs.Common.{◌≡◌, ℕ, ℤ, zero, suc, ◌<◌, ◌≤◌, ◌+◌, ◌-◌, List, [], ◌∷◌, ◌++◌, map, length, drop, get_or, Option, Some, None, refl, sym, subst, ◌∙◌, ap, arith, Vec, Global, append_assoc}
+use Rattle.std.proofs.Common.{◌≡◌, ℕ, ℤ, zero, suc, ◌<◌, ◌≤◌, ◌+◌, ◌-◌, List, [], ◌∷◌, ◌++◌, map, length, drop, take, get_or, Option, Some, None, refl, sym, subst, ◌∙◌, ap, arith, Vec, Global, append_assoc, length-append}
 use Rattle.std.specs.List.{flat_map}
-use Rattle.std.proofs.lemmas.List.{append-nil}
+use Rattle.std.proofs.lemmas.List.{append-nil, take_more}
 use Rattle.std.proofs.lemmas.List.Concat.{flat_map-cons}
+use Rattle.std.proofs.lemmas.Grind.{flat_map-append}
+use Rattle.id_tag.specs.declared.Cell.{Cell}
 use Rattle.id_tag.specs.declared.Structure.{Structure}
 use Rattle.id_bank.specs.declared.slot.Slot.{Slot}
 use Rattle.id_bank.specs.declared.Filled.{Filled}
-use Rattle.id_bank.specs.Cells.{CellState, Present, Deferred, filled_at}
+use Rattle.id_bank.specs.Cells.{CellState, Present, Deferred, count_expected, filled_at}
 use Rattle.id_bank.specs.Slots.{cell_in, state_in, entry_at, cells_below, cells_above, cells_left, page_cells, cells_in, filled_by}
+use Rattle.id_bank.proofs.SlotsLemmas.{cells_below-none, cells_below-next}
 
 -- the first places and the others are all
 whole : (n : ℕ) (p : ℤ × Structure) (ss : List Slot) → n ≤ 8 → cells_below (8 - n) p ss ++ cells_above n p ss ≡ cells_below 8 p ss
@@ -104,3 +107,63 @@ module _ {A : Type 0} (show : A → (ℤ × Structure) × Vec Slot Global) where
   next_page [] i n h none = absurd (omega arith)
   next_page (y ∷ xs) zero n h none = ap (λ m. cells_left m (show y ∷ map show xs)) none ∙ cells_left-none (show y) (map show xs)
   next_page (y ∷ xs) (suc i) n h none = next_page xs i n (omega arith) none ∙ ap (λ k. cells_left 8 (map show (drop k (y ∷ xs)))) (one_more i)
+
+-- ---- how many are still to come
+
+count_filled-append : (xs ys : List (Cell × CellState)) → length (flat_map filled_at (xs ++ ys)) ≡ length (flat_map filled_at xs) + length (flat_map filled_at ys)
+count_filled-append xs ys = ap length (flat_map-append filled_at xs ys) ∙ length-append (flat_map filled_at xs) (flat_map filled_at ys)
+
+-- a page has none at its first 0 places
+pub filled-none : (p : ℤ × Structure) (ss : List Slot) → 0 ≡ length (flat_map filled_at (cells_below 0 p ss))
+filled-none p ss = ap (λ es. length (flat_map filled_at es)) (sym (cells_below-none p ss))
+
+one_filled : (c : Cell) (o : Option CellState) → count_expected o ≡ None → length (flat_map filled_at (entry_at c o)) ≡ 1
+one_filled c None is = cc
+one_filled c (Some (Present v w)) is = refl
+one_filled c (Some (Deferred ts)) is = cc
+
+none_filled : (c : Cell) (o : Option CellState) → (count_expected o ≡ None → ⊥) → length (flat_map filled_at (entry_at c o)) ≡ 0
+none_filled c None other = refl
+none_filled c (Some (Present v w)) other = absurd (other refl)
+none_filled c (Some (Deferred ts)) other = refl
+
+-- and one more where the next place has a cell that holds a value
+pub filled-next : (n m : ℕ) (p : ℤ × Structure) (ss : List Slot) → count_expected (state_in ss n) ≡ None
+    → m ≡ length (flat_map filled_at (cells_below n p ss)) → m + 1 ≡ length (flat_map filled_at (cells_below (n + 1) p ss))
+filled-next n m p ss is so =
+    let here = entry_at (cell_in p n) (state_in ss n) in
+    ap (λ k. k + 1) so
+    ∙ ap (λ k. length (flat_map filled_at (cells_below n p ss)) + k) (sym (one_filled (cell_in p n) (state_in ss n) is))
+    ∙ sym (count_filled-append (cells_below n p ss) here)
+    ∙ ap (λ es. length (flat_map filled_at es)) (sym (cells_below-next n p ss))
+
+-- and no more where it has none
+pub filled-same : (n m : ℕ) (p : ℤ × Structure) (ss : List Slot) → (count_expected (state_in ss n) ≡ None → ⊥)
+    → m ≡ length (flat_map filled_at (cells_below n p ss)) → m ≡ length (flat_map filled_at (cells_below (n + 1) p ss))
+filled-same n m p ss other so =
+    let here = entry_at (cell_in p n) (state_in ss n) in
+    so
+    ∙ plus_none (length (flat_map filled_at (cells_below n p ss))) _ (none_filled (cell_in p n) (state_in ss n) other)
+    ∙ sym (count_filled-append (cells_below n p ss) here)
+    ∙ ap (λ es. length (flat_map filled_at es)) (sym (cells_below-next n p ss))
+  where
+    plus_none : (m k : ℕ) → k ≡ 0 → m ≡ m + k
+    plus_none m k h = omega arith
+
+-- where the first of them leaves, one fewer is left
+pub one_fewer : {A : Type 0} (m : ℕ) (xs ys : List A) (x : A) → xs ≡ x ∷ ys → m ≡ length xs → (1 ≤ m) × (m - 1 ≡ length ys)
+one_fewer m xs ys x is so = let e : m ≡ suc (length ys) = so ∙ ap length is in (omega arith, omega arith)
+
+module _ {A : Type 0} (show : A → (ℤ × Structure) × Vec Slot Global) where
+  -- the next page adds its own
+  pub filled-more : (xs : List A) (i m k : ℕ) (x : A) → i < length xs → get_or xs i x ≡ x
+      → m ≡ length (flat_map filled_at (flat_map (λ e. page_cells (show e)) (take i xs))) → k ≡ length (flat_map filled_at (page_cells (show x)))
+      → m + k ≡ length (flat_map filled_at (flat_map (λ e. page_cells (show e)) (take (i + 1) xs)))
+  filled-more xs i m k x h is before here =
+      let cells = λ (e : A). page_cells (show e) in
+      let last : flat_map cells (x ∷ []) ≡ page_cells (show x) = append-nil (page_cells (show x)) in
+      ap (λ l. l + k) before ∙ ap (λ l. length (flat_map filled_at (flat_map cells (take i xs))) + l) (here ∙ ap (λ es. length (flat_map filled_at es)) (sym last))
+      ∙ sym (count_filled-append (flat_map cells (take i xs)) (flat_map cells (x ∷ [])))
+      ∙ ap (λ es. length (flat_map filled_at es)) (sym (flat_map-append cells (take i xs) (x ∷ [])))
+      ∙ ap (λ l. length (flat_map filled_at (flat_map cells (take i xs ++ l ∷ [])))) (sym is)
+      ∙ ap (λ l. length (flat_map filled_at (flat_map cells l))) (sym (take_more xs i x h))

@@ -15,7 +15,7 @@ ghost use Rattle.std.specs.List.{flat_map};
 ghost use Rattle.indexmap.specs.IndexMap.{keys, IsUnique};
 ghost use Rattle.id_tag.specs.Tags.{cell_cmp};
 ghost use Rattle.id_bank.specs.declared.ReadAnswer.TheVariants.{Deferred as PutOff};
-ghost use Rattle.id_bank.specs.Cells.{read_answer, write_answer};
+ghost use Rattle.id_bank.specs.Cells.{filled_at, read_answer, write_answer};
 ghost use Rattle.id_bank.specs.Slots.{HasNone, HasNoReaders, IsPage, same_page, state_in, held_in, entry_at, cell_in};
 ghost use Rattle.id_bank.specs.Slots.{cells_below, cells_in, page_cells};
 
@@ -23,8 +23,8 @@ mod page;
 mod slot;
 
 use crate::page::{
-    Recent, cell_in, expected_in, filled_in, has_no_readers, has_none, offset_of, page_of, place,
-    read_at, readers_in, write_at,
+    Recent, cell_in, count_filled_in, expected_in, filled_in, has_no_readers, has_none, offset_of,
+    page_of, place, read_at, readers_in, write_at,
 };
 use crate::slot::{Slot, waiting};
 use id_tag::{Cell, NearHasher, Structure, Tag, Value};
@@ -252,10 +252,12 @@ impl Bank {
         ensures items { IfOk result (λ cs. cs ≡ cells_of self.now) }
     {
         let pages = ordered(alloc, &self.pages)?;
+        let count = count_filled(&pages)?;
         Ok(Cells {
             pages,
             page: 0,
             left: 8,
+            count,
         })
     }
 
@@ -280,10 +282,12 @@ pub struct Cells<'a> {
     page: usize,
     // How many of its places are still to come.
     left: usize,
+    // How many cells are still to come.
+    count: usize,
 }
 
 impl<'a> Model for Cells<'a> {
-    ghost use Rattle.std.specs.Prelude.{◌≤◌, List, All, drop, map};
+    ghost use Rattle.std.specs.Prelude.{◌≡◌, ◌≤◌, List, All, drop, length, map};
     ghost use Rattle.std.specs.List.{flat_map};
     ghost use Rattle.id_bank.specs.Cells.{filled_at};
     ghost use Rattle.id_bank.specs.declared.Filled.{Filled};
@@ -294,11 +298,20 @@ impl<'a> Model for Cells<'a> {
     ghost view = { λ c.
         flat_map filled_at (cells_left c.left (map (λ e. (e.0, e.1.now)) (drop c.page c.pages.items))) };
 
-    ghost invariant = { λ c. (c.left ≤ 8) × All (λ e. IsPage e.0) c.pages.items };
+    ghost invariant = { λ c. (c.left ≤ 8) × All (λ e. IsPage e.0) c.pages.items
+        × (c.count ≡ length (flat_map filled_at (cells_left c.left
+        (map (λ e. (e.0, e.1.now)) (drop c.page c.pages.items))))) };
 }
 
 impl<'a> Cells<'a> {
     ghost use Rattle.std.specs.Prelude.{[], ◌∷◌, IfSome, IfNone};
+
+    /// How many cells are still to come. Takes no memory.
+    pub fn len(&self) -> usize
+        ensures { result ≡ length self.now }
+    {
+        self.count
+    }
 
     /// The next cell, which is then no longer to come. Takes no memory.
     pub fn next(&mut self) -> Option<Filled>
@@ -311,6 +324,7 @@ impl<'a> Cells<'a> {
                 self.left -= 1;
                 let entry = &self.pages[self.page];
                 if let Some(filled) = filled_in(entry.0, entry.1, offset) {
+                    self.count -= 1;
                     return Some(filled);
                 }
             } else {
@@ -376,6 +390,21 @@ fn shown(
         .iter()
         .map(|(page, slots)| (*page, slots))
         .collect(alloc)
+}
+
+// How many cells of pages hold a value. More than a machine word counts, which no memory has, would be told as want of
+// memory.
+fn count_filled(pages: &[((i64, Structure), &Vec<Slot>)]) -> Result<usize, AllocError>
+    ensures { IfOk result (λ n. n ≡ length (flat_map filled_at (flat_map (λ e. page_cells (e.0, e.1.now)) pages.now))) }
+{
+    let mut count = 0usize;
+    for entry in pages {
+        match count.checked_add(count_filled_in(entry.1)) {
+            Some(sum) => count = sum,
+            None => return Err(AllocError),
+        }
+    }
+    Ok(count)
 }
 
 // The cells of pages.

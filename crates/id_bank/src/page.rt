@@ -3,13 +3,14 @@
 ghost use Rattle.std.specs.Prelude.{◌≡◌, ℕ, ℤ, ◌+◌, ◌<◌, ◌&&◌, ◌≢◌, ◌↔◌, IsTrue, nat_eq, false, length};
 ghost use Rattle.std.specs.Prelude.{IfOk, IfSome, IfNone, OnOk, OnErr};
 ghost use Rattle.std.specs.Prelude.{All, None, Some, slice_get};
+ghost use Rattle.std.specs.List.{flat_map};
 ghost use Rattle.indexmap.specs.IndexMap.{keys, get, IsUnique};
 ghost use Rattle.id_tag.specs.declared.Structure.{Structure};
 ghost use Rattle.id_bank.specs.declared.ReadAnswer.TheVariants.{Deferred as PutOff};
 ghost use Rattle.id_bank.specs.Cells.{read_answer, state_read, write_answer, state_written, count_expected};
-ghost use Rattle.id_bank.specs.Cells.{count_readers};
+ghost use Rattle.id_bank.specs.Cells.{count_readers, filled_at};
 ghost use Rattle.id_bank.specs.Slots.{page_of, offset_of, cell_in, same_page, state_in, state_at};
-ghost use Rattle.id_bank.specs.Slots.{IsPage, HasNone, HasNoReaders, filled_by};
+ghost use Rattle.id_bank.specs.Slots.{IsPage, HasNone, HasNoReaders, cells_below, filled_by};
 
 use crate::slot::{Slot, filled};
 use crate::{Filled, ReadAnswer, WriteAnswer};
@@ -301,6 +302,19 @@ pub(crate) fn filled_in(page: (i64, Structure), slots: &[Slot], offset: usize) -
     } else {
         None
     }
+}
+
+/// How many cells of a page hold a value. Takes no memory.
+pub(crate) fn count_filled_in(slots: &[Slot]) -> usize
+    ensures { (p : ℤ × Structure) → result ≡ length (flat_map filled_at (cells_below 8 p slots.now)) }
+{
+    let mut count = 0;
+    for offset in 0..8 {
+        if expected_in(slots, offset).is_none() {
+            count += 1;
+        }
+    }
+    count
 }
 
 /// Whether no cell of a page was read or written. Takes no memory.
