@@ -73,6 +73,16 @@ impl<'a> Desk<'a> {
         }
     }
 
+    /// Gives back the memory of the waiting store, where nothing waits.
+    pub(crate) fn give_back(&mut self, alloc: Global)
+        ensures state { state_of self.new ≡ state_of self.old }
+        ensures log { self.new.log ≡ self.old.log }
+    {
+        if self.waiting.len() == 0 {
+            self.waiting = Waiting::new(alloc);
+        }
+    }
+
     /// Handles a message that fits the graph, and says what it came to: the element step.
     #[inline(never)]
     pub(crate) fn take(

@@ -172,6 +172,13 @@ impl<'a> Element<'a> {
         Ok(handled)
     }
 
+    /// Gives back the memory of what waits, where nothing does: it shows the same as before.
+    pub fn give_back(&mut self, alloc: Global)
+        ensures { self.new ≡ self.old }
+    {
+        self.desk.give_back(alloc);
+    }
+
     /// Whether no stamp is left after this one. Takes no memory.
     #[inline(always)]
     pub fn is_ended_at(&self, stamp: u64) -> bool
