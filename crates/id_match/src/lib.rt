@@ -13,10 +13,11 @@ ghost use Rattle.std.specs.Prelude.{IfOk, IfSome, OnOk, OnErr};
 ghost use Rattle.std.specs.FinMap as map;
 ghost use Rattle.id_tag.specs.Tags.{same_tag};
 ghost use Rattle.id_tag.specs.declared.Tag.{Tag};
+ghost use Rattle.id_tag.specs.declared.Value.{Value};
 ghost use Rattle.id_graph.specs.declared.dests.Port.{Port};
 ghost use Rattle.id_tag.specs.declared.plain.Plain.{Plain};
 ghost use Rattle.id_match.specs.declared.Met.TheVariants as meeting;
-ghost use Rattle.id_match.specs.declared.Offered.TheVariants.{Kept};
+ghost use Rattle.id_match.specs.declared.Offered.TheVariants.{Kept, Taken, Pair as Both};
 ghost use Rattle.id_match.specs.Waiting.{pair_of};
 ghost use Rattle.id_match.specs.Halves.{answer_at, half_after};
 ghost use Rattle.id_match.specs.Meetings.{told};
@@ -82,8 +83,9 @@ pub struct Waiting {
     // For a larger front.
     alloc: Global,
     front: Vec<Pair>,
-    // Since the front grew: sixteen for each plain token that came to stand behind it, less twelve for each that met
-    // what stands there. So both what stands there and what comes and goes tell that it is too small.
+    // Since the front grew: sixteen for each value that came to stand behind it, less fifteen for each that met what
+    // stands there. So both what stands there and what comes and goes tell that it is too small. What fits in no slot
+    // doesn't count.
     crowded: usize,
     // What waits in no slot of the front.
     rear: Rear,
@@ -143,7 +145,14 @@ impl Waiting {
         } else if put_value_before(&mut self.front, &self.rear, tag, port, value) {
             Ok(Offered::Kept)
         } else {
-            offer_to(&mut self.front, &mut self.rear, tag, port, value)
+            offer_to(
+                &mut self.front,
+                &mut self.rear,
+                &mut self.crowded,
+                tag,
+                port,
+                value,
+            )
         }
     }
 
@@ -202,8 +211,8 @@ impl Waiting {
         }
     }
 
-    // Makes the front larger where many plain tokens stand behind it since their slots are taken, or came and went, or
-    // there is none. What fits in no slot doesn't count.
+    // Makes the front larger where many values stand behind it since their slots are taken, or came and went, or there
+    // is none.
     #[inline(always)]
     fn make_room(&mut self)
         ensures { self.new ≡ self.old }
@@ -312,10 +321,11 @@ fn put_value_before(front: &mut Vec<Pair>, rear: &Rear, tag: Tag, port: Port, va
     }
 }
 
-// An offer to the rear. The front is told of it.
+// An offer to the rear. The front is told of it, and it counts where the value would fit a slot.
 fn offer_to(
     front: &mut Vec<Pair>,
     rear: &mut Rear,
+    crowded: &mut usize,
     tag: Tag,
     port: Port,
     value: Value,
@@ -334,6 +344,7 @@ fn offer_to(
     ensures err_front { OnErr result (front.new.items ≡ front.old.items) }
 {
     let answer = rear.offer(tag, port, value)?;
+    *crowded = crowded_by(*crowded, slot_for(tag, port, value).is_some(), answer);
     match answer {
         Offered::Kept => step_behind(front, tag),
         Offered::Pair(_, _) => leave_behind(front, tag),
@@ -377,12 +388,26 @@ fn offer_plain_to(
 fn crowded_after(crowded: usize, met: Met) -> usize
     ensures kept { met ≡ meeting.Kept → crowded < 2 ^ 64 - 16 → result ≡ crowded + 16 }
     ensures apart { met ≡ meeting.Apart → result ≡ crowded }
-    ensures partner { (v : Plain) → met ≡ meeting.Partner v → result ≡ crowded - 12 }
+    ensures partner { (v : Plain) → met ≡ meeting.Partner v → result ≡ crowded - 15 }
 {
     match met {
         Met::Kept => crowded.saturating_add(16),
-        Met::Partner(_) => crowded.saturating_sub(12),
+        Met::Partner(_) => crowded.saturating_sub(15),
         Met::Apart => crowded,
+    }
+}
+
+// The same after an offer in full, which counts where the value fits a slot.
+fn crowded_by(crowded: usize, fits: bool, answer: Offered) -> usize
+    ensures kept { IsTrue fits → answer ≡ Kept → crowded < 2 ^ 64 - 16 → result ≡ crowded + 16 }
+    ensures pair { (v w : Value) → IsTrue fits → answer ≡ Both v w → result ≡ crowded - 15 }
+    ensures taken { answer ≡ Taken → result ≡ crowded }
+    ensures wide { fits ≡ false → result ≡ crowded }
+{
+    match answer {
+        Offered::Kept if fits => crowded.saturating_add(16),
+        Offered::Pair(_, _) if fits => crowded.saturating_sub(15),
+        _ => crowded,
     }
 }
 
