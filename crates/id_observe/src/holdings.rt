@@ -55,6 +55,16 @@ pub fn observe_holdings(
     if hold_nothing(graph.graph(), elements) {
         return Ok(no_holdings(alloc, answer(alloc, graph, elements)?));
     }
+    held(alloc, graph, elements)
+}
+
+/// The same where there may be structures or cells.
+fn held(alloc: Global, graph: &Valid, elements: &[Element<'_>]) -> Result<Holdings, AllocError>
+    ensures answer { IfOk result (λ o. o.answer ≡ answer_in graph.now (map (λ e. e.state) elements.now)) }
+    ensures structures { IfOk result (λ o. o.structures ≡ structures_in graph.now (map (λ e. e.state) elements.now)) }
+    ensures cells { IfOk result (λ o. o.cells ≡ cell_values_in graph.now (map (λ e. e.state) elements.now)) }
+    ensures waiting { IfOk result (λ o. o.waiting ≡ waiting_in graph.now (map (λ e. e.state) elements.now)) }
+{
     let paths = Paths::new(alloc, graph.graph(), elements)?;
     let structures = all_structures(alloc, &paths)?;
     let cells = all_cell_values(alloc, &paths, elements)?;
@@ -140,6 +150,7 @@ fn add_cell_values(
         ++ filter_map (cell_value_of (structure_by paths.now)) cells.entry) }
 {
     let mut cells = cells;
+    values.reserve(cells.len())?;
     let mut at_hand = with_name(alloc, paths, NOTHING)?;
     while let Some(cell) = cells.next() {
         at_hand = named_for(alloc, paths, at_hand, cell.cell.structure)?;

@@ -63,19 +63,95 @@ pub fn observe_records(
     ensures faults { IfOk result (λ o. o.faults ≡ faults_in graph.now (map (λ e. e.state) elements.now)) }
 {
     let paths = Paths::new(alloc, graph.graph(), elements)?;
-    let names = all_names(alloc, &paths, elements)?;
-    let structures = all_structures(alloc, &paths)?;
-    let cells = all_cells(alloc, &paths, elements)?;
-    let waiting = all_waiting(alloc, &paths, elements)?;
-    let faults = all_faults(alloc, &paths, elements)?;
-    let answer = value_in(alloc, &paths, paths.first_value())?;
+    shown_by(alloc, &paths, elements)
+}
+
+/// What the records of these elements show, by these paths and names.
+fn shown_by(
+    alloc: Global,
+    paths: &Paths<'_>,
+    elements: &[Element<'_>],
+) -> Result<Observed, AllocError>
+    ensures answer { IfOk result (λ o. o.answer
+        ≡ option_and_then (source_value (structure_by paths.now)) (slice_get paths.now.values.items 0)) }
+    ensures names { IfOk result (λ o. o.names
+        ≡ names_of paths.now.graph.now (path_by paths.now) (structure_by paths.now)
+        (events_of (map (λ e. e.state) elements.now))) }
+    ensures structures { IfOk result (λ o. o.structures
+        ≡ map (shape_at paths.now.graph.now (path_by paths.now)) paths.now.makings.items) }
+    ensures cells { IfOk result (λ o. o.cells
+        ≡ filter_map (put_of paths.now.graph.now (path_by paths.now) (structure_by paths.now))
+        (flat_map (λ e. cells_of e.cells) (map (λ e. e.state) elements.now))) }
+    ensures waiting { IfOk result (λ o. o.waiting
+        ≡ map (ask_of paths.now.graph.now (path_by paths.now) (structure_by paths.now))
+        (flat_map (λ e. deferred_of e.cells) (map (λ e. e.state) elements.now))) }
+    ensures faults { IfOk result (λ o. o.faults
+        ≡ faults_of paths.now.graph.now (path_by paths.now) (structure_by paths.now)
+        (events_of (map (λ e. e.state) elements.now))) }
+{
+    let told = told_by(alloc, paths, elements)?;
+    let held = held_by(alloc, paths, elements)?;
+    let answer = value_in(alloc, paths, paths.first_value())?;
     Ok(Observed {
         answer,
+        names: told.names,
+        structures: held.structures,
+        cells: held.cells,
+        waiting: held.waiting,
+        faults: told.faults,
+    })
+}
+
+/// What binders have, and the faults.
+#[derive(Drop)]
+struct Told {
+    names: Sequence<NameValue>,
+    faults: Sequence<SourceFault>,
+}
+
+/// What the records of these elements show that binders have, and their faults, by these paths and names.
+fn told_by(alloc: Global, paths: &Paths<'_>, elements: &[Element<'_>]) -> Result<Told, AllocError>
+    ensures names { IfOk result (λ o. o.names
+        ≡ names_of paths.now.graph.now (path_by paths.now) (structure_by paths.now)
+        (events_of (map (λ e. e.state) elements.now))) }
+    ensures faults { IfOk result (λ o. o.faults
+        ≡ faults_of paths.now.graph.now (path_by paths.now) (structure_by paths.now)
+        (events_of (map (λ e. e.state) elements.now))) }
+{
+    let names = all_names(alloc, paths, elements)?;
+    let faults = all_faults(alloc, paths, elements)?;
+    Ok(Told {
         names: Sequence::new(names),
+        faults: Sequence::new(faults),
+    })
+}
+
+/// Structures, what is put into their cells, and the fetches that wait.
+#[derive(Drop)]
+struct Held {
+    structures: Sequence<Shape>,
+    cells: Sequence<Put>,
+    waiting: Sequence<Ask>,
+}
+
+/// What these elements show of structures, by these paths and names.
+fn held_by(alloc: Global, paths: &Paths<'_>, elements: &[Element<'_>]) -> Result<Held, AllocError>
+    ensures structures { IfOk result (λ o. o.structures
+        ≡ map (shape_at paths.now.graph.now (path_by paths.now)) paths.now.makings.items) }
+    ensures cells { IfOk result (λ o. o.cells
+        ≡ filter_map (put_of paths.now.graph.now (path_by paths.now) (structure_by paths.now))
+        (flat_map (λ e. cells_of e.cells) (map (λ e. e.state) elements.now))) }
+    ensures waiting { IfOk result (λ o. o.waiting
+        ≡ map (ask_of paths.now.graph.now (path_by paths.now) (structure_by paths.now))
+        (flat_map (λ e. deferred_of e.cells) (map (λ e. e.state) elements.now))) }
+{
+    let structures = all_structures(alloc, paths)?;
+    let cells = all_cells(alloc, paths, elements)?;
+    let waiting = all_waiting(alloc, paths, elements)?;
+    Ok(Held {
         structures: Sequence::new(structures),
         cells: Sequence::new(cells),
         waiting: Sequence::new(waiting),
-        faults: Sequence::new(faults),
     })
 }
 
@@ -393,7 +469,7 @@ pub(crate) fn all_structures(alloc: Global, paths: &Paths<'_>) -> Result<Vec<Sha
     ensures { IfOk result
         (λ v. v.items ≡ map (shape_at paths.now.graph.now (path_by paths.now)) paths.now.makings.items) }
 {
-    let mut shapes = Vec::new(alloc);
+    let mut shapes = Vec::with_capacity(alloc, paths.makings().len())?;
     for making in paths.makings() {
         shapes.push(shape_at(alloc, paths, *making)?)?;
     }
@@ -440,6 +516,7 @@ fn add_puts(
         ++ filter_map (put_of paths.now.graph.now (path_by paths.now) (structure_by paths.now)) cells.entry) }
 {
     let mut cells = cells;
+    puts.reserve(cells.len())?;
     while let Some(cell) = cells.next() {
         add_put(put_of(alloc, paths, cell)?, puts)?;
     }
@@ -502,6 +579,7 @@ fn add_asks(
     ensures { OnOk result (asks.new.items ≡ asks.old.items
         ++ map (ask_of paths.now.graph.now (path_by paths.now) (structure_by paths.now)) readers.now) }
 {
+    asks.reserve(readers.len())?;
     for reader in readers {
         asks.push(ask_of(alloc, paths, *reader)?)?;
     }

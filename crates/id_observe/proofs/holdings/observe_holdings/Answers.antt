@@ -1,12 +1,6 @@
 -- Nothing makes structures, and no cell was touched.
 use Rattle.std.proofs.Common.{◌∙◌, ap, map, sym, subst}
-use Rattle.std.specs.List.{filter_map, flat_map}
-use Rattle.std.specs.Prelude.{option_and_then, slice_get}
-use Rattle.id_bank.specs.Cells.{cells_of, deferred_of}
-use Rattle.id_observe.specs.Observed.{MakesNone, answer_in, answers, ask_of, cell_value, cell_value_of, cell_values_in, events_of, path_in, source_value, structure_by, structure_in}
-use Rattle.id_observe.specs.Paths.{path_by}
-use Rattle.id_observe.proofs.ObservedLemmas.{cell_values-from_puts}
-use Rattle.id_observe.proofs.MarkedLemmas.{structures-from_makings}
+use Rattle.id_observe.specs.Observed.{MakesNone, cell_value}
 use Rattle.id_observe.proofs.SkippedLemmas.{cells-none, structures-none, waiting-none}
 use Rattle.id_element.proofs.ShortLemmas.{if_err}
 use Rattle.id_observe.proofs.holdings.observe_holdings.Goals as goal
@@ -24,26 +18,6 @@ pub returns-then-hold_nothing-clause-waiting : goal.returns-then-hold_nothing-cl
 returns-then-hold_nothing-clause-waiting c =
     c.no_holdings.ensures.waiting ∙ sym (waiting-none c.args.graph.now c.args.elements.now (c.hold_nothing.ensures.0 c.if-hold_nothing.true).1)
 
--- the structures that were made are those of their events
-pub returns-clause-structures : goal.returns-clause-structures
-returns-clause-structures c =
-    let told = c.in_ok-paths.ensures in
-    c.new-2.ensures ∙ c.in_ok-structures.ensures
-    ∙ structures-from_makings c.args.graph.now _ c.args.elements.now c.in_ok-paths.paths told.graph told.paths told.makings c.graph-2.ensures.value
-
--- what the cells hold is that of what is put into them
-pub returns-clause-cells : goal.returns-clause-cells
-returns-clause-cells c =
-    let g = c.graph-2.result.now in
-    let ss = map (λ e. e.state) c.args.elements.now in
-    let fs = flat_map (λ e. cells_of e.cells) ss in
-    c.new-3.ensures ∙ c.in_ok-cells.ensures
-    ∙ ap (λ name. filter_map (cell_value_of name) fs) c.in_ok-paths.ensures.structures
-    ∙ cell_values-from_puts g (path_in g ss) (structure_in g ss) fs
-    ∙ ap (λ h. cell_values_in h ss) c.graph-2.ensures.value
-
--- an error shows nothing
-
 pub returns-in_err-answer : goal.returns-in_err-answer
 returns-in_err-answer c = record {
   answer = if_err _ c.from_residual.result c.from_residual.ensures.0;
@@ -52,68 +26,5 @@ returns-in_err-answer c = record {
   waiting = if_err _ c.from_residual.result c.from_residual.ensures.0;
 }
 
-pub returns-in_err-paths : goal.returns-in_err-paths
-returns-in_err-paths c = record {
-  answer = if_err _ c.from_residual-in_err-paths.result c.from_residual-in_err-paths.ensures.0;
-  structures = if_err _ c.from_residual-in_err-paths.result c.from_residual-in_err-paths.ensures.0;
-  cells = if_err _ c.from_residual-in_err-paths.result c.from_residual-in_err-paths.ensures.0;
-  waiting = if_err _ c.from_residual-in_err-paths.result c.from_residual-in_err-paths.ensures.0;
-}
-
-pub returns-in_err-structures : goal.returns-in_err-structures
-returns-in_err-structures c = record {
-  answer = if_err _ c.from_residual-in_err-structures.result c.from_residual-in_err-structures.ensures.0;
-  structures = if_err _ c.from_residual-in_err-structures.result c.from_residual-in_err-structures.ensures.0;
-  cells = if_err _ c.from_residual-in_err-structures.result c.from_residual-in_err-structures.ensures.0;
-  waiting = if_err _ c.from_residual-in_err-structures.result c.from_residual-in_err-structures.ensures.0;
-}
-
-pub returns-in_err-cells : goal.returns-in_err-cells
-returns-in_err-cells c = record {
-  answer = if_err _ c.from_residual-in_err-cells.result c.from_residual-in_err-cells.ensures.0;
-  structures = if_err _ c.from_residual-in_err-cells.result c.from_residual-in_err-cells.ensures.0;
-  cells = if_err _ c.from_residual-in_err-cells.result c.from_residual-in_err-cells.ensures.0;
-  waiting = if_err _ c.from_residual-in_err-cells.result c.from_residual-in_err-cells.ensures.0;
-}
-
-pub returns-in_err-waiting : goal.returns-in_err-waiting
-returns-in_err-waiting c = record {
-  answer = if_err _ c.from_residual-in_err-waiting.result c.from_residual-in_err-waiting.ensures.0;
-  structures = if_err _ c.from_residual-in_err-waiting.result c.from_residual-in_err-waiting.ensures.0;
-  cells = if_err _ c.from_residual-in_err-waiting.result c.from_residual-in_err-waiting.ensures.0;
-  waiting = if_err _ c.from_residual-in_err-waiting.result c.from_residual-in_err-waiting.ensures.0;
-}
-
-pub returns-in_err-answer-2 : goal.returns-in_err-answer-2
-returns-in_err-answer-2 c = record {
-  answer = if_err _ c.from_residual-in_err-answer-2.result c.from_residual-in_err-answer-2.ensures.0;
-  structures = if_err _ c.from_residual-in_err-answer-2.result c.from_residual-in_err-answer-2.ensures.0;
-  cells = if_err _ c.from_residual-in_err-answer-2.result c.from_residual-in_err-answer-2.ensures.0;
-  waiting = if_err _ c.from_residual-in_err-answer-2.result c.from_residual-in_err-answer-2.ensures.0;
-}
-
--- what is told of the answer and of fetches that wait is by the paths' own names
 pub returns-then-hold_nothing-clause-answer : goal.returns-then-hold_nothing-clause-answer
 returns-then-hold_nothing-clause-answer c = c.no_holdings.ensures.answer ∙ c.in_ok-answer.ensures
-
-pub returns-clause-answer : goal.returns-clause-answer
-returns-clause-answer c =
-    let told = c.in_ok-paths.ensures in
-    let ss = map (λ e. e.state) c.args.elements.now in
-    let p = c.in_ok-paths.paths in
-    c.in_ok-answer-2.ensures
-    ∙ ap (option_and_then (source_value (structure_by p))) (c.first_value.ensures ∙ ap (λ vs. slice_get vs 0) told.values)
-    ∙ ap (λ name. option_and_then (source_value name) (slice_get (answers (events_of ss)) 0)) told.structures
-    ∙ ap (λ h. answer_in h ss) c.graph-2.ensures.value
-
-pub returns-clause-waiting : goal.returns-clause-waiting
-returns-clause-waiting c =
-    let told = c.in_ok-paths.ensures in
-    let ss = map (λ e. e.state) c.args.elements.now in
-    let g = c.graph-2.result.now in
-    let p = c.in_ok-paths.paths in
-    c.new-4.ensures ∙ c.in_ok-waiting.ensures
-    ∙ ap (λ h. map (ask_of h (path_by p) (structure_by p)) (flat_map (λ e. deferred_of e.cells) ss)) told.graph
-    ∙ ap (λ at. map (ask_of g at (structure_by p)) (flat_map (λ e. deferred_of e.cells) ss)) told.paths
-    ∙ ap (λ name. map (ask_of g (path_in g ss) name) (flat_map (λ e. deferred_of e.cells) ss)) told.structures
-    ∙ ap (λ h. map (ask_of h (path_in h ss) (structure_in h ss)) (flat_map (λ e. deferred_of e.cells) ss)) c.graph-2.ensures.value
