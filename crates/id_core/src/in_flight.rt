@@ -57,6 +57,15 @@ impl InFlight {
         }
     }
 
+    /// Gives back the memory of messages, where there is none.
+    pub(crate) fn give_back(&mut self, alloc: Global)
+        ensures { self.new.messages ≡ self.old.messages }
+    {
+        if self.is_empty() {
+            *self = InFlight::new(alloc, Queue::new(alloc));
+        }
+    }
+
     /// How many messages there are. Takes no memory.
     #[inline(always)]
     pub(crate) fn len(&self) -> usize

@@ -336,6 +336,15 @@ impl<'a> Machine<'a> {
         Ok(handled)
     }
 
+    /// Gives back the memory of what is in flight and of what waits at each element, where nothing is or does: it shows
+    /// the same as before.
+    pub fn give_back(&mut self, alloc: Global)
+        ensures { self.new ≡ self.old }
+    {
+        self.flight.give_back(alloc);
+        give_back(&mut self.elements, alloc);
+    }
+
     /// Whether nothing is in flight and no event was a fault or `Stuck`. Takes no memory.
     pub fn is_quiet(&self) -> bool
         ensures { IsTrue result ↔ IsQuiet self.now.world }
@@ -408,6 +417,15 @@ fn all_went(elements: &[Element<'_>]) -> bool
     ensures { IsTrue result ↔ All (λ e. AllWent e.state.events) elements.now }
 {
     elements.iter().all(|element| element.all_went())
+}
+
+/// Gives back the memory of what waits at each of these elements, where nothing does.
+fn give_back(elements: &mut [Element<'_>], alloc: Global)
+    ensures { elements.new ≡ elements.old }
+{
+    for number in 0..elements.len() {
+        elements[number].give_back(alloc);
+    }
 }
 
 /// The elements at the start.

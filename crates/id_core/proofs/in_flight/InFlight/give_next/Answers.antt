@@ -1,39 +1,40 @@
 -- The list closes up behind the message, before what is sent.
 use Rattle.std.proofs.Common.{◌∙◌, ◌++◌, ap, subst, sym}
 use Rattle.std.proofs.lemmas.Option.{slice_get_within}
-use Rattle.id_element.proofs.ShortLemmas.{on_err, on_ok}
+use Rattle.id_element.proofs.ShortLemmas.{if_err, on_err, on_ok}
 use Rattle.id_core.specs.Flights.{FlightView, IsBeside}
 use Rattle.id_core.proofs.FlightLemmas.{gives_end, is_behind, leaves_before, stays_there}
 use Rattle.id_core.proofs.in_flight.InFlight.give_next.Goals as goal
 
-pub returns-clause-messages : goal.returns-clause-messages
-returns-clause-messages c =
-    let xs = c.self.inside.before.messages in
-    let ys = c.self.inside.after.messages in
-    let at = ap (λ v. v.messages) c.self.view_is in
-    rw (← at, c.drop_at.ensures, c.in_ok-step.ensures.outputs)
-    (leaves_before xs ys _ c.args.position (slice_get_within (xs ++ ys) c.args.position c.args.message.now (rw at c.requires.next)))
+pub returns : goal.returns
+returns c = record {
+  messages =
+      let xs = c.self.inside.before.messages in
+      let ys = c.self.inside.after.messages in
+      let at = ap (λ v. v.messages) c.self.view_is in
+      rw (← at, c.drop_at.ensures, c.in_ok-step.ensures.outputs)
+      (leaves_before xs ys _ c.args.position (slice_get_within (xs ++ ys) c.args.position c.args.message.now (rw at c.requires.next)));
+  state = c.in_ok-step.ensures.state;
+  step = c.in_ok-step.ensures.step;
+  fits = c.in_ok-step.ensures.fits;
+  end = c.in_ok-step.ensures.end;
+  err = tt;
+  err_messages = tt;
+}
 
 pub take-requires : goal.take-requires
 take-requires c = c.requires.is_for
 
-pub returns-in_err-step-clause-end : goal.returns-in_err-step-clause-end
-returns-in_err-step-clause-end c = gives_end c.from_residual.result c.in_err-step.field-0.0 _ c.from_residual.ensures.1 c.in_err-step.ensures.end
-
-pub returns-in_err-step-clause-err : goal.returns-in_err-step-clause-err
-returns-in_err-step-clause-err c = on_err c.from_residual.result c.in_err-step.ensures.err
-
-pub returns-in_err-step-clause-err_messages : goal.returns-in_err-step-clause-err_messages
-returns-in_err-step-clause-err_messages c = on_err c.from_residual.result (ap (λ ms. c.self.inside.before.messages ++ ms) c.in_err-step.ensures.err_outputs ∙ ap (λ v. v.messages) c.self.view_is)
-
-pub returns-in_err-step-clause-fits : goal.returns-in_err-step-clause-fits
-returns-in_err-step-clause-fits c = on_ok _ c.from_residual.result c.from_residual.ensures.0
-
-pub returns-in_err-step-clause-messages : goal.returns-in_err-step-clause-messages
-returns-in_err-step-clause-messages c = on_ok _ c.from_residual.result c.from_residual.ensures.0
-
-pub returns-in_err-step-clause-state : goal.returns-in_err-step-clause-state
-returns-in_err-step-clause-state c = on_ok _ c.from_residual.result c.from_residual.ensures.0
+pub returns-in_err-step : goal.returns-in_err-step
+returns-in_err-step c = record {
+  step = if_err _ c.from_residual.result c.from_residual.ensures.0;
+  end = gives_end c.from_residual.result c.in_err-step.field-0.0 _ c.from_residual.ensures.1 c.in_err-step.ensures.end;
+  err = on_err c.from_residual.result c.in_err-step.ensures.err;
+  err_messages = on_err c.from_residual.result (ap (λ ms. c.self.inside.before.messages ++ ms) c.in_err-step.ensures.err_outputs ∙ ap (λ v. v.messages) c.self.view_is);
+  fits = on_ok _ c.from_residual.result c.from_residual.ensures.0;
+  messages = on_ok _ c.from_residual.result c.from_residual.ensures.0;
+  state = on_ok _ c.from_residual.result c.from_residual.ensures.0;
+}
 
 pub drop_at-requires-clause-gap : goal.drop_at-requires-clause-gap
 drop_at-requires-clause-gap c = subst (λ (v : FlightView). IsBeside v.gap c.args.position) (sym c.self.view_is) c.requires.gap
@@ -43,21 +44,3 @@ drop_at-requires-clause-behind c = is_behind c.args.position c.len.result _ c.le
 
 pub drop_at-requires-clause-there : goal.drop_at-requires-clause-there
 drop_at-requires-clause-there c = stays_there c.args.self.now.messages c.self.inside.before.messages c.self.inside.after.messages c.take.new.outputs.messages _ c.args.message.now c.args.position (ap (λ v. v.messages) c.self.view_is) c.requires.next c.in_ok-step.ensures.outputs
-
-pub returns-clause-state : goal.returns-clause-state
-returns-clause-state c = c.in_ok-step.ensures.state
-
-pub returns-clause-step : goal.returns-clause-step
-returns-clause-step c = c.in_ok-step.ensures.step
-
-pub returns-clause-fits : goal.returns-clause-fits
-returns-clause-fits c = c.in_ok-step.ensures.fits
-
-pub returns-clause-end : goal.returns-clause-end
-returns-clause-end c = c.in_ok-step.ensures.end
-
-pub returns-clause-err : goal.returns-clause-err
-returns-clause-err c = tt
-
-pub returns-clause-err_messages : goal.returns-clause-err_messages
-returns-clause-err_messages c = tt

@@ -45,17 +45,6 @@ flight_after : (c : goal.In_ok-step) → c.give_next.new.self.messages ≡ remov
 flight_after c =
     rw (c.in_ok-step.ensures.messages, c.open.ensures.messages) refl
 
-pub returns-clause-world : goal.returns-clause-world
-returns-clause-world c =
-    let es = c.self.inside.elements.items in
-    let fl = c.self.inside.flight.messages in
-    let world = world-delivered c.self.inside.graph.now (length es) es fl c.args.position c.route-number.result c.message-message.result c.index_mut.result.now (delivery (goal.at.returns-clause-world c).After-index_mut) in
-    let count : length (set es c.route-number.result c.give_next.new.element) ≡ length es = length-set es c.route-number.result c.give_next.new.element in
-    let after : world_of (set es c.route-number.result c.give_next.new.element) c.give_next.new.self.messages ≡ delivered c.self.inside.graph.now (length es) (world_of es fl) c.args.position =
-    rw (element_after c, flight_after c) world in
-    rw (← ap (λ v. v.graph) c.self.view_is, ← ap (λ v. v.count) c.self.view_is, ← ap (λ v. v.world) c.self.view_is)
-    (λ i. record { graph = c.self.inside.graph.now; count = count i; world = after i })
-
 pub invariant_of-self-2 : goal.invariant_of-self-2
 invariant_of-self-2 c =
     let es = c.self.inside.elements.items in
@@ -63,26 +52,32 @@ invariant_of-self-2 c =
     rw (element_after c, flight_after c)
     (IsMachine-deliver c.self.inside.graph.now es fl c.args.position c.route-number.result c.message-message.result c.index_mut.result.now c.self.invariant (delivery (goal.at.invariant_of-self-2 c).After-index_mut) c.in_ok-step.ensures.fits)
 
-pub returns-clause-step : goal.returns-clause-step
-returns-clause-step c =
+pub returns : goal.returns
+returns c =
+    let g = c.self.inside.graph.now in
     let es = c.self.inside.elements.items in
     let fl = c.self.inside.flight.messages in
-    let event = event-delivered c.self.inside.graph.now (length es) es fl c.args.position c.route-number.result c.message-message.result c.index_mut.result.now (delivery (goal.at.returns-clause-step c).After-index_mut) in
-    let e = c.index_mut.result.now in
+    let k = c.args.position in
+    let n = c.route-number.result in
     let m = c.message-message.result in
-    let same = (delivery (goal.at.returns-clause-step c).After-index_mut).same in
-    let step : c.in_ok-step.step ≡ step_of c.self.inside.graph.now c.route-number.result e.state m =
-    c.in_ok-step.ensures.step ∙ ap (λ g. step_of g e.number e.state m) same.graph ∙ ap (λ n. step_of c.self.inside.graph.now n e.state m) same.number in
-    rw (← ap (λ v. v.graph) c.self.view_is, ← ap (λ v. v.count) c.self.view_is, ← ap (λ v. v.world) c.self.view_is)
-    (ap (option_map (λ e. e.step)) event ∙ ap (λ x. Some x) (sym step))
-
-pub returns-clause-end : goal.returns-clause-end
-returns-clause-end c =
-    let es = c.self.inside.elements.items in
-    let fl = c.self.inside.flight.messages in
-    let event = event-delivered c.self.inside.graph.now (length es) es fl c.args.position c.route-number.result c.message-message.result c.index_mut.result.now (delivery (goal.at.returns-clause-end c).After-index_mut) in
-    rw (← ap (λ v. v.graph) c.self.view_is, ← ap (λ v. v.count) c.self.view_is, ← ap (λ v. v.world) c.self.view_is)
-    (λ bad. cc, λ none. absurd (no_event _ _ event none))
+    let e = c.index_mut.result.now in
+    let later = c.give_next.new.element in
+    let d = delivery (goal.at.returns c).After-index_mut in
+    let event = event-delivered g (length es) es fl k n m e d in
+    let count : length (set es n later) ≡ length es = length-set es n later in
+    let after : world_of (set es n later) c.give_next.new.self.messages ≡ delivered g (length es) (world_of es fl) k =
+    rw (element_after c, flight_after c) (world-delivered g (length es) es fl k n m e d) in
+    let step : c.in_ok-step.step ≡ step_of g n e.state m =
+    c.in_ok-step.ensures.step ∙ ap (λ g. step_of g e.number e.state m) d.same.graph ∙ ap (λ n. step_of c.self.inside.graph.now n e.state m) d.same.number in
+    record {
+      world = rw (← ap (λ v. v.graph) c.self.view_is, ← ap (λ v. v.count) c.self.view_is, ← ap (λ v. v.world) c.self.view_is)
+          (λ i. record { graph = c.self.inside.graph.now; count = count i; world = after i });
+      step = rw (← ap (λ v. v.graph) c.self.view_is, ← ap (λ v. v.count) c.self.view_is, ← ap (λ v. v.world) c.self.view_is)
+          (ap (option_map (λ e. e.step)) event ∙ ap (λ x. Some x) (sym step));
+      end = rw (← ap (λ v. v.graph) c.self.view_is, ← ap (λ v. v.count) c.self.view_is, ← ap (λ v. v.world) c.self.view_is)
+          (λ bad. cc, λ none. absurd (no_event _ _ event none));
+      err = tt;
+    }
 
 -- before it is one, and where an error ends it
 

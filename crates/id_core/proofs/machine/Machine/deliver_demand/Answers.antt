@@ -54,31 +54,6 @@ element_apart c is = c.in_ok-handled.ensures.apart (cc)
 flight_apart : (c : goal.In_ok-handled) → c.in_ok-handled.handled ≡ false → c.give_demand.new.self.messages ≡ c.self.inside.flight.messages
 flight_apart c is = c.in_ok-handled.ensures.apart_messages (cc) ∙ c.open.ensures.messages
 
-pub returns-clause-world : goal.returns-clause-world
-returns-clause-world c h =
-    let did : c.in_ok-handled.handled ≡ true = cc in
-    let es = c.self.inside.elements.items in
-    let fl = c.self.inside.flight.messages in
-    let world = world-delivered c.self.inside.graph.now (length es) es fl c.args.position c.route-number.result (demanded c.args.demand.now) c.index_mut.result.now (delivery (goal.at.returns-clause-world c).After-index_mut) in
-    let count : length (set es c.route-number.result c.give_demand.new.element) ≡ length es = length-set es c.route-number.result c.give_demand.new.element in
-    let after : world_of (set es c.route-number.result c.give_demand.new.element) c.give_demand.new.self.messages ≡ delivered c.self.inside.graph.now (length es) (world_of es fl) c.args.position =
-    rw (element_after c did, flight_after c did) world in
-    rw (← ap (λ v. v.graph) c.self.view_is, ← ap (λ v. v.count) c.self.view_is, ← ap (λ v. v.world) c.self.view_is)
-    (λ i. record { graph = c.self.inside.graph.now; count = count i; world = after i })
-
-pub returns-clause-apart : goal.returns-clause-apart
-returns-clause-apart c is =
-    let not : c.in_ok-handled.handled ≡ false = cc in
-    let es = c.self.inside.elements.items in
-    let fl = c.self.inside.flight.messages in
-    let e = c.index_mut.result.now in
-    let m = demanded c.args.demand.now in
-    let count : length (set es c.route-number.result c.give_demand.new.element) ≡ length es = length-set es c.route-number.result c.give_demand.new.element in
-    let after : world_of (set es c.route-number.result c.give_demand.new.element) c.give_demand.new.self.messages ≡ world_of es fl =
-    world-stays c.self.inside.graph.now es fl c.args.position c.route-number.result m e c.give_demand.new.element c.give_demand.new.self.messages c.self.invariant (delivery (goal.at.returns-clause-apart c).After-index_mut) c.in_ok-handled.ensures.fits
-    (element_apart c not) (flight_apart c not) in
-    (λ i. record { graph = c.self.inside.graph.now; count = count i; world = after i }) ∙ c.self.view_is
-
 pub invariant_of-self-2 : goal.invariant_of-self-2
 invariant_of-self-2 c =
     let es = c.self.inside.elements.items in
@@ -86,27 +61,41 @@ invariant_of-self-2 c =
     IsMachine-handled c.self.inside.graph.now es fl c.args.position c.route-number.result (demanded c.args.demand.now) c.index_mut.result.now c.give_demand.new.element c.give_demand.new.self.messages c.self.invariant (delivery (goal.at.invariant_of-self-2 c).After-index_mut) c.in_ok-handled.ensures.fits
     c.in_ok-handled.handled (element_after c) (flight_after c) (element_apart c) (flight_apart c)
 
-pub returns-clause-step : goal.returns-clause-step
-returns-clause-step c h =
+pub returns : goal.returns
+returns c =
+    let g = c.self.inside.graph.now in
     let es = c.self.inside.elements.items in
     let fl = c.self.inside.flight.messages in
+    let k = c.args.position in
+    let n = c.route-number.result in
     let m = demanded c.args.demand.now in
-    let event = event-delivered c.self.inside.graph.now (length es) es fl c.args.position c.route-number.result m c.index_mut.result.now (delivery (goal.at.returns-clause-step c).After-index_mut) in
     let e = c.index_mut.result.now in
-    let same = (delivery (goal.at.returns-clause-step c).After-index_mut).same in
-    let goes : step_of e.graph e.number e.state m ≡ Went = c.in_ok-handled.ensures.step (cc) in
-    let step : Went ≡ step_of c.self.inside.graph.now c.route-number.result e.state m =
-    sym goes ∙ ap (λ g. step_of g e.number e.state m) same.graph ∙ ap (λ n. step_of c.self.inside.graph.now n e.state m) same.number in
-    rw (← ap (λ v. v.graph) c.self.view_is, ← ap (λ v. v.count) c.self.view_is, ← ap (λ v. v.world) c.self.view_is)
-    (ap (option_map (λ e. e.step)) event ∙ ap (λ x. Some x) (sym step))
-
-pub returns-clause-end : goal.returns-clause-end
-returns-clause-end c =
-    let es = c.self.inside.elements.items in
-    let fl = c.self.inside.flight.messages in
-    let event = event-delivered c.self.inside.graph.now (length es) es fl c.args.position c.route-number.result (demanded c.args.demand.now) c.index_mut.result.now (delivery (goal.at.returns-clause-end c).After-index_mut) in
-    rw (← ap (λ v. v.graph) c.self.view_is, ← ap (λ v. v.count) c.self.view_is, ← ap (λ v. v.world) c.self.view_is)
-    (λ bad. cc, λ none. absurd (no_event _ _ event none))
+    let later = c.give_demand.new.element in
+    let d = delivery (goal.at.returns c).After-index_mut in
+    let event = event-delivered g (length es) es fl k n m e d in
+    let count : length (set es n later) ≡ length es = length-set es n later in
+    record {
+      world = λ h.
+          let did : c.in_ok-handled.handled ≡ true = cc in
+          let after : world_of (set es n later) c.give_demand.new.self.messages ≡ delivered g (length es) (world_of es fl) k =
+          rw (element_after c did, flight_after c did) (world-delivered g (length es) es fl k n m e d) in
+          rw (← ap (λ v. v.graph) c.self.view_is, ← ap (λ v. v.count) c.self.view_is, ← ap (λ v. v.world) c.self.view_is)
+          (λ i. record { graph = c.self.inside.graph.now; count = count i; world = after i });
+      step = λ h.
+          let goes : step_of e.graph e.number e.state m ≡ Went = c.in_ok-handled.ensures.step (cc) in
+          let step : Went ≡ step_of g n e.state m =
+          sym goes ∙ ap (λ g. step_of g e.number e.state m) d.same.graph ∙ ap (λ n. step_of c.self.inside.graph.now n e.state m) d.same.number in
+          rw (← ap (λ v. v.graph) c.self.view_is, ← ap (λ v. v.count) c.self.view_is, ← ap (λ v. v.world) c.self.view_is)
+          (ap (option_map (λ e. e.step)) event ∙ ap (λ x. Some x) (sym step));
+      apart = λ is.
+          let not : c.in_ok-handled.handled ≡ false = cc in
+          let after : world_of (set es n later) c.give_demand.new.self.messages ≡ world_of es fl =
+          world-stays g es fl k n m e later c.give_demand.new.self.messages c.self.invariant d c.in_ok-handled.ensures.fits (element_apart c not) (flight_apart c not) in
+          (λ i. record { graph = c.self.inside.graph.now; count = count i; world = after i }) ∙ c.self.view_is;
+      end = rw (← ap (λ v. v.graph) c.self.view_is, ← ap (λ v. v.count) c.self.view_is, ← ap (λ v. v.world) c.self.view_is)
+          (λ bad. cc, λ none. absurd (no_event _ _ event none));
+      err = tt;
+    }
 
 -- before it is one, and where an error ends it
 

@@ -55,29 +55,6 @@ element_apart c is = c.in_ok-short.ensures.apart is
 flight_apart : (c : goal.In_ok-short) → c.in_ok-short.short ≡ Apart → c.give_plain.new.self.messages ≡ c.self.inside.flight.messages
 flight_apart c is = c.in_ok-short.ensures.apart_messages is ∙ c.open.ensures.messages
 
-pub returns-clause-world : goal.returns-clause-world
-returns-clause-world c h =
-    let es = c.self.inside.elements.items in
-    let fl = c.self.inside.flight.messages in
-    let world = world-delivered c.self.inside.graph.now (length es) es fl c.args.position c.route_tag-number.result (message_of c.args.token.now) c.index_mut.result.now (delivery (goal.at.returns-clause-world c).After-index_mut) in
-    let count : length (set es c.route_tag-number.result c.give_plain.new.element) ≡ length es = length-set es c.route_tag-number.result c.give_plain.new.element in
-    let after : world_of (set es c.route_tag-number.result c.give_plain.new.element) c.give_plain.new.self.messages ≡ delivered c.self.inside.graph.now (length es) (world_of es fl) c.args.position =
-    rw (element_after c h, flight_after c h) world in
-    rw (← ap (λ v. v.graph) c.self.view_is, ← ap (λ v. v.count) c.self.view_is, ← ap (λ v. v.world) c.self.view_is)
-    (λ i. record { graph = c.self.inside.graph.now; count = count i; world = after i })
-
-pub returns-clause-apart : goal.returns-clause-apart
-returns-clause-apart c is =
-    let es = c.self.inside.elements.items in
-    let fl = c.self.inside.flight.messages in
-    let e = c.index_mut.result.now in
-    let m = c.args.token.now in
-    let count : length (set es c.route_tag-number.result c.give_plain.new.element) ≡ length es = length-set es c.route_tag-number.result c.give_plain.new.element in
-    let after : world_of (set es c.route_tag-number.result c.give_plain.new.element) c.give_plain.new.self.messages ≡ world_of es fl =
-    world-apart c.self.inside.graph.now es fl c.args.position c.route_tag-number.result m e c.give_plain.new.element c.give_plain.new.self.messages c.self.invariant (delivery (goal.at.returns-clause-apart c).After-index_mut) c.in_ok-short.ensures.fits
-    (element_apart c is) (flight_apart c is) in
-    (λ i. record { graph = c.self.inside.graph.now; count = count i; world = after i }) ∙ c.self.view_is
-
 pub invariant_of-self-2 : goal.invariant_of-self-2
 invariant_of-self-2 c =
     let es = c.self.inside.elements.items in
@@ -85,26 +62,38 @@ invariant_of-self-2 c =
     IsMachine-short c.self.inside.graph.now es fl c.args.position c.route_tag-number.result c.args.token.now c.index_mut.result.now c.give_plain.new.element c.give_plain.new.self.messages c.self.invariant (delivery (goal.at.invariant_of-self-2 c).After-index_mut) c.in_ok-short.ensures.fits
     c.in_ok-short.short (element_after c) (flight_after c) (element_apart c) (flight_apart c)
 
-pub returns-clause-step : goal.returns-clause-step
-returns-clause-step c h =
+pub returns : goal.returns
+returns c =
+    let g = c.self.inside.graph.now in
     let es = c.self.inside.elements.items in
     let fl = c.self.inside.flight.messages in
+    let k = c.args.position in
+    let n = c.route_tag-number.result in
     let m = message_of c.args.token.now in
-    let event = event-delivered c.self.inside.graph.now (length es) es fl c.args.position c.route_tag-number.result m c.index_mut.result.now (delivery (goal.at.returns-clause-step c).After-index_mut) in
     let e = c.index_mut.result.now in
-    let same = (delivery (goal.at.returns-clause-step c).After-index_mut).same in
-    let step : step_in c.in_ok-short.short (tag_in c.args.token.now) ≡ step_of c.self.inside.graph.now c.route_tag-number.result e.state m =
-    c.in_ok-short.ensures.step h ∙ ap (λ g. step_of g e.number e.state m) same.graph ∙ ap (λ n. step_of c.self.inside.graph.now n e.state m) same.number in
-    rw (← ap (λ v. v.graph) c.self.view_is, ← ap (λ v. v.count) c.self.view_is, ← ap (λ v. v.world) c.self.view_is)
-    (ap (option_map (λ e. e.step)) event ∙ ap (λ x. Some x) (sym step))
-
-pub returns-clause-end : goal.returns-clause-end
-returns-clause-end c =
-    let es = c.self.inside.elements.items in
-    let fl = c.self.inside.flight.messages in
-    let event = event-delivered c.self.inside.graph.now (length es) es fl c.args.position c.route_tag-number.result (message_of c.args.token.now) c.index_mut.result.now (delivery (goal.at.returns-clause-end c).After-index_mut) in
-    rw (← ap (λ v. v.graph) c.self.view_is, ← ap (λ v. v.count) c.self.view_is, ← ap (λ v. v.world) c.self.view_is)
-    (λ bad. cc, λ none. absurd (no_event _ _ event none))
+    let later = c.give_plain.new.element in
+    let d = delivery (goal.at.returns c).After-index_mut in
+    let event = event-delivered g (length es) es fl k n m e d in
+    let count : length (set es n later) ≡ length es = length-set es n later in
+    record {
+      world = λ h.
+          let after : world_of (set es n later) c.give_plain.new.self.messages ≡ delivered g (length es) (world_of es fl) k =
+          rw (element_after c h, flight_after c h) (world-delivered g (length es) es fl k n m e d) in
+          rw (← ap (λ v. v.graph) c.self.view_is, ← ap (λ v. v.count) c.self.view_is, ← ap (λ v. v.world) c.self.view_is)
+          (λ i. record { graph = c.self.inside.graph.now; count = count i; world = after i });
+      step = λ h.
+          let step : step_in c.in_ok-short.short (tag_in c.args.token.now) ≡ step_of g n e.state m =
+          c.in_ok-short.ensures.step h ∙ ap (λ g. step_of g e.number e.state m) d.same.graph ∙ ap (λ n. step_of c.self.inside.graph.now n e.state m) d.same.number in
+          rw (← ap (λ v. v.graph) c.self.view_is, ← ap (λ v. v.count) c.self.view_is, ← ap (λ v. v.world) c.self.view_is)
+          (ap (option_map (λ e. e.step)) event ∙ ap (λ x. Some x) (sym step));
+      apart = λ is.
+          let after : world_of (set es n later) c.give_plain.new.self.messages ≡ world_of es fl =
+          world-apart g es fl k n c.args.token.now e later c.give_plain.new.self.messages c.self.invariant d c.in_ok-short.ensures.fits (element_apart c is) (flight_apart c is) in
+          (λ i. record { graph = c.self.inside.graph.now; count = count i; world = after i }) ∙ c.self.view_is;
+      end = rw (← ap (λ v. v.graph) c.self.view_is, ← ap (λ v. v.count) c.self.view_is, ← ap (λ v. v.world) c.self.view_is)
+          (λ bad. cc, λ none. absurd (no_event _ _ event none));
+      err = tt;
+    }
 
 -- before it is one, and where an error ends it
 
