@@ -1,10 +1,12 @@
 //! What a run shows of its answer and of structures, for who asks for nothing else (docs/MACHINE.md, "Observed").
 
-ghost use Rattle.std.specs.Prelude.{◌≡◌, ◌++◌, ◌↔◌, [], map, IfOk, OnOk, IsTrue};
+ghost use Rattle.std.specs.Prelude.{◌≡◌, ◌++◌, ◌↔◌, [], map, option_and_then, slice_get, IfOk, OnOk, IsTrue};
 ghost use Rattle.std.specs.List.{cons_option, filter_map, flat_map};
-ghost use Rattle.id_bank.specs.Cells.{cells_of};
-ghost use Rattle.id_observe.specs.Observed.{HaveNoCells, MakesNone, IsNamed, answer_in, cell_value_of};
-ghost use Rattle.id_observe.specs.Observed.{cell_values_in, structure_by, structures_in, waiting_in};
+ghost use Rattle.id_bank.specs.Cells.{cells_of, deferred_of};
+ghost use Rattle.id_observe.specs.Observed.{HaveNoCells, MakesNone, IsNamed, answer_in, ask_of, cell_value_of};
+ghost use Rattle.id_observe.specs.Observed.{cell_values_in, shape_at, source_value, structure_by, structures_in};
+ghost use Rattle.id_observe.specs.Observed.{waiting_in};
+ghost use Rattle.id_observe.specs.Paths.{path_by};
 
 use crate::observe::{all_structures, all_waiting, answer, source_value, value_in};
 use crate::paths::{Paths, is_alloc};
@@ -66,10 +68,30 @@ fn held(alloc: Global, graph: &Valid, elements: &[Element<'_>]) -> Result<Holdin
     ensures waiting { IfOk result (λ o. o.waiting ≡ waiting_in graph.now (map (λ e. e.state) elements.now)) }
 {
     let paths = Paths::new(alloc, graph.graph(), elements)?;
-    let structures = all_structures(alloc, &paths)?;
-    let cells = all_cell_values(alloc, &paths, elements)?;
-    let waiting = all_waiting(alloc, &paths, elements)?;
-    let answer = value_in(alloc, &paths, paths.first_value())?;
+    held_by(alloc, &paths, elements)
+}
+
+/// What these elements show of the answer and of structures, by these paths and names.
+fn held_by(
+    alloc: Global,
+    paths: &Paths<'_>,
+    elements: &[Element<'_>],
+) -> Result<Holdings, AllocError>
+    ensures answer { IfOk result (λ o. o.answer
+        ≡ option_and_then (source_value (structure_by paths.now)) (slice_get paths.now.values.items 0)) }
+    ensures structures { IfOk result (λ o. o.structures
+        ≡ map (shape_at paths.now.graph.now (path_by paths.now)) paths.now.makings.items) }
+    ensures cells { IfOk result (λ o. o.cells
+        ≡ filter_map (cell_value_of (structure_by paths.now))
+        (flat_map (λ e. cells_of e.cells) (map (λ e. e.state) elements.now))) }
+    ensures waiting { IfOk result (λ o. o.waiting
+        ≡ map (ask_of paths.now.graph.now (path_by paths.now) (structure_by paths.now))
+        (flat_map (λ e. deferred_of e.cells) (map (λ e. e.state) elements.now))) }
+{
+    let structures = all_structures(alloc, paths)?;
+    let cells = all_cell_values(alloc, paths, elements)?;
+    let waiting = all_waiting(alloc, paths, elements)?;
+    let answer = value_in(alloc, paths, paths.first_value())?;
     Ok(Holdings {
         answer,
         structures: Sequence::new(structures),
@@ -153,10 +175,27 @@ fn add_cell_values(
     values.reserve(cells.len())?;
     let mut at_hand = with_name(alloc, paths, NOTHING)?;
     while let Some(cell) = cells.next() {
-        at_hand = named_for(alloc, paths, at_hand, cell.cell.structure)?;
-        add_cell_value(cell_value_of(alloc, paths, &at_hand, cell)?, values)?;
+        at_hand = add_named(alloc, paths, at_hand, cell, values)?;
     }
     Ok(())
+}
+
+/// Adds what a cell holds, and gives its structure with the name, which is that at hand if it is the same one.
+fn add_named(
+    alloc: Global,
+    paths: &Paths<'_>,
+    at_hand: Named,
+    cell: Filled,
+    values: &mut Vec<CellValue>,
+) -> Result<Named, AllocError>
+    requires { IsNamed paths.now at_hand }
+    ensures name { IfOk result (IsNamed paths.now) }
+    ensures values { OnOk result (values.new.items ≡ values.old.items
+        ++ cons_option (cell_value_of (structure_by paths.now) cell) []) }
+{
+    let named = named_for(alloc, paths, at_hand, cell.cell.structure)?;
+    add_cell_value(cell_value_of(alloc, paths, &named, cell)?, values)?;
+    Ok(named)
 }
 
 /// A structure whose name is looked up before there is a cell.

@@ -1,5 +1,5 @@
--- What the records show is told by their paths and names.
-use Rattle.std.proofs.Common.{◌∙◌, ap, map}
+-- What the records show by their paths and names is what they show.
+use Rattle.std.proofs.Common.{◌≡◌, ◌∙◌, IfOk, ap, map, subst}
 use Rattle.std.specs.List.{filter_map, flat_map}
 use Rattle.std.specs.Prelude.{option_and_then, slice_get}
 use Rattle.id_bank.specs.Cells.{cells_of, deferred_of}
@@ -14,8 +14,9 @@ use Rattle.id_observe.proofs.holdings.held.Goals as goal
 pub returns-clause-structures : goal.returns-clause-structures
 returns-clause-structures c =
     let told = c.in_ok-paths.ensures in
-    c.new-2.ensures ∙ c.in_ok-structures.ensures
-    ∙ structures-from_makings c.args.graph.now _ c.args.elements.now c.in_ok-paths.paths told.graph told.paths told.makings c.graph.ensures.value
+    subst (λ l. IfOk c.held_by.result (λ o. o.structures ≡ l))
+    (structures-from_makings c.args.graph.now _ c.args.elements.now c.in_ok-paths.paths told.graph told.paths told.makings c.graph.ensures.value)
+    c.held_by.ensures.structures
 
 -- what the cells hold is that of what is put into them
 pub returns-clause-cells : goal.returns-clause-cells
@@ -23,13 +24,13 @@ returns-clause-cells c =
     let g = c.graph.result.now in
     let ss = map (λ e. e.state) c.args.elements.now in
     let fs = flat_map (λ e. cells_of e.cells) ss in
-    c.new-3.ensures ∙ c.in_ok-cells.ensures
-    ∙ ap (λ name. filter_map (cell_value_of name) fs) c.in_ok-paths.ensures.structures
+    subst (λ l. IfOk c.held_by.result (λ o. o.cells ≡ l))
+    (ap (λ name. filter_map (cell_value_of name) fs) c.in_ok-paths.ensures.structures
     ∙ cell_values-from_puts g (path_in g ss) (structure_in g ss) fs
-    ∙ ap (λ h. cell_values_in h ss) c.graph.ensures.value
+    ∙ ap (λ h. cell_values_in h ss) c.graph.ensures.value)
+    c.held_by.ensures.cells
 
 -- an error shows nothing
-
 pub returns-in_err-paths : goal.returns-in_err-paths
 returns-in_err-paths c = record {
   answer = if_err _ c.from_residual.result c.from_residual.ensures.0;
@@ -38,47 +39,16 @@ returns-in_err-paths c = record {
   waiting = if_err _ c.from_residual.result c.from_residual.ensures.0;
 }
 
-pub returns-in_err-structures : goal.returns-in_err-structures
-returns-in_err-structures c = record {
-  answer = if_err _ c.from_residual-in_err-structures.result c.from_residual-in_err-structures.ensures.0;
-  structures = if_err _ c.from_residual-in_err-structures.result c.from_residual-in_err-structures.ensures.0;
-  cells = if_err _ c.from_residual-in_err-structures.result c.from_residual-in_err-structures.ensures.0;
-  waiting = if_err _ c.from_residual-in_err-structures.result c.from_residual-in_err-structures.ensures.0;
-}
-
-pub returns-in_err-cells : goal.returns-in_err-cells
-returns-in_err-cells c = record {
-  answer = if_err _ c.from_residual-in_err-cells.result c.from_residual-in_err-cells.ensures.0;
-  structures = if_err _ c.from_residual-in_err-cells.result c.from_residual-in_err-cells.ensures.0;
-  cells = if_err _ c.from_residual-in_err-cells.result c.from_residual-in_err-cells.ensures.0;
-  waiting = if_err _ c.from_residual-in_err-cells.result c.from_residual-in_err-cells.ensures.0;
-}
-
-pub returns-in_err-waiting : goal.returns-in_err-waiting
-returns-in_err-waiting c = record {
-  answer = if_err _ c.from_residual-in_err-waiting.result c.from_residual-in_err-waiting.ensures.0;
-  structures = if_err _ c.from_residual-in_err-waiting.result c.from_residual-in_err-waiting.ensures.0;
-  cells = if_err _ c.from_residual-in_err-waiting.result c.from_residual-in_err-waiting.ensures.0;
-  waiting = if_err _ c.from_residual-in_err-waiting.result c.from_residual-in_err-waiting.ensures.0;
-}
-
-pub returns-in_err-answer : goal.returns-in_err-answer
-returns-in_err-answer c = record {
-  answer = if_err _ c.from_residual-in_err-answer.result c.from_residual-in_err-answer.ensures.0;
-  structures = if_err _ c.from_residual-in_err-answer.result c.from_residual-in_err-answer.ensures.0;
-  cells = if_err _ c.from_residual-in_err-answer.result c.from_residual-in_err-answer.ensures.0;
-  waiting = if_err _ c.from_residual-in_err-answer.result c.from_residual-in_err-answer.ensures.0;
-}
-
 pub returns-clause-answer : goal.returns-clause-answer
 returns-clause-answer c =
     let told = c.in_ok-paths.ensures in
     let ss = map (λ e. e.state) c.args.elements.now in
     let p = c.in_ok-paths.paths in
-    c.in_ok-answer.ensures
-    ∙ ap (option_and_then (source_value (structure_by p))) (c.first_value.ensures ∙ ap (λ vs. slice_get vs 0) told.values)
+    subst (λ l. IfOk c.held_by.result (λ o. o.answer ≡ l))
+    (ap (λ vs. option_and_then (source_value (structure_by p)) (slice_get vs 0)) told.values
     ∙ ap (λ name. option_and_then (source_value name) (slice_get (answers (events_of ss)) 0)) told.structures
-    ∙ ap (λ h. answer_in h ss) c.graph.ensures.value
+    ∙ ap (λ h. answer_in h ss) c.graph.ensures.value)
+    c.held_by.ensures.answer
 
 pub returns-clause-waiting : goal.returns-clause-waiting
 returns-clause-waiting c =
@@ -86,8 +56,9 @@ returns-clause-waiting c =
     let ss = map (λ e. e.state) c.args.elements.now in
     let g = c.graph.result.now in
     let p = c.in_ok-paths.paths in
-    c.new-4.ensures ∙ c.in_ok-waiting.ensures
-    ∙ ap (λ h. map (ask_of h (path_by p) (structure_by p)) (flat_map (λ e. deferred_of e.cells) ss)) told.graph
+    subst (λ l. IfOk c.held_by.result (λ o. o.waiting ≡ l))
+    (ap (λ h. map (ask_of h (path_by p) (structure_by p)) (flat_map (λ e. deferred_of e.cells) ss)) told.graph
     ∙ ap (λ at. map (ask_of g at (structure_by p)) (flat_map (λ e. deferred_of e.cells) ss)) told.paths
     ∙ ap (λ name. map (ask_of g (path_in g ss) name) (flat_map (λ e. deferred_of e.cells) ss)) told.structures
-    ∙ ap (λ h. map (ask_of h (path_in h ss) (structure_in h ss)) (flat_map (λ e. deferred_of e.cells) ss)) c.graph.ensures.value
+    ∙ ap (λ h. map (ask_of h (path_in h ss) (structure_in h ss)) (flat_map (λ e. deferred_of e.cells) ss)) c.graph.ensures.value)
+    c.held_by.ensures.waiting
