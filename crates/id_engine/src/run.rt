@@ -260,6 +260,7 @@ fn machine_report(
     ensures memory { IfErr result (λ e. e ≡ EngineError.Memory) }
 {
     run_machine(machine, count, steps)?;
+    machine.give_back(alloc);
     let report = run_report(alloc, machine, named)?;
     Ok(report)
 }
