@@ -8,9 +8,9 @@ pub mod HomesLemmas
 pub mod LinksLemmas
 pub mod NoneLemmas
 pub mod OpenLemmas
+pub mod ParamsLemmas
 pub mod ProgramsLemmas
 pub mod ScopesLemmas
 pub mod StandingLemmas
 pub mod TakingLemmas
-pub mod TalliesLemmas
 pub mod WaitingLemmas

@@ -10,4 +10,4 @@ pub mod Counts
 pub mod Depths
 pub mod Firsts
 pub mod Names
-pub mod Tallies
+pub mod Params

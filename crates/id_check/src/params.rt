@@ -1,84 +1,69 @@
-//! The parameters of each definition, counted by its head.
+//! The parameters of a definition, which stand right behind its head.
 
-ghost use Rattle.std.specs.Prelude.{◌≡◌, ◌<◌, ◌≤◌, ◌+◌, ◌^◌, length, IfOk};
-ghost use Rattle.id_check.specs.Tallies as tallies;
-ghost use Rattle.id_check.specs.Tallies.{AreTallies, first_array};
+ghost use Rattle.std.specs.Prelude.{◌≡◌, ◌<◌, ℕ, length, nat_eq, nat_lt};
+ghost use Rattle.id_parts.specs.Turns.{IsDefOf, IsTable, params_at};
+ghost use Rattle.id_check.specs.Causes as causes;
+ghost use Rattle.id_check.specs.Params as params;
 
 use id_parts::{Node, Row};
 use id_tree::Kind;
-use std::alloc::{AllocError, Global};
 
 /// The most parameters that a definition may have.
 pub const MAX_PARAMS: usize = 16;
 
-/// The most rows that tallies are made for. No text comes near it.
-const MOST: usize = 0xffff_ffff;
-
-/// How many parameters there are, and the place of the first one that is an array.
-#[derive(Clone, Copy)]
-pub struct Tally {
-    pub count: u32,
-    pub array: Option<u32>,
+/// Whether the definition with this head has a parameter of this index. Takes no memory.
+pub fn has_param(rows: &[Row], head: usize, index: usize) -> bool
+    requires table { IsTable rows.now }
+    requires definition { (n : ℕ) × IsDefOf rows.now n head }
+    ensures { result ≡ nat_lt index (length (params_at rows.now head)) }
+{
+    index < rows.len() - head - 1 && is_param_of(rows, head, head + 1 + index)
 }
 
-/// The parameters of the definition with each head, by row.
-pub fn find_params(alloc: Global, rows: &[Row]) -> Result<Vec<Tally>, AllocError>
-    ensures { IfOk result (λ v. AreTallies rows.now (length rows.now) v.items) }
+/// Whether a parameter of the definition with this head stands at the row. Takes no memory.
+fn is_param_of(rows: &[Row], head: usize, i: usize) -> bool
+    requires { i < length rows.now }
+    ensures { result ≡ params.is_param_of rows.now head i }
 {
-    if rows.len() > MOST {
-        return Err(AllocError);
-    }
-    let none = Tally {
-        count: 0,
-        array: None,
-    };
-    let mut tallies = vec![in alloc; none; rows.len()]?;
-    for i in 0..rows.len() {
-        count(rows, &mut tallies, i);
-    }
-    Ok(tallies)
+    let row = rows[i];
+    matches!(row.node, Node::Param { .. }) && row.block as usize == head
 }
 
-/// Counts a row, if it is a parameter. Takes no memory.
-fn count(rows: &[Row], tallies: &mut Vec<Tally>, i: usize)
-    requires few { length rows.now ≤ MOST }
-    requires row { i < length rows.now }
-    requires tallies { AreTallies rows.now i tallies.old.items }
-    ensures { AreTallies rows.now (i + 1) tallies.new.items }
+/// Whether this is the number of the parameters of the definition with this head: the last of them is its own, and the
+/// row behind that is not. Takes no memory.
+pub fn has_params(rows: &[Row], head: usize, count: usize) -> bool
+    requires table { IsTable rows.now }
+    requires definition { (n : ℕ) × IsDefOf rows.now n head }
+    ensures { result ≡ nat_eq count (length (params_at rows.now head)) }
 {
-    let Row {
-        place,
-        block,
-        node,
-        ..
-    } = rows[i];
-    let block = block as usize;
-    if block < rows.len() {
-        if let Node::Param { kind, .. } = node {
-            tallies[block] = counted(tallies[block], kind, place);
+    (count == 0 || has_param(rows, head, count - 1)) && !has_param(rows, head, count)
+}
+
+/// The place of the first parameter of the definition with this head that is an array. Takes no memory.
+pub fn first_array(rows: &[Row], head: usize) -> Option<u32>
+    requires table { IsTable rows.now }
+    requires definition { (n : ℕ) × IsDefOf rows.now n head }
+    ensures { params.array_cause result ≡ causes.array_param rows.now (params_at rows.now head) }
+{
+    let count = rows.len();
+    for i in head + 1..count {
+        if !is_param_of(rows, head, i) {
+            return None;
+        }
+        let row = rows[i];
+        if is_array_param(row.node) {
+            return Some(row.place);
         }
     }
+    None
 }
 
-/// The tally with one more parameter, of this kind and at this place. Takes no memory.
-fn counted(tally: Tally, kind: Kind, place: u32) -> Tally
-    requires { tally.count + 1 < 2 ^ 32 }
-    ensures count { result.count ≡ tally.count + 1 }
-    ensures array { result.array ≡ first_array tally.array kind place }
+/// Whether an array is a parameter at a row of this node.
+fn is_array_param(node: Node) -> bool
+    ensures { result ≡ causes.is_array_param node }
 {
-    let array = match tally.array {
-        None if is_array(kind) => Some(place),
-        array => array,
-    };
-    Tally {
-        count: tally.count + 1,
-        array,
+    match node {
+        Node::Param { kind, .. } => matches!(kind, Kind::Array),
+        _ => false,
     }
-}
-
-/// Whether the kind is that of arrays.
-fn is_array(kind: Kind) -> bool
-    ensures { result ≡ tallies.is_array kind }
-{
-    matches!(kind, Kind::Array)
 }

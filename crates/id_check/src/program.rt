@@ -5,6 +5,7 @@ ghost use Rattle.id_tree.specs.Tree.{program_tree};
 ghost use Rattle.id_tree.specs.Distinct.{Distinct};
 ghost use Rattle.id_parts.specs.Rows.{at, parts_of, rows_of};
 ghost use Rattle.id_parts.specs.Tables.{IsFormed};
+ghost use Rattle.id_parts.specs.Turns.{IsTable};
 ghost use Rattle.id_check.specs.Causes.{HasNoMain, IsInside, IsMain, IsRefusedFor, causes};
 ghost use Rattle.id_check.specs.Causes as cause;
 ghost use Rattle.id_check.specs.Depths.{AreDepths, AreInBlocks};
@@ -18,7 +19,6 @@ use crate::cause::{CheckCause, CheckError};
 use crate::checked::Checked;
 use crate::depths::find_depths;
 use crate::kinds::find_kinds;
-use crate::params::find_params;
 use crate::scope::{Found, find_binders};
 use crate::wants::note_rows;
 use id_parts::{Node, Row, Table, table_of};
@@ -70,6 +70,7 @@ fn find(alloc: Global, program: &Program) -> Result<(Table, Columns), AllocError
 
 /// What is found in these rows, where the numbers of names are below `count`.
 fn find_columns(alloc: Global, rows: &[Row], count: usize) -> Result<Columns, AllocError>
+    requires table { IsTable rows.now }
     requires formed { IsFormed rows.now }
     requires names { AreNames rows.now count }
     requires blocks { AreInBlocks rows.now }
@@ -82,17 +83,14 @@ fn find_columns(alloc: Global, rows: &[Row], count: usize) -> Result<Columns, Al
 {
     let Found { binders, mut first } = find_binders(alloc, rows, count)?;
     let kinds = find_kinds(alloc, rows, binders.as_slice())?;
-    let tallies = find_params(alloc, rows)?;
     let counts = find_counts(alloc, rows)?;
     note_rows(
         &mut first,
         rows,
         binders.as_slice(),
         kinds.as_slice(),
-        tallies.as_slice(),
         counts.as_slice(),
     );
-    drop(tallies);
     drop(counts);
     let depths = find_depths(alloc, rows)?;
     Ok(Columns {

@@ -4,7 +4,7 @@
 ghost use Rattle.std.specs.Prelude.{◌≡◌, ◌<◌, ◌+◌, ℕ, get_or, length, None, Some};
 ghost use Rattle.id_parts.specs.Rows.{at};
 ghost use Rattle.id_parts.specs.Tables.{IsFormed};
-ghost use Rattle.id_parts.specs.Turns.{params_at};
+ghost use Rattle.id_parts.specs.Turns.{IsDefOf, IsTable, params_at};
 ghost use Rattle.id_check.specs.Causes as causes;
 ghost use Rattle.id_check.specs.Causes.{causes_below, causes_in, unknown, wrong, wrong_argument, wrong_both};
 ghost use Rattle.id_check.specs.Causes.{wrong_cell, wrong_count, wrong_like};
@@ -13,37 +13,36 @@ ghost use Rattle.id_value.specs.declared.BinaryOp.TheVariants as class;
 ghost use Rattle.id_check.specs.Counts.{AreCounts};
 ghost use Rattle.id_check.specs.Firsts.{Notes};
 ghost use Rattle.id_check.specs.Scopes.{user_of};
-ghost use Rattle.id_check.specs.Tallies.{AreTallies, array_cause, count_cause};
+ghost use Rattle.id_check.specs.Params.{array_cause, count_cause};
 
 use crate::cause::{CheckCause, note};
 use crate::kinds::{binder_at, unary_kind};
-use crate::params::{MAX_PARAMS, Tally};
+use crate::params::{MAX_PARAMS, first_array, has_param, has_params};
 use id_parts::{Node, Row};
 use id_tree::{BinaryOp, Kind};
 use id_value::Comparison;
 
-/// Notes what is wrong in the rows, which have these binders and kinds, these parameters by head, and these numbers of
-/// arguments by `Enter`. Takes no memory.
+/// Notes what is wrong in the rows, which have these binders and kinds, and these numbers of arguments by `Enter`.
+/// Takes no memory.
 pub fn note_rows(
     first: &mut Option<CheckCause>,
     rows: &[Row],
     binders: &[Option<u32>],
     kinds: &[Option<Kind>],
-    tallies: &[Tally],
     counts: &[Option<u32>],
 )
+    requires table { IsTable rows.now }
     requires formed { IsFormed rows.now }
     requires binders { length binders.now ≡ length rows.now }
     requires within { (i b : ℕ) → i < length rows.now → get_or binders.now i None ≡ Some b → b < length rows.now }
     requires kinds { length kinds.now ≡ length rows.now }
-    requires tallies { AreTallies rows.now (length rows.now) tallies.now }
     requires counts { AreCounts rows.now (length rows.now) counts.now }
     ensures { Notes first.old
         (causes_below rows.now (λ i. get_or binders.now i None) (λ i. get_or kinds.now i None) (length rows.now))
         first.new }
 {
     for i in 0..rows.len() {
-        note_row(first, rows, binders, kinds, tallies, counts, i);
+        note_row(first, rows, binders, kinds, counts, i);
     }
 }
 
@@ -53,15 +52,14 @@ fn note_row(
     rows: &[Row],
     binders: &[Option<u32>],
     kinds: &[Option<Kind>],
-    tallies: &[Tally],
     counts: &[Option<u32>],
     i: usize,
 )
+    requires table { IsTable rows.now }
     requires formed { IsFormed rows.now }
     requires binders { length binders.now ≡ length rows.now }
     requires within { (i b : ℕ) → i < length rows.now → get_or binders.now i None ≡ Some b → b < length rows.now }
     requires kinds { length kinds.now ≡ length rows.now }
-    requires tallies { AreTallies rows.now (length rows.now) tallies.now }
     requires counts { AreCounts rows.now (length rows.now) counts.now }
     requires row { i < length rows.now }
     ensures { let row = at rows.now i in Notes first.old
@@ -84,7 +82,6 @@ fn note_row(
                 first,
                 rows,
                 kinds,
-                tallies,
                 callee,
                 count_at(counts, enter),
                 index,
@@ -93,7 +90,7 @@ fn note_row(
         }
         Node::Call { enter, count } => {
             let callee = callee(rows, binder_at(binders, enter));
-            note_count_of(first, rows, tallies, callee, count, row.place as usize);
+            note_count_of(first, rows, callee, count, row.place as usize);
         }
         Node::Unary { op, operand } => note_wrong(first, rows, kinds, unary_kind(op), operand),
         Node::Binary { op, left, right } => note_operands(first, rows, kinds, op, left, right),
@@ -116,7 +113,7 @@ fn note_row(
             body,
         } => {
             note_wrong(first, rows, kinds, wanted, body);
-            note_params(first, rows, tallies, head, name, row.place as usize);
+            note_params(first, rows, head, name, row.place as usize);
         }
         _ => {}
     }
@@ -168,30 +165,29 @@ fn count_at(counts: &[Option<u32>], enter: usize) -> Option<usize>
 fn note_count_of(
     first: &mut Option<CheckCause>,
     rows: &[Row],
-    tallies: &[Tally],
     callee: Option<usize>,
     count: usize,
     place: usize,
 )
-    requires tallies { AreTallies rows.now (length rows.now) tallies.now }
-    requires callee { (h : ℕ) → callee ≡ Some h → h < length rows.now }
+    requires table { IsTable rows.now }
+    requires callee { (h : ℕ) → callee ≡ Some h → (n : ℕ) × IsDefOf rows.now n h }
     ensures { Notes first.old (wrong_count rows.now callee count place) first.new }
 {
     if let Some(head) = callee {
-        if !is_count(rows, tallies, head, Some(count)) {
+        if !is_count(rows, head, Some(count)) {
             note(first, CheckCause::WrongCount { at: place });
         }
     }
 }
 
 /// Whether this is the number of the parameters of the procedure with this head. Takes no memory.
-fn is_count(rows: &[Row], tallies: &[Tally], head: usize, count: Option<usize>) -> bool
-    requires tallies { AreTallies rows.now (length rows.now) tallies.now }
-    requires head { head < length rows.now }
+fn is_count(rows: &[Row], head: usize, count: Option<usize>) -> bool
+    requires table { IsTable rows.now }
+    requires definition { (n : ℕ) × IsDefOf rows.now n head }
     ensures { result ≡ causes.is_count rows.now head count }
 {
     match count {
-        Some(count) => count == tallies[head].count as usize,
+        Some(count) => has_params(rows, head, count),
         None => false,
     }
 }
@@ -202,21 +198,21 @@ fn note_argument(
     first: &mut Option<CheckCause>,
     rows: &[Row],
     kinds: &[Option<Kind>],
-    tallies: &[Tally],
     callee: Option<usize>,
     count: Option<usize>,
     index: usize,
     value: usize,
 )
+    requires table { IsTable rows.now }
     requires kinds { length kinds.now ≡ length rows.now }
-    requires tallies { AreTallies rows.now (length rows.now) tallies.now }
-    requires callee { (h : ℕ) → callee ≡ Some h → h < length rows.now }
+    requires callee { (h : ℕ) → callee ≡ Some h → (n : ℕ) × IsDefOf rows.now n h }
+    requires head { (h : ℕ) → callee ≡ Some h → h < length rows.now }
     requires value { value < length rows.now }
     ensures { Notes first.old
         (wrong_argument rows.now (λ i. get_or kinds.now i None) callee count index value) first.new }
 {
     if let Some(head) = callee {
-        if is_count(rows, tallies, head, count) {
+        if is_count(rows, head, count) {
             note_like(first, rows, kinds, param_kind(kinds, head, index), value);
         }
     }
@@ -431,30 +427,22 @@ fn is_same(found: Kind, wanted: Kind) -> bool
 
 /// Notes what is wrong with the parameters of a definition at this place: `main`, the name of number 0, takes no array,
 /// and there are at most 16. Takes no memory.
-fn note_params(
-    first: &mut Option<CheckCause>,
-    rows: &[Row],
-    tallies: &[Tally],
-    head: usize,
-    name: usize,
-    place: usize,
-)
-    requires tallies { AreTallies rows.now (length rows.now) tallies.now }
-    requires head { head < length rows.now }
+fn note_params(first: &mut Option<CheckCause>, rows: &[Row], head: usize, name: usize, place: usize)
+    requires table { IsTable rows.now }
+    requires definition { (n : ℕ) × IsDefOf rows.now n head }
     ensures { Notes first.old (wrong_params rows.now name place (params_at rows.now head)) first.new }
 {
-    let tally = tallies[head];
     if name == 0 {
-        note_array(first, tally.array);
+        note_array(first, first_array(rows, head));
     }
-    note_count(first, tally.count as usize, place);
+    note_many(first, has_param(rows, head, MAX_PARAMS), place);
 }
 
-/// Notes it if there are so many parameters of the definition at this place. Takes no memory.
-fn note_count(first: &mut Option<CheckCause>, count: usize, place: usize)
-    ensures { Notes first.old (count_cause count place) first.new }
+/// Notes it if the definition at this place has too many parameters. Takes no memory.
+fn note_many(first: &mut Option<CheckCause>, many: bool, place: usize)
+    ensures { Notes first.old (count_cause many place) first.new }
 {
-    if count > MAX_PARAMS {
+    if many {
         note(first, CheckCause::TooManyParams { at: place });
     }
 }

@@ -10,6 +10,7 @@ use Rattle.id_check.specs.Firsts.{IsFirstOf}
 use Rattle.id_check.specs.Kinds.{AreKinds}
 use Rattle.id_check.specs.Names.{AreNames}
 use Rattle.id_check.specs.Scopes.{bound_name, used_name}
+use Rattle.id_parts.specs.Turns.{IsTable}
 use Rattle.id_tree.specs.Tree.{program_tree}
 use Rattle.id_parts.proofs.TableLemmas.{IsTable-rows_of}
 use Rattle.id_parts.proofs.TreeLemmas.{IsProgramTree-program_tree}
@@ -52,3 +53,8 @@ pub find_columns-requires-clause-blocks : goal.find_columns-requires-clause-bloc
 find_columns-requires-clause-blocks c =
     let t = program_tree c.args.program.now in
     subst AreInBlocks (sym (c.as_slice.ensures.value ∙ c.in_ok-table.ensures.rows)) (AreInBlocks-table t (IsTable-rows_of t (IsProgramTree-program_tree c.args.program.now)))
+
+pub find_columns-requires-clause-table : goal.find_columns-requires-clause-table
+find_columns-requires-clause-table c =
+    let t = program_tree c.args.program.now in
+    subst IsTable (sym (c.as_slice.ensures.value ∙ c.in_ok-table.ensures.rows)) (IsTable-rows_of t (IsProgramTree-program_tree c.args.program.now))

@@ -11,6 +11,7 @@ use Rattle.id_check.specs.Firsts.{Notes}
 use Rattle.id_check.specs.Scopes.{user_of}
 use Rattle.id_check.proofs.FirstsLemmas.{Notes-append}
 use Rattle.id_check.proofs.LinksLemmas.{head_below, part_of}
+use Rattle.id_check.proofs.ParamsLemmas.{callee_def}
 use Rattle.id_check.proofs.wants.note_row.Goals as goal
 
 pub note_wrong-requires-clause-row : goal.note_wrong-requires-clause-row
@@ -64,8 +65,9 @@ note_arm-requires-clause-otherwise c = part_of c.in-If.otherwise c.requires.form
 pub note_wrong-requires-in-Def-clause-row : goal.note_wrong-requires-in-Def-clause-row
 note_wrong-requires-in-Def-clause-row c = part_of c.in-Def.body c.requires.formed c.requires.row c.in-Def.is (inr refl)
 
-pub note_params-requires-clause-head : goal.note_params-requires-clause-head
-note_params-requires-clause-head c = part_of c.in-Def.head c.requires.formed c.requires.row c.in-Def.is (inl refl)
+pub note_params-requires-clause-definition : goal.note_params-requires-clause-definition
+note_params-requires-clause-definition c =
+    (c.args.i, record { name = c.in-Def.name; result = c.in-Def.wanted; body = c.in-Def.body; within = c.requires.row; node = c.in-Def.is })
 
 -- the causes in a row of this node, by these columns, are noted beside those from before
 abbrev Noted : List Row → List (Option Kind) → List (Option ℕ) → ℕ → Option CheckCause → Option CheckCause → Node → Type 0
@@ -127,6 +129,13 @@ pub note_argument-requires-clause-callee : goal.note_argument-requires-clause-ca
 note_argument-requires-clause-callee c = λ h q.
     let e = c.in-Arg.enter in
     let less = part_of e c.requires.formed c.requires.row c.in-Arg.is (inl refl) in
+    callee_def c.args.rows.now (get_or c.args.binders.now e None) (λ b w. c.requires.within e b less w) h
+    (ap (callee c.args.rows.now) (sym c.binder_at.ensures) ∙ sym c.callee-callee.ensures ∙ q)
+
+pub note_argument-requires-clause-head : goal.note_argument-requires-clause-head
+note_argument-requires-clause-head c = λ h q.
+    let e = c.in-Arg.enter in
+    let less = part_of e c.requires.formed c.requires.row c.in-Arg.is (inl refl) in
     head_below c.args.rows.now c.requires.formed (get_or c.args.binders.now e None) (λ b w. c.requires.within e b less w) h
     (ap (callee c.args.rows.now) (sym c.binder_at.ensures) ∙ sym c.callee-callee.ensures ∙ q)
 
@@ -134,7 +143,7 @@ pub note_count_of-requires-clause-callee : goal.note_count_of-requires-clause-ca
 note_count_of-requires-clause-callee c = λ h q.
     let e = c.in-Call.enter in
     let less = part_of e c.requires.formed c.requires.row c.in-Call.is refl in
-    head_below c.args.rows.now c.requires.formed (get_or c.args.binders.now e None) (λ b w. c.requires.within e b less w) h
+    callee_def c.args.rows.now (get_or c.args.binders.now e None) (λ b w. c.requires.within e b less w) h
     (ap (callee c.args.rows.now) (sym c.binder_at-in-Call.ensures) ∙ sym c.callee-callee-in-Call.ensures ∙ q)
 
 pub returns-in-Enter : goal.returns-in-Enter
