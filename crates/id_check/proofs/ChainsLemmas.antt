@@ -1,12 +1,13 @@
 -- One step along a chain, and the kind that is given to the rows on it.
-use Rattle.std.proofs.Common.{◌≡◌, ◌≢◌, ◌⊎◌, inl, inr, ◌+◌, ◌<◌, ℕ, List, [], ◌∷◌, ◌++◌, Option, get_or, set, length, refl, ap, sym, ◌∙◌, subst, arith}
-use Rattle.std.proofs.lemmas.Bool.{cases_eq}
-use Rattle.std.proofs.lemmas.List.{length-set, get_or-set_same, get_or-set_other}
+use Rattle.std.proofs.Common.{◌≡◌, ◌≢◌, ◌⊎◌, inl, inr, ◌+◌, ◌<◌, ◌≤◌, ℕ, List, [], ◌∷◌, ◌++◌, Option, get_or, set, length, refl, ap, sym, ◌∙◌, subst, arith}
+use Rattle.std.specs.Prelude.{None, not, true}
+use Rattle.std.proofs.lemmas.Bool.{cases_eq, cases_lt, false≢true}
+use Rattle.std.proofs.lemmas.List.{length_push, get_or_append_left, get_or_push, length-set, get_or-set_same, get_or-set_other}
 use Rattle.id_value.specs.declared.Kind.{Kind}
 use Rattle.id_value.specs.declared.Kind.TheVariants.{Int}
 use Rattle.id_check.specs.Kinds.{Link, Fixed, To, Nowhere, EndsIn, in_kind, in_nothing, further}
 use Rattle.id_list.specs.List.{Among}
-use Rattle.id_check.specs.Chains.{IsKind, ends, endless, IsEnd, IsFilling, IsFound, IsGoing, IsPassing, IsState, Leads, kind_of}
+use Rattle.id_check.specs.Chains.{IsKind, ends, endless, IsEnd, IsFilling, IsFound, IsGoing, IsPassing, IsState, Leads, is_going_on, kind_of}
 use Rattle.id_list.proofs.AmongLemmas.{Among-left, Among-right, Among-either, Among-one}
 
 to_same : (a b : ℕ) → To a ≡ To b → a ≡ b
@@ -18,7 +19,7 @@ after q (in_kind k e) f = let d : Fixed k ≡ To q = sym e ∙ f in cc
 after q (in_nothing e) f = let d : Nowhere ≡ To q = sym e ∙ f in cc
 after {l} {p} {o} q (further j e g) f = subst (λ z. EndsIn l z o) (to_same j q (sym e ∙ f)) g
 
-lead_one : (l : ℕ → Link) (p q : ℕ) → l p ≡ To q → Leads l p q
+pub lead_one : (l : ℕ → Link) (p q : ℕ) → l p ≡ To q → Leads l p q
 lead_one l p q e _ (ends h) = ends (further q e h)
 lead_one l p q e _ (endless h) = endless (λ o g. h o (after q g e))
 
@@ -159,3 +160,49 @@ IsKind-once (ends g) (ends h) = ends_once g h
 IsKind-once (ends g) (endless h) = absurd (h _ g)
 IsKind-once (endless h) (ends g) = absurd (h _ g)
 IsKind-once (endless g) (endless h) = refl
+
+-- a link that does not go on is the end
+pub IsEnd-from : (k : Link) → not (is_going_on k) ≡ true → IsEnd k
+IsEnd-from (Fixed k) e = tt
+IsEnd-from (To j) e = absurd (false≢true e)
+IsEnd-from Nowhere e = tt
+
+-- what a chain comes to in one step, if that is known
+pub IsState-after : (l : ℕ → Link) (i j : ℕ) (k : Link) → l i ≡ To j → IsState l 0 j k → IsEnd k → IsState l 0 i k
+IsState-after l i j k e s t =
+    let f = found_from l 0 j k s t in
+    inr (record { is_end = f.is_end; kind = lead_one l i j e (kind_of k) f.kind })
+
+-- the kind of a row that is settled
+pub kind_settled : (l : ℕ → Link) (i : ℕ) (k : Link) → IsState l (i + 1) i k → IsKind l i (kind_of k)
+kind_settled l i k (inl s) = let low = s.0 in absurd (omega arith)
+kind_settled l i k (inr s) = s.kind
+
+-- one more row of which it is known where its chain goes on, or what it comes to
+pub IsGoing-push : (l : ℕ → Link) (n : ℕ) (ks js : List Link) (k : Link) → js ≡ ks ++ k ∷ [] → IsGoing l n 0 ks → IsState l 0 n k → IsGoing l (n + 1) 0 js
+IsGoing-push l n ks js k e h s = record {
+  long = ap length e ∙ length_push ks k ∙ ap (λ m. m + 1) h.long;
+  states = λ i b. subst (λ zs. IsState l 0 i (get_or zs i Nowhere)) (sym e) (by i b (cases_lt i n));
+}
+  where
+    by : (i : ℕ) → i < n + 1 → (i < n) ⊎ (n ≤ i) → IsState l 0 i (get_or (ks ++ k ∷ []) i Nowhere)
+    by i b (inl c) = subst (IsState l 0 i) (sym (get_or_append_left ks (k ∷ []) Nowhere i (omega (arith, h.long)))) (h.states i c)
+    by i b (inr c) =
+        let same : i ≡ n = omega arith in
+        subst (IsState l 0 i) (sym (get_or_push ks k Nowhere i (omega (arith, h.long)))) (subst (λ z. IsState l 0 z k) (sym same) s)
+
+-- where a row's link goes on it is as it was
+pub targets_state : (l : ℕ → Link) (m i j : ℕ) (k : Link) → IsState l m i k → k ≡ To j → l i ≡ To j
+targets_state l m i j k (inl h) e = sym h.1 ∙ e
+targets_state l m i j k (inr h) e = absurd (subst IsEnd e h.is_end)
+
+-- the kind of one more row is known
+pub IsKind-push : (l : ℕ → Link) (n : ℕ) (xs ys : List (Option Kind)) (o : Option Kind) → length xs ≡ n → ys ≡ xs ++ o ∷ [] → IsKind l n o
+    → ((i : ℕ) → i < n → IsKind l i (get_or xs i None)) → (i : ℕ) → i < n + 1 → IsKind l i (get_or ys i None)
+IsKind-push l n xs ys o long e k h i less = subst (λ zs. IsKind l i (get_or zs i None)) (sym e) (by (cases_lt i n))
+  where
+    by : (i < n) ⊎ (n ≤ i) → IsKind l i (get_or (xs ++ o ∷ []) i None)
+    by (inl c) = subst (IsKind l i) (sym (get_or_append_left xs (o ∷ []) None i (omega (arith, long)))) (h i c)
+    by (inr c) =
+        let same : i ≡ n = omega arith in
+        subst (IsKind l i) (sym (get_or_push xs o None i (omega (arith, long)))) (subst (λ z. IsKind l z o) (sym same) k)

@@ -1,23 +1,26 @@
 //! The kind of each row, found by its chain.
 
-ghost use Rattle.std.specs.Prelude.{◌≡◌, ◌<◌, ◌+◌, ◌⊎◌, ℕ, [], get_or, length, IfOk, OnOk, Some, None};
+ghost use Rattle.std.specs.Prelude.{◌≡◌, ◌<◌, ◌≤◌, ◌+◌, ◌^◌, ◌⊎◌, ℕ, [], not, get_or, length, IfOk, OnOk, Some, None};
 ghost use Rattle.id_list.specs.List.{Among};
-ghost use Rattle.id_parts.specs.Tables.{IsFormed};
+ghost use Rattle.id_parts.specs.Tables.{HasPart, IsFormed};
 ghost use Rattle.id_check.specs.Kinds as kinds;
 ghost use Rattle.id_check.specs.Kinds.{AreKinds, To, Nowhere};
 ghost use Rattle.id_check.specs.Chains as chains;
-ghost use Rattle.id_check.specs.Chains.{IsGoing, IsFilling, IsEnd};
+ghost use Rattle.id_check.specs.Chains.{IsGoing, IsFilling, IsState};
 
 use crate::rows::{user_of, wide};
 use id_parts::{Node, Row};
 use id_tree::{BinaryOp, Constant, Kind, UnaryOp};
 use std::alloc::{AllocError, Global};
 
+/// The most rows whose kinds are looked for. No text comes near it.
+const MOST: usize = 0xffff_ffff;
+
 /// Where the chain of a row goes on: it ends in a kind, it goes on to another row, or it ends without a kind.
 #[derive(Clone, Copy)]
 pub enum Link {
     Fixed(Kind),
-    To(usize),
+    To(u32),
     Nowhere,
 }
 
@@ -36,32 +39,63 @@ pub fn find_kinds(
 {
     let mut links = find_links(alloc, rows, binders)?;
     let mut passed = Vec::new(alloc);
+    let mut kinds = Vec::with_capacity(alloc, rows.len())?;
     for i in 0..rows.len() {
         settle(&mut links, &mut passed, i)?;
+        kinds.push(kind_of(links[i]))?;
     }
-    let kinds = kinds_of(alloc, links.as_slice())?;
     Ok(kinds)
 }
 
-/// Where the chain of each row goes on.
+/// Where the chain of each row goes on, or what it comes to, where that is known from the rows before.
 fn find_links(alloc: Global, rows: &[Row], binders: &[Option<u32>]) -> Result<Vec<Link>, AllocError>
     requires formed { IsFormed rows.now }
     requires binders { length binders.now ≡ length rows.now }
-    ensures long { IfOk result (λ v. length v.items ≡ length rows.now) }
-    ensures each { IfOk result (λ v. (i : ℕ) → i < length rows.now
-        → get_or v.items i Nowhere ≡ kinds.link_at rows.now (λ k. get_or binders.now k None) i) }
+    requires within { (i b : ℕ) → i < length rows.now → get_or binders.now i None ≡ Some b → b < length rows.now }
+    ensures { IfOk result (λ v.
+        IsGoing (kinds.link_at rows.now (λ k. get_or binders.now k None)) (length rows.now) 0 v.items) }
 {
+    if rows.len() > MOST {
+        return Err(AllocError);
+    }
     let mut links = Vec::with_capacity(alloc, rows.len())?;
     for i in 0..rows.len() {
-        links.push(link_at(rows, binders, i))?;
+        let link = link_at(rows, binders, i);
+        links.push(follow(links.as_slice(), link))?;
     }
     Ok(links)
 }
 
+/// What the link comes to, if that is known from these rows, or the link itself. Takes no memory.
+fn follow(links: &[Link], link: Link) -> Link
+    ensures { (l : ℕ → Link) (i : ℕ) → l i ≡ link
+        → ((j : ℕ) → j < length links.now → IsState l 0 j (get_or links.now j Nowhere)) → IsState l 0 i result }
+{
+    if let Link::To(next) = link {
+        let next = next as usize;
+        if next < links.len() && is_end(links[next]) {
+            return links[next];
+        }
+    }
+    link
+}
+
+/// Whether the chain ends at the link.
+fn is_end(link: Link) -> bool
+    ensures { result ≡ not (chains.is_going_on link) }
+{
+    match link {
+        Link::Fixed(_) | Link::Nowhere => true,
+        Link::To(_) => false,
+    }
+}
+
 /// Where the chain of the row goes on.
 fn link_at(rows: &[Row], binders: &[Option<u32>], i: usize) -> Link
+    requires few { length rows.now ≤ MOST }
     requires formed { IsFormed rows.now }
     requires binders { length binders.now ≡ length rows.now }
+    requires within { (i b : ℕ) → i < length rows.now → get_or binders.now i None ≡ Some b → b < length rows.now }
     requires row { i < length rows.now }
     ensures { result ≡ kinds.link_at rows.now (λ k. get_or binders.now k None) i }
 {
@@ -75,19 +109,6 @@ pub fn binder_at(binders: &[Option<u32>], i: usize) -> Option<usize>
     ensures { result ≡ get_or binders.now i None }
 {
     wide(binders[i])
-}
-
-/// The kinds that the links give.
-fn kinds_of(alloc: Global, links: &[Link]) -> Result<Vec<Option<Kind>>, AllocError>
-    ensures long { IfOk result (λ v. length v.items ≡ length links.now) }
-    ensures each { IfOk result (λ v. (i : ℕ) → i < length links.now
-        → get_or v.items i None ≡ chains.kind_of (get_or links.now i Nowhere)) }
-{
-    let mut kinds = Vec::with_capacity(alloc, links.len())?;
-    for i in 0..links.len() {
-        kinds.push(kind_of(links[i]))?;
-    }
-    Ok(kinds)
 }
 
 /// Finds the kind that the chain of the row comes to, and gives it to all rows on the way. A chain that comes back to
@@ -108,7 +129,7 @@ fn settle(links: &mut Vec<Link>, passed: &mut Vec<usize>, start: usize) -> Resul
     while let Link::To(next) = links[at] {
         passed.push(at)?;
         links[at] = Link::Fixed(Kind::Int);
-        at = next;
+        at = next as usize;
     }
     let end = links[at];
     fill(links, passed, end);
@@ -142,6 +163,8 @@ fn kind_of(link: Link) -> Option<Kind>
 
 /// Where the chain of a row goes on, which has this binder if it is about a name.
 fn link_of(binder: Option<usize>, node: Node) -> Link
+    requires binder { (b : ℕ) → binder ≡ Some b → b < 2 ^ 32 }
+    requires parts { (a : ℕ) → HasPart node a → a < 2 ^ 32 }
     ensures { result ≡ kinds.link_of binder node }
 {
     match node {
@@ -150,11 +173,11 @@ fn link_of(binder: Option<usize>, node: Node) -> Link
         Node::Name { .. } | Node::NextUse { .. } | Node::Call { .. } => link_of_name(binder),
         Node::Unary { op, .. } => Link::Fixed(unary_kind(op)),
         Node::Binary { op, .. } => Link::Fixed(binary_kind(op)),
-        Node::If { then, .. } => Link::To(then),
-        Node::Block { body } => Link::To(body),
-        Node::Binding { value, .. } => Link::To(value),
-        Node::Next { outer, .. } => Link::To(outer),
-        Node::Loop { last, .. } => Link::To(last),
+        Node::If { then, .. } => Link::To(then as u32),
+        Node::Block { body } => Link::To(body as u32),
+        Node::Binding { value, .. } => Link::To(value as u32),
+        Node::Next { outer, .. } => Link::To(outer as u32),
+        Node::Loop { last, .. } => Link::To(last as u32),
         Node::Array { .. } => Link::Fixed(Kind::Array),
         Node::Fetch { .. } => Link::Fixed(Kind::Int),
         Node::Def { result, .. } => Link::Fixed(result),
@@ -168,10 +191,11 @@ fn link_of(binder: Option<usize>, node: Node) -> Link
 
 /// Where the chain of a name goes on: to its binder, if it has one.
 fn link_of_name(binder: Option<usize>) -> Link
+    requires { (b : ℕ) → binder ≡ Some b → b < 2 ^ 32 }
     ensures { result ≡ kinds.link_of_name binder }
 {
     match binder {
-        Some(binder) => Link::To(binder),
+        Some(binder) => Link::To(binder as u32),
         None => Link::Nowhere,
     }
 }

@@ -1,7 +1,8 @@
-use Rattle.std.proofs.Common.{◌≡◌, ◌+◌, ◌≤◌, ◌<◌, ℕ, Option, None, inl, inr, sym, ◌∙◌, subst, get_or, length, arith}
+use Rattle.std.proofs.Common.{◌≡◌, ◌+◌, ◌<◌, ℕ, Option, None, ap, sym, ◌∙◌, subst, get_or, length, arith}
+use Rattle.std.proofs.lemmas.List.{get_or_default, length_push}
 use Rattle.id_check.specs.Kinds.{Link, Nowhere, link_at}
-use Rattle.id_check.specs.Chains.{IsKind, ends, endless, IsGoing, IsState, kind_of}
-use Rattle.id_check.proofs.ChainsLemmas.{IsKind-once}
+use Rattle.id_check.specs.Chains.{IsKind, ends, endless, IsGoing, kind_of}
+use Rattle.id_check.proofs.ChainsLemmas.{IsKind-once, IsKind-push, kind_settled, targets_state}
 use Rattle.id_check.proofs.LinksLemmas.{link_below}
 use Rattle.id_check.proofs.kinds.find_kinds.Goals as goal
 
@@ -9,13 +10,16 @@ pub loop-i-init : goal.loop-i-init
 loop-i-init c =
     let R = c.args.rows.now in
     let β : ℕ → Option ℕ = λ i. get_or c.args.binders.now i None in
-    let long = c.in_ok-links.ensures.long in
-    let each = c.in_ok-links.ensures.each in
+    let going = c.in_ok-links.ensures in
     record {
       passed = c.new-passed.ensures.items;
-      targets = λ i j b e. let less = subst (λ n. i < n) long b in
-          subst (λ n. j < n) (sym long) (link_below R β c.requires.formed c.requires.within i j less (sym (each i less) ∙ e));
-      going = record { long = long; states = λ i b. inl (omega arith, each i b) };
+      targets = λ i j b e.
+          let less = subst (λ n. i < n) going.long b in
+          subst (λ n. j < n) (sym going.long)
+          (link_below R β c.requires.formed c.requires.within i j less (targets_state (link_at R β) 0 i j (get_or c.in_ok-links.links.items i Nowhere) (going.states i less) e));
+      going = going;
+      long = ap length c.in_ok-kinds.ensures.items;
+      kinds = λ i b. absurd (omega arith);
     }
 
 pub loop-i-preserved : goal.loop-i-preserved
@@ -23,25 +27,28 @@ loop-i-preserved c =
     let R = c.args.rows.now in
     let l : ℕ → Link = link_at R (λ i. get_or c.args.binders.now i None) in
     let i = c.loop-i.i in
-    let long = c.loop-i.invariant.going.long in
+    let h = c.loop-i.invariant in
+    let long = h.going.long in
     let step = c.in_ok-settle.ensures in
+    let ks = c.settle.new.links.items in
+    let less = c.loop-i-test.true in
+    let going : IsGoing l (length R) (i + 1) ks =
+    subst (λ n. IsGoing l n (i + 1) ks) long (step.going l (subst (λ n. IsGoing l n i c.loop-i.links.items) (sym long) h.going)) in
+    let read : c.index.result.now ≡ get_or ks i Nowhere = c.index.ensures ∙ get_or_default ks i c.index.result.now Nowhere (subst (λ n. i < n) (sym going.long) less) in
+    let kind : IsKind l i c.kind_of.result = subst (IsKind l i) (sym (c.kind_of.ensures ∙ ap kind_of read)) (kind_settled l i (get_or ks i Nowhere) (going.states i less)) in
     record {
       passed = step.passed;
       targets = step.targets;
-      going = subst (λ n. IsGoing l n (i + 1) c.settle.new.links.items) long (step.going l (subst (λ n. IsGoing l n i c.loop-i.links.items) (sym long) c.loop-i.invariant.going));
+      going = going;
+      long = ap length c.in_ok-push.ensures.items ∙ length_push c.loop-i.kinds.items c.kind_of.result ∙ ap (λ n. n + 1) h.long;
+      kinds = IsKind-push l i c.loop-i.kinds.items c.push.new.self.items c.kind_of.result h.long c.in_ok-push.ensures.items kind h.kinds;
     }
-
-found : (l : ℕ → Link) (n i m : ℕ) (k : Link) → n ≤ m → i < n → IsState l m i k → IsKind l i (kind_of k)
-found l n i m k h b (inl s) = let low = s.0 in absurd (omega arith)
-found l n i m k h b (inr s) = s.kind
 
 pub returns-clause-kinds : goal.returns-clause-kinds
 returns-clause-kinds c =
     let R = c.args.rows.now in
     let l : ℕ → Link = link_at R (λ i. get_or c.args.binders.now i None) in
-    let ks = c.loop-i.links.items in
-    let h = c.loop-i.invariant.going in
-    let done = c.loop-i-test.false in
-    let each = subst (λ zs. (i : ℕ) → i < length zs → get_or c.in_ok-kinds.kinds.items i None ≡ kind_of (get_or zs i Nowhere)) c.as_slice.ensures.value c.in_ok-kinds.ensures.each in
-    let kind : (i : ℕ) → i < length R → IsKind l i (get_or c.in_ok-kinds.kinds.items i None) = λ i b. subst (IsKind l i) (sym (each i (subst (λ n. i < n) (sym h.long) b))) (found l (length R) i c.loop-i.i (get_or ks i Nowhere) (omega arith) b (h.states i b)) in
+    let h = c.loop-i.invariant in
+    let end : c.loop-i.i ≡ length R = omega (arith, c.loop-i.auto.i-end, c.loop-i-test.false) in
+    let kind : (i : ℕ) → i < length R → IsKind l i (get_or c.loop-i.kinds.items i None) = λ i b. h.kinds i (subst (λ n. i < n) (sym end) b) in
     record { ends = λ i o b g. IsKind-once (kind i b) (ends g); endless = λ i b g. IsKind-once (kind i b) (endless g) }

@@ -1,14 +1,21 @@
-use Rattle.std.proofs.Common.{◌+◌, ap, ◌∙◌, get_or, length}
-use Rattle.std.specs.Prelude.{None}
-use Rattle.std.proofs.lemmas.List.{length_push}
-use Rattle.id_check.specs.Kinds.{Nowhere, link_at}
-use Rattle.id_check.proofs.FillsLemmas.{pushed_each}
+use Rattle.std.proofs.Common.{◌≡◌, ◌<◌, ℕ, None, get_or, length, sym, subst, arith}
+use Rattle.id_check.specs.Kinds.{Link, Nowhere, link_at}
+use Rattle.id_check.specs.Chains.{IsGoing, IsState}
+use Rattle.id_check.proofs.ChainsLemmas.{IsGoing-push}
 use Rattle.id_check.proofs.kinds.find_links.Goals as goal
 
 pub loop-i-preserved : goal.loop-i-preserved
 loop-i-preserved c =
-    record {
-      long = ap length c.in_ok-push.ensures.items ∙ length_push c.loop-i.links.items c.link_at.result ∙ ap (λ n. n + 1) c.loop-i.invariant.long;
-      each = pushed_each Nowhere (link_at c.args.rows.now (λ j. get_or c.args.binders.now j None)) c.loop-i.links.items c.push.new.self.items c.link_at.result c.loop-i.i
-          c.loop-i.invariant.long c.in_ok-push.ensures.items c.link_at.ensures c.loop-i.invariant.each;
-    }
+    let l : ℕ → Link = link_at c.args.rows.now (λ j. get_or c.args.binders.now j None) in
+    let ks = c.loop-i.links.items in
+    let h = c.loop-i.invariant in
+    let states : (j : ℕ) → j < length ks → IsState l 0 j (get_or ks j Nowhere) = λ j b. h.states j (subst (λ n. j < n) h.long b) in
+    IsGoing-push l c.loop-i.i ks c.push.new.self.items c.follow.result c.in_ok-push.ensures.items h
+    (c.follow.ensures l c.loop-i.i (sym c.link_at-link.ensures)
+    (subst (λ zs. (j : ℕ) → j < length zs → IsState l 0 j (get_or zs j Nowhere)) (sym c.as_slice.ensures.value) states))
+
+pub returns : goal.returns
+returns c =
+    let l : ℕ → Link = link_at c.args.rows.now (λ j. get_or c.args.binders.now j None) in
+    let end : c.loop-i.i ≡ length c.args.rows.now = omega (arith, c.loop-i.auto.i-end, c.loop-i-test.false) in
+    subst (λ n. IsGoing l n 0 c.loop-i.links.items) end c.loop-i.invariant
