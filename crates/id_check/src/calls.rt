@@ -12,6 +12,7 @@ use std::alloc::{AllocError, Global};
 const MOST: usize = 0xffff_ffff;
 
 /// The number of arguments of the call with each `Enter`, by row.
+#[inline(never)]
 pub fn find_counts(alloc: Global, rows: &[Row]) -> Result<Vec<Option<u32>>, AllocError>
     requires { IsFormed rows.now }
     ensures { IfOk result (λ v. AreCounts rows.now (length rows.now) v.items) }

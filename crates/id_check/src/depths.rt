@@ -11,6 +11,7 @@ use std::alloc::{AllocError, Global};
 const MOST: usize = 0xffff_ffff;
 
 /// How many loops of its procedure each row is in.
+#[inline(never)]
 pub fn find_depths(alloc: Global, rows: &[Row]) -> Result<Vec<u32>, AllocError>
     requires { AreInBlocks rows.now }
     ensures { IfOk result (λ v. AreDepths rows.now (length rows.now) v.items) }

@@ -25,6 +25,7 @@ pub enum Link {
 }
 
 /// The kind of each row, if it has one; these are the binders of the names.
+#[inline(never)]
 pub fn find_kinds(
     alloc: Global,
     rows: &[Row],

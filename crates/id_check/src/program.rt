@@ -68,7 +68,8 @@ fn find(alloc: Global, program: &Program) -> Result<(Table, Columns), AllocError
     Ok((table, columns))
 }
 
-/// What is found in these rows, where the numbers of names are below `count`.
+/// What is found in these rows, where the numbers of names are below `count`. Each of the passes is kept apart from the
+/// others by `inline(never)`: in one function of all of them the values of a loop are kept in memory.
 fn find_columns(alloc: Global, rows: &[Row], count: usize) -> Result<Columns, AllocError>
     requires table { IsTable rows.now }
     requires formed { IsFormed rows.now }

@@ -49,6 +49,7 @@ pub struct Found {
 }
 
 /// Finds the binders of the names, whose numbers are below `count`.
+#[inline(never)]
 pub fn find_binders(alloc: Global, rows: &[Row], count: usize) -> Result<Found, AllocError>
     requires { AreNames rows.now count }
     ensures long { IfOk result (λ f. length f.binders.items ≡ length rows.now) }

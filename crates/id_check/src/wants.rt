@@ -24,6 +24,7 @@ use id_value::Comparison;
 
 /// Notes what is wrong in the rows, which have these binders and kinds, and these numbers of arguments by `Enter`.
 /// Takes no memory.
+#[inline(never)]
 pub fn note_rows(
     first: &mut Option<CheckCause>,
     rows: &[Row],
