@@ -1,13 +1,13 @@
 -- How the readers' runs are put together, for each production and each way out of it.
-use Rattle.std.proofs.Common.{◌≡◌, ℕ, ℤ, ◌+◌, ◌≤◌, ◌<◌, max, inl, inr, Some, None, List, [], ◌∷◌, ◌++◌, true, false, Bool, refl, sym, ap, ◌∙◌, subst, arith, zero-le}
+use Rattle.std.proofs.Common.{◌≡◌, ℕ, ℤ, ◌+◌, ◌≤◌, ◌<◌, max, inl, inr, cond, Option, Some, None, List, [], ◌∷◌, ◌++◌, true, false, Bool, refl, sym, ap, ◌∙◌, subst, arith, zero-le}
 use Rattle.id_text.specs.Tokens.{EndsOnce}
 use Rattle.id_text.specs.declared.token.Token.{Token}
 use Rattle.id_text.specs.declared.token.TokenKind.{TokenKind}
 use Rattle.id_text.specs.declared.token.TokenKind.TheVariants.{Name, Number, Key, Sign, End}
 use Rattle.id_text.specs.declared.token.Keyword.{Keyword}
-use Rattle.id_text.specs.declared.token.Keyword.TheVariants.{Def, If, True, False, Array, Not}
+use Rattle.id_text.specs.declared.token.Keyword.TheVariants.{Def, If, True, False, Array, Not, Or, And, Div, Rem}
 use Rattle.id_text.specs.declared.token.Symbol.{Symbol}
-use Rattle.id_text.specs.declared.token.Symbol.TheVariants.{LeftParen, RightParen, LeftBrace, Minus}
+use Rattle.id_text.specs.declared.token.Symbol.TheVariants.{LeftParen, RightParen, LeftBrace, Minus, Plus, Star, Equal, NotEqual, Less, LessEqual, Greater, GreaterEqual}
 use Rattle.id_tree.specs.declared.parser.Level.{Level}
 use Rattle.id_tree.specs.declared.parser.Level.TheVariants as level
 use Rattle.id_tree.specs.declared.tokens.Word.{Word}
@@ -20,9 +20,9 @@ use Rattle.id_tree.specs.declared.tree.Def.{Def as Definition_}
 use Rattle.id_tree.specs.declared.tree.TreeError.{TreeError}
 use Rattle.id_tree.specs.declared.tree.TreeError.TheVariants.{Unexpected, TooDeep}
 use Rattle.id_tree.specs.Tree.{Tree, def_tree, defs_tree, literal, unary, binary, none, more}
-use Rattle.id_tree.specs.Grammar.{Phrase, Definition, Expression, Grouped, Negation, Atom, kind_of, Rest, done, word, name, part, enclosed, definition_of, named_of, conditional_of, either, Opens, definition, by_conditional, denied, negated, number, by_true, by_false, parens, by_name, operand, operator_of, own_height}
+use Rattle.id_tree.specs.Grammar.{Phrase, Definition, Expression, Grouped, Negation, Unary, Atom, kind_of, Rest, done, word, name, part, enclosed, definition_of, named_of, conditional_of, either, Opens, definition, by_conditional, denied, negated, number, by_true, by_false, parens, by_name, operand, operator_of, own_height}
 use Rattle.id_tree.specs.Machine.{opening, room, Frame, Left, Right, Inside, Outer, again, Move, State, Begin, Want, Have, Next, Finished, is_word, name_in, takes, ahead, ends, wants, Outcome, Accepted, Refused, run}
-use Rattle.id_tree.specs.Readers.{first_kind, first_start, truth_in, IsBehind, IsRead, EndsBy, IsPrefix, Leads, Fails, Defines, Grows, Stunts, Takes, Misses, BeginsWithName, NoName, LacksName, Encloses, Exposes, def_trees, Amasses}
+use Rattle.id_tree.specs.Readers.{first_kind, first_start, truth_in, IsBehind, IsRead, EndsBy, IsPrefix, Leads, Fails, Defines, Grows, Stunts, Takes, Misses, BeginsWithName, NoName, LacksName, Encloses, Exposes, def_trees, Amasses, is_within, rung, beyond, ladder, may_deny, open_behind, operator_in, kept_within, operator_within, Rises}
 use Rattle.id_tree.proofs.RowLemmas.{opening-from_opens, same-is_word}
 use Rattle.id_tree.proofs.RunLemmas.{First, Unopened, run-step, run-deep, run-none, run-word, run-name, run-chosen, run-left_out, run-opens, run-opens-deep, run-operator, run-done, run-part, run-inside, run-outer, run-right, run-level, run-left, run-unconditional, run-plain}
 
@@ -244,10 +244,7 @@ Exposes-part w {ts = ts} {d = d} {x = x} q = record {
   fails = λ f m c K. EndsBy-at x (run-part 200 ts Expression (λ a. word w (f a)) m d c K) (q.fails (Inside (λ a. word w (f a)) m d c ∷ K));
 }
 
--- Levels: the first operand has come, and the level is open.
-pub record Begun (ts : List Token) (l : Level) (d : ℕ) (us : List Token) (e : Tree) (h : ℕ) : Type 0 where
-  pub comes : (K : List Frame) → run 200 ts (Want (Grouped l) d K) ≡ run 200 us (Have e h (Left l d ∷ K))
-
+-- Levels: an operand has come, and the levels round it are open.
 first-none : (l : Level) (vs : List Token) → operator_of l (first_kind vs) ≡ None → First (λ k. operator_of l k ≡ None) vs
 first-none l [] q = tt
 first-none l (t ∷ vs) q = q
@@ -260,33 +257,166 @@ IsRead-then p q = record { behind = record { ends = q.behind.ends; shorter = ome
 pub IsRead-behind : {ts us vs : List Token} {d h : ℕ} → IsBehind us ts → IsRead us vs d h → IsRead ts vs d h
 IsRead-behind b q = record { behind = record { ends = q.behind.ends; shorter = omega (arith, b.shorter, q.behind.shorter) }; some = q.some; fits = q.fits }
 
-module _ {l : Level} {d : ℕ} {ts us : List Token} where
-  -- a level that may go on is open again, and another is there
-  pub Level-grows : {vs : List Token} {a e : Tree} {m h : ℕ} → Begun ts l d us a m → Grows us l d a m vs e h → (l ≡ level.Comparison → ⊥) → Begun ts l d vs e h
-  Level-grows {vs = vs} {e = e} {h = h} p q f = record { comes = λ K. p.comes K ∙ q.comes K ∙ ap (λ S. run 200 vs (Have e h S)) (is_open l d K f) }
-    where
-      is_open : (l : Level) (d : ℕ) (K : List Frame) → (l ≡ level.Comparison → ⊥) → again l d K ≡ Left l d ∷ K
-      is_open level.Or d K f = refl
-      is_open level.And d K f = refl
-      is_open level.Comparison d K f = absurd (f refl)
-      is_open level.Sum d K f = refl
-      is_open level.Product d K f = refl
+-- what holds of an answer holds of the one that it is
+some_is : {A : Type 0} (P : A → Type 0) {x y : A} → Some x ≡ Some y → P x → P y
+some_is P {x = x} {y = y} q r = let i : x ≡ y = cc in subst P i r
 
-  pub Level-grown : {vs : List Token} {a e : Tree} {m h : ℕ} → Begun ts l d us a m → Grows us l d a m vs e h →
-      l ≡ level.Comparison → Leads ts (Grouped l) d vs e h
-  Level-grown {vs = vs} {e = e} {h = h} p q i = record { comes = λ K. p.comes K ∙ q.comes K ∙ ap (λ l. run 200 vs (Have e h (again l d K))) i }
+-- the operator with its level
+abbrev with_level : Level → Option BinaryOp → Option (Level × BinaryOp)
+with_level l None = None
+with_level l (Some p) = Some (l, p)
 
-  pub Level-stunts : {a : Tree} {m : ℕ} {x : TreeError} → Begun ts l d us a m → Stunts us l d a m x → Fails ts (Grouped l) d x
-  Level-stunts {x = x} p q = record { fails = λ K. EndsBy-at x (p.comes K) (q.fails K) }
+-- the operator of a level is the kind's, and the kind's is one of its level
+operator_in-from_of : (l : Level) (k : TokenKind) (p : BinaryOp) → operator_of l k ≡ Some p → operator_in k ≡ Some (l, p)
+operator_in-from_of level.Or (Key Or) p q = ap (with_level level.Or) q
+operator_in-from_of level.And (Key And) p q = ap (with_level level.And) q
+operator_in-from_of level.Comparison (Sign Equal) p q = ap (with_level level.Comparison) q
+operator_in-from_of level.Comparison (Sign NotEqual) p q = ap (with_level level.Comparison) q
+operator_in-from_of level.Comparison (Sign Less) p q = ap (with_level level.Comparison) q
+operator_in-from_of level.Comparison (Sign LessEqual) p q = ap (with_level level.Comparison) q
+operator_in-from_of level.Comparison (Sign Greater) p q = ap (with_level level.Comparison) q
+operator_in-from_of level.Comparison (Sign GreaterEqual) p q = ap (with_level level.Comparison) q
+operator_in-from_of level.Sum (Sign Plus) p q = ap (with_level level.Sum) q
+operator_in-from_of level.Sum (Sign Minus) p q = ap (with_level level.Sum) q
+operator_in-from_of level.Product (Sign Star) p q = ap (with_level level.Product) q
+operator_in-from_of level.Product (Key Div) p q = ap (with_level level.Product) q
+operator_in-from_of level.Product (Key Rem) p q = ap (with_level level.Product) q
+operator_in-from_of _ _ p q = cc
 
-  pub Level-ends : {e : Tree} {h : ℕ} → Begun ts l d us e h → operator_of l (first_kind us) ≡ None → Leads ts (Grouped l) d us e h
-  Level-ends {e = e} {h = h} p q = record { comes = λ K. p.comes K ∙ run-left 200 us l e h d K (first-none l us q) }
+operator_of-from_in : (k : TokenKind) (x : Level × BinaryOp) → operator_in k ≡ Some x → operator_of x.0 k ≡ Some x.1
+operator_of-from_in (Key Or) x q = some_is (λ y. operator_of y.0 (Key Or) ≡ Some y.1) q refl
+operator_of-from_in (Key And) x q = some_is (λ y. operator_of y.0 (Key And) ≡ Some y.1) q refl
+operator_of-from_in (Sign Equal) x q = some_is (λ y. operator_of y.0 (Sign Equal) ≡ Some y.1) q refl
+operator_of-from_in (Sign NotEqual) x q = some_is (λ y. operator_of y.0 (Sign NotEqual) ≡ Some y.1) q refl
+operator_of-from_in (Sign Less) x q = some_is (λ y. operator_of y.0 (Sign Less) ≡ Some y.1) q refl
+operator_of-from_in (Sign LessEqual) x q = some_is (λ y. operator_of y.0 (Sign LessEqual) ≡ Some y.1) q refl
+operator_of-from_in (Sign Greater) x q = some_is (λ y. operator_of y.0 (Sign Greater) ≡ Some y.1) q refl
+operator_of-from_in (Sign GreaterEqual) x q = some_is (λ y. operator_of y.0 (Sign GreaterEqual) ≡ Some y.1) q refl
+operator_of-from_in (Sign Plus) x q = some_is (λ y. operator_of y.0 (Sign Plus) ≡ Some y.1) q refl
+operator_of-from_in (Sign Minus) x q = some_is (λ y. operator_of y.0 (Sign Minus) ≡ Some y.1) q refl
+operator_of-from_in (Sign Star) x q = some_is (λ y. operator_of y.0 (Sign Star) ≡ Some y.1) q refl
+operator_of-from_in (Key Div) x q = some_is (λ y. operator_of y.0 (Key Div) ≡ Some y.1) q refl
+operator_of-from_in (Key Rem) x q = some_is (λ y. operator_of y.0 (Key Rem) ≡ Some y.1) q refl
+operator_of-from_in _ x q = cc
 
-  pub Level-begins : {e : Tree} {h : ℕ} → Leads ts (operand l) d us e h → Begun ts l d us e h
-  Level-begins q = record { comes = λ K. run-level 200 ts l d K ∙ q.comes (Left l d ∷ K) }
+-- within the open levels: the operator is one of its level, which is one of them
+operator_of-from_within : (o w : Level) (k : TokenKind) (x : Level × BinaryOp) → operator_within o w k ≡ Some x →
+    (operator_of x.0 k ≡ Some x.1) × (is_within o w x.0 ≡ true)
+operator_of-from_within o w k x q = found (operator_in k) refl q
+  where
+    kept : (b : Bool) (y : Level × BinaryOp) → is_within o w y.0 ≡ b → operator_in k ≡ Some y → cond b (Some y) None ≡ Some x →
+        (operator_of x.0 k ≡ Some x.1) × (is_within o w x.0 ≡ true)
+    kept true y i j q = some_is (λ z. (operator_of z.0 k ≡ Some z.1) × (is_within o w z.0 ≡ true)) q (operator_of-from_in k y j, i)
+    kept false y i j q = cc
 
-pub Level-fails : (l : Level) {d : ℕ} {ts : List Token} {x : TreeError} → Fails ts (operand l) d x → Fails ts (Grouped l) d x
-Level-fails l {d = d} {ts = ts} {x = x} q = record { fails = λ K. EndsBy-at x (run-level 200 ts l d K) (q.fails (Left l d ∷ K)) }
+    found : (r : Option (Level × BinaryOp)) → operator_in k ≡ r → kept_within o w r ≡ Some x → (operator_of x.0 k ≡ Some x.1) × (is_within o w x.0 ≡ true)
+    found None j q = cc
+    found (Some y) j q = kept (is_within o w y.0) y refl j q
+
+-- where none is within them, no open level has one
+operator_of-none : (o w : Level) (k : TokenKind) → operator_within o w k ≡ None → (l : Level) → is_within o w l ≡ true → operator_of l k ≡ None
+operator_of-none o w k q l i = tested (operator_of l k) refl
+  where
+    tested : (r : Option BinaryOp) → operator_of l k ≡ r → operator_of l k ≡ None
+    tested None j = j
+    tested (Some p) j =
+        let y : Level × BinaryOp = (l, p) in
+        let kept : kept_within o w (Some y) ≡ None = subst (λ r. kept_within o w r ≡ None) (operator_in-from_of l k p j) q in
+        let none : Some y ≡ None = subst (λ b. cond b (Some y) None ≡ None) i kept in
+        cc
+
+-- a kind is an operator of one level
+operator_of-other : (k : TokenKind) (l m : Level) (p : BinaryOp) → operator_of l k ≡ Some p → (m ≡ l → ⊥) → operator_of m k ≡ None
+operator_of-other k l m p q f = tested (operator_of m k) refl
+  where
+    tested : (r : Option BinaryOp) → operator_of m k ≡ r → operator_of m k ≡ None
+    tested None j = j
+    tested (Some s) j =
+        let i : Some (m, s) ≡ Some (l, p) = sym (operator_in-from_of m k s j) ∙ operator_in-from_of l k p q in
+        absurd (f (some_is (λ y. m ≡ y.0) i refl))
+
+cond-true : (b : Bool) (X Y : List Frame) → b ≡ true → cond b X Y ≡ X
+cond-true true X Y q = refl
+cond-true false X Y q = cc
+
+-- the ladder, from the inside, where an operator of the level stands
+module _ (o w : Level) (vs : List Token) (e : Tree) (h d : ℕ) where
+  -- an open level ends where no operator of it stands
+  rung-ends : (b : Bool) (l : Level) (K : List Frame) → (b ≡ true → operator_of l (first_kind vs) ≡ None) →
+      run 200 vs (Have e h (cond b (Left l d ∷ K) K)) ≡ run 200 vs (Have e h K)
+  rung-ends true l K f = run-left 200 vs l e h d K (first-none l vs (f refl))
+  rung-ends false l K f = refl
+
+  ladder-ends : operator_within o w (first_kind vs) ≡ None → (K : List Frame) → run 200 vs (Have e h (ladder o w d K)) ≡ run 200 vs (Have e h K)
+  ladder-ends q K =
+      let none = operator_of-none o w (first_kind vs) q in
+      rung-ends (is_within o w level.Product) level.Product (beyond level.Product o w d K) (none level.Product)
+      ∙ rung-ends (is_within o w level.Sum) level.Sum (beyond level.Sum o w d K) (none level.Sum)
+      ∙ rung-ends (is_within o w level.Comparison) level.Comparison (beyond level.Comparison o w d K) (none level.Comparison)
+      ∙ rung-ends (is_within o w level.And) level.And (beyond level.And o w d K) (none level.And)
+      ∙ rung-ends (is_within o w level.Or) level.Or K (none level.Or)
+
+  module _ (p : BinaryOp) (K : List Frame) where
+    skip : (l m : Level) → operator_of l (first_kind vs) ≡ Some p → (m ≡ l → ⊥) → (L : List Frame) →
+        run 200 vs (Have e h (cond (is_within o w m) (Left m d ∷ L) L)) ≡ run 200 vs (Have e h L)
+    skip l m q f L = rung-ends (is_within o w m) m L (λ _. operator_of-other (first_kind vs) l m p q f)
+
+    stay : (l : Level) (L : List Frame) → is_within o w l ≡ true → run 200 vs (Have e h (rung o w l d L)) ≡ run 200 vs (Have e h (Left l d ∷ L))
+    stay l L i = ap (λ S. run 200 vs (Have e h S)) (cond-true (is_within o w l) (Left l d ∷ L) L i)
+
+    ladder-reaches : (l : Level) → operator_of l (first_kind vs) ≡ Some p → is_within o w l ≡ true →
+        run 200 vs (Have e h (ladder o w d K)) ≡ run 200 vs (Have e h (Left l d ∷ beyond l o w d K))
+    ladder-reaches level.Product q i = stay level.Product (beyond level.Product o w d K) i
+    ladder-reaches level.Sum q i = skip level.Sum level.Product q (λ r. cc) (beyond level.Product o w d K) ∙ stay level.Sum (beyond level.Sum o w d K) i
+    ladder-reaches level.Comparison q i =
+        skip level.Comparison level.Product q (λ r. cc) (beyond level.Product o w d K) ∙ skip level.Comparison level.Sum q (λ r. cc) (beyond level.Sum o w d K)
+        ∙ stay level.Comparison (beyond level.Comparison o w d K) i
+    ladder-reaches level.And q i =
+        skip level.And level.Product q (λ r. cc) (beyond level.Product o w d K) ∙ skip level.And level.Sum q (λ r. cc) (beyond level.Sum o w d K)
+        ∙ skip level.And level.Comparison q (λ r. cc) (beyond level.Comparison o w d K) ∙ stay level.And (beyond level.And o w d K) i
+    ladder-reaches level.Or q i =
+        skip level.Or level.Product q (λ r. cc) (beyond level.Product o w d K) ∙ skip level.Or level.Sum q (λ r. cc) (beyond level.Sum o w d K)
+        ∙ skip level.Or level.Comparison q (λ r. cc) (beyond level.Comparison o w d K) ∙ skip level.Or level.And q (λ r. cc) (beyond level.And o w d K)
+        ∙ stay level.Or K i
+
+-- behind an operator of a level the ladder begins with it, or behind a comparison with the next one
+ladder-again : (l o w : Level) (d : ℕ) (K : List Frame) → is_within o w l ≡ true → again l d (beyond l o w d K) ≡ ladder (open_behind l) w d K
+ladder-again level.Or level.Or w d K i = sym (cond-true _ _ _ i)
+ladder-again level.Or _ w d K i = sym (cond-true _ _ _ i)
+ladder-again level.And level.Or w d K i = cc
+ladder-again level.And _ w d K i = sym (cond-true _ _ _ i)
+ladder-again level.Comparison level.Or w d K i = cc
+ladder-again level.Comparison level.And w d K i = cc
+ladder-again level.Comparison _ w d K i = refl
+ladder-again level.Sum level.Sum w d K i = sym (cond-true _ _ _ i)
+ladder-again level.Sum level.Product w d K i = sym (cond-true _ _ _ i)
+ladder-again level.Sum _ w d K i = cc
+ladder-again level.Product level.Product w d K i = sym (cond-true _ _ _ i)
+ladder-again level.Product _ w d K i = cc
+
+module _ {l o : Level} {d : ℕ} {ts us : List Token} {a : Tree} {m : ℕ} (p : Rises ts l d o us a m) where
+  module _ (x : Level × BinaryOp) (q : operator_within o l (first_kind us) ≡ Some x) where
+    reached : (K : List Frame) → run 200 ts (Want (Grouped l) d K) ≡ run 200 us (Have a m (Left x.0 d ∷ beyond x.0 o l d K))
+    reached K = let i = operator_of-from_within o l (first_kind us) x q in p.comes K ∙ ladder-reaches o l us a m d x.1 K x.0 i.0 i.1
+
+    -- a level goes on
+    pub Rises-grows : {vs : List Token} {e : Tree} {h : ℕ} → Grows us x.0 d a m vs e h → Rises ts l d (open_behind x.0) vs e h
+    Rises-grows {vs = vs} {e = e} {h = h} g = record {
+      comes = λ K.
+          let i = operator_of-from_within o l (first_kind us) x q in
+          reached K ∙ g.comes (beyond x.0 o l d K) ∙ ap (λ S. run 200 vs (Have e h S)) (ladder-again x.0 o l d K i.1);
+    }
+
+    pub Rises-stunts : {y : TreeError} → Stunts us x.0 d a m y → Fails ts (Grouped l) d y
+    Rises-stunts {y = y} f = record { fails = λ K. EndsBy-at y (reached K) (f.fails (beyond x.0 o l d K)) }
+
+  -- all levels end
+  pub Rises-ends : operator_within o l (first_kind us) ≡ None → Leads ts (Grouped l) d us a m
+  Rises-ends q = record { comes = λ K. p.comes K ∙ ladder-ends o l us a m d q K }
+
+-- the operator that is within the open levels is one of its level
+pub operator-at : (o w : Level) (k : TokenKind) (x : Level × BinaryOp) → operator_within o w k ≡ Some x → operator_of x.0 k ≡ Some x.1
+operator-at o w k x q = (operator_of-from_within o w k x q).0
 
 -- an operator that takes too much nesting
 pub Right-deep : {ts : List Token} → EndsOnce ts → (l : Level) (o : BinaryOp) → operator_of l (first_kind ts) ≡ Some o →
@@ -329,6 +459,48 @@ no_not (t ∷ ts) f = unopened t.kind t.start f
     unopened : (k : TokenKind) (p : ℕ) → (k ≡ Key Not → ⊥) → opening Negation k p ≡ None
     unopened (Key Not) p g = absurd (g refl)
     unopened _ p g = refl
+
+-- The first operand of a level: all levels within it are open, unless it begins with `not`.
+module _ (ts : List Token) (d : ℕ) where
+  from_sum : (K : List Frame) → run 200 ts (Want (Grouped level.Sum) d K) ≡ run 200 ts (Want Unary d (ladder level.Product level.Sum d K))
+  from_sum K = run-level 200 ts level.Sum d K ∙ run-level 200 ts level.Product d (Left level.Sum d ∷ K)
+
+  from_comparison : (K : List Frame) → run 200 ts (Want (Grouped level.Comparison) d K) ≡ run 200 ts (Want Unary d (ladder level.Product level.Comparison d K))
+  from_comparison K = run-level 200 ts level.Comparison d K ∙ from_sum (Left level.Comparison d ∷ K)
+
+  module _ (f : first_kind ts ≡ Key Not → ⊥) where
+    from_and : (K : List Frame) → run 200 ts (Want (Grouped level.And) d K) ≡ run 200 ts (Want Unary d (ladder level.Product level.And d K))
+    from_and K = run-level 200 ts level.And d K ∙ run-plain 200 ts d (Left level.And d ∷ K) (no_not ts f) ∙ from_comparison (Left level.And d ∷ K)
+
+    from_or : (K : List Frame) → run 200 ts (Want (Grouped level.Or) d K) ≡ run 200 ts (Want Unary d (ladder level.Product level.Or d K))
+    from_or K = run-level 200 ts level.Or d K ∙ from_and (Left level.Or d ∷ K)
+
+  inmost : (l : Level) → (may_deny l × (first_kind ts ≡ Key Not) → ⊥) → (K : List Frame) →
+      run 200 ts (Want (Grouped l) d K) ≡ run 200 ts (Want Unary d (ladder level.Product l d K))
+  inmost level.Or f K = from_or (λ q. f (tt, q)) K
+  inmost level.And f K = from_and (λ q. f (tt, q)) K
+  inmost level.Comparison f K = from_comparison K
+  inmost level.Sum f K = from_sum K
+  inmost level.Product f K = run-level 200 ts level.Product d K
+
+  denial : (l : Level) → may_deny l → (K : List Frame) → run 200 ts (Want (Grouped l) d K) ≡ run 200 ts (Want Negation d (ladder level.And l d K))
+  denial level.Or g K = run-level 200 ts level.Or d K ∙ run-level 200 ts level.And d (Left level.Or d ∷ K)
+  denial level.And g K = run-level 200 ts level.And d K
+  denial _ g K = absurd g
+
+module _ {ts : List Token} {d : ℕ} where
+  pub Rises-operand : {us : List Token} {e : Tree} {h : ℕ} (l : Level) → (may_deny l × (first_kind ts ≡ Key Not) → ⊥) →
+      Leads ts Unary d us e h → Rises ts l d level.Product us e h
+  Rises-operand l f q = record { comes = λ K. inmost ts d l f K ∙ q.comes (ladder level.Product l d K) }
+
+  pub Operand-fails : {x : TreeError} (l : Level) → (may_deny l × (first_kind ts ≡ Key Not) → ⊥) → Fails ts Unary d x → Fails ts (Grouped l) d x
+  Operand-fails {x = x} l f q = record { fails = λ K. EndsBy-at x (inmost ts d l f K) (q.fails (ladder level.Product l d K)) }
+
+  pub Rises-denied : {us : List Token} {e : Tree} {h : ℕ} (l : Level) → may_deny l → Leads ts Negation d us e h → Rises ts l d level.And us e h
+  Rises-denied l g q = record { comes = λ K. denial ts d l g K ∙ q.comes (ladder level.And l d K) }
+
+  pub Denied-fails : {x : TreeError} (l : Level) → may_deny l → Fails ts Negation d x → Fails ts (Grouped l) d x
+  Denied-fails {x = x} l g q = record { fails = λ K. EndsBy-at x (denial ts d l g K) (q.fails (ladder level.And l d K)) }
 
 module _ {ts : List Token} {d : ℕ} where
   pub Expression-leads : {vs : List Token} {a : Tree} {h : ℕ} → (first_kind ts ≡ Key If → ⊥) →

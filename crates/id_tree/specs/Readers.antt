@@ -1,19 +1,27 @@
 -- What the readers of `parse` give back, by the machine: for the proof of `parse` alone.
-use Rattle.std.specs.Prelude.{◌≡◌, ◌+◌, ◌<◌, ◌≤◌, ◌⊎◌, ℕ, Bool, true, false, Option, Some, None, List, [], ◌∷◌, length}
-use Rattle.std.specs.Prelude.{max}
+use Rattle.std.specs.Prelude.{◌≡◌, ◌+◌, ◌<◌, ◌≤◌, ◌⊎◌, ℕ, Bool, true, false, cond, nat_le, Option, Some, None}
+use Rattle.std.specs.Prelude.{List, [], ◌∷◌, length, max}
 use Rattle.id_text.specs.Tokens.{EndsOnce}
 use Rattle.id_text.specs.declared.token.Token.{Token}
 use Rattle.id_text.specs.declared.token.TokenKind.{TokenKind}
 use Rattle.id_text.specs.declared.token.TokenKind.TheVariants.{Name, Number, Key, Sign, End}
 use Rattle.id_text.specs.declared.token.Keyword.{Keyword}
-use Rattle.id_text.specs.declared.token.Keyword.TheVariants.{If, Finally, In, Not, True, False, Array}
-use Rattle.id_text.specs.declared.token.Symbol.TheVariants.{LeftParen, LeftBrace, Colon, Becomes, Minus}
+use Rattle.id_text.specs.declared.token.Keyword.TheVariants.{If, Finally, In, Not, True, False, Array, Div, Rem, And}
+use Rattle.id_text.specs.declared.token.Keyword.TheVariants.{Or}
+use Rattle.id_text.specs.declared.token.Symbol.TheVariants.{LeftParen, LeftBrace, Colon, Becomes, Minus, Plus, Star}
+use Rattle.id_text.specs.declared.token.Symbol.TheVariants.{Equal, NotEqual, Less, LessEqual, Greater, GreaterEqual}
 use Rattle.id_tree.specs.declared.parser.Level.{Level}
+use Rattle.id_tree.specs.declared.parser.Level.TheVariants as level
 use Rattle.id_tree.specs.declared.parser.Scope.{Scope}
 use Rattle.id_tree.specs.declared.parser.Scope.TheVariants as scope
 use Rattle.id_tree.specs.declared.tokens.Word.{Word}
 use Rattle.id_value.specs.declared.Kind.{Kind}
 use Rattle.id_value.specs.declared.UnaryOp.{UnaryOp}
+use Rattle.id_value.specs.declared.BinaryOp.{BinaryOp}
+use Rattle.id_value.specs.declared.BinaryOp.TheVariants as op
+use Rattle.id_value.specs.declared.Arithmetic.TheVariants as arithmetic
+use Rattle.id_value.specs.declared.Comparison.TheVariants as comparison
+use Rattle.id_value.specs.declared.Logic.TheVariants as logic
 use Rattle.id_tree.specs.declared.tree.Expr.{Expr}
 use Rattle.id_tree.specs.declared.tree.Stmt.{Stmt}
 use Rattle.id_tree.specs.declared.tree.Param.{Param}
@@ -23,7 +31,7 @@ use Rattle.id_tree.specs.declared.tree.TreeError.TheVariants.{Unexpected, TooDee
 use Rattle.id_tree.specs.Tree.{Tree, tree_of, stmt_tree, def_tree, unary, param, more}
 use Rattle.id_tree.specs.Grammar.{Phrase, Definition, Parameters, MoreParameters, Arguments, MoreArguments, Tail, Rest}
 use Rattle.id_tree.specs.Grammar.{named_of, assigned_of, done, of_kind, part, sign, enclosed, with_statement, Opens}
-use Rattle.id_tree.specs.Grammar.{operand}
+use Rattle.id_tree.specs.Grammar.{Grouped, operand}
 use Rattle.id_tree.specs.Machine.{Frame, Left, Target, Inside, again, Begin, Want, Have, Next, Outcome, Refused}
 use Rattle.id_tree.specs.Machine.{name_in, run}
 
@@ -76,6 +84,76 @@ IsPrefix l o k = (p : ℕ) → Opens (operand l) k p (part (operand l) (λ e. do
 -- from where the phrase is wanted the run ends so
 pub record Fails (ts : List Token) (s : Phrase) (d : ℕ) (x : TreeError) : Type 0 where
   pub fails : (K : List Frame) → EndsBy (run 200 ts (Want s d K)) x
+
+-- how tight a level is
+abbrev pub rank : Level → ℕ
+rank level.Or = 0
+rank level.And = 1
+rank level.Comparison = 2
+rank level.Sum = 3
+rank level.Product = 4
+
+-- the level is not tighter than the inner one and not looser than the outer one
+abbrev pub is_within : Level → Level → Level → Bool
+is_within inner outer l = cond (nat_le (rank l) (rank inner)) (nat_le (rank outer) (rank l)) false
+
+-- what stands round an operand at one level, where those from the inner one to the outer one are open
+abbrev pub rung : Level → Level → Level → ℕ → List Frame → List Frame
+rung i o l d K = cond (is_within i o l) (Left l d ∷ K) K
+
+-- the same, at the levels that are looser than this one
+abbrev pub beyond : Level → Level → Level → ℕ → List Frame → List Frame
+beyond level.Or o w d K = K
+beyond level.And o w d K = rung o w level.Or d K
+beyond level.Comparison o w d K = rung o w level.And d (rung o w level.Or d K)
+beyond level.Sum o w d K = rung o w level.Comparison d (rung o w level.And d (rung o w level.Or d K))
+beyond level.Product o w d K =
+    rung o w level.Sum d (rung o w level.Comparison d (rung o w level.And d (rung o w level.Or d K)))
+
+-- the same, at all levels
+abbrev pub ladder : Level → Level → ℕ → List Frame → List Frame
+ladder o w d K = rung o w level.Product d (beyond level.Product o w d K)
+
+-- `not` may stand where an operand of the level is to come
+abbrev pub may_deny : Level → Type 0
+may_deny level.Or = Unit {0}
+may_deny level.And = Unit {0}
+may_deny _ = ⊥
+
+-- the innermost level that is open behind an operator of this one: of comparisons there is one
+abbrev pub open_behind : Level → Level
+open_behind level.Comparison = level.And
+open_behind l = l
+
+-- the operator that a kind is, and its level
+abbrev pub operator_in : TokenKind → Option (Level × BinaryOp)
+operator_in (Key Or) = Some (level.Or, op.Logic logic.Or)
+operator_in (Key And) = Some (level.And, op.Logic logic.And)
+operator_in (Sign Equal) = Some (level.Comparison, op.Comparison comparison.Eq)
+operator_in (Sign NotEqual) = Some (level.Comparison, op.Comparison comparison.Ne)
+operator_in (Sign Less) = Some (level.Comparison, op.Comparison comparison.Lt)
+operator_in (Sign LessEqual) = Some (level.Comparison, op.Comparison comparison.Le)
+operator_in (Sign Greater) = Some (level.Comparison, op.Comparison comparison.Gt)
+operator_in (Sign GreaterEqual) = Some (level.Comparison, op.Comparison comparison.Ge)
+operator_in (Sign Plus) = Some (level.Sum, op.Arithmetic arithmetic.Add)
+operator_in (Sign Minus) = Some (level.Sum, op.Arithmetic arithmetic.Sub)
+operator_in (Sign Star) = Some (level.Product, op.Arithmetic arithmetic.Mul)
+operator_in (Key Div) = Some (level.Product, op.Arithmetic arithmetic.Div)
+operator_in (Key Rem) = Some (level.Product, op.Arithmetic arithmetic.Rem)
+operator_in _ = None
+
+-- the operator and its level, where the level is between the inner one and the outer one
+abbrev pub kept_within : Level → Level → Option (Level × BinaryOp) → Option (Level × BinaryOp)
+kept_within inner outer None = None
+kept_within inner outer (Some x) = cond (is_within inner outer x.0) (Some x) None
+
+-- the operator that a kind is there, and its level
+abbrev pub operator_within : Level → Level → TokenKind → Option (Level × BinaryOp)
+operator_within inner outer k = kept_within inner outer (operator_in k)
+
+-- from where a level is wanted the run comes to where an operand is there, and the levels from an inner one on are open
+pub record Rises (ts : List Token) (l : Level) (d : ℕ) (o : Level) (us : List Token) (e : Tree) (h : ℕ) : Type 0 where
+  pub comes : (K : List Frame) → run 200 ts (Want (Grouped l) d K) ≡ run 200 us (Have e h (ladder o l d K))
 
 -- the run takes an operator and its right operand into the left one
 pub record Grows (ts : List Token) (l : Level) (d : ℕ) (a : Tree) (m : ℕ)

@@ -41,6 +41,12 @@ ghost use Rattle.id_tree.specs.Readers.{
   Misapplies,
   Hands,
   passed,
+  may_deny,
+  open_behind,
+  rank,
+  operator_within,
+  operator_in,
+  Rises,
 };
 
 use crate::part::{
@@ -48,12 +54,12 @@ use crate::part::{
     store, truth, unary, whole_loop,
 };
 use crate::tokens::{
-    Word, begins_with, begins_with_sign, comparison_of, enter, expect_name, expect_word, is_sign,
-    no_room, split, truth_of, unexpected,
+    Word, begins_with, begins_with_sign, enter, expect_name, expect_word, is_sign, no_room, split,
+    truth_of, unexpected,
 };
 use crate::tree::{Expr, MAX_NESTING, Stmt, TreeError};
 use id_text::{Identifier, Keyword, Symbol, Token, TokenKind};
-use id_value::{Arithmetic, BinaryOp, Logic, UnaryOp};
+use id_value::{Arithmetic, BinaryOp, Comparison, Logic, UnaryOp};
 use std::alloc::Global;
 
 /// The levels of operators, the loosest first. They group to the left, and of comparisons there is one.
@@ -84,7 +90,7 @@ fn parse_expression(
     requires room { depth < MAX_NESTING }
     ensures read { IfOk result (λ x. IsRead tokens.now x.1.now depth x.0.height) }
     ensures ok { IfOk result (λ x.
-        Leads tokens.now Expression depth x.1.now (tree_of x.0.expr.value) x.0.height) }
+        Leads tokens.now Expression depth x.1.now (tree_of x.0.expr) x.0.height) }
     ensures err { IfErr result (Fails tokens.now Expression depth) }
 {
     if begins_with(tokens, Keyword::If) {
@@ -106,7 +112,7 @@ fn parse_conditional(
     requires room { depth < MAX_NESTING }
     ensures read { IfOk result (λ x. IsRead tokens.now x.1.now depth x.0.height) }
     ensures ok { IfOk result (λ x.
-        Leads tokens.now Expression depth x.1.now (tree_of x.0.expr.value) x.0.height) }
+        Leads tokens.now Expression depth x.1.now (tree_of x.0.expr) x.0.height) }
     ensures err { IfErr result (Fails tokens.now Expression depth) }
 {
     let inner = depth + 1;
@@ -121,6 +127,9 @@ fn parse_conditional(
 /// `or = and { "or" and }`, `and = not { "and" not }`,
 /// `cmp = sum [ ("==" | "<>" | "<" | "<=" | ">" | ">=") sum ]`, `sum = product { ("+" | "-") product }`,
 /// `product = unary { ("*" | "div" | "rem") unary }`
+///
+/// The first operand is read at once, and the levels round it are left from the inside, so that an
+/// operand with no operator behind it costs one look at the token there.
 #[cycle(expr)]
 fn parse_grouped(
     alloc: Global,
@@ -132,19 +141,42 @@ fn parse_grouped(
     requires room { depth < MAX_NESTING }
     ensures read { IfOk result (λ x. IsRead tokens.now x.1.now depth x.0.height) }
     ensures ok { IfOk result (λ x.
-        Leads tokens.now (Grouped level) depth x.1.now (tree_of x.0.expr.value) x.0.height) }
+        Leads tokens.now (Grouped level) depth x.1.now (tree_of x.0.expr) x.0.height) }
     ensures err { IfErr result (Fails tokens.now (Grouped level) depth) }
 {
-    let (mut left, mut rest) = parse_operand(alloc, tokens, level, depth)?;
-    while let Some(op) = operator_at(rest, level) {
-        let (grown, behind) = parse_right(alloc, left, op, rest, level, depth)?;
-        if takes_one(level) {
-            return Ok((grown, behind));
-        }
+    let (mut left, mut inner, mut rest) = parse_first(alloc, tokens, level, depth)?;
+    'operators: while let Some((at, op)) = operator_within(rest, inner, level) {
+        let (grown, behind) = parse_right(alloc, left, op, rest, at, depth)?;
         left = grown;
+        inner = open_behind(at);
         rest = behind;
     }
     Ok((left, rest))
+}
+
+/// The first operand of a level, and the innermost level that is open behind it.
+#[inline(always)]
+#[cycle(expr)]
+fn parse_first(
+    alloc: Global,
+    tokens: &[Token],
+    level: Level,
+    depth: usize,
+) -> Result<(Part, Level, &[Token]), TreeError>
+    requires ends { EndsOnce tokens.now }
+    requires room { depth < MAX_NESTING }
+    ensures read { IfOk result (λ x. IsRead tokens.now x.2.now depth x.0.height) }
+    ensures ok { IfOk result (λ x.
+        Rises tokens.now level depth x.1 x.2.now (tree_of x.0.expr) x.0.height) }
+    ensures err { IfErr result (Fails tokens.now (Grouped level) depth) }
+{
+    if denies(tokens, level) {
+        let (left, rest) = parse_prefixed(alloc, UnaryOp::Not, tokens, Level::And, depth)?;
+        Ok((left, Level::And, rest))
+    } else {
+        let (left, rest) = parse_unary(alloc, tokens, depth)?;
+        Ok((left, Level::Product, rest))
+    }
 }
 
 /// An operator and its right operand, behind its left one.
@@ -163,9 +195,9 @@ fn parse_right(
     requires fits { depth + left.height ≤ MAX_NESTING }
     ensures read { IfOk result (λ x. IsRead tokens.now x.1.now depth x.0.height) }
     ensures ok { IfOk result (λ x.
-        Grows tokens.now level depth (tree_of left.expr.value) left.height
-        x.1.now (tree_of x.0.expr.value) x.0.height) }
-    ensures err { IfErr result (Stunts tokens.now level depth (tree_of left.expr.value) left.height) }
+        Grows tokens.now level depth (tree_of left.expr) left.height
+        x.1.now (tree_of x.0.expr) x.0.height) }
+    ensures err { IfErr result (Stunts tokens.now level depth (tree_of left.expr) left.height) }
 {
     let (first, behind) = enter(tokens, depth + left.height + 1)?;
     let (right, rest) = parse_operand(alloc, behind, level, depth + 1)?;
@@ -186,7 +218,7 @@ fn parse_operand(
     requires room { depth < MAX_NESTING }
     ensures read { IfOk result (λ x. IsRead tokens.now x.1.now depth x.0.height) }
     ensures ok { IfOk result (λ x.
-        Leads tokens.now (operand level) depth x.1.now (tree_of x.0.expr.value) x.0.height) }
+        Leads tokens.now (operand level) depth x.1.now (tree_of x.0.expr) x.0.height) }
     ensures err { IfErr result (Fails tokens.now (operand level) depth) }
 {
     match level {
@@ -209,7 +241,7 @@ fn parse_negation(
     requires room { depth < MAX_NESTING }
     ensures read { IfOk result (λ x. IsRead tokens.now x.1.now depth x.0.height) }
     ensures ok { IfOk result (λ x.
-        Leads tokens.now Negation depth x.1.now (tree_of x.0.expr.value) x.0.height) }
+        Leads tokens.now Negation depth x.1.now (tree_of x.0.expr) x.0.height) }
     ensures err { IfErr result (Fails tokens.now Negation depth) }
 {
     if begins_with(tokens, Keyword::Not) {
@@ -233,7 +265,7 @@ fn parse_prefixed(
     requires room { depth < MAX_NESTING }
     ensures read { IfOk result (λ x. IsRead tokens.now x.1.now depth x.0.height) }
     ensures ok { IfOk result (λ x.
-        Leads tokens.now (operand level) depth x.1.now (tree_of x.0.expr.value) x.0.height) }
+        Leads tokens.now (operand level) depth x.1.now (tree_of x.0.expr) x.0.height) }
     ensures err { IfErr result (Fails tokens.now (operand level) depth) }
 {
     let inner = depth + 1;
@@ -250,7 +282,7 @@ fn parse_unary(alloc: Global, tokens: &[Token], depth: usize) -> Result<(Part, &
     requires room { depth < MAX_NESTING }
     ensures read { IfOk result (λ x. IsRead tokens.now x.1.now depth x.0.height) }
     ensures ok { IfOk result (λ x.
-        Leads tokens.now Unary depth x.1.now (tree_of x.0.expr.value) x.0.height) }
+        Leads tokens.now Unary depth x.1.now (tree_of x.0.expr) x.0.height) }
     ensures err { IfErr result (Fails tokens.now Unary depth) }
 {
     if begins_with_sign(tokens, Symbol::Minus) {
@@ -271,7 +303,7 @@ fn parse_postfix(
     requires room { depth < MAX_NESTING }
     ensures read { IfOk result (λ x. IsRead tokens.now x.1.now depth x.0.height) }
     ensures ok { IfOk result (λ x.
-        Leads tokens.now Postfix depth x.1.now (tree_of x.0.expr.value) x.0.height) }
+        Leads tokens.now Postfix depth x.1.now (tree_of x.0.expr) x.0.height) }
     ensures err { IfErr result (Fails tokens.now Postfix depth) }
 {
     let (mut target, mut rest) = parse_atom(alloc, tokens, depth)?;
@@ -297,9 +329,9 @@ fn parse_fetch(
     requires fits { depth + target.height ≤ MAX_NESTING }
     ensures read { IfOk result (λ x. IsRead tokens.now x.1.now depth x.0.height) }
     ensures ok { IfOk result (λ x.
-        Indexes tokens.now depth (tree_of target.expr.value) target.height
-        x.1.now (tree_of x.0.expr.value) x.0.height) }
-    ensures err { IfErr result (Misindexes tokens.now depth (tree_of target.expr.value) target.height) }
+        Indexes tokens.now depth (tree_of target.expr) target.height
+        x.1.now (tree_of x.0.expr) x.0.height) }
+    ensures err { IfErr result (Misindexes tokens.now depth (tree_of target.expr) target.height) }
 {
     let (first, begun) = enter(tokens, depth + target.height + 1)?;
     let bracket = Word::Sign(Symbol::RightBracket);
@@ -315,7 +347,7 @@ fn parse_atom(alloc: Global, tokens: &[Token], depth: usize) -> Result<(Part, &[
     requires room { depth < MAX_NESTING }
     ensures read { IfOk result (λ x. IsRead tokens.now x.1.now depth x.0.height) }
     ensures ok { IfOk result (λ x.
-        Leads tokens.now Atom depth x.1.now (tree_of x.0.expr.value) x.0.height) }
+        Leads tokens.now Atom depth x.1.now (tree_of x.0.expr) x.0.height) }
     ensures err { IfErr result (Fails tokens.now Atom depth) }
 {
     if begins_with_sign(tokens, Symbol::LeftParen) {
@@ -337,7 +369,7 @@ fn parse_array(alloc: Global, tokens: &[Token], depth: usize) -> Result<(Part, &
     requires room { depth < MAX_NESTING }
     ensures read { IfOk result (λ x. IsRead tokens.now x.1.now depth x.0.height) }
     ensures ok { IfOk result (λ x.
-        Leads tokens.now Atom depth x.1.now (tree_of x.0.expr.value) x.0.height) }
+        Leads tokens.now Atom depth x.1.now (tree_of x.0.expr) x.0.height) }
     ensures err { IfErr result (Fails tokens.now Atom depth) }
 {
     let inner = depth + 1;
@@ -361,7 +393,7 @@ fn parse_parens(
     requires room { depth < MAX_NESTING }
     ensures read { IfOk result (λ x. IsRead tokens.now x.1.now depth x.0.height) }
     ensures ok { IfOk result (λ x.
-        Leads tokens.now Atom depth x.1.now (tree_of x.0.expr.value) x.0.height) }
+        Leads tokens.now Atom depth x.1.now (tree_of x.0.expr) x.0.height) }
     ensures err { IfErr result (Fails tokens.now Atom depth) }
 {
     let inner = depth + 1;
@@ -383,7 +415,7 @@ pub(crate) fn parse_enclosed(
     requires room { depth < MAX_NESTING }
     ensures read { IfOk result (λ x. IsRead tokens.now x.1.now depth x.0.height) }
     ensures ok { IfOk result (λ x.
-        Encloses tokens.now depth closing x.1.now (tree_of x.0.expr.value) x.0.height) }
+        Encloses tokens.now depth closing x.1.now (tree_of x.0.expr) x.0.height) }
     ensures err { IfErr result (Exposes tokens.now depth closing) }
 {
     let (inside, closed) = parse_expression(alloc, tokens, depth)?;
@@ -403,7 +435,7 @@ fn parse_braces(
     requires room { depth < MAX_NESTING }
     ensures read { IfOk result (λ x. IsRead tokens.now x.1.now depth x.0.height) }
     ensures ok { IfOk result (λ x.
-        Leads tokens.now Atom depth x.1.now (tree_of x.0.expr.value) x.0.height) }
+        Leads tokens.now Atom depth x.1.now (tree_of x.0.expr) x.0.height) }
     ensures err { IfErr result (Fails tokens.now Atom depth) }
 {
     let (_, opened) = split(tokens);
@@ -423,7 +455,7 @@ fn parse_block(alloc: Global, tokens: &[Token], depth: usize) -> Result<(Part, &
     requires room { depth < MAX_NESTING }
     ensures read { IfOk result (λ x. IsRead tokens.now x.1.now depth x.0.height) }
     ensures ok { IfOk result (λ x.
-        Leads tokens.now Atom depth x.1.now (tree_of x.0.expr.value) x.0.height) }
+        Leads tokens.now Atom depth x.1.now (tree_of x.0.expr) x.0.height) }
     ensures err { IfErr result (Fails tokens.now Atom depth) }
 {
     let inner = depth + 1;
@@ -444,7 +476,7 @@ fn parse_loop(alloc: Global, tokens: &[Token], depth: usize) -> Result<(Part, &[
     requires room { depth < MAX_NESTING }
     ensures read { IfOk result (λ x. IsRead tokens.now x.1.now depth x.0.height) }
     ensures ok { IfOk result (λ x.
-        Leads tokens.now Atom depth x.1.now (tree_of x.0.expr.value) x.0.height) }
+        Leads tokens.now Atom depth x.1.now (tree_of x.0.expr) x.0.height) }
     ensures err { IfErr result (Fails tokens.now Atom depth) }
 {
     let inner = depth + 1;
@@ -539,8 +571,8 @@ fn parse_store(
     let begun = expect_word(closed, Word::Sign(Symbol::Becomes))?;
     let (value, rest) = parse_enclosed(alloc, begun, Word::Sign(Symbol::Semicolon), depth)?;
     let height = index.height.max(value.height);
-    let target = name(alloc, x, place)?;
-    let statement = store(target, index, value, first.start as usize);
+    let target = name(x, place);
+    let statement = store(alloc, target, index, value, first.start as usize)?;
     Ok((statement, height, rest))
 }
 
@@ -577,19 +609,19 @@ fn parse_leaf(alloc: Global, tokens: &[Token], depth: usize) -> Result<(Part, &[
     requires room { depth < MAX_NESTING }
     ensures read { IfOk result (λ x. IsRead tokens.now x.1.now depth x.0.height) }
     ensures ok { IfOk result (λ x.
-        Leads tokens.now Atom depth x.1.now (tree_of x.0.expr.value) x.0.height) }
+        Leads tokens.now Atom depth x.1.now (tree_of x.0.expr) x.0.height) }
     ensures err { IfErr result (Fails tokens.now Atom depth) }
 {
     let (first, rest) = split(tokens);
     match &first.kind {
         TokenKind::Number(value) => {
-            let whole = number(alloc, value, first.start as usize)?;
+            let whole = number(value, first.start as usize);
             Ok((whole, rest))
         }
         TokenKind::Name(x) => parse_named(alloc, x.copy(alloc)?, first.start as usize, rest, depth),
         TokenKind::Key(_) => match truth_of(first) {
             Some(value) => {
-                let whole = truth(alloc, value, first.start as usize)?;
+                let whole = truth(value, first.start as usize);
                 Ok((whole, rest))
             }
             None => Err(unexpected(tokens)),
@@ -613,16 +645,16 @@ fn parse_named(
     ensures read { IfOk result (λ y.
         (0 < y.0.height) × IsGathered tokens.now y.1.now depth y.0.height) }
     ensures ok { IfOk result (λ y.
-        Applies tokens.now depth x place y.1.now (tree_of y.0.expr.value) y.0.height) }
+        Applies tokens.now depth x place y.1.now (tree_of y.0.expr) y.0.height) }
     ensures err { IfErr result (Misapplies tokens.now depth x place) }
 {
     if begins_with_sign(tokens, Symbol::LeftParen) {
         let (_, opened) = split(tokens);
         let (args, height, rest) = parse_arguments(alloc, opened, depth + 1)?;
-        let whole = call(alloc, x, args, height, place)?;
+        let whole = call(x, args, height, place);
         Ok((whole, rest))
     } else {
-        let whole = name(alloc, x, place)?;
+        let whole = name(x, place);
         Ok((whole, tokens))
     }
 }
@@ -709,36 +741,88 @@ fn begins_next(tokens: &[Token], scope: Scope) -> bool
     }
 }
 
-/// Whether an expression of this level has one operator at most.
-fn takes_one(level: Level) -> bool
-    ensures { IsTrue result ↔ (level ≡ Level.Comparison) }
+/// Whether the tokens begin with `not`, where an operand of this level may.
+fn denies(tokens: &[Token], level: Level) -> bool
+    requires { EndsOnce tokens.now }
+    ensures { IsTrue result ↔ (may_deny level × (first_kind tokens.now ≡ TokenKind.Key Keyword.Not)) }
 {
     match level {
-        Level::Comparison => true,
-        Level::Or | Level::And | Level::Sum | Level::Product => false,
+        Level::Or | Level::And => begins_with(tokens, Keyword::Not),
+        Level::Comparison | Level::Sum | Level::Product => false,
     }
 }
 
-/// The operator of this level that the tokens begin with.
-fn operator_at(tokens: &[Token], level: Level) -> Option<BinaryOp>
-    requires { EndsOnce tokens.now }
-    ensures { result ≡ operator_of level (first_kind tokens.now) }
+/// The innermost level that is open behind an operator of this one and its operands: of comparisons there is one.
+fn open_behind(level: Level) -> Level
+    ensures { result ≡ open_behind level }
 {
-    match (level, &tokens[0].kind) {
-        (Level::Or, TokenKind::Key(Keyword::Or)) => Some(BinaryOp::Logic(Logic::Or)),
-        (Level::And, TokenKind::Key(Keyword::And)) => Some(BinaryOp::Logic(Logic::And)),
-        (Level::Comparison, TokenKind::Sign(sign)) => comparison_of(*sign),
-        (Level::Sum, TokenKind::Sign(Symbol::Plus)) => Some(BinaryOp::Arithmetic(Arithmetic::Add)),
-        (Level::Sum, TokenKind::Sign(Symbol::Minus)) => Some(BinaryOp::Arithmetic(Arithmetic::Sub)),
-        (Level::Product, TokenKind::Sign(Symbol::Star)) => Some(BinaryOp::Arithmetic(
-            Arithmetic::Mul,
-        )),
-        (Level::Product, TokenKind::Key(Keyword::Div)) => Some(BinaryOp::Arithmetic(
-            Arithmetic::Div,
-        )),
-        (Level::Product, TokenKind::Key(Keyword::Rem)) => Some(BinaryOp::Arithmetic(
-            Arithmetic::Rem,
-        )),
+    match level {
+        Level::Or => Level::Or,
+        Level::And | Level::Comparison => Level::And,
+        Level::Sum => Level::Sum,
+        Level::Product => Level::Product,
+    }
+}
+
+/// How tight a level is.
+fn rank(level: Level) -> usize
+    ensures { result ≡ rank level }
+{
+    match level {
+        Level::Or => 0,
+        Level::And => 1,
+        Level::Comparison => 2,
+        Level::Sum => 3,
+        Level::Product => 4,
+    }
+}
+
+/// The operator that the tokens begin with, and its level, where that is not tighter than the inner
+/// level and not looser than the outer one.
+fn operator_within(tokens: &[Token], inner: Level, outer: Level) -> Option<(Level, BinaryOp)>
+    requires { EndsOnce tokens.now }
+    ensures { result ≡ operator_within inner outer (first_kind tokens.now) }
+{
+    let (at, op) = operator_in(&tokens[0])?;
+    if rank(at) <= rank(inner) && rank(outer) <= rank(at) {
+        Some((at, op))
+    } else {
+        None
+    }
+}
+
+/// The operator that the token is, and its level.
+fn operator_in(token: &Token) -> Option<(Level, BinaryOp)>
+    ensures { result ≡ operator_in token.now.kind }
+{
+    match &token.kind {
+        TokenKind::Key(Keyword::Or) => Some((Level::Or, BinaryOp::Logic(Logic::Or))),
+        TokenKind::Key(Keyword::And) => Some((Level::And, BinaryOp::Logic(Logic::And))),
+        TokenKind::Key(Keyword::Div) => {
+            Some((Level::Product, BinaryOp::Arithmetic(Arithmetic::Div)))
+        }
+        TokenKind::Key(Keyword::Rem) => {
+            Some((Level::Product, BinaryOp::Arithmetic(Arithmetic::Rem)))
+        }
+        TokenKind::Sign(sign) => operator_of_sign(*sign),
+        _ => None,
+    }
+}
+
+/// The operator that the sign is, and its level.
+fn operator_of_sign(sign: Symbol) -> Option<(Level, BinaryOp)>
+    ensures { result ≡ operator_in (TokenKind.Sign sign) }
+{
+    match sign {
+        Symbol::Star => Some((Level::Product, BinaryOp::Arithmetic(Arithmetic::Mul))),
+        Symbol::Plus => Some((Level::Sum, BinaryOp::Arithmetic(Arithmetic::Add))),
+        Symbol::Minus => Some((Level::Sum, BinaryOp::Arithmetic(Arithmetic::Sub))),
+        Symbol::Equal => Some((Level::Comparison, BinaryOp::Comparison(Comparison::Eq))),
+        Symbol::NotEqual => Some((Level::Comparison, BinaryOp::Comparison(Comparison::Ne))),
+        Symbol::Less => Some((Level::Comparison, BinaryOp::Comparison(Comparison::Lt))),
+        Symbol::LessEqual => Some((Level::Comparison, BinaryOp::Comparison(Comparison::Le))),
+        Symbol::Greater => Some((Level::Comparison, BinaryOp::Comparison(Comparison::Gt))),
+        Symbol::GreaterEqual => Some((Level::Comparison, BinaryOp::Comparison(Comparison::Ge))),
         _ => None,
     }
 }

@@ -14,7 +14,7 @@ use std::alloc::Global;
 
 /// An expression that was read, and its height.
 pub struct Part {
-    pub expr: Box<Expr>,
+    pub expr: Expr,
     pub height: usize,
 }
 
@@ -28,85 +28,73 @@ impl Drop for Part {
 impl Part {
     /// The expression alone.
     pub fn into_expr(self) -> Expr
-        ensures { result ≡ self.expr.value }
-    {
-        Box::into_inner(self.into_box())
-    }
-
-    /// The expression alone, in its box.
-    fn into_box(self) -> Box<Expr>
         ensures { result ≡ self.expr }
     {
         let Part { expr, height: _ } = self;
         expr
     }
-}
 
-/// The expression in a box of its own, with this height.
-fn boxed(alloc: Global, expr: Expr, height: usize) -> Result<Part, TreeError>
-    ensures height { IfOk result (λ p. p.height ≡ height) }
-    ensures expr { IfOk result (λ p. p.expr.value ≡ expr) }
-    ensures err { IfErr result (λ e. e ≡ Memory) }
-{
-    let expr = Box::new(alloc, expr)?;
-    Ok(Part { expr, height })
+    /// The expression alone, in a box of its own. `Memory` where that was refused.
+    fn into_box(self, alloc: Global) -> Result<Box<Expr>, TreeError>
+        ensures ok { IfOk result (λ b. b.value ≡ self.expr) }
+        ensures err { IfErr result (λ e. e ≡ Memory) }
+    {
+        let expr = Box::new(alloc, self.into_expr())?;
+        Ok(expr)
+    }
 }
 
 /// The number as an expression.
-pub fn number(alloc: Global, value: &i64, place: usize) -> Result<Part, TreeError>
-    ensures height { IfOk result (λ p. p.height ≡ 1) }
-    ensures tree { IfOk result (λ p. tree_of p.expr.value ≡ tree.literal (constant.Int value.now) place) }
-    ensures err { IfErr result (λ e. e ≡ Memory) }
+pub fn number(value: &i64, place: usize) -> Part
+    ensures height { result.height ≡ 1 }
+    ensures tree { tree_of result.expr ≡ tree.literal (constant.Int value.now) place }
 {
     let value = Constant::Int(*value);
-    boxed(alloc, Expr::Literal { value, place }, 1)
+    let expr = Expr::Literal { value, place };
+    Part { expr, height: 1 }
 }
 
 /// The truth value as an expression.
-pub fn truth(alloc: Global, value: bool, place: usize) -> Result<Part, TreeError>
-    ensures height { IfOk result (λ p. p.height ≡ 1) }
-    ensures tree { IfOk result (λ p. tree_of p.expr.value ≡ tree.literal (constant.Bool value) place) }
-    ensures err { IfErr result (λ e. e ≡ Memory) }
+pub fn truth(value: bool, place: usize) -> Part
+    ensures height { result.height ≡ 1 }
+    ensures tree { tree_of result.expr ≡ tree.literal (constant.Bool value) place }
 {
     let value = Constant::Bool(value);
-    boxed(alloc, Expr::Literal { value, place }, 1)
+    let expr = Expr::Literal { value, place };
+    Part { expr, height: 1 }
 }
 
 /// The name as an expression.
-pub fn name(alloc: Global, name: Identifier, place: usize) -> Result<Part, TreeError>
-    ensures height { IfOk result (λ p. p.height ≡ 1) }
-    ensures tree { IfOk result (λ p. tree_of p.expr.value ≡ tree.name name place) }
-    ensures err { IfErr result (λ e. e ≡ Memory) }
+pub fn name(name: Identifier, place: usize) -> Part
+    ensures height { result.height ≡ 1 }
+    ensures tree { tree_of result.expr ≡ tree.name name place }
 {
-    boxed(alloc, Expr::Name { name, place }, 1)
+    let expr = Expr::Name { name, place };
+    Part { expr, height: 1 }
 }
 
 /// The procedure's name with the arguments, which have at most this height.
-pub fn call(
-    alloc: Global,
-    name: Identifier,
-    args: Vec<Expr>,
-    height: usize,
-    place: usize,
-) -> Result<Part, TreeError>
+pub fn call(name: Identifier, args: Vec<Expr>, height: usize, place: usize) -> Part
     requires { height < 2 ^ 63 }
-    ensures height { IfOk result (λ p. p.height ≡ height + 1) }
-    ensures tree { IfOk result (λ p. tree_of p.expr.value ≡ tree.call name (passed args.items none) place) }
-    ensures err { IfErr result (λ e. e ≡ Memory) }
+    ensures height { result.height ≡ height + 1 }
+    ensures tree { tree_of result.expr ≡ tree.call name (passed args.items none) place }
 {
-    boxed(alloc, Expr::Call { name, args, place }, height + 1)
+    let height = height + 1;
+    let expr = Expr::Call { name, args, place };
+    Part { expr, height }
 }
 
 /// The operand behind an operator.
 pub fn unary(alloc: Global, op: UnaryOp, operand: Part, place: usize) -> Result<Part, TreeError>
     requires { operand.height < 2 ^ 63 }
     ensures height { IfOk result (λ p. p.height ≡ operand.height + 1) }
-    ensures tree { IfOk result (λ p. tree_of p.expr.value ≡ tree.unary op (tree_of operand.expr.value) place) }
+    ensures tree { IfOk result (λ p. tree_of p.expr ≡ tree.unary op (tree_of operand.expr) place) }
     ensures err { IfErr result (λ e. e ≡ Memory) }
 {
     let height = operand.height + 1;
-    let operand = operand.into_box();
-    boxed(alloc, Expr::Unary { op, operand, place }, height)
+    let operand = operand.into_box(alloc)?;
+    let expr = Expr::Unary { op, operand, place };
+    Ok(Part { expr, height })
 }
 
 /// The operands on both sides of an operator.
@@ -120,23 +108,20 @@ pub fn binary(
     requires low { left.height < 2 ^ 63 }
     requires high { right.height < 2 ^ 63 }
     ensures height { IfOk result (λ p. p.height ≡ max left.height right.height + 1) }
-    ensures tree { IfOk result (λ p. tree_of p.expr.value
-        ≡ tree.binary op (tree_of left.expr.value) (tree_of right.expr.value) place) }
+    ensures tree { IfOk result (λ p. tree_of p.expr
+        ≡ tree.binary op (tree_of left.expr) (tree_of right.expr) place) }
     ensures err { IfErr result (λ e. e ≡ Memory) }
 {
     let height = left.height.max(right.height) + 1;
-    let left = left.into_box();
-    let right = right.into_box();
-    boxed(
-        alloc,
-        Expr::Binary {
-            op,
-            left,
-            right,
-            place,
-        },
-        height,
-    )
+    let left = left.into_box(alloc)?;
+    let right = right.into_box(alloc)?;
+    let expr = Expr::Binary {
+        op,
+        left,
+        right,
+        place,
+    };
+    Ok(Part { expr, height })
 }
 
 /// The predicate and the arms of an `if`.
@@ -152,24 +137,21 @@ pub fn conditional(
     requires high { otherwise.height < 2 ^ 63 }
     ensures height { IfOk result (λ p.
         p.height ≡ max (max test.height then.height) otherwise.height + 1) }
-    ensures tree { IfOk result (λ p. tree_of p.expr.value
-        ≡ tree.conditional (tree_of test.expr.value) (tree_of then.expr.value) (tree_of otherwise.expr.value) place) }
+    ensures tree { IfOk result (λ p. tree_of p.expr
+        ≡ tree.conditional (tree_of test.expr) (tree_of then.expr) (tree_of otherwise.expr) place) }
     ensures err { IfErr result (λ e. e ≡ Memory) }
 {
     let height = test.height.max(then.height).max(otherwise.height) + 1;
-    let test = test.into_box();
-    let then = then.into_box();
-    let otherwise = otherwise.into_box();
-    boxed(
-        alloc,
-        Expr::If {
-            test,
-            then,
-            otherwise,
-            place,
-        },
-        height,
-    )
+    let test = test.into_box(alloc)?;
+    let then = then.into_box(alloc)?;
+    let otherwise = otherwise.into_box(alloc)?;
+    let expr = Expr::If {
+        test,
+        then,
+        otherwise,
+        place,
+    };
+    Ok(Part { expr, height })
 }
 
 /// The bounds of a new structure.
@@ -177,14 +159,15 @@ pub fn array(alloc: Global, low: Part, high: Part, place: usize) -> Result<Part,
     requires low { low.height < 2 ^ 63 }
     requires high { high.height < 2 ^ 63 }
     ensures height { IfOk result (λ p. p.height ≡ max low.height high.height + 1) }
-    ensures tree { IfOk result (λ p. tree_of p.expr.value
-        ≡ tree.array (tree_of low.expr.value) (tree_of high.expr.value) place) }
+    ensures tree { IfOk result (λ p. tree_of p.expr
+        ≡ tree.array (tree_of low.expr) (tree_of high.expr) place) }
     ensures err { IfErr result (λ e. e ≡ Memory) }
 {
     let height = low.height.max(high.height) + 1;
-    let low = low.into_box();
-    let high = high.into_box();
-    boxed(alloc, Expr::Array { low, high, place }, height)
+    let low = low.into_box(alloc)?;
+    let high = high.into_box(alloc)?;
+    let expr = Expr::Array { low, high, place };
+    Ok(Part { expr, height })
 }
 
 /// The structure and the index of an element.
@@ -192,27 +175,24 @@ pub fn fetch(alloc: Global, target: Part, index: Part, place: usize) -> Result<P
     requires low { target.height < 2 ^ 63 }
     requires high { index.height < 2 ^ 63 }
     ensures height { IfOk result (λ p. p.height ≡ max target.height index.height + 1) }
-    ensures tree { IfOk result (λ p. tree_of p.expr.value
-        ≡ tree.fetch (tree_of target.expr.value) (tree_of index.expr.value) place) }
+    ensures tree { IfOk result (λ p. tree_of p.expr
+        ≡ tree.fetch (tree_of target.expr) (tree_of index.expr) place) }
     ensures err { IfErr result (λ e. e ≡ Memory) }
 {
     let height = target.height.max(index.height) + 1;
-    let target = target.into_box();
-    let index = index.into_box();
-    boxed(
-        alloc,
-        Expr::Fetch {
-            target,
-            index,
-            place,
-        },
-        height,
-    )
+    let target = target.into_box(alloc)?;
+    let index = index.into_box(alloc)?;
+    let expr = Expr::Fetch {
+        target,
+        index,
+        place,
+    };
+    Ok(Part { expr, height })
 }
 
 /// The name for the value of an expression.
 pub fn binding(name: Identifier, value: Part, place: usize) -> Stmt
-    ensures { stmt_tree result ≡ tree.binding name (tree_of value.expr.value) place }
+    ensures { stmt_tree result ≡ tree.binding name (tree_of value.expr) place }
 {
     Stmt::Binding {
         name,
@@ -223,7 +203,7 @@ pub fn binding(name: Identifier, value: Part, place: usize) -> Stmt
 
 /// The next value of a loop's variable.
 pub fn next(name: Identifier, value: Part, place: usize) -> Stmt
-    ensures { stmt_tree result ≡ tree.next name (tree_of value.expr.value) place }
+    ensures { stmt_tree result ≡ tree.next name (tree_of value.expr) place }
 {
     Stmt::Next {
         name,
@@ -233,16 +213,26 @@ pub fn next(name: Identifier, value: Part, place: usize) -> Stmt
 }
 
 /// The value of a structure's element.
-pub fn store(target: Part, index: Part, value: Part, place: usize) -> Stmt
-    ensures { stmt_tree result
-        ≡ tree.store (tree_of target.expr.value) (tree_of index.expr.value) (tree_of value.expr.value) place }
+pub fn store(
+    alloc: Global,
+    target: Part,
+    index: Part,
+    value: Part,
+    place: usize,
+) -> Result<Stmt, TreeError>
+    ensures ok { IfOk result (λ s. stmt_tree s
+        ≡ tree.store (tree_of target.expr) (tree_of index.expr) (tree_of value.expr) place) }
+    ensures err { IfErr result (λ e. e ≡ Memory) }
 {
-    Stmt::Store {
-        target: target.into_box(),
-        index: index.into_box(),
-        value: value.into_box(),
+    let target = target.into_box(alloc)?;
+    let index = index.into_box(alloc)?;
+    let value = value.into_box(alloc)?;
+    Ok(Stmt::Store {
+        target,
+        index,
+        value,
         place,
-    }
+    })
 }
 
 /// The statements, whose parts have at most this height, round the body.
@@ -256,21 +246,18 @@ pub fn block(
     requires low { height < 2 ^ 63 }
     requires high { body.height < 2 ^ 63 }
     ensures height { IfOk result (λ p. p.height ≡ max height body.height + 1) }
-    ensures tree { IfOk result (λ p. tree_of p.expr.value
-        ≡ tree.block (onto statements.items none) (tree_of body.expr.value) place) }
+    ensures tree { IfOk result (λ p. tree_of p.expr
+        ≡ tree.block (onto statements.items none) (tree_of body.expr) place) }
     ensures err { IfErr result (λ e. e ≡ Memory) }
 {
     let height = height.max(body.height) + 1;
-    let body = body.into_box();
-    boxed(
-        alloc,
-        Expr::Block {
-            statements,
-            body,
-            place,
-        },
-        height,
-    )
+    let body = body.into_box(alloc)?;
+    let expr = Expr::Block {
+        statements,
+        body,
+        place,
+    };
+    Ok(Part { expr, height })
 }
 
 /// The predicate, the statements, whose parts have at most this height, and the last expression of a loop.
@@ -287,23 +274,20 @@ pub fn whole_loop(
     requires high { last.height < 2 ^ 63 }
     ensures height { IfOk result (λ p.
         p.height ≡ max (max test.height height) last.height + 1) }
-    ensures tree { IfOk result (λ p. tree_of p.expr.value
-        ≡ tree.loop (tree_of test.expr.value) (onto statements.items none) (tree_of last.expr.value) place) }
+    ensures tree { IfOk result (λ p. tree_of p.expr
+        ≡ tree.loop (tree_of test.expr) (onto statements.items none) (tree_of last.expr) place) }
     ensures err { IfErr result (λ e. e ≡ Memory) }
 {
     let height = test.height.max(height).max(last.height) + 1;
-    let test = test.into_box();
-    let last = last.into_box();
-    boxed(
-        alloc,
-        Expr::Loop {
-            test,
-            statements,
-            last,
-            place,
-        },
-        height,
-    )
+    let test = test.into_box(alloc)?;
+    let last = last.into_box(alloc)?;
+    let expr = Expr::Loop {
+        test,
+        statements,
+        last,
+        place,
+    };
+    Ok(Part { expr, height })
 }
 
 /// A list of fewer things is short.

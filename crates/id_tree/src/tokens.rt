@@ -16,12 +16,11 @@ ghost use Rattle.id_tree.specs.Readers.{
   begins_expression,
   no_room_at,
 };
-ghost use Rattle.id_tree.specs.declared.parser.Level.TheVariants as level;
-ghost use Rattle.id_tree.specs.Grammar.{word, kind_of, kind_named, operator_of};
+ghost use Rattle.id_tree.specs.Grammar.{word, kind_of, kind_named};
 
 use crate::tree::{MAX_NESTING, TreeError};
 use id_text::{Identifier, Keyword, Symbol, Token, TokenKind};
-use id_value::{BinaryOp, Comparison, Kind};
+use id_value::Kind;
 use std::alloc::Global;
 
 /// A reserved word or a sign, which a production fixes.
@@ -112,21 +111,6 @@ pub fn kind_at(tokens: &[Token]) -> Option<Kind>
         TokenKind::Key(Keyword::Int) => Some(Kind::Int),
         TokenKind::Key(Keyword::Bool) => Some(Kind::Bool),
         TokenKind::Key(Keyword::Array) => Some(Kind::Array),
-        _ => None,
-    }
-}
-
-/// The comparison that the sign is.
-pub fn comparison_of(sign: Symbol) -> Option<BinaryOp>
-    ensures { result ≡ operator_of level.Comparison (TokenKind.Sign sign) }
-{
-    match sign {
-        Symbol::Equal => Some(BinaryOp::Comparison(Comparison::Eq)),
-        Symbol::NotEqual => Some(BinaryOp::Comparison(Comparison::Ne)),
-        Symbol::Less => Some(BinaryOp::Comparison(Comparison::Lt)),
-        Symbol::LessEqual => Some(BinaryOp::Comparison(Comparison::Le)),
-        Symbol::Greater => Some(BinaryOp::Comparison(Comparison::Gt)),
-        Symbol::GreaterEqual => Some(BinaryOp::Comparison(Comparison::Ge)),
         _ => None,
     }
 }

@@ -8,9 +8,9 @@ use Rattle.id_text.specs.declared.token.Keyword.TheVariants.{If, While, Next, No
 use Rattle.id_tree.specs.declared.parser.Level.TheVariants as level
 use Rattle.id_tree.specs.declared.parser.Scope.TheVariants as scope
 use Rattle.id_tree.specs.Grammar.{Expression, Grouped, Negation, Unary, Postfix, Atom, Tail}
-use Rattle.id_tree.specs.Readers.{first_kind, second_kind, truth_in, IsRead, IsGathered, Leads, Fails, Adds, Assigns, Misassigns, Applies, Misapplies}
+use Rattle.id_tree.specs.Readers.{first_kind, second_kind, truth_in, IsRead, IsGathered, Leads, Fails, Adds, Assigns, Misassigns, Applies, Misapplies, may_deny}
 use Rattle.id_tree.specs.Tree.{tree_of, stmt_tree, store}
-use Rattle.id_tree.proofs.ReaderLemmas.{IsRead-then, Level-begins, Level-grows, Level-grown, Level-fails, Level-stunts, Level-ends, Right-deep, Right-fails, Right-grows, At-conditional, At-parens, At-part, At-word, At-name, At-enclosed, Leads-done, Leads-at, Fails-deep, Fails-part, Fails-word, Fails-name, Fails-enclosed, IsPrefix-begins, Prefix-deep, Prefix-fails, Prefix-leads, Encloses-done, Exposes-word, Exposes-part, opens_negated, opens_denied, opens_conditional, opens_parens, Expression-leads, Expression-fails, Negation-leads, Negation-fails, At-opens, opens_number, opens_truth, Atom-fails, IsRead-behind, unopened, untrue}
+use Rattle.id_tree.proofs.ReaderLemmas.{IsRead-then, Rises-grows, Rises-stunts, Rises-ends, Rises-operand, Operand-fails, Rises-denied, Denied-fails, operator-at, Right-deep, Right-fails, Right-grows, At-conditional, At-parens, At-part, At-word, At-name, At-enclosed, Leads-done, Leads-at, Fails-deep, Fails-part, Fails-word, Fails-name, Fails-enclosed, IsPrefix-begins, Prefix-deep, Prefix-fails, Prefix-leads, Encloses-done, Exposes-word, Exposes-part, opens_negated, opens_denied, opens_conditional, opens_parens, Expression-leads, Expression-fails, Negation-leads, Negation-fails, At-opens, opens_number, opens_truth, Atom-fails, IsRead-behind, unopened, untrue}
 use Rattle.id_tree.proofs.ArrayLemmas.{opens_array, At-array, Unary-leads, Unary-fails, Pointed-atom, Pointed-fetch, Pointed-fails, Pointed-ends, Postfix-fails, Fetch-deep, Fetch-fails, Fetch-indexes, Behind-bracket, Behind-word, Behind-enclosed, Misassigns-word, Misassigns-enclosed, Assigns-done, Adds-assigned, Fails-assigned}
 use Rattle.id_tree.proofs.CallLemmas.{IsRead-named, Leads-named, Fails-named, Applies-name, Applies-call, Misapplies-call, Leads-unpassed, Hands-first, Fails-argument, Hands-add, Fails-added, Leads-passed, Fails-passed, IsRead-add, Fails-full}
 use Rattle.id_tree.proofs.BlockLemmas.{opens_braces, At-block, At-loop, Encloses-tail, Exposes-tail, At-binding, At-next, Fails-tail, Adds-done, IsGathered-add, Gathers-none, Gathers-add, Fails-gathered, Leads-gathered, Leads-last, Fails-last}
@@ -19,8 +19,8 @@ use Rattle.id_tree.proofs.parser.+expr.Goals as goal
 pub parse_expression-returns-else-begins_with-clause-ok : goal.parse_expression-returns-else-begins_with-clause-ok
 parse_expression-returns-else-begins_with-clause-ok t c =
     let is_not : first_kind c.args.tokens.now ≡ Key If → ⊥ = search rules in
-    IfOk-weaker c.parse_grouped.result (λ x. Leads c.args.tokens.now (Grouped level.Or) c.args.depth x.1.now (tree_of x.0.expr.value) x.0.height)
-    (λ x. Leads c.args.tokens.now Expression c.args.depth x.1.now (tree_of x.0.expr.value) x.0.height)
+    IfOk-weaker c.parse_grouped.result (λ x. Leads c.args.tokens.now (Grouped level.Or) c.args.depth x.1.now (tree_of x.0.expr) x.0.height)
+    (λ x. Leads c.args.tokens.now Expression c.args.depth x.1.now (tree_of x.0.expr) x.0.height)
     (λ x q. Expression-leads is_not q) c.parse_grouped.ensures.ok
 
 pub parse_expression-returns-else-begins_with-clause-err : goal.parse_expression-returns-else-begins_with-clause-err
@@ -57,34 +57,59 @@ parse_conditional-returns-clause-ok t c =
     (Leads-done (At-part (At-enclosed (At-enclosed (At-conditional c.in_ok-first.ensures.whole c.requires.begins c.in_ok-first.ensures.fits)
     c.in_ok-test.ensures.ok) c.in_ok-then.ensures.ok) c.in_ok-otherwise.ensures.ok))
 
+pub parse_first-parse_prefixed-requires : goal.parse_first-parse_prefixed-requires
+parse_first-parse_prefixed-requires t c =
+    let is : may_deny c.args.level × (first_kind c.args.tokens.now ≡ Key Not) = search rules in
+    (grind (arith, common_steps), (c.requires.ends, (opens_denied is.1, c.requires.room)))
+
+pub parse_first-returns-in_err-left-clause-err : goal.parse_first-returns-in_err-left-clause-err
+parse_first-returns-in_err-left-clause-err t c =
+    let is : may_deny c.args.level × (first_kind c.args.tokens.now ≡ Key Not) = search rules in
+    let p = err_from_is_err_and c.from_residual.result c.from_residual.ensures.1 in
+    rw (p.1, p.2) (Denied-fails c.args.level is.0 c.in_err-left.ensures.err)
+
+pub parse_first-returns-in_ok-left-clause-ok : goal.parse_first-returns-in_ok-left-clause-ok
+parse_first-returns-in_ok-left-clause-ok t c =
+    let is : may_deny c.args.level × (first_kind c.args.tokens.now ≡ Key Not) = search rules in
+    Rises-denied c.args.level is.0 c.in_ok-left.ensures.ok
+
+pub parse_first-returns-in_err-left-2-clause-err : goal.parse_first-returns-in_err-left-2-clause-err
+parse_first-returns-in_err-left-2-clause-err t c =
+    let is_not : may_deny c.args.level × (first_kind c.args.tokens.now ≡ Key Not) → ⊥ = search rules in
+    let p = err_from_is_err_and c.from_residual-in_err-left-2.result c.from_residual-in_err-left-2.ensures.1 in
+    rw (p.1, p.2) (Operand-fails c.args.level is_not c.in_err-left-2.ensures.err)
+
+pub parse_first-returns-in_ok-left-2-clause-ok : goal.parse_first-returns-in_ok-left-2-clause-ok
+parse_first-returns-in_ok-left-2-clause-ok t c =
+    let is_not : may_deny c.args.level × (first_kind c.args.tokens.now ≡ Key Not) → ⊥ = search rules in
+    Rises-operand c.args.level is_not c.in_ok-left-2.ensures.ok
+
+pub parse_grouped-parse_right-requires : goal.parse_grouped-parse_right-requires
+parse_grouped-parse_right-requires t c =
+    let at = operator-at c.operators.inner c.args.level _ _ (sym c.operator_within.ensures ∙ c.in-Some.is) in
+    (grind (arith, common_steps), (c.operators.invariant.0.behind.ends, (at, (c.operators.invariant.0.some, c.operators.invariant.0.fits))))
+
 pub parse_grouped-returns-in_err-left-clause-err : goal.parse_grouped-returns-in_err-left-clause-err
 parse_grouped-returns-in_err-left-clause-err t c =
     let p = err_from_is_err_and c.from_residual.result c.from_residual.ensures.1 in
-    rw (p.1, p.2) (Level-fails c.args.level c.in_err-left.ensures.err)
+    rw (p.1, p.2) c.in_err-left.ensures.err
 
-pub parse_grouped-loop-op-init : goal.parse_grouped-loop-op-init
-parse_grouped-loop-op-init t c = (c.in_ok-left.ensures.read, Level-begins c.in_ok-left.ensures.ok)
+pub parse_grouped-operators-init : goal.parse_grouped-operators-init
+parse_grouped-operators-init t c = (c.in_ok-left.ensures.read, c.in_ok-left.ensures.ok)
 
-pub parse_grouped-loop-op-preserved : goal.parse_grouped-loop-op-preserved
-parse_grouped-loop-op-preserved t c =
-    let is_not : c.args.level ≡ level.Comparison → ⊥ = search rules in
-    (IsRead-then c.loop-op.invariant.0 c.in_ok-grown.ensures.read, Level-grows c.loop-op.invariant.1 c.in_ok-grown.ensures.ok is_not)
-
-pub parse_grouped-returns-then-takes_one-clause-read : goal.parse_grouped-returns-then-takes_one-clause-read
-parse_grouped-returns-then-takes_one-clause-read t c = IsRead-then c.loop-op.invariant.0 c.in_ok-grown.ensures.read
-
-pub parse_grouped-returns-then-takes_one-clause-ok : goal.parse_grouped-returns-then-takes_one-clause-ok
-parse_grouped-returns-then-takes_one-clause-ok t c =
-    let is : c.args.level ≡ level.Comparison = search rules in
-    Level-grown c.loop-op.invariant.1 c.in_ok-grown.ensures.ok is
+pub parse_grouped-operators-preserved : goal.parse_grouped-operators-preserved
+parse_grouped-operators-preserved t c = (
+  IsRead-then c.operators.invariant.0 c.in_ok-grown.ensures.read,
+  rw c.open_behind-inner.ensures (Rises-grows c.operators.invariant.1 _ (sym c.operator_within.ensures ∙ c.in-Some.is) c.in_ok-grown.ensures.ok),
+)
 
 pub parse_grouped-returns-in_err-grown-clause-err : goal.parse_grouped-returns-in_err-grown-clause-err
 parse_grouped-returns-in_err-grown-clause-err t c =
     let p = err_from_is_err_and c.from_residual-in_err-grown.result c.from_residual-in_err-grown.ensures.1 in
-    rw (p.1, p.2) (Level-stunts c.loop-op.invariant.1 c.in_err-grown.ensures.err)
+    rw (p.1, p.2) (Rises-stunts c.operators.invariant.1 _ (sym c.operator_within.ensures ∙ c.in-Some.is) c.in_err-grown.ensures.err)
 
 pub parse_grouped-returns-clause-ok : goal.parse_grouped-returns-clause-ok
-parse_grouped-returns-clause-ok t c = Level-ends c.loop-op.invariant.1 (sym c.operator_at.ensures ∙ c.in_default.is)
+parse_grouped-returns-clause-ok t c = Rises-ends c.operators.invariant.1 (sym c.operator_within.ensures ∙ c.in_default.is)
 
 pub parse_parens-returns-in_err-opened-clause-err : goal.parse_parens-returns-in_err-opened-clause-err
 parse_parens-returns-in_err-opened-clause-err t c =
@@ -259,9 +284,9 @@ parse_store-returns-in_err-value-clause-err t c =
 pub parse_store-returns-clause-ok : goal.parse_store-returns-clause-ok
 parse_store-returns-clause-ok t c =
     let tree =
-    c.store-statement.ensures
-    ∙ ap (λ a. store a (tree_of c.in_ok-index.index.expr.value) (tree_of c.in_ok-value.value.expr.value) c.split.result.0.now.start)
-    c.in_ok-target.ensures.tree in
+    c.in_ok-statement.ensures.ok
+    ∙ ap (λ a. store a (tree_of c.in_ok-index.index.expr) (tree_of c.in_ok-value.value.expr) c.split.result.0.now.start)
+    c.name-target.ensures.tree in
     Assigns-done tree (omega (arith, c.max-height.ensures))
     (Behind-enclosed (Behind-word (Behind-enclosed (Behind-bracket c.args.scope c.args.depth c.args.x c.args.place c.split.ensures.whole c.requires.begins)
     (Encloses-tail c.in_ok-index.ensures.ok)) c.in_ok-begun.ensures.ok) (Encloses-tail c.in_ok-value.ensures.ok))
@@ -374,8 +399,8 @@ parse_conditional-conditional-requires-clause-high t c = grind (arith, common_st
 pub parse_conditional-returns-clause-read : goal.parse_conditional-returns-clause-read
 parse_conditional-returns-clause-read t c = grind (arith, common_steps)
 
-pub parse_grouped-loop-op-smaller : goal.parse_grouped-loop-op-smaller
-parse_grouped-loop-op-smaller t c = grind (arith, common_steps)
+pub parse_grouped-operators-smaller : goal.parse_grouped-operators-smaller
+parse_grouped-operators-smaller t c = grind (arith, common_steps)
 
 pub parse_grouped-returns-clause-read : goal.parse_grouped-returns-clause-read
 parse_grouped-returns-clause-read t c = grind (arith, common_steps)
@@ -431,8 +456,8 @@ parse_statements-returns-clause-read t c = grind (arith, common_steps)
 pub parse_negation-returns-else-begins_with-clause-ok : goal.parse_negation-returns-else-begins_with-clause-ok
 parse_negation-returns-else-begins_with-clause-ok t c =
     let is_not : first_kind c.args.tokens.now ≡ Key Not → ⊥ = search rules in
-    IfOk-weaker c.parse_grouped.result (λ x. Leads c.args.tokens.now (Grouped level.Comparison) c.args.depth x.1.now (tree_of x.0.expr.value) x.0.height)
-    (λ x. Leads c.args.tokens.now Negation c.args.depth x.1.now (tree_of x.0.expr.value) x.0.height)
+    IfOk-weaker c.parse_grouped.result (λ x. Leads c.args.tokens.now (Grouped level.Comparison) c.args.depth x.1.now (tree_of x.0.expr) x.0.height)
+    (λ x. Leads c.args.tokens.now Negation c.args.depth x.1.now (tree_of x.0.expr) x.0.height)
     (λ x q. Negation-leads is_not q) c.parse_grouped.ensures.ok
 
 pub parse_negation-returns-else-begins_with-clause-err : goal.parse_negation-returns-else-begins_with-clause-err
@@ -454,8 +479,8 @@ parse_unary-parse_prefixed-requires t c =
 pub parse_unary-returns-else-begins_with_sign-clause-ok : goal.parse_unary-returns-else-begins_with_sign-clause-ok
 parse_unary-returns-else-begins_with_sign-clause-ok t c =
     let is_not : first_kind c.args.tokens.now ≡ Sign Minus → ⊥ = search rules in
-    IfOk-weaker c.parse_postfix.result (λ x. Leads c.args.tokens.now Postfix c.args.depth x.1.now (tree_of x.0.expr.value) x.0.height)
-    (λ x. Leads c.args.tokens.now Unary c.args.depth x.1.now (tree_of x.0.expr.value) x.0.height)
+    IfOk-weaker c.parse_postfix.result (λ x. Leads c.args.tokens.now Postfix c.args.depth x.1.now (tree_of x.0.expr) x.0.height)
+    (λ x. Leads c.args.tokens.now Unary c.args.depth x.1.now (tree_of x.0.expr) x.0.height)
     (λ x q. Unary-leads is_not q) c.parse_postfix.ensures.ok
 
 pub parse_unary-returns-else-begins_with_sign-clause-err : goal.parse_unary-returns-else-begins_with_sign-clause-err
@@ -558,15 +583,15 @@ parse_prefixed-overflow_add-inner-2 t c = grind (arith, common_steps)
 pub parse_prefixed-returns-clause-read : goal.parse_prefixed-returns-clause-read
 parse_prefixed-returns-clause-read t c = grind (arith, common_steps)
 
-pub parse_leaf-returns-in_ok-whole-in-Number-clause-ok : goal.parse_leaf-returns-in_ok-whole-in-Number-clause-ok
-parse_leaf-returns-in_ok-whole-in-Number-clause-ok t c =
-    Leads-at c.in_ok-whole-in-Number.ensures.tree (omega (arith, c.in_ok-whole-in-Number.ensures.height))
+pub parse_leaf-returns-in-Number-clause-ok : goal.parse_leaf-returns-in-Number-clause-ok
+parse_leaf-returns-in-Number-clause-ok t c =
+    Leads-at c.number-whole.ensures.tree (omega (arith, c.number-whole.ensures.height))
     (Leads-done (At-opens c.split.ensures.whole
     (opens_number c.in-Number.value (ap first_kind c.split.ensures.whole ∙ c.in-Number.is)) c.args.depth (omega (arith, c.requires.room))))
 
-pub parse_leaf-returns-in_ok-whole-in-Some-clause-ok : goal.parse_leaf-returns-in_ok-whole-in-Some-clause-ok
-parse_leaf-returns-in_ok-whole-in-Some-clause-ok t c =
-    Leads-at c.in_ok-whole-in-Some.ensures.tree (omega (arith, c.in_ok-whole-in-Some.ensures.height))
+pub parse_leaf-returns-in-Some-clause-ok : goal.parse_leaf-returns-in-Some-clause-ok
+parse_leaf-returns-in-Some-clause-ok t c =
+    Leads-at c.truth-whole.ensures.tree (omega (arith, c.truth-whole.ensures.height))
     (Leads-done (At-opens c.split.ensures.whole
     (opens_truth c.in-Some.value
     (ap (λ xs. truth_in (first_kind xs)) c.split.ensures.whole ∙ sym c.truth_of.ensures ∙ c.in-Some.is)) c.args.depth (omega (arith, c.requires.room))))
@@ -597,8 +622,8 @@ parse_leaf-returns-in_ok-copy-in-Name-clause-ok t c =
     let is : c.split.result.0.now.kind ≡ Name c.in_ok-copy-in-Name.field-0 = c.in-Name.is ∙ ap Name (sym c.in_ok-copy-in-Name.ensures) in
     IfOk-weaker c.parse_named.result
     (λ y. Applies c.split.result.1.now c.args.depth c.in_ok-copy-in-Name.field-0 c.split.result.0.now.start y.1.now
-    (tree_of y.0.expr.value) y.0.height)
-    (λ y. Leads c.args.tokens.now Atom c.args.depth y.1.now (tree_of y.0.expr.value) y.0.height)
+    (tree_of y.0.expr) y.0.height)
+    (λ y. Leads c.args.tokens.now Atom c.args.depth y.1.now (tree_of y.0.expr) y.0.height)
     (λ y q. Leads-named c.split.ensures.whole c.args.depth (omega (arith, c.requires.room)) c.in_ok-copy-in-Name.field-0 (ap first_kind c.split.ensures.whole ∙ is) q) c.parse_named.ensures.ok
 
 pub parse_leaf-returns-in_ok-copy-in-Name-clause-err : goal.parse_leaf-returns-in_ok-copy-in-Name-clause-err
@@ -608,10 +633,10 @@ parse_leaf-returns-in_ok-copy-in-Name-clause-err t c =
     (Fails c.args.tokens.now Atom c.args.depth)
     (λ y q. Fails-named c.split.ensures.whole c.args.depth (omega (arith, c.requires.room)) c.in_ok-copy-in-Name.field-0 (ap first_kind c.split.ensures.whole ∙ is) q) c.parse_named.ensures.err
 
-pub parse_named-returns-in_ok-whole-2-clause-ok : goal.parse_named-returns-in_ok-whole-2-clause-ok
-parse_named-returns-in_ok-whole-2-clause-ok t c =
+pub parse_named-returns-else-begins_with_sign-clause-ok : goal.parse_named-returns-else-begins_with_sign-clause-ok
+parse_named-returns-else-begins_with_sign-clause-ok t c =
     let is_not : first_kind c.args.tokens.now ≡ Sign LeftParen → ⊥ = search rules in
-    Applies-name c.args.depth is_not c.in_ok-whole-2.ensures.tree c.in_ok-whole-2.ensures.height
+    Applies-name c.args.depth is_not c.name-whole.ensures.tree c.name-whole.ensures.height
 
 pub parse_named-returns-in_err-args-clause-err : goal.parse_named-returns-in_err-args-clause-err
 parse_named-returns-in_err-args-clause-err t c =
@@ -619,10 +644,10 @@ parse_named-returns-in_err-args-clause-err t c =
     let p = err_from_is_err_and c.from_residual.result c.from_residual.ensures.1 in
     rw (p.1, p.2) (Misapplies-call c.split.ensures.whole is c.args.depth c.args.x c.args.place c.in_err-args.ensures.err)
 
-pub parse_named-returns-in_ok-whole-clause-ok : goal.parse_named-returns-in_ok-whole-clause-ok
-parse_named-returns-in_ok-whole-clause-ok t c =
+pub parse_named-returns-in_ok-args-clause-ok : goal.parse_named-returns-in_ok-args-clause-ok
+parse_named-returns-in_ok-args-clause-ok t c =
     let is : first_kind c.args.tokens.now ≡ Sign LeftParen = search rules in
-    Applies-call c.split.ensures.whole is c.args.depth c.args.x c.args.place c.in_ok-args.ensures.ok c.in_ok-whole.ensures.tree c.in_ok-whole.ensures.height
+    Applies-call c.split.ensures.whole is c.args.depth c.args.x c.args.place c.in_ok-args.ensures.ok c.call-whole.ensures.tree c.call-whole.ensures.height
 
 pub parse_arguments-returns-then-is_sign-clause-ok : goal.parse_arguments-returns-then-is_sign-clause-ok
 parse_arguments-returns-then-is_sign-clause-ok t c =
@@ -654,7 +679,7 @@ pub parse_some_arguments-arguments-init : goal.parse_some_arguments-arguments-in
 parse_some_arguments-arguments-init t c = (
   c.in_ok-first.ensures.read,
   rw (c.in_ok-push.ensures.items, c.new-args.ensures.items)
-      (Hands-first c.args.depth c.requires.not_closed c.in_ok-first.first.expr.value _ c.into_expr.ensures c.in_ok-first.ensures.ok),
+      (Hands-first c.args.depth c.requires.not_closed c.in_ok-first.first.expr _ c.into_expr.ensures c.in_ok-first.ensures.ok),
 )
 
 pub parse_some_arguments-arguments-preserved : goal.parse_some_arguments-arguments-preserved
@@ -662,7 +687,7 @@ parse_some_arguments-arguments-preserved t c =
     let comma : first_kind c.arguments.rest.now ≡ Sign Comma = search rules in (
       rw c.max-height.ensures (IsRead-add c.arguments.invariant.0 c.split.ensures.whole c.in_ok-arg.ensures.read),
       rw (c.max-height.ensures, c.in_ok-push-2.ensures.items)
-          (Hands-add c.arguments.invariant.1 c.split.ensures.whole c.in_ok-arg.arg.expr.value _
+          (Hands-add c.arguments.invariant.1 c.split.ensures.whole c.in_ok-arg.arg.expr _
           c.into_expr-in-arguments.ensures comma (omega (arith, c.requires.room)) c.in_ok-arg.ensures.ok),
     )
 

@@ -1,20 +1,9 @@
 -- Each call goes one expression deeper, or to a reader of a lower rank at the same depth.
-use Rattle.std.proofs.Common.{◌+◌, ◌-◌, ◌*◌, ℕ, length}
-use Rattle.id_tree.specs.declared.parser.Level.{Level}
-use Rattle.id_tree.specs.declared.parser.Level.TheVariants as level
-use Rattle.id_tree.specs.Readers.{IsRead, Gathers, IsGathered, Hands}
+use Rattle.std.proofs.Common.{◌+◌, ◌-◌, ◌*◌, length}
+use Rattle.id_tree.specs.Readers.{IsRead, Gathers, IsGathered, Hands, Rises}
 use Rattle.id_tree.specs.Tree.{tree_of}
-use Rattle.id_tree.proofs.ReaderLemmas.{Begun}
 use Rattle.id_tree.proofs.ArrayLemmas.{Pointed}
 use Rattle.id_tree.proofs.parser.+expr.Given as goal
-
--- the looser level has the higher rank
-abbrev rank : Level → ℕ
-rank level.Or = 5
-rank level.And = 4
-rank level.Comparison = 2
-rank level.Sum = 1
-rank level.Product = 0
 
 abbrev pub decreases-parse_parens : goal.decreases-parse_parens
 decreases-parse_parens l = (200 - l.depth) * 32
@@ -53,13 +42,16 @@ abbrev pub decreases-parse_array : goal.decreases-parse_array
 decreases-parse_array l = (200 - l.depth) * 32
 
 abbrev pub decreases-parse_operand : goal.decreases-parse_operand
-decreases-parse_operand l = (200 - l.depth) * 32 + (5 + 2 * rank l.level)
+decreases-parse_operand l = (200 - l.depth) * 32 + 8
+
+abbrev pub decreases-parse_first : goal.decreases-parse_first
+decreases-parse_first l = (200 - l.depth) * 32 + 5
 
 abbrev pub decreases-parse_grouped : goal.decreases-parse_grouped
-decreases-parse_grouped l = (200 - l.depth) * 32 + (6 + 2 * rank l.level)
+decreases-parse_grouped l = (200 - l.depth) * 32 + 6
 
 abbrev pub decreases-parse_negation : goal.decreases-parse_negation
-decreases-parse_negation l = (200 - l.depth) * 32 + 11
+decreases-parse_negation l = (200 - l.depth) * 32 + 7
 
 abbrev pub decreases-parse_expression : goal.decreases-parse_expression
 decreases-parse_expression l = (200 - l.depth) * 32 + 17
@@ -101,18 +93,18 @@ decreases-parse_some_arguments-arguments l = length l.rest
 -- what may be the target of a fetch has come
 abbrev pub invariant-parse_postfix-fetches : goal.invariant-parse_postfix-fetches
 invariant-parse_postfix-fetches l =
-    IsRead l.fn.tokens l.rest l.depth l.target.height × Pointed l.fn.tokens l.depth l.rest (tree_of l.target.expr.value) l.target.height
+    IsRead l.fn.tokens l.rest l.depth l.target.height × Pointed l.fn.tokens l.depth l.rest (tree_of l.target.expr) l.target.height
 
 abbrev pub decreases-parse_postfix-fetches : goal.decreases-parse_postfix-fetches
 decreases-parse_postfix-fetches l = length l.rest
 
--- the first operand has come, and the level is open
-abbrev pub invariant-parse_grouped-loop-op : goal.invariant-parse_grouped-loop-op
-invariant-parse_grouped-loop-op l =
-    IsRead l.fn.tokens l.rest l.depth l.left.height × Begun l.fn.tokens l.level l.depth l.rest (tree_of l.left.expr.value) l.left.height
+-- an operand has come, and the levels round it are open
+abbrev pub invariant-parse_grouped-operators : goal.invariant-parse_grouped-operators
+invariant-parse_grouped-operators l =
+    IsRead l.fn.tokens l.rest l.depth l.left.height × Rises l.fn.tokens l.level l.depth l.inner l.rest (tree_of l.left.expr) l.left.height
 
-abbrev pub decreases-parse_grouped-loop-op : goal.decreases-parse_grouped-loop-op
-decreases-parse_grouped-loop-op l = length l.rest
+abbrev pub decreases-parse_grouped-operators : goal.decreases-parse_grouped-operators
+decreases-parse_grouped-operators l = length l.rest
 
 -- statements have come, and the block or the loop is open
 abbrev pub invariant-parse_statements-stmts : goal.invariant-parse_statements-stmts
