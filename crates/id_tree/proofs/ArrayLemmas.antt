@@ -1,9 +1,9 @@
 -- How the readers' runs are put together in an array, a fetch and a store.
-use Rattle.std.proofs.Common.{◌≡◌, ℕ, ◌+◌, ◌≤◌, ◌<◌, max, None, List, [], ◌∷◌, refl, ap, ◌∙◌, add-zero}
+use Rattle.std.proofs.Common.{◌≡◌, ℕ, ℤ, ◌+◌, ◌≤◌, ◌<◌, max, None, List, [], ◌∷◌, refl, ap, ◌∙◌, add-zero}
 use Rattle.id_text.specs.Tokens.{EndsOnce}
 use Rattle.id_text.specs.declared.token.Token.{Token}
 use Rattle.id_text.specs.declared.token.TokenKind.{TokenKind}
-use Rattle.id_text.specs.declared.token.TokenKind.TheVariants.{Key, Sign}
+use Rattle.id_text.specs.declared.token.TokenKind.TheVariants.{Name, Number, Key, Sign}
 use Rattle.id_text.specs.declared.token.Keyword.TheVariants.{Array}
 use Rattle.id_text.specs.declared.token.Symbol.TheVariants.{LeftBracket, RightBracket, Minus}
 use Rattle.id_tree.specs.declared.parser.Scope.{Scope}
@@ -59,6 +59,13 @@ module _ {ts us : List Token} {d h : ℕ} {e : Tree} where
 
   pub Pointed-ends : Pointed ts d us e h → (first_kind us ≡ Sign LeftBracket → ⊥) → Leads ts Postfix d us e h
   Pointed-ends p f = record { comes = λ K. p.comes K ∙ run-target 200 us e h d K (no_word (the.Sign LeftBracket) us f) }
+
+  -- a number or a name alone
+  pub Unary-number : (v : ℤ) → first_kind ts ≡ Number v → Leads ts Atom d us e h → (first_kind us ≡ Sign LeftBracket → ⊥) → Leads ts Unary d us e h
+  Unary-number v is q f = Unary-leads (λ r. cc) (Pointed-ends (Pointed-atom q) f)
+
+  pub Unary-name : (x : List ℕ) → first_kind ts ≡ Name x → Leads ts Atom d us e h → (first_kind us ≡ Sign LeftBracket → ⊥) → Leads ts Unary d us e h
+  Unary-name x is q f = Unary-leads (λ r. cc) (Pointed-ends (Pointed-atom q) f)
 
 pub Postfix-fails : {ts : List Token} {d : ℕ} {x : TreeError} → Fails ts Atom d x → Fails ts Postfix d x
 Postfix-fails {ts = ts} {d = d} {x = x} q = record { fails = λ K. EndsBy-at x (run-postfix 200 ts d K) (q.fails (Target d ∷ K)) }

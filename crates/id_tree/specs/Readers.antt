@@ -8,7 +8,8 @@ use Rattle.id_text.specs.declared.token.TokenKind.TheVariants.{Name, Number, Key
 use Rattle.id_text.specs.declared.token.Keyword.{Keyword}
 use Rattle.id_text.specs.declared.token.Keyword.TheVariants.{If, Finally, In, Not, True, False, Array, Div, Rem, And}
 use Rattle.id_text.specs.declared.token.Keyword.TheVariants.{Or}
-use Rattle.id_text.specs.declared.token.Symbol.TheVariants.{LeftParen, LeftBrace, Colon, Becomes, Minus, Plus, Star}
+use Rattle.id_text.specs.declared.token.Symbol.TheVariants.{LeftParen, LeftBrace, LeftBracket, Colon, Becomes}
+use Rattle.id_text.specs.declared.token.Symbol.TheVariants.{Minus, Plus, Star}
 use Rattle.id_text.specs.declared.token.Symbol.TheVariants.{Equal, NotEqual, Less, LessEqual, Greater, GreaterEqual}
 use Rattle.id_tree.specs.declared.parser.Level.{Level}
 use Rattle.id_tree.specs.declared.parser.Level.TheVariants as level
@@ -124,6 +125,10 @@ may_deny _ = ⊥
 abbrev pub open_behind : Level → Level
 open_behind level.Comparison = level.And
 open_behind l = l
+
+-- the kind is a bracket, behind which the arguments of a call or the index of a fetch stand
+abbrev pub IsBracket : TokenKind → Type 0
+IsBracket k = (k ≡ Sign LeftParen) ⊎ (k ≡ Sign LeftBracket)
 
 -- the operator that a kind is, and its level
 abbrev pub operator_in : TokenKind → Option (Level × BinaryOp)

@@ -47,6 +47,7 @@ ghost use Rattle.id_tree.specs.Readers.{
   operator_within,
   operator_in,
   Rises,
+  IsBracket,
 };
 
 use crate::part::{
@@ -276,8 +277,45 @@ fn parse_prefixed(
 }
 
 /// `unary = "-" unary | postfix`
+///
+/// Most operands are a number or a name alone, and are read on the spot.
+#[inline(always)]
 #[cycle(expr)]
 fn parse_unary(alloc: Global, tokens: &[Token], depth: usize) -> Result<(Part, &[Token]), TreeError>
+    requires ends { EndsOnce tokens.now }
+    requires room { depth < MAX_NESTING }
+    ensures read { IfOk result (λ x. IsRead tokens.now x.1.now depth x.0.height) }
+    ensures ok { IfOk result (λ x.
+        Leads tokens.now Unary depth x.1.now (tree_of x.0.expr) x.0.height) }
+    ensures err { IfErr result (Fails tokens.now Unary depth) }
+{
+    let (first, rest) = split(tokens);
+    match &first.kind {
+        TokenKind::Number(value) => {
+            if !begins_with_sign(rest, Symbol::LeftBracket) {
+                return Ok((number(value, first.start as usize), rest));
+            }
+        }
+        TokenKind::Name(x) => {
+            if !begins_with_bracket(rest) {
+                let whole = name(x.copy(alloc)?, first.start as usize);
+                return Ok((whole, rest));
+            }
+        }
+        TokenKind::Key(_) => (),
+        TokenKind::Sign(_) => (),
+        TokenKind::End => (),
+    }
+    parse_signed(alloc, tokens, depth)
+}
+
+/// The same, of an operand of any form.
+#[cycle(expr)]
+fn parse_signed(
+    alloc: Global,
+    tokens: &[Token],
+    depth: usize,
+) -> Result<(Part, &[Token]), TreeError>
     requires ends { EndsOnce tokens.now }
     requires room { depth < MAX_NESTING }
     ensures read { IfOk result (λ x. IsRead tokens.now x.1.now depth x.0.height) }
@@ -762,6 +800,14 @@ fn open_behind(level: Level) -> Level
         Level::Sum => Level::Sum,
         Level::Product => Level::Product,
     }
+}
+
+/// Whether the tokens begin with a bracket, behind which the arguments of a call or the index of a fetch stand.
+fn begins_with_bracket(tokens: &[Token]) -> bool
+    requires { EndsOnce tokens.now }
+    ensures { IsTrue result ↔ IsBracket (first_kind tokens.now) }
+{
+    begins_with_sign(tokens, Symbol::LeftParen) || begins_with_sign(tokens, Symbol::LeftBracket)
 }
 
 /// How tight a level is.

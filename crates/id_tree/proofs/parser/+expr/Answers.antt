@@ -1,5 +1,5 @@
 -- Each reader's run, from its first token to its way out (proofs/ReaderLemmas.antt).
-use Rattle.std.proofs.Common.{◌≡◌, ◌∙◌, ◌<◌, ◌≤◌, ap, sym, refl, arith, rules}
+use Rattle.std.proofs.Common.{◌≡◌, ◌∙◌, ◌<◌, ◌≤◌, inl, inr, ap, sym, refl, arith, rules}
 use Rattle.std.proofs.lemmas.Grind.{common_steps}
 use Rattle.std.proofs.lemmas.Result.{err_from_is_err_and, IfOk-weaker, IfErr-weaker}
 use Rattle.id_text.specs.declared.token.TokenKind.TheVariants.{Name, Key, Sign}
@@ -8,10 +8,10 @@ use Rattle.id_text.specs.declared.token.Keyword.TheVariants.{If, While, Next, No
 use Rattle.id_tree.specs.declared.parser.Level.TheVariants as level
 use Rattle.id_tree.specs.declared.parser.Scope.TheVariants as scope
 use Rattle.id_tree.specs.Grammar.{Expression, Grouped, Negation, Unary, Postfix, Atom, Tail}
-use Rattle.id_tree.specs.Readers.{first_kind, second_kind, truth_in, IsRead, IsGathered, Leads, Fails, Adds, Assigns, Misassigns, Applies, Misapplies, may_deny}
+use Rattle.id_tree.specs.Readers.{first_kind, second_kind, truth_in, IsRead, IsGathered, Leads, Fails, Adds, Assigns, Misassigns, Applies, Misapplies, may_deny, IsBracket}
 use Rattle.id_tree.specs.Tree.{tree_of, stmt_tree, store}
 use Rattle.id_tree.proofs.ReaderLemmas.{IsRead-then, Rises-grows, Rises-stunts, Rises-ends, Rises-operand, Operand-fails, Rises-denied, Denied-fails, operator-at, Right-deep, Right-fails, Right-grows, At-conditional, At-parens, At-part, At-word, At-name, At-enclosed, Leads-done, Leads-at, Fails-deep, Fails-part, Fails-word, Fails-name, Fails-enclosed, IsPrefix-begins, Prefix-deep, Prefix-fails, Prefix-leads, Encloses-done, Exposes-word, Exposes-part, opens_negated, opens_denied, opens_conditional, opens_parens, Expression-leads, Expression-fails, Negation-leads, Negation-fails, At-opens, opens_number, opens_truth, Atom-fails, IsRead-behind, unopened, untrue}
-use Rattle.id_tree.proofs.ArrayLemmas.{opens_array, At-array, Unary-leads, Unary-fails, Pointed-atom, Pointed-fetch, Pointed-fails, Pointed-ends, Postfix-fails, Fetch-deep, Fetch-fails, Fetch-indexes, Behind-bracket, Behind-word, Behind-enclosed, Misassigns-word, Misassigns-enclosed, Assigns-done, Adds-assigned, Fails-assigned}
+use Rattle.id_tree.proofs.ArrayLemmas.{opens_array, At-array, Unary-number, Unary-name, Unary-leads, Unary-fails, Pointed-atom, Pointed-fetch, Pointed-fails, Pointed-ends, Postfix-fails, Fetch-deep, Fetch-fails, Fetch-indexes, Behind-bracket, Behind-word, Behind-enclosed, Misassigns-word, Misassigns-enclosed, Assigns-done, Adds-assigned, Fails-assigned}
 use Rattle.id_tree.proofs.CallLemmas.{IsRead-named, Leads-named, Fails-named, Applies-name, Applies-call, Misapplies-call, Leads-unpassed, Hands-first, Fails-argument, Hands-add, Fails-added, Leads-passed, Fails-passed, IsRead-add, Fails-full}
 use Rattle.id_tree.proofs.BlockLemmas.{opens_braces, At-block, At-loop, Encloses-tail, Exposes-tail, At-binding, At-next, Fails-tail, Adds-done, IsGathered-add, Gathers-none, Gathers-add, Fails-gathered, Leads-gathered, Leads-last, Fails-last}
 use Rattle.id_tree.proofs.parser.+expr.Goals as goal
@@ -471,20 +471,20 @@ parse_negation-parse_prefixed-requires t c =
     let is : first_kind c.args.tokens.now ≡ Key Not = search rules in
     (grind (arith, common_steps), (c.requires.ends, (opens_denied is, c.requires.room)))
 
-pub parse_unary-parse_prefixed-requires : goal.parse_unary-parse_prefixed-requires
-parse_unary-parse_prefixed-requires t c =
+pub parse_signed-parse_prefixed-requires : goal.parse_signed-parse_prefixed-requires
+parse_signed-parse_prefixed-requires t c =
     let is : first_kind c.args.tokens.now ≡ Sign Minus = search rules in
     (grind (arith, common_steps), (c.requires.ends, (opens_negated is, c.requires.room)))
 
-pub parse_unary-returns-else-begins_with_sign-clause-ok : goal.parse_unary-returns-else-begins_with_sign-clause-ok
-parse_unary-returns-else-begins_with_sign-clause-ok t c =
+pub parse_signed-returns-else-begins_with_sign-clause-ok : goal.parse_signed-returns-else-begins_with_sign-clause-ok
+parse_signed-returns-else-begins_with_sign-clause-ok t c =
     let is_not : first_kind c.args.tokens.now ≡ Sign Minus → ⊥ = search rules in
     IfOk-weaker c.parse_postfix.result (λ x. Leads c.args.tokens.now Postfix c.args.depth x.1.now (tree_of x.0.expr) x.0.height)
     (λ x. Leads c.args.tokens.now Unary c.args.depth x.1.now (tree_of x.0.expr) x.0.height)
     (λ x q. Unary-leads is_not q) c.parse_postfix.ensures.ok
 
-pub parse_unary-returns-else-begins_with_sign-clause-err : goal.parse_unary-returns-else-begins_with_sign-clause-err
-parse_unary-returns-else-begins_with_sign-clause-err t c =
+pub parse_signed-returns-else-begins_with_sign-clause-err : goal.parse_signed-returns-else-begins_with_sign-clause-err
+parse_signed-returns-else-begins_with_sign-clause-err t c =
     let is_not : first_kind c.args.tokens.now ≡ Sign Minus → ⊥ = search rules in
     IfErr-weaker c.parse_postfix.result (Fails c.args.tokens.now Postfix c.args.depth) (Fails c.args.tokens.now Unary c.args.depth)
     (λ x q. Unary-fails is_not q) c.parse_postfix.ensures.err
@@ -582,6 +582,24 @@ parse_prefixed-overflow_add-inner-2 t c = grind (arith, common_steps)
 
 pub parse_prefixed-returns-clause-read : goal.parse_prefixed-returns-clause-read
 parse_prefixed-returns-clause-read t c = grind (arith, common_steps)
+
+pub parse_unary-returns-then-not-begins_with_sign-clause-ok : goal.parse_unary-returns-then-not-begins_with_sign-clause-ok
+parse_unary-returns-then-not-begins_with_sign-clause-ok t c =
+    let is = ap first_kind c.split.ensures.whole ∙ c.in-Number.is in
+    let no_bracket : first_kind c.split.result.1.now ≡ Sign LeftBracket → ⊥ = search rules in
+    Unary-number c.in-Number.value is
+    (Leads-at c.number.ensures.tree (omega (arith, c.number.ensures.height))
+    (Leads-done (At-opens c.split.ensures.whole (opens_number c.in-Number.value is) c.args.depth (omega (arith, c.requires.room)))))
+    no_bracket
+
+pub parse_unary-returns-then-not-begins_with_bracket-clause-ok : goal.parse_unary-returns-then-not-begins_with_bracket-clause-ok
+parse_unary-returns-then-not-begins_with_bracket-clause-ok t c =
+    let is = ap first_kind c.split.ensures.whole ∙ c.in-Name.is ∙ ap Name (sym c.in_ok-copy-in-Name.ensures) in
+    let no_bracket : IsBracket (first_kind c.split.result.1.now) → ⊥ = search rules in
+    Unary-name c.in_ok-copy-in-Name.field-0 is
+    (Leads-named c.split.ensures.whole c.args.depth (omega (arith, c.requires.room)) c.in_ok-copy-in-Name.field-0 is
+    (Applies-name c.args.depth (λ q. no_bracket (inl q)) c.name-whole.ensures.tree c.name-whole.ensures.height))
+    (λ q. no_bracket (inr q))
 
 pub parse_leaf-returns-in-Number-clause-ok : goal.parse_leaf-returns-in-Number-clause-ok
 parse_leaf-returns-in-Number-clause-ok t c =

@@ -27,7 +27,10 @@ abbrev pub decreases-parse_conditional : goal.decreases-parse_conditional
 decreases-parse_conditional l = (200 - l.depth) * 32
 
 abbrev pub decreases-parse_unary : goal.decreases-parse_unary
-decreases-parse_unary l = (200 - l.depth) * 32 + 4
+decreases-parse_unary l = (200 - l.depth) * 32 + 5
+
+abbrev pub decreases-parse_signed : goal.decreases-parse_signed
+decreases-parse_signed l = (200 - l.depth) * 32 + 4
 
 abbrev pub decreases-parse_postfix : goal.decreases-parse_postfix
 decreases-parse_postfix l = (200 - l.depth) * 32 + 3
@@ -42,16 +45,16 @@ abbrev pub decreases-parse_array : goal.decreases-parse_array
 decreases-parse_array l = (200 - l.depth) * 32
 
 abbrev pub decreases-parse_operand : goal.decreases-parse_operand
-decreases-parse_operand l = (200 - l.depth) * 32 + 8
+decreases-parse_operand l = (200 - l.depth) * 32 + 9
 
 abbrev pub decreases-parse_first : goal.decreases-parse_first
-decreases-parse_first l = (200 - l.depth) * 32 + 5
+decreases-parse_first l = (200 - l.depth) * 32 + 6
 
 abbrev pub decreases-parse_grouped : goal.decreases-parse_grouped
-decreases-parse_grouped l = (200 - l.depth) * 32 + 6
+decreases-parse_grouped l = (200 - l.depth) * 32 + 7
 
 abbrev pub decreases-parse_negation : goal.decreases-parse_negation
-decreases-parse_negation l = (200 - l.depth) * 32 + 7
+decreases-parse_negation l = (200 - l.depth) * 32 + 8
 
 abbrev pub decreases-parse_expression : goal.decreases-parse_expression
 decreases-parse_expression l = (200 - l.depth) * 32 + 17
