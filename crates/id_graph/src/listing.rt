@@ -120,6 +120,7 @@ fn write_place(
 }
 
 /// Appends a number after a text.
+#[inline(always)]
 fn write_after(out: &mut String, before: &str, number: u32) -> Result<(), AllocError>
     ensures { OnOk result
         (string_bytes out.new ≡ string_bytes out.old ++ before.now ++ decimal number) }
@@ -129,6 +130,7 @@ fn write_after(out: &mut String, before: &str, number: u32) -> Result<(), AllocE
 }
 
 /// Appends a number.
+#[inline(always)]
 fn write_number(out: &mut String, number: u64) -> Result<(), AllocError>
     ensures { OnOk result (string_bytes out.new ≡ string_bytes out.old ++ decimal number) }
 {
@@ -159,6 +161,7 @@ pub fn write_op(out: &mut String, op: Op) -> Result<(), AllocError>
 }
 
 /// Appends a kind after the name of its operator.
+#[inline(always)]
 fn write_kind(out: &mut String, name: &str, kind: PortKind) -> Result<(), AllocError>
     ensures { OnOk result
         (string_bytes out.new ≡ string_bytes out.old ++ name.now ++ kind_name kind) }
