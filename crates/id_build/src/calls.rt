@@ -50,7 +50,7 @@ fn head_of(node: Node) -> usize
     ensures { result ≡ head_of node }
 {
     match node {
-        Node::Def { head, .. } => head,
+        Node::Def { head, .. } => head as usize,
         _ => 0,
     }
 }

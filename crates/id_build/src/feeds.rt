@@ -53,9 +53,8 @@ pub fn push_feeds(
         Node::Unary { operand, .. } | Node::Binding { value: operand, .. } => {
             push_value(checked, slots, n, operand, arcs)
         }
-        Node::Next { value, .. } | Node::Reset { value } => {
-            push_value(checked, slots, n, value, arcs)
-        }
+        Node::Next { value, .. } => push_value(checked, slots, n, value as usize, arcs),
+        Node::Reset { value } => push_value(checked, slots, n, value, arcs),
         Node::Binary { left, right, .. }
         | Node::Array {
             low: left,
@@ -65,20 +64,15 @@ pub fn push_feeds(
             target: left,
             index: right,
         } => push_operands(checked, slots, n, left, right, arcs),
-        Node::Arg {
-            enter: first,
-            value,
-            ..
+        Node::Arg { enter, value, .. } => {
+            push_behind(checked, slots, n, enter as usize, value as usize, arcs)
         }
-        | Node::Store {
-            address: first,
-            value,
-        } => push_behind(checked, slots, n, first, value, arcs),
+        Node::Store { address, value } => push_behind(checked, slots, n, address, value, arcs),
         Node::If {
             then,
             otherwise,
             ..
-        } => push_arms(checked, slots, n, then, otherwise, arcs),
+        } => push_arms(checked, slots, n, then as usize, otherwise as usize, arcs),
         Node::Split { test } | Node::Switches { test } => {
             push_split(checked, slots, n, row.region, test, arcs)
         }
@@ -401,7 +395,7 @@ fn body_of(node: Node) -> usize
     ensures { result ≡ body_of node }
 {
     match node {
-        Node::Def { body, .. } => body,
+        Node::Def { body, .. } => body as usize,
         _ => 0,
     }
 }

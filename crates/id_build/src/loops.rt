@@ -58,7 +58,7 @@ fn switches_at(node: Node) -> usize
     ensures { result ≡ switches_at node }
 {
     match node {
-        Node::Loop { switches, .. } => switches,
+        Node::Loop { switches, .. } => switches as usize,
         _ => 0,
     }
 }
@@ -75,7 +75,7 @@ fn outer_at(node: Node) -> usize
     ensures { result ≡ outer_at node }
 {
     match node {
-        Node::Next { outer, .. } => outer,
+        Node::Next { outer, .. } => outer as usize,
         _ => 0,
     }
 }

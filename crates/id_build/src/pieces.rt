@@ -77,7 +77,7 @@ fn push_row(
             push_enter(called(checked, n), call, place, pieces)
         }
         Node::Arg { enter, index, .. } => {
-            let param = param_of(checked, enter, index);
+            let param = param_of(checked, enter as usize, index as usize);
             push_send(checked, param, param, 0, place, pieces)
         }
         Node::Name { .. } | Node::Block { .. } | Node::Def { .. } => Ok(()),

@@ -45,10 +45,8 @@ pub fn bound_name(node: Node) -> Option<usize>
     ensures { result ≡ scopes.bound_name node }
 {
     match node {
-        Node::Param { name, .. } | Node::Binding { name, .. } | Node::Def { name, .. } => {
-            Some(name)
-        }
-        Node::Next { name, .. } => Some(name as usize),
+        Node::Param { name, .. } | Node::Binding { name, .. } => Some(name),
+        Node::Next { name, .. } | Node::Def { name, .. } => Some(name as usize),
         _ => None,
     }
 }
@@ -72,8 +70,9 @@ pub fn user_of(i: usize, node: Node) -> usize
     ensures { result ≡ scopes.user_of i node }
 {
     match node {
-        Node::Arg { enter, .. } | Node::Call { enter, .. } => enter,
-        Node::Next { outer, .. } => outer,
+        Node::Arg { enter, .. } => enter as usize,
+        Node::Call { enter, .. } => enter,
+        Node::Next { outer, .. } => outer as usize,
         _ => i,
     }
 }

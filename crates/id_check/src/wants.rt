@@ -78,7 +78,7 @@ fn note_row(
             index,
             value,
         } => {
-            let callee = callee(rows, binder_at(binders, enter));
+            let callee = callee(rows, entered_at(binders, enter));
             note_argument(
                 first,
                 rows,
@@ -113,7 +113,7 @@ fn note_row(
             result: wanted,
             body,
         } => {
-            note_wrong(first, rows, kinds, wanted, body);
+            note_result(first, rows, kinds, wanted, body);
             note_params(first, rows, head, name, row.place as usize);
         }
         _ => {}
@@ -127,6 +127,29 @@ fn note_unknown(first: &mut Option<CheckCause>, binder: Option<u32>, place: usiz
     if binder.is_none() {
         note(first, CheckCause::Unknown { at: place });
     }
+}
+
+/// The binder of the row, an `Enter`. Takes no memory.
+fn entered_at(binders: &[Option<u32>], enter: u32) -> Option<usize>
+    requires { enter < length binders.now }
+    ensures { result ≡ get_or binders.now enter None }
+{
+    binder_at(binders, enter as usize)
+}
+
+/// Notes the body of a definition, if it is of another kind than its result. Takes no memory.
+fn note_result(
+    first: &mut Option<CheckCause>,
+    rows: &[Row],
+    kinds: &[Option<Kind>],
+    wanted: Kind,
+    body: u32,
+)
+    requires kinds { length kinds.now ≡ length rows.now }
+    requires row { body < length rows.now }
+    ensures { Notes first.old (wrong rows.now (λ i. get_or kinds.now i None) wanted body) first.new }
+{
+    note_wrong(first, rows, kinds, wanted, body as usize);
 }
 
 /// The head of the procedure that is defined at the row. Takes no memory.
@@ -145,17 +168,17 @@ fn head_in(node: Node) -> Option<usize>
     ensures { result ≡ causes.head_in node }
 {
     match node {
-        Node::Def { head, .. } => Some(head),
+        Node::Def { head, .. } => Some(head as usize),
         _ => None,
     }
 }
 
 /// The number of arguments of the call with this `Enter`.
-fn count_at(counts: &[Option<u32>], enter: usize) -> Option<usize>
+fn count_at(counts: &[Option<u32>], enter: u32) -> Option<usize>
     requires { enter < length counts.now }
     ensures { result ≡ get_or counts.now enter None }
 {
-    match counts[enter] {
+    match counts[enter as usize] {
         Some(count) => Some(count as usize),
         None => None,
     }
@@ -201,8 +224,8 @@ fn note_argument(
     kinds: &[Option<Kind>],
     callee: Option<usize>,
     count: Option<usize>,
-    index: usize,
-    value: usize,
+    index: u32,
+    value: u32,
 )
     requires table { IsTable rows.now }
     requires kinds { length kinds.now ≡ length rows.now }
@@ -214,7 +237,8 @@ fn note_argument(
 {
     if let Some(head) = callee {
         if is_count(rows, head, count) {
-            note_like(first, rows, kinds, param_kind(kinds, head, index), value);
+            let wanted = param_kind(kinds, head, index as usize);
+            note_like(first, rows, kinds, wanted, value as usize);
         }
     }
 }
@@ -330,8 +354,8 @@ fn note_arm(
     first: &mut Option<CheckCause>,
     rows: &[Row],
     kinds: &[Option<Kind>],
-    then: usize,
-    otherwise: usize,
+    then: u32,
+    otherwise: u32,
 )
     requires kinds { length kinds.now ≡ length rows.now }
     requires then { then < length rows.now }
@@ -339,7 +363,7 @@ fn note_arm(
     ensures { Notes first.old
         (wrong_like rows.now (λ i. get_or kinds.now i None) (get_or kinds.now then None) otherwise) first.new }
 {
-    note_like(first, rows, kinds, kinds[then], otherwise);
+    note_like(first, rows, kinds, kinds[then as usize], otherwise as usize);
 }
 
 /// Notes the expression of a `next`, if it is of another kind than the use of the name outside. Takes no memory.
@@ -347,8 +371,8 @@ fn note_next(
     first: &mut Option<CheckCause>,
     rows: &[Row],
     kinds: &[Option<Kind>],
-    outer: usize,
-    value: usize,
+    outer: u32,
+    value: u32,
 )
     requires kinds { length kinds.now ≡ length rows.now }
     requires outer { outer < length rows.now }
@@ -356,7 +380,7 @@ fn note_next(
     ensures { Notes first.old
         (wrong_like rows.now (λ i. get_or kinds.now i None) (get_or kinds.now outer None) value) first.new }
 {
-    note_like(first, rows, kinds, kinds[outer], value);
+    note_like(first, rows, kinds, kinds[outer as usize], value as usize);
 }
 
 /// Notes the target and the index of a fetch or a store that are wrong. Takes no memory.
@@ -428,11 +452,12 @@ fn is_same(found: Kind, wanted: Kind) -> bool
 
 /// Notes what is wrong with the parameters of a definition at this place: `main`, the name of number 0, takes no array,
 /// and there are at most 16. Takes no memory.
-fn note_params(first: &mut Option<CheckCause>, rows: &[Row], head: usize, name: usize, place: usize)
+fn note_params(first: &mut Option<CheckCause>, rows: &[Row], head: u32, name: u32, place: usize)
     requires table { IsTable rows.now }
     requires definition { (n : ℕ) × IsDefOf rows.now n head }
     ensures { Notes first.old (wrong_params rows.now name place (params_at rows.now head)) first.new }
 {
+    let head = head as usize;
     if name == 0 {
         note_array(first, first_array(rows, head));
     }

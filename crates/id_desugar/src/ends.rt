@@ -56,8 +56,8 @@ pub fn begun_at(node: Node) -> Option<usize>
     ensures { result ≡ begun_at node }
 {
     match node {
-        Node::Def { head, .. } | Node::Loop { head, .. } => Some(head),
-        Node::If { split, .. } => Some(split),
+        Node::Def { head, .. } | Node::Loop { head, .. } => Some(head as usize),
+        Node::If { split, .. } => Some(split as usize),
         Node::Call { enter, .. } => Some(enter),
         _ => None,
     }

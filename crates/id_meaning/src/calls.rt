@@ -44,8 +44,8 @@ fn entered_by(enter: usize, spot: Option<usize>, callee: Node) -> Option<OnCall>
         (Some(spot), Node::Def { head, body, .. }) => Some(OnCall {
             enter,
             path: Trail::Below { spot, number: 0 },
-            head,
-            body,
+            head: head as usize,
+            body: body as usize,
         }),
         _ => None,
     }
@@ -66,7 +66,7 @@ pub fn body_called(checked: &Checked, enter: usize) -> Option<usize>
     ensures { result ≡ body_in (callee_of checked.now enter) }
 {
     match callee(checked, enter) {
-        Node::Def { body, .. } => Some(body),
+        Node::Def { body, .. } => Some(body as usize),
         _ => None,
     }
 }
@@ -154,10 +154,11 @@ fn add_passed(
             enter,
             index,
             value,
-        } if enter == call.enter => {
+        } if enter as usize == call.enter => {
+            let value = value as usize;
             found.push(RowFact::On { path, row: value })?;
             let values = cells.values(alloc, followed, path, value)?;
-            let param = param_row(checked.table.rows.len(), call.head, index);
+            let param = param_row(checked.table.rows.len(), call.head, index as usize);
             add_param(found, call.path, param, values.as_slice())
         }
         _ => Ok(()),
@@ -211,16 +212,16 @@ pub fn add_pass(
             enter,
             index,
             value: read,
-        } if read == row => {
+        } if read as usize == row => {
             add_all_passes(
                 found,
                 checked,
                 cells,
                 path,
                 value,
-                enter,
-                index,
-                links.reads.of(enter),
+                enter as usize,
+                index as usize,
+                links.reads.of(enter as usize),
             )
         }
         _ => Ok(()),

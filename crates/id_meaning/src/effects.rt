@@ -334,7 +334,7 @@ fn is_end(checked: &Checked, node: Node, number: u64, row: usize) -> bool
 {
     match node {
         Node::Call { enter, .. } => number == 0 && is_row(body_called(checked, enter), row),
-        Node::Loop { last, .. } => last == row,
+        Node::Loop { last, .. } => last as usize == row,
         _ => false,
     }
 }
@@ -452,8 +452,8 @@ fn add_from_on(
                 followed,
                 path,
                 row,
-                then,
-                otherwise,
+                then as usize,
+                otherwise as usize,
                 tests.as_slice(),
             )
         }

@@ -64,7 +64,7 @@ fn add_next(turns: &mut Edges, rows: &[Row], row: &Row) -> Result<(), AllocError
     ensures { OnOk result (GainsFrom turns.old turns.new (switches_of rows.now row.now) (nexts_turned row.now.node)) }
 {
     match row.node {
-        Node::Next { value, .. } => add_from(turns, switches_of(rows, row), value),
+        Node::Next { value, .. } => add_from(turns, switches_of(rows, row), value as usize),
         _ => Ok(()),
     }
 }
@@ -119,7 +119,7 @@ fn add_parts(turns: &mut Edges, rows: &[Row], n: usize, node: Node) -> Result<()
             turns.add(n, left)?;
             turns.add(n, right)
         }
-        Node::If { split, .. } => add_some(turns, n, test_at(rows, split)),
+        Node::If { split, .. } => add_some(turns, n, test_at(rows, split as usize)),
         Node::Block { body } => turns.add(n, body),
         Node::Array { low, high } => {
             turns.add(n, low)?;
@@ -253,12 +253,12 @@ fn add_reads(
             ..
         } => {
             add_read(reads, n, beyond)?;
-            add_both(reads, n, then, otherwise)
+            add_both(reads, n, then as usize, otherwise as usize)
         }
-        Node::Arg { value, .. } => add_read(reads, n, Some(value)),
+        Node::Arg { value, .. } => add_read(reads, n, Some(value as usize)),
         Node::Call { enter, .. } => add_read(reads, n, Some(enter)),
         Node::Switches { test } => add_read(reads, n, Some(test)),
-        Node::Next { value, .. } => add_read(reads, n, Some(value)),
+        Node::Next { value, .. } => add_read(reads, n, Some(value as usize)),
         Node::Block { body } => add_read(reads, n, Some(body)),
         Node::Binding { value, .. } => add_read(reads, n, Some(value)),
         Node::Array { low, high } => add_both(reads, n, low, high),
@@ -307,7 +307,7 @@ fn asker_of(block: usize, node: Node) -> Option<usize>
     ensures { result ≡ asker_of block node }
 {
     match node {
-        Node::Arg { enter, .. } => Some(enter),
+        Node::Arg { enter, .. } => Some(enter as usize),
         Node::Next { .. } => Some(block),
         _ => None,
     }
@@ -319,7 +319,7 @@ pub fn awaited(checked: &Checked, user: usize) -> Option<usize>
 {
     match node_of(checked, user) {
         Node::Name { .. } => binder_of(checked, user),
-        Node::Next { outer, .. } => binder_of(checked, outer),
+        Node::Next { outer, .. } => binder_of(checked, outer as usize),
         _ => None,
     }
 }
@@ -350,7 +350,7 @@ pub fn beyond(checked: &Checked, n: usize, node: Node) -> Option<usize>
 {
     match node {
         Node::Name { .. } => binder_of(checked, n),
-        Node::If { split, .. } => test_at(checked.table.rows.as_slice(), split),
+        Node::If { split, .. } => test_at(checked.table.rows.as_slice(), split as usize),
         _ => None,
     }
 }

@@ -54,7 +54,7 @@ pub fn add_start(
     match (cells.find(path, row), node_of(checked, row)) {
         (Some(spot), Node::Loop { head, switches, .. }) => {
             let first = Trail::Below { spot, number: 0 };
-            add_on(found, first, test_of(node_of(checked, switches)))?;
+            add_on(found, first, test_of(node_of(checked, switches as usize)))?;
             add_firsts(
                 alloc,
                 found,
@@ -64,8 +64,8 @@ pub fn add_start(
                 path,
                 row,
                 first,
-                head,
-                links.args.of(head),
+                head as usize,
+                links.args.of(head as usize),
             )
         }
         _ => Ok(()),
@@ -114,7 +114,7 @@ fn add_first(
 {
     match node_of(checked, next) {
         Node::Next { outer, .. } if block_of(checked, next) == head => {
-            let binder = binder_of(checked, outer);
+            let binder = binder_of(checked, outer as usize);
             let outside = cells.out_of(path, distance(checked, row, binder));
             let values = seen(alloc, cells, followed, outside, binder)?;
             add_values(found, first, next, values.as_slice())
@@ -170,7 +170,7 @@ fn add_woken_by(
             add_has(found, wait.path, wait.row, value)
         }
         (Some(spot), Node::Loop { head, .. }, Node::Next { .. })
-            if block_of(checked, wait.user) == head => {
+            if block_of(checked, wait.user) == head as usize => {
             let first = Trail::Below { spot, number: 0 };
             add_has(found, first, wait.user, value)
         }
@@ -221,9 +221,9 @@ fn iteration_by(node: Node) -> Option<Iteration>
             switches,
             last,
         } => Some(Iteration {
-            head,
-            switches,
-            last,
+            head: head as usize,
+            switches: switches as usize,
+            last: last as usize,
         }),
         _ => None,
     }
@@ -249,7 +249,7 @@ pub fn add_loop(
             let iteration = iteration_of(checked, cells, path);
             add_switches(found, links, path, iteration, reader, test, value)
         }
-        Node::Next { value: read, .. } if read == row => {
+        Node::Next { value: read, .. } if read as usize == row => {
             let iteration = iteration_of(checked, cells, path);
             add_next(found, checked, path, iteration, reader, value)
         }

@@ -52,7 +52,7 @@ fn head_of(node: Node) -> usize
     ensures { result ≡ head_of node }
 {
     match node {
-        Node::Def { head, .. } => head,
+        Node::Def { head, .. } => head as usize,
         _ => 0,
     }
 }
@@ -61,7 +61,7 @@ fn body_of(node: Node) -> usize
     ensures { result ≡ body_of node }
 {
     match node {
-        Node::Def { body, .. } => body,
+        Node::Def { body, .. } => body as usize,
         _ => 0,
     }
 }

@@ -45,7 +45,14 @@ fn wait(
         RowFact::On { path, row } => match node_of(checked, row) {
             Node::Name { .. } => wait_for(waits, checked, cells, path, row, row),
             Node::Loop { head, .. } => {
-                wait_each(waits, checked, cells, path, row, links.args.of(head))
+                wait_each(
+                    waits,
+                    checked,
+                    cells,
+                    path,
+                    row,
+                    links.args.of(head as usize),
+                )
             }
             _ => Ok(()),
         },

@@ -7,13 +7,14 @@ ghost use Rattle.id_tree.specs.Tree.{tree_of, params_tree, def_tree, defs_tree, 
 ghost use Rattle.id_parts.specs.Names.{number_of, with_name};
 ghost use Rattle.id_parts.specs.Rows.{arm, in_top, value_of, with_row, add, add_arguments, add_nexts};
 ghost use Rattle.id_parts.specs.Rows.{add_variables, begin_loop, parts_of, rows_of, size};
-ghost use Rattle.id_parts.specs.declared.row.Node.TheVariants.{Variable};
+ghost use Rattle.id_parts.specs.declared.row.Node.TheVariants as variant;
+ghost use Rattle.id_parts.specs.declared.row.Node.TheVariants.{Variable, If, Arg, Loop, Next};
 ghost use Rattle.id_parts.specs.Making.{add_argument, add_next, parts, texts, exprs_tree, stmts_tree, IsStart};
 
 use crate::row::{Node, Region, Row, Stand, Table};
 use id_text::Identifier;
 use id_tree::{Def, Expr, Param, Program, Stmt};
-use id_value::{BinaryOp, UnaryOp};
+use id_value::{BinaryOp, Kind, UnaryOp};
 use indexmap::IndexSet;
 use std::alloc::{AllocError, Global};
 
@@ -97,6 +98,63 @@ fn short(number: usize) -> Result<u32, AllocError>
     }
 }
 
+/// The node of a definition. Takes no memory.
+fn definition(name: usize, head: usize, kind: Kind, body: usize) -> Result<Node, AllocError>
+    ensures { IfOk result (λ n. n ≡ variant.Def name head kind body) }
+{
+    Ok(Node::Def {
+        name: short(name)?,
+        head: short(head)?,
+        result: kind,
+        body: short(body)?,
+    })
+}
+
+/// The node of a conditional. Takes no memory.
+fn choice(split: usize, then: usize, otherwise: usize) -> Result<Node, AllocError>
+    ensures { IfOk result (λ n. n ≡ If split then otherwise) }
+{
+    Ok(Node::If {
+        split: short(split)?,
+        then: short(then)?,
+        otherwise: short(otherwise)?,
+    })
+}
+
+/// The node of an argument. Takes no memory.
+fn passed(enter: usize, index: usize, value: usize) -> Result<Node, AllocError>
+    ensures { IfOk result (λ n. n ≡ Arg enter index value) }
+{
+    Ok(Node::Arg {
+        enter: short(enter)?,
+        index: short(index)?,
+        value: short(value)?,
+    })
+}
+
+/// The node of a loop. Takes no memory.
+fn round(head: usize, switches: usize, last: usize) -> Result<Node, AllocError>
+    ensures { IfOk result (λ n. n ≡ Loop head switches last) }
+{
+    Ok(Node::Loop {
+        head: short(head)?,
+        switches: short(switches)?,
+        last: short(last)?,
+    })
+}
+
+/// The node of a `next` statement. Takes no memory.
+fn handed(name: usize, index: usize, outer: usize, value: usize) -> Result<Node, AllocError>
+    ensures { IfOk result (λ n. n ≡ Next name index outer value) }
+{
+    Ok(Node::Next {
+        name: short(name)?,
+        index: short(index)?,
+        outer: short(outer)?,
+        value: short(value)?,
+    })
+}
+
 /// Where the body of the procedure with this head stands.
 fn stand_in(head: usize) -> Result<Stand, AllocError>
     ensures { IfOk result (λ s. s ≡ in_top head) }
@@ -156,6 +214,7 @@ impl<'a> Maker<'a> {
     }
 
     /// Adds a row, and gives its number.
+    #[inline(always)]
     fn push(
         &mut self,
         stand: Stand,
@@ -209,17 +268,8 @@ impl<'a> Maker<'a> {
         self.add_params(stand, def.params.as_slice())?;
         let body = self.add_expr(stand, &def.body)?;
         let name = self.number(&def.name)?;
-        self.push(
-            stand,
-            def.place,
-            head,
-            Node::Def {
-                name,
-                head,
-                result: def.result,
-                body,
-            },
-        )?;
+        let node = definition(name, head, def.result, body)?;
+        self.push(stand, def.place, head, node)?;
         Ok(())
     }
 
@@ -401,16 +451,8 @@ impl<'a> Maker<'a> {
         let then = self.add_expr(where_true, then)?;
         let where_false = in_arm(stand, split, false)?;
         let otherwise = self.add_expr(where_false, otherwise)?;
-        self.push(
-            stand,
-            place,
-            first,
-            Node::If {
-                split,
-                then,
-                otherwise,
-            },
-        )
+        let node = choice(split, then, otherwise)?;
+        self.push(stand, place, first, node)
     }
 
     #[cycle(add)]
@@ -467,16 +509,8 @@ impl<'a> Maker<'a> {
             ≡ add_argument stand place enter index (parts self.old) (tree_of argument.now)) }
     {
         let value = self.add_expr(stand, argument)?;
-        self.push(
-            stand,
-            place,
-            enter,
-            Node::Arg {
-                enter,
-                index,
-                value,
-            },
-        )?;
+        let node = passed(enter, index, value)?;
+        self.push(stand, place, enter, node)?;
         Ok(())
     }
 
@@ -548,16 +582,8 @@ impl<'a> Maker<'a> {
         let closed = self.rows.len();
         let last = self.add_expr(behind, last)?;
         self.push(behind, place, closed, Node::Reset { value: last })?;
-        self.push(
-            stand,
-            place,
-            start,
-            Node::Loop {
-                head,
-                switches,
-                last,
-            },
-        )
+        let node = round(head, switches, last)?;
+        self.push(stand, place, start, node)
     }
 
     /// Adds the rows of a loop before its predicate, and gives the number of its head.
@@ -648,19 +674,8 @@ impl<'a> Maker<'a> {
         let number = self.number(name)?;
         self.push(stand, place, outer, Node::NextUse { name: number })?;
         let value = self.add_expr(stand, expr)?;
-        let name = short(number)?;
-        let index = short(index)?;
-        self.push(
-            stand,
-            place,
-            outer,
-            Node::Next {
-                name,
-                index,
-                outer,
-                value,
-            },
-        )?;
+        let node = handed(number, index, outer, value)?;
+        self.push(stand, place, outer, node)?;
         Ok(())
     }
 

@@ -37,7 +37,8 @@ pub struct Row {
     pub node: Node,
 }
 
-/// What a part is. It names its own parts by the numbers of their rows, and names by their numbers.
+/// What a part is. It names its own parts by the numbers of their rows, and names by their numbers. Where there are
+/// three numbers they have 32 bits, so that a node takes 24 bytes, and a row 48.
 #[derive(Clone, Copy)]
 pub enum Node {
     /// The beginning of a definition: its trigger and its way back.
@@ -68,9 +69,9 @@ pub enum Node {
     /// A conditional behind its arms: the row of its switches, and what gives its value where the predicate is true,
     /// and where it is not.
     If {
-        split: usize,
-        then: usize,
-        otherwise: usize,
+        split: u32,
+        then: u32,
+        otherwise: u32,
     },
     /// The beginning of a call, at its place: the context that it makes for the procedure of this name.
     Enter {
@@ -79,9 +80,9 @@ pub enum Node {
     /// What an argument sends to the parameter of its index, from 0, at the call's place, right behind the argument:
     /// the row of the call's `Enter`, and what gives the value.
     Arg {
-        enter: usize,
-        index: usize,
-        value: usize,
+        enter: u32,
+        index: u32,
+        value: u32,
     },
     /// A call behind its arguments: the row of its `Enter`, and how many arguments it has.
     Call {
@@ -114,8 +115,8 @@ pub enum Node {
     Next {
         name: u32,
         index: u32,
-        outer: usize,
-        value: usize,
+        outer: u32,
+        value: u32,
     },
     /// The end of a loop's body, in which its bindings are seen; it makes nothing.
     Body,
@@ -126,9 +127,9 @@ pub enum Node {
     /// A loop behind its last expression, outside of it: the rows of its `LoopHead` and its `Switches`, and what
     /// gives the value where the predicate is not true.
     Loop {
-        head: usize,
-        switches: usize,
-        last: usize,
+        head: u32,
+        switches: u32,
+        last: u32,
     },
     /// What makes a structure: the rows of its bounds.
     Array {
@@ -158,10 +159,10 @@ pub enum Node {
         value: usize,
     },
     Def {
-        name: usize,
-        head: usize,
+        name: u32,
+        head: u32,
         result: Kind,
-        body: usize,
+        body: u32,
     },
     /// The end of the table: the answer.
     Program,

@@ -8,16 +8,7 @@ part : (n m : Node) (a : ℕ) → ((b : ℕ) → HasPart n b → b < 2 ^ 32) →
 part n m a h e p = h a (subst (λ z. HasPart z a) (sym e) p)
 
 pub overflow_cast-result : goal.overflow_cast-result
-overflow_cast-result c = let p = part c.args.node _ c.in-If.then c.requires.parts c.in-If.is (inr (inl refl)) in omega (arith, p)
-
-pub overflow_cast-result-in-Block : goal.overflow_cast-result-in-Block
-overflow_cast-result-in-Block c = let p = part c.args.node _ c.in-Block.body c.requires.parts c.in-Block.is refl in omega (arith, p)
+overflow_cast-result c = let p = part c.args.node _ c.in-Block.body c.requires.parts c.in-Block.is refl in omega (arith, p)
 
 pub overflow_cast-result-in-Binding : goal.overflow_cast-result-in-Binding
 overflow_cast-result-in-Binding c = let p = part c.args.node _ c.in-Binding.value c.requires.parts c.in-Binding.is refl in omega (arith, p)
-
-pub overflow_cast-result-in-Next : goal.overflow_cast-result-in-Next
-overflow_cast-result-in-Next c = let p = part c.args.node _ c.in-Next.outer c.requires.parts c.in-Next.is (inl refl) in omega (arith, p)
-
-pub overflow_cast-result-in-Loop : goal.overflow_cast-result-in-Loop
-overflow_cast-result-in-Loop c = let p = part c.args.node _ c.in-Loop.last c.requires.parts c.in-Loop.is (inr (inr refl)) in omega (arith, p)

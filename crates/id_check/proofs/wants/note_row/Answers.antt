@@ -62,8 +62,8 @@ note_arm-requires-clause-then c = part_of c.in-If.then c.requires.formed c.requi
 pub note_arm-requires-clause-otherwise : goal.note_arm-requires-clause-otherwise
 note_arm-requires-clause-otherwise c = part_of c.in-If.otherwise c.requires.formed c.requires.row c.in-If.is (inr (inr refl))
 
-pub note_wrong-requires-in-Def-clause-row : goal.note_wrong-requires-in-Def-clause-row
-note_wrong-requires-in-Def-clause-row c = part_of c.in-Def.body c.requires.formed c.requires.row c.in-Def.is (inr refl)
+pub note_result-requires-clause-row : goal.note_result-requires-clause-row
+note_result-requires-clause-row c = part_of c.in-Def.body c.requires.formed c.requires.row c.in-Def.is (inr refl)
 
 pub note_params-requires-clause-definition : goal.note_params-requires-clause-definition
 note_params-requires-clause-definition c =
@@ -104,16 +104,16 @@ returns-in-Def c =
     let R = c.args.rows.now in
     let κ : ℕ → Option Kind = λ k. get_or c.args.kinds.now k None in
     subst (Noted R c.args.kinds.now c.args.binders.now c.args.i c.args.first.now c.note_params.new.first) (sym c.in-Def.is)
-    (Notes-append c.args.first.now c.note_wrong-in-Def.new.first c.note_params.new.first (wrong R κ c.in-Def.wanted c.in-Def.body)
-    (wrong_params R c.in-Def.name (at R c.args.i).place (params_at R c.in-Def.head)) c.note_wrong-in-Def.ensures c.note_params.ensures)
+    (Notes-append c.args.first.now c.note_result.new.first c.note_params.new.first (wrong R κ c.in-Def.wanted c.in-Def.body)
+    (wrong_params R c.in-Def.name (at R c.args.i).place (params_at R c.in-Def.head)) c.note_result.ensures c.note_params.ensures)
 
-pub binder_at-requires : goal.binder_at-requires
-binder_at-requires c =
+pub entered_at-requires : goal.entered_at-requires
+entered_at-requires c =
     let e = c.in-Arg.enter in
     subst (λ n. e < n) (sym c.requires.binders) (part_of e c.requires.formed c.requires.row c.in-Arg.is (inl refl))
 
-pub binder_at-requires-in-Call : goal.binder_at-requires-in-Call
-binder_at-requires-in-Call c =
+pub binder_at-requires : goal.binder_at-requires
+binder_at-requires c =
     let e = c.in-Call.enter in
     subst (λ n. e < n) (sym c.requires.binders) (part_of e c.requires.formed c.requires.row c.in-Call.is refl)
 
@@ -130,21 +130,21 @@ note_argument-requires-clause-callee c = λ h q.
     let e = c.in-Arg.enter in
     let less = part_of e c.requires.formed c.requires.row c.in-Arg.is (inl refl) in
     callee_def c.args.rows.now (get_or c.args.binders.now e None) (λ b w. c.requires.within e b less w) h
-    (ap (callee c.args.rows.now) (sym c.binder_at.ensures) ∙ sym c.callee-callee.ensures ∙ q)
+    (ap (callee c.args.rows.now) (sym c.entered_at.ensures) ∙ sym c.callee-callee.ensures ∙ q)
 
 pub note_argument-requires-clause-head : goal.note_argument-requires-clause-head
 note_argument-requires-clause-head c = λ h q.
     let e = c.in-Arg.enter in
     let less = part_of e c.requires.formed c.requires.row c.in-Arg.is (inl refl) in
     head_below c.args.rows.now c.requires.formed (get_or c.args.binders.now e None) (λ b w. c.requires.within e b less w) h
-    (ap (callee c.args.rows.now) (sym c.binder_at.ensures) ∙ sym c.callee-callee.ensures ∙ q)
+    (ap (callee c.args.rows.now) (sym c.entered_at.ensures) ∙ sym c.callee-callee.ensures ∙ q)
 
 pub note_count_of-requires-clause-callee : goal.note_count_of-requires-clause-callee
 note_count_of-requires-clause-callee c = λ h q.
     let e = c.in-Call.enter in
     let less = part_of e c.requires.formed c.requires.row c.in-Call.is refl in
     callee_def c.args.rows.now (get_or c.args.binders.now e None) (λ b w. c.requires.within e b less w) h
-    (ap (callee c.args.rows.now) (sym c.binder_at-in-Call.ensures) ∙ sym c.callee-callee-in-Call.ensures ∙ q)
+    (ap (callee c.args.rows.now) (sym c.binder_at.ensures) ∙ sym c.callee-callee-in-Call.ensures ∙ q)
 
 pub returns-in-Enter : goal.returns-in-Enter
 returns-in-Enter c =
@@ -159,7 +159,7 @@ returns-in-Arg c =
     let k = c.in-Arg.index in
     let v = c.in-Arg.value in
     let less = part_of e c.requires.formed c.requires.row c.in-Arg.is (inl refl) in
-    let head = c.callee-callee.ensures ∙ ap (callee R) c.binder_at.ensures in
+    let head = c.callee-callee.ensures ∙ ap (callee R) c.entered_at.ensures in
     let count = c.count_at.ensures ∙ c.requires.counts.each e less in
     subst (Noted R c.args.kinds.now c.args.binders.now c.args.i c.args.first.now c.note_argument.new.first) (sym c.in-Arg.is)
     (subst (λ o. Notes c.args.first.now (wrong_argument R κ o (count_at R (length R) e) k v) c.note_argument.new.first) head
@@ -168,7 +168,7 @@ returns-in-Arg c =
 pub returns-in-Call : goal.returns-in-Call
 returns-in-Call c =
     let R = c.args.rows.now in
-    let head = c.callee-callee-in-Call.ensures ∙ ap (callee R) c.binder_at-in-Call.ensures in
+    let head = c.callee-callee-in-Call.ensures ∙ ap (callee R) c.binder_at.ensures in
     subst (Noted R c.args.kinds.now c.args.binders.now c.args.i c.args.first.now c.note_count_of.new.first) (sym c.in-Call.is)
     (subst (λ o. Notes c.args.first.now (wrong_count R o c.in-Call.count (at R c.args.i).place) c.note_count_of.new.first) head c.note_count_of.ensures)
 

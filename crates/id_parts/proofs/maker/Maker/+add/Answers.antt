@@ -107,7 +107,8 @@ add_loop-returns-clause-added t c =
     c.len-entered.result c.in_ok-test.test c.in_ok-switches.switches c.len-closed.result c.in_ok-last.last
     (omega arith) c.in_ok-head.ensures.added (omega (arith, c.in_ok-head.ensures.number)) c.in_ok-inside.ensures (omega arith)
     c.in_ok-test.ensures.added c.in_ok-test.ensures.number c.in_ok-switches.ensures.added c.in_ok-switches.ensures.number c.in_ok-body.ensures
-    body c.in_ok-behind.ensures (omega arith) c.in_ok-last.ensures.added c.in_ok-last.ensures.number c.in_ok-push-3.ensures.added w)
+    body c.in_ok-behind.ensures (omega arith) c.in_ok-last.ensures.added c.in_ok-last.ensures.number c.in_ok-push-3.ensures.added
+    (subst (λ n. parts c.push-5.new.self ≡ with_row Z c.args.stand c.args.place c.len-start.result n) c.in_ok-node.ensures w))
     c.push-5.ensures.added
 
 pub add_next-returns : goal.add_next-returns
@@ -120,10 +121,8 @@ add_next-returns t c =
     let V = parts c.push-2.new.self in
     let o = c.len-outer.result in
     let v = c.in_ok-value.value in
-    let indexed : V ≡ with_row U s c.args.place o (Next c.in_ok-name.name c.args.index o v) =
-    subst (λ k. V ≡ with_row U s c.args.place o (Next c.in_ok-name.name k o v)) c.in_ok-index.ensures c.in_ok-push-2.ensures.added in
     let added : V ≡ with_row U s c.args.place o (Next c.in_ok-number.number c.args.index o v) =
-    subst (λ x. V ≡ with_row U s c.args.place o (Next x c.args.index o v)) c.in_ok-name.ensures indexed in
+    subst (λ n. V ≡ with_row U s c.args.place o n) c.in_ok-node.ensures c.in_ok-push-2.ensures.added in
     next_parts s T N E U V c.args.name.now (tree_of c.args.expr.now)
     c.args.place o c.in_ok-number.number c.args.index v (omega arith) c.in_ok-number.ensures.number
     (named T N c.args.name.now (ap (λ v. v.items) c.in_ok-number.ensures.rows) c.in_ok-number.ensures.names) c.in_ok-push.ensures.added

@@ -1,6 +1,6 @@
-use Rattle.std.proofs.Common.{ap, ◌∙◌, arith}
+use Rattle.std.proofs.Common.{◌≡◌, ap, ◌∙◌, arith, subst}
 use Rattle.id_tree.specs.Tree.{params_tree, tree_of}
-use Rattle.id_parts.specs.Rows.{add}
+use Rattle.id_parts.specs.Rows.{add, with_row}
 use Rattle.id_parts.specs.Making.{parts}
 use Rattle.id_parts.proofs.MakingLemmas.{define_parts, named}
 use Rattle.id_parts.proofs.maker.Maker.add_def.Goals as goal
@@ -16,4 +16,5 @@ returns c =
     define_parts s (parts c.args.self.now) H U V W (parts c.push-2.new.self) d.name (params_tree d.params) (tree_of d.body) d.result d.place
     c.len-head.result c.in_ok-name.name c.in_ok-body.body (omega arith) c.in_ok-stand.ensures c.in_ok-push.ensures.added
     (c.in_ok-add_params.ensures ∙ ap (λ ps. add s H (params_tree ps)) c.as_slice.ensures) c.in_ok-body.ensures.added c.in_ok-body.ensures.number
-    c.in_ok-name.ensures.number (named V W d.name (ap (λ v. v.items) c.in_ok-name.ensures.rows) c.in_ok-name.ensures.names) c.in_ok-push-2.ensures.added
+    c.in_ok-name.ensures.number (named V W d.name (ap (λ v. v.items) c.in_ok-name.ensures.rows) c.in_ok-name.ensures.names)
+    (subst (λ n. parts c.push-2.new.self ≡ with_row W s d.place c.len-head.result n) c.in_ok-node.ensures c.in_ok-push-2.ensures.added)
