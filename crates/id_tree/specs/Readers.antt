@@ -32,7 +32,7 @@ use Rattle.id_tree.specs.declared.tree.TreeError.TheVariants.{Unexpected, TooDee
 use Rattle.id_tree.specs.Tree.{Tree, tree_of, stmt_tree, def_tree, unary, param, more}
 use Rattle.id_tree.specs.Grammar.{Phrase, Definition, Parameters, MoreParameters, Arguments, MoreArguments, Tail, Rest}
 use Rattle.id_tree.specs.Grammar.{named_of, assigned_of, done, of_kind, part, sign, enclosed, with_statement, Opens}
-use Rattle.id_tree.specs.Grammar.{Grouped, operand}
+use Rattle.id_tree.specs.Grammar.{Grouped, operand, operator_of}
 use Rattle.id_tree.specs.Machine.{Frame, Left, Target, Inside, again, Begin, Want, Have, Next, Outcome, Refused}
 use Rattle.id_tree.specs.Machine.{name_in, run}
 
@@ -130,22 +130,17 @@ open_behind l = l
 abbrev pub IsBracket : TokenKind → Type 0
 IsBracket k = (k ≡ Sign LeftParen) ⊎ (k ≡ Sign LeftBracket)
 
--- the operator that a kind is, and its level
+-- the operator with its level, if there is one, or else what else there is
+abbrev pub at_level : Level → Option BinaryOp → Option (Level × BinaryOp) → Option (Level × BinaryOp)
+at_level l None rest = rest
+at_level l (Some p) rest = Some (l, p)
+
+-- the operator that a kind is, and its level: that of the first level where it is one
 abbrev pub operator_in : TokenKind → Option (Level × BinaryOp)
-operator_in (Key Or) = Some (level.Or, op.Logic logic.Or)
-operator_in (Key And) = Some (level.And, op.Logic logic.And)
-operator_in (Sign Equal) = Some (level.Comparison, op.Comparison comparison.Eq)
-operator_in (Sign NotEqual) = Some (level.Comparison, op.Comparison comparison.Ne)
-operator_in (Sign Less) = Some (level.Comparison, op.Comparison comparison.Lt)
-operator_in (Sign LessEqual) = Some (level.Comparison, op.Comparison comparison.Le)
-operator_in (Sign Greater) = Some (level.Comparison, op.Comparison comparison.Gt)
-operator_in (Sign GreaterEqual) = Some (level.Comparison, op.Comparison comparison.Ge)
-operator_in (Sign Plus) = Some (level.Sum, op.Arithmetic arithmetic.Add)
-operator_in (Sign Minus) = Some (level.Sum, op.Arithmetic arithmetic.Sub)
-operator_in (Sign Star) = Some (level.Product, op.Arithmetic arithmetic.Mul)
-operator_in (Key Div) = Some (level.Product, op.Arithmetic arithmetic.Div)
-operator_in (Key Rem) = Some (level.Product, op.Arithmetic arithmetic.Rem)
-operator_in _ = None
+operator_in k =
+    at_level level.Or (operator_of level.Or k) (at_level level.And (operator_of level.And k)
+    (at_level level.Comparison (operator_of level.Comparison k) (at_level level.Sum (operator_of level.Sum k)
+    (at_level level.Product (operator_of level.Product k) None))))
 
 -- the operator and its level, where the level is between the inner one and the outer one
 abbrev pub kept_within : Level → Level → Option (Level × BinaryOp) → Option (Level × BinaryOp)

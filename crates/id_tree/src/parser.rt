@@ -45,6 +45,7 @@ ghost use Rattle.id_tree.specs.Readers.{
   open_behind,
   rank,
   operator_within,
+  kept_within,
   operator_in,
   Rises,
   IsBracket,
@@ -829,7 +830,20 @@ fn operator_within(tokens: &[Token], inner: Level, outer: Level) -> Option<(Leve
     requires { EndsOnce tokens.now }
     ensures { result ≡ operator_within inner outer (first_kind tokens.now) }
 {
-    let (at, op) = operator_in(&tokens[0])?;
+    kept_within(operator_in(&tokens[0]), inner, outer)
+}
+
+/// The operator with its level, if there is one, where that is not tighter than the inner level and
+/// not looser than the outer one.
+#[inline(always)]
+fn kept_within(
+    found: Option<(Level, BinaryOp)>,
+    inner: Level,
+    outer: Level,
+) -> Option<(Level, BinaryOp)>
+    ensures { result ≡ kept_within inner outer found }
+{
+    let (at, op) = found?;
     if rank(at) <= rank(inner) && rank(outer) <= rank(at) {
         Some((at, op))
     } else {
