@@ -61,12 +61,14 @@ impl Compiled {
         &self.valid
     }
 
-    /// The program's graph alone: the program gives its memory back.
-    pub fn into_valid(self) -> Valid
-        ensures value { result ≡ self.graph }
+    /// The program's tree and its graph: its table gives its memory back.
+    pub fn into_parts(self) -> (Program, Valid)
+        ensures tree { result.0 ≡ self.checked.program }
+        ensures value { result.1 ≡ self.graph }
         ensures kept { Schemas self.checked self.graph }
     {
-        self.valid
+        let Compiled { checked, valid } = self;
+        (tree_in(checked), valid)
     }
 }
 
@@ -115,6 +117,14 @@ fn tree_of(alloc: Global, text: &str) -> Result<Program, CompileError>
         Ok(program) => Ok(program),
         Err(error) => Err(CompileError::Tree(error)),
     }
+}
+
+/// The tree of a checked program: its table gives its memory back.
+fn tree_in(checked: Checked) -> Program
+    ensures { result ≡ checked.program }
+{
+    let Checked { program, .. } = checked;
+    program
 }
 
 /// The checked program of a text.
@@ -186,15 +196,17 @@ pub fn compile(alloc: Global, text: &str) -> Result<Compiled, CompileError>
     }
 }
 
-/// Whether a text has a program of which a graph can be built: what `compile` would answer, without making the graph.
-pub fn accept(alloc: Global, text: &str) -> Result<(), CompileError>
+/// The tree of a text that has a program of which a graph can be built: what `compile` would answer, without making the
+/// graph.
+pub fn accept(alloc: Global, text: &str) -> Result<Program, CompileError>
+    ensures tree { IfOk result (IsTreeOf text.now) }
     ensures program { OnOk result (HasProgram text.now) }
     ensures refused { IfErr result (IsRefusedBy text.now) }
     ensures inside { IfErr result (IsCauseInside text.now) }
 {
     let checked = checked_program(alloc, text)?;
     match has_graph(alloc, &checked) {
-        Ok(()) => Ok(()),
+        Ok(()) => Ok(tree_in(checked)),
         Err(error) => Err(error),
     }
 }

@@ -13,6 +13,7 @@ use crate::run::engine;
 use crate::source::Source;
 use id_print::{Sink, put};
 use id_request::{Request, Unasked};
+use id_tree::Program;
 use std::alloc::Global;
 
 /// The status of a command line that is refused.
@@ -56,6 +57,7 @@ fn print_asked<O: Sink>(
     request: &Request<'_>,
     text: &str,
     out: &mut O,
+    left: &mut Option<Program>,
 ) -> Result<u8, EngineError>
     ensures shown { IfOk result (ShowsAll (command_of request.now) text.now (O.told out.old) (O.told out.new)) }
     ensures taken { IfOk result (λ _. IsTaken text.now request.now) }
@@ -67,8 +69,8 @@ fn print_asked<O: Sink>(
     ensures inside { IfErr result (IsInsideOf text.now) }
 {
     match request {
-        Request::Check { .. } => check_text(alloc, text, out),
-        Request::Graph { .. } => graph_text(alloc, text, out),
+        Request::Check { .. } => check_text(alloc, text, out, left),
+        Request::Graph { .. } => graph_text(alloc, text, out, left),
         Request::Draw { .. } => draw_text(alloc, text, out),
         Request::Facts { rounds, inputs, .. } => facts_text(
             alloc,
@@ -115,17 +117,19 @@ fn tell<E: Sink>(request: &Request<'_>, error: &EngineError, text: &str, err: &m
     refuse(&of_engine_error(words_of(request), error), text, err)
 }
 
-/// Does what a request asks for with a text, and answers the status.
+/// Does what a request asks for with a text, and answers the status. The text's tree may be left in `left`, as
+/// by `check_text`.
 pub fn serve<O: Sink, E: Sink>(
     alloc: Global,
     request: &Request<'_>,
     text: &str,
     out: &mut O,
     err: &mut E,
+    left: &mut Option<Program>,
 ) -> u8
     ensures { Serves text.now request.now (O.told out.old) (O.told out.new) (E.told err.old) (E.told err.new) result }
 {
-    match print_asked(alloc, request, text, out) {
+    match print_asked(alloc, request, text, out, left) {
         Ok(status) => status,
         Err(error) => tell(request, &error, text, err),
     }
@@ -151,24 +155,27 @@ fn serve_file<S: Source, O: Sink, E: Sink>(
     source: &mut S,
     out: &mut O,
     err: &mut E,
+    left: &mut Option<Program>,
 ) -> u8
     ensures { Drives (S.told source.old (file_of request.now)) request.now (O.told out.old) (O.told out.new)
         (E.told err.old) (E.told err.new) result }
 {
     match source.read(alloc, file_of(request)) {
-        Ok(text) => serve(alloc, request, text.as_str(), out, err),
+        Ok(text) => serve(alloc, request, text.as_str(), out, err, left),
         Err(fault) => refuse_plainly(of_source_fault(fault), err),
     }
 }
 
 /// The whole program, but for reading the words: does what they ask for, and answers the status. It
-/// reads texts from `source`, writes what was asked for to `out` and refusals to `err`.
+/// reads texts from `source`, writes what was asked for to `out` and refusals to `err`. The text's tree may be left in
+/// `left`, as by `check_text`.
 pub fn drive<S: Source, O: Sink, E: Sink>(
     alloc: Global,
     asked: &Result<Request<'_>, Unasked>,
     source: &mut S,
     out: &mut O,
     err: &mut E,
+    left: &mut Option<Program>,
 ) -> u8
     ensures asked { IfOk asked.now
         (λ r. Drives (S.told source.old (file_of r)) r (O.told out.old) (O.told out.new) (E.told err.old)
@@ -177,7 +184,7 @@ pub fn drive<S: Source, O: Sink, E: Sink>(
         (λ u. Answers (O.told out.old) (O.told out.new) (E.told err.old) (E.told err.new) u result) }
 {
     match asked {
-        Ok(request) => serve_file(alloc, request, source, out, err),
+        Ok(request) => serve_file(alloc, request, source, out, err, left),
         Err(unasked) => answer(unasked, out, err),
     }
 }

@@ -15,9 +15,11 @@ use id_print::Sink;
 use std::alloc::Global;
 use std::convert::AsStr;
 use std::io::BufWriter;
+use std::mem::forget;
 use std::process::ExitCode;
 
-/// Does what the words ask for, the program's own name left out, and answers the status.
+/// Does what the words ask for, the program's own name left out, and answers the status. It is the last thing that the
+/// process does: the text's tree is left to the system, which takes a process's memory back at once.
 fn run<N: AsStr, S: Source, O: Sink, E: Sink>(
     alloc: Global,
     words: &[N],
@@ -25,7 +27,17 @@ fn run<N: AsStr, S: Source, O: Sink, E: Sink>(
     out: &mut O,
     err: &mut E,
 ) -> u8 {
-    drive(alloc, &read_words(alloc, words), source, out, err)
+    let mut left = None;
+    let status = drive(
+        alloc,
+        &read_words(alloc, words),
+        source,
+        out,
+        err,
+        &mut left,
+    );
+    forget(left);
+    status
 }
 
 /// Does what the words of the process ask for, and answers the status. The parts of a line gather in a buffer on their
@@ -41,7 +53,14 @@ fn serve_process(rt: &HostRuntime) -> u8 {
             let mut out = Stream { writer };
             let status = match arguments(rt) {
                 Ok(words) => run(alloc, words.as_slice(), &mut source, &mut out, &mut err),
-                Err(unasked) => drive(alloc, &Err(unasked), &mut source, &mut out, &mut err),
+                Err(unasked) => drive(
+                    alloc,
+                    &Err(unasked),
+                    &mut source,
+                    &mut out,
+                    &mut err,
+                    &mut None,
+                ),
             };
             settle(&mut out, &mut err, status)
         }
@@ -55,6 +74,7 @@ fn serve_process(rt: &HostRuntime) -> u8 {
                 &mut source,
                 &mut out,
                 &mut err,
+                &mut None,
             )
         }
     }
