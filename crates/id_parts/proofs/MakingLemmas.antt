@@ -7,6 +7,10 @@ use Rattle.id_tree.specs.declared.tree.Expr.{Loop, Loop'}
 use Rattle.id_tree.specs.declared.tree.Expr.{Expr, Call, Call', Block, Block'}
 use Rattle.id_tree.specs.declared.tree.Expr.{Row_of-Expr, end_of-Expr, more_of-Expr, items-the_row-Expr, items_hidden-the_row-Expr-0}
 use Rattle.id_tree.specs.declared.tree.Expr.{Row_of-Stmt, end_of-Stmt, more_of-Stmt, items-the_row-Stmt, items_hidden-the_row-Stmt-1}
+use Rattle.id_tree.specs.declared.tree.Triple.{Triple}
+use Rattle.id_tree.specs.declared.tree.Call.{Call as Passing}
+use Rattle.id_tree.specs.declared.tree.Block.{Block as Inner}
+use Rattle.id_tree.specs.declared.tree.Loop.{Loop as Round}
 use Rattle.id_tree.specs.declared.tree.Stmt.{Stmt}
 use Rattle.id_tree.specs.declared.tree.Stmt as stmt
 use Rattle.id_tree.specs.Tree.{Tree, call, block, binding, store, define, loop, more, tree_of, args_tree, stmt_tree, row_tree}
@@ -22,27 +26,26 @@ row_tree-items _ end_of-Stmt = refl
 row_tree-items _ (more_of-Stmt s rest) = ap (more (stmt_tree s)) (row_tree-items _ rest)
 
 abbrev row_of : Expr → (n : Count) × Row_of-Stmt n
-row_of (Block' _ r p body q) = (_, r)
+row_of (Block' place p _ r body) = (_, r)
 row_of _ = (_, end_of-Stmt)
 
-tree_of-block : (statements : Vec Stmt Global) (body : Box Expr Global) (place : ℕ)
-    → tree_of (Block statements body place) ≡ block (stmts_tree statements.items) (tree_of body.value) place
-tree_of-block statements body place =
-    let row = row_of (Block statements body place) in
-    ap (λ t. block t (tree_of body.value) place) (row_tree-items row.0 row.1 ∙ ap stmts_tree (items_hidden-the_row-Stmt-1 statements))
+tree_of-block : (place : ℕ) (b : Box Inner Global) → tree_of (Block place b) ≡ block (stmts_tree b.value.statements.items) (tree_of b.value.body) place
+tree_of-block place b =
+    let row = row_of (Block place b) in
+    ap (λ t. block t (tree_of b.value.body) place) (row_tree-items row.0 row.1 ∙ ap stmts_tree (items_hidden-the_row-Stmt-1 b.value.statements))
 
 args_tree-items : (n : _) (r : Row_of-Expr n) → args_tree r ≡ exprs_tree (items-the_row-Expr n r)
 args_tree-items _ end_of-Expr = refl
 args_tree-items _ (more_of-Expr e rest) = ap (more (tree_of e)) (args_tree-items _ rest)
 
 abbrev args_of : Expr → (n : Count) × Row_of-Expr n
-args_of (Call' x _ r p) = (_, r)
+args_of (Call' place p x _ r) = (_, r)
 args_of _ = (_, end_of-Expr)
 
-tree_of-call : (x : List ℕ) (args : Vec Expr Global) (place : ℕ) → tree_of (Call x args place) ≡ call x (exprs_tree args.items) place
-tree_of-call x args place =
-    let row = args_of (Call x args place) in
-    ap (λ t. call x t place) (args_tree-items row.0 row.1 ∙ ap exprs_tree (items_hidden-the_row-Expr-0 args))
+tree_of-call : (place : ℕ) (b : Box Passing Global) → tree_of (Call place b) ≡ call b.value.name (exprs_tree b.value.args.items) place
+tree_of-call place b =
+    let row = args_of (Call place b) in
+    ap (λ t. call b.value.name t place) (args_tree-items row.0 row.1 ∙ ap exprs_tree (items_hidden-the_row-Expr-0 b.value.args))
 
 pub named : (T U : Parts) (x : List ℕ) → U.rows ≡ T.rows → U.names ≡ with_name T.names x → U ≡ naming T x
 named T U x h e = λ j. record { rows = h j; names = e j }
@@ -90,14 +93,15 @@ define_parts s T H U V W X x ps b k p h n i h0 h1 h2 h3 h4 h5 h6 h7 h8 =
     ∙ ap (define_ending T x ps k b p h) h1 ∙ ap (λ m. define_ending T x ps k b p m (in_top m)) h0
 
 abbrev loop_row_of : Expr → (n : Count) × Row_of-Stmt n
-loop_row_of (Loop' q test _ r p last place) = (_, r)
+loop_row_of (Loop' place p test _ r last) = (_, r)
 loop_row_of _ = (_, end_of-Stmt)
 
-tree_of-loop : (test : Box Expr Global) (statements : Vec Stmt Global) (last : Box Expr Global) (place : ℕ)
-    → tree_of (Loop test statements last place) ≡ loop (tree_of test.value) (stmts_tree statements.items) (tree_of last.value) place
-tree_of-loop test statements last place =
-    let row = loop_row_of (Loop test statements last place) in
-    ap (λ t. loop (tree_of test.value) t (tree_of last.value) place) (row_tree-items row.0 row.1 ∙ ap stmts_tree (items_hidden-the_row-Stmt-1 statements))
+tree_of-loop : (place : ℕ) (b : Box Round Global)
+    → tree_of (Loop place b) ≡ loop (tree_of b.value.test) (stmts_tree b.value.statements.items) (tree_of b.value.last) place
+tree_of-loop place b =
+    let row = loop_row_of (Loop place b) in
+    ap (λ t. loop (tree_of b.value.test) t (tree_of b.value.last) place)
+    (row_tree-items row.0 row.1 ∙ ap stmts_tree (items_hidden-the_row-Stmt-1 b.value.statements))
 
 abbrev next_ending : Stand → ℕ → Tree → ℕ → Parts → ℕ → ℕ → Parts
 next_ending s i a p Y g m = let X = add s (with_row Y s p g (node.NextUse m)) a in with_row X s p g (node.Next m i g (last X))
@@ -121,25 +125,22 @@ body_parts s W B N D ss p q r h0 h1 h2 h3 h4 =
 
 -- one statement of a loop more was added
 pub binding_step : (s : Stand) (k i : ℕ) (T U V : Parts) (xs : List Stmt) (x : List ℕ) (e : Expr) (p : ℕ) (d : Stmt) → i < length xs
-    → get_or xs i d ≡ stmt.Binding x e p → U ≡ add s T (binding x (tree_of e) p) → add_nexts s k T (stmts_tree (drop i xs)) ≡ V
+    → get_or xs i d ≡ stmt.Binding p x e → U ≡ add s T (binding x (tree_of e) p) → add_nexts s k T (stmts_tree (drop i xs)) ≡ V
     → add_nexts s k U (stmts_tree (drop (i + 1) xs)) ≡ V
 binding_step s k i T U V xs x e p d l is u w =
     ap (λ X. add_nexts s k X (stmts_tree (drop (i + 1) xs))) u
     ∙ sym (ap (λ ss. add_nexts s k T (stmts_tree ss)) (drop_more xs i d l ∙ ap (λ y. y ∷ drop (i + 1) xs) is)) ∙ w
 
 -- so it is where that is a store
-pub store_step : (s : Stand) (k i : ℕ) (T U V : Parts) (xs : List Stmt) (t j e : Box Expr Global) (a b v : Expr) (p : ℕ) (d : Stmt) → i < length xs
-    → get_or xs i d ≡ stmt.Store t j e p → a ≡ t.value → b ≡ j.value → v ≡ e.value → U ≡ add s T (store (tree_of a) (tree_of b) (tree_of v) p)
+pub store_step : (s : Stand) (k i : ℕ) (T U V : Parts) (xs : List Stmt) (b : Box Triple Global) (v : Triple) (p : ℕ) (d : Stmt) → i < length xs
+    → get_or xs i d ≡ stmt.Store p b → v ≡ b.value → U ≡ add s T (store (tree_of v.first) (tree_of v.second) (tree_of v.third) p)
     → add_nexts s k T (stmts_tree (drop i xs)) ≡ V → add_nexts s k U (stmts_tree (drop (i + 1) xs)) ≡ V
-store_step s k i T U V xs t j e a b v p d l is f g h u w =
-    let same : store (tree_of a) (tree_of b) (tree_of v) p ≡ store (tree_of t.value) (tree_of j.value) (tree_of e.value) p =
-    ap (λ x. store (tree_of x) (tree_of b) (tree_of v) p) f ∙ ap (λ x. store (tree_of t.value) (tree_of x) (tree_of v) p) g
-    ∙ ap (λ x. store (tree_of t.value) (tree_of j.value) (tree_of x) p) h in
-    ap (λ X. add_nexts s k X (stmts_tree (drop (i + 1) xs))) (u ∙ ap (add s T) same)
+store_step s k i T U V xs b v p d l is f u w =
+    ap (λ X. add_nexts s k X (stmts_tree (drop (i + 1) xs))) (u ∙ ap (λ x. add s T (store (tree_of x.first) (tree_of x.second) (tree_of x.third) p)) f)
     ∙ sym (ap (λ ss. add_nexts s k T (stmts_tree ss)) (drop_more xs i d l ∙ ap (λ y. y ∷ drop (i + 1) xs) is)) ∙ w
 
 pub next_step : (s : Stand) (k i : ℕ) (T U V : Parts) (xs : List Stmt) (x : List ℕ) (e : Expr) (p : ℕ) (d : Stmt) → i < length xs
-    → get_or xs i d ≡ stmt.Next x e p → U ≡ add_next s k T x (tree_of e) p → add_nexts s k T (stmts_tree (drop i xs)) ≡ V
+    → get_or xs i d ≡ stmt.Next p x e → U ≡ add_next s k T x (tree_of e) p → add_nexts s k T (stmts_tree (drop i xs)) ≡ V
     → add_nexts s (k + 1) U (stmts_tree (drop (i + 1) xs)) ≡ V
 next_step s k i T U V xs x e p d l is u w =
     let one : k + 1 ≡ suc k = omega arith in
@@ -181,23 +182,19 @@ loop_parts s i b o T E U W D L Z X t ss l p f h g m w r k h0 h1 h2 h3 h4 h5 h6 h
     ∙ ap (λ q. loop_rest s t ss l p (in_top (suc (size T))) (suc (size T)) q (begin_loop s T ss p)) h0
 
 -- what is added for a call, a block or a loop is what is added for its tree
-pub of_call : (s : Stand) (T U : Parts) (e : Expr) (x : List ℕ) (args : Vec Expr Global) (place : ℕ) (es : List Expr) → es ≡ args.items
-    → e ≡ Call x args place → U ≡ add s T (call x (exprs_tree es) place) → U ≡ add s T (tree_of e)
-of_call s T U e x args place es h0 h1 w =
-    w ∙ ap (λ xs. add s T (call x (exprs_tree xs) place)) h0 ∙ ap (add s T) (sym (tree_of-call x args place)) ∙ ap (λ y. add s T (tree_of y)) (sym h1)
+pub of_call : (s : Stand) (T U : Parts) (e : Expr) (place : ℕ) (b : Box Passing Global) (v : Passing) → v ≡ b.value → e ≡ Call place b
+    → U ≡ add s T (call v.name (exprs_tree v.args.items) place) → U ≡ add s T (tree_of e)
+of_call s T U e place b v h0 h1 w =
+    w ∙ ap (λ x. add s T (call x.name (exprs_tree x.args.items) place)) h0 ∙ ap (add s T) (sym (tree_of-call place b)) ∙ ap (λ y. add s T (tree_of y)) (sym h1)
 
-pub of_block : (s : Stand) (T U : Parts) (e : Expr) (statements : Vec Stmt Global) (body : Box Expr Global) (place : ℕ) (ss : List Stmt) (b : Expr)
-    → ss ≡ statements.items → b ≡ body.value → e ≡ Block statements body place → U ≡ add s T (block (stmts_tree ss) (tree_of b) place)
-    → U ≡ add s T (tree_of e)
-of_block s T U e statements body place ss b h0 h1 h2 w =
-    w ∙ ap (λ xs. add s T (block (stmts_tree xs) (tree_of b) place)) h0 ∙ ap (λ x. add s T (block (stmts_tree statements.items) (tree_of x) place)) h1
-    ∙ ap (add s T) (sym (tree_of-block statements body place)) ∙ ap (λ x. add s T (tree_of x)) (sym h2)
+pub of_block : (s : Stand) (T U : Parts) (e : Expr) (place : ℕ) (b : Box Inner Global) (v : Inner) → v ≡ b.value → e ≡ Block place b
+    → U ≡ add s T (block (stmts_tree v.statements.items) (tree_of v.body) place) → U ≡ add s T (tree_of e)
+of_block s T U e place b v h0 h1 w =
+    w ∙ ap (λ x. add s T (block (stmts_tree x.statements.items) (tree_of x.body) place)) h0 ∙ ap (add s T) (sym (tree_of-block place b))
+    ∙ ap (λ y. add s T (tree_of y)) (sym h1)
 
-pub of_loop : (s : Stand) (T U : Parts) (e : Expr) (test : Box Expr Global) (statements : Vec Stmt Global) (last : Box Expr Global) (place : ℕ) (t : Expr)
-    (ss : List Stmt) (l : Expr) → t ≡ test.value → ss ≡ statements.items → l ≡ last.value → e ≡ Loop test statements last place
-    → U ≡ add s T (loop (tree_of t) (stmts_tree ss) (tree_of l) place) → U ≡ add s T (tree_of e)
-of_loop s T U e test statements last place t ss l h0 h1 h2 h3 w =
-    w ∙ ap (λ x. add s T (loop (tree_of x) (stmts_tree ss) (tree_of l) place)) h0
-    ∙ ap (λ xs. add s T (loop (tree_of test.value) (stmts_tree xs) (tree_of l) place)) h1
-    ∙ ap (λ x. add s T (loop (tree_of test.value) (stmts_tree statements.items) (tree_of x) place)) h2
-    ∙ ap (add s T) (sym (tree_of-loop test statements last place)) ∙ ap (λ x. add s T (tree_of x)) (sym h3)
+pub of_loop : (s : Stand) (T U : Parts) (e : Expr) (place : ℕ) (b : Box Round Global) (v : Round) → v ≡ b.value → e ≡ Loop place b
+    → U ≡ add s T (loop (tree_of v.test) (stmts_tree v.statements.items) (tree_of v.last) place) → U ≡ add s T (tree_of e)
+of_loop s T U e place b v h0 h1 w =
+    w ∙ ap (λ x. add s T (loop (tree_of x.test) (stmts_tree x.statements.items) (tree_of x.last) place)) h0 ∙ ap (add s T) (sym (tree_of-loop place b))
+    ∙ ap (λ y. add s T (tree_of y)) (sym h1)

@@ -14,16 +14,16 @@ use Rattle.id_parts.specs.Trees.{by_block, no_statements, more_statements, no_pa
 
 mutual
   pub IsTree-tree_of : (e : Expr) → IsTree Expression (tree_of e)
-  IsTree-tree_of (Literal value place) = by_literal
-  IsTree-tree_of (Unary' op p operand place) = by_unary (IsTree-tree_of operand)
-  IsTree-tree_of (Binary' op p left q right place) = by_binary (IsTree-tree_of left) (IsTree-tree_of right)
-  IsTree-tree_of (Name x place) = by_name
-  IsTree-tree_of (If' p test q then r otherwise place) = by_conditional (IsTree-tree_of test) (IsTree-tree_of then) (IsTree-tree_of otherwise)
-  IsTree-tree_of (Call' x n args place) = by_call (IsTree-args_tree args)
-  IsTree-tree_of (Block' n statements p body place) = by_block (IsTree-row_tree statements) (IsTree-tree_of body)
-  IsTree-tree_of (Loop' p test n statements q last place) = by_loop (IsTree-tree_of test) (IsTree-row_tree statements) (IsTree-tree_of last)
-  IsTree-tree_of (Array' p low q high place) = by_array (IsTree-tree_of low) (IsTree-tree_of high)
-  IsTree-tree_of (Fetch' p target q index place) = by_fetch (IsTree-tree_of target) (IsTree-tree_of index)
+  IsTree-tree_of (Literal place value) = by_literal
+  IsTree-tree_of (Unary' op place p operand) = by_unary (IsTree-tree_of operand)
+  IsTree-tree_of (Binary' op place p a b) = by_binary (IsTree-tree_of a) (IsTree-tree_of b)
+  IsTree-tree_of (Name place x) = by_name
+  IsTree-tree_of (If' place p a b c) = by_conditional (IsTree-tree_of a) (IsTree-tree_of b) (IsTree-tree_of c)
+  IsTree-tree_of (Call' place p x n args) = by_call (IsTree-args_tree args)
+  IsTree-tree_of (Block' place p n statements body) = by_block (IsTree-row_tree statements) (IsTree-tree_of body)
+  IsTree-tree_of (Loop' place p test n statements last) = by_loop (IsTree-tree_of test) (IsTree-row_tree statements) (IsTree-tree_of last)
+  IsTree-tree_of (Array' place p a b) = by_array (IsTree-tree_of a) (IsTree-tree_of b)
+  IsTree-tree_of (Fetch' place p a b) = by_fetch (IsTree-tree_of a) (IsTree-tree_of b)
 
   IsTree-args_tree : {n : _} (es : Row_of-Expr n) → IsTree Arguments (args_tree es)
   IsTree-args_tree end_of-Expr = no_arguments
@@ -31,10 +31,10 @@ mutual
 
   IsTree-row_tree : {n : _} (ss : Row_of-Stmt n) → IsTree Statements (row_tree ss)
   IsTree-row_tree end_of-Stmt = no_statements
-  IsTree-row_tree (more_of-Stmt (Binding x value place) rest) = more_statements (IsTree-tree_of value) (IsTree-row_tree rest)
-  IsTree-row_tree (more_of-Stmt (Next x value place) rest) = next_statement (IsTree-tree_of value) (IsTree-row_tree rest)
-  IsTree-row_tree (more_of-Stmt (Store' p target q index r value place) rest) =
-      store_statement (IsTree-tree_of target) (IsTree-tree_of index) (IsTree-tree_of value) (IsTree-row_tree rest)
+  IsTree-row_tree (more_of-Stmt (Binding place x value) rest) = more_statements (IsTree-tree_of value) (IsTree-row_tree rest)
+  IsTree-row_tree (more_of-Stmt (Next place x value) rest) = next_statement (IsTree-tree_of value) (IsTree-row_tree rest)
+  IsTree-row_tree (more_of-Stmt (Store' place p a b c) rest) =
+      store_statement (IsTree-tree_of a) (IsTree-tree_of b) (IsTree-tree_of c) (IsTree-row_tree rest)
 
 IsTree-params_tree : (ps : List Param) → IsTree Params (params_tree ps)
 IsTree-params_tree [] = no_params

@@ -8,12 +8,12 @@ ghost use Rattle.id_parts.specs.Names.{number_of, with_name};
 ghost use Rattle.id_parts.specs.Rows.{arm, in_top, value_of, with_row, add, add_arguments, add_nexts};
 ghost use Rattle.id_parts.specs.Rows.{add_variables, begin_loop, parts_of, rows_of, size};
 ghost use Rattle.id_parts.specs.declared.row.Node.TheVariants as variant;
-ghost use Rattle.id_parts.specs.declared.row.Node.TheVariants.{Variable, If, Arg, Loop, Next};
+ghost use Rattle.id_parts.specs.declared.row.Node.TheVariants.{Variable, If, Arg, Next};
 ghost use Rattle.id_parts.specs.Making.{add_argument, add_next, parts, texts, exprs_tree, stmts_tree, IsStart};
 
 use crate::row::{Node, Region, Row, Stand, Table};
 use id_text::Identifier;
-use id_tree::{Def, Expr, Param, Program, Stmt};
+use id_tree::{Block, Call, Def, Expr, Loop, Pair, Param, Program, Stmt, Triple};
 use id_value::{BinaryOp, Kind, UnaryOp};
 use indexmap::IndexSet;
 use std::alloc::{AllocError, Global};
@@ -38,7 +38,7 @@ pub fn table_of(alloc: Global, program: &Program) -> Result<Table, AllocError>
 }
 
 /// About how many bytes of the text a row stands for, or a little less.
-const ROW_BYTES: usize = 4;
+const ROW_BYTES: usize = 3;
 
 /// About how many rows the program has, by where its last definition gives its value. No claim rests on it: a table
 /// with more rows grows. Takes no memory.
@@ -52,7 +52,7 @@ fn about_rows(program: &Program) -> usize {
 /// Where an expression gives its value: a block in its body. Takes no memory.
 fn value_place(expr: &Expr) -> usize {
     match expr {
-        Expr::Block { body, .. } => own_place(body),
+        Expr::Block { inside, .. } => own_place(&inside.body),
         other => own_place(other),
     }
 }
@@ -69,7 +69,7 @@ fn own_place(expr: &Expr) -> usize {
         | Expr::Block { place, .. }
         | Expr::Loop { place, .. }
         | Expr::Array { place, .. }
-        | Expr::Fetch { place, .. } => *place,
+        | Expr::Fetch { place, .. } => *place as usize,
     }
 }
 
@@ -99,7 +99,7 @@ fn short(number: usize) -> Result<u32, AllocError>
 }
 
 /// The node of a definition. Takes no memory.
-fn definition(name: usize, head: usize, kind: Kind, body: usize) -> Result<Node, AllocError>
+fn def_node(name: usize, head: usize, kind: Kind, body: usize) -> Result<Node, AllocError>
     ensures { IfOk result (λ n. n ≡ variant.Def name head kind body) }
 {
     Ok(Node::Def {
@@ -111,7 +111,7 @@ fn definition(name: usize, head: usize, kind: Kind, body: usize) -> Result<Node,
 }
 
 /// The node of a conditional. Takes no memory.
-fn choice(split: usize, then: usize, otherwise: usize) -> Result<Node, AllocError>
+fn if_node(split: usize, then: usize, otherwise: usize) -> Result<Node, AllocError>
     ensures { IfOk result (λ n. n ≡ If split then otherwise) }
 {
     Ok(Node::If {
@@ -122,7 +122,7 @@ fn choice(split: usize, then: usize, otherwise: usize) -> Result<Node, AllocErro
 }
 
 /// The node of an argument. Takes no memory.
-fn passed(enter: usize, index: usize, value: usize) -> Result<Node, AllocError>
+fn arg_node(enter: usize, index: usize, value: usize) -> Result<Node, AllocError>
     ensures { IfOk result (λ n. n ≡ Arg enter index value) }
 {
     Ok(Node::Arg {
@@ -133,8 +133,8 @@ fn passed(enter: usize, index: usize, value: usize) -> Result<Node, AllocError>
 }
 
 /// The node of a loop. Takes no memory.
-fn round(head: usize, switches: usize, last: usize) -> Result<Node, AllocError>
-    ensures { IfOk result (λ n. n ≡ Loop head switches last) }
+fn loop_node(head: usize, switches: usize, last: usize) -> Result<Node, AllocError>
+    ensures { IfOk result (λ n. n ≡ variant.Loop head switches last) }
 {
     Ok(Node::Loop {
         head: short(head)?,
@@ -144,7 +144,7 @@ fn round(head: usize, switches: usize, last: usize) -> Result<Node, AllocError>
 }
 
 /// The node of a `next` statement. Takes no memory.
-fn handed(name: usize, index: usize, outer: usize, value: usize) -> Result<Node, AllocError>
+fn next_node(name: usize, index: usize, outer: usize, value: usize) -> Result<Node, AllocError>
     ensures { IfOk result (λ n. n ≡ Next name index outer value) }
 {
     Ok(Node::Next {
@@ -218,7 +218,7 @@ impl<'a> Maker<'a> {
     fn push(
         &mut self,
         stand: Stand,
-        place: usize,
+        place: u32,
         first: usize,
         node: Node,
     ) -> Result<usize, AllocError>
@@ -226,7 +226,6 @@ impl<'a> Maker<'a> {
         ensures number { IfOk result (λ i. i + 1 ≡ length self.new.rows.items) }
     {
         let number = self.rows.len();
-        let place = short(place)?;
         let first = short(first)?;
         let value = short(self.value_of(node))?;
         self.rows.push(Row {
@@ -268,7 +267,7 @@ impl<'a> Maker<'a> {
         self.add_params(stand, def.params.as_slice())?;
         let body = self.add_expr(stand, &def.body)?;
         let name = self.number(&def.name)?;
-        let node = definition(name, head, def.result, body)?;
+        let node = def_node(name, head, def.result, body)?;
         self.push(stand, def.place, head, node)?;
         Ok(())
     }
@@ -306,42 +305,19 @@ impl<'a> Maker<'a> {
         ensures number { IfOk result (λ i. i + 1 ≡ length self.new.rows.items) }
     {
         match expr {
-            Expr::Literal { value, place } => {
+            Expr::Literal { place, value } => {
                 let first = self.rows.len();
                 self.push(stand, *place, first, Node::Literal { value: *value })
             }
-            Expr::Name { name, place } => self.add_name(stand, name, *place),
-            Expr::Unary { op, operand, place } => self.add_unary(stand, *op, operand, *place),
-            Expr::Binary {
-                op,
-                left,
-                right,
-                place,
-            } => self.add_binary(stand, *op, left, right, *place),
-            Expr::If {
-                test,
-                then,
-                otherwise,
-                place,
-            } => self.add_conditional(stand, test, then, otherwise, *place),
-            Expr::Call { name, args, place } => self.add_call(stand, name, args, *place),
-            Expr::Block {
-                statements,
-                body,
-                place,
-            } => self.add_block(stand, statements, body, *place),
-            Expr::Loop {
-                test,
-                statements,
-                last,
-                place,
-            } => self.add_loop(stand, statements, test, last, *place),
-            Expr::Array { low, high, place } => self.add_array(stand, low, high, *place),
-            Expr::Fetch {
-                target,
-                index,
-                place,
-            } => self.add_fetch(stand, target, index, *place),
+            Expr::Name { place, name } => self.add_name(stand, name, *place),
+            Expr::Unary { op, place, operand } => self.add_unary(stand, *op, operand, *place),
+            Expr::Binary { op, place, inside } => self.add_binary(stand, *op, inside, *place),
+            Expr::If { place, inside } => self.add_conditional(stand, inside, *place),
+            Expr::Call { place, inside } => self.add_call(stand, inside, *place),
+            Expr::Block { place, inside } => self.add_block(stand, inside, *place),
+            Expr::Loop { place, inside } => self.add_loop(stand, inside, *place),
+            Expr::Array { place, inside } => self.add_array(stand, inside, *place),
+            Expr::Fetch { place, inside } => self.add_fetch(stand, inside, *place),
         }
     }
 
@@ -349,7 +325,7 @@ impl<'a> Maker<'a> {
         &mut self,
         stand: Stand,
         name: &'a Identifier,
-        place: usize,
+        place: u32,
     ) -> Result<usize, AllocError>
         ensures added { OnOk result (parts self.new ≡ add stand (parts self.old) (name_tree name.now place)) }
         ensures number { IfOk result (λ i. i + 1 ≡ length self.new.rows.items) }
@@ -365,7 +341,7 @@ impl<'a> Maker<'a> {
         stand: Stand,
         op: UnaryOp,
         operand: &'a Expr,
-        place: usize,
+        place: u32,
     ) -> Result<usize, AllocError>
         ensures added { OnOk result (parts self.new
             ≡ add stand (parts self.old) (unary op (tree_of operand.now) place)) }
@@ -381,53 +357,40 @@ impl<'a> Maker<'a> {
         &mut self,
         stand: Stand,
         op: BinaryOp,
-        left: &'a Expr,
-        right: &'a Expr,
-        place: usize,
+        inside: &'a Pair,
+        place: u32,
     ) -> Result<usize, AllocError>
         ensures added { OnOk result (parts self.new
-            ≡ add stand (parts self.old) (binary op (tree_of left.now) (tree_of right.now) place)) }
+            ≡ add stand (parts self.old) (binary op (tree_of inside.now.first) (tree_of inside.now.second) place)) }
         ensures number { IfOk result (λ i. i + 1 ≡ length self.new.rows.items) }
     {
         let first = self.rows.len();
-        let left = self.add_expr(stand, left)?;
-        let right = self.add_expr(stand, right)?;
+        let left = self.add_expr(stand, &inside.first)?;
+        let right = self.add_expr(stand, &inside.second)?;
         self.push(stand, place, first, Node::Binary { op, left, right })
     }
 
     #[cycle(add)]
-    fn add_array(
-        &mut self,
-        stand: Stand,
-        low: &'a Expr,
-        high: &'a Expr,
-        place: usize,
-    ) -> Result<usize, AllocError>
+    fn add_array(&mut self, stand: Stand, inside: &'a Pair, place: u32) -> Result<usize, AllocError>
         ensures added { OnOk result (parts self.new
-            ≡ add stand (parts self.old) (array (tree_of low.now) (tree_of high.now) place)) }
+            ≡ add stand (parts self.old) (array (tree_of inside.now.first) (tree_of inside.now.second) place)) }
         ensures number { IfOk result (λ i. i + 1 ≡ length self.new.rows.items) }
     {
         let first = self.rows.len();
-        let low = self.add_expr(stand, low)?;
-        let high = self.add_expr(stand, high)?;
+        let low = self.add_expr(stand, &inside.first)?;
+        let high = self.add_expr(stand, &inside.second)?;
         self.push(stand, place, first, Node::Array { low, high })
     }
 
     #[cycle(add)]
-    fn add_fetch(
-        &mut self,
-        stand: Stand,
-        target: &'a Expr,
-        index: &'a Expr,
-        place: usize,
-    ) -> Result<usize, AllocError>
+    fn add_fetch(&mut self, stand: Stand, inside: &'a Pair, place: u32) -> Result<usize, AllocError>
         ensures added { OnOk result (parts self.new
-            ≡ add stand (parts self.old) (fetch (tree_of target.now) (tree_of index.now) place)) }
+            ≡ add stand (parts self.old) (fetch (tree_of inside.now.first) (tree_of inside.now.second) place)) }
         ensures number { IfOk result (λ i. i + 1 ≡ length self.new.rows.items) }
     {
         let first = self.rows.len();
-        let target = self.add_expr(stand, target)?;
-        let index = self.add_expr(stand, index)?;
+        let target = self.add_expr(stand, &inside.first)?;
+        let index = self.add_expr(stand, &inside.second)?;
         self.push(stand, place, first, Node::Fetch { target, index })
     }
 
@@ -435,41 +398,34 @@ impl<'a> Maker<'a> {
     fn add_conditional(
         &mut self,
         stand: Stand,
-        test: &'a Expr,
-        then: &'a Expr,
-        otherwise: &'a Expr,
-        place: usize,
+        inside: &'a Triple,
+        place: u32,
     ) -> Result<usize, AllocError>
         ensures added { OnOk result (parts self.new ≡ add stand (parts self.old)
-            (conditional (tree_of test.now) (tree_of then.now) (tree_of otherwise.now) place)) }
+            (conditional (tree_of inside.now.first) (tree_of inside.now.second) (tree_of inside.now.third) place)) }
         ensures number { IfOk result (λ i. i + 1 ≡ length self.new.rows.items) }
     {
         let first = self.rows.len();
-        let test = self.add_expr(stand, test)?;
+        let test = self.add_expr(stand, &inside.first)?;
         let split = self.push(stand, place, first, Node::Split { test })?;
         let where_true = in_arm(stand, split, true)?;
-        let then = self.add_expr(where_true, then)?;
+        let then = self.add_expr(where_true, &inside.second)?;
         let where_false = in_arm(stand, split, false)?;
-        let otherwise = self.add_expr(where_false, otherwise)?;
-        let node = choice(split, then, otherwise)?;
+        let otherwise = self.add_expr(where_false, &inside.third)?;
+        let node = if_node(split, then, otherwise)?;
         self.push(stand, place, first, node)
     }
 
     #[cycle(add)]
-    fn add_call(
-        &mut self,
-        stand: Stand,
-        name: &'a Identifier,
-        args: &'a [Expr],
-        place: usize,
-    ) -> Result<usize, AllocError>
+    fn add_call(&mut self, stand: Stand, inside: &'a Call, place: u32) -> Result<usize, AllocError>
         ensures added { OnOk result (parts self.new
-            ≡ add stand (parts self.old) (call name.now (exprs_tree args.now) place)) }
+            ≡ add stand (parts self.old) (call inside.now.name (exprs_tree inside.now.args.items) place)) }
         ensures number { IfOk result (λ i. i + 1 ≡ length self.new.rows.items) }
     {
         let enter = self.rows.len();
-        let name = self.number(name)?;
+        let name = self.number(&inside.name)?;
         self.push(stand, place, enter, Node::Enter { name })?;
+        let args = inside.args.as_slice();
         self.add_arguments(stand, place, enter, args)?;
         let count = args.len();
         self.push(stand, place, enter, Node::Call { enter, count })
@@ -480,7 +436,7 @@ impl<'a> Maker<'a> {
     fn add_arguments(
         &mut self,
         stand: Stand,
-        place: usize,
+        place: u32,
         enter: usize,
         args: &'a [Expr],
     ) -> Result<(), AllocError>
@@ -500,7 +456,7 @@ impl<'a> Maker<'a> {
     fn add_argument(
         &mut self,
         stand: Stand,
-        place: usize,
+        place: u32,
         enter: usize,
         index: usize,
         argument: &'a Expr,
@@ -509,7 +465,7 @@ impl<'a> Maker<'a> {
             ≡ add_argument stand place enter index (parts self.old) (tree_of argument.now)) }
     {
         let value = self.add_expr(stand, argument)?;
-        let node = passed(enter, index, value)?;
+        let node = arg_node(enter, index, value)?;
         self.push(stand, place, enter, node)?;
         Ok(())
     }
@@ -518,17 +474,16 @@ impl<'a> Maker<'a> {
     fn add_block(
         &mut self,
         stand: Stand,
-        statements: &'a [Stmt],
-        body: &'a Expr,
-        place: usize,
+        inside: &'a Block,
+        place: u32,
     ) -> Result<usize, AllocError>
-        ensures added { OnOk result (parts self.new
-            ≡ add stand (parts self.old) (block (stmts_tree statements.now) (tree_of body.now) place)) }
+        ensures added { OnOk result (parts self.new ≡ add stand (parts self.old)
+            (block (stmts_tree inside.now.statements.items) (tree_of inside.now.body) place)) }
         ensures number { IfOk result (λ i. i + 1 ≡ length self.new.rows.items) }
     {
         let first = self.rows.len();
-        self.add_statements(stand, statements)?;
-        let body = self.add_expr(stand, body)?;
+        self.add_statements(stand, inside.statements.as_slice())?;
+        let body = self.add_expr(stand, &inside.body)?;
         self.push(stand, place, first, Node::Block { body })
     }
 
@@ -538,39 +493,29 @@ impl<'a> Maker<'a> {
     {
         for statement in statements {
             match statement {
-                Stmt::Binding { name, value, place } => self.add_binding(
-                    stand, name, value, *place,
-                )?,
-                Stmt::Next { name, value, place } => self.add_binding(stand, name, value, *place)?,
-                Stmt::Store {
-                    target,
-                    index,
-                    value,
-                    place,
-                } => self.add_store(stand, target, index, value, *place)?,
+                Stmt::Binding { place, name, value } => {
+                    self.add_binding(stand, name, value, *place)?
+                }
+                Stmt::Next { place, name, value } => self.add_binding(stand, name, value, *place)?,
+                Stmt::Store { place, inside } => self.add_store(stand, inside, *place)?,
             }
         }
         Ok(())
     }
 
     #[cycle(add)]
-    fn add_loop(
-        &mut self,
-        stand: Stand,
-        statements: &'a [Stmt],
-        test: &'a Expr,
-        last: &'a Expr,
-        place: usize,
-    ) -> Result<usize, AllocError>
+    fn add_loop(&mut self, stand: Stand, round: &'a Loop, place: u32) -> Result<usize, AllocError>
         ensures added { OnOk result (parts self.new ≡ add stand (parts self.old)
-            (loop_tree (tree_of test.now) (stmts_tree statements.now) (tree_of last.now) place)) }
+            (loop_tree (tree_of round.now.test) (stmts_tree round.now.statements.items)
+            (tree_of round.now.last) place)) }
         ensures number { IfOk result (λ i. i + 1 ≡ length self.new.rows.items) }
     {
         let start = self.rows.len();
+        let statements = round.statements.as_slice();
         let head = self.begin_loop(stand, statements, place)?;
         let inside = stand_in(head)?;
         let entered = self.rows.len();
-        let test = self.add_expr(inside, test)?;
+        let test = self.add_expr(inside, &round.test)?;
         let switches = self.push(inside, place, entered, Node::Switches { test })?;
         let body = in_arm(inside, switches, true)?;
         let turned = self.rows.len();
@@ -580,9 +525,9 @@ impl<'a> Maker<'a> {
         self.push(body, place, begun, Node::Body)?;
         let behind = in_arm(inside, switches, false)?;
         let closed = self.rows.len();
-        let last = self.add_expr(behind, last)?;
+        let last = self.add_expr(behind, &round.last)?;
         self.push(behind, place, closed, Node::Reset { value: last })?;
-        let node = round(head, switches, last)?;
+        let node = loop_node(head, switches, last)?;
         self.push(stand, place, start, node)
     }
 
@@ -591,7 +536,7 @@ impl<'a> Maker<'a> {
         &mut self,
         stand: Stand,
         statements: &'a [Stmt],
-        place: usize,
+        place: u32,
     ) -> Result<usize, AllocError>
         ensures added { OnOk result (parts self.new
             ≡ begin_loop stand (parts self.old) (stmts_tree statements.now) place) }
@@ -622,7 +567,7 @@ impl<'a> Maker<'a> {
         Ok(())
     }
 
-    fn add_variable(&mut self, stand: Stand, place: usize) -> Result<(), AllocError>
+    fn add_variable(&mut self, stand: Stand, place: u32) -> Result<(), AllocError>
         ensures { OnOk result (parts self.new
             ≡ with_row (parts self.old) stand place (size (parts self.old)) Variable) }
     {
@@ -639,19 +584,14 @@ impl<'a> Maker<'a> {
         let mut index = 0;
         for statement in statements {
             match statement {
-                Stmt::Binding { name, value, place } => self.add_binding(
-                    stand, name, value, *place,
-                )?,
-                Stmt::Next { name, value, place } => {
+                Stmt::Binding { place, name, value } => {
+                    self.add_binding(stand, name, value, *place)?
+                }
+                Stmt::Next { place, name, value } => {
                     self.add_next(stand, index, name, value, *place)?;
                     index += 1;
                 }
-                Stmt::Store {
-                    target,
-                    index,
-                    value,
-                    place,
-                } => self.add_store(stand, target, index, value, *place)?,
+                Stmt::Store { place, inside } => self.add_store(stand, inside, *place)?,
             }
         }
         Ok(())
@@ -665,7 +605,7 @@ impl<'a> Maker<'a> {
         index: usize,
         name: &'a Identifier,
         expr: &'a Expr,
-        place: usize,
+        place: u32,
     ) -> Result<(), AllocError>
         ensures { OnOk result (parts self.new
             ≡ add_next stand index (parts self.old) name.now (tree_of expr.now) place) }
@@ -674,7 +614,7 @@ impl<'a> Maker<'a> {
         let number = self.number(name)?;
         self.push(stand, place, outer, Node::NextUse { name: number })?;
         let value = self.add_expr(stand, expr)?;
-        let node = handed(number, index, outer, value)?;
+        let node = next_node(number, index, outer, value)?;
         self.push(stand, place, outer, node)?;
         Ok(())
     }
@@ -685,7 +625,7 @@ impl<'a> Maker<'a> {
         stand: Stand,
         name: &'a Identifier,
         value: &'a Expr,
-        place: usize,
+        place: u32,
     ) -> Result<(), AllocError>
         ensures { OnOk result (parts self.new
             ≡ add stand (parts self.old) (binding name.now (tree_of value.now) place)) }
@@ -698,22 +638,15 @@ impl<'a> Maker<'a> {
     }
 
     #[cycle(add)]
-    fn add_store(
-        &mut self,
-        stand: Stand,
-        target: &'a Expr,
-        index: &'a Expr,
-        expr: &'a Expr,
-        place: usize,
-    ) -> Result<(), AllocError>
+    fn add_store(&mut self, stand: Stand, inside: &'a Triple, place: u32) -> Result<(), AllocError>
         ensures { OnOk result (parts self.new ≡ add stand (parts self.old)
-            (store (tree_of target.now) (tree_of index.now) (tree_of expr.now) place)) }
+            (store (tree_of inside.now.first) (tree_of inside.now.second) (tree_of inside.now.third) place)) }
     {
         let first = self.rows.len();
-        let target = self.add_expr(stand, target)?;
-        let index = self.add_expr(stand, index)?;
+        let target = self.add_expr(stand, &inside.first)?;
+        let index = self.add_expr(stand, &inside.second)?;
         let address = self.push(stand, place, first, Node::Address { target, index })?;
-        let value = self.add_expr(stand, expr)?;
+        let value = self.add_expr(stand, &inside.third)?;
         self.push(stand, place, first, Node::Store { address, value })?;
         Ok(())
     }

@@ -38,16 +38,16 @@ pub data Tree : Type 0 where
 abbrev mutual
   -- the expression's tree
   pub tree_of : Expr → Tree
-  tree_of (Literal value place) = literal value place
-  tree_of (Unary' op p operand place) = unary op (tree_of operand) place
-  tree_of (Binary' op p left q right place) = binary op (tree_of left) (tree_of right) place
-  tree_of (Name x place) = name x place
-  tree_of (If' p test q then r otherwise place) = conditional (tree_of test) (tree_of then) (tree_of otherwise) place
-  tree_of (Call' x n args place) = call x (args_tree args) place
-  tree_of (Block' n statements p body place) = block (row_tree statements) (tree_of body) place
-  tree_of (Loop' p test n statements q last place) = loop (tree_of test) (row_tree statements) (tree_of last) place
-  tree_of (Array' p low q high place) = array (tree_of low) (tree_of high) place
-  tree_of (Fetch' p target q index place) = fetch (tree_of target) (tree_of index) place
+  tree_of (Literal place value) = literal value place
+  tree_of (Unary' op place p operand) = unary op (tree_of operand) place
+  tree_of (Binary' op place p a b) = binary op (tree_of a) (tree_of b) place
+  tree_of (Name place x) = name x place
+  tree_of (If' place p a b c) = conditional (tree_of a) (tree_of b) (tree_of c) place
+  tree_of (Call' place p x n args) = call x (args_tree args) place
+  tree_of (Block' place p n statements body) = block (row_tree statements) (tree_of body) place
+  tree_of (Loop' place p test n statements last) = loop (tree_of test) (row_tree statements) (tree_of last) place
+  tree_of (Array' place p a b) = array (tree_of a) (tree_of b) place
+  tree_of (Fetch' place p a b) = fetch (tree_of a) (tree_of b) place
 
   -- the trees of the arguments, in order
   pub args_tree : {n : _} → Row_of-Expr n → Tree
@@ -56,9 +56,9 @@ abbrev mutual
 
   -- the statement's tree
   pub stmt_tree : Stmt → Tree
-  stmt_tree (Binding x value place) = binding x (tree_of value) place
-  stmt_tree (Next x value place) = next x (tree_of value) place
-  stmt_tree (Store' p target q index r value place) = store (tree_of target) (tree_of index) (tree_of value) place
+  stmt_tree (Binding place x value) = binding x (tree_of value) place
+  stmt_tree (Next place x value) = next x (tree_of value) place
+  stmt_tree (Store' place p a b c) = store (tree_of a) (tree_of b) (tree_of c) place
 
   -- the trees of the statements, in order
   pub row_tree : {n : _} → Row_of-Stmt n → Tree

@@ -8,6 +8,7 @@
 //! Not here: tokens (`id_text`), operators (`id_value`), names and kinds (`id_check`).
 #![tactic(auto)]
 
+mod operators;
 mod parser;
 mod part;
 mod program;
@@ -16,4 +17,6 @@ mod tree;
 
 pub use id_value::{BinaryOp, Constant, Kind, UnaryOp};
 pub use program::parse;
-pub use tree::{Def, Expr, MAX_NESTING, Param, Program, Stmt, TreeError};
+pub use tree::{
+    Block, Call, Def, Expr, Loop, MAX_NESTING, Pair, Param, Program, Stmt, TreeError, Triple,
+};

@@ -41,16 +41,10 @@ ghost use Rattle.id_tree.specs.Readers.{
   Misapplies,
   Hands,
   passed,
-  may_deny,
-  open_behind,
-  rank,
-  operator_within,
-  kept_within,
-  operator_in,
   Rises,
-  IsBracket,
 };
 
+use crate::operators::{begins_with_bracket, denies, open_behind, operator_within};
 use crate::part::{
     Part, array, binary, binding, block, call, conditional, fetch, fitted, name, next, number,
     store, truth, unary, whole_loop,
@@ -61,7 +55,7 @@ use crate::tokens::{
 };
 use crate::tree::{Expr, MAX_NESTING, Stmt, TreeError};
 use id_text::{Identifier, Keyword, Symbol, Token, TokenKind};
-use id_value::{Arithmetic, BinaryOp, Comparison, Logic, UnaryOp};
+use id_value::{BinaryOp, UnaryOp};
 use std::alloc::Global;
 
 /// The levels of operators, the loosest first. They group to the left, and of comparisons there is one.
@@ -122,7 +116,7 @@ fn parse_conditional(
     let (test, behind_then) = parse_enclosed(alloc, begun, Word::Key(Keyword::Then), inner)?;
     let (then, behind_else) = parse_enclosed(alloc, behind_then, Word::Key(Keyword::Else), inner)?;
     let (otherwise, rest) = parse_expression(alloc, behind_else, inner)?;
-    let whole = conditional(alloc, test, then, otherwise, first.start as usize)?;
+    let whole = conditional(alloc, test, then, otherwise, first.start)?;
     Ok((whole, rest))
 }
 
@@ -203,7 +197,7 @@ fn parse_right(
 {
     let (first, behind) = enter(tokens, depth + left.height + 1)?;
     let (right, rest) = parse_operand(alloc, behind, level, depth + 1)?;
-    let whole = binary(alloc, op, left, right, first.start as usize)?;
+    let whole = binary(alloc, op, left, right, first.start)?;
     Ok((whole, rest))
 }
 
@@ -273,7 +267,7 @@ fn parse_prefixed(
     let inner = depth + 1;
     let (first, behind) = enter(tokens, inner + 1)?;
     let (operand, rest) = parse_operand(alloc, behind, level, inner)?;
-    let whole = unary(alloc, op, operand, first.start as usize)?;
+    let whole = unary(alloc, op, operand, first.start)?;
     Ok((whole, rest))
 }
 
@@ -294,12 +288,12 @@ fn parse_unary(alloc: Global, tokens: &[Token], depth: usize) -> Result<(Part, &
     match &first.kind {
         TokenKind::Number(value) => {
             if !begins_with_sign(rest, Symbol::LeftBracket) {
-                return Ok((number(value, first.start as usize), rest));
+                return Ok((number(value, first.start), rest));
             }
         }
         TokenKind::Name(x) => {
             if !begins_with_bracket(rest) {
-                let whole = name(x.copy(alloc)?, first.start as usize);
+                let whole = name(x.copy(alloc)?, first.start);
                 return Ok((whole, rest));
             }
         }
@@ -375,7 +369,7 @@ fn parse_fetch(
     let (first, begun) = enter(tokens, depth + target.height + 1)?;
     let bracket = Word::Sign(Symbol::RightBracket);
     let (index, rest) = parse_enclosed(alloc, begun, bracket, depth + 1)?;
-    let whole = fetch(alloc, target, index, first.start as usize)?;
+    let whole = fetch(alloc, target, index, first.start)?;
     Ok((whole, rest))
 }
 
@@ -416,7 +410,7 @@ fn parse_array(alloc: Global, tokens: &[Token], depth: usize) -> Result<(Part, &
     let opened = expect_word(behind, Word::Sign(Symbol::LeftParen))?;
     let (low, begun) = parse_enclosed(alloc, opened, Word::Sign(Symbol::Comma), inner)?;
     let (high, rest) = parse_enclosed(alloc, begun, Word::Sign(Symbol::RightParen), inner)?;
-    let whole = array(alloc, low, high, first.start as usize)?;
+    let whole = array(alloc, low, high, first.start)?;
     Ok((whole, rest))
 }
 
@@ -502,7 +496,7 @@ fn parse_block(alloc: Global, tokens: &[Token], depth: usize) -> Result<(Part, &
     let (statements, height, last) = parse_statements(alloc, opened, Scope::Block, inner)?;
     let (_, begun) = split(last);
     let (body, rest) = parse_enclosed(alloc, begun, Word::Sign(Symbol::RightBrace), inner)?;
-    let whole = block(alloc, statements, height, body, first.start as usize)?;
+    let whole = block(alloc, statements, height, body, first.start)?;
     Ok((whole, rest))
 }
 
@@ -525,7 +519,7 @@ fn parse_loop(alloc: Global, tokens: &[Token], depth: usize) -> Result<(Part, &[
     let (statements, height, ending) = parse_statements(alloc, begun, Scope::Loop, inner)?;
     let (_, left) = split(ending);
     let (last, rest) = parse_enclosed(alloc, left, Word::Sign(Symbol::RightBrace), inner)?;
-    let whole = whole_loop(alloc, test, statements, height, last, first.start as usize)?;
+    let whole = whole_loop(alloc, test, statements, height, last, first.start)?;
     Ok((whole, rest))
 }
 
@@ -591,7 +585,7 @@ fn parse_statement(
 fn parse_store(
     alloc: Global,
     x: Identifier,
-    place: usize,
+    place: u32,
     tokens: &[Token],
     scope: Scope,
     depth: usize,
@@ -611,7 +605,7 @@ fn parse_store(
     let (value, rest) = parse_enclosed(alloc, begun, Word::Sign(Symbol::Semicolon), depth)?;
     let height = index.height.max(value.height);
     let target = name(x, place);
-    let statement = store(alloc, target, index, value, first.start as usize)?;
+    let statement = store(alloc, target, index, value, first.start)?;
     Ok((statement, height, rest))
 }
 
@@ -634,7 +628,7 @@ fn parse_next(
     let begun = expect_word(named, Word::Sign(Symbol::Becomes))?;
     let (value, behind) = parse_enclosed(alloc, begun, Word::Sign(Symbol::Semicolon), depth)?;
     let height = value.height;
-    let statement = next(name, value, first.start as usize);
+    let statement = next(name, value, first.start);
     Ok((statement, height, behind))
 }
 
@@ -654,13 +648,13 @@ fn parse_leaf(alloc: Global, tokens: &[Token], depth: usize) -> Result<(Part, &[
     let (first, rest) = split(tokens);
     match &first.kind {
         TokenKind::Number(value) => {
-            let whole = number(value, first.start as usize);
+            let whole = number(value, first.start);
             Ok((whole, rest))
         }
-        TokenKind::Name(x) => parse_named(alloc, x.copy(alloc)?, first.start as usize, rest, depth),
+        TokenKind::Name(x) => parse_named(alloc, x.copy(alloc)?, first.start, rest, depth),
         TokenKind::Key(_) => match truth_of(first) {
             Some(value) => {
-                let whole = truth(value, first.start as usize);
+                let whole = truth(value, first.start);
                 Ok((whole, rest))
             }
             None => Err(unexpected(tokens)),
@@ -675,7 +669,7 @@ fn parse_leaf(alloc: Global, tokens: &[Token], depth: usize) -> Result<(Part, &[
 fn parse_named(
     alloc: Global,
     x: Identifier,
-    place: usize,
+    place: u32,
     tokens: &[Token],
     depth: usize,
 ) -> Result<(Part, &[Token]), TreeError>
@@ -690,7 +684,7 @@ fn parse_named(
     if begins_with_sign(tokens, Symbol::LeftParen) {
         let (_, opened) = split(tokens);
         let (args, height, rest) = parse_arguments(alloc, opened, depth + 1)?;
-        let whole = call(x, args, height, place);
+        let whole = call(alloc, x, args, height, place)?;
         Ok((whole, rest))
     } else {
         let whole = name(x, place);
@@ -777,112 +771,5 @@ fn begins_next(tokens: &[Token], scope: Scope) -> bool
     match scope {
         Scope::Block => false,
         Scope::Loop => begins_with(tokens, Keyword::Next),
-    }
-}
-
-/// Whether the tokens begin with `not`, where an operand of this level may.
-fn denies(tokens: &[Token], level: Level) -> bool
-    requires { EndsOnce tokens.now }
-    ensures { IsTrue result ↔ (may_deny level × (first_kind tokens.now ≡ TokenKind.Key Keyword.Not)) }
-{
-    match level {
-        Level::Or | Level::And => begins_with(tokens, Keyword::Not),
-        Level::Comparison | Level::Sum | Level::Product => false,
-    }
-}
-
-/// The innermost level that is open behind an operator of this one and its operands: of comparisons there is one.
-fn open_behind(level: Level) -> Level
-    ensures { result ≡ open_behind level }
-{
-    match level {
-        Level::Or => Level::Or,
-        Level::And | Level::Comparison => Level::And,
-        Level::Sum => Level::Sum,
-        Level::Product => Level::Product,
-    }
-}
-
-/// Whether the tokens begin with a bracket, behind which the arguments of a call or the index of a fetch stand.
-fn begins_with_bracket(tokens: &[Token]) -> bool
-    requires { EndsOnce tokens.now }
-    ensures { IsTrue result ↔ IsBracket (first_kind tokens.now) }
-{
-    begins_with_sign(tokens, Symbol::LeftParen) || begins_with_sign(tokens, Symbol::LeftBracket)
-}
-
-/// How tight a level is.
-fn rank(level: Level) -> usize
-    ensures { result ≡ rank level }
-{
-    match level {
-        Level::Or => 0,
-        Level::And => 1,
-        Level::Comparison => 2,
-        Level::Sum => 3,
-        Level::Product => 4,
-    }
-}
-
-/// The operator that the tokens begin with, and its level, where that is not tighter than the inner
-/// level and not looser than the outer one.
-fn operator_within(tokens: &[Token], inner: Level, outer: Level) -> Option<(Level, BinaryOp)>
-    requires { EndsOnce tokens.now }
-    ensures { result ≡ operator_within inner outer (first_kind tokens.now) }
-{
-    kept_within(operator_in(&tokens[0]), inner, outer)
-}
-
-/// The operator with its level, if there is one, where that is not tighter than the inner level and
-/// not looser than the outer one.
-#[inline(always)]
-fn kept_within(
-    found: Option<(Level, BinaryOp)>,
-    inner: Level,
-    outer: Level,
-) -> Option<(Level, BinaryOp)>
-    ensures { result ≡ kept_within inner outer found }
-{
-    let (at, op) = found?;
-    if rank(at) <= rank(inner) && rank(outer) <= rank(at) {
-        Some((at, op))
-    } else {
-        None
-    }
-}
-
-/// The operator that the token is, and its level.
-fn operator_in(token: &Token) -> Option<(Level, BinaryOp)>
-    ensures { result ≡ operator_in token.now.kind }
-{
-    match &token.kind {
-        TokenKind::Key(Keyword::Or) => Some((Level::Or, BinaryOp::Logic(Logic::Or))),
-        TokenKind::Key(Keyword::And) => Some((Level::And, BinaryOp::Logic(Logic::And))),
-        TokenKind::Key(Keyword::Div) => {
-            Some((Level::Product, BinaryOp::Arithmetic(Arithmetic::Div)))
-        }
-        TokenKind::Key(Keyword::Rem) => {
-            Some((Level::Product, BinaryOp::Arithmetic(Arithmetic::Rem)))
-        }
-        TokenKind::Sign(sign) => operator_of_sign(*sign),
-        _ => None,
-    }
-}
-
-/// The operator that the sign is, and its level.
-fn operator_of_sign(sign: Symbol) -> Option<(Level, BinaryOp)>
-    ensures { result ≡ operator_in (TokenKind.Sign sign) }
-{
-    match sign {
-        Symbol::Star => Some((Level::Product, BinaryOp::Arithmetic(Arithmetic::Mul))),
-        Symbol::Plus => Some((Level::Sum, BinaryOp::Arithmetic(Arithmetic::Add))),
-        Symbol::Minus => Some((Level::Sum, BinaryOp::Arithmetic(Arithmetic::Sub))),
-        Symbol::Equal => Some((Level::Comparison, BinaryOp::Comparison(Comparison::Eq))),
-        Symbol::NotEqual => Some((Level::Comparison, BinaryOp::Comparison(Comparison::Ne))),
-        Symbol::Less => Some((Level::Comparison, BinaryOp::Comparison(Comparison::Lt))),
-        Symbol::LessEqual => Some((Level::Comparison, BinaryOp::Comparison(Comparison::Le))),
-        Symbol::Greater => Some((Level::Comparison, BinaryOp::Comparison(Comparison::Gt))),
-        Symbol::GreaterEqual => Some((Level::Comparison, BinaryOp::Comparison(Comparison::Ge))),
-        _ => None,
     }
 }

@@ -7,7 +7,7 @@ ghost use Rattle.id_tree.specs.Tree.{tree_of, stmt_tree, none};
 ghost use Rattle.id_tree.specs.Tree as tree;
 ghost use Rattle.id_tree.specs.Readers.{onto, passed};
 
-use crate::tree::{Expr, Stmt, TreeError};
+use crate::tree::{Block, Call, Expr, Loop, Pair, Stmt, TreeError, Triple};
 use id_text::Identifier;
 use id_value::{BinaryOp, Constant, UnaryOp};
 use std::alloc::Global;
@@ -33,68 +33,100 @@ impl Part {
         let Part { expr, height: _ } = self;
         expr
     }
-
-    /// The expression alone, in a box of its own. `Memory` where that was refused.
-    fn into_box(self, alloc: Global) -> Result<Box<Expr>, TreeError>
-        ensures ok { IfOk result (λ b. b.value ≡ self.expr) }
-        ensures err { IfErr result (λ e. e ≡ Memory) }
-    {
-        let expr = Box::new(alloc, self.into_expr())?;
-        Ok(expr)
-    }
 }
 
 /// The number as an expression.
-pub fn number(value: &i64, place: usize) -> Part
+pub fn number(value: &i64, place: u32) -> Part
     ensures height { result.height ≡ 1 }
     ensures tree { tree_of result.expr ≡ tree.literal (constant.Int value.now) place }
 {
     let value = Constant::Int(*value);
-    let expr = Expr::Literal { value, place };
+    let expr = Expr::Literal { place, value };
     Part { expr, height: 1 }
 }
 
 /// The truth value as an expression.
-pub fn truth(value: bool, place: usize) -> Part
+pub fn truth(value: bool, place: u32) -> Part
     ensures height { result.height ≡ 1 }
     ensures tree { tree_of result.expr ≡ tree.literal (constant.Bool value) place }
 {
     let value = Constant::Bool(value);
-    let expr = Expr::Literal { value, place };
+    let expr = Expr::Literal { place, value };
     Part { expr, height: 1 }
 }
 
 /// The name as an expression.
-pub fn name(name: Identifier, place: usize) -> Part
+pub fn name(name: Identifier, place: u32) -> Part
     ensures height { result.height ≡ 1 }
     ensures tree { tree_of result.expr ≡ tree.name name place }
 {
-    let expr = Expr::Name { name, place };
+    let expr = Expr::Name { place, name };
     Part { expr, height: 1 }
 }
 
 /// The procedure's name with the arguments, which have at most this height.
-pub fn call(name: Identifier, args: Vec<Expr>, height: usize, place: usize) -> Part
+pub fn call(
+    alloc: Global,
+    name: Identifier,
+    args: Vec<Expr>,
+    height: usize,
+    place: u32,
+) -> Result<Part, TreeError>
     requires { height < 2 ^ 63 }
-    ensures height { result.height ≡ height + 1 }
-    ensures tree { tree_of result.expr ≡ tree.call name (passed args.items none) place }
+    ensures height { IfOk result (λ p. p.height ≡ height + 1) }
+    ensures tree { IfOk result (λ p. tree_of p.expr ≡ tree.call name (passed args.items none) place) }
+    ensures err { IfErr result (λ e. e ≡ Memory) }
 {
     let height = height + 1;
-    let expr = Expr::Call { name, args, place };
-    Part { expr, height }
+    let inside = Box::new(alloc, Call { name, args })?;
+    let expr = Expr::Call { place, inside };
+    Ok(Part { expr, height })
 }
 
 /// The operand behind an operator.
-pub fn unary(alloc: Global, op: UnaryOp, operand: Part, place: usize) -> Result<Part, TreeError>
+pub fn unary(alloc: Global, op: UnaryOp, operand: Part, place: u32) -> Result<Part, TreeError>
     requires { operand.height < 2 ^ 63 }
     ensures height { IfOk result (λ p. p.height ≡ operand.height + 1) }
     ensures tree { IfOk result (λ p. tree_of p.expr ≡ tree.unary op (tree_of operand.expr) place) }
     ensures err { IfErr result (λ e. e ≡ Memory) }
 {
     let height = operand.height + 1;
-    let operand = operand.into_box(alloc)?;
-    let expr = Expr::Unary { op, operand, place };
+    let operand = Box::new(alloc, operand.into_expr())?;
+    let expr = Expr::Unary { op, place, operand };
     Ok(Part { expr, height })
+}
+
+/// Two parts in a box.
+fn pair(alloc: Global, first: Part, second: Part) -> Result<Box<Pair>, TreeError>
+    ensures first { IfOk result (λ b. b.value.first ≡ first.expr) }
+    ensures second { IfOk result (λ b. b.value.second ≡ second.expr) }
+    ensures err { IfErr result (λ e. e ≡ Memory) }
+{
+    let first = first.into_expr();
+    let second = second.into_expr();
+    let both = Box::new(alloc, Pair { first, second })?;
+    Ok(both)
+}
+
+/// Three parts in a box.
+fn triple(alloc: Global, first: Part, second: Part, third: Part) -> Result<Box<Triple>, TreeError>
+    ensures first { IfOk result (λ b. b.value.first ≡ first.expr) }
+    ensures second { IfOk result (λ b. b.value.second ≡ second.expr) }
+    ensures third { IfOk result (λ b. b.value.third ≡ third.expr) }
+    ensures err { IfErr result (λ e. e ≡ Memory) }
+{
+    let first = first.into_expr();
+    let second = second.into_expr();
+    let third = third.into_expr();
+    let all = Box::new(
+        alloc,
+        Triple {
+            first,
+            second,
+            third,
+        },
+    )?;
+    Ok(all)
 }
 
 /// The operands on both sides of an operator.
@@ -103,7 +135,7 @@ pub fn binary(
     op: BinaryOp,
     left: Part,
     right: Part,
-    place: usize,
+    place: u32,
 ) -> Result<Part, TreeError>
     requires low { left.height < 2 ^ 63 }
     requires high { right.height < 2 ^ 63 }
@@ -113,14 +145,8 @@ pub fn binary(
     ensures err { IfErr result (λ e. e ≡ Memory) }
 {
     let height = left.height.max(right.height) + 1;
-    let left = left.into_box(alloc)?;
-    let right = right.into_box(alloc)?;
-    let expr = Expr::Binary {
-        op,
-        left,
-        right,
-        place,
-    };
+    let inside = pair(alloc, left, right)?;
+    let expr = Expr::Binary { op, place, inside };
     Ok(Part { expr, height })
 }
 
@@ -130,7 +156,7 @@ pub fn conditional(
     test: Part,
     then: Part,
     otherwise: Part,
-    place: usize,
+    place: u32,
 ) -> Result<Part, TreeError>
     requires low { test.height < 2 ^ 63 }
     requires middle { then.height < 2 ^ 63 }
@@ -142,20 +168,13 @@ pub fn conditional(
     ensures err { IfErr result (λ e. e ≡ Memory) }
 {
     let height = test.height.max(then.height).max(otherwise.height) + 1;
-    let test = test.into_box(alloc)?;
-    let then = then.into_box(alloc)?;
-    let otherwise = otherwise.into_box(alloc)?;
-    let expr = Expr::If {
-        test,
-        then,
-        otherwise,
-        place,
-    };
+    let inside = triple(alloc, test, then, otherwise)?;
+    let expr = Expr::If { place, inside };
     Ok(Part { expr, height })
 }
 
 /// The bounds of a new structure.
-pub fn array(alloc: Global, low: Part, high: Part, place: usize) -> Result<Part, TreeError>
+pub fn array(alloc: Global, low: Part, high: Part, place: u32) -> Result<Part, TreeError>
     requires low { low.height < 2 ^ 63 }
     requires high { high.height < 2 ^ 63 }
     ensures height { IfOk result (λ p. p.height ≡ max low.height high.height + 1) }
@@ -164,14 +183,13 @@ pub fn array(alloc: Global, low: Part, high: Part, place: usize) -> Result<Part,
     ensures err { IfErr result (λ e. e ≡ Memory) }
 {
     let height = low.height.max(high.height) + 1;
-    let low = low.into_box(alloc)?;
-    let high = high.into_box(alloc)?;
-    let expr = Expr::Array { low, high, place };
+    let inside = pair(alloc, low, high)?;
+    let expr = Expr::Array { place, inside };
     Ok(Part { expr, height })
 }
 
 /// The structure and the index of an element.
-pub fn fetch(alloc: Global, target: Part, index: Part, place: usize) -> Result<Part, TreeError>
+pub fn fetch(alloc: Global, target: Part, index: Part, place: u32) -> Result<Part, TreeError>
     requires low { target.height < 2 ^ 63 }
     requires high { index.height < 2 ^ 63 }
     ensures height { IfOk result (λ p. p.height ≡ max target.height index.height + 1) }
@@ -180,36 +198,25 @@ pub fn fetch(alloc: Global, target: Part, index: Part, place: usize) -> Result<P
     ensures err { IfErr result (λ e. e ≡ Memory) }
 {
     let height = target.height.max(index.height) + 1;
-    let target = target.into_box(alloc)?;
-    let index = index.into_box(alloc)?;
-    let expr = Expr::Fetch {
-        target,
-        index,
-        place,
-    };
+    let inside = pair(alloc, target, index)?;
+    let expr = Expr::Fetch { place, inside };
     Ok(Part { expr, height })
 }
 
 /// The name for the value of an expression.
-pub fn binding(name: Identifier, value: Part, place: usize) -> Stmt
+pub fn binding(name: Identifier, value: Part, place: u32) -> Stmt
     ensures { stmt_tree result ≡ tree.binding name (tree_of value.expr) place }
 {
-    Stmt::Binding {
-        name,
-        value: value.into_expr(),
-        place,
-    }
+    let value = value.into_expr();
+    Stmt::Binding { place, name, value }
 }
 
 /// The next value of a loop's variable.
-pub fn next(name: Identifier, value: Part, place: usize) -> Stmt
+pub fn next(name: Identifier, value: Part, place: u32) -> Stmt
     ensures { stmt_tree result ≡ tree.next name (tree_of value.expr) place }
 {
-    Stmt::Next {
-        name,
-        value: value.into_expr(),
-        place,
-    }
+    let value = value.into_expr();
+    Stmt::Next { place, name, value }
 }
 
 /// The value of a structure's element.
@@ -218,21 +225,14 @@ pub fn store(
     target: Part,
     index: Part,
     value: Part,
-    place: usize,
+    place: u32,
 ) -> Result<Stmt, TreeError>
     ensures ok { IfOk result (λ s. stmt_tree s
         ≡ tree.store (tree_of target.expr) (tree_of index.expr) (tree_of value.expr) place) }
     ensures err { IfErr result (λ e. e ≡ Memory) }
 {
-    let target = target.into_box(alloc)?;
-    let index = index.into_box(alloc)?;
-    let value = value.into_box(alloc)?;
-    Ok(Stmt::Store {
-        target,
-        index,
-        value,
-        place,
-    })
+    let inside = triple(alloc, target, index, value)?;
+    Ok(Stmt::Store { place, inside })
 }
 
 /// The statements, whose parts have at most this height, round the body.
@@ -241,7 +241,7 @@ pub fn block(
     statements: Vec<Stmt>,
     height: usize,
     body: Part,
-    place: usize,
+    place: u32,
 ) -> Result<Part, TreeError>
     requires low { height < 2 ^ 63 }
     requires high { body.height < 2 ^ 63 }
@@ -251,12 +251,9 @@ pub fn block(
     ensures err { IfErr result (λ e. e ≡ Memory) }
 {
     let height = height.max(body.height) + 1;
-    let body = body.into_box(alloc)?;
-    let expr = Expr::Block {
-        statements,
-        body,
-        place,
-    };
+    let body = body.into_expr();
+    let inside = Box::new(alloc, Block { statements, body })?;
+    let expr = Expr::Block { place, inside };
     Ok(Part { expr, height })
 }
 
@@ -267,7 +264,7 @@ pub fn whole_loop(
     statements: Vec<Stmt>,
     height: usize,
     last: Part,
-    place: usize,
+    place: u32,
 ) -> Result<Part, TreeError>
     requires low { test.height < 2 ^ 63 }
     requires middle { height < 2 ^ 63 }
@@ -279,14 +276,17 @@ pub fn whole_loop(
     ensures err { IfErr result (λ e. e ≡ Memory) }
 {
     let height = test.height.max(height).max(last.height) + 1;
-    let test = test.into_box(alloc)?;
-    let last = last.into_box(alloc)?;
-    let expr = Expr::Loop {
-        test,
-        statements,
-        last,
-        place,
-    };
+    let test = test.into_expr();
+    let last = last.into_expr();
+    let inside = Box::new(
+        alloc,
+        Loop {
+            test,
+            statements,
+            last,
+        },
+    )?;
+    let expr = Expr::Loop { place, inside };
     Ok(Part { expr, height })
 }
 

@@ -193,7 +193,7 @@ pub fn expect_word(tokens: &[Token], wanted: Word) -> Result<&[Token], TreeError
 pub fn expect_name(
     alloc: Global,
     tokens: &[Token],
-) -> Result<(Identifier, usize, &[Token]), TreeError>
+) -> Result<(Identifier, u32, &[Token]), TreeError>
     requires { EndsOnce tokens.now }
     ensures behind { IfOk result (λ x. IsBehind x.2.now tokens.now) }
     ensures ok { IfOk result (λ x. BeginsWithName tokens.now x.0 x.1 x.2.now) }
@@ -201,7 +201,7 @@ pub fn expect_name(
 {
     let (first, rest) = split(tokens);
     match &first.kind {
-        TokenKind::Name(name) => Ok((name.copy(alloc)?, first.start as usize, rest)),
+        TokenKind::Name(name) => Ok((name.copy(alloc)?, first.start, rest)),
         TokenKind::Number(_) => Err(unexpected(tokens)),
         TokenKind::Key(_) => Err(unexpected(tokens)),
         TokenKind::Sign(_) => Err(unexpected(tokens)),

@@ -7,71 +7,104 @@ use std::alloc::{AllocError, AllocFailed};
 /// The most nesting that a program may have.
 pub const MAX_NESTING: usize = 200;
 
-/// An expression. Parentheses leave no trace in it.
+/// An expression. Parentheses leave no trace in it. It takes 24 bytes: what stands inside one is in one box.
 #[derive(Drop)]
 #[cycle(tree)]
 pub enum Expr {
     /// A number, at its first digit, or a truth value, at its word.
     Literal {
+        place: u32,
         value: Constant,
-        place: usize,
     },
     /// An operator and its operand, at the operator.
     Unary {
         op: UnaryOp,
+        place: u32,
         operand: Box<Expr>,
-        place: usize,
     },
     /// An operator and its operands, at the operator.
     Binary {
         op: BinaryOp,
-        left: Box<Expr>,
-        right: Box<Expr>,
-        place: usize,
+        place: u32,
+        inside: Box<Pair>,
     },
     /// A name, at itself.
     Name {
+        place: u32,
         name: Identifier,
-        place: usize,
     },
-    /// A predicate, and an arm for each of its values, at the word `if`.
+    /// A predicate, the arm where it holds and the other one, at the word `if`.
     If {
-        test: Box<Expr>,
-        then: Box<Expr>,
-        otherwise: Box<Expr>,
-        place: usize,
+        place: u32,
+        inside: Box<Triple>,
     },
-    /// The name of a procedure, with the arguments in order, at the name.
+    /// A call, at the name.
     Call {
-        name: Identifier,
-        args: Vec<Expr>,
-        place: usize,
+        place: u32,
+        inside: Box<Call>,
     },
-    /// Statements in whatever order, and the body that gives the value, at the brace.
+    /// A block, at the brace.
     Block {
-        statements: Vec<Stmt>,
-        body: Box<Expr>,
-        place: usize,
+        place: u32,
+        inside: Box<Block>,
     },
-    /// A predicate, statements in whatever order, and the last expression, which gives the value, at the brace.
+    /// A loop, at the brace.
     Loop {
-        test: Box<Expr>,
-        statements: Vec<Stmt>,
-        last: Box<Expr>,
-        place: usize,
+        place: u32,
+        inside: Box<Loop>,
     },
-    /// A new structure between its bounds, at the word `array`.
+    /// A new structure between its lower and its upper bound, at the word `array`.
     Array {
-        low: Box<Expr>,
-        high: Box<Expr>,
-        place: usize,
+        place: u32,
+        inside: Box<Pair>,
     },
     /// The element of a structure at an index, at the `[`.
     Fetch {
-        target: Box<Expr>,
-        index: Box<Expr>,
-        place: usize,
+        place: u32,
+        inside: Box<Pair>,
     },
+}
+
+/// Two expressions, in order.
+#[derive(Drop)]
+#[cycle(tree)]
+pub struct Pair {
+    pub first: Expr,
+    pub second: Expr,
+}
+
+/// Three expressions, in order.
+#[derive(Drop)]
+#[cycle(tree)]
+pub struct Triple {
+    pub first: Expr,
+    pub second: Expr,
+    pub third: Expr,
+}
+
+/// The name of a procedure, with the arguments in order.
+#[derive(Drop)]
+#[cycle(tree)]
+pub struct Call {
+    pub name: Identifier,
+    pub args: Vec<Expr>,
+}
+
+/// Statements in whatever order, and the body that gives the value.
+#[derive(Drop)]
+#[cycle(tree)]
+pub struct Block {
+    pub statements: Vec<Stmt>,
+    pub body: Expr,
+}
+
+/// A predicate, statements in whatever order, and the last expression, which gives the value.
+#[derive(Drop)]
+#[cycle(tree)]
+pub struct Loop {
+    pub test: Expr,
+    pub statements: Vec<Stmt>,
+    pub last: Expr,
 }
 
 /// A statement of a block or of a loop.
@@ -80,22 +113,20 @@ pub enum Expr {
 pub enum Stmt {
     /// A name for the value of an expression, at the name.
     Binding {
+        place: u32,
         name: Identifier,
         value: Expr,
-        place: usize,
     },
     /// A loop's variable and the expression of its next value, at the word `next`.
     Next {
+        place: u32,
         name: Identifier,
         value: Expr,
-        place: usize,
     },
-    /// The value of a structure's element at an index, at the `[`. The target is a name.
+    /// A structure, which is a name, an index, and the value of the element there, at the `[`.
     Store {
-        target: Box<Expr>,
-        index: Box<Expr>,
-        value: Box<Expr>,
-        place: usize,
+        place: u32,
+        inside: Box<Triple>,
     },
 }
 
@@ -104,7 +135,7 @@ pub enum Stmt {
 pub struct Param {
     pub name: Identifier,
     pub kind: Kind,
-    pub place: usize,
+    pub place: u32,
 }
 
 /// A definition, at its name, with its parameters in order.
@@ -114,7 +145,7 @@ pub struct Def {
     pub params: Sequence<Param>,
     pub result: Kind,
     pub body: Expr,
-    pub place: usize,
+    pub place: u32,
 }
 
 /// The definitions of a text, in order.

@@ -662,10 +662,10 @@ parse_named-returns-in_err-args-clause-err t c =
     let p = err_from_is_err_and c.from_residual.result c.from_residual.ensures.1 in
     rw (p.1, p.2) (Misapplies-call c.split.ensures.whole is c.args.depth c.args.x c.args.place c.in_err-args.ensures.err)
 
-pub parse_named-returns-in_ok-args-clause-ok : goal.parse_named-returns-in_ok-args-clause-ok
-parse_named-returns-in_ok-args-clause-ok t c =
+pub parse_named-returns-in_ok-whole-clause-ok : goal.parse_named-returns-in_ok-whole-clause-ok
+parse_named-returns-in_ok-whole-clause-ok t c =
     let is : first_kind c.args.tokens.now ≡ Sign LeftParen = search rules in
-    Applies-call c.split.ensures.whole is c.args.depth c.args.x c.args.place c.in_ok-args.ensures.ok c.call-whole.ensures.tree c.call-whole.ensures.height
+    Applies-call c.split.ensures.whole is c.args.depth c.args.x c.args.place c.in_ok-args.ensures.ok c.in_ok-whole.ensures.tree c.in_ok-whole.ensures.height
 
 pub parse_arguments-returns-then-is_sign-clause-ok : goal.parse_arguments-returns-then-is_sign-clause-ok
 parse_arguments-returns-then-is_sign-clause-ok t c =

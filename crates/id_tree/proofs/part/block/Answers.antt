@@ -7,5 +7,6 @@ use Rattle.id_tree.proofs.part.block.Goals as goal
 
 pub returns-clause-tree : goal.returns-clause-tree
 returns-clause-tree c =
-    tree-block c.args.statements c.in_ok-body.body c.args.place
-    ∙ ap (λ e. block (onto c.args.statements.items none) (tree_of e) c.args.place) c.in_ok-body.ensures.ok
+    tree-block c.args.place c.in_ok-inside.inside
+    ∙ ap (λ b. block (onto b.statements.items none) (tree_of b.body) c.args.place) c.in_ok-inside.ensures.ok
+    ∙ ap (λ e. block (onto c.args.statements.items none) (tree_of e) c.args.place) c.into_expr-body.ensures

@@ -7,6 +7,7 @@ use Rattle.id_tree.proofs.part.whole_loop.Goals as goal
 
 pub returns-clause-tree : goal.returns-clause-tree
 returns-clause-tree c =
-    tree-loop c.in_ok-test.test c.args.statements c.in_ok-last.last c.args.place
-    ∙ ap (λ t. loop (tree_of t) (onto c.args.statements.items none) (tree_of c.in_ok-last.last.value) c.args.place) c.in_ok-test.ensures.ok
-    ∙ ap (λ e. loop (tree_of c.args.test.expr) (onto c.args.statements.items none) (tree_of e) c.args.place) c.in_ok-last.ensures.ok
+    tree-loop c.args.place c.in_ok-inside.inside
+    ∙ ap (λ b. loop (tree_of b.test) (onto b.statements.items none) (tree_of b.last) c.args.place) c.in_ok-inside.ensures.ok
+    ∙ ap (λ t. loop (tree_of t) (onto c.args.statements.items none) (tree_of c.into_expr-last.result) c.args.place) c.into_expr-test.ensures
+    ∙ ap (λ e. loop (tree_of c.args.test.expr) (onto c.args.statements.items none) (tree_of e) c.args.place) c.into_expr-last.ensures

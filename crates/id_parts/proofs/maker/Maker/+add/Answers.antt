@@ -1,9 +1,9 @@
-use Rattle.std.proofs.Common.{◌≡◌, ◌+◌, refl, sym, ap, ◌∙◌, drop, subst, arith}
+use Rattle.std.proofs.Common.{◌≡◌, ◌+◌, sym, ap, ◌∙◌, drop, length, subst, arith}
 use Rattle.std.proofs.lemmas.Result.{on_ok_weaker}
 use Rattle.id_tree.specs.Tree.{tree_of}
 use Rattle.id_parts.specs.declared.row.Node.TheVariants.{Next}
-use Rattle.id_parts.specs.Rows.{add_nexts, with_row}
-use Rattle.id_parts.specs.Making.{parts, stmts_tree}
+use Rattle.id_parts.specs.Rows.{add_arguments, add_nexts, begin_loop, with_row}
+use Rattle.id_parts.specs.Making.{exprs_tree, parts, stmts_tree}
 use Rattle.id_parts.proofs.MakingLemmas.{binding_parts, binding_step, body_parts, call_parts, loop_parts, store_step}
 use Rattle.id_parts.proofs.MakingLemmas.{named, next_parts, next_step, of_block, of_call, of_loop}
 use Rattle.id_parts.proofs.maker.Maker.+add.Goals.{add_nexts-in-Binding+in_ok-add_binding-in-Binding, add_nexts-in-Next+in_ok-add_next-in-Next}
@@ -14,25 +14,24 @@ pub add_expr-returns-in-Block-clause-added : goal.add_expr-returns-in-Block-clau
 add_expr-returns-in-Block-clause-added t c =
     let a = c.in-Block in
     on_ok_weaker c.add_block.result
-    (of_block c.args.stand (parts c.args.self.now) (parts c.add_block.new.self) c.args.expr.now a.statements a.body a.place c.deref-in-Block.result.now
-    c.deref-in-Block-2.result.now c.deref-in-Block.ensures.value c.deref-in-Block-2.ensures a.is)
+    (of_block c.args.stand (parts c.args.self.now) (parts c.add_block.new.self) c.args.expr.now a.place a.inside c.deref-in-Block.result.now
+    c.deref-in-Block.ensures a.is)
     c.add_block.ensures.added
 
 pub add_expr-returns-in-Call-clause-added : goal.add_expr-returns-in-Call-clause-added
 add_expr-returns-in-Call-clause-added t c =
     let a = c.in-Call in
     on_ok_weaker c.add_call.result
-    (of_call c.args.stand (parts c.args.self.now) (parts c.add_call.new.self) c.args.expr.now a.name a.args a.place c.deref-in-Call.result.now
-    c.deref-in-Call.ensures.value a.is)
+    (of_call c.args.stand (parts c.args.self.now) (parts c.add_call.new.self) c.args.expr.now a.place a.inside c.deref-in-Call.result.now
+    c.deref-in-Call.ensures a.is)
     c.add_call.ensures.added
 
 pub add_expr-returns-in-Loop-clause-added : goal.add_expr-returns-in-Loop-clause-added
 add_expr-returns-in-Loop-clause-added t c =
     let a = c.in-Loop in
     on_ok_weaker c.add_loop.result
-    (of_loop c.args.stand (parts c.args.self.now) (parts c.add_loop.new.self) c.args.expr.now a.test a.statements a.last a.place
-    c.deref-in-Loop-2.result.now c.deref-in-Loop.result.now c.deref-in-Loop-3.result.now c.deref-in-Loop-2.ensures c.deref-in-Loop.ensures.value
-    c.deref-in-Loop-3.ensures a.is)
+    (of_loop c.args.stand (parts c.args.self.now) (parts c.add_loop.new.self) c.args.expr.now a.place a.inside c.deref-in-Loop.result.now
+    c.deref-in-Loop.ensures a.is)
     c.add_loop.ensures.added
 
 pub add_nexts-loop-statement-preserved : goal.add_nexts-loop-statement-preserved
@@ -60,9 +59,8 @@ add_nexts-loop-statement-preserved t c =
       | add_nexts-in-Store+in_ok-add_store-in-Store w ↦ record {
         counted = omega (arith, c.loop-statement.invariant.counted, w.index-is);
         rest = ap (λ n. add_nexts s n (parts c.match-statement.self) (stmts_tree (drop (i + 1) xs))) w.index-is
-            ∙ store_step s k i T (parts c.match-statement.self) V xs w.in-Store.target w.in-Store.index w.in-Store.value
-            w.deref.result.now w.deref-in-Store.result.now w.deref-in-Store-2.result.now w.in-Store.place d
-            c.loop-statement-test.true (sym c.statement-item.is ∙ w.in-Store.is) w.deref.ensures w.deref-in-Store.ensures w.deref-in-Store-2.ensures
+            ∙ store_step s k i T (parts c.match-statement.self) V xs w.in-Store.inside w.deref.result.now w.in-Store.place d
+            c.loop-statement-test.true (sym c.statement-item.is ∙ w.in-Store.is) w.deref.ensures
             (ap parts w.self-is ∙ w.in_ok-add_store-in-Store.ensures)
             c.loop-statement.invariant.rest;
       }
@@ -74,10 +72,14 @@ add_call-returns-clause-added t c =
     let N = parts c.number.new.self in
     let E = parts c.push.new.self in
     let U = parts c.add_arguments.new.self in
-    let name = named T N c.args.name.now (ap (λ v. v.items) c.in_ok-name.ensures.rows) c.in_ok-name.ensures.names in
+    let x = c.args.inside.now.name in
+    let es = c.args.inside.now.args.items in
+    let name = named T N x (ap (λ v. v.items) c.in_ok-name.ensures.rows) c.in_ok-name.ensures.names in
     on_ok_weaker c.push-2.result
-    (λ w. call_parts c.args.stand T N E U (parts c.push-2.new.self) c.args.name.now c.args.args.now c.args.place c.len-enter.result c.in_ok-name.name _
-    (omega arith) c.in_ok-name.ensures.number name c.in_ok-push.ensures.added c.in_ok-add_arguments.ensures refl w)
+    (λ w. call_parts c.args.stand T N E U (parts c.push-2.new.self) x es c.args.place c.len-enter.result c.in_ok-name.name _
+    (omega arith) c.in_ok-name.ensures.number name c.in_ok-push.ensures.added
+    (c.in_ok-add_arguments.ensures ∙ ap (λ v. add_arguments c.args.stand c.args.place c.len-enter.result 0 E (exprs_tree v)) c.as_slice-args.ensures.value)
+    (ap length c.as_slice-args.ensures.value) w)
     c.push-2.ensures.added
 
 pub add_binding-returns : goal.add_binding-returns
@@ -99,13 +101,17 @@ add_loop-returns-clause-added t c =
     let D = parts c.push-3.new.self in
     let L = parts c.add_expr-2.new.self in
     let Z = parts c.push-4.new.self in
-    let body = body_parts c.in_ok-body.body W B N D (stmts_tree c.args.statements.now) c.args.place c.len-turned.result c.len-begun.result
-    (omega arith) c.in_ok-push.ensures.added (omega arith) c.in_ok-add_nexts.ensures c.in_ok-push-2.ensures.added in
+    let body = body_parts c.in_ok-body.body W B N D (stmts_tree c.args.round.now.statements.items) c.args.place c.len-turned.result c.len-begun.result
+    (omega arith) c.in_ok-push.ensures.added (omega arith)
+    (c.in_ok-add_nexts.ensures ∙ ap (λ v. add_nexts c.in_ok-body.body 0 B (stmts_tree v)) c.as_slice-statements.ensures.value)
+    c.in_ok-push-2.ensures.added in
     on_ok_weaker c.push-5.result
     (λ w. loop_parts c.args.stand c.in_ok-inside.inside c.in_ok-body.body c.in_ok-behind.behind T E U W D L Z (parts c.push-5.new.self)
-    (tree_of c.args.test.now) (stmts_tree c.args.statements.now) (tree_of c.args.last.now) c.args.place c.len-start.result c.in_ok-head.head
-    c.len-entered.result c.in_ok-test.test c.in_ok-switches.switches c.len-closed.result c.in_ok-last.last
-    (omega arith) c.in_ok-head.ensures.added (omega (arith, c.in_ok-head.ensures.number)) c.in_ok-inside.ensures (omega arith)
+    (tree_of c.args.round.now.test) (stmts_tree c.args.round.now.statements.items) (tree_of c.args.round.now.last)
+    c.args.place c.len-start.result c.in_ok-head.head c.len-entered.result c.in_ok-test.test c.in_ok-switches.switches c.len-closed.result c.in_ok-last.last
+    (omega arith)
+    (c.in_ok-head.ensures.added ∙ ap (λ v. begin_loop c.args.stand T (stmts_tree v) c.args.place) c.as_slice-statements.ensures.value)
+    (omega (arith, c.in_ok-head.ensures.number)) c.in_ok-inside.ensures (omega arith)
     c.in_ok-test.ensures.added c.in_ok-test.ensures.number c.in_ok-switches.ensures.added c.in_ok-switches.ensures.number c.in_ok-body.ensures
     body c.in_ok-behind.ensures (omega arith) c.in_ok-last.ensures.added c.in_ok-last.ensures.number c.in_ok-push-3.ensures.added
     (subst (λ n. parts c.push-5.new.self ≡ with_row Z c.args.stand c.args.place c.len-start.result n) c.in_ok-node.ensures w))

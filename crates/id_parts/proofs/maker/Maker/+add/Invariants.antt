@@ -1,5 +1,4 @@
-use Rattle.std.proofs.Common.{◌≡◌, ◌≤◌, ◌+◌, ◌*◌, drop, max}
-use Rattle.id_tree.proofs.tree.Expr.TheLaws.{the_size}
+use Rattle.std.proofs.Common.{◌≡◌, ◌≤◌, ◌+◌, ◌*◌, drop}
 use Rattle.id_parts.specs.Rows.{add, add_arguments, add_nexts}
 use Rattle.id_parts.specs.Making.{exprs_tree, parts, stmts_tree}
 use Rattle.id_parts.proofs.maker.Maker.+add.Given as goal
@@ -15,19 +14,19 @@ abbrev pub decreases-add_unary : goal.decreases-add_unary
 decreases-add_unary l = 4 * goal.size-add_unary l + 1
 
 abbrev pub decreases-add_binary : goal.decreases-add_binary
-decreases-add_binary l = 4 * max (the_size l.left.now) (the_size l.right.now) + 1
+decreases-add_binary l = 4 * goal.size-add_binary l + 1
 
 abbrev pub decreases-add_array : goal.decreases-add_array
-decreases-add_array l = 4 * max (the_size l.low.now) (the_size l.high.now) + 1
+decreases-add_array l = 4 * goal.size-add_array l + 1
 
 abbrev pub decreases-add_fetch : goal.decreases-add_fetch
-decreases-add_fetch l = 4 * max (the_size l.target.now) (the_size l.index.now) + 1
+decreases-add_fetch l = 4 * goal.size-add_fetch l + 1
 
 abbrev pub decreases-add_store : goal.decreases-add_store
-decreases-add_store l = 4 * max (the_size l.target.now) (max (the_size l.index.now) (the_size l.expr.now)) + 1
+decreases-add_store l = 4 * goal.size-add_store l + 1
 
 abbrev pub decreases-add_conditional : goal.decreases-add_conditional
-decreases-add_conditional l = 4 * max (the_size l.test.now) (max (the_size l.then.now) (the_size l.otherwise.now)) + 1
+decreases-add_conditional l = 4 * goal.size-add_conditional l + 1
 
 abbrev pub decreases-add_call : goal.decreases-add_call
 decreases-add_call l = 4 * goal.size-add_call l + 3
@@ -46,7 +45,7 @@ invariant-add_arguments-loop-argument l = record {
 }
 
 abbrev pub decreases-add_block : goal.decreases-add_block
-decreases-add_block l = 4 * max (goal.size-add_block l) (the_size l.body.now) + 1
+decreases-add_block l = 4 * goal.size-add_block l + 1
 
 abbrev pub decreases-add_binding : goal.decreases-add_binding
 decreases-add_binding l = 4 * goal.size-add_binding l + 1
@@ -55,7 +54,7 @@ abbrev pub decreases-add_statements : goal.decreases-add_statements
 decreases-add_statements l = 4 * goal.size-add_statements l
 
 abbrev pub decreases-add_loop : goal.decreases-add_loop
-decreases-add_loop l = 4 * max (goal.size-add_loop l) (max (the_size l.test.now) (the_size l.last.now)) + 1
+decreases-add_loop l = 4 * goal.size-add_loop l + 1
 
 abbrev pub decreases-add_nexts : goal.decreases-add_nexts
 decreases-add_nexts l = 4 * goal.size-add_nexts l
