@@ -33,7 +33,8 @@ pub fn table_of(alloc: Global, program: &Program) -> Result<Table, AllocError>
     let mut maker = Maker::new(alloc, about_rows(program))?;
     maker.add_program(program)?;
     let names = copy_names(alloc, &maker.numbers)?;
-    let Maker { rows, .. } = maker;
+    let Maker { mut rows, .. } = maker;
+    rows.shrink_to_fit();
     Ok(Table { rows, names })
 }
 

@@ -50,6 +50,9 @@ pub fn lex(alloc: Global, text: &str) -> Result<Vec<Token>, TextError>
     read_all(alloc, text)
 }
 
+/// About how many bytes of the text a token stands for, or a little less. No claim rests on it.
+const TOKEN_BYTES: usize = 2;
+
 /// The tokens of a text that is not too long, in order, and the `End`.
 fn read_all(alloc: Global, text: &str) -> Result<Vec<Token>, TextError>
     requires { length text.now ≤ MAX_BYTES }
@@ -57,7 +60,7 @@ fn read_all(alloc: Global, text: &str) -> Result<Vec<Token>, TextError>
     ensures refused { IfErr result (IsRefusal text.now) }
     ensures refused_within { IfErr result (IsPlaceWithin (length text.now)) }
 {
-    let mut tokens = Vec::new(alloc);
+    let mut tokens = Vec::with_capacity(alloc, text.len() / TOKEN_BYTES + 1)?;
     let mut at = 0;
     while at < text.len() {
         let piece = read_piece(alloc, text, at)?;

@@ -10,7 +10,7 @@
 mod tests;
 
 use id_args::{arguments, read_words};
-use id_engine::{Disk, Source, Stream, Unasked, drive, settle};
+use id_engine::{Disk, Request, Source, Stream, Unasked, drive, settle};
 use id_print::Sink;
 use std::alloc::Global;
 use std::convert::AsStr;
@@ -27,17 +27,23 @@ fn run<N: AsStr, S: Source, O: Sink, E: Sink>(
     out: &mut O,
     err: &mut E,
 ) -> u8 {
+    let asked = read_words(alloc, words);
+    if let Ok(Request::Check { .. } | Request::Graph { .. } | Request::Draw { .. }) = &asked {
+        keep_memory(alloc);
+    }
     let mut left = None;
-    let status = drive(
-        alloc,
-        &read_words(alloc, words),
-        source,
-        out,
-        err,
-        &mut left,
-    );
+    let status = drive(alloc, &asked, source, out, err, &mut left);
     forget(left);
     status
+}
+
+/// The size of a block of memory a little above what the tokens of a text take, and what its rows take.
+const KEPT: usize = 0x110_0000;
+
+/// Has memory that is given back kept for what is taken next. The C library gives a large block back to the system,
+/// which clears each page of it before it is handed out again; but one is large only until a larger one was given back.
+fn keep_memory(alloc: Global) {
+    let _ = Vec::<u8>::with_capacity(alloc, KEPT);
 }
 
 /// Does what the words of the process ask for, and answers the status. The parts of a line gather in a buffer on their

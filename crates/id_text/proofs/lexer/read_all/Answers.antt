@@ -11,7 +11,7 @@ refused c = refusal_at c.args.text.now c.loop-at.at c.loop-at.tokens.items c.in_
 
 pub returns-in_err-piece-clause-refused : goal.returns-in_err-piece-clause-refused
 returns-in_err-piece-clause-refused c =
-    let p = err_from_is_err_and c.from_residual.result c.from_residual.ensures.1 in
+    let p = err_from_is_err_and c.from_residual-in_err-piece.result c.from_residual-in_err-piece.ensures.1 in
     rw (p.1, p.2) (refused (goal.at.returns-in_err-piece-clause-refused c).In_err-piece)
 
 pub overflow_add-at : goal.overflow_add-at
@@ -21,12 +21,12 @@ pub overflow_cast-at : goal.overflow_cast-at
 overflow_cast-at c =
     let fits = piece_fits c.args.text.now c.loop-at.at _ _ c.loop-at.invariant.within c.in_ok-piece.ensures in omega (arith, fits, c.requires)
 
-pub loop-at-smaller-in-Continue-branch-2 : goal.loop-at-smaller-in-Continue-branch-2
-loop-at-smaller-in-Continue-branch-2 c =
+pub loop-at-smaller-in-Continue-branch-3 : goal.loop-at-smaller-in-Continue-branch-3
+loop-at-smaller-in-Continue-branch-3 c =
     let fits = piece_fits c.args.text.now c.loop-at.at _ _ c.loop-at.invariant.within c.in_ok-piece.ensures in omega arith
 
-pub loop-at-preserved-in-Continue-branch-2 : goal.loop-at-preserved-in-Continue-branch-2
-loop-at-preserved-in-Continue-branch-2 c =
+pub loop-at-preserved-in-Continue-branch-3 : goal.loop-at-preserved-in-Continue-branch-3
+loop-at-preserved-in-Continue-branch-3 c =
     let fits = piece_fits c.args.text.now c.loop-at.at _ _ c.loop-at.invariant.within c.in_ok-piece.ensures in
     record {
       within = fits.1;
