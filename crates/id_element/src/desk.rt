@@ -35,7 +35,7 @@ pub(crate) struct Desk<'a> {
 
 impl<'a> Desk<'a> {
     ghost use Rattle.std.specs.Prelude.{◌≡◌, ◌+◌, ◌-◌, ◌^◌, ◌<◌, ◌≤◌, ◌++◌, ◌∷◌, [], ◌↔◌, Some, slice_get, length};
-    ghost use Rattle.std.specs.Prelude.{IfOk, OnOk, OnErr, IsTrue};
+    ghost use Rattle.std.specs.Prelude.{IfOk, IfSome, OnOk, OnErr, IsTrue};
     ghost use Rattle.id_element.specs.declared.step.TakeError.TheVariants.{StampEnd};
     ghost use Rattle.id_record.specs.Events.{full_step, tag_of};
     ghost use Rattle.id_element.specs.Fits.{Fits};
@@ -165,10 +165,10 @@ impl<'a> Desk<'a> {
     {
         let stamp = next_stamp(self.stamp, u64::from(token.stamp))?;
         let instr = &graph.instrs()[token.instr as usize];
-        if !self.is_short_in(graph, most, token, stamp) {
+        let Some(room) = self.short_bound(graph, instr, most, token, stamp) else {
             return Ok(Short::Apart);
-        }
-        self.reserve(most, 0, outputs)?;
+        };
+        self.reserve(room, 0, outputs)?;
         match react_plain(&mut self.waiting, instr.op, token)? {
             Reacted::Waits => {
                 self.conclude_shot(instr, token, stamp as u32, Shot::Nothing, outputs);
@@ -186,6 +186,35 @@ impl<'a> Desk<'a> {
                 Ok(self.conclude_plain(instr, token, stamp as u32, operands, outputs))
             }
             Reacted::Apart => Ok(Short::Apart),
+        }
+    }
+
+    /// A bound on what the event of a token that fits the graph sends, where all its numbers are small: the most, or
+    /// what its instruction sends, where another one's messages are many.
+    #[inline(always)]
+    fn short_bound(
+        &self,
+        graph: &Graph,
+        instr: &Instr,
+        most: usize,
+        token: &PlainToken,
+        stamp: u64,
+    ) -> Option<usize>
+        requires bound { IsBound graph.now self.now.log.element most }
+        requires few { most_sent instr.now ≤ most }
+        requires fits { Fits graph.now (message_of token.now) }
+        requires above { token.now.stamp < stamp }
+        ensures few { IfSome result (λ m. most_sent instr.now ≤ m) }
+        ensures short { IfSome result (λ m. IsShort self.now m token.now stamp) }
+    {
+        if self.is_short_in(graph, most, token, stamp) {
+            return Some(most);
+        }
+        let own = most_sent(instr);
+        if most > 0x100 && self.is_short(own, token, stamp) {
+            Some(own)
+        } else {
+            None
         }
     }
 

@@ -1,6 +1,6 @@
 -- What is recorded is the element step, by what came of the token.
 use Rattle.std.proofs.Common.{ap, arith, refl, subst, sym, ◌∙◌}
-use Rattle.std.proofs.Math.Nat.{le_refl}
+use Rattle.std.proofs.Math.Nat.{le_refl, le_trans}
 use Rattle.std.proofs.lemmas.Grind.{common_steps}
 use Rattle.id_valid.specs.Validator.{IsValid}
 use Rattle.id_element.specs.declared.step.Reacted.TheVariants.{Waits, One, Two, Fires}
@@ -202,8 +202,8 @@ pub returns-in_err-react_plain-clause-err_outputs : goal.returns-in_err-react_pl
 returns-in_err-react_plain-clause-err_outputs c = on_err c.from_residual-in_err-react_plain.result c.in_ok-reserve.ensures.messages
 
 -- where the token is not short, nothing was done
-pub returns-then-not-is_short_in-clause-end : goal.returns-then-not-is_short_in-clause-end
-returns-then-not-is_short_in-clause-end c = end_ok _ _ (rw c.from.ensures at c.in_ok-stamp.ensures.left)
+pub returns-in_default-clause-end : goal.returns-in_default-clause-end
+returns-in_default-clause-end c = end_ok _ _ (rw c.from.ensures at c.in_ok-stamp.ensures.left)
 
 pub returns-in-Apart-clause-end : goal.returns-in-Apart-clause-end
 returns-in-Apart-clause-end c = end_ok _ _ (rw c.from.ensures at c.in_ok-stamp.ensures.left)
@@ -254,17 +254,17 @@ returns-in-Fires-clause-apart_outputs c = not_apart c.conclude_plain.result c.co
 
 -- the numbers of the token and the last stamp are below the end, where no error was
 
-pub returns-then-not-is_short_in-clause-left : goal.returns-then-not-is_short_in-clause-left
-returns-then-not-is_short_in-clause-left c = rw c.from.ensures at c.in_ok-stamp.ensures.below
+pub returns-in_default-clause-left : goal.returns-in_default-clause-left
+returns-in_default-clause-left c = rw c.from.ensures at c.in_ok-stamp.ensures.below
 
-pub returns-then-not-is_short_in-clause-last_left : goal.returns-then-not-is_short_in-clause-last_left
-returns-then-not-is_short_in-clause-last_left c = c.in_ok-stamp.ensures.last_below
+pub returns-in_default-clause-last_left : goal.returns-in_default-clause-last_left
+returns-in_default-clause-last_left c = c.in_ok-stamp.ensures.last_below
 
-pub returns-then-not-is_short_in-clause-err : goal.returns-then-not-is_short_in-clause-err
-returns-then-not-is_short_in-clause-err c = tt
+pub returns-in_default-clause-err : goal.returns-in_default-clause-err
+returns-in_default-clause-err c = tt
 
-pub returns-then-not-is_short_in-clause-err_outputs : goal.returns-then-not-is_short_in-clause-err_outputs
-returns-then-not-is_short_in-clause-err_outputs c = tt
+pub returns-in_default-clause-err_outputs : goal.returns-in_default-clause-err_outputs
+returns-in_default-clause-err_outputs c = tt
 
 pub returns-in-Apart-clause-left : goal.returns-in-Apart-clause-left
 returns-in-Apart-clause-left c = rw c.from.ensures at c.in_ok-stamp.ensures.below
@@ -346,11 +346,11 @@ returns-in_err-react_plain-clause-number c = c.in_ok-reserve.ensures.number
 pub returns-in_err-react_plain-clause-graph : goal.returns-in_err-react_plain-clause-graph
 returns-in_err-react_plain-clause-graph c = c.in_ok-reserve.ensures.graph
 
-pub returns-then-not-is_short_in-clause-number : goal.returns-then-not-is_short_in-clause-number
-returns-then-not-is_short_in-clause-number c = refl
+pub returns-in_default-clause-number : goal.returns-in_default-clause-number
+returns-in_default-clause-number c = refl
 
-pub returns-then-not-is_short_in-clause-graph : goal.returns-then-not-is_short_in-clause-graph
-returns-then-not-is_short_in-clause-graph c = refl
+pub returns-in_default-clause-graph : goal.returns-in_default-clause-graph
+returns-in_default-clause-graph c = refl
 
 pub returns-in-Apart-clause-number : goal.returns-in-Apart-clause-number
 returns-in-Apart-clause-number c = c.in_ok-reserve.ensures.number
@@ -382,29 +382,29 @@ returns-in-Fires-clause-number c = c.conclude_plain.ensures.number ∙ c.in_ok-r
 pub returns-in-Fires-clause-graph : goal.returns-in-Fires-clause-graph
 returns-in-Fires-clause-graph c = c.conclude_plain.ensures.graph ∙ c.in_ok-reserve.ensures.graph
 
-pub returns-then-not-is_short_in-clause-step : goal.returns-then-not-is_short_in-clause-step
-returns-then-not-is_short_in-clause-step c = λ h. absurd h
+pub returns-in_default-clause-step : goal.returns-in_default-clause-step
+returns-in_default-clause-step c = λ h. absurd h
 
 pub returns-in-Apart-clause-step : goal.returns-in-Apart-clause-step
 returns-in-Apart-clause-step c = λ h. absurd h
 
-pub returns-then-not-is_short_in-clause-state : goal.returns-then-not-is_short_in-clause-state
-returns-then-not-is_short_in-clause-state c = λ h. absurd h
+pub returns-in_default-clause-state : goal.returns-in_default-clause-state
+returns-in_default-clause-state c = λ h. absurd h
 
 pub returns-in-Apart-clause-state : goal.returns-in-Apart-clause-state
 returns-in-Apart-clause-state c = λ h. absurd h
 
-pub returns-then-not-is_short_in-clause-outputs : goal.returns-then-not-is_short_in-clause-outputs
-returns-then-not-is_short_in-clause-outputs c = λ h. absurd h
+pub returns-in_default-clause-outputs : goal.returns-in_default-clause-outputs
+returns-in_default-clause-outputs c = λ h. absurd h
 
 pub returns-in-Apart-clause-outputs : goal.returns-in-Apart-clause-outputs
 returns-in-Apart-clause-outputs c = λ h. absurd h
 
-pub returns-then-not-is_short_in-clause-apart : goal.returns-then-not-is_short_in-clause-apart
-returns-then-not-is_short_in-clause-apart c = λ _. refl
+pub returns-in_default-clause-apart : goal.returns-in_default-clause-apart
+returns-in_default-clause-apart c = λ _. refl
 
-pub returns-then-not-is_short_in-clause-apart_outputs : goal.returns-then-not-is_short_in-clause-apart_outputs
-returns-then-not-is_short_in-clause-apart_outputs c = λ _. refl
+pub returns-in_default-clause-apart_outputs : goal.returns-in_default-clause-apart_outputs
+returns-in_default-clause-apart_outputs c = λ _. refl
 
 pub returns-in_err-stamp-clause-err : goal.returns-in_err-stamp-clause-err
 returns-in_err-stamp-clause-err c = on_err c.from_residual.result refl
@@ -465,11 +465,11 @@ conclude_shot-requires-clause-own c =
     c.requires.fits.kind c.instrs.ensures.value c.index-instrs-token.is (c.in_ok-reserve.ensures.graph ∙ sym c.requires.own)
 
 pub conclude_shot-requires-clause-room_in_outputs : goal.conclude_shot-requires-clause-room_in_outputs
-conclude_shot-requires-clause-room_in_outputs c = within c.args.graph.now _ _ (record { instr = c.args.token.now.instr; port = c.args.token.now.port }) _ _ c.index-instrs-token.result c.requires.bound.most c.requires.fits.kind c.instrs.ensures.value c.index-instrs-token.is c.in_ok-reserve.ensures.room_in_outputs
+conclude_shot-requires-clause-room_in_outputs c = le_trans c.in-Some.ensures.few c.in_ok-reserve.ensures.room_in_outputs
 
 pub conclude_shot-requires-clause-short : goal.conclude_shot-requires-clause-short
 conclude_shot-requires-clause-short c =
-    IsShort-kept _ _ _ _ _ (IsShort-below _ _ _ _ _ (within c.args.graph.now _ _ (record { instr = c.args.token.now.instr; port = c.args.token.now.port }) _ _ c.index-instrs-token.result c.requires.bound.most c.requires.fits.kind c.instrs.ensures.value c.index-instrs-token.is (le_refl _)) (c.if-not-is_short_in.ensures refl))
+    IsShort-kept _ _ _ _ _ (IsShort-below _ _ _ _ _ c.in-Some.ensures.few c.in-Some.ensures.short)
     (ap (λ (v : State). v.events) c.in_ok-reserve.ensures.state) c.in_ok-reserve.ensures.number
 
 pub conclude_shot-requires-clause-own_value : goal.conclude_shot-requires-clause-own_value
@@ -495,11 +495,11 @@ conclude_shot-requires-in-One-clause-own c =
     c.requires.fits.kind c.instrs.ensures.value c.index-instrs-token.is (c.in_ok-reserve.ensures.graph ∙ sym c.requires.own)
 
 pub conclude_shot-requires-in-One-clause-room_in_outputs : goal.conclude_shot-requires-in-One-clause-room_in_outputs
-conclude_shot-requires-in-One-clause-room_in_outputs c = within c.args.graph.now _ _ (record { instr = c.args.token.now.instr; port = c.args.token.now.port }) _ _ c.index-instrs-token.result c.requires.bound.most c.requires.fits.kind c.instrs.ensures.value c.index-instrs-token.is c.in_ok-reserve.ensures.room_in_outputs
+conclude_shot-requires-in-One-clause-room_in_outputs c = le_trans c.in-Some.ensures.few c.in_ok-reserve.ensures.room_in_outputs
 
 pub conclude_shot-requires-in-One-clause-short : goal.conclude_shot-requires-in-One-clause-short
 conclude_shot-requires-in-One-clause-short c =
-    IsShort-kept _ _ _ _ _ (IsShort-below _ _ _ _ _ (within c.args.graph.now _ _ (record { instr = c.args.token.now.instr; port = c.args.token.now.port }) _ _ c.index-instrs-token.result c.requires.bound.most c.requires.fits.kind c.instrs.ensures.value c.index-instrs-token.is (le_refl _)) (c.if-not-is_short_in.ensures refl))
+    IsShort-kept _ _ _ _ _ (IsShort-below _ _ _ _ _ c.in-Some.ensures.few c.in-Some.ensures.short)
     (ap (λ (v : State). v.events) c.in_ok-reserve.ensures.state) c.in_ok-reserve.ensures.number
 
 pub conclude_shot-requires-in-One-clause-own_value : goal.conclude_shot-requires-in-One-clause-own_value
@@ -525,11 +525,11 @@ conclude_shot-requires-in-Two-clause-own c =
     c.requires.fits.kind c.instrs.ensures.value c.index-instrs-token.is (c.in_ok-reserve.ensures.graph ∙ sym c.requires.own)
 
 pub conclude_shot-requires-in-Two-clause-room_in_outputs : goal.conclude_shot-requires-in-Two-clause-room_in_outputs
-conclude_shot-requires-in-Two-clause-room_in_outputs c = within c.args.graph.now _ _ (record { instr = c.args.token.now.instr; port = c.args.token.now.port }) _ _ c.index-instrs-token.result c.requires.bound.most c.requires.fits.kind c.instrs.ensures.value c.index-instrs-token.is c.in_ok-reserve.ensures.room_in_outputs
+conclude_shot-requires-in-Two-clause-room_in_outputs c = le_trans c.in-Some.ensures.few c.in_ok-reserve.ensures.room_in_outputs
 
 pub conclude_shot-requires-in-Two-clause-short : goal.conclude_shot-requires-in-Two-clause-short
 conclude_shot-requires-in-Two-clause-short c =
-    IsShort-kept _ _ _ _ _ (IsShort-below _ _ _ _ _ (within c.args.graph.now _ _ (record { instr = c.args.token.now.instr; port = c.args.token.now.port }) _ _ c.index-instrs-token.result c.requires.bound.most c.requires.fits.kind c.instrs.ensures.value c.index-instrs-token.is (le_refl _)) (c.if-not-is_short_in.ensures refl))
+    IsShort-kept _ _ _ _ _ (IsShort-below _ _ _ _ _ c.in-Some.ensures.few c.in-Some.ensures.short)
     (ap (λ (v : State). v.events) c.in_ok-reserve.ensures.state) c.in_ok-reserve.ensures.number
 
 pub conclude_shot-requires-in-Two-clause-own_value : goal.conclude_shot-requires-in-Two-clause-own_value
@@ -555,9 +555,15 @@ conclude_plain-requires-clause-own c =
     c.requires.fits.kind c.instrs.ensures.value c.index-instrs-token.is (c.in_ok-reserve.ensures.graph ∙ sym c.requires.own)
 
 pub conclude_plain-requires-clause-room_in_outputs : goal.conclude_plain-requires-clause-room_in_outputs
-conclude_plain-requires-clause-room_in_outputs c = within c.args.graph.now _ _ (record { instr = c.args.token.now.instr; port = c.args.token.now.port }) _ _ c.index-instrs-token.result c.requires.bound.most c.requires.fits.kind c.instrs.ensures.value c.index-instrs-token.is c.in_ok-reserve.ensures.room_in_outputs
+conclude_plain-requires-clause-room_in_outputs c = le_trans c.in-Some.ensures.few c.in_ok-reserve.ensures.room_in_outputs
 
 pub conclude_plain-requires-clause-short : goal.conclude_plain-requires-clause-short
 conclude_plain-requires-clause-short c =
-    IsShort-kept _ _ _ _ _ (IsShort-below _ _ _ _ _ (within c.args.graph.now _ _ (record { instr = c.args.token.now.instr; port = c.args.token.now.port }) _ _ c.index-instrs-token.result c.requires.bound.most c.requires.fits.kind c.instrs.ensures.value c.index-instrs-token.is (le_refl _)) (c.if-not-is_short_in.ensures refl))
+    IsShort-kept _ _ _ _ _ (IsShort-below _ _ _ _ _ c.in-Some.ensures.few c.in-Some.ensures.short)
     (ap (λ (v : State). v.events) c.in_ok-reserve.ensures.state) c.in_ok-reserve.ensures.number
+
+-- the instruction of the token sends at most what any does
+pub short_bound-requires-clause-few : goal.short_bound-requires-clause-few
+short_bound-requires-clause-few c =
+    within c.args.graph.now _ _ (record { instr = c.args.token.now.instr; port = c.args.token.now.port }) _ _ c.index-instrs-token.result
+    c.requires.bound.most c.requires.fits.kind c.instrs.ensures.value c.index-instrs-token.is (le_refl _)
