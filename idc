@@ -1,23 +1,32 @@
 #!/bin/sh
-# Runs the proved program with the words given. Builds it first where it isn't built yet or a source is newer.
+# Runs idc with the words given: the proved program where ./prove has built it from the sources as they stand. Else the
+# sources answer as they are, which takes a minute or two each time: with checks at run time in place of proofs.
 set -eu
 here=$(CDPATH= cd -- "$(dirname -- "$0")" && pwd)
 program=$here/crates/idc/out/idc
 
-is_stale() {
-    [ ! -x "$program" ] || [ -n "$(find "$here/crates" -path '*/out' -prune -o -type f -newer "$program" \
-        \( -name '*.rt' -o -name '*.antt' \) -print -quit)" ]
-}
-
-if is_stale; then
-    echo "idc: proving and building the program first; from nothing this takes some minutes" >&2
-    log=$here/crates/idc/out/build.log
-    mkdir -p "$here/crates/idc/out"
-    # rt proves, builds and then runs the program, which with no words answers 4 and prints its usage
-    (cd "$here/crates/idc" && rt run) >"$log" 2>&1 </dev/null || true
-    if is_stale; then
-        echo "idc: the build failed; see $log" >&2
-        exit 5
-    fi
+if "$here/prove" --is-built; then
+    exec "$program" "$@"
 fi
-exec "$program" "$@"
+
+# the sources run in a folder of their own, so the text that the words name is lent to them under a name there
+text=
+for word in "$@"; do
+    shift
+    if [ -z "$text" ] && [ -f "$word" ]; then
+        case $word in
+            /*) text=$word ;;
+            *) text=$PWD/$word ;;
+        esac
+        word=text.id
+    fi
+    set -- "$@" "$word"
+done
+
+echo "idc: this answer is not by the proved program: ./prove proves and builds it" >&2
+said=$(mktemp)
+trap 'rm -f "$said"' EXIT
+status=0
+(cd "$here/crates/idc" && rt try ${text:+--data "text.id=$text"} -- "$@" 2>"$said" </dev/null) || status=$?
+grep -v -e '^checked: ' -e '^run=' -e '^interpreter: ' "$said" >&2 || true
+exit "$status"
