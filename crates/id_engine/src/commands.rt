@@ -23,7 +23,7 @@ use id_tree::Program;
 use std::alloc::Global;
 
 /// Writes `ok` where the text is accepted, and answers the status, 0. The text's tree is left in `left`, whose owner
-/// gives its memory back or, where the process ends, doesn't: that takes a sixth of the time of a check.
+/// gives its memory back or, where the process ends, doesn't: that takes a tenth of the time of a check.
 pub fn check_text<W: Sink>(
     alloc: Global,
     text: &str,

@@ -31,10 +31,10 @@ pub(crate) struct Parcel {
 
 const _: () = prove!(size_of::<Parcel>() == 64);
 
-/// What a message is: the plain token; a token of its tag and port with a structure or an address; a read whose reply is
-/// to go to its tag; a write of its value from its tag; or that the whole message stands aside. A structure is told by
-/// its element, serial number and bounds, and a cell of it by the index too, which is the token's value. The cell of a
-/// write is told in small numbers, the name of its structure and its place.
+/// What a message is: the plain token; a token of its tag and port with a structure or an address; a read whose reply
+/// is to go to its tag; a write of its value from its tag; or that the whole message stands aside. A structure is told
+/// by its element, serial number and bounds, and a cell of it by the index too, which is the token's value. The cell of
+/// a write is told in small numbers, the name of its structure and its place.
 #[derive(Clone, Copy)]
 enum What {
     Plain,

@@ -1,4 +1,4 @@
-//! What an instruction does with plain operands where it sends a word or a structure on: most firings, in small numbers.
+//! What an instruction does with plain operands where it sends a word or a structure on, as most do, in small numbers.
 
 ghost use Rattle.std.specs.Prelude.{◌≡◌, ◌≢◌, ◌<◌, ◌-◌, ◌^◌, ℕ, true, false, None, IfSome};
 ghost use Rattle.std.specs.Option.{is_some};

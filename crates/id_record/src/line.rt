@@ -1,6 +1,7 @@
 //! How the record keeps an event: in one line, in one with a cell beside it, or aside where it fits in neither.
 
-ghost use Rattle.std.specs.Prelude.{◌≡◌, ◌≢◌, ◌<◌, ◌≤◌, ◌%◌, ◌/◌, ◌^◌, ℤ, length, pos, true, false, Some, IfSome, IsTrue};
+ghost use Rattle.std.specs.Prelude.{◌≡◌, ◌≢◌, ◌<◌, ◌≤◌, ◌%◌, ◌/◌, ◌^◌, ℤ, length, pos, true, false};
+ghost use Rattle.std.specs.Prelude.{Some, IfSome, IsTrue};
 ghost use Rattle.id_tag.specs.declared.Cell.{Cell};
 ghost use Rattle.id_tag.specs.declared.Tag.{Tag};
 ghost use Rattle.id_tag.specs.declared.Value.{Value};

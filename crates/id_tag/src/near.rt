@@ -1,15 +1,15 @@
-//! A hash by which neighbours stand in a row in a table: the tags of neighbouring contexts, or neighbouring cells.
+//! A hash by which neighbours stand in a row in a table: the frames of neighbouring contexts, or neighbouring cells.
 
 ghost use Rattle.std.specs.Prelude.{◌≡◌, ◌+◌, ◌≤◌, fold, length};
 ghost use Rattle.id_tag.specs.Near.{folded, half, mix, nothing_read, number, shift_of};
 
 use std::hash::{BuildHasher, Hasher};
 
-/// Hashes tags, and cells by their index and then their structure. The lowest byte of the first number of 64 bits,
-/// which is a context's serial number or a cell's index, shifts the hash by itself, and everything else is mixed. So
-/// 64 neighbouring contexts have their tags for one instruction and iteration in a row, in the order in which the
-/// machine comes to them, and each such row begins where chance has it; and so do 64 neighbouring cells of a
-/// structure. Longer rows would fill stretches of the table.
+/// Hashes the names of matching frames, and cells by their index and then their structure. The lowest byte of the first
+/// number of 64 bits, which is a context's serial number or a cell's index, shifts the hash by itself, and everything
+/// else is mixed. So 64 neighbouring contexts have their frames for one iteration in a row, in the order in which the
+/// machine comes to them, and each such row begins where chance has it; and so do 64 neighbouring cells of a structure.
+/// Longer rows would fill stretches of the table.
 #[derive(Clone, Copy)]
 pub struct NearHasher {
     mixed: u64,
