@@ -122,6 +122,7 @@ fn push_value(
 }
 
 /// Adds the arcs from the values of two operands to the two ports of the first instruction of the row n.
+#[inline(always)]
 fn push_operands(
     checked: &Checked,
     slots: &Slots<'_>,
@@ -402,6 +403,7 @@ fn body_of(node: Node) -> usize
 
 impl Arcs {
     /// Adds an arc.
+    #[inline(always)]
     fn push(&mut self, origin: Origin, to: usize, port: Port) -> Result<(), BuildError>
         requires { origin.part < 2 ^ 62 }
         ensures list { OnOk result (self.new.list.items

@@ -79,6 +79,7 @@ fn named_in(
 }
 
 /// Where the value of a binder comes from in a region.
+#[inline(always)]
 pub fn name_in(checked: &Checked, slots: &Slots<'_>, region: Region, binder: usize) -> Origin
     requires slots { AreSlots checked.now slots.now }
     ensures origin { result ≡ name_in checked.now region binder }

@@ -117,6 +117,7 @@ pub fn about_size(checked: &Checked, columns: Columns<'_>) -> usize
 }
 
 /// How many instructions the row n makes. Takes no memory.
+#[inline(always)]
 fn made_count(checked: &Checked, columns: Columns<'_>, n: usize) -> usize
     requires columns { AreColumns checked.now columns }
     requires within { n < length (programs.rows checked.now) }
