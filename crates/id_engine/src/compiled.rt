@@ -1,11 +1,10 @@
-//! From a text to its graph: tokens, tree, checks, schemas, validation.
+//! From a text to its graph: tokens, tree, checks, schemas.
 
 ghost use Rattle.std.specs.Prelude.{◌≡◌, ◌<◌, ◌≤◌, length, IfErr, IfOk, OnOk};
 ghost use Rattle.id_build.specs.Rows.{size};
 ghost use Rattle.id_build.specs.Schemas.{Schemas};
 ghost use Rattle.id_tree.specs.Distinct.{Distinct};
 ghost use Rattle.id_tree.specs.Tree.{program_tree};
-ghost use Rattle.id_valid.specs.Validator.{TellsFault};
 ghost use Rattle.id_engine.specs.Programs.{ArePlacedWithin, HasProgram, IsProgramOf, IsPlacedWithin, IsRefusedBy};
 ghost use Rattle.id_engine.specs.Programs.{IsTreeOf};
 ghost use Rattle.id_engine.specs.Reports.{IsRefusedGraph};
@@ -17,7 +16,7 @@ use id_desugar::regions;
 use id_graph::Graph;
 use id_text::{TextError, lex};
 use id_tree::{Program, TreeError, parse};
-use id_valid::{Invalid, InvalidCause, Valid, validate};
+use id_valid::Valid;
 use std::alloc::Global;
 use std::marker::Model;
 
@@ -87,19 +86,6 @@ pub enum CompileError {
     Memory,
 }
 
-/// The error of a graph that the schemas give a program: it is valid, so memory was refused.
-fn invalid_error(checked: &Checked, invalid: &Invalid) -> CompileError
-    requires graph { Schemas checked.now invalid.now.graph }
-    requires told { TellsFault invalid.now.graph invalid.now.cause }
-    ensures { result ≡ CompileError.Memory }
-{
-    id_laws::valid();
-    match invalid.cause {
-        InvalidCause::Faulty { .. } => unreachable!(),
-        InvalidCause::Memory => CompileError::Memory,
-    }
-}
-
 /// The tree of a text.
 fn tree_of(alloc: Global, text: &str) -> Result<Program, CompileError>
     ensures tree { IfOk result (IsTreeOf text.now) }
@@ -142,16 +128,14 @@ fn checked_program(alloc: Global, text: &str) -> Result<Checked, CompileError>
     }
 }
 
-/// The graph of a checked program as a valid one, unless memory is refused.
-fn valid_of(alloc: Global, checked: &Checked, graph: Graph) -> Result<Valid, CompileError>
+/// A graph that the schemas give a checked program, which the law says is valid.
+fn valid_of(checked: &Checked, graph: Graph) -> Valid
     requires { Schemas checked.now graph }
-    ensures same { IfOk result (λ v. v ≡ graph) }
-    ensures memory { IfErr result (λ e. e ≡ CompileError.Memory) }
+    ensures { result ≡ graph }
 {
-    match validate(alloc, graph) {
-        Ok(valid) => Ok(valid),
-        Err(invalid) => Err(invalid_error(checked, &invalid)),
-    }
+    let _ = checked;
+    id_laws::valid();
+    Valid::known(graph)
 }
 
 /// A graph that the schemas give a checked program.
@@ -171,7 +155,7 @@ fn graph_of(alloc: Global, checked: &Checked) -> Result<Valid, CompileError>
     ensures refused { IfErr result (IsRefusedGraph checked.now) }
 {
     match schemas_graph(alloc, checked) {
-        Ok(graph) => valid_of(alloc, checked, graph),
+        Ok(graph) => Ok(valid_of(checked, graph)),
         Err(BuildError::TooLarge) => Err(CompileError::TooLarge),
         Err(BuildError::Memory) => Err(CompileError::Memory),
     }

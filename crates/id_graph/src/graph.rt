@@ -86,6 +86,19 @@ impl Graph {
         }
     }
 
+    /// The graph of these blocks and instructions, whose destinations are known to be ports. Tests nothing, and takes no
+    /// memory.
+    pub fn known(blocks: Vec<Block>, instrs: Vec<Instr>) -> Graph
+        requires few { vec_len instrs < 2 ^ 32 }
+        requires exist { PortsExist (parts blocks.items instrs.items) }
+        ensures { result ≡ parts blocks.items instrs.items }
+    {
+        Graph {
+            blocks: Sequence::new(blocks),
+            instrs: Sequence::new(instrs),
+        }
+    }
+
     /// The blocks, in order. Takes no memory.
     pub fn blocks(&self) -> &[Block]
         ensures { result.now ≡ self.now.blocks }
