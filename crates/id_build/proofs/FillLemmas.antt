@@ -6,7 +6,6 @@ use Rattle.std.proofs.lemmas.Bool.Decides.{eqb_tells}
 use Rattle.std.proofs.lemmas.Option.{slice_get-get_or, unwrap_or-slice_get}
 use Rattle.id_build.proofs.NumberLemmas.{first_in-push, pieces_in-push}
 use Rattle.id_check.specs.declared.checked.Checked.{Checked}
-use Rattle.id_build.specs.declared.arc.Piece.{Piece}
 use Rattle.id_build.specs.Made.{first_in, number_by, pieces_in}
 use Rattle.id_build.specs.Rows.{made}
 use Rattle.id_list.proofs.AmongLemmas.{Among-from_at}
@@ -17,9 +16,15 @@ pub Among-get_or : (xs : List ℕ) (i : ℕ) → i < length xs → Among (get_or
 Among-get_or xs i h = Among-from_at (get_or xs i 0) xs i (slice_get-get_or xs i 0 h)
 
 -- one more row adds its instructions
-pub pieces_in-next : (P : Checked) (order : List ℕ) (i : ℕ) (ps new : List Piece) → i < length order → ps ≡ pieces_in P (take i order) → new ≡ ps ++ made P (get_or order i 0) → new ≡ pieces_in P (take (i + 1) order)
-pieces_in-next P order i ps new h e f =
-    f ∙ ap (λ l. l ++ made P (get_or order i 0)) e ∙ sym (pieces_in-push P (take i order) (get_or order i 0)) ∙ ap (pieces_in P) (sym (take_more order i 0 h))
+pub pieces_in-next : (P : Checked) (order : List ℕ) (i : ℕ) → i < length order
+    → pieces_in P (take (i + 1) order) ≡ pieces_in P (take i order) ++ made P (get_or order i 0)
+pieces_in-next P order i h = ap (pieces_in P) (take_more order i 0 h) ∙ pieces_in-push P (take i order) (get_or order i 0)
+
+-- as many as it makes
+pub count_in-next : (P : Checked) (order : List ℕ) (i : ℕ) → i < length order
+    → length (pieces_in P (take (i + 1) order)) ≡ length (pieces_in P (take i order)) + length (made P (get_or order i 0))
+count_in-next P order i h =
+    ap length (pieces_in-next P order i h) ∙ length-append (pieces_in P (take i order)) (made P (get_or order i 0))
 
 among_take : (xs : List ℕ) (i n : ℕ) → Among n (take i xs) → Among n xs
 among_take [] zero n h = absurd h

@@ -26,7 +26,6 @@ use Rattle.id_build.specs.declared.arc.Piece.{Piece}
 use Rattle.id_build.specs.Made.{AreFirsts, EntriesFit, Fits, first_in, number_by, pieces_in}
 use Rattle.id_build.specs.Rows.{block, called, entries_row, for_each, import_entries, made, made_of, node, param_at, send_to, variable_entries}
 use Rattle.id_build.proofs.LoopsLemmas.{entries_node, entries_stand, entries_within, start_head}
-use Rattle.id_build.proofs.NumberLemmas.{pieces_in-from}
 use Rattle.id_build.proofs.OrderLemmas.{IsOrder}
 use Rattle.id_build.proofs.SizeLemmas.{length-entries}
 
@@ -146,13 +145,12 @@ module _ (P : Checked) (order F : List ℕ) (o : IsOrder P order) (fs : AreFirst
   sent_fits (Plain p) s = tt
   sent_fits (EnterAt h c) s = tt
 
-  -- each `send` names an entry so, and each `fetch` its reply
-  pub pieces_fit : All (λ (p : Piece). Fits F p.form) (pieces_in P order)
-  pieces_fit k d l =
-      let p = get_or (pieces_in P order) k d in
-      let s = pieces_in-from P order 0 k p o.differ (slice_get-get_or (pieces_in P order) k d l) in
-      let within = o.within s.n s.among in
-      sent_fits p.form (each_at P (made P s.n) s.k p (each_made P s.n (place P s.n) (node P s.n) within refl) s.makes)
+  -- each `send` of a row names an entry so, and each `fetch` its reply
+  pub row_fits : (n : ℕ) → n < length (rows P) → All (λ (p : Piece). Fits F p.form) (made P n)
+  row_fits n within k d l =
+      let p = get_or (made P n) k d in
+      let makes = slice_get-get_or (made P n) k d l in
+      sent_fits p.form (each_at P (made P n) k p (each_made P n (place P n) (node P n) within refl) makes)
 
   -- and so does each block
   pub entries_fit : EntriesFit P F

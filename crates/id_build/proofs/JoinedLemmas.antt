@@ -117,3 +117,13 @@ AreBetween-left n (v ∷ vs) ws h (suc k) d lt = AreBetween-left n vs ws (λ j e
 pub AreBetween-right : (n : ℕ) (vs ws : List Arc) → All (IsBetween n) (vs ++ ws) → All (IsBetween n) ws
 AreBetween-right n [] ws h = h
 AreBetween-right n (v ∷ vs) ws h = AreBetween-right n vs ws (λ j e less. h (suc j) e (omega arith))
+
+-- without arcs it does not matter which number the first instruction has
+pub bare-any : (F : List ℕ) (m k : ℕ) (ps : List Piece) → instrs_from F m ps [] ≡ instrs_from F k ps []
+bare-any F m k [] = refl
+bare-any F m k (p ∷ ps) = ap (λ l. joined F 0 p [] ∷ l) (bare-any F (m + 1) (k + 1) ps)
+
+-- the instructions of more pieces stand behind those of the first
+pub bare-append : (F : List ℕ) (m : ℕ) (ps qs : List Piece) → instrs_from F m (ps ++ qs) [] ≡ instrs_from F m ps [] ++ instrs_from F 0 qs []
+bare-append F m [] qs = bare-any F m 0 qs
+bare-append F m (p ∷ ps) qs = ap (λ l. joined F m p [] ∷ l) (bare-append F (m + 1) ps qs)

@@ -1,33 +1,33 @@
 //! Instructions with their arcs (docs/GRAPH.md, "Schemas").
 
-ghost use Rattle.std.specs.Prelude.{◌≡◌, ◌<◌, ◌^◌, [], fold, length, vec_len, IfOk, OnOk, All};
+ghost use Rattle.std.specs.Prelude.{◌≡◌, ◌<◌, ◌^◌, ◌++◌, [], fold, length, vec_len, OnOk, All};
 ghost use Rattle.id_build.specs.Rows.{op_by};
 ghost use Rattle.id_build.specs.Made.{Fits, instrs_from, IsBetween, connected, number_by};
 
 use crate::arc::{Arc, Form, Piece};
 use crate::feeds::number_by;
-use id_graph::{Dest, Dests, Instr, Op};
+use id_graph::{Dest, Dests, Instr, Op, Others};
 use std::alloc::{AllocError, Global};
 
-/// The instructions of these pieces, without arcs.
-pub fn bare_instrs(
+/// Adds the instructions of these pieces, without arcs.
+pub fn push_bare(
     alloc: Global,
     firsts: &[u32],
     pieces: &[Piece],
-) -> Result<Vec<Instr>, AllocError>
+    instrs: &mut Vec<Instr>,
+) -> Result<(), AllocError>
     requires { All (λ p. Fits firsts.now p.form) pieces.now }
-    ensures { IfOk result (λ v. v.items ≡ instrs_from firsts.now 0 pieces.now []) }
+    ensures { OnOk result (instrs.new.items ≡ instrs.old.items ++ instrs_from firsts.now 0 pieces.now []) }
 {
-    let mut instrs = Vec::with_capacity(alloc, pieces.len())?;
     for piece in pieces {
         instrs.push(Instr {
             op: op_by(firsts, piece.form),
             dests: Dests::new(alloc),
-            others: Dests::new(alloc),
+            others: Others::none(),
             place: piece.place,
         })?;
     }
-    Ok(instrs)
+    Ok(())
 }
 
 /// The operator of this form.
@@ -52,19 +52,19 @@ fn op_by(firsts: &[u32], form: Form) -> Op
 }
 
 /// Adds the arcs to the instructions that they come from.
-pub fn connect_all(instrs: &mut Vec<Instr>, arcs: &[Arc]) -> Result<(), AllocError>
+pub fn connect_all(alloc: Global, instrs: &mut Vec<Instr>, arcs: &[Arc]) -> Result<(), AllocError>
     requires from { All (IsBetween (length instrs.old.items)) arcs.now }
     requires few { length instrs.old.items < 2 ^ 32 }
     ensures { OnOk result (instrs.new.items ≡ fold connected instrs.old.items arcs.now) }
 {
     for arc in arcs {
-        connect(instrs, arc)?;
+        connect(alloc, instrs, arc)?;
     }
     Ok(())
 }
 
 /// Adds an arc to the instruction that it comes from.
-fn connect(instrs: &mut Vec<Instr>, arc: &Arc) -> Result<(), AllocError>
+fn connect(alloc: Global, instrs: &mut Vec<Instr>, arc: &Arc) -> Result<(), AllocError>
     requires from { arc.now.from < vec_len instrs.old }
     requires to { arc.now.to < 2 ^ 32 }
     ensures { OnOk result (instrs.new.items ≡ connected instrs.old.items arc.now) }
@@ -77,7 +77,7 @@ fn connect(instrs: &mut Vec<Instr>, arc: &Arc) -> Result<(), AllocError>
     if arc.side {
         instr.dests.push(dest)?;
     } else {
-        instr.others.push(dest)?;
+        instr.others.push(alloc, dest)?;
     }
     Ok(())
 }

@@ -13,15 +13,14 @@ ghost use Rattle.id_build.specs.Schemas.{Schemas, all_heads, block_of};
 ghost use Rattle.id_build.specs.Made.{AreFirsts, EntriesFit, graph_by, instrs_from, number_by, pieces_in};
 ghost use Rattle.id_build.specs.Slots.{AreColumns, AreSlots};
 
-use crate::arc::Piece;
 use crate::calls::is_param;
 use crate::columns::Columns;
 use crate::error::BuildError;
 use crate::feeds::{Arcs, number_by, push_feeds};
-use crate::joined::{bare_instrs, connect_all};
+use crate::joined::{connect_all, push_bare};
 use crate::loops::entries_row;
 use crate::pieces::push_pieces;
-use crate::size::about_size;
+use crate::size::made_count;
 use crate::slots::{Slots, find_slots};
 use id_check::Checked;
 use id_desugar::{Kernel, row_at};
@@ -46,7 +45,7 @@ pub fn build(alloc: Global, kernel: &Kernel<'_>) -> Result<Graph, BuildError>
         nexts: kernel.nexts.as_slice(),
     };
     let (blocks, instrs) = build_parts(alloc, kernel.checked, columns, order)?;
-    Ok(Graph::new(blocks, instrs).unwrap())
+    Ok(Graph::known(blocks, instrs))
 }
 
 /// The blocks and instructions of the program, where this is the order of its rows, with these imports.
@@ -64,68 +63,93 @@ fn build_parts(
     ensures small { OnOk result (size checked.now ≤ 1000000) }
     ensures large { IfErr result (λ e. e ≡ BuildError.TooLarge → 1000000 < size checked.now) }
 {
-    let draft = number(alloc, checked, columns, order)?;
-    let blocks = blocks(alloc, checked, columns, draft.firsts.as_slice())?;
-    let instrs = connected(alloc, checked, columns, order, draft)?;
+    let numbers = number(alloc, checked, columns, order)?;
+    let blocks = blocks(alloc, checked, columns, numbers.firsts.as_slice())?;
+    let instrs = connected(alloc, checked, columns, order, numbers)?;
     Ok((blocks, instrs))
 }
 
-/// The instructions of a program, and the numbers of the first of each row.
+/// The numbers of the first instructions of rows, and how many instructions there are.
 #[derive(Drop)]
-struct Draft {
-    pieces: Vec<Piece>,
+struct Numbers {
     firsts: Vec<u32>,
+    count: usize,
 }
 
-/// The instructions of these rows, without arcs.
+/// The numbers of the first instructions of these rows.
 fn number(
     alloc: Global,
     checked: &Checked,
     columns: Columns<'_>,
     order: &[u32],
-) -> Result<Draft, BuildError>
+) -> Result<Numbers, BuildError>
     requires columns { AreColumns checked.now columns }
     requires within { (n : ℕ) → Among n order.now → n < length (programs.rows checked.now) }
     requires differ { AllDiffer order.now }
-    ensures pieces { IfOk result (λ d. d.pieces.items ≡ pieces_in checked.now order.now) }
     ensures firsts { IfOk result (λ d. AreFirsts checked.now order.now d.firsts.items) }
+    ensures count { IfOk result (λ d. d.count ≡ length (pieces_in checked.now order.now)) }
     ensures small { OnOk result (length (pieces_in checked.now order.now) ≤ 1000000) }
     ensures large { IfErr result
         (λ e. e ≡ BuildError.TooLarge → 1000000 < length (pieces_in checked.now order.now)) }
 {
-    let mut pieces = Vec::with_capacity(alloc, about_size(checked, columns))?;
     let mut firsts = vec![in alloc; 0u32; checked.table.rows.len()]?;
+    let mut count = 0usize;
     for n in order {
-        firsts[*n as usize] = pieces.len() as u32;
-        push_pieces(checked, columns, *n as usize, &mut pieces)?;
-        if pieces.len() > 1_000_000 {
+        firsts[*n as usize] = count as u32;
+        count += made_count(checked, columns, *n as usize);
+        if count > 1_000_000 {
             return Err(BuildError::TooLarge);
         }
     }
-    Ok(Draft { pieces, firsts })
+    Ok(Numbers { firsts, count })
 }
 
-/// The instructions of a draft with their arcs.
+/// The instructions of these rows with their arcs.
 fn connected(
     alloc: Global,
     checked: &Checked,
     columns: Columns<'_>,
     order: &[u32],
-    draft: Draft,
+    numbers: Numbers,
 ) -> Result<Vec<Instr>, BuildError>
     requires columns { AreColumns checked.now columns }
     requires order { order.now ≡ regions.order_of checked.now }
-    requires pieces { draft.pieces.items ≡ pieces_in checked.now order.now }
-    requires firsts { AreFirsts checked.now order.now draft.firsts.items }
-    requires few { length draft.pieces.items ≤ 1000000 }
-    ensures instrs { IfOk result (λ v. v.items ≡ (graph_by checked.now order.now draft.firsts.items).instrs) }
+    requires firsts { AreFirsts checked.now order.now numbers.firsts.items }
+    requires few { length (pieces_in checked.now order.now) ≤ 1000000 }
+    ensures instrs { IfOk result (λ v. v.items ≡ (graph_by checked.now order.now numbers.firsts.items).instrs) }
     ensures memory { IfErr result (λ e. e ≡ BuildError.Memory) }
 {
-    let Draft { pieces, firsts } = draft;
+    let Numbers { firsts, count } = numbers;
     let slots = find_slots(alloc, checked, columns)?;
-    let instrs = bare_instrs(alloc, firsts.as_slice(), pieces.as_slice())?;
-    drop(pieces);
+    let instrs = bare_instrs(alloc, checked, columns, order, firsts.as_slice(), count)?;
     with_arcs(alloc, checked, &slots, order, firsts, instrs)
+}
+
+/// The instructions of these rows without arcs, where the rows' first instructions have these numbers. There is to be
+/// room for `count` of them; no claim rests on it.
+fn bare_instrs(
+    alloc: Global,
+    checked: &Checked,
+    columns: Columns<'_>,
+    order: &[u32],
+    firsts: &[u32],
+    count: usize,
+) -> Result<Vec<Instr>, BuildError>
+    requires columns { AreColumns checked.now columns }
+    requires order { order.now ≡ regions.order_of checked.now }
+    requires firsts { AreFirsts checked.now order.now firsts.now }
+    requires few { length (pieces_in checked.now order.now) ≤ 1000000 }
+    ensures bare { IfOk result (λ v. v.items ≡ instrs_from firsts.now 0 (pieces_in checked.now order.now) []) }
+    ensures memory { IfErr result (λ e. e ≡ BuildError.Memory) }
+{
+    let mut instrs = Vec::with_capacity(alloc, count)?;
+    let mut pieces = Vec::new(alloc);
+    for n in order {
+        push_pieces(checked, columns, *n as usize, &mut pieces)?;
+        push_bare(alloc, firsts, pieces.as_slice(), &mut instrs)?;
+        pieces.clear();
+    }
+    Ok(instrs)
 }
 
 /// These instructions with their arcs, row by row, where the rows' first instructions have these numbers.
@@ -152,7 +176,7 @@ fn with_arcs(
     };
     for n in order {
         push_feeds(checked, slots, *n as usize, &mut arcs)?;
-        connect_all(&mut instrs, arcs.list.as_slice())?;
+        connect_all(alloc, &mut instrs, arcs.list.as_slice())?;
         arcs.list.clear();
     }
     Ok(instrs)

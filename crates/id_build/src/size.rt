@@ -101,24 +101,9 @@ fn rows_in(checked: &Checked, ends: &[Option<u32>], head: usize) -> usize
     end_of(checked, ends, head).saturating_sub(head + 1)
 }
 
-/// How many instructions there is to be room for: as many as the schemas give the program, but at most 1,000,000. No
-/// claim rests on it. Takes no memory.
-pub fn about_size(checked: &Checked, columns: Columns<'_>) -> usize
-    requires { AreColumns checked.now columns }
-    ensures { result ≤ 1000000 }
-{
-    let mut size = 0usize;
-    for n in 0..checked.table.rows.len() {
-        size = size
-            .saturating_add(made_count(checked, columns, n))
-            .min(1_000_000);
-    }
-    size
-}
-
 /// How many instructions the row n makes. Takes no memory.
 #[inline(always)]
-fn made_count(checked: &Checked, columns: Columns<'_>, n: usize) -> usize
+pub fn made_count(checked: &Checked, columns: Columns<'_>, n: usize) -> usize
     requires columns { AreColumns checked.now columns }
     requires within { n < length (programs.rows checked.now) }
     ensures count { result ≡ length (made checked.now n) }

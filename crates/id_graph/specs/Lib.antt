@@ -4,3 +4,4 @@ pub mod Graph
 pub mod Listing
 pub mod Dot
 pub mod Begun
+pub mod Dests

@@ -5,7 +5,7 @@ ghost use Rattle.id_graph.specs.Ports.{constant_kind, operand_kind, outcome_kind
 ghost use Rattle.id_graph.specs.Ports.{two_sides, unary_kind};
 ghost use Rattle.id_graph.specs.Graph.{false_arcs};
 
-use crate::dests::{Dest, Dests, Port};
+use crate::dests::{Dest, Dests, Others, Port};
 use id_list::Sequence;
 use id_value::{Arithmetic, Comparison, Constant, Truth, UnaryOp};
 
@@ -171,7 +171,7 @@ fn unary_kind(operator: UnaryOp) -> PortKind
 pub struct Instr {
     pub op: Op,
     pub dests: Dests,
-    pub others: Dests,
+    pub others: Others,
     pub place: usize,
 }
 

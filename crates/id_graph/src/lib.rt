@@ -13,7 +13,7 @@ mod graph;
 mod instr;
 mod listing;
 
-pub use dests::{Dest, Dests, Port};
+pub use dests::{Dest, Dests, Others, Port};
 pub use dot::draw;
 pub use graph::{Graph, GraphCause, GraphError, kind_at};
 pub use id_value::{Arithmetic, Comparison, Constant, Truth, UnaryOp};

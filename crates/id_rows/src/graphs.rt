@@ -1,7 +1,8 @@
 //! The graphs of the rows, made by hand.
 
 use id_graph::{
-    Arithmetic, Block, Comparison, Constant, Dest, Dests, Dyadic, Graph, Instr, Op, Port, PortKind,
+    Arithmetic, Block, Comparison, Constant, Dest, Dests, Dyadic, Graph, Instr, Op, Others, Port,
+    PortKind,
 };
 use id_list::Sequence;
 use id_valid::{Valid, validate};
@@ -23,13 +24,25 @@ fn dests(alloc: Global, arcs: &[(u32, Port)]) -> Result<Dests, AllocError> {
     Ok(dests)
 }
 
+fn others(alloc: Global, arcs: &[(u32, Port)]) -> Result<Others, AllocError> {
+    let mut others = Others::none();
+    for (instr, port) in arcs {
+        let dest = Dest {
+            instr: *instr,
+            port: *port,
+        };
+        others.push(alloc, dest)?;
+    }
+    Ok(others)
+}
+
 fn instrs(alloc: Global, rows: &[Row<'_>]) -> Result<Vec<Instr>, AllocError> {
     let mut list = Vec::new(alloc);
     for (op, first, second, place) in rows {
         list.push(Instr {
             op: *op,
             dests: dests(alloc, first)?,
-            others: dests(alloc, second)?,
+            others: others(alloc, second)?,
             place: *place,
         })?;
     }

@@ -1,5 +1,5 @@
 -- The address's two arcs are pushed, and then that of the `fetch`.
-use Rattle.std.proofs.Common.{◌≡◌, ◌∙◌, ◌+◌, List, ℕ, ap, arith, refl}
+use Rattle.std.proofs.Common.{◌≡◌, ◌∙◌, ◌+◌, List, ℕ, ap, arith}
 use Rattle.std.proofs.lemmas.Result.{on_ok_weaker}
 use Rattle.id_graph.specs.declared.dests.Port.TheVariants.{Zero}
 use Rattle.id_build.specs.Made.{number_by}

@@ -3,8 +3,6 @@ use Rattle.std.proofs.Common.{◌≡◌, ◌∙◌, ◌+◌, List, ℕ, ap, arit
 use Rattle.std.proofs.lemmas.Result.{on_ok_weaker}
 use Rattle.id_graph.specs.declared.dests.Port.TheVariants.{One}
 use Rattle.id_desugar.specs.Ends.{end_of}
-use Rattle.id_parts.specs.Rows.{at}
-use Rattle.id_check.specs.Programs.{rows}
 use Rattle.id_build.specs.Made.{number_by}
 use Rattle.id_build.specs.Rows.{body_of, node, origin}
 use Rattle.id_build.proofs.FeedsLemmas.{one_arc}

@@ -19,8 +19,8 @@ number-requires-clause-within c = (is_order c.args.checked.now c.args.order.now 
 pub number-requires-clause-differ : goal.number-requires-clause-differ
 number-requires-clause-differ c = (is_order c.args.checked.now c.args.order.now c.requires.order).differ
 
-pub returns-in_err-draft-clause-large : goal.returns-in_err-draft-clause-large
-returns-in_err-draft-clause-large c =
+pub returns-in_err-numbers-clause-large : goal.returns-in_err-numbers-clause-large
+returns-in_err-numbers-clause-large c =
     let P = c.args.checked.now in
     let size : length (pieces_in P c.args.order.now) ≡ size P = ap (λ o. length (pieces_in P o)) c.requires.order ∙ length-pieces_in P in
     grind (arith, common_steps)
@@ -29,15 +29,15 @@ pub returns-clause-small : goal.returns-clause-small
 returns-clause-small c =
     let P = c.args.checked.now in
     let size : length (pieces_in P c.args.order.now) ≡ size P = ap (λ o. length (pieces_in P o)) c.requires.order ∙ length-pieces_in P in
-    omega (arith, size, c.in_ok-draft.ensures.small)
+    omega (arith, size, c.in_ok-numbers.ensures.small)
 
 pub returns-clause-schemas : goal.returns-clause-schemas
 returns-clause-schemas c =
     let P = c.args.checked.now in
     let order = c.args.order.now in
-    let F = c.in_ok-draft.draft.firsts.items in
+    let F = c.in_ok-numbers.numbers.firsts.items in
     let G = graph_by P order F in
-    let whole = Schemas-graph_by P order F (IsBuildable-checked P) (is_order P order c.requires.order) c.in_ok-draft.ensures.firsts in
+    let whole = Schemas-graph_by P order F (IsBuildable-checked P) (is_order P order c.requires.order) c.in_ok-numbers.ensures.firsts in
     let bs : c.in_ok-blocks.blocks.items ≡ G.blocks = c.in_ok-blocks.ensures.blocks ∙ ap (λ f. map (block_of P (number_by f)) (all_heads P)) c.as_slice.ensures.value in
     let is = c.in_ok-instrs.ensures.instrs in
     let A : List Block → Type 0 = λ x. Schemas P (parts x c.in_ok-instrs.instrs.items) in
@@ -49,12 +49,12 @@ returns-clause-exist c = PortsExist-schemas c.args.checked.now (parts c.in_ok-bl
 
 pub returns-clause-few : goal.returns-clause-few
 returns-clause-few c =
-    let long = length-graph_by c.args.checked.now c.args.order.now c.in_ok-draft.draft.firsts.items in
-    omega (arith, ap length c.in_ok-instrs.ensures.instrs, long, c.in_ok-draft.ensures.small)
+    let long = length-graph_by c.args.checked.now c.args.order.now c.in_ok-numbers.numbers.firsts.items in
+    omega (arith, ap length c.in_ok-instrs.ensures.instrs, long, c.in_ok-numbers.ensures.small)
 
 pub blocks-requires-clause-fit : goal.blocks-requires-clause-fit
 blocks-requires-clause-fit c =
     let P = c.args.checked.now in
     let order = c.args.order.now in
-    let few : length (pieces_in P order) ≤ 1000000 = omega (arith, c.in_ok-draft.ensures.small) in
-    subst (EntriesFit P) (sym c.as_slice.ensures.value) (entries_fit P order c.in_ok-draft.draft.firsts.items (is_order P order c.requires.order) c.in_ok-draft.ensures.firsts few)
+    let few : length (pieces_in P order) ≤ 1000000 = omega (arith, c.in_ok-numbers.ensures.small) in
+    subst (EntriesFit P) (sym c.as_slice.ensures.value) (entries_fit P order c.in_ok-numbers.numbers.firsts.items (is_order P order c.requires.order) c.in_ok-numbers.ensures.firsts few)

@@ -2,37 +2,37 @@
 use Rattle.std.proofs.Common.{◌+◌, ℕ, ◌<◌, ap, arith, get_or, length, take_all, ◌∙◌}
 use Rattle.std.proofs.lemmas.Grind.{common_steps}
 use Rattle.id_build.specs.Made.{first_in, pieces_in}
-use Rattle.id_build.proofs.FillLemmas.{Among-get_or, first_in-next, pieces_in-next, pieces_in-take, zeros}
+use Rattle.id_build.proofs.FillLemmas.{Among-get_or, count_in-next, first_in-next, pieces_in-take, zeros}
 use Rattle.std.proofs.Math.ListN.{length-set}
 use Rattle.id_build.proofs.program.number.Goals as goal
 
 -- at first there are no instructions, and all numbers are 0
 pub loop-n-init : goal.loop-n-init
 loop-n-init c = record {
-  pieces = c.in_ok-pieces.ensures.items;
+  count = omega arith;
   many = omega (arith, c.in_ok-firsts.ensures.len, c.len.ensures);
   firsts = λ m l. zeros 0 m c.in_ok-firsts.firsts.items (λ k. grind (arith, common_steps));
-  few = omega (arith, ap length c.in_ok-pieces.ensures.items);
+  few = omega arith;
 }
 
-pub overflow_cast-len : goal.overflow_cast-len
-overflow_cast-len c = grind (arith, common_steps)
+pub overflow_cast-count : goal.overflow_cast-count
+overflow_cast-count c = grind (arith, common_steps)
 
 pub index_mut-requires : goal.index_mut-requires
 index_mut-requires c =
     let h = c.requires.within (get_or c.args.order.now c.loop-n.n-index 0) (Among-get_or c.args.order.now c.loop-n.n-index (omega arith)) in
     omega (arith, h, c.loop-n.invariant.many, c.loop-n.firsts.ok.0)
 
-pub push_pieces-requires-clause-within : goal.push_pieces-requires-clause-within
-push_pieces-requires-clause-within c =
+pub made_count-count-requires-clause-within : goal.made_count-count-requires-clause-within
+made_count-count-requires-clause-within c =
     c.requires.within (get_or c.args.order.now c.loop-n.n-index 0) (Among-get_or c.args.order.now c.loop-n.n-index (omega arith))
 
-pub returns-then-len-gt1000000-clause-large : goal.returns-then-len-gt1000000-clause-large
-returns-then-len-gt1000000-clause-large c = λ e.
+pub returns-then-count-gt1000000-clause-large : goal.returns-then-count-gt1000000-clause-large
+returns-then-count-gt1000000-clause-large c = λ e.
     (let i : c.loop-n.n-index < length c.args.order.now = omega arith in
-    let next = pieces_in-next c.args.checked.now c.args.order.now c.loop-n.n-index c.loop-n.pieces.items c.push_pieces.new.pieces.items i c.loop-n.invariant.pieces c.in_ok-push_pieces.ensures.pieces in
+    let next = count_in-next c.args.checked.now c.args.order.now c.loop-n.n-index i in
     let few = pieces_in-take c.args.checked.now (c.loop-n.n-index + 1) c.args.order.now in
-    omega (arith, ap length next, few, c.push_pieces.new.pieces.ok.0))
+    omega (arith, next, few, c.loop-n.invariant.count, c.made_count-count.ensures.count))
 
 pub loop-n-preserved : goal.loop-n-preserved
 loop-n-preserved c =
@@ -44,15 +44,16 @@ loop-n-preserved c =
     let low = c.requires.within n (Among-get_or order i h) in
     let many = c.loop-n.invariant.many in
     record {
-      pieces = pieces_in-next P order i c.loop-n.pieces.items c.push_pieces.new.pieces.items h c.loop-n.invariant.pieces c.in_ok-push_pieces.ensures.pieces;
+      count = omega (arith, c.loop-n.invariant.count, count_in-next P order i h, c.made_count-count.ensures.count);
       many = omega (arith, length-set {A = ℕ});
-      firsts = first_in-next P order c.loop-n.firsts.items i c.len-in-loop-n.result c.requires.differ h (omega (arith, low, many)) (omega (arith, ap length c.loop-n.invariant.pieces, c.loop-n.pieces.ok.0)) c.loop-n.invariant.firsts;
-      few = omega (arith, c.push_pieces.new.pieces.ok.0);
+      firsts = first_in-next P order c.loop-n.firsts.items i c.loop-n.count c.requires.differ h (omega (arith, low, many)) c.loop-n.invariant.count c.loop-n.invariant.firsts;
+      few = omega arith;
     }
 
 -- at last those of all rows
-pub returns-clause-pieces : goal.returns-clause-pieces
-returns-clause-pieces c = c.loop-n.invariant.pieces ∙ ap (pieces_in c.args.checked.now) (take_all c.loop-n.n-index c.args.order.now c.loop-n-test.false)
+pub returns-clause-count : goal.returns-clause-count
+returns-clause-count c =
+    c.loop-n.invariant.count ∙ ap (λ o. length (pieces_in c.args.checked.now o)) (take_all c.loop-n.n-index c.args.order.now c.loop-n-test.false)
 
 pub returns-clause-firsts : goal.returns-clause-firsts
 returns-clause-firsts c = record {
@@ -61,4 +62,4 @@ returns-clause-firsts c = record {
 }
 
 pub returns-clause-small : goal.returns-clause-small
-returns-clause-small c = omega (arith, ap length (returns-clause-pieces c), c.loop-n.invariant.few)
+returns-clause-small c = omega (arith, returns-clause-count c, c.loop-n.invariant.few)

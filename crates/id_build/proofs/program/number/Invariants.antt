@@ -1,4 +1,4 @@
--- The instructions of the rows so far, and the numbers of their first ones.
+-- How many instructions the rows so far make, and the numbers of their first ones.
 use Rattle.std.proofs.Common.{◌≡◌, ℕ, ◌≤◌, ◌<◌, length, take}
 use Rattle.id_check.specs.Programs.{rows}
 use Rattle.id_build.specs.Made.{first_in, number_by, pieces_in}
@@ -6,8 +6,8 @@ use Rattle.id_build.proofs.program.number.Given as goal
 
 abbrev pub invariant-loop-n : goal.invariant-loop-n
 invariant-loop-n l = record {
-  pieces : l.pieces.items ≡ pieces_in l.checked (take l.n-index l.order);
+  count : l.count ≡ length (pieces_in l.checked (take l.n-index l.order));
   many : length l.firsts.items ≡ length (rows l.checked);
   firsts : (m : ℕ) → m < length (rows l.checked) → number_by l.firsts.items m 0 ≡ first_in l.checked 0 (take l.n-index l.order) m;
-  few : length l.pieces.items ≤ 1000000;
+  few : l.count ≤ 1000000;
 }
