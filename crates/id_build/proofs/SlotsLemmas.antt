@@ -1,10 +1,11 @@
 -- Where imports stand, as they are noted one after another.
-use Rattle.std.proofs.Common.{◌≡◌, ℕ, zero, suc, ◌+◌, ◌<◌, ◌≤◌, Bool, true, false, List, [], ◌∷◌, ◌++◌, Option, Some, None, length, get_or, take, refl, ap, sym, ◌∙◌, arith}
+use Rattle.std.proofs.Common.{◌≡◌, inl, inr, ℕ, zero, suc, ◌+◌, ◌<◌, ◌≤◌, Bool, true, false, List, [], ◌∷◌, ◌++◌, Option, Some, None}
+use Rattle.std.proofs.Common.{length, get_or, take, refl, ap, sym, ◌∙◌, arith}
 use Rattle.std.specs.Prelude.{◌==◌, ◌&&◌, if◌then◌else◌, nat_lt, unwrap_or}
 use Rattle.std.specs.Option.{option_or}
-use Rattle.std.proofs.lemmas.Bool.{eqb-true}
+use Rattle.std.proofs.lemmas.Bool.{cases_lt, eqb-true}
 use Rattle.std.proofs.lemmas.Bool.Decides.{nat_tests}
-use Rattle.std.proofs.lemmas.List.{take_more}
+use Rattle.std.proofs.lemmas.List.{get_or_past, take_more}
 use Rattle.id_build.specs.declared.slots.Import.{Import}
 use Rattle.id_build.specs.Slots.{behind, found, noted, noted_all}
 use Rattle.id_build.specs.Rows.{slot_of}
@@ -12,7 +13,8 @@ use Rattle.std.proofs.Math.ListN.{get_or-eq_default}
 use Rattle.id_parts.specs.Rows.{no_row}
 use Rattle.id_check.specs.declared.checked.Checked.{Checked}
 use Rattle.id_check.specs.Programs.{rows}
-use Rattle.id_desugar.specs.Regions.{handed, imports_of}
+use Rattle.id_desugar.specs.Regions.{all_imports, handed, imports_of}
+use Rattle.id_desugar.proofs.FilledLemmas.{all_imports-at, length-all_imports}
 
 -- ---- the imports of a head
 
@@ -103,21 +105,24 @@ found_slot (x ∷ xs) b = at (x == b) (found_slot xs b)
     at true h = refl
     at false h = more (found xs b) (length xs) (slot_of xs b) h
 
--- past the end nothing is imported
-pub past : (P : Checked) (i : ℕ) → length (rows P) ≤ i → imports_of P i ≡ []
-past P i l = ap (λ r. handed P i r.node) (get_or-eq_default (rows P) no_row l)
+-- what is listed for a row are its imports, also past the end
+pub listed_at : (P : Checked) (h : ℕ) → get_or (all_imports P) h [] ≡ imports_of P h
+listed_at P h = elim (cases_lt h (length (rows P))) [
+  | inl l ↦ all_imports-at P h l
+  | inr l ↦ get_or_past (all_imports P) h [] (omega (arith, l, length-all_imports P)) ∙ sym (ap (λ r. handed P h r.node) (get_or-eq_default (rows P) no_row l))
+]
 
--- once all heads are passed, what is noted is where each import stands
-pub slots_are : (P : Checked) (n h b : ℕ) → length (rows P) ≤ n
+-- once all heads that import something are passed, what is noted is where each import stands
+pub slots_are : (P : Checked) (n h b : ℕ) → ((i : ℕ) → n ≤ i → imports_of P i ≡ [])
     → unwrap_or (noted_below (imports_of P) n (record { head = h; binder = b })) (length (imports_of P h)) ≡ slot_of (imports_of P h) b
-slots_are P n h b l = at (nat_lt h n) refl
+slots_are P n h b past = at (nat_lt h n) refl
   where
-    high : nat_lt h n ≡ false → length (rows P) ≤ h
-    high e = grind (arith, nat_tests, e, l)
+    high : nat_lt h n ≡ false → n ≤ h
+    high e = grind (arith, nat_tests, e)
 
     at : (t : Bool) → nat_lt h n ≡ t → unwrap_or (if t then found (imports_of P h) b else None) (length (imports_of P h)) ≡ slot_of (imports_of P h) b
     at true e = found_slot (imports_of P h) b
-    at false e = ap length (past P h (high e)) ∙ sym (ap (λ (z : List ℕ). slot_of z b) (past P h (high e)))
+    at false e = ap length (past h (high e)) ∙ sym (ap (λ (z : List ℕ). slot_of z b) (past h (high e)))
 
 -- no more stand before than there are
 pub slot_within : (bs : List ℕ) (b : ℕ) → slot_of bs b ≤ length bs

@@ -7,13 +7,13 @@ ghost use Rattle.id_desugar.specs.Regions as regions;
 ghost use Rattle.id_build.specs.Slots.{AreColumns};
 
 use id_check::Checked;
-use id_desugar::Imports;
+use id_desugar::AllImports;
 
 /// For each row the binders that it imports, the row where what begins there ends, and the `next` statement of the
 /// variable there.
 #[derive(Clone, Copy)]
 pub struct Columns<'a> {
-    pub imports: &'a [Imports],
+    pub imports: &'a AllImports,
     pub ends: &'a [Option<u32>],
     pub nexts: &'a [Option<u32>],
 }
@@ -25,11 +25,7 @@ impl<'a> Columns<'a> {
         ensures { result.now ≡ regions.imports_of checked.now row }
     {
         let _ = checked;
-        if row < self.imports.len() {
-            self.imports[row].as_slice()
-        } else {
-            &[]
-        }
+        self.imports.get(row)
     }
 
     /// The row where what begins at a row ends.

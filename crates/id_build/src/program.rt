@@ -40,7 +40,7 @@ pub fn build(alloc: Global, kernel: &Kernel<'_>) -> Result<Graph, BuildError>
 {
     let order = kernel.order.as_slice();
     let columns = Columns {
-        imports: kernel.imports.as_slice(),
+        imports: &kernel.imports,
         ends: kernel.ends.as_slice(),
         nexts: kernel.nexts.as_slice(),
     };

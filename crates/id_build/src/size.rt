@@ -20,7 +20,7 @@ pub fn is_small(kernel: &Kernel<'_>) -> bool
 {
     let checked = kernel.checked;
     let columns = Columns {
-        imports: kernel.imports.as_slice(),
+        imports: &kernel.imports,
         ends: kernel.ends.as_slice(),
         nexts: kernel.nexts.as_slice(),
     };

@@ -38,7 +38,7 @@ pub fn find_slots<'a>(
     ensures memory { IfErr result (λ e. e ≡ BuildError.Memory) }
 {
     let mut numbers = HashMap::new(alloc);
-    for head in 0..columns.imports.len() {
+    for head in 0..columns.imports.listed() {
         note_all(&mut numbers, head, columns.imports(checked, head))?;
     }
     Ok(Slots { columns, numbers })

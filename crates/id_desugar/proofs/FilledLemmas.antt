@@ -1,11 +1,11 @@
 -- The lists of what constructs use, filled one after another, and those of imports in their place.
 use Rattle.std.proofs.Common.{◌≡◌, ◌≢◌, inl, inr, ℕ, zero, suc, ◌+◌, ◌-◌, ◌<◌, Bool, true, false, List, [], ◌∷◌, ◌++◌, Option, Some, None}
-use Rattle.std.proofs.Common.{refl, ap, sym, ◌∙◌, subst, arith, length, length-append, get_or, slice_set}
+use Rattle.std.proofs.Common.{refl, ap, sym, ◌∙◌, subst, arith, length, length-append, get_or, replicate, slice_set}
 use Rattle.std.specs.Prelude.{◌==◌, if◌then◌else◌, nat_lt, unwrap_or}
 use Rattle.std.proofs.lemmas.Bool.{cases_lt, eqb-true, false≢true}
 use Rattle.std.proofs.lemmas.Bool.Decides.{nat_tests}
 use Rattle.std.proofs.lemmas.Grind.{common_steps}
-use Rattle.std.proofs.lemmas.List.{ext_get_or, get_or-set_same, get_or-set_other}
+use Rattle.std.proofs.lemmas.List.{ext_get_or, get_or-set_same, get_or-set_other, replicate_more}
 use Rattle.id_parts.specs.declared.row.Node.{Node}
 use Rattle.id_parts.specs.declared.row.Node.TheVariants.{Split, LoopHead, Switches}
 use Rattle.id_parts.specs.Rows.{at}
@@ -14,7 +14,7 @@ use Rattle.id_check.specs.declared.checked.Checked.{Checked}
 use Rattle.id_check.specs.Programs.{rows}
 use Rattle.id_desugar.specs.Ends.{end_of, end_row}
 use Rattle.id_desugar.specs.Regions.{all_imports, handed, imports, imports_below, imports_by, imports_of, is_loop_head, nexts_of, taken, used}
-use Rattle.id_desugar.specs.Gathering.{AreFilled, AreGathered, AreTurned, EndsNothing, IsInner, is_before, is_opening, used_in, uses_of}
+use Rattle.id_desugar.specs.Gathering.{AreFilled, AreGathered, AreTurned, EndsNothing, IsInner, is_before, is_opening, may_import, used_in, uses_of}
 use Rattle.id_desugar.proofs.EndsLemmas.{end_begins, end_behind}
 use Rattle.id_desugar.proofs.NotesLemmas.{uses-are}
 use Rattle.id_desugar.proofs.UsesLemmas.{imports-same}
@@ -156,6 +156,21 @@ switches_hand P w g e is f = ap (λ z. nexts_of P g ++ z) (head (at (rows P) g).
     by : (n : Node) → is_switches n ≡ true → nexts_of P (at (rows P) w).block ++ taken P (at (rows P) w).block ≡ handed P w n
     by (Switches t) h = refl
     by _ h = absurd (false≢true h)
+
+-- a row that may import nothing has no imports
+no_imports : (P : Checked) (h : ℕ) (n : Node) → may_import n ≡ false → handed P h n ≡ []
+no_imports P h (Split t) e = cc
+no_imports P h (LoopHead s) e = cc
+no_imports P h (Switches t) e = cc
+no_imports P h _ e = refl
+
+-- one more of the rows that import nothing
+pub imports_below-none : (P : Checked) (n : ℕ) → imports_below P n ≡ replicate n [] → may_import (at (rows P) n).node ≡ false
+    → imports_below P (n + 1) ≡ replicate (n + 1) []
+imports_below-none P n rest e =
+    let next : n + 1 ≡ suc n = omega arith in
+    ap (imports_below P) next ∙ ap (λ z. z ++ imports_of P n ∷ []) rest ∙ ap (λ z. replicate n [] ++ z ∷ []) (no_imports P n (at (rows P) n).node e)
+    ∙ replicate_more n []
 
 -- what a loop's head imports
 pub loop_imports : (P : Checked) (h s : ℕ) → (at (rows P) h).node ≡ LoopHead s → taken P h ≡ imports_of P h

@@ -3,7 +3,7 @@ use Rattle.std.specs.Prelude.{◌≡◌, ◌≤◌, ◌<◌, ◌+◌, ◌==◌, 
 use Rattle.std.specs.Prelude.{List, [], ◌∷◌, length, get_or, Option, None, Some}
 use Rattle.id_parts.specs.declared.row.Node.{Node}
 use Rattle.id_parts.specs.Rows.{at}
-use Rattle.id_parts.specs.Tables.{is_split}
+use Rattle.id_parts.specs.Tables.{is_split, is_switches}
 use Rattle.id_check.specs.declared.checked.Checked.{Checked}
 use Rattle.id_check.specs.Programs.{rows, binder}
 use Rattle.id_desugar.specs.Ends.{end_of, end_row}
@@ -29,6 +29,10 @@ pub record AreChains (P : Checked) (lo n : ℕ) (firsts nexts : List (Option ℕ
 -- whether a construct that uses names from outside begins at a row of this node: a conditional's arms or a loop
 abbrev pub is_opening : Node → Bool
 is_opening n = is_split n || is_loop_head n
+
+-- whether a row of this node may import something
+abbrev pub may_import : Node → Bool
+may_import n = is_opening n || is_switches n
 
 -- whether the row stands right in a side of the switches of the loop with this head, if one is given
 abbrev pub is_own : Checked → Option ℕ → ℕ → Bool

@@ -5,7 +5,7 @@ ghost use Rattle.id_check.specs.Programs as programs;
 ghost use Rattle.id_parts.specs.Rows as table;
 ghost use Rattle.id_parts.specs.Tables.{is_variable};
 ghost use Rattle.id_desugar.specs.Ends.{AreEnds, AreNexts, end_of, next_of};
-ghost use Rattle.id_desugar.specs.Gathering.{is_own, is_opening, used_in};
+ghost use Rattle.id_desugar.specs.Gathering.{is_own, is_opening, may_import, used_in};
 ghost use Rattle.id_desugar.specs.Regions.{is_loop_head, is_right_in};
 
 use id_check::Checked;
@@ -90,6 +90,13 @@ pub fn is_opening(node: Node) -> bool
     ensures { result ≡ is_opening node }
 {
     matches!(node, Node::Split { .. } | Node::LoopHead { .. })
+}
+
+/// Whether a row of this node may import something: one where such a construct begins, or the switches of a loop.
+pub fn may_import(node: Node) -> bool
+    ensures { result ≡ may_import node }
+{
+    is_opening(node) || matches!(node, Node::Switches { .. })
 }
 
 /// The row where what begins at a row ends. Takes no memory.

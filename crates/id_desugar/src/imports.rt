@@ -3,7 +3,7 @@
 //! since what is round the loop uses them; they are no imports of the loop, which are gathered after that.
 
 ghost use Rattle.std.specs.Prelude.{◌≡◌, ◌↔◌, IsTrue, ◌≤◌, ◌<◌, ◌+◌, ◌-◌, ◌⊎◌, ◌++◌, true, [], length, get_or};
-ghost use Rattle.std.specs.Prelude.{IfOk, IfSome, OnOk, Some, None};
+ghost use Rattle.std.specs.Prelude.{replicate, IfOk, IfSome, OnOk, Some, None};
 ghost use Rattle.id_check.specs.Programs as programs;
 ghost use Rattle.id_desugar.specs.Ends.{AreEnds, AreNexts, end_row};
 ghost use Rattle.id_desugar.specs.Regions.{all_imports, imports, imports_by, imports_of, nexts_of, taken, with_use};
@@ -13,9 +13,9 @@ ghost use Rattle.id_list.specs.List.{Among};
 ghost use Rattle.id_parts.specs.Rows.{at};
 ghost use Rattle.id_parts.specs.Tables as table;
 
-use crate::access::{end_of, is_opening, is_variable, next_of, row_at, used_at};
+use crate::access::{end_of, is_opening, is_variable, may_import, next_of, row_at, used_at};
 use crate::ends::begun_at;
-use crate::list::Imports;
+use crate::list::{AllImports, Imports};
 use id_check::Checked;
 use id_parts::Node;
 use std::alloc::{AllocError, Global};
@@ -32,6 +32,36 @@ struct Span {
 
 /// The imports of each row: none but those of conditionals, loops and their switches.
 pub fn all_imports(
+    alloc: Global,
+    checked: &Checked,
+    ends: &[Option<u32>],
+    nexts: &[Option<u32>],
+) -> Result<AllImports, AllocError>
+    requires ends { AreEnds checked.now ends.now }
+    requires nexts { AreNexts checked.now nexts.now }
+    ensures { IfOk result (λ a. a ≡ all_imports checked.now) }
+{
+    if import_nothing(checked) {
+        return Ok(AllImports::none(checked.table.rows.len()));
+    }
+    let lists = all_lists(alloc, checked, ends, nexts)?;
+    Ok(AllImports::new(lists))
+}
+
+/// Whether no row may import anything. Takes no memory.
+fn import_nothing(checked: &Checked) -> bool
+    ensures { IsTrue result → all_imports checked.now ≡ replicate (length (programs.rows checked.now)) [] }
+{
+    for row in 0..checked.table.rows.len() {
+        if may_import(row_at(checked, row).node) {
+            return false;
+        }
+    }
+    true
+}
+
+/// The list of each row.
+fn all_lists(
     alloc: Global,
     checked: &Checked,
     ends: &[Option<u32>],

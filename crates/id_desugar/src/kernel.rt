@@ -7,7 +7,7 @@ ghost use Rattle.id_desugar.specs.Regions.{all_imports, order_of};
 
 use crate::ends::{find_ends, find_nexts};
 use crate::imports::all_imports;
-use crate::list::Imports;
+use crate::list::AllImports;
 use crate::order::order_of;
 use id_check::Checked;
 use std::alloc::{AllocError, Global};
@@ -22,11 +22,11 @@ pub struct Kernel<'a> {
     pub ends: Vec<Option<u32>>,
     /// For each row of a variable of a loop the row of its `next`.
     pub nexts: Vec<Option<u32>>,
-    pub imports: Vec<Imports>,
+    pub imports: AllImports,
     pub ghost ordered: { order.items ≡ order_of checked.now } by { Prim.hlevel props },
     pub ghost ended: { AreEnds checked.now ends.items } by { Prim.hlevel props },
     pub ghost nexted: { AreNexts checked.now nexts.items } by { Prim.hlevel props },
-    pub ghost imported: { imports.items ≡ all_imports checked.now } by { Prim.hlevel props },
+    pub ghost imported: { imports ≡ all_imports checked.now } by { Prim.hlevel props },
 }
 
 /// The program with its regions (docs/GRAPH.md, "Imports").

@@ -18,4 +18,4 @@ mod order;
 pub use access::{binder_at, end_of, next_of, row_at};
 pub use ends::find_ends;
 pub use kernel::{Kernel, regions};
-pub use list::Imports;
+pub use list::AllImports;

@@ -1,6 +1,7 @@
-//! The list of what a row imports. Most rows import nothing, and such a list takes two words.
+//! The list of what a row imports. Most rows import nothing, and such a list takes two words. Where all rows import
+//! nothing, none of them has a list.
 
-ghost use Rattle.std.specs.Prelude.{◌≡◌, [], IfOk};
+ghost use Rattle.std.specs.Prelude.{◌≡◌, ◌≤◌, ℕ, [], get_or, replicate, IfOk};
 
 use std::alloc::{AllocError, Global};
 use std::marker::Model;
@@ -46,6 +47,63 @@ impl Imports {
         match &self.rows {
             Some(rows) => rows.as_slice(),
             None => &[],
+        }
+    }
+}
+
+/// What each row imports.
+#[derive(Drop)]
+pub struct AllImports {
+    /// How many rows there are.
+    count: usize,
+    /// The list of each row, unless all rows import nothing.
+    lists: Option<Vec<Imports>>,
+}
+
+impl Model for AllImports {
+    ghost use Rattle.std.specs.Prelude.{List, ℕ};
+    ghost use Rattle.id_desugar.specs.Lists.{each_listed};
+
+    ghost Value = { List (List ℕ) };
+
+    ghost view = { λ a. each_listed a.count a.lists };
+}
+
+impl AllImports {
+    /// So many rows that import nothing. Takes no memory.
+    pub fn none(count: usize) -> AllImports
+        ensures { result ≡ replicate count [] }
+    {
+        AllImports { count, lists: None }
+    }
+
+    /// The rows with these lists.
+    pub fn new(lists: Vec<Imports>) -> AllImports
+        ensures { result ≡ lists.items }
+    {
+        AllImports {
+            count: lists.len(),
+            lists: Some(lists),
+        }
+    }
+
+    /// What a row imports. Takes no memory.
+    pub fn get(&self, row: usize) -> &[usize]
+        ensures { result.now ≡ get_or self.now row [] }
+    {
+        match &self.lists {
+            Some(lists) if row < lists.len() => lists[row].as_slice(),
+            _ => &[],
+        }
+    }
+
+    /// How many rows have lists, from the first on: those behind them import nothing. Takes no memory.
+    pub fn listed(&self) -> usize
+        ensures { (row : ℕ) → result ≤ row → get_or self.now row [] ≡ [] }
+    {
+        match &self.lists {
+            Some(lists) => lists.len(),
+            None => 0,
         }
     }
 }

@@ -1,6 +1,6 @@
 //! The order in which rows are made into instructions (docs/GRAPH.md, "Schemas").
 
-ghost use Rattle.std.specs.Prelude.{◌≡◌, ◌<◌, ◌≤◌, ◌+◌, ◌++◌, length, IfOk, OnOk};
+ghost use Rattle.std.specs.Prelude.{◌≡◌, ◌<◌, ◌≤◌, ◌+◌, ◌++◌, [], length, IfOk, OnOk};
 ghost use Rattle.id_check.specs.Programs.{rows};
 ghost use Rattle.id_desugar.specs.Gathering.{AreChains};
 ghost use Rattle.id_desugar.specs.Regions.{in_block, in_procedure, loops_by, order_of, those};
@@ -67,13 +67,30 @@ fn push_loops(
     requires last { last + 1 ≡ length (rows checked.now) }
     ensures { OnOk result (order.new.items ≡ order.old.items ++ loops_by checked.now last last) }
 {
+    let first = first_loop(checked, last);
+    if first == last {
+        return Ok(());
+    }
     let chains = find_chains(alloc, checked, last)?;
-    for head in 0..last {
+    for head in first..last {
         if is_loop_head(row_at(checked, head).node) {
             push_block(checked, &chains, order, last, head)?;
         }
     }
     Ok(())
+}
+
+/// The first of the first `last` rows at which a loop's block begins, or `last`. Takes no memory.
+fn first_loop(checked: &Checked, last: usize) -> usize
+    ensures within { result ≤ last }
+    ensures none { loops_by checked.now last result ≡ [] }
+{
+    for row in 0..last {
+        if is_loop_head(row_at(checked, row).node) {
+            return row;
+        }
+    }
+    last
 }
 
 /// Those that stand in the block with this head.

@@ -1,12 +1,11 @@
 -- At last all heads are noted.
-use Rattle.std.proofs.Common.{◌∙◌, ap, arith, length}
+use Rattle.std.proofs.Common.{◌∙◌, [], List, ℕ, ap, sym, arith, get_or, length}
 use Rattle.std.specs.Prelude.{unwrap_or}
 use Rattle.id_desugar.specs.Regions.{imports_of}
-use Rattle.id_desugar.proofs.FilledLemmas.{length-all_imports}
 use Rattle.std.specs.Option.{option_or}
 use Rattle.id_build.specs.Slots.{noted_all}
 use Rattle.id_build.proofs.ResultLemmas.{if_err, if_ok}
-use Rattle.id_build.proofs.SlotsLemmas.{noted_below, noted_below-next, slots_are}
+use Rattle.id_build.proofs.SlotsLemmas.{listed_at, noted_below, noted_below-next, slots_are}
 use Rattle.id_build.proofs.slots.find_slots.Goals as goal
 
 pub returns-clause-slots : goal.returns-clause-slots
@@ -15,7 +14,10 @@ returns-clause-slots c = record {
   numbers = λ h b. (
       let P = c.args.checked.now in
       ap (λ o. unwrap_or o (length (imports_of P h))) (c.loop-head.invariant (record { head = h; binder = b }))
-      ∙ slots_are P c.loop-head.head h b (omega (arith, c.loop-head-test.false, ap length c.requires.columns.imports, length-all_imports P))
+      ∙ slots_are P c.loop-head.head h b (λ i l. (
+      sym (listed_at P i) ∙ ap (λ (z : List (List ℕ)). get_or z i []) (sym c.requires.columns.imports)
+      ∙ c.listed-head-end.ensures i (omega (arith, l, c.loop-head-test.false))
+      ))
       );
 }
 

@@ -1,5 +1,5 @@
 -- One more block.
-use Rattle.std.proofs.Common.{◌++◌, ap, sym, ◌∙◌, append_assoc}
+use Rattle.std.proofs.Common.{◌++◌, ap, sym, ◌∙◌, append-nil, append_assoc}
 use Rattle.id_parts.specs.declared.row.Row.{Row}
 use Rattle.id_desugar.specs.Regions.{in_block, is_loop_head, loops_by, those}
 use Rattle.id_desugar.proofs.OrderLemmas.{loops-no, loops-yes}
@@ -20,3 +20,13 @@ loop-head-preserved c =
       | else-is_loop_head w ↦
           ap (λ o. o.items) w.order-is ∙ c.loop-head.invariant ∙ ap (λ z. old ++ z) (sym (loops-no P n head (is ∙ w.if-is_loop_head.false)))
     ]
+
+pub loop-head-init : goal.loop-head-init
+loop-head-init c =
+    let old = c.args.order.now.items in
+    sym (ap (λ z. old ++ z) c.first_loop-first.ensures.none ∙ append-nil old)
+
+pub returns-then-first-last : goal.returns-then-first-last
+returns-then-first-last c =
+    let old = c.args.order.now.items in
+    sym (ap (λ z. old ++ z) (ap (loops_by c.args.checked.now c.args.last) (sym c.if-first-last.true) ∙ c.first_loop-first.ensures.none) ∙ append-nil old)

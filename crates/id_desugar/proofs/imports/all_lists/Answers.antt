@@ -3,7 +3,7 @@ use Rattle.std.proofs.Common.{refl, arith, length}
 use Rattle.std.proofs.lemmas.Grind.{common_steps}
 use Rattle.id_check.specs.Programs.{rows}
 use Rattle.id_desugar.proofs.FilledLemmas.{AreTurned-none, turned_all}
-use Rattle.id_desugar.proofs.imports.all_imports.Goals as goal
+use Rattle.id_desugar.proofs.imports.all_lists.Goals as goal
 
 pub loop-row-init : goal.loop-row-init
 loop-row-init c = (
