@@ -7,15 +7,15 @@ ghost use Rattle.id_desugar.specs.Regions as regions;
 ghost use Rattle.id_build.specs.Slots.{AreColumns};
 
 use id_check::Checked;
-use id_desugar::AllImports;
+use id_desugar::{AllImports, Column};
 
 /// For each row the binders that it imports, the row where what begins there ends, and the `next` statement of the
 /// variable there.
 #[derive(Clone, Copy)]
 pub struct Columns<'a> {
     pub imports: &'a AllImports,
-    pub ends: &'a [Option<u32>],
-    pub nexts: &'a [Option<u32>],
+    pub ends: &'a Column,
+    pub nexts: &'a Column,
 }
 
 impl<'a> Columns<'a> {

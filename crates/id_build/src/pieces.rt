@@ -209,7 +209,7 @@ fn push_variable_sends(
     place: usize,
     pieces: &mut Vec<Piece>,
 ) -> Result<(), BuildError>
-    requires few { first < 2 ^ 62 }
+    requires few { first < 2 ^ 63 }
     ensures pieces { OnOk result (pieces.new.items
         ≡ pieces.old.items ++ map (send_to checked.now place) (variable_entries first nexts.now)) }
     ensures memory { IfErr result (λ e. e ≡ BuildError.Memory) }

@@ -41,8 +41,8 @@ pub fn build(alloc: Global, kernel: &Kernel<'_>) -> Result<Graph, BuildError>
     let order = kernel.order.as_slice();
     let columns = Columns {
         imports: &kernel.imports,
-        ends: kernel.ends.as_slice(),
-        nexts: kernel.nexts.as_slice(),
+        ends: &kernel.ends,
+        nexts: &kernel.nexts,
     };
     let (blocks, instrs) = build_parts(alloc, kernel.checked, columns, order)?;
     Ok(Graph::known(blocks, instrs))

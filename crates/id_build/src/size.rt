@@ -10,7 +10,7 @@ ghost use Rattle.id_build.specs.Slots.{AreColumns};
 use crate::columns::Columns;
 use crate::loops::nexts_at;
 use id_check::Checked;
-use id_desugar::{Kernel, end_of, find_ends, row_at};
+use id_desugar::{Column, Kernel, end_of, find_ends, row_at};
 use id_parts::Node;
 use std::alloc::{AllocError, Global};
 
@@ -21,8 +21,8 @@ pub fn is_small(kernel: &Kernel<'_>) -> bool
     let checked = kernel.checked;
     let columns = Columns {
         imports: &kernel.imports,
-        ends: kernel.ends.as_slice(),
-        nexts: kernel.nexts.as_slice(),
+        ends: &kernel.ends,
+        nexts: &kernel.nexts,
     };
     let mut size = 0usize;
     for n in 0..checked.table.rows.len() {
@@ -63,7 +63,7 @@ pub fn is_surely_small(alloc: Global, checked: &Checked) -> Result<bool, AllocEr
     let ends = find_ends(alloc, checked)?;
     let mut most = 0usize;
     for n in 0..checked.table.rows.len() {
-        most += most_made(checked, ends.as_slice(), n);
+        most += most_made(checked, &ends, n);
         if most > 1_000_000 {
             return Ok(false);
         }
@@ -72,7 +72,7 @@ pub fn is_surely_small(alloc: Global, checked: &Checked) -> Result<bool, AllocEr
 }
 
 /// How many instructions the row n makes at most. Takes no memory.
-fn most_made(checked: &Checked, ends: &[Option<u32>], n: usize) -> usize
+fn most_made(checked: &Checked, ends: &Column, n: usize) -> usize
     requires few { length (programs.rows checked.now) ≤ 1000000 }
     requires ends { AreEnds checked.now ends.now }
     requires within { n < length (programs.rows checked.now) }
@@ -91,7 +91,7 @@ fn most_made(checked: &Checked, ends: &[Option<u32>], n: usize) -> usize
 }
 
 /// How many rows stand between this one and the one where what begins here ends. Takes no memory.
-fn rows_in(checked: &Checked, ends: &[Option<u32>], head: usize) -> usize
+fn rows_in(checked: &Checked, ends: &Column, head: usize) -> usize
     requires few { length (programs.rows checked.now) ≤ 1000000 }
     requires ends { AreEnds checked.now ends.now }
     requires within { head < length (programs.rows checked.now) }

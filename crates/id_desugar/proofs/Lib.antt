@@ -1,3 +1,4 @@
+pub mod ColumnLemmas
 pub mod EndsLemmas
 pub mod FilledLemmas
 pub mod NotesLemmas

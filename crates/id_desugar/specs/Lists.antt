@@ -1,5 +1,6 @@
--- The rows of a list that is kept behind a box, if there are any, and the lists of all rows.
-use Rattle.std.specs.Prelude.{ℕ, List, [], replicate, Option, None, Some, Vec, box_value}
+-- The rows of a list that is kept behind a box, if there are any, the lists of all rows, and the row that a number in
+-- a column stands for.
+use Rattle.std.specs.Prelude.{ℕ, zero, suc, List, [], replicate, Option, None, Some, Vec, box_value}
 use Rattle.std.specs.declared.alloc.Global.{Global}
 use Rattle.std.specs.declared.boxed.Box.{Box}
 
@@ -11,3 +12,8 @@ listed (Some rows) = (box_value rows).items
 abbrev pub each_listed : ℕ → Option (Vec (List ℕ) Global) → List (List ℕ)
 each_listed n None = replicate n []
 each_listed n (Some lists) = lists.items
+
+-- the row that a number stands for, if it stands for one
+abbrev pub row_of : ℕ → Option ℕ
+row_of zero = None
+row_of (suc n) = Some n

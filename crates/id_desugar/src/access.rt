@@ -8,6 +8,7 @@ ghost use Rattle.id_desugar.specs.Ends.{AreEnds, AreNexts, end_of, next_of};
 ghost use Rattle.id_desugar.specs.Gathering.{is_own, is_opening, may_import, used_in};
 ghost use Rattle.id_desugar.specs.Regions.{is_loop_head, is_right_in};
 
+use crate::column::Column;
 use id_check::Checked;
 use id_parts::{Node, Region, Row};
 
@@ -100,27 +101,27 @@ pub fn may_import(node: Node) -> bool
 }
 
 /// The row where what begins at a row ends. Takes no memory.
-pub fn end_of(checked: &Checked, ends: &[Option<u32>], head: usize) -> usize
+pub fn end_of(checked: &Checked, ends: &Column, head: usize) -> usize
     requires ends { AreEnds checked.now ends.now }
     requires within { head < length (programs.rows checked.now) }
     ensures { result ≡ end_of checked.now head }
 {
     let _ = checked;
     match ends.get(head) {
-        Some(end) => end.unwrap_or(0) as usize,
+        Some(end) => end as usize,
         None => 0,
     }
 }
 
 /// The row of the `next` of the variable at a row. Takes no memory.
-pub fn next_of(checked: &Checked, nexts: &[Option<u32>], variable: usize) -> usize
+pub fn next_of(checked: &Checked, nexts: &Column, variable: usize) -> usize
     requires nexts { AreNexts checked.now nexts.now }
     requires within { variable < length (programs.rows checked.now) }
     ensures { result ≡ next_of checked.now variable }
 {
     let _ = checked;
     match nexts.get(variable) {
-        Some(next) => next.unwrap_or(0) as usize,
+        Some(next) => next as usize,
         None => 0,
     }
 }

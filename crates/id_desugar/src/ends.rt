@@ -1,28 +1,26 @@
 //! Where what begins at a row ends, and which `next` each variable of a loop has (docs/GRAPH.md, "Imports").
 
-ghost use Rattle.std.specs.Prelude.{◌≡◌, ◌<◌, ◌+◌, ℕ, length, get_or, replicate, IfOk, None};
+ghost use Rattle.std.specs.Prelude.{◌≡◌, ◌<◌, ◌+◌, ℕ, length, get_or, IfOk, None};
 ghost use Rattle.id_parts.specs.Rows.{at};
 ghost use Rattle.id_check.specs.Programs.{rows};
 ghost use Rattle.id_desugar.specs.Ends.{AreEnds, AreNexts, IsNoted, begun_at};
 ghost use Rattle.id_desugar.specs.Ends as ends;
 
 use crate::access::row_at;
+use crate::column::{Column, MOST};
 use id_check::Checked;
 use id_parts::Node;
 use std::alloc::{AllocError, Global};
 
-/// The most rows that are noted. No text comes near it.
-pub const MOST: usize = 0xffff_ffff;
-
 /// For each row the row where what begins there ends, if something does.
-pub fn find_ends(alloc: Global, checked: &Checked) -> Result<Vec<Option<u32>>, AllocError>
-    ensures { IfOk result (λ v. AreEnds checked.now v.items) }
+pub fn find_ends(alloc: Global, checked: &Checked) -> Result<Column, AllocError>
+    ensures { IfOk result (AreEnds checked.now) }
 {
     let count = checked.table.rows.len();
     if count > MOST {
         return Err(AllocError);
     }
-    let mut ends = nothing(alloc, count)?;
+    let mut ends = Column::none(alloc, count)?;
     for n in 0..count {
         note(&mut ends, n as u32, begun_at(row_at(checked, n).node));
     }
@@ -30,25 +28,18 @@ pub fn find_ends(alloc: Global, checked: &Checked) -> Result<Vec<Option<u32>>, A
 }
 
 /// For each row of a variable the row of its `next`.
-pub fn find_nexts(alloc: Global, checked: &Checked) -> Result<Vec<Option<u32>>, AllocError>
-    ensures { IfOk result (λ v. AreNexts checked.now v.items) }
+pub fn find_nexts(alloc: Global, checked: &Checked) -> Result<Column, AllocError>
+    ensures { IfOk result (AreNexts checked.now) }
 {
     let count = checked.table.rows.len();
     if count > MOST {
         return Err(AllocError);
     }
-    let mut nexts = nothing(alloc, count)?;
+    let mut nexts = Column::none(alloc, count)?;
     for n in 0..count {
         note(&mut nexts, n as u32, variable_at(checked, count, n));
     }
     Ok(nexts)
-}
-
-/// So many rows for which nothing is noted.
-pub fn nothing(alloc: Global, count: usize) -> Result<Vec<Option<u32>>, AllocError>
-    ensures { IfOk result (λ v. v.items ≡ replicate count None) }
-{
-    vec![in alloc; None; count]
 }
 
 /// Where what ends at a row of this node begins, if something does. Takes no memory.
@@ -79,14 +70,15 @@ fn variable_at(checked: &Checked, count: usize, n: usize) -> Option<usize>
 }
 
 /// Notes the row n for this row, if there is one and nothing is noted for it yet. Takes no memory.
-fn note(noted: &mut Vec<Option<u32>>, n: u32, row: Option<usize>)
-    ensures long { length noted.new.items ≡ length noted.old.items }
-    ensures each { (h : ℕ) → h < length noted.old.items
-        → IsNoted n row h (get_or noted.old.items h None) (get_or noted.new.items h None) }
+fn note(noted: &mut Column, n: u32, row: Option<usize>)
+    requires below { n < MOST }
+    ensures long { length noted.new ≡ length noted.old }
+    ensures each { (h : ℕ) → h < length noted.old
+        → IsNoted n row h (get_or noted.old h None) (get_or noted.new h None) }
 {
     if let Some(row) = row {
-        if row < noted.len() && noted[row].is_none() {
-            noted[row] = Some(n);
+        if row < noted.len() && noted.get(row).is_none() {
+            noted.set(row, Some(n));
         }
     }
 }

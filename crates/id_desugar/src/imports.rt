@@ -14,6 +14,7 @@ ghost use Rattle.id_parts.specs.Rows.{at};
 ghost use Rattle.id_parts.specs.Tables as table;
 
 use crate::access::{end_of, is_opening, is_variable, may_import, next_of, row_at, used_at};
+use crate::column::Column;
 use crate::ends::begun_at;
 use crate::list::{AllImports, Imports};
 use id_check::Checked;
@@ -34,8 +35,8 @@ struct Span {
 pub fn all_imports(
     alloc: Global,
     checked: &Checked,
-    ends: &[Option<u32>],
-    nexts: &[Option<u32>],
+    ends: &Column,
+    nexts: &Column,
 ) -> Result<AllImports, AllocError>
     requires ends { AreEnds checked.now ends.now }
     requires nexts { AreNexts checked.now nexts.now }
@@ -64,8 +65,8 @@ fn import_nothing(checked: &Checked) -> bool
 fn all_lists(
     alloc: Global,
     checked: &Checked,
-    ends: &[Option<u32>],
-    nexts: &[Option<u32>],
+    ends: &Column,
+    nexts: &Column,
 ) -> Result<Vec<Imports>, AllocError>
     requires ends { AreEnds checked.now ends.now }
     requires nexts { AreNexts checked.now nexts.now }
@@ -81,11 +82,7 @@ fn all_lists(
 }
 
 /// What each construct uses from outside, by the row where it begins.
-fn all_uses(
-    alloc: Global,
-    checked: &Checked,
-    ends: &[Option<u32>],
-) -> Result<Vec<Imports>, AllocError>
+fn all_uses(alloc: Global, checked: &Checked, ends: &Column) -> Result<Vec<Imports>, AllocError>
     requires ends { AreEnds checked.now ends.now }
     ensures { IfOk result (λ v. AreFilled checked.now (length (programs.rows checked.now)) v.items) }
 {
@@ -113,7 +110,7 @@ fn none_yet(alloc: Global, count: usize) -> Result<Vec<Imports>, AllocError>
 fn fill(
     alloc: Global,
     checked: &Checked,
-    ends: &[Option<u32>],
+    ends: &Column,
     lists: &mut Vec<Imports>,
     marks: &mut Vec<usize>,
     end: usize,
@@ -142,7 +139,7 @@ fn fill(
 }
 
 /// The row where the construct begins that ends at a row, if one does. Takes no memory.
-fn opening_ended(checked: &Checked, ends: &[Option<u32>], end: usize) -> Option<usize>
+fn opening_ended(checked: &Checked, ends: &Column, end: usize) -> Option<usize>
     requires ends { AreEnds checked.now ends.now }
     ensures some { IfSome result (λ s. (s < length (programs.rows checked.now)) × (end_row checked.now s ≡ Some end)
         × is_opening (at (programs.rows checked.now) s).node ≡ true) }
@@ -156,12 +153,14 @@ fn opening_ended(checked: &Checked, ends: &[Option<u32>], end: usize) -> Option<
 }
 
 /// Whether a construct begins at a row and ends at the row `end`. Takes no memory.
-fn is_ended(checked: &Checked, ends: &[Option<u32>], opening: usize, end: usize) -> bool
+fn is_ended(checked: &Checked, ends: &Column, opening: usize, end: usize) -> bool
     requires ends { AreEnds checked.now ends.now }
     ensures { IsTrue result ↔ (opening < length (programs.rows checked.now)) × (end_row checked.now opening ≡ Some end)
         × is_opening (at (programs.rows checked.now) opening).node ≡ true }
 {
-    opening < ends.len() && is_row(ends[opening], end) && is_opening(row_at(checked, opening).node)
+    opening < ends.len()
+        && is_row(ends.get(opening), end)
+        && is_opening(row_at(checked, opening).node)
 }
 
 /// Whether it is the row.
@@ -179,8 +178,8 @@ fn is_row(row: Option<u32>, wanted: usize) -> bool
 fn turn(
     alloc: Global,
     checked: &Checked,
-    ends: &[Option<u32>],
-    nexts: &[Option<u32>],
+    ends: &Column,
+    nexts: &Column,
     lists: &mut Vec<Imports>,
     marks: &mut Vec<usize>,
     row: usize,
@@ -223,7 +222,7 @@ fn turn(
 fn imports_of_loop(
     alloc: Global,
     checked: &Checked,
-    ends: &[Option<u32>],
+    ends: &Column,
     lists: &[Imports],
     marks: &mut Vec<usize>,
     head: usize,
@@ -250,7 +249,7 @@ fn imports_of_loop(
 fn handed_on(
     alloc: Global,
     checked: &Checked,
-    nexts: &[Option<u32>],
+    nexts: &Column,
     lists: &[Imports],
     switches: usize,
     head: usize,
@@ -272,7 +271,7 @@ fn handed_on(
 fn next_rows(
     alloc: Global,
     checked: &Checked,
-    nexts: &[Option<u32>],
+    nexts: &Column,
     head: usize,
 ) -> Result<Vec<usize>, AllocError>
     requires nexts { AreNexts checked.now nexts.now }
@@ -293,7 +292,7 @@ fn next_rows(
 fn gather(
     alloc: Global,
     checked: &Checked,
-    ends: &[Option<u32>],
+    ends: &Column,
     lists: &[Imports],
     marks: &mut Vec<usize>,
     span: Span,
@@ -319,7 +318,7 @@ fn gather(
 /// Notes what a row of the span uses, and where an inner construct begins, what that uses. Gives the row to go on with.
 fn note_row(
     checked: &Checked,
-    ends: &[Option<u32>],
+    ends: &Column,
     lists: &[Imports],
     marks: &mut Vec<usize>,
     list: &mut Vec<usize>,
@@ -351,7 +350,7 @@ fn note_row(
 }
 
 /// The row where the construct ends that begins at a row, or 0. Takes no memory.
-fn inner_end(checked: &Checked, ends: &[Option<u32>], row: usize) -> usize
+fn inner_end(checked: &Checked, ends: &Column, row: usize) -> usize
     requires ends { AreEnds checked.now ends.now }
     requires within { row < length (programs.rows checked.now) }
     ensures { result ≡ 0 ⊎ ((end_row checked.now row ≡ Some result)
@@ -360,7 +359,7 @@ fn inner_end(checked: &Checked, ends: &[Option<u32>], row: usize) -> usize
     if !is_opening(row_at(checked, row).node) {
         return 0;
     }
-    match ends[row] {
+    match ends.get(row) {
         Some(end) => end as usize,
         None => 0,
     }

@@ -5,6 +5,7 @@ ghost use Rattle.std.proofs.Props.{props};
 ghost use Rattle.id_desugar.specs.Ends.{AreEnds, AreNexts};
 ghost use Rattle.id_desugar.specs.Regions.{all_imports, order_of};
 
+use crate::column::Column;
 use crate::ends::{find_ends, find_nexts};
 use crate::imports::all_imports;
 use crate::list::AllImports;
@@ -19,13 +20,13 @@ pub struct Kernel<'a> {
     pub checked: &'a Checked,
     pub order: Vec<u32>,
     /// For each row the row where what begins there ends, if something does.
-    pub ends: Vec<Option<u32>>,
+    pub ends: Column,
     /// For each row of a variable of a loop the row of its `next`.
-    pub nexts: Vec<Option<u32>>,
+    pub nexts: Column,
     pub imports: AllImports,
     pub ghost ordered: { order.items ≡ order_of checked.now } by { Prim.hlevel props },
-    pub ghost ended: { AreEnds checked.now ends.items } by { Prim.hlevel props },
-    pub ghost nexted: { AreNexts checked.now nexts.items } by { Prim.hlevel props },
+    pub ghost ended: { AreEnds checked.now ends } by { Prim.hlevel props },
+    pub ghost nexted: { AreNexts checked.now nexts } by { Prim.hlevel props },
     pub ghost imported: { imports ≡ all_imports checked.now } by { Prim.hlevel props },
 }
 
@@ -36,7 +37,7 @@ pub fn regions<'a>(alloc: Global, checked: &'a Checked) -> Result<Kernel<'a>, Al
     let order = order_of(alloc, checked)?;
     let ends = find_ends(alloc, checked)?;
     let nexts = find_nexts(alloc, checked)?;
-    let imports = all_imports(alloc, checked, ends.as_slice(), nexts.as_slice())?;
+    let imports = all_imports(alloc, checked, &ends, &nexts)?;
     Ok(Kernel {
         checked,
         order,

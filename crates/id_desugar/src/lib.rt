@@ -9,6 +9,7 @@
 #![tactic(auto)]
 
 mod access;
+mod column;
 mod ends;
 mod imports;
 mod kernel;
@@ -16,6 +17,7 @@ mod list;
 mod order;
 
 pub use access::{binder_at, end_of, next_of, row_at};
+pub use column::Column;
 pub use ends::find_ends;
 pub use kernel::{Kernel, regions};
 pub use list::AllImports;

@@ -6,7 +6,7 @@ ghost use Rattle.id_desugar.specs.Gathering.{AreChains};
 ghost use Rattle.id_desugar.specs.Regions.{in_block, in_procedure, loops_by, order_of, those};
 
 use crate::access::{is_loop_head, row_at};
-use crate::ends::{MOST, nothing};
+use crate::column::{Column, MOST};
 use id_check::Checked;
 use std::alloc::{AllocError, Global};
 
@@ -14,9 +14,9 @@ use std::alloc::{AllocError, Global};
 #[derive(Drop)]
 struct Chains {
     /// By head, the first row of its block.
-    firsts: Vec<Option<u32>>,
+    firsts: Column,
     /// For each row the next of its block.
-    nexts: Vec<Option<u32>>,
+    nexts: Column,
 }
 
 /// The order in which the rows are made: the last, then those of procedures, then those of each loop's block.
@@ -103,15 +103,15 @@ fn push_block(
 ) -> Result<(), AllocError>
     requires last { last + 1 ≡ length (rows checked.now) }
     requires head { head < last }
-    requires chains { AreChains checked.now 0 last chains.now.firsts.items chains.now.nexts.items }
+    requires chains { AreChains checked.now 0 last chains.now.firsts chains.now.nexts }
     ensures { OnOk result (order.new.items ≡ order.old.items ++ those (in_block checked.now head) last) }
 {
     let _ = checked;
     let _ = last;
-    let mut at = chains.firsts[head];
+    let mut at = chains.firsts.get(head);
     while let Some(row) = at {
         order.push(row)?;
-        at = chains.nexts[row as usize];
+        at = chains.nexts.get(row as usize);
     }
     Ok(())
 }
@@ -120,12 +120,12 @@ fn push_block(
 fn find_chains(alloc: Global, checked: &Checked, last: usize) -> Result<Chains, AllocError>
     requires few { last ≤ MOST }
     requires last { last + 1 ≡ length (rows checked.now) }
-    ensures { IfOk result (λ c. AreChains checked.now 0 last c.firsts.items c.nexts.items) }
+    ensures { IfOk result (λ c. AreChains checked.now 0 last c.firsts c.nexts) }
 {
     let count = checked.table.rows.len();
     let mut chains = Chains {
-        firsts: nothing(alloc, count)?,
-        nexts: nothing(alloc, count)?,
+        firsts: Column::none(alloc, count)?,
+        nexts: Column::none(alloc, count)?,
     };
     let mut row = last;
     while row > 0 {
@@ -140,11 +140,12 @@ fn link(checked: &Checked, chains: &mut Chains, last: usize, row: usize)
     requires few { last ≤ MOST }
     requires last { last + 1 ≡ length (rows checked.now) }
     requires row { row < last }
-    requires chains { AreChains checked.now (row + 1) last chains.old.firsts.items chains.old.nexts.items }
-    ensures { AreChains checked.now row last chains.new.firsts.items chains.new.nexts.items }
+    requires chains { AreChains checked.now (row + 1) last chains.old.firsts chains.old.nexts }
+    ensures { AreChains checked.now row last chains.new.firsts chains.new.nexts }
 {
     let _ = last;
     let block = row_at(checked, row).block as usize;
-    chains.nexts[row] = chains.firsts[block];
-    chains.firsts[block] = Some(row as u32);
+    let next = chains.firsts.get(block);
+    chains.nexts.set(row, next);
+    chains.firsts.set(block, Some(row as u32));
 }

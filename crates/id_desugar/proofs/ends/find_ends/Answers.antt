@@ -7,12 +7,12 @@ use Rattle.id_desugar.proofs.ends.find_ends.Goals as goal
 
 pub loop-n-init : goal.loop-n-init
 loop-n-init c =
-    AreFirst-none c.args.checked.now (end_at c.args.checked.now) c.len-count.result c.in_ok-ends.ends.items
+    AreFirst-none c.args.checked.now (end_at c.args.checked.now) c.len-count.result c.in_ok-ends.ends
     (omega (arith, c.len-count.ensures)) c.in_ok-ends.ensures
 
 pub loop-n-preserved : goal.loop-n-preserved
 loop-n-preserved c =
     let n = c.loop-n.n in
     let begun = c.begun_at.ensures ∙ ap (λ r. begun_at r.node) c.row_at.ensures in
-    AreFirst-next c.args.checked.now (end_at c.args.checked.now) n c.begun_at.result c.loop-n.ends.items c.note.new.noted.items
+    AreFirst-next c.args.checked.now (end_at c.args.checked.now) n c.begun_at.result c.loop-n.ends c.note.new.noted
     (λ h. ap (λ b. if is_row h b then Some n else None) (sym begun)) c.note.ensures.long c.loop-n.invariant c.note.ensures.each

@@ -7,11 +7,11 @@ use Rattle.id_desugar.proofs.ends.find_nexts.Goals as goal
 
 pub loop-n-init : goal.loop-n-init
 loop-n-init c =
-    AreFirst-none c.args.checked.now (next_at c.args.checked.now) c.len-count.result c.in_ok-nexts.nexts.items
+    AreFirst-none c.args.checked.now (next_at c.args.checked.now) c.len-count.result c.in_ok-nexts.nexts
     (omega (arith, c.len-count.ensures)) c.in_ok-nexts.ensures
 
 pub loop-n-preserved : goal.loop-n-preserved
 loop-n-preserved c =
     let n = c.loop-n.n in
-    AreFirst-next c.args.checked.now (next_at c.args.checked.now) n c.variable_at.result c.loop-n.nexts.items c.note.new.noted.items
+    AreFirst-next c.args.checked.now (next_at c.args.checked.now) n c.variable_at.result c.loop-n.nexts c.note.new.noted
     (λ h. ap (λ b. if is_row h b then Some n else None) (sym c.variable_at.ensures)) c.note.ensures.long c.loop-n.invariant c.note.ensures.each

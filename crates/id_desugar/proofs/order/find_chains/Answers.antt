@@ -8,10 +8,10 @@ use Rattle.id_desugar.proofs.order.find_chains.Goals as goal
 pub loop-row-init : goal.loop-row-init
 loop-row-init c =
     let n = c.len-count.result in
-    let F = c.in_ok-nothing.field-0.items in
-    let N = c.in_ok-nothing-2.field-0.items in (
+    let F = c.in_ok-none.field-0 in
+    let N = c.in_ok-none-2.field-0 in (
       omega arith,
-      AreChains-none c.args.checked.now c.args.last F N (omega (arith, long-nothing n F c.in_ok-nothing.ensures, c.len-count.ensures))
-          (omega (arith, long-nothing n N c.in_ok-nothing-2.ensures, c.len-count.ensures)) (λ h. ap (λ z. get_or z h None) c.in_ok-nothing.ensures
+      AreChains-none c.args.checked.now c.args.last F N (omega (arith, long-nothing n F c.in_ok-none.ensures, c.len-count.ensures))
+          (omega (arith, long-nothing n N c.in_ok-none-2.ensures, c.len-count.ensures)) (λ h. ap (λ z. get_or z h None) c.in_ok-none.ensures
           ∙ nothing-at n h),
     )
