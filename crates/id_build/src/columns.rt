@@ -20,7 +20,7 @@ pub struct Columns<'a> {
 
 impl<'a> Columns<'a> {
     /// The binders that the head at a row imports.
-    pub fn imports(self, checked: &Checked, row: usize) -> &'a [usize]
+    pub fn imports(self, checked: &Checked, row: usize) -> &'a [u32]
         requires { AreColumns checked.now self }
         ensures { result.now ≡ regions.imports_of checked.now row }
     {
@@ -43,6 +43,6 @@ impl<'a> Columns<'a> {
         requires within { variable < length (programs.rows checked.now) }
         ensures { result ≡ ends.next_of checked.now variable }
     {
-        id_desugar::next_of(checked, self.nexts, variable)
+        id_desugar::next_of(checked, self.nexts, variable) as usize
     }
 }

@@ -246,7 +246,7 @@ fn push_imports(
     source: Origin,
     region: Region,
     part: usize,
-    binders: &[usize],
+    binders: &[u32],
     arcs: &mut Arcs,
 ) -> Result<(), BuildError>
     requires slots { AreSlots checked.now slots.now }
@@ -259,7 +259,8 @@ fn push_imports(
 {
     let mut to = number_by(arcs.firsts.as_slice(), n) + part;
     for binder in binders {
-        arcs.push_two(source, name_in(checked, slots, region, *binder), to)?;
+        let binder = *binder as usize;
+        arcs.push_two(source, name_in(checked, slots, region, binder), to)?;
         to += 1;
     }
     Ok(())
@@ -297,7 +298,7 @@ fn push_firsts(
     slots: &Slots<'_>,
     n: usize,
     region: Region,
-    nexts: &[usize],
+    nexts: &[u32],
     arcs: &mut Arcs,
 ) -> Result<(), BuildError>
     requires slots { AreSlots checked.now slots.now }
@@ -308,7 +309,7 @@ fn push_firsts(
 {
     let mut to = number_by(arcs.firsts.as_slice(), n) + 1;
     for next in nexts {
-        let binder = first_binder(checked, *next);
+        let binder = first_binder(checked, *next as usize);
         arcs.push_two(output(n), name_in(checked, slots, region, binder), to)?;
         to += 1;
     }
@@ -386,7 +387,8 @@ fn push_turn(
     arcs.push(trigger_of(region), to, Port::Zero)?;
     for binder in slots.columns.imports(checked, head) {
         to += 1;
-        arcs.push(name_in(checked, slots, region, *binder), to, Port::Zero)?;
+        let binder = *binder as usize;
+        arcs.push(name_in(checked, slots, region, binder), to, Port::Zero)?;
     }
     Ok(())
 }

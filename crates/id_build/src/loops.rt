@@ -14,7 +14,7 @@ use id_desugar::{binder_at, row_at};
 use id_parts::Node;
 
 /// The `next` statements of the loop with this head, by index: the first of what its switches hand on.
-pub fn nexts_at<'a>(checked: &Checked, columns: Columns<'a>, head: usize) -> &'a [usize]
+pub fn nexts_at<'a>(checked: &Checked, columns: Columns<'a>, head: usize) -> &'a [u32]
     requires columns { AreColumns checked.now columns }
     requires head { is_loop_head (rows.node checked.now head) ≡ true }
     ensures nexts { result.now ≡ nexts_of checked.now head }

@@ -123,7 +123,7 @@ fn push_head(kind: PortKind, place: usize, pieces: &mut Vec<Piece>) -> Result<()
 /// Adds the switches of a conditional or a loop with these imports: the trigger's, and one for each import.
 fn push_switches(
     checked: &Checked,
-    imports: &[usize],
+    imports: &[u32],
     place: usize,
     pieces: &mut Vec<Piece>,
 ) -> Result<(), BuildError>
@@ -133,7 +133,11 @@ fn push_switches(
 {
     push(pieces, Op::Switch(PortKind::Signal), place)?;
     for import in imports {
-        push(pieces, Op::Switch(port_at(checked, *import)), place)?;
+        push(
+            pieces,
+            Op::Switch(port_at(checked, *import as usize)),
+            place,
+        )?;
     }
     Ok(())
 }
@@ -141,7 +145,7 @@ fn push_switches(
 /// Adds the entries of a loop's imports.
 fn push_entries(
     checked: &Checked,
-    imports: &[usize],
+    imports: &[u32],
     place: usize,
     pieces: &mut Vec<Piece>,
 ) -> Result<(), BuildError>
@@ -150,7 +154,7 @@ fn push_entries(
     ensures memory { IfErr result (λ e. e ≡ BuildError.Memory) }
 {
     for import in imports {
-        push(pieces, Op::Merge(port_at(checked, *import)), place)?;
+        push(pieces, Op::Merge(port_at(checked, *import as usize)), place)?;
     }
     Ok(())
 }
@@ -158,7 +162,7 @@ fn push_entries(
 /// Adds what hands the trigger and these imports of a loop on to the next iteration.
 fn push_turn(
     checked: &Checked,
-    imports: &[usize],
+    imports: &[u32],
     place: usize,
     pieces: &mut Vec<Piece>,
 ) -> Result<(), BuildError>
@@ -168,7 +172,7 @@ fn push_turn(
 {
     push(pieces, Op::Next(PortKind::Signal), place)?;
     for import in imports {
-        push(pieces, Op::Next(port_at(checked, *import)), place)?;
+        push(pieces, Op::Next(port_at(checked, *import as usize)), place)?;
     }
     Ok(())
 }
@@ -204,7 +208,7 @@ fn push_start(
 /// Adds the `send`s to the entries of the variables with these `next` statements, which are the rows from this one on.
 fn push_variable_sends(
     checked: &Checked,
-    nexts: &[usize],
+    nexts: &[u32],
     first: usize,
     place: usize,
     pieces: &mut Vec<Piece>,
@@ -215,7 +219,7 @@ fn push_variable_sends(
     ensures memory { IfErr result (λ e. e ≡ BuildError.Memory) }
 {
     for (index, next) in nexts.iter().enumerate() {
-        push_send(checked, *next, first + index, 0, place, pieces)?;
+        push_send(checked, *next as usize, first + index, 0, place, pieces)?;
     }
     Ok(())
 }
@@ -223,7 +227,7 @@ fn push_variable_sends(
 /// Adds the `send`s to the entries of these imports, the parts of a row.
 fn push_import_sends(
     checked: &Checked,
-    imports: &[usize],
+    imports: &[u32],
     entries: usize,
     place: usize,
     pieces: &mut Vec<Piece>,
@@ -233,7 +237,7 @@ fn push_import_sends(
     ensures memory { IfErr result (λ e. e ≡ BuildError.Memory) }
 {
     for (part, import) in imports.iter().enumerate() {
-        push_send(checked, *import, entries, part, place, pieces)?;
+        push_send(checked, *import as usize, entries, part, place, pieces)?;
     }
     Ok(())
 }

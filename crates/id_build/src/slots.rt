@@ -48,7 +48,7 @@ pub fn find_slots<'a>(
 fn note_all(
     numbers: &mut HashMap<Import, usize>,
     head: usize,
-    imports: &[usize],
+    imports: &[u32],
 ) -> Result<(), BuildError>
     ensures numbers { OnOk result ((i : Import) → get same_import numbers.new i
         ≡ option_or (get same_import numbers.old i) (noted_all head imports.now i)) }
@@ -57,7 +57,7 @@ fn note_all(
     for (slot, binder) in imports.iter().enumerate() {
         let import = Import {
             head,
-            binder: *binder,
+            binder: *binder as usize,
         };
         note(numbers, import, slot)?;
     }

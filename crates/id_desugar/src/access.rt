@@ -114,14 +114,14 @@ pub fn end_of(checked: &Checked, ends: &Column, head: usize) -> usize
 }
 
 /// The row of the `next` of the variable at a row. Takes no memory.
-pub fn next_of(checked: &Checked, nexts: &Column, variable: usize) -> usize
+pub fn next_of(checked: &Checked, nexts: &Column, variable: usize) -> u32
     requires nexts { AreNexts checked.now nexts.now }
     requires within { variable < length (programs.rows checked.now) }
     ensures { result ≡ next_of checked.now variable }
 {
     let _ = checked;
     match nexts.get(variable) {
-        Some(next) => next as usize,
+        Some(next) => next,
         None => 0,
     }
 }

@@ -14,7 +14,7 @@ ghost use Rattle.id_parts.specs.Rows.{at};
 ghost use Rattle.id_parts.specs.Tables as table;
 
 use crate::access::{end_of, is_opening, is_variable, may_import, next_of, row_at, used_at};
-use crate::column::Column;
+use crate::column::{Column, MOST};
 use crate::ends::begun_at;
 use crate::list::{AllImports, Imports};
 use id_check::Checked;
@@ -28,7 +28,7 @@ struct Span {
     lo: usize,
     hi: usize,
     own: Option<usize>,
-    mark: usize,
+    mark: u32,
 }
 
 /// The imports of each row: none but those of conditionals, loops and their switches.
@@ -72,9 +72,12 @@ fn all_lists(
     requires nexts { AreNexts checked.now nexts.now }
     ensures { IfOk result (λ v. v.items ≡ all_imports checked.now) }
 {
-    let mut lists = all_uses(alloc, checked, ends)?;
     let count = checked.table.rows.len();
-    let mut marks = vec![in alloc; 0usize; count]?;
+    if count > MOST {
+        return Err(AllocError);
+    }
+    let mut lists = all_uses(alloc, checked, ends)?;
+    let mut marks = vec![in alloc; 0u32; count]?;
     for row in 0..count {
         turn(alloc, checked, ends, nexts, &mut lists, &mut marks, row)?;
     }
@@ -83,12 +86,13 @@ fn all_lists(
 
 /// What each construct uses from outside, by the row where it begins.
 fn all_uses(alloc: Global, checked: &Checked, ends: &Column) -> Result<Vec<Imports>, AllocError>
+    requires few { length (programs.rows checked.now) ≤ MOST }
     requires ends { AreEnds checked.now ends.now }
     ensures { IfOk result (λ v. AreFilled checked.now (length (programs.rows checked.now)) v.items) }
 {
     let count = checked.table.rows.len();
     let mut lists = none_yet(alloc, count)?;
-    let mut marks = vec![in alloc; 0usize; count]?;
+    let mut marks = vec![in alloc; 0u32; count]?;
     for end in 0..count {
         fill(alloc, checked, ends, &mut lists, &mut marks, end)?;
     }
@@ -112,10 +116,11 @@ fn fill(
     checked: &Checked,
     ends: &Column,
     lists: &mut Vec<Imports>,
-    marks: &mut Vec<usize>,
+    marks: &mut Vec<u32>,
     end: usize,
 ) -> Result<(), AllocError>
     requires ends { AreEnds checked.now ends.now }
+    requires few { length (programs.rows checked.now) ≤ MOST }
     requires within { end < length (programs.rows checked.now) }
     requires lists { AreFilled checked.now end lists.old.items }
     requires long { length marks.old.items ≡ length (programs.rows checked.now) }
@@ -129,7 +134,7 @@ fn fill(
             lo: opening + 1,
             hi: end,
             own: None,
-            mark: end + 1,
+            mark: end as u32 + 1,
         };
         let list = gather(alloc, checked, ends, lists.as_slice(), marks, span)?;
         let uses = Imports::new(alloc, list)?;
@@ -181,11 +186,12 @@ fn turn(
     ends: &Column,
     nexts: &Column,
     lists: &mut Vec<Imports>,
-    marks: &mut Vec<usize>,
+    marks: &mut Vec<u32>,
     row: usize,
 ) -> Result<(), AllocError>
     requires ends { AreEnds checked.now ends.now }
     requires nexts { AreNexts checked.now nexts.now }
+    requires few { length (programs.rows checked.now) ≤ MOST }
     requires within { row < length (programs.rows checked.now) }
     requires lists { AreTurned checked.now row lists.old.items }
     requires long { length marks.old.items ≡ length (programs.rows checked.now) }
@@ -224,10 +230,11 @@ fn imports_of_loop(
     checked: &Checked,
     ends: &Column,
     lists: &[Imports],
-    marks: &mut Vec<usize>,
+    marks: &mut Vec<u32>,
     head: usize,
-) -> Result<Vec<usize>, AllocError>
+) -> Result<Vec<u32>, AllocError>
     requires ends { AreEnds checked.now ends.now }
+    requires few { length (programs.rows checked.now) ≤ MOST }
     requires within { head < length (programs.rows checked.now) }
     requires lists { AreTurned checked.now head lists.now }
     requires long { length marks.old.items ≡ length (programs.rows checked.now) }
@@ -240,7 +247,7 @@ fn imports_of_loop(
         lo: head + 1,
         hi: end_of(checked, ends, head),
         own: Some(head),
-        mark: head + 1,
+        mark: head as u32 + 1,
     };
     gather(alloc, checked, ends, lists, marks, span)
 }
@@ -253,7 +260,7 @@ fn handed_on(
     lists: &[Imports],
     switches: usize,
     head: usize,
-) -> Result<Vec<usize>, AllocError>
+) -> Result<Vec<u32>, AllocError>
     requires nexts { AreNexts checked.now nexts.now }
     requires within { switches < length (programs.rows checked.now) }
     requires lists { AreTurned checked.now switches lists.now }
@@ -273,7 +280,7 @@ fn next_rows(
     checked: &Checked,
     nexts: &Column,
     head: usize,
-) -> Result<Vec<usize>, AllocError>
+) -> Result<Vec<u32>, AllocError>
     requires nexts { AreNexts checked.now nexts.now }
     requires within { head < length (programs.rows checked.now) }
     ensures { IfOk result (λ v. v.items ≡ nexts_of checked.now head) }
@@ -294,10 +301,11 @@ fn gather(
     checked: &Checked,
     ends: &Column,
     lists: &[Imports],
-    marks: &mut Vec<usize>,
+    marks: &mut Vec<u32>,
     span: Span,
-) -> Result<Vec<usize>, AllocError>
+) -> Result<Vec<u32>, AllocError>
     requires ends { AreEnds checked.now ends.now }
+    requires few { length (programs.rows checked.now) ≤ MOST }
     requires within { span.hi < length (programs.rows checked.now) }
     requires lists { AreGathered checked.now span.lo span.hi lists.now }
     requires count { AllCount checked.now span.own span.lo span.hi }
@@ -320,12 +328,13 @@ fn note_row(
     checked: &Checked,
     ends: &Column,
     lists: &[Imports],
-    marks: &mut Vec<usize>,
-    list: &mut Vec<usize>,
+    marks: &mut Vec<u32>,
+    list: &mut Vec<u32>,
     span: Span,
     row: usize,
 ) -> Result<usize, AllocError>
     requires ends { AreEnds checked.now ends.now }
+    requires few { length (programs.rows checked.now) ≤ MOST }
     requires within { span.hi < length (programs.rows checked.now) }
     requires row { (span.lo ≤ row) × (row < span.hi) }
     requires lists { AreGathered checked.now span.lo span.hi lists.now }
@@ -367,11 +376,12 @@ fn inner_end(checked: &Checked, ends: &Column, row: usize) -> usize
 
 /// Notes the binder of what a row uses, if it uses something.
 fn note_used(
-    marks: &mut Vec<usize>,
-    list: &mut Vec<usize>,
+    marks: &mut Vec<u32>,
+    list: &mut Vec<u32>,
     span: Span,
     binder: Option<usize>,
 ) -> Result<(), AllocError>
+    requires few { length marks.old.items ≤ MOST }
     requires marks { AreMarked span.mark marks.old.items list.old.items }
     requires binder { IfSome binder (λ b. b < length marks.old.items) }
     ensures list { OnOk result (list.new.items ≡ with_use span.lo span.hi list.old.items binder) }
@@ -380,17 +390,17 @@ fn note_used(
     ensures marks { OnOk result (AreMarked span.mark marks.new.items list.new.items) }
 {
     match binder {
-        Some(binder) => note(marks, list, span, binder),
+        Some(binder) => note(marks, list, span, binder as u32),
         None => Ok(()),
     }
 }
 
 /// Notes these binders, one after another.
 fn note_all(
-    marks: &mut Vec<usize>,
-    list: &mut Vec<usize>,
+    marks: &mut Vec<u32>,
+    list: &mut Vec<u32>,
     span: Span,
-    binders: &[usize],
+    binders: &[u32],
 ) -> Result<(), AllocError>
     requires marks { AreMarked span.mark marks.old.items list.old.items }
     requires binders { (b : _) → Among b binders.now → b < length marks.old.items }
@@ -407,10 +417,10 @@ fn note_all(
 
 /// Notes a binder that a use means, if it is outside the span and not noted yet.
 fn note(
-    marks: &mut Vec<usize>,
-    list: &mut Vec<usize>,
+    marks: &mut Vec<u32>,
+    list: &mut Vec<u32>,
     span: Span,
-    binder: usize,
+    binder: u32,
 ) -> Result<(), AllocError>
     requires marks { AreMarked span.mark marks.old.items list.old.items }
     requires binder { binder < length marks.old.items }
@@ -419,10 +429,11 @@ fn note(
     ensures below { AreBelow (span.mark + 1) marks.new.items }
     ensures marks { OnOk result (AreMarked span.mark marks.new.items list.new.items) }
 {
-    let is_outside = binder < span.lo || span.hi <= binder;
-    if is_outside && marks[binder] != span.mark {
+    let at = binder as usize;
+    let is_outside = at < span.lo || span.hi <= at;
+    if is_outside && marks[at] != span.mark {
         list.push(binder)?;
-        marks[binder] = span.mark;
+        marks[at] = span.mark;
     }
     Ok(())
 }

@@ -9,7 +9,7 @@ use std::marker::Model;
 /// Rows, in order. A list with none takes no memory of its own.
 #[derive(Drop)]
 pub struct Imports {
-    rows: Option<Box<Vec<usize>>>,
+    rows: Option<Box<Vec<u32>>>,
 }
 
 impl Model for Imports {
@@ -30,7 +30,7 @@ impl Imports {
     }
 
     /// The list of these rows.
-    pub fn new(alloc: Global, rows: Vec<usize>) -> Result<Imports, AllocError>
+    pub fn new(alloc: Global, rows: Vec<u32>) -> Result<Imports, AllocError>
         ensures { IfOk result (λ i. i ≡ rows.items) }
     {
         if rows.is_empty() {
@@ -41,7 +41,7 @@ impl Imports {
     }
 
     /// The rows, in order. Takes no memory.
-    pub fn as_slice(&self) -> &[usize]
+    pub fn as_slice(&self) -> &[u32]
         ensures { result.now ≡ self.now }
     {
         match &self.rows {
@@ -88,7 +88,7 @@ impl AllImports {
     }
 
     /// What a row imports. Takes no memory.
-    pub fn get(&self, row: usize) -> &[usize]
+    pub fn get(&self, row: usize) -> &[u32]
         ensures { result.now ≡ get_or self.now row [] }
     {
         match &self.lists {
