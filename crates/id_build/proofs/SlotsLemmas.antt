@@ -1,13 +1,13 @@
 -- Where imports stand, as they are noted one after another.
 use Rattle.std.proofs.Common.{◌≡◌, inl, inr, ℕ, zero, suc, ◌+◌, ◌<◌, ◌≤◌, Bool, true, false, List, [], ◌∷◌, ◌++◌, Option, Some, None}
-use Rattle.std.proofs.Common.{length, get_or, take, refl, ap, sym, ◌∙◌, arith}
-use Rattle.std.specs.Prelude.{◌==◌, ◌&&◌, if◌then◌else◌, nat_lt, unwrap_or}
+use Rattle.std.proofs.Common.{length, get_or, take, refl, ap, subst, sym, ◌∙◌, arith}
+use Rattle.std.specs.Prelude.{◌^◌, ◌==◌, ◌&&◌, if◌then◌else◌, nat_lt, IsSome, unwrap_or}
 use Rattle.std.specs.Option.{option_or}
 use Rattle.std.proofs.lemmas.Bool.{cases_lt, eqb-true}
 use Rattle.std.proofs.lemmas.Bool.Decides.{nat_tests}
 use Rattle.std.proofs.lemmas.List.{get_or_past, take_more}
 use Rattle.id_build.specs.declared.slots.Import.{Import}
-use Rattle.id_build.specs.Slots.{behind, found, noted, noted_all}
+use Rattle.id_build.specs.Slots.{AreShort, behind, found, noted, noted_all, same_import}
 use Rattle.id_build.specs.Rows.{slot_of}
 use Rattle.std.proofs.Math.ListN.{get_or-eq_default}
 use Rattle.id_parts.specs.Rows.{no_row}
@@ -55,6 +55,24 @@ noted_all-next h bs n i o l =
         ap (λ z. option_or (found (take n bs) i.binder) (if get_or bs n 0 == i.binder then Some z else None)) (sym (long bs n l))
         ∙ sym (found-push (take n bs) (get_or bs n 0) i.binder)
     at false = refl
+
+-- one more import is noted whose numbers have 32 bits
+pub AreShort-noted : (j : Import) (k : ℕ) (f g : Import → Option ℕ) → j.head < 2 ^ 32 → j.binder < 2 ^ 32
+    → ((i : Import) → g i ≡ option_or (f i) (noted j k i)) → AreShort f → AreShort g
+AreShort-noted j k f g low less is short i some = by (f i) refl (same_import j i) refl (subst IsSome (is i) some)
+  where
+    both : (t u : Bool) → (t && u) ≡ true → (t ≡ true) × (u ≡ true)
+    both true u h = (refl, h)
+    both false u h = cc
+
+    by : (o : Option ℕ) → f i ≡ o → (t : Bool) → same_import j i ≡ t → IsSome (option_or o (if t then Some k else None))
+        → (i.head < 2 ^ 32) × (i.binder < 2 ^ 32)
+    by (Some n) e t h s = short i (subst IsSome (sym e) refl)
+    by None e true h s = let w = both (j.head == i.head) (j.binder == i.binder) h in
+        let head : j.head ≡ i.head = eqb-true j.head i.head w.0 in
+        let binder : j.binder ≡ i.binder = eqb-true j.binder i.binder w.1 in
+        (subst (λ n. n < 2 ^ 32) head low, subst (λ n. n < 2 ^ 32) binder less)
+    by None e false h s = cc
 
 -- ---- the imports of all heads
 
@@ -109,7 +127,8 @@ found_slot (x ∷ xs) b = at (x == b) (found_slot xs b)
 pub listed_at : (P : Checked) (h : ℕ) → get_or (all_imports P) h [] ≡ imports_of P h
 listed_at P h = elim (cases_lt h (length (rows P))) [
   | inl l ↦ all_imports-at P h l
-  | inr l ↦ get_or_past (all_imports P) h [] (omega (arith, l, length-all_imports P)) ∙ sym (ap (λ r. handed P h r.node) (get_or-eq_default (rows P) no_row l))
+  | inr l ↦ get_or_past (all_imports P) h [] (omega (arith, l, length-all_imports P))
+      ∙ sym (ap (λ r. handed P h r.node) (get_or-eq_default (rows P) no_row l))
 ]
 
 -- once all heads that import something are passed, what is noted is where each import stands

@@ -5,26 +5,27 @@ ghost use Rattle.std.specs.HashMap.{get};
 ghost use Rattle.std.specs.Option.{option_or};
 ghost use Rattle.id_desugar.specs.Regions as regions;
 ghost use Rattle.id_build.specs.Rows.{slot_of};
-ghost use Rattle.id_build.specs.Slots.{AreColumns, AreSlots, found, noted, noted_all, same_import};
+ghost use Rattle.id_build.specs.Slots.{AreColumns, AreShort, AreSlots, found, noted, noted_all, same_import};
 
 use crate::columns::Columns;
 use crate::error::BuildError;
 use id_check::Checked;
+use id_desugar::MOST;
 use std::alloc::Global;
 use std::collections::HashMap;
 
 /// A binder that a head imports.
 #[derive(Clone, Copy, PartialEq, Eq, Hash)]
 pub struct Import {
-    pub head: usize,
-    pub binder: usize,
+    pub head: u32,
+    pub binder: u32,
 }
 
 /// The columns of a program, and how many binders stand before one among those that its row imports.
 #[derive(Drop)]
 pub struct Slots<'a> {
     pub columns: Columns<'a>,
-    pub numbers: HashMap<Import, usize>,
+    pub numbers: HashMap<Import, u32>,
 }
 
 /// The slots of these imports.
@@ -37,35 +38,44 @@ pub fn find_slots<'a>(
     ensures slots { IfOk result (AreSlots checked.now) }
     ensures memory { IfErr result (λ e. e ≡ BuildError.Memory) }
 {
+    let count = columns.imports.listed();
+    if count > MOST {
+        return Err(BuildError::Memory);
+    }
     let mut numbers = HashMap::new(alloc);
-    for head in 0..columns.imports.listed() {
-        note_all(&mut numbers, head, columns.imports(checked, head))?;
+    for head in 0..count {
+        note_all(&mut numbers, head as u32, columns.imports(checked, head))?;
     }
     Ok(Slots { columns, numbers })
 }
 
 /// Notes where the binders stand that a head imports, where nothing was noted yet.
 fn note_all(
-    numbers: &mut HashMap<Import, usize>,
-    head: usize,
+    numbers: &mut HashMap<Import, u32>,
+    head: u32,
     imports: &[u32],
 ) -> Result<(), BuildError>
+    requires short { AreShort (get same_import numbers.old) }
+    ensures short { OnOk result (AreShort (get same_import numbers.new)) }
     ensures numbers { OnOk result ((i : Import) → get same_import numbers.new i
         ≡ option_or (get same_import numbers.old i) (noted_all head imports.now i)) }
     ensures memory { IfErr result (λ e. e ≡ BuildError.Memory) }
 {
+    if imports.len() > MOST {
+        return Err(BuildError::Memory);
+    }
     for (slot, binder) in imports.iter().enumerate() {
         let import = Import {
             head,
-            binder: *binder as usize,
+            binder: *binder,
         };
-        note(numbers, import, slot)?;
+        note(numbers, import, slot as u32)?;
     }
     Ok(())
 }
 
 /// Notes where an import stands, where nothing was noted yet.
-fn note(numbers: &mut HashMap<Import, usize>, import: Import, slot: usize) -> Result<(), BuildError>
+fn note(numbers: &mut HashMap<Import, u32>, import: Import, slot: u32) -> Result<(), BuildError>
     ensures numbers { OnOk result ((i : Import) → get same_import numbers.new i
         ≡ option_or (get same_import numbers.old i) (noted import slot i)) }
     ensures memory { IfErr result (λ e. e ≡ BuildError.Memory) }
@@ -83,8 +93,15 @@ pub fn slot_of(checked: &Checked, slots: &Slots<'_>, head: usize, binder: usize)
     ensures within { result < 2 ^ 61 }
 {
     let count = slots.columns.imports(checked, head).len();
-    match slots.numbers.get(&Import { head, binder }) {
-        Some(slot) => *slot,
+    if head > MOST || binder > MOST {
+        return count;
+    }
+    let import = Import {
+        head: head as u32,
+        binder: binder as u32,
+    };
+    match slots.numbers.get(&import) {
+        Some(slot) => *slot as usize,
         None => count,
     }
 }

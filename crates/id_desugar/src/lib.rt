@@ -17,7 +17,7 @@ mod list;
 mod order;
 
 pub use access::{binder_at, end_of, next_of, row_at};
-pub use column::Column;
+pub use column::{Column, MOST};
 pub use ends::find_ends;
 pub use kernel::{Kernel, regions};
 pub use list::AllImports;
