@@ -1,7 +1,8 @@
 //! The instructions of a row (docs/GRAPH.md, "Schemas").
 
-ghost use Rattle.std.specs.Prelude.{[], ◌∷◌, ◌≡◌, ◌++◌, ◌<◌, ◌^◌, length, map, IfErr, OnOk};
+ghost use Rattle.std.specs.Prelude.{[], ◌∷◌, ◌≡◌, ◌++◌, ◌<◌, ◌^◌, length, map, false, IfErr, OnOk};
 ghost use Rattle.id_check.specs.Programs as programs;
+ghost use Rattle.id_parts.specs.Tables.{is_thing};
 ghost use Rattle.id_parts.specs.declared.row.Node.TheVariants.{Start};
 ghost use Rattle.id_build.specs.Rows.{for_each, import_entries, made, made_of, result_of, send_to, switches};
 ghost use Rattle.id_build.specs.Rows.{variable_entries};
@@ -55,10 +56,6 @@ fn push_row(
     ensures memory { IfErr result (λ e. e ≡ BuildError.Memory) }
 {
     match node {
-        Node::Head => {
-            let result = result_of(row_at(checked, columns.end(checked, n)).node);
-            push_head(port_of(result), place, pieces)
-        }
         Node::Param { .. } | Node::Binding { .. } | Node::If { .. } | Node::Call { .. } => {
             push(pieces, Op::Merge(port_at(checked, n)), place)
         }
@@ -69,6 +66,38 @@ fn push_row(
             Op::Binary(binary_op(op, port_at(checked, left))),
             place,
         ),
+        Node::Name { .. } | Node::Block { .. } | Node::Def { .. } => Ok(()),
+        Node::Next { .. } => push(pieces, Op::Next(port_at(checked, n)), place),
+        Node::Loop { .. } => push(pieces, Op::Merge(port_at(checked, n)), place),
+        Node::Array { .. } => push(pieces, Op::Alloc, place),
+        Node::Fetch { .. } => push_fetch(n, place, pieces),
+        Node::Store { .. } => push(pieces, Op::Store, place),
+        _ => push_marker(checked, columns, n, place, node, pieces),
+    }
+}
+
+/// Adds the instructions of the row n of this place and node, which is a marker and no thing of the text.
+#[inline(always)]
+fn push_marker(
+    checked: &Checked,
+    columns: Columns<'_>,
+    n: usize,
+    place: usize,
+    node: Node,
+    pieces: &mut Vec<Piece>,
+) -> Result<(), BuildError>
+    requires columns { AreColumns checked.now columns }
+    requires within { n < length (programs.rows checked.now) }
+    requires node { node ≡ rows.node checked.now n }
+    requires marker { is_thing node ≡ false }
+    ensures pieces { OnOk result (pieces.new.items ≡ pieces.old.items ++ made_of checked.now n place node) }
+    ensures memory { IfErr result (λ e. e ≡ BuildError.Memory) }
+{
+    match node {
+        Node::Head => {
+            let result = result_of(row_at(checked, columns.end(checked, n)).node);
+            push_head(port_of(result), place, pieces)
+        }
         Node::Split { .. } | Node::Switches { .. } => {
             push_switches(checked, columns.imports(checked, n), place, pieces)
         }
@@ -80,8 +109,6 @@ fn push_row(
             let param = param_of(checked, enter as usize, index as usize);
             push_send(checked, param, param, 0, place, pieces)
         }
-        Node::Name { .. } | Node::Block { .. } | Node::Def { .. } => Ok(()),
-        Node::NextUse { .. } | Node::Body => Ok(()),
         Node::Start => push_start(checked, columns, n, place, pieces),
         Node::LoopHead { .. } => {
             push_head(port_at(checked, columns.end(checked, n)), place, pieces)
@@ -98,14 +125,10 @@ fn push_row(
             let head = row_at(checked, n).block as usize;
             push_turn(checked, columns.imports(checked, head), place, pieces)
         }
-        Node::Next { .. } => push(pieces, Op::Next(port_at(checked, n)), place),
         Node::Reset { value } => push(pieces, Op::Reset(port_at(checked, value)), place),
-        Node::Loop { .. } => push(pieces, Op::Merge(port_at(checked, n)), place),
-        Node::Array { .. } => push(pieces, Op::Alloc, place),
-        Node::Fetch { .. } => push_fetch(n, place, pieces),
         Node::Address { .. } => push(pieces, Op::Address, place),
-        Node::Store { .. } => push(pieces, Op::Store, place),
         Node::Program => push_answer(checked, pieces),
+        _ => Ok(()),
     }
 }
 
