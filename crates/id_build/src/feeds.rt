@@ -1,12 +1,14 @@
 //! The arcs to the instructions of a row (docs/GRAPH.md, "Schemas").
 
-ghost use Rattle.std.specs.Prelude.{◌≡◌, ◌++◌, ◌<◌, ◌+◌, ◌-◌, ◌^◌, ◌∷◌, [], length, map, IfErr, OnOk};
+ghost use Rattle.std.specs.Prelude.{◌≡◌, ◌++◌, ◌<◌, ◌+◌, ◌-◌, ◌^◌, ◌∷◌, [], length, map, false, IfErr, OnOk};
 ghost use Rattle.id_check.specs.Programs as programs;
 ghost use Rattle.id_desugar.specs.Regions as regions;
 ghost use Rattle.id_build.specs.Rows.{body_of, entry_feeds, feeds, feeds_of, first_binder, import_feeds};
 ghost use Rattle.id_build.specs.Rows.{turn_feeds};
 ghost use Rattle.id_build.specs.Rows as rows;
 ghost use Rattle.id_parts.specs.declared.row.Node.TheVariants.{Start};
+ghost use Rattle.id_parts.specs.Rows.{at};
+ghost use Rattle.id_parts.specs.Tables.{is_thing};
 ghost use Rattle.id_graph.specs.declared.dests.Port.TheVariants.{Zero, One};
 ghost use Rattle.id_desugar.specs.Ends.{end_of};
 ghost use Rattle.id_build.specs.Made.{arc_of, arc_to, number_by};
@@ -20,7 +22,7 @@ use crate::slots::Slots;
 use id_check::Checked;
 use id_desugar::row_at;
 use id_graph::Port;
-use id_parts::{Node, Region};
+use id_parts::{Node, Region, Row};
 
 /// The arcs of a graph in the making: the numbers of the rows' first instructions, and the arcs so far.
 #[derive(Drop)]
@@ -45,34 +47,55 @@ pub fn push_feeds(
 {
     let row = row_at(checked, n);
     match row.node {
-        Node::Head => push_result(checked, slots, n, arcs),
         Node::Param { .. } | Node::Name { .. } | Node::Block { .. } => Ok(()),
-        Node::Call { .. } | Node::Def { .. } | Node::Program => Ok(()),
-        Node::NextUse { .. } | Node::Body | Node::Loop { .. } => Ok(()),
-        Node::Literal { .. } | Node::Enter { .. } => arcs.push_first(trigger_of(row.region), n),
+        Node::Call { .. } | Node::Loop { .. } | Node::Def { .. } => Ok(()),
+        Node::Literal { .. } => arcs.push_first(trigger_of(row.region), n),
         Node::Unary { operand, .. } | Node::Binding { value: operand, .. } => {
             push_value(checked, slots, n, operand, arcs)
         }
         Node::Next { value, .. } => push_value(checked, slots, n, value as usize, arcs),
-        Node::Reset { value } => push_value(checked, slots, n, value, arcs),
         Node::Binary { left, right, .. }
         | Node::Array {
             low: left,
             high: right,
-        }
-        | Node::Address {
-            target: left,
-            index: right,
         } => push_operands(checked, slots, n, left, right, arcs),
-        Node::Arg { enter, value, .. } => {
-            push_behind(checked, slots, n, enter as usize, value as usize, arcs)
-        }
         Node::Store { address, value } => push_behind(checked, slots, n, address, value, arcs),
         Node::If {
             then,
             otherwise,
             ..
         } => push_arms(checked, slots, n, then as usize, otherwise as usize, arcs),
+        Node::Fetch { target, index } => push_fetch(checked, slots, n, target, index, arcs),
+        _ => push_marker(checked, slots, n, row, arcs),
+    }
+}
+
+/// Adds the arcs to the instructions of the row n, which is a marker and no thing of the text.
+#[inline(always)]
+fn push_marker(
+    checked: &Checked,
+    slots: &Slots<'_>,
+    n: usize,
+    row: Row,
+    arcs: &mut Arcs,
+) -> Result<(), BuildError>
+    requires slots { AreSlots checked.now slots.now }
+    requires within { n < length (programs.rows checked.now) }
+    requires row { row ≡ at (programs.rows checked.now) n }
+    requires marker { is_thing row.node ≡ false }
+    ensures list { OnOk result (arcs.new.list.items
+        ≡ arcs.old.list.items ++ map (arc_of arcs.old.firsts.items n) (feeds checked.now n)) }
+    ensures firsts { arcs.new.firsts.items ≡ arcs.old.firsts.items }
+    ensures memory { IfErr result (λ e. e ≡ BuildError.Memory) }
+{
+    match row.node {
+        Node::Head => push_result(checked, slots, n, arcs),
+        Node::Enter { .. } => arcs.push_first(trigger_of(row.region), n),
+        Node::Reset { value } => push_value(checked, slots, n, value, arcs),
+        Node::Address { target, index } => push_operands(checked, slots, n, target, index, arcs),
+        Node::Arg { enter, value, .. } => {
+            push_behind(checked, slots, n, enter as usize, value as usize, arcs)
+        }
         Node::Split { test } | Node::Switches { test } => {
             push_split(checked, slots, n, row.region, test, arcs)
         }
@@ -81,7 +104,7 @@ pub fn push_feeds(
         Node::Variable => arcs.push_first(output(slots.columns.next(checked, n)), n),
         Node::Entries => push_entries(checked, slots, n, row.block as usize, arcs),
         Node::Turn => push_turn(checked, slots, n, row.region, row.block as usize, arcs),
-        Node::Fetch { target, index } => push_fetch(checked, slots, n, target, index, arcs),
+        _ => Ok(()),
     }
 }
 
