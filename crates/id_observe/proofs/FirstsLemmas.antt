@@ -2,7 +2,7 @@
 use Rattle.std.proofs.Common.{◌≡◌, ℕ, zero, suc, Option, Some, None, List, [], ◌∷◌, refl, sym, ap, subst, ◌∙◌}
 use Rattle.std.specs.Prelude.{◌++◌, map, slice_get, All, MatchOption}
 use Rattle.std.specs.List.{AllByRecursion, filter_map, flat_map, cons_option}
-use Rattle.std.specs.List.Sorted.{IsPermutation, IsStrictlySortedBy}
+use Rattle.std.specs.List.Sorted.{IsPermutation}
 use Rattle.std.proofs.lemmas.List.Elements.{filter_map-append, recursion_from_All, All-from_recursion}
 use Rattle.std.proofs.lemmas.List.Sorted.{All-permutation, IsPermutation-sym}
 use Rattle.id_graph.specs.Graph.{Parts}
@@ -16,9 +16,8 @@ use Rattle.id_record.specs.Events.{AllWent, EventView}
 use Rattle.id_record.proofs.EachLemmas.{each-weaker}
 use Rattle.id_element.specs.Steps.{State}
 use Rattle.id_element.specs.Replays.{ElementView}
-use Rattle.id_observe.specs.Merged.{by_moment}
 use Rattle.id_observe.specs.Observed.{events_of, fault_of, faults_in, faults_of, path_in, structure_in}
-use Rattle.id_observe.specs.Firsts.{IsFirstFault}
+use Rattle.id_observe.specs.Firsts.{AreMergedOf, IsFirstFault}
 use Rattle.id_observe.proofs.ObservedLemmas.{none_first}
 
 -- where nothing is given, each element gives nothing
@@ -75,20 +74,17 @@ pub first_is_shown : (g : Parts) (elements : List State) (f : SourceFault) → I
 first_is_shown g elements f is = first-permutation (λ e. fault_of g (path_in g elements) (structure_in g elements) e.step) (events_of elements) is.order f is.merged.all is.first
 
 -- the events of elements, by their states
-events_of-states : (es : List ElementView) → flat_map (λ e. e.state.events) es ≡ events_of (map (λ e. e.state) es)
+pub events_of-states : (es : List ElementView) → flat_map (λ e. e.state.events) es ≡ events_of (map (λ e. e.state) es)
 events_of-states [] = refl
 events_of-states (e ∷ es) = ap (λ xs. e.state.events ++ xs) (events_of-states es)
 
 -- what a walk over the merged events found, said of the elements
-pub found_first : (g : Parts) (es : List ElementView) (m : List EventView) (o : Option SourceFault) → IsPermutation (flat_map (λ e. e.state.events) es) m → IsStrictlySortedBy by_moment m → o ≡ slice_get (faults_of g (path_in g (map (λ e. e.state) es)) (structure_in g (map (λ e. e.state) es)) m) 0
-    → MatchOption o (faults_in g (map (λ e. e.state) es) ≡ []) (IsFirstFault g (map (λ e. e.state) es))
-found_first g es m None all sorted is =
-    nothing-permutation (λ e. fault_of g (path_in g (map (λ e. e.state) es)) (structure_in g (map (λ e. e.state) es)) e.step) (events_of (map (λ e. e.state) es)) m (subst (λ xs. IsPermutation xs m) (events_of-states es) all) (none_first (faults_of g (path_in g (map (λ e. e.state) es)) (structure_in g (map (λ e. e.state) es)) m) (sym is))
-found_first g es m (Some f) all sorted is = record {
-  order = m;
-  merged = record { all = subst (λ xs. IsPermutation xs m) (events_of-states es) all; sorted = sorted };
-  first = sym is;
-}
+pub found_first : (g : Parts) (elements : List State) (m : List EventView) (o : Option SourceFault) → AreMergedOf elements m
+    → o ≡ slice_get (faults_of g (path_in g elements) (structure_in g elements) m) 0 → MatchOption o (faults_in g elements ≡ []) (IsFirstFault g elements)
+found_first g elements m None merged is =
+    nothing-permutation (λ e. fault_of g (path_in g elements) (structure_in g elements) e.step) (events_of elements) m merged.all
+    (none_first (faults_of g (path_in g elements) (structure_in g elements) m) (sym is))
+found_first g elements m (Some f) merged is = record { order = m; merged = merged; first = sym is }
 
 -- events that went well show no fault
 pub went_none : (g : Parts) (path : Tag → Path) (name : Structure → Site) (vs : List EventView) → AllWent vs → faults_of g path name vs ≡ []

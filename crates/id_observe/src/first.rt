@@ -1,11 +1,11 @@
 //! The first fault of several elements (docs/MACHINE.md, "Observed").
 
-ghost use Rattle.std.specs.Prelude.{◌≡◌, ◌↔◌, [], map, slice_get, All, IfOk, IsTrue, MatchOption};
-ghost use Rattle.id_record.specs.Events.{AllWent};
+ghost use Rattle.std.specs.Prelude.{◌≡◌, ◌↔◌, [], List, map, slice_get, All, IfOk, IsTrue, MatchOption};
+ghost use Rattle.id_record.specs.Events.{AllWent, EventView};
 ghost use Rattle.std.specs.List.Sorted.{IsStrictlyIncreasing};
 ghost use Rattle.id_observe.specs.Observed.{faults_in, faults_of, structure_by};
 ghost use Rattle.id_observe.specs.Paths.{path_by};
-ghost use Rattle.id_observe.specs.Firsts.{IsFirstFault};
+ghost use Rattle.id_observe.specs.Firsts.{AreMergedOf, IsFirstFault};
 
 use crate::merge::{Merged, merge_records};
 use crate::observe::source_fault;
@@ -29,10 +29,35 @@ pub fn first_fault(
     if all_went(elements) {
         return Ok(None);
     }
+    first_shown(alloc, graph, elements)
+}
+
+/// The same where one may have been.
+fn first_shown(
+    alloc: Global,
+    graph: &Valid,
+    elements: &[Element<'_>],
+) -> Result<Option<SourceFault>, AllocError>
+    requires { IsStrictlyIncreasing (map (λ e. e.number) elements.now) }
+    ensures { IfOk result (λ o. MatchOption o (faults_in graph.now (map (λ e. e.state) elements.now) ≡ [])
+        (IsFirstFault graph.now (map (λ e. e.state) elements.now))) }
+{
     let paths = Paths::new(alloc, graph.graph(), elements)?;
+    first_by(alloc, &paths, elements)
+}
+
+/// The first fault that all events of these elements show, by these paths and names, if there is one.
+fn first_by(
+    alloc: Global,
+    paths: &Paths<'_>,
+    elements: &[Element<'_>],
+) -> Result<Option<SourceFault>, AllocError>
+    requires { IsStrictlyIncreasing (map (λ e. e.number) elements.now) }
+    ensures { IfOk result (λ o. (es : List EventView) × AreMergedOf (map (λ e. e.state) elements.now) es
+        × (o ≡ slice_get (faults_of paths.now.graph.now (path_by paths.now) (structure_by paths.now) es) 0)) }
+{
     let merged = merge_records(alloc, elements)?;
-    let first = first_of(alloc, &paths, &merged)?;
-    Ok(first)
+    first_of(alloc, paths, &merged)
 }
 
 /// Whether no event of these elements was a fault or `Stuck`.

@@ -1,8 +1,8 @@
 //! What a run shows: the answer, what binders have, structures and their cells, fetches that wait, and the faults
 //! (docs/MACHINE.md, "Observed").
 
-ghost use Rattle.std.specs.Prelude.{◌≡◌, ◌==◌, ◌&&◌, ◌<◌, ◌++◌, [], ℕ, false, count_by, length, map, nat_eq};
-ghost use Rattle.std.specs.Prelude.{slice_get, unwrap_or};
+ghost use Rattle.std.specs.Prelude.{◌≡◌, ◌==◌, ◌&&◌, ◌<◌, ◌+◌, ◌-◌, ◌^◌, ◌++◌, [], ℕ, false, count_by, length, map};
+ghost use Rattle.std.specs.Prelude.{nat_eq, slice_get, unwrap_or};
 ghost use Rattle.std.specs.Prelude.{IfOk, OnOk, None, Some, if◌then◌else◌, option_and_then, option_map};
 ghost use Rattle.std.specs.HashMap.{get};
 ghost use Rattle.std.specs.List.{cons_option, filter_map, flat_map};
@@ -15,7 +15,7 @@ ghost use Rattle.id_observe.specs.Observed.{brought_at, fault_of};
 ghost use Rattle.id_observe.specs.Observed.{faults_in, faults_of, first_value, is_label, is_next, is_value_merge};
 ghost use Rattle.id_observe.specs.Observed.{label_marks, main_tag, name_at, name_in, names_in, names_of, put_of};
 ghost use Rattle.id_observe.specs.Observed.{second_store, shape_at, site_cmp, source_value, structure_by};
-ghost use Rattle.id_observe.specs.Observed.{structures_in, waiting_in};
+ghost use Rattle.id_observe.specs.Observed.{structure_in, structures_in, waiting_in};
 ghost use Rattle.id_observe.specs.Paths.{path_by, place_of};
 
 use crate::paths::{Making, Paths};
@@ -25,7 +25,7 @@ use id_graph::{Graph, Instr, Op, PortKind};
 use id_list::Sequence;
 use id_meaning::{Ask, NameValue, Put, Shape, Site, SourceFault, SourceValue};
 use id_record::{Events, Fault, Step};
-use id_tag::{Context, Payload, Tag, Value};
+use id_tag::{Context, Payload, Structure, Tag, Value};
 use id_valid::Valid;
 use std::alloc::{AllocError, Global};
 use std::cmp::Ordering;
@@ -91,9 +91,8 @@ fn shown_by(
 {
     let told = told_by(alloc, paths, elements)?;
     let held = held_by(alloc, paths, elements)?;
-    let answer = value_in(alloc, paths, paths.first_value())?;
     Ok(Observed {
-        answer,
+        answer: told.answer,
         names: told.names,
         structures: held.structures,
         cells: held.cells,
@@ -102,15 +101,18 @@ fn shown_by(
     })
 }
 
-/// What binders have, and the faults.
+/// The answer, what binders have, and the faults.
 #[derive(Drop)]
 struct Told {
+    answer: Option<SourceValue>,
     names: Sequence<NameValue>,
     faults: Sequence<SourceFault>,
 }
 
-/// What the records of these elements show that binders have, and their faults, by these paths and names.
+/// The answer that the records of these elements show, what binders have, and their faults, by these paths and names.
 fn told_by(alloc: Global, paths: &Paths<'_>, elements: &[Element<'_>]) -> Result<Told, AllocError>
+    ensures answer { IfOk result (λ o. o.answer
+        ≡ option_and_then (source_value (structure_by paths.now)) (slice_get paths.now.values.items 0)) }
     ensures names { IfOk result (λ o. o.names
         ≡ names_of paths.now.graph.now (path_by paths.now) (structure_by paths.now)
         (events_of (map (λ e. e.state) elements.now))) }
@@ -120,7 +122,9 @@ fn told_by(alloc: Global, paths: &Paths<'_>, elements: &[Element<'_>]) -> Result
 {
     let names = all_names(alloc, paths, elements)?;
     let faults = all_faults(alloc, paths, elements)?;
+    let answer = value_in(alloc, paths, paths.first_value())?;
     Ok(Told {
+        answer,
         names: Sequence::new(names),
         faults: Sequence::new(faults),
     })
@@ -206,10 +210,20 @@ fn counts_by_place(alloc: Global, graph: &Graph) -> Result<HashMap<usize, u32>, 
     let mut counts = HashMap::new(alloc);
     for instr in graph.instrs() {
         if !is_next(instr.op) {
-            *counts.entry(instr.place)?.or_insert(0) += 1;
+            add_count(instr.place, &mut counts)?;
         }
     }
     Ok(counts)
+}
+
+/// Counts one more instruction of this place.
+fn add_count(place: usize, counts: &mut HashMap<usize, u32>) -> Result<(), AllocError>
+    requires { unwrap_or (get nat_eq counts.old place) 0 < 2 ^ 32 - 1 }
+    ensures { OnOk result ((p : ℕ) → unwrap_or (get nat_eq counts.new p) 0
+        ≡ unwrap_or (get nat_eq counts.old p) 0 + (if place == p then 1 else 0)) }
+{
+    *counts.entry(place)?.or_insert(0) += 1;
+    Ok(())
 }
 
 /// Whether the instruction is a `next`.
@@ -353,14 +367,42 @@ pub fn answer(
     ensures { IfOk result (λ o. o ≡ answer_in graph.now (map (λ e. e.state) elements.now)) }
 {
     match first_value(elements) {
-        Some(Value::Int(number)) => Ok(Some(SourceValue::Int(number))),
-        Some(Value::Bool(truth)) => Ok(Some(SourceValue::Bool(truth))),
-        Some(Value::Structure(structure)) => {
-            let paths = Paths::new(alloc, graph.graph(), elements)?;
-            Ok(Some(SourceValue::Name(paths.name(alloc, structure)?)))
+        Some(value) => told_value(alloc, graph, elements, value),
+        None => Ok(None),
+    }
+}
+
+/// The value as one of the source, where these records tell under which tag each structure was made.
+fn told_value(
+    alloc: Global,
+    graph: &Valid,
+    elements: &[Element<'_>],
+    value: Value,
+) -> Result<Option<SourceValue>, AllocError>
+    ensures { IfOk result (λ o. o ≡ source_value (structure_in graph.now (map (λ e. e.state) elements.now)) value) }
+{
+    match value {
+        Value::Int(number) => Ok(Some(SourceValue::Int(number))),
+        Value::Bool(truth) => Ok(Some(SourceValue::Bool(truth))),
+        Value::Structure(structure) => {
+            let name = told_name(alloc, graph, elements, structure)?;
+            Ok(Some(SourceValue::Name(name)))
         }
         _ => Ok(None),
     }
+}
+
+/// The name of the structure, where these records tell under which tag each was made.
+fn told_name(
+    alloc: Global,
+    graph: &Valid,
+    elements: &[Element<'_>],
+    structure: Structure,
+) -> Result<Site, AllocError>
+    ensures { IfOk result (λ a. a ≡ structure_in graph.now (map (λ e. e.state) elements.now) structure) }
+{
+    let paths = Paths::new(alloc, graph.graph(), elements)?;
+    paths.name(alloc, structure)
 }
 
 /// The first value that these records brought to the answer.

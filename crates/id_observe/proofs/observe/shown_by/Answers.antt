@@ -21,13 +21,3 @@ returns-in_err-held c = record {
   waiting = if_err _ c.from_residual-in_err-held.result c.from_residual-in_err-held.ensures.0;
   faults = if_err _ c.from_residual-in_err-held.result c.from_residual-in_err-held.ensures.0;
 }
-
-pub returns-in_err-answer : goal.returns-in_err-answer
-returns-in_err-answer c = record {
-  answer = if_err _ c.from_residual-in_err-answer.result c.from_residual-in_err-answer.ensures.0;
-  names = if_err _ c.from_residual-in_err-answer.result c.from_residual-in_err-answer.ensures.0;
-  structures = if_err _ c.from_residual-in_err-answer.result c.from_residual-in_err-answer.ensures.0;
-  cells = if_err _ c.from_residual-in_err-answer.result c.from_residual-in_err-answer.ensures.0;
-  waiting = if_err _ c.from_residual-in_err-answer.result c.from_residual-in_err-answer.ensures.0;
-  faults = if_err _ c.from_residual-in_err-answer.result c.from_residual-in_err-answer.ensures.0;
-}
