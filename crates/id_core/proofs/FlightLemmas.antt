@@ -2,9 +2,11 @@
 use Rattle.std.proofs.Common.{◌≡◌, ◌<◌, ◌+◌, ◌-◌, ◌++◌, ◌∷◌, [], ℕ, List, Option, Some, None, IsSome, length, length-append, drop, get_or, refl, sym, ap, ◌∙◌}
 use Rattle.std.proofs.Common.{append_assoc, arith}
 use Rattle.std.specs.List.{remove, slice_get}
-use Rattle.std.specs.Prelude.{option_to_list, Bool, true, false, IsErrAnd, IsTrue, Result, Ok, Err, ◌==◌, ◌↔◌}
+use Rattle.std.specs.Prelude.{option_to_list, Bool, true, false, IsErrAnd, IsTrue, OnErr, Result, Ok, Err, ◌==◌, ◌||◌, ◌^◌, ◌↔◌}
 use Rattle.std.proofs.lemmas.Grind.{common_steps}
+use Rattle.id_tag.specs.declared.Message.{Message}
 use Rattle.id_element.specs.Shorts.{IsHandled}
+use Rattle.id_element.specs.Steps.{State, is_ended}
 use Rattle.id_element.specs.declared.step.Short.{Short}
 use Rattle.id_element.specs.declared.step.Short.TheVariants.{Went, Failed, Apart}
 use Rattle.id_element.specs.declared.step.TakeError.{TakeError}
@@ -76,11 +78,16 @@ gives_end (Err y) x P is both =
     end_is : {C : Type 0} (z : TakeError) → ◌≡◌ {A = Result C TakeError} (Err z) (Err StampEnd) → z ≡ StampEnd
     end_is z h = cc
 
-pub not_both : {E Z : Type 0} → (b : Bool) → b ≡ true → ◌≡◌ {A = Result Bool E} (Ok b) (Ok false) → Z
-not_both b is h = cc
+pub not_so : {Z : Type 0} → (b : Bool) → b ≡ false → b ≡ true → Z
+not_so b none some = cc
 
-pub not_neither : {E Z : Type 0} → (b : Bool) → b ≡ false → ◌≡◌ {A = Result Bool E} (Ok b) (Ok true) → Z
-not_neither b is h = cc
+-- one answer is not the other, nor an error
+pub not_both : {Z : Type 0} → (r : Result Bool TakeError) → r ≡ Ok true → r ≡ Ok false → Z
+not_both r is other = cc
+
+pub no_err : {A E : Type 0} (P : Type 0) (r : Result A E) (a : A) → r ≡ Ok a → OnErr r P
+no_err P (Ok b) a is = tt
+no_err P (Err e) a is = cc
 
 pub not_handled : {Z : Type 0} → (s : Short) → s ≡ Apart → IsHandled s → Z
 not_handled Went is h = cc
@@ -98,3 +105,12 @@ ok_end a b both = ((λ h. absurd (ok_err b h)), (λ p. absurd (ok_err a (both.1 
   where
     ok_err : {C : Type 0} (x : C) → ◌≡◌ {A = Result C TakeError} (Ok x) (Err StampEnd) → ⊥
     ok_err x h = cc
+
+-- whether a stamp is left is asked by the message's own
+pub is_ended-asked : (s : State) (m : Message) (stamp : ℕ) (b : Bool) → b ≡ ((s.stamp == 2 ^ 64 - 1) || (stamp == 2 ^ 64 - 1)) → stamp ≡ m.stamp
+    → is_ended s m ≡ b
+is_ended-asked s m stamp b asked is = ap (λ n. (s.stamp == 2 ^ 64 - 1) || (n == 2 ^ 64 - 1)) (sym is) ∙ sym asked
+
+-- so where none is left, that is what is told
+pub ended : {A : Type 0} (b : Bool) → b ≡ true → ◌≡◌ {A = Result A TakeError} (Err StampEnd) (Err StampEnd) ↔ IsTrue b
+ended b is = ((λ h. is), (λ h. refl))

@@ -1,6 +1,7 @@
 -- Lemmas on specs/Machines.antt.
-use Rattle.std.proofs.Common.{◌≡◌, ℕ, suc, ◌+◌, ◌<◌, Bool, true, false, cond, eqb, eq-eqb, ◌||◌, Option, Some, None, List, [], ◌∷◌, ◌++◌, map, filter, length, get_or, set, take, drop, refl, sym, ap, subst, ◌∙◌, ⊎_elim, arith}
-use Rattle.std.specs.Prelude.{All, IsErrAnd, IsTrue, Result, Ok, Err, slice_index, slice_get, option_map, ◌==◌, ◌-◌, ◌^◌, ◌↔◌}
+use Rattle.std.proofs.Common.{◌≡◌, ℕ, suc, ◌+◌, ◌<◌, Bool, true, false, cond, eqb, eq-eqb, ◌||◌, Option, Some, None, List, [], ◌∷◌, ◌++◌, map, filter}
+use Rattle.std.proofs.Common.{length, get_or, set, take, drop, refl, sym, ap, subst, ◌∙◌, ⊎_elim, inl, inr, arith}
+use Rattle.std.specs.Prelude.{All, IfOk, IsTrue, OnErr, OnOk, Result, Ok, Err, slice_index, slice_get, option_map, ◌↔◌, ◌⊎◌, ⊤}
 use Rattle.std.specs.List.{list_any, remove}
 use Rattle.std.specs.List.Sorted.{IsStrictlyIncreasing}
 use Rattle.std.proofs.lemmas.List.{set-get_or, length-map, length-append, length-set, get_or-map, get_or-set_same, get_or-set_other, map-set}
@@ -23,17 +24,15 @@ use Rattle.id_valid.specs.Roles.{has_main_place, IsMain}
 use Rattle.id_valid.specs.Validator.{IsMainBlock}
 use Rattle.id_element.specs.Fits.{Fits, TokenFits}
 use Rattle.id_element.specs.Fits.{IsFor}
-use Rattle.id_element.specs.Steps.{State, fresh, outputs_of, event_of, state_after, is_ended}
+use Rattle.id_element.specs.Steps.{State, fresh, outputs_of, event_of, state_after, step_of, is_ended}
 use Rattle.id_element.specs.declared.step.TakeError.{TakeError}
-use Rattle.id_element.specs.declared.step.TakeError.TheVariants.{Memory, StampEnd}
+use Rattle.id_element.specs.declared.step.TakeError.TheVariants.{StampEnd}
+use Rattle.id_element.specs.declared.step.Short.{Short}
+use Rattle.id_element.specs.declared.step.Short.TheVariants.{Went, Failed, Apart}
+use Rattle.id_element.specs.Shorts.{IsHandled}
 use Rattle.id_element.specs.Replays.{ElementView}
 use Rattle.id_record.specs.Events.{EventView}
 use Rattle.id_record.specs.declared.step.Step.{Step}
-use Rattle.id_element.specs.Shorts.{IsHandled}
-use Rattle.id_element.specs.declared.step.Short.{Short}
-use Rattle.id_element.specs.declared.step.Short.TheVariants.{Went, Failed, Apart}
-use Rattle.id_tag.specs.declared.plain.PlainToken.{PlainToken}
-use Rattle.id_tag.specs.Plains.{message_of}
 use Rattle.id_core.specs.Machines.{came_of, world_of, taken_from, given_to, routed_to, delivered, event_of_given, event_of_routed, event_at, start_message, input_messages, block_messages, AreTaken, IsElement, AreElements, IsMachine, MachineView}
 use Rattle.id_observe.specs.Observed.{main_tag}
 use Rattle.id_element.proofs.SentLemmas.{kind_at_op}
@@ -187,45 +186,6 @@ AreElements-rise g count es are k lt =
     let next : k + 1 < length es = omega (arith, lt, length-map es (λ e. e.number)) in
     omega (arith, number_at g count es k are (omega (arith, next)), number_at g count es (k + 1) are next)
 
--- ---- plain tokens
-
-module _ (g : Parts) (es : List ElementView) (flight : List Message) (k n : ℕ) (t : PlainToken) (e later : ElementView) (left : List Message)
-    (old : IsMachine g es flight) (d : IsDelivery g (length es) es flight k n (message_of t) e)
-    (fits : All (Fits e.graph) (outputs_of e.graph e.number e.state (message_of t))) where
-  unchanged : set es n e ≡ es
-  unchanged = ap (set es n) (sym (get_or_from_slice_get es n e e d.given.element)) ∙ set-get_or es n e
-
-  -- the machine goes on where a plain token was handled, and stays where it was not
-  pub IsMachine-short : (s : Short) → (IsHandled s → later ≡ taken e (message_of t))
-      → (IsHandled s → left ≡ remove flight k ++ outputs_of e.graph e.number e.state (message_of t))
-      → (s ≡ Apart → later ≡ e) → (s ≡ Apart → left ≡ flight) → IsMachine g (set es n later) left
-  IsMachine-short Went taken_is left_is same still =
-      rw (taken_is tt, left_is tt) (IsMachine-deliver g es flight k n (message_of t) e old d fits)
-  IsMachine-short (Failed f) taken_is left_is same still =
-      rw (taken_is tt, left_is tt) (IsMachine-deliver g es flight k n (message_of t) e old d fits)
-  IsMachine-short Apart taken_is left_is same still = rw (same refl, still refl, unchanged) old
-
-  -- and so it has the same world
-  pub world-apart : later ≡ e → left ≡ flight → world_of (set es n later) left ≡ world_of es flight
-  world-apart same still = ap (λ x. world_of (set es n x) left) same ∙ ap (λ x. world_of (set es n e) x) still ∙ ap (λ x. world_of x flight) unchanged
-
--- ---- reads and writes in small numbers
-
-module _ (g : Parts) (es : List ElementView) (flight : List Message) (k n : ℕ) (m : Message) (e later : ElementView) (left : List Message)
-    (old : IsMachine g es flight) (d : IsDelivery g (length es) es flight k n m e) (fits : All (Fits e.graph) (outputs_of e.graph e.number e.state m)) where
-  same_list : set es n e ≡ es
-  same_list = ap (set es n) (sym (get_or_from_slice_get es n e e d.given.element)) ∙ set-get_or es n e
-
-  -- the machine goes on where a message was handled, and stays where it was not
-  pub IsMachine-handled : (b : Bool) → (b ≡ true → later ≡ taken e m) → (b ≡ true → left ≡ remove flight k ++ outputs_of e.graph e.number e.state m)
-      → (b ≡ false → later ≡ e) → (b ≡ false → left ≡ flight) → IsMachine g (set es n later) left
-  IsMachine-handled true taken_is left_is same still = rw (taken_is refl, left_is refl) (IsMachine-deliver g es flight k n m e old d fits)
-  IsMachine-handled false taken_is left_is same still = rw (same refl, still refl, same_list) old
-
-  -- and so it has the same world
-  pub world-stays : later ≡ e → left ≡ flight → world_of (set es n later) left ≡ world_of es flight
-  world-stays same still = ap (λ x. world_of (set es n x) left) same ∙ ap (λ x. world_of (set es n e) x) still ∙ ap (λ x. world_of x flight) same_list
-
 -- what an event came to without its fault, from what it came to
 pub came_from : (o : Option EventView) (s : Step) → option_map (λ e. e.step) o ≡ Some s → option_map (λ e. came_of e.step) o ≡ Some (came_of s)
 came_from None s h = absurd cc
@@ -233,86 +193,155 @@ came_from (Some v) s h =
     let same : v.step ≡ s = cc in
     ap (λ x. Some (came_of x)) same
 
--- ---- what a delivery owes before it is one, and where an error ends it
+-- ---- what a delivery leaves, whatever it came to
 
--- whether a stamp is left is asked by the message's own
-pub is_ended-asked : (s : State) (m : Message) (stamp : ℕ) (b : Bool) → b ≡ ((s.stamp == 2 ^ 64 - 1) || (stamp == 2 ^ 64 - 1)) → stamp ≡ m.stamp → is_ended s m ≡ b
-is_ended-asked s m stamp b asked is = ap (λ n. (s.stamp == 2 ^ 64 - 1) || (n == 2 ^ 64 - 1)) (sym is) ∙ sym asked
-
-read_again : (es : List ElementView) (n : ℕ) (e f : ElementView) → slice_get es n ≡ Some e → slice_get es n ≡ Some f → e ≡ f
-read_again es n e f first second = cc
-
--- the element that was asked is the one that takes the message
-pub IsDelivery-again : (g : Parts) (es : List ElementView) (flight : List Message) (k n : ℕ) (m : Message) (e f : ElementView)
-    → IsMachine g es flight → IsGiven g (length es) es flight k n m e → slice_get es n ≡ Some f → is_ended e.state m ≡ false
-    → IsDelivery g (length es) es flight k n m f
-IsDelivery-again g es flight k n m e f old given again left = record {
-  given = record { there = given.there; routed = given.routed; element = again };
-  left = ap (λ (x : ElementView). is_ended x.state m) (sym (read_again es n e f given.element again)) ∙ left;
-  same = subst (IsElement g (length es) n) (get_or_from_slice_get es n f f again) (old.elements n f (slice_get_within es n f again));
-}
-
--- and a view where what is in flight stays
-pub view-left : (g : Parts) (es : List ElementView) (flight left : List Message) (v : MachineView)
-    → ◌≡◌ {A = MachineView} (record { graph = g; count = length es; world = world_of es flight }) v → left ≡ flight
-    → ◌≡◌ {A = MachineView} (record { graph = g; count = length es; world = world_of es left }) v
-view-left g es flight left v is same = rw same is
-
--- an error that is another, or the one that was handed on, does not tell the end of stamps
-pub not_end-memory : {A : Type 0} → (r : Result A TakeError) → IsErrAnd r (λ e. e ≡ Memory) → r ≡ Err StampEnd → ⊥
-not_end-memory (Ok a) is h = absurd is
-not_end-memory (Err x) is h = let same : x ≡ StampEnd = cc in let memory : x ≡ Memory = is in cc
-
-pub not_end-same : {A B : Type 0} → (r : Result A TakeError) (x : TakeError) (b : Bool) → IsErrAnd r (λ e. e ≡ x)
-    → (◌≡◌ {A = Result B TakeError} (Err x) (Err StampEnd) → IsTrue b) → b ≡ false → r ≡ Err StampEnd → ⊥
-not_end-same (Ok a) x b is ends left h = absurd is
-not_end-same (Err y) x b is ends left h =
-    let same : y ≡ StampEnd = cc in
-    let told : y ≡ x = is in
-    let true_is : b ≡ true = ends (ap (λ z. Err z) (sym told ∙ same)) in
-    cc
-
-pub no_event : {X : Type 0} (o : Option X) (x : X) → o ≡ Some x → o ≡ None → ⊥
+no_event : {X : Type 0} (o : Option X) (x : X) → o ≡ Some x → o ≡ None → ⊥
 no_event o x some none = cc
 
-module _ (g : Parts) (es : List ElementView) (flight : List Message) (k n : ℕ) (m : Message) (e : ElementView) (given : IsGiven g (length es) es flight k n m e) where
+not_so : {Z : Type 0} (b : Bool) → b ≡ false → b ≡ true → Z
+not_so b none some = cc
+
+-- what went well had a stamp left
+left_ok : {A : Type 0} (a : A) (b : Bool) → ◌≡◌ {A = Result A TakeError} (Ok a) (Err StampEnd) ↔ IsTrue b → b ≡ false
+left_ok {A = A} a true both = let end : ◌≡◌ {A = Result A TakeError} (Ok a) (Err StampEnd) = both.1 refl in cc
+left_ok a false both = refl
+
+-- a message was given to an element: what this is then, and what is in flight, where it was handled, where it stays, and after an error
+pub record IsGiving {A : Type 0} (Done Apart : A → Type 0) (flight : List Message) (k : ℕ) (m : Message)
+    (e later : ElementView) (left : List Message) (r : Result A TakeError) : Type 0 where
+  pub state : IfOk r (λ a. Done a → later ≡ taken e m)
+  pub messages : IfOk r (λ a. Done a → left ≡ remove flight k ++ outputs_of e.graph e.number e.state m)
+  pub fits : OnOk r (All (Fits e.graph) (outputs_of e.graph e.number e.state m))
+  pub apart : IfOk r (λ a. Apart a → later ≡ e)
+  pub apart_messages : IfOk r (λ a. Apart a → left ≡ flight)
+  pub end : r ≡ Err StampEnd ↔ IsTrue (is_ended e.state m)
+  pub err : OnErr r (later ≡ e)
+  pub err_messages : OnErr r (left ≡ flight)
+
+-- where it is handled whenever no error comes
+module _ {A : Type 0} {flight : List Message} {k : ℕ} {m : Message} {e later : ElementView} {left : List Message} where
+  pub giving_any : (r : Result A TakeError) → OnOk r (later ≡ taken e m) → OnOk r (left ≡ remove flight k ++ outputs_of e.graph e.number e.state m)
+      → OnOk r (All (Fits e.graph) (outputs_of e.graph e.number e.state m)) → r ≡ Err StampEnd ↔ IsTrue (is_ended e.state m)
+      → OnErr r (later ≡ e) → OnErr r (left ≡ flight) → IsGiving (λ _. ⊤) (λ _. ⊥) flight k m e later left r
+  giving_any (Ok a) took gone fits end err err_messages =
+      record {
+        state = λ _. took;
+        messages = λ _. gone;
+        fits = fits;
+        apart = λ no. absurd no;
+        apart_messages = λ no. absurd no;
+        end = end;
+        err = tt;
+        err_messages = tt;
+      }
+  giving_any (Err b) took gone fits end err err_messages =
+      record { state = tt; messages = tt; fits = tt; apart = tt; apart_messages = tt; end = end; err = err; err_messages = err_messages }
+
+pub always : {A E : Type 0} (P : A → Type 0) (r : Result A E) → IfOk r (λ a. ⊤ → P a) → IfOk r P
+always P (Ok a) told = told tt
+always P (Err e) told = tt
+
+-- where it is handled if the answer is yes
+pub if_yes : {E : Type 0} (r : Result Bool E) (b : Bool) (P : Type 0) → (r ≡ Ok b → P) → IfOk r (λ c. c ≡ b → P)
+if_yes (Ok c) b P told = λ is. told (ap (λ x. Ok x) is)
+if_yes (Err e) b P told = tt
+
+pub yes_if : {E : Type 0} (r : Result Bool E) (b : Bool) (P : Type 0) → IfOk r (λ c. c ≡ b → P) → r ≡ Ok b → P
+yes_if (Ok c) b P told is = told cc
+yes_if (Err e) b P told is = cc
+
+pub either_way : (b : Bool) → (b ≡ true) ⊎ (b ≡ false)
+either_way true = inl refl
+either_way false = inr refl
+
+pub handled_or_apart : (s : Short) → IsHandled s ⊎ (s ≡ Apart)
+handled_or_apart Went = inl tt
+handled_or_apart (Failed f) = inl tt
+handled_or_apart Apart = inr refl
+
+-- what the delivery of the message at a position tells, as it is promised of a machine
+pub record IsTold {A : Type 0} (Done Apart : A → Type 0) (gives : A → Step) (k : ℕ) (v later : MachineView) (r : Result A TakeError) : Type 0 where
+  pub world : IfOk r (λ a. Done a → later ≡ record v { world = delivered v.graph v.count v.world k })
+  pub step : IfOk r (λ a. Done a → option_map (λ e. e.step) (event_at v.graph v.count v.world k) ≡ Some (gives a))
+  pub apart : IfOk r (λ a. Apart a → later ≡ v)
+  pub end : r ≡ Err StampEnd ↔ event_at v.graph v.count v.world k ≡ None
+  pub err : OnErr r (later ≡ v)
+
+module _ {g : Parts} {es : List ElementView} {flight : List Message} {k n : ℕ} {m : Message} {e : ElementView}
+    (given : IsGiven g (length es) es flight k n m e) (old : IsMachine g es flight) where
   -- the element that the message is for is that of its number
-  element_is : IsMachine g es flight → IsElement g (length es) n e
-  element_is old =
-      subst (IsElement g (length es) n) (get_or_from_slice_get es n e e given.element) (old.elements n e (slice_get_within es n e given.element))
+  element_is : IsElement g (length es) n e
+  element_is = subst (IsElement g (length es) n) (get_or_from_slice_get es n e e given.element) (old.elements n e (slice_get_within es n e given.element))
 
   -- so the message is for it
-  pub is_for : IsMachine g es flight → IsFor e.graph e.count e.number m
-  is_for old =
-      let is = element_is old in
+  pub is_for : IsFor e.graph e.count e.number m
+  is_for =
       let fits : Fits g m = subst (Fits g) (get_or_from_slice_get flight k m m given.there) (old.flight_fits k m (slice_get_within flight k m given.there)) in
       record {
-        routed = ap (route_of m.payload) is.count_is ∙ given.routed ∙ sym is.number;
-        fits = subst (λ (x : Parts). Fits x m) (sym is.graph) fits;
+        routed = ap (route_of m.payload) element_is.count_is ∙ given.routed ∙ sym element_is.number;
+        fits = subst (λ (x : Parts). Fits x m) (sym element_is.graph) fits;
       }
+
+  delivery : is_ended e.state m ≡ false → IsDelivery g (length es) es flight k n m e
+  delivery stamp = record { given = given; left = stamp; same = element_is }
 
   kept_list : set es n e ≡ es
   kept_list = ap (set es n) (sym (get_or_from_slice_get es n e e given.element)) ∙ set-get_or es n e
 
-  -- a machine stays one where the element and what is in flight stay
-  pub IsMachine-kept : (later : ElementView) (left : List Message) → later ≡ e → left ≡ flight → IsMachine g es flight → IsMachine g (set es n later) left
-  IsMachine-kept later left same still old = rw (same, still, kept_list) old
+  -- the machine stays one, whatever the delivery came to
+  pub IsMachine-given : {A : Type 0} {Done Apart : A → Type 0} {later : ElementView} {left : List Message}
+      (which : (a : A) → Done a ⊎ Apart a) (r : Result A TakeError) → IsGiving Done Apart flight k m e later left r → IsMachine g (set es n later) left
+  IsMachine-given which (Ok a) x = ⊎_elim
+      (λ done. rw (x.state done, x.messages done) (IsMachine-deliver g es flight k n m e old (delivery (left_ok a (is_ended e.state m) x.end)) x.fits))
+      (λ apart. rw (x.apart apart, x.apart_messages apart, kept_list) old) (which a)
+  IsMachine-given which (Err b) x = rw (x.err, x.err_messages, kept_list) old
 
-  module _ (v : MachineView) (is : ◌≡◌ {A = MachineView} (record { graph = g; count = length es; world = world_of es flight }) v) where
-    -- and so does its view
-    pub view-kept : (later : ElementView) (left : List Message) → later ≡ e → left ≡ flight
-        → ◌≡◌ {A = MachineView} (record { graph = g; count = length (set es n later); world = world_of (set es n later) left }) v
+  module _ {v : MachineView} (is : ◌≡◌ {A = MachineView} (record { graph = g; count = length es; world = world_of es flight }) v) where
+    -- what the machine shows afterwards
+    abbrev pub after : ElementView → List Message → MachineView
+    after later left = record { graph = g; count = length (set es n later); world = world_of (set es n later) left }
+
+    view-kept : (later : ElementView) (left : List Message) → later ≡ e → left ≡ flight → after later left ≡ v
     view-kept later left same still = rw (same, still, kept_list) is
 
+    view-delivered : (later : ElementView) (left : List Message) → is_ended e.state m ≡ false → later ≡ taken e m
+        → left ≡ remove flight k ++ outputs_of e.graph e.number e.state m → after later left ≡ record v { world = delivered v.graph v.count v.world k }
+    view-delivered later left stamp took gone =
+        let world : world_of (set es n later) left ≡ delivered g (length es) (world_of es flight) k =
+        rw (took, gone) (world-delivered g (length es) es flight k n m e (delivery stamp)) in
+        subst (λ (x : MachineView). after later left ≡ record x { world = delivered x.graph x.count x.world k }) is
+        (λ i. record { graph = g; count = length-set es n later i; world = world i })
+
     event_in_view : (b : Bool) → is_ended e.state m ≡ b → event_at v.graph v.count v.world k ≡ cond b None (Some (event_of g n e.state m))
-    event_in_view b left = subst (λ (x : MachineView). event_at x.graph x.count x.world k ≡ cond b None (Some (event_of g n e.state m))) is
-        (event_at-is g (length es) es flight k n m e given ∙ ap (λ c. cond c None (Some (event_of g n e.state m))) left)
+    event_in_view b stamp = subst (λ (x : MachineView). event_at x.graph x.count x.world k ≡ cond b None (Some (event_of g n e.state m))) is
+        (event_at-is g (length es) es flight k n m e given ∙ ap (λ c. cond c None (Some (event_of g n e.state m))) stamp)
 
-    -- the end of stamps is told where none is left
-    pub end_told : {A : Type 0} → (r : Result A TakeError) → is_ended e.state m ≡ true → r ≡ Err StampEnd → r ≡ Err StampEnd ↔ event_at v.graph v.count v.world k ≡ None
-    end_told r left told = ((λ h. event_in_view true left), (λ h. told))
+    step-delivered : is_ended e.state m ≡ false → option_map (λ x. x.step) (event_at v.graph v.count v.world k) ≡ Some (step_of e.graph e.number e.state m)
+    step-delivered stamp =
+        ap (option_map (λ x. x.step)) (event_in_view false stamp)
+        ∙ ap (λ s. Some s) (sym (ap (λ x. step_of x e.number e.state m) element_is.graph ∙ ap (λ j. step_of g j e.state m) element_is.number))
 
-    -- and by nothing else
-    pub end_untold : {A : Type 0} → (r : Result A TakeError) → is_ended e.state m ≡ false → (r ≡ Err StampEnd → ⊥)
+    -- the end of stamps is told where none is left, and by nothing else
+    end-delivered : {A : Type 0} (r : Result A TakeError) → r ≡ Err StampEnd ↔ IsTrue (is_ended e.state m)
         → r ≡ Err StampEnd ↔ event_at v.graph v.count v.world k ≡ None
-    end_untold r left not = ((λ h. absurd (not h)), (λ h. absurd (no_event _ _ (event_in_view false left) h)))
+    end-delivered r both = at (is_ended e.state m) refl
+      where
+        at : (b : Bool) → is_ended e.state m ≡ b → r ≡ Err StampEnd ↔ event_at v.graph v.count v.world k ≡ None
+        at true stamp = ((λ h. event_in_view true stamp), (λ h. both.1 stamp))
+        at false stamp = ((λ h. not_so (is_ended e.state m) stamp (both.0 h)), (λ h. absurd (no_event _ _ (event_in_view false stamp) h)))
+
+    -- what the element and the list in flight tell is told of the machine
+    pub told-given : {A : Type 0} {Done Apart : A → Type 0} {later : ElementView} {left : List Message} (step : A → Step) (r : Result A TakeError)
+        → IsGiving Done Apart flight k m e later left r → IfOk r (λ a. Done a → step a ≡ step_of e.graph e.number e.state m)
+        → IsTold Done Apart step k v (after later left) r
+    told-given {later = later} {left = left} step (Ok a) x goes =
+        let stamp = left_ok a (is_ended e.state m) x.end in
+        record {
+          world = λ done. view-delivered later left stamp (x.state done) (x.messages done);
+          step = λ done. step-delivered stamp ∙ ap (λ s. Some s) (sym (goes done));
+          apart = λ apart. view-kept later left (x.apart apart) (x.apart_messages apart);
+          end = end-delivered (Ok a) x.end;
+          err = tt;
+        }
+    told-given {later = later} {left = left} step (Err b) x goes =
+        record { world = tt; step = tt; apart = tt; end = end-delivered (Err b) x.end; err = view-kept later left x.err x.err_messages }

@@ -1,6 +1,6 @@
 //! What is in flight, as a machine keeps it: a list with a gap, at which messages are taken out.
 
-ghost use Rattle.std.specs.Prelude.{◌≡◌, ◌+◌, ◌++◌, ◌≤◌, length, OnOk};
+ghost use Rattle.std.specs.Prelude.{◌≡◌, ◌+◌, ◌++◌, ◌≤◌, ◌↔◌, length, OnOk, IsTrue, true};
 
 use id_element::{Element, Short, TakeError};
 use id_flight::{Demand, Queue};
@@ -168,7 +168,7 @@ impl InFlight {
 
     /// Moves the gap beside the message at a position.
     #[inline(always)]
-    pub(crate) fn open(&mut self, position: usize) -> Result<(), AllocError>
+    fn open(&mut self, position: usize) -> Result<(), AllocError>
         requires { position < length self.old.messages }
         ensures messages { self.new.messages ≡ self.old.messages }
         ensures gap { OnOk result (IsBeside self.new.gap position) }
@@ -197,10 +197,43 @@ impl InFlight {
         Ok(())
     }
 
+    /// Gives the message at a position to an element, as `give_next` does, wherever the gap is.
+    #[inline(always)]
+    pub(crate) fn give_at(
+        &mut self,
+        position: usize,
+        message: &Message,
+        element: &mut Element<'_>,
+    ) -> Result<Step, TakeError>
+        requires next { slice_get self.old.messages position ≡ Some message.now }
+        requires is_for { IsFor element.old.graph element.old.count element.old.number message.now }
+
+        ensures messages { OnOk result (self.new.messages ≡ remove self.old.messages position
+            ++ outputs_of element.old.graph element.old.number element.old.state message.now) }
+        ensures state { OnOk result (element.new ≡ record element.old {
+          state = state_after element.old.graph element.old.number element.old.state message.now;
+        }) }
+        ensures step { IfOk result
+            (λ step. step ≡ step_of element.old.graph element.old.number element.old.state message.now) }
+        ensures fits { OnOk result
+            (All (Fits element.old.graph)
+            (outputs_of element.old.graph element.old.number element.old.state message.now)) }
+
+        ensures end { (result ≡ Err StampEnd) ↔ IsTrue (is_ended element.old.state message.now) }
+        ensures err { OnErr result (element.new ≡ element.old) }
+        ensures err_messages { OnErr result (self.new.messages ≡ self.old.messages) }
+    {
+        if element.is_ended(message) {
+            return Err(TakeError::StampEnd);
+        }
+        self.open(position)?;
+        self.give_next(position, message, element)
+    }
+
     /// Gives the message at a position beside the gap to an element: it leaves the list, which closes up, and what is
     /// sent goes to the end. After an error nothing has changed.
     #[inline(always)]
-    pub(crate) fn give_next(
+    fn give_next(
         &mut self,
         position: usize,
         message: &Message,
@@ -231,9 +264,44 @@ impl InFlight {
         Ok(step)
     }
 
+    /// Gives the plain token at a position to an element, as `give_plain` does, wherever the gap is.
+    #[inline(always)]
+    pub(crate) fn give_plain_at(
+        &mut self,
+        position: usize,
+        token: &PlainToken,
+        element: &mut Element<'_>,
+    ) -> Result<Short, TakeError>
+        requires next { slice_get self.old.messages position ≡ Some (message_of token.now) }
+        requires is_for { IsFor element.old.graph element.old.count element.old.number (message_of token.now) }
+
+        ensures messages { IfOk result (λ short. IsHandled short → self.new.messages
+            ≡ remove self.old.messages position
+            ++ outputs_of element.old.graph element.old.number element.old.state (message_of token.now)) }
+        ensures state { IfOk result (λ short. IsHandled short → element.new ≡ record element.old {
+          state = state_after element.old.graph element.old.number element.old.state (message_of token.now);
+        }) }
+        ensures step { IfOk result (λ short. IsHandled short → step_in short (tag_in token.now)
+            ≡ step_of element.old.graph element.old.number element.old.state (message_of token.now)) }
+        ensures fits { OnOk result (All (Fits element.old.graph)
+            (outputs_of element.old.graph element.old.number element.old.state (message_of token.now))) }
+        ensures apart { IfOk result (λ short. short ≡ Apart → element.new ≡ element.old) }
+        ensures apart_messages { IfOk result (λ short. short ≡ Apart → self.new.messages ≡ self.old.messages) }
+
+        ensures end { (result ≡ Err StampEnd) ↔ IsTrue (is_ended element.old.state (message_of token.now)) }
+        ensures err { OnErr result (element.new ≡ element.old) }
+        ensures err_messages { OnErr result (self.new.messages ≡ self.old.messages) }
+    {
+        if element.is_ended_at(u64::from(token.stamp)) {
+            return Err(TakeError::StampEnd);
+        }
+        self.open(position)?;
+        self.give_plain(position, token, element)
+    }
+
     /// Gives the plain token at a position beside the gap to an element, as `give_next` does, where that is short.
     #[inline(always)]
-    pub(crate) fn give_plain(
+    fn give_plain(
         &mut self,
         position: usize,
         token: &PlainToken,
@@ -270,10 +338,45 @@ impl InFlight {
         Ok(short)
     }
 
+    /// Gives the read or the write at a position to an element, as `give_demand` does, wherever the gap is.
+    #[inline(always)]
+    pub(crate) fn give_demand_at(
+        &mut self,
+        position: usize,
+        demand: &Demand,
+        element: &mut Element<'_>,
+    ) -> Result<bool, TakeError>
+        requires next { slice_get self.old.messages position ≡ Some (demanded demand.now) }
+        requires is_for { IsFor element.old.graph element.old.count element.old.number (demanded demand.now) }
+
+        ensures messages { result ≡ Ok true → self.new.messages
+            ≡ remove self.old.messages position
+            ++ outputs_of element.old.graph element.old.number element.old.state (demanded demand.now) }
+        ensures state { result ≡ Ok true → element.new ≡ record element.old {
+          state = state_after element.old.graph element.old.number element.old.state (demanded demand.now);
+        } }
+        ensures step { result ≡ Ok true →
+            step_of element.old.graph element.old.number element.old.state (demanded demand.now) ≡ Went }
+        ensures fits { OnOk result (All (Fits element.old.graph)
+            (outputs_of element.old.graph element.old.number element.old.state (demanded demand.now))) }
+        ensures apart { result ≡ Ok false → element.new ≡ element.old }
+        ensures apart_messages { result ≡ Ok false → self.new.messages ≡ self.old.messages }
+
+        ensures end { (result ≡ Err StampEnd) ↔ IsTrue (is_ended element.old.state (demanded demand.now)) }
+        ensures err { OnErr result (element.new ≡ element.old) }
+        ensures err_messages { OnErr result (self.new.messages ≡ self.old.messages) }
+    {
+        if element.is_ended_at(u64::from(demand.like.stamp)) {
+            return Err(TakeError::StampEnd);
+        }
+        self.open(position)?;
+        self.give_demand(position, demand, element)
+    }
+
     /// Gives the read or the write at a position beside the gap to an element, as `give_next` does, where that is
     /// short, and answers whether it was.
     #[inline(always)]
-    pub(crate) fn give_demand(
+    fn give_demand(
         &mut self,
         position: usize,
         demand: &Demand,
@@ -301,11 +404,11 @@ impl InFlight {
         ensures err_messages { OnErr result (self.new.messages ≡ self.old.messages) }
     {
         let is_behind = position == self.before.len();
-        let handled = element.take_demand(demand, &mut self.after)?;
-        if handled {
+        let taken = element.take_demand(demand, &mut self.after);
+        if was_handled(&taken) {
             self.drop_at(position, is_behind);
         }
-        Ok(handled)
+        taken
     }
 
     /// Drops the message at a position beside the gap, which is behind it or in front of it: the list closes up. Takes
@@ -323,6 +426,14 @@ impl InFlight {
             self.before.pop_back();
         }
     }
+}
+
+/// Whether an element handled what it was given in short.
+#[inline(always)]
+fn was_handled(taken: &Result<bool, TakeError>) -> bool
+    ensures { IsTrue result ↔ (taken.now ≡ Ok true) }
+{
+    matches!(taken, Ok(true))
 }
 
 /// Moves so many messages, one after another, from the front of the second list to the end of the first.

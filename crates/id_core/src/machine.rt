@@ -269,15 +269,8 @@ impl<'a> Machine<'a> {
     {
         let message = self.flight.message(position);
         let number = route(&message, self.elements.len() as u32) as usize;
-        let element = &self.elements[number];
-        if element.is_ended(&message) {
-            return Err(TakeError::StampEnd);
-        }
-        self.flight.open(position)?;
-        let step = self
-            .flight
-            .give_next(position, &message, &mut self.elements[number])?;
-        Ok(step)
+        self.flight
+            .give_at(position, &message, &mut self.elements[number])
     }
 
     /// Delivers the plain token at a position, as `deliver` does, where that is short.
@@ -297,15 +290,8 @@ impl<'a> Machine<'a> {
         ensures err { OnErr result (self.new ≡ self.old) }
     {
         let number = route_tag(token.tag(), self.elements.len() as u32) as usize;
-        let element = &self.elements[number];
-        if element.is_ended_at(u64::from(token.stamp)) {
-            return Err(TakeError::StampEnd);
-        }
-        self.flight.open(position)?;
-        let short = self
-            .flight
-            .give_plain(position, token, &mut self.elements[number])?;
-        Ok(short)
+        self.flight
+            .give_plain_at(position, token, &mut self.elements[number])
     }
 
     /// Delivers the read or the write of a cell at a position, as `deliver` does, where that is short, and answers
@@ -325,15 +311,8 @@ impl<'a> Machine<'a> {
         ensures err { OnErr result (self.new ≡ self.old) }
     {
         let number = route(&demand.message(), self.elements.len() as u32) as usize;
-        let element = &self.elements[number];
-        if element.is_ended_at(u64::from(demand.like.stamp)) {
-            return Err(TakeError::StampEnd);
-        }
-        self.flight.open(position)?;
-        let handled = self
-            .flight
-            .give_demand(position, demand, &mut self.elements[number])?;
-        Ok(handled)
+        self.flight
+            .give_demand_at(position, demand, &mut self.elements[number])
     }
 
     /// Gives back the memory of what is in flight and of what waits at each element, where nothing is or does: it shows

@@ -1,155 +1,57 @@
--- The delivery is the one that the definitions speak of: the token at the position, its element, and a stamp left.
-use Rattle.std.proofs.Common.{◌≡◌, ◌<◌, ◌++◌, Some, length, set, refl, sym, ap, subst, ◌∙◌}
-use Rattle.std.specs.Prelude.{slice_get, option_map}
-use Rattle.std.specs.List.{remove}
-use Rattle.std.proofs.lemmas.List.{length-set}
-use Rattle.std.proofs.lemmas.Option.{slice_get_read, slice_get_within}
+-- The delivery is the one that the definitions speak of: the message at the position, given to the element that it is for.
+use Rattle.std.proofs.Common.{◌≡◌, ◌<◌, length, refl, sym, ap, subst, ◌∙◌}
+use Rattle.std.specs.Prelude.{slice_get}
+use Rattle.std.proofs.lemmas.Option.{slice_get_read}
 use Rattle.id_tag.specs.Plains.{message_of, tag_in}
 use Rattle.id_tag.specs.Routes.{tag_route}
 use Rattle.id_element.specs.Shorts.{IsHandled, step_in}
+use Rattle.id_element.specs.declared.step.Short.{Short}
 use Rattle.id_element.specs.declared.step.Short.TheVariants.{Apart}
-use Rattle.id_element.specs.Steps.{is_ended, step_of, outputs_of}
-use Rattle.id_element.proofs.ShortLemmas.{on_err}
-use Rattle.id_core.specs.Machines.{IsMachine, delivered, world_of}
-use Rattle.id_core.proofs.MachinesLemmas.{IsDelivery, IsDelivery-again, IsGiven, taken, world-delivered, event-delivered, IsMachine-short, world-apart}
-use Rattle.id_core.proofs.MachinesLemmas.{is_ended-asked, not_end-memory, not_end-same, no_event, end_told, end_untold, is_for, IsMachine-kept, view-kept, view-left}
+use Rattle.id_core.proofs.MachinesLemmas.{IsGiven, IsGiving, IsMachine-given, handled_or_apart, is_for, told-given}
 use Rattle.id_core.proofs.machine.Machine.deliver_plain.Goals as goal
-use Rattle.id_core.proofs.machine.Machine.deliver_plain.Goals.{After-from, After-index_mut}
+use Rattle.id_core.proofs.machine.Machine.deliver_plain.Goals.{After-index_mut}
 
--- the token is given to the element that is asked, before anything changes
-asked : (c : After-from) → IsGiven c.self.inside.graph.now (length c.self.inside.elements.items) c.self.inside.elements.items c.self.inside.flight.messages c.args.position c.route_tag-number.result (message_of c.args.token.now) c.index-element.result.now
-asked c =
+given : (c : After-index_mut)
+    → IsGiven c.self.inside.graph.now (length c.self.inside.elements.items) c.self.inside.elements.items c.self.inside.flight.messages
+    c.args.position c.route_tag-number.result (message_of c.args.token.now) c.index_mut.result.now
+given c =
     let es = c.self.inside.elements.items in
     let many : c.len.result ≡ length es = c.len.ensures ∙ c.self.inside.elements.ok.0 in
     let below : c.route_tag-number.result < length es = subst (λ n. c.route_tag-number.result < n) many c.route_tag-number.ensures.below in
     record {
       there = ap (λ v. slice_get v.world.flight c.args.position) c.self.view_is ∙ c.requires;
       routed = sym (c.route_tag-number.ensures.exact ∙ ap (λ u. tag_route u c.len.result) c.tag.ensures ∙ ap (tag_route (tag_in c.args.token.now)) many);
-      element = slice_get_read es _ _ _ refl below c.index-element.ensures;
+      element = slice_get_read es _ _ _ refl below c.index_mut.ensures.value;
     }
 
-delivery : (c : After-index_mut) → IsDelivery c.self.inside.graph.now (length c.self.inside.elements.items) c.self.inside.elements.items c.self.inside.flight.messages c.args.position c.route_tag-number.result (message_of c.args.token.now) c.index_mut.result.now
-delivery c =
-    let es = c.self.inside.elements.items in
-    let m = message_of c.args.token.now in
-    let many : c.len.result ≡ length es = c.len.ensures ∙ c.self.inside.elements.ok.0 in
-    let below : c.route_tag-number.result < length es = subst (λ n. c.route_tag-number.result < n) many c.route_tag-number.ensures.below in
-    IsDelivery-again c.self.inside.graph.now es c.self.inside.flight.messages c.args.position c.route_tag-number.result m c.index-element.result.now c.index_mut.result.now c.self.invariant
-    (asked (goal.at.give_plain-requires-clause-next c).After-from)
-    (slice_get_read es _ _ _ refl below c.index_mut.ensures.value)
-    (is_ended-asked c.index-element.result.now.state m c.from.result c.is_ended_at.result c.is_ended_at.ensures c.from.ensures ∙ c.if-is_ended_at.false)
+giving : (c : goal.After-self-1)
+    → IsGiving IsHandled (λ s. s ≡ Apart) c.self.inside.flight.messages c.args.position (message_of c.args.token.now) c.index_mut.result.now
+    c.give_plain_at.new.element c.give_plain_at.new.self.messages c.give_plain_at.result
+giving c =
+    let told = c.give_plain_at.ensures in
+    record {
+      state = told.state;
+      messages = told.messages;
+      fits = told.fits;
+      apart = told.apart;
+      apart_messages = told.apart_messages;
+      end = told.end;
+      err = told.err;
+      err_messages = told.err_messages;
+    }
 
--- the elements afterwards
-element_after : (c : goal.In_ok-short) → IsHandled c.in_ok-short.short → c.give_plain.new.element ≡ taken c.index_mut.result.now (message_of c.args.token.now)
-element_after c h = c.in_ok-short.ensures.state h
+pub give_plain_at-requires-clause-next : goal.give_plain_at-requires-clause-next
+give_plain_at-requires-clause-next c = (given c).there
 
--- the messages in flight afterwards
-flight_after : (c : goal.In_ok-short) → IsHandled c.in_ok-short.short → c.give_plain.new.self.messages ≡ remove c.self.inside.flight.messages c.args.position ++ outputs_of c.index_mut.result.now.graph c.index_mut.result.now.number c.index_mut.result.now.state (message_of c.args.token.now)
-flight_after c h =
-    rw (c.in_ok-short.ensures.messages h, c.open.ensures.messages) refl
+pub give_plain_at-requires-clause-is_for : goal.give_plain_at-requires-clause-is_for
+give_plain_at-requires-clause-is_for c = is_for (given c) c.self.invariant
 
--- and where the token was not handled
-element_apart : (c : goal.In_ok-short) → c.in_ok-short.short ≡ Apart → c.give_plain.new.element ≡ c.index_mut.result.now
-element_apart c is = c.in_ok-short.ensures.apart is
-
-flight_apart : (c : goal.In_ok-short) → c.in_ok-short.short ≡ Apart → c.give_plain.new.self.messages ≡ c.self.inside.flight.messages
-flight_apart c is = c.in_ok-short.ensures.apart_messages is ∙ c.open.ensures.messages
-
-pub invariant_of-self-2 : goal.invariant_of-self-2
-invariant_of-self-2 c =
-    let es = c.self.inside.elements.items in
-    let fl = c.self.inside.flight.messages in
-    IsMachine-short c.self.inside.graph.now es fl c.args.position c.route_tag-number.result c.args.token.now c.index_mut.result.now c.give_plain.new.element c.give_plain.new.self.messages c.self.invariant (delivery (goal.at.invariant_of-self-2 c).After-index_mut) c.in_ok-short.ensures.fits
-    c.in_ok-short.short (element_after c) (flight_after c) (element_apart c) (flight_apart c)
+pub invariant_of-self : goal.invariant_of-self
+invariant_of-self c = IsMachine-given (given (goal.at.invariant_of-self c).After-index_mut) c.self.invariant handled_or_apart c.give_plain_at.result (giving c)
 
 pub returns : goal.returns
 returns c =
-    let g = c.self.inside.graph.now in
-    let es = c.self.inside.elements.items in
-    let fl = c.self.inside.flight.messages in
-    let k = c.args.position in
-    let n = c.route_tag-number.result in
-    let m = message_of c.args.token.now in
-    let e = c.index_mut.result.now in
-    let later = c.give_plain.new.element in
-    let d = delivery (goal.at.returns c).After-index_mut in
-    let event = event-delivered g (length es) es fl k n m e d in
-    let count : length (set es n later) ≡ length es = length-set es n later in
-    record {
-      world = λ h.
-          let after : world_of (set es n later) c.give_plain.new.self.messages ≡ delivered g (length es) (world_of es fl) k =
-          rw (element_after c h, flight_after c h) (world-delivered g (length es) es fl k n m e d) in
-          rw (← ap (λ v. v.graph) c.self.view_is, ← ap (λ v. v.count) c.self.view_is, ← ap (λ v. v.world) c.self.view_is)
-          (λ i. record { graph = c.self.inside.graph.now; count = count i; world = after i });
-      step = λ h.
-          let step : step_in c.in_ok-short.short (tag_in c.args.token.now) ≡ step_of g n e.state m =
-          c.in_ok-short.ensures.step h ∙ ap (λ g. step_of g e.number e.state m) d.same.graph ∙ ap (λ n. step_of c.self.inside.graph.now n e.state m) d.same.number in
-          rw (← ap (λ v. v.graph) c.self.view_is, ← ap (λ v. v.count) c.self.view_is, ← ap (λ v. v.world) c.self.view_is)
-          (ap (option_map (λ e. e.step)) event ∙ ap (λ x. Some x) (sym step));
-      apart = λ is.
-          let after : world_of (set es n later) c.give_plain.new.self.messages ≡ world_of es fl =
-          world-apart g es fl k n c.args.token.now e later c.give_plain.new.self.messages c.self.invariant d c.in_ok-short.ensures.fits (element_apart c is) (flight_apart c is) in
-          (λ i. record { graph = c.self.inside.graph.now; count = count i; world = after i }) ∙ c.self.view_is;
-      end = rw (← ap (λ v. v.graph) c.self.view_is, ← ap (λ v. v.count) c.self.view_is, ← ap (λ v. v.world) c.self.view_is)
-          (λ bad. cc, λ none. absurd (no_event _ _ event none));
-      err = tt;
-    }
-
--- before it is one, and where an error ends it
-
-pub returns-then-is_ended_at-clause-end : goal.returns-then-is_ended_at-clause-end
-returns-then-is_ended_at-clause-end c =
-    let m = message_of c.args.token.now in
-    end_told c.self.inside.graph.now c.self.inside.elements.items c.self.inside.flight.messages c.args.position c.route_tag-number.result m c.index-element.result.now
-    (asked (goal.at.returns-then-is_ended_at-clause-end c).After-from) c.args.self.now c.self.view_is _
-    (is_ended-asked c.index-element.result.now.state m c.from.result c.is_ended_at.result c.is_ended_at.ensures c.from.ensures ∙ c.if-is_ended_at.true) refl
-
-pub returns-then-is_ended_at-clause-err : goal.returns-then-is_ended_at-clause-err
-returns-then-is_ended_at-clause-err c = refl
-
-pub open-requires : goal.open-requires
-open-requires c = slice_get_within c.self.inside.flight.messages c.args.position _ (asked (goal.at.open-requires c).After-from).there
-
-pub invariant_of-self : goal.invariant_of-self
-invariant_of-self c = subst (IsMachine c.self.inside.graph.now c.self.inside.elements.items) (sym c.open.ensures.messages) c.self.invariant
-
-pub returns-in_err-open-clause-end : goal.returns-in_err-open-clause-end
-returns-in_err-open-clause-end c =
-    let m = message_of c.args.token.now in
-    end_untold c.self.inside.graph.now c.self.inside.elements.items c.self.inside.flight.messages c.args.position c.route_tag-number.result m c.index-element.result.now
-    (asked (goal.at.returns-in_err-open-clause-end c).After-from) c.args.self.now c.self.view_is c.from_residual.result
-    (is_ended-asked c.index-element.result.now.state m c.from.result c.is_ended_at.result c.is_ended_at.ensures c.from.ensures ∙ c.if-is_ended_at.false)
-    (not_end-memory c.from_residual.result c.from_residual.ensures.1)
-
-pub returns-in_err-open-clause-err : goal.returns-in_err-open-clause-err
-returns-in_err-open-clause-err c =
-    on_err c.from_residual.result
-    (view-left c.self.inside.graph.now c.self.inside.elements.items c.self.inside.flight.messages c.open.new.self.messages c.args.self.now c.self.view_is c.open.ensures.messages)
-
-pub give_plain-requires-clause-next : goal.give_plain-requires-clause-next
-give_plain-requires-clause-next c = ap (λ fl. slice_get fl c.args.position) c.open.ensures.messages ∙ (delivery c).given.there
-
-pub give_plain-requires-clause-is_for : goal.give_plain-requires-clause-is_for
-give_plain-requires-clause-is_for c =
-    is_for c.self.inside.graph.now c.self.inside.elements.items c.self.inside.flight.messages c.args.position c.route_tag-number.result (message_of c.args.token.now) c.index_mut.result.now (delivery c).given c.self.invariant
-
-pub invariant_of-self-in_err-short : goal.invariant_of-self-in_err-short
-invariant_of-self-in_err-short c =
-    IsMachine-kept c.self.inside.graph.now c.self.inside.elements.items c.self.inside.flight.messages c.args.position c.route_tag-number.result (message_of c.args.token.now) c.index_mut.result.now
-    (delivery (goal.at.invariant_of-self-in_err-short c).After-index_mut).given
-    c.give_plain.new.element c.give_plain.new.self.messages c.in_err-short.ensures.err (c.in_err-short.ensures.err_messages ∙ c.open.ensures.messages) c.self.invariant
-
-pub returns-in_err-short-clause-end : goal.returns-in_err-short-clause-end
-returns-in_err-short-clause-end c =
-    let m = message_of c.args.token.now in
-    let e = c.index_mut.result.now in
-    let d = delivery (goal.at.returns-in_err-short-clause-end c).After-index_mut in
-    end_untold c.self.inside.graph.now c.self.inside.elements.items c.self.inside.flight.messages c.args.position c.route_tag-number.result m e d.given c.args.self.now c.self.view_is c.from_residual-in_err-short.result d.left
-    (not_end-same c.from_residual-in_err-short.result c.in_err-short.field-0.0 (is_ended e.state m) c.from_residual-in_err-short.ensures.1 c.in_err-short.ensures.end.0 d.left)
-
-pub returns-in_err-short-clause-err : goal.returns-in_err-short-clause-err
-returns-in_err-short-clause-err c =
-    on_err c.from_residual-in_err-short.result
-    (view-kept c.self.inside.graph.now c.self.inside.elements.items c.self.inside.flight.messages c.args.position c.route_tag-number.result (message_of c.args.token.now) c.index_mut.result.now
-    (delivery (goal.at.returns-in_err-short-clause-err c).After-index_mut).given c.args.self.now c.self.view_is
-    c.give_plain.new.element c.give_plain.new.self.messages c.in_err-short.ensures.err (c.in_err-short.ensures.err_messages ∙ c.open.ensures.messages))
+    let goes = c.give_plain_at.ensures.step in
+    let came = λ (s : Short). step_in s (tag_in c.args.token.now) in
+    let told = told-given (given (goal.at.returns c).After-index_mut) c.self.invariant c.self.view_is came c.give_plain_at.result (giving c) goes in
+    record { world = told.world; step = told.step; apart = told.apart; end = told.end; err = told.err }
