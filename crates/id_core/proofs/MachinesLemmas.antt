@@ -24,7 +24,7 @@ use Rattle.id_valid.specs.Roles.{has_main_place, IsMain}
 use Rattle.id_valid.specs.Validator.{IsMainBlock}
 use Rattle.id_element.specs.Fits.{Fits, TokenFits}
 use Rattle.id_element.specs.Fits.{IsFor}
-use Rattle.id_element.specs.Steps.{State, fresh, outputs_of, event_of, state_after, step_of, is_ended}
+use Rattle.id_element.specs.Steps.{fresh, outputs_of, event_of, state_after, step_of, is_ended}
 use Rattle.id_element.specs.declared.step.TakeError.{TakeError}
 use Rattle.id_element.specs.declared.step.TakeError.TheVariants.{StampEnd}
 use Rattle.id_element.specs.declared.step.Short.{Short}

@@ -14,8 +14,8 @@ ghost use Rattle.id_observe.specs.Observed.{answer_in, answers, ask_of, brought,
 ghost use Rattle.id_observe.specs.Observed.{brought_at, fault_of};
 ghost use Rattle.id_observe.specs.Observed.{faults_in, faults_of, first_value, is_label, is_next, is_value_merge};
 ghost use Rattle.id_observe.specs.Observed.{label_marks, main_tag, name_at, name_in, names_in, names_of, put_of};
-ghost use Rattle.id_observe.specs.Observed.{second_store, shape_at, site_cmp, source_value, structure_by};
-ghost use Rattle.id_observe.specs.Observed.{structure_in, structures_in, waiting_in};
+ghost use Rattle.id_observe.specs.Observed.{second_store, shape_at, site_at, site_cmp, source_value};
+ghost use Rattle.id_observe.specs.Observed.{structure_by, structure_in, structures_in, waiting_in};
 ghost use Rattle.id_observe.specs.Paths.{path_by, place_of};
 
 use crate::paths::{Making, Paths};
@@ -25,7 +25,7 @@ use id_graph::{Graph, Instr, Op, PortKind};
 use id_list::Sequence;
 use id_meaning::{Ask, NameValue, Put, Shape, Site, SourceFault, SourceValue};
 use id_record::{Events, Fault, Step};
-use id_tag::{Context, Payload, Structure, Tag, Value};
+use id_tag::{Cell, Context, Payload, Structure, Tag, Value};
 use id_valid::Valid;
 use std::alloc::{AllocError, Global};
 use std::cmp::Ordering;
@@ -726,14 +726,27 @@ pub(crate) fn source_fault(
                 first,
                 second,
             },
-        ) => {
-            let name = paths.name(alloc, cell.structure)?;
-            let held = paths.site(alloc, first)?;
-            let came = paths.site(alloc, second)?;
-            Ok(Some(second_store(name, cell.index, held, came)))
-        }
+        ) => Ok(Some(stores_fault(alloc, paths, cell, first, second)?)),
         Step::Went | Step::Stuck => Ok(None),
     }
+}
+
+/// The fault of the stores of these tags into one cell.
+fn stores_fault(
+    alloc: Global,
+    paths: &Paths<'_>,
+    cell: Cell,
+    first: Tag,
+    second: Tag,
+) -> Result<SourceFault, AllocError>
+    ensures { IfOk result (λ f. f ≡ second_store (structure_by paths.now cell.structure) cell.index
+        (site_at paths.now.graph.now (path_by paths.now) first)
+        (site_at paths.now.graph.now (path_by paths.now) second)) }
+{
+    let name = paths.name(alloc, cell.structure)?;
+    let held = paths.site(alloc, first)?;
+    let came = paths.site(alloc, second)?;
+    Ok(second_store(name, cell.index, held, came))
 }
 
 /// The fault of two stores into one cell of the structure of this name: the smaller of them first.

@@ -8,7 +8,8 @@ pub returns-in-Some : goal.returns-in-Some
 returns-in-Some c =
     let states = map (λ e. e.state) c.args.elements.now in
     let first : first_value states ≡ Some c.in-Some.value = sym c.first_value.ensures ∙ c.in-Some.is in
-    subst (λ l. IfOk c.told_value.result (λ o. o ≡ l)) (sym (ap (option_and_then (source_value (structure_in c.args.graph.now states))) first)) c.told_value.ensures
+    let shown = sym (ap (option_and_then (source_value (structure_in c.args.graph.now states))) first) in
+    subst (λ l. IfOk c.told_value.result (λ o. o ≡ l)) shown c.told_value.ensures
 
 pub returns-in-None : goal.returns-in-None
 returns-in-None c =

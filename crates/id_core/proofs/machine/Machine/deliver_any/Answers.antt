@@ -1,6 +1,6 @@
 -- The delivery is the one that the definitions speak of: the message at the position, given to the element that it is for.
-use Rattle.std.proofs.Common.{◌≡◌, ◌<◌, Some, length, inl, refl, sym, ap, subst, ◌∙◌}
-use Rattle.std.specs.Prelude.{option_map, ⊤}
+use Rattle.std.proofs.Common.{◌≡◌, ◌<◌, length, inl, refl, sym, ap, subst, ◌∙◌}
+use Rattle.std.specs.Prelude.{⊤}
 use Rattle.std.proofs.lemmas.Option.{slice_get_read}
 use Rattle.std.proofs.lemmas.Result.{IfOk-weaker}
 use Rattle.id_tag.specs.Routes.{route_of}
