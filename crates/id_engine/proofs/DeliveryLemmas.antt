@@ -1,7 +1,7 @@
 -- Deliveries to a machine, each in its turn (specs/Reports.antt).
 use Rattle.std.proofs.Common.{◌≡◌, ◌≢◌, ℕ, zero, suc, ◌+◌, ◌-◌, ◌*◌, ◌/◌, ◌^◌, ◌==◌, ◌<◌, ◌≤◌, ◌⊎◌, Bool, true, false, cond, ◌||◌, inl, inr, List, [], ◌∷◌, ◌++◌, All, length, take, drop, replicate, Option, Some, None, slice_get, slice_index_or, slice_set, IsTrue, IsFalse, refl, sym, ap, subst, ◌∙◌, arith, length-append, length-set, append_assoc}
-use Rattle.std.specs.Prelude.{option_map}
-use Rattle.std.proofs.lemmas.Bool.{cases_eq, ne_eqb}
+use Rattle.std.specs.Prelude.{◌↔◌, option_map}
+use Rattle.std.proofs.lemmas.Bool.{cases_eq, false≢true, ne_eqb}
 use Rattle.std.specs.List.{cons_option, remove}
 use Rattle.std.proofs.lemmas.List.Elements.{filter_map-append}
 use Rattle.std.proofs.lemmas.Nat.{mod_below}
@@ -35,7 +35,8 @@ use Rattle.id_engine.specs.Reports.{at_fault, at_rest, HasCount, HasEvent, HasRu
 use Rattle.id_engine.specs.declared.run.Hand.{Hand}
 use Rattle.id_flight.specs.Queues.{context_of}
 use Rattle.id_engine.proofs.RunLemmas.{run-append}
-use Rattle.id_engine.proofs.StampsLemmas.{AreStamped, AreStamped-after, AreStamped-start}
+use Rattle.id_engine.specs.Turns.{AreStamped, GoesOn, HasHandled, Reaches, turn_after}
+use Rattle.id_engine.proofs.StampsLemmas.{AreStamped-after, AreStamped-start}
 
 -- ---- what an event came to
 
@@ -64,8 +65,8 @@ delivered-free g count steps w k f =
     let n = route_of f.message.payload count in
     ap (routed_to g count k w) f.at ∙ ap (given_to g k w f.message n) f.element ∙ ap (λ b. cond b w (taken_from g k w f.message n f.state)) f.stamp
 
-pub HasEvent-free : (m : MachineView) (count steps k : ℕ) → m.count ≡ count → IsFree count steps m.world k → HasEvent m k
-HasEvent-free m count steps k is f =
+pub made_free : (m : MachineView) (count steps k : ℕ) → m.count ≡ count → IsFree count steps m.world k → (v : EventView) × (event_at m.graph m.count m.world k ≡ Some v)
+made_free m count steps k is f =
     let made = event-free m.graph count steps m.world k f in
     (_, subst (λ (c : ℕ). event_at m.graph c m.world k ≡ Some (event_of m.graph (route_of f.message.payload count) f.state f.message)) (sym is) made)
 
@@ -79,18 +80,25 @@ pub IsFree-within : (count steps : ℕ) (w : World) (k : ℕ) → IsFree count s
 IsFree-within count steps w k f = within_get w.flight k f.message f.at
 
 -- its delivery, by what was said of its event
-pub IsDelivered-by : (k : ℕ) (old new : MachineView) (c : Came) → HasEvent old k → option_map (λ (e : EventView). came_of e.step) (event_at old.graph old.count old.world k) ≡ Some c
-    → new ≡ record old { world = delivered old.graph old.count old.world k } → IsDelivered k old new c
-IsDelivered-by k old new c (v, made) said is =
-    let told : Some (came_of v.step) ≡ Some c = sym (ap (option_map (λ (e : EventView). came_of e.step)) made) ∙ said in
-    record {
-      step = v.step;
-      delivery = record { event = v; made = made; step_is = refl; new_is = is };
-      is = came_same c (came_of v.step) (sym told);
-    }
-  where
-    came_same : (a b : Came) → Some a ≡ Some b → a ≡ b
-    came_same a b h = cc
+module _ (k : ℕ) (old : MachineView) (c : Came) (h : HasEvent old k) (said : option_map (λ (e : EventView). came_of e.step) (event_at old.graph old.count old.world k) ≡ Some c) where
+  came_is : came_of h.event.step ≡ c
+  came_is = same (came_of h.event.step) c (sym (ap (option_map (λ (e : EventView). came_of e.step)) h.made) ∙ said)
+    where
+      same : (a b : Came) → Some a ≡ Some b → a ≡ b
+      same a b is = cc
+
+  pub came_moves : c ≢ came.Stuck
+  came_moves e = h.moves (stuck_from h.event.step (came_is ∙ e))
+
+  pub IsDelivered-by : (new : MachineView) (goes : Bool) → new ≡ record old { world = delivered old.graph old.count old.world k } → (IsTrue goes ↔ (c ≡ came.Went))
+      → IsDelivered k old new goes
+  IsDelivered-by new goes is on = record {
+    step = h.event.step;
+    delivery = record { event = h.event; made = h.made; step_is = refl; new_is = is };
+    moves = h.moves;
+    went = λ so. went_from h.event.step (came_is ∙ on.0 so);
+    failed = λ no e. absurd (false≢true (sym no ∙ on.1 (sym came_is ∙ ap came_of e)));
+  }
 
 -- ---- what is left in place
 
@@ -294,11 +302,6 @@ route_below (Write c v t) count some = mod_below (c.structure.element + c.struct
 
 -- ---- runs
 
--- the turn after deliveries at these positions
-abbrev pub turn_after : Parts → ℕ → List ℕ → World → Turn → Turn
-turn_after g count [] w t = t
-turn_after g count (k ∷ ks) w t = turn_after g count ks (delivered g count w k) (next_turn w k t)
-
 turn_more : (g : Parts) (count : ℕ) (ks : List ℕ) (k : ℕ) (w : World) (t : Turn)
     → turn_after g count (ks ++ k ∷ []) w t ≡ next_turn (run g count ks w) k (turn_after g count ks w t)
 turn_more g count [] k w t = refl
@@ -309,26 +312,6 @@ push_turn : (g : Parts) (count steps : ℕ) (ks : List ℕ) (k : ℕ) (w : World
     → AreInTurn g count steps t (ks ++ k ∷ []) w
 push_turn g count steps [] k w t h turn free = (turn, free, tt)
 push_turn g count steps (j ∷ ks) k w t h turn free = (h.0, h.1, push_turn g count steps ks k (delivered g count w j) (next_turn w j t) h.2 turn free)
-
--- deliveries have led from one state to another, and to this turn: each was in its turn, no element has handled more
--- than it may, and there was no fault
-pub record GoesOn (g : Parts) (count steps : ℕ) (from to : World) (t : Turn) : Type 0 where
-  pub positions : List ℕ
-  pub world : to ≡ run g count positions from
-  pub turns : AreInTurn g count steps first_turn positions from
-  pub turn : turn_after g count positions from first_turn ≡ t
-  pub few : (k : ℕ) (e : State) → slice_get to.elements k ≡ Some e → length e.events ≤ steps
-  pub none : faults g to ≡ []
-  pub size : length to.elements ≡ count
-  pub handled : length (events_of to.elements) ≡ t.handled
-  pub within : t.position ≤ length to.flight
-  pub stamps : AreStamped to t.handled
-
--- the machine b is what such deliveries have made of a
-pub record Reaches (a b : MachineView) (steps : ℕ) (t : Turn) : Type 0 where
-  pub same_graph : b.graph ≡ a.graph
-  pub same_count : b.count ≡ a.count
-  pub goes : GoesOn a.graph a.count steps a.world b.world t
 
 fresh_events : (c : ℕ) → events_of (replicate c fresh) ≡ []
 fresh_events zero = refl
@@ -582,21 +565,20 @@ held_one_more count steps w k held here j m lt at = cases (cases_eq j k)
 
 -- ---- what an element says of a message for it
 
-element_at : (w : World) (count n : ℕ) (es : List ElementView) (e : ElementView) (x : Message) → world_of es w.flight ≡ w → slice_get es n ≡ Some e
+pub element_at : (w : World) (count n : ℕ) (es : List ElementView) (e : ElementView) (x : Message) → world_of es w.flight ≡ w → slice_get es n ≡ Some e
     → n ≡ route_of x.payload count → slice_get w.elements (route_of x.payload count) ≡ Some e.state
 element_at w count n es e x is at route =
     ap (slice_get w.elements) (sym route) ∙ ap (λ (v : World). slice_get v.elements n) (sym is) ∙ slice_get-image (λ (u : ElementView). u.state) es n e at
 
-pub held_by : (w : World) (count steps k n : ℕ) (es : List ElementView) (e : ElementView) (x : Message) → world_of es w.flight ≡ w → slice_get es n ≡ Some e
-    → n ≡ route_of x.payload count → slice_get w.flight k ≡ Some x → (length e.state.events ≡ steps) ⊎ IsTrue (is_ended e.state x) → IsHeldAt count steps w k
-held_by w count steps k n es e x is at route there held m here =
+pub held_by : (w : World) (count steps k : ℕ) (s : State) (x : Message) → slice_get w.flight k ≡ Some x → slice_get w.elements (route_of x.payload count) ≡ Some s
+    → (length s.events ≡ steps) ⊎ IsTrue (is_ended s x) → IsHeldAt count steps w k
+held_by w count steps k s x there at held m here =
     let same : x ≡ m = some_same x m (sym there ∙ here) in
-    subst (IsHeldBack count steps w) same (record { state = e.state; element = element_at w count n es e x is at route; held = held })
+    subst (IsHeldBack count steps w) same (record { state = s; element = at; held = held })
 
-pub free_by : (w : World) (count steps k n : ℕ) (es : List ElementView) (e : ElementView) (x : Message) → world_of es w.flight ≡ w → slice_get es n ≡ Some e
-    → n ≡ route_of x.payload count → slice_get w.flight k ≡ Some x → length e.state.events ≢ steps → IsFalse (is_ended e.state x) → IsFree count steps w k
-free_by w count steps k n es e x is at route there some stamp =
-    record { message = x; at = there; state = e.state; element = element_at w count n es e x is at route; some = some; stamp = stamp }
+pub free_by : (w : World) (count steps k : ℕ) (s : State) (x : Message) → slice_get w.flight k ≡ Some x → slice_get w.elements (route_of x.payload count) ≡ Some s
+    → length s.events ≢ steps → IsFalse (is_ended s x) → IsFree count steps w k
+free_by w count steps k s x there at some stamp = record { message = x; at = there; state = s; element = at; some = some; stamp = stamp }
 
 -- ---- what is at hand
 
@@ -661,12 +643,16 @@ pub IsFree-next : (a b : MachineView) (steps n : ℕ) (h next : Hand) → IsFres
     → IsNextHand b.world.flight h next → IsFree a.count steps b.world next.position
 IsFree-next a b steps n h next fresh has young few is = IsFree-young a b steps (turn_of n h) next.position fresh has.reaches (omega (arith, young)) few is.there
 
+-- a run that has something at hand
+pub HasHandled-hand : (a b : MachineView) (steps n most : ℕ) (h : Hand) → HasHand a b steps n h → n ≡ most → HasHandled a b steps most
+HasHandled-hand a b steps n most h has is = record { turn = turn_of n h; reaches = has.reaches; handled = is }
+
 -- from there on all before the first position are held back
-pub HoldsBefore-none : (a b : MachineView) (steps n : ℕ) (h : Hand) → HasHand a b steps n h → HoldsBefore a b steps n 0
-HoldsBefore-none a b steps n h has = record {
-  turn = turn_of n h;
+pub HoldsBefore-none : (a b : MachineView) (steps n : ℕ) → HasHandled a b steps n → HoldsBefore a b steps n 0
+HoldsBefore-none a b steps n has = record {
+  turn = has.turn;
   reaches = has.reaches;
-  handled = refl;
+  handled = has.handled;
   held = λ j m lt at. absurd (omega (arith, lt));
   within = omega arith;
 }

@@ -1,7 +1,8 @@
--- A refused request is served (specs/Served.antt).
-use Rattle.std.proofs.Common.{◌≡◌, ◌≢◌, ℕ, List, [], Option, Result, refl, sym, ap, subst, ◌∙◌}
+-- Requests, and how a refused one is served (specs/Asked.antt, specs/Served.antt).
+use Rattle.std.proofs.Common.{◌≡◌, ◌≢◌, ℕ, List, [], Bor, Global, Option, Result, Vec, refl, sym, ap, subst, ◌∙◌}
 use Rattle.id_print.specs.Told.{Told}
 use Rattle.id_request.specs.declared.Request.{Request}
+use Rattle.id_request.specs.declared.Request.TheVariants as asks
 use Rattle.id_engine.specs.declared.error.EngineError.{EngineError}
 use Rattle.id_engine.specs.declared.error.EngineError.TheVariants.{Compile, MissingInput, UnknownInput, RepeatedInput, BadInput, BadElements, BadSteps, BadRounds, TooManyFacts, Memory, Write}
 use Rattle.id_engine.specs.declared.refusal.Cause.{Cause}
@@ -9,11 +10,31 @@ use Rattle.id_engine.specs.declared.refusal.Detail.{Detail}
 use Rattle.id_engine.specs.declared.refusal.Detail.TheVariants.{Nothing, Place, Kinds, Word}
 use Rattle.id_engine.specs.declared.refusal.Refusal.{Refusal}
 use Rattle.id_engine.specs.declared.source.SourceFault.{SourceFault}
+use Rattle.id_engine.specs.Asked.{IsComputed, IsToRun}
 use Rattle.id_engine.specs.Reading.{IsUnread}
 use Rattle.id_engine.specs.Commands.{ShowsFront}
 use Rattle.id_engine.specs.Refusals.{compiler_refusal, IsDetailInside, IsInsideOf, IsPrintedLine, IsToldRefusal, IsWord, Tells, plain, row_of, source_cause}
 use Rattle.id_engine.specs.Served.{command_of, words_of, IsRefusedRequest, Serves, refused, Drives, unread}
 use Rattle.id_engine.specs.Served.Serves.{cut}
+
+-- what a request asks for that asks for nothing else
+pub computed_by : (r : Request) → ((file : Bor (List ℕ)) → r ≡ asks.Check file → ⊥) → ((file : Bor (List ℕ)) → r ≡ asks.Graph file → ⊥)
+    → ((file : Bor (List ℕ)) → r ≡ asks.Draw file → ⊥) → IsComputed r
+computed_by (asks.Check file) check graph draw = absurd (check file refl)
+computed_by (asks.Graph file) check graph draw = absurd (graph file refl)
+computed_by (asks.Draw file) check graph draw = absurd (draw file refl)
+computed_by (asks.Run file inputs count trace steps names) check graph draw = tt
+computed_by (asks.Facts file rounds inputs) check graph draw = tt
+
+pub to_run_by : (r : Request) → IsComputed r → ((file : Bor (List ℕ)) (rounds : ℕ) (inputs : Vec (Bor (List ℕ)) Global) → r ≡ asks.Facts file rounds inputs → ⊥)
+    → IsToRun r
+to_run_by (asks.Check file) computed facts = absurd computed
+to_run_by (asks.Graph file) computed facts = absurd computed
+to_run_by (asks.Draw file) computed facts = absurd computed
+to_run_by (asks.Run file inputs count trace steps names) computed facts = tt
+to_run_by (asks.Facts file rounds inputs) computed facts = absurd (facts file rounds inputs refl)
+
+-- ---- errors
 
 word_inside : (text : List ℕ) (o : Option (List ℕ)) (d : Detail) → IsWord o d → IsDetailInside text d
 word_inside text o Nothing h = tt

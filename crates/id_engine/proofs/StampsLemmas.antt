@@ -12,13 +12,9 @@ use Rattle.id_record.specs.Sends.{numbered}
 use Rattle.id_core.specs.Steps.{State, fresh, next_stamp, outputs_of, state_after}
 use Rattle.id_core.specs.Machines.{World, block_messages, input_messages, start, taken_from}
 use Rattle.id_list.specs.List.{Among}
+use Rattle.id_engine.specs.Turns.{AreStamped}
 use Rattle.id_list.proofs.AmongLemmas.{Among-either}
 use Rattle.id_list.proofs.PlacesLemmas.{Among-from_remove, slice_get-set}
-
--- no element's last stamp and no stamp of a message in flight is larger than this
-pub record AreStamped (w : World) (most : ℕ) : Type 0 where
-  pub elements : (k : ℕ) (e : State) → slice_get w.elements k ≡ Some e → e.stamp ≤ most
-  pub flight : (m : Message) → Among m w.flight → m.stamp ≤ most
 
 -- ---- at the start
 

@@ -27,11 +27,12 @@ use Rattle.id_list.proofs.AmongLemmas.{Among-right}
 use Rattle.id_list.proofs.PlacesLemmas.{set-here}
 use Rattle.id_runs.proofs.RecordsOfRuns.{Recorded, among_events, filter_map_has}
 use Rattle.id_laws.proofs.ValidCounts.{all_among}
-use Rattle.id_engine.specs.Reports.{IsDelivery, IsFreshMachine}
+use Rattle.id_engine.specs.Reports.{HasEvent, IsDelivery, IsFreshMachine}
 use Rattle.id_engine.proofs.NamesLemmas.{at_among}
 use Rattle.id_engine.proofs.RunLemmas.{run-append}
-use Rattle.id_engine.specs.Runs.{Turn}
-use Rattle.id_engine.proofs.DeliveryLemmas.{Reaches}
+use Rattle.id_engine.specs.Runs.{IsFree, Turn}
+use Rattle.id_engine.specs.Turns.{Reaches}
+use Rattle.id_engine.proofs.DeliveryLemmas.{made_free}
 
 -- the event of an element that takes a message is in its record afterwards
 taken_event : (g : Parts) (k : ℕ) (s : World) (m : Message) (n : ℕ) (e : State) (v : EventView) → slice_get s.elements n ≡ Some e → event_of g n e m ≡ v
@@ -74,6 +75,18 @@ not_stuck never a b c steps t q step fresh h d stuck =
     ∙ ap (λ w. run a.graph a.count (ks ++ q ∷ []) w) fresh.world in
     let Q : World → Type 0 = λ w. Among d.event (events_of w.elements) in
     (never S a.graph a.count (ks ++ q ∷ []) fresh.inputs fresh.schemas).goes_on d.event (subst Q is shown) (d.step_is ∙ stuck)
+
+-- the delivery of a message that is not held back makes an event
+pub HasEvent-free : NeverStuck → (a b : MachineView) (steps : ℕ) (t : Turn) (q : ℕ) → IsFreshMachine a → Reaches a b steps t → IsFree a.count steps b.world q → HasEvent b q
+HasEvent-free never a b steps t q fresh h f =
+    let v = made_free b a.count steps q h.same_count f in
+    record {
+      event = v.0;
+      made = v.1;
+      moves =
+          not_stuck never a b (record b { world = delivered b.graph b.count b.world q }) steps t q v.0.step fresh h
+          (record { event = v.0; made = v.1; step_is = refl; new_is = refl });
+    }
 
 -- a fresh machine
 pub IsFreshMachine-start : (S : Source) (g : Parts) (count : ℕ) (m : MachineView) → 0 < count → count ≤ 64 → m ≡ record { graph = g; count = count; world = start g S.inputs count }

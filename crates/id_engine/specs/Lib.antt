@@ -7,4 +7,6 @@ pub mod Served
 pub mod Reading
 -- for use inside
 pub mod Reports
+pub mod Turns
+pub mod Asked
 pub mod Codes

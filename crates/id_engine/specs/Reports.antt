@@ -1,6 +1,6 @@
 -- The report of a run of a text's program, and deliveries to a machine.
-use Rattle.std.specs.Prelude.{◌≡◌, ◌≤◌, ◌<◌, ◌+◌, ◌⊎◌, ℕ, Bool, IsTrue, IsFalse, List, [], ◌++◌, All, length, Option, Some}
-use Rattle.std.specs.Prelude.{IfSome, Result, Ok, Err, slice_get}
+use Rattle.std.specs.Prelude.{◌≡◌, ◌≢◌, ◌≤◌, ◌<◌, ◌+◌, ◌⊎◌, ℕ, Bool, IsTrue, IsFalse, List, [], ◌++◌, All, length}
+use Rattle.std.specs.Prelude.{Option, Some, IfSome, Result, Ok, Err, slice_get}
 use Rattle.id_check.specs.declared.checked.Checked.{Checked}
 use Rattle.id_value.specs.declared.Constant.{Constant}
 use Rattle.id_meaning.specs.declared.SourceFault.{SourceFault}
@@ -17,9 +17,9 @@ use Rattle.id_graph.specs.Graph.{Parts}
 use Rattle.id_tag.specs.declared.Message.{Message}
 use Rattle.id_flight.specs.Queues.{context_at}
 use Rattle.id_record.specs.declared.step.Step.{Step}
-use Rattle.id_core.specs.declared.machine.Came.{Came}
+use Rattle.id_record.specs.declared.step.Step.TheVariants.{Went, Stuck}
 use Rattle.id_core.specs.Events.{EventView}
-use Rattle.id_core.specs.Machines.{World, MachineView, came_of, delivered, event_at, run, start}
+use Rattle.id_core.specs.Machines.{World, MachineView, delivered, event_at, run, start}
 use Rattle.id_core.specs.Observed.{answer, faults, names, waiting}
 use Rattle.id_print.specs.declared.report.Ending.{Ending}
 use Rattle.id_print.specs.declared.report.Ending.TheVariants.{Quiet, Stopped, Fault}
@@ -201,9 +201,11 @@ pub record IsLastHand (ms : List Message) (h : Hand) : Type 0 where
   pub context : context_at ms h.position ≡ Some h.context
   pub front : IsTrue h.may_be_in_front
 
--- delivering the message at this position makes an event
-abbrev pub HasEvent : MachineView → ℕ → Type 0
-HasEvent m k = (v : EventView) × (event_at m.graph m.count m.world k ≡ Some v)
+-- delivering the message at this position makes an event, which is not stuck
+pub record HasEvent (m : MachineView) (k : ℕ) : Type 0 where
+  pub event : EventView
+  pub made : event_at m.graph m.count m.world k ≡ Some event
+  pub moves : event.step ≢ Stuck
 
 -- the message at this position was delivered, and the event came to this
 pub record IsDelivery (position : ℕ) (old new : MachineView) (step : Step) : Type 0 where
@@ -212,11 +214,13 @@ pub record IsDelivery (position : ℕ) (old new : MachineView) (step : Step) : T
   pub step_is : event.step ≡ step
   pub new_is : new ≡ record old { world = delivered old.graph old.count old.world position }
 
--- the message at this position was delivered, and the event came to this
-pub record IsDelivered (position : ℕ) (old new : MachineView) (c : Came) : Type 0 where
+-- the message at this position was delivered, and whether the run goes on after its event, which was not stuck
+pub record IsDelivered (position : ℕ) (old new : MachineView) (goes : Bool) : Type 0 where
   pub step : Step
   pub delivery : IsDelivery position old new step
-  pub is : c ≡ came_of step
+  pub moves : step ≢ Stuck
+  pub went : IsTrue goes → step ≡ Went
+  pub failed : IsFalse goes → step ≢ Went
 
 -- why the facts of a round of a source are refused
 abbrev pub AreRefusedRounds : Source → ℕ → EngineError → Type 0

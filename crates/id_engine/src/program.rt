@@ -1,10 +1,9 @@
 //! The whole program over any source of texts and any sinks.
 
-ghost use Rattle.std.specs.Prelude.{◌≡◌, ◌≢◌, [], map, IfErr, IfOk};
-ghost use Rattle.id_engine.specs.Commands.{ShowsAll, ShowsFront};
+ghost use Rattle.std.specs.Prelude.{◌≡◌, [], map, IfErr, IfOk};
+ghost use Rattle.id_engine.specs.Asked.{IsComputed, IsToRun, PrintsAsked};
 ghost use Rattle.id_engine.specs.Refusals.{IsInsideOf, IsPrintedLine, IsToldRefusal, plain, row_of};
-ghost use Rattle.id_engine.specs.Served.{Answers, Drives, HasHelped, IsRefusedRequest, IsRun, IsTaken, Serves};
-ghost use Rattle.id_engine.specs.Served.{command_of, file_of, words_of};
+ghost use Rattle.id_engine.specs.Served.{Answers, Drives, HasHelped, Serves, file_of, words_of};
 
 use crate::commands::{check_text, draw_text, facts_text, graph_text};
 use crate::error::EngineError;
@@ -51,34 +50,17 @@ fn answer<O: Sink, E: Sink>(unasked: &Unasked, out: &mut O, err: &mut E) -> u8
     }
 }
 
-/// Prints what a request asks for of a text, and answers the status.
-fn print_asked<O: Sink>(
+/// Runs a text as a request asks for, prints the run, and answers the status.
+fn run_asked<O: Sink>(
     alloc: Global,
     request: &Request<'_>,
     text: &str,
     out: &mut O,
-    left: &mut Option<Program>,
 ) -> Result<u8, EngineError>
-    ensures shown { IfOk result (ShowsAll (command_of request.now) text.now (O.told out.old) (O.told out.new)) }
-    ensures taken { IfOk result (λ _. IsTaken text.now request.now) }
-    ensures ran { IfOk result (IsRun text.now request.now (O.told out.old) (O.told out.new)) }
-    ensures cut { result ≡ Err EngineError.Write
-        → ShowsFront (command_of request.now) text.now (O.told out.old) (O.told out.new) }
-    ensures silent { IfErr result (λ e. e ≢ EngineError.Write → O.told out.new ≡ O.told out.old) }
-    ensures refused { IfErr result (IsRefusedRequest text.now request.now) }
-    ensures inside { IfErr result (IsInsideOf text.now) }
+    requires { IsToRun request.now }
+    ensures { PrintsAsked text.now request.now (O.told out.old) (O.told out.new) result }
 {
     match request {
-        Request::Check { .. } => check_text(alloc, text, out, left),
-        Request::Graph { .. } => graph_text(alloc, text, out, left),
-        Request::Draw { .. } => draw_text(alloc, text, out),
-        Request::Facts { rounds, inputs, .. } => facts_text(
-            alloc,
-            text,
-            inputs.as_slice(),
-            *rounds,
-            out,
-        ),
         Request::Run {
             inputs,
             count,
@@ -96,6 +78,47 @@ fn print_asked<O: Sink>(
             *names,
             out,
         ),
+        _ => unreachable!(),
+    }
+}
+
+/// Prints what a request asks for of a text that is computed on inputs, and answers the status.
+fn print_computed<O: Sink>(
+    alloc: Global,
+    request: &Request<'_>,
+    text: &str,
+    out: &mut O,
+) -> Result<u8, EngineError>
+    requires { IsComputed request.now }
+    ensures { PrintsAsked text.now request.now (O.told out.old) (O.told out.new) result }
+{
+    match request {
+        Request::Facts { rounds, inputs, .. } => facts_text(
+            alloc,
+            text,
+            inputs.as_slice(),
+            *rounds,
+            out,
+        ),
+        _ => run_asked(alloc, request, text, out),
+    }
+}
+
+/// Prints what a request asks for of a text, and answers the status.
+fn print_asked<O: Sink>(
+    alloc: Global,
+    request: &Request<'_>,
+    text: &str,
+    out: &mut O,
+    left: &mut Option<Program>,
+) -> Result<u8, EngineError>
+    ensures { PrintsAsked text.now request.now (O.told out.old) (O.told out.new) result }
+{
+    match request {
+        Request::Check { .. } => check_text(alloc, text, out, left),
+        Request::Graph { .. } => graph_text(alloc, text, out, left),
+        Request::Draw { .. } => draw_text(alloc, text, out),
+        _ => print_computed(alloc, request, text, out),
     }
 }
 

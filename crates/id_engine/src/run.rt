@@ -1,8 +1,10 @@
 //! A text, compiled, run and printed.
 
-ghost use Rattle.std.specs.Prelude.{◌≡◌, ◌≢◌, ◌<◌, ◌≤◌, ◌-◌, ◌++◌, ◌↔◌, length, map, IsTrue, IsFalse};
-ghost use Rattle.std.specs.Prelude.{IfErr, IfOk, OnOk, Some};
+ghost use Rattle.std.specs.Prelude.{◌≡◌, ◌≢◌, ◌<◌, ◌≤◌, ◌+◌, ◌-◌, ◌/◌, ◌++◌, ◌↔◌, ◌⊎◌, length, map, slice_get};
+ghost use Rattle.std.specs.Prelude.{IfErr, IfOk, IsFalse, IsTrue, OnOk, Some};
+ghost use Rattle.id_build.specs.Schemas.{Schemas};
 ghost use Rattle.id_core.specs.Machines.{TakesInputs, start};
+ghost use Rattle.id_core.specs.Steps.{is_ended};
 ghost use Rattle.id_meaning.specs.Sources.{AreInputs};
 ghost use Rattle.id_print.specs.Reports.{report_text};
 ghost use Rattle.id_print.specs.Told.{Prints};
@@ -16,15 +18,17 @@ ghost use Rattle.id_engine.specs.Reports.{AreAllowed, HasCount, HasEvent, HasRun
 ghost use Rattle.id_engine.specs.Reports.{IsHand, IsHeldAt, IsLastHand, IsNextHand, IsReportFrom, PrintsRun, RunsSo};
 ghost use Rattle.id_engine.specs.Reports.{AreReportsWithin, PrintsMachine, status_of};
 ghost use Rattle.id_flight.specs.Queues.{context_at};
+ghost use Rattle.id_tag.specs.Routes.{route_of};
 ghost use Rattle.id_core.specs.declared.machine.Came.TheVariants as comes;
 ghost use Rattle.id_engine.specs.Runs.{AreHeldBefore, IsBehindOthers, IsFree, IsTraceOf, Ran};
+ghost use Rattle.id_engine.specs.Turns.{EndsRun, HasBegun, HasHandled};
 
 use crate::error::EngineError;
 use crate::prepared::{Prepared, prepare};
-use id_core::{Came, MAX_ELEMENTS, Machine, MachineError, Merged, TakeError, merge_records};
+use id_core::{Came, Element, MAX_ELEMENTS, Machine, MachineError, Merged, TakeError, merge_records};
 use id_meaning::Inputs;
 use id_print::{Ending, PrintError, Report, Sink, run_report, write_report, write_trace};
-use id_tag::{Context, route};
+use id_tag::{Context, Message, route};
 use id_valid::Valid;
 use std::alloc::{AllocError, Global};
 
@@ -68,6 +72,34 @@ fn goes_on(came: Came) -> bool
     }
 }
 
+/// The element that a message is for.
+#[inline(always)]
+fn element_for<'a, 'b>(
+    machine: &'b Machine<'a>,
+    message: &Message,
+    count: u32,
+) -> &'b Element<'a>
+    requires count { machine.now.count ≡ count }
+    requires elements { HasCount machine.now }
+    ensures { slice_get machine.now.world.elements (route_of message.now.payload count) ≡ Some result.now.state }
+{
+    match machine.elements().get(route(message, count) as usize) {
+        Some(element) => element,
+        None => unreachable!(),
+    }
+}
+
+/// Whether an element takes a message no more: it has handled `steps` messages, or no stamp is left for it there.
+#[inline(always)]
+fn takes_no_more(element: &Element<'_>, message: &Message, steps: u64) -> bool
+    ensures held { IsTrue result
+        → (length element.now.state.events ≡ steps) ⊎ IsTrue (is_ended element.now.state message.now) }
+    ensures some { IsFalse result → length element.now.state.events ≢ steps }
+    ensures stamp { IsFalse result → IsFalse (is_ended element.now.state message.now) }
+{
+    element.events().len() as u64 == steps || element.is_ended(message)
+}
+
 /// Whether the message at a position is held back: the element that it is for has handled `steps` messages, or no stamp
 /// is left for it there.
 fn is_held_back(machine: &Machine<'_>, position: usize, count: u32, steps: u64) -> bool
@@ -78,10 +110,7 @@ fn is_held_back(machine: &Machine<'_>, position: usize, count: u32, steps: u64) 
     ensures free { IsFalse result → IsFree count steps machine.now.world position }
 {
     let message = machine.in_flight().message(position);
-    match machine.elements().get(route(&message, count) as usize) {
-        Some(element) => { element.events().len() as u64 == steps || element.is_ended(&message) }
-        None => unreachable!(),
-    }
+    takes_no_more(element_for(machine, &message, count), &message, steps)
 }
 
 /// The first position from this one on whose message is not held back, or how many messages are in flight, if there is
@@ -184,31 +213,28 @@ fn turn(machine: &Machine<'_>, hand: &mut Hand) -> bool
     }
 }
 
-/// Delivers the message at a position, for which a stamp is left, and says what the event came to.
+/// Delivers the message at a position, for which a stamp is left, and says whether the run goes on after its event.
 #[inline(always)]
-fn deliver(machine: &mut Machine<'_>, position: usize) -> Result<Came, AllocError>
+fn deliver(machine: &mut Machine<'_>, position: usize) -> Result<bool, AllocError>
     requires position { position < length machine.old.world.flight }
     requires event { HasEvent machine.old position }
     ensures delivers { IfOk result (IsDelivered position machine.old machine.new) }
     ensures same { IfErr result (λ e. machine.new ≡ machine.old) }
 {
     match machine.advance(position) {
-        Ok(came) => Ok(came),
+        Ok(came) => Ok(goes_on(came)),
         Err(TakeError::StampEnd) => unreachable!(),
         Err(TakeError::Memory) => Err(AllocError),
     }
 }
 
-/// Delivers messages until there is none that is not held back, or at the first fault. While fewer were handled in all
-/// than half of those that each element may handle, it goes on with the context at hand as long as it can, and none is
-/// held back. From then on it takes the first that is not held back, and looks at no message in front of that again:
-/// what is held back stays so, and what is sent goes last.
-fn run_machine(machine: &mut Machine<'_>, count: u32, steps: u64) -> Result<(), EngineError>
+/// Delivers messages until half of those that each element may handle were handled in all, as long as the run goes on,
+/// and says whether it does. It goes on with the context at hand as long as it can, and none is held back.
+fn run_early(machine: &mut Machine<'_>, steps: u64) -> Result<bool, AllocError>
     requires fresh { IsFreshMachine machine.old }
-    requires count { machine.old.count ≡ count }
     requires few { steps ≤ 100000000 }
-    ensures run { OnOk result (HasRun machine.old machine.new steps) }
-    ensures memory { IfErr result (λ e. e ≡ EngineError.Memory) }
+    ensures handled { IfOk result (λ b. IsTrue b → HasHandled machine.old machine.new steps ((steps + 1) / 2)) }
+    ensures run { IfOk result (λ b. IsFalse b → HasRun machine.old machine.new steps) }
 {
     id_laws::never_stuck();
     let mut hand = Hand {
@@ -222,26 +248,75 @@ fn run_machine(machine: &mut Machine<'_>, count: u32, steps: u64) -> Result<(), 
     let half = (steps + 1) / 2;
     for handled in 0..half {
         if !turn(machine, &mut hand) {
-            return Ok(());
+            return Ok(false);
         }
-        let came = deliver(machine, hand.position)?;
-        if !goes_on(came) {
-            return Ok(());
+        match deliver(machine, hand.position) {
+            Ok(true) => {}
+            Ok(false) => return Ok(false),
+            Err(error) => return Err(error),
         }
     }
+    Ok(true)
+}
+
+/// Goes on with a run that has handled half of the messages that each element may handle: delivers messages until there
+/// is none that is not held back, or at the first fault. It takes the first that is not held back, and looks at no
+/// message in front of that again: what is held back stays so, and what is sent goes last.
+fn run_late(machine: &mut Machine<'_>, count: u32, steps: u64) -> Result<(), AllocError>
+    requires begun { HasBegun machine.old steps }
+    requires count { machine.old.count ≡ count }
+    requires few { steps ≤ 100000000 }
+    ensures { OnOk result (EndsRun machine.old machine.new steps) }
+{
+    id_laws::never_stuck();
+    let half = (steps + 1) / 2;
     let most = (count as u64) * steps;
     let mut position = 0usize;
-    for more in half..most {
-        position = next_free(machine, position, count, steps, more);
+    for handled in half..most {
+        position = next_free(machine, position, count, steps, handled);
         if position == machine.in_flight().len() {
             return Ok(());
         }
-        let came = deliver(machine, position)?;
-        if !goes_on(came) {
-            return Ok(());
+        match deliver(machine, position) {
+            Ok(true) => {}
+            Ok(false) => return Ok(()),
+            Err(error) => return Err(error),
         }
     }
     Ok(())
+}
+
+/// Delivers messages until there is none that is not held back, or at the first fault.
+fn run_machine(machine: &mut Machine<'_>, count: u32, steps: u64) -> Result<(), AllocError>
+    requires fresh { IsFreshMachine machine.old }
+    requires count { machine.old.count ≡ count }
+    requires few { steps ≤ 100000000 }
+    ensures { OnOk result (HasRun machine.old machine.new steps) }
+{
+    let early = run_early(machine, steps)?;
+    if early {
+        run_late(machine, count, steps)
+    } else {
+        Ok(())
+    }
+}
+
+/// The report of a machine, with what names have where that is asked for. Before it is made, the memory of the machine's
+/// run is given back.
+fn report_of(
+    alloc: Global,
+    machine: &mut Machine<'_>,
+    named: bool,
+) -> Result<Report, EngineError>
+    ensures same { machine.new ≡ machine.old }
+    ensures report { IfOk result (IsReportFrom machine.new named) }
+    ensures memory { IfErr result (λ e. e ≡ EngineError.Memory) }
+{
+    machine.give_back(alloc);
+    match run_report(alloc, machine, named) {
+        Ok(report) => Ok(report),
+        Err(_) => Err(EngineError::Memory),
+    }
 }
 
 /// The report of a fresh machine's run, with what names have where that is asked for.
@@ -259,10 +334,10 @@ fn machine_report(
     ensures report { IfOk result (IsReportFrom machine.new named) }
     ensures memory { IfErr result (λ e. e ≡ EngineError.Memory) }
 {
-    run_machine(machine, count, steps)?;
-    machine.give_back(alloc);
-    let report = run_report(alloc, machine, named)?;
-    Ok(report)
+    match run_machine(machine, count, steps) {
+        Ok(()) => report_of(alloc, machine, named),
+        Err(_) => Err(EngineError::Memory),
+    }
 }
 
 /// All events of a machine, by stamp, and at one stamp by element, where they are asked for, and else none.
@@ -347,6 +422,49 @@ fn run_started<W: Sink>(
     }
 }
 
+/// Runs a fresh machine, writes what is asked for, and lets the machine go.
+fn run_fresh<W: Sink>(
+    alloc: Global,
+    machine: Machine<'_>,
+    text: &str,
+    count: u32,
+    trace: bool,
+    steps: u64,
+    names: bool,
+    out: &mut W,
+) -> Result<u8, EngineError>
+    requires fresh { IsFreshMachine machine }
+    requires count { machine.count ≡ count }
+    requires few { steps ≤ 100000000 }
+    requires fits { length text.now ≤ 1048576 }
+    requires inside { AreReportsWithin machine steps names (length text.now) }
+    ensures { PrintsMachine machine.entry text.now trace steps names (W.told out.old) (W.told out.new) result }
+{
+    let mut machine = machine;
+    run_started(alloc, &mut machine, text, count, trace, steps, names, out)
+}
+
+/// A fresh machine of so many elements for a compiled program with its inputs.
+fn machine_for<'a>(
+    alloc: Global,
+    prepared: &'a Prepared,
+    count: u32,
+) -> Result<Machine<'a>, EngineError>
+    requires inputs { AreInputs prepared.now.compiled.checked prepared.now.inputs.values }
+    requires some { 0 < count }
+    requires few { count ≤ 64 }
+    ensures start { IfOk result (λ m. m ≡ record {
+      graph = prepared.now.compiled.graph;
+      count = count;
+      world = start prepared.now.compiled.graph prepared.now.inputs.values count;
+    }) }
+    ensures schemas { Schemas prepared.now.compiled.checked prepared.now.compiled.graph }
+    ensures memory { IfErr result (λ e. e ≡ EngineError.Memory) }
+{
+    id_laws::inputs_fit();
+    machine_of(alloc, prepared.compiled.valid(), &prepared.inputs, count)
+}
+
 /// Runs a compiled program with its inputs, and writes what is asked for.
 fn run_prepared<W: Sink>(
     alloc: Global,
@@ -367,10 +485,9 @@ fn run_prepared<W: Sink>(
 {
     id_laws::sound();
     id_laws::complete();
-    id_laws::inputs_fit();
     id_laws::never_stuck();
-    match machine_of(alloc, prepared.compiled.valid(), &prepared.inputs, count) {
-        Ok(mut machine) => run_started(alloc, &mut machine, text, count, trace, steps, names, out),
+    match machine_for(alloc, prepared, count) {
+        Ok(machine) => run_fresh(alloc, machine, text, count, trace, steps, names, out),
         Err(error) => Err(error),
     }
 }
@@ -400,6 +517,26 @@ fn run_allowed<W: Sink>(
         return Err(EngineError::BadSteps);
     }
     run_prepared(alloc, prepared, text, count, trace, steps, names, out)
+}
+
+/// The same, and lets the program go.
+fn run_once<W: Sink>(
+    alloc: Global,
+    prepared: Prepared,
+    text: &str,
+    count: u32,
+    trace: bool,
+    steps: u64,
+    names: bool,
+    out: &mut W,
+) -> Result<u8, EngineError>
+    requires inputs { AreInputs prepared.compiled.checked prepared.inputs.values }
+    requires within { IsPlacedWithin (length text.now) prepared.compiled.checked }
+    requires short { length text.now ≤ 1048576 }
+    ensures { RunsSo prepared.compiled.checked prepared.inputs.values text.now count trace steps names
+        (W.told out.old) (W.told out.new) result }
+{
+    run_allowed(alloc, &prepared, text, count, trace, steps, names, out)
 }
 
 /// The status of a run that ended so.
@@ -446,7 +583,7 @@ pub fn engine<W: Sink>(
     ensures inside { IfErr result (IsInsideOf text.now) }
 {
     match prepare(alloc, text, inputs) {
-        Ok(prepared) => run_allowed(alloc, &prepared, text, count, trace, steps, names, out),
+        Ok(prepared) => run_once(alloc, prepared, text, count, trace, steps, names, out),
         Err(error) => Err(error),
     }
 }

@@ -1,4 +1,5 @@
 use Rattle.id_engine.proofs.AnsweredLemmas.{ok_all}
+use Rattle.id_engine.proofs.ServedLemmas.{computed_by}
 use Rattle.id_engine.proofs.program.print_asked.Goals as goal
 
 pub returns-in-Check : goal.returns-in-Check
@@ -34,24 +35,8 @@ returns-in-Draw g c = record {
   inside = c.draw_text.ensures.inside;
 }
 
-pub returns-in-Facts : goal.returns-in-Facts
-returns-in-Facts g c = record {
-  shown = rw c.in-Facts.is (rw c.as_slice.ensures.value at c.facts_text.ensures.shown);
-  taken = rw c.in-Facts.is (rw c.as_slice.ensures.value at c.facts_text.ensures.taken);
-  ran = rw c.in-Facts.is (ok_all c.facts_text.result _ (λ n. tt));
-  cut = rw c.in-Facts.is (rw c.as_slice.ensures.value at c.facts_text.ensures.cut);
-  silent = c.facts_text.ensures.silent;
-  refused = rw c.in-Facts.is (rw c.as_slice.ensures.value at c.facts_text.ensures.refused);
-  inside = c.facts_text.ensures.inside;
-}
+pub print_computed-requires : goal.print_computed-requires
+print_computed-requires g c = computed_by c.args.request.now c.in_default.not-Check c.in_default.not-Graph c.in_default.not-Draw
 
-pub returns-in-Run : goal.returns-in-Run
-returns-in-Run g c = record {
-  shown = rw c.in-Run.is (rw c.as_slice-in-Run.ensures.value at c.engine.ensures.shown);
-  taken = rw c.in-Run.is (rw c.as_slice-in-Run.ensures.value at c.engine.ensures.taken);
-  ran = rw c.in-Run.is (rw c.as_slice-in-Run.ensures.value at c.engine.ensures.ran);
-  cut = rw c.in-Run.is (rw c.as_slice-in-Run.ensures.value at c.engine.ensures.cut);
-  silent = c.engine.ensures.silent;
-  refused = rw c.in-Run.is (rw c.as_slice-in-Run.ensures.value at c.engine.ensures.refused);
-  inside = c.engine.ensures.inside;
-}
+pub returns-in_default : goal.returns-in_default
+returns-in_default g c = c.print_computed.ensures

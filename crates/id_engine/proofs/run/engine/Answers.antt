@@ -15,34 +15,37 @@ returns-in-Err g c = record {
   inside = c.in-Err.ensures.inside;
 }
 
+pub run_once-requires : goal.run_once-requires
+run_once-requires g c = record { inputs = c.in-Ok.ensures.own; within = c.in-Ok.ensures.within; short = c.in-Ok.ensures.short }
+
 pub returns-in-Ok : goal.returns-in-Ok
 returns-in-Ok g c = record {
   shown = (let p = c.in-Ok.prepared in
       let e = c.in-Ok.ensures in
       RunsSo-shown c.args.text.now (map (λ w. w.now) c.args.inputs.now) p.compiled.checked e.program e.small p.inputs.values e.inputs c.args.count
-      c.args.trace c.args.steps c.args.names _ _ _ c.run_allowed.ensures);
+      c.args.trace c.args.steps c.args.names _ _ _ c.run_once.ensures);
   ran = (let p = c.in-Ok.prepared in
       let e = c.in-Ok.ensures in
       RunsSo-ran c.args.text.now (map (λ w. w.now) c.args.inputs.now) p.compiled.checked e.program e.small p.inputs.values e.inputs c.args.count
-      c.args.trace c.args.steps c.args.names _ _ _ c.run_allowed.ensures);
+      c.args.trace c.args.steps c.args.names _ _ _ c.run_once.ensures);
   cut = (let p = c.in-Ok.prepared in
       let e = c.in-Ok.ensures in
       RunsSo-cut c.args.text.now (map (λ w. w.now) c.args.inputs.now) p.compiled.checked e.program e.small p.inputs.values e.inputs c.args.count
-      c.args.trace c.args.steps c.args.names _ _ _ c.run_allowed.ensures);
+      c.args.trace c.args.steps c.args.names _ _ _ c.run_once.ensures);
   silent = (let p = c.in-Ok.prepared in
       let e = c.in-Ok.ensures in
       RunsSo-silent c.args.text.now (map (λ w. w.now) c.args.inputs.now) p.compiled.checked e.program e.small p.inputs.values e.inputs c.args.count
-      c.args.trace c.args.steps c.args.names _ _ _ c.run_allowed.ensures);
+      c.args.trace c.args.steps c.args.names _ _ _ c.run_once.ensures);
   taken = (let p = c.in-Ok.prepared in
       let e = c.in-Ok.ensures in
       RunsSo-taken c.args.text.now (map (λ w. w.now) c.args.inputs.now) p.compiled.checked e.program e.small p.inputs.values e.inputs c.args.count
-      c.args.trace c.args.steps c.args.names _ _ _ c.run_allowed.ensures);
+      c.args.trace c.args.steps c.args.names _ _ _ c.run_once.ensures);
   refused = (let p = c.in-Ok.prepared in
       let e = c.in-Ok.ensures in
       RunsSo-refused c.args.text.now (map (λ w. w.now) c.args.inputs.now) p.compiled.checked e.program e.small p.inputs.values e.inputs c.args.count
-      c.args.trace c.args.steps c.args.names _ _ _ c.run_allowed.ensures);
+      c.args.trace c.args.steps c.args.names _ _ _ c.run_once.ensures);
   inside = (let p = c.in-Ok.prepared in
       let e = c.in-Ok.ensures in
       RunsSo-inside c.args.text.now (map (λ w. w.now) c.args.inputs.now) p.compiled.checked e.program e.small p.inputs.values e.inputs c.args.count
-      c.args.trace c.args.steps c.args.names _ _ _ c.run_allowed.ensures);
+      c.args.trace c.args.steps c.args.names _ _ _ c.run_once.ensures);
 }

@@ -1,0 +1,12 @@
+use Rattle.id_engine.proofs.program.run_asked.Goals as goal
+
+pub returns : goal.returns
+returns g c = record {
+  shown = rw c.in-Run.is (rw c.as_slice.ensures.value at c.engine.ensures.shown);
+  taken = rw c.in-Run.is (rw c.as_slice.ensures.value at c.engine.ensures.taken);
+  ran = rw c.in-Run.is (rw c.as_slice.ensures.value at c.engine.ensures.ran);
+  cut = rw c.in-Run.is (rw c.as_slice.ensures.value at c.engine.ensures.cut);
+  silent = c.engine.ensures.silent;
+  refused = rw c.in-Run.is (rw c.as_slice.ensures.value at c.engine.ensures.refused);
+  inside = c.engine.ensures.inside;
+}

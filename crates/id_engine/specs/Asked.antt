@@ -1,0 +1,38 @@
+-- What is printed of what a request asks for, before an error is told (specs/Served.antt).
+use Rattle.std.specs.Prelude.{◌≡◌, ◌≢◌, ℕ, List, Option, Result, Err, IfErr, IfOk}
+use Rattle.id_print.specs.Told.{Told}
+use Rattle.id_request.specs.declared.Request.{Request}
+use Rattle.id_request.specs.declared.Request.TheVariants as asks
+use Rattle.id_engine.specs.declared.error.EngineError.{EngineError}
+use Rattle.id_engine.specs.declared.error.EngineError.TheVariants.{Write}
+use Rattle.id_engine.specs.Commands.{ShowsAll, ShowsFront}
+use Rattle.id_engine.specs.Refusals.{IsInsideOf}
+use Rattle.id_engine.specs.Served.{command_of, IsRefusedRequest, IsRun, IsTaken}
+
+-- what a request asks for of a text is printed with this result: whole, or up to a failed write, or it is refused before
+-- the first byte
+pub record PrintsAsked (text : List ℕ) (r : Request) (old new : Option Told) (result : Result ℕ EngineError) :
+    Type 0 where
+  pub shown : IfOk result (ShowsAll (command_of r) text old new)
+  pub taken : IfOk result (λ _. IsTaken text r)
+  pub ran : IfOk result (IsRun text r old new)
+  pub cut : result ≡ Err Write → ShowsFront (command_of r) text old new
+  pub silent : IfErr result (λ e. e ≢ Write → new ≡ old)
+  pub refused : IfErr result (IsRefusedRequest text r)
+  pub inside : IfErr result (IsInsideOf text)
+
+-- the request asks for what is computed on inputs
+abbrev pub IsComputed : Request → Type 0
+IsComputed (asks.Check file) = ⊥
+IsComputed (asks.Graph file) = ⊥
+IsComputed (asks.Draw file) = ⊥
+IsComputed (asks.Run file inputs count trace steps names) = Unit {0}
+IsComputed (asks.Facts file rounds inputs) = Unit {0}
+
+-- the request asks for a run
+abbrev pub IsToRun : Request → Type 0
+IsToRun (asks.Check file) = ⊥
+IsToRun (asks.Graph file) = ⊥
+IsToRun (asks.Draw file) = ⊥
+IsToRun (asks.Run file inputs count trace steps names) = Unit {0}
+IsToRun (asks.Facts file rounds inputs) = ⊥
